@@ -1,0 +1,5 @@
+mod Examples
+pub mod WordLemmas
+pub mod HexLemmas
+pub mod LiteralLemmas
+pub mod OneWord

@@ -1,0 +1,13 @@
+//! Words over the characters of the SMT-LIB theory of Unicode Strings, and their literals.
+//!
+//! A [`Word`] is a list of characters, numbers from 0 to `0x2ffff`; contracts see it as that list. The
+//! layers above print words as literals and keep them as witnesses.
+#![tactic(auto)]
+
+mod literal;
+#[cfg(test)]
+mod tests;
+mod word;
+
+pub use literal::{literal_stands_for_one_word, print_literal};
+pub use word::{CodesError, Word};
