@@ -1,0 +1,6 @@
+pub mod RangeFacts
+pub mod Pushing
+pub mod Merging
+pub mod Meeting
+pub mod Gaps
+pub mod Cutting
