@@ -1,0 +1,13 @@
+//! Tests that cross crates: whole scripts in and answers out, over worlds in memory.
+//!
+//! The crate has no code of its own. What each layer promises is proved there; here are worked examples with
+//! expected answers from outside the code, faults in the midst of a run, and each top call once with ample
+//! memory.
+#![tactic(auto)]
+
+#[cfg(test)]
+mod answers;
+#[cfg(test)]
+mod faults;
+#[cfg(test)]
+mod runs;

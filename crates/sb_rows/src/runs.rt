@@ -1,0 +1,78 @@
+//! Runs of the solver over a world in memory.
+
+ghost use Rattle.std.specs.Prelude.{◌<◌};
+
+use sb_session::{SolveStatus, solve_top};
+use sb_world::{MemWorld, OutPort};
+use std::alloc::{AllocError, Global};
+use std::process::Abort;
+
+/// A script of the form that is answered, and its answers.
+pub const SCRIPT: &[u8] =
+    b"(set-option :print-success false)(set-option :produce-models true)(declare-const x String)(assert (str.in_re x (re.+ (re.range \"a\" \"b\"))))(check-sat)(get-model)";
+
+pub const ANSWERS: &[u8] = b"sat\n((define-fun x () String \"a\"))\n";
+
+pub const UNSUPPORTED: &[u8] = b"unsupported\n";
+
+/// The words of a call, the program's name and so many more.
+pub fn words(alloc: Global, more: usize) -> Result<Vec<String>, AllocError> {
+    let mut words = Vec::new(alloc);
+    for _ in 0..=more {
+        words.push(String::from_str(alloc, "strsolve")?)?;
+    }
+    Ok(words)
+}
+
+/// A world whose standard input holds the script.
+pub fn world_of(alloc: Global, script: &[u8]) -> Result<MemWorld, AllocError> {
+    let mut world = MemWorld::new(alloc);
+    world.set_standard_input(script)?;
+    Ok(world)
+}
+
+/// Solves with the program's name as the one word.
+pub fn solve(alloc: Global, world: &mut MemWorld) -> Result<SolveStatus, AllocError> {
+    let words = words(alloc, 0)?;
+    Ok(solve_top(alloc, &words, world))
+}
+
+/// Solves the script, read so many bytes at a time, and expects the answers.
+pub fn expect_answers(
+    rt: &impl Abort,
+    alloc: Global,
+    script: &[u8],
+    length: usize,
+    answers: &[u8],
+) -> Result<(), AllocError>
+    requires { 0 < length }
+{
+    let mut world = world_of(alloc, script)?;
+    world.read_at_most(length);
+    let status = solve(alloc, &mut world)?;
+    assert_eq!(rt; status, SolveStatus::Done);
+    assert_eq!(rt; world.written(OutPort::Answers), answers);
+    Ok(())
+}
+
+/// Solves the script, read so many bytes at a time, where the call of this number fails, and expects that
+/// these answers are written by then and nothing is called any more.
+pub fn expect_fault(
+    rt: &impl Abort,
+    alloc: Global,
+    length: usize,
+    call: u64,
+    answers: &[u8],
+) -> Result<(), AllocError>
+    requires { 0 < length }
+{
+    let mut world = world_of(alloc, SCRIPT)?;
+    world.read_at_most(length);
+    world.fail_at(call)?;
+    let status = solve(alloc, &mut world)?;
+    assert_eq!(rt; status, SolveStatus::Fault);
+    assert_eq!(rt; world.written(OutPort::Answers), answers);
+    assert_eq!(rt; world.calls(), call);
+    assert_eq!(rt; world.faults(), 1);
+    Ok(())
+}

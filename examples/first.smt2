@@ -1,0 +1,6 @@
+(set-option :print-success false)
+(set-option :produce-models true)
+(declare-const x String)
+(assert (str.in_re x (re.+ (re.range "a" "b"))))
+(check-sat)
+(get-model)
