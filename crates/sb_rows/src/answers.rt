@@ -22,6 +22,14 @@ const ALL_PRINTABLE: &[u8] =
 const ODD_WHITE_SPACE: &[u8] =
     b"\t\n(set-option\r:print-success\n\nfalse ) ( set-option :produce-models\ttrue)(declare-const x\rString)\n( assert(str.in_re x( re.+(re.range\"0\"\n\"9\" ) )) )(check-sat\t)( get-model)\r\n";
 
+/// examples/first.smt2
+const FIRST_EXAMPLE: &[u8] =
+    b"(set-option :print-success false)\n(set-option :produce-models true)\n(declare-const x String)\n(assert (str.in_re x (re.+ (re.range \"a\" \"b\"))))\n(check-sat)\n(get-model)\n";
+
+/// examples/empty_range.smt2
+const EMPTY_RANGE_EXAMPLE: &[u8] =
+    b"(set-option :print-success false)\n(set-option :produce-models true)\n(declare-const x String)\n(assert (str.in_re x (re.range \"b\" \"a\")))\n(check-sat)\n(get-model)\n";
+
 const NO_MODEL: &[u8] = b"unsat\n(error \"no model\")\n";
 
 /// Expects the answers for reads of several lengths.
@@ -53,6 +61,13 @@ fn a_range_of_characters_has_its_least_one(rt: HostRuntime) -> Result<(), Fail> 
 fn a_reversed_range_has_none(rt: HostRuntime) -> Result<(), Fail> {
     expect_in_any_pieces(&rt, rt.alloc(), REVERSED, NO_MODEL)?;
     expect_in_any_pieces(&rt, rt.alloc(), REVERSED_ALONE, NO_MODEL)?;
+    Ok(())
+}
+
+#[test]
+fn the_examples_have_their_answers(rt: HostRuntime) -> Result<(), Fail> {
+    expect_answers(&rt, rt.alloc(), FIRST_EXAMPLE, 4096, ANSWERS)?;
+    expect_answers(&rt, rt.alloc(), EMPTY_RANGE_EXAMPLE, 4096, NO_MODEL)?;
     Ok(())
 }
 
