@@ -1,0 +1,5 @@
+use Rattle.sb_reader.proofs.Readings.{one_reading}
+use Rattle.sb_reader.proofs.laws.one_reading.Goals as goal
+
+pub returns : goal.returns
+returns c = one_reading

@@ -1,0 +1,28 @@
+//! Laws of the definitions, each the contract of a function without a body.
+
+ghost use Rattle.sb_reader.specs.Laws.{TokensStay, EntryStays, OneFirstToken, OneReading, OneScript};
+
+/// Tokens that are whole stay whole, whether more bytes come or none.
+pub fn tokens_stay()
+    ensures { TokensStay }
+{}
+
+/// An entry that is whole stays whole, so an answer that was given before more bytes came stands.
+pub fn entry_stays()
+    ensures { EntryStays }
+{}
+
+/// The first token of bytes, the gap before it and what is behind it are determined.
+pub fn one_first_token()
+    ensures { OneFirstToken }
+{}
+
+/// As many tokens in the same bytes are the same tokens.
+pub fn one_reading()
+    ensures { OneReading }
+{}
+
+/// Bytes are read as one list of entries, in whatever way it is found.
+pub fn one_script()
+    ensures { OneScript }
+{}
