@@ -1,0 +1,19 @@
+mod BoolFacts
+mod OrderFacts
+pub mod Coded
+mod CutFacts
+mod SetFacts
+mod MemberFacts
+mod NullableFacts
+mod ConstructorFacts
+mod DerivativeFacts
+mod NormalFacts
+mod SortedFacts
+mod OnlySorted
+mod MemberLists
+mod UnionForm
+mod IntersectionForm
+mod NormalFormFacts
+mod UnionFold
+mod IntersectionFold
+mod SameMembers

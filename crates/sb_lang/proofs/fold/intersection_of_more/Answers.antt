@@ -1,0 +1,5 @@
+use Rattle.sb_lang.proofs.IntersectionFold.{intersection_of_more}
+use Rattle.sb_lang.proofs.fold.intersection_of_more.Goals as goal
+
+pub returns : goal.returns
+returns c = intersection_of_more
