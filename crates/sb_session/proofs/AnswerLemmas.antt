@@ -1,5 +1,5 @@
 -- Laws of answering: from the set of characters to the witness, and from two writes to one text.
-use Rattle.std.proofs.Common.{◌≡◌, ◌≢◌, ℕ, ◌+◌, ◌-◌, ◌<◌, ◌≤◌, Bool, true, false, ◌&&◌, nat_le, List, [], ◌∷◌, ◌++◌, ◌⊎◌, length, take, Option, Some, None, Result, Ok, Err, IfOk, OnOk, OnErr, refl, ap, sym, ◌∙◌, arith, inl, inr, length-append}
+use Rattle.std.proofs.Common.{◌≡◌, ℕ, ◌+◌, ◌<◌, false, ◌&&◌, nat_le, List, [], ◌∷◌, ◌++◌, ◌⊎◌, length, take, Some, None, Result, Ok, Err, IfOk, OnOk, OnErr, refl, ap, sym, ◌∙◌, arith, inl, inr, length-append}
 use Rattle.std.proofs.lemmas.Bool.Decides.{nat_tests}
 use Rattle.std.proofs.lemmas.List.{take-append-le}
 use Rattle.std.proofs.Math.Seq.{take-append-add}
@@ -11,8 +11,8 @@ use Rattle.sb_world.specs.declared.OutPort.TheVariants as out_port
 use Rattle.sb_session.specs.declared.form.Pattern.{Pattern}
 use Rattle.sb_session.specs.Form.{IsScript}
 use Rattle.sb_session.specs.Language.{language_of, IsShortestLeast, IsEmptyLanguage}
-use Rattle.sb_session.specs.Answers.{AreAnswersOf, AreAnswersTo, sat_text, unsat_text, unsupported_text}
-use Rattle.sb_session.specs.Answering.{CutOf, IsAnswered, IsCut, IsCutOrUntouched}
+use Rattle.sb_session.specs.Answers.{AreAnswersOf, AreAnswersTo, unsupported_text}
+use Rattle.sb_session.specs.Answering.{CutOf, IsAnswered, IsCutOrUntouched}
 use Rattle.sb_session.proofs.LanguageLemmas.{no_word, least_word}
 
 -- a test of a range without members fails

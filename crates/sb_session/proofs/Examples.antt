@@ -1,9 +1,9 @@
 -- Computed examples of the definitions.
-use Rattle.std.proofs.Common.{◌≡◌, ℕ, true, false, List, [], ◌∷◌, ◌++◌, refl, codes}
+use Rattle.std.proofs.Common.{◌≡◌, true, false, [], ◌∷◌, ◌++◌, refl, codes}
 use Rattle.sb_session.specs.declared.form.Pattern.{Pattern}
-use Rattle.sb_session.specs.Language.{one_between, plus, power, star, language_of}
-use Rattle.sb_session.specs.Form.{Open, Close, Word, Text, is_plain, runs_into, range_tokens, regex_tokens}
-use Rattle.sb_session.specs.Answers.{sat_text, unsat_text, unsupported_text}
+use Rattle.sb_session.specs.Language.{one_between, star, language_of}
+use Rattle.sb_session.specs.Form.{Open, Close, Word, Text, is_plain, runs_into, regex_tokens}
+use Rattle.sb_session.specs.Answers.{sat_text, unsat_text}
 
 -- the patterns (re.range "a" "b") and (re.+ (re.range "a" "b"))
 abbrev one_of_a_b : Pattern

@@ -1,13 +1,12 @@
 -- The least word of a range of characters, alone or repeated.
-use Rattle.std.proofs.Common.{◌≡◌, ◌≢◌, ℕ, ◌+◌, ◌<◌, ◌≤◌, Bool, true, false, ◌&&◌, ◌||◌, nat_le, List, [], ◌∷◌, length, refl, ap, sym, ◌∙◌, arith}
+use Rattle.std.proofs.Common.{◌≡◌, ◌≢◌, ℕ, ◌<◌, ◌≤◌, Bool, true, false, ◌&&◌, nat_le, List, [], ◌∷◌, length, refl, sym, ◌∙◌, arith}
 use Rattle.std.specs.Ordering.{nat_cmp}
 use Rattle.std.specs.Cmp.Lexicographic.{slice_cmp}
 use Rattle.std.specs.declared.cmp.Ordering.TheVariants.{Less, Equal, Greater}
 use Rattle.std.specs.Cmp.{ranked}
 use Rattle.std.specs.Ordering.{ordering_then}
-use Rattle.std.proofs.lemmas.Grind.{common_steps}
 use Rattle.sb_session.specs.declared.form.Pattern.{Pattern}
-use Rattle.sb_session.specs.Language.{Language, one_between, cut, star, plus, power, power_up_to, empty_word, language_of, IsShortestLeast, IsEmptyLanguage}
+use Rattle.sb_session.specs.Language.{Language, one_between, cut, star, plus, language_of, IsShortestLeast, IsEmptyLanguage}
 
 -- nothing begins with a part in an empty language
 cut_of_none : (first second : Language) (w : List ℕ) → ((u : List ℕ) → first u ≡ false) → cut first second w ≡ false

@@ -1,5 +1,5 @@
 -- Laws of reading a script piece by piece.
-use Rattle.std.proofs.Common.{◌≡◌, ℕ, ◌+◌, ◌-◌, ◌<◌, ◌≤◌, List, [], ◌∷◌, ◌++◌, length, take, drop, Option, Some, None, option_map, IfSome, refl, ap, sym, subst, ◌∙◌, append_assoc, length-append, length-drop, arith}
+use Rattle.std.proofs.Common.{◌≡◌, ℕ, ◌+◌, ◌<◌, ◌≤◌, List, [], ◌++◌, length, take, drop, Option, Some, None, option_map, IfSome, refl, ap, sym, subst, ◌∙◌, append_assoc, length-append, arith}
 use Rattle.std.proofs.lemmas.List.{drop-drop, take-append-drop, length-take-le, append-nil}
 use Rattle.sb_world.specs.Outside.{Outside, read_at, Reads}
 use Rattle.sb_world.specs.OutsideLaws.{read_at-add, read_at-zero}

@@ -1,5 +1,5 @@
 -- From the outcome of a run to its status.
-use Rattle.std.proofs.Common.{◌≡◌, ◌≤◌, ℕ, List, ◌⊎◌, Result, Ok, Err, IfOk, OnErr, IfSome, Option, Some, None, refl, ap, sym, ◌∙◌, inl, inr, length, take, subst, ◌<◌, arith}
+use Rattle.std.proofs.Common.{◌≡◌, ◌≤◌, ℕ, List, ◌⊎◌, Result, Ok, Err, IfOk, OnErr, IfSome, Option, Some, None, refl, ap, ◌∙◌, inl, inr, length, take, subst, ◌<◌, arith}
 use Rattle.sb_world.specs.Outside.{Outside, CountsFault, Rose, read_at, write_at, open_at}
 use Rattle.sb_world.specs.declared.WorldError.{WorldError}
 use Rattle.sb_world.specs.declared.WorldError.TheVariants as world_error
@@ -7,9 +7,9 @@ use Rattle.sb_world.specs.declared.InPort.TheVariants as in_port
 use Rattle.sb_world.specs.declared.OutPort.TheVariants as out_port
 use Rattle.sb_session.specs.declared.solve.SolveStatus.{SolveStatus}
 use Rattle.sb_session.specs.declared.solve.SolveStatus.TheVariants.{Done, Unfinished, Usage, Fault, NoMemory, InputLimit}
-use Rattle.sb_session.specs.Solve.{Run, WrongWords, CountsFaults, CutShort, CutInUsage, CutInAnswers, Answered, PastLimit, IsScriptOf, IsTold, after_reading, after_answering, input_limit, status_by}
+use Rattle.sb_session.specs.Solve.{Run, WrongWords, CountsFaults, CutShort, CutInUsage, Answered, PastLimit, IsTold, input_limit, status_by}
 use Rattle.sb_session.specs.Reading.{IsWhole, IsPastLimit, CutInReading}
-use Rattle.sb_session.specs.Answering.{CutOf, IsAnswered, IsCut, IsCutOrUntouched}
+use Rattle.sb_session.specs.Answering.{IsAnswered, IsCutOrUntouched}
 
 pub run_by : (r : Result SolveStatus WorldError) (old new : Outside) (f g : ℕ) → IfOk r (λ s. Run s old new × CountsFaults s f g) → OnErr r (CutShort old new) → Run (status_by r) old new
 run_by (Ok s) old new f g ok err = ok.0

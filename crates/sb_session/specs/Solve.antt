@@ -1,5 +1,5 @@
 -- What a run of the solver does outside, by its status.
-use Rattle.std.specs.Prelude.{◌≡◌, ℕ, ◌+◌, ◌^◌, ◌<◌, ◌≤◌, List, [], ◌∷◌, ◌++◌, ◌⊎◌, length, take, None, Some, IfSome, codes, Result, Ok, Err}
+use Rattle.std.specs.Prelude.{◌≡◌, ℕ, ◌^◌, ◌<◌, ◌≤◌, List, ◌⊎◌, length, take, None, Some, IfSome, codes, Result, Ok, Err}
 use Rattle.sb_world.specs.declared.WorldError.{WorldError}
 use Rattle.sb_world.specs.declared.WorldError.TheVariants as world_error
 use Rattle.sb_world.specs.Outside.{Outside, open_at, read_at, write_at, Rose}

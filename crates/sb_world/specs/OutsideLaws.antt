@@ -1,5 +1,5 @@
 -- Laws of the definitions in Outside, for the layers above.
-use Rattle.std.proofs.Common.{◌≡◌, ℕ, ◌+◌, ◌-◌, ◌^◌, ◌<◌, ◌≤◌, List, [], ◌∷◌, ◌++◌, take, drop, Option, Some, None, option_map, refl, ap, sym, append_assoc, arith, inl, inr, ◌⊎◌}
+use Rattle.std.proofs.Common.{◌≡◌, ℕ, ◌+◌, List, [], ◌++◌, drop, Option, Some, None, option_map, refl, ap, append_assoc}
 use Rattle.std.proofs.lemmas.List.{append-nil, drop-drop}
 use Rattle.sb_world.specs.declared.InPort.{InPort}
 use Rattle.sb_world.specs.declared.InPort.TheVariants as in_port

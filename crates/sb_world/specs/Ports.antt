@@ -1,6 +1,6 @@
 -- The ports of a world in memory, changed one at a time.
-use Rattle.std.specs.Prelude.{ℕ, List, [], ◌++◌, drop, Option, Some, None}
-use Rattle.sb_world.specs.Outside.{Opening, opening_by}
+use Rattle.std.specs.Prelude.{ℕ, List, [], ◌++◌, drop, Option}
+use Rattle.sb_world.specs.Outside.{opening_by}
 use Rattle.sb_world.specs.Memory.{Reading, Writing}
 use Rattle.sb_world.specs.declared.InPort.{InPort}
 use Rattle.sb_world.specs.declared.InPort.TheVariants as in_port

@@ -1,9 +1,8 @@
 -- What the worlds in memory tell.
-use Rattle.std.specs.Prelude.{◌≡◌, ◌≢◌, ℕ, List, [], Option, Some, None, unwrap_or}
+use Rattle.std.specs.Prelude.{◌≡◌, ◌≢◌, ℕ, List, [], Option, Some, unwrap_or}
 use Rattle.sb_world.specs.Outside.{Outside, Input, Output, NotOpened}
 use Rattle.sb_world.specs.Memory.{Reading, Writing, Schedule, held_by}
 use Rattle.sb_world.specs.declared.ports.Ports.{Ports}
-use Rattle.sb_world.specs.declared.store.Store.{Store}
 use Rattle.sb_world.specs.declared.memory.MemWorld.{MemWorld}
 use Rattle.sb_world.specs.declared.calm.CalmWorld.{CalmWorld}
 

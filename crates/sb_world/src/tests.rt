@@ -146,32 +146,11 @@ fn inputs_of_a_calm_world_give_their_files_and_standard_input(rt: HostRuntime) -
 fn reads_of_any_length_give_the_bytes_in_order(rt: HostRuntime) -> Result<(), Fail> {
     let mut world = memory_with_files(rt.alloc())?;
     for length in [1, 2, 7] {
+        world.read_at_most(length);
         world.open_input(InPort::Script, Some("script.smt2"))?;
-        let all = read_all(&mut world, InPort::Script, length, rt.alloc())?;
+        let all = read_all(&mut world, InPort::Script, 16, rt.alloc())?;
         assert_eq!(rt; all.as_slice(), SCRIPT.as_slice());
     }
-    Ok(())
-}
-
-#[test]
-fn a_limit_cuts_a_read_short(rt: HostRuntime) -> Result<(), Fail> {
-    let mut world = memory_with_files(rt.alloc())?;
-    let mut buffer = [0; 16];
-    world.read_at_most(7);
-    world.open_input(InPort::Script, Some("script.smt2"))?;
-    for count in [7, 5, 0] {
-        assert_eq!(rt; world.read(InPort::Script, &mut buffer)?, count);
-    }
-    assert_eq!(rt; buffer.as_slice(), b"sat)\nk-\0\0\0\0\0\0\0\0\0".as_slice());
-    Ok(())
-}
-
-#[test]
-fn an_input_that_was_never_opened_is_empty(rt: HostRuntime) -> Result<(), Fail> {
-    let mut world = memory_with_files(rt.alloc())?;
-    let mut buffer = [0; 5];
-    assert_eq!(rt; world.read(InPort::Script, &mut buffer)?, 0);
-    assert_eq!(rt; *world.opened(InPort::Script), Opened::Not);
     Ok(())
 }
 
@@ -253,59 +232,40 @@ fn outputs_of_a_calm_world_collect_their_bytes(rt: HostRuntime) -> Result<(), Fa
     Ok(())
 }
 
-#[test]
-fn a_failing_open_changes_nothing(rt: HostRuntime) -> Result<(), Fail> {
-    let mut world = memory_with_files(rt.alloc())?;
-    world.fail_at(1)?;
+/// Makes each call once, each of which was listed.
+fn fails_each_call(world: &mut MemWorld, rt: &impl Abort) {
+    let mut buffer = [0; 3];
     assert_eq!(rt;
         world.open_input(InPort::Script, None),
         Err(WorldError::Failed)
     );
-    assert_eq!(rt; *world.opened(InPort::Script), Opened::Not);
-    assert_eq!(rt; world.faults(), 1);
-    assert_eq!(rt; world.calls(), 1);
-    Ok(())
-}
-
-#[test]
-fn a_failing_read_moves_no_bytes(rt: HostRuntime) -> Result<(), Fail> {
-    let mut world = memory_with_files(rt.alloc())?;
-    world.fail_at(2)?;
-    world.open_input(InPort::Script, Some("script.smt2"))?;
-    let failed = read_all(&mut world, InPort::Script, 6, rt.alloc());
-    assert!(rt; matches!(failed, Err(WorldError::Failed)));
-    assert_eq!(rt; world.faults(), 1);
-    let all = read_all(&mut world, InPort::Script, 6, rt.alloc())?;
-    assert_eq!(rt; all.as_slice(), SCRIPT.as_slice());
-    Ok(())
-}
-
-#[test]
-fn a_failing_write_writes_nothing(rt: HostRuntime) -> Result<(), Fail> {
-    let mut world = MemWorld::new(rt.alloc());
-    world.fail_at(2)?;
-    write_all(&mut world, OutPort::Proof, b"p1\n")?;
-    assert_eq!(rt;
-        write_all(&mut world, OutPort::Proof, b"p2\n"),
-        Err(WorldError::Failed)
-    );
-    assert_eq!(rt; world.faults(), 1);
-    assert_eq!(rt; world.written(OutPort::Proof), b"p1\n".as_slice());
-    Ok(())
-}
-
-#[test]
-fn a_failing_creation_keeps_what_was_written(rt: HostRuntime) -> Result<(), Fail> {
-    let mut world = MemWorld::new(rt.alloc());
-    world.fail_at(2)?;
-    write_all(&mut world, OutPort::Proof, b"p1\n")?;
     assert_eq!(rt;
         world.create_output(OutPort::Proof, None),
         Err(WorldError::Failed)
     );
-    assert_eq!(rt; world.faults(), 1);
+    assert_eq!(rt;
+        world.read(InPort::Proof, &mut buffer),
+        Err(WorldError::Failed)
+    );
+    assert_eq!(rt;
+        world.write(OutPort::Answers, b"unsat\n"),
+        Err(WorldError::Failed)
+    );
+}
+
+#[test]
+fn a_listed_call_fails_once_and_changes_nothing(rt: HostRuntime) -> Result<(), Fail> {
+    let mut world = memory_with_files(rt.alloc())?;
+    for call in 2..6 {
+        world.fail_at(call)?;
+    }
+    world.open_input(InPort::Proof, Some("proof"))?;
+    fails_each_call(&mut world, &rt);
+    assert_eq!(rt; world.faults(), 4);
+    assert_eq!(rt; *world.opened(InPort::Script), Opened::Not);
     assert_eq!(rt; *world.created(OutPort::Proof), Opened::Not);
-    assert_eq!(rt; world.written(OutPort::Proof), b"p1\n".as_slice());
+    assert_eq!(rt; world.written(OutPort::Answers), b"".as_slice());
+    reads_in_turn(&mut world, &rt)?;
     Ok(())
 }
 

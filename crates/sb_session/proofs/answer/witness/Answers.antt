@@ -1,4 +1,4 @@
-use Rattle.std.proofs.Common.{◌≡◌, sym, subst, List, ℕ}
+use Rattle.std.proofs.Common.{sym, subst, List, ℕ}
 use Rattle.sb_session.specs.Language.{language_of, IsShortestLeast}
 use Rattle.sb_session.proofs.AnswerLemmas.{empty_set, least_member}
 use Rattle.sb_session.proofs.answer.witness.Goals as goal

@@ -1,6 +1,5 @@
-use Rattle.std.proofs.Common.{rules, ◌≡◌, ℕ, ◌+◌, ◌-◌, ◌<◌, ◌≤◌, length, take, drop, arith, refl, ap, sym, ◌∙◌, subst, OnErr, List, []}
+use Rattle.std.proofs.Common.{ℕ, arith, refl, sym, subst, List}
 use Rattle.std.proofs.lemmas.Result.{err_from_is_err_and}
-use Rattle.sb_world.specs.Outside.{Outside}
 use Rattle.sb_session.specs.Reading.{IsFrontRead}
 use Rattle.sb_session.proofs.ReadingLemmas.{front_start, whole_at_end, past_limit, cut_later}
 use Rattle.sb_session.proofs.read.read_script.Goals as goal

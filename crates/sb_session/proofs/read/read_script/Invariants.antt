@@ -1,5 +1,5 @@
 -- the front of the script is read, and nothing else is done
-use Rattle.std.proofs.Common.{◌≡◌, ℕ, ◌<◌, ◌≤◌, ◌-◌, length, vec_len}
+use Rattle.std.proofs.Common.{◌≡◌, ◌≤◌, ◌-◌, length, vec_len}
 use Rattle.sb_session.specs.Solve.{input_limit}
 use Rattle.sb_session.specs.Reading.{IsFrontRead}
 use Rattle.sb_session.proofs.read.read_script.Given as goal

@@ -1,4 +1,4 @@
-use Rattle.std.proofs.Common.{rules, ◌≡◌, ℕ, ◌+◌, ◌-◌, ◌≤◌, length, take, drop, arith, refl, length-drop, ap, sym, ◌∙◌}
+use Rattle.std.proofs.Common.{ℕ, arith, length-drop}
 use Rattle.std.proofs.lemmas.List.{take_all}
 use Rattle.sb_world.proofs.WriteLemmas.{Sofar-step}
 use Rattle.sb_world.proofs.write.write_all.Goals as goal

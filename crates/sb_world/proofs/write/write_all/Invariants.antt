@@ -1,6 +1,5 @@
 -- what is out so far is the front of the bytes, and the count of faults stands
-use Rattle.std.proofs.Common.{◌≡◌, ℕ, ◌+◌, ◌-◌, ◌≤◌, length, take, drop}
-use Rattle.sb_world.specs.Outside.{write_at}
+use Rattle.std.proofs.Common.{length}
 use Rattle.sb_world.proofs.WriteLemmas.{Sofar}
 use Rattle.sb_world.proofs.write.write_all.Given as goal
 

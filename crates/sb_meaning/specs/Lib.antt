@@ -1,0 +1,5 @@
+pub mod Terms
+pub mod Values
+pub mod Truth
+pub mod Printed
+pub mod Examples

@@ -1,0 +1,3 @@
+//! What a script means: terms, valuations and truth (SMT-LIB 2.6, the theories Core, Ints and Unicode
+//! Strings). The crate has definitions alone; the layers above state their contracts by them.
+#![tactic(auto)]
