@@ -1,7 +1,9 @@
 -- Computed examples of the definitions.
 use Rattle.std.proofs.Common.{◌≡◌, true, false, [], ◌∷◌, ◌++◌, refl, codes}
 use Rattle.sb_session.specs.declared.form.Pattern.{Pattern}
-use Rattle.sb_session.specs.Language.{one_between, star, language_of}
+use Rattle.sb_lang.specs.Languages.{cut, power, some_up_to, iterate}
+use Rattle.sb_lang.specs.Membership.{in_re}
+use Rattle.sb_session.specs.Language.{language_of}
 use Rattle.sb_session.specs.Form.{Open, Close, Word, Text, is_plain, runs_into, regex_tokens}
 use Rattle.sb_session.specs.Answers.{sat_text, unsat_text}
 
@@ -13,25 +15,28 @@ abbrev some_of_a_b : Pattern
 some_of_a_b = record { lo = 97; hi = 98; repeated = true }
 
 one_holds : language_of one_of_a_b (98 ∷ []) ≡ true
+unfolding in_re cut power some_up_to iterate
 one_holds = refl
 
 one_holds_no_longer_word : language_of one_of_a_b (97 ∷ 98 ∷ []) ≡ false
+unfolding in_re cut power some_up_to iterate
 one_holds_no_longer_word = refl
 
 one_holds_no_other_character : language_of one_of_a_b (99 ∷ []) ≡ false
+unfolding in_re cut power some_up_to iterate
 one_holds_no_other_character = refl
 
 some_holds : language_of some_of_a_b (97 ∷ 98 ∷ 97 ∷ []) ≡ true
+unfolding in_re cut power some_up_to iterate
 some_holds = refl
 
 some_holds_no_empty_word : language_of some_of_a_b [] ≡ false
+unfolding in_re cut power some_up_to iterate
 some_holds_no_empty_word = refl
 
 some_holds_no_other_character : language_of some_of_a_b (97 ∷ 99 ∷ []) ≡ false
+unfolding in_re cut power some_up_to iterate
 some_holds_no_other_character = refl
-
-star_holds_the_empty_word : star (one_between 97 98) [] ≡ true
-star_holds_the_empty_word = refl
 
 -- a quote and a backslash are no plain bytes, a space and ~ are
 quote_is_not_plain : is_plain 34 ≡ false

@@ -1,15 +1,30 @@
 -- The least word of a range of characters, alone or repeated.
 use Rattle.std.proofs.Common.{◌≡◌, ◌≢◌, ℕ, ◌<◌, ◌≤◌, Bool, true, false, ◌&&◌, nat_le, List, [], ◌∷◌, length, refl, sym, ◌∙◌, arith}
-use Rattle.std.specs.Ordering.{nat_cmp}
+use Rattle.std.specs.Ordering.{nat_cmp, ordering_then}
 use Rattle.std.specs.Cmp.Lexicographic.{slice_cmp}
 use Rattle.std.specs.declared.cmp.Ordering.TheVariants.{Less, Equal, Greater}
 use Rattle.std.specs.Cmp.{ranked}
-use Rattle.std.specs.Ordering.{ordering_then}
+use Rattle.sb_lang.specs.Languages.{Language, one_character, cut, power, some_up_to, iterate}
+use Rattle.sb_lang.specs.RegLan.{re_plus}
+use Rattle.sb_lang.specs.Membership.{in_re}
 use Rattle.sb_session.specs.declared.form.Pattern.{Pattern}
-use Rattle.sb_session.specs.Language.{Language, one_between, cut, star, plus, language_of, IsShortestLeast, IsEmptyLanguage}
+use Rattle.sb_session.specs.Language.{range_of, language_of, IsShortestLeast, IsEmptyLanguage}
+
+-- the words of one character from lo to hi
+abbrev one_between : ℕ → ℕ → Language
+one_between lo hi = one_character (λ c. nat_le lo c && nat_le c hi)
+
+range_language : (p : Pattern) (w : List ℕ) → in_re (range_of p) w ≡ one_between p.lo p.hi w
+unfolding in_re
+range_language p w = refl
+
+plus_language : (p : Pattern) (w : List ℕ) → in_re (re_plus (range_of p)) w ≡ cut (one_between p.lo p.hi) (iterate (one_between p.lo p.hi)) w
+unfolding in_re
+plus_language p w = refl
 
 -- nothing begins with a part in an empty language
 cut_of_none : (first second : Language) (w : List ℕ) → ((u : List ℕ) → first u ≡ false) → cut first second w ≡ false
+unfolding cut
 cut_of_none first second [] h = rw (h []) refl
 cut_of_none first second (c ∷ w) h = rw (h []) (cut_of_none (λ u. first (c ∷ u)) second w (λ u. h (c ∷ u)))
 
@@ -23,8 +38,8 @@ pub no_word : (p : Pattern) → ((c : ℕ) → (nat_le p.lo c && nat_le c p.hi) 
 no_word p h w = by_repeated p.repeated
   where
     by_repeated : (r : Bool) → language_of (record p { repeated = r }) w ≡ false
-    by_repeated false = one_of_none p.lo p.hi h w
-    by_repeated true = cut_of_none (one_between p.lo p.hi) (star (one_between p.lo p.hi)) w (one_of_none p.lo p.hi h)
+    by_repeated false = range_language p w ∙ one_of_none p.lo p.hi h w
+    by_repeated true = plus_language p w ∙ cut_of_none (one_between p.lo p.hi) (iterate (one_between p.lo p.hi)) w (one_of_none p.lo p.hi h)
 
 -- m is not above c, so c isn't less
 not_less : (m c : ℕ) → m ≤ c → slice_cmp nat_cmp (c ∷ []) (m ∷ []) ≢ Less
@@ -48,20 +63,25 @@ least_of_one language m none one below = record { member = one; shortest = short
     least_of (c ∷ d ∷ v) h e = absurd (omega arith)
 
 -- a word of one character is one of the repeated language only where it is one of the language
-plus_of_one : (first : Language) (c : ℕ) → first [] ≡ false → plus first (c ∷ []) ≡ first (c ∷ [])
+plus_of_one : (first : Language) (c : ℕ) → first [] ≡ false → cut first (iterate first) (c ∷ []) ≡ first (c ∷ [])
+unfolding cut iterate some_up_to power
 plus_of_one first c none = rw none (and_true (first (c ∷ [])))
   where
     and_true : (b : Bool) → (b && true) ≡ b
     and_true false = refl
     and_true true = refl
 
-plus_of_none : (first : Language) → first [] ≡ false → plus first [] ≡ false
+plus_of_none : (first : Language) → first [] ≡ false → cut first (iterate first) [] ≡ false
+unfolding cut
 plus_of_none first none = rw none refl
+
+plus_at : (p : Pattern) (c : ℕ) → in_re (re_plus (range_of p)) (c ∷ []) ≡ (nat_le p.lo c && nat_le c p.hi)
+plus_at p c = plus_language p (c ∷ []) ∙ plus_of_one (one_between p.lo p.hi) c refl
 
 -- the least character of the range is the shortest word of its language, and the least among the shortest
 pub least_word : (p : Pattern) (m : ℕ) → (nat_le p.lo m && nat_le m p.hi) ≡ true → ((c : ℕ) → (nat_le p.lo c && nat_le c p.hi) ≡ true → m ≤ c) → IsShortestLeast (language_of p) (m ∷ [])
 least_word p m member below = by_repeated p.repeated
   where
     by_repeated : (r : Bool) → IsShortestLeast (language_of (record p { repeated = r })) (m ∷ [])
-    by_repeated false = least_of_one (one_between p.lo p.hi) m refl member below
-    by_repeated true = least_of_one (plus (one_between p.lo p.hi)) m refl (plus_of_one (one_between p.lo p.hi) m refl ∙ member) (λ c h. below c (sym (plus_of_one (one_between p.lo p.hi) c refl) ∙ h))
+    by_repeated false = least_of_one (in_re (range_of p)) m (range_language p []) (range_language p (m ∷ []) ∙ member) (λ c h. below c (sym (range_language p (c ∷ [])) ∙ h))
+    by_repeated true = least_of_one (in_re (re_plus (range_of p))) m (plus_language p [] ∙ plus_of_none (one_between p.lo p.hi) refl) (plus_at p m ∙ member) (λ c h. below c (sym (plus_at p c) ∙ h))
