@@ -1,0 +1,72 @@
+-- The assertions that a check decides, and the values that it gives.
+use Rattle.std.specs.Prelude.{◌≡◌, ◌≢◌, ℕ, ◌≤◌, Bool, true, false, not, ◌&&◌, ◌==◌, List, [], ◌∷◌, length, if◌then◌else◌}
+use Rattle.std.specs.Ordering.{nat_cmp}
+use Rattle.std.specs.Cmp.Lexicographic.{slice_cmp}
+use Rattle.std.specs.declared.cmp.Ordering.TheVariants.{Less}
+use Rattle.sb_lang.specs.Languages.{Language}
+use Rattle.sb_meaning.specs.Terms.{Kind, Term, Terms, text, constant, word, numeral, apply, no_terms, with_term}
+use Rattle.sb_meaning.specs.Terms as symbol
+use Rattle.sb_meaning.specs.Values.{Value, Valuation, Text, Int, Truth, default_of}
+use Rattle.sb_meaning.specs.State.{State, Assertion, asserted, a_mark, all_hold, live, live_terms, is_model}
+
+-- no constant stands in the term
+abbrev mutual
+  pub is_ground : Term → Bool
+  is_ground (constant serial kind) = false
+  is_ground (word w) = true
+  is_ground (numeral n) = true
+  is_ground (apply s terms) = are_ground terms
+
+  pub are_ground : Terms → Bool
+  are_ground no_terms = true
+  are_ground (with_term term terms) = is_ground term && are_ground terms
+
+-- the term is the membership of a constant in a regular expression without constants
+abbrev pub is_membership : Term → Bool
+is_membership (apply symbol.str_in_re (with_term (constant serial kind) (with_term R no_terms))) = is_ground R
+is_membership _ = false
+
+abbrev pub is_inside : Assertion → Bool
+is_inside (asserted term) = is_membership term
+is_inside a_mark = false
+
+abbrev pub are_inside : List Assertion → Bool
+are_inside [] = true
+are_inside (a ∷ rest) = is_inside a && are_inside rest
+
+-- The check is in the fragment that is decided: no live assertion is a mark, and each is the membership of a constant.
+abbrev pub in_fragment : State → Bool
+in_fragment s = are_inside (live s)
+
+-- the term is the membership of this constant
+abbrev pub is_about : ℕ → Term → Bool
+is_about serial (apply symbol.str_in_re (with_term (constant other kind) (with_term R no_terms))) = serial == other
+is_about serial _ = false
+
+-- the terms that are memberships of the constant
+abbrev pub about : ℕ → List Term → List Term
+about serial [] = []
+about serial (t ∷ ts) = if is_about serial t then t ∷ about serial ts else about serial ts
+
+-- the words that make all memberships of the constant true
+abbrev pub words_for : ℕ → List Term → Language
+words_for serial ts w = all_hold (about serial ts) ((serial, Text w) ∷ [])
+
+-- The word is in the language, no word of the language is shorter, and none as long is less by code points.
+pub record IsShortestLeast (language : Language) (w : List ℕ) : Type 0 where
+  pub member : language w ≡ true
+  pub shortest : (v : List ℕ) → language v ≡ true → length w ≤ length v
+  pub least : (v : List ℕ) → language v ≡ true → length v ≡ length w → slice_cmp nat_cmp v w ≢ Less
+
+-- Each constant's word is the shortest that makes its memberships true, the least by code points among the shortest; so
+-- a constant without memberships is the empty word.
+abbrev pub AreShortestLeast : List Term → Valuation → Type 0
+AreShortestLeast ts [] = Unit {0}
+AreShortestLeast ts ((serial, Text w) ∷ v) = IsShortestLeast (words_for serial ts) w × AreShortestLeast ts v
+AreShortestLeast ts ((serial, Int n) ∷ v) = AreShortestLeast ts v
+AreShortestLeast ts ((serial, Truth b) ∷ v) = AreShortestLeast ts v
+
+-- the values that a check may give
+pub record IsGiven (s : State) (v : Valuation) : Type 0 where
+  pub model : is_model s v ≡ true
+  pub least : AreShortestLeast (live_terms s) v

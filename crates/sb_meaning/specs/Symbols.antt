@@ -1,0 +1,69 @@
+-- The symbols of the theories Core, Ints and Unicode Strings: which there are, their arguments and results, and
+-- those that are left out.
+use Rattle.std.specs.Prelude.{ℕ, Bool, true, false, if◌then◌else◌, List, [], ◌∷◌, codes, Option, Some, None}
+use Rattle.sb_meaning.specs.Names.{Name, is_name, is_among}
+use Rattle.sb_meaning.specs.Terms.{Kind, Symbol, boolean, integer, text, reglan}
+use Rattle.sb_meaning.specs.Terms as symbol
+
+-- the symbols that are read, by name
+abbrev pub symbol_named : Name → Option Symbol
+symbol_named name =
+    if is_name name (codes "str.in_re") then Some symbol.str_in_re
+    else if is_name name (codes "re.range") then Some symbol.re_range
+    else if is_name name (codes "re.+") then Some symbol.re_plus
+    else None
+
+-- The names of the theories that are not read, and names that they once had: a term that uses one is left out.
+abbrev pub left_out_names : List Name
+left_out_names =
+    codes "true" ∷ codes "false" ∷ codes "not" ∷ codes "and" ∷ codes "or" ∷ codes "=>" ∷ codes "xor" ∷ codes "ite" ∷ codes "=" ∷ codes "distinct"
+    ∷ codes "<=" ∷ codes "<" ∷ codes ">=" ∷ codes ">" ∷ codes "+" ∷ codes "*" ∷ codes "-" ∷ codes "div" ∷ codes "mod" ∷ codes "abs"
+    ∷ codes "str.++" ∷ codes "str.len" ∷ codes "str.to_re" ∷ codes "str.<" ∷ codes "str.<=" ∷ codes "str.at" ∷ codes "str.substr"
+    ∷ codes "str.prefixof" ∷ codes "str.suffixof" ∷ codes "str.contains" ∷ codes "str.indexof"
+    ∷ codes "str.replace" ∷ codes "str.replace_all" ∷ codes "str.replace_re" ∷ codes "str.replace_re_all"
+    ∷ codes "str.is_digit" ∷ codes "str.to_code" ∷ codes "str.from_code" ∷ codes "str.to_int" ∷ codes "str.from_int"
+    ∷ codes "re.none" ∷ codes "re.all" ∷ codes "re.allchar" ∷ codes "re.++" ∷ codes "re.union" ∷ codes "re.inter" ∷ codes "re.diff"
+    ∷ codes "re.*" ∷ codes "re.opt" ∷ codes "re.comp" ∷ codes "re.^" ∷ codes "re.loop"
+    ∷ codes "str.in.re" ∷ codes "str.to.re" ∷ codes "re.nostr" ∷ []
+
+abbrev pub is_left_out : Name → Bool
+is_left_out name = is_among left_out_names name
+
+-- a name of the theories, which can't be declared
+abbrev pub is_theory_name : Name → Bool
+is_theory_name name = elim (symbol_named name) [ Some s ↦ true | None ↦ is_left_out name ]
+
+-- the sorts that constants may have, by name
+abbrev pub sort_named : Name → Option Kind
+sort_named name = if is_name name (codes "String") then Some text else None
+
+-- the sorts of the arguments of a symbol that is read
+abbrev pub arguments_of : Symbol → List Kind
+arguments_of symbol.str_in_re = text ∷ reglan ∷ []
+arguments_of symbol.re_range = text ∷ text ∷ []
+arguments_of symbol.re_plus = reglan ∷ []
+arguments_of _ = []
+
+-- the sort of what a symbol makes
+abbrev pub result_of : Symbol → Kind
+result_of symbol.plus = integer
+result_of symbol.times = integer
+result_of symbol.minus = integer
+result_of symbol.str_len = integer
+result_of symbol.str_concat = text
+result_of symbol.str_to_re = reglan
+result_of symbol.re_none = reglan
+result_of symbol.re_all = reglan
+result_of symbol.re_allchar = reglan
+result_of symbol.re_concat = reglan
+result_of symbol.re_union = reglan
+result_of symbol.re_inter = reglan
+result_of symbol.re_diff = reglan
+result_of symbol.re_star = reglan
+result_of symbol.re_plus = reglan
+result_of symbol.re_opt = reglan
+result_of symbol.re_comp = reglan
+result_of symbol.re_range = reglan
+result_of (symbol.re_power n) = reglan
+result_of (symbol.re_loop n m) = reglan
+result_of _ = boolean
