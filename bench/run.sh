@@ -1,30 +1,28 @@
 #!/usr/bin/env bash
-# Times the program over generated scripts: one of the form with much white space, and one that is none.
-# Seconds and peak memory in KB, over inputs of 1, 10, 50 and 100 MB, read from a file and from a pipe.
+# Times the reader alone over 50 MB in pieces of several lengths, and the program over scripts of 1 to 50 MB, read
+# from a file. Seconds, megabytes a second and peak memory in KB.
 set -eu
 cd "$(dirname "$0")/.."
-program=crates/strsolve/out/strsolve
-if [ ! -x "$program" ]; then
-  (cd crates/strsolve && rt run < ../../examples/first.smt2 > /dev/null)
-fi
+build() { # the program, and what it is run on
+  if [ ! -x "crates/$1/out/$1" ]; then
+    (cd "crates/$1" && rt run ${2:+-- $2} < stdin > /dev/null 2>&1)
+  fi
+}
+build read_entries 7
+build strsolve
 work=$(mktemp -d)
 trap 'rm -rf "$work"' EXIT
 
-measure() { # the case's name, the script's file, how it is read
-  if [ "$3" = file ]; then
-    python3 bench/measure.py "$1" "$2" "$3" "$program" < "$2"
-  else
-    cat "$2" | python3 bench/measure.py "$1" "$2" "$3" "$program"
-  fi
-}
-
-printf '%-14s %10s %6s %10s %10s %10s\n' case bytes read seconds MB/s peak_KB
-for megabytes in 1 10 50 100; do
-  python3 bench/generate.py blank "$megabytes" > "$work/blank.smt2"
-  python3 bench/generate.py other "$megabytes" > "$work/other.smt2"
-  for kind in blank other; do
-    for how in file pipe; do
-      measure "$kind" "$work/$kind.smt2" "$how"
-    done
+printf '%-14s %10s %12s %10s %10s %10s\n' case bytes how seconds MB/s peak_KB
+for kind in mixed form; do
+  python3 bench/generate.py "$kind" 50 > "$work/$kind.smt2"
+  for piece in whole 4096 1; do
+    python3 bench/measure.py "$kind" "$work/$kind.smt2" "piece $piece" crates/read_entries/out/read_entries "$piece" < "$work/$kind.smt2"
+  done
+done
+for megabytes in 1 10 50; do
+  for kind in mixed memberships checks form; do
+    python3 bench/generate.py "$kind" "$megabytes" > "$work/$kind.smt2"
+    python3 bench/measure.py "$kind" "$work/$kind.smt2" strsolve crates/strsolve/out/strsolve < "$work/$kind.smt2"
   done
 done

@@ -9,21 +9,15 @@ use Rattle.sb_meaning.specs.Terms as symbol
 use Rattle.sb_meaning.specs.Values.{Value, Valuation, Text, Int, Truth, default_of}
 use Rattle.sb_meaning.specs.State.{State, Assertion, asserted, a_mark, all_hold, live, live_terms, is_model}
 
--- no constant stands in the term
-abbrev mutual
-  pub is_ground : Term → Bool
-  is_ground (constant serial kind) = false
-  is_ground (word w) = true
-  is_ground (numeral n) = true
-  is_ground (apply s terms) = are_ground terms
+-- the term is a range over literals, or one or more of a regular expression of this kind
+abbrev pub is_regex : Term → Bool
+is_regex (apply symbol.re_range (with_term (word s) (with_term (word t) no_terms))) = true
+is_regex (apply symbol.re_plus (with_term R no_terms)) = is_regex R
+is_regex _ = false
 
-  pub are_ground : Terms → Bool
-  are_ground no_terms = true
-  are_ground (with_term term terms) = is_ground term && are_ground terms
-
--- the term is the membership of a constant in a regular expression without constants
+-- the term is the membership of a constant in such a regular expression
 abbrev pub is_membership : Term → Bool
-is_membership (apply symbol.str_in_re (with_term (constant serial kind) (with_term R no_terms))) = is_ground R
+is_membership (apply symbol.str_in_re (with_term (constant serial kind) (with_term R no_terms))) = is_regex R
 is_membership _ = false
 
 abbrev pub is_inside : Assertion → Bool

@@ -1,6 +1,6 @@
 -- The reply to each entry of a script, and the state after it (SMT-LIB 2.6, section 4.2). For each command the errors
 -- stand in the order in which they are looked for; after an error the state is as before.
-use Rattle.std.specs.Prelude.{◌≡◌, ◌≢◌, ℕ, Bool, true, false, not, ◌&&◌, ◌||◌, if◌then◌else◌, List, [], ◌∷◌, ◌++◌, map, codes, Option, Some, None, Result, Ok, Err, is_some}
+use Rattle.std.specs.Prelude.{◌≡◌, ◌≢◌, ℕ, Bool, true, false, not, ◌&&◌, ◌||◌, if◌then◌else◌, List, [], ◌∷◌, ◌++◌, map, codes, Option, Some, None, Result, Ok, Err}
 use Rattle.std.specs.List.{flat_map}
 use Rattle.sb_reader.specs.declared.feed.Refusal.{Refusal}
 use Rattle.sb_reader.specs.declared.feed.Refusal.TheVariants.{StrayClose, BadToken, TooDeep, BareToken}
@@ -10,7 +10,7 @@ use Rattle.sb_meaning.specs.Names.{Name, is_name, is_reserved, begins_term, name
 use Rattle.sb_meaning.specs.Terms.{Kind, Term, boolean, integer, text, reglan}
 use Rattle.sb_meaning.specs.Values.{Valuation, value_in}
 use Rattle.sb_meaning.specs.Printed.{printed}
-use Rattle.sb_meaning.specs.Symbols.{sort_named, is_theory_name}
+use Rattle.sb_meaning.specs.Symbols.{sort_named, is_theory_name, is_taken}
 use Rattle.sb_meaning.specs.Scopes.{Named, Naming, Constant, a_constant, a_marked_name, named}
 use Rattle.sb_meaning.specs.Reading.{Fault, unknown_symbol, wrong_sort, wrong_count, bad_index, unsupported, bad_literal, malformed, kind_of, is_kind, read}
 use Rattle.sb_meaning.specs.Commands as command
@@ -100,21 +100,17 @@ set_option key value s =
     else if is_name key (codes ":produce-models") then with_truth value (λ b. record s { options = record s.options { produce_models = b } }) s
     else is_unsupported s
 
--- a name that is live, marked or of the theories can't be declared
-abbrev pub is_taken : Name → State → Bool
-is_taken name s = is_some (named (names_of s) name) || is_theory_name name
-
 abbrev pub sort_of : Form → Option Kind
 sort_of sort = elim (symbol_in sort) [ Some name ↦ sort_named name | None ↦ None ]
 
 -- a constant of a sort that is left out has a marked name
 abbrev pub declare_constant : Name → Form → State → Step
 declare_constant name sort s =
-    if is_taken name s then fails (already_declared name) s
+    if is_taken (names_of s) name then fails (already_declared name) s
     else elim (sort_of sort) [ Some kind ↦ succeeds (declared name kind s) | None ↦ is_unsupported (marked name s) ]
 
 abbrev pub declare_function : Name → State → Step
-declare_function name s = if is_taken name s then fails (already_declared name) s else is_unsupported (marked name s)
+declare_function name s = if is_taken (names_of s) name then fails (already_declared name) s else is_unsupported (marked name s)
 
 abbrev pub assert : Form → State → Step
 assert form s = elim (read (names_of s) form) [

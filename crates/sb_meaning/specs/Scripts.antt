@@ -1,6 +1,6 @@
 -- The answers to a script: those to its entries, in order, up to the one that ends the run.
-use Rattle.std.specs.Prelude.{◌≡◌, ℕ, Bool, true, false, List, [], ◌∷◌, ◌++◌, codes}
-use Rattle.sb_reader.specs.Entries.{Entry, SpellsEntry}
+use Rattle.std.specs.Prelude.{◌≡◌, ℕ, false, List, [], ◌∷◌, ◌++◌, codes}
+use Rattle.sb_reader.specs.Entries.{Entry}
 use Rattle.sb_meaning.specs.State.{State}
 use Rattle.sb_meaning.specs.Replies.{Replies, is_exit, error_line}
 
@@ -10,12 +10,6 @@ Answers s [] text after = (text ≡ []) × (after ≡ s)
 Answers s (entry ∷ entries) text after =
     (reply : List ℕ) × (rest : List ℕ) × (next : State) × (is_exit entry ≡ false) × Replies s entry reply next
     × (text ≡ reply ++ rest) × Answers next entries rest after
-
--- The bytes begin with these entries, each whole where it stands, and what is left follows them.
-abbrev pub Begins : Bool → List ℕ → List Entry → List ℕ → Type 0
-Begins ended bytes [] left = bytes ≡ left
-Begins ended bytes (entry ∷ entries) left =
-    (front : List ℕ) × (behind : List ℕ) × (bytes ≡ front ++ behind) × SpellsEntry ended entry front behind × Begins ended behind entries left
 
 -- the answer to a script that ends within a form
 abbrev pub unfinished_line : List ℕ

@@ -1,9 +1,10 @@
 -- The symbols of the theories Core, Ints and Unicode Strings: which there are, their arguments and results, and
 -- those that are left out.
-use Rattle.std.specs.Prelude.{ℕ, Bool, true, false, if◌then◌else◌, List, [], ◌∷◌, codes, Option, Some, None}
+use Rattle.std.specs.Prelude.{ℕ, Bool, true, false, if◌then◌else◌, List, [], ◌∷◌, codes, Option, Some, None, ◌||◌, is_some}
 use Rattle.sb_meaning.specs.Names.{Name, is_name, is_among}
 use Rattle.sb_meaning.specs.Terms.{Kind, Symbol, boolean, integer, text, reglan}
 use Rattle.sb_meaning.specs.Terms as symbol
+use Rattle.sb_meaning.specs.Scopes.{Naming, named}
 
 -- the symbols that are read, by name
 abbrev pub symbol_named : Name → Option Symbol
@@ -32,6 +33,10 @@ is_left_out name = is_among left_out_names name
 -- a name of the theories, which can't be declared
 abbrev pub is_theory_name : Name → Bool
 is_theory_name name = elim (symbol_named name) [ Some s ↦ true | None ↦ is_left_out name ]
+
+-- a name that is live, marked or of the theories can't be declared
+abbrev pub is_taken : List Naming → Name → Bool
+is_taken names name = is_some (named names name) || is_theory_name name
 
 -- the sorts that constants may have, by name
 abbrev pub sort_named : Name → Option Kind

@@ -17,3 +17,4 @@ pub mod Steps
 pub mod Ends
 pub mod Goes
 pub mod Answered
+pub mod FirstEntries

@@ -59,7 +59,7 @@ same_closed ended d (t ∷ ts) (u ∷ us) front front' rest rest' h k s r same =
     (λ on. same_closed ended on.0 ts us s.1 r.1 rest rest' on.1 on.2 s.5 r.5 first.1)
     (closed_step t d ts us h (ap (λ v. closes_at_end d (v ∷ us)) first.0 ∙ k)))
 
-same_entry_tokens : (ended : Bool) (ts us : List Token) (front front' rest rest' : List ℕ) → is_one_entry ts ≡ true → is_one_entry us ≡ true → Spells ended ts front rest → Spells ended us front' rest' → front ++ rest ≡ front' ++ rest' → IsSame ts us rest rest'
+pub same_entry_tokens : (ended : Bool) (ts us : List Token) (front front' rest rest' : List ℕ) → is_one_entry ts ≡ true → is_one_entry us ≡ true → Spells ended ts front rest → Spells ended us front' rest' → front ++ rest ≡ front' ++ rest' → IsSame ts us rest rest'
 same_entry_tokens ended [] us front front' rest rest' h k s r same = absurd (false≢true h)
 same_entry_tokens ended (t ∷ ts) [] front front' rest rest' h k s r same = absurd (false≢true k)
 same_entry_tokens ended (t ∷ ts) (u ∷ us) front front' rest rest' h k s r same =
@@ -191,13 +191,13 @@ same_refusal r q ts h k =
 same_command : (f g : Form) (ts : List Token) → IsCommand f ts → IsCommand g ts → f ≡ g
 same_command f g ts c d = (same_form f g [] [] c.kinds d.kinds (ap (λ tokens. tokens ++ []) (sym c.tokens_are ∙ d.tokens_are))).0
 
-same_entry : (e f : Entry) (ts : List Token) → IsEntry e ts → IsEntry f ts → e ≡ f
+pub same_entry : (e f : Entry) (ts : List Token) → IsEntry e ts → IsEntry f ts → e ≡ f
 same_entry (Command form) (Command form') ts h k = ap Command (same_command form form' ts h k)
 same_entry (Command form) (Refused refusal) ts h k = absurd (command_refused form refusal ts h k)
 same_entry (Refused refusal) (Command form) ts h k = absurd (command_refused form refusal ts k h)
 same_entry (Refused refusal) (Refused refusal') ts h k = ap Refused (same_refusal refusal refusal' ts h k)
 
-no_entry : (ended : Bool) (bytes : List ℕ) (e : Entry) (front rest : List ℕ) → HoldsNoEntry ended bytes → bytes ≡ front ++ rest → SpellsEntry ended e front rest → ⊥
+pub no_entry : (ended : Bool) (bytes : List ℕ) (e : Entry) (front rest : List ℕ) → HoldsNoEntry ended bytes → bytes ≡ front ++ rest → SpellsEntry ended e front rest → ⊥
 no_entry ended bytes e front rest none split s =
     never_entry ended none.tokens s.0 none.front front none.rest rest none.open_entry (entry_is_one e s.0 s.1) none.no_token none.spelled s.2 (sym none.split ∙ split)
 

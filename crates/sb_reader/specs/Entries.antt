@@ -124,6 +124,12 @@ pub record HoldsNoEntry (ended : Bool) (bytes : List ℕ) : Type 0 where
 abbrev pub SpellsEntry : Bool → Entry → List ℕ → List ℕ → Type 0
 SpellsEntry ended entry front rest = (tokens : List Token) × IsEntry entry tokens × Spells ended tokens front rest
 
+-- The bytes begin with these entries, each whole where it stands, and what is left follows them.
+abbrev pub Begins : Bool → List ℕ → List Entry → List ℕ → Type 0
+Begins ended bytes [] left = bytes ≡ left
+Begins ended bytes (entry ∷ entries) left =
+    (front : List ℕ) × (behind : List ℕ) × (bytes ≡ front ++ behind) × SpellsEntry ended entry front behind × Begins ended behind entries left
+
 -- The bytes, behind which no more come where they are ended, are these entries and a rest without a whole one.
 abbrev pub Reads : Bool → List ℕ → List Entry → Type 0
 Reads ended bytes [] = HoldsNoEntry ended bytes

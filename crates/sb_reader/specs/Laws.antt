@@ -1,7 +1,7 @@
 -- Laws of the definitions: bytes are read in one way, and what is read stays read.
-use Rattle.std.specs.Prelude.{◌≡◌, ℕ, Bool, true, false, List, ◌++◌, length}
-use Rattle.sb_reader.specs.Tokens.{Token, spelling_of, is_gap, is_whole}
-use Rattle.sb_reader.specs.Entries.{Entry, Spells, SpellsEntry, Reads}
+use Rattle.std.specs.Prelude.{◌≡◌, ℕ, ◌<◌, Bool, true, false, List, [], ◌∷◌, ◌++◌, length}
+use Rattle.sb_reader.specs.Tokens.{Token, spelling_of, is_gap, is_open_gap, is_whole}
+use Rattle.sb_reader.specs.Entries.{Entry, Spells, SpellsEntry, HoldsNoEntry, Reads, Begins}
 
 -- Tokens that are whole stay whole when more bytes come, or no more come.
 abbrev pub TokensStay : Type 0
@@ -28,3 +28,37 @@ OneReading = (ended later : Bool) (tokens tokens' : List Token) (front front' re
 -- Bytes are read as one list of entries.
 abbrev pub OneScript : Type 0
 OneScript = (ended : Bool) (bytes : List ℕ) (entries entries' : List Entry) → Reads ended bytes entries → Reads ended bytes entries' → entries ≡ entries'
+
+-- The first entry of bytes, where it stands and what is behind it are determined.
+abbrev pub OneEntry : Type 0
+OneEntry = (ended : Bool) (entry entry' : Entry) (front front' rest rest' : List ℕ) → SpellsEntry ended entry front rest → SpellsEntry ended entry' front' rest' → front ++ rest ≡ front' ++ rest' → (entry ≡ entry') × (front ≡ front') × (rest ≡ rest')
+
+-- An entry has a byte.
+abbrev pub EntryHasBytes : Type 0
+EntryHasBytes = (ended : Bool) (entry : Entry) (front rest : List ℕ) → SpellsEntry ended entry front rest → 0 < length front
+
+-- Bytes that hold no whole entry begin with none.
+abbrev pub NoEntry : Type 0
+NoEntry = (ended : Bool) (entry : Entry) (bytes front rest : List ℕ) → HoldsNoEntry ended bytes → bytes ≡ front ++ rest → SpellsEntry ended entry front rest → ⊥
+
+-- White space and comments before an entry belong to it; before bytes without an entry they make none, and they leave it open whether the bytes are within a form.
+abbrev pub GapBeforeEntry : Type 0
+GapBeforeEntry = (ended : Bool) (entry : Entry) (gap front rest : List ℕ) → is_gap gap ≡ true → SpellsEntry ended entry front rest → SpellsEntry ended entry (gap ++ front) rest
+
+abbrev pub GapBeforeNone : Type 0
+GapBeforeNone = (ended : Bool) (gap bytes : List ℕ) → is_gap gap ≡ true → HoldsNoEntry ended bytes → HoldsNoEntry ended (gap ++ bytes)
+
+abbrev pub GapBeforeGap : Type 0
+GapBeforeGap = (gap bytes : List ℕ) → is_gap gap ≡ true → is_open_gap (gap ++ bytes) ≡ is_open_gap bytes
+
+-- Entries that the bytes begin with stay when more bytes come, or no more come.
+abbrev pub BeginningStays : Type 0
+BeginningStays = (ended : Bool) (bytes more : List ℕ) (entries : List Entry) (left : List ℕ) → Begins false bytes entries left → Begins ended (bytes ++ more) entries (left ++ more)
+
+-- one more entry
+abbrev pub BeginningGrows : Type 0
+BeginningGrows = (ended : Bool) (bytes : List ℕ) (entries : List Entry) (entry : Entry) (front left : List ℕ) → Begins ended bytes entries (front ++ left) → SpellsEntry ended entry front left → Begins ended bytes (entries ++ entry ∷ []) left
+
+-- Where bytes begin with entries, and are others with a rest without a whole one, the former are the first of the latter.
+abbrev pub BeginningIsFirst : Type 0
+BeginningIsFirst = (ended : Bool) (bytes : List ℕ) (entries all : List Entry) (left rest : List ℕ) → Begins ended bytes entries left → Begins ended bytes all rest → HoldsNoEntry ended rest → (others : List Entry) × (all ≡ entries ++ others)

@@ -1,6 +1,6 @@
 //! Laws of the definitions, each the contract of a function without a body.
 
-ghost use Rattle.sb_reader.specs.Laws.{TokensStay, EntryStays, OneFirstToken, OneReading, OneScript};
+ghost use Rattle.sb_reader.specs.Laws.{TokensStay, EntryStays, OneFirstToken, OneReading, OneScript, OneEntry, EntryHasBytes, NoEntry, GapBeforeEntry, GapBeforeNone, GapBeforeGap, BeginningStays, BeginningGrows, BeginningIsFirst};
 
 /// Tokens that are whole stay whole, whether more bytes come or none.
 pub fn tokens_stay()
@@ -25,4 +25,29 @@ pub fn one_reading()
 /// Bytes are read as one list of entries, in whatever way it is found.
 pub fn one_script()
     ensures { OneScript }
+{}
+
+/// The first entry of bytes is determined, and has a byte.
+pub fn one_entry()
+    ensures one { OneEntry }
+    ensures bytes { EntryHasBytes }
+{}
+
+/// Bytes that hold no whole entry begin with none.
+pub fn no_entry()
+    ensures { NoEntry }
+{}
+
+/// White space and comments before an entry belong to it; before bytes without one they make none.
+pub fn gap_before()
+    ensures entry { GapBeforeEntry }
+    ensures none { GapBeforeNone }
+    ensures gap { GapBeforeGap }
+{}
+
+/// Entries that bytes begin with stay whatever comes behind, and are the first of all entries.
+pub fn beginning()
+    ensures stays { BeginningStays }
+    ensures grows { BeginningGrows }
+    ensures first { BeginningIsFirst }
 {}

@@ -18,5 +18,8 @@ mod tests;
 mod token;
 
 pub use feed::{Ending, Feed, Next, Refusal};
-pub use laws::{entry_stays, one_first_token, one_reading, one_script, tokens_stay};
+pub use laws::{
+    beginning, entry_stays, gap_before, no_entry, one_entry, one_first_token, one_reading,
+    one_script, tokens_stay,
+};
 pub use sexpr::Sexpr;

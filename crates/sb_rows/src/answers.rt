@@ -1,109 +1,113 @@
 //! Scripts and their answers.
 
-use crate::runs::{ANSWERS, SCRIPT, UNSUPPORTED, expect_answers, words};
+use crate::runs::{ANSWERS, Case, SCRIPT, expect_all, words};
 use sb_session::{SolveStatus, solve_top};
 use sb_world::{CalmWorld, OutPort};
-use std::alloc::{AllocError, Global};
-use std::process::Abort;
 use std::test::Fail;
 
-const REVERSED: &[u8] =
-    b"(set-option :print-success false)(set-option :produce-models true)(declare-const x String)(assert (str.in_re x (re.+ (re.range \"b\" \"a\"))))(check-sat)(get-model)";
-
-const REVERSED_ALONE: &[u8] =
-    b"(set-option :print-success false)(set-option :produce-models true)(declare-const x String)(assert (str.in_re x (re.range \"z\" \"!\")))(check-sat)(get-model)";
-
-const ONE_CHARACTER: &[u8] =
-    b"(set-option :print-success false)(set-option :produce-models true)(declare-const x String)(assert (str.in_re x (re.range \"m\" \"m\")))(check-sat)(get-model)";
-
-const ALL_PRINTABLE: &[u8] =
-    b"(set-option :print-success false)(set-option :produce-models true)(declare-const x String)(assert (str.in_re x (re.range \" \" \"~\")))(check-sat)(get-model)";
-
-const ODD_WHITE_SPACE: &[u8] =
-    b"\t\n(set-option\r:print-success\n\nfalse ) ( set-option :produce-models\ttrue)(declare-const x\rString)\n( assert(str.in_re x( re.+(re.range\"0\"\n\"9\" ) )) )(check-sat\t)( get-model)\r\n";
-
-/// examples/first.smt2
-const FIRST_EXAMPLE: &[u8] =
-    b"(set-option :print-success false)\n(set-option :produce-models true)\n(declare-const x String)\n(assert (str.in_re x (re.+ (re.range \"a\" \"b\"))))\n(check-sat)\n(get-model)\n";
-
-/// examples/empty_range.smt2
-const EMPTY_RANGE_EXAMPLE: &[u8] =
-    b"(set-option :print-success false)\n(set-option :produce-models true)\n(declare-const x String)\n(assert (str.in_re x (re.range \"b\" \"a\")))\n(check-sat)\n(get-model)\n";
-
-const NO_MODEL: &[u8] = b"unsat\n(error \"no model\")\n";
-
-/// Expects the answers for reads of several lengths.
-fn expect_in_any_pieces(
-    rt: &impl Abort,
-    alloc: Global,
-    script: &[u8],
-    answers: &[u8],
-) -> Result<(), AllocError> {
-    expect_answers(rt, alloc, script, 1, answers)?;
-    expect_answers(rt, alloc, script, 2, answers)?;
-    expect_answers(rt, alloc, script, 7, answers)?;
-    expect_answers(rt, alloc, script, 4096, answers)
-}
+const CASES: [Case; 17] = [
+    // nothing
+    (b"", b""),
+    // success is printed, and the logic may be QF_S
+    (
+        b"(set-logic QF_S)(check-sat)(exit)",
+        b"success\nsat\nsuccess\n",
+    ),
+    // what follows (exit) is no command
+    (b"(exit))(check-sat", b"success\n"),
+    // the value and the model
+    (
+        b"(set-option :print-success false)(set-logic QF_SLIA)(set-option :produce-models true)(declare-const x String)(assert (str.in_re x (re.+ (re.range \"a\" \"b\"))))(check-sat)(get-value (x))(get-model)",
+        b"sat\n((x \"a\"))\n((define-fun x () String \"a\"))\n",
+    ),
+    // the reply to :print-success follows its new value
+    (
+        b"(set-option :print-success true)(set-option :print-success false)(set-option :print-success true)",
+        b"success\nsuccess\n",
+    ),
+    // no constant, and a constant without an assertion
+    (
+        b"(set-option :print-success false)(set-logic QF_SLIA)(set-option :produce-models true)(check-sat)(get-model)(declare-const x String)(check-sat)(get-model)",
+        b"sat\n()\nsat\n((define-fun x () String \"\"))\n",
+    ),
+    // several memberships meet in one character
+    (
+        b"(set-option :print-success false)(set-logic QF_SLIA)(set-option :produce-models true)(declare-const x String)(declare-const y String)(assert (str.in_re x (re.range \"a\" \"m\")))(assert (str.in_re y (re.+ (re.range \"0\" \"9\"))))(assert (str.in_re x (re.+ (re.range \"k\" \"z\"))))(check-sat)(get-value (y x))(assert (str.in_re x (re.range \"n\" \"z\")))(check-sat)(get-model)",
+        b"sat\n((y \"0\") (x \"k\"))\nunsat\n(error \"no model\")\n",
+    ),
+    // a reversed range, and one over words of two characters
+    (
+        b"(set-option :print-success false)(set-logic QF_SLIA)(declare-const x String)(declare-const y String)(assert (str.in_re x (re.range \"b\" \"a\")))(check-sat)",
+        b"unsat\n",
+    ),
+    // a range over a word of two characters has no word
+    (
+        b"(set-option :print-success false)(set-logic QF_SLIA)(declare-const x String)(assert (str.in_re x (re.range \"ab\" \"c\")))(check-sat)",
+        b"unsat\n",
+    ),
+    // one or more of one or more
+    (
+        b"(set-option :print-success false)(set-logic QF_SLIA)(set-option :produce-models true)(declare-const x String)(assert (str.in_re x (re.+ (re.+ (re.range \"c\" \"d\")))))(check-sat)(get-value (x))",
+        b"sat\n((x \"c\"))\n",
+    ),
+    // a doubled quote is one, and printed doubled
+    (
+        b"(set-option :print-success false)(set-logic QF_SLIA)(set-option :produce-models true)(declare-const x String)(assert (str.in_re x (re.range \"\"\"\" \"\"\"\")))(check-sat)(get-value (x))",
+        b"sat\n((x \"\"\"\"))\n",
+    ),
+    // comments, and white space of all kinds
+    (
+        b"; first\n(set-option :print-success false)(set-logic QF_SLIA)(set-option :produce-models true)\t(declare-const\r\nx ; (not a command)\n String)(check-sat); last",
+        b"sat\n",
+    ),
+    // a quoted name is the name; it is printed between bars where it has to be
+    (
+        b"(set-option :print-success false)(set-logic QF_SLIA)(set-option :produce-models true)(declare-const |x| String)(declare-const |a b| String)(declare-const |let| String)(check-sat)(get-value (x |x| |a b| |let|))(get-model)",
+        b"sat\n((x \"\") (x \"\") (|a b| \"\") (|let| \"\"))\n((define-fun x () String \"\") (define-fun |a b| () String \"\") (define-fun |let| () String \"\"))\n",
+    ),
+    // what is left out is answered so, and leaves its mark
+    (
+        b"(set-option :print-success false)(set-logic QF_SLIA)(declare-const x String)(push 1)(assert (not true))(check-sat)(set-info :status sat)(declare-const n Int)(declare-fun f (Int) Int)(define-fun g ((a String)) Bool true)(echo \"x\")(get-option :print-success)(reset)",
+        b"unsupported\nunsupported\nunsupported\nunsupported\nunsupported\nunsupported\nunsupported\nunsupported\nunsupported\nunsupported\n",
+    ),
+    // a marked name is left out where it is used, and taken
+    (
+        b"(set-option :print-success false)(set-logic QF_SLIA)(declare-const n Int)(assert n)(declare-const n String)(check-sat)",
+        b"unsupported\nunsupported\n(error \"already declared n\")\nunsupported\n",
+    ),
+    // a literal that may have an escape is left out
+    (
+        b"(set-option :print-success false)(set-logic QF_SLIA)(declare-const x String)(assert (str.in_re x (re.range \"\\u{61}\" \"b\")))(check-sat)",
+        b"unsupported\nunsupported\n",
+    ),
+    // the membership of a word, and a constant within a range, are outside
+    (
+        b"(set-option :print-success false)(set-logic QF_SLIA)(declare-const x String)(assert (str.in_re \"a\" (re.range \"a\" \"b\")))(check-sat)",
+        b"unsupported\n",
+    ),
+];
 
 #[test]
-fn a_range_of_characters_has_its_least_one(rt: HostRuntime) -> Result<(), Fail> {
-    expect_in_any_pieces(&rt, rt.alloc(), SCRIPT, ANSWERS)?;
-    let one = b"sat\n((define-fun x () String \"m\"))\n".as_slice();
-    expect_in_any_pieces(&rt, rt.alloc(), ONE_CHARACTER, one)?;
-    let space = b"sat\n((define-fun x () String \" \"))\n".as_slice();
-    expect_in_any_pieces(&rt, rt.alloc(), ALL_PRINTABLE, space)?;
-    let zero = b"sat\n((define-fun x () String \"0\"))\n".as_slice();
-    expect_in_any_pieces(&rt, rt.alloc(), ODD_WHITE_SPACE, zero)?;
+fn scripts_have_their_answers(rt: HostRuntime) -> Result<(), Fail> {
+    expect_all(&rt, rt.alloc(), &CASES)?;
     Ok(())
 }
 
-#[test]
-fn a_reversed_range_has_none(rt: HostRuntime) -> Result<(), Fail> {
-    expect_in_any_pieces(&rt, rt.alloc(), REVERSED, NO_MODEL)?;
-    expect_in_any_pieces(&rt, rt.alloc(), REVERSED_ALONE, NO_MODEL)?;
-    Ok(())
-}
+/// examples/first.smt2 and examples/empty_range.smt2
+const EXAMPLES: [Case; 2] = [
+    (
+        b"(set-option :print-success false)\n(set-option :produce-models true)\n(declare-const x String)\n(assert (str.in_re x (re.+ (re.range \"a\" \"b\"))))\n(check-sat)\n(get-model)\n",
+        b"sat\n((define-fun x () String \"a\"))\n",
+    ),
+    (
+        b"(set-option :print-success false)\n(set-option :produce-models true)\n(declare-const x String)\n(assert (str.in_re x (re.range \"b\" \"a\")))\n(check-sat)\n(get-model)\n",
+        b"unsat\n(error \"no model\")\n",
+    ),
+];
 
 #[test]
 fn the_examples_have_their_answers(rt: HostRuntime) -> Result<(), Fail> {
-    expect_answers(&rt, rt.alloc(), FIRST_EXAMPLE, 4096, ANSWERS)?;
-    expect_answers(&rt, rt.alloc(), EMPTY_RANGE_EXAMPLE, 4096, NO_MODEL)?;
-    Ok(())
-}
-
-#[test]
-fn no_front_of_the_script_is_answered(rt: HostRuntime) -> Result<(), Fail> {
-    for end in 0..SCRIPT.len() {
-        expect_answers(&rt, rt.alloc(), &SCRIPT[..end], 7, UNSUPPORTED)?;
-    }
-    Ok(())
-}
-
-/// The script with another byte at the place.
-fn changed(alloc: Global, place: usize, byte: u8) -> Result<Vec<u8>, AllocError> {
-    let mut script = Vec::from_slice(alloc, SCRIPT)?;
-    if let Some(at) = script.get_mut(place) {
-        *at = byte;
-    }
-    Ok(script)
-}
-
-/// The places of the characters of the two texts.
-const LO: usize = 128;
-
-const HI: usize = 132;
-
-#[test]
-fn a_changed_byte_changes_the_answers(rt: HostRuntime) -> Result<(), Fail> {
-    for place in 0..SCRIPT.len() {
-        let script = changed(rt.alloc(), place, b'!')?;
-        let answers: &[u8] = match place {
-            LO => b"sat\n((define-fun x () String \"!\"))\n",
-            HI => NO_MODEL,
-            _ => UNSUPPORTED,
-        };
-        expect_answers(&rt, rt.alloc(), script.as_slice(), 7, answers)?;
-    }
+    expect_all(&rt, rt.alloc(), &EXAMPLES)?;
     Ok(())
 }
 

@@ -1,28 +1,32 @@
 //! Faults in the midst of a run, and wrong words.
 
-use crate::runs::{SCRIPT, expect_fault, words, world_of};
+use crate::runs::{ANSWERS, SCRIPT, expect_fault, words, world_of};
 use sb_session::{SolveStatus, solve_top};
 use sb_world::{InPort, Opened, OutPort};
 use std::alloc::{AllocError, Global};
 use std::process::Abort;
 use std::test::Fail;
 
-// The calls are one opening, a read of the script and one of its end, and a write for each of two answers.
+// The calls are one opening, a read of the script, a write for each of three answers, and a read of its end.
 #[test]
 fn a_failing_call_leaves_a_front_of_the_answers(rt: HostRuntime) -> Result<(), Fail> {
     expect_fault(&rt, rt.alloc(), 4096, 1, b"".as_slice())?;
     expect_fault(&rt, rt.alloc(), 4096, 2, b"".as_slice())?;
     expect_fault(&rt, rt.alloc(), 4096, 3, b"".as_slice())?;
-    expect_fault(&rt, rt.alloc(), 4096, 4, b"".as_slice())?;
-    expect_fault(&rt, rt.alloc(), 4096, 5, b"sat\n".as_slice())?;
+    expect_fault(&rt, rt.alloc(), 4096, 4, b"sat\n".as_slice())?;
+    let two = b"sat\n((x \"a\"))\n".as_slice();
+    expect_fault(&rt, rt.alloc(), 4096, 5, two)?;
+    expect_fault(&rt, rt.alloc(), 4096, 6, ANSWERS)?;
     Ok(())
 }
 
+// Each command is answered before the next byte is read.
 #[test]
-fn a_failing_read_in_mid_stream_answers_nothing(rt: HostRuntime) -> Result<(), Fail> {
+fn a_failing_read_comes_behind_the_answers_so_far(rt: HostRuntime) -> Result<(), Fail> {
     expect_fault(&rt, rt.alloc(), 1, 2, b"".as_slice())?;
-    expect_fault(&rt, rt.alloc(), 1, 40, b"".as_slice())?;
-    expect_fault(&rt, rt.alloc(), 1, 159, b"".as_slice())?;
+    expect_fault(&rt, rt.alloc(), 1, 100, b"".as_slice())?;
+    let first = SCRIPT.len() as u64;
+    expect_fault(&rt, rt.alloc(), 1, first - 10, b"sat\n".as_slice())?;
     Ok(())
 }
 

@@ -8,6 +8,10 @@
 #[cfg(test)]
 mod answers;
 #[cfg(test)]
+mod errors;
+#[cfg(test)]
 mod faults;
+#[cfg(test)]
+mod pieces;
 #[cfg(test)]
 mod runs;

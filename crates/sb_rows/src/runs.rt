@@ -7,13 +7,14 @@ use sb_world::{MemWorld, OutPort};
 use std::alloc::{AllocError, Global};
 use std::process::Abort;
 
-/// A script of the form that is answered, and its answers.
+/// A script of a range, one or more of it, with its model.
 pub const SCRIPT: &[u8] =
-    b"(set-option :print-success false)(set-option :produce-models true)(declare-const x String)(assert (str.in_re x (re.+ (re.range \"a\" \"b\"))))(check-sat)(get-model)";
+    b"(set-option :print-success false)(set-logic QF_SLIA)(set-option :produce-models true)(declare-const x String)(assert (str.in_re x (re.+ (re.range \"a\" \"b\"))))(check-sat)(get-value (x))(get-model)";
 
-pub const ANSWERS: &[u8] = b"sat\n((define-fun x () String \"a\"))\n";
+pub const ANSWERS: &[u8] = b"sat\n((x \"a\"))\n((define-fun x () String \"a\"))\n";
 
-pub const UNSUPPORTED: &[u8] = b"unsupported\n";
+/// A script and its answers.
+pub type Case = (&'static [u8], &'static [u8]);
 
 /// The words of a call, the program's name and so many more.
 pub fn words(alloc: Global, more: usize) -> Result<Vec<String>, AllocError> {
@@ -37,21 +38,31 @@ pub fn solve(alloc: Global, world: &mut MemWorld) -> Result<SolveStatus, AllocEr
     Ok(solve_top(alloc, &words, world))
 }
 
-/// Solves the script, read so many bytes at a time, and expects the answers.
-pub fn expect_answers(
+/// Solves the script, read so many bytes at a time, and expects the answers and the status.
+pub fn expect_run(
     rt: &impl Abort,
     alloc: Global,
     script: &[u8],
     length: usize,
     answers: &[u8],
+    wanted: SolveStatus,
 ) -> Result<(), AllocError>
     requires { 0 < length }
 {
     let mut world = world_of(alloc, script)?;
     world.read_at_most(length);
     let status = solve(alloc, &mut world)?;
-    assert_eq!(rt; status, SolveStatus::Done);
+    assert_eq!(rt; status, wanted);
     assert_eq!(rt; world.written(OutPort::Answers), answers);
+    assert_eq!(rt; world.faults(), 0);
+    Ok(())
+}
+
+/// Solves the script of each case, and expects its answers.
+pub fn expect_all(rt: &impl Abort, alloc: Global, cases: &[Case]) -> Result<(), AllocError> {
+    for (script, answers) in cases {
+        expect_run(rt, alloc, script, 4096, answers, SolveStatus::Done)?;
+    }
     Ok(())
 }
 

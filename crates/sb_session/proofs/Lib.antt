@@ -1,7 +1,14 @@
-pub mod FormScanning
-pub mod FormReading
+pub mod ExitFacts
+pub mod CommandLemmas
 pub mod ReadingLemmas
-pub mod LanguageLemmas
-pub mod AnswerLemmas
+pub mod TurnLemmas
+pub mod PieceLemmas
+pub mod EndLemmas
+pub mod ScriptLemmas
 pub mod SolveLemmas
-mod Examples
+pub mod TermShapes
+pub mod FirstCharacters
+pub mod WordPlaces
+pub mod LeastWords
+pub mod OneMembership
+pub mod Verdicts

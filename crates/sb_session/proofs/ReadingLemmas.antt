@@ -1,77 +1,145 @@
--- Laws of reading a script piece by piece.
-use Rattle.std.proofs.Common.{◌≡◌, ℕ, ◌+◌, ◌<◌, ◌≤◌, List, [], ◌++◌, length, take, drop, Option, Some, None, option_map, IfSome, refl, ap, sym, subst, ◌∙◌, append_assoc, length-append, arith}
-use Rattle.std.proofs.lemmas.List.{drop-drop, take-append-drop, length-take-le, append-nil}
-use Rattle.sb_world.specs.Outside.{Outside, read_at, Reads}
-use Rattle.sb_world.specs.OutsideLaws.{read_at-add, read_at-zero}
+-- Reading on and answering on: what each step makes of what was read and answered.
+use Rattle.std.proofs.Common.{◌≡◌, ℕ, Bool, true, false, List, [], ◌∷◌, ◌++◌, length, take, append_assoc, refl, sym, ap, ◌∙◌, inl, inr, subst}
+use Rattle.std.proofs.lemmas.List.{append-nil}
+use Rattle.sb_world.specs.Outside.{Outside, write_at, read_at}
+use Rattle.sb_world.specs.OutsideLaws.{write_at-append}
 use Rattle.sb_world.specs.declared.InPort.TheVariants as in_port
-use Rattle.sb_session.specs.Solve.{input_limit}
-use Rattle.sb_session.specs.Reading.{IsFrontRead, IsToldEnd, IsWhole, IsPastLimit, CutInReading}
+use Rattle.sb_world.specs.declared.OutPort.TheVariants as out_port
+use Rattle.sb_reader.specs.declared.feed.Ending.{Ending}
+use Rattle.sb_reader.specs.declared.feed.Ending.TheVariants.{Clean, Unfinished}
+use Rattle.sb_reader.specs.Tokens.{is_open_gap}
+use Rattle.sb_reader.specs.Entries.{Entry, HoldsNoEntry, Begins}
+use Rattle.sb_reader.specs.Feeding as feed
+use Rattle.sb_reader.specs.Feeding.{Takes, Waits, Ends}
+use Rattle.sb_reader.proofs.Ends.{is_gap-append}
+use Rattle.sb_reader.proofs.FirstEntries.{gap_before_entry, beginning_grows}
+use Rattle.sb_meaning.specs.State.{State}
+use Rattle.sb_meaning.specs.State as meaning
+use Rattle.sb_meaning.specs.Replies.{Replies, is_exit}
+use Rattle.sb_meaning.specs.Scripts as script
+use Rattle.sb_stack.specs.Kept.{state_of}
+use Rattle.sb_session.specs.Commanding.{Kept, Answers, CutOrNot}
+use Rattle.sb_session.specs.Reading.{Sofar, UpToExit, CutBetween, Cut, after_work}
+use Rattle.sb_session.specs.Pausing.{NoneLeft, is_clean}
 
-length-take_of : (count : ℕ) (buffer : List ℕ) → count ≤ length buffer → length (take count buffer) ≡ count
-length-take_of count buffer h = length-take-le count buffer h
+-- one more reply
+answers_grow : (s : State) (entries : List Entry) (text : List ℕ) (t : State) (entry : Entry) (reply : List ℕ) (after : State) → script.Answers s entries text t
+    → is_exit entry ≡ false → Replies t entry reply after → script.Answers s (entries ++ entry ∷ []) (text ++ reply) after
+answers_grow s [] text t entry reply after h goes replies =
+    (reply, [], after, goes, subst (λ (u : State). Replies u entry reply after) h.1 replies, ap (λ (x : List ℕ). x ++ reply) h.0 ∙ sym (append-nil reply), (refl, refl))
+answers_grow s (first ∷ entries) text t entry reply after h goes replies =
+    (h.0, h.1 ++ reply, h.2, h.3, h.4, ap (λ (x : List ℕ). x ++ reply) h.5 ∙ append_assoc h.0 h.1 reply, answers_grow h.2 entries h.1 t entry reply after h.6 goes replies)
 
-pub length-joined : (old buffer : List ℕ) (count : ℕ) → count ≤ length buffer → length (old ++ take count buffer) ≡ length old + count
-length-joined old buffer count h = length-append old (take count buffer) ∙ ap (λ n. length old + n) (length-take_of count buffer h)
+-- more is written
+pub writes_on : (opened before now : Outside) (count : ℕ) (text more : List ℕ) → before ≡ after_work count text opened → now ≡ write_at out_port.Answers more before → now ≡ after_work count (text ++ more) opened
+writes_on opened before now count text more e h = h ∙ ap (write_at out_port.Answers more) e ∙ write_at-append out_port.Answers text more (read_at in_port.Script count opened)
 
-told_step : (left : Option (List ℕ)) (old buffer : List ℕ) (count : ℕ) → count ≤ length buffer
-    → IfSome left (λ l. l ≡ old ++ drop (length old) l) → IfSome (option_map (drop (length old)) left) (λ l. Reads l buffer count)
-    → IfSome left (λ l. l ≡ (old ++ take count buffer) ++ drop (length (old ++ take count buffer)) l)
-told_step None old buffer count h front reads = front
-told_step (Some l) old buffer count h front reads =
-    front
-    ∙ ap (λ (r : List ℕ). old ++ r) (sym (take-append-drop count (drop (length old) l)) ∙ ap (λ (r : List ℕ). r ++ drop count (drop (length old) l)) (sym reads.bytes))
-    ∙ sym (append_assoc old (take count buffer) (drop count (drop (length old) l)))
-    ∙ ap (λ (r : List ℕ). (old ++ take count buffer) ++ r) (drop-drop count (length old) l ∙ ap (λ n. drop n l) (sym (length-joined old buffer count h)))
+-- the entries with the next one
+begins_on : (opened : Outside) (bytes : List ℕ) (entry : Entry) (old new : feed.Kept) (s : State) (before : Outside) (sofar : Sofar opened bytes old s before) → Takes entry old new
+    → Begins old.1 bytes (sofar.entries ++ entry ∷ []) new.0
+begins_on opened bytes entry old new s before sofar takes =
+    beginning_grows old.1 bytes sofar.entries entry (sofar.gap ++ takes.0) new.0
+    (subst (λ (left : List ℕ). Begins old.1 bytes sofar.entries left) (ap (λ (x : List ℕ). sofar.gap ++ x) takes.1 ∙ sym (append_assoc sofar.gap takes.0 new.0)) sofar.begins)
+    (gap_before_entry old.1 entry sofar.gap takes.0 new.0 sofar.is_gap takes.3)
 
--- one more piece
-pub front_step : (start now now' : Outside) (old buffer : List ℕ) (count : ℕ) → count ≤ length buffer → IsFrontRead start now old
-    → now' ≡ read_at in_port.Script count now → IfSome now.script_in.left (λ l. Reads l buffer count)
-    → IsFrontRead start now' (old ++ take count buffer)
-front_step start now now' old buffer count h sofar moved reads = record {
-  outside = moved ∙ ap (read_at in_port.Script count) sofar.outside ∙ read_at-add in_port.Script (length old) count start ∙ ap (λ n. read_at in_port.Script n start) (sym (length-joined old buffer count h));
-  front = told_step start.script_in.left old buffer count h sofar.front (subst (λ (o : Outside). IfSome o.script_in.left (λ l. Reads l buffer count)) sofar.outside reads);
+-- one more entry is answered
+pub answer_on : (opened : Outside) (bytes : List ℕ) (entry : Entry) (old new : feed.Kept) (s after : State) (before now : Outside) → is_exit entry ≡ false → Takes entry old new
+    → Answers entry s after before now → Sofar opened bytes old s before → Sofar opened bytes new after now
+answer_on opened bytes entry old new s after before now goes takes answers sofar = record {
+  entries = sofar.entries ++ entry ∷ [];
+  text = sofar.text ++ answers.reply;
+  gap = [];
+  is_gap = refl;
+  begins = subst (λ (ended : Bool). Begins ended bytes (sofar.entries ++ entry ∷ []) new.0) (sym takes.2) (begins_on opened bytes entry old new s before sofar takes);
+  answers = answers_grow meaning.start sofar.entries sofar.text s entry answers.reply after sofar.answers goes answers.replies;
+  outside = writes_on opened before now (length bytes) sofar.text answers.reply sofar.outside answers.outside;
 }
 
-told_end : (left : Option (List ℕ)) (buffer : List ℕ) (count : ℕ) → count ≡ 0 → IfSome left (λ l. Reads l buffer count) → IfSome left (λ l. l ≡ [])
-told_end None buffer count h reads = reads
-told_end (Some l) buffer count h reads = reads.progress h
+-- (exit) is answered
+pub answer_exit : (opened : Outside) (bytes : List ℕ) (entry : Entry) (old new : feed.Kept) (s after : State) (before now : Outside) → is_exit entry ≡ true → Takes entry old new
+    → Answers entry s after before now → Sofar opened bytes old s before → UpToExit opened bytes new.1 now
+answer_exit opened bytes entry old new s after before now exits takes answers sofar = record {
+  entries = sofar.entries;
+  exit = entry;
+  left = new.0;
+  text = sofar.text;
+  s = s;
+  reply = answers.reply;
+  after = after;
+  begins = subst (λ (ended : Bool). Begins ended bytes (sofar.entries ++ entry ∷ []) new.0) (sym takes.2) (begins_on opened bytes entry old new s before sofar takes);
+  answers = sofar.answers;
+  is_exit = exits;
+  replies = answers.replies;
+  outside = writes_on opened before now (length bytes) sofar.text answers.reply sofar.outside answers.outside;
+}
 
--- a read of nothing shows the end
-pub end_shown : (now now' : Outside) (buffer : List ℕ) (count : ℕ) → count ≡ 0 → now' ≡ read_at in_port.Script count now → IfSome now.script_in.left (λ l. Reads l buffer count) → IsToldEnd now'
-end_shown now now' buffer count h moved reads =
-    subst (λ (o : Outside). IsToldEnd o) (sym (moved ∙ ap (λ n. read_at in_port.Script n now) h ∙ read_at-zero in_port.Script now)) (told_end now.script_in.left buffer count h reads)
-
-whole_told : (left : Option (List ℕ)) (bytes : List ℕ) → IfSome left (λ l. l ≡ bytes ++ drop (length bytes) l) → IfSome (option_map (drop (length bytes)) left) (λ l. l ≡ []) → IfSome left (λ l. l ≡ bytes)
-whole_told None bytes front ended = front
-whole_told (Some l) bytes front ended = front ∙ ap (λ (r : List ℕ). bytes ++ r) ended ∙ append-nil bytes
-
--- what was read is all there was
-pub whole_at_end : (start now : Outside) (bytes : List ℕ) → length bytes < input_limit → IsFrontRead start now bytes → IsToldEnd now → IsWhole start now bytes
-whole_at_end start now bytes below sofar ended = record {
-  below_limit = below;
-  whole = whole_told start.script_in.left bytes sofar.front (subst (λ (o : Outside). IsToldEnd o) sofar.outside ended);
+-- the run is cut short between two entries
+pub cut_between : (opened : Outside) (bytes : List ℕ) (kept : feed.Kept) (s : State) (now : Outside) → Sofar opened bytes kept s now → CutBetween opened bytes kept.1 now
+cut_between opened bytes kept s now sofar = record {
+  entries = sofar.entries;
+  left = sofar.gap ++ kept.0;
+  text = sofar.text;
+  s = s;
+  begins = sofar.begins;
+  answers = sofar.answers;
   outside = sofar.outside;
 }
 
-past_told : (left : Option (List ℕ)) (bytes : List ℕ) → input_limit ≤ length bytes → IfSome left (λ l. l ≡ bytes ++ drop (length bytes) l) → IfSome left (λ l. input_limit ≤ length l)
-past_told None bytes h front = front
-past_told (Some l) bytes h front = let e : length l ≡ length bytes + length (drop (length bytes) l) = ap length front ∙ length-append bytes (drop (length bytes) l) in omega arith
+-- the run is cut short at an entry
+pub cut_answer : (opened : Outside) (bytes : List ℕ) (entry : Entry) (old new : feed.Kept) (s : State) (before now : Outside) → Takes entry old new
+    → CutOrNot entry s before now → Sofar opened bytes old s before → Cut opened bytes old.1 now
+cut_answer opened bytes entry old new s before now takes (inl same) sofar =
+    inl (cut_between opened bytes old s now (subst (λ (o : Outside). Sofar opened bytes old s o) (sym same) sofar))
+cut_answer opened bytes entry old new s before now takes (inr cut) sofar = inr (record {
+  entries = sofar.entries;
+  left = sofar.gap ++ old.0;
+  text = sofar.text;
+  s = s;
+  begins = sofar.begins;
+  answers = sofar.answers;
+  further = cut.reply;
+  is_further = inl (entry, new.0, cut.after, begins_on opened bytes entry old new s before sofar takes, cut.replies);
+  out = cut.cut.0;
+  less = cut.cut.1;
+  outside = writes_on opened before now (length bytes) sofar.text (take cut.cut.0 cut.reply) sofar.outside cut.cut.2;
+})
 
--- as many bytes as the limit were read
-pub past_limit : (start now : Outside) (bytes : List ℕ) → length bytes ≡ input_limit → IsFrontRead start now bytes → IsPastLimit start now
-past_limit start now bytes h sofar = record {
-  at_limit = past_told start.script_in.left bytes (omega arith) sofar.front;
-  outside = sofar.outside ∙ ap (λ n. read_at in_port.Script n start) h;
+-- no entry is whole, and white space and comments are taken
+pub wait_on : (opened : Outside) (bytes : List ℕ) (old new : feed.Kept) (session : Kept) (now : Outside) → Waits old new → session.ended ≡ false
+    → Sofar opened bytes old (state_of session.stack) now → (new.1 ≡ false) × NoneLeft opened bytes new session now
+wait_on opened bytes old new session now waits going sofar = (
+  waits.still,
+  record {
+    sofar = record {
+      entries = sofar.entries;
+      text = sofar.text;
+      gap = sofar.gap ++ waits.gap;
+      is_gap = is_gap-append sofar.gap waits.gap sofar.is_gap ∙ waits.is_gap;
+      begins = subst (λ (ended : Bool). Begins ended bytes sofar.entries ((sofar.gap ++ waits.gap) ++ new.0)) (waits.more_may_come ∙ sym waits.still)
+          (subst (λ (left : List ℕ). Begins old.1 bytes sofar.entries left) (ap (λ (x : List ℕ). sofar.gap ++ x) waits.split ∙ sym (append_assoc sofar.gap waits.gap new.0)) sofar.begins);
+      answers = sofar.answers;
+      outside = sofar.outside;
+    };
+    none = subst (λ (ended : Bool). HoldsNoEntry ended new.0) (sym waits.still) waits.no_entry;
+    goes_on = going;
+  },
+)
+
+pub open_gap_is_none : (ended : Bool) (bytes : List ℕ) → is_open_gap bytes ≡ true → HoldsNoEntry ended bytes
+open_gap_is_none ended bytes h = record { tokens = []; front = []; rest = bytes; split = refl; spelled = refl; open_entry = refl; no_token = inl h }
+
+none_left : (opened : Outside) (bytes : List ℕ) (old new : feed.Kept) (session : Kept) (now : Outside) → old.1 ≡ true → new ≡ old → HoldsNoEntry true old.0 → session.ended ≡ false
+    → Sofar opened bytes old (state_of session.stack) now → NoneLeft opened bytes new session now
+none_left opened bytes old new session now ended same none going sofar = record {
+  sofar = subst (λ (k : feed.Kept). Sofar opened bytes k (state_of session.stack) now) (sym same) sofar;
+  none = subst (λ (k : feed.Kept). HoldsNoEntry k.1 k.0) (sym same) (subst (λ (e : Bool). HoldsNoEntry e old.0) (sym ended) none);
+  goes_on = going;
 }
 
-told_nothing : (left : Option (List ℕ)) → IfSome left (λ l. l ≡ [] ++ drop 0 l)
-told_nothing None = tt
-told_nothing (Some l) = refl
-
--- nothing is read yet
-pub front_start : (start : Outside) → IsFrontRead start start []
-front_start start = record { outside = sym (read_at-zero in_port.Script start); front = told_nothing start.script_in.left }
-
--- a cut after what was read is a cut
-pub cut_later : (start now now' : Outside) (bytes : List ℕ) → IsFrontRead start now bytes → CutInReading now now' → CutInReading start now'
-cut_later start now now' bytes sofar cut = (length bytes + cut.0, cut.1 ∙ ap (read_at in_port.Script cut.0) sofar.outside ∙ read_at-add in_port.Script (length bytes) cut.0 start)
+-- the bytes have ended
+pub end_on : (ending : Ending) (opened : Outside) (bytes : List ℕ) (old new : feed.Kept) (session : Kept) (now : Outside) → Ends ending old new → session.ended ≡ false
+    → Sofar opened bytes old (state_of session.stack) now → (new.1 ≡ true) × (is_open_gap new.0 ≡ is_clean ending) × NoneLeft opened bytes new session now
+end_on Clean opened bytes old new session now ends going sofar =
+    (ap (λ (k : feed.Kept). k.1) ends.1 ∙ ends.0, ap (λ (k : feed.Kept). is_open_gap k.0) ends.1 ∙ ends.2, none_left opened bytes old new session now ends.0 ends.1 (open_gap_is_none true old.0 ends.2) going sofar)
+end_on Unfinished opened bytes old new session now ends going sofar =
+    (ap (λ (k : feed.Kept). k.1) ends.1 ∙ ends.0, ap (λ (k : feed.Kept). is_open_gap k.0) ends.1 ∙ ends.2, none_left opened bytes old new session now ends.0 ends.1 ends.3 going sofar)

@@ -1,7 +1,6 @@
-pub mod Language
-pub mod Form
-pub mod Scan
-pub mod Answers
-pub mod Solve
+pub mod Commanding
 pub mod Reading
-pub mod Answering
+pub mod Solve
+pub mod Pausing
+pub mod Underway
+pub mod Deciding

@@ -1,30 +1,89 @@
--- What reading a script does outside.
-use Rattle.std.specs.Prelude.{◌≡◌, ℕ, ◌<◌, ◌≤◌, List, [], ◌++◌, length, drop, IfSome}
-use Rattle.sb_world.specs.Outside.{Outside, read_at}
+-- How far a script is read and answered.
+use Rattle.std.specs.Prelude.{◌≡◌, ℕ, ◌<◌, Bool, true, false, List, [], ◌∷◌, ◌++◌, ◌⊎◌, length, take, drop, IfSome}
+use Rattle.sb_world.specs.Outside.{Outside, read_at, write_at}
 use Rattle.sb_world.specs.declared.InPort.TheVariants as in_port
-use Rattle.sb_session.specs.Solve.{input_limit}
+use Rattle.sb_world.specs.declared.OutPort.TheVariants as out_port
+use Rattle.sb_reader.specs.Tokens.{is_gap, is_open_gap}
+use Rattle.sb_reader.specs.Entries.{Entry, HoldsNoEntry, Begins}
+use Rattle.sb_reader.specs.Feeding as feed
+use Rattle.sb_meaning.specs.State.{State}
+use Rattle.sb_meaning.specs.State as meaning
+use Rattle.sb_meaning.specs.Replies.{Replies, is_exit}
+use Rattle.sb_meaning.specs.Scripts.{Answers, unfinished_line}
 
--- These bytes were read of the script since the start, and nothing else was done: they are the front of what was
--- left then.
-pub record IsFrontRead (start now : Outside) (bytes : List ℕ) : Type 0 where
-  pub outside : now ≡ read_at in_port.Script (length bytes) start
-  pub front : IfSome start.script_in.left (λ left. left ≡ bytes ++ drop (length bytes) left)
+-- So many bytes were read of the script, and this was written to the answers; nothing else was done.
+abbrev pub after_work : ℕ → List ℕ → Outside → Outside
+after_work count text o = write_at out_port.Answers text (read_at in_port.Script count o)
 
--- nothing is left of the script, where that is told
-abbrev pub IsToldEnd : Outside → Type 0
-IsToldEnd o = IfSome o.script_in.left (λ left. left ≡ [])
+-- these bytes are the front of what was left of the script
+abbrev pub IsFront : List ℕ → Outside → Type 0
+IsFront bytes o = IfSome o.script_in.left (λ left. left ≡ bytes ++ drop (length bytes) left)
 
--- the bytes are all that was left of the script, below the limit
-pub record IsWhole (start now : Outside) (bytes : List ℕ) : Type 0 where
-  pub below_limit : length bytes < input_limit
-  pub whole : IfSome start.script_in.left (λ left. left ≡ bytes)
-  pub outside : now ≡ read_at in_port.Script (length bytes) start
+-- they are all that was left of it
+abbrev pub IsAll : List ℕ → Outside → Type 0
+IsAll bytes o = IfSome o.script_in.left (λ left. left ≡ bytes)
 
--- so many bytes as the limit were read of the script
-pub record IsPastLimit (start now : Outside) : Type 0 where
-  pub at_limit : IfSome start.script_in.left (λ left. input_limit ≤ length left)
-  pub outside : now ≡ read_at in_port.Script input_limit start
+-- Of the bytes that were read the entries in front are answered, and what is kept of them is not.
+pub record Sofar (opened : Outside) (bytes : List ℕ) (kept : feed.Kept) (s : State) (now : Outside) : Type 0 where
+  pub entries : List Entry
+  pub text : List ℕ
+  -- white space and comments that are not kept
+  pub gap : List ℕ
+  pub is_gap : is_gap gap ≡ true
+  pub begins : Begins kept.1 bytes entries (gap ++ kept.0)
+  pub answers : Answers meaning.start entries text s
+  pub outside : now ≡ after_work (length bytes) text opened
 
--- some bytes were read of the script, and nothing else was done
-abbrev pub CutInReading : Outside → Outside → Type 0
-CutInReading start now = (count : ℕ) × (now ≡ read_at in_port.Script count start)
+-- The last entry was (exit), and it is answered.
+pub record UpToExit (opened : Outside) (bytes : List ℕ) (ended : Bool) (now : Outside) : Type 0 where
+  pub entries : List Entry
+  pub exit : Entry
+  pub left : List ℕ
+  pub text : List ℕ
+  pub s : State
+  pub reply : List ℕ
+  pub after : State
+  pub begins : Begins ended bytes (entries ++ exit ∷ []) left
+  pub answers : Answers meaning.start entries text s
+  pub is_exit : is_exit exit ≡ true
+  pub replies : Replies s exit reply after
+  pub outside : now ≡ after_work (length bytes) (text ++ reply) opened
+
+-- all whole entries are answered
+pub record AllAnswered (opened : Outside) (bytes : List ℕ) (ended : Bool) (left : List ℕ) (now : Outside) : Type 0 where
+  pub entries : List Entry
+  pub text : List ℕ
+  pub s : State
+  pub begins : Begins ended bytes entries left
+  pub none : HoldsNoEntry ended left
+  pub answers : Answers meaning.start entries text s
+  pub outside : now ≡ after_work (length bytes) text opened
+
+-- Less than all of a further text is written: of a reply to the next entry, or of the line for a script that ends within a form.
+pub record CutAnswer (opened : Outside) (bytes : List ℕ) (ended : Bool) (now : Outside) : Type 0 where
+  pub entries : List Entry
+  pub left : List ℕ
+  pub text : List ℕ
+  pub s : State
+  pub begins : Begins ended bytes entries left
+  pub answers : Answers meaning.start entries text s
+  pub further : List ℕ
+  pub is_further :
+      ((next : Entry) × (behind : List ℕ) × (after : State) × Begins ended bytes (entries ++ next ∷ []) behind × Replies s next further after)
+      ⊎ ((ended ≡ true) × HoldsNoEntry true left × (is_open_gap left ≡ false) × (further ≡ unfinished_line))
+  pub out : ℕ
+  pub less : out < length further
+  pub outside : now ≡ after_work (length bytes) (text ++ take out further) opened
+
+-- Whole replies are written, to some of the entries in front.
+pub record CutBetween (opened : Outside) (bytes : List ℕ) (ended : Bool) (now : Outside) : Type 0 where
+  pub entries : List Entry
+  pub left : List ℕ
+  pub text : List ℕ
+  pub s : State
+  pub begins : Begins ended bytes entries left
+  pub answers : Answers meaning.start entries text s
+  pub outside : now ≡ after_work (length bytes) text opened
+
+abbrev pub Cut : Outside → List ℕ → Bool → Outside → Type 0
+Cut opened bytes ended now = CutBetween opened bytes ended now ⊎ CutAnswer opened bytes ended now

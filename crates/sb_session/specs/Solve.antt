@@ -1,78 +1,90 @@
 -- What a run of the solver does outside, by its status.
-use Rattle.std.specs.Prelude.{◌≡◌, ℕ, ◌^◌, ◌<◌, ◌≤◌, List, ◌⊎◌, length, take, None, Some, IfSome, codes, Result, Ok, Err}
-use Rattle.sb_world.specs.declared.WorldError.{WorldError}
-use Rattle.sb_world.specs.declared.WorldError.TheVariants as world_error
-use Rattle.sb_world.specs.Outside.{Outside, open_at, read_at, write_at, Rose}
+use Rattle.std.specs.Prelude.{◌≡◌, ℕ, ◌^◌, ◌<◌, ◌≤◌, Bool, true, false, List, [], ◌∷◌, ◌++◌, ◌⊎◌, length, None, Some, codes, Result, Ok, Err}
+use Rattle.sb_world.specs.Outside.{Outside, open_at, write_at, Rose}
 use Rattle.sb_world.specs.declared.InPort.TheVariants as in_port
 use Rattle.sb_world.specs.declared.OutPort.TheVariants as out_port
+use Rattle.sb_reader.specs.Tokens.{is_open_gap}
+use Rattle.sb_reader.specs.Entries.{Entry, Begins}
+use Rattle.sb_meaning.specs.Replies.{line, is_exit}
+use Rattle.sb_meaning.specs.Scripts.{unfinished_line}
+use Rattle.sb_session.specs.declared.command.SessionFault.{SessionFault}
+use Rattle.sb_session.specs.declared.command.SessionFault.TheVariants as fault
 use Rattle.sb_session.specs.declared.solve.SolveStatus.{SolveStatus}
 use Rattle.sb_session.specs.declared.solve.SolveStatus.TheVariants.{Done, Unfinished, Usage, Fault, NoMemory, InputLimit}
-use Rattle.sb_session.specs.Answers.{line, AreAnswersTo}
+use Rattle.sb_session.specs.Commanding.{CutOf}
+use Rattle.sb_session.specs.Reading.{IsFront, IsAll, UpToExit, AllAnswered, Cut}
 
--- the script that standard input holds: the bytes told, where they are told
-abbrev pub IsScriptOf : Outside → List ℕ → Type 0
-IsScriptOf o script = IfSome o.standard_input (λ bytes. bytes ≡ script)
+-- the outside once standard input is opened as the script
+abbrev pub opened : Outside → Outside
+opened o = open_at in_port.Script None o
 
--- standard input is told to hold the script
-abbrev pub IsTold : List ℕ → Outside → Type 0
-IsTold script o = o.standard_input ≡ Some script
-
--- Standard input was opened as the script, and so many of its bytes were read; nothing else is touched.
-abbrev pub after_reading : ℕ → Outside → Outside
-after_reading count o = read_at in_port.Script count (open_at in_port.Script None o)
-
--- all of the script was read, and this is written to the answers
-abbrev pub after_answering : List ℕ → List ℕ → Outside → Outside
-after_answering script text o = write_at out_port.Answers text (after_reading (length script) o)
-
--- the least length of a script that is not read to its end
+-- a script of so many bytes is not read to its end
 abbrev pub input_limit : ℕ
 input_limit = 2 ^ 32
 
--- All of a script below the limit was read, and all its answers are written.
-pub record Answered (old new : Outside) : Type 0 where
+-- All of the script was read, it ends outside a form, and each entry is answered.
+pub record AnsweredToTheEnd (old new : Outside) : Type 0 where
   pub script : List ℕ
-  pub text : List ℕ
-  pub script_is : IsScriptOf old script
+  pub left : List ℕ
+  pub all : IsAll script (opened old)
   pub below_limit : length script < input_limit
-  pub answers : AreAnswersTo script text
-  pub outside : new ≡ after_answering script text old
+  pub clean : is_open_gap left ≡ true
+  pub answered : AllAnswered (opened old) script true left new
 
--- The script is as long as the limit or longer; so much of it was read, and nothing was answered.
+-- Some of the script was read, up to (exit) and maybe further, and each entry up to it is answered.
+pub record AnsweredToTheExit (old new : Outside) : Type 0 where
+  pub bytes : List ℕ
+  pub ended : Bool
+  pub front : IsFront bytes (opened old)
+  pub within_limit : length bytes ≤ input_limit
+  pub answered : UpToExit (opened old) bytes ended new
+
+-- All of the script was read, it ends within a form, each entry is answered, and the end too.
+pub record AnsweredUnfinished (old new : Outside) : Type 0 where
+  pub script : List ℕ
+  pub left : List ℕ
+  pub before : Outside
+  pub all : IsAll script (opened old)
+  pub below_limit : length script < input_limit
+  pub unfinished : is_open_gap left ≡ false
+  pub answered : AllAnswered (opened old) script true left before
+  pub outside : new ≡ write_at out_port.Answers unfinished_line before
+
+-- So many bytes as the limit were read of the script, each whole entry in them is answered, and none of them is (exit).
 pub record PastLimit (old new : Outside) : Type 0 where
-  pub at_limit : IfSome old.standard_input (λ script. input_limit ≤ length script)
-  pub outside : new ≡ after_reading input_limit old
+  pub bytes : List ℕ
+  pub left : List ℕ
+  pub front : IsFront bytes (opened old)
+  pub at_limit : length bytes ≡ input_limit
+  pub answered : AllAnswered (opened old) bytes false left new
 
--- The run was cut short in the midst of the answers: a prefix of them is written.
-pub record CutInAnswers (old new : Outside) : Type 0 where
-  pub script : List ℕ
-  pub text : List ℕ
-  pub script_is : IsScriptOf old script
-  pub below_limit : length script < input_limit
-  pub answers : AreAnswersTo script text
-  pub out : ℕ
-  pub prefix : out < length text
-  pub outside : new ≡ after_answering script (take out text) old
+-- Some of the script was read and answered when the run was cut short.
+pub record CutInScript (old new : Outside) : Type 0 where
+  pub bytes : List ℕ
+  pub ended : Bool
+  pub front : IsFront bytes (opened old)
+  pub whole : ended ≡ true → IsAll bytes (opened old)
+  pub cut : Cut (opened old) bytes ended new
 
--- The run was cut short: before the script was opened, before it was read to its end, or in the answers.
+-- The run was cut short: before the script was opened, or later.
 abbrev pub CutShort : Outside → Outside → Type 0
-CutShort old new = (new ≡ old) ⊎ (((count : ℕ) × (new ≡ after_reading count old)) ⊎ CutInAnswers old new)
+CutShort old new = (new ≡ old) ⊎ CutInScript old new
 
 -- what a run with the right words does
 abbrev pub Run : SolveStatus → Outside → Outside → Type 0
-Run Done old new = Answered old new
+Run Done old new = AnsweredToTheEnd old new ⊎ AnsweredToTheExit old new
+Run Unfinished old new = AnsweredUnfinished old new
 Run InputLimit old new = PastLimit old new
 Run Fault old new = CutShort old new
 Run NoMemory old new = CutShort old new
 Run Usage old new = ⊥
-Run Unfinished old new = ⊥
 
 abbrev pub usage_text : List ℕ
 usage_text = line (codes "usage: strsolve")
 
 -- less than all of the usage was written
 abbrev pub CutInUsage : Outside → Outside → Type 0
-CutInUsage old new = (out : ℕ) × (out < length usage_text) × (new ≡ write_at out_port.Faults (take out usage_text) old)
+CutInUsage old new = CutOf out_port.Faults usage_text old new
 
 -- What a run with wrong words does: it writes the usage, and touches nothing else.
 abbrev pub WrongWords : SolveStatus → Outside → Outside → Type 0
@@ -92,8 +104,17 @@ CountsFaults NoMemory old new = new ≡ old
 CountsFaults Usage old new = new ≡ old
 CountsFaults Unfinished old new = new ≡ old
 
--- the status of a run that ended with a status or an error of the world
-abbrev pub status_by : Result SolveStatus WorldError → SolveStatus
+-- the status of a run that ended with a status or a fault
+abbrev pub status_by : Result SolveStatus SessionFault → SolveStatus
 status_by (Ok status) = status
-status_by (Err world_error.Failed) = Fault
-status_by (Err world_error.NoMemory) = NoMemory
+status_by (Err fault.Fault) = Fault
+status_by (Err fault.NoMemory) = NoMemory
+status_by (Err fault.Ended) = NoMemory
+
+-- Standard input is told to hold the script, and its end or (exit) stands within fewer bytes than the limit.
+abbrev pub IsBounded : List ℕ → Outside → Type 0
+IsBounded script o =
+    (o.standard_input ≡ Some script)
+    × ((length script < input_limit)
+    ⊎ ((front : List ℕ) × (behind : List ℕ) × (entries : List Entry) × (exit : Entry) × (left : List ℕ)
+    × (script ≡ front ++ behind) × (length front < input_limit) × Begins false front (entries ++ exit ∷ []) left × (is_exit exit ≡ true)))

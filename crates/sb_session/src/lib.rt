@@ -1,15 +1,15 @@
-//! The session: it reads a script from a world, and answers it.
+//! The session: it reads a script from a world, and answers each of its entries before it reads on.
 //!
-//! Today one form of script is answered, an assertion that a constant is in a range of characters or in
-//! one or more of them, and every other script is answered by one line.
+//! [`solve_top`] is the program: it opens the script, reads it piece by piece, and hands each entry to a
+//! [`Session`], which answers it by the state of the script and decides the checks. The theorem of the
+//! whole, from the bytes that come in to the bytes that go out, is the contract of `solve_top`.
 #![tactic(auto)]
 
-mod answer;
-mod form;
-mod read;
+mod check;
+mod command;
 mod solve;
 #[cfg(test)]
 mod tests;
 
-pub use form::{Pattern, parse_script};
+pub use command::{Session, SessionFault, Went};
 pub use solve::{SolveStatus, solve_top};

@@ -1,18 +1,26 @@
 //! The top call of the solver.
 
-ghost use Rattle.std.specs.Prelude.{◌≡◌, ◌≢◌, ℕ, ◌<◌, ◌⊎◌, List, length, IfOk, OnErr};
-ghost use Rattle.sb_world.specs.Outside.{CountsFault, Rose};
-ghost use Rattle.sb_session.specs.Solve.{Run, WrongWords, CountsFaults, CutShort, CutInUsage, IsTold, input_limit, status_by};
+ghost use Rattle.std.specs.Prelude.{◌≡◌, ◌≢◌, ℕ, ◌<◌, ◌⊎◌, false, List, [], ◌++◌, length, IfOk, OnErr, MatchOption};
+ghost use Rattle.sb_world.specs.Outside.{Outside, Rose, read_at};
+ghost use Rattle.sb_reader.specs.Feeding as feed;
+ghost use Rattle.sb_meaning.specs.State.{start};
+ghost use Rattle.sb_stack.specs.Kept.{state_of};
+ghost use Rattle.sb_stack.specs.Steps.{IsEntry};
+ghost use Rattle.sb_session.specs.Commanding.{CountsSessionFault};
+ghost use Rattle.sb_session.specs.Reading.{Sofar, Cut};
+ghost use Rattle.sb_session.specs.Pausing.{Pauses};
+ghost use Rattle.sb_session.specs.Underway.{Turns, StaysOpen, AllRead};
+ghost use Rattle.sb_session.specs.Solve.{Run, WrongWords, CountsFaults, CutShort, CutInUsage, IsBounded, opened, status_by};
 
-use crate::answer::answer_script;
-use crate::read::read_script;
-use sb_world::{InPort, OutPort, World, WorldError, write_all};
-use std::alloc::Global;
+use crate::command::{Session, SessionFault, Went};
+use sb_reader::{Ending, Feed, Next};
+use sb_world::{InPort, OutPort, World, write_all};
+use std::alloc::{AllocError, Global};
 
 /// How a run of the solver ended. The program's exit status is the number.
 #[derive(Clone, Copy, Debug, PartialEq, Eq)]
 pub enum SolveStatus {
-    /// The script was read to its end, and all of it is answered.
+    /// The script was read to its end, or to `(exit)`, and all of it is answered.
     Done = 0,
     /// The script ended within a form.
     Unfinished = 1,
@@ -22,24 +30,33 @@ pub enum SolveStatus {
     Fault = 3,
     /// There was not enough memory.
     NoMemory = 4,
-    /// The script has `2^32` bytes or more.
+    /// So many bytes as the limit were read, and neither the script's end nor `(exit)`.
     InputLimit = 5,
 }
 
 const USAGE: &[u8] = b"usage: strsolve\n";
 
+const UNFINISHED: &[u8] = b"(error \"unexpected end of input\")\n";
+
+/// A script of so many bytes is not read to its end.
+const INPUT_LIMIT: usize = 0x1_0000_0000;
+
+/// How many bytes are asked of the world at a time.
+const PIECE: usize = 0x1_0000;
+
 /// Answers the script that standard input holds. `words` are the program's words, its own name first.
 ///
-/// The status is `Usage` where there is another word, `Fault` only where the world's count of faults rose,
-/// and `InputLimit` where the script has `2^32` bytes or more. Where a fault or want of memory cuts the run
-/// short, the answers written are a prefix of all of them.
+/// After each read all whole commands in what was read are answered before the next read. The status is
+/// `Usage` where there is another word, `Fault` only where the world's count of faults rose, and `InputLimit`
+/// where `2^32` bytes of the script were read and neither its end nor `(exit)`. Where a fault or want of memory
+/// cuts the run short, the answers written are a prefix of all of them.
 pub fn solve_top<W: World>(alloc: Global, words: &[String], world: &mut W) -> SolveStatus
     ensures usage { length words.now ≢ 1 → WrongWords result (W.outside world.old) (W.outside world.new) }
     ensures run { length words.now ≡ 1 → Run result (W.outside world.old) (W.outside world.new) }
     ensures faults { CountsFaults result (W.faults world.old) (W.faults world.new) }
 
-    // Nothing else than want of memory keeps a script below the limit from being answered, where no fault comes.
-    ensures complete { length words.now ≡ 1 → (Rose (W.faults world.old) (W.faults world.new) → ⊥) → ((script : List ℕ) × (IsTold script (W.outside world.old)) × (length script < input_limit)) → (result ≡ SolveStatus.Done) ⊎ (result ≡ SolveStatus.NoMemory) }
+    // Nothing else than want of memory keeps a script whose end or exit is below the limit from being answered, where no fault comes.
+    ensures complete { length words.now ≡ 1 → (Rose (W.faults world.old) (W.faults world.new) → ⊥) → ((script : List ℕ) × IsBounded script (W.outside world.old)) → (result ≡ SolveStatus.Done) ⊎ ((result ≡ SolveStatus.Unfinished) ⊎ (result ≡ SolveStatus.NoMemory)) }
 {
     if words.len() == 1 {
         status_of(answer_standard_input(alloc, world))
@@ -48,37 +65,190 @@ pub fn solve_top<W: World>(alloc: Global, words: &[String], world: &mut W) -> So
     }
 }
 
-/// The status of a run, an error's too.
-fn status_of(outcome: Result<SolveStatus, WorldError>) -> SolveStatus
+/// The status of a run, a fault's too.
+fn status_of(outcome: Result<SolveStatus, SessionFault>) -> SolveStatus
     ensures { result ≡ status_by outcome }
 {
     match outcome {
         Ok(status) => status,
-        Err(WorldError::Failed) => SolveStatus::Fault,
-        Err(WorldError::NoMemory) => SolveStatus::NoMemory,
+        Err(SessionFault::Fault) => SolveStatus::Fault,
+        Err(SessionFault::NoMemory | SessionFault::Ended) => SolveStatus::NoMemory,
     }
 }
 
-/// Reads the script of standard input, and answers it.
-fn answer_standard_input<W: World>(alloc: Global, world: &mut W) -> Result<SolveStatus, WorldError>
-    ensures ok { IfOk result (λ status. Run status (W.outside world.old) (W.outside world.new) × CountsFaults status (W.faults world.old) (W.faults world.new)) }
-    ensures err { OnErr result (CutShort (W.outside world.old) (W.outside world.new)) }
-    ensures faults { CountsFault result (W.faults world.old) (W.faults world.new) }
-{
-    world.open_input(InPort::Script, None)?;
-    let Some(script) = read_script(alloc, world)? else {
-        return Ok(SolveStatus::InputLimit);
-    };
-    answer_script(alloc, world, &script)?;
-    Ok(SolveStatus::Done)
-}
-
 /// Writes the usage.
-fn refuse_words<W: World>(world: &mut W) -> Result<SolveStatus, WorldError>
+fn refuse_words<W: World>(world: &mut W) -> Result<SolveStatus, SessionFault>
     ensures ok { IfOk result (λ status. WrongWords status (W.outside world.old) (W.outside world.new) × CountsFaults status (W.faults world.old) (W.faults world.new)) }
     ensures err { OnErr result (CutInUsage (W.outside world.old) (W.outside world.new)) }
-    ensures faults { CountsFault result (W.faults world.old) (W.faults world.new) }
+    ensures faults { CountsSessionFault result (W.faults world.old) (W.faults world.new) }
 {
     write_all(world, OutPort::Faults, USAGE)?;
     Ok(SolveStatus::Usage)
+}
+
+/// Reads the script of standard input piece by piece, and answers it.
+fn answer_standard_input<W: World>(
+    alloc: Global,
+    world: &mut W,
+) -> Result<SolveStatus, SessionFault>
+    ensures ok { IfOk result (λ status. Run status (W.outside world.old) (W.outside world.new) × CountsFaults status (W.faults world.old) (W.faults world.new)) }
+    ensures err { OnErr result (CutShort (W.outside world.old) (W.outside world.new)) }
+    ensures faults { CountsSessionFault result (W.faults world.old) (W.faults world.new) }
+{
+    world.open_input(InPort::Script, None)?;
+    let mut buffer = empty_piece(alloc)?;
+    answer_script(
+        &mut buffer,
+        &mut Feed::new(alloc),
+        &mut Session::new(alloc),
+        world,
+    )
+}
+
+/// Reads the script that is opened piece by piece, as much at a time as the buffer holds, and answers it.
+fn answer_script<W: World>(
+    buffer: &mut [u8],
+    feed: &mut Feed,
+    session: &mut Session,
+    world: &mut W,
+) -> Result<SolveStatus, SessionFault>
+    requires buffer { 0 < length buffer.old }
+    requires feed { feed.old ≡ ([], false) }
+    requires state { state_of session.old.stack ≡ start }
+    requires goes_on { session.old.ended ≡ false }
+    ensures ok { IfOk result (λ status. (old : Outside) → W.outside world.old ≡ opened old → Run status old (W.outside world.new)) }
+    ensures counts { IfOk result (λ status. CountsFaults status (W.faults world.old) (W.faults world.new)) }
+    ensures err { OnErr result ((old : Outside) → W.outside world.old ≡ opened old → CutShort old (W.outside world.new)) }
+    ensures faults { CountsSessionFault result (W.faults world.old) (W.faults world.new) }
+{
+    let mut count = 0;
+    while count < INPUT_LIMIT {
+        let room = (INPUT_LIMIT - count).min(buffer.len());
+        let read = world.read(InPort::Script, &mut buffer[..room])?;
+        if read == 0 {
+            return answer_end(feed, session, world);
+        }
+        if answer_piece(&buffer[..read], feed, session, world)? == Pause::Exited {
+            return Ok(SolveStatus::Done);
+        }
+        count += read;
+    }
+    Ok(SolveStatus::InputLimit)
+}
+
+/// Room for one piece.
+fn empty_piece(alloc: Global) -> Result<Vec<u8>, AllocError>
+    ensures { IfOk result (λ piece. length piece.items ≡ PIECE) }
+{
+    vec![in alloc; 0u8; PIECE]
+}
+
+/// Why no further entry is answered.
+#[derive(Clone, Copy, Debug, PartialEq, Eq)]
+enum Pause {
+    /// The last entry was `(exit)`.
+    Exited,
+    /// No whole entry is left, and more bytes may come.
+    Waiting,
+    /// No whole entry is left, and no more bytes come.
+    Ended(Ending),
+}
+
+/// Takes a piece of the script that was read, and answers all entries that are whole.
+fn answer_piece<W: World>(
+    piece: &[u8],
+    feed: &mut Feed,
+    session: &mut Session,
+    world: &mut W,
+) -> Result<Pause, SessionFault>
+    requires feed { feed.old.1 ≡ false }
+    requires session { session.old.ended ≡ false }
+    ensures ok { IfOk result (λ pause. (opened : Outside) (bytes : List ℕ) (before : Outside) → Sofar opened bytes feed.old (state_of session.old.stack) before → W.outside world.old ≡ read_at InPort.Script (length piece.now) before → Pauses pause opened (bytes ++ piece.now) feed.new session.new (W.outside world.new)) }
+    ensures err { OnErr result ((opened : Outside) (bytes : List ℕ) (before : Outside) → Sofar opened bytes feed.old (state_of session.old.stack) before → W.outside world.old ≡ read_at InPort.Script (length piece.now) before → Cut opened (bytes ++ piece.now) false (W.outside world.new)) }
+    ensures finished { IfOk result (λ pause. feed.new.1 ≡ false) }
+    ensures goes_on { IfOk result (λ pause. StaysOpen pause session.new) }
+    ensures faults { CountsSessionFault result (W.faults world.old) (W.faults world.new) }
+{
+    feed.push(piece)?;
+    answer_entries(feed, session, world)
+}
+
+/// Answers all entries that are whole.
+fn answer_entries<W: World>(
+    feed: &mut Feed,
+    session: &mut Session,
+    world: &mut W,
+) -> Result<Pause, SessionFault>
+    requires { session.old.ended ≡ false }
+    ensures ok { IfOk result (λ pause. (opened : Outside) (bytes : List ℕ) → Sofar opened bytes feed.old (state_of session.old.stack) (W.outside world.old) → Pauses pause opened bytes feed.new session.new (W.outside world.new)) }
+    ensures goes_on { IfOk result (λ pause. StaysOpen pause session.new) }
+    ensures err { OnErr result ((opened : Outside) (bytes : List ℕ) → Sofar opened bytes feed.old (state_of session.old.stack) (W.outside world.old) → Cut opened bytes feed.old.1 (W.outside world.new)) }
+    ensures finished { feed.new.1 ≡ feed.old.1 }
+    ensures faults { CountsSessionFault result (W.faults world.old) (W.faults world.new) }
+{
+    loop {
+        if let Some(pause) = answer_next(feed, session, world)? {
+            return Ok(pause);
+        }
+    }
+}
+
+/// Answers the next entry, where it is whole; `None` where a further one may come.
+fn answer_next<W: World>(
+    feed: &mut Feed,
+    session: &mut Session,
+    world: &mut W,
+) -> Result<Option<Pause>, SessionFault>
+    requires { session.old.ended ≡ false }
+    ensures ok { IfOk result (λ turn. (opened : Outside) (bytes : List ℕ) → Sofar opened bytes feed.old (state_of session.old.stack) (W.outside world.old) → Turns turn opened bytes feed.new session.new (W.outside world.new)) }
+    ensures goes_on { IfOk result (λ turn. MatchOption turn ((session.new.ended ≡ false) × (length feed.new.0 < length feed.old.0)) (λ pause. StaysOpen pause session.new)) }
+    ensures err { OnErr result ((opened : Outside) (bytes : List ℕ) → Sofar opened bytes feed.old (state_of session.old.stack) (W.outside world.old) → Cut opened bytes feed.old.1 (W.outside world.new)) }
+    ensures finished { feed.new.1 ≡ feed.old.1 }
+    ensures faults { CountsSessionFault result (W.faults world.old) (W.faults world.new) }
+{
+    let next = feed.next()?;
+    answer_what_came(&next, session, world)
+}
+
+/// Answers what came next; `None` where it was an entry, and a further one may come.
+fn answer_what_came<W: World>(
+    next: &Next,
+    session: &mut Session,
+    world: &mut W,
+) -> Result<Option<Pause>, SessionFault>
+    requires { session.old.ended ≡ false }
+    ensures ok { IfOk result (λ turn. (opened : Outside) (bytes : List ℕ) (old new : feed.Kept) → feed.Answers next.now old new → Sofar opened bytes old (state_of session.old.stack) (W.outside world.old) → Turns turn opened bytes new session.new (W.outside world.new)) }
+    ensures goes_on { IfOk result (λ turn. MatchOption turn (IsEntry next.now × (session.new.ended ≡ false)) (λ pause. StaysOpen pause session.new)) }
+    ensures err { OnErr result ((opened : Outside) (bytes : List ℕ) (old new : feed.Kept) → feed.Answers next.now old new → Sofar opened bytes old (state_of session.old.stack) (W.outside world.old) → Cut opened bytes old.1 (W.outside world.new)) }
+    ensures faults { CountsSessionFault result (W.faults world.old) (W.faults world.new) }
+{
+    match next {
+        Next::NotYet => Ok(Some(Pause::Waiting)),
+        Next::Ended(ending) => Ok(Some(Pause::Ended(*ending))),
+        Next::Command(_) | Next::Refused(_) => match session.command(next, world)? {
+            Went::Go => Ok(None),
+            Went::Exited => Ok(Some(Pause::Exited)),
+        },
+    }
+}
+
+/// Answers what is left once the script was read to its end.
+fn answer_end<W: World>(
+    feed: &mut Feed,
+    session: &mut Session,
+    world: &mut W,
+) -> Result<SolveStatus, SessionFault>
+    requires { session.old.ended ≡ false }
+    ensures ok { IfOk result (λ status. (old : Outside) (bytes : List ℕ) → AllRead old bytes feed.old session.old (W.outside world.old) → Run status old (W.outside world.new)) }
+    ensures counts { IfOk result (λ status. CountsFaults status (W.faults world.old) (W.faults world.new)) }
+    ensures err { OnErr result ((old : Outside) (bytes : List ℕ) → AllRead old bytes feed.old session.old (W.outside world.old) → CutShort old (W.outside world.new)) }
+    ensures faults { CountsSessionFault result (W.faults world.old) (W.faults world.new) }
+{
+    feed.finish();
+    if answer_entries(feed, session, world)? == Pause::Ended(Ending::Unfinished) {
+        write_all(world, OutPort::Answers, UNFINISHED)?;
+        Ok(SolveStatus::Unfinished)
+    } else {
+        Ok(SolveStatus::Done)
+    }
 }

@@ -39,3 +39,30 @@ fn words_print_as_literals(rt: HostRuntime) -> Result<(), Fail> {
     }
     Ok(())
 }
+
+#[test]
+fn literals_are_ordered_by_atom_and_then_the_positive_one(rt: HostRuntime) -> Result<(), Fail> {
+    let positive = Lit {
+        atom: 7,
+        positive: true,
+    };
+    let next = Lit {
+        atom: 8,
+        positive: true,
+    };
+    assert!(rt; positive < positive.negated());
+    assert!(rt; positive.negated() < next);
+    let clause = Clause::from_literals([next, positive].to_vec(rt.alloc())?);
+    assert_eq!(rt; clause.literals(), [next, positive].as_slice());
+    Ok(())
+}
+
+#[test]
+fn a_budget_of_two_gives_two_steps(rt: HostRuntime) {
+    let mut budget = Budget::new(2);
+    assert_eq!(rt; budget.tick(), Ok(()));
+    assert_eq!(rt; budget.tick(), Ok(()));
+    assert_eq!(rt; budget.tick(), Err(Spent));
+    assert_eq!(rt; budget.spent(), 2);
+    assert_eq!(rt; budget.limit(), 2);
+}

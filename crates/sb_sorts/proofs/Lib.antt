@@ -1,0 +1,6 @@
+pub mod Kept
+pub mod Unquoting
+pub mod Applying
+pub mod Shapes
+pub mod Reading
+pub mod Sizes

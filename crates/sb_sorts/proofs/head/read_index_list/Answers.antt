@@ -1,0 +1,19 @@
+use Rattle.std.proofs.Common.{sym, ap, subst, ◌∙◌, arith}
+use Rattle.sb_sorts.specs.Scopes.{names_in}
+use Rattle.sb_sorts.specs.Heads.{head_in, Gives}
+use Rattle.sb_sorts.proofs.Shapes.{by_name, indexed, unindexed}
+use Rattle.sb_sorts.proofs.head.read_index_list.Goals as goal
+
+pub returns-in_default-clause-reads : goal.returns-in_default-clause-reads
+returns-in_default-clause-reads c = unindexed (names_in c.args.scope.now) c.args.forms.now (omega arith)
+
+pub returns-in-Some-clause-reads : goal.returns-in-Some-clause-reads
+returns-in-Some-clause-reads c =
+    let names = names_in c.args.scope.now in
+    let by = indexed names c.args.forms.now c.first-item.result (omega arith) c.first-item.is in
+    subst (λ reading. Gives head_in reading c.read_indexed.result) (sym (by ∙ ap (by_name names) (sym c.in-Some.ensures))) c.read_indexed.ensures.reads
+
+pub returns-in-None-clause-reads : goal.returns-in-None-clause-reads
+returns-in-None-clause-reads c =
+    let names = names_in c.args.scope.now in
+    indexed names c.args.forms.now c.first-item.result (omega arith) c.first-item.is ∙ ap (by_name names) (sym c.in-None.ensures)

@@ -1,0 +1,122 @@
+-- What the parts of reading say: heads, the forms of a slice, and the first fault.
+use Rattle.std.specs.Prelude.{◌≡◌, ℕ, Bool, true, false, ◌&&◌, nat_lt, if◌then◌else◌, List, [], ◌∷◌, map, codes, Option, Some, None, Result, Ok, Err}
+use Rattle.sb_reader.specs.declared.sexpr.Sexpr.{Sexpr}
+use Rattle.sb_reader.specs.Forms.{Form, Forms, Symbol, QuotedSymbol, Keyword, Numeral, OtherNumber, Words, Group, none, more, form_of}
+use Rattle.sb_sorts.specs.declared.read.ReadFault.{ReadFault}
+use Rattle.sb_sorts.specs.declared.read.ReadFault.TheVariants as fault
+use Rattle.sb_sorts.specs.declared.head.Head.{Head}
+use Rattle.sb_sorts.specs.declared.head.Head.TheVariants as head
+use Rattle.sb_sorts.specs.declared.head.Front.{Front}
+use Rattle.sb_sorts.specs.declared.head.Front.TheVariants as front
+use Rattle.sb_sorts.specs.declared.term.Term as code
+use Rattle.sb_meaning.specs.Names.{Name, is_name, is_reserved}
+use Rattle.sb_meaning.specs.Symbols.{symbol_named, is_left_out}
+use Rattle.sb_meaning.specs.Scopes.{Naming}
+use Rattle.sb_meaning.specs.Terms.{Term, text}
+use Rattle.sb_meaning.specs.Reading as meaning
+use Rattle.sb_meaning.specs.Reading.{Fault, head_constant, head_symbol, unknown_symbol, wrong_sort, wrong_count, bad_index, unsupported, bad_literal, malformed, ◌>>=◌, read_head, read_index_list, read_list_head, read_reserved, is_binding, are_bindings}
+use Rattle.sb_sorts.specs.Terms.{symbol_in, term_in}
+use Rattle.sb_sorts.specs.Reads.{has_serials_below}
+
+abbrev pub forms_in : List Sexpr → Forms
+forms_in [] = none
+forms_in (form ∷ forms) = more (form_of form) (forms_in forms)
+
+abbrev pub head_in : Head → meaning.Head
+head_in (head.Constant serial) = head_constant serial.0 text
+head_in (head.Symbol s) = head_symbol (symbol_in s)
+
+-- a constant that is the head has a serial below this
+abbrev pub head_below : ℕ → Head → Bool
+head_below n (head.Constant serial) = nat_lt serial.0 n
+head_below n (head.Symbol s) = true
+
+abbrev pub terms_in : List code.Term → List Term
+terms_in terms = map term_in terms
+
+-- each term of the list has serials below this
+abbrev pub all_below : ℕ → List code.Term → Bool
+all_below n [] = true
+all_below n (term ∷ terms) = has_serials_below n (term_in term) && all_below n terms
+
+-- Reading gives this fault. Want of memory says nothing.
+abbrev pub Faults : {A : Type 0} → Result A Fault → ReadFault → Type 0
+Faults reading (fault.UnknownSymbol name) = reading ≡ Err (unknown_symbol name.items)
+Faults reading fault.WrongSort = reading ≡ Err wrong_sort
+Faults reading fault.WrongCount = reading ≡ Err wrong_count
+Faults reading fault.BadIndex = reading ≡ Err bad_index
+Faults reading fault.Unsupported = reading ≡ Err unsupported
+Faults reading fault.BadLiteral = reading ≡ Err bad_literal
+Faults reading fault.Malformed = reading ≡ Err malformed
+Faults reading fault.NoMemory = Unit {0}
+
+-- The answer, seen by the view, is what reading gives.
+abbrev pub Gives : {A B : Type 0} → (B → A) → Result A Fault → Result B ReadFault → Type 0
+Gives view reading (Ok x) = reading ≡ Ok (view x)
+Gives view reading (Err fault) = Faults reading fault
+
+-- What a list begins with: a name with indices, which is whole, or a head with its arguments.
+pub data Beginning : Type 0 where
+  whole : meaning.Head → Beginning
+  takes : meaning.Head → Beginning
+
+abbrev pub beginning_in : Front → Beginning
+beginning_in (front.Whole h) = whole (head_in h)
+beginning_in (front.Takes h) = takes (head_in h)
+
+abbrev pub beginning_below : ℕ → Front → Bool
+beginning_below n (front.Whole h) = head_below n h
+beginning_below n (front.Takes h) = head_below n h
+
+abbrev pub with_arguments : Result meaning.Head Fault → Result Beginning Fault
+with_arguments reading = reading >>= (λ h. Ok (takes h))
+
+-- what a name that is not declared is as a head
+abbrev pub undeclared_head : Name → Result meaning.Head Fault
+undeclared_head name = elim (symbol_named name) [
+  | Some s ↦ Ok (head_symbol s)
+  | None ↦ if is_left_out name then Err unsupported else Err (unknown_symbol name)
+]
+
+-- what a list begins with whose first form is a symbol
+abbrev pub symbol_beginning : List Naming → Name → Forms → Result Beginning Fault
+symbol_beginning names name others =
+    if is_name name (codes "_") then read_index_list names others >>= (λ h. Ok (whole h))
+    else if is_reserved name then Err (read_reserved name others)
+    else with_arguments (read_head names name)
+
+-- what a list begins with that has more forms than its first
+abbrev pub some_beginning : List Naming → Form → Forms → Result Beginning Fault
+some_beginning names (Symbol name) others = symbol_beginning names name others
+some_beginning names (QuotedSymbol name) others = with_arguments (read_head names name)
+some_beginning names (Group list) others = with_arguments (read_list_head names list)
+some_beginning names (Keyword name) others = Err malformed
+some_beginning names (Numeral digits) others = Err malformed
+some_beginning names (OtherNumber bytes) others = Err malformed
+some_beginning names (Words bytes) others = Err malformed
+
+-- what a list begins with, by its first form and the others
+abbrev pub beginning_of : List Naming → Form → Forms → Result Beginning Fault
+beginning_of names first none = Err malformed
+beginning_of names first (more second rest) = some_beginning names first (more second rest)
+
+-- the name that a form is: a symbol, but no reserved word
+abbrev pub name_of : Form → Option Name
+name_of (Symbol name) = if is_reserved name then None else Some name
+name_of (QuotedSymbol name) = Some name
+name_of (Keyword name) = None
+name_of (Numeral digits) = None
+name_of (OtherNumber bytes) = None
+name_of (Words bytes) = None
+name_of (Group list) = None
+
+-- the form is ((name term) ..)
+abbrev pub has_bindings : Form → Bool
+has_bindings (Group (more binding bindings)) = is_binding binding && are_bindings bindings
+has_bindings (Group none) = false
+has_bindings (Symbol name) = false
+has_bindings (QuotedSymbol name) = false
+has_bindings (Keyword name) = false
+has_bindings (Numeral digits) = false
+has_bindings (OtherNumber bytes) = false
+has_bindings (Words bytes) = false

@@ -1,0 +1,5 @@
+pub mod Terms
+pub mod Scopes
+pub mod Reads
+pub mod Heads
+pub mod Kept

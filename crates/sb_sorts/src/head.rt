@@ -1,0 +1,224 @@
+//! The heads of terms: names, names with indices, and what a list begins with.
+
+ghost use Rattle.std.specs.Prelude.{◌≡◌, ℕ, true, Result, Err, IfOk, option_map};
+ghost use Rattle.sb_reader.specs.Forms.{form_of};
+ghost use Rattle.sb_meaning.specs.Reading as meaning;
+ghost use Rattle.sb_meaning.specs.Reading.{Fault};
+ghost use Rattle.sb_sorts.specs.Scopes.{names_in};
+ghost use Rattle.sb_sorts.specs.Heads.{forms_in, head_in, head_below, beginning_in, beginning_below, beginning_of, some_beginning, symbol_beginning, with_arguments, undeclared_head, name_of, has_bindings, Beginning, Faults, Gives};
+
+use crate::names::{begins_term, is_left_out, is_reserved, symbol_named};
+use crate::read::ReadFault;
+use crate::scope::{Named, Scope};
+use crate::sort::Symbol;
+use crate::term::Serial;
+use sb_reader::Sexpr;
+use std::alloc::Global;
+
+/// A head that takes arguments: a constant, which takes none, or a symbol of the theories.
+#[derive(Clone, Copy)]
+pub(crate) enum Head {
+    Constant(Serial),
+    Symbol(Symbol),
+}
+
+/// What a list begins with.
+#[derive(Clone, Copy)]
+pub(crate) enum Front {
+    /// A name with indices, which ends the list.
+    Whole(Head),
+    /// A head, behind which its arguments follow.
+    Takes(Head),
+}
+
+/// What a name is as a head.
+pub(crate) fn read_head(alloc: Global, scope: &Scope, name: &[u8]) -> Result<Head, ReadFault>
+    ensures reads { Gives head_in (meaning.read_head (names_in scope.now) name.now) result }
+    ensures declared { IfOk result (λ head. head_below scope.now.declared head ≡ true) }
+{
+    match scope.look_up(name) {
+        Some(Named::Constant(serial)) => Ok(Head::Constant(serial)),
+        Some(Named::Marked) => Err(ReadFault::Unsupported),
+        None => read_symbol(alloc, name),
+    }
+}
+
+/// What a name that is not declared is as a head.
+fn read_symbol(alloc: Global, name: &[u8]) -> Result<Head, ReadFault>
+    ensures reads { Gives head_in (undeclared_head name.now) result }
+    ensures declared { IfOk result (λ head. (n : ℕ) → head_below n head ≡ true) }
+{
+    match symbol_named(name) {
+        Some(symbol) => Ok(Head::Symbol(symbol)),
+        None if is_left_out(name) => Err(ReadFault::Unsupported),
+        None => Err(ReadFault::UnknownSymbol(name.to_vec(alloc)?)),
+    }
+}
+
+/// What a name with indices is as a head.
+fn read_indexed(alloc: Global, scope: &Scope, name: &[u8]) -> Result<Head, ReadFault>
+    ensures reads { Gives head_in (meaning.read_indexed (names_in scope.now) name.now) result }
+    ensures declared { IfOk result (λ head. head_below scope.now.declared head ≡ true) }
+{
+    match read_head(alloc, scope, name) {
+        Ok(_) => Err(ReadFault::BadIndex),
+        Err(ReadFault::UnknownSymbol(_)) if name == b"char".as_slice() => Err(
+            ReadFault::Unsupported,
+        ),
+        Err(fault) => Err(fault),
+    }
+}
+
+/// The name that a form is: a symbol, but no reserved word.
+fn name_of(form: &Sexpr) -> Option<&[u8]>
+    ensures { option_map (λ name. name.now) result ≡ name_of (form_of form.now) }
+{
+    match form {
+        Sexpr::Symbol(name) if !is_reserved(name) => Some(name.as_slice()),
+        Sexpr::QuotedSymbol(name) => Some(name.as_slice()),
+        _ => None,
+    }
+}
+
+/// What `(_ name index ..)` is as a head, without the underscore.
+fn read_index_list(alloc: Global, scope: &Scope, forms: &[Sexpr]) -> Result<Head, ReadFault>
+    ensures reads { Gives head_in (meaning.read_index_list (names_in scope.now) (forms_in forms.now)) result }
+    ensures declared { IfOk result (λ head. head_below scope.now.declared head ≡ true) }
+{
+    let [first, _, ..] = forms else {
+        return Err(ReadFault::Malformed);
+    };
+    match name_of(first) {
+        Some(name) => read_indexed(alloc, scope, name),
+        None => Err(ReadFault::Malformed),
+    }
+}
+
+/// What a list is as the head of a list.
+fn read_list_head(alloc: Global, scope: &Scope, forms: &[Sexpr]) -> Result<Head, ReadFault>
+    ensures reads { Gives head_in (meaning.read_list_head (names_in scope.now) (forms_in forms.now)) result }
+    ensures declared { IfOk result (λ head. head_below scope.now.declared head ≡ true) }
+{
+    let [Sexpr::Symbol(name), rest @ ..] = forms else {
+        return Err(ReadFault::Malformed);
+    };
+    if name.as_slice() == b"_".as_slice() {
+        read_index_list(alloc, scope, rest)
+    } else if name.as_slice() == b"as".as_slice() {
+        Err(ReadFault::Unsupported)
+    } else {
+        Err(ReadFault::Malformed)
+    }
+}
+
+/// Whether the form is `(name term)`, as in a `let`.
+fn is_binding(form: &Sexpr) -> bool
+    ensures { result ≡ meaning.is_binding (form_of form.now) }
+{
+    let Sexpr::List(parts) = form else {
+        return false;
+    };
+    match parts.as_slice() {
+        [first, _] => name_of(first).is_some(),
+        _ => false,
+    }
+}
+
+/// Whether each form is `(name term)`.
+fn are_bindings(forms: &[Sexpr]) -> bool
+    ensures { result ≡ meaning.are_bindings (forms_in forms.now) }
+{
+    forms.iter().all(is_binding)
+}
+
+/// Whether the form is `((name term) ..)`.
+fn has_bindings(form: &Sexpr) -> bool
+    ensures { result ≡ has_bindings (form_of form.now) }
+{
+    match form {
+        Sexpr::List(bindings) => !bindings.is_empty() && are_bindings(bindings),
+        _ => false,
+    }
+}
+
+/// Whether the forms are `((name term) ..) term`.
+fn is_let(forms: &[Sexpr]) -> bool
+    ensures { result ≡ meaning.is_let (forms_in forms.now) }
+{
+    match forms {
+        [bindings, _] => has_bindings(bindings),
+        _ => false,
+    }
+}
+
+/// The fault of a list whose head is a reserved word.
+fn read_reserved(name: &[u8], arguments: &[Sexpr]) -> ReadFault
+    ensures { Faults {A = Beginning} (Err (meaning.read_reserved name.now (forms_in arguments.now))) result }
+{
+    if begins_term(name) || (name == b"let".as_slice() && is_let(arguments)) {
+        ReadFault::Unsupported
+    } else {
+        ReadFault::Malformed
+    }
+}
+
+/// The head, behind which its arguments follow.
+fn takes_arguments(head: Result<Head, ReadFault>) -> Result<Front, ReadFault>
+    ensures reads { (reading : Result meaning.Head Fault) → Gives head_in reading head → Gives beginning_in (with_arguments reading) result }
+    ensures declared { (n : ℕ) → IfOk head (λ h. head_below n h ≡ true) → IfOk result (λ front. beginning_below n front ≡ true) }
+{
+    Ok(Front::Takes(head?))
+}
+
+/// What a list begins with whose first form is a symbol.
+fn read_symbol_front(
+    alloc: Global,
+    scope: &Scope,
+    name: &[u8],
+    others: &[Sexpr],
+) -> Result<Front, ReadFault>
+    ensures reads { Gives beginning_in (symbol_beginning (names_in scope.now) name.now (forms_in others.now)) result }
+    ensures declared { IfOk result (λ front. beginning_below scope.now.declared front ≡ true) }
+{
+    if name == b"_".as_slice() {
+        Ok(Front::Whole(read_index_list(alloc, scope, others)?))
+    } else if is_reserved(name) {
+        Err(read_reserved(name, others))
+    } else {
+        Ok(Front::Takes(read_head(alloc, scope, name)?))
+    }
+}
+
+/// What a list begins with that has more forms than its first.
+fn read_some_front(
+    alloc: Global,
+    scope: &Scope,
+    first: &Sexpr,
+    others: &[Sexpr],
+) -> Result<Front, ReadFault>
+    ensures reads { Gives beginning_in (some_beginning (names_in scope.now) (form_of first.now) (forms_in others.now)) result }
+    ensures declared { IfOk result (λ front. beginning_below scope.now.declared front ≡ true) }
+{
+    match first {
+        Sexpr::Symbol(name) => read_symbol_front(alloc, scope, name, others),
+        Sexpr::QuotedSymbol(name) => takes_arguments(read_head(alloc, scope, name)),
+        Sexpr::List(forms) => takes_arguments(read_list_head(alloc, scope, forms)),
+        _ => Err(ReadFault::Malformed),
+    }
+}
+
+/// What a list begins with, by its first form and the others.
+pub(crate) fn read_front(
+    alloc: Global,
+    scope: &Scope,
+    first: &Sexpr,
+    others: &[Sexpr],
+) -> Result<Front, ReadFault>
+    ensures reads { Gives beginning_in (beginning_of (names_in scope.now) (form_of first.now) (forms_in others.now)) result }
+    ensures declared { IfOk result (λ front. beginning_below scope.now.declared front ≡ true) }
+{
+    if others.is_empty() {
+        return Err(ReadFault::Malformed);
+    }
+    read_some_front(alloc, scope, first, others)
+}

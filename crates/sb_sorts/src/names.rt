@@ -1,0 +1,174 @@
+//! The names of the theories and the reserved words.
+
+ghost use Rattle.std.specs.Prelude.{◌≡◌, option_map};
+ghost use Rattle.std.specs.List.{list_any};
+ghost use Rattle.sb_meaning.specs.Names as meaning;
+ghost use Rattle.sb_meaning.specs.Symbols as theory;
+ghost use Rattle.sb_sorts.specs.Terms.{symbol_in, kind_in};
+
+use crate::sort::{Sort, Symbol};
+
+/// What begins a term of its own shape.
+const WORDS_OF_TERMS: [&[u8]; 5] = [b"forall", b"exists", b"match", b"as", b"!"];
+
+/// The other reserved words.
+const WORDS_OF_SCRIPTS: [&[u8]; 38] = [
+    b"_",
+    b"let",
+    b"par",
+    b"BINARY",
+    b"DECIMAL",
+    b"HEXADECIMAL",
+    b"NUMERAL",
+    b"STRING",
+    b"assert",
+    b"check-sat",
+    b"check-sat-assuming",
+    b"declare-const",
+    b"declare-datatype",
+    b"declare-datatypes",
+    b"declare-fun",
+    b"declare-sort",
+    b"define-fun",
+    b"define-fun-rec",
+    b"define-funs-rec",
+    b"define-sort",
+    b"echo",
+    b"exit",
+    b"get-assertions",
+    b"get-assignment",
+    b"get-info",
+    b"get-model",
+    b"get-option",
+    b"get-proof",
+    b"get-unsat-assumptions",
+    b"get-unsat-core",
+    b"get-value",
+    b"pop",
+    b"push",
+    b"reset",
+    b"reset-assertions",
+    b"set-info",
+    b"set-logic",
+    b"set-option",
+];
+
+/// The names of the theories that are not read.
+const LEFT_OUT: [&[u8]; 55] = [
+    b"true",
+    b"false",
+    b"not",
+    b"and",
+    b"or",
+    b"=>",
+    b"xor",
+    b"ite",
+    b"=",
+    b"distinct",
+    b"<=",
+    b"<",
+    b">=",
+    b">",
+    b"+",
+    b"*",
+    b"-",
+    b"div",
+    b"mod",
+    b"abs",
+    b"str.++",
+    b"str.len",
+    b"str.to_re",
+    b"str.<",
+    b"str.<=",
+    b"str.at",
+    b"str.substr",
+    b"str.prefixof",
+    b"str.suffixof",
+    b"str.contains",
+    b"str.indexof",
+    b"str.replace",
+    b"str.replace_all",
+    b"str.replace_re",
+    b"str.replace_re_all",
+    b"str.is_digit",
+    b"str.to_code",
+    b"str.from_code",
+    b"str.to_int",
+    b"str.from_int",
+    b"re.none",
+    b"re.all",
+    b"re.allchar",
+    b"re.++",
+    b"re.union",
+    b"re.inter",
+    b"re.diff",
+    b"re.*",
+    b"re.opt",
+    b"re.comp",
+    b"re.^",
+    b"re.loop",
+    b"str.in.re",
+    b"str.to.re",
+    b"re.nostr",
+];
+
+/// Whether the name is one of these.
+fn is_among(names: &[&[u8]], name: &[u8]) -> bool
+    ensures { result ≡ list_any (λ other. meaning.is_name name.now other.now) names.now }
+{
+    names.iter().any(|other| name == *other)
+}
+
+/// Whether the word begins a term of its own shape (`forall`, `match`).
+pub fn begins_term(name: &[u8]) -> bool
+    ensures { result ≡ meaning.begins_term name.now }
+{
+    is_among(&WORDS_OF_TERMS, name)
+}
+
+/// Whether the symbol is a reserved word where it is not written between bars. Takes no memory.
+pub fn is_reserved(name: &[u8]) -> bool
+    ensures { result ≡ meaning.is_reserved name.now }
+{
+    is_among(&WORDS_OF_TERMS, name) || is_among(&WORDS_OF_SCRIPTS, name)
+}
+
+/// The symbol of this name, where it is read.
+pub(crate) fn symbol_named(name: &[u8]) -> Option<Symbol>
+    ensures { option_map symbol_in result ≡ theory.symbol_named name.now }
+{
+    if name == b"str.in_re".as_slice() {
+        Some(Symbol::InRe)
+    } else if name == b"re.range".as_slice() {
+        Some(Symbol::Range)
+    } else if name == b"re.+".as_slice() {
+        Some(Symbol::Plus)
+    } else {
+        None
+    }
+}
+
+/// Whether the name is one of the theories that is not read.
+pub(crate) fn is_left_out(name: &[u8]) -> bool
+    ensures { result ≡ theory.is_left_out name.now }
+{
+    is_among(&LEFT_OUT, name)
+}
+
+/// Whether the name is one of the theories, which can't be declared. Takes no memory.
+pub fn is_theory_name(name: &[u8]) -> bool
+    ensures { result ≡ theory.is_theory_name name.now }
+{
+    symbol_named(name).is_some() || is_left_out(name)
+}
+
+/// The sort of this name, where constants may have it. Takes no memory.
+pub fn sort_named(name: &[u8]) -> Option<Sort>
+    ensures { option_map kind_in result ≡ theory.sort_named name.now }
+{
+    if name == b"String".as_slice() {
+        Some(Sort::String)
+    } else {
+        None
+    }
+}

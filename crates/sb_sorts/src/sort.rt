@@ -1,0 +1,21 @@
+//! Sorts and symbols.
+
+/// A sort of the theories.
+#[derive(Clone, Copy, Debug, PartialEq, Eq)]
+pub enum Sort {
+    Bool,
+    Int,
+    String,
+    RegLan,
+}
+
+/// A symbol of the theories that is read.
+#[derive(Clone, Copy, Debug, PartialEq, Eq)]
+pub enum Symbol {
+    /// `str.in_re`
+    InRe,
+    /// `re.range`
+    Range,
+    /// `re.+`
+    Plus,
+}

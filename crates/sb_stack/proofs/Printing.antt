@@ -1,0 +1,56 @@
+-- The texts of values, and of lists of texts.
+use Rattle.std.proofs.Common.{◌≡◌, ℕ, ◌+◌, ◌<◌, ◌==◌, Bool, true, false, if◌then◌else◌, List, [], ◌∷◌, ◌++◌, map, length, take, slice_index_or, get_or, refl, ap, sym, ◌∙◌, arith, append_assoc, zero, suc, zero-add}
+use Rattle.std.proofs.Math.Dec.{eqb-suc-zero}
+use Rattle.std.proofs.lemmas.Bool.Decides.{nat_tests}
+use Rattle.std.proofs.lemmas.List.{map-append, length-map, length-take-le, take_more}
+use Rattle.sb_word.specs.Literals.{literal_text}
+use Rattle.sb_meaning.specs.Terms.{text}
+use Rattle.sb_meaning.specs.Values.{Text, value_in}
+use Rattle.sb_meaning.specs.Printed.{printed}
+use Rattle.sb_meaning.specs.Replies.{spaced}
+use Rattle.sb_stack.specs.Kept.{values_from}
+use Rattle.sb_stack.specs.Values.{gap_at}
+
+here : (k i : ℕ) → i ≡ 0 → (k == k + i) ≡ true
+here k i h = grind (arith, nat_tests)
+
+behind : (k i : ℕ) → (k == k + suc i) ≡ false
+behind k i = grind (arith, nat_tests)
+
+further : (k i : ℕ) → k + suc i ≡ (k + 1) + i
+further k i = omega arith
+
+-- the value of a constant is the word at its serial
+value_at : (ws : List (List ℕ)) (k i : ℕ) → value_in (values_from k ws) (k + i) text ≡ Text (slice_index_or ws i [])
+value_at [] k i = refl
+value_at (w ∷ ws) k zero = ap (λ (b : Bool). if b then Text w else value_in (values_from (k + 1) ws) (k + 0) text) (here k 0 refl)
+value_at (w ∷ ws) k (suc i) =
+    ap (λ (b : Bool). if b then Text w else value_in (values_from (k + 1) ws) (k + suc i) text) (behind k i) ∙ ap (λ n. value_in (values_from (k + 1) ws) n text) (further k i) ∙ value_at ws (k + 1) i
+
+pub printed_at : (ws : List (List ℕ)) (i : ℕ) → printed (value_in (values_from 0 ws) i text) ≡ 34 ∷ (literal_text (slice_index_or ws i []) ++ 34 ∷ [])
+printed_at ws i = ap (λ n. printed (value_in (values_from 0 ws) n text)) (sym (zero-add i)) ∙ ap printed (value_at ws 0 i)
+
+no_gap : (ts : List (List ℕ)) (s u : List ℕ) → gap_at (length (s ∷ ts)) ++ u ≡ 32 ∷ u
+no_gap ts s u = ap (λ (b : Bool). (if b then [] else 32 ∷ []) ++ u) (eqb-suc-zero (length ts))
+
+pub spaced_next : (ts : List (List ℕ)) (u : List ℕ) → spaced (ts ++ u ∷ []) ≡ spaced ts ++ (gap_at (length ts) ++ u)
+spaced_next [] u = refl
+spaced_next (t ∷ []) u = ap (λ rest. t ++ rest) (sym (no_gap [] t u))
+spaced_next (t ∷ s ∷ ts) u =
+    let rest : spaced (s ∷ (ts ++ u ∷ [])) ≡ spaced (s ∷ ts) ++ 32 ∷ u = spaced_next (s ∷ ts) u ∙ ap (λ r. spaced (s ∷ ts) ++ r) (no_gap ts s u) in
+    ap (λ r. t ++ (32 ∷ r)) rest ∙ sym (append_assoc t (32 ∷ spaced (s ∷ ts)) (32 ∷ u)) ∙ ap (λ r. spaced (t ∷ s ∷ ts) ++ r) (sym (no_gap (s ∷ ts) t u))
+
+-- one more text of a list
+pub line_step : {A B : Type 0} (g : B → List ℕ) (f : A → B) (xs : List A) (i : ℕ) (d : A) (old gap new : List ℕ) → i < length xs → old ≡ 40 ∷ spaced (map g (map f (take i xs))) → gap ≡ old ++ gap_at i → new ≡ gap ++ g (f (get_or xs i d)) → new ≡ 40 ∷ spaced (map g (map f (take (i + 1) xs)))
+line_step {A} {B} g f xs i d old gap new within before between done =
+    let x : A = get_or xs i d in
+    let front : List A = take i xs in
+    let ts : List (List ℕ) = map g (map f front) in
+    let u : List ℕ = g (f x) in
+    let count : length ts ≡ i = length-map (map f front) g ∙ length-map front f ∙ length-take-le i xs (omega arith) in
+    let texts : map g (map f (take (i + 1) xs)) ≡ ts ++ u ∷ [] = ap (λ ys. map g (map f ys)) (take_more xs i d within) ∙ ap (map g) (map-append f front (x ∷ [])) ∙ map-append g (map f front) (f x ∷ []) in
+    done ∙ ap (λ r. r ++ u) (between ∙ ap (λ r. r ++ gap_at i) before) ∙ append_assoc (40 ∷ spaced ts) (gap_at i) u
+    ∙ ap (λ n. 40 ∷ (spaced ts ++ (gap_at n ++ u))) (sym count) ∙ ap (λ r. 40 ∷ r) (sym (spaced_next ts u)) ∙ ap (λ r. 40 ∷ spaced r) (sym texts)
+
+pub in_quotes : (a b c d w : List ℕ) → b ≡ a ++ 34 ∷ [] → c ≡ b ++ w → d ≡ c ++ 34 ∷ [] → d ≡ a ++ (34 ∷ (w ++ 34 ∷ []))
+in_quotes a b c d w first second third = third ∙ ap (λ r. r ++ 34 ∷ []) (second ∙ ap (λ r. r ++ w) first) ∙ simp append_assoc

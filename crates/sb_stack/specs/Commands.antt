@@ -1,0 +1,38 @@
+-- The commands of the code, and the forms of a slice, as the definitions have them.
+use Rattle.std.specs.Prelude.{Bool, false, List, [], ◌∷◌, map}
+use Rattle.std.specs.List.{list_all}
+use Rattle.sb_reader.specs.declared.sexpr.Sexpr.{Sexpr}
+use Rattle.sb_reader.specs.Forms.{Form, Forms, Group, none, more, form_of}
+use Rattle.sb_stack.specs.declared.command.Command.{Command}
+use Rattle.sb_stack.specs.declared.command.Command.TheVariants as code
+use Rattle.sb_meaning.specs.Commands as meaning
+
+abbrev pub forms_in : List Sexpr → List Form
+forms_in forms = map form_of forms
+
+-- the forms as a list of a script
+abbrev pub group_in : List Sexpr → Forms
+group_in [] = none
+group_in (form ∷ forms) = more (form_of form) (group_in forms)
+
+-- a list of sorts
+abbrev pub is_sort_list : Form → Bool
+is_sort_list (Group sorts) = list_all meaning.is_sort (meaning.list_of sorts)
+is_sort_list _ = false
+
+-- a list of parameters
+abbrev pub is_parameter_list : Form → Bool
+is_parameter_list (Group parameters) = list_all meaning.is_parameter (meaning.list_of parameters)
+is_parameter_list _ = false
+
+abbrev pub command_in : Command → meaning.Command
+command_in (code.SetLogic name) = meaning.set_logic name.now
+command_in (code.SetOption key value) = meaning.set_option key.now (form_of value.now)
+command_in (code.DeclareConstant name sort) = meaning.declare_constant name.now (form_of sort.now)
+command_in (code.DeclareFunction name) = meaning.declare_function name.now
+command_in (code.Assert form) = meaning.assert (form_of form.now)
+command_in code.CheckSat = meaning.check_sat
+command_in code.GetModel = meaning.get_model
+command_in (code.GetValue forms) = meaning.get_value (forms_in forms.now)
+command_in code.Exit = meaning.exit
+command_in code.Another = meaning.another

@@ -1,0 +1,40 @@
+-- What the answers of the code say.
+use Rattle.std.specs.Prelude.{◌≡◌, []}
+use Rattle.sb_reader.specs.declared.feed.Next.{Next}
+use Rattle.sb_reader.specs.declared.feed.Next.TheVariants as next
+use Rattle.sb_reader.specs.declared.feed.Refusal.TheVariants.{BareToken}
+use Rattle.sb_reader.specs.Forms.{form_of}
+use Rattle.sb_reader.specs.Entries as entries
+use Rattle.sb_meaning.specs.State.{State}
+use Rattle.sb_meaning.specs.Replies as meaning
+use Rattle.sb_stack.specs.declared.stack.Step.{Step}
+use Rattle.sb_stack.specs.declared.stack.Step.TheVariants as code
+use Rattle.sb_stack.specs.declared.verdict.Verdict.{Verdict}
+use Rattle.sb_stack.specs.declared.verdict.Verdict.TheVariants as verdict
+use Rattle.sb_stack.specs.Kept.{values_from}
+
+-- what comes next is an entry
+abbrev pub IsEntry : Next → Type 0
+IsEntry (next.Command form) = Unit {0}
+IsEntry (next.Refused refusal) = Unit {0}
+IsEntry next.NotYet = ⊥
+IsEntry (next.Ended ending) = ⊥
+
+-- the entry; what is none is taken as a token outside a form
+abbrev pub entry_of : Next → entries.Entry
+entry_of (next.Command form) = entries.Command (form_of form)
+entry_of (next.Refused refusal) = entries.Refused refusal
+entry_of next.NotYet = entries.Refused BareToken
+entry_of (next.Ended ending) = entries.Refused BareToken
+
+abbrev pub verdict_in : Verdict → meaning.Verdict
+verdict_in (verdict.Sat words) = meaning.is_sat (values_from 0 words.items)
+verdict_in verdict.Unsat = meaning.is_unsat []
+verdict_in verdict.Outside = meaning.is_outside
+
+-- The step that the definitions have is taken. A check and an exit leave the state.
+abbrev pub IsStep : meaning.Step → Step → State → State → Type 0
+IsStep (meaning.answers bytes s) (code.Answer text) old new = (text.items ≡ bytes) × (new ≡ s)
+IsStep meaning.checks code.Check old new = new ≡ old
+IsStep (meaning.exits bytes) (code.Exit text) old new = (text.items ≡ bytes) × (new ≡ old)
+IsStep _ _ old new = ⊥

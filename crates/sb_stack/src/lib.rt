@@ -1,0 +1,20 @@
+//! The state of a script: options, names, assertions and the mode, and what each command makes of them
+//! (SMT-LIB 2.6, sections 3.9 and 4).
+//!
+//! A [`Stack`] takes one entry of a script after another, and answers it, or says that a check is asked for
+//! or the run ends. Contracts see it as the state that the definitions have. The session above decides the
+//! checks by the live assertions, and settles them.
+#![tactic(auto)]
+
+mod command;
+mod name;
+mod option;
+mod reply;
+mod stack;
+#[cfg(test)]
+mod tests;
+mod value;
+mod verdict;
+
+pub use stack::{Assertion, Stack, Step};
+pub use verdict::Verdict;

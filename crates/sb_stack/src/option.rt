@@ -1,0 +1,43 @@
+//! What the arguments of commands name: logics, truth values and sorts.
+
+ghost use Rattle.std.specs.Prelude.{◌≡◌, option_map};
+ghost use Rattle.sb_reader.specs.Forms.{form_of};
+ghost use Rattle.sb_meaning.specs.Replies as meaning;
+ghost use Rattle.sb_sorts.specs.Terms.{kind_in};
+
+use crate::command::symbol_in;
+use sb_reader::Sexpr;
+use sb_sorts::{Sort, sort_named};
+
+/// Whether the logic is one of those that scripts may be in.
+pub(crate) fn is_logic(name: &[u8]) -> bool
+    ensures { result ≡ meaning.is_logic name.now }
+{
+    name == b"ALL".as_slice() || name == b"QF_S".as_slice() || name == b"QF_SLIA".as_slice()
+}
+
+fn truth_named(name: &[u8]) -> Option<bool>
+    ensures { result ≡ meaning.truth_named name.now }
+{
+    if name == b"true".as_slice() {
+        Some(true)
+    } else if name == b"false".as_slice() {
+        Some(false)
+    } else {
+        None
+    }
+}
+
+/// The truth value of an option.
+pub(crate) fn truth_in(value: &Sexpr) -> Option<bool>
+    ensures { result ≡ meaning.truth_in (form_of value.now) }
+{
+    truth_named(symbol_in(value)?)
+}
+
+/// The sort that a form names, where constants may have it.
+pub(crate) fn sort_of(sort: &Sexpr) -> Option<Sort>
+    ensures { option_map kind_in result ≡ meaning.sort_of (form_of sort.now) }
+{
+    sort_named(symbol_in(sort)?)
+}

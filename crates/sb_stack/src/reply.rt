@@ -1,0 +1,64 @@
+//! The lines that answer a command (SMT-LIB 2.6, section 4.2), each with its line feed.
+
+ghost use Rattle.std.specs.Prelude.{◌≡◌, ◌++◌, [], codes, if◌then◌else◌, IfOk};
+ghost use Rattle.sb_meaning.specs.Names.{name_in_text};
+ghost use Rattle.sb_meaning.specs.Replies as meaning;
+
+use crate::name::push_name_in_text;
+use sb_reader::Refusal;
+use std::alloc::{AllocError, Global};
+
+/// `(error "message")`. Linear in the message.
+pub(crate) fn error_line(alloc: Global, message: &[u8]) -> Result<Vec<u8>, AllocError>
+    ensures { IfOk result (λ text. text.items ≡ meaning.error_line message.now) }
+{
+    let mut text = Vec::from_slice(alloc, b"(error \"")?;
+    text.extend_from_slice(message)?;
+    text.extend_from_slice(b"\")\n")?;
+    Ok(text)
+}
+
+/// `(error "message name")`, where the message ends with its space. Linear in the message and the name.
+pub(crate) fn error_line_with_name(
+    alloc: Global,
+    message: &[u8],
+    name: &[u8],
+) -> Result<Vec<u8>, AllocError>
+    ensures { IfOk result (λ text. text.items ≡ meaning.error_line (message.now ++ name_in_text name.now)) }
+{
+    let mut text = Vec::from_slice(alloc, b"(error \"")?;
+    text.extend_from_slice(message)?;
+    push_name_in_text(&mut text, name)?;
+    text.extend_from_slice(b"\")\n")?;
+    Ok(text)
+}
+
+/// What is said of a refused entry.
+pub(crate) fn refusal_text(refusal: Refusal) -> &'static [u8]
+    ensures { result.now ≡ meaning.refusal_text refusal }
+{
+    match refusal {
+        Refusal::StrayClose => b"unexpected )",
+        Refusal::BadToken => b"bad token",
+        Refusal::TooDeep => b"nesting deeper than 512",
+        Refusal::BareToken => b"malformed command",
+    }
+}
+
+/// The answer to what is left out.
+pub(crate) fn unsupported_line(alloc: Global) -> Result<Vec<u8>, AllocError>
+    ensures { IfOk result (λ text. text.items ≡ meaning.unsupported_line) }
+{
+    Vec::from_slice(alloc, b"unsupported\n")
+}
+
+/// The answer to a command that succeeds, which is empty where `:print-success` is false.
+pub(crate) fn success_line(alloc: Global, printed: bool) -> Result<Vec<u8>, AllocError>
+    ensures { IfOk result (λ text. text.items ≡ (if printed then meaning.line (codes "success") else [])) }
+{
+    if printed {
+        Vec::from_slice(alloc, b"success\n")
+    } else {
+        Ok(Vec::new(alloc))
+    }
+}

@@ -1,0 +1,262 @@
+//! Constants with their values, and what is asked for (SMT-LIB 2.6, section 4.2.6).
+
+ghost use Rattle.std.specs.Prelude.{◌≡◌, ◌++◌, [], map, option_map, option_copied, slice_index_or, IfOk, OnOk};
+ghost use Rattle.sb_reader.specs.Forms.{form_of, Symbol};
+ghost use Rattle.sb_word.specs.Literals.{literal_text};
+ghost use Rattle.sb_meaning.specs.Terms.{text as of_text};
+ghost use Rattle.sb_meaning.specs.Values.{value_in};
+ghost use Rattle.sb_meaning.specs.Printed.{printed};
+ghost use Rattle.sb_meaning.specs.Scopes.{constants_in};
+ghost use Rattle.sb_meaning.specs.Replies as meaning;
+ghost use Rattle.sb_sorts.specs.Scopes.{names_in};
+ghost use Rattle.sb_stack.specs.Commands.{forms_in};
+ghost use Rattle.sb_stack.specs.Kept.{values_from};
+ghost use Rattle.sb_stack.specs.Values.{constant_in, asked_in, item_in, with_names, gap_at};
+
+use crate::name::push_name;
+use sb_reader::Sexpr;
+use sb_sorts::{Named, Scope, Serial, begins_term, is_reserved, is_theory_name};
+use sb_word::{Word, print_literal};
+use std::alloc::{AllocError, Global};
+
+/// A declared constant.
+#[derive(Clone, Copy)]
+pub(crate) struct Constant<'a> {
+    pub(crate) name: &'a [u8],
+    pub(crate) serial: Serial,
+}
+
+/// What an item of a list of asked values is.
+#[derive(Clone, Copy)]
+pub(crate) enum Item<'a> {
+    Constant(Constant<'a>),
+    /// A name that stands for nothing.
+    Unknown(&'a [u8]),
+    /// A reserved word.
+    Malformed,
+    /// Known or composite, and no declared constant.
+    Other,
+}
+
+/// The constants of a scope, in the order of declaration. Linear in the names.
+pub(crate) fn constants(alloc: Global, scope: &Scope) -> Result<Vec<Constant<'_>>, AllocError>
+    ensures { IfOk result (λ found. map constant_in found.items ≡ constants_in (names_in scope.now)) }
+{
+    let mut found = Vec::new(alloc);
+    for place in 0..scope.len() {
+        let Some((name, named)) = scope.at(place) else {
+            unreachable!();
+        };
+        if let Named::Constant(serial) = named {
+            found.push(Constant { name, serial })?;
+        }
+    }
+    Ok(found)
+}
+
+/// What a name is among asked items.
+fn item_named<'a>(scope: &Scope, name: &'a [u8]) -> Item<'a>
+    ensures { item_in result ≡ meaning.item_named (with_names (names_in scope.now)) name.now }
+{
+    match scope.named(name) {
+        Some(Named::Constant(serial)) => Item::Constant(Constant { name, serial }),
+        Some(Named::Marked) => Item::Other,
+        None if is_theory_name(name) => Item::Other,
+        None => Item::Unknown(name),
+    }
+}
+
+/// What a symbol that was not written between bars is among asked items.
+fn item_bare<'a>(scope: &Scope, name: &'a [u8]) -> Item<'a>
+    ensures { item_in result ≡ meaning.item_of (with_names (names_in scope.now)) (Symbol name.now) }
+{
+    if begins_term(name) {
+        Item::Other
+    } else if is_reserved(name) {
+        Item::Malformed
+    } else {
+        item_named(scope, name)
+    }
+}
+
+fn item_of<'a>(scope: &Scope, form: &'a Sexpr) -> Item<'a>
+    ensures { item_in result ≡ meaning.item_of (with_names (names_in scope.now)) (form_of form.now) }
+{
+    match form {
+        Sexpr::Symbol(name) => item_bare(scope, name),
+        Sexpr::QuotedSymbol(name) => item_named(scope, name),
+        _ => Item::Other,
+    }
+}
+
+/// What is asked for. Linear in the number of items, but for the look-ups of names.
+pub(crate) fn items<'a>(
+    alloc: Global,
+    scope: &Scope,
+    forms: &'a [Sexpr],
+) -> Result<Vec<Item<'a>>, AllocError>
+    ensures { IfOk result (λ found. map item_in found.items ≡ map (meaning.item_of (with_names (names_in scope.now))) (forms_in forms.now)) }
+{
+    let mut found = Vec::new(alloc);
+    for form in forms {
+        found.push(item_of(scope, form))?;
+    }
+    Ok(found)
+}
+
+pub(crate) fn some_malformed(items: &[Item]) -> bool
+    ensures { result ≡ meaning.some_malformed (map item_in items.now) }
+{
+    for item in items {
+        if let Item::Malformed = item {
+            return true;
+        }
+    }
+    false
+}
+
+/// The first name that stands for nothing.
+pub(crate) fn first_unknown<'a>(items: &[Item<'a>]) -> Option<&'a [u8]>
+    ensures { option_copied result ≡ meaning.first_unknown (map item_in items.now) }
+{
+    for item in items {
+        if let Item::Unknown(name) = item {
+            return Some(name);
+        }
+    }
+    None
+}
+
+/// The constants, where there is nothing else. Linear.
+pub(crate) fn all_constants<'a>(
+    alloc: Global,
+    items: &[Item<'a>],
+) -> Result<Option<Vec<Constant<'a>>>, AllocError>
+    ensures { IfOk result (λ found. option_map (λ cs. map asked_in cs.items) found ≡ meaning.all_constants (map item_in items.now)) }
+{
+    let mut found = Vec::new(alloc);
+    for item in items {
+        let Item::Constant(constant) = item else {
+            return Ok(None);
+        };
+        found.push(*constant)?;
+    }
+    Ok(Some(found))
+}
+
+/// Appends the literal of a word, without its quotes.
+fn push_literal(alloc: Global, text: &mut Vec<u8>, word: &Word) -> Result<(), AllocError>
+    ensures { OnOk result (text.new.items ≡ text.old.items ++ literal_text word.now) }
+{
+    let literal = print_literal(alloc, word)?;
+    text.extend_from_slice(literal.as_bytes())
+}
+
+/// Appends the literal of the word at a place, which is the empty one where there is none.
+fn push_literal_at(
+    alloc: Global,
+    text: &mut Vec<u8>,
+    words: &[Word],
+    place: usize,
+) -> Result<(), AllocError>
+    ensures { OnOk result (text.new.items ≡ text.old.items ++ literal_text (slice_index_or words.now place [])) }
+{
+    match words.get(place) {
+        Some(word) => push_literal(alloc, text, word),
+        None => Ok(()),
+    }
+}
+
+/// Appends the value of a constant, as a literal between quotes. A constant without a word has the empty one.
+#[tactic(auto, using(crate::proofs::Printing::printed_at))]
+fn push_value(
+    alloc: Global,
+    text: &mut Vec<u8>,
+    words: &[Word],
+    serial: Serial,
+) -> Result<(), AllocError>
+    ensures { OnOk result (text.new.items ≡ text.old.items ++ printed (value_in (values_from 0 words.now) serial.0 of_text)) }
+{
+    text.push(b'"')?;
+    push_literal_at(alloc, text, words, serial.0 as usize)?;
+    text.push(b'"')?;
+    Ok(())
+}
+
+/// Appends `(define-fun c () String "word")`.
+fn push_definition(
+    alloc: Global,
+    text: &mut Vec<u8>,
+    words: &[Word],
+    constant: &Constant,
+) -> Result<(), AllocError>
+    ensures { OnOk result (text.new.items ≡ text.old.items ++ meaning.definition_text (values_from 0 words.now) (constant_in constant.now)) }
+{
+    text.extend_from_slice(b"(define-fun ")?;
+    push_name(text, constant.name)?;
+    text.extend_from_slice(b" () String ")?;
+    push_value(alloc, text, words, constant.serial)?;
+    text.push(b')')?;
+    Ok(())
+}
+
+/// Appends `(c "word")`.
+fn push_answer(
+    alloc: Global,
+    text: &mut Vec<u8>,
+    words: &[Word],
+    constant: &Constant,
+) -> Result<(), AllocError>
+    ensures { OnOk result (text.new.items ≡ text.old.items ++ meaning.value_text (values_from 0 words.now) (asked_in constant.now)) }
+{
+    text.push(b'(')?;
+    push_name(text, constant.name)?;
+    text.push(b' ')?;
+    push_value(alloc, text, words, constant.serial)?;
+    text.push(b')')?;
+    Ok(())
+}
+
+/// Appends the space in front of the entry at a place of a list, which the first has not.
+fn push_gap(text: &mut Vec<u8>, place: usize) -> Result<(), AllocError>
+    ensures { OnOk result (text.new.items ≡ text.old.items ++ gap_at place) }
+{
+    if place > 0 {
+        text.push(b' ')?;
+    }
+    Ok(())
+}
+
+/// The line of a model: a definition for each constant. Linear in the line.
+pub(crate) fn model_line(
+    alloc: Global,
+    words: &[Word],
+    constants: &[Constant],
+) -> Result<Vec<u8>, AllocError>
+    ensures { IfOk result (λ text. text.items ≡ meaning.line (meaning.list_text (map (meaning.definition_text (values_from 0 words.now)) (map constant_in constants.now)))) }
+{
+    let mut text = Vec::from_slice(alloc, b"(")?;
+    for (place, constant) in constants.iter().enumerate() {
+        push_gap(&mut text, place)?;
+        push_definition(alloc, &mut text, words, constant)?;
+    }
+    text.extend_from_slice(b")\n")?;
+    Ok(text)
+}
+
+/// The line of the values that were asked for. Linear in the line.
+pub(crate) fn values_line(
+    alloc: Global,
+    words: &[Word],
+    constants: &[Constant],
+) -> Result<Vec<u8>, AllocError>
+    ensures { IfOk result (λ text. text.items ≡ meaning.line (meaning.list_text (map (meaning.value_text (values_from 0 words.now)) (map asked_in constants.now)))) }
+{
+    let mut text = Vec::from_slice(alloc, b"(")?;
+    for (place, constant) in constants.iter().enumerate() {
+        push_gap(&mut text, place)?;
+        push_answer(alloc, &mut text, words, constant)?;
+    }
+    text.extend_from_slice(b")\n")?;
+    Ok(text)
+}
