@@ -1,6 +1,6 @@
 #!/usr/bin/env bash
 # Times the reader alone over 50 MB in pieces of several lengths, and the program over scripts of 1 to 50 MB, read
-# from a file. Seconds, megabytes a second and peak memory in KB.
+# from a file. Processor seconds, megabytes a second and peak memory in KB.
 set -eu
 cd "$(dirname "$0")/.."
 build() { # the program, and what it is run on

@@ -1,7 +1,8 @@
 //! `strsolve`: answers the SMT-LIB script that standard input holds, on standard output.
 //!
-//! The exit status is 0 where the whole script is answered, 2 where the program's words are wrong, 3 where
-//! input or output failed, 4 where memory ran out, 5 where the script has `2^32` bytes or more.
+//! The exit status is 0 where the script is answered to its end or to `(exit)`, 1 where it ended within a form,
+//! 2 where the program's words are wrong, 3 where input or output failed, 4 where memory ran out, 5 where `2^32`
+//! bytes of the script were read without an end.
 #![tactic(auto)]
 
 use sb_session::{SolveStatus, solve_top};

@@ -1,0 +1,4 @@
+pub mod Literals
+pub mod Scanning
+pub mod Growing
+pub mod Dropped

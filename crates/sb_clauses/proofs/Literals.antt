@@ -1,0 +1,142 @@
+-- Clauses where some literals are true.
+use Rattle.std.proofs.Common.{◌≡◌, ℕ, zero, suc, ◌<◌, Bool, true, false, not, cond, ◌&&◌, ◌||◌, eqb, List, [], ◌∷◌, ◌++◌, length, get_or, take, Option, Some, None, refl, sym, ◌∙◌, ap, inl, inr}
+use Rattle.std.specs.List.{list_all}
+use Rattle.std.proofs.lemmas.Bool.{false≢true, and_parts, and_from, or_left, or_right, or_from, or_cases, not-true, not_from_false, eqb-true, eq-eqb, false_from_ne_true}
+use Rattle.std.proofs.lemmas.List.Folds.{list_all-append, list_any-append, list_all_at}
+use Rattle.sb_word.specs.declared.clause.Lit.{Lit}
+use Rattle.sb_word.specs.Clauses.{is_same_literal, is_among, is_true_under, is_false_under, is_open_under, value_under, is_false_clause, leaves_only}
+use Rattle.sb_clauses.specs.Examining.{IsIdle}
+
+same_sign : (a b : Bool) → cond a b (not b) ≡ true → a ≡ b
+same_sign true true h = refl
+same_sign true false h = absurd (false≢true h)
+same_sign false true h = absurd (false≢true h)
+same_sign false false h = refl
+
+same_sign_self : (a : Bool) → cond a a (not a) ≡ true
+same_sign_self true = refl
+same_sign_self false = refl
+
+literal_of_parts : (a b : ℕ) (p q : Bool) → a ≡ b → p ≡ q → ◌≡◌ {A = Lit} (record { atom = a; positive = p }) (record { atom = b; positive = q })
+literal_of_parts a b p q e f = cc
+
+-- the test of literals is equality
+pub is_same_literal-true : (l m : Lit) → is_same_literal l m ≡ true → l ≡ m
+is_same_literal-true l m h =
+    let parts = and_parts (eqb l.atom m.atom) (cond l.positive m.positive (not m.positive)) h in
+    literal_of_parts l.atom m.atom l.positive m.positive (eqb-true l.atom m.atom parts.0) (same_sign l.positive m.positive parts.1)
+
+pub is_same_literal-self : (l : Lit) → is_same_literal l l ≡ true
+is_same_literal-self l =
+    and_from (eqb l.atom l.atom) (cond l.positive l.positive (not l.positive)) (eq-eqb l.atom l.atom refl) (same_sign_self l.positive)
+
+-- what a value says
+value_false : (t f : Bool) → ◌≡◌ {A = Option Bool} (cond t (Some true) (cond f (Some false) None)) (Some false) → f ≡ true
+value_false true f h = absurd (Prim.cc)
+value_false false true h = refl
+value_false false false h = absurd (Prim.cc)
+
+value_none : (t f : Bool) → ◌≡◌ {A = Option Bool} (cond t (Some true) (cond f (Some false) None)) None → (t ≡ false) × (f ≡ false)
+value_none true f h = absurd (Prim.cc)
+value_none false true h = absurd (Prim.cc)
+value_none false false h = (refl, refl)
+
+module _ (held : List Lit) where
+  pub false_by_value : (l : Lit) → value_under held l ≡ Some false → is_false_under held l ≡ true
+  false_by_value l h = value_false (is_true_under held l) (is_false_under held l) h
+
+  pub open_by_value : (l : Lit) → value_under held l ≡ None → is_open_under held l ≡ true
+  open_by_value l h =
+      let both = value_none (is_true_under held l) (is_false_under held l) h in
+      and_from (not (is_true_under held l)) (not (is_false_under held l)) (not_from_false (is_true_under held l) both.0) (not_from_false (is_false_under held l) both.1)
+
+  pub open-not_false : (l : Lit) → is_open_under held l ≡ true → is_false_under held l ≡ false
+  open-not_false l h = not-true (is_false_under held l) (and_parts (not (is_true_under held l)) (not (is_false_under held l)) h).1
+
+  pub open-not_true : (l : Lit) → is_open_under held l ≡ true → is_true_under held l ≡ false
+  open-not_true l h = not-true (is_true_under held l) (and_parts (not (is_true_under held l)) (not (is_false_under held l)) h).0
+
+  -- the literal is this one or false
+  abbrev pub is_or_false : Lit → Lit → Bool
+  is_or_false l m = is_same_literal m l || is_false_under held m
+
+  pub leaves_only-parts : (clause : List Lit) (l : Lit) → leaves_only held clause l ≡ true → (is_among clause l ≡ true) × (is_open_under held l ≡ true) × (list_all (is_or_false l) clause ≡ true)
+  leaves_only-parts clause l h =
+      let outer = and_parts (is_among clause l && is_open_under held l) (list_all (is_or_false l) clause) h in
+      let inner = and_parts (is_among clause l) (is_open_under held l) outer.0 in
+      (inner.0, inner.1, outer.1)
+
+  leaves_only-from : (clause : List Lit) (l : Lit) → is_among clause l ≡ true → is_open_under held l ≡ true → list_all (is_or_false l) clause ≡ true → leaves_only held clause l ≡ true
+  leaves_only-from clause l among unset others =
+      and_from (is_among clause l && is_open_under held l) (list_all (is_or_false l) clause) (and_from (is_among clause l) (is_open_under held l) among unset) others
+
+  -- one more literal that is false
+  pub false_more : (clause : List Lit) (m : Lit) → is_false_clause held clause ≡ true → is_false_under held m ≡ true → is_false_clause held (clause ++ m ∷ []) ≡ true
+  false_more clause m h is_false = list_all-append (is_false_under held) clause (m ∷ []) ∙ rw (h, is_false) refl
+
+  among_more : (clause : List Lit) (l m : Lit) → is_among clause l ≡ true → is_among (clause ++ m ∷ []) l ≡ true
+  among_more clause l m h = list_any-append (λ x. is_same_literal x l) clause (m ∷ []) ∙ or_left (is_among clause l) (is_same_literal m l || false) h
+
+  among_last : (clause : List Lit) (l : Lit) → is_among (clause ++ l ∷ []) l ≡ true
+  among_last clause l =
+      list_any-append (λ x. is_same_literal x l) clause (l ∷ []) ∙ or_right (is_among clause l) (is_same_literal l l || false) (or_left (is_same_literal l l) false (is_same_literal-self l))
+
+  all_more : (p : Lit → Bool) (clause : List Lit) (m : Lit) → list_all p clause ≡ true → p m ≡ true → list_all p (clause ++ m ∷ []) ≡ true
+  all_more p clause m h here = list_all-append p clause (m ∷ []) ∙ rw (h, here) refl
+
+  all_weaker : (p q : Lit → Bool) → ((m : Lit) → p m ≡ true → q m ≡ true) → (clause : List Lit) → list_all p clause ≡ true → list_all q clause ≡ true
+  all_weaker p q weaker [] h = refl
+  all_weaker p q weaker (m ∷ ms) h =
+      let parts = and_parts (p m) (list_all p ms) h in
+      and_from (q m) (list_all q ms) (weaker m parts.0) (all_weaker p q weaker ms parts.1)
+
+  pub leaves_more_false : (clause : List Lit) (l m : Lit) → leaves_only held clause l ≡ true → is_false_under held m ≡ true → leaves_only held (clause ++ m ∷ []) l ≡ true
+  leaves_more_false clause l m h is_false =
+      let parts = leaves_only-parts clause l h in
+      leaves_only-from (clause ++ m ∷ []) l (among_more clause l m parts.0) parts.1 (all_more (is_or_false l) clause m parts.2 (or_right (is_same_literal m l) (is_false_under held m) is_false))
+
+  pub leaves_more_same : (clause : List Lit) (l m : Lit) → leaves_only held clause l ≡ true → m ≡ l → leaves_only held (clause ++ m ∷ []) m ≡ true
+  leaves_more_same clause l m h same =
+      let at_m : leaves_only held clause m ≡ true = rw same h in
+      let parts = leaves_only-parts clause m at_m in
+      leaves_only-from (clause ++ m ∷ []) m (among_last clause m) parts.1 (all_more (is_or_false m) clause m parts.2 (or_left (is_same_literal m m) (is_false_under held m) (is_same_literal-self m)))
+
+  pub leaves_last : (clause : List Lit) (m : Lit) → is_false_clause held clause ≡ true → is_open_under held m ≡ true → leaves_only held (clause ++ m ∷ []) m ≡ true
+  leaves_last clause m h unset =
+      leaves_only-from (clause ++ m ∷ []) m (among_last clause m) unset (all_more (is_or_false m) clause m (all_weaker (is_false_under held) (is_or_false m) (λ x is_false. or_right (is_same_literal x m) (is_false_under held x) is_false) clause h) (or_left (is_same_literal m m) (is_false_under held m) (is_same_literal-self m)))
+
+  all-among : (p : Lit → Bool) (clause : List Lit) (l : Lit) → list_all p clause ≡ true → is_among clause l ≡ true → p l ≡ true
+  all-among p [] l h among = absurd (false≢true among)
+  all-among p (m ∷ ms) l h among =
+      let parts = and_parts (p m) (list_all p ms) h in
+      elim (or_cases (is_same_literal m l) (is_among ms l) among) [
+        | inl here ↦ ap p (sym (is_same_literal-true m l here)) ∙ parts.0
+        | inr later ↦ all-among p ms l parts.1 later
+      ]
+
+  -- a literal of the front of a list is one of the list
+  pub among_front : (n : ℕ) (clause : List Lit) (l : Lit) → is_among (take n clause) l ≡ true → is_among clause l ≡ true
+  among_front zero clause l h = absurd (false≢true h)
+  among_front (suc n) [] l h = h
+  among_front (suc n) (m ∷ ms) l h =
+      elim (or_cases (is_same_literal m l) (is_among (take n ms) l) h) [
+        | inl here ↦ or_left (is_same_literal m l) (is_among ms l) here
+        | inr later ↦ or_right (is_same_literal m l) (is_among ms l) (among_front n ms l later)
+      ]
+
+  -- a clause with two literals without a value is idle
+  pub idle_by_two : (clause : List Lit) (i : ℕ) (d : Lit) (first : Lit) → i < length clause → is_among clause first ≡ true → is_open_under held first ≡ true → is_open_under held (get_or clause i d) ≡ true → (first ≡ get_or clause i d → ⊥) → IsIdle held clause
+  idle_by_two clause i d first place among open_first unset other =
+      let t : Lit = get_or clause i d in
+      let not_false : is_false_under held t ≡ false = open-not_false t unset in
+      record {
+        no_conflict = list_all_at (is_false_under held) clause i d place not_false;
+        forces_none = λ l. false_from_ne_true (leaves_only held clause l) (λ h.
+            let parts = leaves_only-parts clause l h in
+            elim (or_cases (is_same_literal first l) (is_false_under held first) (all-among (is_or_false l) clause first parts.2 among)) [
+              | inl same ↦
+                  let apart : is_same_literal t l ≡ false = false_from_ne_true (is_same_literal t l) (λ as_l. other (is_same_literal-true first l same ∙ sym (is_same_literal-true t l as_l))) in
+                  false≢true (sym (list_all_at (is_or_false l) clause i d place (or_from (is_same_literal t l) (is_false_under held t) apart not_false)) ∙ parts.2)
+              | inr as_false ↦ false≢true (sym (open-not_false first open_first) ∙ as_false)
+            ]);
+      }

@@ -1,0 +1,4 @@
+pub mod Dropping
+pub mod Propagation
+pub mod Records
+pub mod Examining

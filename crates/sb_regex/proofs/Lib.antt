@@ -1,0 +1,12 @@
+pub mod Numbers
+pub mod NodeEq
+pub mod TableFacts
+pub mod Rests
+pub mod Interned
+pub mod Comparing
+pub mod Building
+pub mod Spines
+pub mod Words
+pub mod Gathering
+pub mod Ordered
+pub mod Combining

@@ -1,0 +1,78 @@
+//! The nodes of regexes.
+
+ghost use Rattle.std.specs.Prelude.{◌≡◌};
+
+use smallvec::SmallVec;
+use std::marker::Model;
+
+/// The number of a regex in its arena.
+#[derive(Clone, Copy, Debug, Default, PartialEq, Eq, PartialOrd, Ord, Hash)]
+pub struct RegexId {
+    number: usize,
+}
+
+impl Model for RegexId {
+    ghost use Rattle.std.specs.Prelude.{ℕ};
+
+    ghost Value = { ℕ };
+
+    ghost view = { λ id. id.number };
+
+    ghost inverse = { λ n. record { number = n } };
+}
+
+impl RegexId {
+    pub(crate) fn new(number: usize) -> RegexId
+        ensures { result ≡ number }
+    {
+        RegexId { number }
+    }
+
+    /// The number itself.
+    pub fn number(self) -> usize
+        ensures { result ≡ self }
+    {
+        self.number
+    }
+}
+
+/// A regex whose parts are numbers.
+#[derive(Debug, PartialEq, Eq, Hash, Drop)]
+pub enum Node {
+    /// No word.
+    None,
+    /// The empty word alone.
+    Eps,
+    /// The words of one character of a set: its ranges, with both ends of each.
+    Set(Vec<(u32, u32)>),
+    /// Concatenation.
+    Cat(RegexId, RegexId),
+    /// Union.
+    Alt(SmallVec<RegexId, 4>),
+    /// Intersection.
+    And(SmallVec<RegexId, 4>),
+    /// Complement.
+    Not(RegexId),
+    /// Star.
+    Star(RegexId),
+}
+
+impl Node {
+    ghost use Rattle.sb_regex.specs.Nodes.{node_kind};
+
+    /// The kind's place in the order of regexes.
+    pub(crate) fn kind(&self) -> u8
+        ensures { result ≡ node_kind self.now }
+    {
+        match self {
+            Node::None => 0,
+            Node::Eps => 1,
+            Node::Set(_) => 2,
+            Node::Cat(..) => 3,
+            Node::Alt(_) => 4,
+            Node::And(_) => 5,
+            Node::Not(_) => 6,
+            Node::Star(_) => 7,
+        }
+    }
+}

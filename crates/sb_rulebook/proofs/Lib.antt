@@ -1,0 +1,5 @@
+mod ExpansionFacts
+mod TextFacts
+mod DigitFacts
+mod ReadFacts
+mod ReadLines

@@ -1,0 +1,447 @@
+-- Computed examples of what follows, rule by rule, and of verdicts, levels and limits.
+use Rattle.std.specs.Prelude.{◌≡◌, ℕ, pos, negsuc, true, false, List, [], ◌∷◌, map, codes, Option, Some, None, option_map, Ok, Err, refl}
+use Rattle.sb_word.specs.declared.clause.Lit.{Lit}
+use Rattle.sb_lang.specs.Regex.{Regex, none, set, cat, star, rep, path}
+use Rattle.sb_lang.specs.Constructors.{any_character}
+use Rattle.sb_meaning.specs.Terms.{Term, boolean, integer, text, constant, word, numeral}
+use Rattle.sb_meaning.specs.Terms as symbol
+use Rattle.sb_meaning.specs.Values.{Text, Int, Truth}
+use Rattle.sb_rulebook.specs.Refusals.{Refusal, unknown_id, repeated, not_normal, wrong_target, not_closed, rule_broken, wrong_verdict}
+use Rattle.sb_rulebook.specs.Atoms.{Atom, bool_atom, in_atom, le_atom, sum_atom, and_atom, iff_atom, constant_piece, word_piece, int_constant, length_of, truths_of}
+use Rattle.sb_rulebook.specs.Lines.{Line, regex_line, atom_line, expansion_line, dead_line, assertion_line, rule_line, learned_line, gate, set_node, rep_node, alt_node, said_sat, said_unsat, said_unknown, said_unsupported}
+use Rattle.sb_rulebook.specs.Kept.{AllKept, Asked, nothing_kept, dropped_above, all_dropped}
+use Rattle.sb_rulebook.specs.Expansions.{is_expansion}
+use Rattle.sb_rulebook.specs.Gates.{is_gate}
+use Rattle.sb_rulebook.specs.BoundClauses.{is_order, is_linear}
+use Rattle.sb_rulebook.specs.Splits.{is_step, is_empty}
+use Rattle.sb_rulebook.specs.Follows.{follows}
+use Rattle.sb_rulebook.specs.Verdicts.{Question, refusal_of}
+use Rattle.sb_rulebook.specs.ProofExamples.{computing}
+use Rattle.sb_rulebook.specs.TranslationExamples.{plus, minus}
+
+abbrev a : Regex
+a = set ((0x61, 0x61) ∷ [])
+
+abbrev b : Regex
+b = set ((0x62, 0x62) ∷ [])
+
+-- Gates.
+
+abbrev gates : List Atom
+gates = bool_atom 0 ∷ bool_atom 1 ∷ and_atom (plus 0 ∷ minus 1 ∷ []) ∷ iff_atom (plus 0) (plus 1) ∷ le_atom (length_of 2) (pos 4) ∷ in_atom (constant_piece 2 ∷ []) (rep any_character 0 4) ∷ []
+
+a_literal_and_its_negation : is_gate gates (plus 0 ∷ plus 1 ∷ minus 1 ∷ []) ≡ true
+unfolding computing
+a_literal_and_its_negation = refl
+
+a_conjunction_gives_each : is_gate gates (minus 1 ∷ minus 2 ∷ []) ≡ true
+unfolding computing
+a_conjunction_gives_each = refl
+
+all_give_a_conjunction : is_gate gates (minus 0 ∷ plus 1 ∷ plus 2 ∷ []) ≡ true
+unfolding computing
+all_give_a_conjunction = refl
+
+no_gate_with_a_literal_less : is_gate gates (minus 0 ∷ plus 2 ∷ []) ≡ false
+unfolding computing
+no_gate_with_a_literal_less = refl
+
+an_equivalence : is_gate gates (minus 0 ∷ plus 1 ∷ minus 3 ∷ []) ≡ true
+unfolding computing
+an_equivalence = refl
+
+both_false_give_an_equivalence : is_gate gates (plus 0 ∷ plus 1 ∷ plus 3 ∷ []) ≡ true
+unfolding computing
+both_false_give_an_equivalence = refl
+
+one_true_gives_none : is_gate gates (plus 0 ∷ minus 1 ∷ plus 3 ∷ []) ≡ false
+unfolding computing
+one_true_gives_none = refl
+
+a_length_and_its_membership : is_gate gates (minus 4 ∷ plus 5 ∷ []) ≡ true
+unfolding computing
+a_length_and_its_membership = refl
+
+a_membership_and_its_length : is_gate gates (plus 4 ∷ minus 5 ∷ []) ≡ true
+unfolding computing
+a_membership_and_its_length = refl
+
+not_both : is_gate gates (minus 4 ∷ minus 5 ∷ []) ≡ false
+unfolding computing
+not_both = refl
+
+-- Order and linear: x is 0, its length at most 2, 5, -1; n is 1, at most 5.
+
+abbrev bounds : List Atom
+bounds =
+    le_atom (length_of 0) (pos 2) ∷ le_atom (length_of 0) (pos 5) ∷ le_atom (length_of 0) (negsuc 0) ∷ le_atom (int_constant 1) (pos 5)
+    -- 4: the length and n are at most 7. 5: the length less n is at most -6
+    ∷ sum_atom (pos 7) ((pos 1, length_of 0) ∷ (pos 1, int_constant 1) ∷ []) ∷ sum_atom (negsuc 5) ((pos 1, length_of 0) ∷ (negsuc 0, int_constant 1) ∷ []) ∷ []
+
+a_lesser_bound : is_order bounds (minus 0 ∷ plus 1 ∷ []) ≡ true
+unfolding computing
+a_lesser_bound = refl
+
+not_a_greater_one : is_order bounds (plus 0 ∷ minus 1 ∷ []) ≡ false
+unfolding computing
+not_a_greater_one = refl
+
+not_of_another : is_order bounds (minus 0 ∷ plus 3 ∷ []) ≡ false
+unfolding computing
+not_of_another = refl
+
+no_length_is_below_0 : is_order bounds (minus 2 ∷ []) ≡ true
+unfolding computing
+no_length_is_below_0 = refl
+
+-- at most 2 and 5 are at most 7
+the_greatest_is_low : is_linear bounds (minus 0 ∷ minus 3 ∷ plus 4 ∷ []) ≡ true
+unfolding computing
+the_greatest_is_low = refl
+
+the_greatest_is_not : is_linear bounds (minus 1 ∷ minus 3 ∷ plus 4 ∷ []) ≡ false
+unfolding computing
+the_greatest_is_not = refl
+
+a_bound_is_missing : is_linear bounds (minus 0 ∷ plus 4 ∷ []) ≡ false
+unfolding computing
+a_bound_is_missing = refl
+
+-- 0 less 5 is above -6: the length's lower bound stands by itself
+the_least_is_high : is_linear bounds (minus 3 ∷ minus 5 ∷ []) ≡ true
+unfolding computing
+the_least_is_high = refl
+
+-- more than 2 and more than 5 are more than 7
+both_lower_bounds : is_linear bounds (plus 0 ∷ plus 3 ∷ minus 4 ∷ []) ≡ true
+unfolding computing
+both_lower_bounds = refl
+
+two_sums : is_linear bounds (minus 3 ∷ plus 4 ∷ minus 5 ∷ []) ≡ false
+unfolding computing
+two_sums = refl
+
+-- Step.
+
+abbrev memberships : List Atom
+memberships =
+    -- 0: x and y are in ab. 1: x leads from ab to b. 2: y is in b
+    in_atom (constant_piece 0 ∷ constant_piece 1 ∷ []) (cat a b) ∷ in_atom (constant_piece 0 ∷ []) (path (cat a b) b) ∷ in_atom (constant_piece 1 ∷ []) b
+    -- 3: "a" and y are in ab. 4: nothing is in a*. 5: nothing is in b
+    ∷ in_atom (word_piece (codes "a") ∷ constant_piece 1 ∷ []) (cat a b) ∷ in_atom [] (star a) ∷ in_atom [] b ∷ []
+
+split_there : is_step memberships (minus 0 ∷ minus 1 ∷ plus 2 ∷ []) ≡ true
+unfolding computing
+split_there = refl
+
+split_back : is_step memberships (plus 0 ∷ minus 1 ∷ minus 2 ∷ []) ≡ true
+unfolding computing
+split_back = refl
+
+no_split_without_a_way : is_step memberships (minus 0 ∷ plus 1 ∷ minus 2 ∷ []) ≡ false
+unfolding computing
+no_split_without_a_way = refl
+
+a_word_is_cut : is_step memberships (plus 2 ∷ minus 3 ∷ []) ≡ true
+unfolding computing
+a_word_is_cut = refl
+
+a_word_is_cut_back : is_step memberships (minus 2 ∷ plus 3 ∷ []) ≡ true
+unfolding computing
+a_word_is_cut_back = refl
+
+the_empty_word_is_in : is_step memberships (plus 4 ∷ []) ≡ true
+unfolding computing
+the_empty_word_is_in = refl
+
+the_empty_word_is_not_in : is_step memberships (minus 5 ∷ []) ≡ true
+unfolding computing
+the_empty_word_is_not_in = refl
+
+not_the_other_way : is_step memberships (plus 5 ∷ []) ≡ false
+unfolding computing
+not_the_other_way = refl
+
+-- Empty: x is in a, and x is not in a or b; y is in b.
+
+abbrev cover : AllKept
+cover = record nothing_kept {
+  regexes = none ∷ a ∷ [];
+  atoms = in_atom (constant_piece 0 ∷ []) a ∷ in_atom (constant_piece 0 ∷ []) (set ((0x61, 0x62) ∷ [])) ∷ in_atom (constant_piece 1 ∷ []) b ∷ in_atom (constant_piece 0 ∷ []) b ∷ [];
+  dead = 0 ∷ [];
+}
+
+-- x is not in a, or not in b
+sets_apart : is_empty cover (minus 0 ∷ minus 3 ∷ []) ≡ true
+unfolding computing
+sets_apart = refl
+
+not_of_two_constants : is_empty cover (minus 0 ∷ minus 2 ∷ []) ≡ false
+unfolding computing
+not_of_two_constants = refl
+
+not_of_no_constant : is_empty cover [] ≡ false
+unfolding computing
+not_of_no_constant = refl
+
+-- a literal that is not negated gives the complement, which is not said to be dead here
+not_without_a_dead_regex : is_empty cover (minus 0 ∷ plus 1 ∷ []) ≡ false
+unfolding computing
+not_without_a_dead_regex = refl
+
+-- Expansions.
+
+abbrev others : List (ℕ × ℕ)
+others = (0, 0x60) ∷ (0x62, 0x2ffff) ∷ []
+
+a_star : is_expansion (star a) (((0x61, 0x61) ∷ [], star a) ∷ (others, none) ∷ []) ≡ true
+unfolding computing
+a_star = refl
+
+-- one target in several classes, in any order
+a_target_twice : is_expansion (star a) (((0x62, 0x2ffff) ∷ [], none) ∷ ((0x61, 0x61) ∷ [], star a) ∷ ((0, 0x60) ∷ [], none) ∷ []) ≡ true
+unfolding computing
+a_target_twice = refl
+
+a_gap : is_expansion (star a) (((0x61, 0x61) ∷ [], star a) ∷ ((0, 0x60) ∷ (0x63, 0x2ffff) ∷ [], none) ∷ []) ≡ false
+unfolding computing
+a_gap = refl
+
+an_overlap : is_expansion (star a) (((0x61, 0x61) ∷ [], star a) ∷ ((0, 0x61) ∷ (0x63, 0x2ffff) ∷ [], none) ∷ []) ≡ false
+unfolding computing
+an_overlap = refl
+
+-- the class has a character whose derivative is another
+a_class_too_wide : is_expansion (star a) (((0x61, 0x62) ∷ [], star a) ∷ ((0, 0x60) ∷ (0x63, 0x2ffff) ∷ [], none) ∷ []) ≡ false
+unfolding computing
+a_class_too_wide = refl
+
+adjacent_ranges : is_expansion none (((0, 0x60) ∷ (0x61, 0x2ffff) ∷ [], none) ∷ []) ≡ false
+unfolding computing
+adjacent_ranges = refl
+
+past_the_last_character : is_expansion none (((0, 0x30000) ∷ [], none) ∷ []) ≡ false
+unfolding computing
+past_the_last_character = refl
+
+no_classes : is_expansion none [] ≡ false
+unfolding computing
+no_classes = refl
+
+-- Lines in a script with p Bool, x String and n Int, where p is asserted at level 0 and n <= 5 at level 2, and one line counts.
+
+abbrev asked : Asked
+asked = record {
+  live = (Some (constant 0 boolean), 0) ∷ (None, 1) ∷ (Some (symbol.apply symbol.at_most (symbol.with_term (constant 2 integer) (symbol.with_term (numeral 5) symbol.no_terms))), 2) ∷ [];
+  sorts = boolean ∷ text ∷ integer ∷ [];
+  limit = 1;
+}
+
+abbrev kept : AllKept
+kept = record nothing_kept { regexes = none ∷ a ∷ star a ∷ []; atoms = bool_atom 0 ∷ le_atom (int_constant 2) (pos 5) ∷ [] }
+
+abbrev refusal_in : AllKept → Line → Option Refusal
+refusal_in k line = elim (follows asked k line) [ Ok after ↦ None | Err refusal ↦ Some refusal ]
+
+abbrev with_clauses : List (Option (List Lit × ℕ)) → AllKept → AllKept
+with_clauses cs k = record k { clauses = map (option_map (λ c. record { literals = c.0; level = c.1 })) cs }
+
+-- the clause of an assertion has its level, and one by a rule has level 0
+an_assertion : follows asked kept (assertion_line 2 (plus 1)) ≡ Ok (with_clauses (Some (plus 1 ∷ [], 2) ∷ []) kept)
+unfolding computing
+an_assertion = refl
+
+a_gate : follows asked kept (rule_line gate (plus 0 ∷ minus 0 ∷ [])) ≡ Ok (with_clauses (Some (plus 0 ∷ minus 0 ∷ [], 0) ∷ []) kept)
+unfolding computing
+a_gate = refl
+
+a_mark : refusal_in kept (assertion_line 1 (plus 0)) ≡ Some rule_broken
+unfolding computing
+a_mark = refl
+
+past_the_last_assertion : refusal_in kept (assertion_line 3 (plus 0)) ≡ Some unknown_id
+unfolding computing
+past_the_last_assertion = refl
+
+an_atom_that_is_not_there : refusal_in kept (rule_line gate (plus 7 ∷ minus 7 ∷ [])) ≡ Some unknown_id
+unfolding computing
+an_atom_that_is_not_there = refl
+
+literals_out_of_order : refusal_in kept (rule_line gate (minus 0 ∷ plus 0 ∷ [])) ≡ Some rule_broken
+unfolding computing
+literals_out_of_order = refl
+
+-- Regexes and atoms.
+
+a_set_out_of_order : refusal_in kept (regex_line (set_node ((0x62, 0x62) ∷ (0x61, 0x61) ∷ []))) ≡ Some not_normal
+unfolding computing
+a_set_out_of_order = refl
+
+bounds_out_of_order : refusal_in kept (regex_line (rep_node 1 3 2)) ≡ Some not_normal
+unfolding computing
+bounds_out_of_order = refl
+
+a_union_of_one : refusal_in kept (regex_line (alt_node (1 ∷ []))) ≡ Some not_normal
+unfolding computing
+a_union_of_one = refl
+
+an_atom_twice : refusal_in kept (atom_line (bool_atom 0)) ≡ Some repeated
+unfolding computing
+an_atom_twice = refl
+
+a_constant_of_another_sort : refusal_in kept (atom_line (bool_atom 1)) ≡ Some unknown_id
+unfolding computing
+a_constant_of_another_sort = refl
+
+a_regex_that_is_not_there : refusal_in kept (atom_line (in_atom (constant_piece 1 ∷ []) 3)) ≡ Some unknown_id
+unfolding computing
+a_regex_that_is_not_there = refl
+
+two_words : refusal_in kept (atom_line (in_atom (word_piece (codes "a") ∷ word_piece (codes "b") ∷ []) 1)) ≡ Some not_normal
+unfolding computing
+two_words = refl
+
+a_sum_of_one : refusal_in kept (atom_line (sum_atom (pos 5) ((negsuc 0, int_constant 2) ∷ []))) ≡ Some not_normal
+unfolding computing
+a_sum_of_one = refl
+
+one_literal : refusal_in kept (atom_line (and_atom (plus 0 ∷ []))) ≡ Some not_normal
+unfolding computing
+one_literal = refl
+
+-- The limit: one line counts, the next is a wrong verdict, though it follows.
+
+abbrev after_one : AllKept
+after_one = record kept { counted = 1 }
+
+a_line_within_the_limit : follows asked kept (expansion_line 0 (((0, 0x2ffff) ∷ [], 0) ∷ [])) ≡ Ok (record kept { expansions = record { regex = 0; targets = 0 ∷ [] } ∷ []; counted = 1 })
+unfolding computing
+a_line_within_the_limit = refl
+
+a_line_past_the_limit : refusal_in after_one (expansion_line 0 (((0, 0x2ffff) ∷ [], 0) ∷ [])) ≡ Some wrong_verdict
+unfolding computing
+a_line_past_the_limit = refl
+
+its_other_faults_come_first : refusal_in after_one (expansion_line 0 (((0, 0x2ffff) ∷ [], 1) ∷ [])) ≡ Some wrong_target
+unfolding computing
+its_other_faults_come_first = refl
+
+-- Dead regexes: each member once, and not before.
+
+abbrev with_none : AllKept
+with_none = record kept { expansions = record { regex = 0; targets = 0 ∷ [] } ∷ [] }
+
+none_is_dead : follows asked with_none (dead_line (0 ∷ [])) ≡ Ok (record with_none { dead = 0 ∷ [] })
+unfolding computing
+none_is_dead = refl
+
+a_member_twice : refusal_in with_none (dead_line (0 ∷ 0 ∷ [])) ≡ Some repeated
+unfolding computing
+a_member_twice = refl
+
+dead_before : refusal_in (record with_none { dead = 0 ∷ [] }) (dead_line (0 ∷ [])) ≡ Some repeated
+unfolding computing
+dead_before = refl
+
+-- member by member: the first is not expanded, the second nullable
+the_first_member_decides : refusal_in with_none (dead_line (1 ∷ 2 ∷ [])) ≡ Some not_closed
+unfolding computing
+the_first_member_decides = refl
+
+-- Levels.
+
+abbrev leveled : AllKept
+leveled = with_clauses (Some (plus 0 ∷ [], 0) ∷ Some (plus 1 ∷ [], 2) ∷ None ∷ Some (minus 1 ∷ [], 1) ∷ []) kept
+
+a_pop : dropped_above 1 leveled ≡ with_clauses (Some (plus 0 ∷ [], 0) ∷ None ∷ None ∷ Some (minus 1 ∷ [], 1) ∷ []) kept
+a_pop = refl
+
+a_reset : all_dropped leveled ≡ with_clauses (None ∷ None ∷ None ∷ None ∷ []) kept
+a_reset = refl
+
+-- a clause is new where the one that it repeats was dropped
+new_again : refusal_in (all_dropped leveled) (learned_line (plus 0 ∷ []) []) ≡ Some rule_broken
+unfolding computing
+new_again = refl
+
+-- Verdicts: p is asserted, and assumed or not; x and n are declared.
+
+abbrev question : Question
+question = record {
+  asked = record asked { live = (Some (constant 0 boolean), 0) ∷ [] };
+  constants = record { name = codes "p"; serial = 0; kind = boolean } ∷ record { name = codes "x"; serial = 1; kind = text } ∷ record { name = codes "n"; serial = 2; kind = integer } ∷ [];
+  assumptions = (0, false) ∷ [];
+  inside = true;
+}
+
+abbrev without_assumption : Question
+without_assumption = record question { assumptions = [] }
+
+abbrev outside : Question
+outside = record question { inside = false }
+
+abbrev refuted : AllKept
+refuted = with_clauses (Some (plus 0 ∷ [], 0) ∷ Some (plus 1 ∷ [], 0) ∷ None ∷ []) kept
+
+a_model : refusal_of without_assumption kept (said_sat (Truth true ∷ Text [] ∷ Int (pos 0) ∷ [])) ≡ None
+unfolding computing
+a_model = refl
+
+a_false_assertion : refusal_of without_assumption kept (said_sat (Truth false ∷ Text [] ∷ Int (pos 0) ∷ [])) ≡ Some wrong_verdict
+unfolding computing
+a_false_assertion = refl
+
+a_false_assumption : refusal_of question kept (said_sat (Truth true ∷ Text [] ∷ Int (pos 0) ∷ [])) ≡ Some wrong_verdict
+unfolding computing
+a_false_assumption = refl
+
+a_value_of_another_sort : refusal_of without_assumption kept (said_sat (Truth true ∷ Int (pos 0) ∷ Int (pos 0) ∷ [])) ≡ Some wrong_verdict
+unfolding computing
+a_value_of_another_sort = refl
+
+a_value_too_few : refusal_of without_assumption kept (said_sat (Truth true ∷ Text [] ∷ [])) ≡ Some wrong_verdict
+unfolding computing
+a_value_too_few = refl
+
+-- the clause says p, and not p is assumed
+an_assumption_is_refuted : refusal_of question refuted (said_unsat 0) ≡ None
+unfolding computing
+an_assumption_is_refuted = refl
+
+no_assumption_is : refusal_of without_assumption refuted (said_unsat 0) ≡ Some wrong_verdict
+unfolding computing
+no_assumption_is = refl
+
+of_no_bool_atom : refusal_of question refuted (said_unsat 1) ≡ Some wrong_verdict
+unfolding computing
+of_no_bool_atom = refl
+
+a_dropped_clause : refusal_of outside refuted (said_unsat 2) ≡ Some unknown_id
+unfolding computing
+a_dropped_clause = refl
+
+outside_the_fragment : refusal_of outside kept said_unsupported ≡ None
+outside_the_fragment = refl
+
+inside_the_fragment : refusal_of question kept said_unsupported ≡ Some wrong_verdict
+inside_the_fragment = refl
+
+nothing_else_outside : refusal_of outside after_one (said_unknown 1) ≡ Some wrong_verdict
+nothing_else_outside = refl
+
+the_limit_is_used : refusal_of question after_one (said_unknown 1) ≡ None
+the_limit_is_used = refl
+
+the_limit_is_not_used : refusal_of question kept (said_unknown 1) ≡ Some wrong_verdict
+the_limit_is_not_used = refl
+
+another_limit : refusal_of question kept (said_unknown 0) ≡ Some wrong_verdict
+another_limit = refl
+
+-- Truth of atoms: p is true, x is "ab", n is 7.
+truths : truths_of ((0, Truth true) ∷ (1, Text (codes "ab")) ∷ (2, Int (pos 7)) ∷ [])
+    (bool_atom 0 ∷ in_atom (constant_piece 1 ∷ []) (cat a b) ∷ le_atom (length_of 1) (pos 1) ∷ le_atom (int_constant 2) (pos 7)
+    ∷ sum_atom (pos 4) ((pos 1, int_constant 2) ∷ (negsuc 0, length_of 1) ∷ []) ∷ and_atom (plus 0 ∷ minus 2 ∷ []) ∷ iff_atom (plus 0) (plus 4) ∷ [])
+    ≡ true ∷ true ∷ false ∷ true ∷ false ∷ true ∷ false ∷ []
+unfolding computing
+truths = refl
