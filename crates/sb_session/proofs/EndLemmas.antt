@@ -66,6 +66,7 @@ end_done Exited old bytes kept after session session' before now ne ended read e
   bytes = bytes;
   ended = after.1;
   front = front_of_all bytes (opened old) read.all;
+  whole = λ _. read.all;
   within_limit = let below = read.below_limit in omega arith;
   answered = exit;
 })

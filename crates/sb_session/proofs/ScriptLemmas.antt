@@ -102,8 +102,9 @@ pub piece_cut : (old : Outside) (bytes : List ℕ) (now : Outside) → IsFront b
 piece_cut old bytes now front cut = inr (record { bytes = bytes; ended = false; front = front; whole = λ e. absurd (false≢true e); cut = cut })
 
 -- (exit) is answered
-pub piece_exit : (old : Outside) (bytes : List ℕ) (ended : Bool) (now : Outside) → IsFront bytes (opened old) → length bytes ≤ input_limit → UpToExit (opened old) bytes ended now → Run status.Done old now
-piece_exit old bytes ended now front within exit = inr (record { bytes = bytes; ended = ended; front = front; within_limit = within; answered = exit })
+pub piece_exit : (old : Outside) (bytes : List ℕ) (ended : Bool) (now : Outside) → ended ≡ false → IsFront bytes (opened old) → length bytes ≤ input_limit → UpToExit (opened old) bytes ended now → Run status.Done old now
+piece_exit old bytes ended now goes_on front within exit =
+    inr (record { bytes = bytes; ended = ended; front = front; whole = λ e. absurd (false≢true (sym goes_on ∙ e)); within_limit = within; answered = exit })
 
 -- the piece is answered
 pub piece_on : (pause : Pause) (old : Outside) (bytes : List ℕ) (kept : feed.Kept) (session : Kept) (now : Outside) → (pause ≡ Exited → ⊥) → kept.1 ≡ false → IsFront bytes (opened old)

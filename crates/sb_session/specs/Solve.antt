@@ -31,11 +31,12 @@ pub record AnsweredToTheEnd (old new : Outside) : Type 0 where
   pub clean : is_open_gap left ≡ true
   pub answered : AllAnswered (opened old) script true left new
 
--- Some of the script was read, up to (exit) and maybe further, and each entry up to it is answered.
+-- Some of the script was read, up to (exit) and maybe further, or all of it, and each entry up to it is answered.
 pub record AnsweredToTheExit (old new : Outside) : Type 0 where
   pub bytes : List ℕ
   pub ended : Bool
   pub front : IsFront bytes (opened old)
+  pub whole : ended ≡ true → IsAll bytes (opened old)
   pub within_limit : length bytes ≤ input_limit
   pub answered : UpToExit (opened old) bytes ended new
 

@@ -83,7 +83,7 @@ returns-then-eq-clause-ok g c old e =
     let room : count ≤ c.min-room.result = search rules in
     let limit : length way.0 + count ≤ input_limit = let h = way.1 in omega arith in
     let e = longer old way.0 buffer rest count c.loop-count.feed c.loop-count.session before fits way.2 c.in_ok-read.ensures.bytes in
-    piece_exit old (way.0 ++ take count (buffer ++ rest)) c.answer_piece.new.feed.1 now
+    piece_exit old (way.0 ++ take count (buffer ++ rest)) c.answer_piece.new.feed.1 now c.in_ok-answer_piece.ensures.finished
     (piece_front old way.0 buffer rest count c.loop-count.feed c.loop-count.session before fits way.2 c.in_ok-read.ensures.bytes)
     (omega arith)
     (subst (λ (pause : Pause). Pauses pause (opened old) (way.0 ++ take count (buffer ++ rest)) c.answer_piece.new.feed c.answer_piece.new.session now) exits
