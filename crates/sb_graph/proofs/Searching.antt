@@ -10,7 +10,7 @@ use Rattle.sb_graph.proofs.Numbers.{at_kept, names_below}
 use Rattle.sb_deriv.specs.Faithful.{IsDerivative}
 use Rattle.sb_graph.specs.Findings.{is_marked, AreBarren}
 use Rattle.sb_graph.specs.Queue.{Entry, regex_of, visited, word_at, AreWords}
-use Rattle.sb_graph.specs.Witness.{IsShortestLeast, HasNoWord}
+use Rattle.sb_lang.specs.Least.{IsShortestLeast, HasNoWord}
 use Rattle.sb_graph.specs.Search.{IsSearched, IsFound, IsVisited, AreMarked}
 use Rattle.sb_graph.proofs.Carrying.{searched_carried}
 use Rattle.sb_graph.proofs.Ends.{found_is, marked_has_no_word, end_root, end_barren}

@@ -4,7 +4,7 @@ use Rattle.sb_lang.specs.Regex.{Regex}
 use Rattle.sb_lang.specs.Language.{language}
 use Rattle.sb_regex.specs.Numbered.{regex_at, Extends}
 use Rattle.sb_graph.specs.Findings.{Findings, is_marked, IsGraph}
-use Rattle.sb_graph.specs.Witness.{HasNoWord}
+use Rattle.sb_lang.specs.Least.{HasNoWord}
 
 -- more regexes change nothing
 abbrev pub GraphStays : Type 0

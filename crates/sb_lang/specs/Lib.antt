@@ -1,6 +1,7 @@
 pub mod RegLan
 pub mod Languages
 pub mod LanguageLaws
+pub mod Least
 pub mod Membership
 pub mod Regex
 pub mod Order

@@ -1,7 +1,7 @@
 -- Commands: what a form asks for, by its shape alone (SMT-LIB 2.6, section 3.9). A form of another shape is malformed.
-use Rattle.std.specs.Prelude.{Bool, true, false, not, ◌&&◌, ◌||◌, if◌then◌else◌, List, [], ◌∷◌, codes, Option, Some, None, option_map}
+use Rattle.std.specs.Prelude.{Bool, true, false, not, ◌&&◌, if◌then◌else◌, List, [], ◌∷◌, codes, Option, Some, None, option_map}
 use Rattle.std.specs.List.{list_all}
-use Rattle.sb_reader.specs.Forms.{Form, Forms, Symbol, QuotedSymbol, Keyword, Numeral, OtherNumber, Words, Group, none, more}
+use Rattle.sb_reader.specs.Forms.{Form, Forms, Symbol, QuotedSymbol, Keyword, Group, none, more}
 use Rattle.sb_meaning.specs.Names.{Name, is_name, is_reserved}
 
 pub data Command : Type 0 where

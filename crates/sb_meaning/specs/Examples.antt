@@ -8,6 +8,7 @@ use Rattle.sb_meaning.specs.Terms as symbol
 use Rattle.sb_meaning.specs.Values.{Valuation, Text, Int, Truth}
 use Rattle.sb_meaning.specs.Truth.{holds}
 use Rattle.sb_meaning.specs.Printed.{printed}
+use Rattle.sb_meaning.specs.Fragment.{is_regex, is_membership}
 
 abbrev one : Symbol → Term → Term
 one s a = apply s (with_term a no_terms)
@@ -92,3 +93,25 @@ prints_a_word = refl
 prints_a_negative_number : printed (Int (negsuc 4)) ≡ codes "(- 5)"
 unfolding digits
 prints_a_negative_number = refl
+
+-- (re.++ (str.to_re "aa") (re.* (re.union (str.to_re "b") (re.range "c" "d")))), of which "aab" is a word
+abbrev as_and_more : Term
+as_and_more = two symbol.re_concat (one symbol.str_to_re (word (codes "aa"))) (one symbol.re_star (two symbol.re_union (one symbol.str_to_re (word (codes "b"))) (two symbol.re_range (word (codes "c")) (word (codes "d")))))
+
+is_over_literals : is_membership (two symbol.str_in_re x as_and_more) ≡ true
+is_over_literals = refl
+
+has_x : holds (two symbol.str_in_re x as_and_more) values ≡ true
+unfolding in_re cut power some_up_to iterate
+has_x = refl
+
+has_no_y : holds (two symbol.str_in_re y as_and_more) values ≡ false
+unfolding in_re cut power some_up_to iterate
+has_no_y = refl
+
+-- a constant within, and a word in place of a constant
+no_constant_within : is_regex (two symbol.re_union (one symbol.str_to_re x) (one symbol.str_to_re (word (codes "a")))) ≡ false
+no_constant_within = refl
+
+no_word_in_front : is_membership (two symbol.str_in_re (word (codes "a")) as_and_more) ≡ false
+no_word_in_front = refl

@@ -1,19 +1,26 @@
 -- The assertions that a check decides, and the values that it gives.
-use Rattle.std.specs.Prelude.{◌≡◌, ◌≢◌, ℕ, ◌≤◌, Bool, true, false, not, ◌&&◌, ◌==◌, List, [], ◌∷◌, length, if◌then◌else◌}
-use Rattle.std.specs.Ordering.{nat_cmp}
-use Rattle.std.specs.Cmp.Lexicographic.{slice_cmp}
-use Rattle.std.specs.declared.cmp.Ordering.TheVariants.{Less}
+use Rattle.std.specs.Prelude.{◌≡◌, ℕ, Bool, true, false, ◌&&◌, ◌==◌, List, [], ◌∷◌, if◌then◌else◌}
 use Rattle.sb_lang.specs.Languages.{Language}
+use Rattle.sb_lang.specs.Least.{IsShortestLeast}
 use Rattle.sb_meaning.specs.Terms.{Kind, Term, Terms, text, constant, word, numeral, apply, no_terms, with_term}
 use Rattle.sb_meaning.specs.Terms as symbol
-use Rattle.sb_meaning.specs.Values.{Value, Valuation, Text, Int, Truth, default_of}
+use Rattle.sb_meaning.specs.Values.{Valuation, Text, Int, Truth}
 use Rattle.sb_meaning.specs.State.{State, Assertion, asserted, a_mark, all_hold, live, live_terms, is_model}
 
--- the term is a range over literals, or one or more of a regular expression of this kind
-abbrev pub is_regex : Term → Bool
-is_regex (apply symbol.re_range (with_term (word s) (with_term (word t) no_terms))) = true
-is_regex (apply symbol.re_plus (with_term R no_terms)) = is_regex R
-is_regex _ = false
+-- The term is a regular expression over literals: a word, a range, or made of such by concatenation, union and repetition.
+abbrev mutual
+  pub is_regex : Term → Bool
+  is_regex (apply symbol.str_to_re (with_term (word s) no_terms)) = true
+  is_regex (apply symbol.re_range (with_term (word s) (with_term (word t) no_terms))) = true
+  is_regex (apply symbol.re_concat (with_term R Rs)) = is_regex R && are_regexes Rs
+  is_regex (apply symbol.re_union (with_term R Rs)) = is_regex R && are_regexes Rs
+  is_regex (apply symbol.re_star (with_term R no_terms)) = is_regex R
+  is_regex (apply symbol.re_plus (with_term R no_terms)) = is_regex R
+  is_regex _ = false
+
+  pub are_regexes : Terms → Bool
+  are_regexes no_terms = true
+  are_regexes (with_term R Rs) = is_regex R && are_regexes Rs
 
 -- the term is the membership of a constant in such a regular expression
 abbrev pub is_membership : Term → Bool
@@ -45,12 +52,6 @@ about serial (t ∷ ts) = if is_about serial t then t ∷ about serial ts else a
 -- the words that make all memberships of the constant true
 abbrev pub words_for : ℕ → List Term → Language
 words_for serial ts w = all_hold (about serial ts) ((serial, Text w) ∷ [])
-
--- The word is in the language, no word of the language is shorter, and none as long is less by code points.
-pub record IsShortestLeast (language : Language) (w : List ℕ) : Type 0 where
-  pub member : language w ≡ true
-  pub shortest : (v : List ℕ) → language v ≡ true → length w ≤ length v
-  pub least : (v : List ℕ) → language v ≡ true → length v ≡ length w → slice_cmp nat_cmp v w ≢ Less
 
 -- Each constant's word is the shortest that makes its memberships true, the least by code points among the shortest; so
 -- a constant without memberships is the empty word.

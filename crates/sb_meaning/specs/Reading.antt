@@ -1,15 +1,15 @@
 -- How a term is read: the tree of a form, or the first fault in reading order (SMT-LIB 2.6, sections 3.6 and 3.7). The
 -- head is read first (its name, then its indices), then the arguments from left to right, then their number and
 -- their sorts are judged. A list of wrong shape is malformed whatever stands in it.
-use Rattle.std.specs.Prelude.{ℕ, Bool, true, false, not, ◌&&◌, ◌||◌, ◌==◌, nat_eq, if◌then◌else◌, List, [], ◌∷◌, ◌++◌, codes, Option, Some, None, Result, Ok, Err, length}
+use Rattle.std.specs.Prelude.{ℕ, Bool, true, false, not, ◌&&◌, ◌||◌, ◌==◌, nat_eq, nat_lt, if◌then◌else◌, List, [], ◌∷◌, codes, Some, None, Result, Ok, Err, length}
 use Rattle.std.specs.List.{list_any, list_all}
 use Rattle.sb_word.specs.Literals.{is_printable}
 use Rattle.sb_reader.specs.Forms.{Form, Forms, Symbol, QuotedSymbol, Keyword, Numeral, OtherNumber, Words, Group, none, more}
 use Rattle.sb_meaning.specs.Names.{Name, is_name, is_reserved, begins_term}
 use Rattle.sb_meaning.specs.Terms.{Kind, Term, Terms, boolean, integer, text, reglan, constant, word, numeral, apply, no_terms, with_term}
 use Rattle.sb_meaning.specs.Terms as symbol
-use Rattle.sb_meaning.specs.Symbols.{symbol_named, is_left_out, arguments_of, result_of}
-use Rattle.sb_meaning.specs.Scopes.{Named, Naming, a_constant, a_marked_name, named}
+use Rattle.sb_meaning.specs.Symbols.{Arity, of_each, one_or_more, symbol_named, is_left_out, arity_of, result_of}
+use Rattle.sb_meaning.specs.Scopes.{Naming, a_constant, a_marked_name, named}
 
 -- why a form is no term
 pub data Fault : Type 0 where
@@ -51,6 +51,27 @@ abbrev pub terms_of : List Term → Terms
 terms_of [] = no_terms
 terms_of (t ∷ ts) = with_term t (terms_of ts)
 
+-- so many arguments are taken
+abbrev pub is_count : Arity → ℕ → Bool
+is_count (of_each kinds) n = length kinds == n
+is_count (one_or_more kind) n = nat_lt 0 n
+
+-- arguments of these sorts are taken
+abbrev pub are_arguments : Arity → List Term → Bool
+are_arguments (of_each kinds) ts = have_kinds kinds ts
+are_arguments (one_or_more kind) ts = list_all (λ t. is_kind kind (kind_of t)) ts
+
+-- a symbol with its arguments, and one argument as it is
+abbrev pub joined : symbol.Symbol → List Term → Term
+joined s [] = apply s no_terms
+joined s (t ∷ []) = t
+joined s (t ∷ u ∷ ts) = apply s (terms_of (t ∷ u ∷ ts))
+
+-- the term of a symbol with its arguments
+abbrev pub made : symbol.Symbol → Arity → List Term → Term
+made s (of_each kinds) ts = apply s (terms_of ts)
+made s (one_or_more kind) ts = joined s ts
+
 -- the bytes of a literal without escapes as a word: each pair of quotes is one quote
 abbrev pub unquoted : List ℕ → List ℕ
 unquoted [] = []
@@ -80,8 +101,8 @@ abbrev pub applied_to : Head → List Term → Result Term Fault
 applied_to (head_constant serial kind) [] = Ok (constant serial kind)
 applied_to (head_constant serial kind) (t ∷ ts) = Err wrong_count
 applied_to (head_symbol s) ts =
-    if not (length (arguments_of s) == length ts) then Err wrong_count
-    else if have_kinds (arguments_of s) ts then Ok (apply s (terms_of ts))
+    if not (is_count (arity_of s) (length ts)) then Err wrong_count
+    else if are_arguments (arity_of s) ts then Ok (made s (arity_of s) ts)
     else Err wrong_sort
 
 infixl 10 ◌>>=◌

@@ -1,7 +1,7 @@
 -- Computed examples of how terms are read, and of names.
-use Rattle.std.specs.Prelude.{◌≡◌, ℕ, true, false, List, [], ◌∷◌, codes, Result, Ok, Err, Some, None, refl}
+use Rattle.std.specs.Prelude.{◌≡◌, List, [], ◌∷◌, codes, Ok, Err, refl}
 use Rattle.sb_reader.specs.Forms.{Form, Forms, Symbol, QuotedSymbol, Keyword, Numeral, Words, Group, none, more}
-use Rattle.sb_meaning.specs.Names.{is_reserved, name_text, name_in_text}
+use Rattle.sb_meaning.specs.Names.{name_text, name_in_text}
 use Rattle.sb_meaning.specs.Terms.{Term, text, constant, word, apply, no_terms, with_term}
 use Rattle.sb_meaning.specs.Terms as symbol
 use Rattle.sb_meaning.specs.Scopes.{Naming, a_constant, a_marked_name}
@@ -54,6 +54,30 @@ number_behind_arguments = refl
 -- (re.+ "a")
 sort_of_an_argument : read names (group (Symbol (codes "re.+") ∷ a ∷ [])) ≡ Err wrong_sort
 sort_of_an_argument = refl
+
+-- (re.union R S T) has its arguments as they stand, and (re.union R) is R
+abbrev a_range : Term
+a_range = apply symbol.re_range (with_term (word (97 ∷ [])) (with_term (word (98 ∷ [])) no_terms))
+
+three_in_a_union : read names (group (Symbol (codes "re.union") ∷ range a b ∷ range a b ∷ range a b ∷ [])) ≡ Ok (apply symbol.re_union (with_term a_range (with_term a_range (with_term a_range no_terms))))
+three_in_a_union = refl
+
+one_in_a_union : read names (group (Symbol (codes "re.union") ∷ range a b ∷ [])) ≡ Ok a_range
+one_in_a_union = refl
+
+-- (re.++ R "a"), (re.* "a") and re.++ alone
+sort_of_a_part : read names (group (Symbol (codes "re.++") ∷ range a b ∷ a ∷ [])) ≡ Err wrong_sort
+sort_of_a_part = refl
+
+sort_of_a_body : read names (group (Symbol (codes "re.*") ∷ a ∷ [])) ≡ Err wrong_sort
+sort_of_a_body = refl
+
+concatenation_without_parts : read names (Symbol (codes "re.++")) ≡ Err wrong_count
+concatenation_without_parts = refl
+
+-- (str.to_re x) is well sorted
+word_of_a_constant : read names (group (Symbol (codes "str.to_re") ∷ x ∷ [])) ≡ Ok (apply symbol.str_to_re (with_term (constant 0 text) no_terms))
+word_of_a_constant = refl
 
 -- (x "a"), and re.range alone
 constant_with_an_argument : read names (group (x ∷ a ∷ [])) ≡ Err wrong_count

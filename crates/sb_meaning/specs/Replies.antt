@@ -1,21 +1,20 @@
 -- The reply to each entry of a script, and the state after it (SMT-LIB 2.6, section 4.2). For each command the errors
 -- stand in the order in which they are looked for; after an error the state is as before.
-use Rattle.std.specs.Prelude.{◌≡◌, ◌≢◌, ℕ, Bool, true, false, not, ◌&&◌, ◌||◌, if◌then◌else◌, List, [], ◌∷◌, ◌++◌, map, codes, Option, Some, None, Result, Ok, Err}
-use Rattle.std.specs.List.{flat_map}
+use Rattle.std.specs.Prelude.{◌≡◌, ℕ, Bool, true, false, not, ◌||◌, if◌then◌else◌, List, [], ◌∷◌, ◌++◌, map, codes, Option, Some, None, Ok, Err}
 use Rattle.sb_reader.specs.declared.feed.Refusal.{Refusal}
 use Rattle.sb_reader.specs.declared.feed.Refusal.TheVariants.{StrayClose, BadToken, TooDeep, BareToken}
-use Rattle.sb_reader.specs.Forms.{Form, Forms, Symbol, QuotedSymbol, Keyword, Numeral, OtherNumber, Words, Group, none, more}
+use Rattle.sb_reader.specs.Forms.{Form, Symbol, QuotedSymbol}
 use Rattle.sb_reader.specs.Entries.{Entry, Command, Refused}
 use Rattle.sb_meaning.specs.Names.{Name, is_name, is_reserved, begins_term, name_text, name_in_text}
-use Rattle.sb_meaning.specs.Terms.{Kind, Term, boolean, integer, text, reglan}
+use Rattle.sb_meaning.specs.Terms.{Kind, boolean, integer, text, reglan}
 use Rattle.sb_meaning.specs.Values.{Valuation, value_in}
 use Rattle.sb_meaning.specs.Printed.{printed}
 use Rattle.sb_meaning.specs.Symbols.{sort_named, is_theory_name, is_taken}
-use Rattle.sb_meaning.specs.Scopes.{Named, Naming, Constant, a_constant, a_marked_name, named}
+use Rattle.sb_meaning.specs.Scopes.{Constant, a_constant, a_marked_name, named}
 use Rattle.sb_meaning.specs.Reading.{Fault, unknown_symbol, wrong_sort, wrong_count, bad_index, unsupported, bad_literal, malformed, kind_of, is_kind, read}
 use Rattle.sb_meaning.specs.Commands as command
 use Rattle.sb_meaning.specs.Commands.{command_of, symbol_in}
-use Rattle.sb_meaning.specs.State.{State, Options, Mode, plain, satisfied, refuted, undecided, Assertion, asserted, a_mark, Assumption, names_of, constants_of, declared, marked, with_assertion, Satisfiable}
+use Rattle.sb_meaning.specs.State.{State, plain, satisfied, refuted, undecided, asserted, a_mark, Assumption, names_of, constants_of, declared, marked, with_assertion, Satisfiable}
 use Rattle.sb_meaning.specs.Fragment.{in_fragment, IsGiven}
 
 -- a line of its own

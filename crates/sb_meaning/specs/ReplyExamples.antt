@@ -1,12 +1,12 @@
 -- Computed examples of replies: what each command of small scripts is answered.
-use Rattle.std.specs.Prelude.{◌≡◌, ℕ, true, false, List, [], ◌∷◌, ◌++◌, codes, Some, None, refl}
-use Rattle.sb_reader.specs.declared.feed.Refusal.TheVariants.{StrayClose, BareToken}
-use Rattle.sb_reader.specs.Forms.{Form, Forms, Symbol, QuotedSymbol, Keyword, Words, Group, none, more}
+use Rattle.std.specs.Prelude.{◌≡◌, ℕ, true, false, List, [], ◌∷◌, ◌++◌, codes, refl}
+use Rattle.sb_reader.specs.declared.feed.Refusal.TheVariants.{StrayClose}
+use Rattle.sb_reader.specs.Forms.{Form, Symbol, QuotedSymbol, Keyword, Words}
 use Rattle.sb_reader.specs.Entries.{Entry, Command, Refused}
 use Rattle.sb_meaning.specs.Values.{Text}
 use Rattle.sb_meaning.specs.State.{State, start, satisfied, a_mark}
 use Rattle.sb_meaning.specs.State as state
-use Rattle.sb_meaning.specs.Replies.{Step, answers, checks, exits, step_of, settled, is_sat, line, unsupported_line}
+use Rattle.sb_meaning.specs.Replies.{answers, checks, exits, step_of, settled, is_sat, line, unsupported_line}
 use Rattle.sb_meaning.specs.ReadingExamples.{group, range}
 use Rattle.sb_meaning.specs.Fragment.{in_fragment}
 use Rattle.sb_lang.specs.Membership.{in_re}

@@ -1,5 +1,5 @@
 -- What a name stands for in a state.
-use Rattle.std.specs.Prelude.{ℕ, Bool, true, false, if◌then◌else◌, List, [], ◌∷◌, Option, Some, None}
+use Rattle.std.specs.Prelude.{ℕ, if◌then◌else◌, List, [], ◌∷◌, Option, Some, None}
 use Rattle.sb_meaning.specs.Names.{Name, is_name}
 use Rattle.sb_meaning.specs.Terms.{Kind}
 

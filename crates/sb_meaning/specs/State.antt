@@ -1,5 +1,5 @@
 -- The state between two commands (SMT-LIB 2.6, section 4.1): options, constants, levels with names and assertions, and the mode.
-use Rattle.std.specs.Prelude.{◌≡◌, ℕ, Bool, true, false, ◌&&◌, ◌==◌, List, [], ◌∷◌, ◌++◌, map, length}
+use Rattle.std.specs.Prelude.{◌≡◌, ℕ, Bool, true, false, ◌&&◌, ◌==◌, List, [], ◌∷◌, ◌++◌, length}
 use Rattle.sb_word.specs.Words.{are_characters}
 use Rattle.sb_meaning.specs.Names.{Name}
 use Rattle.sb_meaning.specs.Terms.{Kind, Term, boolean, integer, text}

@@ -1,6 +1,6 @@
 -- The symbols of the theories Core, Ints and Unicode Strings: which there are, their arguments and results, and
 -- those that are left out.
-use Rattle.std.specs.Prelude.{ℕ, Bool, true, false, if◌then◌else◌, List, [], ◌∷◌, codes, Option, Some, None, ◌||◌, is_some}
+use Rattle.std.specs.Prelude.{Bool, true, if◌then◌else◌, List, [], ◌∷◌, codes, Option, Some, None, ◌||◌, is_some}
 use Rattle.sb_meaning.specs.Names.{Name, is_name, is_among}
 use Rattle.sb_meaning.specs.Terms.{Kind, Symbol, boolean, integer, text, reglan}
 use Rattle.sb_meaning.specs.Terms as symbol
@@ -10,7 +10,11 @@ use Rattle.sb_meaning.specs.Scopes.{Naming, named}
 abbrev pub symbol_named : Name → Option Symbol
 symbol_named name =
     if is_name name (codes "str.in_re") then Some symbol.str_in_re
+    else if is_name name (codes "str.to_re") then Some symbol.str_to_re
     else if is_name name (codes "re.range") then Some symbol.re_range
+    else if is_name name (codes "re.++") then Some symbol.re_concat
+    else if is_name name (codes "re.union") then Some symbol.re_union
+    else if is_name name (codes "re.*") then Some symbol.re_star
     else if is_name name (codes "re.+") then Some symbol.re_plus
     else None
 
@@ -19,12 +23,12 @@ abbrev pub left_out_names : List Name
 left_out_names =
     codes "true" ∷ codes "false" ∷ codes "not" ∷ codes "and" ∷ codes "or" ∷ codes "=>" ∷ codes "xor" ∷ codes "ite" ∷ codes "=" ∷ codes "distinct"
     ∷ codes "<=" ∷ codes "<" ∷ codes ">=" ∷ codes ">" ∷ codes "+" ∷ codes "*" ∷ codes "-" ∷ codes "div" ∷ codes "mod" ∷ codes "abs"
-    ∷ codes "str.++" ∷ codes "str.len" ∷ codes "str.to_re" ∷ codes "str.<" ∷ codes "str.<=" ∷ codes "str.at" ∷ codes "str.substr"
+    ∷ codes "str.++" ∷ codes "str.len" ∷ codes "str.<" ∷ codes "str.<=" ∷ codes "str.at" ∷ codes "str.substr"
     ∷ codes "str.prefixof" ∷ codes "str.suffixof" ∷ codes "str.contains" ∷ codes "str.indexof"
     ∷ codes "str.replace" ∷ codes "str.replace_all" ∷ codes "str.replace_re" ∷ codes "str.replace_re_all"
     ∷ codes "str.is_digit" ∷ codes "str.to_code" ∷ codes "str.from_code" ∷ codes "str.to_int" ∷ codes "str.from_int"
-    ∷ codes "re.none" ∷ codes "re.all" ∷ codes "re.allchar" ∷ codes "re.++" ∷ codes "re.union" ∷ codes "re.inter" ∷ codes "re.diff"
-    ∷ codes "re.*" ∷ codes "re.opt" ∷ codes "re.comp" ∷ codes "re.^" ∷ codes "re.loop"
+    ∷ codes "re.none" ∷ codes "re.all" ∷ codes "re.allchar" ∷ codes "re.inter" ∷ codes "re.diff"
+    ∷ codes "re.opt" ∷ codes "re.comp" ∷ codes "re.^" ∷ codes "re.loop"
     ∷ codes "str.in.re" ∷ codes "str.to.re" ∷ codes "re.nostr" ∷ []
 
 abbrev pub is_left_out : Name → Bool
@@ -42,12 +46,23 @@ is_taken names name = is_some (named names name) || is_theory_name name
 abbrev pub sort_named : Name → Option Kind
 sort_named name = if is_name name (codes "String") then Some text else None
 
--- the sorts of the arguments of a symbol that is read
-abbrev pub arguments_of : Symbol → List Kind
-arguments_of symbol.str_in_re = text ∷ reglan ∷ []
-arguments_of symbol.re_range = text ∷ text ∷ []
-arguments_of symbol.re_plus = reglan ∷ []
-arguments_of _ = []
+-- how many arguments a symbol takes, and of which sorts
+pub data Arity : Type 0 where
+  -- one of each of these sorts, in order
+  of_each : List Kind → Arity
+  -- one or more of this sort, where the theory asks for two or more; one is the argument itself
+  one_or_more : Kind → Arity
+
+-- the arguments of a symbol that is read
+abbrev pub arity_of : Symbol → Arity
+arity_of symbol.str_in_re = of_each (text ∷ reglan ∷ [])
+arity_of symbol.str_to_re = of_each (text ∷ [])
+arity_of symbol.re_range = of_each (text ∷ text ∷ [])
+arity_of symbol.re_concat = one_or_more reglan
+arity_of symbol.re_union = one_or_more reglan
+arity_of symbol.re_star = of_each (reglan ∷ [])
+arity_of symbol.re_plus = of_each (reglan ∷ [])
+arity_of _ = of_each []
 
 -- the sort of what a symbol makes
 abbrev pub result_of : Symbol → Kind
