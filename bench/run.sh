@@ -1,6 +1,7 @@
 #!/usr/bin/env bash
 # Times the reader alone over 50 MB in pieces of several lengths, and the program over scripts of 1 to 50 MB, read
-# from a file. Processor seconds, megabytes a second and peak memory in KB.
+# from a file: processor seconds, megabytes a second and peak memory in KB. Then the families of memberships, with z3 and
+# cvc5 beside the program where they are installed; a run of theirs has 20 seconds, so this takes some minutes.
 set -eu
 cd "$(dirname "$0")/.."
 build() { # the program, and what it is run on
@@ -26,3 +27,6 @@ for megabytes in 1 10 50; do
     python3 bench/measure.py "$kind" "$work/$kind.smt2" strsolve crates/strsolve/out/strsolve < "$work/$kind.smt2"
   done
 done
+
+echo
+python3 bench/compare.py

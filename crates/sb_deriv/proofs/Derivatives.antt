@@ -1,15 +1,13 @@
 -- Maps that are derivatives stay so, and what shapes regexes have.
-use Rattle.std.proofs.Common.{◌≡◌, ℕ, zero, suc, ◌+◌, ◌<◌, ◌≤◌, Bool, true, false, Some, None, Option, cond, List, [], ◌∷◌, ◌++◌, length, get_or, map, refl, sym, ap, ap₂, subst, ◌∙◌, arith}
-use Rattle.std.specs.Prelude.{nat_le}
+use Rattle.std.proofs.Common.{◌≡◌, ℕ, ◌<◌, ◌≤◌, Bool, true, false, cond, List, [], ◌∷◌, length, refl, sym, ap, subst, ◌∙◌, arith}
 use Rattle.std.specs.List.{All}
 use Rattle.std.proofs.lemmas.List.Elements.{All-nil, All-cons}
 use Rattle.sb_class.specs.Ranges.{Range, is_character, in_ranges}
-use Rattle.sb_lang.specs.Regex.{Regex, Regexes, none, eps, set, cat, alt, and, neg, star, regexes}
-use Rattle.sb_lang.specs.Constructors.{mkcat, mkalt, mkand, mknot}
-use Rattle.sb_lang.specs.Derivative.{nd, nds, nullable}
-use Rattle.sb_regex.specs.Numbered.{regex_at, regexes_at, AllNumbers, Extends, Names}
+use Rattle.sb_lang.specs.Regex.{Regex, none, eps, set}
+use Rattle.sb_lang.specs.Derivative.{nd, nds}
+use Rattle.sb_regex.specs.Numbered.{regex_at, AllNumbers, Extends, Names}
 use Rattle.sb_deriv.specs.Pieces.{value_at, value_from, covers, rises, are_merged, differs_from, targets_of, IsIntervalMap}
-use Rattle.sb_deriv.specs.Faithful.{IsMapOf, IsDerivative, IsKnown, IsFaithful, Memo, entry_of, FaithfulStays}
+use Rattle.sb_deriv.specs.Faithful.{IsMapOf, IsDerivative, FaithfulStays}
 use Rattle.sb_deriv.proofs.Numbers.{at_kept, numbers_kept, number_kept, names_below, names_at, names_kept}
 use Rattle.sb_deriv.proofs.PieceFacts.{value_below, map_some, le_test, le_tells}
 

@@ -1,20 +1,18 @@
 -- The common refinement of the derivatives of parts.
-use Rattle.std.proofs.Common.{◌≡◌, ℕ, zero, suc, ◌+◌, ◌<◌, ◌≤◌, Bool, true, false, cond, Some, None, Option, List, [], ◌∷◌, ◌++◌, length, take, drop, get_or, map, refl, sym, ap, ap₂, subst, ◌∙◌, arith}
-use Rattle.std.specs.Prelude.{◌&&◌, ◌==◌, nat_le, unwrap_or, is_some, IsSome}
-use Rattle.std.specs.List.{All}
+use Rattle.std.proofs.Common.{◌≡◌, ℕ, suc, ◌+◌, ◌<◌, Bool, true, false, cond, Some, None, Option, List, [], ◌∷◌, ◌++◌, length, take, drop, get_or, map, refl, sym, ap, ap₂, subst, ◌∙◌, arith}
+use Rattle.std.specs.Prelude.{◌&&◌, ◌==◌, nat_le, unwrap_or, IsSome}
 use Rattle.std.proofs.lemmas.List.{append-nil, map-append, take-append-drop, take_more}
 use Rattle.std.proofs.lemmas.List.Elements.{All-nil, All-cons}
 use Rattle.sb_class.specs.Ranges.{is_character}
 use Rattle.sb_lang.specs.Regex.{Regex}
-use Rattle.sb_lang.specs.Constructors.{mkalt, mkcat}
+use Rattle.sb_lang.specs.Constructors.{mkalt}
 use Rattle.sb_lang.specs.Derivative.{nd}
-use Rattle.sb_regex.specs.Numbered.{regex_at, regexes_at, AllNumbers, Extends}
+use Rattle.sb_regex.specs.Numbered.{regex_at, regexes_at, AllNumbers}
 use Rattle.sb_deriv.specs.declared.operation.Operation.{Operation}
 use Rattle.sb_deriv.specs.declared.operation.Operation.TheVariants as operation
-use Rattle.sb_deriv.specs.Pieces.{value_from, value_at, rises, covers, IsIntervalMap, targets_of}
-use Rattle.sb_deriv.specs.Faithful.{IsMapOf, IsKnown, IsFaithful, Memo, entry_of}
+use Rattle.sb_deriv.specs.Pieces.{value_from, value_at, rises, covers, IsIntervalMap}
+use Rattle.sb_deriv.specs.Faithful.{IsKnown, IsFaithful, Memo, entry_of}
 use Rattle.sb_deriv.specs.Choices.{made, kept, kept_of, targets_at, nd_each, HaveEntries}
-use Rattle.sb_deriv.proofs.Numbers.{at_kept, ats_kept, numbers_kept}
 use Rattle.sb_deriv.proofs.PieceFacts.{value_whole, map_some}
 use Rattle.sb_deriv.proofs.Derivatives.{value_number}
 use Rattle.sb_deriv.proofs.Kept.{made_kept, kept-append, kept_numbers}

@@ -1,5 +1,5 @@
 -- The derivative of a concatenation.
-use Rattle.std.proofs.Common.{◌≡◌, ℕ, zero, suc, ◌<◌, ◌≤◌, Bool, true, false, cond, Some, None, Option, List, [], ◌∷◌, ◌++◌, length, get_or, map, refl, sym, ap, ap₂, subst, ◌∙◌, arith}
+use Rattle.std.proofs.Common.{◌≡◌, ℕ, zero, suc, ◌<◌, ◌≤◌, true, false, cond, Some, None, Option, List, [], ◌∷◌, ◌++◌, length, map, refl, sym, ap, ap₂, subst, ◌∙◌, arith}
 use Rattle.std.specs.Prelude.{IfSome, IfNone}
 use Rattle.std.specs.List.{All}
 use Rattle.std.proofs.lemmas.List.Elements.{All-nil, All-cons}
@@ -10,7 +10,7 @@ use Rattle.sb_lang.specs.Derivative.{nd, nds, nullable}
 use Rattle.sb_regex.specs.Numbered.{regex_at, regexes_at, AllNumbers, Extends}
 use Rattle.sb_deriv.specs.declared.operation.Operation.TheVariants as operation
 use Rattle.sb_deriv.specs.Pieces.{value_from, value_at}
-use Rattle.sb_deriv.specs.Faithful.{IsMapOf, IsDerivative, IsFaithful, Memo, entry_of}
+use Rattle.sb_deriv.specs.Faithful.{IsMapOf, IsDerivative, IsFaithful, Memo}
 use Rattle.sb_deriv.specs.Choices.{made, kept, kept_of, targets_at, nd_each, HaveEntries}
 use Rattle.sb_deriv.proofs.Numbers.{at_kept}
 use Rattle.sb_deriv.proofs.Derivatives.{value_number, map_same, faithful_kept}

@@ -10,3 +10,5 @@ pub mod Ranging
 pub mod Gathering
 pub mod Waiting
 pub mod Heads
+pub mod RangesTo
+pub mod Gathered

@@ -1,11 +1,10 @@
 -- A target is made for each piece.
-use Rattle.std.proofs.Common.{◌≡◌, ℕ, zero, suc, ◌+◌, ◌-◌, ◌<◌, ◌≤◌, Bool, true, false, cond, List, [], ◌∷◌, ◌++◌, length, take, drop, get_or, map, refl, sym, ap, ap₂, subst, ◌∙◌, arith, length-drop}
+use Rattle.std.proofs.Common.{◌≡◌, ℕ, zero, suc, ◌+◌, ◌<◌, ◌≤◌, Bool, true, false, cond, List, [], ◌∷◌, ◌++◌, length, take, drop, get_or, refl, sym, ap, ap₂, subst, ◌∙◌, arith, length-drop}
 use Rattle.std.specs.Prelude.{nat_le}
 use Rattle.std.specs.List.{All}
 use Rattle.std.proofs.lemmas.Bool.Decides.{nat_tests}
 use Rattle.std.proofs.lemmas.List.{take_more, drop_more, take_all}
 use Rattle.std.proofs.lemmas.List.Elements.{All-nil}
-use Rattle.sb_class.specs.Ranges.{is_character}
 use Rattle.sb_lang.specs.Regex.{Regex}
 use Rattle.sb_lang.specs.Constructors.{mkcat, mkalt, mkand, mknot}
 use Rattle.sb_regex.specs.Numbered.{regex_at, regexes_at, AllNumbers, Extends, Names}
@@ -14,8 +13,8 @@ use Rattle.sb_deriv.specs.declared.operation.Operation.TheVariants as operation
 use Rattle.sb_deriv.specs.Pieces.{value_from, value_at, rises, covers, are_merged, targets_of}
 use Rattle.sb_deriv.specs.Faithful.{IsMapOf}
 use Rattle.sb_deriv.specs.Choices.{first_of, made, OperandIsKnown}
-use Rattle.sb_deriv.proofs.Numbers.{extends_same, extends_more, at_kept, ats_kept, names_at, names_below, names_kept, numbers_kept}
-use Rattle.sb_deriv.proofs.PieceFacts.{le_tells, le_test, eq_test, rises_head, rises_rest, rises_from_first, value_here, value_pushed, value_below, map_some, covers_rises, covers_first}
+use Rattle.sb_deriv.proofs.Numbers.{extends_same, extends_more, at_kept, ats_kept, names_at, names_below, numbers_kept}
+use Rattle.sb_deriv.proofs.PieceFacts.{eq_test, rises_head, rises_rest, rises_from_first, value_here, value_pushed, value_below, map_some, covers_rises, covers_first}
 
 pub made_later : (old new : List Regex) (op : Operation) (ids : List ℕ) → Extends old new → OperandIsKnown old op → AllNumbers old ids → made new op (regexes_at new ids) ≡ made old op (regexes_at old ids)
 unfolding made

@@ -1,11 +1,11 @@
 -- Two lists of choices become one.
-use Rattle.std.proofs.Common.{◌≡◌, ℕ, zero, suc, ◌+◌, ◌-◌, ◌<◌, ◌≤◌, Bool, true, false, cond, List, [], ◌∷◌, ◌++◌, length, take, drop, get_or, refl, sym, ap, ap₂, subst, ◌∙◌, arith, min, length-drop}
-use Rattle.std.specs.Prelude.{nat_le, nat_eq, ◌==◌}
+use Rattle.std.proofs.Common.{◌≡◌, ℕ, suc, ◌+◌, ◌<◌, ◌≤◌, Bool, true, false, cond, List, [], ◌∷◌, ◌++◌, length, take, drop, get_or, refl, sym, ap, ap₂, subst, ◌∙◌, arith, min, length-drop}
+use Rattle.std.specs.Prelude.{nat_le, ◌==◌}
 use Rattle.std.proofs.lemmas.Bool.Decides.{nat_tests}
 use Rattle.std.proofs.lemmas.List.{take_more, drop_more, take_all}
 use Rattle.sb_deriv.specs.Pieces.{value_from, rises, covers}
 use Rattle.sb_deriv.specs.Choices.{first_of, count_at, last_value}
-use Rattle.sb_deriv.proofs.PieceFacts.{le_tells, gt_test, eq_tells, rises_head, rises_le, rises_rest, rises_later_end, rises_from_first, rises_pushed, last_from, value_pushed, covers_rises, covers_first, covers_from, covers_pushed}
+use Rattle.sb_deriv.proofs.PieceFacts.{le_tells, gt_test, eq_tells, rises_head, rises_le, rises_rest, rises_later_end, rises_from_first, rises_pushed, last_from, value_pushed, covers_rises, covers_first, covers_pushed}
 
 -- a list of which what is taken ends, and what is left begins, at a number
 pub record Side (L : List (ℕ × List ℕ)) (i f : ℕ) : Type 0 where

@@ -1,19 +1,15 @@
 -- What operations make, and which members they drop.
-use Rattle.std.proofs.Common.{◌≡◌, ℕ, zero, suc, ◌+◌, ◌<◌, ◌≤◌, Bool, true, false, not, ◌&&◌, ◌||◌, cond, List, [], ◌∷◌, ◌++◌, length, get_or, map, refl, sym, ap, ap₂, subst, ◌∙◌, arith, append_assoc}
-use Rattle.std.specs.Prelude.{filter, flat_map, nat_le}
-use Rattle.std.specs.List.{All, list_any}
-use Rattle.std.proofs.lemmas.List.{append-nil}
-use Rattle.sb_lang.specs.Regex.{Regex, Regexes, none, eps, set, cat, alt, and, neg, star, rep, path, no_more, more, regexes}
-use Rattle.sb_lang.specs.Order.{code, regex_cmp, regex_eq}
-use Rattle.sb_lang.specs.Constructors.{anything, mkcat, mkalt, mkand, mknot, alternatives, conjuncts, ranges_of, is_set, is_none, is_anything, join_sets, meet_sets, meet_of, mkset, union_of, alt_of, and_of, sorted}
-use Rattle.sb_lang.specs.Derivative.{nd, nds, nullable}
+use Rattle.std.proofs.Common.{◌≡◌, ℕ, ◌<◌, Bool, true, false, List, [], ◌∷◌, length, get_or, refl, sym, ap, ◌∙◌, arith}
+use Rattle.sb_lang.specs.Regex.{Regex, none, eps, set, cat, alt, and, neg, star, rep, path}
+use Rattle.sb_lang.specs.Order.{code}
+use Rattle.sb_lang.specs.Constructors.{anything, mkcat, mkalt, mkand, mknot, conjuncts, ranges_of, is_set, meet_sets, meet_of, and_of, sorted}
 use Rattle.sb_regex.specs.declared.node.Node.{Node}
 use Rattle.sb_regex.specs.declared.node.Node.TheVariants as node
-use Rattle.sb_regex.specs.Numbered.{regex_at, regexes_at, AllNumbers}
+use Rattle.sb_regex.specs.Numbered.{regex_at, regexes_at}
 use Rattle.sb_regex.specs.Nodes.{node_regex}
 use Rattle.sb_deriv.specs.declared.operation.Operation.{Operation}
 use Rattle.sb_deriv.specs.declared.operation.Operation.TheVariants as operation
-use Rattle.sb_deriv.specs.Choices.{made, drops, is_not_none, is_no_word, kept, kept_of, nd_each}
+use Rattle.sb_deriv.specs.Choices.{made, drops, is_not_none, is_no_word}
 
 -- the tests of nodes
 

@@ -1,5 +1,5 @@
 -- The pieces of a set.
-use Rattle.std.proofs.Common.{◌≡◌, ℕ, zero, suc, ◌+◌, ◌<◌, ◌≤◌, Bool, true, false, ◌&&◌, ◌||◌, cond, List, [], ◌∷◌, ◌++◌, length, take, drop, get_or, map, refl, sym, ap, ap₂, subst, ◌∙◌, arith, length-drop}
+use Rattle.std.proofs.Common.{◌≡◌, ℕ, ◌+◌, ◌<◌, ◌≤◌, Bool, true, false, ◌&&◌, ◌||◌, cond, List, [], ◌∷◌, length, drop, get_or, refl, sym, ap, subst, ◌∙◌, arith, length-drop}
 use Rattle.std.specs.Prelude.{nat_le}
 use Rattle.std.specs.List.{All}
 use Rattle.std.proofs.lemmas.Bool.{and_parts}
@@ -7,7 +7,7 @@ use Rattle.std.proofs.lemmas.Bool.Decides.{nat_tests}
 use Rattle.std.proofs.lemmas.List.{drop_more}
 use Rattle.std.proofs.lemmas.List.Elements.{All-nil}
 use Rattle.sb_class.specs.Ranges.{Range, in_range, in_ranges, fits_from, rises_from, is_character, IsCanonical}
-use Rattle.sb_deriv.specs.Pieces.{value_at, covers, are_merged, targets_of, IsIntervalMap}
+use Rattle.sb_deriv.specs.Pieces.{value_at, covers, are_merged, targets_of}
 use Rattle.sb_deriv.proofs.PieceFacts.{le_tells, le_test, gt_test}
 
 pub record Ranging (R rest : List Range) (out : List (ℕ × ℕ)) (e within outside : ℕ) : Type 0 where
@@ -47,11 +47,11 @@ fits n r rest h =
     let s = and_parts (nat_le r.0 r.1) (is_character r.1) q.1 in
     record { start = le_tells n r.0 q.0; order = le_tells r.0 r.1 s.0; character = le_tells r.1 0x2ffff s.1; rest_rises = p.1 }
 
-both : (a b : Bool) → a ≡ true → b ≡ true → (a && b) ≡ true
+pub both : (a b : Bool) → a ≡ true → b ≡ true → (a && b) ≡ true
 both true b p q = q
 both false b p q = absurd (cc)
 
-rises_before : (m n : ℕ) (rest : List Range) → m ≤ n → rises_from n rest ≡ true → rises_from m rest ≡ true
+pub rises_before : (m n : ℕ) (rest : List Range) → m ≤ n → rises_from n rest ≡ true → rises_from m rest ≡ true
 unfolding rises_from
 rises_before m n [] l h = refl
 rises_before m n (r ∷ rest) l h =
@@ -62,7 +62,7 @@ outside_range : (r : Range) (c : ℕ) → (c < r.0) → in_range r c ≡ false
 unfolding in_range
 outside_range r c l = ap (λ b. b && nat_le c r.1) (gt_test r.0 c l)
 
-after_range : (r : Range) (c : ℕ) → (r.1 < c) → in_range r c ≡ false
+pub after_range : (r : Range) (c : ℕ) → (r.1 < c) → in_range r c ≡ false
 unfolding in_range
 after_range r c l = ap (λ b. nat_le r.0 c && b) (gt_test c r.1 l) ∙ never (nat_le r.0 c)
   where
@@ -70,11 +70,11 @@ after_range r c l = ap (λ b. nat_le r.0 c && b) (gt_test c r.1 l) ∙ never (na
     never true = refl
     never false = refl
 
-within_range : (r : Range) (c : ℕ) → r.0 ≤ c → c ≤ r.1 → in_range r c ≡ true
+pub within_range : (r : Range) (c : ℕ) → r.0 ≤ c → c ≤ r.1 → in_range r c ≡ true
 unfolding in_range
 within_range r c l m = both _ _ (le_test r.0 c l) (le_test c r.1 m)
 
-not_before : (n : ℕ) (rest : List Range) (c : ℕ) → rises_from n rest ≡ true → c < n → in_ranges rest c ≡ false
+pub not_before : (n : ℕ) (rest : List Range) (c : ℕ) → rises_from n rest ≡ true → c < n → in_ranges rest c ≡ false
 unfolding in_ranges
 not_before n [] c h l = refl
 not_before n (r ∷ rest) c h l =
@@ -83,7 +83,7 @@ not_before n (r ∷ rest) c h l =
     let b : r.0 ≤ r.1 = f.order in
     ap (λ x. x || in_ranges rest c) (outside_range r c (omega arith)) ∙ not_before (r.1 + 2) rest c f.rest_rises (omega arith)
 
-first_step : (r : Range) (rest : List Range) (c : ℕ) (b : Bool) → in_range r c ≡ b → in_ranges (r ∷ rest) c ≡ (b || in_ranges rest c)
+pub first_step : (r : Range) (rest : List Range) (c : ℕ) (b : Bool) → in_range r c ≡ b → in_ranges (r ∷ rest) c ≡ (b || in_ranges rest c)
 unfolding in_ranges
 first_step r rest c b h = ap (λ x. x || in_ranges rest c) h
 

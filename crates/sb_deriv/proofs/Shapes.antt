@@ -1,18 +1,17 @@
 -- What the derivatives of nodes are made from.
-use Rattle.std.proofs.Common.{◌≡◌, ℕ, zero, suc, ◌<◌, Bool, true, false, List, [], ◌∷◌, length, get_or, map, refl, sym, ap, ap₂, subst, ◌∙◌, arith}
+use Rattle.std.proofs.Common.{◌≡◌, ℕ, ◌<◌, true, List, [], ◌∷◌, length, refl, sym, ap, subst, ◌∙◌}
 use Rattle.std.specs.List.{All, list_all}
 use Rattle.std.proofs.lemmas.Bool.{and_parts}
 use Rattle.std.proofs.lemmas.List.Sums.{AllPass-from_list_all}
-use Rattle.sb_class.specs.Ranges.{Range, IsCanonical, rises_from}
-use Rattle.sb_lang.specs.Regex.{Regex, none, eps, set, cat, alt, and, neg, star, regexes}
-use Rattle.sb_lang.specs.Constructors.{mkcat, mkalt, mkand, mknot}
+use Rattle.sb_class.specs.Ranges.{Range, IsCanonical}
+use Rattle.sb_lang.specs.Regex.{Regex, none, set, alt, and, neg, star, regexes}
+use Rattle.sb_lang.specs.Constructors.{mkcat, mkalt, mkand}
 use Rattle.sb_lang.specs.Derivative.{nd, nds}
 use Rattle.sb_lang.specs.NormalForm.{is_normal, IsNormal}
 use Rattle.sb_regex.specs.declared.node.Node.{Node}
 use Rattle.sb_regex.specs.declared.node.Node.TheVariants as node
 use Rattle.sb_regex.specs.Numbered.{regex_at, regexes_at}
-use Rattle.sb_regex.specs.Nodes.{node_regex, PartsBelow}
-use Rattle.sb_deriv.specs.declared.operation.Operation.{Operation}
+use Rattle.sb_regex.specs.Nodes.{node_regex}
 use Rattle.sb_deriv.specs.declared.operation.Operation.TheVariants as operation
 use Rattle.sb_deriv.specs.Choices.{made, nd_each, IsMade}
 

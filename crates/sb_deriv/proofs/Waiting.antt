@@ -1,20 +1,19 @@
 -- The numbers that wait for their derivatives.
 use Rattle.std.proofs.Common.{◌≡◌, ℕ, zero, suc, ◌+◌, ◌*◌, ◌<◌, ◌≤◌, Bool, true, false, not, cond, Some, None, Option, List, [], ◌∷◌, ◌++◌, length, get_or, set, refl, sym, ap, ap₂, subst, ◌∙◌, arith, ◌⊎◌, inl, inr}
-use Rattle.std.specs.Prelude.{nat_lt, ◌||◌, is_some, IsSome, IfSome, IfNone, unwrap_or}
+use Rattle.std.specs.Prelude.{nat_lt, ◌||◌, is_some, IsSome, IfSome, unwrap_or}
 use Rattle.std.specs.List.{All, list_any}
 use Rattle.std.specs.Ordering.{nat_cmp, match_ordering}
 use Rattle.std.specs.BTreeSet.{insert_key}
-use Rattle.std.proofs.Math.Nat.{mul-le-mul_left}
 use Rattle.std.proofs.lemmas.Map.Views.{All-insert_key}
 use Rattle.std.proofs.lemmas.Bool.Decides.{nat_tests}
-use Rattle.std.proofs.lemmas.List.Elements.{All-nil, All-cons}
+use Rattle.std.proofs.lemmas.List.Elements.{All-nil}
 use Rattle.std.specs.declared.cmp.Ordering.{Ordering}
 use Rattle.std.specs.declared.cmp.Ordering.TheVariants.{Less, Equal, Greater}
 use Rattle.sb_lang.specs.Regex.{Regex}
 use Rattle.sb_lang.specs.Derivative.{nd}
-use Rattle.sb_regex.specs.Numbered.{regex_at, AllNumbers, Extends}
+use Rattle.sb_regex.specs.Numbered.{regex_at, Extends}
 use Rattle.sb_deriv.specs.Faithful.{Memo, entry_of, IsFaithful, IsKnown, IsDerivative, KeepsEntries}
-use Rattle.sb_deriv.specs.Choices.{HaveEntries, IsWanted, lacking}
+use Rattle.sb_deriv.specs.Choices.{IsWanted, lacking}
 use Rattle.sb_deriv.proofs.Numbers.{extends_same, extends_more, number_kept, at_kept}
 use Rattle.sb_deriv.proofs.Derivatives.{faithful_kept, map_same}
 

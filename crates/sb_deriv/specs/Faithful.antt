@@ -1,5 +1,5 @@
 -- Which interval maps are derivatives of regexes by all characters at once.
-use Rattle.std.specs.Prelude.{◌≡◌, ℕ, ◌<◌, true, List, [], Some, None, Option, get_or, length, unwrap_or, map, IsSome, All}
+use Rattle.std.specs.Prelude.{◌≡◌, ℕ, ◌<◌, true, List, Some, None, Option, get_or, length}
 use Rattle.sb_class.specs.Ranges.{is_character}
 use Rattle.sb_lang.specs.Regex.{Regex}
 use Rattle.sb_lang.specs.Derivative.{nd}

@@ -1,3 +1,4 @@
 pub mod Pieces
 pub mod Faithful
 pub mod Choices
+pub mod Targets

@@ -1,5 +1,5 @@
 -- Lists of pieces: each has its first number and goes on to the next piece, and all its numbers have its value.
-use Rattle.std.specs.Prelude.{◌≡◌, ℕ, suc, Bool, true, false, not, ◌&&◌, ◌==◌, nat_le, cond, List, [], ◌∷◌, map}
+use Rattle.std.specs.Prelude.{◌≡◌, ℕ, suc, Bool, true, not, ◌&&◌, ◌==◌, nat_le, cond, List, [], ◌∷◌, map}
 
 -- above the last character
 abbrev pub end_of_characters : ℕ

@@ -1,10 +1,14 @@
 //! The derivative of a regex by all characters.
 
-ghost use Rattle.std.specs.Prelude.{◌≡◌, ◌≤◌};
+ghost use Rattle.std.specs.Prelude.{◌≡◌, ◌≤◌, IfOk};
 ghost use Rattle.sb_deriv.specs.Pieces.{value_at, IsIntervalMap};
+ghost use Rattle.sb_deriv.specs.Targets.{AreTargets};
 
 use crate::pieces::value_at;
+use crate::targets::{classes, gather};
+use sb_class::Class;
 use sb_regex::RegexId;
+use std::alloc::{AllocError, Global};
 use std::marker::Model;
 
 /// For each character the number of a regex, as an interval map.
@@ -47,5 +51,14 @@ impl Derivative {
         ensures map { IsIntervalMap self.now }
     {
         &self.pieces
+    }
+
+    /// The targets, each once, with the class of the characters that lead there: the classes are disjoint, cover every
+    /// character, and stand in the order of their least characters. Linear in the number of pieces.
+    pub fn targets(&self, alloc: Global) -> Result<Vec<(Class, RegexId)>, AllocError>
+        ensures classes { IfOk result (λ targets. AreTargets self.now targets.items) }
+    {
+        let gathered = gather(alloc, &self.pieces)?;
+        classes(alloc, &gathered)
     }
 }

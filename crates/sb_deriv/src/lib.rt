@@ -4,7 +4,7 @@
 //! A [`Deriver`] keeps the maps by the regexes' numbers, and makes that of a regex from those of its parts: the pieces
 //! of the parts are brought to a common refinement, and a constructor is called once for each piece. Contracts see a
 //! map as the list of its pieces, each with its first character and its target. The layer above asks for the
-//! derivative of a regex once, and follows its targets.
+//! derivative of a regex once, and follows its targets, by character or each once with the class of its characters.
 #![tactic(auto)]
 
 ghost use Rattle.sb_deriv.specs.Faithful.{FaithfulStays};
@@ -14,6 +14,7 @@ mod derivative;
 mod deriver;
 mod operation;
 mod pieces;
+mod targets;
 #[cfg(test)]
 mod tests;
 

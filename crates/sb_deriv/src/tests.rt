@@ -282,3 +282,103 @@ fn a_long_word(rt: HostRuntime) -> Result<(), Fail> {
     let r = long(alloc, &mut arena)?;
     follow(&rt, &mut arena, &mut Deriver::new(alloc), r)
 }
+
+fn targets(alloc: Global, deriver: &Deriver, r: RegexId) -> Result<Vec<(Class, RegexId)>, Fail> {
+    match deriver.derivative(r) {
+        Some(derivative) => Ok(derivative.targets(alloc)?),
+        None => Err(Fail::from("the derivative is known")),
+    }
+}
+
+/// Whether the target in a place has these ranges and this regex.
+fn is_at(
+    targets: &[(Class, RegexId)],
+    place: usize,
+    ranges: &[(u32, u32)],
+    regex: RegexId,
+) -> bool {
+    place < targets.len() && targets[place].0.ranges() == ranges && targets[place].1 == regex
+}
+
+/// The union of the words of one character each, from `A` to `h`, that are not empty.
+fn repetitions(alloc: Global, arena: &mut Arena) -> Result<RegexId, Fail> {
+    let mut ids = Vec::new(alloc);
+    for c in 0x41..0x69 {
+        let one = range(alloc, arena, c, c)?;
+        let more = star(arena, one)?;
+        ids.push(cat(arena, one, more)?)?;
+    }
+    alt(arena, &ids)
+}
+
+/// The targets of the repetitions: none by the other characters, and one for each of theirs.
+fn lead_apart(
+    rt: &impl Abort,
+    alloc: Global,
+    arena: &mut Arena,
+    targets: &[(Class, RegexId)],
+) -> Result<(), Fail> {
+    assert_eq!(rt; targets.len(), 41);
+    let none = arena.none()?;
+    assert!(rt; is_at(targets, 0, &[(0, 0x40), (0x69, 0x2ffff)], none));
+    for c in 0x41..0x69 {
+        let one = range(alloc, arena, c, c)?;
+        let more = star(arena, one)?;
+        assert!(rt; is_at(targets, c as usize - 0x40, &[(c, c)], more));
+    }
+    Ok(())
+}
+
+/// The two words of a first or a last character and `a`.
+fn ends(alloc: Global, arena: &mut Arena) -> Result<RegexId, Fail> {
+    let first = word(alloc, arena, &[0, 0x61])?;
+    let last = word(alloc, arena, &[0x2ffff, 0x61])?;
+    alt(arena, &[first, last])
+}
+
+/// Their targets: `a` by the first and the last character, and none by those between.
+fn lead_together(
+    rt: &impl Abort,
+    alloc: Global,
+    arena: &mut Arena,
+    targets: &[(Class, RegexId)],
+) -> Result<(), Fail> {
+    assert_eq!(rt; targets.len(), 2);
+    let rest = word(alloc, arena, &[0x61])?;
+    assert!(rt; is_at(targets, 0, &[(0, 0), (0x2ffff, 0x2ffff)], rest));
+    let none = arena.none()?;
+    assert!(rt; is_at(targets, 1, &[(1, 0x2fffe)], none));
+    Ok(())
+}
+
+fn both_lead(
+    rt: &impl Abort,
+    alloc: Global,
+    arena: &mut Arena,
+    deriver: &mut Deriver,
+    repetitions: RegexId,
+    ends: RegexId,
+) -> Result<(), Fail>
+    requires { IsFaithful arena.old deriver.old }
+{
+    derive(arena, deriver, repetitions)?;
+    derive(arena, deriver, ends)?;
+    lead_apart(rt, alloc, arena, &targets(alloc, deriver, repetitions)?)?;
+    lead_together(rt, alloc, arena, &targets(alloc, deriver, ends)?)
+}
+
+#[test]
+fn each_target_has_the_class_of_its_characters(rt: HostRuntime) -> Result<(), Fail> {
+    let alloc = rt.alloc();
+    let arena = &mut Arena::new(alloc);
+    let repetitions = repetitions(alloc, arena)?;
+    let ends = ends(alloc, arena)?;
+    both_lead(
+        &rt,
+        alloc,
+        arena,
+        &mut Deriver::new(alloc),
+        repetitions,
+        ends,
+    )
+}

@@ -4,7 +4,7 @@ ghost use Rattle.sb_graph.specs.Findings.{IsGraph};
 
 use super::*;
 use sb_class::Class;
-use sb_regex::{Arena, RegexId};
+use sb_regex::{Arena, Node, RegexId};
 use sb_word::Word;
 use std::alloc::Global;
 use std::process::Abort;
@@ -174,4 +174,213 @@ fn a_dead_regex_is_marked(rt: HostRuntime) -> Result<(), Fail> {
     let b = with_word(rt.alloc(), arena, &[0x62])?;
     let both = and(arena, &[words, b])?;
     marks(&rt, &mut Graph::new(rt.alloc()), arena, both)
+}
+
+/// Whether a word is in the language of a regex, by its node and the cuts of the word.
+fn matches(arena: &Arena, r: RegexId, word: &[u32], depth: u32) -> Result<bool, Fail> {
+    if depth == 0 || r.number() >= arena.len() {
+        return Err(Fail::from("the number is known"));
+    }
+    let depth = depth - 1;
+    match arena.node(r) {
+        Node::None => Ok(false),
+        Node::Eps => Ok(word.is_empty()),
+        Node::Set(ranges) => Ok(is_one_of(ranges.as_slice(), word)),
+        Node::Cat(a, b) => {
+            for i in 0..=word.len() {
+                if matches(arena, *a, &word[..i], depth)?
+                    && matches(arena, *b, &word[i..], depth)?
+                {
+                    return Ok(true);
+                }
+            }
+            Ok(false)
+        }
+        Node::Alt(parts) => {
+            for part in parts.as_slice() {
+                if matches(arena, *part, word, depth)? {
+                    return Ok(true);
+                }
+            }
+            Ok(false)
+        }
+        Node::And(parts) => {
+            for part in parts.as_slice() {
+                if !matches(arena, *part, word, depth)? {
+                    return Ok(false);
+                }
+            }
+            Ok(true)
+        }
+        Node::Not(a) => Ok(!matches(arena, *a, word, depth)?),
+        Node::Star(a) => {
+            for i in 1..=word.len() {
+                if matches(arena, *a, &word[..i], depth)? && matches(arena, r, &word[i..], depth)? {
+                    return Ok(true);
+                }
+            }
+            Ok(word.is_empty())
+        }
+    }
+}
+
+/// Whether the word is one character in the ranges.
+fn is_one_of(ranges: &[(u32, u32)], word: &[u32]) -> bool {
+    match word {
+        [c] => ranges.iter().any(|range| range.0 <= *c && *c <= range.1),
+        _ => false,
+    }
+}
+
+/// The words over `a`, `b` and `c` by their places: shorter words come first, and of two as long the one that is less.
+fn word_at(alloc: Global, mut place: u32) -> Result<Vec<u32>, Fail> {
+    let mut codes = Vec::new(alloc);
+    while place > 0 {
+        codes.push(0x61 + (place - 1) % 3)?;
+        place = (place - 1) / 3;
+    }
+    codes.reverse();
+    Ok(codes)
+}
+
+/// The first word in the language among those of at most five letters.
+fn first_word(alloc: Global, arena: &Arena, r: RegexId) -> Result<Option<Vec<u32>>, Fail> {
+    for place in 0..364 {
+        let word = word_at(alloc, place)?;
+        if matches(arena, r, &word, 50)? {
+            return Ok(Some(word));
+        }
+    }
+    Ok(None)
+}
+
+/// The regex of a text: letters, `x` for any of the three, `w` for every word, and behind their parts `.` for a
+/// concatenation, `|` for a union, `&` for an intersection and `*` for a star.
+fn regex(alloc: Global, arena: &mut Arena, text: &[u8]) -> Result<RegexId, Fail> {
+    let mut parts = Vec::new(alloc);
+    for sign in text {
+        let part = match *sign {
+            b'*' => star(arena, last(&mut parts)?)?,
+            b'.' | b'|' | b'&' => {
+                let right = last(&mut parts)?;
+                join(arena, *sign, last(&mut parts)?, right)?
+            }
+            _ => atom(alloc, arena, *sign)?,
+        };
+        parts.push(part)?;
+    }
+    last(&mut parts)
+}
+
+fn last(parts: &mut Vec<RegexId>) -> Result<RegexId, Fail> {
+    Ok(parts.pop().ok_or("there is a part")?)
+}
+
+fn join(arena: &mut Arena, sign: u8, left: RegexId, right: RegexId) -> Result<RegexId, Fail> {
+    match sign {
+        b'.' => cat(arena, left, right),
+        b'|' => alt(arena, &[left, right]),
+        _ => and(arena, &[left, right]),
+    }
+}
+
+fn atom(alloc: Global, arena: &mut Arena, sign: u8) -> Result<RegexId, Fail> {
+    match sign {
+        b'x' => range(alloc, arena, 0x61, 0x63),
+        b'w' => with_word(alloc, arena, &[]),
+        letter => range(alloc, arena, letter as u32, letter as u32),
+    }
+}
+
+const TEXTS: [&[u8]; 14] = [
+    b"a*", // a*
+    b"aa.b.cb.|ca.|", // aab | cb | ca
+    b"x*b.x*.ab.*&", // x*bx* & (ab)*
+    b"ab|*cb*..", // (a|b)*cb*
+    b"wab..w.wca..w.&", // .*ab.* & .*ca.*
+    b"wba..w.wab..w.&wc.&", // .*ba.* & .*ab.* & .*c
+    b"aa.a.*aaa.*.&", // (aaa)* & a(aa)*
+    b"ab.bc.a.|*waa..w.&", // (ab|bca)* & .*aa.*
+    b"bx*.x*cc..&xx.*&xx.xx..&", // bx* & x*cc & (xx)* & xxxx
+    b"bc|*aa*b...", // (b|c)*aa*b
+    b"cc*.bb*.|cba..|xx.x.x*.&", // (cc* | bb* | cba) & xxxx*
+    b"xx*.x|ac.|ca.&", // (xx* | x | ac) & ca
+    b"aa.*aaa.*.&", // (aa)* & a(aa)*
+    b"a*wb.w.&", // a* & .*b.*
+];
+
+/// The word that is found is the first of all that match.
+fn agrees(rt: &impl Abort, alloc: Global, arena: &mut Arena, text: &[u8]) -> Result<(), Fail> {
+    let r = regex(alloc, arena, text)?;
+    let plain = first_word(alloc, arena, r)?;
+    assert_eq!(rt; found(alloc, arena, r)?, plain);
+    Ok(())
+}
+
+fn all_agree(
+    rt: &impl Abort,
+    alloc: Global,
+    arena: &mut Arena,
+    texts: &[&[u8]],
+) -> Result<(), Fail> {
+    for text in texts {
+        agrees(rt, alloc, arena, text)?;
+    }
+    Ok(())
+}
+
+#[test]
+fn the_word_is_the_first_of_those_that_a_plain_matcher_takes(rt: HostRuntime) -> Result<(), Fail> {
+    all_agree(&rt, rt.alloc(), &mut Arena::new(rt.alloc()), &TEXTS)
+}
+
+/// Explores two regexes, and looks for the derivative of a regex that both lead to.
+fn share(
+    rt: &impl Abort,
+    graph: &mut Graph,
+    arena: &mut Arena,
+    roots: (RegexId, RegexId),
+    rest: RegexId,
+) -> Result<(), Fail>
+    requires { IsGraph arena.old graph.old }
+{
+    let (first, second) = roots;
+    assert!(rt; graph.derivative(rest).is_none());
+    explored(rt, graph, arena, first, &[0x61, 0x62, 0x63])?;
+    assert!(rt; graph.derivative(rest).is_some());
+    assert!(rt; graph.derivative(second).is_none());
+    explored(rt, graph, arena, second, &[0x63, 0x62, 0x63])
+}
+
+fn explored(
+    rt: &impl Abort,
+    graph: &mut Graph,
+    arena: &mut Arena,
+    root: RegexId,
+    codes: &[u32],
+) -> Result<(), Fail>
+    requires { IsGraph arena.old graph.old }
+    ensures { IsGraph arena.new graph.new }
+{
+    if root.number() >= arena.len() {
+        return Err(Fail::from("the number is known"));
+    }
+    let explored = graph.explore(arena, root)?;
+    assert!(rt; matches!(&explored, Explored::Alive(word) if word.codes() == codes));
+    Ok(())
+}
+
+#[test]
+fn a_second_exploration_finds_derivatives_of_the_first(rt: HostRuntime) -> Result<(), Fail> {
+    let arena = &mut Arena::new(rt.alloc());
+    let rest = regex(rt.alloc(), arena, b"x*b.c.")?;
+    let first = regex(rt.alloc(), arena, b"ax*b.c..")?;
+    let second = regex(rt.alloc(), arena, b"cx*b.c..")?;
+    share(
+        &rt,
+        &mut Graph::new(rt.alloc()),
+        arena,
+        (first, second),
+        rest,
+    )
 }

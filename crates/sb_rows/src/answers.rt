@@ -93,8 +93,8 @@ fn scripts_have_their_answers(rt: HostRuntime) -> Result<(), Fail> {
     Ok(())
 }
 
-/// examples/first.smt2 and examples/empty_range.smt2
-const EXAMPLES: [Case; 2] = [
+/// examples/first.smt2, examples/empty_range.smt2 and examples/words.smt2
+const EXAMPLES: [Case; 3] = [
     (
         b"(set-option :print-success false)\n(set-option :produce-models true)\n(declare-const x String)\n(assert (str.in_re x (re.+ (re.range \"a\" \"b\"))))\n(check-sat)\n(get-model)\n",
         b"sat\n((define-fun x () String \"a\"))\n",
@@ -102,6 +102,10 @@ const EXAMPLES: [Case; 2] = [
     (
         b"(set-option :print-success false)\n(set-option :produce-models true)\n(declare-const x String)\n(assert (str.in_re x (re.range \"b\" \"a\")))\n(check-sat)\n(get-model)\n",
         b"unsat\n(error \"no model\")\n",
+    ),
+    (
+        b"(set-option :print-success false)\n(set-option :produce-models true)\n(declare-const name String)\n; letters, then at least one digit\n(assert (str.in_re name (re.++ (re.+ (re.range \"a\" \"z\")) (re.+ (re.range \"0\" \"9\")))))\n; one of these, or any number of \"ab\" and a \"7\"\n(assert (str.in_re name (re.union (str.to_re \"root\") (str.to_re \"user1\") (re.++ (re.* (str.to_re \"ab\")) (str.to_re \"7\")))))\n(check-sat)\n(get-model)\n; and the letter \"u\" in front\n(assert (str.in_re name (re.++ (str.to_re \"u\") (re.* (re.range \"0\" \"z\")))))\n(check-sat)\n(get-value (name))\n",
+        b"sat\n((define-fun name () String \"ab7\"))\nsat\n((name \"user1\"))\n",
     ),
 ];
 

@@ -14,4 +14,6 @@ mod faults;
 #[cfg(test)]
 mod pieces;
 #[cfg(test)]
+mod regexes;
+#[cfg(test)]
 mod runs;

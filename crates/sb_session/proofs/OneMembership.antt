@@ -1,23 +1,27 @@
 -- One more membership.
-use Rattle.std.proofs.Common.{◌≡◌, ◌≢◌, ℕ, zero, suc, ◌+◌, Bool, true, false, ◌&&◌, ◌==◌, if◌then◌else◌, List, [], ◌∷◌, ◌++◌, Option, Some, None, refl, sym, ap, ◌∙◌, arith}
+use Rattle.std.proofs.Common.{◌≡◌, ◌≢◌, ℕ, zero, suc, ◌+◌, ◌<◌, Bool, true, false, ◌&&◌, ◌==◌, if◌then◌else◌, List, [], ◌∷◌, ◌++◌, length, refl, sym, ap, ◌∙◌, arith}
 use Rattle.std.proofs.lemmas.Bool.{false≢true, eq-eqb, eqb-true, eqb-false}
 use Rattle.std.proofs.lemmas.Bool.Decides.{nat_tests}
-use Rattle.sb_class.specs.Ranges.{Range}
-use Rattle.sb_lang.specs.Languages.{Language}
+use Rattle.std.proofs.lemmas.List.Elements.{All-push, All-nil}
+use Rattle.sb_word.specs.Words.{IsWord}
 use Rattle.sb_lang.specs.RegLan.{RegLan}
 use Rattle.sb_lang.specs.Membership.{in_re}
+use Rattle.sb_lang.specs.Regex.{Regex}
+use Rattle.sb_lang.specs.Language.{language}
+use Rattle.sb_lang.specs.Normal.{normal}
+use Rattle.sb_lang.specs.NormalLaws.{NormalHasTermsWords}
+use Rattle.sb_regex.specs.Numbered.{regex_at, AllNumbers, Extends}
 use Rattle.sb_meaning.specs.Terms.{Term, text}
 use Rattle.sb_meaning.specs.Values.{Valuation, Text, value_in}
 use Rattle.sb_meaning.specs.Truth.{means_reglan, meaning_of, holds}
 use Rattle.sb_meaning.specs.State.{Assertion, asserted, a_mark, terms_in, all_hold}
 use Rattle.sb_meaning.specs.Fragment.{is_inside, are_inside, about, is_about, words_for}
+use Rattle.sb_problem.specs.Normals.{IsRegexOf}
 use Rattle.sb_stack.specs.Kept.{values_from}
-use Rattle.sb_session.specs.Deciding.{AreFirst, IsRegexFrom, IsLimit, IsMeet, IsNarrowed, IsSofar, membership_of, limit_at, word_at}
-use Rattle.sb_session.proofs.FirstCharacters.{front_true, back_true, both_true, same_first, meet_first}
-
-and_true : (b : Bool) → (b && true) ≡ b
-and_true false = refl
-and_true true = refl
+use Rattle.sb_session.specs.Deciding.{IsPut, IsSofar, in_each, ids_at, membership_of, word_at}
+use Rattle.sb_session.proofs.Bools.{front_true, back_true, both_true, and_true, and_assoc}
+use Rattle.sb_session.proofs.Numbers.{names_at, names_below}
+use Rattle.sb_session.proofs.Conjunctions.{in_each-append, in_each_kept, known_kept}
 
 -- a membership is true where the constant's word is in the regular expression
 pub membership_holds : (v : Valuation) (serial : ℕ) (R : Term) (reglan : RegLan) (w : List ℕ) → meaning_of v R ≡ means_reglan reglan → value_in v serial text ≡ Text w → holds (membership_of serial R) v ≡ in_re reglan w
@@ -37,10 +41,6 @@ alone_value n w = let same : (n == n) ≡ true = eq-eqb n n refl in rw same refl
 all_hold-append : (ts us : List Term) (v : Valuation) → all_hold (ts ++ us) v ≡ (all_hold ts v && all_hold us v)
 all_hold-append [] us v = refl
 all_hold-append (t ∷ ts) us v = rw (all_hold-append ts us v) (and_assoc (holds t v) (all_hold ts v) (all_hold us v))
-  where
-    and_assoc : (a b c : Bool) → (a && (b && c)) ≡ ((a && b) && c)
-    and_assoc true b c = refl
-    and_assoc false b c = refl
 
 by_first : (b : Bool) (t : Term) (ts us all : List Term) → all ≡ ts ++ us → (if b then t ∷ all else all) ≡ (if b then t ∷ ts else ts) ++ us
 by_first true t ts us all e = ap (λ rest. t ∷ rest) e
@@ -74,47 +74,49 @@ one_other n serial R w e = let other : (n == serial) ≡ false = grind (arith, n
 pub inside-append : (done later : List Assertion) → are_inside (done ++ later) ≡ (are_inside done && are_inside later)
 inside-append [] later = refl
 inside-append (a ∷ done) later = rw (inside-append done later) (and_assoc (is_inside a) (are_inside done) (are_inside later))
-  where
-    and_assoc : (a b c : Bool) → (a && (b && c)) ≡ ((a && b) && c)
-    and_assoc true b c = refl
-    and_assoc false b c = refl
 
 terms-append : (done : List Assertion) (t : Term) → terms_in (done ++ asserted t ∷ []) ≡ terms_in done ++ t ∷ []
 terms-append [] t = refl
 terms-append (asserted u ∷ done) t = ap (λ rest. u ∷ rest) (terms-append done t)
 terms-append (a_mark ∷ done) t = terms-append done t
 
--- the limit of a language that is narrowed by another one
-meet_limit : (L M N : Language) (old : Option (List Range)) (class : List Range) (new : Option (List Range)) → IsLimit L old → AreFirst M class → IsMeet old class new → ((w : List ℕ) → N w ≡ (L w && M w)) → IsLimit N new
-meet_limit L M N None class (Some new) all f meet same = rw meet (same_first M N class (λ w. same w ∙ ap (λ b. b && M w) (all w)) f)
-meet_limit L M N (Some old) class (Some new) g f meet same = same_first (λ w. L w && M w) N new same (meet_first L M old class new g f meet)
-meet_limit L M N None class None l f meet same = absurd meet
-meet_limit L M N (Some old) class None l f meet same = absurd meet
+-- the regex of the membership has its words
+member_language : NormalHasTermsWords → (rs : List Regex) (R : Term) (id : ℕ) (r : IsRegexOf rs R id) (w : List ℕ) → IsWord w → language (regex_at rs id) w ≡ in_re r.reglan w
+member_language law rs R id r w c = ap (λ x. language x w) (names_at rs id (normal r.reglan) r.names) ∙ law r.reglan w c
 
-same_limit : (L N : Language) (limit : Option (List Range)) → ((w : List ℕ) → N w ≡ L w) → IsLimit L limit → IsLimit N limit
-same_limit L N None same all = λ w. same w ∙ all w
-same_limit L N (Some class) same f = same_first L N class same f
-
--- what is known after one more membership, over the terms
-one_more : (ts : List Term) (serial : ℕ) (R : Term) (class : List Range) (limits new : List (Option (List Range))) → IsRegexFrom R class → IsNarrowed limits new serial class → ((n : ℕ) → IsLimit (words_for n ts) (limit_at limits n)) → (n : ℕ) → IsLimit (words_for n (ts ++ membership_of serial R ∷ [])) (limit_at new n)
-one_more ts serial R class limits new r narrowed limit n = by_test (n == serial) refl
+-- the words of each constant after one more membership
+one_more : NormalHasTermsWords → (rs : List Regex) (ts : List Term) (serial : ℕ) (R : Term) (id : ℕ) (found new : List (List ℕ)) → IsRegexOf rs R id → IsPut found new serial id
+    → ((n : ℕ) (w : List ℕ) → IsWord w → words_for n ts w ≡ in_each rs (ids_at found n) w)
+    → (n : ℕ) (w : List ℕ) → IsWord w → words_for n (ts ++ membership_of serial R ∷ []) w ≡ in_each rs (ids_at new n) w
+one_more law rs ts serial R id found new r put words n w c = by_test (n == serial) refl
   where
-    by_test : (b : Bool) → (n == serial) ≡ b → IsLimit (words_for n (ts ++ membership_of serial R ∷ [])) (limit_at new n)
+    by_test : (b : Bool) → (n == serial) ≡ b → words_for n (ts ++ membership_of serial R ∷ []) w ≡ in_each rs (ids_at new n) w
     by_test true h =
         let e : n ≡ serial = eqb-true n serial h in
-        meet_limit (words_for n ts) (in_re r.reglan) (words_for n (ts ++ membership_of serial R ∷ [])) (limit_at limits n) class (limit_at new n) (limit n) r.first
-        (rw e narrowed.there)
-        (λ w. words-append n ts (membership_of serial R ∷ []) w ∙ ap (λ b. words_for n ts w && b) (one_same n serial R r.reglan w r.means e))
+        words-append n ts (membership_of serial R ∷ []) w
+        ∙ (ap (λ b. b && words_for n (membership_of serial R ∷ []) w) (words n w c)
+        ∙ (ap (λ b. in_each rs (ids_at found n) w && b) (one_same n serial R r.reglan w r.means e ∙ sym (member_language law rs R id r w c))
+        ∙ (sym (in_each-append rs (ids_at found n) id w)
+        ∙ ap (λ ids. in_each rs ids w) (ap (λ m. ids_at found m ++ id ∷ []) e ∙ (sym put.there ∙ ap (ids_at new) (sym e))))))
     by_test false h =
         let e : n ≢ serial = eqb-false n serial h in
-        rw (narrowed.others n e) (same_limit (words_for n ts) (words_for n (ts ++ membership_of serial R ∷ [])) (limit_at limits n)
-        (λ w. words-append n ts (membership_of serial R ∷ []) w ∙ (ap (λ b. words_for n ts w && b) (one_other n serial R w e) ∙ and_true (words_for n ts w)))
-        (limit n))
+        words-append n ts (membership_of serial R ∷ []) w
+        ∙ (ap (λ b. words_for n ts w && b) (one_other n serial R w e)
+        ∙ (and_true (words_for n ts w) ∙ (words n w c ∙ ap (λ ids. in_each rs ids w) (sym (put.others n e)))))
 
-one_apart : (ts : List Term) (serial : ℕ) (R : Term) (class : List Range) → IsRegexFrom R class
+one_known : (rs : List Regex) (serial : ℕ) (R : Term) (id : ℕ) (found new : List (List ℕ)) → IsRegexOf rs R id → IsPut found new serial id → ((n : ℕ) → AllNumbers rs (ids_at found n)) → (n : ℕ) → AllNumbers rs (ids_at new n)
+one_known rs serial R id found new r put known n = by_test (n == serial) refl
+  where
+    by_test : (b : Bool) → (n == serial) ≡ b → AllNumbers rs (ids_at new n)
+    by_test true h =
+        let e : n ≡ serial = eqb-true n serial h in
+        rw (e, put.there) (All-push (λ i. i < length rs) (ids_at found serial) id (known serial) (names_below rs id (normal r.reglan) r.names))
+    by_test false h = rw (put.others n (eqb-false n serial h)) (known n)
+
+one_apart : (rs : List Regex) (ts : List Term) (serial : ℕ) (R : Term) (id : ℕ) → IsRegexOf rs R id
     → ((words : List (List ℕ)) (n : ℕ) → all_hold ts (values_from 0 words) ≡ true → words_for n ts (word_at words n) ≡ true)
     → (words : List (List ℕ)) (n : ℕ) → all_hold (ts ++ membership_of serial R ∷ []) (values_from 0 words) ≡ true → words_for n (ts ++ membership_of serial R ∷ []) (word_at words n) ≡ true
-one_apart ts serial R class r apart words n h = words-append n ts (membership_of serial R ∷ []) (word_at words n) ∙ both_true (words_for n ts (word_at words n)) (words_for n (membership_of serial R ∷ []) (word_at words n)) (apart words n before) (by_test (n == serial) refl)
+one_apart rs ts serial R id r apart words n h = words-append n ts (membership_of serial R ∷ []) (word_at words n) ∙ both_true (words_for n ts (word_at words n)) (words_for n (membership_of serial R ∷ []) (word_at words n)) (apart words n before) (by_test (n == serial) refl)
   where
     parts : (all_hold ts (values_from 0 words) && all_hold (membership_of serial R ∷ []) (values_from 0 words)) ≡ true
     parts = sym (all_hold-append ts (membership_of serial R ∷ []) (values_from 0 words)) ∙ h
@@ -133,10 +135,10 @@ one_apart ts serial R class r apart words n h = words-append n ts (membership_of
         one_same n serial R r.reglan (word_at words n) r.means e ∙ (ap (λ m. in_re r.reglan (word_at words m)) e ∙ last)
     by_test false k = one_other n serial R (word_at words n) (eqb-false n serial k)
 
-one_together : (ts : List Term) (serial : ℕ) (R : Term) (class : List Range) → IsRegexFrom R class
+one_together : (rs : List Regex) (ts : List Term) (serial : ℕ) (R : Term) (id : ℕ) → IsRegexOf rs R id
     → ((words : List (List ℕ)) → ((n : ℕ) → words_for n ts (word_at words n) ≡ true) → all_hold ts (values_from 0 words) ≡ true)
     → (words : List (List ℕ)) → ((n : ℕ) → words_for n (ts ++ membership_of serial R ∷ []) (word_at words n) ≡ true) → all_hold (ts ++ membership_of serial R ∷ []) (values_from 0 words) ≡ true
-one_together ts serial R class r together words h =
+one_together rs ts serial R id r together words h =
     all_hold-append ts (membership_of serial R ∷ []) (values_from 0 words)
     ∙ both_true (all_hold ts (values_from 0 words)) (all_hold (membership_of serial R ∷ []) (values_from 0 words))
     (together words (λ n. front_true (words_for n ts (word_at words n)) (words_for n (membership_of serial R ∷ []) (word_at words n)) (parts n)))
@@ -148,11 +150,34 @@ one_together ts serial R class r together words h =
     parts : (n : ℕ) → (words_for n ts (word_at words n) && words_for n (membership_of serial R ∷ []) (word_at words n)) ≡ true
     parts n = sym (words-append n ts (membership_of serial R ∷ []) (word_at words n)) ∙ h n
 
-pub sofar_more : (count : ℕ) (done : List Assertion) (serial : ℕ) (R : Term) (class : List Range) (limits new : List (Option (List Range))) → IsSofar count done limits → IsRegexFrom R class → IsNarrowed limits new serial class → IsSofar count (done ++ asserted (membership_of serial R) ∷ []) new
-sofar_more count done serial R class limits new s r narrowed = record {
+pub sofar_more : NormalHasTermsWords → (rs : List Regex) (count : ℕ) (done : List Assertion) (serial : ℕ) (R : Term) (id : ℕ) (found new : List (List ℕ)) → IsSofar rs count done found → IsRegexOf rs R id → IsPut found new serial id → IsSofar rs count (done ++ asserted (membership_of serial R) ∷ []) new
+sofar_more law rs count done serial R id found new s r put = record {
   inside = inside-append done (asserted (membership_of serial R) ∷ []) ∙ both_true (are_inside done) (are_inside (asserted (membership_of serial R) ∷ [])) s.inside (rw r.kind refl);
-  same_length = narrowed.same_length ∙ s.same_length;
-  limit = rw (terms-append done (membership_of serial R)) (one_more (terms_in done) serial R class limits new r narrowed s.limit);
-  apart = rw (terms-append done (membership_of serial R)) (one_apart (terms_in done) serial R class r s.apart);
-  together = rw (terms-append done (membership_of serial R)) (one_together (terms_in done) serial R class r s.together);
+  same_length = put.same_length ∙ s.same_length;
+  known = one_known rs serial R id found new r put s.known;
+  words = rw (terms-append done (membership_of serial R)) (one_more law rs (terms_in done) serial R id found new r put s.words);
+  apart = rw (terms-append done (membership_of serial R)) (one_apart rs (terms_in done) serial R id r s.apart);
+  together = rw (terms-append done (membership_of serial R)) (one_together rs (terms_in done) serial R id r s.together);
+}
+
+-- what is known stays as the arena grows
+pub sofar_kept : (old new : List Regex) (count : ℕ) (done : List Assertion) (found : List (List ℕ)) → Extends old new → IsSofar old count done found → IsSofar new count done found
+sofar_kept old new count done found e s = record {
+  inside = s.inside;
+  same_length = s.same_length;
+  known = λ n. known_kept old new (ids_at found n) e (s.known n);
+  words = λ n w c. s.words n w c ∙ sym (in_each_kept old new (ids_at found n) w e (s.known n));
+  apart = s.apart;
+  together = s.together;
+}
+
+-- nothing is known of constants without memberships
+pub sofar_none : (rs : List Regex) (count : ℕ) (found : List (List ℕ)) → length found ≡ count → ((n : ℕ) → ids_at found n ≡ []) → IsSofar rs count [] found
+sofar_none rs count found long none = record {
+  inside = refl;
+  same_length = long;
+  known = λ n. rw (none n) (All-nil (λ i. i < length rs));
+  words = λ n w c. rw (none n) refl;
+  apart = λ words n h. refl;
+  together = λ words h. refl;
 }

@@ -1,5 +1,5 @@
 -- Terms by their shape, as the code takes them apart.
-use Rattle.std.proofs.Common.{◌≡◌, ℕ, ◌≤◌, ◌<◌, false, List, [], ◌∷◌, length, get_or, refl, sym, ap, ◌∙◌, arith}
+use Rattle.std.proofs.Common.{◌≡◌, ◌≤◌, ◌<◌, false, List, [], ◌∷◌, length, get_or, refl, sym, ap, ◌∙◌, arith}
 use Rattle.std.specs.declared.vec.Vec.{Vec}
 use Rattle.std.specs.declared.alloc.Global.{Global}
 use Rattle.sb_sorts.specs.declared.sort.Symbol.{Symbol}
@@ -11,9 +11,9 @@ use Rattle.sb_sorts.specs.Terms as specs
 use Rattle.sb_stack.specs.declared.stack.Assertion.{Assertion}
 use Rattle.sb_stack.specs.declared.stack.Assertion.TheVariants as assertion
 use Rattle.sb_stack.specs.Kept.{assertion_in}
-use Rattle.sb_meaning.specs.Terms.{Term, Terms, word, apply, no_terms, with_term, str_in_re, re_range, re_plus}
+use Rattle.sb_meaning.specs.Terms.{Term, Terms, apply, no_terms, with_term, str_in_re}
 use Rattle.sb_meaning.specs.State.{asserted}
-use Rattle.sb_meaning.specs.Fragment.{is_regex, is_membership}
+use Rattle.sb_meaning.specs.Fragment.{is_membership}
 use Rattle.sb_session.specs.Deciding.{listed, membership_of}
 
 terms_of_row : (m : _) (row : Row_of-Term m) → specs.terms_in row ≡ listed (items-the_row-Term m row)
@@ -71,54 +71,3 @@ not_constant (x ∷ xs) a low first h = ap (λ y. is_membership (apply str_in_re
 pub constant_first : (xs : List code.Term) (a b : code.Term) (serial : Serial) → 2 ≤ length xs → length xs < 3 → a ≡ get_or xs 0 a → b ≡ get_or xs 1 b → a ≡ code.Constant serial → apply str_in_re (listed xs) ≡ membership_of serial.0 (term_in b)
 constant_first xs a b serial low high first second is =
     ap (apply str_in_re) (listed_two xs a b low high first second) ∙ ap (λ y. apply str_in_re (with_term (term_in y) (with_term (term_in b) no_terms))) is
-
--- one or more has one argument
-pub not_one_argument : (xs : List code.Term) → (length xs ≡ 1 → ⊥) → is_regex (apply re_plus (listed xs)) ≡ false
-not_one_argument [] h = refl
-not_one_argument (a ∷ []) h = absurd (h refl)
-not_one_argument (a ∷ b ∷ xs) h = refl
-
--- a range has two, and both are words
-range_of_no_word : (a : code.Term) (ts : Terms) → ((w : List ℕ) → a ≡ code.Word w → ⊥) → is_regex (apply re_range (with_term (term_in a) ts)) ≡ false
-range_of_no_word (code.Constant serial) ts h = refl
-range_of_no_word (code.Word w) ts h = absurd (h w refl)
-range_of_no_word (code.Apply' s shape all) ts h = refl
-
-range_to_no_word : (w : List ℕ) (b : code.Term) → ((v : List ℕ) → b ≡ code.Word v → ⊥) → is_regex (apply re_range (with_term (word w) (with_term (term_in b) no_terms))) ≡ false
-range_to_no_word w (code.Constant serial) h = refl
-range_to_no_word w (code.Word v) h = absurd (h v refl)
-range_to_no_word w (code.Apply' s shape all) h = refl
-
-range_of_one : (a : code.Term) → is_regex (apply re_range (with_term (term_in a) no_terms)) ≡ false
-range_of_one (code.Constant serial) = refl
-range_of_one (code.Word w) = refl
-range_of_one (code.Apply' s shape all) = refl
-
-range_of_more : (a b : code.Term) (t : Term) (ts : Terms) → is_regex (apply re_range (with_term (term_in a) (with_term (term_in b) (with_term t ts)))) ≡ false
-range_of_more (code.Constant serial) b t ts = refl
-range_of_more (code.Word w) (code.Constant serial) t ts = refl
-range_of_more (code.Word w) (code.Word v) t ts = refl
-range_of_more (code.Word w) (code.Apply' s shape all) t ts = refl
-range_of_more (code.Apply' s shape all) b t ts = refl
-
-pub range_not_two : (xs : List code.Term) → (length xs ≡ 2 → ⊥) → is_regex (apply re_range (listed xs)) ≡ false
-range_not_two [] h = refl
-range_not_two (a ∷ []) h = range_of_one a
-range_not_two (a ∷ b ∷ []) h = absurd (h refl)
-range_not_two (a ∷ b ∷ d ∷ xs) h = range_of_more a b (term_in d) (listed xs)
-
-pub range_first_no_word : (xs : List code.Term) (a : code.Term) → 1 ≤ length xs → a ≡ get_or xs 0 a → ((w : List ℕ) → a ≡ code.Word w → ⊥) → is_regex (apply re_range (listed xs)) ≡ false
-range_first_no_word [] a low first h = absurd (omega arith)
-range_first_no_word (x ∷ xs) a low first h = ap (λ y. is_regex (apply re_range (with_term (term_in y) (listed xs)))) (sym first) ∙ range_of_no_word a (listed xs) h
-
-pub range_second_no_word : (xs : List code.Term) (a b : code.Term) (w : List ℕ) → 2 ≤ length xs → length xs < 3 → a ≡ get_or xs 0 a → b ≡ get_or xs 1 b → a ≡ code.Word w → ((v : List ℕ) → b ≡ code.Word v → ⊥) → is_regex (apply re_range (listed xs)) ≡ false
-range_second_no_word xs a b w low high first second is h =
-    ap (λ ts. is_regex (apply re_range ts)) (listed_two xs a b low high first second)
-    ∙ ap (λ y. is_regex (apply re_range (with_term (term_in y) (with_term (term_in b) no_terms)))) is
-    ∙ range_to_no_word w b h
-
-pub range_between : (xs : List code.Term) (a b : code.Term) (w v : List ℕ) → 2 ≤ length xs → length xs < 3 → a ≡ get_or xs 0 a → b ≡ get_or xs 1 b → a ≡ code.Word w → b ≡ code.Word v → listed xs ≡ with_term (word w) (with_term (word v) no_terms)
-range_between xs a b w v low high first second is is' =
-    listed_two xs a b low high first second
-    ∙ ap (λ y. with_term (term_in y) (with_term (term_in b) no_terms)) is
-    ∙ ap (λ y. with_term (word w) (with_term (term_in y) no_terms)) is'

@@ -1,52 +1,104 @@
-//! Deciding a check: the characters that each constant may begin with.
+//! Deciding a check: what the regexes of each constant's memberships have in common, explored.
 //!
-//! A regular expression that is read is a range of characters, or one or more of them. So a constant in
-//! several of them has a word exactly where one character is in all their ranges, and the least such
-//! character is its shortest word, the least among the shortest.
+//! A constant's memberships are true of one word exactly where the intersection of their regexes has a word, and the word
+//! that exploring the intersection finds is the one that a model gives.
 
-ghost use Rattle.std.specs.Prelude.{◌≡◌, ◌≢◌, ℕ, ◌<◌, ◌≤◌, [], ◌∷◌, length, false, IfOk, OnOk, MatchOption};
-ghost use Rattle.sb_lang.specs.Membership.{between};
-ghost use Rattle.sb_meaning.specs.Fragment.{is_inside};
+ghost use Rattle.std.specs.Prelude.{◌≡◌, ℕ, ◌<◌, [], ◌∷◌, length, map, true, false, IfOk, OnOk, MatchOption};
+ghost use Rattle.sb_regex.specs.Numbered.{AllNumbers, Extends};
+ghost use Rattle.sb_graph.specs.Findings.{IsGraph};
+ghost use Rattle.sb_meaning.specs.Fragment.{is_inside, are_inside};
 ghost use Rattle.sb_meaning.specs.State.{asserted};
-ghost use Rattle.sb_meaning.specs.Terms.{apply, re_range};
 ghost use Rattle.sb_meaning.specs.Replies.{IsVerdict};
-ghost use Rattle.sb_session.specs.Deciding.{AreFirst, IsFirstOf, IsNarrowed, HasCharacters, HasNoWord, IsLeastWord, AreBest, IsSofar, listed, membership_of, limit_at};
+ghost use Rattle.sb_session.specs.Deciding.{in_each, ids_at, membership_of, IsPut, IsSofar, IsLeastOf, AreBest};
 ghost use Rattle.sb_sorts.specs.Terms.{term_in};
-ghost use Rattle.sb_stack.specs.Kept.{state_of, assertion_in};
+ghost use Rattle.sb_stack.specs.Kept.{state_of, assertion_in, have_serials_below};
 ghost use Rattle.sb_stack.specs.Steps.{verdict_in};
-ghost use Rattle.sb_word.specs.Words.{IsWord};
 
-use sb_class::Class;
+use crate::conjuncts::Conjuncts;
+use sb_graph::{Explored, Graph, graph_stays};
+use sb_lang::constructors::{intersection_is_of_each, mkand_keeps_language};
+use sb_lang::normal::normal_has_terms_words;
+use sb_problem::normal;
+use sb_regex::{Arena, RegexId};
 use sb_sorts::{Serial, Symbol, Term};
 use sb_stack::{Assertion, Stack, Verdict};
-use sb_word::{CodesError, Word};
+use sb_word::Word;
 use std::alloc::{AllocError, Global};
+use std::marker::Model;
 
-/// What a check of the live assertions finds. Linear in the assertions and the constants: what ranges have in
-/// common is one range at most. `AllocError` only for want of memory.
-pub(crate) fn decide(alloc: Global, stack: &Stack) -> Result<Verdict, AllocError>
-    ensures { IfOk result (λ verdict. IsVerdict (state_of stack.now) (verdict_in verdict)) }
-{
-    let mut found = unlimited(alloc, stack.declared())?;
-    for assertion in stack.assertions() {
-        let Some((serial, regex)) = membership(assertion) else {
-            return Ok(Verdict::Outside);
-        };
-        let Some(class) = first_characters(alloc, regex)? else {
-            return Ok(Verdict::Outside);
-        };
-        narrow(&mut found, serial, class)?;
-    }
-    least_words(alloc, &found)
+/// The regexes that checks have met, and what was found out of them, which stays true from one check to the next.
+#[derive(Drop)]
+pub(crate) struct Regexes {
+    arena: Arena,
+    graph: Graph,
 }
 
-/// No limit yet for each of so many constants.
-fn unlimited(alloc: Global, count: usize) -> Result<Vec<Option<Class>>, AllocError>
-    ensures { IfOk result (λ found. IsSofar count [] found.items) }
+impl Model for Regexes {
+    ghost use Rattle.sb_graph.specs.Findings.{IsGraph};
+
+    ghost Value = { Unit {0} };
+
+    ghost view = { λ regexes. tt };
+
+    ghost invariant = { λ regexes. IsGraph regexes.arena regexes.graph };
+}
+
+impl Regexes {
+    /// No regexes. Takes no memory.
+    pub(crate) fn new(alloc: Global) -> Regexes {
+        Regexes {
+            arena: Arena::new(alloc),
+            graph: Graph::new(alloc),
+        }
+    }
+
+    /// What a check of the live assertions finds. Linear in the assertions, the constants and what is explored; a regex
+    /// that was explored before is not expanded again. `AllocError` only for want of memory.
+    pub(crate) fn decide(&mut self, alloc: Global, stack: &Stack) -> Result<Verdict, AllocError>
+        ensures { IfOk result (λ verdict. IsVerdict (state_of stack.now) (verdict_in verdict)) }
+    {
+        graph_stays();
+        let assertions = stack.assertions();
+        let count = stack.declared();
+        let Some(found) = memberships(alloc, &mut self.arena, assertions, count)? else {
+            return Ok(Verdict::Outside);
+        };
+        least_words(alloc, &mut self.arena, &mut self.graph, &found)
+    }
+}
+
+/// By serial the regexes of the memberships of each of so many constants, `None` where an assertion is none that is decided.
+fn memberships(
+    alloc: Global,
+    arena: &mut Arena,
+    assertions: &[Assertion],
+    count: usize,
+) -> Result<Option<Vec<Conjuncts>>, AllocError>
+    requires { have_serials_below count assertions.now ≡ true }
+    ensures found { IfOk result (λ found. MatchOption found (are_inside (map assertion_in assertions.now) ≡ false) (λ found. IsSofar arena.new count (map assertion_in assertions.now) found.items)) }
+    ensures extends { Extends arena.old arena.new }
+{
+    normal_has_terms_words();
+    let mut found = without_conjuncts(alloc, count)?;
+    for assertion in assertions {
+        let Some((serial, regex)) = membership(assertion) else {
+            return Ok(None);
+        };
+        let Some(id) = normal(alloc, arena, regex)? else {
+            return Ok(None);
+        };
+        put(&mut found, serial, id)?;
+    }
+    Ok(Some(found))
+}
+
+/// No regexes yet for each of so many constants.
+fn without_conjuncts(alloc: Global, count: usize) -> Result<Vec<Conjuncts>, AllocError>
+    ensures { IfOk result (λ found. (length found.items ≡ count) × ((n : ℕ) → ids_at found.items n ≡ [])) }
 {
     let mut found = Vec::new(alloc);
     for _ in 0..count {
-        found.push(None)?;
+        found.push(Conjuncts::new(alloc))?;
     }
     Ok(found)
 }
@@ -73,89 +125,30 @@ fn membership(assertion: &Assertion) -> Option<(Serial, &Term)>
     Some((*serial, regex))
 }
 
-/// The characters with which the words of a regular expression begin: each of them is such a word. `None` where it is
-/// of another kind.
-fn first_characters(alloc: Global, regex: &Term) -> Result<Option<Class>, AllocError>
-    ensures { IfOk result (λ found. IsFirstOf (term_in regex.now) found) }
-{
-    let Term::Apply(symbol, arguments) = regex else {
-        return Ok(None);
-    };
-    match symbol {
-        Symbol::Plus => {
-            let [repeated] = arguments.as_slice() else {
-                return Ok(None);
-            };
-            first_characters(alloc, repeated)
-        }
-        Symbol::Range => first_of_range(alloc, arguments),
-        Symbol::InRe => Ok(None),
-    }
-}
-
-/// The characters of the range between two literals, `None` where the arguments are others.
-fn first_of_range(alloc: Global, arguments: &[Term]) -> Result<Option<Class>, AllocError>
-    ensures { IfOk result (λ found. IsFirstOf (apply re_range (listed arguments.now)) found) }
-{
-    let [from, to] = arguments else {
-        return Ok(None);
-    };
-    let Term::Word(from) = from else {
-        return Ok(None);
-    };
-    let Term::Word(to) = to else {
-        return Ok(None);
-    };
-    Ok(Some(between(alloc, from.codes(), to.codes())?))
-}
-
-/// The characters from that of the first word to that of the second, where both have one.
-fn between(alloc: Global, from: &[u32], to: &[u32]) -> Result<Class, AllocError>
-    requires { IsWord to.now }
-    ensures { IfOk result (λ class. AreFirst (between from.now to.now) class) }
-{
-    let (Some(lo), Some(hi)) = (only(from), only(to)) else {
-        return Ok(Class::empty(alloc));
-    };
-    if lo <= hi {
-        Class::range(alloc, lo, hi)
-    } else {
-        Ok(Class::empty(alloc))
-    }
-}
-
-/// The character of a word of one, `None` where the word has another length.
-fn only(word: &[u32]) -> Option<u32>
-    ensures { MatchOption result (length word.now ≢ 1) (λ c. word.now ≡ c ∷ []) }
-{
-    match word {
-        [code] => Some(*code),
-        _ => None,
-    }
-}
-
 /// Takes one more membership of a constant into account.
-fn narrow(found: &mut [Option<Class>], serial: Serial, class: Class) -> Result<(), AllocError>
+fn put(found: &mut [Conjuncts], serial: Serial, id: RegexId) -> Result<(), AllocError>
     requires { serial.0 < length found.old }
-    ensures { OnOk result (IsNarrowed found.old found.new serial.0 class) }
+    ensures { OnOk result (IsPut found.old found.new serial.0 id) }
 {
-    let limit = &mut found[serial.0 as usize];
-    let narrowed = match limit {
-        None => class,
-        Some(old) => old.inter(&class)?,
-    };
-    *limit = Some(narrowed);
-    Ok(())
+    let conjuncts = &mut found[serial.0 as usize];
+    conjuncts.push(id)
 }
 
 /// The least word of each constant, where each has one.
-fn least_words(alloc: Global, found: &[Option<Class>]) -> Result<Verdict, AllocError>
-    requires { (n : ℕ) → HasCharacters (limit_at found.now n) }
-    ensures { IfOk result (λ verdict. AreBest found.now verdict) }
+fn least_words(
+    alloc: Global,
+    arena: &mut Arena,
+    graph: &mut Graph,
+    found: &[Conjuncts],
+) -> Result<Verdict, AllocError>
+    requires known { (n : ℕ) → AllNumbers arena.old (ids_at found.now n) }
+    requires graph { IsGraph arena.old graph.old }
+    ensures best { IfOk result (λ verdict. AreBest arena.old found.now verdict) }
+    ensures graph { IsGraph arena.new graph.new }
 {
     let mut words = Vec::new(alloc);
-    for limit in found {
-        let Some(word) = least_word(alloc, limit)? else {
+    for conjuncts in found {
+        let Some(word) = least_word(arena, graph, conjuncts.ids())? else {
             return Ok(Verdict::Unsat);
         };
         words.push(word)?;
@@ -163,28 +156,24 @@ fn least_words(alloc: Global, found: &[Option<Class>]) -> Result<Verdict, AllocE
     Ok(Verdict::Sat(words))
 }
 
-/// The least word within a limit, `None` where there is none.
-fn least_word(alloc: Global, limit: &Option<Class>) -> Result<Option<Word>, AllocError>
-    requires { HasCharacters limit.now }
-    ensures { IfOk result (λ found. MatchOption found (HasNoWord limit.now) (λ word. IsLeastWord limit.now word × IsWord word)) }
+/// The shortest word that all the regexes have, the least by code points among the shortest; `None` where there is none.
+fn least_word(
+    arena: &mut Arena,
+    graph: &mut Graph,
+    ids: &[RegexId],
+) -> Result<Option<Word>, AllocError>
+    requires known { AllNumbers arena.old ids.now }
+    requires graph { IsGraph arena.old graph.old }
+    ensures least { IfOk result (λ found. IsLeastOf (in_each arena.old ids.now) found) }
+    ensures extends { Extends arena.old arena.new }
+    ensures graph { IsGraph arena.new graph.new }
 {
-    let Some(class) = limit else {
-        return Ok(Some(word_of(alloc, &[])?));
-    };
-    let Some(least) = class.least() else {
-        return Ok(None);
-    };
-    Ok(Some(word_of(alloc, &[least])?))
-}
-
-/// The word of these characters.
-fn word_of(alloc: Global, codes: &[u32]) -> Result<Word, AllocError>
-    requires { IsWord codes.now }
-    ensures { IfOk result (λ word. word ≡ codes.now) }
-{
-    match Word::from_codes(alloc, codes) {
-        Ok(word) => Ok(word),
-        Err(CodesError::NoMemory) => Err(AllocError),
-        Err(CodesError::NotACharacter(_)) => unreachable!(),
+    graph_stays();
+    mkand_keeps_language();
+    intersection_is_of_each();
+    let root = arena.and(ids)?;
+    match graph.explore(arena, root)? {
+        Explored::Alive(word) => Ok(Some(word)),
+        Explored::Dead => Ok(None),
     }
 }

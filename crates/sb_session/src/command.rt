@@ -7,7 +7,7 @@ ghost use Rattle.sb_stack.specs.Kept.{state_of};
 ghost use Rattle.sb_stack.specs.Steps.{IsEntry, entry_of};
 ghost use Rattle.sb_session.specs.Commanding.{Goes, Fails, Answers, CutOrNot, went_of, CountsSessionFault};
 
-use crate::check::decide;
+use crate::check::Regexes;
 use sb_reader::Next;
 use sb_stack::{Stack, Step};
 use sb_world::{OutPort, World, WorldError, write_all};
@@ -65,6 +65,7 @@ impl From<WorldError> for SessionFault {
 pub struct Session {
     alloc: Global,
     stack: Stack,
+    regexes: Regexes,
     ended: bool,
 }
 
@@ -89,13 +90,14 @@ impl Session {
         Session {
             alloc,
             stack: Stack::new(alloc),
+            regexes: Regexes::new(alloc),
             ended: false,
         }
     }
 
     /// Answers the next entry of the script, whole, before it returns. `Ended` exactly where an earlier entry was
     /// `(exit)` or was not answered; `Fault` only where the world's count of faults rose. Linear in the entry and the
-    /// answer, and for a check in the live assertions.
+    /// answer, and for a check in the live assertions and in what they make it explore.
     pub fn command<W: World>(&mut self, entry: &Next, world: &mut W) -> Result<Went, SessionFault>
         requires { IsEntry entry.now }
         ensures ok { IfOk result (λ went. Goes went (entry_of entry.now) self.old self.new (W.outside world.old) (W.outside world.new)) }
@@ -106,7 +108,7 @@ impl Session {
             return Err(SessionFault::Ended);
         }
         self.ended = true;
-        let went = answer_entry(self.alloc, &mut self.stack, entry, world)?;
+        let went = answer_entry(self.alloc, &mut self.stack, &mut self.regexes, entry, world)?;
         self.ended = matches!(went, Went::Exited);
         Ok(went)
     }
@@ -116,6 +118,7 @@ impl Session {
 fn answer_entry<W: World>(
     alloc: Global,
     stack: &mut Stack,
+    regexes: &mut Regexes,
     entry: &Next,
     world: &mut W,
 ) -> Result<Went, WorldError>
@@ -130,7 +133,7 @@ fn answer_entry<W: World>(
             Ok(Went::Go)
         }
         Step::Check => {
-            let verdict = decide(alloc, stack)?;
+            let verdict = regexes.decide(alloc, stack)?;
             write_all(world, OutPort::Answers, stack.settle(verdict))?;
             Ok(Went::Go)
         }

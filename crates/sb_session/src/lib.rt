@@ -7,6 +7,7 @@
 
 mod check;
 mod command;
+mod conjuncts;
 mod solve;
 #[cfg(test)]
 mod tests;

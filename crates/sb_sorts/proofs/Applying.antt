@@ -1,15 +1,12 @@
 -- Terms with the sorts that a symbol takes, and the term that it makes of them.
-use Rattle.std.proofs.Common.{◌≡◌, ℕ, Bool, true, false, ◌&&◌, if◌then◌else◌, ◌==◌, not, List, [], ◌∷◌, length, map, Ok, sym, refl, ap, ◌∙◌, arith, eq-eqb}
+use Rattle.std.proofs.Common.{◌≡◌, ◌≢◌, ℕ, Bool, true, ◌&&◌, List, [], ◌∷◌, length, map, sym, refl, ap, ◌∙◌, arith}
 use Rattle.std.specs.List.{list_all, zip}
 use Rattle.std.specs.declared.vec.Vec.{Vec}
 use Rattle.std.specs.declared.alloc.Global.{Global}
 use Rattle.std.proofs.lemmas.List.{length-map}
 use Rattle.sb_meaning.specs.Terms.{Kind, boolean, integer, text, reglan, Terms, no_terms, with_term}
 use Rattle.sb_meaning.specs.Terms as meaning
-use Rattle.sb_meaning.specs.Reading.{kind_of, is_kind, have_kinds, terms_of, applied_to}
-use Rattle.sb_meaning.specs.Symbols.{arguments_of}
-use Rattle.sb_sorts.specs.declared.head.Head.{Head}
-use Rattle.sb_sorts.specs.declared.head.Head.TheVariants.{Symbol as symbol_head}
+use Rattle.sb_meaning.specs.Reading.{kind_of, is_kind, have_kinds, terms_of, joined}
 use Rattle.sb_sorts.specs.declared.sort.Sort.{Sort}
 use Rattle.sb_sorts.specs.declared.sort.Symbol.{Symbol}
 use Rattle.sb_sorts.specs.declared.term.Term as code
@@ -17,7 +14,7 @@ use Rattle.sb_sorts.specs.declared.term.Term.{Row_of-Term, end_of-Term, more_of-
 use Rattle.sb_sorts.specs.Terms.{kind_in, symbol_in, term_in}
 use Rattle.sb_sorts.specs.Terms as specs
 use Rattle.sb_sorts.specs.Reads.{has_serials_below, have_serials_below}
-use Rattle.sb_sorts.specs.Heads.{terms_in, all_below, head_in}
+use Rattle.sb_sorts.specs.Heads.{terms_in, all_below}
 
 -- the test of a pair, as the loop has it
 abbrev pub fits : Sort × code.Term → Bool
@@ -44,15 +41,15 @@ below_all n (term ∷ terms) = ap (λ b. has_serials_below n (term_in term) && b
 pub symbol_below : (n : ℕ) (s : Symbol) (v : Vec code.Term Global) → all_below n v.items ≡ true → has_serials_below n (term_in (code.Apply s v)) ≡ true
 symbol_below n s v h = ap (has_serials_below n) (term_of_symbol s v) ∙ below_all n v.items ∙ h
 
-both_true : {A : Type 0} (count kinds : Bool) (miscounted unsorted made : A) → count ≡ true → kinds ≡ true → (if not count then miscounted else if kinds then made else unsorted) ≡ made
-both_true true true miscounted unsorted made c k = refl
-both_true true false miscounted unsorted made c k = cc
-both_true false kinds miscounted unsorted made c k = cc
+pub all_of_kind : (sort : Sort) (terms : List code.Term) → list_all (λ t. is_kind (kind_in sort) (kind_of (term_in t))) terms ≡ list_all (λ t. is_kind (kind_in sort) (kind_of t)) (terms_in terms)
+all_of_kind sort [] = refl
+all_of_kind sort (term ∷ terms) = ap (λ b. is_kind (kind_in sort) (kind_of (term_in term)) && b) (all_of_kind sort terms)
 
--- a symbol with the arguments that it takes
-pub applied : (head : Head) (s : Symbol) (v : Vec code.Term Global) (sorts : List Sort) → head ≡ symbol_head s → map kind_in sorts ≡ arguments_of (symbol_in s) → length sorts ≡ length v.items → have_kinds (map kind_in sorts) (terms_in v.items) ≡ true → applied_to (head_in head) (terms_in v.items) ≡ Ok (term_in (code.Apply s v))
-applied head s v sorts is takes count kinds =
-    let counted : length (arguments_of (symbol_in s)) ≡ length (terms_in v.items) = sym (ap length takes) ∙ length-map sorts kind_in ∙ count ∙ sym (length-map v.items term_in) in
-    ap (λ h. applied_to (head_in h) (terms_in v.items)) is
-    ∙ both_true (length (arguments_of (symbol_in s)) == length (terms_in v.items)) (have_kinds (arguments_of (symbol_in s)) (terms_in v.items)) _ _ _ (eq-eqb _ _ counted) (ap (λ ks. have_kinds ks (terms_in v.items)) (sym takes) ∙ kinds)
-    ∙ ap Ok (sym (term_of_symbol s v))
+joined_others : (s : meaning.Symbol) (ts : List meaning.Term) → length ts ≢ 1 → joined s ts ≡ meaning.apply s (terms_of ts)
+joined_others s [] h = refl
+joined_others s (t ∷ []) h = absurd (h refl)
+joined_others s (t ∷ u ∷ ts) h = refl
+
+-- a symbol with other than one argument
+pub joined_in_memory : (s : Symbol) (v : Vec code.Term Global) → length v.items ≢ 1 → term_in (code.Apply s v) ≡ joined (symbol_in s) (terms_in v.items)
+joined_in_memory s v h = term_of_symbol s v ∙ sym (joined_others (symbol_in s) (terms_in v.items) (λ e. h (sym (length-map v.items term_in) ∙ e)))

@@ -8,14 +8,17 @@ use Rattle.sb_sorts.specs.declared.head.Head.{Head}
 use Rattle.sb_sorts.specs.declared.head.Head.TheVariants as head
 use Rattle.sb_sorts.specs.declared.head.Front.{Front}
 use Rattle.sb_sorts.specs.declared.head.Front.TheVariants as front
+use Rattle.sb_sorts.specs.declared.apply.Arity.{Arity}
+use Rattle.sb_sorts.specs.declared.apply.Arity.TheVariants as arity
 use Rattle.sb_sorts.specs.declared.term.Term as code
 use Rattle.sb_meaning.specs.Names.{Name, is_name, is_reserved}
+use Rattle.sb_meaning.specs.Symbols as theory
 use Rattle.sb_meaning.specs.Symbols.{symbol_named, is_left_out}
 use Rattle.sb_meaning.specs.Scopes.{Naming}
 use Rattle.sb_meaning.specs.Terms.{Term, text}
 use Rattle.sb_meaning.specs.Reading as meaning
 use Rattle.sb_meaning.specs.Reading.{Fault, head_constant, head_symbol, unknown_symbol, wrong_sort, wrong_count, bad_index, unsupported, bad_literal, malformed, ◌>>=◌, read_head, read_index_list, read_list_head, read_reserved, is_binding, are_bindings}
-use Rattle.sb_sorts.specs.Terms.{symbol_in, term_in}
+use Rattle.sb_sorts.specs.Terms.{kind_in, symbol_in, term_in}
 use Rattle.sb_sorts.specs.Reads.{has_serials_below}
 
 abbrev pub forms_in : List Sexpr → Forms
@@ -25,6 +28,10 @@ forms_in (form ∷ forms) = more (form_of form) (forms_in forms)
 abbrev pub head_in : Head → meaning.Head
 head_in (head.Constant serial) = head_constant serial.0 text
 head_in (head.Symbol s) = head_symbol (symbol_in s)
+
+abbrev pub arity_in : Arity → theory.Arity
+arity_in (arity.OfEach sorts) = theory.of_each (map kind_in sorts.now)
+arity_in (arity.OneOrMore sort) = theory.one_or_more (kind_in sort)
 
 -- a constant that is the head has a serial below this
 abbrev pub head_below : ℕ → Head → Bool

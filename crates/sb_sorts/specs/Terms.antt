@@ -5,7 +5,7 @@ use Rattle.sb_sorts.specs.declared.sort.Symbol.{Symbol}
 use Rattle.sb_sorts.specs.declared.sort.Symbol.TheVariants as symbol
 use Rattle.sb_sorts.specs.declared.term.Term as code
 use Rattle.sb_sorts.specs.declared.term.Term.{Row_of-Term, end_of-Term, more_of-Term}
-use Rattle.sb_meaning.specs.Terms.{Kind, Term, Terms, boolean, integer, text, reglan, constant, word, apply, no_terms, with_term, str_in_re, re_range, re_plus}
+use Rattle.sb_meaning.specs.Terms.{Kind, Term, Terms, boolean, integer, text, reglan, constant, word, apply, no_terms, with_term, str_in_re, str_to_re, re_range, re_concat, re_union, re_star, re_plus}
 use Rattle.sb_meaning.specs.Terms as meaning
 
 abbrev pub kind_in : Sort → Kind
@@ -16,7 +16,11 @@ kind_in sort.RegLan = reglan
 
 abbrev pub symbol_in : Symbol → meaning.Symbol
 symbol_in symbol.InRe = str_in_re
+symbol_in symbol.ToRe = str_to_re
 symbol_in symbol.Range = re_range
+symbol_in symbol.Concat = re_concat
+symbol_in symbol.Union = re_union
+symbol_in symbol.Star = re_star
 symbol_in symbol.Plus = re_plus
 
 -- the term that the code keeps, as a tree

@@ -54,7 +54,7 @@ const WORDS_OF_SCRIPTS: [&[u8]; 38] = [
 ];
 
 /// The names of the theories that are not read.
-const LEFT_OUT: [&[u8]; 55] = [
+const LEFT_OUT: [&[u8]; 51] = [
     b"true",
     b"false",
     b"not",
@@ -77,7 +77,6 @@ const LEFT_OUT: [&[u8]; 55] = [
     b"abs",
     b"str.++",
     b"str.len",
-    b"str.to_re",
     b"str.<",
     b"str.<=",
     b"str.at",
@@ -98,11 +97,8 @@ const LEFT_OUT: [&[u8]; 55] = [
     b"re.none",
     b"re.all",
     b"re.allchar",
-    b"re.++",
-    b"re.union",
     b"re.inter",
     b"re.diff",
-    b"re.*",
     b"re.opt",
     b"re.comp",
     b"re.^",
@@ -139,8 +135,16 @@ pub(crate) fn symbol_named(name: &[u8]) -> Option<Symbol>
 {
     if name == b"str.in_re".as_slice() {
         Some(Symbol::InRe)
+    } else if name == b"str.to_re".as_slice() {
+        Some(Symbol::ToRe)
     } else if name == b"re.range".as_slice() {
         Some(Symbol::Range)
+    } else if name == b"re.++".as_slice() {
+        Some(Symbol::Concat)
+    } else if name == b"re.union".as_slice() {
+        Some(Symbol::Union)
+    } else if name == b"re.*".as_slice() {
+        Some(Symbol::Star)
     } else if name == b"re.+".as_slice() {
         Some(Symbol::Plus)
     } else {

@@ -14,8 +14,16 @@ pub enum Sort {
 pub enum Symbol {
     /// `str.in_re`
     InRe,
+    /// `str.to_re`
+    ToRe,
     /// `re.range`
     Range,
+    /// `re.++`
+    Concat,
+    /// `re.union`
+    Union,
+    /// `re.*`
+    Star,
     /// `re.+`
     Plus,
 }

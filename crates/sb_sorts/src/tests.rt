@@ -9,11 +9,26 @@ use std::test::Fail;
 
 /// Forms, and what they are read as, where x, y and let are constants and m is marked: a term with `#` before a
 /// serial, or a fault behind `!`.
-const FORMS: [(&[u8], &str); 46] = [
+const FORMS: [(&[u8], &str); 55] = [
     (
         b"(str.in_re x (re.+ (re.range \"a\" \"b\")))",
         "(in #0 (plus (range \"a\" \"b\")))",
     ),
+    (
+        b"(re.++ (str.to_re \"ab\") (re.* (re.range \"a\" \"b\")) (str.to_re x))",
+        "(concat (word \"ab\") (star (range \"a\" \"b\")) (word #0))",
+    ),
+    (
+        b"(re.union (str.to_re \"a\") (re.union (str.to_re \"b\")))",
+        "(union (word \"a\") (word \"b\"))",
+    ),
+    (b"(re.++ (str.to_re \"a\") x w)", "!unknown w"),
+    (b"(re.++ (str.to_re \"a\") x)", "!sort"),
+    (b"(re.union x)", "!sort"),
+    (b"re.union", "!count"),
+    (b"(str.to_re \"a\" \"b\")", "!count"),
+    (b"(re.* (str.to_re (re.+ x)))", "!sort"),
+    (b"(_ re.* 2)", "!index"),
     (b"x", "#0"),
     (b"|x|", "#0"),
     (b"|y z|", "#1"),
@@ -71,7 +86,11 @@ fn push_bytes(out: &mut String, bytes: &[u8]) -> Result<(), AllocError> {
 fn name_of(symbol: Symbol) -> &'static str {
     match symbol {
         Symbol::InRe => "(in",
+        Symbol::ToRe => "(word",
         Symbol::Range => "(range",
+        Symbol::Concat => "(concat",
+        Symbol::Union => "(union",
+        Symbol::Star => "(star",
         Symbol::Plus => "(plus",
     }
 }

@@ -1,4 +1,4 @@
-use Rattle.std.proofs.Common.{◌∙◌, sym, arith}
+use Rattle.std.proofs.Common.{◌∙◌, arith}
 use Rattle.sb_deriv.proofs.Merging.{latest_is, latest_none}
 use Rattle.sb_deriv.proofs.choices.latest.Goals as goal
 

@@ -1,5 +1,4 @@
-use Rattle.std.proofs.Common.{◌≡◌, ◌<◌, ◌∷◌, [], ◌++◌, min, take, drop, ap, ap₂, arith, ◌∙◌}
-use Rattle.sb_deriv.specs.Choices.{first_of, last_value}
+use Rattle.std.proofs.Common.{◌∷◌, [], ◌++◌, min, ap, ap₂, arith, ◌∙◌}
 use Rattle.sb_deriv.proofs.Merging.{merge_init, merge_step, merged, next_grows}
 use Rattle.sb_deriv.proofs.choices.merge.Goals as goal
 

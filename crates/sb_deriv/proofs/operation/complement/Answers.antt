@@ -1,4 +1,4 @@
-use Rattle.std.proofs.Common.{ap, sym, ◌∙◌, arith}
+use Rattle.std.proofs.Common.{arith}
 use Rattle.sb_deriv.proofs.Numbers.{names_from}
 use Rattle.sb_deriv.proofs.Operations.{mknot_neg, mknot_none}
 use Rattle.sb_deriv.proofs.operation.complement.Goals as goal

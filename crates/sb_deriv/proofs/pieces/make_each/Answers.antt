@@ -1,5 +1,4 @@
-use Rattle.std.proofs.Common.{sym, ap, ◌∙◌, subst, arith, List, ℕ}
-use Rattle.sb_regex.specs.Numbered.{AllNumbers}
+use Rattle.std.proofs.Common.{arith}
 use Rattle.sb_deriv.proofs.Numbers.{numbers_kept}
 use Rattle.sb_deriv.proofs.Making.{making_init, making_step, made_each, choice_numbers, piece_whole, operand_later}
 use Rattle.sb_deriv.proofs.pieces.make_each.Goals as goal

@@ -1,4 +1,4 @@
-use Rattle.std.proofs.Common.{◌≡◌, ◌<◌, ◌≤◌, zero, suc, List, [], ◌∷◌, length, get_or, sym, ap, ◌∙◌, subst, ℕ, arith}
+use Rattle.std.proofs.Common.{◌≡◌, ◌<◌, ◌≤◌, zero, suc, List, [], ◌∷◌, length, get_or, sym, subst, ℕ, arith}
 use Rattle.sb_deriv.proofs.PieceFacts.{map_some, map_starts, value_between, covers_rises}
 use Rattle.sb_deriv.proofs.pieces.value_at.Goals as goal
 

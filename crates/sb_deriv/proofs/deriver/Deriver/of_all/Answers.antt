@@ -1,5 +1,3 @@
-use Rattle.std.proofs.Common.{◌≡◌, sym, subst, List, ℕ}
-use Rattle.sb_deriv.specs.Faithful.{IsMapOf}
 use Rattle.sb_deriv.proofs.Derivatives.{map_same}
 use Rattle.sb_deriv.proofs.Gathering.{choice_numbers_of, made_of_choices}
 use Rattle.sb_deriv.proofs.deriver.Deriver.of_all.Goals as goal

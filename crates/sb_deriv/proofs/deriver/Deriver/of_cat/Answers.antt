@@ -1,5 +1,5 @@
 use Rattle.std.proofs.Common.{sym, ◌∙◌}
-use Rattle.std.proofs.lemmas.Result.{IfOk-weaker, on_ok_weaker}
+use Rattle.std.proofs.lemmas.Result.{IfOk-weaker}
 use Rattle.sb_deriv.proofs.Heads.{some_weaker, both_below, one_below, cat_of_one, cat_of_two}
 use Rattle.sb_deriv.proofs.deriver.Deriver.of_cat.Goals as goal
 

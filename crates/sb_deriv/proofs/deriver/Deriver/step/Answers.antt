@@ -1,4 +1,4 @@
-use Rattle.std.proofs.Common.{arith, ◌<◌}
+use Rattle.std.proofs.Common.{arith}
 use Rattle.std.proofs.lemmas.Result.{IfOk-weaker}
 use Rattle.sb_deriv.proofs.Heads.{none_weaker, below_more}
 use Rattle.sb_deriv.proofs.deriver.Deriver.step.Goals as goal

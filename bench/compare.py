@@ -1,0 +1,56 @@
+"""Runs the program, and z3 and cvc5 where they are installed, over the families of scripts, and prints a table: processor
+seconds, peak memory in MB (at least some 10 MB, which is the start of a process from here), and the ratio to the better of
+the other two. A run has 20 seconds."""
+import os
+import resource
+import shutil
+import subprocess
+import sys
+import tempfile
+
+LIMIT = 20
+SIZES = {
+    "coprime": [30, 210, 2310, 30030, 510510],
+    "dictionaries": [625, 1250, 2500, 5000, 40000],
+    "ranges": [625, 1250, 2500, 5000, 40000],
+    "union": [625, 1250, 2500, 5000, 40000],
+}
+here = os.path.dirname(os.path.abspath(__file__))
+program = os.path.join(here, "..", "crates", "strsolve", "out", "strsolve")
+solvers = {"strsolve": [program]}
+if shutil.which("z3"):
+    solvers["z3"] = ["z3", "-in"]
+if shutil.which("cvc5"):
+    solvers["cvc5"] = ["cvc5", "--lang", "smt2", "-"]
+
+
+def run(command, path):
+    """The processor seconds, the peak memory in MB and the answer; None for the seconds where there is no answer."""
+    with open(path, "rb") as script:
+        started = subprocess.Popen(command, stdin=script, stdout=subprocess.PIPE, stderr=subprocess.DEVNULL,
+                                   preexec_fn=lambda: resource.setrlimit(resource.RLIMIT_CPU, (LIMIT, LIMIT + 1)))
+        text = started.stdout.read().decode().split()
+        _, status, used = os.wait4(started.pid, 0)
+    answer = next((line for line in text if line in ("sat", "unsat")), None)
+    seconds = used.ru_utime + used.ru_stime
+    return (seconds if answer else None), used.ru_maxrss / 1000, answer
+
+
+families = sys.argv[1:] or list(SIZES)
+print(f"{'family':<14}{'size':>7}" + "".join(f"{name:>12} s{'MB':>8}" for name in solvers) + f"{'ratio':>9}  answer")
+for family in families:
+    for size in SIZES[family]:
+        with tempfile.NamedTemporaryFile(suffix=".smt2") as script:
+            subprocess.run([sys.executable, os.path.join(here, "families.py"), family, str(size)], stdout=script, check=True)
+            script.flush()
+            rows = {name: run(command, script.name) for name, command in solvers.items()}
+        answers = {answer for _, _, answer in rows.values() if answer}
+        line = f"{family:<14}{size:>7}"
+        for seconds, memory, answer in rows.values():
+            line += f"{'-' if seconds is None else format(seconds, '.3f'):>13} {memory:>8.1f}"
+        others = [rows[name][0] for name in rows if name != "strsolve" and rows[name][0] is not None]
+        mine = rows["strsolve"][0]
+        ratio = format(mine / min(others), ".2f") if others and mine is not None else "-"
+        print(line + f"{ratio:>9}  {'/'.join(sorted(answers)) or 'none'}", flush=True)
+        if len(answers) > 1:
+            sys.exit("the answers differ")

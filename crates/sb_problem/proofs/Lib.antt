@@ -1,0 +1,5 @@
+pub mod TermShapes
+pub mod Numbers
+pub mod Leaves
+pub mod Joins
+pub mod Arguments
