@@ -1,10 +1,19 @@
 -- A pass over the records that drops clauses.
-use Rattle.std.proofs.Common.{◌≡◌, ◌≢◌, ℕ, ◌+◌, ◌<◌, ◌≤◌, true, false, List, length, get_or, set, Option, None, refl, sym, ◌∙◌, ap, inl, inr, arith}
+use Rattle.std.proofs.Common.{◌≡◌, ◌≢◌, ℕ, zero, suc, ◌+◌, ◌<◌, ◌≤◌, Bool, true, false, List, [], ◌∷◌, ◌++◌, length, get_or, set, take, Option, Some, None, refl, sym, ◌∙◌, ap, inl, inr, arith}
 use Rattle.std.specs.Option.{option_map}
 use Rattle.std.proofs.lemmas.Bool.{cases_lt}
-use Rattle.std.proofs.lemmas.List.{length-map, length-set, get_or-map, get_or-set_same, get_or-set_other, same_lists}
+use Rattle.std.proofs.lemmas.List.{length-map, length-set, get_or-map, get_or-set_same, get_or-set_other, same_lists, take-append-le, take_all, take-map}
+use Rattle.std.proofs.lemmas.Option.{none-some}
+use Rattle.sb_word.specs.declared.clause.Lit.{Lit}
+use Rattle.sb_rulebook.specs.ClauseRules.{Kept, KeptClause, kept_at}
 use Rattle.sb_clauses.specs.declared.record.Record.{Record}
 use Rattle.sb_clauses.specs.Records.{clause_of, kept_of}
+use Rattle.sb_clauses.specs.Lists.{Lists}
+use Rattle.sb_clauses.specs.Watching.{HasClause, IsSide, AreWatched}
+use Rattle.sb_clauses.specs.declared.passed.Passed.{Passed}
+use Rattle.sb_clauses.specs.Settling.{AreFine}
+use Rattle.sb_clauses.specs.Passing.{literals_of, AreReady}
+use Rattle.sb_clauses.specs.Waiting.{HaveRoom, AreStored}
 use Rattle.sb_clauses.specs.Dropping.{is_above, stays_up_to, kept_up_to}
 
 -- the clauses above the level are dropped at the places below n, and the rest is as it was
@@ -61,3 +70,77 @@ dropped_all level old now n past h =
     let in_now : k < length now = omega (arith, h.len) in
     let in_kept : k < length (kept_of old) = omega (arith, length-map old (option_map clause_of)) in
     get_or-map (option_map clause_of) now k None d in_now ∙ h.front k (omega arith) inside ∙ sym (get_or-map (stays_up_to level) (kept_of old) k None d in_kept ∙ ap (stays_up_to level) (get_or-map (option_map clause_of) old k None None inside)))
+
+-- a clause that stays was there before
+stays_there : (level : ℕ) (place : Option KeptClause) (found : KeptClause) → stays_up_to level place ≡ Some found → place ≡ Some found
+stays_there level place found h = go (is_above place level) refl
+  where
+    go : (b : Bool) → is_above place level ≡ b → place ≡ Some found
+    go true is = absurd (none-some found (rw is at h))
+    go false is = rw is at h
+
+kept_before : (level : ℕ) (kept : Kept) (id : ℕ) (found : KeptClause) → kept_at (kept_up_to level kept) id ≡ Some found → kept_at kept id ≡ Some found
+kept_before level [] id found h = h
+kept_before level (x ∷ xs) zero found h = stays_there level x found h
+kept_before level (x ∷ xs) (suc id) found h = kept_before level xs id found h
+
+has_before : (level : ℕ) (kept : Kept) (id : ℕ) (clause : List Lit) → HasClause (kept_up_to level kept) id clause → HasClause kept id clause
+has_before level kept id clause h = record { found = h.found; there = kept_before level kept id h.found h.there; literals = h.literals }
+
+dropped_side : (level : ℕ) (kept : Kept) (own other : List ℕ) (all : Lists) → IsSide kept own other all → IsSide (kept_up_to level kept) own other all
+dropped_side level kept own other all h =
+    let same : length (kept_up_to level kept) ≡ length kept = length-map kept (stays_up_to level) in
+    record {
+      own_places = omega (arith, same, h.own_places);
+      other_places = omega (arith, same, h.other_places);
+      nodes = omega (arith, same, h.nodes);
+      placed = λ id c has. h.placed id c (has_before level kept id c has);
+      listed = λ id c has. h.listed id c (has_before level kept id c has);
+      fresh = λ id past. h.fresh id (omega (arith, same));
+    }
+
+dropped_watched : (level : ℕ) (kept : Kept) (firsts : List ℕ) (first : Lists) (seconds : List ℕ) (second : Lists) → AreWatched kept firsts first seconds second → AreWatched (kept_up_to level kept) firsts first seconds second
+dropped_watched level kept firsts first seconds second h = record {
+  at_first = dropped_side level kept firsts seconds first h.at_first;
+  at_second = dropped_side level kept seconds firsts second h.at_second;
+}
+
+dropped_fine : (level : ℕ) (kept : Kept) (walked literals : List Lit) (firsts seconds : List ℕ) → AreFine kept walked literals firsts seconds → AreFine (kept_up_to level kept) walked literals firsts seconds
+dropped_fine level kept walked literals firsts seconds h = record {
+  at_first = λ id c has. h.at_first id c (has_before level kept id c has);
+  at_second = λ id c has. h.at_second id c (has_before level kept id c has);
+}
+
+dropped_ready : (level : ℕ) (kept : Kept) (firsts : List ℕ) (first : Lists) (seconds : List ℕ) (second : Lists) (passed : List Passed) → AreReady kept firsts first seconds second passed → AreReady (kept_up_to level kept) firsts first seconds second passed
+dropped_ready level kept firsts first seconds second passed h = record {
+  watched = dropped_watched level kept firsts first seconds second h.watched;
+  marked = λ at within end. dropped_fine level kept (take (at + 1) (literals_of passed)) (take (at + 1) (literals_of passed)) firsts seconds (h.marked at within end);
+}
+
+dropped_room : (level : ℕ) (kept : Kept) (firsts : List ℕ) (first : Lists) (seconds : List ℕ) (second : Lists) → HaveRoom kept firsts first seconds second → HaveRoom (kept_up_to level kept) firsts first seconds second
+dropped_room level kept firsts first seconds second h =
+    let same : length (kept_up_to level kept) ≡ length kept = length-map kept (stays_up_to level) in
+    record {
+      first_places = omega (arith, same, h.first_places);
+      second_places = omega (arith, same, h.second_places);
+      first_nodes = omega (arith, same, h.first_nodes);
+      second_nodes = omega (arith, same, h.second_nodes);
+      first_lists = λ id c has. h.first_lists id c (has_before level kept id c has);
+      second_lists = λ id c has. h.second_lists id c (has_before level kept id c has);
+    }
+
+dropped_stored : (level : ℕ) (kept : Kept) (firsts : List ℕ) (first : Lists) (seconds : List ℕ) (second : Lists) (passed : List Passed) (listed : ℕ) → AreStored kept firsts first seconds second passed listed → AreStored (kept_up_to level kept) firsts first seconds second passed listed
+dropped_stored level kept firsts first seconds second passed listed h = record {
+  ready = rw (take-map (stays_up_to level) listed kept) (dropped_ready level (take listed kept) firsts first seconds second passed h.ready);
+  room = dropped_room level kept firsts first seconds second h.room;
+  within = omega (arith, h.within, length-map kept (stays_up_to level));
+}
+
+-- the records of a `Vec` that was lent as a slice
+pub dropped_whole : (level n : ℕ) (items slice new more : List (Option Record)) (kept : Kept) (firsts : List ℕ) (first : Lists) (seconds : List ℕ) (second : Lists) (passed : List Passed) (listed : ℕ)
+    → n ≡ length items → slice ≡ items → kept_of items ≡ kept → kept_of new ≡ kept_up_to level (kept_of slice) → AreStored kept firsts first seconds second passed listed
+    → AreStored (kept_of (take n (new ++ more))) firsts first seconds second passed listed
+dropped_whole level n items slice new more kept firsts first seconds second passed listed len same is_kept dropped h =
+    let same_len : length new ≡ length slice = sym (length-map new (option_map clause_of)) ∙ ap length dropped ∙ length-map (kept_of slice) (stays_up_to level) ∙ length-map slice (option_map clause_of) in
+    let whole : take n (new ++ more) ≡ new = take-append-le n new more (omega (arith, same_len, ap length same)) ∙ take_all n new (omega (arith, same_len, ap length same)) in
+    rw (whole, dropped, same, is_kept) (dropped_stored level kept firsts first seconds second passed listed h)

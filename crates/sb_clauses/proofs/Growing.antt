@@ -1,20 +1,20 @@
--- A trail that grows by what clauses force, and a sweep over the clauses.
+-- A trail that grows by what clauses force.
 use Rattle.std.proofs.Common.{◌≡◌, ℕ, zero, suc, ltb, ◌+◌, ◌<◌, ◌≤◌, Bool, true, false, List, [], ◌∷◌, ◌++◌, length, get_or, take, Option, Some, None, refl, sym, ◌∙◌, ap, subst, inl, inr, append_assoc, arith}
 use Rattle.std.specs.Option.{option_map, unwrap_or}
 use Rattle.std.specs.List.{list_all}
-use Rattle.std.proofs.lemmas.Bool.{cases_lt, and_parts, or_cases, false≢true, ltb-true}
-use Rattle.std.proofs.lemmas.Option.{slice_get-map, slice_get-get_or, slice_get_past, same_Some, none-some}
-use Rattle.std.proofs.lemmas.List.{length-append, length_push, length-map, get_or-map, get_or_read}
+use Rattle.std.proofs.lemmas.Bool.{and_parts, or_cases, false≢true, ltb-true}
+use Rattle.std.proofs.lemmas.Option.{slice_get-map, slice_get-get_or, slice_get_past, none-some}
+use Rattle.std.proofs.lemmas.List.{length-map, get_or-map, get_or_read}
 use Rattle.std.proofs.lemmas.List.Folds.{list_all_more, list_all_at}
 use Rattle.sb_word.specs.declared.clause.Lit.{Lit}
 use Rattle.sb_word.specs.Clauses.{is_same_literal, is_among, leaves_only}
 use Rattle.sb_rulebook.specs.ClauseRules.{Kept, KeptClause, kept_at}
 use Rattle.sb_trail.specs.declared.assigned.Assigned.{Assigned}
-use Rattle.sb_trail.specs.Assignments.{Assignments, held, current_level}
+use Rattle.sb_trail.specs.Assignments.{Assignments}
 use Rattle.sb_clauses.specs.declared.record.Record.{Record}
 use Rattle.sb_clauses.specs.Records.{clause_of, kept_of}
-use Rattle.sb_clauses.specs.Examining.{IsIdle}
-use Rattle.sb_clauses.specs.Propagation.{are_reserved, is_reserved, has_room_for, IsForced, AreForced, GrowsBy, IsSettled}
+use Rattle.sb_clauses.specs.Watching.{HasClause, literal_at, no_literal}
+use Rattle.sb_clauses.specs.Propagation.{are_reserved, is_reserved, has_room_for, IsForced, AreForced, GrowsBy}
 use Rattle.sb_clauses.proofs.Literals.{is_same_literal-true, leaves_only-parts}
 
 append_nil : {A : Type 0} (xs : List A) → xs ++ [] ≡ xs
@@ -84,67 +84,8 @@ place_in kept records items n place same is_kept within here =
 kept_at_past : (records : List (Option Record)) (n : ℕ) → length records ≤ n → kept_at (kept_of records) n ≡ None
 kept_at_past records n past = ap (λ o. unwrap_or o None) (slice_get_past (kept_of records) n (omega (arith, length-map records (option_map clause_of))))
 
--- a sweep over the clauses has looked at those below n
-pub record IsSweeping (kept : Kept) (old now : Assignments) (n : ℕ) : Type 0 where
-  pub grows : GrowsBy kept old now
-  pub idle : length now.literals ≡ length old.literals → (id : ℕ) → id < n → (clause : KeptClause) → kept_at kept id ≡ Some clause → IsIdle (held now.literals) clause.literals
-
-grown : (kept : Kept) (old now : Assignments) → GrowsBy kept old now → length old.literals ≤ length now.literals
-grown kept old now h = omega (arith, ap length h.literals, length-append old.literals h.added)
-
-pub sweep_none : (kept : Kept) (trail : Assignments) → IsSweeping kept trail trail 0
-sweep_none kept trail = record { grows = GrowsBy-none kept trail; idle = λ same id below clause there. absurd (omega arith) }
-
-module _ (kept : Kept) (old now : Assignments) (n : ℕ) (h : IsSweeping kept old now n) where
-  pub sweep_skip : kept_at kept n ≡ None → IsSweeping kept old now (n + 1)
-  sweep_skip none = record {
-    grows = h.grows;
-    idle = λ same id below clause there.
-        elim (cases_lt id n) [
-          | inl before ↦ h.idle same id before clause there
-          | inr at_n ↦
-              let is_n : id ≡ n = omega arith in
-              absurd (none-some clause (sym none ∙ ap (kept_at kept) (sym is_n) ∙ there))
-        ];
-  }
-
-  pub sweep_idle : (found : KeptClause) → kept_at kept n ≡ Some found → IsIdle (held now.literals) found.literals → IsSweeping kept old now (n + 1)
-  sweep_idle found here idle = record {
-    grows = h.grows;
-    idle = λ same id below clause there.
-        elim (cases_lt id n) [
-          | inl before ↦ h.idle same id before clause there
-          | inr at_n ↦
-              let is_n : id ≡ n = omega arith in
-              let is_found : found ≡ clause = same_Some found clause (sym here ∙ ap (kept_at kept) (sym is_n) ∙ there) in
-              subst (λ (k : KeptClause). IsIdle (held now.literals) k.literals) is_found idle
-        ];
-  }
-
-  pub sweep_forces : (found : KeptClause) (l : Lit) → kept_at kept n ≡ Some found → leaves_only (held now.literals) found.literals l ≡ true
-      → IsSweeping kept old (record now { literals = now.literals ++ record { literal = l; level = current_level now.literals; reason = Some (record { 0 = n }) } ∷ [] }) (n + 1)
-  sweep_forces found l here forces =
-      let e : Assigned = record { literal = l; level = current_level now.literals; reason = Some (record { 0 = n }) } in
-      record {
-        grows = GrowsBy-push kept old now e h.grows (record { id = record { 0 = n }; reason = refl; clause = found; there = here; forces = forces; level = refl });
-        idle = λ same id below clause there. absurd (omega (arith, same, length_push now.literals e, grown kept old now h.grows));
-      }
-
-pub sweep_settles : (kept : Kept) (records : List (Option Record)) → kept_of records ≡ kept → (old now : Assignments) (n : ℕ) → length records ≤ n → IsSweeping kept old now n → length now.literals ≡ length old.literals → IsSettled kept (held now.literals)
-sweep_settles kept records is_kept old now n past h same =
-    let all : (id : ℕ) (clause : KeptClause) → kept_at kept id ≡ Some clause → IsIdle (held now.literals) clause.literals = λ id clause there.
-    elim (cases_lt id n) [
-      | inl below ↦ h.idle same id below clause there
-      | inr above ↦ absurd (none-some clause (sym (kept_at_past records id (omega arith)) ∙ ap (λ k. kept_at k id) is_kept ∙ there))
-    ]
-    in
-    record {
-      none_false = λ id clause there. (all id clause there).no_conflict;
-      none_forces = λ id clause there. (all id clause there).forces_none;
-    }
-
 -- what is kept at a place that is looked at
-kept_place : (kept : Kept) (records items : List (Option Record)) (n : ℕ) (place : Option Record) → items ≡ records → kept_of records ≡ kept → n < length items → place ≡ get_or items n place → (n < length kept) × (get_or kept n None ≡ option_map clause_of place)
+pub kept_place : (kept : Kept) (records items : List (Option Record)) (n : ℕ) (place : Option Record) → items ≡ records → kept_of records ≡ kept → n < length items → place ≡ get_or items n place → (n < length kept) × (get_or kept n None ≡ option_map clause_of place)
 kept_place kept records items n place same is_kept within here =
     let as_kept : kept_of items ≡ kept = ap kept_of same ∙ is_kept in
     let inside : n < length kept = omega (arith, ap length as_kept, length-map items (option_map clause_of)) in
@@ -160,3 +101,19 @@ pub room_missing : (reserved : ℕ) (kept : Kept) (records items : List (Option 
 room_missing reserved kept records items n place same is_kept within here fits =
     let there = kept_place kept records items n place same is_kept within here in
     list_all_at (is_reserved reserved) kept n None there.0 (ap (is_reserved reserved) there.1 ∙ fits)
+
+-- the clause of a record
+pub clause_at : (records : List (Option Record)) (n : ℕ) (place : Option Record) (r : Record) (clause : List Lit) → n < length (kept_of records) → place ≡ get_or records n place → place ≡ Some r → clause ≡ r.literals.items → HasClause (kept_of records) n clause
+clause_at records n place r clause within here is same = record {
+  found = clause_of r;
+  there = place_in (kept_of records) records records n place refl refl (omega (arith, length-map records (option_map clause_of))) here ∙ ap (option_map clause_of) is;
+  literals = sym same;
+}
+
+pub no_clause_at : (records : List (Option Record)) (n : ℕ) (place : Option Record) → n < length (kept_of records) → place ≡ get_or records n place → place ≡ None → kept_at (kept_of records) n ≡ None
+no_clause_at records n place within here is =
+    place_in (kept_of records) records records n place refl refl (omega (arith, length-map records (option_map clause_of))) here ∙ ap (option_map clause_of) is
+
+pub literal_read : (clause items : List Lit) (place : ℕ) (l : Lit) → clause ≡ items → place < length clause → l ≡ get_or items place l → l ≡ literal_at clause place
+literal_read clause items place l same within here =
+    get_or_read items place l (omega (arith, ap length same)) here no_literal ∙ ap (λ ls. literal_at ls place) (sym same)

@@ -1,4 +1,12 @@
 pub mod Literals
-pub mod Scanning
 pub mod Growing
 pub mod Dropped
+pub mod ListLemmas
+pub mod Adding
+pub mod Moving
+pub mod Walking
+pub mod Walked
+pub mod Settling
+pub mod Passing
+pub mod Waiting
+pub mod NextClause

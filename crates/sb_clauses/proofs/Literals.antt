@@ -1,10 +1,12 @@
 -- Clauses where some literals are true.
-use Rattle.std.proofs.Common.{◌≡◌, ℕ, zero, suc, ◌<◌, Bool, true, false, not, cond, ◌&&◌, ◌||◌, eqb, List, [], ◌∷◌, ◌++◌, length, get_or, take, Option, Some, None, refl, sym, ◌∙◌, ap, inl, inr}
+use Rattle.std.proofs.Common.{◌≡◌, ℕ, zero, suc, ◌<◌, Bool, true, false, not, cond, ◌&&◌, ◌||◌, eqb, List, [], ◌∷◌, length, get_or, take, Option, Some, None, refl, sym, ◌∙◌, ap, inl, inr}
+use mathlib.Core.Bool.{beq}
 use Rattle.std.specs.List.{list_all}
-use Rattle.std.proofs.lemmas.Bool.{false≢true, and_parts, and_from, or_left, or_right, or_from, or_cases, not-true, not_from_false, eqb-true, eq-eqb, false_from_ne_true}
-use Rattle.std.proofs.lemmas.List.Folds.{list_all-append, list_any-append, list_all_at}
+use Rattle.std.proofs.lemmas.Bool.{false≢true, and_parts, and_from, or_left, or_right, or_from, or_cases, not-true, not-false, not_from_false, eqb-true, eq-eqb, false_from_ne_true}
+use Rattle.std.proofs.lemmas.List.Folds.{list_all_at, list_any_at}
 use Rattle.sb_word.specs.declared.clause.Lit.{Lit}
 use Rattle.sb_word.specs.Clauses.{is_same_literal, is_among, is_true_under, is_false_under, is_open_under, value_under, is_false_clause, leaves_only}
+use Rattle.sb_trail.specs.Assignments.{IsConsistent}
 use Rattle.sb_clauses.specs.Examining.{IsIdle}
 
 same_sign : (a b : Bool) → cond a b (not b) ≡ true → a ≡ b
@@ -26,11 +28,40 @@ is_same_literal-true l m h =
     let parts = and_parts (eqb l.atom m.atom) (cond l.positive m.positive (not m.positive)) h in
     literal_of_parts l.atom m.atom l.positive m.positive (eqb-true l.atom m.atom parts.0) (same_sign l.positive m.positive parts.1)
 
+same_by_beq : (a b : Bool) → beq a b ≡ true → a ≡ b
+same_by_beq true true h = refl
+same_by_beq true false h = absurd (false≢true h)
+same_by_beq false true h = absurd (false≢true h)
+same_by_beq false false h = refl
+
+-- where a test whether they differ fails
+pub same_by_ne : (l m : Lit) → not (eqb l.atom m.atom && beq l.positive m.positive) ≡ false → l ≡ m
+same_by_ne l m h =
+    let parts = and_parts (eqb l.atom m.atom) (beq l.positive m.positive) (not-false (eqb l.atom m.atom && beq l.positive m.positive) h) in
+    literal_of_parts l.atom m.atom l.positive m.positive (eqb-true l.atom m.atom parts.0) (same_by_beq l.positive m.positive parts.1)
+
 pub is_same_literal-self : (l : Lit) → is_same_literal l l ≡ true
 is_same_literal-self l =
     and_from (eqb l.atom l.atom) (cond l.positive l.positive (not l.positive)) (eq-eqb l.atom l.atom refl) (same_sign_self l.positive)
 
+beq_self : (a : Bool) → beq a a ≡ true
+beq_self true = refl
+beq_self false = refl
+
+-- where a test whether they are equal fails
+pub other_by_eq : (l m : Lit) → (eqb l.atom m.atom && beq l.positive m.positive) ≡ false → is_same_literal l m ≡ false
+other_by_eq l m h =
+    false_from_ne_true (is_same_literal l m) (λ is.
+    let same : l ≡ m = is_same_literal-true l m is in
+    let yes : (eqb l.atom m.atom && beq l.positive m.positive) ≡ true = rw same (and_from (eqb m.atom m.atom) (beq m.positive m.positive) (eq-eqb m.atom m.atom refl) (beq_self m.positive)) in
+    false≢true (sym h ∙ yes))
+
 -- what a value says
+value_true : (t f : Bool) → ◌≡◌ {A = Option Bool} (cond t (Some true) (cond f (Some false) None)) (Some true) → t ≡ true
+value_true true f h = refl
+value_true false true h = absurd (Prim.cc)
+value_true false false h = absurd (Prim.cc)
+
 value_false : (t f : Bool) → ◌≡◌ {A = Option Bool} (cond t (Some true) (cond f (Some false) None)) (Some false) → f ≡ true
 value_false true f h = absurd (Prim.cc)
 value_false false true h = refl
@@ -41,7 +72,16 @@ value_none true f h = absurd (Prim.cc)
 value_none false true h = absurd (Prim.cc)
 value_none false false h = (refl, refl)
 
+pub all_weaker : (p q : Lit → Bool) → ((m : Lit) → p m ≡ true → q m ≡ true) → (clause : List Lit) → list_all p clause ≡ true → list_all q clause ≡ true
+all_weaker p q weaker [] h = refl
+all_weaker p q weaker (m ∷ ms) h =
+    let parts = and_parts (p m) (list_all p ms) h in
+    and_from (q m) (list_all q ms) (weaker m parts.0) (all_weaker p q weaker ms parts.1)
+
 module _ (held : List Lit) where
+  pub true_by_value : (l : Lit) → value_under held l ≡ Some true → is_true_under held l ≡ true
+  true_by_value l h = value_true (is_true_under held l) (is_false_under held l) h
+
   pub false_by_value : (l : Lit) → value_under held l ≡ Some false → is_false_under held l ≡ true
   false_by_value l h = value_false (is_true_under held l) (is_false_under held l) h
 
@@ -70,42 +110,20 @@ module _ (held : List Lit) where
   leaves_only-from clause l among unset others =
       and_from (is_among clause l && is_open_under held l) (list_all (is_or_false l) clause) (and_from (is_among clause l) (is_open_under held l) among unset) others
 
-  -- one more literal that is false
-  pub false_more : (clause : List Lit) (m : Lit) → is_false_clause held clause ≡ true → is_false_under held m ≡ true → is_false_clause held (clause ++ m ∷ []) ≡ true
-  false_more clause m h is_false = list_all-append (is_false_under held) clause (m ∷ []) ∙ rw (h, is_false) refl
+  -- a clause with a true literal is idle
+  pub idle_by_true : IsConsistent held → (clause : List Lit) (i : ℕ) (d : Lit) → i < length clause → is_true_under held (get_or clause i d) ≡ true → IsIdle held clause
+  idle_by_true consistent clause i d place is_true =
+      let t : Lit = get_or clause i d in
+      let not_false : is_false_under held t ≡ false = consistent t is_true in
+      record {
+        no_conflict = list_all_at (is_false_under held) clause i d place not_false;
+        forces_none = λ l. false_from_ne_true (leaves_only held clause l) (λ h.
+            let parts = leaves_only-parts clause l h in
+            let other : is_same_literal t l ≡ false = false_from_ne_true (is_same_literal t l) (λ same. false≢true (sym (open-not_true l parts.1) ∙ ap (is_true_under held) (sym (is_same_literal-true t l same)) ∙ is_true)) in
+            false≢true (sym (list_all_at (is_or_false l) clause i d place (or_from (is_same_literal t l) (is_false_under held t) other not_false)) ∙ parts.2));
+      }
 
-  among_more : (clause : List Lit) (l m : Lit) → is_among clause l ≡ true → is_among (clause ++ m ∷ []) l ≡ true
-  among_more clause l m h = list_any-append (λ x. is_same_literal x l) clause (m ∷ []) ∙ or_left (is_among clause l) (is_same_literal m l || false) h
-
-  among_last : (clause : List Lit) (l : Lit) → is_among (clause ++ l ∷ []) l ≡ true
-  among_last clause l =
-      list_any-append (λ x. is_same_literal x l) clause (l ∷ []) ∙ or_right (is_among clause l) (is_same_literal l l || false) (or_left (is_same_literal l l) false (is_same_literal-self l))
-
-  all_more : (p : Lit → Bool) (clause : List Lit) (m : Lit) → list_all p clause ≡ true → p m ≡ true → list_all p (clause ++ m ∷ []) ≡ true
-  all_more p clause m h here = list_all-append p clause (m ∷ []) ∙ rw (h, here) refl
-
-  all_weaker : (p q : Lit → Bool) → ((m : Lit) → p m ≡ true → q m ≡ true) → (clause : List Lit) → list_all p clause ≡ true → list_all q clause ≡ true
-  all_weaker p q weaker [] h = refl
-  all_weaker p q weaker (m ∷ ms) h =
-      let parts = and_parts (p m) (list_all p ms) h in
-      and_from (q m) (list_all q ms) (weaker m parts.0) (all_weaker p q weaker ms parts.1)
-
-  pub leaves_more_false : (clause : List Lit) (l m : Lit) → leaves_only held clause l ≡ true → is_false_under held m ≡ true → leaves_only held (clause ++ m ∷ []) l ≡ true
-  leaves_more_false clause l m h is_false =
-      let parts = leaves_only-parts clause l h in
-      leaves_only-from (clause ++ m ∷ []) l (among_more clause l m parts.0) parts.1 (all_more (is_or_false l) clause m parts.2 (or_right (is_same_literal m l) (is_false_under held m) is_false))
-
-  pub leaves_more_same : (clause : List Lit) (l m : Lit) → leaves_only held clause l ≡ true → m ≡ l → leaves_only held (clause ++ m ∷ []) m ≡ true
-  leaves_more_same clause l m h same =
-      let at_m : leaves_only held clause m ≡ true = rw same h in
-      let parts = leaves_only-parts clause m at_m in
-      leaves_only-from (clause ++ m ∷ []) m (among_last clause m) parts.1 (all_more (is_or_false m) clause m parts.2 (or_left (is_same_literal m m) (is_false_under held m) (is_same_literal-self m)))
-
-  pub leaves_last : (clause : List Lit) (m : Lit) → is_false_clause held clause ≡ true → is_open_under held m ≡ true → leaves_only held (clause ++ m ∷ []) m ≡ true
-  leaves_last clause m h unset =
-      leaves_only-from (clause ++ m ∷ []) m (among_last clause m) unset (all_more (is_or_false m) clause m (all_weaker (is_false_under held) (is_or_false m) (λ x is_false. or_right (is_same_literal x m) (is_false_under held x) is_false) clause h) (or_left (is_same_literal m m) (is_false_under held m) (is_same_literal-self m)))
-
-  all-among : (p : Lit → Bool) (clause : List Lit) (l : Lit) → list_all p clause ≡ true → is_among clause l ≡ true → p l ≡ true
+  pub all-among : (p : Lit → Bool) (clause : List Lit) (l : Lit) → list_all p clause ≡ true → is_among clause l ≡ true → p l ≡ true
   all-among p [] l h among = absurd (false≢true among)
   all-among p (m ∷ ms) l h among =
       let parts = and_parts (p m) (list_all p ms) h in
@@ -140,3 +158,17 @@ module _ (held : List Lit) where
               | inr as_false ↦ false≢true (sym (open-not_false first open_first) ∙ as_false)
             ]);
       }
+
+  -- where each literal is this one or false, and this one is false
+  pub false_with_it : (l : Lit) → is_false_under held l ≡ true → (clause : List Lit) → list_all (is_or_false l) clause ≡ true → is_false_clause held clause ≡ true
+  false_with_it l is_false clause h =
+      all_weaker (is_or_false l) (is_false_under held) (λ m either. elim (or_cases (is_same_literal m l) (is_false_under held m) either) [
+        | inl same ↦ ap (is_false_under held) (is_same_literal-true m l same) ∙ is_false
+        | inr here ↦ here
+      ]) clause h
+
+  pub among_at : (clause : List Lit) (i : ℕ) (d : Lit) → i < length clause → is_among clause (get_or clause i d) ≡ true
+  among_at clause i d place = list_any_at (λ m. is_same_literal m (get_or clause i d)) clause i d place (is_same_literal-self (get_or clause i d))
+
+  pub leaves_it : (clause : List Lit) (i : ℕ) (d : Lit) → i < length clause → is_open_under held (get_or clause i d) ≡ true → list_all (is_or_false (get_or clause i d)) clause ≡ true → leaves_only held clause (get_or clause i d) ≡ true
+  leaves_it clause i d place unset h = leaves_only-from clause (get_or clause i d) (among_at clause i d place) unset h

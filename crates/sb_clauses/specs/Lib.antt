@@ -2,3 +2,11 @@ pub mod Dropping
 pub mod Propagation
 pub mod Records
 pub mod Examining
+pub mod Lists
+pub mod Watching
+pub mod Looking
+pub mod Walking
+pub mod Settling
+pub mod Adding
+pub mod Passing
+pub mod Waiting

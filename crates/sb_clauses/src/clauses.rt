@@ -1,6 +1,6 @@
 //! The kept clauses.
 
-ghost use Rattle.std.specs.Prelude.{◌≡◌, [], ◌∷◌, ◌++◌, length, true, ◌<◌, ◌≤◌, Some, IfOk, OnErr, IfSome, IfNone};
+ghost use Rattle.std.specs.Prelude.{◌≡◌, [], ◌∷◌, ◌++◌, length, true, Some, IfOk, OnErr};
 ghost use Rattle.std.specs.Option.{option_map, option_copied};
 ghost use Rattle.sb_rulebook.specs.ClauseRules.{kept_at};
 ghost use Rattle.sb_trail.specs.Assignments.{held};
@@ -8,27 +8,39 @@ ghost use Rattle.sb_clauses.specs.Dropping.{kept_up_to, is_above};
 ghost use Rattle.sb_clauses.specs.Records.{clause_of, kept_of};
 ghost use Rattle.sb_clauses.specs.Propagation.{are_reserved, is_reserved, has_room_for, GrowsBy, AnswersOf};
 
-use crate::examine::{Finding, examine};
+use crate::passed::Passed;
 use crate::propagated::Propagated;
 use crate::record::Record;
+use crate::settle::settle_on;
+use crate::side::{Side, lists_for};
 use sb_trail::Trail;
 use sb_word::{Clause, ClauseId, Lit};
 use std::alloc::{AllocError, Global};
 use std::marker::Model;
 
-/// The clauses that are kept, by number.
+/// The clauses that are kept, by number. Each is watched at two of its literals, and stands in the list of
+/// each.
 #[derive(Debug, Drop)]
 pub struct Clauses {
     records: Vec<Option<Record>>,
+    first: Side,
+    second: Side,
+    /// What the last propagation went over, so that the next one begins behind it.
+    passed: Vec<Passed>,
+    /// How many of the clauses stand in the lists; propagation lists the others.
+    listed: usize,
 }
 
 impl Model for Clauses {
     ghost use Rattle.sb_rulebook.specs.ClauseRules.{Kept};
     ghost use Rattle.sb_clauses.specs.Records.{kept_of};
+    ghost use Rattle.sb_clauses.specs.Waiting.{AreStored};
 
     ghost Value = { Kept };
 
     ghost view = { λ clauses. kept_of clauses.records.items };
+
+    ghost invariant = { λ clauses. AreStored (kept_of clauses.records.items) clauses.first.places.items clauses.first.lists clauses.second.places.items clauses.second.lists clauses.passed.items clauses.listed };
 }
 
 impl Clauses {
@@ -38,20 +50,34 @@ impl Clauses {
     {
         Clauses {
             records: Vec::new(alloc),
+            first: Side::new(alloc),
+            second: Side::new(alloc),
+            passed: Vec::new(alloc),
+            listed: 0,
         }
     }
 
-    /// Keeps a clause at a level, under the next number. Linear in the number of its literals.
+    /// Keeps a clause at a level, under the next number. Linear in the number of its literals; takes memory for
+    /// each atom up to the greatest one, and is an error where that cannot be had, as for an atom of 2 ^ 62.
     pub fn add(&mut self, clause: &Clause, level: u64) -> Result<ClauseId, AllocError>
         ensures number { IfOk result (λ id. id.0 ≡ length self.old) }
         ensures ok { IfOk result (λ _. self.new ≡ self.old ++ Some (record { literals = clause.now; level = level }) ∷ []) }
         ensures err { OnErr result (self.new ≡ self.old) }
     {
         let alloc = *self.records.allocator();
-        let number = self.records.len() as u64;
-        let literals = Vec::from_slice(alloc, clause.literals())?;
+        let number = self.records.len();
+        let given = clause.literals();
+        let literals = Vec::from_slice(alloc, given)?;
+        let Some(lists) = lists_for(given) else {
+            return Err(AllocError);
+        };
+        let atoms = lists / 2;
+        self.passed
+            .reserve(atoms.saturating_sub(self.passed.len()))?;
+        self.first.make_room(number + 1, lists)?;
+        self.second.make_room(number + 1, lists)?;
         self.records.push(Some(Record { literals, level }))?;
-        Ok(ClauseId(number))
+        Ok(ClauseId(number as u64))
     }
 
     /// The literals of the clause, `None` exactly where the number is not given or its clause was dropped.
@@ -106,42 +132,28 @@ impl Clauses {
     }
 
     /// Adds what the clauses force to the trail, until nothing more is forced or one of them is false.
-    /// Takes no memory. It looks at each clause once in a round, and at most one more round than literals
-    /// that are added.
+    /// Takes no memory. It compares the trail with what it was at the end of the last call, looks once at each clause
+    /// that is new, and then, for each literal of the trail behind those of the last call that still stand, at the
+    /// clauses that watch its negation. A new clause whose watched literals are false sends it back to the level at
+    /// which the first of them became false.
     pub fn propagate(&mut self, trail: &mut Trail) -> Propagated
         requires { has_room_for trail.old.reserved self.old ≡ true }
         ensures kept { self.new ≡ self.old }
         ensures grows { GrowsBy self.old trail.old trail.new }
         ensures answer { AnswersOf self.old (held trail.new.literals) result }
     {
-        loop {
-            if let Some(answer) = self.sweep(trail) {
-                return answer;
-            }
-        }
-    }
-
-    /// Looks at each clause once, and adds what it forces. `None` where something was added.
-    fn sweep(&self, trail: &mut Trail) -> Option<Propagated>
-        requires { has_room_for trail.old.reserved self.now ≡ true }
-        ensures grows { GrowsBy self.now trail.old trail.new }
-        ensures answer { IfSome result (AnswersOf self.now (held trail.new.literals)) }
-        ensures adds { IfNone result (length trail.old.literals < length trail.new.literals) }
-        ensures within { IfNone result (length trail.new.literals ≤ trail.new.reserved) }
-    {
-        let before = trail.len();
-        for (number, place) in self.records.iter().enumerate() {
-            let Some(record) = place else { continue };
-            match examine(trail, &record.literals) {
-                Finding::False => return Some(Propagated::Conflict(ClauseId(number as u64))),
-                Finding::Forces(literal) => trail.assign(literal, ClauseId(number as u64)),
-                Finding::Idle => {}
-            }
-        }
-        if trail.len() == before {
-            Some(Propagated::Done)
-        } else {
-            None
+        let conflict = settle_on(
+            &self.records,
+            &mut self.first,
+            &mut self.second,
+            &mut self.passed,
+            trail,
+            self.listed,
+        );
+        self.listed = self.records.len();
+        match conflict {
+            Some(id) => Propagated::Conflict(id),
+            None => Propagated::Done,
         }
     }
 }
