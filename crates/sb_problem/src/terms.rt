@@ -16,8 +16,9 @@ use std::alloc::{AllocError, Global};
 /// The number of a term's normal regex, `None` exactly where the term is no regular expression over literals: one that is
 /// made of words and ranges by concatenation, union and repetition.
 ///
-/// Linear in the term, but for the members of unions, which are sorted. `AllocError` only for want of memory; the arena
-/// may hold more regexes then.
+/// Linear in the term, but that the members of unions are sorted, and that a concatenation goes once more over the members
+/// of those of its parts that are concatenations. `AllocError` only for want of memory; the arena may hold more regexes
+/// then.
 #[cycle(normal)]
 pub fn normal(alloc: Global, arena: &mut Arena, term: &Term) -> Result<Option<RegexId>, AllocError>
     ensures number { IfOk result (λ found. IsNumberOf arena.new (term_in term.now) found) }
