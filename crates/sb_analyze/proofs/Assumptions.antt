@@ -5,10 +5,10 @@ use Rattle.std.specs.Option.{unwrap_or, option_and_then}
 use Rattle.std.proofs.lemmas.Bool.{false≢true, and_parts, or_left, or_right, or_cases, cases_lt, false_from_ne_true}
 use Rattle.std.proofs.lemmas.Option.{same_Some, slice_get_past}
 use Rattle.std.proofs.lemmas.List.Sorted.{list_any-IsPermutation}
-use Rattle.sb_word.specs.declared.clause.Lit.{Lit}
-use Rattle.sb_word.specs.declared.clause.ClauseId.{ClauseId}
-use Rattle.sb_word.specs.Clauses.{negation, is_same_literal, is_among, are_among, is_true_under, is_false_under, is_open_under}
-use Rattle.sb_rulebook.specs.ClauseRules.{Kept, KeptClause, kept_at}
+use Rattle.sb_lit.specs.declared.clause.Lit.{Lit}
+use Rattle.sb_lit.specs.declared.clause.ClauseId.{ClauseId}
+use Rattle.sb_lit.specs.Clauses.{negation, is_same_literal, is_among, are_among, is_true_under, is_false_under, is_open_under}
+use Rattle.sb_lit.specs.Kept.{Kept, KeptClause, kept_at}
 use Rattle.sb_trail.specs.declared.assigned.Assigned.{Assigned}
 use Rattle.sb_trail.specs.Assignments.{entry_of, reason_of, held, AreDistinct}
 use Rattle.sb_clauses.specs.Propagation.{IsConflict}
@@ -17,9 +17,10 @@ use Rattle.sb_analyze.specs.Cores.{are_negated, HasBoth, IsReasonOfFalse, AreAss
 use Rattle.sb_analyze.specs.Assumed.{passes_at}
 use Rattle.sb_analyze.specs.declared.learned.Learned.{Learned}
 use Rattle.sb_analyze.specs.Explained.{Stands, IsFalseOrReason, IsDecided}
-use Rattle.sb_analyze.proofs.Literals.{is_same_literal-true, is_same_literal-of, negation_twice, all_among, all_from_among, among_negated}
+use Rattle.sb_lit.proofs.CallerLemmas.{is_same_literal-true, is_same_literal-of, negation_twice, all_among, all_from_among, among_negated}
 use Rattle.sb_analyze.proofs.Findings.{is_or_false}
-use Rattle.sb_analyze.proofs.Entries.{cond_cases, cond_none, stands_from, entry_of-atom, stands_once, entry_of_true, reasoned_at}
+use Rattle.sb_trail.proofs.CallerLemmas.{cond_cases, cond_none}
+use Rattle.sb_analyze.proofs.Entries.{stands_from, entry_of-atom, stands_once, entry_of_true, reasoned_at}
 use Rattle.sb_analyze.proofs.Chains.{not_both}
 use Rattle.sb_analyze.proofs.Lessons.{accepted, not_repeated}
 
@@ -32,7 +33,11 @@ found_passes : (p : Lit → Bool) (ls : List Lit) (l : Lit) → Some l ≡ find 
 found_passes p [] l h = absurd (Prim.cc)
 found_passes p (m ∷ ms) l h =
     elim (cond_cases (p m) m l (find p ms) (sym h)) [
-      | inl here ↦ (or_left (is_same_literal m l) (is_among ms l) (is_same_literal-of m l here.1), ap p (sym here.1) ∙ here.0)
+      | inl here ↦ (
+        or_left (is_same_literal m l) (is_among ms l) (is_same_literal-of m l here.1),
+        ap p (sym here.1)
+            ∙ here.0,
+      )
       | inr later ↦
           let rest = found_passes p ms l (sym later.1) in
           (or_right (is_same_literal m l) (is_among ms l) rest.0, rest.1)
@@ -47,54 +52,73 @@ none_passes p (m ∷ ms) h l among =
       | inr later ↦ none_passes p ms parts.1 l later
     ]
 
-module _ (kept : Kept) (assumptions : List Lit) (has : Lit → Bool) (has_is : (l : Lit) → has l ≡ is_among (map negation assumptions) l) where
-  by_clause : (id : ℕ) (o : Option KeptClause) → kept_at kept id ≡ o → elim o as (λ _. Bool) [ None ↦ false | Some clause ↦ list_all has clause.literals ] ≡ true → IsKeptCore kept assumptions id
+module _ (kept : Kept) (assumptions : List Lit) (has : Lit → Bool) (has_is : (l : Lit)
+    → has l ≡ is_among (map negation assumptions) l) where
+  by_clause : (id : ℕ) (o : Option KeptClause) → kept_at kept id ≡ o
+      → elim o as (λ _. Bool) [ None ↦ false | Some clause ↦ list_all has clause.literals ] ≡ true
+      → IsKeptCore kept assumptions id
   by_clause id None there h = absurd (false≢true h)
-  by_clause id (Some clause) there h = record { clause = clause; there = there; negated = sym (all_same has (is_among (map negation assumptions)) has_is clause.literals) ∙ h }
+  by_clause id (Some clause) there h =
+      record {
+        clause = clause;
+        there = there;
+        negated =
+            sym (all_same has (is_among (map negation assumptions)) has_is clause.literals) ∙ h;
+      }
 
   pub kept_core : (id : ℕ) → passes_at kept has id ≡ true → IsKeptCore kept assumptions id
   kept_core id h = by_clause id (kept_at kept id) refl h
 
-  passes_clause : (id : ℕ) (clause : KeptClause) → kept_at kept id ≡ Some clause → passes_at kept has id ≡ list_all has clause.literals
-  passes_clause id clause there = ap (λ (o : Option KeptClause). elim o as (λ _. Bool) [ None ↦ false | Some c ↦ list_all has c.literals ]) there
+  passes_clause : (id : ℕ) (clause : KeptClause) → kept_at kept id ≡ Some clause
+      → passes_at kept has id ≡ list_all has clause.literals
+  passes_clause id clause there =
+      ap (λ (o : Option KeptClause). elim o as (λ _. Bool) [ None ↦ false | Some c ↦ list_all has c.literals ]) there
 
   pub no_kept_core : ((id : ℕ) → id < length kept → passes_at kept has id ≡ false) → HasNoKeptCore kept assumptions
   no_kept_core h id clause there =
       elim (cases_lt id (length kept)) [
-        | inl within ↦ sym (all_same has (is_among (map negation assumptions)) has_is clause.literals) ∙ sym (passes_clause id clause there) ∙ h id within
+        | inl within ↦ sym (all_same has (is_among (map negation assumptions)) has_is clause.literals)
+            ∙ sym (passes_clause id clause there) ∙ h id within
         | inr past ↦
-            let none : kept_at kept id ≡ None = ap (λ (o : Option (Option KeptClause)). unwrap_or o None) (slice_get_past kept id past) in
+            let none : kept_at kept id ≡ None =
+            ap (λ (o : Option (Option KeptClause)). unwrap_or o None) (slice_get_past kept id past) in
             absurd (Prim.cc (none, there))
       ]
 
   has_negation : (l : Lit) → has l ≡ is_among assumptions (negation l)
   has_negation l = has_is l ∙ among_negated assumptions l
 
-  pub both_core : HasNoKeptCore kept assumptions → (l : Lit) → Some l ≡ find has assumptions → IsBothCore kept assumptions l
+  pub both_core : HasNoKeptCore kept assumptions → (l : Lit) → Some l ≡ find has assumptions
+      → IsBothCore kept assumptions l
   both_core no_kept l h =
       let found = found_passes has assumptions l h in
       record { no_kept = no_kept; one = found.0; other = sym (has_negation l) ∙ found.1 }
 
-  pub never_both : find has assumptions ≡ None → (l : Lit) → is_among assumptions l ≡ true → is_among assumptions (negation l) ≡ false
+  pub never_both : find has assumptions ≡ None → (l : Lit) → is_among assumptions l ≡ true
+      → is_among assumptions (negation l) ≡ false
   never_both h l among = sym (has_negation l) ∙ none_passes has assumptions h l among
 
   pub no_both : find has assumptions ≡ None → HasBoth assumptions → ⊥
   no_both h both = false≢true (sym (never_both h both.literal both.one) ∙ both.other)
 
 -- the reason of an entry of an atom
-reason_entry : (entries : List Assigned) (a : ℕ) (id : ClauseId) → reason_of entries a ≡ Some id → (f : Assigned) × (entry_of entries a ≡ Some f) × (f.reason ≡ Some id)
+reason_entry : (entries : List Assigned) (a : ℕ) (id : ClauseId) → reason_of entries a ≡ Some id
+    → (f : Assigned) × (entry_of entries a ≡ Some f) × (f.reason ≡ Some id)
 reason_entry entries a id h = by_entry (entry_of entries a) refl h
   where
-    by_entry : (o : Option Assigned) → entry_of entries a ≡ o → option_and_then (λ (e : Assigned). e.reason) o ≡ Some id → (f : Assigned) × (entry_of entries a ≡ Some f) × (f.reason ≡ Some id)
+    by_entry : (o : Option Assigned) → entry_of entries a ≡ o → option_and_then (λ (e : Assigned). e.reason) o ≡ Some id
+        → (f : Assigned) × (entry_of entries a ≡ Some f) × (f.reason ≡ Some id)
     by_entry None is none = absurd (Prim.cc (none))
     by_entry (Some f) is reason = (f, is, reason)
 
 -- decisions are assumptions
-assumed : (assumptions : List Lit) (es : List Assigned) → AreAssumed assumptions es → (e : Assigned) → Stands es e → e.reason ≡ None → is_among assumptions e.literal ≡ true
+assumed : (assumptions : List Lit) (es : List Assigned) → AreAssumed assumptions es → (e : Assigned) → Stands es e
+    → e.reason ≡ None → is_among assumptions e.literal ≡ true
 assumed assumptions [] h e there is = absurd (Prim.cc (there))
 assumed assumptions (x ∷ xs) h e there is =
     elim (cond_cases (eqb x.literal.atom e.literal.atom) x e (entry_of xs e.literal.atom) there) [
-      | inl here ↦ ap (λ (y : Assigned). is_among assumptions y.literal) (sym here.1) ∙ h.0 (ap (λ (y : Assigned). y.reason) here.1 ∙ is)
+      | inl here ↦ ap (λ (y : Assigned). is_among assumptions y.literal) (sym here.1)
+          ∙ h.0 (ap (λ (y : Assigned). y.reason) here.1 ∙ is)
       | inr later ↦ assumed assumptions xs h.1 e later.1 is
     ]
 
@@ -109,7 +133,8 @@ place_of (x ∷ xs) e there =
           (suc rest.0, omega (arith, rest.1), rest.2)
     ]
 
-true_on : (n : ℕ) (es : List Assigned) (l : Lit) → is_true_under (held (take n es)) l ≡ true → is_true_under (held es) l ≡ true
+true_on : (n : ℕ) (es : List Assigned) (l : Lit) → is_true_under (held (take n es)) l ≡ true
+    → is_true_under (held es) l ≡ true
 true_on zero es l h = absurd (false≢true h)
 true_on (suc n) [] l h = h
 true_on (suc n) (x ∷ xs) l h =
@@ -125,37 +150,47 @@ record IsReason (kept : Kept) (entries : List Assigned) (id : ClauseId) (e : Ass
   among : is_among clause.literals e.literal ≡ true
   others : (m : Lit) → is_among clause.literals m ≡ true → (m ≡ e.literal) ⊎ (is_false_under (held entries) m ≡ true)
 
-reason_is : (kept : Kept) (entries : List Assigned) → AreReasoned kept [] entries → (id : ClauseId) (e : Assigned) → Stands entries e → e.reason ≡ Some id → IsReason kept entries id e
+reason_is : (kept : Kept) (entries : List Assigned) → AreReasoned kept [] entries → (id : ClauseId) (e : Assigned)
+    → Stands entries e → e.reason ≡ Some id → IsReason kept entries id e
 reason_is kept entries reasoned id e there is =
     let place = place_of entries e there in
     let at : (e.reason ≡ None) ⊎ HasReason kept (take place.0 entries) e =
-    subst (λ (f : Assigned). (f.reason ≡ None) ⊎ HasReason kept (take place.0 entries) f) place.2 (reasoned_at kept [] entries place.0 e place.1 reasoned) in
+    subst (λ (f : Assigned). (f.reason ≡ None) ⊎ HasReason kept (take place.0 entries) f) place.2
+    (reasoned_at kept [] entries place.0 e place.1 reasoned) in
     elim at [
       | inl none ↦ absurd (Prim.cc (is, none))
       | inr h ↦
           let same : h.id ≡ id = same_Some h.id id (sym h.reason ∙ is) in
-          let outer = and_parts (is_among h.clause.literals e.literal && is_open_under (held (take place.0 entries)) e.literal) (list_all (is_or_false (held (take place.0 entries)) e.literal) h.clause.literals) h.forces in
+          let outer = and_parts
+          (is_among h.clause.literals e.literal && is_open_under (held (take place.0 entries)) e.literal)
+          (list_all (is_or_false (held (take place.0 entries)) e.literal) h.clause.literals) h.forces in
           record {
             clause = h.clause;
             there = ap (λ (x : ClauseId). kept_at kept x.0) (sym same) ∙ h.there;
-            among = (and_parts (is_among h.clause.literals e.literal) (is_open_under (held (take place.0 entries)) e.literal) outer.0).0;
-            others = λ m among. elim (or_cases (is_same_literal m e.literal) (is_false_under (held (take place.0 entries)) m) (all_among (is_or_false (held (take place.0 entries)) e.literal) h.clause.literals m outer.1 among)) [
-              | inl same' ↦ inl (is_same_literal-true m e.literal same')
-              | inr is_false ↦ inr (true_on place.0 entries (negation m) is_false)
-            ];
+            among = (and_parts (is_among h.clause.literals e.literal)
+                (is_open_under (held (take place.0 entries)) e.literal) outer.0).0;
+            others = λ m among. elim
+                (or_cases (is_same_literal m e.literal) (is_false_under (held (take place.0 entries)) m)
+                (all_among (is_or_false (held (take place.0 entries)) e.literal) h.clause.literals m outer.1 among)) [
+                  | inl same' ↦ inl (is_same_literal-true m e.literal same')
+                  | inr is_false ↦ inr (true_on place.0 entries (negation m) is_false)
+                ];
           }
     ]
 
 -- the conflict is false, or forced a literal
-pub false_or_reason : (kept : Kept) (entries : List Assigned) (assumptions : List Lit) (id : ClauseId) → IsConflict kept (held entries) id.0 ⊎ IsReasonOfFalse entries assumptions id → IsFalseOrReason kept entries id
+pub false_or_reason : (kept : Kept) (entries : List Assigned) (assumptions : List Lit) (id : ClauseId)
+    → IsConflict kept (held entries) id.0 ⊎ IsReasonOfFalse entries assumptions id → IsFalseOrReason kept entries id
 false_or_reason kept entries assumptions id (inl conflict) = inl conflict
 false_or_reason kept entries assumptions id (inr h) =
     let f = reason_entry entries h.assumption.atom id h.reason in
     inr (f.0, stands_from entries h.assumption.atom f.0 f.1, f.2)
 
-module _ (kept : Kept) (entries : List Assigned) (distinct : AreDistinct entries) (reasoned : AreReasoned kept [] entries) (assumptions : List Lit) where
+module _ (kept : Kept) (entries : List Assigned) (distinct : AreDistinct entries)
+    (reasoned : AreReasoned kept [] entries) (assumptions : List Lit) where
   -- two literals that one clause forced are one
-  forced_once : (id : ClauseId) (e f : Assigned) → Stands entries e → e.reason ≡ Some id → Stands entries f → f.reason ≡ Some id → f.literal ≡ e.literal
+  forced_once : (id : ClauseId) (e f : Assigned) → Stands entries e → e.reason ≡ Some id → Stands entries f
+      → f.reason ≡ Some id → f.literal ≡ e.literal
   forced_once id e f at_e is_e at_f is_f =
       let re = reason_is kept entries reasoned id e at_e is_e in
       let rf = reason_is kept entries reasoned id f at_f is_f in
@@ -166,33 +201,49 @@ module _ (kept : Kept) (entries : List Assigned) (distinct : AreDistinct entries
       ]
 
   -- the literal that the conflict forced is a negated assumption
-  forced_negated : (id : ClauseId) → IsConflict kept (held entries) id.0 ⊎ IsReasonOfFalse entries assumptions id → (e : Assigned) → Stands entries e → e.reason ≡ Some id → is_among (map negation assumptions) e.literal ≡ true
+  forced_negated : (id : ClauseId) → IsConflict kept (held entries) id.0 ⊎ IsReasonOfFalse entries assumptions id
+      → (e : Assigned) → Stands entries e → e.reason ≡ Some id → is_among (map negation assumptions) e.literal ≡ true
   forced_negated id (inl conflict) e there is =
       let r = reason_is kept entries reasoned id e there is in
       let same : r.clause ≡ conflict.clause = same_Some r.clause conflict.clause (sym r.there ∙ conflict.there) in
-      absurd (not_both entries distinct e there (all_among (is_false_under (held entries)) conflict.clause.literals e.literal conflict.is_false (ap (λ (k : KeptClause). is_among k.literals e.literal) (sym same) ∙ r.among)))
+      absurd (not_both entries distinct e there
+      (all_among (is_false_under (held entries)) conflict.clause.literals e.literal conflict.is_false
+      (ap (λ (k : KeptClause). is_among k.literals e.literal) (sym same) ∙ r.among)))
   forced_negated id (inr h) e there is =
       let f = reason_entry entries h.assumption.atom id h.reason in
       let at_f = stands_from entries h.assumption.atom f.0 f.1 in
       let found = entry_of_true entries (negation h.assumption) distinct h.is_false in
-      let same : found.entry ≡ f.0 = stands_once entries f.0 found.entry at_f found.stands (ap (λ (l : Lit). l.atom) found.literal ∙ sym (entry_of-atom entries h.assumption.atom f.0 f.1)) in
-      let is_negation : e.literal ≡ negation h.assumption = forced_once id f.0 e at_f f.2 there is ∙ ap (λ (x : Assigned). x.literal) (sym same) ∙ found.literal in
-      ap (is_among (map negation assumptions)) is_negation ∙ among_negated assumptions (negation h.assumption) ∙ ap (is_among assumptions) (negation_twice h.assumption) ∙ h.given
+      let same : found.entry ≡ f.0 =
+      stands_once entries f.0 found.entry at_f found.stands (ap (λ (l : Lit). l.atom) found.literal
+      ∙ sym (entry_of-atom entries h.assumption.atom f.0 f.1)) in
+      let is_negation : e.literal ≡ negation h.assumption = forced_once id f.0 e at_f f.2 there is
+      ∙ ap (λ (x : Assigned). x.literal) (sym same) ∙ found.literal in
+      ap (is_among (map negation assumptions)) is_negation ∙ among_negated assumptions (negation h.assumption)
+      ∙ ap (is_among assumptions) (negation_twice h.assumption) ∙ h.given
 
-  pub new_core : AreAssumed assumptions entries → HasNoKeptCore kept assumptions → ((l : Lit) → is_among assumptions l ≡ true → is_among assumptions (negation l) ≡ false) → (id : ClauseId) → IsConflict kept (held entries) id.0 ⊎ IsReasonOfFalse entries assumptions id
+  pub new_core : AreAssumed assumptions entries → HasNoKeptCore kept assumptions
+      → ((l : Lit) → is_among assumptions l ≡ true → is_among assumptions (negation l) ≡ false) → (id : ClauseId)
+      → IsConflict kept (held entries) id.0 ⊎ IsReasonOfFalse entries assumptions id
       → (lesson : Learned) → IsDecided kept entries id lesson → IsNewCore kept assumptions lesson.clause lesson.hints
   new_core decisions no_kept apart id final lesson h =
       let p : Lit → Bool = is_among (map negation assumptions) in
       let all : list_all p h.explanation.clause ≡ true = h.decided p
-      (λ e there is. among_negated assumptions (negation e.literal) ∙ ap (is_among assumptions) (negation_twice e.literal) ∙ assumed assumptions entries decisions e there is)
+      (λ e there is. among_negated assumptions (negation e.literal)
+      ∙ ap (is_among assumptions) (negation_twice e.literal) ∙ assumed assumptions entries decisions e there is)
       (forced_negated id final) in
       let negated : are_negated assumptions lesson.clause ≡ true = all_from_among p lesson.clause (λ l among.
-      all_among p h.explanation.clause l all (list_any-IsPermutation (λ m. is_same_literal m l) h.explanation.clause lesson.clause h.made.permutation ∙ among)) in
+      all_among p h.explanation.clause l all
+      (list_any-IsPermutation (λ m. is_same_literal m l) h.explanation.clause lesson.clause h.made.permutation
+      ∙ among)) in
       record {
         no_kept = no_kept;
         not_both = apart;
         negated = negated;
-        accepted = accepted kept h.explanation lesson.clause lesson.hints h.explained h.made.permutation h.made.hints (h.made.ascending h.distinct) (not_repeated kept lesson.clause (λ other k there.
+        accepted = accepted kept h.explanation lesson.clause lesson.hints h.explained h.made.permutation h.made.hints
+            (h.made.ascending h.distinct) (not_repeated kept lesson.clause (λ other k there.
             false_from_ne_true (are_among k.literals lesson.clause) (λ subset.
-            false≢true (sym (no_kept other k there) ∙ all_from_among p k.literals (λ l among. all_among p lesson.clause l negated (all_among (is_among lesson.clause) k.literals l subset among))))));
+            false≢true (sym (no_kept other k there)
+            ∙ all_from_among p k.literals
+            (λ l among. all_among p lesson.clause l negated
+            (all_among (is_among lesson.clause) k.literals l subset among))))));
       }

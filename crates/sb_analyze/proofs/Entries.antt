@@ -1,28 +1,19 @@
 -- Entries of a trail and of its fronts.
-use Rattle.std.proofs.Common.{◌≡◌, ℕ, zero, suc, ◌+◌, ◌<◌, ◌≤◌, Bool, true, false, cond, ◌⊎◌, eqb, List, [], ◌∷◌, ◌++◌, length, get_or, take, Option, Some, None, refl, sym, ◌∙◌, ap, inl, inr, arith}
-use Rattle.std.specs.Option.{option_or}
+use Rattle.std.proofs.Common.{◌≡◌, ℕ, zero, suc, ◌+◌, ◌<◌, ◌≤◌, Bool, true, false, cond, ◌⊎◌, eqb, List, [], ◌∷◌, ◌++◌, length, get_or, take, Option, Some, None, refl, sym, ◌∙◌, ap, inl, inr, arith, append_assoc}
 use Rattle.std.specs.List.{count_by}
-use Rattle.std.proofs.lemmas.Bool.{false≢true, cases_Bool, or_left, or_right, or_cases, eqb-true, eqb-false, eq-eqb, ne_eqb}
+use Rattle.std.proofs.lemmas.Bool.{false≢true, cases_Bool, or_left, or_right, or_cases, eqb-true, eqb-false, eq-eqb}
 use Rattle.std.proofs.lemmas.Option.{same_Some}
-use Rattle.std.proofs.lemmas.List.Folds.{find-append}
+use Rattle.std.proofs.lemmas.List.{append-nil}
 use Rattle.std.proofs.lemmas.List.Sums.{sum_by-cons}
-use Rattle.sb_word.specs.declared.clause.Lit.{Lit}
-use Rattle.sb_word.specs.Clauses.{is_same_literal, is_among, is_true_under}
-use Rattle.sb_rulebook.specs.ClauseRules.{Kept}
+use Rattle.sb_lit.specs.declared.clause.Lit.{Lit}
+use Rattle.sb_lit.specs.Clauses.{is_same_literal, is_among, is_true_under}
+use Rattle.sb_lit.specs.Kept.{Kept}
 use Rattle.sb_trail.specs.declared.assigned.Assigned.{Assigned}
-use Rattle.sb_trail.specs.Assignments.{is_of, entry_of, held, level_after, level_behind, AreDistinct, AreLevelled}
+use Rattle.sb_trail.proofs.CallerLemmas.{cond_none, cond_cases, entry_of-push, entry_of-front, entry_of-level}
+use Rattle.sb_trail.specs.Assignments.{entry_of, held, level_after, level_behind, AreDistinct, AreLevelled}
 use Rattle.sb_analyze.specs.Reasons.{HasReason, AreReasoned, level_in}
 use Rattle.sb_analyze.specs.Explained.{Stands}
-use Rattle.sb_analyze.proofs.Literals.{is_same_literal-true, is_same_literal-of}
-
--- where a choice gives an entry
-pub cond_cases : {A : Type 0} (b : Bool) (x y : A) (o : Option A) → cond b (Some x) o ≡ Some y → ((b ≡ true) × (x ≡ y)) ⊎ ((b ≡ false) × (o ≡ Some y))
-cond_cases true x y o h = inl (refl, same_Some x y h)
-cond_cases false x y o h = inr (refl, h)
-
-pub cond_none : {A : Type 0} (b : Bool) (x : A) (o : Option A) → cond b (Some x) o ≡ None → (b ≡ false) × (o ≡ None)
-cond_none true x o h = absurd (cc)
-cond_none false x o h = (refl, h)
+use Rattle.sb_lit.proofs.CallerLemmas.{is_same_literal-true, is_same_literal-of}
 
 -- the entry of an atom is of that atom
 pub entry_of-atom : (es : List Assigned) (a : ℕ) (e : Assigned) → entry_of es a ≡ Some e → e.literal.atom ≡ a
@@ -37,14 +28,16 @@ pub stands_from : (es : List Assigned) (a : ℕ) (e : Assigned) → entry_of es 
 stands_from es a e h = ap (entry_of es) (entry_of-atom es a e h) ∙ h
 
 -- one entry at most is of an atom
-pub stands_once : (es : List Assigned) (e f : Assigned) → Stands es e → Stands es f → f.literal.atom ≡ e.literal.atom → f ≡ e
+pub stands_once : (es : List Assigned) (e f : Assigned) → Stands es e → Stands es f → f.literal.atom ≡ e.literal.atom
+    → f ≡ e
 stands_once es e f he hf same = same_Some f e (sym hf ∙ ap (entry_of es) same ∙ he)
 
 pub stands_head : (e : Assigned) (es : List Assigned) → Stands (e ∷ es) e
 stands_head e es = rw (eq-eqb e.literal.atom e.literal.atom refl) refl
 
 -- where an entry stands in a list whose head is of another atom
-pub stands_tail : (x : Assigned) (xs : List Assigned) (e : Assigned) → AreDistinct (x ∷ xs) → Stands xs e → Stands (x ∷ xs) e
+pub stands_tail : (x : Assigned) (xs : List Assigned) (e : Assigned) → AreDistinct (x ∷ xs) → Stands xs e
+    → Stands (x ∷ xs) e
 stands_tail x xs e h there =
     elim (cases_Bool (eqb x.literal.atom e.literal.atom)) [
       | inl same ↦
@@ -57,8 +50,10 @@ pub stands_true : (es : List Assigned) (e : Assigned) → Stands es e → is_tru
 stands_true [] e h = absurd (cc)
 stands_true (x ∷ xs) e h =
     elim (cond_cases (eqb x.literal.atom e.literal.atom) x e (entry_of xs e.literal.atom) h) [
-      | inl here ↦ or_left (is_same_literal x.literal e.literal) (is_among (held xs) e.literal) (is_same_literal-of x.literal e.literal (ap (λ (y : Assigned). y.literal) here.1))
-      | inr later ↦ or_right (is_same_literal x.literal e.literal) (is_among (held xs) e.literal) (stands_true xs e later.1)
+      | inl here ↦ or_left (is_same_literal x.literal e.literal) (is_among (held xs) e.literal)
+          (is_same_literal-of x.literal e.literal (ap (λ (y : Assigned). y.literal) here.1))
+      | inr later ↦ or_right (is_same_literal x.literal e.literal) (is_among (held xs) e.literal)
+          (stands_true xs e later.1)
     ]
 
 -- the entry of a literal that is true
@@ -78,19 +73,6 @@ entry_of_true (x ∷ xs) l h is_true =
     ]
 
 -- one more entry at the end
-entry_of-push : (es : List Assigned) (e : Assigned) (a : ℕ) → entry_of (es ++ e ∷ []) a ≡ option_or (entry_of es a) (cond (eqb e.literal.atom a) (Some e) None)
-entry_of-push es e a = find-append (is_of a) es (e ∷ [])
-
-or_none : {A : Type 0} (o p : Option A) → option_or o p ≡ None → (o ≡ None) × (p ≡ None)
-or_none None p h = (refl, h)
-or_none (Some x) p h = absurd (cc)
-
-pub none_before : (es : List Assigned) (e : Assigned) (a : ℕ) → entry_of (es ++ e ∷ []) a ≡ None → (entry_of es a ≡ None) × (e.literal.atom ≡ a → ⊥)
-none_before es e a h =
-    let both = or_none (entry_of es a) (cond (eqb e.literal.atom a) (Some e) None) (sym (entry_of-push es e a) ∙ h) in
-    let other = cond_none (eqb e.literal.atom a) e None both.1 in
-    (both.0, eqb-false e.literal.atom a other.0)
-
 pub stands_push : (es : List Assigned) (e f : Assigned) → Stands es f → Stands (es ++ e ∷ []) f
 stands_push es e f h = entry_of-push es e f.literal.atom ∙ rw h refl
 
@@ -106,9 +88,11 @@ stands_cases es e f h = from (entry_of es f.literal.atom) refl
     last false is = absurd (Prim.cc)
 
     from : (o : Option Assigned) → entry_of es f.literal.atom ≡ o → Stands es f ⊎ (f ≡ e)
-    from None none = inr (last (eqb e.literal.atom f.literal.atom) (sym (entry_of-push es e f.literal.atom ∙ rw none refl) ∙ h))
+    from None none = inr (last (eqb e.literal.atom f.literal.atom)
+        (sym (entry_of-push es e f.literal.atom ∙ rw none refl) ∙ h))
     from (Some g) some =
-        let same : ◌≡◌ {A = Option Assigned} (Some g) (Some f) = sym (entry_of-push es e f.literal.atom ∙ rw some refl) ∙ h in
+        let same : ◌≡◌ {A = Option Assigned} (Some g) (Some f) = sym (entry_of-push es e f.literal.atom ∙ rw some refl)
+        ∙ h in
         inl (some ∙ same)
 
 -- fronts
@@ -124,95 +108,65 @@ distinct_front zero es h = tt
 distinct_front (suc n) [] h = tt
 distinct_front (suc n) (x ∷ xs) h = (take_none n xs x.literal.atom h.0, distinct_front n xs h.1)
 
-pub distinct_pop : (es : List Assigned) (e : Assigned) → AreDistinct (es ++ e ∷ []) → AreDistinct es × (entry_of es e.literal.atom ≡ None)
-distinct_pop [] e h = (tt, refl)
-distinct_pop (x ∷ xs) e h =
-    let rest = distinct_pop xs e h.1 in
-    let parts = none_before xs e x.literal.atom h.0 in
-    let other : x.literal.atom ≡ e.literal.atom → ⊥ = λ same. parts.1 (sym same) in
-    ((parts.0, rest.0), rw (ne_eqb x.literal.atom e.literal.atom other) rest.1)
-
 pub stands_front : (n : ℕ) (es : List Assigned) (e : Assigned) → AreDistinct es → Stands (take n es) e → Stands es e
-stands_front zero es e h there = absurd (Prim.cc)
-stands_front (suc n) [] e h there = there
-stands_front (suc n) (x ∷ xs) e h there =
-    elim (cond_cases (eqb x.literal.atom e.literal.atom) x e (entry_of (take n xs) e.literal.atom) there) [
-      | inl here ↦ rw here.0 (ap (λ (y : Assigned). Some y) here.1)
-      | inr later ↦ stands_tail x xs e h (stands_front n xs e h.1 later.1)
-    ]
+stands_front n es e h there = entry_of-front e.literal.atom n es e there
 
 -- the level of an entry's literal
-pub level_in_stands : (es : List Assigned) (e : Assigned) (l : Lit) → Stands es e → l.atom ≡ e.literal.atom → level_in es l ≡ e.level
+pub level_in_stands : (es : List Assigned) (e : Assigned) (l : Lit) → Stands es e → l.atom ≡ e.literal.atom
+    → level_in es l ≡ e.level
 level_in_stands es e l h same = rw (same, h) refl
 
 -- the reason of the entry at a place
-pub reasoned_at : (kept : Kept) (before es : List Assigned) (n : ℕ) (d : Assigned) → n < length es → AreReasoned kept before es → ((get_or es n d).reason ≡ None) ⊎ HasReason kept (before ++ take n es) (get_or es n d)
+pub reasoned_at : (kept : Kept) (before es : List Assigned) (n : ℕ) (d : Assigned) → n < length es
+    → AreReasoned kept before es → ((get_or es n d).reason ≡ None)
+    ⊎ HasReason kept (before ++ take n es) (get_or es n d)
 reasoned_at kept before [] n d within h = absurd (omega arith)
-reasoned_at kept before (e ∷ es) zero d within h = rw append_nil h.0
-  where
-    append_nil : (xs : List Assigned) → xs ++ [] ≡ xs
-    append_nil [] = refl
-    append_nil (x ∷ xs) = ap (λ ys. x ∷ ys) (append_nil xs)
-reasoned_at kept before (e ∷ es) (suc n) d within h = rw (← moved before) (reasoned_at kept (before ++ e ∷ []) es n d (omega arith) h.1)
-  where
-    moved : (xs : List Assigned) → (xs ++ e ∷ []) ++ take n es ≡ xs ++ (e ∷ take n es)
-    moved [] = refl
-    moved (x ∷ xs) = ap (λ ys. x ∷ ys) (moved xs)
+reasoned_at kept before (e ∷ es) zero d within h = rw append-nil h.0
+reasoned_at kept before (e ∷ es) (suc n) d within h =
+    rw (← append_assoc before (e ∷ []) (take n es)) (reasoned_at kept (before ++ e ∷ []) es n d (omega arith) h.1)
 
 -- the level of the entry at a place
-pub level_at : (m : ℕ) (es : List Assigned) (n : ℕ) (d : Assigned) → n < length es → AreLevelled m es → (get_or es n d).level ≡ level_behind (level_after m (take n es)) (get_or es n d).reason
+pub level_at : (m : ℕ) (es : List Assigned) (n : ℕ) (d : Assigned) → n < length es → AreLevelled m es
+    → (get_or es n d).level ≡ level_behind (level_after m (take n es)) (get_or es n d).reason
 level_at m [] n d within h = absurd (omega arith)
 level_at m (e ∷ es) zero d within h = h.0
 level_at m (e ∷ es) (suc n) d within h = level_at e.level es n d (omega arith) h.1
 
-pub level_behind-above : (n : ℕ) (e : Assigned) → n ≤ level_behind n e.reason
-level_behind-above n e = from e.reason
-  where
-    from : (o : Option _) → n ≤ level_behind n o
-    from None = omega arith
-    from (Some x) = omega arith
-
-pub level_after-above : (m : ℕ) (es : List Assigned) → AreLevelled m es → m ≤ level_after m es
-level_after-above m [] h = omega arith
-level_after-above m (e ∷ es) h = omega (arith, level_behind-above m e, h.0, level_after-above e.level es h.1)
-
 -- levels never fall
-pub level_below : (m : ℕ) (es : List Assigned) (e : Assigned) → AreLevelled m es → Stands es e → e.level ≤ level_after m es
-level_below m [] e h there = absurd (Prim.cc)
-level_below m (x ∷ xs) e h there =
-    elim (cond_cases (eqb x.literal.atom e.literal.atom) x e (entry_of xs e.literal.atom) there) [
-      | inl here ↦ omega (arith, level_after-above x.level xs h.1, ap (λ (y : Assigned). y.level) here.1)
-      | inr later ↦ level_below x.level xs e h.1 later.1
-    ]
-
-pub levelled_front : (m n : ℕ) (es : List Assigned) → AreLevelled m es → AreLevelled m (take n es)
-levelled_front m zero es h = tt
-levelled_front m (suc n) [] h = tt
-levelled_front m (suc n) (x ∷ xs) h = (h.0, levelled_front x.level n xs h.1)
+pub level_below : (m : ℕ) (es : List Assigned) (e : Assigned) → AreLevelled m es → Stands es e
+    → e.level ≤ level_after m es
+level_below m es e h there = entry_of-level m e.literal.atom es e h there
 
 -- counts of entries by two tests
-abbrev one_if : Bool → ℕ
+abbrev pub one_if : Bool → ℕ
 one_if b = cond b 1 0
 
-count_cons : (p : Assigned → Bool) (x : Assigned) (xs : List Assigned) → count_by p (x ∷ xs) ≡ one_if (p x) + count_by p xs
+count_cons : (p : Assigned → Bool) (x : Assigned) (xs : List Assigned)
+    → count_by p (x ∷ xs) ≡ one_if (p x) + count_by p xs
 count_cons p x xs = sum_by-cons (λ y. cond (p y) 1 0) x xs
 
-count_step : (p q : Assigned → Bool) (x : Assigned) (xs : List Assigned) (n : ℕ) → p x ≡ q x → count_by q xs ≡ count_by p xs + n → count_by q (x ∷ xs) ≡ count_by p (x ∷ xs) + n
+count_step : (p q : Assigned → Bool) (x : Assigned) (xs : List Assigned) (n : ℕ) → p x ≡ q x
+    → count_by q xs ≡ count_by p xs + n → count_by q (x ∷ xs) ≡ count_by p (x ∷ xs) + n
 count_step p q x xs n same rest =
     let head : one_if (p x) ≡ one_if (q x) = ap one_if same in
     omega (arith, count_cons p x xs, count_cons q x xs, rest, head)
 
-pub count_agree : (p q : Assigned → Bool) (es : List Assigned) → AreDistinct es → ((e : Assigned) → Stands es e → p e ≡ q e) → count_by q es ≡ count_by p es + 0
+pub count_agree : (p q : Assigned → Bool) (es : List Assigned) → AreDistinct es
+    → ((e : Assigned) → Stands es e → p e ≡ q e) → count_by q es ≡ count_by p es + 0
 count_agree p q [] h agree = refl
 count_agree p q (x ∷ xs) h agree =
-    count_step p q x xs 0 (agree x (stands_head x xs)) (count_agree p q xs h.1 (λ e there. agree e (stands_tail x xs e h there)))
+    count_step p q x xs 0 (agree x (stands_head x xs))
+    (count_agree p q xs h.1 (λ e there. agree e (stands_tail x xs e h there)))
 
-pub count_more : (p q : Assigned → Bool) (es : List Assigned) (e : Assigned) → AreDistinct es → Stands es e → p e ≡ false → q e ≡ true → ((f : Assigned) → Stands es f → (f.literal.atom ≡ e.literal.atom → ⊥) → p f ≡ q f) → count_by q es ≡ count_by p es + 1
+pub count_more : (p q : Assigned → Bool) (es : List Assigned) (e : Assigned) → AreDistinct es → Stands es e
+    → p e ≡ false → q e ≡ true → ((f : Assigned) → Stands es f → (f.literal.atom ≡ e.literal.atom → ⊥) → p f ≡ q f)
+    → count_by q es ≡ count_by p es + 1
 count_more p q [] e h there off on agree = absurd (Prim.cc)
 count_more p q (x ∷ xs) e h there off on agree =
     elim (cond_cases (eqb x.literal.atom e.literal.atom) x e (entry_of xs e.literal.atom) there) [
       | inl here ↦
-          let rest : count_by q xs ≡ count_by p xs + 0 = count_agree p q xs h.1 (λ f stands. agree f (stands_tail x xs f h stands) (λ same.
+          let rest : count_by q xs ≡ count_by p xs + 0 =
+          count_agree p q xs h.1 (λ f stands. agree f (stands_tail x xs f h stands) (λ same.
           let head : x.literal.atom ≡ f.literal.atom = eqb-true x.literal.atom e.literal.atom here.0 ∙ sym same in
           let none : entry_of xs f.literal.atom ≡ None = ap (entry_of xs) (sym head) ∙ h.0 in
           absurd (Prim.cc (none, stands)))) in
@@ -220,11 +174,14 @@ count_more p q (x ∷ xs) e h there off on agree =
           let after : one_if (q x) ≡ 1 = ap one_if (ap q here.1 ∙ on) in
           omega (arith, count_cons p x xs, count_cons q x xs, rest, before, after)
       | inr later ↦
-          count_step p q x xs 1 (agree x (stands_head x xs) (λ same. eqb-false x.literal.atom e.literal.atom later.0 same)) (count_more p q xs e h.1 later.1 off on (λ f stands other. agree f (stands_tail x xs f h stands) other))
+          count_step p q x xs 1
+          (agree x (stands_head x xs) (λ same. eqb-false x.literal.atom e.literal.atom later.0 same))
+          (count_more p q xs e h.1 later.1 off on (λ f stands other. agree f (stands_tail x xs f h stands) other))
     ]
 
 -- where a count is 0 the test fails at each entry
-pub count_none : (p : Assigned → Bool) (es : List Assigned) (e : Assigned) → count_by p es ≡ 0 → Stands es e → p e ≡ false
+pub count_none : (p : Assigned → Bool) (es : List Assigned) (e : Assigned) → count_by p es ≡ 0 → Stands es e
+    → p e ≡ false
 count_none p [] e h there = absurd (Prim.cc)
 count_none p (x ∷ xs) e h there =
     let sum : one_if (p x) + count_by p xs ≡ 0 = sym (count_cons p x xs) ∙ h in

@@ -1,3 +1,4 @@
+pub mod CallerLemmas
 pub mod Literals
 pub mod Findings
 pub mod Entries
@@ -9,4 +10,3 @@ pub mod Starts
 pub mod Lessons
 pub mod Decisions
 pub mod Assumptions
-pub mod Searches

@@ -1,9 +1,9 @@
--- Literals against a set of literals.
+-- Private: literals against a set of literals.
 use Rattle.std.specs.Prelude.{ℕ, ◌==◌, Bool, false, ◌&&◌, Some, None}
 use Rattle.std.specs.List.{list_all}
 use mathlib.Core.Bool.{beq}
-use Rattle.sb_word.specs.declared.clause.Lit.{Lit}
-use Rattle.sb_rulebook.specs.ClauseRules.{Kept, kept_at}
+use Rattle.sb_lit.specs.declared.clause.Lit.{Lit}
+use Rattle.sb_lit.specs.Kept.{Kept, kept_at}
 
 -- the literals are one, as `==` finds out
 abbrev pub are_equal : Lit → Lit → Bool

@@ -1,9 +1,9 @@
 -- Why assumptions can't all be true.
 use Rattle.std.specs.Prelude.{◌≡◌, ℕ, ◌⊎◌, Bool, true, false, List, [], ◌∷◌, map, Option, Some, None}
-use Rattle.sb_word.specs.declared.clause.Lit.{Lit}
-use Rattle.sb_word.specs.declared.clause.ClauseId.{ClauseId}
-use Rattle.sb_word.specs.Clauses.{negation, is_among, are_among, is_false_under}
-use Rattle.sb_rulebook.specs.ClauseRules.{Kept, KeptClause, kept_at}
+use Rattle.sb_lit.specs.declared.clause.Lit.{Lit}
+use Rattle.sb_lit.specs.declared.clause.ClauseId.{ClauseId}
+use Rattle.sb_lit.specs.Clauses.{negation, is_among, are_among, is_false_under}
+use Rattle.sb_lit.specs.Kept.{Kept, KeptClause, kept_at}
 use Rattle.sb_trail.specs.declared.assigned.Assigned.{Assigned}
 use Rattle.sb_trail.specs.Assignments.{held, reason_of}
 use Rattle.sb_clauses.specs.Propagation.{IsConflict}
@@ -28,15 +28,18 @@ pub record IsReasonOfFalse (entries : List Assigned) (assumptions : List Lit) (i
   pub is_false : is_false_under (held entries) assumption ≡ true
   pub reason : reason_of entries assumption.atom ≡ Some id
 
--- A kept clause is false, or is the reason of a false assumption; without a clause two assumptions contradict each other.
+-- A kept clause is false, or is the reason of a false assumption; without a clause two assumptions contradict each
+-- other.
 abbrev pub IsFinal : Kept → List Assigned → List Lit → Option ClauseId → Type 0
 IsFinal kept entries assumptions None = HasBoth assumptions
-IsFinal kept entries assumptions (Some id) = IsConflict kept (held entries) id.0 ⊎ IsReasonOfFalse entries assumptions id
+IsFinal kept entries assumptions (Some id) = IsConflict kept (held entries) id.0
+    ⊎ IsReasonOfFalse entries assumptions id
 
 -- every decision is an assumption
 abbrev pub AreAssumed : List Lit → List Assigned → Type 0
 AreAssumed assumptions [] = Unit {0}
-AreAssumed assumptions (entry ∷ entries) = (entry.reason ≡ None → is_among assumptions entry.literal ≡ true) × AreAssumed assumptions entries
+AreAssumed assumptions (entry ∷ entries) = (entry.reason ≡ None → is_among assumptions entry.literal ≡ true)
+    × AreAssumed assumptions entries
 
 -- the kept clause has negated assumptions alone
 pub record IsKeptCore (kept : Kept) (assumptions : List Lit) (id : ℕ) : Type 0 where
@@ -46,7 +49,8 @@ pub record IsKeptCore (kept : Kept) (assumptions : List Lit) (id : ℕ) : Type 0
 
 -- no kept clause has
 abbrev pub HasNoKeptCore : Kept → List Lit → Type 0
-HasNoKeptCore kept assumptions = (id : ℕ) (clause : KeptClause) → kept_at kept id ≡ Some clause → are_negated assumptions clause.literals ≡ false
+HasNoKeptCore kept assumptions = (id : ℕ) (clause : KeptClause) → kept_at kept id ≡ Some clause
+    → are_negated assumptions clause.literals ≡ false
 
 pub record IsBothCore (kept : Kept) (assumptions : List Lit) (l : Lit) : Type 0 where
   pub no_kept : HasNoKeptCore kept assumptions

@@ -1,9 +1,9 @@
--- What an analysis of a conflict knows so far, from the newest literal back.
+-- Private: what an analysis of a conflict knows so far, from the newest literal back.
 use Rattle.std.specs.Prelude.{ℕ, ◌+◌, nat_lt, nat_le, Bool, true, false, not, ◌&&◌, ◌||◌, ◌==◌, if◌then◌else◌, List, [], ◌∷◌, ◌++◌, length, replicate, slice_set, slice_index_or, Option, Some, None}
-use Rattle.sb_word.specs.declared.clause.Lit.{Lit}
-use Rattle.sb_word.specs.declared.clause.ClauseId.{ClauseId}
-use Rattle.sb_word.specs.Clauses.{negation, is_false_under}
-use Rattle.sb_rulebook.specs.ClauseRules.{Kept, kept_at}
+use Rattle.sb_lit.specs.declared.clause.Lit.{Lit}
+use Rattle.sb_lit.specs.declared.clause.ClauseId.{ClauseId}
+use Rattle.sb_lit.specs.Clauses.{negation, is_false_under}
+use Rattle.sb_lit.specs.Kept.{Kept, kept_at}
 use Rattle.sb_trail.specs.declared.assigned.Assigned.{Assigned}
 use Rattle.sb_trail.specs.Assignments.{held}
 use Rattle.sb_analyze.specs.Reasons.{level_in}
@@ -35,7 +35,8 @@ is_pending level marks entry = nat_le level entry.level && is_met marks entry.li
 abbrev pub with_literal : List Assigned → Explanation → Lit → Explanation
 with_literal entries s l =
     if is_met s.marks l.atom || not (is_false_under (held entries) l) then s
-    else if nat_lt (level_in entries l) s.level then record s { marks = slice_set s.marks l.atom true; clause = s.clause ++ l ∷ [] }
+    else if nat_lt (level_in entries l) s.level
+    then record s { marks = slice_set s.marks l.atom true; clause = s.clause ++ l ∷ [] }
     else record s { marks = slice_set s.marks l.atom true; pending = s.pending + 1 }
 
 abbrev pub with_literals : List Assigned → Explanation → List Lit → Explanation
@@ -52,7 +53,9 @@ with_clause kept entries s id = with_literals entries (record s { hints = id ∷
 
 -- the literal of the entry is resolved with its reason, or stays where it was decided
 abbrev pub traced : Kept → List Assigned → Explanation → Assigned → Explanation
-traced kept entries s entry = elim entry.reason [ None ↦ record s { clause = s.clause ++ negation entry.literal ∷ [] } | Some id ↦ with_clause kept entries s id.0 ]
+traced kept entries s entry =
+    elim entry.reason
+    [ None ↦ record s { clause = s.clause ++ negation entry.literal ∷ [] } | Some id ↦ with_clause kept entries s id.0 ]
 
 -- the clause forced the literal of the entry
 abbrev pub is_forced_by : ClauseId → Assigned → Bool
@@ -65,7 +68,8 @@ no_entry = record { literal = record { atom = 0; positive = false }; level = 0; 
 -- with the literal of the entry at the place, if there is one
 abbrev pub with_forced : List Assigned → Explanation → Option ℕ → Explanation
 with_forced entries s None = s
-with_forced entries s (Some place) = record s { clause = s.clause ++ (slice_index_or entries place no_entry).literal ∷ [] }
+with_forced entries s (Some place) =
+    record s { clause = s.clause ++ (slice_index_or entries place no_entry).literal ∷ [] }
 
 -- the entries before the place, or all
 abbrev pub end_before : List Assigned → Option ℕ → ℕ

@@ -1,9 +1,10 @@
--- What a conflict teaches: a clause by the rule of learned clauses, and the level to go back to.
+-- What a conflict teaches: an asserting clause by the rule of learned clauses, and the backjump level.
 use Rattle.std.specs.Prelude.{◌≡◌, ℕ, ◌-◌, ◌<◌, true, false, ◌||◌, nat_le, List, Some, Ok}
 use Rattle.std.specs.List.{list_all}
-use Rattle.sb_word.specs.declared.clause.Lit.{Lit}
-use Rattle.sb_word.specs.Clauses.{is_same_literal, is_among, is_false_clause, leaves_only}
-use Rattle.sb_rulebook.specs.ClauseRules.{Kept, KeptClause, kept_at, learned}
+use Rattle.sb_lit.specs.declared.clause.Lit.{Lit}
+use Rattle.sb_lit.specs.Clauses.{is_same_literal, is_among, is_false_clause, leaves_only}
+use Rattle.sb_lit.specs.Kept.{Kept, KeptClause, kept_at}
+use Rattle.sb_lit.specs.Hints.{learned}
 use Rattle.sb_trail.specs.declared.assigned.Assigned.{Assigned}
 use Rattle.sb_trail.specs.Assignments.{held, up_to}
 use Rattle.sb_clauses.specs.Propagation.{IsSettled}
@@ -19,8 +20,8 @@ pub record HasTwoOf (entries : List Assigned) (clause : List Lit) (level : ℕ) 
   pub one_level : level_in entries one ≡ level
   pub other_level : level_in entries other ≡ level
 
--- The kept clause is false, two of its literals are of its highest level, which is above 0, and no kept clause is false or
--- leaves one literal on the levels below.
+-- The kept clause is false, two of its literals are of its highest level, which is above 0, and no kept clause is false
+-- or leaves one literal on the levels below.
 pub record IsTeaching (kept : Kept) (entries : List Assigned) (id : ℕ) (clause : KeptClause) : Type 0 where
   pub there : kept_at kept id ≡ Some clause
   pub is_false : is_false_clause (held entries) clause.literals ≡ true
@@ -32,14 +33,16 @@ pub record IsTeaching (kept : Kept) (entries : List Assigned) (id : ℕ) (clause
 abbrev pub IsAccepted : Kept → List Lit → List ℕ → Type 0
 IsAccepted kept clause hints = (level : ℕ) × (learned kept clause hints ≡ Ok level)
 
--- The clause is accepted and false on the trail. One literal is of the conflict's level, and all others are of levels up to
--- the one to go back to: from there on the clause leaves that literal, and on no level below.
-pub record IsLesson (kept : Kept) (entries : List Assigned) (level : ℕ) (clause : List Lit) (hints : List ℕ) (back_to : ℕ) : Type 0 where
+-- The clause is accepted and false on the trail. One literal, the negation of the first unique implication point, is of
+-- the conflict's level, and all others are of levels up to the backjump level: from there on the clause leaves that
+-- literal, and on no level below.
+pub record IsAsserting (kept : Kept) (entries : List Assigned) (level : ℕ) (clause : List Lit) (hints : List ℕ)
+    (backjump_level : ℕ) : Type 0 where
   pub accepted : IsAccepted kept clause hints
   pub is_false : is_false_clause (held entries) clause ≡ true
-  pub left : Lit
-  pub left_level : level_in entries left ≡ level
-  pub others : list_all (λ l. is_same_literal l left || nat_le (level_in entries l) back_to) clause ≡ true
-  pub below : back_to < level
-  pub leaves : leaves_only (held (up_to back_to entries)) clause left ≡ true
-  pub lowest : (n : ℕ) → n < back_to → leaves_only (held (up_to n entries)) clause left ≡ false
+  pub asserted : Lit
+  pub asserted_level : level_in entries asserted ≡ level
+  pub others : list_all (λ l. is_same_literal l asserted || nat_le (level_in entries l) backjump_level) clause ≡ true
+  pub below : backjump_level < level
+  pub leaves : leaves_only (held (up_to backjump_level entries)) clause asserted ≡ true
+  pub lowest : (n : ℕ) → n < backjump_level → leaves_only (held (up_to n entries)) clause asserted ≡ false

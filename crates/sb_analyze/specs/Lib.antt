@@ -5,4 +5,3 @@ pub mod Explaining
 pub mod Shown
 pub mod Explained
 pub mod Assumed
-pub mod Apart

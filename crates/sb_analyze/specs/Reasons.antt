@@ -1,9 +1,9 @@
 -- What a trail has to be for its reasons to explain it, and levels of literals on it.
 use Rattle.std.specs.Prelude.{◌≡◌, ℕ, max, ◌⊎◌, List, [], ◌∷◌, ◌++◌, unwrap_or, true, Some, None}
-use Rattle.sb_word.specs.declared.clause.Lit.{Lit}
-use Rattle.sb_word.specs.declared.clause.ClauseId.{ClauseId}
-use Rattle.sb_word.specs.Clauses.{leaves_only}
-use Rattle.sb_rulebook.specs.ClauseRules.{Kept, KeptClause, kept_at}
+use Rattle.sb_lit.specs.declared.clause.Lit.{Lit}
+use Rattle.sb_lit.specs.declared.clause.ClauseId.{ClauseId}
+use Rattle.sb_lit.specs.Clauses.{leaves_only}
+use Rattle.sb_lit.specs.Kept.{Kept, KeptClause, kept_at}
 use Rattle.sb_trail.specs.declared.assigned.Assigned.{Assigned}
 use Rattle.sb_trail.specs.Assignments.{held, level_of}
 
@@ -18,7 +18,8 @@ pub record HasReason (kept : Kept) (before : List Assigned) (entry : Assigned) :
 -- each entry is a decision, or has such a reason
 abbrev pub AreReasoned : Kept → List Assigned → List Assigned → Type 0
 AreReasoned kept before [] = Unit {0}
-AreReasoned kept before (entry ∷ entries) = ((entry.reason ≡ None) ⊎ HasReason kept before entry) × AreReasoned kept (before ++ entry ∷ []) entries
+AreReasoned kept before (entry ∷ entries) = ((entry.reason ≡ None) ⊎ HasReason kept before entry)
+    × AreReasoned kept (before ++ entry ∷ []) entries
 
 -- the level of a literal, 0 where it has no value
 abbrev pub level_in : List Assigned → Lit → ℕ

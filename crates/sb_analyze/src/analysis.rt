@@ -2,7 +2,7 @@
 
 ghost use Rattle.std.specs.Prelude.{◌≤◌, count_by};
 
-use sb_word::{ClauseId, Lit};
+use sb_lit::{ClauseId, Lit};
 
 /// What is known so far of a conflict.
 #[derive(Debug, Drop)]

@@ -3,17 +3,18 @@
 ghost use Rattle.std.specs.Prelude.{◌≡◌, ◌<◌, ℕ, find, map, length, true, false, MatchOption, IfOk};
 ghost use Rattle.std.specs.List.{list_all};
 ghost use Rattle.std.specs.HashSet.{contains};
-ghost use Rattle.sb_word.specs.Clauses.{negation, is_among};
+ghost use Rattle.sb_lit.specs.Clauses.{negation, is_among};
 ghost use Rattle.sb_analyze.specs.Assumed.{are_equal, passes_at};
 
 use sb_clauses::Clauses;
-use sb_word::{ClauseId, Lit};
+use sb_lit::{ClauseId, Lit};
 use std::alloc::{AllocError, Global};
 use std::collections::HashSet;
 
 /// The negations of the assumptions.
 pub(crate) fn negations(alloc: Global, assumptions: &[Lit]) -> Result<HashSet<Lit>, AllocError>
-    ensures { IfOk result (λ negated. (l : Lit) → contains are_equal negated l ≡ is_among (map negation assumptions.now) l) }
+    ensures { IfOk result (λ negated. (l : Lit)
+        → contains are_equal negated l ≡ is_among (map negation assumptions.now) l) }
 {
     let mut negated = HashSet::new(alloc);
     for assumption in assumptions {
@@ -41,7 +42,9 @@ fn has_clause(negated: &HashSet<Lit>, clauses: &Clauses, id: ClauseId) -> bool
 
 /// The first kept clause all of whose literals the set has.
 pub(crate) fn first_within(negated: &HashSet<Lit>, clauses: &Clauses) -> Option<ClauseId>
-    ensures { MatchOption result ((id : ℕ) → id < length clauses.now → passes_at clauses.now (contains are_equal negated.now) id ≡ false) (λ id. passes_at clauses.now (contains are_equal negated.now) id.0 ≡ true) }
+    ensures { MatchOption result ((id : ℕ) → id < length clauses.now
+        → passes_at clauses.now (contains are_equal negated.now) id ≡ false)
+        (λ id. passes_at clauses.now (contains are_equal negated.now) id.0 ≡ true) }
 {
     for number in 0..clauses.len() {
         let id = ClauseId(number as u64);

@@ -1,20 +1,20 @@
 //! Learning from a conflict.
 
 ghost use Rattle.std.specs.Prelude.{◌≡◌, [], Some, IfOk};
-ghost use Rattle.sb_rulebook.specs.ClauseRules.{KeptClause, kept_at};
+ghost use Rattle.sb_lit.specs.Kept.{KeptClause, kept_at};
 ghost use Rattle.sb_analyze.specs.Reasons.{AreReasoned, highest};
-ghost use Rattle.sb_analyze.specs.Learning.{IsTeaching, IsLesson};
+ghost use Rattle.sb_analyze.specs.Learning.{IsTeaching, IsAsserting};
 
 use crate::analysis::Analysis;
 use crate::explain::{highest, lesson};
 use crate::learned::Learned;
 use sb_clauses::Clauses;
+use sb_lit::ClauseId;
 use sb_trail::Trail;
-use sb_word::ClauseId;
 use std::alloc::{AllocError, Global};
 
-/// The clause that a conflict teaches: it is found by resolving the conflict with the reasons of its newest literals
-/// until one literal of the conflict's level is left.
+/// The asserting clause of a conflict: it is found by resolving the conflict with the reasons of its newest literals
+/// until one literal of the conflict's level is left, the first unique implication point.
 ///
 /// Linear in the number of atoms that have a place, in the trail's part behind that literal and in the literals of the
 /// clauses that are resolved, and it sorts the new clause's literals. `AllocError` only for want of memory.
@@ -26,7 +26,9 @@ pub fn learn(
 ) -> Result<Learned, AllocError>
     requires reasoned { AreReasoned clauses.now [] trail.now.literals }
     requires conflict { (clause : KeptClause) × IsTeaching clauses.now trail.now.literals conflict.0 clause }
-    ensures { IfOk result (λ lesson. (clause : KeptClause) → kept_at clauses.now conflict.0 ≡ Some clause → IsLesson clauses.now trail.now.literals (highest trail.now.literals clause.literals) lesson.clause lesson.hints lesson.back_to) }
+    ensures { IfOk result (λ lesson. (clause : KeptClause) → kept_at clauses.now conflict.0 ≡ Some clause
+        → IsAsserting clauses.now trail.now.literals (highest trail.now.literals clause.literals) lesson.clause
+        lesson.hints lesson.backjump_level) }
 {
     let Some(literals) = clauses.literals(conflict) else {
         unreachable!();
@@ -34,8 +36,8 @@ pub fn learn(
     let entries = trail.literals();
     let mut analysis = Analysis::new(alloc, trail, highest(trail, literals))?;
     analysis.resolve(trail, clauses, conflict)?;
-    let left = analysis.resolve_to_one(trail, clauses, entries)?;
-    let back_to = highest(trail, &analysis.clause);
-    analysis.clause.push(left.negated())?;
-    Ok(lesson(analysis, back_to))
+    let uip = analysis.resolve_to_first_uip(trail, clauses, entries)?;
+    let backjump_level = highest(trail, &analysis.clause);
+    analysis.clause.push(uip.negated())?;
+    Ok(lesson(analysis, backjump_level))
 }

@@ -10,8 +10,8 @@ use crate::assumed::{first_negated, first_within, negations};
 use crate::explain::lesson;
 use crate::learned::Learned;
 use sb_clauses::Clauses;
+use sb_lit::{ClauseId, Lit};
 use sb_trail::Trail;
-use sb_word::{ClauseId, Lit};
 use std::alloc::{AllocError, Global};
 
 /// Why assumptions can't all be true.
@@ -25,9 +25,9 @@ pub enum Core {
     New(Learned),
 }
 
-/// A clause of negated assumptions: `Kept` exactly where one is kept, else `Both` exactly where two assumptions contradict
-/// each other, else `New`. The conflict is a false clause, or the reason of a false assumption; `None` only where two
-/// assumptions contradict each other.
+/// A clause of negated assumptions: `Kept` exactly where one is kept, else `Both` exactly where two assumptions
+/// contradict each other, else `New`. The conflict is a false clause, or the reason of a false assumption; `None` only
+/// where two assumptions contradict each other.
 ///
 /// Linear in the literals of all kept clauses, in the assumptions, in the trail and in the number of atoms that have a
 /// place, and it sorts a new clause's literals. `AllocError` only for want of memory.

@@ -3,15 +3,15 @@
 ghost use Rattle.std.specs.Prelude.{◌≡◌, ◌≤◌, [], length, take, position, OnOk, IfOk};
 ghost use Rattle.sb_trail.specs.Assignments.{IsTrail};
 ghost use Rattle.sb_analyze.specs.Reasons.{AreReasoned, highest};
-ghost use Rattle.sb_analyze.specs.Explained.{IsWalked, IsLeft, IsTraced, IsMadeOf};
+ghost use Rattle.sb_analyze.specs.Explained.{IsWalked, IsFirstUip, IsTraced, IsMadeOf};
 ghost use Rattle.sb_analyze.specs.Shown.{shown};
 ghost use Rattle.sb_analyze.specs.Explaining.{begun, with_literal, with_literals, with_clause, traced, is_met, is_pending, is_forced_by, with_forced, end_before};
 
 use crate::analysis::Analysis;
 use crate::learned::{Hints, Learned};
 use sb_clauses::Clauses;
+use sb_lit::{Clause, ClauseId, Lit};
 use sb_trail::{Assigned, Trail};
-use sb_word::{Clause, ClauseId, Lit};
 use std::alloc::{AllocError, Global};
 
 impl Analysis {
@@ -70,8 +70,9 @@ impl Analysis {
         Ok(())
     }
 
-    /// Resolves the literals of the level, from the newest one on, until one is left, and says which.
-    pub(crate) fn resolve_to_one(
+    /// Resolves the literals of the level, from the newest one on, until one is left: the first unique implication
+    /// point.
+    pub(crate) fn resolve_to_first_uip(
         &mut self,
         trail: &Trail,
         clauses: &Clauses,
@@ -81,7 +82,7 @@ impl Analysis {
         requires trail { IsTrail trail.now }
         requires reasoned { AreReasoned clauses.now [] trail.now.literals }
         requires walked { IsWalked clauses.now trail.now.literals self.old.level trail.now.literals (shown self.old) }
-        ensures { IfOk result (IsLeft clauses.now trail.now.literals self.old.level (shown self.new)) }
+        ensures { IfOk result (IsFirstUip clauses.now trail.now.literals self.old.level (shown self.new)) }
     {
         for place in (0..entries.len()).rev() {
             let entry = entries[place];
@@ -100,14 +101,15 @@ impl Analysis {
         unreachable!()
     }
 
-    /// Takes the literal that the clause forced into the clause, if there is one, and says up to where the trail explains
-    /// the others.
+    /// Takes the literal that the clause forced into the clause, if there is one, and says up to where the trail
+    /// explains the others.
     pub(crate) fn keep_forced(
         &mut self,
         entries: &[Assigned],
         id: ClauseId,
     ) -> Result<usize, AllocError>
-        ensures kept { OnOk result (shown self.new ≡ with_forced entries.now (shown self.old) (position (is_forced_by id) entries.now)) }
+        ensures kept { OnOk result
+            (shown self.new ≡ with_forced entries.now (shown self.old) (position (is_forced_by id) entries.now)) }
         ensures end { IfOk result (λ end. end ≡ end_before entries.now (position (is_forced_by id) entries.now)) }
     {
         let Some(place) = place_forced(entries, id) else {
@@ -129,7 +131,8 @@ impl Analysis {
         requires trail { IsTrail trail.now }
         requires reasoned { AreReasoned clauses.now [] trail.now.literals }
         requires end { end ≤ length entries.now }
-        requires traced { IsTraced clauses.now trail.now.literals (shown self.old) (take end entries.now) (shown self.old) }
+        requires traced { IsTraced clauses.now trail.now.literals (shown self.old) (take end entries.now)
+            (shown self.old) }
         ensures { OnOk result (IsTraced clauses.now trail.now.literals (shown self.old) [] (shown self.new)) }
     {
         for place in (0..end).rev() {
@@ -188,8 +191,8 @@ fn is_forced_by(entry: &Assigned, id: ClauseId) -> bool
 }
 
 /// The clause in order, with the hints in the order in which they force literals.
-pub(crate) fn lesson(analysis: Analysis, back_to: usize) -> Learned
-    ensures { IsMadeOf (shown analysis) back_to result }
+pub(crate) fn lesson(analysis: Analysis, backjump_level: usize) -> Learned
+    ensures { IsMadeOf (shown analysis) backjump_level result }
 {
     let Analysis {
         mut clause,
@@ -201,7 +204,7 @@ pub(crate) fn lesson(analysis: Analysis, back_to: usize) -> Learned
     Learned {
         clause: Clause::from_literals(clause),
         hints: Hints::new(reasons),
-        back_to,
+        backjump_level,
     }
 }
 

@@ -2,7 +2,7 @@
 
 ghost use Rattle.std.specs.Prelude.{◌≡◌, map};
 
-use sb_word::{Clause, ClauseId};
+use sb_lit::{Clause, ClauseId};
 use std::marker::Model;
 
 /// The numbers of the clauses by which a clause is learned, in the order in which they force literals; the last one is
@@ -41,6 +41,6 @@ pub struct Learned {
     /// Its literals ascend.
     pub clause: Clause,
     pub hints: Hints,
-    /// The level at which the clause leaves one literal; 0 where it comes of assumptions.
-    pub back_to: usize,
+    /// The backjump level: the least one at which the clause leaves one literal; 0 where it comes of assumptions.
+    pub backjump_level: usize,
 }

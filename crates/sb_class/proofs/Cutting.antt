@@ -5,7 +5,8 @@ use Rattle.std.specs.List.Sorted.{IsStrictlyIncreasing}
 use Rattle.std.proofs.lemmas.Bool.{and_parts, and_from, or_cases, both_ways, eqb-true, eq-eqb, lt-ltb, le-ltb}
 use Rattle.std.proofs.lemmas.Bool.Decides.{nat_tests}
 use Rattle.std.proofs.lemmas.List.Recursion.{or_at}
-use Rattle.sb_class.specs.Ranges.{Range, in_range, in_ranges, is_character, rises_from, IsCanonical, IsCut, AreCuts}
+use Rattle.sb_class.specs.Ranges.{Range, in_range, in_ranges, rises_from, IsCanonical, IsCut, AreCuts}
+use Rattle.sb_word.specs.Words.{is_character}
 use Rattle.sb_class.proofs.RangeFacts.{in_range_tells, in_ranges-nil, in_ranges-cons, rises_from-parts, members_from}
 
 -- the start of the range, but for 0
@@ -41,13 +42,16 @@ pub end_written : (old new : List ℕ) (r : Range) → r.1 < 0x2ffff → new ≡
 end_written old new r some is = is ∙ ap (λ b. old ++ cond b ((r.1 + 1) ∷ []) []) (sym (lt-ltb r.1 0x2ffff some))
 
 pub end_left_out : (old : List ℕ) (r : Range) → 0x2ffff ≤ r.1 → old ≡ old ++ end_cut r
-end_left_out old r none = sym (append-nil old) ∙ ap (λ b. old ++ cond b ((r.1 + 1) ∷ []) []) (sym (le-ltb r.1 0x2ffff none))
+end_left_out old r none =
+    sym (append-nil old) ∙ ap (λ b. old ++ cond b ((r.1 + 1) ∷ []) []) (sym (le-ltb r.1 0x2ffff none))
 
 -- one more range
-pub cuts_more : (old started new all : List ℕ) (r : Range) (rs : List Range) → started ≡ old ++ start_cut r → new ≡ started ++ end_cut r → old ++ cuts_of (r ∷ rs) ≡ all → new ++ cuts_of rs ≡ all
+pub cuts_more : (old started new all : List ℕ) (r : Range) (rs : List Range) → started ≡ old ++ start_cut r
+    → new ≡ started ++ end_cut r → old ++ cuts_of (r ∷ rs) ≡ all → new ++ cuts_of rs ≡ all
 cuts_more old started new all r rs first second is =
     ap (λ l. l ++ cuts_of rs) (second ∙ ap (λ l. l ++ end_cut r) first)
-    ∙ append_assoc (old ++ start_cut r) (end_cut r) (cuts_of rs) ∙ append_assoc old (start_cut r) (end_cut r ++ cuts_of rs)
+    ∙ append_assoc (old ++ start_cut r) (end_cut r) (cuts_of rs)
+    ∙ append_assoc old (start_cut r) (end_cut r ++ cuts_of rs)
     ∙ ap (λ l. old ++ l) (sym (cuts_of-cons r rs)) ∙ is
 
 -- whether the number is in the list
@@ -55,7 +59,8 @@ unfoldable listed : List ℕ → ℕ → Bool
 listed [] c = false
 listed (x ∷ xs) c = (x == c) || listed xs c
 
-listed-append_maybe : (b : Bool) (x : ℕ) (xs : List ℕ) (c : ℕ) → listed (cond b (x ∷ []) [] ++ xs) c ≡ ((b && (x == c)) || listed xs c)
+listed-append_maybe : (b : Bool) (x : ℕ) (xs : List ℕ) (c : ℕ)
+    → listed (cond b (x ∷ []) [] ++ xs) c ≡ ((b && (x == c)) || listed xs c)
 unfolding listed
 listed-append_maybe true x xs c = refl
 listed-append_maybe false x xs c = refl
@@ -81,10 +86,13 @@ differ false y = y
 abbrev cuts_at : List Range → ℕ → Bool
 cuts_at rs c = nat_lt 0 c && (is_character c && differ (in_ranges rs c) (in_ranges rs (c - 1)))
 
-cut_step : (r : Range) (c : ℕ) (at before : Bool) → r.0 ≤ r.1 → r.1 ≤ 0x2ffff → (at ≡ true → r.1 + 2 ≤ c) → (before ≡ true → r.1 + 2 ≤ c - 1) →
-    ((nat_lt 0 r.0 && (r.0 == c)) || ((nat_lt r.1 0x2ffff && ((r.1 + 1) == c)) || (nat_lt 0 c && (is_character c && differ at before))))
+cut_step : (r : Range) (c : ℕ) (at before : Bool) → r.0 ≤ r.1 → r.1 ≤ 0x2ffff → (at ≡ true → r.1 + 2 ≤ c)
+    → (before ≡ true → r.1 + 2 ≤ c - 1) →
+    ((nat_lt 0 r.0 && (r.0 == c))
+    || ((nat_lt r.1 0x2ffff && ((r.1 + 1) == c)) || (nat_lt 0 c && (is_character c && differ at before))))
     ≡ (nat_lt 0 c && (is_character c && differ (in_range r c || at) (in_range r (c - 1) || before)))
-cut_step r c true true le within h h' = grind (arith, nat_tests, in_range_tells r c, in_range_tells r (c - 1), h refl, h' refl)
+cut_step r c true true le within h h' =
+    grind (arith, nat_tests, in_range_tells r c, in_range_tells r (c - 1), h refl, h' refl)
 cut_step r c true false le within h h' = grind (arith, nat_tests, in_range_tells r c, in_range_tells r (c - 1), h refl)
 cut_step r c false true le within h h' = grind (arith, nat_tests, in_range_tells r c, in_range_tells r (c - 1), h' refl)
 cut_step r c false false le within h h' = grind (arith, nat_tests, in_range_tells r c, in_range_tells r (c - 1))
@@ -100,8 +108,10 @@ listed-cuts_of n (r ∷ rs) c h =
     listed-append_maybe (nat_lt 0 r.0) r.0 (end_cut r ++ cuts_of rs) c
     ∙ ap (λ x. (nat_lt 0 r.0 && (r.0 == c)) || x) (listed-append_maybe (nat_lt r.1 0x2ffff) (r.1 + 1) (cuts_of rs) c
     ∙ ap (λ x. (nat_lt r.1 0x2ffff && ((r.1 + 1) == c)) || x) (listed-cuts_of (r.1 + 2) rs c p.3))
-    ∙ cut_step r c (in_ranges rs c) (in_ranges rs (c - 1)) p.1 p.2 (members_from _ rs c p.3) (members_from _ rs (c - 1) p.3)
-    ∙ ap₂ (λ x y. nat_lt 0 c && (is_character c && differ x y)) (sym (in_ranges-cons r rs c)) (sym (in_ranges-cons r rs (c - 1)))
+    ∙ cut_step r c (in_ranges rs c) (in_ranges rs (c - 1)) p.1 p.2 (members_from _ rs c p.3)
+    (members_from _ rs (c - 1) p.3)
+    ∙ ap₂ (λ x y. nat_lt 0 c && (is_character c && differ x y)) (sym (in_ranges-cons r rs c))
+    (sym (in_ranges-cons r rs (c - 1)))
 
 differ-true : (x y : Bool) → differ x y ≡ true → x ≢ y
 differ-true true true h = λ _. both_ways false refl h
@@ -139,7 +149,8 @@ unfolding Climbs
 Climbs-weaker n m [] le h = tt
 Climbs-weaker n m (x ∷ xs) le h = (omega (arith, h.0), h.1)
 
-Climbs-maybe : (n : ℕ) (b : Bool) (x : ℕ) (xs : List ℕ) → n ≤ x → Climbs (x + 1) xs → Climbs n (cond b (x ∷ []) [] ++ xs)
+Climbs-maybe : (n : ℕ) (b : Bool) (x : ℕ) (xs : List ℕ) → n ≤ x → Climbs (x + 1) xs
+    → Climbs n (cond b (x ∷ []) [] ++ xs)
 unfolding Climbs
 Climbs-maybe n true x xs le h = (le, h)
 Climbs-maybe n false x xs le h = Climbs-weaker (x + 1) n xs (omega arith) h
@@ -149,7 +160,8 @@ unfolding cuts_of Climbs
 Climbs-cuts_of n [] h = tt
 Climbs-cuts_of n (r ∷ rs) h =
     let p = rises_from-parts n r rs h in
-    let rest : Climbs (r.1 + 1 + 1) (cuts_of rs) = Climbs-weaker (r.1 + 2) (r.1 + 1 + 1) (cuts_of rs) (omega arith) (Climbs-cuts_of (r.1 + 2) rs p.3) in
+    let rest : Climbs (r.1 + 1 + 1) (cuts_of rs) =
+    Climbs-weaker (r.1 + 2) (r.1 + 1 + 1) (cuts_of rs) (omega arith) (Climbs-cuts_of (r.1 + 2) rs p.3) in
     Climbs-maybe n (nat_lt 0 r.0) r.0 (end_cut r ++ cuts_of rs) p.0
     (Climbs-maybe (r.0 + 1) (nat_lt r.1 0x2ffff) (r.1 + 1) (cuts_of rs) (omega arith) rest)
 

@@ -1,3 +1,4 @@
+pub mod CallerLemmas
 pub mod RangeFacts
 pub mod Pushing
 pub mod Merging

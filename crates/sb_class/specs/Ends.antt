@@ -1,4 +1,4 @@
--- Where a list of ranges that grows at its end goes on.
+-- Private: where a list of ranges that grows at its end goes on.
 use Rattle.std.specs.Prelude.{◌≡◌, ℕ, ◌≤◌, ◌||◌, true, List, [], ◌∷◌}
 use Rattle.sb_class.specs.Ranges.{Range, in_range, in_ranges, rises_from, IsCanonical}
 
@@ -11,7 +11,8 @@ last_start_or n (r ∷ rs) = last_start_or r.0 rs
 abbrev pub StartsAfter : List Range → List Range → Type 0
 StartsAfter rs rest = rises_from (last_start_or 0 rs) rest ≡ true
 
--- the new list is canonical, has the members of the old one and of the range, and its last range starts no later than the range
+-- the new list is canonical, has the members of the old one and of the range, and its last range starts no later than
+-- the range
 pub record IsPushed (old new : List Range) (r : Range) : Type 0 where
   pub canonical : IsCanonical new
   pub members : (c : ℕ) → in_ranges new c ≡ (in_ranges old c || in_range r c)

@@ -2,6 +2,7 @@
 -- from 0 to 0x2ffff).
 use Rattle.std.specs.Prelude.{◌≡◌, ◌≢◌, ℕ, ◌+◌, ◌-◌, ◌<◌, ◌≤◌, Bool, true, false, ◌&&◌, ◌||◌, nat_le, List, [], ◌∷◌, Contains}
 use Rattle.std.specs.List.Sorted.{IsStrictlyIncreasing}
+use Rattle.sb_word.specs.Words.{is_character}
 
 -- a range with both its ends
 abbrev pub Range : Type 0
@@ -15,10 +16,6 @@ in_range r c = nat_le r.0 c && nat_le c r.1
 unfoldable pub in_ranges : List Range → ℕ → Bool
 in_ranges [] c = false
 in_ranges (r ∷ rs) c = in_range r c || in_ranges rs c
-
--- the number is a character
-abbrev pub is_character : ℕ → Bool
-is_character c = nat_le c 0x2ffff
 
 -- the range starts at the number or later, has a member, and holds characters alone
 abbrev pub fits_from : ℕ → Range → Bool

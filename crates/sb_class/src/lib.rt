@@ -7,14 +7,13 @@
 #![tactic(auto)]
 
 ghost use Rattle.std.specs.Prelude.{◌≡◌, ℕ, ◌≤◌, ◌&&◌, ◌||◌, not, List, [], IsTrue, ◌↔◌, IfOk, MatchOption};
-ghost use Rattle.sb_class.specs.Ranges.{Range, in_range, in_ranges, is_character, IsCanonical, IsEmptySet, IsLeast, AreCuts};
+ghost use Rattle.sb_class.specs.Ranges.{Range, in_range, in_ranges, IsCanonical, IsEmptySet, IsLeast, AreCuts};
+ghost use Rattle.sb_word.specs.Words.{is_character};
 
 use std::alloc::{AllocError, Global};
 use std::marker::Model;
 
 mod range_list;
-#[cfg(test)]
-mod tests;
 
 /// The greatest character.
 pub const LAST_CHARACTER: u32 = 0x2ffff;

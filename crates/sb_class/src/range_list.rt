@@ -1,6 +1,7 @@
 //! The set operations on lists of ranges that ascend with a gap between any two.
 ghost use Rattle.std.specs.Prelude.{◌≡◌, ℕ, ◌≤◌, ◌&&◌, ◌||◌, not, true, IsTrue, ◌↔◌, IfOk, OnOk, MatchOption};
-ghost use Rattle.sb_class.specs.Ranges.{in_range, in_ranges, is_character, fits_from, IsCanonical, IsEmptySet, IsLeast, AreCuts};
+ghost use Rattle.sb_class.specs.Ranges.{in_range, in_ranges, fits_from, IsCanonical, IsEmptySet, IsLeast, AreCuts};
+ghost use Rattle.sb_word.specs.Words.{is_character};
 ghost use Rattle.sb_class.specs.Ends.{last_start_or, StartsAfter, IsPushed};
 
 use crate::LAST_CHARACTER;
@@ -76,7 +77,8 @@ fn push_all(out: &mut Vec<(u32, u32)>, ranges: &[(u32, u32)]) -> Result<(), Allo
     requires canonical { IsCanonical out.old.items }
     requires fit { StartsAfter out.old.items ranges.now }
     ensures canonical { OnOk result (IsCanonical out.new.items) }
-    ensures members { OnOk result ((c : ℕ) → in_ranges out.new.items c ≡ (in_ranges out.old.items c || in_ranges ranges.now c)) }
+    ensures members { OnOk result ((c : ℕ)
+        → in_ranges out.new.items c ≡ (in_ranges out.old.items c || in_ranges ranges.now c)) }
 {
     for range in ranges {
         push(out, *range)?;
@@ -92,7 +94,9 @@ pub fn union(
 ) -> Result<Vec<(u32, u32)>, AllocError>
     requires left { IsCanonical left.now }
     requires right { IsCanonical right.now }
-    ensures { IfOk result (λ out. IsCanonical out.items × ((c : ℕ) → in_ranges out.items c ≡ (in_ranges left.now c || in_ranges right.now c))) }
+    ensures { IfOk result
+        (λ out. IsCanonical out.items
+        × ((c : ℕ) → in_ranges out.items c ≡ (in_ranges left.now c || in_ranges right.now c))) }
 {
     let mut out = Vec::new(alloc);
     let mut i = 0;
@@ -123,7 +127,9 @@ pub fn inter(
 ) -> Result<Vec<(u32, u32)>, AllocError>
     requires left { IsCanonical left.now }
     requires right { IsCanonical right.now }
-    ensures { IfOk result (λ out. IsCanonical out.items × ((c : ℕ) → in_ranges out.items c ≡ (in_ranges left.now c && in_ranges right.now c))) }
+    ensures { IfOk result
+        (λ out. IsCanonical out.items
+        × ((c : ℕ) → in_ranges out.items c ≡ (in_ranges left.now c && in_ranges right.now c))) }
 {
     let mut out = Vec::new(alloc);
     let mut i = 0;
@@ -146,7 +152,9 @@ pub fn inter(
 /// The characters between the ranges, before the first and after the last.
 pub fn complement(alloc: Global, ranges: &[(u32, u32)]) -> Result<Vec<(u32, u32)>, AllocError>
     requires { IsCanonical ranges.now }
-    ensures { IfOk result (λ out. IsCanonical out.items × ((c : ℕ) → in_ranges out.items c ≡ (is_character c && not (in_ranges ranges.now c)))) }
+    ensures { IfOk result
+        (λ out. IsCanonical out.items
+        × ((c : ℕ) → in_ranges out.items c ≡ (is_character c && not (in_ranges ranges.now c)))) }
 {
     let mut out = Vec::new(alloc);
     let mut next = 0;

@@ -1,60 +1,25 @@
 -- Clauses where some literals are true.
-use Rattle.std.proofs.Common.{◌≡◌, ℕ, zero, suc, ◌<◌, Bool, true, false, not, cond, ◌&&◌, ◌||◌, eqb, List, [], ◌∷◌, length, get_or, take, Option, Some, None, refl, sym, ◌∙◌, ap, inl, inr}
+use Rattle.std.proofs.Common.{◌≡◌, ℕ, zero, suc, ◌<◌, Bool, true, false, not, cond, ◌&&◌, eqb, List, [], ◌∷◌, length, get_or, take, Option, Some, None, refl, sym, ◌∙◌, ap, inl, inr}
 use mathlib.Core.Bool.{beq}
 use Rattle.std.specs.List.{list_all}
-use Rattle.std.proofs.lemmas.Bool.{false≢true, and_parts, and_from, or_left, or_right, or_from, or_cases, not-true, not-false, not_from_false, eqb-true, eq-eqb, false_from_ne_true}
+use Rattle.std.proofs.lemmas.Bool.{false≢true, and_parts, and_from, or_left, or_right, or_from, or_cases, not-false, not_from_false, false_from_ne_true}
 use Rattle.std.proofs.lemmas.List.Folds.{list_all_at, list_any_at}
-use Rattle.sb_word.specs.declared.clause.Lit.{Lit}
-use Rattle.sb_word.specs.Clauses.{is_same_literal, is_among, is_true_under, is_false_under, is_open_under, value_under, is_false_clause, leaves_only}
+use Rattle.sb_lit.specs.declared.clause.Lit.{Lit}
+use Rattle.sb_lit.specs.Clauses.{is_same_literal, is_among, is_true_under, is_false_under, is_open_under, value_under, is_false_clause, leaves_only}
+use Rattle.sb_lit.proofs.CallerLemmas.{is_same_literal-true, is_same_literal-self, is_same_literal-beq, all_among, open-not_false, open-not_true}
 use Rattle.sb_trail.specs.Assignments.{IsConsistent}
+use Rattle.sb_clauses.specs.Looking.{is_or_false}
 use Rattle.sb_clauses.specs.Examining.{IsIdle}
-
-same_sign : (a b : Bool) → cond a b (not b) ≡ true → a ≡ b
-same_sign true true h = refl
-same_sign true false h = absurd (false≢true h)
-same_sign false true h = absurd (false≢true h)
-same_sign false false h = refl
-
-same_sign_self : (a : Bool) → cond a a (not a) ≡ true
-same_sign_self true = refl
-same_sign_self false = refl
-
-literal_of_parts : (a b : ℕ) (p q : Bool) → a ≡ b → p ≡ q → ◌≡◌ {A = Lit} (record { atom = a; positive = p }) (record { atom = b; positive = q })
-literal_of_parts a b p q e f = cc
-
--- the test of literals is equality
-pub is_same_literal-true : (l m : Lit) → is_same_literal l m ≡ true → l ≡ m
-is_same_literal-true l m h =
-    let parts = and_parts (eqb l.atom m.atom) (cond l.positive m.positive (not m.positive)) h in
-    literal_of_parts l.atom m.atom l.positive m.positive (eqb-true l.atom m.atom parts.0) (same_sign l.positive m.positive parts.1)
-
-same_by_beq : (a b : Bool) → beq a b ≡ true → a ≡ b
-same_by_beq true true h = refl
-same_by_beq true false h = absurd (false≢true h)
-same_by_beq false true h = absurd (false≢true h)
-same_by_beq false false h = refl
 
 -- where a test whether they differ fails
 pub same_by_ne : (l m : Lit) → not (eqb l.atom m.atom && beq l.positive m.positive) ≡ false → l ≡ m
 same_by_ne l m h =
-    let parts = and_parts (eqb l.atom m.atom) (beq l.positive m.positive) (not-false (eqb l.atom m.atom && beq l.positive m.positive) h) in
-    literal_of_parts l.atom m.atom l.positive m.positive (eqb-true l.atom m.atom parts.0) (same_by_beq l.positive m.positive parts.1)
-
-pub is_same_literal-self : (l : Lit) → is_same_literal l l ≡ true
-is_same_literal-self l =
-    and_from (eqb l.atom l.atom) (cond l.positive l.positive (not l.positive)) (eq-eqb l.atom l.atom refl) (same_sign_self l.positive)
-
-beq_self : (a : Bool) → beq a a ≡ true
-beq_self true = refl
-beq_self false = refl
+    is_same_literal-true l m
+    (sym (is_same_literal-beq l m) ∙ not-false (eqb l.atom m.atom && beq l.positive m.positive) h)
 
 -- where a test whether they are equal fails
 pub other_by_eq : (l m : Lit) → (eqb l.atom m.atom && beq l.positive m.positive) ≡ false → is_same_literal l m ≡ false
-other_by_eq l m h =
-    false_from_ne_true (is_same_literal l m) (λ is.
-    let same : l ≡ m = is_same_literal-true l m is in
-    let yes : (eqb l.atom m.atom && beq l.positive m.positive) ≡ true = rw same (and_from (eqb m.atom m.atom) (beq m.positive m.positive) (eq-eqb m.atom m.atom refl) (beq_self m.positive)) in
-    false≢true (sym h ∙ yes))
+other_by_eq l m h = sym (is_same_literal-beq l m) ∙ h
 
 -- what a value says
 value_true : (t f : Bool) → ◌≡◌ {A = Option Bool} (cond t (Some true) (cond f (Some false) None)) (Some true) → t ≡ true
@@ -62,17 +27,20 @@ value_true true f h = refl
 value_true false true h = absurd (Prim.cc)
 value_true false false h = absurd (Prim.cc)
 
-value_false : (t f : Bool) → ◌≡◌ {A = Option Bool} (cond t (Some true) (cond f (Some false) None)) (Some false) → f ≡ true
+value_false : (t f : Bool) → ◌≡◌ {A = Option Bool} (cond t (Some true) (cond f (Some false) None)) (Some false)
+    → f ≡ true
 value_false true f h = absurd (Prim.cc)
 value_false false true h = refl
 value_false false false h = absurd (Prim.cc)
 
-value_none : (t f : Bool) → ◌≡◌ {A = Option Bool} (cond t (Some true) (cond f (Some false) None)) None → (t ≡ false) × (f ≡ false)
+value_none : (t f : Bool) → ◌≡◌ {A = Option Bool} (cond t (Some true) (cond f (Some false) None)) None
+    → (t ≡ false) × (f ≡ false)
 value_none true f h = absurd (Prim.cc)
 value_none false true h = absurd (Prim.cc)
 value_none false false h = (refl, refl)
 
-pub all_weaker : (p q : Lit → Bool) → ((m : Lit) → p m ≡ true → q m ≡ true) → (clause : List Lit) → list_all p clause ≡ true → list_all q clause ≡ true
+pub all_weaker : (p q : Lit → Bool) → ((m : Lit) → p m ≡ true → q m ≡ true) → (clause : List Lit)
+    → list_all p clause ≡ true → list_all q clause ≡ true
 all_weaker p q weaker [] h = refl
 all_weaker p q weaker (m ∷ ms) h =
     let parts = and_parts (p m) (list_all p ms) h in
@@ -88,30 +56,25 @@ module _ (held : List Lit) where
   pub open_by_value : (l : Lit) → value_under held l ≡ None → is_open_under held l ≡ true
   open_by_value l h =
       let both = value_none (is_true_under held l) (is_false_under held l) h in
-      and_from (not (is_true_under held l)) (not (is_false_under held l)) (not_from_false (is_true_under held l) both.0) (not_from_false (is_false_under held l) both.1)
+      and_from (not (is_true_under held l)) (not (is_false_under held l)) (not_from_false (is_true_under held l) both.0)
+      (not_from_false (is_false_under held l) both.1)
 
-  pub open-not_false : (l : Lit) → is_open_under held l ≡ true → is_false_under held l ≡ false
-  open-not_false l h = not-true (is_false_under held l) (and_parts (not (is_true_under held l)) (not (is_false_under held l)) h).1
-
-  pub open-not_true : (l : Lit) → is_open_under held l ≡ true → is_true_under held l ≡ false
-  open-not_true l h = not-true (is_true_under held l) (and_parts (not (is_true_under held l)) (not (is_false_under held l)) h).0
-
-  -- the literal is this one or false
-  abbrev pub is_or_false : Lit → Lit → Bool
-  is_or_false l m = is_same_literal m l || is_false_under held m
-
-  pub leaves_only-parts : (clause : List Lit) (l : Lit) → leaves_only held clause l ≡ true → (is_among clause l ≡ true) × (is_open_under held l ≡ true) × (list_all (is_or_false l) clause ≡ true)
+  pub leaves_only-parts : (clause : List Lit) (l : Lit) → leaves_only held clause l ≡ true
+      → (is_among clause l ≡ true) × (is_open_under held l ≡ true) × (list_all (is_or_false held l) clause ≡ true)
   leaves_only-parts clause l h =
-      let outer = and_parts (is_among clause l && is_open_under held l) (list_all (is_or_false l) clause) h in
+      let outer = and_parts (is_among clause l && is_open_under held l) (list_all (is_or_false held l) clause) h in
       let inner = and_parts (is_among clause l) (is_open_under held l) outer.0 in
       (inner.0, inner.1, outer.1)
 
-  leaves_only-from : (clause : List Lit) (l : Lit) → is_among clause l ≡ true → is_open_under held l ≡ true → list_all (is_or_false l) clause ≡ true → leaves_only held clause l ≡ true
+  leaves_only-from : (clause : List Lit) (l : Lit) → is_among clause l ≡ true → is_open_under held l ≡ true
+      → list_all (is_or_false held l) clause ≡ true → leaves_only held clause l ≡ true
   leaves_only-from clause l among unset others =
-      and_from (is_among clause l && is_open_under held l) (list_all (is_or_false l) clause) (and_from (is_among clause l) (is_open_under held l) among unset) others
+      and_from (is_among clause l && is_open_under held l) (list_all (is_or_false held l) clause)
+      (and_from (is_among clause l) (is_open_under held l) among unset) others
 
   -- a clause with a true literal is idle
-  pub idle_by_true : IsConsistent held → (clause : List Lit) (i : ℕ) (d : Lit) → i < length clause → is_true_under held (get_or clause i d) ≡ true → IsIdle held clause
+  pub idle_by_true : IsConsistent held → (clause : List Lit) (i : ℕ) (d : Lit) → i < length clause
+      → is_true_under held (get_or clause i d) ≡ true → IsIdle held clause
   idle_by_true consistent clause i d place is_true =
       let t : Lit = get_or clause i d in
       let not_false : is_false_under held t ≡ false = consistent t is_true in
@@ -119,18 +82,13 @@ module _ (held : List Lit) where
         no_conflict = list_all_at (is_false_under held) clause i d place not_false;
         forces_none = λ l. false_from_ne_true (leaves_only held clause l) (λ h.
             let parts = leaves_only-parts clause l h in
-            let other : is_same_literal t l ≡ false = false_from_ne_true (is_same_literal t l) (λ same. false≢true (sym (open-not_true l parts.1) ∙ ap (is_true_under held) (sym (is_same_literal-true t l same)) ∙ is_true)) in
-            false≢true (sym (list_all_at (is_or_false l) clause i d place (or_from (is_same_literal t l) (is_false_under held t) other not_false)) ∙ parts.2));
+            let other : is_same_literal t l ≡ false =
+            false_from_ne_true (is_same_literal t l)
+            (λ same. false≢true (sym (open-not_true held l parts.1)
+            ∙ ap (is_true_under held) (sym (is_same_literal-true t l same)) ∙ is_true)) in
+            false≢true (sym (list_all_at (is_or_false held l) clause i d place
+            (or_from (is_same_literal t l) (is_false_under held t) other not_false)) ∙ parts.2));
       }
-
-  pub all-among : (p : Lit → Bool) (clause : List Lit) (l : Lit) → list_all p clause ≡ true → is_among clause l ≡ true → p l ≡ true
-  all-among p [] l h among = absurd (false≢true among)
-  all-among p (m ∷ ms) l h among =
-      let parts = and_parts (p m) (list_all p ms) h in
-      elim (or_cases (is_same_literal m l) (is_among ms l) among) [
-        | inl here ↦ ap p (sym (is_same_literal-true m l here)) ∙ parts.0
-        | inr later ↦ all-among p ms l parts.1 later
-      ]
 
   -- a literal of the front of a list is one of the list
   pub among_front : (n : ℕ) (clause : List Lit) (l : Lit) → is_among (take n clause) l ≡ true → is_among clause l ≡ true
@@ -143,32 +101,44 @@ module _ (held : List Lit) where
       ]
 
   -- a clause with two literals without a value is idle
-  pub idle_by_two : (clause : List Lit) (i : ℕ) (d : Lit) (first : Lit) → i < length clause → is_among clause first ≡ true → is_open_under held first ≡ true → is_open_under held (get_or clause i d) ≡ true → (first ≡ get_or clause i d → ⊥) → IsIdle held clause
+  pub idle_by_two : (clause : List Lit) (i : ℕ) (d : Lit) (first : Lit) → i < length clause
+      → is_among clause first ≡ true → is_open_under held first ≡ true → is_open_under held (get_or clause i d) ≡ true
+      → (first ≡ get_or clause i d → ⊥) → IsIdle held clause
   idle_by_two clause i d first place among open_first unset other =
       let t : Lit = get_or clause i d in
-      let not_false : is_false_under held t ≡ false = open-not_false t unset in
+      let not_false : is_false_under held t ≡ false = open-not_false held t unset in
       record {
         no_conflict = list_all_at (is_false_under held) clause i d place not_false;
         forces_none = λ l. false_from_ne_true (leaves_only held clause l) (λ h.
             let parts = leaves_only-parts clause l h in
-            elim (or_cases (is_same_literal first l) (is_false_under held first) (all-among (is_or_false l) clause first parts.2 among)) [
+            elim (or_cases (is_same_literal first l) (is_false_under held first)
+            (all_among (is_or_false held l) clause first parts.2 among)) [
               | inl same ↦
-                  let apart : is_same_literal t l ≡ false = false_from_ne_true (is_same_literal t l) (λ as_l. other (is_same_literal-true first l same ∙ sym (is_same_literal-true t l as_l))) in
-                  false≢true (sym (list_all_at (is_or_false l) clause i d place (or_from (is_same_literal t l) (is_false_under held t) apart not_false)) ∙ parts.2)
-              | inr as_false ↦ false≢true (sym (open-not_false first open_first) ∙ as_false)
+                  let apart : is_same_literal t l ≡ false =
+                  false_from_ne_true (is_same_literal t l)
+                  (λ as_l. other (is_same_literal-true first l same ∙ sym (is_same_literal-true t l as_l))) in
+                  false≢true (sym (list_all_at (is_or_false held l) clause i d place
+                  (or_from (is_same_literal t l) (is_false_under held t) apart not_false)) ∙ parts.2)
+              | inr as_false ↦ false≢true (sym (open-not_false held first open_first) ∙ as_false)
             ]);
       }
 
   -- where each literal is this one or false, and this one is false
-  pub false_with_it : (l : Lit) → is_false_under held l ≡ true → (clause : List Lit) → list_all (is_or_false l) clause ≡ true → is_false_clause held clause ≡ true
+  pub false_with_it : (l : Lit) → is_false_under held l ≡ true → (clause : List Lit)
+      → list_all (is_or_false held l) clause ≡ true → is_false_clause held clause ≡ true
   false_with_it l is_false clause h =
-      all_weaker (is_or_false l) (is_false_under held) (λ m either. elim (or_cases (is_same_literal m l) (is_false_under held m) either) [
+      all_weaker (is_or_false held l) (is_false_under held)
+      (λ m either. elim (or_cases (is_same_literal m l) (is_false_under held m) either) [
         | inl same ↦ ap (is_false_under held) (is_same_literal-true m l same) ∙ is_false
         | inr here ↦ here
       ]) clause h
 
   pub among_at : (clause : List Lit) (i : ℕ) (d : Lit) → i < length clause → is_among clause (get_or clause i d) ≡ true
-  among_at clause i d place = list_any_at (λ m. is_same_literal m (get_or clause i d)) clause i d place (is_same_literal-self (get_or clause i d))
+  among_at clause i d place =
+      list_any_at (λ m. is_same_literal m (get_or clause i d)) clause i d place
+      (is_same_literal-self (get_or clause i d))
 
-  pub leaves_it : (clause : List Lit) (i : ℕ) (d : Lit) → i < length clause → is_open_under held (get_or clause i d) ≡ true → list_all (is_or_false (get_or clause i d)) clause ≡ true → leaves_only held clause (get_or clause i d) ≡ true
+  pub leaves_it : (clause : List Lit) (i : ℕ) (d : Lit) → i < length clause
+      → is_open_under held (get_or clause i d) ≡ true → list_all (is_or_false held (get_or clause i d)) clause ≡ true
+      → leaves_only held clause (get_or clause i d) ≡ true
   leaves_it clause i d place unset h = leaves_only-from clause (get_or clause i d) (among_at clause i d place) unset h

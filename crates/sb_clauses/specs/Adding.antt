@@ -1,12 +1,12 @@
--- A number that gets its clause.
+-- Private: a number that gets its clause.
 use Rattle.std.specs.Prelude.{◌≡◌, ℕ, ◌<◌, ◌≤◌, true, nat_lt, List, [], length, slice_index_or}
 use Rattle.std.specs.List.{list_all}
-use Rattle.sb_word.specs.declared.clause.Lit.{Lit}
-use Rattle.sb_clauses.specs.Lists.{Lists, times}
+use Rattle.sb_lit.specs.declared.clause.Lit.{Lit}
+use Rattle.sb_clauses.specs.WatchLists.{WatchLists, times}
 use Rattle.sb_clauses.specs.Watching.{list_of, is_small, place_at}
 
 -- with room for more, and otherwise the same
-pub record IsRoomier (old_places : List ℕ) (old : Lists) (new_places : List ℕ) (new : Lists) : Type 0 where
+pub record IsRoomier (old_places : List ℕ) (old : WatchLists) (new_places : List ℕ) (new : WatchLists) : Type 0 where
   pub more_places : length old_places ≤ length new_places
   pub same_places : (id : ℕ) → id < length old_places → place_at new_places id ≡ place_at old_places id
   pub more_nodes : old.nodes ≤ new.nodes
@@ -15,7 +15,7 @@ pub record IsRoomier (old_places : List ℕ) (old : Lists) (new_places : List �
   pub same_times : (id : ℕ) → times id new.lists ≡ times id old.lists
 
 -- there is room for the numbers below `nodes` and for so many lists
-pub record HasRoom (nodes lists : ℕ) (places : List ℕ) (all : Lists) : Type 0 where
+pub record HasRoom (nodes lists : ℕ) (places : List ℕ) (all : WatchLists) : Type 0 where
   pub enough_places : nodes ≤ length places
   pub enough_nodes : nodes ≤ all.nodes
   pub enough_lists : lists ≤ length all.lists

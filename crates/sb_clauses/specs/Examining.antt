@@ -1,7 +1,7 @@
--- A clause that gives nothing where some literals are true.
+-- Private: a clause that gives nothing where some literals are true.
 use Rattle.std.specs.Prelude.{◌≡◌, false, List}
-use Rattle.sb_word.specs.declared.clause.Lit.{Lit}
-use Rattle.sb_word.specs.Clauses.{is_false_clause, leaves_only}
+use Rattle.sb_lit.specs.declared.clause.Lit.{Lit}
+use Rattle.sb_lit.specs.Clauses.{is_false_clause, leaves_only}
 
 -- the clause is neither false nor leaves one literal
 pub record IsIdle (literals clause : List Lit) : Type 0 where

@@ -1,8 +1,7 @@
-pub mod Dropping
 pub mod Propagation
 pub mod Records
 pub mod Examining
-pub mod Lists
+pub mod WatchLists
 pub mod Watching
 pub mod Looking
 pub mod Walking

@@ -1,7 +1,7 @@
--- What a clause comes to, seen from one of its two places.
+-- Private: what a clause comes to, seen from one of its two places.
 use Rattle.std.specs.Prelude.{◌≡◌, ℕ, ◌<◌, Bool, true, false, ◌||◌, List, length, slice_index_or, None}
-use Rattle.sb_word.specs.declared.clause.Lit.{Lit}
-use Rattle.sb_word.specs.Clauses.{is_same_literal, is_true_under, is_false_under, is_false_clause, leaves_only}
+use Rattle.sb_lit.specs.declared.clause.Lit.{Lit}
+use Rattle.sb_lit.specs.Clauses.{is_same_literal, is_true_under, is_false_under, is_false_clause, leaves_only}
 use Rattle.sb_trail.specs.declared.assigned.Assigned.{Assigned}
 use Rattle.sb_trail.specs.Assignments.{held, value_of, IsConsistent}
 use Rattle.sb_clauses.specs.declared.watch.Seen.{Seen}

@@ -1,10 +1,10 @@
 -- Unit propagation of kept clauses on a trail.
 use Rattle.std.specs.Prelude.{◌≡◌, ℕ, Bool, true, false, nat_lt, List, [], ◌∷◌, ◌++◌, Option, Some, None}
 use Rattle.std.specs.List.{list_all}
-use Rattle.sb_word.specs.declared.clause.Lit.{Lit}
-use Rattle.sb_word.specs.declared.clause.ClauseId.{ClauseId}
-use Rattle.sb_word.specs.Clauses.{is_false_clause, leaves_only}
-use Rattle.sb_rulebook.specs.ClauseRules.{Kept, KeptClause, kept_at}
+use Rattle.sb_lit.specs.declared.clause.Lit.{Lit}
+use Rattle.sb_lit.specs.declared.clause.ClauseId.{ClauseId}
+use Rattle.sb_lit.specs.Clauses.{is_false_clause, leaves_only}
+use Rattle.sb_lit.specs.Kept.{Kept, KeptClause, kept_at}
 use Rattle.sb_trail.specs.declared.assigned.Assigned.{Assigned}
 use Rattle.sb_trail.specs.Assignments.{Assignments, held, current_level}
 use Rattle.sb_clauses.specs.declared.propagated.Propagated.{Propagated}
@@ -46,8 +46,10 @@ pub record GrowsBy (kept : Kept) (old new : Assignments) : Type 0 where
 
 -- no kept clause is false, and none leaves one literal
 pub record IsSettled (kept : Kept) (literals : List Lit) : Type 0 where
-  pub none_false : (id : ℕ) (clause : KeptClause) → kept_at kept id ≡ Some clause → is_false_clause literals clause.literals ≡ false
-  pub none_forces : (id : ℕ) (clause : KeptClause) → kept_at kept id ≡ Some clause → (l : Lit) → leaves_only literals clause.literals l ≡ false
+  pub none_false : (id : ℕ) (clause : KeptClause) → kept_at kept id ≡ Some clause
+      → is_false_clause literals clause.literals ≡ false
+  pub none_forces : (id : ℕ) (clause : KeptClause) → kept_at kept id ≡ Some clause → (l : Lit)
+      → leaves_only literals clause.literals l ≡ false
 
 -- the kept clause of the number is false
 pub record IsConflict (kept : Kept) (literals : List Lit) (id : ℕ) : Type 0 where

@@ -1,6 +1,6 @@
 -- What a record says of a clause.
 use Rattle.std.specs.Prelude.{List, map, Option, option_map}
-use Rattle.sb_rulebook.specs.ClauseRules.{Kept, KeptClause}
+use Rattle.sb_lit.specs.Kept.{Kept, KeptClause}
 use Rattle.sb_clauses.specs.declared.record.Record.{Record}
 
 abbrev pub clause_of : Record → KeptClause

@@ -1,8 +1,8 @@
--- Propagation to its end.
+-- Private: propagation to its end.
 use Rattle.std.specs.Prelude.{◌≡◌, ℕ, ◌<◌, true, List, length}
-use Rattle.sb_word.specs.declared.clause.Lit.{Lit}
-use Rattle.sb_word.specs.Clauses.{negation, is_among, is_false_under}
-use Rattle.sb_rulebook.specs.ClauseRules.{Kept}
+use Rattle.sb_lit.specs.declared.clause.Lit.{Lit}
+use Rattle.sb_lit.specs.Clauses.{negation, is_among, is_false_under}
+use Rattle.sb_lit.specs.Kept.{Kept}
 use Rattle.sb_trail.specs.declared.assigned.Assigned.{Assigned}
 use Rattle.sb_trail.specs.Assignments.{Assignments, held}
 use Rattle.sb_clauses.specs.Looking.{IsHeld}
@@ -20,16 +20,19 @@ pub record IsFine (walked literals clause : List Lit) (own other : ℕ) : Type 0
 
 -- the same of each clause
 abbrev pub IsFineSide : Kept → List Lit → List Lit → List ℕ → List ℕ → Type 0
-IsFineSide kept walked literals own other = (id : ℕ) (clause : List Lit) → HasClause kept id clause → IsFine walked literals clause (place_at own id) (place_at other id)
+IsFineSide kept walked literals own other = (id : ℕ) (clause : List Lit) → HasClause kept id clause
+    → IsFine walked literals clause (place_at own id) (place_at other id)
 
 pub record AreFine (kept : Kept) (walked literals : List Lit) (firsts seconds : List ℕ) : Type 0 where
   pub at_first : IsFineSide kept walked literals firsts seconds
   pub at_second : IsFineSide kept walked literals seconds firsts
 
 -- the trail has grown, and what was fine stays so
-pub record Settles (kept : Kept) (old_firsts old_seconds new_firsts new_seconds : List ℕ) (old new : Assignments) : Type 0 where
+pub record Settles (kept : Kept) (old_firsts old_seconds new_firsts new_seconds : List ℕ) (old new : Assignments) : Type
+    0 where
   pub grows : GrowsBy kept old new
-  pub keeps : (walked literals : List Lit) → Grown walked (held old.literals) → Grown literals (held old.literals) → AreFine kept walked literals old_firsts old_seconds → AreFine kept walked literals new_firsts new_seconds
+  pub keeps : (walked literals : List Lit) → Grown walked (held old.literals) → Grown literals (held old.literals)
+      → AreFine kept walked literals old_firsts old_seconds → AreFine kept walked literals new_firsts new_seconds
 
 -- the literal is false by the entry at the place
 pub record IsFalseAt (entries : List Assigned) (at : ℕ) (l : Lit) : Type 0 where

@@ -1,13 +1,13 @@
--- Clauses that are kept and not yet listed.
+-- Private: clauses that are kept and not yet listed.
 use Rattle.std.specs.Prelude.{◌≡◌, ◌⊎◌, ℕ, ◌+◌, ◌<◌, ◌≤◌, Bool, true, false, [], List, length, take, slice_index_or, Option, Some, None}
 use Rattle.std.specs.List.{list_all}
-use Rattle.sb_word.specs.declared.clause.Lit.{Lit}
-use Rattle.sb_word.specs.Clauses.{is_same_literal, is_false_under}
-use Rattle.sb_rulebook.specs.ClauseRules.{Kept}
+use Rattle.sb_lit.specs.declared.clause.Lit.{Lit}
+use Rattle.sb_lit.specs.Clauses.{is_same_literal, is_false_under}
+use Rattle.sb_lit.specs.Kept.{Kept}
 use Rattle.sb_trail.specs.declared.assigned.Assigned.{Assigned}
 use Rattle.sb_trail.specs.Assignments.{held, level_of}
 use Rattle.sb_clauses.specs.declared.passed.Passed.{Passed}
-use Rattle.sb_clauses.specs.Lists.{Lists}
+use Rattle.sb_clauses.specs.WatchLists.{WatchLists}
 use Rattle.sb_clauses.specs.Watching.{no_literal, literal_at, is_short, HasClause}
 use Rattle.sb_clauses.specs.Adding.{AreEnough}
 use Rattle.sb_clauses.specs.Passing.{literals_of, AreReady}
@@ -25,10 +25,12 @@ pub record IsOther (clause : List Lit) (avoided : Option Lit) (place : ℕ) : Ty
 -- two places to watch, of the same literal only where the clause has no other one
 pub record ArePlaces (clause : List Lit) (own other : ℕ) : Type 0 where
   pub inside : 0 < length clause → (own < length clause) × (other < length clause)
-  pub short : is_short clause own other ≡ true → list_all (λ l. is_same_literal l (literal_at clause other)) clause ≡ true
+  pub short : is_short clause own other ≡ true
+      → list_all (λ l. is_same_literal l (literal_at clause other)) clause ≡ true
 
 -- there is room to list the clauses
-pub record HaveRoom (kept : Kept) (firsts : List ℕ) (first : Lists) (seconds : List ℕ) (second : Lists) : Type 0 where
+pub record HaveRoom (kept : Kept) (firsts : List ℕ) (first : WatchLists) (seconds : List ℕ) (second : WatchLists)
+    : Type 0 where
   pub first_places : length kept ≤ length firsts
   pub second_places : length kept ≤ length seconds
   pub first_nodes : length kept ≤ first.nodes
@@ -58,7 +60,8 @@ abbrev pub EndsBelow : List Assigned → ℕ → ℕ → Type 0
 EndsBelow entries count level = (at : ℕ) → count ≡ at + 1 → (slice_index_or entries at no_entry).level < level
 
 -- the first clauses are listed, and there is room for the others
-pub record AreStored (kept : Kept) (firsts : List ℕ) (first : Lists) (seconds : List ℕ) (second : Lists) (passed : List Passed) (listed : ℕ) : Type 0 where
+pub record AreStored (kept : Kept) (firsts : List ℕ) (first : WatchLists) (seconds : List ℕ) (second : WatchLists)
+    (passed : List Passed) (listed : ℕ) : Type 0 where
   pub ready : AreReady (take listed kept) firsts first seconds second passed
   pub room : HaveRoom kept firsts first seconds second
   pub within : listed ≤ length kept

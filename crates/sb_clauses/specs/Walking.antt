@@ -1,13 +1,13 @@
--- A walk over one of the lists of watching clauses.
+-- Private: a walk over one of the lists of watching clauses.
 use Rattle.std.specs.Prelude.{◌≡◌, ◌≢◌, ◌⊎◌, ℕ, ◌+◌, ◌<◌, ◌≤◌, true, false, List, [], length, slice_index_or}
-use Rattle.sb_word.specs.declared.clause.Lit.{Lit}
-use Rattle.sb_word.specs.Clauses.{is_true_under, is_false_under}
+use Rattle.sb_lit.specs.declared.clause.Lit.{Lit}
+use Rattle.sb_lit.specs.Clauses.{is_true_under, is_false_under}
 use Rattle.sb_trail.specs.Assignments.{Assignments, held}
-use Rattle.sb_rulebook.specs.ClauseRules.{Kept}
+use Rattle.sb_lit.specs.Kept.{Kept}
 use Rattle.sb_clauses.specs.declared.walk.Turn.{Turn}
 use Rattle.sb_clauses.specs.declared.walk.Turn.TheVariants.{Goes, Ends, Stops}
 use Rattle.sb_clauses.specs.Looking.{IsHeld}
-use Rattle.sb_clauses.specs.Lists.{Lists, times_in, times}
+use Rattle.sb_clauses.specs.WatchLists.{WatchLists, times_in, times}
 use Rattle.sb_clauses.specs.Propagation.{has_room_for, GrowsBy, IsConflict}
 use Rattle.sb_clauses.specs.Watching.{list_of, literal_at, is_short, home, stands, IsPlaced, HasClause, place_at}
 
@@ -16,24 +16,30 @@ pub record Walk : Type 0 where
   pub kept : Kept
   pub own : List ℕ
   pub other : List ℕ
-  pub all : Lists
+  pub all : WatchLists
   pub trail : Assignments
 
 -- the literals of a list are false
 abbrev pub AreFalseOf : ℕ → List Lit → Type 0
 AreFalseOf list literals = (l : Lit) → list_of l ≡ list → is_false_under literals l ≡ true
 
--- in the midst of a walk: the clauses of the list that were looked at stand in list 0, and their other literals are true
+-- in the midst of a walk: the clauses of the list that were looked at stand in list 0, and their other literals are
+-- true
 pub record IsWalking (list : ℕ) (w : Walk) : Type 0 where
   pub begun : 0 < list
   pub inside : list < length w.all.lists
   pub own_places : length w.kept ≤ length w.own
   pub other_places : length w.kept ≤ length w.other
   pub nodes : length w.kept ≤ w.all.nodes
-  pub placed : (id : ℕ) (clause : List Lit) → HasClause w.kept id clause → IsPlaced (length w.all.lists) clause (place_at w.own id) (place_at w.other id)
-  pub elsewhere : (id : ℕ) (clause : List Lit) → HasClause w.kept id clause → (l : ℕ) → l ≢ 0 → l ≢ list → times_in id (slice_index_or w.all.lists l []) ≡ stands (home clause (place_at w.own id) (place_at w.other id)) l
-  pub here : (id : ℕ) (clause : List Lit) → HasClause w.kept id clause → times_in id (slice_index_or w.all.lists 0 []) + times_in id (slice_index_or w.all.lists list []) ≡ stands (home clause (place_at w.own id) (place_at w.other id)) list
-  pub holds : (id : ℕ) (clause : List Lit) → HasClause w.kept id clause → 0 < times_in id (slice_index_or w.all.lists 0 []) → IsHeld (held w.trail.literals) clause (place_at w.other id)
+  pub placed : (id : ℕ) (clause : List Lit) → HasClause w.kept id clause
+      → IsPlaced (length w.all.lists) clause (place_at w.own id) (place_at w.other id)
+  pub elsewhere : (id : ℕ) (clause : List Lit) → HasClause w.kept id clause → (l : ℕ) → l ≢ 0 → l ≢ list
+      → times_in id (slice_index_or w.all.lists l []) ≡ stands (home clause (place_at w.own id) (place_at w.other id)) l
+  pub here : (id : ℕ) (clause : List Lit) → HasClause w.kept id clause
+      → times_in id (slice_index_or w.all.lists 0 []) + times_in id (slice_index_or w.all.lists list [])
+      ≡ stands (home clause (place_at w.own id) (place_at w.other id)) list
+  pub holds : (id : ℕ) (clause : List Lit) → HasClause w.kept id clause
+      → 0 < times_in id (slice_index_or w.all.lists 0 []) → IsHeld (held w.trail.literals) clause (place_at w.other id)
   pub fresh : (id : ℕ) → length w.kept ≤ id → times id w.all.lists ≡ 0
   pub are_false : AreFalseOf list (held w.trail.literals)
   pub room : has_room_for w.trail.reserved w.kept ≡ true
@@ -53,15 +59,19 @@ IsMoved literals clause old now other = (now ≡ old) ⊎ IsAway literals clause
 pub record Advances (old now : Walk) : Type 0 where
   pub grows : GrowsBy old.kept old.trail now.trail
   pub len : length now.own ≡ length old.own
-  pub moved : (id : ℕ) (clause : List Lit) → HasClause old.kept id clause → IsMoved (held old.trail.literals) clause (place_at old.own id) (place_at now.own id) (place_at old.other id)
+  pub moved : (id : ℕ) (clause : List Lit) → HasClause old.kept id clause
+      → IsMoved (held old.trail.literals) clause (place_at old.own id) (place_at now.own id) (place_at old.other id)
 
 -- each clause of the list has a true literal at its other place
 abbrev pub AreHeld : ℕ → Walk → Type 0
-AreHeld list w = (id : ℕ) (clause : List Lit) → HasClause w.kept id clause → home clause (place_at w.own id) (place_at w.other id) ≡ list → IsHeld (held w.trail.literals) clause (place_at w.other id)
+AreHeld list w = (id : ℕ) (clause : List Lit) → HasClause w.kept id clause
+    → home clause (place_at w.own id) (place_at w.other id) ≡ list
+    → IsHeld (held w.trail.literals) clause (place_at w.other id)
 
 -- what one turn of a walk comes to
 abbrev pub TurnsOut : ℕ → Walk → Walk → Turn → Type 0
-TurnsOut list old now Goes = length (slice_index_or now.all.lists list []) < length (slice_index_or old.all.lists list [])
+TurnsOut list old now Goes =
+    length (slice_index_or now.all.lists list []) < length (slice_index_or old.all.lists list [])
 TurnsOut list old now Ends = slice_index_or now.all.lists list [] ≡ []
 TurnsOut list old now (Stops id) = IsConflict now.kept (held now.trail.literals) id.0
 

@@ -1,11 +1,11 @@
--- Two literals of each clause are watched, each at a place in the clause of its own. A clause without two
+-- Private: two literals of each clause are watched, each at a place in the clause of its own. A clause without two
 -- different literals is short, and both its places have the same literal.
 use Rattle.std.specs.Prelude.{◌≡◌, ℕ, ◌+◌, ◌*◌, ◌^◌, ◌<◌, ◌≤◌, true, false, Bool, ◌==◌, nat_lt, if◌then◌else◌, List, [], length, slice_index_or, Some}
 use Rattle.std.specs.List.{list_all}
-use Rattle.sb_word.specs.declared.clause.Lit.{Lit}
-use Rattle.sb_word.specs.Clauses.{is_same_literal}
-use Rattle.sb_rulebook.specs.ClauseRules.{Kept, KeptClause, kept_at}
-use Rattle.sb_clauses.specs.Lists.{Lists, times_in, times}
+use Rattle.sb_lit.specs.declared.clause.Lit.{Lit}
+use Rattle.sb_lit.specs.Clauses.{is_same_literal}
+use Rattle.sb_lit.specs.Kept.{Kept, KeptClause, kept_at}
+use Rattle.sb_clauses.specs.WatchLists.{WatchLists, times_in, times}
 
 -- the list of those whose watched literal is this one; list 0 is for a walk, and list 1 for short clauses
 abbrev pub list_of : Lit → ℕ
@@ -37,7 +37,8 @@ stands home list = if home == list then 1 else 0
 -- the places of a clause, where there are so many lists
 pub record IsPlaced (lists : ℕ) (clause : List Lit) (own other : ℕ) : Type 0 where
   pub inside : 0 < length clause → (own < length clause) × (other < length clause)
-  pub short : is_short clause own other ≡ true → list_all (λ l. is_same_literal l (literal_at clause other)) clause ≡ true
+  pub short : is_short clause own other ≡ true
+      → list_all (λ l. is_same_literal l (literal_at clause other)) clause ≡ true
   -- each literal has a list, whose number fits
   pub small : list_all is_small clause ≡ true
   pub listed : list_all (λ l. nat_lt (list_of l) lists) clause ≡ true
@@ -53,16 +54,19 @@ abbrev pub place_at : List ℕ → ℕ → ℕ
 place_at places id = slice_index_or places id 0
 
 -- the clauses with their own places and the other ones, each in the list that is its home
-pub record IsSide (kept : Kept) (own other : List ℕ) (all : Lists) : Type 0 where
+pub record IsSide (kept : Kept) (own other : List ℕ) (all : WatchLists) : Type 0 where
   pub own_places : length kept ≤ length own
   pub other_places : length kept ≤ length other
   pub nodes : length kept ≤ all.nodes
-  pub placed : (id : ℕ) (clause : List Lit) → HasClause kept id clause → IsPlaced (length all.lists) clause (place_at own id) (place_at other id)
-  pub listed : (id : ℕ) (clause : List Lit) → HasClause kept id clause → (list : ℕ) → times_in id (slice_index_or all.lists list []) ≡ stands (home clause (place_at own id) (place_at other id)) list
+  pub placed : (id : ℕ) (clause : List Lit) → HasClause kept id clause
+      → IsPlaced (length all.lists) clause (place_at own id) (place_at other id)
+  pub listed : (id : ℕ) (clause : List Lit) → HasClause kept id clause → (list : ℕ)
+      → times_in id (slice_index_or all.lists list []) ≡ stands (home clause (place_at own id) (place_at other id)) list
   -- a number that is not given stands in no list
   pub fresh : (id : ℕ) → length kept ≤ id → times id all.lists ≡ 0
 
 -- both sides of the kept clauses
-pub record AreWatched (kept : Kept) (firsts : List ℕ) (first : Lists) (seconds : List ℕ) (second : Lists) : Type 0 where
+pub record AreWatched (kept : Kept) (firsts : List ℕ) (first : WatchLists) (seconds : List ℕ) (second : WatchLists)
+    : Type 0 where
   pub at_first : IsSide kept firsts seconds first
   pub at_second : IsSide kept seconds firsts second

@@ -2,9 +2,8 @@
 
 ghost use Rattle.std.specs.Prelude.{◌≡◌, [], ◌∷◌, ◌++◌, length, true, Some, IfOk, OnErr};
 ghost use Rattle.std.specs.Option.{option_map, option_copied};
-ghost use Rattle.sb_rulebook.specs.ClauseRules.{kept_at};
+ghost use Rattle.sb_lit.specs.Kept.{kept_at, kept_up_to, is_above};
 ghost use Rattle.sb_trail.specs.Assignments.{held};
-ghost use Rattle.sb_clauses.specs.Dropping.{kept_up_to, is_above};
 ghost use Rattle.sb_clauses.specs.Records.{clause_of, kept_of};
 ghost use Rattle.sb_clauses.specs.Propagation.{are_reserved, is_reserved, has_room_for, GrowsBy, AnswersOf};
 
@@ -12,27 +11,26 @@ use crate::passed::Passed;
 use crate::propagated::Propagated;
 use crate::record::Record;
 use crate::settle::settle_on;
-use crate::side::{Side, lists_for};
+use crate::watches::{Watches, lists_for};
+use sb_lit::{Clause, ClauseId, Lit};
 use sb_trail::Trail;
-use sb_word::{Clause, ClauseId, Lit};
 use std::alloc::{AllocError, Global};
 use std::marker::Model;
 
-/// The clauses that are kept, by number. Each is watched at two of its literals, and stands in the list of
-/// each.
+/// The clauses that are kept, by number. Each has two watched literals, and stands in the watch list of each.
 #[derive(Debug, Drop)]
 pub struct Clauses {
     records: Vec<Option<Record>>,
-    first: Side,
-    second: Side,
-    /// What the last propagation went over, so that the next one begins behind it.
+    first: Watches,
+    second: Watches,
+    /// The literals in front of the propagation queue head, at which the next propagation begins.
     passed: Vec<Passed>,
-    /// How many of the clauses stand in the lists; propagation lists the others.
+    /// How many of the clauses stand in the watch lists; propagation puts the others there.
     listed: usize,
 }
 
 impl Model for Clauses {
-    ghost use Rattle.sb_rulebook.specs.ClauseRules.{Kept};
+    ghost use Rattle.sb_lit.specs.Kept.{Kept};
     ghost use Rattle.sb_clauses.specs.Records.{kept_of};
     ghost use Rattle.sb_clauses.specs.Waiting.{AreStored};
 
@@ -40,7 +38,8 @@ impl Model for Clauses {
 
     ghost view = { λ clauses. kept_of clauses.records.items };
 
-    ghost invariant = { λ clauses. AreStored (kept_of clauses.records.items) clauses.first.places.items clauses.first.lists clauses.second.places.items clauses.second.lists clauses.passed.items clauses.listed };
+    ghost invariant = { λ clauses. AreStored (kept_of clauses.records.items) clauses.first.places.items
+        clauses.first.lists clauses.second.places.items clauses.second.lists clauses.passed.items clauses.listed };
 }
 
 impl Clauses {
@@ -50,8 +49,8 @@ impl Clauses {
     {
         Clauses {
             records: Vec::new(alloc),
-            first: Side::new(alloc),
-            second: Side::new(alloc),
+            first: Watches::new(alloc),
+            second: Watches::new(alloc),
             passed: Vec::new(alloc),
             listed: 0,
         }
@@ -61,7 +60,8 @@ impl Clauses {
     /// each atom up to the greatest one, and is an error where that cannot be had, as for an atom of 2 ^ 62.
     pub fn add(&mut self, clause: &Clause, level: u64) -> Result<ClauseId, AllocError>
         ensures number { IfOk result (λ id. id.0 ≡ length self.old) }
-        ensures ok { IfOk result (λ _. self.new ≡ self.old ++ Some (record { literals = clause.now; level = level }) ∷ []) }
+        ensures ok { IfOk result
+            (λ _. self.new ≡ self.old ++ Some (record { literals = clause.now; level = level }) ∷ []) }
         ensures err { OnErr result (self.new ≡ self.old) }
     {
         let alloc = *self.records.allocator();
@@ -133,9 +133,9 @@ impl Clauses {
 
     /// Adds what the clauses force to the trail, until nothing more is forced or one of them is false.
     /// Takes no memory. It compares the trail with what it was at the end of the last call, looks once at each clause
-    /// that is new, and then, for each literal of the trail behind those of the last call that still stand, at the
-    /// clauses that watch its negation. A new clause whose watched literals are false sends it back to the level at
-    /// which the first of them became false.
+    /// that is new, and then, for each literal of the trail from the propagation queue head on, at the clauses that
+    /// watch its negation. Going back on the trail takes the queue head back, and so does a new clause whose watched
+    /// literals are false, to the level at which the first of them became false.
     pub fn propagate(&mut self, trail: &mut Trail) -> Propagated
         requires { has_room_for trail.old.reserved self.old ≡ true }
         ensures kept { self.new ≡ self.old }

@@ -1,18 +1,18 @@
-//! What is remembered of the trail between propagations.
+//! What is remembered of the trail between propagations: the literals in front of the propagation queue head.
 
 ghost use Rattle.std.specs.Prelude.{◌≡◌, ◌≤◌, length, take, IfSome};
 ghost use Rattle.sb_trail.specs.Assignments.{held};
-ghost use Rattle.sb_clauses.specs.Passing.{literals_of, IsBehindEnd, ArePassed, IsFront, AreNoted};
+ghost use Rattle.sb_clauses.specs.Passing.{literals_of, IsQueueHead, ArePassed, IsFront, AreNoted};
 
+use sb_lit::Lit;
 use sb_trail::Assigned;
-use sb_word::Lit;
 
 /// A literal that was true at the end of the last propagation.
 #[derive(Clone, Copy, Debug, PartialEq, Eq)]
 pub struct Passed {
     pub literal: Lit,
-    /// Whether a propagation ended with this literal as the newest one.
-    pub is_end: bool,
+    /// Whether the queue head stood right behind this literal at the end of a propagation.
+    pub is_head: bool,
 }
 
 /// Forgets what does not agree with the literals that are true.
@@ -37,13 +37,13 @@ fn shared_front(passed: &[Passed], entries: &[Assigned]) -> usize
     passed.len()
 }
 
-/// The number of literals up to the last end.
-pub fn last_end(passed: &[Passed]) -> Option<usize>
-    ensures { IfSome result (IsBehindEnd passed.now) }
+/// The propagation queue head: how many literals stand up to the last one behind which it stood before.
+pub fn queue_head(passed: &[Passed]) -> Option<usize>
+    ensures { IfSome result (IsQueueHead passed.now) }
 {
     let mut start = passed.len();
     while start > 0 {
-        if passed[start - 1].is_end {
+        if passed[start - 1].is_head {
             return Some(start);
         }
         start -= 1;
@@ -51,16 +51,16 @@ pub fn last_end(passed: &[Passed]) -> Option<usize>
     None
 }
 
-/// Notes the literals that are true, and that propagation ended with the newest one. Takes no memory: where
-/// there is no room for them all, no end is noted.
-pub fn note_end(passed: &mut Vec<Passed>, entries: &[Assigned])
+/// Notes the literals that are true, and that the queue head stands behind the newest one. Takes no memory: where
+/// there is no room for them all, no queue head is noted.
+pub fn note_head(passed: &mut Vec<Passed>, entries: &[Assigned])
     requires { ArePassed passed.old.items entries.now }
     ensures { AreNoted passed.old.items passed.new.items entries.now }
 {
     note_literals(passed, entries);
     let len = passed.len();
     if len == entries.len() && len > 0 {
-        passed[len - 1].is_end = true;
+        passed[len - 1].is_head = true;
     }
 }
 
@@ -74,8 +74,8 @@ fn note_literals(passed: &mut Vec<Passed>, entries: &[Assigned])
             return;
         }
         let literal = entries[at].literal;
-        let is_end = false;
-        if passed.push(Passed { literal, is_end }).is_err() {
+        let is_head = false;
+        if passed.push(Passed { literal, is_head }).is_err() {
             return;
         }
     }

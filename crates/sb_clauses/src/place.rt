@@ -2,13 +2,13 @@
 
 ghost use Rattle.std.specs.Prelude.{◌≡◌, ◌≤◌, length, true, false, MatchOption};
 ghost use Rattle.std.specs.List.{list_all};
-ghost use Rattle.sb_word.specs.Clauses.{is_false_under};
+ghost use Rattle.sb_lit.specs.Clauses.{is_false_under};
 ghost use Rattle.sb_clauses.specs.Passing.{literals_of, ArePassed, IsFront};
 ghost use Rattle.sb_clauses.specs.Waiting.{is_the, IsOther, ArePlaces, AreLate, HasRank, EndsBelow};
 
 use crate::passed::Passed;
+use sb_lit::Lit;
 use sb_trail::{Assigned, Trail};
-use sb_word::Lit;
 
 /// Two places of a clause to watch: of literals that are not false, or else that became false last. The same
 /// place twice where the clause has no two different literals, and 0 where it has none. Linear in its length.

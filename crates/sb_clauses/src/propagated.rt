@@ -1,6 +1,6 @@
 //! What propagation comes to.
 
-use sb_word::ClauseId;
+use sb_lit::ClauseId;
 
 /// What propagation comes to.
 #[derive(Clone, Copy, Debug, PartialEq, Eq)]

@@ -1,6 +1,6 @@
 //! How a clause is kept.
 
-use sb_word::Lit;
+use sb_lit::Lit;
 
 /// A kept clause.
 #[derive(Debug, Drop)]

@@ -1,8 +1,8 @@
-//! Propagation to its end.
+//! Unit propagation: the queue is the trail, and its head goes from literal to literal.
 
 ghost use Rattle.std.specs.Prelude.{◌≡◌, ◌<◌, ◌≤◌, ◌∷◌, [], ◌++◌, List, length, take, true, IfSome, IfNone, MatchOption};
-ghost use Rattle.sb_word.specs.declared.clause.Lit.{Lit as TheLit};
-ghost use Rattle.sb_word.specs.Clauses.{negation, is_false_under};
+ghost use Rattle.sb_lit.specs.declared.clause.Lit.{Lit as TheLit};
+ghost use Rattle.sb_lit.specs.Clauses.{negation, is_false_under};
 ghost use Rattle.sb_trail.specs.Assignments.{held, IsConsistent};
 ghost use Rattle.sb_clauses.specs.Records.{kept_of};
 ghost use Rattle.sb_clauses.specs.Propagation.{has_room_for, GrowsBy, IsConflict, IsSettled};
@@ -13,56 +13,66 @@ ghost use Rattle.sb_clauses.specs.Waiting.{AreStored};
 ghost use Rattle.sb_clauses.specs.Settling.{Grown, AreFine, Settles, IsFalseAt};
 
 use crate::listing::list_new;
-use crate::passed::{Passed, last_end, note_end, rewind};
+use crate::passed::{Passed, note_head, queue_head, rewind};
 use crate::record::Record;
-use crate::side::{SHORT, Side, list_among};
 use crate::walk::walk;
+use crate::watches::{SHORT, Watches, list_among};
+use sb_lit::{ClauseId, Lit};
 use sb_trail::Trail;
-use sb_word::{ClauseId, Lit};
 
 /// Assigns what the clauses force until nothing more is forced or one of them is false, and answers that one.
-/// Lists the clauses that are new, and begins behind the last place where propagation ended before.
+/// Puts the clauses that are new on the watch lists, and begins at the queue head that propagation left before.
 pub fn settle_on(
     records: &[Option<Record>],
-    first: &mut Side,
-    second: &mut Side,
+    first: &mut Watches,
+    second: &mut Watches,
     passed: &mut Vec<Passed>,
     trail: &mut Trail,
     listed: usize,
 ) -> Option<ClauseId>
-    requires stored { AreStored (kept_of records.now) first.old.places.items first.old.lists second.old.places.items second.old.lists passed.old.items listed }
+    requires stored { AreStored (kept_of records.now) first.old.places.items first.old.lists second.old.places.items
+        second.old.lists passed.old.items listed }
     requires room { has_room_for trail.old.reserved (kept_of records.now) ≡ true }
-    ensures ready { AreReady (kept_of records.now) first.new.places.items first.new.lists second.new.places.items second.new.lists passed.new.items }
+    ensures ready { AreReady (kept_of records.now) first.new.places.items first.new.lists second.new.places.items
+        second.new.lists passed.new.items }
     ensures grows { GrowsBy (kept_of records.now) trail.old trail.new }
-    ensures answer { MatchOption result (IsSettled (kept_of records.now) (held trail.new.literals)) (λ id. IsConflict (kept_of records.now) (held trail.new.literals) id.0) }
+    ensures answer { MatchOption result (IsSettled (kept_of records.now) (held trail.new.literals))
+        (λ id. IsConflict (kept_of records.now) (held trail.new.literals) id.0) }
 {
     rewind(passed, trail.literals());
     list_new(records, first, second, passed, trail, listed);
-    let end = last_end(passed);
-    let conflict = settle(records, first, second, trail, end);
+    let head = queue_head(passed);
+    let conflict = settle(records, first, second, trail, head);
     if conflict.is_some() {
         return conflict;
     }
-    note_end(passed, trail.literals());
+    note_head(passed, trail.literals());
     None
 }
 
-/// Goes over the literals of the trail behind an end, or over all, where there is none.
+/// Goes over the literals of the trail behind the queue head, or over all, where there is none.
 fn settle(
     records: &[Option<Record>],
-    first: &mut Side,
-    second: &mut Side,
+    first: &mut Watches,
+    second: &mut Watches,
     trail: &mut Trail,
-    end: Option<usize>,
+    head: Option<usize>,
 ) -> Option<ClauseId>
-    requires watched { AreWatched (kept_of records.now) first.old.places.items first.old.lists second.old.places.items second.old.lists }
+    requires watched { AreWatched (kept_of records.now) first.old.places.items first.old.lists second.old.places.items
+        second.old.lists }
     requires room { has_room_for trail.old.reserved (kept_of records.now) ≡ true }
-    requires fine { IfSome end (λ start. AreFine (kept_of records.now) (take start (held trail.old.literals)) (held trail.old.literals) first.old.places.items second.old.places.items) }
-    ensures watched { AreWatched (kept_of records.now) first.new.places.items first.new.lists second.new.places.items second.new.lists }
-    ensures settles { Settles (kept_of records.now) first.old.places.items second.old.places.items first.new.places.items second.new.places.items trail.old trail.new }
-    ensures answer { MatchOption result (AreFine (kept_of records.now) (held trail.new.literals) (held trail.new.literals) first.new.places.items second.new.places.items) (λ id. IsConflict (kept_of records.now) (held trail.new.literals) id.0) }
+    requires fine { IfSome head
+        (λ start. AreFine (kept_of records.now) (take start (held trail.old.literals)) (held trail.old.literals)
+        first.old.places.items second.old.places.items) }
+    ensures watched { AreWatched (kept_of records.now) first.new.places.items first.new.lists second.new.places.items
+        second.new.lists }
+    ensures settles { Settles (kept_of records.now) first.old.places.items second.old.places.items
+        first.new.places.items second.new.places.items trail.old trail.new }
+    ensures answer { MatchOption result
+        (AreFine (kept_of records.now) (held trail.new.literals) (held trail.new.literals) first.new.places.items
+        second.new.places.items) (λ id. IsConflict (kept_of records.now) (held trail.new.literals) id.0) }
 {
-    match end {
+    match head {
         Some(start) => settle_from(records, first, second, trail, start),
         None => settle_all(records, first, second, trail),
     }
@@ -71,15 +81,20 @@ fn settle(
 /// Goes over all literals of the trail, behind the clauses without two different literals.
 fn settle_all(
     records: &[Option<Record>],
-    first: &mut Side,
-    second: &mut Side,
+    first: &mut Watches,
+    second: &mut Watches,
     trail: &mut Trail,
 ) -> Option<ClauseId>
-    requires watched { AreWatched (kept_of records.now) first.old.places.items first.old.lists second.old.places.items second.old.lists }
+    requires watched { AreWatched (kept_of records.now) first.old.places.items first.old.lists second.old.places.items
+        second.old.lists }
     requires room { has_room_for trail.old.reserved (kept_of records.now) ≡ true }
-    ensures watched { AreWatched (kept_of records.now) first.new.places.items first.new.lists second.new.places.items second.new.lists }
-    ensures settles { Settles (kept_of records.now) first.old.places.items second.old.places.items first.new.places.items second.new.places.items trail.old trail.new }
-    ensures answer { MatchOption result (AreFine (kept_of records.now) (held trail.new.literals) (held trail.new.literals) first.new.places.items second.new.places.items) (λ id. IsConflict (kept_of records.now) (held trail.new.literals) id.0) }
+    ensures watched { AreWatched (kept_of records.now) first.new.places.items first.new.lists second.new.places.items
+        second.new.lists }
+    ensures settles { Settles (kept_of records.now) first.old.places.items second.old.places.items
+        first.new.places.items second.new.places.items trail.old trail.new }
+    ensures answer { MatchOption result
+        (AreFine (kept_of records.now) (held trail.new.literals) (held trail.new.literals) first.new.places.items
+        second.new.places.items) (λ id. IsConflict (kept_of records.now) (held trail.new.literals) id.0) }
 {
     let short = walk(records, first, &second.places, trail, SHORT);
     if short.is_some() {
@@ -91,44 +106,57 @@ fn settle_all(
 /// Goes over the literals of the trail from a place on, also those that are assigned on the way.
 fn settle_from(
     records: &[Option<Record>],
-    first: &mut Side,
-    second: &mut Side,
+    first: &mut Watches,
+    second: &mut Watches,
     trail: &mut Trail,
     start: usize,
 ) -> Option<ClauseId>
-    requires watched { AreWatched (kept_of records.now) first.old.places.items first.old.lists second.old.places.items second.old.lists }
+    requires watched { AreWatched (kept_of records.now) first.old.places.items first.old.lists second.old.places.items
+        second.old.lists }
     requires room { has_room_for trail.old.reserved (kept_of records.now) ≡ true }
-    requires fine { AreFine (kept_of records.now) (take start (held trail.old.literals)) (held trail.old.literals) first.old.places.items second.old.places.items }
-    ensures watched { AreWatched (kept_of records.now) first.new.places.items first.new.lists second.new.places.items second.new.lists }
-    ensures settles { Settles (kept_of records.now) first.old.places.items second.old.places.items first.new.places.items second.new.places.items trail.old trail.new }
-    ensures answer { MatchOption result (AreFine (kept_of records.now) (held trail.new.literals) (held trail.new.literals) first.new.places.items second.new.places.items) (λ id. IsConflict (kept_of records.now) (held trail.new.literals) id.0) }
+    requires fine { AreFine (kept_of records.now) (take start (held trail.old.literals)) (held trail.old.literals)
+        first.old.places.items second.old.places.items }
+    ensures watched { AreWatched (kept_of records.now) first.new.places.items first.new.lists second.new.places.items
+        second.new.lists }
+    ensures settles { Settles (kept_of records.now) first.old.places.items second.old.places.items
+        first.new.places.items second.new.places.items trail.old trail.new }
+    ensures answer { MatchOption result
+        (AreFine (kept_of records.now) (held trail.new.literals) (held trail.new.literals) first.new.places.items
+        second.new.places.items) (λ id. IsConflict (kept_of records.now) (held trail.new.literals) id.0) }
 {
-    let mut walked = start;
-    while let Some(literal) = false_literal(trail, walked) {
+    let mut head = start;
+    while let Some(literal) = false_literal(trail, head) {
         let conflict = walk_both(records, first, second, trail, literal);
         if conflict.is_some() {
             return conflict;
         }
-        walked += 1;
+        head += 1;
     }
     None
 }
 
-/// Looks at each clause that watches a literal that has become false.
+/// Looks at each clause that watches a literal that has become false, at the first watch and at the second.
 fn walk_both(
     records: &[Option<Record>],
-    first: &mut Side,
-    second: &mut Side,
+    first: &mut Watches,
+    second: &mut Watches,
     trail: &mut Trail,
     literal: Lit,
 ) -> Option<ClauseId>
-    requires watched { AreWatched (kept_of records.now) first.old.places.items first.old.lists second.old.places.items second.old.lists }
+    requires watched { AreWatched (kept_of records.now) first.old.places.items first.old.lists second.old.places.items
+        second.old.lists }
     requires room { has_room_for trail.old.reserved (kept_of records.now) ≡ true }
     requires is_false { is_false_under (held trail.old.literals) literal ≡ true }
-    ensures watched { AreWatched (kept_of records.now) first.new.places.items first.new.lists second.new.places.items second.new.lists }
-    ensures settles { Settles (kept_of records.now) first.old.places.items second.old.places.items first.new.places.items second.new.places.items trail.old trail.new }
-    ensures fine { IfNone result ((walked : List TheLit) → Grown walked (held trail.old.literals) → AreFine (kept_of records.now) walked (held trail.old.literals) first.old.places.items second.old.places.items → AreFine (kept_of records.now) (walked ++ negation literal ∷ []) (held trail.new.literals) first.new.places.items second.new.places.items) }
-    ensures conflict { MatchOption result (Unit {0}) (λ id. IsConflict (kept_of records.now) (held trail.new.literals) id.0) }
+    ensures watched { AreWatched (kept_of records.now) first.new.places.items first.new.lists second.new.places.items
+        second.new.lists }
+    ensures settles { Settles (kept_of records.now) first.old.places.items second.old.places.items
+        first.new.places.items second.new.places.items trail.old trail.new }
+    ensures fine { IfNone result ((walked : List TheLit) → Grown walked (held trail.old.literals)
+        → AreFine (kept_of records.now) walked (held trail.old.literals) first.old.places.items second.old.places.items
+        → AreFine (kept_of records.now) (walked ++ negation literal ∷ []) (held trail.new.literals)
+        first.new.places.items second.new.places.items) }
+    ensures conflict { MatchOption result (Unit {0})
+        (λ id. IsConflict (kept_of records.now) (held trail.new.literals) id.0) }
 {
     let conflict = walk_watching(records, first, &second.places, trail, literal);
     if conflict.is_some() {
@@ -137,10 +165,10 @@ fn walk_both(
     walk_watching(records, second, &first.places, trail, literal)
 }
 
-/// Looks at each clause that watches the literal on this side.
+/// Looks at each clause of which one of these watches is the literal.
 fn walk_watching(
     records: &[Option<Record>],
-    own: &mut Side,
+    own: &mut Watches,
     other: &[usize],
     trail: &mut Trail,
     literal: Lit,
@@ -149,8 +177,33 @@ fn walk_watching(
     requires room { has_room_for trail.old.reserved (kept_of records.now) ≡ true }
     requires is_false { is_false_under (held trail.old.literals) literal ≡ true }
     ensures side { IsSide (kept_of records.now) own.new.places.items other.now own.new.lists }
-    ensures advances { Advances (record { kept = kept_of records.now; own = own.old.places.items; other = other.now; all = own.old.lists; trail = trail.old }) (record { kept = kept_of records.now; own = own.new.places.items; other = other.now; all = own.new.lists; trail = trail.new }) }
-    ensures answer { MatchOption result (AreHeld (list_of literal) (record { kept = kept_of records.now; own = own.new.places.items; other = other.now; all = own.new.lists; trail = trail.new })) (λ id. IsConflict (kept_of records.now) (held trail.new.literals) id.0) }
+    ensures advances { Advances
+        (record {
+          kept = kept_of records.now;
+          own = own.old.places.items;
+          other = other.now;
+          all =
+              own.old.lists;
+          trail = trail.old;
+        })
+        (record {
+          kept = kept_of records.now;
+          own = own.new.places.items;
+          other = other.now;
+          all =
+              own.new.lists;
+          trail = trail.new;
+        }) }
+    ensures answer { MatchOption result
+        (AreHeld (list_of literal)
+        (record {
+          kept = kept_of records.now;
+          own = own.new.places.items;
+          other = other.now;
+          all =
+              own.new.lists;
+          trail = trail.new;
+        })) (λ id. IsConflict (kept_of records.now) (held trail.new.literals) id.0) }
 {
     match list_among(literal, own.lists.len()) {
         Some(list) => walk(records, own, other, trail, list),
@@ -160,7 +213,8 @@ fn walk_watching(
 
 /// The negation of the literal at this place of the trail.
 fn false_literal(trail: &Trail, at: usize) -> Option<Lit>
-    ensures literal { MatchOption result (length trail.now.literals ≤ at) (λ literal. IsFalseAt trail.now.literals at literal) }
+    ensures literal { MatchOption result (length trail.now.literals ≤ at)
+        (λ literal. IsFalseAt trail.now.literals at literal) }
     ensures consistent { IsConsistent (held trail.now.literals) }
     ensures within { length trail.now.literals ≤ trail.now.reserved }
     ensures fits { IfSome result (λ _. at < usize.MAX) }

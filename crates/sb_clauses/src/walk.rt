@@ -1,19 +1,19 @@
 //! Walks over the clauses that watch a literal.
 
 ghost use Rattle.std.specs.Prelude.{◌≡◌, ◌<◌, [], true, slice_index_or, MatchOption};
-ghost use Rattle.sb_rulebook.specs.ClauseRules.{Kept};
+ghost use Rattle.sb_lit.specs.Kept.{Kept};
 ghost use Rattle.sb_trail.specs.Assignments.{held};
 ghost use Rattle.sb_clauses.specs.Records.{kept_of};
 ghost use Rattle.sb_clauses.specs.Propagation.{has_room_for, IsConflict};
 ghost use Rattle.sb_clauses.specs.Watching.{IsSide};
 ghost use Rattle.sb_clauses.specs.Walking.{AreFalseOf, AreHeld, IsWalking, Advances, IsTurn};
 
-use crate::lists::pour;
 use crate::record::Record;
-use crate::side::{Side, list_of};
 use crate::watch::{Seen, look};
+use crate::watch_lists::pour;
+use crate::watches::{Watches, list_of};
+use sb_lit::{ClauseId, Lit};
 use sb_trail::Trail;
-use sb_word::{ClauseId, Lit};
 
 /// The list for the clauses that a walk leaves where they are.
 const SCRATCH: usize = 0;
@@ -32,13 +32,37 @@ pub enum Turn {
 /// Takes the first clause off the list, and puts it where it belongs.
 fn take_turn(
     records: &[Option<Record>],
-    own: &mut Side,
+    own: &mut Watches,
     other: &[usize],
     trail: &mut Trail,
     list: usize,
 ) -> Turn
-    requires { IsWalking list (record { kept = kept_of records.now; own = own.old.places.items; other = other.now; all = own.old.lists; trail = trail.old }) }
-    ensures { IsTurn list (record { kept = kept_of records.now; own = own.old.places.items; other = other.now; all = own.old.lists; trail = trail.old }) (record { kept = kept_of records.now; own = own.new.places.items; other = other.now; all = own.new.lists; trail = trail.new }) result }
+    requires { IsWalking list
+        (record {
+          kept = kept_of records.now;
+          own = own.old.places.items;
+          other = other.now;
+          all =
+              own.old.lists;
+          trail = trail.old;
+        }) }
+    ensures { IsTurn list
+        (record {
+          kept = kept_of records.now;
+          own = own.old.places.items;
+          other = other.now;
+          all =
+              own.old.lists;
+          trail = trail.old;
+        })
+        (record {
+          kept = kept_of records.now;
+          own = own.new.places.items;
+          other = other.now;
+          all =
+              own.new.lists;
+          trail = trail.new;
+        }) result }
 {
     let Some(number) = own.lists.pop(list) else {
         return Turn::Ends;
@@ -71,15 +95,48 @@ fn take_turn(
 /// Takes clauses off the list until it is empty or one of them is false.
 fn take_turns(
     records: &[Option<Record>],
-    own: &mut Side,
+    own: &mut Watches,
     other: &[usize],
     trail: &mut Trail,
     list: usize,
 ) -> Option<ClauseId>
-    requires { IsWalking list (record { kept = kept_of records.now; own = own.old.places.items; other = other.now; all = own.old.lists; trail = trail.old }) }
-    ensures walking { IsWalking list (record { kept = kept_of records.now; own = own.new.places.items; other = other.now; all = own.new.lists; trail = trail.new }) }
-    ensures advances { Advances (record { kept = kept_of records.now; own = own.old.places.items; other = other.now; all = own.old.lists; trail = trail.old }) (record { kept = kept_of records.now; own = own.new.places.items; other = other.now; all = own.new.lists; trail = trail.new }) }
-    ensures answer { MatchOption result (slice_index_or own.new.lists.lists list [] ≡ []) (λ id. IsConflict (kept_of records.now) (held trail.new.literals) id.0) }
+    requires { IsWalking list
+        (record {
+          kept = kept_of records.now;
+          own = own.old.places.items;
+          other = other.now;
+          all =
+              own.old.lists;
+          trail = trail.old;
+        }) }
+    ensures walking { IsWalking list
+        (record {
+          kept = kept_of records.now;
+          own = own.new.places.items;
+          other = other.now;
+          all =
+              own.new.lists;
+          trail = trail.new;
+        }) }
+    ensures advances { Advances
+        (record {
+          kept = kept_of records.now;
+          own = own.old.places.items;
+          other = other.now;
+          all =
+              own.old.lists;
+          trail = trail.old;
+        })
+        (record {
+          kept = kept_of records.now;
+          own = own.new.places.items;
+          other = other.now;
+          all =
+              own.new.lists;
+          trail = trail.new;
+        }) }
+    ensures answer { MatchOption result (slice_index_or own.new.lists.lists list [] ≡ [])
+        (λ id. IsConflict (kept_of records.now) (held trail.new.literals) id.0) }
 {
     loop {
         match take_turn(records, own, other, trail, list) {
@@ -95,7 +152,7 @@ fn take_turns(
 /// to that one's list. Answers a clause that is false, and stops there. Takes no memory.
 pub fn walk(
     records: &[Option<Record>],
-    own: &mut Side,
+    own: &mut Watches,
     other: &[usize],
     trail: &mut Trail,
     list: usize,
@@ -105,8 +162,33 @@ pub fn walk(
     requires are_false { AreFalseOf list (held trail.old.literals) }
     requires begun { 0 < list }
     ensures side { IsSide (kept_of records.now) own.new.places.items other.now own.new.lists }
-    ensures advances { Advances (record { kept = kept_of records.now; own = own.old.places.items; other = other.now; all = own.old.lists; trail = trail.old }) (record { kept = kept_of records.now; own = own.new.places.items; other = other.now; all = own.new.lists; trail = trail.new }) }
-    ensures answer { MatchOption result (AreHeld list (record { kept = kept_of records.now; own = own.new.places.items; other = other.now; all = own.new.lists; trail = trail.new })) (λ id. IsConflict (kept_of records.now) (held trail.new.literals) id.0) }
+    ensures advances { Advances
+        (record {
+          kept = kept_of records.now;
+          own = own.old.places.items;
+          other = other.now;
+          all =
+              own.old.lists;
+          trail = trail.old;
+        })
+        (record {
+          kept = kept_of records.now;
+          own = own.new.places.items;
+          other = other.now;
+          all =
+              own.new.lists;
+          trail = trail.new;
+        }) }
+    ensures answer { MatchOption result
+        (AreHeld list
+        (record {
+          kept = kept_of records.now;
+          own = own.new.places.items;
+          other = other.now;
+          all =
+              own.new.lists;
+          trail = trail.new;
+        })) (λ id. IsConflict (kept_of records.now) (held trail.new.literals) id.0) }
 {
     if list >= own.lists.len() {
         return None;

@@ -5,8 +5,8 @@ ghost use Rattle.std.specs.List.{list_all};
 ghost use Rattle.sb_trail.specs.Assignments.{held};
 ghost use Rattle.sb_clauses.specs.Looking.{is_or_false, IsReplacement, IsSeen};
 
+use sb_lit::Lit;
 use sb_trail::Trail;
-use sb_word::Lit;
 
 /// What a clause comes to, seen from one of its two places.
 #[derive(Clone, Copy, Debug, PartialEq, Eq)]
@@ -45,7 +45,8 @@ pub fn look(trail: &Trail, literals: &[Lit], other: usize) -> Seen
 
 /// The place of a literal that is not false, and not the one at the other place.
 fn replacement(trail: &Trail, literals: &[Lit], partner: Lit) -> Option<usize>
-    ensures { MatchOption result (list_all (is_or_false (held trail.now.literals) partner) literals.now ≡ true) (λ place. IsReplacement (held trail.now.literals) literals.now partner place) }
+    ensures { MatchOption result (list_all (is_or_false (held trail.now.literals) partner) literals.now ≡ true)
+        (λ place. IsReplacement (held trail.now.literals) literals.now partner place) }
 {
     for (place, literal) in literals.iter().enumerate() {
         if !is_or_false(trail, partner, *literal) {

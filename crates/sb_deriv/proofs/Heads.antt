@@ -3,7 +3,7 @@ use Rattle.std.proofs.Common.{◌≡◌, ℕ, zero, suc, ◌<◌, ◌≤◌, tru
 use Rattle.std.specs.Prelude.{IfSome, IfNone}
 use Rattle.std.specs.List.{All}
 use Rattle.std.proofs.lemmas.List.Elements.{All-nil, All-cons}
-use Rattle.sb_class.specs.Ranges.{is_character}
+use Rattle.sb_word.specs.Words.{is_character}
 use Rattle.sb_lang.specs.Regex.{Regex, cat}
 use Rattle.sb_lang.specs.Constructors.{mkalt, mkcat}
 use Rattle.sb_lang.specs.Derivative.{nd, nds, nullable}
@@ -12,7 +12,7 @@ use Rattle.sb_deriv.specs.declared.operation.Operation.TheVariants as operation
 use Rattle.sb_deriv.specs.Pieces.{value_from, value_at}
 use Rattle.sb_deriv.specs.Faithful.{IsMapOf, IsDerivative, IsFaithful, Memo}
 use Rattle.sb_deriv.specs.Choices.{made, kept, kept_of, targets_at, nd_each, HaveEntries}
-use Rattle.sb_deriv.proofs.Numbers.{at_kept}
+use Rattle.sb_regex.proofs.CallerLemmas.{at_kept}
 use Rattle.sb_deriv.proofs.Derivatives.{value_number, map_same, faithful_kept}
 use Rattle.sb_deriv.proofs.Kept.{made_kept, kept_numbers}
 use Rattle.sb_deriv.proofs.Gathering.{single_values, targets_are, target_numbers, made_of_choices}
@@ -33,20 +33,20 @@ pub have_second : (memo : Memo) (a b : ℕ) → HaveEntries memo (a ∷ b ∷ []
 have_second memo a b h zero d l = h 1 d (omega arith)
 have_second memo a b h (suc k) d l = absurd (omega arith)
 
-pub both_below : (n a b : ℕ) → a < n → b < n → All (λ i. i < n) (a ∷ b ∷ [])
-both_below n a b p q = All-cons (λ i. i < n) a (b ∷ []) p (All-cons (λ i. i < n) b [] q (All-nil (λ i. i < n)))
-
 pub one_below : (n a : ℕ) → a < n → All (λ i. i < n) (a ∷ [])
 one_below n a p = All-cons (λ i. i < n) a [] p (All-nil (λ i. i < n))
 
 joined_value : (rs : List Regex) (memo : Memo) (b : ℕ) (ps : List (ℕ × ℕ)) (cs hs ts : List (ℕ × List ℕ)) (x : ℕ) →
-    value_from [] cs x ≡ value_from [] hs x ++ value_from [] ts x → value_from [] hs x ≡ kept_of rs operation.Alt (value_at ps x) → value_from [] ts x ≡ kept rs operation.Alt (targets_at memo (b ∷ []) x) →
+    value_from [] cs x ≡ value_from [] hs x ++ value_from [] ts x
+    → value_from [] hs x ≡ kept_of rs operation.Alt (value_at ps x)
+    → value_from [] ts x ≡ kept rs operation.Alt (targets_at memo (b ∷ []) x) →
     value_from [] cs x ≡ kept rs operation.Alt (value_at ps x ∷ targets_at memo (b ∷ []) x)
 unfolding kept
 joined_value rs memo b ps cs hs ts x v h t = v ∙ ap₂ (λ y z. y ++ z) h t
 
 -- what is known of heads and tails
-pub record Parted (rs rs1 : List Regex) (memo : Memo) (a b : ℕ) (ps : List (ℕ × ℕ)) (first cs hs ts : List (ℕ × List ℕ)) : Type 0 where
+pub record Parted (rs rs1 : List Regex) (memo : Memo) (a b : ℕ) (ps : List (ℕ × ℕ)) (first cs hs ts : List (ℕ × List ℕ))
+    : Type 0 where
   pub faithful : IsFaithful rs memo
   pub entries : HaveEntries memo (a ∷ b ∷ [])
   pub tail : b < length rs
@@ -57,20 +57,27 @@ pub record Parted (rs rs1 : List Regex) (memo : Memo) (a b : ℕ) (ps : List (�
   pub tails : (x : ℕ) → value_from [] ts x ≡ kept rs1 operation.Alt (targets_at memo (b ∷ []) x)
   pub joined : (x : ℕ) → value_from [] cs x ≡ value_from [] hs x ++ value_from [] ts x
 
-parted_value : (rs rs1 : List Regex) (memo : Memo) (a b : ℕ) (ps : List (ℕ × ℕ)) (first cs hs ts : List (ℕ × List ℕ)) → Parted rs rs1 memo a b ps first cs hs ts → (x : ℕ) →
+parted_value : (rs rs1 : List Regex) (memo : Memo) (a b : ℕ) (ps : List (ℕ × ℕ)) (first cs hs ts : List (ℕ × List ℕ))
+    → Parted rs rs1 memo a b ps first cs hs ts → (x : ℕ) →
     value_from [] cs x ≡ kept rs1 operation.Alt (value_at ps x ∷ targets_at memo (b ∷ []) x)
 parted_value rs rs1 memo a b ps first cs hs ts p x =
-    joined_value rs1 memo b ps cs hs ts x (p.joined x) (single_values rs1 operation.Alt ps hs x p.heads p.made_heads.ordered) (p.tails x)
+    joined_value rs1 memo b ps cs hs ts x (p.joined x)
+    (single_values rs1 operation.Alt ps hs x p.heads p.made_heads.ordered) (p.tails x)
 
-pub parted_numbers : (rs rs1 : List Regex) (memo : Memo) (a b : ℕ) (ps : List (ℕ × ℕ)) (first cs hs ts : List (ℕ × List ℕ)) → Parted rs rs1 memo a b ps first cs hs ts → (x : ℕ) → AllNumbers rs1 (value_from [] cs x)
+pub parted_numbers : (rs rs1 : List Regex) (memo : Memo) (a b : ℕ) (ps : List (ℕ × ℕ))
+    (first cs hs ts : List (ℕ × List ℕ)) → Parted rs rs1 memo a b ps first cs hs ts → (x : ℕ)
+    → AllNumbers rs1 (value_from [] cs x)
 parted_numbers rs rs1 memo a b ps first cs hs ts p x =
     let v = parted_value rs rs1 memo a b ps first cs hs ts p x in
     let f : IsFaithful rs1 memo = faithful_kept rs rs1 memo p.extends p.faithful in
     let n : AllNumbers rs1 (value_at ps x ∷ targets_at memo (b ∷ []) x) =
-    All-cons (λ i. i < length rs1) (value_at ps x) (targets_at memo (b ∷ []) x) (value_number rs1 ps x p.made_heads.ordered p.made_heads.targets) (target_numbers rs1 memo (b ∷ []) x f (have_second memo a b p.entries)) in
+    All-cons (λ i. i < length rs1) (value_at ps x) (targets_at memo (b ∷ []) x)
+    (value_number rs1 ps x p.made_heads.ordered p.made_heads.targets)
+    (target_numbers rs1 memo (b ∷ []) x f (have_second memo a b p.entries)) in
     subst (AllNumbers rs1) (sym v) (kept_numbers rs1 operation.Alt (value_at ps x ∷ targets_at memo (b ∷ []) x) n)
 
-union_kept : (rs : List Regex) (ts : List ℕ) → mkalt (regexes_at rs (kept rs operation.Alt ts)) ≡ mkalt (regexes_at rs ts)
+union_kept : (rs : List Regex) (ts : List ℕ)
+    → mkalt (regexes_at rs (kept rs operation.Alt ts)) ≡ mkalt (regexes_at rs ts)
 unfolding made
 union_kept rs ts = made_kept rs operation.Alt ts
 
@@ -78,39 +85,55 @@ head_made : (rs : List Regex) (b : ℕ) (r : Regex) → made rs (operation.Cat b
 unfolding made
 head_made rs b r = refl
 
-pub parted_values : (rs rs1 : List Regex) (memo : Memo) (a b : ℕ) (ps : List (ℕ × ℕ)) (first cs hs ts : List (ℕ × List ℕ)) → Parted rs rs1 memo a b ps first cs hs ts → (x : ℕ) → is_character x ≡ true →
-    mkalt (regexes_at rs1 (value_from [] cs x)) ≡ mkalt (mkcat (nd (regex_at rs a) x) (regex_at rs b) ∷ nd (regex_at rs b) x ∷ [])
+pub parted_values : (rs rs1 : List Regex) (memo : Memo) (a b : ℕ) (ps : List (ℕ × ℕ))
+    (first cs hs ts : List (ℕ × List ℕ)) → Parted rs rs1 memo a b ps first cs hs ts → (x : ℕ) → is_character x ≡ true →
+    mkalt (regexes_at rs1 (value_from [] cs x))
+    ≡ mkalt (mkcat (nd (regex_at rs a) x) (regex_at rs b) ∷ nd (regex_at rs b) x ∷ [])
 parted_values rs rs1 memo a b ps first cs hs ts p x u =
     let f : IsFaithful rs1 memo = faithful_kept rs rs1 memo p.extends p.faithful in
     let h : regex_at rs1 (value_at ps x) ≡ mkcat (nd (regex_at rs a) x) (regex_at rs b) =
-    p.made_heads.values x u ∙ made_of_choices rs (operation.Cat b) memo (a ∷ []) first p.faithful (have_first memo a b p.entries) p.firsts x u ∙ head_made rs b (nd (regex_at rs a) x) in
+    p.made_heads.values x u
+    ∙ made_of_choices rs (operation.Cat b) memo (a ∷ []) first p.faithful (have_first memo a b p.entries) p.firsts x
+    u ∙ head_made rs b (nd (regex_at rs a) x) in
     let t : regexes_at rs1 (targets_at memo (b ∷ []) x) ≡ nd (regex_at rs b) x ∷ [] =
-    targets_are rs1 memo (b ∷ []) x f (have_second memo a b p.entries) u ∙ ap (λ r. nd r x ∷ []) (at_kept rs rs1 b p.extends p.tail) in
+    targets_are rs1 memo (b ∷ []) x f (have_second memo a b p.entries) u
+    ∙ ap (λ r. nd r x ∷ []) (at_kept rs rs1 b p.extends p.tail) in
     ap (λ ids. mkalt (regexes_at rs1 ids)) (parted_value rs rs1 memo a b ps first cs hs ts p x)
     ∙ union_kept rs1 (value_at ps x ∷ targets_at memo (b ∷ []) x)
     ∙ ap₂ (λ y z. mkalt (y ∷ z)) h t
 
-cat_plain : (rs : List Regex) (a b c : ℕ) → nullable (regex_at rs a) ≡ false → made rs (operation.Cat b) (nd_each (regexes_at rs (a ∷ [])) c) ≡ nd (cat (regex_at rs a) (regex_at rs b)) c
+cat_plain : (rs : List Regex) (a b c : ℕ) → nullable (regex_at rs a) ≡ false
+    → made rs (operation.Cat b) (nd_each (regexes_at rs (a ∷ [])) c) ≡ nd (cat (regex_at rs a) (regex_at rs b)) c
 unfolding made nd nds
-cat_plain rs a b c n = ap (λ t. cond t (mkalt (mkcat (nd (regex_at rs a) c) (regex_at rs b) ∷ nd (regex_at rs b) c ∷ [])) (mkcat (nd (regex_at rs a) c) (regex_at rs b))) (sym n)
+cat_plain rs a b c n =
+    ap (λ t. cond t (mkalt (mkcat (nd (regex_at rs a) c) (regex_at rs b) ∷ nd (regex_at rs b) c ∷ []))
+    (mkcat (nd (regex_at rs a) c) (regex_at rs b))) (sym n)
 
 cat_whole : (r s : Regex) (c : ℕ) → nullable r ≡ true → mkalt (mkcat (nd r c) s ∷ nd s c ∷ []) ≡ nd (cat r s) c
 unfolding nd nds
 cat_whole r s c n = ap (λ t. cond t (mkalt (mkcat (nd r c) s ∷ nd s c ∷ [])) (mkcat (nd r c) s)) (sym n)
 
-pub cat_of_one : (rs rs' : List Regex) (a b : ℕ) (d : List (ℕ × ℕ)) → nullable (regex_at rs a) ≡ false → IsMapOf rs' (λ c. made rs (operation.Cat b) (nd_each (regexes_at rs (a ∷ [])) c)) d → IsDerivative rs' (cat (regex_at rs a) (regex_at rs b)) d
-cat_of_one rs rs' a b d n m = map_same rs' (λ c. made rs (operation.Cat b) (nd_each (regexes_at rs (a ∷ [])) c)) (nd (cat (regex_at rs a) (regex_at rs b))) d (λ c u. cat_plain rs a b c n) m
+pub cat_of_one : (rs rs' : List Regex) (a b : ℕ) (d : List (ℕ × ℕ)) → nullable (regex_at rs a) ≡ false
+    → IsMapOf rs' (λ c. made rs (operation.Cat b) (nd_each (regexes_at rs (a ∷ [])) c)) d
+    → IsDerivative rs' (cat (regex_at rs a) (regex_at rs b)) d
+cat_of_one rs rs' a b d n m =
+    map_same rs' (λ c. made rs (operation.Cat b) (nd_each (regexes_at rs (a ∷ [])) c))
+    (nd (cat (regex_at rs a) (regex_at rs b))) d (λ c u. cat_plain rs a b c n) m
 
 union_made : (rs ps : List Regex) → made rs operation.Alt ps ≡ mkalt ps
 unfolding made
 union_made rs ps = refl
 
-pub cat_of_two : (rs' rs1 : List Regex) (r s : Regex) (cs : List (ℕ × List ℕ)) (pieces d : List (ℕ × ℕ)) → nullable r ≡ true → d ≡ pieces →
-    ((x : ℕ) → is_character x ≡ true → mkalt (regexes_at rs1 (value_from [] cs x)) ≡ mkalt (mkcat (nd r x) s ∷ nd s x ∷ [])) →
-    IsMapOf rs' (λ c. made rs1 operation.Alt (regexes_at rs1 (value_from [] cs c))) pieces → IsDerivative rs' (cat r s) d
+pub cat_of_two : (rs' rs1 : List Regex) (r s : Regex) (cs : List (ℕ × List ℕ)) (pieces d : List (ℕ × ℕ))
+    → nullable r ≡ true → d ≡ pieces →
+    ((x : ℕ) → is_character x ≡ true
+    → mkalt (regexes_at rs1 (value_from [] cs x)) ≡ mkalt (mkcat (nd r x) s ∷ nd s x ∷ [])) →
+    IsMapOf rs' (λ c. made rs1 operation.Alt (regexes_at rs1 (value_from [] cs c))) pieces
+    → IsDerivative rs' (cat r s) d
 cat_of_two rs' rs1 r s cs pieces d n e v m =
     subst (λ (x : List (ℕ × ℕ)). IsDerivative rs' (cat r s) x) (sym e)
-    (map_same rs' (λ c. made rs1 operation.Alt (regexes_at rs1 (value_from [] cs c))) (nd (cat r s)) pieces (λ c u. union_made rs1 (regexes_at rs1 (value_from [] cs c)) ∙ v c u ∙ cat_whole r s c n) m)
+    (map_same rs' (λ c. made rs1 operation.Alt (regexes_at rs1 (value_from [] cs c))) (nd (cat r s)) pieces
+    (λ c u. union_made rs1 (regexes_at rs1 (value_from [] cs c)) ∙ v c u ∙ cat_whole r s c n) m)
 
 pub below_more : (m n : ℕ) (ps : List ℕ) → m ≤ n → All (λ i. i < m) ps → All (λ i. i < n) ps
 below_more m n ps l h = λ k d e. omega (arith, h k d e, l)

@@ -40,21 +40,28 @@ alike_after p q ms xs ys h = record {
     whole zs = ap (list_any p) (filter-append (λ r. not (is_set r)) ms zs) ∙ list_any-append p (others ms) (others zs)
 
     rest : (zs : List Regex) → without q (others (ms ++ zs)) ≡ without q (others ms) ++ without q (others zs)
-    rest zs = ap (without q) (filter-append (λ r. not (is_set r)) ms zs) ∙ filter-append (λ r. not (q r)) (others ms) (others zs)
+    rest zs = ap (without q) (filter-append (λ r. not (is_set r)) ms zs)
+        ∙ filter-append (λ r. not (q r)) (others ms) (others zs)
 
 -- unions
 
 abbrev unite : List (List Range) → Bool → List Regex → Regex
-unite s b rest = cond (is_anything (mkset (union_of s)) || b) anything (alt_of (sorted (cond (not (is_none (mkset (union_of s)))) (mkset (union_of s) ∷ rest) rest)))
+unite s b rest = cond (is_anything (mkset (union_of s)) || b) anything
+    (alt_of (sorted (cond (not (is_none (mkset (union_of s)))) (mkset (union_of s) ∷ rest) rest)))
 
-alt_same : (rs ss : List Regex) → Alike is_anything is_none (flat_map alternatives rs) (flat_map alternatives ss) → mkalt rs ≡ mkalt ss
+alt_same : (rs ss : List Regex) → Alike is_anything is_none (flat_map alternatives rs) (flat_map alternatives ss)
+    → mkalt rs ≡ mkalt ss
 unfolding mkalt join_sets
 alt_same rs ss h =
-    ap (λ s. unite s (list_any is_anything (others (flat_map alternatives rs))) (without is_none (others (flat_map alternatives rs)))) h.sets
-    ∙ ap (λ b. unite (ranges (flat_map alternatives ss)) b (without is_none (others (flat_map alternatives rs)))) h.whole
-    ∙ ap (λ z. unite (ranges (flat_map alternatives ss)) (list_any is_anything (others (flat_map alternatives ss))) z) h.rest
+    ap (λ s. unite s (list_any is_anything (others (flat_map alternatives rs)))
+    (without is_none (others (flat_map alternatives rs)))) h.sets
+    ∙ ap (λ b. unite (ranges (flat_map alternatives ss)) b (without is_none (others (flat_map alternatives rs))))
+    h.whole
+    ∙ ap (λ z. unite (ranges (flat_map alternatives ss)) (list_any is_anything (others (flat_map alternatives ss))) z)
+    h.rest
 
-none_drops : (xs ys : List Regex) → Alike is_anything is_none (flat_map alternatives xs) (flat_map alternatives ys) → Alike is_anything is_none (flat_map alternatives xs) (flat_map alternatives (none ∷ ys))
+none_drops : (xs ys : List Regex) → Alike is_anything is_none (flat_map alternatives xs) (flat_map alternatives ys)
+    → Alike is_anything is_none (flat_map alternatives xs) (flat_map alternatives (none ∷ ys))
 unfolding alternatives ranges_of is_set code
 none_drops xs ys h = record { sets = h.sets; whole = h.whole; rest = h.rest }
 
@@ -71,39 +78,55 @@ no_word_is (star a) h = absurd (cc)
 no_word_is (rep a n m) h = absurd (cc)
 no_word_is (path a b) h = absurd (cc)
 
-alt_kept : (rs : List Regex) (ts : List ℕ) → Alike is_anything is_none (flat_map alternatives (regexes_at rs (kept rs operation.Alt ts))) (flat_map alternatives (regexes_at rs ts))
+alt_kept : (rs : List Regex) (ts : List ℕ)
+    → Alike is_anything is_none (flat_map alternatives (regexes_at rs (kept rs operation.Alt ts)))
+    (flat_map alternatives (regexes_at rs ts))
 unfolding kept drops
 alt_kept rs [] = record { sets = refl; whole = refl; rest = refl }
 alt_kept rs (t ∷ ts) = step (alt_kept rs ts) (is_no_word (regex_at rs t)) refl
   where
-    step : Alike is_anything is_none (flat_map alternatives (regexes_at rs (kept rs operation.Alt ts))) (flat_map alternatives (regexes_at rs ts)) → (b : Bool) → is_no_word (regex_at rs t) ≡ b →
-        Alike is_anything is_none (flat_map alternatives (regexes_at rs (cond b [] (t ∷ []) ++ kept rs operation.Alt ts))) (flat_map alternatives (regexes_at rs (t ∷ ts)))
+    step : Alike is_anything is_none (flat_map alternatives (regexes_at rs (kept rs operation.Alt ts)))
+        (flat_map alternatives (regexes_at rs ts)) → (b : Bool) → is_no_word (regex_at rs t) ≡ b →
+        Alike is_anything is_none
+        (flat_map alternatives (regexes_at rs (cond b [] (t ∷ []) ++ kept rs operation.Alt ts)))
+        (flat_map alternatives (regexes_at rs (t ∷ ts)))
     step a true h =
-        subst (λ (r : Regex). Alike is_anything is_none (flat_map alternatives (regexes_at rs (kept rs operation.Alt ts))) (flat_map alternatives (r ∷ regexes_at rs ts))) (sym (no_word_is (regex_at rs t) h))
+        subst (λ (r : Regex). Alike is_anything is_none
+        (flat_map alternatives (regexes_at rs (kept rs operation.Alt ts)))
+        (flat_map alternatives (r ∷ regexes_at rs ts))) (sym (no_word_is (regex_at rs t) h))
         (none_drops (regexes_at rs (kept rs operation.Alt ts)) (regexes_at rs ts) a)
-    step a false h = alike_after is_anything is_none (alternatives (regex_at rs t)) (flat_map alternatives (regexes_at rs (kept rs operation.Alt ts))) (flat_map alternatives (regexes_at rs ts)) a
+    step a false h = alike_after is_anything is_none (alternatives (regex_at rs t))
+        (flat_map alternatives (regexes_at rs (kept rs operation.Alt ts))) (flat_map alternatives (regexes_at rs ts)) a
 
 -- intersections
 
 abbrev intersect : List (List Range) → Bool → List Regex → Regex
-intersect s b rest = cond (list_any is_none (meet_of s) || b) none (and_of (sorted (without is_anything (meet_of s) ++ rest)))
+intersect s b rest = cond (list_any is_none (meet_of s) || b) none
+    (and_of (sorted (without is_anything (meet_of s) ++ rest)))
 
-and_parts_of : (rs : List Regex) → mkand rs ≡ intersect (ranges (flat_map conjuncts rs)) (list_any is_none (others (flat_map conjuncts rs))) (without is_anything (others (flat_map conjuncts rs)))
+and_parts_of : (rs : List Regex)
+    → mkand rs ≡ intersect (ranges (flat_map conjuncts rs)) (list_any is_none (others (flat_map conjuncts rs)))
+    (without is_anything (others (flat_map conjuncts rs)))
 unfolding mkand meet_sets
 and_parts_of rs =
     ap₂ (λ b z. cond b none (and_of (sorted z)))
     (list_any-append is_none (meet_of (ranges (flat_map conjuncts rs))) (others (flat_map conjuncts rs)))
-    (filter-append (λ r. not (is_anything r)) (meet_of (ranges (flat_map conjuncts rs))) (others (flat_map conjuncts rs)))
+    (filter-append (λ r. not (is_anything r)) (meet_of (ranges (flat_map conjuncts rs)))
+    (others (flat_map conjuncts rs)))
 
-and_same : (rs ss : List Regex) → Alike is_none is_anything (flat_map conjuncts rs) (flat_map conjuncts ss) → mkand rs ≡ mkand ss
+and_same : (rs ss : List Regex) → Alike is_none is_anything (flat_map conjuncts rs) (flat_map conjuncts ss)
+    → mkand rs ≡ mkand ss
 and_same rs ss h =
     and_parts_of rs
-    ∙ ap (λ s. intersect s (list_any is_none (others (flat_map conjuncts rs))) (without is_anything (others (flat_map conjuncts rs)))) h.sets
-    ∙ ap (λ b. intersect (ranges (flat_map conjuncts ss)) b (without is_anything (others (flat_map conjuncts rs)))) h.whole
+    ∙ ap (λ s. intersect s (list_any is_none (others (flat_map conjuncts rs)))
+    (without is_anything (others (flat_map conjuncts rs)))) h.sets
+    ∙ ap (λ b. intersect (ranges (flat_map conjuncts ss)) b (without is_anything (others (flat_map conjuncts rs))))
+    h.whole
     ∙ ap (λ z. intersect (ranges (flat_map conjuncts ss)) (list_any is_none (others (flat_map conjuncts ss))) z) h.rest
     ∙ sym (and_parts_of ss)
 
-anything_drops : (xs ys : List Regex) → Alike is_none is_anything (flat_map conjuncts xs) (flat_map conjuncts ys) → Alike is_none is_anything (flat_map conjuncts xs) (flat_map conjuncts (neg none ∷ ys))
+anything_drops : (xs ys : List Regex) → Alike is_none is_anything (flat_map conjuncts xs) (flat_map conjuncts ys)
+    → Alike is_none is_anything (flat_map conjuncts xs) (flat_map conjuncts (neg none ∷ ys))
 unfolding conjuncts ranges_of is_set code
 anything_drops xs ys h = record { sets = h.sets; whole = h.whole; rest = h.rest }
 
@@ -129,17 +152,23 @@ not_none_is (star a) h = absurd (cc)
 not_none_is (rep a n m) h = absurd (cc)
 not_none_is (path a b) h = absurd (cc)
 
-and_kept : (rs : List Regex) (ts : List ℕ) → Alike is_none is_anything (flat_map conjuncts (regexes_at rs (kept rs operation.And ts))) (flat_map conjuncts (regexes_at rs ts))
+and_kept : (rs : List Regex) (ts : List ℕ)
+    → Alike is_none is_anything (flat_map conjuncts (regexes_at rs (kept rs operation.And ts)))
+    (flat_map conjuncts (regexes_at rs ts))
 unfolding kept drops
 and_kept rs [] = record { sets = refl; whole = refl; rest = refl }
 and_kept rs (t ∷ ts) = step (and_kept rs ts) (is_not_none (regex_at rs t)) refl
   where
-    step : Alike is_none is_anything (flat_map conjuncts (regexes_at rs (kept rs operation.And ts))) (flat_map conjuncts (regexes_at rs ts)) → (b : Bool) → is_not_none (regex_at rs t) ≡ b →
-        Alike is_none is_anything (flat_map conjuncts (regexes_at rs (cond b [] (t ∷ []) ++ kept rs operation.And ts))) (flat_map conjuncts (regexes_at rs (t ∷ ts)))
+    step : Alike is_none is_anything (flat_map conjuncts (regexes_at rs (kept rs operation.And ts)))
+        (flat_map conjuncts (regexes_at rs ts)) → (b : Bool) → is_not_none (regex_at rs t) ≡ b →
+        Alike is_none is_anything (flat_map conjuncts (regexes_at rs (cond b [] (t ∷ []) ++ kept rs operation.And ts)))
+        (flat_map conjuncts (regexes_at rs (t ∷ ts)))
     step a true h =
-        subst (λ (r : Regex). Alike is_none is_anything (flat_map conjuncts (regexes_at rs (kept rs operation.And ts))) (flat_map conjuncts (r ∷ regexes_at rs ts))) (sym (not_none_is (regex_at rs t) h))
+        subst (λ (r : Regex). Alike is_none is_anything (flat_map conjuncts (regexes_at rs (kept rs operation.And ts)))
+        (flat_map conjuncts (r ∷ regexes_at rs ts))) (sym (not_none_is (regex_at rs t) h))
         (anything_drops (regexes_at rs (kept rs operation.And ts)) (regexes_at rs ts) a)
-    step a false h = alike_after is_none is_anything (conjuncts (regex_at rs t)) (flat_map conjuncts (regexes_at rs (kept rs operation.And ts))) (flat_map conjuncts (regexes_at rs ts)) a
+    step a false h = alike_after is_none is_anything (conjuncts (regex_at rs t))
+        (flat_map conjuncts (regexes_at rs (kept rs operation.And ts))) (flat_map conjuncts (regexes_at rs ts)) a
 
 -- all operations
 
@@ -153,22 +182,27 @@ unfolding kept drops
 cat_all rs b [] = refl
 cat_all rs b (t ∷ ts) = ap (λ xs. t ∷ xs) (cat_all rs b ts)
 
-pub made_kept : (rs : List Regex) (op : Operation) (ts : List ℕ) → made rs op (regexes_at rs (kept rs op ts)) ≡ made rs op (regexes_at rs ts)
+pub made_kept : (rs : List Regex) (op : Operation) (ts : List ℕ)
+    → made rs op (regexes_at rs (kept rs op ts)) ≡ made rs op (regexes_at rs ts)
 unfolding made
 made_kept rs operation.Alt ts = alt_same (regexes_at rs (kept rs operation.Alt ts)) (regexes_at rs ts) (alt_kept rs ts)
 made_kept rs operation.And ts = and_same (regexes_at rs (kept rs operation.And ts)) (regexes_at rs ts) (and_kept rs ts)
 made_kept rs operation.Not ts = ap (λ xs. made rs operation.Not (regexes_at rs xs)) (not_all rs ts)
 made_kept rs (operation.Cat b) ts = ap (λ xs. made rs (operation.Cat b) (regexes_at rs xs)) (cat_all rs b ts)
 
-pub kept-append : (rs : List Regex) (op : Operation) (xs ys : List ℕ) → kept rs op (xs ++ ys) ≡ kept rs op xs ++ kept rs op ys
+pub kept-append : (rs : List Regex) (op : Operation) (xs ys : List ℕ)
+    → kept rs op (xs ++ ys) ≡ kept rs op xs ++ kept rs op ys
 unfolding kept
 kept-append rs op [] ys = refl
-kept-append rs op (x ∷ xs) ys = ap (λ zs. kept_of rs op x ++ zs) (kept-append rs op xs ys) ∙ sym (append_assoc (kept_of rs op x) (kept rs op xs) (kept rs op ys))
+kept-append rs op (x ∷ xs) ys = ap (λ zs. kept_of rs op x ++ zs) (kept-append rs op xs ys)
+    ∙ sym (append_assoc (kept_of rs op x) (kept rs op xs) (kept rs op ys))
 
 pub kept_numbers : (rs : List Regex) (op : Operation) (ts : List ℕ) → AllNumbers rs ts → AllNumbers rs (kept rs op ts)
 unfolding kept
 kept_numbers rs op [] h = h
-kept_numbers rs op (t ∷ ts) h = All-append (λ i. i < length rs) (kept_of rs op t) (kept rs op ts) (one (drops op (regex_at rs t))) (kept_numbers rs op ts (λ k d l. h (suc k) d (omega (arith, l))))
+kept_numbers rs op (t ∷ ts) h =
+    All-append (λ i. i < length rs) (kept_of rs op t) (kept rs op ts) (one (drops op (regex_at rs t)))
+    (kept_numbers rs op ts (λ k d l. h (suc k) d (omega (arith, l))))
   where
     one : (b : Bool) → AllNumbers rs (cond b [] (t ∷ []))
     one true = All-nil (λ i. i < length rs)

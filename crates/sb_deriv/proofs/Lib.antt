@@ -1,4 +1,4 @@
-pub mod Numbers
+pub mod CallerLemmas
 pub mod PieceFacts
 pub mod Derivatives
 pub mod Operations

@@ -1,11 +1,12 @@
 -- Two lists of choices become one.
 use Rattle.std.proofs.Common.{◌≡◌, ℕ, suc, ◌+◌, ◌<◌, ◌≤◌, Bool, true, false, cond, List, [], ◌∷◌, ◌++◌, length, take, drop, get_or, refl, sym, ap, ap₂, subst, ◌∙◌, arith, min, length-drop}
 use Rattle.std.specs.Prelude.{nat_le, ◌==◌}
+use Rattle.std.proofs.lemmas.Bool.{leb-true, lt-leb, eqb-true}
 use Rattle.std.proofs.lemmas.Bool.Decides.{nat_tests}
 use Rattle.std.proofs.lemmas.List.{take_more, drop_more, take_all}
 use Rattle.sb_deriv.specs.Pieces.{value_from, rises, covers}
 use Rattle.sb_deriv.specs.Choices.{first_of, count_at, last_value}
-use Rattle.sb_deriv.proofs.PieceFacts.{le_tells, gt_test, eq_tells, rises_head, rises_le, rises_rest, rises_later_end, rises_from_first, rises_pushed, last_from, value_pushed, covers_rises, covers_first, covers_pushed}
+use Rattle.sb_deriv.proofs.PieceFacts.{rises_head, rises_le, rises_rest, rises_later_end, rises_from_first, rises_pushed, last_from, value_pushed, covers_rises, covers_first, covers_pushed}
 
 -- a list of which what is taken ends, and what is left begins, at a number
 pub record Side (L : List (ℕ × List ℕ)) (i f : ℕ) : Type 0 where
@@ -38,7 +39,8 @@ left_over {A} L i p ps is =
     let e : length (drop i L) ≡ suc (length ps) = ap length is in
     omega (arith, e, length-drop i L)
 
-advance : (L : List (ℕ × List ℕ)) (i : ℕ) (p : ℕ × List ℕ) (ps : List (ℕ × List ℕ)) → Side L i p.0 → drop i L ≡ p ∷ ps → Stepped L i (i + 1) p.0
+advance : (L : List (ℕ × List ℕ)) (i : ℕ) (p : ℕ × List ℕ) (ps : List (ℕ × List ℕ)) → Side L i p.0 → drop i L ≡ p ∷ ps
+    → Stepped L i (i + 1) p.0
 advance L i p ps s is =
     let l : i < length L = left_over L i p ps is in
     let m : drop i L ≡ get_or L i p ∷ drop (i + 1) L = drop_more L i p l in
@@ -56,13 +58,15 @@ advance L i p ps s is =
       to_come = rw d q;
       taken = u;
       new = λ c k. last_from [] 0 (take (i + 1) L) (suc p.0) c u (omega (arith, k));
-      old = λ c k. ap (λ xs. value_from [] xs c) t ∙ value_pushed [] (take i L) p.0 p.1 c ∙ ap (λ b. cond b p.1 (value_from [] (take i L) c)) (gt_test p.0 c k);
+      old = λ c k. ap (λ xs. value_from [] xs c) t ∙ value_pushed [] (take i L) p.0 p.1 c
+          ∙ ap (λ b. cond b p.1 (value_from [] (take i L) c)) (lt-leb p.0 c k);
     }
 
 abbrev if_one : Bool → ℕ
 if_one b = cond b 1 0
 
-pub stepped : (L : List (ℕ × List ℕ)) (i i' f : ℕ) → Side L i f → f < 0x30000 → i' ≡ i + count_at f (drop i L) → Stepped L i i' f
+pub stepped : (L : List (ℕ × List ℕ)) (i i' f : ℕ) → Side L i f → f < 0x30000 → i' ≡ i + count_at f (drop i L)
+    → Stepped L i i' f
 stepped L i i' f s l is = go (drop i L) refl
   where
     go : (post : List (ℕ × List ℕ)) → drop i L ≡ post → Stepped L i i' f
@@ -73,10 +77,12 @@ stepped L i i' f s l is = go (drop i L) refl
       where
         test : (b : Bool) → (p.0 == f) ≡ b → Stepped L i i' f
         test true e =
-            let q : p.0 ≡ f = eq_tells p.0 f e in
+            let q : p.0 ≡ f = eqb-true p.0 f e in
             let u : count_at f (p ∷ ps) ≡ 1 = ap (λ b. (if_one b)) e in
             let z : i + 1 ≡ i' = omega (arith, ap (λ xs. count_at f xs) d, u) in
-            subst (λ (k : ℕ). Stepped L i k f) z (subst (λ (g : ℕ). Stepped L i (i + 1) g) q (advance L i p ps (subst (λ (g : ℕ). Side L i g) (sym q) s) d))
+            subst (λ (k : ℕ). Stepped L i k f) z
+            (subst (λ (g : ℕ). Stepped L i (i + 1) g) q
+            (advance L i p ps (subst (λ (g : ℕ). Side L i g) (sym q) s) d))
         test false e =
             let u : count_at f (p ∷ ps) ≡ 0 = ap (λ b. (if_one b)) e in
             let z : i ≡ i' = omega (arith, ap (λ xs. count_at f xs) d, u) in
@@ -96,7 +102,8 @@ side_init : (L : List (ℕ × List ℕ)) → covers L 0x30000 ≡ true → Side 
 unfolding rises
 side_init L h = record { within = omega arith; to_come = covers_rises L 0x30000 h; taken = refl }
 
-pub merge_init : (L R out : List (ℕ × List ℕ)) → covers L 0x30000 ≡ true → covers R 0x30000 ≡ true → out ≡ [] → Merging L R out 0 0 0
+pub merge_init : (L R out : List (ℕ × List ℕ)) → covers L 0x30000 ≡ true → covers R 0x30000 ≡ true → out ≡ []
+    → Merging L R out 0 0 0
 unfolding value_from covers
 merge_init L R out l r o =
     let p : first_of 0x30000 L ≡ 0 = covers_first L 0x30000 l in
@@ -108,7 +115,8 @@ merge_init L R out l r o =
       values = λ c. refl;
     })
 
-side_next : (L : List (ℕ × List ℕ)) (i i' f f' : ℕ) → Stepped L i i' f → f < f' → f' ≤ first_of 0x30000 (drop i' L) → Side L i' f'
+side_next : (L : List (ℕ × List ℕ)) (i i' f f' : ℕ) → Stepped L i i' f → f < f' → f' ≤ first_of 0x30000 (drop i' L)
+    → Side L i' f'
 side_next L i i' f f' s l m = record {
   within = s.within;
   to_come = rises_from_first (suc f) f' (drop i' L) 0x30000 s.to_come m;
@@ -116,7 +124,8 @@ side_next L i i' f f' s l m = record {
 }
 
 pub merge_step : (L R out out' : List (ℕ × List ℕ)) (i j f i' j' f' : ℕ) → Merging L R out i j f → f < 0x30000 →
-    i' ≡ i + count_at f (drop i L) → j' ≡ j + count_at f (drop j R) → out' ≡ out ++ (f, last_value [] (take i' L) ++ last_value [] (take j' R)) ∷ [] →
+    i' ≡ i + count_at f (drop i L) → j' ≡ j + count_at f (drop j R)
+    → out' ≡ out ++ (f, last_value [] (take i' L) ++ last_value [] (take j' R)) ∷ [] →
     f' ≡ min (first_of 0x30000 (drop i' L)) (first_of 0x30000 (drop j' R)) → Merging L R out' i' j' f'
 merge_step L R out out' i j f i' j' f' m l p q o n =
     let s = stepped L i i' f m.left l p in
@@ -129,13 +138,16 @@ merge_step L R out out' i j f i' j' f' m l p q o n =
       left = side_next L i i' f f' s k (omega (arith, n));
       right = side_next R j j' f f' t k (omega (arith, n));
       whole = rw o (covers_pushed out f (last_value [] (take i' L) ++ last_value [] (take j' R)) f' m.whole k);
-      values = λ c. ap (λ xs. value_from [] xs c) o ∙ value_pushed [] out f (last_value [] (take i' L) ++ last_value [] (take j' R)) c ∙ at s t c (nat_le f c) refl;
+      values = λ c. ap (λ xs. value_from [] xs c) o
+          ∙ value_pushed [] out f (last_value [] (take i' L) ++ last_value [] (take j' R)) c
+          ∙ at s t c (nat_le f c) refl;
     }
   where
     at : Stepped L i i' f → Stepped R j j' f → (c : ℕ) (u : Bool) → nat_le f c ≡ u →
-        cond u (last_value [] (take i' L) ++ last_value [] (take j' R)) (value_from [] out c) ≡ value_from [] (take i' L) c ++ value_from [] (take j' R) c
+        cond u (last_value [] (take i' L) ++ last_value [] (take j' R)) (value_from [] out c)
+        ≡ value_from [] (take i' L) c ++ value_from [] (take j' R) c
     at s t c true h =
-        let g : f ≤ c = le_tells f c h in
+        let g : f ≤ c = leb-true f c h in
         sym (ap₂ (λ x y. x ++ y) (s.new c g) (t.new c g))
     at s t c false h =
         let g : c < f = grind (arith, nat_tests) in
@@ -159,25 +171,31 @@ merged L R out i j f m l =
     let z : f ≤ 0x30000 = rises_le f (drop i L) 0x30000 a in
     let e : f ≡ 0x30000 = omega (arith, z, l) in
     let p : take i L ≡ L = nothing_left L i f m.left (omega (arith, m.next, l)) in
-    let q : take j R ≡ R = nothing_left R j f m.right (omega (arith, m.next, l)) in
-    (ap (λ x. covers out x) (sym e) ∙ m.whole, λ c. m.values c ∙ ap₂ (λ x y. value_from [] x c ++ value_from [] y c) p q)
+    let q : take j R ≡ R = nothing_left R j f m.right (omega (arith, m.next, l)) in (
+      ap (λ x. covers out x) (sym e) ∙ m.whole,
+      λ c. m.values c
+          ∙ ap₂ (λ x y. value_from [] x c ++ value_from [] y c) p q,
+    )
 
 last_pushed : (d : List ℕ) (xs : List (ℕ × List ℕ)) (x : ℕ × List ℕ) → last_value d (xs ++ x ∷ []) ≡ x.1
 unfolding last_value
 last_pushed d [] x = refl
 last_pushed d (y ∷ xs) x = last_pushed y.1 xs x
 
-pub latest_is : (L : List (ℕ × List ℕ)) (i k : ℕ) (x : ℕ × List ℕ) → i ≤ length L → i ≡ suc k → x ≡ get_or L k x → x.1 ≡ last_value [] (take i L)
+pub latest_is : (L : List (ℕ × List ℕ)) (i k : ℕ) (x : ℕ × List ℕ) → i ≤ length L → i ≡ suc k → x ≡ get_or L k x
+    → x.1 ≡ last_value [] (take i L)
 latest_is L i k x l e is =
     let m : k < length L = omega arith in
-    let t : take i L ≡ take k L ++ x ∷ [] = ap (λ n. take n L) (let q : i ≡ k + 1 = omega arith in q) ∙ take_more L k x m ∙ ap (λ y. take k L ++ y ∷ []) (sym is) in
+    let t : take i L ≡ take k L ++ x ∷ [] = ap (λ n. take n L) (let q : i ≡ k + 1 = omega arith in q)
+    ∙ take_more L k x m ∙ ap (λ y. take k L ++ y ∷ []) (sym is) in
     sym (ap (last_value []) t ∙ last_pushed [] (take k L) x)
 
 pub latest_none : (L : List (ℕ × List ℕ)) (i : ℕ) → i ≡ 0 → [] ≡ last_value [] (take i L)
 unfolding last_value
 latest_none L i z = ap (λ n. last_value [] (take n L)) (sym z)
 
-pub next_grows : (L R out : List (ℕ × List ℕ)) (i j f i' j' f' : ℕ) → Merging L R out i j f → f < 0x30000 → i' ≡ i + count_at f (drop i L) → j' ≡ j + count_at f (drop j R) →
+pub next_grows : (L R out : List (ℕ × List ℕ)) (i j f i' j' f' : ℕ) → Merging L R out i j f → f < 0x30000
+    → i' ≡ i + count_at f (drop i L) → j' ≡ j + count_at f (drop j R) →
     f' ≡ min (first_of 0x30000 (drop i' L)) (first_of 0x30000 (drop j' R)) → f < f'
 next_grows L R out i j f i' j' f' m l p q n =
     let s = stepped L i i' f m.left l p in

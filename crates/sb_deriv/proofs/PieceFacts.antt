@@ -1,41 +1,24 @@
 -- Lists of pieces that ascend.
-use Rattle.std.proofs.Common.{◌≡◌, ℕ, zero, suc, ◌<◌, ◌≤◌, Bool, true, false, not, ◌&&◌, ◌==◌, cond, List, [], ◌∷◌, ◌++◌, length, get_or, map, refl, sym, ap, subst, ◌∙◌, arith}
+use Rattle.std.proofs.Common.{◌≡◌, ℕ, zero, suc, ◌<◌, ◌≤◌, Bool, true, false, not, ◌==◌, cond, List, [], ◌∷◌, ◌++◌, length, get_or, map, refl, sym, ap, subst, ◌∙◌, arith}
 use Rattle.std.specs.Prelude.{nat_le}
 use Rattle.std.specs.List.{All}
-use Rattle.std.proofs.lemmas.Bool.{and_parts}
+use Rattle.std.proofs.lemmas.Bool.{and_parts, and_from, le-leb, leb-true, lt-leb, eqb-true}
 use Rattle.std.proofs.lemmas.Bool.Decides.{nat_tests}
 use Rattle.std.proofs.lemmas.List.Elements.{All-cons}
 use Rattle.sb_deriv.specs.Pieces.{value_from, rises, covers, differs_from, are_merged}
 use Rattle.sb_deriv.specs.Choices.{first_of, last_value, ends_with}
 
-both : (a b : Bool) → a ≡ true → b ≡ true → (a && b) ≡ true
-both true b p q = q
-both false b p q = absurd (cc)
-
-pub le_test : (a b : ℕ) → a ≤ b → nat_le a b ≡ true
-le_test a b h = grind (arith, nat_tests)
-
-pub le_tells : (a b : ℕ) → nat_le a b ≡ true → a ≤ b
-le_tells a b h = grind (arith, nat_tests)
-
-pub gt_test : (a b : ℕ) → b < a → nat_le a b ≡ false
-gt_test a b h = grind (arith, nat_tests)
-
-pub eq_tells : (a b : ℕ) → (a == b) ≡ true → a ≡ b
-eq_tells a b h = grind (arith, nat_tests)
-
-pub eq_test : (a b : ℕ) → a ≡ b → (a == b) ≡ true
-eq_test a b h = grind (arith, nat_tests)
-
 eq_flip : (a b : ℕ) → (a == b) ≡ false → (b == a) ≡ false
 eq_flip a b h = grind (arith, nat_tests)
 
-pub value_from-append : {A : Type 0} (d : A) (xs ys : List (ℕ × A)) (c : ℕ) → value_from d (xs ++ ys) c ≡ value_from (value_from d xs c) ys c
+pub value_from-append : {A : Type 0} (d : A) (xs ys : List (ℕ × A)) (c : ℕ)
+    → value_from d (xs ++ ys) c ≡ value_from (value_from d xs c) ys c
 unfolding value_from
 value_from-append d [] ys c = refl
 value_from-append d (x ∷ xs) ys c = value_from-append (cond (nat_le x.0 c) x.1 d) xs ys c
 
-pub value_pushed : {A : Type 0} (d : A) (xs : List (ℕ × A)) (f : ℕ) (v : A) (c : ℕ) → value_from d (xs ++ (f, v) ∷ []) c ≡ cond (nat_le f c) v (value_from d xs c)
+pub value_pushed : {A : Type 0} (d : A) (xs : List (ℕ × A)) (f : ℕ) (v : A) (c : ℕ)
+    → value_from d (xs ++ (f, v) ∷ []) c ≡ cond (nat_le f c) v (value_from d xs c)
 unfolding value_from
 value_pushed d xs f v c = value_from-append d xs ((f, v) ∷ []) c
 
@@ -43,62 +26,72 @@ value_pushed d xs f v c = value_from-append d xs ((f, v) ∷ []) c
 
 pub rises_head : {A : Type 0} (n : ℕ) (xs : List (ℕ × A)) (e : ℕ) → rises n xs e ≡ true → n ≤ first_of e xs
 unfolding rises
-rises_head n [] e h = le_tells n e h
-rises_head n (x ∷ xs) e h = le_tells n x.0 (and_parts _ _ h).0
+rises_head n [] e h = leb-true n e h
+rises_head n (x ∷ xs) e h = leb-true n x.0 (and_parts _ _ h).0
 
-pub rises_rest : {A : Type 0} (n : ℕ) (x : ℕ × A) (xs : List (ℕ × A)) (e : ℕ) → rises n (x ∷ xs) e ≡ true → rises (suc x.0) xs e ≡ true
+pub rises_rest : {A : Type 0} (n : ℕ) (x : ℕ × A) (xs : List (ℕ × A)) (e : ℕ) → rises n (x ∷ xs) e ≡ true
+    → rises (suc x.0) xs e ≡ true
 unfolding rises
 rises_rest n x xs e h = (and_parts _ _ h).1
 
 pub rises_le : {A : Type 0} (n : ℕ) (xs : List (ℕ × A)) (e : ℕ) → rises n xs e ≡ true → n ≤ e
 unfolding rises
-rises_le n [] e h = le_tells n e h
+rises_le n [] e h = leb-true n e h
 rises_le n (x ∷ xs) e h =
     let p = and_parts _ _ h in
-    let a : n ≤ x.0 = le_tells n x.0 p.0 in
+    let a : n ≤ x.0 = leb-true n x.0 p.0 in
     let b : suc x.0 ≤ e = rises_le (suc x.0) xs e p.1 in
     omega arith
 
-pub rises_later_end : {A : Type 0} (n : ℕ) (xs : List (ℕ × A)) (e f : ℕ) → e ≤ f → rises n xs e ≡ true → rises n xs f ≡ true
+pub rises_later_end : {A : Type 0} (n : ℕ) (xs : List (ℕ × A)) (e f : ℕ) → e ≤ f → rises n xs e ≡ true
+    → rises n xs f ≡ true
 unfolding rises
-rises_later_end n [] e f l h = le_test n f (let a : n ≤ e = le_tells n e h in omega arith)
-rises_later_end n (x ∷ xs) e f l h = let p = and_parts _ _ h in both _ _ p.0 (rises_later_end (suc x.0) xs e f l p.1)
+rises_later_end n [] e f l h = le-leb n f (let a : n ≤ e = leb-true n e h in omega arith)
+rises_later_end n (x ∷ xs) e f l h = let p = and_parts _ _ h in
+    and_from _ _ p.0 (rises_later_end (suc x.0) xs e f l p.1)
 
-pub rises_from_first : {A : Type 0} (n m : ℕ) (xs : List (ℕ × A)) (e : ℕ) → rises n xs e ≡ true → m ≤ first_of e xs → rises m xs e ≡ true
+pub rises_from_first : {A : Type 0} (n m : ℕ) (xs : List (ℕ × A)) (e : ℕ) → rises n xs e ≡ true → m ≤ first_of e xs
+    → rises m xs e ≡ true
 unfolding rises
-rises_from_first n m [] e h l = le_test m e l
-rises_from_first n m (x ∷ xs) e h l = both _ _ (le_test m x.0 l) (and_parts _ _ h).1
+rises_from_first n m [] e h l = le-leb m e l
+rises_from_first n m (x ∷ xs) e h l = and_from _ _ (le-leb m x.0 l) (and_parts _ _ h).1
 
-pub rises_pushed : {A : Type 0} (n : ℕ) (xs : List (ℕ × A)) (f : ℕ) (v : A) (e : ℕ) → rises n xs f ≡ true → f < e → rises n (xs ++ (f, v) ∷ []) e ≡ true
+pub rises_pushed : {A : Type 0} (n : ℕ) (xs : List (ℕ × A)) (f : ℕ) (v : A) (e : ℕ) → rises n xs f ≡ true → f < e
+    → rises n (xs ++ (f, v) ∷ []) e ≡ true
 unfolding rises
-rises_pushed n [] f v e h l = both _ _ h (le_test (suc f) e (omega arith))
-rises_pushed n (x ∷ xs) f v e h l = let p = and_parts _ _ h in both _ _ p.0 (rises_pushed (suc x.0) xs f v e p.1 l)
+rises_pushed n [] f v e h l = and_from _ _ h (le-leb (suc f) e (omega arith))
+rises_pushed n (x ∷ xs) f v e h l = let p = and_parts _ _ h in and_from _ _ p.0 (rises_pushed (suc x.0) xs f v e p.1 l)
 
-pub above_stays : {A : Type 0} (d : A) (n : ℕ) (xs : List (ℕ × A)) (e c : ℕ) → rises n xs e ≡ true → c < n → value_from d xs c ≡ d
+pub above_stays : {A : Type 0} (d : A) (n : ℕ) (xs : List (ℕ × A)) (e c : ℕ) → rises n xs e ≡ true → c < n
+    → value_from d xs c ≡ d
 unfolding rises value_from
 above_stays d n [] e c h l = refl
 above_stays d n (x ∷ xs) e c h l =
     let p = and_parts _ _ h in
-    let a : n ≤ x.0 = le_tells n x.0 p.0 in
-    ap (λ t. value_from (cond t x.1 d) xs c) (gt_test x.0 c (omega arith)) ∙ above_stays d (suc x.0) xs e c p.1 (omega arith)
+    let a : n ≤ x.0 = leb-true n x.0 p.0 in
+    ap (λ t. value_from (cond t x.1 d) xs c) (lt-leb x.0 c (omega arith))
+    ∙ above_stays d (suc x.0) xs e c p.1 (omega arith)
 
-pub last_from : {A : Type 0} (d : A) (n : ℕ) (xs : List (ℕ × A)) (e c : ℕ) → rises n xs e ≡ true → e ≤ suc c → value_from d xs c ≡ last_value d xs
+pub last_from : {A : Type 0} (d : A) (n : ℕ) (xs : List (ℕ × A)) (e c : ℕ) → rises n xs e ≡ true → e ≤ suc c
+    → value_from d xs c ≡ last_value d xs
 unfolding rises value_from last_value
 last_from d n [] e c h l = refl
 last_from d n (x ∷ xs) e c h l =
     let p = and_parts _ _ h in
     let a : suc x.0 ≤ e = rises_le (suc x.0) xs e p.1 in
-    ap (λ t. value_from (cond t x.1 d) xs c) (le_test x.0 c (omega arith)) ∙ last_from x.1 (suc x.0) xs e c p.1 l
+    ap (λ t. value_from (cond t x.1 d) xs c) (le-leb x.0 c (omega arith)) ∙ last_from x.1 (suc x.0) xs e c p.1 l
 
 -- the value of a piece is that of its first number
-pub value_here : {A : Type 0} (d : A) (n : ℕ) (xs : List (ℕ × A)) (e k : ℕ) (x : ℕ × A) → rises n xs e ≡ true → k < length xs → x ≡ get_or xs k x → value_from d xs x.0 ≡ x.1
+pub value_here : {A : Type 0} (d : A) (n : ℕ) (xs : List (ℕ × A)) (e k : ℕ) (x : ℕ × A) → rises n xs e ≡ true
+    → k < length xs → x ≡ get_or xs k x → value_from d xs x.0 ≡ x.1
 unfolding rises value_from
 value_here d n [] e k x h l is = absurd (omega arith)
 value_here {A} d n (y ∷ ys) e zero x h l is =
     let p = and_parts _ _ h in
     let r : x ≡ y = is in
     let v : value_from d (y ∷ ys) y.0 ≡ y.1 =
-    ap (λ t. value_from (cond t y.1 d) ys y.0) (le_test y.0 y.0 (omega arith)) ∙ above_stays y.1 (suc y.0) ys e y.0 p.1 (omega arith) in
+    ap (λ t. value_from (cond t y.1 d) ys y.0) (le-leb y.0 y.0 (omega arith))
+    ∙ above_stays y.1 (suc y.0) ys e y.0 p.1 (omega arith) in
     subst (λ (z : ℕ × A). value_from d (y ∷ ys) z.0 ≡ z.1) (sym r) v
 value_here d n (y ∷ ys) e (suc k) x h l is =
     let p = and_parts _ _ h in
@@ -106,13 +99,15 @@ value_here d n (y ∷ ys) e (suc k) x h l is =
     value_here (cond (nat_le y.0 x.0) y.1 d) (suc y.0) ys e k x p.1 m is
 
 -- the value of a piece goes on up to the next one
-pub value_between : {A : Type 0} (d : A) (n : ℕ) (xs : List (ℕ × A)) (e k c : ℕ) (z : ℕ × A) → rises n xs e ≡ true → k < length xs → (get_or xs k z).0 ≤ c → (suc k < length xs → c < (get_or xs (suc k) z).0) → value_from d xs c ≡ (get_or xs k z).1
+pub value_between : {A : Type 0} (d : A) (n : ℕ) (xs : List (ℕ × A)) (e k c : ℕ) (z : ℕ × A) → rises n xs e ≡ true
+    → k < length xs → (get_or xs k z).0 ≤ c → (suc k < length xs → c < (get_or xs (suc k) z).0)
+    → value_from d xs c ≡ (get_or xs k z).1
 unfolding rises value_from
 value_between d n [] e k c z h l a b = absurd (omega arith)
-value_between d n (x ∷ []) e zero c z h l a b = ap (λ t. cond t x.1 d) (le_test x.0 c a)
+value_between d n (x ∷ []) e zero c z h l a b = ap (λ t. cond t x.1 d) (le-leb x.0 c a)
 value_between d n (x ∷ y ∷ ys) e zero c z h l a b =
     let p = and_parts _ _ h in
-    ap (λ t. value_from (cond t x.1 d) (y ∷ ys) c) (le_test x.0 c a)
+    ap (λ t. value_from (cond t x.1 d) (y ∷ ys) c) (le-leb x.0 c a)
     ∙ above_stays x.1 y.0 (y ∷ ys) e c (rises_from_first (suc x.0) y.0 (y ∷ ys) e p.1 (omega arith)) (b (omega arith))
 value_between d n (x ∷ xs) e (suc k) c z h l a b =
     let p = and_parts _ _ h in
@@ -122,86 +117,94 @@ value_between d n (x ∷ xs) e (suc k) c z h l a b =
 
 pub covers_rises : {A : Type 0} (xs : List (ℕ × A)) (e : ℕ) → covers xs e ≡ true → rises 0 xs e ≡ true
 unfolding covers rises
-covers_rises [] e h = le_test 0 e (omega arith)
+covers_rises [] e h = le-leb 0 e (omega arith)
 covers_rises (x ∷ xs) e h =
     let p = and_parts _ _ h in
-    let z : x.0 ≡ 0 = eq_tells x.0 0 p.0 in
-    both _ _ (le_test 0 x.0 (omega arith)) (ap (λ n. rises (suc n) xs e) z ∙ p.1)
+    let z : x.0 ≡ 0 = eqb-true x.0 0 p.0 in
+    and_from _ _ (le-leb 0 x.0 (omega arith)) (ap (λ n. rises (suc n) xs e) z ∙ p.1)
 
 pub covers_first : {A : Type 0} (xs : List (ℕ × A)) (e : ℕ) → covers xs e ≡ true → first_of e xs ≡ 0
 unfolding covers
-covers_first [] e h = eq_tells e 0 h
-covers_first (x ∷ xs) e h = eq_tells x.0 0 (and_parts _ _ h).0
+covers_first [] e h = eqb-true e 0 h
+covers_first (x ∷ xs) e h = eqb-true x.0 0 (and_parts _ _ h).0
 
-pub covers_from : {A : Type 0} (xs : List (ℕ × A)) (e : ℕ) → rises 0 xs e ≡ true → first_of e xs ≡ 0 → covers xs e ≡ true
-unfolding covers rises
-covers_from [] e h z = eq_test e 0 z
-covers_from (x ∷ xs) e h z = both _ _ (eq_test x.0 0 z) (ap (λ n. rises (suc n) xs e) (sym z) ∙ (and_parts _ _ h).1)
-
-pub covers_pushed : {A : Type 0} (xs : List (ℕ × A)) (f : ℕ) (v : A) (e : ℕ) → covers xs f ≡ true → f < e → covers (xs ++ (f, v) ∷ []) e ≡ true
+pub covers_pushed : {A : Type 0} (xs : List (ℕ × A)) (f : ℕ) (v : A) (e : ℕ) → covers xs f ≡ true → f < e
+    → covers (xs ++ (f, v) ∷ []) e ≡ true
 unfolding covers rises
 covers_pushed [] f v e h l =
-    let z : f ≡ 0 = eq_tells f 0 h in both _ _ h (le_test 1 e (omega arith))
-covers_pushed (x ∷ xs) f v e h l = let p = and_parts _ _ h in both _ _ p.0 (rises_pushed 1 xs f v e p.1 l)
+    let z : f ≡ 0 = eqb-true f 0 h in and_from _ _ h (le-leb 1 e (omega arith))
+covers_pushed (x ∷ xs) f v e h l = let p = and_parts _ _ h in and_from _ _ p.0 (rises_pushed 1 xs f v e p.1 l)
 
-pub covers_later : {A : Type 0} (x : ℕ × A) (xs : List (ℕ × A)) (e f : ℕ) → covers (x ∷ xs) e ≡ true → e ≤ f → covers (x ∷ xs) f ≡ true
+pub covers_later : {A : Type 0} (x : ℕ × A) (xs : List (ℕ × A)) (e f : ℕ) → covers (x ∷ xs) e ≡ true → e ≤ f
+    → covers (x ∷ xs) f ≡ true
 unfolding covers
-covers_later x xs e f h l = let p = and_parts _ _ h in both _ _ p.0 (rises_later_end 1 xs e f l p.1)
+covers_later x xs e f h l = let p = and_parts _ _ h in and_from _ _ p.0 (rises_later_end 1 xs e f l p.1)
 
 -- the default does not count
-pub value_whole : {A : Type 0} (d d' : A) (x : ℕ × A) (xs : List (ℕ × A)) (e c : ℕ) → covers (x ∷ xs) e ≡ true → value_from d (x ∷ xs) c ≡ value_from d' (x ∷ xs) c
+pub value_whole : {A : Type 0} (d d' : A) (x : ℕ × A) (xs : List (ℕ × A)) (e c : ℕ) → covers (x ∷ xs) e ≡ true
+    → value_from d (x ∷ xs) c ≡ value_from d' (x ∷ xs) c
 unfolding covers value_from
 value_whole d d' x xs e c h =
-    let z : x.0 ≡ 0 = eq_tells x.0 0 (and_parts _ _ h).0 in
-    let t : nat_le x.0 c ≡ true = le_test x.0 c (omega arith) in
+    let z : x.0 ≡ 0 = eqb-true x.0 0 (and_parts _ _ h).0 in
+    let t : nat_le x.0 c ≡ true = le-leb x.0 c (omega arith) in
     ap (λ b. value_from (cond b x.1 d) xs c) t ∙ sym (ap (λ b. value_from (cond b x.1 d') xs c) t)
 
 -- the targets
 
-pub value_below : (d n : ℕ) (xs : List (ℕ × ℕ)) (c : ℕ) → d < n → All (λ i. i < n) (map (λ p. p.1) xs) → value_from d xs c < n
+pub value_below : (d n : ℕ) (xs : List (ℕ × ℕ)) (c : ℕ) → d < n → All (λ i. i < n) (map (λ p. p.1) xs)
+    → value_from d xs c < n
 unfolding value_from
 value_below d n [] c l h = l
-value_below d n (x ∷ xs) c l h = value_below (cond (nat_le x.0 c) x.1 d) n xs c (chosen (nat_le x.0 c)) (λ k e m. h (suc k) e (omega (arith, m)))
+value_below d n (x ∷ xs) c l h =
+    value_below (cond (nat_le x.0 c) x.1 d) n xs c (chosen (nat_le x.0 c)) (λ k e m. h (suc k) e (omega (arith, m)))
   where
     chosen : (b : Bool) → cond b x.1 d < n
     chosen true = h 0 0 (omega arith)
     chosen false = l
 
-pub targets_pushed : (n : ℕ) (xs : List (ℕ × ℕ)) (f t : ℕ) → t < n → All (λ i. i < n) (map (λ p. p.1) xs) → All (λ i. i < n) (map (λ p. p.1) (xs ++ (f, t) ∷ []))
+pub targets_pushed : (n : ℕ) (xs : List (ℕ × ℕ)) (f t : ℕ) → t < n → All (λ i. i < n) (map (λ p. p.1) xs)
+    → All (λ i. i < n) (map (λ p. p.1) (xs ++ (f, t) ∷ []))
 targets_pushed n [] f t l h = All-cons (λ i. i < n) t [] l h
 targets_pushed n (x ∷ xs) f t l h =
-    All-cons (λ i. i < n) x.1 (map (λ p. p.1) (xs ++ (f, t) ∷ [])) (h 0 0 (omega arith)) (targets_pushed n xs f t l (λ k e m. h (suc k) e (omega (arith, m))))
+    All-cons (λ i. i < n) x.1 (map (λ p. p.1) (xs ++ (f, t) ∷ [])) (h 0 0 (omega arith))
+    (targets_pushed n xs f t l (λ k e m. h (suc k) e (omega (arith, m))))
 
 -- merged lists
 
-differs_pushed : (s : ℕ) (xs : List (ℕ × ℕ)) (f t : ℕ) → differs_from s xs ≡ true → (last_value s xs == t) ≡ false → differs_from s (xs ++ (f, t) ∷ []) ≡ true
+differs_pushed : (s : ℕ) (xs : List (ℕ × ℕ)) (f t : ℕ) → differs_from s xs ≡ true → (last_value s xs == t) ≡ false
+    → differs_from s (xs ++ (f, t) ∷ []) ≡ true
 unfolding differs_from last_value
-differs_pushed s [] f t h l = both _ _ (ap not (eq_flip s t l)) refl
-differs_pushed s (x ∷ xs) f t h l = let p = and_parts _ _ h in both _ _ p.0 (differs_pushed x.1 xs f t p.1 l)
+differs_pushed s [] f t h l = and_from _ _ (ap not (eq_flip s t l)) refl
+differs_pushed s (x ∷ xs) f t h l = let p = and_parts _ _ h in and_from _ _ p.0 (differs_pushed x.1 xs f t p.1 l)
 
-pub merged_pushed : (xs : List (ℕ × ℕ)) (f t : ℕ) → are_merged xs ≡ true → ends_with t xs ≡ false → are_merged (xs ++ (f, t) ∷ []) ≡ true
+pub merged_pushed : (xs : List (ℕ × ℕ)) (f t : ℕ) → are_merged xs ≡ true → ends_with t xs ≡ false
+    → are_merged (xs ++ (f, t) ∷ []) ≡ true
 unfolding are_merged differs_from ends_with
 merged_pushed [] f t h l = refl
 merged_pushed (x ∷ xs) f t h l = differs_pushed x.1 xs f t h l
 
 -- where the last piece has the target already
 
-pub same_whole : (t : ℕ) (xs : List (ℕ × ℕ)) (f e : ℕ) → ends_with t xs ≡ true → covers xs f ≡ true → f < e → covers xs e ≡ true
+pub same_whole : (t : ℕ) (xs : List (ℕ × ℕ)) (f e : ℕ) → ends_with t xs ≡ true → covers xs f ≡ true → f < e
+    → covers xs e ≡ true
 unfolding ends_with
 same_whole t [] f e b h l = absurd (cc)
 same_whole t (x ∷ xs) f e b h l = covers_later x xs f e h (omega arith)
 
-pub same_value : (t : ℕ) (xs : List (ℕ × ℕ)) (f c : ℕ) → ends_with t xs ≡ true → covers xs f ≡ true → value_from 0 xs c ≡ cond (nat_le f c) t (value_from 0 xs c)
+pub same_value : (t : ℕ) (xs : List (ℕ × ℕ)) (f c : ℕ) → ends_with t xs ≡ true → covers xs f ≡ true
+    → value_from 0 xs c ≡ cond (nat_le f c) t (value_from 0 xs c)
 unfolding ends_with last_value
 same_value t [] f c b h = absurd (cc)
 same_value t (x ∷ xs) f c b h = step (nat_le f c) refl
   where
     step : (u : Bool) → nat_le f c ≡ u → value_from 0 (x ∷ xs) c ≡ cond u t (value_from 0 (x ∷ xs) c)
     step false is = refl
-    step true is = last_from 0 0 (x ∷ xs) f c (covers_rises (x ∷ xs) f h) (let m : f ≤ c = le_tells f c is in omega arith) ∙ eq_tells (last_value x.1 xs) t b
+    step true is = last_from 0 0 (x ∷ xs) f c (covers_rises (x ∷ xs) f h) (let m : f ≤ c = leb-true f c is in
+        omega arith) ∙ eqb-true (last_value x.1 xs) t b
 
 -- the last piece is the one in the last place
-pub last_value_at : {A : Type 0} (d : A) (xs : List (ℕ × A)) (k : ℕ) (p : ℕ × A) → suc k ≡ length xs → p ≡ get_or xs k p → last_value d xs ≡ p.1
+pub last_value_at : {A : Type 0} (d : A) (xs : List (ℕ × A)) (k : ℕ) (p : ℕ × A) → suc k ≡ length xs → p ≡ get_or xs k p
+    → last_value d xs ≡ p.1
 unfolding last_value
 last_value_at d [] k p l is = absurd (omega arith)
 last_value_at {A} d (x ∷ []) k p l is =
@@ -211,7 +214,8 @@ last_value_at {A} d (x ∷ []) k p l is =
 last_value_at d (x ∷ y ∷ ys) zero p l is = absurd (omega arith)
 last_value_at d (x ∷ y ∷ ys) (suc k) p l is = last_value_at x.1 (y ∷ ys) k p (omega arith) is
 
-pub ends_with_at : (t : ℕ) (xs : List (ℕ × ℕ)) (k : ℕ) (p : ℕ × ℕ) → suc k ≡ length xs → p ≡ get_or xs k p → (p.1 == t) ≡ ends_with t xs
+pub ends_with_at : (t : ℕ) (xs : List (ℕ × ℕ)) (k : ℕ) (p : ℕ × ℕ) → suc k ≡ length xs → p ≡ get_or xs k p
+    → (p.1 == t) ≡ ends_with t xs
 unfolding ends_with last_value
 ends_with_at t [] k p l is = absurd (omega arith)
 ends_with_at t (x ∷ xs) k p l is = ap (λ v. v == t) (sym (last_value_at 0 (x ∷ xs) k p l is))
@@ -225,15 +229,18 @@ ends_with_none t (x ∷ xs) l = absurd (omega arith)
 
 pub map_some : {A : Type 0} (xs : List (ℕ × A)) (e : ℕ) → 0 < e → covers xs e ≡ true → 0 < length xs
 unfolding covers
-map_some [] e l h = let z : e ≡ 0 = eq_tells e 0 h in absurd (omega arith)
+map_some [] e l h = let z : e ≡ 0 = eqb-true e 0 h in absurd (omega arith)
 map_some (x ∷ xs) e l h = omega arith
 
 pub map_starts : (xs : List (ℕ × ℕ)) (e : ℕ) → 0 < e → covers xs e ≡ true → (get_or xs 0 (0, 0)).0 ≡ 0
 unfolding covers
 map_starts [] e l h = refl
-map_starts (x ∷ xs) e l h = eq_tells x.0 0 (and_parts _ _ h).0
+map_starts (x ∷ xs) e l h = eqb-true x.0 0 (and_parts _ _ h).0
 
-pub target_below : (n : ℕ) (ps : List (ℕ × ℕ)) (k : ℕ) (p : ℕ × ℕ) → All (λ i. i < n) (map (λ q. q.1) ps) → k < length ps → p ≡ get_or ps k p → p.1 < n
+pub target_below : (n : ℕ) (ps : List (ℕ × ℕ)) (k : ℕ) (p : ℕ × ℕ) → All (λ i. i < n) (map (λ q. q.1) ps)
+    → k < length ps → p ≡ get_or ps k p → p.1 < n
 target_below n [] k p h l is = absurd (omega arith)
-target_below n (q ∷ qs) zero p h l is = let r : p ≡ q = is in subst (λ (z : ℕ × ℕ). z.1 < n) (sym r) (h 0 0 (omega arith))
-target_below n (q ∷ qs) (suc k) p h l is = target_below n qs k p (λ i d m. h (suc i) d (omega (arith, m))) (omega (arith, l)) is
+target_below n (q ∷ qs) zero p h l is = let r : p ≡ q = is in
+    subst (λ (z : ℕ × ℕ). z.1 < n) (sym r) (h 0 0 (omega arith))
+target_below n (q ∷ qs) (suc k) p h l is =
+    target_below n qs k p (λ i d m. h (suc i) d (omega (arith, m))) (omega (arith, l)) is

@@ -32,11 +32,13 @@ not_value : (rs : List Regex) (a : Regex) (c : ℕ) → nd (neg a) c ≡ made rs
 unfolding nd nds made
 not_value rs a c = refl
 
-star_value : (rs : List Regex) (a : Regex) (n c : ℕ) → star a ≡ regex_at rs n → nd (star a) c ≡ made rs (operation.Cat n) (nd_each (a ∷ []) c)
+star_value : (rs : List Regex) (a : Regex) (n c : ℕ) → star a ≡ regex_at rs n
+    → nd (star a) c ≡ made rs (operation.Cat n) (nd_each (a ∷ []) c)
 unfolding nd nds made
 star_value rs a n c e = ap (λ x. mkcat (nd a c) x) e
 
-pub shape_none : (rs : List Regex) (d : Node) (r : Regex) → node_regex rs d ≡ r → d ≡ node.None → (c : ℕ) → nd r c ≡ none
+pub shape_none : (rs : List Regex) (d : Node) (r : Regex) → node_regex rs d ≡ r → d ≡ node.None → (c : ℕ)
+    → nd r c ≡ none
 unfolding nd nds
 shape_none rs d r e is c = ap (λ x. nd x c) (sym e ∙ ap (λ x. node_regex rs x) is)
 
@@ -48,26 +50,37 @@ set_canonical : (v : List Range) → IsNormal (set v) → IsCanonical v
 unfolding is_normal
 set_canonical v h = (and_parts _ _ h).0
 
-pub shape_set : (rs : List Regex) (n : ℕ) (v w : List Range) → list_all is_normal rs ≡ true → n < length rs → set v ≡ regex_at rs n → w ≡ v → IsCanonical w × (regex_at rs n ≡ set w)
+pub shape_set : (rs : List Regex) (n : ℕ) (v w : List Range) → list_all is_normal rs ≡ true → n < length rs
+    → set v ≡ regex_at rs n → w ≡ v → IsCanonical w × (regex_at rs n ≡ set w)
 shape_set rs n v w normal l e is =
     let m : IsNormal (regex_at rs n) = AllPass-from_list_all is_normal rs normal n none l in
     let k : IsCanonical v = set_canonical v (subst IsNormal (sym e) m) in
     (subst IsCanonical (sym is) k, sym e ∙ ap set (sym is))
 
-pub made_alt : (rs : List Regex) (n : ℕ) (ids ps : List ℕ) → All (λ i. i < n) ids → alt (regexes (regexes_at rs ids)) ≡ regex_at rs n → ps ≡ ids → IsMade rs n operation.Alt ps
-made_alt rs n ids ps h e is = subst (λ (xs : List ℕ). IsMade rs n operation.Alt xs) (sym is) (record { below = h; operand = tt; value = value })
+pub made_alt : (rs : List Regex) (n : ℕ) (ids ps : List ℕ) → All (λ i. i < n) ids
+    → alt (regexes (regexes_at rs ids)) ≡ regex_at rs n → ps ≡ ids → IsMade rs n operation.Alt ps
+made_alt rs n ids ps h e is =
+    subst (λ (xs : List ℕ). IsMade rs n operation.Alt xs) (sym is) (record { below = h; operand = tt; value = value })
   where
     value : (c : ℕ) → nd (regex_at rs n) c ≡ made rs operation.Alt (nd_each (regexes_at rs ids) c)
     value c = ap (λ x. nd x c) (sym e) ∙ alt_value rs (regexes_at rs ids) c
 
-pub made_and : (rs : List Regex) (n : ℕ) (ids ps : List ℕ) → All (λ i. i < n) ids → and (regexes (regexes_at rs ids)) ≡ regex_at rs n → ps ≡ ids → IsMade rs n operation.And ps
-made_and rs n ids ps h e is = subst (λ (xs : List ℕ). IsMade rs n operation.And xs) (sym is) (record { below = h; operand = tt; value = value })
+pub made_and : (rs : List Regex) (n : ℕ) (ids ps : List ℕ) → All (λ i. i < n) ids
+    → and (regexes (regexes_at rs ids)) ≡ regex_at rs n → ps ≡ ids → IsMade rs n operation.And ps
+made_and rs n ids ps h e is =
+    subst (λ (xs : List ℕ). IsMade rs n operation.And xs) (sym is) (record { below = h; operand = tt; value = value })
   where
     value : (c : ℕ) → nd (regex_at rs n) c ≡ made rs operation.And (nd_each (regexes_at rs ids) c)
     value c = ap (λ x. nd x c) (sym e) ∙ and_value rs (regexes_at rs ids) c
 
-pub made_not : (rs : List Regex) (n a : ℕ) (ps : List ℕ) → All (λ i. i < n) (a ∷ []) → neg (regex_at rs a) ≡ regex_at rs n → ps ≡ a ∷ [] → IsMade rs n operation.Not ps
-made_not rs n a ps h e is = subst (λ (xs : List ℕ). IsMade rs n operation.Not xs) (sym is) (record { below = h; operand = tt; value = λ c. ap (λ x. nd x c) (sym e) ∙ not_value rs (regex_at rs a) c })
+pub made_not : (rs : List Regex) (n a : ℕ) (ps : List ℕ) → All (λ i. i < n) (a ∷ [])
+    → neg (regex_at rs a) ≡ regex_at rs n → ps ≡ a ∷ [] → IsMade rs n operation.Not ps
+made_not rs n a ps h e is =
+    subst (λ (xs : List ℕ). IsMade rs n operation.Not xs) (sym is)
+    (record { below = h; operand = tt; value = λ c. ap (λ x. nd x c) (sym e) ∙ not_value rs (regex_at rs a) c })
 
-pub made_star : (rs : List Regex) (n a : ℕ) (ps : List ℕ) → n < length rs → All (λ i. i < n) (a ∷ []) → star (regex_at rs a) ≡ regex_at rs n → ps ≡ a ∷ [] → IsMade rs n (operation.Cat n) ps
-made_star rs n a ps l h e is = subst (λ (xs : List ℕ). IsMade rs n (operation.Cat n) xs) (sym is) (record { below = h; operand = l; value = λ c. ap (λ x. nd x c) (sym e) ∙ star_value rs (regex_at rs a) n c e })
+pub made_star : (rs : List Regex) (n a : ℕ) (ps : List ℕ) → n < length rs → All (λ i. i < n) (a ∷ [])
+    → star (regex_at rs a) ≡ regex_at rs n → ps ≡ a ∷ [] → IsMade rs n (operation.Cat n) ps
+made_star rs n a ps l h e is =
+    subst (λ (xs : List ℕ). IsMade rs n (operation.Cat n) xs) (sym is)
+    (record { below = h; operand = l; value = λ c. ap (λ x. nd x c) (sym e) ∙ star_value rs (regex_at rs a) n c e })

@@ -1,9 +1,10 @@
 -- The numbers that wait for their derivatives.
-use Rattle.std.proofs.Common.{◌≡◌, ℕ, zero, suc, ◌+◌, ◌*◌, ◌<◌, ◌≤◌, Bool, true, false, not, cond, Some, None, Option, List, [], ◌∷◌, ◌++◌, length, get_or, set, refl, sym, ap, ap₂, subst, ◌∙◌, arith, ◌⊎◌, inl, inr}
+use Rattle.std.proofs.Common.{◌≡◌, ℕ, zero, suc, ◌+◌, ◌*◌, ◌<◌, ◌≤◌, Bool, true, false, cond, Some, None, Option, List, [], ◌∷◌, ◌++◌, length, get_or, set, refl, sym, ap, ap₂, subst, ◌∙◌, arith, ◌⊎◌, inl, inr}
 use Rattle.std.specs.Prelude.{nat_lt, ◌||◌, is_some, IsSome, IfSome, unwrap_or}
 use Rattle.std.specs.List.{All, list_any}
 use Rattle.std.specs.Ordering.{nat_cmp, match_ordering}
 use Rattle.std.specs.BTreeSet.{insert_key}
+use Rattle.std.proofs.lemmas.Bool.{or_left, or_right}
 use Rattle.std.proofs.lemmas.Map.Views.{All-insert_key}
 use Rattle.std.proofs.lemmas.Bool.Decides.{nat_tests}
 use Rattle.std.proofs.lemmas.List.Elements.{All-nil}
@@ -14,30 +15,24 @@ use Rattle.sb_lang.specs.Derivative.{nd}
 use Rattle.sb_regex.specs.Numbered.{regex_at, Extends}
 use Rattle.sb_deriv.specs.Faithful.{Memo, entry_of, IsFaithful, IsKnown, IsDerivative, KeepsEntries}
 use Rattle.sb_deriv.specs.Choices.{IsWanted, lacking}
-use Rattle.sb_deriv.proofs.Numbers.{extends_same, extends_more, number_kept, at_kept}
+use Rattle.sb_regex.proofs.CallerLemmas.{extends_same, extends_more, number_kept, at_kept}
 use Rattle.sb_deriv.proofs.Derivatives.{faithful_kept, map_same}
 
 no_entry : {A : Type 0} (o : Option A) → is_some o ≡ false → o ≡ None
 no_entry None h = refl
 no_entry (Some x) h = absurd (cc)
 
-or_left : (a b : Bool) → a ≡ true → (a || b) ≡ true
-or_left true b h = refl
-or_left false b h = absurd (cc)
-
-or_right : (a b : Bool) → b ≡ true → (a || b) ≡ true
-or_right true b h = refl
-or_right false b h = h
-
 any_inserted : (p : ℕ → Bool) (k : ℕ) (ks : List ℕ) → list_any p ks ≡ true → list_any p (insert_key nat_cmp ks k) ≡ true
 any_inserted p k [] h = absurd (cc)
 any_inserted p k (x ∷ xs) h = step (nat_cmp k x) (λ r. any_inserted p k xs r)
   where
-    either : (list_any p xs ≡ true → list_any p (insert_key nat_cmp xs k) ≡ true) → (b : Bool) → p x ≡ b → (p x || list_any p (insert_key nat_cmp xs k)) ≡ true
+    either : (list_any p xs ≡ true → list_any p (insert_key nat_cmp xs k) ≡ true) → (b : Bool) → p x ≡ b
+        → (p x || list_any p (insert_key nat_cmp xs k)) ≡ true
     either r true e = or_left (p x) _ e
     either r false e = or_right (p x) _ (r (ap (λ b. b || list_any p xs) (sym e) ∙ h))
 
-    step : (o : Ordering) → (list_any p xs ≡ true → list_any p (insert_key nat_cmp xs k) ≡ true) → list_any p (match_ordering o (k ∷ x ∷ xs) (x ∷ xs) (x ∷ insert_key nat_cmp xs k)) ≡ true
+    step : (o : Ordering) → (list_any p xs ≡ true → list_any p (insert_key nat_cmp xs k) ≡ true)
+        → list_any p (match_ordering o (k ∷ x ∷ xs) (x ∷ xs) (x ∷ insert_key nat_cmp xs k)) ≡ true
     step Less r = or_right (p k) _ h
     step Equal r = h
     step Greater r = either r (p x) refl
@@ -52,7 +47,8 @@ any_insert : (p : ℕ → Bool) (k : ℕ) (ks : List ℕ) → p k ≡ true → l
 any_insert p k [] h = or_left (p k) false h
 any_insert p k (x ∷ xs) h = step (nat_cmp k x) refl (any_insert p k xs h)
   where
-    step : (o : Ordering) → nat_cmp k x ≡ o → list_any p (insert_key nat_cmp xs k) ≡ true → list_any p (match_ordering o (k ∷ x ∷ xs) (x ∷ xs) (x ∷ insert_key nat_cmp xs k)) ≡ true
+    step : (o : Ordering) → nat_cmp k x ≡ o → list_any p (insert_key nat_cmp xs k) ≡ true
+        → list_any p (match_ordering o (k ∷ x ∷ xs) (x ∷ xs) (x ∷ insert_key nat_cmp xs k)) ≡ true
     step Less e r = or_left (p k) _ h
     step Equal e r = or_left (p x) _ (ap p (sym (equal_is k x e)) ∙ h)
     step Greater e r = or_right (p x) _ r
@@ -77,7 +73,9 @@ wanting_init memo parts keys = record {
   added = λ n b h. h;
 }
 
-pub wanting_skip : (memo : Memo) (parts : List ℕ) (k : ℕ) (some : Bool) (old new : List ℕ) (x : ℕ) → Wanting memo parts k some old new → k < length parts → x ≡ get_or parts k x → is_some (entry_of memo x) ≡ true → Wanting memo parts (k + 1) some old new
+pub wanting_skip : (memo : Memo) (parts : List ℕ) (k : ℕ) (some : Bool) (old new : List ℕ) (x : ℕ)
+    → Wanting memo parts k some old new → k < length parts → x ≡ get_or parts k x → is_some (entry_of memo x) ≡ true
+    → Wanting memo parts (k + 1) some old new
 wanting_skip memo parts k some old new x w l is e = record {
   known = λ f i d m. at f i d m;
   idle = w.idle;
@@ -91,7 +89,8 @@ wanting_skip memo parts k some old new x w l is e = record {
     same (y ∷ ys) (suc i) d d' m = same ys i d d' (omega (arith, m))
 
     here : (i d : ℕ) → i ≡ k → IsSome (entry_of memo (get_or parts i d))
-    here i d z = subst (λ (y : ℕ). IsSome (entry_of memo y)) (is ∙ same parts k x d l ∙ ap (λ j. get_or parts j d) (sym z)) e
+    here i d z = subst (λ (y : ℕ). IsSome (entry_of memo y))
+        (is ∙ same parts k x d l ∙ ap (λ j. get_or parts j d) (sym z)) e
 
     at : some ≡ false → (i d : ℕ) → i < k + 1 → IsSome (entry_of memo (get_or parts i d))
     at f i d m = choose (nat_lt i k) refl
@@ -100,12 +99,15 @@ wanting_skip memo parts k some old new x w l is e = record {
         choose true h = w.known f i d (lt_tells i k h)
         choose false h = here i d (grind (arith, nat_tests))
 
-pub wanting_add : (memo : Memo) (parts : List ℕ) (k : ℕ) (some : Bool) (old new new' : List ℕ) (x : ℕ) → Wanting memo parts k some old new → k < length parts → x ≡ get_or parts k x → is_some (entry_of memo x) ≡ false → new' ≡ insert_key nat_cmp new x → Wanting memo parts (k + 1) true old new'
+pub wanting_add : (memo : Memo) (parts : List ℕ) (k : ℕ) (some : Bool) (old new new' : List ℕ) (x : ℕ)
+    → Wanting memo parts k some old new → k < length parts → x ≡ get_or parts k x → is_some (entry_of memo x) ≡ false
+    → new' ≡ insert_key nat_cmp new x → Wanting memo parts (k + 1) true old new'
 wanting_add memo parts k some old new new' x w l is e keys = record {
   known = λ f. absurd (cc);
   idle = λ f. absurd (cc);
   waits = λ t n b. ap (list_any (λ q. nat_lt q n)) keys ∙ any_insert (λ q. nat_lt q n) x new (lt_test x n (below n b));
-  added = λ n b h. subst (All (IsWanted n memo)) (sym keys) (All-insert_key nat_cmp x (IsWanted n memo) new (w.added n b h) (below n b, no_entry (entry_of memo x) e));
+  added = λ n b h. subst (All (IsWanted n memo)) (sym keys)
+      (All-insert_key nat_cmp x (IsWanted n memo) new (w.added n b h) (below n b, no_entry (entry_of memo x) e));
 }
   where
     below : (n : ℕ) → All (λ i. i < n) parts → x < n
@@ -130,18 +132,21 @@ set_here [] i m l = absurd (omega arith)
 set_here (x ∷ xs) zero m l = refl
 set_here (x ∷ xs) (suc i) m l = set_here xs i m (omega (arith, l))
 
-pub set_other : (memo : Memo) (i j : ℕ) (m : List (ℕ × ℕ)) → (i ≡ j → ⊥) → entry_of (set memo i (Some m)) j ≡ entry_of memo j
+pub set_other : (memo : Memo) (i j : ℕ) (m : List (ℕ × ℕ)) → (i ≡ j → ⊥)
+    → entry_of (set memo i (Some m)) j ≡ entry_of memo j
 set_other [] i j m n = refl
 set_other (x ∷ xs) zero zero m n = absurd (n refl)
 set_other (x ∷ xs) zero (suc j) m n = refl
 set_other (x ∷ xs) (suc i) zero m n = refl
 set_other (x ∷ xs) (suc i) (suc j) m n = set_other xs i j m (λ e. n (ap suc e))
 
-pub lacking_set : (memo : Memo) (i : ℕ) (m : List (ℕ × ℕ)) → i < length memo → entry_of memo i ≡ None → lacking (set memo i (Some m)) < lacking memo
+pub lacking_set : (memo : Memo) (i : ℕ) (m : List (ℕ × ℕ)) → i < length memo → entry_of memo i ≡ None
+    → lacking (set memo i (Some m)) < lacking memo
 lacking_set [] i m l e = absurd (omega arith)
 lacking_set (None ∷ xs) zero m l e = omega arith
 lacking_set (Some y ∷ xs) zero m l e = absurd (cc)
-lacking_set (None ∷ xs) (suc i) m l e = let r : lacking (set xs i (Some m)) < lacking xs = lacking_set xs i m (omega (arith, l)) e in omega arith
+lacking_set (None ∷ xs) (suc i) m l e = let r : lacking (set xs i (Some m)) < lacking xs =
+    lacking_set xs i m (omega (arith, l)) e in omega arith
 lacking_set (Some y ∷ xs) (suc i) m l e = lacking_set xs i m (omega (arith, l)) e
 
 same_number : (i j : ℕ) → ((i ≡ j) × Unit {0}) ⊎ (i ≡ j → ⊥)
@@ -152,32 +157,23 @@ same_number i j = step (nat_lt i j) (nat_lt j i) refl refl
     step false true p q = inr (λ e. grind (arith, nat_tests))
     step false false p q = inl (grind (arith, nat_tests), tt)
 
-pub set_keeps : (memo memo' : Memo) (i : ℕ) (m : List (ℕ × ℕ)) → memo' ≡ set memo i (Some m) → entry_of memo i ≡ None → KeepsEntries memo memo'
-set_keeps memo memo' i m is e n pieces h =
-    elim (same_number i n) [
-      | inl p ↦ let z : Some pieces ≡ None = sym h ∙ ap (entry_of memo) (sym p.0) ∙ e in absurd (cc)
-      | inr q ↦ ap (λ x. entry_of x n) is ∙ set_other memo i n m q ∙ h
-    ]
-
-pub set_faithful : (rs rs' : List Regex) (memo memo' : Memo) (i : ℕ) (m : List (ℕ × ℕ)) → memo' ≡ set memo i (Some m) → IsFaithful rs memo → Extends rs rs' → i < length rs → i < length memo →
+pub set_faithful : (rs rs' : List Regex) (memo memo' : Memo) (i : ℕ) (m : List (ℕ × ℕ)) → memo' ≡ set memo i (Some m)
+    → IsFaithful rs memo → Extends rs rs' → i < length rs → i < length memo →
     IsDerivative rs' (regex_at rs i) m → IsFaithful rs' memo'
 set_faithful rs rs' memo memo' i m is f e l k d n pieces h =
     elim (same_number i n) [
       | inl p ↦
-          let z : Some m ≡ Some pieces = sym (set_here memo i m k) ∙ ap (λ x. entry_of x i) (sym is) ∙ ap (entry_of memo') p.0 ∙ h in
+          let z : Some m ≡ Some pieces = sym (set_here memo i m k) ∙ ap (λ x. entry_of x i) (sym is)
+          ∙ ap (entry_of memo') p.0 ∙ h in
           let y : m ≡ pieces = cc in
           subst (λ (j : ℕ). IsKnown rs' j pieces) p.0 (subst (λ (x : List (ℕ × ℕ)). IsKnown rs' i x) y (record {
             number = number_kept rs rs' i e l;
-            derivative = map_same rs' (nd (regex_at rs i)) (nd (regex_at rs' i)) m (λ c u. ap (λ r. nd r c) (sym (at_kept rs rs' i e l))) d;
+            derivative = map_same rs' (nd (regex_at rs i)) (nd (regex_at rs' i)) m
+                (λ c u. ap (λ r. nd r c) (sym (at_kept rs rs' i e l))) d;
           }))
-      | inr q ↦ faithful_kept rs rs' memo e f n pieces (sym (set_other memo i n m q) ∙ ap (λ x. entry_of x n) (sym is) ∙ h)
+      | inr q ↦ faithful_kept rs rs' memo e f n pieces (sym (set_other memo i n m q) ∙ ap (λ x. entry_of x n) (sym is)
+          ∙ h)
     ]
-
-pub set_wanted : (memo memo' : Memo) (i n : ℕ) (m : List (ℕ × ℕ)) (keys : List ℕ) → memo' ≡ set memo i (Some m) → All (IsWanted n memo) keys → All (λ q. i < q) keys → All (IsWanted n memo') keys
-set_wanted memo memo' i n m keys is h a = λ k d l.
-    let w : IsWanted n memo (get_or keys k d) = h k d l in
-    let b : i < get_or keys k d = a k d l in
-    (w.0, ap (λ x. entry_of x (get_or keys k d)) is ∙ set_other memo i (get_or keys k d) m (λ e. omega (arith, b, e)) ∙ w.1)
 
 -- the loop
 
@@ -191,7 +187,8 @@ pub record Deriving (rs0 rs : List Regex) (memo0 memo : Memo) (r next : ℕ) (ke
   pub wanted : All (IsWanted (suc r) memo) keys
   pub above : All (λ q. next < q) keys
 
-pub deriving_init : (rs : List Regex) (memo0 memo : Memo) (r : ℕ) (keys : List ℕ) → IsFaithful rs memo0 → ((n : ℕ) → entry_of memo n ≡ entry_of memo0 n) → r < length memo → keys ≡ [] → Deriving rs rs memo0 memo r r keys
+pub deriving_init : (rs : List Regex) (memo0 memo : Memo) (r : ℕ) (keys : List ℕ) → IsFaithful rs memo0
+    → ((n : ℕ) → entry_of memo n ≡ entry_of memo0 n) → r < length memo → keys ≡ [] → Deriving rs rs memo0 memo r r keys
 deriving_init rs memo0 memo r keys f same l is = record {
   extends = extends_same rs;
   faithful = λ n pieces h. f n pieces (sym (same n) ∙ h);
@@ -203,9 +200,13 @@ deriving_init rs memo0 memo r keys f same l is = record {
   above = subst (All (λ q. r < q)) (sym is) (All-nil (λ q. r < q));
 }
 
-pub deriving_step : (rs0 rs rs' : List Regex) (memo0 memo memo' : Memo) (r next next' : ℕ) (keys keys' keys'' : List ℕ) (o : Option ℕ) →
-    Deriving rs0 rs memo0 memo r next keys → Extends rs rs' → IsFaithful rs' memo' → KeepsEntries memo memo' → length memo' ≡ length memo →
-    All (IsWanted (suc r) memo') keys' → next' ≡ unwrap_or o r → IfSome o (λ k. keys' ≡ k ∷ keys'') → IfSome o (λ k. All (λ q. nat_cmp k q ≡ Less) keys'') → length keys'' + cond (is_some o) 1 0 ≡ length keys' → (0 < length keys' → IsSome o) →
+pub deriving_step : (rs0 rs rs' : List Regex) (memo0 memo memo' : Memo) (r next next' : ℕ) (keys keys' keys'' : List ℕ)
+    (o : Option ℕ) →
+    Deriving rs0 rs memo0 memo r next keys → Extends rs rs' → IsFaithful rs' memo' → KeepsEntries memo memo'
+    → length memo' ≡ length memo →
+    All (IsWanted (suc r) memo') keys' → next' ≡ unwrap_or o r → IfSome o (λ k. keys' ≡ k ∷ keys'')
+    → IfSome o (λ k. All (λ q. nat_cmp k q ≡ Less) keys'') → length keys'' + cond (is_some o) 1 0 ≡ length keys'
+    → (0 < length keys' → IsSome o) →
     Deriving rs0 rs' memo0 memo' r next' keys''
 deriving_step rs0 rs rs' memo0 memo memo' r next next' keys keys' keys'' (Some k) v e f p l w n a b c d' =
     let z : keys' ≡ k ∷ keys'' = a in
@@ -242,30 +243,25 @@ deriving_step rs0 rs rs' memo0 memo memo' r next next' keys keys' keys'' None v 
 product_falls : (a b k x y : ℕ) → a < b → x < k → a * k + x < b * k + y
 product_falls a b k x y l m = let h : suc a * k ≤ b * k = grind (arith) in grind (arith, h)
 
-pub not_true : (b : Bool) → not b ≡ true → b ≡ false
-not_true true h = absurd (cc)
-not_true false h = refl
-
-pub not_false : (b : Bool) → not b ≡ false → b ≡ true
-not_false true h = refl
-not_false false h = absurd (cc)
-
-pub any_found : (p : ℕ → Bool) (k : ℕ) (ks : List ℕ) → list_any p ks ≡ true → list_any p (insert_key nat_cmp ks k) ≡ true
-any_found = any_inserted
-
-pub set_in : (inside memo : Memo) (i j : ℕ) (m : List (ℕ × ℕ)) → inside ≡ memo → j ≡ i → set inside j (Some m) ≡ set memo i (Some m)
+pub set_in : (inside memo : Memo) (i j : ℕ) (m : List (ℕ × ℕ)) → inside ≡ memo → j ≡ i
+    → set inside j (Some m) ≡ set memo i (Some m)
 set_in inside memo i j m e n = ap₂ (λ xs k. set xs k (Some m)) e n
 
-pub lacking_in : (memo memo' : Memo) (i : ℕ) (m : List (ℕ × ℕ)) → memo' ≡ set memo i (Some m) → i < length memo → entry_of memo i ≡ None → lacking memo' < lacking memo
+pub lacking_in : (memo memo' : Memo) (i : ℕ) (m : List (ℕ × ℕ)) → memo' ≡ set memo i (Some m) → i < length memo
+    → entry_of memo i ≡ None → lacking memo' < lacking memo
 lacking_in memo memo' i m is l e = subst (λ (x : Memo). lacking x < lacking memo) (sym is) (lacking_set memo i m l e)
 
-pub any_after : (k : ℕ) (ks ks' : List ℕ) → ks' ≡ insert_key nat_cmp ks k → list_any (λ q. nat_lt q k) ks ≡ true → list_any (λ q. nat_lt q k) ks' ≡ true
+pub any_after : (k : ℕ) (ks ks' : List ℕ) → ks' ≡ insert_key nat_cmp ks k → list_any (λ q. nat_lt q k) ks ≡ true
+    → list_any (λ q. nat_lt q k) ks' ≡ true
 any_after k ks ks' is h = ap (list_any (λ q. nat_lt q k)) is ∙ any_inserted (λ q. nat_lt q k) k ks h
 
-pub wanted_after : (memo : Memo) (n k : ℕ) (ks ks' : List ℕ) → ks' ≡ insert_key nat_cmp ks k → k < n → entry_of memo k ≡ None → All (IsWanted n memo) ks → All (IsWanted n memo) ks'
-wanted_after memo n k ks ks' is l e h = subst (All (IsWanted n memo)) (sym is) (All-insert_key nat_cmp k (IsWanted n memo) ks h (l, e))
+pub wanted_after : (memo : Memo) (n k : ℕ) (ks ks' : List ℕ) → ks' ≡ insert_key nat_cmp ks k → k < n
+    → entry_of memo k ≡ None → All (IsWanted n memo) ks → All (IsWanted n memo) ks'
+wanted_after memo n k ks ks' is l e h =
+    subst (All (IsWanted n memo)) (sym is) (All-insert_key nat_cmp k (IsWanted n memo) ks h (l, e))
 
-least_falls : (k n : ℕ) (ks : List ℕ) → list_any (λ q. nat_lt q n) (k ∷ ks) ≡ true → All (λ q. nat_cmp k q ≡ Less) ks → k < n
+least_falls : (k n : ℕ) (ks : List ℕ) → list_any (λ q. nat_lt q n) (k ∷ ks) ≡ true → All (λ q. nat_cmp k q ≡ Less) ks
+    → k < n
 least_falls k n ks h a = step (nat_lt k n) refl
   where
     later : (xs : List ℕ) → list_any (λ q. nat_lt q n) xs ≡ true → All (λ q. nat_cmp k q ≡ Less) xs → k < n
@@ -273,7 +269,8 @@ least_falls k n ks h a = step (nat_lt k n) refl
     later (x ∷ xs) e b = either (nat_lt x n) refl (λ r. later xs r (λ i d l. b (suc i) d (omega (arith, l))))
       where
         either : (u : Bool) → nat_lt x n ≡ u → (list_any (λ q. nat_lt q n) xs ≡ true → k < n) → k < n
-        either true v f = let y : k < x = less_is k x (b 0 0 (omega arith)) in let z : x < n = lt_tells x n v in omega arith
+        either true v f = let y : k < x = less_is k x (b 0 0 (omega arith)) in let z : x < n = lt_tells x n v in
+            omega arith
         either false v f = f (ap (λ t. t || list_any (λ q. nat_lt q n) xs) (sym v) ∙ e)
 
     step : (u : Bool) → nat_lt k n ≡ u → k < n
@@ -282,14 +279,19 @@ least_falls k n ks h a = step (nat_lt k n) refl
 
 -- the measure
 pub measure_falls : (memo memo' : Memo) (r next next' : ℕ) (keys' keys'' : List ℕ) (o : Option ℕ) (added : Bool) →
-    next' ≤ r → (added ≡ true → lacking memo' < lacking memo) → (added ≡ false → lacking memo' ≡ lacking memo) → (added ≡ false → list_any (λ q. nat_lt q next) keys' ≡ true) →
-    next' ≡ unwrap_or o r → IfSome o (λ k. keys' ≡ k ∷ keys'') → IfSome o (λ k. All (λ q. nat_cmp k q ≡ Less) keys'') → (0 < length keys' → IsSome o) →
+    next' ≤ r → (added ≡ true → lacking memo' < lacking memo) → (added ≡ false → lacking memo' ≡ lacking memo)
+    → (added ≡ false → list_any (λ q. nat_lt q next) keys' ≡ true) →
+    next' ≡ unwrap_or o r → IfSome o (λ k. keys' ≡ k ∷ keys'') → IfSome o (λ k. All (λ q. nat_cmp k q ≡ Less) keys'')
+    → (0 < length keys' → IsSome o) →
     lacking memo' * (r + 1) + next' < lacking memo * (r + 1) + next
-measure_falls memo memo' r next next' keys' keys'' o true l a b w n p q d = product_falls (lacking memo') (lacking memo) (r + 1) next' next (a refl) (omega (arith, l))
+measure_falls memo memo' r next next' keys' keys'' o true l a b w n p q d =
+    product_falls (lacking memo') (lacking memo) (r + 1) next' next (a refl) (omega (arith, l))
 measure_falls memo memo' r next next' keys' keys'' (Some k) false l a b w n p q d =
     let z : keys' ≡ k ∷ keys'' = p in
     let f : k < next = least_falls k next keys'' (ap (list_any (λ x. nat_lt x next)) (sym z) ∙ w refl) q in
     let e : lacking memo' * (r + 1) ≡ lacking memo * (r + 1) = ap (λ x. x * (r + 1)) (b refl) in
     omega (arith, e, f, n)
-measure_falls memo memo' r next next' [] keys'' None false l a b w n p q d = let x : list_any (λ x. nat_lt x next) [] ≡ true = w refl in absurd (cc)
-measure_falls memo memo' r next next' (k ∷ ks) keys'' None false l a b w n p q d = let x : is_some {T = ℕ} None ≡ true = d (omega arith) in absurd (cc)
+measure_falls memo memo' r next next' [] keys'' None false l a b w n p q d =
+    let x : list_any (λ x. nat_lt x next) [] ≡ true = w refl in absurd (cc)
+measure_falls memo memo' r next next' (k ∷ ks) keys'' None false l a b w n p q d = let x : is_some {T = ℕ} None ≡ true =
+    d (omega arith) in absurd (cc)

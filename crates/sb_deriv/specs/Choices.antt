@@ -1,6 +1,6 @@
--- Pieces with several regexes each, and what is made of those.
+-- Private: pieces with several regexes each, and what is made of those.
 use Rattle.std.specs.Prelude.{◌≡◌, ℕ, ◌<◌, Bool, true, false, ◌==◌, cond, List, [], ◌∷◌, ◌++◌, map, unwrap_or, length, suc, Some, None, IsSome, All}
-use Rattle.sb_class.specs.Ranges.{IsCanonical}
+use Rattle.sb_class.specs.Ranges.{Range, IsCanonical}
 use Rattle.sb_lang.specs.Regex.{Regex, none, set, cat, neg}
 use Rattle.sb_lang.specs.Constructors.{mkcat, mkalt, mkand, mknot}
 use Rattle.sb_lang.specs.Derivative.{nd}
@@ -10,6 +10,7 @@ use Rattle.sb_deriv.specs.declared.operation.Operation.TheVariants as operation
 use Rattle.sb_deriv.specs.declared.operation.Shape.{Shape}
 use Rattle.sb_deriv.specs.declared.operation.Shape.TheVariants as shape
 use Rattle.sb_deriv.specs.Pieces.{value_at}
+use Rattle.sb_deriv.specs.Targets.{ClassTarget}
 use Rattle.sb_deriv.specs.Faithful.{Memo, entry_of}
 
 -- what the operation makes of regexes: a complement or a concatenation of the first alone
@@ -105,3 +106,8 @@ IsShape rs n shape.Nowhere = (c : ℕ) → nd (regex_at rs n) c ≡ none
 IsShape rs n (shape.Set ranges) = IsCanonical ranges.items × (regex_at rs n ≡ set ranges.items)
 IsShape rs n (shape.Cat a b) = (a < n) × (b < n) × (regex_at rs n ≡ cat (regex_at rs a) (regex_at rs b))
 IsShape rs n (shape.Made op parts) = IsMade rs n op parts.items
+
+-- one more range: behind those of its target, or with the target at the end
+unfoldable pub with_range : ℕ → Range → List ClassTarget → List ClassTarget
+with_range t r [] = (r ∷ [], t) ∷ []
+with_range t r (g ∷ gs) = cond (t == g.1) ((g.0 ++ r ∷ [], g.1) ∷ gs) (g ∷ with_range t r gs)

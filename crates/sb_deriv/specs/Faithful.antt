@@ -1,6 +1,6 @@
 -- Which interval maps are derivatives of regexes by all characters at once.
 use Rattle.std.specs.Prelude.{◌≡◌, ℕ, ◌<◌, true, List, Some, None, Option, get_or, length}
-use Rattle.sb_class.specs.Ranges.{is_character}
+use Rattle.sb_word.specs.Words.{is_character}
 use Rattle.sb_lang.specs.Regex.{Regex}
 use Rattle.sb_lang.specs.Derivative.{nd}
 use Rattle.sb_regex.specs.Numbered.{regex_at, AllNumbers, Extends}

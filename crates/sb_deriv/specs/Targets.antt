@@ -1,7 +1,8 @@
 -- The targets of an interval map, with classes of characters.
-use Rattle.std.specs.Prelude.{◌≡◌, ◌≢◌, ℕ, ◌<◌, true, ◌==◌, cond, List, [], ◌∷◌, ◌++◌, map, All, Contains}
+use Rattle.std.specs.Prelude.{◌≡◌, ◌≢◌, ℕ, ◌<◌, true, ◌==◌, List, map, All, Contains}
 use Rattle.std.specs.List.{AllPairs}
-use Rattle.sb_class.specs.Ranges.{Range, in_ranges, is_character, IsLeast}
+use Rattle.sb_class.specs.Ranges.{Range, in_ranges, IsLeast}
+use Rattle.sb_word.specs.Words.{is_character}
 use Rattle.sb_deriv.specs.Pieces.{value_at}
 
 -- a class of characters by its ranges, and the number of the regex to which they lead
@@ -15,8 +16,3 @@ pub record AreTargets (pieces : List (ℕ × ℕ)) (targets : List ClassTarget) 
   pub all : (c : ℕ) → is_character c ≡ true → Contains (map (λ t. t.1) targets) (value_at pieces c)
   pub not_empty : All (λ t. (m : ℕ) × IsLeast t.0 m) targets
   pub ordered : AllPairs (λ t u. (m n : ℕ) → IsLeast t.0 m → IsLeast u.0 n → m < n) targets
-
--- one more range: behind those of its target, or with the target at the end
-unfoldable pub with_range : ℕ → Range → List ClassTarget → List ClassTarget
-with_range t r [] = (r ∷ [], t) ∷ []
-with_range t r (g ∷ gs) = cond (t == g.1) ((g.0 ++ r ∷ [], g.1) ∷ gs) (g ∷ with_range t r gs)

@@ -54,7 +54,8 @@ pub(crate) fn singles(
     pieces: &[(u32, RegexId)],
 ) -> Result<Vec<Choice>, AllocError>
     requires { AllNumbers arena.now (targets_of pieces.now) }
-    ensures { IfOk result (λ choices. choices.items ≡ map (λ p. (p.0, kept_of arena.now operation.now p.1)) pieces.now) }
+    ensures { IfOk result
+        (λ choices. choices.items ≡ map (λ p. (p.0, kept_of arena.now operation.now p.1)) pieces.now) }
 {
     let mut choices = Vec::new(alloc);
     for piece in pieces {
@@ -90,7 +91,8 @@ pub(crate) fn merge(
     requires left { covers left.now end_of_characters ≡ true }
     requires right { covers right.now end_of_characters ≡ true }
     ensures whole { IfOk result (λ choices. covers choices.items end_of_characters ≡ true) }
-    ensures values { IfOk result (λ choices. (c : ℕ) → value_from [] choices.items c ≡ value_from [] left.now c ++ value_from [] right.now c) }
+    ensures values { IfOk result (λ choices. (c : ℕ)
+        → value_from [] choices.items c ≡ value_from [] left.now c ++ value_from [] right.now c) }
 {
     let mut choices = Vec::new(alloc);
     let mut i = 0;

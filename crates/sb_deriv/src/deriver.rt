@@ -4,7 +4,8 @@ ghost use Rattle.std.specs.Prelude.{◌≡◌, ◌<◌, ◌≤◌, ℕ, true, fa
 ghost use Rattle.std.specs.List.{list_any};
 ghost use Rattle.sb_lang.specs.Regex.{none, set, cat};
 ghost use Rattle.sb_lang.specs.Derivative.{nd};
-ghost use Rattle.sb_class.specs.Ranges.{is_character, IsCanonical};
+ghost use Rattle.sb_word.specs.Words.{is_character};
+ghost use Rattle.sb_class.specs.Ranges.{IsCanonical};
 ghost use Rattle.sb_lang.specs.Constructors.{mkalt, mkcat};
 ghost use Rattle.sb_regex.specs.Numbered.{regex_at, regexes_at, AllNumbers, Extends};
 ghost use Rattle.sb_deriv.specs.Pieces.{covers, value_from, end_of_characters};
@@ -102,7 +103,8 @@ impl Deriver {
         ensures added { IfOk result (λ added. added ≡ true → lacking self.new < lacking self.old) }
         ensures same { IfOk result (λ added. added ≡ false → lacking self.new ≡ lacking self.old) }
         ensures waits { IfOk result (λ added. added ≡ false → list_any (λ q. nat_lt q id) waiting.new.keys ≡ true) }
-        ensures wanted { OnOk result ((n : ℕ) → id < n → All (IsWanted n self.old) waiting.old.keys → All (λ q. id < q) waiting.old.keys → All (IsWanted n self.new) waiting.new.keys) }
+        ensures wanted { OnOk result ((n : ℕ) → id < n → All (IsWanted n self.old) waiting.old.keys
+            → All (λ q. id < q) waiting.old.keys → All (IsWanted n self.new) waiting.new.keys) }
     {
         match self.step(arena, id, waiting)? {
             Some(derivative) => {
@@ -132,7 +134,8 @@ impl Deriver {
         ensures found { IfOk result (λ found. IfSome found (λ d. IsDerivative arena.new (regex_at arena.old id) d)) }
         ensures idle { IfOk result (λ found. OnSome found (waiting.new.keys ≡ waiting.old.keys)) }
         ensures waits { IfOk result (λ found. IfNone found (list_any (λ q. nat_lt q id) waiting.new.keys ≡ true)) }
-        ensures added { OnOk result ((n : ℕ) → id ≤ n → All (IsWanted n self.now) waiting.old.keys → All (IsWanted n self.now) waiting.new.keys) }
+        ensures added { OnOk result ((n : ℕ) → id ≤ n → All (IsWanted n self.now) waiting.old.keys
+            → All (IsWanted n self.now) waiting.new.keys) }
         ensures extends { Extends arena.old arena.new }
     {
         match shape_of(self.allocator(), arena, id)? {
@@ -180,10 +183,14 @@ impl Deriver {
         requires left { a < length arena.old }
         requires right { b < length arena.old }
         requires faithful { IsFaithful arena.old self.now }
-        ensures found { IfOk result (λ found. IfSome found (λ d. IsDerivative arena.new (cat (regex_at arena.old a) (regex_at arena.old b)) d)) }
+        ensures found { IfOk result
+            (λ found. IfSome found
+            (λ d. IsDerivative arena.new (cat (regex_at arena.old a) (regex_at arena.old b)) d)) }
         ensures idle { IfOk result (λ found. OnSome found (waiting.new.keys ≡ waiting.old.keys)) }
-        ensures waits { IfOk result (λ found. IfNone found ((n : ℕ) → a < n → b < n → list_any (λ q. nat_lt q n) waiting.new.keys ≡ true)) }
-        ensures added { OnOk result ((n : ℕ) → a < n → b < n → All (IsWanted n self.now) waiting.old.keys → All (IsWanted n self.now) waiting.new.keys) }
+        ensures waits { IfOk result
+            (λ found. IfNone found ((n : ℕ) → a < n → b < n → list_any (λ q. nat_lt q n) waiting.new.keys ≡ true)) }
+        ensures added { OnOk result ((n : ℕ) → a < n → b < n → All (IsWanted n self.now) waiting.old.keys
+            → All (IsWanted n self.now) waiting.new.keys) }
         ensures extends { Extends arena.old arena.new }
     {
         if !arena.nullable(a) {
@@ -210,7 +217,9 @@ impl Deriver {
         requires entries { HaveEntries self.now (a ∷ b ∷ []) }
         ensures whole { IfOk result (λ choices. covers choices.items end_of_characters ≡ true) }
         ensures numbers { IfOk result (λ choices. (c : ℕ) → AllNumbers arena.new (value_from [] choices.items c)) }
-        ensures values { IfOk result (λ choices. (c : ℕ) → is_character c ≡ true → mkalt (regexes_at arena.new (value_from [] choices.items c)) ≡ mkalt (mkcat (nd (regex_at arena.old a) c) (regex_at arena.old b) ∷ nd (regex_at arena.old b) c ∷ [])) }
+        ensures values { IfOk result (λ choices. (c : ℕ) → is_character c ≡ true
+            → mkalt (regexes_at arena.new (value_from [] choices.items c))
+            ≡ mkalt (mkcat (nd (regex_at arena.old a) c) (regex_at arena.old b) ∷ nd (regex_at arena.old b) c ∷ [])) }
         ensures extends { Extends arena.old arena.new }
     {
         let alloc = self.allocator();
@@ -233,10 +242,15 @@ impl Deriver {
         requires numbers { AllNumbers arena.old parts.now }
         requires operand { OperandIsKnown arena.old operation }
         requires faithful { IsFaithful arena.old self.now }
-        ensures found { IfOk result (λ found. IfSome found (λ d. IsMapOf arena.new (λ c. made arena.old operation (nd_each (regexes_at arena.old parts.now) c)) d)) }
+        ensures found { IfOk result
+            (λ found. IfSome found
+            (λ d. IsMapOf arena.new (λ c. made arena.old operation (nd_each (regexes_at arena.old parts.now) c)) d)) }
         ensures idle { IfOk result (λ found. OnSome found (waiting.new.keys ≡ waiting.old.keys)) }
-        ensures waits { IfOk result (λ found. IfNone found ((n : ℕ) → All (λ i. i < n) parts.now → list_any (λ q. nat_lt q n) waiting.new.keys ≡ true)) }
-        ensures added { OnOk result ((n : ℕ) → All (λ i. i < n) parts.now → All (IsWanted n self.now) waiting.old.keys → All (IsWanted n self.now) waiting.new.keys) }
+        ensures waits { IfOk result
+            (λ found. IfNone found ((n : ℕ) → All (λ i. i < n) parts.now
+            → list_any (λ q. nat_lt q n) waiting.new.keys ≡ true)) }
+        ensures added { OnOk result ((n : ℕ) → All (λ i. i < n) parts.now → All (IsWanted n self.now) waiting.old.keys
+            → All (IsWanted n self.now) waiting.new.keys) }
         ensures extends { Extends arena.old arena.new }
     {
         if self.want(parts, waiting)? {
@@ -251,8 +265,10 @@ impl Deriver {
     fn want(&self, parts: &[RegexId], waiting: &mut BTreeSet<RegexId>) -> Result<bool, AllocError>
         ensures none { IfOk result (λ some. some ≡ false → HaveEntries self.now parts.now) }
         ensures idle { IfOk result (λ some. some ≡ false → waiting.new.keys ≡ waiting.old.keys) }
-        ensures waits { IfOk result (λ some. some ≡ true → (n : ℕ) → All (λ i. i < n) parts.now → list_any (λ q. nat_lt q n) waiting.new.keys ≡ true) }
-        ensures added { OnOk result ((n : ℕ) → All (λ i. i < n) parts.now → All (IsWanted n self.now) waiting.old.keys → All (IsWanted n self.now) waiting.new.keys) }
+        ensures waits { IfOk result (λ some. some ≡ true → (n : ℕ) → All (λ i. i < n) parts.now
+            → list_any (λ q. nat_lt q n) waiting.new.keys ≡ true) }
+        ensures added { OnOk result ((n : ℕ) → All (λ i. i < n) parts.now → All (IsWanted n self.now) waiting.old.keys
+            → All (IsWanted n self.now) waiting.new.keys) }
     {
         let mut some = false;
         for part in parts {
@@ -274,7 +290,8 @@ impl Deriver {
         requires entries { HaveEntries self.now parts.now }
         requires faithful { IsFaithful arena.now self.now }
         ensures whole { IfOk result (λ choices. covers choices.items end_of_characters ≡ true) }
-        ensures values { IfOk result (λ choices. (c : ℕ) → value_from [] choices.items c ≡ kept arena.now operation.now (targets_at self.now parts.now c)) }
+        ensures values { IfOk result (λ choices. (c : ℕ)
+            → value_from [] choices.items c ≡ kept arena.now operation.now (targets_at self.now parts.now c)) }
     {
         match parts {
             [] => {

@@ -15,8 +15,6 @@ mod deriver;
 mod operation;
 mod pieces;
 mod targets;
-#[cfg(test)]
-mod tests;
 
 pub use derivative::Derivative;
 pub use deriver::Deriver;

@@ -59,8 +59,10 @@ pub(crate) fn push(
     requires merged { are_merged pieces.old.items ≡ true }
     ensures whole { OnOk result ((end : ℕ) → first < end → covers pieces.new.items end ≡ true) }
     ensures merged { OnOk result (are_merged pieces.new.items ≡ true) }
-    ensures value { OnOk result ((c : ℕ) → value_at pieces.new.items c ≡ cond (nat_le first c) target (value_at pieces.old.items c)) }
-    ensures targets { OnOk result ((n : ℕ) → target < n → All (λ i. i < n) (targets_of pieces.old.items) → All (λ i. i < n) (targets_of pieces.new.items)) }
+    ensures value { OnOk result ((c : ℕ)
+        → value_at pieces.new.items c ≡ cond (nat_le first c) target (value_at pieces.old.items c)) }
+    ensures targets { OnOk result ((n : ℕ) → target < n → All (λ i. i < n) (targets_of pieces.old.items)
+        → All (λ i. i < n) (targets_of pieces.new.items)) }
 {
     if ends_with(pieces, target) {
         return Ok(());
@@ -81,8 +83,10 @@ fn fill(
     requires merged { are_merged pieces.old.items ≡ true }
     ensures whole { OnOk result (covers pieces.new.items end ≡ true) }
     ensures merged { OnOk result (are_merged pieces.new.items ≡ true) }
-    ensures value { OnOk result ((c : ℕ) → c < end → value_at pieces.new.items c ≡ cond (nat_le first c) target (value_at pieces.old.items c)) }
-    ensures targets { OnOk result ((n : ℕ) → target < n → All (λ i. i < n) (targets_of pieces.old.items) → All (λ i. i < n) (targets_of pieces.new.items)) }
+    ensures value { OnOk result ((c : ℕ) → c < end
+        → value_at pieces.new.items c ≡ cond (nat_le first c) target (value_at pieces.old.items c)) }
+    ensures targets { OnOk result ((n : ℕ) → target < n → All (λ i. i < n) (targets_of pieces.old.items)
+        → All (λ i. i < n) (targets_of pieces.new.items)) }
 {
     if first < end {
         return push(pieces, first, target);
@@ -99,8 +103,10 @@ pub(crate) fn of_ranges(
 ) -> Result<Vec<(u32, RegexId)>, AllocError>
     requires { IsCanonical ranges.now }
     ensures map { IfOk result (λ pieces. IsIntervalMap pieces.items) }
-    ensures value { IfOk result (λ pieces. (c : ℕ) → c < end_of_characters → value_at pieces.items c ≡ cond (in_ranges ranges.now c) within outside) }
-    ensures targets { IfOk result (λ pieces. (n : ℕ) → within < n → outside < n → All (λ i. i < n) (targets_of pieces.items)) }
+    ensures value { IfOk result (λ pieces. (c : ℕ) → c < end_of_characters
+        → value_at pieces.items c ≡ cond (in_ranges ranges.now c) within outside) }
+    ensures targets { IfOk result (λ pieces. (n : ℕ) → within < n → outside < n
+        → All (λ i. i < n) (targets_of pieces.items)) }
 {
     let mut pieces = Vec::new(alloc);
     let mut end = 0;
@@ -123,7 +129,9 @@ pub(crate) fn make_each(
     requires whole { covers choices.now end_of_characters ≡ true }
     requires members { (c : ℕ) → AllNumbers arena.old (value_from [] choices.now c) }
     requires operand { OperandIsKnown arena.old operation.now }
-    ensures map { IfOk result (λ pieces. IsMapOf arena.new (λ c. made arena.old operation.now (regexes_at arena.old (value_from [] choices.now c))) pieces.items) }
+    ensures map { IfOk result
+        (λ pieces. IsMapOf arena.new
+        (λ c. made arena.old operation.now (regexes_at arena.old (value_from [] choices.now c))) pieces.items) }
     ensures extends { Extends arena.old arena.new }
 {
     let mut pieces = Vec::new(alloc);

@@ -4,8 +4,8 @@ ghost use Rattle.std.specs.Prelude.{◌≡◌, ◌≢◌, ◌<◌, ◌+◌, ◌-
 ghost use Rattle.std.specs.List.{All, AllPairs};
 ghost use Rattle.sb_class.specs.Ranges.{IsCanonical};
 ghost use Rattle.sb_deriv.specs.Pieces.{IsIntervalMap, end_of_characters};
-ghost use Rattle.sb_deriv.specs.Choices.{first_of};
-ghost use Rattle.sb_deriv.specs.Targets.{AreTargets, with_range};
+ghost use Rattle.sb_deriv.specs.Choices.{first_of, with_range};
+ghost use Rattle.sb_deriv.specs.Targets.{AreTargets};
 
 use indexmap::IndexSet;
 use sb_class::{Class, LAST_CHARACTER};

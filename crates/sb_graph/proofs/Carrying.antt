@@ -3,7 +3,7 @@ use Rattle.std.proofs.Common.{ℕ, ◌<◌, Bool, List, length, sym, ap, subst, 
 use Rattle.sb_lang.specs.Regex.{Regex}
 use Rattle.sb_lang.specs.Derivative.{nullable, nd, nd_along}
 use Rattle.sb_regex.specs.Numbered.{Names, Extends}
-use Rattle.sb_graph.proofs.Numbers.{at_kept, names_kept, names_below, number_kept}
+use Rattle.sb_regex.proofs.CallerLemmas.{at_kept, names_kept, names_below, number_kept}
 use Rattle.sb_graph.specs.Findings.{AreBarren}
 use Rattle.sb_graph.specs.Queue.{Entry, regex_of, word_at}
 use Rattle.sb_graph.specs.Search.{AreReached, IsDone, IsSearched}
@@ -25,20 +25,24 @@ module _ (old new : List Regex) (more : Extends old new) where
             };
       }
 
-  pub reached_carried : (root : ℕ) (es : List Entry) (ws : List (List ℕ)) → AreReached old root es ws → AreReached new root es ws
+  pub reached_carried : (root : ℕ) (es : List Entry) (ws : List (List ℕ)) → AreReached old root es ws
+      → AreReached new root es ws
   reached_carried root es ws r =
-      let known : root < length old = subst (λ n. n < length old) r.first (names_below old (regex_of es 0) _ (r.along 0 r.some)) in
+      let known : root < length old =
+      subst (λ n. n < length old) r.first (names_below old (regex_of es 0) _ (r.along 0 r.some)) in
       record {
         back = r.back;
         words_are = r.words_are;
         some = r.some;
         first = r.first;
         along = λ k l.
-            subst (λ q. Names new (regex_of es k) (nd_along q (word_at ws k))) (sym (at_kept old new root more known)) (names_kept old new (regex_of es k) _ more (r.along k l));
+            subst (λ q. Names new (regex_of es k) (nd_along q (word_at ws k))) (sym (at_kept old new root more known))
+            (names_kept old new (regex_of es k) _ more (r.along k l));
         ascending = r.ascending;
       }
 
-  done_carried : (dead : List Bool) (es : List Entry) (ws : List (List ℕ)) (k : ℕ) → regex_of es k < length old → IsDone old dead es ws k → IsDone new dead es ws k
+  done_carried : (dead : List Bool) (es : List Entry) (ws : List (List ℕ)) (k : ℕ) → regex_of es k < length old
+      → IsDone old dead es ws k → IsDone new dead es ws k
   done_carried dead es ws k l d =
       let e = at_kept old new (regex_of es k) more l in
       record {
@@ -52,10 +56,12 @@ module _ (old new : List Regex) (more : Extends old new) where
             };
       }
 
-  pub searched_carried : (root : ℕ) (dead : List Bool) (es : List Entry) (place : ℕ) → IsSearched old root dead es place → IsSearched new root dead es place
+  pub searched_carried : (root : ℕ) (dead : List Bool) (es : List Entry) (place : ℕ) → IsSearched old root dead es place
+      → IsSearched new root dead es place
   searched_carried root dead es place s = record {
     words = s.words;
     reached = reached_carried root es s.words s.reached;
-    below = λ k h l. done_carried dead es s.words k (names_below old (regex_of es k) _ (s.reached.along k l)) (s.below k h l);
+    below = λ k h l. done_carried dead es s.words k (names_below old (regex_of es k) _ (s.reached.along k l))
+        (s.below k h l);
     near = s.near;
   }

@@ -9,7 +9,7 @@ use Rattle.sb_lang.specs.Derivative.{nullable, nd, nd_along}
 use Rattle.sb_lang.specs.Language.{language}
 use Rattle.sb_lang.specs.DerivativeLaws.{NullableHasEmptyWord, DerivativeAlongHasRests}
 use Rattle.sb_regex.specs.Numbered.{regex_at, Names}
-use Rattle.sb_graph.proofs.Numbers.{names_at, names_below, names_from}
+use Rattle.sb_regex.proofs.CallerLemmas.{names_at, names_below, names_from}
 use Rattle.sb_graph.specs.Findings.{is_marked, IsBarren, AreBarren}
 use Rattle.sb_graph.specs.Queue.{Entry, regex_of, has_regex, word_at, AreWords}
 use Rattle.sb_lang.specs.Least.{IsShortestLeast, HasNoWord}
@@ -20,10 +20,12 @@ use Rattle.sb_graph.proofs.Growing.{covered_later}
 -- Regexes with marks have no word.
 
 -- the regex that a number names
-named_nullable : (rs : List Regex) (n : ℕ) (q : Regex) → Names rs n q → nullable (regex_at rs n) ≡ false → nullable q ≡ false
+named_nullable : (rs : List Regex) (n : ℕ) (q : Regex) → Names rs n q → nullable (regex_at rs n) ≡ false
+    → nullable q ≡ false
 named_nullable rs n q names e = ap nullable (sym (names_at rs n q names)) ∙ e
 
-barren_along : (rs : List Regex) (dead : List Bool) → AreBarren rs dead → (v : List ℕ) (n : ℕ) (q : Regex) → Names rs n q → is_marked dead n ≡ true → IsWord v → nullable (nd_along q v) ≡ false
+barren_along : (rs : List Regex) (dead : List Bool) → AreBarren rs dead → (v : List ℕ) (n : ℕ) (q : Regex)
+    → Names rs n q → is_marked dead n ≡ true → IsWord v → nullable (nd_along q v) ≡ false
 unfolding nd_along
 barren_along rs dead barren [] n q names m is = named_nullable rs n q names (barren n m).empty_word
 barren_along rs dead barren (c ∷ v) n q names m is =
@@ -33,18 +35,23 @@ barren_along rs dead barren (c ∷ v) n q names m is =
     barren_along rs dead barren v k.number (nd q c) names' k.marked p.1
 
 -- a word is in the language where the derivative along it has the empty word
-member_along : NullableHasEmptyWord → DerivativeAlongHasRests → (q : Regex) (v : List ℕ) → nullable (nd_along q v) ≡ language q v
+member_along : NullableHasEmptyWord → DerivativeAlongHasRests → (q : Regex) (v : List ℕ)
+    → nullable (nd_along q v) ≡ language q v
 member_along empty along q v = empty (nd_along q v) ∙ along q v [] ∙ ap (language q) (append-nil v)
 
-pub marked_has_no_word : NullableHasEmptyWord → DerivativeAlongHasRests → (rs : List Regex) (dead : List Bool) (n : ℕ) → AreBarren rs dead → is_marked dead n ≡ true → HasNoWord (language (regex_at rs n))
+pub marked_has_no_word : NullableHasEmptyWord → DerivativeAlongHasRests → (rs : List Regex) (dead : List Bool) (n : ℕ)
+    → AreBarren rs dead → is_marked dead n ≡ true → HasNoWord (language (regex_at rs n))
 marked_has_no_word empty along rs dead n barren m v is =
     sym (member_along empty along (regex_at rs n) v)
     ∙ barren_along rs dead barren v n (regex_at rs n) (names_from rs n _ (barren n m).known refl) m is
 
 -- Words that come before those of the places that are not done.
-module _ (rs : List Regex) (root : ℕ) (dead : List Bool) (es : List Entry) (place : ℕ) (barren : AreBarren rs dead) (s : IsSearched rs root dead es place) where
+module _ (rs : List Regex) (root : ℕ) (dead : List Bool) (es : List Entry) (place : ℕ) (barren : AreBarren rs dead)
+    (s : IsSearched rs root dead es place) where
   -- the derivative by a character is covered too
-  covered_next : (q : Regex) (b c : ℕ) → is_character c ≡ true → ((j : ℕ) → j < length es → rank_at s.words j ≤ b → j < place) → IsCovered rs dead es s.words q b → IsCovered rs dead es s.words (nd q c) (b * 0x30000 + c)
+  covered_next : (q : Regex) (b c : ℕ) → is_character c ≡ true
+      → ((j : ℕ) → j < length es → rank_at s.words j ≤ b → j < place) → IsCovered rs dead es s.words q b
+      → IsCovered rs dead es s.words (nd q c) (b * 0x30000 + c)
   covered_next q b c h below v = by v.met
     where
       by : IsMetBy dead es s.words v.number b → IsCovered rs dead es s.words (nd q c) (b * 0x30000 + c)
@@ -59,9 +66,11 @@ module _ (rs : List Regex) (root : ℕ) (dead : List Bool) (es : List Entry) (pl
           let d = s.below m.place (below m.place m.within m.soon) m.within in
           let e : regex_at rs (regex_of es m.place) ≡ q = ap (regex_at rs) m.is ∙ names_at rs v.number q v.names in
           subst (λ r. IsCovered rs dead es s.words (nd r c) (b * 0x30000 + c)) e
-          (covered_later rs dead es s.words _ (rank_at s.words m.place * 0x30000 + c) (b * 0x30000 + c) (omega (arith, m.soon)) (d.covered c h))
+          (covered_later rs dead es s.words _ (rank_at s.words m.place * 0x30000 + c) (b * 0x30000 + c)
+          (omega (arith, m.soon)) (d.covered c h))
 
-  covered_empty : (q : Regex) (b : ℕ) → ((j : ℕ) → j < length es → rank_at s.words j ≤ b → j < place) → IsCovered rs dead es s.words q b → nullable q ≡ false
+  covered_empty : (q : Regex) (b : ℕ) → ((j : ℕ) → j < length es → rank_at s.words j ≤ b → j < place)
+      → IsCovered rs dead es s.words q b → nullable q ≡ false
   covered_empty q b below v = by v.met
     where
       by : IsMetBy dead es s.words v.number b → nullable q ≡ false
@@ -70,7 +79,9 @@ module _ (rs : List Regex) (root : ℕ) (dead : List Bool) (es : List Entry) (pl
           let d = s.below m.place (below m.place m.within m.soon) m.within in
           named_nullable rs v.number q v.names (ap (λ n. nullable (regex_at rs n)) (sym m.is) ∙ d.empty_word)
 
-  rejected : (v : List ℕ) (q : Regex) (b : ℕ) → IsWord v → ((j : ℕ) → j < length es → rank_at s.words j ≤ rank_from b v → j < place) → IsCovered rs dead es s.words q b → nullable (nd_along q v) ≡ false
+  rejected : (v : List ℕ) (q : Regex) (b : ℕ) → IsWord v
+      → ((j : ℕ) → j < length es → rank_at s.words j ≤ rank_from b v → j < place) → IsCovered rs dead es s.words q b
+      → nullable (nd_along q v) ≡ false
   unfolding nd_along rank_from
   rejected [] q b is below k = covered_empty q b below k
   rejected (c ∷ v) q b is below k =
@@ -83,7 +94,8 @@ module _ (rs : List Regex) (root : ℕ) (dead : List Bool) (es : List Entry) (pl
   unfolding nd_along rank_from
   root_covered = record {
     number = regex_of es 0;
-    names = subst (λ w. Names rs (regex_of es 0) (nd_along (regex_at rs root) w)) s.reached.words_are.first (s.reached.along 0 s.reached.some);
+    names = subst (λ w. Names rs (regex_of es 0) (nd_along (regex_at rs root) w)) s.reached.words_are.first
+        (s.reached.along 0 s.reached.some);
     met = inr (record {
       place = 0;
       within = s.reached.some;
@@ -106,7 +118,8 @@ module _ (rs : List Regex) (root : ℕ) (dead : List Bool) (es : List Entry) (pl
               omega (arith, l, s.reached.ascending place j m h)
 
 -- the word of a place with the empty word is the least
-module _ (empty : NullableHasEmptyWord) (along : DerivativeAlongHasRests) (rs : List Regex) (root : ℕ) (dead : List Bool) (es : List Entry) (place : ℕ)
+module _ (empty : NullableHasEmptyWord) (along : DerivativeAlongHasRests) (rs : List Regex) (root : ℕ)
+    (dead : List Bool) (es : List Entry) (place : ℕ)
     (barren : AreBarren rs dead) (f : IsFound rs root dead es place) where
   abbrev words : List (List ℕ)
   words = f.searched.words
@@ -123,7 +136,8 @@ module _ (empty : NullableHasEmptyWord) (along : DerivativeAlongHasRests) (rs : 
       (root_covered rs root dead es place barren f.searched) in
       false≢true (sym r ∙ member_along empty along (regex_at rs root) v ∙ h)
 
-  pub found_is : (w : List ℕ) → IsWord w → ((ws : List (List ℕ)) → AreWords es ws → w ≡ word_at ws place) → IsShortestLeast (language (regex_at rs root)) w
+  pub found_is : (w : List ℕ) → IsWord w → ((ws : List (List ℕ)) → AreWords es ws → w ≡ word_at ws place)
+      → IsShortestLeast (language (regex_at rs root)) w
   found_is w is e =
       let k = sym (e words f.searched.reached.words_are) in
       subst (IsShortestLeast (language (regex_at rs root))) k (record {
@@ -137,7 +151,8 @@ module _ (empty : NullableHasEmptyWord) (along : DerivativeAlongHasRests) (rs : 
       shorter v h m = by (ltb (length v) (length (word_at words place))) refl
         where
           by : (t : Bool) → ltb (length v) (length (word_at words place)) ≡ t → length (word_at words place) ≤ length v
-          by true t = absurd (found_least v h m (rank_short 1 1 v (word_at words place) (omega arith) (grind (arith, nat_tests, t)) h))
+          by true t = absurd (found_least v h m
+              (rank_short 1 1 v (word_at words place) (omega arith) (grind (arith, nat_tests, t)) h))
           by false t = grind (arith, nat_tests, t)
 
 -- A search that came to the end: with the marks on its queue all marks are right.
@@ -146,7 +161,8 @@ has_place : (es : List Entry) (n : ℕ) → has_regex es n ≡ true → (k : ℕ
 has_place [] n h = absurd (false≢true h)
 has_place (e ∷ es) n h = by (nat_eq n e.0) refl (λ g. has_place es n g)
   where
-    by : (b : Bool) → nat_eq n e.0 ≡ b → (has_regex es n ≡ true → (k : ℕ) × (k < length es) × (regex_of es k ≡ n)) → (k : ℕ) × (k < length (e ∷ es)) × (regex_of (e ∷ es) k ≡ n)
+    by : (b : Bool) → nat_eq n e.0 ≡ b → (has_regex es n ≡ true → (k : ℕ) × (k < length es) × (regex_of es k ≡ n))
+        → (k : ℕ) × (k < length (e ∷ es)) × (regex_of (e ∷ es) k ≡ n)
     by true t rest = (0, (omega arith), (grind (arith, nat_tests, t)))
     by false t rest =
         let f = rest (sym (ap (λ b. b || has_regex es n) t) ∙ h) in
@@ -154,14 +170,16 @@ has_place (e ∷ es) n h = by (nat_eq n e.0) refl (λ g. has_place es n g)
 
 place_has : (es : List Entry) (k : ℕ) → k < length es → has_regex es (regex_of es k) ≡ true
 place_has [] k h = absurd (omega arith)
-place_has (e ∷ es) zero h = let t : nat_eq e.0 e.0 ≡ true = grind (arith, nat_tests) in ap (λ b. b || has_regex es e.0) t
+place_has (e ∷ es) zero h = let t : nat_eq e.0 e.0 ≡ true = grind (arith, nat_tests) in
+    ap (λ b. b || has_regex es e.0) t
 place_has (e ∷ es) (suc k) h = or_true (nat_eq (regex_of es k) e.0) (place_has es k (omega (arith, h)))
   where
     or_true : (b : Bool) {c : Bool} → c ≡ true → (b || c) ≡ true
     or_true true h = refl
     or_true false h = h
 
-module _ (rs : List Regex) (root : ℕ) (dead new : List Bool) (es : List Entry) (barren : AreBarren rs dead) (s : IsSearched rs root dead es (length es)) (marked : AreMarked dead es new) where
+module _ (rs : List Regex) (root : ℕ) (dead new : List Bool) (es : List Entry) (barren : AreBarren rs dead)
+    (s : IsSearched rs root dead es (length es)) (marked : AreMarked dead es new) where
   mark_kept : (n : ℕ) → is_marked dead n ≡ true → is_marked new n ≡ true
   mark_kept n m = marked n ∙ ap (λ b. b || has_regex es n) m
 
@@ -188,7 +206,8 @@ module _ (rs : List Regex) (root : ℕ) (dead new : List Bool) (es : List Entry)
       record {
         known = names_below rs (regex_of es k) _ (s.reached.along k h);
         empty_word = d.empty_word;
-        closed = λ c l. let v = d.covered c l in record { number = v.number; names = v.names; marked = met_marked v.number _ v.met };
+        closed = λ c l. let v = d.covered c l in
+            record { number = v.number; names = v.names; marked = met_marked v.number _ v.met };
       }
 
   barren_old : (n : ℕ) → is_marked dead n ≡ true → IsBarren rs new n
@@ -197,7 +216,8 @@ module _ (rs : List Regex) (root : ℕ) (dead new : List Bool) (es : List Entry)
       record {
         known = b.known;
         empty_word = b.empty_word;
-        closed = λ c l. let k = b.closed c l in record { number = k.number; names = k.names; marked = mark_kept k.number k.marked };
+        closed = λ c l. let k = b.closed c l in
+            record { number = k.number; names = k.names; marked = mark_kept k.number k.marked };
       }
 
   pub end_barren : AreBarren rs new

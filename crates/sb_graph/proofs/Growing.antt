@@ -15,7 +15,8 @@ pub record IsGrown (es : List Entry) (ws : List (List ℕ)) (es' : List Entry) (
 pub grown_same : (es : List Entry) (ws : List (List ℕ)) → IsGrown es ws es ws
 grown_same es ws = record { long = omega arith; entries = λ k h. refl; words = λ k h. refl }
 
-pub grown_more : (es : List Entry) (ws : List (List ℕ)) (es' : List Entry) (ws' : List (List ℕ)) (es'' : List Entry) (ws'' : List (List ℕ)) →
+pub grown_more : (es : List Entry) (ws : List (List ℕ)) (es' : List Entry) (ws' : List (List ℕ)) (es'' : List Entry)
+    (ws'' : List (List ℕ)) →
     IsGrown es ws es' ws' → IsGrown es' ws' es'' ws'' → IsGrown es ws es'' ws''
 grown_more es ws es' ws' es'' ws'' g h = record {
   long = omega (arith, g.long, h.long);
@@ -23,19 +24,22 @@ grown_more es ws es' ws' es'' ws'' g h = record {
   words = λ k l. h.words k (omega (arith, g.long, l)) ∙ g.words k l;
 }
 
-pub grown_push : (es : List Entry) (ws : List (List ℕ)) (e : Entry) (w : List ℕ) → length ws ≡ length es → IsGrown es ws (es ++ e ∷ []) (ws ++ w ∷ [])
+pub grown_push : (es : List Entry) (ws : List (List ℕ)) (e : Entry) (w : List ℕ) → length ws ≡ length es
+    → IsGrown es ws (es ++ e ∷ []) (ws ++ w ∷ [])
 grown_push es ws e w l = record {
   long = omega (arith, length_push es e);
   entries = λ k h. get_or_append_left es (e ∷ []) (0, (0, 0)) k h;
   words = λ k h. get_or_append_left ws (w ∷ []) [] k (omega (arith, h, l));
 }
 
-pub met_later : (dead : List Bool) (es : List Entry) (ws : List (List ℕ)) (n most later : ℕ) → most ≤ later → IsMetBy dead es ws n most → IsMetBy dead es ws n later
+pub met_later : (dead : List Bool) (es : List Entry) (ws : List (List ℕ)) (n most later : ℕ) → most ≤ later
+    → IsMetBy dead es ws n most → IsMetBy dead es ws n later
 met_later dead es ws n most later h (inl m) = inl m
 met_later dead es ws n most later h (inr s) =
     inr (record { place = s.place; within = s.within; is = s.is; soon = omega (arith, h, s.soon) })
 
-pub met_grown : (dead : List Bool) (es : List Entry) (ws : List (List ℕ)) (es' : List Entry) (ws' : List (List ℕ)) (n most : ℕ) →
+pub met_grown : (dead : List Bool) (es : List Entry) (ws : List (List ℕ)) (es' : List Entry) (ws' : List (List ℕ))
+    (n most : ℕ) →
     IsGrown es ws es' ws' → IsMetBy dead es ws n most → IsMetBy dead es' ws' n most
 met_grown dead es ws es' ws' n most g (inl m) = inl m
 met_grown dead es ws es' ws' n most g (inr s) = inr (record {
@@ -45,14 +49,19 @@ met_grown dead es ws es' ws' n most g (inr s) = inr (record {
   soon = subst (λ w. rank w ≤ most) (sym (g.words s.place s.within)) s.soon;
 })
 
-pub covered_later : (rs : List Regex) (dead : List Bool) (es : List Entry) (ws : List (List ℕ)) (r : Regex) (most later : ℕ) → most ≤ later → IsCovered rs dead es ws r most → IsCovered rs dead es ws r later
-covered_later rs dead es ws r most later h c = record { number = c.number; names = c.names; met = met_later dead es ws c.number most later h c.met }
+pub covered_later : (rs : List Regex) (dead : List Bool) (es : List Entry) (ws : List (List ℕ)) (r : Regex)
+    (most later : ℕ) → most ≤ later → IsCovered rs dead es ws r most → IsCovered rs dead es ws r later
+covered_later rs dead es ws r most later h c =
+    record { number = c.number; names = c.names; met = met_later dead es ws c.number most later h c.met }
 
-covered_grown : (rs : List Regex) (dead : List Bool) (es : List Entry) (ws : List (List ℕ)) (es' : List Entry) (ws' : List (List ℕ)) (r : Regex) (most : ℕ) →
+covered_grown : (rs : List Regex) (dead : List Bool) (es : List Entry) (ws : List (List ℕ)) (es' : List Entry)
+    (ws' : List (List ℕ)) (r : Regex) (most : ℕ) →
     IsGrown es ws es' ws' → IsCovered rs dead es ws r most → IsCovered rs dead es' ws' r most
-covered_grown rs dead es ws es' ws' r most g c = record { number = c.number; names = c.names; met = met_grown dead es ws es' ws' c.number most g c.met }
+covered_grown rs dead es ws es' ws' r most g c =
+    record { number = c.number; names = c.names; met = met_grown dead es ws es' ws' c.number most g c.met }
 
-pub done_grown : (rs : List Regex) (dead : List Bool) (es : List Entry) (ws : List (List ℕ)) (es' : List Entry) (ws' : List (List ℕ)) (k : ℕ) →
+pub done_grown : (rs : List Regex) (dead : List Bool) (es : List Entry) (ws : List (List ℕ)) (es' : List Entry)
+    (ws' : List (List ℕ)) (k : ℕ) →
     IsGrown es ws es' ws' → k < length es → IsDone rs dead es ws k → IsDone rs dead es' ws' k
 done_grown rs dead es ws es' ws' k g l d =
     let e = sym (ap (λ e. e.0) (g.entries k l)) in

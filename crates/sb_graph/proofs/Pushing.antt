@@ -5,7 +5,7 @@ use Rattle.std.proofs.lemmas.List.{get_or_push, length_push}
 use Rattle.sb_lang.specs.Regex.{Regex}
 use Rattle.sb_lang.specs.Derivative.{nd, nd_along}
 use Rattle.sb_regex.specs.Numbered.{regex_at, Names}
-use Rattle.sb_graph.proofs.Numbers.{names_at}
+use Rattle.sb_regex.proofs.CallerLemmas.{names_at}
 use Rattle.sb_graph.specs.Queue.{Entry, entry_at, regex_of, word_at, GoesBack, AreWords}
 use Rattle.sb_graph.specs.Search.{rank, rank_at, AreReached}
 use Rattle.sb_graph.proofs.Ranks.{rank_from-push}
@@ -24,13 +24,16 @@ old_or_last es e k h = by (ltb k (length es)) refl
     by false t = inr (let x : length es ≤ k = grind (arith, nat_tests, t) in omega (arith, h, length_push es e, x))
 
 -- what holds of each old place and of the new one
-each_place : (es : List Entry) (e : Entry) (P : ℕ → Type 0) → ((k : ℕ) → k < length es → P k) → P (length es) → (k : ℕ) → k < length (es ++ e ∷ []) → P k
+each_place : (es : List Entry) (e : Entry) (P : ℕ → Type 0) → ((k : ℕ) → k < length es → P k) → P (length es) → (k : ℕ)
+    → k < length (es ++ e ∷ []) → P k
 each_place es e P old last k h =
     elim (old_or_last es e k h) as (λ _. P k) [ inl l ↦ old k l | inr l ↦ subst P (sym l) last ]
 
 -- the regex of the new place is a derivative of one that was reached, by a word above all others
-module _ (rs : List Regex) (root : ℕ) (es : List Entry) (ws : List (List ℕ)) (i n c : ℕ) (reached : AreReached rs root es ws) (within : i < length es)
-    (names : Names rs n (nd (regex_at rs (regex_of es i)) c)) (above : (j : ℕ) → j < length es → rank_at ws j < rank_at ws i * 0x30000 + c) where
+module _ (rs : List Regex) (root : ℕ) (es : List Entry) (ws : List (List ℕ)) (i n c : ℕ)
+    (reached : AreReached rs root es ws) (within : i < length es)
+    (names : Names rs n (nd (regex_at rs (regex_of es i)) c)) (above : (j : ℕ) → j < length es
+    → rank_at ws j < rank_at ws i * 0x30000 + c) where
   abbrev entry : Entry
   entry = (n, (i, c))
 
@@ -71,11 +74,13 @@ module _ (rs : List Regex) (root : ℕ) (es : List Entry) (ws : List (List ℕ))
   words_more = record {
     long = length_push ws word ∙ ap (λ n. n + 1) long ∙ sym (length_push es entry);
     first = grown.words 0 reached.some ∙ reached.words_are.first;
-    next = λ k p h. each_place es entry (λ k. 0 < k → word_at more_words k ≡ word_at more_words (entry_at more k).1.0 ++ (entry_at more k).1.1 ∷ [])
+    next = λ k p h. each_place es entry (λ k. 0 < k
+        → word_at more_words k ≡ word_at more_words (entry_at more k).1.0 ++ (entry_at more k).1.1 ∷ [])
         (λ k l p.
         grown.words k l
         ∙ reached.words_are.next k p l
-        ∙ ap (λ w. w ++ (entry_at es k).1.1 ∷ []) (sym (grown.words (entry_at es k).1.0 (omega (arith, reached.back k p l, l))))
+        ∙ ap (λ w. w ++ (entry_at es k).1.1 ∷ [])
+        (sym (grown.words (entry_at es k).1.0 (omega (arith, reached.back k p l, l))))
         ∙ ap (λ e. word_at more_words e.1.0 ++ e.1.1 ∷ []) (sym (grown.entries k l)))
         (λ p.
         word_new
@@ -84,13 +89,17 @@ module _ (rs : List Regex) (root : ℕ) (es : List Entry) (ws : List (List ℕ))
         k h p;
   }
 
-  along_more : (k : ℕ) → k < length more → Names rs (regex_of more k) (nd_along (regex_at rs root) (word_at more_words k))
-  along_more = each_place es entry (λ k. Names rs (regex_of more k) (nd_along (regex_at rs root) (word_at more_words k)))
+  along_more : (k : ℕ) → k < length more
+      → Names rs (regex_of more k) (nd_along (regex_at rs root) (word_at more_words k))
+  along_more = each_place es entry
+      (λ k. Names rs (regex_of more k) (nd_along (regex_at rs root) (word_at more_words k)))
       (λ k l. subst (λ e. Names rs e.0 (nd_along (regex_at rs root) (word_at more_words k))) (sym (grown.entries k l))
-      (subst (λ w. Names rs (regex_of es k) (nd_along (regex_at rs root) w)) (sym (grown.words k l)) (reached.along k l)))
+      (subst (λ w. Names rs (regex_of es k) (nd_along (regex_at rs root) w)) (sym (grown.words k l))
+      (reached.along k l)))
       (subst (λ e. Names rs e.0 (nd_along (regex_at rs root) (word_at more_words (length es)))) (sym entry_new)
       (subst (λ w. Names rs n (nd_along (regex_at rs root) w)) (sym word_new)
-      (subst (λ r. Names rs n r) (ap (λ q. nd q c) (names_at rs (regex_of es i) _ (reached.along i within)) ∙ sym (nd_along-push (regex_at rs root) (word_at ws i) c)) names)))
+      (subst (λ r. Names rs n r) (ap (λ q. nd q c) (names_at rs (regex_of es i) _ (reached.along i within))
+      ∙ sym (nd_along-push (regex_at rs root) (word_at ws i) c)) names)))
 
   ascending_more : (j k : ℕ) → j < k → k < length more → rank_at more_words j < rank_at more_words k
   ascending_more j k l h = each_place es entry (λ k. j < k → rank_at more_words j < rank_at more_words k)
@@ -117,7 +126,8 @@ module _ (rs : List Regex) (root : ℕ) (es : List Entry) (ws : List (List ℕ))
   pub reached_entry : regex_of more (length es) ≡ n
   reached_entry = ap (λ e. e.0) entry_new
 
-  pub reached_each : (m : ℕ) → ((j : ℕ) → j < length es → rank_at ws j < m) → rank_at ws i * 0x30000 + c < m → (j : ℕ) → j < length more → rank_at more_words j < m
+  pub reached_each : (m : ℕ) → ((j : ℕ) → j < length es → rank_at ws j < m) → rank_at ws i * 0x30000 + c < m → (j : ℕ)
+      → j < length more → rank_at more_words j < m
   reached_each m old last = each_place es entry (λ j. rank_at more_words j < m)
       (λ k l. omega (arith, rank_old k l, old k l))
       (omega (arith, rank_new, last))

@@ -1,7 +1,6 @@
 -- Ranks put words in the order of their lengths, and of their code points where those are equal.
-use Rattle.std.proofs.Common.{◌≡◌, ℕ, ◌+◌, ◌*◌, ◌<◌, ◌≤◌, true, List, [], ◌∷◌, ◌++◌, length, refl, subst, arith}
+use Rattle.std.proofs.Common.{◌≡◌, ℕ, ◌+◌, ◌*◌, ◌<◌, ◌≤◌, List, [], ◌∷◌, ◌++◌, length, refl, subst, arith}
 use Rattle.std.proofs.lemmas.Bool.{and_parts}
-use Rattle.std.proofs.lemmas.Bool.Decides.{nat_tests}
 use Rattle.std.specs.Ordering.{nat_cmp, ordering_then, MatchOrdering}
 use Rattle.std.specs.Cmp.{ranks}
 use Rattle.std.specs.Cmp.Lexicographic.{slice_cmp}
@@ -9,6 +8,7 @@ use Rattle.std.specs.declared.cmp.Ordering.{Ordering}
 use Rattle.std.specs.declared.cmp.Ordering.TheVariants.{Less, Equal, Greater}
 use Rattle.sb_word.specs.Words.{is_character, are_characters, IsWord}
 use Rattle.sb_graph.specs.Search.{rank_from}
+use Rattle.sb_class.proofs.CallerLemmas.{character_below}
 
 pub rank_grows : (b : ℕ) (w : List ℕ) → b ≤ rank_from b w
 unfolding rank_from
@@ -20,9 +20,6 @@ unfolding rank_from
 rank_from-push b [] c = refl
 rank_from-push b (d ∷ w) c = rank_from-push (b * 0x30000 + d) w c
 
-pub character_below : (c : ℕ) → is_character c ≡ true → c < 0x30000
-character_below c h = grind (arith, nat_tests)
-
 pub rank_less : (a b : ℕ) (v w : List ℕ) → a < b → length v ≡ length w → IsWord v → rank_from a v < rank_from b w
 unfolding rank_from
 rank_less a b [] [] h l is = h
@@ -33,7 +30,8 @@ rank_less a b (c ∷ v) (d ∷ w) h l is =
     let k = character_below c p.0 in
     rank_less (a * 0x30000 + c) (b * 0x30000 + d) v w (omega (arith, h, k)) (omega (arith, l)) p.1
 
-pub rank_short : (a b : ℕ) (v w : List ℕ) → a < b * 0x30000 → length v < length w → IsWord v → rank_from a v < rank_from b w
+pub rank_short : (a b : ℕ) (v w : List ℕ) → a < b * 0x30000 → length v < length w → IsWord v
+    → rank_from a v < rank_from b w
 unfolding rank_from
 rank_short a b [] [] h l is = absurd (omega (arith, l))
 rank_short a b [] (d ∷ w) h l is = omega (arith, h, rank_grows (b * 0x30000 + d) w)
@@ -43,17 +41,22 @@ rank_short a b (c ∷ v) (d ∷ w) h l is =
     let k = character_below c p.0 in
     rank_short (a * 0x30000 + c) (b * 0x30000 + d) v w (omega (arith, h, k)) (omega (arith, l)) p.1
 
-by_first : (a c d : ℕ) (v w : List ℕ) → length v ≡ length w → IsWord v → (slice_cmp nat_cmp v w ≡ Less → rank_from (a * 0x30000 + c) v < rank_from (a * 0x30000 + c) w) →
-    (o : Ordering) → MatchOrdering o (c < d) (c ≡ d) (d < c) → ordering_then o (slice_cmp nat_cmp v w) ≡ Less → rank_from (a * 0x30000 + c) v < rank_from (a * 0x30000 + d) w
+by_first : (a c d : ℕ) (v w : List ℕ) → length v ≡ length w → IsWord v
+    → (slice_cmp nat_cmp v w ≡ Less → rank_from (a * 0x30000 + c) v < rank_from (a * 0x30000 + c) w) →
+    (o : Ordering) → MatchOrdering o (c < d) (c ≡ d) (d < c) → ordering_then o (slice_cmp nat_cmp v w) ≡ Less
+    → rank_from (a * 0x30000 + c) v < rank_from (a * 0x30000 + d) w
 by_first a c d v w l is rest Less h e = rank_less (a * 0x30000 + c) (a * 0x30000 + d) v w (omega (arith, h)) l is
-by_first a c d v w l is rest Equal h e = subst (λ x. rank_from (a * 0x30000 + c) v < rank_from (a * 0x30000 + x) w) h (rest e)
+by_first a c d v w l is rest Equal h e =
+    subst (λ x. rank_from (a * 0x30000 + c) v < rank_from (a * 0x30000 + x) w) h (rest e)
 by_first a c d v w l is rest Greater h e = cc
 
-pub rank_least : (a : ℕ) (v w : List ℕ) → length v ≡ length w → IsWord v → slice_cmp nat_cmp v w ≡ Less → rank_from a v < rank_from a w
+pub rank_least : (a : ℕ) (v w : List ℕ) → length v ≡ length w → IsWord v → slice_cmp nat_cmp v w ≡ Less
+    → rank_from a v < rank_from a w
 unfolding rank_from
 rank_least a [] [] l is h = cc
 rank_least a [] (d ∷ w) l is h = absurd (omega (arith, l))
 rank_least a (c ∷ v) [] l is h = absurd (omega (arith, l))
 rank_least a (c ∷ v) (d ∷ w) l is h =
     let p = and_parts (is_character c) (are_characters v) is in
-    by_first a c d v w (omega (arith, l)) p.1 (rank_least (a * 0x30000 + c) v w (omega (arith, l)) p.1) (nat_cmp c d) (ranks c d) h
+    by_first a c d v w (omega (arith, l)) p.1 (rank_least (a * 0x30000 + c) v w (omega (arith, l)) p.1) (nat_cmp c d)
+    (ranks c d) h

@@ -1,6 +1,7 @@
 -- The steps of the functions, over lists.
 use Rattle.std.proofs.Common.{◌≡◌, ℕ, zero, suc, ◌+◌, ◌<◌, ◌≤◌, Bool, true, false, cond, ◌||◌, nat_eq, is_some, Some, List, [], ◌∷◌, ◌++◌, length, get_or, set, take, drop, replicate, map, reverse, slice_get, refl, sym, ap, subst, ◌∙◌, arith}
-use Rattle.std.proofs.lemmas.Bool.{true≢false}
+use Rattle.std.proofs.Math.Bool.{or-false}
+use Rattle.std.proofs.lemmas.Bool.{true≢false, false_from_ne_true}
 use Rattle.std.proofs.lemmas.Bool.Decides.{nat_tests}
 use Rattle.std.proofs.lemmas.List.{at_drop_more, at_drop_all, get_or-set_same, get_or-set_other, length-set, append_assoc, reverse-append}
 use Rattle.std.proofs.lemmas.Option.{get_or_from_slice_get}
@@ -10,7 +11,7 @@ use Rattle.std.specs.Map.{lookup}
 use Rattle.sb_lang.specs.Regex.{Regex}
 use Rattle.sb_lang.specs.Derivative.{nd_along}
 use Rattle.sb_regex.specs.Numbered.{regex_at, Names}
-use Rattle.sb_graph.proofs.Numbers.{names_from}
+use Rattle.sb_regex.proofs.CallerLemmas.{names_from}
 use Rattle.sb_graph.specs.Findings.{is_marked}
 use Rattle.sb_graph.specs.Queue.{Entry, entry_at, regex_of, has_regex, with_entry, visited, with_marks, word_at, AreWords}
 use Rattle.sb_graph.specs.Search.{rank_from, rank_at, IsSearched, AreMarked}
@@ -21,25 +22,31 @@ found_or_not : (n : ℕ) (es : List Entry) → is_some (lookup (nat_eq n) es) �
 found_or_not n [] = refl
 found_or_not n (e ∷ es) = by (nat_eq n e.0) (found_or_not n es)
   where
-    by : (b : Bool) → is_some (lookup (nat_eq n) es) ≡ has_regex es n → is_some (cond b (Some e.1) (lookup (nat_eq n) es)) ≡ (b || has_regex es n)
+    by : (b : Bool) → is_some (lookup (nat_eq n) es) ≡ has_regex es n
+        → is_some (cond b (Some e.1) (lookup (nat_eq n) es)) ≡ (b || has_regex es n)
     by true h = refl
     by false h = h
 
-inserted_new : (n : ℕ) (v : ℕ × ℕ) (es : List Entry) → has_regex es n ≡ false → insert_entry nat_eq es n v ≡ es ++ (n, v) ∷ []
+inserted_new : (n : ℕ) (v : ℕ × ℕ) (es : List Entry) → has_regex es n ≡ false
+    → insert_entry nat_eq es n v ≡ es ++ (n, v) ∷ []
 inserted_new n v [] h = refl
 inserted_new n v (e ∷ es) h = by (nat_eq n e.0) h (inserted_new n v es)
   where
-    by : (b : Bool) → (b || has_regex es n) ≡ false → (has_regex es n ≡ false → insert_entry nat_eq es n v ≡ es ++ (n, v) ∷ []) →
+    by : (b : Bool) → (b || has_regex es n) ≡ false
+        → (has_regex es n ≡ false → insert_entry nat_eq es n v ≡ es ++ (n, v) ∷ []) →
         cond b ((e.0, v) ∷ es) (e ∷ insert_entry nat_eq es n v) ≡ e ∷ (es ++ (n, v) ∷ [])
     by true h rest = absurd (true≢false h)
     by false h rest = ap (λ es. e ∷ es) (rest h)
 
-pub put_new : (old es after : List Entry) (n : ℕ) (v : ℕ × ℕ) → es ≡ old → is_some (lookup (nat_eq n) es) ≡ false → after ≡ insert_entry nat_eq es n v → after ≡ with_entry old (n, v)
+pub put_new : (old es after : List Entry) (n : ℕ) (v : ℕ × ℕ) → es ≡ old → is_some (lookup (nat_eq n) es) ≡ false
+    → after ≡ insert_entry nat_eq es n v → after ≡ with_entry old (n, v)
 put_new old es after n v is h e =
     let f = sym (found_or_not n es) ∙ h in
-    e ∙ inserted_new n v es f ∙ ap (λ es. es ++ (n, v) ∷ []) is ∙ sym (ap (λ b. cond b old (old ++ (n, v) ∷ [])) (ap (λ es. has_regex es n) (sym is) ∙ f))
+    e ∙ inserted_new n v es f ∙ ap (λ es. es ++ (n, v) ∷ []) is
+    ∙ sym (ap (λ b. cond b old (old ++ (n, v) ∷ [])) (ap (λ es. has_regex es n) (sym is) ∙ f))
 
-pub put_old : (old es : List Entry) (n : ℕ) (v : ℕ × ℕ) → es ≡ old → is_some (lookup (nat_eq n) es) ≡ true → old ≡ with_entry old (n, v)
+pub put_old : (old es : List Entry) (n : ℕ) (v : ℕ × ℕ) → es ≡ old → is_some (lookup (nat_eq n) es) ≡ true
+    → old ≡ with_entry old (n, v)
 put_old old es n v is h =
     let f = sym (found_or_not n es) ∙ h in
     sym (ap (λ b. cond b old (old ++ (n, v) ∷ [])) (ap (λ es. has_regex es n) (sym is) ∙ f))
@@ -49,28 +56,34 @@ entry_is es k e h = get_or_from_slice_get es k e (0, (0, 0)) h
 
 -- One piece of a derivative.
 
-pub visit_more : (dead : List Bool) (place : ℕ) (es es' goal : List Entry) (ps : List (ℕ × ℕ)) (i : ℕ) (p : ℕ × ℕ) (m : Bool) → i < length ps → p ≡ get_or ps i p → m ≡ is_marked dead p.1 →
-    es' ≡ cond m es (with_entry es (p.1, (place, p.0))) → visited dead place es (drop i ps) ≡ goal → visited dead place es' (drop (i + 1) ps) ≡ goal
+pub visit_more : (dead : List Bool) (place : ℕ) (es es' goal : List Entry) (ps : List (ℕ × ℕ)) (i : ℕ) (p : ℕ × ℕ)
+    (m : Bool) → i < length ps → p ≡ get_or ps i p → m ≡ is_marked dead p.1 →
+    es' ≡ cond m es (with_entry es (p.1, (place, p.0))) → visited dead place es (drop i ps) ≡ goal
+    → visited dead place es' (drop (i + 1) ps) ≡ goal
 unfolding visited
 visit_more dead place es es' goal ps i p m l is t e h =
     ap (λ es. visited dead place es (drop (i + 1) ps)) (e ∙ ap (λ b. cond b es (with_entry es (p.1, (place, p.0)))) t)
-    ∙ sym (at_drop_more (visited dead place es) ps i p l ∙ ap (λ x. visited dead place es (x ∷ drop (i + 1) ps)) (sym is))
+    ∙ sym (at_drop_more (visited dead place es) ps i p l
+    ∙ ap (λ x. visited dead place es (x ∷ drop (i + 1) ps)) (sym is))
     ∙ h
 
-pub visit_all : (dead : List Bool) (place : ℕ) (es goal : List Entry) (ps : List (ℕ × ℕ)) (i : ℕ) → length ps ≤ i → visited dead place es (drop i ps) ≡ goal → es ≡ goal
+pub visit_all : (dead : List Bool) (place : ℕ) (es goal : List Entry) (ps : List (ℕ × ℕ)) (i : ℕ) → length ps ≤ i
+    → visited dead place es (drop i ps) ≡ goal → es ≡ goal
 unfolding visited
 visit_all dead place es goal ps i l h = sym (at_drop_all (visited dead place es) ps i l) ∙ h
 
 -- Marks.
 
-pub mark_more : (dead goal : List Bool) (ns : List ℕ) (i n k : ℕ) → i < length ns → n ≡ get_or ns i n → k ≡ n → with_marks dead (drop i ns) ≡ goal → with_marks (set dead k true) (drop (i + 1) ns) ≡ goal
+pub mark_more : (dead goal : List Bool) (ns : List ℕ) (i n k : ℕ) → i < length ns → n ≡ get_or ns i n → k ≡ n
+    → with_marks dead (drop i ns) ≡ goal → with_marks (set dead k true) (drop (i + 1) ns) ≡ goal
 unfolding with_marks
 mark_more dead goal ns i n k l is e h =
     ap (λ k. with_marks (set dead k true) (drop (i + 1) ns)) e
     ∙ sym (at_drop_more (with_marks dead) ns i n l ∙ ap (λ x. with_marks dead (x ∷ drop (i + 1) ns)) (sym is))
     ∙ h
 
-pub mark_all : (dead goal : List Bool) (ns : List ℕ) (i : ℕ) → length ns ≤ i → with_marks dead (drop i ns) ≡ goal → dead ≡ goal
+pub mark_all : (dead goal : List Bool) (ns : List ℕ) (i : ℕ) → length ns ≤ i → with_marks dead (drop i ns) ≡ goal
+    → dead ≡ goal
 unfolding with_marks
 mark_all dead goal ns i l h = sym (at_drop_all (with_marks dead) ns i l) ∙ h
 
@@ -79,15 +92,13 @@ not_marked zero n = refl
 not_marked (suc k) zero = refl
 not_marked (suc k) (suc n) = not_marked k n
 
-is_false : (b : Bool) → (b ≡ true → ⊥) → b ≡ false
-is_false true h = absurd (h refl)
-is_false false h = refl
-
 -- a list of marks of another length has the same marks, if those are below it
-resized : (old : List Bool) (len k n : ℕ) → (is_marked old n ≡ true → n < len) → is_marked (take len old ++ replicate k false) n ≡ is_marked old n
+resized : (old : List Bool) (len k n : ℕ) → (is_marked old n ≡ true → n < len)
+    → is_marked (take len old ++ replicate k false) n ≡ is_marked old n
 resized [] zero k n h = not_marked k n
 resized [] (suc len) k n h = not_marked k n
-resized (b ∷ old) zero k n h = not_marked k n ∙ sym (is_false (is_marked (b ∷ old) n) (λ m. let l = h m in omega (arith, l)))
+resized (b ∷ old) zero k n h =
+    not_marked k n ∙ sym (false_from_ne_true (is_marked (b ∷ old) n) (λ m. let l = h m in omega (arith, l)))
 resized (b ∷ old) (suc len) k zero h = refl
 resized (b ∷ old) (suc len) k (suc n) h = resized old len k n (λ m. let l = h m in omega (arith, l))
 
@@ -97,24 +108,24 @@ or_swap true false c = refl
 or_swap false true c = refl
 or_swap false false c = refl
 
-set_marked : (dead : List Bool) (k n : ℕ) → k < length dead → is_marked (set dead k true) n ≡ (nat_eq n k || is_marked dead n)
+set_marked : (dead : List Bool) (k n : ℕ) → k < length dead
+    → is_marked (set dead k true) n ≡ (nat_eq n k || is_marked dead n)
 set_marked dead k n l = by (nat_eq n k) refl
   where
     by : (b : Bool) → nat_eq n k ≡ b → is_marked (set dead k true) n ≡ (b || is_marked dead n)
     by true t =
         let e : k ≡ n = grind (arith, nat_tests, t) in
         subst (λ m. is_marked (set dead k true) m ≡ true) e (get_or-set_same dead k true false l)
-    by false t = get_or-set_other dead k n true false (λ e. let x : nat_eq n k ≡ true = grind (arith, nat_tests, e) in true≢false (sym x ∙ t))
+    by false t = get_or-set_other dead k n true false (λ e. let x : nat_eq n k ≡ true = grind (arith, nat_tests, e) in
+        true≢false (sym x ∙ t))
 
-with_marks_has : (dead : List Bool) (ns : List ℕ) (n : ℕ) → ((k : ℕ) → k < length ns → get_or ns k 0 < length dead) → is_marked (with_marks dead ns) n ≡ (is_marked dead n || list_any (nat_eq n) ns)
+with_marks_has : (dead : List Bool) (ns : List ℕ) (n : ℕ) → ((k : ℕ) → k < length ns → get_or ns k 0 < length dead)
+    → is_marked (with_marks dead ns) n ≡ (is_marked dead n || list_any (nat_eq n) ns)
 unfolding with_marks
-with_marks_has dead [] n h = sym (or_false (is_marked dead n))
-  where
-    or_false : (b : Bool) → (b || false) ≡ b
-    or_false true = refl
-    or_false false = refl
+with_marks_has dead [] n h = sym (or-false (is_marked dead n))
 with_marks_has dead (k ∷ ns) n h =
-    with_marks_has (set dead k true) ns n (λ j l. let x = h (suc j) (omega (arith, l)) in omega (arith, x, length-set dead k true))
+    with_marks_has (set dead k true) ns n (λ j l. let x = h (suc j) (omega (arith, l)) in
+    omega (arith, x, length-set dead k true))
     ∙ ap (λ b. b || list_any (nat_eq n) ns) (set_marked dead k n (h 0 (omega arith)))
     ∙ or_swap (nat_eq n k) (is_marked dead n) (list_any (nat_eq n) ns)
 
@@ -122,16 +133,20 @@ any_regex : (n : ℕ) (es : List Entry) → list_any (nat_eq n) (map (λ e. e.0)
 any_regex n [] = refl
 any_regex n (e ∷ es) = ap (λ b. nat_eq n e.0 || b) (any_regex n es)
 
-pub regexes_below : (es : List Entry) (ns : List ℕ) (len : ℕ) → ns ≡ map (λ e. e.0) es → ((k : ℕ) → k < length es → regex_of es k < len) → (k : ℕ) → k < length ns → get_or ns k 0 < len
+pub regexes_below : (es : List Entry) (ns : List ℕ) (len : ℕ) → ns ≡ map (λ e. e.0) es
+    → ((k : ℕ) → k < length es → regex_of es k < len) → (k : ℕ) → k < length ns → get_or ns k 0 < len
 regexes_below es ns len is h = subst (λ ns. (k : ℕ) → k < length ns → get_or ns k 0 < len) (sym is) (go es h)
   where
-    go : (es : List Entry) → ((k : ℕ) → k < length es → regex_of es k < len) → (k : ℕ) → k < length (map (λ e. e.0) es) → get_or (map (λ e. e.0) es) k 0 < len
+    go : (es : List Entry) → ((k : ℕ) → k < length es → regex_of es k < len) → (k : ℕ) → k < length (map (λ e. e.0) es)
+        → get_or (map (λ e. e.0) es) k 0 < len
     go [] h k l = absurd (omega (arith, l))
     go (e ∷ es) h zero l = h 0 (omega arith)
     go (e ∷ es) h (suc k) l = go es (λ k l. h (suc k) (omega (arith, l))) k (omega (arith, l))
 
-pub buried : (old made new : List Bool) (es : List Entry) (ns : List ℕ) (len more : ℕ) → made ≡ take len old ++ replicate more false → length made ≡ len → ns ≡ map (λ e. e.0) es →
-    ((k : ℕ) → k < length es → regex_of es k < len) → ((n : ℕ) → is_marked old n ≡ true → n < len) → new ≡ with_marks made ns → AreMarked old es new
+pub buried : (old made new : List Bool) (es : List Entry) (ns : List ℕ) (len more : ℕ)
+    → made ≡ take len old ++ replicate more false → length made ≡ len → ns ≡ map (λ e. e.0) es →
+    ((k : ℕ) → k < length es → regex_of es k < len) → ((n : ℕ) → is_marked old n ≡ true → n < len)
+    → new ≡ with_marks made ns → AreMarked old es new
 buried old made new es ns len more e l is known marks is_new n =
     let below = regexes_below es ns len is known in
     ap (λ dead. is_marked dead n) is_new
@@ -141,8 +156,10 @@ buried old made new es ns len more e l is known marks is_new n =
 
 -- The word of a place.
 
-pub word_back : (es : List Entry) (words : List (List ℕ)) (place k : ℕ) (e : Entry) (codes codes' : List ℕ) → AreWords es words → 0 < k → k < length es → entry_at es k ≡ e →
-    codes' ≡ codes ++ e.1.1 ∷ [] → word_at words place ≡ word_at words k ++ reverse codes → word_at words place ≡ word_at words e.1.0 ++ reverse codes'
+pub word_back : (es : List Entry) (words : List (List ℕ)) (place k : ℕ) (e : Entry) (codes codes' : List ℕ)
+    → AreWords es words → 0 < k → k < length es → entry_at es k ≡ e →
+    codes' ≡ codes ++ e.1.1 ∷ [] → word_at words place ≡ word_at words k ++ reverse codes
+    → word_at words place ≡ word_at words e.1.0 ++ reverse codes'
 word_back es words place k e codes codes' w p l is more h =
     h
     ∙ ap (λ u. u ++ reverse codes) (w.next k p l ∙ ap (λ e. word_at words e.1.0 ++ e.1.1 ∷ []) is)
@@ -154,7 +171,8 @@ word_back es words place k e codes codes' w p l is more h =
 one_place : (k : ℕ) → k < 1 → k ≡ 0
 one_place k h = omega (arith, h)
 
-start : (rs : List Regex) (dead : List Bool) (root : ℕ) → root < length rs → IsSearched rs root dead ((root, (0, 0)) ∷ []) 0
+start : (rs : List Regex) (dead : List Bool) (root : ℕ) → root < length rs
+    → IsSearched rs root dead ((root, (0, 0)) ∷ []) 0
 unfolding nd_along rank_from
 start rs dead root l = record {
   words = [] ∷ [];
@@ -163,12 +181,14 @@ start rs dead root l = record {
     words_are = record { long = refl; first = refl; next = λ k p h. absurd (omega (arith, p, h)) };
     some = omega arith;
     first = refl;
-    along = λ k h. subst (λ k. Names rs (regex_of ((root, (0, 0)) ∷ []) k) (nd_along (regex_at rs root) (word_at ([] ∷ []) k))) (sym (one_place k h)) (names_from rs root _ l refl);
+    along = λ k h. subst (λ k. Names rs (regex_of ((root, (0, 0)) ∷ []) k)
+        (nd_along (regex_at rs root) (word_at ([] ∷ []) k))) (sym (one_place k h)) (names_from rs root _ l refl);
     ascending = λ j k h m. absurd (omega (arith, h, m));
   };
   below = λ k h m. absurd (omega (arith, h));
   near = λ h j m. subst (λ j. rank_at ([] ∷ []) j < 0x30000) (sym (one_place j m)) (omega arith);
 }
 
-pub started : (rs : List Regex) (dead : List Bool) (es : List Entry) (root : ℕ) → es ≡ (root, (0, 0)) ∷ [] → root < length rs → IsSearched rs (regex_of es 0) dead es 0
+pub started : (rs : List Regex) (dead : List Bool) (es : List Entry) (root : ℕ) → es ≡ (root, (0, 0)) ∷ []
+    → root < length rs → IsSearched rs (regex_of es 0) dead es 0
 started rs dead es root e l = subst (λ es. IsSearched rs (regex_of es 0) dead es 0) (sym e) (start rs dead root l)

@@ -1,6 +1,6 @@
 -- What is known of the regexes of a list, by their numbers: derivatives, and marks of those that have no word.
 use Rattle.std.specs.Prelude.{◌≡◌, ℕ, ◌<◌, Bool, true, false, List, length, get_or}
-use Rattle.sb_class.specs.Ranges.{is_character}
+use Rattle.sb_word.specs.Words.{is_character}
 use Rattle.sb_lang.specs.Regex.{Regex}
 use Rattle.sb_lang.specs.Derivative.{nullable, nd}
 use Rattle.sb_regex.specs.Numbered.{regex_at, Names}

@@ -12,4 +12,5 @@ GraphStays = (old new : List Regex) (g : Findings) → Extends old new → IsGra
 
 -- a regex with a mark has no word
 abbrev pub MarkedHasNoWord : Type 0
-MarkedHasNoWord = (rs : List Regex) (g : Findings) (n : ℕ) → IsGraph rs g → is_marked g.dead n ≡ true → HasNoWord (language (regex_at rs n))
+MarkedHasNoWord = (rs : List Regex) (g : Findings) (n : ℕ) → IsGraph rs g → is_marked g.dead n ≡ true
+    → HasNoWord (language (regex_at rs n))

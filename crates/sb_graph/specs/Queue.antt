@@ -1,4 +1,5 @@
--- Queues as lists: each regex by its number, with the place before it on its way and the character taken there.
+-- Private: queues as lists: each regex by its number, with the place before it on its way and the character taken
+-- there.
 use Rattle.std.specs.Prelude.{◌≡◌, ℕ, ◌<◌, Bool, true, List, [], ◌∷◌, ◌++◌, length, get_or, set, nat_eq, if◌then◌else◌}
 use Rattle.std.specs.List.{list_any}
 use Rattle.sb_graph.specs.Findings.{is_marked}
@@ -41,4 +42,5 @@ word_at words k = get_or words k []
 pub record AreWords (es : List Entry) (words : List (List ℕ)) : Type 0 where
   pub long : length words ≡ length es
   pub first : word_at words 0 ≡ []
-  pub next : (k : ℕ) → 0 < k → k < length es → word_at words k ≡ word_at words (entry_at es k).1.0 ++ (entry_at es k).1.1 ∷ []
+  pub next : (k : ℕ) → 0 < k → k < length es
+      → word_at words k ≡ word_at words (entry_at es k).1.0 ++ (entry_at es k).1.1 ∷ []

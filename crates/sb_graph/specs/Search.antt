@@ -1,6 +1,6 @@
--- How far a search has come.
+-- Private: how far a search has come.
 use Rattle.std.specs.Prelude.{◌≡◌, ℕ, ◌+◌, ◌*◌, ◌<◌, ◌≤◌, ◌||◌, ◌⊎◌, Bool, true, false, List, [], ◌∷◌, length, Option, MatchOption}
-use Rattle.sb_class.specs.Ranges.{is_character}
+use Rattle.sb_word.specs.Words.{is_character}
 use Rattle.sb_lang.specs.Regex.{Regex}
 use Rattle.sb_lang.specs.Derivative.{nullable, nd, nd_along}
 use Rattle.sb_regex.specs.Numbered.{regex_at, Names}
@@ -31,7 +31,8 @@ abbrev pub IsMetBy : List Bool → List Entry → List (List ℕ) → ℕ → �
 IsMetBy dead es words n most = (is_marked dead n ≡ true) ⊎ StandsBy es words n most
 
 -- the regex has a number that is met
-pub record IsCovered (rs : List Regex) (dead : List Bool) (es : List Entry) (words : List (List ℕ)) (r : Regex) (most : ℕ) : Type 0 where
+pub record IsCovered (rs : List Regex) (dead : List Bool) (es : List Entry) (words : List (List ℕ)) (r : Regex)
+    (most : ℕ) : Type 0 where
   pub number : ℕ
   pub names : Names rs number r
   pub met : IsMetBy dead es words number most
@@ -48,7 +49,8 @@ pub record AreReached (rs : List Regex) (root : ℕ) (es : List Entry) (words : 
 -- the place is one of a regex without the empty word, and each of its derivatives is met by the word that leads there
 pub record IsDone (rs : List Regex) (dead : List Bool) (es : List Entry) (words : List (List ℕ)) (k : ℕ) : Type 0 where
   pub empty_word : nullable (regex_at rs (regex_of es k)) ≡ false
-  pub covered : (c : ℕ) → is_character c ≡ true → IsCovered rs dead es words (nd (regex_at rs (regex_of es k)) c) (rank_at words k * 0x30000 + c)
+  pub covered : (c : ℕ) → is_character c ≡ true
+      → IsCovered rs dead es words (nd (regex_at rs (regex_of es k)) c) (rank_at words k * 0x30000 + c)
 
 -- the places below this one are done
 pub record IsSearched (rs : List Regex) (root : ℕ) (dead : List Bool) (es : List Entry) (place : ℕ) : Type 0 where

@@ -134,7 +134,9 @@ impl Graph {
         requires graph { IsGraph arena.old self.old }
         requires place { place < length queue.old }
         requires known { regex_of queue.old place < length arena.old }
-        ensures visited { OnOk result (IsVisited arena.new (regex_at arena.old (regex_of queue.old place)) self.old.dead place queue.old queue.new) }
+        ensures visited { OnOk result
+            (IsVisited arena.new (regex_at arena.old (regex_of queue.old place)) self.old.dead place queue.old
+            queue.new) }
         ensures extends { Extends arena.old arena.new }
         ensures graph { IsGraph arena.new self.new }
         ensures marks { self.new.dead ≡ self.old.dead }

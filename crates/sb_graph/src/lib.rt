@@ -11,8 +11,6 @@ mod graph;
 mod laws;
 mod queue;
 mod search;
-#[cfg(test)]
-mod tests;
 
 pub use graph::{Explored, Graph};
 pub use laws::{graph_stays, marked_has_no_word};

@@ -39,7 +39,8 @@ pub(crate) fn word_of(alloc: Global, queue: &Queue, place: usize) -> Result<Word
     requires within { place < length queue.now }
     requires back { GoesBack queue.now }
     ensures word { IfOk result (λ word. IsWord word) }
-    ensures along { IfOk result (λ word. (words : List (List ℕ)) → AreWords queue.now words → word ≡ word_at words place) }
+    ensures along { IfOk result (λ word. (words : List (List ℕ)) → AreWords queue.now words
+        → word ≡ word_at words place) }
 {
     let mut codes = Vec::new(alloc);
     let mut at = place;

@@ -1,11 +1,13 @@
 -- Cuts, powers and iterations of languages.
 use Rattle.std.proofs.Common.{◌≡◌, ℕ, zero, suc, ◌+◌, ◌<◌, ◌≤◌, Bool, true, false, ◌&&◌, ◌||◌, ◌==◌, ◌⊎◌, ◌↔◌, nat_le, List, [], ◌∷◌, ◌++◌, length, refl, sym, ap, ap₂, ◌∙◌, arith, inl, inr, ◌-◌, length-append, append_assoc, add-zero, add-suc}
+use Rattle.std.proofs.Math.Bool.{and-true, or-false}
+use Rattle.std.proofs.Math.Dec.{eqb-suc-zero}
 use Rattle.std.proofs.lemmas.Bool.{and_parts, and_from, or_cases, or_left, or_right, false≢true, false_from_ne_true, le-leb, leb-true}
 use Rattle.std.proofs.lemmas.Bool.Decides.{nat_tests}
 use Rattle.std.specs.List.{list_all}
 use Rattle.sb_lang.specs.LanguageLaws.{HasCut}
 use Rattle.sb_lang.specs.Languages.{Language, empty_word, one_character, cut, power, some_up_to, iterate, repeat}
-use Rattle.sb_lang.proofs.BoolFacts.{and-false_or, and-or_same, and-true, or-false}
+use Rattle.sb_lang.proofs.BoolFacts.{and-false_or, and-or_same}
 
 -- tests that hold together are one
 pub same_truth : (x y : Bool) → (x ≡ true → y ≡ true) → (y ≡ true → x ≡ true) → x ≡ y
@@ -24,7 +26,14 @@ HasCut-from_cut L M (c ∷ w) h = elim (or_cases (L [] && M (c ∷ w)) (cut (λ 
       record { first = []; second = c ∷ w; whole = refl; in_first = p.0; in_second = p.1 }
   | inr later ↦
       let k = HasCut-from_cut (λ u. L (c ∷ u)) M w later in
-      record { first = c ∷ k.first; second = k.second; whole = ap (λ u. c ∷ u) k.whole; in_first = k.in_first; in_second = k.in_second }
+      record {
+        first = c ∷ k.first;
+        second = k.second;
+        whole = ap (λ u. c ∷ u) k.whole;
+        in_first =
+            k.in_first;
+        in_second = k.in_second;
+      }
 ]
 
 pub cut-from_parts : (L M : Language) (x y : List ℕ) → L x ≡ true → M y ≡ true → cut L M (x ++ y) ≡ true
@@ -57,47 +66,35 @@ some_up_to-gives (suc n) test h = elim (or_cases (test (suc n)) (some_up_to n te
 
 -- Cuts of equal languages are equal, and so on.
 
-pub cut-same : (L L' M M' : Language) (w : List ℕ) → ((u : List ℕ) → L u ≡ L' u) → ((u : List ℕ) → M u ≡ M' u) → cut L M w ≡ cut L' M' w
+pub cut-same : (L L' M M' : Language) (w : List ℕ) → ((u : List ℕ) → L u ≡ L' u) → ((u : List ℕ) → M u ≡ M' u)
+    → cut L M w ≡ cut L' M' w
 unfolding cut
 cut-same L L' M M' [] l m = ap₂ ◌&&◌ (l []) (m [])
 cut-same L L' M M' (c ∷ w) l m =
     ap₂ ◌||◌ (ap₂ ◌&&◌ (l []) (m (c ∷ w))) (cut-same (λ u. L (c ∷ u)) (λ u. L' (c ∷ u)) M M' w (λ u. l (c ∷ u)) m)
-
-pub power-same : (L L' : Language) (n : ℕ) (w : List ℕ) → ((u : List ℕ) → L u ≡ L' u) → power L n w ≡ power L' n w
-unfolding power
-power-same L L' zero w l = refl
-power-same L L' (suc n) w l = cut-same L L' (power L n) (power L' n) w l (λ u. power-same L L' n u l)
 
 pub some_up_to-same : (n : ℕ) (p q : ℕ → Bool) → ((k : ℕ) → p k ≡ q k) → some_up_to n p ≡ some_up_to n q
 unfolding some_up_to
 some_up_to-same zero p q e = e zero
 some_up_to-same (suc n) p q e = ap₂ ◌||◌ (e (suc n)) (some_up_to-same n p q e)
 
-pub iterate-same : (L L' : Language) (w : List ℕ) → ((u : List ℕ) → L u ≡ L' u) → iterate L w ≡ iterate L' w
-unfolding iterate
-iterate-same L L' w l = some_up_to-same (length w) _ _ (λ n. power-same L L' n w l)
-
-pub repeat-same : (L L' : Language) (n m : ℕ) (w : List ℕ) → ((u : List ℕ) → L u ≡ L' u) → repeat L n m w ≡ repeat L' n m w
-unfolding repeat
-repeat-same L L' n m w l = some_up_to-same m _ _ (λ k. ap (λ b. nat_le n k && b) (power-same L L' k w l))
-
 -- The empty word.
-
-suc_is_not_zero : (n : ℕ) → (suc n == 0) ≡ false
-suc_is_not_zero n = grind (arith, nat_tests)
 
 pub power-empty : (L : Language) (n : ℕ) → power L n [] ≡ ((n == 0) || L [])
 unfolding power cut
 power-empty L zero = refl
 power-empty L (suc n) =
-    ap (λ b. L [] && b) (power-empty L n) ∙ and-or_same (n == 0) (L []) ∙ ap (λ b. b || L []) (sym (suc_is_not_zero n))
+    ap (λ b. L [] && b) (power-empty L n) ∙ and-or_same (n == 0) (L []) ∙ ap (λ b. b || L []) (sym (eqb-suc-zero n))
 
-some_between : (n m : ℕ) (b : Bool) → some_up_to m (λ k. nat_le n k && ((k == 0) || b)) ≡ (nat_le n m && ((n == 0) || b))
+some_between : (n m : ℕ) (b : Bool)
+    → some_up_to m (λ k. nat_le n k && ((k == 0) || b)) ≡ (nat_le n m && ((n == 0) || b))
 some_between n m true = same_truth _ _
-    (λ h. let r = some_up_to-gives m _ h in let p = and_parts (nat_le n r.0) _ r.2 in grind (arith, nat_tests, p.0, r.1))
+    (λ h. let r = some_up_to-gives m _ h in let p = and_parts (nat_le n r.0) _ r.2 in
+    grind (arith, nat_tests, p.0, r.1))
     (λ h. let p = and_parts (nat_le n m) _ h in some_up_to-from m _ m (omega arith) (grind (arith, nat_tests, p.0)))
 some_between n m false = same_truth _ _
-    (λ h. let r = some_up_to-gives m _ h in let p = and_parts (nat_le n r.0) _ r.2 in grind (arith, nat_tests, p.0, p.1, r.1))
+    (λ h. let r = some_up_to-gives m _ h in let p = and_parts (nat_le n r.0) _ r.2 in
+    grind (arith, nat_tests, p.0, p.1, r.1))
     (λ h. let p = and_parts (nat_le n m) _ h in some_up_to-from m _ 0 (omega arith) (grind (arith, nat_tests, p.1)))
 
 pub repeat-empty : (L : Language) (n m : ℕ) → repeat L n m [] ≡ (nat_le n m && ((n == 0) || L []))
@@ -111,7 +108,8 @@ iterate-empty L = refl
 
 -- A word that begins with a character.
 
-cut_both_ways : (L M : Language) (c : ℕ) (w : List ℕ) → cut L M (c ∷ w) ≡ ((L [] && M (c ∷ w)) || cut (λ u. L (c ∷ u)) M w)
+cut_both_ways : (L M : Language) (c : ℕ) (w : List ℕ)
+    → cut L M (c ∷ w) ≡ ((L [] && M (c ∷ w)) || cut (λ u. L (c ∷ u)) M w)
 unfolding cut
 cut_both_ways L M c w = refl
 
@@ -133,7 +131,8 @@ power-after L (suc n) c w = cut_both_ways L (power L (suc n)) c w ∙ same_truth
           let p = and_parts (L []) (power L (suc n) (c ∷ w)) here in
           let k = HasCut-from_cut (λ u. L (c ∷ u)) (power L n) w (sym (power-after L n c w) ∙ p.1) in
           ap (cut (λ u. L (c ∷ u)) (power L (suc n))) (sym k.whole)
-          ∙ cut-from_parts (λ u. L (c ∷ u)) (power L (suc n)) k.first k.second k.in_first (power-first L n k.second p.0 k.in_second)
+          ∙ cut-from_parts (λ u. L (c ∷ u)) (power L (suc n)) k.first k.second k.in_first
+          (power-first L n k.second p.0 k.in_second)
       | inr later ↦ later
     ])
     (λ h. or_right (L [] && power L (suc n) (c ∷ w)) _ h)
@@ -156,11 +155,14 @@ iterate-from : (L : Language) (n : ℕ) (w : List ℕ) → n ≤ length w → po
 unfolding iterate
 iterate-from L n w le h = some_up_to-from (length w) _ n le h
 
-iterate-from_cut : (L : Language) (c : ℕ) (w : List ℕ) → HasCut (λ u. L (c ∷ u)) (iterate L) w → iterate L (c ∷ w) ≡ true
+iterate-from_cut : (L : Language) (c : ℕ) (w : List ℕ) → HasCut (λ u. L (c ∷ u)) (iterate L) w
+    → iterate L (c ∷ w) ≡ true
 iterate-from_cut L c w k =
     let r = iterate-gives L k.second k.in_second in
     iterate-from L (suc r.0) (c ∷ w) (omega (arith, r.1, length-cons c w, length-of_cut k.first k.second w k.whole))
-    (power-after L r.0 c w ∙ cut-from_HasCut (λ u. L (c ∷ u)) (power L r.0) w (record { first = k.first; second = k.second; whole = k.whole; in_first = k.in_first; in_second = r.2 }))
+    (power-after L r.0 c w
+    ∙ cut-from_HasCut (λ u. L (c ∷ u)) (power L r.0) w
+    (record { first = k.first; second = k.second; whole = k.whole; in_first = k.in_first; in_second = r.2 }))
 
 -- However many words, no more than the word is long are needed.
 pub iterate-from_power : (L : Language) (k n : ℕ) (w : List ℕ) → length w ≤ k → power L n w ≡ true → iterate L w ≡ true
@@ -174,16 +176,25 @@ iterate-from_power L (suc k) (suc n) (c ∷ w) short h =
       second = p.second;
       whole = p.whole;
       in_first = p.in_first;
-      in_second = iterate-from_power L k n p.second (omega (arith, length-cons c w, length-of_cut p.first p.second w p.whole)) p.in_second;
+      in_second = iterate-from_power L k n p.second
+          (omega (arith, length-cons c w, length-of_cut p.first p.second w p.whole)) p.in_second;
     })
 
 pub iterate-power : (L : Language) (n : ℕ) (w : List ℕ) → power L n w ≡ true → iterate L w ≡ true
 iterate-power L n w h = iterate-from_power L (length w) n w (omega arith) h
 
 -- a cut stays where its parts' languages grow
-pub HasCut-grows : (L M M' : Language) (w : List ℕ) → ((u : List ℕ) → M u ≡ true → M' u ≡ true) → HasCut L M w → HasCut L M' w
+pub HasCut-grows : (L M M' : Language) (w : List ℕ) → ((u : List ℕ) → M u ≡ true → M' u ≡ true) → HasCut L M w
+    → HasCut L M' w
 HasCut-grows L M M' w m k =
-    record { first = k.first; second = k.second; whole = k.whole; in_first = k.in_first; in_second = m k.second k.in_second }
+    record {
+      first = k.first;
+      second = k.second;
+      whole = k.whole;
+      in_first = k.in_first;
+      in_second =
+          m k.second k.in_second;
+    }
 
 pub iterate-after : (L : Language) (c : ℕ) (w : List ℕ) → iterate L (c ∷ w) ≡ cut (λ u. L (c ∷ u)) (iterate L) w
 iterate-after L c w = same_truth _ _
@@ -197,31 +208,37 @@ iterate-after L c w = same_truth _ _
         (HasCut-grows (λ u. L (c ∷ u)) (power L n) (iterate L) w (λ u. iterate-power L n u)
         (HasCut-from_cut (λ u. L (c ∷ u)) (power L n) w (sym (power-after L n c w) ∙ h)))
 
-pub repeat-gives : (L : Language) (n m : ℕ) (w : List ℕ) → repeat L n m w ≡ true → (k : ℕ) × (n ≤ k) × (k ≤ m) × (power L k w ≡ true)
+pub repeat-gives : (L : Language) (n m : ℕ) (w : List ℕ) → repeat L n m w ≡ true
+    → (k : ℕ) × (n ≤ k) × (k ≤ m) × (power L k w ≡ true)
 unfolding repeat
 repeat-gives L n m w h =
     let r = some_up_to-gives m _ h in
     let p = and_parts (nat_le n r.0) _ r.2 in
     (r.0, leb-true n r.0 p.0, r.1, p.1)
 
-pub repeat-from : (L : Language) (n m : ℕ) (w : List ℕ) (k : ℕ) → n ≤ k → k ≤ m → power L k w ≡ true → repeat L n m w ≡ true
+pub repeat-from : (L : Language) (n m : ℕ) (w : List ℕ) (k : ℕ) → n ≤ k → k ≤ m → power L k w ≡ true
+    → repeat L n m w ≡ true
 unfolding repeat
 repeat-from L n m w k low high h = some_up_to-from m _ k high (and_from _ _ (le-leb n k low) h)
 
-pub repeat-after : (L : Language) (n m c : ℕ) (w : List ℕ) → repeat L n (suc m) (c ∷ w) ≡ cut (λ u. L (c ∷ u)) (repeat L (n - 1) m) w
+pub repeat-after : (L : Language) (n m c : ℕ) (w : List ℕ)
+    → repeat L n (suc m) (c ∷ w) ≡ cut (λ u. L (c ∷ u)) (repeat L (n - 1) m) w
 repeat-after L n m c w = same_truth _ _
     (λ h. let r = repeat-gives L n (suc m) (c ∷ w) h in after r.0 r.1 r.2 r.3)
     (λ h.
     let k = HasCut-from_cut (λ u. L (c ∷ u)) (repeat L (n - 1) m) w h in
     let r = repeat-gives L (n - 1) m k.second k.in_second in
     repeat-from L n (suc m) (c ∷ w) (suc r.0) (omega (arith, r.1)) (omega (arith, r.2))
-    (power-after L r.0 c w ∙ cut-from_HasCut (λ u. L (c ∷ u)) (power L r.0) w (record { first = k.first; second = k.second; whole = k.whole; in_first = k.in_first; in_second = r.3 })))
+    (power-after L r.0 c w
+    ∙ cut-from_HasCut (λ u. L (c ∷ u)) (power L r.0) w
+    (record { first = k.first; second = k.second; whole = k.whole; in_first = k.in_first; in_second = r.3 })))
   where
     after : (k : ℕ) → n ≤ k → k ≤ suc m → power L k (c ∷ w) ≡ true → cut (λ u. L (c ∷ u)) (repeat L (n - 1) m) w ≡ true
     after zero low high h = absurd (false≢true (sym (power-zero L c w) ∙ h))
     after (suc k) low high h =
         cut-from_HasCut (λ u. L (c ∷ u)) (repeat L (n - 1) m) w
-        (HasCut-grows (λ u. L (c ∷ u)) (power L k) (repeat L (n - 1) m) w (λ u g. repeat-from L (n - 1) m u k (omega (arith, low)) (omega (arith, high)) g)
+        (HasCut-grows (λ u. L (c ∷ u)) (power L k) (repeat L (n - 1) m) w
+        (λ u g. repeat-from L (n - 1) m u k (omega (arith, low)) (omega (arith, high)) g)
         (HasCut-from_cut (λ u. L (c ∷ u)) (power L k) w (sym (power-after L k c w) ∙ h)))
 
 -- A repetition with its bounds out of order, and of no times.
@@ -236,7 +253,8 @@ repeat-zero L w = refl
 -- what some times give at one number of times
 pub repeat-one : (L : Language) (w : List ℕ) → repeat L 1 1 w ≡ power L 1 w
 repeat-one L w = same_truth _ _
-    (λ h. let r = repeat-gives L 1 1 w h in let e : r.0 ≡ 1 = omega (arith, r.1, r.2) in ap (λ k. power L k w) (sym e) ∙ r.3)
+    (λ h. let r = repeat-gives L 1 1 w h in let e : r.0 ≡ 1 = omega (arith, r.1, r.2) in
+    ap (λ k. power L k w) (sym e) ∙ r.3)
     (λ h. repeat-from L 1 1 w 1 (omega arith) (omega arith) h)
 
 -- Units and grouping of cuts.
@@ -292,7 +310,8 @@ pub power-once : (L : Language) (w : List ℕ) → power L 1 w ≡ L w
 unfolding power
 power-once L w = cut-right_empty L w
 
-pub power-append : (L : Language) (n m : ℕ) (x y : List ℕ) → power L n x ≡ true → power L m y ≡ true → power L (m + n) (x ++ y) ≡ true
+pub power-append : (L : Language) (n m : ℕ) (x y : List ℕ) → power L n x ≡ true → power L m y ≡ true
+    → power L (m + n) (x ++ y) ≡ true
 unfolding power
 power-append L zero m [] y h g = ap (λ k. power L k y) (add-zero m) ∙ g
 power-append L zero m (c ∷ x) y h g = absurd (false≢true h)
@@ -301,7 +320,8 @@ power-append L (suc n) m x y h g =
     ap (λ j. power L j (x ++ y)) (add-suc m n)
     ∙ ap (λ u. power L (suc (m + n)) (u ++ y)) (sym k.whole)
     ∙ ap (λ u. power L (suc (m + n)) u) (append_assoc k.first k.second y)
-    ∙ cut-from_parts L (power L (m + n)) k.first (k.second ++ y) k.in_first (power-append L n m k.second y k.in_second g)
+    ∙ cut-from_parts L (power L (m + n)) k.first (k.second ++ y) k.in_first
+    (power-append L n m k.second y k.in_second g)
 
 pub iterate-append : (L : Language) (x y : List ℕ) → iterate L x ≡ true → iterate L y ≡ true → iterate L (x ++ y) ≡ true
 iterate-append L x y h g =
@@ -326,20 +346,23 @@ iterate-iterate L w = same_truth _ _
     (λ h. iterate-once (iterate L) w h)
 
 -- no word but the empty one
-pub iterate-nothing : (L : Language) (w : List ℕ) → ((c : ℕ) (u : List ℕ) → L (c ∷ u) ≡ false) → iterate L w ≡ empty_word w
+pub iterate-nothing : (L : Language) (w : List ℕ) → ((c : ℕ) (u : List ℕ) → L (c ∷ u) ≡ false)
+    → iterate L w ≡ empty_word w
 iterate-nothing L [] no_more_there = iterate-empty L
 iterate-nothing L (c ∷ w) no_more_there =
     iterate-after L c w ∙ cut-left_none (λ u. L (c ∷ u)) (iterate L) w (λ u. no_more_there c u)
 
 -- Repetitions of the empty word, and of nothing.
 
-pub power-empty_word : (L : Language) (n : ℕ) (w : List ℕ) → ((u : List ℕ) → L u ≡ empty_word u) → power L n w ≡ empty_word w
+pub power-empty_word : (L : Language) (n : ℕ) (w : List ℕ) → ((u : List ℕ) → L u ≡ empty_word u)
+    → power L n w ≡ empty_word w
 unfolding power
 power-empty_word L zero w same = refl
 power-empty_word L (suc n) w same =
     cut-same L empty_word (power L n) empty_word w same (λ u. power-empty_word L n u same) ∙ cut-left_empty empty_word w
 
-pub repeat-empty_word : (L : Language) (n m : ℕ) (w : List ℕ) → n ≤ m → ((u : List ℕ) → L u ≡ empty_word u) → repeat L n m w ≡ empty_word w
+pub repeat-empty_word : (L : Language) (n m : ℕ) (w : List ℕ) → n ≤ m → ((u : List ℕ) → L u ≡ empty_word u)
+    → repeat L n m w ≡ empty_word w
 repeat-empty_word L n m w le same = same_truth _ _
     (λ h. let r = repeat-gives L n m w h in sym (power-empty_word L r.0 w same) ∙ r.3)
     (λ h. repeat-from L n m w n (omega arith) le (power-empty_word L n w same ∙ h))
@@ -358,8 +381,10 @@ repeat-nothing L m w none_there = same_truth _ _
     only zero h = h
     only (suc k) h = absurd (false≢true (sym (power-nothing L k w none_there) ∙ h))
 
-pub repeat-nothing_often : (L : Language) (n m : ℕ) (w : List ℕ) → 0 < n → ((u : List ℕ) → L u ≡ false) → repeat L n m w ≡ false
-repeat-nothing_often L n m w some none_there = false_from_ne_true _ (λ h. let r = repeat-gives L n m w h in only r.0 (omega (arith, r.1)) r.3)
+pub repeat-nothing_often : (L : Language) (n m : ℕ) (w : List ℕ) → 0 < n → ((u : List ℕ) → L u ≡ false)
+    → repeat L n m w ≡ false
+repeat-nothing_often L n m w some none_there =
+    false_from_ne_true _ (λ h. let r = repeat-gives L n m w h in only r.0 (omega (arith, r.1)) r.3)
   where
     only : (k : ℕ) → 0 < k → power L k w ≡ true → ⊥
     only zero lt h = omega arith
@@ -371,7 +396,8 @@ iterate-characters test [] h = iterate-empty (one_character test)
 iterate-characters test (c ∷ w) h =
     let p = and_parts (test c) (list_all test w) h in
     iterate-after (one_character test) c w
-    ∙ cut-from_parts (λ u. one_character test (c ∷ u)) (iterate (one_character test)) [] w p.0 (iterate-characters test w p.1)
+    ∙ cut-from_parts (λ u. one_character test (c ∷ u)) (iterate (one_character test)) [] w p.0
+    (iterate-characters test w p.1)
 
 pub repeat-never : (L : Language) (n c : ℕ) (w : List ℕ) → repeat L n 0 (c ∷ w) ≡ false
 repeat-never L n c w = false_from_ne_true _ (λ h.
@@ -381,7 +407,8 @@ repeat-never L n c w = false_from_ne_true _ (λ h.
 
 pub repeat-exactly : (L : Language) (n : ℕ) (w : List ℕ) → repeat L n n w ≡ power L n w
 repeat-exactly L n w = same_truth _ _
-    (λ h. let r = repeat-gives L n n w h in let e : r.0 ≡ n = omega (arith, r.1, r.2) in ap (λ k. power L k w) (sym e) ∙ r.3)
+    (λ h. let r = repeat-gives L n n w h in let e : r.0 ≡ n = omega (arith, r.1, r.2) in
+    ap (λ k. power L k w) (sym e) ∙ r.3)
     (λ h. repeat-from L n n w n (omega arith) (omega arith) h)
 
 -- The laws.
@@ -395,5 +422,6 @@ iteration_is_some_power L w = (
   λ p. iterate-power L p.0 w p.1,
 )
 
-pub repetition_is_some_power : (L : Language) (n m : ℕ) (w : List ℕ) → (repeat L n m w ≡ true) ↔ ((k : ℕ) × (n ≤ k) × (k ≤ m) × (power L k w ≡ true))
+pub repetition_is_some_power : (L : Language) (n m : ℕ) (w : List ℕ)
+    → (repeat L n m w ≡ true) ↔ ((k : ℕ) × (n ≤ k) × (k ≤ m) × (power L k w ≡ true))
 repetition_is_some_power L n m w = (λ h. repeat-gives L n m w h, λ p. repeat-from L n m w p.0 p.1 p.2 p.3)

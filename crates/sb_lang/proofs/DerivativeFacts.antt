@@ -1,8 +1,9 @@
 -- The derivative by a character has the words that the character begins.
 use Rattle.std.proofs.Common.{◌≡◌, ℕ, zero, suc, ◌-◌, Bool, true, false, not, ◌&&◌, ◌||◌, cond, List, [], ◌∷◌, ◌++◌, refl, sym, ap, ap₂, ◌∙◌}
+use Rattle.std.proofs.Math.Bool.{or-false, or_comm}
 use Rattle.std.proofs.lemmas.Bool.{and_parts}
-use Rattle.sb_class.specs.Ranges.{in_ranges, is_character}
-use Rattle.sb_word.specs.Words.{are_characters, IsWord}
+use Rattle.sb_class.specs.Ranges.{in_ranges}
+use Rattle.sb_word.specs.Words.{is_character, are_characters, IsWord}
 use Rattle.sb_lang.specs.DerivativeLaws.{SameSets, AllSameSets}
 use Rattle.sb_lang.specs.Languages.{empty_word, one_character, cut, iterate, repeat}
 use Rattle.sb_lang.specs.Regex.{Regex, Regexes, none, eps, set, cat, alt, and, neg, star, rep, path, no_more, more}
@@ -13,7 +14,6 @@ use Rattle.sb_lang.proofs.CutFacts.{cut-same, iterate-after, repeat-after, repea
 use Rattle.sb_lang.proofs.MemberFacts.{in_some, in_each, language-mkalt, language-mkand}
 use Rattle.sb_lang.proofs.ConstructorFacts.{language-mkcat, language-mknot, language-mkrep, language-mkpath}
 use Rattle.sb_lang.proofs.NullableFacts.{nullable_tells}
-use Rattle.sb_lang.proofs.BoolFacts.{or-false, or_comm}
 
 set_after : (b : Bool) (w : List ℕ) → language (cond b eps none) w ≡ (b && empty_word w)
 unfolding language some_language all_languages
@@ -33,8 +33,10 @@ set_whole test c (d ∷ w) = and-false (test c)
     and-false false = refl
 
 -- what the derivative of a concatenation has, from what its parts' have
-cat_after : (a b : Regex) (c : ℕ) (w : List ℕ) → ((u : List ℕ) → language (nd a c) u ≡ language a (c ∷ u)) → language (nd b c) w ≡ language b (c ∷ w) →
-    language (cond (nullable a) (mkalt (mkcat (nd a c) b ∷ nd b c ∷ [])) (mkcat (nd a c) b)) w ≡ cut (language a) (language b) (c ∷ w)
+cat_after : (a b : Regex) (c : ℕ) (w : List ℕ) → ((u : List ℕ) → language (nd a c) u ≡ language a (c ∷ u))
+    → language (nd b c) w ≡ language b (c ∷ w) →
+    language (cond (nullable a) (mkalt (mkcat (nd a c) b ∷ nd b c ∷ [])) (mkcat (nd a c) b)) w
+    ≡ cut (language a) (language b) (c ∷ w)
 unfolding cut
 cat_after a b c w first second = step (nullable a) (nullable_tells a)
   where
@@ -44,7 +46,8 @@ cat_after a b c w first second = step (nullable a) (nullable_tells a)
         ∙ cut-same (language (nd a c)) (λ u. language a (c ∷ u)) (language b) (language b) w first (λ u. refl)
 
     step : (x : Bool) → x ≡ language a [] →
-        language (cond x (mkalt (mkcat (nd a c) b ∷ nd b c ∷ [])) (mkcat (nd a c) b)) w ≡ ((language a [] && language b (c ∷ w)) || cut (λ u. language a (c ∷ u)) (language b) w)
+        language (cond x (mkalt (mkcat (nd a c) b ∷ nd b c ∷ [])) (mkcat (nd a c) b)) w
+        ≡ ((language a [] && language b (c ∷ w)) || cut (λ u. language a (c ∷ u)) (language b) w)
     step true is =
         language-mkalt (mkcat (nd a c) b ∷ nd b c ∷ []) w
         ∙ ap₂ (λ x y. x || (y || false)) tail second
@@ -54,17 +57,21 @@ cat_after a b c w first second = step (nullable a) (nullable_tells a)
     step false is =
         tail ∙ ap (λ x. (x && language b (c ∷ w)) || cut (λ u. language a (c ∷ u)) (language b) w) is
 
-star_after : (a : Regex) (c : ℕ) (w : List ℕ) → ((u : List ℕ) → language (nd a c) u ≡ language a (c ∷ u)) → language (mkcat (nd a c) (star a)) w ≡ iterate (language a) (c ∷ w)
+star_after : (a : Regex) (c : ℕ) (w : List ℕ) → ((u : List ℕ) → language (nd a c) u ≡ language a (c ∷ u))
+    → language (mkcat (nd a c) (star a)) w ≡ iterate (language a) (c ∷ w)
 unfolding language some_language all_languages
 star_after a c w first =
     language-mkcat (nd a c) (star a) w
-    ∙ cut-same (language (nd a c)) (λ u. language a (c ∷ u)) (language (star a)) (iterate (language a)) w first (λ u. refl)
+    ∙ cut-same (language (nd a c)) (λ u. language a (c ∷ u)) (language (star a)) (iterate (language a)) w first
+    (λ u. refl)
     ∙ sym (iterate-after (language a) c w)
 
-rep_after : (a : Regex) (n m c : ℕ) (w : List ℕ) → ((u : List ℕ) → language (nd a c) u ≡ language a (c ∷ u)) → language (mkcat (nd a c) (mkrep a (n - 1) m)) w ≡ repeat (language a) n (suc m) (c ∷ w)
+rep_after : (a : Regex) (n m c : ℕ) (w : List ℕ) → ((u : List ℕ) → language (nd a c) u ≡ language a (c ∷ u))
+    → language (mkcat (nd a c) (mkrep a (n - 1) m)) w ≡ repeat (language a) n (suc m) (c ∷ w)
 rep_after a n m c w first =
     language-mkcat (nd a c) (mkrep a (n - 1) m) w
-    ∙ cut-same (language (nd a c)) (λ u. language a (c ∷ u)) (language (mkrep a (n - 1) m)) (repeat (language a) (n - 1) m) w first (λ u. language-mkrep a (n - 1) m u)
+    ∙ cut-same (language (nd a c)) (λ u. language a (c ∷ u)) (language (mkrep a (n - 1) m))
+    (repeat (language a) (n - 1) m) w first (λ u. language-mkrep a (n - 1) m u)
     ∙ sym (repeat-after (language a) n m c w)
 
 mutual
@@ -106,7 +113,8 @@ mutual
   nd_by_sets eps c d h = refl
   nd_by_sets (set rs) c d h = ap (λ b. cond b eps none) h
   nd_by_sets (cat a b) c d h =
-      ap₂ (λ x y. cond (nullable a) (mkalt (mkcat x b ∷ y ∷ [])) (mkcat x b)) (nd_by_sets a c d h.0) (nd_by_sets b c d h.1)
+      ap₂ (λ x y. cond (nullable a) (mkalt (mkcat x b ∷ y ∷ [])) (mkcat x b)) (nd_by_sets a c d h.0)
+      (nd_by_sets b c d h.1)
   nd_by_sets (alt ps) c d h = ap mkalt (nds_by_sets ps c d h)
   nd_by_sets (and ps) c d h = ap mkand (nds_by_sets ps c d h)
   nd_by_sets (neg a) c d h = ap mknot (nd_by_sets a c d h)

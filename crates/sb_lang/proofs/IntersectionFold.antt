@@ -1,25 +1,26 @@
 -- An intersection of an intersection and one more is the intersection of all.
 use Rattle.std.proofs.Common.{◌≡◌, ℕ, Bool, true, false, not, ◌&&◌, ◌||◌, cond, ◌⊎◌, List, [], ◌∷◌, ◌++◌, refl, sym, ap, ap₂, ◌∙◌, inl, inr, append-nil, length, ◌≤◌, arith}
 use Rattle.std.specs.List.{list_any, list_all, filter, flat_map}
+use Rattle.std.proofs.Math.Bool.{and-false, and-true, or-true}
 use Rattle.std.proofs.lemmas.Bool.{and_parts, or_cases, or_parts, false≢true}
 use Rattle.std.proofs.lemmas.Grind.{flat_map-append}
 use Rattle.std.proofs.lemmas.List.Folds.{list_any-append, list_all-append}
 use Rattle.sb_class.specs.Ranges.{Range, in_ranges, rises_from}
-use Rattle.sb_lang.specs.Regex.{Regex, Regexes, none, set, and, parts}
+use Rattle.sb_lang.specs.Regex.{Regex, none, set, and}
 use Rattle.std.specs.declared.cmp.Ordering.{Ordering}
 use Rattle.std.specs.declared.cmp.Ordering.TheVariants.{Less, Equal, Greater}
 use Rattle.sb_lang.specs.Order.{code, codes, regex_cmp, regex_eq}
-use Rattle.sb_lang.specs.Constructors.{anything, is_anything, is_none, mkset, conjuncts, ranges_of, is_set, inter_of, meet_of, meet_sets, with_regex, sorted, and_of, mkand, mknot}
-use Rattle.sb_lang.specs.NormalForm.{is_normal, all_normal}
+use Rattle.sb_lang.specs.Constructors.{is_anything, is_none, mkset, conjuncts, ranges_of, is_set, inter_of, meet_of, meet_sets, with_regex, sorted, and_of, mkand}
+use Rattle.sb_lang.specs.NormalForm.{is_normal}
 use Rattle.sb_lang.specs.SortedLaws.{is_member}
 use Rattle.sb_lang.proofs.OrderFacts.{same_regex, cmp_decides, regex_eq-itself, regex_eq-sym}
-use Rattle.sb_lang.proofs.SetFacts.{in_ranges-inter, same_ranges}
+use Rattle.sb_lang.proofs.SetFacts.{in_ranges-inter}
 use Rattle.sb_lang.proofs.MemberFacts.{parts-regexes}
-use Rattle.sb_lang.proofs.SortedFacts.{sets_in, without_sets, list_all-from, list_all-flat, sets_in-without, sets_in-sorted, sets_in-filter, ascending, ascending-sorted}
+use Rattle.sb_lang.proofs.SortedFacts.{sets_in, without_sets, list_all-from, list_all-flat, sets_in-without, sets_in-sorted, sets_in-filter, ascending-sorted}
 use Rattle.sb_lang.proofs.OnlySorted.{list_any-sorted, only_ascending, is_member-filter, is_member-both}
-use Rattle.sb_lang.proofs.MemberLists.{AreMembers, all_canonical, sets_in-canonical, IsCanonical-inter_of, few_in_one}
-use Rattle.sb_lang.proofs.IntersectionForm.{is_and, collected, AreMembers-collected, AreMembers-parts, mkand-members, flat_map-conjuncts, good, good-conjuncts}
-use Rattle.sb_lang.proofs.BoolFacts.{and-false, and-true, or-true}
+use Rattle.sb_lang.proofs.MemberLists.{AreMembers, all_canonical, sets_in-canonical, IsCanonical-inter_of}
+use Rattle.sb_lang.proofs.IntersectionForm.{is_and, collected, AreMembers-collected, good, good-conjuncts}
+use Rattle.sb_class.proofs.CallerLemmas.{in_ranges-nil, rises_from-nil, same_from}
 
 -- what becomes of a list of members that are no intersections
 abbrev pub finish : List Regex → Regex
@@ -30,14 +31,6 @@ unfolding mkand
 mkand-finish rs = refl
 
 -- Members of the list that is collected.
-
-empty_rises : (n : ℕ) → rises_from n [] ≡ true
-unfolding rises_from
-empty_rises n = refl
-
-none_within : (c : ℕ) → in_ranges [] c ≡ false
-unfolding in_ranges
-none_within c = refl
 
 cons_is_not_nil : (s : List Range) (ss : List (List Range)) → s ∷ ss ≡ [] → ⊥
 cons_is_not_nil s ss e = cc
@@ -57,13 +50,16 @@ other-none = (refl, refl)
 is_member-without : (r : Regex) (rs : List Regex) → is_member r (without_sets rs) ≡ (not (is_set r) && is_member r rs)
 is_member-without r rs = is_member-filter r (λ x. not (is_set x)) rs
 
-is_member-join : (r : Regex) (rs : List Regex) → is_member r (meet_sets rs) ≡ (is_member r (meet_of (sets_in rs)) || (not (is_set r) && is_member r rs))
+is_member-join : (r : Regex) (rs : List Regex)
+    → is_member r (meet_sets rs) ≡ (is_member r (meet_of (sets_in rs)) || (not (is_set r) && is_member r rs))
 unfolding meet_sets
 is_member-join r rs =
     list_any-append (regex_eq r) (meet_of (sets_in rs)) (without_sets rs)
     ∙ ap (λ b. is_member r (meet_of (sets_in rs)) || b) (is_member-without r rs)
 
-is_member-tested : (r : Regex) (rs : List Regex) → is_member r (collected rs) ≡ (not (is_anything r) && (is_member r (meet_of (sets_in rs)) || (not (is_set r) && is_member r rs)))
+is_member-tested : (r : Regex) (rs : List Regex)
+    → is_member r (collected rs)
+    ≡ (not (is_anything r) && (is_member r (meet_of (sets_in rs)) || (not (is_set r) && is_member r rs)))
 is_member-tested r rs =
     list_any-sorted (regex_eq r) (filter (λ x. not (is_anything x)) (meet_sets rs))
     ∙ is_member-filter r (λ x. not (is_anything x)) (meet_sets rs)
@@ -79,7 +75,8 @@ any-none (r ∷ rs) = ap₂ ◌||◌ (swap r (is_none r) refl (regex_eq none r) 
     swap r false is true eq = absurd (false≢true (sym is ∙ regex_eq-sym none r eq))
     swap r false is false eq = refl
 
-any-join : (rs : List Regex) → list_any is_none (meet_sets rs) ≡ (is_member none (meet_of (sets_in rs)) || is_member none rs)
+any-join : (rs : List Regex)
+    → list_any is_none (meet_sets rs) ≡ (is_member none (meet_of (sets_in rs)) || is_member none rs)
 any-join rs =
     any-none (meet_sets rs)
     ∙ is_member-join none rs
@@ -87,49 +84,60 @@ any-join rs =
 
 -- What a list comes to hangs on its sets and its other members alone.
 
-collected-same : (rs ss : List Regex) → meet_of (sets_in rs) ≡ meet_of (sets_in ss) → ((r : Regex) → other r → is_member r rs ≡ is_member r ss) → collected rs ≡ collected ss
+collected-same : (rs ss : List Regex) → meet_of (sets_in rs) ≡ meet_of (sets_in ss)
+    → ((r : Regex) → other r → is_member r rs ≡ is_member r ss) → collected rs ≡ collected ss
 collected-same rs ss sets others =
-    only_ascending (collected rs) (collected ss) (ascending-sorted _) (ascending-sorted _) (λ r. at r (is_set r) refl (is_anything r) refl)
+    only_ascending (collected rs) (collected ss) (ascending-sorted _) (ascending-sorted _)
+    (λ r. at r (is_set r) refl (is_anything r) refl)
   where
-    at : (r : Regex) (b : Bool) → is_set r ≡ b → (d : Bool) → is_anything r ≡ d → is_member r (collected rs) ≡ is_member r (collected ss)
+    at : (r : Regex) (b : Bool) → is_set r ≡ b → (d : Bool) → is_anything r ≡ d
+        → is_member r (collected rs) ≡ is_member r (collected ss)
     at r true is d also =
         is_member-tested r rs
         ∙ ap₂ (λ x y. not (is_anything r) && (is_member r x || (not y && is_member r rs))) sets is
-        ∙ sym (is_member-tested r ss ∙ ap (λ y. not (is_anything r) && (is_member r (meet_of (sets_in ss)) || (not y && is_member r ss))) is)
+        ∙ sym (is_member-tested r ss
+        ∙ ap (λ y. not (is_anything r) && (is_member r (meet_of (sets_in ss)) || (not y && is_member r ss))) is)
     at r false is true also =
-        is_member-tested r rs ∙ ap (λ x. not x && (is_member r (meet_of (sets_in rs)) || (not (is_set r) && is_member r rs))) also
-        ∙ sym (is_member-tested r ss ∙ ap (λ x. not x && (is_member r (meet_of (sets_in ss)) || (not (is_set r) && is_member r ss))) also)
+        is_member-tested r rs
+        ∙ ap (λ x. not x && (is_member r (meet_of (sets_in rs)) || (not (is_set r) && is_member r rs))) also
+        ∙ sym (is_member-tested r ss
+        ∙ ap (λ x. not x && (is_member r (meet_of (sets_in ss)) || (not (is_set r) && is_member r ss))) also)
     at r false is false also =
         is_member-tested r rs
         ∙ ap₂ (λ x y. not (is_anything r) && (is_member r x || (not (is_set r) && y))) sets (others r (is, also))
         ∙ sym (is_member-tested r ss)
 
-pub finish-same : (rs ss : List Regex) → meet_of (sets_in rs) ≡ meet_of (sets_in ss) → ((r : Regex) → other r → is_member r rs ≡ is_member r ss) → finish rs ≡ finish ss
+pub finish-same : (rs ss : List Regex) → meet_of (sets_in rs) ≡ meet_of (sets_in ss)
+    → ((r : Regex) → other r → is_member r rs ≡ is_member r ss) → finish rs ≡ finish ss
 finish-same rs ss sets others =
     ap₂ (λ b xs. cond b none (and_of xs))
-    (any-join rs ∙ ap₂ (λ x y. is_member none x || y) sets (others none other-none) ∙ sym (any-join ss)) (collected-same rs ss sets others)
+    (any-join rs ∙ ap₂ (λ x y. is_member none x || y) sets (others none other-none) ∙ sym (any-join ss))
+    (collected-same rs ss sets others)
 
 finish-none : (rs : List Regex) → list_any is_none (meet_sets rs) ≡ true → finish rs ≡ none
 finish-none rs h = ap (λ b. cond b none (and_of (collected rs))) h
 
 -- The sets of a list that is collected.
 
-pub in_inter_of : (s : List Range) (ss : List (List Range)) (c : ℕ) → in_ranges (inter_of s ss) c ≡ list_all (λ x. in_ranges x c) (s ∷ ss)
+pub in_inter_of : (s : List Range) (ss : List (List Range)) (c : ℕ)
+    → in_ranges (inter_of s ss) c ≡ list_all (λ x. in_ranges x c) (s ∷ ss)
 unfolding inter_of
 in_inter_of s [] c = sym (and-true (in_ranges s c))
 in_inter_of s (t ∷ ts) c = in_ranges-inter s (inter_of t ts) c ∙ ap (λ b. in_ranges s c && b) (in_inter_of t ts c)
 
 -- the intersection of some of the sets in their place
-meet_of-more : (xs : List (List Range)) (s : List Range) (ss : List (List Range)) → all_canonical xs ≡ true → all_canonical (s ∷ ss) ≡ true → meet_of (xs ++ inter_of s ss ∷ []) ≡ meet_of (xs ++ s ∷ ss)
+meet_of-more : (xs : List (List Range)) (s : List Range) (ss : List (List Range)) → all_canonical xs ≡ true
+    → all_canonical (s ∷ ss) ≡ true → meet_of (xs ++ inter_of s ss ∷ []) ≡ meet_of (xs ++ s ∷ ss)
 unfolding meet_of inter_of
 meet_of-more [] s ss h g = refl
 meet_of-more (x ∷ xs) s ss h g =
     let p = and_parts (rises_from 0 x) (all_canonical xs) h in
     let q = and_parts (rises_from 0 s) (all_canonical ss) g in
     ap (λ y. mkset y ∷ [])
-    (same_ranges 0 (inter_of x (xs ++ inter_of s ss ∷ [])) (inter_of x (xs ++ s ∷ ss))
+    (same_from 0 (inter_of x (xs ++ inter_of s ss ∷ [])) (inter_of x (xs ++ s ∷ ss))
     (IsCanonical-inter_of x (xs ++ inter_of s ss ∷ []) p.0
-    (list_all-append (rises_from 0) xs (inter_of s ss ∷ []) ∙ ap₂ ◌&&◌ p.1 (ap (λ b. b && true) (IsCanonical-inter_of s ss q.0 q.1))))
+    (list_all-append (rises_from 0) xs (inter_of s ss ∷ [])
+    ∙ ap₂ ◌&&◌ p.1 (ap (λ b. b && true) (IsCanonical-inter_of s ss q.0 q.1))))
     (IsCanonical-inter_of x (xs ++ s ∷ ss) p.0 (list_all-append (rises_from 0) xs (s ∷ ss) ∙ ap₂ ◌&&◌ p.1 g))
     (λ c.
     in_inter_of x (xs ++ inter_of s ss ∷ []) c
@@ -140,36 +148,41 @@ meet_of-more (x ∷ xs) s ss h g =
     ∙ sym (in_inter_of x (xs ++ s ∷ ss) c)))
 
 -- where the sets have nothing in common, they have nothing with more of them
-meet_of-empty : (xs : List (List Range)) (s : List Range) (ss : List (List Range)) → all_canonical xs ≡ true → all_canonical (s ∷ ss) ≡ true → inter_of s ss ≡ [] → meet_of (xs ++ s ∷ ss) ≡ none ∷ []
+meet_of-empty : (xs : List (List Range)) (s : List Range) (ss : List (List Range)) → all_canonical xs ≡ true
+    → all_canonical (s ∷ ss) ≡ true → inter_of s ss ≡ [] → meet_of (xs ++ s ∷ ss) ≡ none ∷ []
 unfolding meet_of mkset
 meet_of-empty [] s ss h g e = ap (λ y. mkset y ∷ []) e
 meet_of-empty (x ∷ xs) s ss h g e =
     let p = and_parts (rises_from 0 x) (all_canonical xs) h in
     ap (λ y. mkset y ∷ [])
-    (same_ranges 0 (inter_of x (xs ++ s ∷ ss)) []
+    (same_from 0 (inter_of x (xs ++ s ∷ ss)) []
     (IsCanonical-inter_of x (xs ++ s ∷ ss) p.0 (list_all-append (rises_from 0) xs (s ∷ ss) ∙ ap₂ ◌&&◌ p.1 g))
-    (empty_rises 0)
+    (rises_from-nil 0)
     (λ c.
     in_inter_of x (xs ++ s ∷ ss) c
     ∙ ap (λ b. in_ranges x c && b)
     (list_all-append (λ y. in_ranges y c) xs (s ∷ ss)
-    ∙ ap (λ b. list_all (λ y. in_ranges y c) xs && b) (sym (in_inter_of s ss c) ∙ ap (λ y. in_ranges y c) e ∙ none_within c)
+    ∙ ap (λ b. list_all (λ y. in_ranges y c) xs && b) (sym (in_inter_of s ss c) ∙ ap (λ y. in_ranges y c) e
+    ∙ in_ranges-nil c)
     ∙ and-false (list_all (λ y. in_ranges y c) xs))
     ∙ and-false (in_ranges x c)
-    ∙ sym (none_within c)))
+    ∙ sym (in_ranges-nil c)))
 
 sets_in-with_set : (s : List Range) (rs : List Regex) → sets_in rs ≡ [] → sets_in (with_regex (set s) rs) ≡ s ∷ []
 unfolding with_regex ranges_of
 sets_in-with_set s [] h = refl
 sets_in-with_set s (r ∷ rs) h = step (sets_in-with_set s rs) (ranges_of r) refl (regex_cmp (set s) r) refl
   where
-    step : (sets_in rs ≡ [] → sets_in (with_regex (set s) rs) ≡ s ∷ []) → (x : List (List Range)) → ranges_of r ≡ x → (o : Ordering) → regex_cmp (set s) r ≡ o →
+    step : (sets_in rs ≡ [] → sets_in (with_regex (set s) rs) ≡ s ∷ []) → (x : List (List Range)) → ranges_of r ≡ x
+        → (o : Ordering) → regex_cmp (set s) r ≡ o →
         sets_in (elim o [ Less ↦ set s ∷ r ∷ rs | Equal ↦ r ∷ rs | Greater ↦ r ∷ with_regex (set s) rs ]) ≡ s ∷ []
     step rest x is Less eq = ap (λ y. s ∷ y) h
-    step rest x is Equal eq = absurd (cons_is_not_nil s (sets_in rs) (ap (λ y. ranges_of y ++ sets_in rs) ((cmp_decides (set s) r).0 eq) ∙ h))
+    step rest x is Equal eq =
+        absurd (cons_is_not_nil s (sets_in rs) (ap (λ y. ranges_of y ++ sets_in rs) ((cmp_decides (set s) r).0 eq) ∙ h))
     step rest [] is Greater eq =
         ap (λ y. y ++ sets_in (with_regex (set s) rs)) is ∙ rest (ap (λ y. y ++ sets_in rs) (sym is) ∙ h)
-    step rest (x ∷ xs) is Greater eq = absurd (cons_is_not_nil x (xs ++ sets_in rs) (ap (λ y. y ++ sets_in rs) (sym is) ∙ h))
+    step rest (x ∷ xs) is Greater eq =
+        absurd (cons_is_not_nil x (xs ++ sets_in rs) (ap (λ y. y ++ sets_in rs) (sym is) ∙ h))
 
 no_sets-sorted : (rs : List Regex) → sets_in rs ≡ [] → sets_in (sorted rs) ≡ []
 no_sets-sorted rs h = empty_list (sets_in (sorted rs)) (omega (arith, sets_in-sorted rs, ap length h))
@@ -182,17 +195,20 @@ sets-collected_none : (rs : List Regex) → sets_in rs ≡ [] → sets_in (colle
 unfolding meet_sets meet_of
 sets-collected_none rs h =
     no_sets-sorted (filter (λ r. not (is_anything r)) (meet_sets rs))
-    (no_sets-filter (λ r. not (is_anything r)) (meet_sets rs) (ap (λ ss. sets_in (meet_of ss ++ without_sets rs)) h ∙ sets_in-without rs))
+    (no_sets-filter (λ r. not (is_anything r)) (meet_sets rs) (ap (λ ss. sets_in (meet_of ss ++ without_sets rs)) h
+    ∙ sets_in-without rs))
 
 -- and of some their intersection, where it is not empty
-sets-collected_some : (rs : List Regex) (s : List Range) (ss : List (List Range)) → sets_in rs ≡ s ∷ ss → mkset (inter_of s ss) ≡ set (inter_of s ss) → sets_in (collected rs) ≡ inter_of s ss ∷ []
+sets-collected_some : (rs : List Regex) (s : List Range) (ss : List (List Range)) → sets_in rs ≡ s ∷ ss
+    → mkset (inter_of s ss) ≡ set (inter_of s ss) → sets_in (collected rs) ≡ inter_of s ss ∷ []
 unfolding meet_sets meet_of sorted code codes
 sets-collected_some rs s ss h some =
     let is : meet_sets rs ≡ set (inter_of s ss) ∷ without_sets rs =
     ap (λ x. meet_of x ++ without_sets rs) h ∙ ap (λ y. y ∷ without_sets rs) some in
     ap (λ xs. sets_in (sorted (filter (λ r. not (is_anything r)) xs))) is
     ∙ sets_in-with_set (inter_of s ss) (sorted (filter (λ r. not (is_anything r)) (without_sets rs)))
-    (no_sets-sorted (filter (λ r. not (is_anything r)) (without_sets rs)) (no_sets-filter (λ r. not (is_anything r)) (without_sets rs) (sets_in-without rs)))
+    (no_sets-sorted (filter (λ r. not (is_anything r)) (without_sets rs))
+    (no_sets-filter (λ r. not (is_anything r)) (without_sets rs) (sets_in-without rs)))
 
 -- The members of what was collected stand for the list.
 
@@ -202,7 +218,8 @@ conjuncts_itself (and ps) h = absurd (false≢true h)
 conjuncts_itself r h = refl
 
 -- in all but none, a list as the members of the intersection that it makes
-members_again : (rs : List Regex) (r : Regex) → AreMembers is_and rs → is_anything r ≡ false → is_member r (conjuncts (and_of rs)) ≡ is_member r rs
+members_again : (rs : List Regex) (r : Regex) → AreMembers is_and rs → is_anything r ≡ false
+    → is_member r (conjuncts (and_of rs)) ≡ is_member r rs
 unfolding and_of conjuncts
 members_again [] r m o = ap (λ b. b || false) o
 members_again (x ∷ []) r m o = ap (is_member r) (conjuncts_itself x (and_parts (not (is_and x)) true m.flat).0)
@@ -223,12 +240,6 @@ good_is_normal r h = (and_parts (is_normal r) (not (is_and r)) h).0
 good_is_flat : (r : Regex) → good r ≡ true → not (is_and r) ≡ true
 unfolding good
 good_is_flat r h = (and_parts (is_normal r) (not (is_and r)) h).1
-
-normal_again : (rs : List Regex) → AreMembers is_and rs → list_all is_normal (conjuncts (and_of rs)) ≡ true
-unfolding and_of conjuncts is_normal all_normal mknot code
-normal_again [] m = refl
-normal_again (x ∷ []) m = ap (list_all is_normal) (conjuncts_itself x (and_parts (not (is_and x)) true m.flat).0) ∙ m.normal
-normal_again (x ∷ y ∷ xs) m = ap (list_all is_normal) (parts-regexes (x ∷ y ∷ xs)) ∙ m.normal
 
 none_itself : is_member none (conjuncts none) ≡ true
 unfolding conjuncts
@@ -257,12 +268,15 @@ no_set_is_other r s o = step (regex_eq r (set s)) refl
     step true is = absurd (false≢true (sym o.0 ∙ ap is_set (same_regex r (set s) is)))
     step false is = refl
 
-empty_of_more : (xs ys : List (List Range)) → all_canonical xs ≡ true → all_canonical ys ≡ true → is_member none (meet_of ys) ≡ true → is_member none (meet_of (xs ++ ys)) ≡ true
+empty_of_more : (xs ys : List (List Range)) → all_canonical xs ≡ true → all_canonical ys ≡ true
+    → is_member none (meet_of ys) ≡ true → is_member none (meet_of (xs ++ ys)) ≡ true
 unfolding meet_of
 empty_of_more xs [] h g is = absurd (false≢true is)
-empty_of_more xs (s ∷ ss) h g is = ap (is_member none) (meet_of-empty xs s ss h g (mkset_none (inter_of s ss) is)) ∙ ap (λ b. b || false) (regex_eq-itself none)
+empty_of_more xs (s ∷ ss) h g is = ap (is_member none) (meet_of-empty xs s ss h g (mkset_none (inter_of s ss) is))
+    ∙ ap (λ b. b || false) (regex_eq-itself none)
 
-same_meet : (xs : List (List Range)) (ys : List Regex) → all_canonical xs ≡ true → all_canonical (sets_in ys) ≡ true → is_member none (meet_of (sets_in ys)) ≡ false → (zs : List (List Range)) → sets_in ys ≡ zs →
+same_meet : (xs : List (List Range)) (ys : List Regex) → all_canonical xs ≡ true → all_canonical (sets_in ys) ≡ true
+    → is_member none (meet_of (sets_in ys)) ≡ false → (zs : List (List Range)) → sets_in ys ≡ zs →
     meet_of (xs ++ sets_in (collected ys)) ≡ meet_of (xs ++ sets_in ys)
 same_meet xs ys h g no_none [] is = ap (λ z. meet_of (xs ++ z)) (sets-collected_none ys is ∙ sym is)
 same_meet xs ys h g no_none (s ∷ ss) is = elim (mkset_cases (inter_of s ss)) [
@@ -273,7 +287,8 @@ same_meet xs ys h g no_none (s ∷ ss) is = elim (mkset_cases (inter_of s ss)) [
       ∙ ap (λ z. meet_of (xs ++ z)) (sym is)
 ]
 
-not_in_meet : (r : Regex) (ss : List (List Range)) → other r → is_member none (meet_of ss) ≡ false → is_member r (meet_of ss) ≡ false
+not_in_meet : (r : Regex) (ss : List (List Range)) → other r → is_member none (meet_of ss) ≡ false
+    → is_member r (meet_of ss) ≡ false
 unfolding meet_of
 not_in_meet r [] o no_none = refl
 not_in_meet r (s ∷ ss) o no_none = elim (mkset_cases (inter_of s ss)) [
@@ -282,7 +297,8 @@ not_in_meet r (s ∷ ss) o no_none = elim (mkset_cases (inter_of s ss)) [
 ]
 
 -- a member that is no set, and not every word, was there before
-is_member-collected : (r : Regex) (rs : List Regex) → other r → is_member none (meet_of (sets_in rs)) ≡ false → is_member r (collected rs) ≡ is_member r rs
+is_member-collected : (r : Regex) (rs : List Regex) → other r → is_member none (meet_of (sets_in rs)) ≡ false
+    → is_member r (collected rs) ≡ is_member r rs
 is_member-collected r rs o no_none =
     is_member-tested r rs
     ∙ ap₂ (λ x y. not x && (is_member r (meet_of (sets_in rs)) || (not y && is_member r rs))) o.1 o.0
@@ -295,20 +311,25 @@ normal_of : (zs : List Regex) → list_all good zs ≡ true → list_all is_norm
 normal_of zs k = list_all-from good is_normal zs good_is_normal k
 
 -- where the one list has none, or sets that have nothing in common, so has the longer one
-none_of_more : (xs ys : List Regex) → list_all good xs ≡ true → list_all good ys ≡ true → list_any is_none (meet_sets ys) ≡ true → list_any is_none (meet_sets (xs ++ ys)) ≡ true
-none_of_more xs ys h g is = elim (or_cases (is_member none (meet_of (sets_in ys))) (is_member none ys) (sym (any-join ys) ∙ is)) [
-  | inl empty ↦
-      any-join (xs ++ ys)
-      ∙ ap (λ b. b || is_member none (xs ++ ys))
-      (ap (λ x. is_member none (meet_of x)) (sets-both xs ys)
-      ∙ empty_of_more (sets_in xs) (sets_in ys) (sets_in-canonical xs (normal_of xs h)) (sets_in-canonical ys (normal_of ys g)) empty)
-  | inr here ↦
-      any-join (xs ++ ys)
-      ∙ ap (λ b. is_member none (meet_of (sets_in (xs ++ ys))) || b) (is_member-both none xs ys ∙ ap (λ b. is_member none xs || b) here ∙ or-true (is_member none xs))
-      ∙ or-true (is_member none (meet_of (sets_in (xs ++ ys))))
-]
+none_of_more : (xs ys : List Regex) → list_all good xs ≡ true → list_all good ys ≡ true
+    → list_any is_none (meet_sets ys) ≡ true → list_any is_none (meet_sets (xs ++ ys)) ≡ true
+none_of_more xs ys h g is =
+    elim (or_cases (is_member none (meet_of (sets_in ys))) (is_member none ys) (sym (any-join ys) ∙ is)) [
+      | inl empty ↦
+          any-join (xs ++ ys)
+          ∙ ap (λ b. b || is_member none (xs ++ ys))
+          (ap (λ x. is_member none (meet_of x)) (sets-both xs ys)
+          ∙ empty_of_more (sets_in xs) (sets_in ys) (sets_in-canonical xs (normal_of xs h))
+          (sets_in-canonical ys (normal_of ys g)) empty)
+      | inr here ↦
+          any-join (xs ++ ys)
+          ∙ ap (λ b. is_member none (meet_of (sets_in (xs ++ ys))) || b)
+          (is_member-both none xs ys ∙ ap (λ b. is_member none xs || b) here ∙ or-true (is_member none xs))
+          ∙ or-true (is_member none (meet_of (sets_in (xs ++ ys))))
+    ]
 
-intersection_step : (xs ys : List Regex) → list_all good xs ≡ true → list_all good ys ≡ true → finish (xs ++ conjuncts (finish ys)) ≡ finish (xs ++ ys)
+intersection_step : (xs ys : List Regex) → list_all good xs ≡ true → list_all good ys ≡ true
+    → finish (xs ++ conjuncts (finish ys)) ≡ finish (xs ++ ys)
 intersection_step xs ys h g = step (list_any is_none (meet_sets ys)) refl
   where
     step : (b : Bool) → list_any is_none (meet_sets ys) ≡ b → finish (xs ++ conjuncts (finish ys)) ≡ finish (xs ++ ys)
@@ -316,74 +337,35 @@ intersection_step xs ys h g = step (list_any is_none (meet_sets ys)) refl
         ap (λ x. finish (xs ++ conjuncts x)) (finish-none ys is)
         ∙ finish-none (xs ++ conjuncts none)
         (any-join (xs ++ conjuncts none)
-        ∙ ap (λ b. is_member none (meet_of (sets_in (xs ++ conjuncts none))) || b) (is_member-both none xs (conjuncts none) ∙ ap (λ b. is_member none xs || b) none_itself ∙ or-true (is_member none xs))
+        ∙ ap (λ b. is_member none (meet_of (sets_in (xs ++ conjuncts none))) || b)
+        (is_member-both none xs (conjuncts none) ∙ ap (λ b. is_member none xs || b) none_itself
+        ∙ or-true (is_member none xs))
         ∙ or-true (is_member none (meet_of (sets_in (xs ++ conjuncts none)))))
         ∙ sym (finish-none (xs ++ ys) (none_of_more xs ys h g is))
     step false is =
-        let m = AreMembers-collected ys (normal_of ys g) (list_all-from good (λ r. not (is_and r)) ys good_is_flat g) is in
-        let parts_false = or_parts (is_member none (meet_of (sets_in ys))) (is_member none ys) (sym (any-join ys) ∙ is) in
+        let m = AreMembers-collected ys (normal_of ys g) (list_all-from good (λ r. not (is_and r)) ys good_is_flat g) is
+        in
+        let parts_false = or_parts (is_member none (meet_of (sets_in ys))) (is_member none ys) (sym (any-join ys) ∙ is)
+        in
         ap (λ b. finish (xs ++ conjuncts (cond b none (and_of (collected ys))))) is
         ∙ finish-same (xs ++ conjuncts (and_of (collected ys))) (xs ++ ys)
-        (ap meet_of (sets-both xs (conjuncts (and_of (collected ys))) ∙ ap (λ z. sets_in xs ++ z) (sets_again (collected ys) m))
-        ∙ same_meet (sets_in xs) ys (sets_in-canonical xs (normal_of xs h)) (sets_in-canonical ys (normal_of ys g)) parts_false.0 (sets_in ys) refl
+        (ap meet_of (sets-both xs (conjuncts (and_of (collected ys)))
+        ∙ ap (λ z. sets_in xs ++ z) (sets_again (collected ys) m))
+        ∙ same_meet (sets_in xs) ys (sets_in-canonical xs (normal_of xs h)) (sets_in-canonical ys (normal_of ys g))
+        parts_false.0 (sets_in ys) refl
         ∙ ap meet_of (sym (sets-both xs ys)))
         (λ r o.
         is_member-both r xs (conjuncts (and_of (collected ys)))
-        ∙ ap (λ b. is_member r xs || b) (members_again (collected ys) r m o.1 ∙ is_member-collected r ys o parts_false.0)
+        ∙ ap (λ b. is_member r xs || b) (members_again (collected ys) r m o.1
+        ∙ is_member-collected r ys o parts_false.0)
         ∙ sym (is_member-both r xs ys))
 
-pub intersection_of_more : (a : Regex) (rs : List Regex) → is_normal a ≡ true → list_all is_normal rs ≡ true → mkand (a ∷ mkand rs ∷ []) ≡ mkand (a ∷ rs)
+pub intersection_of_more : (a : Regex) (rs : List Regex) → is_normal a ≡ true → list_all is_normal rs ≡ true
+    → mkand (a ∷ mkand rs ∷ []) ≡ mkand (a ∷ rs)
 intersection_of_more a rs h g =
     mkand-finish (a ∷ mkand rs ∷ [])
     ∙ ap (λ xs. finish (conjuncts a ++ xs)) (append-nil (conjuncts (mkand rs)))
     ∙ ap (λ x. finish (conjuncts a ++ conjuncts x)) (mkand-finish rs)
-    ∙ intersection_step (conjuncts a) (flat_map conjuncts rs) (good-conjuncts a h) (list_all-flat good is_normal conjuncts rs good-conjuncts g)
+    ∙ intersection_step (conjuncts a) (flat_map conjuncts rs) (good-conjuncts a h)
+    (list_all-flat good is_normal conjuncts rs good-conjuncts g)
     ∙ sym (mkand-finish (a ∷ rs))
-
--- of one
-
-and_of_one : (a : Regex) → and_of (a ∷ []) ≡ a
-unfolding and_of
-and_of_one a = refl
-
-of_none : mkand (none ∷ []) ≡ none
-unfolding mkand conjuncts meet_sets meet_of ranges_of is_set sorted and_of code codes
-of_none = refl
-
-of_anything : mkand (anything ∷ []) ≡ anything
-unfolding mkand conjuncts meet_sets meet_of ranges_of is_set sorted and_of code codes
-of_anything = refl
-
-whole_again : (ps : Regexes) → is_normal (and ps) ≡ true → mkand (parts ps) ≡ and ps
-unfolding is_normal all_normal
-whole_again ps h = same_regex (mkand (parts ps)) (and ps) (and_parts (all_normal ps) (regex_eq (mkand (parts ps)) (and ps)) h).1
-
-one_member : (a : Regex) → is_normal a ≡ true → is_anything a ≡ false → is_none a ≡ false → is_and a ≡ false → AreMembers is_and (a ∷ [])
-unfolding ascending
-one_member a h no_anything no_none no_alt = record {
-  normal = ap (λ b. b && true) h;
-  flat = ap (λ b. not b && true) no_alt;
-  no_anything = ap (λ b. not b && true) no_anything;
-  no_none = ap (λ b. not b && true) no_none;
-  few = few_in_one a;
-  rising = refl;
-}
-
-of_intersection : (a : Regex) → is_normal a ≡ true → is_and a ≡ true → mkand (a ∷ []) ≡ a
-unfolding is_and conjuncts
-of_intersection (and ps) h is =
-    mkand-finish (and ps ∷ [])
-    ∙ ap finish (append-nil (parts ps))
-    ∙ ap finish (sym (flat_map-conjuncts (parts ps) (AreMembers-parts ps h).flat))
-    ∙ sym (mkand-finish (parts ps))
-    ∙ whole_again ps h
-of_intersection r h is = absurd (false≢true is)
-
-pub intersection_of_one : (a : Regex) → is_normal a ≡ true → mkand (a ∷ []) ≡ a
-intersection_of_one a h = step (is_none a) refl (is_anything a) refl (is_and a) refl
-  where
-    step : (b : Bool) → is_none a ≡ b → (d : Bool) → is_anything a ≡ d → (e : Bool) → is_and a ≡ e → mkand (a ∷ []) ≡ a
-    step true is d also e last = ap (λ x. mkand (x ∷ [])) (same_regex a none is) ∙ of_none ∙ sym (same_regex a none is)
-    step false is true also e last = ap (λ x. mkand (x ∷ [])) (same_regex a anything also) ∙ of_anything ∙ sym (same_regex a anything also)
-    step false is false also true last = of_intersection a h last
-    step false is false also false last = mkand-members (a ∷ []) (one_member a h also is last) ∙ and_of_one a

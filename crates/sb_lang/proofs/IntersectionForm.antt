@@ -22,14 +22,17 @@ is_and r = false
 abbrev pub collected : List Regex → List Regex
 collected rs = sorted (filter (λ r. not (is_anything r)) (meet_sets rs))
 
-list_all-collected : (p : Regex → Bool) (rs : List Regex) → list_all p (meet_of (sets_in rs)) ≡ true → list_all p rs ≡ true → list_all p (collected rs) ≡ true
+list_all-collected : (p : Regex → Bool) (rs : List Regex) → list_all p (meet_of (sets_in rs)) ≡ true
+    → list_all p rs ≡ true → list_all p (collected rs) ≡ true
 unfolding meet_sets
 list_all-collected p rs one all =
     list_all-sorted p (filter (λ r. not (is_anything r)) (meet_sets rs))
     ∙ list_all-filter p (λ r. not (is_anything r)) (meet_sets rs)
-    (list_all-append p (meet_of (sets_in rs)) (without_sets rs) ∙ ap₂ ◌&&◌ one (list_all-filter p (λ r. not (is_set r)) rs all))
+    (list_all-append p (meet_of (sets_in rs)) (without_sets rs)
+    ∙ ap₂ ◌&&◌ one (list_all-filter p (λ r. not (is_set r)) rs all))
 
-list_all-meet_of : (p : Regex → Bool) (ss : List (List Range)) → ((s : List Range) → p (mkset s) ≡ true) → list_all p (meet_of ss) ≡ true
+list_all-meet_of : (p : Regex → Bool) (ss : List (List Range)) → ((s : List Range) → p (mkset s) ≡ true)
+    → list_all p (meet_of ss) ≡ true
 unfolding meet_of
 list_all-meet_of p [] each = refl
 list_all-meet_of p (s ∷ ss) each = ap (λ b. b && true) (each (inter_of s ss))
@@ -55,23 +58,28 @@ small-conjuncts : (k : ℕ) (r : Regex) → small (suc k) r ≡ true → list_al
 unfolding small is_and conjuncts code codes
 small-conjuncts k (and ps) h =
     let lt = ltb-true (size (and ps)) (suc k) h in
-    list_all-from (λ r. nat_lt (size r) k) (small k) (parts ps) (λ r g. or_right (not (is_and r)) _ g) (parts-small ps k (omega (arith, lt)))
+    list_all-from (λ r. nat_lt (size r) k) (small k) (parts ps) (λ r g. or_right (not (is_and r)) _ g)
+    (parts-small ps k (omega (arith, lt)))
   where
     or_right : (x y : Bool) → y ≡ true → (x || y) ≡ true
     or_right true y g = refl
     or_right false y g = g
 small-conjuncts k r h = refl
 
-small-collected : (k : ℕ) (rs : List Regex) → list_all (small (suc k)) rs ≡ true → list_all (small k) (collected (flat_map conjuncts rs)) ≡ true
+small-collected : (k : ℕ) (rs : List Regex) → list_all (small (suc k)) rs ≡ true
+    → list_all (small k) (collected (flat_map conjuncts rs)) ≡ true
 small-collected k rs h =
-    list_all-collected (small k) (flat_map conjuncts rs) (list_all-meet_of (small k) (sets_in (flat_map conjuncts rs)) (small-mkset k))
+    list_all-collected (small k) (flat_map conjuncts rs)
+    (list_all-meet_of (small k) (sets_in (flat_map conjuncts rs)) (small-mkset k))
     (list_all-flat (small k) (small (suc k)) conjuncts rs (small-conjuncts k) h)
 
 small-zero : (r : Regex) → small 0 r ≡ true → not (is_and r) ≡ true
 unfolding small
-small-zero r h = elim (or_cases (not (is_and r)) (nat_lt (size r) 0) h) [ inl e ↦ e | inr lt ↦ absurd (omega (arith, ltb-true (size r) 0 lt)) ]
+small-zero r h = elim (or_cases (not (is_and r)) (nat_lt (size r) 0) h)
+    [ inl e ↦ e | inr lt ↦ absurd (omega (arith, ltb-true (size r) 0 lt)) ]
 
-none_left : (k : ℕ) (rs : List Regex) → rs ≡ collected (flat_map conjuncts rs) → list_all (small k) rs ≡ true → list_all (λ r. not (is_and r)) rs ≡ true
+none_left : (k : ℕ) (rs : List Regex) → rs ≡ collected (flat_map conjuncts rs) → list_all (small k) rs ≡ true
+    → list_all (λ r. not (is_and r)) rs ≡ true
 none_left zero rs same h = list_all-from (small 0) (λ r. not (is_and r)) rs small-zero h
 none_left (suc k) rs same h = none_left k rs same (ap (list_all (small k)) same ∙ small-collected k rs h)
 
@@ -108,22 +116,32 @@ few_joined rs =
       ap length (sets_in-without rs),
     )
 
-pub AreMembers-collected : (rs : List Regex) → list_all is_normal rs ≡ true → list_all (λ r. not (is_and r)) rs ≡ true → list_any is_none (meet_sets rs) ≡ false → AreMembers is_and (collected rs)
+pub AreMembers-collected : (rs : List Regex) → list_all is_normal rs ≡ true → list_all (λ r. not (is_and r)) rs ≡ true
+    → list_any is_none (meet_sets rs) ≡ false → AreMembers is_and (collected rs)
 AreMembers-collected rs normal flat plain = record {
   normal = list_all-collected is_normal rs (normal_meet (sets_in rs) (sets_in-canonical rs normal)) normal;
-  flat = list_all-collected (λ r. not (is_and r)) rs (list_all-meet_of (λ r. not (is_and r)) (sets_in rs) no_and_in) flat;
-  no_anything = list_all-sorted (λ r. not (is_anything r)) (filter (λ r. not (is_anything r)) (meet_sets rs)) ∙ filter-passes (λ r. not (is_anything r)) (meet_sets rs);
+  flat = list_all-collected (λ r. not (is_and r)) rs (list_all-meet_of (λ r. not (is_and r)) (sets_in rs) no_and_in)
+      flat;
+  no_anything = list_all-sorted (λ r. not (is_anything r)) (filter (λ r. not (is_anything r)) (meet_sets rs))
+      ∙ filter-passes (λ r. not (is_anything r)) (meet_sets rs);
   no_none =
       list_all-sorted (λ r. not (is_none r)) (filter (λ r. not (is_anything r)) (meet_sets rs))
-      ∙ list_all-filter (λ r. not (is_none r)) (λ r. not (is_anything r)) (meet_sets rs) (list_all-none is_none (meet_sets rs) plain);
+      ∙ list_all-filter (λ r. not (is_none r)) (λ r. not (is_anything r)) (meet_sets rs)
+      (list_all-none is_none (meet_sets rs) plain);
   few = few_sets;
   rising = ascending-sorted (filter (λ r. not (is_anything r)) (meet_sets rs));
 }
   where
     few_sets : length (sets_in (collected rs)) ≤ 1
-    few_sets = omega (arith, sets_in-sorted (filter (λ r. not (is_anything r)) (meet_sets rs)), sets_in-filter (λ r. not (is_anything r)) (meet_sets rs), few_joined rs)
+    few_sets = omega (
+      arith,
+      sets_in-sorted (filter (λ r. not (is_anything r)) (meet_sets rs)),
+      sets_in-filter (λ r. not (is_anything r)) (meet_sets rs),
+      few_joined rs,
+    )
 
-mkand-is : (rs : List Regex) → list_any is_none (meet_sets (flat_map conjuncts rs)) ≡ false → mkand rs ≡ and_of (collected (flat_map conjuncts rs))
+mkand-is : (rs : List Regex) → list_any is_none (meet_sets (flat_map conjuncts rs)) ≡ false
+    → mkand rs ≡ and_of (collected (flat_map conjuncts rs))
 unfolding mkand
 mkand-is rs plain = ap (λ b. cond b none (and_of (collected (flat_map conjuncts rs)))) plain
 
@@ -135,29 +153,36 @@ flat_map-conjuncts (r ∷ rs) h = ap (λ xs. r ∷ xs) (flat_map-conjuncts rs h)
 
 -- collecting such members changes nothing
 
-collected-plain : (rs : List Regex) → AreMembers is_and rs → sets_in rs ≡ [] → (list_any is_none (meet_sets rs) ≡ false) × (collected rs ≡ rs)
+collected-plain : (rs : List Regex) → AreMembers is_and rs → sets_in rs ≡ [] → (list_any is_none (meet_sets rs) ≡ false)
+    × (collected rs ≡ rs)
 unfolding meet_sets meet_of
 collected-plain rs m no_set =
     let is : meet_sets rs ≡ rs = ap₂ (λ ss xs. meet_of ss ++ xs) no_set (without_sets-whole rs no_set) in (
       ap (list_any is_none) is ∙ list_any-none is_none rs m.no_none,
-      ap (λ xs. sorted (filter (λ r. not (is_anything r)) xs)) is ∙ sorted_whole (λ r. not (is_anything r)) rs m.no_anything m.rising,
+      ap (λ xs. sorted (filter (λ r. not (is_anything r)) xs)) is
+          ∙ sorted_whole (λ r. not (is_anything r)) rs m.no_anything m.rising,
     )
 
-collected-one : (rs : List Regex) (s : List Range) → AreMembers is_and rs → sets_in rs ≡ s ∷ [] → (list_any is_none (meet_sets rs) ≡ false) × (collected rs ≡ rs)
+collected-one : (rs : List Regex) (s : List Range) → AreMembers is_and rs → sets_in rs ≡ s ∷ []
+    → (list_any is_none (meet_sets rs) ≡ false) × (collected rs ≡ rs)
 unfolding meet_sets meet_of inter_of code codes
 collected-one rs s m one =
     let normal_set : is_normal (set s) ≡ true = has_set s rs is_normal m.normal one in
     let is : meet_sets rs ≡ set s ∷ without_sets rs =
     ap (λ ss. meet_of ss ++ without_sets rs) one ∙ ap (λ x. x ∷ without_sets rs) (mkset-normal s normal_set) in (
-      ap (list_any is_none) is ∙ list_any-none is_none (without_sets rs) (list_all-filter (λ r. not (is_none r)) (λ r. not (is_set r)) rs m.no_none),
-      ap (λ xs. sorted (filter (λ r. not (is_anything r)) xs)) is ∙ sorted_again (λ r. not (is_anything r)) s rs m.no_anything m.rising one,
+      ap (list_any is_none) is
+          ∙ list_any-none is_none (without_sets rs)
+          (list_all-filter (λ r. not (is_none r)) (λ r. not (is_set r)) rs m.no_none),
+      ap (λ xs. sorted (filter (λ r. not (is_anything r)) xs)) is
+          ∙ sorted_again (λ r. not (is_anything r)) s rs m.no_anything m.rising one,
     )
 
 pub mkand-members : (rs : List Regex) → AreMembers is_and rs → mkand rs ≡ and_of rs
 mkand-members rs m =
     let flat = flat_map-conjuncts rs m.flat in
     let same : (list_any is_none (meet_sets rs) ≡ false) × (collected rs ≡ rs) =
-    elim (one_set_in rs m.few) [ inl no_set ↦ collected-plain rs m no_set | inr one ↦ collected-one rs one.0 m one.1 ] in
+    elim (one_set_in rs m.few) [ inl no_set ↦ collected-plain rs m no_set | inr one ↦ collected-one rs one.0 m one.1 ]
+    in
     mkand-is rs (ap (λ xs. list_any is_none (meet_sets xs)) flat ∙ same.0)
     ∙ ap (λ xs. and_of (collected xs)) flat ∙ ap and_of same.1
 
@@ -169,21 +194,26 @@ none_is_no_and ps e = cc
 anything_is_no_and : (ps : Regexes) → anything ≡ and ps → ⊥
 anything_is_no_and ps e = cc
 
-same_parts : (ps qs : Regexes) → and ps ≡ and qs → ps ≡ qs
-same_parts ps qs e = cc
+pub and_parts_of : (ps qs : Regexes) → and ps ≡ and qs → ps ≡ qs
+and_parts_of ps qs e = cc
 
 and_of-is_and : (rs : List Regex) (ps : Regexes) → and_of rs ≡ and ps → (parts ps ≡ rs) ⊎ (rs ≡ and ps ∷ [])
 unfolding and_of
 and_of-is_and [] ps e = absurd (anything_is_no_and ps e)
 and_of-is_and (r ∷ []) ps e = inr (ap (λ x. x ∷ []) e)
-and_of-is_and (r ∷ s ∷ rs) ps e = inl (sym (ap parts (same_parts (regexes (r ∷ s ∷ rs)) ps e)) ∙ parts-regexes (r ∷ s ∷ rs))
+and_of-is_and (r ∷ s ∷ rs) ps e =
+    inl (sym (ap parts (and_parts_of (regexes (r ∷ s ∷ rs)) ps e)) ∙ parts-regexes (r ∷ s ∷ rs))
 
-mkand-is_and : (rs : List Regex) (ps : Regexes) → mkand rs ≡ and ps → (list_any is_none (meet_sets (flat_map conjuncts rs)) ≡ false) × (and_of (collected (flat_map conjuncts rs)) ≡ and ps)
+mkand-is_and : (rs : List Regex) (ps : Regexes) → mkand rs ≡ and ps
+    → (list_any is_none (meet_sets (flat_map conjuncts rs)) ≡ false)
+    × (and_of (collected (flat_map conjuncts rs)) ≡ and ps)
 unfolding mkand
 mkand-is_and rs ps e = step (list_any is_none (meet_sets (flat_map conjuncts rs))) refl e
   where
-    step : (b : Bool) → list_any is_none (meet_sets (flat_map conjuncts rs)) ≡ b → cond b none (and_of (collected (flat_map conjuncts rs))) ≡ and ps →
-        (list_any is_none (meet_sets (flat_map conjuncts rs)) ≡ false) × (and_of (collected (flat_map conjuncts rs)) ≡ and ps)
+    step : (b : Bool) → list_any is_none (meet_sets (flat_map conjuncts rs)) ≡ b
+        → cond b none (and_of (collected (flat_map conjuncts rs))) ≡ and ps →
+        (list_any is_none (meet_sets (flat_map conjuncts rs)) ≡ false)
+        × (and_of (collected (flat_map conjuncts rs)) ≡ and ps)
     step true is e' = absurd (none_is_no_and ps e')
     step false is e' = (is, e')
 
@@ -216,13 +246,17 @@ AreMembers-parts ps h =
           let again : parts ps ≡ collected (parts ps) = same ∙ ap collected whole in
           from_collected (parts ps) again (AreMembers-collected (parts ps) normal flat plain)
       | inr alone ↦
-          let small_all = small-collected (size (and ps)) (parts ps) (list_all-from (small (size (and ps))) (small (suc (size (and ps)))) (parts ps) (wider_small (size (and ps))) (small_parts ps)) in
-          absurd (not_small ps ((and_parts (small (size (and ps)) (and ps)) true (ap (list_all (small (size (and ps)))) (sym alone) ∙ small_all)).0))
+          let small_all = small-collected (size (and ps)) (parts ps)
+          (list_all-from (small (size (and ps))) (small (suc (size (and ps)))) (parts ps)
+          (wider_small (size (and ps))) (small_parts ps)) in
+          absurd (not_small ps ((and_parts (small (size (and ps)) (and ps)) true
+          (ap (list_all (small (size (and ps)))) (sym alone) ∙ small_all)).0))
     ]
 
 -- The law.
 
-whole : (rs : List Regex) → AreMembers is_and rs → mkand rs ≡ and (regexes rs) → (all_normal (regexes rs) && regex_eq (mkand (parts (regexes rs))) (and (regexes rs))) ≡ true
+whole : (rs : List Regex) → AreMembers is_and rs → mkand rs ≡ and (regexes rs)
+    → (all_normal (regexes rs) && regex_eq (mkand (parts (regexes rs))) (and (regexes rs))) ≡ true
 whole rs m is =
     ap₂ ◌&&◌ (all_normal-parts (regexes rs) ∙ ap (list_all is_normal) (parts-regexes rs) ∙ m.normal)
     (regex_eq-from (mkand (parts (regexes rs))) (and (regexes rs)) (ap mkand (parts-regexes rs) ∙ is))
@@ -251,11 +285,17 @@ pub is_normal-mkand : (rs : List Regex) → list_all is_normal rs ≡ true → i
 unfolding mkand good
 is_normal-mkand rs h =
     let all_good = list_all-flat good is_normal conjuncts rs good-conjuncts h in
-    let normal = list_all-from good is_normal (flat_map conjuncts rs) (λ r g. (and_parts (is_normal r) _ g).0) all_good in
-    let flat = list_all-from good (λ r. not (is_and r)) (flat_map conjuncts rs) (λ r g. (and_parts (is_normal r) _ g).1) all_good in
+    let normal = list_all-from good is_normal (flat_map conjuncts rs) (λ r g. (and_parts (is_normal r) _ g).0) all_good
+    in
+    let flat = list_all-from good (λ r. not (is_and r)) (flat_map conjuncts rs) (λ r g. (and_parts (is_normal r) _ g).1)
+    all_good in
     step normal flat (list_any is_none (meet_sets (flat_map conjuncts rs))) refl
   where
-    step : list_all is_normal (flat_map conjuncts rs) ≡ true → list_all (λ r. not (is_and r)) (flat_map conjuncts rs) ≡ true →
-        (b : Bool) → list_any is_none (meet_sets (flat_map conjuncts rs)) ≡ b → is_normal (cond b none (and_of (collected (flat_map conjuncts rs)))) ≡ true
+    step : list_all is_normal (flat_map conjuncts rs) ≡ true
+        → list_all (λ r. not (is_and r)) (flat_map conjuncts rs) ≡ true →
+        (b : Bool) → list_any is_none (meet_sets (flat_map conjuncts rs)) ≡ b
+        → is_normal (cond b none (and_of (collected (flat_map conjuncts rs)))) ≡ true
     step normal flat true is = is_normal-none
-    step normal flat false is = is_normal-and_of (collected (flat_map conjuncts rs)) (AreMembers-collected (flat_map conjuncts rs) normal flat is)
+    step normal flat false is =
+        is_normal-and_of (collected (flat_map conjuncts rs))
+        (AreMembers-collected (flat_map conjuncts rs) normal flat is)

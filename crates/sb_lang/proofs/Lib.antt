@@ -1,6 +1,6 @@
+pub mod CallerLemmas
 mod BoolFacts
 mod OrderFacts
-pub mod Coded
 mod CutFacts
 mod SetFacts
 mod MemberFacts

@@ -3,6 +3,7 @@ use Rattle.std.proofs.Common.{◌≡◌, ℕ, Bool, true, false, not, ◌&&◌, 
 use Rattle.std.specs.List.{list_any, list_all, filter, flat_map}
 use Rattle.std.specs.declared.cmp.Ordering.{Ordering}
 use Rattle.std.specs.declared.cmp.Ordering.TheVariants.{Less, Equal, Greater}
+use Rattle.std.proofs.Math.Bool.{and-false, and-true, and_assoc, or-false, or-true, or_assoc, or_self_left, and_self_left}
 use Rattle.std.proofs.lemmas.Bool.{or_cases, false≢true}
 use Rattle.std.proofs.lemmas.List.Folds.{list_any-append, list_all-append}
 use Rattle.sb_class.specs.Ranges.{Range, in_ranges}
@@ -14,7 +15,7 @@ use Rattle.sb_lang.specs.Constructors.{anything, is_none, is_anything, mkset, al
 use Rattle.sb_lang.specs.Language.{language, some_language, all_languages}
 use Rattle.sb_lang.proofs.OrderFacts.{same_regex, cmp_decides, regex_eq-itself}
 use Rattle.sb_lang.proofs.SetFacts.{in_ranges-union, in_ranges-inter}
-use Rattle.sb_lang.proofs.BoolFacts.{and-false, and-true, and_again, and_assoc, and_swap, or-false, or-true, or_again, or_assoc, or_swap}
+use Rattle.sb_lang.proofs.BoolFacts.{and_swap, or_swap}
 
 -- the word is in some, and in each
 abbrev pub in_some : List Regex → Language
@@ -56,15 +57,19 @@ language-and_of (r ∷ s ∷ rs) w =
 
 -- in order, and each once
 
-in_some-with_regex : (r : Regex) (ss : List Regex) (w : List ℕ) → in_some (with_regex r ss) w ≡ (language r w || in_some ss w)
+in_some-with_regex : (r : Regex) (ss : List Regex) (w : List ℕ)
+    → in_some (with_regex r ss) w ≡ (language r w || in_some ss w)
 unfolding with_regex
 in_some-with_regex r [] w = refl
 in_some-with_regex r (s ∷ ss) w = step (in_some-with_regex r ss w) (regex_cmp r s) refl
   where
-    step : in_some (with_regex r ss) w ≡ (language r w || in_some ss w) → (o : Ordering) → regex_cmp r s ≡ o → in_some (elim o [ Less ↦ r ∷ s ∷ ss | Equal ↦ s ∷ ss | Greater ↦ s ∷ with_regex r ss ]) w ≡ (language r w || (language s w || in_some ss w))
+    step : in_some (with_regex r ss) w ≡ (language r w || in_some ss w) → (o : Ordering) → regex_cmp r s ≡ o
+        → in_some (elim o [ Less ↦ r ∷ s ∷ ss | Equal ↦ s ∷ ss | Greater ↦ s ∷ with_regex r ss ]) w
+        ≡ (language r w || (language s w || in_some ss w))
     step rest Less is = refl
     step rest Equal is =
-        or_again (language s w) (in_some ss w) ∙ ap (λ x. language x w || (language s w || in_some ss w)) (sym ((cmp_decides r s).0 is))
+        sym (or_self_left (language s w) (in_some ss w))
+        ∙ ap (λ x. language x w || (language s w || in_some ss w)) (sym ((cmp_decides r s).0 is))
     step rest Greater is =
         ap (λ x. language s w || x) rest ∙ or_swap (language s w) (language r w) (in_some ss w)
 
@@ -73,15 +78,19 @@ unfolding sorted
 in_some-sorted [] w = refl
 in_some-sorted (r ∷ rs) w = in_some-with_regex r (sorted rs) w ∙ ap (λ x. language r w || x) (in_some-sorted rs w)
 
-in_each-with_regex : (r : Regex) (ss : List Regex) (w : List ℕ) → in_each (with_regex r ss) w ≡ (language r w && in_each ss w)
+in_each-with_regex : (r : Regex) (ss : List Regex) (w : List ℕ)
+    → in_each (with_regex r ss) w ≡ (language r w && in_each ss w)
 unfolding with_regex
 in_each-with_regex r [] w = refl
 in_each-with_regex r (s ∷ ss) w = step (in_each-with_regex r ss w) (regex_cmp r s) refl
   where
-    step : in_each (with_regex r ss) w ≡ (language r w && in_each ss w) → (o : Ordering) → regex_cmp r s ≡ o → in_each (elim o [ Less ↦ r ∷ s ∷ ss | Equal ↦ s ∷ ss | Greater ↦ s ∷ with_regex r ss ]) w ≡ (language r w && (language s w && in_each ss w))
+    step : in_each (with_regex r ss) w ≡ (language r w && in_each ss w) → (o : Ordering) → regex_cmp r s ≡ o
+        → in_each (elim o [ Less ↦ r ∷ s ∷ ss | Equal ↦ s ∷ ss | Greater ↦ s ∷ with_regex r ss ]) w
+        ≡ (language r w && (language s w && in_each ss w))
     step rest Less is = refl
     step rest Equal is =
-        and_again (language s w) (in_each ss w) ∙ ap (λ x. language x w && (language s w && in_each ss w)) (sym ((cmp_decides r s).0 is))
+        sym (and_self_left (language s w) (in_each ss w))
+        ∙ ap (λ x. language x w && (language s w && in_each ss w)) (sym ((cmp_decides r s).0 is))
     step rest Greater is =
         ap (λ x. language s w && x) rest ∙ and_swap (language s w) (language r w) (in_each ss w)
 
@@ -104,15 +113,20 @@ pub in_some-without_none : (rs : List Regex) (w : List ℕ) → in_some (filter 
 in_some-without_none [] w = refl
 in_some-without_none (r ∷ rs) w = step (in_some-without_none rs w) (is_none r) refl
   where
-    step : in_some (filter (λ x. not (is_none x)) rs) w ≡ in_some rs w → (b : Bool) → is_none r ≡ b → in_some (cond (not b) (r ∷ filter (λ x. not (is_none x)) rs) (filter (λ x. not (is_none x)) rs)) w ≡ (language r w || in_some rs w)
+    step : in_some (filter (λ x. not (is_none x)) rs) w ≡ in_some rs w → (b : Bool) → is_none r ≡ b
+        → in_some (cond (not b) (r ∷ filter (λ x. not (is_none x)) rs) (filter (λ x. not (is_none x)) rs)) w
+        ≡ (language r w || in_some rs w)
     step rest true is = rest ∙ ap (λ x. x || in_some rs w) (sym (language-is_none r w is))
     step rest false is = ap (λ x. language r w || x) rest
 
-pub in_each-without_anything : (rs : List Regex) (w : List ℕ) → in_each (filter (λ r. not (is_anything r)) rs) w ≡ in_each rs w
+pub in_each-without_anything : (rs : List Regex) (w : List ℕ)
+    → in_each (filter (λ r. not (is_anything r)) rs) w ≡ in_each rs w
 in_each-without_anything [] w = refl
 in_each-without_anything (r ∷ rs) w = step (in_each-without_anything rs w) (is_anything r) refl
   where
-    step : in_each (filter (λ x. not (is_anything x)) rs) w ≡ in_each rs w → (b : Bool) → is_anything r ≡ b → in_each (cond (not b) (r ∷ filter (λ x. not (is_anything x)) rs) (filter (λ x. not (is_anything x)) rs)) w ≡ (language r w && in_each rs w)
+    step : in_each (filter (λ x. not (is_anything x)) rs) w ≡ in_each rs w → (b : Bool) → is_anything r ≡ b
+        → in_each (cond (not b) (r ∷ filter (λ x. not (is_anything x)) rs) (filter (λ x. not (is_anything x)) rs)) w
+        ≡ (language r w && in_each rs w)
     step rest true is = rest ∙ ap (λ x. x && in_each rs w) (sym (language-is_anything r w is))
     step rest false is = ap (λ x. language r w && x) rest
 
@@ -165,12 +179,14 @@ language-mkset [] (c ∷ []) = refl
 language-mkset [] (c ∷ d ∷ w) = refl
 language-mkset (r ∷ rs) w = refl
 
-one_character-or : (f g h : ℕ → Bool) (w : List ℕ) → ((c : ℕ) → h c ≡ (f c || g c)) → one_character h w ≡ (one_character f w || one_character g w)
+one_character-or : (f g h : ℕ → Bool) (w : List ℕ) → ((c : ℕ) → h c ≡ (f c || g c))
+    → one_character h w ≡ (one_character f w || one_character g w)
 one_character-or f g h [] same = refl
 one_character-or f g h (c ∷ []) same = same c
 one_character-or f g h (c ∷ d ∷ w) same = refl
 
-one_character-and : (f g h : ℕ → Bool) (w : List ℕ) → ((c : ℕ) → h c ≡ (f c && g c)) → one_character h w ≡ (one_character f w && one_character g w)
+one_character-and : (f g h : ℕ → Bool) (w : List ℕ) → ((c : ℕ) → h c ≡ (f c && g c))
+    → one_character h w ≡ (one_character f w && one_character g w)
 one_character-and f g h [] same = refl
 one_character-and f g h (c ∷ []) same = same c
 one_character-and f g h (c ∷ d ∷ w) same = refl
@@ -182,7 +198,9 @@ one_character-never (c ∷ []) = refl
 one_character-never (c ∷ d ∷ w) = refl
 
 -- the one set beside the members that are no sets
-joined : (rs : List Regex) (w : List ℕ) → (one_character (in_ranges (union_of (flat_map ranges_of rs))) w || in_some (filter (λ r. not (is_set r)) rs) w) ≡ in_some rs w
+joined : (rs : List Regex) (w : List ℕ)
+    → (one_character (in_ranges (union_of (flat_map ranges_of rs))) w || in_some (filter (λ r. not (is_set r)) rs) w)
+    ≡ in_some rs w
 unfolding ranges_of is_set union_of language some_language all_languages
 joined [] w = or-false _ ∙ one_character-never w
 joined (set s ∷ rs) w =
@@ -198,17 +216,20 @@ joined (r ∷ rs) w =
 pub in_some-join_sets : (rs : List Regex) (w : List ℕ) → in_some (join_sets rs) w ≡ in_some rs w
 unfolding join_sets
 in_some-join_sets rs w =
-    ap (λ x. x || in_some (filter (λ r. not (is_set r)) rs) w) (language-mkset (union_of (flat_map ranges_of rs)) w) ∙ joined rs w
+    ap (λ x. x || in_some (filter (λ r. not (is_set r)) rs) w) (language-mkset (union_of (flat_map ranges_of rs)) w)
+    ∙ joined rs w
 
 -- the word is in each set
 abbrev in_each_set : List (List Range) → Language
 in_each_set ss w = list_all (λ s. one_character (in_ranges s) w) ss
 
-in_set-inter_of : (s : List Range) (ss : List (List Range)) (w : List ℕ) → one_character (in_ranges (inter_of s ss)) w ≡ (one_character (in_ranges s) w && in_each_set ss w)
+in_set-inter_of : (s : List Range) (ss : List (List Range)) (w : List ℕ)
+    → one_character (in_ranges (inter_of s ss)) w ≡ (one_character (in_ranges s) w && in_each_set ss w)
 unfolding inter_of
 in_set-inter_of s [] w = sym (and-true (one_character (in_ranges s) w))
 in_set-inter_of s (t ∷ ts) w =
-    one_character-and (in_ranges s) (in_ranges (inter_of t ts)) (in_ranges (inter s (inter_of t ts))) w (λ c. in_ranges-inter s (inter_of t ts) c)
+    one_character-and (in_ranges s) (in_ranges (inter_of t ts)) (in_ranges (inter s (inter_of t ts))) w
+    (λ c. in_ranges-inter s (inter_of t ts) c)
     ∙ ap (λ x. one_character (in_ranges s) w && x) (in_set-inter_of t ts w)
 
 in_each-meet_of : (ss : List (List Range)) (w : List ℕ) → in_each (meet_of ss) w ≡ in_each_set ss w
@@ -217,11 +238,13 @@ in_each-meet_of [] w = refl
 in_each-meet_of (s ∷ ss) w =
     and-true (language (mkset (inter_of s ss)) w) ∙ language-mkset (inter_of s ss) w ∙ in_set-inter_of s ss w
 
-met : (rs : List Regex) (w : List ℕ) → (in_each_set (flat_map ranges_of rs) w && in_each (filter (λ r. not (is_set r)) rs) w) ≡ in_each rs w
+met : (rs : List Regex) (w : List ℕ)
+    → (in_each_set (flat_map ranges_of rs) w && in_each (filter (λ r. not (is_set r)) rs) w) ≡ in_each rs w
 unfolding ranges_of is_set language some_language all_languages
 met [] w = refl
 met (set s ∷ rs) w =
-    and_assoc (one_character (in_ranges s) w) (in_each_set (flat_map ranges_of rs) w) (in_each (filter (λ r. not (is_set r)) rs) w)
+    and_assoc (one_character (in_ranges s) w) (in_each_set (flat_map ranges_of rs) w)
+    (in_each (filter (λ r. not (is_set r)) rs) w)
     ∙ ap (λ x. one_character (in_ranges s) w && x) (met rs w)
 met (r ∷ rs) w =
     and_swap (in_each_set (flat_map ranges_of rs) w) (language r w) (in_each (filter (λ r. not (is_set r)) rs) w)
@@ -243,7 +266,9 @@ language-mkalt rs w =
     step (list_any is_anything members) refl ∙ in_some-join_sets (flat_map alternatives rs) w ∙ in_some-flat rs w
   where
     step : (b : Bool) → list_any is_anything (join_sets (flat_map alternatives rs)) ≡ b →
-        language (cond b anything (alt_of (sorted (filter (λ r. not (is_none r)) (join_sets (flat_map alternatives rs)))))) w ≡ in_some (join_sets (flat_map alternatives rs)) w
+        language (cond b anything
+        (alt_of (sorted (filter (λ r. not (is_none r)) (join_sets (flat_map alternatives rs)))))) w
+        ≡ in_some (join_sets (flat_map alternatives rs)) w
     step true is = language-is_anything anything w (regex_eq-itself anything) ∙ sym (in_some-anything _ w is)
     step false is = language-alt_of _ w ∙ in_some-sorted _ w ∙ in_some-without_none _ w
 
@@ -254,6 +279,7 @@ language-mkand rs w =
     step (list_any is_none members) refl ∙ in_each-meet_sets (flat_map conjuncts rs) w ∙ in_each-flat rs w
   where
     step : (b : Bool) → list_any is_none (meet_sets (flat_map conjuncts rs)) ≡ b →
-        language (cond b none (and_of (sorted (filter (λ r. not (is_anything r)) (meet_sets (flat_map conjuncts rs)))))) w ≡ in_each (meet_sets (flat_map conjuncts rs)) w
+        language (cond b none (and_of (sorted (filter (λ r. not (is_anything r)) (meet_sets (flat_map conjuncts rs))))))
+        w ≡ in_each (meet_sets (flat_map conjuncts rs)) w
     step true is = language-is_none none w (regex_eq-itself none) ∙ sym (in_each-none _ w is)
     step false is = language-and_of _ w ∙ in_each-sorted _ w ∙ in_each-without_anything _ w

@@ -11,7 +11,8 @@ use Rattle.sb_lang.proofs.OrderFacts.{same_regex, regex_eq-itself}
 use Rattle.sb_lang.proofs.SetFacts.{IsCanonical-union, IsCanonical-inter}
 use Rattle.sb_lang.proofs.SortedFacts.{ascending, sets_in}
 
--- the members of a union (an intersection): normal, none of that kind, none and every word not among them, at most one set, ascending
+-- the members of a union (an intersection): normal, none of that kind, none and every word not among them, at most one
+-- set, ascending
 pub record AreMembers (is_kind : Regex → Bool) (rs : List Regex) : Type 0 where
   pub normal : list_all is_normal rs ≡ true
   pub flat : list_all (λ r. not (is_kind r)) rs ≡ true
@@ -71,7 +72,8 @@ IsCanonical-union_of (s ∷ ss) h =
     let p = and_parts (rises_from 0 s) _ h in
     IsCanonical-union s (union_of ss) p.0 (IsCanonical-union_of ss p.1)
 
-pub IsCanonical-inter_of : (s : List Range) (ss : List (List Range)) → rises_from 0 s ≡ true → all_canonical ss ≡ true → rises_from 0 (inter_of s ss) ≡ true
+pub IsCanonical-inter_of : (s : List Range) (ss : List (List Range)) → rises_from 0 s ≡ true → all_canonical ss ≡ true
+    → rises_from 0 (inter_of s ss) ≡ true
 unfolding inter_of
 IsCanonical-inter_of s [] h g = h
 IsCanonical-inter_of s (t ∷ ts) h g =

@@ -1,9 +1,10 @@
 -- The normal regex of a RegLan term has the term's words.
 use Rattle.std.proofs.Common.{◌≡◌, ℕ, zero, suc, ◌<◌, Bool, true, false, not, ◌&&◌, ◌||◌, ◌==◌, nat_le, cond, List, [], ◌∷◌, length, refl, sym, ap, ap₂, ◌∙◌, arith}
+use Rattle.std.proofs.Math.Bool.{and-true, or-false}
 use Rattle.std.proofs.lemmas.Bool.{and_parts, and_from, leb-false}
 use Rattle.std.proofs.lemmas.Bool.Decides.{nat_tests}
-use Rattle.sb_class.specs.Ranges.{in_range, in_ranges, is_character}
-use Rattle.sb_word.specs.Words.{are_characters, IsWord}
+use Rattle.sb_class.specs.Ranges.{in_range, in_ranges}
+use Rattle.sb_word.specs.Words.{is_character, are_characters, IsWord}
 use Rattle.sb_lang.specs.Languages.{Language, empty_word, one_character, cut, power, iterate, repeat}
 use Rattle.sb_lang.specs.RegLan.{RegLan, re_none, re_all, re_allchar, re_word, re_concat, re_union, re_inter, re_diff, re_star, re_plus, re_opt, re_comp, re_range, re_power, re_loop}
 use Rattle.sb_lang.specs.Membership.{is_word, between, in_re}
@@ -14,11 +15,11 @@ use Rattle.sb_lang.specs.Language.{language, some_language, all_languages}
 use Rattle.sb_lang.proofs.CutFacts.{cut-same, cut-left_none, cut-left_empty, some_up_to-same, repeat-exactly}
 use Rattle.sb_lang.proofs.MemberFacts.{language-mkalt, language-mkand}
 use Rattle.sb_lang.proofs.ConstructorFacts.{language-mkcat, language-mknot, language-mkstar, language-mkrep}
-use Rattle.sb_lang.proofs.BoolFacts.{and-true, or-false}
 
 -- Languages that have the same words.
 
-cut-same_words : (L L' M M' : Language) (w : List ℕ) → IsWord w → ((u : List ℕ) → IsWord u → L u ≡ L' u) → ((u : List ℕ) → IsWord u → M u ≡ M' u) → cut L M w ≡ cut L' M' w
+cut-same_words : (L L' M M' : Language) (w : List ℕ) → IsWord w → ((u : List ℕ) → IsWord u → L u ≡ L' u)
+    → ((u : List ℕ) → IsWord u → M u ≡ M' u) → cut L M w ≡ cut L' M' w
 unfolding cut
 cut-same_words L L' M M' [] h l m = ap₂ ◌&&◌ (l [] refl) (m [] refl)
 cut-same_words L L' M M' (c ∷ w) h l m =
@@ -26,19 +27,23 @@ cut-same_words L L' M M' (c ∷ w) h l m =
     ap₂ ◌||◌ (ap₂ ◌&&◌ (l [] refl) (m (c ∷ w) h))
     (cut-same_words (λ u. L (c ∷ u)) (λ u. L' (c ∷ u)) M M' w p.1 (λ u g. l (c ∷ u) (and_from _ _ p.0 g)) m)
 
-power-same_words : (L L' : Language) (n : ℕ) (w : List ℕ) → IsWord w → ((u : List ℕ) → IsWord u → L u ≡ L' u) → power L n w ≡ power L' n w
+power-same_words : (L L' : Language) (n : ℕ) (w : List ℕ) → IsWord w → ((u : List ℕ) → IsWord u → L u ≡ L' u)
+    → power L n w ≡ power L' n w
 unfolding power
 power-same_words L L' zero w h l = refl
 power-same_words L L' (suc n) w h l =
     cut-same_words L L' (power L n) (power L' n) w h l (λ u g. power-same_words L L' n u g l)
 
-iterate-same_words : (L L' : Language) (w : List ℕ) → IsWord w → ((u : List ℕ) → IsWord u → L u ≡ L' u) → iterate L w ≡ iterate L' w
+iterate-same_words : (L L' : Language) (w : List ℕ) → IsWord w → ((u : List ℕ) → IsWord u → L u ≡ L' u)
+    → iterate L w ≡ iterate L' w
 unfolding iterate
 iterate-same_words L L' w h l = some_up_to-same (length w) _ _ (λ n. power-same_words L L' n w h l)
 
-repeat-same_words : (L L' : Language) (n m : ℕ) (w : List ℕ) → IsWord w → ((u : List ℕ) → IsWord u → L u ≡ L' u) → repeat L n m w ≡ repeat L' n m w
+repeat-same_words : (L L' : Language) (n m : ℕ) (w : List ℕ) → IsWord w → ((u : List ℕ) → IsWord u → L u ≡ L' u)
+    → repeat L n m w ≡ repeat L' n m w
 unfolding repeat
-repeat-same_words L L' n m w h l = some_up_to-same m _ _ (λ k. ap (λ b. nat_le n k && b) (power-same_words L L' k w h l))
+repeat-same_words L L' n m w h l =
+    some_up_to-same m _ _ (λ k. ap (λ b. nat_le n k && b) (power-same_words L L' k w h l))
 
 -- One character, a word, a range.
 
@@ -62,7 +67,8 @@ allchar_tells (c ∷ d ∷ w) h = long (length w)
     long n = grind (arith, nat_tests)
 
 -- a first part of one character
-cut-character : (test : ℕ → Bool) (M : Language) (d : ℕ) (w : List ℕ) → cut (λ u. one_character test (d ∷ u)) M w ≡ (test d && M w)
+cut-character : (test : ℕ → Bool) (M : Language) (d : ℕ) (w : List ℕ)
+    → cut (λ u. one_character test (d ∷ u)) M w ≡ (test d && M w)
 cut-character test M d w = step (test d) refl
   where
     step : (b : Bool) → test d ≡ b → cut (λ u. one_character test (d ∷ u)) M w ≡ (b && M w)
@@ -108,7 +114,8 @@ range_tells : (s t w : List ℕ) → language (range_regex s t) w ≡ between s 
 unfolding range_regex language some_language all_languages
 range_tells (a ∷ []) (b ∷ []) w = step (nat_le a b) refl
   where
-    step : (x : Bool) → nat_le a b ≡ x → language (cond x (set ((a, b) ∷ [])) none) w ≡ one_character (λ c. nat_le a c && nat_le c b) w
+    step : (x : Bool) → nat_le a b ≡ x
+        → language (cond x (set ((a, b) ∷ [])) none) w ≡ one_character (λ c. nat_le a c && nat_le c b) w
     step true is = one_character-same (in_ranges ((a, b) ∷ [])) _ w (one_range a b)
     step false is = one_character-never _ w (λ c. empty_range a b c (leb-false a b is))
 range_tells [] t w = refl
@@ -126,7 +133,8 @@ normal_tells re_allchar w h = allchar_tells w h
 normal_tells (re_word s) w h = word_tells s w
 normal_tells (re_concat R S) w h =
     language-mkcat (normal R) (normal S) w
-    ∙ cut-same_words (language (normal R)) (in_re R) (language (normal S)) (in_re S) w h (λ u g. normal_tells R u g) (λ u g. normal_tells S u g)
+    ∙ cut-same_words (language (normal R)) (in_re R) (language (normal S)) (in_re S) w h (λ u g. normal_tells R u g)
+    (λ u g. normal_tells S u g)
 normal_tells (re_union R S) w h =
     language-mkalt (normal R ∷ normal S ∷ []) w
     ∙ ap₂ ◌||◌ (normal_tells R w h) (or-false (language (normal S) w) ∙ normal_tells S w h)
@@ -135,13 +143,16 @@ normal_tells (re_inter R S) w h =
     ∙ ap₂ ◌&&◌ (normal_tells R w h) (and-true (language (normal S) w) ∙ normal_tells S w h)
 normal_tells (re_diff R S) w h =
     language-mkand (normal R ∷ mknot (normal S) ∷ []) w
-    ∙ ap₂ ◌&&◌ (normal_tells R w h) (and-true (language (mknot (normal S)) w) ∙ language-mknot (normal S) w ∙ ap not (normal_tells S w h))
+    ∙ ap₂ ◌&&◌ (normal_tells R w h) (and-true (language (mknot (normal S)) w) ∙ language-mknot (normal S) w
+    ∙ ap not (normal_tells S w h))
 normal_tells (re_star R) w h =
     language-mkstar (normal R) w h ∙ iterate-same_words (language (normal R)) (in_re R) w h (λ u g. normal_tells R u g)
 normal_tells (re_plus R) w h =
     language-mkcat (normal R) (mkstar (normal R)) w
-    ∙ cut-same_words (language (normal R)) (in_re R) (language (mkstar (normal R))) (iterate (in_re R)) w h (λ u g. normal_tells R u g)
-    (λ u g. language-mkstar (normal R) u g ∙ iterate-same_words (language (normal R)) (in_re R) u g (λ v k. normal_tells R v k))
+    ∙ cut-same_words (language (normal R)) (in_re R) (language (mkstar (normal R))) (iterate (in_re R)) w h
+    (λ u g. normal_tells R u g)
+    (λ u g. language-mkstar (normal R) u g
+    ∙ iterate-same_words (language (normal R)) (in_re R) u g (λ v k. normal_tells R v k))
 normal_tells (re_opt R) w h =
     language-mkalt (normal R ∷ eps ∷ []) w ∙ ap₂ ◌||◌ (normal_tells R w h) (or-false (empty_word w))
 normal_tells (re_comp R) w h = language-mknot (normal R) w ∙ ap not (normal_tells R w h)
@@ -151,4 +162,5 @@ normal_tells (re_power R n) w h =
     ∙ repeat-exactly (language (normal R)) n w
     ∙ power-same_words (language (normal R)) (in_re R) n w h (λ u g. normal_tells R u g)
 normal_tells (re_loop R n m) w h =
-    language-mkrep (normal R) n m w ∙ repeat-same_words (language (normal R)) (in_re R) n m w h (λ u g. normal_tells R u g)
+    language-mkrep (normal R) n m w
+    ∙ repeat-same_words (language (normal R)) (in_re R) n m w h (λ u g. normal_tells R u g)

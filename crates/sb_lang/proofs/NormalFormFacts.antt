@@ -1,10 +1,10 @@
 -- The constructors, the derivative and `normal` give normal regexes of normal parts.
-use Rattle.std.proofs.Common.{◌<◌, sym, ◌⊎◌, inl, inr, ◌≡◌, ℕ, zero, suc, ◌-◌, ◌≤◌, Bool, true, false, ◌&&◌, ◌||◌, ◌==◌, nat_lt, nat_le, cond, List, [], ◌∷◌, refl, ap, ap₂, ◌∙◌, arith, length-append}
+use Rattle.std.proofs.Common.{sym, ◌⊎◌, inl, inr, ◌≡◌, ℕ, zero, suc, ◌-◌, ◌≤◌, Bool, true, false, ◌&&◌, ◌||◌, ◌==◌, nat_lt, nat_le, cond, List, [], ◌∷◌, refl, ap, ap₂, ◌∙◌, arith, length-append}
 use Rattle.std.specs.List.{list_all}
-use Rattle.std.proofs.lemmas.Bool.{eqb-false, ltb-false, and_parts, false≢true, leb-true}
+use Rattle.std.proofs.lemmas.Bool.{and_parts, false≢true, leb-true}
 use Rattle.std.proofs.lemmas.Bool.Decides.{nat_tests}
-use Rattle.sb_class.specs.Ranges.{fits_from, rises_from, in_ranges, is_character}
-use Rattle.sb_word.specs.Words.{are_characters}
+use Rattle.sb_class.specs.Ranges.{fits_from, rises_from, in_ranges}
+use Rattle.sb_word.specs.Words.{is_character, are_characters}
 use Rattle.sb_lang.specs.RegLan.{RegLan, re_none, re_all, re_allchar, re_word, re_concat, re_union, re_inter, re_diff, re_star, re_plus, re_opt, re_comp, re_range, re_power, re_loop}
 use Rattle.sb_lang.specs.Regex.{Regex, Regexes, none, eps, set, cat, alt, and, neg, star, rep, path, no_more, more}
 use Rattle.sb_lang.specs.Order.{code, codes, regex_eq}
@@ -52,7 +52,7 @@ right_is_less : (p q : Regex) → q ≡ cat p q → ⊥
 unfolding code codes
 right_is_less p q e = omega (arith, ap size e, length-append (code p) (code q))
 
-none_is_no_cat : (p q : Regex) → none ≡ cat p q → ⊥
+pub none_is_no_cat : (p q : Regex) → none ≡ cat p q → ⊥
 none_is_no_cat p q e = cc
 
 eps_is_no_cat : (p q : Regex) → eps ≡ cat p q → ⊥
@@ -99,17 +99,17 @@ joins-mkcat p q h g = refl
 
 -- They group in any way.
 
-mkcat-none : (a : Regex) → mkcat a none ≡ none
+pub mkcat-none : (a : Regex) → mkcat a none ≡ none
 unfolding mkcat
 mkcat-none none = refl
 mkcat-none a = refl
 
-mkcat-eps : (a : Regex) → mkcat a eps ≡ a
+pub mkcat-eps : (a : Regex) → mkcat a eps ≡ a
 unfolding mkcat
 mkcat-eps none = refl
 mkcat-eps a = refl
 
-eps-mkcat : (a : Regex) → mkcat eps a ≡ a
+pub eps-mkcat : (a : Regex) → mkcat eps a ≡ a
 unfolding mkcat
 eps-mkcat none = refl
 eps-mkcat a = refl
@@ -134,7 +134,8 @@ groups_joined (cat p q) b c h g =
     ∙ ap (cat p) (groups_joined q b c h g)
     ∙ sym (cat-mkcat p q (mkcat b c) (joins-mkcat b c h g))
 groups_joined a b c h g =
-    ap (λ x. mkcat x c) (mkcat-plain a b refl h) ∙ cat-mkcat a b c g ∙ sym (mkcat-plain a (mkcat b c) refl (joins-mkcat b c h g))
+    ap (λ x. mkcat x c) (mkcat-plain a b refl h) ∙ cat-mkcat a b c g
+    ∙ sym (mkcat-plain a (mkcat b c) refl (joins-mkcat b c h g))
 
 joins_cases : (x : Regex) → (x ≡ none) ⊎ ((x ≡ eps) ⊎ (joins x ≡ true))
 unfolding joins
@@ -161,21 +162,25 @@ concatenation_groups a b c = elim (joins_cases b) [
   ]
 ]
 
-pub is_normal-cat : (a b : Regex) → is_normal (cat a b) ≡ true → (is_normal a ≡ true) × (is_normal b ≡ true) × (mkcat a b ≡ cat a b)
+pub is_normal-cat : (a b : Regex) → is_normal (cat a b) ≡ true → (is_normal a ≡ true) × (is_normal b ≡ true)
+    × (mkcat a b ≡ cat a b)
 unfolding is_normal all_normal
 is_normal-cat a b h =
     let p = and_parts (is_normal a && is_normal b) (regex_eq (mkcat a b) (cat a b)) h in
     let q = and_parts (is_normal a) (is_normal b) p.0 in
     (q.0, q.1, same_regex (mkcat a b) (cat a b) p.1)
 
-cat_is_normal : (a b : Regex) → is_normal a ≡ true → is_normal b ≡ true → mkcat a b ≡ cat a b → is_normal (cat a b) ≡ true
+cat_is_normal : (a b : Regex) → is_normal a ≡ true → is_normal b ≡ true → mkcat a b ≡ cat a b
+    → is_normal (cat a b) ≡ true
 unfolding is_normal all_normal
 cat_is_normal a b h g e = ap₂ ◌&&◌ (ap₂ ◌&&◌ h g) (regex_eq-from (mkcat a b) (cat a b) e)
 
-onto_cat : (p q b : Regex) → is_normal (cat p q) ≡ true → joins b ≡ true → is_normal (mkcat q b) ≡ true → is_normal (cat p (mkcat q b)) ≡ true
+onto_cat : (p q b : Regex) → is_normal (cat p q) ≡ true → joins b ≡ true → is_normal (mkcat q b) ≡ true
+    → is_normal (cat p (mkcat q b)) ≡ true
 onto_cat p q b h g rest =
     let k = is_normal-cat p q h in
-    cat_is_normal p (mkcat q b) k.0 rest (mkcat-plain p (mkcat q b) (plain-from p q k.2) (joins-mkcat q b (joins-from p q k.2) g))
+    cat_is_normal p (mkcat q b) k.0 rest
+    (mkcat-plain p (mkcat q b) (plain-from p q k.2) (joins-mkcat q b (joins-from p q k.2) g))
 
 pub is_normal-mkcat : (a b : Regex) → is_normal a ≡ true → is_normal b ≡ true → is_normal (mkcat a b) ≡ true
 unfolding mkcat joins
@@ -197,7 +202,8 @@ star_alone : (a : Regex) → is_normal a ≡ true → mkstar a ≡ star a → is
 unfolding is_normal all_normal
 star_alone a h e = ap₂ ◌&&◌ h (regex_eq-from (mkstar a) (star a) e)
 
-star_is_normal : (a : Regex) → is_normal a ≡ true → mkstar a ≡ cond (regex_eq a any_character) anything (star a) → is_normal (cond (regex_eq a any_character) anything (star a)) ≡ true
+star_is_normal : (a : Regex) → is_normal a ≡ true → mkstar a ≡ cond (regex_eq a any_character) anything (star a)
+    → is_normal (cond (regex_eq a any_character) anything (star a)) ≡ true
 star_is_normal a h is = step (regex_eq a any_character) refl
   where
     step : (b : Bool) → regex_eq a any_character ≡ b → is_normal (cond b anything (star a)) ≡ true
@@ -226,7 +232,8 @@ is_normal-mkrep a n m h = step (nat_lt m n) (m == 0) ((n == 1) && (m == 1)) (reg
   where
     step : (b d e f g : Bool) →
         mkrep a n m ≡ cond b none (cond d eps (cond e a (cond f eps (cond g (cond (n == 0) eps none) (rep a n m))))) →
-        is_normal (cond b none (cond d eps (cond e a (cond f eps (cond g (cond (n == 0) eps none) (rep a n m)))))) ≡ true
+        is_normal (cond b none (cond d eps (cond e a (cond f eps (cond g (cond (n == 0) eps none) (rep a n m))))))
+        ≡ true
     step true d e f g is = is_normal_none
     step false true e f g is = is_normal_eps
     step false false true f g is = h
@@ -234,7 +241,8 @@ is_normal-mkrep a n m h = step (nat_lt m n) (m == 0) ((n == 1) && (m == 1)) (reg
     step false false false false true is = some_or_none (n == 0)
     step false false false false false is = rep_alone a n m h is
 
-path_alone : (a b : Regex) → is_normal a ≡ true → is_normal b ≡ true → mkpath a b ≡ path a b → is_normal (path a b) ≡ true
+path_alone : (a b : Regex) → is_normal a ≡ true → is_normal b ≡ true → mkpath a b ≡ path a b
+    → is_normal (path a b) ≡ true
 unfolding is_normal all_normal
 path_alone a b h g e = ap₂ ◌&&◌ (ap₂ ◌&&◌ h g) (regex_eq-from (mkpath a b) (path a b) e)
 
@@ -246,7 +254,8 @@ pub is_normal-mkpath : (a b : Regex) → is_normal a ≡ true → is_normal b �
 unfolding mkpath
 is_normal-mkpath a b h g = step (is_none a || is_anything a) refl
   where
-    step : (x : Bool) → mkpath a b ≡ cond x (cond (regex_eq a b) anything none) (path a b) → is_normal (cond x (cond (regex_eq a b) anything none) (path a b)) ≡ true
+    step : (x : Bool) → mkpath a b ≡ cond x (cond (regex_eq a b) anything none) (path a b)
+        → is_normal (cond x (cond (regex_eq a b) anything none) (path a b)) ≡ true
     step true is = all_or_none (regex_eq a b)
     step false is = path_alone a b h g is
 
@@ -261,7 +270,8 @@ cat_after a b c h first second = step (nullable a)
   where
     step : (x : Bool) → is_normal (cond x (mkalt (mkcat (nd a c) b ∷ nd b c ∷ [])) (mkcat (nd a c) b)) ≡ true
     step true =
-        is_normal-mkalt (mkcat (nd a c) b ∷ nd b c ∷ []) (ap₂ ◌&&◌ (is_normal-mkcat (nd a c) b first h) (ap₂ ◌&&◌ second refl))
+        is_normal-mkalt (mkcat (nd a c) b ∷ nd b c ∷ [])
+        (ap₂ ◌&&◌ (is_normal-mkcat (nd a c) b first h) (ap₂ ◌&&◌ second refl))
     step false = is_normal-mkcat (nd a c) b first h
 
 mutual
@@ -313,7 +323,8 @@ unfolding word_regex
 is_normal-word_regex [] h = is_normal_eps
 is_normal-word_regex (c ∷ w) h =
     let p = and_parts (is_character c) (are_characters w) h in
-    is_normal-mkcat (set ((c, c) ∷ [])) (word_regex w) (set_is_normal c c (omega arith) (character_below c p.0)) (is_normal-word_regex w p.1)
+    is_normal-mkcat (set ((c, c) ∷ [])) (word_regex w) (set_is_normal c c (omega arith) (character_below c p.0))
+    (is_normal-word_regex w p.1)
 
 is_normal-range_regex : (s t : List ℕ) → are_characters t ≡ true → is_normal (range_regex s t) ≡ true
 unfolding range_regex
@@ -338,18 +349,22 @@ is_normal-normal (re_concat R S) h =
     is_normal-mkcat (normal R) (normal S) (is_normal-normal R p.0) (is_normal-normal S p.1)
 is_normal-normal (re_union R S) h =
     let p = and_parts (has_words R) (has_words S) h in
-    is_normal-mkalt (normal R ∷ normal S ∷ []) (ap₂ ◌&&◌ (is_normal-normal R p.0) (ap₂ ◌&&◌ (is_normal-normal S p.1) refl))
+    is_normal-mkalt (normal R ∷ normal S ∷ [])
+    (ap₂ ◌&&◌ (is_normal-normal R p.0) (ap₂ ◌&&◌ (is_normal-normal S p.1) refl))
 is_normal-normal (re_inter R S) h =
     let p = and_parts (has_words R) (has_words S) h in
-    is_normal-mkand (normal R ∷ normal S ∷ []) (ap₂ ◌&&◌ (is_normal-normal R p.0) (ap₂ ◌&&◌ (is_normal-normal S p.1) refl))
+    is_normal-mkand (normal R ∷ normal S ∷ [])
+    (ap₂ ◌&&◌ (is_normal-normal R p.0) (ap₂ ◌&&◌ (is_normal-normal S p.1) refl))
 is_normal-normal (re_diff R S) h =
     let p = and_parts (has_words R) (has_words S) h in
     is_normal-mkand (normal R ∷ mknot (normal S) ∷ [])
     (ap₂ ◌&&◌ (is_normal-normal R p.0) (ap₂ ◌&&◌ (is_normal-mknot (normal S) (is_normal-normal S p.1)) refl))
 is_normal-normal (re_star R) h = is_normal-mkstar (normal R) (is_normal-normal R h)
 is_normal-normal (re_plus R) h =
-    is_normal-mkcat (normal R) (mkstar (normal R)) (is_normal-normal R h) (is_normal-mkstar (normal R) (is_normal-normal R h))
-is_normal-normal (re_opt R) h = is_normal-mkalt (normal R ∷ eps ∷ []) (ap₂ ◌&&◌ (is_normal-normal R h) (ap₂ ◌&&◌ is_normal_eps refl))
+    is_normal-mkcat (normal R) (mkstar (normal R)) (is_normal-normal R h)
+    (is_normal-mkstar (normal R) (is_normal-normal R h))
+is_normal-normal (re_opt R) h =
+    is_normal-mkalt (normal R ∷ eps ∷ []) (ap₂ ◌&&◌ (is_normal-normal R h) (ap₂ ◌&&◌ is_normal_eps refl))
 is_normal-normal (re_comp R) h = is_normal-mknot (normal R) (is_normal-normal R h)
 is_normal-normal (re_range s t) h = is_normal-range_regex s t (and_parts (are_characters s) (are_characters t) h).1
 is_normal-normal (re_power R n) h = is_normal-mkrep (normal R) n n (is_normal-normal R h)
@@ -366,24 +381,3 @@ constructors_give_normal = record {
   repetitions = is_normal-mkrep;
   paths = is_normal-mkpath;
 }
-
-none_is_no_rep : (a : Regex) (n m : ℕ) → none ≡ rep a n m → ⊥
-none_is_no_rep a n m e = cc
-
-eps_is_no_rep : (a : Regex) (n m : ℕ) → eps ≡ rep a n m → ⊥
-eps_is_no_rep a n m e = cc
-
-positive : (m : ℕ) → (m ≡ 0 → ⊥) → 0 < m
-positive zero ne = absurd (ne refl)
-positive (suc m) ne = omega arith
-
-pub repetition_is_in_order : (a : Regex) (n m : ℕ) → is_normal (rep a n m) ≡ true → (n ≤ m) × (0 < m)
-unfolding is_normal all_normal mkrep
-repetition_is_in_order a n m h = step (nat_lt m n) refl (m == 0) refl (same_regex (mkrep a n m) (rep a n m) (and_parts (is_normal a) _ h).1)
-  where
-    step : (b : Bool) → nat_lt m n ≡ b → (d : Bool) → (m == 0) ≡ d →
-        cond b none (cond d eps (cond ((n == 1) && (m == 1)) a (cond (regex_eq a eps) eps (cond (is_none a) (cond (n == 0) eps none) (rep a n m))))) ≡ rep a n m →
-        (n ≤ m) × (0 < m)
-    step true is d also e = absurd (none_is_no_rep a n m e)
-    step false is true also e = absurd (eps_is_no_rep a n m e)
-    step false is false also e = (ltb-false m n is, positive m (eqb-false m 0 also))

@@ -18,7 +18,8 @@ mutual
   nullable_tells (and ps) = all_nullable_tells ps
   nullable_tells (neg a) = ap not (nullable_tells a)
   nullable_tells (star a) = sym (iterate-empty (language a))
-  nullable_tells (rep a n m) = ap (λ x. nat_le n m && ((n == 0) || x)) (nullable_tells a) ∙ sym (repeat-empty (language a) n m)
+  nullable_tells (rep a n m) = ap (λ x. nat_le n m && ((n == 0) || x)) (nullable_tells a)
+      ∙ sym (repeat-empty (language a) n m)
   nullable_tells (path a b) = refl
 
   some_nullable_tells : (ps : Regexes) → some_nullable ps ≡ some_language ps []

@@ -5,6 +5,7 @@ use Rattle.std.specs.List.Sorted.{IsStrictlySortedBy}
 use Rattle.std.specs.declared.cmp.Ordering.{Ordering}
 use Rattle.std.specs.declared.cmp.Ordering.TheVariants.{Less, Equal, Greater}
 use Rattle.std.specs.Ordering.{is_lt, is_eq, ordering_reverse}
+use Rattle.std.proofs.Math.Bool.{or_self_left}
 use Rattle.std.proofs.lemmas.List.Folds.{list_any-append}
 use Rattle.std.proofs.lemmas.Bool.{and_parts, false≢true}
 use Rattle.sb_lang.specs.Regex.{Regex}
@@ -13,17 +14,20 @@ use Rattle.sb_lang.specs.Constructors.{with_regex, sorted}
 use Rattle.sb_lang.specs.SortedLaws.{is_member}
 use Rattle.sb_lang.proofs.OrderFacts.{same_regex, cmp_decides, regex_cmp_total, regex_eq-itself}
 use Rattle.sb_lang.proofs.SortedFacts.{before_all, ascending, less_from, ascending-sorted}
-use Rattle.sb_lang.proofs.BoolFacts.{or_again, or_swap}
+use Rattle.sb_lang.proofs.BoolFacts.{or_swap}
 
-list_any-with_regex : (p : Regex → Bool) (r : Regex) (ss : List Regex) → list_any p (with_regex r ss) ≡ (p r || list_any p ss)
+list_any-with_regex : (p : Regex → Bool) (r : Regex) (ss : List Regex)
+    → list_any p (with_regex r ss) ≡ (p r || list_any p ss)
 unfolding with_regex
 list_any-with_regex p r [] = refl
 list_any-with_regex p r (s ∷ ss) = step (list_any-with_regex p r ss) (regex_cmp r s) refl
   where
     step : list_any p (with_regex r ss) ≡ (p r || list_any p ss) → (o : Ordering) → regex_cmp r s ≡ o →
-        list_any p (elim o [ Less ↦ r ∷ s ∷ ss | Equal ↦ s ∷ ss | Greater ↦ s ∷ with_regex r ss ]) ≡ (p r || (p s || list_any p ss))
+        list_any p (elim o [ Less ↦ r ∷ s ∷ ss | Equal ↦ s ∷ ss | Greater ↦ s ∷ with_regex r ss ])
+        ≡ (p r || (p s || list_any p ss))
     step rest Less is = refl
-    step rest Equal is = or_again (p s) (list_any p ss) ∙ ap (λ x. p x || (p s || list_any p ss)) (sym ((cmp_decides r s).0 is))
+    step rest Equal is = sym (or_self_left (p s) (list_any p ss))
+        ∙ ap (λ x. p x || (p s || list_any p ss)) (sym ((cmp_decides r s).0 is))
     step rest Greater is = ap (λ x. p s || x) rest ∙ or_swap (p s) (p r) (list_any p ss)
 
 pub list_any-sorted : (p : Regex → Bool) (rs : List Regex) → list_any p (sorted rs) ≡ list_any p rs
@@ -31,7 +35,7 @@ unfolding sorted
 list_any-sorted p [] = refl
 list_any-sorted p (r ∷ rs) = list_any-with_regex p r (sorted rs) ∙ ap (λ x. p r || x) (list_any-sorted p rs)
 
-pub sorted_has_members : (rs : List Regex) (r : Regex) → is_member r (sorted rs) ≡ is_member r rs
+sorted_has_members : (rs : List Regex) (r : Regex) → is_member r (sorted rs) ≡ is_member r rs
 sorted_has_members rs r = list_any-sorted (regex_eq r) rs
 
 -- what stands before all is not among them
@@ -41,7 +45,8 @@ before_is_no_member r (s ∷ ss) h =
     let p = and_parts (is_lt (regex_cmp r s)) (before_all r ss) h in
     ap₂ ◌||◌ (ap is_eq (less_from (regex_cmp r s) p.0)) (before_is_no_member r ss p.1)
 
-further_before : (r s : Regex) (ss : List Regex) → regex_cmp r s ≡ Less → before_all s ss ≡ true → before_all r (s ∷ ss) ≡ true
+further_before : (r s : Regex) (ss : List Regex) → regex_cmp r s ≡ Less → before_all s ss ≡ true
+    → before_all r (s ∷ ss) ≡ true
 further_before r s ss less h = ap₂ ◌&&◌ (ap is_lt less) (tail ss h)
   where
     tail : (xs : List Regex) → before_all s xs ≡ true → before_all r xs ≡ true
@@ -53,7 +58,8 @@ further_before r s ss less h = ap₂ ◌&&◌ (ap is_lt less) (tail ss h)
 first_is_member : (r : Regex) (rs : List Regex) → is_member r (r ∷ rs) ≡ true
 first_is_member r rs = ap (λ b. b || is_member r rs) (regex_eq-itself r)
 
-pub only_ascending : (xs ys : List Regex) → ascending xs ≡ true → ascending ys ≡ true → ((r : Regex) → is_member r xs ≡ is_member r ys) → xs ≡ ys
+pub only_ascending : (xs ys : List Regex) → ascending xs ≡ true → ascending ys ≡ true
+    → ((r : Regex) → is_member r xs ≡ is_member r ys) → xs ≡ ys
 unfolding ascending
 only_ascending [] [] h g same = refl
 only_ascending [] (y ∷ ys) h g same = absurd (false≢true (same y ∙ first_is_member y ys))
@@ -64,15 +70,20 @@ only_ascending (x ∷ xs) (y ∷ ys) h g same =
     let heads = one_head x y xs ys p.0 q.0 (same x) (same y) (regex_cmp x y) refl in
     ap₂ ◌∷◌ heads (only_ascending xs ys p.1 q.1 (λ r. rest_same x y xs ys p.0 q.0 heads r (same r)))
   where
-    one_head : (x y : Regex) (xs ys : List Regex) → before_all x xs ≡ true → before_all y ys ≡ true → is_member x (x ∷ xs) ≡ is_member x (y ∷ ys) → is_member y (x ∷ xs) ≡ is_member y (y ∷ ys) → (o : Ordering) → regex_cmp x y ≡ o → x ≡ y
+    one_head : (x y : Regex) (xs ys : List Regex) → before_all x xs ≡ true → before_all y ys ≡ true
+        → is_member x (x ∷ xs) ≡ is_member x (y ∷ ys) → is_member y (x ∷ xs) ≡ is_member y (y ∷ ys) → (o : Ordering)
+        → regex_cmp x y ≡ o → x ≡ y
     one_head x y xs ys p q at_x at_y Less is =
-        absurd (false≢true (sym (before_is_no_member x (y ∷ ys) (further_before x y ys is q)) ∙ sym at_x ∙ first_is_member x xs))
+        absurd (false≢true (sym (before_is_no_member x (y ∷ ys) (further_before x y ys is q)) ∙ sym at_x
+        ∙ first_is_member x xs))
     one_head x y xs ys p q at_x at_y Equal is = (cmp_decides x y).0 is
     one_head x y xs ys p q at_x at_y Greater is =
         let less : regex_cmp y x ≡ Less = regex_cmp_total.antisymm y x ∙ ap ordering_reverse is in
-        absurd (false≢true (sym (before_is_no_member y (x ∷ xs) (further_before y x xs less p)) ∙ at_y ∙ first_is_member y ys))
+        absurd (false≢true (sym (before_is_no_member y (x ∷ xs) (further_before y x xs less p)) ∙ at_y
+        ∙ first_is_member y ys))
 
-    rest_same : (x y : Regex) (xs ys : List Regex) → before_all x xs ≡ true → before_all y ys ≡ true → x ≡ y → (r : Regex) → is_member r (x ∷ xs) ≡ is_member r (y ∷ ys) → is_member r xs ≡ is_member r ys
+    rest_same : (x y : Regex) (xs ys : List Regex) → before_all x xs ≡ true → before_all y ys ≡ true → x ≡ y
+        → (r : Regex) → is_member r (x ∷ xs) ≡ is_member r (y ∷ ys) → is_member r xs ≡ is_member r ys
     rest_same x y xs ys p q heads r at_r = step (regex_eq r x) refl
       where
         step : (b : Bool) → regex_eq r x ≡ b → is_member r xs ≡ is_member r ys
@@ -81,7 +92,8 @@ only_ascending (x ∷ xs) (y ∷ ys) h g same =
             ap (λ z. is_member z xs) e ∙ before_is_no_member x xs p
             ∙ sym (ap (λ z. is_member z ys) (e ∙ heads) ∙ before_is_no_member y ys q)
         step false is =
-            ap (λ b. b || is_member r xs) (sym is) ∙ at_r ∙ ap (λ z. regex_eq r z || is_member r ys) (sym heads) ∙ ap (λ b. b || is_member r ys) is
+            ap (λ b. b || is_member r xs) (sym is) ∙ at_r ∙ ap (λ z. regex_eq r z || is_member r ys) (sym heads)
+            ∙ ap (λ b. b || is_member r ys) is
 
 -- the order of std's word
 
@@ -89,32 +101,19 @@ before_all-from : (r : Regex) (rs : List Regex) → AllByRecursion (λ s. regex_
 before_all-from r [] h = refl
 before_all-from r (s ∷ ss) h = ap₂ ◌&&◌ (ap is_lt h.0) (before_all-from r ss h.1)
 
-before_all-gives : (r : Regex) (rs : List Regex) → before_all r rs ≡ true → AllByRecursion (λ s. regex_cmp r s ≡ Less) rs
-before_all-gives r [] h = tt
-before_all-gives r (s ∷ ss) h =
-    let p = and_parts (is_lt (regex_cmp r s)) (before_all r ss) h in
-    (less_from (regex_cmp r s) p.0, before_all-gives r ss p.1)
-
 ascending-from : (rs : List Regex) → IsStrictlySortedBy regex_cmp rs → ascending rs ≡ true
 unfolding ascending IsStrictlySortedBy
 ascending-from [] h = refl
 ascending-from (r ∷ rs) h = ap₂ ◌&&◌ (before_all-from r rs h.0) (ascending-from rs h.1)
 
-ascending-gives : (rs : List Regex) → ascending rs ≡ true → IsStrictlySortedBy regex_cmp rs
-unfolding ascending IsStrictlySortedBy
-ascending-gives [] h = tt
-ascending-gives (r ∷ rs) h =
-    let p = and_parts (before_all r rs) (ascending rs) h in
-    (before_all-gives r rs p.0, ascending-gives rs p.1)
-
-pub sorted_is_ascending : (rs : List Regex) → IsStrictlySortedBy regex_cmp (sorted rs)
-sorted_is_ascending rs = ascending-gives (sorted rs) (ascending-sorted rs)
-
-pub sorted_is_the_only : (rs ss : List Regex) → IsStrictlySortedBy regex_cmp ss → ((r : Regex) → is_member r ss ≡ is_member r rs) → ss ≡ sorted rs
+pub sorted_is_the_only : (rs ss : List Regex) → IsStrictlySortedBy regex_cmp ss
+    → ((r : Regex) → is_member r ss ≡ is_member r rs) → ss ≡ sorted rs
 sorted_is_the_only rs ss h same =
-    only_ascending ss (sorted rs) (ascending-from ss h) (ascending-sorted rs) (λ r. same r ∙ sym (sorted_has_members rs r))
+    only_ascending ss (sorted rs) (ascending-from ss h) (ascending-sorted rs)
+    (λ r. same r ∙ sym (sorted_has_members rs r))
 
-pub is_member-filter : (r : Regex) (t : Regex → Bool) (rs : List Regex) → is_member r (filter t rs) ≡ (t r && is_member r rs)
+pub is_member-filter : (r : Regex) (t : Regex → Bool) (rs : List Regex)
+    → is_member r (filter t rs) ≡ (t r && is_member r rs)
 is_member-filter r t [] = nothing (t r)
   where
     nothing : (b : Bool) → false ≡ (b && false)

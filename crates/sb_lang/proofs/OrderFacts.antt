@@ -16,7 +16,7 @@ use Rattle.sb_lang.specs.OrderLaws.{kind, ends, IsByKindThenParts}
 abbrev pub word_cmp : List ℕ → List ℕ → Ordering
 word_cmp u v = slice_cmp nat_cmp u v
 
-then_assoc : (x y z : Ordering) → ordering_then (ordering_then x y) z ≡ ordering_then x (ordering_then y z)
+pub then_assoc : (x y z : Ordering) → ordering_then (ordering_then x y) z ≡ ordering_then x (ordering_then y z)
 then_assoc Less y z = refl
 then_assoc Equal y z = refl
 then_assoc Greater y z = refl
@@ -27,7 +27,9 @@ then-Equal Equal = refl
 then-Equal Greater = refl
 
 -- two numbers in front
-range_code-append : (rs ss : List Range) (u v : List ℕ) → word_cmp (range_code rs ++ u) (range_code ss ++ v) ≡ ordering_then (word_cmp (range_code rs) (range_code ss)) (word_cmp u v)
+range_code-append : (rs ss : List Range) (u v : List ℕ)
+    → word_cmp (range_code rs ++ u) (range_code ss ++ v)
+    ≡ ordering_then (word_cmp (range_code rs) (range_code ss)) (word_cmp u v)
 unfolding range_code
 range_code-append [] [] u v = refl
 range_code-append [] (s ∷ ss) u v = refl
@@ -41,7 +43,8 @@ range_code-append (r ∷ rs) (s ∷ ss) u v =
 mutual
   unfolding code codes
 
-  pub code-append : (a b : Regex) (u v : List ℕ) → word_cmp (code a ++ u) (code b ++ v) ≡ ordering_then (regex_cmp a b) (word_cmp u v)
+  pub code-append : (a b : Regex) (u v : List ℕ)
+      → word_cmp (code a ++ u) (code b ++ v) ≡ ordering_then (regex_cmp a b) (word_cmp u v)
   code-append none none u v = refl
   code-append eps eps u v = refl
   code-append (set rs) (set ss) u v = range_code-append rs ss u v
@@ -60,7 +63,9 @@ mutual
       ∙ code-append a b (n ∷ m ∷ u) (k ∷ l ∷ v)
       ∙ ap (λ o. ordering_then (regex_cmp a b) o) (sym (then_assoc (nat_cmp n k) (nat_cmp m l) (word_cmp u v)))
       ∙ sym (then_assoc (regex_cmp a b) (ordering_then (nat_cmp n k) (nat_cmp m l)) (word_cmp u v))
-      ∙ ap (λ o. ordering_then o (word_cmp u v)) (ap (λ o. ordering_then (regex_cmp a b) (ordering_then (nat_cmp n k) o)) (sym (then-Equal (nat_cmp m l))) ∙ sym (code-append a b (n ∷ m ∷ []) (k ∷ l ∷ [])))
+      ∙ ap (λ o. ordering_then o (word_cmp u v))
+      (ap (λ o. ordering_then (regex_cmp a b) (ordering_then (nat_cmp n k) o)) (sym (then-Equal (nat_cmp m l)))
+      ∙ sym (code-append a b (n ∷ m ∷ []) (k ∷ l ∷ [])))
   code-append (path a b) (path c d) u v =
       ap₂ (λ x y. word_cmp x y) (append_assoc (code a) (code b) u) (append_assoc (code c) (code d) v)
       ∙ code-append a c (code b ++ u) (code d ++ v)
@@ -69,7 +74,8 @@ mutual
       ∙ ap (λ o. ordering_then o (word_cmp u v)) (sym (code-append a c (code b) (code d)))
   code-append _ _ u v = refl
 
-  pub codes-append : (ps qs : Regexes) (u v : List ℕ) → word_cmp (codes ps ++ u) (codes qs ++ v) ≡ ordering_then (word_cmp (codes ps) (codes qs)) (word_cmp u v)
+  pub codes-append : (ps qs : Regexes) (u v : List ℕ)
+      → word_cmp (codes ps ++ u) (codes qs ++ v) ≡ ordering_then (word_cmp (codes ps) (codes qs)) (word_cmp u v)
   codes-append no_more no_more u v = refl
   codes-append no_more (more b qs) u v = refl
   codes-append (more a ps) no_more u v = refl
@@ -89,7 +95,8 @@ number_from_cmp : (n k : ℕ) → is_eq (nat_cmp n k) ≡ true → n ≡ k
 number_from_cmp n k h = grind (arith, nat_tests)
 
 -- what a tie of two parts tells of each
-two_tied : (a c : Regex) (u v : List ℕ) → is_eq (word_cmp (code a ++ u) (code c ++ v)) ≡ true → (regex_eq a c ≡ true) × (is_eq (word_cmp u v) ≡ true)
+two_tied : (a c : Regex) (u v : List ℕ) → is_eq (word_cmp (code a ++ u) (code c ++ v)) ≡ true
+    → (regex_eq a c ≡ true) × (is_eq (word_cmp u v) ≡ true)
 two_tied a c u v h = is_eq-then (regex_cmp a c) (word_cmp u v) (ap is_eq (sym (code-append a c u v)) ∙ h)
 
 ranges_from_cmp : (rs ss : List Range) → is_eq (word_cmp (range_code rs) (range_code ss)) ≡ true → rs ≡ ss
@@ -100,7 +107,8 @@ ranges_from_cmp (r ∷ rs) [] h = absurd (false≢true h)
 ranges_from_cmp (r ∷ rs) (s ∷ ss) h =
     let p = is_eq-then (nat_cmp r.0 s.0) _ h in
     let q = is_eq-then (nat_cmp r.1 s.1) _ p.1 in
-    ap₂ ◌∷◌ (ap₂ (λ x y. (x, y)) (number_from_cmp r.0 s.0 p.0) (number_from_cmp r.1 s.1 q.0)) (ranges_from_cmp rs ss q.1)
+    ap₂ ◌∷◌ (ap₂ (λ x y. (x, y)) (number_from_cmp r.0 s.0 p.0) (number_from_cmp r.1 s.1 q.0))
+    (ranges_from_cmp rs ss q.1)
 
 mutual
   unfolding code codes
@@ -158,14 +166,16 @@ unfolding code codes parts
 codes-parts no_more no_more = refl
 codes-parts no_more (more b qs) = refl
 codes-parts (more a ps) no_more = refl
-codes-parts (more a ps) (more b qs) = code-append a b (codes ps) (codes qs) ∙ ap (λ o. ordering_then (regex_cmp a b) o) (codes-parts ps qs)
+codes-parts (more a ps) (more b qs) = code-append a b (codes ps) (codes qs)
+    ∙ ap (λ o. ordering_then (regex_cmp a b) o) (codes-parts ps qs)
 
 ranges-ends : (rs ss : List Range) → word_cmp (range_code rs) (range_code ss) ≡ word_cmp (ends rs) (ends ss)
 unfolding range_code ends
 ranges-ends [] [] = refl
 ranges-ends [] (s ∷ ss) = refl
 ranges-ends (r ∷ rs) [] = refl
-ranges-ends (r ∷ rs) (s ∷ ss) = ap (λ o. ordering_then (nat_cmp r.0 s.0) (ordering_then (nat_cmp r.1 s.1) o)) (ranges-ends rs ss)
+ranges-ends (r ∷ rs) (s ∷ ss) =
+    ap (λ o. ordering_then (nat_cmp r.0 s.0) (ordering_then (nat_cmp r.1 s.1) o)) (ranges-ends rs ss)
 
 number_below : (n k : ℕ) (o : Ordering) → n < k → ordering_then (nat_cmp n k) o ≡ Less
 number_below n k o h = ap (λ x. ordering_then x o) (below n k h)

@@ -24,11 +24,13 @@ collected rs = sorted (filter (λ r. not (is_none r)) (join_sets rs))
 abbrev one_set : List Regex → Regex
 one_set rs = mkset (union_of (sets_in rs))
 
-list_all-collected : (p : Regex → Bool) (rs : List Regex) → p (one_set rs) ≡ true → list_all p rs ≡ true → list_all p (collected rs) ≡ true
+list_all-collected : (p : Regex → Bool) (rs : List Regex) → p (one_set rs) ≡ true → list_all p rs ≡ true
+    → list_all p (collected rs) ≡ true
 unfolding join_sets
 list_all-collected p rs one all =
     list_all-sorted p (filter (λ r. not (is_none r)) (join_sets rs))
-    ∙ list_all-filter p (λ r. not (is_none r)) (join_sets rs) (ap₂ ◌&&◌ one (list_all-filter p (λ r. not (is_set r)) rs all))
+    ∙ list_all-filter p (λ r. not (is_none r)) (join_sets rs)
+    (ap₂ ◌&&◌ one (list_all-filter p (λ r. not (is_set r)) rs all))
 
 -- A union that is normal has no unions among its members, since a member's code is shorter.
 
@@ -44,23 +46,28 @@ small-alternatives : (k : ℕ) (r : Regex) → small (suc k) r ≡ true → list
 unfolding small is_alt alternatives code codes
 small-alternatives k (alt ps) h =
     let lt = ltb-true (size (alt ps)) (suc k) h in
-    list_all-from (λ r. nat_lt (size r) k) (small k) (parts ps) (λ r g. or_right (not (is_alt r)) _ g) (parts-small ps k (omega (arith, lt)))
+    list_all-from (λ r. nat_lt (size r) k) (small k) (parts ps) (λ r g. or_right (not (is_alt r)) _ g)
+    (parts-small ps k (omega (arith, lt)))
   where
     or_right : (x y : Bool) → y ≡ true → (x || y) ≡ true
     or_right true y g = refl
     or_right false y g = g
 small-alternatives k r h = refl
 
-small-collected : (k : ℕ) (rs : List Regex) → list_all (small (suc k)) rs ≡ true → list_all (small k) (collected (flat_map alternatives rs)) ≡ true
+small-collected : (k : ℕ) (rs : List Regex) → list_all (small (suc k)) rs ≡ true
+    → list_all (small k) (collected (flat_map alternatives rs)) ≡ true
 small-collected k rs h =
-    list_all-collected (small k) (flat_map alternatives rs) (small-mkset k (union_of (sets_in (flat_map alternatives rs))))
+    list_all-collected (small k) (flat_map alternatives rs)
+    (small-mkset k (union_of (sets_in (flat_map alternatives rs))))
     (list_all-flat (small k) (small (suc k)) alternatives rs (small-alternatives k) h)
 
 small-zero : (r : Regex) → small 0 r ≡ true → not (is_alt r) ≡ true
 unfolding small
-small-zero r h = elim (or_cases (not (is_alt r)) (nat_lt (size r) 0) h) [ inl e ↦ e | inr lt ↦ absurd (omega (arith, ltb-true (size r) 0 lt)) ]
+small-zero r h = elim (or_cases (not (is_alt r)) (nat_lt (size r) 0) h)
+    [ inl e ↦ e | inr lt ↦ absurd (omega (arith, ltb-true (size r) 0 lt)) ]
 
-none_left : (k : ℕ) (rs : List Regex) → rs ≡ collected (flat_map alternatives rs) → list_all (small k) rs ≡ true → list_all (λ r. not (is_alt r)) rs ≡ true
+none_left : (k : ℕ) (rs : List Regex) → rs ≡ collected (flat_map alternatives rs) → list_all (small k) rs ≡ true
+    → list_all (λ r. not (is_alt r)) rs ≡ true
 none_left zero rs same h = list_all-from (small 0) (λ r. not (is_alt r)) rs small-zero h
 none_left (suc k) rs same h = none_left k rs same (ap (list_all (small k)) same ∙ small-collected k rs h)
 
@@ -84,24 +91,40 @@ no_alt_in (r ∷ rs) = refl
 few_joined : (rs : List Regex) → length (sets_in (join_sets rs)) ≤ 1
 unfolding join_sets
 few_joined rs =
-    omega (arith, sets_in-one (one_set rs) (without_sets rs), few_in_mkset (union_of (sets_in rs)), ap length (sets_in-without rs))
+    omega (
+      arith,
+      sets_in-one (one_set rs) (without_sets rs),
+      few_in_mkset (union_of (sets_in rs)),
+      ap length (sets_in-without rs),
+    )
 
-pub AreMembers-collected : (rs : List Regex) → list_all is_normal rs ≡ true → list_all (λ r. not (is_alt r)) rs ≡ true → list_any is_anything (join_sets rs) ≡ false → AreMembers is_alt (collected rs)
+pub AreMembers-collected : (rs : List Regex) → list_all is_normal rs ≡ true → list_all (λ r. not (is_alt r)) rs ≡ true
+    → list_any is_anything (join_sets rs) ≡ false → AreMembers is_alt (collected rs)
 AreMembers-collected rs normal flat plain = record {
-  normal = list_all-collected is_normal rs (is_normal-mkset (union_of (sets_in rs)) (IsCanonical-union_of (sets_in rs) (sets_in-canonical rs normal))) normal;
+  normal = list_all-collected is_normal rs
+      (is_normal-mkset (union_of (sets_in rs)) (IsCanonical-union_of (sets_in rs) (sets_in-canonical rs normal)))
+      normal;
   flat = list_all-collected (λ r. not (is_alt r)) rs (no_alt_in (union_of (sets_in rs))) flat;
-  no_none = list_all-sorted (λ r. not (is_none r)) (filter (λ r. not (is_none r)) (join_sets rs)) ∙ filter-passes (λ r. not (is_none r)) (join_sets rs);
+  no_none = list_all-sorted (λ r. not (is_none r)) (filter (λ r. not (is_none r)) (join_sets rs))
+      ∙ filter-passes (λ r. not (is_none r)) (join_sets rs);
   no_anything =
       list_all-sorted (λ r. not (is_anything r)) (filter (λ r. not (is_none r)) (join_sets rs))
-      ∙ list_all-filter (λ r. not (is_anything r)) (λ r. not (is_none r)) (join_sets rs) (list_all-none is_anything (join_sets rs) plain);
+      ∙ list_all-filter (λ r. not (is_anything r)) (λ r. not (is_none r)) (join_sets rs)
+      (list_all-none is_anything (join_sets rs) plain);
   few = few_sets;
   rising = ascending-sorted (filter (λ r. not (is_none r)) (join_sets rs));
 }
   where
     few_sets : length (sets_in (collected rs)) ≤ 1
-    few_sets = omega (arith, sets_in-sorted (filter (λ r. not (is_none r)) (join_sets rs)), sets_in-filter (λ r. not (is_none r)) (join_sets rs), few_joined rs)
+    few_sets = omega (
+      arith,
+      sets_in-sorted (filter (λ r. not (is_none r)) (join_sets rs)),
+      sets_in-filter (λ r. not (is_none r)) (join_sets rs),
+      few_joined rs,
+    )
 
-mkalt-is : (rs : List Regex) → list_any is_anything (join_sets (flat_map alternatives rs)) ≡ false → mkalt rs ≡ alt_of (collected (flat_map alternatives rs))
+mkalt-is : (rs : List Regex) → list_any is_anything (join_sets (flat_map alternatives rs)) ≡ false
+    → mkalt rs ≡ alt_of (collected (flat_map alternatives rs))
 unfolding mkalt
 mkalt-is rs plain = ap (λ b. cond b anything (alt_of (collected (flat_map alternatives rs)))) plain
 
@@ -113,30 +136,39 @@ flat_map-alternatives (r ∷ rs) h = ap (λ xs. r ∷ xs) (flat_map-alternatives
 
 -- collecting such members changes nothing
 
-collected-plain : (rs : List Regex) → AreMembers is_alt rs → sets_in rs ≡ [] → (list_any is_anything (join_sets rs) ≡ false) × (collected rs ≡ rs)
+collected-plain : (rs : List Regex) → AreMembers is_alt rs → sets_in rs ≡ []
+    → (list_any is_anything (join_sets rs) ≡ false) × (collected rs ≡ rs)
 unfolding join_sets mkset union_of code codes
 collected-plain rs m no_set =
-    let is : join_sets rs ≡ none ∷ rs = ap₂ ◌∷◌ (ap (λ ss. mkset (union_of ss)) no_set) (without_sets-whole rs no_set) in (
+    let is : join_sets rs ≡ none ∷ rs = ap₂ ◌∷◌ (ap (λ ss. mkset (union_of ss)) no_set) (without_sets-whole rs no_set)
+    in (
       ap (list_any is_anything) is ∙ list_any-none is_anything rs m.no_anything,
-      ap (λ xs. sorted (filter (λ r. not (is_none r)) xs)) is ∙ sorted_whole (λ r. not (is_none r)) rs m.no_none m.rising,
+      ap (λ xs. sorted (filter (λ r. not (is_none r)) xs)) is
+          ∙ sorted_whole (λ r. not (is_none r)) rs m.no_none m.rising,
     )
 
-collected-one : (rs : List Regex) (s : List Range) → AreMembers is_alt rs → sets_in rs ≡ s ∷ [] → (list_any is_anything (join_sets rs) ≡ false) × (collected rs ≡ rs)
+collected-one : (rs : List Regex) (s : List Range) → AreMembers is_alt rs → sets_in rs ≡ s ∷ []
+    → (list_any is_anything (join_sets rs) ≡ false) × (collected rs ≡ rs)
 unfolding join_sets union_of code codes
 collected-one rs s m one =
     let normal_set : is_normal (set s) ≡ true = has_set s rs is_normal m.normal one in
     let whole : mkset (union_of (sets_in rs)) ≡ set s =
-    ap (λ ss. mkset (union_of ss)) one ∙ ap mkset (union-nil 0 s (IsCanonical-normal s normal_set)) ∙ mkset-normal s normal_set in
+    ap (λ ss. mkset (union_of ss)) one ∙ ap mkset (union-nil 0 s (IsCanonical-normal s normal_set))
+    ∙ mkset-normal s normal_set in
     let is : join_sets rs ≡ set s ∷ without_sets rs = ap (λ x. x ∷ without_sets rs) whole in (
-      ap (list_any is_anything) is ∙ list_any-none is_anything (without_sets rs) (list_all-filter (λ r. not (is_anything r)) (λ r. not (is_set r)) rs m.no_anything),
-      ap (λ xs. sorted (filter (λ r. not (is_none r)) xs)) is ∙ sorted_again (λ r. not (is_none r)) s rs m.no_none m.rising one,
+      ap (list_any is_anything) is
+          ∙ list_any-none is_anything (without_sets rs)
+          (list_all-filter (λ r. not (is_anything r)) (λ r. not (is_set r)) rs m.no_anything),
+      ap (λ xs. sorted (filter (λ r. not (is_none r)) xs)) is
+          ∙ sorted_again (λ r. not (is_none r)) s rs m.no_none m.rising one,
     )
 
 pub mkalt-members : (rs : List Regex) → AreMembers is_alt rs → mkalt rs ≡ alt_of rs
 mkalt-members rs m =
     let flat = flat_map-alternatives rs m.flat in
     let same : (list_any is_anything (join_sets rs) ≡ false) × (collected rs ≡ rs) =
-    elim (one_set_in rs m.few) [ inl no_set ↦ collected-plain rs m no_set | inr one ↦ collected-one rs one.0 m one.1 ] in
+    elim (one_set_in rs m.few) [ inl no_set ↦ collected-plain rs m no_set | inr one ↦ collected-one rs one.0 m one.1 ]
+    in
     mkalt-is rs (ap (λ xs. list_any is_anything (join_sets xs)) flat ∙ same.0)
     ∙ ap (λ xs. alt_of (collected xs)) flat ∙ ap alt_of same.1
 
@@ -148,21 +180,26 @@ none_is_no_alt ps e = cc
 anything_is_no_alt : (ps : Regexes) → anything ≡ alt ps → ⊥
 anything_is_no_alt ps e = cc
 
-same_parts : (ps qs : Regexes) → alt ps ≡ alt qs → ps ≡ qs
-same_parts ps qs e = cc
+pub alt_parts : (ps qs : Regexes) → alt ps ≡ alt qs → ps ≡ qs
+alt_parts ps qs e = cc
 
 alt_of-is_alt : (rs : List Regex) (ps : Regexes) → alt_of rs ≡ alt ps → (parts ps ≡ rs) ⊎ (rs ≡ alt ps ∷ [])
 unfolding alt_of
 alt_of-is_alt [] ps e = absurd (none_is_no_alt ps e)
 alt_of-is_alt (r ∷ []) ps e = inr (ap (λ x. x ∷ []) e)
-alt_of-is_alt (r ∷ s ∷ rs) ps e = inl (sym (ap parts (same_parts (regexes (r ∷ s ∷ rs)) ps e)) ∙ parts-regexes (r ∷ s ∷ rs))
+alt_of-is_alt (r ∷ s ∷ rs) ps e =
+    inl (sym (ap parts (alt_parts (regexes (r ∷ s ∷ rs)) ps e)) ∙ parts-regexes (r ∷ s ∷ rs))
 
-mkalt-is_alt : (rs : List Regex) (ps : Regexes) → mkalt rs ≡ alt ps → (list_any is_anything (join_sets (flat_map alternatives rs)) ≡ false) × (alt_of (collected (flat_map alternatives rs)) ≡ alt ps)
+mkalt-is_alt : (rs : List Regex) (ps : Regexes) → mkalt rs ≡ alt ps
+    → (list_any is_anything (join_sets (flat_map alternatives rs)) ≡ false)
+    × (alt_of (collected (flat_map alternatives rs)) ≡ alt ps)
 unfolding mkalt
 mkalt-is_alt rs ps e = step (list_any is_anything (join_sets (flat_map alternatives rs))) refl e
   where
-    step : (b : Bool) → list_any is_anything (join_sets (flat_map alternatives rs)) ≡ b → cond b anything (alt_of (collected (flat_map alternatives rs))) ≡ alt ps →
-        (list_any is_anything (join_sets (flat_map alternatives rs)) ≡ false) × (alt_of (collected (flat_map alternatives rs)) ≡ alt ps)
+    step : (b : Bool) → list_any is_anything (join_sets (flat_map alternatives rs)) ≡ b
+        → cond b anything (alt_of (collected (flat_map alternatives rs))) ≡ alt ps →
+        (list_any is_anything (join_sets (flat_map alternatives rs)) ≡ false)
+        × (alt_of (collected (flat_map alternatives rs)) ≡ alt ps)
     step true is e' = absurd (anything_is_no_alt ps e')
     step false is e' = (is, e')
 
@@ -195,13 +232,17 @@ AreMembers-parts ps h =
           let again : parts ps ≡ collected (parts ps) = same ∙ ap collected whole in
           from_collected (parts ps) again (AreMembers-collected (parts ps) normal flat plain)
       | inr alone ↦
-          let small_all = small-collected (size (alt ps)) (parts ps) (list_all-from (small (size (alt ps))) (small (suc (size (alt ps)))) (parts ps) (wider_small (size (alt ps))) (small_parts ps)) in
-          absurd (not_small ps ((and_parts (small (size (alt ps)) (alt ps)) true (ap (list_all (small (size (alt ps)))) (sym alone) ∙ small_all)).0))
+          let small_all = small-collected (size (alt ps)) (parts ps)
+          (list_all-from (small (size (alt ps))) (small (suc (size (alt ps)))) (parts ps)
+          (wider_small (size (alt ps))) (small_parts ps)) in
+          absurd (not_small ps ((and_parts (small (size (alt ps)) (alt ps)) true
+          (ap (list_all (small (size (alt ps)))) (sym alone) ∙ small_all)).0))
     ]
 
 -- The law.
 
-whole : (rs : List Regex) → AreMembers is_alt rs → mkalt rs ≡ alt (regexes rs) → (all_normal (regexes rs) && regex_eq (mkalt (parts (regexes rs))) (alt (regexes rs))) ≡ true
+whole : (rs : List Regex) → AreMembers is_alt rs → mkalt rs ≡ alt (regexes rs)
+    → (all_normal (regexes rs) && regex_eq (mkalt (parts (regexes rs))) (alt (regexes rs))) ≡ true
 whole rs m is =
     ap₂ ◌&&◌ (all_normal-parts (regexes rs) ∙ ap (list_all is_normal) (parts-regexes rs) ∙ m.normal)
     (regex_eq-from (mkalt (parts (regexes rs))) (alt (regexes rs)) (ap mkalt (parts-regexes rs) ∙ is))
@@ -230,11 +271,17 @@ pub is_normal-mkalt : (rs : List Regex) → list_all is_normal rs ≡ true → i
 unfolding mkalt good
 is_normal-mkalt rs h =
     let all_good = list_all-flat good is_normal alternatives rs good-alternatives h in
-    let normal = list_all-from good is_normal (flat_map alternatives rs) (λ r g. (and_parts (is_normal r) _ g).0) all_good in
-    let flat = list_all-from good (λ r. not (is_alt r)) (flat_map alternatives rs) (λ r g. (and_parts (is_normal r) _ g).1) all_good in
+    let normal = list_all-from good is_normal (flat_map alternatives rs) (λ r g. (and_parts (is_normal r) _ g).0)
+    all_good in
+    let flat = list_all-from good (λ r. not (is_alt r)) (flat_map alternatives rs)
+    (λ r g. (and_parts (is_normal r) _ g).1) all_good in
     step normal flat (list_any is_anything (join_sets (flat_map alternatives rs))) refl
   where
-    step : list_all is_normal (flat_map alternatives rs) ≡ true → list_all (λ r. not (is_alt r)) (flat_map alternatives rs) ≡ true →
-        (b : Bool) → list_any is_anything (join_sets (flat_map alternatives rs)) ≡ b → is_normal (cond b anything (alt_of (collected (flat_map alternatives rs)))) ≡ true
+    step : list_all is_normal (flat_map alternatives rs) ≡ true
+        → list_all (λ r. not (is_alt r)) (flat_map alternatives rs) ≡ true →
+        (b : Bool) → list_any is_anything (join_sets (flat_map alternatives rs)) ≡ b
+        → is_normal (cond b anything (alt_of (collected (flat_map alternatives rs)))) ≡ true
     step normal flat true is = is_normal-anything
-    step normal flat false is = is_normal-alt_of (collected (flat_map alternatives rs)) (AreMembers-collected (flat_map alternatives rs) normal flat is)
+    step normal flat false is =
+        is_normal-alt_of (collected (flat_map alternatives rs))
+        (AreMembers-collected (flat_map alternatives rs) normal flat is)

@@ -2,16 +2,12 @@
 -- regexes and all lists of numbers, but that of the star, which is one of words: a star of every character is
 -- every word.
 use Rattle.std.specs.Prelude.{◌≡◌, ℕ, List}
-use Rattle.std.specs.List.{list_any, list_all}
+use Rattle.std.specs.List.{list_all}
 use Rattle.sb_class.specs.Ranges.{Range}
 use Rattle.sb_word.specs.Words.{IsWord}
 use Rattle.sb_lang.specs.Regex.{Regex, set, cat, alt, and, neg, star, rep, path, regexes}
 use Rattle.sb_lang.specs.Constructors.{mkset, mkcat, mkalt, mkand, mknot, mkstar, mkrep, mkpath}
 use Rattle.sb_lang.specs.Language.{language}
-
--- a union has the words of some member
-abbrev pub UnionIsOfSome : Type 0
-UnionIsOfSome = (rs : List Regex) (w : List ℕ) → language (alt (regexes rs)) w ≡ list_any (λ r. language r w) rs
 
 -- an intersection has the words of each member
 abbrev pub IntersectionIsOfEach : Type 0

@@ -1,7 +1,7 @@
 -- Laws of nullability and of the derivative, of all regexes.
 use Rattle.std.specs.Prelude.{◌≡◌, ℕ, Bool, true, false, List, [], ◌∷◌, ◌++◌}
-use Rattle.sb_class.specs.Ranges.{in_ranges, is_character}
-use Rattle.sb_word.specs.Words.{IsWord}
+use Rattle.sb_class.specs.Ranges.{in_ranges}
+use Rattle.sb_word.specs.Words.{is_character, IsWord}
 use Rattle.sb_lang.specs.Regex.{Regex, Regexes, none, eps, set, cat, alt, and, neg, star, rep, path, no_more, more}
 use Rattle.sb_lang.specs.Derivative.{nullable, nd, nd_along}
 use Rattle.sb_lang.specs.Language.{language}

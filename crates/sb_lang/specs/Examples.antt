@@ -29,7 +29,8 @@ unfolding union with_range inter within_range overlap
 set_operations = tt
 
 constructors : Unit {0}
-unfolding mkset mkcat mkalt mkand mknot mkstar mkrep mkpath alternatives conjuncts parts regexes join_sets meet_sets meet_of ranges_of is_set union_of inter_of sorted with_regex alt_of and_of order set_operations
+unfolding mkset mkcat mkalt mkand mknot mkstar mkrep mkpath alternatives conjuncts parts regexes join_sets meet_sets
+    meet_of ranges_of is_set union_of inter_of sorted with_regex alt_of and_of order set_operations
 constructors = tt
 
 derivative : Unit {0}
@@ -171,7 +172,8 @@ sets_join : mkalt (a ∷ none ∷ b ∷ []) ≡ set ((0x61, 0x62) ∷ [])
 unfolding constructors
 sets_join = refl
 
-union_is_sorted_and_distinct : mkalt (star b ∷ alt (more (star a) (more (star b) no_more)) ∷ eps ∷ []) ≡ alt (more eps (more (star a) (more (star b) no_more)))
+union_is_sorted_and_distinct : mkalt (star b ∷ alt (more (star a) (more (star b) no_more)) ∷ eps ∷ [])
+    ≡ alt (more eps (more (star a) (more (star b) no_more)))
 unfolding constructors
 union_is_sorted_and_distinct = refl
 
@@ -256,7 +258,8 @@ last_repetition : nd (rep a 0 1) 0x61 ≡ eps
 unfolding derivative
 last_repetition = refl
 
-derivative_of_nullable_concatenation : nd (cat (star a) (cat a b)) 0x61 ≡ alt (more b (more (cat (star a) (cat a b)) no_more))
+derivative_of_nullable_concatenation : nd (cat (star a) (cat a b)) 0x61
+    ≡ alt (more b (more (cat (star a) (cat a b)) no_more))
 unfolding derivative
 derivative_of_nullable_concatenation = refl
 
@@ -316,7 +319,8 @@ normal_of_difference : normal (re_diff re_all ab) ≡ neg (cat a b)
 unfolding normal_regex
 normal_of_difference = refl
 
-normal_of_intersection : normal (re_inter (re_star (re_word (0x61 ∷ []))) (re_plus (re_word (0x62 ∷ [])))) ≡ nothing_left
+normal_of_intersection : normal (re_inter (re_star (re_word (0x61 ∷ []))) (re_plus (re_word (0x62 ∷ []))))
+    ≡ nothing_left
 unfolding normal_regex
 normal_of_intersection = refl
 

@@ -23,11 +23,9 @@ UnionOfMore = (a : Regex) (rs : List Regex) → IsNormal a → AllNormal rs → 
 abbrev pub UnionOfMembers : Type 0
 UnionOfMembers = (rs ss : List Regex) → AllNormal rs → AllNormal ss → SameMembers rs ss → mkalt rs ≡ mkalt ss
 
-abbrev pub IntersectionOfOne : Type 0
-IntersectionOfOne = (a : Regex) → IsNormal a → mkand (a ∷ []) ≡ a
-
 abbrev pub IntersectionOfMore : Type 0
-IntersectionOfMore = (a : Regex) (rs : List Regex) → IsNormal a → AllNormal rs → mkand (a ∷ mkand rs ∷ []) ≡ mkand (a ∷ rs)
+IntersectionOfMore = (a : Regex) (rs : List Regex) → IsNormal a → AllNormal rs
+    → mkand (a ∷ mkand rs ∷ []) ≡ mkand (a ∷ rs)
 
 abbrev pub IntersectionOfMembers : Type 0
 IntersectionOfMembers = (rs ss : List Regex) → AllNormal rs → AllNormal ss → SameMembers rs ss → mkand rs ≡ mkand ss

@@ -19,4 +19,5 @@ IterationIsSomePower = (L : Language) (w : List ℕ) → (iterate L w ≡ true) 
 
 abbrev pub RepetitionIsSomePower : Type 0
 RepetitionIsSomePower =
-    (L : Language) (n m : ℕ) (w : List ℕ) → (repeat L n m w ≡ true) ↔ ((k : ℕ) × (n ≤ k) × (k ≤ m) × (power L k w ≡ true))
+    (L : Language) (n m : ℕ) (w : List ℕ)
+    → (repeat L n m w ≡ true) ↔ ((k : ℕ) × (n ≤ k) × (k ≤ m) × (power L k w ≡ true))

@@ -1,9 +1,9 @@
 -- The constructors, the derivative and the normal regex of a term give normal regexes, of normal parts.
-use Rattle.std.specs.Prelude.{◌≡◌, ℕ, ◌<◌, ◌≤◌, true, List}
+use Rattle.std.specs.Prelude.{◌≡◌, ℕ, true, List}
 use Rattle.std.specs.List.{list_all}
 use Rattle.sb_class.specs.Ranges.{Range, IsCanonical}
 use Rattle.sb_lang.specs.RegLan.{RegLan}
-use Rattle.sb_lang.specs.Regex.{Regex, rep}
+use Rattle.sb_lang.specs.Regex.{Regex}
 use Rattle.sb_lang.specs.Constructors.{mkset, mkcat, mkalt, mkand, mknot, mkstar, mkrep, mkpath}
 use Rattle.sb_lang.specs.Normal.{normal}
 use Rattle.sb_lang.specs.Derivative.{nd}
@@ -25,7 +25,3 @@ DerivativeIsNormal = (r : Regex) (c : ℕ) → IsNormal r → IsNormal (nd r c)
 -- of a term whose words are of characters
 abbrev pub NormalIsNormal : Type 0
 NormalIsNormal = (R : RegLan) → has_words R ≡ true → IsNormal (normal R)
-
--- a normal repetition has its bounds in order, and is of once at least
-abbrev pub RepetitionIsInOrder : Type 0
-RepetitionIsInOrder = (a : Regex) (n m : ℕ) → IsNormal (rep a n m) → (n ≤ m) × (0 < m)

@@ -7,7 +7,7 @@ use Rattle.std.specs.Cmp.{IsTotalOrder}
 use Rattle.std.specs.Cmp.Lexicographic.{slice_cmp}
 use Rattle.sb_class.specs.Ranges.{Range}
 use Rattle.sb_lang.specs.Regex.{Regex, Regexes, none, eps, set, cat, alt, and, neg, star, rep, path, parts}
-use Rattle.sb_lang.specs.Order.{code, regex_cmp}
+use Rattle.sb_lang.specs.Order.{regex_cmp}
 
 -- the kind's place
 unfoldable pub kind : Regex → ℕ
@@ -50,6 +50,3 @@ OrderIsTotal = IsTotalOrder regex_cmp
 -- only equal regexes are in one place
 abbrev pub OrderTellsApart : Type 0
 OrderTellsApart = (a b : Regex) → (regex_cmp a b ≡ Equal) ↔ (a ≡ b)
-
-abbrev pub CodeTellsApart : Type 0
-CodeTellsApart = (a b : Regex) → code a ≡ code b → a ≡ b

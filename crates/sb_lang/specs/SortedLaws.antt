@@ -10,13 +10,8 @@ use Rattle.sb_lang.specs.Constructors.{sorted}
 abbrev pub is_member : Regex → List Regex → Bool
 is_member r rs = list_any (regex_eq r) rs
 
-abbrev pub SortedIsAscending : Type 0
-SortedIsAscending = (rs : List Regex) → IsStrictlySortedBy regex_cmp (sorted rs)
-
-abbrev pub SortedHasSameMembers : Type 0
-SortedHasSameMembers = (rs : List Regex) (r : Regex) → is_member r (sorted rs) ≡ is_member r rs
-
--- no other list does both
+-- a list that ascends and has the members of another one is that one, sorted
 abbrev pub SortedIsTheOnly : Type 0
 SortedIsTheOnly =
-    (rs ss : List Regex) → IsStrictlySortedBy regex_cmp ss → ((r : Regex) → is_member r ss ≡ is_member r rs) → ss ≡ sorted rs
+    (rs ss : List Regex) → IsStrictlySortedBy regex_cmp ss → ((r : Regex) → is_member r ss ≡ is_member r rs)
+    → ss ≡ sorted rs

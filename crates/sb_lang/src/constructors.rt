@@ -1,11 +1,6 @@
 //! Each normalising constructor keeps the language.
 
-ghost use Rattle.sb_lang.specs.ConstructorLaws.{UnionIsOfSome, IntersectionIsOfEach, MksetKeepsLanguage, MkcatKeepsLanguage, MkaltKeepsLanguage, MkandKeepsLanguage, MknotKeepsLanguage, MkstarKeepsLanguage, MkrepKeepsLanguage, MkpathKeepsLanguage};
-
-/// A union has the words of some member.
-pub fn union_is_of_some()
-    ensures { UnionIsOfSome }
-{}
+ghost use Rattle.sb_lang.specs.ConstructorLaws.{IntersectionIsOfEach, MksetKeepsLanguage, MkcatKeepsLanguage, MkaltKeepsLanguage, MkandKeepsLanguage, MknotKeepsLanguage, MkstarKeepsLanguage, MkrepKeepsLanguage, MkpathKeepsLanguage};
 
 /// An intersection has the words of each member.
 pub fn intersection_is_of_each()

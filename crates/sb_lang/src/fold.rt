@@ -1,6 +1,6 @@
 //! The order of members, and how they are grouped, make no difference.
 
-ghost use Rattle.sb_lang.specs.FoldLaws.{UnionOfOne, UnionOfMore, UnionOfMembers, IntersectionOfOne, IntersectionOfMore, IntersectionOfMembers, ConcatenationGroups};
+ghost use Rattle.sb_lang.specs.FoldLaws.{UnionOfOne, UnionOfMore, UnionOfMembers, IntersectionOfMore, IntersectionOfMembers, ConcatenationGroups};
 
 /// The union of one member is the member.
 pub fn union_of_one()
@@ -15,11 +15,6 @@ pub fn union_of_more()
 /// Lists with the same members have one union.
 pub fn union_of_members()
     ensures { UnionOfMembers }
-{}
-
-/// The intersection of one member is the member.
-pub fn intersection_of_one()
-    ensures { IntersectionOfOne }
 {}
 
 /// An intersection with the intersection of a list is the intersection of all.

@@ -1,6 +1,6 @@
 //! Laws of normal regexes: what the constructors build stays what they build.
 
-ghost use Rattle.sb_lang.specs.NormalFormLaws.{ConstructorsGiveNormal, DerivativeIsNormal, NormalIsNormal, RepetitionIsInOrder};
+ghost use Rattle.sb_lang.specs.NormalFormLaws.{ConstructorsGiveNormal, DerivativeIsNormal, NormalIsNormal};
 
 /// Each constructor gives a normal regex of normal parts.
 pub fn constructors_give_normal()
@@ -15,9 +15,4 @@ pub fn derivative_is_normal()
 /// The normal regex of a term is normal.
 pub fn normal_is_normal()
     ensures { NormalIsNormal }
-{}
-
-/// A normal repetition has its bounds in order, and is of once at least.
-pub fn repetition_is_in_order()
-    ensures { RepetitionIsInOrder }
 {}

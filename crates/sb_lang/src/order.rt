@@ -1,6 +1,6 @@
 //! Laws of the order of regexes.
 
-ghost use Rattle.sb_lang.specs.OrderLaws.{OrderIsByParts, OrderIsTotal, OrderTellsApart, CodeTellsApart};
+ghost use Rattle.sb_lang.specs.OrderLaws.{OrderIsByParts, OrderIsTotal, OrderTellsApart};
 
 /// Regexes stand by their kind, then by their parts from left to right.
 pub fn order_is_by_parts()
@@ -15,9 +15,4 @@ pub fn order_is_total()
 /// The order answers `Equal` exactly for equal regexes.
 pub fn order_tells_apart()
     ensures { OrderTellsApart }
-{}
-
-/// Equal codes are of equal regexes.
-pub fn code_tells_apart()
-    ensures { CodeTellsApart }
 {}

@@ -3,24 +3,23 @@ use Rattle.std.specs.Prelude.{◌≡◌, negsuc, true, false, [], ◌∷◌, cod
 use Rattle.std.specs.Fmt.{digits}
 use Rattle.sb_lang.specs.Membership.{in_re}
 use Rattle.sb_lang.specs.Languages.{cut, power, some_up_to, iterate}
-use Rattle.sb_meaning.specs.Terms.{Term, Terms, Symbol, constant, word, numeral, apply, no_terms, with_term, text, integer, boolean}
+use Rattle.sb_meaning.specs.Terms.{Term, Symbol, constant, word, numeral, apply, no_terms, with_term, text, integer, boolean}
 use Rattle.sb_meaning.specs.Terms as symbol
 use Rattle.sb_meaning.specs.Values.{Valuation, Text, Int, Truth}
 use Rattle.sb_meaning.specs.Truth.{holds}
 use Rattle.sb_meaning.specs.Printed.{printed}
-use Rattle.sb_meaning.specs.Fragment.{is_regex, is_membership}
 
-abbrev one : Symbol → Term → Term
+abbrev pub one : Symbol → Term → Term
 one s a = apply s (with_term a no_terms)
 
-abbrev two : Symbol → Term → Term → Term
+abbrev pub two : Symbol → Term → Term → Term
 two s a b = apply s (with_term a (with_term b no_terms))
 
 abbrev three : Symbol → Term → Term → Term → Term
 three s a b c = apply s (with_term a (with_term b (with_term c no_terms)))
 
 -- the String constants x and y, the Int constant n and the Bool constant p
-abbrev x : Term
+abbrev pub x : Term
 x = constant 0 text
 
 abbrev y : Term
@@ -36,22 +35,28 @@ abbrev values : Valuation
 values = (0, Text (codes "aa")) ∷ (1, Text (codes "bbb")) ∷ (2, Int (negsuc 4)) ∷ (3, Truth true) ∷ []
 
 -- (str.in_re x (re.+ (re.range "a" "b")))
-some_of_a_b : holds (two symbol.str_in_re x (one symbol.re_plus (two symbol.re_range (word (codes "a")) (word (codes "b"))))) values ≡ true
+some_of_a_b : holds (two symbol.str_in_re x
+    (one symbol.re_plus (two symbol.re_range (word (codes "a")) (word (codes "b"))))) values ≡ true
 unfolding in_re cut power some_up_to iterate
 some_of_a_b = refl
 
 -- (str.in_re y (re.* (str.to_re "a")))
-no_b_in_as : holds (two symbol.str_in_re y (one symbol.re_star (one symbol.str_to_re (word (codes "a"))))) values ≡ false
+no_b_in_as : holds (two symbol.str_in_re y (one symbol.re_star (one symbol.str_to_re (word (codes "a"))))) values
+    ≡ false
 unfolding in_re cut power some_up_to iterate
 no_b_in_as = refl
 
 -- (not (str.in_re y (re.* (str.to_re "a"))))
-complement_is_true : holds (one symbol.core_not (two symbol.str_in_re y (one symbol.re_star (one symbol.str_to_re (word (codes "a")))))) values ≡ true
+complement_is_true : holds
+    (one symbol.core_not (two symbol.str_in_re y (one symbol.re_star (one symbol.str_to_re (word (codes "a")))))) values
+    ≡ true
 unfolding in_re cut power some_up_to iterate
 complement_is_true = refl
 
 -- (= (* 2 (str.len x)) (+ (str.len y) 1))
-lengths_add_up : holds (two symbol.core_equal (two symbol.times (numeral 2) (one symbol.str_len x)) (two symbol.plus (one symbol.str_len y) (numeral 1))) values ≡ true
+lengths_add_up : holds
+    (two symbol.core_equal (two symbol.times (numeral 2) (one symbol.str_len x))
+    (two symbol.plus (one symbol.str_len y) (numeral 1))) values ≡ true
 lengths_add_up = refl
 
 -- (<= (- 5) n 0), and not (< n (- 5))
@@ -66,7 +71,8 @@ implication_leans_right : holds (three symbol.core_implies p p (apply symbol.cor
 implication_leans_right = refl
 
 -- (- 7 2 3)
-difference_leans_left : holds (two symbol.core_equal (three symbol.minus (numeral 7) (numeral 2) (numeral 3)) (numeral 2)) values ≡ true
+difference_leans_left : holds
+    (two symbol.core_equal (three symbol.minus (numeral 7) (numeral 2) (numeral 3)) (numeral 2)) values ≡ true
 difference_leans_left = refl
 
 -- (distinct x y x)
@@ -84,7 +90,9 @@ a_suffix : holds (two symbol.str_suffixof (word (codes "bc")) (word (codes "abc"
 a_suffix = refl
 
 -- (ite p (= x "aa") (= x "b"))
-chooses_by_the_condition : holds (three symbol.core_ite p (two symbol.core_equal x (word (codes "aa"))) (two symbol.core_equal x (word (codes "b")))) values ≡ true
+chooses_by_the_condition : holds
+    (three symbol.core_ite p (two symbol.core_equal x (word (codes "aa"))) (two symbol.core_equal x (word (codes "b"))))
+    values ≡ true
 chooses_by_the_condition = refl
 
 prints_a_word : printed (Text (codes "ab")) ≡ 34 ∷ 97 ∷ 98 ∷ 34 ∷ []
@@ -95,11 +103,11 @@ unfolding digits
 prints_a_negative_number = refl
 
 -- (re.++ (str.to_re "aa") (re.* (re.union (str.to_re "b") (re.range "c" "d")))), of which "aab" is a word
-abbrev as_and_more : Term
-as_and_more = two symbol.re_concat (one symbol.str_to_re (word (codes "aa"))) (one symbol.re_star (two symbol.re_union (one symbol.str_to_re (word (codes "b"))) (two symbol.re_range (word (codes "c")) (word (codes "d")))))
-
-is_over_literals : is_membership (two symbol.str_in_re x as_and_more) ≡ true
-is_over_literals = refl
+abbrev pub as_and_more : Term
+as_and_more = two symbol.re_concat (one symbol.str_to_re (word (codes "aa")))
+    (one symbol.re_star
+    (two symbol.re_union (one symbol.str_to_re (word (codes "b")))
+    (two symbol.re_range (word (codes "c")) (word (codes "d")))))
 
 has_x : holds (two symbol.str_in_re x as_and_more) values ≡ true
 unfolding in_re cut power some_up_to iterate
@@ -108,10 +116,3 @@ has_x = refl
 has_no_y : holds (two symbol.str_in_re y as_and_more) values ≡ false
 unfolding in_re cut power some_up_to iterate
 has_no_y = refl
-
--- a constant within, and a word in place of a constant
-no_constant_within : is_regex (two symbol.re_union (one symbol.str_to_re x) (one symbol.str_to_re (word (codes "a")))) ≡ false
-no_constant_within = refl
-
-no_word_in_front : is_membership (two symbol.str_in_re (word (codes "a")) as_and_more) ≡ false
-no_word_in_front = refl

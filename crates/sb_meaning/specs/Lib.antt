@@ -1,16 +1,6 @@
 pub mod Terms
+pub mod Sorts
 pub mod Values
 pub mod Truth
 pub mod Printed
-pub mod Names
-pub mod Symbols
-pub mod Scopes
-pub mod Reading
-pub mod Commands
-pub mod State
-pub mod Fragment
-pub mod Replies
-pub mod Scripts
-pub mod ReadingExamples
-pub mod ReplyExamples
 pub mod Examples

@@ -3,11 +3,11 @@
 use Rattle.std.specs.Prelude.{ℕ, List}
 
 -- the sorts
-pub data Kind : Type 0 where
-  boolean : Kind
-  integer : Kind
-  text : Kind
-  reglan : Kind
+pub data Sort : Type 0 where
+  boolean : Sort
+  integer : Sort
+  text : Sort
+  reglan : Sort
 
 -- the symbols of the theories
 pub data Symbol : Type 0 where
@@ -57,7 +57,7 @@ pub data Symbol : Type 0 where
 mutual
   pub data Term : Type 0 where
     -- a declared constant, by its serial
-    constant : ℕ → Kind → Term
+    constant : ℕ → Sort → Term
     -- the word of a literal, or of (_ char #xH)
     word : List ℕ → Term
     numeral : ℕ → Term

@@ -5,7 +5,7 @@ use Rattle.std.specs.List.{list_all, flat_map}
 use Rattle.sb_lang.specs.RegLan as reglan
 use Rattle.sb_lang.specs.RegLan.{RegLan}
 use Rattle.sb_lang.specs.Membership.{in_re, is_word}
-use Rattle.sb_meaning.specs.Terms.{Symbol, Term, Terms, Kind, constant, word, numeral, apply, no_terms, with_term}
+use Rattle.sb_meaning.specs.Terms.{Symbol, Term, Terms, constant, word, numeral, apply, no_terms, with_term}
 use Rattle.sb_meaning.specs.Terms as symbol
 use Rattle.sb_meaning.specs.Values.{Value, Valuation, Text, Int, Truth, value_in}
 
@@ -202,7 +202,7 @@ applied (symbol.re_loop n m) ms = means_reglan (of_one (λ R. reglan.re_loop R n
 -- the meaning of a term under a valuation
 abbrev mutual
   pub meaning_of : Valuation → Term → Meaning
-  meaning_of v (constant serial kind) = meaning_of_value (value_in v serial kind)
+  meaning_of v (constant serial sort) = meaning_of_value (value_in v serial sort)
   meaning_of v (word w) = means_word w
   meaning_of v (numeral n) = means_number (pos n)
   meaning_of v (apply s terms) = applied s (meanings_of v terms)
@@ -214,3 +214,8 @@ abbrev mutual
 -- the term is true under the valuation
 abbrev pub holds : Term → Valuation → Bool
 holds term v = all_true (truth_in (meaning_of v term))
+
+-- each term is true under the valuation
+abbrev pub all_hold : List Term → Valuation → Bool
+all_hold [] v = true
+all_hold (t ∷ ts) v = holds t v && all_hold ts v

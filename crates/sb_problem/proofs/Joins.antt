@@ -1,7 +1,7 @@
 -- Regexes joined from the right, and by unions of many.
-use Rattle.std.proofs.Common.{◌≡◌, ℕ, zero, suc, ◌+◌, ◌-◌, ◌≤◌, ◌<◌, Bool, true, false, ◌&&◌, ◌==◌, List, [], ◌∷◌, length, get_or, drop, refl, sym, ap, ap₂, ◌∙◌, arith, Option, Some, None, option_map}
+use Rattle.std.proofs.Common.{◌≡◌, ℕ, zero, suc, ◌+◌, ◌-◌, ◌≤◌, ◌<◌, Bool, true, false, ◌==◌, List, [], ◌∷◌, length, get_or, drop, refl, sym, ap, ap₂, ◌∙◌, arith, Option, Some, None, option_map}
+use Rattle.std.proofs.lemmas.Bool.{and_parts, and_from, false≢true}
 use Rattle.std.specs.List.{list_all}
-use Rattle.std.proofs.lemmas.Bool.{false≢true}
 use Rattle.std.proofs.lemmas.List.{drop_more}
 use Rattle.std.proofs.lemmas.List.Folds.{list_all_at}
 use Rattle.sb_lang.specs.Regex.{Regex, none}
@@ -10,23 +10,12 @@ use Rattle.sb_lang.specs.NormalForm.{is_normal, IsNormal}
 use Rattle.sb_lang.specs.FoldLaws.{UnionOfOne, UnionOfMore, AllNormal}
 use Rattle.sb_regex.specs.Numbered.{regex_at, regexes_at, Names, AllNumbers, Extends}
 use Rattle.sb_problem.specs.Shapes.{IsFound, joined_right, of_one, either, repeated}
-use Rattle.sb_problem.proofs.Numbers.{names_at, names_below, at_kept, extends_more, names_from}
-
-pub front_true : (a b : Bool) → (a && b) ≡ true → a ≡ true
-front_true true b h = refl
-front_true false b h = h
-
-pub back_true : (a b : Bool) → (a && b) ≡ true → b ≡ true
-back_true true b h = h
-back_true false b h = absurd (false≢true h)
+use Rattle.sb_regex.proofs.CallerLemmas.{names_at, names_below, at_kept, extends_more, names_from, number_in}
 
 -- what is found by its regex
-pub found : (rs : List Regex) (id : ℕ) (r : Regex) (o : Option Regex) → o ≡ Some r → Names rs id r → IsFound rs (Some id) o
+pub found : (rs : List Regex) (id : ℕ) (r : Regex) (o : Option Regex) → o ≡ Some r → Names rs id r
+    → IsFound rs (Some id) o
 found rs id r o is names = rw is (ap Some names)
-
--- a number in the list is one of the arena
-below_at : (rs : List Regex) (ids : List ℕ) (i x : ℕ) → AllNumbers rs ids → i < length ids → x ≡ get_or ids i x → x < length rs
-below_at rs ids i x numbers l is = rw is (numbers i x l)
 
 -- the regexes from the place on are joined, and the number is of them
 pub record Joining (old new : List Regex) (ids : List ℕ) (left whole : ℕ) : Type 0 where
@@ -35,7 +24,8 @@ pub record Joining (old new : List Regex) (ids : List ℕ) (left whole : ℕ) : 
   pub below : whole < length new
   pub names : joined_right mkcat (regexes_at old (drop left ids)) ≡ Some (regex_at new whole)
 
-joined_more : (join : Regex → Regex → Regex) (r s : Regex) (rs : List Regex) → joined_right join rs ≡ Some s → joined_right join (r ∷ rs) ≡ Some (join r s)
+joined_more : (join : Regex → Regex → Regex) (r s : Regex) (rs : List Regex) → joined_right join rs ≡ Some s
+    → joined_right join (r ∷ rs) ≡ Some (join r s)
 joined_more join r s [] h = absurd (nothing s h)
   where
     nothing : (s : Regex) → None ≡ Some s → ⊥
@@ -45,7 +35,8 @@ joined_more join r s (t ∷ rs) h = ap (option_map (join r)) h
 before : (left : ℕ) → 0 < left → left - 1 + 1 ≡ left
 before left h = omega arith
 
-pub joining_more : (old new more : List Regex) (ids : List ℕ) (left whole x id : ℕ) → Joining old new ids left whole → 0 < left → AllNumbers old ids → x ≡ get_or ids (left - 1) x →
+pub joining_more : (old new more : List Regex) (ids : List ℕ) (left whole x id : ℕ) → Joining old new ids left whole
+    → 0 < left → AllNumbers old ids → x ≡ get_or ids (left - 1) x →
     Names more id (mkcat (regex_at new x) (regex_at new whole)) → Extends new more → Joining old more ids (left - 1) id
 joining_more old new more ids left whole x id joining positive numbers is names extends = record {
   extends = extends_more old new more joining.extends extends;
@@ -53,54 +44,66 @@ joining_more old new more ids left whole x id joining positive numbers is names 
   below = names_below more id _ names;
   names =
       let split : drop (left - 1) ids ≡ x ∷ drop left ids =
-      drop_more ids (left - 1) x (omega (arith, joining.inside)) ∙ ap₂ (λ y n. y ∷ drop n ids) (sym is) (before left positive) in
-      let here : regex_at new x ≡ regex_at old x = at_kept old new x joining.extends (below_at old ids (left - 1) x numbers (omega (arith, joining.inside)) is) in
+      drop_more ids (left - 1) x (omega (arith, joining.inside))
+      ∙ ap₂ (λ y n. y ∷ drop n ids) (sym is) (before left positive) in
+      let here : regex_at new x ≡ regex_at old x =
+      at_kept old new x joining.extends (number_in old ids (left - 1) x numbers (omega (arith, joining.inside)) is)
+      in
       ap (λ xs. joined_right mkcat (regexes_at old xs)) split
       ∙ (joined_more mkcat (regex_at old x) (regex_at new whole) (regexes_at old (drop left ids)) joining.names
       ∙ ap Some (ap (λ r. mkcat r (regex_at new whole)) (sym here) ∙ sym (names_at more id _ names)));
 }
 
-pub joining_all : (old new : List Regex) (ids : List ℕ) (left whole : ℕ) → Joining old new ids left whole → left ≤ 0 → IsFound new (Some whole) (joined_right mkcat (regexes_at old ids))
-joining_all old new ids zero whole joining h = found new whole (regex_at new whole) _ joining.names (names_from new whole joining.below)
+pub joining_all : (old new : List Regex) (ids : List ℕ) (left whole : ℕ) → Joining old new ids left whole → left ≤ 0
+    → IsFound new (Some whole) (joined_right mkcat (regexes_at old ids))
+joining_all old new ids zero whole joining h =
+    found new whole (regex_at new whole) _ joining.names (names_from new whole (regex_at new whole) joining.below refl)
 joining_all old new ids (suc left) whole joining h = absurd (omega arith)
 
 -- of one alone
-pub of_one_regex : (make : Regex → Regex) (rs : List Regex) (ids : List ℕ) (x : ℕ) → 1 ≤ length ids → length ids < 2 → x ≡ get_or ids 0 x → of_one make (regexes_at rs ids) ≡ Some (make (regex_at rs x))
+pub of_one_regex : (make : Regex → Regex) (rs : List Regex) (ids : List ℕ) (x : ℕ) → 1 ≤ length ids → length ids < 2
+    → x ≡ get_or ids 0 x → of_one make (regexes_at rs ids) ≡ Some (make (regex_at rs x))
 of_one_regex make rs [] x low high is = absurd (omega arith)
 of_one_regex make rs (y ∷ []) x low high is = ap (λ z. Some (make (regex_at rs z))) (sym is)
 of_one_regex make rs (y ∷ z ∷ ids) x low high is = absurd (omega arith)
 
-pub repeated_found : (old new more : List Regex) (ids : List ℕ) (x star id : ℕ) → AllNumbers old ids → 1 ≤ length ids → length ids < 2 → x ≡ get_or ids 0 x → Extends old new →
-    Names new star (mkstar (regex_at old x)) → Names more id (mkcat (regex_at new x) (regex_at new star)) → IsFound more (Some id) (of_one repeated (regexes_at old ids))
+pub repeated_found : (old new more : List Regex) (ids : List ℕ) (x star id : ℕ) → AllNumbers old ids → 1 ≤ length ids
+    → length ids < 2 → x ≡ get_or ids 0 x → Extends old new →
+    Names new star (mkstar (regex_at old x)) → Names more id (mkcat (regex_at new x) (regex_at new star))
+    → IsFound more (Some id) (of_one repeated (regexes_at old ids))
 repeated_found old new more ids x star id numbers low high is extends starred names =
     found more id (repeated (regex_at old x)) _ (of_one_regex repeated old ids x low high is)
-    (names ∙ ap Some (ap₂ mkcat (at_kept old new x extends (below_at old ids 0 x numbers (omega arith) is)) (names_at new star _ starred)))
+    (names ∙ ap Some (ap₂ mkcat (at_kept old new x extends (number_in old ids 0 x numbers (omega arith) is))
+    (names_at new star _ starred)))
 
 -- each of the regexes is normal
 normal_at : (rs : List Regex) (i : ℕ) → AllNormal rs → i < length rs → IsNormal (regex_at rs i)
-normal_at rs i normal h = by_cases (is_normal (regex_at rs i)) (λ bad. false≢true (sym (list_all_at is_normal rs i none h bad) ∙ normal))
+normal_at rs i normal h =
+    by_cases (is_normal (regex_at rs i)) (λ bad. false≢true (sym (list_all_at is_normal rs i none h bad) ∙ normal))
   where
     by_cases : (b : Bool) → (b ≡ false → ⊥) → b ≡ true
     by_cases true h = refl
     by_cases false h = absurd (h refl)
 
-pub both_true : (a b : Bool) → a ≡ true → b ≡ true → (a && b) ≡ true
-both_true true b h k = k
-both_true false b h k = absurd (false≢true h)
-
 all_normal : (rs : List Regex) (ids : List ℕ) → AllNormal rs → AllNumbers rs ids → AllNormal (regexes_at rs ids)
 all_normal rs [] normal numbers = refl
 all_normal rs (i ∷ ids) normal numbers =
-    both_true (is_normal (regex_at rs i)) (list_all is_normal (regexes_at rs ids)) (normal_at rs i normal (numbers 0 0 (omega arith))) (all_normal rs ids normal (λ k d l. numbers (suc k) d (omega (arith, l))))
+    and_from (is_normal (regex_at rs i)) (list_all is_normal (regexes_at rs ids))
+    (normal_at rs i normal (numbers 0 0 (omega arith)))
+    (all_normal rs ids normal (λ k d l. numbers (suc k) d (omega (arith, l))))
 
-union_all : UnionOfOne → UnionOfMore → (r : Regex) (rs : List Regex) → AllNormal (r ∷ rs) → joined_right either (r ∷ rs) ≡ Some (mkalt (r ∷ rs))
-union_all one more r [] h = ap Some (sym (one r (front_true (is_normal r) true h)))
+union_all : UnionOfOne → UnionOfMore → (r : Regex) (rs : List Regex) → AllNormal (r ∷ rs)
+    → joined_right either (r ∷ rs) ≡ Some (mkalt (r ∷ rs))
+union_all one more r [] h = ap Some (sym (one r (and_parts (is_normal r) true h).0))
 union_all one more r (s ∷ rs) h =
-    let here = front_true (is_normal r) (list_all is_normal (s ∷ rs)) h in
-    let rest = back_true (is_normal r) (list_all is_normal (s ∷ rs)) h in
+    let here = (and_parts (is_normal r) (list_all is_normal (s ∷ rs)) h).0 in
+    let rest = (and_parts (is_normal r) (list_all is_normal (s ∷ rs)) h).1 in
     ap (option_map (either r)) (union_all one more s rs rest) ∙ ap Some (more r (s ∷ rs) here rest)
 
-pub union_found : UnionOfOne → UnionOfMore → (rs new : List Regex) (ids : List ℕ) (id : ℕ) → AllNormal rs → AllNumbers rs ids → false ≡ (length ids == 0) → Names new id (mkalt (regexes_at rs ids)) → IsFound new (Some id) (joined_right either (regexes_at rs ids))
+pub union_found : UnionOfOne → UnionOfMore → (rs new : List Regex) (ids : List ℕ) (id : ℕ) → AllNormal rs
+    → AllNumbers rs ids → false ≡ (length ids == 0) → Names new id (mkalt (regexes_at rs ids))
+    → IsFound new (Some id) (joined_right either (regexes_at rs ids))
 union_found one more rs new [] id normal numbers some names = absurd (false≢true some)
 union_found one more rs new (i ∷ ids) id normal numbers some names =
-    found new id (mkalt (regexes_at rs (i ∷ ids))) _ (union_all one more (regex_at rs i) (regexes_at rs ids) (all_normal rs (i ∷ ids) normal numbers)) names
+    found new id (mkalt (regexes_at rs (i ∷ ids))) _
+    (union_all one more (regex_at rs i) (regexes_at rs ids) (all_normal rs (i ∷ ids) normal numbers)) names

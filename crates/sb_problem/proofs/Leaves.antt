@@ -1,6 +1,7 @@
 -- Words and ranges.
-use Rattle.std.proofs.Common.{◌≡◌, ℕ, ◌≤◌, ◌<◌, Bool, true, false, nat_le, if◌then◌else◌, List, [], ◌∷◌, ◌||◌, length, get_or, refl, sym, ap, ◌∙◌, arith, Result, IfOk}
+use Rattle.std.proofs.Common.{◌≡◌, ℕ, ◌≤◌, ◌<◌, true, false, nat_le, if◌then◌else◌, List, [], ◌∷◌, length, get_or, refl, sym, ap, ◌∙◌, arith, Result, IfOk}
 use Rattle.std.proofs.lemmas.Bool.Decides.{nat_tests}
+use Rattle.sb_class.proofs.CallerLemmas.{in_ranges-one}
 use Rattle.sb_class.specs.Ranges.{Range, in_range, in_ranges, rises_from, IsCanonical}
 use Rattle.sb_lang.specs.RegLan.{re_range, re_word}
 use Rattle.sb_lang.specs.Regex.{Regex, none, set}
@@ -12,7 +13,8 @@ use Rattle.sb_meaning.specs.Terms.{Terms, word, apply, no_terms, with_term, str_
 use Rattle.sb_problem.specs.Normals.{IsRegexOf}
 
 -- what is named by a regex that is the same
-pub named : {E : Type 0} (rs : List Regex) (found : Result ℕ E) (r s : Regex) → s ≡ r → IfOk found (λ id. Names rs id r) → IfOk found (λ id. Names rs id s)
+pub named : {E : Type 0} (rs : List Regex) (found : Result ℕ E) (r s : Regex) → s ≡ r → IfOk found (λ id. Names rs id r)
+    → IfOk found (λ id. Names rs id s)
 named rs found r s is h = rw is h
 
 pub first_not_one : (from to : List ℕ) → (length from ≡ 1 → ⊥) → range_regex from to ≡ none
@@ -33,24 +35,17 @@ two_alone : (a b : ℕ) → range_regex (a ∷ []) (b ∷ []) ≡ (if nat_le a b
 unfolding range_regex
 two_alone a b = refl
 
-pub reversed : (from to : List ℕ) → 1 ≤ length from → length from < 2 → 1 ≤ length to → length to < 2 → get_or to 0 0 < get_or from 0 0 → range_regex from to ≡ none
+pub reversed : (from to : List ℕ) → 1 ≤ length from → length from < 2 → 1 ≤ length to → length to < 2
+    → get_or to 0 0 < get_or from 0 0 → range_regex from to ≡ none
 reversed [] to low high low' high' h = absurd (omega arith)
 reversed (a ∷ []) [] low high low' high' h = absurd (omega arith)
-reversed (a ∷ []) (b ∷ []) low high low' high' h = two_alone a b ∙ ap (λ t. if t then set ((a, b) ∷ []) else none) (below a b h)
+reversed (a ∷ []) (b ∷ []) low high low' high' h =
+    two_alone a b ∙ ap (λ t. if t then set ((a, b) ∷ []) else none) (below a b h)
   where
     below : (a b : ℕ) → b < a → nat_le a b ≡ false
     below a b h = grind (arith, nat_tests)
 reversed (a ∷ []) (b ∷ d ∷ to) low high low' high' h = absurd (omega arith)
 reversed (a ∷ d ∷ from) to low high low' high' h = absurd (omega arith)
-
--- the set from one character to another has one range
-in_one : (r : Range) (c : ℕ) → in_ranges (r ∷ []) c ≡ in_range r c
-unfolding in_ranges
-in_one r c = or_false (in_range r c)
-  where
-    or_false : (b : Bool) → (b || false) ≡ b
-    or_false true = refl
-    or_false false = refl
 
 one_canonical : (a b : ℕ) → a ≤ b → b ≤ 0x2ffff → IsCanonical ((a, b) ∷ [])
 unfolding rises_from
@@ -66,12 +61,16 @@ set_of_one r = refl
 pub rising : (from to : List ℕ) (class : List Range) →
     ((p q : List Range) → IsCanonical p → IsCanonical q → ((c : ℕ) → in_ranges p c ≡ in_ranges q c) → p ≡ q) →
     IsWord to → 1 ≤ length from → length from < 2 → 1 ≤ length to → length to < 2 → get_or from 0 0 ≤ get_or to 0 0 →
-    IsCanonical class → ((c : ℕ) → in_ranges class c ≡ in_range (get_or from 0 0, get_or to 0 0) c) → range_regex from to ≡ mkset class
+    IsCanonical class → ((c : ℕ) → in_ranges class c ≡ in_range (get_or from 0 0, get_or to 0 0) c)
+    → range_regex from to ≡ mkset class
 rising [] to class same is_word low high low' high' h canonical members = absurd (omega arith)
 rising (a ∷ []) [] class same is_word low high low' high' h canonical members = absurd (omega arith)
 rising (a ∷ []) (b ∷ []) class same is_word low high low' high' h canonical members =
-    let one : class ≡ (a, b) ∷ [] = same class ((a, b) ∷ []) canonical (one_canonical a b h (last_character b is_word)) (λ c. members c ∙ sym (in_one (a, b) c)) in
-    two_alone a b ∙ (ap (λ t. if t then set ((a, b) ∷ []) else none) (upward a b h) ∙ (sym (set_of_one (a, b)) ∙ ap mkset (sym one)))
+    let one : class ≡ (a, b) ∷ [] =
+    same class ((a, b) ∷ []) canonical (one_canonical a b h (last_character b is_word))
+    (λ c. members c ∙ sym (in_ranges-one (a, b) c)) in
+    two_alone a b ∙ (ap (λ t. if t then set ((a, b) ∷ []) else none) (upward a b h)
+    ∙ (sym (set_of_one (a, b)) ∙ ap mkset (sym one)))
   where
     upward : (a b : ℕ) → a ≤ b → nat_le a b ≡ true
     upward a b h = grind (arith, nat_tests)
@@ -87,7 +86,8 @@ normal_range : (s t : List ℕ) → normal (re_range s t) ≡ range_regex s t
 unfolding normal
 normal_range s t = refl
 
-pub word_found : (rs : List Regex) (ts : Terms) (w : List ℕ) (id : ℕ) → ts ≡ with_term (word w) no_terms → Names rs id (word_regex w) → IsRegexOf rs (apply word_symbol ts) id
+pub word_found : (rs : List Regex) (ts : Terms) (w : List ℕ) (id : ℕ) → ts ≡ with_term (word w) no_terms
+    → Names rs id (word_regex w) → IsRegexOf rs (apply word_symbol ts) id
 word_found rs ts w id is names = rw is (record {
   kind = refl;
   reglan = re_word w;
@@ -95,7 +95,9 @@ word_found rs ts w id is names = rw is (record {
   names = rw (normal_word w) names;
 })
 
-pub range_found : (rs : List Regex) (ts : Terms) (s t s' t' : List ℕ) (id : ℕ) → ts ≡ with_term (word s) (with_term (word t) no_terms) → s' ≡ s → t' ≡ t → Names rs id (range_regex s' t') → IsRegexOf rs (apply range_symbol ts) id
+pub range_found : (rs : List Regex) (ts : Terms) (s t s' t' : List ℕ) (id : ℕ)
+    → ts ≡ with_term (word s) (with_term (word t) no_terms) → s' ≡ s → t' ≡ t → Names rs id (range_regex s' t')
+    → IsRegexOf rs (apply range_symbol ts) id
 range_found rs ts s t s' t' id is same same' names = rw is (record {
   kind = refl;
   reglan = re_range s t;

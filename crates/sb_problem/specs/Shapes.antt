@@ -1,23 +1,16 @@
--- What the parts of a term give: the regexes of its arguments, and what a symbol makes of them.
+-- Private: what the parts of a term give: the regexes of its arguments, and what a symbol makes of them.
 use Rattle.std.specs.Prelude.{◌≡◌, ℕ, true, List, [], ◌∷◌, Option, Some, None, option_map, map, slice_get}
 use Rattle.sb_sorts.specs.declared.sort.Symbol.{Symbol}
 use Rattle.sb_sorts.specs.declared.sort.Symbol.TheVariants as symbol
-use Rattle.sb_sorts.specs.declared.term.Term as code
-use Rattle.sb_sorts.specs.Terms.{term_in}
 use Rattle.sb_lang.specs.RegLan.{RegLan}
 use Rattle.sb_lang.specs.Regex.{Regex}
 use Rattle.sb_lang.specs.Constructors.{mkcat, mkalt, mkstar}
 use Rattle.sb_lang.specs.Normal.{normal}
 use Rattle.sb_regex.specs.Numbered.{regexes_at, AllNumbers}
-use Rattle.sb_meaning.specs.Terms.{Terms, no_terms, with_term}
+use Rattle.sb_meaning.specs.Terms.{Terms}
 use Rattle.sb_meaning.specs.Values.{Valuation}
 use Rattle.sb_meaning.specs.Truth.{meanings_of, means_reglan}
-use Rattle.sb_meaning.specs.Fragment.{are_regexes}
-
--- the terms of a list in memory
-abbrev pub listed : List code.Term → Terms
-listed [] = no_terms
-listed (t ∷ ts) = with_term (term_in t) (listed ts)
+use Rattle.sb_script.specs.Fragment.{are_regexes}
 
 -- The terms are regular expressions over literals, and each number is of the normal regex of the term beside it.
 pub record AreRegexesOf (rs : List Regex) (terms : Terms) (ids : List ℕ) : Type 0 where

@@ -6,7 +6,7 @@ ghost use Rattle.sb_meaning.specs.Terms.{apply, str_to_re, re_range};
 ghost use Rattle.sb_regex.specs.Numbered.{Extends, Names};
 ghost use Rattle.sb_word.specs.Words.{IsWord};
 ghost use Rattle.sb_problem.specs.Normals.{IsNumberOf};
-ghost use Rattle.sb_problem.specs.Shapes.{listed};
+ghost use Rattle.sb_sorts.specs.Terms.{listed};
 
 use sb_class::{Class, same_members};
 use sb_regex::{Arena, RegexId};

@@ -30,31 +30,44 @@ step_in_gap-at_most depth b =
     let less : depth - 1 ≤ depth + 1 = omega arith in
     let next : depth + 1 ≤ depth + 1 = omega arith in
     cond_both (eqb b 40) _ _ P (λ _. next) (λ _.
-    cond_both (eqb b 41) _ _ P (λ _. cond_both (leb depth 1) EndsBehind (To InGap (depth - 1)) P (λ _. tt) (λ _. less)) (λ _.
+    cond_both (eqb b 41) _ _ P (λ _. cond_both (leb depth 1) EndsBehind (To InGap (depth - 1)) P (λ _. tt) (λ _. less))
+    (λ _.
     cond_both (eqb b 34) _ _ P (λ _. same) (λ _.
     cond_both (eqb b 124) _ _ P (λ _. same) (λ _.
     cond_both (eqb b 59) _ _ P (λ _. same) (λ _.
     cond_both (is_blank b) _ _ P (λ _. same) (λ _. same))))))
 
 step_behind_token-at_most : (depth b : ℕ) → LeavesAtMost (depth + 1) (step_behind_token depth b)
-step_behind_token-at_most depth b = cond_both (eqb depth 0) _ _ (LeavesAtMost (depth + 1)) (λ _. tt) (λ _. step_in_gap-at_most depth b)
+step_behind_token-at_most depth b =
+    cond_both (eqb depth 0) _ _ (LeavesAtMost (depth + 1)) (λ _. tt) (λ _. step_in_gap-at_most depth b)
 
 step_at-at_most : (place : Place) (depth b : ℕ) → LeavesAtMost (depth + 1) (step_at place depth b)
 step_at-at_most InGap depth b = step_in_gap-at_most depth b
-step_at-at_most InComment depth b = cond_both (is_line_end b) _ _ (LeavesAtMost (depth + 1)) (λ _. omega arith) (λ _. omega arith)
-step_at-at_most InText depth b = cond_both (eqb b 34) _ _ (LeavesAtMost (depth + 1)) (λ _. omega arith) (λ _. omega arith)
-step_at-at_most BehindQuote depth b = cond_both (eqb b 34) _ _ (LeavesAtMost (depth + 1)) (λ _. omega arith) (λ _. step_behind_token-at_most depth b)
+step_at-at_most InComment depth b =
+    cond_both (is_line_end b) _ _ (LeavesAtMost (depth + 1)) (λ _. omega arith) (λ _. omega arith)
+step_at-at_most InText depth b =
+    cond_both (eqb b 34) _ _ (LeavesAtMost (depth + 1)) (λ _. omega arith) (λ _. omega arith)
+step_at-at_most BehindQuote depth b =
+    cond_both (eqb b 34) _ _ (LeavesAtMost (depth + 1)) (λ _. omega arith) (λ _. step_behind_token-at_most depth b)
 step_at-at_most InQuoted depth b =
-    cond_both (eqb b 124) _ _ (LeavesAtMost (depth + 1)) (λ _. cond_both (eqb depth 0) EndsBehind (To InGap depth) (LeavesAtMost (depth + 1)) (λ _. tt) (λ _. omega arith)) (λ _. omega arith)
-step_at-at_most InRun depth b = cond_both (is_run_byte b) _ _ (LeavesAtMost (depth + 1)) (λ _. omega arith) (λ _. step_behind_token-at_most depth b)
+    cond_both (eqb b 124) _ _ (LeavesAtMost (depth + 1))
+    (λ _. cond_both (eqb depth 0) EndsBehind (To InGap depth) (LeavesAtMost (depth + 1)) (λ _. tt)
+    (λ _. omega arith)) (λ _. omega arith)
+step_at-at_most InRun depth b =
+    cond_both (is_run_byte b) _ _ (LeavesAtMost (depth + 1)) (λ _. omega arith) (λ _. step_behind_token-at_most depth b)
 
 -- the step at the next byte says something of the bytes up to it
-next_says : (scan : Scan) (bytes : List ℕ) → IsScan scan bytes → (step : Step) → step ≡ step_at scan.place scan.depth (get_or bytes scan.scanned 0) → Says step (take scan.scanned bytes) (get_or bytes scan.scanned 0)
-next_says scan bytes s step e = rw e (step_says scan.place scan.depth (take scan.scanned bytes) (get_or bytes scan.scanned 0) s.knows)
+next_says : (scan : Scan) (bytes : List ℕ) → IsScan scan bytes → (step : Step)
+    → step ≡ step_at scan.place scan.depth (get_or bytes scan.scanned 0)
+    → Says step (take scan.scanned bytes) (get_or bytes scan.scanned 0)
+next_says scan bytes s step e =
+    rw e (step_says scan.place scan.depth (take scan.scanned bytes) (get_or bytes scan.scanned 0) s.knows)
 
 -- a gap at the front reaches as far as the scan does, outside a form and a token
-gap_so_far : (place : Place) (depth : ℕ) (bytes : List ℕ) (scanned gap : ℕ) → is_gap (take gap bytes) ≡ true → Scanned place depth (take scanned bytes) → is_gap (take (gap_to place depth scanned gap) bytes) ≡ true
-gap_so_far InGap zero bytes scanned gap g s = rw (all_is_rest InGap (take scanned bytes) s) (EndsInGap-is_gap s.rest s.ends)
+gap_so_far : (place : Place) (depth : ℕ) (bytes : List ℕ) (scanned gap : ℕ) → is_gap (take gap bytes) ≡ true
+    → Scanned place depth (take scanned bytes) → is_gap (take (gap_to place depth scanned gap) bytes) ≡ true
+gap_so_far InGap zero bytes scanned gap g s =
+    rw (all_is_rest InGap (take scanned bytes) s) (EndsInGap-is_gap s.rest s.ends)
 gap_so_far InGap (suc depth) bytes scanned gap g s =
     let within : eqb (suc depth) 0 ≡ false = ne_eqb (suc depth) 0 (λ e. omega arith) in
     rw within g
@@ -73,10 +86,15 @@ gap_to-le InQuoted depth scanned gap h = h
 gap_to-le InRun depth scanned gap h = h
 
 -- the scan goes on
-pub IsScan-to : (scan : Scan) (bytes : List ℕ) (place : Place) (depth : ℕ) → IsScan scan bytes → scan.scanned < length bytes → To place depth ≡ step_at scan.place scan.depth (get_or bytes scan.scanned 0) → IsScan (scan_to scan place depth) bytes
+pub IsScan-to : (scan : Scan) (bytes : List ℕ) (place : Place) (depth : ℕ) → IsScan scan bytes
+    → scan.scanned < length bytes → To place depth ≡ step_at scan.place scan.depth (get_or bytes scan.scanned 0)
+    → IsScan (scan_to scan place depth) bytes
 IsScan-to scan bytes place depth s lt e =
-    let at_most : LeavesAtMost (scan.depth + 1) (To place depth) = subst (LeavesAtMost (scan.depth + 1)) (sym e) (step_at-at_most scan.place scan.depth (get_or bytes scan.scanned 0)) in
-    let further : Scanned place depth (take (scan.scanned + 1) bytes) = rw (take_more bytes scan.scanned 0 lt) (next_says scan bytes s (To place depth) e) in
+    let at_most : LeavesAtMost (scan.depth + 1) (To place depth) =
+    subst (LeavesAtMost (scan.depth + 1)) (sym e)
+    (step_at-at_most scan.place scan.depth (get_or bytes scan.scanned 0)) in
+    let further : Scanned place depth (take (scan.scanned + 1) bytes) =
+    rw (take_more bytes scan.scanned 0 lt) (next_says scan bytes s (To place depth) e) in
     record {
       within = omega arith;
       depth_within = omega (arith, at_most, s.depth_within);
@@ -86,39 +104,50 @@ IsScan-to scan bytes place depth s lt e =
     }
 
 -- the entry ends in front of the next byte
-pub ends_before : (ended : Bool) (scan : Scan) (bytes : List ℕ) → IsScan scan bytes → scan.scanned < length bytes → EndsBefore ≡ step_at scan.place scan.depth (get_or bytes scan.scanned 0) → EndsEntry ended bytes scan.scanned
+pub ends_before : (ended : Bool) (scan : Scan) (bytes : List ℕ) → IsScan scan bytes → scan.scanned < length bytes
+    → EndsBefore ≡ step_at scan.place scan.depth (get_or bytes scan.scanned 0) → EndsEntry ended bytes scan.scanned
 ends_before ended scan bytes s lt e =
-    let one : SpellsOne false (take scan.scanned bytes) (get_or bytes scan.scanned 0 ∷ []) = next_says scan bytes s EndsBefore e in
+    let one : SpellsOne false (take scan.scanned bytes) (get_or bytes scan.scanned 0 ∷ []) =
+    next_says scan bytes s EndsBefore e in
     record {
       within = omega arith;
       spells = record {
         tokens = one.tokens;
         one = one.one;
-        spelled = rw (drop-cons bytes scan.scanned 0 lt) (Spells-grow ended one.tokens (take scan.scanned bytes) (get_or bytes scan.scanned 0 ∷ []) (drop (suc scan.scanned) bytes) one.spelled);
+        spelled = rw (drop-cons bytes scan.scanned 0 lt)
+            (Spells-grow ended one.tokens (take scan.scanned bytes) (get_or bytes scan.scanned 0 ∷ [])
+            (drop (suc scan.scanned) bytes) one.spelled);
       };
     }
 
 -- the entry ends with the next byte
-pub ends_behind : (ended : Bool) (scan : Scan) (bytes : List ℕ) → IsScan scan bytes → scan.scanned < length bytes → EndsBehind ≡ step_at scan.place scan.depth (get_or bytes scan.scanned 0) → EndsEntry ended bytes (scan.scanned + 1)
+pub ends_behind : (ended : Bool) (scan : Scan) (bytes : List ℕ) → IsScan scan bytes → scan.scanned < length bytes
+    → EndsBehind ≡ step_at scan.place scan.depth (get_or bytes scan.scanned 0)
+    → EndsEntry ended bytes (scan.scanned + 1)
 ends_behind ended scan bytes s lt e =
-    let one : SpellsOne false (take scan.scanned bytes ++ get_or bytes scan.scanned 0 ∷ []) [] = next_says scan bytes s EndsBehind e in
+    let one : SpellsOne false (take scan.scanned bytes ++ get_or bytes scan.scanned 0 ∷ []) [] =
+    next_says scan bytes s EndsBehind e in
     record {
       within = omega arith;
       spells = record {
         tokens = one.tokens;
         one = one.one;
-        spelled = rw (take_more bytes scan.scanned 0 lt) (Spells-grow ended one.tokens (take scan.scanned bytes ++ get_or bytes scan.scanned 0 ∷ []) [] (drop (scan.scanned + 1) bytes) one.spelled);
+        spelled = rw (take_more bytes scan.scanned 0 lt)
+            (Spells-grow ended one.tokens (take scan.scanned bytes ++ get_or bytes scan.scanned 0 ∷ []) []
+            (drop (scan.scanned + 1) bytes) one.spelled);
       };
     }
 
 -- all is scanned
-pub scan_found : (ended : Bool) (scan : Scan) (bytes : List ℕ) → IsScan scan bytes → scan.scanned ≡ length bytes → FindsEnd ended bytes (found_at_end ended scan.place scan.depth scan.scanned)
+pub scan_found : (ended : Bool) (scan : Scan) (bytes : List ℕ) → IsScan scan bytes → scan.scanned ≡ length bytes
+    → FindsEnd ended bytes (found_at_end ended scan.place scan.depth scan.scanned)
 scan_found ended scan bytes s e =
     let all : take scan.scanned bytes ≡ bytes = take_all scan.scanned bytes (omega arith) in
     found_says ended scan.place scan.depth bytes scan.scanned e (rw all at s.knows)
 
 -- no end is found before more bytes come
-pub scanned_all : (scan : Scan) (bytes : List ℕ) → IsScan scan bytes → scan.scanned ≡ length bytes → HoldsNoEntry false bytes
+pub scanned_all : (scan : Scan) (bytes : List ℕ) → IsScan scan bytes → scan.scanned ≡ length bytes
+    → HoldsNoEntry false bytes
 scanned_all scan bytes s e = not_found scan.place scan.depth bytes scan.scanned (scan_found false scan bytes s e)
 
 -- a gap at the front is left out
@@ -137,20 +166,26 @@ comment_behind_gap gap rest g e =
     }
 
 outside : (place : Place) (rest : List ℕ) → EndsAt place rest → Scanned place 0 rest
-outside place rest e = record { tokens = []; front = []; rest = rest; split = refl; spelled = refl; leaves = LeavesOpen-nil; ends = e }
+outside place rest e =
+    record { tokens = []; front = []; rest = rest; split = refl; spelled = refl; leaves = LeavesOpen-nil; ends = e }
 
 take_parts : (bytes : List ℕ) (n m : ℕ) → take (n + m) bytes ≡ take n bytes ++ take m (drop n bytes)
 take_parts bytes n m =
-    let whole : take n (take (n + m) bytes) ++ drop n (take (n + m) bytes) ≡ take (n + m) bytes = take-append-drop n (take (n + m) bytes) in
+    let whole : take n (take (n + m) bytes) ++ drop n (take (n + m) bytes) ≡ take (n + m) bytes =
+    take-append-drop n (take (n + m) bytes) in
     sym (rw (take-take n (n + m) bytes (omega arith), drop-take n m bytes) at whole)
 
-pub IsScan-gap : (scan : Scan) (bytes : List ℕ) → scan.place ≡ InGap → scan.depth ≡ 0 → IsScan scan bytes → IsScan (record { scanned = scan.scanned - scan.gap; gap = 0; depth = scan.depth; place = scan.place }) (drop scan.gap bytes)
+pub IsScan-gap : (scan : Scan) (bytes : List ℕ) → scan.place ≡ InGap → scan.depth ≡ 0 → IsScan scan bytes
+    → IsScan (record { scanned = scan.scanned - scan.gap; gap = 0; depth = scan.depth; place = scan.place })
+    (drop scan.gap bytes)
 IsScan-gap scan bytes p d s =
     let inside : scan.gap + (scan.scanned - scan.gap) ≡ scan.scanned = omega (arith, s.gap_within) in
     let knows : Scanned InGap 0 (take scan.scanned bytes) = rw (p, d) at s.knows in
-    let rest : EndsInGap (take scan.scanned bytes) = rw (all_is_rest InGap (take scan.scanned bytes) knows) knows.ends in
+    let rest : EndsInGap (take scan.scanned bytes) = rw (all_is_rest InGap (take scan.scanned bytes) knows) knows.ends
+    in
     let behind : EndsInGap (take (scan.scanned - scan.gap) (drop scan.gap bytes)) =
-    rest_behind_gap (take scan.gap bytes) (take (scan.scanned - scan.gap) (drop scan.gap bytes)) s.gap_is (rw (← take_parts bytes scan.gap (scan.scanned - scan.gap), inside) rest) in
+    rest_behind_gap (take scan.gap bytes) (take (scan.scanned - scan.gap) (drop scan.gap bytes)) s.gap_is
+    (rw (← take_parts bytes scan.gap (scan.scanned - scan.gap), inside) rest) in
     record {
       within = simp length-drop (omega (arith, s.within));
       depth_within = omega arith;
@@ -159,13 +194,17 @@ IsScan-gap scan bytes p d s =
       knows = rw (p, d) (outside InGap (take (scan.scanned - scan.gap) (drop scan.gap bytes)) behind);
     }
 
-pub IsScan-comment : (scan : Scan) (bytes : List ℕ) → scan.place ≡ InComment → scan.depth ≡ 0 → IsScan scan bytes → IsScan (record { scanned = scan.scanned - scan.gap; gap = 0; depth = scan.depth; place = scan.place }) (drop scan.gap bytes)
+pub IsScan-comment : (scan : Scan) (bytes : List ℕ) → scan.place ≡ InComment → scan.depth ≡ 0 → IsScan scan bytes
+    → IsScan (record { scanned = scan.scanned - scan.gap; gap = 0; depth = scan.depth; place = scan.place })
+    (drop scan.gap bytes)
 IsScan-comment scan bytes p d s =
     let inside : scan.gap + (scan.scanned - scan.gap) ≡ scan.scanned = omega (arith, s.gap_within) in
     let knows : Scanned InComment 0 (take scan.scanned bytes) = rw (p, d) at s.knows in
-    let rest : EndsInComment (take scan.scanned bytes) = rw (all_is_rest InComment (take scan.scanned bytes) knows) knows.ends in
+    let rest : EndsInComment (take scan.scanned bytes) =
+    rw (all_is_rest InComment (take scan.scanned bytes) knows) knows.ends in
     let behind : EndsInComment (take (scan.scanned - scan.gap) (drop scan.gap bytes)) =
-    comment_behind_gap (take scan.gap bytes) (take (scan.scanned - scan.gap) (drop scan.gap bytes)) s.gap_is (rw (← take_parts bytes scan.gap (scan.scanned - scan.gap), inside) rest) in
+    comment_behind_gap (take scan.gap bytes) (take (scan.scanned - scan.gap) (drop scan.gap bytes)) s.gap_is
+    (rw (← take_parts bytes scan.gap (scan.scanned - scan.gap), inside) rest) in
     record {
       within = simp length-drop (omega (arith, s.within));
       depth_within = omega arith;
@@ -175,7 +214,8 @@ IsScan-comment scan bytes p d s =
     }
 
 -- no byte is left to scan, if no end is found
-pub scans_all : (f : Found) (scan : Scan) (bytes : List ℕ) → ((n : ℕ) → f ≡ found.End n → ⊥) → ScansAll f scan bytes → scan.scanned ≡ length bytes
+pub scans_all : (f : Found) (scan : Scan) (bytes : List ℕ) → ((n : ℕ) → f ≡ found.End n → ⊥) → ScansAll f scan bytes
+    → scan.scanned ≡ length bytes
 scans_all (found.End n) scan bytes none h = absurd (none n refl)
 scans_all found.Gap scan bytes none h = h
 scans_all found.Part scan bytes none h = h

@@ -18,3 +18,4 @@ pub mod Ends
 pub mod Goes
 pub mod Answered
 pub mod FirstEntries
+pub mod CallerLemmas

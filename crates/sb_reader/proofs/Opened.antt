@@ -2,14 +2,16 @@
 use Rattle.std.proofs.Common.{◌≡◌, ℕ, ◌-◌, ◌≤◌, zero, suc, true, false, List, [], ◌∷◌, ◌++◌, refl, arith, add-one, eqb, ne_eqb}
 use Rattle.std.proofs.lemmas.List.{append_assoc, append-nil}
 use Rattle.sb_reader.specs.Tokens.{Token, Open, Close, Text, Quoted, Run}
-use Rattle.sb_reader.specs.Entries.{is_one_entry, is_open_entry, is_parenthesis}
+use Rattle.sb_reader.specs.OneEntry.{is_one_entry}
+use Rattle.sb_reader.specs.Entries.{is_open_entry, is_parenthesis}
 use Rattle.sb_reader.specs.Scanning.{LeavesOpen}
 
 pub LeavesOpen-nil : LeavesOpen [] 0
 LeavesOpen-nil = record { begins = refl; open_is = λ more. refl; one_is = λ token more. refl }
 
 -- behind one more opening parenthesis
-pub LeavesOpen-open : (tokens : List Token) (depth : ℕ) → LeavesOpen tokens depth → LeavesOpen (tokens ++ Open ∷ []) (suc depth)
+pub LeavesOpen-open : (tokens : List Token) (depth : ℕ) → LeavesOpen tokens depth
+    → LeavesOpen (tokens ++ Open ∷ []) (suc depth)
 LeavesOpen-open tokens zero l =
     record {
       begins = ([], rw l.begins refl);
@@ -24,7 +26,8 @@ LeavesOpen-open tokens (suc depth) l =
     }
 
 -- an atom changes nothing within a form
-pub LeavesOpen-atom : (tokens : List Token) (depth : ℕ) (token : Token) → is_parenthesis token ≡ false → LeavesOpen tokens (suc depth) → LeavesOpen (tokens ++ token ∷ []) (suc depth)
+pub LeavesOpen-atom : (tokens : List Token) (depth : ℕ) (token : Token) → is_parenthesis token ≡ false
+    → LeavesOpen tokens (suc depth) → LeavesOpen (tokens ++ token ∷ []) (suc depth)
 LeavesOpen-atom tokens depth Open h l = cc
 LeavesOpen-atom tokens depth Close h l = cc
 LeavesOpen-atom tokens depth (Text bytes) h l =
@@ -47,7 +50,8 @@ LeavesOpen-atom tokens depth (Run bytes) h l =
     }
 
 -- a closing parenthesis that doesn't close the first one
-pub LeavesOpen-close : (tokens : List Token) (depth : ℕ) → LeavesOpen tokens (suc (suc depth)) → LeavesOpen (tokens ++ Close ∷ []) (suc depth)
+pub LeavesOpen-close : (tokens : List Token) (depth : ℕ) → LeavesOpen tokens (suc (suc depth))
+    → LeavesOpen (tokens ++ Close ∷ []) (suc depth)
 LeavesOpen-close tokens depth l =
     let not_one : eqb (suc (suc depth)) 1 ≡ false = ne_eqb (suc (suc depth)) 1 (λ e. omega arith) in
     let one_less : suc (suc depth) - 1 ≡ suc depth = omega arith in
@@ -58,7 +62,8 @@ LeavesOpen-close tokens depth l =
     }
 
 -- the entry ends with an atom outside a form
-pub one_atom : (tokens : List Token) (token : Token) → is_parenthesis token ≡ false → LeavesOpen tokens 0 → is_one_entry (tokens ++ token ∷ []) ≡ true
+pub one_atom : (tokens : List Token) (token : Token) → is_parenthesis token ≡ false → LeavesOpen tokens 0
+    → is_one_entry (tokens ++ token ∷ []) ≡ true
 one_atom tokens Open h l = cc
 one_atom tokens Close h l = cc
 one_atom tokens (Text bytes) h l = l.one_is (Text bytes) []
@@ -66,7 +71,8 @@ one_atom tokens (Quoted bytes) h l = l.one_is (Quoted bytes) []
 one_atom tokens (Run bytes) h l = l.one_is (Run bytes) []
 
 -- the entry ends with a closing parenthesis that closes the first one, or outside a form
-pub one_close : (tokens : List Token) (depth : ℕ) → depth ≤ 1 → LeavesOpen tokens depth → is_one_entry (tokens ++ Close ∷ []) ≡ true
+pub one_close : (tokens : List Token) (depth : ℕ) → depth ≤ 1 → LeavesOpen tokens depth
+    → is_one_entry (tokens ++ Close ∷ []) ≡ true
 one_close tokens zero h l = l.one_is Close []
 one_close tokens (suc zero) h l = l.one_is Close []
 one_close tokens (suc (suc depth)) h l = absurd (omega arith)

@@ -26,7 +26,8 @@ pub record IsReading (bytes rest : List ℕ) (lists : OpenLists) : Type 0 where
   pub faults : first_fault 1 tokens ≡ first_fault (depth_of lists) left
   pub kinds : is_kind lists ≡ true
 
-pub reading_starts : (bytes : List ℕ) (tokens : List Token) (lists : OpenLists) → IsTail tokens bytes → read_tokens lists ≡ Open ∷ [] → depth_of lists ≡ 1 → is_kind lists ≡ true → IsReading bytes bytes lists
+pub reading_starts : (bytes : List ℕ) (tokens : List Token) (lists : OpenLists) → IsTail tokens bytes
+    → read_tokens lists ≡ Open ∷ [] → depth_of lists ≡ 1 → is_kind lists ≡ true → IsReading bytes bytes lists
 reading_starts bytes tokens lists tail read depth kinds = record {
   tokens = tokens;
   left = tokens;
@@ -39,13 +40,17 @@ reading_starts bytes tokens lists tail read depth kinds = record {
 }
 
 -- what one more token does
-split_more : (front tokens others all : List Token) (token : Token) (left new : List Token) → all ≡ front ++ left → left ≡ token ∷ others → new ≡ front ++ token ∷ [] → all ≡ new ++ others
+split_more : (front tokens others all : List Token) (token : Token) (left new : List Token) → all ≡ front ++ left
+    → left ≡ token ∷ others → new ≡ front ++ token ∷ [] → all ≡ new ++ others
 split_more front tokens others all token left new split left_is new_is =
-    split ∙ ap (λ back. front ++ back) left_is ∙ sym (append_assoc front (token ∷ []) others) ∙ ap (λ read. read ++ others) (sym new_is)
+    split ∙ ap (λ back. front ++ back) left_is ∙ sym (append_assoc front (token ∷ []) others)
+    ∙ ap (λ read. read ++ others) (sym new_is)
 
 module _ {bytes rest : List ℕ} {old : OpenLists} (r : IsReading bytes rest old) where
   -- a list is opened
-  pub reading_opens : (behind : List ℕ) (new : OpenLists) → Some (Open, behind) ≡ first_token rest → nat_le depth_limit (depth_of old) ≡ false → Gains (Open ∷ []) old new → depth_of new ≡ depth_of old + 1 → IsReading bytes behind new
+  pub reading_opens : (behind : List ℕ) (new : OpenLists) → Some (Open, behind) ≡ first_token rest
+      → nat_le depth_limit (depth_of old) ≡ false → Gains (Open ∷ []) old new → depth_of new ≡ depth_of old + 1
+      → IsReading bytes behind new
   reading_opens behind new reads fits gains deeper =
       let next = continues r.left rest Open behind reads r.spelled in
       record {
@@ -54,31 +59,40 @@ module _ {bytes rest : List ℕ} {old : OpenLists} (r : IsReading bytes rest old
         tail = r.tail;
         split = split_more (read_tokens old) [] next.others _ Open r.left _ r.split next.is gains.appended;
         spelled = next.spelled;
-        closes = ap (λ d. closes_at_end d next.others) deeper ∙ ap (closes_at_end (depth_of old)) (sym next.is) ∙ r.closes;
-        faults = r.faults ∙ ap (first_fault (depth_of old)) next.is ∙ ap (λ t. cond t (Some TooDeep) (first_fault (depth_of old + 1) next.others)) fits ∙ ap (λ d. first_fault d next.others) (sym deeper);
+        closes = ap (λ d. closes_at_end d next.others) deeper ∙ ap (closes_at_end (depth_of old)) (sym next.is)
+            ∙ r.closes;
+        faults = r.faults ∙ ap (first_fault (depth_of old)) next.is
+            ∙ ap (λ t. cond t (Some TooDeep) (first_fault (depth_of old + 1) next.others)) fits
+            ∙ ap (λ d. first_fault d next.others) (sym deeper);
         kinds = gains.kinds r.kinds;
       }
 
   -- one list too many
-  pub reading_too_deep : (behind : List ℕ) → Some (Open, behind) ≡ first_token rest → nat_le depth_limit (depth_of old) ≡ true → IsEntry (Refused TooDeep) (Open ∷ r.tokens)
+  pub reading_too_deep : (behind : List ℕ) → Some (Open, behind) ≡ first_token rest
+      → nat_le depth_limit (depth_of old) ≡ true → IsEntry (Refused TooDeep) (Open ∷ r.tokens)
   reading_too_deep behind reads full =
       let next = continues r.left rest Open behind reads r.spelled in
-      let fault = r.faults ∙ ap (first_fault (depth_of old)) next.is ∙ ap (λ t. cond t (Some TooDeep) (first_fault (depth_of old + 1) next.others)) full in
+      let fault = r.faults ∙ ap (first_fault (depth_of old)) next.is
+      ∙ ap (λ t. cond t (Some TooDeep) (first_fault (depth_of old + 1) next.others)) full in
       inr (inr (r.tail.closes, fault))
 
 -- A closing parenthesis with other tokens behind it leaves a list open.
-closes_inner : (d e : ℕ) (others : List Token) → closes_at_end d (Close ∷ others) ≡ true → d ≡ e + 1 → 0 < e → closes_at_end e others ≡ true
+closes_inner : (d e : ℕ) (others : List Token) → closes_at_end d (Close ∷ others) ≡ true → d ≡ e + 1 → 0 < e
+    → closes_at_end e others ≡ true
 closes_inner d e [] h is some = absurd (let one : d ≡ 1 = eqb-true d 1 h in omega arith)
-closes_inner d e (t ∷ ts) h is some = let less : d - 1 ≡ e = omega arith in ap (λ n. closes_at_end n (t ∷ ts)) (sym less) ∙ (and_parts _ _ h).1
+closes_inner d e (t ∷ ts) h is some = let less : d - 1 ≡ e = omega arith in
+    ap (λ n. closes_at_end n (t ∷ ts)) (sym less) ∙ (and_parts _ _ h).1
 
 closes_outer : (d : ℕ) (others : List Token) → closes_at_end d (Close ∷ others) ≡ true → d ≡ 1 → others ≡ []
 closes_outer d [] h is = refl
-closes_outer d (t ∷ ts) h is = absurd (false≢true (ap (λ n. not (eqb n 1) && closes_at_end (n - 1) (t ∷ ts)) (sym is) ∙ h))
+closes_outer d (t ∷ ts) h is =
+    absurd (false≢true (ap (λ n. not (eqb n 1) && closes_at_end (n - 1) (t ∷ ts)) (sym is) ∙ h))
 
 some_depth : (lists : OpenLists) → 0 < depth_of lists
 some_depth lists = omega (arith, depth_is lists)
 
-module _ {bytes rest : List ℕ} {old : OpenLists} (r : IsReading bytes rest old) (behind : List ℕ) (reads : Some (Close, behind) ≡ first_token rest) where
+module _ {bytes rest : List ℕ} {old : OpenLists} (r : IsReading bytes rest old) (behind : List ℕ)
+    (reads : Some (Close, behind) ≡ first_token rest) where
   -- an inner list is closed
   pub reading_closes : (new : OpenLists) → AfterClose None old new → IsReading bytes behind new
   reading_closes new after =
@@ -90,7 +104,8 @@ module _ {bytes rest : List ℕ} {old : OpenLists} (r : IsReading bytes rest old
         tail = r.tail;
         split = split_more (read_tokens old) [] next.others _ Close r.left _ r.split next.is after.0.appended;
         spelled = next.spelled;
-        closes = closes_inner (depth_of old) (depth_of new) next.others (ap (closes_at_end (depth_of old)) (sym next.is) ∙ r.closes) after.1 (some_depth new);
+        closes = closes_inner (depth_of old) (depth_of new) next.others (ap (closes_at_end (depth_of old)) (sym next.is)
+            ∙ r.closes) after.1 (some_depth new);
         faults = r.faults ∙ ap (first_fault (depth_of old)) next.is ∙ ap (λ d. first_fault d next.others) less;
         kinds = after.0.kinds r.kinds;
       }
@@ -99,7 +114,8 @@ module _ {bytes rest : List ℕ} {old : OpenLists} (r : IsReading bytes rest old
   pub reading_ends : (form : Form) → Closes old form → IsCommand form (Open ∷ r.tokens)
   reading_ends form closed =
       let next = continues r.left rest Close behind reads r.spelled in
-      let none_left = closes_outer (depth_of old) next.others (ap (closes_at_end (depth_of old)) (sym next.is) ∙ r.closes) closed.outermost in
+      let none_left = closes_outer (depth_of old) next.others (ap (closes_at_end (depth_of old)) (sym next.is)
+      ∙ r.closes) closed.outermost in
       let last : r.left ≡ Close ∷ [] = next.is ∙ ap (λ others. Close ∷ others) none_left in
       record {
         forms = closed.forms;
@@ -110,33 +126,41 @@ module _ {bytes rest : List ℕ} {old : OpenLists} (r : IsReading bytes rest old
       }
 
 -- A token that is no parenthesis changes no depth.
-closes_atom : (d : ℕ) (token : Token) (others : List Token) → is_parenthesis token ≡ false → closes_at_end d (token ∷ others) ≡ closes_at_end d others
+closes_atom : (d : ℕ) (token : Token) (others : List Token) → is_parenthesis token ≡ false
+    → closes_at_end d (token ∷ others) ≡ closes_at_end d others
 closes_atom d Open others h = absurd (false≢true (sym h))
 closes_atom d Close others h = absurd (false≢true (sym h))
 closes_atom d (Text bytes) others h = refl
 closes_atom d (Quoted bytes) others h = refl
 closes_atom d (Run bytes) others h = refl
 
-fault_atom : (d : ℕ) (token : Token) (others : List Token) → is_parenthesis token ≡ false → first_fault d (token ∷ others) ≡ cond (is_bad token) (Some BadToken) (first_fault d others)
+fault_atom : (d : ℕ) (token : Token) (others : List Token) → is_parenthesis token ≡ false
+    → first_fault d (token ∷ others) ≡ cond (is_bad token) (Some BadToken) (first_fault d others)
 fault_atom d Open others h = absurd (false≢true (sym h))
 fault_atom d Close others h = absurd (false≢true (sym h))
 fault_atom d (Text bytes) others h = refl
 fault_atom d (Quoted bytes) others h = refl
 fault_atom d (Run bytes) others h = refl
 
-module _ {bytes rest : List ℕ} {old : OpenLists} (r : IsReading bytes rest old) (token : Token) (behind : List ℕ) (reads : Some (token, behind) ≡ first_token rest) (atom : is_parenthesis token ≡ false) where
+module _ {bytes rest : List ℕ} {old : OpenLists} (r : IsReading bytes rest old) (token : Token) (behind : List ℕ)
+    (reads : Some (token, behind) ≡ first_token rest) (atom : is_parenthesis token ≡ false) where
   -- a form joins the innermost list
-  pub reading_pushes : (form : Sexpr) (new : OpenLists) → IsAtom (Some form) token → Gains (tokens_of (form_of form)) old new → depth_of new ≡ depth_of old → IsReading bytes behind new
+  pub reading_pushes : (form : Sexpr) (new : OpenLists) → IsAtom (Some form) token
+      → Gains (tokens_of (form_of form)) old new → depth_of new ≡ depth_of old → IsReading bytes behind new
   reading_pushes form new is gains same =
       let next = continues r.left rest token behind reads r.spelled in
       record {
         tokens = r.tokens;
         left = next.others;
         tail = r.tail;
-        split = split_more (read_tokens old) [] next.others _ token r.left _ r.split next.is (gains.appended ∙ ap (λ tokens. read_tokens old ++ tokens) is.1);
+        split = split_more (read_tokens old) [] next.others _ token r.left _ r.split next.is
+            (gains.appended ∙ ap (λ tokens. read_tokens old ++ tokens) is.1);
         spelled = next.spelled;
-        closes = ap (λ d. closes_at_end d next.others) same ∙ sym (closes_atom (depth_of old) token next.others atom) ∙ ap (closes_at_end (depth_of old)) (sym next.is) ∙ r.closes;
-        faults = r.faults ∙ ap (first_fault (depth_of old)) next.is ∙ fault_atom (depth_of old) token next.others atom ∙ ap (λ t. cond t (Some BadToken) (first_fault (depth_of old) next.others)) is.0 ∙ ap (λ d. first_fault d next.others) (sym same);
+        closes = ap (λ d. closes_at_end d next.others) same ∙ sym (closes_atom (depth_of old) token next.others atom)
+            ∙ ap (closes_at_end (depth_of old)) (sym next.is) ∙ r.closes;
+        faults = r.faults ∙ ap (first_fault (depth_of old)) next.is ∙ fault_atom (depth_of old) token next.others atom
+            ∙ ap (λ t. cond t (Some BadToken) (first_fault (depth_of old) next.others)) is.0
+            ∙ ap (λ d. first_fault d next.others) (sym same);
         kinds = gains.kinds r.kinds;
       }
 
@@ -144,14 +168,18 @@ module _ {bytes rest : List ℕ} {old : OpenLists} (r : IsReading bytes rest old
   pub reading_bad : is_bad token ≡ true → IsEntry (Refused BadToken) (Open ∷ r.tokens)
   reading_bad bad =
       let next = continues r.left rest token behind reads r.spelled in
-      let fault = r.faults ∙ ap (first_fault (depth_of old)) next.is ∙ fault_atom (depth_of old) token next.others atom ∙ ap (λ t. cond t (Some BadToken) (first_fault (depth_of old) next.others)) bad in
+      let fault = r.faults ∙ ap (first_fault (depth_of old)) next.is ∙ fault_atom (depth_of old) token next.others atom
+      ∙ ap (λ t. cond t (Some BadToken) (first_fault (depth_of old) next.others)) bad in
       inr (inr (r.tail.closes, fault))
 
 -- The tokens do not end before the form is closed.
-pub reading_never_ends : (bytes rest : List ℕ) (lists : OpenLists) → IsReading bytes rest lists → None ≡ first_token rest → ⊥
-reading_never_ends bytes rest lists r reads = false≢true (ap (closes_at_end (depth_of lists)) (sym (ends r.left rest reads r.spelled)) ∙ r.closes)
+pub reading_never_ends : (bytes rest : List ℕ) (lists : OpenLists) → IsReading bytes rest lists
+    → None ≡ first_token rest → ⊥
+reading_never_ends bytes rest lists r reads =
+    false≢true (ap (closes_at_end (depth_of lists)) (sym (ends r.left rest reads r.spelled)) ∙ r.closes)
 
-pub not_parenthesis : (l : Lexeme) → (l ≡ lexeme.Open → ⊥) → (l ≡ lexeme.Close → ⊥) → is_parenthesis (token_of l) ≡ false
+pub not_parenthesis : (l : Lexeme) → (l ≡ lexeme.Open → ⊥) → (l ≡ lexeme.Close → ⊥)
+    → is_parenthesis (token_of l) ≡ false
 not_parenthesis lexeme.Open not_open not_close = absurd (not_open refl)
 not_parenthesis lexeme.Close not_open not_close = absurd (not_close refl)
 not_parenthesis (lexeme.Text bytes) not_open not_close = refl
@@ -159,5 +187,8 @@ not_parenthesis (lexeme.Quoted bytes) not_open not_close = refl
 not_parenthesis (lexeme.Run bytes) not_open not_close = refl
 
 -- The answer for the tokens that were read is the answer for any tokens that spell the bytes.
-pub any_tail : (bytes rest : List ℕ) (lists : OpenLists) (parsed : Result Sexpr Refusal) (r : IsReading bytes rest lists) → IsParsed parsed (Open ∷ r.tokens) → (tokens : List Token) → IsTail tokens bytes → IsParsed parsed (Open ∷ tokens)
-any_tail bytes rest lists parsed r is tokens tail = subst (λ ts. IsParsed parsed (Open ∷ ts)) (same_whole r.tokens tokens bytes r.tail.spelled tail.spelled) is
+pub any_tail : (bytes rest : List ℕ) (lists : OpenLists) (parsed : Result Sexpr Refusal)
+    (r : IsReading bytes rest lists) → IsParsed parsed (Open ∷ r.tokens) → (tokens : List Token) → IsTail tokens bytes
+    → IsParsed parsed (Open ∷ tokens)
+any_tail bytes rest lists parsed r is tokens tail =
+    subst (λ ts. IsParsed parsed (Open ∷ ts)) (same_whole r.tokens tokens bytes r.tail.spelled tail.spelled) is

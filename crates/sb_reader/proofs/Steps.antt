@@ -25,7 +25,8 @@ EndsInGap-nil = record { closed = λ more. refl; opened = λ more. refl }
 pub EndsInGap-is_gap : (gap : List ℕ) → EndsInGap gap → is_gap gap ≡ true
 EndsInGap-is_gap gap g = rw (append-nil gap) at (g.closed [])
 
-gap_then_blank : (gap : List ℕ) (b : ℕ) → EndsInGap gap → eqb b 59 ≡ false → is_blank b ≡ true → EndsInGap (gap ++ b ∷ [])
+gap_then_blank : (gap : List ℕ) (b : ℕ) → EndsInGap gap → eqb b 59 ≡ false → is_blank b ≡ true
+    → EndsInGap (gap ++ b ∷ [])
 gap_then_blank gap b g n h =
     record {
       closed = λ more. rw append_assoc (rw (n, h) at (g.closed (b ∷ more)));
@@ -64,7 +65,8 @@ record Before (depth : ℕ) (bytes : List ℕ) (b : ℕ) : Type 0 where
   gap : EndsInGap rest
 
 -- the byte begins a token or goes on in the gap
-goes_on : (place : Place) (depth : ℕ) (bytes : List ℕ) (b : ℕ) → (p : Before depth bytes b) → EndsAt place (p.rest ++ b ∷ []) → Scanned place depth (bytes ++ b ∷ [])
+goes_on : (place : Place) (depth : ℕ) (bytes : List ℕ) (b : ℕ) → (p : Before depth bytes b)
+    → EndsAt place (p.rest ++ b ∷ []) → Scanned place depth (bytes ++ b ∷ [])
 goes_on place depth bytes b p e =
     record {
       tokens = p.tokens;
@@ -77,13 +79,17 @@ goes_on place depth bytes b p e =
     }
 
 -- the byte is a parenthesis
-parenthesis : (token : Token) (depth : ℕ) (bytes : List ℕ) (b : ℕ) → (p : Before depth bytes b) → spelling_of token ≡ b ∷ [] → is_whole false token [] ≡ true → Spells false (p.tokens ++ token ∷ []) (bytes ++ b ∷ []) []
+parenthesis : (token : Token) (depth : ℕ) (bytes : List ℕ) (b : ℕ) → (p : Before depth bytes b)
+    → spelling_of token ≡ b ∷ [] → is_whole false token [] ≡ true
+    → Spells false (p.tokens ++ token ∷ []) (bytes ++ b ∷ []) []
 parenthesis token depth bytes b p spelling whole =
     rw (p.split, append_assoc p.front p.rest (b ∷ []))
-    (Spells-push false p.tokens token p.front (p.rest ++ b ∷ []) [] p.rest (rw (append-nil (p.rest ++ b ∷ [])) p.spelled) (EndsInGap-is_gap p.rest p.gap) (rw spelling refl) whole)
+    (Spells-push false p.tokens token p.front (p.rest ++ b ∷ []) [] p.rest
+    (rw (append-nil (p.rest ++ b ∷ [])) p.spelled) (EndsInGap-is_gap p.rest p.gap) (rw spelling refl) whole)
 
 -- all is whole behind a parenthesis
-behind_parenthesis : (tokens : List Token) (depth : ℕ) (bytes : List ℕ) → Spells false tokens bytes [] → LeavesOpen tokens depth → Scanned InGap depth bytes
+behind_parenthesis : (tokens : List Token) (depth : ℕ) (bytes : List ℕ) → Spells false tokens bytes []
+    → LeavesOpen tokens depth → Scanned InGap depth bytes
 behind_parenthesis tokens depth bytes s l =
     record {
       tokens = tokens;
@@ -95,20 +101,26 @@ behind_parenthesis tokens depth bytes s l =
       ends = EndsInGap-nil;
     }
 
-then_open : (depth : ℕ) (bytes : List ℕ) (b : ℕ) → Before depth bytes b → eqb b 40 ≡ true → Scanned InGap (depth + 1) (bytes ++ b ∷ [])
+then_open : (depth : ℕ) (bytes : List ℕ) (b : ℕ) → Before depth bytes b → eqb b 40 ≡ true
+    → Scanned InGap (depth + 1) (bytes ++ b ∷ [])
 then_open depth bytes b p h =
     rw add-one
-    (behind_parenthesis (p.tokens ++ Open ∷ []) (suc depth) (bytes ++ b ∷ []) (parenthesis Open depth bytes b p (rw (eqb-true b 40 h) refl) refl) (LeavesOpen-open p.tokens depth p.leaves))
+    (behind_parenthesis (p.tokens ++ Open ∷ []) (suc depth) (bytes ++ b ∷ [])
+    (parenthesis Open depth bytes b p (rw (eqb-true b 40 h) refl) refl) (LeavesOpen-open p.tokens depth p.leaves))
 
-close_within : (depth : ℕ) (bytes : List ℕ) (b : ℕ) → Before depth bytes b → eqb b 41 ≡ true → 1 < depth → Scanned InGap (depth - 1) (bytes ++ b ∷ [])
+close_within : (depth : ℕ) (bytes : List ℕ) (b : ℕ) → Before depth bytes b → eqb b 41 ≡ true → 1 < depth
+    → Scanned InGap (depth - 1) (bytes ++ b ∷ [])
 close_within zero bytes b p h inner = absurd (omega arith)
 close_within (suc zero) bytes b p h inner = absurd (omega arith)
 close_within (suc (suc depth)) bytes b p h inner =
     let one_less : suc (suc depth) - 1 ≡ suc depth = omega arith in
     rw one_less
-    (behind_parenthesis (p.tokens ++ Close ∷ []) (suc depth) (bytes ++ b ∷ []) (parenthesis Close (suc (suc depth)) bytes b p (rw (eqb-true b 41 h) refl) refl) (LeavesOpen-close p.tokens depth p.leaves))
+    (behind_parenthesis (p.tokens ++ Close ∷ []) (suc depth) (bytes ++ b ∷ [])
+    (parenthesis Close (suc (suc depth)) bytes b p (rw (eqb-true b 41 h) refl) refl)
+    (LeavesOpen-close p.tokens depth p.leaves))
 
-then_close : (depth : ℕ) (bytes : List ℕ) (b : ℕ) → Before depth bytes b → eqb b 41 ≡ true → Says (if leb depth 1 then EndsBehind else To InGap (depth - 1)) bytes b
+then_close : (depth : ℕ) (bytes : List ℕ) (b : ℕ) → Before depth bytes b → eqb b 41 ≡ true
+    → Says (if leb depth 1 then EndsBehind else To InGap (depth - 1)) bytes b
 then_close depth bytes b p h =
     cond_both (leb depth 1) EndsBehind (To InGap (depth - 1)) (λ s. Says s bytes b)
     (λ outer. record {
@@ -119,7 +131,8 @@ then_close depth bytes b p h =
     (λ inner. close_within depth bytes b p h (leb-false depth 1 inner))
 
 -- a byte that begins a run
-then_run : (bytes : List ℕ) (b : ℕ) → EndsInGap bytes → eqb b 40 ≡ false → eqb b 41 ≡ false → eqb b 34 ≡ false → eqb b 124 ≡ false → eqb b 59 ≡ false → is_blank b ≡ false → EndsInRun (bytes ++ b ∷ [])
+then_run : (bytes : List ℕ) (b : ℕ) → EndsInGap bytes → eqb b 40 ≡ false → eqb b 41 ≡ false → eqb b 34 ≡ false
+    → eqb b 124 ≡ false → eqb b 59 ≡ false → is_blank b ≡ false → EndsInRun (bytes ++ b ∷ [])
 then_run bytes b g h1 h2 h3 h4 h5 h6 =
     record {
       gap = bytes;
@@ -136,9 +149,25 @@ in_gap depth bytes b p =
     cond_both (eqb b 40) _ _ (λ s. Says s bytes b) (λ h. then_open depth bytes b p h) (λ h40.
     cond_both (eqb b 41) _ _ (λ s. Says s bytes b) (λ h. then_close depth bytes b p h) (λ h41.
     cond_both (eqb b 34) _ _ (λ s. Says s bytes b)
-    (λ h. goes_on InText depth bytes b p (record { gap = p.rest; inside = []; split = rw (eqb-true b 34 h) refl; is_gap = p.gap; paired = λ more. refl })) (λ h34.
+    (λ h. goes_on InText depth bytes b p
+    (record {
+      gap = p.rest;
+      inside = [];
+      split = rw (eqb-true b 34 h) refl;
+      is_gap = p.gap;
+      paired =
+          λ more. refl;
+    })) (λ h34.
     cond_both (eqb b 124) _ _ (λ s. Says s bytes b)
-    (λ h. goes_on InQuoted depth bytes b p (record { gap = p.rest; inside = []; split = rw (eqb-true b 124 h) refl; is_gap = p.gap; no_bar = λ more. refl })) (λ h124.
+    (λ h. goes_on InQuoted depth bytes b p
+    (record {
+      gap = p.rest;
+      inside = [];
+      split = rw (eqb-true b 124 h) refl;
+      is_gap = p.gap;
+      no_bar =
+          λ more. refl;
+    })) (λ h124.
     cond_both (eqb b 59) _ _ (λ s. Says s bytes b)
     (λ h. goes_on InComment depth bytes b p (gap_then_comment p.rest b p.gap h)) (λ h59.
     cond_both (is_blank b) _ _ (λ s. Says s bytes b)
@@ -146,7 +175,8 @@ in_gap depth bytes b p =
     (λ blank. goes_on InRun depth bytes b p (then_run p.rest b p.gap h40 h41 h34 h124 h59 blank)))))))
 
 -- one more byte of what stands behind the whole tokens
-further : (place to : Place) (depth : ℕ) (bytes : List ℕ) (b : ℕ) → (s : Scanned place depth bytes) → EndsAt to (s.rest ++ b ∷ []) → Scanned to depth (bytes ++ b ∷ [])
+further : (place to : Place) (depth : ℕ) (bytes : List ℕ) (b : ℕ) → (s : Scanned place depth bytes)
+    → EndsAt to (s.rest ++ b ∷ []) → Scanned to depth (bytes ++ b ∷ [])
 further place to depth bytes b s e =
     record {
       tokens = s.tokens;
@@ -171,7 +201,9 @@ before depth bytes b s =
     }
 
 -- the byte follows an atom
-behind_atom : (depth : ℕ) (tokens : List Token) (token : Token) (bytes : List ℕ) (b : ℕ) → is_parenthesis token ≡ false → LeavesOpen tokens depth → Spells false (tokens ++ token ∷ []) bytes (b ∷ []) → Says (step_behind_token depth b) bytes b
+behind_atom : (depth : ℕ) (tokens : List Token) (token : Token) (bytes : List ℕ) (b : ℕ) → is_parenthesis token ≡ false
+    → LeavesOpen tokens depth → Spells false (tokens ++ token ∷ []) bytes (b ∷ [])
+    → Says (step_behind_token depth b) bytes b
 behind_atom zero tokens token bytes b atom l s =
     record { tokens = tokens ++ token ∷ []; one = one_atom tokens token atom l; spelled = s }
 behind_atom (suc depth) tokens token bytes b atom l s =
@@ -189,24 +221,33 @@ behind_atom (suc depth) tokens token bytes b atom l s =
     }))
 
 -- the text is whole in front of a byte that is no quote
-pub text_spelled : (ended : Bool) (depth : ℕ) (bytes after : List ℕ) (s : Scanned BehindQuote depth bytes) → is_whole ended (Text s.ends.inside) after ≡ true → Spells ended (s.tokens ++ Text s.ends.inside ∷ []) bytes after
+pub text_spelled : (ended : Bool) (depth : ℕ) (bytes after : List ℕ) (s : Scanned BehindQuote depth bytes)
+    → is_whole ended (Text s.ends.inside) after ≡ true → Spells ended (s.tokens ++ Text s.ends.inside ∷ []) bytes after
 text_spelled ended depth bytes after s whole =
     rw s.split
-    (Spells-push ended s.tokens (Text s.ends.inside) s.front s.rest after s.ends.gap (Spells-grow ended s.tokens s.front s.rest after s.spelled) (EndsInGap-is_gap s.ends.gap s.ends.is_gap) s.ends.split whole)
+    (Spells-push ended s.tokens (Text s.ends.inside) s.front s.rest after s.ends.gap
+    (Spells-grow ended s.tokens s.front s.rest after s.spelled) (EndsInGap-is_gap s.ends.gap s.ends.is_gap)
+    s.ends.split whole)
 
 -- the run is whole in front of a byte that is none of a run
-pub run_spelled : (ended : Bool) (depth : ℕ) (bytes after : List ℕ) (s : Scanned InRun depth bytes) → is_whole ended (Run (s.ends.first ∷ s.ends.others)) after ≡ true → Spells ended (s.tokens ++ Run (s.ends.first ∷ s.ends.others) ∷ []) bytes after
+pub run_spelled : (ended : Bool) (depth : ℕ) (bytes after : List ℕ) (s : Scanned InRun depth bytes)
+    → is_whole ended (Run (s.ends.first ∷ s.ends.others)) after ≡ true
+    → Spells ended (s.tokens ++ Run (s.ends.first ∷ s.ends.others) ∷ []) bytes after
 run_spelled ended depth bytes after s whole =
     rw s.split
-    (Spells-push ended s.tokens (Run (s.ends.first ∷ s.ends.others)) s.front s.rest after s.ends.gap (Spells-grow ended s.tokens s.front s.rest after s.spelled) (EndsInGap-is_gap s.ends.gap s.ends.is_gap) s.ends.split whole)
+    (Spells-push ended s.tokens (Run (s.ends.first ∷ s.ends.others)) s.front s.rest after s.ends.gap
+    (Spells-grow ended s.tokens s.front s.rest after s.spelled) (EndsInGap-is_gap s.ends.gap s.ends.is_gap)
+    s.ends.split whole)
 
 pub text_paired : (rest : List ℕ) → (e : EndsBehindQuote rest) → has_paired_quotes e.inside ≡ true
 text_paired rest e = rw (append-nil e.inside) at (e.paired [])
 
 pub run_passes : (rest : List ℕ) → (e : EndsInRun rest) → some_pass is_run_byte (e.first ∷ e.others) ≡ true
-run_passes rest e = and_from (is_run_byte e.first) (all_pass is_run_byte e.others) e.first_passes (rw (append-nil e.others) at (e.others_pass []))
+run_passes rest e = and_from (is_run_byte e.first) (all_pass is_run_byte e.others) e.first_passes
+    (rw (append-nil e.others) at (e.others_pass []))
 
-in_comment : (depth : ℕ) (bytes : List ℕ) (b : ℕ) → Scanned InComment depth bytes → Says (step_at InComment depth b) bytes b
+in_comment : (depth : ℕ) (bytes : List ℕ) (b : ℕ) → Scanned InComment depth bytes
+    → Says (step_at InComment depth b) bytes b
 in_comment depth bytes b s =
     cond_both (is_line_end b) _ _ (λ s. Says s bytes b)
     (λ h. further InComment InGap depth bytes b s (comment_then_line_end s.rest b s.ends h))
@@ -248,12 +289,14 @@ quote_then_quote rest b e h =
       paired = λ more. rw append_assoc (e.paired (34 ∷ 34 ∷ more));
     }
 
-behind_quote : (depth : ℕ) (bytes : List ℕ) (b : ℕ) → Scanned BehindQuote depth bytes → Says (step_at BehindQuote depth b) bytes b
+behind_quote : (depth : ℕ) (bytes : List ℕ) (b : ℕ) → Scanned BehindQuote depth bytes
+    → Says (step_at BehindQuote depth b) bytes b
 behind_quote depth bytes b s =
     cond_both (eqb b 34) _ _ (λ s. Says s bytes b)
     (λ h. further BehindQuote InText depth bytes b s (quote_then_quote s.rest b s.ends h))
     (λ h. behind_atom depth s.tokens (Text s.ends.inside) bytes b refl s.leaves
-    (text_spelled false depth bytes (b ∷ []) s (and_from _ (not (eqb b 34)) (text_paired s.rest s.ends) (not_from_false (eqb b 34) h))))
+    (text_spelled false depth bytes (b ∷ []) s
+    (and_from _ (not (eqb b 34)) (text_paired s.rest s.ends) (not_from_false (eqb b 34) h))))
 
 quoted_then_more : (rest : List ℕ) (b : ℕ) → EndsInQuoted rest → eqb b 124 ≡ false → EndsInQuoted (rest ++ b ∷ [])
 quoted_then_more rest b e h =
@@ -265,7 +308,8 @@ quoted_then_more rest b e h =
       no_bar = λ more. rw append_assoc (rw h at (e.no_bar (b ∷ more)));
     }
 
-quoted_spelled : (depth : ℕ) (bytes : List ℕ) (b : ℕ) (s : Scanned InQuoted depth bytes) → eqb b 124 ≡ true → Spells false (s.tokens ++ Quoted s.ends.inside ∷ []) (bytes ++ b ∷ []) []
+quoted_spelled : (depth : ℕ) (bytes : List ℕ) (b : ℕ) (s : Scanned InQuoted depth bytes) → eqb b 124 ≡ true
+    → Spells false (s.tokens ++ Quoted s.ends.inside ∷ []) (bytes ++ b ∷ []) []
 quoted_spelled depth bytes b s h =
     rw (s.split, append_assoc s.front s.rest (b ∷ []))
     (Spells-push false s.tokens (Quoted s.ends.inside) s.front (s.rest ++ b ∷ []) [] s.ends.gap
@@ -274,15 +318,23 @@ quoted_spelled depth bytes b s h =
     (rw (s.ends.split, eqb-true b 124 h) (append_assoc s.ends.gap (124 ∷ s.ends.inside) (124 ∷ [])))
     (rw (append-nil s.ends.inside) at (s.ends.no_bar [])))
 
-quoted_ends : (depth : ℕ) (bytes : List ℕ) (b : ℕ) → Scanned InQuoted depth bytes → eqb b 124 ≡ true → Says (if eqb depth 0 then EndsBehind else To InGap depth) bytes b
+quoted_ends : (depth : ℕ) (bytes : List ℕ) (b : ℕ) → Scanned InQuoted depth bytes → eqb b 124 ≡ true
+    → Says (if eqb depth 0 then EndsBehind else To InGap depth) bytes b
 quoted_ends zero bytes b s h =
-    record { tokens = s.tokens ++ Quoted s.ends.inside ∷ []; one = one_atom s.tokens (Quoted s.ends.inside) refl s.leaves; spelled = quoted_spelled 0 bytes b s h }
+    record {
+      tokens = s.tokens ++ Quoted s.ends.inside ∷ [];
+      one =
+          one_atom s.tokens (Quoted s.ends.inside) refl s.leaves;
+      spelled = quoted_spelled 0 bytes b s h;
+    }
 quoted_ends (suc depth) bytes b s h =
     let within : eqb (suc depth) 0 ≡ false = ne_eqb (suc depth) 0 (λ e. omega arith) in
     rw within
-    (behind_parenthesis (s.tokens ++ Quoted s.ends.inside ∷ []) (suc depth) (bytes ++ b ∷ []) (quoted_spelled (suc depth) bytes b s h) (LeavesOpen-atom s.tokens depth (Quoted s.ends.inside) refl s.leaves))
+    (behind_parenthesis (s.tokens ++ Quoted s.ends.inside ∷ []) (suc depth) (bytes ++ b ∷ [])
+    (quoted_spelled (suc depth) bytes b s h) (LeavesOpen-atom s.tokens depth (Quoted s.ends.inside) refl s.leaves))
 
-in_quoted : (depth : ℕ) (bytes : List ℕ) (b : ℕ) → Scanned InQuoted depth bytes → Says (step_at InQuoted depth b) bytes b
+in_quoted : (depth : ℕ) (bytes : List ℕ) (b : ℕ) → Scanned InQuoted depth bytes
+    → Says (step_at InQuoted depth b) bytes b
 in_quoted depth bytes b s =
     cond_both (eqb b 124) _ _ (λ s. Says s bytes b)
     (λ h. quoted_ends depth bytes b s h)
@@ -305,9 +357,11 @@ in_run depth bytes b s =
     cond_both (is_run_byte b) _ _ (λ s. Says s bytes b)
     (λ h. further InRun InRun depth bytes b s (run_then_more s.rest b s.ends h))
     (λ h. behind_atom depth s.tokens (Run (s.ends.first ∷ s.ends.others)) bytes b refl s.leaves
-    (run_spelled false depth bytes (b ∷ []) s (and_from _ (not (is_run_byte b)) (run_passes s.rest s.ends) (not_from_false (is_run_byte b) h))))
+    (run_spelled false depth bytes (b ∷ []) s
+    (and_from _ (not (is_run_byte b)) (run_passes s.rest s.ends) (not_from_false (is_run_byte b) h))))
 
-pub step_says : (place : Place) (depth : ℕ) (bytes : List ℕ) (b : ℕ) → Scanned place depth bytes → Says (step_at place depth b) bytes b
+pub step_says : (place : Place) (depth : ℕ) (bytes : List ℕ) (b : ℕ) → Scanned place depth bytes
+    → Says (step_at place depth b) bytes b
 step_says InGap depth bytes b s = in_gap depth bytes b (before depth bytes b s)
 step_says InComment depth bytes b s = in_comment depth bytes b s
 step_says InText depth bytes b s = in_text depth bytes b s

@@ -66,7 +66,8 @@ IsStrayClose refusal tokens = (tokens ≡ Close ∷ []) × (refusal ≡ StrayClo
 
 -- a token outside a form, bad or not
 abbrev pub IsBareToken : Refusal → List Token → Type 0
-IsBareToken refusal tokens = (token : Token) × (tokens ≡ token ∷ []) × (is_parenthesis token ≡ false) × (refusal ≡ (if is_bad token then BadToken else BareToken))
+IsBareToken refusal tokens = (token : Token) × (tokens ≡ token ∷ []) × (is_parenthesis token ≡ false)
+    × (refusal ≡ (if is_bad token then BadToken else BareToken))
 
 -- a form in parentheses with a fault inside
 abbrev pub IsFaultyForm : Refusal → List Token → Type 0
@@ -75,14 +76,8 @@ IsFaultyForm refusal tokens = (is_parenthesized tokens ≡ true) × (first_fault
 -- the tokens of an entry
 abbrev pub IsEntry : Entry → List Token → Type 0
 IsEntry (Command form) tokens = IsCommand form tokens
-IsEntry (Refused refusal) tokens = IsStrayClose refusal tokens ⊎ (IsBareToken refusal tokens ⊎ IsFaultyForm refusal tokens)
-
--- the tokens of one entry, whichever: all up to the parenthesis that closes the first, or one other token
-abbrev pub is_one_entry : List Token → Bool
-is_one_entry [] = false
-is_one_entry (Open ∷ tokens) = closes_at_end 1 tokens
-is_one_entry (token ∷ []) = true
-is_one_entry (token ∷ next ∷ tokens) = false
+IsEntry (Refused refusal) tokens =
+    IsStrayClose refusal tokens ⊎ (IsBareToken refusal tokens ⊎ IsFaultyForm refusal tokens)
 
 -- front is the tokens in order, each whole where it stands, with gaps before them; rest follows
 abbrev pub Spells : Bool → List Token → List ℕ → List ℕ → Type 0
@@ -94,7 +89,8 @@ Spells ended (token ∷ tokens) front rest =
 -- The beginning of a text, whose closing quote is not there, or may be the first of a pair.
 abbrev pub IsPartText : Bool → List ℕ → Type 0
 IsPartText ended bytes =
-    (inside : List ℕ) × ((bytes ≡ 34 ∷ inside) ⊎ ((ended ≡ false) × (bytes ≡ 34 ∷ (inside ++ 34 ∷ [])))) × (has_paired_quotes inside ≡ true)
+    (inside : List ℕ) × ((bytes ≡ 34 ∷ inside) ⊎ ((ended ≡ false) × (bytes ≡ 34 ∷ (inside ++ 34 ∷ []))))
+    × (has_paired_quotes inside ≡ true)
 
 -- the beginning of a quoted symbol
 abbrev pub IsPartQuoted : List ℕ → Type 0
@@ -108,7 +104,8 @@ IsPartRun ended bytes = (ended ≡ false) × (some_pass is_run_byte bytes ≡ tr
 abbrev pub HoldsNoToken : Bool → List ℕ → Type 0
 HoldsNoToken ended bytes =
     (is_open_gap bytes ≡ true)
-    ⊎ ((gap : List ℕ) × (part : List ℕ) × (is_gap gap ≡ true) × (bytes ≡ gap ++ part) × (IsPartText ended part ⊎ (IsPartQuoted part ⊎ IsPartRun ended part)))
+    ⊎ ((gap : List ℕ) × (part : List ℕ) × (is_gap gap ≡ true) × (bytes ≡ gap ++ part)
+    × (IsPartText ended part ⊎ (IsPartQuoted part ⊎ IsPartRun ended part)))
 
 -- No entry is whole in the bytes: they hold no token, or the tokens of a form that is not closed.
 pub record HoldsNoEntry (ended : Bool) (bytes : List ℕ) : Type 0 where
@@ -128,16 +125,12 @@ SpellsEntry ended entry front rest = (tokens : List Token) × IsEntry entry toke
 abbrev pub Begins : Bool → List ℕ → List Entry → List ℕ → Type 0
 Begins ended bytes [] left = bytes ≡ left
 Begins ended bytes (entry ∷ entries) left =
-    (front : List ℕ) × (behind : List ℕ) × (bytes ≡ front ++ behind) × SpellsEntry ended entry front behind × Begins ended behind entries left
+    (front : List ℕ) × (behind : List ℕ) × (bytes ≡ front ++ behind) × SpellsEntry ended entry front behind
+    × Begins ended behind entries left
 
 -- The bytes, behind which no more come where they are ended, are these entries and a rest without a whole one.
 abbrev pub Reads : Bool → List ℕ → List Entry → Type 0
 Reads ended bytes [] = HoldsNoEntry ended bytes
 Reads ended bytes (entry ∷ entries) =
-    (front : List ℕ) × (rest : List ℕ) × (bytes ≡ front ++ rest) × SpellsEntry ended entry front rest × Reads ended rest entries
-
--- The tokens of one entry, and nothing else: what a scan for the end of an entry has found.
-pub record IsOneEntry (front : List ℕ) : Type 0 where
-  pub tokens : List Token
-  pub one : is_one_entry tokens ≡ true
-  pub spelled : Spells true tokens front []
+    (front : List ℕ) × (rest : List ℕ) × (bytes ≡ front ++ rest) × SpellsEntry ended entry front rest
+    × Reads ended rest entries

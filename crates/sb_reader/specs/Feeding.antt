@@ -9,15 +9,16 @@ use Rattle.sb_reader.specs.Forms.{form_of}
 use Rattle.sb_reader.specs.Entries.{Entry, Command, Refused, SpellsEntry, HoldsNoEntry}
 
 -- The bytes that were pushed and are not answered yet, and whether no more come.
-abbrev pub Kept : Type 0
-Kept = List ℕ × Bool
+abbrev pub Unanswered : Type 0
+Unanswered = List ℕ × Bool
 
 -- the bytes of an entry are taken, and it is the answer
-abbrev pub Takes : Entry → Kept → Kept → Type 0
-Takes entry old new = (front : List ℕ) × (old.0 ≡ front ++ new.0) × (new.1 ≡ old.1) × SpellsEntry old.1 entry front new.0
+abbrev pub Takes : Entry → Unanswered → Unanswered → Type 0
+Takes entry old new = (front : List ℕ) × (old.0 ≡ front ++ new.0) × (new.1 ≡ old.1)
+    × SpellsEntry old.1 entry front new.0
 
 -- No entry is whole. White space and comments in front may be taken, so that they don't pile up.
-pub record Waits (old new : Kept) : Type 0 where
+pub record Waits (old new : Unanswered) : Type 0 where
   pub gap : List ℕ
   pub is_gap : is_gap gap ≡ true
   pub split : old.0 ≡ gap ++ new.0
@@ -26,13 +27,13 @@ pub record Waits (old new : Kept) : Type 0 where
   pub no_entry : HoldsNoEntry false new.0
 
 -- The input has ended, outside a form or within one. Nothing changes from then on.
-abbrev pub Ends : Ending → Kept → Kept → Type 0
+abbrev pub Ends : Ending → Unanswered → Unanswered → Type 0
 Ends Clean old new = (old.1 ≡ true) × (new ≡ old) × (is_open_gap old.0 ≡ true)
 Ends Unfinished old new = (old.1 ≡ true) × (new ≡ old) × (is_open_gap old.0 ≡ false) × HoldsNoEntry true old.0
 
 -- what an answer says of the bytes
-abbrev pub Answers : Next → Kept → Kept → Type 0
-Answers (next.Command sexpr) old new = Takes (Command (form_of sexpr)) old new
-Answers (next.Refused refusal) old new = Takes (Refused refusal) old new
-Answers next.NotYet old new = Waits old new
-Answers (next.Ended ending) old new = Ends ending old new
+abbrev pub IsNext : Next → Unanswered → Unanswered → Type 0
+IsNext (next.Command sexpr) old new = Takes (Command (form_of sexpr)) old new
+IsNext (next.Refused refusal) old new = Takes (Refused refusal) old new
+IsNext next.NotYet old new = Waits old new
+IsNext (next.Ended ending) old new = Ends ending old new

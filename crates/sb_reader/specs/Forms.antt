@@ -63,3 +63,8 @@ abbrev mutual
   pub forms_of : {m : _} → Row_of-Sexpr m → Forms
   forms_of end_of-Sexpr = none
   forms_of (more_of-Sexpr form rest) = more (form_of form) (forms_of rest)
+
+-- the forms of a list in memory
+abbrev pub forms_in : List Sexpr → Forms
+forms_in [] = none
+forms_in (form ∷ forms) = more (form_of form) (forms_in forms)

@@ -5,11 +5,13 @@ use Rattle.sb_reader.specs.Entries.{Entry, Spells, SpellsEntry, HoldsNoEntry, Re
 
 -- Tokens that are whole stay whole when more bytes come, or no more come.
 abbrev pub TokensStay : Type 0
-TokensStay = (ended : Bool) (tokens : List Token) (front rest more : List ℕ) → Spells false tokens front rest → Spells ended tokens front (rest ++ more)
+TokensStay = (ended : Bool) (tokens : List Token) (front rest more : List ℕ) → Spells false tokens front rest
+    → Spells ended tokens front (rest ++ more)
 
 -- So does an entry.
 abbrev pub EntryStays : Type 0
-EntryStays = (ended : Bool) (entry : Entry) (front rest more : List ℕ) → SpellsEntry false entry front rest → SpellsEntry ended entry front (rest ++ more)
+EntryStays = (ended : Bool) (entry : Entry) (front rest more : List ℕ) → SpellsEntry false entry front rest
+    → SpellsEntry ended entry front (rest ++ more)
 
 -- a token that is whole behind a gap, and the bytes behind it
 pub record IsFirst (ended : Bool) (bytes : List ℕ) (token : Token) (gap behind : List ℕ) : Type 0 where
@@ -19,46 +21,64 @@ pub record IsFirst (ended : Bool) (bytes : List ℕ) (token : Token) (gap behind
 
 -- The first token of bytes, the gap before it and what is behind it are determined.
 abbrev pub OneFirstToken : Type 0
-OneFirstToken = (ended later : Bool) (bytes : List ℕ) (token token' : Token) (gap gap' behind behind' : List ℕ) → IsFirst ended bytes token gap behind → IsFirst later bytes token' gap' behind' → (token ≡ token') × (gap ≡ gap') × (behind ≡ behind')
+OneFirstToken = (ended later : Bool) (bytes : List ℕ) (token token' : Token) (gap gap' behind behind' : List ℕ)
+    → IsFirst ended bytes token gap behind → IsFirst later bytes token' gap' behind' → (token ≡ token') × (gap ≡ gap')
+    × (behind ≡ behind')
 
 -- As many tokens, spelled in the same bytes, are the same tokens, and stand in the same part of the bytes.
 abbrev pub OneReading : Type 0
-OneReading = (ended later : Bool) (tokens tokens' : List Token) (front front' rest rest' : List ℕ) → Spells ended tokens front rest → Spells later tokens' front' rest' → front ++ rest ≡ front' ++ rest' → length tokens ≡ length tokens' → (tokens ≡ tokens') × (front ≡ front') × (rest ≡ rest')
+OneReading = (ended later : Bool) (tokens tokens' : List Token) (front front' rest rest' : List ℕ)
+    → Spells ended tokens front rest → Spells later tokens' front' rest' → front ++ rest ≡ front' ++ rest'
+    → length tokens ≡ length tokens' → (tokens ≡ tokens') × (front ≡ front') × (rest ≡ rest')
 
 -- Bytes are read as one list of entries.
 abbrev pub OneScript : Type 0
-OneScript = (ended : Bool) (bytes : List ℕ) (entries entries' : List Entry) → Reads ended bytes entries → Reads ended bytes entries' → entries ≡ entries'
+OneScript = (ended : Bool) (bytes : List ℕ) (entries entries' : List Entry) → Reads ended bytes entries
+    → Reads ended bytes entries' → entries ≡ entries'
 
 -- The first entry of bytes, where it stands and what is behind it are determined.
 abbrev pub OneEntry : Type 0
-OneEntry = (ended : Bool) (entry entry' : Entry) (front front' rest rest' : List ℕ) → SpellsEntry ended entry front rest → SpellsEntry ended entry' front' rest' → front ++ rest ≡ front' ++ rest' → (entry ≡ entry') × (front ≡ front') × (rest ≡ rest')
+OneEntry = (ended : Bool) (entry entry' : Entry) (front front' rest rest' : List ℕ) → SpellsEntry ended entry front rest
+    → SpellsEntry ended entry' front' rest' → front ++ rest ≡ front' ++ rest' → (entry ≡ entry') × (front ≡ front')
+    × (rest ≡ rest')
 
 -- An entry has a byte.
 abbrev pub EntryHasBytes : Type 0
-EntryHasBytes = (ended : Bool) (entry : Entry) (front rest : List ℕ) → SpellsEntry ended entry front rest → 0 < length front
+EntryHasBytes = (ended : Bool) (entry : Entry) (front rest : List ℕ) → SpellsEntry ended entry front rest
+    → 0 < length front
 
 -- Bytes that hold no whole entry begin with none.
 abbrev pub NoEntry : Type 0
-NoEntry = (ended : Bool) (entry : Entry) (bytes front rest : List ℕ) → HoldsNoEntry ended bytes → bytes ≡ front ++ rest → SpellsEntry ended entry front rest → ⊥
+NoEntry = (ended : Bool) (entry : Entry) (bytes front rest : List ℕ) → HoldsNoEntry ended bytes → bytes ≡ front ++ rest
+    → SpellsEntry ended entry front rest → ⊥
 
--- White space and comments before an entry belong to it; before bytes without an entry they make none, and they leave it open whether the bytes are within a form.
+-- White space and comments before an entry belong to it; before bytes without an entry they make none, and they leave
+-- it open whether the bytes are within a form.
 abbrev pub GapBeforeEntry : Type 0
-GapBeforeEntry = (ended : Bool) (entry : Entry) (gap front rest : List ℕ) → is_gap gap ≡ true → SpellsEntry ended entry front rest → SpellsEntry ended entry (gap ++ front) rest
+GapBeforeEntry = (ended : Bool) (entry : Entry) (gap front rest : List ℕ) → is_gap gap ≡ true
+    → SpellsEntry ended entry front rest → SpellsEntry ended entry (gap ++ front) rest
 
 abbrev pub GapBeforeNone : Type 0
-GapBeforeNone = (ended : Bool) (gap bytes : List ℕ) → is_gap gap ≡ true → HoldsNoEntry ended bytes → HoldsNoEntry ended (gap ++ bytes)
+GapBeforeNone = (ended : Bool) (gap bytes : List ℕ) → is_gap gap ≡ true → HoldsNoEntry ended bytes
+    → HoldsNoEntry ended (gap ++ bytes)
 
 abbrev pub GapBeforeGap : Type 0
 GapBeforeGap = (gap bytes : List ℕ) → is_gap gap ≡ true → is_open_gap (gap ++ bytes) ≡ is_open_gap bytes
 
 -- Entries that the bytes begin with stay when more bytes come, or no more come.
 abbrev pub BeginningStays : Type 0
-BeginningStays = (ended : Bool) (bytes more : List ℕ) (entries : List Entry) (left : List ℕ) → Begins false bytes entries left → Begins ended (bytes ++ more) entries (left ++ more)
+BeginningStays = (ended : Bool) (bytes more : List ℕ) (entries : List Entry) (left : List ℕ)
+    → Begins false bytes entries left → Begins ended (bytes ++ more) entries (left ++ more)
 
 -- one more entry
 abbrev pub BeginningGrows : Type 0
-BeginningGrows = (ended : Bool) (bytes : List ℕ) (entries : List Entry) (entry : Entry) (front left : List ℕ) → Begins ended bytes entries (front ++ left) → SpellsEntry ended entry front left → Begins ended bytes (entries ++ entry ∷ []) left
+BeginningGrows = (ended : Bool) (bytes : List ℕ) (entries : List Entry) (entry : Entry) (front left : List ℕ)
+    → Begins ended bytes entries (front ++ left) → SpellsEntry ended entry front left
+    → Begins ended bytes (entries ++ entry ∷ []) left
 
--- Where bytes begin with entries, and are others with a rest without a whole one, the former are the first of the latter.
+-- Where bytes begin with entries, and are others with a rest without a whole one, the former are the first of the
+-- latter.
 abbrev pub BeginningIsFirst : Type 0
-BeginningIsFirst = (ended : Bool) (bytes : List ℕ) (entries all : List Entry) (left rest : List ℕ) → Begins ended bytes entries left → Begins ended bytes all rest → HoldsNoEntry ended rest → (others : List Entry) × (all ≡ entries ++ others)
+BeginningIsFirst = (ended : Bool) (bytes : List ℕ) (entries all : List Entry) (left rest : List ℕ)
+    → Begins ended bytes entries left → Begins ended bytes all rest → HoldsNoEntry ended rest
+    → (others : List Entry) × (all ≡ entries ++ others)

@@ -1,4 +1,4 @@
--- How the code finds the first token of bytes: for private contracts alone.
+-- Private: how the code finds the first token of bytes: for private contracts alone.
 use Rattle.std.specs.Prelude.{ℕ, ◌+◌, Bool, true, false, not, ◌==◌, nat_lt, if◌then◌else◌, List, [], ◌∷◌, Option, Some, None, take, drop, length}
 use Rattle.std.specs.List.{position_or_len}
 use Rattle.std.specs.Borrow.{Bor}
@@ -31,7 +31,8 @@ cut_text inside None = None
 cut_text inside (Some end) = Some (Text (take end inside), drop (end + 1) inside)
 
 abbrev pub cut_quoted : List ℕ → ℕ → Lexed
-cut_quoted inside end = if nat_lt end (length inside) then Some (Quoted (take end inside), drop (end + 1) inside) else None
+cut_quoted inside end = if nat_lt end (length inside) then Some (Quoted (take end inside), drop (end + 1) inside)
+    else None
 
 abbrev pub cut_run : List ℕ → ℕ → Lexed
 cut_run bytes end = Some (Run (take end bytes), drop end bytes)

@@ -1,6 +1,7 @@
 pub mod Tokens
 pub mod Forms
 pub mod Entries
+pub mod OneEntry
 pub mod Feeding
 pub mod Laws
 pub mod Lexing

@@ -1,16 +1,11 @@
--- What the parser keeps while it reads the tokens of a form: for private contracts alone.
+-- Private: what the parser keeps while it reads the tokens of a form: for private contracts alone.
 use Rattle.std.specs.Prelude.{◌≡◌, ℕ, ◌+◌, Bool, true, false, ◌&&◌, List, [], ◌∷◌, ◌++◌, Option, Some, None, Result, MatchResult, map, length}
 use Rattle.sb_reader.specs.declared.feed.Refusal.{Refusal}
 use Rattle.sb_reader.specs.Entries.{Refused, Spells, IsCommand, IsEntry, closes_at_end}
 use Rattle.sb_reader.specs.declared.sexpr.Sexpr.{Sexpr}
 use Rattle.sb_reader.specs.declared.parse.OpenLists.{OpenLists}
 use Rattle.sb_reader.specs.Tokens.{Token, Open, Close, is_bad}
-use Rattle.sb_reader.specs.Forms.{Form, Forms, Group, none, more, tokens_of, tokens_of_all, has_kinds, have_kinds, form_of}
-
--- a list of forms in memory, as forms
-abbrev pub forms_in : List Sexpr → Forms
-forms_in [] = none
-forms_in (sexpr ∷ sexprs) = more (form_of sexpr) (forms_in sexprs)
+use Rattle.sb_reader.specs.Forms.{Form, Forms, Group, tokens_of, tokens_of_all, has_kinds, have_kinds, form_of, forms_in}
 
 -- the tokens of lists that are open, the outermost first
 abbrev pub open_tokens : List (List Sexpr) → List Token
@@ -56,7 +51,8 @@ AfterClose (Some form) old new = Closes old (form_of form)
 -- an atom of a token, or none where the token is bad
 abbrev pub IsAtom : Option Sexpr → Token → Type 0
 IsAtom None token = is_bad token ≡ true
-IsAtom (Some sexpr) token = (is_bad token ≡ false) × (tokens_of (form_of sexpr) ≡ token ∷ []) × (has_kinds (form_of sexpr) ≡ true)
+IsAtom (Some sexpr) token = (is_bad token ≡ false) × (tokens_of (form_of sexpr) ≡ token ∷ [])
+    × (has_kinds (form_of sexpr) ≡ true)
 
 -- The tokens behind the first parenthesis of a form, up to the one that closes it.
 pub record IsTail (tokens : List Token) (bytes : List ℕ) : Type 0 where
@@ -65,4 +61,5 @@ pub record IsTail (tokens : List Token) (bytes : List ℕ) : Type 0 where
 
 -- the answer for the tokens of an entry
 abbrev pub IsParsed : Result Sexpr Refusal → List Token → Type 0
-IsParsed parsed tokens = MatchResult parsed (λ sexpr. IsCommand (form_of sexpr) tokens) (λ refusal. IsEntry (Refused refusal) tokens)
+IsParsed parsed tokens =
+    MatchResult parsed (λ sexpr. IsCommand (form_of sexpr) tokens) (λ refusal. IsEntry (Refused refusal) tokens)

@@ -1,5 +1,5 @@
--- How a scan for the end of an entry goes on byte by byte, and what it knows of the bytes behind it: for private
--- functions alone.
+-- Private: how a scan for the end of an entry goes on byte by byte, and what it knows of the bytes behind it: for
+-- private functions alone.
 use Rattle.std.specs.Prelude.{◌≡◌, ℕ, ◌+◌, ◌-◌, ◌≤◌, zero, suc, Bool, true, false, not, ◌&&◌, ◌==◌, nat_le, if◌then◌else◌, List, [], ◌∷◌, ◌++◌, length, take, drop}
 use Rattle.sb_reader.specs.declared.scan.Place.{Place}
 use Rattle.sb_reader.specs.declared.scan.Place.TheVariants.{InGap, InComment, InText, BehindQuote, InQuoted, InRun}
@@ -9,7 +9,8 @@ use Rattle.sb_reader.specs.declared.scan.Found.{Found}
 use Rattle.sb_reader.specs.declared.scan.Found.TheVariants as found
 use Rattle.sb_reader.specs.declared.scan.Scan.{Scan}
 use Rattle.sb_reader.specs.Tokens.{Token, Open, all_pass, has_paired_quotes, is_blank, is_line_end, is_run_byte, is_gap, is_comment_then_gap, is_open_gap, is_comment_then_open_gap}
-use Rattle.sb_reader.specs.Entries.{closes_at_end, stays_open, is_one_entry, is_open_entry, Spells, HoldsNoEntry}
+use Rattle.sb_reader.specs.Entries.{closes_at_end, stays_open, is_open_entry, Spells, HoldsNoEntry}
+use Rattle.sb_reader.specs.OneEntry.{is_one_entry}
 
 -- what a byte outside a token and a comment does, behind so many open parentheses
 abbrev pub step_in_gap : ℕ → ℕ → Step
@@ -55,7 +56,14 @@ front_gap InRun depth gap = 0
 
 -- the scan with one more byte, which leads to that place
 abbrev pub scan_to : Scan → Place → ℕ → Scan
-scan_to scan place depth = record { scanned = scan.scanned + 1; gap = gap_to place depth (scan.scanned + 1) scan.gap; depth = depth; place = place }
+scan_to scan place depth =
+    record {
+      scanned = scan.scanned + 1;
+      gap = gap_to place depth (scan.scanned + 1) scan.gap;
+      depth = depth;
+      place =
+          place;
+    }
 
 -- what has been found where all bytes are scanned
 abbrev pub found_at_end : Bool → Place → ℕ → ℕ → Found
@@ -138,7 +146,8 @@ BeginsAt (suc depth) tokens = (others : List Token) × (tokens ≡ Open ∷ othe
 pub record LeavesOpen (tokens : List Token) (depth : ℕ) : Type 0 where
   pub begins : BeginsAt depth tokens
   pub open_is : (more : List Token) → is_open_entry (tokens ++ more) ≡ stays_open_behind depth more
-  pub one_is : (token : Token) (more : List Token) → is_one_entry (tokens ++ token ∷ more) ≡ ends_behind depth (token ∷ more)
+  pub one_is : (token : Token) (more : List Token)
+      → is_one_entry (tokens ++ token ∷ more) ≡ ends_behind depth (token ∷ more)
 
 -- The bytes are the tokens of an entry that isn't whole, and what stands at that place behind them.
 pub record Scanned (place : Place) (depth : ℕ) (bytes : List ℕ) : Type 0 where

@@ -29,7 +29,8 @@ is_line_end b = (b == 10) || (b == 13)
 
 -- a byte of a run: no white space, and none of ( ) " ; |
 abbrev pub is_run_byte : ℕ → Bool
-is_run_byte b = not (is_blank b) && (not (b == 40) && (not (b == 41) && (not (b == 34) && (not (b == 59) && not (b == 124)))))
+is_run_byte b = not (is_blank b)
+    && (not (b == 40) && (not (b == 41) && (not (b == 34) && (not (b == 59) && not (b == 124)))))
 
 -- each byte passes
 abbrev pub all_pass : (ℕ → Bool) → List ℕ → Bool
@@ -67,9 +68,11 @@ is_settled ended (b ∷ bs) = true
 abbrev pub is_whole : Bool → Token → List ℕ → Bool
 is_whole ended Open after = true
 is_whole ended Close after = true
-is_whole ended (Text bytes) after = has_paired_quotes bytes && (is_settled ended after && not (begins_with (λ b. b == 34) after))
+is_whole ended (Text bytes) after =
+    has_paired_quotes bytes && (is_settled ended after && not (begins_with (λ b. b == 34) after))
 is_whole ended (Quoted bytes) after = all_pass (λ b. not (b == 124)) bytes
-is_whole ended (Run bytes) after = some_pass is_run_byte bytes && (is_settled ended after && not (begins_with is_run_byte after))
+is_whole ended (Run bytes) after =
+    some_pass is_run_byte bytes && (is_settled ended after && not (begins_with is_run_byte after))
 
 -- White space and comments, each comment up to the end of its line: what may stand before a token.
 abbrev mutual
@@ -130,7 +133,8 @@ is_binary_digit b = (b == 48) || (b == 49)
 abbrev pub is_hexadecimal_or_binary : List ℕ → Bool
 is_hexadecimal_or_binary [] = false
 is_hexadecimal_or_binary (b ∷ []) = false
-is_hexadecimal_or_binary (b ∷ c ∷ bs) = (b == 35) && (((c == 120) && some_pass is_hex_digit bs) || ((c == 98) && some_pass is_binary_digit bs))
+is_hexadecimal_or_binary (b ∷ c ∷ bs) =
+    (b == 35) && (((c == 120) && some_pass is_hex_digit bs) || ((c == 98) && some_pass is_binary_digit bs))
 
 -- ~ ! @ $ % ^ & * _ - + = < > . ? /
 abbrev pub symbol_marks : List ℕ
@@ -154,4 +158,6 @@ is_bad Open = false
 is_bad Close = false
 is_bad (Text bytes) = not (all_pass (λ b. not (is_bad_byte b)) bytes)
 is_bad (Quoted bytes) = not (all_pass (λ b. not (is_bad_byte b) && not (b == 92)) bytes)
-is_bad (Run bytes) = not (is_numeral bytes || (is_decimal bytes || (is_hexadecimal_or_binary bytes || (is_simple_symbol bytes || is_keyword bytes))))
+is_bad (Run bytes) = not
+    (is_numeral bytes
+    || (is_decimal bytes || (is_hexadecimal_or_binary bytes || (is_simple_symbol bytes || is_keyword bytes))))

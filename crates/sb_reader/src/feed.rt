@@ -1,7 +1,7 @@
 //! The feed: bytes in, entries out.
 
 ghost use Rattle.std.specs.Prelude.{◌≡◌, ◌++◌, [], true, false, IfOk, OnOk, OnErr};
-ghost use Rattle.sb_reader.specs.Feeding.{Answers};
+ghost use Rattle.sb_reader.specs.Feeding.{IsNext};
 ghost use Rattle.sb_reader.specs.Scanning.{EndsEntry};
 
 use crate::parse::parse_entry;
@@ -60,10 +60,10 @@ pub struct Feed {
 
 impl Model for Feed {
     ghost use Rattle.std.specs.Prelude.{drop};
-    ghost use Rattle.sb_reader.specs.Feeding.{Kept};
+    ghost use Rattle.sb_reader.specs.Feeding.{Unanswered};
     ghost use Rattle.sb_reader.specs.Scanning.{IsStarted};
 
-    ghost Value = { Kept };
+    ghost Value = { Unanswered };
 
     ghost view = { λ f. (drop f.start f.kept.items, f.finished) };
 
@@ -116,7 +116,7 @@ impl Feed {
     /// The next entry, or that none is whole. Linear in the bytes of the entry that were not scanned yet and in those
     /// of the entry. White space and comments in front of nothing else are dropped.
     pub fn next(&mut self) -> Result<Next, AllocError>
-        ensures ok { IfOk result (λ next. Answers next self.old self.new) }
+        ensures ok { IfOk result (λ next. IsNext next self.old self.new) }
         ensures err { OnErr result (self.new ≡ self.old) }
         ensures finished { self.new.1 ≡ self.old.1 }
     {
@@ -134,7 +134,7 @@ impl Feed {
     /// Takes the bytes of an entry.
     fn take(&mut self, end: usize) -> Result<Next, AllocError>
         requires { EndsEntry self.old.1 self.old.0 end }
-        ensures ok { IfOk result (λ next. Answers next self.old self.new) }
+        ensures ok { IfOk result (λ next. IsNext next self.old self.new) }
         ensures err { OnErr result (self.new ≡ self.old) }
         ensures finished { self.new.1 ≡ self.old.1 }
     {

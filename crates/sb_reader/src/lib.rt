@@ -13,8 +13,6 @@ mod laws;
 mod parse;
 mod scan;
 mod sexpr;
-#[cfg(test)]
-mod tests;
 mod token;
 
 pub use feed::{Ending, Feed, Next, Refusal};

@@ -3,7 +3,8 @@
 ghost use Rattle.std.specs.Prelude.{◌≡◌, ◌+◌, ◌==◌, ◌&&◌, not, nat_le, true, false, List, [], ◌∷◌, IfOk, OnOk, MatchResult, IsSomeAnd};
 ghost use Rattle.sb_reader.specs.Tokens.{Token, Open, Close, Text, Quoted, Run, all_pass, is_bad_byte};
 ghost use Rattle.sb_reader.specs.Forms.{form_of, tokens_of, has_kinds};
-ghost use Rattle.sb_reader.specs.Entries.{Spells, IsCommand, IsEntry, IsOneEntry, Refused, is_one_entry, is_parenthesis, depth_limit};
+ghost use Rattle.sb_reader.specs.Entries.{Spells, IsCommand, IsEntry, Refused, is_parenthesis, depth_limit};
+ghost use Rattle.sb_reader.specs.OneEntry.{IsOneEntry, is_one_entry};
 ghost use Rattle.sb_reader.specs.Lexing.{token_of};
 ghost use Rattle.sb_reader.specs.Parsing.{read_tokens, depth_of, is_kind, Gains, AfterClose, IsAtom, IsTail, IsParsed};
 
@@ -140,7 +141,8 @@ fn atom(alloc: Global, lexeme: Lexeme) -> Result<Option<Sexpr>, AllocError>
 /// Reads the rest of a form, of which the first parenthesis is read, up to its end or its first fault.
 /// `None` where the bytes end before.
 fn parse_list(alloc: Global, bytes: &[u8]) -> Result<Option<Result<Sexpr, Refusal>>, AllocError>
-    ensures { IfOk result (λ parsed. (tokens : List Token) → IsTail tokens bytes.now → IsSomeAnd parsed (λ p. IsParsed p (Open ∷ tokens))) }
+    ensures { IfOk result (λ parsed. (tokens : List Token) → IsTail tokens bytes.now
+        → IsSomeAnd parsed (λ p. IsParsed p (Open ∷ tokens))) }
 {
     let mut lists = OpenLists::new(alloc);
     let mut rest = bytes;
@@ -171,7 +173,8 @@ fn parse_list(alloc: Global, bytes: &[u8]) -> Result<Option<Result<Sexpr, Refusa
 
 /// The form of the entry in front, or its first fault in reading order. `None` where the bytes end before.
 fn parse_first(alloc: Global, bytes: &[u8]) -> Result<Option<Result<Sexpr, Refusal>>, AllocError>
-    ensures { IfOk result (λ parsed. (tokens : List Token) → Spells true tokens bytes.now [] → is_one_entry tokens ≡ true → IsSomeAnd parsed (λ p. IsParsed p tokens)) }
+    ensures { IfOk result (λ parsed. (tokens : List Token) → Spells true tokens bytes.now []
+        → is_one_entry tokens ≡ true → IsSomeAnd parsed (λ p. IsParsed p tokens)) }
 {
     let Some((lexeme, rest)) = next_token(bytes) else {
         return Ok(None);
@@ -190,13 +193,13 @@ fn parse_first(alloc: Global, bytes: &[u8]) -> Result<Option<Result<Sexpr, Refus
 /// white space and comments before each. Linear in the bytes.
 pub(crate) fn parse_entry(alloc: Global, front: &[u8]) -> Result<Result<Sexpr, Refusal>, AllocError>
     requires { IsOneEntry front.now }
-    ensures { IfOk result (λ parsed. (tokens : List Token) → Spells true tokens front.now [] → is_one_entry tokens ≡ true → MatchResult parsed (λ sexpr. IsCommand (form_of sexpr) tokens) (λ refusal. IsEntry (Refused refusal) tokens)) }
+    ensures { IfOk result (λ parsed. (tokens : List Token) → Spells true tokens front.now []
+        → is_one_entry tokens ≡ true
+        → MatchResult parsed (λ sexpr. IsCommand (form_of sexpr) tokens)
+        (λ refusal. IsEntry (Refused refusal) tokens)) }
 {
     match parse_first(alloc, front)? {
         Some(parsed) => Ok(parsed),
         None => unreachable!(),
     }
 }
-
-#[cfg(test)]
-mod tests;

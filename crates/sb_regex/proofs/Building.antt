@@ -13,7 +13,7 @@ use Rattle.sb_regex.specs.declared.node.Node.{Node}
 use Rattle.sb_regex.specs.declared.node.Node.TheVariants as node
 use Rattle.sb_regex.specs.Numbered.{regex_at, Names}
 use Rattle.sb_regex.specs.Nodes.{node_regex}
-use Rattle.sb_regex.proofs.Numbers.{names_at}
+use Rattle.sb_regex.proofs.CallerLemmas.{names_at}
 
 pub normal_at : (rs : List Regex) (i : ℕ) → list_all is_normal rs ≡ true → i < length rs → IsNormal (regex_at rs i)
 normal_at rs i h l = AllPass-from_list_all is_normal rs h i none l
@@ -38,7 +38,8 @@ unfolding mkset
 mkset_more [] h = absurd (grind (arith, nat_tests))
 mkset_more (r ∷ rs) h = refl
 
-pub normal_set : (rs : List Range) → ConstructorsGiveNormal → IsCanonical rs → false ≡ (length rs == 0) → IsNormal (set rs)
+pub normal_set : (rs : List Range) → ConstructorsGiveNormal → IsCanonical rs → false ≡ (length rs == 0)
+    → IsNormal (set rs)
 normal_set rs law canonical h = rw (mkset_more rs h) (law.sets rs canonical)
 
 -- Stars.
@@ -53,21 +54,27 @@ star_eps rs d r e is = sym e ∙ ap (λ x. node_regex rs x) is ∙ ap (λ x. mks
 
 pub star_star : (rs : List Regex) (d : Node) (r : Regex) (p : ℕ) → node_regex rs d ≡ r → d ≡ node.Star p → r ≡ mkstar r
 unfolding mkstar
-star_star rs d r p e is = sym e ∙ ap (λ x. node_regex rs x) is ∙ ap (λ x. mkstar (node_regex rs x)) (sym is) ∙ ap mkstar e
+star_star rs d r p e is = sym e ∙ ap (λ x. node_regex rs x) is ∙ ap (λ x. mkstar (node_regex rs x)) (sym is)
+    ∙ ap mkstar e
 
-pub star_full : (rs : List Range) (b : Bool) (r : Regex) → set rs ≡ r → b ≡ regex_eq (set rs) any_character → b ≡ true → anything ≡ mkstar r
+pub star_full : (rs : List Range) (b : Bool) (r : Regex) → set rs ≡ r → b ≡ regex_eq (set rs) any_character → b ≡ true
+    → anything ≡ mkstar r
 unfolding mkstar
 star_full rs b r e is h = ap (λ t. if t then anything else star (set rs)) (sym h ∙ is) ∙ ap mkstar e
 
-pub star_set : (rs : List Range) (b : Bool) (r : Regex) → set rs ≡ r → b ≡ regex_eq (set rs) any_character → b ≡ false → star r ≡ mkstar r
+pub star_set : (rs : List Range) (b : Bool) (r : Regex) → set rs ≡ r → b ≡ regex_eq (set rs) any_character → b ≡ false
+    → star r ≡ mkstar r
 unfolding mkstar
-star_set rs b r e is h = ap (λ x. star x) (sym e) ∙ ap (λ t. if t then anything else star (set rs)) (sym h ∙ is) ∙ ap mkstar e
+star_set rs b r e is h = ap (λ x. star x) (sym e) ∙ ap (λ t. if t then anything else star (set rs)) (sym h ∙ is)
+    ∙ ap mkstar e
 
-pub star_other : (rs : List Regex) (d : Node) (r : Regex) → node_regex rs d ≡ r → (d ≡ node.None → ⊥) → (d ≡ node.Eps → ⊥) → ((v : _) → d ≡ node.Set v → ⊥) → ((p : _) → d ≡ node.Star p → ⊥) → star r ≡ mkstar r
+pub star_other : (rs : List Regex) (d : Node) (r : Regex) → node_regex rs d ≡ r → (d ≡ node.None → ⊥)
+    → (d ≡ node.Eps → ⊥) → ((v : _) → d ≡ node.Set v → ⊥) → ((p : _) → d ≡ node.Star p → ⊥) → star r ≡ mkstar r
 unfolding mkstar code
 star_other rs d r e f g h k = ap (λ x. star x) (sym e) ∙ plain d f g h k ∙ ap mkstar e
   where
-    plain : (d : Node) → (d ≡ node.None → ⊥) → (d ≡ node.Eps → ⊥) → ((v : _) → d ≡ node.Set v → ⊥) → ((p : _) → d ≡ node.Star p → ⊥) → star (node_regex rs d) ≡ mkstar (node_regex rs d)
+    plain : (d : Node) → (d ≡ node.None → ⊥) → (d ≡ node.Eps → ⊥) → ((v : _) → d ≡ node.Set v → ⊥)
+        → ((p : _) → d ≡ node.Star p → ⊥) → star (node_regex rs d) ≡ mkstar (node_regex rs d)
     plain node.None f g h k = absurd (f refl)
     plain node.Eps f g h k = absurd (g refl)
     plain (node.Set v) f g h k = absurd (h v refl)

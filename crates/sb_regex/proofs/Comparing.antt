@@ -20,14 +20,11 @@ use Rattle.sb_regex.specs.declared.compare.Difference.TheVariants.{Decided, Part
 use Rattle.sb_regex.specs.declared.node.Node.{Node}
 use Rattle.sb_regex.specs.declared.node.Node.TheVariants as node
 use Rattle.sb_regex.specs.Numbered.{regex_at, regexes_at, AreDistinct}
-use Rattle.sb_regex.specs.Nodes.{node_regex, node_kind}
+use Rattle.sb_regex.specs.Nodes.{node_regex}
+use Rattle.sb_regex.specs.Interning.{node_kind}
 use Rattle.sb_regex.specs.Steps.{first_difference, IsDifference}
-use Rattle.sb_regex.proofs.NodeEq.{nat_same, same_nat, parts-regexes}
-
-then_assoc : (x y z : Ordering) → ordering_then (ordering_then x y) z ≡ ordering_then x (ordering_then y z)
-then_assoc Less y z = refl
-then_assoc Equal y z = refl
-then_assoc Greater y z = refl
+use Rattle.sb_regex.proofs.NodeEq.{nat_same, same_nat}
+use Rattle.sb_lang.proofs.CallerLemmas.{parts-regexes, then_assoc}
 
 -- ranges compare by their ends
 abbrev pub range_cmp : Range → Range → Ordering
@@ -44,39 +41,50 @@ ranges_by_ends (r ∷ rs) (s ∷ ss) =
 
 -- The loop that looks for the first difference.
 
-pub difference_at : (xs ys : List ℕ) (i x y : ℕ) → i < length xs → i < length ys → x ≡ get_or xs i x → y ≡ get_or ys i y → first_difference (drop i xs) (drop i ys) ≡ cond (nat_eq x y) (first_difference (drop (i + 1) xs) (drop (i + 1) ys)) (Parts x y)
+pub difference_at : (xs ys : List ℕ) (i x y : ℕ) → i < length xs → i < length ys → x ≡ get_or xs i x → y ≡ get_or ys i y
+    → first_difference (drop i xs) (drop i ys)
+    ≡ cond (nat_eq x y) (first_difference (drop (i + 1) xs) (drop (i + 1) ys)) (Parts x y)
 difference_at xs ys i x y l m e f =
     ap₂ (λ u v. first_difference u v) (drop_more xs i x l) (drop_more ys i y m)
     ∙ ap₂ (λ u v. cond (nat_eq u v) (first_difference (drop (i + 1) xs) (drop (i + 1) ys)) (Parts u v)) (sym e) (sym f)
 
-pub difference_found : (xs ys : List ℕ) (i x y : ℕ) (b : Bool) (whole : Difference) → i < length xs → i < length ys → x ≡ get_or xs i x → y ≡ get_or ys i y → b ≡ not (nat_eq x y) → b ≡ true → first_difference (drop i xs) (drop i ys) ≡ whole → Parts x y ≡ whole
+pub difference_found : (xs ys : List ℕ) (i x y : ℕ) (b : Bool) (whole : Difference) → i < length xs → i < length ys
+    → x ≡ get_or xs i x → y ≡ get_or ys i y → b ≡ not (nat_eq x y) → b ≡ true
+    → first_difference (drop i xs) (drop i ys) ≡ whole → Parts x y ≡ whole
 difference_found xs ys i x y b whole l m e f is found inv =
-    sym (ap (λ t. cond t (first_difference (drop (i + 1) xs) (drop (i + 1) ys)) (Parts x y)) (unlike (nat_eq x y) (sym is ∙ found)))
+    sym (ap (λ t. cond t (first_difference (drop (i + 1) xs) (drop (i + 1) ys)) (Parts x y))
+    (unlike (nat_eq x y) (sym is ∙ found)))
     ∙ sym (difference_at xs ys i x y l m e f) ∙ inv
   where
     unlike : (t : Bool) → not t ≡ true → t ≡ false
     unlike true h = absurd (false≢true h)
     unlike false h = refl
 
-pub difference_next : (xs ys : List ℕ) (i x y : ℕ) (b : Bool) (whole : Difference) → i < length xs → i < length ys → x ≡ get_or xs i x → y ≡ get_or ys i y → b ≡ not (nat_eq x y) → b ≡ false → first_difference (drop i xs) (drop i ys) ≡ whole → first_difference (drop (i + 1) xs) (drop (i + 1) ys) ≡ whole
+pub difference_next : (xs ys : List ℕ) (i x y : ℕ) (b : Bool) (whole : Difference) → i < length xs → i < length ys
+    → x ≡ get_or xs i x → y ≡ get_or ys i y → b ≡ not (nat_eq x y) → b ≡ false
+    → first_difference (drop i xs) (drop i ys) ≡ whole → first_difference (drop (i + 1) xs) (drop (i + 1) ys) ≡ whole
 difference_next xs ys i x y b whole l m e f is found inv =
-    sym (ap (λ t. cond t (first_difference (drop (i + 1) xs) (drop (i + 1) ys)) (Parts x y)) (alike (nat_eq x y) (sym is ∙ found)))
+    sym (ap (λ t. cond t (first_difference (drop (i + 1) xs) (drop (i + 1) ys)) (Parts x y))
+    (alike (nat_eq x y) (sym is ∙ found)))
     ∙ sym (difference_at xs ys i x y l m e f) ∙ inv
   where
     alike : (t : Bool) → not t ≡ false → t ≡ true
     alike true h = refl
     alike false h = absurd (false≢true (sym h))
 
-ended : (u v : List ℕ) (i m n : ℕ) → length u + i ≡ m → length v + i ≡ n → i ≡ min m n → first_difference u v ≡ Decided (nat_cmp m n)
+ended : (u v : List ℕ) (i m n : ℕ) → length u + i ≡ m → length v + i ≡ n → i ≡ min m n
+    → first_difference u v ≡ Decided (nat_cmp m n)
 ended [] [] i m n p q e = ap (λ o. Decided o) (grind (arith, nat_tests))
 ended [] (y ∷ ys) i m n p q e = ap (λ o. Decided o) (grind (arith, nat_tests))
 ended (x ∷ xs) [] i m n p q e = ap (λ o. Decided o) (grind (arith, nat_tests))
 ended (x ∷ xs) (y ∷ ys) i m n p q e = absurd (omega arith)
 
-pub difference_end : (xs ys : List ℕ) (i : ℕ) (o : Ordering) (whole : Difference) → i ≡ min (length xs) (length ys) → o ≡ nat_cmp (length xs) (length ys) → first_difference (drop i xs) (drop i ys) ≡ whole → Decided o ≡ whole
+pub difference_end : (xs ys : List ℕ) (i : ℕ) (o : Ordering) (whole : Difference) → i ≡ min (length xs) (length ys)
+    → o ≡ nat_cmp (length xs) (length ys) → first_difference (drop i xs) (drop i ys) ≡ whole → Decided o ≡ whole
 difference_end xs ys i o whole e is inv =
     ap (λ t. Decided t) is
-    ∙ sym (ended (drop i xs) (drop i ys) i (length xs) (length ys) (omega (arith, length-drop i xs)) (omega (arith, length-drop i ys)) e)
+    ∙ sym (ended (drop i xs) (drop i ys) i (length xs) (length ys) (omega (arith, length-drop i xs))
+    (omega (arith, length-drop i ys)) e)
     ∙ inv
 
 -- The regex with no word, and the set of all characters.
@@ -115,10 +123,12 @@ below_zero x h = step (nat_lt x 0) refl h
         other true e = cc
         other false e = cc
 
-one_range : (x y m : ℕ) → is_eq (ordering_then (nat_cmp x 0) (ordering_then (nat_cmp y m) Equal)) ≡ (nat_eq x 0 && nat_eq y m)
+one_range : (x y m : ℕ)
+    → is_eq (ordering_then (nat_cmp x 0) (ordering_then (nat_cmp y m) Equal)) ≡ (nat_eq x 0 && nat_eq y m)
 one_range x y m = step (nat_cmp x 0) refl
   where
-    step : (o : Ordering) → nat_cmp x 0 ≡ o → is_eq (ordering_then o (ordering_then (nat_cmp y m) Equal)) ≡ (nat_eq x 0 && nat_eq y m)
+    step : (o : Ordering) → nat_cmp x 0 ≡ o
+        → is_eq (ordering_then o (ordering_then (nat_cmp y m) Equal)) ≡ (nat_eq x 0 && nat_eq y m)
     step Less is = absurd (below_zero x is)
     step Equal is =
         let e : true ≡ nat_eq x 0 = grind (arith, nat_tests) in
@@ -127,19 +137,23 @@ one_range x y m = step (nat_cmp x 0) refl
         let e : false ≡ nat_eq x 0 = grind (arith, nat_tests) in
         ap (λ b. b && nat_eq y m) e
 
-pub full_one : (rs : List Range) → 1 ≤ length rs → length rs < 2 → regex_eq (set rs) any_character ≡ (nat_eq (get_or rs 0 (0, 0)).0 0 && nat_eq (get_or rs 0 (0, 0)).1 0x2ffff)
+pub full_one : (rs : List Range) → 1 ≤ length rs → length rs < 2
+    → regex_eq (set rs) any_character ≡ (nat_eq (get_or rs 0 (0, 0)).0 0 && nat_eq (get_or rs 0 (0, 0)).1 0x2ffff)
 unfolding code range_code
 full_one [] l m = absurd (omega arith)
 full_one (r ∷ []) l m = one_range r.0 r.1 0x2ffff
 full_one (r ∷ s ∷ rs) l m = absurd (omega arith)
 
-pub full_then : (rs : List Range) → 1 ≤ length rs → length rs < 2 → (get_or rs 0 (0, 0)).0 ≡ 0 → nat_eq (get_or rs 0 (0, 0)).1 0x2ffff ≡ regex_eq (set rs) any_character
+pub full_then : (rs : List Range) → 1 ≤ length rs → length rs < 2 → (get_or rs 0 (0, 0)).0 ≡ 0
+    → nat_eq (get_or rs 0 (0, 0)).1 0x2ffff ≡ regex_eq (set rs) any_character
 full_then rs l m h = sym (full_one rs l m ∙ ap (λ b. b && nat_eq (get_or rs 0 (0, 0)).1 0x2ffff) (same_nat _ _ h))
 
-pub full_else : (rs : List Range) → 1 ≤ length rs → length rs < 2 → ((get_or rs 0 (0, 0)).0 ≡ 0 → ⊥) → nat_eq (get_or rs 0 (0, 0)).0 0 ≡ regex_eq (set rs) any_character
+pub full_else : (rs : List Range) → 1 ≤ length rs → length rs < 2 → ((get_or rs 0 (0, 0)).0 ≡ 0 → ⊥)
+    → nat_eq (get_or rs 0 (0, 0)).0 0 ≡ regex_eq (set rs) any_character
 full_else rs l m h = step (nat_eq (get_or rs 0 (0, 0)).0 0) refl
   where
-    step : (b : Bool) → nat_eq (get_or rs 0 (0, 0)).0 0 ≡ b → nat_eq (get_or rs 0 (0, 0)).0 0 ≡ regex_eq (set rs) any_character
+    step : (b : Bool) → nat_eq (get_or rs 0 (0, 0)).0 0 ≡ b
+        → nat_eq (get_or rs 0 (0, 0)).0 0 ≡ regex_eq (set rs) any_character
     step true is = absurd (h (nat_same _ _ is))
     step false is = sym (full_one rs l m ∙ ap (λ b. b && nat_eq (get_or rs 0 (0, 0)).1 0x2ffff) is ∙ sym is)
 
@@ -174,7 +188,8 @@ kind_of rs (node.And ps) = refl
 kind_of rs (node.Not a) = refl
 kind_of rs (node.Star a) = refl
 
-by_kinds : IsByKindThenParts regex_cmp → IsTotalOrder regex_cmp → (r s : Regex) → (kind r ≡ kind s → ⊥) → regex_cmp r s ≡ nat_cmp (kind r) (kind s)
+by_kinds : IsByKindThenParts regex_cmp → IsTotalOrder regex_cmp → (r s : Regex) → (kind r ≡ kind s → ⊥)
+    → regex_cmp r s ≡ nat_cmp (kind r) (kind s)
 by_kinds law total r s other = step (nat_lt (kind r) (kind s)) refl
   where
     step : (b : Bool) → nat_lt (kind r) (kind s) ≡ b → regex_cmp r s ≡ nat_cmp (kind r) (kind s)
@@ -187,14 +202,18 @@ by_kinds law total r s other = step (nat_lt (kind r) (kind s)) refl
         let e : nat_cmp (kind r) (kind s) ≡ Greater = grind (arith, nat_tests) in
         total.antisymm r s ∙ ap (λ o. ordering_reverse o) (law.kinds s r l) ∙ sym e
 
-pub other_kind : IsByKindThenParts regex_cmp → IsTotalOrder regex_cmp → (rs : List Regex) (a b : ℕ) (d e : Node) → node_regex rs d ≡ regex_at rs a → node_regex rs e ≡ regex_at rs b → (node_kind d ≡ node_kind e → ⊥) → regex_cmp (regex_at rs a) (regex_at rs b) ≡ nat_cmp (node_kind d) (node_kind e)
+pub other_kind : IsByKindThenParts regex_cmp → IsTotalOrder regex_cmp → (rs : List Regex) (a b : ℕ) (d e : Node)
+    → node_regex rs d ≡ regex_at rs a → node_regex rs e ≡ regex_at rs b → (node_kind d ≡ node_kind e → ⊥)
+    → regex_cmp (regex_at rs a) (regex_at rs b) ≡ nat_cmp (node_kind d) (node_kind e)
 other_kind law total rs a b d e f g other =
     ap₂ (λ x y. regex_cmp x y) (sym f) (sym g)
     ∙ by_kinds law total (node_regex rs d) (node_regex rs e) (λ h. other (sym (kind_of rs d) ∙ h ∙ kind_of rs e))
     ∙ ap₂ (λ x y. nat_cmp x y) (kind_of rs d) (kind_of rs e)
 
 -- a node that has no parts, with any other
-pub none_first : IsByKindThenParts regex_cmp → IsTotalOrder regex_cmp → (rs : List Regex) (a b : ℕ) (d e : Node) → node_regex rs d ≡ regex_at rs a → node_regex rs e ≡ regex_at rs b → d ≡ node.None → regex_cmp (regex_at rs a) (regex_at rs b) ≡ nat_cmp (node_kind d) (node_kind e)
+pub none_first : IsByKindThenParts regex_cmp → IsTotalOrder regex_cmp → (rs : List Regex) (a b : ℕ) (d e : Node)
+    → node_regex rs d ≡ regex_at rs a → node_regex rs e ≡ regex_at rs b → d ≡ node.None
+    → regex_cmp (regex_at rs a) (regex_at rs b) ≡ nat_cmp (node_kind d) (node_kind e)
 none_first law total rs a b d e f g is = step (nat_eq (node_kind d) (node_kind e)) refl
   where
     same_none : (e : Node) → 0 ≡ node_kind e → node_regex rs e ≡ none
@@ -207,7 +226,8 @@ none_first law total rs a b d e f g is = step (nat_eq (node_kind d) (node_kind e
     same_none (node.Not a) h = absurd (omega arith)
     same_none (node.Star a) h = absurd (omega arith)
 
-    step : (t : Bool) → nat_eq (node_kind d) (node_kind e) ≡ t → regex_cmp (regex_at rs a) (regex_at rs b) ≡ nat_cmp (node_kind d) (node_kind e)
+    step : (t : Bool) → nat_eq (node_kind d) (node_kind e) ≡ t
+        → regex_cmp (regex_at rs a) (regex_at rs b) ≡ nat_cmp (node_kind d) (node_kind e)
     step true h =
         let k = nat_same _ _ h in
         let zero_kind = ap node_kind (sym is) ∙ k in
@@ -217,7 +237,9 @@ none_first law total rs a b d e f g is = step (nat_eq (node_kind d) (node_kind e
         ∙ ap (λ x. nat_cmp x (node_kind e)) (sym k)
     step false h = other_kind law total rs a b d e f g (λ k. false≢true (sym h ∙ same_nat _ _ k))
 
-pub eps_first : IsByKindThenParts regex_cmp → IsTotalOrder regex_cmp → (rs : List Regex) (a b : ℕ) (d e : Node) → node_regex rs d ≡ regex_at rs a → node_regex rs e ≡ regex_at rs b → d ≡ node.Eps → regex_cmp (regex_at rs a) (regex_at rs b) ≡ nat_cmp (node_kind d) (node_kind e)
+pub eps_first : IsByKindThenParts regex_cmp → IsTotalOrder regex_cmp → (rs : List Regex) (a b : ℕ) (d e : Node)
+    → node_regex rs d ≡ regex_at rs a → node_regex rs e ≡ regex_at rs b → d ≡ node.Eps
+    → regex_cmp (regex_at rs a) (regex_at rs b) ≡ nat_cmp (node_kind d) (node_kind e)
 eps_first law total rs a b d e f g is = step (nat_eq (node_kind d) (node_kind e)) refl
   where
     same_eps : (e : Node) → 1 ≡ node_kind e → node_regex rs e ≡ eps
@@ -230,7 +252,8 @@ eps_first law total rs a b d e f g is = step (nat_eq (node_kind d) (node_kind e)
     same_eps (node.Not a) h = absurd (omega arith)
     same_eps (node.Star a) h = absurd (omega arith)
 
-    step : (t : Bool) → nat_eq (node_kind d) (node_kind e) ≡ t → regex_cmp (regex_at rs a) (regex_at rs b) ≡ nat_cmp (node_kind d) (node_kind e)
+    step : (t : Bool) → nat_eq (node_kind d) (node_kind e) ≡ t
+        → regex_cmp (regex_at rs a) (regex_at rs b) ≡ nat_cmp (node_kind d) (node_kind e)
     step true h =
         let k = nat_same _ _ h in
         let one_kind = ap node_kind (sym is) ∙ k in
@@ -250,8 +273,11 @@ not_set (node.And ps) h k = omega arith
 not_set (node.Not a) h k = omega arith
 not_set (node.Star a) h k = omega arith
 
-pub set_first : IsByKindThenParts regex_cmp → IsTotalOrder regex_cmp → (rs : List Regex) (a b : ℕ) (d e : Node) → node_regex rs d ≡ regex_at rs a → node_regex rs e ≡ regex_at rs b → (v : _) → d ≡ node.Set v → ((v : _) → e ≡ node.Set v → ⊥) → regex_cmp (regex_at rs a) (regex_at rs b) ≡ nat_cmp (node_kind d) (node_kind e)
-set_first law total rs a b d e f g x0 is other = other_kind law total rs a b d e f g (λ k. not_set e other (ap node_kind (sym is) ∙ k))
+pub set_first : IsByKindThenParts regex_cmp → IsTotalOrder regex_cmp → (rs : List Regex) (a b : ℕ) (d e : Node)
+    → node_regex rs d ≡ regex_at rs a → node_regex rs e ≡ regex_at rs b → (v : _) → d ≡ node.Set v
+    → ((v : _) → e ≡ node.Set v → ⊥) → regex_cmp (regex_at rs a) (regex_at rs b) ≡ nat_cmp (node_kind d) (node_kind e)
+set_first law total rs a b d e f g x0 is other =
+    other_kind law total rs a b d e f g (λ k. not_set e other (ap node_kind (sym is) ∙ k))
 
 not_cat : (e : Node) → ((p q : _) → e ≡ node.Cat p q → ⊥) → 3 ≡ node_kind e → ⊥
 not_cat node.None h k = omega arith
@@ -263,8 +289,12 @@ not_cat (node.And ps) h k = omega arith
 not_cat (node.Not a) h k = omega arith
 not_cat (node.Star a) h k = omega arith
 
-pub cat_first : IsByKindThenParts regex_cmp → IsTotalOrder regex_cmp → (rs : List Regex) (a b : ℕ) (d e : Node) → node_regex rs d ≡ regex_at rs a → node_regex rs e ≡ regex_at rs b → (p q : _) → d ≡ node.Cat p q → ((p q : _) → e ≡ node.Cat p q → ⊥) → regex_cmp (regex_at rs a) (regex_at rs b) ≡ nat_cmp (node_kind d) (node_kind e)
-cat_first law total rs a b d e f g x0 x1 is other = other_kind law total rs a b d e f g (λ k. not_cat e other (ap node_kind (sym is) ∙ k))
+pub cat_first : IsByKindThenParts regex_cmp → IsTotalOrder regex_cmp → (rs : List Regex) (a b : ℕ) (d e : Node)
+    → node_regex rs d ≡ regex_at rs a → node_regex rs e ≡ regex_at rs b → (p q : _) → d ≡ node.Cat p q
+    → ((p q : _) → e ≡ node.Cat p q → ⊥)
+    → regex_cmp (regex_at rs a) (regex_at rs b) ≡ nat_cmp (node_kind d) (node_kind e)
+cat_first law total rs a b d e f g x0 x1 is other =
+    other_kind law total rs a b d e f g (λ k. not_cat e other (ap node_kind (sym is) ∙ k))
 
 not_alt : (e : Node) → ((ps : _) → e ≡ node.Alt ps → ⊥) → 4 ≡ node_kind e → ⊥
 not_alt node.None h k = omega arith
@@ -276,8 +306,11 @@ not_alt (node.And ps) h k = omega arith
 not_alt (node.Not a) h k = omega arith
 not_alt (node.Star a) h k = omega arith
 
-pub alt_first : IsByKindThenParts regex_cmp → IsTotalOrder regex_cmp → (rs : List Regex) (a b : ℕ) (d e : Node) → node_regex rs d ≡ regex_at rs a → node_regex rs e ≡ regex_at rs b → (ps : _) → d ≡ node.Alt ps → ((ps : _) → e ≡ node.Alt ps → ⊥) → regex_cmp (regex_at rs a) (regex_at rs b) ≡ nat_cmp (node_kind d) (node_kind e)
-alt_first law total rs a b d e f g x0 is other = other_kind law total rs a b d e f g (λ k. not_alt e other (ap node_kind (sym is) ∙ k))
+pub alt_first : IsByKindThenParts regex_cmp → IsTotalOrder regex_cmp → (rs : List Regex) (a b : ℕ) (d e : Node)
+    → node_regex rs d ≡ regex_at rs a → node_regex rs e ≡ regex_at rs b → (ps : _) → d ≡ node.Alt ps
+    → ((ps : _) → e ≡ node.Alt ps → ⊥) → regex_cmp (regex_at rs a) (regex_at rs b) ≡ nat_cmp (node_kind d) (node_kind e)
+alt_first law total rs a b d e f g x0 is other =
+    other_kind law total rs a b d e f g (λ k. not_alt e other (ap node_kind (sym is) ∙ k))
 
 not_and : (e : Node) → ((ps : _) → e ≡ node.And ps → ⊥) → 5 ≡ node_kind e → ⊥
 not_and node.None h k = omega arith
@@ -289,8 +322,11 @@ not_and (node.And ps) h k = h ps refl
 not_and (node.Not a) h k = omega arith
 not_and (node.Star a) h k = omega arith
 
-pub and_first : IsByKindThenParts regex_cmp → IsTotalOrder regex_cmp → (rs : List Regex) (a b : ℕ) (d e : Node) → node_regex rs d ≡ regex_at rs a → node_regex rs e ≡ regex_at rs b → (ps : _) → d ≡ node.And ps → ((ps : _) → e ≡ node.And ps → ⊥) → regex_cmp (regex_at rs a) (regex_at rs b) ≡ nat_cmp (node_kind d) (node_kind e)
-and_first law total rs a b d e f g x0 is other = other_kind law total rs a b d e f g (λ k. not_and e other (ap node_kind (sym is) ∙ k))
+pub and_first : IsByKindThenParts regex_cmp → IsTotalOrder regex_cmp → (rs : List Regex) (a b : ℕ) (d e : Node)
+    → node_regex rs d ≡ regex_at rs a → node_regex rs e ≡ regex_at rs b → (ps : _) → d ≡ node.And ps
+    → ((ps : _) → e ≡ node.And ps → ⊥) → regex_cmp (regex_at rs a) (regex_at rs b) ≡ nat_cmp (node_kind d) (node_kind e)
+and_first law total rs a b d e f g x0 is other =
+    other_kind law total rs a b d e f g (λ k. not_and e other (ap node_kind (sym is) ∙ k))
 
 not_not : (e : Node) → ((p : _) → e ≡ node.Not p → ⊥) → 6 ≡ node_kind e → ⊥
 not_not node.None h k = omega arith
@@ -302,8 +338,11 @@ not_not (node.And ps) h k = omega arith
 not_not (node.Not a) h k = h a refl
 not_not (node.Star a) h k = omega arith
 
-pub not_first : IsByKindThenParts regex_cmp → IsTotalOrder regex_cmp → (rs : List Regex) (a b : ℕ) (d e : Node) → node_regex rs d ≡ regex_at rs a → node_regex rs e ≡ regex_at rs b → (p : _) → d ≡ node.Not p → ((p : _) → e ≡ node.Not p → ⊥) → regex_cmp (regex_at rs a) (regex_at rs b) ≡ nat_cmp (node_kind d) (node_kind e)
-not_first law total rs a b d e f g x0 is other = other_kind law total rs a b d e f g (λ k. not_not e other (ap node_kind (sym is) ∙ k))
+pub not_first : IsByKindThenParts regex_cmp → IsTotalOrder regex_cmp → (rs : List Regex) (a b : ℕ) (d e : Node)
+    → node_regex rs d ≡ regex_at rs a → node_regex rs e ≡ regex_at rs b → (p : _) → d ≡ node.Not p
+    → ((p : _) → e ≡ node.Not p → ⊥) → regex_cmp (regex_at rs a) (regex_at rs b) ≡ nat_cmp (node_kind d) (node_kind e)
+not_first law total rs a b d e f g x0 is other =
+    other_kind law total rs a b d e f g (λ k. not_not e other (ap node_kind (sym is) ∙ k))
 
 not_star : (e : Node) → ((p : _) → e ≡ node.Star p → ⊥) → 7 ≡ node_kind e → ⊥
 not_star node.None h k = omega arith
@@ -315,8 +354,11 @@ not_star (node.And ps) h k = omega arith
 not_star (node.Not a) h k = omega arith
 not_star (node.Star a) h k = h a refl
 
-pub star_first : IsByKindThenParts regex_cmp → IsTotalOrder regex_cmp → (rs : List Regex) (a b : ℕ) (d e : Node) → node_regex rs d ≡ regex_at rs a → node_regex rs e ≡ regex_at rs b → (p : _) → d ≡ node.Star p → ((p : _) → e ≡ node.Star p → ⊥) → regex_cmp (regex_at rs a) (regex_at rs b) ≡ nat_cmp (node_kind d) (node_kind e)
-star_first law total rs a b d e f g x0 is other = other_kind law total rs a b d e f g (λ k. not_star e other (ap node_kind (sym is) ∙ k))
+pub star_first : IsByKindThenParts regex_cmp → IsTotalOrder regex_cmp → (rs : List Regex) (a b : ℕ) (d e : Node)
+    → node_regex rs d ≡ regex_at rs a → node_regex rs e ≡ regex_at rs b → (p : _) → d ≡ node.Star p
+    → ((p : _) → e ≡ node.Star p → ⊥) → regex_cmp (regex_at rs a) (regex_at rs b) ≡ nat_cmp (node_kind d) (node_kind e)
+star_first law total rs a b d e f g x0 is other =
+    other_kind law total rs a b d e f g (λ k. not_star e other (ap node_kind (sym is) ∙ k))
 
 -- Members in order.
 
@@ -326,58 +368,91 @@ unlike_then Equal x h = absurd (h refl)
 unlike_then Greater x h = refl
 
 -- where parts differ, so do their regexes
-pub differ : OrderTellsApart → (rs : List Regex) → AreDistinct rs → (x y : ℕ) → x < length rs → y < length rs → nat_eq x y ≡ false → regex_cmp (regex_at rs x) (regex_at rs y) ≡ Equal → ⊥
-differ tells rs distinct x y l m h e = false≢true (sym h ∙ same_nat x y (distinct x y l m ((tells (regex_at rs x) (regex_at rs y)).0 e)))
+pub differ : OrderTellsApart → (rs : List Regex) → AreDistinct rs → (x y : ℕ) → x < length rs → y < length rs
+    → nat_eq x y ≡ false → regex_cmp (regex_at rs x) (regex_at rs y) ≡ Equal → ⊥
+differ tells rs distinct x y l m h e =
+    false≢true (sym h ∙ same_nat x y (distinct x y l m ((tells (regex_at rs x) (regex_at rs y)).0 e)))
 
 abbrev pub Members : List Regex → ℕ → ℕ → List ℕ → List ℕ → Difference → Type 0
 Members rs a b is js (Decided o) = slice_cmp regex_cmp (regexes_at rs is) (regexes_at rs js) ≡ o
-Members rs a b is js (Parts x y) = (x < a) × (y < b) × (slice_cmp regex_cmp (regexes_at rs is) (regexes_at rs js) ≡ regex_cmp (regex_at rs x) (regex_at rs y))
+Members rs a b is js (Parts x y) =
+    (x < a) × (y < b)
+    × (slice_cmp regex_cmp (regexes_at rs is) (regexes_at rs js) ≡ regex_cmp (regex_at rs x) (regex_at rs y))
 
-pub members_differ : OrderTellsApart → IsTotalOrder regex_cmp → (rs : List Regex) → AreDistinct rs → (a b : ℕ) → a ≤ length rs → b ≤ length rs → (is js : List ℕ) → All (λ i. i < a) is → All (λ i. i < b) js → Members rs a b is js (first_difference is js)
+pub members_differ : OrderTellsApart → IsTotalOrder regex_cmp → (rs : List Regex) → AreDistinct rs → (a b : ℕ)
+    → a ≤ length rs → b ≤ length rs → (is js : List ℕ) → All (λ i. i < a) is → All (λ i. i < b) js
+    → Members rs a b is js (first_difference is js)
 members_differ tells total rs distinct a b l m [] [] p q = refl
 members_differ tells total rs distinct a b l m [] (j ∷ js) p q = refl
 members_differ tells total rs distinct a b l m (i ∷ is) [] p q = refl
 members_differ tells total rs distinct a b l m (i ∷ is) (j ∷ js) p q =
     let x = p 0 0 (omega arith) in
     let y = q 0 0 (omega arith) in
-    step x y (members_differ tells total rs distinct a b l m is js (λ k d h. p (suc k) d (omega (arith, h))) (λ k d h. q (suc k) d (omega (arith, h)))) (nat_eq i j) refl
+    step x y (members_differ tells total rs distinct a b l m is js (λ k d h. p (suc k) d (omega (arith, h)))
+    (λ k d h. q (suc k) d (omega (arith, h)))) (nat_eq i j) refl
   where
     further : (d : Difference) → i ≡ j → Members rs a b is js d → Members rs a b (i ∷ is) (j ∷ js) d
-    further (Decided o) e h = ap (λ t. ordering_then t (slice_cmp regex_cmp (regexes_at rs is) (regexes_at rs js))) (ap (λ x. regex_cmp (regex_at rs i) (regex_at rs x)) (sym e) ∙ tied_itself total (regex_at rs i)) ∙ h
-    further (Parts x y) e h = (h.0, h.1, ap (λ t. ordering_then t (slice_cmp regex_cmp (regexes_at rs is) (regexes_at rs js))) (ap (λ x. regex_cmp (regex_at rs i) (regex_at rs x)) (sym e) ∙ tied_itself total (regex_at rs i)) ∙ h.2)
+    further (Decided o) e h =
+        ap (λ t. ordering_then t (slice_cmp regex_cmp (regexes_at rs is) (regexes_at rs js)))
+        (ap (λ x. regex_cmp (regex_at rs i) (regex_at rs x)) (sym e) ∙ tied_itself total (regex_at rs i)) ∙ h
+    further (Parts x y) e h = (
+      h.0,
+      h.1,
+      ap (λ t. ordering_then t (slice_cmp regex_cmp (regexes_at rs is) (regexes_at rs js)))
+          (ap (λ x. regex_cmp (regex_at rs i) (regex_at rs x)) (sym e) ∙ tied_itself total (regex_at rs i)) ∙ h.2,
+    )
 
-    step : i < a → j < b → Members rs a b is js (first_difference is js) → (t : Bool) → nat_eq i j ≡ t → Members rs a b (i ∷ is) (j ∷ js) (cond t (first_difference is js) (Parts i j))
+    step : i < a → j < b → Members rs a b is js (first_difference is js) → (t : Bool) → nat_eq i j ≡ t
+        → Members rs a b (i ∷ is) (j ∷ js) (cond t (first_difference is js) (Parts i j))
     step x y rest true is-same = further (first_difference is js) (nat_same i j is-same) rest
-    step x y rest false is-other = (x, y, unlike_then _ _ (differ tells rs distinct i j (omega (arith, x, l)) (omega (arith, y, m)) is-other))
+    step x y rest false is-other =
+        (x, y, unlike_then _ _ (differ tells rs distinct i j (omega (arith, x, l)) (omega (arith, y, m)) is-other))
 
-from_members : (rs : List Regex) (a b : ℕ) (is js : List ℕ) (d : Difference) → regex_cmp (regex_at rs a) (regex_at rs b) ≡ slice_cmp regex_cmp (regexes_at rs is) (regexes_at rs js) → Members rs a b is js d → IsDifference rs a b d
+from_members : (rs : List Regex) (a b : ℕ) (is js : List ℕ) (d : Difference)
+    → regex_cmp (regex_at rs a) (regex_at rs b) ≡ slice_cmp regex_cmp (regexes_at rs is) (regexes_at rs js)
+    → Members rs a b is js d → IsDifference rs a b d
 from_members rs a b is js (Decided o) e h = e ∙ h
 from_members rs a b is js (Parts x y) e h = (h.0, h.1, e ∙ h.2)
 
-pub unions_differ : IsByKindThenParts regex_cmp → OrderTellsApart → IsTotalOrder regex_cmp → (rs : List Regex) → AreDistinct rs → (a b : ℕ) → a < length rs → b < length rs → (is js : List ℕ) → All (λ i. i < a) is → All (λ i. i < b) js → alt (regexes (regexes_at rs is)) ≡ regex_at rs a → alt (regexes (regexes_at rs js)) ≡ regex_at rs b → (d : Difference) → d ≡ first_difference is js → IsDifference rs a b d
+pub unions_differ : IsByKindThenParts regex_cmp → OrderTellsApart → IsTotalOrder regex_cmp → (rs : List Regex)
+    → AreDistinct rs → (a b : ℕ) → a < length rs → b < length rs → (is js : List ℕ) → All (λ i. i < a) is
+    → All (λ i. i < b) js → alt (regexes (regexes_at rs is)) ≡ regex_at rs a
+    → alt (regexes (regexes_at rs js)) ≡ regex_at rs b → (d : Difference) → d ≡ first_difference is js
+    → IsDifference rs a b d
 unions_differ law tells total rs distinct a b l m is js p q f g d same-d =
     rw same-d
     (from_members rs a b is js (first_difference is js)
-    (ap₂ (λ x y. regex_cmp x y) (sym f) (sym g) ∙ law.unions _ _ ∙ ap₂ (λ x y. slice_cmp regex_cmp x y) (parts-regexes (regexes_at rs is)) (parts-regexes (regexes_at rs js)))
+    (ap₂ (λ x y. regex_cmp x y) (sym f) (sym g) ∙ law.unions _ _
+    ∙ ap₂ (λ x y. slice_cmp regex_cmp x y) (parts-regexes (regexes_at rs is)) (parts-regexes (regexes_at rs js)))
     (members_differ tells total rs distinct a b (omega (arith, l)) (omega (arith, m)) is js p q))
 
-pub intersections_differ : IsByKindThenParts regex_cmp → OrderTellsApart → IsTotalOrder regex_cmp → (rs : List Regex) → AreDistinct rs → (a b : ℕ) → a < length rs → b < length rs → (is js : List ℕ) → All (λ i. i < a) is → All (λ i. i < b) js → and (regexes (regexes_at rs is)) ≡ regex_at rs a → and (regexes (regexes_at rs js)) ≡ regex_at rs b → (d : Difference) → d ≡ first_difference is js → IsDifference rs a b d
+pub intersections_differ : IsByKindThenParts regex_cmp → OrderTellsApart → IsTotalOrder regex_cmp → (rs : List Regex)
+    → AreDistinct rs → (a b : ℕ) → a < length rs → b < length rs → (is js : List ℕ) → All (λ i. i < a) is
+    → All (λ i. i < b) js → and (regexes (regexes_at rs is)) ≡ regex_at rs a
+    → and (regexes (regexes_at rs js)) ≡ regex_at rs b → (d : Difference) → d ≡ first_difference is js
+    → IsDifference rs a b d
 intersections_differ law tells total rs distinct a b l m is js p q f g d same-d =
     rw same-d
     (from_members rs a b is js (first_difference is js)
-    (ap₂ (λ x y. regex_cmp x y) (sym f) (sym g) ∙ law.intersections _ _ ∙ ap₂ (λ x y. slice_cmp regex_cmp x y) (parts-regexes (regexes_at rs is)) (parts-regexes (regexes_at rs js)))
+    (ap₂ (λ x y. regex_cmp x y) (sym f) (sym g) ∙ law.intersections _ _
+    ∙ ap₂ (λ x y. slice_cmp regex_cmp x y) (parts-regexes (regexes_at rs is)) (parts-regexes (regexes_at rs js)))
     (members_differ tells total rs distinct a b (omega (arith, l)) (omega (arith, m)) is js p q))
 
 -- Concatenations.
 
-pub rests_differ : IsByKindThenParts regex_cmp → IsTotalOrder regex_cmp → (rs : List Regex) (a b p q r s : ℕ) → cat (regex_at rs p) (regex_at rs q) ≡ regex_at rs a → cat (regex_at rs r) (regex_at rs s) ≡ regex_at rs b → nat_eq p r ≡ true → regex_cmp (regex_at rs a) (regex_at rs b) ≡ regex_cmp (regex_at rs q) (regex_at rs s)
+pub rests_differ : IsByKindThenParts regex_cmp → IsTotalOrder regex_cmp → (rs : List Regex) (a b p q r s : ℕ)
+    → cat (regex_at rs p) (regex_at rs q) ≡ regex_at rs a → cat (regex_at rs r) (regex_at rs s) ≡ regex_at rs b
+    → nat_eq p r ≡ true → regex_cmp (regex_at rs a) (regex_at rs b) ≡ regex_cmp (regex_at rs q) (regex_at rs s)
 rests_differ law total rs a b p q r s f g h =
     ap₂ (λ x y. regex_cmp x y) (sym f) (sym g)
     ∙ law.concatenations _ _ _ _
     ∙ ap (λ o. ordering_then o (regex_cmp (regex_at rs q) (regex_at rs s)))
     (ap (λ i. regex_cmp (regex_at rs p) (regex_at rs i)) (sym (nat_same p r h)) ∙ tied_itself total (regex_at rs p))
 
-pub heads_differ : IsByKindThenParts regex_cmp → OrderTellsApart → (rs : List Regex) → AreDistinct rs → (a b p q r s : ℕ) → cat (regex_at rs p) (regex_at rs q) ≡ regex_at rs a → cat (regex_at rs r) (regex_at rs s) ≡ regex_at rs b → p < length rs → r < length rs → nat_eq p r ≡ false → regex_cmp (regex_at rs a) (regex_at rs b) ≡ regex_cmp (regex_at rs p) (regex_at rs r)
+pub heads_differ : IsByKindThenParts regex_cmp → OrderTellsApart → (rs : List Regex) → AreDistinct rs
+    → (a b p q r s : ℕ) → cat (regex_at rs p) (regex_at rs q) ≡ regex_at rs a
+    → cat (regex_at rs r) (regex_at rs s) ≡ regex_at rs b → p < length rs → r < length rs → nat_eq p r ≡ false
+    → regex_cmp (regex_at rs a) (regex_at rs b) ≡ regex_cmp (regex_at rs p) (regex_at rs r)
 heads_differ law tells rs distinct a b p q r s f g l m h =
     ap₂ (λ x y. regex_cmp x y) (sym f) (sym g)
     ∙ law.concatenations _ _ _ _
@@ -385,23 +460,29 @@ heads_differ law tells rs distinct a b p q r s f g l m h =
 
 -- The loop over parts that differ.
 
-pub equal_numbers : OrderTellsApart → (rs : List Regex) → AreDistinct rs → (a b : ℕ) → a < length rs → b < length rs → (o : Ordering) → o ≡ regex_cmp (regex_at rs a) (regex_at rs b) → (o ≡ Equal → a ≡ b) × (a ≡ b → o ≡ Equal)
+pub equal_numbers : OrderTellsApart → (rs : List Regex) → AreDistinct rs → (a b : ℕ) → a < length rs → b < length rs
+    → (o : Ordering) → o ≡ regex_cmp (regex_at rs a) (regex_at rs b) → (o ≡ Equal → a ≡ b) × (a ≡ b → o ≡ Equal)
 equal_numbers tells rs distinct a b l m o e = (
   λ h. distinct a b l m ((tells (regex_at rs a) (regex_at rs b)).0 (sym e ∙ h)),
   λ h. e ∙ (tells (regex_at rs a) (regex_at rs b)).1 (ap (regex_at rs) h),
 )
 
-pub alike_at : OrderTellsApart → (rs : List Regex) (x y : ℕ) (t : Bool) (whole : Ordering) → t ≡ not (nat_eq x y) → t ≡ false → regex_cmp (regex_at rs x) (regex_at rs y) ≡ whole → Equal ≡ whole
-alike_at tells rs x y t whole is found inv = sym ((tells (regex_at rs x) (regex_at rs y)).1 (ap (regex_at rs) (nat_same x y (alike (nat_eq x y) (sym is ∙ found))))) ∙ inv
+pub alike_at : OrderTellsApart → (rs : List Regex) (x y : ℕ) (t : Bool) (whole : Ordering) → t ≡ not (nat_eq x y)
+    → t ≡ false → regex_cmp (regex_at rs x) (regex_at rs y) ≡ whole → Equal ≡ whole
+alike_at tells rs x y t whole is found inv =
+    sym ((tells (regex_at rs x) (regex_at rs y)).1
+    (ap (regex_at rs) (nat_same x y (alike (nat_eq x y) (sym is ∙ found))))) ∙ inv
   where
     alike : (t : Bool) → not t ≡ false → t ≡ true
     alike true h = refl
     alike false h = absurd (false≢true (sym h))
 
-pub decided : (rs : List Regex) (a b : ℕ) (d : Difference) (o : Ordering) (whole : Ordering) → IsDifference rs a b d → d ≡ Decided o → regex_cmp (regex_at rs a) (regex_at rs b) ≡ whole → o ≡ whole
+pub decided : (rs : List Regex) (a b : ℕ) (d : Difference) (o : Ordering) (whole : Ordering) → IsDifference rs a b d
+    → d ≡ Decided o → regex_cmp (regex_at rs a) (regex_at rs b) ≡ whole → o ≡ whole
 decided rs a b d o whole h e inv = let g = rw e at h in sym g ∙ inv
 
-pub parts_of : (rs : List Regex) (a b : ℕ) (d : Difference) (x y : ℕ) → IsDifference rs a b d → d ≡ Parts x y → (x < a) × (y < b) × (regex_cmp (regex_at rs a) (regex_at rs b) ≡ regex_cmp (regex_at rs x) (regex_at rs y))
+pub parts_of : (rs : List Regex) (a b : ℕ) (d : Difference) (x y : ℕ) → IsDifference rs a b d → d ≡ Parts x y
+    → (x < a) × (y < b) × (regex_cmp (regex_at rs a) (regex_at rs b) ≡ regex_cmp (regex_at rs x) (regex_at rs y))
 parts_of rs a b d x y h e = rw e at h
 
 -- Numbers past the end.

@@ -13,23 +13,29 @@ use Rattle.sb_regex.specs.declared.node.Node.TheVariants as node
 use Rattle.sb_regex.specs.Numbered.{regex_at, regexes_at, AllNumbers}
 use Rattle.sb_regex.specs.Nodes.{node_regex, PartsBelow}
 use Rattle.sb_regex.specs.Steps.{without_sets, in_some}
-use Rattle.sb_regex.proofs.NodeEq.{parts-regexes}
 use Rattle.sb_regex.proofs.Rests.{rest_at, rest_nil}
+use Rattle.sb_lang.proofs.CallerLemmas.{parts-regexes}
 
 -- F gathers f of each regex in turn
-module _ {A : Type 0} (F : List Regex → List A) (f : Regex → List A) (more : (r : Regex) (rs : List Regex) → F (r ∷ rs) ≡ f r ++ F rs) (nothing : F [] ≡ []) where
-  pub gather_next : (rs : List Regex) (ids : List ℕ) (i x : ℕ) (out after whole : List A) → i < length ids → x ≡ get_or ids i x → after ≡ out ++ f (regex_at rs x) → out ++ F (regexes_at rs (drop i ids)) ≡ whole → after ++ F (regexes_at rs (drop (i + 1) ids)) ≡ whole
+module _ {A : Type 0} (F : List Regex → List A) (f : Regex → List A) (more : (r : Regex) (rs : List Regex)
+    → F (r ∷ rs) ≡ f r ++ F rs) (nothing : F [] ≡ []) where
+  pub gather_next : (rs : List Regex) (ids : List ℕ) (i x : ℕ) (out after whole : List A) → i < length ids
+      → x ≡ get_or ids i x → after ≡ out ++ f (regex_at rs x) → out ++ F (regexes_at rs (drop i ids)) ≡ whole
+      → after ++ F (regexes_at rs (drop (i + 1) ids)) ≡ whole
   gather_next rs ids i x out after whole l is e inv =
       ap (λ xs. xs ++ F (regexes_at rs (drop (i + 1) ids))) e
       ∙ append_assoc out (f (regex_at rs x)) (F (regexes_at rs (drop (i + 1) ids)))
-      ∙ ap (λ xs. out ++ xs) (sym (more (regex_at rs x) (regexes_at rs (drop (i + 1) ids))) ∙ sym (ap F (rest_at rs ids i x l is)))
+      ∙ ap (λ xs. out ++ xs) (sym (more (regex_at rs x) (regexes_at rs (drop (i + 1) ids)))
+      ∙ sym (ap F (rest_at rs ids i x l is)))
       ∙ inv
 
-  pub gather_end : (rs : List Regex) (ids : List ℕ) (i : ℕ) (out whole : List A) → length ids ≤ i → out ++ F (regexes_at rs (drop i ids)) ≡ whole → out ≡ whole
+  pub gather_end : (rs : List Regex) (ids : List ℕ) (i : ℕ) (out whole : List A) → length ids ≤ i
+      → out ++ F (regexes_at rs (drop i ids)) ≡ whole → out ≡ whole
   gather_end rs ids i out whole l inv =
       sym (append-nil out) ∙ ap (λ xs. out ++ xs) (sym (ap F (rest_nil rs ids i l) ∙ nothing)) ∙ inv
 
-pub flat_more : {A : Type 0} (f : Regex → List A) (r : Regex) (rs : List Regex) → flat_map f (r ∷ rs) ≡ f r ++ flat_map f rs
+pub flat_more : {A : Type 0} (f : Regex → List A) (r : Regex) (rs : List Regex)
+    → flat_map f (r ∷ rs) ≡ f r ++ flat_map f rs
 flat_more f r rs = refl
 
 -- a regex that is no set
@@ -46,27 +52,30 @@ others_more r rs = step (not (is_set r))
 
 -- The numbers that are gathered.
 
-pub ats-append : (rs : List Regex) (is js ks : List ℕ) → ks ≡ is ++ js → regexes_at rs ks ≡ regexes_at rs is ++ regexes_at rs js
+pub ats-append : (rs : List Regex) (is js ks : List ℕ) → ks ≡ is ++ js
+    → regexes_at rs ks ≡ regexes_at rs is ++ regexes_at rs js
 ats-append rs is js ks e = ap (regexes_at rs) e ∙ map-append (regex_at rs) is js
 
-pub numbers-append : (rs : List Regex) (is js ks : List ℕ) → ks ≡ is ++ js → AllNumbers rs is → AllNumbers rs js → AllNumbers rs ks
+pub numbers-append : (rs : List Regex) (is js ks : List ℕ) → ks ≡ is ++ js → AllNumbers rs is → AllNumbers rs js
+    → AllNumbers rs ks
 numbers-append rs is js ks e p q = rw e (All-append (λ i. i < length rs) is js p q)
 
-pub one_number : (rs : List Regex) (i : ℕ) → i < length rs → AllNumbers rs (i ∷ [])
-one_number rs i l k d h = let z : k ≡ 0 = omega arith in rw z l
-
-pub parts_numbers : (rs : List Regex) (i : ℕ) (d : Node) → PartsBelow i d → i < length rs → (is : List ℕ) → All (λ j. j < i) is → AllNumbers rs is
+pub parts_numbers : (rs : List Regex) (i : ℕ) (d : Node) → PartsBelow i d → i < length rs → (is : List ℕ)
+    → All (λ j. j < i) is → AllNumbers rs is
 parts_numbers rs i d p l is h k e m = omega (arith, h k e m, l)
 
-pub alternatives_alt : (rs : List Regex) (ps : List ℕ) (r : Regex) → alt (regexes (regexes_at rs ps)) ≡ r → regexes_at rs ps ≡ alternatives r
+pub alternatives_alt : (rs : List Regex) (ps : List ℕ) (r : Regex) → alt (regexes (regexes_at rs ps)) ≡ r
+    → regexes_at rs ps ≡ alternatives r
 unfolding alternatives
 alternatives_alt rs ps r e = sym (parts-regexes (regexes_at rs ps)) ∙ ap alternatives e
 
-pub conjuncts_and : (rs : List Regex) (ps : List ℕ) (r : Regex) → and (regexes (regexes_at rs ps)) ≡ r → regexes_at rs ps ≡ conjuncts r
+pub conjuncts_and : (rs : List Regex) (ps : List ℕ) (r : Regex) → and (regexes (regexes_at rs ps)) ≡ r
+    → regexes_at rs ps ≡ conjuncts r
 unfolding conjuncts
 conjuncts_and rs ps r e = sym (parts-regexes (regexes_at rs ps)) ∙ ap conjuncts e
 
-pub alternatives_other : (rs : List Regex) (d : Node) (r : Regex) → node_regex rs d ≡ r → ((ps : _) → d ≡ node.Alt ps → ⊥) → r ∷ [] ≡ alternatives r
+pub alternatives_other : (rs : List Regex) (d : Node) (r : Regex) → node_regex rs d ≡ r
+    → ((ps : _) → d ≡ node.Alt ps → ⊥) → r ∷ [] ≡ alternatives r
 unfolding alternatives
 alternatives_other rs d r e other = ap (λ x. x ∷ []) (sym e) ∙ step d other ∙ ap alternatives e
   where
@@ -80,7 +89,8 @@ alternatives_other rs d r e other = ap (λ x. x ∷ []) (sym e) ∙ step d other
     step (node.Not a) h = refl
     step (node.Star a) h = refl
 
-pub conjuncts_other : (rs : List Regex) (d : Node) (r : Regex) → node_regex rs d ≡ r → ((ps : _) → d ≡ node.And ps → ⊥) → r ∷ [] ≡ conjuncts r
+pub conjuncts_other : (rs : List Regex) (d : Node) (r : Regex) → node_regex rs d ≡ r → ((ps : _) → d ≡ node.And ps → ⊥)
+    → r ∷ [] ≡ conjuncts r
 unfolding conjuncts
 conjuncts_other rs d r e other = ap (λ x. x ∷ []) (sym e) ∙ step d other ∙ ap conjuncts e
   where
@@ -98,7 +108,8 @@ pub ranges_set : (rs : List Range) (r : Regex) → set rs ≡ r → rs ∷ [] �
 unfolding ranges_of
 ranges_set rs r e = ap ranges_of e
 
-pub ranges_other : (rs : List Regex) (d : Node) (r : Regex) → node_regex rs d ≡ r → ((v : _) → d ≡ node.Set v → ⊥) → [] ≡ ranges_of r
+pub ranges_other : (rs : List Regex) (d : Node) (r : Regex) → node_regex rs d ≡ r → ((v : _) → d ≡ node.Set v → ⊥)
+    → [] ≡ ranges_of r
 unfolding ranges_of
 ranges_other rs d r e other = step d other ∙ ap ranges_of e
   where
@@ -116,7 +127,8 @@ pub alone_set : (rs : List Range) (r : Regex) → set rs ≡ r → [] ≡ kept_a
 unfolding kept_alone is_set
 alone_set rs r e = ap kept_alone e
 
-pub alone_other : (rs : List Regex) (d : Node) (r : Regex) → node_regex rs d ≡ r → ((v : _) → d ≡ node.Set v → ⊥) → r ∷ [] ≡ kept_alone r
+pub alone_other : (rs : List Regex) (d : Node) (r : Regex) → node_regex rs d ≡ r → ((v : _) → d ≡ node.Set v → ⊥)
+    → r ∷ [] ≡ kept_alone r
 unfolding kept_alone is_set
 alone_other rs d r e other = ap (λ x. x ∷ []) (sym e) ∙ step d other ∙ ap kept_alone e
   where
@@ -137,7 +149,8 @@ normal_is_canonical rs r e n =
     (and_parts _ _ whole).0
 
 -- no number is in the empty set, and in none of no sets
-pub united_none : (class : List Range) (sets whole : List (List Range)) → class ≡ [] → length sets ≡ 0 → ((c : ℕ) → in_some sets c ≡ in_some whole c) → (c : ℕ) → in_ranges class c ≡ in_some whole c
+pub united_none : (class : List Range) (sets whole : List (List Range)) → class ≡ [] → length sets ≡ 0
+    → ((c : ℕ) → in_some sets c ≡ in_some whole c) → (c : ℕ) → in_ranges class c ≡ in_some whole c
 unfolding in_ranges
 united_none class sets whole e l inv c =
     ap (λ s. in_ranges s c) e ∙ sym (ap (λ xs. in_some xs c) (nil_from_length sets l)) ∙ inv c

@@ -1,4 +1,4 @@
-pub mod Numbers
+pub mod CallerLemmas
 pub mod NodeEq
 pub mod TableFacts
 pub mod Rests

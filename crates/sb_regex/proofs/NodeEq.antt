@@ -4,13 +4,14 @@ use Rattle.std.specs.Cmp.Lexicographic.{pointwise, same_text}
 use Rattle.std.proofs.lemmas.Bool.{and_parts, false≢true}
 use Rattle.std.proofs.lemmas.Bool.Decides.{nat_tests}
 use Rattle.sb_class.specs.Ranges.{Range}
-use Rattle.sb_lang.specs.Regex.{Regex, Regexes, set, cat, alt, and, neg, star, regexes, parts}
+use Rattle.sb_lang.specs.Regex.{Regex, set, cat, alt, and, neg, star, regexes, parts}
 use Rattle.sb_lang.specs.OrderLaws.{kind}
 use Rattle.sb_regex.specs.declared.node.Node.{Node}
 use Rattle.sb_regex.specs.declared.node.Node.TheVariants as node
 use Rattle.sb_regex.specs.contracts.node.NodePartialEq.TheImpl as derived
 use Rattle.sb_regex.specs.Numbered.{regex_at, regexes_at, AllNumbers, AreDistinct}
 use Rattle.sb_regex.specs.Nodes.{node_regex, PartsBelow}
+use Rattle.sb_lang.proofs.CallerLemmas.{parts-regexes, alt_parts, and_parts_of}
 
 abbrev pub same : Node → Node → Bool
 same = derived.ghosts.eq
@@ -43,15 +44,11 @@ pub itself_numbers : (is : List ℕ) → pointwise nat_eq is is ≡ true
 itself_numbers [] = refl
 itself_numbers (i ∷ is) = ap₂ ◌&&◌ (same_nat i i refl) (itself_numbers is)
 
-pub parts-regexes : (rs : List Regex) → parts (regexes rs) ≡ rs
-unfolding parts regexes
-parts-regexes [] = refl
-parts-regexes (r ∷ rs) = ap (λ xs. r ∷ xs) (parts-regexes rs)
-
 pub same_regexes : (rs ss : List Regex) → regexes rs ≡ regexes ss → rs ≡ ss
 same_regexes rs ss h = sym (parts-regexes rs) ∙ ap parts h ∙ parts-regexes ss
 
-pub same_numbers : (rs : List Regex) (is js : List ℕ) → AreDistinct rs → AllNumbers rs is → AllNumbers rs js → regexes_at rs is ≡ regexes_at rs js → is ≡ js
+pub same_numbers : (rs : List Regex) (is js : List ℕ) → AreDistinct rs → AllNumbers rs is → AllNumbers rs js
+    → regexes_at rs is ≡ regexes_at rs js → is ≡ js
 same_numbers rs [] [] d p q h = refl
 same_numbers rs [] (j ∷ js) d p q h = absurd (nil_not _ _ h)
   where
@@ -79,8 +76,10 @@ same_gives rs (node.Set a) (node.Set b) h = ap (λ x. set x) (ranges_same a.item
 same_gives rs (node.Cat a b) (node.Cat c d) h =
     let p = and_parts (nat_eq a c) _ h in
     ap₂ (λ x y. cat (regex_at rs x) (regex_at rs y)) (nat_same a c p.0) (nat_same b d p.1)
-same_gives rs (node.Alt a) (node.Alt b) h = ap (λ is. alt (regexes (regexes_at rs is))) (same_text a.items b.items (sym h))
-same_gives rs (node.And a) (node.And b) h = ap (λ is. and (regexes (regexes_at rs is))) (same_text a.items b.items (sym h))
+same_gives rs (node.Alt a) (node.Alt b) h =
+    ap (λ is. alt (regexes (regexes_at rs is))) (same_text a.items b.items (sym h))
+same_gives rs (node.And a) (node.And b) h =
+    ap (λ is. and (regexes (regexes_at rs is))) (same_text a.items b.items (sym h))
 same_gives rs (node.Not a) (node.Not b) h = ap (λ i. neg (regex_at rs i)) (nat_same a b h)
 same_gives rs (node.Star a) (node.Star b) h = ap (λ i. star (regex_at rs i)) (nat_same a b h)
 same_gives rs _ _ h = absurd (false≢true h)
@@ -96,12 +95,6 @@ set_parts a b e = cc
 cat_parts : (a b c d : Regex) → cat a b ≡ cat c d → (a ≡ c) × (b ≡ d)
 cat_parts a b c d e = (cc, cc)
 
-alt_parts : (a b : Regexes) → alt a ≡ alt b → a ≡ b
-alt_parts a b e = cc
-
-and_parts_of : (a b : Regexes) → and a ≡ and b → a ≡ b
-and_parts_of a b e = cc
-
 neg_part : (a b : Regex) → neg a ≡ neg b → a ≡ b
 neg_part a b e = cc
 
@@ -110,20 +103,26 @@ star_part a b e = cc
 
 -- The test finds nodes of one regex.
 
-pub gives_same : (rs : List Regex) (d e : Node) → AreDistinct rs → PartsBelow (length rs) d → PartsBelow (length rs) e → node_regex rs d ≡ node_regex rs e → same d e ≡ true
+pub gives_same : (rs : List Regex) (d e : Node) → AreDistinct rs → PartsBelow (length rs) d → PartsBelow (length rs) e
+    → node_regex rs d ≡ node_regex rs e → same d e ≡ true
 unfolding kind
 gives_same rs node.None node.None t p q h = refl
 gives_same rs node.Eps node.Eps t p q h = refl
-gives_same rs (node.Set a) (node.Set b) t p q h = ap (λ xs. pointwise range_same a.items xs) (sym (set_parts _ _ h)) ∙ itself_ranges a.items
+gives_same rs (node.Set a) (node.Set b) t p q h = ap (λ xs. pointwise range_same a.items xs) (sym (set_parts _ _ h))
+    ∙ itself_ranges a.items
 gives_same rs (node.Cat a b) (node.Cat c d) t p q h =
     let e = cat_parts _ _ _ _ h in
     ap₂ ◌&&◌
     (same_nat a c (t a c (p 0 0 (omega arith)) (q 0 0 (omega arith)) e.0))
     (same_nat b d (t b d (p 1 0 (omega arith)) (q 1 0 (omega arith)) e.1))
 gives_same rs (node.Alt a) (node.Alt b) t p q h =
-    ap (λ xs. pointwise nat_eq a.items xs) (sym (same_numbers rs a.items b.items t p q (same_regexes _ _ (alt_parts _ _ h)))) ∙ itself_numbers a.items
+    ap (λ xs. pointwise nat_eq a.items xs)
+    (sym (same_numbers rs a.items b.items t p q (same_regexes _ _ (alt_parts _ _ h)))) ∙ itself_numbers a.items
 gives_same rs (node.And a) (node.And b) t p q h =
-    ap (λ xs. pointwise nat_eq a.items xs) (sym (same_numbers rs a.items b.items t p q (same_regexes _ _ (and_parts_of _ _ h)))) ∙ itself_numbers a.items
-gives_same rs (node.Not a) (node.Not b) t p q h = same_nat a b (t a b (p 0 0 (omega arith)) (q 0 0 (omega arith)) (neg_part _ _ h))
-gives_same rs (node.Star a) (node.Star b) t p q h = same_nat a b (t a b (p 0 0 (omega arith)) (q 0 0 (omega arith)) (star_part _ _ h))
+    ap (λ xs. pointwise nat_eq a.items xs)
+    (sym (same_numbers rs a.items b.items t p q (same_regexes _ _ (and_parts_of _ _ h)))) ∙ itself_numbers a.items
+gives_same rs (node.Not a) (node.Not b) t p q h =
+    same_nat a b (t a b (p 0 0 (omega arith)) (q 0 0 (omega arith)) (neg_part _ _ h))
+gives_same rs (node.Star a) (node.Star b) t p q h =
+    same_nat a b (t a b (p 0 0 (omega arith)) (q 0 0 (omega arith)) (star_part _ _ h))
 gives_same rs d e t p q h = absurd (other_kinds _ _ refl h)

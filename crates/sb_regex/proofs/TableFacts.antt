@@ -13,27 +13,32 @@ use Rattle.sb_regex.specs.declared.node.Node.{Node}
 use Rattle.sb_regex.specs.declared.node.Node.TheVariants as node
 use Rattle.sb_regex.specs.Numbered.{regex_at, Names, Extends}
 use Rattle.sb_regex.specs.Nodes.{node_regex, PartsBelow}
-use Rattle.sb_regex.specs.Table.{regexes_onto, regexes_of, IsTable}
-use Rattle.sb_regex.proofs.Numbers.{at_kept, ats_kept, names_at, names_from, names_kept}
+use Rattle.sb_regex.specs.Table.{regexes_onto, regexes_of}
+use Rattle.sb_regex.specs.Interning.{IsTable}
+use Rattle.sb_regex.proofs.CallerLemmas.{at_kept, ats_kept, names_at, names_from, names_kept}
 use Rattle.sb_regex.proofs.NodeEq.{same, gives_same}
 
-pub onto-push : (rs : List Regex) (ds : List Node) (d : Node) → regexes_onto rs (ds ++ d ∷ []) ≡ regexes_onto rs ds ++ node_regex (regexes_onto rs ds) d ∷ []
+pub onto-push : (rs : List Regex) (ds : List Node) (d : Node)
+    → regexes_onto rs (ds ++ d ∷ []) ≡ regexes_onto rs ds ++ node_regex (regexes_onto rs ds) d ∷ []
 unfolding regexes_onto
 onto-push rs [] d = refl
 onto-push rs (x ∷ xs) d = onto-push (rs ++ node_regex rs x ∷ []) xs d
 
-pub node_kept : (old new : List Regex) (d : Node) → Extends old new → PartsBelow (length old) d → node_regex new d ≡ node_regex old d
+pub node_kept : (old new : List Regex) (d : Node) → Extends old new → PartsBelow (length old) d
+    → node_regex new d ≡ node_regex old d
 node_kept old new node.None e h = refl
 node_kept old new node.Eps e h = refl
 node_kept old new (node.Set ranges) e h = refl
-node_kept old new (node.Cat a b) e h = ap₂ (λ x y. cat x y) (at_kept old new a e (h 0 0 (omega arith))) (at_kept old new b e (h 1 0 (omega arith)))
+node_kept old new (node.Cat a b) e h =
+    ap₂ (λ x y. cat x y) (at_kept old new a e (h 0 0 (omega arith))) (at_kept old new b e (h 1 0 (omega arith)))
 node_kept old new (node.Alt ps) e h = ap (λ rs. alt (regexes rs)) (ats_kept old new ps.items e h)
 node_kept old new (node.And ps) e h = ap (λ rs. and (regexes rs)) (ats_kept old new ps.items e h)
 node_kept old new (node.Not a) e h = ap (λ r. neg r) (at_kept old new a e (h 0 0 (omega arith)))
 node_kept old new (node.Star a) e h = ap (λ r. star r) (at_kept old new a e (h 0 0 (omega arith)))
 
 -- where the one more element is
-pub get_push : {X : Type 0} (xs : List X) (y x : X) (i : ℕ) → slice_get (xs ++ y ∷ []) i ≡ Some x → (slice_get xs i ≡ Some x) ⊎ ((i ≡ length xs) × (x ≡ y))
+pub get_push : {X : Type 0} (xs : List X) (y x : X) (i : ℕ) → slice_get (xs ++ y ∷ []) i ≡ Some x
+    → (slice_get xs i ≡ Some x) ⊎ ((i ≡ length xs) × (x ≡ y))
 get_push xs y x i h = step (nat_lt i (length xs)) refl
   where
     within : i < length (xs ++ y ∷ [])
@@ -42,29 +47,37 @@ get_push xs y x i h = step (nat_lt i (length xs)) refl
     step : (b : Bool) → nat_lt i (length xs) ≡ b → (slice_get xs i ≡ Some x) ⊎ ((i ≡ length xs) × (x ≡ y))
     step true is =
         let l : i < length xs = grind (arith, nat_tests) in
-        inl (slice_get-get_or xs i x l ∙ ap Some (sym (get_or_append_left xs (y ∷ []) x i l) ∙ get_or_from_slice_get (xs ++ y ∷ []) i x x h))
+        inl (slice_get-get_or xs i x l
+        ∙ ap Some (sym (get_or_append_left xs (y ∷ []) x i l) ∙ get_or_from_slice_get (xs ++ y ∷ []) i x x h))
     step false is =
         let e : i ≡ length xs = grind (arith, nat_tests, within, length-append xs (y ∷ [])) in
         inr (e, sym (get_or_from_slice_get (xs ++ y ∷ []) i x x h) ∙ get_or_push xs y x i (sym e))
 
 pub names_push : (rs : List Regex) (r : Regex) (i : ℕ) → i ≡ length rs → Names (rs ++ r ∷ []) i r
-names_push rs r i e = names_from (rs ++ r ∷ []) i r (omega (arith, length-append rs (r ∷ []))) (get_or_push rs r none i (sym e))
+names_push rs r i e =
+    names_from (rs ++ r ∷ []) i r (omega (arith, length-append rs (r ∷ []))) (get_or_push rs r none i (sym e))
 
 -- a new regex is none of the table's
-new_one : (rs : List Regex) (ds : List Node) (empty : List Bool) (d : Node) → IsTable rs ds empty → PartsBelow (length rs) d → list_any (same d) ds ≡ false → (i : ℕ) → i < length rs → node_regex rs d ≡ regex_at rs i → ⊥
+new_one : (rs : List Regex) (ds : List Node) (empty : List Bool) (d : Node) → IsTable rs ds empty
+    → PartsBelow (length rs) d → list_any (same d) ds ≡ false → (i : ℕ) → i < length rs
+    → node_regex rs d ≡ regex_at rs i → ⊥
 new_one rs ds empty d t p fresh i l e =
     let here : i < length ds = omega (arith, l, t.long) in
     let x = get_or ds i d in
     let g : slice_get ds i ≡ Some x = slice_get-get_or ds i d here in
     let below : PartsBelow (length rs) x = λ k z h. omega (arith, t.parts i x g k z h) in
-    let found : same d x ≡ true = gives_same rs d x t.distinct p below (e ∙ names_at rs i (node_regex rs x) (t.nodes i x g)) in
+    let found : same d x ≡ true =
+    gives_same rs d x t.distinct p below (e ∙ names_at rs i (node_regex rs x) (t.nodes i x g)) in
     false≢true (sym fresh ∙ list_any-from_Any (same d) ds (i, x, here, get_or_default ds i x d here, found))
 
-pub table_more : (rs : List Regex) (ds : List Node) (empty : List Bool) (d : Node) (b : Bool) → IsTable rs ds empty → PartsBelow (length rs) d → is_normal (node_regex rs d) ≡ true → b ≡ nullable (node_regex rs d) → list_any (same d) ds ≡ false → IsTable (rs ++ node_regex rs d ∷ []) (ds ++ d ∷ []) (empty ++ b ∷ [])
+pub table_more : (rs : List Regex) (ds : List Node) (empty : List Bool) (d : Node) (b : Bool) → IsTable rs ds empty
+    → PartsBelow (length rs) d → is_normal (node_regex rs d) ≡ true → b ≡ nullable (node_regex rs d)
+    → list_any (same d) ds ≡ false → IsTable (rs ++ node_regex rs d ∷ []) (ds ++ d ∷ []) (empty ++ b ∷ [])
 table_more rs ds empty d b t p norm flag fresh = record {
   nodes = λ i x g. elim (get_push ds d x i g) as (λ _. Names new i (node_regex new x)) [
     | inl s ↦
-        let below : PartsBelow (length rs) x = λ k z h. omega (arith, t.parts i x s k z h, slice_get_within ds i x s, t.long) in
+        let below : PartsBelow (length rs) x =
+        λ k z h. omega (arith, t.parts i x s k z h, slice_get_within ds i x s, t.long) in
         names_kept rs new i (node_regex new x) ext (t.nodes i x s ∙ ap Some (sym (node_kept rs new x ext below)))
     | inr s ↦
         names_push rs (node_regex rs d) i (s.0 ∙ sym t.long)
@@ -96,12 +109,16 @@ table_more rs ds empty d b t p norm flag fresh = record {
         step true is = inl (grind (arith, nat_tests))
         step false is = inr (grind (arith, nat_tests, length-append rs (node_regex rs d ∷ [])))
 
-    apart : (i j : ℕ) → (i < length rs) ⊎ (i ≡ length rs) → (j < length rs) ⊎ (j ≡ length rs) → regex_at new i ≡ regex_at new j → i ≡ j
+    apart : (i j : ℕ) → (i < length rs) ⊎ (i ≡ length rs) → (j < length rs) ⊎ (j ≡ length rs)
+        → regex_at new i ≡ regex_at new j → i ≡ j
     apart i j (inl l) (inl m) e = t.distinct i j l m (sym (at_kept rs new i ext l) ∙ e ∙ at_kept rs new j ext m)
     apart i j (inl l) (inr m) e =
-        absurd (new_one rs ds empty d t p fresh i l (sym (names_at new j (node_regex rs d) (names_push rs (node_regex rs d) j m)) ∙ sym e ∙ at_kept rs new i ext l))
+        absurd (new_one rs ds empty d t p fresh i l
+        (sym (names_at new j (node_regex rs d) (names_push rs (node_regex rs d) j m)) ∙ sym e
+        ∙ at_kept rs new i ext l))
     apart i j (inr l) (inl m) e =
-        absurd (new_one rs ds empty d t p fresh j m (sym (names_at new i (node_regex rs d) (names_push rs (node_regex rs d) i l)) ∙ e ∙ at_kept rs new j ext m))
+        absurd (new_one rs ds empty d t p fresh j m
+        (sym (names_at new i (node_regex rs d) (names_push rs (node_regex rs d) i l)) ∙ e ∙ at_kept rs new j ext m))
     apart i j (inr l) (inr m) e = l ∙ sym m
 
 pub table_none : IsTable (regexes_of []) [] []

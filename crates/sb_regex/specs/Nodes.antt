@@ -29,14 +29,3 @@ node_parts (node.Star a) = a ∷ []
 -- each part has a smaller number than this
 abbrev pub PartsBelow : ℕ → Node → Type 0
 PartsBelow n d = All (λ i. i < n) (node_parts d)
-
--- the kind's place in the order
-abbrev pub node_kind : Node → ℕ
-node_kind node.None = 0
-node_kind node.Eps = 1
-node_kind (node.Set ranges) = 2
-node_kind (node.Cat a b) = 3
-node_kind (node.Alt ps) = 4
-node_kind (node.And ps) = 5
-node_kind (node.Not a) = 6
-node_kind (node.Star a) = 7

@@ -1,4 +1,4 @@
--- A concatenation of many.
+-- Private: a concatenation of many.
 use Rattle.std.specs.Prelude.{Bool, true, false, List, [], ◌∷◌}
 use Rattle.sb_lang.specs.Regex.{Regex, none, eps, cat}
 

@@ -1,4 +1,4 @@
--- One step of a comparison, and the members that are left of a list.
+-- Private: one step of a comparison, and the members that are left of a list.
 use Rattle.std.specs.Prelude.{◌≡◌, ◌<◌, ℕ, Bool, not, if◌then◌else◌, cond, nat_eq, List, [], ◌∷◌, filter}
 use Rattle.std.specs.List.{list_any, list_all}
 use Rattle.std.specs.declared.cmp.Ordering.TheVariants.{Less, Equal, Greater}
@@ -21,11 +21,13 @@ without_sets rs = filter (λ r. not (is_set r)) rs
 
 -- a union of members of which none is a union, and one at most a set
 abbrev pub union_of_members : List Regex → Regex
-union_of_members members = if list_any is_anything members then anything else alt_of (sorted (filter (λ r. not (is_none r)) members))
+union_of_members members = if list_any is_anything members then anything
+    else alt_of (sorted (filter (λ r. not (is_none r)) members))
 
 -- the dual
 abbrev pub intersection_of_members : List Regex → Regex
-intersection_of_members members = if list_any is_none members then none else and_of (sorted (filter (λ r. not (is_anything r)) members))
+intersection_of_members members = if list_any is_none members then none
+    else and_of (sorted (filter (λ r. not (is_anything r)) members))
 
 -- where two lists of numbers first differ, or the order of their lengths
 abbrev pub first_difference : List ℕ → List ℕ → Difference

@@ -24,13 +24,14 @@ impl Model for Arena {
     ghost use Rattle.std.specs.Prelude.{List};
     ghost use Rattle.std.specs.Coded.{coded_list};
     ghost use Rattle.sb_lang.specs.Regex.{Regex};
-    ghost use Rattle.sb_lang.proofs.Coded.{coded_regex};
+    ghost use Rattle.sb_lang.proofs.CallerLemmas.{coded_regex};
 
     ghost Value = { List Regex };
 
     ghost coded = { coded_list coded_regex };
 
-    ghost use Rattle.sb_regex.specs.Table.{regexes_of, IsTable};
+    ghost use Rattle.sb_regex.specs.Table.{regexes_of};
+    ghost use Rattle.sb_regex.specs.Interning.{IsTable};
 
     ghost view = { λ arena. regexes_of arena.nodes.keys };
 

@@ -104,7 +104,9 @@ impl Arena {
     /// The members of a concatenation, from left to right.
     fn spine(&self, a: RegexId) -> Result<Spine, AllocError>
         requires { a < length self.now }
-        ensures value { IfOk result (λ spine. chain (regexes_at self.now spine.heads.items) (regex_at self.now spine.last) ≡ regex_at self.now a) }
+        ensures value { IfOk result
+            (λ spine. chain (regexes_at self.now spine.heads.items) (regex_at self.now spine.last)
+            ≡ regex_at self.now a) }
         ensures heads { IfOk result (λ spine. AllNumbers self.now spine.heads.items) }
         ensures last { IfOk result (λ spine. spine.last < length self.now) }
         ensures ends { IfOk result (λ spine. is_cat (regex_at self.now spine.last) ≡ false) }
@@ -123,7 +125,8 @@ impl Arena {
         requires heads { AllNumbers self.old heads.now }
         requires last { last < length self.old }
         requires normal { IsNormal (chain (regexes_at self.old heads.now) (regex_at self.old last)) }
-        ensures ok { IfOk result (λ id. Names self.new id (chain (regexes_at self.old heads.now) (regex_at self.old last))) }
+        ensures ok { IfOk result
+            (λ id. Names self.new id (chain (regexes_at self.old heads.now) (regex_at self.old last))) }
         ensures extends { Extends self.old self.new }
     {
         let mut whole = last;

@@ -50,7 +50,8 @@ impl Arena {
     /// The members with all sets as one, by union.
     fn join_sets(&mut self, members: &[RegexId]) -> Result<Vec<RegexId>, AllocError>
         requires { AllNumbers self.old members.now }
-        ensures value { IfOk result (λ all. regexes_at self.new all.items ≡ join_sets (regexes_at self.old members.now)) }
+        ensures value { IfOk result
+            (λ all. regexes_at self.new all.items ≡ join_sets (regexes_at self.old members.now)) }
         ensures numbers { IfOk result (λ all. AllNumbers self.new all.items) }
         ensures extends { Extends self.old self.new }
     {
@@ -68,7 +69,8 @@ impl Arena {
     /// The members with all sets as one, by intersection.
     fn meet_sets(&mut self, members: &[RegexId]) -> Result<Vec<RegexId>, AllocError>
         requires { AllNumbers self.old members.now }
-        ensures value { IfOk result (λ all. regexes_at self.new all.items ≡ meet_sets (regexes_at self.old members.now)) }
+        ensures value { IfOk result
+            (λ all. regexes_at self.new all.items ≡ meet_sets (regexes_at self.old members.now)) }
         ensures numbers { IfOk result (λ all. AllNumbers self.new all.items) }
         ensures extends { Extends self.old self.new }
     {
@@ -80,7 +82,8 @@ impl Arena {
     /// The intersection of the sets among the members, if there is a set.
     fn meet_of(&mut self, members: &[RegexId]) -> Result<Vec<RegexId>, AllocError>
         requires { AllNumbers self.old members.now }
-        ensures value { IfOk result (λ all. regexes_at self.new all.items ≡ meet_of (flat_map ranges_of (regexes_at self.old members.now))) }
+        ensures value { IfOk result
+            (λ all. regexes_at self.new all.items ≡ meet_of (flat_map ranges_of (regexes_at self.old members.now))) }
         ensures numbers { IfOk result (λ all. AllNumbers self.new all.items) }
         ensures extends { Extends self.old self.new }
     {
@@ -119,7 +122,8 @@ impl Arena {
     fn meet_members(&mut self, members: Vec<RegexId>) -> Result<RegexId, AllocError>
         requires numbers { AllNumbers self.old members.items }
         requires normal { IsNormal (intersection_of_members (regexes_at self.old members.items)) }
-        ensures ok { IfOk result (λ id. Names self.new id (intersection_of_members (regexes_at self.old members.items))) }
+        ensures ok { IfOk result
+            (λ id. Names self.new id (intersection_of_members (regexes_at self.old members.items))) }
         ensures extends { Extends self.old self.new }
     {
         let none = self.none()?;

@@ -8,7 +8,7 @@ ghost use Rattle.sb_lang.specs.Constructors.{is_none};
 ghost use Rattle.sb_lang.specs.Order.{regex_cmp};
 ghost use Rattle.sb_lang.specs.OrderLaws.{ends};
 ghost use Rattle.sb_regex.specs.Numbered.{regex_at};
-ghost use Rattle.sb_regex.specs.Nodes.{node_kind};
+ghost use Rattle.sb_regex.specs.Interning.{node_kind};
 ghost use Rattle.sb_regex.specs.declared.compare.Difference.TheVariants.{Decided};
 ghost use Rattle.sb_regex.specs.Steps.{first_difference, IsDifference};
 

@@ -12,8 +12,6 @@ mod combine;
 mod compare;
 mod members;
 mod node;
-#[cfg(test)]
-mod tests;
 
 pub use arena::Arena;
 pub use node::{Node, RegexId};

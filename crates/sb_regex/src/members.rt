@@ -19,7 +19,8 @@ impl Arena {
     /// The members of a union of these. Linear in their number.
     pub(crate) fn alternatives(&self, ids: &[RegexId]) -> Result<Vec<RegexId>, AllocError>
         requires { AllNumbers self.now ids.now }
-        ensures value { IfOk result (λ members. regexes_at self.now members.items ≡ flat_map alternatives (regexes_at self.now ids.now)) }
+        ensures value { IfOk result
+            (λ members. regexes_at self.now members.items ≡ flat_map alternatives (regexes_at self.now ids.now)) }
         ensures numbers { IfOk result (λ members. AllNumbers self.now members.items) }
     {
         let mut members = Vec::new(self.allocator());
@@ -35,7 +36,8 @@ impl Arena {
     /// The members of an intersection of these. Linear in their number.
     pub(crate) fn conjuncts(&self, ids: &[RegexId]) -> Result<Vec<RegexId>, AllocError>
         requires { AllNumbers self.now ids.now }
-        ensures value { IfOk result (λ members. regexes_at self.now members.items ≡ flat_map conjuncts (regexes_at self.now ids.now)) }
+        ensures value { IfOk result
+            (λ members. regexes_at self.now members.items ≡ flat_map conjuncts (regexes_at self.now ids.now)) }
         ensures numbers { IfOk result (λ members. AllNumbers self.now members.items) }
     {
         let mut members = Vec::new(self.allocator());
@@ -71,7 +73,9 @@ impl Arena {
         all: &mut Vec<RegexId>,
     ) -> Result<(), AllocError>
         requires { AllNumbers self.now members.now }
-        ensures value { OnOk result (regexes_at self.now all.new.items ≡ regexes_at self.now all.old.items ++ without_sets (regexes_at self.now members.now)) }
+        ensures value { OnOk result
+            (regexes_at self.now all.new.items ≡ regexes_at self.now all.old.items
+            ++ without_sets (regexes_at self.now members.now)) }
         ensures numbers { OnOk result (AllNumbers self.now all.old.items → AllNumbers self.now all.new.items) }
     {
         for id in members {
@@ -86,7 +90,8 @@ impl Arena {
     /// The numbers in the order of their regexes, each once: n log n comparisons.
     pub(crate) fn in_order(&self, mut ids: Vec<RegexId>) -> Result<Vec<RegexId>, AllocError>
         requires { AllNumbers self.now ids.items }
-        ensures value { IfOk result (λ rising. regexes_at self.now rising.items ≡ sorted (regexes_at self.now ids.items)) }
+        ensures value { IfOk result
+            (λ rising. regexes_at self.now rising.items ≡ sorted (regexes_at self.now ids.items)) }
         ensures numbers { IfOk result (λ rising. AllNumbers self.now rising.items) }
     {
         self.normal_regexes_each_once();
@@ -134,7 +139,9 @@ pub(crate) fn unite(mut classes: VecDeque<Class>) -> Result<Class, AllocError>
 
 /// The intersection of the sets, in rounds of pairs.
 pub(crate) fn meet(mut classes: VecDeque<Class>) -> Result<Option<Class>, AllocError>
-    ensures { IfOk result (λ found. MatchOption found (classes.items ≡ []) (λ class. (0 < length classes.items) × ((c : ℕ) → in_ranges class c ≡ in_all classes.items c))) }
+    ensures { IfOk result
+        (λ found. MatchOption found (classes.items ≡ []) (λ class. (0 < length classes.items)
+        × ((c : ℕ) → in_ranges class c ≡ in_all classes.items c))) }
 {
     while let Some(left) = classes.pop_front() {
         match classes.pop_front() {

@@ -58,7 +58,7 @@ pub enum Node {
 }
 
 impl Node {
-    ghost use Rattle.sb_regex.specs.Nodes.{node_kind};
+    ghost use Rattle.sb_regex.specs.Interning.{node_kind};
 
     /// The kind's place in the order of regexes.
     pub(crate) fn kind(&self) -> u8

@@ -17,3 +17,5 @@ mod pieces;
 mod regexes;
 #[cfg(test)]
 mod runs;
+#[cfg(test)]
+mod sessions;

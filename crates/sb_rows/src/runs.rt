@@ -9,32 +9,32 @@ use std::process::Abort;
 
 /// A script of a range, one or more of it, with its model.
 pub const SCRIPT: &[u8] =
-    b"(set-option :print-success false)(set-logic QF_SLIA)(set-option :produce-models true)(declare-const x String)(assert (str.in_re x (re.+ (re.range \"a\" \"b\"))))(check-sat)(get-value (x))(get-model)";
+    b"(set-option :print-success false)(set-logic QF_SLIA)(set-option :produce-models true)(declare-const x String)\
+      (assert (str.in_re x (re.+ (re.range \"a\" \"b\"))))(check-sat)(get-value (x))(get-model)";
 
 pub const ANSWERS: &[u8] = b"sat\n((x \"a\"))\n((define-fun x () String \"a\"))\n";
 
 /// A script and its answers.
 pub type Case = (&'static [u8], &'static [u8]);
 
-/// The words of a call, the program's name and so many more.
-pub fn words(alloc: Global, more: usize) -> Result<Vec<String>, AllocError> {
+/// So many words, each of them the program's name.
+pub fn words(alloc: Global, count: usize) -> Result<Vec<String>, AllocError> {
     let mut words = Vec::new(alloc);
-    for _ in 0..=more {
+    for _ in 0..count {
         words.push(String::from_str(alloc, "strsolve")?)?;
     }
     Ok(words)
 }
 
-/// A world whose standard input holds the script.
-pub fn world_of(alloc: Global, script: &[u8]) -> Result<MemWorld, AllocError> {
-    let mut world = MemWorld::new(alloc);
+/// Solves the script with so many words.
+pub fn solve(
+    alloc: Global,
+    world: &mut MemWorld,
+    script: &[u8],
+    count: usize,
+) -> Result<SolveStatus, AllocError> {
     world.set_standard_input(script)?;
-    Ok(world)
-}
-
-/// Solves with the program's name as the one word.
-pub fn solve(alloc: Global, world: &mut MemWorld) -> Result<SolveStatus, AllocError> {
-    let words = words(alloc, 0)?;
+    let words = words(alloc, count)?;
     Ok(solve_top(alloc, &words, world))
 }
 
@@ -49,9 +49,20 @@ pub fn expect_run(
 ) -> Result<(), AllocError>
     requires { 0 < length }
 {
-    let mut world = world_of(alloc, script)?;
+    let mut world = MemWorld::new(alloc);
     world.read_at_most(length);
-    let status = solve(alloc, &mut world)?;
+    expect_answers(&mut world, rt, alloc, script, answers, wanted)
+}
+
+fn expect_answers(
+    world: &mut MemWorld,
+    rt: &impl Abort,
+    alloc: Global,
+    script: &[u8],
+    answers: &[u8],
+    wanted: SolveStatus,
+) -> Result<(), AllocError> {
+    let status = solve(alloc, world, script, 1)?;
     assert_eq!(rt; status, wanted);
     assert_eq!(rt; world.written(OutPort::Answers), answers);
     assert_eq!(rt; world.faults(), 0);
@@ -66,8 +77,8 @@ pub fn expect_all(rt: &impl Abort, alloc: Global, cases: &[Case]) -> Result<(), 
     Ok(())
 }
 
-/// Solves the script, read so many bytes at a time, where the call of this number fails, and expects that
-/// these answers are written by then and nothing is called any more.
+/// Solves `SCRIPT`, read so many bytes at a time, where the call of this number fails, and expects that these answers
+/// are written by then and nothing is called any more.
 pub fn expect_fault(
     rt: &impl Abort,
     alloc: Global,
@@ -77,10 +88,20 @@ pub fn expect_fault(
 ) -> Result<(), AllocError>
     requires { 0 < length }
 {
-    let mut world = world_of(alloc, SCRIPT)?;
+    let mut world = MemWorld::new(alloc);
     world.read_at_most(length);
+    expect_front(&mut world, rt, alloc, call, answers)
+}
+
+fn expect_front(
+    world: &mut MemWorld,
+    rt: &impl Abort,
+    alloc: Global,
+    call: u64,
+    answers: &[u8],
+) -> Result<(), AllocError> {
     world.fail_at(call)?;
-    let status = solve(alloc, &mut world)?;
+    let status = solve(alloc, world, SCRIPT, 1)?;
     assert_eq!(rt; status, SolveStatus::Fault);
     assert_eq!(rt; world.written(OutPort::Answers), answers);
     assert_eq!(rt; world.calls(), call);

@@ -1,11 +1,12 @@
 -- Digits: what is written of a number is read as the number, and no separator stands in it.
-use Rattle.std.proofs.Common.{◌≡◌, ℕ, zero, suc, ◌+◌, ◌-◌, ◌*◌, ◌/◌, ◌%◌, ◌^◌, ◌<◌, ◌≤◌, ◌⊎◌, Bool, true, false, cond, not, ◌==◌, ltb, nat_eq, nat_lt, nat_le, List, [], ◌∷◌, ◌++◌, map, Option, Some, None, option_and_then, decimal, refl, sym, ap, ◌∙◌, arith}
+use Rattle.std.proofs.Common.{◌≡◌, ℕ, zero, suc, ◌+◌, ◌-◌, ◌*◌, ◌/◌, ◌%◌, ◌^◌, ◌<◌, ◌⊎◌, Bool, true, false, cond, not, ◌==◌, ltb, nat_eq, nat_lt, nat_le, List, [], ◌∷◌, ◌++◌, map, Option, Some, None, option_and_then, decimal, refl, sym, ap, ◌∙◌, arith}
 use Rattle.std.specs.List.{list_all, join_with_byte, onto_first}
 use Rattle.std.specs.Fmt.{digits, digits_onto, digit_glyph}
 use Rattle.std.proofs.lemmas.Bool.{and_parts, and_from, eqb-true, le-leb, lt-ltb, false≢true}
 use Rattle.std.proofs.lemmas.Bool.Decides.{nat_tests}
 use Rattle.std.proofs.Math.Nat.{pow-suc, pow-zero}
-use Rattle.sb_word.specs.Literals.{hex_value, hex_number_from}
+use Rattle.sb_word.specs.Literals.{hex_number_from}
+use Rattle.sb_word.proofs.CallerLemmas.{hex_number-glyph}
 use Rattle.sb_rulebook.specs.Lines.{Field, hexadecimal}
 use Rattle.sb_rulebook.specs.Reading.{is_text, split_at, decimal_from, if_spelled, number, hexadecimal_number}
 
@@ -17,22 +18,32 @@ record ReadsDigits (base : ℕ) (read : ℕ → Field → Option ℕ) : Type 0 w
   fewer : (k n : ℕ) → n < base ^ suc k → n / base < base ^ k
 
 -- the digits of a number of at most k digits are read as the number, and what stands behind them goes on
-digits_read : (base : ℕ) (read : ℕ → Field → Option ℕ) → ReadsDigits base read → (k n : ℕ) (bs : Field) → n < base ^ k → read 0 (digits_onto k base false n bs) ≡ read n bs
+digits_read : (base : ℕ) (read : ℕ → Field → Option ℕ) → ReadsDigits base read → (k n : ℕ) (bs : Field) → n < base ^ k
+    → read 0 (digits_onto k base false n bs) ≡ read n bs
 digits_read base read law zero n bs h = let e : 0 ≡ n = omega (arith, pow-zero base, h) in ap (λ m. read m bs) e
-digits_read base read law (suc k) n bs h = step (digits_read base read law k (n / base) (digit_glyph false (n % base) ∷ bs) (law.fewer k n h)) (n / base == 0) refl
+digits_read base read law (suc k) n bs h =
+    step (digits_read base read law k (n / base) (digit_glyph false (n % base) ∷ bs) (law.fewer k n h)) (n / base == 0)
+    refl
   where
-    step : read 0 (digits_onto k base false (n / base) (digit_glyph false (n % base) ∷ bs)) ≡ read (n / base) (digit_glyph false (n % base) ∷ bs) →
-        (t : Bool) → (n / base == 0) ≡ t → read 0 (cond t (digit_glyph false (n % base) ∷ bs) (digits_onto k base false (n / base) (digit_glyph false (n % base) ∷ bs))) ≡ read n bs
-    step rest true is = law.goes_on 0 (n % base) n bs (law.small n) (ap (λ q. base * q + n % base) (sym (eqb-true (n / base) 0 is)) ∙ law.whole n)
+    step : read 0 (digits_onto k base false (n / base) (digit_glyph false (n % base) ∷ bs))
+        ≡ read (n / base) (digit_glyph false (n % base) ∷ bs) →
+        (t : Bool) → (n / base == 0) ≡ t
+        → read 0 (cond t (digit_glyph false (n % base) ∷ bs)
+        (digits_onto k base false (n / base) (digit_glyph false (n % base) ∷ bs))) ≡ read n bs
+    step rest true is = law.goes_on 0 (n % base) n bs (law.small n)
+        (ap (λ q. base * q + n % base) (sym (eqb-true (n / base) 0 is)) ∙ law.whole n)
     step rest false is = rest ∙ law.goes_on (n / base) (n % base) n bs (law.small n) (law.whole n)
 
 glyph-decimal : (d : ℕ) → d < 10 → digit_glyph false d ≡ 48 + d
 glyph-decimal d h = ap (λ t. cond t (48 + d) (87 + d)) (lt-ltb d 10 h)
 
-decimal_goes_on : (n d m : ℕ) (bs : Field) → d < 10 → 10 * n + d ≡ m → decimal_from n (digit_glyph false d ∷ bs) ≡ decimal_from m bs
+decimal_goes_on : (n d m : ℕ) (bs : Field) → d < 10 → 10 * n + d ≡ m
+    → decimal_from n (digit_glyph false d ∷ bs) ≡ decimal_from m bs
 decimal_goes_on n d m bs h e =
     ap (λ b. decimal_from n (b ∷ bs)) (glyph-decimal d h)
-    ∙ ap (λ t. cond t (decimal_from (10 * n + (48 + d - 48)) bs) None) (and_from (nat_le 48 (48 + d)) (nat_le (48 + d) 57) (le-leb 48 (48 + d) (omega arith)) (le-leb (48 + d) 57 (omega (arith, h))))
+    ∙ ap (λ t. cond t (decimal_from (10 * n + (48 + d - 48)) bs) None)
+    (and_from (nat_le 48 (48 + d)) (nat_le (48 + d) 57) (le-leb 48 (48 + d) (omega arith))
+    (le-leb (48 + d) 57 (omega (arith, h))))
     ∙ ap (λ v. decimal_from v bs) (omega (arith, e))
 
 decimal_digits : ReadsDigits 10 decimal_from
@@ -43,29 +54,9 @@ decimal_digits = record {
   fewer = λ k n h. omega (arith, pow-suc 10 k, h);
 }
 
-hex_value-decimal : (d : ℕ) → d < 10 → hex_value (48 + d) ≡ Some d
-unfolding hex_value
-hex_value-decimal d h = grind (arith, nat_tests)
-
-hex_value-letter : (d : ℕ) → 10 ≤ d → d < 16 → hex_value (87 + d) ≡ Some d
-unfolding hex_value
-hex_value-letter d l h = grind (arith, nat_tests)
-
-hex_value-glyph : (d : ℕ) → d < 16 → hex_value (digit_glyph false d) ≡ Some d
-hex_value-glyph d h = by (ltb d 10) refl
-  where
-    by : (t : Bool) → ltb d 10 ≡ t → hex_value (cond t (48 + d) (87 + d)) ≡ Some d
-    by true e = hex_value-decimal d (grind (arith, nat_tests))
-    by false e = hex_value-letter d (grind (arith, nat_tests)) h
-
-hexadecimal_goes_on : (n d m : ℕ) (bs : Field) → d < 16 → 16 * n + d ≡ m → hex_number_from n (digit_glyph false d ∷ bs) ≡ hex_number_from m bs
-unfolding hex_number_from
-hexadecimal_goes_on n d m bs h e =
-    ap (λ o. elim o as (λ _. Option ℕ) [ None ↦ None | Some v ↦ hex_number_from (16 * n + v) bs ]) (hex_value-glyph d h) ∙ ap (λ v. hex_number_from v bs) e
-
 hexadecimal_digits : ReadsDigits 16 hex_number_from
 hexadecimal_digits = record {
-  goes_on = hexadecimal_goes_on;
+  goes_on = hex_number-glyph;
   whole = λ n. omega arith;
   small = λ n. omega arith;
   fewer = λ k n h. omega (arith, pow-suc 16 k, h);
@@ -76,7 +67,9 @@ text-same [] = refl
 text-same (b ∷ bs) = and_from (nat_eq b b) (is_text bs bs) (grind (arith, nat_tests)) (text-same bs)
 
 spelled-itself : (spell : ℕ → Field) (n : ℕ) → nat_lt n (2 ^ 64) ≡ true → if_spelled spell (spell n) n ≡ Some n
-spelled-itself spell n small = ap (λ t. cond t (Some n) None) (and_from (nat_lt n (2 ^ 64)) (is_text (spell n) (spell n)) small (text-same (spell n)))
+spelled-itself spell n small =
+    ap (λ t. cond t (Some n) None)
+    (and_from (nat_lt n (2 ^ 64)) (is_text (spell n) (spell n)) small (text-same (spell n)))
 
 below : (n : ℕ) → nat_lt n (2 ^ 64) ≡ true → n < 2 ^ 64
 below n h = grind (arith, nat_tests)
@@ -85,14 +78,16 @@ pub number-read : (n : ℕ) → nat_lt n (2 ^ 64) ≡ true → number (decimal n
 unfolding digits
 number-read n small =
     let less : n < 2 ^ 64 = below n small in
-    ap (option_and_then (if_spelled decimal (decimal n))) (digits_read 10 decimal_from decimal_digits 64 n [] (omega (arith, less)))
+    ap (option_and_then (if_spelled decimal (decimal n)))
+    (digits_read 10 decimal_from decimal_digits 64 n [] (omega (arith, less)))
     ∙ spelled-itself decimal n small
 
 pub hexadecimal-read : (n : ℕ) → nat_lt n (2 ^ 64) ≡ true → hexadecimal_number (hexadecimal n) ≡ Some n
 unfolding digits hex_number_from
 hexadecimal-read n small =
     let less : n < 2 ^ 64 = below n small in
-    ap (option_and_then (if_spelled hexadecimal (hexadecimal n))) (digits_read 16 hex_number_from hexadecimal_digits 64 n [] (omega (arith, less)))
+    ap (option_and_then (if_spelled hexadecimal (hexadecimal n)))
+    (digits_read 16 hex_number_from hexadecimal_digits 64 n [] (omega (arith, less)))
     ∙ spelled-itself hexadecimal n small
 
 -- Separators.
@@ -107,7 +102,8 @@ free-append c (b ∷ bs) g first second =
     let parts = and_parts (not (b == c)) (is_free c bs) first in
     and_from (not (b == c)) (is_free c (bs ++ g)) parts.0 (free-append c bs g parts.1 second)
 
-free-digits : (c base k n : ℕ) (bs : Field) → ((m : ℕ) → not (digit_glyph false (m % base) == c) ≡ true) → is_free c bs ≡ true → is_free c (digits_onto k base false n bs) ≡ true
+free-digits : (c base k n : ℕ) (bs : Field) → ((m : ℕ) → not (digit_glyph false (m % base) == c) ≡ true)
+    → is_free c bs ≡ true → is_free c (digits_onto k base false n bs) ≡ true
 free-digits c base zero n bs each rest = rest
 free-digits c base (suc k) n bs each rest =
     step (free-digits c base k (n / base) (digit_glyph false (n % base) ∷ bs) each more) (n / base == 0)
@@ -116,7 +112,8 @@ free-digits c base (suc k) n bs each rest =
     more = and_from (not (digit_glyph false (n % base) == c)) (is_free c bs) (each n) rest
 
     step : is_free c (digits_onto k base false (n / base) (digit_glyph false (n % base) ∷ bs)) ≡ true → (t : Bool) →
-        is_free c (cond t (digit_glyph false (n % base) ∷ bs) (digits_onto k base false (n / base) (digit_glyph false (n % base) ∷ bs))) ≡ true
+        is_free c (cond t (digit_glyph false (n % base) ∷ bs)
+        (digits_onto k base false (n / base) (digit_glyph false (n % base) ∷ bs))) ≡ true
     step others true = more
     step others false = others
 
@@ -151,7 +148,8 @@ split-free : (c : ℕ) (f : Field) → is_free c f ≡ true → split_at c f ≡
 split-free c [] free = refl
 split-free c (b ∷ bs) free = step (b == c) (and_parts (not (b == c)) (is_free c bs) free) (λ rest. split-free c bs rest)
   where
-    step : (t : Bool) → (not t ≡ true) × (is_free c bs ≡ true) → (is_free c bs ≡ true → split_at c bs ≡ bs ∷ []) → cond t ([] ∷ split_at c bs) (onto_first b (split_at c bs)) ≡ (b ∷ bs) ∷ []
+    step : (t : Bool) → (not t ≡ true) × (is_free c bs ≡ true) → (is_free c bs ≡ true → split_at c bs ≡ bs ∷ [])
+        → cond t ([] ∷ split_at c bs) (onto_first b (split_at c bs)) ≡ (b ∷ bs) ∷ []
     step true both rest = absurd (false≢true both.0)
     step false both rest = ap (onto_first b) (rest both.1)
 
@@ -161,19 +159,24 @@ split-front c [] g free = step (c == c) (grind (arith, nat_tests))
     step : (t : Bool) → t ≡ true → cond t ([] ∷ split_at c g) (onto_first c (split_at c g)) ≡ [] ∷ split_at c g
     step true is = refl
     step false is = absurd (false≢true is)
-split-front c (b ∷ bs) g free = step (b == c) (and_parts (not (b == c)) (is_free c bs) free) (λ rest. split-front c bs g rest)
+split-front c (b ∷ bs) g free =
+    step (b == c) (and_parts (not (b == c)) (is_free c bs) free) (λ rest. split-front c bs g rest)
   where
-    step : (t : Bool) → (not t ≡ true) × (is_free c bs ≡ true) → (is_free c bs ≡ true → split_at c (bs ++ c ∷ g) ≡ bs ∷ split_at c g) →
+    step : (t : Bool) → (not t ≡ true) × (is_free c bs ≡ true)
+        → (is_free c bs ≡ true → split_at c (bs ++ c ∷ g) ≡ bs ∷ split_at c g) →
         cond t ([] ∷ split_at c (bs ++ c ∷ g)) (onto_first b (split_at c (bs ++ c ∷ g))) ≡ (b ∷ bs) ∷ split_at c g
     step true both rest = absurd (false≢true both.0)
     step false both rest = ap (onto_first b) (rest both.1)
 
-pub split-joined : (c : ℕ) (f : Field) (fs : List Field) → list_all (is_free c) (f ∷ fs) ≡ true → split_at c (join_with_byte c (f ∷ fs)) ≡ f ∷ fs
+pub split-joined : (c : ℕ) (f : Field) (fs : List Field) → list_all (is_free c) (f ∷ fs) ≡ true
+    → split_at c (join_with_byte c (f ∷ fs)) ≡ f ∷ fs
 split-joined c f [] free = split-free c f (and_parts (is_free c f) true free).0
 split-joined c f (g ∷ gs) free =
     let parts = and_parts (is_free c f) (list_all (is_free c) (g ∷ gs)) free in
     split-front c f (join_with_byte c (g ∷ gs)) parts.0 ∙ ap (λ us. f ∷ us) (split-joined c g gs parts.1)
 
-pub all-free : {A : Type 0} (c : ℕ) (spell : A → Field) → ((x : A) → is_free c (spell x) ≡ true) → (xs : List A) → list_all (is_free c) (map spell xs) ≡ true
+pub all-free : {A : Type 0} (c : ℕ) (spell : A → Field) → ((x : A) → is_free c (spell x) ≡ true) → (xs : List A)
+    → list_all (is_free c) (map spell xs) ≡ true
 all-free c spell free [] = refl
-all-free c spell free (x ∷ xs) = and_from (is_free c (spell x)) (list_all (is_free c) (map spell xs)) (free x) (all-free c spell free xs)
+all-free c spell free (x ∷ xs) =
+    and_from (is_free c (spell x)) (list_all (is_free c) (map spell xs)) (free x) (all-free c spell free xs)

@@ -2,8 +2,8 @@
 use Rattle.std.proofs.Common.{◌≡◌, ℕ, suc, ◌<◌, ◌⊎◌, ℤ, pos, negsuc, Bool, true, false, cond, not, ◌&&◌, ◌==◌, List, [], ◌∷◌, ◌++◌, map, codes, decimal, Option, Some, is_some, option_map, option_and_then, refl, ap, ◌∙◌, arith, inl, inr}
 use Rattle.std.specs.List.{list_all, join_with_byte, flat_map}
 use Rattle.std.specs.Fmt.{digits, signed_decimal}
-use Rattle.std.proofs.lemmas.Bool.{and_parts, and_from, false≢true}
-use Rattle.sb_word.specs.declared.clause.Lit.{Lit}
+use Rattle.std.proofs.lemmas.Bool.{and_parts, and_from, not-true, false≢true}
+use Rattle.sb_lit.specs.declared.clause.Lit.{Lit}
 use Rattle.sb_word.specs.Literals.{hex_number_from}
 use Rattle.sb_class.specs.Ranges.{Range}
 use Rattle.sb_meaning.specs.Values.{Value, Text, Int, Truth}
@@ -15,20 +15,19 @@ use Rattle.sb_rulebook.proofs.DigitFacts.{number-read, hexadecimal-read, is_free
 
 -- Fields.
 
-is_false : (t : Bool) → not t ≡ true → t ≡ false
-is_false true h = absurd (false≢true h)
-is_false false h = refl
-
 first-is-free : (c b : ℕ) (bs : Field) → is_free c (b ∷ bs) ≡ true → (b == c) ≡ false
-first-is-free c b bs free = is_false (b == c) (and_parts (not (b == c)) (is_free c bs) free).0
+first-is-free c b bs free = not-true (b == c) (and_parts (not (b == c)) (is_free c bs) free).0
 
 integer-plain : (f : Field) → is_free 45 f ≡ true → integer f ≡ option_map pos (number f)
 unfolding digits
 integer-plain [] free = refl
-integer-plain (b ∷ bs) free = ap (λ t. cond t (option_and_then negative (number bs)) (option_map pos (number (b ∷ bs)))) (first-is-free 45 b bs free)
+integer-plain (b ∷ bs) free =
+    ap (λ t. cond t (option_and_then negative (number bs)) (option_map pos (number (b ∷ bs))))
+    (first-is-free 45 b bs free)
 
 pub integer-read : (z : ℤ) → is_small_integer z ≡ true → integer (signed_decimal z) ≡ Some z
-integer-read (pos n) small = integer-plain (decimal n) (decimal-free 45 n (inl (omega arith))) ∙ ap (option_map pos) (number-read n small)
+integer-read (pos n) small = integer-plain (decimal n) (decimal-free 45 n (inl (omega arith)))
+    ∙ ap (option_map pos) (number-read n small)
 integer-read (negsuc n) small = ap (option_and_then negative) (number-read (suc n) small)
 
 pub literal-read : (l : Lit) → is_small_literal l ≡ true → literal (literal_text l) ≡ Some l
@@ -42,55 +41,73 @@ pub variable-read : (x : Variable) → is_small_variable x ≡ true → variable
 variable-read (int_constant serial) small = ap (option_map int_constant) (number-read serial small)
 variable-read (length_of serial) small = ap (option_map length_of) (number-read serial small)
 
-pub each-read : {A : Type 0} (shape : Field → Option A) (spell : A → Field) (fit : A → Bool) → ((x : A) → fit x ≡ true → shape (spell x) ≡ Some x) →
+pub each-read : {A : Type 0} (shape : Field → Option A) (spell : A → Field) (fit : A → Bool)
+    → ((x : A) → fit x ≡ true → shape (spell x) ≡ Some x) →
     (xs : List A) → list_all fit xs ≡ true → each shape (map spell xs) ≡ Some xs
 each-read shape spell fit law [] all = refl
 each-read shape spell fit law (x ∷ xs) all =
     let parts = and_parts (fit x) (list_all fit xs) all in
-    ap (option_and_then (λ y. option_map (λ ys. y ∷ ys) (each shape (map spell xs)))) (law x parts.0) ∙ ap (option_map (λ ys. x ∷ ys)) (each-read shape spell fit law xs parts.1)
+    ap (option_and_then (λ y. option_map (λ ys. y ∷ ys) (each shape (map spell xs)))) (law x parts.0)
+    ∙ ap (option_map (λ ys. x ∷ ys)) (each-read shape spell fit law xs parts.1)
 
-pub both-read : {A B : Type 0} (first : Field → Option A) (second : Field → Option B) (f g : Field) (x : A) (y : B) → first f ≡ Some x → second g ≡ Some y → both first second (f ∷ g ∷ []) ≡ Some (x, y)
-both-read first second f g x y one other = ap (option_and_then (λ u. option_map (λ v. (u, v)) (second g))) one ∙ ap (option_map (λ v. (x, v))) other
+pub both-read : {A B : Type 0} (first : Field → Option A) (second : Field → Option B) (f g : Field) (x : A) (y : B)
+    → first f ≡ Some x → second g ≡ Some y → both first second (f ∷ g ∷ []) ≡ Some (x, y)
+both-read first second f g x y one other = ap (option_and_then (λ u. option_map (λ v. (u, v)) (second g))) one
+    ∙ ap (option_map (λ v. (x, v))) other
 
 -- Separators.
 
 pub free-cons : (c b : ℕ) (bs : Field) → not (b == c) ≡ true → is_free c bs ≡ true → is_free c (b ∷ bs) ≡ true
 free-cons c b bs first rest = and_from (not (b == c)) (is_free c bs) first rest
 
-pub all-cons : (c : ℕ) (f : Field) (fs : List Field) → is_free c f ≡ true → list_all (is_free c) fs ≡ true → list_all (is_free c) (f ∷ fs) ≡ true
+pub all-cons : (c : ℕ) (f : Field) (fs : List Field) → is_free c f ≡ true → list_all (is_free c) fs ≡ true
+    → list_all (is_free c) (f ∷ fs) ≡ true
 all-cons c f fs first rest = and_from (is_free c f) (list_all (is_free c) fs) first rest
 
-pub all-append : (c : ℕ) (fs gs : List Field) → list_all (is_free c) fs ≡ true → list_all (is_free c) gs ≡ true → list_all (is_free c) (fs ++ gs) ≡ true
+pub all-append : (c : ℕ) (fs gs : List Field) → list_all (is_free c) fs ≡ true → list_all (is_free c) gs ≡ true
+    → list_all (is_free c) (fs ++ gs) ≡ true
 all-append c [] gs first second = second
 all-append c (f ∷ fs) gs first second =
-    let parts = and_parts (is_free c f) (list_all (is_free c) fs) first in all-cons c f (fs ++ gs) parts.0 (all-append c fs gs parts.1 second)
+    let parts = and_parts (is_free c f) (list_all (is_free c) fs) first in
+    all-cons c f (fs ++ gs) parts.0 (all-append c fs gs parts.1 second)
 
-pub free-joined : (c separator : ℕ) (fs : List Field) → not (separator == c) ≡ true → list_all (is_free c) fs ≡ true → is_free c (join_with_byte separator fs) ≡ true
+pub free-joined : (c separator : ℕ) (fs : List Field) → not (separator == c) ≡ true → list_all (is_free c) fs ≡ true
+    → is_free c (join_with_byte separator fs) ≡ true
 free-joined c separator [] other all = refl
 free-joined c separator (f ∷ []) other all = (and_parts (is_free c f) true all).0
 free-joined c separator (f ∷ g ∷ fs) other all =
     let parts = and_parts (is_free c f) (list_all (is_free c) (g ∷ fs)) all in
-    free-append c f (separator ∷ join_with_byte separator (g ∷ fs)) parts.0 (free-cons c separator (join_with_byte separator (g ∷ fs)) other (free-joined c separator (g ∷ fs) other parts.1))
+    free-append c f (separator ∷ join_with_byte separator (g ∷ fs)) parts.0
+    (free-cons c separator (join_with_byte separator (g ∷ fs)) other
+    (free-joined c separator (g ∷ fs) other parts.1))
 
 -- a separator of fields or of parts of them, which is no digit of a hexadecimal number and no minus
-range-free : (c : ℕ) → (c < 48) ⊎ ((57 < c) × (c < 97)) → not (45 == c) ≡ true → (r : Range) → is_free c (range_text r) ≡ true
-range-free c outside other r = free-append c (hexadecimal r.0) (45 ∷ hexadecimal r.1) (hexadecimal-free c r.0 outside) (free-cons c 45 (hexadecimal r.1) other (hexadecimal-free c r.1 outside))
+range-free : (c : ℕ) → (c < 48) ⊎ ((57 < c) × (c < 97)) → not (45 == c) ≡ true → (r : Range)
+    → is_free c (range_text r) ≡ true
+range-free c outside other r =
+    free-append c (hexadecimal r.0) (45 ∷ hexadecimal r.1) (hexadecimal-free c r.0 outside)
+    (free-cons c 45 (hexadecimal r.1) other (hexadecimal-free c r.1 outside))
 
-pub ranges-free : (c : ℕ) → (c < 48) ⊎ ((57 < c) × (c < 97)) → not (45 == c) ≡ true → not (44 == c) ≡ true → (rs : List Range) → is_free c (ranges_text rs) ≡ true
-ranges-free c outside other another rs = free-joined c 44 (map range_text rs) another (all-free c range_text (range-free c outside other) rs)
+pub ranges-free : (c : ℕ) → (c < 48) ⊎ ((57 < c) × (c < 97)) → not (45 == c) ≡ true → not (44 == c) ≡ true
+    → (rs : List Range) → is_free c (ranges_text rs) ≡ true
+ranges-free c outside other another rs =
+    free-joined c 44 (map range_text rs) another (all-free c range_text (range-free c outside other) rs)
 
 range-read : (r : Range) → is_small_range r ≡ true → range (range_text r) ≡ Some r
 range-read r small =
     let parts = and_parts (is_small r.0) (is_small r.1) small in
     ap (both hexadecimal_number hexadecimal_number)
     (split-joined 45 (hexadecimal r.0) (hexadecimal r.1 ∷ [])
-    (all-cons 45 (hexadecimal r.0) (hexadecimal r.1 ∷ []) (hexadecimal-free 45 r.0 (inl (omega arith))) (all-cons 45 (hexadecimal r.1) [] (hexadecimal-free 45 r.1 (inl (omega arith))) refl)))
-    ∙ both-read hexadecimal_number hexadecimal_number (hexadecimal r.0) (hexadecimal r.1) r.0 r.1 (hexadecimal-read r.0 parts.0) (hexadecimal-read r.1 parts.1)
+    (all-cons 45 (hexadecimal r.0) (hexadecimal r.1 ∷ []) (hexadecimal-free 45 r.0 (inl (omega arith)))
+    (all-cons 45 (hexadecimal r.1) [] (hexadecimal-free 45 r.1 (inl (omega arith))) refl)))
+    ∙ both-read hexadecimal_number hexadecimal_number (hexadecimal r.0) (hexadecimal r.1) r.0 r.1
+    (hexadecimal-read r.0 parts.0) (hexadecimal-read r.1 parts.1)
 
 pub ranges-read : (rs : List Range) → have_text rs ≡ true → ranges (ranges_text rs) ≡ Some rs
 ranges-read [] small = absurd (false≢true small)
 ranges-read (r ∷ rs) small =
-    ap (each range) (split-joined 44 (range_text r) (map range_text rs) (all-free 44 range_text (range-free 44 (inl (omega arith)) refl) (r ∷ rs)))
+    ap (each range) (split-joined 44 (range_text r) (map range_text rs)
+    (all-free 44 range_text (range-free 44 (inl (omega arith)) refl) (r ∷ rs)))
     ∙ each-read range range_text is_small_range range-read (r ∷ rs) small
 
 pub class-read : (k : Class) → is_small_class k ≡ true → class (class_text k) ≡ Some k
@@ -98,8 +115,10 @@ class-read k small =
     let parts = and_parts (have_text k.0) (is_small k.1) small in
     ap (both ranges number)
     (split-joined 62 (ranges_text k.0) (decimal k.1 ∷ [])
-    (all-cons 62 (ranges_text k.0) (decimal k.1 ∷ []) (ranges-free 62 (inr (omega arith, omega arith)) refl refl k.0) (all-cons 62 (decimal k.1) [] (decimal-free 62 k.1 (inr (omega arith))) refl)))
-    ∙ both-read ranges number (ranges_text k.0) (decimal k.1) k.0 k.1 (ranges-read k.0 parts.0) (number-read k.1 parts.1)
+    (all-cons 62 (ranges_text k.0) (decimal k.1 ∷ []) (ranges-free 62 (inr (omega arith, omega arith)) refl refl k.0)
+    (all-cons 62 (decimal k.1) [] (decimal-free 62 k.1 (inr (omega arith))) refl)))
+    ∙ both-read ranges number (ranges_text k.0) (decimal k.1) k.0 k.1 (ranges-read k.0 parts.0)
+    (number-read k.1 parts.1)
 
 -- Words.
 
@@ -132,8 +151,12 @@ characters-filled (b ∷ bs) h = refl
 characters-read : (w : List ℕ) → are_small w ≡ true → characters (join_with_byte 46 (map hexadecimal w)) ≡ Some w
 characters-read [] small = refl
 characters-read (c ∷ w) small =
-    characters-filled (join_with_byte 46 (map hexadecimal (c ∷ w))) (filled-joined 46 (hexadecimal c) (map hexadecimal w) (hexadecimal-filled c (and_parts (is_small c) (are_small w) small).0))
-    ∙ ap (each hexadecimal_number) (split-joined 46 (hexadecimal c) (map hexadecimal w) (all-free 46 hexadecimal (λ n. hexadecimal-free 46 n (inl (omega arith))) (c ∷ w)))
+    characters-filled (join_with_byte 46 (map hexadecimal (c ∷ w)))
+    (filled-joined 46 (hexadecimal c) (map hexadecimal w)
+    (hexadecimal-filled c (and_parts (is_small c) (are_small w) small).0))
+    ∙ ap (each hexadecimal_number)
+    (split-joined 46 (hexadecimal c) (map hexadecimal w)
+    (all-free 46 hexadecimal (λ n. hexadecimal-free 46 n (inl (omega arith))) (c ∷ w)))
     ∙ each-read hexadecimal_number hexadecimal is_small hexadecimal-read (c ∷ w) small
 
 pub piece-read : (p : Piece) → is_small_piece p ≡ true → piece (piece_text p) ≡ Some p
@@ -144,30 +167,39 @@ pub signed-free : (c : ℕ) → (c < 48) ⊎ (57 < c) → not (45 == c) ≡ true
 signed-free c outside other (pos n) = decimal-free c n outside
 signed-free c outside other (negsuc n) = free-cons c 45 (decimal (suc n)) other (decimal-free c (suc n) outside)
 
-value-plain : (f : Field) → is_free 116 f ≡ true → is_free 102 f ≡ true → is_free 119 f ≡ true → value f ≡ option_map Int (integer f)
+value-plain : (f : Field) → is_free 116 f ≡ true → is_free 102 f ≡ true → is_free 119 f ≡ true
+    → value f ≡ option_map Int (integer f)
 value-plain [] t f w = refl
 value-plain (b ∷ bs) t f w =
-    ap (λ s. cond (s && is_text bs []) (Some (Truth true)) (cond (is_text (b ∷ bs) (codes "f")) (Some (Truth false)) (cond (b == 119) (option_map Text (characters bs)) (option_map Int (integer (b ∷ bs)))))) (first-is-free 116 b bs t)
-    ∙ ap (λ s. cond (s && is_text bs []) (Some (Truth false)) (cond (b == 119) (option_map Text (characters bs)) (option_map Int (integer (b ∷ bs))))) (first-is-free 102 b bs f)
+    ap (λ s. cond (s && is_text bs []) (Some (Truth true))
+    (cond (is_text (b ∷ bs) (codes "f")) (Some (Truth false))
+    (cond (b == 119) (option_map Text (characters bs)) (option_map Int (integer (b ∷ bs))))))
+    (first-is-free 116 b bs t)
+    ∙ ap (λ s. cond (s && is_text bs []) (Some (Truth false))
+    (cond (b == 119) (option_map Text (characters bs)) (option_map Int (integer (b ∷ bs)))))
+    (first-is-free 102 b bs f)
     ∙ ap (λ s. cond s (option_map Text (characters bs)) (option_map Int (integer (b ∷ bs)))) (first-is-free 119 b bs w)
 
 pub value-read : (x : Value) → is_small_value x ≡ true → value (value_text x) ≡ Some x
 value-read (Text w) small = ap (option_map Text) (characters-read w small)
 value-read (Int z) small =
-    value-plain (signed_decimal z) (signed-free 116 (inr (omega arith)) refl z) (signed-free 102 (inr (omega arith)) refl z) (signed-free 119 (inr (omega arith)) refl z)
+    value-plain (signed_decimal z) (signed-free 116 (inr (omega arith)) refl z)
+    (signed-free 102 (inr (omega arith)) refl z) (signed-free 119 (inr (omega arith)) refl z)
     ∙ ap (option_map Int) (integer-read z small)
 value-read (Truth true) small = refl
 value-read (Truth false) small = refl
 
 -- Sums, and fields around a colon.
 
-pub summands-read : (ss : List Summand) → list_all is_small_summand ss ≡ true → summands (flat_map summand_fields ss) ≡ Some ss
+pub summands-read : (ss : List Summand) → list_all is_small_summand ss ≡ true
+    → summands (flat_map summand_fields ss) ≡ Some ss
 summands-read [] small = refl
 summands-read (s ∷ ss) small =
     let parts = and_parts (is_small_summand s) (list_all is_small_summand ss) small in
     let own = and_parts (is_small_integer s.0) (is_small_variable s.1) parts.0 in
     ap (option_and_then (λ t. option_map (λ ts. t ∷ ts) (summands (flat_map summand_fields ss))))
-    (both-read integer variable (signed_decimal s.0) (variable_text s.1) s.0 s.1 (integer-read s.0 own.0) (variable-read s.1 own.1))
+    (both-read integer variable (signed_decimal s.0) (variable_text s.1) s.0 s.1 (integer-read s.0 own.0)
+    (variable-read s.1 own.1))
     ∙ ap (option_map (λ ts. s ∷ ts)) (summands-read ss parts.1)
 
 pub pairs-there : (s : Summand) (ss : List Summand) → has_pairs (flat_map summand_fields (s ∷ ss)) ≡ true
@@ -180,11 +212,13 @@ last-colon (u ∷ []) g = refl
 last-colon (u ∷ v ∷ []) g = refl
 last-colon (u ∷ v ∷ w ∷ us) g = ap (option_map (λ p. (u ∷ p.0, p.1))) (last-colon (v ∷ w ∷ us) g)
 
-pub first-colon : (ls : List Lit) (gs : List Field) → around_colon (map literal_text ls ++ codes ":" ∷ gs) ≡ Some (map literal_text ls, gs)
+pub first-colon : (ls : List Lit) (gs : List Field)
+    → around_colon (map literal_text ls ++ codes ":" ∷ gs) ≡ Some (map literal_text ls, gs)
 first-colon [] gs = refl
 first-colon (l ∷ ls) gs = step l.positive (first-colon ls gs)
   where
     step : (b : Bool) → around_colon (map literal_text ls ++ codes ":" ∷ gs) ≡ Some (map literal_text ls, gs) →
-        around_colon ((cond b 43 45 ∷ decimal l.atom) ∷ (map literal_text ls ++ codes ":" ∷ gs)) ≡ Some ((cond b 43 45 ∷ decimal l.atom) ∷ map literal_text ls, gs)
+        around_colon ((cond b 43 45 ∷ decimal l.atom) ∷ (map literal_text ls ++ codes ":" ∷ gs))
+        ≡ Some ((cond b 43 45 ∷ decimal l.atom) ∷ map literal_text ls, gs)
     step true rest = ap (option_map (λ p. ((43 ∷ decimal l.atom) ∷ p.0, p.1))) rest
     step false rest = ap (option_map (λ p. ((45 ∷ decimal l.atom) ∷ p.0, p.1))) rest

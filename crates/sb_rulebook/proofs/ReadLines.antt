@@ -3,7 +3,7 @@ use Rattle.std.proofs.Common.{◌≡◌, ℕ, Bool, true, false, cond, ◌&&◌,
 use Rattle.std.specs.List.{list_all, join_with_byte, flat_map}
 use Rattle.std.specs.Fmt.{signed_decimal}
 use Rattle.std.proofs.lemmas.Bool.{and_parts, false≢true}
-use Rattle.sb_word.specs.declared.clause.Lit.{Lit}
+use Rattle.sb_lit.specs.declared.clause.Lit.{Lit}
 use Rattle.sb_meaning.specs.Values.{Value, Text, Int, Truth}
 use Rattle.sb_rulebook.specs.Refusals.{Refusal, bad_word, bad_number}
 use Rattle.sb_rulebook.specs.Atoms.{AtomOver, bool_atom, in_atom, le_atom, sum_atom, and_atom, iff_atom, Piece, constant_piece, word_piece, Variable, int_constant, length_of, Summand}
@@ -15,18 +15,25 @@ use Rattle.sb_rulebook.proofs.ReadFacts.{integer-read, literal-read, variable-re
 
 -- What follows a word.
 
-one-read : {A B : Type 0} (shape : Field → Option A) (make : A → B) (f : Field) (x : A) → shape f ≡ Some x → one shape make (f ∷ []) ≡ Ok (make x)
+one-read : {A B : Type 0} (shape : Field → Option A) (make : A → B) (f : Field) (x : A) → shape f ≡ Some x
+    → one shape make (f ∷ []) ≡ Ok (make x)
 one-read shape make f x read = ap (λ o. ok_or (option_map make o) bad_number) read
 
-two-read : {A B C : Type 0} (first : Field → Option A) (second : Field → Option B) (make : A → B → C) (f g : Field) (x : A) (y : B) → first f ≡ Some x → second g ≡ Some y → two first second make (f ∷ g ∷ []) ≡ Ok (make x y)
-two-read first second make f g x y read other = ap (λ o. ok_or (option_map (λ p. make p.0 p.1) o) bad_number) (both-read first second f g x y read other)
+two-read : {A B C : Type 0} (first : Field → Option A) (second : Field → Option B) (make : A → B → C) (f g : Field)
+    (x : A) (y : B) → first f ≡ Some x → second g ≡ Some y → two first second make (f ∷ g ∷ []) ≡ Ok (make x y)
+two-read first second make f g x y read other =
+    ap (λ o. ok_or (option_map (λ p. make p.0 p.1) o) bad_number) (both-read first second f g x y read other)
 
-any-read : {A B : Type 0} (shape : Field → Option A) (make : List A → B) (fs : List Field) (xs : List A) → each shape fs ≡ Some xs → any_number shape make fs ≡ Ok (make xs)
+any-read : {A B : Type 0} (shape : Field → Option A) (make : List A → B) (fs : List Field) (xs : List A)
+    → each shape fs ≡ Some xs → any_number shape make fs ≡ Ok (make xs)
 any-read shape make fs xs read = ap (λ o. ok_or (option_map make o) bad_number) read
 
-some-read : {A B C : Type 0} (first : Field → Option A) (shape : Field → Option B) (make : A → List B → C) (f : Field) (fs : List Field) (x : A) (xs : List B) → first f ≡ Some x → each shape fs ≡ Some xs → some first shape make (f ∷ fs) ≡ Ok (make x xs)
+some-read : {A B C : Type 0} (first : Field → Option A) (shape : Field → Option B) (make : A → List B → C) (f : Field)
+    (fs : List Field) (x : A) (xs : List B) → first f ≡ Some x → each shape fs ≡ Some xs
+    → some first shape make (f ∷ fs) ≡ Ok (make x xs)
 some-read first shape make f fs x xs read others =
-    ap (λ o. ok_or (option_and_then (λ y. option_map (make y) (each shape fs)) o) bad_number) read ∙ ap (λ o. ok_or (option_map (make x) o) bad_number) others
+    ap (λ o. ok_or (option_and_then (λ y. option_map (make y) (each shape fs)) o) bad_number) read
+    ∙ ap (λ o. ok_or (option_map (make x) o) bad_number) others
 
 numbers-read : (ns : List ℕ) → are_small ns ≡ true → each number (map decimal ns) ≡ Some ns
 numbers-read = each-read number decimal is_small number-read
@@ -39,78 +46,113 @@ literals-read = each-read literal literal_text is_small_literal literal-read
 node-read : (n : Node) → node_has_text n ≡ true → line_of_fields (fields_of (regex_line n)) ≡ Ok (regex_line n)
 node-read none_node small = refl
 node-read eps_node small = refl
-node-read (set_node rs) small = ap (made regex_line) (one-read ranges set_node (ranges_text rs) rs (ranges-read rs small))
+node-read (set_node rs) small =
+    ap (made regex_line) (one-read ranges set_node (ranges_text rs) rs (ranges-read rs small))
 node-read (cat_node a b) small =
     let parts = and_parts (is_small a) (is_small b) small in
-    ap (made regex_line) (two-read number number cat_node (decimal a) (decimal b) a b (number-read a parts.0) (number-read b parts.1))
+    ap (made regex_line) (two-read number number cat_node (decimal a) (decimal b) a b (number-read a parts.0)
+    (number-read b parts.1))
 node-read (alt_node []) small = absurd (false≢true small)
 node-read (alt_node (a ∷ ids)) small =
     let parts = and_parts (is_small a) (are_small ids) small in
-    ap (made regex_line) (some-read number number (λ id rest. alt_node (id ∷ rest)) (decimal a) (map decimal ids) a ids (number-read a parts.0) (numbers-read ids parts.1))
+    ap (made regex_line) (some-read number number (λ id rest. alt_node (id ∷ rest)) (decimal a) (map decimal ids) a ids
+    (number-read a parts.0) (numbers-read ids parts.1))
 node-read (and_node []) small = absurd (false≢true small)
 node-read (and_node (a ∷ ids)) small =
     let parts = and_parts (is_small a) (are_small ids) small in
-    ap (made regex_line) (some-read number number (λ id rest. and_node (id ∷ rest)) (decimal a) (map decimal ids) a ids (number-read a parts.0) (numbers-read ids parts.1))
+    ap (made regex_line) (some-read number number (λ id rest. and_node (id ∷ rest)) (decimal a) (map decimal ids) a ids
+    (number-read a parts.0) (numbers-read ids parts.1))
 node-read (not_node a) small = ap (made regex_line) (one-read number not_node (decimal a) a (number-read a small))
 node-read (star_node a) small = ap (made regex_line) (one-read number star_node (decimal a) a (number-read a small))
 node-read (rep_node a n m) small =
     let parts = and_parts (is_small a) (is_small n && is_small m) small in
     let bounds = and_parts (is_small n) (is_small m) parts.1 in
     ap (made regex_line)
-    (ap (λ o. ok_or (option_and_then (λ x. option_map (λ p. rep_node x p.0 p.1) (both number number (decimal n ∷ decimal m ∷ []))) o) bad_number) (number-read a parts.0)
-    ∙ ap (λ o. ok_or (option_map (λ p. rep_node a p.0 p.1) o) bad_number) (both-read number number (decimal n) (decimal m) n m (number-read n bounds.0) (number-read m bounds.1)))
+    (ap (λ o. ok_or (option_and_then
+    (λ x. option_map (λ p. rep_node x p.0 p.1) (both number number (decimal n ∷ decimal m ∷ []))) o) bad_number)
+    (number-read a parts.0)
+    ∙ ap (λ o. ok_or (option_map (λ p. rep_node a p.0 p.1) o) bad_number)
+    (both-read number number (decimal n) (decimal m) n m (number-read n bounds.0) (number-read m bounds.1)))
 node-read (path_node a b) small =
     let parts = and_parts (is_small a) (is_small b) small in
-    ap (made regex_line) (two-read number number path_node (decimal a) (decimal b) a b (number-read a parts.0) (number-read b parts.1))
+    ap (made regex_line) (two-read number number path_node (decimal a) (decimal b) a b (number-read a parts.0)
+    (number-read b parts.1))
 
 -- Atoms.
 
-membership-read : (ps : List Piece) (r : ℕ) → list_all is_small_piece ps ≡ true → is_small r ≡ true → membership (map piece_text ps ++ codes ":" ∷ decimal r ∷ []) ≡ Ok (in_atom ps r)
+membership-read : (ps : List Piece) (r : ℕ) → list_all is_small_piece ps ≡ true → is_small r ≡ true
+    → membership (map piece_text ps ++ codes ":" ∷ decimal r ∷ []) ≡ Ok (in_atom ps r)
 membership-read ps r small other =
-    ap (λ o. elim o as (λ _. Result (AtomOver ℕ) Refusal) [ None ↦ Err bad_word | Some p ↦ ok_or (membership_of p) bad_number ]) (last-colon (map piece_text ps) (decimal r))
-    ∙ ap (λ o. ok_or (option_and_then (λ qs. option_map (in_atom qs) (number (decimal r))) o) bad_number) (each-read piece piece_text is_small_piece piece-read ps small)
+    ap (λ o. elim o as (λ _. Result (AtomOver ℕ) Refusal)
+    [ None ↦ Err bad_word | Some p ↦ ok_or (membership_of p) bad_number ])
+    (last-colon (map piece_text ps) (decimal r))
+    ∙ ap (λ o. ok_or (option_and_then (λ qs. option_map (in_atom qs) (number (decimal r))) o) bad_number)
+    (each-read piece piece_text is_small_piece piece-read ps small)
     ∙ ap (λ o. ok_or (option_map (in_atom ps) o) bad_number) (number-read r other)
 
-sum-read : (k : _) (ss : List Summand) → is_small_integer k ≡ true → some_summands ss ≡ true → sum (signed_decimal k ∷ flat_map summand_fields ss) ≡ Ok (sum_atom k ss)
+sum-read : (k : _) (ss : List Summand) → is_small_integer k ≡ true → some_summands ss ≡ true
+    → sum (signed_decimal k ∷ flat_map summand_fields ss) ≡ Ok (sum_atom k ss)
 sum-read k [] small others = absurd (false≢true others)
 sum-read k (s ∷ ss) small others =
-    ap (λ t. cond t (ok_or (sum_of (signed_decimal k) (flat_map summand_fields (s ∷ ss))) bad_number) (Err bad_word)) (pairs-there s ss)
-    ∙ ap (λ o. ok_or (option_and_then (λ n. option_map (sum_atom n) (summands (flat_map summand_fields (s ∷ ss)))) o) bad_number) (integer-read k small)
+    ap (λ t. cond t (ok_or (sum_of (signed_decimal k) (flat_map summand_fields (s ∷ ss))) bad_number) (Err bad_word))
+    (pairs-there s ss)
+    ∙ ap (λ o. ok_or (option_and_then (λ n. option_map (sum_atom n) (summands (flat_map summand_fields (s ∷ ss)))) o)
+    bad_number) (integer-read k small)
     ∙ ap (λ o. ok_or (option_map (sum_atom k) o) bad_number) (summands-read (s ∷ ss) others)
 
 atom-read : (a : AtomOver ℕ) → atom_has_text a ≡ true → line_of_fields (fields_of (atom_line a)) ≡ Ok (atom_line a)
-atom-read (bool_atom serial) small = ap (made atom_line) (one-read number bool_atom (decimal serial) serial (number-read serial small))
+atom-read (bool_atom serial) small =
+    ap (made atom_line) (one-read number bool_atom (decimal serial) serial (number-read serial small))
 atom-read (in_atom ps r) small =
-    let parts = and_parts (list_all is_small_piece ps) (is_small r) small in ap (made atom_line) (membership-read ps r parts.0 parts.1)
+    let parts = and_parts (list_all is_small_piece ps) (is_small r) small in
+    ap (made atom_line) (membership-read ps r parts.0 parts.1)
 atom-read (le_atom x k) small =
     let parts = and_parts (is_small_variable x) (is_small_integer k) small in
-    ap (made atom_line) (two-read variable integer le_atom (variable_text x) (signed_decimal k) x k (variable-read x parts.0) (integer-read k parts.1))
+    ap (made atom_line) (two-read variable integer le_atom (variable_text x) (signed_decimal k) x k
+    (variable-read x parts.0) (integer-read k parts.1))
 atom-read (sum_atom k ss) small =
-    let parts = and_parts (is_small_integer k) (some_summands ss) small in ap (made atom_line) (sum-read k ss parts.0 parts.1)
-atom-read (and_atom ls) small = ap (made atom_line) (any-read literal and_atom (map literal_text ls) ls (literals-read ls small))
+    let parts = and_parts (is_small_integer k) (some_summands ss) small in
+    ap (made atom_line) (sum-read k ss parts.0 parts.1)
+atom-read (and_atom ls) small =
+    ap (made atom_line) (any-read literal and_atom (map literal_text ls) ls (literals-read ls small))
 atom-read (iff_atom l m) small =
     let parts = and_parts (is_small_literal l) (is_small_literal m) small in
-    ap (made atom_line) (two-read literal literal iff_atom (literal_text l) (literal_text m) l m (literal-read l parts.0) (literal-read m parts.1))
+    ap (made atom_line) (two-read literal literal iff_atom (literal_text l) (literal_text m) l m
+    (literal-read l parts.0) (literal-read m parts.1))
 
 -- Clauses and verdicts.
 
-rule-read : (rule : Rule) (ls : List Lit) → list_all is_small_literal ls ≡ true → line_of_fields (fields_of (rule_line rule ls)) ≡ Ok (rule_line rule ls)
-rule-read gate ls small = ap (made (λ line. line)) (any-read literal (rule_line gate) (map literal_text ls) ls (literals-read ls small))
-rule-read order ls small = ap (made (λ line. line)) (any-read literal (rule_line order) (map literal_text ls) ls (literals-read ls small))
-rule-read linear ls small = ap (made (λ line. line)) (any-read literal (rule_line linear) (map literal_text ls) ls (literals-read ls small))
-rule-read step ls small = ap (made (λ line. line)) (any-read literal (rule_line step) (map literal_text ls) ls (literals-read ls small))
-rule-read empty ls small = ap (made (λ line. line)) (any-read literal (rule_line empty) (map literal_text ls) ls (literals-read ls small))
+rule-read : (rule : Rule) (ls : List Lit) → list_all is_small_literal ls ≡ true
+    → line_of_fields (fields_of (rule_line rule ls)) ≡ Ok (rule_line rule ls)
+rule-read gate ls small =
+    ap (made (λ line. line)) (any-read literal (rule_line gate) (map literal_text ls) ls (literals-read ls small))
+rule-read order ls small =
+    ap (made (λ line. line)) (any-read literal (rule_line order) (map literal_text ls) ls (literals-read ls small))
+rule-read linear ls small =
+    ap (made (λ line. line)) (any-read literal (rule_line linear) (map literal_text ls) ls (literals-read ls small))
+rule-read step ls small =
+    ap (made (λ line. line)) (any-read literal (rule_line step) (map literal_text ls) ls (literals-read ls small))
+rule-read empty ls small =
+    ap (made (λ line. line)) (any-read literal (rule_line empty) (map literal_text ls) ls (literals-read ls small))
 
-learned-read : (ls : List Lit) (ids : List ℕ) → list_all is_small_literal ls ≡ true → are_small ids ≡ true → learned (map literal_text ls ++ codes ":" ∷ map decimal ids) ≡ Ok (learned_line ls ids)
+learned-read : (ls : List Lit) (ids : List ℕ) → list_all is_small_literal ls ≡ true → are_small ids ≡ true
+    → learned (map literal_text ls ++ codes ":" ∷ map decimal ids) ≡ Ok (learned_line ls ids)
 learned-read ls ids small others =
-    ap (λ o. elim o as (λ _. Result Line Refusal) [ None ↦ Err bad_word | Some p ↦ ok_or (learned_of p) bad_number ]) (first-colon ls (map decimal ids))
-    ∙ ap (λ o. ok_or (option_and_then (λ ms. option_map (learned_line ms) (each number (map decimal ids))) o) bad_number) (literals-read ls small)
+    ap (λ o. elim o as (λ _. Result Line Refusal) [ None ↦ Err bad_word | Some p ↦ ok_or (learned_of p) bad_number ])
+    (first-colon ls (map decimal ids))
+    ∙ ap (λ o. ok_or (option_and_then (λ ms. option_map (learned_line ms) (each number (map decimal ids))) o)
+    bad_number) (literals-read ls small)
     ∙ ap (λ o. ok_or (option_map (learned_line ls) o) bad_number) (numbers-read ids others)
 
 said-read : (s : Said) → said_has_text s ≡ true → line_of_fields (fields_of (verdict_line s)) ≡ Ok (verdict_line s)
-said-read (said_sat values) small = ap (made verdict_line) (any-read value said_sat (map value_text values) values (each-read value value_text is_small_value value-read values small))
-said-read (said_unsat id) small = ap (made verdict_line) (one-read number said_unsat (decimal id) id (number-read id small))
-said-read (said_unknown limit) small = ap (made verdict_line) (one-read number said_unknown (decimal limit) limit (number-read limit small))
+said-read (said_sat values) small =
+    ap (made verdict_line)
+    (any-read value said_sat (map value_text values) values
+    (each-read value value_text is_small_value value-read values small))
+said-read (said_unsat id) small =
+    ap (made verdict_line) (one-read number said_unsat (decimal id) id (number-read id small))
+said-read (said_unknown limit) small =
+    ap (made verdict_line) (one-read number said_unknown (decimal limit) limit (number-read limit small))
 said-read said_unsupported small = refl
 
 fields-read : (line : Line) → has_text line ≡ true → line_of_fields (fields_of line) ≡ Ok line
@@ -119,14 +161,18 @@ fields-read (regex_line n) small = node-read n small
 fields-read (atom_line a) small = atom-read a small
 fields-read (expansion_line r ks) small =
     let parts = and_parts (is_small r) (list_all is_small_class ks) small in
-    some-read number class expansion_line (decimal r) (map class_text ks) r ks (number-read r parts.0) (each-read class class_text is_small_class class-read ks parts.1)
+    some-read number class expansion_line (decimal r) (map class_text ks) r ks (number-read r parts.0)
+    (each-read class class_text is_small_class class-read ks parts.1)
 fields-read (dead_line ids) small = any-read number dead_line (map decimal ids) ids (numbers-read ids small)
 fields-read (assertion_line place l) small =
     let parts = and_parts (is_small place) (is_small_literal l) small in
-    ap (made (λ line. line)) (two-read number literal assertion_line (decimal place) (literal_text l) place l (number-read place parts.0) (literal-read l parts.1))
+    ap (made (λ line. line))
+    (two-read number literal assertion_line (decimal place) (literal_text l) place l (number-read place parts.0)
+    (literal-read l parts.1))
 fields-read (rule_line rule ls) small = rule-read rule ls small
 fields-read (learned_line ls ids) small =
-    let parts = and_parts (list_all is_small_literal ls) (are_small ids) small in ap (made (λ line. line)) (learned-read ls ids parts.0 parts.1)
+    let parts = and_parts (list_all is_small_literal ls) (are_small ids) small in
+    ap (made (λ line. line)) (learned-read ls ids parts.0 parts.1)
 fields-read (verdict_line s) small = said-read s small
 fields-read end_line small = refl
 
@@ -152,7 +198,9 @@ literals-free : (ls : List Lit) → list_all (is_free 32) (map literal_text ls) 
 literals-free = all-free 32 literal_text literal-free
 
 word-free : (w : List ℕ) → is_free 32 (word_text w) ≡ true
-word-free w = free-cons 32 119 (join_with_byte 46 (map hexadecimal w)) refl (free-joined 32 46 (map hexadecimal w) refl (all-free 32 hexadecimal (λ n. hexadecimal-free 32 n (inl (omega arith))) w))
+word-free w = free-cons 32 119 (join_with_byte 46 (map hexadecimal w)) refl
+    (free-joined 32 46 (map hexadecimal w) refl
+    (all-free 32 hexadecimal (λ n. hexadecimal-free 32 n (inl (omega arith))) w))
 
 piece-free : (p : Piece) → is_free 32 (piece_text p) ≡ true
 piece-free (constant_piece serial) = free-cons 32 118 (decimal serial) refl (number-free serial)
@@ -166,7 +214,8 @@ set-free : (rs : _) → is_free 32 (ranges_text rs) ≡ true
 set-free = ranges-free 32 (inl (omega arith)) refl refl
 
 class-free : (k : Class) → is_free 32 (class_text k) ≡ true
-class-free k = free-append 32 (ranges_text k.0) (62 ∷ decimal k.1) (set-free k.0) (free-cons 32 62 (decimal k.1) refl (number-free k.1))
+class-free k = free-append 32 (ranges_text k.0) (62 ∷ decimal k.1) (set-free k.0)
+    (free-cons 32 62 (decimal k.1) refl (number-free k.1))
 
 value-free : (x : Value) → is_free 32 (value_text x) ≡ true
 value-free (Text w) = word-free w
@@ -194,9 +243,14 @@ node-free (path_node a b) = numbers-free (a ∷ b ∷ [])
 
 atom-free : (a : AtomOver ℕ) → list_all (is_free 32) (atom_fields a) ≡ true
 atom-free (bool_atom serial) = numbers-free (serial ∷ [])
-atom-free (in_atom ps r) = all-append 32 (map piece_text ps) (codes ":" ∷ decimal r ∷ []) (all-free 32 piece_text piece-free ps) (numbers-free (r ∷ []))
-atom-free (le_atom x k) = all-cons 32 (variable_text x) (signed_decimal k ∷ []) (variable-free x) (all-cons 32 (signed_decimal k) [] (integer-free k) refl)
-atom-free (sum_atom k ss) = all-cons 32 (signed_decimal k) (flat_map summand_fields ss) (integer-free k) (summands-free ss)
+atom-free (in_atom ps r) =
+    all-append 32 (map piece_text ps) (codes ":" ∷ decimal r ∷ []) (all-free 32 piece_text piece-free ps)
+    (numbers-free (r ∷ []))
+atom-free (le_atom x k) =
+    all-cons 32 (variable_text x) (signed_decimal k ∷ []) (variable-free x)
+    (all-cons 32 (signed_decimal k) [] (integer-free k) refl)
+atom-free (sum_atom k ss) =
+    all-cons 32 (signed_decimal k) (flat_map summand_fields ss) (integer-free k) (summands-free ss)
 atom-free (and_atom ls) = literals-free ls
 atom-free (iff_atom l m) = literals-free (l ∷ m ∷ [])
 
@@ -217,11 +271,14 @@ fields-free : (line : Line) → list_all (is_free 32) (fields_of line) ≡ true
 fields-free (header_line format) = numbers-free (format ∷ [])
 fields-free (regex_line n) = node-free n
 fields-free (atom_line a) = atom-free a
-fields-free (expansion_line r ks) = all-cons 32 (decimal r) (map class_text ks) (number-free r) (all-free 32 class_text class-free ks)
+fields-free (expansion_line r ks) =
+    all-cons 32 (decimal r) (map class_text ks) (number-free r) (all-free 32 class_text class-free ks)
 fields-free (dead_line ids) = numbers-free ids
-fields-free (assertion_line place l) = all-cons 32 (decimal place) (literal_text l ∷ []) (number-free place) (literals-free (l ∷ []))
+fields-free (assertion_line place l) =
+    all-cons 32 (decimal place) (literal_text l ∷ []) (number-free place) (literals-free (l ∷ []))
 fields-free (rule_line rule ls) = rule-free rule ls
-fields-free (learned_line ls ids) = all-append 32 (map literal_text ls) (codes ":" ∷ map decimal ids) (literals-free ls) (numbers-free ids)
+fields-free (learned_line ls ids) =
+    all-append 32 (map literal_text ls) (codes ":" ∷ map decimal ids) (literals-free ls) (numbers-free ids)
 fields-free (verdict_line s) = said-free s
 fields-free end_line = refl
 
@@ -230,7 +287,8 @@ begins : List Field → Bool
 begins [] = false
 begins (f ∷ fs) = true
 
-fields-split : (fs : List Field) → begins fs ≡ true → list_all (is_free 32) fs ≡ true → split_at 32 (join_with_byte 32 fs) ≡ fs
+fields-split : (fs : List Field) → begins fs ≡ true → list_all (is_free 32) fs ≡ true
+    → split_at 32 (join_with_byte 32 fs) ≡ fs
 unfolding begins
 fields-split [] there free = absurd (false≢true there)
 fields-split (f ∷ fs) there free = split-joined 32 f fs free
@@ -249,4 +307,5 @@ begins-line (verdict_line s) = refl
 begins-line end_line = refl
 
 pub text_is_read : TextIsRead
-text_is_read line small = ap line_of_fields (fields-split (fields_of line) (begins-line line) (fields-free line)) ∙ fields-read line small
+text_is_read line small = ap line_of_fields (fields-split (fields_of line) (begins-line line) (fields-free line))
+    ∙ fields-read line small

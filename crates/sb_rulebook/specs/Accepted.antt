@@ -1,12 +1,12 @@
--- Accepted proofs. A proof goes along with a script: it has a first line, then for each check lines that follow and one verdict,
--- then a last line.
+-- Accepted proofs. A proof goes along with a script: it has a first line, then for each check lines that follow and
+-- one verdict, then a last line.
 use Rattle.std.specs.Prelude.{◌≡◌, ℕ, ◌+◌, Bool, true, false, ◌==◌, if◌then◌else◌, List, [], ◌∷◌, ◌++◌, length, codes, decimal, Option, Some, None, Result, Ok, Err}
 use Rattle.sb_reader.specs.Entries.{Entry}
 use Rattle.sb_meaning.specs.Terms.{Term}
-use Rattle.sb_meaning.specs.State.{State, Level, Assertion, asserted, a_mark, constants_of}
-use Rattle.sb_meaning.specs.State as state
-use Rattle.sb_meaning.specs.Fragment.{in_fragment}
-use Rattle.sb_meaning.specs.Replies.{answers, checks, exits, step_of, line}
+use Rattle.sb_script.specs.State.{State, Level, Assertion, asserted, a_mark, constants_of}
+use Rattle.sb_script.specs.State as state
+use Rattle.sb_script.specs.Fragment.{in_fragment}
+use Rattle.sb_script.specs.Replies.{answers, checks, exits, step_of, line}
 use Rattle.sb_rulebook.specs.Refusals.{Refusal, misplaced, missing_line, reason}
 use Rattle.sb_rulebook.specs.Lines.{Line, header_line, verdict_line, end_line, Said, said_sat, said_unsat, said_unknown, said_unsupported}
 use Rattle.sb_rulebook.specs.Reading.{LineText, texts_of, read}
@@ -60,8 +60,8 @@ pub data Outcome : Type 0 where
   accepted : List Said → Outcome
   refused : List Said → ℕ → Refusal → Outcome
 
--- The lines of one check end with a verdict, with what is then kept, the number of the next line, and the lines that are
--- left; or at a refused line.
+-- The lines of one check end with a verdict, with what is then kept, the number of the next line, and the lines that
+-- are left; or at a refused line.
 pub data Ending : Type 0 where
   gives : Said → AllKept → ℕ → List LineText → Ending
   stops : ℕ → Refusal → Ending
@@ -77,7 +77,8 @@ turn_by (Ok kept) = goes_on kept
 turn_by (Err refusal) = fails refusal
 
 abbrev pub turn_of_line : Question → AllKept → Line → Turn
-turn_of_line q kept (verdict_line said) = elim (refusal_of q kept said) [ None ↦ ends said | Some refusal ↦ fails refusal ]
+turn_of_line q kept (verdict_line said) =
+    elim (refusal_of q kept said) [ None ↦ ends said | Some refusal ↦ fails refusal ]
 turn_of_line q kept line = turn_by (follows q.asked kept line)
 
 abbrev pub turn : Question → AllKept → LineText → Turn
@@ -103,7 +104,8 @@ is_last _ = false
 -- nothing stands behind the last line
 abbrev pub behind_last : List Said → ℕ → List LineText → Outcome
 behind_last said n [] = accepted said
-behind_last said n (text ∷ texts) = elim (read text) [ Ok line ↦ refused said n misplaced | Err refusal ↦ refused said n refusal ]
+behind_last said n (text ∷ texts) =
+    elim (read text) [ Ok line ↦ refused said n misplaced | Err refusal ↦ refused said n refusal ]
 
 -- behind the last check
 abbrev pub at_end : List Said → ℕ → List LineText → Outcome
@@ -140,7 +142,8 @@ Accepted entries bytes = (verdicts : List Said) × (judged (events state.start e
 
 -- The first line of the bytes that does not follow, and why.
 abbrev pub Refused : List Entry → List ℕ → ℕ → Refusal → Type 0
-Refused entries bytes n refusal = (verdicts : List Said) × (judged (events state.start entries) bytes ≡ refused verdicts n refusal)
+Refused entries bytes n refusal =
+    (verdicts : List Said) × (judged (events state.start entries) bytes ≡ refused verdicts n refusal)
 
 -- What is answered.
 
@@ -153,8 +156,10 @@ said_text said_unsupported = codes "unsupported"
 -- a line for each verdict, by the number of its check
 abbrev pub verdict_lines : ℕ → List Said → List ℕ
 verdict_lines n [] = []
-verdict_lines n (said ∷ rest) = line (codes "check " ++ (decimal n ++ (codes ": " ++ said_text said))) ++ verdict_lines (n + 1) rest
+verdict_lines n (said ∷ rest) =
+    line (codes "check " ++ (decimal n ++ (codes ": " ++ said_text said))) ++ verdict_lines (n + 1) rest
 
 abbrev pub answer : Outcome → List ℕ
 answer (accepted said) = verdict_lines 1 said ++ line (codes "accepted")
-answer (refused said n refusal) = verdict_lines 1 said ++ line (codes "refused at line " ++ (decimal n ++ (codes ": " ++ reason refusal)))
+answer (refused said n refusal) =
+    verdict_lines 1 said ++ line (codes "refused at line " ++ (decimal n ++ (codes ": " ++ reason refusal)))

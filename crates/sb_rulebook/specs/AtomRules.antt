@@ -1,10 +1,10 @@
 -- The rule of the lines that define an atom.
 use Rattle.std.specs.Prelude.{ℕ, Bool, true, false, nat_lt, if◌then◌else◌, List, [], ◌∷◌, ◌++◌, length, slice_get, Option, Some, None, option_map, Result, Ok, Err}
 use Rattle.std.specs.List.{list_all, list_any}
-use Rattle.sb_word.specs.declared.clause.Lit.{Lit}
+use Rattle.sb_lit.specs.declared.clause.Lit.{Lit}
 use Rattle.sb_lang.specs.Regex.{Regex}
-use Rattle.sb_meaning.specs.Terms.{Kind, boolean, integer, text}
-use Rattle.sb_meaning.specs.Reading.{is_kind}
+use Rattle.sb_meaning.specs.Terms.{Sort, boolean, integer, text}
+use Rattle.sb_meaning.specs.Sorts.{is_same_sort}
 use Rattle.sb_rulebook.specs.Refusals.{Refusal, unknown_id, repeated, not_normal}
 use Rattle.sb_rulebook.specs.Atoms.{Atom, AtomOver, bool_atom, in_atom, le_atom, sum_atom, and_atom, iff_atom, Piece, constant_piece, word_piece, Variable, int_constant, length_of, is_well_formed, is_same_atom}
 use Rattle.sb_rulebook.specs.Kept.{AllKept, Asked}
@@ -17,19 +17,19 @@ abbrev pub are_known : List Atom → List Lit → Bool
 are_known atoms ls = list_all (is_known atoms) ls
 
 -- the constant is declared, and of the sort
-abbrev pub is_declared : List Kind → Kind → ℕ → Bool
-is_declared sorts kind serial = elim (slice_get sorts serial) [ None ↦ false | Some other ↦ is_kind kind other ]
+abbrev pub is_declared : List Sort → Sort → ℕ → Bool
+is_declared sorts sort serial = elim (slice_get sorts serial) [ None ↦ false | Some other ↦ is_same_sort sort other ]
 
-abbrev pub is_declared_piece : List Kind → Piece → Bool
+abbrev pub is_declared_piece : List Sort → Piece → Bool
 is_declared_piece sorts (constant_piece serial) = is_declared sorts text serial
 is_declared_piece sorts (word_piece w) = true
 
-abbrev pub is_declared_variable : List Kind → Variable → Bool
+abbrev pub is_declared_variable : List Sort → Variable → Bool
 is_declared_variable sorts (int_constant serial) = is_declared sorts integer serial
 is_declared_variable sorts (length_of serial) = is_declared sorts text serial
 
 -- the constants and the atoms that the atom names are there
-abbrev pub has_its_parts : List Kind → List Atom → AtomOver ℕ → Bool
+abbrev pub has_its_parts : List Sort → List Atom → AtomOver ℕ → Bool
 has_its_parts sorts atoms (bool_atom serial) = is_declared sorts boolean serial
 has_its_parts sorts atoms (in_atom ps r) = list_all (is_declared_piece sorts) ps
 has_its_parts sorts atoms (le_atom x k) = is_declared_variable sorts x

@@ -4,9 +4,9 @@ use Rattle.std.specs.Prelude.{ℕ, ℤ, pos, ◌+ℤ◌, ◌*ℤ◌, neg_ℤ, Bo
 use Rattle.std.specs.List.{list_all, list_any, flat_map, position_from}
 use Rattle.std.specs.Ordering.{int_eq, is_gt}
 use Rattle.std.specs.Cmp.Lexicographic.{pointwise}
-use Rattle.sb_word.specs.declared.clause.Lit.{Lit}
+use Rattle.sb_lit.specs.declared.clause.Lit.{Lit}
 use Rattle.sb_word.specs.Words.{are_characters}
-use Rattle.sb_word.specs.Clauses.{is_same_literal, literal_order, are_ascending}
+use Rattle.sb_lit.specs.Clauses.{is_same_literal, literal_order, are_ascending}
 use Rattle.sb_lang.specs.Membership.{is_word}
 use Rattle.sb_lang.specs.Regex.{Regex}
 use Rattle.sb_lang.specs.Order.{regex_eq}
@@ -164,7 +164,8 @@ atom_holds v truths (in_atom ps r) = language r (flat_map (word_of_piece v) ps)
 atom_holds v truths (le_atom x k) = int_le (value_of v x) k
 atom_holds v truths (sum_atom k ss) = int_le (value_of_sum v ss) k
 atom_holds v truths (and_atom ls) = list_all (literal_holds truths) ls
-atom_holds v truths (iff_atom l m) = if literal_holds truths l then literal_holds truths m else not (literal_holds truths m)
+atom_holds v truths (iff_atom l m) = if literal_holds truths l then literal_holds truths m
+    else not (literal_holds truths m)
 
 abbrev pub truths_from : Valuation → List Bool → List Atom → List Bool
 truths_from v truths [] = truths

@@ -1,7 +1,7 @@
 -- The clauses of bounds, by rules order and linear, which are true under every valuation.
 use Rattle.std.specs.Prelude.{ℤ, pos, ◌+ℤ◌, int_lt, int_le, Bool, true, false, not, ◌&&◌, ◌||◌, List, [], ◌∷◌, filter, Option, Some, None}
 use Rattle.std.specs.List.{list_all, list_any, flat_map}
-use Rattle.sb_word.specs.declared.clause.Lit.{Lit}
+use Rattle.sb_lit.specs.declared.clause.Lit.{Lit}
 use Rattle.sb_rulebook.specs.Atoms.{Atom, le_atom, sum_atom, length_of, is_same_variable}
 use Rattle.sb_rulebook.specs.Bounds.{Bound, at_least, at_most, least_sum, greatest_sum}
 use Rattle.sb_rulebook.specs.Gates.{is_set_of, atom_of}
@@ -19,7 +19,8 @@ is_no_length _ = false
 abbrev pub is_order_at : List Atom → List Lit → Lit → Bool
 is_order_at atoms clause a =
     (is_set_of clause (a ∷ []) && is_no_length (atom_of atoms a))
-    || list_any (λ b. b.positive && (is_set_of clause (a ∷ b ∷ []) && is_lesser_bound (atom_of atoms a) (atom_of atoms b))) clause
+    || list_any (λ b. b.positive
+    && (is_set_of clause (a ∷ b ∷ []) && is_lesser_bound (atom_of atoms a) (atom_of atoms b))) clause
 
 abbrev pub is_order : List Atom → List Lit → Bool
 is_order atoms clause = list_any (λ a. not a.positive && is_order_at atoms clause a) clause

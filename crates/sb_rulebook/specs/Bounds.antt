@@ -46,7 +46,8 @@ least_product lower upper s = option_map (λ n. s.0 *ℤ n) (if int_lt (pos 0) s
 
 abbrev pub least_by : (Variable → Option ℤ) → (Variable → Option ℤ) → List Summand → Option ℤ
 least_by lower upper [] = Some (pos 0)
-least_by lower upper (s ∷ ss) = option_and_then (λ m. option_map (λ n. m +ℤ n) (least_by lower upper ss)) (least_product lower upper s)
+least_by lower upper (s ∷ ss) =
+    option_and_then (λ m. option_map (λ n. m +ℤ n) (least_by lower upper ss)) (least_product lower upper s)
 
 abbrev pub least_sum : List Bound → List Summand → Option ℤ
 least_sum bs ss = least_by (lower_in bs) (upper_in bs) ss

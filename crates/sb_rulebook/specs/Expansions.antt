@@ -1,8 +1,9 @@
--- The expansion of a regex: classes of characters, each with the regex that is the derivative by its characters ("Symbolic
--- Boolean Derivatives", Stanford, Veanes and Bjørner, PLDI 2021).
+-- The expansion of a regex: classes of characters, each with the regex that is the derivative by its characters
+-- ("Symbolic Boolean Derivatives", Stanford, Veanes and Bjørner, PLDI 2021).
 use Rattle.std.specs.Prelude.{◌≡◌, ℕ, ◌+◌, Bool, true, false, ◌&&◌, List, [], ◌∷◌, ◌++◌, filter}
 use Rattle.std.specs.List.{list_all, flat_map}
-use Rattle.sb_class.specs.Ranges.{Range, in_ranges, rises_from, is_character}
+use Rattle.sb_class.specs.Ranges.{Range, in_ranges, rises_from}
+use Rattle.sb_word.specs.Words.{is_character}
 use Rattle.sb_lang.specs.Regex.{Regex, Regexes, none, eps, set, cat, alt, and, neg, star, rep, path, no_more, more}
 use Rattle.sb_lang.specs.Order.{regex_eq}
 use Rattle.sb_lang.specs.Derivative.{nd}
@@ -56,7 +57,7 @@ abbrev mutual
 abbrev pub points_of : Regex → List Branch → List ℕ
 points_of r ps = filter is_character (0 ∷ (flat_map (λ p. ends_of p.0) ps ++ ends_in r))
 
--- The same by a test, which looks at these points alone: between two neighbours of them no class and no set of the regex
--- tells characters apart, so neither does the derivative.
+-- The same by a test, which looks at these points alone: between two neighbours of them no class and no set of the
+-- regex tells characters apart, so neither does the derivative.
 abbrev pub is_expansion : Regex → List Branch → Bool
 is_expansion r ps = are_classes ps && list_all (is_right_at r ps) (points_of r ps)

@@ -8,7 +8,8 @@ use Rattle.sb_rulebook.specs.RegexRules.{follows_regex, follows_expansion, follo
 use Rattle.sb_rulebook.specs.AtomRules.{follows_atom}
 use Rattle.sb_rulebook.specs.ClauseRules.{follows_assertion, follows_rule, follows_learned}
 
--- what is kept behind a line, or why it does not follow; the first line, verdicts and the last line have places of their own
+-- what is kept behind a line, or why it does not follow; the first line, verdicts and the last line have places of
+-- their own
 abbrev pub follows : Asked → AllKept → Line → Result AllKept Refusal
 follows asked kept (regex_line node) = follows_regex kept node
 follows asked kept (atom_line atom) = follows_atom asked kept atom
@@ -27,4 +28,5 @@ kept_behind asked kept line = result_unwrap_or (follows asked kept line) kept
 
 -- A line that is refused adds nothing.
 abbrev pub RefusedLineLeavesKept : Type 0
-RefusedLineLeavesKept = (asked : Asked) (kept : AllKept) (line : Line) (refusal : Refusal) → follows asked kept line ≡ Err refusal → kept_behind asked kept line ≡ kept
+RefusedLineLeavesKept = (asked : Asked) (kept : AllKept) (line : Line) (refusal : Refusal)
+    → follows asked kept line ≡ Err refusal → kept_behind asked kept line ≡ kept

@@ -1,8 +1,8 @@
 -- The clauses of gates, which are true under every valuation. A clause is one by the set of its literals.
 use Rattle.std.specs.Prelude.{ℕ, ℤ, pos, negsuc, Bool, false, not, ◌&&◌, ◌||◌, if◌then◌else◌, List, [], ◌∷◌, map, slice_get, Option, Some, None}
 use Rattle.std.specs.List.{list_any}
-use Rattle.sb_word.specs.declared.clause.Lit.{Lit}
-use Rattle.sb_word.specs.Clauses.{negation, is_among, are_among}
+use Rattle.sb_lit.specs.declared.clause.Lit.{Lit}
+use Rattle.sb_lit.specs.Clauses.{negation, is_among, are_among}
 use Rattle.sb_lang.specs.Constructors.{any_character, mkrep}
 use Rattle.sb_rulebook.specs.Atoms.{Atom, in_atom, le_atom, and_atom, iff_atom, constant_piece, length_of, is_same_atom}
 
@@ -16,8 +16,8 @@ atom_of atoms l = slice_get atoms l.atom
 abbrev pub differ_in_sign : Lit → Lit → Bool
 differ_in_sign l m = if l.positive then not m.positive else m.positive
 
--- Gates: a literal and its negation; what a conjunction, or an equivalence, says of its literals; the length of a constant, and
--- its membership in the words up to that length.
+-- Gates: a literal and its negation; what a conjunction, or an equivalence, says of its literals; the length of a
+-- constant, and its membership in the words up to that length.
 
 abbrev pub has_both_signs : List Lit → Bool
 has_both_signs clause = list_any (λ l. is_among clause (negation l)) clause
@@ -34,7 +34,8 @@ is_short_membership serial (negsuc n) atom = false
 -- the clause is of the literal of the bound and of one of the membership, with the other sign
 abbrev pub is_length_link : List Atom → List Lit → Lit → ℕ → ℤ → Bool
 is_length_link atoms clause l serial k =
-    list_any (λ m. is_short_membership serial k (atom_of atoms m) && (differ_in_sign l m && is_set_of clause (l ∷ m ∷ []))) clause
+    list_any (λ m. is_short_membership serial k (atom_of atoms m)
+    && (differ_in_sign l m && is_set_of clause (l ∷ m ∷ []))) clause
 
 -- the clause is a gate of the atom of this literal
 abbrev pub is_gate_of : List Atom → List Lit → Lit → Option Atom → Bool

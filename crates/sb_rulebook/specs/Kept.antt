@@ -1,24 +1,12 @@
 -- What a proof keeps: all that its lines have established so far.
-use Rattle.std.specs.Prelude.{ℕ, ◌+◌, ◌-◌, ◌^◌, Bool, ◌==◌, nat_lt, nat_le, if◌then◌else◌, List, [], ◌∷◌, ◌++◌, map, slice_get, Option, Some, None, unwrap_or, Result, Ok, Err}
+use Rattle.std.specs.Prelude.{ℕ, ◌+◌, ◌-◌, ◌^◌, Bool, ◌==◌, nat_lt, if◌then◌else◌, List, [], ◌∷◌, ◌++◌, map, Option, Some, None, Result, Ok, Err}
 use Rattle.std.specs.List.{list_any}
-use Rattle.sb_word.specs.declared.clause.Lit.{Lit}
+use Rattle.sb_lit.specs.declared.clause.Lit.{Lit}
+use Rattle.sb_lit.specs.Kept.{Kept, kept_up_to}
 use Rattle.sb_lang.specs.Regex.{Regex}
-use Rattle.sb_meaning.specs.Terms.{Kind, Term}
+use Rattle.sb_meaning.specs.Terms.{Sort, Term}
 use Rattle.sb_rulebook.specs.Refusals.{Refusal, wrong_verdict}
 use Rattle.sb_rulebook.specs.Atoms.{Atom}
-
--- a clause that is kept, and its level
-pub record KeptClause : Type 0 where
-  pub literals : List Lit
-  pub level : ℕ
-
--- the kept clauses by number; the place of a dropped one is empty
-abbrev pub Kept : Type 0
-Kept = List (Option KeptClause)
-
--- the kept clause of the number, none where it is not defined or dropped
-abbrev pub kept_at : Kept → ℕ → Option KeptClause
-kept_at kept id = unwrap_or (slice_get kept id) None
 
 -- the regex of a number, and the targets of its expansion
 pub record Expansion : Type 0 where
@@ -55,7 +43,7 @@ pub record Asked : Type 0 where
   -- the live assertions, each with its level: a term, or none of a mark
   pub live : List (Option Term × ℕ)
   -- the sorts of all constants declared so far, by serial
-  pub sorts : List Kind
+  pub sorts : List Sort
   -- the limit in force
   pub limit : ℕ
 
@@ -65,22 +53,20 @@ most_counted asked = if asked.limit == 0 then 2 ^ 64 - 1 else asked.limit
 
 -- with one more counted line, unless it is past the limit
 abbrev pub counting : Asked → AllKept → Result AllKept Refusal
-counting asked kept = if nat_lt kept.counted (most_counted asked) then Ok (record kept { counted = kept.counted + 1 }) else Err wrong_verdict
+counting asked kept = if nat_lt kept.counted (most_counted asked) then Ok (record kept { counted = kept.counted + 1 })
+    else Err wrong_verdict
 
 abbrev pub with_clause : AllKept → List Lit → ℕ → AllKept
-with_clause kept clause level = record kept { clauses = kept.clauses ++ Some (record { literals = clause; level = level }) ∷ [] }
+with_clause kept clause level =
+    record kept { clauses = kept.clauses ++ Some (record { literals = clause; level = level }) ∷ [] }
 
 -- after a verdict the count begins again
 abbrev pub count_again : AllKept → AllKept
 count_again kept = record kept { counted = 0 }
 
 -- a clause of a level that is left is dropped; its number stays its own
-abbrev pub unless_above : ℕ → Option KeptClause → Option KeptClause
-unless_above level None = None
-unless_above level (Some clause) = if nat_le clause.level level then Some clause else None
-
 abbrev pub dropped_above : ℕ → AllKept → AllKept
-dropped_above level kept = record kept { clauses = map (unless_above level) kept.clauses }
+dropped_above level kept = record kept { clauses = kept_up_to level kept.clauses }
 
 -- all clauses are dropped
 abbrev pub all_dropped : AllKept → AllKept

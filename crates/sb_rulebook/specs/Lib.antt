@@ -21,7 +21,6 @@ pub mod Follows
 pub mod Verdicts
 pub mod Accepted
 pub mod Relevant
-pub mod Examples
 pub mod ProofExamples
 pub mod TranslationExamples
 pub mod LineExamples

@@ -65,7 +65,8 @@ bool_line : IsText (codes "a bool 3") (atom_line (bool_atom 3))
 unfolding computing
 bool_line = (refl, refl)
 
-in_line : IsText (codes "a in v0 w61.2ffff v1 : 4") (atom_line (in_atom (constant_piece 0 ∷ word_piece (0x61 ∷ 0x2ffff ∷ []) ∷ constant_piece 1 ∷ []) 4))
+in_line : IsText (codes "a in v0 w61.2ffff v1 : 4")
+    (atom_line (in_atom (constant_piece 0 ∷ word_piece (0x61 ∷ 0x2ffff ∷ []) ∷ constant_piece 1 ∷ []) 4))
 unfolding computing
 in_line = (refl, refl)
 
@@ -77,7 +78,8 @@ le_line : IsText (codes "a le l0 -5") (atom_line (le_atom (length_of 0) (negsuc 
 unfolding computing
 le_line = (refl, refl)
 
-sum_line : IsText (codes "a sum 7 -1 i2 2 l0") (atom_line (sum_atom (pos 7) ((negsuc 0, int_constant 2) ∷ (pos 2, length_of 0) ∷ [])))
+sum_line : IsText (codes "a sum 7 -1 i2 2 l0")
+    (atom_line (sum_atom (pos 7) ((negsuc 0, int_constant 2) ∷ (pos 2, length_of 0) ∷ [])))
 unfolding computing
 sum_line = (refl, refl)
 
@@ -89,7 +91,8 @@ iff_line : IsText (codes "a iff +0 -1") (atom_line (iff_atom (plus 0) (minus 1))
 unfolding computing
 iff_line = (refl, refl)
 
-x_line : IsText (codes "x 5 0-60,62-2ffff>6 61-61>7") (expansion_line 5 (((0, 0x60) ∷ (0x62, 0x2ffff) ∷ [], 6) ∷ ((0x61, 0x61) ∷ [], 7) ∷ []))
+x_line : IsText (codes "x 5 0-60,62-2ffff>6 61-61>7")
+    (expansion_line 5 (((0, 0x60) ∷ (0x62, 0x2ffff) ∷ [], 6) ∷ ((0x61, 0x61) ∷ [], 7) ∷ []))
 unfolding computing
 x_line = (refl, refl)
 
@@ -129,7 +132,8 @@ empty_learn_line : IsText (codes "c learn : 0") (learned_line [] (0 ∷ []))
 unfolding computing
 empty_learn_line = (refl, refl)
 
-sat_line : IsText (codes "v sat w t f -5 w61.62") (verdict_line (said_sat (Text [] ∷ Truth true ∷ Truth false ∷ Int (negsuc 4) ∷ Text (codes "ab") ∷ [])))
+sat_line : IsText (codes "v sat w t f -5 w61.62")
+    (verdict_line (said_sat (Text [] ∷ Truth true ∷ Truth false ∷ Int (negsuc 4) ∷ Text (codes "ab") ∷ [])))
 unfolding computing
 sat_line = (refl, refl)
 

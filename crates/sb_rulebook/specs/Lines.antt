@@ -1,9 +1,9 @@
--- The lines of a proof: what each says, by numbers, and its text. A line's fields have one space between. Regexes, atoms
--- and clauses are numbered from 0, each kind by its own lines.
+-- The lines of a proof: what each says, by numbers, and its text. A line's fields have one space between. Regexes,
+-- atoms and clauses are numbered from 0, each kind by its own lines.
 use Rattle.std.specs.Prelude.{ℕ, true, false, if◌then◌else◌, List, [], ◌∷◌, ◌++◌, map, codes, decimal}
 use Rattle.std.specs.List.{join_with_byte, flat_map}
 use Rattle.std.specs.Fmt.{digits, signed_decimal}
-use Rattle.sb_word.specs.declared.clause.Lit.{Lit}
+use Rattle.sb_lit.specs.declared.clause.Lit.{Lit}
 use Rattle.sb_class.specs.Ranges.{Range}
 use Rattle.sb_meaning.specs.Values.{Value, Text, Int, Truth}
 use Rattle.sb_rulebook.specs.Atoms.{AtomOver, bool_atom, in_atom, le_atom, sum_atom, and_atom, iff_atom, Piece, constant_piece, word_piece, Variable, int_constant, length_of, Summand}

@@ -1,7 +1,8 @@
--- The literal bounds of assertions: two neighbours under `=`, `<=`, `<`, `>=` or `>`, one an Int constant or the length of a
--- String constant, the other a numeral or its negation. They stand in an assertion, or in a conjunct of one.
+-- The literal bounds of assertions: two neighbours under `=`, `<=`, `<`, `>=` or `>`, one an Int constant or the
+-- length of a String constant, the other a numeral or its negation. They stand in an assertion, or in a conjunct of
+-- one.
 use Rattle.std.specs.Prelude.{ℤ, pos, ◌+ℤ◌, neg_ℤ, List, [], ◌∷◌, ◌++◌, Option, Some, None}
-use Rattle.sb_meaning.specs.Terms.{Symbol, integer, text, Term, Terms, constant, numeral, apply, no_terms, with_term}
+use Rattle.sb_meaning.specs.Terms.{integer, text, Term, Terms, constant, numeral, apply, no_terms, with_term}
 use Rattle.sb_meaning.specs.Terms as symbol
 use Rattle.sb_rulebook.specs.Atoms.{Variable, int_constant, length_of}
 use Rattle.sb_rulebook.specs.Bounds.{Bound, at_least, at_most}
@@ -27,7 +28,9 @@ moved d (Some k) = Some (k +ℤ d)
 
 -- the first is at most the second and d
 abbrev pub bounds_of_pair : ℤ → Term → Term → List Bound
-bounds_of_pair d a b = bound_by at_most (variable_in a) (moved d (number_in b)) ++ bound_by at_least (variable_in b) (moved (neg_ℤ d) (number_in a))
+bounds_of_pair d a b =
+    bound_by at_most (variable_in a) (moved d (number_in b))
+    ++ bound_by at_least (variable_in b) (moved (neg_ℤ d) (number_in a))
 
 abbrev pub of_neighbours : (Term → Term → List Bound) → List Term → List Bound
 of_neighbours bounds [] = []
@@ -37,7 +40,8 @@ of_neighbours bounds (a ∷ b ∷ rest) = bounds a b ++ of_neighbours bounds (b 
 abbrev mutual
   pub bounds_of : Term → List Bound
   bounds_of (apply symbol.core_and terms) = bounds_of_each terms
-  bounds_of (apply symbol.core_equal terms) = of_neighbours (λ a b. bounds_of_pair (pos 0) a b ++ bounds_of_pair (pos 0) b a) (terms_in terms)
+  bounds_of (apply symbol.core_equal terms) =
+      of_neighbours (λ a b. bounds_of_pair (pos 0) a b ++ bounds_of_pair (pos 0) b a) (terms_in terms)
   bounds_of (apply symbol.at_most terms) = of_neighbours (bounds_of_pair (pos 0)) (terms_in terms)
   bounds_of (apply symbol.less terms) = of_neighbours (bounds_of_pair (neg_ℤ (pos 1))) (terms_in terms)
   bounds_of (apply symbol.at_least terms) = of_neighbours (λ a b. bounds_of_pair (pos 0) b a) (terms_in terms)

@@ -4,7 +4,7 @@ use Rattle.std.specs.Prelude.{ℕ, ◌+◌, pos, Bool, true, false, not, ◌&&�
 use Rattle.std.specs.List.{list_any}
 use Rattle.sb_lang.specs.Regex.{Regex}
 use Rattle.sb_lang.specs.Normal.{normal}
-use Rattle.sb_meaning.specs.Terms.{Kind, boolean, integer, text, reglan, Term, Terms, constant, word, numeral, apply, no_terms, with_term}
+use Rattle.sb_meaning.specs.Terms.{integer, text, Term, Terms, constant, word, numeral, apply, no_terms, with_term}
 use Rattle.sb_meaning.specs.Terms as symbol
 use Rattle.sb_meaning.specs.Truth.{Meaning, means_reglan, meaning_of}
 use Rattle.sb_rulebook.specs.Atoms.{Piece, constant_piece, word_piece, int_constant}
@@ -23,7 +23,7 @@ terms_in (with_term term terms) = term ∷ terms_in terms
 -- no constant stands in the term
 abbrev mutual
   pub is_ground : Term → Bool
-  is_ground (constant serial kind) = false
+  is_ground (constant serial sort) = false
   is_ground (word w) = true
   is_ground (numeral n) = true
   is_ground (apply s terms) = are_ground terms
@@ -71,7 +71,8 @@ abbrev mutual
 
   pub all_pieces : Terms → Option (List (List Piece))
   all_pieces no_terms = Some []
-  all_pieces (with_term term terms) = option_and_then (λ ps. option_map (λ pss. ps ∷ pss) (all_pieces terms)) (pieces_of term)
+  all_pieces (with_term term terms) =
+      option_and_then (λ ps. option_map (λ pss. ps ∷ pss) (all_pieces terms)) (pieces_of term)
 
 abbrev pub is_constant_piece : ℕ → Piece → Bool
 is_constant_piece serial (constant_piece other) = serial == other

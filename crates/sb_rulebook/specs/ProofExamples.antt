@@ -14,7 +14,7 @@ use Rattle.sb_lang.specs.Membership.{in_re}
 use Rattle.sb_lang.specs.Language.{language}
 use Rattle.sb_lang.specs.Languages.{cut, power, some_up_to, iterate, repeat}
 use Rattle.sb_lang.specs.NormalForm.{is_normal}
-use Rattle.sb_meaning.specs.Terms.{Term, Terms, text, constant, word, apply, no_terms, with_term}
+use Rattle.sb_meaning.specs.Terms.{Term, text, constant, word, apply, no_terms, with_term}
 use Rattle.sb_meaning.specs.Terms as symbol
 use Rattle.sb_rulebook.specs.Refusals.{bad_word, bad_number, unended, misplaced, unknown_id, repeated, not_normal, wrong_target, holds_empty_word, not_closed, hint_idle, rule_broken, wrong_verdict}
 use Rattle.sb_rulebook.specs.Lines.{said_unsat}
@@ -23,7 +23,10 @@ use Rattle.sb_rulebook.specs.Accepted.{asks, Outcome, accepted, refused, judged,
 
 -- what the examples compute by
 unfoldable pub computing : Unit {0}
-unfolding mkset mkcat mkalt mkand mknot mkstar mkrep mkpath alternatives conjuncts parts regexes join_sets meet_sets meet_of ranges_of is_set union_of inter_of sorted with_regex alt_of and_of code range_code union with_range inter within_range overlap nd nd_along nullable in_ranges in_range rises_from in_re iterate repeat some_up_to power cut language is_normal normal word_regex range_regex digits hex_value hex_number_from
+unfolding mkset mkcat mkalt mkand mknot mkstar mkrep mkpath alternatives conjuncts parts regexes join_sets meet_sets
+    meet_of ranges_of is_set union_of inter_of sorted with_regex alt_of and_of code range_code union with_range inter
+    within_range overlap nd nd_along nullable in_ranges in_range rises_from in_re iterate repeat some_up_to power cut
+    language is_normal normal word_regex range_regex digits hex_value hex_number_from
 computing = tt
 
 -- the String constant of serial 0
@@ -40,11 +43,12 @@ member R = apply symbol.str_in_re (with_term x (with_term R no_terms))
 abbrev question : Question
 question = record {
   asked = record {
-    live = (Some (member (apply symbol.re_star (with_term (of_word (codes "a")) no_terms))), 0) ∷ (Some (member (apply symbol.re_plus (with_term (of_word (codes "b")) no_terms))), 0) ∷ [];
+    live = (Some (member (apply symbol.re_star (with_term (of_word (codes "a")) no_terms))), 0) ∷
+        (Some (member (apply symbol.re_plus (with_term (of_word (codes "b")) no_terms))), 0) ∷ [];
     sorts = text ∷ [];
     limit = 0;
   };
-  constants = record { name = codes "x"; serial = 0; kind = text } ∷ [];
+  constants = record { name = codes "x"; serial = 0; sort = text } ∷ [];
   assumptions = [];
   inside = true;
 }
@@ -175,7 +179,8 @@ unfolding computing
 a_verdict_twice = refl
 
 -- the last line without its line feed
-no_line_feed : judged (asks question ∷ []) (bytes_of (take 18 proof) ++ codes "end") ≡ refused (said_unsat 3 ∷ []) 19 unended
+no_line_feed : judged (asks question ∷ []) (bytes_of (take 18 proof) ++ codes "end")
+    ≡ refused (said_unsat 3 ∷ []) 19 unended
 unfolding computing
 no_line_feed = refl
 

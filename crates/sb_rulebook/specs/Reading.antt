@@ -1,9 +1,9 @@
--- The line of a text, or why there is none. First the words of the format and the number of the fields are looked at: a text
--- with others is a bad word. Then each other field has to be of its shape: else it is a bad number.
+-- The line of a text, or why there is none. First the words of the format and the number of the fields are looked at:
+-- a text with others is a bad word. Then each other field has to be of its shape: else it is a bad number.
 use Rattle.std.specs.Prelude.{ℕ, zero, suc, ◌+◌, ◌-◌, ◌*◌, ◌^◌, ℤ, pos, negsuc, Bool, true, false, ◌&&◌, ◌==◌, nat_eq, nat_lt, nat_le, if◌then◌else◌, List, [], ◌∷◌, codes, decimal, Option, Some, None, option_map, option_and_then, ok_or, Result, Ok, Err}
 use Rattle.std.specs.List.{slice_split}
 use Rattle.std.specs.Cmp.Lexicographic.{pointwise}
-use Rattle.sb_word.specs.declared.clause.Lit.{Lit}
+use Rattle.sb_lit.specs.declared.clause.Lit.{Lit}
 use Rattle.sb_word.specs.Literals.{hex_number_from}
 use Rattle.sb_class.specs.Ranges.{Range}
 use Rattle.sb_meaning.specs.Values.{Value, Text, Int, Truth}
@@ -101,7 +101,8 @@ class field = both ranges number (split_at 62 field)
 abbrev pub summands : List Field → Option (List Summand)
 summands [] = Some []
 summands (c ∷ []) = None
-summands (c ∷ x ∷ fs) = option_and_then (λ s. option_map (λ ss. s ∷ ss) (summands fs)) (both integer variable (c ∷ x ∷ []))
+summands (c ∷ x ∷ fs) =
+    option_and_then (λ s. option_map (λ ss. s ∷ ss) (summands fs)) (both integer variable (c ∷ x ∷ []))
 
 -- What follows a word of the format: so many fields, each of its shape.
 
@@ -123,7 +124,8 @@ two first second make (f ∷ g ∷ []) = ok_or (option_map (λ p. make p.0 p.1) 
 two first second make _ = Err bad_word
 
 abbrev pub three : {A B : Type 0} → (Field → Option A) → (A → A → A → B) → Reader B
-three shape make (f ∷ g ∷ h ∷ []) = ok_or (option_and_then (λ x. option_map (λ p. make x p.0 p.1) (both shape shape (g ∷ h ∷ []))) (shape f)) bad_number
+three shape make (f ∷ g ∷ h ∷ []) =
+    ok_or (option_and_then (λ x. option_map (λ p. make x p.0 p.1) (both shape shape (g ∷ h ∷ []))) (shape f)) bad_number
 three shape make _ = Err bad_word
 
 abbrev pub any_number : {A B : Type 0} → (Field → Option A) → (List A → B) → Reader B

@@ -53,13 +53,17 @@ abbrev pub expanded : Asked → AllKept → ℕ → List Class → Regex → Lis
 expanded asked kept id ks r ps =
     if is_some (targets_in kept.expansions id) then Err repeated
     else if is_expansion r ps then
-    counting asked (record kept { expansions = kept.expansions ++ record { regex = id; targets = map (λ k. k.1) ks } ∷ [] })
+    counting asked (record kept {
+      expansions =
+          kept.expansions ++ record { regex = id; targets = map (λ k. k.1) ks } ∷ [];
+    })
     else Err wrong_target
 
 abbrev pub follows_expansion : Asked → AllKept → ℕ → List Class → Result AllKept Refusal
 follows_expansion asked kept id ks = elim (slice_get kept.regexes id) [
   | None ↦ Err unknown_id
-  | Some r ↦ elim (together (map (branch_of kept.regexes) ks)) [ None ↦ Err unknown_id | Some ps ↦ expanded asked kept id ks r ps ]
+  | Some r ↦ elim (together (map (branch_of kept.regexes) ks))
+      [ None ↦ Err unknown_id | Some ps ↦ expanded asked kept id ks r ps ]
 ]
 
 -- a member is twice among these, or dead before
@@ -73,7 +77,8 @@ is_settled kept ids target = is_among_numbers ids target || is_dead kept target
 
 -- a regex is expanded, and its targets have no word
 abbrev pub is_closed : AllKept → List ℕ → ℕ → Bool
-is_closed kept ids id = elim (targets_in kept.expansions id) [ None ↦ false | Some targets ↦ list_all (is_settled kept ids) targets ]
+is_closed kept ids id =
+    elim (targets_in kept.expansions id) [ None ↦ false | Some targets ↦ list_all (is_settled kept ids) targets ]
 
 -- why the first of the members that may not be among these may not
 abbrev pub first_alive : AllKept → List ℕ → List (ℕ × Regex) → Option Refusal
@@ -87,11 +92,13 @@ first_alive kept ids (m ∷ ms) =
 abbrev pub died : AllKept → List ℕ → List (ℕ × Regex) → Result AllKept Refusal
 died kept ids ms =
     if has_repeated kept ids then Err repeated
-    else elim (first_alive kept ids ms) [ Some refusal ↦ Err refusal | None ↦ Ok (record kept { dead = kept.dead ++ ids }) ]
+    else elim (first_alive kept ids ms)
+    [ Some refusal ↦ Err refusal | None ↦ Ok (record kept { dead = kept.dead ++ ids }) ]
 
 -- a member by its number, with its regex
 abbrev pub member_at : List Regex → ℕ → Option (ℕ × Regex)
 member_at known id = option_map (λ r. (id, r)) (slice_get known id)
 
 abbrev pub follows_dead : AllKept → List ℕ → Result AllKept Refusal
-follows_dead kept ids = elim (together (map (member_at kept.regexes) ids)) [ None ↦ Err unknown_id | Some ms ↦ died kept ids ms ]
+follows_dead kept ids =
+    elim (together (map (member_at kept.regexes) ids)) [ None ↦ Err unknown_id | Some ms ↦ died kept ids ms ]

@@ -1,9 +1,9 @@
 -- Computed examples of what follows, rule by rule, and of verdicts, levels and limits.
 use Rattle.std.specs.Prelude.{◌≡◌, ℕ, pos, negsuc, true, false, List, [], ◌∷◌, map, codes, Option, Some, None, option_map, Ok, Err, refl}
-use Rattle.sb_word.specs.declared.clause.Lit.{Lit}
+use Rattle.sb_lit.specs.declared.clause.Lit.{Lit}
 use Rattle.sb_lang.specs.Regex.{Regex, none, set, cat, star, rep, path}
 use Rattle.sb_lang.specs.Constructors.{any_character}
-use Rattle.sb_meaning.specs.Terms.{Term, boolean, integer, text, constant, word, numeral}
+use Rattle.sb_meaning.specs.Terms.{boolean, integer, text, constant, numeral}
 use Rattle.sb_meaning.specs.Terms as symbol
 use Rattle.sb_meaning.specs.Values.{Text, Int, Truth}
 use Rattle.sb_rulebook.specs.Refusals.{Refusal, unknown_id, repeated, not_normal, wrong_target, not_closed, rule_broken, wrong_verdict}
@@ -28,7 +28,8 @@ b = set ((0x62, 0x62) ∷ [])
 -- Gates.
 
 abbrev gates : List Atom
-gates = bool_atom 0 ∷ bool_atom 1 ∷ and_atom (plus 0 ∷ minus 1 ∷ []) ∷ iff_atom (plus 0) (plus 1) ∷ le_atom (length_of 2) (pos 4) ∷ in_atom (constant_piece 2 ∷ []) (rep any_character 0 4) ∷ []
+gates = bool_atom 0 ∷ bool_atom 1 ∷ and_atom (plus 0 ∷ minus 1 ∷ []) ∷ iff_atom (plus 0) (plus 1) ∷ le_atom
+    (length_of 2) (pos 4) ∷ in_atom (constant_piece 2 ∷ []) (rep any_character 0 4) ∷ []
 
 a_literal_and_its_negation : is_gate gates (plus 0 ∷ plus 1 ∷ minus 1 ∷ []) ≡ true
 unfolding computing
@@ -74,9 +75,11 @@ not_both = refl
 
 abbrev bounds : List Atom
 bounds =
-    le_atom (length_of 0) (pos 2) ∷ le_atom (length_of 0) (pos 5) ∷ le_atom (length_of 0) (negsuc 0) ∷ le_atom (int_constant 1) (pos 5)
+    le_atom (length_of 0) (pos 2) ∷ le_atom (length_of 0) (pos 5) ∷ le_atom (length_of 0) (negsuc 0) ∷ le_atom
+    (int_constant 1) (pos 5)
     -- 4: the length and n are at most 7. 5: the length less n is at most -6
-    ∷ sum_atom (pos 7) ((pos 1, length_of 0) ∷ (pos 1, int_constant 1) ∷ []) ∷ sum_atom (negsuc 5) ((pos 1, length_of 0) ∷ (negsuc 0, int_constant 1) ∷ []) ∷ []
+    ∷ sum_atom (pos 7) ((pos 1, length_of 0) ∷ (pos 1, int_constant 1) ∷ []) ∷ sum_atom (negsuc 5)
+    ((pos 1, length_of 0) ∷ (negsuc 0, int_constant 1) ∷ []) ∷ []
 
 a_lesser_bound : is_order bounds (minus 0 ∷ plus 1 ∷ []) ≡ true
 unfolding computing
@@ -126,7 +129,8 @@ two_sums = refl
 abbrev memberships : List Atom
 memberships =
     -- 0: x and y are in ab. 1: x leads from ab to b. 2: y is in b
-    in_atom (constant_piece 0 ∷ constant_piece 1 ∷ []) (cat a b) ∷ in_atom (constant_piece 0 ∷ []) (path (cat a b) b) ∷ in_atom (constant_piece 1 ∷ []) b
+    in_atom (constant_piece 0 ∷ constant_piece 1 ∷ []) (cat a b) ∷ in_atom (constant_piece 0 ∷ []) (path (cat a b) b) ∷
+    in_atom (constant_piece 1 ∷ []) b
     -- 3: "a" and y are in ab. 4: nothing is in a*. 5: nothing is in b
     ∷ in_atom (word_piece (codes "a") ∷ constant_piece 1 ∷ []) (cat a b) ∷ in_atom [] (star a) ∷ in_atom [] b ∷ []
 
@@ -167,7 +171,8 @@ not_the_other_way = refl
 abbrev cover : AllKept
 cover = record nothing_kept {
   regexes = none ∷ a ∷ [];
-  atoms = in_atom (constant_piece 0 ∷ []) a ∷ in_atom (constant_piece 0 ∷ []) (set ((0x61, 0x62) ∷ [])) ∷ in_atom (constant_piece 1 ∷ []) b ∷ in_atom (constant_piece 0 ∷ []) b ∷ [];
+  atoms = in_atom (constant_piece 0 ∷ []) a ∷ in_atom (constant_piece 0 ∷ []) (set ((0x61, 0x62) ∷ [])) ∷ in_atom
+      (constant_piece 1 ∷ []) b ∷ in_atom (constant_piece 0 ∷ []) b ∷ [];
   dead = 0 ∷ [];
 }
 
@@ -199,7 +204,8 @@ unfolding computing
 a_star = refl
 
 -- one target in several classes, in any order
-a_target_twice : is_expansion (star a) (((0x62, 0x2ffff) ∷ [], none) ∷ ((0x61, 0x61) ∷ [], star a) ∷ ((0, 0x60) ∷ [], none) ∷ []) ≡ true
+a_target_twice : is_expansion (star a)
+    (((0x62, 0x2ffff) ∷ [], none) ∷ ((0x61, 0x61) ∷ [], star a) ∷ ((0, 0x60) ∷ [], none) ∷ []) ≡ true
 unfolding computing
 a_target_twice = refl
 
@@ -212,7 +218,8 @@ unfolding computing
 an_overlap = refl
 
 -- the class has a character whose derivative is another
-a_class_too_wide : is_expansion (star a) (((0x61, 0x62) ∷ [], star a) ∷ ((0, 0x60) ∷ (0x63, 0x2ffff) ∷ [], none) ∷ []) ≡ false
+a_class_too_wide : is_expansion (star a) (((0x61, 0x62) ∷ [], star a) ∷ ((0, 0x60) ∷ (0x63, 0x2ffff) ∷ [], none) ∷ [])
+    ≡ false
 unfolding computing
 a_class_too_wide = refl
 
@@ -228,17 +235,26 @@ no_classes : is_expansion none [] ≡ false
 unfolding computing
 no_classes = refl
 
--- Lines in a script with p Bool, x String and n Int, where p is asserted at level 0 and n <= 5 at level 2, and one line counts.
+-- Lines in a script with p Bool, x String and n Int, where p is asserted at level 0 and n <= 5 at level 2, and one line
+-- counts.
 
 abbrev asked : Asked
 asked = record {
-  live = (Some (constant 0 boolean), 0) ∷ (None, 1) ∷ (Some (symbol.apply symbol.at_most (symbol.with_term (constant 2 integer) (symbol.with_term (numeral 5) symbol.no_terms))), 2) ∷ [];
+  live = (Some (constant 0 boolean), 0) ∷ (None, 1) ∷ (
+    Some (symbol.apply symbol.at_most
+        (symbol.with_term (constant 2 integer) (symbol.with_term (numeral 5) symbol.no_terms))),
+    2,
+  ) ∷ [];
   sorts = boolean ∷ text ∷ integer ∷ [];
   limit = 1;
 }
 
 abbrev kept : AllKept
-kept = record nothing_kept { regexes = none ∷ a ∷ star a ∷ []; atoms = bool_atom 0 ∷ le_atom (int_constant 2) (pos 5) ∷ [] }
+kept = record nothing_kept {
+  regexes = none ∷ a ∷ star a ∷ [];
+  atoms =
+      bool_atom 0 ∷ le_atom (int_constant 2) (pos 5) ∷ [];
+}
 
 abbrev refusal_in : AllKept → Line → Option Refusal
 refusal_in k line = elim (follows asked k line) [ Ok after ↦ None | Err refusal ↦ Some refusal ]
@@ -251,7 +267,8 @@ an_assertion : follows asked kept (assertion_line 2 (plus 1)) ≡ Ok (with_claus
 unfolding computing
 an_assertion = refl
 
-a_gate : follows asked kept (rule_line gate (plus 0 ∷ minus 0 ∷ [])) ≡ Ok (with_clauses (Some (plus 0 ∷ minus 0 ∷ [], 0) ∷ []) kept)
+a_gate : follows asked kept (rule_line gate (plus 0 ∷ minus 0 ∷ []))
+    ≡ Ok (with_clauses (Some (plus 0 ∷ minus 0 ∷ [], 0) ∷ []) kept)
 unfolding computing
 a_gate = refl
 
@@ -297,7 +314,8 @@ a_regex_that_is_not_there : refusal_in kept (atom_line (in_atom (constant_piece 
 unfolding computing
 a_regex_that_is_not_there = refl
 
-two_words : refusal_in kept (atom_line (in_atom (word_piece (codes "a") ∷ word_piece (codes "b") ∷ []) 1)) ≡ Some not_normal
+two_words : refusal_in kept (atom_line (in_atom (word_piece (codes "a") ∷ word_piece (codes "b") ∷ []) 1))
+    ≡ Some not_normal
 unfolding computing
 two_words = refl
 
@@ -314,7 +332,8 @@ one_literal = refl
 abbrev after_one : AllKept
 after_one = record kept { counted = 1 }
 
-a_line_within_the_limit : follows asked kept (expansion_line 0 (((0, 0x2ffff) ∷ [], 0) ∷ [])) ≡ Ok (record kept { expansions = record { regex = 0; targets = 0 ∷ [] } ∷ []; counted = 1 })
+a_line_within_the_limit : follows asked kept (expansion_line 0 (((0, 0x2ffff) ∷ [], 0) ∷ []))
+    ≡ Ok (record kept { expansions = record { regex = 0; targets = 0 ∷ [] } ∷ []; counted = 1 })
 unfolding computing
 a_line_within_the_limit = refl
 
@@ -369,7 +388,12 @@ new_again = refl
 abbrev question : Question
 question = record {
   asked = record asked { live = (Some (constant 0 boolean), 0) ∷ [] };
-  constants = record { name = codes "p"; serial = 0; kind = boolean } ∷ record { name = codes "x"; serial = 1; kind = text } ∷ record { name = codes "n"; serial = 2; kind = integer } ∷ [];
+  constants = record { name = codes "p"; serial = 0; sort = boolean } ∷ record {
+    name = codes "x";
+    serial = 1;
+    sort =
+        text;
+  } ∷ record { name = codes "n"; serial = 2; sort = integer } ∷ [];
   assumptions = (0, false) ∷ [];
   inside = true;
 }
@@ -387,7 +411,8 @@ a_model : refusal_of without_assumption kept (said_sat (Truth true ∷ Text [] �
 unfolding computing
 a_model = refl
 
-a_false_assertion : refusal_of without_assumption kept (said_sat (Truth false ∷ Text [] ∷ Int (pos 0) ∷ [])) ≡ Some wrong_verdict
+a_false_assertion : refusal_of without_assumption kept (said_sat (Truth false ∷ Text [] ∷ Int (pos 0) ∷ []))
+    ≡ Some wrong_verdict
 unfolding computing
 a_false_assertion = refl
 
@@ -395,7 +420,8 @@ a_false_assumption : refusal_of question kept (said_sat (Truth true ∷ Text [] 
 unfolding computing
 a_false_assumption = refl
 
-a_value_of_another_sort : refusal_of without_assumption kept (said_sat (Truth true ∷ Int (pos 0) ∷ Int (pos 0) ∷ [])) ≡ Some wrong_verdict
+a_value_of_another_sort : refusal_of without_assumption kept (said_sat (Truth true ∷ Int (pos 0) ∷ Int (pos 0) ∷ []))
+    ≡ Some wrong_verdict
 unfolding computing
 a_value_of_another_sort = refl
 
@@ -440,8 +466,10 @@ another_limit = refl
 
 -- Truth of atoms: p is true, x is "ab", n is 7.
 truths : truths_of ((0, Truth true) ∷ (1, Text (codes "ab")) ∷ (2, Int (pos 7)) ∷ [])
-    (bool_atom 0 ∷ in_atom (constant_piece 1 ∷ []) (cat a b) ∷ le_atom (length_of 1) (pos 1) ∷ le_atom (int_constant 2) (pos 7)
-    ∷ sum_atom (pos 4) ((pos 1, int_constant 2) ∷ (negsuc 0, length_of 1) ∷ []) ∷ and_atom (plus 0 ∷ minus 2 ∷ []) ∷ iff_atom (plus 0) (plus 4) ∷ [])
+    (bool_atom 0 ∷ in_atom (constant_piece 1 ∷ []) (cat a b) ∷ le_atom (length_of 1) (pos 1) ∷ le_atom (int_constant 2)
+    (pos 7)
+    ∷ sum_atom (pos 4) ((pos 1, int_constant 2) ∷ (negsuc 0, length_of 1) ∷ []) ∷ and_atom (plus 0 ∷ minus 2 ∷ []) ∷
+    iff_atom (plus 0) (plus 4) ∷ [])
     ≡ true ∷ true ∷ false ∷ true ∷ false ∷ true ∷ false ∷ []
 unfolding computing
 truths = refl

@@ -1,5 +1,5 @@
--- Linear sums of Int terms (SMT-LIB 2.6, theory Ints), collected: each variable once, by ascending serial, with a factor
--- that is not 0.
+-- Linear sums of Int terms (SMT-LIB 2.6, theory Ints), collected: each variable once, by ascending serial, with a
+-- factor that is not 0.
 use Rattle.std.specs.Prelude.{ℤ, pos, ◌+ℤ◌, ◌*ℤ◌, neg_ℤ, Bool, ◌&&◌, nat_le, if◌then◌else◌, List, [], ◌∷◌, length, Option, Some, None}
 use Rattle.std.specs.List.{list_all}
 use Rattle.std.specs.Ordering.{nat_cmp, int_eq}
@@ -75,7 +75,8 @@ length_sum (p ∷ ps) = added (length_of_piece p) (length_sum ps)
 
 -- The number and the factors are within their limit, and there are at most 1,000 variables.
 abbrev pub is_small : Sum → Bool
-is_small s = is_within size_limit s.constant && (list_all (λ t. is_within size_limit t.0) s.summands && nat_le (length s.summands) 1000)
+is_small s = is_within size_limit s.constant
+    && (list_all (λ t. is_within size_limit t.0) s.summands && nat_le (length s.summands) 1000)
 
 -- the sum, where it is within the limits
 abbrev pub if_small : Sum → Option Sum

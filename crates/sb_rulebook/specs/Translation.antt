@@ -1,15 +1,15 @@
--- The literal of a Bool term, over a table of atoms: it is true exactly where the term is. There is none where an atom that
--- it needs is not in the table, or where the term is of a form that has no translation.
+-- The literal of a Bool term, over a table of atoms: it is true exactly where the term is. There is none where an
+-- atom that it needs is not in the table, or where the term is of a form that has no translation.
 use Rattle.std.specs.Prelude.{ℤ, pos, ◌-ℤ◌, neg_ℤ, true, int_le, if◌then◌else◌, List, [], ◌∷◌, ◌++◌, map, Option, Some, None, option_map, option_and_then}
 use Rattle.std.specs.declared.cmp.Ordering.TheVariants.{Less, Equal, Greater}
 use Rattle.std.specs.Ordering.{is_gt}
-use Rattle.sb_word.specs.declared.clause.Lit.{Lit}
-use Rattle.sb_word.specs.Clauses.{negation, literal_order}
+use Rattle.sb_lit.specs.declared.clause.Lit.{Lit}
+use Rattle.sb_lit.specs.Clauses.{negation, literal_order}
 use Rattle.sb_lang.specs.Regex.{Regex}
 use Rattle.sb_lang.specs.Normal.{word_regex}
-use Rattle.sb_meaning.specs.Terms.{Symbol, Kind, boolean, integer, text, reglan, Term, Terms, constant, word, numeral, apply, no_terms, with_term}
+use Rattle.sb_meaning.specs.Terms.{Symbol, boolean, integer, text, reglan, Term, Terms, constant, apply, no_terms, with_term}
 use Rattle.sb_meaning.specs.Terms as symbol
-use Rattle.sb_meaning.specs.Reading.{kind_of}
+use Rattle.sb_meaning.specs.Sorts.{sort_of}
 use Rattle.sb_rulebook.specs.Atoms.{Atom, Summand, bool_atom, in_atom, le_atom, sum_atom, and_atom, iff_atom, number_of, is_one}
 use Rattle.sb_rulebook.specs.Sums.{Sum, subtracted, if_small}
 use Rattle.sb_rulebook.specs.Parts.{together, single_pieces, ground_word, regex_of, sum_of}
@@ -24,7 +24,8 @@ negated = option_map negation
 -- the literals in order, each once
 abbrev pub with_literal : Lit → List Lit → List Lit
 with_literal l [] = l ∷ []
-with_literal l (m ∷ ms) = elim (literal_order l m) [ Less ↦ l ∷ m ∷ ms | Equal ↦ m ∷ ms | Greater ↦ m ∷ with_literal l ms ]
+with_literal l (m ∷ ms) =
+    elim (literal_order l m) [ Less ↦ l ∷ m ∷ ms | Equal ↦ m ∷ ms | Greater ↦ m ∷ with_literal l ms ]
 
 abbrev pub in_order : List Lit → List Lit
 in_order [] = []
@@ -66,7 +67,8 @@ exclusive atoms (l ∷ ls) = exclusive_from atoms l ls
 
 -- the second where the first is true, else the third
 abbrev pub choice : List Atom → List Lit → Option Lit
-choice atoms (c ∷ l ∷ m ∷ []) = option_and_then (conjunction atoms) (together (implication atoms c l ∷ implication atoms (negation c) m ∷ []))
+choice atoms (c ∷ l ∷ m ∷ []) =
+    option_and_then (conjunction atoms) (together (implication atoms c l ∷ implication atoms (negation c) m ∷ []))
 choice atoms _ = None
 
 -- at most: the sum of the summands is at most k
@@ -80,17 +82,19 @@ bound atoms (s ∷ t ∷ ss) k = positive atoms (sum_atom k (s ∷ t ∷ ss))
 
 -- the first sum less the second is at most k
 abbrev pub difference_bound : List Atom → ℤ → Sum → Sum → Option Lit
-difference_bound atoms k s t = option_and_then (λ d. bound atoms d.summands (k -ℤ d.constant)) (if_small (subtracted s t))
+difference_bound atoms k s t =
+    option_and_then (λ d. bound atoms d.summands (k -ℤ d.constant)) (if_small (subtracted s t))
 
 abbrev pub compared : List Atom → ℤ → Term → Term → Option Lit
 compared atoms k a b = option_and_then (λ s. option_and_then (difference_bound atoms k s) (sum_of b)) (sum_of a)
 
 -- the concatenation of the pieces is in the regex
 abbrev pub membership : List Atom → Term → Option Regex → Option Lit
-membership atoms t regex = option_and_then (λ r. option_and_then (λ ps. positive atoms (in_atom ps r)) (single_pieces t)) regex
+membership atoms t regex =
+    option_and_then (λ r. option_and_then (λ ps. positive atoms (in_atom ps r)) (single_pieces t)) regex
 
--- Equality of two terms, by their sort, of Bool terms by their literals. Of two String terms one is a word; where both are, it is
--- the second.
+-- Equality of two terms, by their sort, of Bool terms by their literals. Of two String terms one is a word; where
+-- both are, it is the second.
 abbrev pub word_equality : List Atom → Term → Term → Option Lit
 word_equality atoms a b = elim (ground_word b) [
   | Some w ↦ membership atoms a (Some (word_regex w))
@@ -98,7 +102,8 @@ word_equality atoms a b = elim (ground_word b) [
 ]
 
 abbrev pub number_equality : List Atom → Term → Term → Option Lit
-number_equality atoms a b = option_and_then (conjunction atoms) (together (compared atoms (pos 0) a b ∷ compared atoms (pos 0) b a ∷ []))
+number_equality atoms a b =
+    option_and_then (conjunction atoms) (together (compared atoms (pos 0) a b ∷ compared atoms (pos 0) b a ∷ []))
 
 abbrev pub truth_equality : List Atom → Option Lit → Option Lit → Option Lit
 truth_equality atoms a b = option_and_then (λ l. option_and_then (equivalence atoms l) b) a
@@ -108,7 +113,7 @@ abbrev pub Argument : Type 0
 Argument = Term × Option Lit
 
 abbrev pub equality : List Atom → Argument → Argument → Option Lit
-equality atoms a b = elim (kind_of a.0) [
+equality atoms a b = elim (sort_of a.0) [
   | boolean ↦ truth_equality atoms a.1 b.1
   | integer ↦ number_equality atoms a.0 b.0
   | text ↦ word_equality atoms a.0 b.0
@@ -152,10 +157,14 @@ applied atoms symbol.core_xor arguments = of_literals (exclusive atoms) argument
 applied atoms symbol.core_ite arguments = of_literals (choice atoms) arguments
 applied atoms symbol.core_equal arguments = all_true atoms (of_neighbours (equality atoms) arguments)
 applied atoms symbol.core_distinct arguments = all_true atoms (of_pairs (λ a b. negated (equality atoms a b)) arguments)
-applied atoms symbol.at_most arguments = all_true atoms (of_neighbours (λ a b. compared atoms (pos 0) a.0 b.0) arguments)
-applied atoms symbol.less arguments = all_true atoms (of_neighbours (λ a b. compared atoms (neg_ℤ (pos 1)) a.0 b.0) arguments)
-applied atoms symbol.at_least arguments = all_true atoms (of_neighbours (λ a b. compared atoms (pos 0) b.0 a.0) arguments)
-applied atoms symbol.greater arguments = all_true atoms (of_neighbours (λ a b. compared atoms (neg_ℤ (pos 1)) b.0 a.0) arguments)
+applied atoms symbol.at_most arguments =
+    all_true atoms (of_neighbours (λ a b. compared atoms (pos 0) a.0 b.0) arguments)
+applied atoms symbol.less arguments =
+    all_true atoms (of_neighbours (λ a b. compared atoms (neg_ℤ (pos 1)) a.0 b.0) arguments)
+applied atoms symbol.at_least arguments =
+    all_true atoms (of_neighbours (λ a b. compared atoms (pos 0) b.0 a.0) arguments)
+applied atoms symbol.greater arguments =
+    all_true atoms (of_neighbours (λ a b. compared atoms (neg_ℤ (pos 1)) b.0 a.0) arguments)
 applied atoms symbol.str_in_re arguments = member_of atoms arguments
 applied atoms _ arguments = None
 

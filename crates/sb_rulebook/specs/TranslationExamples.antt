@@ -1,10 +1,10 @@
 -- Computed examples of translations: each kind of term once.
 use Rattle.std.specs.Prelude.{◌≡◌, ℕ, pos, negsuc, true, false, List, [], ◌∷◌, codes, Option, Some, None, refl}
-use Rattle.sb_word.specs.declared.clause.Lit.{Lit}
+use Rattle.sb_lit.specs.declared.clause.Lit.{Lit}
 use Rattle.sb_lang.specs.Regex.{Regex, star, set, cat}
-use Rattle.sb_meaning.specs.Terms.{Term, Terms, boolean, integer, text, constant, word, numeral, apply}
+use Rattle.sb_meaning.specs.Terms.{Term, boolean, integer, text, constant, word, numeral, apply}
 use Rattle.sb_meaning.specs.Terms as symbol
-use Rattle.sb_meaning.specs.Reading.{terms_of}
+use Rattle.sb_script.specs.Reading.{terms_of}
 use Rattle.sb_rulebook.specs.Atoms.{Atom, bool_atom, in_atom, le_atom, sum_atom, and_atom, iff_atom, constant_piece, word_piece, int_constant, length_of}
 use Rattle.sb_rulebook.specs.Translation.{translation}
 use Rattle.sb_rulebook.specs.ProofExamples.{computing}
@@ -34,11 +34,13 @@ bool_atoms =
     -- 0: true. 1 to 3: p, q, r
     and_atom [] ∷ bool_atom 0 ∷ bool_atom 1 ∷ bool_atom 2
     -- 4: p and q. 5: neither. 6: p without q. 7: p and q are the same
-    ∷ and_atom (plus 1 ∷ plus 2 ∷ []) ∷ and_atom (minus 1 ∷ minus 2 ∷ []) ∷ and_atom (plus 1 ∷ minus 2 ∷ []) ∷ iff_atom (plus 1) (plus 2)
+    ∷ and_atom (plus 1 ∷ plus 2 ∷ []) ∷ and_atom (minus 1 ∷ minus 2 ∷ []) ∷ and_atom (plus 1 ∷ minus 2 ∷ []) ∷ iff_atom
+    (plus 1) (plus 2)
     -- 8: q without r. 9: p, and 8. 10: r, and p and q are not the same, or neither
     ∷ and_atom (plus 2 ∷ minus 3 ∷ []) ∷ and_atom (plus 1 ∷ plus 8 ∷ []) ∷ iff_atom (plus 3) (minus 7)
     -- 11: q and r are the same. 12: all are. 13: p and r are. 14: no two are
-    ∷ iff_atom (plus 2) (plus 3) ∷ and_atom (plus 7 ∷ plus 11 ∷ []) ∷ iff_atom (plus 1) (plus 3) ∷ and_atom (minus 7 ∷ minus 11 ∷ minus 13 ∷ [])
+    ∷ iff_atom (plus 2) (plus 3) ∷ and_atom (plus 7 ∷ plus 11 ∷ []) ∷ iff_atom (plus 1) (plus 3) ∷ and_atom
+    (minus 7 ∷ minus 11 ∷ minus 13 ∷ [])
     -- 15: neither p nor r. 16: not 6, and not 15
     ∷ and_atom (minus 1 ∷ minus 3 ∷ []) ∷ and_atom (minus 6 ∷ minus 15 ∷ []) ∷ []
 
@@ -124,7 +126,10 @@ abbrev some_a : Term
 some_a = of symbol.re_star (of symbol.str_to_re (word (codes "a") ∷ []) ∷ [])
 
 -- concatenations are flat, empty words go, and words become one
-membership : of_string (of symbol.str_in_re (of symbol.str_concat (x ∷ word [] ∷ word (codes "a") ∷ of symbol.str_concat (word (codes "b") ∷ y ∷ []) ∷ []) ∷ some_a ∷ [])) ≡ Some (plus 0)
+membership : of_string
+    (of symbol.str_in_re
+    (of symbol.str_concat (x ∷ word [] ∷ word (codes "a") ∷ of symbol.str_concat (word (codes "b") ∷ y ∷ []) ∷ []) ∷
+    some_a ∷ [])) ≡ Some (plus 0)
 unfolding computing
 membership = refl
 
@@ -171,8 +176,10 @@ int_atoms =
     -- 0: true. 1: n is at most 5. 2: at most 4. 3: n is 5
     and_atom [] ∷ le_atom (int_constant 2) (pos 5) ∷ le_atom (int_constant 2) (pos 4) ∷ and_atom (plus 1 ∷ minus 2 ∷ [])
     -- 4: n + m is at most 5. 5: 2 n is. 6: twice the length of x is at most 4. 7: n - m is at most -1
-    ∷ sum_atom (pos 5) ((pos 1, int_constant 2) ∷ (pos 1, int_constant 3) ∷ []) ∷ sum_atom (pos 5) ((pos 2, int_constant 2) ∷ [])
-    ∷ sum_atom (pos 4) ((pos 2, length_of 0) ∷ []) ∷ sum_atom (negsuc 0) ((pos 1, int_constant 2) ∷ (negsuc 0, int_constant 3) ∷ []) ∷ []
+    ∷ sum_atom (pos 5) ((pos 1, int_constant 2) ∷ (pos 1, int_constant 3) ∷ []) ∷ sum_atom (pos 5)
+    ((pos 2, int_constant 2) ∷ [])
+    ∷ sum_atom (pos 4) ((pos 2, length_of 0) ∷ []) ∷ sum_atom (negsuc 0)
+    ((pos 1, int_constant 2) ∷ (negsuc 0, int_constant 3) ∷ []) ∷ []
 
 abbrev of_int : Term → Option Lit
 of_int t = translation int_atoms t
@@ -212,7 +219,8 @@ difference = refl
 negative_factor : of_int (of symbol.at_most (of symbol.minus (numeral 5 ∷ n ∷ []) ∷ numeral 0 ∷ [])) ≡ Some (minus 2)
 negative_factor = refl
 
-length : of_int (of symbol.at_most (of symbol.str_len (of symbol.str_concat (x ∷ word (codes "ab") ∷ x ∷ []) ∷ []) ∷ numeral 6 ∷ [])) ≡ Some (plus 6)
+length : of_int (of symbol.at_most
+    (of symbol.str_len (of symbol.str_concat (x ∷ word (codes "ab") ∷ x ∷ []) ∷ []) ∷ numeral 6 ∷ [])) ≡ Some (plus 6)
 length = refl
 
 no_variable : of_int (of symbol.at_most (numeral 1 ∷ numeral 2 ∷ [])) ≡ Some (plus 0)
@@ -225,8 +233,12 @@ no_variable_left = refl
 product_of_constants : of_int (of symbol.at_most (of symbol.times (n ∷ m ∷ []) ∷ numeral 5 ∷ [])) ≡ None
 product_of_constants = refl
 
-large_product : of_int (of symbol.at_most (of symbol.times (numeral 2147483647 ∷ numeral 2147483647 ∷ numeral 0 ∷ n ∷ []) ∷ numeral 0 ∷ [])) ≡ Some (plus 0)
+large_product : of_int
+    (of symbol.at_most
+    (of symbol.times (numeral 2147483647 ∷ numeral 2147483647 ∷ numeral 0 ∷ n ∷ []) ∷ numeral 0 ∷ [])) ≡ Some (plus 0)
 large_product = refl
 
-large_part : of_int (of symbol.at_most (of symbol.times (of symbol.times (numeral 2147483647 ∷ numeral 2147483647 ∷ []) ∷ numeral 0 ∷ []) ∷ numeral 0 ∷ [])) ≡ None
+large_part : of_int (of symbol.at_most
+    (of symbol.times (of symbol.times (numeral 2147483647 ∷ numeral 2147483647 ∷ []) ∷ numeral 0 ∷ []) ∷ numeral 0 ∷
+    [])) ≡ None
 large_part = refl

@@ -1,7 +1,8 @@
 -- The words that regexes have in common.
 use Rattle.std.proofs.Common.{◌≡◌, ℕ, ◌<◌, ◌&&◌, List, [], ◌∷◌, ◌++◌, length, refl, sym, ap, ◌∙◌, Option, Some, None}
+use Rattle.std.proofs.Math.Bool.{and-true, and_assoc}
 use Rattle.std.specs.List.{list_all}
-use Rattle.std.proofs.lemmas.List.Elements.{All-head, All-tail, All-weaker}
+use Rattle.std.proofs.lemmas.List.Elements.{All-head, All-tail}
 use Rattle.sb_word.specs.Words.{IsWord}
 use Rattle.sb_lang.specs.Languages.{Language}
 use Rattle.sb_lang.specs.Least.{IsShortestLeast, HasNoWord}
@@ -11,31 +12,36 @@ use Rattle.sb_lang.specs.Constructors.{mkand}
 use Rattle.sb_lang.specs.ConstructorLaws.{MkandKeepsLanguage, IntersectionIsOfEach}
 use Rattle.sb_regex.specs.Numbered.{regex_at, regexes_at, AllNumbers, Extends, Names}
 use Rattle.sb_session.specs.Deciding.{in_each, IsLeastOf}
-use Rattle.sb_session.proofs.Bools.{and_true, and_assoc}
-use Rattle.sb_session.proofs.Numbers.{number_kept, at_kept, names_at}
+use Rattle.sb_regex.proofs.CallerLemmas.{at_kept, names_at}
 
-pub in_each-append : (rs : List Regex) (ids : List ℕ) (id : ℕ) (w : List ℕ) → in_each rs (ids ++ id ∷ []) w ≡ (in_each rs ids w && language (regex_at rs id) w)
-in_each-append rs [] id w = and_true (language (regex_at rs id) w)
-in_each-append rs (i ∷ ids) id w = ap (λ b. language (regex_at rs i) w && b) (in_each-append rs ids id w) ∙ and_assoc (language (regex_at rs i) w) (in_each rs ids w) (language (regex_at rs id) w)
+pub in_each-append : (rs : List Regex) (ids : List ℕ) (id : ℕ) (w : List ℕ)
+    → in_each rs (ids ++ id ∷ []) w ≡ (in_each rs ids w && language (regex_at rs id) w)
+in_each-append rs [] id w = and-true (language (regex_at rs id) w)
+in_each-append rs (i ∷ ids) id w = ap (λ b. language (regex_at rs i) w && b) (in_each-append rs ids id w)
+    ∙ sym (and_assoc (language (regex_at rs i) w) (in_each rs ids w) (language (regex_at rs id) w))
 
-pub in_each_kept : (old new : List Regex) (ids : List ℕ) (w : List ℕ) → Extends old new → AllNumbers old ids → in_each new ids w ≡ in_each old ids w
+pub in_each_kept : (old new : List Regex) (ids : List ℕ) (w : List ℕ) → Extends old new → AllNumbers old ids
+    → in_each new ids w ≡ in_each old ids w
 in_each_kept old new [] w e k = refl
 in_each_kept old new (i ∷ ids) w e k =
-    rw (at_kept old new i e (All-head (λ j. j < length old) i ids k)) (ap (λ b. language (regex_at old i) w && b) (in_each_kept old new ids w e (All-tail (λ j. j < length old) i ids k)))
+    rw (at_kept old new i e (All-head (λ j. j < length old) i ids k))
+    (ap (λ b. language (regex_at old i) w && b)
+    (in_each_kept old new ids w e (All-tail (λ j. j < length old) i ids k)))
 
-pub known_kept : (old new : List Regex) (ids : List ℕ) → Extends old new → AllNumbers old ids → AllNumbers new ids
-known_kept old new ids e k = All-weaker (λ j. j < length old) (λ j. j < length new) (λ j h. number_kept old new j e h) ids k
-
-all_of_regexes : (rs : List Regex) (ids : List ℕ) (w : List ℕ) → list_all (λ r. language r w) (regexes_at rs ids) ≡ in_each rs ids w
+all_of_regexes : (rs : List Regex) (ids : List ℕ) (w : List ℕ)
+    → list_all (λ r. language r w) (regexes_at rs ids) ≡ in_each rs ids w
 all_of_regexes rs [] w = refl
 all_of_regexes rs (i ∷ ids) w = ap (λ b. language (regex_at rs i) w && b) (all_of_regexes rs ids w)
 
 -- the intersection has these words
-pub in_intersection : MkandKeepsLanguage → IntersectionIsOfEach → (rs : List Regex) (ids : List ℕ) (w : List ℕ) → in_each rs ids w ≡ language (mkand (regexes_at rs ids)) w
-in_intersection keeps each rs ids w = sym (keeps (regexes_at rs ids) w ∙ (each (regexes_at rs ids) w ∙ all_of_regexes rs ids w))
+pub in_intersection : MkandKeepsLanguage → IntersectionIsOfEach → (rs : List Regex) (ids : List ℕ) (w : List ℕ)
+    → in_each rs ids w ≡ language (mkand (regexes_at rs ids)) w
+in_intersection keeps each rs ids w =
+    sym (keeps (regexes_at rs ids) w ∙ (each (regexes_at rs ids) w ∙ all_of_regexes rs ids w))
 
 -- two languages with the same words have the same least word
-pub same_least : (L M : Language) (v : List ℕ) → ((w : List ℕ) → IsWord w → M w ≡ L w) → IsShortestLeast L v → IsShortestLeast M v
+pub same_least : (L M : Language) (v : List ℕ) → ((w : List ℕ) → IsWord w → M w ≡ L w) → IsShortestLeast L v
+    → IsShortestLeast M v
 same_least L M v same l = record {
   word = l.word;
   member = same v l.word ∙ l.member;
@@ -46,10 +52,13 @@ same_least L M v same l = record {
 pub same_no_word : (L M : Language) → ((w : List ℕ) → IsWord w → M w ≡ L w) → HasNoWord L → HasNoWord M
 same_no_word L M same none = λ w c. same w c ∙ none w c
 
-pub same_least_of : (L M : Language) (found : Option (List ℕ)) → ((w : List ℕ) → IsWord w → M w ≡ L w) → IsLeastOf L found → IsLeastOf M found
+pub same_least_of : (L M : Language) (found : Option (List ℕ)) → ((w : List ℕ) → IsWord w → M w ≡ L w)
+    → IsLeastOf L found → IsLeastOf M found
 same_least_of L M None same none = same_no_word L M same none
 same_least_of L M (Some v) same l = same_least L M v same l
 
 -- a regex that is the intersection has these words
-pub in_root : MkandKeepsLanguage → IntersectionIsOfEach → (old new : List Regex) (ids : List ℕ) (root : ℕ) → Names new root (mkand (regexes_at old ids)) → (w : List ℕ) → in_each old ids w ≡ language (regex_at new root) w
-in_root keeps each old new ids root names w = in_intersection keeps each old ids w ∙ ap (λ r. language r w) (sym (names_at new root (mkand (regexes_at old ids)) names))
+pub in_root : MkandKeepsLanguage → IntersectionIsOfEach → (old new : List Regex) (ids : List ℕ) (root : ℕ)
+    → Names new root (mkand (regexes_at old ids)) → (w : List ℕ) → in_each old ids w ≡ language (regex_at new root) w
+in_root keeps each old new ids root names w = in_intersection keeps each old ids w
+    ∙ ap (λ r. language r w) (sym (names_at new root (mkand (regexes_at old ids)) names))

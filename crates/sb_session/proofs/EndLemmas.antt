@@ -8,60 +8,72 @@ use Rattle.sb_world.specs.declared.OutPort.TheVariants as out_port
 use Rattle.sb_reader.specs.declared.feed.Ending.TheVariants.{Clean, Unfinished}
 use Rattle.sb_reader.specs.Entries.{HoldsNoEntry, Begins}
 use Rattle.sb_reader.specs.Feeding as feed
-use Rattle.sb_reader.proofs.FirstEntries.{gap_before_none, gap_before_gap, beginning_stays}
-use Rattle.sb_meaning.specs.Scripts.{unfinished_line}
-use Rattle.sb_stack.specs.Kept.{state_of}
+use Rattle.sb_reader.proofs.CallerLemmas.{gap_before_none, gap_before_gap, beginning_stays}
+use Rattle.sb_script.specs.Scripts.{unfinished_line}
+use Rattle.sb_stack.specs.Stacked.{state_of}
 use Rattle.sb_session.specs.declared.solve.Pause.{Pause}
 use Rattle.sb_session.specs.declared.solve.Pause.TheVariants.{Exited, Waiting, Ended}
 use Rattle.sb_session.specs.declared.solve.SolveStatus.TheVariants as status
-use Rattle.sb_session.specs.Commanding.{Kept, CutOf}
-use Rattle.sb_session.specs.Reading.{Sofar, IsFront, IsAll, AllAnswered, Cut}
+use Rattle.sb_session.specs.Commanding.{SessionState, CutOf}
+use Rattle.sb_session.specs.Progress.{Sofar}
+use Rattle.sb_session.specs.Reading.{IsFront, IsAll, AllAnswered, Cut}
 use Rattle.sb_session.specs.Pausing.{NoneLeft, Pauses}
 use Rattle.sb_session.specs.Solve.{opened, Run, AnsweredUnfinished, CutShort}
 use Rattle.sb_session.specs.Underway.{AllRead}
 use Rattle.sb_session.proofs.ReadingLemmas.{writes_on}
 
-front_of : (left : Option (List ℕ)) (bytes : List ℕ) → IfSome left (λ l. l ≡ bytes) → IfSome left (λ l. l ≡ bytes ++ drop (length bytes) l)
+front_of : (left : Option (List ℕ)) (bytes : List ℕ) → IfSome left (λ l. l ≡ bytes)
+    → IfSome left (λ l. l ≡ bytes ++ drop (length bytes) l)
 front_of None bytes h = tt
-front_of (Some l) bytes h = h ∙ sym (append-nil bytes) ∙ ap (λ (x : List ℕ). bytes ++ x) (sym (ap (drop (length bytes)) h ∙ drop-length bytes))
+front_of (Some l) bytes h =
+    h ∙ sym (append-nil bytes) ∙ ap (λ (x : List ℕ). bytes ++ x) (sym (ap (drop (length bytes)) h ∙ drop-length bytes))
 
 pub front_of_all : (bytes : List ℕ) (o : Outside) → IsAll bytes o → IsFront bytes o
 front_of_all bytes o h = front_of o.script_in.left bytes h
 
 -- no more bytes come
-pub end_sofar : (old : Outside) (bytes : List ℕ) (kept finished : feed.Kept) (session : Kept) (now : Outside) → finished ≡ (kept.0, true) → AllRead old bytes kept session now
+pub end_sofar : (old : Outside) (bytes : List ℕ) (kept finished : feed.Unanswered) (session : SessionState)
+    (now : Outside)
+    → finished ≡ (kept.0, true) → AllRead old bytes kept session now
     → Sofar (opened old) bytes finished (state_of session.stack) now
 end_sofar old bytes kept finished session now e read =
     let sofar = read.sofar in
     let left = sofar.gap ++ kept.0 in
-    subst (λ (k : feed.Kept). Sofar (opened old) bytes k (state_of session.stack) now) (sym e) (record {
+    subst (λ (k : feed.Unanswered). Sofar (opened old) bytes k (state_of session.stack) now) (sym e) (record {
       entries = sofar.entries;
       text = sofar.text;
       gap = sofar.gap;
       is_gap = sofar.is_gap;
       begins = subst (λ (b : List ℕ). Begins true b sofar.entries left) (append-nil bytes)
           (subst (λ (l : List ℕ). Begins true (bytes ++ []) sofar.entries l) (append-nil left)
-          (beginning_stays true bytes [] sofar.entries left (subst (λ (ended : Bool). Begins ended bytes sofar.entries left) read.goes_on sofar.begins)));
+          (beginning_stays true bytes [] sofar.entries left
+          (subst (λ (ended : Bool). Begins ended bytes sofar.entries left) read.goes_on sofar.begins)));
       answers = sofar.answers;
       outside = sofar.outside;
     })
 
 -- all whole entries are answered
-pub all_answered : (o : Outside) (bytes : List ℕ) (kept : feed.Kept) (session : Kept) (now : Outside) (ended : Bool) (none : NoneLeft o bytes kept session now) → kept.1 ≡ ended
+pub all_answered : (o : Outside) (bytes : List ℕ) (kept : feed.Unanswered) (session : SessionState) (now : Outside)
+    (ended : Bool)
+    (none : NoneLeft o bytes kept session now) → kept.1 ≡ ended
     → AllAnswered o bytes ended (none.sofar.gap ++ kept.0) now
 all_answered o bytes kept session now ended none e = record {
   entries = none.sofar.entries;
   text = none.sofar.text;
   s = state_of session.stack;
   begins = subst (λ (b : Bool). Begins b bytes none.sofar.entries (none.sofar.gap ++ kept.0)) e none.sofar.begins;
-  none = gap_before_none ended none.sofar.gap kept.0 none.sofar.is_gap (subst (λ (b : Bool). HoldsNoEntry b kept.0) e none.none);
+  none = gap_before_none ended none.sofar.gap kept.0 none.sofar.is_gap
+      (subst (λ (b : Bool). HoldsNoEntry b kept.0) e none.none);
   answers = none.sofar.answers;
   outside = none.sofar.outside;
 }
 
 -- the run is done
-pub end_done : (pause : Pause) (old : Outside) (bytes : List ℕ) (kept after : feed.Kept) (session session' : Kept) (before now : Outside) → (pause ≡ Ended Unfinished → ⊥) → after.1 ≡ true
-    → AllRead old bytes kept session before → Pauses pause (opened old) bytes after session' now → Run status.Done old now
+pub end_done : (pause : Pause) (old : Outside) (bytes : List ℕ) (kept after : feed.Unanswered)
+    (session session' : SessionState)
+    (before now : Outside) → (pause ≡ Ended Unfinished → ⊥) → after.1 ≡ true
+    → AllRead old bytes kept session before → Pauses pause (opened old) bytes after session' now
+    → Run status.Done old now
 end_done Exited old bytes kept after session session' before now ne ended read exit = inr (record {
   bytes = bytes;
   ended = after.1;
@@ -70,7 +82,8 @@ end_done Exited old bytes kept after session session' before now ne ended read e
   within_limit = let below = read.below_limit in omega arith;
   answered = exit;
 })
-end_done Waiting old bytes kept after session session' before now ne ended read waits = absurd (false≢true (sym waits.0 ∙ ended))
+end_done Waiting old bytes kept after session session' before now ne ended read waits =
+    absurd (false≢true (sym waits.0 ∙ ended))
 end_done (Ended Clean) old bytes kept after session session' before now ne ended read ends = inl (record {
   script = bytes;
   left = ends.2.sofar.gap ++ after.0;
@@ -82,8 +95,10 @@ end_done (Ended Clean) old bytes kept after session session' before now ne ended
 end_done (Ended Unfinished) old bytes kept after session session' before now ne ended read ends = absurd (ne refl)
 
 -- the script ended within a form, and that is answered
-pub end_unfinished : (old : Outside) (bytes : List ℕ) (kept after : feed.Kept) (session session' : Kept) (before between now : Outside)
-    → AllRead old bytes kept session before → Pauses (Ended Unfinished) (opened old) bytes after session' between → now ≡ write_at out_port.Answers unfinished_line between → AnsweredUnfinished old now
+pub end_unfinished : (old : Outside) (bytes : List ℕ) (kept after : feed.Unanswered) (session session' : SessionState)
+    (before between now : Outside)
+    → AllRead old bytes kept session before → Pauses (Ended Unfinished) (opened old) bytes after session' between
+    → now ≡ write_at out_port.Answers unfinished_line between → AnsweredUnfinished old now
 end_unfinished old bytes kept after session session' before between now read ends e = record {
   script = bytes;
   left = ends.2.sofar.gap ++ after.0;
@@ -96,7 +111,8 @@ end_unfinished old bytes kept after session session' before between now read end
 }
 
 -- the run is cut short once all is read
-pub end_cut : (old : Outside) (bytes : List ℕ) (kept : feed.Kept) (session : Kept) (before now : Outside) → AllRead old bytes kept session before → Cut (opened old) bytes true now → CutShort old now
+pub end_cut : (old : Outside) (bytes : List ℕ) (kept : feed.Unanswered) (session : SessionState) (before now : Outside)
+    → AllRead old bytes kept session before → Cut (opened old) bytes true now → CutShort old now
 end_cut old bytes kept session before now read cut = inr (record {
   bytes = bytes;
   ended = true;
@@ -106,8 +122,11 @@ end_cut old bytes kept session before now read cut = inr (record {
 })
 
 -- the answer to the script's end is cut
-pub end_unfinished_cut : (old : Outside) (bytes : List ℕ) (kept after : feed.Kept) (session session' : Kept) (before between now : Outside)
-    → AllRead old bytes kept session before → Pauses (Ended Unfinished) (opened old) bytes after session' between → CutOf out_port.Answers unfinished_line between now → CutShort old now
+pub end_unfinished_cut : (old : Outside) (bytes : List ℕ) (kept after : feed.Unanswered)
+    (session session' : SessionState)
+    (before between now : Outside)
+    → AllRead old bytes kept session before → Pauses (Ended Unfinished) (opened old) bytes after session' between
+    → CutOf out_port.Answers unfinished_line between now → CutShort old now
 end_unfinished_cut old bytes kept after session session' before between now read ends cut =
     let sofar = ends.2.sofar in
     let all = all_answered (opened old) bytes after session' between true ends.2 ends.0 in
@@ -122,5 +141,6 @@ end_unfinished_cut old bytes kept after session session' before between now read
       is_further = inr (refl, all.none, gap_before_gap sofar.gap after.0 sofar.is_gap ∙ ends.1, refl);
       out = cut.0;
       less = cut.1;
-      outside = writes_on (opened old) between now (length bytes) sofar.text (take cut.0 unfinished_line) sofar.outside cut.2;
+      outside = writes_on (opened old) between now (length bytes) sofar.text (take cut.0 unfinished_line) sofar.outside
+          cut.2;
     }))

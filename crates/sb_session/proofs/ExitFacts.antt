@@ -2,16 +2,17 @@
 use Rattle.std.proofs.Common.{◌≡◌, Bool, true, false, not, if◌then◌else◌, List, map, codes, Option, Some, None, Result, Ok, Err, refl}
 use Rattle.sb_reader.specs.Forms.{Form}
 use Rattle.sb_reader.specs.Entries.{Entry, Command, Refused}
-use Rattle.sb_meaning.specs.Names.{Name, is_name}
+use Rattle.sb_script.specs.Names.{Name, is_name}
 use Rattle.sb_meaning.specs.Terms.{boolean}
 use Rattle.sb_meaning.specs.Values.{Valuation}
-use Rattle.sb_meaning.specs.Symbols.{is_taken}
-use Rattle.sb_meaning.specs.Reading.{Fault, unknown_symbol, wrong_sort, wrong_count, bad_index, unsupported, bad_literal, malformed, kind_of, is_kind, read}
-use Rattle.sb_meaning.specs.Commands as command
-use Rattle.sb_meaning.specs.Commands.{command_of}
-use Rattle.sb_meaning.specs.State.{State, Mode, plain, satisfied, refuted, undecided, names_of}
-use Rattle.sb_meaning.specs.Replies as meaning
-use Rattle.sb_meaning.specs.Replies.{Step, answers, checks, exits, fails, refused_term, is_logic, truth_in, with_truth, sort_of, with_values, Item, some_malformed, first_unknown, all_constants, values_of, item_of, step, step_of, is_exit, is_exit_command}
+use Rattle.sb_script.specs.Symbols.{is_taken}
+use Rattle.sb_script.specs.Reading.{Fault, unknown_symbol, wrong_sort, wrong_count, bad_index, unsupported, bad_literal, malformed, read}
+use Rattle.sb_meaning.specs.Sorts.{sort_of, is_same_sort}
+use Rattle.sb_script.specs.Commands as command
+use Rattle.sb_script.specs.Commands.{command_of}
+use Rattle.sb_script.specs.State.{State, Mode, plain, satisfied, refuted, undecided, names_of}
+use Rattle.sb_script.specs.Replies as meaning
+use Rattle.sb_script.specs.Replies.{Step, answers, checks, exits, fails, refused_term, is_logic, truth_in, with_truth, sort_of_form, with_values, Item, some_malformed, first_unknown, all_constants, values_of, item_of, step, step_of, is_exit, is_exit_command}
 
 abbrev pub is_exits : Step → Bool
 is_exits (answers bytes s) = false
@@ -22,11 +23,13 @@ by_test : (b : Bool) (x y : Step) → is_exits x ≡ false → is_exits y ≡ fa
 by_test true x y p q = p
 by_test false x y p q = q
 
-by_option : {A : Type 0} (o : Option A) (f : A → Step) (x : Step) → ((a : A) → is_exits (f a) ≡ false) → is_exits x ≡ false → is_exits (elim o [ Some a ↦ f a | None ↦ x ]) ≡ false
+by_option : {A : Type 0} (o : Option A) (f : A → Step) (x : Step) → ((a : A) → is_exits (f a) ≡ false)
+    → is_exits x ≡ false → is_exits (elim o [ Some a ↦ f a | None ↦ x ]) ≡ false
 by_option None f x p q = q
 by_option (Some a) f x p q = p a
 
-by_result : {A B : Type 0} (r : Result A B) (f : A → Step) (g : B → Step) → ((a : A) → is_exits (f a) ≡ false) → ((b : B) → is_exits (g b) ≡ false) → is_exits (elim r [ Ok a ↦ f a | Err b ↦ g b ]) ≡ false
+by_result : {A B : Type 0} (r : Result A B) (f : A → Step) (g : B → Step) → ((a : A) → is_exits (f a) ≡ false)
+    → ((b : B) → is_exits (g b) ≡ false) → is_exits (elim r [ Ok a ↦ f a | Err b ↦ g b ]) ≡ false
 by_result (Ok a) f g p q = p a
 by_result (Err b) f g p q = q b
 
@@ -48,8 +51,10 @@ set_option_stays key value s =
     by_test (is_name key (codes ":print-success")) _ _ (with_truth_stays value _ s)
     (by_test (is_name key (codes ":produce-models")) _ _ (with_truth_stays value _ s) refl)
 
-declare_constant_stays : (name : Name) (sort : Form) (s : State) → is_exits (meaning.declare_constant name sort s) ≡ false
-declare_constant_stays name sort s = by_test (is_taken (names_of s) name) _ _ refl (by_option (sort_of sort) _ _ (λ kind. refl) refl)
+declare_constant_stays : (name : Name) (sort : Form) (s : State)
+    → is_exits (meaning.declare_constant name sort s) ≡ false
+declare_constant_stays name sort s =
+    by_test (is_taken (names_of s) name) _ _ refl (by_option (sort_of_form sort) _ _ (λ kind. refl) refl)
 
 declare_function_stays : (name : Name) (s : State) → is_exits (meaning.declare_function name s) ≡ false
 declare_function_stays name s = by_test (is_taken (names_of s) name) _ _ refl refl
@@ -64,9 +69,12 @@ refused_term_stays malformed s = refl
 refused_term_stays unsupported s = refl
 
 assert_stays : (form : Form) (s : State) → is_exits (meaning.assert form s) ≡ false
-assert_stays form s = by_result (read (names_of s) form) _ _ (λ term. by_test (is_kind boolean (kind_of term)) _ _ refl refl) (λ fault. refused_term_stays fault s)
+assert_stays form s =
+    by_result (read (names_of s) form) _ _ (λ term. by_test (is_same_sort boolean (sort_of term)) _ _ refl refl)
+    (λ fault. refused_term_stays fault s)
 
-with_values_stays : (s : State) (answer : Valuation → Step) → ((v : Valuation) → is_exits (answer v) ≡ false) → is_exits (with_values s answer) ≡ false
+with_values_stays : (s : State) (answer : Valuation → Step) → ((v : Valuation) → is_exits (answer v) ≡ false)
+    → is_exits (with_values s answer) ≡ false
 with_values_stays s answer h = by_test (not s.options.produce_models) _ _ refl (by_mode s.mode answer _ h refl)
 
 get_model_stays : (s : State) → is_exits (meaning.get_model s) ≡ false
@@ -92,7 +100,8 @@ step_exits (command.get_value forms) s = get_value_stays forms s
 step_exits command.exit s = refl
 step_exits command.another s = refl
 
-form_exits : (o : Option command.Command) (s : State) → is_exits (elim o [ Some c ↦ step c s | None ↦ fails (codes "malformed command") s ]) ≡ is_exit_command o
+form_exits : (o : Option command.Command) (s : State)
+    → is_exits (elim o [ Some c ↦ step c s | None ↦ fails (codes "malformed command") s ]) ≡ is_exit_command o
 form_exits None s = refl
 form_exits (Some c) s = step_exits c s
 

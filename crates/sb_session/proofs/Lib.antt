@@ -7,8 +7,6 @@ pub mod EndLemmas
 pub mod ScriptLemmas
 pub mod SolveLemmas
 pub mod TermShapes
-pub mod Bools
-pub mod Numbers
 pub mod Conjunctions
 pub mod LeastWords
 pub mod OneMembership

@@ -1,58 +1,75 @@
 -- A piece of the script is read.
 use Rattle.std.proofs.Common.{◌≡◌, ℕ, Bool, false, List, ◌++◌, length, Result, Ok, Err, IfOk, OnErr, append_assoc, length-append, sym, ap, ◌∙◌, subst, inl}
 use Rattle.sb_world.specs.Outside.{Outside, read_at, write_at}
-use Rattle.sb_world.specs.OutsideLaws.{read_at-add}
+use Rattle.sb_world.proofs.CallerLemmas.{read_at-add}
 use Rattle.sb_world.specs.declared.InPort.TheVariants as in_port
 use Rattle.sb_world.specs.declared.OutPort.TheVariants as out_port
 use Rattle.sb_reader.specs.Entries.{Begins}
 use Rattle.sb_reader.specs.Feeding as feed
-use Rattle.sb_reader.proofs.FirstEntries.{beginning_stays}
-use Rattle.sb_meaning.specs.State.{State}
+use Rattle.sb_reader.proofs.CallerLemmas.{beginning_stays}
+use Rattle.sb_script.specs.State.{State}
 use Rattle.sb_session.specs.declared.command.SessionFault.{SessionFault}
 use Rattle.sb_session.specs.declared.solve.Pause.{Pause}
-use Rattle.sb_session.specs.Commanding.{Kept}
-use Rattle.sb_session.specs.Reading.{Sofar, Cut, after_work}
+use Rattle.sb_session.specs.Commanding.{SessionState}
+use Rattle.sb_session.specs.Progress.{Sofar}
+use Rattle.sb_session.specs.Reading.{Cut, after_work}
 use Rattle.sb_session.specs.Pausing.{Pauses}
 use Rattle.sb_session.proofs.ReadingLemmas.{cut_between}
 
 -- more is read
-reads_on : (opened before now : Outside) (bytes piece text : List ℕ) → before ≡ after_work (length bytes) text opened → now ≡ read_at in_port.Script (length piece) before
+reads_on : (opened before now : Outside) (bytes piece text : List ℕ) → before ≡ after_work (length bytes) text opened
+    → now ≡ read_at in_port.Script (length piece) before
     → now ≡ after_work (length (bytes ++ piece)) text opened
 reads_on opened before now bytes piece text e h =
     h ∙ ap (read_at in_port.Script (length piece)) e
-    ∙ ap (write_at out_port.Answers text) (read_at-add in_port.Script (length bytes) (length piece) opened ∙ ap (λ (n : ℕ). read_at in_port.Script n opened) (sym (length-append bytes piece)))
+    ∙ ap (write_at out_port.Answers text) (read_at-add in_port.Script (length bytes) (length piece) opened
+    ∙ ap (λ (n : ℕ). read_at in_port.Script n opened) (sym (length-append bytes piece)))
 
 -- a piece more is there
-pub push_on : (opened : Outside) (bytes piece : List ℕ) (old : feed.Kept) (s : State) (before now : Outside) → old.1 ≡ false → Sofar opened bytes old s before
+pub push_on : (opened : Outside) (bytes piece : List ℕ) (old : feed.Unanswered) (s : State) (before now : Outside)
+    → old.1 ≡ false → Sofar opened bytes old s before
     → now ≡ read_at in_port.Script (length piece) before → Sofar opened (bytes ++ piece) (old.0 ++ piece, false) s now
 push_on opened bytes piece old s before now goes sofar moved = record {
   entries = sofar.entries;
   text = sofar.text;
   gap = sofar.gap;
   is_gap = sofar.is_gap;
-  begins = subst (λ (left : List ℕ). Begins false (bytes ++ piece) sofar.entries left) (append_assoc sofar.gap old.0 piece)
-      (beginning_stays false bytes piece sofar.entries (sofar.gap ++ old.0) (subst (λ (ended : Bool). Begins ended bytes sofar.entries (sofar.gap ++ old.0)) goes sofar.begins));
+  begins = subst (λ (left : List ℕ). Begins false (bytes ++ piece) sofar.entries left)
+      (append_assoc sofar.gap old.0 piece)
+      (beginning_stays false bytes piece sofar.entries (sofar.gap ++ old.0)
+      (subst (λ (ended : Bool). Begins ended bytes sofar.entries (sofar.gap ++ old.0)) goes sofar.begins));
   answers = sofar.answers;
   outside = reads_on opened before now bytes piece sofar.text sofar.outside moved;
 }
 
-pub piece_ok : (r : Result Pause SessionFault) (piece : List ℕ) (old pushed new : feed.Kept) (s : State) (session : Kept) (read now : Outside) → old.1 ≡ false → pushed ≡ (old.0 ++ piece, false)
-    → IfOk r (λ pause. (opened : Outside) (bytes : List ℕ) → Sofar opened bytes pushed s read → Pauses pause opened bytes new session now)
-    → IfOk r (λ pause. (opened : Outside) (bytes : List ℕ) (before : Outside) → Sofar opened bytes old s before → read ≡ read_at in_port.Script (length piece) before → Pauses pause opened (bytes ++ piece) new session now)
+pub piece_ok : (r : Result Pause SessionFault) (piece : List ℕ) (old pushed new : feed.Unanswered) (s : State)
+    (session : SessionState) (read now : Outside) → old.1 ≡ false → pushed ≡ (old.0 ++ piece, false)
+    → IfOk r (λ pause. (opened : Outside) (bytes : List ℕ) → Sofar opened bytes pushed s read
+    → Pauses pause opened bytes new session now)
+    → IfOk r (λ pause. (opened : Outside) (bytes : List ℕ) (before : Outside) → Sofar opened bytes old s before
+    → read ≡ read_at in_port.Script (length piece) before → Pauses pause opened (bytes ++ piece) new session now)
 piece_ok (Err _) piece old pushed new s session read now goes e h = tt
 piece_ok (Ok pause) piece old pushed new s session read now goes e h = λ opened bytes before sofar moved.
-    h opened (bytes ++ piece) (subst (λ (k : feed.Kept). Sofar opened (bytes ++ piece) k s read) (sym e) (push_on opened bytes piece old s before read goes sofar moved))
+    h opened (bytes ++ piece)
+    (subst (λ (k : feed.Unanswered). Sofar opened (bytes ++ piece) k s read) (sym e)
+    (push_on opened bytes piece old s before read goes sofar moved))
 
-pub piece_err : (r : Result Pause SessionFault) (piece : List ℕ) (old pushed : feed.Kept) (s : State) (read now : Outside) → old.1 ≡ false → pushed ≡ (old.0 ++ piece, false)
+pub piece_err : (r : Result Pause SessionFault) (piece : List ℕ) (old pushed : feed.Unanswered) (s : State)
+    (read now : Outside) → old.1 ≡ false → pushed ≡ (old.0 ++ piece, false)
     → OnErr r ((opened : Outside) (bytes : List ℕ) → Sofar opened bytes pushed s read → Cut opened bytes pushed.1 now)
-    → OnErr r ((opened : Outside) (bytes : List ℕ) (before : Outside) → Sofar opened bytes old s before → read ≡ read_at in_port.Script (length piece) before → Cut opened (bytes ++ piece) false now)
+    → OnErr r ((opened : Outside) (bytes : List ℕ) (before : Outside) → Sofar opened bytes old s before
+    → read ≡ read_at in_port.Script (length piece) before → Cut opened (bytes ++ piece) false now)
 piece_err (Ok _) piece old pushed s read now goes e h = tt
 piece_err (Err _) piece old pushed s read now goes e h = λ opened bytes before sofar moved.
-    subst (λ (k : feed.Kept). Cut opened (bytes ++ piece) k.1 now) e
-    (h opened (bytes ++ piece) (subst (λ (k : feed.Kept). Sofar opened (bytes ++ piece) k s read) (sym e) (push_on opened bytes piece old s before read goes sofar moved)))
+    subst (λ (k : feed.Unanswered). Cut opened (bytes ++ piece) k.1 now) e
+    (h opened (bytes ++ piece)
+    (subst (λ (k : feed.Unanswered). Sofar opened (bytes ++ piece) k s read) (sym e)
+    (push_on opened bytes piece old s before read goes sofar moved)))
 
 -- the piece is not taken
-pub push_cut : (opened : Outside) (bytes piece : List ℕ) (old : feed.Kept) (s : State) (before now : Outside) → old.1 ≡ false → Sofar opened bytes old s before
+pub push_cut : (opened : Outside) (bytes piece : List ℕ) (old : feed.Unanswered) (s : State) (before now : Outside)
+    → old.1 ≡ false → Sofar opened bytes old s before
     → now ≡ read_at in_port.Script (length piece) before → Cut opened (bytes ++ piece) false now
 push_cut opened bytes piece old s before now goes sofar moved =
-    inl (cut_between opened (bytes ++ piece) (old.0 ++ piece, false) s now (push_on opened bytes piece old s before now goes sofar moved))
+    inl (cut_between opened (bytes ++ piece) (old.0 ++ piece, false) s now
+    (push_on opened bytes piece old s before now goes sofar moved))

@@ -1,49 +1,29 @@
 -- Terms by their shape, as the code takes them apart.
 use Rattle.std.proofs.Common.{◌≡◌, ◌≤◌, ◌<◌, false, List, [], ◌∷◌, length, get_or, refl, sym, ap, ◌∙◌, arith}
+use Rattle.sb_sorts.proofs.CallerLemmas.{by_symbol, listed_two}
 use Rattle.std.specs.declared.vec.Vec.{Vec}
 use Rattle.std.specs.declared.alloc.Global.{Global}
 use Rattle.sb_sorts.specs.declared.sort.Symbol.{Symbol}
 use Rattle.sb_sorts.specs.declared.term.Serial.{Serial}
 use Rattle.sb_sorts.specs.declared.term.Term as code
-use Rattle.sb_sorts.specs.declared.term.Term.{Row_of-Term, end_of-Term, more_of-Term, items-the_row-Term, items_hidden-the_row-Term-0}
-use Rattle.sb_sorts.specs.Terms.{symbol_in, term_in}
-use Rattle.sb_sorts.specs.Terms as specs
+use Rattle.sb_sorts.specs.Terms.{symbol_in, term_in, listed}
 use Rattle.sb_stack.specs.declared.stack.Assertion.{Assertion}
 use Rattle.sb_stack.specs.declared.stack.Assertion.TheVariants as assertion
-use Rattle.sb_stack.specs.Kept.{assertion_in}
+use Rattle.sb_stack.specs.Stacked.{assertion_in}
 use Rattle.sb_meaning.specs.Terms.{Term, Terms, apply, no_terms, with_term, str_in_re}
-use Rattle.sb_meaning.specs.State.{asserted}
-use Rattle.sb_meaning.specs.Fragment.{is_membership}
-use Rattle.sb_session.specs.Deciding.{listed, membership_of}
+use Rattle.sb_script.specs.State.{asserted}
+use Rattle.sb_script.specs.Fragment.{is_membership}
+use Rattle.sb_session.specs.Deciding.{membership_of}
 
-terms_of_row : (m : _) (row : Row_of-Term m) → specs.terms_in row ≡ listed (items-the_row-Term m row)
-terms_of_row m end_of-Term = refl
-terms_of_row m (more_of-Term term rest) = ap (with_term (term_in term)) (terms_of_row _ rest)
-
--- a symbol with its arguments in memory
-pub symbol_term : (s : Symbol) (v : Vec code.Term Global) → term_in (code.Apply s v) ≡ apply (symbol_in s) (listed v.items)
-symbol_term s v = ap (apply (symbol_in s)) (terms_of_row _ (code.TheBlock.hidden-the_row-Term-0 v) ∙ ap listed (items_hidden-the_row-Term-0 v))
-
--- where the term is this symbol with these arguments
-pub by_symbol : (t : code.Term) (s known : Symbol) (v : Vec code.Term Global) (xs : List code.Term) → t ≡ code.Apply s v → s ≡ known → xs ≡ v.items → term_in t ≡ apply (symbol_in known) (listed xs)
-by_symbol t s known v xs is which items = ap term_in is ∙ symbol_term s v ∙ (ap (λ x. apply (symbol_in x) (listed v.items)) which ∙ ap (λ ts. apply (symbol_in known) (listed ts)) (sym items))
-
-pub by_assertion : (a : Assertion) (t : code.Term) (s known : Symbol) (v : Vec code.Term Global) (xs : List code.Term) → a ≡ assertion.Term t → t ≡ code.Apply s v → s ≡ known → xs ≡ v.items → assertion_in a ≡ asserted (apply (symbol_in known) (listed xs))
-by_assertion a t s known v xs holder is which items = ap assertion_in holder ∙ ap asserted (by_symbol t s known v xs is which items)
-
-pub listed_two : (xs : List code.Term) (a b : code.Term) → 2 ≤ length xs → length xs < 3 → a ≡ get_or xs 0 a → b ≡ get_or xs 1 b → listed xs ≡ with_term (term_in a) (with_term (term_in b) no_terms)
-listed_two [] a b low high first second = absurd (omega arith)
-listed_two (x ∷ []) a b low high first second = absurd (omega arith)
-listed_two (x ∷ y ∷ []) a b low high first second = rw first (rw second refl)
-listed_two (x ∷ y ∷ z ∷ xs) a b low high first second = absurd (omega arith)
-
-pub listed_one : (xs : List code.Term) (a : code.Term) → 1 ≤ length xs → length xs < 2 → a ≡ get_or xs 0 a → listed xs ≡ with_term (term_in a) no_terms
-listed_one [] a low high first = absurd (omega arith)
-listed_one (x ∷ []) a low high first = rw first refl
-listed_one (x ∷ y ∷ xs) a low high first = absurd (omega arith)
+pub by_assertion : (a : Assertion) (t : code.Term) (s known : Symbol) (v : Vec code.Term Global) (xs : List code.Term)
+    → a ≡ assertion.Term t → t ≡ code.Apply s v → s ≡ known → xs ≡ v.items
+    → assertion_in a ≡ asserted (apply (symbol_in known) (listed xs))
+by_assertion a t s known v xs holder is which items =
+    ap assertion_in holder ∙ ap asserted (by_symbol t s known v xs is which items)
 
 -- a membership has two arguments, and the first is a constant
-first_no_constant : (a : code.Term) (ts : Terms) → ((serial : Serial) → a ≡ code.Constant serial → ⊥) → is_membership (apply str_in_re (with_term (term_in a) ts)) ≡ false
+first_no_constant : (a : code.Term) (ts : Terms) → ((serial : Serial) → a ≡ code.Constant serial → ⊥)
+    → is_membership (apply str_in_re (with_term (term_in a) ts)) ≡ false
 first_no_constant (code.Constant serial) ts h = absurd (h serial refl)
 first_no_constant (code.Word w) ts h = refl
 first_no_constant (code.Apply' s shape all) ts h = refl
@@ -53,21 +33,29 @@ one_argument (code.Constant serial) = refl
 one_argument (code.Word w) = refl
 one_argument (code.Apply' s shape all) = refl
 
-more_arguments : (a : code.Term) (s t : Term) (ts : Terms) → is_membership (apply str_in_re (with_term (term_in a) (with_term s (with_term t ts)))) ≡ false
+more_arguments : (a : code.Term) (s t : Term) (ts : Terms)
+    → is_membership (apply str_in_re (with_term (term_in a) (with_term s (with_term t ts)))) ≡ false
 more_arguments (code.Constant serial) s t ts = refl
 more_arguments (code.Word w) s t ts = refl
 more_arguments (code.Apply' x shape all) s t ts = refl
 
-pub not_two_arguments : (xs : List code.Term) → (length xs ≡ 2 → ⊥) → is_membership (apply str_in_re (listed xs)) ≡ false
+pub not_two_arguments : (xs : List code.Term) → (length xs ≡ 2 → ⊥)
+    → is_membership (apply str_in_re (listed xs)) ≡ false
 not_two_arguments [] h = refl
 not_two_arguments (a ∷ []) h = one_argument a
 not_two_arguments (a ∷ b ∷ []) h = absurd (h refl)
 not_two_arguments (a ∷ b ∷ d ∷ xs) h = more_arguments a (term_in b) (term_in d) (listed xs)
 
-pub not_constant : (xs : List code.Term) (a : code.Term) → 1 ≤ length xs → a ≡ get_or xs 0 a → ((serial : Serial) → a ≡ code.Constant serial → ⊥) → is_membership (apply str_in_re (listed xs)) ≡ false
+pub not_constant : (xs : List code.Term) (a : code.Term) → 1 ≤ length xs → a ≡ get_or xs 0 a
+    → ((serial : Serial) → a ≡ code.Constant serial → ⊥) → is_membership (apply str_in_re (listed xs)) ≡ false
 not_constant [] a low first h = absurd (omega arith)
-not_constant (x ∷ xs) a low first h = ap (λ y. is_membership (apply str_in_re (with_term (term_in y) (listed xs)))) (sym first) ∙ first_no_constant a (listed xs) h
+not_constant (x ∷ xs) a low first h =
+    ap (λ y. is_membership (apply str_in_re (with_term (term_in y) (listed xs)))) (sym first)
+    ∙ first_no_constant a (listed xs) h
 
-pub constant_first : (xs : List code.Term) (a b : code.Term) (serial : Serial) → 2 ≤ length xs → length xs < 3 → a ≡ get_or xs 0 a → b ≡ get_or xs 1 b → a ≡ code.Constant serial → apply str_in_re (listed xs) ≡ membership_of serial.0 (term_in b)
+pub constant_first : (xs : List code.Term) (a b : code.Term) (serial : Serial) → 2 ≤ length xs → length xs < 3
+    → a ≡ get_or xs 0 a → b ≡ get_or xs 1 b → a ≡ code.Constant serial
+    → apply str_in_re (listed xs) ≡ membership_of serial.0 (term_in b)
 constant_first xs a b serial low high first second is =
-    ap (apply str_in_re) (listed_two xs a b low high first second) ∙ ap (λ y. apply str_in_re (with_term (term_in y) (with_term (term_in b) no_terms))) is
+    ap (apply str_in_re) (listed_two xs a b low high first second)
+    ∙ ap (λ y. apply str_in_re (with_term (term_in y) (with_term (term_in b) no_terms))) is

@@ -6,20 +6,21 @@ use Rattle.sb_reader.specs.declared.feed.Next.{Next}
 use Rattle.sb_reader.specs.declared.feed.Next.TheVariants as next
 use Rattle.sb_reader.specs.Feeding as feed
 use Rattle.sb_reader.specs.Feeding.{Takes}
-use Rattle.sb_meaning.specs.Replies.{is_exit}
-use Rattle.sb_stack.specs.Kept.{state_of}
+use Rattle.sb_script.specs.Replies.{is_exit}
+use Rattle.sb_stack.specs.Stacked.{state_of}
 use Rattle.sb_stack.specs.Steps.{IsEntry, entry_of}
 use Rattle.sb_session.specs.declared.command.Went.{Went}
 use Rattle.sb_session.specs.declared.command.Went.TheVariants.{Go, Exited}
 use Rattle.sb_session.specs.declared.command.SessionFault.{SessionFault}
 use Rattle.sb_session.specs.declared.command.SessionFault.TheVariants as fault
-use Rattle.sb_session.specs.Commanding.{Kept, Goes, Fails}
-use Rattle.sb_session.specs.Reading.{Sofar, UpToExit, Cut}
+use Rattle.sb_session.specs.Commanding.{SessionState, Goes, Fails}
+use Rattle.sb_session.specs.Progress.{Sofar}
+use Rattle.sb_session.specs.Reading.{UpToExit, Cut}
 use Rattle.sb_session.specs.Pausing.{Pauses}
 use Rattle.sb_session.specs.declared.solve.Pause.TheVariants as pause
 use Rattle.sb_session.proofs.ReadingLemmas.{answer_on, answer_exit, cut_answer, wait_on}
 
-takes_entry : (n : Next) (old new : feed.Kept) → IsEntry n → feed.Answers n old new → Takes (entry_of n) old new
+takes_entry : (n : Next) (old new : feed.Unanswered) → IsEntry n → feed.IsNext n old new → Takes (entry_of n) old new
 takes_entry (next.Command form) old new is h = h
 takes_entry (next.Refused refusal) old new is h = h
 takes_entry next.NotYet old new is h = absurd is
@@ -34,28 +35,41 @@ an_exit true e = refl
 an_exit false e = cc
 
 -- the entry is answered, and the next may come
-pub goes : (n : Next) (went : Went) (session session' : Kept) (before now : Outside) → IsEntry n → went ≡ Go → Goes went (entry_of n) session session' before now
-    → (opened : Outside) (bytes : List ℕ) (old new : feed.Kept) → feed.Answers n old new → Sofar opened bytes old (state_of session.stack) before → Sofar opened bytes new (state_of session'.stack) now
+pub goes : (n : Next) (went : Went) (session session' : SessionState) (before now : Outside) → IsEntry n → went ≡ Go
+    → Goes went (entry_of n) session session' before now
+    → (opened : Outside) (bytes : List ℕ) (old new : feed.Unanswered) → feed.IsNext n old new
+    → Sofar opened bytes old (state_of session.stack) before → Sofar opened bytes new (state_of session'.stack) now
 goes n went session session' before now is e h opened bytes old new answers sofar =
-    answer_on opened bytes (entry_of n) old new (state_of session.stack) (state_of session'.stack) before now (no_exit (is_exit (entry_of n)) (sym e ∙ h.went_is)) (takes_entry n old new is answers) h.answers sofar
+    answer_on opened bytes (entry_of n) old new (state_of session.stack) (state_of session'.stack) before now
+    (no_exit (is_exit (entry_of n)) (sym e ∙ h.went_is)) (takes_entry n old new is answers) h.answers sofar
 
 -- the entry was (exit)
-pub exits : (n : Next) (went : Went) (session session' : Kept) (before now : Outside) → IsEntry n → went ≡ Exited → Goes went (entry_of n) session session' before now
-    → (opened : Outside) (bytes : List ℕ) (old new : feed.Kept) → feed.Answers n old new → Sofar opened bytes old (state_of session.stack) before → UpToExit opened bytes new.1 now
+pub exits : (n : Next) (went : Went) (session session' : SessionState) (before now : Outside) → IsEntry n
+    → went ≡ Exited
+    → Goes went (entry_of n) session session' before now
+    → (opened : Outside) (bytes : List ℕ) (old new : feed.Unanswered) → feed.IsNext n old new
+    → Sofar opened bytes old (state_of session.stack) before → UpToExit opened bytes new.1 now
 exits n went session session' before now is e h opened bytes old new answers sofar =
-    answer_exit opened bytes (entry_of n) old new (state_of session.stack) (state_of session'.stack) before now (an_exit (is_exit (entry_of n)) (sym e ∙ h.went_is)) (takes_entry n old new is answers) h.answers sofar
+    answer_exit opened bytes (entry_of n) old new (state_of session.stack) (state_of session'.stack) before now
+    (an_exit (is_exit (entry_of n)) (sym e ∙ h.went_is)) (takes_entry n old new is answers) h.answers sofar
 
 -- the entry is not answered, or not whole
-pub fails : (n : Next) (f : SessionFault) (session session' : Kept) (before now : Outside) → IsEntry n → session.ended ≡ false → Fails f (entry_of n) session session' before now
-    → (opened : Outside) (bytes : List ℕ) (old new : feed.Kept) → feed.Answers n old new → Sofar opened bytes old (state_of session.stack) before → Cut opened bytes old.1 now
-fails n fault.Ended session session' before now is going h opened bytes old new answers sofar = absurd (false≢true (sym going ∙ h.0))
+pub fails : (n : Next) (f : SessionFault) (session session' : SessionState) (before now : Outside) → IsEntry n
+    → session.ended ≡ false → Fails f (entry_of n) session session' before now
+    → (opened : Outside) (bytes : List ℕ) (old new : feed.Unanswered) → feed.IsNext n old new
+    → Sofar opened bytes old (state_of session.stack) before → Cut opened bytes old.1 now
+fails n fault.Ended session session' before now is going h opened bytes old new answers sofar =
+    absurd (false≢true (sym going ∙ h.0))
 fails n fault.Fault session session' before now is going h opened bytes old new answers sofar =
-    cut_answer opened bytes (entry_of n) old new (state_of session.stack) before now (takes_entry n old new is answers) h.2 sofar
+    cut_answer opened bytes (entry_of n) old new (state_of session.stack) before now (takes_entry n old new is answers)
+    h.2 sofar
 fails n fault.NoMemory session session' before now is going h opened bytes old new answers sofar =
-    cut_answer opened bytes (entry_of n) old new (state_of session.stack) before now (takes_entry n old new is answers) h.2 sofar
+    cut_answer opened bytes (entry_of n) old new (state_of session.stack) before now (takes_entry n old new is answers)
+    h.2 sofar
 
 -- no whole entry is there
-pub waits : (n : Next) (session : Kept) (now : Outside) → n ≡ next.NotYet → session.ended ≡ false
-    → (opened : Outside) (bytes : List ℕ) (old new : feed.Kept) → feed.Answers n old new → Sofar opened bytes old (state_of session.stack) now → Pauses pause.Waiting opened bytes new session now
+pub waits : (n : Next) (session : SessionState) (now : Outside) → n ≡ next.NotYet → session.ended ≡ false
+    → (opened : Outside) (bytes : List ℕ) (old new : feed.Unanswered) → feed.IsNext n old new
+    → Sofar opened bytes old (state_of session.stack) now → Pauses pause.Waiting opened bytes new session now
 waits n session now e going opened bytes old new answers sofar =
     wait_on opened bytes old new session now (rw e at answers) going sofar

@@ -6,17 +6,17 @@ use Rattle.sb_world.specs.declared.OutPort.TheVariants as out_port
 use Rattle.sb_world.specs.declared.WorldError.{WorldError}
 use Rattle.sb_world.specs.declared.WorldError.TheVariants as world_error
 use Rattle.sb_reader.specs.Entries.{Entry}
-use Rattle.sb_meaning.specs.State.{State}
-use Rattle.sb_meaning.specs.Replies.{Replies, is_exit}
-use Rattle.sb_stack.specs.Kept as stack
-use Rattle.sb_stack.specs.Kept.{state_of}
+use Rattle.sb_script.specs.State.{State}
+use Rattle.sb_script.specs.Replies.{Replies, is_exit}
+use Rattle.sb_stack.specs.Stacked as stack
+use Rattle.sb_stack.specs.Stacked.{state_of}
 use Rattle.sb_session.specs.declared.command.Went.{Went}
 use Rattle.sb_session.specs.declared.command.Went.TheVariants.{Go, Exited}
 use Rattle.sb_session.specs.declared.command.SessionFault.{SessionFault}
 use Rattle.sb_session.specs.declared.command.SessionFault.TheVariants as fault
 
-pub record Kept : Type 0 where
-  pub stack : stack.Kept
+pub record SessionState : Type 0 where
+  pub stack : stack.Stacked
   -- an earlier entry ended the run, or was not answered
   pub ended : Bool
 
@@ -25,7 +25,7 @@ abbrev pub CutOf : OutPort → List ℕ → Outside → Outside → Type 0
 CutOf port bytes old new = (out : ℕ) × (out < length bytes) × (new ≡ write_at port (take out bytes) old)
 
 -- A reply to the entry is written, all of it, and leads from a state to another.
-pub record Answers (entry : Entry) (s after : State) (old new : Outside) : Type 0 where
+pub record AnswersEntry (entry : Entry) (s after : State) (old new : Outside) : Type 0 where
   pub reply : List ℕ
   pub replies : Replies s entry reply after
   pub outside : new ≡ write_at out_port.Answers reply old
@@ -49,17 +49,19 @@ is_exited Go = false
 is_exited Exited = true
 
 -- The entry is answered, and the session has ended exactly where it was (exit).
-pub record Goes (went : Went) (entry : Entry) (old new : Kept) (before after : Outside) : Type 0 where
+pub record Goes (went : Went) (entry : Entry) (old new : SessionState) (before after : Outside) : Type 0 where
   pub went_is : went ≡ went_of entry
   pub had_not_ended : old.ended ≡ false
   pub ends : new.ended ≡ is_exited went
-  pub answers : Answers entry (state_of old.stack) (state_of new.stack) before after
+  pub answers : AnswersEntry entry (state_of old.stack) (state_of new.stack) before after
 
 -- The session had ended, and nothing is done; or it ends here, with less than all of the reply written.
-abbrev pub Fails : SessionFault → Entry → Kept → Kept → Outside → Outside → Type 0
+abbrev pub Fails : SessionFault → Entry → SessionState → SessionState → Outside → Outside → Type 0
 Fails fault.Ended entry old new before after = (old.ended ≡ true) × (new ≡ old) × (after ≡ before)
-Fails fault.Fault entry old new before after = (old.ended ≡ false) × (new.ended ≡ true) × CutOrNot entry (state_of old.stack) before after
-Fails fault.NoMemory entry old new before after = (old.ended ≡ false) × (new.ended ≡ true) × CutOrNot entry (state_of old.stack) before after
+Fails fault.Fault entry old new before after = (old.ended ≡ false) × (new.ended ≡ true)
+    × CutOrNot entry (state_of old.stack) before after
+Fails fault.NoMemory entry old new before after = (old.ended ≡ false) × (new.ended ≡ true)
+    × CutOrNot entry (state_of old.stack) before after
 
 abbrev pub fault_of : WorldError → SessionFault
 fault_of world_error.Failed = fault.Fault

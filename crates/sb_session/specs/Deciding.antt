@@ -1,4 +1,4 @@
--- What a check finds on the way: for each constant the regexes of its memberships.
+-- Private: what a check finds on the way: for each constant the regexes of its memberships.
 use Rattle.std.specs.Prelude.{◌≡◌, ◌≢◌, ℕ, true, List, [], ◌∷◌, ◌++◌, length, Option, MatchOption, slice_index_or}
 use Rattle.std.specs.List.{list_all}
 use Rattle.sb_word.specs.Words.{IsWord}
@@ -7,19 +7,13 @@ use Rattle.sb_lang.specs.Least.{IsShortestLeast, HasNoWord}
 use Rattle.sb_lang.specs.Language.{language}
 use Rattle.sb_lang.specs.Regex.{Regex}
 use Rattle.sb_regex.specs.Numbered.{regex_at, AllNumbers}
-use Rattle.sb_meaning.specs.Terms.{Term, Terms, text, constant, apply, no_terms, with_term, str_in_re}
-use Rattle.sb_meaning.specs.State.{Assertion, terms_in, all_hold}
-use Rattle.sb_meaning.specs.Fragment.{are_inside, words_for}
-use Rattle.sb_stack.specs.Kept.{values_from, are_words}
-use Rattle.sb_sorts.specs.Terms.{term_in}
-use Rattle.sb_sorts.specs.declared.term.Term as code
+use Rattle.sb_meaning.specs.Terms.{Term, text, constant, apply, no_terms, with_term, str_in_re}
+use Rattle.sb_script.specs.State.{Assertion, terms_in}
+use Rattle.sb_meaning.specs.Truth.{all_hold}
+use Rattle.sb_script.specs.Fragment.{are_inside, words_for}
+use Rattle.sb_stack.specs.Stacked.{values_from, are_words}
 use Rattle.sb_stack.specs.declared.verdict.Verdict.{Verdict}
 use Rattle.sb_stack.specs.declared.verdict.Verdict.TheVariants as verdict
-
--- the terms of a list in memory
-abbrev pub listed : List code.Term → Terms
-listed [] = no_terms
-listed (t ∷ ts) = with_term (term_in t) (listed ts)
 
 -- the membership of the constant in the regular expression
 abbrev pub membership_of : ℕ → Term → Term
@@ -42,15 +36,17 @@ pub record IsPut (old new : List (List ℕ)) (serial id : ℕ) : Type 0 where
 abbrev pub word_at : List (List ℕ) → ℕ → List ℕ
 word_at words n = slice_index_or words n []
 
--- What is known after these assertions: each is a membership, each constant's words are those of its regexes, and values make
--- all the assertions true exactly where each word is in its constant's memberships.
+-- What is known after these assertions: each is a membership, each constant's words are those of its regexes, and
+-- values make all the assertions true exactly where each word is in its constant's memberships.
 pub record IsSofar (rs : List Regex) (count : ℕ) (assertions : List Assertion) (found : List (List ℕ)) : Type 0 where
   pub inside : are_inside assertions ≡ true
   pub same_length : length found ≡ count
   pub known : (n : ℕ) → AllNumbers rs (ids_at found n)
   pub words : (n : ℕ) (w : List ℕ) → IsWord w → words_for n (terms_in assertions) w ≡ in_each rs (ids_at found n) w
-  pub apart : (words : List (List ℕ)) → (n : ℕ) → all_hold (terms_in assertions) (values_from 0 words) ≡ true → words_for n (terms_in assertions) (word_at words n) ≡ true
-  pub together : (words : List (List ℕ)) → ((n : ℕ) → words_for n (terms_in assertions) (word_at words n) ≡ true) → all_hold (terms_in assertions) (values_from 0 words) ≡ true
+  pub apart : (words : List (List ℕ)) → (n : ℕ) → all_hold (terms_in assertions) (values_from 0 words) ≡ true
+      → words_for n (terms_in assertions) (word_at words n) ≡ true
+  pub together : (words : List (List ℕ)) → ((n : ℕ) → words_for n (terms_in assertions) (word_at words n) ≡ true)
+      → all_hold (terms_in assertions) (values_from 0 words) ≡ true
 
 -- the word that a model gives, or that there is none
 abbrev pub IsLeastOf : Language → Option (List ℕ) → Type 0

@@ -1,5 +1,6 @@
 pub mod Commanding
 pub mod Reading
+pub mod Progress
 pub mod Solve
 pub mod Pausing
 pub mod Underway

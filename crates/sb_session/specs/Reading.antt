@@ -3,13 +3,12 @@ use Rattle.std.specs.Prelude.{◌≡◌, ℕ, ◌<◌, Bool, true, false, List, 
 use Rattle.sb_world.specs.Outside.{Outside, read_at, write_at}
 use Rattle.sb_world.specs.declared.InPort.TheVariants as in_port
 use Rattle.sb_world.specs.declared.OutPort.TheVariants as out_port
-use Rattle.sb_reader.specs.Tokens.{is_gap, is_open_gap}
+use Rattle.sb_reader.specs.Tokens.{is_open_gap}
 use Rattle.sb_reader.specs.Entries.{Entry, HoldsNoEntry, Begins}
-use Rattle.sb_reader.specs.Feeding as feed
-use Rattle.sb_meaning.specs.State.{State}
-use Rattle.sb_meaning.specs.State as meaning
-use Rattle.sb_meaning.specs.Replies.{Replies, is_exit}
-use Rattle.sb_meaning.specs.Scripts.{Answers, unfinished_line}
+use Rattle.sb_script.specs.State.{State}
+use Rattle.sb_script.specs.State as meaning
+use Rattle.sb_script.specs.Replies.{Replies, is_exit}
+use Rattle.sb_script.specs.Scripts.{Answers, unfinished_line}
 
 -- So many bytes were read of the script, and this was written to the answers; nothing else was done.
 abbrev pub after_work : ℕ → List ℕ → Outside → Outside
@@ -22,17 +21,6 @@ IsFront bytes o = IfSome o.script_in.left (λ left. left ≡ bytes ++ drop (leng
 -- they are all that was left of it
 abbrev pub IsAll : List ℕ → Outside → Type 0
 IsAll bytes o = IfSome o.script_in.left (λ left. left ≡ bytes)
-
--- Of the bytes that were read the entries in front are answered, and what is kept of them is not.
-pub record Sofar (opened : Outside) (bytes : List ℕ) (kept : feed.Kept) (s : State) (now : Outside) : Type 0 where
-  pub entries : List Entry
-  pub text : List ℕ
-  -- white space and comments that are not kept
-  pub gap : List ℕ
-  pub is_gap : is_gap gap ≡ true
-  pub begins : Begins kept.1 bytes entries (gap ++ kept.0)
-  pub answers : Answers meaning.start entries text s
-  pub outside : now ≡ after_work (length bytes) text opened
 
 -- The last entry was (exit), and it is answered.
 pub record UpToExit (opened : Outside) (bytes : List ℕ) (ended : Bool) (now : Outside) : Type 0 where
@@ -59,7 +47,8 @@ pub record AllAnswered (opened : Outside) (bytes : List ℕ) (ended : Bool) (lef
   pub answers : Answers meaning.start entries text s
   pub outside : now ≡ after_work (length bytes) text opened
 
--- Less than all of a further text is written: of a reply to the next entry, or of the line for a script that ends within a form.
+-- Less than all of a further text is written: of a reply to the next entry, or of the line for a script that ends
+-- within a form.
 pub record CutAnswer (opened : Outside) (bytes : List ℕ) (ended : Bool) (now : Outside) : Type 0 where
   pub entries : List Entry
   pub left : List ℕ
@@ -69,7 +58,8 @@ pub record CutAnswer (opened : Outside) (bytes : List ℕ) (ended : Bool) (now :
   pub answers : Answers meaning.start entries text s
   pub further : List ℕ
   pub is_further :
-      ((next : Entry) × (behind : List ℕ) × (after : State) × Begins ended bytes (entries ++ next ∷ []) behind × Replies s next further after)
+      ((next : Entry) × (behind : List ℕ) × (after : State) × Begins ended bytes (entries ++ next ∷ []) behind
+      × Replies s next further after)
       ⊎ ((ended ≡ true) × HoldsNoEntry true left × (is_open_gap left ≡ false) × (further ≡ unfinished_line))
   pub out : ℕ
   pub less : out < length further

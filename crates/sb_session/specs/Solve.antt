@@ -1,14 +1,13 @@
 -- What a run of the solver does outside, by its status.
-use Rattle.std.specs.Prelude.{◌≡◌, ℕ, ◌^◌, ◌<◌, ◌≤◌, Bool, true, false, List, [], ◌∷◌, ◌++◌, ◌⊎◌, length, None, Some, codes, Result, Ok, Err}
+use Rattle.std.specs.Prelude.{◌≡◌, ℕ, ◌^◌, ◌<◌, ◌≤◌, Bool, true, false, List, [], ◌∷◌, ◌++◌, ◌⊎◌, if◌then◌else◌, length, None, Some, codes}
 use Rattle.sb_world.specs.Outside.{Outside, open_at, write_at, Rose}
 use Rattle.sb_world.specs.declared.InPort.TheVariants as in_port
 use Rattle.sb_world.specs.declared.OutPort.TheVariants as out_port
 use Rattle.sb_reader.specs.Tokens.{is_open_gap}
 use Rattle.sb_reader.specs.Entries.{Entry, Begins}
-use Rattle.sb_meaning.specs.Replies.{line, is_exit}
-use Rattle.sb_meaning.specs.Scripts.{unfinished_line}
-use Rattle.sb_session.specs.declared.command.SessionFault.{SessionFault}
-use Rattle.sb_session.specs.declared.command.SessionFault.TheVariants as fault
+use Rattle.sb_script.specs.Names.{is_name}
+use Rattle.sb_script.specs.Replies.{line, is_exit}
+use Rattle.sb_script.specs.Scripts.{unfinished_line}
 use Rattle.sb_session.specs.declared.solve.SolveStatus.{SolveStatus}
 use Rattle.sb_session.specs.declared.solve.SolveStatus.TheVariants.{Done, Unfinished, Usage, Fault, NoMemory, InputLimit}
 use Rattle.sb_session.specs.Commanding.{CutOf}
@@ -80,21 +79,27 @@ Run Fault old new = CutShort old new
 Run NoMemory old new = CutShort old new
 Run Usage old new = ⊥
 
-abbrev pub usage_text : List ℕ
-usage_text = line (codes "usage: strsolve")
+-- the version is asked for: behind the program's name there is one word, --version
+abbrev pub asks_version : List (List ℕ) → Bool
+asks_version (name ∷ word ∷ []) = is_name word (codes "--version")
+asks_version _ = false
 
--- less than all of the usage was written
-abbrev pub CutInUsage : Outside → Outside → Type 0
-CutInUsage old new = CutOf out_port.Faults usage_text old new
+-- what is said where there are other words than the program's name: the version where it is asked for, else the usage
+abbrev pub text_for : List (List ℕ) → List ℕ
+text_for words = if asks_version words then line (codes "strsolve 0.1.0") else line (codes "usage: strsolve")
 
--- What a run with wrong words does: it writes the usage, and touches nothing else.
-abbrev pub WrongWords : SolveStatus → Outside → Outside → Type 0
-WrongWords Usage old new = new ≡ write_at out_port.Faults usage_text old
-WrongWords Fault old new = CutInUsage old new
-WrongWords NoMemory old new = CutInUsage old new
-WrongWords Done old new = ⊥
-WrongWords InputLimit old new = ⊥
-WrongWords Unfinished old new = ⊥
+-- less than all of the text was written to standard error
+abbrev pub CutInText : List ℕ → Outside → Outside → Type 0
+CutInText text old new = CutOf out_port.Faults text old new
+
+-- What a run with other words than the program's name does: it writes a text, and touches nothing else.
+abbrev pub WrongWords : List ℕ → SolveStatus → Outside → Outside → Type 0
+WrongWords text Usage old new = new ≡ write_at out_port.Faults text old
+WrongWords text Fault old new = CutInText text old new
+WrongWords text NoMemory old new = CutInText text old new
+WrongWords text Done old new = ⊥
+WrongWords text InputLimit old new = ⊥
+WrongWords text Unfinished old new = ⊥
 
 -- The count of faults rose where the status says so, and only there.
 abbrev pub CountsFaults : SolveStatus → ℕ → ℕ → Type 0
@@ -105,17 +110,11 @@ CountsFaults NoMemory old new = new ≡ old
 CountsFaults Usage old new = new ≡ old
 CountsFaults Unfinished old new = new ≡ old
 
--- the status of a run that ended with a status or a fault
-abbrev pub status_by : Result SolveStatus SessionFault → SolveStatus
-status_by (Ok status) = status
-status_by (Err fault.Fault) = Fault
-status_by (Err fault.NoMemory) = NoMemory
-status_by (Err fault.Ended) = NoMemory
-
 -- Standard input is told to hold the script, and its end or (exit) stands within fewer bytes than the limit.
 abbrev pub IsBounded : List ℕ → Outside → Type 0
 IsBounded script o =
     (o.standard_input ≡ Some script)
     × ((length script < input_limit)
     ⊎ ((front : List ℕ) × (behind : List ℕ) × (entries : List Entry) × (exit : Entry) × (left : List ℕ)
-    × (script ≡ front ++ behind) × (length front < input_limit) × Begins false front (entries ++ exit ∷ []) left × (is_exit exit ≡ true)))
+    × (script ≡ front ++ behind) × (length front < input_limit) × Begins false front (entries ++ exit ∷ []) left
+    × (is_exit exit ≡ true)))

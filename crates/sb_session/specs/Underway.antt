@@ -1,34 +1,37 @@
--- What is known within a run.
+-- Private: what is known within a run.
 use Rattle.std.specs.Prelude.{◌≡◌, ◌<◌, false, List, ℕ, length, Option, Some, None}
 use Rattle.sb_world.specs.Outside.{Outside}
 use Rattle.sb_reader.specs.Feeding as feed
-use Rattle.sb_stack.specs.Kept.{state_of}
-use Rattle.sb_session.specs.Commanding.{Kept}
+use Rattle.sb_stack.specs.Stacked.{state_of}
+use Rattle.sb_session.specs.Commanding.{SessionState}
 use Rattle.sb_session.specs.declared.solve.Pause.{Pause}
 use Rattle.sb_session.specs.declared.solve.Pause.TheVariants.{Exited, Waiting, Ended}
-use Rattle.sb_session.specs.Reading.{Sofar, IsFront, IsAll}
+use Rattle.sb_session.specs.Progress.{Sofar}
+use Rattle.sb_session.specs.Reading.{IsFront, IsAll}
 use Rattle.sb_session.specs.Pausing.{Pauses, NoneLeft}
 use Rattle.sb_session.specs.Solve.{opened, input_limit}
 
 -- The session pauses, or an entry is answered and the next may come.
-abbrev pub Turns : Option Pause → Outside → List ℕ → feed.Kept → Kept → Outside → Type 0
+abbrev pub Turns : Option Pause → Outside → List ℕ → feed.Unanswered → SessionState → Outside → Type 0
 Turns None o bytes kept session now = Sofar o bytes kept (state_of session.stack) now
 Turns (Some pause) o bytes kept session now = Pauses pause o bytes kept session now
 
 -- Only (exit) ends the session.
-abbrev pub StaysOpen : Pause → Kept → Type 0
+abbrev pub StaysOpen : Pause → SessionState → Type 0
 StaysOpen Exited session = Unit {0}
 StaysOpen Waiting session = session.ended ≡ false
 StaysOpen (Ended ending) session = session.ended ≡ false
 
 -- These bytes of the script are read, and all whole entries in them are answered.
-pub record Underway (old : Outside) (bytes : List ℕ) (kept : feed.Kept) (session : Kept) (now : Outside) : Type 0 where
+pub record Underway (old : Outside) (bytes : List ℕ) (kept : feed.Unanswered) (session : SessionState) (now : Outside) :
+    Type 0 where
   pub front : IsFront bytes (opened old)
   pub goes_on : kept.1 ≡ false
   pub left : NoneLeft (opened old) bytes kept session now
 
 -- All of the script is read.
-pub record AllRead (old : Outside) (bytes : List ℕ) (kept : feed.Kept) (session : Kept) (now : Outside) : Type 0 where
+pub record AllRead (old : Outside) (bytes : List ℕ) (kept : feed.Unanswered) (session : SessionState) (now : Outside) :
+    Type 0 where
   pub all : IsAll bytes (opened old)
   pub below_limit : length bytes < input_limit
   pub goes_on : kept.1 ≡ false

@@ -1,17 +1,17 @@
 //! Deciding a check: what the regexes of each constant's memberships have in common, explored.
 //!
-//! A constant's memberships are true of one word exactly where the intersection of their regexes has a word, and the word
-//! that exploring the intersection finds is the one that a model gives.
+//! A constant's memberships are true of one word exactly where the intersection of their regexes has a word, and the
+//! word that exploring the intersection finds is the one that a model gives.
 
 ghost use Rattle.std.specs.Prelude.{◌≡◌, ℕ, ◌<◌, [], ◌∷◌, length, map, true, false, IfOk, OnOk, MatchOption};
 ghost use Rattle.sb_regex.specs.Numbered.{AllNumbers, Extends};
 ghost use Rattle.sb_graph.specs.Findings.{IsGraph};
-ghost use Rattle.sb_meaning.specs.Fragment.{is_inside, are_inside};
-ghost use Rattle.sb_meaning.specs.State.{asserted};
-ghost use Rattle.sb_meaning.specs.Replies.{IsVerdict};
+ghost use Rattle.sb_script.specs.Fragment.{is_inside, are_inside};
+ghost use Rattle.sb_script.specs.State.{asserted};
+ghost use Rattle.sb_script.specs.Replies.{IsVerdict};
 ghost use Rattle.sb_session.specs.Deciding.{in_each, ids_at, membership_of, IsPut, IsSofar, IsLeastOf, AreBest};
 ghost use Rattle.sb_sorts.specs.Terms.{term_in};
-ghost use Rattle.sb_stack.specs.Kept.{state_of, assertion_in, have_serials_below};
+ghost use Rattle.sb_stack.specs.Stacked.{state_of, assertion_in, have_serials_below};
 ghost use Rattle.sb_stack.specs.Steps.{verdict_in};
 
 use crate::conjuncts::Conjuncts;
@@ -67,7 +67,8 @@ impl Regexes {
     }
 }
 
-/// By serial the regexes of the memberships of each of so many constants, `None` where an assertion is none that is decided.
+/// By serial the regexes of the memberships of each of so many constants, `None` where an assertion is none that is
+/// decided.
 fn memberships(
     alloc: Global,
     arena: &mut Arena,
@@ -75,7 +76,9 @@ fn memberships(
     count: usize,
 ) -> Result<Option<Vec<Conjuncts>>, AllocError>
     requires { have_serials_below count assertions.now ≡ true }
-    ensures found { IfOk result (λ found. MatchOption found (are_inside (map assertion_in assertions.now) ≡ false) (λ found. IsSofar arena.new count (map assertion_in assertions.now) found.items)) }
+    ensures found { IfOk result
+        (λ found. MatchOption found (are_inside (map assertion_in assertions.now) ≡ false)
+        (λ found. IsSofar arena.new count (map assertion_in assertions.now) found.items)) }
     ensures extends { Extends arena.old arena.new }
 {
     normal_has_terms_words();
@@ -105,7 +108,8 @@ fn without_conjuncts(alloc: Global, count: usize) -> Result<Vec<Conjuncts>, Allo
 
 /// The constant and the regular expression of a membership.
 fn membership(assertion: &Assertion) -> Option<(Serial, &Term)>
-    ensures { MatchOption result (is_inside (assertion_in assertion.now) ≡ false) (λ m. assertion_in assertion.now ≡ asserted (membership_of m.0.0 (term_in m.1.now))) }
+    ensures { MatchOption result (is_inside (assertion_in assertion.now) ≡ false)
+        (λ m. assertion_in assertion.now ≡ asserted (membership_of m.0.0 (term_in m.1.now))) }
 {
     let Assertion::Term(term) = assertion else {
         return None;
@@ -156,7 +160,8 @@ fn least_words(
     Ok(Verdict::Sat(words))
 }
 
-/// The shortest word that all the regexes have, the least by code points among the shortest; `None` where there is none.
+/// The shortest word that all the regexes have, the least by code points among the shortest; `None` where there is
+/// none.
 fn least_word(
     arena: &mut Arena,
     graph: &mut Graph,

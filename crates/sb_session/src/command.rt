@@ -2,10 +2,10 @@
 
 ghost use Rattle.std.specs.Prelude.{◌≡◌, true, false, IfOk, IfErr, OnErr};
 ghost use Rattle.sb_world.specs.Outside.{CountsFault};
-ghost use Rattle.sb_meaning.specs.State.{start};
-ghost use Rattle.sb_stack.specs.Kept.{state_of};
+ghost use Rattle.sb_script.specs.State.{start};
+ghost use Rattle.sb_stack.specs.Stacked.{state_of};
 ghost use Rattle.sb_stack.specs.Steps.{IsEntry, entry_of};
-ghost use Rattle.sb_session.specs.Commanding.{Goes, Fails, Answers, CutOrNot, went_of, CountsSessionFault};
+ghost use Rattle.sb_session.specs.Commanding.{Goes, Fails, AnswersEntry, CutOrNot, went_of, CountsSessionFault};
 
 use crate::check::Regexes;
 use sb_reader::Next;
@@ -70,11 +70,11 @@ pub struct Session {
 }
 
 impl Model for Session {
-    ghost use Rattle.sb_session.specs.Commanding.{Kept};
+    ghost use Rattle.sb_session.specs.Commanding.{SessionState};
     ghost use Rattle.sb_sorts.specs.contracts.term.Term as term;
     ghost use Rattle.std.specs.Coded.{codes};
 
-    ghost Value = { Kept };
+    ghost Value = { SessionState };
 
     ghost coded = { Prim.hlevel (codes, term.the_row.coded) };
 
@@ -95,13 +95,15 @@ impl Session {
         }
     }
 
-    /// Answers the next entry of the script, whole, before it returns. `Ended` exactly where an earlier entry was
+    /// AnswersEntry the next entry of the script, whole, before it returns. `Ended` exactly where an earlier entry was
     /// `(exit)` or was not answered; `Fault` only where the world's count of faults rose. Linear in the entry and the
     /// answer, and for a check in the live assertions and in what they make it explore.
     pub fn command<W: World>(&mut self, entry: &Next, world: &mut W) -> Result<Went, SessionFault>
         requires { IsEntry entry.now }
-        ensures ok { IfOk result (λ went. Goes went (entry_of entry.now) self.old self.new (W.outside world.old) (W.outside world.new)) }
-        ensures err { IfErr result (λ fault. Fails fault (entry_of entry.now) self.old self.new (W.outside world.old) (W.outside world.new)) }
+        ensures ok { IfOk result
+            (λ went. Goes went (entry_of entry.now) self.old self.new (W.outside world.old) (W.outside world.new)) }
+        ensures err { IfErr result
+            (λ fault. Fails fault (entry_of entry.now) self.old self.new (W.outside world.old) (W.outside world.new)) }
         ensures faults { CountsSessionFault result (W.faults world.old) (W.faults world.new) }
     {
         if self.ended {
@@ -114,7 +116,7 @@ impl Session {
     }
 }
 
-/// Answers an entry.
+/// AnswersEntry an entry.
 fn answer_entry<W: World>(
     alloc: Global,
     stack: &mut Stack,
@@ -123,8 +125,11 @@ fn answer_entry<W: World>(
     world: &mut W,
 ) -> Result<Went, WorldError>
     requires { IsEntry entry.now }
-    ensures ok { IfOk result (λ went. (went ≡ went_of (entry_of entry.now)) × Answers (entry_of entry.now) (state_of stack.old) (state_of stack.new) (W.outside world.old) (W.outside world.new)) }
-    ensures err { OnErr result (CutOrNot (entry_of entry.now) (state_of stack.old) (W.outside world.old) (W.outside world.new)) }
+    ensures ok { IfOk result (λ went. (went ≡ went_of (entry_of entry.now))
+        × AnswersEntry (entry_of entry.now) (state_of stack.old) (state_of stack.new) (W.outside world.old)
+        (W.outside world.new)) }
+    ensures err { OnErr result
+        (CutOrNot (entry_of entry.now) (state_of stack.old) (W.outside world.old) (W.outside world.new)) }
     ensures faults { CountsFault result (W.faults world.old) (W.faults world.new) }
 {
     match stack.apply(entry)? {

@@ -9,8 +9,6 @@ mod check;
 mod command;
 mod conjuncts;
 mod solve;
-#[cfg(test)]
-mod tests;
 
 pub use command::{Session, SessionFault, Went};
 pub use solve::{SolveStatus, solve_top};

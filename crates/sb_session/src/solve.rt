@@ -1,16 +1,19 @@
 //! The top call of the solver.
 
-ghost use Rattle.std.specs.Prelude.{◌≡◌, ◌≢◌, ℕ, ◌<◌, ◌⊎◌, false, List, [], ◌++◌, length, IfOk, OnErr, MatchOption};
+ghost use Rattle.std.specs.Prelude.{◌≡◌, ◌≢◌, ℕ, ◌<◌, ◌⊎◌, false, List, [], ◌++◌, length, map, string_bytes, codes, IfOk, OnErr, MatchOption};
 ghost use Rattle.sb_world.specs.Outside.{Outside, Rose, read_at};
 ghost use Rattle.sb_reader.specs.Feeding as feed;
-ghost use Rattle.sb_meaning.specs.State.{start};
-ghost use Rattle.sb_stack.specs.Kept.{state_of};
+ghost use Rattle.sb_script.specs.Names.{is_name};
+ghost use Rattle.sb_script.specs.State.{start};
+ghost use Rattle.sb_stack.specs.Stacked.{state_of};
 ghost use Rattle.sb_stack.specs.Steps.{IsEntry};
 ghost use Rattle.sb_session.specs.Commanding.{CountsSessionFault};
-ghost use Rattle.sb_session.specs.Reading.{Sofar, Cut};
+ghost use Rattle.sb_session.specs.Progress.{Sofar, status_by};
+ghost use Rattle.sb_session.specs.Reading.{Cut};
 ghost use Rattle.sb_session.specs.Pausing.{Pauses};
 ghost use Rattle.sb_session.specs.Underway.{Turns, StaysOpen, AllRead};
-ghost use Rattle.sb_session.specs.Solve.{Run, WrongWords, CountsFaults, CutShort, CutInUsage, IsBounded, opened, status_by};
+ghost use Rattle.sb_session.specs.Solve.{Run, WrongWords, CountsFaults, CutShort, CutInText, IsBounded, opened};
+ghost use Rattle.sb_session.specs.Solve as specs;
 
 use crate::command::{Session, SessionFault, Went};
 use sb_reader::{Ending, Feed, Next};
@@ -36,6 +39,8 @@ pub enum SolveStatus {
 
 const USAGE: &[u8] = b"usage: strsolve\n";
 
+const VERSION: &[u8] = b"strsolve 0.1.0\n";
+
 const UNFINISHED: &[u8] = b"(error \"unexpected end of input\")\n";
 
 /// A script of so many bytes is not read to its end.
@@ -44,24 +49,29 @@ const INPUT_LIMIT: usize = 0x1_0000_0000;
 /// How many bytes are asked of the world at a time.
 const PIECE: usize = 0x1_0000;
 
-/// Answers the script that standard input holds. `words` are the program's words, its own name first.
+/// Answers the script that standard input holds. `words` are the program's words, its own name first. Other words get a
+/// text on standard error and nothing else: `--version` alone the program's version, any others the usage.
 ///
 /// After each read all whole commands in what was read are answered before the next read. The status is
 /// `Usage` where there is another word, `Fault` only where the world's count of faults rose, and `InputLimit`
 /// where `2^32` bytes of the script were read and neither its end nor `(exit)`. Where a fault or want of memory
 /// cuts the run short, the answers written are a prefix of all of them.
 pub fn solve_top<W: World>(alloc: Global, words: &[String], world: &mut W) -> SolveStatus
-    ensures usage { length words.now ≢ 1 → WrongWords result (W.outside world.old) (W.outside world.new) }
+    ensures usage { length words.now ≢ 1
+        → WrongWords (specs.text_for (map string_bytes words.now)) result (W.outside world.old) (W.outside world.new) }
     ensures run { length words.now ≡ 1 → Run result (W.outside world.old) (W.outside world.new) }
     ensures faults { CountsFaults result (W.faults world.old) (W.faults world.new) }
 
-    // Nothing else than want of memory keeps a script whose end or exit is below the limit from being answered, where no fault comes.
-    ensures complete { length words.now ≡ 1 → (Rose (W.faults world.old) (W.faults world.new) → ⊥) → ((script : List ℕ) × IsBounded script (W.outside world.old)) → (result ≡ SolveStatus.Done) ⊎ ((result ≡ SolveStatus.Unfinished) ⊎ (result ≡ SolveStatus.NoMemory)) }
+    // Nothing else than want of memory keeps a script whose end or exit is below the limit from being answered, where
+    // no fault comes.
+    ensures complete { length words.now ≡ 1 → (Rose (W.faults world.old) (W.faults world.new) → ⊥)
+        → ((script : List ℕ) × IsBounded script (W.outside world.old)) → (result ≡ SolveStatus.Done)
+        ⊎ ((result ≡ SolveStatus.Unfinished) ⊎ (result ≡ SolveStatus.NoMemory)) }
 {
     if words.len() == 1 {
         status_of(answer_standard_input(alloc, world))
     } else {
-        status_of(refuse_words(world))
+        status_of(refuse_words(text_for(words), world))
     }
 }
 
@@ -76,13 +86,31 @@ fn status_of(outcome: Result<SolveStatus, SessionFault>) -> SolveStatus
     }
 }
 
-/// Writes the usage.
-fn refuse_words<W: World>(world: &mut W) -> Result<SolveStatus, SessionFault>
-    ensures ok { IfOk result (λ status. WrongWords status (W.outside world.old) (W.outside world.new) × CountsFaults status (W.faults world.old) (W.faults world.new)) }
-    ensures err { OnErr result (CutInUsage (W.outside world.old) (W.outside world.new)) }
+/// What is said where there are other words than the program's name.
+fn text_for(words: &[String]) -> &'static [u8]
+    ensures { result.now ≡ specs.text_for (map string_bytes words.now) }
+{
+    if let [_, word] = words {
+        if asks_version(word) { VERSION } else { USAGE }
+    } else {
+        USAGE
+    }
+}
+
+fn asks_version(word: &str) -> bool
+    ensures { result ≡ is_name word.now (codes "--version") }
+{
+    word == "--version"
+}
+
+/// Writes the text to standard error.
+fn refuse_words<W: World>(text: &[u8], world: &mut W) -> Result<SolveStatus, SessionFault>
+    ensures ok { IfOk result (λ status. WrongWords text.now status (W.outside world.old) (W.outside world.new)
+        × CountsFaults status (W.faults world.old) (W.faults world.new)) }
+    ensures err { OnErr result (CutInText text.now (W.outside world.old) (W.outside world.new)) }
     ensures faults { CountsSessionFault result (W.faults world.old) (W.faults world.new) }
 {
-    write_all(world, OutPort::Faults, USAGE)?;
+    write_all(world, OutPort::Faults, text)?;
     Ok(SolveStatus::Usage)
 }
 
@@ -91,7 +119,8 @@ fn answer_standard_input<W: World>(
     alloc: Global,
     world: &mut W,
 ) -> Result<SolveStatus, SessionFault>
-    ensures ok { IfOk result (λ status. Run status (W.outside world.old) (W.outside world.new) × CountsFaults status (W.faults world.old) (W.faults world.new)) }
+    ensures ok { IfOk result (λ status. Run status (W.outside world.old) (W.outside world.new)
+        × CountsFaults status (W.faults world.old) (W.faults world.new)) }
     ensures err { OnErr result (CutShort (W.outside world.old) (W.outside world.new)) }
     ensures faults { CountsSessionFault result (W.faults world.old) (W.faults world.new) }
 {
@@ -116,9 +145,11 @@ fn answer_script<W: World>(
     requires feed { feed.old ≡ ([], false) }
     requires state { state_of session.old.stack ≡ start }
     requires goes_on { session.old.ended ≡ false }
-    ensures ok { IfOk result (λ status. (old : Outside) → W.outside world.old ≡ opened old → Run status old (W.outside world.new)) }
+    ensures ok { IfOk result (λ status. (old : Outside) → W.outside world.old ≡ opened old
+        → Run status old (W.outside world.new)) }
     ensures counts { IfOk result (λ status. CountsFaults status (W.faults world.old) (W.faults world.new)) }
-    ensures err { OnErr result ((old : Outside) → W.outside world.old ≡ opened old → CutShort old (W.outside world.new)) }
+    ensures err { OnErr result ((old : Outside) → W.outside world.old ≡ opened old
+        → CutShort old (W.outside world.new)) }
     ensures faults { CountsSessionFault result (W.faults world.old) (W.faults world.new) }
 {
     let mut count = 0;
@@ -163,8 +194,14 @@ fn answer_piece<W: World>(
 ) -> Result<Pause, SessionFault>
     requires feed { feed.old.1 ≡ false }
     requires session { session.old.ended ≡ false }
-    ensures ok { IfOk result (λ pause. (opened : Outside) (bytes : List ℕ) (before : Outside) → Sofar opened bytes feed.old (state_of session.old.stack) before → W.outside world.old ≡ read_at InPort.Script (length piece.now) before → Pauses pause opened (bytes ++ piece.now) feed.new session.new (W.outside world.new)) }
-    ensures err { OnErr result ((opened : Outside) (bytes : List ℕ) (before : Outside) → Sofar opened bytes feed.old (state_of session.old.stack) before → W.outside world.old ≡ read_at InPort.Script (length piece.now) before → Cut opened (bytes ++ piece.now) false (W.outside world.new)) }
+    ensures ok { IfOk result (λ pause. (opened : Outside) (bytes : List ℕ) (before : Outside)
+        → Sofar opened bytes feed.old (state_of session.old.stack) before
+        → W.outside world.old ≡ read_at InPort.Script (length piece.now) before
+        → Pauses pause opened (bytes ++ piece.now) feed.new session.new (W.outside world.new)) }
+    ensures err { OnErr result ((opened : Outside) (bytes : List ℕ) (before : Outside)
+        → Sofar opened bytes feed.old (state_of session.old.stack) before
+        → W.outside world.old ≡ read_at InPort.Script (length piece.now) before
+        → Cut opened (bytes ++ piece.now) false (W.outside world.new)) }
     ensures finished { IfOk result (λ pause. feed.new.1 ≡ false) }
     ensures goes_on { IfOk result (λ pause. StaysOpen pause session.new) }
     ensures faults { CountsSessionFault result (W.faults world.old) (W.faults world.new) }
@@ -180,9 +217,13 @@ fn answer_entries<W: World>(
     world: &mut W,
 ) -> Result<Pause, SessionFault>
     requires { session.old.ended ≡ false }
-    ensures ok { IfOk result (λ pause. (opened : Outside) (bytes : List ℕ) → Sofar opened bytes feed.old (state_of session.old.stack) (W.outside world.old) → Pauses pause opened bytes feed.new session.new (W.outside world.new)) }
+    ensures ok { IfOk result (λ pause. (opened : Outside) (bytes : List ℕ)
+        → Sofar opened bytes feed.old (state_of session.old.stack) (W.outside world.old)
+        → Pauses pause opened bytes feed.new session.new (W.outside world.new)) }
     ensures goes_on { IfOk result (λ pause. StaysOpen pause session.new) }
-    ensures err { OnErr result ((opened : Outside) (bytes : List ℕ) → Sofar opened bytes feed.old (state_of session.old.stack) (W.outside world.old) → Cut opened bytes feed.old.1 (W.outside world.new)) }
+    ensures err { OnErr result ((opened : Outside) (bytes : List ℕ)
+        → Sofar opened bytes feed.old (state_of session.old.stack) (W.outside world.old)
+        → Cut opened bytes feed.old.1 (W.outside world.new)) }
     ensures finished { feed.new.1 ≡ feed.old.1 }
     ensures faults { CountsSessionFault result (W.faults world.old) (W.faults world.new) }
 {
@@ -200,9 +241,15 @@ fn answer_next<W: World>(
     world: &mut W,
 ) -> Result<Option<Pause>, SessionFault>
     requires { session.old.ended ≡ false }
-    ensures ok { IfOk result (λ turn. (opened : Outside) (bytes : List ℕ) → Sofar opened bytes feed.old (state_of session.old.stack) (W.outside world.old) → Turns turn opened bytes feed.new session.new (W.outside world.new)) }
-    ensures goes_on { IfOk result (λ turn. MatchOption turn ((session.new.ended ≡ false) × (length feed.new.0 < length feed.old.0)) (λ pause. StaysOpen pause session.new)) }
-    ensures err { OnErr result ((opened : Outside) (bytes : List ℕ) → Sofar opened bytes feed.old (state_of session.old.stack) (W.outside world.old) → Cut opened bytes feed.old.1 (W.outside world.new)) }
+    ensures ok { IfOk result (λ turn. (opened : Outside) (bytes : List ℕ)
+        → Sofar opened bytes feed.old (state_of session.old.stack) (W.outside world.old)
+        → Turns turn opened bytes feed.new session.new (W.outside world.new)) }
+    ensures goes_on { IfOk result
+        (λ turn. MatchOption turn ((session.new.ended ≡ false) × (length feed.new.0 < length feed.old.0))
+        (λ pause. StaysOpen pause session.new)) }
+    ensures err { OnErr result ((opened : Outside) (bytes : List ℕ)
+        → Sofar opened bytes feed.old (state_of session.old.stack) (W.outside world.old)
+        → Cut opened bytes feed.old.1 (W.outside world.new)) }
     ensures finished { feed.new.1 ≡ feed.old.1 }
     ensures faults { CountsSessionFault result (W.faults world.old) (W.faults world.new) }
 {
@@ -217,9 +264,15 @@ fn answer_what_came<W: World>(
     world: &mut W,
 ) -> Result<Option<Pause>, SessionFault>
     requires { session.old.ended ≡ false }
-    ensures ok { IfOk result (λ turn. (opened : Outside) (bytes : List ℕ) (old new : feed.Kept) → feed.Answers next.now old new → Sofar opened bytes old (state_of session.old.stack) (W.outside world.old) → Turns turn opened bytes new session.new (W.outside world.new)) }
-    ensures goes_on { IfOk result (λ turn. MatchOption turn (IsEntry next.now × (session.new.ended ≡ false)) (λ pause. StaysOpen pause session.new)) }
-    ensures err { OnErr result ((opened : Outside) (bytes : List ℕ) (old new : feed.Kept) → feed.Answers next.now old new → Sofar opened bytes old (state_of session.old.stack) (W.outside world.old) → Cut opened bytes old.1 (W.outside world.new)) }
+    ensures ok { IfOk result (λ turn. (opened : Outside) (bytes : List ℕ) (old new : feed.Unanswered)
+        → feed.IsNext next.now old new → Sofar opened bytes old (state_of session.old.stack) (W.outside world.old)
+        → Turns turn opened bytes new session.new (W.outside world.new)) }
+    ensures goes_on { IfOk result
+        (λ turn. MatchOption turn (IsEntry next.now × (session.new.ended ≡ false))
+        (λ pause. StaysOpen pause session.new)) }
+    ensures err { OnErr result ((opened : Outside) (bytes : List ℕ) (old new : feed.Unanswered)
+        → feed.IsNext next.now old new → Sofar opened bytes old (state_of session.old.stack) (W.outside world.old)
+        → Cut opened bytes old.1 (W.outside world.new)) }
     ensures faults { CountsSessionFault result (W.faults world.old) (W.faults world.new) }
 {
     match next {
@@ -239,9 +292,11 @@ fn answer_end<W: World>(
     world: &mut W,
 ) -> Result<SolveStatus, SessionFault>
     requires { session.old.ended ≡ false }
-    ensures ok { IfOk result (λ status. (old : Outside) (bytes : List ℕ) → AllRead old bytes feed.old session.old (W.outside world.old) → Run status old (W.outside world.new)) }
+    ensures ok { IfOk result (λ status. (old : Outside) (bytes : List ℕ)
+        → AllRead old bytes feed.old session.old (W.outside world.old) → Run status old (W.outside world.new)) }
     ensures counts { IfOk result (λ status. CountsFaults status (W.faults world.old) (W.faults world.new)) }
-    ensures err { OnErr result ((old : Outside) (bytes : List ℕ) → AllRead old bytes feed.old session.old (W.outside world.old) → CutShort old (W.outside world.new)) }
+    ensures err { OnErr result ((old : Outside) (bytes : List ℕ)
+        → AllRead old bytes feed.old session.old (W.outside world.old) → CutShort old (W.outside world.new)) }
     ensures faults { CountsSessionFault result (W.faults world.old) (W.faults world.new) }
 {
     feed.finish();

@@ -1,33 +1,28 @@
 -- Forms by their shape, as the code takes them apart.
-use Rattle.std.proofs.Common.{◌≡◌, ℕ, suc, ◌==◌, vec_len, ◌≤◌, ◌<◌, Bool, true, false, not, ◌&&◌, if◌then◌else◌, List, [], ◌∷◌, length, get_or, Option, Some, None, is_some, option_map, Result, Err, sym, refl, ap, ◌∙◌, arith, true≢false}
+use Rattle.std.proofs.Common.{◌≡◌, suc, ◌==◌, vec_len, ◌≤◌, ◌<◌, Bool, true, false, not, ◌&&◌, if◌then◌else◌, List, [], ◌∷◌, length, get_or, Option, Some, None, is_some, option_map, Result, Err, sym, refl, ap, ◌∙◌, arith, true≢false}
+use Rattle.sb_reader.proofs.CallerLemmas.{form_of_list}
 use Rattle.std.specs.List.{list_all}
 use Rattle.std.proofs.lemmas.Bool.{ne_eqb}
 use Rattle.std.specs.declared.vec.Vec.{Vec}
 use Rattle.std.specs.declared.alloc.Global.{Global}
 use Rattle.sb_reader.specs.declared.sexpr.Sexpr as sexpr
-use Rattle.sb_reader.specs.declared.sexpr.Sexpr.{Sexpr, Row_of-Sexpr, end_of-Sexpr, more_of-Sexpr, items-the_row-Sexpr, items_hidden-the_row-Sexpr-0}
-use Rattle.sb_reader.specs.Forms.{Form, Forms, Symbol, QuotedSymbol, Keyword, Numeral, OtherNumber, Words, Group, none, more, form_of, forms_of}
-use Rattle.sb_meaning.specs.Names.{Name, is_reserved}
-use Rattle.sb_meaning.specs.Scopes.{Naming}
-use Rattle.sb_meaning.specs.Reading.{Fault, Head, malformed, is_binding, are_bindings, is_let, read_indexed, read_index_list}
-use Rattle.sb_sorts.specs.Heads.{forms_in, name_of, has_bindings, beginning_of, some_beginning}
+use Rattle.sb_reader.specs.declared.sexpr.Sexpr.{Sexpr}
+use Rattle.sb_reader.specs.Forms.{Form, Forms, Symbol, QuotedSymbol, Keyword, Numeral, OtherNumber, Words, Group, none, more, form_of, forms_in}
+use Rattle.sb_script.specs.Names.{Name, is_reserved}
+use Rattle.sb_script.specs.Scopes.{Naming}
+use Rattle.sb_script.specs.Reading.{Fault, Head, malformed, is_binding, are_bindings, is_let, read_indexed, read_index_list}
+use Rattle.sb_sorts.specs.Heads.{name_of, has_bindings, beginning_of, some_beginning}
 
-forms_of_row : (m : _) (row : Row_of-Sexpr m) → forms_of row ≡ forms_in (items-the_row-Sexpr m row)
-forms_of_row m end_of-Sexpr = refl
-forms_of_row m (more_of-Sexpr form rest) = ap (more (form_of form)) (forms_of_row _ rest)
-
--- a list in memory, as a form
-form_of_list : (v : Vec Sexpr Global) → form_of (sexpr.List v) ≡ Group (forms_in v.items)
-form_of_list v = ap Group (forms_of_row _ (sexpr.TheBlock.hidden-the_row-Sexpr-0 v) ∙ ap forms_in (items_hidden-the_row-Sexpr-0 v))
-
-pub list_form : (form : Sexpr) (v : Vec Sexpr Global) (forms : List Sexpr) → form ≡ sexpr.List v → forms ≡ v.items → form_of form ≡ Group (forms_in forms)
+pub list_form : (form : Sexpr) (v : Vec Sexpr Global) (forms : List Sexpr) → form ≡ sexpr.List v → forms ≡ v.items
+    → form_of form ≡ Group (forms_in forms)
 list_form form v forms is items = ap form_of is ∙ form_of_list v ∙ ap (λ fs. Group (forms_in fs)) (sym items)
 
 pub some_map : {A B : Type 0} (f : A → B) (o : Option A) → is_some o ≡ is_some (option_map f o)
 some_map f None = refl
 some_map f (Some x) = refl
 
-pub bindings_all : (forms : List Sexpr) → list_all (λ form. is_binding (form_of form)) forms ≡ are_bindings (forms_in forms)
+pub bindings_all : (forms : List Sexpr)
+    → list_all (λ form. is_binding (form_of form)) forms ≡ are_bindings (forms_in forms)
 bindings_all [] = refl
 bindings_all (form ∷ forms) = ap (λ b. is_binding (form_of form) && b) (bindings_all forms)
 
@@ -36,11 +31,13 @@ abbrev pub by_name : List Naming → Option Name → Result Head Fault
 by_name names (Some name) = read_indexed names name
 by_name names None = Err malformed
 
-unreserved : (r : Bool) (names : List Naming) (name : Name) → (if r then Err malformed else read_indexed names name) ≡ by_name names (if r then None else Some name)
+unreserved : (r : Bool) (names : List Naming) (name : Name)
+    → (if r then Err malformed else read_indexed names name) ≡ by_name names (if r then None else Some name)
 unreserved true names name = refl
 unreserved false names name = refl
 
-index_list_name : (names : List Naming) (f g : Form) (gs : Forms) → read_index_list names (more f (more g gs)) ≡ by_name names (name_of f)
+index_list_name : (names : List Naming) (f g : Form) (gs : Forms)
+    → read_index_list names (more f (more g gs)) ≡ by_name names (name_of f)
 index_list_name names (Symbol name) g gs = unreserved (is_reserved name) names name
 index_list_name names (QuotedSymbol name) g gs = refl
 index_list_name names (Keyword name) g gs = refl
@@ -58,12 +55,16 @@ no_index names (OtherNumber bytes) = refl
 no_index names (Words bytes) = refl
 no_index names (Group list) = refl
 
-pub indexed : (names : List Naming) (forms : List Sexpr) (first : Sexpr) → 2 ≤ length forms → first ≡ get_or forms 0 first → read_index_list names (forms_in forms) ≡ by_name names (name_of (form_of first))
+pub indexed : (names : List Naming) (forms : List Sexpr) (first : Sexpr) → 2 ≤ length forms
+    → first ≡ get_or forms 0 first → read_index_list names (forms_in forms) ≡ by_name names (name_of (form_of first))
 indexed names [] first long is = absurd (omega arith)
 indexed names (form ∷ []) first long is = absurd (omega arith)
-indexed names (form ∷ index ∷ forms) first long is = index_list_name names (form_of form) (form_of index) (forms_in forms) ∙ ap (λ f. by_name names (name_of (form_of f))) (sym is)
+indexed names (form ∷ index ∷ forms) first long is =
+    index_list_name names (form_of form) (form_of index) (forms_in forms)
+    ∙ ap (λ f. by_name names (name_of (form_of f))) (sym is)
 
-pub unindexed : (names : List Naming) (forms : List Sexpr) → length forms < 2 → read_index_list names (forms_in forms) ≡ Err malformed
+pub unindexed : (names : List Naming) (forms : List Sexpr) → length forms < 2
+    → read_index_list names (forms_in forms) ≡ Err malformed
 unindexed names [] short = refl
 unindexed names (form ∷ []) short = no_index names (form_of form)
 unindexed names (form ∷ index ∷ forms) short = absurd (omega arith)
@@ -100,10 +101,12 @@ many_forms (OtherNumber bytes) g h hs = refl
 many_forms (Words bytes) g h hs = refl
 many_forms (Group list) g h hs = refl
 
-pub pair_binding : (parts : List Sexpr) (first : Sexpr) → length parts ≡ 2 → first ≡ get_or parts 0 first → is_binding (Group (forms_in parts)) ≡ is_some (name_of (form_of first))
+pub pair_binding : (parts : List Sexpr) (first : Sexpr) → length parts ≡ 2 → first ≡ get_or parts 0 first
+    → is_binding (Group (forms_in parts)) ≡ is_some (name_of (form_of first))
 pair_binding [] first long is = absurd (omega arith)
 pair_binding (a ∷ []) first long is = absurd (omega arith)
-pair_binding (a ∷ b ∷ []) first long is = binding_name (form_of a) (form_of b) ∙ ap (λ f. is_some (name_of (form_of f))) (sym is)
+pair_binding (a ∷ b ∷ []) first long is = binding_name (form_of a) (form_of b)
+    ∙ ap (λ f. is_some (name_of (form_of f))) (sym is)
 pair_binding (a ∷ b ∷ d ∷ ds) first long is = absurd (omega arith)
 
 pub no_binding : (parts : List Sexpr) → (length parts ≡ 2 → ⊥) → is_binding (Group (forms_in parts)) ≡ false
@@ -111,9 +114,6 @@ no_binding [] other = refl
 no_binding (a ∷ []) other = one_form (form_of a)
 no_binding (a ∷ b ∷ []) other = absurd (other refl)
 no_binding (a ∷ b ∷ d ∷ ds) other = many_forms (form_of a) (form_of b) (form_of d) (forms_in ds)
-
-nonzero : (n : ℕ) → (suc n == 0) ≡ false
-nonzero n = ne_eqb (suc n) 0 (λ e. omega arith)
 
 -- a let is bindings and a body
 let_bindings : (f g : Form) → is_let (more f (more g none)) ≡ has_bindings f
@@ -146,10 +146,12 @@ two_bodies (Numeral digits) g h hs = refl
 two_bodies (OtherNumber bytes) g h hs = refl
 two_bodies (Words bytes) g h hs = refl
 
-pub let_of_two : (forms : List Sexpr) (first : Sexpr) → length forms ≡ 2 → first ≡ get_or forms 0 first → is_let (forms_in forms) ≡ has_bindings (form_of first)
+pub let_of_two : (forms : List Sexpr) (first : Sexpr) → length forms ≡ 2 → first ≡ get_or forms 0 first
+    → is_let (forms_in forms) ≡ has_bindings (form_of first)
 let_of_two [] first long is = absurd (omega arith)
 let_of_two (a ∷ []) first long is = absurd (omega arith)
-let_of_two (a ∷ b ∷ []) first long is = let_bindings (form_of a) (form_of b) ∙ ap (λ f. has_bindings (form_of f)) (sym is)
+let_of_two (a ∷ b ∷ []) first long is = let_bindings (form_of a) (form_of b)
+    ∙ ap (λ f. has_bindings (form_of f)) (sym is)
 let_of_two (a ∷ b ∷ d ∷ ds) first long is = absurd (omega arith)
 
 pub no_let : (forms : List Sexpr) → (length forms ≡ 2 → ⊥) → is_let (forms_in forms) ≡ false
@@ -158,26 +160,31 @@ no_let (a ∷ []) other = no_body (form_of a)
 no_let (a ∷ b ∷ []) other = absurd (other refl)
 no_let (a ∷ b ∷ d ∷ ds) other = two_bodies (form_of a) (form_of b) (form_of d) (forms_in ds)
 
-some_bindings : (forms : List Sexpr) → (length forms == 0) ≡ false → are_bindings (forms_in forms) ≡ has_bindings (Group (forms_in forms))
+some_bindings : (forms : List Sexpr) → (length forms == 0) ≡ false
+    → are_bindings (forms_in forms) ≡ has_bindings (Group (forms_in forms))
 some_bindings [] some = cc
 some_bindings (form ∷ forms) some = refl
 
 no_bindings : (forms : List Sexpr) → (length forms == 0) ≡ true → false ≡ has_bindings (Group (forms_in forms))
 no_bindings [] empty = refl
-no_bindings (form ∷ forms) empty = absurd (true≢false (sym empty ∙ nonzero (length forms)))
+no_bindings (form ∷ forms) empty = absurd (true≢false (sym empty ∙ ne_eqb (suc (length forms)) 0 (λ e. omega arith)))
 
 module _ (form : Sexpr) (v : Vec Sexpr Global) (is : form ≡ sexpr.List v) where
   grouped : has_bindings (Group (forms_in v.items)) ≡ has_bindings (form_of form)
   grouped = ap has_bindings (sym (list_form form v v.items is refl))
 
-  pub bindings_behind : (forms : List Sexpr) (empty : Bool) → forms ≡ v.items → empty ≡ (vec_len v == 0) → empty ≡ false → are_bindings (forms_in forms) ≡ has_bindings (form_of form)
+  pub bindings_behind : (forms : List Sexpr) (empty : Bool) → forms ≡ v.items → empty ≡ (vec_len v == 0) → empty ≡ false
+      → are_bindings (forms_in forms) ≡ has_bindings (form_of form)
   bindings_behind forms empty items test some =
-      ap (λ fs. are_bindings (forms_in fs)) items ∙ some_bindings v.items (ap (λ n. n == 0) (sym v.ok.0) ∙ sym test ∙ some) ∙ grouped
+      ap (λ fs. are_bindings (forms_in fs)) items
+      ∙ some_bindings v.items (ap (λ n. n == 0) (sym v.ok.0) ∙ sym test ∙ some) ∙ grouped
 
-  pub nothing_behind : (empty : Bool) → empty ≡ (vec_len v == 0) → empty ≡ true → not empty ≡ has_bindings (form_of form)
+  pub nothing_behind : (empty : Bool) → empty ≡ (vec_len v == 0) → empty ≡ true
+      → not empty ≡ has_bindings (form_of form)
   nothing_behind empty test all =
       ap not all ∙ no_bindings v.items (ap (λ n. n == 0) (sym v.ok.0) ∙ sym test ∙ all) ∙ grouped
 
-pub begun : (names : List Naming) (first : Form) (others : List Sexpr) (empty : Bool) → empty ≡ (length others == 0) → empty ≡ false → some_beginning names first (forms_in others) ≡ beginning_of names first (forms_in others)
+pub begun : (names : List Naming) (first : Form) (others : List Sexpr) (empty : Bool) → empty ≡ (length others == 0)
+    → empty ≡ false → some_beginning names first (forms_in others) ≡ beginning_of names first (forms_in others)
 begun names first [] empty test some = absurd (true≢false (sym test ∙ some))
 begun names first (form ∷ forms) empty test some = refl

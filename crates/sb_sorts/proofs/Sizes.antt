@@ -4,8 +4,7 @@ use Rattle.std.specs.declared.vec.Vec.{Vec}
 use Rattle.std.specs.declared.alloc.Global.{Global}
 use Rattle.sb_reader.specs.declared.sexpr.Sexpr as sexpr
 use Rattle.sb_reader.specs.declared.sexpr.Sexpr.{Sexpr}
-use Rattle.sb_reader.specs.Forms.{Form, Forms, Symbol, QuotedSymbol, Keyword, Numeral, OtherNumber, Words, Group, none, more, form_of}
-use Rattle.sb_sorts.specs.Heads.{forms_in}
+use Rattle.sb_reader.specs.Forms.{Form, Forms, Symbol, QuotedSymbol, Keyword, Numeral, OtherNumber, Words, Group, none, more, form_of, forms_in}
 use Rattle.sb_sorts.proofs.Shapes.{list_form}
 
 -- how many forms there are in a form
@@ -30,7 +29,8 @@ unfold_group : (forms : Forms) → size (Group forms) ≡ size_of_all forms + 1
 unfolding size size_of_all
 unfold_group forms = refl
 
-unfold_more : (form : Sexpr) (forms : List Sexpr) → size_of_slice (form ∷ forms) ≡ size (form_of form) + size_of_slice forms
+unfold_more : (form : Sexpr) (forms : List Sexpr)
+    → size_of_slice (form ∷ forms) ≡ size (form_of form) + size_of_slice forms
 unfolding size size_of_all size_of_slice
 unfold_more form forms = refl
 
@@ -38,14 +38,18 @@ size_of_slice_is : (forms : List Sexpr) → size_of_slice forms ≡ size_of_all 
 unfolding size_of_slice
 size_of_slice_is forms = refl
 
-pub list_size : (form : Sexpr) (v : Vec Sexpr Global) (forms : List Sexpr) → form ≡ sexpr.List v → forms ≡ v.items → size (form_of form) ≡ size_of_slice forms + 1
-list_size form v forms is items = ap size (list_form form v forms is items) ∙ unfold_group (forms_in forms) ∙ ap (λ n. n + 1) (sym (size_of_slice_is forms))
+pub list_size : (form : Sexpr) (v : Vec Sexpr Global) (forms : List Sexpr) → form ≡ sexpr.List v → forms ≡ v.items
+    → size (form_of form) ≡ size_of_slice forms + 1
+list_size form v forms is items = ap size (list_form form v forms is items) ∙ unfold_group (forms_in forms)
+    ∙ ap (λ n. n + 1) (sym (size_of_slice_is forms))
 
-pub behind_size : (forms others : List Sexpr) → others ≡ drop 1 forms → 1 ≤ length forms → size_of_slice others ≤ size_of_slice forms
+pub behind_size : (forms others : List Sexpr) → others ≡ drop 1 forms → 1 ≤ length forms
+    → size_of_slice others ≤ size_of_slice forms
 behind_size [] others is some = absurd (omega arith)
 behind_size (form ∷ forms) others is some = omega (arith, ap size_of_slice is, unfold_more form forms)
 
-pub item_size : (forms : List Sexpr) (i : ℕ) (x : Sexpr) → i < length forms → x ≡ get_or forms i x → size (form_of x) ≤ size_of_slice forms
+pub item_size : (forms : List Sexpr) (i : ℕ) (x : Sexpr) → i < length forms → x ≡ get_or forms i x
+    → size (form_of x) ≤ size_of_slice forms
 item_size [] i x within is = absurd (omega arith)
 item_size (form ∷ forms) zero x within is = omega (arith, ap (λ f. size (form_of f)) is, unfold_more form forms)
 item_size (form ∷ forms) (suc i) x within is =

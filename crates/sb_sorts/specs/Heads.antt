@@ -1,7 +1,6 @@
--- What the parts of reading say: heads, the forms of a slice, and the first fault.
+-- Private: what the parts of reading say: heads, the forms of a slice, and the first fault.
 use Rattle.std.specs.Prelude.{◌≡◌, ℕ, Bool, true, false, ◌&&◌, nat_lt, if◌then◌else◌, List, [], ◌∷◌, map, codes, Option, Some, None, Result, Ok, Err}
-use Rattle.sb_reader.specs.declared.sexpr.Sexpr.{Sexpr}
-use Rattle.sb_reader.specs.Forms.{Form, Forms, Symbol, QuotedSymbol, Keyword, Numeral, OtherNumber, Words, Group, none, more, form_of}
+use Rattle.sb_reader.specs.Forms.{Form, Forms, Symbol, QuotedSymbol, Keyword, Numeral, OtherNumber, Words, Group, none, more}
 use Rattle.sb_sorts.specs.declared.read.ReadFault.{ReadFault}
 use Rattle.sb_sorts.specs.declared.read.ReadFault.TheVariants as fault
 use Rattle.sb_sorts.specs.declared.head.Head.{Head}
@@ -11,27 +10,23 @@ use Rattle.sb_sorts.specs.declared.head.Front.TheVariants as front
 use Rattle.sb_sorts.specs.declared.apply.Arity.{Arity}
 use Rattle.sb_sorts.specs.declared.apply.Arity.TheVariants as arity
 use Rattle.sb_sorts.specs.declared.term.Term as code
-use Rattle.sb_meaning.specs.Names.{Name, is_name, is_reserved}
-use Rattle.sb_meaning.specs.Symbols as theory
-use Rattle.sb_meaning.specs.Symbols.{symbol_named, is_left_out}
-use Rattle.sb_meaning.specs.Scopes.{Naming}
+use Rattle.sb_script.specs.Names.{Name, is_name, is_reserved}
+use Rattle.sb_meaning.specs.Sorts as theory
+use Rattle.sb_script.specs.Symbols.{symbol_named, is_left_out}
+use Rattle.sb_script.specs.Scopes.{Naming}
 use Rattle.sb_meaning.specs.Terms.{Term, text}
-use Rattle.sb_meaning.specs.Reading as meaning
-use Rattle.sb_meaning.specs.Reading.{Fault, head_constant, head_symbol, unknown_symbol, wrong_sort, wrong_count, bad_index, unsupported, bad_literal, malformed, ◌>>=◌, read_head, read_index_list, read_list_head, read_reserved, is_binding, are_bindings}
-use Rattle.sb_sorts.specs.Terms.{kind_in, symbol_in, term_in}
+use Rattle.sb_script.specs.Reading as meaning
+use Rattle.sb_script.specs.Reading.{Fault, head_constant, head_symbol, unknown_symbol, wrong_sort, wrong_count, bad_index, unsupported, bad_literal, malformed, ◌>>=◌, read_head, read_index_list, read_list_head, read_reserved, is_binding, are_bindings}
+use Rattle.sb_sorts.specs.Terms.{sort_in, symbol_in, term_in}
 use Rattle.sb_sorts.specs.Reads.{has_serials_below}
-
-abbrev pub forms_in : List Sexpr → Forms
-forms_in [] = none
-forms_in (form ∷ forms) = more (form_of form) (forms_in forms)
 
 abbrev pub head_in : Head → meaning.Head
 head_in (head.Constant serial) = head_constant serial.0 text
 head_in (head.Symbol s) = head_symbol (symbol_in s)
 
 abbrev pub arity_in : Arity → theory.Arity
-arity_in (arity.OfEach sorts) = theory.of_each (map kind_in sorts.now)
-arity_in (arity.OneOrMore sort) = theory.one_or_more (kind_in sort)
+arity_in (arity.OfEach sorts) = theory.of_each (map sort_in sorts.now)
+arity_in (arity.OneOrMore sort) = theory.one_or_more (sort_in sort)
 
 -- a constant that is the head has a serial below this
 abbrev pub head_below : ℕ → Head → Bool

@@ -2,4 +2,4 @@ pub mod Terms
 pub mod Scopes
 pub mod Reads
 pub mod Heads
-pub mod Kept
+pub mod NameTable

@@ -2,12 +2,12 @@
 use Rattle.std.specs.Prelude.{ℕ, ◌+◌, zero, suc, List, [], ◌∷◌, ◌++◌, map}
 use Rattle.sb_sorts.specs.declared.scope.Named.{Named}
 use Rattle.sb_sorts.specs.declared.scope.Named.TheVariants as code
-use Rattle.sb_meaning.specs.Names.{Name}
-use Rattle.sb_meaning.specs.Terms.{Kind, text}
-use Rattle.sb_meaning.specs.Scopes as meaning
+use Rattle.sb_script.specs.Names.{Name}
+use Rattle.sb_meaning.specs.Terms.{Sort, text}
+use Rattle.sb_script.specs.Scopes as meaning
 
 -- the names in force, in the order of declaration, and how many constants were declared so far
-pub record Kept : Type 0 where
+pub record ScopeNames : Type 0 where
   pub names : List (Name × Named)
   pub declared : ℕ
 
@@ -18,11 +18,11 @@ named_in code.Marked = meaning.a_marked_name
 abbrev pub naming_in : Name × Named → meaning.Naming
 naming_in n = (n.0, named_in n.1)
 
-abbrev pub names_in : Kept → List meaning.Naming
+abbrev pub names_in : ScopeNames → List meaning.Naming
 names_in kept = map naming_in kept.names
 
 -- the sorts of so many constants
-abbrev pub texts : ℕ → List Kind
+abbrev pub texts : ℕ → List Sort
 texts zero = []
 texts (suc n) = text ∷ texts n
 
@@ -38,8 +38,13 @@ counted from zero = []
 counted from (suc n) = from ∷ counted (from + 1) n
 
 -- the scope with one more constant, and with one more marked name
-abbrev pub with_constant : Name → Kept → Kept
-with_constant name kept = record { names = kept.names ++ (name, code.Constant (record { 0 = kept.declared })) ∷ []; declared = kept.declared + 1 }
+abbrev pub with_constant : Name → ScopeNames → ScopeNames
+with_constant name kept =
+    record {
+      names = kept.names ++ (name, code.Constant (record { 0 = kept.declared })) ∷ [];
+      declared =
+          kept.declared + 1;
+    }
 
-abbrev pub with_mark : Name → Kept → Kept
+abbrev pub with_mark : Name → ScopeNames → ScopeNames
 with_mark name kept = record kept { names = kept.names ++ (name, code.Marked) ∷ [] }

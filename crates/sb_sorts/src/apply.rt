@@ -2,9 +2,9 @@
 
 ghost use Rattle.std.specs.Prelude.{◌≡◌, true, [], ◌∷◌, length, map, IfOk, ℕ};
 ghost use Rattle.std.specs.List.{list_all};
-ghost use Rattle.sb_meaning.specs.Reading as meaning;
-ghost use Rattle.sb_meaning.specs.Symbols as theory;
-ghost use Rattle.sb_sorts.specs.Terms.{kind_in, symbol_in, term_in};
+ghost use Rattle.sb_script.specs.Reading as meaning;
+ghost use Rattle.sb_meaning.specs.Sorts as theory;
+ghost use Rattle.sb_sorts.specs.Terms.{sort_in, symbol_in, term_in};
 ghost use Rattle.sb_sorts.specs.Heads.{Gives, arity_in, head_in, head_below, terms_in, all_below};
 ghost use Rattle.sb_sorts.specs.Reads.{has_serials_below};
 
@@ -46,7 +46,7 @@ fn is_count(arity: Arity, count: usize) -> bool
 }
 
 fn is_of_sort(term: &Term, sort: Sort) -> bool
-    ensures { result ≡ meaning.is_kind (kind_in sort) (meaning.kind_of (term_in term.now)) }
+    ensures { result ≡ theory.is_same_sort (sort_in sort) (theory.sort_of (term_in term.now)) }
 {
     term.sort() == sort
 }
@@ -54,7 +54,7 @@ fn is_of_sort(term: &Term, sort: Sort) -> bool
 /// Whether the terms have these sorts, as many as there are terms.
 fn have_sorts(sorts: &[Sort], terms: &[Term]) -> bool
     requires { length sorts.now ≡ length terms.now }
-    ensures { result ≡ meaning.have_kinds (map kind_in sorts.now) (terms_in terms.now) }
+    ensures { result ≡ theory.have_sorts (map sort_in sorts.now) (terms_in terms.now) }
 {
     sorts
         .iter()
@@ -64,7 +64,7 @@ fn have_sorts(sorts: &[Sort], terms: &[Term]) -> bool
 
 /// Whether each of the terms has this sort.
 fn all_have_sort(sort: Sort, terms: &[Term]) -> bool
-    ensures { result ≡ list_all (λ t. meaning.is_kind (kind_in sort) (meaning.kind_of t)) (terms_in terms.now) }
+    ensures { result ≡ list_all (λ t. theory.is_same_sort (sort_in sort) (theory.sort_of t)) (terms_in terms.now) }
 {
     terms.iter().all(|term| is_of_sort(term, sort))
 }
@@ -114,8 +114,10 @@ fn made(symbol: Symbol, arity: Arity, terms: Vec<Term>) -> Term
 
 /// A symbol with arguments. The number is judged before the sorts.
 fn symbol_applied(symbol: Symbol, terms: Vec<Term>) -> Result<Term, ReadFault>
-    ensures reads { Gives term_in (meaning.applied_to (meaning.head_symbol (symbol_in symbol)) (terms_in terms.items)) result }
-    ensures declared { IfOk result (λ term. (n : ℕ) → all_below n terms.items ≡ true → has_serials_below n (term_in term) ≡ true) }
+    ensures reads { Gives term_in (meaning.applied_to (meaning.head_symbol (symbol_in symbol)) (terms_in terms.items))
+        result }
+    ensures declared { IfOk result (λ term. (n : ℕ) → all_below n terms.items ≡ true
+        → has_serials_below n (term_in term) ≡ true) }
 {
     let arity = arity_of(symbol);
     if !is_count(arity, terms.len()) {
@@ -130,7 +132,8 @@ fn symbol_applied(symbol: Symbol, terms: Vec<Term>) -> Result<Term, ReadFault>
 /// A head with its arguments.
 pub(crate) fn applied_to(head: Head, terms: Vec<Term>) -> Result<Term, ReadFault>
     ensures reads { Gives term_in (meaning.applied_to (head_in head) (terms_in terms.items)) result }
-    ensures declared { IfOk result (λ term. (n : ℕ) → head_below n head ≡ true → all_below n terms.items ≡ true → has_serials_below n (term_in term) ≡ true) }
+    ensures declared { IfOk result (λ term. (n : ℕ) → head_below n head ≡ true → all_below n terms.items ≡ true
+        → has_serials_below n (term_in term) ≡ true) }
 {
     match head {
         Head::Constant(serial) if terms.is_empty() => Ok(Term::Constant(serial)),

@@ -1,11 +1,11 @@
 //! The heads of terms: names, names with indices, and what a list begins with.
 
 ghost use Rattle.std.specs.Prelude.{◌≡◌, ℕ, true, Result, Err, IfOk, option_map};
-ghost use Rattle.sb_reader.specs.Forms.{form_of};
-ghost use Rattle.sb_meaning.specs.Reading as meaning;
-ghost use Rattle.sb_meaning.specs.Reading.{Fault};
+ghost use Rattle.sb_reader.specs.Forms.{form_of, forms_in};
+ghost use Rattle.sb_script.specs.Reading as meaning;
+ghost use Rattle.sb_script.specs.Reading.{Fault};
 ghost use Rattle.sb_sorts.specs.Scopes.{names_in};
-ghost use Rattle.sb_sorts.specs.Heads.{forms_in, head_in, head_below, beginning_in, beginning_below, beginning_of, some_beginning, symbol_beginning, with_arguments, undeclared_head, name_of, has_bindings, Beginning, Faults, Gives};
+ghost use Rattle.sb_sorts.specs.Heads.{head_in, head_below, beginning_in, beginning_below, beginning_of, some_beginning, symbol_beginning, with_arguments, undeclared_head, name_of, has_bindings, Beginning, Faults, Gives};
 
 use crate::names::{begins_term, is_left_out, is_reserved, symbol_named};
 use crate::read::ReadFault;
@@ -164,8 +164,10 @@ fn read_reserved(name: &[u8], arguments: &[Sexpr]) -> ReadFault
 
 /// The head, behind which its arguments follow.
 fn takes_arguments(head: Result<Head, ReadFault>) -> Result<Front, ReadFault>
-    ensures reads { (reading : Result meaning.Head Fault) → Gives head_in reading head → Gives beginning_in (with_arguments reading) result }
-    ensures declared { (n : ℕ) → IfOk head (λ h. head_below n h ≡ true) → IfOk result (λ front. beginning_below n front ≡ true) }
+    ensures reads { (reading : Result meaning.Head Fault) → Gives head_in reading head
+        → Gives beginning_in (with_arguments reading) result }
+    ensures declared { (n : ℕ) → IfOk head (λ h. head_below n h ≡ true)
+        → IfOk result (λ front. beginning_below n front ≡ true) }
 {
     Ok(Front::Takes(head?))
 }
@@ -196,7 +198,8 @@ fn read_some_front(
     first: &Sexpr,
     others: &[Sexpr],
 ) -> Result<Front, ReadFault>
-    ensures reads { Gives beginning_in (some_beginning (names_in scope.now) (form_of first.now) (forms_in others.now)) result }
+    ensures reads { Gives beginning_in (some_beginning (names_in scope.now) (form_of first.now) (forms_in others.now))
+        result }
     ensures declared { IfOk result (λ front. beginning_below scope.now.declared front ≡ true) }
 {
     match first {
@@ -214,7 +217,8 @@ pub(crate) fn read_front(
     first: &Sexpr,
     others: &[Sexpr],
 ) -> Result<Front, ReadFault>
-    ensures reads { Gives beginning_in (beginning_of (names_in scope.now) (form_of first.now) (forms_in others.now)) result }
+    ensures reads { Gives beginning_in (beginning_of (names_in scope.now) (form_of first.now) (forms_in others.now))
+        result }
     ensures declared { IfOk result (λ front. beginning_below scope.now.declared front ≡ true) }
 {
     if others.is_empty() {

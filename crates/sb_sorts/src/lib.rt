@@ -13,8 +13,6 @@ mod read;
 mod scope;
 mod sort;
 mod term;
-#[cfg(test)]
-mod tests;
 mod text;
 
 pub use names::{begins_term, is_reserved, is_theory_name, sort_named};

@@ -2,9 +2,9 @@
 
 ghost use Rattle.std.specs.Prelude.{◌≡◌, option_map};
 ghost use Rattle.std.specs.List.{list_any};
-ghost use Rattle.sb_meaning.specs.Names as meaning;
-ghost use Rattle.sb_meaning.specs.Symbols as theory;
-ghost use Rattle.sb_sorts.specs.Terms.{symbol_in, kind_in};
+ghost use Rattle.sb_script.specs.Names as meaning;
+ghost use Rattle.sb_script.specs.Symbols as theory;
+ghost use Rattle.sb_sorts.specs.Terms.{symbol_in, sort_in};
 
 use crate::sort::{Sort, Symbol};
 
@@ -168,7 +168,7 @@ pub fn is_theory_name(name: &[u8]) -> bool
 
 /// The sort of this name, where constants may have it. Takes no memory.
 pub fn sort_named(name: &[u8]) -> Option<Sort>
-    ensures { option_map kind_in result ≡ theory.sort_named name.now }
+    ensures { option_map sort_in result ≡ theory.sort_named name.now }
 {
     if name == b"String".as_slice() {
         Some(Sort::String)

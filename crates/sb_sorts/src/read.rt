@@ -1,13 +1,13 @@
 //! The reading of terms.
 
 ghost use Rattle.std.specs.Prelude.{◌≡◌, true, IfOk};
-ghost use Rattle.sb_reader.specs.Forms.{form_of, Symbol};
-ghost use Rattle.sb_meaning.specs.Reading.{read};
-ghost use Rattle.sb_meaning.specs.Reading as meaning;
-ghost use Rattle.sb_sorts.specs.Heads.{forms_in, terms_in, all_below, Gives};
+ghost use Rattle.sb_reader.specs.Forms.{form_of, Symbol, forms_in};
+ghost use Rattle.sb_script.specs.Reading.{read};
+ghost use Rattle.sb_script.specs.Reading as meaning;
+ghost use Rattle.sb_sorts.specs.Heads.{terms_in, all_below, Gives};
 ghost use Rattle.sb_sorts.specs.Scopes.{names_in};
 ghost use Rattle.sb_sorts.specs.Terms.{term_in};
-ghost use Rattle.sb_sorts.specs.Reads.{Reads, has_serials_below};
+ghost use Rattle.sb_sorts.specs.Reads.{ReadsAs, has_serials_below};
 
 use crate::apply::applied_to;
 use crate::head::{Front, read_front, read_head};
@@ -69,7 +69,7 @@ impl From<AllocFailed<Term>> for ReadFault {
 /// The term of a form, or the first fault in reading order. Linear in the form, but for the look-ups of names.
 #[cycle(read)]
 pub fn read_term(alloc: Global, scope: &Scope, form: &Sexpr) -> Result<Term, ReadFault>
-    ensures reads { Reads (read (names_in scope.now) (form_of form.now)) result }
+    ensures reads { ReadsAs (read (names_in scope.now) (form_of form.now)) result }
     ensures declared { IfOk result (λ term. has_serials_below scope.now.declared (term_in term) ≡ true) }
 {
     match form {
@@ -103,7 +103,8 @@ fn read_list(alloc: Global, scope: &Scope, forms: &[Sexpr]) -> Result<Term, Read
 /// The terms of forms, from left to right.
 #[cycle(read)]
 fn read_all(alloc: Global, scope: &Scope, forms: &[Sexpr]) -> Result<Vec<Term>, ReadFault>
-    ensures reads { Gives (λ terms. terms_in terms.items) (meaning.read_all (names_in scope.now) (forms_in forms.now)) result }
+    ensures reads { Gives (λ terms. terms_in terms.items) (meaning.read_all (names_in scope.now) (forms_in forms.now))
+        result }
     ensures declared { IfOk result (λ terms. all_below scope.now.declared terms.items ≡ true) }
 {
     let mut terms = Vec::new(alloc);

@@ -1,11 +1,11 @@
 //! Scopes.
 
 ghost use Rattle.std.specs.Prelude.{◌≡◌, [], ◌∷◌, ◌++◌, None, Some, length, map, option_map, true, false, slice_get, IfOk, OnOk, OnErr, IfErr, IfSome};
-ghost use Rattle.sb_meaning.specs.Scopes as meaning;
-ghost use Rattle.sb_meaning.specs.Symbols.{is_taken};
+ghost use Rattle.sb_script.specs.Scopes as meaning;
+ghost use Rattle.sb_script.specs.Symbols.{is_taken};
 ghost use Rattle.sb_sorts.specs.declared.scope.DeclareError.TheVariants.{AlreadyDeclared, NoMemory};
 ghost use Rattle.sb_sorts.specs.Scopes.{named_in, names_in, serials_in, counted, with_constant, with_mark};
-ghost use Rattle.sb_sorts.specs.Kept.{kept_in, namings_in, named_below};
+ghost use Rattle.sb_sorts.specs.NameTable.{kept_in, namings_in, named_below};
 
 use crate::names::is_theory_name;
 use crate::term::Serial;
@@ -34,9 +34,9 @@ pub struct Scope {
 
 impl Model for Scope {
     ghost use Rattle.std.specs.Prelude.{◌≡◌, map};
-    ghost use Rattle.sb_sorts.specs.Scopes.{Kept, serials_in, counted};
+    ghost use Rattle.sb_sorts.specs.Scopes.{ScopeNames, serials_in, counted};
 
-    ghost Value = { Kept };
+    ghost Value = { ScopeNames };
 
     ghost view = { λ s. record { names = map (λ e. (e.0.items, e.1)) s.names.entries; declared = s.declared } };
 
@@ -96,7 +96,8 @@ impl Scope {
     /// Declares a constant of sort String, with the next serial. `AlreadyDeclared` exactly where the name is live,
     /// marked or of the theories. By hash, and keeps a copy of the name.
     pub fn declare(&mut self, name: &[u8]) -> Result<(), DeclareError>
-        ensures ok { OnOk result ((self.new ≡ with_constant name.now self.old) × (is_taken (names_in self.old) name.now ≡ false)) }
+        ensures ok { OnOk result ((self.new ≡ with_constant name.now self.old)
+            × (is_taken (names_in self.old) name.now ≡ false)) }
         ensures err { OnErr result (self.new ≡ self.old) }
         ensures taken { IfErr result (λ e. e ≡ AlreadyDeclared → is_taken (names_in self.old) name.now ≡ true) }
     {
@@ -111,7 +112,8 @@ impl Scope {
     /// Marks a name whose declaration is left out. `AlreadyDeclared` exactly where it is live, marked or of the
     /// theories. By hash, and keeps a copy of the name.
     pub fn mark(&mut self, name: &[u8]) -> Result<(), DeclareError>
-        ensures ok { OnOk result ((self.new ≡ with_mark name.now self.old) × (is_taken (names_in self.old) name.now ≡ false)) }
+        ensures ok { OnOk result ((self.new ≡ with_mark name.now self.old)
+            × (is_taken (names_in self.old) name.now ≡ false)) }
         ensures err { OnErr result (self.new ≡ self.old) }
         ensures taken { IfErr result (λ e. e ≡ AlreadyDeclared → is_taken (names_in self.old) name.now ≡ true) }
     {

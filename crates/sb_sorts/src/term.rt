@@ -1,8 +1,8 @@
 //! Terms.
 
 ghost use Rattle.std.specs.Prelude.{◌≡◌};
-ghost use Rattle.sb_meaning.specs.Reading.{kind_of};
-ghost use Rattle.sb_sorts.specs.Terms.{kind_in, term_in};
+ghost use Rattle.sb_meaning.specs.Sorts.{sort_of};
+ghost use Rattle.sb_sorts.specs.Terms.{sort_in, term_in};
 
 use crate::sort::{Sort, Symbol};
 use sb_word::Word;
@@ -25,7 +25,7 @@ pub enum Term {
 impl Term {
     /// The sort of the term. Takes no memory.
     pub fn sort(&self) -> Sort
-        ensures { kind_in result ≡ kind_of (term_in self.now) }
+        ensures { sort_in result ≡ sort_of (term_in self.now) }
     {
         match self {
             Term::Constant(_) | Term::Word(_) => Sort::String,

@@ -7,8 +7,8 @@ use Rattle.sb_word.specs.Literals.{literal_text}
 use Rattle.sb_meaning.specs.Terms.{text}
 use Rattle.sb_meaning.specs.Values.{Text, value_in}
 use Rattle.sb_meaning.specs.Printed.{printed}
-use Rattle.sb_meaning.specs.Replies.{spaced}
-use Rattle.sb_stack.specs.Kept.{values_from}
+use Rattle.sb_script.specs.Replies.{spaced}
+use Rattle.sb_stack.specs.Stacked.{values_from}
 use Rattle.sb_stack.specs.Values.{gap_at}
 
 here : (k i : ℕ) → i ≡ 0 → (k == k + i) ≡ true
@@ -23,12 +23,16 @@ further k i = omega arith
 -- the value of a constant is the word at its serial
 value_at : (ws : List (List ℕ)) (k i : ℕ) → value_in (values_from k ws) (k + i) text ≡ Text (slice_index_or ws i [])
 value_at [] k i = refl
-value_at (w ∷ ws) k zero = ap (λ (b : Bool). if b then Text w else value_in (values_from (k + 1) ws) (k + 0) text) (here k 0 refl)
+value_at (w ∷ ws) k zero =
+    ap (λ (b : Bool). if b then Text w else value_in (values_from (k + 1) ws) (k + 0) text) (here k 0 refl)
 value_at (w ∷ ws) k (suc i) =
-    ap (λ (b : Bool). if b then Text w else value_in (values_from (k + 1) ws) (k + suc i) text) (behind k i) ∙ ap (λ n. value_in (values_from (k + 1) ws) n text) (further k i) ∙ value_at ws (k + 1) i
+    ap (λ (b : Bool). if b then Text w else value_in (values_from (k + 1) ws) (k + suc i) text) (behind k i)
+    ∙ ap (λ n. value_in (values_from (k + 1) ws) n text) (further k i) ∙ value_at ws (k + 1) i
 
-pub printed_at : (ws : List (List ℕ)) (i : ℕ) → printed (value_in (values_from 0 ws) i text) ≡ 34 ∷ (literal_text (slice_index_or ws i []) ++ 34 ∷ [])
-printed_at ws i = ap (λ n. printed (value_in (values_from 0 ws) n text)) (sym (zero-add i)) ∙ ap printed (value_at ws 0 i)
+pub printed_at : (ws : List (List ℕ)) (i : ℕ)
+    → printed (value_in (values_from 0 ws) i text) ≡ 34 ∷ (literal_text (slice_index_or ws i []) ++ 34 ∷ [])
+printed_at ws i = ap (λ n. printed (value_in (values_from 0 ws) n text)) (sym (zero-add i))
+    ∙ ap printed (value_at ws 0 i)
 
 no_gap : (ts : List (List ℕ)) (s u : List ℕ) → gap_at (length (s ∷ ts)) ++ u ≡ 32 ∷ u
 no_gap ts s u = ap (λ (b : Bool). (if b then [] else 32 ∷ []) ++ u) (eqb-suc-zero (length ts))
@@ -37,20 +41,27 @@ pub spaced_next : (ts : List (List ℕ)) (u : List ℕ) → spaced (ts ++ u ∷ 
 spaced_next [] u = refl
 spaced_next (t ∷ []) u = ap (λ rest. t ++ rest) (sym (no_gap [] t u))
 spaced_next (t ∷ s ∷ ts) u =
-    let rest : spaced (s ∷ (ts ++ u ∷ [])) ≡ spaced (s ∷ ts) ++ 32 ∷ u = spaced_next (s ∷ ts) u ∙ ap (λ r. spaced (s ∷ ts) ++ r) (no_gap ts s u) in
-    ap (λ r. t ++ (32 ∷ r)) rest ∙ sym (append_assoc t (32 ∷ spaced (s ∷ ts)) (32 ∷ u)) ∙ ap (λ r. spaced (t ∷ s ∷ ts) ++ r) (sym (no_gap (s ∷ ts) t u))
+    let rest : spaced (s ∷ (ts ++ u ∷ [])) ≡ spaced (s ∷ ts) ++ 32 ∷ u =
+    spaced_next (s ∷ ts) u ∙ ap (λ r. spaced (s ∷ ts) ++ r) (no_gap ts s u) in
+    ap (λ r. t ++ (32 ∷ r)) rest ∙ sym (append_assoc t (32 ∷ spaced (s ∷ ts)) (32 ∷ u))
+    ∙ ap (λ r. spaced (t ∷ s ∷ ts) ++ r) (sym (no_gap (s ∷ ts) t u))
 
 -- one more text of a list
-pub line_step : {A B : Type 0} (g : B → List ℕ) (f : A → B) (xs : List A) (i : ℕ) (d : A) (old gap new : List ℕ) → i < length xs → old ≡ 40 ∷ spaced (map g (map f (take i xs))) → gap ≡ old ++ gap_at i → new ≡ gap ++ g (f (get_or xs i d)) → new ≡ 40 ∷ spaced (map g (map f (take (i + 1) xs)))
+pub line_step : {A B : Type 0} (g : B → List ℕ) (f : A → B) (xs : List A) (i : ℕ) (d : A) (old gap new : List ℕ)
+    → i < length xs → old ≡ 40 ∷ spaced (map g (map f (take i xs))) → gap ≡ old ++ gap_at i
+    → new ≡ gap ++ g (f (get_or xs i d)) → new ≡ 40 ∷ spaced (map g (map f (take (i + 1) xs)))
 line_step {A} {B} g f xs i d old gap new within before between done =
     let x : A = get_or xs i d in
     let front : List A = take i xs in
     let ts : List (List ℕ) = map g (map f front) in
     let u : List ℕ = g (f x) in
     let count : length ts ≡ i = length-map (map f front) g ∙ length-map front f ∙ length-take-le i xs (omega arith) in
-    let texts : map g (map f (take (i + 1) xs)) ≡ ts ++ u ∷ [] = ap (λ ys. map g (map f ys)) (take_more xs i d within) ∙ ap (map g) (map-append f front (x ∷ [])) ∙ map-append g (map f front) (f x ∷ []) in
+    let texts : map g (map f (take (i + 1) xs)) ≡ ts ++ u ∷ [] = ap (λ ys. map g (map f ys)) (take_more xs i d within)
+    ∙ ap (map g) (map-append f front (x ∷ [])) ∙ map-append g (map f front) (f x ∷ []) in
     done ∙ ap (λ r. r ++ u) (between ∙ ap (λ r. r ++ gap_at i) before) ∙ append_assoc (40 ∷ spaced ts) (gap_at i) u
-    ∙ ap (λ n. 40 ∷ (spaced ts ++ (gap_at n ++ u))) (sym count) ∙ ap (λ r. 40 ∷ r) (sym (spaced_next ts u)) ∙ ap (λ r. 40 ∷ spaced r) (sym texts)
+    ∙ ap (λ n. 40 ∷ (spaced ts ++ (gap_at n ++ u))) (sym count) ∙ ap (λ r. 40 ∷ r) (sym (spaced_next ts u))
+    ∙ ap (λ r. 40 ∷ spaced r) (sym texts)
 
 pub in_quotes : (a b c d w : List ℕ) → b ≡ a ++ 34 ∷ [] → c ≡ b ++ w → d ≡ c ++ 34 ∷ [] → d ≡ a ++ (34 ∷ (w ++ 34 ∷ []))
-in_quotes a b c d w first second third = third ∙ ap (λ r. r ++ 34 ∷ []) (second ∙ ap (λ r. r ++ w) first) ∙ simp append_assoc
+in_quotes a b c d w first second third = third ∙ ap (λ r. r ++ 34 ∷ []) (second ∙ ap (λ r. r ++ w) first)
+    ∙ simp append_assoc

@@ -1,23 +1,18 @@
--- The commands of the code, and the forms of a slice, as the definitions have them.
-use Rattle.std.specs.Prelude.{Bool, false, List, [], ◌∷◌, map}
+-- Private: the commands of the code, and the forms of a slice, as the definitions have them.
+use Rattle.std.specs.Prelude.{Bool, false, List, map}
 use Rattle.std.specs.List.{list_all}
 use Rattle.sb_reader.specs.declared.sexpr.Sexpr.{Sexpr}
-use Rattle.sb_reader.specs.Forms.{Form, Forms, Group, none, more, form_of}
+use Rattle.sb_reader.specs.Forms.{Form, Group, form_of}
 use Rattle.sb_stack.specs.declared.command.Command.{Command}
 use Rattle.sb_stack.specs.declared.command.Command.TheVariants as code
-use Rattle.sb_meaning.specs.Commands as meaning
+use Rattle.sb_script.specs.Commands as meaning
 
 abbrev pub forms_in : List Sexpr → List Form
 forms_in forms = map form_of forms
 
--- the forms as a list of a script
-abbrev pub group_in : List Sexpr → Forms
-group_in [] = none
-group_in (form ∷ forms) = more (form_of form) (group_in forms)
-
 -- a list of sorts
 abbrev pub is_sort_list : Form → Bool
-is_sort_list (Group sorts) = list_all meaning.is_sort (meaning.list_of sorts)
+is_sort_list (Group sorts) = list_all meaning.is_sort_form (meaning.list_of sorts)
 is_sort_list _ = false
 
 -- a list of parameters

@@ -1,5 +1,5 @@
 pub mod Commands
-pub mod Kept
+pub mod Stacked
 pub mod Steps
 pub mod Taking
 pub mod Values

@@ -5,13 +5,13 @@ use Rattle.sb_reader.specs.declared.feed.Next.TheVariants as next
 use Rattle.sb_reader.specs.declared.feed.Refusal.TheVariants.{BareToken}
 use Rattle.sb_reader.specs.Forms.{form_of}
 use Rattle.sb_reader.specs.Entries as entries
-use Rattle.sb_meaning.specs.State.{State}
-use Rattle.sb_meaning.specs.Replies as meaning
+use Rattle.sb_script.specs.State.{State}
+use Rattle.sb_script.specs.Replies as meaning
 use Rattle.sb_stack.specs.declared.stack.Step.{Step}
 use Rattle.sb_stack.specs.declared.stack.Step.TheVariants as code
 use Rattle.sb_stack.specs.declared.verdict.Verdict.{Verdict}
 use Rattle.sb_stack.specs.declared.verdict.Verdict.TheVariants as verdict
-use Rattle.sb_stack.specs.Kept.{values_from}
+use Rattle.sb_stack.specs.Stacked.{values_from}
 
 -- what comes next is an entry
 abbrev pub IsEntry : Next → Type 0

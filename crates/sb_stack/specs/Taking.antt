@@ -1,12 +1,13 @@
--- What the parts of taking a command do: for private contracts alone.
+-- Private: what the parts of taking a command do: for private contracts alone.
 use Rattle.std.specs.Prelude.{Bool, if◌then◌else◌, List, map, codes, Some, None, Result, Ok, Err}
-use Rattle.sb_meaning.specs.Names.{Name}
+use Rattle.sb_script.specs.Names.{Name}
 use Rattle.sb_meaning.specs.Terms.{Term, boolean, text}
 use Rattle.sb_meaning.specs.Values.{Valuation}
-use Rattle.sb_meaning.specs.Symbols.{is_taken}
-use Rattle.sb_meaning.specs.Reading.{Fault, kind_of, is_kind}
-use Rattle.sb_meaning.specs.State.{State, asserted, names_of, declared, with_assertion}
-use Rattle.sb_meaning.specs.Replies.{Step, answers, fails, succeeds, is_unsupported, already_declared, refused_term, line, list_text, value_text, Item, some_malformed, first_unknown, unknown, all_constants, values_of}
+use Rattle.sb_script.specs.Symbols.{is_taken}
+use Rattle.sb_script.specs.Reading.{Fault}
+use Rattle.sb_meaning.specs.Sorts.{sort_of, is_same_sort}
+use Rattle.sb_script.specs.State.{State, asserted, names_of, declared, with_assertion}
+use Rattle.sb_script.specs.Replies.{Step, answers, fails, succeeds, is_unsupported, already_declared, refused_term, line, list_text, value_text, Item, some_malformed, first_unknown, unknown, all_constants, values_of}
 
 abbrev pub with_print_success : State → Bool → State
 with_print_success s b = record s { options = record s.options { print_success = b } }
@@ -16,17 +17,21 @@ with_produce_models s b = record s { options = record s.options { produce_models
 
 -- a constant of sort String is declared
 abbrev pub declares : Name → State → Step
-declares name s = if is_taken (names_of s) name then fails (already_declared name) s else succeeds (declared name text s)
+declares name s = if is_taken (names_of s) name then fails (already_declared name) s
+    else succeeds (declared name text s)
 
 -- what a form that was read is answered, where it is asserted
 abbrev pub asserts : Result Term Fault → State → Step
 asserts reading s = elim reading [
-  | Ok term ↦ if is_kind boolean (kind_of term) then succeeds (with_assertion (asserted term) s) else fails (codes "wrong sort") s
+  | Ok term ↦ if is_same_sort boolean (sort_of term) then succeeds (with_assertion (asserted term) s)
+      else fails (codes "wrong sort") s
   | Err fault ↦ refused_term fault s
 ]
 
 abbrev pub answers_values : Valuation → List Item → State → Step
-answers_values v items s = elim (all_constants items) [ Some cs ↦ answers (line (list_text (map (value_text v) cs))) s | None ↦ is_unsupported s ]
+answers_values v items s =
+    elim (all_constants items)
+    [ Some cs ↦ answers (line (list_text (map (value_text v) cs))) s | None ↦ is_unsupported s ]
 
 -- what is answered to a question for values, by what is asked for
 abbrev pub asks : List Item → State → Step

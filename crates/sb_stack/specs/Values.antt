@@ -1,19 +1,19 @@
--- Constants and items of the code, as the definitions have them.
+-- Private: constants and items of the code, as the definitions have them.
 use Rattle.std.specs.Prelude.{ℕ, ◌==◌, if◌then◌else◌, List, [], ◌∷◌}
-use Rattle.sb_meaning.specs.Names.{Name}
-use Rattle.sb_meaning.specs.Terms.{Kind, text}
-use Rattle.sb_meaning.specs.Scopes as scopes
-use Rattle.sb_meaning.specs.State.{State, start}
-use Rattle.sb_meaning.specs.Replies as meaning
+use Rattle.sb_script.specs.Names.{Name}
+use Rattle.sb_meaning.specs.Terms.{Sort, text}
+use Rattle.sb_script.specs.Scopes as scopes
+use Rattle.sb_script.specs.State.{State, start}
+use Rattle.sb_script.specs.Replies as meaning
 use Rattle.sb_stack.specs.declared.value.Constant.{Constant}
 use Rattle.sb_stack.specs.declared.value.Item.{Item}
 use Rattle.sb_stack.specs.declared.value.Item.TheVariants as code
 
 abbrev pub constant_in : Constant → scopes.Constant
-constant_in c = record { name = c.name.now; serial = c.serial.0; kind = text }
+constant_in c = record { name = c.name.now; serial = c.serial.0; sort = text }
 
 -- a constant that is asked for
-abbrev pub asked_in : Constant → Name × (ℕ × Kind)
+abbrev pub asked_in : Constant → Name × (ℕ × Sort)
 asked_in c = (c.name.now, (c.serial.0, text))
 
 abbrev pub item_in : Item → meaning.Item

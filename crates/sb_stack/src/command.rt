@@ -2,9 +2,9 @@
 
 ghost use Rattle.std.specs.Prelude.{◌≡◌, [], ◌∷◌, option_map, option_copied};
 ghost use Rattle.std.specs.List.{list_all};
-ghost use Rattle.sb_reader.specs.Forms.{Form, Group, form_of};
-ghost use Rattle.sb_meaning.specs.Commands as meaning;
-ghost use Rattle.sb_stack.specs.Commands.{command_in, forms_in, group_in, is_sort_list, is_parameter_list};
+ghost use Rattle.sb_reader.specs.Forms.{Form, Group, form_of, forms_in as group_in};
+ghost use Rattle.sb_script.specs.Commands as meaning;
+ghost use Rattle.sb_stack.specs.Commands.{command_in, forms_in, is_sort_list, is_parameter_list};
 
 use sb_reader::Sexpr;
 use sb_sorts::is_reserved;
@@ -104,7 +104,7 @@ fn declarable(form: &Sexpr) -> Option<&[u8]>
 
 /// A sort by its shape: a symbol, or a list that begins with one.
 fn is_sort(form: &Sexpr) -> bool
-    ensures { result ≡ meaning.is_sort (form_of form.now) }
+    ensures { result ≡ meaning.is_sort_form (form_of form.now) }
 {
     match form {
         Sexpr::Symbol(_) | Sexpr::QuotedSymbol(_) => true,
@@ -115,7 +115,7 @@ fn is_sort(form: &Sexpr) -> bool
 
 /// Whether the first form is a symbol.
 fn begins_with_symbol(forms: &[Sexpr]) -> bool
-    ensures { result ≡ meaning.is_sort (Group (group_in forms.now)) }
+    ensures { result ≡ meaning.is_sort_form (Group (group_in forms.now)) }
 {
     matches!(forms, [Sexpr::Symbol(_) | Sexpr::QuotedSymbol(_), ..])
 }
@@ -147,7 +147,7 @@ fn is_item(form: &Sexpr) -> bool
 }
 
 fn are_sorts(forms: &[Sexpr]) -> bool
-    ensures { result ≡ list_all meaning.is_sort (forms_in forms.now) }
+    ensures { result ≡ list_all meaning.is_sort_form (forms_in forms.now) }
 {
     forms.iter().all(|form| is_sort(form))
 }
@@ -233,7 +233,9 @@ fn definition_shape(arguments: &[Sexpr]) -> Option<Command<'_>>
 
 /// A definition by its name, parameters and sort, whatever its body.
 fn definition_of<'a>(name: &'a Sexpr, parameters: &Sexpr, sort: &Sexpr) -> Option<Command<'a>>
-    ensures { (body : Form) → option_map command_in result ≡ meaning.definition_shape (form_of name.now ∷ form_of parameters.now ∷ form_of sort.now ∷ body ∷ []) }
+    ensures { (body : Form)
+        → option_map command_in result
+        ≡ meaning.definition_shape (form_of name.now ∷ form_of parameters.now ∷ form_of sort.now ∷ body ∷ []) }
 {
     if !is_parameter_list(parameters) || !is_sort(sort) {
         return None;

@@ -11,8 +11,6 @@ mod name;
 mod option;
 mod reply;
 mod stack;
-#[cfg(test)]
-mod tests;
 mod value;
 mod verdict;
 

@@ -3,7 +3,7 @@
 ghost use Rattle.std.specs.Prelude.{◌≡◌, ◌==◌, ◌&&◌, ◌++◌, not, OnOk};
 ghost use Rattle.std.specs.List.{list_any, flat_map};
 ghost use Rattle.sb_reader.specs.Tokens as token;
-ghost use Rattle.sb_meaning.specs.Names as meaning;
+ghost use Rattle.sb_script.specs.Names as meaning;
 
 use sb_sorts::is_reserved;
 use std::alloc::AllocError;

@@ -1,8 +1,8 @@
 //! The lines that answer a command (SMT-LIB 2.6, section 4.2), each with its line feed.
 
 ghost use Rattle.std.specs.Prelude.{◌≡◌, ◌++◌, [], codes, if◌then◌else◌, IfOk};
-ghost use Rattle.sb_meaning.specs.Names.{name_in_text};
-ghost use Rattle.sb_meaning.specs.Replies as meaning;
+ghost use Rattle.sb_script.specs.Names.{name_in_text};
+ghost use Rattle.sb_script.specs.Replies as meaning;
 
 use crate::name::push_name_in_text;
 use sb_reader::Refusal;

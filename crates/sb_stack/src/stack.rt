@@ -3,17 +3,17 @@
 ghost use Rattle.std.specs.Prelude.{◌≡◌, ◌++◌, ℕ, List, [], true, map, length, Result, IfOk, OnErr, MatchResult};
 ghost use Rattle.sb_reader.specs.Entries as entries;
 ghost use Rattle.sb_reader.specs.Forms.{form_of};
-ghost use Rattle.sb_meaning.specs.Names.{name_in_text};
+ghost use Rattle.sb_script.specs.Names.{name_in_text};
 ghost use Rattle.sb_meaning.specs.Terms as terms;
 ghost use Rattle.sb_meaning.specs.Values.{Valuation};
-ghost use Rattle.sb_meaning.specs.Reading.{Fault, unsupported};
-ghost use Rattle.sb_meaning.specs.State.{State, start, live, constants_of, fits};
-ghost use Rattle.sb_meaning.specs.Replies as meaning;
-ghost use Rattle.sb_meaning.specs.Replies.{step_of, verdict_text, settled};
+ghost use Rattle.sb_script.specs.Reading.{Fault, unsupported};
+ghost use Rattle.sb_script.specs.State.{State, start, live, constants_of, fits};
+ghost use Rattle.sb_script.specs.Replies as meaning;
+ghost use Rattle.sb_script.specs.Replies.{step_of, verdict_text, settled};
 ghost use Rattle.sb_sorts.specs.Terms.{term_in};
-ghost use Rattle.sb_sorts.specs.Reads.{Reads, has_serials_below};
+ghost use Rattle.sb_sorts.specs.Reads.{ReadsAs, has_serials_below};
 ghost use Rattle.sb_stack.specs.Commands.{command_in, forms_in};
-ghost use Rattle.sb_stack.specs.Kept.{state_of, assertion_in, values_from, are_words, have_serials_below};
+ghost use Rattle.sb_stack.specs.Stacked.{state_of, assertion_in, values_from, are_words, have_serials_below};
 ghost use Rattle.sb_stack.specs.Steps.{verdict_in, IsStep, IsEntry, entry_of};
 ghost use Rattle.sb_stack.specs.Taking.{with_print_success, with_produce_models, declares, asserts, asks, answers_values};
 ghost use Rattle.sb_stack.specs.Values.{item_in};
@@ -76,11 +76,11 @@ pub struct Stack {
 
 impl Model for Stack {
     ghost use Rattle.std.specs.Prelude.{◌≡◌, true};
-    ghost use Rattle.sb_stack.specs.Kept.{Kept, have_serials_below};
+    ghost use Rattle.sb_stack.specs.Stacked.{Stacked, have_serials_below};
     ghost use Rattle.sb_sorts.specs.contracts.term.Term as term;
     ghost use Rattle.std.specs.Coded.{codes};
 
-    ghost Value = { Kept };
+    ghost Value = { Stacked };
 
     ghost coded = { Prim.hlevel (codes, term.the_row.coded) };
 
@@ -116,7 +116,9 @@ impl Stack {
     /// the answer.
     pub fn apply(&mut self, entry: &Next) -> Result<Step, AllocError>
         requires { IsEntry entry.now }
-        ensures ok { IfOk result (λ step. IsStep (step_of (entry_of entry.now) (state_of self.old)) step (state_of self.old) (state_of self.new)) }
+        ensures ok { IfOk result
+            (λ step. IsStep (step_of (entry_of entry.now) (state_of self.old)) step (state_of self.old)
+            (state_of self.new)) }
         ensures err { OnErr result (self.new ≡ self.old) }
     {
         match entry {
@@ -131,7 +133,9 @@ impl Stack {
 
     /// Takes the command of a form.
     fn run(&mut self, form: &Sexpr) -> Result<Step, AllocError>
-        ensures ok { IfOk result (λ step. IsStep (meaning.step_of (entries.Command (form_of form.now)) (state_of self.old)) step (state_of self.old) (state_of self.new)) }
+        ensures ok { IfOk result
+            (λ step. IsStep (meaning.step_of (entries.Command (form_of form.now)) (state_of self.old)) step
+            (state_of self.old) (state_of self.new)) }
         ensures err { OnErr result (self.new ≡ self.old) }
     {
         match command_of(form) {
@@ -141,7 +145,9 @@ impl Stack {
     }
 
     fn take(&mut self, command: Command) -> Result<Step, AllocError>
-        ensures ok { IfOk result (λ step. IsStep (meaning.step (command_in command.entry) (state_of self.old)) step (state_of self.old) (state_of self.new)) }
+        ensures ok { IfOk result
+            (λ step. IsStep (meaning.step (command_in command.entry) (state_of self.old)) step (state_of self.old)
+            (state_of self.new)) }
         ensures err { OnErr result (self.new ≡ self.old) }
     {
         match command {
@@ -159,7 +165,9 @@ impl Stack {
     }
 
     fn set_logic(&mut self, name: &[u8]) -> Result<Step, AllocError>
-        ensures ok { IfOk result (λ step. IsStep (meaning.set_logic name.now (state_of self.old)) step (state_of self.old) (state_of self.new)) }
+        ensures ok { IfOk result
+            (λ step. IsStep (meaning.set_logic name.now (state_of self.old)) step (state_of self.old)
+            (state_of self.new)) }
         ensures err { OnErr result (self.new ≡ self.old) }
     {
         if self.logic_set {
@@ -174,7 +182,9 @@ impl Stack {
     }
 
     fn set_option(&mut self, key: &[u8], value: &Sexpr) -> Result<Step, AllocError>
-        ensures ok { IfOk result (λ step. IsStep (meaning.set_option key.now (form_of value.now) (state_of self.old)) step (state_of self.old) (state_of self.new)) }
+        ensures ok { IfOk result
+            (λ step. IsStep (meaning.set_option key.now (form_of value.now) (state_of self.old)) step
+            (state_of self.old) (state_of self.new)) }
         ensures err { OnErr result (self.new ≡ self.old) }
     {
         if key == b":print-success".as_slice() {
@@ -188,7 +198,10 @@ impl Stack {
 
     /// Sets `:print-success`. The answer goes by the new value.
     fn set_print_success(&mut self, value: &Sexpr) -> Result<Step, AllocError>
-        ensures ok { IfOk result (λ step. IsStep (meaning.with_truth (form_of value.now) (with_print_success (state_of self.old)) (state_of self.old)) step (state_of self.old) (state_of self.new)) }
+        ensures ok { IfOk result
+            (λ step. IsStep
+            (meaning.with_truth (form_of value.now) (with_print_success (state_of self.old)) (state_of self.old)) step
+            (state_of self.old) (state_of self.new)) }
         ensures err { OnErr result (self.new ≡ self.old) }
     {
         let Some(printed) = truth_in(value) else {
@@ -200,7 +213,10 @@ impl Stack {
     }
 
     fn set_produce_models(&mut self, value: &Sexpr) -> Result<Step, AllocError>
-        ensures ok { IfOk result (λ step. IsStep (meaning.with_truth (form_of value.now) (with_produce_models (state_of self.old)) (state_of self.old)) step (state_of self.old) (state_of self.new)) }
+        ensures ok { IfOk result
+            (λ step. IsStep
+            (meaning.with_truth (form_of value.now) (with_produce_models (state_of self.old)) (state_of self.old)) step
+            (state_of self.old) (state_of self.new)) }
         ensures err { OnErr result (self.new ≡ self.old) }
     {
         let Some(produced) = truth_in(value) else {
@@ -212,7 +228,9 @@ impl Stack {
     }
 
     fn declare_constant(&mut self, name: &[u8], sort: &Sexpr) -> Result<Step, AllocError>
-        ensures ok { IfOk result (λ step. IsStep (meaning.declare_constant name.now (form_of sort.now) (state_of self.old)) step (state_of self.old) (state_of self.new)) }
+        ensures ok { IfOk result
+            (λ step. IsStep (meaning.declare_constant name.now (form_of sort.now) (state_of self.old)) step
+            (state_of self.old) (state_of self.new)) }
         ensures err { OnErr result (self.new ≡ self.old) }
     {
         match sort_of(sort) {
@@ -223,7 +241,8 @@ impl Stack {
 
     /// Declares a constant of sort String.
     fn declare(&mut self, name: &[u8]) -> Result<Step, AllocError>
-        ensures ok { IfOk result (λ step. IsStep (declares name.now (state_of self.old)) step (state_of self.old) (state_of self.new)) }
+        ensures ok { IfOk result
+            (λ step. IsStep (declares name.now (state_of self.old)) step (state_of self.old) (state_of self.new)) }
         ensures err { OnErr result (self.new ≡ self.old) }
     {
         let answer = success_line(self.alloc, self.print_success)?;
@@ -241,7 +260,9 @@ impl Stack {
 
     /// Marks a name whose declaration or definition is left out.
     fn declare_function(&mut self, name: &[u8]) -> Result<Step, AllocError>
-        ensures ok { IfOk result (λ step. IsStep (meaning.declare_function name.now (state_of self.old)) step (state_of self.old) (state_of self.new)) }
+        ensures ok { IfOk result
+            (λ step. IsStep (meaning.declare_function name.now (state_of self.old)) step (state_of self.old)
+            (state_of self.new)) }
         ensures err { OnErr result (self.new ≡ self.old) }
     {
         let answer = unsupported_line(self.alloc)?;
@@ -258,7 +279,9 @@ impl Stack {
     }
 
     fn assert(&mut self, form: &Sexpr) -> Result<Step, AllocError>
-        ensures ok { IfOk result (λ step. IsStep (meaning.assert (form_of form.now) (state_of self.old)) step (state_of self.old) (state_of self.new)) }
+        ensures ok { IfOk result
+            (λ step. IsStep (meaning.assert (form_of form.now) (state_of self.old)) step (state_of self.old)
+            (state_of self.new)) }
         ensures err { OnErr result (self.new ≡ self.old) }
     {
         match read_term(self.alloc, &self.scope, form) {
@@ -269,7 +292,9 @@ impl Stack {
 
     fn assert_term(&mut self, term: Term) -> Result<Step, AllocError>
         requires { has_serials_below self.old.scope.declared (term_in term) ≡ true }
-        ensures ok { IfOk result (λ step. IsStep (asserts (Ok (term_in term)) (state_of self.old)) step (state_of self.old) (state_of self.new)) }
+        ensures ok { IfOk result
+            (λ step. IsStep (asserts (Ok (term_in term)) (state_of self.old)) step (state_of self.old)
+            (state_of self.new)) }
         ensures err { OnErr result (self.new ≡ self.old) }
     {
         if term.sort() != Sort::Bool {
@@ -283,7 +308,8 @@ impl Stack {
 
     /// Answers a form that is no term. One that is left out leaves a mark.
     fn refuse_term(&mut self, fault: ReadFault) -> Result<Step, AllocError>
-        ensures ok { IfOk result (λ step. (reading : Result terms.Term Fault) → Reads reading (Err fault) → IsStep (asserts reading (state_of self.old)) step (state_of self.old) (state_of self.new)) }
+        ensures ok { IfOk result (λ step. (reading : Result terms.Term Fault) → ReadsAs reading (Err fault)
+            → IsStep (asserts reading (state_of self.old)) step (state_of self.old) (state_of self.new)) }
         ensures err { OnErr result (self.new ≡ self.old) }
     {
         match fault {
@@ -307,7 +333,9 @@ impl Stack {
 
     /// Leaves a mark in the place of an assertion.
     fn leave_mark(&mut self) -> Result<Step, AllocError>
-        ensures ok { IfOk result (λ step. IsStep (meaning.refused_term unsupported (state_of self.old)) step (state_of self.old) (state_of self.new)) }
+        ensures ok { IfOk result
+            (λ step. IsStep (meaning.refused_term unsupported (state_of self.old)) step (state_of self.old)
+            (state_of self.new)) }
         ensures err { OnErr result (self.new ≡ self.old) }
     {
         let answer = unsupported_line(self.alloc)?;
@@ -318,7 +346,10 @@ impl Stack {
 
     /// The words of the last check, or why there are none.
     fn words(&self) -> Result<&[Word], &'static [u8]>
-        ensures { MatchResult result (λ words. (answer : Valuation → meaning.Step) → meaning.with_values (state_of self.now) answer ≡ answer (values_from 0 words.now)) (λ message. (answer : Valuation → meaning.Step) → meaning.with_values (state_of self.now) answer ≡ meaning.fails message.now (state_of self.now)) }
+        ensures { MatchResult result (λ words. (answer : Valuation → meaning.Step)
+            → meaning.with_values (state_of self.now) answer ≡ answer (values_from 0 words.now))
+            (λ message. (answer : Valuation → meaning.Step)
+            → meaning.with_values (state_of self.now) answer ≡ meaning.fails message.now (state_of self.now)) }
     {
         if !self.produce_models {
             return Err(b"models not enabled");
@@ -330,7 +361,8 @@ impl Stack {
     }
 
     fn get_model(&self) -> Result<Step, AllocError>
-        ensures { IfOk result (λ step. IsStep (meaning.get_model (state_of self.now)) step (state_of self.now) (state_of self.now)) }
+        ensures { IfOk result
+            (λ step. IsStep (meaning.get_model (state_of self.now)) step (state_of self.now) (state_of self.now)) }
     {
         match self.words() {
             Ok(words) => {
@@ -342,14 +374,18 @@ impl Stack {
     }
 
     fn get_value(&self, forms: &[Sexpr]) -> Result<Step, AllocError>
-        ensures { IfOk result (λ step. IsStep (meaning.get_value (forms_in forms.now) (state_of self.now)) step (state_of self.now) (state_of self.now)) }
+        ensures { IfOk result
+            (λ step. IsStep (meaning.get_value (forms_in forms.now) (state_of self.now)) step (state_of self.now)
+            (state_of self.now)) }
     {
         let items = items(self.alloc, &self.scope, forms)?;
         self.answer_items(&items)
     }
 
     fn answer_items(&self, items: &[Item]) -> Result<Step, AllocError>
-        ensures { IfOk result (λ step. IsStep (asks (map item_in items.now) (state_of self.now)) step (state_of self.now) (state_of self.now)) }
+        ensures { IfOk result
+            (λ step. IsStep (asks (map item_in items.now) (state_of self.now)) step (state_of self.now)
+            (state_of self.now)) }
     {
         if some_malformed(items) {
             return Ok(Step::Answer(error_line(self.alloc, b"malformed command")?));
@@ -365,7 +401,9 @@ impl Stack {
 
     /// Answers a question for items that all stand for something.
     fn values_of(&self, items: &[Item]) -> Result<Step, AllocError>
-        ensures { IfOk result (λ step. IsStep (meaning.values_of (map item_in items.now) (state_of self.now)) step (state_of self.now) (state_of self.now)) }
+        ensures { IfOk result
+            (λ step. IsStep (meaning.values_of (map item_in items.now) (state_of self.now)) step (state_of self.now)
+            (state_of self.now)) }
     {
         match self.words() {
             Ok(words) => answer_values(self.alloc, words, items),
@@ -374,7 +412,9 @@ impl Stack {
     }
 
     fn exit(&self) -> Result<Step, AllocError>
-        ensures { IfOk result (λ step. IsStep (meaning.exits (meaning.success (state_of self.now))) step (state_of self.now) (state_of self.now)) }
+        ensures { IfOk result
+            (λ step. IsStep (meaning.exits (meaning.success (state_of self.now))) step (state_of self.now)
+            (state_of self.now)) }
     {
         Ok(Step::Exit(success_line(self.alloc, self.print_success)?))
     }
@@ -391,7 +431,8 @@ impl Stack {
     /// state. Takes no memory.
     pub fn declared(&self) -> usize
         ensures value { result ≡ self.now.scope.declared }
-        ensures fit { (words : List (List ℕ)) → length words ≡ result → are_words words ≡ true → fits (constants_of (state_of self.now)) (values_from 0 words) ≡ true }
+        ensures fit { (words : List (List ℕ)) → length words ≡ result → are_words words ≡ true
+            → fits (constants_of (state_of self.now)) (values_from 0 words) ≡ true }
     {
         self.scope.declared()
     }
@@ -427,7 +468,8 @@ fn leave_out(alloc: Global) -> Result<Step, AllocError>
 
 /// Answers with the values of items, where all are constants.
 fn answer_values(alloc: Global, words: &[Word], items: &[Item]) -> Result<Step, AllocError>
-    ensures { IfOk result (λ step. (s : State) → IsStep (answers_values (values_from 0 words.now) (map item_in items.now) s) step s s) }
+    ensures { IfOk result (λ step. (s : State)
+        → IsStep (answers_values (values_from 0 words.now) (map item_in items.now) s) step s s) }
 {
     match all_constants(alloc, items)? {
         Some(constants) => Ok(Step::Answer(values_line(alloc, words, &constants)?)),

@@ -6,11 +6,11 @@ ghost use Rattle.sb_word.specs.Literals.{literal_text};
 ghost use Rattle.sb_meaning.specs.Terms.{text as of_text};
 ghost use Rattle.sb_meaning.specs.Values.{value_in};
 ghost use Rattle.sb_meaning.specs.Printed.{printed};
-ghost use Rattle.sb_meaning.specs.Scopes.{constants_in};
-ghost use Rattle.sb_meaning.specs.Replies as meaning;
+ghost use Rattle.sb_script.specs.Scopes.{constants_in};
+ghost use Rattle.sb_script.specs.Replies as meaning;
 ghost use Rattle.sb_sorts.specs.Scopes.{names_in};
 ghost use Rattle.sb_stack.specs.Commands.{forms_in};
-ghost use Rattle.sb_stack.specs.Kept.{values_from};
+ghost use Rattle.sb_stack.specs.Stacked.{values_from};
 ghost use Rattle.sb_stack.specs.Values.{constant_in, asked_in, item_in, with_names, gap_at};
 
 use crate::name::push_name;
@@ -95,7 +95,9 @@ pub(crate) fn items<'a>(
     scope: &Scope,
     forms: &'a [Sexpr],
 ) -> Result<Vec<Item<'a>>, AllocError>
-    ensures { IfOk result (λ found. map item_in found.items ≡ map (meaning.item_of (with_names (names_in scope.now))) (forms_in forms.now)) }
+    ensures { IfOk result
+        (λ found. map item_in found.items
+        ≡ map (meaning.item_of (with_names (names_in scope.now))) (forms_in forms.now)) }
 {
     let mut found = Vec::new(alloc);
     for form in forms {
@@ -132,7 +134,8 @@ pub(crate) fn all_constants<'a>(
     alloc: Global,
     items: &[Item<'a>],
 ) -> Result<Option<Vec<Constant<'a>>>, AllocError>
-    ensures { IfOk result (λ found. option_map (λ cs. map asked_in cs.items) found ≡ meaning.all_constants (map item_in items.now)) }
+    ensures { IfOk result
+        (λ found. option_map (λ cs. map asked_in cs.items) found ≡ meaning.all_constants (map item_in items.now)) }
 {
     let mut found = Vec::new(alloc);
     for item in items {
@@ -175,7 +178,8 @@ fn push_value(
     words: &[Word],
     serial: Serial,
 ) -> Result<(), AllocError>
-    ensures { OnOk result (text.new.items ≡ text.old.items ++ printed (value_in (values_from 0 words.now) serial.0 of_text)) }
+    ensures { OnOk result
+        (text.new.items ≡ text.old.items ++ printed (value_in (values_from 0 words.now) serial.0 of_text)) }
 {
     text.push(b'"')?;
     push_literal_at(alloc, text, words, serial.0 as usize)?;
@@ -190,7 +194,9 @@ fn push_definition(
     words: &[Word],
     constant: &Constant,
 ) -> Result<(), AllocError>
-    ensures { OnOk result (text.new.items ≡ text.old.items ++ meaning.definition_text (values_from 0 words.now) (constant_in constant.now)) }
+    ensures { OnOk result
+        (text.new.items ≡ text.old.items
+        ++ meaning.definition_text (values_from 0 words.now) (constant_in constant.now)) }
 {
     text.extend_from_slice(b"(define-fun ")?;
     push_name(text, constant.name)?;
@@ -207,7 +213,8 @@ fn push_answer(
     words: &[Word],
     constant: &Constant,
 ) -> Result<(), AllocError>
-    ensures { OnOk result (text.new.items ≡ text.old.items ++ meaning.value_text (values_from 0 words.now) (asked_in constant.now)) }
+    ensures { OnOk result
+        (text.new.items ≡ text.old.items ++ meaning.value_text (values_from 0 words.now) (asked_in constant.now)) }
 {
     text.push(b'(')?;
     push_name(text, constant.name)?;
@@ -233,7 +240,10 @@ pub(crate) fn model_line(
     words: &[Word],
     constants: &[Constant],
 ) -> Result<Vec<u8>, AllocError>
-    ensures { IfOk result (λ text. text.items ≡ meaning.line (meaning.list_text (map (meaning.definition_text (values_from 0 words.now)) (map constant_in constants.now)))) }
+    ensures { IfOk result
+        (λ text. text.items
+        ≡ meaning.line
+        (meaning.list_text (map (meaning.definition_text (values_from 0 words.now)) (map constant_in constants.now)))) }
 {
     let mut text = Vec::from_slice(alloc, b"(")?;
     for (place, constant) in constants.iter().enumerate() {
@@ -250,7 +260,10 @@ pub(crate) fn values_line(
     words: &[Word],
     constants: &[Constant],
 ) -> Result<Vec<u8>, AllocError>
-    ensures { IfOk result (λ text. text.items ≡ meaning.line (meaning.list_text (map (meaning.value_text (values_from 0 words.now)) (map asked_in constants.now)))) }
+    ensures { IfOk result
+        (λ text. text.items
+        ≡ meaning.line
+        (meaning.list_text (map (meaning.value_text (values_from 0 words.now)) (map asked_in constants.now)))) }
 {
     let mut text = Vec::from_slice(alloc, b"(")?;
     for (place, constant) in constants.iter().enumerate() {

@@ -1,3 +1,4 @@
+pub mod CallerLemmas
 pub mod EntryLemmas
 pub mod TableLemmas
 pub mod ValueLemmas

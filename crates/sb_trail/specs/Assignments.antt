@@ -1,8 +1,8 @@
 -- Literals that are true, oldest first, with their decision levels and reasons.
 use Rattle.std.specs.Prelude.{◌≡◌, ℕ, ◌+◌, ◌≤◌, Bool, true, false, ◌==◌, nat_le, if◌then◌else◌, List, [], ◌∷◌, find, filter, map, Option, None, option_map, option_and_then, is_none}
-use Rattle.sb_word.specs.declared.clause.ClauseId.{ClauseId}
-use Rattle.sb_word.specs.declared.clause.Lit.{Lit}
-use Rattle.sb_word.specs.Clauses.{is_true_under, is_false_under}
+use Rattle.sb_lit.specs.declared.clause.ClauseId.{ClauseId}
+use Rattle.sb_lit.specs.declared.clause.Lit.{Lit}
+use Rattle.sb_lit.specs.Clauses.{is_true_under, is_false_under}
 use Rattle.sb_trail.specs.declared.assigned.Assigned.{Assigned}
 
 -- the atoms below `reserved` have a place; `literals` are true, oldest first

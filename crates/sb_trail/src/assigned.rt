@@ -1,6 +1,6 @@
 //! What stands on the trail.
 
-use sb_word::{ClauseId, Lit};
+use sb_lit::{ClauseId, Lit};
 
 /// A literal that is true on the trail.
 #[derive(Clone, Copy, Debug, PartialEq, Eq)]

@@ -7,8 +7,6 @@
 #![tactic(auto)]
 
 mod assigned;
-#[cfg(test)]
-mod tests;
 mod trail;
 
 pub use assigned::Assigned;

@@ -2,12 +2,12 @@
 
 ghost use Rattle.std.specs.Prelude.{◌≡◌, ◌+◌, ◌<◌, ◌≤◌, [], ◌∷◌, ◌++◌, length, max, Some, None, is_none, IsOk, OnOk, OnErr, MatchBool, MatchOption};
 ghost use Rattle.std.specs.Vec.{vec_capacity};
-ghost use Rattle.sb_word.specs.Clauses.{value_under};
+ghost use Rattle.sb_lit.specs.Clauses.{value_under};
 ghost use Rattle.sb_trail.specs.Assignments.{held, IsConsistent, AreDistinct, value_of, level_of, reason_of, entry_of, current_level, level_behind, up_to, IsTrail};
 ghost use Rattle.sb_trail.specs.declared.assigned.Assigned.{Assigned};
 
 use crate::assigned::Assigned;
-use sb_word::{ClauseId, Lit};
+use sb_lit::{ClauseId, Lit};
 use std::alloc::{AllocError, Global};
 use std::marker::Model;
 
@@ -30,7 +30,8 @@ impl Model for Trail {
 
     ghost view = { λ trail. record { reserved = length trail.by_atom.items; literals = trail.entries.items } };
 
-    ghost invariant = { λ trail. AreTables trail.entries.items (vec_capacity trail.entries) trail.values.items trail.by_atom.items };
+    ghost invariant = { λ trail. AreTables trail.entries.items (vec_capacity trail.entries) trail.values.items
+        trail.by_atom.items };
 }
 
 impl Trail {
@@ -65,7 +66,15 @@ impl Trail {
     pub fn assign(&mut self, literal: Lit, why: ClauseId)
         requires reserved { literal.atom < self.old.reserved }
         requires unassigned { value_of self.old.literals literal.atom ≡ None }
-        ensures { self.new ≡ record self.old { literals = self.old.literals ++ record { literal = literal; level = current_level self.old.literals; reason = Some why } ∷ [] } }
+        ensures { self.new ≡ record self.old {
+          literals =
+              self.old.literals ++ record {
+                literal = literal;
+                level = current_level self.old.literals;
+                reason =
+                    Some why;
+              } ∷ [];
+        } }
     {
         self.push(literal, Some(why));
     }
@@ -74,7 +83,15 @@ impl Trail {
     pub fn decide(&mut self, literal: Lit)
         requires reserved { literal.atom < self.old.reserved }
         requires unassigned { value_of self.old.literals literal.atom ≡ None }
-        ensures { self.new ≡ record self.old { literals = self.old.literals ++ record { literal = literal; level = current_level self.old.literals + 1; reason = None } ∷ [] } }
+        ensures { self.new ≡ record self.old {
+          literals =
+              self.old.literals ++ record {
+                literal = literal;
+                level = current_level self.old.literals + 1;
+                reason =
+                    None;
+              } ∷ [];
+        } }
     {
         self.push(literal, None);
     }
@@ -164,7 +181,16 @@ impl Trail {
     fn push(&mut self, literal: Lit, reason: Option<ClauseId>)
         requires reserved { literal.atom < self.old.reserved }
         requires unassigned { value_of self.old.literals literal.atom ≡ None }
-        ensures { self.new ≡ record self.old { literals = self.old.literals ++ record { literal = literal; level = level_behind (current_level self.old.literals) reason; reason = reason } ∷ [] } }
+        ensures { self.new ≡ record self.old {
+          literals =
+              self.old.literals
+              ++ record {
+                literal = literal;
+                level = level_behind (current_level self.old.literals) reason;
+                reason =
+                    reason;
+              } ∷ [];
+        } }
     {
         let level = level_behind(newest_level(&self.entries), reason);
         let entry = Assigned {
@@ -183,7 +209,9 @@ impl Trail {
     /// Takes the newest entry off where it is above the level, and says whether it was.
     fn pop_above(&mut self, level: usize) -> bool
         ensures reserved { self.new.reserved ≡ self.old.reserved }
-        ensures cases { MatchBool result ((entry : Assigned) × (self.old.literals ≡ self.new.literals ++ entry ∷ []) × (level < entry.level)) ((self.new.literals ≡ self.old.literals) × (up_to level self.old.literals ≡ self.old.literals)) }
+        ensures cases { MatchBool result ((entry : Assigned) × (self.old.literals ≡ self.new.literals ++ entry ∷ [])
+            × (level < entry.level)) ((self.new.literals ≡ self.old.literals)
+            × (up_to level self.old.literals ≡ self.old.literals)) }
     {
         let Some(entry) = pop_entry_above(&mut self.entries, level) else {
             return false;
@@ -216,7 +244,9 @@ fn level_behind(newest: usize, reason: Option<ClauseId>) -> usize
 /// Takes the newest entry off where it is above the level.
 fn pop_entry_above(entries: &mut Vec<Assigned>, level: usize) -> Option<Assigned>
     ensures capacity { vec_capacity entries.new ≡ vec_capacity entries.old }
-    ensures cases { MatchOption result ((entries.new.items ≡ entries.old.items) × (current_level entries.old.items ≤ level)) (λ entry. (entries.old.items ≡ entries.new.items ++ entry ∷ []) × (level < entry.level)) }
+    ensures cases { MatchOption result ((entries.new.items ≡ entries.old.items)
+        × (current_level entries.old.items ≤ level)) (λ entry. (entries.old.items ≡ entries.new.items ++ entry ∷ [])
+        × (level < entry.level)) }
 {
     if newest_level(entries) <= level {
         return None;

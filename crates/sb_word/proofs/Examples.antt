@@ -1,10 +1,11 @@
 -- Computed examples: the texts of a few words, and what a few literals stand for.
 use Rattle.std.proofs.Common.{◌≡◌, ℕ, Bool, true, false, not, ◌&&◌, eqb, List, [], ◌∷◌, ◌++◌, refl, sym, ap, ◌∙◌, inl, inr, arith}
 use Rattle.std.specs.Fmt.{digits}
+use Rattle.std.proofs.lemmas.Bool.{and_parts}
 use Rattle.std.proofs.lemmas.Bool.Decides.{nat_tests}
 use Rattle.sb_word.specs.Words.{are_characters, IsFirstOutside}
 use Rattle.sb_word.specs.Literals.{hex_value, hex_number_from, IsEscape, is_printable, Literal, literal_text}
-use Rattle.sb_word.proofs.LiteralLemmas.{and_front, and_back, tail_same, no_escape}
+use Rattle.sb_word.proofs.LiteralLemmas.{tail_same, no_escape}
 use Rattle.sb_word.proofs.OneWord.{same_value, are_hex, same_braced, four_not_braced}
 
 last_character : are_characters (97 ∷ 0x2ffff ∷ []) ≡ true
@@ -43,22 +44,46 @@ doubled_quote = (34 ∷ 34 ∷ [], [], refl, inl (refl, refl), refl)
 -- `\u004A` and `\u{4a}` stand for J
 four_digits : Literal (92 ∷ 117 ∷ 48 ∷ 48 ∷ 52 ∷ 65 ∷ []) (74 ∷ [])
 unfolding hex_value hex_number_from
-four_digits = (92 ∷ 117 ∷ 48 ∷ 48 ∷ 52 ∷ 65 ∷ [], [], refl, inr (inl (inl (record { digits = 48 ∷ 48 ∷ 52 ∷ 65 ∷ []; spelled = refl; four = refl; number = refl }))), refl)
+four_digits = (
+  92 ∷ 117 ∷ 48 ∷ 48 ∷ 52 ∷ 65 ∷ [],
+  [],
+  refl,
+  inr (inl (inl (record { digits = 48 ∷ 48 ∷ 52 ∷ 65 ∷ []; spelled = refl; four = refl; number = refl }))),
+  refl,
+)
 
 braced : Literal (92 ∷ 117 ∷ 123 ∷ 52 ∷ 97 ∷ 125 ∷ []) (74 ∷ [])
 unfolding hex_value hex_number_from
-braced = (92 ∷ 117 ∷ 123 ∷ 52 ∷ 97 ∷ 125 ∷ [], [], refl, inr (inl (inr (record { digits = 52 ∷ 97 ∷ []; spelled = refl; some = omega arith; few = omega arith; number = refl; character = omega arith }))), refl)
+braced = (
+  92 ∷ 117 ∷ 123 ∷ 52 ∷ 97 ∷ 125 ∷ [],
+  [],
+  refl,
+  inr (inl (inr
+      (record {
+        digits = 52 ∷ 97 ∷ [];
+        spelled = refl;
+        some = omega arith;
+        few = omega arith;
+        number = refl;
+        character =
+            omega arith;
+      }))),
+  refl,
+)
 
 -- no escape begins `\u{30000}`, whose number is no character
-no_escape_by : (bytes rest : List ℕ) (c : ℕ) → IsEscape bytes c → 92 ∷ 117 ∷ 123 ∷ 51 ∷ 48 ∷ 48 ∷ 48 ∷ 48 ∷ 125 ∷ [] ≡ bytes ++ rest → ⊥
+no_escape_by : (bytes rest : List ℕ) (c : ℕ) → IsEscape bytes c
+    → 92 ∷ 117 ∷ 123 ∷ 51 ∷ 48 ∷ 48 ∷ 48 ∷ 48 ∷ 125 ∷ [] ≡ bytes ++ rest → ⊥
 unfolding hex_value hex_number_from
 no_escape_by bytes rest c (inl p) e =
     let whole = e ∙ ap (λ bs. bs ++ rest) p.spelled in
-    four_not_braced p.digits (51 ∷ 48 ∷ 48 ∷ 48 ∷ 48 ∷ 125 ∷ []) rest [] p.four (are_hex 0 c p.digits p.number) (sym (tail_same (tail_same whole)))
+    four_not_braced p.digits (51 ∷ 48 ∷ 48 ∷ 48 ∷ 48 ∷ 125 ∷ []) rest [] p.four (are_hex 0 c p.digits p.number)
+    (sym (tail_same (tail_same whole)))
 no_escape_by bytes rest c (inr p) e =
     let whole = e ∙ ap (λ bs. bs ++ rest) p.spelled in
     let digits : List ℕ = 51 ∷ 48 ∷ 48 ∷ 48 ∷ 48 ∷ [] in
-    let same = same_braced digits p.digits [] rest (are_hex 0 0x30000 digits refl) (are_hex 0 c p.digits p.number) (tail_same (tail_same (tail_same whole))) in
+    let same = same_braced digits p.digits [] rest (are_hex 0 0x30000 digits refl) (are_hex 0 c p.digits p.number)
+    (tail_same (tail_same (tail_same whole))) in
     let number : c ≡ 0x30000 = same_value (ap (hex_number_from 0) same.0 ∙ p.number) refl in
     omega (arith, p.character)
 
@@ -71,24 +96,26 @@ are_plain (c ∷ bytes) = (is_printable c && (not (eqb c 34) && not (eqb c 92)))
 plain_stand : (bytes : List ℕ) → are_plain bytes ≡ true → Literal bytes bytes
 plain_stand [] h = refl
 plain_stand (c ∷ bytes) h =
-    let plain = and_front (is_printable c && (not (eqb c 34) && not (eqb c 92))) (are_plain bytes) h in
-    let tests = and_back (is_printable c) (not (eqb c 34) && not (eqb c 92)) plain in
-    let no_quote = and_front (not (eqb c 34)) (not (eqb c 92)) tests in
-    let no_backslash = and_back (not (eqb c 34)) (not (eqb c 92)) tests in (
+    let plain = and_parts (is_printable c && (not (eqb c 34) && not (eqb c 92))) (are_plain bytes) h in
+    let first = and_parts (is_printable c) (not (eqb c 34) && not (eqb c 92)) plain.0 in
+    let tests = and_parts (not (eqb c 34)) (not (eqb c 92)) first.1 in
+    let no_quote = tests.0 in
+    let no_backslash = tests.1 in (
       c ∷ [],
       bytes,
       refl,
       inr (inr (record {
         byte = refl;
-        printable = and_front (is_printable c) (not (eqb c 34) && not (eqb c 92)) plain;
+        printable = first.0;
         no_quote = grind (arith, nat_tests);
         no_escape = no_escape c bytes (grind (arith, nat_tests));
       })),
-      plain_stand bytes (and_back (is_printable c && (not (eqb c 34) && not (eqb c 92))) (are_plain bytes) h),
+      plain_stand bytes plain.1,
     )
 
 -- so each of its bytes stands for itself
-past_the_last_stands : Literal (92 ∷ 117 ∷ 123 ∷ 51 ∷ 48 ∷ 48 ∷ 48 ∷ 48 ∷ 125 ∷ []) (92 ∷ 117 ∷ 123 ∷ 51 ∷ 48 ∷ 48 ∷ 48 ∷ 48 ∷ 125 ∷ [])
+past_the_last_stands : Literal (92 ∷ 117 ∷ 123 ∷ 51 ∷ 48 ∷ 48 ∷ 48 ∷ 48 ∷ 125 ∷ [])
+    (92 ∷ 117 ∷ 123 ∷ 51 ∷ 48 ∷ 48 ∷ 48 ∷ 48 ∷ 125 ∷ [])
 past_the_last_stands =
     let behind : List ℕ = 117 ∷ 123 ∷ 51 ∷ 48 ∷ 48 ∷ 48 ∷ 48 ∷ 125 ∷ [] in (
       92 ∷ [],

@@ -1,3 +1,4 @@
+pub mod CallerLemmas
 mod Examples
 pub mod WordLemmas
 pub mod HexLemmas

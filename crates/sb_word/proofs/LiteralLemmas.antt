@@ -1,18 +1,11 @@
 -- The printed text is a literal of the word.
 use Rattle.std.proofs.Common.{◌≡◌, ℕ, ◌≤◌, ◌≢◌, Bool, true, false, not, ◌&&◌, cond, eqb, List, [], ◌∷◌, ◌++◌, refl, ap, ◌∙◌, inl, inr, arith}
 use Rattle.std.specs.Fmt.{digits}
+use Rattle.std.proofs.lemmas.Bool.{and_parts}
 use Rattle.std.proofs.lemmas.Bool.Decides.{nat_tests}
 use Rattle.sb_word.specs.Words.{is_character, are_characters, IsWord}
 use Rattle.sb_word.specs.Literals.{IsEscape, BeginsWithEscape, is_printable, Spells, Literal, character_text, literal_text}
 use Rattle.sb_word.proofs.HexLemmas.{hex_number-digits, length-digits-le, digits-some}
-
-pub and_front : (a b : Bool) → (a && b) ≡ true → a ≡ true
-and_front true b h = refl
-and_front false b h = h
-
-pub and_back : (a b : Bool) → (a && b) ≡ true → b ≡ true
-and_back true b h = h
-and_back false b h = cc
 
 -- equal lists have one first number and one rest
 pub head_same : {x y : ℕ} {xs ys : List ℕ} → x ∷ xs ≡ y ∷ ys → x ≡ y
@@ -43,14 +36,16 @@ escaped c h =
       character = small;
     })
 
-spells_by : (c : ℕ) (rest : List ℕ) (quote plain : Bool) → eqb c 34 ≡ quote → (is_printable c && not (eqb c 92)) ≡ plain → is_character c ≡ true → Spells (cond quote (34 ∷ 34 ∷ []) (cond plain (c ∷ []) (92 ∷ 117 ∷ 123 ∷ (digits 16 false c ++ 125 ∷ [])))) rest c
+spells_by : (c : ℕ) (rest : List ℕ) (quote plain : Bool) → eqb c 34 ≡ quote → (is_printable c && not (eqb c 92)) ≡ plain
+    → is_character c ≡ true
+    → Spells (cond quote (34 ∷ 34 ∷ []) (cond plain (c ∷ []) (92 ∷ 117 ∷ 123 ∷ (digits 16 false c ++ 125 ∷ [])))) rest c
 spells_by c rest true plain q p h = inl (refl, grind (arith, nat_tests))
 spells_by c rest false true q p h =
-    let printable = and_front (is_printable c) (not (eqb c 92)) p in
-    let other = and_back (is_printable c) (not (eqb c 92)) p in
+    let tests = and_parts (is_printable c) (not (eqb c 92)) p in
+    let other = tests.1 in
     inr (inr (record {
       byte = refl;
-      printable = printable;
+      printable = tests.0;
       no_quote = q;
       no_escape = no_escape c rest (grind (arith, nat_tests));
     }))
@@ -62,4 +57,11 @@ spells c rest h = spells_by c rest (eqb c 34) (is_printable c && not (eqb c 92))
 -- the printed text is a literal of the word
 pub literal-printed : (word : List ℕ) → IsWord word → Literal (literal_text word) word
 literal-printed [] h = refl
-literal-printed (c ∷ word) h = (character_text c, literal_text word, refl, spells c (literal_text word) (and_front (is_character c) (are_characters word) h), literal-printed word (and_back (is_character c) (are_characters word) h))
+literal-printed (c ∷ word) h =
+    let tests = and_parts (is_character c) (are_characters word) h in (
+      character_text c,
+      literal_text word,
+      refl,
+      spells c (literal_text word) tests.0,
+      literal-printed word tests.1,
+    )

@@ -13,11 +13,14 @@ abbrev pub AreHex : List ℕ → Type 0
 AreHex [] = Unit {0}
 AreHex (b ∷ bs) = (hex_value b ≡ None → ⊥) × AreHex bs
 
-hex_step : (n b c : ℕ) (bs : List ℕ) (o : Option ℕ) → hex_value b ≡ o → hex_number_from n (b ∷ bs) ≡ Some c → ((m : ℕ) → hex_number_from m bs ≡ Some c → AreHex bs) → AreHex (b ∷ bs)
+hex_step : (n b c : ℕ) (bs : List ℕ) (o : Option ℕ) → hex_value b ≡ o → hex_number_from n (b ∷ bs) ≡ Some c
+    → ((m : ℕ) → hex_number_from m bs ≡ Some c → AreHex bs) → AreHex (b ∷ bs)
 unfolding hex_number_from
-hex_step n b c bs None is e more = let none : None ≡ Some c = sym (ap (λ o. elim o as (λ _. Option ℕ) [ None ↦ None | Some v ↦ hex_number_from (16 * n + v) bs ]) is) ∙ e in cc
+hex_step n b c bs None is e more = let none : None ≡ Some c =
+    sym (ap (λ o. elim o as (λ _. Option ℕ) [ None ↦ None | Some v ↦ hex_number_from (16 * n + v) bs ]) is) ∙ e in cc
 hex_step n b c bs (Some d) is e more =
-    let some : hex_number_from (16 * n + d) bs ≡ Some c = sym (ap (λ o. elim o as (λ _. Option ℕ) [ None ↦ None | Some v ↦ hex_number_from (16 * n + v) bs ]) is) ∙ e in
+    let some : hex_number_from (16 * n + d) bs ≡ Some c =
+    sym (ap (λ o. elim o as (λ _. Option ℕ) [ None ↦ None | Some v ↦ hex_number_from (16 * n + v) bs ]) is) ∙ e in
     (λ none. let both : None ≡ Some d = sym none ∙ is in cc, more (16 * n + d) some)
 
 -- what spells a number has only hexadecimal digits
@@ -36,7 +39,8 @@ unfolding hex_value
 close_brace = refl
 
 -- digits in braces end at the first closing brace
-pub same_braced : (ds es r s : List ℕ) → AreHex ds → AreHex es → (ds ++ 125 ∷ []) ++ r ≡ (es ++ 125 ∷ []) ++ s → (ds ≡ es) × (r ≡ s)
+pub same_braced : (ds es r s : List ℕ) → AreHex ds → AreHex es → (ds ++ 125 ∷ []) ++ r ≡ (es ++ 125 ∷ []) ++ s
+    → (ds ≡ es) × (r ≡ s)
 same_braced [] [] r s p q e = (refl, tail_same e)
 same_braced [] (x ∷ es) r s p q e =
     absurd (q.0 (ap hex_value (sym (head_same e)) ∙ close_brace))
@@ -53,23 +57,30 @@ four_not_braced (x ∷ ds) es r s four p e = p.0 (ap hex_value (head_same e) ∙
 
 -- the same front and the same rest, where both fronts have n bytes
 same_four : (n : ℕ) (ds es r s : List ℕ) → length ds ≡ n → length es ≡ n → ds ++ r ≡ es ++ s → (ds ≡ es) × (r ≡ s)
-same_four n ds es r s l m e =
-    (sym (take_at ds r n l) ∙ ap (take n) e ∙ take_at es s n m, sym (drop_at ds r n l) ∙ ap (drop n) e ∙ drop_at es s n m)
+same_four n ds es r s l m e = (
+  sym (take_at ds r n l) ∙ ap (take n) e ∙ take_at es s n m,
+  sym (drop_at ds r n l) ∙ ap (drop n) e
+      ∙ drop_at es s n m,
+)
 
-same_escape : {front other : List ℕ} (c d : ℕ) (r s : List ℕ) → IsEscape front c → IsEscape other d → front ++ r ≡ other ++ s → (c ≡ d) × (r ≡ s)
+same_escape : {front other : List ℕ} (c d : ℕ) (r s : List ℕ) → IsEscape front c → IsEscape other d
+    → front ++ r ≡ other ++ s → (c ≡ d) × (r ≡ s)
 same_escape c d r s (inl p) (inl q) e =
     let whole = sym (ap (λ bytes. bytes ++ r) p.spelled) ∙ e ∙ ap (λ bytes. bytes ++ s) q.spelled in
     let same = same_four 4 p.digits q.digits r s p.four q.four (tail_same (tail_same whole)) in
     (same_value p.number (ap (hex_number_from 0) same.0 ∙ q.number), same.1)
 same_escape c d r s (inl p) (inr q) e =
     let whole = sym (ap (λ bytes. bytes ++ r) p.spelled) ∙ e ∙ ap (λ bytes. bytes ++ s) q.spelled in
-    absurd (four_not_braced p.digits (q.digits ++ 125 ∷ []) r s p.four (are_hex 0 c p.digits p.number) (tail_same (tail_same whole)))
+    absurd (four_not_braced p.digits (q.digits ++ 125 ∷ []) r s p.four (are_hex 0 c p.digits p.number)
+    (tail_same (tail_same whole)))
 same_escape c d r s (inr p) (inl q) e =
     let whole = sym (ap (λ bytes. bytes ++ s) q.spelled) ∙ sym e ∙ ap (λ bytes. bytes ++ r) p.spelled in
-    absurd (four_not_braced q.digits (p.digits ++ 125 ∷ []) s r q.four (are_hex 0 d q.digits q.number) (tail_same (tail_same whole)))
+    absurd (four_not_braced q.digits (p.digits ++ 125 ∷ []) s r q.four (are_hex 0 d q.digits q.number)
+    (tail_same (tail_same whole)))
 same_escape c d r s (inr p) (inr q) e =
     let whole = sym (ap (λ bytes. bytes ++ r) p.spelled) ∙ e ∙ ap (λ bytes. bytes ++ s) q.spelled in
-    let same = same_braced p.digits q.digits r s (are_hex 0 c p.digits p.number) (are_hex 0 d q.digits q.number) (tail_same (tail_same (tail_same whole))) in
+    let same = same_braced p.digits q.digits r s (are_hex 0 c p.digits p.number) (are_hex 0 d q.digits q.number)
+    (tail_same (tail_same (tail_same whole))) in
     (same_value p.number (ap (hex_number_from 0) same.0 ∙ q.number), same.1)
 
 backslash_no_quote : ◌≡◌ {A = ℕ} 92 34 → ⊥
@@ -88,7 +99,8 @@ itself_no_quote c r s p e =
     let first : c ≡ 34 = head_same (sym (ap (λ bytes. bytes ++ r) p.byte) ∙ e) in
     let quote : eqb 34 34 ≡ false = subst (λ x. eqb x 34 ≡ false) first p.no_quote in cc
 
-itself_no_escape : {front other : List ℕ} (c d : ℕ) (r s : List ℕ) → StandsForItself front r c → IsEscape other d → front ++ r ≡ other ++ s → ⊥
+itself_no_escape : {front other : List ℕ} (c d : ℕ) (r s : List ℕ) → StandsForItself front r c → IsEscape other d
+    → front ++ r ≡ other ++ s → ⊥
 itself_no_escape c d r s p q e =
     p.no_escape (record {
       escape = _;
@@ -98,7 +110,8 @@ itself_no_escape c d r s p q e =
       is = q;
     })
 
-same_first : {front other : List ℕ} (c d : ℕ) (r s : List ℕ) → Spells front r c → Spells other s d → front ++ r ≡ other ++ s → (c ≡ d) × (r ≡ s)
+same_first : {front other : List ℕ} (c d : ℕ) (r s : List ℕ) → Spells front r c → Spells other s d
+    → front ++ r ≡ other ++ s → (c ≡ d) × (r ≡ s)
 same_first c d r s (inl p) (inl q) e =
     let whole = sym (ap (λ bytes. bytes ++ r) p.0) ∙ e ∙ ap (λ bytes. bytes ++ s) q.0 in
     (p.1 ∙ sym q.1, tail_same (tail_same whole))

@@ -20,7 +20,9 @@ abbrev Searched : List ℕ → ℕ → Type 0
 Searched codes place =
     ((place ≡ length codes) × IsWord codes) ⊎ ((place < length codes) × IsFirstOutside codes place)
 
-searched_step : (c : ℕ) (codes : List ℕ) (t : Bool) → is_outside c ≡ t → Searched codes (position_or_len is_outside codes) → Searched (c ∷ codes) (cond (not t) (1 + position_or_len is_outside codes) 0)
+searched_step : (c : ℕ) (codes : List ℕ) (t : Bool) → is_outside c ≡ t
+    → Searched codes (position_or_len is_outside codes)
+    → Searched (c ∷ codes) (cond (not t) (1 + position_or_len is_outside codes) 0)
 searched_step c codes true is h = inr (
   omega arith,
   record {
@@ -48,13 +50,16 @@ searched : (codes : List ℕ) → Searched codes (position_or_len is_outside cod
 searched [] = inl (refl, refl)
 searched (c ∷ codes) = searched_step c codes (is_outside c) refl (searched codes)
 
-by_test : (codes : List ℕ) (place : ℕ) (t : Bool) → nat_lt place (length codes) ≡ t → Searched codes place → MatchOption (cond t (Some place) None) (IsWord codes) (λ at. IsFirstOutside codes at)
+by_test : (codes : List ℕ) (place : ℕ) (t : Bool) → nat_lt place (length codes) ≡ t → Searched codes place
+    → MatchOption (cond t (Some place) None) (IsWord codes) (λ at. IsFirstOutside codes at)
 by_test codes place true is (inl h) = absurd (grind (arith, nat_tests))
 by_test codes place true is (inr h) = h.1
 by_test codes place false is (inl h) = h.1
 by_test codes place false is (inr h) = absurd (grind (arith, nat_tests))
 
 -- what `position` gives of the numbers
-pub position_outside : (codes : List ℕ) (r : Option ℕ) → r ≡ position is_outside codes → MatchOption r (IsWord codes) (λ place. IsFirstOutside codes place)
+pub position_outside : (codes : List ℕ) (r : Option ℕ) → r ≡ position is_outside codes
+    → MatchOption r (IsWord codes) (λ place. IsFirstOutside codes place)
 position_outside codes r e =
-    subst (λ o. MatchOption o (IsWord codes) (λ place. IsFirstOutside codes place)) (sym e) (by_test codes _ _ refl (searched codes))
+    subst (λ o. MatchOption o (IsWord codes) (λ place. IsFirstOutside codes place)) (sym e)
+    (by_test codes _ _ refl (searched codes))

@@ -63,7 +63,8 @@ Spells front rest c = ((front ≡ 34 ∷ 34 ∷ []) × (c ≡ 34)) ⊎ (IsEscape
 -- the bytes between the quotes are a literal of the word
 abbrev pub Literal : List ℕ → List ℕ → Type 0
 Literal bytes [] = bytes ≡ []
-Literal bytes (c ∷ w) = (front : List ℕ) × (rest : List ℕ) × (bytes ≡ front ++ rest) × Spells front rest c × Literal rest w
+Literal bytes (c ∷ w) = (front : List ℕ) × (rest : List ℕ) × (bytes ≡ front ++ rest) × Spells front rest c
+    × Literal rest w
 
 -- the text of a character in a literal: a quote doubled, another printable character but the backslash as
 -- itself, every other one as an escape in braces

@@ -1,5 +1,4 @@
 pub mod Outside
-pub mod OutsideLaws
 pub mod Memory
 pub mod Ports
 pub mod Sources

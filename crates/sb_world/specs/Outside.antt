@@ -85,7 +85,11 @@ open_at port name o =
 -- a created output has no bytes yet
 abbrev pub create_at : OutPort → Option (List ℕ) → Outside → Outside
 create_at port name =
-    with_output port (λ i. record { opening = option_map (λ _. opening_by name) i.opening; written = option_map (λ _. []) i.written })
+    with_output port (λ i. record {
+      opening = option_map (λ _. opening_by name) i.opening;
+      written =
+          option_map (λ _. []) i.written;
+    })
 
 -- after the next bytes of an input were read, so many of them
 abbrev pub read_at : InPort → ℕ → Outside → Outside
@@ -108,7 +112,7 @@ CountsFault (Err world_error.NoMemory) old new = new ≡ old
 
 -- A read of so many bytes into a buffer gave what was left, from its front: nothing exactly where nothing
 -- was left.
-pub record Reads (left buffer : List ℕ) (count : ℕ) : Type 0 where
+pub record ReadsFront (left buffer : List ℕ) (count : ℕ) : Type 0 where
   pub within : count ≤ length left
   pub bytes : take count buffer ≡ take count left
   pub progress : count ≡ 0 → left ≡ []

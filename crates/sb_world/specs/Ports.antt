@@ -1,4 +1,4 @@
--- The ports of a world in memory, changed one at a time.
+-- Private: the ports of a world in memory, changed one at a time, for the clauses of Ports that no caller sees.
 use Rattle.std.specs.Prelude.{ℕ, List, [], ◌++◌, drop, Option}
 use Rattle.sb_world.specs.Outside.{opening_by}
 use Rattle.sb_world.specs.Memory.{Reading, Writing}

@@ -1,4 +1,4 @@
--- What a store has for an input.
+-- Private: what a store has for an input, for the clause of Store that no caller sees.
 use Rattle.std.specs.Prelude.{ℕ, List, Option, Some, None}
 use Rattle.sb_world.specs.Memory.{held_by}
 use Rattle.sb_world.specs.declared.store.Store.{Store}

@@ -1,8 +1,7 @@
 //! A world in memory where nothing fails.
 
-ghost use Rattle.std.specs.Prelude.{◌≡◌, ◌≢◌, ℕ, ◌<◌, ◌≤◌, [], ◌∷◌, ◌++◌, List, length, min, take, Some, None, IsOk, IfOk, OnOk, OnErr, IfSome};
-ghost use Rattle.std.specs.Option.{option_copied};
-ghost use Rattle.sb_world.specs.Outside.{Outside, NotOpened, Reads, input_at, output_at, read_at, write_at};
+ghost use Rattle.std.specs.Prelude.{◌≡◌, ◌≢◌, ℕ, ◌<◌, ◌≤◌, [], List, length, min, Some, IsOk, IfOk, OnOk, OnErr, IfSome};
+ghost use Rattle.sb_world.specs.Outside.{NotOpened, ReadsFront, input_at, output_at, read_at, write_at};
 ghost use Rattle.sb_world.specs.Memory.{opening_of};
 ghost use Rattle.sb_world.specs.Worlds.{calm_outside, never_opened, never_created, AddsFile};
 
@@ -44,7 +43,8 @@ impl CalmWorld {
 
     /// Sets what an input opened without a name holds from then on.
     pub fn set_standard_input(&mut self, bytes: &[u8]) -> Result<(), AllocError>
-        ensures ok { OnOk result (calm_outside self.new ≡ record (calm_outside self.old) { standard_input = Some bytes.now }) }
+        ensures ok { OnOk result
+            (calm_outside self.new ≡ record (calm_outside self.old) { standard_input = Some bytes.now }) }
         ensures err { OnErr result (calm_outside self.new ≡ calm_outside self.old) }
     {
         self.store.set_standard_input(self.alloc, bytes)
@@ -92,10 +92,14 @@ impl World for CalmWorld {
         requires { 0 < length buffer.old }
         ensures within { IfOk result (λ count. count ≤ length buffer.old) }
         ensures moved { IfOk result (λ count. calm_outside self.new ≡ read_at port count (calm_outside self.old)) }
-        ensures bytes { IfOk result (λ count. IfSome (input_at port (calm_outside self.old)).left (λ left. Reads left buffer.new count)) }
-        ensures unopened { IfOk result (λ count. (input_at port (calm_outside self.old)).opening ≡ Some NotOpened → count ≡ 0) }
+        ensures bytes { IfOk result
+            (λ count. IfSome (input_at port (calm_outside self.old)).left (λ left. ReadsFront left buffer.new count)) }
+        ensures unopened { IfOk result (λ count. (input_at port (calm_outside self.old)).opening ≡ Some NotOpened
+            → count ≡ 0) }
         ensures ok { IsOk result }
-        ensures longest { IfOk result (λ count. IfSome (input_at port (calm_outside self.old)).left (λ left. count ≡ min (length buffer.old) (length left))) }
+        ensures longest { IfOk result
+            (λ count. IfSome (input_at port (calm_outside self.old)).left
+            (λ left. count ≡ min (length buffer.old) (length left))) }
     {
         Ok(self.ports.read(port, buffer))
     }

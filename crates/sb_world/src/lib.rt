@@ -6,9 +6,9 @@
 //! parameter; the programs hand in the real one, the tests one in memory.
 #![tactic(auto)]
 
-ghost use Rattle.std.specs.Prelude.{◌≡◌, ℕ, ◌+◌, ◌<◌, ◌≤◌, ◌↔◌, [], length, take, Some, IfOk, OnOk, OnErr, IfSome};
+ghost use Rattle.std.specs.Prelude.{◌≡◌, ℕ, ◌<◌, ◌≤◌, length, take, Some, IfOk, OnOk, OnErr, IfSome};
 ghost use Rattle.std.specs.Option.{option_copied};
-ghost use Rattle.sb_world.specs.Outside.{Outside, Input, Output, NotOpened, input_at, open_at, create_at, read_at, write_at, CountsFault, Reads};
+ghost use Rattle.sb_world.specs.Outside.{Outside, NotOpened, input_at, open_at, create_at, read_at, write_at, CountsFault, ReadsFront};
 
 use std::alloc::AllocError;
 use thiserror::Error;
@@ -18,8 +18,6 @@ mod memory;
 mod plan;
 mod ports;
 mod store;
-#[cfg(test)]
-mod tests;
 mod write;
 
 pub use calm::CalmWorld;
@@ -85,18 +83,21 @@ pub trait World {
 
     /// Creates an output by the name of its file, or without a name one whose bytes go nowhere.
     fn create_output(&mut self, port: OutPort, name: Option<&str>) -> Result<(), WorldError>
-        ensures created { OnOk result (outside self.new ≡ create_at port (option_copied name.entry) (outside self.old)) }
+        ensures created { OnOk result
+            (outside self.new ≡ create_at port (option_copied name.entry) (outside self.old)) }
         ensures err { OnErr result (outside self.new ≡ outside self.old) }
         ensures counts { CountsFault result (faults self.old) (faults self.new) };
 
-    /// Reads at most as many bytes as the buffer has, to its front, and says how many. 0 says that the
+    /// ReadsFront at most as many bytes as the buffer has, to its front, and says how many. 0 says that the
     /// input has ended. An input that was never opened is empty.
     fn read(&mut self, port: InPort, buffer: &mut [u8]) -> Result<usize, WorldError>
         requires { 0 < length buffer.old }
         ensures within { IfOk result (λ count. count ≤ length buffer.old) }
         ensures moved { IfOk result (λ count. outside self.new ≡ read_at port count (outside self.old)) }
-        ensures bytes { IfOk result (λ count. IfSome (input_at port (outside self.old)).left (λ left. Reads left buffer.new count)) }
-        ensures unopened { IfOk result (λ count. (input_at port (outside self.old)).opening ≡ Some NotOpened → count ≡ 0) }
+        ensures bytes { IfOk result
+            (λ count. IfSome (input_at port (outside self.old)).left (λ left. ReadsFront left buffer.new count)) }
+        ensures unopened { IfOk result (λ count. (input_at port (outside self.old)).opening ≡ Some NotOpened
+            → count ≡ 0) }
         ensures err { OnErr result (outside self.new ≡ outside self.old) }
         ensures counts { CountsFault result (faults self.old) (faults self.new) };
 
@@ -104,7 +105,8 @@ pub trait World {
     fn write(&mut self, port: OutPort, piece: &[u8]) -> Result<usize, WorldError>
         ensures within { IfOk result (λ count. count ≤ length piece.now) }
         ensures progress { IfOk result (λ count. 0 < length piece.now → 0 < count) }
-        ensures written { IfOk result (λ count. outside self.new ≡ write_at port (take count piece.now) (outside self.old)) }
+        ensures written { IfOk result
+            (λ count. outside self.new ≡ write_at port (take count piece.now) (outside self.old)) }
         ensures err { OnErr result (outside self.new ≡ outside self.old) }
         ensures counts { CountsFault result (faults self.old) (faults self.new) };
 }

@@ -2,8 +2,8 @@
 
 ghost use Rattle.std.specs.Prelude.{◌≡◌, ◌≢◌, ℕ, ◌<◌, ◌≤◌, ◌⊎◌, ◌↔◌, [], ◌∷◌, ◌++◌, List, length, min, take, Some, None, IfOk, OnOk, OnErr, IfSome, IsNone, IsErrOf};
 ghost use Rattle.std.specs.Option.{option_copied};
-ghost use Rattle.sb_world.specs.Outside.{Outside, NotOpened, Reads, CountsFault, Rose, input_at, output_at, source_of, open_at, create_at, read_at, write_at};
-ghost use Rattle.sb_world.specs.Memory.{opening_of, Schedule, after_call, one_more, NextFails};
+ghost use Rattle.sb_world.specs.Outside.{NotOpened, ReadsFront, CountsFault, Rose, input_at, output_at, source_of, open_at, create_at, read_at, write_at};
+ghost use Rattle.sb_world.specs.Memory.{opening_of, after_call, one_more, NextFails};
 ghost use Rattle.sb_world.specs.Worlds.{outside_of, faults_of, schedule_of, never_opened, never_created, AddsFile};
 
 use crate::plan::Plan;
@@ -55,7 +55,8 @@ impl MemWorld {
 
     /// Sets what an input opened without a name holds from then on.
     pub fn set_standard_input(&mut self, bytes: &[u8]) -> Result<(), AllocError>
-        ensures ok { OnOk result (outside_of self.new ≡ record (outside_of self.old) { standard_input = Some bytes.now }) }
+        ensures ok { OnOk result
+            (outside_of self.new ≡ record (outside_of self.old) { standard_input = Some bytes.now }) }
         ensures err { OnErr result (outside_of self.new ≡ outside_of self.old) }
         ensures schedule { schedule_of self.new ≡ schedule_of self.old }
         ensures faults { faults_of self.new ≡ faults_of self.old }
@@ -75,7 +76,9 @@ impl MemWorld {
 
     /// Lets the call of this number fail.
     pub fn fail_at(&mut self, call: u64) -> Result<(), AllocError>
-        ensures ok { OnOk result (schedule_of self.new ≡ record (schedule_of self.old) { failing = (schedule_of self.old).failing ++ call ∷ [] }) }
+        ensures ok { OnOk result
+            (schedule_of self.new
+            ≡ record (schedule_of self.old) { failing = (schedule_of self.old).failing ++ call ∷ [] }) }
         ensures err { OnErr result (schedule_of self.new ≡ schedule_of self.old) }
         ensures outside { outside_of self.new ≡ outside_of self.old }
         ensures faults { faults_of self.new ≡ faults_of self.old }
@@ -149,11 +152,13 @@ impl World for MemWorld {
     ghost faults = { faults_of };
 
     fn open_input(&mut self, port: InPort, name: Option<&str>) -> Result<(), WorldError>
-        ensures opened { OnOk result (outside_of self.new ≡ open_at port (option_copied name.entry) (outside_of self.old)) }
+        ensures opened { OnOk result
+            (outside_of self.new ≡ open_at port (option_copied name.entry) (outside_of self.old)) }
         ensures err { OnErr result (outside_of self.new ≡ outside_of self.old) }
         ensures counts { CountsFault result (faults_of self.old) (faults_of self.new) }
         ensures once { IsErrOf result WorldError.Failed → faults_of self.new ≡ one_more (faults_of self.old) }
-        ensures failed { IsErrOf result WorldError.Failed ↔ (NextFails (schedule_of self.old) ⊎ IsNone (source_of (option_copied name.entry) (outside_of self.old))) }
+        ensures failed { IsErrOf result WorldError.Failed
+            ↔ (NextFails (schedule_of self.old) ⊎ IsNone (source_of (option_copied name.entry) (outside_of self.old))) }
         ensures schedule { schedule_of self.new ≡ after_call (schedule_of self.old) }
     {
         self.begin_call()?;
@@ -165,7 +170,8 @@ impl World for MemWorld {
     }
 
     fn create_output(&mut self, port: OutPort, name: Option<&str>) -> Result<(), WorldError>
-        ensures created { OnOk result (outside_of self.new ≡ create_at port (option_copied name.entry) (outside_of self.old)) }
+        ensures created { OnOk result
+            (outside_of self.new ≡ create_at port (option_copied name.entry) (outside_of self.old)) }
         ensures err { OnErr result (outside_of self.new ≡ outside_of self.old) }
         ensures counts { CountsFault result (faults_of self.old) (faults_of self.new) }
         ensures once { IsErrOf result WorldError.Failed → faults_of self.new ≡ one_more (faults_of self.old) }
@@ -181,13 +187,17 @@ impl World for MemWorld {
         requires { 0 < length buffer.old }
         ensures within { IfOk result (λ count. count ≤ length buffer.old) }
         ensures moved { IfOk result (λ count. outside_of self.new ≡ read_at port count (outside_of self.old)) }
-        ensures bytes { IfOk result (λ count. IfSome (input_at port (outside_of self.old)).left (λ left. Reads left buffer.new count)) }
-        ensures unopened { IfOk result (λ count. (input_at port (outside_of self.old)).opening ≡ Some NotOpened → count ≡ 0) }
+        ensures bytes { IfOk result
+            (λ count. IfSome (input_at port (outside_of self.old)).left (λ left. ReadsFront left buffer.new count)) }
+        ensures unopened { IfOk result (λ count. (input_at port (outside_of self.old)).opening ≡ Some NotOpened
+            → count ≡ 0) }
         ensures err { OnErr result (outside_of self.new ≡ outside_of self.old) }
         ensures counts { CountsFault result (faults_of self.old) (faults_of self.new) }
         ensures once { IsErrOf result WorldError.Failed → faults_of self.new ≡ one_more (faults_of self.old) }
         ensures takes_no_memory { result ≢ Err WorldError.NoMemory }
-        ensures longest { IfOk result (λ count. IfSome (input_at port (outside_of self.old)).left (λ left. count ≡ min (min (length buffer.old) (schedule_of self.old).longest_read) (length left))) }
+        ensures longest { IfOk result
+            (λ count. IfSome (input_at port (outside_of self.old)).left
+            (λ left. count ≡ min (min (length buffer.old) (schedule_of self.old).longest_read) (length left))) }
         ensures failed { IsErrOf result WorldError.Failed ↔ NextFails (schedule_of self.old) }
         ensures schedule { schedule_of self.new ≡ after_call (schedule_of self.old) }
     {
@@ -199,7 +209,8 @@ impl World for MemWorld {
     fn write(&mut self, port: OutPort, piece: &[u8]) -> Result<usize, WorldError>
         ensures within { IfOk result (λ count. count ≤ length piece.now) }
         ensures progress { IfOk result (λ count. 0 < length piece.now → 0 < count) }
-        ensures written { IfOk result (λ count. outside_of self.new ≡ write_at port (take count piece.now) (outside_of self.old)) }
+        ensures written { IfOk result
+            (λ count. outside_of self.new ≡ write_at port (take count piece.now) (outside_of self.old)) }
         ensures err { OnErr result (outside_of self.new ≡ outside_of self.old) }
         ensures counts { CountsFault result (faults_of self.old) (faults_of self.new) }
         ensures once { IsErrOf result WorldError.Failed → faults_of self.new ≡ one_more (faults_of self.old) }

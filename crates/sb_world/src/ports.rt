@@ -1,8 +1,8 @@
 //! The ports of a world in memory.
 
-ghost use Rattle.std.specs.Prelude.{◌≡◌, ℕ, [], ◌++◌, length, min, take, drop, IfOk, OnOk, OnErr};
+ghost use Rattle.std.specs.Prelude.{◌≡◌, [], ◌++◌, length, min, take, drop, IfOk, OnOk, OnErr};
 ghost use Rattle.std.specs.Option.{option_copied};
-ghost use Rattle.sb_world.specs.Outside.{Opening, NotOpened, opening_by};
+ghost use Rattle.sb_world.specs.Outside.{NotOpened, opening_by};
 ghost use Rattle.sb_world.specs.Memory.{opening_of, Reading, Writing};
 ghost use Rattle.sb_world.specs.Ports.{reading_at, writing_at, with_reading, with_writing, opened_by, created_by, after_read, after_write};
 
@@ -162,7 +162,8 @@ impl Ports {
         name: Option<&str>,
         bytes: &[u8],
     ) -> Result<(), AllocError>
-        ensures ok { OnOk result (self.new ≡ with_reading port (opened_by (option_copied name.entry) bytes.now) self.old) }
+        ensures ok { OnOk result
+            (self.new ≡ with_reading port (opened_by (option_copied name.entry) bytes.now) self.old) }
         ensures err { OnErr result (self.new ≡ self.old) }
     {
         let source = Source::open(alloc, name, bytes)?;
@@ -204,7 +205,8 @@ impl Ports {
     }
 
     pub(crate) fn write(&mut self, port: OutPort, piece: &[u8]) -> Result<(), AllocError>
-        ensures ok { OnOk result (self.new ≡ with_writing port (after_write piece.now (writing_at port self.old)) self.old) }
+        ensures ok { OnOk result
+            (self.new ≡ with_writing port (after_write piece.now (writing_at port self.old)) self.old) }
         ensures err { OnErr result (self.new ≡ self.old) }
     {
         match port {

@@ -34,7 +34,8 @@ impl Store {
         bytes: &[u8],
     ) -> Result<(), AllocError>
         ensures added { OnOk result (held_by self.new.files name.now ≡ Some bytes.now) }
-        ensures others { OnOk result ((other : List ℕ) → other ≢ name.now → held_by self.new.files other ≡ held_by self.old.files other) }
+        ensures others { OnOk result ((other : List ℕ) → other ≢ name.now
+            → held_by self.new.files other ≡ held_by self.old.files other) }
         ensures err { OnErr result (held_by self.new.files ≡ held_by self.old.files) }
         ensures standard_input { self.new.standard_input ≡ self.old.standard_input }
     {

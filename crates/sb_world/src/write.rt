@@ -9,7 +9,8 @@ use crate::{OutPort, World, WorldError};
 /// are a prefix of them. Takes no memory of its own.
 pub fn write_all<W: World>(world: &mut W, port: OutPort, bytes: &[u8]) -> Result<(), WorldError>
     ensures ok { OnOk result (W.outside world.new ≡ write_at port bytes.now (W.outside world.old)) }
-    ensures err { OnErr result ((out : ℕ) × (out < length bytes.now) × (W.outside world.new ≡ write_at port (take out bytes.now) (W.outside world.old))) }
+    ensures err { OnErr result ((out : ℕ) × (out < length bytes.now)
+        × (W.outside world.new ≡ write_at port (take out bytes.now) (W.outside world.old))) }
     ensures counts { CountsFault result (W.faults world.old) (W.faults world.new) }
 {
     let mut rest = bytes;

@@ -21,7 +21,8 @@ loop-range-preserved c =
     let i = c.loop-range.range-index in
     let g = rw (drop_more rs i (0, 0) c.loop-range-test.true) at c.loop-range.invariant in
     elim c.if-next-range.branch [
-      | then-next-range+in_ok-push w ↦ rw w.out-is (gaps_add rs _ _ (range_at rs i) _ _ g w.if-next-range.true w.in_ok-push.ensures.items)
+      | then-next-range+in_ok-push w ↦ rw w.out-is
+          (gaps_add rs _ _ (range_at rs i) _ _ g w.if-next-range.true w.in_ok-push.ensures.items)
       | else-next-range w ↦ rw w.out-is (gaps_skip rs _ (range_at rs i) _ _ g w.if-next-range.false)
     ]
 
@@ -30,6 +31,7 @@ returns c =
     let rs = c.args.ranges.now in
     let g = rw (drop_all c.loop-range.range-index rs c.loop-range-test.false) at c.loop-range.invariant in
     elim c.if-next-le-LAST_CHARACTER.branch [
-      | then-next-le-LAST_CHARACTER+in_ok-push-2 w ↦ rw w.out-is (gaps_end_add rs _ _ _ g w.if-next-le-LAST_CHARACTER.true w.in_ok-push-2.ensures.items)
+      | then-next-le-LAST_CHARACTER+in_ok-push-2 w ↦ rw w.out-is
+          (gaps_end_add rs _ _ _ g w.if-next-le-LAST_CHARACTER.true w.in_ok-push-2.ensures.items)
       | else-next-le-LAST_CHARACTER w ↦ rw w.out-is (gaps_end_skip rs _ _ g w.if-next-le-LAST_CHARACTER.false)
     ]

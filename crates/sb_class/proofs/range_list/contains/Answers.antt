@@ -16,7 +16,8 @@ loop-low-preserved c =
 
 pub returns-else-end-c : goal.returns-else-end-c
 returns-else-end-c c =
-    let hm : (c.loop-low.low + (c.loop-low.high - c.loop-low.low) / 2) < length c.args.ranges.now = omega (arith, c.loop-low.invariant.0) in
+    let hm : (c.loop-low.low + (c.loop-low.high - c.loop-low.low) / 2) < length c.args.ranges.now =
+    omega (arith, c.loop-low.invariant.0) in
     let r = range_at c.args.ranges.now (c.loop-low.low + (c.loop-low.high - c.loop-low.low) / 2) in
     let low : r.0 ≤ c.args.c = c.if-c-start.false in
     let high : c.args.c ≤ r.1 = c.if-end-c.false in

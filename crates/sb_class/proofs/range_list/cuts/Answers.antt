@@ -14,11 +14,14 @@ loop-range-preserved c =
     let old = c.loop-range.cuts.items in
     let started = c.if-range-gt0.cuts.items in
     let first : started ≡ old ++ start_cut r = elim c.if-range-gt0.branch [
-      | then-range-gt0+in_ok-push w ↦ rw w.cuts-is (start_written old _ r w.if-range-gt0.true w.in_ok-push.ensures.items)
+      | then-range-gt0+in_ok-push w ↦ rw w.cuts-is
+          (start_written old _ r w.if-range-gt0.true w.in_ok-push.ensures.items)
       | else-range-gt0 w ↦ rw w.cuts-is (start_left_out old r w.if-range-gt0.false)
     ] in
-    let second : c.if-range-lt-LAST_CHARACTER.cuts.items ≡ started ++ end_cut r = elim c.if-range-lt-LAST_CHARACTER.branch [
-      | then-range-lt-LAST_CHARACTER+in_ok-push-2 w ↦ rw w.cuts-is (end_written started _ r w.if-range-lt-LAST_CHARACTER.true w.in_ok-push-2.ensures.items)
+    let second : c.if-range-lt-LAST_CHARACTER.cuts.items ≡ started ++ end_cut r =
+    elim c.if-range-lt-LAST_CHARACTER.branch [
+      | then-range-lt-LAST_CHARACTER+in_ok-push-2 w ↦ rw w.cuts-is
+          (end_written started _ r w.if-range-lt-LAST_CHARACTER.true w.in_ok-push-2.ensures.items)
       | else-range-lt-LAST_CHARACTER w ↦ rw w.cuts-is (end_left_out started r w.if-range-lt-LAST_CHARACTER.false)
     ] in
     cuts_more old started _ _ r (drop (i + 1) rs) first second
@@ -28,6 +31,7 @@ pub returns : goal.returns
 returns c =
     let rs = c.args.ranges.now in
     let all : cuts_of rs ≡ c.loop-range.cuts.items = sym (sym (append-nil c.loop-range.cuts.items)
-    ∙ ap (λ l. c.loop-range.cuts.items ++ l) (sym (ap cuts_of (drop_all c.loop-range.range-index rs c.loop-range-test.false) ∙ cuts_of-nil))
+    ∙ ap (λ l. c.loop-range.cuts.items ++ l)
+    (sym (ap cuts_of (drop_all c.loop-range.range-index rs c.loop-range-test.false) ∙ cuts_of-nil))
     ∙ c.loop-range.invariant) in
     subst (AreCuts rs) all (AreCuts-cuts_of rs c.requires)

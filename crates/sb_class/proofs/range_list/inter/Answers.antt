@@ -15,11 +15,16 @@ loop-i-preserved-then-left-i c =
     let b = c.args.right.now in
     let i = c.loop-i.i in
     let j = c.loop-i.j in
-    let m = rw (drop_more a i (0, 0) c.loop-i-test.true, drop_more b j (0, 0) c.if-j-right.true) at c.loop-i.invariant.2 in
-    let met : MetUpTo a b c.if-start-end.out.items (range_at a i ∷ drop (i + 1) a) (range_at b j ∷ drop (j + 1) b) c.min-end.result =
+    let m = rw (drop_more a i (0, 0) c.loop-i-test.true, drop_more b j (0, 0) c.if-j-right.true) at c.loop-i.invariant.2
+    in
+    let met : MetUpTo a b c.if-start-end.out.items (range_at a i ∷ drop (i + 1) a) (range_at b j ∷ drop (j + 1) b)
+    c.min-end.result =
     elim c.if-start-end.branch [
-      | then-start-end+in_ok-push w ↦ rw w.out-is (meet_add a b _ _ _ _ _ _ _ _ m c.max-start.ensures c.min-end.ensures w.if-start-end.true w.in_ok-push.ensures.items)
-      | else-start-end w ↦ rw w.out-is (meet_skip a b _ _ _ _ _ _ _ m c.max-start.ensures c.min-end.ensures w.if-start-end.false)
+      | then-start-end+in_ok-push w ↦ rw w.out-is
+          (meet_add a b _ _ _ _ _ _ _ _ m c.max-start.ensures c.min-end.ensures w.if-start-end.true
+          w.in_ok-push.ensures.items)
+      | else-start-end w ↦ rw w.out-is
+          (meet_skip a b _ _ _ _ _ _ _ m c.max-start.ensures c.min-end.ensures w.if-start-end.false)
     ] in (
       omega arith,
       c.loop-i.invariant.1,
@@ -32,11 +37,16 @@ loop-i-preserved c =
     let b = c.args.right.now in
     let i = c.loop-i.i in
     let j = c.loop-i.j in
-    let m = rw (drop_more a i (0, 0) c.loop-i-test.true, drop_more b j (0, 0) c.if-j-right.true) at c.loop-i.invariant.2 in
-    let met : MetUpTo a b c.if-start-end.out.items (range_at a i ∷ drop (i + 1) a) (range_at b j ∷ drop (j + 1) b) c.min-end.result =
+    let m = rw (drop_more a i (0, 0) c.loop-i-test.true, drop_more b j (0, 0) c.if-j-right.true) at c.loop-i.invariant.2
+    in
+    let met : MetUpTo a b c.if-start-end.out.items (range_at a i ∷ drop (i + 1) a) (range_at b j ∷ drop (j + 1) b)
+    c.min-end.result =
     elim c.if-start-end.branch [
-      | then-start-end+in_ok-push w ↦ rw w.out-is (meet_add a b _ _ _ _ _ _ _ _ m c.max-start.ensures c.min-end.ensures w.if-start-end.true w.in_ok-push.ensures.items)
-      | else-start-end w ↦ rw w.out-is (meet_skip a b _ _ _ _ _ _ _ m c.max-start.ensures c.min-end.ensures w.if-start-end.false)
+      | then-start-end+in_ok-push w ↦ rw w.out-is
+          (meet_add a b _ _ _ _ _ _ _ _ m c.max-start.ensures c.min-end.ensures w.if-start-end.true
+          w.in_ok-push.ensures.items)
+      | else-start-end w ↦ rw w.out-is
+          (meet_skip a b _ _ _ _ _ _ _ m c.max-start.ensures c.min-end.ensures w.if-start-end.false)
     ] in (
       c.loop-i.invariant.0,
       omega arith,

@@ -7,7 +7,8 @@ use Rattle.sb_class.proofs.range_list.is_canonical.Goals as goal
 use Rattle.sb_class.proofs.range_list.is_canonical.Goals.{then-range-next-via-then-range-next, then-range-next-via-else-range-next+then-range, then-range-next-via-else-range-next+else-range+then-range-gt-LAST_CHARACTER}
 
 -- a range that fits leaves the question to the rest
-passed : (n : ℕ) (r : Range) (rs : List Range) (answer : Bool) → rises_from n (r ∷ rs) ≡ answer → n ≤ r.0 → r.0 ≤ r.1 → r.1 ≤ 0x2ffff → rises_from (r.1 + 2) rs ≡ answer
+passed : (n : ℕ) (r : Range) (rs : List Range) (answer : Bool) → rises_from n (r ∷ rs) ≡ answer → n ≤ r.0 → r.0 ≤ r.1
+    → r.1 ≤ 0x2ffff → rises_from (r.1 + 2) rs ≡ answer
 passed n r rs answer is a b d =
     sym (rises_from-cons n r rs ∙ ap (λ x. x && rises_from (r.1 + 2) rs) (le-fits_from n r a b d)) ∙ is
 
@@ -34,7 +35,8 @@ loop-range-preserved c =
     let i = c.loop-range.range-index in (
       omega arith,
       passed c.loop-range.next (range_at rs i) (drop (i + 1) rs) _
-          (ap (rises_from c.loop-range.next) (sym (drop_more rs i (0, 0) c.loop-range-test.true)) ∙ c.loop-range.invariant.1)
+          (ap (rises_from c.loop-range.next) (sym (drop_more rs i (0, 0) c.loop-range-test.true))
+          ∙ c.loop-range.invariant.1)
           c.if-range-next.false c.if-range.false c.if-range-gt-LAST_CHARACTER.false,
     )
 

@@ -20,7 +20,8 @@ loop-range-preserved c =
     let pushed = c.in_ok-push.ensures in (
       pushed.canonical,
       rest_fits out _ (range_at rs i) (drop (i + 1) rs) (rw step at c.loop-range.invariant.1) pushed,
-      all_pushed_more c.args.out.now.items out _ rs (range_at rs i) (drop (i + 1) rs) pushed (rw step at c.loop-range.invariant.2),
+      all_pushed_more c.args.out.now.items out _ rs (range_at rs i) (drop (i + 1) rs) pushed
+          (rw step at c.loop-range.invariant.2),
     )
 
 pub returns-clause-members : goal.returns-clause-members

@@ -7,4 +7,5 @@ abbrev pub invariant-loop-range : goal.invariant-loop-range
 invariant-loop-range l =
     IsCanonical l.out.items
     × StartsAfter l.out.items (drop l.range-index l.ranges)
-    × ((c : ℕ) → (in_ranges l.out.items c || in_ranges (drop l.range-index l.ranges) c) ≡ (in_ranges l.fn.out.items c || in_ranges l.ranges c))
+    × ((c : ℕ) → (in_ranges l.out.items c || in_ranges (drop l.range-index l.ranges) c)
+    ≡ (in_ranges l.fn.out.items c || in_ranges l.ranges c))

@@ -14,10 +14,18 @@ loop-literal-preserved c = record {
   watched = c.walk_both-conflict.ensures.watched;
   settles = settles_then _ _ _ _ _ _ _ _ _ _ c.loop-literal.invariant.settles c.walk_both-conflict.ensures.settles;
   fine =
-      rw (← front_more _ c.loop-literal.trail c.walk_both-conflict.new.trail c.loop-literal.walked c.in-Some.literal c.walk_both-conflict.ensures.settles.grows c.in-Some.ensures.literal)
-      (none_given c.walk_both-conflict.result _ (sym c.is_some.ensures ∙ c.if-is_some.false) c.walk_both-conflict.ensures.fine (take c.loop-literal.walked (held c.loop-literal.trail.literals)) (front_grown c.loop-literal.walked (held c.loop-literal.trail.literals)) c.loop-literal.invariant.fine);
+      rw (← front_more _ c.loop-literal.trail c.walk_both-conflict.new.trail c.loop-literal.head c.in-Some.literal
+      c.walk_both-conflict.ensures.settles.grows c.in-Some.ensures.literal)
+      (none_given c.walk_both-conflict.result _ (sym c.is_some.ensures ∙ c.if-is_some.false)
+      c.walk_both-conflict.ensures.fine (take c.loop-literal.head (held c.loop-literal.trail.literals))
+      (front_grown c.loop-literal.head (held c.loop-literal.trail.literals)) c.loop-literal.invariant.fine);
 }
 
 pub returns-clause-answer : goal.returns-clause-answer
 returns-clause-answer c =
-    rw (take_all c.loop-literal.walked (held c.loop-literal.trail.literals) (omega (arith, c.in_default.ensures.literal, length-map c.loop-literal.trail.literals (λ (e : Assigned). e.literal)))) at c.loop-literal.invariant.fine
+    rw (take_all c.loop-literal.head (held c.loop-literal.trail.literals)
+    (omega (
+      arith,
+      c.in_default.ensures.literal,
+      length-map c.loop-literal.trail.literals (λ (e : Assigned). e.literal),
+    ))) at c.loop-literal.invariant.fine

@@ -8,9 +8,11 @@ use Rattle.sb_clauses.proofs.settle.settle_from.Given as goal
 abbrev pub invariant-loop-literal : goal.invariant-loop-literal
 invariant-loop-literal l = record {
   watched : AreWatched (kept_of l.records) l.first.places.items l.first.lists l.second.places.items l.second.lists;
-  settles : Settles (kept_of l.records) l.initial.first.places.items l.initial.second.places.items l.first.places.items l.second.places.items l.initial.trail l.trail;
-  fine : AreFine (kept_of l.records) (take l.walked (held l.trail.literals)) (held l.trail.literals) l.first.places.items l.second.places.items;
+  settles : Settles (kept_of l.records) l.initial.first.places.items l.initial.second.places.items l.first.places.items
+      l.second.places.items l.initial.trail l.trail;
+  fine : AreFine (kept_of l.records) (take l.head (held l.trail.literals)) (held l.trail.literals)
+      l.first.places.items l.second.places.items;
 }
 
 abbrev pub decreases-loop-literal : goal.decreases-loop-literal
-decreases-loop-literal l = l.trail.reserved - l.walked
+decreases-loop-literal l = l.trail.reserved - l.head

@@ -4,22 +4,32 @@ use Rattle.sb_clauses.proofs.settle.walk_both.Goals as goal
 
 pub returns-then-is_some-clause-watched : goal.returns-then-is_some-clause-watched
 returns-then-is_some-clause-watched c =
-    watched_step _ _ _ _ _ _ _ _ (rw c.deref.ensures.value at c.walk_watching-conflict.ensures.advances) _ c.requires.watched (rw c.deref.ensures.value at c.walk_watching-conflict.ensures.side)
+    watched_step _ _ _ _ _ _ _ _ (rw c.deref.ensures.value at c.walk_watching-conflict.ensures.advances) _
+    c.requires.watched (rw c.deref.ensures.value at c.walk_watching-conflict.ensures.side)
 
 pub walk_watching-requires-clause-side : goal.walk_watching-requires-clause-side
 walk_watching-requires-clause-side c =
-    rw c.deref-2.ensures.value (watched_step _ _ _ _ _ _ _ _ (rw c.deref.ensures.value at c.walk_watching-conflict.ensures.advances) _ c.requires.watched (rw c.deref.ensures.value at c.walk_watching-conflict.ensures.side)).at_second
+    rw c.deref-2.ensures.value
+    (watched_step _ _ _ _ _ _ _ _ (rw c.deref.ensures.value at c.walk_watching-conflict.ensures.advances) _
+    c.requires.watched (rw c.deref.ensures.value at c.walk_watching-conflict.ensures.side)).at_second
 
 pub returns-clause-watched : goal.returns-clause-watched
 returns-clause-watched c =
-    both_watched _ _ _ _ _ _ _ _ _ _ _ _ (rw c.deref.ensures.value at c.walk_watching-conflict.ensures.advances) (rw c.deref-2.ensures.value at c.walk_watching.ensures.advances) c.requires.watched (rw c.deref.ensures.value at c.walk_watching-conflict.ensures.side) (rw c.deref-2.ensures.value at c.walk_watching.ensures.side)
+    both_watched _ _ _ _ _ _ _ _ _ _ _ _ (rw c.deref.ensures.value at c.walk_watching-conflict.ensures.advances)
+    (rw c.deref-2.ensures.value at c.walk_watching.ensures.advances) c.requires.watched
+    (rw c.deref.ensures.value at c.walk_watching-conflict.ensures.side)
+    (rw c.deref-2.ensures.value at c.walk_watching.ensures.side)
 
 pub returns-clause-settles : goal.returns-clause-settles
 returns-clause-settles c =
-    both_settle _ _ _ _ _ _ _ _ _ _ _ _ (rw c.deref.ensures.value at c.walk_watching-conflict.ensures.advances) (rw c.deref-2.ensures.value at c.walk_watching.ensures.advances)
+    both_settle _ _ _ _ _ _ _ _ _ _ _ _ (rw c.deref.ensures.value at c.walk_watching-conflict.ensures.advances)
+    (rw c.deref-2.ensures.value at c.walk_watching.ensures.advances)
 
 pub returns-clause-fine : goal.returns-clause-fine
 returns-clause-fine c =
     if_none c.walk_watching.result _ _ _ c.walk_watching.ensures.answer (λ also.
-    both_fine _ _ _ _ _ _ _ _ _ _ _ _ (rw c.deref.ensures.value at c.walk_watching-conflict.ensures.advances) (rw c.deref-2.ensures.value at c.walk_watching.ensures.advances) c.args.literal c.requires.is_false
-    (rw c.deref.ensures.value at (at_none c.walk_watching-conflict.result _ _ (sym c.is_some.ensures ∙ c.if-is_some.false) c.walk_watching-conflict.ensures.answer)) (rw c.deref-2.ensures.value at also))
+    both_fine _ _ _ _ _ _ _ _ _ _ _ _ (rw c.deref.ensures.value at c.walk_watching-conflict.ensures.advances)
+    (rw c.deref-2.ensures.value at c.walk_watching.ensures.advances) c.args.literal c.requires.is_false
+    (rw c.deref.ensures.value at
+    (at_none c.walk_watching-conflict.result _ _ (sym c.is_some.ensures ∙ c.if-is_some.false)
+    c.walk_watching-conflict.ensures.answer)) (rw c.deref-2.ensures.value at also))

@@ -9,34 +9,44 @@ use Rattle.sb_clauses.proofs.walk.take_turn.Goals as goal
 pub returns-in_default : goal.returns-in_default
 returns-in_default c =
     let ends = sym c.in_default.is ∙ c.pop.ensures.first in
-    rw (c.pop.ensures.rest, popped_none c.args.own.now.lists.lists c.args.list ends) (turn_ends c.args.list _ c.requires ends)
+    rw (c.pop.ensures.rest, popped_none c.args.own.now.lists.lists c.args.list ends)
+    (turn_ends c.args.list _ c.requires ends)
 
 pub returns-in_default-records : goal.returns-in_default-records
 returns-in_default-records c =
     let first = sym c.in-Some.is ∙ c.pop.ensures.first in
     let below = number_below c.args.list _ c.requires c.in-Some.number first in
-    rw c.pop.ensures.rest (turn_drops c.args.list _ c.requires c.in-Some.number first (no_clause_at c.args.records.now c.in-Some.number c.index-records-number.result below c.index-records-number.is c.in_default-records.is))
+    rw c.pop.ensures.rest
+    (turn_drops c.args.list _ c.requires c.in-Some.number first
+    (no_clause_at c.args.records.now c.in-Some.number c.index-records-number.result below c.index-records-number.is
+    c.in_default-records.is))
 
 pub look-requires : goal.look-requires
 look-requires c =
     let first = sym c.in-Some.is ∙ c.pop.ensures.first in
     let below = number_below c.args.list _ c.requires c.in-Some.number first in
-    let has = clause_at c.args.records.now c.in-Some.number c.index-records-number.result c.in-Some-records.record c.deref.result.now below c.index-records-number.is c.in-Some-records.is c.deref.ensures.value in
+    let has = clause_at c.args.records.now c.in-Some.number c.index-records-number.result c.in-Some-records.record
+    c.deref.result.now below c.index-records-number.is c.in-Some-records.is c.deref.ensures.value in
     λ some. ((c.requires.placed c.in-Some.number c.deref.result.now has).inside some).1
 
 pub assign-requires-clause-reserved : goal.assign-requires-clause-reserved
 assign-requires-clause-reserved c =
     let first = sym c.in-Some.is ∙ c.pop.ensures.first in
     let below = number_below c.args.list _ c.requires c.in-Some.number first in
-    let has = clause_at c.args.records.now c.in-Some.number c.index-records-number.result c.in-Some-records.record c.deref.result.now below c.index-records-number.is c.in-Some-records.is c.deref.ensures.value in
-    turn_place c.args.list _ c.requires c.in-Some.number first (rw c.pop.ensures.rest at c.in-Some.ensures.nowhere.1) c.deref.result.now has c.in-Forces.literal c.in-Forces.ensures
+    let has = clause_at c.args.records.now c.in-Some.number c.index-records-number.result c.in-Some-records.record
+    c.deref.result.now below c.index-records-number.is c.in-Some-records.is c.deref.ensures.value in
+    turn_place c.args.list _ c.requires c.in-Some.number first (rw c.pop.ensures.rest at c.in-Some.ensures.nowhere.1)
+    c.deref.result.now has c.in-Forces.literal c.in-Forces.ensures
 
 pub returns-in-Holds : goal.returns-in-Holds
 returns-in-Holds c =
     let first = sym c.in-Some.is ∙ c.pop.ensures.first in
     let below = number_below c.args.list _ c.requires c.in-Some.number first in
-    let has = clause_at c.args.records.now c.in-Some.number c.index-records-number.result c.in-Some-records.record c.deref.result.now below c.index-records-number.is c.in-Some-records.is c.deref.ensures.value in
-    rw (c.push.ensures, c.pop.ensures.rest) (turn_holds c.args.list _ c.requires c.in-Some.number first (rw c.pop.ensures.rest at c.in-Some.ensures.nowhere.1) c.deref.result.now has c.in-Holds.ensures)
+    let has = clause_at c.args.records.now c.in-Some.number c.index-records-number.result c.in-Some-records.record
+    c.deref.result.now below c.index-records-number.is c.in-Some-records.is c.deref.ensures.value in
+    rw (c.push.ensures, c.pop.ensures.rest)
+    (turn_holds c.args.list _ c.requires c.in-Some.number first
+    (rw c.pop.ensures.rest at c.in-Some.ensures.nowhere.1) c.deref.result.now has c.in-Holds.ensures)
 
 pub index_mut-requires : goal.index_mut-requires
 index_mut-requires c =
@@ -48,36 +58,68 @@ pub list_of-requires : goal.list_of-requires
 list_of-requires c =
     let first = sym c.in-Some.is ∙ c.pop.ensures.first in
     let below = number_below c.args.list _ c.requires c.in-Some.number first in
-    let has = clause_at c.args.records.now c.in-Some.number c.index-records-number.result c.in-Some-records.record c.deref.result.now below c.index-records-number.is c.in-Some-records.is c.deref.ensures.value in
-    let read : c.index.result.now ≡ literal_at c.deref.result.now c.in-Moves.place = literal_read c.deref.result.now c.in-Some-records.record.literals.items c.in-Moves.place c.index.result.now c.deref.ensures.value c.in-Moves.ensures.replacement.inside c.index.ensures in
-    rw read (omega (arith, move_small c.args.list _ c.requires c.in-Some.number first (rw c.pop.ensures.rest at c.in-Some.ensures.nowhere.1) c.deref.result.now has c.in-Moves.place c.in-Moves.ensures))
+    let has = clause_at c.args.records.now c.in-Some.number c.index-records-number.result c.in-Some-records.record
+    c.deref.result.now below c.index-records-number.is c.in-Some-records.is c.deref.ensures.value in
+    let read : c.index.result.now ≡ literal_at c.deref.result.now c.in-Moves.place =
+    literal_read c.deref.result.now c.in-Some-records.record.literals.items c.in-Moves.place c.index.result.now
+    c.deref.ensures.value c.in-Moves.ensures.replacement.inside c.index.ensures in
+    rw read (omega (
+      arith,
+      move_small c.args.list _ c.requires c.in-Some.number first
+          (rw c.pop.ensures.rest at c.in-Some.ensures.nowhere.1) c.deref.result.now has c.in-Moves.place
+          c.in-Moves.ensures,
+    ))
 
 pub push-requires-in-Moves-clause-list : goal.push-requires-in-Moves-clause-list
 push-requires-in-Moves-clause-list c =
     let first = sym c.in-Some.is ∙ c.pop.ensures.first in
     let below = number_below c.args.list _ c.requires c.in-Some.number first in
-    let has = clause_at c.args.records.now c.in-Some.number c.index-records-number.result c.in-Some-records.record c.deref.result.now below c.index-records-number.is c.in-Some-records.is c.deref.ensures.value in
-    let read : c.index.result.now ≡ literal_at c.deref.result.now c.in-Moves.place = literal_read c.deref.result.now c.in-Some-records.record.literals.items c.in-Moves.place c.index.result.now c.deref.ensures.value c.in-Moves.ensures.replacement.inside c.index.ensures in
-    rw (c.list_of.ensures, read, c.pop.ensures.rest, length-set c.args.own.now.lists.lists c.args.list (drop 1 (list_at c.args.own.now.lists.lists c.args.list))) (move_inside c.args.list _ c.requires c.in-Some.number first (rw c.pop.ensures.rest at c.in-Some.ensures.nowhere.1) c.deref.result.now has c.in-Moves.place c.in-Moves.ensures)
+    let has = clause_at c.args.records.now c.in-Some.number c.index-records-number.result c.in-Some-records.record
+    c.deref.result.now below c.index-records-number.is c.in-Some-records.is c.deref.ensures.value in
+    let read : c.index.result.now ≡ literal_at c.deref.result.now c.in-Moves.place =
+    literal_read c.deref.result.now c.in-Some-records.record.literals.items c.in-Moves.place c.index.result.now
+    c.deref.ensures.value c.in-Moves.ensures.replacement.inside c.index.ensures in
+    rw (
+      c.list_of.ensures,
+      read,
+      c.pop.ensures.rest,
+      length-set c.args.own.now.lists.lists c.args.list (drop 1 (list_at c.args.own.now.lists.lists c.args.list)),
+    )
+    (move_inside c.args.list _ c.requires c.in-Some.number first
+    (rw c.pop.ensures.rest at c.in-Some.ensures.nowhere.1) c.deref.result.now has c.in-Moves.place
+    c.in-Moves.ensures)
 
 pub returns-in-Forces : goal.returns-in-Forces
 returns-in-Forces c =
     let first = sym c.in-Some.is ∙ c.pop.ensures.first in
     let below = number_below c.args.list _ c.requires c.in-Some.number first in
-    let has = clause_at c.args.records.now c.in-Some.number c.index-records-number.result c.in-Some-records.record c.deref.result.now below c.index-records-number.is c.in-Some-records.is c.deref.ensures.value in
-    rw (c.push-in-Forces.ensures, c.pop.ensures.rest, c.assign.ensures) (turn_forces c.args.list _ c.requires c.in-Some.number first (rw c.pop.ensures.rest at c.in-Some.ensures.nowhere.1) c.deref.result.now has c.in-Forces.literal c.in-Forces.ensures)
+    let has = clause_at c.args.records.now c.in-Some.number c.index-records-number.result c.in-Some-records.record
+    c.deref.result.now below c.index-records-number.is c.in-Some-records.is c.deref.ensures.value in
+    rw (c.push-in-Forces.ensures, c.pop.ensures.rest, c.assign.ensures)
+    (turn_forces c.args.list _ c.requires c.in-Some.number first
+    (rw c.pop.ensures.rest at c.in-Some.ensures.nowhere.1) c.deref.result.now has c.in-Forces.literal
+    c.in-Forces.ensures)
 
 pub returns-in-Moves : goal.returns-in-Moves
 returns-in-Moves c =
     let first = sym c.in-Some.is ∙ c.pop.ensures.first in
     let below = number_below c.args.list _ c.requires c.in-Some.number first in
-    let has = clause_at c.args.records.now c.in-Some.number c.index-records-number.result c.in-Some-records.record c.deref.result.now below c.index-records-number.is c.in-Some-records.is c.deref.ensures.value in
-    let read : c.index.result.now ≡ literal_at c.deref.result.now c.in-Moves.place = literal_read c.deref.result.now c.in-Some-records.record.literals.items c.in-Moves.place c.index.result.now c.deref.ensures.value c.in-Moves.ensures.replacement.inside c.index.ensures in
-    rw (c.push-in-Moves.ensures, c.pop.ensures.rest, c.list_of.ensures, read) (turn_moves c.args.list _ c.requires c.in-Some.number first (rw c.pop.ensures.rest at c.in-Some.ensures.nowhere.1) c.deref.result.now has c.in-Moves.place c.in-Moves.ensures)
+    let has = clause_at c.args.records.now c.in-Some.number c.index-records-number.result c.in-Some-records.record
+    c.deref.result.now below c.index-records-number.is c.in-Some-records.is c.deref.ensures.value in
+    let read : c.index.result.now ≡ literal_at c.deref.result.now c.in-Moves.place =
+    literal_read c.deref.result.now c.in-Some-records.record.literals.items c.in-Moves.place c.index.result.now
+    c.deref.ensures.value c.in-Moves.ensures.replacement.inside c.index.ensures in
+    rw (c.push-in-Moves.ensures, c.pop.ensures.rest, c.list_of.ensures, read)
+    (turn_moves c.args.list _ c.requires c.in-Some.number first
+    (rw c.pop.ensures.rest at c.in-Some.ensures.nowhere.1) c.deref.result.now has c.in-Moves.place
+    c.in-Moves.ensures)
 
 pub returns-in-False : goal.returns-in-False
 returns-in-False c =
     let first = sym c.in-Some.is ∙ c.pop.ensures.first in
     let below = number_below c.args.list _ c.requires c.in-Some.number first in
-    let has = clause_at c.args.records.now c.in-Some.number c.index-records-number.result c.in-Some-records.record c.deref.result.now below c.index-records-number.is c.in-Some-records.is c.deref.ensures.value in
-    rw (c.push-in-False.ensures, c.pop.ensures.rest) (turn_stops c.args.list _ c.requires c.in-Some.number first (rw c.pop.ensures.rest at c.in-Some.ensures.nowhere.1) c.deref.result.now has c.in-False.ensures)
+    let has = clause_at c.args.records.now c.in-Some.number c.index-records-number.result c.in-Some-records.record
+    c.deref.result.now below c.index-records-number.is c.in-Some-records.is c.deref.ensures.value in
+    rw (c.push-in-False.ensures, c.pop.ensures.rest)
+    (turn_stops c.args.list _ c.requires c.in-Some.number first
+    (rw c.pop.ensures.rest at c.in-Some.ensures.nowhere.1) c.deref.result.now has c.in-False.ensures)

@@ -8,7 +8,9 @@ loop-id-preserved c = record {
 }
 
 pub returns-in-Ends-clause-advances : goal.returns-in-Ends-clause-advances
-returns-in-Ends-clause-advances c = advances_then _ _ _ _ _ _ _ _ _ _ _ c.loop-id.invariant.advances c.take_turn.ensures.advances
+returns-in-Ends-clause-advances c =
+    advances_then _ _ _ _ _ _ _ _ _ _ _ c.loop-id.invariant.advances c.take_turn.ensures.advances
 
 pub returns-in-Stops-clause-advances : goal.returns-in-Stops-clause-advances
-returns-in-Stops-clause-advances c = advances_then _ _ _ _ _ _ _ _ _ _ _ c.loop-id.invariant.advances c.take_turn.ensures.advances
+returns-in-Stops-clause-advances c =
+    advances_then _ _ _ _ _ _ _ _ _ _ _ c.loop-id.invariant.advances c.take_turn.ensures.advances

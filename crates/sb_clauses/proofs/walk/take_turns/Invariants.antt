@@ -6,8 +6,31 @@ use Rattle.sb_clauses.proofs.walk.take_turns.Given as goal
 
 abbrev pub invariant-loop-id : goal.invariant-loop-id
 invariant-loop-id l = record {
-  walking : IsWalking l.list (record { kept = kept_of l.records; own = l.own.places.items; other = l.other; all = l.own.lists; trail = l.trail });
-  advances : Advances (record { kept = kept_of l.records; own = l.initial.own.places.items; other = l.other; all = l.initial.own.lists; trail = l.initial.trail }) (record { kept = kept_of l.records; own = l.own.places.items; other = l.other; all = l.own.lists; trail = l.trail });
+  walking : IsWalking l.list
+      (record {
+        kept = kept_of l.records;
+        own = l.own.places.items;
+        other = l.other;
+        all = l.own.lists;
+        trail =
+            l.trail;
+      });
+  advances : Advances (record {
+    kept = kept_of l.records;
+    own = l.initial.own.places.items;
+    other = l.other;
+    all =
+        l.initial.own.lists;
+    trail = l.initial.trail;
+  })
+      (record {
+        kept = kept_of l.records;
+        own = l.own.places.items;
+        other = l.other;
+        all = l.own.lists;
+        trail =
+            l.trail;
+      });
 }
 
 abbrev pub decreases-loop-id : goal.decreases-loop-id

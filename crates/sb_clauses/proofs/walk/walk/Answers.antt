@@ -4,7 +4,8 @@ use Rattle.sb_clauses.proofs.walk.walk.Goals as goal
 
 pub take_turns-conflict-requires : goal.take_turns-conflict-requires
 take_turns-conflict-requires c =
-    walk_begins c.args.list _ c.requires.side c.requires.room c.requires.are_false c.requires.begun (omega (arith, c.if-list-len.false, c.len.ensures))
+    walk_begins c.args.list _ c.requires.side c.requires.room c.requires.are_false c.requires.begun
+    (omega (arith, c.if-list-len.false, c.len.ensures))
 
 pub returns-clause-side : goal.returns-clause-side
 returns-clause-side c =

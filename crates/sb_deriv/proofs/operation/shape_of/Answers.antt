@@ -11,29 +11,38 @@ returns-in-Eps c = shape_eps c.args.arena.now _ _ c.node.ensures.value c.in-Eps.
 
 pub returns-in_ok-from_slice-in-Set : goal.returns-in_ok-from_slice-in-Set
 returns-in_ok-from_slice-in-Set c =
-    shape_set c.args.arena.now c.args.id c.in-Set.ranges.items _ c.normal_regexes_each_once.ensures.normal c.requires (ap (node_regex c.args.arena.now) (sym c.in-Set.is) ∙ c.node.ensures.value) (c.in_ok-from_slice-in-Set.ensures.items ∙ c.as_slice.ensures.value)
+    shape_set c.args.arena.now c.args.id c.in-Set.ranges.items _ c.normal_regexes_each_once.ensures.normal c.requires
+    (ap (node_regex c.args.arena.now) (sym c.in-Set.is) ∙ c.node.ensures.value)
+    (c.in_ok-from_slice-in-Set.ensures.items ∙ c.as_slice.ensures.value)
 
 pub returns-in-Cat : goal.returns-in-Cat
 returns-in-Cat c =
-    let parts = rw (c.in-Cat.is) at c.node.ensures.parts in
-    (parts 0 0 (omega arith), parts 1 0 (omega arith), sym (ap (node_regex c.args.arena.now) (sym c.in-Cat.is) ∙ c.node.ensures.value))
+    let parts = rw (c.in-Cat.is) at c.node.ensures.parts in (
+      parts 0 0 (omega arith),
+      parts 1 0 (omega arith),
+      sym (ap (node_regex c.args.arena.now) (sym c.in-Cat.is) ∙ c.node.ensures.value),
+    )
 
 pub returns-in_ok-parts-in-Alt : goal.returns-in_ok-parts-in-Alt
 returns-in_ok-parts-in-Alt c =
     let parts = rw (c.in-Alt.is) at c.node.ensures.parts in
-    made_alt c.args.arena.now c.args.id c.in-Alt.parts.items _ parts (ap (node_regex c.args.arena.now) (sym c.in-Alt.is) ∙ c.node.ensures.value) (c.in_ok-parts-in-Alt.ensures.items ∙ c.as_slice-in-Alt.ensures)
+    made_alt c.args.arena.now c.args.id c.in-Alt.parts.items _ parts (ap (node_regex c.args.arena.now) (sym c.in-Alt.is)
+    ∙ c.node.ensures.value) (c.in_ok-parts-in-Alt.ensures.items ∙ c.as_slice-in-Alt.ensures)
 
 pub returns-in_ok-parts-in-And : goal.returns-in_ok-parts-in-And
 returns-in_ok-parts-in-And c =
     let parts = rw (c.in-And.is) at c.node.ensures.parts in
-    made_and c.args.arena.now c.args.id c.in-And.parts.items _ parts (ap (node_regex c.args.arena.now) (sym c.in-And.is) ∙ c.node.ensures.value) (c.in_ok-parts-in-And.ensures.items ∙ c.as_slice-in-And.ensures)
+    made_and c.args.arena.now c.args.id c.in-And.parts.items _ parts (ap (node_regex c.args.arena.now) (sym c.in-And.is)
+    ∙ c.node.ensures.value) (c.in_ok-parts-in-And.ensures.items ∙ c.as_slice-in-And.ensures)
 
 pub returns-in_ok-parts-in-Not : goal.returns-in_ok-parts-in-Not
 returns-in_ok-parts-in-Not c =
     let parts = rw (c.in-Not.is) at c.node.ensures.parts in
-    made_not c.args.arena.now c.args.id c.in-Not.a _ parts (ap (node_regex c.args.arena.now) (sym c.in-Not.is) ∙ c.node.ensures.value) c.in_ok-parts-in-Not.ensures.items
+    made_not c.args.arena.now c.args.id c.in-Not.a _ parts (ap (node_regex c.args.arena.now) (sym c.in-Not.is)
+    ∙ c.node.ensures.value) c.in_ok-parts-in-Not.ensures.items
 
 pub returns-in_ok-parts-in-Star : goal.returns-in_ok-parts-in-Star
 returns-in_ok-parts-in-Star c =
     let parts = rw (c.in-Star.is) at c.node.ensures.parts in
-    made_star c.args.arena.now c.args.id c.in-Star.a _ c.requires parts (ap (node_regex c.args.arena.now) (sym c.in-Star.is) ∙ c.node.ensures.value) c.in_ok-parts-in-Star.ensures.items
+    made_star c.args.arena.now c.args.id c.in-Star.a _ c.requires parts
+    (ap (node_regex c.args.arena.now) (sym c.in-Star.is) ∙ c.node.ensures.value) c.in_ok-parts-in-Star.ensures.items

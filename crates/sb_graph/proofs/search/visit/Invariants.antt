@@ -3,4 +3,5 @@ use Rattle.sb_graph.specs.Queue.{visited}
 use Rattle.sb_graph.proofs.search.visit.Given as goal
 
 abbrev pub invariant-loop-start : goal.invariant-loop-start
-invariant-loop-start l = visited l.dead l.place l.queue (drop l.start-index l.pieces) ≡ visited l.dead l.place l.fn.queue l.pieces
+invariant-loop-start l =
+    visited l.dead l.place l.queue (drop l.start-index l.pieces) ≡ visited l.dead l.place l.fn.queue l.pieces

@@ -6,4 +6,5 @@ use Rattle.sb_reader.proofs.Passes.{all_pass_is}
 use Rattle.sb_reader.proofs.kind.all_digits.Goals as goal
 
 pub returns : goal.returns
-returns c = all_from_yields_List is_digit _ _ _ c.all.ensures.ran (YieldsList-from_slice c.args.bytes.now cc) (λ x b q k. search (rules, tests)) ∙ sym (all_pass_is is_digit c.args.bytes.now)
+returns c = all_from_yields_List is_digit _ _ _ c.all.ensures.ran (YieldsList-from_slice c.args.bytes.now cc)
+    (λ x b q k. search (rules, tests)) ∙ sym (all_pass_is is_digit c.args.bytes.now)

@@ -11,11 +11,14 @@ pub returns-then-is_numeral : goal.returns-then-is_numeral
 returns-then-is_numeral c =
     let xs = c.args.bytes.now in
     let i = c.point_or_end-point.result in
-    let fraction = c.some_digits.ensures ∙ ap (some_pass is_digit) (between_to_end xs (i + 1) (length xs) (omega arith)) in
-    ap (λ b. b && c.some_digits.result) (sym c.if-is_numeral.true) ∙ decimal_at xs i _ _ c.point_or_end-point.ensures.at c.is_numeral.ensures fraction
+    let fraction = c.some_digits.ensures ∙ ap (some_pass is_digit) (between_to_end xs (i + 1) (length xs) (omega arith))
+    in
+    ap (λ b. b && c.some_digits.result) (sym c.if-is_numeral.true)
+    ∙ decimal_at xs i _ _ c.point_or_end-point.ensures.at c.is_numeral.ensures fraction
 
 pub returns-else-is_numeral : goal.returns-else-is_numeral
 returns-else-is_numeral c =
     let xs = c.args.bytes.now in
     let i = c.point_or_end-point.result in
-    c.if-is_numeral.false ∙ ap (λ b. b && some_pass is_digit (drop (i + 1) xs)) (sym c.if-is_numeral.false) ∙ decimal_at xs i _ _ c.point_or_end-point.ensures.at c.is_numeral.ensures refl
+    c.if-is_numeral.false ∙ ap (λ b. b && some_pass is_digit (drop (i + 1) xs)) (sym c.if-is_numeral.false)
+    ∙ decimal_at xs i _ _ c.point_or_end-point.ensures.at c.is_numeral.ensures refl

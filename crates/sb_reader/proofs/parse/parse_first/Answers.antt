@@ -27,8 +27,10 @@ returns-after-branch-2 c =
     elim c.match-branch-2.branch [
       | in-Some-2 w ↦
           let good = subst (λ o. IsAtom o token) w.in-Some-2.is c.in_ok-atom-in_default-lexeme.ensures in
-          ok_answer c.args.bytes.now _ (Some (Err BareToken)) w.result-is (bare_answer token c.args.bytes.now c.in-Some.rest.now false good.0 atom c.in-Some.ensures.lexed)
+          ok_answer c.args.bytes.now _ (Some (Err BareToken)) w.result-is
+          (bare_answer token c.args.bytes.now c.in-Some.rest.now false good.0 atom c.in-Some.ensures.lexed)
       | in-None w ↦
           let bad = subst (λ o. IsAtom o token) w.in-None.is c.in_ok-atom-in_default-lexeme.ensures in
-          ok_answer c.args.bytes.now _ (Some (Err BadToken)) w.result-is (bare_answer token c.args.bytes.now c.in-Some.rest.now true bad atom c.in-Some.ensures.lexed)
+          ok_answer c.args.bytes.now _ (Some (Err BadToken)) w.result-is
+          (bare_answer token c.args.bytes.now c.in-Some.rest.now true bad atom c.in-Some.ensures.lexed)
     ]

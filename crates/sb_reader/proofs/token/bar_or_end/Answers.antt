@@ -5,7 +5,12 @@ use Rattle.sb_reader.proofs.Positions.{unwrapped, position_or_len-le}
 use Rattle.sb_reader.proofs.token.bar_or_end.Goals as goal
 
 pub returns-clause-at : goal.returns-clause-at
-returns-clause-at c = c.unwrap_or.ensures ∙ unwrapped (λ b. b == 124) c.args.inside.now _ (position_from_yields_List (λ b. b == 124) _ _ _ c.position.ensures.ran (YieldsList-from_slice c.args.inside.now cc) (λ x b q k. search (rules, tests)))
+returns-clause-at c =
+    c.unwrap_or.ensures
+    ∙ unwrapped (λ b. b == 124) c.args.inside.now _
+    (position_from_yields_List (λ b. b == 124) _ _ _ c.position.ensures.ran (YieldsList-from_slice c.args.inside.now cc)
+    (λ x b q k. search (rules, tests)))
 
 pub returns-clause-within : goal.returns-clause-within
-returns-clause-within c = let at : _ = returns-clause-at c in omega (arith, at, position_or_len-le (λ b. b == 124) c.args.inside.now)
+returns-clause-within c = let at : _ = returns-clause-at c in
+    omega (arith, at, position_or_len-le (λ b. b == 124) c.args.inside.now)

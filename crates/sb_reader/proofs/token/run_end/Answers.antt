@@ -6,7 +6,12 @@ use Rattle.sb_reader.proofs.Positions.{unwrapped, position_or_len-le}
 use Rattle.sb_reader.proofs.token.run_end.Goals as goal
 
 pub returns-clause-at : goal.returns-clause-at
-returns-clause-at c = c.unwrap_or.ensures ∙ unwrapped (λ b. not (is_run_byte b)) c.args.bytes.now _ (position_from_yields_List (λ b. not (is_run_byte b)) _ _ _ c.position.ensures.ran (YieldsList-from_slice c.args.bytes.now cc) (λ x b q k. search (rules, tests)))
+returns-clause-at c =
+    c.unwrap_or.ensures
+    ∙ unwrapped (λ b. not (is_run_byte b)) c.args.bytes.now _
+    (position_from_yields_List (λ b. not (is_run_byte b)) _ _ _ c.position.ensures.ran
+    (YieldsList-from_slice c.args.bytes.now cc) (λ x b q k. search (rules, tests)))
 
 pub returns-clause-within : goal.returns-clause-within
-returns-clause-within c = let at : _ = returns-clause-at c in omega (arith, at, position_or_len-le (λ b. not (is_run_byte b)) c.args.bytes.now)
+returns-clause-within c = let at : _ = returns-clause-at c in
+    omega (arith, at, position_or_len-le (λ b. not (is_run_byte b)) c.args.bytes.now)

@@ -1,6 +1,6 @@
 use Rattle.std.proofs.Common.{map, take}
 use Rattle.sb_regex.specs.Numbered.{Extends}
-use Rattle.sb_stack.specs.Kept.{assertion_in}
+use Rattle.sb_stack.specs.Stacked.{assertion_in}
 use Rattle.sb_session.specs.Deciding.{IsSofar}
 use Rattle.sb_session.proofs.check.memberships.Given as goal
 

@@ -11,10 +11,15 @@ use Rattle.sb_session.proofs.solve.answer_script.Goals as goal
 pub loop-count-init : goal.loop-count-init
 loop-count-init g c = record {
   within = omega arith;
-  goes_on = ap (λ (k : feed.Kept). k.1) c.requires.feed;
+  goes_on = ap (λ (k : feed.Unanswered). k.1) c.requires.feed;
   session_goes_on = c.requires.goes_on;
   faults = refl;
-  underway = λ old e. ([], refl, underway_start old (g.W.World.outside c.args.world.now) c.args.feed.now c.args.session.now e c.requires.feed c.requires.state c.requires.goes_on);
+  underway = λ old e. (
+    [],
+    refl,
+    underway_start old (g.W.World.outside c.args.world.now) c.args.feed.now c.args.session.now e c.requires.feed
+        c.requires.state c.requires.goes_on,
+  );
 }
 
 pub returns-in_err-read-clause-err : goal.returns-in_err-read-clause-err
@@ -23,22 +28,26 @@ returns-in_err-read-clause-err g c =
     rw p.1
     (λ old e.
     let way = c.loop-count.invariant.underway old e in
-    underway_cut old way.0 c.loop-count.feed c.loop-count.session (g.W.World.outside c.loop-count.world) (g.W.World.outside c.read.new.self) way.2 c.in_err-read.ensures.err)
+    underway_cut old way.0 c.loop-count.feed c.loop-count.session (g.W.World.outside c.loop-count.world)
+    (g.W.World.outside c.read.new.self) way.2 c.in_err-read.ensures.err)
 
 pub returns-clause-ok : goal.returns-clause-ok
 returns-clause-ok g c old e =
     let way = c.loop-count.invariant.underway old e in
-    past_limit old way.0 c.loop-count.feed c.loop-count.session (g.W.World.outside c.loop-count.world) (let h = way.1 in omega arith) way.2
+    past_limit old way.0 c.loop-count.feed c.loop-count.session (g.W.World.outside c.loop-count.world) (let h = way.1 in
+    omega arith) way.2
 
 pub returns-then-read-eq0-clause-ok : goal.returns-then-read-eq0-clause-ok
 returns-then-read-eq0-clause-ok g c =
     let before = g.W.World.outside c.loop-count.world in
     let now = g.W.World.outside c.read.new.self in
-    end_ok c.answer_end.result (g.W.World.outside c.args.world.now) now (g.W.World.outside c.answer_end.new.world) c.loop-count.feed c.loop-count.session
+    end_ok c.answer_end.result (g.W.World.outside c.args.world.now) now (g.W.World.outside c.answer_end.new.world)
+    c.loop-count.feed c.loop-count.session
     (λ old e.
     let way = c.loop-count.invariant.underway old e in (
       way.0,
-      all_read old way.0 c.read.new.buffer c.in_ok-read.read c.loop-count.feed c.loop-count.session before now c.if-read-eq0.true (let h = way.1 in omega arith) way.2 c.in_ok-read.ensures.moved c.in_ok-read.ensures.bytes,
+      all_read old way.0 c.read.new.buffer c.in_ok-read.read c.loop-count.feed c.loop-count.session before now
+          c.if-read-eq0.true (let h = way.1 in omega arith) way.2 c.in_ok-read.ensures.moved c.in_ok-read.ensures.bytes,
     ))
     c.answer_end.ensures.ok
 
@@ -46,17 +55,20 @@ pub returns-then-read-eq0-clause-err : goal.returns-then-read-eq0-clause-err
 returns-then-read-eq0-clause-err g c =
     let before = g.W.World.outside c.loop-count.world in
     let now = g.W.World.outside c.read.new.self in
-    end_err c.answer_end.result (g.W.World.outside c.args.world.now) now (g.W.World.outside c.answer_end.new.world) c.loop-count.feed c.loop-count.session
+    end_err c.answer_end.result (g.W.World.outside c.args.world.now) now (g.W.World.outside c.answer_end.new.world)
+    c.loop-count.feed c.loop-count.session
     (λ old e.
     let way = c.loop-count.invariant.underway old e in (
       way.0,
-      all_read old way.0 c.read.new.buffer c.in_ok-read.read c.loop-count.feed c.loop-count.session before now c.if-read-eq0.true (let h = way.1 in omega arith) way.2 c.in_ok-read.ensures.moved c.in_ok-read.ensures.bytes,
+      all_read old way.0 c.read.new.buffer c.in_ok-read.read c.loop-count.feed c.loop-count.session before now
+          c.if-read-eq0.true (let h = way.1 in omega arith) way.2 c.in_ok-read.ensures.moved c.in_ok-read.ensures.bytes,
     ))
     c.answer_end.ensures.err
 
 pub returns-in_err-answer_piece-clause-err : goal.returns-in_err-answer_piece-clause-err
 returns-in_err-answer_piece-clause-err g c =
-    let p = err_from_is_err_and c.from_residual-in_err-answer_piece.result c.from_residual-in_err-answer_piece.ensures.1 in
+    let p = err_from_is_err_and c.from_residual-in_err-answer_piece.result c.from_residual-in_err-answer_piece.ensures.1
+    in
     let before = g.W.World.outside c.loop-count.world in
     let buffer = c.read.new.buffer in
     let rest = drop c.min-room.result c.loop-count.buffer in
@@ -66,9 +78,11 @@ returns-in_err-answer_piece-clause-err g c =
     (λ old e.
     let way = c.loop-count.invariant.underway old e in
     piece_cut old (way.0 ++ take count (buffer ++ rest)) (g.W.World.outside c.answer_piece.new.world)
-    (piece_front old way.0 buffer rest count c.loop-count.feed c.loop-count.session before fits way.2 c.in_ok-read.ensures.bytes)
+    (piece_front old way.0 buffer rest count c.loop-count.feed c.loop-count.session before fits way.2
+    c.in_ok-read.ensures.bytes)
     (c.in_err-answer_piece.ensures.err (opened old) way.0 before way.2.left.sofar
-    (piece_moved old way.0 buffer rest count c.loop-count.feed c.loop-count.session before fits way.2 c.in_ok-read.ensures.bytes (g.W.World.outside c.read.new.self) c.in_ok-read.ensures.moved)))
+    (piece_moved old way.0 buffer rest count c.loop-count.feed c.loop-count.session before fits way.2
+    c.in_ok-read.ensures.bytes (g.W.World.outside c.read.new.self) c.in_ok-read.ensures.moved)))
 
 pub returns-then-eq-clause-ok : goal.returns-then-eq-clause-ok
 returns-then-eq-clause-ok g c old e =
@@ -82,13 +96,18 @@ returns-then-eq-clause-ok g c old e =
     let way = c.loop-count.invariant.underway old e in
     let room : count ≤ c.min-room.result = search rules in
     let limit : length way.0 + count ≤ input_limit = let h = way.1 in omega arith in
-    let e = longer old way.0 buffer rest count c.loop-count.feed c.loop-count.session before fits way.2 c.in_ok-read.ensures.bytes in
-    piece_exit old (way.0 ++ take count (buffer ++ rest)) c.answer_piece.new.feed.1 now c.in_ok-answer_piece.ensures.finished
-    (piece_front old way.0 buffer rest count c.loop-count.feed c.loop-count.session before fits way.2 c.in_ok-read.ensures.bytes)
+    let e = longer old way.0 buffer rest count c.loop-count.feed c.loop-count.session before fits way.2
+    c.in_ok-read.ensures.bytes in
+    piece_exit old (way.0 ++ take count (buffer ++ rest)) c.answer_piece.new.feed.1 now
+    c.in_ok-answer_piece.ensures.finished
+    (piece_front old way.0 buffer rest count c.loop-count.feed c.loop-count.session before fits way.2
+    c.in_ok-read.ensures.bytes)
     (omega arith)
-    (subst (λ (pause : Pause). Pauses pause (opened old) (way.0 ++ take count (buffer ++ rest)) c.answer_piece.new.feed c.answer_piece.new.session now) exits
+    (subst (λ (pause : Pause). Pauses pause (opened old) (way.0 ++ take count (buffer ++ rest)) c.answer_piece.new.feed
+    c.answer_piece.new.session now) exits
     (c.in_ok-answer_piece.ensures.ok (opened old) way.0 before way.2.left.sofar
-    (piece_moved old way.0 buffer rest count c.loop-count.feed c.loop-count.session before fits way.2 c.in_ok-read.ensures.bytes (g.W.World.outside c.read.new.self) c.in_ok-read.ensures.moved)))
+    (piece_moved old way.0 buffer rest count c.loop-count.feed c.loop-count.session before fits way.2
+    c.in_ok-read.ensures.bytes (g.W.World.outside c.read.new.self) c.in_ok-read.ensures.moved)))
 
 pub loop-count-preserved : goal.loop-count-preserved
 loop-count-preserved g c =
@@ -102,15 +121,20 @@ loop-count-preserved g c =
     record {
       within = let room : count ≤ c.min-room.result = search rules in omega arith;
       goes_on = c.in_ok-answer_piece.ensures.finished;
-      session_goes_on = stays_open c.in_ok-answer_piece.field-0 c.answer_piece.new.session ne c.in_ok-answer_piece.ensures.goes_on;
+      session_goes_on = stays_open c.in_ok-answer_piece.field-0 c.answer_piece.new.session ne
+          c.in_ok-answer_piece.ensures.goes_on;
       faults = c.in_ok-answer_piece.ensures.faults ∙ c.in_ok-read.ensures.counts ∙ c.loop-count.invariant.faults;
       underway = λ old e.
           let way = c.loop-count.invariant.underway old e in
-          let front = piece_front old way.0 buffer rest count c.loop-count.feed c.loop-count.session before fits way.2 c.in_ok-read.ensures.bytes in (
+          let front = piece_front old way.0 buffer rest count c.loop-count.feed c.loop-count.session before fits way.2
+          c.in_ok-read.ensures.bytes in (
             way.0 ++ take count (buffer ++ rest),
-            longer old way.0 buffer rest count c.loop-count.feed c.loop-count.session before fits way.2 c.in_ok-read.ensures.bytes ∙ ap (λ (n : ℕ). n + count) way.1,
-            piece_on c.in_ok-answer_piece.field-0 old (way.0 ++ take count (buffer ++ rest)) c.answer_piece.new.feed c.answer_piece.new.session now ne c.in_ok-answer_piece.ensures.finished front
+            longer old way.0 buffer rest count c.loop-count.feed c.loop-count.session before fits way.2
+                c.in_ok-read.ensures.bytes ∙ ap (λ (n : ℕ). n + count) way.1,
+            piece_on c.in_ok-answer_piece.field-0 old (way.0 ++ take count (buffer ++ rest)) c.answer_piece.new.feed
+                c.answer_piece.new.session now ne c.in_ok-answer_piece.ensures.finished front
                 (c.in_ok-answer_piece.ensures.ok (opened old) way.0 before way.2.left.sofar
-                (piece_moved old way.0 buffer rest count c.loop-count.feed c.loop-count.session before fits way.2 c.in_ok-read.ensures.bytes (g.W.World.outside c.read.new.self) c.in_ok-read.ensures.moved)),
+                (piece_moved old way.0 buffer rest count c.loop-count.feed c.loop-count.session before fits way.2
+                c.in_ok-read.ensures.bytes (g.W.World.outside c.read.new.self) c.in_ok-read.ensures.moved)),
           );
     }

@@ -14,7 +14,8 @@ invariant-loop-count g l =
       faults : g.W.World.faults l.world ≡ g.W.World.faults l.fn.world;
       underway :
           (old : Outside) → g.W.World.outside l.fn.world ≡ opened old
-          → (bytes : List ℕ) × (length bytes ≡ l.count) × Underway old bytes l.feed l.session (g.W.World.outside l.world);
+          → (bytes : List ℕ) × (length bytes ≡ l.count)
+          × Underway old bytes l.feed l.session (g.W.World.outside l.world);
     }
 
 abbrev pub decreases-loop-count : goal.decreases-loop-count

@@ -3,11 +3,15 @@ use Rattle.sb_session.proofs.solve.answer_standard_input.Goals as goal
 
 pub returns-clause-ok : goal.returns-clause-ok
 returns-clause-ok g c =
-    run_from c.answer_script.result (g.W.World.outside c.args.world.now) (g.W.World.outside c.open_input.new.self) (g.W.World.outside c.answer_script.new.world)
-    (g.W.World.faults c.args.world.now) (g.W.World.faults c.open_input.new.self) (g.W.World.faults c.answer_script.new.world)
-    c.in_ok-open_input.ensures.opened c.in_ok-open_input.ensures.counts c.answer_script.ensures.ok c.answer_script.ensures.counts
+    run_from c.answer_script.result (g.W.World.outside c.args.world.now) (g.W.World.outside c.open_input.new.self)
+    (g.W.World.outside c.answer_script.new.world)
+    (g.W.World.faults c.args.world.now) (g.W.World.faults c.open_input.new.self)
+    (g.W.World.faults c.answer_script.new.world)
+    c.in_ok-open_input.ensures.opened c.in_ok-open_input.ensures.counts c.answer_script.ensures.ok
+    c.answer_script.ensures.counts
 
 pub returns-clause-err : goal.returns-clause-err
 returns-clause-err g c =
-    cut_from c.answer_script.result (g.W.World.outside c.args.world.now) (g.W.World.outside c.open_input.new.self) (g.W.World.outside c.answer_script.new.world)
+    cut_from c.answer_script.result (g.W.World.outside c.args.world.now) (g.W.World.outside c.open_input.new.self)
+    (g.W.World.outside c.answer_script.new.world)
     c.in_ok-open_input.ensures.opened c.answer_script.ensures.err

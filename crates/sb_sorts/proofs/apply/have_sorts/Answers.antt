@@ -7,5 +7,8 @@ use Rattle.sb_sorts.proofs.apply.have_sorts.Goals as goal
 
 pub returns : goal.returns
 returns c =
-    let pairs = YieldsList-from_zip (YieldsList-at c.zip.ensures.first (YieldsList-from_slice c.args.sorts.now c.iter.ensures.rest)) (YieldsList-at c.zip.ensures.second (YieldsList-from_slice c.args.terms.now c.iter-2.ensures.rest)) in
-    all_from_yields_List fits c.all.new.self _ c.all.result c.all.ensures.ran pairs (λ x b q k. search (rules, tests)) ∙ kinds_zip c.args.sorts.now c.args.terms.now c.requires
+    let pairs = YieldsList-from_zip
+    (YieldsList-at c.zip.ensures.first (YieldsList-from_slice c.args.sorts.now c.iter.ensures.rest))
+    (YieldsList-at c.zip.ensures.second (YieldsList-from_slice c.args.terms.now c.iter-2.ensures.rest)) in
+    all_from_yields_List fits c.all.new.self _ c.all.result c.all.ensures.ran pairs (λ x b q k. search (rules, tests))
+    ∙ kinds_zip c.args.sorts.now c.args.terms.now c.requires

@@ -7,4 +7,6 @@ use Rattle.sb_sorts.proofs.head.read_front.Goals as goal
 
 pub returns-clause-reads : goal.returns-clause-reads
 returns-clause-reads c =
-    subst (λ reading. Gives beginning_in reading c.read_some_front.result) (begun (names_in c.args.scope.now) (form_of c.args.first.now) c.args.others.now c.is_empty.result c.is_empty.ensures c.if-is_empty.false) c.read_some_front.ensures.reads
+    subst (λ reading. Gives beginning_in reading c.read_some_front.result)
+    (begun (names_in c.args.scope.now) (form_of c.args.first.now) c.args.others.now c.is_empty.result
+    c.is_empty.ensures c.if-is_empty.false) c.read_some_front.ensures.reads

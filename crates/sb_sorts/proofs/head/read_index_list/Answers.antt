@@ -11,9 +11,11 @@ pub returns-in-Some-clause-reads : goal.returns-in-Some-clause-reads
 returns-in-Some-clause-reads c =
     let names = names_in c.args.scope.now in
     let by = indexed names c.args.forms.now c.first-item.result (omega arith) c.first-item.is in
-    subst (λ reading. Gives head_in reading c.read_indexed.result) (sym (by ∙ ap (by_name names) (sym c.in-Some.ensures))) c.read_indexed.ensures.reads
+    subst (λ reading. Gives head_in reading c.read_indexed.result)
+    (sym (by ∙ ap (by_name names) (sym c.in-Some.ensures))) c.read_indexed.ensures.reads
 
 pub returns-in-None-clause-reads : goal.returns-in-None-clause-reads
 returns-in-None-clause-reads c =
     let names = names_in c.args.scope.now in
-    indexed names c.args.forms.now c.first-item.result (omega arith) c.first-item.is ∙ ap (by_name names) (sym c.in-None.ensures)
+    indexed names c.args.forms.now c.first-item.result (omega arith) c.first-item.is
+    ∙ ap (by_name names) (sym c.in-None.ensures)

@@ -6,4 +6,5 @@ behind_false false b r h e = e
 behind_false true b r h e = cc
 
 pub returns-else-is_among : goal.returns-else-is_among
-returns-else-is_among c = behind_false _ _ _ (sym c.is_among.ensures ∙ c.if-is_among.false) c.is_among-else-is_among.ensures
+returns-else-is_among c =
+    behind_false _ _ _ (sym c.is_among.ensures ∙ c.if-is_among.false) c.is_among-else-is_among.ensures

@@ -6,7 +6,8 @@ use Rattle.sb_sorts.proofs.Sizes.{size, size_of_slice}
 use Rattle.sb_sorts.proofs.read.+read.Given as goal
 
 abbrev pub invariant-read_all-loop-form : goal.invariant-read_all-loop-form
-invariant-read_all-loop-form l = HasRead (names_in l.scope) l.scope.declared l.forms l.terms.items (drop l.form-index l.forms)
+invariant-read_all-loop-form l =
+    HasRead (names_in l.scope) l.scope.declared l.forms l.terms.items (drop l.form-index l.forms)
 
 abbrev pub decreases-read_term : goal.decreases-read_term
 decreases-read_term l = 3 * size (form_of l.form.now)

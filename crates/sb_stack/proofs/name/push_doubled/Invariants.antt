@@ -1,6 +1,6 @@
 use Rattle.std.proofs.Common.{◌≡◌, ◌++◌, take}
 use Rattle.std.specs.List.{flat_map}
-use Rattle.sb_meaning.specs.Names.{with_doubled_quote}
+use Rattle.sb_script.specs.Names.{with_doubled_quote}
 use Rattle.sb_stack.proofs.name.push_doubled.Given as goal
 
 abbrev pub invariant-loop-byte : goal.invariant-loop-byte

@@ -9,6 +9,11 @@ loop-place-preserved c =
     let names = c.args.scope.now.names in
     let place = c.loop-place.place in
     elim c.match-named.branch [
-      | in-Constant+in_ok-push w ↦ ap (λ found. map constant_in found.items) w.found-is ∙ constant_step names place (record { name = c.in-Some.name; serial = w.in-Constant.serial }) c.in-Some.named c.loop-place.found.items _ c.in-Some.ensures w.in-Constant.is w.in_ok-push.ensures.items c.loop-place.invariant
-      | in_default-named w ↦ ap (λ found. map constant_in found.items) w.found-is ∙ mark_step names place c.in-Some.name.now c.in-Some.named (map constant_in c.loop-place.found.items) c.in-Some.ensures w.in_default-named.not-Constant c.loop-place.invariant
+      | in-Constant+in_ok-push w ↦ ap (λ found. map constant_in found.items) w.found-is
+          ∙ constant_step names place (record { name = c.in-Some.name; serial = w.in-Constant.serial }) c.in-Some.named
+          c.loop-place.found.items _ c.in-Some.ensures w.in-Constant.is w.in_ok-push.ensures.items
+          c.loop-place.invariant
+      | in_default-named w ↦ ap (λ found. map constant_in found.items) w.found-is
+          ∙ mark_step names place c.in-Some.name.now c.in-Some.named (map constant_in c.loop-place.found.items)
+          c.in-Some.ensures w.in_default-named.not-Constant c.loop-place.invariant
     ]

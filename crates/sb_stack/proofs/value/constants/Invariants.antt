@@ -1,5 +1,5 @@
 use Rattle.std.proofs.Common.{◌≡◌, map, take}
-use Rattle.sb_meaning.specs.Scopes.{constants_in}
+use Rattle.sb_script.specs.Scopes.{constants_in}
 use Rattle.sb_sorts.specs.Scopes.{naming_in}
 use Rattle.sb_stack.specs.Values.{constant_in}
 use Rattle.sb_stack.proofs.value.constants.Given as goal

@@ -1,5 +1,5 @@
 use Rattle.std.proofs.Common.{◌≡◌, map, drop}
-use Rattle.sb_meaning.specs.Replies.{first_unknown}
+use Rattle.sb_script.specs.Replies.{first_unknown}
 use Rattle.sb_stack.specs.Values.{item_in}
 use Rattle.sb_stack.proofs.value.first_unknown.Given as goal
 

@@ -1,9 +1,10 @@
 use Rattle.std.proofs.Common.{◌≡◌, map, take}
-use Rattle.sb_meaning.specs.Replies.{item_of}
+use Rattle.sb_script.specs.Replies.{item_of}
 use Rattle.sb_sorts.specs.Scopes.{names_in}
 use Rattle.sb_stack.specs.Commands.{forms_in}
 use Rattle.sb_stack.specs.Values.{item_in, with_names}
 use Rattle.sb_stack.proofs.value.items.Given as goal
 
 abbrev pub invariant-loop-form : goal.invariant-loop-form
-invariant-loop-form l = map item_in l.found.items ≡ map (item_of (with_names (names_in l.scope))) (forms_in (take l.form-index l.forms))
+invariant-loop-form l =
+    map item_in l.found.items ≡ map (item_of (with_names (names_in l.scope))) (forms_in (take l.form-index l.forms))

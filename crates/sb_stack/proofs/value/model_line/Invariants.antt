@@ -1,8 +1,10 @@
 use Rattle.std.proofs.Common.{◌≡◌, ◌∷◌, map, take}
-use Rattle.sb_meaning.specs.Replies.{definition_text, spaced}
-use Rattle.sb_stack.specs.Kept.{values_from}
+use Rattle.sb_script.specs.Replies.{definition_text, spaced}
+use Rattle.sb_stack.specs.Stacked.{values_from}
 use Rattle.sb_stack.specs.Values.{constant_in}
 use Rattle.sb_stack.proofs.value.model_line.Given as goal
 
 abbrev pub invariant-loop-place : goal.invariant-loop-place
-invariant-loop-place l = l.text.items ≡ 40 ∷ spaced (map (definition_text (values_from 0 l.words)) (map constant_in (take l.place l.constants)))
+invariant-loop-place l =
+    l.text.items
+    ≡ 40 ∷ spaced (map (definition_text (values_from 0 l.words)) (map constant_in (take l.place l.constants)))

@@ -1,5 +1,5 @@
 use Rattle.std.proofs.Common.{◌≡◌, map, drop}
-use Rattle.sb_meaning.specs.Replies.{some_malformed}
+use Rattle.sb_script.specs.Replies.{some_malformed}
 use Rattle.sb_stack.specs.Values.{item_in}
 use Rattle.sb_stack.proofs.value.some_malformed.Given as goal
 

@@ -1,8 +1,9 @@
 use Rattle.std.proofs.Common.{◌≡◌, ◌∷◌, map, take}
-use Rattle.sb_meaning.specs.Replies.{value_text, spaced}
-use Rattle.sb_stack.specs.Kept.{values_from}
+use Rattle.sb_script.specs.Replies.{value_text, spaced}
+use Rattle.sb_stack.specs.Stacked.{values_from}
 use Rattle.sb_stack.specs.Values.{asked_in}
 use Rattle.sb_stack.proofs.value.values_line.Given as goal
 
 abbrev pub invariant-loop-place : goal.invariant-loop-place
-invariant-loop-place l = l.text.items ≡ 40 ∷ spaced (map (value_text (values_from 0 l.words)) (map asked_in (take l.place l.constants)))
+invariant-loop-place l =
+    l.text.items ≡ 40 ∷ spaced (map (value_text (values_from 0 l.words)) (map asked_in (take l.place l.constants)))

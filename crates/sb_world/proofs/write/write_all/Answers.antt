@@ -8,4 +8,5 @@ loop-rest-preserved g c =
     let within = c.in_ok-count.ensures.within in
     let written = c.in_ok-count.ensures.written in
     let counts = c.in_ok-count.ensures.counts in
-    Sofar-step _ _ _ _ _ _ _ _ _ _ _ c.loop-rest.invariant within (take_all _ _ (omega (arith, length-drop {A = ℕ}))) written counts
+    Sofar-step _ _ _ _ _ _ _ _ _ _ _ c.loop-rest.invariant within (take_all _ _ (omega (arith, length-drop {A = ℕ})))
+    written counts

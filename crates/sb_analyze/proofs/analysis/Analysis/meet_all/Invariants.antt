@@ -4,4 +4,6 @@ use Rattle.sb_analyze.specs.Explaining.{with_literals}
 use Rattle.sb_analyze.proofs.analysis.Analysis.meet_all.Given as goal
 
 abbrev pub invariant-loop-literal : goal.invariant-loop-literal
-invariant-loop-literal l = with_literals l.trail.literals (shown l.self) (drop l.literal-index l.literals) ≡ with_literals l.trail.literals (shown l.initial.self) l.literals
+invariant-loop-literal l =
+    with_literals l.trail.literals (shown l.self) (drop l.literal-index l.literals)
+    ≡ with_literals l.trail.literals (shown l.initial.self) l.literals

@@ -11,18 +11,30 @@ none = record { literal = record { atom = 0; positive = false }; level = 0; reas
 
 pub overflow_sub-self : goal.overflow_sub-self
 overflow_sub-self c =
-    let within : c.loop-place.place ≤ length c.args.trail.now.literals = omega (arith, c.loop-place.auto.place, c.requires.end, ap length c.requires.whole) in
-    (trace_step c.args.clauses.now c.args.trail.now c.requires.trail c.requires.reasoned c.loop-place.place none c.loop-place-test.true within 0 (shown c.args.self.now) (shown c.loop-place.self) c.loop-place.invariant
-    (rw c.requires.whole at (sym c.is_pending.ensures ∙ c.if-is_pending.true)) (shown c.trace.new.self) (c.in_ok-trace.ensures ∙ ap (λ (es : List Assigned). traced c.args.clauses.now c.args.trail.now.literals (shown c.loop-place.self) (get_or es (c.loop-place.place - 1) none)) c.requires.whole)).counted
+    let within : c.loop-place.place ≤ length c.args.trail.now.literals =
+    omega (arith, c.loop-place.auto.place, c.requires.end, ap length c.requires.whole) in
+    (trace_step c.args.clauses.now c.args.trail.now c.requires.trail c.requires.reasoned c.loop-place.place none
+    c.loop-place-test.true within 0 (shown c.args.self.now) (shown c.loop-place.self) c.loop-place.invariant
+    (rw c.requires.whole at (sym c.is_pending.ensures ∙ c.if-is_pending.true)) (shown c.trace.new.self)
+    (c.in_ok-trace.ensures
+    ∙ ap (λ (es : List Assigned). traced c.args.clauses.now c.args.trail.now.literals (shown c.loop-place.self)
+    (get_or es (c.loop-place.place - 1) none)) c.requires.whole)).counted
 
 pub loop-place-preserved-then-is_pending : goal.loop-place-preserved-then-is_pending
 loop-place-preserved-then-is_pending c =
-    let within : c.loop-place.place ≤ length c.args.trail.now.literals = omega (arith, c.loop-place.auto.place, c.requires.end, ap length c.requires.whole) in
-    (trace_step c.args.clauses.now c.args.trail.now c.requires.trail c.requires.reasoned c.loop-place.place none c.loop-place-test.true within 0 (shown c.args.self.now) (shown c.loop-place.self) c.loop-place.invariant
-    (rw c.requires.whole at (sym c.is_pending.ensures ∙ c.if-is_pending.true)) (shown c.trace.new.self) (c.in_ok-trace.ensures ∙ ap (λ (es : List Assigned). traced c.args.clauses.now c.args.trail.now.literals (shown c.loop-place.self) (get_or es (c.loop-place.place - 1) none)) c.requires.whole)).traced
+    let within : c.loop-place.place ≤ length c.args.trail.now.literals =
+    omega (arith, c.loop-place.auto.place, c.requires.end, ap length c.requires.whole) in
+    (trace_step c.args.clauses.now c.args.trail.now c.requires.trail c.requires.reasoned c.loop-place.place none
+    c.loop-place-test.true within 0 (shown c.args.self.now) (shown c.loop-place.self) c.loop-place.invariant
+    (rw c.requires.whole at (sym c.is_pending.ensures ∙ c.if-is_pending.true)) (shown c.trace.new.self)
+    (c.in_ok-trace.ensures
+    ∙ ap (λ (es : List Assigned). traced c.args.clauses.now c.args.trail.now.literals (shown c.loop-place.self)
+    (get_or es (c.loop-place.place - 1) none)) c.requires.whole)).traced
 
 pub loop-place-preserved : goal.loop-place-preserved
 loop-place-preserved c =
-    let within : c.loop-place.place ≤ length c.args.trail.now.literals = omega (arith, c.loop-place.auto.place, c.requires.end, ap length c.requires.whole) in
-    trace_skip c.args.clauses.now c.args.trail.now c.requires.trail c.requires.reasoned c.loop-place.place none c.loop-place-test.true within 0 (shown c.args.self.now) (shown c.loop-place.self) c.loop-place.invariant
+    let within : c.loop-place.place ≤ length c.args.trail.now.literals =
+    omega (arith, c.loop-place.auto.place, c.requires.end, ap length c.requires.whole) in
+    trace_skip c.args.clauses.now c.args.trail.now c.requires.trail c.requires.reasoned c.loop-place.place none
+    c.loop-place-test.true within 0 (shown c.args.self.now) (shown c.loop-place.self) c.loop-place.invariant
     (rw c.requires.whole at (sym c.is_pending.ensures ∙ c.if-is_pending.false))

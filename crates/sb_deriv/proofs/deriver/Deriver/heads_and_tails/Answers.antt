@@ -8,19 +8,28 @@ use Rattle.sb_deriv.proofs.deriver.Deriver.heads_and_tails.Goals as goal
 
 pub make_each-requires-clause-members : goal.make_each-requires-clause-members
 make_each-requires-clause-members c =
-    rw (c.deref.ensures.value) (choice_numbers_of c.args.arena.now (operation.Cat c.args.b) c.args.self.now (c.args.a ∷ []) c.in_ok-heads.heads.items c.requires.faithful (have_first c.args.self.now c.args.a c.args.b c.requires.entries) c.in_ok-heads.ensures.values)
+    rw (c.deref.ensures.value)
+    (choice_numbers_of c.args.arena.now (operation.Cat c.args.b) c.args.self.now (c.args.a ∷ [])
+    c.in_ok-heads.heads.items c.requires.faithful (have_first c.args.self.now c.args.a c.args.b c.requires.entries)
+    c.in_ok-heads.ensures.values)
 
 pub gather-requires-2-clause-faithful : goal.gather-requires-2-clause-faithful
-gather-requires-2-clause-faithful c = faithful_kept c.args.arena.now c.make_each.new.arena c.args.self.now c.in_ok-heads-2.ensures.extends c.requires.faithful
+gather-requires-2-clause-faithful c =
+    faithful_kept c.args.arena.now c.make_each.new.arena c.args.self.now c.in_ok-heads-2.ensures.extends
+    c.requires.faithful
 
 pub merge-requires-clause-left : goal.merge-requires-clause-left
 merge-requires-clause-left c =
-    rw (c.deref-3.ensures.value) (single_whole c.make_each.new.arena operation.Alt c.in_ok-heads-2.heads.items c.in_ok-heads-3.heads.items (rw (c.deref-2.ensures.value) at c.in_ok-heads-3.ensures) c.in_ok-heads-2.ensures.map.ordered)
+    rw (c.deref-3.ensures.value)
+    (single_whole c.make_each.new.arena operation.Alt c.in_ok-heads-2.heads.items c.in_ok-heads-3.heads.items
+    (rw (c.deref-2.ensures.value) at c.in_ok-heads-3.ensures) c.in_ok-heads-2.ensures.map.ordered)
 
 pub returns-clause-numbers : goal.returns-clause-numbers
 returns-clause-numbers c =
     IfOk-weaker c.merge.result _ _
-    (λ cs v. parted_numbers c.args.arena.now c.make_each.new.arena c.args.self.now c.args.a c.args.b c.in_ok-heads-2.heads.items c.in_ok-heads.heads.items cs.items c.in_ok-heads-3.heads.items c.in_ok-tails.tails.items (record {
+    (λ cs v. parted_numbers c.args.arena.now c.make_each.new.arena c.args.self.now c.args.a c.args.b
+    c.in_ok-heads-2.heads.items c.in_ok-heads.heads.items cs.items c.in_ok-heads-3.heads.items
+    c.in_ok-tails.tails.items (record {
       faithful = c.requires.faithful;
       entries = c.requires.entries;
       tail = c.requires.right;
@@ -36,7 +45,9 @@ returns-clause-numbers c =
 pub returns-clause-values : goal.returns-clause-values
 returns-clause-values c =
     IfOk-weaker c.merge.result _ _
-    (λ cs v. parted_values c.args.arena.now c.make_each.new.arena c.args.self.now c.args.a c.args.b c.in_ok-heads-2.heads.items c.in_ok-heads.heads.items cs.items c.in_ok-heads-3.heads.items c.in_ok-tails.tails.items (record {
+    (λ cs v. parted_values c.args.arena.now c.make_each.new.arena c.args.self.now c.args.a c.args.b
+    c.in_ok-heads-2.heads.items c.in_ok-heads.heads.items cs.items c.in_ok-heads-3.heads.items
+    c.in_ok-tails.tails.items (record {
       faithful = c.requires.faithful;
       entries = c.requires.entries;
       tail = c.requires.right;

@@ -4,9 +4,15 @@ use Rattle.sb_deriv.proofs.deriver.Deriver.of_all.Goals as goal
 
 pub make_each-requires-clause-members : goal.make_each-requires-clause-members
 make_each-requires-clause-members c =
-    rw (c.deref.ensures.value) (choice_numbers_of c.args.arena.now c.args.operation c.args.self.now c.args.parts.now c.in_ok-choices.choices.items c.requires.faithful (c.in_ok-want.ensures.none c.if-branch.false) c.in_ok-choices.ensures.values)
+    rw (c.deref.ensures.value)
+    (choice_numbers_of c.args.arena.now c.args.operation c.args.self.now c.args.parts.now
+    c.in_ok-choices.choices.items c.requires.faithful (c.in_ok-want.ensures.none c.if-branch.false)
+    c.in_ok-choices.ensures.values)
 
 pub returns-clause-found : goal.returns-clause-found
 returns-clause-found c =
     let m = rw (c.deref.ensures.value) at c.in_ok-pieces.ensures.map in
-    rw (c.new.ensures) (map_same c.make_each.new.arena _ _ c.in_ok-pieces.pieces.items (made_of_choices c.args.arena.now c.args.operation c.args.self.now c.args.parts.now c.in_ok-choices.choices.items c.requires.faithful (c.in_ok-want.ensures.none c.if-branch.false) c.in_ok-choices.ensures.values) m)
+    rw (c.new.ensures) (map_same c.make_each.new.arena _ _ c.in_ok-pieces.pieces.items
+    (made_of_choices c.args.arena.now c.args.operation c.args.self.now c.args.parts.now
+    c.in_ok-choices.choices.items c.requires.faithful (c.in_ok-want.ensures.none c.if-branch.false)
+    c.in_ok-choices.ensures.values) m)

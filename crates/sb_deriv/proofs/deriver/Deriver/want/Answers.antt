@@ -10,9 +10,16 @@ pub loop-part-preserved : goal.loop-part-preserved
 loop-part-preserved c =
     elim c.if-not-is_known.branch [
       | then-not-is_known+in_ok-insert w ↦
-          rw (w.some-is, w.waiting-is) (wanting_add c.args.self.now c.args.parts.now c.loop-part.part-index c.loop-part.some c.args.waiting.now.keys c.loop-part.waiting.keys _ c.part-item.result c.loop-part.invariant c.loop-part-test.true c.part-item.is (sym c.is_known.ensures ∙ w.if-not-is_known.true) w.in_ok-insert.ensures.keys)
+          rw (w.some-is, w.waiting-is)
+          (wanting_add c.args.self.now c.args.parts.now c.loop-part.part-index c.loop-part.some
+          c.args.waiting.now.keys c.loop-part.waiting.keys _ c.part-item.result c.loop-part.invariant
+          c.loop-part-test.true c.part-item.is (sym c.is_known.ensures ∙ w.if-not-is_known.true)
+          w.in_ok-insert.ensures.keys)
       | else-not-is_known w ↦
-          rw (w.some-is, w.waiting-is) (wanting_skip c.args.self.now c.args.parts.now c.loop-part.part-index c.loop-part.some c.args.waiting.now.keys c.loop-part.waiting.keys c.part-item.result c.loop-part.invariant c.loop-part-test.true c.part-item.is (sym c.is_known.ensures ∙ w.if-not-is_known.false))
+          rw (w.some-is, w.waiting-is)
+          (wanting_skip c.args.self.now c.args.parts.now c.loop-part.part-index c.loop-part.some
+          c.args.waiting.now.keys c.loop-part.waiting.keys c.part-item.result c.loop-part.invariant
+          c.loop-part-test.true c.part-item.is (sym c.is_known.ensures ∙ w.if-not-is_known.false))
     ]
 
 pub returns-clause-none : goal.returns-clause-none

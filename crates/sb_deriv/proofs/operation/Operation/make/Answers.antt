@@ -9,13 +9,20 @@ pub returns-in-And-clause-ok : goal.returns-in-And-clause-ok
 returns-in-And-clause-ok c = rw (made_and c.args.arena.now c.args.self.now _ c.in-And.is) at c.and.ensures.ok
 
 pub returns-in-empty-clause-ok : goal.returns-in-empty-clause-ok
-returns-in-empty-clause-ok c = rw (made_not_nil c.args.arena.now c.args.self.now c.args.ids.now c.in-Not.is (omega arith)) at c.none.ensures.ok
+returns-in-empty-clause-ok c =
+    rw (made_not_nil c.args.arena.now c.args.self.now c.args.ids.now c.in-Not.is (omega arith)) at c.none.ensures.ok
 
 pub returns-in-len1-up-clause-ok : goal.returns-in-len1-up-clause-ok
-returns-in-len1-up-clause-ok c = rw (made_not c.args.arena.now c.args.self.now c.args.ids.now _ c.in-Not.is (omega arith) c.a-item.is) at c.complement.ensures.ok
+returns-in-len1-up-clause-ok c =
+    rw (made_not c.args.arena.now c.args.self.now c.args.ids.now _ c.in-Not.is (omega arith) c.a-item.is) at
+    c.complement.ensures.ok
 
 pub returns-in-empty-ids-clause-ok : goal.returns-in-empty-ids-clause-ok
-returns-in-empty-ids-clause-ok c = rw (made_cat_nil c.args.arena.now c.args.self.now _ c.args.ids.now c.in-Cat.is (omega arith)) at c.none-in-empty-ids.ensures.ok
+returns-in-empty-ids-clause-ok c =
+    rw (made_cat_nil c.args.arena.now c.args.self.now _ c.args.ids.now c.in-Cat.is (omega arith)) at
+    c.none-in-empty-ids.ensures.ok
 
 pub returns-in-len1-up-ids-clause-ok : goal.returns-in-len1-up-ids-clause-ok
-returns-in-len1-up-ids-clause-ok c = rw (made_cat c.args.arena.now c.args.self.now _ c.args.ids.now _ c.in-Cat.is (omega arith) c.a-item-in-Cat.is) at c.cat.ensures.ok
+returns-in-len1-up-ids-clause-ok c =
+    rw (made_cat c.args.arena.now c.args.self.now _ c.args.ids.now _ c.in-Cat.is (omega arith) c.a-item-in-Cat.is) at
+    c.cat.ensures.ok

@@ -1,5 +1,5 @@
 use Rattle.std.proofs.Common.{ap, ◌∙◌, arith}
-use Rattle.sb_graph.proofs.Numbers.{extends_more}
+use Rattle.sb_regex.proofs.CallerLemmas.{extends_more}
 use Rattle.sb_graph.specs.Queue.{regex_of}
 use Rattle.sb_graph.proofs.Steps.{entry_is}
 use Rattle.sb_graph.proofs.Searching.{searched_step}
@@ -15,6 +15,9 @@ loop-place-preserved c =
       graph = e.graph;
       marks = e.marks ∙ i.marks;
       derivatives_stay = λ n pieces h. e.derivatives_stay n pieces (i.derivatives_stay n pieces h);
-      searched = searched_step c.loop-place.arena c.expand.new.arena (regex_of c.args.queue.now 0) c.loop-place.self.dead c.expand.new.self.dead c.loop-place.queue c.expand.new.queue c.loop-place.place c.at-regex.result.0 c.nullable.result
-          e.extends i.searched (omega (arith, c.len.ensures, c.loop-place-test.true)) is c.nullable.ensures c.if-nullable.false e.visited e.marks;
+      searched = searched_step c.loop-place.arena c.expand.new.arena (regex_of c.args.queue.now 0)
+          c.loop-place.self.dead c.expand.new.self.dead c.loop-place.queue c.expand.new.queue c.loop-place.place
+          c.at-regex.result.0 c.nullable.result
+          e.extends i.searched (omega (arith, c.len.ensures, c.loop-place-test.true)) is c.nullable.ensures
+          c.if-nullable.false e.visited e.marks;
     }

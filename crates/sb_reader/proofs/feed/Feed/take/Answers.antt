@@ -5,13 +5,19 @@ use Rattle.sb_reader.proofs.feed.Feed.take.Goals.{in-Ok, in-Err}
 
 pub parse_entry-requires : goal.parse_entry-requires
 parse_entry-requires c =
-    rw c.deref.ensures.value (entry_is_one c.self.inside.kept.items c.self.inside.start c.args.end c.self.inside.finished (rw (← c.self.view_is) at c.requires))
+    rw c.deref.ensures.value
+    (entry_is_one c.self.inside.kept.items c.self.inside.start c.args.end c.self.inside.finished
+    (rw (← c.self.view_is) at c.requires))
 
 pub returns-clause-ok : goal.returns-clause-ok
 returns-clause-ok c =
     let says = rw c.deref.ensures.value at c.in_ok-sexpr.ensures in
     let ends = rw (← c.self.view_is) at c.requires in
     elim c.match-branch-2.branch [
-      | in-Ok w ↦ rw (w.next-is, ← c.self.view_is) (takes_command c.self.inside.kept.items c.self.inside.start c.args.end c.self.inside.finished ends c.in_ok-sexpr.field-0 says w.in-Ok.sexpr w.in-Ok.is)
-      | in-Err w ↦ rw (w.next-is, ← c.self.view_is) (takes_refused c.self.inside.kept.items c.self.inside.start c.args.end c.self.inside.finished ends c.in_ok-sexpr.field-0 says w.in-Err.refusal w.in-Err.is)
+      | in-Ok w ↦ rw (w.next-is, ← c.self.view_is)
+          (takes_command c.self.inside.kept.items c.self.inside.start c.args.end c.self.inside.finished ends
+          c.in_ok-sexpr.field-0 says w.in-Ok.sexpr w.in-Ok.is)
+      | in-Err w ↦ rw (w.next-is, ← c.self.view_is)
+          (takes_refused c.self.inside.kept.items c.self.inside.start c.args.end c.self.inside.finished ends
+          c.in_ok-sexpr.field-0 says w.in-Err.refusal w.in-Err.is)
     ]

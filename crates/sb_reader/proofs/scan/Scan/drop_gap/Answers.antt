@@ -5,4 +5,5 @@ use Rattle.sb_reader.proofs.scan.Scan.drop_gap.Goals as goal
 
 pub returns-in-InGap-clause-scan : goal.returns-in-InGap-clause-scan
 returns-in-InGap-clause-scan c bytes s =
-    ⊎_elim (λ p. IsScan-gap c.args.self.now bytes p c.if-self-eq0.true s) (λ p. IsScan-comment c.args.self.now bytes p c.if-self-eq0.true s) c.in-InGap.is
+    ⊎_elim (λ p. IsScan-gap c.args.self.now bytes p c.if-self-eq0.true s)
+    (λ p. IsScan-comment c.args.self.now bytes p c.if-self-eq0.true s) c.in-InGap.is

@@ -6,4 +6,5 @@ use Rattle.sb_regex.proofs.arena.Arena.all_nullable.Given as goal
 
 abbrev pub invariant-loop-id : goal.invariant-loop-id
 invariant-loop-id l =
-    all_nullable (regexes (regexes_at l.self (drop l.id-index l.ids))) ≡ all_nullable (regexes (regexes_at l.self l.ids))
+    all_nullable (regexes (regexes_at l.self (drop l.id-index l.ids)))
+    ≡ all_nullable (regexes (regexes_at l.self l.ids))

@@ -3,17 +3,21 @@ use Rattle.sb_regex.proofs.arena.Arena.alt_of.Goals as goal
 
 pub intern-requires-clause-normal : goal.intern-requires-clause-normal
 intern-requires-clause-normal c =
-    rw (alt_of_many c.args.self.now c.args.ids.now c.in_ok-parts-in_default.parts.items c.in_default.len_at_least c.in_ok-parts-in_default.ensures.ok)
+    rw (alt_of_many c.args.self.now c.args.ids.now c.in_ok-parts-in_default.parts.items c.in_default.len_at_least
+    c.in_ok-parts-in_default.ensures.ok)
     (c.requires.normal)
 
 pub returns-in-empty-clause-ok : goal.returns-in-empty-clause-ok
-returns-in-empty-clause-ok c = rw (← alt_of_none c.args.self.now c.args.ids.now c.in-empty.len_below) (c.none.ensures.ok)
+returns-in-empty-clause-ok c =
+    rw (← alt_of_none c.args.self.now c.args.ids.now c.in-empty.len_below) (c.none.ensures.ok)
 
 pub returns-in-len1-clause-ok : goal.returns-in-len1-clause-ok
 returns-in-len1-clause-ok c =
-    alt_of_one c.args.self.now c.args.ids.now c.id-item.result c.requires.numbers c.in-len1.len_at_least c.in-len1.len_below c.id-item.is
+    alt_of_one c.args.self.now c.args.ids.now c.id-item.result c.requires.numbers c.in-len1.len_at_least
+    c.in-len1.len_below c.id-item.is
 
 pub returns-in_ok-parts-in_default-clause-ok : goal.returns-in_ok-parts-in_default-clause-ok
 returns-in_ok-parts-in_default-clause-ok c =
-    rw (← alt_of_many c.args.self.now c.args.ids.now c.in_ok-parts-in_default.parts.items c.in_default.len_at_least c.in_ok-parts-in_default.ensures.ok)
+    rw (← alt_of_many c.args.self.now c.args.ids.now c.in_ok-parts-in_default.parts.items c.in_default.len_at_least
+    c.in_ok-parts-in_default.ensures.ok)
     (c.intern.ensures.ok)

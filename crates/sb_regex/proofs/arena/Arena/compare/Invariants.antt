@@ -7,7 +7,8 @@ abbrev pub invariant-loop-left : goal.invariant-loop-left
 invariant-loop-left l =
     (l.left < length l.self)
     × (l.right < length l.self)
-    × (regex_cmp (regex_at l.self l.left) (regex_at l.self l.right) ≡ regex_cmp (regex_at l.self l.fn.a) (regex_at l.self l.fn.b))
+    × (regex_cmp (regex_at l.self l.left) (regex_at l.self l.right)
+    ≡ regex_cmp (regex_at l.self l.fn.a) (regex_at l.self l.fn.b))
 
 abbrev pub decreases-loop-left : goal.decreases-loop-left
 decreases-loop-left l = l.left

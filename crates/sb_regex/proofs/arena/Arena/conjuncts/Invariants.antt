@@ -7,4 +7,5 @@ use Rattle.sb_regex.proofs.arena.Arena.conjuncts.Given as goal
 abbrev pub invariant-loop-id : goal.invariant-loop-id
 invariant-loop-id l =
     AllNumbers l.self l.members.items
-    × (regexes_at l.self l.members.items ++ flat_map conjuncts (regexes_at l.self (drop l.id-index l.ids)) ≡ flat_map conjuncts (regexes_at l.self l.ids))
+    × (regexes_at l.self l.members.items ++ flat_map conjuncts (regexes_at l.self (drop l.id-index l.ids))
+    ≡ flat_map conjuncts (regexes_at l.self l.ids))

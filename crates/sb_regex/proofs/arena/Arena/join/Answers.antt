@@ -7,12 +7,22 @@ lean-requires-clause-normal c =
     let rs = c.args.self.now in
     let n = c.normal_regexes_each_once.ensures.normal in
     let left = normal_at rs c.args.a n c.requires.left in
-    rw (c.deref.ensures.value, joined c.order_tells_apart.ensures rs c.in_ok-spine.spine.heads.items c.push.new.self.items c.in_ok-spine.spine.last c.args.a c.args.b c.in_ok-spine.ensures.value c.in_ok-spine.ensures.ends left c.requires.left_is_plain c.requires.right_is_plain c.in_ok-push.ensures.items)
+    rw (
+      c.deref.ensures.value,
+      joined c.order_tells_apart.ensures rs c.in_ok-spine.spine.heads.items c.push.new.self.items
+          c.in_ok-spine.spine.last c.args.a c.args.b c.in_ok-spine.ensures.value c.in_ok-spine.ensures.ends left
+          c.requires.left_is_plain c.requires.right_is_plain c.in_ok-push.ensures.items,
+    )
     (c.constructors_give_normal.ensures.concatenations _ _ left (normal_at rs c.args.b n c.requires.right))
 
 pub returns-clause-ok : goal.returns-clause-ok
 returns-clause-ok c =
     let rs = c.args.self.now in
     let left = normal_at rs c.args.a c.normal_regexes_each_once.ensures.normal c.requires.left in
-    rw (← joined c.order_tells_apart.ensures rs c.in_ok-spine.spine.heads.items c.push.new.self.items c.in_ok-spine.spine.last c.args.a c.args.b c.in_ok-spine.ensures.value c.in_ok-spine.ensures.ends left c.requires.left_is_plain c.requires.right_is_plain c.in_ok-push.ensures.items, ← c.deref.ensures.value)
+    rw (
+      ← joined c.order_tells_apart.ensures rs c.in_ok-spine.spine.heads.items c.push.new.self.items
+          c.in_ok-spine.spine.last c.args.a c.args.b c.in_ok-spine.ensures.value c.in_ok-spine.ensures.ends left
+          c.requires.left_is_plain c.requires.right_is_plain c.in_ok-push.ensures.items,
+      ← c.deref.ensures.value,
+    )
     (c.lean.ensures.ok)

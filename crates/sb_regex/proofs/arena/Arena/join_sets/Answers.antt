@@ -5,10 +5,14 @@ pub returns-clause-value : goal.returns-clause-value
 returns-clause-value c =
     let good = rw (c.class.view_is) at c.class.invariant in
     let members = rw (c.in_ok-sets.ensures) at c.in_ok-class.ensures in
-    join_value c.union_has_both.ensures c.union_is_canonical.ensures c.same_members.ensures c.args.self.now c.set.new.self c.args.members.now c.new-all.result.items c.push.new.self.items c.push_others.new.all.items c.in_ok-set.field-0 c.in_ok-class.class
-    c.normal_regexes_each_once.ensures.normal c.requires c.in_ok-set.ensures.extends good members c.in_ok-set.ensures.ok c.new-all.ensures.items c.in_ok-push.ensures.items c.in_ok-push_others.ensures.value
+    join_value c.union_has_both.ensures c.union_is_canonical.ensures c.same_members.ensures c.args.self.now
+    c.set.new.self c.args.members.now c.new-all.result.items c.push.new.self.items c.push_others.new.all.items
+    c.in_ok-set.field-0 c.in_ok-class.class
+    c.normal_regexes_each_once.ensures.normal c.requires c.in_ok-set.ensures.extends good members c.in_ok-set.ensures.ok
+    c.new-all.ensures.items c.in_ok-push.ensures.items c.in_ok-push_others.ensures.value
 
 pub returns-clause-numbers : goal.returns-clause-numbers
 returns-clause-numbers c =
     c.in_ok-push_others.ensures.numbers
-    (first_numbers c.set.new.self c.new-all.result.items c.push.new.self.items c.in_ok-set.field-0 _ c.in_ok-set.ensures.ok c.new-all.ensures.items c.in_ok-push.ensures.items)
+    (first_numbers c.set.new.self c.new-all.result.items c.push.new.self.items c.in_ok-set.field-0 _
+    c.in_ok-set.ensures.ok c.new-all.ensures.items c.in_ok-push.ensures.items)

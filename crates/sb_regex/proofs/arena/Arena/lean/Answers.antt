@@ -2,8 +2,8 @@ use Rattle.std.proofs.Common.{◌-◌, length, ap, arith}
 use Rattle.std.proofs.lemmas.List.{take_all}
 use Rattle.sb_regex.specs.Numbered.{regex_at, regexes_at}
 use Rattle.sb_regex.specs.Spine.{chain}
-use Rattle.sb_regex.proofs.Numbers.{extends_same, extends_more, names_below}
-use Rattle.sb_regex.proofs.Spines.{lean_normal, lean_next, lean_done, two_numbers, head_below}
+use Rattle.sb_regex.proofs.CallerLemmas.{extends_same, extends_more, names_below, two_numbers}
+use Rattle.sb_regex.proofs.Spines.{lean_normal, lean_next, lean_done, head_below}
 use Rattle.sb_regex.proofs.arena.Arena.lean.Goals as goal
 
 pub loop-left-init : goal.loop-left-init
@@ -11,7 +11,8 @@ loop-left-init c = (
   omega arith,
   extends_same c.args.self.now,
   c.requires.last,
-  ap (λ xs. chain (regexes_at c.args.self.now xs) (regex_at c.args.self.now c.args.last)) (take_all (length c.args.heads.now) c.args.heads.now (omega arith)),
+  ap (λ xs. chain (regexes_at c.args.self.now xs) (regex_at c.args.self.now c.args.last))
+      (take_all (length c.args.heads.now) c.args.heads.now (omega arith)),
 )
 
 pub bounds-heads-left : goal.bounds-heads-left
@@ -20,13 +21,17 @@ bounds-heads-left c = omega (arith, c.loop-left.invariant.0, c.loop-left-test.tr
 pub intern-requires-clause-parts : goal.intern-requires-clause-parts
 intern-requires-clause-parts c =
     two_numbers (length c.loop-left.self) c.index-heads-left.result c.loop-left.whole
-    (head_below c.args.self.now c.loop-left.self c.args.heads.now (c.loop-left.left - 1) _ (omega (arith, c.loop-left.invariant.0, c.loop-left-test.true)) c.index-heads-left.is c.requires.heads c.loop-left.invariant.1)
+    (head_below c.args.self.now c.loop-left.self c.args.heads.now (c.loop-left.left - 1) _
+    (omega (arith, c.loop-left.invariant.0, c.loop-left-test.true)) c.index-heads-left.is c.requires.heads
+    c.loop-left.invariant.1)
     c.loop-left.invariant.2
 
 pub intern-requires-clause-normal : goal.intern-requires-clause-normal
 intern-requires-clause-normal c =
-    lean_normal c.args.self.now c.loop-left.self c.args.heads.now c.loop-left.left (c.loop-left.left - 1) _ c.loop-left.whole _
-    (omega (arith, c.loop-left-test.true)) (omega (arith, c.loop-left.invariant.0, c.loop-left-test.true)) c.index-heads-left.is c.requires.heads c.loop-left.invariant.1 c.loop-left.invariant.3 c.requires.normal
+    lean_normal c.args.self.now c.loop-left.self c.args.heads.now c.loop-left.left (c.loop-left.left - 1) _
+    c.loop-left.whole _
+    (omega (arith, c.loop-left-test.true)) (omega (arith, c.loop-left.invariant.0, c.loop-left-test.true))
+    c.index-heads-left.is c.requires.heads c.loop-left.invariant.1 c.loop-left.invariant.3 c.requires.normal
 
 pub returns-in_err-whole-clause-extends : goal.returns-in_err-whole-clause-extends
 returns-in_err-whole-clause-extends c = extends_more _ _ _ c.loop-left.invariant.1 c.intern.ensures.extends
@@ -36,12 +41,17 @@ loop-left-preserved c = (
   omega (arith, c.loop-left.invariant.0),
   extends_more _ _ _ c.loop-left.invariant.1 c.in_ok-whole.ensures.extends,
   names_below _ _ _ c.in_ok-whole.ensures.ok,
-  lean_next c.args.self.now c.loop-left.self c.intern.new.self c.args.heads.now c.loop-left.left (c.loop-left.left - 1) _ c.loop-left.whole _ _
-      (omega (arith, c.loop-left-test.true)) (omega (arith, c.loop-left.invariant.0, c.loop-left-test.true)) c.index-heads-left.is c.requires.heads c.loop-left.invariant.1 c.loop-left.invariant.3 c.in_ok-whole.ensures.ok,
+  lean_next c.args.self.now c.loop-left.self c.intern.new.self c.args.heads.now c.loop-left.left (c.loop-left.left - 1)
+      _ c.loop-left.whole _ _
+      (omega (arith, c.loop-left-test.true)) (omega (arith, c.loop-left.invariant.0, c.loop-left-test.true))
+      c.index-heads-left.is c.requires.heads c.loop-left.invariant.1 c.loop-left.invariant.3
+      c.in_ok-whole.ensures.ok,
 )
 
 pub returns-clause-ok : goal.returns-clause-ok
-returns-clause-ok c = lean_done c.args.self.now c.loop-left.self c.args.heads.now c.loop-left.left c.loop-left.whole _ (omega (arith, c.loop-left-test.false)) c.loop-left.invariant.2 c.loop-left.invariant.3
+returns-clause-ok c =
+    lean_done c.args.self.now c.loop-left.self c.args.heads.now c.loop-left.left c.loop-left.whole _
+    (omega (arith, c.loop-left-test.false)) c.loop-left.invariant.2 c.loop-left.invariant.3
 
 pub returns-clause-extends : goal.returns-clause-extends
 returns-clause-extends c = c.loop-left.invariant.1

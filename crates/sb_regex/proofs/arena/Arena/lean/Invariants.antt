@@ -8,7 +8,8 @@ invariant-loop-left l =
     (l.left ≤ length l.heads)
     × Extends l.fn.self l.self
     × (l.whole < length l.self)
-    × (chain (regexes_at l.fn.self (take l.left l.heads)) (regex_at l.self l.whole) ≡ chain (regexes_at l.fn.self l.heads) (regex_at l.fn.self l.fn.last))
+    × (chain (regexes_at l.fn.self (take l.left l.heads)) (regex_at l.self l.whole)
+    ≡ chain (regexes_at l.fn.self l.heads) (regex_at l.fn.self l.fn.last))
 
 abbrev pub decreases-loop-left : goal.decreases-loop-left
 decreases-loop-left l = l.left

@@ -1,6 +1,6 @@
 use Rattle.std.proofs.Common.{◌∙◌}
 use Rattle.sb_regex.specs.Numbered.{regexes_at}
-use Rattle.sb_regex.proofs.Numbers.{extends_more, numbers_kept, names_kept}
+use Rattle.sb_regex.proofs.CallerLemmas.{extends_more, numbers_kept, names_kept}
 use Rattle.sb_regex.proofs.Combining.{decider_found, rest_sorted, kept_numbers, intersection_is_none, intersection_is_rest}
 use Rattle.sb_regex.proofs.arena.Arena.meet_members.Goals as goal
 
@@ -11,8 +11,12 @@ returns-then-contains-clause-ok c =
     let ms = c.args.members.items in
     let ext = extends_more old c.none.new.self new c.in_ok-none.ensures.extends c.in_ok-anything.ensures.extends in
     let there = numbers_kept old new ms ext c.requires.numbers in
-    let found = decider_found c.order_tells_apart.ensures old new c.normal_regexes_each_once.ensures.distinct ext _ _ (names_kept c.none.new.self c.anything.new.self _ _ c.in_ok-anything.ensures.extends c.in_ok-none.ensures.ok) ms c.deref.result.now c.deref.ensures.value c.requires.numbers there _ c.contains.ensures.value ∙ c.if-contains.true in
-    rw (← intersection_is_none (regexes_at old ms) found) (names_kept c.none.new.self c.anything.new.self _ _ c.in_ok-anything.ensures.extends c.in_ok-none.ensures.ok)
+    let found = decider_found c.order_tells_apart.ensures old new c.normal_regexes_each_once.ensures.distinct ext _ _
+    (names_kept c.none.new.self c.anything.new.self _ _ c.in_ok-anything.ensures.extends c.in_ok-none.ensures.ok) ms
+    c.deref.result.now c.deref.ensures.value c.requires.numbers there _ c.contains.ensures.value
+    ∙ c.if-contains.true in
+    rw (← intersection_is_none (regexes_at old ms) found)
+    (names_kept c.none.new.self c.anything.new.self _ _ c.in_ok-anything.ensures.extends c.in_ok-none.ensures.ok)
 
 pub in_order-requires : goal.in_order-requires
 in_order-requires c =
@@ -30,9 +34,15 @@ and_of-requires-clause-normal c =
     let ms = c.args.members.items in
     let ext = extends_more old c.none.new.self new c.in_ok-none.ensures.extends c.in_ok-anything.ensures.extends in
     let there = numbers_kept old new ms ext c.requires.numbers in
-    let not_found = decider_found c.order_tells_apart.ensures old new c.normal_regexes_each_once.ensures.distinct ext _ _ (names_kept c.none.new.self c.anything.new.self _ _ c.in_ok-anything.ensures.extends c.in_ok-none.ensures.ok) ms c.deref.result.now c.deref.ensures.value c.requires.numbers there _ c.contains.ensures.value ∙ c.if-contains.false in
-    let order = rest_sorted c.order_tells_apart.ensures old new c.normal_regexes_each_once.ensures.distinct ext _ _ c.in_ok-anything.ensures.ok ms c.others.result.items c.in_ok-rising.rising.items c.deref-2.result.now c.requires.numbers there c.others.ensures c.in_ok-rising.ensures.value c.deref-2.ensures.value in
-    rw (intersection_is_rest (regexes_at old ms) (regexes_at new c.deref-2.result.now) not_found order) (c.requires.normal)
+    let not_found = decider_found c.order_tells_apart.ensures old new c.normal_regexes_each_once.ensures.distinct ext _
+    _ (names_kept c.none.new.self c.anything.new.self _ _ c.in_ok-anything.ensures.extends c.in_ok-none.ensures.ok)
+    ms c.deref.result.now c.deref.ensures.value c.requires.numbers there _ c.contains.ensures.value
+    ∙ c.if-contains.false in
+    let order = rest_sorted c.order_tells_apart.ensures old new c.normal_regexes_each_once.ensures.distinct ext _ _
+    c.in_ok-anything.ensures.ok ms c.others.result.items c.in_ok-rising.rising.items c.deref-2.result.now
+    c.requires.numbers there c.others.ensures c.in_ok-rising.ensures.value c.deref-2.ensures.value in
+    rw (intersection_is_rest (regexes_at old ms) (regexes_at new c.deref-2.result.now) not_found order)
+    (c.requires.normal)
 
 pub returns-clause-ok : goal.returns-clause-ok
 returns-clause-ok c =
@@ -41,6 +51,12 @@ returns-clause-ok c =
     let ms = c.args.members.items in
     let ext = extends_more old c.none.new.self new c.in_ok-none.ensures.extends c.in_ok-anything.ensures.extends in
     let there = numbers_kept old new ms ext c.requires.numbers in
-    let not_found = decider_found c.order_tells_apart.ensures old new c.normal_regexes_each_once.ensures.distinct ext _ _ (names_kept c.none.new.self c.anything.new.self _ _ c.in_ok-anything.ensures.extends c.in_ok-none.ensures.ok) ms c.deref.result.now c.deref.ensures.value c.requires.numbers there _ c.contains.ensures.value ∙ c.if-contains.false in
-    let order = rest_sorted c.order_tells_apart.ensures old new c.normal_regexes_each_once.ensures.distinct ext _ _ c.in_ok-anything.ensures.ok ms c.others.result.items c.in_ok-rising.rising.items c.deref-2.result.now c.requires.numbers there c.others.ensures c.in_ok-rising.ensures.value c.deref-2.ensures.value in
-    rw (← intersection_is_rest (regexes_at old ms) (regexes_at new c.deref-2.result.now) not_found order) (c.and_of.ensures.ok)
+    let not_found = decider_found c.order_tells_apart.ensures old new c.normal_regexes_each_once.ensures.distinct ext _
+    _ (names_kept c.none.new.self c.anything.new.self _ _ c.in_ok-anything.ensures.extends c.in_ok-none.ensures.ok)
+    ms c.deref.result.now c.deref.ensures.value c.requires.numbers there _ c.contains.ensures.value
+    ∙ c.if-contains.false in
+    let order = rest_sorted c.order_tells_apart.ensures old new c.normal_regexes_each_once.ensures.distinct ext _ _
+    c.in_ok-anything.ensures.ok ms c.others.result.items c.in_ok-rising.rising.items c.deref-2.result.now
+    c.requires.numbers there c.others.ensures c.in_ok-rising.ensures.value c.deref-2.ensures.value in
+    rw (← intersection_is_rest (regexes_at old ms) (regexes_at new c.deref-2.result.now) not_found order)
+    (c.and_of.ensures.ok)

@@ -16,10 +16,14 @@ returns-in-None-clause-value c =
 pub returns-in_ok-id-in-Some-clause-value : goal.returns-in_ok-id-in-Some-clause-value
 returns-in_ok-id-in-Some-clause-value c =
     let good = rw (c.class.view_is) at c.class.invariant in
-    let found = MatchOption-at_some _ (λ class. (0 < length c.in_ok-sets.field-0.items) × ((x : ℕ) → in_ranges class x ≡ in_all c.in_ok-sets.field-0.items x)) c.in-Some.class c.in-Some.is c.in_ok-meet.ensures in
+    let found = MatchOption-at_some _ (λ class. (0 < length c.in_ok-sets.field-0.items)
+    × ((x : ℕ) → in_ranges class x ≡ in_all c.in_ok-sets.field-0.items x)) c.in-Some.class c.in-Some.is
+    c.in_ok-meet.ensures in
     IfOk-weaker c.from_slice.result (λ v. v.items ≡ c.in_ok-id-in-Some.id ∷ []) _
-    (λ v alone. meet_value c.intersection_has_common.ensures c.intersection_is_canonical.ensures c.same_members.ensures c.args.self.now c.set.new.self c.args.members.now v.items c.in_ok-id-in-Some.id c.in-Some.class
-    c.normal_regexes_each_once.ensures.normal c.requires good c.in_ok-sets.field-0.items c.in_ok-sets.ensures found.0 found.1 c.in_ok-id-in-Some.ensures.ok alone)
+    (λ v alone. meet_value c.intersection_has_common.ensures c.intersection_is_canonical.ensures c.same_members.ensures
+    c.args.self.now c.set.new.self c.args.members.now v.items c.in_ok-id-in-Some.id c.in-Some.class
+    c.normal_regexes_each_once.ensures.normal c.requires good c.in_ok-sets.field-0.items c.in_ok-sets.ensures found.0
+    found.1 c.in_ok-id-in-Some.ensures.ok alone)
     c.from_slice.ensures.items
 
 pub returns-in_ok-id-in-Some-clause-numbers : goal.returns-in_ok-id-in-Some-clause-numbers

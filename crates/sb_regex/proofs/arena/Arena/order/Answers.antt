@@ -19,5 +19,8 @@ returns-in-false-true-2 c =
 
 pub returns-in-false-false : goal.returns-in-false-false
 returns-in-false-false c =
-    rw (past_end c.args.self.now c.args.a _ _ c.in-false-false.is-0 c.number.ensures c.len.ensures, past_end c.args.self.now c.args.b _ _ c.in-false-false.is-1 c.number-2.ensures c.len-2.ensures)
+    rw (
+      past_end c.args.self.now c.args.a _ _ c.in-false-false.is-0 c.number.ensures c.len.ensures,
+      past_end c.args.self.now c.args.b _ _ c.in-false-false.is-1 c.number-2.ensures c.len-2.ensures,
+    )
     both_past

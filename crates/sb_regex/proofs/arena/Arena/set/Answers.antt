@@ -15,4 +15,5 @@ intern-requires-clause-normal c =
 pub returns-clause-ok : goal.returns-clause-ok
 returns-clause-ok c =
     let more = rw (c.ranges-ranges.ensures.value) at c.if-is_empty.ensures in
-    rw (← mkset_more c.args.class.now more, ← c.ranges-ranges.ensures.value, ← c.in_ok-ranges.ensures.items) (c.intern.ensures.ok)
+    rw (← mkset_more c.args.class.now more, ← c.ranges-ranges.ensures.value, ← c.in_ok-ranges.ensures.items)
+    (c.intern.ensures.ok)

@@ -5,16 +5,18 @@ use Rattle.sb_lang.specs.Constructors.{ranges_of}
 use Rattle.sb_regex.specs.Nodes.{node_regex}
 use Rattle.sb_regex.proofs.Building.{normal_at}
 use Rattle.sb_regex.proofs.Gathering.{gather_next, flat_more, ranges_set, ranges_other, normal_is_canonical}
-use Rattle.sb_regex.proofs.Numbers.{number_in}
+use Rattle.sb_regex.proofs.CallerLemmas.{number_in}
 use Rattle.sb_regex.proofs.arena.Arena.sets.Goals as goal
 use Rattle.sb_regex.proofs.arena.Arena.sets.Goals.{in-Set+in_ok-class+in_ok-push_back, in_default}
 
 pub class_of-requires : goal.class_of-requires
 class_of-requires c =
     let rs = c.args.self.now in
-    let x = number_in rs c.args.members.now c.loop-id.id-index c.id-item.result c.requires c.loop-id-test.true c.id-item.is in
+    let x = number_in rs c.args.members.now c.loop-id.id-index c.id-item.result c.requires c.loop-id-test.true
+    c.id-item.is in
     let value = ap (node_regex rs) (sym c.in-Set.is) ∙ c.node.ensures.value in
-    rw (c.as_slice.ensures.value) (normal_is_canonical _ _ value (normal_at rs c.id-item.result c.normal_regexes_each_once.ensures.normal x))
+    rw (c.as_slice.ensures.value)
+    (normal_is_canonical _ _ value (normal_at rs c.id-item.result c.normal_regexes_each_once.ensures.normal x))
 
 pub loop-id-preserved : goal.loop-id-preserved
 loop-id-preserved c =
@@ -24,10 +26,16 @@ loop-id-preserved c =
           let value = ap (node_regex rs) (sym w.in-Set.is) ∙ c.node.ensures.value in
           let class = w.in_ok-class.ensures ∙ w.as_slice.ensures.value in
           rw (w.classes-is)
-          (gather_next (flat_map ranges_of) ranges_of (flat_more ranges_of) refl rs c.args.members.now c.loop-id.id-index c.id-item.result _ _ _ c.loop-id-test.true c.id-item.is
-          (w.in_ok-push_back.ensures.items ∙ ap (λ xs. c.loop-id.classes.items ++ xs) (ap (λ s. s ∷ []) class ∙ ranges_set _ _ value)) c.loop-id.invariant)
+          (gather_next (flat_map ranges_of) ranges_of (flat_more ranges_of) refl rs c.args.members.now
+          c.loop-id.id-index c.id-item.result _ _ _ c.loop-id-test.true c.id-item.is
+          (w.in_ok-push_back.ensures.items
+          ∙ ap (λ xs. c.loop-id.classes.items ++ xs) (ap (λ s. s ∷ []) class ∙ ranges_set _ _ value))
+          c.loop-id.invariant)
       | in_default w ↦
           rw (w.classes-is)
-          (gather_next (flat_map ranges_of) ranges_of (flat_more ranges_of) refl rs c.args.members.now c.loop-id.id-index c.id-item.result _ _ _ c.loop-id-test.true c.id-item.is
-          (sym (append-nil c.loop-id.classes.items) ∙ ap (λ xs. c.loop-id.classes.items ++ xs) (ranges_other rs _ _ c.node.ensures.value w.in_default.not-Set)) c.loop-id.invariant)
+          (gather_next (flat_map ranges_of) ranges_of (flat_more ranges_of) refl rs c.args.members.now
+          c.loop-id.id-index c.id-item.result _ _ _ c.loop-id-test.true c.id-item.is
+          (sym (append-nil c.loop-id.classes.items)
+          ∙ ap (λ xs. c.loop-id.classes.items ++ xs)
+          (ranges_other rs _ _ c.node.ensures.value w.in_default.not-Set)) c.loop-id.invariant)
     ]

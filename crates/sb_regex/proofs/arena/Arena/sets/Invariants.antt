@@ -6,4 +6,5 @@ use Rattle.sb_regex.proofs.arena.Arena.sets.Given as goal
 
 abbrev pub invariant-loop-id : goal.invariant-loop-id
 invariant-loop-id l =
-    l.classes.items ++ flat_map ranges_of (regexes_at l.self (drop l.id-index l.members)) ≡ flat_map ranges_of (regexes_at l.self l.members)
+    l.classes.items ++ flat_map ranges_of (regexes_at l.self (drop l.id-index l.members))
+    ≡ flat_map ranges_of (regexes_at l.self l.members)

@@ -4,7 +4,11 @@ use Rattle.sb_regex.proofs.Spines.{chain_nil, spine_next, numbers_push, not_cat}
 use Rattle.sb_regex.proofs.arena.Arena.spine.Goals as goal
 
 pub loop-head-init : goal.loop-head-init
-loop-head-init c = (c.requires, rw (c.new-heads.ensures.items) (λ k d l. absurd (omega arith)), chain_nil c.args.self.now _ _ c.new-heads.ensures.items)
+loop-head-init c = (
+  c.requires,
+  rw (c.new-heads.ensures.items) (λ k d l. absurd (omega arith)),
+  chain_nil c.args.self.now _ _ c.new-heads.ensures.items,
+)
 
 pub node-requires : goal.node-requires
 node-requires c = c.loop-head.invariant.0
@@ -19,7 +23,8 @@ loop-head-preserved c =
     let head = p 0 0 (omega arith) in
     let rest = p 1 0 (omega arith) in (
       omega (arith, rest, c.loop-head.invariant.0),
-      numbers_push c.args.self.now _ _ _ c.loop-head.invariant.1 (omega (arith, head, c.loop-head.invariant.0)) c.in_ok-push.ensures.items,
+      numbers_push c.args.self.now _ _ _ c.loop-head.invariant.1 (omega (arith, head, c.loop-head.invariant.0))
+          c.in_ok-push.ensures.items,
       spine_next c.args.self.now _ _ _ _ _ _ c.in_ok-push.ensures.items value c.loop-head.invariant.2,
     )
 

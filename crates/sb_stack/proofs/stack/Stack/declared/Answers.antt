@@ -4,4 +4,6 @@ use Rattle.sb_stack.proofs.Fitting.{fitting}
 use Rattle.sb_stack.proofs.stack.Stack.declared.Goals as goal
 
 pub returns-clause-fit : goal.returns-clause-fit
-returns-clause-fit c = rw (← c.self.view_is) (λ words h w. fitting c.self.inside.scope.names 0 words (c.declared.ensures.serials ∙ ap (counted 0) (sym h)) w)
+returns-clause-fit c =
+    rw (← c.self.view_is)
+    (λ words h w. fitting c.self.inside.scope.names 0 words (c.declared.ensures.serials ∙ ap (counted 0) (sym h)) w)

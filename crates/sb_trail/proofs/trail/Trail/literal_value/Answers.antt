@@ -3,7 +3,8 @@ use Rattle.sb_trail.proofs.trail.Trail.literal_value.Goals as goal
 
 pub returns-in-Some-clause-value : goal.returns-in-Some-clause-value
 returns-in-Some-clause-value c =
-    literal_with_value c.args.self.now.literals c.value.ensures.distinct c.args.literal c.in-Some.value c.in-Some.ensures.value
+    literal_with_value c.args.self.now.literals c.value.ensures.distinct c.args.literal c.in-Some.value
+    c.in-Some.ensures.value
 
 pub returns-in-Some-clause-consistent : goal.returns-in-Some-clause-consistent
 returns-in-Some-clause-consistent c = IsConsistent-held c.args.self.now.literals c.value.ensures.distinct

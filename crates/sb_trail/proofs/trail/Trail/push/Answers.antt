@@ -13,8 +13,14 @@ level_behind-level-requires c =
 
 pub invariant_of-self : goal.invariant_of-self
 invariant_of-self c =
-    let entry : Assigned = record { literal = c.args.literal; level = c.level_behind-level.result; reason = c.args.reason } in
-    let unassigned : entry_of c.self.inside.entries.items c.args.literal.atom ≡ None = map_none (λ (e : Assigned). e.literal.positive) (entry_of c.self.inside.entries.items c.args.literal.atom) (ap (λ (t : Assignments). value_of t.literals c.args.literal.atom) c.self.view_is ∙ c.requires.unassigned) in
-    let place : c.args.literal.atom < length c.self.inside.by_atom.items = omega (arith, ap (λ (t : Assignments). t.reserved) c.self.view_is, c.requires.reserved) in
-    let added : c.push.new.self.items ≡ c.self.inside.entries.items ++ entry ∷ [] = rw (c.is_err.ensures.negation, c.if-is_err.false) at c.push.ensures.items in
-    rw added (AreTables-push c.self.invariant entry (vec_capacity c.push.new.self) c.push.ensures.capacity place unassigned (rw (c.level_behind-level.ensures, c.newest_level.ensures, c.deref.ensures.value) refl))
+    let entry : Assigned =
+    record { literal = c.args.literal; level = c.level_behind-level.result; reason = c.args.reason } in
+    let unassigned : entry_of c.self.inside.entries.items c.args.literal.atom ≡ None =
+    map_none (λ (e : Assigned). e.literal.positive) (entry_of c.self.inside.entries.items c.args.literal.atom)
+    (ap (λ (t : Assignments). value_of t.literals c.args.literal.atom) c.self.view_is ∙ c.requires.unassigned) in
+    let place : c.args.literal.atom < length c.self.inside.by_atom.items =
+    omega (arith, ap (λ (t : Assignments). t.reserved) c.self.view_is, c.requires.reserved) in
+    let added : c.push.new.self.items ≡ c.self.inside.entries.items ++ entry ∷ [] =
+    rw (c.is_err.ensures.negation, c.if-is_err.false) at c.push.ensures.items in
+    rw added (AreTables-push c.self.invariant entry (vec_capacity c.push.new.self) c.push.ensures.capacity place
+    unassigned (rw (c.level_behind-level.ensures, c.newest_level.ensures, c.deref.ensures.value) refl))

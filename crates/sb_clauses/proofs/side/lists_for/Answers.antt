@@ -1,8 +1,0 @@
-use Rattle.std.proofs.Common.{arith}
-use Rattle.sb_clauses.specs.Watching.{no_literal}
-use Rattle.sb_clauses.proofs.Adding.{enough_more}
-use Rattle.sb_clauses.proofs.side.lists_for.Goals as goal
-
-pub loop-literal-preserved : goal.loop-literal-preserved
-loop-literal-preserved c =
-    enough_more c.args.clause.now c.loop-literal.literal-index c.loop-literal.lists c.max-lists.result no_literal c.loop-literal-test.true c.loop-literal.invariant (omega arith) (omega arith) (omega arith)

@@ -1,5 +1,0 @@
-use Rattle.sb_lang.proofs.OnlySorted.{sorted_is_ascending}
-use Rattle.sb_lang.proofs.sorted.sorted_is_ascending.Goals as goal
-
-pub returns : goal.returns
-returns c = sorted_is_ascending

@@ -1,0 +1,5 @@
+pub mod Clauses
+pub mod Budgets
+pub mod Kept
+pub mod Hints
+pub mod Examples

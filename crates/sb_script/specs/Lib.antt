@@ -1,0 +1,12 @@
+pub mod Names
+pub mod Symbols
+pub mod Scopes
+pub mod Reading
+pub mod Commands
+pub mod State
+pub mod Fragment
+pub mod Replies
+pub mod Scripts
+pub mod ReadingExamples
+pub mod FragmentExamples
+pub mod ReplyExamples

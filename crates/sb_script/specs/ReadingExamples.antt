@@ -1,0 +1,144 @@
+-- Computed examples of how terms are read, and of names.
+use Rattle.std.specs.Prelude.{◌≡◌, List, [], ◌∷◌, codes, Ok, Err, refl}
+use Rattle.sb_reader.specs.Forms.{Form, Forms, Symbol, QuotedSymbol, Keyword, Numeral, Words, Group, none, more}
+use Rattle.sb_script.specs.Names.{name_text, name_in_text}
+use Rattle.sb_meaning.specs.Terms.{Term, text, constant, word, apply, no_terms, with_term}
+use Rattle.sb_meaning.specs.Terms as symbol
+use Rattle.sb_script.specs.Scopes.{Naming, a_constant, a_marked_name}
+use Rattle.sb_script.specs.Reading.{read, unknown_symbol, wrong_sort, wrong_count, bad_index, unsupported, bad_literal, malformed}
+
+abbrev pub forms : List Form → Forms
+forms [] = none
+forms (f ∷ fs) = more f (forms fs)
+
+abbrev pub group : List Form → Form
+group fs = Group (forms fs)
+
+abbrev a : Form
+a = Words (codes "a")
+
+abbrev b : Form
+b = Words (codes "b")
+
+abbrev x : Form
+x = Symbol (codes "x")
+
+abbrev y : Form
+y = Symbol (codes "y")
+
+-- x is a constant, and m a marked name
+abbrev names : List Naming
+names = (codes "x", a_constant 0 text) ∷ (codes "m", a_marked_name) ∷ []
+
+abbrev pub range : Form → Form → Form
+range from to = group (Symbol (codes "re.range") ∷ from ∷ to ∷ [])
+
+-- (str.in_re x (re.+ (re.range "a" "b")))
+reads_a_membership :
+    read names (group (Symbol (codes "str.in_re") ∷ x ∷ group (Symbol (codes "re.+") ∷ range a b ∷ []) ∷ []))
+    ≡ Ok (apply symbol.str_in_re
+    (with_term (constant 0 text)
+    (with_term (apply symbol.re_plus
+    (with_term (apply symbol.re_range (with_term (word (97 ∷ [])) (with_term (word (98 ∷ [])) no_terms))) no_terms))
+    no_terms)))
+reads_a_membership = refl
+
+-- |x| and x are one name
+a_quoted_name : read names (QuotedSymbol (codes "x")) ≡ Ok (constant 0 text)
+a_quoted_name = refl
+
+-- (re.range "a" y z): the first fault is that of y, before the number of arguments
+first_fault : read names (group (Symbol (codes "re.range") ∷ a ∷ y ∷ Symbol (codes "z") ∷ []))
+    ≡ Err (unknown_symbol (codes "y"))
+first_fault = refl
+
+-- (re.range "a" "b" x): the number is judged behind the arguments
+number_behind_arguments : read names (group (Symbol (codes "re.range") ∷ a ∷ b ∷ x ∷ [])) ≡ Err wrong_count
+number_behind_arguments = refl
+
+-- (re.+ "a")
+sort_of_an_argument : read names (group (Symbol (codes "re.+") ∷ a ∷ [])) ≡ Err wrong_sort
+sort_of_an_argument = refl
+
+-- (re.union R S T) has its arguments as they stand, and (re.union R) is R
+abbrev a_range : Term
+a_range = apply symbol.re_range (with_term (word (97 ∷ [])) (with_term (word (98 ∷ [])) no_terms))
+
+three_in_a_union : read names (group (Symbol (codes "re.union") ∷ range a b ∷ range a b ∷ range a b ∷ []))
+    ≡ Ok (apply symbol.re_union (with_term a_range (with_term a_range (with_term a_range no_terms))))
+three_in_a_union = refl
+
+one_in_a_union : read names (group (Symbol (codes "re.union") ∷ range a b ∷ [])) ≡ Ok a_range
+one_in_a_union = refl
+
+-- (re.++ R "a"), (re.* "a") and re.++ alone
+sort_of_a_part : read names (group (Symbol (codes "re.++") ∷ range a b ∷ a ∷ [])) ≡ Err wrong_sort
+sort_of_a_part = refl
+
+sort_of_a_body : read names (group (Symbol (codes "re.*") ∷ a ∷ [])) ≡ Err wrong_sort
+sort_of_a_body = refl
+
+concatenation_without_parts : read names (Symbol (codes "re.++")) ≡ Err wrong_count
+concatenation_without_parts = refl
+
+-- (str.to_re x) is well sorted
+word_of_a_constant : read names (group (Symbol (codes "str.to_re") ∷ x ∷ []))
+    ≡ Ok (apply symbol.str_to_re (with_term (constant 0 text) no_terms))
+word_of_a_constant = refl
+
+-- (x "a"), and re.range alone
+constant_with_an_argument : read names (group (x ∷ a ∷ [])) ≡ Err wrong_count
+constant_with_an_argument = refl
+
+symbol_without_arguments : read names (Symbol (codes "re.range")) ≡ Err wrong_count
+symbol_without_arguments = refl
+
+-- (f), whatever f is; (let ((z x)) z); let alone
+shape_before_head : read names (group (Symbol (codes "f") ∷ [])) ≡ Err malformed
+shape_before_head = refl
+
+a_let_is_left_out : read names
+    (group (Symbol (codes "let") ∷ group (group (Symbol (codes "z") ∷ x ∷ []) ∷ []) ∷ Symbol (codes "z") ∷ []))
+    ≡ Err unsupported
+a_let_is_left_out = refl
+
+reserved_in_a_term : read names (Symbol (codes "let")) ≡ Err malformed
+reserved_in_a_term = refl
+
+-- ((_ re.^ 2) x) and (_ x 2) and (_ char #x61)
+power_is_left_out : read names
+    (group (group (Symbol (codes "_") ∷ Symbol (codes "re.^") ∷ Numeral (codes "2") ∷ []) ∷ x ∷ [])) ≡ Err unsupported
+power_is_left_out = refl
+
+index_of_a_constant : read names (group (Symbol (codes "_") ∷ x ∷ Numeral (codes "2") ∷ [])) ≡ Err bad_index
+index_of_a_constant = refl
+
+-- a marked name, a symbol that is left out, a keyword
+marked_name : read names (Symbol (codes "m")) ≡ Err unsupported
+marked_name = refl
+
+left_out_symbol : read names (group (Symbol (codes "str.replace") ∷ y ∷ [])) ≡ Err unsupported
+left_out_symbol = refl
+
+no_keyword : read names (Keyword (codes ":named")) ≡ Err malformed
+no_keyword = refl
+
+-- "x""y" is three characters; a byte above 126 is no literal; a backslash may begin an escape
+doubled_quote : read names (Words (codes "x\"\"y")) ≡ Ok (word (codes "x\"y"))
+doubled_quote = refl
+
+no_literal : read names (Words (92 ∷ 128 ∷ [])) ≡ Err bad_literal
+no_literal = refl
+
+may_be_an_escape : read names (Words (92 ∷ [])) ≡ Err unsupported
+may_be_an_escape = refl
+
+-- let is reserved, and printed between bars; so is a name with a space; a quote is doubled within a text
+printed_between_bars : name_text (codes "let") ≡ codes "|let|"
+printed_between_bars = refl
+
+printed_bare : name_text (codes "str.in_re") ≡ codes "str.in_re"
+printed_bare = refl
+
+printed_in_a_text : name_in_text (codes "a \"b") ≡ codes "|a \"\"b|"
+printed_in_a_text = refl

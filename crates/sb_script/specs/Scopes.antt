@@ -1,0 +1,31 @@
+-- What a name stands for in a state.
+use Rattle.std.specs.Prelude.{ℕ, if◌then◌else◌, List, [], ◌∷◌, Option, Some, None}
+use Rattle.sb_script.specs.Names.{Name, is_name}
+use Rattle.sb_meaning.specs.Terms.{Sort}
+
+pub data Named : Type 0 where
+  -- a declared constant, with its serial and its sort
+  a_constant : ℕ → Sort → Named
+  -- a name whose declaration or definition is left out
+  a_marked_name : Named
+
+abbrev pub Naming : Type 0
+Naming = Name × Named
+
+-- what the name stands for; the first naming counts
+abbrev pub named : List Naming → Name → Option Named
+named [] name = None
+named (n ∷ ns) name = if is_name name n.0 then Some n.1 else named ns name
+
+-- a declared constant, as it is printed
+pub record Constant : Type 0 where
+  pub name : Name
+  pub serial : ℕ
+  pub sort : Sort
+
+-- the constants among namings, in order
+abbrev pub constants_in : List Naming → List Constant
+constants_in [] = []
+constants_in ((name, a_constant serial sort) ∷ ns) =
+    record { name = name; serial = serial; sort = sort } ∷ constants_in ns
+constants_in ((name, a_marked_name) ∷ ns) = constants_in ns

@@ -1,0 +1,17 @@
+//! Tests of the layers that read a script, over their public items: entries, terms, commands, and the normal regexes of
+//! terms.
+//!
+//! The crate has no code of its own, so that the layers are proved once. What each promises is proved there; here are
+//! tables of scripts, forms and commands with what they are read as and answered, from outside the code.
+#![tactic(auto)]
+
+#[cfg(test)]
+mod bytes;
+#[cfg(test)]
+mod commands;
+#[cfg(test)]
+mod entries;
+#[cfg(test)]
+mod normals;
+#[cfg(test)]
+mod terms;

@@ -1,0 +1,240 @@
+//! Propagation by sweeps over all clauses, beside the one by watched literals.
+
+ghost use Rattle.std.specs.Prelude.{◌<◌, max};
+
+use sb_clauses::{Clauses, Propagated};
+use sb_lit::{Clause, ClauseId, Lit};
+use sb_trail::Trail;
+use std::alloc::{AllocError, Global};
+use std::process::Abort;
+use std::test::Fail;
+
+/// What a clause comes to, by a look at all its literals.
+enum Finding {
+    False,
+    Forces(Lit),
+    Idle,
+}
+
+fn examine(trail: &Trail, literals: &[Lit]) -> Finding {
+    let mut unset = None;
+    for literal in literals {
+        match trail.literal_value(*literal) {
+            Some(true) => return Finding::Idle,
+            Some(false) => {}
+            None => {
+                if is_another(unset, *literal) {
+                    return Finding::Idle;
+                }
+                unset = Some(*literal);
+            }
+        }
+    }
+    match unset {
+        Some(literal) => Finding::Forces(literal),
+        None => Finding::False,
+    }
+}
+
+fn is_another(met: Option<Lit>, literal: Lit) -> bool {
+    match met {
+        Some(first) => first != literal,
+        None => false,
+    }
+}
+
+/// Looks at each clause once, adds what it forces, and says whether one is false.
+fn sweep(rt: &impl Abort, clauses: &Clauses, trail: &mut Trail) -> bool {
+    for number in 0..clauses.len() {
+        let id = ClauseId(number as u64);
+        if let Some(literals) = clauses.literals(id) {
+            match examine(trail, literals) {
+                Finding::False => return true,
+                Finding::Forces(literal) => assign(rt, trail, literal, id),
+                Finding::Idle => {}
+            }
+        }
+    }
+    false
+}
+
+fn assign(rt: &impl Abort, trail: &mut Trail, literal: Lit, id: ClauseId) {
+    assert!(rt; literal.atom < trail.reserved() as u64);
+    assert!(rt; trail.value(literal.atom).is_none());
+    trail.assign(literal, id);
+}
+
+/// Sweeps over the clauses until nothing is forced, and says whether one is false.
+fn sweeps_to_a_conflict(rt: &impl Abort, clauses: &Clauses, trail: &mut Trail) -> bool {
+    for _ in 0..=trail.reserved() {
+        let before = trail.len();
+        if sweep(rt, clauses, trail) {
+            return true;
+        }
+        if trail.len() == before {
+            return false;
+        }
+    }
+    false
+}
+
+/// Numbers that look random.
+#[derive(Drop)]
+struct Draw {
+    state: u64,
+}
+
+impl Draw {
+    fn below(&mut self, bound: u64) -> u64
+        ensures { result < max bound 1 }
+    {
+        self.state = self
+            .state
+            .wrapping_mul(6364136223846793005)
+            .wrapping_add(1442695040888963407);
+        (self.state >> 33) % bound.max(1)
+    }
+
+    fn literal(&mut self, atoms: u64) -> Lit {
+        Lit {
+            atom: self.below(atoms),
+            positive: self.below(2) == 0,
+        }
+    }
+
+    /// Mostly 2 to 4, and at times 0 or 1.
+    fn clause_len(&mut self) -> u64 {
+        if self.below(24) == 0 {
+            self.below(2)
+        } else {
+            2 + self.below(3)
+        }
+    }
+}
+
+/// Two trails on which the same is decided, one for each way to propagate.
+#[derive(Drop)]
+struct Pair {
+    watched: Trail,
+    swept: Trail,
+}
+
+fn add_clause(
+    alloc: Global,
+    draw: &mut Draw,
+    clauses: &mut Clauses,
+    atoms: u64,
+) -> Result<(), AllocError> {
+    let mut literals = Vec::new(alloc);
+    for _ in 0..draw.clause_len() {
+        literals.push(draw.literal(atoms))?;
+    }
+    let level = draw.below(4);
+    clauses.add(&Clause::from_literals(literals), level)?;
+    Ok(())
+}
+
+/// Propagates on both trails, compares, and says whether a clause is false.
+fn both_conflict(rt: &impl Abort, clauses: &mut Clauses, pair: &mut Pair, atoms: u64) -> bool {
+    assert!(rt; clauses.have_room_on(&pair.watched));
+    let conflict = clauses.propagate(&mut pair.watched) != Propagated::Done;
+    let swept = sweeps_to_a_conflict(rt, clauses, &mut pair.swept);
+    assert!(rt; swept == conflict);
+    if !conflict {
+        same_values(rt, pair, atoms);
+    }
+    conflict
+}
+
+fn same_values(rt: &impl Abort, pair: &Pair, atoms: u64) {
+    assert!(rt; pair.watched.len() == pair.swept.len());
+    for atom in 0..atoms {
+        assert!(rt; pair.watched.value(atom) == pair.swept.value(atom));
+    }
+}
+
+fn decide(rt: &impl Abort, trail: &mut Trail, literal: Lit) {
+    if trail.value(literal.atom).is_none() {
+        assert!(rt; literal.atom < trail.reserved() as u64);
+        trail.decide(literal);
+    }
+}
+
+fn go_back(draw: &mut Draw, pair: &mut Pair) {
+    let level = draw.below(pair.watched.current_level() as u64) as usize;
+    pair.watched.backtrack(level);
+    pair.swept.backtrack(level);
+}
+
+/// Propagates, and then goes back, adds or drops a clause, or decides a literal. Says whether all is over.
+fn one_step(
+    rt: &impl Abort,
+    alloc: Global,
+    draw: &mut Draw,
+    clauses: &mut Clauses,
+    pair: &mut Pair,
+    atoms: u64,
+) -> Result<bool, AllocError> {
+    if both_conflict(rt, clauses, pair, atoms) {
+        if pair.watched.current_level() == 0 {
+            return Ok(true);
+        }
+        go_back(draw, pair);
+        return Ok(false);
+    }
+    match draw.below(12) {
+        0 => go_back(draw, pair),
+        1 => add_clause(alloc, draw, clauses, atoms)?,
+        2 => clauses.drop_above(draw.below(4)),
+        _ => {
+            let literal = draw.literal(atoms);
+            decide(rt, &mut pair.watched, literal);
+            decide(rt, &mut pair.swept, literal);
+        }
+    }
+    Ok(false)
+}
+
+fn reserve(pair: &mut Pair, atoms: u64) -> Result<(), AllocError> {
+    pair.watched.reserve(atoms as usize)?;
+    pair.swept.reserve(atoms as usize)
+}
+
+/// Adds clauses, and goes on until a clause is false with no decision, or so many steps are done.
+fn steps(
+    rt: &impl Abort,
+    alloc: Global,
+    draw: &mut Draw,
+    clauses: &mut Clauses,
+    pair: &mut Pair,
+) -> Result<(), AllocError> {
+    let atoms = 3 + draw.below(10);
+    reserve(pair, atoms)?;
+    for _ in 0..atoms + draw.below(2 * atoms) {
+        add_clause(alloc, draw, clauses, atoms)?;
+    }
+    for _ in 0..40 {
+        if one_step(rt, alloc, draw, clauses, pair, atoms)? {
+            return Ok(());
+        }
+    }
+    Ok(())
+}
+
+fn one_list(rt: &impl Abort, alloc: Global, draw: &mut Draw) -> Result<(), AllocError> {
+    let mut clauses = Clauses::new(alloc);
+    let mut pair = Pair {
+        watched: Trail::new(alloc),
+        swept: Trail::new(alloc),
+    };
+    steps(rt, alloc, draw, &mut clauses, &mut pair)
+}
+
+#[test]
+fn watched_literals_give_what_sweeps_give(rt: HostRuntime) -> Result<(), Fail> {
+    let mut draw = Draw { state: 7 };
+    for _ in 0..300 {
+        one_list(&rt, rt.alloc(), &mut draw)?;
+    }
+    Ok(())
+}
