@@ -1,0 +1,90 @@
+-- The tests of equals find equals alone: words, pieces, variables, regexes and atoms.
+use Rattle.std.proofs.Common.{◌≡◌, ℕ, ℤ, Bool, true, ◌==◌, List, [], ◌∷◌, refl, ap, ap₂}
+use Rattle.std.specs.Ordering.{int_eq}
+use Rattle.std.specs.Cmp.{Equal-is}
+use Rattle.std.specs.Cmp.Lexicographic.{pointwise}
+use Rattle.std.proofs.lemmas.Bool.{and_parts, false≢true, eqb-true}
+use Rattle.std.proofs.lemmas.Bool.Decides.{Decides-int_eq}
+use Rattle.sb_lit.specs.Clauses.{is_same_literal}
+use Rattle.sb_lit.proofs.CallerLemmas.{is_same_literal-true}
+use Rattle.sb_lang.specs.Regex.{Regex}
+use Rattle.sb_lang.specs.Order.{regex_cmp, regex_eq}
+use Rattle.sb_lang.specs.OrderLaws.{OrderTellsApart}
+use Rattle.sb_lang.specs.Membership.{is_word}
+use Rattle.sb_meaning.specs.Values.{Valuation}
+use Rattle.sb_rulebook.specs.Atoms.{Piece, constant_piece, word_piece, Variable, int_constant, length_of, Summand, Atom, bool_atom, in_atom, le_atom, sum_atom, and_atom, iff_atom, is_same_piece, is_same_variable, is_same_summand, is_same_atom, value_of}
+
+abbrev pub FindsEquals : (A : Type 0) → (A → A → Bool) → Type 0
+FindsEquals A test = (a b : A) → test a b ≡ true → a ≡ b
+
+pub same_lists : {A : Type 0} (test : A → A → Bool) → FindsEquals A test → FindsEquals (List A) (pointwise test)
+same_lists test finds [] [] h = refl
+same_lists test finds [] (y ∷ ys) h = absurd (false≢true h)
+same_lists test finds (x ∷ xs) [] h = absurd (false≢true h)
+same_lists test finds (x ∷ xs) (y ∷ ys) h =
+    let parts = and_parts (test x y) (pointwise test xs ys) h in
+    ap₂ ◌∷◌ (finds x y parts.0) (same_lists test finds xs ys parts.1)
+
+pub same_regex : OrderTellsApart → FindsEquals Regex regex_eq
+same_regex apart r s h = (apart r s).0 ((Equal-is (regex_cmp r s)).0 h)
+
+pub same_number : FindsEquals ℤ int_eq
+same_number m n h = (Decides-int_eq m n).0 h
+
+pub same_word : FindsEquals (List ℕ) is_word
+same_word [] [] h = refl
+same_word [] (c ∷ w) h = absurd (false≢true h)
+same_word (a ∷ v) [] h = absurd (false≢true h)
+same_word (a ∷ v) (c ∷ w) h =
+    let parts = and_parts (a == c) (is_word v w) h in
+    ap₂ ◌∷◌ (eqb-true a c parts.0) (same_word v w parts.1)
+
+pub same_piece : FindsEquals Piece is_same_piece
+same_piece (constant_piece s) (constant_piece t) h = ap constant_piece (eqb-true s t h)
+same_piece (word_piece v) (word_piece w) h = ap word_piece (same_word v w h)
+same_piece (constant_piece s) (word_piece w) h = absurd (false≢true h)
+same_piece (word_piece v) (constant_piece t) h = absurd (false≢true h)
+
+pub same_pieces : FindsEquals (List Piece) (pointwise is_same_piece)
+same_pieces = same_lists is_same_piece same_piece
+
+pub same_variable : FindsEquals Variable is_same_variable
+same_variable (int_constant s) (int_constant t) h = ap int_constant (eqb-true s t h)
+same_variable (length_of s) (length_of t) h = ap length_of (eqb-true s t h)
+same_variable (int_constant s) (length_of t) h = absurd (false≢true h)
+same_variable (length_of s) (int_constant t) h = absurd (false≢true h)
+
+-- the same variable has one value
+pub same_value : (v : Valuation) (x y : Variable) → is_same_variable x y ≡ true → value_of v x ≡ value_of v y
+same_value v x y h = ap (value_of v) (same_variable x y h)
+
+pub same_summand : FindsEquals Summand is_same_summand
+same_summand s t h =
+    let parts = and_parts (int_eq s.0 t.0) (is_same_variable s.1 t.1) h in
+    pairs s.0 t.0 s.1 t.1 (same_number s.0 t.0 parts.0) (same_variable s.1 t.1 parts.1)
+  where
+    pairs : (c d : ℤ) (x y : Variable) → c ≡ d → x ≡ y → ◌≡◌ {A = Summand} (c, x) (d, y)
+    pairs c d x y e f = cc
+
+pub same_atom : OrderTellsApart → FindsEquals Atom is_same_atom
+same_atom apart (bool_atom s) (bool_atom t) h = ap bool_atom (eqb-true s t h)
+same_atom apart (in_atom ps r) (in_atom qs s) h =
+    let parts = and_parts (pointwise is_same_piece ps qs) (regex_eq r s) h in
+    ap₂ in_atom (same_pieces ps qs parts.0) (same_regex apart r s parts.1)
+same_atom apart (le_atom x k) (le_atom y j) h =
+    let parts = and_parts (is_same_variable x y) (int_eq k j) h in
+    ap₂ le_atom (same_variable x y parts.0) (same_number k j parts.1)
+same_atom apart (sum_atom k ss) (sum_atom j ts) h =
+    let parts = and_parts (int_eq k j) (pointwise is_same_summand ss ts) h in
+    ap₂ sum_atom (same_number k j parts.0) (same_lists is_same_summand same_summand ss ts parts.1)
+same_atom apart (and_atom ls) (and_atom ms) h =
+    ap and_atom (same_lists is_same_literal is_same_literal-true ls ms h)
+same_atom apart (iff_atom l m) (iff_atom k n) h =
+    let parts = and_parts (is_same_literal l k) (is_same_literal m n) h in
+    ap₂ iff_atom (is_same_literal-true l k parts.0) (is_same_literal-true m n parts.1)
+same_atom apart (bool_atom s) _ h = absurd (false≢true h)
+same_atom apart (in_atom ps r) _ h = absurd (false≢true h)
+same_atom apart (le_atom x k) _ h = absurd (false≢true h)
+same_atom apart (sum_atom k ss) _ h = absurd (false≢true h)
+same_atom apart (and_atom ls) _ h = absurd (false≢true h)
+same_atom apart (iff_atom l m) _ h = absurd (false≢true h)

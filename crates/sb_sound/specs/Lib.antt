@@ -1,0 +1,13 @@
+pub mod Tables
+pub mod GateLaws
+pub mod BoundLaws
+pub mod LinearLaws
+pub mod MembershipLaws
+pub mod HintLaws
+pub mod DeadLaws
+pub mod VerdictLaws
+pub mod TermLaws
+pub mod TranslationLaws
+pub mod SoundLaws
+pub mod AcceptedLaws
+pub mod LimitLaws

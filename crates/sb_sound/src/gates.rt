@@ -1,0 +1,16 @@
+//! Clauses of gates.
+
+ghost use Rattle.sb_sound.specs.GateLaws.{GatesHold};
+
+use sb_lang::constructors::mkrep_keeps_language;
+use sb_lang::languages::repetition_is_some_power;
+use sb_lang::order::order_tells_apart;
+
+/// A clause that is a gate is true under every valuation.
+pub fn gates_hold()
+    ensures { GatesHold }
+{
+    order_tells_apart();
+    mkrep_keeps_language();
+    repetition_is_some_power();
+}

@@ -1,0 +1,23 @@
+//! Verdicts.
+
+ghost use Rattle.sb_sound.specs.VerdictLaws.{UnsatIsRefuted, SatIsModel, UnknownIsCounted, UnsupportedIsOutside};
+
+/// Where `unsat` follows, and the clause that it names is true, not all assumptions hold.
+pub fn unsat_is_refuted()
+    ensures { UnsatIsRefuted }
+{}
+
+/// Where `sat` follows, the values fit the constants, and make each live assertion and each assumption true.
+pub fn sat_is_model()
+    ensures { SatIsModel }
+{}
+
+/// Where `unknown` follows, as many lines were counted as the limit allows.
+pub fn unknown_is_counted()
+    ensures { UnknownIsCounted }
+{}
+
+/// `unsupported` follows exactly outside the fragment.
+pub fn unsupported_is_outside()
+    ensures { UnsupportedIsOutside }
+{}
