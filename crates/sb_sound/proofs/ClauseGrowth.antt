@@ -141,7 +141,7 @@ module _ (gates : GatesHold) (orders : OrdersHold) (sums : LinearHolds) (steps :
 
 -- Learned clauses.
 
-learned-parts : (asked : Asked) (kept after : AllKept) (clause : List Lit) (r : Result ℕ Unlearned)
+pub learned-parts : (asked : Asked) (kept after : AllKept) (clause : List Lit) (r : Result ℕ Unlearned)
     → (elim r as (λ _. Result AllKept Refusal)
     [ Err unlearned ↦ Err (refusal_of unlearned) | Ok level ↦ counting asked (with_clause kept clause level) ])
     ≡ Ok after → (level : ℕ) × (r ≡ Ok level) × (counting asked (with_clause kept clause level) ≡ Ok after)

@@ -28,3 +28,6 @@ mod NumberLiterals
 mod TranslationFacts
 mod ReadTerms
 mod ScriptHistory
+mod NamedFacts
+mod CountFacts
+mod RelevantFacts

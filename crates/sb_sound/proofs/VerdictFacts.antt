@@ -12,7 +12,7 @@ use Rattle.sb_sound.specs.VerdictLaws.{IsRefuted, UnsatIsRefuted}
 use Rattle.sb_sound.proofs.TableFacts.{literal_holds-atom}
 use Rattle.sb_sound.proofs.PassFacts.{both_pass, one_fails}
 
-unless_wrong-none : (b : Bool) → unless_wrong b ≡ None → b ≡ true
+pub unless_wrong-none : (b : Bool) → unless_wrong b ≡ None → b ≡ true
 unless_wrong-none true h = refl
 unless_wrong-none false h = absurd (Prim.cc (h))
 
@@ -25,7 +25,7 @@ other_truth false true s denied true_so = absurd (false≢true true_so)
 other_truth false false true denied true_so = refl
 other_truth false false false denied true_so = absurd (false≢true denied)
 
-denied_fails : (v : Valuation) (atoms : List Atom) (l : Lit) (a : Assumption)
+pub denied_fails : (v : Valuation) (atoms : List Atom) (l : Lit) (a : Assumption)
     → literal_holds (truths_of v atoms) l ≡ true → denies l (slice_get atoms l.atom) a ≡ true
     → assumption_holds v a ≡ false
 denied_fails v atoms l a true_so denied = step (slice_get atoms l.atom) refl denied

@@ -11,3 +11,5 @@ pub mod TranslationLaws
 pub mod SoundLaws
 pub mod AcceptedLaws
 pub mod LimitLaws
+pub mod CountLaws
+pub mod RelevantLaws

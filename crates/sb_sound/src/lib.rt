@@ -10,6 +10,7 @@
 #![tactic(auto)]
 
 pub mod bounds;
+pub mod counts;
 pub mod dead;
 pub mod gates;
 pub mod hints;
@@ -17,6 +18,7 @@ pub mod limits;
 pub mod linear;
 pub mod memberships;
 pub mod proofs;
+pub mod relevant;
 pub mod steps;
 pub mod terms;
 pub mod translations;
