@@ -1,117 +1,27 @@
--- The common refinement of the derivatives of parts.
-use Rattle.std.proofs.Common.{◌≡◌, ℕ, suc, ◌+◌, ◌<◌, Bool, true, false, cond, Some, None, Option, List, [], ◌∷◌, ◌++◌, length, take, drop, get_or, map, refl, sym, ap, ap₂, subst, ◌∙◌, arith}
-use Rattle.std.specs.Prelude.{◌&&◌, ◌==◌, nat_le, unwrap_or, IsSome}
-use Rattle.std.proofs.lemmas.List.{append-nil, map-append, take-append-drop, take_more}
+-- The derivatives of parts, and what is picked of their targets.
+use Rattle.std.proofs.Common.{◌≡◌, ℕ, suc, ◌<◌, ◌≤◌, true, Some, None, Option, List, [], ◌∷◌, length, map, refl, sym, ap, ap₂, subst, ◌∙◌, arith}
+use Rattle.std.specs.Prelude.{unwrap_or, IsSome}
 use Rattle.std.proofs.lemmas.List.Elements.{All-nil, All-cons}
+use Rattle.std.proofs.lemmas.Bool.{leb-true}
 use Rattle.sb_word.specs.Words.{is_character}
 use Rattle.sb_lang.specs.Regex.{Regex}
 use Rattle.sb_lang.specs.Derivative.{nd}
 use Rattle.sb_regex.specs.Numbered.{regex_at, regexes_at, AllNumbers}
+use Rattle.sb_deriv.specs.declared.operation.Constants.{Constants}
 use Rattle.sb_deriv.specs.declared.operation.Operation.{Operation}
-use Rattle.sb_deriv.specs.Pieces.{value_from, value_at, rises, covers, IsIntervalMap}
+use Rattle.sb_deriv.specs.Pieces.{value_from, value_at}
 use Rattle.sb_deriv.specs.Faithful.{IsKnown, IsFaithful, Memo, entry_of}
-use Rattle.sb_deriv.specs.Choices.{made, kept, kept_of, targets_at, nd_each, HaveEntries}
-use Rattle.sb_deriv.proofs.PieceFacts.{value_whole, map_some}
+use Rattle.sb_deriv.specs.Choices.{made, picked, map_of, values_at, targets_at, nd_each, AreConstants, HaveEntries}
 use Rattle.sb_deriv.proofs.Derivatives.{value_number}
-use Rattle.sb_deriv.proofs.Kept.{made_kept, kept-append, kept_numbers}
+use Rattle.sb_deriv.proofs.Kept.{made_picked, picked_numbers}
 
-rises_map : {A B : Type 0} (g : A → B) (n : ℕ) (xs : List (ℕ × A)) (e : ℕ)
-    → rises n (map (λ p. (p.0, g p.1)) xs) e ≡ rises n xs e
-unfolding rises
-rises_map g n [] e = refl
-rises_map g n (x ∷ xs) e = ap (λ b. nat_le n x.0 && b) (rises_map g (suc x.0) xs e)
+pub below_end : (c : ℕ) → is_character c ≡ true → c < 0x30000
+below_end c h = let l : c ≤ 0x2ffff = leb-true c 0x2ffff h in omega arith
 
-covers_map : {A B : Type 0} (g : A → B) (xs : List (ℕ × A)) (e : ℕ)
-    → covers (map (λ p. (p.0, g p.1)) xs) e ≡ covers xs e
-unfolding covers
-covers_map g [] e = refl
-covers_map g (x ∷ xs) e = ap (λ b. (x.0 == 0) && b) (rises_map g 1 xs e)
-
-value_map : {A B : Type 0} (g : A → B) (d : A) (xs : List (ℕ × A)) (c : ℕ)
-    → value_from (g d) (map (λ p. (p.0, g p.1)) xs) c ≡ g (value_from d xs c)
-unfolding value_from
-value_map g d [] c = refl
-value_map g d (x ∷ xs) c = ap (λ v. value_from v (map (λ p. (p.0, g p.1)) xs) c) (sym (chosen (nat_le x.0 c)))
-    ∙ value_map g (cond (nat_le x.0 c) x.1 d) xs c
-  where
-    chosen : (b : Bool) → g (cond b x.1 d) ≡ cond b (g x.1) (g d)
-    chosen true = refl
-    chosen false = refl
-
-pub singles_step : (rs : List Regex) (op : Operation) (ps : List (ℕ × ℕ)) (k : ℕ) (p : ℕ × ℕ)
-    (cs cs' : List (ℕ × List ℕ)) → cs ≡ map (λ q. (q.0, kept_of rs op q.1)) (take k ps) → k < length ps
-    → p ≡ get_or ps k p →
-    cs' ≡ cs ++ (p.0, kept_of rs op p.1) ∷ [] → cs' ≡ map (λ q. (q.0, kept_of rs op q.1)) (take (k + 1) ps)
-singles_step rs op ps k p cs cs' h l is n =
-    n ∙ ap (λ xs. xs ++ (p.0, kept_of rs op p.1) ∷ []) h
-    ∙ sym (map-append (λ q. (q.0, kept_of rs op q.1)) (take k ps) (p ∷ []))
-    ∙ ap (λ xs. map (λ q. (q.0, kept_of rs op q.1)) xs) (ap (λ x. take k ps ++ x ∷ []) is ∙ sym (take_more ps k p l))
-
-pub single_whole : (rs : List Regex) (op : Operation) (ps : List (ℕ × ℕ)) (cs : List (ℕ × List ℕ))
-    → cs ≡ map (λ p. (p.0, kept_of rs op p.1)) ps → IsIntervalMap ps → covers cs 0x30000 ≡ true
-single_whole rs op ps cs is m = ap (λ xs. covers xs 0x30000) is ∙ covers_map (kept_of rs op) ps 0x30000 ∙ m.whole
-
-single_value : (rs : List Regex) (op : Operation) (ps : List (ℕ × ℕ)) (c : ℕ) → IsIntervalMap ps
-    → value_from [] (map (λ p. (p.0, kept_of rs op p.1)) ps) c ≡ kept_of rs op (value_at ps c)
-single_value rs op [] c m = let z : 0 < length {A = ℕ × ℕ} [] = map_some [] 0x30000 (omega arith) m.whole in
-    absurd (omega arith)
-single_value rs op (p ∷ ps) c m =
-    value_whole [] (kept_of rs op 0) (p.0, kept_of rs op p.1) (map (λ q. (q.0, kept_of rs op q.1)) ps) 0x30000 c
-    (covers_map (kept_of rs op) (p ∷ ps) 0x30000 ∙ m.whole)
-    ∙ value_map (kept_of rs op) 0 (p ∷ ps) c
-
-pub single_values : (rs : List Regex) (op : Operation) (ps : List (ℕ × ℕ)) (cs : List (ℕ × List ℕ)) (c : ℕ)
-    → cs ≡ map (λ p. (p.0, kept_of rs op p.1)) ps → IsIntervalMap ps
-    → value_from [] cs c ≡ kept_of rs op (value_at ps c)
-single_values rs op ps cs c is m = ap (λ xs. value_from [] xs c) is ∙ single_value rs op ps c m
-
--- of no part
-
-pub nothing_whole : (cs : List (ℕ × List ℕ)) → cs ≡ (0, []) ∷ [] → covers cs 0x30000 ≡ true
-unfolding covers rises
-nothing_whole cs is = ap (λ xs. covers xs 0x30000) is
-
-pub nothing_value : (rs : List Regex) (op : Operation) (memo : Memo) (parts : List ℕ) (cs : List (ℕ × List ℕ)) (c : ℕ)
-    → cs ≡ (0, []) ∷ [] → length parts ≡ 0 → value_from [] cs c ≡ kept rs op (targets_at memo parts c)
-unfolding value_from kept
-nothing_value rs op memo [] cs c is l = ap (λ xs. value_from [] xs c) is ∙ either (nat_le 0 c)
-  where
-    either : (b : Bool) → cond b (let x : List ℕ = [] in x) (let x : List ℕ = [] in x) ≡ []
-    either true = refl
-    either false = refl
-nothing_value rs op memo (i ∷ is') cs c is l = absurd (omega arith)
-
--- of one part
-
-one_list : (xs : List ℕ) (x : ℕ) → 0 < length xs → length xs < 2 → x ≡ get_or xs 0 x → xs ≡ x ∷ []
-one_list [] x a b h = absurd (omega arith)
-one_list (y ∷ []) x a b h = ap (λ z. z ∷ []) (sym h)
-one_list (y ∷ z ∷ zs) x a b h = absurd (omega arith)
-
-pub one_value : (rs : List Regex) (op : Operation) (memo : Memo) (parts : List ℕ) (part : ℕ) (ps : List (ℕ × ℕ))
-    (cs : List (ℕ × List ℕ)) (c : ℕ) →
-    0 < length parts → length parts < 2 → part ≡ get_or parts 0 part → Some ps ≡ entry_of memo part
-    → cs ≡ map (λ p. (p.0, kept_of rs op p.1)) ps → IsIntervalMap ps →
-    value_from [] cs c ≡ kept rs op (targets_at memo parts c)
-unfolding kept
-one_value rs op memo parts part ps cs c a b h e is m =
-    single_values rs op ps cs c is m
-    ∙ ap (λ o. kept_of rs op (value_at (unwrap_or o []) c)) e
-    ∙ sym (append-nil (kept_of rs op (value_at (unwrap_or (entry_of memo part) []) c)))
-    ∙ ap (λ xs. kept rs op (targets_at memo xs c)) (sym (one_list parts part a b h))
-
--- of two halves
-
-pub halves_value : (rs : List Regex) (op : Operation) (memo : Memo) (parts front back : List ℕ) (k : ℕ)
-    (cs ls rs' : List (ℕ × List ℕ)) (c : ℕ) → front ≡ take k parts → back ≡ drop k parts →
-    value_from [] cs c ≡ value_from [] ls c ++ value_from [] rs' c →
-    value_from [] ls c ≡ kept rs op (targets_at memo front c)
-    → value_from [] rs' c ≡ kept rs op (targets_at memo back c)
-    → value_from [] cs c ≡ kept rs op (targets_at memo parts c)
-halves_value rs op memo parts front back k cs ls rs' c f b v l r =
-    v ∙ ap₂ (λ x y. x ++ y) l r ∙ sym (kept-append rs op (targets_at memo front c) (targets_at memo back c))
-    ∙ ap (kept rs op) (sym (map-append (λ i. value_at (unwrap_or (entry_of memo i) []) c) front back))
-    ∙ ap (λ xs. kept rs op (targets_at memo xs c)) (ap₂ (λ x y. x ++ y) f b ∙ take-append-drop k parts)
+pub values_of_maps : (memo : Memo) (parts : List ℕ) (c : ℕ)
+    → values_at (map (map_of memo) parts) c ≡ targets_at memo parts c
+values_of_maps memo [] c = refl
+values_of_maps memo (i ∷ is) c = ap (λ xs. value_at (map_of memo i) c ∷ xs) (values_of_maps memo is c)
 
 -- what the entries are
 
@@ -141,21 +51,35 @@ target_numbers rs memo (i ∷ is) c f h =
     All-cons (λ i. i < length rs) (value_at (unwrap_or (entry_of memo i) []) c) (targets_at memo is c) v
     (target_numbers rs memo is c f (λ j d l. h (suc j) d (omega (arith, l))))
 
--- the choices of the parts are numbers, and what is made of them is what is made of the derivatives
+-- what is picked is numbers, and what is made of it is what is made of the derivatives
 
-pub choice_numbers_of : (rs : List Regex) (op : Operation) (memo : Memo) (parts : List ℕ) (cs : List (ℕ × List ℕ))
-    → IsFaithful rs memo → HaveEntries memo parts →
-    ((c : ℕ) → value_from [] cs c ≡ kept rs op (targets_at memo parts c)) → (c : ℕ) → AllNumbers rs (value_from [] cs c)
-choice_numbers_of rs op memo parts cs f h v c =
-    subst (AllNumbers rs) (sym (v c))
-    (kept_numbers rs op (targets_at memo parts c) (target_numbers rs memo parts c f h))
+-- the choices are picked of the targets of parts
+pub record ArePicked (rs : List Regex) (k : Constants) (op : Operation) (memo : Memo) (parts : List ℕ)
+    (maps : List (List (ℕ × ℕ))) (cs : List (ℕ × List ℕ)) : Type 0 where
+  pub constants : AreConstants rs k
+  pub faithful : IsFaithful rs memo
+  pub entries : HaveEntries memo parts
+  pub maps_are : maps ≡ map (map_of memo) parts
+  pub values : (c : ℕ) → c < 0x30000 → value_from [] cs c ≡ picked k op (values_at maps c)
 
-pub made_of_choices : (rs : List Regex) (op : Operation) (memo : Memo) (parts : List ℕ) (cs : List (ℕ × List ℕ))
-    → IsFaithful rs memo → HaveEntries memo parts →
-    ((c : ℕ) → value_from [] cs c ≡ kept rs op (targets_at memo parts c)) → (c : ℕ) → is_character c ≡ true
+picked_value : (rs : List Regex) (k : Constants) (op : Operation) (memo : Memo) (parts : List ℕ)
+    (maps : List (List (ℕ × ℕ))) (cs : List (ℕ × List ℕ)) → ArePicked rs k op memo parts maps cs → (c : ℕ) → c < 0x30000
+    → value_from [] cs c ≡ picked k op (targets_at memo parts c)
+picked_value rs k op memo parts maps cs p c l =
+    p.values c l ∙ ap (λ ms. picked k op (values_at ms c)) p.maps_are ∙ ap (picked k op) (values_of_maps memo parts c)
+
+pub choice_numbers_of : (rs : List Regex) (k : Constants) (op : Operation) (memo : Memo) (parts : List ℕ)
+    (maps : List (List (ℕ × ℕ))) (cs : List (ℕ × List ℕ)) → ArePicked rs k op memo parts maps cs → (c : ℕ) → c < 0x30000
+    → AllNumbers rs (value_from [] cs c)
+choice_numbers_of rs k op memo parts maps cs p c l =
+    subst (AllNumbers rs) (sym (picked_value rs k op memo parts maps cs p c l))
+    (picked_numbers rs k op (targets_at memo parts c) p.constants (target_numbers rs memo parts c p.faithful p.entries))
+
+pub made_of_choices : (rs : List Regex) (k : Constants) (op : Operation) (memo : Memo) (parts : List ℕ)
+    (maps : List (List (ℕ × ℕ))) (cs : List (ℕ × List ℕ)) → ArePicked rs k op memo parts maps cs → (c : ℕ)
+    → is_character c ≡ true
     → made rs op (regexes_at rs (value_from [] cs c)) ≡ made rs op (nd_each (regexes_at rs parts) c)
-made_of_choices rs op memo parts cs f h v c u =
-    ap (λ ids. made rs op (regexes_at rs ids)) (v c) ∙ made_kept rs op (targets_at memo parts c)
-    ∙ ap (made rs op) (targets_are rs memo parts c f h u)
-
--- a union of heads and tails
+made_of_choices rs k op memo parts maps cs p c u =
+    ap (λ ids. made rs op (regexes_at rs ids)) (picked_value rs k op memo parts maps cs p c (below_end c u))
+    ∙ made_picked rs k op (targets_at memo parts c) p.constants
+    ∙ ap (made rs op) (targets_are rs memo parts c p.faithful p.entries u)

@@ -1,5 +1,5 @@
 -- The derivative of a concatenation.
-use Rattle.std.proofs.Common.{◌≡◌, ℕ, zero, suc, ◌<◌, ◌≤◌, true, false, cond, Some, None, Option, List, [], ◌∷◌, ◌++◌, length, map, refl, sym, ap, ap₂, subst, ◌∙◌, arith}
+use Rattle.std.proofs.Common.{◌≡◌, ℕ, zero, suc, ◌<◌, ◌≤◌, true, false, cond, Some, None, Option, List, [], ◌∷◌, length, refl, sym, ap, ap₂, subst, ◌∙◌, arith}
 use Rattle.std.specs.Prelude.{IfSome, IfNone}
 use Rattle.std.specs.List.{All}
 use Rattle.std.proofs.lemmas.List.Elements.{All-nil, All-cons}
@@ -8,14 +8,15 @@ use Rattle.sb_lang.specs.Regex.{Regex, cat}
 use Rattle.sb_lang.specs.Constructors.{mkalt, mkcat}
 use Rattle.sb_lang.specs.Derivative.{nd, nds, nullable}
 use Rattle.sb_regex.specs.Numbered.{regex_at, regexes_at, AllNumbers, Extends}
+use Rattle.sb_deriv.specs.declared.operation.Constants.{Constants}
 use Rattle.sb_deriv.specs.declared.operation.Operation.TheVariants as operation
 use Rattle.sb_deriv.specs.Pieces.{value_from, value_at}
 use Rattle.sb_deriv.specs.Faithful.{IsMapOf, IsDerivative, IsFaithful, Memo}
-use Rattle.sb_deriv.specs.Choices.{made, kept, kept_of, targets_at, nd_each, HaveEntries}
+use Rattle.sb_deriv.specs.Choices.{made, picked, map_of, values_at, targets_at, nd_each, AreConstants, HaveEntries}
 use Rattle.sb_regex.proofs.CallerLemmas.{at_kept}
-use Rattle.sb_deriv.proofs.Derivatives.{value_number, map_same, faithful_kept}
-use Rattle.sb_deriv.proofs.Kept.{made_kept, kept_numbers}
-use Rattle.sb_deriv.proofs.Gathering.{single_values, targets_are, target_numbers, made_of_choices}
+use Rattle.sb_deriv.proofs.Derivatives.{value_number, map_same, faithful_kept, constants_kept}
+use Rattle.sb_deriv.proofs.Kept.{made_picked, picked_numbers}
+use Rattle.sb_deriv.proofs.Gathering.{ArePicked, below_end, targets_are, target_numbers, made_of_choices}
 
 pub some_weaker : {A : Type 0} (o : Option A) (P Q : A → Type 0) → ((x : A) → P x → Q x) → IfSome o P → IfSome o Q
 some_weaker None P Q f h = h
@@ -36,70 +37,72 @@ have_second memo a b h (suc k) d l = absurd (omega arith)
 pub one_below : (n a : ℕ) → a < n → All (λ i. i < n) (a ∷ [])
 one_below n a p = All-cons (λ i. i < n) a [] p (All-nil (λ i. i < n))
 
-joined_value : (rs : List Regex) (memo : Memo) (b : ℕ) (ps : List (ℕ × ℕ)) (cs hs ts : List (ℕ × List ℕ)) (x : ℕ) →
-    value_from [] cs x ≡ value_from [] hs x ++ value_from [] ts x
-    → value_from [] hs x ≡ kept_of rs operation.Alt (value_at ps x)
-    → value_from [] ts x ≡ kept rs operation.Alt (targets_at memo (b ∷ []) x) →
-    value_from [] cs x ≡ kept rs operation.Alt (value_at ps x ∷ targets_at memo (b ∷ []) x)
-unfolding kept
-joined_value rs memo b ps cs hs ts x v h t = v ∙ ap₂ (λ y z. y ++ z) h t
-
 -- what is known of heads and tails
-pub record Parted (rs rs1 : List Regex) (memo : Memo) (a b : ℕ) (ps : List (ℕ × ℕ)) (first cs hs ts : List (ℕ × List ℕ))
-    : Type 0 where
+pub record Parted (rs rs1 : List Regex) (k : Constants) (memo : Memo) (a b : ℕ) (first : List (List (ℕ × ℕ)))
+    (fs : List (ℕ × List ℕ)) (ps : List (ℕ × ℕ)) (cs : List (ℕ × List ℕ)) : Type 0 where
+  pub constants : AreConstants rs k
   pub faithful : IsFaithful rs memo
   pub entries : HaveEntries memo (a ∷ b ∷ [])
   pub tail : b < length rs
   pub extends : Extends rs rs1
-  pub firsts : (x : ℕ) → value_from [] first x ≡ kept rs (operation.Cat b) (targets_at memo (a ∷ []) x)
-  pub made_heads : IsMapOf rs1 (λ c. made rs (operation.Cat b) (regexes_at rs (value_from [] first c))) ps
-  pub heads : hs ≡ map (λ p. (p.0, kept_of rs1 operation.Alt p.1)) ps
-  pub tails : (x : ℕ) → value_from [] ts x ≡ kept rs1 operation.Alt (targets_at memo (b ∷ []) x)
-  pub joined : (x : ℕ) → value_from [] cs x ≡ value_from [] hs x ++ value_from [] ts x
+  pub first_is : first ≡ map_of memo a ∷ []
+  pub firsts : (x : ℕ) → x < 0x30000 → value_from [] fs x ≡ picked k (operation.Cat b) (values_at first x)
+  pub made_heads : IsMapOf rs1 (λ c. made rs (operation.Cat b) (regexes_at rs (value_from [] fs c))) ps
+  pub both : (x : ℕ) → x < 0x30000
+      → value_from [] cs x ≡ picked k operation.Alt (value_at ps x ∷ value_at (map_of memo b) x ∷ [])
 
-parted_value : (rs rs1 : List Regex) (memo : Memo) (a b : ℕ) (ps : List (ℕ × ℕ)) (first cs hs ts : List (ℕ × List ℕ))
-    → Parted rs rs1 memo a b ps first cs hs ts → (x : ℕ) →
-    value_from [] cs x ≡ kept rs1 operation.Alt (value_at ps x ∷ targets_at memo (b ∷ []) x)
-parted_value rs rs1 memo a b ps first cs hs ts p x =
-    joined_value rs1 memo b ps cs hs ts x (p.joined x)
-    (single_values rs1 operation.Alt ps hs x p.heads p.made_heads.ordered) (p.tails x)
+pub first_picked : (rs : List Regex) (k : Constants) (memo : Memo) (a b : ℕ) (first : List (List (ℕ × ℕ)))
+    (fs : List (ℕ × List ℕ)) → AreConstants rs k → IsFaithful rs memo → HaveEntries memo (a ∷ b ∷ [])
+    → first ≡ map_of memo a ∷ [] →
+    ((x : ℕ) → x < 0x30000 → value_from [] fs x ≡ picked k (operation.Cat b) (values_at first x))
+    → ArePicked rs k (operation.Cat b) memo (a ∷ []) first fs
+first_picked rs k memo a b first fs c f h is v = record {
+  constants = c;
+  faithful = f;
+  entries = have_first memo a b h;
+  maps_are = is;
+  values = v;
+}
 
-pub parted_numbers : (rs rs1 : List Regex) (memo : Memo) (a b : ℕ) (ps : List (ℕ × ℕ))
-    (first cs hs ts : List (ℕ × List ℕ)) → Parted rs rs1 memo a b ps first cs hs ts → (x : ℕ)
-    → AllNumbers rs1 (value_from [] cs x)
-parted_numbers rs rs1 memo a b ps first cs hs ts p x =
-    let v = parted_value rs rs1 memo a b ps first cs hs ts p x in
+pub parted_numbers : (rs rs1 : List Regex) (k : Constants) (memo : Memo) (a b : ℕ) (first : List (List (ℕ × ℕ)))
+    (fs : List (ℕ × List ℕ)) (ps : List (ℕ × ℕ)) (cs : List (ℕ × List ℕ)) → Parted rs rs1 k memo a b first fs ps cs
+    → (x : ℕ) → x < 0x30000 → AllNumbers rs1 (value_from [] cs x)
+parted_numbers rs rs1 k memo a b first fs ps cs p x l =
     let f : IsFaithful rs1 memo = faithful_kept rs rs1 memo p.extends p.faithful in
     let n : AllNumbers rs1 (value_at ps x ∷ targets_at memo (b ∷ []) x) =
     All-cons (λ i. i < length rs1) (value_at ps x) (targets_at memo (b ∷ []) x)
     (value_number rs1 ps x p.made_heads.ordered p.made_heads.targets)
     (target_numbers rs1 memo (b ∷ []) x f (have_second memo a b p.entries)) in
-    subst (AllNumbers rs1) (sym v) (kept_numbers rs1 operation.Alt (value_at ps x ∷ targets_at memo (b ∷ []) x) n)
+    subst (AllNumbers rs1) (sym (p.both x l))
+    (picked_numbers rs1 k operation.Alt (value_at ps x ∷ targets_at memo (b ∷ []) x)
+    (constants_kept rs rs1 k p.extends p.constants) n)
 
-union_kept : (rs : List Regex) (ts : List ℕ)
-    → mkalt (regexes_at rs (kept rs operation.Alt ts)) ≡ mkalt (regexes_at rs ts)
+union_picked : (rs : List Regex) (k : Constants) (ts : List ℕ) → AreConstants rs k
+    → mkalt (regexes_at rs (picked k operation.Alt ts)) ≡ mkalt (regexes_at rs ts)
 unfolding made
-union_kept rs ts = made_kept rs operation.Alt ts
+union_picked rs k ts a = made_picked rs k operation.Alt ts a
 
 head_made : (rs : List Regex) (b : ℕ) (r : Regex) → made rs (operation.Cat b) (r ∷ []) ≡ mkcat r (regex_at rs b)
 unfolding made
 head_made rs b r = refl
 
-pub parted_values : (rs rs1 : List Regex) (memo : Memo) (a b : ℕ) (ps : List (ℕ × ℕ))
-    (first cs hs ts : List (ℕ × List ℕ)) → Parted rs rs1 memo a b ps first cs hs ts → (x : ℕ) → is_character x ≡ true →
+pub parted_values : (rs rs1 : List Regex) (k : Constants) (memo : Memo) (a b : ℕ) (first : List (List (ℕ × ℕ)))
+    (fs : List (ℕ × List ℕ)) (ps : List (ℕ × ℕ)) (cs : List (ℕ × List ℕ)) → Parted rs rs1 k memo a b first fs ps cs
+    → (x : ℕ) → is_character x ≡ true →
     mkalt (regexes_at rs1 (value_from [] cs x))
     ≡ mkalt (mkcat (nd (regex_at rs a) x) (regex_at rs b) ∷ nd (regex_at rs b) x ∷ [])
-parted_values rs rs1 memo a b ps first cs hs ts p x u =
+parted_values rs rs1 k memo a b first fs ps cs p x u =
     let f : IsFaithful rs1 memo = faithful_kept rs rs1 memo p.extends p.faithful in
     let h : regex_at rs1 (value_at ps x) ≡ mkcat (nd (regex_at rs a) x) (regex_at rs b) =
     p.made_heads.values x u
-    ∙ made_of_choices rs (operation.Cat b) memo (a ∷ []) first p.faithful (have_first memo a b p.entries) p.firsts x
-    u ∙ head_made rs b (nd (regex_at rs a) x) in
+    ∙ made_of_choices rs k (operation.Cat b) memo (a ∷ []) first fs
+    (first_picked rs k memo a b first fs p.constants p.faithful p.entries p.first_is p.firsts) x u
+    ∙ head_made rs b (nd (regex_at rs a) x) in
     let t : regexes_at rs1 (targets_at memo (b ∷ []) x) ≡ nd (regex_at rs b) x ∷ [] =
     targets_are rs1 memo (b ∷ []) x f (have_second memo a b p.entries) u
     ∙ ap (λ r. nd r x ∷ []) (at_kept rs rs1 b p.extends p.tail) in
-    ap (λ ids. mkalt (regexes_at rs1 ids)) (parted_value rs rs1 memo a b ps first cs hs ts p x)
-    ∙ union_kept rs1 (value_at ps x ∷ targets_at memo (b ∷ []) x)
+    ap (λ ids. mkalt (regexes_at rs1 ids)) (p.both x (below_end x u))
+    ∙ union_picked rs1 k (value_at ps x ∷ targets_at memo (b ∷ []) x) (constants_kept rs rs1 k p.extends p.constants)
     ∙ ap₂ (λ y z. mkalt (y ∷ z)) h t
 
 cat_plain : (rs : List Regex) (a b c : ℕ) → nullable (regex_at rs a) ≡ false

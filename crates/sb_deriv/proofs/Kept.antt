@@ -1,18 +1,21 @@
 -- Members that make no difference to a union or an intersection.
-use Rattle.std.proofs.Common.{◌≡◌, ℕ, Bool, true, false, not, ◌||◌, cond, List, [], ◌∷◌, ◌++◌, refl, sym, ap, ap₂, subst, suc, ◌<◌, length, arith, append_assoc, ◌∙◌}
+use Rattle.std.proofs.Common.{◌≡◌, ℕ, Bool, true, false, not, ◌||◌, ◌==◌, cond, List, [], ◌∷◌, ◌++◌, refl, sym, ap, ap₂, subst, ◌<◌, length, ◌∙◌}
 use Rattle.std.specs.Prelude.{filter, flat_map}
+use Rattle.std.proofs.lemmas.Bool.{or_left, or_right, eqb-true, eq-eqb}
 use Rattle.std.specs.List.{list_any}
 use Rattle.std.proofs.lemmas.Grind.{flat_map-append}
 use Rattle.std.proofs.lemmas.List.Folds.{list_any-append}
-use Rattle.std.proofs.lemmas.List.Elements.{filter-append, All-append, All-nil, All-cons}
-use Rattle.sb_lang.specs.Regex.{Regex, none, eps, set, cat, alt, and, neg, star, rep, path}
+use Rattle.std.proofs.lemmas.List.Elements.{filter-append, All-filter, All-nil, All-cons}
+use Rattle.sb_lang.specs.Regex.{Regex, none, neg}
 use Rattle.sb_lang.specs.Order.{code}
 use Rattle.sb_class.specs.Ranges.{Range}
 use Rattle.sb_lang.specs.Constructors.{anything, mkalt, mkand, alternatives, conjuncts, ranges_of, is_set, is_none, is_anything, join_sets, meet_sets, meet_of, mkset, union_of, alt_of, and_of, sorted}
 use Rattle.sb_regex.specs.Numbered.{regex_at, regexes_at, AllNumbers}
+use Rattle.sb_regex.proofs.CallerLemmas.{names_at, names_below}
+use Rattle.sb_deriv.specs.declared.operation.Constants.{Constants}
 use Rattle.sb_deriv.specs.declared.operation.Operation.{Operation}
 use Rattle.sb_deriv.specs.declared.operation.Operation.TheVariants as operation
-use Rattle.sb_deriv.specs.Choices.{made, drops, is_not_none, is_no_word, kept, kept_of}
+use Rattle.sb_deriv.specs.Choices.{made, drops, absorbs, absorbing, kept, picked, leads, joined, AreConstants}
 
 -- three parts of what is made of members
 abbrev ranges : List Regex → List (List Range)
@@ -65,38 +68,57 @@ none_drops : (xs ys : List Regex) → Alike is_anything is_none (flat_map altern
 unfolding alternatives ranges_of is_set code
 none_drops xs ys h = record { sets = h.sets; whole = h.whole; rest = h.rest }
 
-no_word_is : (r : Regex) → is_no_word r ≡ true → r ≡ none
-unfolding is_no_word
-no_word_is none h = refl
-no_word_is eps h = absurd (cc)
-no_word_is (set v) h = absurd (cc)
-no_word_is (cat a b) h = absurd (cc)
-no_word_is (alt ps) h = absurd (cc)
-no_word_is (and ps) h = absurd (cc)
-no_word_is (neg a) h = absurd (cc)
-no_word_is (star a) h = absurd (cc)
-no_word_is (rep a n m) h = absurd (cc)
-no_word_is (path a b) h = absurd (cc)
-
-alt_kept : (rs : List Regex) (ts : List ℕ)
-    → Alike is_anything is_none (flat_map alternatives (regexes_at rs (kept rs operation.Alt ts)))
+alt_kept : (rs : List Regex) (k : Constants) (ts : List ℕ) → AreConstants rs k
+    → Alike is_anything is_none (flat_map alternatives (regexes_at rs (kept k operation.Alt ts)))
     (flat_map alternatives (regexes_at rs ts))
-unfolding kept drops
-alt_kept rs [] = record { sets = refl; whole = refl; rest = refl }
-alt_kept rs (t ∷ ts) = step (alt_kept rs ts) (is_no_word (regex_at rs t)) refl
+unfolding drops
+alt_kept rs k [] a = record { sets = refl; whole = refl; rest = refl }
+alt_kept rs k (t ∷ ts) a = step (alt_kept rs k ts a) (t == k.none) refl
   where
-    step : Alike is_anything is_none (flat_map alternatives (regexes_at rs (kept rs operation.Alt ts)))
-        (flat_map alternatives (regexes_at rs ts)) → (b : Bool) → is_no_word (regex_at rs t) ≡ b →
+    step : Alike is_anything is_none (flat_map alternatives (regexes_at rs (kept k operation.Alt ts)))
+        (flat_map alternatives (regexes_at rs ts)) → (b : Bool) → (t == k.none) ≡ b →
         Alike is_anything is_none
-        (flat_map alternatives (regexes_at rs (cond b [] (t ∷ []) ++ kept rs operation.Alt ts)))
+        (flat_map alternatives (regexes_at rs (cond (not b) (t ∷ kept k operation.Alt ts) (kept k operation.Alt ts))))
         (flat_map alternatives (regexes_at rs (t ∷ ts)))
-    step a true h =
+    step h true e =
+        let z : regex_at rs t ≡ none = ap (regex_at rs) (eqb-true t k.none e) ∙ names_at rs k.none none a.none_is in
         subst (λ (r : Regex). Alike is_anything is_none
-        (flat_map alternatives (regexes_at rs (kept rs operation.Alt ts)))
-        (flat_map alternatives (r ∷ regexes_at rs ts))) (sym (no_word_is (regex_at rs t) h))
-        (none_drops (regexes_at rs (kept rs operation.Alt ts)) (regexes_at rs ts) a)
-    step a false h = alike_after is_anything is_none (alternatives (regex_at rs t))
-        (flat_map alternatives (regexes_at rs (kept rs operation.Alt ts))) (flat_map alternatives (regexes_at rs ts)) a
+        (flat_map alternatives (regexes_at rs (kept k operation.Alt ts)))
+        (flat_map alternatives (r ∷ regexes_at rs ts))) (sym z)
+        (none_drops (regexes_at rs (kept k operation.Alt ts)) (regexes_at rs ts) h)
+    step h false e = alike_after is_anything is_none (alternatives (regex_at rs t))
+        (flat_map alternatives (regexes_at rs (kept k operation.Alt ts)))
+        (flat_map alternatives (regexes_at rs ts)) h
+
+-- every word among the members is the whole
+has_anything : (rs : List Regex) (e : ℕ) (ts : List ℕ) → regex_at rs e ≡ neg none → list_any (λ t. t == e) ts ≡ true
+    → list_any is_anything (others (flat_map alternatives (regexes_at rs ts))) ≡ true
+unfolding alternatives is_set code
+has_anything rs e [] is h = absurd (cc)
+has_anything rs e (t ∷ ts) is h = step (t == e) refl (λ r. has_anything rs e ts is r)
+  where
+    step : (b : Bool) → (t == e) ≡ b → (list_any (λ x. x == e) ts ≡ true
+        → list_any is_anything (others (flat_map alternatives (regexes_at rs ts))) ≡ true)
+        → list_any is_anything (others (flat_map alternatives (regexes_at rs (t ∷ ts)))) ≡ true
+    step true u r =
+        let z : regex_at rs t ≡ neg none = ap (regex_at rs) (eqb-true t e u) ∙ is in
+        subst (λ (x : Regex). list_any is_anything (others (flat_map alternatives (x ∷ regexes_at rs ts))) ≡ true)
+        (sym z) refl
+    step false u r =
+        ap (list_any is_anything)
+        (filter-append (λ x. not (is_set x)) (alternatives (regex_at rs t)) (flat_map alternatives (regexes_at rs ts)))
+        ∙ list_any-append is_anything (others (alternatives (regex_at rs t)))
+        (others (flat_map alternatives (regexes_at rs ts)))
+        ∙ or_right _ _ (r (ap (λ b. b || list_any (λ x. x == e) ts) (sym u) ∙ h))
+
+alt_whole : (rs : List Regex) → list_any is_anything (others (flat_map alternatives rs)) ≡ true → mkalt rs ≡ anything
+unfolding mkalt join_sets
+alt_whole rs h =
+    ap (λ b. cond b anything (alt_of (sorted
+    (cond (not (is_none (mkset (union_of (ranges (flat_map alternatives rs))))))
+    (mkset (union_of (ranges (flat_map alternatives rs))) ∷ without is_none (others (flat_map alternatives rs)))
+    (without is_none (others (flat_map alternatives rs)))))))
+    (or_right (is_anything (mkset (union_of (ranges (flat_map alternatives rs))))) _ h)
 
 -- intersections
 
@@ -130,80 +152,175 @@ anything_drops : (xs ys : List Regex) → Alike is_none is_anything (flat_map co
 unfolding conjuncts ranges_of is_set code
 anything_drops xs ys h = record { sets = h.sets; whole = h.whole; rest = h.rest }
 
-not_none_is : (r : Regex) → is_not_none r ≡ true → r ≡ neg none
-unfolding is_not_none
-not_none_is none h = absurd (cc)
-not_none_is eps h = absurd (cc)
-not_none_is (set v) h = absurd (cc)
-not_none_is (cat a b) h = absurd (cc)
-not_none_is (alt ps) h = absurd (cc)
-not_none_is (and ps) h = absurd (cc)
-not_none_is (neg none) h = refl
-not_none_is (neg eps) h = absurd (cc)
-not_none_is (neg (set v)) h = absurd (cc)
-not_none_is (neg (cat a b)) h = absurd (cc)
-not_none_is (neg (alt ps)) h = absurd (cc)
-not_none_is (neg (and ps)) h = absurd (cc)
-not_none_is (neg (neg a)) h = absurd (cc)
-not_none_is (neg (star a)) h = absurd (cc)
-not_none_is (neg (rep a n m)) h = absurd (cc)
-not_none_is (neg (path a b)) h = absurd (cc)
-not_none_is (star a) h = absurd (cc)
-not_none_is (rep a n m) h = absurd (cc)
-not_none_is (path a b) h = absurd (cc)
-
-and_kept : (rs : List Regex) (ts : List ℕ)
-    → Alike is_none is_anything (flat_map conjuncts (regexes_at rs (kept rs operation.And ts)))
+and_kept : (rs : List Regex) (k : Constants) (ts : List ℕ) → AreConstants rs k
+    → Alike is_none is_anything (flat_map conjuncts (regexes_at rs (kept k operation.And ts)))
     (flat_map conjuncts (regexes_at rs ts))
-unfolding kept drops
-and_kept rs [] = record { sets = refl; whole = refl; rest = refl }
-and_kept rs (t ∷ ts) = step (and_kept rs ts) (is_not_none (regex_at rs t)) refl
+unfolding drops
+and_kept rs k [] a = record { sets = refl; whole = refl; rest = refl }
+and_kept rs k (t ∷ ts) a = step (and_kept rs k ts a) (t == k.everything) refl
   where
-    step : Alike is_none is_anything (flat_map conjuncts (regexes_at rs (kept rs operation.And ts)))
-        (flat_map conjuncts (regexes_at rs ts)) → (b : Bool) → is_not_none (regex_at rs t) ≡ b →
-        Alike is_none is_anything (flat_map conjuncts (regexes_at rs (cond b [] (t ∷ []) ++ kept rs operation.And ts)))
+    step : Alike is_none is_anything (flat_map conjuncts (regexes_at rs (kept k operation.And ts)))
+        (flat_map conjuncts (regexes_at rs ts)) → (b : Bool) → (t == k.everything) ≡ b →
+        Alike is_none is_anything
+        (flat_map conjuncts (regexes_at rs (cond (not b) (t ∷ kept k operation.And ts) (kept k operation.And ts))))
         (flat_map conjuncts (regexes_at rs (t ∷ ts)))
-    step a true h =
-        subst (λ (r : Regex). Alike is_none is_anything (flat_map conjuncts (regexes_at rs (kept rs operation.And ts)))
-        (flat_map conjuncts (r ∷ regexes_at rs ts))) (sym (not_none_is (regex_at rs t) h))
-        (anything_drops (regexes_at rs (kept rs operation.And ts)) (regexes_at rs ts) a)
-    step a false h = alike_after is_none is_anything (conjuncts (regex_at rs t))
-        (flat_map conjuncts (regexes_at rs (kept rs operation.And ts))) (flat_map conjuncts (regexes_at rs ts)) a
+    step h true e =
+        let z : regex_at rs t ≡ neg none =
+        ap (regex_at rs) (eqb-true t k.everything e) ∙ names_at rs k.everything (neg none) a.everything_is in
+        subst (λ (r : Regex). Alike is_none is_anything
+        (flat_map conjuncts (regexes_at rs (kept k operation.And ts)))
+        (flat_map conjuncts (r ∷ regexes_at rs ts))) (sym z)
+        (anything_drops (regexes_at rs (kept k operation.And ts)) (regexes_at rs ts) h)
+    step h false e = alike_after is_none is_anything (conjuncts (regex_at rs t))
+        (flat_map conjuncts (regexes_at rs (kept k operation.And ts))) (flat_map conjuncts (regexes_at rs ts)) h
+
+-- none among the members is the whole
+has_none : (rs : List Regex) (e : ℕ) (ts : List ℕ) → regex_at rs e ≡ none → list_any (λ t. t == e) ts ≡ true
+    → list_any is_none (others (flat_map conjuncts (regexes_at rs ts))) ≡ true
+unfolding conjuncts is_set code
+has_none rs e [] is h = absurd (cc)
+has_none rs e (t ∷ ts) is h = step (t == e) refl (λ r. has_none rs e ts is r)
+  where
+    step : (b : Bool) → (t == e) ≡ b → (list_any (λ x. x == e) ts ≡ true
+        → list_any is_none (others (flat_map conjuncts (regexes_at rs ts))) ≡ true)
+        → list_any is_none (others (flat_map conjuncts (regexes_at rs (t ∷ ts)))) ≡ true
+    step true u r =
+        let z : regex_at rs t ≡ none = ap (regex_at rs) (eqb-true t e u) ∙ is in
+        subst (λ (x : Regex). list_any is_none (others (flat_map conjuncts (x ∷ regexes_at rs ts))) ≡ true)
+        (sym z) refl
+    step false u r =
+        ap (list_any is_none)
+        (filter-append (λ x. not (is_set x)) (conjuncts (regex_at rs t)) (flat_map conjuncts (regexes_at rs ts)))
+        ∙ list_any-append is_none (others (conjuncts (regex_at rs t)))
+        (others (flat_map conjuncts (regexes_at rs ts)))
+        ∙ or_right _ _ (r (ap (λ b. b || list_any (λ x. x == e) ts) (sym u) ∙ h))
+
+and_whole : (rs : List Regex) → list_any is_none (others (flat_map conjuncts rs)) ≡ true → mkand rs ≡ none
+and_whole rs h =
+    and_parts_of rs
+    ∙ ap (λ b. cond b none (and_of (sorted (without is_anything (meet_of (ranges (flat_map conjuncts rs)))
+    ++ without is_anything (others (flat_map conjuncts rs))))))
+    (or_right (list_any is_none (meet_of (ranges (flat_map conjuncts rs)))) _ h)
 
 -- all operations
 
-not_all : (rs : List Regex) (ts : List ℕ) → kept rs operation.Not ts ≡ ts
-unfolding kept drops
-not_all rs [] = refl
-not_all rs (t ∷ ts) = ap (λ xs. t ∷ xs) (not_all rs ts)
+none_any : {A : Type 0} (ts : List A) → list_any (λ t. false) ts ≡ true → ⊥
+none_any [] h = cc
+none_any (t ∷ ts) h = none_any ts h
 
-cat_all : (rs : List Regex) (b : ℕ) (ts : List ℕ) → kept rs (operation.Cat b) ts ≡ ts
-unfolding kept drops
-cat_all rs b [] = refl
-cat_all rs b (t ∷ ts) = ap (λ xs. t ∷ xs) (cat_all rs b ts)
+not_all : (k : Constants) (ts : List ℕ) → kept k operation.Not ts ≡ ts
+unfolding drops
+not_all k [] = refl
+not_all k (t ∷ ts) = ap (λ xs. t ∷ xs) (not_all k ts)
 
-pub made_kept : (rs : List Regex) (op : Operation) (ts : List ℕ)
-    → made rs op (regexes_at rs (kept rs op ts)) ≡ made rs op (regexes_at rs ts)
+cat_all : (k : Constants) (b : ℕ) (ts : List ℕ) → kept k (operation.Cat b) ts ≡ ts
+unfolding drops
+cat_all k b [] = refl
+cat_all k b (t ∷ ts) = ap (λ xs. t ∷ xs) (cat_all k b ts)
+
+made_kept : (rs : List Regex) (k : Constants) (op : Operation) (ts : List ℕ) → AreConstants rs k
+    → made rs op (regexes_at rs (kept k op ts)) ≡ made rs op (regexes_at rs ts)
 unfolding made
-made_kept rs operation.Alt ts = alt_same (regexes_at rs (kept rs operation.Alt ts)) (regexes_at rs ts) (alt_kept rs ts)
-made_kept rs operation.And ts = and_same (regexes_at rs (kept rs operation.And ts)) (regexes_at rs ts) (and_kept rs ts)
-made_kept rs operation.Not ts = ap (λ xs. made rs operation.Not (regexes_at rs xs)) (not_all rs ts)
-made_kept rs (operation.Cat b) ts = ap (λ xs. made rs (operation.Cat b) (regexes_at rs xs)) (cat_all rs b ts)
+made_kept rs k operation.Alt ts a =
+    alt_same (regexes_at rs (kept k operation.Alt ts)) (regexes_at rs ts) (alt_kept rs k ts a)
+made_kept rs k operation.And ts a =
+    and_same (regexes_at rs (kept k operation.And ts)) (regexes_at rs ts) (and_kept rs k ts a)
+made_kept rs k operation.Not ts a = ap (λ xs. made rs operation.Not (regexes_at rs xs)) (not_all k ts)
+made_kept rs k (operation.Cat b) ts a = ap (λ xs. made rs (operation.Cat b) (regexes_at rs xs)) (cat_all k b ts)
 
-pub kept-append : (rs : List Regex) (op : Operation) (xs ys : List ℕ)
-    → kept rs op (xs ++ ys) ≡ kept rs op xs ++ kept rs op ys
-unfolding kept
-kept-append rs op [] ys = refl
-kept-append rs op (x ∷ xs) ys = ap (λ zs. kept_of rs op x ++ zs) (kept-append rs op xs ys)
-    ∙ sym (append_assoc (kept_of rs op x) (kept rs op xs) (kept rs op ys))
+one_any : (e : ℕ) → list_any (λ t. t == e) (e ∷ []) ≡ true
+one_any e = or_left (e == e) false (eq-eqb e e refl)
 
-pub kept_numbers : (rs : List Regex) (op : Operation) (ts : List ℕ) → AllNumbers rs ts → AllNumbers rs (kept rs op ts)
-unfolding kept
-kept_numbers rs op [] h = h
-kept_numbers rs op (t ∷ ts) h =
-    All-append (λ i. i < length rs) (kept_of rs op t) (kept rs op ts) (one (drops op (regex_at rs t)))
-    (kept_numbers rs op ts (λ k d l. h (suc k) d (omega (arith, l))))
+made_absorbed : (rs : List Regex) (k : Constants) (op : Operation) (ts : List ℕ) → AreConstants rs k
+    → list_any (absorbs k op) ts ≡ true
+    → made rs op (regexes_at rs (absorbing k op ∷ [])) ≡ made rs op (regexes_at rs ts)
+unfolding made absorbs absorbing
+made_absorbed rs k operation.Alt ts a h =
+    let e : regex_at rs k.everything ≡ neg none = names_at rs k.everything (neg none) a.everything_is in
+    alt_whole (regexes_at rs (k.everything ∷ []))
+    (has_anything rs k.everything (k.everything ∷ []) e (one_any k.everything))
+    ∙ sym (alt_whole (regexes_at rs ts) (has_anything rs k.everything ts e h))
+made_absorbed rs k operation.And ts a h =
+    let e : regex_at rs k.none ≡ none = names_at rs k.none none a.none_is in
+    and_whole (regexes_at rs (k.none ∷ [])) (has_none rs k.none (k.none ∷ []) e (one_any k.none))
+    ∙ sym (and_whole (regexes_at rs ts) (has_none rs k.none ts e h))
+made_absorbed rs k operation.Not ts a h = absurd (none_any ts h)
+made_absorbed rs k (operation.Cat b) ts a h = absurd (none_any ts h)
+
+pub made_picked : (rs : List Regex) (k : Constants) (op : Operation) (ts : List ℕ) → AreConstants rs k
+    → made rs op (regexes_at rs (picked k op ts)) ≡ made rs op (regexes_at rs ts)
+made_picked rs k op ts a = step (list_any (absorbs k op) ts) refl
   where
-    one : (b : Bool) → AllNumbers rs (cond b [] (t ∷ []))
-    one true = All-nil (λ i. i < length rs)
-    one false = All-cons (λ i. i < length rs) t [] (h 0 0 (omega arith)) (All-nil (λ i. i < length rs))
+    step : (b : Bool) → list_any (absorbs k op) ts ≡ b
+        → made rs op (regexes_at rs (cond b (absorbing k op ∷ []) (kept k op ts))) ≡ made rs op (regexes_at rs ts)
+    step true h = made_absorbed rs k op ts a h
+    step false h = made_kept rs k op ts a
+
+absorbing_number : (rs : List Regex) (k : Constants) (op : Operation) → AreConstants rs k → absorbing k op < length rs
+unfolding absorbing
+absorbing_number rs k operation.Alt a = names_below rs k.everything (neg none) a.everything_is
+absorbing_number rs k operation.And a = names_below rs k.none none a.none_is
+absorbing_number rs k operation.Not a = names_below rs k.none none a.none_is
+absorbing_number rs k (operation.Cat b) a = names_below rs k.none none a.none_is
+
+pub picked_numbers : (rs : List Regex) (k : Constants) (op : Operation) (ts : List ℕ) → AreConstants rs k
+    → AllNumbers rs ts → AllNumbers rs (picked k op ts)
+picked_numbers rs k op ts a h = either (list_any (absorbs k op) ts)
+  where
+    either : (b : Bool) → AllNumbers rs (cond b (absorbing k op ∷ []) (kept k op ts))
+    either true = All-cons (λ i. i < length rs) (absorbing k op) [] (absorbing_number rs k op a)
+        (All-nil (λ i. i < length rs))
+    either false = All-filter (λ t. not (drops k op t)) (λ i. i < length rs) ts h
+
+-- what is picked of two lists together
+
+absorbing_absorbs : (k : Constants) (op : Operation) (ts : List ℕ) → list_any (absorbs k op) ts ≡ true
+    → absorbs k op (absorbing k op) ≡ true
+unfolding absorbs absorbing
+absorbing_absorbs k operation.Alt ts h = eq-eqb k.everything k.everything refl
+absorbing_absorbs k operation.And ts h = eq-eqb k.none k.none refl
+absorbing_absorbs k operation.Not ts h = absurd (none_any ts h)
+absorbing_absorbs k (operation.Cat b) ts h = absurd (none_any ts h)
+
+leads_kept : (k : Constants) (op : Operation) (ts : List ℕ) → list_any (absorbs k op) ts ≡ false
+    → leads k op (kept k op ts) ≡ false
+unfolding leads
+leads_kept k op [] h = refl
+leads_kept k op (t ∷ ts) h = step (absorbs k op t) refl (drops k op t) (λ r. leads_kept k op ts r)
+  where
+    step : (b : Bool) → absorbs k op t ≡ b → (d : Bool)
+        → (list_any (absorbs k op) ts ≡ false → leads k op (kept k op ts) ≡ false)
+        → leads k op (cond (not d) (t ∷ kept k op ts) (kept k op ts)) ≡ false
+    step true e d r = let z : true ≡ false = sym (or_left (absorbs k op t) (list_any (absorbs k op) ts) e) ∙ h in
+        absurd (cc)
+    step false e false r = e
+    step false e true r = r (ap (λ b. b || list_any (absorbs k op) ts) (sym e) ∙ h)
+
+pub picked-append : (k : Constants) (op : Operation) (xs ys : List ℕ)
+    → joined k op (picked k op xs) (picked k op ys) ≡ picked k op (xs ++ ys)
+unfolding leads
+picked-append k op xs ys = step (list_any (absorbs k op) xs) refl (list_any (absorbs k op) ys) refl
+  where
+    whole : (a b : Bool) → list_any (absorbs k op) xs ≡ a → list_any (absorbs k op) ys ≡ b
+        → list_any (absorbs k op) (xs ++ ys) ≡ (a || b)
+    whole a b p q = list_any-append (absorbs k op) xs ys ∙ ap₂ (λ x y. x || y) p q
+
+    step : (a : Bool) → list_any (absorbs k op) xs ≡ a → (b : Bool) → list_any (absorbs k op) ys ≡ b
+        → joined k op (cond a (absorbing k op ∷ []) (kept k op xs)) (cond b (absorbing k op ∷ []) (kept k op ys))
+        ≡ cond (list_any (absorbs k op) (xs ++ ys)) (absorbing k op ∷ []) (kept k op (xs ++ ys))
+    step true p b q =
+        ap (λ u. cond u (absorbing k op ∷ []) (cond (leads k op (cond b (absorbing k op ∷ []) (kept k op ys)))
+        (cond b (absorbing k op ∷ []) (kept k op ys))
+        (absorbing k op ∷ cond b (absorbing k op ∷ []) (kept k op ys)))) (absorbing_absorbs k op xs p)
+        ∙ sym (ap (λ u. cond u (absorbing k op ∷ []) (kept k op (xs ++ ys))) (whole true b p q))
+    step false p true q =
+        ap (λ u. cond u (kept k op xs) (cond (absorbs k op (absorbing k op)) (absorbing k op ∷ [])
+        (kept k op xs ++ absorbing k op ∷ []))) (leads_kept k op xs p)
+        ∙ ap (λ u. cond u (absorbing k op ∷ []) (kept k op xs ++ absorbing k op ∷ [])) (absorbing_absorbs k op ys q)
+        ∙ sym (ap (λ u. cond u (absorbing k op ∷ []) (kept k op (xs ++ ys))) (whole false true p q))
+    step false p false q =
+        ap (λ u. cond u (kept k op xs) (cond (leads k op (kept k op ys)) (kept k op ys) (kept k op xs ++ kept k op ys)))
+        (leads_kept k op xs p)
+        ∙ ap (λ u. cond u (kept k op ys) (kept k op xs ++ kept k op ys)) (leads_kept k op ys q)
+        ∙ sym (filter-append (λ t. not (drops k op t)) xs ys)
+        ∙ sym (ap (λ u. cond u (absorbing k op ∷ []) (kept k op (xs ++ ys))) (whole false false p q))

@@ -12,3 +12,5 @@ pub mod Waiting
 pub mod Heads
 pub mod RangesTo
 pub mod Gathered
+pub mod Choosing
+pub mod Flat

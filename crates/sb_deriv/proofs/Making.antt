@@ -4,8 +4,8 @@ use Rattle.std.specs.Prelude.{nat_le}
 use Rattle.std.specs.List.{All}
 use Rattle.std.proofs.lemmas.Bool.{eq-eqb}
 use Rattle.std.proofs.lemmas.Bool.Decides.{nat_tests}
-use Rattle.std.proofs.lemmas.List.{take_more, drop_more, take_all}
-use Rattle.std.proofs.lemmas.List.Elements.{All-nil}
+use Rattle.std.proofs.lemmas.List.{take_more, drop_more, take_all, get_or_default}
+use Rattle.std.proofs.lemmas.List.Elements.{All-nil, All-cons, All-append}
 use Rattle.sb_lang.specs.Regex.{Regex}
 use Rattle.sb_lang.specs.Constructors.{mkcat, mkalt, mkand, mknot}
 use Rattle.sb_regex.specs.Numbered.{regex_at, regexes_at, AllNumbers, Extends, Names}
@@ -13,9 +13,9 @@ use Rattle.sb_deriv.specs.declared.operation.Operation.{Operation}
 use Rattle.sb_deriv.specs.declared.operation.Operation.TheVariants as operation
 use Rattle.sb_deriv.specs.Pieces.{value_from, value_at, rises, covers, are_merged, targets_of}
 use Rattle.sb_deriv.specs.Faithful.{IsMapOf}
-use Rattle.sb_deriv.specs.Choices.{first_of, made, OperandIsKnown}
-use Rattle.sb_regex.proofs.CallerLemmas.{extends_same, extends_more, at_kept, ats_kept, names_at, names_below, numbers_kept}
-use Rattle.sb_deriv.proofs.PieceFacts.{rises_head, rises_rest, rises_from_first, value_here, value_pushed, value_below, map_some, covers_rises, covers_first}
+use Rattle.sb_deriv.specs.Choices.{first_of, made, list_of, OperandIsKnown, AreMade, IsFound}
+use Rattle.sb_regex.proofs.CallerLemmas.{extends_same, extends_more, at_kept, ats_kept, names_at, names_below, names_kept, numbers_kept}
+use Rattle.sb_deriv.proofs.PieceFacts.{rises_head, rises_rest, rises_from_first, value_here, starts_below, value_pushed, value_below, map_some, covers_rises, covers_first}
 
 pub made_later : (old new : List Regex) (op : Operation) (ids : List ℕ) → Extends old new → OperandIsKnown old op
     → AllNumbers old ids → made new op (regexes_at new ids) ≡ made old op (regexes_at old ids)
@@ -71,10 +71,12 @@ pub next_first : (cs : List (ℕ × List ℕ)) (k : ℕ) (x : ℕ × List ℕ) �
 next_first cs k x l is = drop_more cs k x l ∙ ap (λ y. y ∷ drop (k + 1) cs) (sym is)
 
 pub choice_numbers : (cs : List (ℕ × List ℕ)) (rs : List Regex) (k : ℕ) (x : ℕ × List ℕ) → covers cs 0x30000 ≡ true
-    → k < length cs → x ≡ get_or cs k x → ((c : ℕ) → AllNumbers rs (value_from [] cs c)) → AllNumbers rs x.1
+    → k < length cs → x ≡ get_or cs k x → ((c : ℕ) → c < 0x30000 → AllNumbers rs (value_from [] cs c))
+    → AllNumbers rs x.1
 choice_numbers cs rs k x h l is n =
-    let v : value_from [] cs x.0 ≡ x.1 = value_here [] 0 cs 0x30000 k x (covers_rises cs 0x30000 h) l is in
-    subst (AllNumbers rs) v (n x.0)
+    let r = covers_rises cs 0x30000 h in
+    let v : value_from [] cs x.0 ≡ x.1 = value_here [] 0 cs 0x30000 k x r l is in
+    subst (AllNumbers rs) v (n x.0 (starts_below 0 cs 0x30000 k x r l is))
 
 pub piece_whole : (cs : List (ℕ × List ℕ)) (rs0 rs : List Regex) (op : Operation) (k : ℕ) (out : List (ℕ × ℕ))
     (x : ℕ × List ℕ) → Making cs rs0 rs op k out → k < length cs → x ≡ get_or cs k x → covers out x.0 ≡ true
@@ -139,6 +141,30 @@ making_step cs rs0 rs rs' op k out out' x t m h l is known operand names e whole
         ∙ ap (λ ids. made rs0 op (regexes_at rs0 ids))
         (sym (taken c ∙ ap (λ b. cond b x.1 (value_from [] (take k cs) c)) u))
 
+-- the same of the piece at a place
+
+pub numbers_at : (cs : List (ℕ × List ℕ)) (rs : List Regex) (k : ℕ) → covers cs 0x30000 ≡ true → k < length cs
+    → ((c : ℕ) → c < 0x30000 → AllNumbers rs (value_from [] cs c)) → AllNumbers rs (list_of cs k)
+numbers_at cs rs k h l n =
+    choice_numbers cs rs k (get_or cs k (0, [])) h l (get_or_default cs k (0, []) (get_or cs k (0, [])) l) n
+
+pub whole_at : (cs : List (ℕ × List ℕ)) (rs0 rs : List Regex) (op : Operation) (k : ℕ) (out : List (ℕ × ℕ))
+    → Making cs rs0 rs op k out → k < length cs → covers out (get_or cs k (0, [])).0 ≡ true
+whole_at cs rs0 rs op k out m l =
+    piece_whole cs rs0 rs op k out (get_or cs k (0, [])) m l (get_or_default cs k (0, []) (get_or cs k (0, [])) l)
+
+pub making_at : (cs : List (ℕ × List ℕ)) (rs0 rs rs' : List Regex) (op : Operation) (k : ℕ) (out out' : List (ℕ × ℕ))
+    (t : ℕ) → Making cs rs0 rs op k out → covers cs 0x30000 ≡ true → k < length cs → AllNumbers rs0 (list_of cs k)
+    → OperandIsKnown rs0 op →
+    Names rs' t (made rs op (regexes_at rs (list_of cs k))) → Extends rs rs' →
+    ((e : ℕ) → (get_or cs k (0, [])).0 < e → covers out' e ≡ true) → are_merged out' ≡ true →
+    ((c : ℕ) → value_at out' c ≡ cond (nat_le (get_or cs k (0, [])).0 c) t (value_at out c)) →
+    ((n : ℕ) → t < n → All (λ i. i < n) (targets_of out) → All (λ i. i < n) (targets_of out')) →
+    Making cs rs0 rs' op (k + 1) out'
+making_at cs rs0 rs rs' op k out out' t m h l =
+    making_step cs rs0 rs rs' op k out out' (get_or cs k (0, [])) t m h l
+    (get_or_default cs k (0, []) (get_or cs k (0, [])) l)
+
 pub made_each : (cs : List (ℕ × List ℕ)) (rs0 rs : List Regex) (op : Operation) (k : ℕ) (out : List (ℕ × ℕ))
     → Making cs rs0 rs op k out → covers cs 0x30000 ≡ true → length cs ≤ k →
     IsMapOf rs (λ c. made rs0 op (regexes_at rs0 (value_from [] cs c))) out
@@ -159,3 +185,49 @@ made_each cs rs0 rs op k out m h l =
     first_of_none : (xs : List (ℕ × List ℕ)) → length xs ≡ 0 → first_of 0x30000 xs ≡ 0x30000
     first_of_none [] e = refl
     first_of_none (x ∷ xs) e = absurd (omega arith)
+
+-- what was made stays, and one more is made
+
+pub no_made : (rs : List Regex) (op : Operation) (cs : List (ℕ × List ℕ)) (ms : List (ℕ × ℕ)) → ms ≡ []
+    → AreMade rs op cs ms
+no_made rs op cs ms is k d l = absurd (omega (arith, ap length is, l))
+
+pub made_stay : (old new : List Regex) (op : Operation) (cs : List (ℕ × List ℕ)) (ms : List (ℕ × ℕ))
+    → Extends old new → OperandIsKnown old op → AreMade old op cs ms → AreMade new op cs ms
+made_stay old new op cs ms e known h k d l =
+    let m = h k d l in (
+      m.0,
+      numbers_kept old new (list_of cs (get_or ms k d).0) e m.1,
+      subst (λ (r : Regex). Names new (get_or ms k d).1 r)
+          (sym (made_later old new op (list_of cs (get_or ms k d).0) e known m.1))
+          (names_kept old new (get_or ms k d).1 (made old op (regexes_at old (list_of cs (get_or ms k d).0))) e m.2),
+    )
+
+abbrev IsOne : List Regex → Operation → List (ℕ × List ℕ) → ℕ × ℕ → Type 0
+IsOne rs op cs m =
+    (m.0 < length cs) × AllNumbers rs (list_of cs m.0) × Names rs m.1 (made rs op (regexes_at rs (list_of cs m.0)))
+
+pub made_more : (old new : List Regex) (op : Operation) (cs : List (ℕ × List ℕ)) (ms ms' : List (ℕ × ℕ)) (i t : ℕ)
+    → Extends old new → OperandIsKnown old op → AreMade old op cs ms → ms' ≡ ms ++ (i, t) ∷ [] → i < length cs
+    → AllNumbers old (list_of cs i) → Names new t (made old op (regexes_at old (list_of cs i))) → AreMade new op cs ms'
+made_more old new op cs ms ms' i t e known h is l n name =
+    subst (λ (xs : List (ℕ × ℕ)). AreMade new op cs xs) (sym is)
+    (All-append (IsOne new op cs) ms ((i, t) ∷ []) (made_stay old new op cs ms e known h)
+    (All-cons (IsOne new op cs) (i, t) [] one (All-nil (IsOne new op cs))))
+  where
+    same : Names new t (made new op (regexes_at new (list_of cs i)))
+    same = subst (λ (r : Regex). Names new t r) (sym (made_later old new op (list_of cs i) e known n)) name
+
+    one : IsOne new op cs (i, t)
+    one = (l, numbers_kept old new (list_of cs i) e n, same)
+
+pub made_below : (rs : List Regex) (op : Operation) (cs : List (ℕ × List ℕ)) (ms : List (ℕ × ℕ)) → AreMade rs op cs ms
+    → All (λ m. m.0 < length cs) ms
+made_below rs op cs ms h k d l = (h k d l).0
+
+pub found_made : (rs : List Regex) (op : Operation) (cs : List (ℕ × List ℕ)) (ms : List (ℕ × ℕ)) (ids : List ℕ) (t : ℕ)
+    → AreMade rs op cs ms → IsFound cs ms ids t → Names rs t (made rs op (regexes_at rs ids))
+found_made rs op cs ms ids t h f =
+    let m = h f.place (0, 0) f.within in
+    subst (λ (x : ℕ). Names rs x (made rs op (regexes_at rs ids))) f.is
+    (subst (λ (xs : List ℕ). Names rs (get_or ms f.place (0, 0)).1 (made rs op (regexes_at rs xs))) f.same m.2)

@@ -91,28 +91,28 @@ stepped L i i' f s l is = go (drop i L) refl
             let n : f < first_of 0x30000 (drop i L) = grind (arith, nat_tests, h, g, e) in
             subst (λ (k : ℕ). Stepped L i k f) z (stay L i f s n)
 
-pub record Merging (L R out : List (ℕ × List ℕ)) (i j f : ℕ) : Type 0 where
+pub record Merging (g : List ℕ → List ℕ → List ℕ) (L R out : List (ℕ × List ℕ)) (i j f : ℕ) : Type 0 where
   pub next : f ≡ min (first_of 0x30000 (drop i L)) (first_of 0x30000 (drop j R))
   pub left : Side L i f
   pub right : Side R j f
   pub whole : covers out f ≡ true
-  pub values : (c : ℕ) → value_from [] out c ≡ value_from [] (take i L) c ++ value_from [] (take j R) c
+  pub values : (c : ℕ) → value_from [] out c ≡ g (value_from [] (take i L) c) (value_from [] (take j R) c)
 
 side_init : (L : List (ℕ × List ℕ)) → covers L 0x30000 ≡ true → Side L 0 0
 unfolding rises
 side_init L h = record { within = omega arith; to_come = covers_rises L 0x30000 h; taken = refl }
 
-pub merge_init : (L R out : List (ℕ × List ℕ)) → covers L 0x30000 ≡ true → covers R 0x30000 ≡ true → out ≡ []
-    → Merging L R out 0 0 0
+pub merge_init : (g : List ℕ → List ℕ → List ℕ) (L R out : List (ℕ × List ℕ)) → g [] [] ≡ []
+    → covers L 0x30000 ≡ true → covers R 0x30000 ≡ true → out ≡ [] → Merging g L R out 0 0 0
 unfolding value_from covers
-merge_init L R out l r o =
+merge_init g L R out e l r o =
     let p : first_of 0x30000 L ≡ 0 = covers_first L 0x30000 l in
     rw o (record {
       next = let q : first_of 0x30000 R ≡ 0 = covers_first R 0x30000 r in sym (ap₂ min p q);
       left = side_init L l;
       right = side_init R r;
       whole = refl;
-      values = λ c. refl;
+      values = λ c. sym e;
     })
 
 side_next : (L : List (ℕ × List ℕ)) (i i' f f' : ℕ) → Stepped L i i' f → f < f' → f' ≤ first_of 0x30000 (drop i' L)
@@ -123,11 +123,12 @@ side_next L i i' f f' s l m = record {
   taken = rises_later_end 0 (take i' L) (suc f) f' (omega (arith, l)) s.taken;
 }
 
-pub merge_step : (L R out out' : List (ℕ × List ℕ)) (i j f i' j' f' : ℕ) → Merging L R out i j f → f < 0x30000 →
+pub merge_step : (g : List ℕ → List ℕ → List ℕ) (L R out out' : List (ℕ × List ℕ)) (i j f i' j' f' : ℕ)
+    → Merging g L R out i j f → f < 0x30000 →
     i' ≡ i + count_at f (drop i L) → j' ≡ j + count_at f (drop j R)
-    → out' ≡ out ++ (f, last_value [] (take i' L) ++ last_value [] (take j' R)) ∷ [] →
-    f' ≡ min (first_of 0x30000 (drop i' L)) (first_of 0x30000 (drop j' R)) → Merging L R out' i' j' f'
-merge_step L R out out' i j f i' j' f' m l p q o n =
+    → out' ≡ out ++ (f, g (last_value [] (take i' L)) (last_value [] (take j' R))) ∷ [] →
+    f' ≡ min (first_of 0x30000 (drop i' L)) (first_of 0x30000 (drop j' R)) → Merging g L R out' i' j' f'
+merge_step g L R out out' i j f i' j' f' m l p q o n =
     let s = stepped L i i' f m.left l p in
     let t = stepped R j j' f m.right l q in
     let a : f < first_of 0x30000 (drop i' L) = s.later in
@@ -137,21 +138,21 @@ merge_step L R out out' i j f i' j' f' m l p q o n =
       next = n;
       left = side_next L i i' f f' s k (omega (arith, n));
       right = side_next R j j' f f' t k (omega (arith, n));
-      whole = rw o (covers_pushed out f (last_value [] (take i' L) ++ last_value [] (take j' R)) f' m.whole k);
+      whole = rw o (covers_pushed out f (g (last_value [] (take i' L)) (last_value [] (take j' R))) f' m.whole k);
       values = λ c. ap (λ xs. value_from [] xs c) o
-          ∙ value_pushed [] out f (last_value [] (take i' L) ++ last_value [] (take j' R)) c
+          ∙ value_pushed [] out f (g (last_value [] (take i' L)) (last_value [] (take j' R))) c
           ∙ at s t c (nat_le f c) refl;
     }
   where
     at : Stepped L i i' f → Stepped R j j' f → (c : ℕ) (u : Bool) → nat_le f c ≡ u →
-        cond u (last_value [] (take i' L) ++ last_value [] (take j' R)) (value_from [] out c)
-        ≡ value_from [] (take i' L) c ++ value_from [] (take j' R) c
+        cond u (g (last_value [] (take i' L)) (last_value [] (take j' R))) (value_from [] out c)
+        ≡ g (value_from [] (take i' L) c) (value_from [] (take j' R) c)
     at s t c true h =
-        let g : f ≤ c = leb-true f c h in
-        sym (ap₂ (λ x y. x ++ y) (s.new c g) (t.new c g))
+        let u : f ≤ c = leb-true f c h in
+        sym (ap₂ g (s.new c u) (t.new c u))
     at s t c false h =
-        let g : c < f = grind (arith, nat_tests) in
-        m.values c ∙ sym (ap₂ (λ x y. x ++ y) (s.old c g) (t.old c g))
+        let u : c < f = grind (arith, nat_tests) in
+        m.values c ∙ sym (ap₂ g (s.old c u) (t.old c u))
 
 nothing_left : (L : List (ℕ × List ℕ)) (i f : ℕ) → Side L i f → 0x30000 ≤ first_of 0x30000 (drop i L) → take i L ≡ L
 nothing_left L i f s l = go (drop i L) refl
@@ -164,9 +165,10 @@ nothing_left L i f s l = go (drop i L) refl
         let g : first_of 0x30000 (drop i L) ≡ p.0 = ap (first_of 0x30000) d in
         absurd (omega (arith, q, g, l))
 
-pub merged : (L R out : List (ℕ × List ℕ)) (i j f : ℕ) → Merging L R out i j f → 0x30000 ≤ f →
-    (covers out 0x30000 ≡ true) × ((c : ℕ) → value_from [] out c ≡ value_from [] L c ++ value_from [] R c)
-merged L R out i j f m l =
+pub merged : (g : List ℕ → List ℕ → List ℕ) (L R out : List (ℕ × List ℕ)) (i j f : ℕ) → Merging g L R out i j f
+    → 0x30000 ≤ f →
+    (covers out 0x30000 ≡ true) × ((c : ℕ) → value_from [] out c ≡ g (value_from [] L c) (value_from [] R c))
+merged g L R out i j f m l =
     let a : rises f (drop i L) 0x30000 ≡ true = m.left.to_come in
     let z : f ≤ 0x30000 = rises_le f (drop i L) 0x30000 a in
     let e : f ≡ 0x30000 = omega (arith, z, l) in
@@ -174,7 +176,7 @@ merged L R out i j f m l =
     let q : take j R ≡ R = nothing_left R j f m.right (omega (arith, m.next, l)) in (
       ap (λ x. covers out x) (sym e) ∙ m.whole,
       λ c. m.values c
-          ∙ ap₂ (λ x y. value_from [] x c ++ value_from [] y c) p q,
+          ∙ ap₂ (λ x y. g (value_from [] x c) (value_from [] y c)) p q,
     )
 
 last_pushed : (d : List ℕ) (xs : List (ℕ × List ℕ)) (x : ℕ × List ℕ) → last_value d (xs ++ x ∷ []) ≡ x.1
@@ -194,10 +196,11 @@ pub latest_none : (L : List (ℕ × List ℕ)) (i : ℕ) → i ≡ 0 → [] ≡ 
 unfolding last_value
 latest_none L i z = ap (λ n. last_value [] (take n L)) (sym z)
 
-pub next_grows : (L R out : List (ℕ × List ℕ)) (i j f i' j' f' : ℕ) → Merging L R out i j f → f < 0x30000
+pub next_grows : (g : List ℕ → List ℕ → List ℕ) (L R out : List (ℕ × List ℕ)) (i j f i' j' f' : ℕ)
+    → Merging g L R out i j f → f < 0x30000
     → i' ≡ i + count_at f (drop i L) → j' ≡ j + count_at f (drop j R) →
     f' ≡ min (first_of 0x30000 (drop i' L)) (first_of 0x30000 (drop j' R)) → f < f'
-next_grows L R out i j f i' j' f' m l p q n =
+next_grows g L R out i j f i' j' f' m l p q n =
     let s = stepped L i i' f m.left l p in
     let t = stepped R j j' f m.right l q in
     let a : f < first_of 0x30000 (drop i' L) = s.later in

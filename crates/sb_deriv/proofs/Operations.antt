@@ -1,83 +1,21 @@
 -- What operations make, and which members they drop.
-use Rattle.std.proofs.Common.{◌≡◌, ℕ, ◌<◌, Bool, true, false, List, [], ◌∷◌, length, get_or, refl, sym, ap, ◌∙◌, arith}
-use Rattle.sb_lang.specs.Regex.{Regex, none, eps, set, cat, alt, and, neg, star, rep, path}
+use Rattle.std.proofs.Common.{◌≡◌, ℕ, ◌<◌, true, Some, List, [], ◌∷◌, length, get_or, refl, sym, ap, ◌∙◌, arith, ◌⊎◌, inl, inr}
+use Rattle.std.specs.List.{list_all}
+use Rattle.std.proofs.lemmas.List.Sums.{AllPass-from_list_all}
+use Rattle.sb_lang.specs.Regex.{Regex, none}
+use Rattle.sb_lang.specs.NormalForm.{is_normal}
+use Rattle.sb_lang.specs.FoldLaws.{UnionOfOne}
 use Rattle.sb_lang.specs.Order.{code}
-use Rattle.sb_lang.specs.Constructors.{anything, mkcat, mkalt, mkand, mknot, conjuncts, ranges_of, is_set, meet_sets, meet_of, and_of, sorted}
+use Rattle.sb_lang.specs.Constructors.{anything, mkset, mkcat, mkalt, mkand, mknot, alternatives, conjuncts, union_of, join_sets, alt_of, ranges_of, is_set, meet_sets, meet_of, and_of, sorted}
 use Rattle.sb_regex.specs.declared.node.Node.{Node}
 use Rattle.sb_regex.specs.declared.node.Node.TheVariants as node
-use Rattle.sb_regex.specs.Numbered.{regex_at, regexes_at}
+use Rattle.sb_regex.specs.Numbered.{regex_at, regexes_at, Names}
 use Rattle.sb_regex.specs.Nodes.{node_regex}
+use Rattle.sb_regex.proofs.CallerLemmas.{names_at, names_from}
+use Rattle.sb_deriv.specs.declared.operation.Constants.{Constants}
 use Rattle.sb_deriv.specs.declared.operation.Operation.{Operation}
 use Rattle.sb_deriv.specs.declared.operation.Operation.TheVariants as operation
-use Rattle.sb_deriv.specs.Choices.{made, drops, is_not_none, is_no_word}
-
--- the tests of nodes
-
-pub none_is : (rs : List Regex) (d : Node) (r : Regex) → node_regex rs d ≡ r → d ≡ node.None
-    → true ≡ drops operation.Alt r
-unfolding drops is_no_word
-none_is rs d r e is = ap (λ x. is_no_word (node_regex rs x)) (sym is) ∙ ap is_no_word e
-
-pub none_not : (rs : List Regex) (d : Node) (r : Regex) → node_regex rs d ≡ r → (d ≡ node.None → ⊥)
-    → false ≡ drops operation.Alt r
-unfolding drops is_no_word
-none_not rs d r e f = plain d f ∙ ap is_no_word e
-  where
-    plain : (d : Node) → (d ≡ node.None → ⊥) → false ≡ is_no_word (node_regex rs d)
-    plain node.None f = absurd (f refl)
-    plain node.Eps f = refl
-    plain (node.Set v) f = refl
-    plain (node.Cat a b) f = refl
-    plain (node.Alt ps) f = refl
-    plain (node.And ps) f = refl
-    plain (node.Not a) f = refl
-    plain (node.Star a) f = refl
-
-neg_test : (r : Regex) → is_no_word r ≡ is_not_none (neg r)
-unfolding is_no_word is_not_none
-neg_test none = refl
-neg_test eps = refl
-neg_test (set v) = refl
-neg_test (cat a b) = refl
-neg_test (alt ps) = refl
-neg_test (and ps) = refl
-neg_test (neg a) = refl
-neg_test (star a) = refl
-neg_test (rep a n m) = refl
-neg_test (path a b) = refl
-
-pub not_is : (rs : List Regex) (d : Node) (r : Regex) (a : ℕ) (b : Bool) → node_regex rs d ≡ r → d ≡ node.Not a
-    → b ≡ drops operation.Alt (regex_at rs a) → b ≡ is_not_none r
-unfolding drops
-not_is rs d r a b e is h = h ∙ neg_test (regex_at rs a) ∙ ap (λ x. is_not_none (node_regex rs x)) (sym is)
-    ∙ ap is_not_none e
-
-pub not_not : (rs : List Regex) (d : Node) (r : Regex) → node_regex rs d ≡ r → ((a : ℕ) → d ≡ node.Not a → ⊥)
-    → false ≡ is_not_none r
-unfolding is_not_none
-not_not rs d r e f = plain d f ∙ ap is_not_none e
-  where
-    plain : (d : Node) → ((a : ℕ) → d ≡ node.Not a → ⊥) → false ≡ is_not_none (node_regex rs d)
-    plain node.None f = refl
-    plain node.Eps f = refl
-    plain (node.Set v) f = refl
-    plain (node.Cat a b) f = refl
-    plain (node.Alt ps) f = refl
-    plain (node.And ps) f = refl
-    plain (node.Not a) f = absurd (f a refl)
-    plain (node.Star a) f = refl
-
-pub drops_and : (op : Operation) (r : Regex) (b : Bool) → op ≡ operation.And → b ≡ is_not_none r → b ≡ drops op r
-unfolding drops
-drops_and op r b is h = h ∙ ap (λ o. drops o r) (sym is)
-
-pub drops_other : (op : Operation) (r : Regex) → (op ≡ operation.Alt → ⊥) → (op ≡ operation.And → ⊥)
-    → false ≡ drops op r
-unfolding drops
-drops_other operation.Alt r f g = absurd (f refl)
-drops_other operation.And r f g = absurd (g refl)
-drops_other operation.Not r f g = refl
-drops_other (operation.Cat b) r f g = refl
+use Rattle.sb_deriv.specs.Choices.{made, AreConstants}
 
 -- the complement of a complement, and of none
 
@@ -86,13 +24,52 @@ pub mknot_neg : (rs : List Regex) (d : Node) (r : Regex) (b : ℕ) → node_rege
 unfolding mknot
 mknot_neg rs d r b e is = ap (λ x. mknot (node_regex rs x)) (sym is) ∙ ap mknot e
 
-no_members : mkand [] ≡ anything
+pub no_members : mkand [] ≡ anything
 unfolding mkand meet_sets meet_of ranges_of is_set conjuncts sorted and_of code
 no_members = refl
 
 pub mknot_none : (rs : List Regex) (d : Node) (r : Regex) → node_regex rs d ≡ r → d ≡ node.None → mkand [] ≡ mknot r
 unfolding mknot
 mknot_none rs d r e is = no_members ∙ ap (λ x. mknot (node_regex rs x)) (sym is) ∙ ap mknot e
+
+-- what is made of no regex, and of one
+
+no_alternatives : mkalt [] ≡ none
+unfolding mkalt join_sets mkset union_of alternatives ranges_of is_set sorted alt_of code
+no_alternatives = refl
+
+pub of_none_and : (rs : List Regex) (k : Constants) (op : Operation) → op ≡ operation.And → AreConstants rs k
+    → Names rs k.everything (made rs op [])
+unfolding made
+of_none_and rs k op is a = a.everything_is ∙ ap Some (sym no_members ∙ ap (λ o. made rs o []) (sym is))
+
+pub of_none_other : (rs : List Regex) (k : Constants) (op : Operation)
+    → (op ≡ operation.Alt) ⊎ ((op ≡ operation.Not) ⊎ ((b : ℕ) × (op ≡ operation.Cat b))) → AreConstants rs k
+    → Names rs k.none (made rs op [])
+unfolding made
+of_none_other rs k op (inl e) a = a.none_is ∙ ap Some (sym no_alternatives ∙ ap (λ o. made rs o []) (sym e))
+of_none_other rs k op (inr (inl e)) a = a.none_is ∙ ap Some (ap (λ o. made rs o []) (sym e))
+of_none_other rs k op (inr (inr p)) a = a.none_is ∙ ap Some (ap (λ o. made rs o []) (sym p.1))
+
+one_none : mkand (none ∷ []) ≡ none
+unfolding mkand meet_sets meet_of ranges_of is_set conjuncts sorted and_of code
+one_none = refl
+
+pub one_union : (rs : List Regex) (op : Operation) (i : ℕ) → UnionOfOne → list_all is_normal rs ≡ true
+    → op ≡ operation.Alt
+    → i < length rs → Names rs i (made rs op (regex_at rs i ∷ []))
+unfolding made
+one_union rs op i u n is l =
+    names_from rs i _ l (sym (u (regex_at rs i) (AllPass-from_list_all is_normal rs n i none l))
+    ∙ ap (λ o. made rs o (regex_at rs i ∷ [])) (sym is))
+
+pub one_absorbed : (rs : List Regex) (k : Constants) (op : Operation) (i : ℕ) → AreConstants rs k → op ≡ operation.And
+    → i ≡ k.none → i < length rs → Names rs i (made rs op (regex_at rs i ∷ []))
+unfolding made
+one_absorbed rs k op i a is e l =
+    let z : regex_at rs i ≡ none = ap (regex_at rs) e ∙ names_at rs k.none none a.none_is in
+    names_from rs i _ l (z ∙ sym one_none ∙ ap (λ r. mkand (r ∷ [])) (sym z)
+    ∙ ap (λ o. made rs o (regex_at rs i ∷ [])) (sym is))
 
 -- what is made, by cases
 

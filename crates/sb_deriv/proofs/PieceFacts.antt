@@ -1,12 +1,13 @@
 -- Lists of pieces that ascend.
-use Rattle.std.proofs.Common.{◌≡◌, ℕ, zero, suc, ◌<◌, ◌≤◌, Bool, true, false, not, ◌==◌, cond, List, [], ◌∷◌, ◌++◌, length, get_or, map, refl, sym, ap, subst, ◌∙◌, arith}
-use Rattle.std.specs.Prelude.{nat_le}
+use Rattle.std.proofs.Common.{◌≡◌, ℕ, zero, suc, ◌+◌, ◌<◌, ◌≤◌, Bool, true, false, not, ◌==◌, cond, List, [], ◌∷◌, ◌++◌, length, get_or, drop, map, refl, sym, ap, subst, ◌∙◌, arith}
+use Rattle.std.specs.Prelude.{nat_le, nat_lt}
 use Rattle.std.specs.List.{All}
 use Rattle.std.proofs.lemmas.Bool.{and_parts, and_from, le-leb, leb-true, lt-leb, eqb-true}
 use Rattle.std.proofs.lemmas.Bool.Decides.{nat_tests}
+use Rattle.std.proofs.lemmas.List.{get_or_default, drop_more, drop_all}
 use Rattle.std.proofs.lemmas.List.Elements.{All-cons}
-use Rattle.sb_deriv.specs.Pieces.{value_from, rises, covers, differs_from, are_merged}
-use Rattle.sb_deriv.specs.Choices.{first_of, last_value, ends_with}
+use Rattle.sb_deriv.specs.Pieces.{value_from, rises, covers, differs_from, are_merged, IsIntervalMap}
+use Rattle.sb_deriv.specs.Choices.{first_of, last_value, ends_with, IsSpan}
 
 eq_flip : (a b : ℕ) → (a == b) ≡ false → (b == a) ≡ false
 eq_flip a b h = grind (arith, nat_tests)
@@ -81,6 +82,16 @@ last_from d n (x ∷ xs) e c h l =
     let a : suc x.0 ≤ e = rises_le (suc x.0) xs e p.1 in
     ap (λ t. value_from (cond t x.1 d) xs c) (le-leb x.0 c (omega arith)) ∙ last_from x.1 (suc x.0) xs e c p.1 l
 
+pub starts_below : {A : Type 0} (n : ℕ) (xs : List (ℕ × A)) (e k : ℕ) (x : ℕ × A) → rises n xs e ≡ true
+    → k < length xs → x ≡ get_or xs k x → x.0 < e
+starts_below n [] e k x h l is = absurd (omega arith)
+starts_below {A} n (y ∷ ys) e zero x h l is =
+    let r : x ≡ y = is in
+    let a : suc y.0 ≤ e = rises_le (suc y.0) ys e (rises_rest n y ys e h) in
+    subst (λ (z : ℕ × A). z.0 < e) (sym r) (omega (arith, a))
+starts_below n (y ∷ ys) e (suc k) x h l is =
+    starts_below (suc y.0) ys e k x (rises_rest n y ys e h) (omega (arith, l)) is
+
 -- the value of a piece is that of its first number
 pub value_here : {A : Type 0} (d : A) (n : ℕ) (xs : List (ℕ × A)) (e k : ℕ) (x : ℕ × A) → rises n xs e ≡ true
     → k < length xs → x ≡ get_or xs k x → value_from d xs x.0 ≡ x.1
@@ -112,6 +123,13 @@ value_between d n (x ∷ y ∷ ys) e zero c z h l a b =
 value_between d n (x ∷ xs) e (suc k) c z h l a b =
     let p = and_parts _ _ h in
     value_between (cond (nat_le x.0 c) x.1 d) (suc x.0) xs e k c z p.1 (omega (arith, l)) a (λ m. b (omega (arith, m)))
+
+pub first_at_place : {A : Type 0} (xs : List (ℕ × A)) (e i : ℕ) (z : ℕ × A) → i < length xs
+    → first_of e (drop i xs) ≡ (get_or xs i z).0
+first_at_place xs e i z l = ap (first_of e) (drop_more xs i z l)
+
+first_past : {A : Type 0} (xs : List (ℕ × A)) (e i : ℕ) → length xs ≤ i → first_of e (drop i xs) ≡ e
+first_past xs e i l = ap (first_of e) (drop_all i xs l)
 
 -- whole lists
 
@@ -148,6 +166,42 @@ value_whole d d' x xs e c h =
     let z : x.0 ≡ 0 = eqb-true x.0 0 (and_parts _ _ h).0 in
     let t : nat_le x.0 c ≡ true = le-leb x.0 c (omega arith) in
     ap (λ b. value_from (cond b x.1 d) xs c) t ∙ sym (ap (λ b. value_from (cond b x.1 d') xs c) t)
+
+-- a piece goes on up to where the next one begins
+pub span_of : (ps : List (ℕ × ℕ)) (c k end : ℕ) (p : ℕ × ℕ) → IsIntervalMap ps → c ≤ 0x2ffff → k < length ps
+    → (get_or ps k (0, 0)).0 ≤ c → (k + 1 < length ps → c < (get_or ps (k + 1) (0, 0)).0) →
+    end ≡ first_of 0x30000 (drop (k + 1) ps) → IsSpan ps c end (get_or ps k p).1
+span_of ps c k end p m u l b a e = step (nat_lt (k + 1) (length ps)) refl
+  where
+    value : (x : ℕ) → c ≤ x → (suc k < length ps → x < (get_or ps (suc k) (0, 0)).0)
+        → value_from 0 ps x ≡ (get_or ps k p).1
+    value x v w =
+        value_between 0 0 ps 0x30000 k x (0, 0) (covers_rises ps 0x30000 m.whole) l (omega (arith, b, v)) w
+        ∙ ap (λ (q : ℕ × ℕ). q.1) (get_or_default ps k (0, 0) p l)
+
+    next : k + 1 ≡ suc k
+    next = omega arith
+
+    step : (t : Bool) → nat_lt (k + 1) (length ps) ≡ t → IsSpan ps c end (get_or ps k p).1
+    step true t =
+        let i : k + 1 < length ps = grind (arith, nat_tests) in
+        let f : end ≡ (get_or ps (k + 1) (0, 0)).0 = e ∙ first_at_place ps 0x30000 (k + 1) (0, 0) i in
+        let w = starts_below 0 ps 0x30000 (k + 1) (get_or ps (k + 1) (0, 0)) (covers_rises ps 0x30000 m.whole) i
+        (get_or_default ps (k + 1) (0, 0) (get_or ps (k + 1) (0, 0)) i) in
+        record {
+          later = omega (arith, f, a i);
+          within = omega (arith, f, w);
+          same = λ x v n. value x v
+              (λ j. subst (λ (i : ℕ). x < (get_or ps i (0, 0)).0) next (subst (λ (y : ℕ). x < y) f n));
+        }
+    step false t =
+        let i : length ps ≤ k + 1 = grind (arith, nat_tests) in
+        let f : end ≡ 0x30000 = e ∙ first_past ps 0x30000 (k + 1) i in
+        record {
+          later = omega (arith, f, u);
+          within = omega (arith, f);
+          same = λ x v n. value x v (λ j. absurd (omega (arith, i, j)));
+        }
 
 -- the targets
 

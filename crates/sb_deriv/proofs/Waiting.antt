@@ -15,7 +15,7 @@ use Rattle.sb_lang.specs.Derivative.{nd}
 use Rattle.sb_regex.specs.Numbered.{regex_at, Extends}
 use Rattle.sb_deriv.specs.Faithful.{Memo, entry_of, IsFaithful, IsKnown, IsDerivative, KeepsEntries}
 use Rattle.sb_deriv.specs.Choices.{IsWanted, lacking}
-use Rattle.sb_regex.proofs.CallerLemmas.{extends_same, extends_more, number_kept, at_kept}
+use Rattle.sb_regex.proofs.CallerLemmas.{extends_more, number_kept, at_kept}
 use Rattle.sb_deriv.proofs.Derivatives.{faithful_kept, map_same}
 
 no_entry : {A : Type 0} (o : Option A) → is_some o ≡ false → o ≡ None
@@ -187,11 +187,12 @@ pub record Deriving (rs0 rs : List Regex) (memo0 memo : Memo) (r next : ℕ) (ke
   pub wanted : All (IsWanted (suc r) memo) keys
   pub above : All (λ q. next < q) keys
 
-pub deriving_init : (rs : List Regex) (memo0 memo : Memo) (r : ℕ) (keys : List ℕ) → IsFaithful rs memo0
-    → ((n : ℕ) → entry_of memo n ≡ entry_of memo0 n) → r < length memo → keys ≡ [] → Deriving rs rs memo0 memo r r keys
-deriving_init rs memo0 memo r keys f same l is = record {
-  extends = extends_same rs;
-  faithful = λ n pieces h. f n pieces (sym (same n) ∙ h);
+pub deriving_init : (rs0 rs : List Regex) (memo0 memo : Memo) (r : ℕ) (keys : List ℕ) → Extends rs0 rs
+    → IsFaithful rs0 memo0 → ((n : ℕ) → entry_of memo n ≡ entry_of memo0 n) → r < length memo → keys ≡ []
+    → Deriving rs0 rs memo0 memo r r keys
+deriving_init rs0 rs memo0 memo r keys e f same l is = record {
+  extends = e;
+  faithful = λ n pieces h. faithful_kept rs0 rs memo0 e f n pieces (sym (same n) ∙ h);
   kept = λ n pieces h. same n ∙ h;
   long = l;
   next_in = omega arith;

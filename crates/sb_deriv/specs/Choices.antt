@@ -1,10 +1,12 @@
 -- Private: pieces with several regexes each, and what is made of those.
-use Rattle.std.specs.Prelude.{◌≡◌, ℕ, ◌<◌, Bool, true, false, ◌==◌, cond, List, [], ◌∷◌, ◌++◌, map, unwrap_or, length, suc, Some, None, IsSome, All}
+use Rattle.std.specs.Prelude.{◌≡◌, ℕ, ◌<◌, ◌≤◌, ◌-◌, Bool, false, not, ◌==◌, cond, List, [], ◌∷◌, ◌++◌, map, filter, take, drop, get_or, unwrap_or, length, suc, Some, None, IsSome, All}
+use Rattle.std.specs.List.{list_any}
 use Rattle.sb_class.specs.Ranges.{Range, IsCanonical}
-use Rattle.sb_lang.specs.Regex.{Regex, none, set, cat, neg}
+use Rattle.sb_lang.specs.Regex.{Regex, none, eps, set, cat, neg}
 use Rattle.sb_lang.specs.Constructors.{mkcat, mkalt, mkand, mknot}
 use Rattle.sb_lang.specs.Derivative.{nd}
-use Rattle.sb_regex.specs.Numbered.{regex_at, regexes_at}
+use Rattle.sb_regex.specs.Numbered.{regex_at, regexes_at, AllNumbers, Names}
+use Rattle.sb_deriv.specs.declared.operation.Constants.{Constants}
 use Rattle.sb_deriv.specs.declared.operation.Operation.{Operation}
 use Rattle.sb_deriv.specs.declared.operation.Operation.TheVariants as operation
 use Rattle.sb_deriv.specs.declared.operation.Shape.{Shape}
@@ -22,33 +24,82 @@ made rs operation.Not (p ∷ ps) = mknot p
 made rs (operation.Cat b) [] = none
 made rs (operation.Cat b) (p ∷ ps) = mkcat p (regex_at rs b)
 
--- every word, as a complement
-unfoldable pub is_not_none : Regex → Bool
-is_not_none (neg none) = true
-is_not_none r = false
-
-unfoldable pub is_no_word : Regex → Bool
-is_no_word none = true
-is_no_word r = false
+-- the numbers of three regexes
+pub record AreConstants (rs : List Regex) (k : Constants) : Type 0 where
+  pub none_is : Names rs k.none none
+  pub eps_is : Names rs k.eps eps
+  pub everything_is : Names rs k.everything (neg none)
 
 -- the member makes no difference to what is made
-unfoldable pub drops : Operation → Regex → Bool
-drops operation.Alt r = is_no_word r
-drops operation.And r = is_not_none r
-drops operation.Not r = false
-drops (operation.Cat b) r = false
+unfoldable pub drops : Constants → Operation → ℕ → Bool
+drops k operation.Alt t = t == k.none
+drops k operation.And t = t == k.everything
+drops k operation.Not t = false
+drops k (operation.Cat b) t = false
 
--- the number, unless its regex makes no difference
-abbrev pub kept_of : List Regex → Operation → ℕ → List ℕ
-kept_of rs op t = cond (drops op (regex_at rs t)) [] (t ∷ [])
+-- the member is what is made, whatever the others are
+unfoldable pub absorbs : Constants → Operation → ℕ → Bool
+absorbs k operation.Alt t = t == k.everything
+absorbs k operation.And t = t == k.none
+absorbs k operation.Not t = false
+absorbs k (operation.Cat b) t = false
 
-unfoldable pub kept : List Regex → Operation → List ℕ → List ℕ
-kept rs op [] = []
-kept rs op (t ∷ ts) = kept_of rs op t ++ kept rs op ts
+-- those that make a difference
+abbrev pub kept : Constants → Operation → List ℕ → List ℕ
+kept k op ts = filter (λ t. not (drops k op t)) ts
+
+-- the number that absorbs the others
+unfoldable pub absorbing : Constants → Operation → ℕ
+absorbing k operation.Alt = k.everything
+absorbing k operation.And = k.none
+absorbing k operation.Not = k.none
+absorbing k (operation.Cat b) = k.none
+
+-- the one that absorbs the others, if it is there, or those that make a difference
+abbrev pub picked : Constants → Operation → List ℕ → List ℕ
+picked k op ts = cond (list_any (absorbs k op) ts) (absorbing k op ∷ []) (kept k op ts)
+
+-- the first member absorbs the others
+unfoldable pub leads : Constants → Operation → List ℕ → Bool
+leads k op [] = false
+leads k op (t ∷ ts) = absorbs k op t
+
+-- what is picked of two lists together
+abbrev pub joined : Constants → Operation → List ℕ → List ℕ → List ℕ
+joined k op xs ys = cond (leads k op xs) xs (cond (leads k op ys) ys (xs ++ ys))
+
+-- the targets of the maps at a character
+abbrev pub values_at : List (List (ℕ × ℕ)) → ℕ → List ℕ
+values_at maps c = map (λ m. value_at m c) maps
+
+-- from a character up to an end the map has one target
+pub record IsSpan (m : List (ℕ × ℕ)) (c end t : ℕ) : Type 0 where
+  pub later : c < end
+  pub within : end ≤ 0x30000
+  pub same : (x : ℕ) → c ≤ x → x < end → value_at m x ≡ t
+
+-- from a character up to an end these are picked of the targets
+pub record AreChosen (k : Constants) (op : Operation) (maps : List (List (ℕ × ℕ))) (c end : ℕ) (ids : List ℕ) : Type 0
+  where
+    pub later : c < end
+    pub within : end ≤ 0x30000
+    pub same : (x : ℕ) → c ≤ x → x < end → ids ≡ picked k op (values_at maps x)
+
+-- a piece with its regexes, which stand side by side in a list
+abbrev pub choice_of : List ℕ → ℕ × (ℕ × ℕ) → ℕ × List ℕ
+choice_of ids p = (p.0, take (p.1.1 - p.1.0) (drop p.1.0 ids))
+
+-- the regexes of a piece by its place
+abbrev pub list_of : List (ℕ × List ℕ) → ℕ → List ℕ
+list_of choices i = (get_or choices i (0, [])).1
+
+-- the map of a part
+abbrev pub map_of : Memo → ℕ → List (ℕ × ℕ)
+map_of memo i = unwrap_or (entry_of memo i) []
 
 -- the targets of the parts at a character
 abbrev pub targets_at : Memo → List ℕ → ℕ → List ℕ
-targets_at memo parts c = map (λ i. value_at (unwrap_or (entry_of memo i) []) c) parts
+targets_at memo parts c = map (λ i. value_at (map_of memo i) c) parts
 
 -- the derivatives of the parts by a character
 abbrev pub nd_each : List Regex → ℕ → List Regex
@@ -60,6 +111,19 @@ OperandIsKnown rs operation.Alt = Unit {0}
 OperandIsKnown rs operation.And = Unit {0}
 OperandIsKnown rs operation.Not = Unit {0}
 OperandIsKnown rs (operation.Cat b) = b < length rs
+
+-- each target is what is made of the regexes of its piece
+abbrev pub AreMade : List Regex → Operation → List (ℕ × List ℕ) → List (ℕ × ℕ) → Type 0
+AreMade rs op choices ms =
+    All (λ m. (m.0 < length choices) × AllNumbers rs (list_of choices m.0)
+    × Names rs m.1 (made rs op (regexes_at rs (list_of choices m.0)))) ms
+
+-- a target of a piece with these regexes
+pub record IsFound (choices : List (ℕ × List ℕ)) (ms : List (ℕ × ℕ)) (ids : List ℕ) (t : ℕ) : Type 0 where
+  pub place : ℕ
+  pub within : place < length ms
+  pub is : (get_or ms place (0, 0)).1 ≡ t
+  pub same : list_of choices (get_or ms place (0, 0)).0 ≡ ids
 
 -- the derivatives of the parts are known
 abbrev pub HaveEntries : Memo → List ℕ → Type 0

@@ -1,127 +1,240 @@
 //! Pieces with several regexes each.
 
-ghost use Rattle.std.specs.Prelude.{◌≡◌, ◌<◌, ◌≤◌, ◌++◌, ◌+◌, ℕ, true, [], length, IfOk, map, take, drop};
-ghost use Rattle.sb_regex.specs.Numbered.{regex_at, AllNumbers};
-ghost use Rattle.sb_deriv.specs.Pieces.{covers, value_from, value_at, IsIntervalMap, targets_of, end_of_characters};
-ghost use Rattle.sb_deriv.specs.Choices.{kept_of, first_of, count_at, last_value};
+ghost use Rattle.std.specs.Prelude.{◌≡◌, ◌<◌, ◌≤◌, ◌++◌, ◌+◌, ◌∷◌, ℕ, true, [], length, get_or, IfOk, OnOk, take, drop, cond};
+ghost use Rattle.sb_deriv.specs.Pieces.{covers, value_from, value_at, IsIntervalMap, end_of_characters};
+ghost use Rattle.sb_deriv.specs.Choices.{drops, leads, joined, picked, values_at, first_of, count_at, last_value, list_of, AreChosen};
 
-use crate::operation::Operation;
+use crate::operation::{Constants, Operation};
+use crate::pieces::Map;
 use sb_class::LAST_CHARACTER;
-use sb_regex::{Arena, RegexId};
+use sb_regex::RegexId;
 use std::alloc::{AllocError, Global};
 use std::marker::Model;
 
-/// A range of characters from the first on, with regexes.
+/// Ranges of characters from the first on, with regexes. The regexes of all pieces stand side by side.
 #[derive(Drop)]
-pub(crate) struct Choice {
-    first: u32,
+pub(crate) struct Choices {
+    pieces: Vec<(u32, (usize, usize))>,
     ids: Vec<RegexId>,
 }
 
-impl Model for Choice {
-    ghost use Rattle.std.specs.Prelude.{ℕ, List};
+impl Model for Choices {
+    ghost use Rattle.std.specs.Prelude.{ℕ, List, ◌≤◌, All, map};
+    ghost use Rattle.std.specs.Prelude.{length as how_many};
+    ghost use Rattle.sb_deriv.specs.Choices.{choice_of};
 
-    ghost Value = { ℕ × List ℕ };
+    ghost Value = { List (ℕ × List ℕ) };
 
-    ghost view = { λ choice. (choice.first, choice.ids.items) };
+    ghost view = { λ choices. map (choice_of choices.ids.items) choices.pieces.items };
+
+    ghost invariant = { λ choices. All (λ p. (p.1.0 ≤ p.1.1) × (p.1.1 ≤ how_many choices.ids.items))
+        choices.pieces.items };
 }
 
-impl Choice {
-    pub(crate) fn new(first: u32, ids: Vec<RegexId>) -> Choice
-        ensures { result ≡ (first, ids.items) }
+impl Choices {
+    pub(crate) fn new(alloc: Global) -> Choices
+        ensures { result ≡ [] }
     {
-        Choice { first, ids }
+        Choices {
+            pieces: Vec::new(alloc),
+            ids: Vec::new(alloc),
+        }
     }
 
-    pub(crate) fn first(&self) -> u32
-        ensures { result ≡ self.now.0 }
+    pub(crate) fn len(&self) -> usize
+        ensures { result ≡ length self.now }
     {
-        self.first
+        self.pieces.len()
     }
 
-    pub(crate) fn ids(&self) -> &[RegexId]
-        ensures { result.now ≡ self.now.1 }
+    /// Where a piece begins.
+    pub(crate) fn first(&self, i: usize) -> u32
+        requires { i < length self.now }
+        ensures { result ≡ (get_or self.now i (0, [])).0 }
     {
-        &self.ids
+        self.pieces[i].0
+    }
+
+    /// The regexes of a piece.
+    pub(crate) fn ids(&self, i: usize) -> &[RegexId]
+        requires { i < length self.now }
+        ensures { result.now ≡ list_of self.now i }
+    {
+        let (start, end) = self.pieces[i].1;
+        &self.ids[start..end]
+    }
+
+    fn push(&mut self, first: u32, ids: &[RegexId]) -> Result<(), AllocError>
+        ensures { OnOk result (self.new ≡ self.old ++ (first, ids.now) ∷ []) }
+    {
+        let start = self.ids.len();
+        self.ids.extend_from_slice(ids)?;
+        self.pieces.push((first, (start, self.ids.len())))?;
+        Ok(())
     }
 }
 
-/// Each piece with its target, or with none where that makes no difference.
-pub(crate) fn singles(
-    arena: &Arena,
+/// Up to so many maps are looked at together.
+const FEW: usize = 16;
+
+/// The common refinement of maps, with the targets that make a difference. In the number of pieces and of such
+/// targets it takes time n log n.
+pub(crate) fn refine(
     alloc: Global,
     operation: &Operation,
-    pieces: &[(u32, RegexId)],
-) -> Result<Vec<Choice>, AllocError>
-    requires { AllNumbers arena.now (targets_of pieces.now) }
-    ensures { IfOk result
-        (λ choices. choices.items ≡ map (λ p. (p.0, kept_of arena.now operation.now p.1)) pieces.now) }
+    constants: &Constants,
+    maps: &[Map],
+) -> Result<Choices, AllocError>
+    ensures whole { IfOk result (λ choices. covers choices end_of_characters ≡ true) }
+    ensures values { IfOk result (λ choices. (c : ℕ) → c < end_of_characters
+        → value_from [] choices c ≡ picked constants.now operation.now (values_at maps.now c)) }
 {
-    let mut choices = Vec::new(alloc);
-    for piece in pieces {
-        let ids = kept(arena, alloc, operation, piece.1)?;
-        choices.push(Choice::new(piece.0, ids))?;
+    if maps.len() <= FEW {
+        return sweep(alloc, operation, constants, maps);
+    }
+    let (front, back) = maps.split_at(maps.len() / 2);
+    let left = refine(alloc, operation, constants, front)?;
+    let right = refine(alloc, operation, constants, back)?;
+    merge(alloc, operation, constants, &left, &right)
+}
+
+/// That of two maps.
+pub(crate) fn refine_two<'a>(
+    alloc: Global,
+    operation: &Operation,
+    constants: &Constants,
+    left: &'a [(u32, RegexId)],
+    right: &'a [(u32, RegexId)],
+) -> Result<Choices, AllocError>
+    requires left { IsIntervalMap left.now }
+    requires right { IsIntervalMap right.now }
+    ensures whole { IfOk result (λ choices. covers choices end_of_characters ≡ true) }
+    ensures values { IfOk result (λ choices. (c : ℕ) → c < end_of_characters → value_from [] choices c
+        ≡ picked constants.now operation.now (value_at left.now c ∷ value_at right.now c ∷ [])) }
+{
+    refine(
+        alloc,
+        operation,
+        constants,
+        &[Map::new(left), Map::new(right)],
+    )
+}
+
+/// The common refinement of a few maps: for each of its pieces each map is looked at.
+fn sweep(
+    alloc: Global,
+    operation: &Operation,
+    constants: &Constants,
+    maps: &[Map],
+) -> Result<Choices, AllocError>
+    ensures whole { IfOk result (λ choices. covers choices end_of_characters ≡ true) }
+    ensures values { IfOk result (λ choices. (c : ℕ) → c < end_of_characters
+        → value_from [] choices c ≡ picked constants.now operation.now (values_at maps.now c)) }
+{
+    let mut choices = Choices::new(alloc);
+    let mut ids = Vec::new(alloc);
+    let mut first = 0;
+    while first <= LAST_CHARACTER {
+        let end = choose(operation, constants, maps, first, &mut ids)?;
+        choices.push(first, &ids)?;
+        first = end;
     }
     Ok(choices)
 }
 
-/// The regex alone, unless it makes no difference.
-fn kept(
-    arena: &Arena,
-    alloc: Global,
+/// The targets of maps at a character that make a difference. Up to where they are the same.
+fn choose(
     operation: &Operation,
-    target: RegexId,
-) -> Result<Vec<RegexId>, AllocError>
-    requires { target < length arena.now }
-    ensures { IfOk result (λ ids. ids.items ≡ kept_of arena.now operation.now target) }
+    constants: &Constants,
+    maps: &[Map],
+    c: u32,
+    ids: &mut Vec<RegexId>,
+) -> Result<u32, AllocError>
+    requires { c ≤ 0x2ffff }
+    ensures { IfOk result (λ end. AreChosen constants.now operation.now maps.now c end ids.new.items) }
 {
-    if operation.drops(arena, target) {
-        Ok(Vec::new(alloc))
-    } else {
-        Vec::from_slice(alloc, &[target])
+    ids.clear();
+    let mut end = LAST_CHARACTER + 1;
+    for map in maps {
+        let (stays, target) = map.span_at(c);
+        if operation.absorbs(constants, target) {
+            ids.clear();
+            ids.push(target)?;
+            return Ok(stays);
+        }
+        keep(operation, constants, target, ids)?;
+        end = end.min(stays);
     }
+    Ok(end)
 }
 
-/// The pieces of both, with the regexes of both. Linear.
-pub(crate) fn merge(
+/// Puts the regex behind the others, unless it makes no difference.
+fn keep(
+    operation: &Operation,
+    constants: &Constants,
+    target: RegexId,
+    ids: &mut Vec<RegexId>,
+) -> Result<(), AllocError>
+    ensures { OnOk result
+        (ids.new.items ≡ ids.old.items ++ cond (drops constants.now operation.now target) [] (target ∷ [])) }
+{
+    if !operation.drops(constants, target) {
+        ids.push(target)?;
+    }
+    Ok(())
+}
+
+/// The pieces of both, with the regexes of both that make a difference. Linear.
+fn merge(
     alloc: Global,
-    left: &[Choice],
-    right: &[Choice],
-) -> Result<Vec<Choice>, AllocError>
+    operation: &Operation,
+    constants: &Constants,
+    left: &Choices,
+    right: &Choices,
+) -> Result<Choices, AllocError>
     requires left { covers left.now end_of_characters ≡ true }
     requires right { covers right.now end_of_characters ≡ true }
-    ensures whole { IfOk result (λ choices. covers choices.items end_of_characters ≡ true) }
-    ensures values { IfOk result (λ choices. (c : ℕ)
-        → value_from [] choices.items c ≡ value_from [] left.now c ++ value_from [] right.now c) }
+    ensures whole { IfOk result (λ choices. covers choices end_of_characters ≡ true) }
+    ensures values { IfOk result (λ choices. (c : ℕ) → value_from [] choices c
+        ≡ joined constants.now operation.now (value_from [] left.now c) (value_from [] right.now c)) }
 {
-    let mut choices = Vec::new(alloc);
+    let mut choices = Choices::new(alloc);
+    let mut ids = Vec::new(alloc);
     let mut i = 0;
     let mut j = 0;
     let mut first = 0;
     while first <= LAST_CHARACTER {
         i = past(left, i, first);
         j = past(right, j, first);
-        choices.push(joined(alloc, first, latest(left, i), latest(right, j))?)?;
+        join(
+            operation,
+            constants,
+            latest(left, i),
+            latest(right, j),
+            &mut ids,
+        )?;
+        choices.push(first, &ids)?;
         first = next_first(left, i).min(next_first(right, j));
     }
     Ok(choices)
 }
 
 /// Where the next piece begins, or the end of all.
-fn next_first(choices: &[Choice], i: usize) -> u32
+fn next_first(choices: &Choices, i: usize) -> u32
     ensures { result ≡ first_of end_of_characters (drop i choices.now) }
 {
-    match choices.get(i) {
-        Some(choice) => choice.first(),
-        None => LAST_CHARACTER + 1,
+    if i < choices.len() {
+        choices.first(i)
+    } else {
+        LAST_CHARACTER + 1
     }
 }
 
 /// The next place, if the piece at this one begins there.
-fn past(choices: &[Choice], i: usize, first: u32) -> usize
+fn past(choices: &Choices, i: usize, first: u32) -> usize
     ensures { result ≡ i + count_at first (drop i choices.now) }
 {
-    if i < choices.len() && choices[i].first() == first {
+    if i < choices.len() && choices.first(i) == first {
         i + 1
     } else {
         i
@@ -129,23 +242,41 @@ fn past(choices: &[Choice], i: usize, first: u32) -> usize
 }
 
 /// The regexes of the piece before a place.
-fn latest(choices: &[Choice], i: usize) -> &[RegexId]
+fn latest(choices: &Choices, i: usize) -> &[RegexId]
     requires { i ≤ length choices.now }
     ensures { result.now ≡ last_value [] (take i choices.now) }
 {
-    if 0 < i { choices[i - 1].ids() } else { &[] }
+    if 0 < i { choices.ids(i - 1) } else { &[] }
 }
 
-/// A piece with the regexes of both.
-fn joined(
-    alloc: Global,
-    first: u32,
+/// The regexes of both that make a difference.
+fn join(
+    operation: &Operation,
+    constants: &Constants,
     left: &[RegexId],
     right: &[RegexId],
-) -> Result<Choice, AllocError>
-    ensures { IfOk result (λ choice. choice ≡ (first, left.now ++ right.now)) }
+    ids: &mut Vec<RegexId>,
+) -> Result<(), AllocError>
+    ensures { OnOk result (ids.new.items ≡ joined constants.now operation.now left.now right.now) }
 {
-    let mut ids = Vec::from_slice(alloc, left)?;
-    ids.extend_from_slice(right)?;
-    Ok(Choice::new(first, ids))
+    ids.clear();
+    if leads(operation, constants, left) {
+        return ids.extend_from_slice(left);
+    }
+    if leads(operation, constants, right) {
+        return ids.extend_from_slice(right);
+    }
+    ids.extend_from_slice(left)?;
+    ids.extend_from_slice(right)
+}
+
+/// Whether the first absorbs the others.
+#[tactic(auto, unfolding(crate::specs::Choices::leads))]
+fn leads(operation: &Operation, constants: &Constants, ids: &[RegexId]) -> bool
+    ensures { result ≡ leads constants.now operation.now ids.now }
+{
+    match ids {
+        [] => false,
+        [first, ..] => operation.absorbs(constants, *first),
+    }
 }

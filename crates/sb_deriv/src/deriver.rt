@@ -1,6 +1,6 @@
 //! Derivatives by number of regex.
 
-ghost use Rattle.std.specs.Prelude.{◌≡◌, ◌<◌, ◌≤◌, ℕ, true, false, [], ◌∷◌, length, IfOk, OnOk, IfSome, IfNone, OnSome, IsSome, is_some, None, IsSomeAnd, option_copied, All, nat_lt};
+ghost use Rattle.std.specs.Prelude.{◌≡◌, ◌<◌, ◌≤◌, ℕ, true, false, [], ◌∷◌, length, IfOk, OnOk, IfSome, IfNone, OnSome, IsSome, is_some, None, IsSomeAnd, option_copied, All, map, nat_lt};
 ghost use Rattle.std.specs.List.{list_any};
 ghost use Rattle.sb_lang.specs.Regex.{none, set, cat};
 ghost use Rattle.sb_lang.specs.Derivative.{nd};
@@ -8,14 +8,14 @@ ghost use Rattle.sb_word.specs.Words.{is_character};
 ghost use Rattle.sb_class.specs.Ranges.{IsCanonical};
 ghost use Rattle.sb_lang.specs.Constructors.{mkalt, mkcat};
 ghost use Rattle.sb_regex.specs.Numbered.{regex_at, regexes_at, AllNumbers, Extends};
-ghost use Rattle.sb_deriv.specs.Pieces.{covers, value_from, end_of_characters};
+ghost use Rattle.sb_deriv.specs.Pieces.{covers, value_from, IsIntervalMap, end_of_characters};
 ghost use Rattle.sb_deriv.specs.Faithful.{entry_of, IsFaithful, KeepsEntries, IsDerivative, IsMapOf};
-ghost use Rattle.sb_deriv.specs.Choices.{made, kept, targets_at, nd_each, OperandIsKnown, HaveEntries, IsWanted, lacking};
+ghost use Rattle.sb_deriv.specs.Choices.{made, map_of, picked, targets_at, nd_each, AreConstants, OperandIsKnown, HaveEntries, IsWanted, lacking};
 
-use crate::choices::{Choice, merge, singles};
+use crate::choices::{Choices, refine, refine_two};
 use crate::derivative::Derivative;
-use crate::operation::{Operation, Shape, shape_of};
-use crate::pieces::{make_each, of_ranges};
+use crate::operation::{Constants, Operation, Shape, shape_of};
+use crate::pieces::{Map, make_each, of_ranges};
 use sb_regex::{Arena, RegexId};
 use std::alloc::{AllocError, Global};
 use std::collections::BTreeSet;
@@ -25,6 +25,7 @@ use std::marker::Model;
 #[derive(Drop)]
 pub struct Deriver {
     memo: Vec<Option<Derivative>>,
+    constants: Option<Constants>,
 }
 
 impl Model for Deriver {
@@ -42,6 +43,7 @@ impl Deriver {
     {
         Deriver {
             memo: Vec::new(alloc),
+            constants: None,
         }
     }
 
@@ -68,14 +70,31 @@ impl Deriver {
         ensures faithful { IsFaithful arena.new self.new }
         ensures kept { KeepsEntries self.old self.new }
     {
+        let constants = self.constants(arena)?;
         make_room(&mut self.memo, r.number())?;
         let mut waiting = BTreeSet::new(self.allocator());
         let mut next = r;
         while !self.is_known(r) {
-            let _added = self.advance(arena, next, &mut waiting)?;
+            let _added = self.advance(arena, &constants, next, &mut waiting)?;
             next = waiting.pop_first().unwrap_or(r);
         }
         Ok(())
+    }
+
+    /// The numbers of three regexes in an arena, which are asked for once in each.
+    fn constants(&mut self, arena: &mut Arena) -> Result<Constants, AllocError>
+        ensures ok { IfOk result (λ constants. AreConstants arena.new constants) }
+        ensures extends { Extends arena.old arena.new }
+        ensures same { self.new ≡ self.old }
+    {
+        if let Some(constants) = &self.constants {
+            if constants.are_of(arena) {
+                return Ok(constants.again());
+            }
+        }
+        let constants = Constants::of(arena)?;
+        self.constants = Some(constants.again());
+        Ok(constants)
     }
 
     /// Whether the derivative of a regex is known.
@@ -89,9 +108,11 @@ impl Deriver {
     fn advance(
         &mut self,
         arena: &mut Arena,
+        constants: &Constants,
         id: RegexId,
         waiting: &mut BTreeSet<RegexId>,
     ) -> Result<bool, AllocError>
+        requires constants { AreConstants arena.old constants.now }
         requires known { id < length arena.old }
         requires room { id < length self.old }
         requires lacks { entry_of self.old id ≡ None }
@@ -106,7 +127,7 @@ impl Deriver {
         ensures wanted { OnOk result ((n : ℕ) → id < n → All (IsWanted n self.old) waiting.old.keys
             → All (λ q. id < q) waiting.old.keys → All (IsWanted n self.new) waiting.new.keys) }
     {
-        match self.step(arena, id, waiting)? {
+        match self.step(arena, constants, id, waiting)? {
             Some(derivative) => {
                 self.memo[id.number()] = Some(derivative);
                 Ok(true)
@@ -126,9 +147,11 @@ impl Deriver {
     fn step(
         &self,
         arena: &mut Arena,
+        constants: &Constants,
         id: RegexId,
         waiting: &mut BTreeSet<RegexId>,
     ) -> Result<Option<Derivative>, AllocError>
+        requires constants { AreConstants arena.old constants.now }
         requires known { id < length arena.old }
         requires faithful { IsFaithful arena.old self.now }
         ensures found { IfOk result (λ found. IfSome found (λ d. IsDerivative arena.new (regex_at arena.old id) d)) }
@@ -139,36 +162,40 @@ impl Deriver {
         ensures extends { Extends arena.old arena.new }
     {
         match shape_of(self.allocator(), arena, id)? {
-            Shape::Nowhere => self.nowhere(arena),
-            Shape::Set(ranges) => self.of_set(arena, &ranges),
-            Shape::Cat(a, b) => self.of_cat(arena, a, b, waiting),
-            Shape::Made(operation, parts) => self.of_all(arena, operation, &parts, waiting),
+            Shape::Nowhere => self.nowhere(arena, constants),
+            Shape::Set(ranges) => self.of_set(arena, constants, &ranges),
+            Shape::Cat(a, b) => self.of_cat(arena, constants, a, b, waiting),
+            Shape::Made(operation, parts) => {
+                self.of_all(arena, constants, operation, &parts, waiting)
+            }
         }
     }
 
     /// The derivative of a regex with no word but the empty one.
-    fn nowhere(&self, arena: &mut Arena) -> Result<Option<Derivative>, AllocError>
-        ensures found { IfOk result (λ found. IsSomeAnd found (λ d. IsMapOf arena.new (λ c. none) d)) }
-        ensures extends { Extends arena.old arena.new }
+    fn nowhere(
+        &self,
+        arena: &Arena,
+        constants: &Constants,
+    ) -> Result<Option<Derivative>, AllocError>
+        requires constants { AreConstants arena.now constants.now }
+        ensures found { IfOk result (λ found. IsSomeAnd found (λ d. IsMapOf arena.now (λ c. none) d)) }
     {
-        let none = arena.none()?;
-        let pieces = Vec::from_slice(self.allocator(), &[(0, none)])?;
+        let pieces = Vec::from_slice(self.allocator(), &[(0, constants.none)])?;
         Ok(Some(Derivative::new(pieces)))
     }
 
     /// The derivative of a set.
     fn of_set(
         &self,
-        arena: &mut Arena,
+        arena: &Arena,
+        constants: &Constants,
         ranges: &[(u32, u32)],
     ) -> Result<Option<Derivative>, AllocError>
-        requires { IsCanonical ranges.now }
-        ensures found { IfOk result (λ found. IsSomeAnd found (λ d. IsDerivative arena.new (set ranges.now) d)) }
-        ensures extends { Extends arena.old arena.new }
+        requires constants { AreConstants arena.now constants.now }
+        requires canonical { IsCanonical ranges.now }
+        ensures found { IfOk result (λ found. IsSomeAnd found (λ d. IsDerivative arena.now (set ranges.now) d)) }
     {
-        let none = arena.none()?;
-        let eps = arena.eps()?;
-        let pieces = of_ranges(self.allocator(), ranges, eps, none)?;
+        let pieces = of_ranges(self.allocator(), ranges, constants.eps, constants.none)?;
         Ok(Some(Derivative::new(pieces)))
     }
 
@@ -176,10 +203,12 @@ impl Deriver {
     fn of_cat(
         &self,
         arena: &mut Arena,
+        constants: &Constants,
         a: RegexId,
         b: RegexId,
         waiting: &mut BTreeSet<RegexId>,
     ) -> Result<Option<Derivative>, AllocError>
+        requires constants { AreConstants arena.old constants.now }
         requires left { a < length arena.old }
         requires right { b < length arena.old }
         requires faithful { IsFaithful arena.old self.now }
@@ -194,13 +223,19 @@ impl Deriver {
         ensures extends { Extends arena.old arena.new }
     {
         if !arena.nullable(a) {
-            return self.of_all(arena, Operation::Cat(b), &[a], waiting);
+            return self.of_all(arena, constants, Operation::Cat(b), &[a], waiting);
         }
         if self.want(&[a, b], waiting)? {
             return Ok(None);
         }
-        let choices = self.heads_and_tails(arena, a, b)?;
-        let pieces = make_each(arena, self.allocator(), &Operation::Alt, &choices)?;
+        let choices = self.heads_and_tails(arena, constants, a, b)?;
+        let pieces = make_each(
+            arena,
+            self.allocator(),
+            &Operation::Alt,
+            constants,
+            &choices,
+        )?;
         Ok(Some(Derivative::new(pieces)))
     }
 
@@ -208,37 +243,40 @@ impl Deriver {
     fn heads_and_tails(
         &self,
         arena: &mut Arena,
+        constants: &Constants,
         a: RegexId,
         b: RegexId,
-    ) -> Result<Vec<Choice>, AllocError>
+    ) -> Result<Choices, AllocError>
+        requires constants { AreConstants arena.old constants.now }
         requires left { a < length arena.old }
         requires right { b < length arena.old }
         requires faithful { IsFaithful arena.old self.now }
         requires entries { HaveEntries self.now (a ∷ b ∷ []) }
-        ensures whole { IfOk result (λ choices. covers choices.items end_of_characters ≡ true) }
-        ensures numbers { IfOk result (λ choices. (c : ℕ) → AllNumbers arena.new (value_from [] choices.items c)) }
+        ensures whole { IfOk result (λ choices. covers choices end_of_characters ≡ true) }
+        ensures numbers { IfOk result (λ choices. (c : ℕ) → c < end_of_characters
+            → AllNumbers arena.new (value_from [] choices c)) }
         ensures values { IfOk result (λ choices. (c : ℕ) → is_character c ≡ true
-            → mkalt (regexes_at arena.new (value_from [] choices.items c))
+            → mkalt (regexes_at arena.new (value_from [] choices c))
             ≡ mkalt (mkcat (nd (regex_at arena.old a) c) (regex_at arena.old b) ∷ nd (regex_at arena.old b) c ∷ [])) }
         ensures extends { Extends arena.old arena.new }
     {
         let alloc = self.allocator();
         let operation = Operation::Cat(b);
-        let heads = self.gather(arena, &operation, &[a])?;
-        let heads = make_each(arena, alloc, &operation, &heads)?;
-        let heads = singles(arena, alloc, &Operation::Alt, &heads)?;
-        let tails = self.gather(arena, &Operation::Alt, &[b])?;
-        merge(alloc, &heads, &tails)
+        let heads = refine(alloc, &operation, constants, &[Map::new(self.pieces_of(a))])?;
+        let heads = make_each(arena, alloc, &operation, constants, &heads)?;
+        refine_two(alloc, &Operation::Alt, constants, &heads, self.pieces_of(b))
     }
 
     /// What the operation makes of the derivatives of all parts.
     fn of_all(
         &self,
         arena: &mut Arena,
+        constants: &Constants,
         operation: Operation,
         parts: &[RegexId],
         waiting: &mut BTreeSet<RegexId>,
     ) -> Result<Option<Derivative>, AllocError>
+        requires constants { AreConstants arena.old constants.now }
         requires numbers { AllNumbers arena.old parts.now }
         requires operand { OperandIsKnown arena.old operation }
         requires faithful { IsFaithful arena.old self.now }
@@ -256,8 +294,9 @@ impl Deriver {
         if self.want(parts, waiting)? {
             return Ok(None);
         }
-        let choices = self.gather(arena, &operation, parts)?;
-        let pieces = make_each(arena, self.allocator(), &operation, &choices)?;
+        let maps = self.maps(parts)?;
+        let choices = refine(self.allocator(), &operation, constants, &maps)?;
+        let pieces = make_each(arena, self.allocator(), &operation, constants, &choices)?;
         Ok(Some(Derivative::new(pieces)))
     }
 
@@ -280,35 +319,27 @@ impl Deriver {
         Ok(some)
     }
 
-    /// The common refinement of the parts' derivatives, with the targets that make a difference.
-    fn gather(
-        &self,
-        arena: &Arena,
-        operation: &Operation,
-        parts: &[RegexId],
-    ) -> Result<Vec<Choice>, AllocError>
-        requires entries { HaveEntries self.now parts.now }
-        requires faithful { IsFaithful arena.now self.now }
-        ensures whole { IfOk result (λ choices. covers choices.items end_of_characters ≡ true) }
-        ensures values { IfOk result (λ choices. (c : ℕ)
-            → value_from [] choices.items c ≡ kept arena.now operation.now (targets_at self.now parts.now c)) }
+    /// The derivatives of the parts.
+    fn maps(&self, parts: &[RegexId]) -> Result<Vec<Map>, AllocError>
+        requires { HaveEntries self.now parts.now }
+        ensures { IfOk result (λ maps. maps.items ≡ map (map_of self.now) parts.now) }
     {
-        match parts {
-            [] => {
-                let mut choices = Vec::new(self.allocator());
-                choices.push(Choice::new(0, Vec::new(self.allocator())))?;
-                Ok(choices)
-            }
-            [part] => match self.derivative(*part) {
-                Some(map) => singles(arena, self.allocator(), operation, map.pieces()),
-                None => unreachable!(),
-            },
-            _ => {
-                let (front, back) = parts.split_at(parts.len() / 2);
-                let left = self.gather(arena, operation, front)?;
-                let right = self.gather(arena, operation, back)?;
-                merge(self.allocator(), &left, &right)
-            }
+        let mut maps = Vec::new(self.allocator());
+        for part in parts {
+            maps.push(Map::new(self.pieces_of(*part)))?;
+        }
+        Ok(maps)
+    }
+
+    /// The derivative of a regex for which it is known.
+    fn pieces_of(&self, id: RegexId) -> &[(u32, RegexId)]
+        requires { IsSome (entry_of self.now id) }
+        ensures value { result.now ≡ map_of self.now id }
+        ensures whole { IsIntervalMap result.now }
+    {
+        match self.derivative(id) {
+            Some(map) => map.pieces(),
+            None => unreachable!(),
         }
     }
 }

@@ -1,12 +1,83 @@
 //! What is made of the targets of parts.
 
-ghost use Rattle.std.specs.Prelude.{◌≡◌, ◌<◌, length, IfOk};
+ghost use Rattle.std.specs.Prelude.{◌≡◌, ◌<◌, ◌∷◌, [], List, true, length, IfOk};
+ghost use Rattle.sb_lang.specs.Regex.{Regex, none, eps, neg};
 ghost use Rattle.sb_lang.specs.Constructors.{mknot};
 ghost use Rattle.sb_regex.specs.Numbered.{regex_at, regexes_at, AllNumbers, Extends, Names};
-ghost use Rattle.sb_deriv.specs.Choices.{made, drops, is_not_none, OperandIsKnown, IsShape};
+ghost use Rattle.sb_deriv.specs.Choices.{made, drops, absorbs, AreConstants, OperandIsKnown, IsShape};
 
+use sb_lang::fold::union_of_one;
 use sb_regex::{Arena, Node, RegexId};
 use std::alloc::{AllocError, Global};
+
+/// The numbers of three regexes that are asked for again and again.
+#[derive(Drop)]
+pub(crate) struct Constants {
+    pub(crate) none: RegexId,
+    pub(crate) eps: RegexId,
+    pub(crate) everything: RegexId,
+}
+
+impl Constants {
+    /// The numbers in an arena.
+    pub(crate) fn of(arena: &mut Arena) -> Result<Constants, AllocError>
+        ensures ok { IfOk result (λ constants. AreConstants arena.new constants) }
+        ensures extends { Extends arena.old arena.new }
+    {
+        let none = arena.none()?;
+        let eps = arena.eps()?;
+        let everything = arena.and(&[])?;
+        Ok(Constants {
+            none,
+            eps,
+            everything,
+        })
+    }
+
+    pub(crate) fn again(&self) -> Constants
+        ensures { result ≡ self.now }
+    {
+        Constants {
+            none: self.none,
+            eps: self.eps,
+            everything: self.everything,
+        }
+    }
+
+    /// Whether they are the numbers in an arena.
+    pub(crate) fn are_of(&self, arena: &Arena) -> bool
+        ensures { result ≡ true → AreConstants arena.now self.now }
+    {
+        is_none(arena, self.none)
+            && is_eps(arena, self.eps)
+            && is_complement(arena, self.everything, self.none)
+    }
+}
+
+fn is_none(arena: &Arena, id: RegexId) -> bool
+    ensures { result ≡ true → Names arena.now id none }
+{
+    id.number() < arena.len() && matches!(arena.node(id), Node::None)
+}
+
+fn is_eps(arena: &Arena, id: RegexId) -> bool
+    ensures { result ≡ true → Names arena.now id eps }
+{
+    id.number() < arena.len() && matches!(arena.node(id), Node::Eps)
+}
+
+/// Whether the regex is the complement of another.
+fn is_complement(arena: &Arena, id: RegexId, of: RegexId) -> bool
+    ensures { result ≡ true → Names arena.now id (neg (regex_at arena.now of)) }
+{
+    if id.number() >= arena.len() {
+        return false;
+    }
+    match arena.node(id) {
+        Node::Not(a) => *a == of,
+        _ => false,
+    }
+}
 
 /// What makes a regex of the targets of parts.
 #[derive(Drop)]
@@ -23,7 +94,66 @@ pub(crate) enum Operation {
 
 impl Operation {
     /// What is made of these.
-    pub(crate) fn make(&self, arena: &mut Arena, ids: &[RegexId]) -> Result<RegexId, AllocError>
+    pub(crate) fn make(
+        &self,
+        arena: &mut Arena,
+        constants: &Constants,
+        ids: &[RegexId],
+    ) -> Result<RegexId, AllocError>
+        requires constants { AreConstants arena.old constants.now }
+        requires members { AllNumbers arena.old ids.now }
+        requires operand { OperandIsKnown arena.old self.now }
+        ensures ok { IfOk result (λ id. Names arena.new id (made arena.old self.now (regexes_at arena.old ids.now))) }
+        ensures extends { Extends arena.old arena.new }
+    {
+        match ids {
+            [] => Ok(self.of_none(constants)),
+            [id] => self.of_one(arena, constants, *id),
+            _ => self.of_many(arena, ids),
+        }
+    }
+
+    /// What is made of no regex.
+    fn of_none(&self, constants: &Constants) -> RegexId
+        ensures { (rs : List Regex) → AreConstants rs constants.now → Names rs result (made rs self.now []) }
+    {
+        match self {
+            Operation::And => constants.everything,
+            Operation::Alt | Operation::Not | Operation::Cat(_) => constants.none,
+        }
+    }
+
+    /// What is made of one regex.
+    fn of_one(
+        &self,
+        arena: &mut Arena,
+        constants: &Constants,
+        id: RegexId,
+    ) -> Result<RegexId, AllocError>
+        requires constants { AreConstants arena.old constants.now }
+        requires member { id < length arena.old }
+        requires operand { OperandIsKnown arena.old self.now }
+        ensures ok { IfOk result
+            (λ made_id. Names arena.new made_id (made arena.old self.now (regex_at arena.old id ∷ []))) }
+        ensures extends { Extends arena.old arena.new }
+    {
+        union_of_one();
+        arena.normal_regexes_each_once();
+        match self {
+            Operation::Alt => Ok(id),
+            Operation::And => {
+                if id == constants.none {
+                    return Ok(id);
+                }
+                arena.and(&[id])
+            }
+            Operation::Not => complement(arena, id),
+            Operation::Cat(b) => arena.cat(id, *b),
+        }
+    }
+
+    /// What is made of two and more.
+    fn of_many(&self, arena: &mut Arena, ids: &[RegexId]) -> Result<RegexId, AllocError>
         requires members { AllNumbers arena.old ids.now }
         requires operand { OperandIsKnown arena.old self.now }
         ensures ok { IfOk result (λ id. Names arena.new id (made arena.old self.now (regexes_at arena.old ids.now))) }
@@ -44,36 +174,27 @@ impl Operation {
     }
 
     /// Whether the regex makes no difference among others.
-    pub(crate) fn drops(&self, arena: &Arena, id: RegexId) -> bool
-        requires { id < length arena.now }
-        ensures { result ≡ drops self.now (regex_at arena.now id) }
+    #[tactic(auto, unfolding(crate::specs::Choices::drops))]
+    pub(crate) fn drops(&self, constants: &Constants, id: RegexId) -> bool
+        ensures { result ≡ drops constants.now self.now id }
     {
         match self {
-            Operation::Alt => is_none(arena, id),
-            Operation::And => is_anything(arena, id),
-            _ => false,
+            Operation::Alt => id == constants.none,
+            Operation::And => id == constants.everything,
+            Operation::Not | Operation::Cat(_) => false,
         }
     }
-}
 
-fn is_none(arena: &Arena, id: RegexId) -> bool
-    requires { id < length arena.now }
-    ensures { result ≡ drops Operation.Alt (regex_at arena.now id) }
-{
-    match arena.node(id) {
-        Node::None => true,
-        _ => false,
-    }
-}
-
-/// Whether the regex is that of every word.
-fn is_anything(arena: &Arena, id: RegexId) -> bool
-    requires { id < length arena.now }
-    ensures { result ≡ is_not_none (regex_at arena.now id) }
-{
-    match arena.node(id) {
-        Node::Not(a) => is_none(arena, *a),
-        _ => false,
+    /// Whether the others make no difference to the regex.
+    #[tactic(auto, unfolding(crate::specs::Choices::absorbs))]
+    pub(crate) fn absorbs(&self, constants: &Constants, id: RegexId) -> bool
+        ensures { result ≡ absorbs constants.now self.now id }
+    {
+        match self {
+            Operation::Alt => id == constants.everything,
+            Operation::And => id == constants.none,
+            Operation::Not | Operation::Cat(_) => false,
+        }
     }
 }
 

@@ -1,22 +1,54 @@
 //! Lists of pieces.
 
-ghost use Rattle.std.specs.Prelude.{◌≡◌, ◌<◌, ◌≤◌, ℕ, All, true, [], nat_le, cond, length, get_or, IfOk, OnOk};
+ghost use Rattle.std.specs.Prelude.{◌≡◌, ◌<◌, ◌≤◌, ◌+◌, ℕ, All, true, [], nat_le, cond, length, get_or, drop, IfOk, OnOk, IfSome};
 ghost use Rattle.sb_class.specs.Ranges.{in_ranges, IsCanonical};
-ghost use Rattle.sb_regex.specs.Numbered.{regex_at, regexes_at, AllNumbers, Extends};
+ghost use Rattle.sb_regex.specs.Numbered.{regex_at, regexes_at, AllNumbers, Extends, Names};
 ghost use Rattle.sb_deriv.specs.Pieces.{covers, are_merged, value_from, value_at, IsIntervalMap, targets_of, end_of_characters};
 ghost use Rattle.sb_deriv.specs.Faithful.{IsMapOf};
-ghost use Rattle.sb_deriv.specs.Choices.{made, OperandIsKnown, ends_with};
+ghost use Rattle.sb_deriv.specs.Choices.{made, first_of, list_of, AreConstants, OperandIsKnown, AreMade, IsFound, IsSpan, ends_with};
 
-use crate::choices::Choice;
-use crate::operation::Operation;
+use crate::choices::Choices;
+use crate::operation::{Constants, Operation};
 use sb_class::LAST_CHARACTER;
 use sb_regex::{Arena, RegexId};
 use std::alloc::{AllocError, Global};
+use std::marker::Model;
 
 /// The target of a character: that of the last piece that begins at or below it. Logarithmic.
 pub(crate) fn value_at(pieces: &[(u32, RegexId)], c: u32) -> RegexId
-    requires { IsIntervalMap pieces.now }
+    requires map { IsIntervalMap pieces.now }
+    requires character { c ≤ 0x2ffff }
     ensures { result ≡ value_at pieces.now c }
+{
+    span_at(pieces, c).1
+}
+
+/// Up to where the piece of a character goes, and its target. Logarithmic.
+fn span_at(pieces: &[(u32, RegexId)], c: u32) -> (u32, RegexId)
+    requires map { IsIntervalMap pieces.now }
+    requires character { c ≤ 0x2ffff }
+    ensures { IsSpan pieces.now c result.0 result.1 }
+{
+    let place = place_of(pieces, c);
+    (first_from(pieces, place + 1), pieces[place].1)
+}
+
+/// Where the piece at a place begins, or the end of all.
+fn first_from(pieces: &[(u32, RegexId)], i: usize) -> u32
+    ensures { result ≡ first_of end_of_characters (drop i pieces.now) }
+{
+    match pieces.get(i) {
+        Some(piece) => piece.0,
+        None => LAST_CHARACTER + 1,
+    }
+}
+
+/// The place of the last piece that begins at or below a character.
+fn place_of(pieces: &[(u32, RegexId)], c: u32) -> usize
+    requires { IsIntervalMap pieces.now }
+    ensures within { result < length pieces.now }
+    ensures begins { (get_or pieces.now result (0, 0)).0 ≤ c }
+    ensures ends { result + 1 < length pieces.now → c < (get_or pieces.now (result + 1) (0, 0)).0 }
 {
     let mut low = 0;
     let mut high = pieces.len();
@@ -28,7 +60,42 @@ pub(crate) fn value_at(pieces: &[(u32, RegexId)], c: u32) -> RegexId
             high = middle;
         }
     }
-    pieces[low].1
+    low
+}
+
+/// An interval map that is lent.
+#[derive(Drop)]
+pub(crate) struct Map<'a> {
+    pieces: &'a [(u32, RegexId)],
+}
+
+impl<'a> Model for Map<'a> {
+    ghost use Rattle.std.specs.Prelude.{ℕ, List};
+
+    ghost Value = { List (ℕ × ℕ) };
+
+    ghost use Rattle.sb_deriv.specs.Pieces.{IsIntervalMap};
+
+    ghost view = { λ map. map.pieces.now };
+
+    ghost invariant = { λ map. IsIntervalMap map.pieces.now };
+}
+
+impl<'a> Map<'a> {
+    pub(crate) fn new(pieces: &'a [(u32, RegexId)]) -> Map<'a>
+        requires { IsIntervalMap pieces.now }
+        ensures { result ≡ pieces.now }
+    {
+        Map { pieces }
+    }
+
+    /// Up to where the piece of a character goes, and its target. Logarithmic.
+    pub(crate) fn span_at(&self, c: u32) -> (u32, RegexId)
+        requires character { c ≤ 0x2ffff }
+        ensures { IsSpan self.now c result.0 result.1 }
+    {
+        span_at(self.pieces, c)
+    }
 }
 
 /// Where a piece begins.
@@ -119,15 +186,17 @@ pub(crate) fn of_ranges(
     Ok(pieces)
 }
 
-/// Of each piece what the operation makes of its choices.
+/// Of each piece what the operation makes of its choices. It is made once of each list of regexes, where there are few.
 pub(crate) fn make_each(
     arena: &mut Arena,
     alloc: Global,
     operation: &Operation,
-    choices: &[Choice],
+    constants: &Constants,
+    choices: &Choices,
 ) -> Result<Vec<(u32, RegexId)>, AllocError>
+    requires constants { AreConstants arena.old constants.now }
     requires whole { covers choices.now end_of_characters ≡ true }
-    requires members { (c : ℕ) → AllNumbers arena.old (value_from [] choices.now c) }
+    requires members { (c : ℕ) → c < end_of_characters → AllNumbers arena.old (value_from [] choices.now c) }
     requires operand { OperandIsKnown arena.old operation.now }
     ensures map { IfOk result
         (λ pieces. IsMapOf arena.new
@@ -135,9 +204,57 @@ pub(crate) fn make_each(
     ensures extends { Extends arena.old arena.new }
 {
     let mut pieces = Vec::new(alloc);
-    for choice in choices {
-        let target = operation.make(arena, choice.ids())?;
-        push(&mut pieces, choice.first(), target)?;
+    let mut known = Vec::new(alloc);
+    for place in 0..choices.len() {
+        let target = target_of(arena, operation, constants, choices, place, &mut known)?;
+        push(&mut pieces, choices.first(place), target)?;
     }
-    Ok(pieces)
+    let exact = Vec::from_slice(alloc, &pieces)?;
+    Ok(exact)
+}
+
+/// So many different lists of regexes are remembered.
+const KEPT: usize = 64;
+
+/// What the operation makes of the regexes of a piece.
+fn target_of(
+    arena: &mut Arena,
+    operation: &Operation,
+    constants: &Constants,
+    choices: &Choices,
+    place: usize,
+    known: &mut Vec<(usize, RegexId)>,
+) -> Result<RegexId, AllocError>
+    requires constants { AreConstants arena.old constants.now }
+    requires within { place < length choices.now }
+    requires members { AllNumbers arena.old (list_of choices.now place) }
+    requires operand { OperandIsKnown arena.old operation.now }
+    requires known { AreMade arena.old operation.now choices.now known.old.items }
+    ensures ok { IfOk result
+        (λ id. Names arena.new id (made arena.old operation.now (regexes_at arena.old (list_of choices.now place)))) }
+    ensures known { OnOk result (AreMade arena.new operation.now choices.now known.new.items) }
+    ensures extends { Extends arena.old arena.new }
+{
+    let ids = choices.ids(place);
+    if let Some(target) = find(choices, known, ids) {
+        return Ok(target);
+    }
+    let target = operation.make(arena, constants, ids)?;
+    if known.len() < KEPT {
+        known.push((place, target))?;
+    }
+    Ok(target)
+}
+
+/// The target of a piece with these regexes, if there is one.
+fn find(choices: &Choices, known: &[(usize, RegexId)], ids: &[RegexId]) -> Option<RegexId>
+    requires { All (λ m. m.0 < length choices.now) known.now }
+    ensures { IfSome result (λ target. IsFound choices.now known.now ids.now target) }
+{
+    for entry in known {
+        if choices.ids(entry.0) == ids {
+            return Some(entry.1);
+        }
+    }
+    None
 }

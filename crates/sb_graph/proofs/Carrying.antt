@@ -2,9 +2,11 @@
 use Rattle.std.proofs.Common.{ℕ, ◌<◌, Bool, List, length, sym, ap, subst, ◌∙◌}
 use Rattle.sb_lang.specs.Regex.{Regex}
 use Rattle.sb_lang.specs.Derivative.{nullable, nd, nd_along}
+use Rattle.sb_lang.specs.Language.{language}
+use Rattle.sb_lang.specs.Least.{IsShortestLeast}
 use Rattle.sb_regex.specs.Numbered.{Names, Extends}
 use Rattle.sb_regex.proofs.CallerLemmas.{at_kept, names_kept, names_below, number_kept}
-use Rattle.sb_graph.specs.Findings.{AreBarren}
+use Rattle.sb_graph.specs.Findings.{Answers, AreBarren, AreAnswers}
 use Rattle.sb_graph.specs.Queue.{Entry, regex_of, word_at}
 use Rattle.sb_graph.specs.Search.{AreReached, IsDone, IsSearched}
 
@@ -25,6 +27,14 @@ module _ (old new : List Regex) (more : Extends old new) where
             };
       }
 
+  pub answers_carried : (answers : Answers) → AreAnswers old answers → AreAnswers new answers
+  answers_carried answers h n w m =
+      let a = h n w m in
+      record {
+        known = number_kept old new n more a.known;
+        least = subst (λ r. IsShortestLeast (language r) w) (sym (at_kept old new n more a.known)) a.least;
+      }
+
   pub reached_carried : (root : ℕ) (es : List Entry) (ws : List (List ℕ)) → AreReached old root es ws
       → AreReached new root es ws
   reached_carried root es ws r =
@@ -35,6 +45,7 @@ module _ (old new : List Regex) (more : Extends old new) where
         words_are = r.words_are;
         some = r.some;
         first = r.first;
+        characters = r.characters;
         along = λ k l.
             subst (λ q. Names new (regex_of es k) (nd_along q (word_at ws k))) (sym (at_kept old new root more known))
             (names_kept old new (regex_of es k) _ more (r.along k l));

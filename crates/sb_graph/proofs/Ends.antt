@@ -69,25 +69,25 @@ module _ (rs : List Regex) (root : ℕ) (dead : List Bool) (es : List Entry) (pl
           (covered_later rs dead es s.words _ (rank_at s.words m.place * 0x30000 + c) (b * 0x30000 + c)
           (omega (arith, m.soon)) (d.covered c h))
 
-  covered_empty : (q : Regex) (b : ℕ) → ((j : ℕ) → j < length es → rank_at s.words j ≤ b → j < place)
-      → IsCovered rs dead es s.words q b → nullable q ≡ false
-  covered_empty q b below v = by v.met
+  covered_empty : (q : Regex) (b : ℕ) → ((j : ℕ) → j < length es → rank_at s.words j ≤ b
+      → nullable (regex_at rs (regex_of es j)) ≡ false) → IsCovered rs dead es s.words q b → nullable q ≡ false
+  covered_empty q b tested v = by v.met
     where
       by : IsMetBy dead es s.words v.number b → nullable q ≡ false
       by (inl m) = named_nullable rs v.number q v.names (barren v.number m).empty_word
-      by (inr m) =
-          let d = s.below m.place (below m.place m.within m.soon) m.within in
-          named_nullable rs v.number q v.names (ap (λ n. nullable (regex_at rs n)) (sym m.is) ∙ d.empty_word)
+      by (inr m) = named_nullable rs v.number q v.names (ap (λ n. nullable (regex_at rs n)) (sym m.is)
+          ∙ tested m.place m.within m.soon)
 
   rejected : (v : List ℕ) (q : Regex) (b : ℕ) → IsWord v
-      → ((j : ℕ) → j < length es → rank_at s.words j ≤ rank_from b v → j < place) → IsCovered rs dead es s.words q b
-      → nullable (nd_along q v) ≡ false
+      → ((j : ℕ) → j < length es → rank_at s.words j * 0x30000 ≤ rank_from b v → j < place)
+      → ((j : ℕ) → j < length es → rank_at s.words j ≤ rank_from b v → nullable (regex_at rs (regex_of es j)) ≡ false)
+      → IsCovered rs dead es s.words q b → nullable (nd_along q v) ≡ false
   unfolding nd_along rank_from
-  rejected [] q b is below k = covered_empty q b below k
-  rejected (c ∷ v) q b is below k =
+  rejected [] q b is below tested k = covered_empty q b tested k
+  rejected (c ∷ v) q b is below tested k =
       let p = and_parts (is_character c) (are_characters v) is in
       let g = rank_grows (b * 0x30000 + c) v in
-      rejected v (nd q c) (b * 0x30000 + c) p.1 below
+      rejected v (nd q c) (b * 0x30000 + c) p.1 below tested
       (covered_next q b c p.0 (λ j h l. below j h (omega (arith, l, g))) k)
 
   root_covered : IsCovered rs dead es s.words (regex_at rs root) 1
@@ -104,23 +104,40 @@ module _ (rs : List Regex) (root : ℕ) (dead : List Bool) (es : List Entry) (pl
     });
   }
 
-  earlier : place < length es → (j : ℕ) → j < length es → rank_at s.words j < rank_at s.words place → j < place
-  earlier within j h l = by (ltb j place) refl
+  earlier : (k : ℕ) → k < length es → (j : ℕ) → j < length es → rank_at s.words j < rank_at s.words k → j < k
+  earlier k within j h l = by (ltb j k) refl
+    where
+      by : (t : Bool) → ltb j k ≡ t → j < k
+      by true t = grind (arith, nat_tests, t)
+      by false t = absurd (by' (nat_eq j k) refl (let x : k ≤ j = grind (arith, nat_tests, t) in x))
+        where
+          by' : (t : Bool) → nat_eq j k ≡ t → k ≤ j → ⊥
+          by' true t x = let e : j ≡ k = grind (arith, nat_tests, t) in omega (arith, l, ap (rank_at s.words) e)
+          by' false t x =
+              let m : k < j = grind (arith, nat_tests, t, x) in
+              omega (arith, l, s.reached.ascending k j m h)
+
+  -- a place whose successors come before another one is done
+  done_before : (k : ℕ) → k < length es → (j : ℕ) → j < length es
+      → rank_at s.words j * 0x30000 < rank_at s.words k → j < place
+  done_before k within j h l = by (ltb j place) refl
     where
       by : (t : Bool) → ltb j place ≡ t → j < place
       by true t = grind (arith, nat_tests, t)
-      by false t = absurd (by' (nat_eq j place) refl (let x : place ≤ j = grind (arith, nat_tests, t) in x))
+      by false t = absurd (by' (nat_eq place j) refl (let x : place ≤ j = grind (arith, nat_tests, t) in x))
         where
-          by' : (t : Bool) → nat_eq j place ≡ t → place ≤ j → ⊥
-          by' true t x = let e : j ≡ place = grind (arith, nat_tests, t) in omega (arith, l, ap (rank_at s.words) e)
+          by' : (t : Bool) → nat_eq place j ≡ t → place ≤ j → ⊥
+          by' true t x =
+              let e : place ≡ j = grind (arith, nat_tests, t) in
+              omega (arith, l, s.near (omega (arith, x, h)) k within, ap (rank_at s.words) e)
           by' false t x =
               let m : place < j = grind (arith, nat_tests, t, x) in
-              omega (arith, l, s.reached.ascending place j m h)
+              omega (arith, l, s.near (omega (arith, x, h)) k within, s.reached.ascending place j m h)
 
 -- the word of a place with the empty word is the least
 module _ (empty : NullableHasEmptyWord) (along : DerivativeAlongHasRests) (rs : List Regex) (root : ℕ)
-    (dead : List Bool) (es : List Entry) (place : ℕ)
-    (barren : AreBarren rs dead) (f : IsFound rs root dead es place) where
+    (dead : List Bool) (es : List Entry) (old new : List ℕ) (place : ℕ)
+    (barren : AreBarren rs dead) (f : IsFound rs root dead es old new place) where
   abbrev words : List (List ℕ)
   words = f.searched.words
 
@@ -131,9 +148,10 @@ module _ (empty : NullableHasEmptyWord) (along : DerivativeAlongHasRests) (rs : 
 
   found_least : (v : List ℕ) → IsWord v → language (regex_at rs root) v ≡ true → rank v < rank_at words place → ⊥
   found_least v is h l =
-      let r = rejected rs root dead es place barren f.searched v (regex_at rs root) 1 is
-      (λ j m k. earlier rs root dead es place barren f.searched f.within j m (omega (arith, k, l)))
-      (root_covered rs root dead es place barren f.searched) in
+      let r = rejected rs root dead es f.done barren f.searched v (regex_at rs root) 1 is
+      (λ j m k. done_before rs root dead es f.done barren f.searched place f.within j m (omega (arith, k, l)))
+      (λ j m k. f.before j (earlier rs root dead es f.done barren f.searched place f.within j m (omega (arith, k, l))))
+      (root_covered rs root dead es f.done barren f.searched) in
       false≢true (sym r ∙ member_along empty along (regex_at rs root) v ∙ h)
 
   pub found_is : (w : List ℕ) → IsWord w → ((ws : List (List ℕ)) → AreWords es ws → w ≡ word_at ws place)

@@ -4,5 +4,6 @@ pub mod Pushing
 pub mod Turns
 pub mod Carrying
 pub mod Ends
+pub mod Expanding
 pub mod Steps
 pub mod Searching

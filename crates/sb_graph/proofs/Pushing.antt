@@ -1,7 +1,9 @@
 -- One more place at the end of a queue.
-use Rattle.std.proofs.Common.{◌≡◌, ℕ, ◌+◌, ◌*◌, ◌<◌, ◌≤◌, ◌⊎◌, inl, inr, Bool, true, false, ltb, List, [], ◌∷◌, ◌++◌, length, refl, sym, ap, subst, ◌∙◌, arith}
+use Rattle.std.proofs.Common.{◌≡◌, ℕ, ◌+◌, ◌*◌, ◌<◌, ◌≤◌, ◌⊎◌, inl, inr, Bool, true, false, ◌&&◌, ltb, List, [], ◌∷◌, ◌++◌, length, refl, sym, ap, ap₂, subst, ◌∙◌, arith}
+use Rattle.std.proofs.lemmas.Bool.{and_parts}
 use Rattle.std.proofs.lemmas.Bool.Decides.{nat_tests}
 use Rattle.std.proofs.lemmas.List.{get_or_push, length_push}
+use Rattle.sb_word.specs.Words.{is_character, are_characters, IsWord}
 use Rattle.sb_lang.specs.Regex.{Regex}
 use Rattle.sb_lang.specs.Derivative.{nd, nd_along}
 use Rattle.sb_regex.specs.Numbered.{regex_at, Names}
@@ -15,6 +17,11 @@ nd_along-push : (r : Regex) (w : List ℕ) (c : ℕ) → nd_along r (w ++ c ∷ 
 unfolding nd_along
 nd_along-push r [] c = refl
 nd_along-push r (d ∷ w) c = nd_along-push (nd r d) w c
+
+word_push : (w : List ℕ) (c : ℕ) → IsWord w → is_character c ≡ true → IsWord (w ++ c ∷ [])
+word_push [] c h is = ap (λ b. b && true) is
+word_push (d ∷ w) c h is =
+    let p = and_parts (is_character d) (are_characters w) h in ap₂ (λ a b. a && b) p.0 (word_push w c p.1 is)
 
 old_or_last : (es : List Entry) (e : Entry) (k : ℕ) → k < length (es ++ e ∷ []) → (k < length es) ⊎ (k ≡ length es)
 old_or_last es e k h = by (ltb k (length es)) refl
@@ -31,7 +38,7 @@ each_place es e P old last k h =
 
 -- the regex of the new place is a derivative of one that was reached, by a word above all others
 module _ (rs : List Regex) (root : ℕ) (es : List Entry) (ws : List (List ℕ)) (i n c : ℕ)
-    (reached : AreReached rs root es ws) (within : i < length es)
+    (reached : AreReached rs root es ws) (within : i < length es) (char : is_character c ≡ true)
     (names : Names rs n (nd (regex_at rs (regex_of es i)) c)) (above : (j : ℕ) → j < length es
     → rank_at ws j < rank_at ws i * 0x30000 + c) where
   abbrev entry : Entry
@@ -89,6 +96,11 @@ module _ (rs : List Regex) (root : ℕ) (es : List Entry) (ws : List (List ℕ))
         k h p;
   }
 
+  characters_more : (k : ℕ) → k < length more → IsWord (word_at more_words k)
+  characters_more = each_place es entry (λ k. IsWord (word_at more_words k))
+      (λ k l. subst IsWord (sym (grown.words k l)) (reached.characters k l))
+      (subst IsWord (sym word_new) (word_push (word_at ws i) c (reached.characters i within) char))
+
   along_more : (k : ℕ) → k < length more
       → Names rs (regex_of more k) (nd_along (regex_at rs root) (word_at more_words k))
   along_more = each_place es entry
@@ -113,6 +125,7 @@ module _ (rs : List Regex) (root : ℕ) (es : List Entry) (ws : List (List ℕ))
     words_are = words_more;
     some = omega (arith, reached.some, length_push es entry);
     first = ap (λ e. e.0) (grown.entries 0 reached.some) ∙ reached.first;
+    characters = characters_more;
     along = along_more;
     ascending = ascending_more;
   }

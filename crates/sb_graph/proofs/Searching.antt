@@ -1,5 +1,8 @@
 -- The parts of a search, put together.
-use Rattle.std.proofs.Common.{◌≡◌, ℕ, suc, ◌+◌, ◌<◌, Bool, true, false, Result, Ok, Err, OnOk, List, length, sym, ap, subst, ◌∙◌, arith}
+use Rattle.std.proofs.Common.{◌≡◌, ℕ, zero, suc, ◌+◌, ◌<◌, ◌≤◌, Bool, true, false, ltb, Result, Ok, Err, OnOk, List, length, get_or, map, refl, sym, ap, subst, ◌∙◌, arith}
+use Rattle.std.proofs.Math.ListN.{get_or-map}
+use Rattle.std.proofs.lemmas.Bool.Decides.{nat_tests}
+use Rattle.std.proofs.lemmas.List.{length-map}
 use Rattle.sb_word.specs.Words.{IsWord}
 use Rattle.sb_lang.specs.Regex.{Regex}
 use Rattle.sb_lang.specs.Derivative.{nullable}
@@ -11,31 +14,110 @@ use Rattle.sb_deriv.specs.Faithful.{IsDerivative}
 use Rattle.sb_graph.specs.Findings.{is_marked, AreBarren}
 use Rattle.sb_graph.specs.Queue.{Entry, regex_of, visited, word_at, AreWords}
 use Rattle.sb_lang.specs.Least.{IsShortestLeast, HasNoWord}
-use Rattle.sb_graph.specs.Search.{IsSearched, IsFound, IsVisited, AreMarked}
+use Rattle.sb_graph.specs.Search.{AreTested, IsFirstNullable, IsTaken, IsSearched, IsUnderWay, IsFound, IsVisited, AreMarked}
 use Rattle.sb_graph.proofs.Carrying.{searched_carried}
 use Rattle.sb_graph.proofs.Ends.{found_is, marked_has_no_word, end_root, end_barren}
-use Rattle.sb_graph.proofs.Turns.{searched_next}
+use Rattle.sb_graph.proofs.Turns.{searched_next, visited_keeps}
+use Rattle.sb_graph.proofs.Steps.{regexes_below}
+use Rattle.sb_graph.proofs.Expanding.{goes_on_same, taken_next}
+use Rattle.sb_graph.specs.Witness.{GoesOn}
 
 pub on_ok : {T E : Type 0} (P Q : Type 0) (r : Result T E) → OnOk r P → (P → Q) → OnOk r Q
 on_ok P Q (Ok x) h f = f h
 on_ok P Q (Err e) h f = tt
 
-pub searched_step : (old new : List Regex) (root : ℕ) (dead dead' : List Bool) (es es' : List Entry) (place k : ℕ)
-    (b : Bool) → Extends old new → IsSearched old root dead es place → place < length es →
-    regex_of es place ≡ k → b ≡ nullable (regex_at old k) → b ≡ false
+searched_step : (old new : List Regex) (root : ℕ) (dead dead' : List Bool) (es es' : List Entry) (place : ℕ)
+    → Extends old new → IsSearched old root dead es place → place < length es
+    → nullable (regex_at old (regex_of es place)) ≡ false
     → IsVisited new (regex_at old (regex_of es place)) dead place es es' → dead' ≡ dead
     → IsSearched new root dead' es' (place + 1)
-searched_step old new root dead dead' es es' place k b more s within is e f v same =
+searched_step old new root dead dead' es es' place more s within e v same =
     let r = regex_of es place in
     let kept = at_kept old new r more (names_below old r _ (s.reached.along place within)) in
-    let empty = ap nullable kept ∙ ap (λ k. nullable (regex_at old k)) is ∙ sym e ∙ f in
     let d = subst (λ q. IsDerivative new q v.pieces) (sym kept) v.derivative in
-    let next = searched_next new root dead es place (searched_carried old new more root dead es place s) within empty
-    v.pieces d in
+    let next = searched_next new root dead es place (searched_carried old new more root dead es place s) within
+    (ap nullable kept ∙ e) v.pieces d in
     let more_by_one : suc place ≡ place + 1 = omega arith in
     subst (λ dead. IsSearched new root dead es' (place + 1)) (sym same)
     (subst (λ es. IsSearched new root dead es (place + 1)) (sym v.is)
     (subst (λ p. IsSearched new root dead (visited dead place es v.pieces) p) more_by_one next))
+
+number_at_place : (es : List Entry) (k : ℕ) → get_or (map (λ e. e.0) es) k 0 ≡ regex_of es k
+number_at_place es k = get_or-map (λ e. e.0) es k (0, (0, 0))
+
+-- the places up to the end of the queue are tested
+all_tested : (rs : List Regex) (es : List Entry) (ns : List ℕ) (tested upto : ℕ) → ns ≡ map (λ e. e.0) es
+    → ((k : ℕ) → k < tested → nullable (regex_at rs (regex_of es k)) ≡ false) → AreTested rs ns tested upto
+    → (k : ℕ) → k < upto → nullable (regex_at rs (regex_of es k)) ≡ false
+all_tested rs es ns tested upto is empty h k l = by (ltb k tested) refl
+  where
+    by : (t : Bool) → ltb k tested ≡ t → nullable (regex_at rs (regex_of es k)) ≡ false
+    by true t = empty k (grind (arith, nat_tests, t))
+    by false t =
+        ap (λ n. nullable (regex_at rs n)) (sym (ap (λ ns. get_or ns k 0) is ∙ number_at_place es k))
+        ∙ h k (grind (arith, nat_tests, t)) l
+
+module _ (rs : List Regex) (root : ℕ) (dead : List Bool) (es : List Entry) (place tested : ℕ) (old new : List ℕ)
+    (u : IsUnderWay rs root dead es place tested old new) (ns : List ℕ) (is : ns ≡ map (λ e. e.0) es) where
+  pub under_way_known : (k : ℕ) → k < length ns → get_or ns k 0 < length rs
+  under_way_known = regexes_below es ns (length rs) is
+      (λ k h. names_below rs (regex_of es k) _ (u.searched.reached.along k h))
+
+  pub under_way_found : (found : ℕ) → IsFirstNullable rs ns tested found → IsFound rs root dead es old new found
+  under_way_found found f = record {
+    done = place;
+    searched = u.searched;
+    taken = u.taken;
+    after = omega (arith, u.ahead, f.after);
+    within = omega (arith, f.within, ap length is ∙ length-map es (λ e. e.0));
+    before = all_tested rs es ns tested found is u.empty_words f.before;
+    empty_word = ap (λ n. nullable (regex_at rs n)) (sym (ap (λ ns. get_or ns found 0) is ∙ number_at_place es found))
+        ∙ f.empty_word;
+  }
+
+  pub under_way_next : (later : List Regex) (dead' : List Bool) (es' : List Entry) (newest : List ℕ)
+      → Extends rs later → place < length es → AreTested rs ns tested (length ns)
+      → IsVisited later (regex_at rs (regex_of es place)) dead place es es' → dead' ≡ dead
+      → GoesOn (λ n. n ≡ regex_of es place) new newest
+      → IsUnderWay later root dead' es' (place + 1) (length es) old newest
+  under_way_next later dead' es' newest more within h v same expands = record {
+    searched = searched_step rs later root dead dead' es es' place more u.searched within (tests place within) v same;
+    taken = taken_next es es' place old new newest within keeps u.taken expands;
+    ahead = omega (arith, within);
+    within = long (length es) refl;
+    empty_words = λ k l.
+        let known = names_below rs (regex_of es k) _ (u.searched.reached.along k l) in
+        ap nullable (ap (regex_at later) (keeps k l).1 ∙ at_kept rs later (regex_of es k) more known) ∙ tests k l;
+  }
+    where
+      tests : (k : ℕ) → k < length es → nullable (regex_at rs (regex_of es k)) ≡ false
+      tests = all_tested rs es ns tested (length es) is u.empty_words
+          (subst (AreTested rs ns tested) (ap length is ∙ length-map es (λ e. e.0)) h)
+
+      keeps : (k : ℕ) → k < length es → (k < length es') × (regex_of es' k ≡ regex_of es k)
+      keeps = subst (λ q. (k : ℕ) → k < length es → (k < length q) × (regex_of q k ≡ regex_of es k)) (sym v.is)
+          (visited_keeps dead place v.pieces es)
+
+      long : (n : ℕ) → n ≡ length es → length es ≤ length es'
+      long zero e = omega (arith, e)
+      long (suc n) e = let k = keeps n (omega (arith, e)) in omega (arith, e, k.0)
+
+pub under_way_start : (rs : List Regex) (root : ℕ) (dead : List Bool) (es : List Entry) (old : List ℕ)
+    → IsSearched rs root dead es 0 → IsUnderWay rs root dead es 0 0 old old
+under_way_start rs root dead es old s = record {
+  searched = s;
+  taken = goes_on_same (IsTaken es 0) old old refl;
+  ahead = omega arith;
+  within = omega arith;
+  empty_words = λ k h. absurd (omega (arith, h));
+}
+
+pub under_way_end : (rs : List Regex) (root : ℕ) (dead : List Bool) (es : List Entry) (place tested : ℕ)
+    (old new : List ℕ) → IsUnderWay rs root dead es place tested old new → length es ≤ place
+    → IsSearched rs root dead es (length es)
+under_way_end rs root dead es place tested old new u l =
+    let e : place ≡ length es = omega (arith, l, u.ahead, u.within) in
+    subst (IsSearched rs root dead es) e u.searched
 
 module _ (empty : NullableHasEmptyWord) (along : DerivativeAlongHasRests) (old new : List Regex)
     (more : Extends old new) (root k : ℕ) (known : k < length old) (is : root ≡ k) (dead : List Bool) (es : List Entry)
@@ -43,10 +125,12 @@ module _ (empty : NullableHasEmptyWord) (along : DerivativeAlongHasRests) (old n
   same : regex_at new root ≡ regex_at old k
   same = ap (regex_at new) is ∙ at_kept old new k more known
 
-  pub found_answer : (place : ℕ) → IsFound new root dead es place → (w : List ℕ) → IsWord w
+  pub found_answer : (from upto : List ℕ) (place : ℕ) → IsFound new root dead es from upto place → (w : List ℕ) →
+      IsWord w
       → ((ws : List (List ℕ)) → AreWords es ws → w ≡ word_at ws place) → IsShortestLeast (language (regex_at old k)) w
-  found_answer place f w word h =
-      subst (λ r. IsShortestLeast (language r) w) same (found_is empty along new root dead es place barren f w word h)
+  found_answer from upto place f w word h =
+      subst (λ r. IsShortestLeast (language r) w) same
+      (found_is empty along new root dead es from upto place barren f w word h)
 
   module _ (after : List Bool) (s : IsSearched new root dead es (length es)) (marked : AreMarked dead es after) where
     pub dead_barren : AreBarren new after

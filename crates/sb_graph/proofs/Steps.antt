@@ -1,20 +1,24 @@
 -- The steps of the functions, over lists.
-use Rattle.std.proofs.Common.{◌≡◌, ℕ, zero, suc, ◌+◌, ◌<◌, ◌≤◌, Bool, true, false, cond, ◌||◌, nat_eq, is_some, Some, List, [], ◌∷◌, ◌++◌, length, get_or, set, take, drop, replicate, map, reverse, slice_get, refl, sym, ap, subst, ◌∙◌, arith}
-use Rattle.std.proofs.Math.Bool.{or-false}
-use Rattle.std.proofs.lemmas.Bool.{true≢false, false_from_ne_true}
+use Rattle.std.proofs.Common.{◌≡◌, ℕ, zero, suc, ◌+◌, ◌<◌, ◌≤◌, Bool, true, false, cond, ◌||◌, nat_eq, is_some, unwrap_or, Some, List, [], ◌∷◌, ◌++◌, length, get_or, set, take, drop, replicate, map, reverse, slice_get, refl, sym, ap, subst, ◌∙◌, arith}
+use Rattle.std.proofs.Math.Bool.{or-false, or-true}
+use Rattle.std.proofs.lemmas.Bool.{and_parts, true≢false, false_from_ne_true}
 use Rattle.std.proofs.lemmas.Bool.Decides.{nat_tests}
 use Rattle.std.proofs.lemmas.List.{at_drop_more, at_drop_all, get_or-set_same, get_or-set_other, length-set, append_assoc, reverse-append}
+use Rattle.std.proofs.lemmas.Grind.{get_or_default_zero}
 use Rattle.std.proofs.lemmas.Option.{get_or_from_slice_get}
 use Rattle.std.specs.List.{list_any}
 use Rattle.indexmap.specs.IndexMap.{insert_entry}
 use Rattle.std.specs.Map.{lookup}
+use Rattle.sb_word.specs.Words.{is_character, are_characters, IsWord}
 use Rattle.sb_lang.specs.Regex.{Regex}
-use Rattle.sb_lang.specs.Derivative.{nd_along}
+use Rattle.sb_lang.specs.Derivative.{nullable, nd_along}
+use Rattle.sb_lang.specs.Language.{language}
+use Rattle.sb_lang.specs.Least.{IsShortestLeast}
 use Rattle.sb_regex.specs.Numbered.{regex_at, Names}
 use Rattle.sb_regex.proofs.CallerLemmas.{names_from}
-use Rattle.sb_graph.specs.Findings.{is_marked}
-use Rattle.sb_graph.specs.Queue.{Entry, entry_at, regex_of, has_regex, with_entry, visited, with_marks, word_at, AreWords}
-use Rattle.sb_graph.specs.Search.{rank_from, rank_at, IsSearched, AreMarked}
+use Rattle.sb_graph.specs.Findings.{Findings, Answers, is_marked, answer_of, is_settled, IsAnswer, AreAnswers}
+use Rattle.sb_graph.specs.Queue.{Entry, entry_at, regex_of, has_regex, with_entry, visited, with_marks, word_at, AreWords, LeadsBy}
+use Rattle.sb_graph.specs.Search.{rank_from, rank_at, AreTested, IsSearched, AreMarked}
 
 -- The queue.
 
@@ -154,7 +158,40 @@ buried old made new es ns len more e l is known marks is_new n =
     ∙ ap (λ b. b || list_any (nat_eq n) ns) (ap (λ dead. is_marked dead n) e ∙ resized old len more n (marks n))
     ∙ ap (λ b. is_marked old n || b) (ap (list_any (nat_eq n)) is ∙ any_regex n es)
 
+-- Regexes with the empty word.
+
+pub item_nullable : (rs : List Regex) (ns : List ℕ) (k n : ℕ) (a b : Bool) → k < length ns → n ≡ get_or ns k n
+    → a ≡ nullable (regex_at rs n) → a ≡ b → nullable (regex_at rs (get_or ns k 0)) ≡ b
+item_nullable rs ns k n a b l is e h =
+    ap (λ n. nullable (regex_at rs n)) (sym (is ∙ get_or_default_zero ns k n l)) ∙ sym e ∙ h
+
+pub tested_more : (rs : List Regex) (ns : List ℕ) (from place : ℕ) → AreTested rs ns from place
+    → nullable (regex_at rs (get_or ns place 0)) ≡ false → AreTested rs ns from (place + 1)
+tested_more rs ns from place h e k f l = by (nat_eq k place) refl
+  where
+    by : (b : Bool) → nat_eq k place ≡ b → nullable (regex_at rs (get_or ns k 0)) ≡ false
+    by true t =
+        let is : place ≡ k = grind (arith, nat_tests, t) in
+        subst (λ k. nullable (regex_at rs (get_or ns k 0)) ≡ false) is e
+    by false t = h k f (grind (arith, nat_tests, t, l))
+
 -- The word of a place.
+
+-- the numbers of a word are all characters
+pub none_outside : (codes : List ℕ) (place code : ℕ) → IsWord codes → slice_get codes place ≡ Some code
+    → is_character code ≡ false → ⊥
+none_outside [] place code is h out = cc
+none_outside (c ∷ codes) zero code is h out =
+    let p = and_parts (is_character c) (are_characters codes) is in
+    let same : c ≡ code = cc in
+    true≢false (sym p.0 ∙ ap is_character same ∙ out)
+none_outside (c ∷ codes) (suc place) code is h out =
+    none_outside codes place code (and_parts (is_character c) (are_characters codes) is).1 h out
+
+pub word_read : (es : List Entry) (place : ℕ) (codes : List ℕ) → LeadsBy IsWord es place
+    → ((words : List (List ℕ)) → AreWords es words → word_at words place ≡ word_at words 0 ++ codes) → IsWord codes
+word_read es place codes l h =
+    subst IsWord (h l.words l.are ∙ ap (λ w. w ++ codes) l.are.first) l.is
 
 pub word_back : (es : List Entry) (words : List (List ℕ)) (place k : ℕ) (e : Entry) (codes codes' : List ℕ)
     → AreWords es words → 0 < k → k < length es → entry_at es k ≡ e →
@@ -181,6 +218,7 @@ start rs dead root l = record {
     words_are = record { long = refl; first = refl; next = λ k p h. absurd (omega (arith, p, h)) };
     some = omega arith;
     first = refl;
+    characters = λ k h. subst (λ k. IsWord (word_at ([] ∷ []) k)) (sym (one_place k h)) refl;
     along = λ k h. subst (λ k. Names rs (regex_of ((root, (0, 0)) ∷ []) k)
         (nd_along (regex_at rs root) (word_at ([] ∷ []) k))) (sym (one_place k h)) (names_from rs root _ l refl);
     ascending = λ j k h m. absurd (omega (arith, h, m));
@@ -192,3 +230,25 @@ start rs dead root l = record {
 pub started : (rs : List Regex) (dead : List Bool) (es : List Entry) (root : ℕ) → es ≡ (root, (0, 0)) ∷ []
     → root < length rs → IsSearched rs (regex_of es 0) dead es 0
 started rs dead es root e l = subst (λ es. IsSearched rs (regex_of es 0) dead es 0) (sym e) (start rs dead root l)
+
+-- One more word that is kept.
+
+pub answers_with : (rs : List Regex) (old new : Answers) (n : ℕ) (w : List ℕ)
+    → ((q : ℕ) → answer_of new q ≡ cond (nat_eq n q) (Some w) (answer_of old q)) → n < length rs
+    → IsShortestLeast (language (regex_at rs n)) w → AreAnswers rs old → AreAnswers rs new
+answers_with rs old new n w is known least answers q v h = by (nat_eq n q) refl
+  where
+    by : (b : Bool) → nat_eq n q ≡ b → IsAnswer rs q v
+    by true t =
+        let same : n ≡ q = grind (arith, nat_tests, t) in
+        let e : w ≡ v = ap (λ o. unwrap_or o w)
+        (sym (ap (λ b. cond b (Some w) (answer_of old q)) t) ∙ sym (is q) ∙ h) in
+        subst (λ q. IsAnswer rs q v) same
+        (record { known = known; least = subst (IsShortestLeast (language (regex_at rs n))) e least })
+    by false t = answers q v (sym (ap (λ b. cond b (Some w) (answer_of old q)) t) ∙ sym (is q) ∙ h)
+
+pub settled_with : (g : Findings) (n : ℕ) (w : List ℕ) → answer_of g.answers n ≡ Some w → is_settled g n ≡ true
+settled_with g n w h = ap (λ o. is_marked g.dead n || is_some o) h ∙ or-true (is_marked g.dead n)
+
+pub settled_by : (g : Findings) (n : ℕ) → is_marked g.dead n ≡ true → is_settled g n ≡ true
+settled_by g n h = ap (λ b. b || is_some (answer_of g.answers n)) h

@@ -2,7 +2,7 @@
 use Rattle.std.proofs.Common.{◌≡◌, ℕ, suc, ◌+◌, ◌*◌, ◌<◌, ◌≤◌, inl, inr, Bool, true, false, cond, ◌||◌, ◌==◌, nat_eq, nat_le, List, [], ◌∷◌, ◌++◌, length, refl, sym, ap, subst, ◌∙◌, arith}
 use Rattle.std.proofs.lemmas.Bool.{and_parts, false≢true, leb-true, le-leb}
 use Rattle.std.proofs.lemmas.Bool.Decides.{nat_tests}
-use Rattle.std.proofs.lemmas.List.{length_push}
+use Rattle.std.proofs.lemmas.List.{length_push, get_or_append_left}
 use Rattle.sb_word.specs.Words.{is_character}
 use Rattle.sb_lang.specs.Regex.{Regex}
 use Rattle.sb_lang.specs.Derivative.{nullable, nd}
@@ -125,12 +125,17 @@ module _ (rs : List Regex) (root : ℕ) (dead : List Bool) (i b : ℕ) (q : Rege
         values = next_values n d p ps a.0 t.values;
       }
 
+  piece_character : (es : List Entry) (ws : List (List ℕ)) (n d : ℕ) (p : ℕ × ℕ) (ps : List (ℕ × ℕ))
+      → Turn es ws n d (p ∷ ps) → is_character p.0 ≡ true
+  piece_character es ws n d p ps t =
+      is_character_of p.0 (omega (arith, rises_le (suc p.0) ps 0x30000 (rises_parts n p ps t.ascend).1))
+
   -- the piece is of the derivative by the character where it begins
   piece_names : (es : List Entry) (ws : List (List ℕ)) (n d : ℕ) (p : ℕ × ℕ) (ps : List (ℕ × ℕ))
       → Turn es ws n d (p ∷ ps) → Names rs p.1 (nd (regex_at rs (regex_of es i)) p.0)
   piece_names es ws n d p ps t =
       let a = rises_parts n p ps t.ascend in
-      let c = is_character_of p.0 (omega (arith, rises_le (suc p.0) ps 0x30000 a.1)) in
+      let c = piece_character es ws n d p ps t in
       let v = value_after d p ps p.0 (omega arith) ∙ above_stays p.1 (suc p.0) ps 0x30000 p.0 a.1 (omega arith) in
       names_from rs p.1 _ (all_head rs p ps t.targets) (ap (regex_at rs) (sym v) ∙ t.values p.0 c a.0
       ∙ ap (λ r. nd r p.0) (sym t.regex))
@@ -144,15 +149,16 @@ module _ (rs : List Regex) (root : ℕ) (dead : List Bool) (i b : ℕ) (q : Rege
       Turn (es ++ (p.1, (i, p.0)) ∷ []) (ws ++ (word_at ws i ++ p.0 ∷ []) ∷ []) (suc p.0) p.1 ps
   turn_pushed es ws n d p ps t =
       let a = rises_parts n p ps t.ascend in
+      let char = piece_character es ws n d p ps t in
       let names = piece_names es ws n d p ps t in
       let above = piece_above es ws n d p ps t in
-      let g = reached_grown rs root es ws i p.1 p.0 t.reached t.within names above in
+      let g = reached_grown rs root es ws i p.1 p.0 t.reached t.within char names above in
       record {
-        reached = reached_push rs root es ws i p.1 p.0 t.reached t.within names above;
+        reached = reached_push rs root es ws i p.1 p.0 t.reached t.within char names above;
         within = omega (arith, t.within, g.long);
         base = ap (λ w. rank w * 0x30000) (g.words i t.within) ∙ t.base;
         regex = ap (λ e. regex_at rs e.0) (g.entries i t.within) ∙ t.regex;
-        room = reached_each rs root es ws i p.1 p.0 t.reached t.within names above (b + suc p.0)
+        room = reached_each rs root es ws i p.1 p.0 t.reached t.within char names above (b + suc p.0)
             (λ j h. omega (arith, t.room j h, a.0)) (omega (arith, t.base));
         ascend = a.1;
         targets = all_tail rs p ps t.targets;
@@ -173,16 +179,17 @@ module _ (rs : List Regex) (root : ℕ) (dead : List Bool) (i b : ℕ) (q : Rege
       → Turn es ws n d (p ∷ ps) →
       Turned (es ++ (p.1, (i, p.0)) ∷ []) (ws ++ (word_at ws i ++ p.0 ∷ []) ∷ []) ps es' → Turned es ws (p ∷ ps) es'
   turned_pushed es ws n d p ps es' t u =
+      let char = piece_character es ws n d p ps t in
       let names = piece_names es ws n d p ps t in
       let above = piece_above es ws n d p ps t in
       let more = es ++ (p.1, (i, p.0)) ∷ [] in
       let more_words = ws ++ (word_at ws i ++ p.0 ∷ []) ∷ [] in
-      let r = reached_rank rs root es ws i p.1 p.0 t.reached t.within names above in
-      let g = reached_grown rs root es ws i p.1 p.0 t.reached t.within names above in
+      let r = reached_rank rs root es ws i p.1 p.0 t.reached t.within char names above in
+      let g = reached_grown rs root es ws i p.1 p.0 t.reached t.within char names above in
       let m : IsMetBy dead more more_words p.1 (b + p.0) = inr (record {
         place = length es;
         within = omega (arith, length_push es (p.1, (i, p.0)));
-        is = reached_entry rs root es ws i p.1 p.0 t.reached t.within names above;
+        is = reached_entry rs root es ws i p.1 p.0 t.reached t.within char names above;
         soon = omega (arith, r, t.base);
       }) in
       record {
@@ -256,6 +263,28 @@ module _ (rs : List Regex) (root : ℕ) (dead : List Bool) (i b : ℕ) (q : Rege
     targets = d.targets;
     values = λ c k l. d.values c k;
   }
+
+-- the old places stay
+
+abbrev Keeps : List Entry → List Entry → ℕ → Type 0
+Keeps es es' k = (k < length es') × (regex_of es' k ≡ regex_of es k)
+
+keeps_by : (es : List Entry) (e : Entry) (k : ℕ) → k < length es → (f : List Entry → List Entry)
+    → ((es : List Entry) → k < length es → Keeps es (f es) k) → (m b : Bool)
+    → Keeps es (f (cond m es (cond b es (es ++ e ∷ [])))) k
+keeps_by es e k h f rest true b = rest es h
+keeps_by es e k h f rest false true = rest es h
+keeps_by es e k h f rest false false =
+    let v = rest (es ++ e ∷ []) (omega (arith, h, length_push es e)) in
+    (v.0, v.1 ∙ ap (λ e. e.0) (get_or_append_left es (e ∷ []) (0, (0, 0)) k h))
+
+pub visited_keeps : (dead : List Bool) (place : ℕ) (ps : List (ℕ × ℕ)) (es : List Entry) (k : ℕ) → k < length es
+    → Keeps es (visited dead place es ps) k
+unfolding visited
+visited_keeps dead place [] es k h = (h, refl)
+visited_keeps dead place (p ∷ ps) es k h =
+    keeps_by es (p.1, (place, p.0)) k h (λ es. visited dead place es ps)
+    (λ es h. visited_keeps dead place ps es k h) (is_marked dead p.1) (has_regex es p.1)
 
 -- the turn is done
 module _ (rs : List Regex) (root : ℕ) (dead : List Bool) (es : List Entry) (i : ℕ) (s : IsSearched rs root dead es i)

@@ -44,3 +44,9 @@ pub record AreWords (es : List Entry) (words : List (List ℕ)) : Type 0 where
   pub first : word_at words 0 ≡ []
   pub next : (k : ℕ) → 0 < k → k < length es
       → word_at words k ≡ word_at words (entry_at es k).1.0 ++ (entry_at es k).1.1 ∷ []
+
+-- such a word leads to the place
+pub record LeadsBy (P : List ℕ → Type 0) (es : List Entry) (place : ℕ) : Type 0 where
+  pub words : List (List ℕ)
+  pub are : AreWords es words
+  pub is : P (word_at words place)

@@ -1,12 +1,13 @@
 -- Private: how far a search has come.
-use Rattle.std.specs.Prelude.{◌≡◌, ℕ, ◌+◌, ◌*◌, ◌<◌, ◌≤◌, ◌||◌, ◌⊎◌, Bool, true, false, List, [], ◌∷◌, length, Option, MatchOption}
-use Rattle.sb_word.specs.Words.{is_character}
+use Rattle.std.specs.Prelude.{◌≡◌, ℕ, ◌+◌, ◌*◌, ◌<◌, ◌≤◌, ◌||◌, ◌⊎◌, Bool, true, false, List, [], ◌∷◌, length, get_or, Option, MatchOption}
+use Rattle.sb_word.specs.Words.{is_character, IsWord}
 use Rattle.sb_lang.specs.Regex.{Regex}
 use Rattle.sb_lang.specs.Derivative.{nullable, nd, nd_along}
 use Rattle.sb_regex.specs.Numbered.{regex_at, Names}
 use Rattle.sb_deriv.specs.Faithful.{IsDerivative}
 use Rattle.sb_graph.specs.Findings.{is_marked}
 use Rattle.sb_graph.specs.Queue.{Entry, regex_of, has_regex, visited, word_at, GoesBack, AreWords}
+use Rattle.sb_graph.specs.Witness.{GoesOn}
 
 -- The rank of a word: shorter words come first, and of two as long the one that is less by code points.
 unfoldable pub rank_from : ℕ → List ℕ → ℕ
@@ -43,6 +44,7 @@ pub record AreReached (rs : List Regex) (root : ℕ) (es : List Entry) (words : 
   pub words_are : AreWords es words
   pub some : 0 < length es
   pub first : regex_of es 0 ≡ root
+  pub characters : (k : ℕ) → k < length es → IsWord (word_at words k)
   pub along : (k : ℕ) → k < length es → Names rs (regex_of es k) (nd_along (regex_at rs root) (word_at words k))
   pub ascending : (j k : ℕ) → j < k → k < length es → rank_at words j < rank_at words k
 
@@ -59,16 +61,48 @@ pub record IsSearched (rs : List Regex) (root : ℕ) (dead : List Bool) (es : Li
   pub below : (k : ℕ) → k < place → k < length es → IsDone rs dead es words k
   pub near : place < length es → (j : ℕ) → j < length es → rank_at words j < rank_at words place * 0x30000
 
--- the search has come to a regex with the empty word
-pub record IsFound (rs : List Regex) (root : ℕ) (dead : List Bool) (es : List Entry) (place : ℕ) : Type 0 where
+-- the regexes from one place up to another are without the empty word
+abbrev pub AreTested : List Regex → List ℕ → ℕ → ℕ → Type 0
+AreTested rs ns from upto = (k : ℕ) → from ≤ k → k < upto → nullable (regex_at rs (get_or ns k 0)) ≡ false
+
+-- the place is the first from one on of a regex with the empty word
+pub record IsFirstNullable (rs : List Regex) (ns : List ℕ) (from place : ℕ) : Type 0 where
+  pub after : from ≤ place
+  pub within : place < length ns
+  pub before : AreTested rs ns from place
+  pub empty_word : nullable (regex_at rs (get_or ns place 0)) ≡ true
+
+-- the number stands at a place below this one
+pub record IsTaken (es : List Entry) (place n : ℕ) : Type 0 where
+  pub at : ℕ
+  pub before : at < place
+  pub within : at < length es
+  pub is : regex_of es at ≡ n
+
+-- the places below one are done, and the regexes up to another one are without the empty word
+pub record IsUnderWay (rs : List Regex) (root : ℕ) (dead : List Bool) (es : List Entry) (place tested : ℕ)
+    (old new : List ℕ) : Type 0 where
   pub searched : IsSearched rs root dead es place
+  pub taken : GoesOn (IsTaken es place) old new
+  pub ahead : place ≤ tested
+  pub within : tested ≤ length es
+  pub empty_words : (k : ℕ) → k < tested → nullable (regex_at rs (regex_of es k)) ≡ false
+
+-- the search has met a regex with the empty word, and no place before it has one
+pub record IsFound (rs : List Regex) (root : ℕ) (dead : List Bool) (es : List Entry) (old new : List ℕ) (place : ℕ)
+    : Type 0 where
+  pub done : ℕ
+  pub searched : IsSearched rs root dead es done
+  pub taken : GoesOn (IsTaken es done) old new
+  pub after : done ≤ place
   pub within : place < length es
+  pub before : (k : ℕ) → k < place → nullable (regex_at rs (regex_of es k)) ≡ false
   pub empty_word : nullable (regex_at rs (regex_of es place)) ≡ true
 
--- the search has come to one, or to the end
-abbrev pub IsSearchEnd : List Regex → ℕ → List Bool → List Entry → Option ℕ → Type 0
-IsSearchEnd rs root dead es result =
-    MatchOption result (IsSearched rs root dead es (length es)) (λ place. IsFound rs root dead es place)
+-- the search has met one, or has come to the end
+abbrev pub IsSearchEnd : List Regex → ℕ → List Bool → List Entry → List ℕ → List ℕ → Option ℕ → Type 0
+IsSearchEnd rs root dead es old new result =
+    MatchOption result (IsSearched rs root dead es (length es)) (λ place. IsFound rs root dead es old new place)
 
 -- the new queue has the targets of the regex's derivative
 pub record IsVisited (rs : List Regex) (r : Regex) (dead : List Bool) (place : ℕ) (old new : List Entry) : Type 0 where

@@ -1,17 +1,19 @@
 //! The graph.
 
-ghost use Rattle.std.specs.Prelude.{◌≡◌, ℕ, ◌<◌, true, List, [], length, IfOk, option_copied, OnOk, OnErr};
+ghost use Rattle.std.specs.Prelude.{◌≡◌, ℕ, ◌<◌, true, false, List, [], length, IfOk, IfSome, IfNone, option_copied, OnOk, OnErr, IsSome};
 ghost use Rattle.sb_lang.specs.Regex.{Regex};
 ghost use Rattle.sb_lang.specs.Language.{language};
+ghost use Rattle.sb_lang.specs.Least.{IsShortestLeast};
 ghost use Rattle.sb_deriv.specs.Faithful.{entry_of, KeepsEntries};
 ghost use Rattle.sb_regex.specs.Numbered.{regex_at, Extends};
-ghost use Rattle.sb_graph.specs.Findings.{is_marked, KeepsMarks, IsGraph};
-ghost use Rattle.sb_graph.specs.Witness.{IsFinding, MarksDead};
+ghost use Rattle.sb_graph.specs.Findings.{is_marked, is_settled, KeepsMarks, IsGraph};
+ghost use Rattle.sb_graph.specs.Witness.{IsFinding, MarksDead, ComesBefore, GoesOn, IsReachedBy};
 ghost use Rattle.sb_graph.specs.Queue.{regex_of};
 ghost use Rattle.sb_graph.specs.Search.{IsSearched, IsSearchEnd, IsVisited, AreMarked};
 
 use crate::queue::Queue;
-use crate::search::{is_marked, mark, visit, word_of};
+use crate::search::{first_nullable, is_marked, mark, visit, word_from, word_of};
+use indexmap::IndexMap;
 use sb_deriv::{Derivative, Deriver};
 use sb_lang::derivative::{derivative_along_has_rests, nullable_has_empty_word};
 use sb_regex::{Arena, RegexId};
@@ -19,11 +21,13 @@ use sb_word::Word;
 use std::alloc::{AllocError, Global};
 use std::marker::Model;
 
-/// What is known of the regexes of an arena: derivatives, and marks of dead ones.
+/// What is known of the regexes of an arena: derivatives, marks of dead ones, and words of others.
 #[derive(Drop)]
 pub struct Graph {
     deriver: Deriver,
     dead: Vec<bool>,
+    answers: IndexMap<RegexId, Word>,
+    expanded: Vec<RegexId>,
 }
 
 impl Model for Graph {
@@ -31,7 +35,12 @@ impl Model for Graph {
 
     ghost Value = { Findings };
 
-    ghost view = { λ graph. record { memo = graph.deriver; dead = graph.dead.items } };
+    ghost view = { λ graph. record {
+      memo = graph.deriver;
+      dead = graph.dead.items;
+      answers = graph.answers.entries;
+      expanded = graph.expanded.items;
+    } };
 }
 
 /// What an exploration finds.
@@ -53,6 +62,8 @@ impl Graph {
         Graph {
             deriver: Deriver::new(alloc),
             dead: Vec::new(alloc),
+            answers: IndexMap::new(alloc),
+            expanded: Vec::new(alloc),
         }
     }
 
@@ -70,11 +81,22 @@ impl Graph {
         self.deriver.derivative(regex)
     }
 
+    /// The regexes that explorations expanded, in order: those whose derivatives were wanted and not known. One whose
+    /// derivative ran out of memory stands there again when it is tried again, and one whose derivative became known as
+    /// a part of another's does not. Constant time.
+    pub fn expanded(&self) -> &[RegexId]
+        ensures { result.now ≡ self.now.expanded }
+    {
+        self.expanded.as_slice()
+    }
+
     /// The least of the shortest words of a regex's language, or that there is none: then the regex is marked.
     ///
-    /// Each regex that is met is expanded at most once in a graph's life; a call takes time linear in the number of the
-    /// regexes that it meets and of the pieces of their derivatives. Where memory runs out, the derivatives that were
-    /// found and all marks stay, and a later call goes on from there.
+    /// Regexes are tested for the empty word when they are met, and expanded in the order of the words that lead to
+    /// them, each at most once in a graph's life; a call takes time linear in the number of the regexes that it meets
+    /// and of the pieces of their derivatives. The answer is kept: for a regex that was explored before, a call takes
+    /// the time to copy its word. Where memory runs out, the derivatives that were found and all marks stay, and a
+    /// later call goes on from there.
     pub fn explore(&mut self, arena: &mut Arena, root: RegexId) -> Result<Explored, AllocError>
         requires known { root < length arena.old }
         requires graph { IsGraph arena.old self.old }
@@ -84,17 +106,66 @@ impl Graph {
         ensures graph { IsGraph arena.new self.new }
         ensures marks_stay { KeepsMarks self.old.dead self.new.dead }
         ensures derivatives_stay { KeepsEntries self.old.memo self.new.memo }
+        ensures expands { GoesOn (IsReachedBy arena.new (regex_at arena.old root) (λ v. ComesBefore v result))
+            self.old.expanded self.new.expanded }
+        ensures idle { self.new.expanded ≡ self.old.expanded → self.new.memo ≡ self.old.memo }
+        ensures settles { OnOk result (is_settled self.new root ≡ true) }
+        ensures settled { is_settled self.old root ≡ true → self.new ≡ self.old }
+    {
+        match self.recall(root)? {
+            Some(explored) => Ok(explored),
+            None => self.walk(arena, root),
+        }
+    }
+
+    /// What an earlier exploration found.
+    fn recall(&self, root: RegexId) -> Result<Option<Explored>, AllocError>
+        ensures found { IfOk result
+            (λ found. IfSome found
+            (λ explored. (regexes : List Regex) → IsGraph regexes self.now
+            → IsFinding (language (regex_at regexes root)) explored)) }
+        ensures dead { IfOk result (λ found. IfSome found (MarksDead self.now.dead root)) }
+        ensures settled { IfOk result (λ found. IfSome found (λ explored. is_settled self.now root ≡ true)) }
+        ensures open { IfOk result (λ found. IfNone found (is_settled self.now root ≡ false)) }
     {
         nullable_has_empty_word();
         derivative_along_has_rests();
         if self.is_dead(root) {
-            return Ok(Explored::Dead);
+            return Ok(Some(Explored::Dead));
         }
+        let Some(word) = self.answers.get(&root) else {
+            return Ok(None);
+        };
+        let word = word_from(*self.dead.allocator(), word.codes())?;
+        Ok(Some(Explored::Alive(word)))
+    }
+
+    /// Explores a regex that no earlier exploration settled, and keeps what it finds.
+    fn walk(&mut self, arena: &mut Arena, root: RegexId) -> Result<Explored, AllocError>
+        requires known { root < length arena.old }
+        requires graph { IsGraph arena.old self.old }
+        ensures found { IfOk result (λ explored. IsFinding (language (regex_at arena.old root)) explored) }
+        ensures dead { IfOk result (λ explored. MarksDead self.new.dead root explored) }
+        ensures extends { Extends arena.old arena.new }
+        ensures graph { IsGraph arena.new self.new }
+        ensures marks_stay { KeepsMarks self.old.dead self.new.dead }
+        ensures derivatives_stay { KeepsEntries self.old.memo self.new.memo }
+        ensures expands { GoesOn (IsReachedBy arena.new (regex_at arena.old root) (λ v. ComesBefore v result))
+            self.old.expanded self.new.expanded }
+        ensures idle { self.new.expanded ≡ self.old.expanded → self.new.memo ≡ self.old.memo }
+        ensures settles { OnOk result (is_settled self.new root ≡ true) }
+    {
+        nullable_has_empty_word();
+        derivative_along_has_rests();
         let alloc = *self.dead.allocator();
         let mut queue = Queue::new(alloc);
         queue.put(root, 0, 0)?;
         match self.search(arena, &mut queue)? {
-            Some(place) => Ok(Explored::Alive(word_of(alloc, &queue, place)?)),
+            Some(place) => {
+                let word = word_of(alloc, &queue, place)?;
+                self.keep(alloc, root, &word)?;
+                Ok(Explored::Alive(word))
+            }
             None => {
                 self.bury(arena.len(), &queue)?;
                 Ok(Explored::Dead)
@@ -102,22 +173,29 @@ impl Graph {
         }
     }
 
-    /// Goes through the queue up to a regex with the empty word.
+    /// Goes through the queue up to a turn that meets a regex with the empty word.
     fn search(&mut self, arena: &mut Arena, queue: &mut Queue) -> Result<Option<usize>, AllocError>
         requires graph { IsGraph arena.old self.old }
         requires start { IsSearched arena.old (regex_of queue.old 0) self.old.dead queue.old 0 }
-        ensures end { IfOk result (λ end. IsSearchEnd arena.new (regex_of queue.old 0) self.new.dead queue.new end) }
+        ensures end { IfOk result
+            (λ end. IsSearchEnd arena.new (regex_of queue.old 0) self.new.dead queue.new self.old.expanded
+            self.new.expanded end) }
+        ensures expands { GoesOn
+            (IsReachedBy arena.new (regex_at arena.old (regex_of queue.old 0)) (λ v. Unit {0}))
+            self.old.expanded self.new.expanded }
+        ensures idle { self.new.expanded ≡ self.old.expanded → self.new.memo ≡ self.old.memo }
         ensures extends { Extends arena.old arena.new }
         ensures graph { IsGraph arena.new self.new }
         ensures marks { self.new.dead ≡ self.old.dead }
         ensures derivatives_stay { KeepsEntries self.old.memo self.new.memo }
     {
         let mut place = 0;
+        let mut tested = 0;
         while place < queue.len() {
-            let (regex, _) = queue.at(place);
-            if arena.nullable(regex) {
-                return Ok(Some(place));
+            if let Some(found) = first_nullable(arena, queue.regexes(), tested) {
+                return Ok(Some(found));
             }
+            tested = queue.len();
             self.expand(arena, queue, place)?;
             place += 1;
         }
@@ -137,15 +215,50 @@ impl Graph {
         ensures visited { OnOk result
             (IsVisited arena.new (regex_at arena.old (regex_of queue.old place)) self.old.dead place queue.old
             queue.new) }
+        ensures expands { GoesOn (λ n. n ≡ regex_of queue.old place) self.old.expanded self.new.expanded }
+        ensures idle { self.new.expanded ≡ self.old.expanded → self.new.memo ≡ self.old.memo }
         ensures extends { Extends arena.old arena.new }
         ensures graph { IsGraph arena.new self.new }
         ensures marks { self.new.dead ≡ self.old.dead }
         ensures derivatives_stay { KeepsEntries self.old.memo self.new.memo }
     {
         let (regex, _) = queue.at(place);
-        self.deriver.derive(arena, regex)?;
+        self.derive(arena, regex)?;
         let derivative = self.deriver.derivative(regex).unwrap();
         visit(queue, &self.dead, derivative.pieces(), place)
+    }
+
+    /// Makes the derivative of a regex known. Where it was not, the regex counts as expanded.
+    fn derive(&mut self, arena: &mut Arena, regex: RegexId) -> Result<(), AllocError>
+        requires graph { IsGraph arena.old self.old }
+        requires known { regex < length arena.old }
+        ensures done { OnOk result (IsSome (entry_of self.new.memo regex)) }
+        ensures expands { GoesOn (λ n. n ≡ regex) self.old.expanded self.new.expanded }
+        ensures idle { self.new.expanded ≡ self.old.expanded → self.new.memo ≡ self.old.memo }
+        ensures extends { Extends arena.old arena.new }
+        ensures graph { IsGraph arena.new self.new }
+        ensures marks { self.new.dead ≡ self.old.dead }
+        ensures derivatives_stay { KeepsEntries self.old.memo self.new.memo }
+    {
+        if self.deriver.derivative(regex).is_some() {
+            return Ok(());
+        }
+        self.expanded.push(regex)?;
+        self.deriver.derive(arena, regex)
+    }
+
+    /// Keeps the word of a regex.
+    fn keep(&mut self, alloc: Global, root: RegexId, word: &Word) -> Result<(), AllocError>
+        ensures kept { OnOk result (is_settled self.new root ≡ true) }
+        ensures graph { (regexes : List Regex) → root < length regexes
+            → IsShortestLeast (language (regex_at regexes root)) word.now → IsGraph regexes self.old
+            → IsGraph regexes self.new }
+        ensures rest { (self.new.memo ≡ self.old.memo) × (self.new.dead ≡ self.old.dead)
+            × (self.new.expanded ≡ self.old.expanded) }
+    {
+        let copy = word_from(alloc, word.codes())?;
+        self.answers.insert(root, copy)?;
+        Ok(())
     }
 
     /// Marks the regexes of the queue, whose numbers are below the length.
@@ -155,6 +268,8 @@ impl Graph {
         ensures marks { OnOk result (AreMarked self.old.dead queue.now self.new.dead) }
         ensures unchanged { OnErr result (self.new.dead ≡ self.old.dead) }
         ensures memo { self.new.memo ≡ self.old.memo }
+        ensures answers { self.new.answers ≡ self.old.answers }
+        ensures expanded { self.new.expanded ≡ self.old.expanded }
     {
         self.dead.resize(len, false)?;
         mark(&mut self.dead, queue.regexes());

@@ -1,13 +1,14 @@
 //! The steps of a search, over lists.
 
-ghost use Rattle.std.specs.Prelude.{◌≡◌, ℕ, ◌<◌, List, length, get_or, IfOk, OnOk};
+ghost use Rattle.std.specs.Prelude.{◌≡◌, ℕ, ◌<◌, List, length, get_or, IfOk, OnOk, MatchOption};
 ghost use Rattle.sb_word.specs.Words.{IsWord};
 ghost use Rattle.sb_graph.specs.Findings.{is_marked};
-ghost use Rattle.sb_graph.specs.Queue.{visited, with_marks, word_at, GoesBack, AreWords};
+ghost use Rattle.sb_graph.specs.Queue.{visited, with_marks, word_at, GoesBack, AreWords, LeadsBy};
+ghost use Rattle.sb_graph.specs.Search.{AreTested, IsFirstNullable};
 
 use crate::queue::Queue;
-use sb_regex::RegexId;
-use sb_word::Word;
+use sb_regex::{Arena, RegexId};
+use sb_word::{CodesError, Word};
 use std::alloc::{AllocError, Global};
 
 /// Whether the regex of a number has a mark.
@@ -38,6 +39,7 @@ pub(crate) fn visit(
 pub(crate) fn word_of(alloc: Global, queue: &Queue, place: usize) -> Result<Word, AllocError>
     requires within { place < length queue.now }
     requires back { GoesBack queue.now }
+    requires word { LeadsBy IsWord queue.now place }
     ensures word { IfOk result (λ word. IsWord word) }
     ensures along { IfOk result (λ word. (words : List (List ℕ)) → AreWords queue.now words
         → word ≡ word_at words place) }
@@ -50,7 +52,35 @@ pub(crate) fn word_of(alloc: Global, queue: &Queue, place: usize) -> Result<Word
         at = before;
     }
     codes.reverse();
-    Word::from_codes(alloc, &codes).map_err(|_| AllocError)
+    word_from(alloc, &codes)
+}
+
+/// The word of these characters.
+pub(crate) fn word_from(alloc: Global, codes: &[u32]) -> Result<Word, AllocError>
+    requires { IsWord codes.now }
+    ensures { IfOk result (λ word. word ≡ codes.now) }
+{
+    match Word::from_codes(alloc, codes) {
+        Ok(word) => Ok(word),
+        Err(CodesError::NotACharacter(_)) => unreachable!(),
+        Err(CodesError::NoMemory) => Err(AllocError),
+    }
+}
+
+/// The first place from one on of a regex with the empty word.
+pub(crate) fn first_nullable(arena: &Arena, regexes: &[RegexId], from: usize) -> Option<usize>
+    requires { (k : ℕ) → k < length regexes.now → get_or regexes.now k 0 < length arena.now }
+    ensures { MatchOption result (AreTested arena.now regexes.now from (length regexes.now))
+        (IsFirstNullable arena.now regexes.now from) }
+{
+    let mut place = from;
+    while place < regexes.len() {
+        if arena.nullable(regexes[place]) {
+            return Some(place);
+        }
+        place += 1;
+    }
+    None
 }
 
 /// Marks the regexes.

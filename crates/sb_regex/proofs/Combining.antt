@@ -1,21 +1,22 @@
 -- Unions and intersections of members.
-use Rattle.std.proofs.Common.{◌≡◌, ℕ, zero, suc, ◌<◌, ◌≤◌, Bool, true, false, not, ◌&&◌, ◌||◌, cond, if◌then◌else◌, nat_eq, List, [], ◌∷◌, ◌++◌, length, get_or, filter, refl, sym, ap, ap₂, ◌∙◌, arith}
+use Rattle.std.proofs.Common.{◌≡◌, ℕ, zero, suc, ◌<◌, ◌≤◌, Bool, true, false, not, ◌&&◌, ◌||◌, cond, if◌then◌else◌, nat_eq, List, [], ◌∷◌, ◌++◌, length, get_or, filter, inl, inr, refl, sym, ap, ap₂, ◌∙◌, arith}
 use Rattle.std.specs.List.{list_any, list_all, flat_map, All}
 use Rattle.std.proofs.Math.Bool.{and-true}
-use Rattle.std.proofs.lemmas.Bool.{and_parts}
+use Rattle.std.proofs.lemmas.Bool.{and_parts, false≢true, or_cases, or_left, or_right}
+use Rattle.std.proofs.lemmas.List.Folds.{list_any-append}
 use Rattle.std.proofs.lemmas.List.Elements.{All-filter}
 use Rattle.sb_class.specs.Ranges.{Range, in_ranges, rises_from, IsCanonical}
 use Rattle.sb_lang.specs.Regex.{Regex, none, eps, set, cat, alt, and, neg, star, rep, path, regexes}
 use Rattle.sb_lang.specs.Order.{regex_eq}
 use Rattle.sb_lang.specs.OrderLaws.{OrderTellsApart}
 use Rattle.sb_lang.specs.SetLaws.{UnionHasBoth, UnionIsCanonical, IntersectionHasCommon, IntersectionIsCanonical}
-use Rattle.sb_lang.specs.Constructors.{anything, mkset, mkalt, mkand, is_none, is_anything, alternatives, conjuncts, ranges_of, union_of, inter_of, join_sets, meet_of, meet_sets, alt_of, and_of, sorted}
+use Rattle.sb_lang.specs.Constructors.{anything, mkset, mkalt, mkand, is_none, is_anything, alternatives, conjuncts, ranges_of, is_set, union_of, inter_of, join_sets, meet_of, meet_sets, alt_of, and_of, sorted}
 use Rattle.sb_lang.specs.NormalForm.{is_normal}
 use Rattle.sb_regex.specs.Numbered.{regex_at, regexes_at, Names, AllNumbers, AreDistinct, Extends}
 use Rattle.sb_regex.specs.Steps.{without_sets, in_some, in_all, union_of_members, intersection_of_members}
 use Rattle.sb_regex.proofs.CallerLemmas.{ats_kept, names_at, names_below, names_from, number_in}
 use Rattle.sb_regex.proofs.Building.{normal_at}
-use Rattle.sb_regex.proofs.Ordered.{tests_agree}
+use Rattle.sb_regex.proofs.Ordered.{tests_agree, regex_same, same_regex}
 use Rattle.sb_lang.proofs.CallerLemmas.{all_canonical}
 
 abbrev SameRanges : Type 0
@@ -264,3 +265,45 @@ pub meet_all : (old new : List Regex) (ms first all : List ℕ) → AllNumbers o
 unfolding meet_sets
 meet_all old new ms first all known ext one made =
     made ∙ ap₂ (λ xs ys. xs ++ without_sets ys) one (ats_kept old new ms ext known)
+
+-- None among the members of an intersection decides it.
+
+none_in_flat : OrderTellsApart → (rs : List Regex) → list_any is_none rs ≡ true
+    → list_any is_none (flat_map conjuncts rs) ≡ true
+unfolding conjuncts
+none_in_flat tells [] h = absurd (false≢true h)
+none_in_flat tells (r ∷ rs) h = elim (or_cases (is_none r) (list_any is_none rs) h) [
+  | inl here ↦
+      rw (regex_same tells r none here)
+      (or_left (is_none none) (list_any is_none (flat_map conjuncts rs)) (same_regex tells none none refl))
+  | inr later ↦
+      list_any-append is_none (conjuncts r) (flat_map conjuncts rs)
+      ∙ or_right (list_any is_none (conjuncts r)) (list_any is_none (flat_map conjuncts rs))
+      (none_in_flat tells rs later)
+]
+
+none_in_others : OrderTellsApart → (rs : List Regex) → list_any is_none rs ≡ true
+    → list_any is_none (without_sets rs) ≡ true
+unfolding is_set
+none_in_others tells [] h = absurd (false≢true h)
+none_in_others tells (r ∷ rs) h = elim (or_cases (is_none r) (list_any is_none rs) h) [
+  | inl here ↦
+      rw (regex_same tells r none here)
+      (or_left (is_none none) (list_any is_none (without_sets rs)) (same_regex tells none none refl))
+  | inr later ↦ step (not (is_set r)) (none_in_others tells rs later)
+]
+  where
+    step : (b : Bool) → list_any is_none (without_sets rs) ≡ true
+        → list_any is_none (cond b (r ∷ without_sets rs) (without_sets rs)) ≡ true
+    step true e = or_right (is_none r) (list_any is_none (without_sets rs)) e
+    step false e = e
+
+pub none_decides : OrderTellsApart → (rs : List Regex) → list_any is_none rs ≡ true → none ≡ mkand rs
+unfolding meet_sets
+none_decides tells rs h =
+    let members = flat_map conjuncts rs in
+    intersection_is_none (meet_sets members)
+    (list_any-append is_none (meet_of (flat_map ranges_of members)) (without_sets members)
+    ∙ or_right (list_any is_none (meet_of (flat_map ranges_of members))) (list_any is_none (without_sets members))
+    (none_in_others tells members (none_in_flat tells rs h)))
+    ∙ mkand_is rs members (meet_sets members) refl refl

@@ -8,5 +8,8 @@ pub mod Building
 pub mod Spines
 pub mod Words
 pub mod Gathering
+pub mod Remembering
 pub mod Ordered
 pub mod Combining
+pub mod Merging
+pub mod Once

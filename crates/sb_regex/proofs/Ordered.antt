@@ -1,34 +1,22 @@
--- Numbers sorted by their regexes, each once.
-use Rattle.std.proofs.Common.{◌≡◌, ℕ, suc, ◌+◌, ◌<◌, Bool, true, false, ◌||◌, cond, nat_eq, List, [], ◌∷◌, length, refl, sym, ap, ap₂, ◌∙◌, arith}
+-- Numbers in ascending order, each once, have the same regexes.
+use Rattle.std.proofs.Common.{◌≡◌, ℕ, suc, ◌<◌, Bool, true, false, ◌||◌, cond, nat_eq, List, [], ◌∷◌, length, drop, refl, sym, ap, ◌∙◌, arith}
 use Rattle.std.specs.declared.cmp.Ordering.{Ordering}
 use Rattle.std.specs.declared.cmp.Ordering.TheVariants.{Less, Equal, Greater}
-use Rattle.std.specs.Ordering.{is_lt, is_eq}
-use Rattle.std.specs.Cmp.{IsTotalOrder}
-use Rattle.std.specs.List.{dedup, dedup_from}
-use Rattle.std.specs.List.Sorted.{IsSortedBy, IsSorted, IsPermutation}
+use Rattle.std.specs.Ordering.{is_eq}
+use Rattle.std.specs.List.{dedup, dedup_from, refill}
+use Rattle.std.specs.List.Sorted.{IsPermutation}
 use Rattle.std.proofs.Math.Bool.{or_self_left}
 use Rattle.std.proofs.lemmas.Bool.{false≢true}
-use Rattle.std.proofs.lemmas.List.{length-map, get_or-map}
+use Rattle.std.proofs.lemmas.List.{take-append-le, take_all}
 use Rattle.std.proofs.lemmas.List.Filters.{All-dedup}
-use Rattle.std.proofs.lemmas.List.Kept.{IsStrictlySortedBy-dedup}
 use Rattle.std.proofs.lemmas.List.Sorted.{IsPermutation-map, list_any-IsPermutation, All-permutation}
 use Rattle.sb_lang.specs.Regex.{Regex}
 use Rattle.sb_lang.specs.Order.{regex_cmp, regex_eq}
 use Rattle.sb_lang.specs.OrderLaws.{OrderTellsApart}
-use Rattle.sb_lang.specs.Constructors.{sorted}
-use Rattle.sb_lang.specs.SortedLaws.{is_member, SortedIsTheOnly}
+use Rattle.sb_lang.specs.SortedLaws.{is_member}
+use Rattle.sb_lang.specs.FoldLaws.{SameMembers}
 use Rattle.sb_regex.specs.Numbered.{regex_at, regexes_at, AllNumbers, AreDistinct}
 use Rattle.sb_regex.proofs.NodeEq.{nat_same, same_nat}
-
-abbrev pub before : List Regex → ℕ → ℕ → Bool
-before rs x y = is_lt (regex_cmp (regex_at rs x) (regex_at rs y))
-
-sorted_regexes : (rs : List Regex) (is : List ℕ) → IsSortedBy (before rs) is → IsSorted regex_cmp (regexes_at rs is)
-sorted_regexes rs is h k d l m =
-    let n : k + 1 < length is = omega (arith, m, length-map is (regex_at rs)) in
-    ap₂ (λ x y. is_lt (regex_cmp x y)) (get_or-map (regex_at rs) is (k + 1) 0 d n)
-    (get_or-map (regex_at rs) is k 0 d (omega (arith, n)))
-    ∙ h k 0 l n
 
 -- The tests of numbers and of regexes agree.
 
@@ -99,21 +87,21 @@ pub member_dedup : OrderTellsApart → (r : Regex) (xs : List Regex) → is_memb
 member_dedup tells r [] = refl
 member_dedup tells r (x ∷ xs) = member_from tells r x xs
 
-pub in_order_is_sorted : OrderTellsApart → IsTotalOrder regex_cmp → SortedIsTheOnly → (rs : List Regex) → AreDistinct rs
-    → (is js ks : List ℕ) → AllNumbers rs is → IsPermutation is js → IsSortedBy (before rs) js → ks ≡ dedup nat_eq js
-    → regexes_at rs ks ≡ sorted (regexes_at rs is)
-in_order_is_sorted tells total only rs distinct is js ks known moved up e =
-    let there : AllNumbers rs js = All-permutation (λ i. i < length rs) is js moved known in
-    let alike : regexes_at rs ks ≡ dedup regex_eq (regexes_at rs js) =
-    ap (regexes_at rs) e ∙ dedup_regexes tells rs distinct js there in
-    alike
-    ∙ only (regexes_at rs is) (dedup regex_eq (regexes_at rs js))
-    (IsStrictlySortedBy-dedup total (λ x y. refl) (regexes_at rs js) (sorted_regexes rs js up))
-    (λ r. member_dedup tells r (regexes_at rs js)
+pub once_members : OrderTellsApart → (rs : List Regex) → AreDistinct rs → (is js ks : List ℕ) → AllNumbers rs is
+    → IsPermutation is js → ks ≡ dedup nat_eq js → SameMembers (regexes_at rs ks) (regexes_at rs is)
+once_members tells rs distinct is js ks known moved e r =
+    ap (λ xs. is_member r xs)
+    (ap (regexes_at rs) e ∙ dedup_regexes tells rs distinct js (All-permutation (λ i. i < length rs) is js moved known))
+    ∙ member_dedup tells r (regexes_at rs js)
     ∙ sym (list_any-IsPermutation (regex_eq r) (regexes_at rs is) (regexes_at rs js)
-    (IsPermutation-map (regex_at rs) is js moved)))
+    (IsPermutation-map (regex_at rs) is js moved))
 
-pub in_order_numbers : (rs : List Regex) (is js ks : List ℕ) → AllNumbers rs is → IsPermutation is js
+pub once_numbers : (rs : List Regex) (is js ks : List ℕ) → AllNumbers rs is → IsPermutation is js
     → ks ≡ dedup nat_eq js → AllNumbers rs ks
-in_order_numbers rs is js ks known moved e =
+once_numbers rs is js ks known moved e =
     rw e (All-dedup nat_eq (λ i. i < length rs) js (All-permutation (λ i. i < length rs) is js moved known))
+
+-- a whole slice that is written back
+pub refill_whole : (n : ℕ) (xs ws : List ℕ) → length ws ≡ n → refill n xs ws ≡ ws
+refill_whole n xs ws e =
+    take-append-le n ws (drop (length ws) xs) (omega (arith, e)) ∙ take_all n ws (omega (arith, e))

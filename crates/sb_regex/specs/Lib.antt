@@ -4,3 +4,4 @@ pub mod Interning
 pub mod Table
 pub mod Spine
 pub mod Steps
+pub mod Remembered

@@ -1,5 +1,5 @@
 -- Private: one step of a comparison, and the members that are left of a list.
-use Rattle.std.specs.Prelude.{◌≡◌, ◌<◌, ℕ, Bool, not, if◌then◌else◌, cond, nat_eq, List, [], ◌∷◌, filter}
+use Rattle.std.specs.Prelude.{◌≡◌, ◌<◌, ℕ, ◌+◌, Bool, not, if◌then◌else◌, cond, nat_eq, List, [], ◌∷◌, filter, length, get_or, All}
 use Rattle.std.specs.List.{list_any, list_all}
 use Rattle.std.specs.declared.cmp.Ordering.TheVariants.{Less, Equal, Greater}
 use Rattle.sb_class.specs.Ranges.{Range, in_ranges}
@@ -42,3 +42,21 @@ in_some sets c = list_any (λ s. in_ranges s c) sets
 
 abbrev pub in_all : List (List Range) → ℕ → Bool
 in_all sets c = list_all (λ s. in_ranges s c) sets
+
+-- the order is this, or that of parts
+abbrev pub IsReduced : List Regex → ℕ → ℕ → Difference → Type 0
+IsReduced rs a b (Decided o) = regex_cmp (regex_at rs a) (regex_at rs b) ≡ o
+IsReduced rs a b (Parts x y) =
+    (x < length rs) × (y < length rs) × (regex_cmp (regex_at rs a) (regex_at rs b) ≡ regex_cmp (regex_at rs x)
+        (regex_at rs y))
+
+-- pairs of numbers whose regexes are in the order of these two
+abbrev pub AreAlike : List Regex → ℕ → ℕ → List (ℕ × ℕ) → Type 0
+AreAlike rs a b pairs =
+    All (λ p. (p.0 < length rs) × (p.1 < length rs)
+    × (regex_cmp (regex_at rs a) (regex_at rs b) ≡ regex_cmp (regex_at rs p.0) (regex_at rs p.1))) pairs
+
+-- each number's regex comes before the next one's
+abbrev pub IsRising : List Regex → List ℕ → Type 0
+IsRising rs ids = (k : ℕ) → k + 1 < length ids → regex_cmp (regex_at rs (get_or ids k 0)) (regex_at rs (get_or ids
+    (k + 1) 0)) ≡ Less

@@ -1,23 +1,39 @@
 //! The table of regexes.
 
-ghost use Rattle.std.specs.Prelude.{◌≡◌, ℕ, ◌<◌, true, length, map, slice_get, Some, [], IfOk};
+ghost use Rattle.std.specs.Prelude.{◌≡◌, ℕ, ◌<◌, true, length, map, slice_get, Some, [], IfOk, IfSome};
 ghost use Rattle.std.specs.List.{list_all};
-ghost use Rattle.sb_lang.specs.Regex.{regexes};
+ghost use Rattle.sb_lang.specs.Regex.{none, eps, regexes};
+ghost use Rattle.sb_lang.specs.Constructors.{anything};
+ghost use Rattle.sb_lang.specs.Order.{regex_cmp};
 ghost use Rattle.sb_lang.specs.Derivative.{nullable, some_nullable, all_nullable};
 ghost use Rattle.sb_lang.specs.NormalForm.{is_normal, IsNormal};
 ghost use Rattle.sb_regex.specs.Numbered.{regex_at, regexes_at, AllNumbers, AreDistinct, Extends, Names};
 ghost use Rattle.sb_regex.specs.Nodes.{node_regex, PartsBelow};
+ghost use Rattle.sb_regex.specs.Remembered.{normal_of};
 
 use crate::node::{Node, RegexId};
-use indexmap::IndexSet;
+use indexmap::{IndexMap, IndexSet};
 use std::alloc::{AllocError, Global};
+use std::cmp::Ordering;
 use std::marker::Model;
 
-/// Normal regexes by their numbers, each once.
+/// The numbers of the regexes that are asked for most, once they have one.
+#[derive(Clone, Copy)]
+struct Basics {
+    none: Option<RegexId>,
+    eps: Option<RegexId>,
+    anything: Option<RegexId>,
+}
+
+/// Normal regexes by their numbers, each once, with what unions, intersections and comparisons were answered.
 #[derive(Drop)]
 pub struct Arena {
     nodes: IndexSet<Node>,
     nullable: Vec<bool>,
+    /// The numbers of what constructors made, by their calls: a node of the operation and of the members by number.
+    made: IndexMap<Node, RegexId>,
+    orders: IndexMap<(RegexId, RegexId), Ordering>,
+    basics: Basics,
 }
 
 impl Model for Arena {
@@ -32,10 +48,13 @@ impl Model for Arena {
 
     ghost use Rattle.sb_regex.specs.Table.{regexes_of};
     ghost use Rattle.sb_regex.specs.Interning.{IsTable};
+    ghost use Rattle.sb_regex.specs.Remembered.{IsRemembered, AreBasic};
 
     ghost view = { λ arena. regexes_of arena.nodes.keys };
 
-    ghost invariant = { λ arena. IsTable (regexes_of arena.nodes.keys) arena.nodes.keys arena.nullable.items };
+    ghost invariant = { λ arena. IsTable (regexes_of arena.nodes.keys) arena.nodes.keys arena.nullable.items
+        × IsRemembered (regexes_of arena.nodes.keys) arena.made arena.orders
+        × AreBasic (regexes_of arena.nodes.keys) arena.basics.none arena.basics.eps arena.basics.anything };
 }
 
 impl Arena {
@@ -46,6 +65,13 @@ impl Arena {
         Arena {
             nodes: IndexSet::new(alloc),
             nullable: Vec::new(alloc),
+            made: IndexMap::new(alloc),
+            orders: IndexMap::new(alloc),
+            basics: Basics {
+                none: None,
+                eps: None,
+                anything: None,
+            },
         }
     }
 
@@ -100,6 +126,88 @@ impl Arena {
             self.nullable.push(nullable)?;
         }
         Ok(RegexId::new(number))
+    }
+
+    /// The regex with no word. Constant time.
+    #[tactic(auto, unfolding(sb_lang::specs::NormalForm::is_normal))]
+    pub fn none(&mut self) -> Result<RegexId, AllocError>
+        ensures ok { IfOk result (λ id. Names self.new id none) }
+        ensures extends { Extends self.old self.new }
+    {
+        if let Some(id) = self.basics.none {
+            return Ok(id);
+        }
+        let id = self.intern(Node::None)?;
+        self.basics.none = Some(id);
+        Ok(id)
+    }
+
+    /// The regex of the empty word alone. Constant time.
+    #[tactic(auto, unfolding(sb_lang::specs::NormalForm::is_normal))]
+    pub fn eps(&mut self) -> Result<RegexId, AllocError>
+        ensures ok { IfOk result (λ id. Names self.new id eps) }
+        ensures extends { Extends self.old self.new }
+    {
+        if let Some(id) = self.basics.eps {
+            return Ok(id);
+        }
+        let id = self.intern(Node::Eps)?;
+        self.basics.eps = Some(id);
+        Ok(id)
+    }
+
+    /// The regex of every word. Constant time.
+    pub(crate) fn anything(&mut self) -> Result<RegexId, AllocError>
+        ensures ok { IfOk result (λ id. Names self.new id anything) }
+        ensures extends { Extends self.old self.new }
+    {
+        if let Some(id) = self.basics.anything {
+            return Ok(id);
+        }
+        let none = self.none()?;
+        let id = self.intern(Node::Not(none))?;
+        self.basics.anything = Some(id);
+        Ok(id)
+    }
+
+    /// The number that the call was answered, if it was made before.
+    pub(crate) fn made(&self, call: &Node) -> Option<RegexId>
+        ensures { IfSome result (λ id. Names self.now id (normal_of (node_regex self.now call.now))) }
+    {
+        self.made.get(call).copied()
+    }
+
+    /// Remembers what a call was answered.
+    pub(crate) fn remember(&mut self, call: Node, id: RegexId) -> Result<(), AllocError>
+        requires parts { PartsBelow (length self.old) call }
+        requires answer { Names self.old id (normal_of (node_regex self.old call)) }
+        ensures { self.new ≡ self.old }
+    {
+        self.made.insert(call, id)?;
+        Ok(())
+    }
+
+    /// The order of two regexes, if it was kept.
+    pub(crate) fn known_order(&self, a: RegexId, b: RegexId) -> Option<Ordering>
+        ensures { IfSome result (λ order. order ≡ regex_cmp (regex_at self.now a) (regex_at self.now b)) }
+    {
+        self.orders.get(&(a, b)).copied()
+    }
+
+    /// Keeps the order of two regexes.
+    pub(crate) fn keep_order(
+        &mut self,
+        a: RegexId,
+        b: RegexId,
+        order: Ordering,
+    ) -> Result<(), AllocError>
+        requires left { a < length self.old }
+        requires right { b < length self.old }
+        requires order { order ≡ regex_cmp (regex_at self.old a) (regex_at self.old b) }
+        ensures { self.new ≡ self.old }
+    {
+        self.orders.insert((a, b), order)?;
+        Ok(())
     }
 
     /// Whether the node's regex has the empty word.

@@ -1,8 +1,8 @@
 //! The constructors of single regexes, concatenations and stars.
 
 ghost use Rattle.std.specs.Prelude.{◌≡◌, ◌<◌, true, false, length, IfOk};
-ghost use Rattle.sb_lang.specs.Regex.{none, eps, set};
-ghost use Rattle.sb_lang.specs.Constructors.{anything, any_character, mkset, mkcat, mkstar};
+ghost use Rattle.sb_lang.specs.Regex.{set};
+ghost use Rattle.sb_lang.specs.Constructors.{any_character, mkset, mkcat, mkstar};
 ghost use Rattle.sb_lang.specs.Order.{regex_eq};
 ghost use Rattle.sb_lang.specs.Normal.{word_regex};
 ghost use Rattle.sb_lang.specs.NormalForm.{IsNormal};
@@ -25,33 +25,6 @@ struct Spine {
 }
 
 impl Arena {
-    /// The regex with no word. Constant time.
-    #[tactic(auto, unfolding(sb_lang::specs::NormalForm::is_normal))]
-    pub fn none(&mut self) -> Result<RegexId, AllocError>
-        ensures ok { IfOk result (λ id. Names self.new id none) }
-        ensures extends { Extends self.old self.new }
-    {
-        self.intern(Node::None)
-    }
-
-    /// The regex of the empty word alone. Constant time.
-    #[tactic(auto, unfolding(sb_lang::specs::NormalForm::is_normal))]
-    pub fn eps(&mut self) -> Result<RegexId, AllocError>
-        ensures ok { IfOk result (λ id. Names self.new id eps) }
-        ensures extends { Extends self.old self.new }
-    {
-        self.intern(Node::Eps)
-    }
-
-    /// The regex of every word. Constant time.
-    pub(crate) fn anything(&mut self) -> Result<RegexId, AllocError>
-        ensures ok { IfOk result (λ id. Names self.new id anything) }
-        ensures extends { Extends self.old self.new }
-    {
-        let none = self.none()?;
-        self.intern(Node::Not(none))
-    }
-
     /// The words of one character of the set. Linear in the number of its ranges.
     pub fn set(&mut self, class: &Class) -> Result<RegexId, AllocError>
         ensures ok { IfOk result (λ id. Names self.new id (mkset class.now)) }

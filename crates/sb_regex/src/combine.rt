@@ -3,6 +3,7 @@
 ghost use Rattle.std.specs.Prelude.{◌≡◌, ◌<◌, length, IfOk};
 ghost use Rattle.std.specs.List.{flat_map};
 ghost use Rattle.sb_lang.specs.Constructors.{mkalt, mkand, alt_of, and_of, join_sets, meet_of, meet_sets, ranges_of};
+ghost use Rattle.sb_lang.specs.FoldLaws.{SameMembers};
 ghost use Rattle.sb_lang.specs.NormalForm.{IsNormal};
 ghost use Rattle.sb_regex.specs.Numbered.{regex_at, regexes_at, AllNumbers, Extends, Names};
 ghost use Rattle.sb_regex.specs.Steps.{union_of_members, intersection_of_members};
@@ -11,6 +12,7 @@ use crate::arena::Arena;
 use crate::members::{meet, others, unite};
 use crate::node::{Node, RegexId};
 use sb_class::same_members;
+use sb_lang::fold::{intersection_of_members, union_of_members};
 use sb_lang::normal_form::constructors_give_normal;
 use sb_lang::order::order_tells_apart;
 use sb_lang::sets::{
@@ -20,9 +22,76 @@ use smallvec::SmallVec;
 use std::alloc::AllocError;
 
 impl Arena {
-    /// The union. It takes n log n comparisons in the number n of members, and time n log n in the number of the
+    /// The union. Where it was made of the same members before, it takes the time to sort their numbers; else n log n
+    /// comparisons in the number n of members, or n where they are in order, and time n log n in the number of the
     /// ranges of sets among them.
     pub fn alt(&mut self, ids: &[RegexId]) -> Result<RegexId, AllocError>
+        requires { AllNumbers self.old ids.now }
+        ensures ok { IfOk result (λ id. Names self.new id (mkalt (regexes_at self.old ids.now))) }
+        ensures extends { Extends self.old self.new }
+    {
+        union_of_members();
+        self.normal_regexes_each_once();
+        let members = self.by_number(ids)?;
+        let call = Node::Alt(members);
+        if let Some(id) = self.made(&call) {
+            return Ok(id);
+        }
+        let id = self.union_of(ids)?;
+        self.remember(call, id)?;
+        Ok(id)
+    }
+
+    /// The intersection. It takes the time of a union, and where none is a member, linear time.
+    pub fn and(&mut self, ids: &[RegexId]) -> Result<RegexId, AllocError>
+        requires { AllNumbers self.old ids.now }
+        ensures ok { IfOk result (λ id. Names self.new id (mkand (regexes_at self.old ids.now))) }
+        ensures extends { Extends self.old self.new }
+    {
+        order_tells_apart();
+        let none = self.none()?;
+        self.normal_regexes_each_once();
+        if ids.contains(&none) {
+            return Ok(none);
+        }
+        self.meet_all(ids)
+    }
+
+    /// The intersection, as it was remembered, or else made anew.
+    fn meet_all(&mut self, ids: &[RegexId]) -> Result<RegexId, AllocError>
+        requires { AllNumbers self.old ids.now }
+        ensures ok { IfOk result (λ id. Names self.new id (mkand (regexes_at self.old ids.now))) }
+        ensures extends { Extends self.old self.new }
+    {
+        intersection_of_members();
+        self.normal_regexes_each_once();
+        let members = self.by_number(ids)?;
+        let call = Node::And(members);
+        if let Some(id) = self.made(&call) {
+            return Ok(id);
+        }
+        let id = self.intersection_of(ids)?;
+        self.remember(call, id)?;
+        Ok(id)
+    }
+
+    /// The numbers in ascending order, each once.
+    fn by_number(&self, ids: &[RegexId]) -> Result<SmallVec<RegexId, 4>, AllocError>
+        requires { AllNumbers self.now ids.now }
+        ensures members { IfOk result
+            (λ all. SameMembers (regexes_at self.now all.items) (regexes_at self.now ids.now)) }
+        ensures numbers { IfOk result (λ all. AllNumbers self.now all.items) }
+    {
+        order_tells_apart();
+        self.normal_regexes_each_once();
+        let mut all = SmallVec::from_slice(self.allocator(), ids)?;
+        all.as_mut_slice().sort(self.allocator())?;
+        all.dedup();
+        Ok(all)
+    }
+
+    /// The union of members, made anew.
+    fn union_of(&mut self, ids: &[RegexId]) -> Result<RegexId, AllocError>
         requires { AllNumbers self.old ids.now }
         ensures ok { IfOk result (λ id. Names self.new id (mkalt (regexes_at self.old ids.now))) }
         ensures extends { Extends self.old self.new }
@@ -34,8 +103,8 @@ impl Arena {
         self.unite_members(members)
     }
 
-    /// The intersection. It takes n log n comparisons in the number n of members.
-    pub fn and(&mut self, ids: &[RegexId]) -> Result<RegexId, AllocError>
+    /// The intersection of members, made anew.
+    fn intersection_of(&mut self, ids: &[RegexId]) -> Result<RegexId, AllocError>
         requires { AllNumbers self.old ids.now }
         ensures ok { IfOk result (λ id. Names self.new id (mkand (regexes_at self.old ids.now))) }
         ensures extends { Extends self.old self.new }
@@ -114,7 +183,7 @@ impl Arena {
         if members.contains(&anything) {
             return Ok(anything);
         }
-        let rising = self.in_order(others(members, none))?;
+        let rising = self.in_order(&others(members, none))?;
         self.alt_of(&rising)
     }
 
@@ -133,7 +202,7 @@ impl Arena {
         if members.contains(&none) {
             return Ok(none);
         }
-        let rising = self.in_order(others(members, anything))?;
+        let rising = self.in_order(&others(members, anything))?;
         self.and_of(&rising)
     }
 

@@ -4,7 +4,6 @@ ghost use Rattle.std.specs.Prelude.{◌≡◌, ◌<◌, ◌↔◌, length};
 ghost use Rattle.std.specs.declared.cmp.Ordering.TheVariants.{Equal};
 ghost use Rattle.std.specs.Ordering.{nat_cmp};
 ghost use Rattle.std.specs.Cmp.Lexicographic.{slice_cmp};
-ghost use Rattle.sb_lang.specs.Constructors.{is_none};
 ghost use Rattle.sb_lang.specs.Order.{regex_cmp};
 ghost use Rattle.sb_lang.specs.OrderLaws.{ends};
 ghost use Rattle.sb_regex.specs.Numbered.{regex_at};
@@ -51,7 +50,7 @@ impl Arena {
     }
 
     /// The first difference of two regexes' nodes. Equal numbers are of equal regexes, so parts that differ decide.
-    fn difference(&self, a: RegexId, b: RegexId) -> Difference
+    pub(crate) fn difference(&self, a: RegexId, b: RegexId) -> Difference
         requires left { a < length self.now }
         requires right { b < length self.now }
         ensures { IsDifference self.now a b result }
@@ -106,27 +105,6 @@ impl Arena {
                 Difference::Parts(*p, *q)
             }
         }
-    }
-
-    /// The order of two numbers, in which a number past the end stands for the regex that has no word.
-    pub(crate) fn order(&self, a: RegexId, b: RegexId) -> Ordering
-        ensures { result ≡ regex_cmp (regex_at self.now a) (regex_at self.now b) }
-    {
-        match (a.number() < self.len(), b.number() < self.len()) {
-            (true, true) => self.compare(a, b),
-            (true, false) if self.is_none(a) => Ordering::Equal,
-            (true, false) => Ordering::Greater,
-            (false, true) if self.is_none(b) => Ordering::Equal,
-            (false, true) => Ordering::Less,
-            (false, false) => Ordering::Equal,
-        }
-    }
-
-    fn is_none(&self, a: RegexId) -> bool
-        requires { a < length self.now }
-        ensures { result ≡ is_none (regex_at self.now a) }
-    {
-        matches!(self.node(a), Node::None)
     }
 }
 

@@ -12,6 +12,7 @@ mod combine;
 mod compare;
 mod members;
 mod node;
+mod sort;
 
 pub use arena::Arena;
 pub use node::{Node, RegexId};

@@ -3,15 +3,13 @@
 ghost use Rattle.std.specs.Prelude.{◌≡◌, ◌∷◌, ◌++◌, [], ℕ, length, ◌<◌, IfOk, OnOk, MatchOption, true, not, nat_eq, filter};
 ghost use Rattle.std.specs.List.{list_any, list_all, flat_map};
 ghost use Rattle.sb_class.specs.Ranges.{in_ranges, IsCanonical};
-ghost use Rattle.sb_lang.specs.Constructors.{alternatives, conjuncts, ranges_of, union_of, inter_of, sorted};
+ghost use Rattle.sb_lang.specs.Constructors.{alternatives, conjuncts, ranges_of, union_of, inter_of};
 ghost use Rattle.sb_regex.specs.Numbered.{regex_at, regexes_at, AllNumbers};
 ghost use Rattle.sb_regex.specs.Steps.{without_sets, in_some, in_all};
 
 use crate::arena::Arena;
 use crate::node::{Node, RegexId};
 use sb_class::Class;
-use sb_lang::order::{order_is_total, order_tells_apart};
-use sb_lang::sorted::sorted_is_the_only;
 use std::alloc::{AllocError, Global};
 use std::collections::VecDeque;
 
@@ -85,22 +83,6 @@ impl Arena {
             }
         }
         Ok(())
-    }
-
-    /// The numbers in the order of their regexes, each once: n log n comparisons.
-    pub(crate) fn in_order(&self, mut ids: Vec<RegexId>) -> Result<Vec<RegexId>, AllocError>
-        requires { AllNumbers self.now ids.items }
-        ensures value { IfOk result
-            (λ rising. regexes_at self.now rising.items ≡ sorted (regexes_at self.now ids.items)) }
-        ensures numbers { IfOk result (λ rising. AllNumbers self.now rising.items) }
-    {
-        self.normal_regexes_each_once();
-        order_is_total();
-        order_tells_apart();
-        sorted_is_the_only();
-        ids.sort_by(|a, b| self.order(*a, *b))?;
-        ids.dedup();
-        Ok(ids)
     }
 }
 

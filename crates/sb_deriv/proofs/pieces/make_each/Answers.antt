@@ -1,43 +1,58 @@
-use Rattle.std.proofs.Common.{arith}
+use Rattle.std.proofs.Common.{◌<◌, length, arith}
 use Rattle.sb_regex.proofs.CallerLemmas.{numbers_kept}
-use Rattle.sb_deriv.proofs.Making.{making_init, making_step, made_each, choice_numbers, piece_whole, operand_later}
+use Rattle.sb_deriv.specs.Choices.{list_of}
+use Rattle.sb_deriv.proofs.Derivatives.{constants_kept}
+use Rattle.sb_deriv.proofs.Making.{making_init, making_at, made_each, numbers_at, whole_at, operand_later, no_made}
 use Rattle.sb_deriv.proofs.pieces.make_each.Goals as goal
 
-pub loop-choice-init : goal.loop-choice-init
-loop-choice-init c = making_init c.args.choices.now c.args.arena.now c.args.operation.now _ c.requires.whole
-    c.new-pieces.ensures.items
+pub loop-place-init : goal.loop-place-init
+loop-place-init c = (
+  making_init c.args.choices.now c.args.arena.now c.args.operation.now _ c.requires.whole c.new-pieces.ensures.items,
+  no_made c.args.arena.now c.args.operation.now c.args.choices.now c.new-known.result.items c.new-known.ensures.items,
+  c.requires.constants,
+)
 
-pub make-requires-clause-members : goal.make-requires-clause-members
-make-requires-clause-members c =
-    let n = choice_numbers c.args.choices.now c.args.arena.now c.loop-choice.choice-index c.choice-item.result
-    c.requires.whole c.loop-choice-test.true c.choice-item.is c.requires.members in
-    rw (c.ids.ensures) (numbers_kept c.args.arena.now c.loop-choice.arena c.choice-item.result.1
-    c.loop-choice.invariant.extends n)
+pub target_of-requires-clause-members : goal.target_of-requires-clause-members
+target_of-requires-clause-members c =
+    let l : c.loop-place.place < length c.args.choices.now =
+    omega (arith, c.len-place-end.ensures, c.loop-place-test.true)
+    in
+    numbers_kept c.args.arena.now c.loop-place.arena (list_of c.args.choices.now c.loop-place.place)
+    c.loop-place.invariant.0.extends (numbers_at c.args.choices.now c.args.arena.now c.loop-place.place c.requires.whole
+    l c.requires.members)
 
-pub make-requires-clause-operand : goal.make-requires-clause-operand
-make-requires-clause-operand c =
-    operand_later c.args.arena.now c.loop-choice.arena c.args.operation.now c.loop-choice.invariant.extends
+pub target_of-requires-clause-operand : goal.target_of-requires-clause-operand
+target_of-requires-clause-operand c =
+    operand_later c.args.arena.now c.loop-place.arena c.args.operation.now c.loop-place.invariant.0.extends
     c.requires.operand
 
 pub push-requires-clause-whole : goal.push-requires-clause-whole
 push-requires-clause-whole c =
-    rw (c.first.ensures) (piece_whole c.args.choices.now c.args.arena.now c.loop-choice.arena c.args.operation.now
-    c.loop-choice.choice-index c.loop-choice.pieces.items c.choice-item.result c.loop-choice.invariant
-    c.loop-choice-test.true c.choice-item.is)
+    let l : c.loop-place.place < length c.args.choices.now =
+    omega (arith, c.len-place-end.ensures, c.loop-place-test.true)
+    in
+    rw (c.first.ensures) (whole_at c.args.choices.now c.args.arena.now c.loop-place.arena c.args.operation.now
+    c.loop-place.place c.loop-place.pieces.items c.loop-place.invariant.0 l)
 
-pub loop-choice-preserved : goal.loop-choice-preserved
-loop-choice-preserved c =
-    let n = choice_numbers c.args.choices.now c.args.arena.now c.loop-choice.choice-index c.choice-item.result
-    c.requires.whole c.loop-choice-test.true c.choice-item.is c.requires.members in
-    making_step c.args.choices.now c.args.arena.now c.loop-choice.arena c.make.new.arena c.args.operation.now
-    c.loop-choice.choice-index c.loop-choice.pieces.items c.push.new.pieces.items c.choice-item.result
-    c.in_ok-target.target
-    c.loop-choice.invariant c.requires.whole c.loop-choice-test.true c.choice-item.is n c.requires.operand
-    (rw (c.ids.ensures) at c.in_ok-target.ensures.ok) c.in_ok-target.ensures.extends
-    (rw (c.first.ensures) at c.in_ok-push.ensures.whole) c.in_ok-push.ensures.merged
-    (rw (c.first.ensures) at c.in_ok-push.ensures.value) c.in_ok-push.ensures.targets
+pub loop-place-preserved : goal.loop-place-preserved
+loop-place-preserved c =
+    let l : c.loop-place.place < length c.args.choices.now =
+    omega (arith, c.len-place-end.ensures, c.loop-place-test.true)
+    in (
+      making_at c.args.choices.now c.args.arena.now c.loop-place.arena c.target_of.new.arena c.args.operation.now
+          c.loop-place.place c.loop-place.pieces.items c.push.new.pieces.items c.in_ok-target.target
+          c.loop-place.invariant.0 c.requires.whole l (numbers_at c.args.choices.now c.args.arena.now c.loop-place.place
+          c.requires.whole l c.requires.members) c.requires.operand c.in_ok-target.ensures.ok
+          c.in_ok-target.ensures.extends (rw (c.first.ensures) at c.in_ok-push.ensures.whole)
+          c.in_ok-push.ensures.merged (rw (c.first.ensures) at c.in_ok-push.ensures.value)
+          c.in_ok-push.ensures.targets,
+      c.in_ok-target.ensures.known,
+      constants_kept c.loop-place.arena c.target_of.new.arena c.args.constants.now c.in_ok-target.ensures.extends
+          c.loop-place.invariant.2,
+    )
 
 pub returns-clause-map : goal.returns-clause-map
 returns-clause-map c =
-    made_each c.args.choices.now c.args.arena.now c.loop-choice.arena c.args.operation.now c.loop-choice.choice-index
-    c.loop-choice.pieces.items c.loop-choice.invariant c.requires.whole (omega (arith, c.loop-choice-test.false))
+    rw (c.in_ok-exact.ensures.items, c.deref.ensures.value) (made_each c.args.choices.now c.args.arena.now
+    c.loop-place.arena c.args.operation.now c.loop-place.place c.loop-place.pieces.items c.loop-place.invariant.0
+    c.requires.whole (omega (arith, c.len-place-end.ensures, c.loop-place-test.false)))

@@ -4,15 +4,23 @@ use Rattle.sb_deriv.proofs.deriver.Deriver.of_all.Goals as goal
 
 pub make_each-requires-clause-members : goal.make_each-requires-clause-members
 make_each-requires-clause-members c =
-    rw (c.deref.ensures.value)
-    (choice_numbers_of c.args.arena.now c.args.operation c.args.self.now c.args.parts.now
-    c.in_ok-choices.choices.items c.requires.faithful (c.in_ok-want.ensures.none c.if-branch.false)
-    c.in_ok-choices.ensures.values)
+    choice_numbers_of c.args.arena.now c.args.constants.now c.args.operation c.args.self.now c.args.parts.now
+    c.in_ok-maps.maps.items c.in_ok-choices.choices (record {
+      constants = c.requires.constants;
+      faithful = c.requires.faithful;
+      entries = c.in_ok-want.ensures.none c.if-branch.false;
+      maps_are = c.in_ok-maps.ensures;
+      values = rw (c.deref.ensures.value) at c.in_ok-choices.ensures.values;
+    })
 
 pub returns-clause-found : goal.returns-clause-found
 returns-clause-found c =
-    let m = rw (c.deref.ensures.value) at c.in_ok-pieces.ensures.map in
     rw (c.new.ensures) (map_same c.make_each.new.arena _ _ c.in_ok-pieces.pieces.items
-    (made_of_choices c.args.arena.now c.args.operation c.args.self.now c.args.parts.now
-    c.in_ok-choices.choices.items c.requires.faithful (c.in_ok-want.ensures.none c.if-branch.false)
-    c.in_ok-choices.ensures.values) m)
+    (made_of_choices c.args.arena.now c.args.constants.now c.args.operation c.args.self.now c.args.parts.now
+    c.in_ok-maps.maps.items c.in_ok-choices.choices (record {
+      constants = c.requires.constants;
+      faithful = c.requires.faithful;
+      entries = c.in_ok-want.ensures.none c.if-branch.false;
+      maps_are = c.in_ok-maps.ensures;
+      values = rw (c.deref.ensures.value) at c.in_ok-choices.ensures.values;
+    })) c.in_ok-pieces.ensures.map)

@@ -20,6 +20,6 @@ returns-then-branch-clause-added c = λ n p q. c.in_ok-want.ensures.added n (two
 
 pub returns-clause-found : goal.returns-clause-found
 returns-clause-found c =
-    cat_of_two c.make_each.new.arena c.heads_and_tails.new.arena _ _ c.in_ok-choices.choices.items
+    cat_of_two c.make_each.new.arena c.heads_and_tails.new.arena _ _ c.in_ok-choices.choices
     c.in_ok-pieces.pieces.items c.new.result (sym c.nullable.ensures ∙ c.if-not-nullable.false) c.new.ensures
-    c.in_ok-choices.ensures.values (rw (c.deref.ensures.value) at c.in_ok-pieces.ensures.map)
+    c.in_ok-choices.ensures.values c.in_ok-pieces.ensures.map

@@ -1,9 +1,10 @@
 use Rattle.sb_deriv.proofs.Derivatives.{set_map}
 use Rattle.sb_deriv.proofs.deriver.Deriver.of_set.Goals as goal
 
-pub returns-clause-found : goal.returns-clause-found
-returns-clause-found c =
-    set_map c.none.new.self c.eps.new.self c.args.ranges.now c.in_ok-eps.eps c.in_ok-none.none
-    c.in_ok-pieces.pieces.items c.new.result c.new.ensures c.in_ok-eps.ensures.ok c.in_ok-none.ensures.ok
-    c.in_ok-eps.ensures.extends c.in_ok-pieces.ensures.map c.in_ok-pieces.ensures.value
-    c.in_ok-pieces.ensures.targets
+pub returns : goal.returns
+returns c = record {
+  found =
+      set_map c.args.arena.now c.args.ranges.now c.args.constants.now.eps c.args.constants.now.none
+      c.in_ok-pieces.pieces.items c.new.result c.new.ensures c.requires.constants.eps_is c.requires.constants.none_is
+      c.in_ok-pieces.ensures.map c.in_ok-pieces.ensures.value c.in_ok-pieces.ensures.targets;
+}

@@ -3,7 +3,7 @@ use Rattle.sb_deriv.specs.Faithful.{KeepsEntries}
 use Rattle.sb_regex.specs.Numbered.{Extends}
 use Rattle.sb_graph.specs.Findings.{IsGraph}
 use Rattle.sb_graph.specs.Queue.{regex_of}
-use Rattle.sb_graph.specs.Search.{IsSearched}
+use Rattle.sb_graph.specs.Search.{IsUnderWay}
 use Rattle.sb_graph.proofs.graph.Graph.search.Given as goal
 
 abbrev pub invariant-loop-place : goal.invariant-loop-place
@@ -13,7 +13,9 @@ invariant-loop-place l =
       graph : IsGraph l.arena l.self;
       marks : l.self.dead ≡ l.fn.self.dead;
       derivatives_stay : KeepsEntries l.fn.self.memo l.self.memo;
-      searched : IsSearched l.arena (regex_of l.fn.queue 0) l.self.dead l.queue l.place;
+      idle : l.self.expanded ≡ l.fn.self.expanded → l.self.memo ≡ l.fn.self.memo;
+      under_way : IsUnderWay l.arena (regex_of l.fn.queue 0) l.self.dead l.queue l.place l.tested l.fn.self.expanded
+          l.self.expanded;
     }
 
 abbrev pub decreases-loop-place : goal.decreases-loop-place

@@ -1,20 +1,30 @@
-use Rattle.std.proofs.Common.{ap, ◌∙◌}
-use Rattle.sb_lang.specs.Constructors.{join_sets}
+use Rattle.std.proofs.Common.{Some, ap, sym, ◌∙◌}
+use Rattle.sb_lang.proofs.CallerLemmas.{parts-regexes}
+use Rattle.sb_lang.specs.Constructors.{mkalt}
 use Rattle.sb_regex.specs.Numbered.{regexes_at}
-use Rattle.sb_regex.proofs.Combining.{ats_normal, mkalt_is}
+use Rattle.sb_regex.proofs.CallerLemmas.{ats_kept}
+use Rattle.sb_regex.proofs.Combining.{ats_normal}
 use Rattle.sb_regex.proofs.arena.Arena.alt.Goals as goal
 
-pub unite_members-requires-clause-normal : goal.unite_members-requires-clause-normal
-unite_members-requires-clause-normal c =
-    let old = c.args.self.now in
-    let joined = c.in_ok-members-2.ensures.value ∙ ap (λ is. join_sets (regexes_at old is)) c.deref.ensures.value in
-    rw (mkalt_is (regexes_at old c.args.ids.now) _ _ c.in_ok-members.ensures.value joined)
-    (c.constructors_give_normal.ensures.unions _
-    (ats_normal old c.args.ids.now c.normal_regexes_each_once.ensures.normal c.requires))
+pub returns-in-Some-clause-ok : goal.returns-in-Some-clause-ok
+returns-in-Some-clause-ok c =
+    let rs = c.args.self.now in
+    let members = c.in_ok-members.members.items in
+    let normal = c.normal_regexes_each_once.ensures.normal in
+    c.in-Some.ensures
+    ∙ ap Some (ap (λ xs. mkalt xs) (parts-regexes (regexes_at rs members))
+    ∙ c.union_of_members.ensures (regexes_at rs members) (regexes_at rs c.args.ids.now)
+    (ats_normal rs members normal c.in_ok-members.ensures.numbers)
+    (ats_normal rs c.args.ids.now normal c.requires) c.in_ok-members.ensures.members)
 
-pub returns-clause-ok : goal.returns-clause-ok
-returns-clause-ok c =
-    let old = c.args.self.now in
-    let joined = c.in_ok-members-2.ensures.value ∙ ap (λ is. join_sets (regexes_at old is)) c.deref.ensures.value in
-    rw (← mkalt_is (regexes_at old c.args.ids.now) _ _ c.in_ok-members.ensures.value joined)
-    (c.unite_members.ensures.ok)
+pub remember-requires-clause-answer : goal.remember-requires-clause-answer
+remember-requires-clause-answer c =
+    let rs = c.args.self.now in
+    let members = c.in_ok-members.members.items in
+    let normal = c.normal_regexes_each_once.ensures.normal in
+    c.in_ok-id.ensures.ok
+    ∙ ap Some (sym (ap (λ xs. mkalt xs) (parts-regexes (regexes_at c.union_of.new.self members)
+    ∙ ats_kept rs c.union_of.new.self members c.in_ok-id.ensures.extends c.in_ok-members.ensures.numbers)
+    ∙ c.union_of_members.ensures (regexes_at rs members) (regexes_at rs c.args.ids.now)
+    (ats_normal rs members normal c.in_ok-members.ensures.numbers)
+    (ats_normal rs c.args.ids.now normal c.requires) c.in_ok-members.ensures.members))

@@ -1,19 +1,26 @@
-use Rattle.std.proofs.Common.{ap, ◌∙◌}
-use Rattle.sb_lang.specs.Constructors.{meet_sets}
+use Rattle.std.proofs.Common.{refl, ◌∙◌}
+use Rattle.sb_lang.specs.Regex.{none}
 use Rattle.sb_regex.specs.Numbered.{regexes_at}
-use Rattle.sb_regex.proofs.Combining.{ats_normal, mkand_is}
+use Rattle.sb_regex.proofs.CallerLemmas.{ats_kept, numbers_kept}
+use Rattle.sb_regex.proofs.Combining.{decider_found, none_decides}
 use Rattle.sb_regex.proofs.arena.Arena.and.Goals as goal
 
-pub meet_members-requires-clause-normal : goal.meet_members-requires-clause-normal
-meet_members-requires-clause-normal c =
+pub returns-then-contains-clause-ok : goal.returns-then-contains-clause-ok
+returns-then-contains-clause-ok c =
     let old = c.args.self.now in
-    let joined = c.in_ok-members-2.ensures.value ∙ ap (λ is. meet_sets (regexes_at old is)) c.deref.ensures.value in
-    rw (mkand_is (regexes_at old c.args.ids.now) _ _ c.in_ok-members.ensures.value joined)
-    (c.constructors_give_normal.ensures.intersections _
-    (ats_normal old c.args.ids.now c.normal_regexes_each_once.ensures.normal c.requires))
+    let new = c.none.new.self in
+    let ids = c.args.ids.now in
+    let there = numbers_kept old new ids c.in_ok-none.ensures.extends c.requires in
+    let found = decider_found c.order_tells_apart.ensures old new c.normal_regexes_each_once.ensures.distinct
+    c.in_ok-none.ensures.extends c.in_ok-none.none none c.in_ok-none.ensures.ok ids ids refl c.requires there
+    c.contains.result c.contains.ensures.value ∙ c.if-contains.true in
+    rw (← none_decides c.order_tells_apart.ensures (regexes_at old ids) found) c.in_ok-none.ensures.ok
+
+pub meet_all-requires : goal.meet_all-requires
+meet_all-requires c =
+    numbers_kept c.args.self.now c.none.new.self c.args.ids.now c.in_ok-none.ensures.extends c.requires
 
 pub returns-clause-ok : goal.returns-clause-ok
 returns-clause-ok c =
-    let old = c.args.self.now in
-    let joined = c.in_ok-members-2.ensures.value ∙ ap (λ is. meet_sets (regexes_at old is)) c.deref.ensures.value in
-    rw (← mkand_is (regexes_at old c.args.ids.now) _ _ c.in_ok-members.ensures.value joined) (c.meet_members.ensures.ok)
+    rw (ats_kept c.args.self.now c.none.new.self c.args.ids.now c.in_ok-none.ensures.extends c.requires)
+    at c.meet_all.ensures.ok

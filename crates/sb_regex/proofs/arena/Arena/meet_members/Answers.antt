@@ -25,7 +25,7 @@ in_order-requires c =
     let ms = c.args.members.items in
     let ext = extends_more old c.none.new.self new c.in_ok-none.ensures.extends c.in_ok-anything.ensures.extends in
     let there = numbers_kept old new ms ext c.requires.numbers in
-    kept_numbers new ms c.others.result.items _ there c.others.ensures
+    rw (c.deref-2.ensures.value) (kept_numbers new ms c.others.result.items _ there c.others.ensures)
 
 pub and_of-requires-clause-normal : goal.and_of-requires-clause-normal
 and_of-requires-clause-normal c =
@@ -39,9 +39,11 @@ and_of-requires-clause-normal c =
     ms c.deref.result.now c.deref.ensures.value c.requires.numbers there _ c.contains.ensures.value
     ∙ c.if-contains.false in
     let order = rest_sorted c.order_tells_apart.ensures old new c.normal_regexes_each_once.ensures.distinct ext _ _
-    c.in_ok-anything.ensures.ok ms c.others.result.items c.in_ok-rising.rising.items c.deref-2.result.now
-    c.requires.numbers there c.others.ensures c.in_ok-rising.ensures.value c.deref-2.ensures.value in
-    rw (intersection_is_rest (regexes_at old ms) (regexes_at new c.deref-2.result.now) not_found order)
+    c.in_ok-anything.ensures.ok ms c.others.result.items c.in_ok-rising.rising.items c.deref-3.result.now
+    c.requires.numbers there c.others.ensures (rw
+        (c.in_order.ensures.same, c.deref-2.ensures.value) at c.in_ok-rising.ensures.value) c.deref-3.ensures.value in
+    rw (c.in_order.ensures.same, intersection_is_rest (regexes_at old ms)
+        (regexes_at new c.deref-3.result.now) not_found order)
     (c.requires.normal)
 
 pub returns-clause-ok : goal.returns-clause-ok
@@ -56,7 +58,8 @@ returns-clause-ok c =
     ms c.deref.result.now c.deref.ensures.value c.requires.numbers there _ c.contains.ensures.value
     ∙ c.if-contains.false in
     let order = rest_sorted c.order_tells_apart.ensures old new c.normal_regexes_each_once.ensures.distinct ext _ _
-    c.in_ok-anything.ensures.ok ms c.others.result.items c.in_ok-rising.rising.items c.deref-2.result.now
-    c.requires.numbers there c.others.ensures c.in_ok-rising.ensures.value c.deref-2.ensures.value in
-    rw (← intersection_is_rest (regexes_at old ms) (regexes_at new c.deref-2.result.now) not_found order)
-    (c.and_of.ensures.ok)
+    c.in_ok-anything.ensures.ok ms c.others.result.items c.in_ok-rising.rising.items c.deref-3.result.now
+    c.requires.numbers there c.others.ensures (rw
+        (c.in_order.ensures.same, c.deref-2.ensures.value) at c.in_ok-rising.ensures.value) c.deref-3.ensures.value in
+    rw (← intersection_is_rest (regexes_at old ms) (regexes_at new c.deref-3.result.now) not_found order)
+    (rw (c.in_order.ensures.same) at c.and_of.ensures.ok)

@@ -23,7 +23,7 @@ in_order-requires c =
     let ms = c.args.members.items in
     let ext = extends_more old c.none.new.self new c.in_ok-none.ensures.extends c.in_ok-anything.ensures.extends in
     let there = numbers_kept old new ms ext c.requires.numbers in
-    kept_numbers new ms c.others.result.items _ there c.others.ensures
+    rw (c.deref-2.ensures.value) (kept_numbers new ms c.others.result.items _ there c.others.ensures)
 
 pub alt_of-requires-clause-normal : goal.alt_of-requires-clause-normal
 alt_of-requires-clause-normal c =
@@ -37,9 +37,10 @@ alt_of-requires-clause-normal c =
     c.contains.ensures.value ∙ c.if-contains.false in
     let order = rest_sorted c.order_tells_apart.ensures old new c.normal_regexes_each_once.ensures.distinct ext _ _
     (names_kept c.none.new.self c.anything.new.self _ _ c.in_ok-anything.ensures.extends c.in_ok-none.ensures.ok) ms
-    c.others.result.items c.in_ok-rising.rising.items c.deref-2.result.now c.requires.numbers there c.others.ensures
-    c.in_ok-rising.ensures.value c.deref-2.ensures.value in
-    rw (union_is_rest (regexes_at old ms) (regexes_at new c.deref-2.result.now) not_found order) (c.requires.normal)
+    c.others.result.items c.in_ok-rising.rising.items c.deref-3.result.now c.requires.numbers there c.others.ensures
+    (rw (c.in_order.ensures.same, c.deref-2.ensures.value) at c.in_ok-rising.ensures.value) c.deref-3.ensures.value in
+    rw (c.in_order.ensures.same, union_is_rest (regexes_at old ms)
+        (regexes_at new c.deref-3.result.now) not_found order) (c.requires.normal)
 
 pub returns-clause-ok : goal.returns-clause-ok
 returns-clause-ok c =
@@ -53,6 +54,7 @@ returns-clause-ok c =
     c.contains.ensures.value ∙ c.if-contains.false in
     let order = rest_sorted c.order_tells_apart.ensures old new c.normal_regexes_each_once.ensures.distinct ext _ _
     (names_kept c.none.new.self c.anything.new.self _ _ c.in_ok-anything.ensures.extends c.in_ok-none.ensures.ok) ms
-    c.others.result.items c.in_ok-rising.rising.items c.deref-2.result.now c.requires.numbers there c.others.ensures
-    c.in_ok-rising.ensures.value c.deref-2.ensures.value in
-    rw (← union_is_rest (regexes_at old ms) (regexes_at new c.deref-2.result.now) not_found order) (c.alt_of.ensures.ok)
+    c.others.result.items c.in_ok-rising.rising.items c.deref-3.result.now c.requires.numbers there c.others.ensures
+    (rw (c.in_order.ensures.same, c.deref-2.ensures.value) at c.in_ok-rising.ensures.value) c.deref-3.ensures.value in
+    rw (← union_is_rest (regexes_at old ms) (regexes_at new c.deref-3.result.now) not_found order) (rw
+        (c.in_order.ensures.same) at c.alt_of.ensures.ok)

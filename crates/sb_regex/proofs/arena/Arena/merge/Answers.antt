@@ -1,0 +1,82 @@
+use Rattle.std.proofs.Common.{ℕ, ◌<◌, ◌++◌, length, ◌∙◌, sym, arith}
+use Rattle.std.proofs.lemmas.List.Elements.{All-drop, All-take}
+use Rattle.sb_regex.specs.Numbered.{regexes_at}
+use Rattle.sb_regex.proofs.Spines.{numbers_push}
+use Rattle.sb_regex.proofs.CallerLemmas.{number_in}
+use Rattle.sb_regex.proofs.Gathering.{numbers-append}
+use Rattle.sb_regex.proofs.Merging.{take_left, take_right, skip_left}
+use Rattle.sb_regex.proofs.arena.Arena.merge.Goals as goal
+
+pub loop-i-preserved-in-Less : goal.loop-i-preserved-in-Less
+loop-i-preserved-in-Less c =
+    let rs = c.loop-i.self in
+    let whole = regexes_at rs c.args.left.now ++ regexes_at rs c.args.right.now in
+    let m = take_left rs c.loop-i.all.items c.push.new.self.items c.args.left.now c.args.right.now c.loop-i.i c.loop-i.j
+    c.index-left-i.result c.index-right-j.result whole c.loop-i-test.true c.if-j-right.true c.index-left-i.is
+        c.index-right-j.is
+    (c.loop-i.invariant.4, c.loop-i.invariant.5, c.loop-i.invariant.6) c.order_is_total.ensures
+    c.in_ok-push-in-Less.ensures.items (sym c.in_ok-place.ensures.value ∙ c.in-Less.is) in
+    rw (c.place.ensures.same) (
+      c.loop-i.invariant.0,
+      omega arith,
+      c.loop-i.invariant.2,
+      numbers_push rs _ _ _ c.loop-i.invariant.3
+          (number_in rs c.args.left.now c.loop-i.i _ (rw
+          (c.loop-i.invariant.0) c.requires.left) c.loop-i-test.true c.index-left-i.is)
+          c.in_ok-push-in-Less.ensures.items,
+      m.0,
+      m.1,
+      m.2,
+    )
+
+pub loop-i-preserved-in-Equal : goal.loop-i-preserved-in-Equal
+loop-i-preserved-in-Equal c =
+    let rs = c.loop-i.self in
+    let whole = regexes_at rs c.args.left.now ++ regexes_at rs c.args.right.now in
+    let m = skip_left rs c.loop-i.all.items c.loop-i.all.items c.args.left.now c.args.right.now c.loop-i.i c.loop-i.j
+    c.index-left-i.result c.index-right-j.result whole c.loop-i-test.true c.if-j-right.true c.index-left-i.is
+        c.index-right-j.is
+    (c.loop-i.invariant.4, c.loop-i.invariant.5, c.loop-i.invariant.6) c.order_tells_apart.ensures
+    (sym c.in_ok-place.ensures.value ∙ c.in-Equal.is) in
+    rw (c.place.ensures.same) (
+      c.loop-i.invariant.0,
+      omega arith,
+      c.loop-i.invariant.2,
+      c.loop-i.invariant.3,
+      m.0,
+      m.1,
+      m.2,
+    )
+
+pub loop-i-preserved : goal.loop-i-preserved
+loop-i-preserved c =
+    let rs = c.loop-i.self in
+    let whole = regexes_at rs c.args.left.now ++ regexes_at rs c.args.right.now in
+    let m = take_right rs c.loop-i.all.items c.push-in-Greater.new.self.items c.args.left.now c.args.right.now
+    c.loop-i.i c.loop-i.j
+    c.index-left-i.result c.index-right-j.result whole c.loop-i-test.true c.if-j-right.true c.index-left-i.is
+        c.index-right-j.is
+    (c.loop-i.invariant.4, c.loop-i.invariant.5, c.loop-i.invariant.6) c.order_is_total.ensures
+    c.in_ok-push-in-Greater.ensures.items (sym c.in_ok-place.ensures.value ∙ c.in-Greater.is) in
+    rw (c.place.ensures.same) (
+      c.loop-i.invariant.0,
+      c.loop-i.invariant.1,
+      omega arith,
+      numbers_push rs _ _ _ c.loop-i.invariant.3
+          (number_in rs c.args.right.now c.loop-i.j _ (rw
+          (c.loop-i.invariant.0) c.requires.right) c.if-j-right.true c.index-right-j.is)
+          c.in_ok-push-in-Greater.ensures.items,
+      m.0,
+      m.1,
+      m.2,
+    )
+
+pub returns-clause-numbers : goal.returns-clause-numbers
+returns-clause-numbers c =
+    let rs = c.args.self.now in
+    let below = λ (i : ℕ). i < length rs in
+    numbers-append rs _ _ _ c.in_ok-extend_from_slice-2.ensures.items
+    (numbers-append rs _ _ _ c.in_ok-extend_from_slice.ensures.items
+    (rw (c.loop-i.invariant.0) at c.loop-i.invariant.3)
+    (All-take below _ _ (All-drop below c.loop-i.i c.args.left.now c.requires.left)))
+    (All-take below _ _ (All-drop below c.loop-i.j c.args.right.now c.requires.right))

@@ -1,0 +1,16 @@
+use Rattle.std.proofs.Common.{◌≡◌, ◌<◌, length}
+use Rattle.sb_lang.specs.Order.{regex_cmp}
+use Rattle.sb_regex.specs.Numbered.{regex_at}
+use Rattle.sb_regex.specs.Steps.{AreAlike}
+use Rattle.sb_regex.proofs.arena.Arena.trace.Given as goal
+
+abbrev pub invariant-loop-left : goal.invariant-loop-left
+invariant-loop-left l =
+    (l.left < length l.self)
+    × (l.right < length l.self)
+    × (regex_cmp (regex_at l.self l.fn.a) (regex_at l.self l.fn.b)
+    ≡ regex_cmp (regex_at l.self l.left) (regex_at l.self l.right))
+    × AreAlike l.self l.fn.a l.fn.b l.path.items
+
+abbrev pub decreases-loop-left : goal.decreases-loop-left
+decreases-loop-left l = l.left
