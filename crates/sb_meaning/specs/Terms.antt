@@ -1,6 +1,6 @@
 -- Terms as trees, after `let` and definitions are unfolded. One argument where a theory asks for two is the
 -- argument itself, so each application here has as many arguments as its symbol takes.
-use Rattle.std.specs.Prelude.{ℕ, List}
+use Rattle.std.specs.Prelude.{ℕ, List, [], ◌∷◌}
 
 -- the sorts
 pub data Sort : Type 0 where
@@ -62,7 +62,13 @@ mutual
     word : List ℕ → Term
     numeral : ℕ → Term
     apply : Symbol → Terms → Term
+    -- a parameter of a definition, by its place, in the definition's body alone
+    parameter : ℕ → Sort → Term
 
   pub data Terms : Type 0 where
     no_terms : Terms
     with_term : Term → Terms → Terms
+
+abbrev pub terms_in : Terms → List Term
+terms_in no_terms = []
+terms_in (with_term term terms) = term ∷ terms_in terms

@@ -5,9 +5,9 @@ use Rattle.std.specs.List.{list_all, flat_map}
 use Rattle.sb_lang.specs.RegLan as reglan
 use Rattle.sb_lang.specs.RegLan.{RegLan}
 use Rattle.sb_lang.specs.Membership.{in_re, is_word}
-use Rattle.sb_meaning.specs.Terms.{Symbol, Term, Terms, constant, word, numeral, apply, no_terms, with_term}
+use Rattle.sb_meaning.specs.Terms.{Symbol, Term, Terms, constant, word, numeral, apply, parameter, no_terms, with_term}
 use Rattle.sb_meaning.specs.Terms as symbol
-use Rattle.sb_meaning.specs.Values.{Value, Valuation, Text, Int, Truth, value_in}
+use Rattle.sb_meaning.specs.Values.{Value, Valuation, Text, Int, Truth, default_of, value_in}
 
 -- what a term means: a word, a number, a truth value, or a regular expression over words
 pub data Meaning : Type 0 where
@@ -206,6 +206,7 @@ abbrev mutual
   meaning_of v (word w) = means_word w
   meaning_of v (numeral n) = means_number (pos n)
   meaning_of v (apply s terms) = applied s (meanings_of v terms)
+  meaning_of v (parameter place sort) = meaning_of_value (default_of sort)
 
   pub meanings_of : Valuation → Terms → List Meaning
   meanings_of v no_terms = []

@@ -20,10 +20,10 @@ use Rattle.sb_meaning.specs.Terms as meaning
 use Rattle.sb_meaning.specs.Values.{Valuation}
 use Rattle.sb_meaning.specs.Truth.{Meaning, meaning_of, meanings_of, means_reglan, reglan_in}
 use Rattle.sb_meaning.specs.Truth as truth
-use Rattle.sb_script.specs.Fragment.{is_regex, are_regexes}
 use Rattle.sb_problem.specs.Normals.{IsRegexOf, IsNumberOf}
 use Rattle.sb_problem.specs.Shapes.{AreRegexesOf, IsFound, joined_right, of_one, either, repeated, made}
 use Rattle.sb_regex.proofs.CallerLemmas.{one_number, names_at, names_below, ats_kept, numbers_kept}
+use Rattle.sb_script.specs.Brought.{is_regex, are_regexes}
 
 -- one more argument
 kind_more : (ts : List code.Term) (t : code.Term) → are_regexes (listed ts) ≡ true → is_regex (term_in t) ≡ true

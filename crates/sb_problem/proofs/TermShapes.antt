@@ -4,7 +4,7 @@ use Rattle.sb_sorts.proofs.CallerLemmas.{listed_one, listed_two}
 use Rattle.sb_sorts.specs.declared.term.Term as code
 use Rattle.sb_sorts.specs.Terms.{term_in, listed}
 use Rattle.sb_meaning.specs.Terms.{Term, Terms, word, apply, no_terms, with_term, str_to_re, re_range}
-use Rattle.sb_script.specs.Fragment.{is_regex}
+use Rattle.sb_script.specs.Brought.{is_regex}
 
 -- the regular expression of a word has one argument, which is a word
 word_of_other : (a : code.Term) (ts : Terms) → ((w : List ℕ) → a ≡ code.Word w → ⊥)

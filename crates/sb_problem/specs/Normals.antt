@@ -7,7 +7,7 @@ use Rattle.sb_regex.specs.Numbered.{Names}
 use Rattle.sb_meaning.specs.Terms.{Term}
 use Rattle.sb_meaning.specs.Values.{Valuation}
 use Rattle.sb_meaning.specs.Truth.{meaning_of, means_reglan}
-use Rattle.sb_script.specs.Fragment.{is_regex}
+use Rattle.sb_script.specs.Brought.{is_regex}
 
 -- The term is a regular expression over literals: under every valuation it means one, and the number is of its normal
 -- regex.

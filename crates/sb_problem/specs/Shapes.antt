@@ -10,7 +10,7 @@ use Rattle.sb_regex.specs.Numbered.{regexes_at, AllNumbers}
 use Rattle.sb_meaning.specs.Terms.{Terms}
 use Rattle.sb_meaning.specs.Values.{Valuation}
 use Rattle.sb_meaning.specs.Truth.{meanings_of, means_reglan}
-use Rattle.sb_script.specs.Fragment.{are_regexes}
+use Rattle.sb_script.specs.Brought.{are_regexes}
 
 -- The terms are regular expressions over literals, and each number is of the normal regex of the term beside it.
 pub record AreRegexesOf (rs : List Regex) (terms : Terms) (ids : List ℕ) : Type 0 where

@@ -1,11 +1,11 @@
 //! Regular expressions, from the leaves up.
 
 ghost use Rattle.std.specs.Prelude.{◌≡◌, false, IfOk, MatchOption};
-ghost use Rattle.sb_script.specs.Fragment.{are_regexes};
 ghost use Rattle.sb_regex.specs.Numbered.{Extends};
 ghost use Rattle.sb_sorts.specs.Terms.{term_in, listed};
 ghost use Rattle.sb_problem.specs.Normals.{IsNumberOf};
 ghost use Rattle.sb_problem.specs.Shapes.{AreRegexesOf};
+ghost use Rattle.sb_script.specs.Brought.{are_regexes};
 
 use crate::join::joined;
 use crate::literals::{of_range, of_word};

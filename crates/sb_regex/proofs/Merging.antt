@@ -146,7 +146,7 @@ module _ (rs : List Regex) (all after left right : List ℕ) (i j x y : ℕ) (wh
       (regex_at rs y ∷ regexes_at rs (drop (j + 1) right)) whole
   whole_merged =
       merged_of (regexes_at rs all) _ _ _ _ whole (rest_is rs left i x l left_is)
-          (rest_is rs right j y m right_is) merged
+      (rest_is rs right j y m right_is) merged
 
   pub take_left : IsTotalOrder regex_cmp → after ≡ all ++ x ∷ [] → regex_cmp (regex_at rs x) (regex_at rs y) ≡ Less
       → NumbersMerged rs after (drop (i + 1) left) (drop j right) whole

@@ -1,5 +1,5 @@
 -- Digits: what is written of a number is read as the number, and no separator stands in it.
-use Rattle.std.proofs.Common.{◌≡◌, ℕ, zero, suc, ◌+◌, ◌-◌, ◌*◌, ◌/◌, ◌%◌, ◌^◌, ◌<◌, ◌⊎◌, Bool, true, false, cond, not, ◌==◌, ltb, nat_eq, nat_lt, nat_le, List, [], ◌∷◌, ◌++◌, map, Option, Some, None, option_and_then, decimal, refl, sym, ap, ◌∙◌, arith}
+use Rattle.std.proofs.Common.{◌≡◌, ℕ, zero, suc, ◌+◌, ◌-◌, ◌*◌, ◌/◌, ◌%◌, ◌^◌, ◌≤◌, ◌<◌, ◌⊎◌, Bool, true, false, cond, not, ◌==◌, ltb, nat_eq, nat_lt, nat_le, List, [], ◌∷◌, ◌++◌, Option, Some, None, option_and_then, decimal, refl, sym, ap, ◌∙◌, arith}
 use Rattle.std.specs.List.{list_all, join_with_byte, onto_first}
 use Rattle.std.specs.Fmt.{digits, digits_onto, digit_glyph}
 use Rattle.std.proofs.lemmas.Bool.{and_parts, and_from, eqb-true, le-leb, lt-ltb, false≢true}
@@ -8,6 +8,7 @@ use Rattle.std.proofs.Math.Nat.{pow-suc, pow-zero}
 use Rattle.sb_word.specs.Literals.{hex_number_from}
 use Rattle.sb_word.proofs.CallerLemmas.{hex_number-glyph}
 use Rattle.sb_rulebook.specs.Lines.{Field, hexadecimal}
+use Rattle.sb_rulebook.proofs.ListFacts.{all-cons}
 use Rattle.sb_rulebook.specs.Reading.{is_text, split_at, decimal_from, if_spelled, number, hexadecimal_number}
 
 -- how digits of a base are read, each behind what came before it
@@ -92,27 +93,39 @@ hexadecimal-read n small =
 
 -- Separators.
 
+-- another byte
+abbrev pub is_other : ℕ → ℕ → Bool
+is_other c b = not (b == c)
+
 -- the byte is not in the field
 abbrev pub is_free : ℕ → Field → Bool
-is_free c f = list_all (λ b. not (b == c)) f
+is_free c f = list_all (is_other c) f
 
-pub free-append : (c : ℕ) (f g : Field) → is_free c f ≡ true → is_free c g ≡ true → is_free c (f ++ g) ≡ true
-free-append c [] g first second = second
-free-append c (b ∷ bs) g first second =
-    let parts = and_parts (not (b == c)) (is_free c bs) first in
-    and_from (not (b == c)) (is_free c (bs ++ g)) parts.0 (free-append c bs g parts.1 second)
+-- the byte is behind the space, so neither that nor a line feed
+abbrev pub is_visible : ℕ → Bool
+is_visible b = nat_lt 32 b
 
-free-digits : (c base k n : ℕ) (bs : Field) → ((m : ℕ) → not (digit_glyph false (m % base) == c) ≡ true)
-    → is_free c bs ≡ true → is_free c (digits_onto k base false n bs) ≡ true
-free-digits c base zero n bs each rest = rest
-free-digits c base (suc k) n bs each rest =
-    step (free-digits c base k (n / base) (digit_glyph false (n % base) ∷ bs) each more) (n / base == 0)
+abbrev pub are_visible : Field → Bool
+are_visible f = list_all is_visible f
+
+pub visible-free : (c : ℕ) (f : Field) → c ≤ 32 → are_visible f ≡ true → is_free c f ≡ true
+visible-free c [] low seen = refl
+visible-free c (b ∷ bs) low seen =
+    let parts = and_parts (is_visible b) (are_visible bs) seen in
+    let above : nat_lt 32 b ≡ true = parts.0 in
+    and_from (is_other c b) (is_free c bs) (grind (arith, nat_tests)) (visible-free c bs low parts.1)
+
+all-digits : (test : ℕ → Bool) (base k n : ℕ) (bs : Field) → ((m : ℕ) → test (digit_glyph false (m % base)) ≡ true)
+    → list_all test bs ≡ true → list_all test (digits_onto k base false n bs) ≡ true
+all-digits test base zero n bs each rest = rest
+all-digits test base (suc k) n bs each rest =
+    step (all-digits test base k (n / base) (digit_glyph false (n % base) ∷ bs) each more) (n / base == 0)
   where
-    more : is_free c (digit_glyph false (n % base) ∷ bs) ≡ true
-    more = and_from (not (digit_glyph false (n % base) == c)) (is_free c bs) (each n) rest
+    more : list_all test (digit_glyph false (n % base) ∷ bs) ≡ true
+    more = all-cons test (digit_glyph false (n % base)) bs (each n) rest
 
-    step : is_free c (digits_onto k base false (n / base) (digit_glyph false (n % base) ∷ bs)) ≡ true → (t : Bool) →
-        is_free c (cond t (digit_glyph false (n % base) ∷ bs)
+    step : list_all test (digits_onto k base false (n / base) (digit_glyph false (n % base) ∷ bs)) ≡ true → (t : Bool)
+        → list_all test (cond t (digit_glyph false (n % base) ∷ bs)
         (digits_onto k base false (n / base) (digit_glyph false (n % base) ∷ bs))) ≡ true
     step others true = more
     step others false = others
@@ -129,7 +142,7 @@ decimal-apart c d outside h = ap (λ b. not (b == c)) (glyph-decimal d h) ∙ gr
 
 pub decimal-free : (c n : ℕ) → (c < 48) ⊎ (57 < c) → is_free c (decimal n) ≡ true
 unfolding digits
-decimal-free c n outside = free-digits c 10 64 n [] (λ m. decimal-apart c (m % 10) outside (omega arith)) refl
+decimal-free c n outside = all-digits (is_other c) 10 64 n [] (λ m. decimal-apart c (m % 10) outside (omega arith)) refl
 
 hexadecimal-apart : (c d : ℕ) → (c < 48) ⊎ ((57 < c) × (c < 97)) → d < 16 → not (digit_glyph false d == c) ≡ true
 hexadecimal-apart c d outside h = by (ltb d 10) refl
@@ -140,7 +153,23 @@ hexadecimal-apart c d outside h = by (ltb d 10) refl
 
 pub hexadecimal-free : (c n : ℕ) → (c < 48) ⊎ ((57 < c) × (c < 97)) → is_free c (hexadecimal n) ≡ true
 unfolding digits
-hexadecimal-free c n outside = free-digits c 16 64 n [] (λ m. hexadecimal-apart c (m % 16) outside (omega arith)) refl
+hexadecimal-free c n outside =
+    all-digits (is_other c) 16 64 n [] (λ m. hexadecimal-apart c (m % 16) outside (omega arith)) refl
+
+digit-visible : (d : ℕ) → d < 16 → is_visible (digit_glyph false d) ≡ true
+digit-visible d h = by (ltb d 10)
+  where
+    by : (t : Bool) → is_visible (cond t (48 + d) (87 + d)) ≡ true
+    by true = grind (arith, nat_tests)
+    by false = grind (arith, nat_tests)
+
+pub decimal-visible : (n : ℕ) → are_visible (decimal n) ≡ true
+unfolding digits
+decimal-visible n = all-digits is_visible 10 64 n [] (λ m. digit-visible (m % 10) (omega arith)) refl
+
+pub hexadecimal-visible : (n : ℕ) → are_visible (hexadecimal n) ≡ true
+unfolding digits
+hexadecimal-visible n = all-digits is_visible 16 64 n [] (λ m. digit-visible (m % 16) (omega arith)) refl
 
 -- Fields that are joined are split where they were joined.
 
@@ -153,7 +182,7 @@ split-free c (b ∷ bs) free = step (b == c) (and_parts (not (b == c)) (is_free 
     step true both rest = absurd (false≢true both.0)
     step false both rest = ap (onto_first b) (rest both.1)
 
-split-front : (c : ℕ) (f g : Field) → is_free c f ≡ true → split_at c (f ++ c ∷ g) ≡ f ∷ split_at c g
+pub split-front : (c : ℕ) (f g : Field) → is_free c f ≡ true → split_at c (f ++ c ∷ g) ≡ f ∷ split_at c g
 split-front c [] g free = step (c == c) (grind (arith, nat_tests))
   where
     step : (t : Bool) → t ≡ true → cond t ([] ∷ split_at c g) (onto_first c (split_at c g)) ≡ [] ∷ split_at c g
@@ -174,9 +203,3 @@ split-joined c f [] free = split-free c f (and_parts (is_free c f) true free).0
 split-joined c f (g ∷ gs) free =
     let parts = and_parts (is_free c f) (list_all (is_free c) (g ∷ gs)) free in
     split-front c f (join_with_byte c (g ∷ gs)) parts.0 ∙ ap (λ us. f ∷ us) (split-joined c g gs parts.1)
-
-pub all-free : {A : Type 0} (c : ℕ) (spell : A → Field) → ((x : A) → is_free c (spell x) ≡ true) → (xs : List A)
-    → list_all (is_free c) (map spell xs) ≡ true
-all-free c spell free [] = refl
-all-free c spell free (x ∷ xs) =
-    and_from (is_free c (spell x)) (list_all (is_free c) (map spell xs)) (free x) (all-free c spell free xs)

@@ -1,5 +1,19 @@
+pub mod CallerLemmas
 mod ExpansionFacts
+mod ListFacts
 mod TextFacts
 mod DigitFacts
 mod ReadFacts
 mod ReadLines
+mod LineFacts
+mod JudgingFacts
+mod Accepting
+mod SameFacts
+mod NumberFacts
+mod KeptFacts
+mod ProgressFacts
+mod TableStays
+mod TableReached
+mod TakenArguments
+mod FittingTerms
+mod TranslatedTerms

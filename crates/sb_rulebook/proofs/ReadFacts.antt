@@ -1,17 +1,19 @@
 -- The text of a line is read as the line.
-use Rattle.std.proofs.Common.{◌≡◌, ℕ, suc, ◌<◌, ◌⊎◌, ℤ, pos, negsuc, Bool, true, false, cond, not, ◌&&◌, ◌==◌, List, [], ◌∷◌, ◌++◌, map, codes, decimal, Option, Some, is_some, option_map, option_and_then, refl, ap, ◌∙◌, arith, inl, inr}
+use Rattle.std.proofs.Common.{◌≡◌, ℕ, suc, ◌<◌, ℤ, pos, negsuc, Bool, true, false, cond, not, ◌&&◌, ◌==◌, List, [], ◌∷◌, ◌++◌, map, codes, decimal, Option, Some, is_some, option_map, option_and_then, refl, ap, ◌∙◌, arith, inl, inr}
 use Rattle.std.specs.List.{list_all, join_with_byte, flat_map}
 use Rattle.std.specs.Fmt.{digits, signed_decimal}
-use Rattle.std.proofs.lemmas.Bool.{and_parts, and_from, not-true, false≢true}
+use Rattle.std.proofs.lemmas.Bool.{and_parts, not-true, false≢true}
 use Rattle.sb_lit.specs.declared.clause.Lit.{Lit}
 use Rattle.sb_word.specs.Literals.{hex_number_from}
 use Rattle.sb_class.specs.Ranges.{Range}
 use Rattle.sb_meaning.specs.Values.{Value, Text, Int, Truth}
-use Rattle.sb_rulebook.specs.Atoms.{Piece, constant_piece, word_piece, Variable, int_constant, length_of, Summand}
 use Rattle.sb_rulebook.specs.Lines.{Field, Class, hexadecimal, range_text, ranges_text, literal_text, piece_text, variable_text, summand_fields, class_text, value_text}
 use Rattle.sb_rulebook.specs.Reading.{is_text, split_at, each, number, hexadecimal_number, negative, integer, literal, characters, piece, variable, value, both, range, ranges, class, summands, one, around_colon, before_last_colon, has_pairs}
 use Rattle.sb_rulebook.specs.LineLaws.{is_small, are_small, is_small_integer, is_small_literal, is_small_piece, is_small_variable, is_small_summand, is_small_value, is_small_range, have_text, is_small_class}
-use Rattle.sb_rulebook.proofs.DigitFacts.{number-read, hexadecimal-read, is_free, free-append, decimal-free, hexadecimal-free, split-joined, all-free}
+use Rattle.sb_rulebook.proofs.ListFacts.{all-cons, all-append, all-map}
+use Rattle.sb_rulebook.proofs.DigitFacts.{number-read, hexadecimal-read, is_other, is_free, decimal-free, hexadecimal-free, split-joined}
+use Rattle.sb_script.specs.Pieces.{Piece, constant_piece, word_piece}
+use Rattle.sb_script.specs.Sums.{Variable, int_constant, length_of, Summand}
 
 -- Fields.
 
@@ -57,49 +59,35 @@ both-read first second f g x y one other = ap (option_and_then (λ u. option_map
 
 -- Separators.
 
-pub free-cons : (c b : ℕ) (bs : Field) → not (b == c) ≡ true → is_free c bs ≡ true → is_free c (b ∷ bs) ≡ true
-free-cons c b bs first rest = and_from (not (b == c)) (is_free c bs) first rest
+pub all-joined : (test : ℕ → Bool) (separator : ℕ) (fs : List Field) → test separator ≡ true
+    → list_all (list_all test) fs ≡ true → list_all test (join_with_byte separator fs) ≡ true
+all-joined test separator [] other all = refl
+all-joined test separator (f ∷ []) other all = (and_parts (list_all test f) true all).0
+all-joined test separator (f ∷ g ∷ fs) other all =
+    let parts = and_parts (list_all test f) (list_all (list_all test) (g ∷ fs)) all in
+    all-append test f (separator ∷ join_with_byte separator (g ∷ fs)) parts.0
+    (all-cons test separator (join_with_byte separator (g ∷ fs)) other
+    (all-joined test separator (g ∷ fs) other parts.1))
 
-pub all-cons : (c : ℕ) (f : Field) (fs : List Field) → is_free c f ≡ true → list_all (is_free c) fs ≡ true
-    → list_all (is_free c) (f ∷ fs) ≡ true
-all-cons c f fs first rest = and_from (is_free c f) (list_all (is_free c) fs) first rest
+all-range : (test : ℕ → Bool) → ((n : ℕ) → list_all test (hexadecimal n) ≡ true) → test 45 ≡ true → (r : Range)
+    → list_all test (range_text r) ≡ true
+all-range test digits_pass minus_passes r =
+    all-append test (hexadecimal r.0) (45 ∷ hexadecimal r.1) (digits_pass r.0)
+    (all-cons test 45 (hexadecimal r.1) minus_passes (digits_pass r.1))
 
-pub all-append : (c : ℕ) (fs gs : List Field) → list_all (is_free c) fs ≡ true → list_all (is_free c) gs ≡ true
-    → list_all (is_free c) (fs ++ gs) ≡ true
-all-append c [] gs first second = second
-all-append c (f ∷ fs) gs first second =
-    let parts = and_parts (is_free c f) (list_all (is_free c) fs) first in
-    all-cons c f (fs ++ gs) parts.0 (all-append c fs gs parts.1 second)
-
-pub free-joined : (c separator : ℕ) (fs : List Field) → not (separator == c) ≡ true → list_all (is_free c) fs ≡ true
-    → is_free c (join_with_byte separator fs) ≡ true
-free-joined c separator [] other all = refl
-free-joined c separator (f ∷ []) other all = (and_parts (is_free c f) true all).0
-free-joined c separator (f ∷ g ∷ fs) other all =
-    let parts = and_parts (is_free c f) (list_all (is_free c) (g ∷ fs)) all in
-    free-append c f (separator ∷ join_with_byte separator (g ∷ fs)) parts.0
-    (free-cons c separator (join_with_byte separator (g ∷ fs)) other
-    (free-joined c separator (g ∷ fs) other parts.1))
-
--- a separator of fields or of parts of them, which is no digit of a hexadecimal number and no minus
-range-free : (c : ℕ) → (c < 48) ⊎ ((57 < c) × (c < 97)) → not (45 == c) ≡ true → (r : Range)
-    → is_free c (range_text r) ≡ true
-range-free c outside other r =
-    free-append c (hexadecimal r.0) (45 ∷ hexadecimal r.1) (hexadecimal-free c r.0 outside)
-    (free-cons c 45 (hexadecimal r.1) other (hexadecimal-free c r.1 outside))
-
-pub ranges-free : (c : ℕ) → (c < 48) ⊎ ((57 < c) × (c < 97)) → not (45 == c) ≡ true → not (44 == c) ≡ true
-    → (rs : List Range) → is_free c (ranges_text rs) ≡ true
-ranges-free c outside other another rs =
-    free-joined c 44 (map range_text rs) another (all-free c range_text (range-free c outside other) rs)
+pub all-ranges : (test : ℕ → Bool) → ((n : ℕ) → list_all test (hexadecimal n) ≡ true) → test 45 ≡ true
+    → test 44 ≡ true → (rs : List Range) → list_all test (ranges_text rs) ≡ true
+all-ranges test digits_pass minus_passes comma_passes rs =
+    all-joined test 44 (map range_text rs) comma_passes
+    (all-map (list_all test) range_text (all-range test digits_pass minus_passes) rs)
 
 range-read : (r : Range) → is_small_range r ≡ true → range (range_text r) ≡ Some r
 range-read r small =
     let parts = and_parts (is_small r.0) (is_small r.1) small in
     ap (both hexadecimal_number hexadecimal_number)
     (split-joined 45 (hexadecimal r.0) (hexadecimal r.1 ∷ [])
-    (all-cons 45 (hexadecimal r.0) (hexadecimal r.1 ∷ []) (hexadecimal-free 45 r.0 (inl (omega arith)))
-    (all-cons 45 (hexadecimal r.1) [] (hexadecimal-free 45 r.1 (inl (omega arith))) refl)))
+    (all-cons (is_free 45) (hexadecimal r.0) (hexadecimal r.1 ∷ []) (hexadecimal-free 45 r.0 (inl (omega arith)))
+    (all-cons (is_free 45) (hexadecimal r.1) [] (hexadecimal-free 45 r.1 (inl (omega arith))) refl)))
     ∙ both-read hexadecimal_number hexadecimal_number (hexadecimal r.0) (hexadecimal r.1) r.0 r.1
     (hexadecimal-read r.0 parts.0) (hexadecimal-read r.1 parts.1)
 
@@ -107,7 +95,8 @@ pub ranges-read : (rs : List Range) → have_text rs ≡ true → ranges (ranges
 ranges-read [] small = absurd (false≢true small)
 ranges-read (r ∷ rs) small =
     ap (each range) (split-joined 44 (range_text r) (map range_text rs)
-    (all-free 44 range_text (range-free 44 (inl (omega arith)) refl) (r ∷ rs)))
+    (all-map (is_free 44) range_text
+    (all-range (is_other 44) (λ n. hexadecimal-free 44 n (inl (omega arith))) refl) (r ∷ rs)))
     ∙ each-read range range_text is_small_range range-read (r ∷ rs) small
 
 pub class-read : (k : Class) → is_small_class k ≡ true → class (class_text k) ≡ Some k
@@ -115,8 +104,9 @@ class-read k small =
     let parts = and_parts (have_text k.0) (is_small k.1) small in
     ap (both ranges number)
     (split-joined 62 (ranges_text k.0) (decimal k.1 ∷ [])
-    (all-cons 62 (ranges_text k.0) (decimal k.1 ∷ []) (ranges-free 62 (inr (omega arith, omega arith)) refl refl k.0)
-    (all-cons 62 (decimal k.1) [] (decimal-free 62 k.1 (inr (omega arith))) refl)))
+    (all-cons (is_free 62) (ranges_text k.0) (decimal k.1 ∷ [])
+    (all-ranges (is_other 62) (λ n. hexadecimal-free 62 n (inr (omega arith, omega arith))) refl refl k.0)
+    (all-cons (is_free 62) (decimal k.1) [] (decimal-free 62 k.1 (inr (omega arith))) refl)))
     ∙ both-read ranges number (ranges_text k.0) (decimal k.1) k.0 k.1 (ranges-read k.0 parts.0)
     (number-read k.1 parts.1)
 
@@ -156,16 +146,21 @@ characters-read (c ∷ w) small =
     (hexadecimal-filled c (and_parts (is_small c) (are_small w) small).0))
     ∙ ap (each hexadecimal_number)
     (split-joined 46 (hexadecimal c) (map hexadecimal w)
-    (all-free 46 hexadecimal (λ n. hexadecimal-free 46 n (inl (omega arith))) (c ∷ w)))
+    (all-map (is_free 46) hexadecimal (λ n. hexadecimal-free 46 n (inl (omega arith))) (c ∷ w)))
     ∙ each-read hexadecimal_number hexadecimal is_small hexadecimal-read (c ∷ w) small
 
 pub piece-read : (p : Piece) → is_small_piece p ≡ true → piece (piece_text p) ≡ Some p
 piece-read (constant_piece serial) small = ap (option_map constant_piece) (number-read serial small)
 piece-read (word_piece w) small = ap (option_map word_piece) (characters-read w small)
 
-pub signed-free : (c : ℕ) → (c < 48) ⊎ (57 < c) → not (45 == c) ≡ true → (z : ℤ) → is_free c (signed_decimal z) ≡ true
-signed-free c outside other (pos n) = decimal-free c n outside
-signed-free c outside other (negsuc n) = free-cons c 45 (decimal (suc n)) other (decimal-free c (suc n) outside)
+pub all-signed : (test : ℕ → Bool) → ((n : ℕ) → list_all test (decimal n) ≡ true) → test 45 ≡ true → (z : ℤ)
+    → list_all test (signed_decimal z) ≡ true
+all-signed test digits_pass minus_passes (pos n) = digits_pass n
+all-signed test digits_pass minus_passes (negsuc n) =
+    all-cons test 45 (decimal (suc n)) minus_passes (digits_pass (suc n))
+
+signed-free : (c : ℕ) → 57 < c → is_other c 45 ≡ true → (z : ℤ) → is_free c (signed_decimal z) ≡ true
+signed-free c outside other = all-signed (is_other c) (λ n. decimal-free c n (inr outside)) other
 
 value-plain : (f : Field) → is_free 116 f ≡ true → is_free 102 f ≡ true → is_free 119 f ≡ true
     → value f ≡ option_map Int (integer f)
@@ -183,8 +178,8 @@ value-plain (b ∷ bs) t f w =
 pub value-read : (x : Value) → is_small_value x ≡ true → value (value_text x) ≡ Some x
 value-read (Text w) small = ap (option_map Text) (characters-read w small)
 value-read (Int z) small =
-    value-plain (signed_decimal z) (signed-free 116 (inr (omega arith)) refl z)
-    (signed-free 102 (inr (omega arith)) refl z) (signed-free 119 (inr (omega arith)) refl z)
+    value-plain (signed_decimal z) (signed-free 116 (omega arith) refl z)
+    (signed-free 102 (omega arith) refl z) (signed-free 119 (omega arith) refl z)
     ∙ ap (option_map Int) (integer-read z small)
 value-read (Truth true) small = refl
 value-read (Truth false) small = refl

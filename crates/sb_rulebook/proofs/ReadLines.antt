@@ -1,17 +1,21 @@
 -- The text of each kind of line is read as the line.
-use Rattle.std.proofs.Common.{◌≡◌, ℕ, Bool, true, false, cond, ◌&&◌, List, [], ◌∷◌, ◌++◌, map, codes, decimal, Option, Some, None, option_map, option_and_then, ok_or, Result, Ok, Err, refl, ap, ◌∙◌, arith, inl}
+use Rattle.std.proofs.Common.{◌≡◌, ℕ, ◌≤◌, Bool, true, false, cond, ◌&&◌, List, [], ◌∷◌, ◌++◌, map, codes, decimal, Option, Some, None, option_map, option_and_then, ok_or, Result, Ok, Err, refl, ap, ◌∙◌, arith}
 use Rattle.std.specs.List.{list_all, join_with_byte, flat_map}
 use Rattle.std.specs.Fmt.{signed_decimal}
 use Rattle.std.proofs.lemmas.Bool.{and_parts, false≢true}
 use Rattle.sb_lit.specs.declared.clause.Lit.{Lit}
 use Rattle.sb_meaning.specs.Values.{Value, Text, Int, Truth}
 use Rattle.sb_rulebook.specs.Refusals.{Refusal, bad_word, bad_number}
-use Rattle.sb_rulebook.specs.Atoms.{AtomOver, bool_atom, in_atom, le_atom, sum_atom, and_atom, iff_atom, Piece, constant_piece, word_piece, Variable, int_constant, length_of, Summand}
+use Rattle.sb_rulebook.specs.Atoms.{AtomOver, bool_atom, in_atom, le_atom, sum_atom, and_atom, iff_atom}
+use Rattle.sb_rulebook.specs.Brought.{newest_format, has_rests}
 use Rattle.sb_rulebook.specs.Lines.{Field, Line, header_line, regex_line, atom_line, expansion_line, dead_line, assertion_line, rule_line, learned_line, verdict_line, end_line, Node, none_node, eps_node, set_node, cat_node, alt_node, and_node, not_node, star_node, rep_node, path_node, Class, Rule, gate, order, linear, step, empty, Said, said_sat, said_unsat, said_unknown, said_unsupported, hexadecimal, ranges_text, word_text, literal_text, piece_text, variable_text, summand_fields, class_text, value_text, node_fields, atom_fields, said_fields, fields_of}
-use Rattle.sb_rulebook.specs.Reading.{split_at, each, number, integer, literal, piece, variable, value, both, ranges, class, summands, one, two, any_number, some, membership_of, membership, learned_of, learned, sum_of, sum, made, line_of_fields}
-use Rattle.sb_rulebook.specs.LineLaws.{is_small, are_small, is_small_integer, is_small_literal, is_small_piece, is_small_variable, is_small_value, is_small_class, node_has_text, some_summands, atom_has_text, said_has_text, has_text, TextIsRead}
-use Rattle.sb_rulebook.proofs.DigitFacts.{number-read, is_free, free-append, decimal-free, hexadecimal-free, split-joined, all-free}
-use Rattle.sb_rulebook.proofs.ReadFacts.{integer-read, literal-read, variable-read, each-read, both-read, ranges-read, class-read, piece-read, value-read, summands-read, pairs-there, last-colon, first-colon, free-cons, all-cons, all-append, free-joined, ranges-free, signed-free}
+use Rattle.sb_rulebook.specs.Reading.{split_at, each, number, integer, literal, piece, variable, value, both, ranges, class, summands, one, two, any_number, some, is_colon, membership_of, membership, learned_of, learned, refutation_of, sum_of, sum, made, line_of_fields}
+use Rattle.sb_rulebook.specs.LineLaws.{is_small, are_small, is_small_integer, is_small_literal, is_small_piece, is_small_variable, is_small_value, is_small_class, node_has_text, some_summands, atom_has_text, said_has_text, has_text, TextIsRead, TextIsOneLine}
+use Rattle.sb_rulebook.proofs.ListFacts.{all-cons, all-append, all-map}
+use Rattle.sb_rulebook.proofs.DigitFacts.{number-read, is_other, is_free, is_visible, are_visible, visible-free, decimal-visible, hexadecimal-visible, split-joined}
+use Rattle.sb_rulebook.proofs.ReadFacts.{integer-read, literal-read, variable-read, each-read, both-read, ranges-read, class-read, piece-read, value-read, summands-read, pairs-there, last-colon, first-colon, all-joined, all-ranges, all-signed}
+use Rattle.sb_script.specs.Pieces.{Piece, constant_piece, word_piece}
+use Rattle.sb_script.specs.Sums.{Variable, int_constant, length_of, Summand}
 
 -- What follows a word.
 
@@ -144,13 +148,28 @@ learned-read ls ids small others =
     bad_number) (literals-read ls small)
     ∙ ap (λ o. ok_or (option_map (learned_line ls) o) bad_number) (numbers-read ids others)
 
+-- by whether the format has places
+places-read : (there : Bool) (id : ℕ) (places : List ℕ) → there ≡ true → (is_small id && are_small places) ≡ true
+    → cond (there && is_colon (codes ":")) (ok_or (refutation_of (decimal id) (map decimal places)) bad_number)
+    (Err bad_word) ≡ Ok (said_unsat id (Some places))
+places-read false id places there small = absurd (false≢true there)
+places-read true id places there small =
+    let parts = and_parts (is_small id) (are_small places) small in
+    ap (λ o. ok_or (option_and_then
+    (λ n. option_map (λ ns. said_unsat n (Some ns)) (each number (map decimal places))) o) bad_number)
+    (number-read id parts.0)
+    ∙ ap (λ o. ok_or (option_map (λ ns. said_unsat id (Some ns)) o) bad_number) (numbers-read places parts.1)
+
 said-read : (s : Said) → said_has_text s ≡ true → line_of_fields (fields_of (verdict_line s)) ≡ Ok (verdict_line s)
 said-read (said_sat values) small =
     ap (made verdict_line)
     (any-read value said_sat (map value_text values) values
     (each-read value value_text is_small_value value-read values small))
-said-read (said_unsat id) small =
-    ap (made verdict_line) (one-read number said_unsat (decimal id) id (number-read id small))
+said-read (said_unsat id None) small =
+    ap (made verdict_line) (ap (λ o. ok_or (option_map (λ n. said_unsat n None) o) bad_number) (number-read id small))
+said-read (said_unsat id (Some places)) small =
+    let parts = and_parts (has_rests newest_format) (is_small id && are_small places) small in
+    ap (made verdict_line) (places-read (has_rests newest_format) id places parts.0 parts.1)
 said-read (said_unknown limit) small =
     ap (made verdict_line) (one-read number said_unknown (decimal limit) limit (number-read limit small))
 said-read said_unsupported small = refl
@@ -176,122 +195,130 @@ fields-read (learned_line ls ids) small =
 fields-read (verdict_line s) small = said-read s small
 fields-read end_line small = refl
 
--- No field has a space.
+-- No field has a space, or a line feed.
 
-number-free : (n : ℕ) → is_free 32 (decimal n) ≡ true
-number-free n = decimal-free 32 n (inl (omega arith))
+numbers-visible : (ns : List ℕ) → list_all are_visible (map decimal ns) ≡ true
+numbers-visible = all-map are_visible decimal decimal-visible
 
-numbers-free : (ns : List ℕ) → list_all (is_free 32) (map decimal ns) ≡ true
-numbers-free = all-free 32 decimal number-free
+integer-visible : (z : _) → are_visible (signed_decimal z) ≡ true
+integer-visible = all-signed is_visible decimal-visible refl
 
-integer-free : (z : _) → is_free 32 (signed_decimal z) ≡ true
-integer-free = signed-free 32 (inl (omega arith)) refl
-
-literal-free : (l : Lit) → is_free 32 (literal_text l) ≡ true
-literal-free l = step l.positive
+literal-visible : (l : Lit) → are_visible (literal_text l) ≡ true
+literal-visible l = step l.positive
   where
-    step : (b : Bool) → is_free 32 (cond b 43 45 ∷ decimal l.atom) ≡ true
-    step true = free-cons 32 43 (decimal l.atom) refl (number-free l.atom)
-    step false = free-cons 32 45 (decimal l.atom) refl (number-free l.atom)
+    step : (b : Bool) → are_visible (cond b 43 45 ∷ decimal l.atom) ≡ true
+    step true = all-cons is_visible 43 (decimal l.atom) refl (decimal-visible l.atom)
+    step false = all-cons is_visible 45 (decimal l.atom) refl (decimal-visible l.atom)
 
-literals-free : (ls : List Lit) → list_all (is_free 32) (map literal_text ls) ≡ true
-literals-free = all-free 32 literal_text literal-free
+literals-visible : (ls : List Lit) → list_all are_visible (map literal_text ls) ≡ true
+literals-visible = all-map are_visible literal_text literal-visible
 
-word-free : (w : List ℕ) → is_free 32 (word_text w) ≡ true
-word-free w = free-cons 32 119 (join_with_byte 46 (map hexadecimal w)) refl
-    (free-joined 32 46 (map hexadecimal w) refl
-    (all-free 32 hexadecimal (λ n. hexadecimal-free 32 n (inl (omega arith))) w))
+word-visible : (w : List ℕ) → are_visible (word_text w) ≡ true
+word-visible w = all-cons is_visible 119 (join_with_byte 46 (map hexadecimal w)) refl
+    (all-joined is_visible 46 (map hexadecimal w) refl (all-map are_visible hexadecimal hexadecimal-visible w))
 
-piece-free : (p : Piece) → is_free 32 (piece_text p) ≡ true
-piece-free (constant_piece serial) = free-cons 32 118 (decimal serial) refl (number-free serial)
-piece-free (word_piece w) = word-free w
+piece-visible : (p : Piece) → are_visible (piece_text p) ≡ true
+piece-visible (constant_piece serial) = all-cons is_visible 118 (decimal serial) refl (decimal-visible serial)
+piece-visible (word_piece w) = word-visible w
 
-variable-free : (x : Variable) → is_free 32 (variable_text x) ≡ true
-variable-free (int_constant serial) = free-cons 32 105 (decimal serial) refl (number-free serial)
-variable-free (length_of serial) = free-cons 32 108 (decimal serial) refl (number-free serial)
+variable-visible : (x : Variable) → are_visible (variable_text x) ≡ true
+variable-visible (int_constant serial) = all-cons is_visible 105 (decimal serial) refl (decimal-visible serial)
+variable-visible (length_of serial) = all-cons is_visible 108 (decimal serial) refl (decimal-visible serial)
 
-set-free : (rs : _) → is_free 32 (ranges_text rs) ≡ true
-set-free = ranges-free 32 (inl (omega arith)) refl refl
+set-visible : (rs : _) → are_visible (ranges_text rs) ≡ true
+set-visible = all-ranges is_visible hexadecimal-visible refl refl
 
-class-free : (k : Class) → is_free 32 (class_text k) ≡ true
-class-free k = free-append 32 (ranges_text k.0) (62 ∷ decimal k.1) (set-free k.0)
-    (free-cons 32 62 (decimal k.1) refl (number-free k.1))
+class-visible : (k : Class) → are_visible (class_text k) ≡ true
+class-visible k = all-append is_visible (ranges_text k.0) (62 ∷ decimal k.1) (set-visible k.0)
+    (all-cons is_visible 62 (decimal k.1) refl (decimal-visible k.1))
 
-value-free : (x : Value) → is_free 32 (value_text x) ≡ true
-value-free (Text w) = word-free w
-value-free (Int z) = integer-free z
-value-free (Truth true) = refl
-value-free (Truth false) = refl
+value-visible : (x : Value) → are_visible (value_text x) ≡ true
+value-visible (Text w) = word-visible w
+value-visible (Int z) = integer-visible z
+value-visible (Truth true) = refl
+value-visible (Truth false) = refl
 
-summands-free : (ss : List Summand) → list_all (is_free 32) (flat_map summand_fields ss) ≡ true
-summands-free [] = refl
-summands-free (s ∷ ss) =
-    all-cons 32 (signed_decimal s.0) (variable_text s.1 ∷ flat_map summand_fields ss) (integer-free s.0)
-    (all-cons 32 (variable_text s.1) (flat_map summand_fields ss) (variable-free s.1) (summands-free ss))
+summands-visible : (ss : List Summand) → list_all are_visible (flat_map summand_fields ss) ≡ true
+summands-visible [] = refl
+summands-visible (s ∷ ss) =
+    all-cons are_visible (signed_decimal s.0) (variable_text s.1 ∷ flat_map summand_fields ss) (integer-visible s.0)
+    (all-cons are_visible (variable_text s.1) (flat_map summand_fields ss) (variable-visible s.1) (summands-visible ss))
 
-node-free : (n : Node) → list_all (is_free 32) (node_fields n) ≡ true
-node-free none_node = refl
-node-free eps_node = refl
-node-free (set_node rs) = all-cons 32 (ranges_text rs) [] (set-free rs) refl
-node-free (cat_node a b) = numbers-free (a ∷ b ∷ [])
-node-free (alt_node ids) = numbers-free ids
-node-free (and_node ids) = numbers-free ids
-node-free (not_node a) = numbers-free (a ∷ [])
-node-free (star_node a) = numbers-free (a ∷ [])
-node-free (rep_node a n m) = numbers-free (a ∷ n ∷ m ∷ [])
-node-free (path_node a b) = numbers-free (a ∷ b ∷ [])
+node-visible : (n : Node) → list_all are_visible (node_fields n) ≡ true
+node-visible none_node = refl
+node-visible eps_node = refl
+node-visible (set_node rs) = all-cons are_visible (ranges_text rs) [] (set-visible rs) refl
+node-visible (cat_node a b) = numbers-visible (a ∷ b ∷ [])
+node-visible (alt_node ids) = numbers-visible ids
+node-visible (and_node ids) = numbers-visible ids
+node-visible (not_node a) = numbers-visible (a ∷ [])
+node-visible (star_node a) = numbers-visible (a ∷ [])
+node-visible (rep_node a n m) = numbers-visible (a ∷ n ∷ m ∷ [])
+node-visible (path_node a b) = numbers-visible (a ∷ b ∷ [])
 
-atom-free : (a : AtomOver ℕ) → list_all (is_free 32) (atom_fields a) ≡ true
-atom-free (bool_atom serial) = numbers-free (serial ∷ [])
-atom-free (in_atom ps r) =
-    all-append 32 (map piece_text ps) (codes ":" ∷ decimal r ∷ []) (all-free 32 piece_text piece-free ps)
-    (numbers-free (r ∷ []))
-atom-free (le_atom x k) =
-    all-cons 32 (variable_text x) (signed_decimal k ∷ []) (variable-free x)
-    (all-cons 32 (signed_decimal k) [] (integer-free k) refl)
-atom-free (sum_atom k ss) =
-    all-cons 32 (signed_decimal k) (flat_map summand_fields ss) (integer-free k) (summands-free ss)
-atom-free (and_atom ls) = literals-free ls
-atom-free (iff_atom l m) = literals-free (l ∷ m ∷ [])
+atom-visible : (a : AtomOver ℕ) → list_all are_visible (atom_fields a) ≡ true
+atom-visible (bool_atom serial) = numbers-visible (serial ∷ [])
+atom-visible (in_atom ps r) =
+    all-append are_visible (map piece_text ps) (codes ":" ∷ decimal r ∷ [])
+    (all-map are_visible piece_text piece-visible ps)
+    (numbers-visible (r ∷ []))
+atom-visible (le_atom x k) =
+    all-cons are_visible (variable_text x) (signed_decimal k ∷ []) (variable-visible x)
+    (all-cons are_visible (signed_decimal k) [] (integer-visible k) refl)
+atom-visible (sum_atom k ss) =
+    all-cons are_visible (signed_decimal k) (flat_map summand_fields ss) (integer-visible k) (summands-visible ss)
+atom-visible (and_atom ls) = literals-visible ls
+atom-visible (iff_atom l m) = literals-visible (l ∷ m ∷ [])
 
-rule-free : (rule : Rule) (ls : List Lit) → list_all (is_free 32) (fields_of (rule_line rule ls)) ≡ true
-rule-free gate ls = literals-free ls
-rule-free order ls = literals-free ls
-rule-free linear ls = literals-free ls
-rule-free step ls = literals-free ls
-rule-free empty ls = literals-free ls
+rule-visible : (rule : Rule) (ls : List Lit) → list_all are_visible (fields_of (rule_line rule ls)) ≡ true
+rule-visible gate ls = literals-visible ls
+rule-visible order ls = literals-visible ls
+rule-visible linear ls = literals-visible ls
+rule-visible step ls = literals-visible ls
+rule-visible empty ls = literals-visible ls
 
-said-free : (s : Said) → list_all (is_free 32) (said_fields s) ≡ true
-said-free (said_sat values) = all-free 32 value_text value-free values
-said-free (said_unsat id) = numbers-free (id ∷ [])
-said-free (said_unknown limit) = numbers-free (limit ∷ [])
-said-free said_unsupported = refl
+said-visible : (s : Said) → list_all are_visible (said_fields s) ≡ true
+said-visible (said_sat values) = all-map are_visible value_text value-visible values
+said-visible (said_unsat id None) = numbers-visible (id ∷ [])
+said-visible (said_unsat id (Some places)) =
+    all-cons are_visible (decimal id) (codes ":" ∷ map decimal places) (decimal-visible id) (numbers-visible places)
+said-visible (said_unknown limit) = numbers-visible (limit ∷ [])
+said-visible said_unsupported = refl
 
-fields-free : (line : Line) → list_all (is_free 32) (fields_of line) ≡ true
-fields-free (header_line format) = numbers-free (format ∷ [])
-fields-free (regex_line n) = node-free n
-fields-free (atom_line a) = atom-free a
-fields-free (expansion_line r ks) =
-    all-cons 32 (decimal r) (map class_text ks) (number-free r) (all-free 32 class_text class-free ks)
-fields-free (dead_line ids) = numbers-free ids
-fields-free (assertion_line place l) =
-    all-cons 32 (decimal place) (literal_text l ∷ []) (number-free place) (literals-free (l ∷ []))
-fields-free (rule_line rule ls) = rule-free rule ls
-fields-free (learned_line ls ids) =
-    all-append 32 (map literal_text ls) (codes ":" ∷ map decimal ids) (literals-free ls) (numbers-free ids)
-fields-free (verdict_line s) = said-free s
-fields-free end_line = refl
+fields-visible : (line : Line) → list_all are_visible (fields_of line) ≡ true
+fields-visible (header_line format) = numbers-visible (format ∷ [])
+fields-visible (regex_line n) = node-visible n
+fields-visible (atom_line a) = atom-visible a
+fields-visible (expansion_line r ks) =
+    all-cons are_visible (decimal r) (map class_text ks) (decimal-visible r)
+    (all-map are_visible class_text class-visible ks)
+fields-visible (dead_line ids) = numbers-visible ids
+fields-visible (assertion_line place l) =
+    all-cons are_visible (decimal place) (literal_text l ∷ []) (decimal-visible place) (literals-visible (l ∷ []))
+fields-visible (rule_line rule ls) = rule-visible rule ls
+fields-visible (learned_line ls ids) =
+    all-append are_visible (map literal_text ls) (codes ":" ∷ map decimal ids) (literals-visible ls)
+    (numbers-visible ids)
+fields-visible (verdict_line s) = said-visible s
+fields-visible end_line = refl
 
 -- each line has a field
 begins : List Field → Bool
 begins [] = false
 begins (f ∷ fs) = true
 
-fields-split : (fs : List Field) → begins fs ≡ true → list_all (is_free 32) fs ≡ true
+fields-free : (c : ℕ) (fs : List Field) → c ≤ 32 → list_all are_visible fs ≡ true
+    → list_all (is_free c) fs ≡ true
+fields-free c [] low seen = refl
+fields-free c (f ∷ fs) low seen =
+    let parts = and_parts (are_visible f) (list_all are_visible fs) seen in
+    all-cons (is_free c) f fs (visible-free c f low parts.0) (fields-free c fs low parts.1)
+
+fields-split : (fs : List Field) → begins fs ≡ true → list_all are_visible fs ≡ true
     → split_at 32 (join_with_byte 32 fs) ≡ fs
 unfolding begins
-fields-split [] there free = absurd (false≢true there)
-fields-split (f ∷ fs) there free = split-joined 32 f fs free
+fields-split [] there seen = absurd (false≢true there)
+fields-split (f ∷ fs) there seen = split-joined 32 f fs (fields-free 32 (f ∷ fs) (omega arith) seen)
 
 begins-line : (line : Line) → begins (fields_of line) ≡ true
 unfolding begins
@@ -307,5 +334,10 @@ begins-line (verdict_line s) = refl
 begins-line end_line = refl
 
 pub text_is_read : TextIsRead
-text_is_read line small = ap line_of_fields (fields-split (fields_of line) (begins-line line) (fields-free line))
+text_is_read line small = ap line_of_fields (fields-split (fields_of line) (begins-line line) (fields-visible line))
     ∙ fields-read line small
+
+pub text_is_one_line : TextIsOneLine
+text_is_one_line line =
+    all-joined (is_other 10) 32 (fields_of line) refl
+    (fields-free 10 (fields_of line) (omega arith) (fields-visible line))

@@ -10,11 +10,14 @@ use Rattle.sb_lit.specs.declared.clause.Lit.{Lit}
 use Rattle.sb_word.specs.Literals.{hex_number_from}
 use Rattle.sb_meaning.specs.Values.{Value, Text, Int, Truth}
 use Rattle.sb_rulebook.specs.Refusals.{Refusal, bad_word, bad_number}
-use Rattle.sb_rulebook.specs.Atoms.{AtomOver, bool_atom, in_atom, le_atom, sum_atom, and_atom, iff_atom, constant_piece, word_piece, int_constant, length_of, Summand}
+use Rattle.sb_rulebook.specs.Atoms.{AtomOver, bool_atom, in_atom, le_atom, sum_atom, and_atom, iff_atom}
+use Rattle.sb_rulebook.specs.Brought.{newest_format, has_rests}
 use Rattle.sb_rulebook.specs.Lines.{Field, Line, header_line, regex_line, atom_line, expansion_line, dead_line, assertion_line, rule_line, learned_line, verdict_line, end_line, none_node, eps_node, set_node, cat_node, alt_node, and_node, not_node, star_node, rep_node, path_node, gate, order, linear, step, empty, said_sat, said_unsat, said_unknown, said_unsupported, hexadecimal, range_text, ranges_text, literal_text, piece_text, variable_text, summand_fields, class_text, value_text, node_fields, atom_fields, said_fields, fields_of}
-use Rattle.sb_rulebook.specs.Reading.{is_text, split_at, each, decimal_from, if_spelled, number, hexadecimal_number, negative, integer, literal, characters, piece, variable, value, both, range, ranges, class, summands, Reader, bare, one, two, three, any_number, some, is_colon, around_colon, before_last_colon, membership_of, membership, learned_of, learned, has_pairs, sum_of, sum, Table, by_table, nodes, atoms, clauses, verdicts, made, by_word, lines, line_of_fields}
+use Rattle.sb_rulebook.specs.Reading.{is_text, split_at, each, decimal_from, if_spelled, number, hexadecimal_number, negative, integer, literal, characters, piece, variable, value, both, range, ranges, class, summands, Reader, bare, one, two, three, any_number, some, is_colon, around_colon, before_last_colon, membership_of, membership, learned_of, learned, refutation_of, refutation, has_pairs, sum_of, sum, Table, by_table, nodes, atoms, clauses, verdicts, made, by_word, lines, line_of_fields}
 use Rattle.sb_rulebook.specs.LineLaws.{LineHasOneText, TextHasOneLine}
 use Rattle.sb_rulebook.specs.Follows.{RefusedLineLeavesKept}
+use Rattle.sb_script.specs.Pieces.{constant_piece, word_piece}
+use Rattle.sb_script.specs.Sums.{int_constant, length_of, Summand}
 
 -- What is known where an option or a result has a value.
 
@@ -358,6 +361,29 @@ learned_fits fs v h = step (around_colon fs) refl h
         (each_spells number decimal number_spells p.1 ids read_hints)
         ∙ ap (λ us. codes "c" ∷ codes "learn" ∷ us) (around fs p is)))
 
+refutation_fits : Fits said_fields (λ us. us) (codes "unsat", refutation)
+unfolding Fits Spells
+refutation_fits [] v h = no_ok bad_word v h
+refutation_fits (c ∷ []) v h =
+    after_map (λ id. said_unsat id None) (number c) v
+    (after_or (option_map (λ id. said_unsat id None) (number c)) bad_number v h) (λ id read same.
+    ap said_fields (sym same) ∙ ap (λ u. codes "unsat" ∷ u ∷ []) (number_spells c id read))
+refutation_fits (c ∷ f ∷ fs) v h = step (has_rests newest_format && is_colon f) refl h
+  where
+    step : (b : Bool) → (has_rests newest_format && is_colon f) ≡ b
+        → cond b (ok_or (refutation_of c fs) bad_number) (Err bad_word) ≡ Ok v
+        → said_fields v ≡ codes "unsat" ∷ c ∷ f ∷ fs
+    step false is same = no_ok bad_word v same
+    step true is same =
+        after_then (λ id. option_map (λ places. said_unsat id (Some places)) (each number fs)) (number c) v
+        (after_or (refutation_of c fs) bad_number v same) (λ id read rest.
+        after_map (λ places. said_unsat id (Some places)) (each number fs) v rest (λ places read_others made_so.
+        ap said_fields (sym made_so)
+        ∙ ap₂ (λ u us. codes "unsat" ∷ u ∷ codes ":" ∷ us) (number_spells c id read)
+        (each_spells number decimal number_spells fs places read_others)
+        ∙ ap (λ u. codes "unsat" ∷ c ∷ u ∷ fs)
+        (sym (text_same f (codes ":") (and_parts (has_rests newest_format) (is_colon f) is).1))))
+
 sum_fits : Fits atom_fields (λ us. us) (codes "sum", sum)
 unfolding Fits Spells
 sum_fits [] v h = no_ok bad_word v h
@@ -500,7 +526,7 @@ unfolding AllFit
 verdicts_fit = (
   any_fits said_fields (λ us. us) (codes "sat") value value_text said_sat value_spells (λ xs. refl),
   (
-    one_fits said_fields (λ us. us) (codes "unsat") number decimal said_unsat number_spells (λ x. refl),
+    refutation_fits,
     (
       one_fits said_fields (λ us. us) (codes "unknown") number decimal said_unknown number_spells (λ x. refl),
       (bare_fits said_fields (λ us. us) (codes "unsupported") said_unsupported refl, tt),

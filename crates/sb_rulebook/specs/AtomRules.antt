@@ -6,8 +6,10 @@ use Rattle.sb_lang.specs.Regex.{Regex}
 use Rattle.sb_meaning.specs.Terms.{Sort, boolean, integer, text}
 use Rattle.sb_meaning.specs.Sorts.{is_same_sort}
 use Rattle.sb_rulebook.specs.Refusals.{Refusal, unknown_id, repeated, not_normal}
-use Rattle.sb_rulebook.specs.Atoms.{Atom, AtomOver, bool_atom, in_atom, le_atom, sum_atom, and_atom, iff_atom, Piece, constant_piece, word_piece, Variable, int_constant, length_of, is_well_formed, is_same_atom}
+use Rattle.sb_rulebook.specs.Atoms.{Atom, AtomOver, bool_atom, in_atom, le_atom, sum_atom, and_atom, iff_atom, is_well_formed, is_same_atom}
 use Rattle.sb_rulebook.specs.Kept.{AllKept, Asked}
+use Rattle.sb_script.specs.Pieces.{Piece, constant_piece, word_piece}
+use Rattle.sb_script.specs.Sums.{Variable, int_constant, length_of}
 
 -- the literal's atom is in a table
 abbrev pub is_known : List Atom → Lit → Bool

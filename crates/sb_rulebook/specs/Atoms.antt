@@ -13,23 +13,8 @@ use Rattle.sb_lang.specs.Order.{regex_eq}
 use Rattle.sb_lang.specs.Language.{language}
 use Rattle.sb_meaning.specs.Terms.{boolean, integer, text}
 use Rattle.sb_meaning.specs.Values.{Valuation, Text, Int, Truth, value_in}
-
--- a piece of a concatenation
-pub data Piece : Type 0 where
-  -- a String constant, by its serial
-  constant_piece : ℕ → Piece
-  word_piece : List ℕ → Piece
-
--- what a bound speaks of
-pub data Variable : Type 0 where
-  -- an Int constant, by its serial
-  int_constant : ℕ → Variable
-  -- the length of a String constant, by its serial
-  length_of : ℕ → Variable
-
--- a number times a variable
-abbrev pub Summand : Type 0
-Summand = ℤ × Variable
+use Rattle.sb_script.specs.Pieces.{Piece, constant_piece, word_piece}
+use Rattle.sb_script.specs.Sums.{Variable, Summand, int_constant, length_of, serial_of, size_limit, is_within, is_same_variable}
 
 -- an atom, over what stands for a regex in it: its number in a line of a proof, else the regex itself
 pub data AtomOver (R : Type 0) : Type 0 where
@@ -49,18 +34,7 @@ pub data AtomOver (R : Type 0) : Type 0 where
 abbrev pub Atom : Type 0
 Atom = AtomOver Regex
 
-abbrev pub serial_of : Variable → ℕ
-serial_of (int_constant serial) = serial
-serial_of (length_of serial) = serial
-
 -- Which atoms are well formed.
-
-abbrev pub size_limit : ℤ
-size_limit = pos 0x7fffffff
-
--- the number is at most so far from 0
-abbrev pub is_within : ℤ → ℤ → Bool
-is_within limit n = int_le n limit && int_le (neg_ℤ limit) n
 
 -- no word is empty, and no two are adjacent
 abbrev pub are_pieces : List Piece → Bool
@@ -108,11 +82,6 @@ abbrev pub is_same_piece : Piece → Piece → Bool
 is_same_piece (constant_piece s) (constant_piece t) = s == t
 is_same_piece (word_piece v) (word_piece w) = is_word v w
 is_same_piece _ _ = false
-
-abbrev pub is_same_variable : Variable → Variable → Bool
-is_same_variable (int_constant s) (int_constant t) = s == t
-is_same_variable (length_of s) (length_of t) = s == t
-is_same_variable _ _ = false
 
 abbrev pub is_same_summand : Summand → Summand → Bool
 is_same_summand s t = int_eq s.0 t.0 && is_same_variable s.1 t.1

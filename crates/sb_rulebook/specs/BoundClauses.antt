@@ -2,9 +2,10 @@
 use Rattle.std.specs.Prelude.{ℤ, pos, ◌+ℤ◌, int_lt, int_le, Bool, true, false, not, ◌&&◌, ◌||◌, List, [], ◌∷◌, filter, Option, Some, None}
 use Rattle.std.specs.List.{list_all, list_any, flat_map}
 use Rattle.sb_lit.specs.declared.clause.Lit.{Lit}
-use Rattle.sb_rulebook.specs.Atoms.{Atom, le_atom, sum_atom, length_of, is_same_variable}
-use Rattle.sb_rulebook.specs.Bounds.{Bound, at_least, at_most, least_sum, greatest_sum}
+use Rattle.sb_rulebook.specs.Atoms.{Atom, le_atom, sum_atom}
 use Rattle.sb_rulebook.specs.Gates.{is_set_of, atom_of}
+use Rattle.sb_script.specs.Sums.{length_of, is_same_variable}
+use Rattle.sb_script.specs.Bounds.{Bound, at_least, at_most, least_sum, greatest_sum}
 
 -- Order: a lesser bound gives a greater one of the same variable; no length is below 0.
 

@@ -8,7 +8,7 @@ use Rattle.sb_rulebook.specs.Atoms.{Atom}
 use Rattle.sb_rulebook.specs.Translation.{translation}
 use Rattle.sb_rulebook.specs.Lines.{Rule, gate, order, linear, step, empty}
 use Rattle.sb_lit.specs.Hints.{Unlearned, unknown_hint, repeated_clause, idle_hint, not_by_hints, is_repeated, learned}
-use Rattle.sb_rulebook.specs.Kept.{AllKept, Asked, counting, with_clause}
+use Rattle.sb_rulebook.specs.Kept.{AllKept, Asked, counting, with_clause, rests_of_any}
 use Rattle.sb_rulebook.specs.AtomRules.{is_known, are_known}
 use Rattle.sb_rulebook.specs.Gates.{is_gate}
 use Rattle.sb_rulebook.specs.BoundClauses.{is_order, is_linear}
@@ -36,23 +36,24 @@ follows_rule asked kept rule clause =
     if not (are_known kept.atoms clause) then Err unknown_id
     else if is_counted rule && is_repeated kept.clauses clause then Err repeated
     else if not (are_ascending clause && holds_by kept rule clause) then Err rule_broken
-    else if is_counted rule then counting asked (with_clause kept clause 0)
-    else Ok (with_clause kept clause 0)
+    else if is_counted rule then counting asked (with_clause kept clause 0 [])
+    else Ok (with_clause kept clause 0 [])
 
--- The literal of a live assertion is a clause of the assertion's level.
+-- The literal of a live assertion is a clause of the assertion's level, and rests on it.
 abbrev pub is_translation : List Atom → Option Term → Lit → Bool
 is_translation atoms None l = false
 is_translation atoms (Some t) l = elim (translation atoms t) [ None ↦ false | Some m ↦ is_same_literal l m ]
 
-abbrev pub asserted : AllKept → Option Term × ℕ → Lit → Result AllKept Refusal
-asserted kept assertion l = if is_translation kept.atoms assertion.0 l then Ok (with_clause kept (l ∷ []) assertion.1)
+abbrev pub asserted : AllKept → ℕ → Option Term × ℕ → Lit → Result AllKept Refusal
+asserted kept place assertion l =
+    if is_translation kept.atoms assertion.0 l then Ok (with_clause kept (l ∷ []) assertion.1 (place ∷ []))
     else Err rule_broken
 
 abbrev pub follows_assertion : Asked → AllKept → ℕ → Lit → Result AllKept Refusal
 follows_assertion asked kept place l =
     elim (slice_get asked.live place) [
       | None ↦ Err unknown_id
-      | Some assertion ↦ if is_known kept.atoms l then asserted kept assertion l else Err unknown_id
+      | Some assertion ↦ if is_known kept.atoms l then asserted kept place assertion l else Err unknown_id
     ]
 
 -- the refusal of a clause that is not learned by its hints
@@ -62,9 +63,11 @@ refusal_of repeated_clause = repeated
 refusal_of idle_hint = hint_idle
 refusal_of not_by_hints = rule_broken
 
--- A learned clause has the greatest level of its hints.
+-- A learned clause has the greatest level of its hints, and rests on what they rest on.
 abbrev pub follows_learned : Asked → AllKept → List Lit → List ℕ → Result AllKept Refusal
 follows_learned asked kept clause ids =
     if not (are_known kept.atoms clause) then Err unknown_id
-    else elim (learned kept.clauses clause ids)
-    [ Err unlearned ↦ Err (refusal_of unlearned) | Ok level ↦ counting asked (with_clause kept clause level) ]
+    else elim (learned kept.clauses clause ids) [
+      | Err unlearned ↦ Err (refusal_of unlearned)
+      | Ok level ↦ counting asked (with_clause kept clause level (rests_of_any kept ids))
+    ]

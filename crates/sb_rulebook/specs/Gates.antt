@@ -4,7 +4,9 @@ use Rattle.std.specs.List.{list_any}
 use Rattle.sb_lit.specs.declared.clause.Lit.{Lit}
 use Rattle.sb_lit.specs.Clauses.{negation, is_among, are_among}
 use Rattle.sb_lang.specs.Constructors.{any_character, mkrep}
-use Rattle.sb_rulebook.specs.Atoms.{Atom, in_atom, le_atom, and_atom, iff_atom, constant_piece, length_of, is_same_atom}
+use Rattle.sb_rulebook.specs.Atoms.{Atom, in_atom, le_atom, and_atom, iff_atom, is_same_atom}
+use Rattle.sb_script.specs.Pieces.{constant_piece}
+use Rattle.sb_script.specs.Sums.{length_of}
 
 -- the clause is the set of these literals
 abbrev pub is_set_of : List Lit → List Lit → Bool

@@ -1,12 +1,14 @@
 -- Computed examples of lines: each kind with its text, and texts that are no lines.
-use Rattle.std.specs.Prelude.{◌≡◌, ℕ, pos, negsuc, true, false, List, [], ◌∷◌, codes, Ok, Err, refl}
+use Rattle.std.specs.Prelude.{◌≡◌, ℕ, pos, negsuc, true, false, List, [], ◌∷◌, codes, None, Ok, Err, refl}
 use Rattle.sb_meaning.specs.Values.{Text, Int, Truth}
 use Rattle.sb_rulebook.specs.Refusals.{bad_word, bad_number, unended}
-use Rattle.sb_rulebook.specs.Atoms.{bool_atom, in_atom, le_atom, sum_atom, and_atom, iff_atom, constant_piece, word_piece, int_constant, length_of}
+use Rattle.sb_rulebook.specs.Atoms.{bool_atom, in_atom, le_atom, sum_atom, and_atom, iff_atom}
 use Rattle.sb_rulebook.specs.Lines.{Line, header_line, regex_line, atom_line, expansion_line, dead_line, assertion_line, rule_line, learned_line, verdict_line, end_line, none_node, eps_node, set_node, cat_node, alt_node, and_node, not_node, star_node, rep_node, path_node, gate, order, linear, step, empty, said_sat, said_unsat, said_unknown, said_unsupported, text_of}
 use Rattle.sb_rulebook.specs.Reading.{line_of, texts_of, read}
 use Rattle.sb_rulebook.specs.ProofExamples.{computing}
 use Rattle.sb_rulebook.specs.TranslationExamples.{plus, minus}
+use Rattle.sb_script.specs.Pieces.{constant_piece, word_piece}
+use Rattle.sb_script.specs.Sums.{int_constant, length_of}
 
 -- the bytes are the line's text, and are read as the line
 abbrev IsText : List ℕ → Line → Type 0
@@ -137,7 +139,7 @@ sat_line : IsText (codes "v sat w t f -5 w61.62")
 unfolding computing
 sat_line = (refl, refl)
 
-unsat_line : IsText (codes "v unsat 3") (verdict_line (said_unsat 3))
+unsat_line : IsText (codes "v unsat 3") (verdict_line (said_unsat 3 None))
 unfolding computing
 unsat_line = (refl, refl)
 
@@ -178,6 +180,11 @@ another_rule = refl
 another_verdict : line_of (codes "v maybe") ≡ Err bad_word
 unfolding computing
 another_verdict = refl
+
+-- no format of these has places
+places_behind_a_colon : line_of (codes "v unsat 3 : 0") ≡ Err bad_word
+unfolding computing
+places_behind_a_colon = refl
 
 a_field_too_many : line_of (codes "r star 0 x") ≡ Err bad_word
 unfolding computing

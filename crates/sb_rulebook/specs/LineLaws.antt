@@ -1,12 +1,16 @@
 -- Laws of lines and their texts.
-use Rattle.std.specs.Prelude.{◌≡◌, ℕ, suc, ◌^◌, ℤ, pos, negsuc, Bool, true, false, ◌&&◌, nat_lt, List, [], ◌∷◌, Ok}
-use Rattle.std.specs.List.{list_all}
+use Rattle.std.specs.Prelude.{◌≡◌, ℕ, suc, ◌^◌, ℤ, pos, negsuc, Bool, true, false, not, ◌&&◌, ◌==◌, nat_lt, List, [], ◌∷◌, ◌++◌, map, Some, None, Ok}
+use Rattle.std.specs.List.{list_all, flat_map}
 use Rattle.sb_lit.specs.declared.clause.Lit.{Lit}
 use Rattle.sb_class.specs.Ranges.{Range}
 use Rattle.sb_meaning.specs.Values.{Value, Text, Int, Truth}
-use Rattle.sb_rulebook.specs.Atoms.{AtomOver, bool_atom, in_atom, le_atom, sum_atom, and_atom, iff_atom, Piece, constant_piece, word_piece, Variable, int_constant, length_of, Summand}
+use Rattle.sb_script.specs.Steps.{line}
+use Rattle.sb_rulebook.specs.Atoms.{AtomOver, bool_atom, in_atom, le_atom, sum_atom, and_atom, iff_atom}
 use Rattle.sb_rulebook.specs.Lines.{Line, header_line, regex_line, atom_line, expansion_line, dead_line, assertion_line, rule_line, learned_line, verdict_line, end_line, Node, none_node, eps_node, set_node, cat_node, alt_node, and_node, not_node, star_node, rep_node, path_node, Class, Said, said_sat, said_unsat, said_unknown, said_unsupported, text_of}
-use Rattle.sb_rulebook.specs.Reading.{line_of}
+use Rattle.sb_rulebook.specs.Brought.{newest_format, has_rests}
+use Rattle.sb_rulebook.specs.Reading.{line_of, LineText, texts_of, read}
+use Rattle.sb_script.specs.Pieces.{Piece, constant_piece, word_piece}
+use Rattle.sb_script.specs.Sums.{Variable, int_constant, length_of, Summand}
 
 -- A line is read from its text alone, so no two texts are one line.
 abbrev pub LineHasOneText : Type 0
@@ -87,7 +91,8 @@ atom_has_text (iff_atom l m) = is_small_literal l && is_small_literal m
 
 abbrev pub said_has_text : Said → Bool
 said_has_text (said_sat values) = list_all is_small_value values
-said_has_text (said_unsat id) = is_small id
+said_has_text (said_unsat id None) = is_small id
+said_has_text (said_unsat id (Some places)) = has_rests newest_format && (is_small id && are_small places)
 said_has_text (said_unknown limit) = is_small limit
 said_has_text said_unsupported = true
 
@@ -106,3 +111,35 @@ has_text end_line = true
 -- The text of such a line is read as the line.
 abbrev pub TextIsRead : Type 0
 TextIsRead = (line : Line) → has_text line ≡ true → line_of (text_of line) ≡ Ok line
+
+-- The lines of bytes.
+
+-- no byte of the text ends it
+abbrev pub is_one_line : List ℕ → Bool
+is_one_line text = list_all (λ b. not (b == 10)) text
+
+-- No byte of a line's text ends it.
+abbrev pub TextIsOneLine : Type 0
+TextIsOneLine = (line : Line) → is_one_line (text_of line) ≡ true
+
+-- texts, each with a line feed behind it
+abbrev pub bytes_of : List (List ℕ) → List ℕ
+bytes_of texts = flat_map line texts
+
+abbrev pub ended : List ℕ → LineText
+ended text = (text, true)
+
+-- The lines of such bytes are the texts, each ended, and the lines of the bytes behind them follow.
+abbrev pub TextsAreLines : Type 0
+TextsAreLines = (texts : List (List ℕ)) (more : List ℕ) → list_all is_one_line texts ≡ true
+    → texts_of (bytes_of texts ++ more) ≡ map ended texts ++ texts_of more
+
+-- The bytes of printed lines are read as the lines, one by one, and the bytes behind them as they are alone.
+abbrev pub PrintedLinesAreRead : Type 0
+PrintedLinesAreRead = (printed : List Line) (more : List ℕ) → list_all has_text printed ≡ true
+    → map read (texts_of (bytes_of (map text_of printed) ++ more)) ≡ map Ok printed ++ map read (texts_of more)
+
+-- The same where nothing stands behind them.
+abbrev pub PrintedProofIsRead : Type 0
+PrintedProofIsRead = (printed : List Line) → list_all has_text printed ≡ true
+    → map read (texts_of (bytes_of (map text_of printed))) ≡ map Ok printed

@@ -1,12 +1,14 @@
 -- The lines of a proof: what each says, by numbers, and its text. A line's fields have one space between. Regexes,
 -- atoms and clauses are numbered from 0, each kind by its own lines.
-use Rattle.std.specs.Prelude.{ℕ, true, false, if◌then◌else◌, List, [], ◌∷◌, ◌++◌, map, codes, decimal}
+use Rattle.std.specs.Prelude.{ℕ, true, false, if◌then◌else◌, List, [], ◌∷◌, ◌++◌, map, codes, decimal, Option, Some, None}
 use Rattle.std.specs.List.{join_with_byte, flat_map}
 use Rattle.std.specs.Fmt.{digits, signed_decimal}
 use Rattle.sb_lit.specs.declared.clause.Lit.{Lit}
 use Rattle.sb_class.specs.Ranges.{Range}
 use Rattle.sb_meaning.specs.Values.{Value, Text, Int, Truth}
-use Rattle.sb_rulebook.specs.Atoms.{AtomOver, bool_atom, in_atom, le_atom, sum_atom, and_atom, iff_atom, Piece, constant_piece, word_piece, Variable, int_constant, length_of, Summand}
+use Rattle.sb_rulebook.specs.Atoms.{AtomOver, bool_atom, in_atom, le_atom, sum_atom, and_atom, iff_atom}
+use Rattle.sb_script.specs.Pieces.{Piece, constant_piece, word_piece}
+use Rattle.sb_script.specs.Sums.{Variable, int_constant, length_of, Summand}
 
 -- a regex, with numbers in place of its parts
 pub data Node : Type 0 where
@@ -37,8 +39,8 @@ pub data Rule : Type 0 where
 pub data Said : Type 0 where
   -- with the values of the live constants, by serial
   said_sat : List Value → Said
-  -- with the number of a clause
-  said_unsat : ℕ → Said
+  -- with the number of a clause, and in some formats with the places of the assertions on which it rests
+  said_unsat : ℕ → Option (List ℕ) → Said
   -- with the limit
   said_unknown : ℕ → Said
   said_unsupported : Said
@@ -133,7 +135,8 @@ rule_text empty = codes "empty"
 
 abbrev pub said_fields : Said → List Field
 said_fields (said_sat values) = codes "sat" ∷ map value_text values
-said_fields (said_unsat id) = codes "unsat" ∷ decimal id ∷ []
+said_fields (said_unsat id None) = codes "unsat" ∷ decimal id ∷ []
+said_fields (said_unsat id (Some places)) = codes "unsat" ∷ decimal id ∷ codes ":" ∷ map decimal places
 said_fields (said_unknown limit) = codes "unknown" ∷ decimal limit ∷ []
 said_fields said_unsupported = codes "unsupported" ∷ []
 

@@ -1,7 +1,6 @@
 -- Computed examples of a whole proof, and of what becomes of it with one line changed.
-use Rattle.std.specs.Prelude.{◌≡◌, ℕ, ◌-◌, true, List, [], ◌∷◌, ◌++◌, codes, take, drop, Some, refl}
+use Rattle.std.specs.Prelude.{◌≡◌, ℕ, ◌-◌, true, List, [], ◌∷◌, ◌++◌, codes, take, drop, Some, None, refl}
 use Rattle.std.specs.Fmt.{digits}
-use Rattle.std.specs.List.{flat_map}
 use Rattle.sb_word.specs.Literals.{hex_value, hex_number_from}
 use Rattle.sb_class.specs.Ranges.{in_range, in_ranges, rises_from}
 use Rattle.sb_lang.specs.Regex.{regexes, parts}
@@ -18,8 +17,10 @@ use Rattle.sb_meaning.specs.Terms.{Term, text, constant, word, apply, no_terms, 
 use Rattle.sb_meaning.specs.Terms as symbol
 use Rattle.sb_rulebook.specs.Refusals.{bad_word, bad_number, unended, misplaced, unknown_id, repeated, not_normal, wrong_target, holds_empty_word, not_closed, hint_idle, rule_broken, wrong_verdict}
 use Rattle.sb_rulebook.specs.Lines.{said_unsat}
+use Rattle.sb_rulebook.specs.LineLaws.{bytes_of}
 use Rattle.sb_rulebook.specs.Verdicts.{Question}
-use Rattle.sb_rulebook.specs.Accepted.{asks, Outcome, accepted, refused, judged, answer}
+use Rattle.sb_rulebook.specs.Judging.{asks, Outcome, accepted, refused, judged}
+use Rattle.sb_rulebook.specs.Accepted.{answer}
 
 -- what the examples compute by
 unfoldable pub computing : Unit {0}
@@ -39,21 +40,25 @@ of_word w = apply symbol.str_to_re (with_term (word w) no_terms)
 abbrev member : Term → Term
 member R = apply symbol.str_in_re (with_term x (with_term R no_terms))
 
--- (assert (str.in_re x (re.* (str.to_re "a")))) (assert (str.in_re x (re.+ (str.to_re "b")))) (check-sat)
-abbrev question : Question
-question = record {
+-- (assert (str.in_re x (re.* (str.to_re "a")))) (assert (str.in_re x (re.+ (str.to_re "b")))) (check-sat), with the
+-- second assertion at a level, and a limit
+abbrev pub question_with : ℕ → ℕ → Question
+question_with level limit = record {
   asked = record {
     live = (Some (member (apply symbol.re_star (with_term (of_word (codes "a")) no_terms))), 0) ∷
-        (Some (member (apply symbol.re_plus (with_term (of_word (codes "b")) no_terms))), 0) ∷ [];
+        (Some (member (apply symbol.re_plus (with_term (of_word (codes "b")) no_terms))), level) ∷ [];
     sorts = text ∷ [];
-    limit = 0;
+    limit = limit;
   };
   constants = record { name = codes "x"; serial = 0; sort = text } ∷ [];
   assumptions = [];
   inside = true;
 }
 
-abbrev proof : List (List ℕ)
+abbrev pub question : Question
+question = question_with 0 0
+
+abbrev pub proof : List (List ℕ)
 proof =
     codes "strproof 1"
     ∷ codes "r set 61-61"
@@ -75,24 +80,18 @@ proof =
     ∷ codes "v unsat 3"
     ∷ codes "end" ∷ []
 
-abbrev ended : List ℕ → List ℕ
-ended bytes = bytes ++ 10 ∷ []
-
-abbrev bytes_of : List (List ℕ) → List ℕ
-bytes_of lines = flat_map ended lines
-
-abbrev judged_lines : List (List ℕ) → Outcome
+abbrev pub judged_lines : List (List ℕ) → Outcome
 judged_lines lines = judged (asks question ∷ []) (bytes_of lines)
 
 -- the proof with another line of this number
-abbrev changed : ℕ → List ℕ → List (List ℕ)
+abbrev pub changed : ℕ → List ℕ → List (List ℕ)
 changed n other = take (n - 1) proof ++ other ∷ drop n proof
 
 -- with a line of this number twice
 abbrev doubled : ℕ → List (List ℕ)
 doubled n = take n proof ++ drop (n - 1) proof
 
-the_proof : judged_lines proof ≡ accepted (said_unsat 3 ∷ [])
+the_proof : judged_lines proof ≡ accepted (said_unsat 3 None ∷ [])
 unfolding computing
 the_proof = refl
 
@@ -158,7 +157,7 @@ no_hint_that_is_false : judged_lines (changed 17 (codes "c learn : 0 1")) ≡ re
 unfolding computing
 no_hint_that_is_false = refl
 
-hints_in_another_order : judged_lines (changed 17 (codes "c learn : 0 2 1")) ≡ accepted (said_unsat 3 ∷ [])
+hints_in_another_order : judged_lines (changed 17 (codes "c learn : 0 2 1")) ≡ accepted (said_unsat 3 None ∷ [])
 unfolding computing
 hints_in_another_order = refl
 
@@ -174,13 +173,13 @@ a_clause_that_is_not_there : judged_lines (changed 18 (codes "v unsat 7")) ≡ r
 unfolding computing
 a_clause_that_is_not_there = refl
 
-a_verdict_twice : judged_lines (doubled 18) ≡ refused (said_unsat 3 ∷ []) 19 misplaced
+a_verdict_twice : judged_lines (doubled 18) ≡ refused (said_unsat 3 None ∷ []) 19 misplaced
 unfolding computing
 a_verdict_twice = refl
 
 -- the last line without its line feed
 no_line_feed : judged (asks question ∷ []) (bytes_of (take 18 proof) ++ codes "end")
-    ≡ refused (said_unsat 3 ∷ []) 19 unended
+    ≡ refused (said_unsat 3 None ∷ []) 19 unended
 unfolding computing
 no_line_feed = refl
 

@@ -8,8 +8,11 @@ use Rattle.sb_word.specs.Literals.{hex_number_from}
 use Rattle.sb_class.specs.Ranges.{Range}
 use Rattle.sb_meaning.specs.Values.{Value, Text, Int, Truth}
 use Rattle.sb_rulebook.specs.Refusals.{Refusal, bad_word, bad_number, unended}
-use Rattle.sb_rulebook.specs.Atoms.{AtomOver, bool_atom, in_atom, le_atom, sum_atom, and_atom, iff_atom, Piece, constant_piece, word_piece, Variable, int_constant, length_of, Summand}
+use Rattle.sb_rulebook.specs.Brought.{newest_format, has_rests}
+use Rattle.sb_rulebook.specs.Atoms.{AtomOver, bool_atom, in_atom, le_atom, sum_atom, and_atom, iff_atom}
 use Rattle.sb_rulebook.specs.Lines.{Field, Line, header_line, regex_line, atom_line, expansion_line, dead_line, assertion_line, rule_line, learned_line, verdict_line, end_line, Node, none_node, eps_node, set_node, cat_node, alt_node, and_node, not_node, star_node, rep_node, path_node, Class, gate, order, linear, step, empty, Said, said_sat, said_unsat, said_unknown, said_unsupported, hexadecimal}
+use Rattle.sb_script.specs.Pieces.{Piece, constant_piece, word_piece}
+use Rattle.sb_script.specs.Sums.{Variable, int_constant, length_of, Summand}
 
 abbrev pub is_text : Field → Field → Bool
 is_text a b = pointwise nat_eq a b
@@ -165,6 +168,17 @@ learned_of p = option_and_then (λ ls. option_map (learned_line ls) (each number
 abbrev pub learned : Reader Line
 learned fs = elim (around_colon fs) [ None ↦ Err bad_word | Some p ↦ ok_or (learned_of p) bad_number ]
 
+abbrev pub refutation_of : Field → List Field → Option Said
+refutation_of c fs =
+    option_and_then (λ id. option_map (λ places. said_unsat id (Some places)) (each number fs)) (number c)
+
+-- the number of a clause, and in some formats places behind a colon
+abbrev pub refutation : Reader Said
+refutation [] = Err bad_word
+refutation (c ∷ []) = ok_or (option_map (λ id. said_unsat id None) (number c)) bad_number
+refutation (c ∷ f ∷ fs) =
+    if has_rests newest_format && is_colon f then ok_or (refutation_of c fs) bad_number else Err bad_word
+
 -- a bound, and pairs of a factor and a variable, at least one
 abbrev pub has_pairs : List Field → Bool
 has_pairs [] = false
@@ -224,7 +238,7 @@ clauses =
 abbrev pub verdicts : Table Said
 verdicts =
     (codes "sat", any_number value said_sat)
-    ∷ (codes "unsat", one number said_unsat)
+    ∷ (codes "unsat", refutation)
     ∷ (codes "unknown", one number said_unknown)
     ∷ (codes "unsupported", bare said_unsupported) ∷ []
 

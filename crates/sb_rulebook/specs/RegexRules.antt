@@ -1,5 +1,5 @@
 -- The rules of the lines that define a regex, expand one, and say that regexes are dead.
-use Rattle.std.specs.Prelude.{ℕ, Bool, false, ◌||◌, if◌then◌else◌, List, [], ◌∷◌, ◌++◌, map, slice_get, Option, Some, None, is_some, option_map, option_and_then, Result, Ok, Err}
+use Rattle.std.specs.Prelude.{ℕ, Bool, false, ◌||◌, if◌then◌else◌, List, [], ◌∷◌, map, slice_get, Option, Some, None, is_some, option_map, option_and_then, Result, Ok, Err}
 use Rattle.std.specs.List.{list_all, list_any}
 use Rattle.sb_lang.specs.Regex.{Regex, none, eps, set, cat, alt, and, neg, star, rep, path, regexes}
 use Rattle.sb_lang.specs.Order.{regex_eq}
@@ -8,7 +8,7 @@ use Rattle.sb_lang.specs.Derivative.{nullable}
 use Rattle.sb_rulebook.specs.Refusals.{Refusal, unknown_id, repeated, not_normal, wrong_target, holds_empty_word, not_closed}
 use Rattle.sb_rulebook.specs.Lines.{Node, none_node, eps_node, set_node, cat_node, alt_node, and_node, not_node, star_node, rep_node, path_node, Class}
 use Rattle.sb_rulebook.specs.Parts.{together}
-use Rattle.sb_rulebook.specs.Kept.{AllKept, Asked, is_among_numbers, is_dead, targets_in, counting}
+use Rattle.sb_rulebook.specs.Kept.{AllKept, Asked, is_among_numbers, is_dead, targets_in, with_regex, with_expansion, with_dead, counting}
 use Rattle.sb_rulebook.specs.Expansions.{Branch, is_expansion}
 
 -- what is made of one regex by its number, of two, and of several
@@ -38,7 +38,7 @@ regex_of_node known (path_node a b) = of_two known path a b
 abbrev pub defined : AllKept → Regex → Result AllKept Refusal
 defined kept r =
     if list_any (regex_eq r) kept.regexes then Err repeated
-    else if is_normal r then Ok (record kept { regexes = kept.regexes ++ r ∷ [] })
+    else if is_normal r then Ok (with_regex r kept)
     else Err not_normal
 
 abbrev pub follows_regex : AllKept → Node → Result AllKept Refusal
@@ -52,11 +52,7 @@ branch_of known k = option_map (λ r. (k.0, r)) (slice_get known k.1)
 abbrev pub expanded : Asked → AllKept → ℕ → List Class → Regex → List Branch → Result AllKept Refusal
 expanded asked kept id ks r ps =
     if is_some (targets_in kept.expansions id) then Err repeated
-    else if is_expansion r ps then
-    counting asked (record kept {
-      expansions =
-          kept.expansions ++ record { regex = id; targets = map (λ k. k.1) ks } ∷ [];
-    })
+    else if is_expansion r ps then counting asked (with_expansion id (map (λ k. k.1) ks) kept)
     else Err wrong_target
 
 abbrev pub follows_expansion : Asked → AllKept → ℕ → List Class → Result AllKept Refusal
@@ -93,7 +89,7 @@ abbrev pub died : AllKept → List ℕ → List (ℕ × Regex) → Result AllKep
 died kept ids ms =
     if has_repeated kept ids then Err repeated
     else elim (first_alive kept ids ms)
-    [ Some refusal ↦ Err refusal | None ↦ Ok (record kept { dead = kept.dead ++ ids }) ]
+    [ Some refusal ↦ Err refusal | None ↦ Ok (with_dead ids kept) ]
 
 -- a member by its number, with its regex
 abbrev pub member_at : List Regex → ℕ → Option (ℕ × Regex)

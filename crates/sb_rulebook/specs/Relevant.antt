@@ -10,15 +10,17 @@ use Rattle.sb_lang.specs.Constructors.{mkand, mknot, mkpath}
 use Rattle.sb_lang.specs.Derivative.{nd, nd_along}
 use Rattle.sb_meaning.specs.Terms.{Term}
 use Rattle.sb_script.specs.State.{Assumption}
-use Rattle.sb_rulebook.specs.Atoms.{Atom, Piece, Variable, bool_atom, in_atom, le_atom, sum_atom, and_atom, iff_atom, constant_piece, word_piece, length_of, is_same_variable}
+use Rattle.sb_rulebook.specs.Atoms.{Atom, bool_atom, in_atom, le_atom, sum_atom, and_atom, iff_atom}
 use Rattle.sb_rulebook.specs.Translation.{translation}
-use Rattle.sb_rulebook.specs.Bounds.{lower_in, upper_in}
-use Rattle.sb_rulebook.specs.LiteralBounds.{bounds_of}
 use Rattle.sb_rulebook.specs.Lines.{Line, expansion_line, rule_line, learned_line}
 use Rattle.sb_rulebook.specs.Kept.{AllKept}
 use Rattle.sb_rulebook.specs.Gates.{short_membership}
 use Rattle.sb_rulebook.specs.ClauseRules.{is_counted}
 use Rattle.sb_rulebook.specs.Verdicts.{Question}
+use Rattle.sb_script.specs.Pieces.{Piece, constant_piece, word_piece}
+use Rattle.sb_script.specs.Sums.{Variable, length_of, is_same_variable}
+use Rattle.sb_script.specs.Bounds.{lower_in, upper_in}
+use Rattle.sb_script.specs.LiteralBounds.{bounds_of}
 
 -- the terms of the live assertions
 abbrev pub term_in : Option Term × ℕ → List Term

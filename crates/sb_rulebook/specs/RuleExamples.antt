@@ -2,22 +2,27 @@
 use Rattle.std.specs.Prelude.{◌≡◌, ℕ, pos, negsuc, true, false, List, [], ◌∷◌, map, codes, Option, Some, None, option_map, Ok, Err, refl}
 use Rattle.sb_lit.specs.declared.clause.Lit.{Lit}
 use Rattle.sb_lang.specs.Regex.{Regex, none, set, cat, star, rep, path}
+use Rattle.sb_lang.specs.Order.{regex_eq}
 use Rattle.sb_lang.specs.Constructors.{any_character}
 use Rattle.sb_meaning.specs.Terms.{boolean, integer, text, constant, numeral}
 use Rattle.sb_meaning.specs.Terms as symbol
 use Rattle.sb_meaning.specs.Values.{Text, Int, Truth}
 use Rattle.sb_rulebook.specs.Refusals.{Refusal, unknown_id, repeated, not_normal, wrong_target, not_closed, rule_broken, wrong_verdict}
-use Rattle.sb_rulebook.specs.Atoms.{Atom, bool_atom, in_atom, le_atom, sum_atom, and_atom, iff_atom, constant_piece, word_piece, int_constant, length_of, truths_of}
+use Rattle.sb_rulebook.specs.Atoms.{Atom, bool_atom, in_atom, le_atom, sum_atom, and_atom, iff_atom, truths_of}
 use Rattle.sb_rulebook.specs.Lines.{Line, regex_line, atom_line, expansion_line, dead_line, assertion_line, rule_line, learned_line, gate, set_node, rep_node, alt_node, said_sat, said_unsat, said_unknown, said_unsupported}
-use Rattle.sb_rulebook.specs.Kept.{AllKept, Asked, nothing_kept, dropped_above, all_dropped}
+use Rattle.sb_rulebook.specs.Kept.{AllKept, Asked, nothing_kept, with_numbers, dropped_above, all_dropped}
 use Rattle.sb_rulebook.specs.Expansions.{is_expansion}
 use Rattle.sb_rulebook.specs.Gates.{is_gate}
 use Rattle.sb_rulebook.specs.BoundClauses.{is_order, is_linear}
 use Rattle.sb_rulebook.specs.Splits.{is_step, is_empty}
-use Rattle.sb_rulebook.specs.Follows.{follows}
+use Rattle.sb_rulebook.specs.Follows.{by_rule}
 use Rattle.sb_rulebook.specs.Verdicts.{Question, refusal_of}
+use Rattle.sb_rulebook.specs.Tables.{is_table}
+use Rattle.sb_rulebook.specs.KeptLaws.{are_distinct, has_targets_below, names_regex_of, is_orderly_clause, is_rising}
 use Rattle.sb_rulebook.specs.ProofExamples.{computing}
 use Rattle.sb_rulebook.specs.TranslationExamples.{plus, minus}
+use Rattle.sb_script.specs.Pieces.{constant_piece, word_piece}
+use Rattle.sb_script.specs.Sums.{int_constant, length_of}
 
 abbrev a : Regex
 a = set ((0x61, 0x61) ∷ [])
@@ -168,12 +173,16 @@ not_the_other_way = refl
 
 -- Empty: x is in a, and x is not in a or b; y is in b.
 
+abbrev nothing : AllKept
+nothing = nothing_kept 1
+
 abbrev cover : AllKept
-cover = record nothing_kept {
+cover = record nothing {
   regexes = none ∷ a ∷ [];
+  expansions = None ∷ None ∷ [];
   atoms = in_atom (constant_piece 0 ∷ []) a ∷ in_atom (constant_piece 0 ∷ []) (set ((0x61, 0x62) ∷ [])) ∷ in_atom
       (constant_piece 1 ∷ []) b ∷ in_atom (constant_piece 0 ∷ []) b ∷ [];
-  dead = 0 ∷ [];
+  dead = true ∷ false ∷ [];
 }
 
 -- x is not in a, or not in b
@@ -250,25 +259,30 @@ asked = record {
 }
 
 abbrev kept : AllKept
-kept = record nothing_kept {
+kept = record nothing {
   regexes = none ∷ a ∷ star a ∷ [];
+  expansions = None ∷ None ∷ None ∷ [];
+  dead = false ∷ false ∷ false ∷ [];
   atoms =
       bool_atom 0 ∷ le_atom (int_constant 2) (pos 5) ∷ [];
 }
 
 abbrev refusal_in : AllKept → Line → Option Refusal
-refusal_in k line = elim (follows asked k line) [ Ok after ↦ None | Err refusal ↦ Some refusal ]
+refusal_in k line = elim (by_rule asked k line) [ Ok after ↦ None | Err refusal ↦ Some refusal ]
 
-abbrev with_clauses : List (Option (List Lit × ℕ)) → AllKept → AllKept
-with_clauses cs k = record k { clauses = map (option_map (λ c. record { literals = c.0; level = c.1 })) cs }
+-- with these clauses, each with its level, that rest on these assertions
+abbrev with_clauses : List (Option (List Lit × ℕ)) → List (List ℕ) → AllKept → AllKept
+with_clauses cs rests k =
+    record k { clauses = map (option_map (λ c. record { literals = c.0; level = c.1 })) cs; rests = rests }
 
--- the clause of an assertion has its level, and one by a rule has level 0
-an_assertion : follows asked kept (assertion_line 2 (plus 1)) ≡ Ok (with_clauses (Some (plus 1 ∷ [], 2) ∷ []) kept)
+-- the clause of an assertion has its level and rests on it, and one by a rule has level 0 and rests on none
+an_assertion : by_rule asked kept (assertion_line 2 (plus 1))
+    ≡ Ok (with_clauses (Some (plus 1 ∷ [], 2) ∷ []) ((2 ∷ []) ∷ []) kept)
 unfolding computing
 an_assertion = refl
 
-a_gate : follows asked kept (rule_line gate (plus 0 ∷ minus 0 ∷ []))
-    ≡ Ok (with_clauses (Some (plus 0 ∷ minus 0 ∷ [], 0) ∷ []) kept)
+a_gate : by_rule asked kept (rule_line gate (plus 0 ∷ minus 0 ∷ []))
+    ≡ Ok (with_clauses (Some (plus 0 ∷ minus 0 ∷ [], 0) ∷ []) ([] ∷ []) kept)
 unfolding computing
 a_gate = refl
 
@@ -332,8 +346,8 @@ one_literal = refl
 abbrev after_one : AllKept
 after_one = record kept { counted = 1 }
 
-a_line_within_the_limit : follows asked kept (expansion_line 0 (((0, 0x2ffff) ∷ [], 0) ∷ []))
-    ≡ Ok (record kept { expansions = record { regex = 0; targets = 0 ∷ [] } ∷ []; counted = 1 })
+a_line_within_the_limit : by_rule asked kept (expansion_line 0 (((0, 0x2ffff) ∷ [], 0) ∷ []))
+    ≡ Ok (record kept { expansions = Some (0 ∷ []) ∷ None ∷ None ∷ []; counted = 1 })
 unfolding computing
 a_line_within_the_limit = refl
 
@@ -348,9 +362,12 @@ its_other_faults_come_first = refl
 -- Dead regexes: each member once, and not before.
 
 abbrev with_none : AllKept
-with_none = record kept { expansions = record { regex = 0; targets = 0 ∷ [] } ∷ [] }
+with_none = record kept { expansions = Some (0 ∷ []) ∷ None ∷ None ∷ [] }
 
-none_is_dead : follows asked with_none (dead_line (0 ∷ [])) ≡ Ok (record with_none { dead = 0 ∷ [] })
+abbrev dead_none : AllKept
+dead_none = record with_none { dead = true ∷ false ∷ false ∷ [] }
+
+none_is_dead : by_rule asked with_none (dead_line (0 ∷ [])) ≡ Ok dead_none
 unfolding computing
 none_is_dead = refl
 
@@ -358,7 +375,7 @@ a_member_twice : refusal_in with_none (dead_line (0 ∷ 0 ∷ [])) ≡ Some repe
 unfolding computing
 a_member_twice = refl
 
-dead_before : refusal_in (record with_none { dead = 0 ∷ [] }) (dead_line (0 ∷ [])) ≡ Some repeated
+dead_before : refusal_in dead_none (dead_line (0 ∷ [])) ≡ Some repeated
 unfolding computing
 dead_before = refl
 
@@ -369,13 +386,18 @@ the_first_member_decides = refl
 
 -- Levels.
 
-abbrev leveled : AllKept
-leveled = with_clauses (Some (plus 0 ∷ [], 0) ∷ Some (plus 1 ∷ [], 2) ∷ None ∷ Some (minus 1 ∷ [], 1) ∷ []) kept
+abbrev four_rests : List (List ℕ)
+four_rests = (0 ∷ []) ∷ (2 ∷ []) ∷ (0 ∷ 2 ∷ []) ∷ (1 ∷ []) ∷ []
 
-a_pop : dropped_above 1 leveled ≡ with_clauses (Some (plus 0 ∷ [], 0) ∷ None ∷ None ∷ Some (minus 1 ∷ [], 1) ∷ []) kept
+abbrev leveled : AllKept
+leveled = with_clauses (Some (plus 0 ∷ [], 0) ∷ Some (plus 1 ∷ [], 2) ∷ None ∷ Some (minus 1 ∷ [], 1) ∷ [])
+    four_rests kept
+
+a_pop : dropped_above 1 leveled
+    ≡ with_clauses (Some (plus 0 ∷ [], 0) ∷ None ∷ None ∷ Some (minus 1 ∷ [], 1) ∷ []) four_rests kept
 a_pop = refl
 
-a_reset : all_dropped leveled ≡ with_clauses (None ∷ None ∷ None ∷ None ∷ []) kept
+a_reset : all_dropped leveled ≡ with_clauses (None ∷ None ∷ None ∷ None ∷ []) four_rests kept
 a_reset = refl
 
 -- a clause is new where the one that it repeats was dropped
@@ -405,7 +427,7 @@ abbrev outside : Question
 outside = record question { inside = false }
 
 abbrev refuted : AllKept
-refuted = with_clauses (Some (plus 0 ∷ [], 0) ∷ Some (plus 1 ∷ [], 0) ∷ None ∷ []) kept
+refuted = with_clauses (Some (plus 0 ∷ [], 0) ∷ Some (plus 1 ∷ [], 0) ∷ None ∷ []) ((0 ∷ []) ∷ [] ∷ [] ∷ []) kept
 
 a_model : refusal_of without_assumption kept (said_sat (Truth true ∷ Text [] ∷ Int (pos 0) ∷ [])) ≡ None
 unfolding computing
@@ -430,19 +452,43 @@ unfolding computing
 a_value_too_few = refl
 
 -- the clause says p, and not p is assumed
-an_assumption_is_refuted : refusal_of question refuted (said_unsat 0) ≡ None
+an_assumption_is_refuted : refusal_of question refuted (said_unsat 0 None) ≡ None
 unfolding computing
 an_assumption_is_refuted = refl
 
-no_assumption_is : refusal_of without_assumption refuted (said_unsat 0) ≡ Some wrong_verdict
+no_assumption_is : refusal_of without_assumption refuted (said_unsat 0 None) ≡ Some wrong_verdict
 unfolding computing
 no_assumption_is = refl
 
-of_no_bool_atom : refusal_of question refuted (said_unsat 1) ≡ Some wrong_verdict
+-- places are listed in the formats that have them alone
+no_places_here : refusal_of question refuted (said_unsat 0 (Some (0 ∷ []))) ≡ Some wrong_verdict
+unfolding computing
+no_places_here = refl
+
+abbrev refuted_with_places : AllKept
+refuted_with_places = record refuted { format = 3 }
+
+places_are_listed : refusal_of question refuted_with_places (said_unsat 0 (Some (0 ∷ []))) ≡ None
+unfolding computing
+places_are_listed = refl
+
+places_are_missing : refusal_of question refuted_with_places (said_unsat 0 None) ≡ Some wrong_verdict
+unfolding computing
+places_are_missing = refl
+
+other_places : refusal_of question refuted_with_places (said_unsat 0 (Some [])) ≡ Some wrong_verdict
+unfolding computing
+other_places = refl
+
+a_place_of_no_assertion : refusal_of question refuted_with_places (said_unsat 0 (Some (1 ∷ []))) ≡ Some unknown_id
+unfolding computing
+a_place_of_no_assertion = refl
+
+of_no_bool_atom : refusal_of question refuted (said_unsat 1 None) ≡ Some wrong_verdict
 unfolding computing
 of_no_bool_atom = refl
 
-a_dropped_clause : refusal_of outside refuted (said_unsat 2) ≡ Some unknown_id
+a_dropped_clause : refusal_of outside refuted (said_unsat 2 None) ≡ Some unknown_id
 unfolding computing
 a_dropped_clause = refl
 
@@ -473,3 +519,37 @@ truths : truths_of ((0, Truth true) ∷ (1, Text (codes "ab")) ∷ (2, Int (pos 
     ≡ true ∷ true ∷ false ∷ true ∷ false ∷ true ∷ false ∷ []
 unfolding computing
 truths = refl
+
+-- What is kept is orderly: some tables that are not.
+
+a_regex_that_stands_twice : are_distinct regex_eq (a ∷ b ∷ a ∷ []) ≡ false
+unfolding computing
+a_regex_that_stands_twice = refl
+
+regexes_that_stand_once : are_distinct regex_eq (a ∷ b ∷ star a ∷ []) ≡ true
+unfolding computing
+regexes_that_stand_once = refl
+
+a_target_that_is_not_defined : has_targets_below 2 (Some (0 ∷ 2 ∷ [])) ≡ false
+a_target_that_is_not_defined = refl
+
+an_atom_that_names_itself : is_table (bool_atom 0 ∷ iff_atom (plus 0) (plus 1) ∷ []) ≡ false
+an_atom_that_names_itself = refl
+
+an_atom_in_no_regex : names_regex_of (a ∷ []) (in_atom (constant_piece 0 ∷ []) b) ≡ false
+unfolding computing
+an_atom_in_no_regex = refl
+
+a_clause_out_of_order : is_orderly_clause (bool_atom 0 ∷ bool_atom 1 ∷ [])
+    (Some (record { literals = plus 1 ∷ plus 0 ∷ []; level = 0 })) ≡ false
+a_clause_out_of_order = refl
+
+a_clause_of_no_atom : is_orderly_clause (bool_atom 0 ∷ [])
+    (Some (record { literals = plus 0 ∷ plus 1 ∷ []; level = 0 })) ≡ false
+a_clause_of_no_atom = refl
+
+places_put_together : with_numbers (1 ∷ 4 ∷ []) (0 ∷ 1 ∷ 5 ∷ []) ≡ 0 ∷ 1 ∷ 4 ∷ 5 ∷ []
+places_put_together = refl
+
+a_place_twice : is_rising (0 ∷ 1 ∷ 1 ∷ []) ≡ false
+a_place_twice = refl

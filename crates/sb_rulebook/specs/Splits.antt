@@ -1,17 +1,18 @@
 -- The clauses of memberships: by rule step, which are true under every valuation, and by rule empty, which are where
 -- dead regexes have no word.
-use Rattle.std.specs.Prelude.{ℕ, Bool, true, false, not, ◌&&◌, ◌||◌, ◌==◌, if◌then◌else◌, List, [], ◌∷◌, map, slice_get, Option, Some, None}
-use Rattle.std.specs.List.{list_all, list_any}
+use Rattle.std.specs.Prelude.{ℕ, Bool, true, false, not, ◌&&◌, ◌||◌, ◌==◌, if◌then◌else◌, List, [], ◌∷◌, map, Option, Some, None}
+use Rattle.std.specs.List.{list_all, list_any, zip}
 use Rattle.std.specs.Cmp.Lexicographic.{pointwise}
 use Rattle.sb_lit.specs.declared.clause.Lit.{Lit}
 use Rattle.sb_lang.specs.Regex.{Regex}
 use Rattle.sb_lang.specs.Order.{regex_eq}
 use Rattle.sb_lang.specs.Constructors.{mkand, mknot, mkpath}
 use Rattle.sb_lang.specs.Derivative.{nullable, nd_along}
-use Rattle.sb_rulebook.specs.Atoms.{Atom, in_atom, constant_piece, word_piece, is_same_piece, is_same_atom}
+use Rattle.sb_rulebook.specs.Atoms.{Atom, in_atom, is_same_piece, is_same_atom}
 use Rattle.sb_rulebook.specs.Parts.{together}
 use Rattle.sb_rulebook.specs.Kept.{AllKept}
 use Rattle.sb_rulebook.specs.Gates.{is_set_of, atom_of, differ_in_sign}
+use Rattle.sb_script.specs.Pieces.{constant_piece, word_piece}
 
 -- Steps: a membership of a constant and more pieces, split at the regex to which the constant leads; a membership of
 -- a word and more pieces; a membership of no pieces.
@@ -57,8 +58,7 @@ denied false (Some (in_atom (constant_piece x ∷ []) r)) = Some (x, r)
 denied _ _ = None
 
 abbrev pub is_dead_regex : AllKept → Regex → Bool
-is_dead_regex kept r =
-    list_any (λ id. elim (slice_get kept.regexes id) [ None ↦ false | Some s ↦ regex_eq r s ]) kept.dead
+is_dead_regex kept r = list_any (λ p. p.1 && regex_eq r p.0) (zip kept.regexes kept.dead)
 
 -- they are of one constant, and their intersection is a dead regex
 abbrev pub have_no_word : AllKept → List (ℕ × Regex) → Bool

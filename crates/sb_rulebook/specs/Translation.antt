@@ -10,9 +10,10 @@ use Rattle.sb_lang.specs.Normal.{word_regex}
 use Rattle.sb_meaning.specs.Terms.{Symbol, boolean, integer, text, reglan, Term, Terms, constant, apply, no_terms, with_term}
 use Rattle.sb_meaning.specs.Terms as symbol
 use Rattle.sb_meaning.specs.Sorts.{sort_of}
-use Rattle.sb_rulebook.specs.Atoms.{Atom, Summand, bool_atom, in_atom, le_atom, sum_atom, and_atom, iff_atom, number_of, is_one}
-use Rattle.sb_rulebook.specs.Sums.{Sum, subtracted, if_small}
-use Rattle.sb_rulebook.specs.Parts.{together, single_pieces, ground_word, regex_of, sum_of}
+use Rattle.sb_rulebook.specs.Atoms.{Atom, bool_atom, in_atom, le_atom, sum_atom, and_atom, iff_atom, number_of, is_one}
+use Rattle.sb_rulebook.specs.Parts.{together, regex_of}
+use Rattle.sb_script.specs.Sums.{Summand, Sum, subtracted, if_small, sum_of}
+use Rattle.sb_script.specs.Pieces.{single_pieces, ground_word}
 
 -- the literal of an atom
 abbrev pub positive : List Atom → Atom → Option Lit

@@ -4,10 +4,12 @@ use Rattle.sb_lit.specs.declared.clause.Lit.{Lit}
 use Rattle.sb_lang.specs.Regex.{Regex, star, set, cat}
 use Rattle.sb_meaning.specs.Terms.{Term, boolean, integer, text, constant, word, numeral, apply}
 use Rattle.sb_meaning.specs.Terms as symbol
-use Rattle.sb_script.specs.Reading.{terms_of}
-use Rattle.sb_rulebook.specs.Atoms.{Atom, bool_atom, in_atom, le_atom, sum_atom, and_atom, iff_atom, constant_piece, word_piece, int_constant, length_of}
+use Rattle.sb_rulebook.specs.Atoms.{Atom, bool_atom, in_atom, le_atom, sum_atom, and_atom, iff_atom}
 use Rattle.sb_rulebook.specs.Translation.{translation}
 use Rattle.sb_rulebook.specs.ProofExamples.{computing}
+use Rattle.sb_script.specs.Heads.{terms_of}
+use Rattle.sb_script.specs.Pieces.{constant_piece, word_piece}
+use Rattle.sb_script.specs.Sums.{int_constant, length_of}
 
 abbrev pub plus : ℕ → Lit
 plus n = record { atom = n; positive = true }

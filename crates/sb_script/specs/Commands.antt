@@ -1,21 +1,41 @@
 -- Commands: what a form asks for, by its shape alone (SMT-LIB 2.6, section 3.9). A form of another shape is malformed.
-use Rattle.std.specs.Prelude.{Bool, true, false, not, ◌&&◌, if◌then◌else◌, List, [], ◌∷◌, codes, Option, Some, None, option_map}
+use Rattle.std.specs.Prelude.{ℕ, Bool, true, false, not, ◌&&◌, ◌||◌, if◌then◌else◌, List, [], ◌∷◌, filter, codes, Option, Some, None, option_map}
 use Rattle.std.specs.List.{list_all}
-use Rattle.sb_reader.specs.Forms.{Form, Forms, Symbol, QuotedSymbol, Keyword, Group, none, more}
-use Rattle.sb_script.specs.Names.{Name, is_name, is_reserved}
+use Rattle.sb_reader.specs.Forms.{Form, Forms, Symbol, QuotedSymbol, Keyword, Numeral, Words, Group, none, more}
+use Rattle.sb_script.specs.Names.{Name, is_name, is_reserved, begins_term}
+use Rattle.sb_script.specs.Brought.{a_command, functions, definitions, is_brought}
+use Rattle.sb_script.specs.Symbols.{found_in}
+use Rattle.sb_script.specs.Texts.{number_of}
+
+-- a parameter of a definition, with its sort
+abbrev pub Parameter : Type 0
+Parameter = Name × Form
 
 pub data Command : Type 0 where
   set_logic : Name → Command
   -- the option's keyword, and its value
   set_option : Name → Form → Command
+  get_option : Name → Command
+  set_info : Command
+  get_info : Name → Command
   -- the constant's name and sort
   declare_constant : Name → Form → Command
   -- a declaration or definition of a function, which is left out
   declare_function : Name → Command
+  -- the name, the parameters, the sort and the body
+  define_function : Name → List Parameter → Form → Form → Command
   assert : Form → Command
+  push : ℕ → Command
+  pop : ℕ → Command
   check_sat : Command
+  check_sat_assuming : List Form → Command
   get_model : Command
   get_value : List Form → Command
+  get_unsat_assumptions : Command
+  -- the bytes between the quotes
+  echo : List ℕ → Command
+  reset_assertions : Command
+  reset : Command
   exit : Command
   -- a command that is left out
   another : Command
@@ -50,6 +70,12 @@ is_parameter (Group (more (Symbol name) (more sort none))) = not (is_reserved na
 is_parameter (Group (more (QuotedSymbol name) (more sort none))) = is_sort_form sort
 is_parameter _ = false
 
+abbrev pub parameters_of : List Form → List Parameter
+parameters_of [] = []
+parameters_of (Group (more (Symbol name) (more sort none)) ∷ forms) = (name, sort) ∷ parameters_of forms
+parameters_of (Group (more (QuotedSymbol name) (more sort none)) ∷ forms) = (name, sort) ∷ parameters_of forms
+parameters_of (_ ∷ forms) = parameters_of forms
+
 -- what may stand in a list of terms whose values are asked for
 abbrev pub is_item : Form → Bool
 is_item (Keyword name) = false
@@ -68,16 +94,25 @@ constant_shape (name ∷ sort ∷ []) =
     if is_sort_form sort then option_map (λ n. declare_constant n sort) (declarable name) else None
 constant_shape _ = None
 
+-- a function without arguments is a constant
+abbrev pub function_of : Name → List Form → Form → Command
+function_of name [] sort = if is_brought functions then declare_constant name sort else declare_function name
+function_of name (s ∷ ss) sort = declare_function name
+
 abbrev pub function_shape : List Form → Option Command
 function_shape (name ∷ Group sorts ∷ sort ∷ []) =
-    if list_all is_sort_form (list_of sorts) && is_sort_form sort then option_map declare_function (declarable name)
-    else None
+    if list_all is_sort_form (list_of sorts) && is_sort_form sort
+    then option_map (λ n. function_of n (list_of sorts) sort) (declarable name) else None
 function_shape _ = None
+
+abbrev pub definition_of : Name → List Parameter → Form → Form → Command
+definition_of name parameters sort body =
+    if is_brought definitions then define_function name parameters sort body else declare_function name
 
 abbrev pub definition_shape : List Form → Option Command
 definition_shape (name ∷ Group parameters ∷ sort ∷ body ∷ []) =
     if list_all is_parameter (list_of parameters) && is_sort_form sort
-    then option_map declare_function (declarable name) else None
+    then option_map (λ n. definition_of n (parameters_of (list_of parameters)) sort body) (declarable name) else None
 definition_shape _ = None
 
 abbrev pub assert_shape : List Form → Option Command
@@ -89,25 +124,76 @@ value_shape (Group (more item items) ∷ []) = if list_all is_item (item ∷ lis
     then Some (get_value (item ∷ list_of items)) else None
 value_shape _ = None
 
+-- an option or an information that is asked for
+abbrev pub keyword_shape : (Name → Command) → List Form → Option Command
+keyword_shape make (Keyword key ∷ []) = Some (make key)
+keyword_shape make _ = None
+
+-- a keyword, and anything behind it
+abbrev pub info_shape : List Form → Option Command
+info_shape (Keyword key ∷ forms) = Some set_info
+info_shape _ = None
+
+-- how many levels: one where no number stands
+abbrev pub levels_shape : (ℕ → Command) → List Form → Option Command
+levels_shape make [] = Some (make 1)
+levels_shape make (Numeral digits ∷ []) = Some (make (number_of digits))
+levels_shape make _ = None
+
+-- an assumption that is a bare reserved word, alone or behind `not`, has no shape
+abbrev pub is_assumption_form : Form → Bool
+is_assumption_form (Keyword name) = false
+is_assumption_form (Symbol name) = begins_term name || not (is_reserved name)
+is_assumption_form (Group (more (Symbol head) (more (Symbol name) none))) =
+    not (is_name head (codes "not")) || (begins_term name || not (is_reserved name))
+is_assumption_form _ = true
+
+abbrev pub assuming_shape : List Form → Option Command
+assuming_shape (Group forms ∷ []) = if list_all is_assumption_form (list_of forms)
+    then Some (check_sat_assuming (list_of forms)) else None
+assuming_shape _ = None
+
+abbrev pub echo_shape : List Form → Option Command
+echo_shape (Words bytes ∷ []) = Some (echo bytes)
+echo_shape _ = None
+
 -- a command without arguments
 abbrev pub bare : Command → List Form → Option Command
 bare command [] = Some command
 bare command (argument ∷ arguments) = None
 
--- A command by its name, with what follows the name. Another name than these is a command that is left out.
+-- the commands by name, with the shapes of what follows the name
+abbrev pub shapes : List (Name × (List Form → Option Command))
+shapes =
+    (codes "assert", assert_shape)
+    ∷ (codes "declare-const", constant_shape)
+    ∷ (codes "declare-fun", function_shape)
+    ∷ (codes "define-fun", definition_shape)
+    ∷ (codes "push", levels_shape push)
+    ∷ (codes "pop", levels_shape pop)
+    ∷ (codes "check-sat", bare check_sat)
+    ∷ (codes "check-sat-assuming", assuming_shape)
+    ∷ (codes "get-model", bare get_model)
+    ∷ (codes "get-value", value_shape)
+    ∷ (codes "get-unsat-assumptions", bare get_unsat_assumptions)
+    ∷ (codes "set-logic", logic_shape)
+    ∷ (codes "set-option", option_shape)
+    ∷ (codes "get-option", keyword_shape get_option)
+    ∷ (codes "set-info", info_shape)
+    ∷ (codes "get-info", keyword_shape get_info)
+    ∷ (codes "echo", echo_shape)
+    ∷ (codes "reset-assertions", bare reset_assertions)
+    ∷ (codes "reset", bare reset)
+    ∷ (codes "exit", bare exit) ∷ []
+
+-- A command by its name, by a table of shapes, with what follows the name. A name that is not in the table is of a
+-- command that is left out.
+abbrev pub shaped_by : List (Name × (List Form → Option Command)) → Name → List Form → Option Command
+shaped_by table name arguments = elim (found_in table name) [ Some shape ↦ shape arguments | None ↦ Some another ]
+
+-- a command that is answered
 abbrev pub shaped : Name → List Form → Option Command
-shaped name arguments =
-    if is_name name (codes "assert") then assert_shape arguments
-    else if is_name name (codes "declare-const") then constant_shape arguments
-    else if is_name name (codes "declare-fun") then function_shape arguments
-    else if is_name name (codes "define-fun") then definition_shape arguments
-    else if is_name name (codes "check-sat") then bare check_sat arguments
-    else if is_name name (codes "get-model") then bare get_model arguments
-    else if is_name name (codes "get-value") then value_shape arguments
-    else if is_name name (codes "set-logic") then logic_shape arguments
-    else if is_name name (codes "set-option") then option_shape arguments
-    else if is_name name (codes "exit") then bare exit arguments
-    else Some another
+shaped name arguments = shaped_by (filter (λ row. is_brought (a_command row.0)) shapes) name arguments
 
 -- the command of a form: a list that begins with a symbol without bars
 abbrev pub command_of : Form → Option Command

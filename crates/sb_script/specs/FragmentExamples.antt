@@ -1,9 +1,17 @@
--- Computed examples of what is decided.
-use Rattle.std.specs.Prelude.{◌≡◌, true, false, codes, refl}
-use Rattle.sb_meaning.specs.Terms.{word}
+-- Computed examples of what is decided: of what is brought so far, and of the whole fragment.
+use Rattle.std.specs.Prelude.{◌≡◌, pos, Bool, true, false, List, [], ◌∷◌, map, codes, refl}
+use Rattle.sb_meaning.specs.Terms.{Term, boolean, integer, text, constant, word, numeral, apply, no_terms}
 use Rattle.sb_meaning.specs.Terms as symbol
+use Rattle.sb_meaning.specs.Values.{Int, Truth}
 use Rattle.sb_meaning.specs.Examples.{one, two, x, as_and_more}
-use Rattle.sb_script.specs.Fragment.{is_regex, is_membership}
+use Rattle.sb_script.specs.Brought.{is_regex, is_membership}
+use Rattle.sb_script.specs.Fragment.{fits, are_in_fragment}
+use Rattle.sb_script.specs.State.{Assertion, asserted, a_mark, assumed}
+use Rattle.sb_script.specs.Models.{is_plain_term, are_defaults, about}
+use Rattle.sb_script.specs.Sizes.{size_of}
+use Rattle.sb_script.specs.Heads.{terms_of}
+
+-- What is brought.
 
 is_over_literals : is_membership (two symbol.str_in_re x as_and_more) ≡ true
 is_over_literals = refl
@@ -15,3 +23,204 @@ no_constant_within = refl
 
 no_word_in_front : is_membership (two symbol.str_in_re (word (codes "a")) as_and_more) ≡ false
 no_word_in_front = refl
+
+-- One assertion.
+
+abbrev y : Term
+y = constant 1 text
+
+abbrev n : Term
+n = constant 2 integer
+
+abbrev p : Term
+p = constant 3 boolean
+
+abbrev a : Term
+a = word (codes "a")
+
+abbrev all_words : Term
+all_words = apply symbol.re_all no_terms
+
+abbrev three : symbol.Symbol → Term → Term → Term → Term
+three s t u v = apply s (terms_of (t ∷ u ∷ v ∷ []))
+
+abbrev joined : Term
+joined = three symbol.str_concat x a y
+
+-- Membership: each constant once at most, no constant in the regular expression, ground terms too.
+of_a_concatenation : fits (two symbol.str_in_re joined all_words) ≡ true
+of_a_concatenation = refl
+
+a_constant_twice : fits (two symbol.str_in_re (two symbol.str_concat x x) all_words) ≡ false
+a_constant_twice = refl
+
+a_constant_in_the_expression : fits (two symbol.str_in_re x (one symbol.str_to_re y)) ≡ false
+a_constant_in_the_expression = refl
+
+of_a_word : fits (two symbol.str_in_re (two symbol.str_concat a a) all_words) ≡ true
+of_a_word = refl
+
+-- Sizes: a node of sort RegLan counts one, and a character of a word one; String terms are words and no nodes.
+sizes : map size_of
+    (one symbol.str_to_re (word (codes "ab")) ∷ two symbol.re_range a a ∷ one symbol.re_star (one symbol.str_to_re
+    (two symbol.str_concat a a)) ∷ []) ≡ 3 ∷ 3 ∷ 4 ∷ []
+sizes = refl
+
+-- String equality: in each pair one side is ground, and in the other each constant stands once at most.
+to_a_word : fits (two symbol.core_equal a joined) ≡ true
+to_a_word = refl
+
+of_two_words : fits (two symbol.core_equal (two symbol.str_concat a a) a) ≡ true
+of_two_words = refl
+
+of_constants : fits (two symbol.core_equal x y) ≡ false
+of_constants = refl
+
+twice_in_an_equality : fits (two symbol.core_equal (two symbol.str_concat x x) a) ≡ false
+twice_in_an_equality = refl
+
+-- neighbours in a chain, and each two of those that differ
+of_neighbours : fits (three symbol.core_equal x a y) ≡ true
+of_neighbours = refl
+
+of_each_two : fits (three symbol.core_distinct x a y) ≡ false
+of_each_two = refl
+
+-- Boolean structure.
+structure : fits (two symbol.core_and (one symbol.core_not p) (two symbol.core_equal p (two symbol.core_equal x a)))
+    ≡ true
+structure = refl
+
+a_part_that_does_not_fit : fits (two symbol.core_or p (two symbol.core_equal x y)) ≡ false
+a_part_that_does_not_fit = refl
+
+-- Linear arithmetic: at most one factor that is not ground.
+abbrev length_of_joined : Term
+length_of_joined = one symbol.str_len joined
+
+linear : fits (two symbol.core_equal (two symbol.times (numeral 2) length_of_joined) (two symbol.plus n (numeral 1)))
+    ≡ true
+linear = refl
+
+no_product : fits (two symbol.at_most (two symbol.times n n) (numeral 1)) ≡ false
+no_product = refl
+
+-- an n-ary product is collected as a whole, a product in it by itself
+abbrev large : Term
+large = numeral 2147483647
+
+a_product_as_a_whole : fits (two symbol.at_most (apply symbol.times (terms_of (large ∷ large ∷ numeral 0 ∷ n ∷
+    []))) n) ≡ true
+a_product_as_a_whole = refl
+
+a_part_too_large : fits (two symbol.at_most (two symbol.times (two symbol.times large large) (numeral 0)) n) ≡ false
+a_part_too_large = refl
+
+-- the difference is within the limits too
+a_difference_too_large : fits (two symbol.at_most (two symbol.plus large n) (one symbol.minus (numeral 1))) ≡ false
+a_difference_too_large = refl
+
+-- All assertions.
+
+abbrev asserted_all : List Term → List Assertion
+asserted_all [] = []
+asserted_all (t ∷ ts) = asserted t ∷ asserted_all ts
+
+abbrev inside : List Term → Bool
+inside ts = are_in_fragment (asserted_all ts)
+
+abbrev at_least : Term → Term → Term
+at_least s t = two symbol.at_least s t
+
+abbrev at_most : Term → Term → Term
+at_most s t = two symbol.at_most s t
+
+nothing_asserted : inside [] ≡ true
+nothing_asserted = refl
+
+a_mark_leaves_it : are_in_fragment (asserted p ∷ a_mark ∷ []) ≡ false
+a_mark_leaves_it = refl
+
+-- Bounds: (>= n 0) alone; with (<= n 4096); with (<= n 4097); (>= n 5) and (<= n 4)
+half_bounded : inside (at_least n (numeral 0) ∷ []) ≡ false
+half_bounded = refl
+
+bounded : inside (at_least n (numeral 0) ∷ at_most n (numeral 4096) ∷ []) ≡ true
+bounded = refl
+
+too_wide : inside (at_least n (numeral 0) ∷ at_most n (numeral 4097) ∷ []) ≡ false
+too_wide = refl
+
+crossed : inside (at_least n (numeral 5) ∷ at_most n (numeral 4) ∷ []) ≡ true
+crossed = refl
+
+-- the best bounds count, wherever they stand: (and (< n 5) (= n 4)), (> n (- 3)) with (< n 4000000)
+within_a_conjunction : inside (two symbol.core_and (two symbol.less n (numeral 5)) (two symbol.core_equal n
+    (numeral 4)) ∷ []) ≡ true
+within_a_conjunction = refl
+
+not_within_a_disjunction : inside
+    (two symbol.core_or (two symbol.core_equal n (numeral 4)) (two symbol.core_equal n (numeral 5)) ∷ []) ≡ false
+not_within_a_disjunction = refl
+
+too_far : inside (two symbol.greater n (one symbol.minus (numeral 3)) ∷ two symbol.less n (numeral 4000000) ∷ [])
+    ≡ false
+too_far = refl
+
+better_bounds :
+    inside (two symbol.less n (numeral 4000000) ∷ two symbol.less n (numeral 40) ∷ three symbol.at_most
+    (one symbol.minus (numeral 3)) n
+    (numeral 5000) ∷ []) ≡ true
+better_bounds = refl
+
+-- a strict bound is the next number inside: (< n 4097) bounds by 4096
+a_strict_bound : inside (at_least n (numeral 0) ∷ two symbol.less n (numeral 4097) ∷ []) ≡ true
+a_strict_bound = refl
+
+-- a length has the lower bound 0, and each constant in a concatenation has a length of its own
+a_length : inside (at_most (one symbol.str_len x) (numeral 5) ∷ []) ≡ true
+a_length = refl
+
+lengths_of_parts : inside (at_most length_of_joined (numeral 5) ∷ []) ≡ false
+lengths_of_parts = refl
+
+lengths_of_bounded_parts : inside
+    (at_most length_of_joined (numeral 5) ∷ at_most (one symbol.str_len x) (numeral 5) ∷ at_most (one symbol.str_len y)
+    (numeral 5) ∷ []) ≡ true
+lengths_of_bounded_parts = refl
+
+-- a variable that collecting takes away occurs all the same: (= (- n n) 0)
+taken_away : inside (two symbol.core_equal (two symbol.minus n n) (numeral 0) ∷ []) ≡ false
+taken_away = refl
+
+-- Plain scripts.
+
+plain_membership : is_plain_term (one symbol.core_not (two symbol.str_in_re x all_words)) ≡ true
+plain_membership = refl
+
+negated_twice : is_plain_term (one symbol.core_not (one symbol.core_not (two symbol.str_in_re x all_words))) ≡ false
+negated_twice = refl
+
+of_words_is_not_plain : is_plain_term (two symbol.str_in_re a all_words) ≡ false
+of_words_is_not_plain = refl
+
+-- negated ones count among the memberships of a constant
+memberships_of_x : about 0
+    (two symbol.str_in_re y all_words ∷ one symbol.core_not (two symbol.str_in_re x all_words) ∷ []) ≡
+    one symbol.core_not (two symbol.str_in_re x all_words) ∷ []
+memberships_of_x = refl
+
+-- Values by default: n occurs nowhere, and p in an assumption.
+by_default : are_defaults
+    (record { name = codes "n"; serial = 2; sort = integer } ∷
+    record { name = codes "p"; serial = 3; sort = boolean } ∷ [])
+    (assumed (3, true) ∷ []) ((2, Int (pos 0)) ∷ (3, Truth true) ∷ []) ≡ true
+by_default = refl
+
+not_by_default : are_defaults (record { name = codes "n"; serial = 2; sort = integer } ∷ []) (p ∷ []) ((
+  2,
+  Int
+      (pos 1),
+) ∷ [])
+    ≡ false
+not_by_default = refl

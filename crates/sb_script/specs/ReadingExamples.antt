@@ -5,7 +5,8 @@ use Rattle.sb_script.specs.Names.{name_text, name_in_text}
 use Rattle.sb_meaning.specs.Terms.{Term, text, constant, word, apply, no_terms, with_term}
 use Rattle.sb_meaning.specs.Terms as symbol
 use Rattle.sb_script.specs.Scopes.{Naming, a_constant, a_marked_name}
-use Rattle.sb_script.specs.Reading.{read, unknown_symbol, wrong_sort, wrong_count, bad_index, unsupported, bad_literal, malformed}
+use Rattle.sb_script.specs.Faults.{unknown_symbol, wrong_sort, wrong_count, bad_index, unsupported, bad_literal, malformed}
+use Rattle.sb_script.specs.Reading.{read}
 
 abbrev pub forms : List Form → Forms
 forms [] = none
@@ -112,6 +113,25 @@ power_is_left_out = refl
 
 index_of_a_constant : read names (group (Symbol (codes "_") ∷ x ∷ Numeral (codes "2") ∷ [])) ≡ Err bad_index
 index_of_a_constant = refl
+
+-- (_ re.range 2); (_ x) and (_ re.^) are of no shape
+index_of_a_symbol : read names (group (Symbol (codes "_") ∷ Symbol (codes "re.range") ∷ Numeral (codes "2") ∷ []))
+    ≡ Err bad_index
+index_of_a_symbol = refl
+
+no_index : read names (group (Symbol (codes "_") ∷ x ∷ [])) ≡ Err malformed
+no_index = refl
+
+no_index_of_a_head : read names (group (group (Symbol (codes "_") ∷ Symbol (codes "re.^") ∷ []) ∷ x ∷ []))
+    ≡ Err malformed
+no_index_of_a_head = refl
+
+-- a constant |let| is not reached by a bare let
+a_constant_let : read ((codes "let", a_constant 1 text) ∷ names) (QuotedSymbol (codes "let")) ≡ Ok (constant 1 text)
+a_constant_let = refl
+
+not_reached : read ((codes "let", a_constant 1 text) ∷ names) (Symbol (codes "let")) ≡ Err malformed
+not_reached = refl
 
 -- a marked name, a symbol that is left out, a keyword
 marked_name : read names (Symbol (codes "m")) ≡ Err unsupported

@@ -1,107 +1,26 @@
 -- The reply to each entry of a script, and the state after it (SMT-LIB 2.6, section 4.2). For each command the errors
 -- stand in the order in which they are looked for; after an error the state is as before.
-use Rattle.std.specs.Prelude.{◌≡◌, ℕ, Bool, true, false, not, ◌||◌, if◌then◌else◌, List, [], ◌∷◌, ◌++◌, map, codes, Option, Some, None, Ok, Err}
-use Rattle.sb_reader.specs.declared.feed.Refusal.{Refusal}
-use Rattle.sb_reader.specs.declared.feed.Refusal.TheVariants.{StrayClose, BadToken, TooDeep, BareToken}
-use Rattle.sb_reader.specs.Forms.{Form, Symbol, QuotedSymbol}
+use Rattle.std.specs.Prelude.{ℕ, ◌+◌, Bool, true, false, not, ◌==◌, nat_le, if◌then◌else◌, List, [], ◌∷◌, ◌++◌, map, length, codes, Option, Some, None, option_map, Result, Ok, Err}
+use Rattle.sb_reader.specs.Forms.{Form, Symbol, QuotedSymbol, Group, none, more}
 use Rattle.sb_reader.specs.Entries.{Entry, Command, Refused}
-use Rattle.sb_script.specs.Names.{Name, is_name, is_reserved, begins_term, name_text, name_in_text}
-use Rattle.sb_meaning.specs.Terms.{Sort, boolean, integer, text, reglan}
+use Rattle.sb_script.specs.Names.{Name, is_name, is_reserved, begins_term, name_text}
+use Rattle.sb_meaning.specs.Terms.{Sort, Term, boolean, integer, text, reglan, parameter}
 use Rattle.sb_meaning.specs.Values.{Valuation, value_in}
 use Rattle.sb_meaning.specs.Printed.{printed}
-use Rattle.sb_script.specs.Symbols.{sort_named, is_theory_name, is_taken}
-use Rattle.sb_script.specs.Scopes.{Constant, a_constant, a_marked_name, named}
-use Rattle.sb_script.specs.Reading.{Fault, unknown_symbol, wrong_sort, wrong_count, bad_index, unsupported, bad_literal, malformed, read}
 use Rattle.sb_meaning.specs.Sorts.{sort_of, is_same_sort}
+use Rattle.sb_script.specs.Symbols.{found_in, sorts_of_constants, sort_named, is_theory_name, is_taken}
+use Rattle.sb_script.specs.Scopes.{Constant, Naming, a_constant, a_term, named}
+use Rattle.sb_script.specs.Faults.{Fault}
+use Rattle.sb_script.specs.Reading.{read, first_again}
+use Rattle.sb_script.specs.Errors as error
+use Rattle.sb_script.specs.Errors.{Error, first_of}
 use Rattle.sb_script.specs.Commands as command
-use Rattle.sb_script.specs.Commands.{command_of, symbol_in}
-use Rattle.sb_script.specs.State.{State, plain, satisfied, refuted, undecided, asserted, a_mark, Assumption, names_of, constants_of, declared, marked, with_assertion, Satisfiable}
-use Rattle.sb_script.specs.Fragment.{in_fragment, IsGiven}
+use Rattle.sb_script.specs.Commands.{Parameter, command_of, symbol_in}
+use Rattle.sb_script.specs.State.{State, Mode, plain, satisfied, refuted, undecided, asserted, Assumption, names_of, constants_of, declared, defined, marked, with_assertion, pushed, popped, without_assertions, start_behind}
+use Rattle.sb_script.specs.Steps.{Step, answers, leaves, checks, exits, above, all, line, quoted, success, fails_by, succeeds, is_unsupported, refusal_error, fault_error, refused_term, list_text}
+use Rattle.sb_script.specs.Options.{set_logic, set_option, get_option, get_info}
 
--- a line of its own
-abbrev pub line : List ℕ → List ℕ
-line bytes = bytes ++ 10 ∷ []
-
--- text between quotes
-abbrev pub quoted : List ℕ → List ℕ
-quoted bytes = 34 ∷ (bytes ++ 34 ∷ [])
-
-abbrev pub error_line : List ℕ → List ℕ
-error_line bytes = line (codes "(error " ++ (quoted bytes ++ codes ")"))
-
-abbrev pub unsupported_line : List ℕ
-unsupported_line = line (codes "unsupported")
-
--- success is answered by a line, or by nothing where :print-success is false
-abbrev pub success : State → List ℕ
-success s = if s.options.print_success then line (codes "success") else []
-
--- what becomes of a command: an answer and a new state, a check, or the end of the run
-pub data Step : Type 0 where
-  answers : List ℕ → State → Step
-  checks : Step
-  exits : List ℕ → Step
-
-abbrev pub fails : List ℕ → State → Step
-fails bytes s = answers (error_line bytes) s
-
--- the new state has the options by which it is answered
-abbrev pub succeeds : State → Step
-succeeds s = answers (success s) s
-
-abbrev pub is_unsupported : State → Step
-is_unsupported s = answers unsupported_line s
-
-abbrev pub refusal_text : Refusal → List ℕ
-refusal_text StrayClose = codes "unexpected )"
-refusal_text BadToken = codes "bad token"
-refusal_text TooDeep = codes "nesting deeper than 512"
-refusal_text BareToken = codes "malformed command"
-
-abbrev pub already_declared : Name → List ℕ
-already_declared name = codes "already declared " ++ name_in_text name
-
-abbrev pub unknown : Name → List ℕ
-unknown name = codes "unknown symbol " ++ name_in_text name
-
--- a term that is left out leaves a mark; another fault leaves the state
-abbrev pub refused_term : Fault → State → Step
-refused_term (unknown_symbol name) s = fails (unknown name) s
-refused_term wrong_sort s = fails (codes "wrong sort") s
-refused_term wrong_count s = fails (codes "wrong number of arguments") s
-refused_term bad_index s = fails (codes "bad index") s
-refused_term bad_literal s = fails (codes "bad token") s
-refused_term malformed s = fails (codes "malformed command") s
-refused_term unsupported s = is_unsupported (with_assertion a_mark s)
-
-abbrev pub is_logic : Name → Bool
-is_logic name = is_name name (codes "ALL") || (is_name name (codes "QF_S") || is_name name (codes "QF_SLIA"))
-
-abbrev pub set_logic : Name → State → Step
-set_logic name s =
-    if s.logic_set then fails (codes "logic already set") s
-    else if is_logic name then succeeds (record s { logic_set = true })
-    else is_unsupported s
-
--- true or false, by name
-abbrev pub truth_named : Name → Option Bool
-truth_named name = if is_name name (codes "true") then Some true else if is_name name (codes "false") then Some false
-    else None
-
--- the truth value of an option
-abbrev pub truth_in : Form → Option Bool
-truth_in value = elim (symbol_in value) [ Some name ↦ truth_named name | None ↦ None ]
-
-abbrev pub with_truth : Form → (Bool → State) → State → Step
-with_truth value new s = elim (truth_in value) [ Some b ↦ succeeds (new b) | None ↦ fails (codes "bad option value") s ]
-
-abbrev pub set_option : Name → Form → State → Step
-set_option key value s =
-    if is_name key (codes ":print-success")
-    then with_truth value (λ b. record s { options = record s.options { print_success = b } }) s
-    else if is_name key (codes ":produce-models")
-    then with_truth value (λ b. record s { options = record s.options { produce_models = b } }) s
-    else is_unsupported s
+-- Declarations.
 
 abbrev pub sort_of_form : Form → Option Sort
 sort_of_form sort = elim (symbol_in sort) [ Some name ↦ sort_named name | None ↦ None ]
@@ -109,20 +28,170 @@ sort_of_form sort = elim (symbol_in sort) [ Some name ↦ sort_named name | None
 -- a constant of a sort that is left out has a marked name
 abbrev pub declare_constant : Name → Form → State → Step
 declare_constant name sort s =
-    if is_taken (names_of s) name then fails (already_declared name) s
+    if is_taken (names_of s) name then fails_by (error.already_declared name) s
     else elim (sort_of_form sort)
     [ Some sort ↦ succeeds (declared name sort s) | None ↦ is_unsupported (marked name s) ]
 
 abbrev pub declare_function : Name → State → Step
-declare_function name s = if is_taken (names_of s) name then fails (already_declared name) s
+declare_function name s = if is_taken (names_of s) name then fails_by (error.already_declared name) s
     else is_unsupported (marked name s)
+
+-- Definitions.
+
+-- the sort of a parameter, or of what a definition makes
+abbrev pub sort_in_definition : Form → Option Sort
+sort_in_definition form = elim (symbol_in form) [
+  | Some name ↦ if is_name name (codes "RegLan") then Some reglan else found_in sorts_of_constants name
+  | None ↦ None
+]
+
+abbrev pub sorts_in_definition : List Parameter → Option (List Sort)
+sorts_in_definition [] = Some []
+sorts_in_definition (p ∷ ps) = elim (sort_in_definition p.1) [
+  | Some sort ↦ option_map (λ sorts. sort ∷ sorts) (sorts_in_definition ps)
+  | None ↦ None
+]
+
+abbrev pub names_of_parameters : List Parameter → List Name
+names_of_parameters [] = []
+names_of_parameters (p ∷ ps) = p.0 ∷ names_of_parameters ps
+
+-- the parameters as they stand for their places in the body, from this one on
+abbrev pub bound_from : ℕ → List Parameter → List Sort → List Naming
+bound_from place (p ∷ ps) (sort ∷ sorts) = (p.0, a_term (parameter place sort)) ∷ bound_from (place + 1) ps sorts
+bound_from place _ _ = []
+
+-- the errors of the names, in reading order
+abbrev pub name_errors : Name → List Parameter → State → List Error
+name_errors name parameters s =
+    (if is_taken (names_of s) name then error.already_declared name ∷ [] else [])
+    ++ elim (first_again [] (names_of_parameters parameters))
+    [ Some twice ↦ error.already_declared twice ∷ [] | None ↦ [] ]
+
+-- the errors of the body, where its sort is to be this one
+abbrev pub body_errors : Sort → Result Term Fault → List Error
+body_errors sort (Ok body) = if is_same_sort sort (sort_of body) then [] else error.wrong_sort ∷ []
+body_errors sort (Err fault) = elim (fault_error fault) [ Some e ↦ e ∷ [] | None ↦ [] ]
+
+-- the first of these errors, or else this
+abbrev pub unless_error : List Error → Step → State → Step
+unless_error errors step s = elim (first_of errors) [ Some e ↦ fails_by e s | None ↦ step ]
+
+-- a body that is left out marks the name
+abbrev pub defines : Name → List Sort → Result Term Fault → State → Step
+defines name sorts (Ok body) s = succeeds (defined name sorts body s)
+defines name sorts (Err fault) s = is_unsupported (marked name s)
+
+abbrev pub define_by : Name → List Parameter → List Sort → Sort → Form → State → Step
+define_by name parameters sorts sort body s =
+    let reading = read (bound_from 0 parameters sorts ++ names_of s) body in
+    unless_error (name_errors name parameters s ++ body_errors sort reading) (defines name sorts reading s) s
+
+-- where a sort is left out the body is not read
+abbrev pub define_function : Name → List Parameter → Form → Form → State → Step
+define_function name parameters sort body s = elim (sorts_in_definition parameters) [
+  | Some sorts ↦ elim (sort_in_definition sort) [
+    | Some made ↦ define_by name parameters sorts made body s
+    | None ↦ unless_error (name_errors name parameters s) (is_unsupported (marked name s)) s
+  ]
+  | None ↦ unless_error (name_errors name parameters s) (is_unsupported (marked name s)) s
+]
+
+-- Assertions and levels.
 
 abbrev pub assert : Form → State → Step
 assert form s = elim (read (names_of s) form) [
   | Ok term ↦ if is_same_sort boolean (sort_of term) then succeeds (with_assertion (asserted term) s)
-      else fails (codes "wrong sort") s
+      else fails_by error.wrong_sort s
   | Err fault ↦ refused_term fault s
 ]
+
+abbrev pub level_limit : ℕ
+level_limit = 65535
+
+abbrev pub push : ℕ → State → Step
+push n s = if nat_le (n + length s.above) level_limit then succeeds (pushed n s) else fails_by error.numeral_too_large s
+
+abbrev pub pop : ℕ → State → Step
+pop n s =
+    if nat_le n (length s.above) then (let new = popped n s in leaves (above (length new.above)) (success new) new)
+    else fails_by error.no_such_level s
+
+abbrev pub reset_assertions : State → Step
+reset_assertions s = let new = without_assertions s in leaves all (success new) new
+
+-- serials go on
+abbrev pub reset : State → Step
+reset s = let new = start_behind s.sorts in leaves all (success new) new
+
+-- Assumptions.
+
+-- what an item of a list of assumptions is
+pub data Assumed : Type 0 where
+  an_assumption : Assumption → Assumed
+  an_error : Error → Assumed
+
+-- a declared Bool constant, or its negation
+abbrev pub assumed_name : State → Bool → Name → Assumed
+assumed_name s positive name = elim (named (names_of s) name) [
+  | Some (a_constant serial sort) ↦ if is_same_sort boolean sort then an_assumption (serial, positive)
+      else an_error error.wrong_sort
+  | Some _ ↦ an_error error.not_a_literal
+  | None ↦ if is_theory_name name then an_error error.not_a_literal else an_error (error.unknown_symbol name)
+]
+
+-- a symbol that begins a term of its own shape is no literal
+abbrev pub assumed_bare : State → Bool → Name → Assumed
+assumed_bare s positive name = if begins_term name then an_error error.not_a_literal else assumed_name s positive name
+
+-- the symbol `not`, written between bars or not
+abbrev pub is_not : Form → Bool
+is_not form = elim (symbol_in form) [ Some name ↦ is_name name (codes "not") | None ↦ false ]
+
+abbrev pub assumed_form : State → Form → Assumed
+assumed_form s (Symbol name) = assumed_bare s true name
+assumed_form s (QuotedSymbol name) = assumed_name s true name
+assumed_form s (Group (more head (more (Symbol name) none))) =
+    if is_not head then assumed_bare s false name else an_error error.not_a_literal
+assumed_form s (Group (more head (more (QuotedSymbol name) none))) =
+    if is_not head then assumed_name s false name else an_error error.not_a_literal
+assumed_form s _ = an_error error.not_a_literal
+
+abbrev pub errors_in : List Assumed → List Error
+errors_in [] = []
+errors_in (an_assumption a ∷ items) = errors_in items
+errors_in (an_error e ∷ items) = e ∷ errors_in items
+
+abbrev pub assumptions_in : List Assumed → List Assumption
+assumptions_in [] = []
+assumptions_in (an_assumption a ∷ items) = a ∷ assumptions_in items
+assumptions_in (an_error e ∷ items) = assumptions_in items
+
+abbrev pub check_sat_assuming : List Form → State → Step
+check_sat_assuming forms s =
+    let items = map (assumed_form s) forms in unless_error (errors_in items) (checks (assumptions_in items)) s
+
+-- the name of the constant of a serial
+abbrev pub name_of : List Constant → ℕ → Name
+name_of [] serial = []
+name_of (c ∷ cs) serial = if c.serial == serial then c.name else name_of cs serial
+
+abbrev pub assumption_text : State → Assumption → List ℕ
+assumption_text s (serial, true) = name_text (name_of (constants_of s) serial)
+assumption_text s (serial, false) = codes "(not " ++ (name_text (name_of (constants_of s) serial) ++ codes ")")
+
+-- the assumptions of the last check that contradict what is asserted
+abbrev pub contradicted : Mode → State → Step
+contradicted (refuted assumptions) s = answers (line (list_text (map (assumption_text s) assumptions))) s
+contradicted plain s = fails_by error.no_unsat_answer s
+contradicted (satisfied v) s = fails_by error.no_unsat_answer s
+contradicted undecided s = fails_by error.no_unsat_answer s
+
+abbrev pub get_unsat_assumptions : State → Step
+get_unsat_assumptions s = if s.options.produce_unsat_assumptions then contradicted s.mode s
+    else fails_by error.assumptions_not_enabled s
+
+-- Values.
 
 abbrev pub sort_text : Sort → List ℕ
 sort_text boolean = codes "Bool"
@@ -142,24 +211,15 @@ abbrev pub value_text : Valuation → Name × (ℕ × Sort) → List ℕ
 value_text v asked = codes "("
     ++ (name_text asked.0 ++ (codes " " ++ (printed (value_in v asked.1.0 asked.1.1) ++ codes ")")))
 
--- texts between parentheses, with one space between
-abbrev pub spaced : List (List ℕ) → List ℕ
-spaced [] = []
-spaced (t ∷ []) = t
-spaced (t ∷ u ∷ ts) = t ++ (codes " " ++ spaced (u ∷ ts))
-
-abbrev pub list_text : List (List ℕ) → List ℕ
-list_text ts = codes "(" ++ (spaced ts ++ codes ")")
-
 -- with the values of the last check, where models are on and it was sat
 abbrev pub with_values : State → (Valuation → Step) → Step
 with_values s answer =
-    if not s.options.produce_models then fails (codes "models not enabled") s
+    if not s.options.produce_models then fails_by error.models_not_enabled s
     else elim s.mode [
       | satisfied v ↦ answer v
-      | plain ↦ fails (codes "no model") s
-      | refuted assumptions ↦ fails (codes "no model") s
-      | undecided ↦ fails (codes "no model") s
+      | plain ↦ fails_by error.no_model s
+      | refuted assumptions ↦ fails_by error.no_model s
+      | undecided ↦ fails_by error.no_model s
     ]
 
 abbrev pub get_model : State → Step
@@ -176,7 +236,7 @@ pub data Item : Type 0 where
 abbrev pub item_named : State → Name → Item
 item_named s name = elim (named (names_of s) name) [
   | Some (a_constant serial sort) ↦ item_constant name serial sort
-  | Some a_marked_name ↦ item_other
+  | Some _ ↦ item_other
   | None ↦ if is_theory_name name then item_other else item_unknown name
 ]
 
@@ -212,59 +272,36 @@ values_of items s = with_values s (λ v. elim (all_constants items) [
 abbrev pub get_value : List Form → State → Step
 get_value forms s =
     let items = map (item_of s) forms in
-    if some_malformed items then fails (codes "malformed command") s
-    else elim (first_unknown items) [ Some name ↦ fails (unknown name) s | None ↦ values_of items s ]
+    if some_malformed items then fails_by error.malformed_command s
+    else elim (first_unknown items) [ Some name ↦ fails_by (error.unknown_symbol name) s | None ↦ values_of items s ]
 
 abbrev pub step : command.Command → State → Step
 step (command.set_logic name) s = set_logic name s
 step (command.set_option key value) s = set_option key value s
+step (command.get_option key) s = get_option key s
+step command.set_info s = succeeds s
+step (command.get_info key) s = get_info key s
 step (command.declare_constant name sort) s = declare_constant name sort s
 step (command.declare_function name) s = declare_function name s
+step (command.define_function name parameters sort body) s = define_function name parameters sort body s
 step (command.assert form) s = assert form s
-step command.check_sat s = checks
+step (command.push n) s = push n s
+step (command.pop n) s = pop n s
+step command.check_sat s = checks []
+step (command.check_sat_assuming forms) s = check_sat_assuming forms s
 step command.get_model s = get_model s
 step (command.get_value forms) s = get_value forms s
+step command.get_unsat_assumptions s = get_unsat_assumptions s
+step (command.echo bytes) s = answers (line (quoted bytes)) s
+step command.reset_assertions s = reset_assertions s
+step command.reset s = reset s
 step command.exit s = exits (success s)
 step command.another s = is_unsupported s
 
 -- what becomes of an entry
 abbrev pub step_of : Entry → State → Step
-step_of (Command form) s = elim (command_of form) [ Some c ↦ step c s | None ↦ fails (codes "malformed command") s ]
-step_of (Refused refusal) s = fails (refusal_text refusal) s
-
--- what a check finds
-pub data Verdict : Type 0 where
-  is_sat : Valuation → Verdict
-  is_unsat : List Assumption → Verdict
-  is_outside : Verdict
-
--- When a verdict may be given: values that make all live assertions true, unsat only where there are none, and no
--- decision exactly where the fragment is left.
-abbrev pub IsVerdict : State → Verdict → Type 0
-IsVerdict s (is_sat v) = (in_fragment s ≡ true) × IsGiven s v
-IsVerdict s (is_unsat assumptions) = (in_fragment s ≡ true) × (assumptions ≡ []) × (Satisfiable s → ⊥)
-IsVerdict s is_outside = in_fragment s ≡ false
-
-abbrev pub verdict_text : Verdict → List ℕ
-verdict_text (is_sat v) = line (codes "sat")
-verdict_text (is_unsat assumptions) = line (codes "unsat")
-verdict_text is_outside = unsupported_line
-
--- the state after a verdict
-abbrev pub settled : Verdict → State → State
-settled (is_sat v) s = record s { mode = satisfied v }
-settled (is_unsat assumptions) s = record s { mode = refuted assumptions }
-settled is_outside s = record s { mode = plain }
-
--- the reply that a step may have, and the state after it
-abbrev pub IsReply : Step → State → List ℕ → State → Type 0
-IsReply (answers bytes new) s reply after = (reply ≡ bytes) × (after ≡ new)
-IsReply checks s reply after = (v : Verdict) × IsVerdict s v × (reply ≡ verdict_text v) × (after ≡ settled v s)
-IsReply (exits bytes) s reply after = (reply ≡ bytes) × (after ≡ s)
-
--- The reply to an entry, with its line feed, and the state after it.
-abbrev pub Replies : State → Entry → List ℕ → State → Type 0
-Replies s entry reply after = IsReply (step_of entry s) s reply after
+step_of (Command form) s = elim (command_of form) [ Some c ↦ step c s | None ↦ fails_by error.malformed_command s ]
+step_of (Refused refusal) s = fails_by (refusal_error refusal) s
 
 abbrev pub is_exit_command : Option command.Command → Bool
 is_exit_command (Some command.exit) = true

@@ -6,7 +6,9 @@ use Rattle.sb_reader.specs.Entries.{Entry, Command, Refused}
 use Rattle.sb_meaning.specs.Values.{Text}
 use Rattle.sb_script.specs.State.{State, start, a_mark}
 use Rattle.sb_script.specs.State as state
-use Rattle.sb_script.specs.Replies.{answers, checks, exits, step_of, settled, is_sat, line, unsupported_line}
+use Rattle.sb_script.specs.Steps.{answers, leaves, checks, exits, line, unsupported_line}
+use Rattle.sb_script.specs.Replies.{step_of}
+use Rattle.sb_script.specs.Verdicts.{settled, is_sat}
 use Rattle.sb_script.specs.ReadingExamples.{group, range}
 use Rattle.sb_script.specs.Fragment.{in_fragment}
 use Rattle.sb_lang.specs.Membership.{in_re}
@@ -20,7 +22,8 @@ abbrev run : List Entry → State → List ℕ × State
 run [] s = ([], s)
 run (entry ∷ entries) s = elim (step_of entry s) [
   | answers text new ↦ let rest = run entries new in (text ++ rest.0, rest.1)
-  | checks ↦ ([], s)
+  | leaves what text new ↦ let rest = run entries new in (text ++ rest.0, rest.1)
+  | checks given ↦ ([], s)
   | exits text ↦ (text, s)
 ]
 
@@ -89,15 +92,15 @@ asked = (run (declare (codes "x") (codes "String") ∷ command
 is_decided : in_fragment asked ≡ true
 is_decided = refl
 
-has_a_model : state.is_model asked ((0, Text (codes "a")) ∷ []) ≡ true
+has_a_model : state.is_model asked [] ((0, Text (codes "a")) ∷ []) ≡ true
 unfolding in_re cut power some_up_to iterate
 has_a_model = refl
 
-empty_word_is_none : state.is_model asked ((0, Text []) ∷ []) ≡ false
+empty_word_is_none : state.is_model asked [] ((0, Text []) ∷ []) ≡ false
 unfolding in_re cut power some_up_to iterate
 empty_word_is_none = refl
 
-no_value_is_none : state.is_model asked [] ≡ false
+no_value_is_none : state.is_model asked [] [] ≡ false
 no_value_is_none = refl
 
 -- a mark leaves the fragment

@@ -1,11 +1,12 @@
 -- The state between two commands (SMT-LIB 2.6, section 4.1): options, constants, levels with names and assertions, and
 -- the mode.
-use Rattle.std.specs.Prelude.{◌≡◌, ℕ, Bool, true, false, ◌&&◌, ◌==◌, List, [], ◌∷◌, ◌++◌, length}
+use Rattle.std.specs.Prelude.{◌≡◌, ℕ, Bool, true, false, ◌&&◌, ◌==◌, List, [], ◌∷◌, ◌++◌, map, length, drop, replicate}
 use Rattle.sb_script.specs.Names.{Name}
-use Rattle.sb_meaning.specs.Terms.{Sort, Term}
+use Rattle.sb_meaning.specs.Terms.{Sort, Term, boolean, constant, apply, no_terms, with_term}
+use Rattle.sb_meaning.specs.Terms as symbol
 use Rattle.sb_meaning.specs.Values.{Valuation, is_of}
 use Rattle.sb_meaning.specs.Truth.{all_hold}
-use Rattle.sb_script.specs.Scopes.{Naming, Constant, a_constant, a_marked_name, constants_in}
+use Rattle.sb_script.specs.Scopes.{Named, Naming, Constant, a_constant, a_definition, a_marked_name, constants_in}
 
 -- what stands for an assertion: its term, or a mark where it was left out
 pub data Assertion : Type 0 where
@@ -28,6 +29,10 @@ pub data Mode : Type 0 where
 pub record Options : Type 0 where
   pub print_success : Bool
   pub produce_models : Bool
+  pub produce_unsat_assumptions : Bool
+  pub global_declarations : Bool
+  -- 0 stands for 2^64 - 1
+  pub resource_limit : ℕ
 
 pub record Level : Type 0 where
   -- in the order of declaration
@@ -37,6 +42,8 @@ pub record Level : Type 0 where
 
 pub record State : Type 0 where
   pub logic_set : Bool
+  -- a logic was set, or something declared, defined or asserted, so that it is too late for :global-declarations
+  pub begun : Bool
   pub options : Options
   -- the sorts of all constants declared so far, by serial
   pub sorts : List Sort
@@ -48,15 +55,29 @@ pub record State : Type 0 where
 abbrev pub empty_level : Level
 empty_level = record { names = []; assertions = [] }
 
-abbrev pub start : State
-start = record {
+abbrev pub first_options : Options
+first_options = record {
+  print_success = true;
+  produce_models = false;
+  produce_unsat_assumptions = false;
+  global_declarations = false;
+  resource_limit = 0;
+}
+
+-- the start, where constants of these sorts were declared before
+abbrev pub start_behind : List Sort → State
+start_behind sorts = record {
   logic_set = false;
-  options = record { print_success = true; produce_models = false };
-  sorts = [];
+  begun = false;
+  options = first_options;
+  sorts = sorts;
   mode = plain;
   first = empty_level;
   above = [];
 }
+
+abbrev pub start : State
+start = start_behind []
 
 -- all levels one behind the other, the first one in front
 abbrev pub over_levels : {A : Type 0} → (Level → List A) → Level → List Level → List A
@@ -83,18 +104,37 @@ in_level change first (level ∷ levels) = (first, change level ∷ levels)
 abbrev pub innermost : (Level → Level) → State → State
 innermost change s = let levels = in_level change s.first s.above in record s { first = levels.0; above = levels.1 }
 
--- a new constant, with the next serial; a name that is marked; a new assertion
+-- something is said that the last check did not look at
+abbrev pub said : State → State
+said s = record s { begun = true; mode = plain }
+
+-- a new name, of this
+abbrev pub with_name : Name → Named → State → State
+with_name name named s = innermost (λ l. record l { names = l.names ++ (name, named) ∷ [] }) (said s)
+
+-- a new constant, with the next serial; a definition; a name that is marked; a new assertion
 abbrev pub declared : Name → Sort → State → State
-declared name sort s =
-    innermost (λ l. record l { names = l.names ++ (name, a_constant (length s.sorts) sort) ∷ [] })
-    (record s { sorts = s.sorts ++ sort ∷ []; mode = plain })
+declared name sort s = with_name name (a_constant (length s.sorts) sort) (record s { sorts = s.sorts ++ sort ∷ [] })
+
+abbrev pub defined : Name → List Sort → Term → State → State
+defined name sorts body s = with_name name (a_definition sorts body) s
 
 abbrev pub marked : Name → State → State
-marked name s = innermost (λ l. record l { names = l.names ++ (name, a_marked_name) ∷ [] }) (record s { mode = plain })
+marked name s = with_name name a_marked_name s
 
 abbrev pub with_assertion : Assertion → State → State
-with_assertion assertion s =
-    innermost (λ l. record l { assertions = l.assertions ++ assertion ∷ [] }) (record s { mode = plain })
+with_assertion assertion s = innermost (λ l. record l { assertions = l.assertions ++ assertion ∷ [] }) (said s)
+
+-- so many levels more, and so many less
+abbrev pub pushed : ℕ → State → State
+pushed n s = record s { mode = plain; above = replicate n empty_level ++ s.above }
+
+abbrev pub popped : ℕ → State → State
+popped n s = record s { mode = plain; above = drop n s.above }
+
+-- all levels but the first go, and what the first one holds
+abbrev pub without_assertions : State → State
+without_assertions s = record s { mode = plain; first = empty_level; above = [] }
 
 -- the terms of assertions, without the marks
 abbrev pub terms_in : List Assertion → List Term
@@ -111,9 +151,14 @@ fits [] [] = true
 fits (c ∷ cs) (p ∷ v) = ((c.serial == p.0) && is_of c.sort p.1) && fits cs v
 fits _ _ = false
 
--- The values are of the live constants, and make each live assertion true.
-abbrev pub is_model : State → Valuation → Bool
-is_model s v = fits (constants_of s) v && all_hold (live_terms s) v
+-- an assumption as a term
+abbrev pub assumed : Assumption → Term
+assumed (serial, true) = constant serial boolean
+assumed (serial, false) = apply symbol.core_not (with_term (constant serial boolean) no_terms)
 
-abbrev pub Satisfiable : State → Type 0
-Satisfiable s = (v : Valuation) × (is_model s v ≡ true)
+-- The values are of the live constants, and make each assumption and each live assertion true.
+abbrev pub is_model : State → List Assumption → Valuation → Bool
+is_model s assumptions v = fits (constants_of s) v && all_hold (map assumed assumptions ++ live_terms s) v
+
+abbrev pub Satisfiable : State → List Assumption → Type 0
+Satisfiable s assumptions = (v : Valuation) × (is_model s assumptions v ≡ true)

@@ -1,48 +1,101 @@
--- The symbols of the theories Core, Ints and Unicode Strings by name: those that are read, and those that are left out.
-use Rattle.std.specs.Prelude.{Bool, true, if◌then◌else◌, List, [], ◌∷◌, codes, Option, Some, None, ◌||◌, is_some}
+-- The names of the theories Core, Ints and Unicode Strings: symbols that are read, and what is left out.
+use Rattle.std.specs.Prelude.{Bool, true, not, ◌||◌, if◌then◌else◌, List, [], ◌∷◌, ◌++◌, map, filter, codes, Option, Some, None, is_some}
 use Rattle.sb_script.specs.Names.{Name, is_name, is_among}
-use Rattle.sb_meaning.specs.Terms.{Sort, Symbol, text}
+use Rattle.sb_script.specs.Brought.{a_symbol, a_sort, is_brought}
+use Rattle.sb_meaning.specs.Terms.{Sort, Symbol, boolean, integer, text}
 use Rattle.sb_meaning.specs.Terms as symbol
 use Rattle.sb_script.specs.Scopes.{Naming, named}
 
--- the symbols that are read, by name
-abbrev pub symbol_named : Name → Option Symbol
-symbol_named name =
-    if is_name name (codes "str.in_re") then Some symbol.str_in_re
-    else if is_name name (codes "str.to_re") then Some symbol.str_to_re
-    else if is_name name (codes "re.range") then Some symbol.re_range
-    else if is_name name (codes "re.++") then Some symbol.re_concat
-    else if is_name name (codes "re.union") then Some symbol.re_union
-    else if is_name name (codes "re.*") then Some symbol.re_star
-    else if is_name name (codes "re.+") then Some symbol.re_plus
-    else None
+-- what stands in a table by this name; the first row counts
+abbrev pub found_in : {A : Type 0} → List (Name × A) → Name → Option A
+found_in [] name = None
+found_in (row ∷ rows) name = if is_name name row.0 then Some row.1 else found_in rows name
 
--- The names of the theories that are not read, and names that they once had: a term that uses one is left out.
-abbrev pub left_out_names : List Name
-left_out_names =
-    codes "true" ∷ codes "false" ∷ codes "not" ∷ codes "and" ∷ codes "or" ∷ codes "=>" ∷ codes "xor" ∷ codes "ite" ∷
-    codes "=" ∷ codes "distinct"
-    ∷ codes "<=" ∷ codes "<" ∷ codes ">=" ∷ codes ">" ∷ codes "+" ∷ codes "*" ∷ codes "-" ∷ codes "div" ∷ codes "mod" ∷
-    codes "abs"
-    ∷ codes "str.++" ∷ codes "str.len" ∷ codes "str.<" ∷ codes "str.<=" ∷ codes "str.at" ∷ codes "str.substr"
-    ∷ codes "str.prefixof" ∷ codes "str.suffixof" ∷ codes "str.contains" ∷ codes "str.indexof"
+-- the symbols of the theories, by name
+abbrev pub symbols_of_theories : List (Name × Symbol)
+symbols_of_theories =
+    (codes "true", symbol.core_true)
+    ∷ (codes "false", symbol.core_false)
+    ∷ (codes "not", symbol.core_not)
+    ∷ (codes "and", symbol.core_and)
+    ∷ (codes "or", symbol.core_or)
+    ∷ (codes "=>", symbol.core_implies)
+    ∷ (codes "xor", symbol.core_xor)
+    ∷ (codes "ite", symbol.core_ite)
+    ∷ (codes "=", symbol.core_equal)
+    ∷ (codes "distinct", symbol.core_distinct)
+    ∷ (codes "<=", symbol.at_most)
+    ∷ (codes "<", symbol.less)
+    ∷ (codes ">=", symbol.at_least)
+    ∷ (codes ">", symbol.greater)
+    ∷ (codes "+", symbol.plus)
+    ∷ (codes "*", symbol.times)
+    ∷ (codes "-", symbol.minus)
+    ∷ (codes "str.++", symbol.str_concat)
+    ∷ (codes "str.len", symbol.str_len)
+    ∷ (codes "str.in_re", symbol.str_in_re)
+    ∷ (codes "str.prefixof", symbol.str_prefixof)
+    ∷ (codes "str.suffixof", symbol.str_suffixof)
+    ∷ (codes "str.contains", symbol.str_contains)
+    ∷ (codes "str.to_re", symbol.str_to_re)
+    ∷ (codes "re.none", symbol.re_none)
+    ∷ (codes "re.all", symbol.re_all)
+    ∷ (codes "re.allchar", symbol.re_allchar)
+    ∷ (codes "re.++", symbol.re_concat)
+    ∷ (codes "re.union", symbol.re_union)
+    ∷ (codes "re.inter", symbol.re_inter)
+    ∷ (codes "re.diff", symbol.re_diff)
+    ∷ (codes "re.*", symbol.re_star)
+    ∷ (codes "re.+", symbol.re_plus)
+    ∷ (codes "re.opt", symbol.re_opt)
+    ∷ (codes "re.comp", symbol.re_comp)
+    ∷ (codes "re.range", symbol.re_range) ∷ []
+
+-- the symbols that take indices; those of a numeral tell apart what is meant
+abbrev pub indexed_symbols : List (Name × Symbol)
+indexed_symbols = (codes "re.^", symbol.re_power 0) ∷ (codes "re.loop", symbol.re_loop 0 0) ∷ []
+
+-- the names of the theories that are not read, and names that they once had
+abbrev pub names_left_out : List Name
+names_left_out =
+    codes "div" ∷ codes "mod" ∷ codes "abs"
+    ∷ codes "str.<" ∷ codes "str.<=" ∷ codes "str.at" ∷ codes "str.substr" ∷ codes "str.indexof"
     ∷ codes "str.replace" ∷ codes "str.replace_all" ∷ codes "str.replace_re" ∷ codes "str.replace_re_all"
     ∷ codes "str.is_digit" ∷ codes "str.to_code" ∷ codes "str.from_code" ∷ codes "str.to_int" ∷ codes "str.from_int"
-    ∷ codes "re.none" ∷ codes "re.all" ∷ codes "re.allchar" ∷ codes "re.inter" ∷ codes "re.diff"
-    ∷ codes "re.opt" ∷ codes "re.comp" ∷ codes "re.^" ∷ codes "re.loop"
     ∷ codes "str.in.re" ∷ codes "str.to.re" ∷ codes "re.nostr" ∷ []
+
+abbrev pub is_brought_row : Name × Symbol → Bool
+is_brought_row row = is_brought (a_symbol row.1)
+
+-- the symbol of a name, where it is read and takes no index
+abbrev pub symbol_named : Name → Option Symbol
+symbol_named name = found_in (filter is_brought_row symbols_of_theories) name
+
+-- the name is of a symbol that is read and takes indices
+abbrev pub is_indexed : Name → Bool
+is_indexed name = is_some (found_in (filter is_brought_row indexed_symbols) name)
+
+-- a term that uses one of these names is left out
+abbrev pub left_out_names : List Name
+left_out_names =
+    map (λ row. row.0) (filter (λ row. not (is_brought_row row)) symbols_of_theories)
+    ++ (map (λ row. row.0) (filter (λ row. not (is_brought_row row)) indexed_symbols) ++ names_left_out)
 
 abbrev pub is_left_out : Name → Bool
 is_left_out name = is_among left_out_names name
 
 -- a name of the theories, which can't be declared
 abbrev pub is_theory_name : Name → Bool
-is_theory_name name = elim (symbol_named name) [ Some s ↦ true | None ↦ is_left_out name ]
+is_theory_name name = elim (symbol_named name) [ Some s ↦ true | None ↦ is_indexed name || is_left_out name ]
 
 -- a name that is live, marked or of the theories can't be declared
 abbrev pub is_taken : List Naming → Name → Bool
 is_taken names name = is_some (named names name) || is_theory_name name
 
--- the sorts that constants may have, by name
+-- the sorts of constants, by name
+abbrev pub sorts_of_constants : List (Name × Sort)
+sorts_of_constants = (codes "Bool", boolean) ∷ (codes "Int", integer) ∷ (codes "String", text) ∷ []
+
+-- the sort of a name, where constants may have it
 abbrev pub sort_named : Name → Option Sort
-sort_named name = if is_name name (codes "String") then Some text else None
+sort_named name = found_in (filter (λ row. is_brought (a_sort row.1)) sorts_of_constants) name

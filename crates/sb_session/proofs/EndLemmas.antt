@@ -1,10 +1,11 @@
 -- All of the script is read.
-use Rattle.std.proofs.Common.{◌≡◌, ℕ, Bool, true, List, [], ◌++◌, length, take, drop, Option, Some, None, IfSome, refl, sym, ap, ◌∙◌, subst, inl, inr, arith}
+use Rattle.std.proofs.Common.{◌≡◌, ℕ, Bool, true, List, [], ◌∷◌, ◌++◌, length, drop, Option, Some, None, IfSome, refl, sym, ap, ◌∙◌, subst, inl, inr, arith}
 use Rattle.std.proofs.Math.Seq.{drop-length}
 use Rattle.std.proofs.lemmas.Bool.{false≢true}
 use Rattle.std.proofs.lemmas.List.{append-nil}
 use Rattle.sb_world.specs.Outside.{Outside, write_at}
 use Rattle.sb_world.specs.declared.OutPort.TheVariants as out_port
+use Rattle.sb_world.proofs.CallerLemmas.{write_at-moves}
 use Rattle.sb_reader.specs.declared.feed.Ending.TheVariants.{Clean, Unfinished}
 use Rattle.sb_reader.specs.Entries.{HoldsNoEntry, Begins}
 use Rattle.sb_reader.specs.Feeding as feed
@@ -16,11 +17,11 @@ use Rattle.sb_session.specs.declared.solve.Pause.TheVariants.{Exited, Waiting, E
 use Rattle.sb_session.specs.declared.solve.SolveStatus.TheVariants as status
 use Rattle.sb_session.specs.Commanding.{SessionState, CutOf}
 use Rattle.sb_session.specs.Progress.{Sofar}
-use Rattle.sb_session.specs.Reading.{IsFront, IsAll, AllAnswered, Cut}
+use Rattle.sb_session.specs.Reading.{IsFront, IsAll, Answered, AllAnswered, Cut}
 use Rattle.sb_session.specs.Pausing.{NoneLeft, Pauses}
-use Rattle.sb_session.specs.Solve.{opened, Run, AnsweredUnfinished, CutShort}
+use Rattle.sb_session.specs.Solve.{Asked, opened, Run, AnsweredUnfinished, CutShort}
 use Rattle.sb_session.specs.Underway.{AllRead}
-use Rattle.sb_session.proofs.ReadingLemmas.{writes_on}
+use Rattle.sb_session.proofs.WritingLemmas.{writes_on}
 
 front_of : (left : Option (List ℕ)) (bytes : List ℕ) → IfSome left (λ l. l ≡ bytes)
     → IfSome left (λ l. l ≡ bytes ++ drop (length bytes) l)
@@ -32,23 +33,26 @@ pub front_of_all : (bytes : List ℕ) (o : Outside) → IsAll bytes o → IsFron
 front_of_all bytes o h = front_of o.script_in.left bytes h
 
 -- no more bytes come
-pub end_sofar : (old : Outside) (bytes : List ℕ) (kept finished : feed.Unanswered) (session : SessionState)
+pub end_sofar : (asked : Asked) (old : Outside) (bytes : List ℕ) (kept finished : feed.Unanswered)
+    (session : SessionState)
     (now : Outside)
-    → finished ≡ (kept.0, true) → AllRead old bytes kept session now
-    → Sofar (opened old) bytes finished (state_of session.stack) now
-end_sofar old bytes kept finished session now e read =
+    → finished ≡ (kept.0, true) → AllRead asked old bytes kept session now
+    → Sofar (opened asked old) bytes finished (state_of session.stack) now
+end_sofar asked old bytes kept finished session now e read =
     let sofar = read.sofar in
     let left = sofar.gap ++ kept.0 in
-    subst (λ (k : feed.Unanswered). Sofar (opened old) bytes k (state_of session.stack) now) (sym e) (record {
+    subst (λ (k : feed.Unanswered). Sofar (opened asked old) bytes k (state_of session.stack) now) (sym e) (record {
       entries = sofar.entries;
-      text = sofar.text;
+      writes = sofar.writes;
       gap = sofar.gap;
       is_gap = sofar.is_gap;
-      begins = subst (λ (b : List ℕ). Begins true b sofar.entries left) (append-nil bytes)
-          (subst (λ (l : List ℕ). Begins true (bytes ++ []) sofar.entries l) (append-nil left)
-          (beginning_stays true bytes [] sofar.entries left
-          (subst (λ (ended : Bool). Begins ended bytes sofar.entries left) read.goes_on sofar.begins)));
-      answers = sofar.answers;
+      answered = record {
+        begins = subst (λ (b : List ℕ). Begins true b sofar.entries left) (append-nil bytes)
+            (subst (λ (l : List ℕ). Begins true (bytes ++ []) sofar.entries l) (append-nil left)
+            (beginning_stays true bytes [] sofar.entries left
+            (subst (λ (ended : Bool). Begins ended bytes sofar.entries left) read.goes_on sofar.answered.begins)));
+        along = sofar.answered.along;
+      };
       outside = sofar.outside;
     })
 
@@ -59,88 +63,92 @@ pub all_answered : (o : Outside) (bytes : List ℕ) (kept : feed.Unanswered) (se
     → AllAnswered o bytes ended (none.sofar.gap ++ kept.0) now
 all_answered o bytes kept session now ended none e = record {
   entries = none.sofar.entries;
-  text = none.sofar.text;
+  writes = none.sofar.writes;
   s = state_of session.stack;
-  begins = subst (λ (b : Bool). Begins b bytes none.sofar.entries (none.sofar.gap ++ kept.0)) e none.sofar.begins;
+  answered = subst
+      (λ (b : Bool). Answered bytes b none.sofar.entries (none.sofar.gap ++ kept.0) none.sofar.writes
+      (state_of session.stack))
+      e none.sofar.answered;
   none = gap_before_none ended none.sofar.gap kept.0 none.sofar.is_gap
       (subst (λ (b : Bool). HoldsNoEntry b kept.0) e none.none);
-  answers = none.sofar.answers;
   outside = none.sofar.outside;
 }
 
 -- the run is done
-pub end_done : (pause : Pause) (old : Outside) (bytes : List ℕ) (kept after : feed.Unanswered)
+pub end_done : (pause : Pause) (asked : Asked) (old : Outside) (bytes : List ℕ) (kept after : feed.Unanswered)
     (session session' : SessionState)
     (before now : Outside) → (pause ≡ Ended Unfinished → ⊥) → after.1 ≡ true
-    → AllRead old bytes kept session before → Pauses pause (opened old) bytes after session' now
-    → Run status.Done old now
-end_done Exited old bytes kept after session session' before now ne ended read exit = inr (record {
+    → AllRead asked old bytes kept session before → Pauses pause (opened asked old) bytes after session' now
+    → Run asked status.Done old now
+end_done Exited asked old bytes kept after session session' before now ne ended read exit = inr (record {
   bytes = bytes;
   ended = after.1;
-  front = front_of_all bytes (opened old) read.all;
+  front = front_of_all bytes (opened asked old) read.all;
   whole = λ _. read.all;
   within_limit = let below = read.below_limit in omega arith;
   answered = exit;
 })
-end_done Waiting old bytes kept after session session' before now ne ended read waits =
+end_done Waiting asked old bytes kept after session session' before now ne ended read waits =
     absurd (false≢true (sym waits.0 ∙ ended))
-end_done (Ended Clean) old bytes kept after session session' before now ne ended read ends = inl (record {
+end_done (Ended Clean) asked old bytes kept after session session' before now ne ended read ends = inl (record {
   script = bytes;
   left = ends.2.sofar.gap ++ after.0;
   all = read.all;
   below_limit = read.below_limit;
   clean = gap_before_gap ends.2.sofar.gap after.0 ends.2.sofar.is_gap ∙ ends.1;
-  answered = all_answered (opened old) bytes after session' now true ends.2 ends.0;
+  answered = all_answered (opened asked old) bytes after session' now true ends.2 ends.0;
 })
-end_done (Ended Unfinished) old bytes kept after session session' before now ne ended read ends = absurd (ne refl)
+end_done (Ended Unfinished) asked old bytes kept after session session' before now ne ended read ends = absurd (ne refl)
 
 -- the script ended within a form, and that is answered
-pub end_unfinished : (old : Outside) (bytes : List ℕ) (kept after : feed.Unanswered) (session session' : SessionState)
+pub end_unfinished : (asked : Asked) (old : Outside) (bytes : List ℕ) (kept after : feed.Unanswered)
+    (session session' : SessionState)
     (before between now : Outside)
-    → AllRead old bytes kept session before → Pauses (Ended Unfinished) (opened old) bytes after session' between
-    → now ≡ write_at out_port.Answers unfinished_line between → AnsweredUnfinished old now
-end_unfinished old bytes kept after session session' before between now read ends e = record {
+    → AllRead asked old bytes kept session before
+    → Pauses (Ended Unfinished) (opened asked old) bytes after session' between
+    → now ≡ write_at out_port.Answers unfinished_line between → AnsweredUnfinished asked old now
+end_unfinished asked old bytes kept after session session' before between now read ends e = record {
   script = bytes;
   left = ends.2.sofar.gap ++ after.0;
   before = between;
   all = read.all;
   below_limit = read.below_limit;
   unfinished = gap_before_gap ends.2.sofar.gap after.0 ends.2.sofar.is_gap ∙ ends.1;
-  answered = all_answered (opened old) bytes after session' between true ends.2 ends.0;
-  outside = e;
+  answered = all_answered (opened asked old) bytes after session' between true ends.2 ends.0;
+  outside = e ∙ write_at-moves out_port.Answers unfinished_line between;
 }
 
 -- the run is cut short once all is read
-pub end_cut : (old : Outside) (bytes : List ℕ) (kept : feed.Unanswered) (session : SessionState) (before now : Outside)
-    → AllRead old bytes kept session before → Cut (opened old) bytes true now → CutShort old now
-end_cut old bytes kept session before now read cut = inr (record {
+pub end_cut : (asked : Asked) (old : Outside) (bytes : List ℕ) (kept : feed.Unanswered) (session : SessionState)
+    (before now : Outside)
+    → AllRead asked old bytes kept session before → Cut (opened asked old) bytes true now → CutShort asked old now
+end_cut asked old bytes kept session before now read cut = inr (record {
   bytes = bytes;
   ended = true;
-  front = front_of_all bytes (opened old) read.all;
+  front = front_of_all bytes (opened asked old) read.all;
   whole = λ _. read.all;
   cut = cut;
 })
 
 -- the answer to the script's end is cut
-pub end_unfinished_cut : (old : Outside) (bytes : List ℕ) (kept after : feed.Unanswered)
+pub end_unfinished_cut : (asked : Asked) (old : Outside) (bytes : List ℕ) (kept after : feed.Unanswered)
     (session session' : SessionState)
     (before between now : Outside)
-    → AllRead old bytes kept session before → Pauses (Ended Unfinished) (opened old) bytes after session' between
-    → CutOf out_port.Answers unfinished_line between now → CutShort old now
-end_unfinished_cut old bytes kept after session session' before between now read ends cut =
+    → AllRead asked old bytes kept session before
+    → Pauses (Ended Unfinished) (opened asked old) bytes after session' between
+    → CutOf ((out_port.Answers, unfinished_line) ∷ []) between now → CutShort asked old now
+end_unfinished_cut asked old bytes kept after session session' before between now read ends cut =
     let sofar = ends.2.sofar in
-    let all = all_answered (opened old) bytes after session' between true ends.2 ends.0 in
-    end_cut old bytes kept session before now read (inr (record {
-      entries = sofar.entries;
+    let all = all_answered (opened asked old) bytes after session' between true ends.2 ends.0 in
+    end_cut asked old bytes kept session before now read (inr (record {
+      entries = all.entries;
       left = sofar.gap ++ after.0;
-      text = sofar.text;
-      s = state_of session'.stack;
-      begins = subst (λ (b : Bool). Begins b bytes sofar.entries (sofar.gap ++ after.0)) ends.0 sofar.begins;
-      answers = sofar.answers;
-      further = unfinished_line;
-      is_further = inr (refl, all.none, gap_before_gap sofar.gap after.0 sofar.is_gap ∙ ends.1, refl);
-      out = cut.0;
-      less = cut.1;
-      outside = writes_on (opened old) between now (length bytes) sofar.text (take cut.0 unfinished_line) sofar.outside
-          cut.2;
+      writes = all.writes;
+      s = all.s;
+      answered = all.answered;
+      own = (out_port.Answers, unfinished_line) ∷ [];
+      next = inr (refl, all.none, gap_before_gap sofar.gap after.0 sofar.is_gap ∙ ends.1, refl);
+      front = cut.0;
+      proper = cut.1;
+      outside = writes_on (opened asked old) between now (length bytes) all.writes cut.0 all.outside cut.2;
     }))

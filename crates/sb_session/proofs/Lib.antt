@@ -1,4 +1,5 @@
 pub mod ExitFacts
+pub mod WritingLemmas
 pub mod CommandLemmas
 pub mod ReadingLemmas
 pub mod TurnLemmas
@@ -10,4 +11,5 @@ pub mod TermShapes
 pub mod Conjunctions
 pub mod LeastWords
 pub mod OneMembership
+pub mod DefaultValues
 pub mod Verdicts

@@ -16,12 +16,13 @@ use Rattle.sb_meaning.specs.Terms.{Term, text}
 use Rattle.sb_meaning.specs.Values.{Valuation, Text, value_in}
 use Rattle.sb_meaning.specs.Truth.{means_reglan, meaning_of, holds, all_hold}
 use Rattle.sb_script.specs.State.{Assertion, asserted, a_mark, terms_in}
-use Rattle.sb_script.specs.Fragment.{is_inside, are_inside, about, is_about, words_for}
+use Rattle.sb_script.specs.Fragment.{is_inside, are_inside}
 use Rattle.sb_problem.specs.Normals.{IsRegexOf}
 use Rattle.sb_stack.specs.Stacked.{values_from}
 use Rattle.sb_session.specs.Deciding.{IsPut, IsSofar, in_each, ids_at, membership_of, word_at}
 use Rattle.sb_regex.proofs.CallerLemmas.{names_at, names_below, numbers_kept}
 use Rattle.sb_session.proofs.Conjunctions.{in_each-append, in_each_kept}
+use Rattle.sb_script.specs.Models.{about, is_about, words_for}
 
 -- a membership is true where the constant's word is in the regular expression
 pub membership_holds : (v : Valuation) (serial : ℕ) (R : Term) (reglan : RegLan) (w : List ℕ)

@@ -1,9 +1,8 @@
 -- A piece of the script is read.
-use Rattle.std.proofs.Common.{◌≡◌, ℕ, Bool, false, List, ◌++◌, length, Result, Ok, Err, IfOk, OnErr, append_assoc, length-append, sym, ap, ◌∙◌, subst, inl}
-use Rattle.sb_world.specs.Outside.{Outside, read_at, write_at}
-use Rattle.sb_world.proofs.CallerLemmas.{read_at-add}
+use Rattle.std.proofs.Common.{arith, ◌+◌, ◌≡◌, ℕ, Bool, false, List, ◌++◌, length, Result, Ok, Err, IfOk, OnErr, append_assoc, length-append, sym, ap, ◌∙◌, subst, inl}
+use Rattle.sb_world.specs.Outside.{Outside, read_at}
+use Rattle.sb_world.specs.Moved.{Write, moved_by}
 use Rattle.sb_world.specs.declared.InPort.TheVariants as in_port
-use Rattle.sb_world.specs.declared.OutPort.TheVariants as out_port
 use Rattle.sb_reader.specs.Entries.{Begins}
 use Rattle.sb_reader.specs.Feeding as feed
 use Rattle.sb_reader.proofs.CallerLemmas.{beginning_stays}
@@ -12,18 +11,19 @@ use Rattle.sb_session.specs.declared.command.SessionFault.{SessionFault}
 use Rattle.sb_session.specs.declared.solve.Pause.{Pause}
 use Rattle.sb_session.specs.Commanding.{SessionState}
 use Rattle.sb_session.specs.Progress.{Sofar}
-use Rattle.sb_session.specs.Reading.{Cut, after_work}
+use Rattle.sb_session.specs.Reading.{work, Cut}
 use Rattle.sb_session.specs.Pausing.{Pauses}
 use Rattle.sb_session.proofs.ReadingLemmas.{cut_between}
+use Rattle.sb_session.proofs.WritingLemmas.{reads_on}
 
 -- more is read
-reads_on : (opened before now : Outside) (bytes piece text : List ℕ) → before ≡ after_work (length bytes) text opened
-    → now ≡ read_at in_port.Script (length piece) before
-    → now ≡ after_work (length (bytes ++ piece)) text opened
-reads_on opened before now bytes piece text e h =
-    h ∙ ap (read_at in_port.Script (length piece)) e
-    ∙ ap (write_at out_port.Answers text) (read_at-add in_port.Script (length bytes) (length piece) opened
-    ∙ ap (λ (n : ℕ). read_at in_port.Script n opened) (sym (length-append bytes piece)))
+piece_read : (opened before now : Outside) (bytes piece : List ℕ) (writes : List Write)
+    → before ≡ moved_by (work (length bytes) writes) opened → now ≡ read_at in_port.Script (length piece) before
+    → now ≡ moved_by (work (length (bytes ++ piece)) writes) opened
+piece_read opened before now bytes piece writes e h =
+    reads_on opened before now (length bytes) (length piece) writes e h
+    ∙ ap (λ (n : ℕ). moved_by (work n writes) opened)
+    (let long : length (bytes ++ piece) ≡ length bytes + length piece = length-append bytes piece in omega arith)
 
 -- a piece more is there
 pub push_on : (opened : Outside) (bytes piece : List ℕ) (old : feed.Unanswered) (s : State) (before now : Outside)
@@ -31,15 +31,17 @@ pub push_on : (opened : Outside) (bytes piece : List ℕ) (old : feed.Unanswered
     → now ≡ read_at in_port.Script (length piece) before → Sofar opened (bytes ++ piece) (old.0 ++ piece, false) s now
 push_on opened bytes piece old s before now goes sofar moved = record {
   entries = sofar.entries;
-  text = sofar.text;
+  writes = sofar.writes;
   gap = sofar.gap;
   is_gap = sofar.is_gap;
-  begins = subst (λ (left : List ℕ). Begins false (bytes ++ piece) sofar.entries left)
-      (append_assoc sofar.gap old.0 piece)
-      (beginning_stays false bytes piece sofar.entries (sofar.gap ++ old.0)
-      (subst (λ (ended : Bool). Begins ended bytes sofar.entries (sofar.gap ++ old.0)) goes sofar.begins));
-  answers = sofar.answers;
-  outside = reads_on opened before now bytes piece sofar.text sofar.outside moved;
+  answered = record {
+    begins = subst (λ (left : List ℕ). Begins false (bytes ++ piece) sofar.entries left)
+        (append_assoc sofar.gap old.0 piece)
+        (beginning_stays false bytes piece sofar.entries (sofar.gap ++ old.0)
+        (subst (λ (ended : Bool). Begins ended bytes sofar.entries (sofar.gap ++ old.0)) goes sofar.answered.begins));
+    along = sofar.answered.along;
+  };
+  outside = piece_read opened before now bytes piece sofar.writes sofar.outside moved;
 }
 
 pub piece_ok : (r : Result Pause SessionFault) (piece : List ℕ) (old pushed new : feed.Unanswered) (s : State)

@@ -1,10 +1,7 @@
 -- Reading on and answering on: what each step makes of what was read and answered.
-use Rattle.std.proofs.Common.{◌≡◌, ℕ, Bool, true, false, List, [], ◌∷◌, ◌++◌, length, take, append_assoc, refl, sym, ap, ◌∙◌, inl, inr, subst}
+use Rattle.std.proofs.Common.{◌≡◌, ℕ, Bool, true, false, List, [], ◌∷◌, ◌++◌, length, append_assoc, refl, sym, ap, ◌∙◌, inl, inr, subst}
 use Rattle.std.proofs.lemmas.List.{append-nil}
-use Rattle.sb_world.specs.Outside.{Outside, write_at, read_at}
-use Rattle.sb_world.proofs.CallerLemmas.{write_at-append}
-use Rattle.sb_world.specs.declared.InPort.TheVariants as in_port
-use Rattle.sb_world.specs.declared.OutPort.TheVariants as out_port
+use Rattle.sb_world.specs.Outside.{Outside}
 use Rattle.sb_reader.specs.declared.feed.Ending.{Ending}
 use Rattle.sb_reader.specs.declared.feed.Ending.TheVariants.{Clean, Unfinished}
 use Rattle.sb_reader.specs.Tokens.{is_open_gap}
@@ -14,44 +11,35 @@ use Rattle.sb_reader.specs.Feeding.{Takes, Waits, Ends}
 use Rattle.sb_reader.proofs.CallerLemmas.{is_gap-append, gap_before_entry, beginning_grows}
 use Rattle.sb_script.specs.State.{State}
 use Rattle.sb_script.specs.State as meaning
-use Rattle.sb_script.specs.Replies.{Replies, is_exit}
-use Rattle.sb_script.specs.Scripts as script
+use Rattle.sb_script.specs.Replies.{is_exit}
+use Rattle.sb_script.specs.Scripts.{Along}
 use Rattle.sb_stack.specs.Stacked.{state_of}
 use Rattle.sb_session.specs.Commanding.{SessionState, AnswersEntry, CutOrNot}
 use Rattle.sb_session.specs.Progress.{Sofar}
-use Rattle.sb_session.specs.Reading.{UpToExit, CutBetween, Cut, after_work}
+use Rattle.sb_session.specs.Reading.{GoesOn, Answered, UpToExit, CutBetween, Cut}
 use Rattle.sb_session.specs.Pausing.{NoneLeft, is_clean}
+use Rattle.sb_session.proofs.WritingLemmas.{writes_on}
 
--- one more reply
-answers_grow : (s : State) (entries : List Entry) (text : List ℕ) (t : State) (entry : Entry) (reply : List ℕ)
-    (after : State) → script.Answers s entries text t
-    → is_exit entry ≡ false → Replies t entry reply after
-    → script.Answers s (entries ++ entry ∷ []) (text ++ reply) after
-answers_grow s [] text t entry reply after h goes replies = (
-  reply,
+-- one step more
+along_grows : {S W : Type 0} (R : S → Entry → List W → S → Type 0) (s : S) (entries : List Entry) (writes : List W)
+    (t : S) (entry : Entry) (own : List W) (after : S) → Along R s entries writes t → R t entry own after
+    → Along R s (entries ++ entry ∷ []) (writes ++ own) after
+along_grows {S = S} {W = W} R s [] writes t entry own after h step = (
+  own,
   [],
   after,
-  goes,
-  subst (λ (u : State). Replies u entry reply after) h.1 replies,
-  ap (λ (x : List ℕ). x ++ reply) h.0 ∙ sym (append-nil reply),
+  subst (λ (u : S). R u entry own after) h.1 step,
+  ap (λ (x : List W). x ++ own) h.0 ∙ sym (append-nil own),
   (refl, refl),
 )
-answers_grow s (first ∷ entries) text t entry reply after h goes replies = (
+along_grows {S = S} {W = W} R s (first ∷ entries) writes t entry own after h step = (
   h.0,
-  h.1 ++ reply,
+  h.1 ++ own,
   h.2,
   h.3,
-  h.4,
-  ap (λ (x : List ℕ). x ++ reply) h.5
-      ∙ append_assoc h.0 h.1 reply,
-  answers_grow h.2 entries h.1 t entry reply after h.6 goes replies,
+  ap (λ (x : List W). x ++ own) h.4 ∙ append_assoc h.0 h.1 own,
+  along_grows R h.2 entries h.1 t entry own after h.5 step,
 )
-
--- more is written
-pub writes_on : (opened before now : Outside) (count : ℕ) (text more : List ℕ) → before ≡ after_work count text opened
-    → now ≡ write_at out_port.Answers more before → now ≡ after_work count (text ++ more) opened
-writes_on opened before now count text more e h = h ∙ ap (write_at out_port.Answers more) e
-    ∙ write_at-append out_port.Answers text more (read_at in_port.Script count opened)
 
 -- the entries with the next one
 begins_on : (opened : Outside) (bytes : List ℕ) (entry : Entry) (old new : feed.Unanswered) (s : State)
@@ -61,7 +49,7 @@ begins_on : (opened : Outside) (bytes : List ℕ) (entry : Entry) (old new : fee
 begins_on opened bytes entry old new s before sofar takes =
     beginning_grows old.1 bytes sofar.entries entry (sofar.gap ++ takes.0) new.0
     (subst (λ (left : List ℕ). Begins old.1 bytes sofar.entries left) (ap (λ (x : List ℕ). sofar.gap ++ x) takes.1
-    ∙ sym (append_assoc sofar.gap takes.0 new.0)) sofar.begins)
+    ∙ sym (append_assoc sofar.gap takes.0 new.0)) sofar.answered.begins)
     (gap_before_entry old.1 entry sofar.gap takes.0 new.0 sofar.is_gap takes.3)
 
 -- one more entry is answered
@@ -70,14 +58,16 @@ pub answer_on : (opened : Outside) (bytes : List ℕ) (entry : Entry) (old new :
     → AnswersEntry entry s after before now → Sofar opened bytes old s before → Sofar opened bytes new after now
 answer_on opened bytes entry old new s after before now goes takes answers sofar = record {
   entries = sofar.entries ++ entry ∷ [];
-  text = sofar.text ++ answers.reply;
+  writes = sofar.writes ++ answers.writes;
   gap = [];
   is_gap = refl;
-  begins = subst (λ (ended : Bool). Begins ended bytes (sofar.entries ++ entry ∷ []) new.0) (sym takes.2)
-      (begins_on opened bytes entry old new s before sofar takes);
-  answers = answers_grow meaning.start sofar.entries sofar.text s entry answers.reply after sofar.answers goes
-      answers.replies;
-  outside = writes_on opened before now (length bytes) sofar.text answers.reply sofar.outside answers.outside;
+  answered = record {
+    begins = subst (λ (ended : Bool). Begins ended bytes (sofar.entries ++ entry ∷ []) new.0) (sym takes.2)
+        (begins_on opened bytes entry old new s before sofar takes);
+    along = along_grows GoesOn meaning.start sofar.entries sofar.writes s entry answers.writes after
+        sofar.answered.along (goes, answers.answers);
+  };
+  outside = writes_on opened before now (length bytes) sofar.writes answers.writes sofar.outside answers.outside;
 }
 
 -- (exit) is answered
@@ -88,16 +78,16 @@ answer_exit opened bytes entry old new s after before now exits takes answers so
   entries = sofar.entries;
   exit = entry;
   left = new.0;
-  text = sofar.text;
+  writes = sofar.writes;
   s = s;
-  reply = answers.reply;
+  own = answers.writes;
   after = after;
   begins = subst (λ (ended : Bool). Begins ended bytes (sofar.entries ++ entry ∷ []) new.0) (sym takes.2)
       (begins_on opened bytes entry old new s before sofar takes);
-  answers = sofar.answers;
+  along = sofar.answered.along;
   is_exit = exits;
-  replies = answers.replies;
-  outside = writes_on opened before now (length bytes) sofar.text answers.reply sofar.outside answers.outside;
+  answers = answers.answers;
+  outside = writes_on opened before now (length bytes) sofar.writes answers.writes sofar.outside answers.outside;
 }
 
 -- the run is cut short between two entries
@@ -106,10 +96,9 @@ pub cut_between : (opened : Outside) (bytes : List ℕ) (kept : feed.Unanswered)
 cut_between opened bytes kept s now sofar = record {
   entries = sofar.entries;
   left = sofar.gap ++ kept.0;
-  text = sofar.text;
+  writes = sofar.writes;
   s = s;
-  begins = sofar.begins;
-  answers = sofar.answers;
+  answered = sofar.answered;
   outside = sofar.outside;
 }
 
@@ -122,15 +111,14 @@ cut_answer opened bytes entry old new s before now takes (inl same) sofar =
 cut_answer opened bytes entry old new s before now takes (inr cut) sofar = inr (record {
   entries = sofar.entries;
   left = sofar.gap ++ old.0;
-  text = sofar.text;
+  writes = sofar.writes;
   s = s;
-  begins = sofar.begins;
-  answers = sofar.answers;
-  further = cut.reply;
-  is_further = inl (entry, new.0, cut.after, begins_on opened bytes entry old new s before sofar takes, cut.replies);
-  out = cut.cut.0;
-  less = cut.cut.1;
-  outside = writes_on opened before now (length bytes) sofar.text (take cut.cut.0 cut.reply) sofar.outside cut.cut.2;
+  answered = sofar.answered;
+  own = cut.writes;
+  next = inl (entry, new.0, cut.after, begins_on opened bytes entry old new s before sofar takes, cut.answers);
+  front = cut.cut.0;
+  proper = cut.cut.1;
+  outside = writes_on opened before now (length bytes) sofar.writes cut.cut.0 sofar.outside cut.cut.2;
 })
 
 -- no entry is whole, and white space and comments are taken
@@ -143,15 +131,16 @@ wait_on opened bytes old new session now waits going sofar = (
   record {
     sofar = record {
       entries = sofar.entries;
-      text = sofar.text;
+      writes = sofar.writes;
       gap = sofar.gap ++ waits.gap;
       is_gap = is_gap-append sofar.gap waits.gap sofar.is_gap ∙ waits.is_gap;
-      begins = subst (λ (ended : Bool). Begins ended bytes sofar.entries ((sofar.gap ++ waits.gap) ++ new.0))
+      answered = subst
+          (λ (ended : Bool). Answered bytes ended sofar.entries ((sofar.gap ++ waits.gap) ++ new.0) sofar.writes
+          (state_of session.stack))
           (waits.more_may_come ∙ sym waits.still)
-          (subst (λ (left : List ℕ). Begins old.1 bytes sofar.entries left)
+          (subst (λ (left : List ℕ). Answered bytes old.1 sofar.entries left sofar.writes (state_of session.stack))
           (ap (λ (x : List ℕ). sofar.gap ++ x) waits.split ∙ sym (append_assoc sofar.gap waits.gap new.0))
-          sofar.begins);
-      answers = sofar.answers;
+          sofar.answered);
       outside = sofar.outside;
     };
     none = subst (λ (ended : Bool). HoldsNoEntry ended new.0) (sym waits.still) waits.no_entry;

@@ -1,28 +1,32 @@
 -- From the outcome of a run to its status.
-use Rattle.std.proofs.Common.{◌≡◌, ◌+◌, ◌<◌, ◌≤◌, ◌⊎◌, ℕ, true, false, List, [], ◌∷◌, ◌++◌, length, take, drop, Option, Some, IfSome, Result, Ok, Err, IfOk, OnErr, append_assoc, length-append, refl, sym, ap, ◌∙◌, subst, inl, inr, arith}
+use Rattle.std.proofs.Common.{◌≡◌, ◌+◌, ◌<◌, ◌≤◌, ◌⊎◌, ℕ, true, false, List, [], ◌∷◌, ◌++◌, length, take, drop, Option, Some, None, IfSome, Result, Ok, Err, IfOk, OnErr, append_assoc, length-append, refl, sym, ap, ◌∙◌, subst, inl, inr, arith}
 use Rattle.std.proofs.lemmas.Bool.{false≢true}
 use Rattle.std.proofs.lemmas.List.{take-append-drop, take-append-le}
 use Rattle.std.proofs.Math.Seq.{take-append_seam}
-use Rattle.sb_world.specs.Outside.{Outside, Rose}
+use Rattle.sb_world.specs.Outside.{Outside, Rose, open_at, source_of}
+use Rattle.sb_world.specs.Moved.{Write}
+use Rattle.sb_world.specs.declared.InPort.TheVariants as in_port
 use Rattle.sb_reader.specs.Entries.{Entry, Begins}
 use Rattle.sb_reader.proofs.CallerLemmas.{beginning_stays, beginning_is_first}
 use Rattle.sb_script.specs.State.{State, start}
 use Rattle.sb_script.specs.Replies.{is_exit}
-use Rattle.sb_script.specs.Scripts.{Answers}
+use Rattle.sb_script.specs.Scripts.{Along}
 use Rattle.sb_session.specs.declared.command.SessionFault.{SessionFault}
 use Rattle.sb_session.specs.declared.command.SessionFault.TheVariants as fault
 use Rattle.sb_session.specs.declared.solve.SolveStatus.{SolveStatus}
 use Rattle.sb_session.specs.declared.solve.SolveStatus.TheVariants.{Done, Unfinished, Usage, Fault, NoMemory, InputLimit}
 use Rattle.sb_session.specs.Commanding.{CountsSessionFault}
-use Rattle.sb_session.specs.Solve.{opened, Run, CountsFaults, CutShort, PastLimit, IsBounded, input_limit}
+use Rattle.sb_session.specs.Solve.{Asked, created, opened, Run, CountsFaults, CutShort, PastLimit, IsBounded}
+use Rattle.sb_session.specs.Reading.{GoesOn}
 use Rattle.sb_session.specs.Progress.{status_by}
 
-pub run_by : (r : Result SolveStatus SessionFault) (old new : Outside) (f g : ℕ)
-    → IfOk r (λ s. Run s old new × CountsFaults s f g) → OnErr r (CutShort old new) → Run (status_by r) old new
-run_by (Ok s) old new f g ok err = ok.0
-run_by (Err fault.Fault) old new f g ok err = err
-run_by (Err fault.NoMemory) old new f g ok err = err
-run_by (Err fault.Ended) old new f g ok err = err
+pub run_by : (asked : Asked) (r : Result SolveStatus SessionFault) (old new : Outside) (f g : ℕ)
+    → IfOk r (λ s. Run asked s old new × CountsFaults s f g) → OnErr r (CutShort asked old new)
+    → Run asked (status_by r) old new
+run_by asked (Ok s) old new f g ok err = ok.0
+run_by asked (Err fault.Fault) old new f g ok err = err
+run_by asked (Err fault.NoMemory) old new f g ok err = err
+run_by asked (Err fault.Ended) old new f g ok err = err
 
 pub counts_by : (P : SolveStatus → Type 0) (r : Result SolveStatus SessionFault) (f g : ℕ)
     → IfOk r (λ s. P s × CountsFaults s f g) → CountsSessionFault r f g → CountsFaults (status_by r) f g
@@ -32,22 +36,24 @@ counts_by P (Err fault.NoMemory) f g ok faults = faults
 counts_by P (Err fault.Ended) f g ok faults = faults
 
 -- a run from the outside that is opened is one from before
-pub run_from : (r : Result SolveStatus SessionFault) (old from now : Outside) (f g h : ℕ) → from ≡ opened old → g ≡ f
-    → IfOk r (λ s. (o : Outside) → from ≡ opened o → Run s o now)
-    → IfOk r (λ s. CountsFaults s g h) → IfOk r (λ s. Run s old now × CountsFaults s f h)
-run_from (Err _) old from now f g h e same run counts = tt
-run_from (Ok s) old from now f g h e same run counts = (run old e, subst (λ (n : ℕ). CountsFaults s n h) same counts)
+pub run_from : (asked : Asked) (r : Result SolveStatus SessionFault) (old from now : Outside) (f g h : ℕ)
+    → from ≡ opened asked old → g ≡ f
+    → IfOk r (λ s. (o : Outside) → from ≡ opened asked o → Run asked s o now)
+    → IfOk r (λ s. CountsFaults s g h) → IfOk r (λ s. Run asked s old now × CountsFaults s f h)
+run_from asked (Err _) old from now f g h e same run counts = tt
+run_from asked (Ok s) old from now f g h e same run counts =
+    (run old e, subst (λ (n : ℕ). CountsFaults s n h) same counts)
 
-pub cut_from : (r : Result SolveStatus SessionFault) (old from now : Outside) → from ≡ opened old
-    → OnErr r ((o : Outside) → from ≡ opened o → CutShort o now) → OnErr r (CutShort old now)
-cut_from (Ok _) old from now e cut = tt
-cut_from (Err _) old from now e cut = cut old e
+pub cut_from : (asked : Asked) (r : Result SolveStatus SessionFault) (old from now : Outside) → from ≡ opened asked old
+    → OnErr r ((o : Outside) → from ≡ opened asked o → CutShort asked o now) → OnErr r (CutShort asked old now)
+cut_from asked (Ok _) old from now e cut = tt
+cut_from asked (Err _) old from now e cut = cut old e
 
 -- None of the entries that are answered is (exit).
-no_exit_among : (s : State) (before : List Entry) (entry : Entry) (behind : List Entry) (text : List ℕ) (after : State)
-    → Answers s (before ++ entry ∷ behind) text after → is_exit entry ≡ false
-no_exit_among s [] entry behind text after h = h.3
-no_exit_among s (first ∷ before) entry behind text after h = no_exit_among h.2 before entry behind h.1 after h.6
+no_exit_among : (s : State) (before : List Entry) (entry : Entry) (behind : List Entry) (writes : List Write)
+    (after : State) → Along GoesOn s (before ++ entry ∷ behind) writes after → is_exit entry ≡ false
+no_exit_among s [] entry behind writes after h = h.3.0
+no_exit_among s (first ∷ before) entry behind writes after h = no_exit_among h.2 before entry behind h.1 after h.5
 
 -- a list goes on behind each shorter beginning of what it begins
 goes_on_behind : (bytes left front behind : List ℕ) → bytes ++ left ≡ front ++ behind → length front ≤ length bytes
@@ -60,52 +66,65 @@ goes_on_behind bytes left front behind e h =
           ∙ take-append_seam front behind),
     )
 
+-- creating an output leaves the script
+script_opened : (asked : Asked) (old : Outside) → (opened asked old).script_in.left ≡ source_of asked.script old
+script_opened asked old = by_proof asked.proof
+  where
+    by_proof : (proof : Option (List ℕ))
+        → (created proof (open_at in_port.Script asked.script old)).script_in.left ≡ source_of asked.script old
+    by_proof None = refl
+    by_proof (Some name) = refl
+
 -- a script that is shorter than the limit holds no so many bytes
-no_limit_below : (script : List ℕ) (old new : Outside) → old.standard_input ≡ Some script → length script < input_limit
-    → PastLimit old new → ⊥
-no_limit_below script old new told below past =
+no_limit_below : (asked : Asked) (script : List ℕ) (old new : Outside) → source_of asked.script old ≡ Some script
+    → length script < asked.limit
+    → PastLimit asked old new → ⊥
+no_limit_below asked script old new told below past =
     let front : IfSome (Some script) (λ left. left ≡ past.bytes ++ drop (length past.bytes) left) =
-    subst (λ (o : Option (List ℕ)). IfSome o (λ left. left ≡ past.bytes ++ drop (length past.bytes) left)) told
-    past.front in
+    subst (λ (o : Option (List ℕ)). IfSome o (λ left. left ≡ past.bytes ++ drop (length past.bytes) left))
+    (script_opened asked old ∙ told) past.front in
     let e : length script ≡ length past.bytes + length (drop (length past.bytes) script) =
     ap length front ∙ length-append past.bytes (drop (length past.bytes) script) in
-    let at : length past.bytes ≡ input_limit = past.at_limit in
+    let at : length past.bytes ≡ asked.limit = past.at_limit in
     omega arith
 
 -- nor does one whose (exit) stands before the limit
-no_limit_exit : (script front behind : List ℕ) (entries : List Entry) (exit : Entry) (left : List ℕ) (old new : Outside)
-    → old.standard_input ≡ Some script → script ≡ front ++ behind
-    → length front < input_limit → Begins false front (entries ++ exit ∷ []) left → is_exit exit ≡ true
-    → PastLimit old new → ⊥
-no_limit_exit script front behind entries exit left old new told split below begins exits past =
+no_limit_exit : (asked : Asked) (script front behind : List ℕ) (entries : List Entry) (exit : Entry) (left : List ℕ)
+    (old new : Outside)
+    → source_of asked.script old ≡ Some script → script ≡ front ++ behind
+    → length front < asked.limit → Begins false front (entries ++ exit ∷ []) left → is_exit exit ≡ true
+    → PastLimit asked old new → ⊥
+no_limit_exit asked script front behind entries exit left old new told split below begins exits past =
     let read : IfSome (Some script) (λ left. left ≡ past.bytes ++ drop (length past.bytes) left) =
-    subst (λ (o : Option (List ℕ)). IfSome o (λ left. left ≡ past.bytes ++ drop (length past.bytes) left)) told
-    past.front in
-    let at : length past.bytes ≡ input_limit = past.at_limit in
+    subst (λ (o : Option (List ℕ)). IfSome o (λ left. left ≡ past.bytes ++ drop (length past.bytes) left))
+    (script_opened asked old ∙ told) past.front in
+    let at : length past.bytes ≡ asked.limit = past.at_limit in
     let same : past.bytes ++ drop (length past.bytes) script ≡ front ++ behind = ◌∙◌ {b = script} (sym read) split in
     let more = goes_on_behind past.bytes (drop (length past.bytes) script) front behind same (omega arith) in
     let stays = subst (λ (b : List ℕ). Begins false b (entries ++ exit ∷ []) (left ++ more.0)) (sym more.1)
     (beginning_stays false front more.0 (entries ++ exit ∷ []) left begins) in
     let others = beginning_is_first false past.bytes (entries ++ exit ∷ []) past.answered.entries (left ++ more.0)
-    past.left stays past.answered.begins past.answered.none in
+    past.left stays past.answered.answered.begins past.answered.none in
     let e : past.answered.entries ≡ entries ++ exit ∷ others.0 =
     ◌∙◌ {b = (entries ++ exit ∷ []) ++ others.0} others.1 (append_assoc entries (exit ∷ []) others.0) in
     let goes : is_exit exit ≡ false =
-    no_exit_among start entries exit others.0 past.answered.text past.answered.s
-    (subst (λ (es : List Entry). Answers start es past.answered.text past.answered.s) e past.answered.answers) in
+    no_exit_among start entries exit others.0 past.answered.writes past.answered.s
+    (subst (λ (es : List Entry). Along GoesOn start es past.answered.writes past.answered.s) e
+    past.answered.answered.along) in
     false≢true (sym goes ∙ exits)
 
 -- without a fault, a script that is bounded is answered, or memory is wanting
-pub complete_by : (status : SolveStatus) (old new : Outside) (f g : ℕ) → Run status old new → CountsFaults status f g
-    → (Rose f g → ⊥) → ((script : List ℕ) × IsBounded script old)
+pub complete_by : (asked : Asked) (status : SolveStatus) (old new : Outside) (f g : ℕ) → Run asked status old new
+    → CountsFaults status f g
+    → (Rose f g → ⊥) → ((script : List ℕ) × IsBounded asked script old)
     → (status ≡ Done) ⊎ ((status ≡ Unfinished) ⊎ (status ≡ NoMemory))
-complete_by Done old new f g run counts no_fault bounded = inl refl
-complete_by Unfinished old new f g run counts no_fault bounded = inr (inl refl)
-complete_by NoMemory old new f g run counts no_fault bounded = inr (inr refl)
-complete_by Fault old new f g run counts no_fault bounded = absurd (no_fault counts)
-complete_by Usage old new f g run counts no_fault bounded = absurd run
-complete_by InputLimit old new f g run counts no_fault bounded = absurd (elim bounded.1.1 [
-  | inl below ↦ no_limit_below bounded.0 old new bounded.1.0 below run
-  | inr exit ↦ no_limit_exit bounded.0 exit.0 exit.1 exit.2 exit.3 exit.4 old new bounded.1.0 exit.5 exit.6 exit.7
+complete_by asked Done old new f g run counts no_fault bounded = inl refl
+complete_by asked Unfinished old new f g run counts no_fault bounded = inr (inl refl)
+complete_by asked NoMemory old new f g run counts no_fault bounded = inr (inr refl)
+complete_by asked Fault old new f g run counts no_fault bounded = absurd (no_fault counts)
+complete_by asked Usage old new f g run counts no_fault bounded = absurd run
+complete_by asked InputLimit old new f g run counts no_fault bounded = absurd (elim bounded.1.1 [
+  | inl below ↦ no_limit_below asked bounded.0 old new bounded.1.0 below run
+  | inr exit ↦ no_limit_exit asked bounded.0 exit.0 exit.1 exit.2 exit.3 exit.4 old new bounded.1.0 exit.5 exit.6 exit.7
       exit.8 run
 ])

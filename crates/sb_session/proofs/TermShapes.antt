@@ -12,8 +12,8 @@ use Rattle.sb_stack.specs.declared.stack.Assertion.TheVariants as assertion
 use Rattle.sb_stack.specs.Stacked.{assertion_in}
 use Rattle.sb_meaning.specs.Terms.{Term, Terms, apply, no_terms, with_term, str_in_re}
 use Rattle.sb_script.specs.State.{asserted}
-use Rattle.sb_script.specs.Fragment.{is_membership}
 use Rattle.sb_session.specs.Deciding.{membership_of}
+use Rattle.sb_script.specs.Brought.{is_membership}
 
 pub by_assertion : (a : Assertion) (t : code.Term) (s known : Symbol) (v : Vec code.Term Global) (xs : List code.Term)
     → a ≡ assertion.Term t → t ≡ code.Apply s v → s ≡ known → xs ≡ v.items

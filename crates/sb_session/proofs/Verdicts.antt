@@ -18,13 +18,16 @@ use Rattle.sb_stack.specs.Steps.{verdict_in}
 use Rattle.sb_meaning.specs.Terms.{Term, Sort, boolean, integer, text, reglan}
 use Rattle.sb_meaning.specs.Values.{Valuation, Value, Text, Int, Truth, is_of}
 use Rattle.sb_script.specs.Scopes.{Constant}
-use Rattle.sb_script.specs.State.{State, Assertion, asserted, a_mark, live, live_terms, constants_of, fits}
+use Rattle.sb_script.specs.State.{State, Assertion, asserted, a_mark, live, live_terms, constants_of, fits, Satisfiable}
 use Rattle.sb_meaning.specs.Truth.{all_hold}
-use Rattle.sb_script.specs.Fragment.{is_regex, is_inside, are_inside, words_for, AreShortestLeast}
-use Rattle.sb_script.specs.Replies.{IsVerdict, is_sat, is_unsat}
+use Rattle.sb_script.specs.Fragment.{is_inside, are_inside}
 use Rattle.sb_session.specs.Deciding.{IsPut, IsSofar, HasEmpty, AreLeastWords, AreBest, in_each, ids_at, membership_of, word_at}
 use Rattle.sb_session.proofs.Conjunctions.{same_least}
 use Rattle.sb_session.proofs.OneMembership.{sofar_more}
+use Rattle.sb_session.proofs.DefaultValues.{default_values}
+use Rattle.sb_script.specs.Brought.{is_regex}
+use Rattle.sb_script.specs.Models.{words_for, AreShortestLeast}
+use Rattle.sb_script.specs.Verdicts.{IsVerdict, is_sat, is_unsat}
 
 -- the assertions as far as one place more
 one_further : (xs : List code.Assertion) (i : ℕ) (x : code.Assertion) → i < length xs → x ≡ get_or xs i x
@@ -105,19 +108,23 @@ all_shortest ts (w ∷ words) k h =
 
 sat_given : (rs : List Regex) (s : State) (count : ℕ) (found words : List (List ℕ)) → IsSofar rs count (live s) found
     → ((ws : List (List ℕ)) → length ws ≡ count → are_words ws ≡ true → fits (constants_of s) (values_from 0 ws) ≡ true)
-    → AreLeastWords rs found words → IsVerdict s (is_sat (values_from 0 words))
+    → AreLeastWords rs found words → IsVerdict s [] (is_sat (values_from 0 words))
 sat_given rs s count found words f fit l = (
   f.inside,
   record {
     model = and_from (fits (constants_of s) (values_from 0 words)) (all_hold (live_terms s) (values_from 0 words))
-        (fit words (l.same_length ∙ f.same_length) l.characters) (f.together words (λ n. (shortest n).member));
-    least = all_shortest (live_terms s) words 0 (λ j n e. let same : n ≡ j = omega arith in rw same (shortest j));
+        fitting (f.together words (λ n. (shortest n).member));
+    defaults = default_values (constants_of s) (live_terms s) words 0 words shortest fitting;
+    least = λ _. all_shortest (live_terms s) words 0 (λ j n e. let same : n ≡ j = omega arith in rw same (shortest j));
   },
 )
   where
     shortest : (n : ℕ) → IsShortestLeast (words_for n (live_terms s)) (word_at words n)
     shortest n = same_least (in_each rs (ids_at found n)) (words_for n (live_terms s)) (word_at words n) (f.words n)
         (l.least n)
+
+    fitting : fits (constants_of s) (values_from 0 words) ≡ true
+    fitting = fit words (l.same_length ∙ f.same_length) l.characters
 
 -- so many empty words
 blanks : ℕ → List (List ℕ)
@@ -179,25 +186,24 @@ word_of_words (w ∷ words) (suc n) h = word_of_words words n (and_parts (are_ch
 
 unsat_given : (rs : List Regex) (s : State) (count : ℕ) (found : List (List ℕ)) → IsSofar rs count (live s) found
     → ((ws : List (List ℕ)) → length ws ≡ count → are_words ws ≡ true → fits (constants_of s) (values_from 0 ws) ≡ true)
-    → HasEmpty rs found → IsVerdict s (is_unsat [])
-unsat_given rs s count found f fit e = (
-  f.inside,
-  refl,
-  λ model.
-      let fitting = (and_parts (fits (constants_of s) model.0) (all_hold (live_terms s) model.0) model.1).0 in
-      let holding = (and_parts (fits (constants_of s) model.0) (all_hold (live_terms s) model.0) model.1).1 in
-      let words = words_of (constants_of s) count 0 model.0
-      (fit (blanks count) (blanks_length count) (blanks_words count)) fitting in
-      let character = word_of_words words.0 e.0 words.2 in
-      false≢true (sym (e.1 (word_at words.0 e.0) character)
-      ∙ (sym (f.words e.0 (word_at words.0 e.0) character)
-      ∙ f.apart words.0 e.0 (ap (all_hold (live_terms s)) (sym words.1) ∙ holding))),
-)
+    → HasEmpty rs found → IsVerdict s [] (is_unsat [])
+unsat_given rs s count found f fit e = (f.inside, refuted, record { some = refl; contradicted = refuted })
+  where
+    refuted : Satisfiable s [] → ⊥
+    refuted model =
+        let fitting = (and_parts (fits (constants_of s) model.0) (all_hold (live_terms s) model.0) model.1).0 in
+        let holding = (and_parts (fits (constants_of s) model.0) (all_hold (live_terms s) model.0) model.1).1 in
+        let words = words_of (constants_of s) count 0 model.0
+        (fit (blanks count) (blanks_length count) (blanks_words count)) fitting in
+        let character = word_of_words words.0 e.0 words.2 in
+        false≢true (sym (e.1 (word_at words.0 e.0) character)
+        ∙ (sym (f.words e.0 (word_at words.0 e.0) character)
+        ∙ f.apart words.0 e.0 (ap (all_hold (live_terms s)) (sym words.1) ∙ holding)))
 
 pub best_given : (rs : List Regex) (s : State) (count : ℕ) (found : List (List ℕ)) (answer : Verdict)
     → IsSofar rs count (live s) found
     → ((ws : List (List ℕ)) → length ws ≡ count → are_words ws ≡ true → fits (constants_of s) (values_from 0 ws) ≡ true)
-    → AreBest rs found answer → IsVerdict s (verdict_in answer)
+    → AreBest rs found answer → IsVerdict s [] (verdict_in answer)
 best_given rs s count found (verdict.Sat words) f fit l = sat_given rs s count found words.items f fit l
 best_given rs s count found verdict.Unsat f fit e = unsat_given rs s count found f fit e
 best_given rs s count found verdict.Outside f fit h = absurd h

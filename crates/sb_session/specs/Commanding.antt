@@ -1,13 +1,14 @@
 -- What answering an entry does.
-use Rattle.std.specs.Prelude.{◌≡◌, ℕ, ◌<◌, Bool, true, false, if◌then◌else◌, List, ◌⊎◌, length, take, Result, Ok, Err}
-use Rattle.sb_world.specs.Outside.{Outside, write_at, Rose}
-use Rattle.sb_world.specs.declared.OutPort.{OutPort}
+use Rattle.std.specs.Prelude.{◌≡◌, ℕ, Bool, true, false, if◌then◌else◌, List, [], ◌∷◌, ◌⊎◌, Option, Result, Ok, Err}
+use Rattle.sb_world.specs.Outside.{Outside, Rose}
+use Rattle.sb_world.specs.Moved.{Write, moved_by, writing_all, IsProperFront}
 use Rattle.sb_world.specs.declared.OutPort.TheVariants as out_port
 use Rattle.sb_world.specs.declared.WorldError.{WorldError}
 use Rattle.sb_world.specs.declared.WorldError.TheVariants as world_error
 use Rattle.sb_reader.specs.Entries.{Entry}
 use Rattle.sb_script.specs.State.{State}
-use Rattle.sb_script.specs.Replies.{Replies, is_exit}
+use Rattle.sb_script.specs.Replies.{is_exit}
+use Rattle.sb_script.specs.Verdicts.{Verdict, Replies, FindsUnproved}
 use Rattle.sb_stack.specs.Stacked as stack
 use Rattle.sb_stack.specs.Stacked.{state_of}
 use Rattle.sb_session.specs.declared.command.Went.{Went}
@@ -20,24 +21,31 @@ pub record SessionState : Type 0 where
   -- an earlier entry ended the run, or was not answered
   pub ended : Bool
 
--- less than all of the bytes is written
-abbrev pub CutOf : OutPort → List ℕ → Outside → Outside → Type 0
-CutOf port bytes old new = (out : ℕ) × (out < length bytes) × (new ≡ write_at port (take out bytes) old)
+-- What is written for an entry: a reply that it may have, which leads from a state to another. No check has a proof.
+pub record Answers (s : State) (entry : Entry) (writes : List Write) (after : State) : Type 0 where
+  pub reply : List ℕ
+  pub found : Option Verdict
+  pub replies : Replies FindsUnproved s entry [] found reply after
+  pub written : writes ≡ (out_port.Answers, reply) ∷ []
 
--- A reply to the entry is written, all of it, and leads from a state to another.
+-- of these pieces a front is written, and not all
+abbrev pub CutOf : List Write → Outside → Outside → Type 0
+CutOf writes old new = (front : List Write) × IsProperFront front writes × (new ≡ moved_by (writing_all front) old)
+
+-- An entry is answered, and all of it is written.
 pub record AnswersEntry (entry : Entry) (s after : State) (old new : Outside) : Type 0 where
-  pub reply : List ℕ
-  pub replies : Replies s entry reply after
-  pub outside : new ≡ write_at out_port.Answers reply old
+  pub writes : List Write
+  pub answers : Answers s entry writes after
+  pub outside : new ≡ moved_by (writing_all writes) old
 
--- less than all of a reply to the entry is written
+-- less than all of what answers the entry is written
 pub record CutReply (entry : Entry) (s : State) (old new : Outside) : Type 0 where
-  pub reply : List ℕ
+  pub writes : List Write
   pub after : State
-  pub replies : Replies s entry reply after
-  pub cut : CutOf out_port.Answers reply old new
+  pub answers : Answers s entry writes after
+  pub cut : CutOf writes old new
 
--- nothing is written, or less than all of a reply
+-- nothing is written, or less than all of an answer
 abbrev pub CutOrNot : Entry → State → Outside → Outside → Type 0
 CutOrNot entry s old new = (new ≡ old) ⊎ CutReply entry s old new
 

@@ -10,9 +10,10 @@ use Rattle.sb_regex.specs.Numbered.{regex_at, AllNumbers}
 use Rattle.sb_meaning.specs.Terms.{Term, text, constant, apply, no_terms, with_term, str_in_re}
 use Rattle.sb_script.specs.State.{Assertion, terms_in}
 use Rattle.sb_meaning.specs.Truth.{all_hold}
-use Rattle.sb_script.specs.Fragment.{are_inside, words_for}
+use Rattle.sb_script.specs.Fragment.{are_inside}
 use Rattle.sb_stack.specs.Stacked.{values_from, are_words}
 use Rattle.sb_stack.specs.declared.verdict.Verdict.{Verdict}
+use Rattle.sb_script.specs.Models.{words_for}
 use Rattle.sb_stack.specs.declared.verdict.Verdict.TheVariants as verdict
 
 -- the membership of the constant in the regular expression

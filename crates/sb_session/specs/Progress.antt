@@ -1,28 +1,26 @@
 -- Private: how far a run has come.
 use Rattle.std.specs.Prelude.{◌≡◌, ℕ, true, List, ◌++◌, length, Result, Ok, Err}
 use Rattle.sb_world.specs.Outside.{Outside}
+use Rattle.sb_world.specs.Moved.{Write, moved_by}
 use Rattle.sb_reader.specs.Tokens.{is_gap}
-use Rattle.sb_reader.specs.Entries.{Entry, Begins}
+use Rattle.sb_reader.specs.Entries.{Entry}
 use Rattle.sb_reader.specs.Feeding as feed
 use Rattle.sb_script.specs.State.{State}
-use Rattle.sb_script.specs.State as meaning
-use Rattle.sb_script.specs.Scripts.{Answers}
 use Rattle.sb_session.specs.declared.command.SessionFault.{SessionFault}
 use Rattle.sb_session.specs.declared.command.SessionFault.TheVariants as fault
 use Rattle.sb_session.specs.declared.solve.SolveStatus.{SolveStatus}
 use Rattle.sb_session.specs.declared.solve.SolveStatus.TheVariants.{Fault, NoMemory}
-use Rattle.sb_session.specs.Reading.{after_work}
+use Rattle.sb_session.specs.Reading.{work, Answered}
 
 -- Of the bytes that were read the entries in front are answered, and what is kept of them is not.
 pub record Sofar (opened : Outside) (bytes : List ℕ) (kept : feed.Unanswered) (s : State) (now : Outside) : Type 0 where
   pub entries : List Entry
-  pub text : List ℕ
+  pub writes : List Write
   -- white space and comments that are not kept
   pub gap : List ℕ
   pub is_gap : is_gap gap ≡ true
-  pub begins : Begins kept.1 bytes entries (gap ++ kept.0)
-  pub answers : Answers meaning.start entries text s
-  pub outside : now ≡ after_work (length bytes) text opened
+  pub answered : Answered bytes kept.1 entries (gap ++ kept.0) writes s
+  pub outside : now ≡ moved_by (work (length bytes) writes) opened
 
 -- the status of a run that ended with a status or a fault
 abbrev pub status_by : Result SolveStatus SessionFault → SolveStatus

@@ -9,7 +9,7 @@ use Rattle.sb_session.specs.declared.solve.Pause.TheVariants.{Exited, Waiting, E
 use Rattle.sb_session.specs.Progress.{Sofar}
 use Rattle.sb_session.specs.Reading.{IsFront, IsAll}
 use Rattle.sb_session.specs.Pausing.{Pauses, NoneLeft}
-use Rattle.sb_session.specs.Solve.{opened, input_limit}
+use Rattle.sb_session.specs.Solve.{Asked, opened}
 
 -- The session pauses, or an entry is answered and the next may come.
 abbrev pub Turns : Option Pause → Outside → List ℕ → feed.Unanswered → SessionState → Outside → Type 0
@@ -23,16 +23,18 @@ StaysOpen Waiting session = session.ended ≡ false
 StaysOpen (Ended ending) session = session.ended ≡ false
 
 -- These bytes of the script are read, and all whole entries in them are answered.
-pub record Underway (old : Outside) (bytes : List ℕ) (kept : feed.Unanswered) (session : SessionState) (now : Outside) :
-    Type 0 where
-  pub front : IsFront bytes (opened old)
-  pub goes_on : kept.1 ≡ false
-  pub left : NoneLeft (opened old) bytes kept session now
+pub record Underway (asked : Asked) (old : Outside) (bytes : List ℕ) (kept : feed.Unanswered) (session : SessionState)
+    (now : Outside) : Type 0
+  where
+    pub front : IsFront bytes (opened asked old)
+    pub goes_on : kept.1 ≡ false
+    pub left : NoneLeft (opened asked old) bytes kept session now
 
 -- All of the script is read.
-pub record AllRead (old : Outside) (bytes : List ℕ) (kept : feed.Unanswered) (session : SessionState) (now : Outside) :
-    Type 0 where
-  pub all : IsAll bytes (opened old)
-  pub below_limit : length bytes < input_limit
-  pub goes_on : kept.1 ≡ false
-  pub sofar : Sofar (opened old) bytes kept (state_of session.stack) now
+pub record AllRead (asked : Asked) (old : Outside) (bytes : List ℕ) (kept : feed.Unanswered) (session : SessionState)
+    (now : Outside) : Type 0
+  where
+    pub all : IsAll bytes (opened asked old)
+    pub below_limit : length bytes < asked.limit
+    pub goes_on : kept.1 ≡ false
+    pub sofar : Sofar (opened asked old) bytes kept (state_of session.stack) now

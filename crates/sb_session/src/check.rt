@@ -8,7 +8,7 @@ ghost use Rattle.sb_regex.specs.Numbered.{AllNumbers, Extends};
 ghost use Rattle.sb_graph.specs.Findings.{IsGraph};
 ghost use Rattle.sb_script.specs.Fragment.{is_inside, are_inside};
 ghost use Rattle.sb_script.specs.State.{asserted};
-ghost use Rattle.sb_script.specs.Replies.{IsVerdict};
+ghost use Rattle.sb_script.specs.Verdicts.{IsVerdict};
 ghost use Rattle.sb_session.specs.Deciding.{in_each, ids_at, membership_of, IsPut, IsSofar, IsLeastOf, AreBest};
 ghost use Rattle.sb_sorts.specs.Terms.{term_in};
 ghost use Rattle.sb_stack.specs.Stacked.{state_of, assertion_in, have_serials_below};
@@ -55,7 +55,7 @@ impl Regexes {
     /// What a check of the live assertions finds. Linear in the assertions, the constants and what is explored; a regex
     /// that was explored before is not expanded again. `AllocError` only for want of memory.
     pub(crate) fn decide(&mut self, alloc: Global, stack: &Stack) -> Result<Verdict, AllocError>
-        ensures { IfOk result (λ verdict. IsVerdict (state_of stack.now) (verdict_in verdict)) }
+        ensures { IfOk result (λ verdict. IsVerdict (state_of stack.now) [] (verdict_in verdict)) }
     {
         graph_stays();
         let assertions = stack.assertions();

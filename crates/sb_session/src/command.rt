@@ -95,7 +95,7 @@ impl Session {
         }
     }
 
-    /// AnswersEntry the next entry of the script, whole, before it returns. `Ended` exactly where an earlier entry was
+    /// Answers the next entry of the script, whole, before it returns. `Ended` exactly where an earlier entry was
     /// `(exit)` or was not answered; `Fault` only where the world's count of faults rose. Linear in the entry and the
     /// answer, and for a check in the live assertions and in what they make it explore.
     pub fn command<W: World>(&mut self, entry: &Next, world: &mut W) -> Result<Went, SessionFault>
@@ -116,7 +116,7 @@ impl Session {
     }
 }
 
-/// AnswersEntry an entry.
+/// Answers an entry.
 fn answer_entry<W: World>(
     alloc: Global,
     stack: &mut Stack,

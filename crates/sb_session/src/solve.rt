@@ -12,7 +12,7 @@ ghost use Rattle.sb_session.specs.Progress.{Sofar, status_by};
 ghost use Rattle.sb_session.specs.Reading.{Cut};
 ghost use Rattle.sb_session.specs.Pausing.{Pauses};
 ghost use Rattle.sb_session.specs.Underway.{Turns, StaysOpen, AllRead};
-ghost use Rattle.sb_session.specs.Solve.{Run, WrongWords, CountsFaults, CutShort, CutInText, IsBounded, opened};
+ghost use Rattle.sb_session.specs.Solve.{Run, usual, WrongWords, CountsFaults, CutShort, CutInText, IsBounded, opened};
 ghost use Rattle.sb_session.specs.Solve as specs;
 
 use crate::command::{Session, SessionFault, Went};
@@ -59,13 +59,13 @@ const PIECE: usize = 0x1_0000;
 pub fn solve_top<W: World>(alloc: Global, words: &[String], world: &mut W) -> SolveStatus
     ensures usage { length words.now ≢ 1
         → WrongWords (specs.text_for (map string_bytes words.now)) result (W.outside world.old) (W.outside world.new) }
-    ensures run { length words.now ≡ 1 → Run result (W.outside world.old) (W.outside world.new) }
+    ensures run { length words.now ≡ 1 → Run usual result (W.outside world.old) (W.outside world.new) }
     ensures faults { CountsFaults result (W.faults world.old) (W.faults world.new) }
 
     // Nothing else than want of memory keeps a script whose end or exit is below the limit from being answered, where
     // no fault comes.
     ensures complete { length words.now ≡ 1 → (Rose (W.faults world.old) (W.faults world.new) → ⊥)
-        → ((script : List ℕ) × IsBounded script (W.outside world.old)) → (result ≡ SolveStatus.Done)
+        → ((script : List ℕ) × IsBounded usual script (W.outside world.old)) → (result ≡ SolveStatus.Done)
         ⊎ ((result ≡ SolveStatus.Unfinished) ⊎ (result ≡ SolveStatus.NoMemory)) }
 {
     if words.len() == 1 {
@@ -119,9 +119,9 @@ fn answer_standard_input<W: World>(
     alloc: Global,
     world: &mut W,
 ) -> Result<SolveStatus, SessionFault>
-    ensures ok { IfOk result (λ status. Run status (W.outside world.old) (W.outside world.new)
+    ensures ok { IfOk result (λ status. Run usual status (W.outside world.old) (W.outside world.new)
         × CountsFaults status (W.faults world.old) (W.faults world.new)) }
-    ensures err { OnErr result (CutShort (W.outside world.old) (W.outside world.new)) }
+    ensures err { OnErr result (CutShort usual (W.outside world.old) (W.outside world.new)) }
     ensures faults { CountsSessionFault result (W.faults world.old) (W.faults world.new) }
 {
     world.open_input(InPort::Script, None)?;
@@ -145,11 +145,11 @@ fn answer_script<W: World>(
     requires feed { feed.old ≡ ([], false) }
     requires state { state_of session.old.stack ≡ start }
     requires goes_on { session.old.ended ≡ false }
-    ensures ok { IfOk result (λ status. (old : Outside) → W.outside world.old ≡ opened old
-        → Run status old (W.outside world.new)) }
+    ensures ok { IfOk result (λ status. (old : Outside) → W.outside world.old ≡ opened usual old
+        → Run usual status old (W.outside world.new)) }
     ensures counts { IfOk result (λ status. CountsFaults status (W.faults world.old) (W.faults world.new)) }
-    ensures err { OnErr result ((old : Outside) → W.outside world.old ≡ opened old
-        → CutShort old (W.outside world.new)) }
+    ensures err { OnErr result ((old : Outside) → W.outside world.old ≡ opened usual old
+        → CutShort usual old (W.outside world.new)) }
     ensures faults { CountsSessionFault result (W.faults world.old) (W.faults world.new) }
 {
     let mut count = 0;
@@ -293,10 +293,12 @@ fn answer_end<W: World>(
 ) -> Result<SolveStatus, SessionFault>
     requires { session.old.ended ≡ false }
     ensures ok { IfOk result (λ status. (old : Outside) (bytes : List ℕ)
-        → AllRead old bytes feed.old session.old (W.outside world.old) → Run status old (W.outside world.new)) }
+        → AllRead usual old bytes feed.old session.old (W.outside world.old)
+        → Run usual status old (W.outside world.new)) }
     ensures counts { IfOk result (λ status. CountsFaults status (W.faults world.old) (W.faults world.new)) }
     ensures err { OnErr result ((old : Outside) (bytes : List ℕ)
-        → AllRead old bytes feed.old session.old (W.outside world.old) → CutShort old (W.outside world.new)) }
+        → AllRead usual old bytes feed.old session.old (W.outside world.old)
+        → CutShort usual old (W.outside world.new)) }
     ensures faults { CountsSessionFault result (W.faults world.old) (W.faults world.new) }
 {
     feed.finish();

@@ -1,5 +1,5 @@
 -- Terms with the sorts that a symbol takes, and the term that it makes of them.
-use Rattle.std.proofs.Common.{◌≡◌, ◌≢◌, ℕ, Bool, true, ◌&&◌, List, [], ◌∷◌, length, map, sym, refl, ap, ◌∙◌, arith}
+use Rattle.std.proofs.Common.{◌≡◌, ◌≢◌, ℕ, Bool, true, false, ◌&&◌, if◌then◌else◌, List, [], ◌∷◌, length, map, sym, refl, ap, ◌∙◌, arith}
 use Rattle.sb_sorts.proofs.CallerLemmas.{symbol_term}
 use Rattle.std.specs.List.{list_all, zip}
 use Rattle.std.specs.declared.vec.Vec.{Vec}
@@ -7,8 +7,8 @@ use Rattle.std.specs.declared.alloc.Global.{Global}
 use Rattle.std.proofs.lemmas.List.{length-map}
 use Rattle.sb_meaning.specs.Terms.{Terms, with_term}
 use Rattle.sb_meaning.specs.Terms as meaning
-use Rattle.sb_meaning.specs.Sorts.{sort_of, is_same_sort, have_sorts}
-use Rattle.sb_script.specs.Reading.{terms_of, joined}
+use Rattle.sb_meaning.specs.Sorts.{sort_of, is_same_sort, are_sorts, is_of_one}
+use Rattle.sb_script.specs.Heads.{terms_of, joined, made}
 use Rattle.sb_sorts.specs.declared.sort.Sort.{Sort}
 use Rattle.sb_sorts.specs.declared.sort.Symbol.{Symbol}
 use Rattle.sb_sorts.specs.declared.term.Term as code
@@ -21,7 +21,7 @@ abbrev pub fits : Sort × code.Term → Bool
 fits p = is_same_sort (sort_in p.0) (sort_of (term_in p.1))
 
 pub kinds_zip : (sorts : List Sort) (terms : List code.Term) → length sorts ≡ length terms
-    → list_all fits (zip sorts terms) ≡ have_sorts (map sort_in sorts) (terms_in terms)
+    → list_all fits (zip sorts terms) ≡ are_sorts (map sort_in sorts) (map sort_of (terms_in terms))
 kinds_zip [] [] same = refl
 kinds_zip [] (term ∷ terms) same = absurd (omega arith)
 kinds_zip (sort ∷ sorts) [] same = absurd (omega arith)
@@ -47,7 +47,7 @@ symbol_below n s v h = ap (has_serials_below n) (term_of_symbol s v) ∙ below_a
 
 pub all_of_kind : (sort : Sort) (terms : List code.Term)
     → list_all (λ t. is_same_sort (sort_in sort) (sort_of (term_in t))) terms
-    ≡ list_all (λ t. is_same_sort (sort_in sort) (sort_of t)) (terms_in terms)
+    ≡ list_all (is_same_sort (sort_in sort)) (map sort_of (terms_in terms))
 all_of_kind sort [] = refl
 all_of_kind sort (term ∷ terms) =
     ap (λ b. is_same_sort (sort_in sort) (sort_of (term_in term)) && b) (all_of_kind sort terms)
@@ -64,3 +64,11 @@ pub joined_in_memory : (s : Symbol) (v : Vec code.Term Global) → length v.item
 joined_in_memory s v h =
     term_of_symbol s v
     ∙ sym (joined_others (symbol_in s) (terms_in v.items) (λ e. h (sym (length-map v.items term_in) ∙ e)))
+
+-- a symbol that takes one argument as it takes others
+pub made_in_memory : (s : Symbol) (v : Vec code.Term Global) → is_of_one (symbol_in s) ≡ false
+    → term_in (code.Apply s v) ≡ made (symbol_in s) (terms_in v.items)
+made_in_memory s v h =
+    let ts = terms_in v.items in
+    term_of_symbol s v
+    ∙ sym (ap (λ b. if b then joined (symbol_in s) ts else meaning.apply (symbol_in s) (terms_of ts)) h)

@@ -7,7 +7,9 @@ use Rattle.sb_reader.specs.Forms.{Form, Forms, Symbol, QuotedSymbol, Keyword, Nu
 use Rattle.sb_script.specs.Names.{is_name, is_reserved}
 use Rattle.sb_script.specs.Scopes.{Naming}
 use Rattle.sb_meaning.specs.Terms as meaning
-use Rattle.sb_script.specs.Reading.{Fault, Head, malformed, ◌>>=◌, applied_to, read, read_all, read_list, read_head, read_index_list, read_list_head, read_reserved}
+use Rattle.sb_script.specs.Faults.{Fault, malformed}
+use Rattle.sb_script.specs.Heads.{Head, applied_to, read_head}
+use Rattle.sb_script.specs.Reading.{◌>>=◌, read, read_all, read_list, read_index_list, read_list_head, read_reserved}
 use Rattle.sb_sorts.specs.declared.term.Term.{Term}
 use Rattle.sb_sorts.specs.declared.read.ReadFault.{ReadFault}
 use Rattle.sb_sorts.specs.declared.read.ReadFault.TheVariants as fault

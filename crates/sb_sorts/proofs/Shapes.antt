@@ -1,5 +1,5 @@
 -- Forms by their shape, as the code takes them apart.
-use Rattle.std.proofs.Common.{◌≡◌, suc, ◌==◌, vec_len, ◌≤◌, ◌<◌, Bool, true, false, not, ◌&&◌, if◌then◌else◌, List, [], ◌∷◌, length, get_or, Option, Some, None, is_some, option_map, Result, Err, sym, refl, ap, ◌∙◌, arith, true≢false}
+use Rattle.std.proofs.Common.{◌≡◌, suc, ◌==◌, vec_len, ◌≤◌, ◌<◌, Bool, true, false, not, ◌&&◌, if◌then◌else◌, List, [], ◌∷◌, length, drop, get_or, Option, Some, None, is_some, option_map, Result, Err, sym, refl, ap, ◌∙◌, arith, true≢false}
 use Rattle.sb_reader.proofs.CallerLemmas.{form_of_list}
 use Rattle.std.specs.List.{list_all}
 use Rattle.std.proofs.lemmas.Bool.{ne_eqb}
@@ -10,7 +10,9 @@ use Rattle.sb_reader.specs.declared.sexpr.Sexpr.{Sexpr}
 use Rattle.sb_reader.specs.Forms.{Form, Forms, Symbol, QuotedSymbol, Keyword, Numeral, OtherNumber, Words, Group, none, more, form_of, forms_in}
 use Rattle.sb_script.specs.Names.{Name, is_reserved}
 use Rattle.sb_script.specs.Scopes.{Naming}
-use Rattle.sb_script.specs.Reading.{Fault, Head, malformed, is_binding, are_bindings, is_let, read_indexed, read_index_list}
+use Rattle.sb_script.specs.Faults.{Fault, malformed}
+use Rattle.sb_script.specs.Heads.{Head, read_indexed}
+use Rattle.sb_script.specs.Reading.{is_binding, are_bindings, is_let, read_index_list}
 use Rattle.sb_sorts.specs.Heads.{name_of, has_bindings, beginning_of, some_beginning}
 
 pub list_form : (form : Sexpr) (v : Vec Sexpr Global) (forms : List Sexpr) → form ≡ sexpr.List v → forms ≡ v.items
@@ -27,18 +29,19 @@ bindings_all [] = refl
 bindings_all (form ∷ forms) = ap (λ b. is_binding (form_of form) && b) (bindings_all forms)
 
 -- a name with an index behind it
-abbrev pub by_name : List Naming → Option Name → Result Head Fault
-by_name names (Some name) = read_indexed names name
-by_name names None = Err malformed
+abbrev pub by_name : List Naming → Forms → Option Name → Result Head Fault
+by_name names indices (Some name) = read_indexed names name indices
+by_name names indices None = Err malformed
 
-unreserved : (r : Bool) (names : List Naming) (name : Name)
-    → (if r then Err malformed else read_indexed names name) ≡ by_name names (if r then None else Some name)
-unreserved true names name = refl
-unreserved false names name = refl
+unreserved : (r : Bool) (names : List Naming) (name : Name) (indices : Forms)
+    → (if r then Err malformed else read_indexed names name indices)
+    ≡ by_name names indices (if r then None else Some name)
+unreserved true names name indices = refl
+unreserved false names name indices = refl
 
 index_list_name : (names : List Naming) (f g : Form) (gs : Forms)
-    → read_index_list names (more f (more g gs)) ≡ by_name names (name_of f)
-index_list_name names (Symbol name) g gs = unreserved (is_reserved name) names name
+    → read_index_list names (more f (more g gs)) ≡ by_name names (more g gs) (name_of f)
+index_list_name names (Symbol name) g gs = unreserved (is_reserved name) names name (more g gs)
 index_list_name names (QuotedSymbol name) g gs = refl
 index_list_name names (Keyword name) g gs = refl
 index_list_name names (Numeral digits) g gs = refl
@@ -56,12 +59,13 @@ no_index names (Words bytes) = refl
 no_index names (Group list) = refl
 
 pub indexed : (names : List Naming) (forms : List Sexpr) (first : Sexpr) → 2 ≤ length forms
-    → first ≡ get_or forms 0 first → read_index_list names (forms_in forms) ≡ by_name names (name_of (form_of first))
+    → first ≡ get_or forms 0 first → read_index_list names (forms_in forms)
+    ≡ by_name names (forms_in (drop 1 forms)) (name_of (form_of first))
 indexed names [] first long is = absurd (omega arith)
 indexed names (form ∷ []) first long is = absurd (omega arith)
 indexed names (form ∷ index ∷ forms) first long is =
     index_list_name names (form_of form) (form_of index) (forms_in forms)
-    ∙ ap (λ f. by_name names (name_of (form_of f))) (sym is)
+    ∙ ap (λ f. by_name names (forms_in (index ∷ forms)) (name_of (form_of f))) (sym is)
 
 pub unindexed : (names : List Naming) (forms : List Sexpr) → length forms < 2
     → read_index_list names (forms_in forms) ≡ Err malformed

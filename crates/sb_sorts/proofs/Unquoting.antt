@@ -4,7 +4,7 @@ use Rattle.std.proofs.lemmas.Bool.{and_parts, and_from, false≢true}
 use Rattle.std.proofs.lemmas.Bool.Decides.{nat_tests}
 use Rattle.std.proofs.lemmas.List.{append-nil, drop_more}
 use Rattle.sb_word.specs.Words.{is_character, are_characters, IsFirstOutside}
-use Rattle.sb_script.specs.Reading.{unquoted}
+use Rattle.sb_script.specs.Texts.{unquoted}
 
 -- what is still to be read, behind a quote that was read or not
 abbrev pub left_to_read : Bool → List ℕ → List ℕ

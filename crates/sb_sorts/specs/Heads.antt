@@ -12,11 +12,12 @@ use Rattle.sb_sorts.specs.declared.apply.Arity.TheVariants as arity
 use Rattle.sb_sorts.specs.declared.term.Term as code
 use Rattle.sb_script.specs.Names.{Name, is_name, is_reserved}
 use Rattle.sb_meaning.specs.Sorts as theory
-use Rattle.sb_script.specs.Symbols.{symbol_named, is_left_out}
 use Rattle.sb_script.specs.Scopes.{Naming}
 use Rattle.sb_meaning.specs.Terms.{Term, text}
-use Rattle.sb_script.specs.Reading as meaning
-use Rattle.sb_script.specs.Reading.{Fault, head_constant, head_symbol, unknown_symbol, wrong_sort, wrong_count, bad_index, unsupported, bad_literal, malformed, ◌>>=◌, read_head, read_index_list, read_list_head, read_reserved, is_binding, are_bindings}
+use Rattle.sb_script.specs.Heads as meaning
+use Rattle.sb_script.specs.Faults.{Fault, unknown_symbol, wrong_sort, wrong_count, bad_index, unsupported, bad_literal, malformed}
+use Rattle.sb_script.specs.Heads.{head_constant, head_symbol, read_head}
+use Rattle.sb_script.specs.Reading.{◌>>=◌, read_index_list, read_list_head, read_reserved, is_binding, are_bindings}
 use Rattle.sb_sorts.specs.Terms.{sort_in, symbol_in, term_in}
 use Rattle.sb_sorts.specs.Reads.{has_serials_below}
 
@@ -26,7 +27,7 @@ head_in (head.Symbol s) = head_symbol (symbol_in s)
 
 abbrev pub arity_in : Arity → theory.Arity
 arity_in (arity.OfEach sorts) = theory.of_each (map sort_in sorts.now)
-arity_in (arity.OneOrMore sort) = theory.one_or_more (sort_in sort)
+arity_in (arity.OneOrMore sort) = theory.or_more 1 (sort_in sort)
 
 -- a constant that is the head has a serial below this
 abbrev pub head_below : ℕ → Head → Bool
@@ -72,13 +73,6 @@ beginning_below n (front.Takes h) = head_below n h
 
 abbrev pub with_arguments : Result meaning.Head Fault → Result Beginning Fault
 with_arguments reading = reading >>= (λ h. Ok (takes h))
-
--- what a name that is not declared is as a head
-abbrev pub undeclared_head : Name → Result meaning.Head Fault
-undeclared_head name = elim (symbol_named name) [
-  | Some s ↦ Ok (head_symbol s)
-  | None ↦ if is_left_out name then Err unsupported else Err (unknown_symbol name)
-]
 
 -- what a list begins with whose first form is a symbol
 abbrev pub symbol_beginning : List Naming → Name → Forms → Result Beginning Fault

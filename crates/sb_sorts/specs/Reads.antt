@@ -4,8 +4,8 @@ use Rattle.sb_sorts.specs.declared.term.Term as code
 use Rattle.sb_sorts.specs.declared.read.ReadFault.{ReadFault}
 use Rattle.sb_sorts.specs.declared.read.ReadFault.TheVariants as fault
 use Rattle.sb_sorts.specs.Terms.{term_in}
-use Rattle.sb_meaning.specs.Terms.{Term, Terms, constant, word, numeral, apply, no_terms, with_term}
-use Rattle.sb_script.specs.Reading.{Fault, unknown_symbol, wrong_sort, wrong_count, bad_index, unsupported, bad_literal, malformed}
+use Rattle.sb_meaning.specs.Terms.{Term, Terms, constant, word, numeral, apply, parameter, no_terms, with_term}
+use Rattle.sb_script.specs.Faults.{Fault, unknown_symbol, wrong_sort, wrong_count, bad_index, unsupported, bad_literal, malformed}
 
 -- The answer is what reading by the definitions gives: the term, or the first fault. Want of memory says nothing.
 abbrev pub ReadsAs : Result Term Fault → Result code.Term ReadFault → Type 0
@@ -26,6 +26,7 @@ abbrev mutual
   has_serials_below n (word w) = true
   has_serials_below n (numeral m) = true
   has_serials_below n (apply s terms) = have_serials_below n terms
+  has_serials_below n (parameter place sort) = true
 
   pub have_serials_below : ℕ → Terms → Bool
   have_serials_below n no_terms = true

@@ -2,7 +2,7 @@
 
 ghost use Rattle.std.specs.Prelude.{◌≡◌, true, [], ◌∷◌, length, map, IfOk, ℕ};
 ghost use Rattle.std.specs.List.{list_all};
-ghost use Rattle.sb_script.specs.Reading as meaning;
+ghost use Rattle.sb_script.specs.Heads as meaning;
 ghost use Rattle.sb_meaning.specs.Sorts as theory;
 ghost use Rattle.sb_sorts.specs.Terms.{sort_in, symbol_in, term_in};
 ghost use Rattle.sb_sorts.specs.Heads.{Gives, arity_in, head_in, head_below, terms_in, all_below};
@@ -37,11 +37,11 @@ fn arity_of(symbol: Symbol) -> Arity
 
 /// Whether so many arguments are taken.
 fn is_count(arity: Arity, count: usize) -> bool
-    ensures { result ≡ meaning.is_count (arity_in arity) count }
+    ensures { result ≡ theory.is_count (arity_in arity) count }
 {
     match arity {
         Arity::OfEach(sorts) => sorts.len() == count,
-        Arity::OneOrMore(_) => 0 < count,
+        Arity::OneOrMore(_) => 1 <= count,
     }
 }
 
@@ -54,7 +54,7 @@ fn is_of_sort(term: &Term, sort: Sort) -> bool
 /// Whether the terms have these sorts, as many as there are terms.
 fn have_sorts(sorts: &[Sort], terms: &[Term]) -> bool
     requires { length sorts.now ≡ length terms.now }
-    ensures { result ≡ theory.have_sorts (map sort_in sorts.now) (terms_in terms.now) }
+    ensures { result ≡ theory.are_sorts (map sort_in sorts.now) (map theory.sort_of (terms_in terms.now)) }
 {
     sorts
         .iter()
@@ -64,15 +64,15 @@ fn have_sorts(sorts: &[Sort], terms: &[Term]) -> bool
 
 /// Whether each of the terms has this sort.
 fn all_have_sort(sort: Sort, terms: &[Term]) -> bool
-    ensures { result ≡ list_all (λ t. theory.is_same_sort (sort_in sort) (theory.sort_of t)) (terms_in terms.now) }
+    ensures { result ≡ list_all (theory.is_same_sort (sort_in sort)) (map theory.sort_of (terms_in terms.now)) }
 {
     terms.iter().all(|term| is_of_sort(term, sort))
 }
 
 /// Whether arguments of these sorts are taken, as many as there are.
-fn are_arguments(arity: Arity, terms: &[Term]) -> bool
-    requires { meaning.is_count (arity_in arity) (length terms.now) ≡ true }
-    ensures { result ≡ meaning.are_arguments (arity_in arity) (terms_in terms.now) }
+fn takes_sorts(arity: Arity, terms: &[Term]) -> bool
+    requires { theory.is_count (arity_in arity) (length terms.now) ≡ true }
+    ensures { result ≡ theory.takes_sorts (arity_in arity) (map theory.sort_of (terms_in terms.now)) }
 {
     match arity {
         Arity::OfEach(sorts) => have_sorts(sorts, terms),
@@ -101,14 +101,22 @@ fn joined(symbol: Symbol, terms: Vec<Term>) -> Term
     }
 }
 
+/// Whether the symbol makes of one argument the argument itself.
+fn is_of_one(symbol: Symbol) -> bool
+    ensures { result ≡ theory.is_of_one (symbol_in symbol) }
+{
+    matches!(symbol, Symbol::Concat | Symbol::Union)
+}
+
 /// The term of a symbol with its arguments.
-fn made(symbol: Symbol, arity: Arity, terms: Vec<Term>) -> Term
-    ensures value { term_in result ≡ meaning.made (symbol_in symbol) (arity_in arity) (terms_in terms.items) }
+fn made(symbol: Symbol, terms: Vec<Term>) -> Term
+    ensures value { term_in result ≡ meaning.made (symbol_in symbol) (terms_in terms.items) }
     ensures below { (n : ℕ) → all_below n terms.items ≡ true → has_serials_below n (term_in result) ≡ true }
 {
-    match arity {
-        Arity::OfEach(_) => Term::Apply(symbol, terms),
-        Arity::OneOrMore(_) => joined(symbol, terms),
+    if is_of_one(symbol) {
+        joined(symbol, terms)
+    } else {
+        Term::Apply(symbol, terms)
     }
 }
 
@@ -122,8 +130,8 @@ fn symbol_applied(symbol: Symbol, terms: Vec<Term>) -> Result<Term, ReadFault>
     let arity = arity_of(symbol);
     if !is_count(arity, terms.len()) {
         Err(ReadFault::WrongCount)
-    } else if are_arguments(arity, &terms) {
-        Ok(made(symbol, arity, terms))
+    } else if takes_sorts(arity, &terms) {
+        Ok(made(symbol, terms))
     } else {
         Err(ReadFault::WrongSort)
     }

@@ -1,11 +1,12 @@
 //! The heads of terms: names, names with indices, and what a list begins with.
 
 ghost use Rattle.std.specs.Prelude.{◌≡◌, ℕ, true, Result, Err, IfOk, option_map};
-ghost use Rattle.sb_reader.specs.Forms.{form_of, forms_in};
+ghost use Rattle.sb_reader.specs.Forms.{Forms, form_of, forms_in};
 ghost use Rattle.sb_script.specs.Reading as meaning;
-ghost use Rattle.sb_script.specs.Reading.{Fault};
+ghost use Rattle.sb_script.specs.Heads as theory;
+ghost use Rattle.sb_script.specs.Faults.{Fault};
 ghost use Rattle.sb_sorts.specs.Scopes.{names_in};
-ghost use Rattle.sb_sorts.specs.Heads.{head_in, head_below, beginning_in, beginning_below, beginning_of, some_beginning, symbol_beginning, with_arguments, undeclared_head, name_of, has_bindings, Beginning, Faults, Gives};
+ghost use Rattle.sb_sorts.specs.Heads.{head_in, head_below, beginning_in, beginning_below, beginning_of, some_beginning, symbol_beginning, with_arguments, name_of, has_bindings, Beginning, Faults, Gives};
 
 use crate::names::{begins_term, is_left_out, is_reserved, symbol_named};
 use crate::read::ReadFault;
@@ -33,7 +34,7 @@ pub(crate) enum Front {
 
 /// What a name is as a head.
 pub(crate) fn read_head(alloc: Global, scope: &Scope, name: &[u8]) -> Result<Head, ReadFault>
-    ensures reads { Gives head_in (meaning.read_head (names_in scope.now) name.now) result }
+    ensures reads { Gives head_in (theory.read_head (names_in scope.now) name.now) result }
     ensures declared { IfOk result (λ head. head_below scope.now.declared head ≡ true) }
 {
     match scope.look_up(name) {
@@ -45,7 +46,7 @@ pub(crate) fn read_head(alloc: Global, scope: &Scope, name: &[u8]) -> Result<Hea
 
 /// What a name that is not declared is as a head.
 fn read_symbol(alloc: Global, name: &[u8]) -> Result<Head, ReadFault>
-    ensures reads { Gives head_in (undeclared_head name.now) result }
+    ensures reads { Gives head_in (theory.head_of_theory name.now) result }
     ensures declared { IfOk result (λ head. (n : ℕ) → head_below n head ≡ true) }
 {
     match symbol_named(name) {
@@ -55,9 +56,10 @@ fn read_symbol(alloc: Global, name: &[u8]) -> Result<Head, ReadFault>
     }
 }
 
-/// What a name with indices is as a head.
+/// What a name with indices is as a head, whatever they are: no symbol that is read takes one.
 fn read_indexed(alloc: Global, scope: &Scope, name: &[u8]) -> Result<Head, ReadFault>
-    ensures reads { Gives head_in (meaning.read_indexed (names_in scope.now) name.now) result }
+    ensures reads { (indices : Forms)
+        → Gives head_in (theory.read_indexed (names_in scope.now) name.now indices) result }
     ensures declared { IfOk result (λ head. head_below scope.now.declared head ≡ true) }
 {
     match read_head(alloc, scope, name) {
@@ -164,7 +166,7 @@ fn read_reserved(name: &[u8], arguments: &[Sexpr]) -> ReadFault
 
 /// The head, behind which its arguments follow.
 fn takes_arguments(head: Result<Head, ReadFault>) -> Result<Front, ReadFault>
-    ensures reads { (reading : Result meaning.Head Fault) → Gives head_in reading head
+    ensures reads { (reading : Result theory.Head Fault) → Gives head_in reading head
         → Gives beginning_in (with_arguments reading) result }
     ensures declared { (n : ℕ) → IfOk head (λ h. head_below n h ≡ true)
         → IfOk result (λ front. beginning_below n front ≡ true) }

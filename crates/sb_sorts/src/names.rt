@@ -72,18 +72,27 @@ const LEFT_OUT: [&[u8]; 51] = [
     b"+",
     b"*",
     b"-",
+    b"str.++",
+    b"str.len",
+    b"str.prefixof",
+    b"str.suffixof",
+    b"str.contains",
+    b"re.none",
+    b"re.all",
+    b"re.allchar",
+    b"re.inter",
+    b"re.diff",
+    b"re.opt",
+    b"re.comp",
+    b"re.^",
+    b"re.loop",
     b"div",
     b"mod",
     b"abs",
-    b"str.++",
-    b"str.len",
     b"str.<",
     b"str.<=",
     b"str.at",
     b"str.substr",
-    b"str.prefixof",
-    b"str.suffixof",
-    b"str.contains",
     b"str.indexof",
     b"str.replace",
     b"str.replace_all",
@@ -94,15 +103,6 @@ const LEFT_OUT: [&[u8]; 51] = [
     b"str.from_code",
     b"str.to_int",
     b"str.from_int",
-    b"re.none",
-    b"re.all",
-    b"re.allchar",
-    b"re.inter",
-    b"re.diff",
-    b"re.opt",
-    b"re.comp",
-    b"re.^",
-    b"re.loop",
     b"str.in.re",
     b"str.to.re",
     b"re.nostr",
@@ -137,8 +137,6 @@ pub(crate) fn symbol_named(name: &[u8]) -> Option<Symbol>
         Some(Symbol::InRe)
     } else if name == b"str.to_re".as_slice() {
         Some(Symbol::ToRe)
-    } else if name == b"re.range".as_slice() {
-        Some(Symbol::Range)
     } else if name == b"re.++".as_slice() {
         Some(Symbol::Concat)
     } else if name == b"re.union".as_slice() {
@@ -147,6 +145,8 @@ pub(crate) fn symbol_named(name: &[u8]) -> Option<Symbol>
         Some(Symbol::Star)
     } else if name == b"re.+".as_slice() {
         Some(Symbol::Plus)
+    } else if name == b"re.range".as_slice() {
+        Some(Symbol::Range)
     } else {
         None
     }

@@ -4,7 +4,7 @@ ghost use Rattle.std.specs.Prelude.{◌≡◌, true, nat_eq, IfOk, ℕ};
 ghost use Rattle.std.specs.List.{list_all, list_any};
 ghost use Rattle.sb_word.specs.Words.{IsWord};
 ghost use Rattle.sb_word.specs.Literals.{is_printable};
-ghost use Rattle.sb_script.specs.Reading as meaning;
+ghost use Rattle.sb_script.specs.Texts as meaning;
 ghost use Rattle.sb_sorts.specs.Terms.{term_in};
 ghost use Rattle.sb_sorts.specs.Heads.{Gives};
 ghost use Rattle.sb_sorts.specs.Reads.{has_serials_below};

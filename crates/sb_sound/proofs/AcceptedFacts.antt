@@ -1,177 +1,447 @@
 -- Where a proof along a history is accepted, each of its verdicts means so.
-use Rattle.std.proofs.Common.{◌≡◌, ℕ, ◌+◌, Bool, true, false, if◌then◌else◌, List, [], ◌∷◌, ◌++◌, Option, Some, None, Result, Ok, Err, refl, sym, subst, ◌∙◌}
+use Rattle.std.proofs.Common.{◌≡◌, ℕ, ◌+◌, Bool, true, false, not, ◌&&◌, nat_le, if◌then◌else◌, cond, List, [], ◌∷◌, ◌++◌, Option, Some, None, Result, Ok, Err, refl, sym, subst, ap, ◌∙◌, arith}
+use Rattle.std.specs.List.{list_all}
 use Rattle.std.proofs.lemmas.List.{append_assoc, append-nil}
+use Rattle.std.proofs.lemmas.List.Sums.{sum_by-cons}
+use Rattle.std.proofs.lemmas.Bool.{and_from}
 use Rattle.sb_rulebook.specs.Refusals.{Refusal, misplaced}
-use Rattle.sb_rulebook.specs.Lines.{Line, verdict_line, Said}
+use Rattle.sb_rulebook.specs.Brought.{newest_format}
+use Rattle.sb_rulebook.specs.Lines.{Line, header_line, regex_line, atom_line, expansion_line, dead_line, assertion_line, rule_line, learned_line, verdict_line, end_line, Said}
 use Rattle.sb_rulebook.specs.Reading.{LineText, read, texts_of}
 use Rattle.sb_rulebook.specs.Kept.{AllKept, Asked, nothing_kept, count_again, dropped_above, all_dropped}
 use Rattle.sb_rulebook.specs.Follows.{follows}
 use Rattle.sb_rulebook.specs.Verdicts.{Question, refusal_of}
-use Rattle.sb_rulebook.specs.Accepted.{Event, leaves_above, leaves_all, asks, Outcome, accepted, refused, Ending, gives, stops, Turn, goes_on, ends, fails, turn_by, turn_of_line, turn, ending, is_first, is_last, behind_last, at_end, along, from_first}
-use Rattle.sb_sound.specs.SoundLaws.{AreTerms, IsSound, MeansSo, NothingIsSound, LineStaysSound, DroppedStaysSound, AllDroppedIsSound, CountedAgainStaysSound, VerdictMeansSo}
-use Rattle.sb_sound.specs.AcceptedLaws.{IsHistory, questions, AllMeanSo, AcceptedMeansSo}
+use Rattle.sb_rulebook.specs.Judging.{Event, leaves_above, leaves_all, asks, ends, Phase, at_rest, at_check, at_end, behind_end, stopped, Progress, stop, takes_first, takes_verdict, takes_kept, takes_at_check, takes_last, takes_in, takes_read, takes, takes_all, is_at_check, through, along, accepted, outcome_of, closed}
+use Rattle.sb_sound.specs.CountLaws.{is_counted_line, LinesAreCounted}
+use Rattle.sb_sound.specs.SoundLaws.{AreTerms, IsSound, MeansSo, NothingIsSound, LineStaysSound, FollowsByRule, ContinuedStaysSound, DroppedStaysSound, AllDroppedIsSound, CountedAgainStaysSound, VerdictMeansSo}
+use Rattle.sb_sound.specs.AcceptedLaws.{IsHistory, questions, is_counted_read, is_verdict_read, counted_among, AllMeanSo, AcceptedMeansSo}
 
--- The lines of one check.
+-- a proof so far, part by part
+abbrev now : Phase → Bool → List Said → AllKept → ℕ → Progress
+now phase begun said kept next = record { phase = phase; begun = begun; said = said; kept = kept; next = next }
 
--- what is kept stays true, and a verdict means so
-abbrev IsSoundTurn : Question → AllKept → Turn → Type 0
-IsSoundTurn q kept (goes_on after) = IsSound q.asked after
-IsSoundTurn q kept (ends said) = MeansSo q kept said
-IsSoundTurn q kept (fails refusal) = Unit {0}
+abbrev CanEnd : Progress → List Said → Type 0
+CanEnd p verdicts = outcome_of (closed p) ≡ accepted verdicts
 
-abbrev IsSoundEnding : Question → Ending → Type 0
-IsSoundEnding q (gives said after n texts) = ((kept : AllKept) × MeansSo q kept said) × IsSound q.asked after
-IsSoundEnding q (stops n refusal) = Unit {0}
+-- what is left of the events and of the lines
+abbrev rest_of : Progress × List LineText → List Event → Progress
+rest_of r es = let s = along r.0 (es ++ ends ∷ []) r.1 in takes_all s.1 s.0
 
-module _ (lines : LineStaysSound) (counts : CountedAgainStaysSound) (verdicts_mean : VerdictMeansSo) where
-  sound-turn_by : (q : Question) (kept : AllKept) (line : Line) (o : Result AllKept Refusal)
-      → follows q.asked kept line ≡ o → AreTerms q.asked → IsSound q.asked kept → IsSoundTurn q kept (turn_by o)
-  sound-turn_by q kept line (Ok after) so terms sound = lines q.asked kept after line terms sound so
-  sound-turn_by q kept line (Err refusal) so terms sound = tt
+-- Where nothing more is taken.
 
-  sound-verdict : (q : Question) (kept : AllKept) (said : Said) (o : Option Refusal) → refusal_of q kept said ≡ o
-      → IsSound q.asked kept
-      → IsSoundTurn q kept (elim o as (λ _. Turn) [ None ↦ ends said | Some refusal ↦ fails refusal ])
-  sound-verdict q kept said None so sound = verdicts_mean q kept said sound so
-  sound-verdict q kept said (Some refusal) so sound = tt
+-- a phase in which no line is taken by a check
+not_through : (p : Progress) (texts : List LineText) → is_at_check p.phase ≡ false → through p texts ≡ (p, texts)
+not_through p [] h = refl
+not_through p (text ∷ texts) h =
+    ap (λ b. if b then through (takes text p) texts else (p, text ∷ texts)) h
 
-  sound-line : (q : Question) (kept : AllKept) (line : Line) → AreTerms q.asked → IsSound q.asked kept
-      → IsSoundTurn q kept (turn_of_line q kept line)
-  sound-line q kept (verdict_line said) terms sound = sound-verdict q kept said (refusal_of q kept said) refl sound
-  sound-line q kept line terms sound = sound-turn_by q kept line (follows q.asked kept line) refl terms sound
+module _ (n : ℕ) (refusal : Refusal) (begun : Bool) (said : List Said) (kept : AllKept) (next : ℕ) where
+  abbrev still : Progress
+  still = now (stopped n refusal) begun said kept next
 
-  sound-turn : (q : Question) (kept : AllKept) (text : LineText) → AreTerms q.asked → IsSound q.asked kept
-      → IsSoundTurn q kept (turn q kept text)
-  sound-turn q kept text terms sound = step (read text)
+  still_takes : (text : LineText) → takes text still ≡ still
+  still_takes text = step (read text)
     where
-      step : (o : Result Line Refusal) → IsSoundTurn q kept
-          (elim o as (λ _. Turn) [ Ok line ↦ turn_of_line q kept line | Err refusal ↦ fails refusal ])
-      step (Ok line) = sound-line q kept line terms sound
-      step (Err refusal) = tt
+      step : (o : Result Line Refusal) → takes_read o still ≡ still
+      step (Ok line) = refl
+      step (Err other) = refl
 
-  sound-ending : (q : Question) (kept : AllKept) (n : ℕ) (texts : List LineText) → AreTerms q.asked
-      → IsSound q.asked kept → IsSoundEnding q (ending q kept n texts)
-  sound-ending q kept n [] terms sound = tt
-  sound-ending q kept n (text ∷ texts) terms sound =
-      step (turn q kept text) (sound-turn q kept text terms sound)
-      (λ after still. sound-ending q after (n + 1) texts terms still)
-    where
-      step : (t : Turn) → IsSoundTurn q kept t
-          → ((after : AllKept) → IsSound q.asked after → IsSoundEnding q (ending q after (n + 1) texts))
-          → IsSoundEnding q (elim t as (λ _. Ending) [
-            | goes_on after ↦ ending q after (n + 1) texts
-            | ends said ↦ gives said (count_again kept) (n + 1) texts
-            | fails refusal ↦ stops n refusal
-          ])
-      step (goes_on after) still more = more after still
-      step (ends said) means more = ((kept, means), counts q.asked kept sound)
-      step (fails refusal) still more = tt
+  still_takes_all : (texts : List LineText) → takes_all texts still ≡ still
+  still_takes_all [] = refl
+  still_takes_all (text ∷ texts) = ap (takes_all texts) (still_takes text) ∙ still_takes_all texts
+
+  still_along : (es : List Event) (texts : List LineText) → along still es texts ≡ (still, texts)
+  still_along [] texts = refl
+  still_along (e ∷ es) texts =
+      ap (λ (r : Progress × List LineText). along r.0 es r.1) (not_through still texts refl) ∙ still_along es texts
+
+  -- a refused proof stays refused
+  no_end : (es : List Event) (texts : List LineText) (verdicts : List Said)
+      → CanEnd (rest_of (through still texts) es) verdicts → ⊥
+  no_end es texts verdicts h =
+      let one = ap (λ (r : Progress × List LineText). rest_of r es) (not_through still texts refl) in
+      let two =
+      ap (λ (s : Progress × List LineText). takes_all s.1 s.0) (still_along (es ++ ends ∷ []) texts) in
+      let all : rest_of (through still texts) es ≡ still = one ∙ two ∙ still_takes_all texts in
+      let wrong : CanEnd still verdicts = subst (λ (p : Progress). CanEnd p verdicts) all h in
+      Prim.cc (wrong)
+
+module _ (q : Question) (begun : Bool) (said : List Said) (kept : AllKept) (next : ℕ) where
+  abbrev waiting : Progress
+  waiting = now (at_check q) begun said kept next
+
+  waits_along : (es : List Event) → along waiting es [] ≡ (waiting, [])
+  waits_along [] = refl
+  waits_along (e ∷ es) = waits_along es
+
+  -- a check that waits where no lines are left has no verdict
+  no_verdict : (es : List Event) (verdicts : List Said) → CanEnd (rest_of (waiting, []) es) verdicts → ⊥
+  no_verdict es verdicts h =
+      let all =
+      ap (λ (s : Progress × List LineText). takes_all s.1 s.0) (waits_along (es ++ ends ∷ [])) in
+      let wrong : CanEnd waiting verdicts = subst (λ (p : Progress). CanEnd p verdicts) all h in
+      Prim.cc (wrong)
 
 -- The last line.
 
-last-none : (said verdicts : List Said) (n : ℕ) (texts : List LineText)
-    → behind_last said n texts ≡ accepted verdicts → verdicts ≡ said
-last-none said verdicts n [] h = Prim.cc (h)
-last-none said verdicts n (text ∷ texts) h = absurd (step (read text) h)
-  where
-    step : (o : Result Line Refusal)
-        → (elim o as (λ _. Outcome) [ Ok line ↦ refused said n misplaced | Err refusal ↦ refused said n refusal ])
-        ≡ accepted verdicts → ⊥
-    step (Ok line) h = Prim.cc (h)
-    step (Err refusal) h = Prim.cc (h)
+-- what was said stays, and no check waits
+abbrev Stays : List Said → Progress → Type 0
+Stays said p = (p.said ≡ said) × (is_at_check p.phase ≡ false)
 
-end-gives : (said verdicts : List Said) (n : ℕ) (texts : List LineText) → at_end said n texts ≡ accepted verdicts
-    → verdicts ≡ said
-end-gives said verdicts n [] h = absurd (Prim.cc (h))
-end-gives said verdicts n (text ∷ texts) h = step (read text) h
+said_stays : (text : LineText) (phase : Phase) (begun : Bool) (said : List Said) (kept : AllKept) (next : ℕ)
+    → is_at_check phase ≡ false
+    → Stays said (takes text (now phase begun said kept next))
+said_stays text phase begun said kept next h = step phase h (read text)
   where
-    by : (b : Bool) → (if b then behind_last said (n + 1) texts else refused said n misplaced) ≡ accepted verdicts
-        → verdicts ≡ said
-    by true h = last-none said verdicts (n + 1) texts h
-    by false h = absurd (Prim.cc (h))
+    first : (b : Bool) (format : ℕ) → Stays said (if b
+        then record (now at_end false said kept next) { begun = true; kept = nothing_kept format; next = next + 1 }
+        else stop misplaced (now at_end false said kept next))
+    first true format = (refl, refl)
+    first false format = (refl, refl)
 
-    step : (o : Result Line Refusal)
-        → (elim o as (λ _. Outcome) [
-          | Ok line ↦ if is_last line then behind_last said (n + 1) texts else refused said n misplaced
-          | Err refusal ↦ refused said n refusal
-        ]) ≡ accepted verdicts → verdicts ≡ said
-    step (Ok line) h = by (is_last line) h
-    step (Err refusal) h = absurd (Prim.cc (h))
+    end_first : (line : Line) → Stays said (takes_first line (now at_end false said kept next))
+    end_first (header_line format) = first (nat_le 1 format && nat_le format newest_format) format
+    end_first _ = (refl, refl)
+
+    end_last : (line : Line) → Stays said (takes_last line (now at_end true said kept next))
+    end_last end_line = (refl, refl)
+    end_last _ = (refl, refl)
+
+    at_the_end : (b : Bool) (line : Line) → Stays said (takes_in at_end line (now at_end b said kept next))
+    at_the_end true line = end_last line
+    at_the_end false line = end_first line
+
+    step : (phase : Phase) → is_at_check phase ≡ false → (o : Result Line Refusal)
+        → Stays said (takes_read o (now phase begun said kept next))
+    step at_rest h (Ok line) = (refl, refl)
+    step at_rest h (Err refusal) = (refl, refl)
+    step (at_check q) h o = absurd (Prim.cc (h))
+    step at_end h (Ok line) = at_the_end begun line
+    step at_end h (Err refusal) = (refl, refl)
+    step behind_end h (Ok line) = (refl, refl)
+    step behind_end h (Err refusal) = (refl, refl)
+    step (stopped n refusal) h (Ok line) = (refl, refl)
+    step (stopped n refusal) h (Err other) = (refl, refl)
+
+all_said_stays : (texts : List LineText) (p : Progress) → is_at_check p.phase ≡ false
+    → (takes_all texts p).said ≡ p.said
+all_said_stays [] p h = refl
+all_said_stays (text ∷ texts) p h =
+    let one = said_stays text p.phase p.begun p.said p.kept p.next h in
+    all_said_stays texts (takes text p) one.1 ∙ one.0
+
+-- an accepted proof has said its verdicts
+end_says : (p : Progress) (verdicts : List Said) → CanEnd p verdicts → verdicts ≡ p.said
+end_says p verdicts h = step p.phase h
+  where
+    step : (phase : Phase) → CanEnd (now phase p.begun p.said p.kept p.next) verdicts → verdicts ≡ p.said
+    step at_rest h = absurd (Prim.cc (h))
+    step (at_check q) h = absurd (Prim.cc (h))
+    step at_end h = absurd (Prim.cc (h))
+    step behind_end h = Prim.cc (h)
+    step (stopped n refusal) h = absurd (Prim.cc (h))
+
+-- The lines of one check.
+
+-- behind these verdicts there is one for each question, which means so by the lines that come
+record MeanBehind (said : List Said) (qs : List Question) (came : List LineText) (verdicts : List Said) : Type 0 where
+  rest : List Said
+  whole : verdicts ≡ said ++ rest
+  mean : AllMeanSo qs came rest
+
+-- the same where a check waits, and so many lines of it were counted before
+record Answers (q : Question) (counted : ℕ) (said : List Said) (qs : List Question) (came : List LineText)
+    (verdicts : List Said) : Type 0 where
+  lines : List LineText
+  verdict : LineText
+  left : List LineText
+  whole : came ≡ lines ++ verdict ∷ left
+  no_verdicts : list_all (λ text. not (is_verdict_read (read text))) lines ≡ true
+  answer : Said
+  is_verdict : read verdict ≡ Ok (verdict_line answer)
+  kept : AllKept
+  counts : kept.counted ≡ counted + counted_among lines
+  means : MeansSo q kept answer
+  behind : MeanBehind (said ++ answer ∷ []) qs left verdicts
+
+-- a line in front that is no verdict, and counts or not
+one_before : (q : Question) (counted more : ℕ) (said : List Said) (qs : List Question) (text : LineText)
+    (texts : List LineText) (verdicts : List Said) (line : Line) → read text ≡ Ok line
+    → is_verdict_read (Ok line) ≡ false → more ≡ (if is_counted_line line then counted + 1 else counted)
+    → Answers q more said qs texts verdicts → Answers q counted said qs (text ∷ texts) verdicts
+one_before q counted more said qs text texts verdicts line is silent counts a = record {
+  lines = text ∷ a.lines;
+  verdict = a.verdict;
+  left = a.left;
+  whole = ap (λ ts. text ∷ ts) a.whole;
+  no_verdicts = and_from (not (is_verdict_read (read text))) (list_all (λ t. not (is_verdict_read (read t))) a.lines)
+      (ap (λ o. not (is_verdict_read o)) is ∙ ap not silent) a.no_verdicts;
+  answer = a.answer;
+  is_verdict = a.is_verdict;
+  kept = a.kept;
+  counts = step (is_counted_line line) (is_counted_read (read text)) (ap is_counted_read is) counts
+      ∙ ap (λ n. counted + n) (sym (sum_by-cons (λ t. cond (is_counted_read (read t)) 1 0) text a.lines));
+  means = a.means;
+  behind = a.behind;
+}
+  where
+    step : (b d : Bool) → d ≡ b → more ≡ (if b then counted + 1 else counted)
+        → a.kept.counted ≡ counted + (cond d 1 0 + counted_among a.lines)
+    step true true same h = a.counts ∙ omega (arith, h)
+    step false false same h = a.counts ∙ omega (arith, h)
+    step true false same h = absurd (Prim.cc (same))
+    step false true same h = absurd (Prim.cc (same))
+
+record Laws : Type 0 where
+  nothing : NothingIsSound
+  line : LineStaysSound
+  by_rule : FollowsByRule
+  continues : ContinuedStaysSound
+  drops : DroppedStaysSound
+  drops_all : AllDroppedIsSound
+  counts_again : CountedAgainStaysSound
+  verdict : VerdictMeansSo
+  counted : LinesAreCounted
+
+-- what is kept is true, and nothing is counted before the first line
+record IsRight (asked : Asked) (begun : Bool) (kept : AllKept) : Type 0 where
+  sound : IsSound asked kept
+  fresh : begun ≡ false → kept.counted ≡ 0
+
+module _ (laws : Laws) (q : Question) (terms : AreTerms q.asked) (es : List Event) (verdicts : List Said) where
+  -- what follows where the check is answered
+  abbrev Goes : Type 0
+  Goes = (begun : Bool) (said : List Said) (kept : AllKept) (next : ℕ) (left : List LineText)
+      → IsRight q.asked begun kept → kept.counted ≡ 0
+      → CanEnd (rest_of (through (now at_rest begun said kept next) left) es) verdicts
+      → MeanBehind said (questions es) left verdicts
+
+  -- what is to be shown of lines
+  abbrev Shows : List LineText → Type 0
+  Shows texts = (begun : Bool) (said : List Said) (kept : AllKept) (next : ℕ) → IsRight q.asked begun kept
+      → CanEnd (rest_of (through (now (at_check q) begun said kept next) texts) es) verdicts
+      → Answers q kept.counted said (questions es) texts verdicts
+
+  module _ (goes : Goes) (text : LineText) (texts : List LineText) (more : Shows texts) where
+    first_line : (line : Line) → read text ≡ Ok line → (said : List Said) (kept : AllKept) (next : ℕ)
+        → IsRight q.asked false kept
+        → CanEnd (rest_of (through (takes_first line (now (at_check q) false said kept next)) texts) es) verdicts
+        → Answers q kept.counted said (questions es) (text ∷ texts) verdicts
+    first_line (header_line format) is said kept next right h =
+        step (nat_le 1 format && nat_le format newest_format) h
+      where
+        start : Progress
+        start = now (at_check q) false said kept next
+
+        step : (b : Bool) → CanEnd (rest_of (through (if b
+            then record start { begun = true; kept = nothing_kept format; next = next + 1 }
+            else stop misplaced start) texts) es) verdicts
+            → Answers q kept.counted said (questions es) (text ∷ texts) verdicts
+        step true h =
+            one_before q kept.counted 0 said (questions es) text texts verdicts (header_line format) is refl
+            (sym (right.fresh refl))
+            (more true said (nothing_kept format) (next + 1)
+            (record { sound = laws.nothing q.asked format; fresh = λ silent. absurd (Prim.cc (silent)) }) h)
+        step false h = absurd (no_end next misplaced false said kept next es texts verdicts h)
+    first_line _ is said kept next right h = absurd (no_end next misplaced false said kept next es texts verdicts h)
+
+    kept_line : (line : Line) → read text ≡ Ok line → is_verdict_read (Ok line) ≡ false → (said : List Said)
+        (kept : AllKept) (next : ℕ) → IsRight q.asked true kept
+        → CanEnd (rest_of
+        (through (takes_kept (follows q.asked kept line) (now (at_check q) true said kept next)) texts) es) verdicts
+        → Answers q kept.counted said (questions es) (text ∷ texts) verdicts
+    kept_line line is silent said kept next right h = step (follows q.asked kept line) refl h
+      where
+        step : (o : Result AllKept Refusal) → follows q.asked kept line ≡ o
+            → CanEnd (rest_of (through (takes_kept o (now (at_check q) true said kept next)) texts) es) verdicts
+            → Answers q kept.counted said (questions es) (text ∷ texts) verdicts
+        step (Ok after) so h =
+            let ruled = laws.by_rule q.asked kept after line so in
+            one_before q kept.counted after.counted said (questions es) text texts verdicts line is silent
+            (laws.counted q.asked kept after line ruled)
+            (more true said after (next + 1)
+            (record {
+              sound = laws.line q.asked kept after line terms right.sound ruled;
+              fresh = λ silent. absurd (Prim.cc (silent));
+            }) h)
+        step (Err refusal) so h = absurd (no_end next refusal true said kept next es texts verdicts h)
+
+    verdict_here : (answer : Said) → read text ≡ Ok (verdict_line answer) → (said : List Said) (kept : AllKept)
+        (next : ℕ) → IsRight q.asked true kept
+        → CanEnd (rest_of (through
+        (takes_verdict answer (refusal_of q kept answer) (now (at_check q) true said kept next)) texts) es) verdicts
+        → Answers q kept.counted said (questions es) (text ∷ texts) verdicts
+    verdict_here answer is said kept next right h = step (refusal_of q kept answer) refl h
+      where
+        step : (o : Option Refusal) → refusal_of q kept answer ≡ o
+            → CanEnd (rest_of
+            (through (takes_verdict answer o (now (at_check q) true said kept next)) texts) es) verdicts
+            → Answers q kept.counted said (questions es) (text ∷ texts) verdicts
+        step (Some refusal) so h = absurd (no_end next refusal true said kept next es texts verdicts h)
+        step None so h = record {
+          lines = [];
+          verdict = text;
+          left = texts;
+          whole = refl;
+          no_verdicts = refl;
+          answer = answer;
+          is_verdict = is;
+          kept = kept;
+          counts = omega arith;
+          means = laws.verdict q kept answer right.sound so;
+          behind = goes true (said ++ answer ∷ []) (count_again kept) (next + 1) texts
+              (record {
+                sound = laws.counts_again q.asked kept right.sound;
+                fresh = λ silent. refl;
+              }) refl h;
+        }
+
+    later_line : (line : Line) → read text ≡ Ok line → (said : List Said) (kept : AllKept) (next : ℕ)
+        → IsRight q.asked true kept
+        → CanEnd (rest_of (through (takes_at_check q line (now (at_check q) true said kept next)) texts) es) verdicts
+        → Answers q kept.counted said (questions es) (text ∷ texts) verdicts
+    later_line (verdict_line answer) is said kept next right h = verdict_here answer is said kept next right h
+    later_line (header_line format) is said kept next right h =
+        kept_line (header_line format) is refl said kept next right h
+    later_line (regex_line node) is said kept next right h = kept_line (regex_line node) is refl said kept next right h
+    later_line (atom_line atom) is said kept next right h = kept_line (atom_line atom) is refl said kept next right h
+    later_line (expansion_line r ks) is said kept next right h =
+        kept_line (expansion_line r ks) is refl said kept next right h
+    later_line (dead_line ids) is said kept next right h = kept_line (dead_line ids) is refl said kept next right h
+    later_line (assertion_line place l) is said kept next right h =
+        kept_line (assertion_line place l) is refl said kept next right h
+    later_line (rule_line rule clause) is said kept next right h =
+        kept_line (rule_line rule clause) is refl said kept next right h
+    later_line (learned_line clause ids) is said kept next right h =
+        kept_line (learned_line clause ids) is refl said kept next right h
+    later_line end_line is said kept next right h = kept_line end_line is refl said kept next right h
+
+    any_line : (line : Line) → read text ≡ Ok line → (begun : Bool) (said : List Said) (kept : AllKept) (next : ℕ)
+        → IsRight q.asked begun kept
+        → CanEnd (rest_of
+        (through (takes_in (at_check q) line (now (at_check q) begun said kept next)) texts) es) verdicts
+        → Answers q kept.counted said (questions es) (text ∷ texts) verdicts
+    any_line line is true said kept next right h = later_line line is said kept next right h
+    any_line line is false said kept next right h = first_line line is said kept next right h
+
+    one_text : (begun : Bool) (said : List Said) (kept : AllKept) (next : ℕ) → IsRight q.asked begun kept
+        → CanEnd (rest_of (through (now (at_check q) begun said kept next) (text ∷ texts)) es) verdicts
+        → Answers q kept.counted said (questions es) (text ∷ texts) verdicts
+    one_text begun said kept next right h = step (read text) refl h
+      where
+        step : (o : Result Line Refusal) → read text ≡ o
+            → CanEnd (rest_of
+            (through (takes_read o (now (at_check q) begun said kept next)) texts) es) verdicts
+            → Answers q kept.counted said (questions es) (text ∷ texts) verdicts
+        step (Ok line) is h = any_line line is begun said kept next right h
+        step (Err refusal) is h = absurd (no_end next refusal begun said kept next es texts verdicts h)
+
+  check_means : Goes → (texts : List LineText) → Shows texts
+  check_means goes [] begun said kept next right h = absurd (no_verdict q begun said kept next es verdicts h)
+  check_means goes (text ∷ texts) begun said kept next right h =
+      one_text goes text texts (check_means goes texts) begun said kept next right h
 
 -- All events.
 
--- behind these verdicts there is one for each question, which means so
-record MeanBehind (said : List Said) (qs : List Question) (verdicts : List Said) : Type 0 where
-  rest : List Said
-  whole : verdicts ≡ said ++ rest
-  mean : AllMeanSo qs rest
-
-one_more : (said : List Said) (verdict : Said) (q : Question) (qs : List Question) (verdicts : List Said)
-    → (kept : AllKept) × MeansSo q kept verdict → MeanBehind (said ++ verdict ∷ []) qs verdicts
-    → MeanBehind said (q ∷ qs) verdicts
-one_more said verdict q qs verdicts means behind = record {
-  rest = verdict ∷ behind.rest;
-  whole = behind.whole ∙ append_assoc said (verdict ∷ []) behind.rest;
-  mean = (means, behind.mean);
+one_more : (q : Question) (said : List Said) (qs : List Question) (came : List LineText) (verdicts : List Said)
+    → Answers q 0 said qs came verdicts → MeanBehind said (q ∷ qs) came verdicts
+one_more q said qs came verdicts a = record {
+  rest = a.answer ∷ a.behind.rest;
+  whole = a.behind.whole ∙ append_assoc said (a.answer ∷ []) a.behind.rest;
+  mean = (
+    a.lines,
+    a.verdict,
+    a.left,
+    a.whole,
+    record {
+      no_verdicts = a.no_verdicts;
+      is_verdict = a.is_verdict;
+      kept = a.kept;
+      counted = a.counts ∙ omega arith;
+      means = a.means;
+    },
+    a.behind.mean,
+  );
 }
 
-module _ (lines : LineStaysSound) (drops : DroppedStaysSound) (drops_all : AllDroppedIsSound)
-    (counts : CountedAgainStaysSound) (verdicts_mean : VerdictMeansSo) where
-  along-means : (es : List Event) (before : Asked) (said verdicts : List Said) (kept : AllKept) (n : ℕ)
-      (texts : List LineText) → IsHistory before es → IsSound before kept
-      → along said kept n texts es ≡ accepted verdicts → MeanBehind said (questions es) verdicts
-  along-means [] before said verdicts kept n texts history sound h = record {
-    rest = [];
-    whole = end-gives said verdicts n texts h ∙ sym (append-nil said);
-    mean = tt;
-  }
-  along-means (leaves_above level ∷ es) before said verdicts kept n texts history sound h =
-      along-means es history.0 said verdicts (dropped_above level kept) n texts history.2
-      (drops level before history.0 kept history.1 sound) h
-  along-means (leaves_all ∷ es) before said verdicts kept n texts history sound h =
-      along-means es history.0 said verdicts (all_dropped kept) n texts history.1
-      (drops_all before history.0 kept sound) h
-  along-means (asks q ∷ es) before said verdicts kept n texts history sound h =
-      step (ending q kept n texts)
-      (sound-ending lines counts verdicts_mean q kept n texts history.1
-      (subst (λ (a : Asked). IsSound a kept) (sym history.0) sound))
-      (λ verdict after m others still. along-means es before (said ++ verdict ∷ []) verdicts after m others history.2
-      (subst (λ (a : Asked). IsSound a after) history.0 still))
-      h
-    where
-      step : (e : Ending) → IsSoundEnding q e
-          → ((verdict : Said) (after : AllKept) (m : ℕ) (others : List LineText) → IsSound q.asked after
-          → along (said ++ verdict ∷ []) after m others es ≡ accepted verdicts
-          → MeanBehind (said ++ verdict ∷ []) (questions es) verdicts)
-          → (elim e as (λ _. Outcome) [
-            | gives verdict after m others ↦ along (said ++ verdict ∷ []) after m others es
-            | stops m refusal ↦ refused said m refusal
-          ]) ≡ accepted verdicts → MeanBehind said (q ∷ questions es) verdicts
-      step (gives verdict after m others) is more h =
-          one_more said verdict q (questions es) verdicts is.0 (more verdict after m others is.1 h)
-      step (stops m refusal) is more h = absurd (Prim.cc (h))
+-- at the end no further check comes
+end_along : (begun : Bool) (said : List Said) (kept : AllKept) (next : ℕ) (es : List Event) (texts : List LineText)
+    → along (now at_end begun said kept next) es texts ≡ (now at_end begun said kept next, texts)
+end_along begun said kept next [] texts = refl
+end_along begun said kept next (e ∷ es) texts =
+    ap (λ (r : Progress × List LineText). along r.0 es r.1)
+    (not_through (now at_end begun said kept next) texts refl)
+    ∙ end_along begun said kept next es texts
 
-  first-means : NothingIsSound → (asked : Asked) (es : List Event) (verdicts : List Said) (texts : List LineText)
-      → IsHistory asked es → from_first texts es ≡ accepted verdicts → AllMeanSo (questions es) verdicts
-  first-means nothing asked es verdicts [] history h = absurd (Prim.cc (h))
-  first-means nothing asked es verdicts (text ∷ texts) history h = step (read text) h
-    where
-      by : (b : Bool) → (if b then along [] nothing_kept 2 texts es else refused [] 1 misplaced) ≡ accepted verdicts
-          → AllMeanSo (questions es) verdicts
-      by true h =
-          let behind = along-means es asked [] verdicts nothing_kept 2 texts history (nothing asked) h in
-          subst (λ (rest : List Said). AllMeanSo (questions es) rest) (sym behind.whole) behind.mean
-      by false h = absurd (Prim.cc (h))
+ended : (begun : Bool) (said : List Said) (kept : AllKept) (next : ℕ) (texts : List LineText) (verdicts : List Said)
+    → CanEnd (takes_all texts (now at_end begun said kept next)) verdicts → MeanBehind said [] texts verdicts
+ended begun said kept next texts verdicts h =
+    let p = now at_end begun said kept next in
+    record {
+      rest = [];
+      whole = end_says (takes_all texts p) verdicts h ∙ all_said_stays texts p refl ∙ sym (append-nil said);
+      mean = tt;
+    }
 
-      step : (o : Result Line Refusal)
-          → (elim o as (λ _. Outcome) [
-            | Ok line ↦ if is_first line then along [] nothing_kept 2 texts es else refused [] 1 misplaced
-            | Err refusal ↦ refused [] 1 refusal
-          ]) ≡ accepted verdicts → AllMeanSo (questions es) verdicts
-      step (Ok line) h = by (is_first line) h
-      step (Err refusal) h = absurd (Prim.cc (h))
+-- what holds of lines that are left holds where a proof at rest takes nothing of them
+at_rest_first : (es : List Event) (begun : Bool) (said : List Said) (kept : AllKept) (next : ℕ)
+    (texts : List LineText) (verdicts : List Said)
+    → CanEnd (rest_of (through (now at_rest begun said kept next) texts) es) verdicts
+    → CanEnd (rest_of (now at_rest begun said kept next, texts) es) verdicts
+at_rest_first es begun said kept next texts verdicts h =
+    subst (λ (r : Progress × List LineText). CanEnd (rest_of r es) verdicts)
+    (not_through (now at_rest begun said kept next) texts refl) h
 
-pub accepted_means : NothingIsSound → LineStaysSound → DroppedStaysSound → AllDroppedIsSound → CountedAgainStaysSound
-    → VerdictMeansSo → AcceptedMeansSo
-accepted_means nothing lines drops drops_all counts verdicts_mean asked es bytes verdicts history h =
-    first-means lines drops drops_all counts verdicts_mean nothing asked es verdicts (texts_of bytes) history h
+module _ (laws : Laws) where
+  along_means : (es : List Event) (before : Asked) (begun : Bool) (said : List Said) (kept : AllKept) (next : ℕ)
+      (texts : List LineText) (verdicts : List Said) → IsHistory before es → IsRight before begun kept
+      → kept.counted ≡ 0 → CanEnd (rest_of (now at_rest begun said kept next, texts) es) verdicts
+      → MeanBehind said (questions es) texts verdicts
+  along_means [] before begun said kept next texts verdicts history right none h =
+      ended begun said kept next texts verdicts
+      (subst (λ (r : Progress × List LineText). CanEnd (takes_all r.1 r.0) verdicts)
+      (not_through (now at_end begun said kept next) texts refl) h)
+  along_means (leaves_above level ∷ es) before begun said kept next texts verdicts history right none h =
+      along_means es history.0 begun said (dropped_above level kept) next texts verdicts history.2
+      (record { sound = laws.drops level before history.0 kept history.1 right.sound; fresh = right.fresh }) none
+      (at_rest_first es begun said (dropped_above level kept) next texts verdicts h)
+  along_means (leaves_all ∷ es) before begun said kept next texts verdicts history right none h =
+      along_means es history.0 begun said (all_dropped kept) next texts verdicts history.2
+      (record { sound = laws.drops_all before history.0 kept right.sound; fresh = right.fresh }) none
+      (at_rest_first es begun said (all_dropped kept) next texts verdicts h)
+  along_means (asks q ∷ es) before begun said kept next texts verdicts history right none h =
+      let right_now : IsRight q.asked begun kept =
+      record { sound = laws.continues before q.asked kept history.0 right.sound; fresh = right.fresh } in
+      let goes : Goes laws q history.1 es verdicts =
+      λ begun said kept next left right none h.
+      along_means es q.asked begun said kept next left verdicts history.2 right none
+      (at_rest_first es begun said kept next left verdicts h) in
+      one_more q said (questions es) texts verdicts
+      (subst (λ n. Answers q n said (questions es) texts verdicts) none
+      (check_means laws q history.1 es verdicts goes texts begun said kept next right_now h))
+  along_means (ends ∷ es) before begun said kept next texts verdicts history right none h =
+      let p = now at_end begun said kept next in
+      let one = subst (λ (r : Progress × List LineText). CanEnd (rest_of r es) verdicts) (not_through p texts refl) h in
+      ended begun said kept next texts verdicts
+      (subst (λ (s : Progress × List LineText). CanEnd (takes_all s.1 s.0) verdicts)
+      (end_along begun said kept next (es ++ ends ∷ []) texts) one)
+
+pub accepted_means : NothingIsSound → LineStaysSound → FollowsByRule → ContinuedStaysSound → DroppedStaysSound
+    → AllDroppedIsSound → CountedAgainStaysSound → VerdictMeansSo → LinesAreCounted → AcceptedMeansSo
+accepted_means nothing line by_rule continues drops drops_all counts_again verdict counted asked es bytes verdicts
+    history h =
+    let laws : Laws = record {
+      nothing = nothing;
+      line = line;
+      by_rule = by_rule;
+      continues = continues;
+      drops = drops;
+      drops_all = drops_all;
+      counts_again = counts_again;
+      verdict = verdict;
+      counted = counted;
+    } in
+    let behind =
+    along_means laws es asked false [] (nothing_kept 1) 1 (texts_of bytes) verdicts history
+    (record { sound = nothing asked 1; fresh = λ silent. refl }) refl h in
+    subst (λ (rest : List Said). AllMeanSo (questions es) (texts_of bytes) rest) (sym behind.whole) behind.mean

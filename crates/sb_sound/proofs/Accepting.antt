@@ -1,6 +1,11 @@
 -- What an accepted result comes from, test by test, and lists that grow behind their elements.
 use Rattle.std.proofs.Common.{◌≡◌, ℕ, zero, suc, ◌<◌, Bool, true, false, if◌then◌else◌, List, [], ◌∷◌, ◌++◌, length, slice_get, Option, Some, None, Result, Ok, Err, refl, ◌∙◌, arith}
 use Rattle.std.specs.List.{Contains}
+use Rattle.sb_rulebook.specs.Refusals.{Refusal, unknown_id}
+use Rattle.sb_rulebook.specs.Brought.{is_brought}
+use Rattle.sb_rulebook.specs.Lines.{Line}
+use Rattle.sb_rulebook.specs.Kept.{AllKept, Asked}
+use Rattle.sb_rulebook.specs.Follows.{by_rule, not_brought, follows}
 use Rattle.std.proofs.lemmas.Option.{slice_get_within, get_or_from_slice_get}
 
 module _ {A E : Type 0} where
@@ -35,3 +40,18 @@ module _ {X : Type 0} where
 
   pub Contains-slice_get : (xs : List X) (k : ℕ) (x : X) → slice_get xs k ≡ Some x → Contains xs x
   Contains-slice_get xs k x h = (k, slice_get_within xs k x h, get_or_from_slice_get xs k x x h)
+
+-- what follows is brought, and follows by its rule
+never_brought : (r : Result AllKept Refusal) (after : AllKept) → not_brought r ≡ Ok after → ⊥
+never_brought (Ok kept) after h = Prim.cc (h)
+never_brought (Err unknown_id) after h = Prim.cc (h)
+never_brought (Err _) after h = Prim.cc (h)
+
+pub follows_by_rule : (asked : Asked) (kept after : AllKept) (line : Line) → follows asked kept line ≡ Ok after
+    → by_rule asked kept line ≡ Ok after
+follows_by_rule asked kept after line h = step (is_brought line) h
+  where
+    step : (b : Bool) → (if b then by_rule asked kept line else not_brought (by_rule asked kept line)) ≡ Ok after
+        → by_rule asked kept line ≡ Ok after
+    step true h = h
+    step false h = absurd (never_brought (by_rule asked kept line) after h)

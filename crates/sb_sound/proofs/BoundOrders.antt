@@ -5,7 +5,7 @@ use Rattle.std.proofs.lemmas.Bool.{and_parts, or_cases, or_left, false≢true}
 use Rattle.std.proofs.lemmas.Int.{ints}
 use Rattle.sb_lit.specs.declared.clause.Lit.{Lit}
 use Rattle.sb_meaning.specs.Values.{Valuation}
-use Rattle.sb_rulebook.specs.Atoms.{Atom, le_atom, Variable, length_of, is_same_variable, value_of, word_at, literal_holds, truths_of, clause_holds}
+use Rattle.sb_rulebook.specs.Atoms.{Atom, le_atom, value_of, word_at, literal_holds, truths_of, clause_holds}
 use Rattle.sb_rulebook.specs.Gates.{is_set_of, atom_of}
 use Rattle.sb_rulebook.specs.BoundClauses.{is_lesser_bound, is_no_length, is_order_at}
 use Rattle.sb_sound.specs.BoundLaws.{OrdersHold}
@@ -13,6 +13,7 @@ use Rattle.sb_sound.proofs.PassFacts.{find_any}
 use Rattle.sb_sound.proofs.SameParts.{same_value}
 use Rattle.sb_sound.proofs.TableFacts.{literal_holds-atom}
 use Rattle.sb_sound.proofs.ClauseSets.{any_of_set, if_positive, if_negative}
+use Rattle.sb_script.specs.Sums.{Variable, length_of, is_same_variable}
 
 -- what is at most the lesser number is at most the greater one
 lesser_denied : (x j k : ℤ) → int_lt j k ≡ true → (not (int_le x j) || (int_le x k || false)) ≡ true

@@ -14,7 +14,8 @@ use Rattle.sb_rulebook.specs.Parts.{together}
 use Rattle.sb_rulebook.specs.Atoms.{Atom, AtomOver, is_well_formed, is_same_atom}
 use Rattle.sb_rulebook.specs.AtomRules as atoms
 use Rattle.sb_rulebook.specs.AtomRules.{is_known, are_known, has_its_parts, with_regex, follows_atom}
-use Rattle.sb_rulebook.specs.Kept.{AllKept, Asked, Expansion, targets_in, counting, most_counted, with_clause}
+use Rattle.sb_rulebook.specs.Kept.{AllKept, Asked, targets_in, counting, most_counted, with_clause, rests_of_any, with_expansion, with_dead}
+use Rattle.sb_rulebook.specs.Kept as kept_regexes
 use Rattle.sb_rulebook.specs.Expansions.{is_expansion}
 use Rattle.sb_rulebook.specs.RegexRules.{regex_of_node, defined, follows_regex, branch_of, expanded, follows_expansion, has_repeated, first_alive, died, member_at, follows_dead}
 use Rattle.sb_rulebook.specs.ClauseRules.{holds_by, is_counted, follows_rule, is_translation, asserted, follows_assertion, refusal_of, follows_learned}
@@ -38,7 +39,7 @@ regex_counts : (kept after : AllKept) (node : Node) → follows_regex kept node 
 regex_counts kept after node h =
     let found = some_of (regex_of_node kept.regexes node) unknown_id (defined kept) after h in
     let r = found.0 in
-    let now : AllKept = record kept { regexes = kept.regexes ++ r ∷ [] } in
+    let now = kept_regexes.with_regex r kept in
     let new =
     if_not (list_any (regex_eq r) kept.regexes) repeated (if is_normal r then Ok now else Err not_normal) after
     found.2 in
@@ -49,7 +50,8 @@ atom_counts : (asked : Asked) (kept after : AllKept) (line : AtomOver ℕ) → f
 atom_counts asked kept after line h =
     let found =
     some_of (with_regex kept.regexes line) unknown_id
-    (λ (a : Atom). if has_its_parts asked.sorts kept.atoms line then atoms.defined kept a else Err unknown_id) after h in
+    (λ (a : Atom). if has_its_parts asked.sorts kept.atoms line then atoms.defined kept a else Err unknown_id) after
+    h in
     let a = found.0 in
     let now : AllKept = record kept { atoms = kept.atoms ++ a ∷ [] } in
     let parts = if_so (has_its_parts asked.sorts kept.atoms line) unknown_id (atoms.defined kept a) after found.2 in
@@ -60,7 +62,7 @@ atom_counts asked kept after line h =
 
 dead_counts : (kept after : AllKept) (ids : List ℕ) → follows_dead kept ids ≡ Ok after → after.counted ≡ kept.counted
 dead_counts kept after ids h =
-    let now : AllKept = record kept { dead = kept.dead ++ ids } in
+    let now = with_dead ids kept in
     let are = some_of (together (map (member_at kept.regexes) ids)) unknown_id (died kept ids) after h in
     let new =
     if_not (has_repeated kept ids) repeated (elim (first_alive kept ids are.0) as (λ _. Result AllKept Refusal)
@@ -77,10 +79,10 @@ assertion_counts : (asked : Asked) (kept after : AllKept) (place : ℕ) (l : Lit
 assertion_counts asked kept after place l h =
     let found =
     some_of (slice_get asked.live place) unknown_id
-    (λ (a : Option Term × ℕ). if is_known kept.atoms l then asserted kept a l else Err unknown_id) after h in
+    (λ (a : Option Term × ℕ). if is_known kept.atoms l then asserted kept place a l else Err unknown_id) after h in
     let a = found.0 in
-    let now = with_clause kept (l ∷ []) a.1 in
-    let known = if_so (is_known kept.atoms l) unknown_id (asserted kept a l) after found.2 in
+    let now = with_clause kept (l ∷ []) a.1 (place ∷ []) in
+    let known = if_so (is_known kept.atoms l) unknown_id (asserted kept place a l) after found.2 in
     accepted_counts now after (if_so (is_translation kept.atoms a.0 l) rule_broken (Ok now) after known.1).1
 
 -- Lines that count.
@@ -89,8 +91,7 @@ expansion_counts : (asked : Asked) (kept after : AllKept) (id : ℕ) (ks : List 
     → follows_expansion asked kept id ks ≡ Ok after → after.counted ≡ kept.counted + 1
 expansion_counts asked kept after id ks h =
     let branches = together (map (branch_of kept.regexes) ks) in
-    let one : Expansion = record { regex = id; targets = map (λ (k : Class). k.1) ks } in
-    let now : AllKept = record kept { expansions = kept.expansions ++ one ∷ [] } in
+    let now = with_expansion id (map (λ (k : Class). k.1) ks) kept in
     let there =
     some_of (slice_get kept.regexes id) unknown_id
     (λ (r : Regex). elim branches as (λ _. Result AllKept Refusal)
@@ -106,12 +107,13 @@ learned_counts : (asked : Asked) (kept after : AllKept) (clause : List Lit) (ids
     → follows_learned asked kept clause ids ≡ Ok after → after.counted ≡ kept.counted + 1
 learned_counts asked kept after clause ids h =
     let result = learned kept.clauses clause ids in
+    let rests = rests_of_any kept ids in
     let one =
     if_not (not (are_known kept.atoms clause)) unknown_id (elim result as (λ _. Result AllKept Refusal)
-    [ Err unlearned ↦ Err (refusal_of unlearned) | Ok level ↦ counting asked (with_clause kept clause level) ])
+    [ Err unlearned ↦ Err (refusal_of unlearned) | Ok level ↦ counting asked (with_clause kept clause level rests) ])
     after h in
-    let two = learned-parts asked kept after clause result one.1 in
-    counting_counts asked (with_clause kept clause two.0) after two.2
+    let two = learned-parts asked kept after clause rests result one.1 in
+    counting_counts asked (with_clause kept clause two.0 rests) after two.2
 
 -- A clause by a rule counts where the rule does.
 
@@ -125,7 +127,7 @@ rule_counts : (asked : Asked) (kept after : AllKept) (rule : Rule) (clause : Lis
     → follows_rule asked kept rule clause ≡ Ok after
     → after.counted ≡ (if is_counted rule then kept.counted + 1 else kept.counted)
 rule_counts asked kept after rule clause h =
-    let now = with_clause kept clause 0 in
+    let now = with_clause kept clause 0 [] in
     let last : Result AllKept Refusal = if is_counted rule then counting asked now else Ok now in
     let again = is_counted rule && is_repeated kept.clauses clause in
     let right = are_ascending clause && holds_by kept rule clause in

@@ -1,8 +1,8 @@
 -- Expansions that are kept are right, and a set of regexes among which they stay has no word.
-use Rattle.std.proofs.Common.{◌≡◌, ℕ, ◌+◌, nat_lt, Bool, true, false, if◌then◌else◌, ◌||◌, eqb, List, [], ◌∷◌, ◌++◌, map, filter, slice_get, Option, Some, None, is_some, option_map, Result, Ok, Err, refl, sym, ap, subst, ◌∙◌, inl, inr}
+use Rattle.std.proofs.Common.{◌≡◌, ℕ, ◌+◌, nat_lt, Bool, true, false, if◌then◌else◌, ◌||◌, eqb, List, [], ◌∷◌, map, filter, slice_get, Option, Some, None, is_some, option_map, Result, Ok, Err, refl, sym, ap, subst, ◌∙◌, inl, inr}
 use Rattle.std.specs.List.{list_all, list_any, Contains}
 use Rattle.std.proofs.lemmas.Bool.{and_parts, or_cases, eqb-true, false≢true}
-use Rattle.std.proofs.lemmas.List.Elements.{Contains-append_cases, Contains-push_cases}
+use Rattle.std.specs.Prelude.{set}
 use Rattle.sb_class.specs.Ranges.{in_ranges}
 use Rattle.sb_word.specs.Words.{is_character, are_characters, IsWord}
 use Rattle.sb_lang.specs.Regex.{Regex}
@@ -14,13 +14,14 @@ use Rattle.sb_lang.specs.DerivativeLaws.{NullableHasEmptyWord, DerivativeHasRest
 use Rattle.sb_rulebook.specs.Refusals.{Refusal, unknown_id, repeated, wrong_target, wrong_verdict, holds_empty_word, not_closed}
 use Rattle.sb_rulebook.specs.Lines.{Class}
 use Rattle.sb_rulebook.specs.Parts.{together}
-use Rattle.sb_rulebook.specs.Kept.{AllKept, Asked, Expansion, is_among_numbers, is_dead, targets_in, most_counted, counting}
+use Rattle.sb_rulebook.specs.Kept.{AllKept, Asked, is_among_numbers, is_dead, targets_in, with_expansion, with_dead, marked, most_counted, counting}
 use Rattle.sb_rulebook.specs.Expansions.{Branch, leads_right, is_right_at, is_expansion}
 use Rattle.sb_rulebook.specs.ExpansionLaws.{TestDecidesExpansion}
 use Rattle.sb_rulebook.specs.RegexRules.{branch_of, expanded, follows_expansion, has_repeated, is_settled, is_closed, first_alive, died, member_at, follows_dead}
 use Rattle.sb_sound.specs.DeadLaws.{LeadsOn, AreRight, ExpandedIsRight, DeadStaysEmpty}
 use Rattle.sb_sound.specs.MembershipLaws.{AreEmpty}
 use Rattle.sb_sound.proofs.SameParts.{same_regex}
+use Rattle.sb_sound.proofs.ByNumber.{slice_get-set, targets_there, there_targets, mark_there, marked-cases}
 use Rattle.sb_sound.proofs.PassFacts.{list_any-from_filter, Contains-cases, Contains-first, Contains-later, Contains-none}
 
 some_same : {A : Type 0} (a b : A) → Some a ≡ Some b → a ≡ b
@@ -55,7 +56,7 @@ record IsExpanded (kept after : AllKept) (id : ℕ) (ks : List Class) : Type 0 w
   are : together (map (branch_of kept.regexes) ks) ≡ Some branches
   expands : is_expansion regex branches ≡ true
   same : after.regexes ≡ kept.regexes
-  more : after.expansions ≡ kept.expansions ++ record { regex = id; targets = map (λ (k : Class). k.1) ks } ∷ []
+  more : after.expansions ≡ set kept.expansions id (Some (map (λ (k : Class). k.1) ks))
 
 counted-parts : (asked : Asked) (kept after : AllKept) → counting asked kept ≡ Ok after
     → (after.regexes ≡ kept.regexes) × (after.expansions ≡ kept.expansions)
@@ -73,11 +74,8 @@ expansion-parts : (asked : Asked) (kept after : AllKept) (id : ℕ) (ks : List C
     → follows_expansion asked kept id ks ≡ Ok after → IsExpanded kept after id ks
 expansion-parts asked kept after id ks h = step (slice_get kept.regexes id) refl h
   where
-    one : Expansion
-    one = record { regex = id; targets = map (λ (k : Class). k.1) ks }
-
     more : AllKept
-    more = record kept { expansions = kept.expansions ++ one ∷ [] }
+    more = with_expansion id (map (λ (k : Class). k.1) ks) kept
 
     tests : (r : Regex) (ps : List Branch) → slice_get kept.regexes id ≡ Some r
         → together (map (branch_of kept.regexes) ks) ≡ Some ps → (b d : Bool) → is_expansion r ps ≡ d
@@ -165,15 +163,16 @@ pub expanded_right : OrderTellsApart → TestDecidesExpansion → ExpandedIsRigh
 expanded_right tells decides asked kept after id ks h right =
     let l = expansion-parts asked kept after id ks h in
     subst (λ (rs : List Regex). AreRight rs after.expansions) (sym l.same)
-    (subst (λ (es : List Expansion). AreRight kept.regexes es) (sym l.more) (λ e r among there c is.
-    elim (Contains-push_cases kept.expansions (record { regex = id; targets = map (λ (k : Class). k.1) ks }) e among) [
-      | inl before ↦ right e r before there c is
-      | inr here ↦
-          let found : slice_get kept.regexes id ≡ Some r =
-          ap (λ (e : Expansion). slice_get kept.regexes e.regex) here ∙ there in
+    (subst (λ (es : List (Option (List ℕ))). AreRight kept.regexes es) (sym l.more) (λ n r targets are there c is.
+    elim (slice_get-set kept.expansions id (Some (map (λ (k : Class). k.1) ks)) n (Some targets)
+    (targets_there (set kept.expansions id (Some (map (λ (k : Class). k.1) ks))) n targets are)) [
+      | inr before ↦ right n r targets (there_targets kept.expansions n targets before) there c is
+      | inl here ↦
+          let found : slice_get kept.regexes id ≡ Some r = ap (slice_get kept.regexes) (sym here.0) ∙ there in
           let same : l.regex ≡ r = some_same l.regex r (sym l.there ∙ found) in
           let right_at = ((decides l.regex l.branches).0 l.expands).right c is in
-          subst (λ (e : Expansion). LeadsOn kept.regexes r e.targets c) here
+          subst (λ (ts : List ℕ). LeadsOn kept.regexes r ts c)
+          (some_same (map (λ (k : Class). k.1) ks) targets here.1)
           (subst (λ (q : Regex). LeadsOn kept.regexes q (map (λ (k : Class). k.1) ks) c) same
           (leads-right tells kept.regexes l.regex c ks l.branches l.are right_at))
     ]))
@@ -193,13 +192,13 @@ record HaveDied (kept after : AllKept) (ids : List ℕ) : Type 0 where
   are : together (map (member_at kept.regexes) ids) ≡ Some members
   none_alive : first_alive kept ids members ≡ None
   same : after.regexes ≡ kept.regexes
-  more : after.dead ≡ kept.dead ++ ids
+  more : after.dead ≡ marked ids kept.dead
 
 dead-parts : (kept after : AllKept) (ids : List ℕ) → follows_dead kept ids ≡ Ok after → HaveDied kept after ids
 dead-parts kept after ids h = step (together (map (member_at kept.regexes) ids)) refl h
   where
     now : AllKept
-    now = record kept { dead = kept.dead ++ ids }
+    now = with_dead ids kept
 
     tests : (ms : List (ℕ × Regex)) → together (map (member_at kept.regexes) ids) ≡ Some ms → (b : Bool)
         (o : Option Refusal) → first_alive kept ids ms ≡ o
@@ -257,20 +256,6 @@ members-are kept all (n ∷ ids) ms are alive id r among there =
       | inr later ↦ members-are kept all ids parts.others parts.rest tests.1 id r later there
     ]
 
--- the targets are those of an expansion
-targets-kept : (es : List Expansion) (id : ℕ) (targets : List ℕ) → targets_in es id ≡ Some targets
-    → (e : Expansion) × Contains es e × (e.regex ≡ id) × (e.targets ≡ targets)
-targets-kept [] id targets h = absurd (Prim.cc (h))
-targets-kept (e ∷ es) id targets h = step (eqb e.regex id) refl h (targets-kept es id targets)
-  where
-    step : (b : Bool) → eqb e.regex id ≡ b → (if b then Some e.targets else targets_in es id) ≡ Some targets
-        → (targets_in es id ≡ Some targets → (e : Expansion) × Contains es e × (e.regex ≡ id) × (e.targets ≡ targets))
-        → (d : Expansion) × Contains (e ∷ es) d × (d.regex ≡ id) × (d.targets ≡ targets)
-    step true is h rest = (e, Contains-first e es, eqb-true e.regex id is, some_same e.targets targets h)
-    step false is h rest =
-        let l = rest h in
-        (l.0, Contains-later e es l.0 l.1, l.2, l.3)
-
 all_contained : (p : ℕ → Bool) (ns : List ℕ) (n : ℕ) → list_all p ns ≡ true → Contains ns n → p n ≡ true
 all_contained p [] n all among = absurd (Contains-none n among)
 all_contained p (m ∷ ns) n all among =
@@ -294,14 +279,11 @@ closed-next kept ids right id r there closed c is = step (targets_in kept.expans
         → IsNext kept ids r c
     step None at h = absurd (false≢true h)
     step (Some targets) at h =
-        let e = targets-kept kept.expansions id targets at in
-        let next = right e.0 r e.1 (ap (slice_get kept.regexes) e.2 ∙ there) c is in
+        let next = right id r targets at there c is in
         record {
           target = next.target;
           there = next.there;
-          settled =
-              all_contained (is_settled kept ids) targets next.target h
-              (subst (λ ns. Contains ns next.target) e.3 next.among);
+          settled = all_contained (is_settled kept ids) targets next.target h next.among;
         }
 
 module _ (empty : NullableHasEmptyWord) (rests : DerivativeHasRests) (kept : AllKept) (ids : List ℕ)
@@ -317,16 +299,16 @@ module _ (empty : NullableHasEmptyWord) (rests : DerivativeHasRests) (kept : All
       sym (rests r c w)
       ∙ (elim (or_cases (is_among_numbers ids next.target) (is_dead kept next.target) next.settled) [
         | inl in_line ↦ no_word w next.target (nd r c) (among_contains ids next.target in_line) next.there parts.1
-        | inr before ↦ dead next.target (nd r c) (among_contains kept.dead next.target before) next.there w parts.1
+        | inr before ↦ dead next.target (nd r c) (mark_there kept.dead next.target before) next.there w parts.1
       ])
 
 pub dead_empty : NullableHasEmptyWord → DerivativeHasRests → DeadStaysEmpty
 dead_empty empty rests kept after ids h right dead =
     let l = dead-parts kept after ids h in
     subst (λ (rs : List Regex). AreEmpty rs after.dead) (sym l.same)
-    (subst (λ (ns : List ℕ). AreEmpty kept.regexes ns) (sym l.more) (λ id r among there w word.
-    elim (Contains-append_cases kept.dead ids id among) [
-      | inl before ↦ dead id r before there w word
-      | inr in_line ↦ no_word empty rests kept ids right dead
+    (subst (λ (marks : List Bool). AreEmpty kept.regexes marks) (sym l.more) (λ id r mark there w word.
+    elim (marked-cases ids kept.dead id mark) [
+      | inr before ↦ dead id r before there w word
+      | inl in_line ↦ no_word empty rests kept ids right dead
           (members-are kept ids ids l.members l.are l.none_alive) w id r in_line there word
     ]))

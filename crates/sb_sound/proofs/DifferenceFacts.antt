@@ -3,10 +3,9 @@ use Rattle.std.proofs.Common.{◌≡◌, true, Some, List, ap, ◌∙◌}
 use Rattle.std.specs.Prelude.{ℤ, pos, ◌+ℤ◌, ◌-ℤ◌, neg_ℤ}
 use Rattle.sb_meaning.specs.Terms.{Sort, Term}
 use Rattle.sb_meaning.specs.Values.{Valuation}
-use Rattle.sb_rulebook.specs.Sums.{Sum, scaled, subtracted}
-use Rattle.sb_rulebook.specs.Parts.{sum_of}
 use Rattle.sb_sound.specs.TermLaws.{fits_sorts}
 use Rattle.sb_sound.proofs.SumFacts.{number_of, sum_declared, scaled_declared, added_value, negated_value, add_negated}
+use Rattle.sb_script.specs.Sums.{Sum, scaled, subtracted, sum_of}
 
 pub subtracted_value : (v : Valuation) (sorts : List Sort) (a b : Term) (s t : Sum) → fits_sorts sorts a ≡ true
     → fits_sorts sorts b ≡ true → sum_of a ≡ Some s → sum_of b ≡ Some t

@@ -13,7 +13,7 @@ use Rattle.sb_lang.specs.Constructors.{any_character, mkrep}
 use Rattle.sb_lang.specs.ConstructorLaws.{MkrepKeepsLanguage}
 use Rattle.sb_lang.specs.Language.{language}
 use Rattle.sb_meaning.specs.Values.{Valuation}
-use Rattle.sb_rulebook.specs.Atoms.{Atom, in_atom, le_atom, and_atom, iff_atom, constant_piece, length_of, is_same_atom, word_at, literal_holds, atom_holds, truths_of, clause_holds}
+use Rattle.sb_rulebook.specs.Atoms.{Atom, in_atom, le_atom, and_atom, iff_atom, is_same_atom, word_at, literal_holds, atom_holds, truths_of, clause_holds}
 use Rattle.sb_rulebook.specs.Gates.{is_set_of, atom_of, differ_in_sign, has_both_signs, is_short_membership, is_length_link, is_gate_of}
 use Rattle.sb_sound.specs.Tables.{names_below, is_table, HasWords}
 use Rattle.sb_sound.specs.GateLaws.{GatesHold}
@@ -22,6 +22,8 @@ use Rattle.sb_sound.proofs.SameParts.{same_atom}
 use Rattle.sb_sound.proofs.TableFacts.{truth_at_place, literal_holds-atom, literal_holds-take, names_from, all_in_front}
 use Rattle.sb_sound.proofs.ClauseSets.{any_among, any_of_set, any_of_both, any_negated, literal_holds-negation, if_positive, if_negative}
 use Rattle.sb_sound.proofs.ShortWords.{short_language}
+use Rattle.sb_script.specs.Pieces.{constant_piece}
+use Rattle.sb_script.specs.Sums.{length_of}
 
 -- an atom of a table names those before it
 names_at : (atoms : List Atom) (l : Lit) (atom : Atom) → is_table atoms ≡ true → atom_of atoms l ≡ Some atom

@@ -112,6 +112,22 @@ hinted-low kept (first ∷ ids) hints h id hint among there =
     some_same : {a b : KeptClause} → Some a ≡ Some b → a ≡ b
     some_same e = Prim.cc (e)
 
+hinted-there : (kept : Kept) (ids : List ℕ) (hints : List KeptClause) → hinted kept ids ≡ Some hints → (id : ℕ)
+    → Contains ids id → (hint : KeptClause) × (kept_at kept id ≡ Some hint)
+hinted-there kept [] hints h id among = absurd (Contains-none id among)
+hinted-there kept (first ∷ ids) hints h id among =
+    let l = hinted-parts kept first ids hints h in
+    elim (Contains-cases first ids id among) [
+      | inl here ↦ (l.first, subst (λ n. kept_at kept n ≡ Some l.first) here l.there)
+      | inr later ↦ hinted-there kept ids l.others l.rest id later
+    ]
+
+-- each hint names a kept clause
+pub learned-hint : (kept : Kept) (clause : List Lit) (ids : List ℕ) (level : ℕ) → learned kept clause ids ≡ Ok level
+    → (id : ℕ) → Contains ids id → (hint : KeptClause) × (kept_at kept id ≡ Some hint)
+learned-hint kept clause ids level h id among =
+    let l = learned-parts kept clause ids level h in hinted-there kept ids l.hints l.are id among
+
 pub learned_levels : LearnedHasLevels
 learned_levels kept clause ids level h id hint among there =
     let l = learned-parts kept clause ids level h in

@@ -7,6 +7,9 @@ mod ShortWords
 mod GateFacts
 mod MembershipFacts
 mod PassFacts
+mod ByNumber
+mod RestFacts
+mod ReadTexts
 mod VerdictFacts
 mod HintFacts
 mod DeadFacts

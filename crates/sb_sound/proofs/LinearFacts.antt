@@ -8,12 +8,13 @@ use Rattle.std.proofs.lemmas.Bool.{lt-ltb, and_parts, or_parts, or_left, or_righ
 use Rattle.std.proofs.Math.IntN.{zero-*ℤ, suc_ℤ-*ℤ, pred_ℤ-*ℤ}
 use Rattle.sb_lit.specs.declared.clause.Lit.{Lit}
 use Rattle.sb_meaning.specs.Values.{Valuation}
-use Rattle.sb_rulebook.specs.Atoms.{Atom, le_atom, sum_atom, Variable, int_constant, length_of, Summand, is_same_variable, word_at, value_of, value_of_sum, literal_holds, truths_of, clause_holds}
+use Rattle.sb_rulebook.specs.Atoms.{Atom, le_atom, sum_atom, word_at, value_of, value_of_sum, literal_holds, truths_of, clause_holds}
 use Rattle.sb_rulebook.specs.Gates.{atom_of}
-use Rattle.sb_rulebook.specs.Bounds.{Bound, at_least, at_most, greater_of, lesser_of, lower_in, upper_in, least_product, least_by, least_sum, greatest_sum}
 use Rattle.sb_rulebook.specs.BoundClauses.{is_sum_bound, is_bound, bound_denied, bounds_denied, passes, is_forced, is_forced_sum, is_linear}
 use Rattle.sb_sound.proofs.SameParts.{same_value}
 use Rattle.sb_sound.proofs.TableFacts.{literal_holds-atom}
+use Rattle.sb_script.specs.Sums.{Variable, int_constant, length_of, Summand, is_same_variable}
+use Rattle.sb_script.specs.Bounds.{Bound, at_least, at_most, greater_of, lesser_of, lower_in, upper_in, least_product, least_by, least_sum, greatest_sum}
 
 -- Tests of numbers.
 

@@ -1,6 +1,6 @@
 -- Clauses of memberships are true: what the tests of the rules find in a clause, and what it says of languages.
-use Rattle.std.proofs.Common.{◌≡◌, ℕ, Bool, true, false, not, if◌then◌else◌, ◌&&◌, ◌||◌, ◌==◌, List, [], ◌∷◌, ◌++◌, map, slice_get, Option, Some, None, option_map, inl, inr, refl, sym, ap, subst, ◌∙◌}
-use Rattle.std.specs.List.{list_all, list_any, flat_map, Contains}
+use Rattle.std.proofs.Common.{◌≡◌, ℕ, Bool, true, false, not, if◌then◌else◌, ◌&&◌, ◌||◌, ◌==◌, List, [], ◌∷◌, ◌++◌, map, Option, Some, None, option_map, inl, inr, refl, sym, ap, subst, ◌∙◌}
+use Rattle.std.specs.List.{list_all, list_any, flat_map}
 use Rattle.std.specs.Cmp.Lexicographic.{pointwise}
 use Rattle.std.proofs.lemmas.Bool.{and_parts, and_from, or_cases, or_parts, or_left, true_from_ne_false, false≢true, not-false, eqb-true}
 use Rattle.std.proofs.lemmas.List.{append-nil}
@@ -14,7 +14,7 @@ use Rattle.sb_lang.specs.ConstructorLaws.{IntersectionIsOfEach, MkandKeepsLangua
 use Rattle.sb_lang.specs.Derivative.{nullable, nd_along}
 use Rattle.sb_lang.specs.DerivativeLaws.{NullableHasEmptyWord, DerivativeAlongHasRests}
 use Rattle.sb_meaning.specs.Values.{Valuation}
-use Rattle.sb_rulebook.specs.Atoms.{Piece, constant_piece, word_piece, Atom, in_atom, is_same_piece, is_same_atom, word_at, word_of_piece, literal_holds, truths_of, clause_holds}
+use Rattle.sb_rulebook.specs.Atoms.{Atom, in_atom, is_same_piece, is_same_atom, word_at, word_of_piece, literal_holds, truths_of, clause_holds}
 use Rattle.sb_rulebook.specs.Parts.{together}
 use Rattle.sb_rulebook.specs.Kept.{AllKept}
 use Rattle.sb_rulebook.specs.Gates.{is_set_of, atom_of, differ_in_sign}
@@ -22,9 +22,11 @@ use Rattle.sb_rulebook.specs.Splits.{is_split, is_cut, is_end, is_split_by, is_s
 use Rattle.sb_sound.specs.Tables.{HasWords}
 use Rattle.sb_sound.specs.MembershipLaws.{StepsHold, HasNone, AreEmpty, EmptyHolds}
 use Rattle.sb_sound.proofs.PassFacts.{find_any}
+use Rattle.sb_sound.proofs.ByNumber.{find_beside}
 use Rattle.sb_sound.proofs.ClauseSets.{any_of_set}
 use Rattle.sb_sound.proofs.SameParts.{same_regex, same_pieces, same_atom}
 use Rattle.sb_sound.proofs.TableFacts.{literal_holds-atom}
+use Rattle.sb_script.specs.Pieces.{Piece, constant_piece, word_piece}
 
 -- Memberships.
 
@@ -306,16 +308,9 @@ one_word v x (m ∷ ms) same all =
 dead_has_none : OrderTellsApart → (kept : AllKept) (r : Regex) → AreEmpty kept.regexes kept.dead
     → is_dead_regex kept r ≡ true → HasNone r
 dead_has_none apart kept r dead h =
-    let test : ℕ → Bool =
-    λ id. elim (slice_get kept.regexes id) [ None ↦ false | Some s ↦ regex_eq r s ] in
-    let f = find_any test kept.dead h in
-    by f.element f.within (slice_get kept.regexes f.element) refl f.passes
-  where
-    by : (id : ℕ) → Contains kept.dead id → (o : Option Regex) → slice_get kept.regexes id ≡ o
-        → elim o as (λ _. Bool) [ None ↦ false | Some s ↦ regex_eq r s ] ≡ true → HasNone r
-    by id within None there same = absurd (false≢true same)
-    by id within (Some s) there same =
-        λ w is. ap (λ q. language q w) (same_regex apart r s same) ∙ dead id s within there w is
+    let f = find_beside (regex_eq r) kept.regexes kept.dead h in
+    λ w is. ap (λ q. language q w) (same_regex apart r f.element f.passes)
+    ∙ dead f.number f.element f.is_marked f.there w is
 
 -- so not all of them can be in regexes whose intersection is dead
 no_word_in_all : OrderTellsApart → IntersectionIsOfEach → MkandKeepsLanguage → (v : Valuation) (kept : AllKept)

@@ -1,14 +1,14 @@
 -- The assumptions that a clause's literals deny are contradicted alone.
-use Rattle.std.proofs.Common.{◌≡◌, Bool, true, ◌&&◌, List, [], ◌∷◌, slice_get, Option, Some, None, subst, inl, inr}
+use Rattle.std.proofs.Common.{◌≡◌, Bool, true, ◌&&◌, if◌then◌else◌, List, [], ◌∷◌, slice_get, Option, Some, None, subst, inl, inr}
 use Rattle.std.specs.List.{list_all, list_any}
 use Rattle.std.proofs.lemmas.Bool.{and_parts, or_cases, or_left, or_right, false≢true}
 use Rattle.sb_lit.specs.Kept.{KeptClause}
 use Rattle.sb_rulebook.specs.Refusals.{Refusal, unknown_id}
 use Rattle.sb_rulebook.specs.Atoms.{truths_of, literal_holds}
-use Rattle.sb_rulebook.specs.Verdicts.{assumption_holds, denies, denies_assumption, refutes, unless_wrong}
-use Rattle.sb_sound.specs.VerdictLaws.{named, NamedAreRefuted}
+use Rattle.sb_rulebook.specs.Verdicts.{denied_by, assumption_holds, denies, denies_assumption, refutes, are_live, is_listed, unless_wrong}
+use Rattle.sb_sound.specs.VerdictLaws.{NamedAreRefuted}
 use Rattle.sb_sound.proofs.PassFacts.{list_any-filter, one_fails}
-use Rattle.sb_sound.proofs.VerdictFacts.{unless_wrong-none, denied_fails}
+use Rattle.sb_sound.proofs.VerdictFacts.{unsat-parts, denied_fails}
 
 -- an element of the list that passes both tests: whatever test it passes, some element of the list does
 record PassesBoth {X : Type 0} (p q : X → Bool) (xs : List X) : Type 0 where
@@ -40,17 +40,20 @@ passes_both p q (x ∷ xs) all any =
     ]
 
 pub named_refuted : NamedAreRefuted
-named_refuted q kept id clause follows there v true_so =
-    let wrong : unless_wrong (q.inside && refutes q kept clause) ≡ None =
-    subst (λ (o : Option KeptClause). (elim o as (λ _. Option Refusal)
-    [ None ↦ Some unknown_id | Some c ↦ unless_wrong (q.inside && refutes q kept c) ]) ≡ None) there follows in
-    let all =
-    (and_parts q.inside (refutes q kept clause) (unless_wrong-none (q.inside && refutes q kept clause) wrong)).1 in
+named_refuted q kept id places clause follows there v true_so =
+    let wrong : (if are_live q kept places
+    then unless_wrong (q.inside && (is_listed kept id places && refutes q kept clause)) else Some unknown_id) ≡ None =
+    subst (λ (o : Option KeptClause). (elim o as (λ _. Option Refusal) [
+      | None ↦ Some unknown_id
+      | Some c ↦ if are_live q kept places
+          then unless_wrong (q.inside && (is_listed kept id places && refutes q kept c)) else Some unknown_id
+    ]) ≡ None) there follows in
+    let all = (unsat-parts q kept id places clause wrong).refuting in
     let found =
     passes_both (denies_assumption q kept) (literal_holds (truths_of v kept.atoms)) clause.literals all true_so in
     let l = found.element in
     let denied = denies l (slice_get kept.atoms l.atom) in
-    one_fails denied (assumption_holds v) (named q kept clause)
-    (list_any-filter (λ a. list_any (λ m. denies m (slice_get kept.atoms m.atom) a) clause.literals) denied q.assumptions
-    (λ a so. found.among (λ m. denies m (slice_get kept.atoms m.atom) a) so) found.first)
+    one_fails denied (assumption_holds v) (denied_by q kept clause)
+    (list_any-filter (λ a. list_any (λ m. denies m (slice_get kept.atoms m.atom) a) clause.literals) denied
+    q.assumptions (λ a so. found.among (λ m. denies m (slice_get kept.atoms m.atom) a) so) found.first)
     (λ a so. denied_fails v kept.atoms l a found.second so)

@@ -11,9 +11,8 @@ use Rattle.sb_lit.specs.declared.clause.Lit.{Lit}
 use Rattle.sb_meaning.specs.Terms.{Sort, Term}
 use Rattle.sb_meaning.specs.Values.{Valuation}
 use Rattle.sb_meaning.specs.Truth.{means_number, are_equal, is_less, is_at_most, meaning_of}
-use Rattle.sb_rulebook.specs.Atoms.{Atom, Summand, le_atom, sum_atom, is_one, value_of, value_of_sum}
-use Rattle.sb_rulebook.specs.Sums.{subtracted, if_small}
-use Rattle.sb_rulebook.specs.Parts.{together, sum_of}
+use Rattle.sb_rulebook.specs.Atoms.{Atom, le_atom, sum_atom, is_one, value_of, value_of_sum}
+use Rattle.sb_rulebook.specs.Parts.{together}
 use Rattle.sb_rulebook.specs.Translation.{positive, negated, conjunction, bound, difference_bound, compared, number_equality}
 use Rattle.sb_sound.specs.TermLaws.{fits_sorts}
 use Rattle.sb_sound.proofs.ProductFacts.{less_one_times}
@@ -23,6 +22,7 @@ use Rattle.sb_sound.proofs.SameParts.{same_number}
 use Rattle.sb_sound.proofs.AtomLiterals.{HasAtomsTruth}
 use Rattle.sb_sound.proofs.GateLiterals.{T, Says, says_negated, conjunction_says, front, nothing_together, all_say}
 use Rattle.sb_sound.proofs.WordLiterals.{Setting}
+use Rattle.sb_script.specs.Sums.{Summand, subtracted, if_small, sum_of}
 
 -- Tests of numbers.
 

@@ -1,7 +1,7 @@
 -- Tests that elements of a list pass.
-use Rattle.std.proofs.Common.{◌≡◌, ℕ, suc, zero, ◌<◌, Bool, true, false, cond, ◌||◌, List, [], ◌∷◌, length, get_or, filter, refl, ap, ◌∙◌, ◌⊎◌, inl, inr, arith}
+use Rattle.std.proofs.Common.{◌≡◌, ℕ, suc, zero, ◌<◌, Bool, true, false, cond, ◌||◌, List, [], ◌∷◌, ◌++◌, length, get_or, filter, refl, ap, ◌∙◌, ◌⊎◌, inl, inr, arith}
 use Rattle.std.specs.List.{list_all, list_any, Contains}
-use Rattle.std.proofs.lemmas.Bool.{and_parts, and_left, and_right, or_left, or_right, or_cases, false≢true}
+use Rattle.std.proofs.lemmas.Bool.{and_parts, and_from, and_left, and_right, or_left, or_right, or_cases, false≢true}
 
 module _ {X : Type 0} (p q : X → Bool) where
   -- where all pass one test and some passes the other, some element passes both
@@ -46,6 +46,26 @@ module _ {X : Type 0} (p q : X → Bool) where
         | inr later ↦ or_right (q x) (list_any q xs) (rest later)
       ]
       more false rest any = or_right (q x) (list_any q xs) (rest any)
+
+-- where all elements pass
+
+pub all_weaker : {A : Type 0} → (p q : A → Bool) (xs : List A) → ((x : A) → p x ≡ true → q x ≡ true)
+    → list_all p xs ≡ true → list_all q xs ≡ true
+all_weaker p q [] f h = refl
+all_weaker p q (x ∷ xs) f h =
+    let parts = and_parts (p x) (list_all p xs) h in
+    and_from (q x) (list_all q xs) (f x parts.0) (all_weaker p q xs f parts.1)
+
+pub all_append : {A : Type 0} → (p : A → Bool) (xs ys : List A) → list_all p xs ≡ true → list_all p ys ≡ true
+    → list_all p (xs ++ ys) ≡ true
+all_append p [] ys h k = k
+all_append p (x ∷ xs) ys h k =
+    let parts = and_parts (p x) (list_all p xs) h in
+    and_from (p x) (list_all p (xs ++ ys)) parts.0 (all_append p xs ys parts.1 k)
+
+pub all_push : {A : Type 0} → (p : A → Bool) (xs : List A) (x : A) → list_all p xs ≡ true → p x ≡ true
+    → list_all p (xs ++ x ∷ []) ≡ true
+all_push p xs x h k = all_append p xs (x ∷ []) h (and_from (p x) true k refl)
 
 -- an element is the first one or one of the others
 pub Contains-cases : {X : Type 0} → (x : X) (xs : List X) (y : X) → Contains (x ∷ xs) y → (x ≡ y) ⊎ Contains xs y

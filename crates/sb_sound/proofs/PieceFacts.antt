@@ -5,15 +5,15 @@ use Rattle.std.specs.List.{flat_map}
 use Rattle.std.proofs.lemmas.List.{append-nil}
 use Rattle.std.proofs.lemmas.Option.{option_and_then_some}
 use Rattle.std.proofs.lemmas.Bool.{and_parts}
-use Rattle.sb_meaning.specs.Terms.{Sort, boolean, integer, text, reglan, Term, Terms, constant, word, numeral, apply, no_terms, with_term}
+use Rattle.sb_meaning.specs.Terms.{Sort, boolean, integer, text, reglan, Term, Terms, constant, word, numeral, apply, parameter, no_terms, with_term}
 use Rattle.sb_meaning.specs.Terms as symbol
 use Rattle.sb_meaning.specs.Sorts.{is_same_sort}
 use Rattle.sb_meaning.specs.Values.{Valuation, Value, Text, Int, Truth, is_of, value_in}
 use Rattle.sb_meaning.specs.Truth.{Meaning, means_word, word_in, meaning_of_value, meaning_of, meanings_of}
-use Rattle.sb_rulebook.specs.Atoms.{Piece, constant_piece, word_piece, word_of_piece}
+use Rattle.sb_rulebook.specs.Atoms.{word_of_piece}
 use Rattle.sb_rulebook.specs.AtomRules.{is_declared}
-use Rattle.sb_rulebook.specs.Parts.{onto_pieces, before_pieces, concatenation, is_short, if_short, pieces_of, all_pieces}
 use Rattle.sb_sound.specs.TermLaws.{HasSorts, fits_sorts, all_fit}
+use Rattle.sb_script.specs.Pieces.{Piece, constant_piece, word_piece, onto_pieces, before_pieces, concatenation, is_short, if_short, pieces_of, all_pieces}
 
 -- Options.
 
@@ -106,6 +106,7 @@ mutual
       ∙ ap (λ u. means_word u) (concatenation_word v pss)
       ∙ ap (meant v) (some_if (is_short (concatenation pss)) (concatenation pss) ps short))
   pieces_keep v sorts (apply _ terms) ps has fits h = absurd (Prim.cc (h))
+  pieces_keep v sorts (parameter place sort) ps has fits h = absurd (Prim.cc (h))
 
   all_pieces_keep : (v : Valuation) (sorts : List Sort) (terms : Terms) (pss : List (List Piece)) → HasSorts v sorts
       → all_fit sorts terms ≡ true → all_pieces terms ≡ Some pss → meanings_of v terms ≡ map (meant v) pss
@@ -170,6 +171,7 @@ mutual
       (some_if (is_short (concatenation pss)) (concatenation pss) ps short)
       (concatenation_declared sorts pss (all_pieces_declared sorts terms pss fits there)))
   pieces_declared sorts (apply _ terms) ps fits h = absurd (Prim.cc (h))
+  pieces_declared sorts (parameter place sort) ps fits h = absurd (Prim.cc (h))
 
   all_pieces_declared : (sorts : List Sort) (terms : Terms) (pss : List (List Piece)) → all_fit sorts terms ≡ true
       → all_pieces terms ≡ Some pss → AllPiecesDeclared sorts pss

@@ -1,7 +1,8 @@
 -- What is kept of regexes stays right where a regex is appended, and where one is expanded or dead.
-use Rattle.std.proofs.Common.{◌≡◌, ℕ, ◌+◌, ◌<◌, nat_lt, if◌then◌else◌, List, [], ◌∷◌, ◌++◌, length, map, slice_get, Option, Some, None, option_map, is_some, Result, Ok, Err, refl, sym, subst, ◌∙◌, inl, inr, arith, length-append}
-use Rattle.std.specs.List.{list_any, Contains}
-use Rattle.std.proofs.lemmas.List.Elements.{Contains-append_cases, Contains-push_cases}
+use Rattle.std.proofs.Common.{◌≡◌, ℕ, ◌+◌, nat_lt, Bool, true, false, if◌then◌else◌, List, [], ◌∷◌, ◌++◌, length, map, slice_get, Option, Some, None, is_some, Result, Ok, Err, refl, sym, subst, ◌∙◌, inl, inr, arith, length-append}
+use Rattle.std.specs.List.{list_any}
+use Rattle.std.proofs.lemmas.Bool.{false≢true}
+use Rattle.std.proofs.lemmas.List.{length-set}
 use Rattle.std.proofs.lemmas.Option.{slice_get_within}
 use Rattle.sb_lang.specs.Regex.{Regex}
 use Rattle.sb_lang.specs.Order.{regex_eq}
@@ -10,51 +11,65 @@ use Rattle.sb_lang.specs.Derivative.{nd}
 use Rattle.sb_rulebook.specs.Refusals.{Refusal, unknown_id, repeated, not_normal, wrong_target, wrong_verdict}
 use Rattle.sb_rulebook.specs.Lines.{Node, Class}
 use Rattle.sb_rulebook.specs.Parts.{together}
-use Rattle.sb_rulebook.specs.Kept.{AllKept, Asked, Expansion, targets_in, counting, most_counted}
+use Rattle.sb_rulebook.specs.Kept.{AllKept, Asked, targets_in, with_regex, with_expansion, with_dead, marked, counting, most_counted}
 use Rattle.sb_rulebook.specs.Expansions.{is_expansion}
 use Rattle.sb_rulebook.specs.RegexRules.{regex_of_node, defined, follows_regex, branch_of, expanded, follows_expansion, has_repeated, first_alive, died, member_at, follows_dead}
 use Rattle.sb_sound.specs.MembershipLaws.{AreEmpty}
 use Rattle.sb_sound.specs.DeadLaws.{AreRight, ExpandedIsRight, DeadStaysEmpty}
 use Rattle.sb_sound.specs.SoundLaws.{IsSound}
-use Rattle.sb_sound.proofs.PassFacts.{Contains-cases, Contains-none}
-use Rattle.sb_sound.proofs.DeadFacts.{together-parts}
+use Rattle.sb_sound.proofs.ByNumber.{slice_get-push, targets_there, there_targets}
 use Rattle.sb_sound.proofs.Accepting.{some_of, if_so, if_not, same_ok, slice_get-front, slice_get-more}
 
 -- A regex is appended.
 
-right-more : (known more : List Regex) (es : List Expansion)
-    → ((e : Expansion) → Contains es e → e.regex < length known) → AreRight known es → AreRight (known ++ more) es
-right-more known more es low right e r among there c is =
-    let l = right e r among (sym (slice_get-front known more e.regex (low e among)) ∙ there) c is in
-    record {
-      target = l.target;
-      among = l.among;
-      there = slice_get-more known more l.target (nd r c) l.there;
-    }
+right-more : (known : List Regex) (new : Regex) (es : List (Option (List ℕ))) → length es ≡ length known
+    → AreRight known es → AreRight (known ++ new ∷ []) (es ++ None ∷ [])
+right-more known new es long right id r targets are there c is =
+    elim (slice_get-push es None id (Some targets) (targets_there (es ++ None ∷ []) id targets are)) [
+      | inl before ↦
+          let within = slice_get_within es id (Some targets) before in
+          let at : slice_get known id ≡ Some r =
+          sym (slice_get-front known (new ∷ []) id (omega (arith, within, long))) ∙ there in
+          let l = right id r targets (there_targets es id targets before) at c is in
+          record {
+            target = l.target;
+            among = l.among;
+            there = slice_get-more known (new ∷ []) l.target (nd r c) l.there;
+          }
+      | inr last ↦ absurd (Prim.cc (last.1))
+    ]
 
-empty-more : (known more : List Regex) (dead : List ℕ) → ((id : ℕ) → Contains dead id → id < length known)
-    → AreEmpty known dead → AreEmpty (known ++ more) dead
-empty-more known more dead low empty id r among there =
-    empty id r among (sym (slice_get-front known more id (low id among)) ∙ there)
+empty-more : (known : List Regex) (new : Regex) (dead : List Bool) → length dead ≡ length known
+    → AreEmpty known dead → AreEmpty (known ++ new ∷ []) (dead ++ false ∷ [])
+empty-more known new dead long empty id r mark there = elim (slice_get-push dead false id true mark) [
+  | inl before ↦
+      let within = slice_get_within dead id true before in
+      empty id r before (sym (slice_get-front known (new ∷ []) id (omega (arith, within, long))) ∙ there)
+  | inr last ↦ absurd (false≢true last.1)
+]
 
 pub regex_sound : (asked : Asked) (kept after : AllKept) (node : Node) → IsSound asked kept
     → follows_regex kept node ≡ Ok after → IsSound asked after
 regex_sound asked kept after node sound h =
     let found = some_of (regex_of_node kept.regexes node) unknown_id (defined kept) after h in
     let r = found.0 in
-    let now : AllKept = record kept { regexes = kept.regexes ++ r ∷ [] } in
+    let now = with_regex r kept in
     let new =
     if_not (list_any (regex_eq r) kept.regexes) repeated (if is_normal r then Ok now else Err not_normal) after
     found.2 in
     let normal = if_so (is_normal r) not_normal (Ok now) after new.1 in
+    let more = length-append kept.regexes (r ∷ []) in
     subst (λ (k : AllKept). IsSound asked k) (same_ok {E = Refusal} now after normal.1) (record {
       table = sound.table;
-      right = right-more kept.regexes (r ∷ []) kept.expansions sound.expanded sound.right;
-      empty = empty-more kept.regexes (r ∷ []) kept.dead sound.died sound.empty;
-      expanded = λ e among. omega (arith, length-append kept.regexes (r ∷ []), sound.expanded e among);
-      died = λ id among. omega (arith, length-append kept.regexes (r ∷ []), sound.died id among);
+      right = right-more kept.regexes r kept.expansions sound.expanded sound.right;
+      empty = empty-more kept.regexes r kept.dead sound.died sound.empty;
+      expanded = omega (arith, more, length-append kept.expansions (None ∷ []), sound.expanded);
+      died = omega (arith, more, length-append kept.dead (false ∷ []), sound.died);
+      resting = sound.resting;
       known = sound.known;
       clauses = sound.clauses;
+      places = sound.places;
+      rested = sound.rested;
     })
 
 -- A line is counted.
@@ -70,8 +85,11 @@ counting_sound asked kept after h sound =
       empty = sound.empty;
       expanded = sound.expanded;
       died = sound.died;
+      resting = sound.resting;
       known = sound.known;
       clauses = sound.clauses;
+      places = sound.places;
+      rested = sound.rested;
     })
 
 counting_regexes : (asked : Asked) (kept after : AllKept) → counting asked kept ≡ Ok after
@@ -88,8 +106,8 @@ pub expansion_sound : ExpandedIsRight → (asked : Asked) (kept after : AllKept)
 expansion_sound expands asked kept after id ks sound h =
     let known = kept.regexes in
     let branches = together (map (branch_of known) ks) in
-    let one : Expansion = record { regex = id; targets = map (λ (k : Class). k.1) ks } in
-    let now : AllKept = record kept { expansions = kept.expansions ++ one ∷ [] } in
+    let targets = map (λ (k : Class). k.1) ks in
+    let now = with_expansion id targets kept in
     let there =
     some_of (slice_get known id) unknown_id
     (λ (r : Regex). elim branches as (λ _. Result AllKept Refusal)
@@ -103,37 +121,26 @@ expansion_sound expands asked kept after id ks sound h =
       table = sound.table;
       right = counting_regexes asked now after counted (expands asked kept after id ks h sound.right);
       empty = sound.empty;
-      expanded = λ e among. elim (Contains-push_cases kept.expansions one e among) [
-        | inl before ↦ sound.expanded e before
-        | inr here ↦ subst (λ (e : Expansion). e.regex < length known) here (slice_get_within known id there.0 there.1)
-      ];
+      expanded = length-set kept.expansions id (Some targets) ∙ sound.expanded;
       died = sound.died;
+      resting = sound.resting;
       known = sound.known;
       clauses = sound.clauses;
+      places = sound.places;
+      rested = sound.rested;
     })
 
 -- Regexes are dead.
 
-members_low : (known : List Regex) (ids : List ℕ) (ms : List (ℕ × Regex))
-    → together (map (member_at known) ids) ≡ Some ms → (id : ℕ) → Contains ids id → id < length known
-members_low known [] ms are id among = absurd (Contains-none id among)
-members_low known (n ∷ ids) ms are id among =
-    let parts = together-parts (member_at known n) (map (member_at known) ids) ms are in
-    elim (Contains-cases n ids id among) [
-      | inl here ↦ subst (λ k. k < length known) here (low (slice_get known n) refl parts.is)
-      | inr later ↦ members_low known ids parts.others parts.rest id later
-    ]
-  where
-    low : {m : ℕ × Regex} (o : Option Regex) → slice_get known n ≡ o
-        → option_map (λ (r : Regex). (n, r)) o ≡ Some m → n < length known
-    low None at h = absurd (Prim.cc (h))
-    low (Some r) at h = slice_get_within known n r at
+length-marked : (ids : List ℕ) (dead : List Bool) → length (marked ids dead) ≡ length dead
+length-marked [] dead = refl
+length-marked (id ∷ ids) dead = length-set (marked ids dead) id true ∙ length-marked ids dead
 
 pub dead_sound : DeadStaysEmpty → (asked : Asked) (kept after : AllKept) (ids : List ℕ) → IsSound asked kept
     → follows_dead kept ids ≡ Ok after → IsSound asked after
 dead_sound stays asked kept after ids sound h =
     let known = kept.regexes in
-    let now : AllKept = record kept { dead = kept.dead ++ ids } in
+    let now = with_dead ids kept in
     let are = some_of (together (map (member_at known) ids)) unknown_id (died kept ids) after h in
     let new =
     if_not (has_repeated kept ids) repeated (elim (first_alive kept ids are.0) as (λ _. Result AllKept Refusal)
@@ -146,12 +153,12 @@ dead_sound stays asked kept after ids sound h =
           subst (λ (k : AllKept). AreEmpty k.regexes k.dead) (sym same)
           (stays kept after ids h sound.right sound.empty);
       expanded = sound.expanded;
-      died = λ id among. elim (Contains-append_cases kept.dead ids id among) [
-        | inl before ↦ sound.died id before
-        | inr in_line ↦ members_low known ids are.0 are.1 id in_line
-      ];
+      died = length-marked ids kept.dead ∙ sound.died;
+      resting = sound.resting;
       known = sound.known;
       clauses = sound.clauses;
+      places = sound.places;
+      rested = sound.rested;
     })
   where
     none_alive : (o : Option Refusal) (now after : AllKept) → (elim o as (λ _. Result AllKept Refusal)

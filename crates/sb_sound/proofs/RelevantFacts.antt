@@ -1,16 +1,17 @@
 -- What the tests of relevant atoms and regexes say.
-use Rattle.std.proofs.Common.{◌≡◌, ◌≢◌, ℕ, zero, suc, ◌<◌, Bool, true, false, List, [], ◌∷◌, length, get_or, refl, sym, ap, subst, ◌∙◌, arith}
+use Rattle.std.proofs.Common.{◌≡◌, ◌≢◌, ℕ, zero, suc, ◌<◌, Bool, true, false, List, [], ◌∷◌, length, get_or, sym, ap, ◌∙◌, arith}
 use Rattle.std.specs.List.{list_any}
 use Rattle.std.specs.Ordering.{is_eq}
 use Rattle.std.proofs.lemmas.Bool.{false≢true, and_parts, not-true, or_parts}
 use Rattle.sb_lang.specs.Regex.{Regex}
-use Rattle.sb_lang.specs.Order.{regex_eq, regex_cmp}
+use Rattle.sb_lang.specs.Order.{regex_eq}
 use Rattle.sb_lang.specs.OrderLaws.{OrderTellsApart}
-use Rattle.sb_rulebook.specs.Atoms.{Atom, Variable, bool_atom, in_atom, le_atom, sum_atom, and_atom, iff_atom, is_same_variable}
+use Rattle.sb_rulebook.specs.Atoms.{Atom, bool_atom, in_atom, le_atom, sum_atom, and_atom, iff_atom}
 use Rattle.sb_rulebook.specs.Relevant.{Signed, speaks_of, are_distinct}
 use Rattle.sb_sound.specs.RelevantLaws.{StandsIn}
 use Rattle.sb_sound.proofs.PassFacts.{find_any}
 use Rattle.sb_sound.proofs.SameParts.{same_variable}
+use Rattle.sb_script.specs.Sums.{Variable, is_same_variable}
 
 pub stands : (x : Variable) (a : Atom) → speaks_of x a ≡ true → StandsIn x a
 stands x (le_atom y k) h = same_variable x y h

@@ -12,7 +12,9 @@ use Rattle.sb_lang.specs.Order.{regex_cmp, regex_eq}
 use Rattle.sb_lang.specs.OrderLaws.{OrderTellsApart}
 use Rattle.sb_lang.specs.Membership.{is_word}
 use Rattle.sb_meaning.specs.Values.{Valuation}
-use Rattle.sb_rulebook.specs.Atoms.{Piece, constant_piece, word_piece, Variable, int_constant, length_of, Summand, Atom, bool_atom, in_atom, le_atom, sum_atom, and_atom, iff_atom, is_same_piece, is_same_variable, is_same_summand, is_same_atom, value_of}
+use Rattle.sb_rulebook.specs.Atoms.{Atom, bool_atom, in_atom, le_atom, sum_atom, and_atom, iff_atom, is_same_piece, is_same_summand, is_same_atom, value_of}
+use Rattle.sb_script.specs.Pieces.{Piece, constant_piece, word_piece}
+use Rattle.sb_script.specs.Sums.{Variable, int_constant, length_of, Summand, is_same_variable}
 
 abbrev pub FindsEquals : (A : Type 0) → (A → A → Bool) → Type 0
 FindsEquals A test = (a b : A) → test a b ≡ true → a ≡ b

@@ -1,54 +1,44 @@
 -- The events of a script are a history.
-use Rattle.std.proofs.Common.{◌≡◌, ℕ, zero, suc, ◌+◌, Bool, true, false, not, if◌then◌else◌, List, [], ◌∷◌, ◌++◌, length, map, slice_get, codes, Option, Some, None, Result, Ok, Err, inl, inr, refl, sym, subst}
+use Rattle.std.proofs.Common.{◌≡◌, ℕ, zero, suc, ◌+◌, ◌^◌, ◌≤◌, Bool, true, false, not, if◌then◌else◌, nat_lt, nat_le, List, [], ◌∷◌, ◌++◌, length, map, drop, filter, cond, slice_get, codes, Option, Some, None, Result, Ok, Err, inl, inr, ◌⊎◌, refl, sym, subst, ap, ◌∙◌, arith, append_assoc}
+use Rattle.std.specs.Prelude.{replicate}
 use Rattle.std.specs.List.{list_all, All, Contains}
-use Rattle.std.proofs.lemmas.Bool.{and_parts, and_from, false≢true}
-use Rattle.std.proofs.lemmas.List.Elements.{All-nil, All-cons, All-append, All-contains, Contains-append_left, Contains-append_right, Contains-append_cases}
-use Rattle.sb_reader.specs.Forms.{Form}
+use Rattle.std.proofs.lemmas.Bool.{and_parts, and_from, false≢true, lt-ltb, ltb-true}
+use Rattle.std.proofs.lemmas.List.{append-nil, length-drop}
+use Rattle.std.proofs.lemmas.List.Elements.{All-nil, All-cons, All-append, All-contains}
+use Rattle.sb_reader.specs.Forms.{Form, Numeral}
+use Rattle.sb_script.specs.Texts.{number_of}
 use Rattle.sb_reader.specs.Entries.{Entry, Command, Refused}
-use Rattle.sb_meaning.specs.Terms.{Sort, Term, Terms, boolean, integer, text, reglan, constant, word, numeral, apply, no_terms, with_term}
+use Rattle.sb_meaning.specs.Terms.{Sort, Term, Terms, boolean, integer, text, reglan, constant, word, numeral, apply, parameter, no_terms, with_term}
 use Rattle.sb_meaning.specs.Values.{Valuation}
 use Rattle.sb_meaning.specs.Sorts.{sort_of, is_same_sort}
 use Rattle.sb_script.specs.Names.{Name, is_name}
-use Rattle.sb_script.specs.Scopes.{Named, a_constant, a_marked_name}
-use Rattle.sb_script.specs.Symbols.{is_taken}
-use Rattle.sb_script.specs.Reading.{Fault, unknown_symbol, wrong_sort, wrong_count, bad_index, unsupported, bad_literal, malformed, read}
-use Rattle.sb_script.specs.State.{Assertion, asserted, a_mark, Mode, plain, satisfied, refuted, undecided, Options, Level, State, start, over_levels, names_of, in_level, declared, marked, with_assertion}
+use Rattle.sb_script.specs.Scopes.{Named, a_constant, a_definition, a_marked_name, a_term}
+use Rattle.sb_script.specs.Symbols.{is_taken, found_in}
+use Rattle.sb_script.specs.Brought.{an_option, is_brought}
+use Rattle.sb_script.specs.Faults.{Fault, unknown_symbol, wrong_sort, wrong_count, bad_index, unsupported, numeral_too_large, bad_literal, malformed, already_bound}
+use Rattle.sb_script.specs.Errors.{Error, first_of}
+use Rattle.sb_script.specs.Errors as error
+use Rattle.sb_script.specs.Reading.{read}
+use Rattle.sb_script.specs.State.{Assertion, asserted, a_mark, Mode, plain, satisfied, refuted, undecided, Options, Level, State, empty_level, start, over_levels, names_of, in_level, with_name, declared, defined, marked, with_assertion, pushed, popped}
 use Rattle.sb_script.specs.Commands as command
-use Rattle.sb_script.specs.Commands.{command_of}
+use Rattle.sb_script.specs.Commands.{command_of, Parameter}
+use Rattle.sb_script.specs.Steps.{Step, answers, leaves, checks, exits, Leaving, above, all, fails_by, success, succeeds, is_unsupported, refused_term}
+use Rattle.sb_script.specs.Options as options
+use Rattle.sb_script.specs.Options.{is_logic, truth_in, with_truth, settings, set_by, option_texts, info_texts, reason_unknown}
 use Rattle.sb_script.specs.Replies as meaning
-use Rattle.sb_script.specs.Replies.{Step, answers, checks, exits, refused_term, is_logic, truth_in, with_truth, sort_of_form, with_values, Item, some_malformed, first_unknown, all_constants, values_of, item_of, step, step_of}
+use Rattle.sb_script.specs.Replies.{sort_of_form, sorts_in_definition, sort_in_definition, bound_from, name_errors, body_errors, unless_error, defines, define_by, level_limit, assumed_form, errors_in, assumptions_in, contradicted, with_values, Item, some_malformed, first_unknown, all_constants, values_of, item_of, step, step_of}
 use Rattle.sb_rulebook.specs.AtomRules.{is_declared}
-use Rattle.sb_rulebook.specs.Accepted.{leaves_above, asks, term_of, at_level, live_by_level, asked_in, question_in, events}
-use Rattle.sb_sound.specs.TermLaws.{fits_sorts, all_fit}
-use Rattle.sb_sound.specs.SoundLaws.{AreTerms, GoesOn}
+use Rattle.sb_rulebook.specs.Kept.{Asked}
+use Rattle.sb_rulebook.specs.Judging.{Event}
+use Rattle.sb_rulebook.specs.Accepted.{term_of, at_level, live_by_level, asked_in, events_of, state_behind, events}
+use Rattle.sb_sound.specs.TermLaws.{fits_sorts}
+use Rattle.sb_sound.specs.SoundLaws.{AreTerms, KeepsSorts, Continues, GoesOn}
 use Rattle.sb_sound.specs.AcceptedLaws.{IsHistory, ScriptIsHistory}
-use Rattle.sb_sound.proofs.ReadTerms.{kind_fits, naming_fits, if_read, term_read}
-
-all_weaker : {A : Type 0} (p q : A → Bool) (xs : List A) → ((x : A) → p x ≡ true → q x ≡ true)
-    → list_all p xs ≡ true → list_all q xs ≡ true
-all_weaker p q [] f h = refl
-all_weaker p q (x ∷ xs) f h =
-    let parts = and_parts (p x) (list_all p xs) h in
-    and_from (q x) (list_all q xs) (f x parts.0) (all_weaker p q xs f parts.1)
-
-all_append : {A : Type 0} (p : A → Bool) (xs ys : List A) → list_all p xs ≡ true → list_all p ys ≡ true
-    → list_all p (xs ++ ys) ≡ true
-all_append p [] ys h k = k
-all_append p (x ∷ xs) ys h k =
-    let parts = and_parts (p x) (list_all p xs) h in
-    and_from (p x) (list_all p (xs ++ ys)) parts.0 (all_append p xs ys parts.1 k)
-
-all_push : {A : Type 0} (p : A → Bool) (xs : List A) (x : A) → list_all p xs ≡ true → p x ≡ true
-    → list_all p (xs ++ x ∷ []) ≡ true
-all_push p xs x h k = all_append p xs (x ∷ []) h (and_from (p x) true k refl)
+use Rattle.sb_sound.proofs.Accepting.{slice_get-more, Contains-slice_get}
+use Rattle.sb_sound.proofs.PassFacts.{all_weaker, all_append, all_push}
+use Rattle.sb_sound.proofs.ReadTerms.{fits_in, all_in, fits_without, kind_fits, naming_fits, if_read, term_read}
 
 -- Sorts grow at the end.
-
-found_more : (xs ys : List Sort) (serial : ℕ) (sort : Sort) → slice_get xs serial ≡ Some sort
-    → slice_get (xs ++ ys) serial ≡ Some sort
-found_more [] ys serial sort h = absurd (Prim.cc (h))
-found_more (x ∷ xs) ys zero sort h = h
-found_more (x ∷ xs) ys (suc serial) sort h = found_more xs ys serial sort h
 
 declared_more : (xs ys : List Sort) (sort : Sort) (serial : ℕ) → is_declared xs sort serial ≡ true
     → is_declared (xs ++ ys) sort serial ≡ true
@@ -66,37 +56,42 @@ declared_last : (xs : List Sort) (sort : Sort) → is_declared (xs ++ sort ∷ [
 declared_last [] sort = same_sort sort
 declared_last (x ∷ xs) sort = declared_last xs sort
 
-mutual
-  fits_more : (xs ys : List Sort) (t : Term) → fits_sorts xs t ≡ true → fits_sorts (xs ++ ys) t ≡ true
-  fits_more xs ys (constant serial sort) h = declared_more xs ys sort serial h
-  fits_more xs ys (word w) h = h
-  fits_more xs ys (numeral n) h = refl
-  fits_more xs ys (apply s terms) h = all_more xs ys terms h
+module _ (xs ys : List Sort) (n m : ℕ) (low : n ≤ m) where
+  mutual
+    fits_more : (t : Term) → fits_in xs n t ≡ true → fits_in (xs ++ ys) m t ≡ true
+    fits_more (constant serial sort) h = declared_more xs ys sort serial h
+    fits_more (word w) h = h
+    fits_more (numeral k) h = refl
+    fits_more (apply s terms) h = all_more terms h
+    fits_more (parameter place sort) h = lt-ltb place m (omega (arith, ltb-true place n h, low))
 
-  all_more : (xs ys : List Sort) (ts : Terms) → all_fit xs ts ≡ true → all_fit (xs ++ ys) ts ≡ true
-  all_more xs ys no_terms h = refl
-  all_more xs ys (with_term t ts) h =
-      let parts = and_parts (fits_sorts xs t) (all_fit xs ts) h in
-      and_from (fits_sorts (xs ++ ys) t) (all_fit (xs ++ ys) ts) (fits_more xs ys t parts.0)
-      (all_more xs ys ts parts.1)
+    all_more : (ts : Terms) → all_in xs n ts ≡ true → all_in (xs ++ ys) m ts ≡ true
+    all_more no_terms h = refl
+    all_more (with_term t ts) h =
+        let parts = and_parts (fits_in xs n t) (all_in xs n ts) h in
+        and_from (fits_in (xs ++ ys) m t) (all_in (xs ++ ys) m ts) (fits_more t parts.0) (all_more ts parts.1)
 
-kind_more : (xs ys : List Sort) (kind : Named) → kind_fits xs kind ≡ true → kind_fits (xs ++ ys) kind ≡ true
-kind_more xs ys (a_constant serial sort) h = declared_more xs ys sort serial h
-kind_more xs ys a_marked_name h = refl
+kind_more : (xs ys : List Sort) (n m : ℕ) → n ≤ m → (kind : Named) → kind_fits xs n kind ≡ true
+    → kind_fits (xs ++ ys) m kind ≡ true
+kind_more xs ys n m low (a_constant serial sort) h = declared_more xs ys sort serial h
+kind_more xs ys n m low (a_definition kinds body) h =
+    fits_more xs ys (length kinds) (length kinds) (omega arith) body h
+kind_more xs ys n m low a_marked_name h = refl
+kind_more xs ys n m low (a_term t) h = fits_more xs ys n m low t h
 
 -- The names in force and the live terms fit the sorts of the constants.
 
 abbrev assertion_fits : List Sort → Assertion → Bool
-assertion_fits sorts (asserted term) = fits_sorts sorts term
+assertion_fits sorts (asserted term) = fits_in sorts 0 term
 assertion_fits sorts a_mark = true
 
 assertion_more : (xs ys : List Sort) (a : Assertion) → assertion_fits xs a ≡ true
     → assertion_fits (xs ++ ys) a ≡ true
-assertion_more xs ys (asserted term) h = fits_more xs ys term h
+assertion_more xs ys (asserted term) h = fits_more xs ys 0 0 (omega arith) term h
 assertion_more xs ys a_mark h = refl
 
 record Fits (sorts : List Sort) (level : Level) : Type 0 where
-  names : list_all (naming_fits sorts) level.names ≡ true
+  names : list_all (naming_fits sorts 0) level.names ≡ true
   assertions : list_all (assertion_fits sorts) level.assertions ≡ true
 
 abbrev AllFit : List Sort → Level → List Level → Type 0
@@ -106,18 +101,22 @@ AllFit sorts first (level ∷ levels) = AllFit sorts first levels × Fits sorts 
 abbrev IsFit : State → Type 0
 IsFit s = AllFit s.sorts s.first s.above
 
+empty_fits : (sorts : List Sort) → Fits sorts empty_level
+empty_fits sorts = record { names = refl; assertions = refl }
+
 fits_longer : (xs ys : List Sort) (level : Level) → Fits xs level → Fits (xs ++ ys) level
 fits_longer xs ys level h = record {
-  names = all_weaker (naming_fits xs) (naming_fits (xs ++ ys)) level.names (λ n. kind_more xs ys n.1) h.names;
+  names = all_weaker (naming_fits xs 0) (naming_fits (xs ++ ys) 0) level.names
+      (λ n. kind_more xs ys 0 0 (omega arith) n.1) h.names;
   assertions = all_weaker (assertion_fits xs) (assertion_fits (xs ++ ys)) level.assertions (assertion_more xs ys)
       h.assertions;
 }
 
 names_fit : (sorts : List Sort) (first : Level) (levels : List Level) → AllFit sorts first levels
-    → list_all (naming_fits sorts) (over_levels (λ l. l.names) first levels) ≡ true
+    → list_all (naming_fits sorts 0) (over_levels (λ l. l.names) first levels) ≡ true
 names_fit sorts first [] h = h.names
 names_fit sorts first (level ∷ levels) h =
-    all_append (naming_fits sorts) (over_levels (λ l. l.names) first levels) level.names
+    all_append (naming_fits sorts 0) (over_levels (λ l. l.names) first levels) level.names
     (names_fit sorts first levels h.0) h.1.names
 
 abbrev IsTerm : List Sort → Option Term × ℕ → Type 0
@@ -126,7 +125,7 @@ IsTerm sorts a = (t : Term) → a.0 ≡ Some t → fits_sorts sorts t ≡ true
 is_term : (sorts : List Sort) (n : ℕ) (a : Assertion) → assertion_fits sorts a ≡ true → IsTerm sorts (term_of a, n)
 is_term sorts n (asserted term) h t e =
     let same : term ≡ t = Prim.cc (e) in
-    subst (λ (u : Term). fits_sorts sorts u ≡ true) same h
+    subst (λ (u : Term). fits_sorts sorts u ≡ true) same (fits_without sorts term h)
 is_term sorts n a_mark h t e = absurd (Prim.cc (e))
 
 level_terms : (sorts : List Sort) (n : ℕ) (xs : List Assertion) → list_all (assertion_fits sorts) xs ≡ true
@@ -151,45 +150,58 @@ are_terms s fit a t among is =
 
 -- A state goes on to another: no sort and no live assertion is lost.
 
+record IsLonger (before now : List (Option Term × ℕ)) : Type 0 where
+  more : List (Option Term × ℕ)
+  whole : now ≡ before ++ more
+
 record Goes (s now : State) : Type 0 where
-  sorts : (serial : ℕ) (sort : Sort) → slice_get s.sorts serial ≡ Some sort → slice_get now.sorts serial ≡ Some sort
-  live : (a : Option Term × ℕ) → Contains (live_by_level s.first s.above) a
-      → Contains (live_by_level now.first now.above) a
+  sorts : KeepsSorts (asked_in s) (asked_in now)
+  live : IsLonger (live_by_level s.first s.above) (live_by_level now.first now.above)
   fit : IsFit now
+
+same_live : (live : List (Option Term × ℕ)) → IsLonger live live
+same_live live = record { more = []; whole = sym (append-nil live) }
+
+-- what is left: of some levels, or of none
+abbrev Leaves : State → Leaving → State → Type 0
+Leaves s (above level) now = GoesOn level (asked_in s) (asked_in now) × IsFit now
+Leaves s all now = KeepsSorts (asked_in s) (asked_in now) × IsFit now
 
 abbrev IsKept : State → Step → Type 0
 IsKept s (answers bytes now) = Goes s now
-IsKept s checks = Unit {0}
+IsKept s (leaves what bytes now) = Leaves s what now
+IsKept s (checks given) = Unit {0}
 IsKept s (exits bytes) = Unit {0}
 
-goes_on : (s now : State) → Goes s now → GoesOn (length now.above) (asked_in s) (asked_in now)
-goes_on s now goes = record {
-  sorts = λ v has serial sort there. has serial sort (goes.sorts serial sort there);
-  live = λ a among low. goes.live a among;
-}
-
-goes_same : (s : State) (logic : Bool) (options : Options) (mode : Mode) → IsFit s
-    → Goes s (record s { logic_set = logic; options = options; mode = mode })
-goes_same s logic options mode fit = record { sorts = λ serial sort h. h; live = λ a h. h; fit = fit }
+goes_same : (s : State) (logic begun : Bool) (options : Options) (mode : Mode) → IsFit s
+    → Goes s (record s { logic_set = logic; begun = begun; options = options; mode = mode })
+goes_same s logic begun options mode fit =
+    record { sorts = λ v has. has; live = same_live (live_by_level s.first s.above); fit = fit }
 
 -- A change of the innermost level.
 
-abbrev KeepsAssertions : (Level → Level) → Type 0
-KeepsAssertions change = (level : Level) (n : ℕ) (a : Option Term × ℕ) → Contains (at_level n level.assertions) a
-    → Contains (at_level n (change level).assertions) a
+at_level-append : (n : ℕ) (xs ys : List Assertion) → at_level n (xs ++ ys) ≡ at_level n xs ++ at_level n ys
+at_level-append n [] ys = refl
+at_level-append n (x ∷ xs) ys = Prim.cc (at_level-append n xs ys)
 
-live_kept : (change : Level → Level) → KeepsAssertions change → (first : Level) (levels : List Level)
-    (a : Option Term × ℕ) → Contains (live_by_level first levels) a
-    → Contains (live_by_level (in_level change first levels).0 (in_level change first levels).1) a
-live_kept change keeps first [] a among = keeps first 0 a among
-live_kept change keeps first (level ∷ levels) a among =
+live_longer : (change : Level → Level) (extra : List Assertion)
+    → ((level : Level) → (change level).assertions ≡ level.assertions ++ extra) → (first : Level) (levels : List Level)
+    → IsLonger (live_by_level first levels)
+    (live_by_level (in_level change first levels).0 (in_level change first levels).1)
+live_longer change extra adds first [] = record {
+  more = at_level 0 extra;
+  whole = ap (at_level 0) (adds first) ∙ at_level-append 0 first.assertions extra;
+}
+live_longer change extra adds first (level ∷ levels) =
     let below = live_by_level first levels in
     let n = length levels + 1 in
-    elim (Contains-append_cases below (at_level n level.assertions) a among)
-    as (λ _. Contains (below ++ at_level n (change level).assertions) a) [
-      | inl h ↦ Contains-append_left below (at_level n (change level).assertions) a h
-      | inr h ↦ Contains-append_right below (at_level n (change level).assertions) a (keeps level n a h)
-    ]
+    record {
+      more = at_level n extra;
+      whole =
+          ap (λ xs. below ++ at_level n xs) (adds level)
+          ∙ ap (λ ys. below ++ ys) (at_level-append n level.assertions extra)
+          ∙ sym (append_assoc below (at_level n level.assertions) (at_level n extra));
+    }
 
 fit_longer : (xs ys : List Sort) (first : Level) (levels : List Level) → AllFit xs first levels
     → AllFit (xs ++ ys) first levels
@@ -203,54 +215,129 @@ fit_changed : (sorts : List Sort) (change : Level → Level)
 fit_changed sorts change f first [] h = f first h
 fit_changed sorts change f first (level ∷ levels) h = (h.0, f level h.1)
 
-at_level-append : (n : ℕ) (xs ys : List Assertion) → at_level n (xs ++ ys) ≡ at_level n xs ++ at_level n ys
-at_level-append n [] ys = refl
-at_level-append n (x ∷ xs) ys = Prim.cc (at_level-append n xs ys)
+-- a name is added, over sorts of which some are new
+goes_named : (s : State) (new : List Sort) (name : Name) (kind : Named) → kind_fits (s.sorts ++ new) 0 kind ≡ true
+    → IsFit s → Goes s (with_name name kind (record s { sorts = s.sorts ++ new }))
+goes_named s new name kind here fit =
+    let change : Level → Level = λ l. record l { names = l.names ++ (name, kind) ∷ [] } in
+    let sorts = s.sorts ++ new in
+    record {
+      sorts = λ v has serial sort there. has serial sort (slice_get-more s.sorts new serial sort there);
+      live = live_longer change [] (λ l. sym (append-nil l.assertions)) s.first s.above;
+      fit = fit_changed sorts change
+          (λ l h. record {
+            names = all_push (naming_fits sorts 0) l.names (name, kind) h.names here;
+            assertions = h.assertions;
+          })
+          s.first s.above (fit_longer s.sorts new s.first s.above fit);
+    }
+
+-- a name is added, and no sort
+goes_renamed : (s : State) (name : Name) (kind : Named) → kind_fits s.sorts 0 kind ≡ true → IsFit s
+    → Goes s (with_name name kind s)
+goes_renamed s name kind here fit =
+    let change : Level → Level = λ l. record l { names = l.names ++ (name, kind) ∷ [] } in
+    record {
+      sorts = λ v has. has;
+      live = live_longer change [] (λ l. sym (append-nil l.assertions)) s.first s.above;
+      fit = fit_changed s.sorts change
+          (λ l h. record {
+            names = all_push (naming_fits s.sorts 0) l.names (name, kind) h.names here;
+            assertions = h.assertions;
+          })
+          s.first s.above fit;
+    }
 
 goes_declared : (s : State) (name : Name) (sort : Sort) → IsFit s → Goes s (declared name sort s)
-goes_declared s name sort fit = record {
-  sorts = found_more s.sorts (sort ∷ []);
-  live = live_kept (λ l. record l { names = l.names ++ (name, a_constant (length s.sorts) sort) ∷ [] })
-      (λ l n a h. h) s.first s.above;
-  fit = fit_changed (s.sorts ++ sort ∷ []) (λ l. record l {
-    names = l.names
-        ++ (name, a_constant (length s.sorts) sort) ∷ [];
-  }) (λ l h. record {
-    names = all_push (naming_fits (s.sorts ++ sort ∷ [])) l.names (name, a_constant (length s.sorts) sort) h.names
-        (declared_last s.sorts sort);
-    assertions = h.assertions;
-  }) s.first s.above (fit_longer s.sorts (sort ∷ []) s.first s.above fit);
-}
+goes_declared s name sort fit =
+    goes_named s (sort ∷ []) name (a_constant (length s.sorts) sort) (declared_last s.sorts sort) fit
 
 goes_marked : (s : State) (name : Name) → IsFit s → Goes s (marked name s)
-goes_marked s name fit = record {
-  sorts = λ serial sort h. h;
-  live = live_kept (λ l. record l { names = l.names ++ (name, a_marked_name) ∷ [] }) (λ l n a h. h) s.first s.above;
-  fit = fit_changed s.sorts (λ l. record l { names = l.names ++ (name, a_marked_name) ∷ [] }) (λ l h. record {
-    names = all_push (naming_fits s.sorts) l.names (name, a_marked_name) h.names refl;
-    assertions = h.assertions;
-  }) s.first s.above fit;
-}
+goes_marked s name fit = goes_renamed s name a_marked_name refl fit
+
+goes_defined : (s : State) (name : Name) (kinds : List Sort) (body : Term)
+    → fits_in s.sorts (length kinds) body ≡ true → IsFit s → Goes s (defined name kinds body s)
+goes_defined s name kinds body here fit = goes_renamed s name (a_definition kinds body) here fit
 
 goes_asserted : (s : State) (assertion : Assertion) → assertion_fits s.sorts assertion ≡ true → IsFit s
     → Goes s (with_assertion assertion s)
-goes_asserted s assertion here fit = record {
-  sorts = λ serial sort h. h;
-  live = live_kept (λ l. record l { assertions = l.assertions ++ assertion ∷ [] })
-      (λ l n a h. subst (λ (xs : List (Option Term × ℕ)). Contains xs a)
-      (sym (at_level-append n l.assertions (assertion ∷ [])))
-      (Contains-append_left (at_level n l.assertions) (at_level n (assertion ∷ [])) a h)) s.first s.above;
-  fit = fit_changed s.sorts (λ l. record l { assertions = l.assertions ++ assertion ∷ [] }) (λ l h. record {
-    names = h.names;
-    assertions = all_push (assertion_fits s.sorts) l.assertions assertion h.assertions here;
-  }) s.first s.above fit;
+goes_asserted s assertion here fit =
+    let change : Level → Level = λ l. record l { assertions = l.assertions ++ assertion ∷ [] } in
+    record {
+      sorts = λ v has. has;
+      live = live_longer change (assertion ∷ []) (λ l. refl) s.first s.above;
+      fit = fit_changed s.sorts change
+          (λ l h. record {
+            names = h.names;
+            assertions = all_push (assertion_fits s.sorts) l.assertions assertion h.assertions here;
+          })
+          s.first s.above fit;
+    }
+
+-- Levels are entered, and left.
+
+pushed_live : (n : ℕ) (first : Level) (levels : List Level)
+    → live_by_level first (replicate n empty_level ++ levels) ≡ live_by_level first levels
+pushed_live zero first levels = refl
+pushed_live (suc n) first levels =
+    append-nil (live_by_level first (replicate n empty_level ++ levels)) ∙ pushed_live n first levels
+
+pushed_fit : (sorts : List Sort) (n : ℕ) (first : Level) (levels : List Level) → AllFit sorts first levels
+    → AllFit sorts first (replicate n empty_level ++ levels)
+pushed_fit sorts zero first levels h = h
+pushed_fit sorts (suc n) first levels h = (pushed_fit sorts n first levels h, empty_fits sorts)
+
+goes_pushed : (s : State) (n : ℕ) → IsFit s → Goes s (pushed n s)
+goes_pushed s n fit = record {
+  sorts = λ v has. has;
+  live = record {
+    more = [];
+    whole = pushed_live n s.first s.above ∙ sym (append-nil (live_by_level s.first s.above));
+  };
+  fit = pushed_fit s.sorts n s.first s.above fit;
 }
+
+popped_fit : (sorts : List Sort) (n : ℕ) (first : Level) (levels : List Level) → AllFit sorts first levels
+    → AllFit sorts first (drop n levels)
+popped_fit sorts zero first levels h = h
+popped_fit sorts (suc n) first [] h = h
+popped_fit sorts (suc n) first (level ∷ levels) h = popped_fit sorts n first levels h.0
+
+-- what stands in two lists stands in the first one, or is of the second one
+in_front_or_behind : {X : Type 0} → (xs ys : List X) (k : ℕ) (x : X) → slice_get (xs ++ ys) k ≡ Some x
+    → (slice_get xs k ≡ Some x) ⊎ Contains ys x
+in_front_or_behind [] ys k x h = inr (Contains-slice_get ys k x h)
+in_front_or_behind (z ∷ xs) ys zero x h = inl h
+in_front_or_behind (z ∷ xs) ys (suc k) x h = in_front_or_behind xs ys k x h
+
+level_is : (n : ℕ) (xs : List Assertion) → All (λ (a : Option Term × ℕ). a.1 ≡ n) (at_level n xs)
+level_is n [] = All-nil (λ (a : Option Term × ℕ). a.1 ≡ n)
+level_is n (x ∷ xs) = All-cons (λ (a : Option Term × ℕ). a.1 ≡ n) (term_of x, n) (at_level n xs) refl (level_is n xs)
+
+popped_live : (n : ℕ) (first : Level) (levels : List Level) (place : ℕ) (a : Option Term × ℕ)
+    → slice_get (live_by_level first levels) place ≡ Some a → a.1 ≤ length (drop n levels)
+    → slice_get (live_by_level first (drop n levels)) place ≡ Some a
+popped_live zero first levels place a there low = there
+popped_live (suc n) first [] place a there low = there
+popped_live (suc n) first (level ∷ levels) place a there low =
+    let own = at_level (length levels + 1) level.assertions in
+    elim (in_front_or_behind (live_by_level first levels) own place a there) [
+      | inl below ↦ popped_live n first levels place a below low
+      | inr here ↦
+          let is : a.1 ≡ length levels + 1 =
+          All-contains (λ (b : Option Term × ℕ). b.1 ≡ length levels + 1) own a
+          (level_is (length levels + 1) level.assertions) here in
+          absurd (omega (arith, is, low, length-drop n levels))
+    ]
 
 -- Each command.
 
 module _ (s : State) (fit : IsFit s) where
   same : Goes s s
-  same = goes_same s s.logic_set s.options s.mode fit
+  same = goes_same s s.logic_set s.begun s.options s.mode fit
+
+  with_options : (begun : Bool) (options : Options) → Goes s (record s { begun = begun; options = options })
+  with_options begun options = goes_same s s.logic_set begun options s.mode fit
 
   by_test : (b : Bool) (x y : Step) → IsKept s x → IsKept s y → IsKept s (if b then x else y)
   by_test true x y p q = p
@@ -261,11 +348,11 @@ module _ (s : State) (fit : IsFit s) where
   by_option None f x p q = q
   by_option (Some a) f x p q = p a
 
-  by_result : (r : Result Term Fault) (f : Term → Step) (g : Fault → Step)
-      → if_read (fits_sorts s.sorts) r ≡ true → ((t : Term) → fits_sorts s.sorts t ≡ true → IsKept s (f t))
+  by_result : (p : Term → Bool) (r : Result Term Fault) (f : Term → Step) (g : Fault → Step)
+      → if_read p r ≡ true → ((t : Term) → p t ≡ true → IsKept s (f t))
       → ((fault : Fault) → IsKept s (g fault)) → IsKept s (elim r [ Ok t ↦ f t | Err fault ↦ g fault ])
-  by_result (Ok t) f g h p q = p t h
-  by_result (Err fault) f g h p q = q fault
+  by_result p (Ok t) f g h k l = k t h
+  by_result p (Err fault) f g h k l = l fault
 
   by_mode : (m : Mode) (f : Valuation → Step) (x : Step) → ((v : Valuation) → IsKept s (f v)) → IsKept s x
       → IsKept s (elim m [ satisfied v ↦ f v | plain ↦ x | refuted assumptions ↦ x | undecided ↦ x ])
@@ -274,21 +361,90 @@ module _ (s : State) (fit : IsFit s) where
   by_mode (refuted assumptions) f x p q = q
   by_mode undecided f x p q = q
 
-  set_logic_keeps : (name : Name) → IsKept s (meaning.set_logic name s)
+  by_errors : (errors : List Error) (x : Step) → IsKept s x → IsKept s (unless_error errors x s)
+  by_errors errors x h = by_option (first_of errors) (λ e. fails_by e s) x (λ e. same) h
+
+  -- Options.
+
+  set_logic_keeps : (name : Name) → IsKept s (options.set_logic name s)
   set_logic_keeps name = by_test s.logic_set _ _ same
-      (by_test (is_logic name) _ _ (goes_same s true s.options s.mode fit) same)
+      (by_test (is_logic name) _ _ (goes_same s true true s.options s.mode fit) same)
 
   with_truth_keeps : (value : Form) (options : Bool → Options)
       → IsKept s (with_truth value (λ b. record s { options = options b }) s)
-  with_truth_keeps value options =
-      by_option (truth_in value) _ _ (λ b. goes_same s s.logic_set (options b) s.mode fit) same
+  with_truth_keeps value options = by_option (truth_in value) _ _ (λ b. with_options s.begun (options b)) same
 
-  set_option_keeps : (key : Name) (value : Form) → IsKept s (meaning.set_option key value s)
+  global_keeps : (value : Form) → IsKept s (options.set_global_declarations value s)
+  global_keeps value = by_test s.begun _ _ same (step (truth_in value))
+    where
+      step : (o : Option Bool) → IsKept s (elim o as (λ _. Step) [
+        | Some true ↦ is_unsupported s
+        | Some false ↦ succeeds (record s { options = record s.options { global_declarations = false } })
+        | None ↦ fails_by error.bad_option_value s
+      ])
+      step (Some true) = same
+      step (Some false) = with_options s.begun (record s.options { global_declarations = false })
+      step None = same
+
+  limit_keeps : (value : Form) → IsKept s (options.set_resource_limit value s)
+  limit_keeps (Numeral digits) =
+      by_test (nat_lt (number_of digits) (2 ^ 64)) _ _
+      (with_options s.begun (record s.options { resource_limit = number_of digits })) same
+  limit_keeps _ = same
+
+  abbrev AllKeep : List (Name × (Form → State → Step)) → Type 0
+  AllKeep [] = Unit {0}
+  AllKeep (row ∷ rows) = ((value : Form) → IsKept s (row.1 value s)) × AllKeep rows
+
+  filter_keep : (p : Name × (Form → State → Step) → Bool) (rows : List (Name × (Form → State → Step)))
+      → AllKeep rows → AllKeep (filter p rows)
+  filter_keep p [] h = tt
+  filter_keep p (row ∷ rows) h = step (p row) (filter_keep p rows h.1)
+    where
+      step : (b : Bool) → AllKeep (filter p rows) → AllKeep (cond b (row ∷ filter p rows) (filter p rows))
+      step true rest = (h.0, rest)
+      step false rest = rest
+
+  set_by_keeps : (rows : List (Name × (Form → State → Step))) (key : Name) (value : Form) → AllKeep rows
+      → IsKept s (set_by rows key value s)
+  set_by_keeps [] key value h = same
+  set_by_keeps (row ∷ rows) key value h = step (is_name key row.0) (set_by_keeps rows key value h.1)
+    where
+      step : (b : Bool) → IsKept s (set_by rows key value s) → IsKept s
+          (elim (if b then Some row.1 else found_in rows key) as (λ _. Step)
+          [ Some set ↦ set value s | None ↦ is_unsupported s ])
+      step true rest = h.0 value
+      step false rest = rest
+
+  set_option_keeps : (key : Name) (value : Form) → IsKept s (options.set_option key value s)
   set_option_keeps key value =
-      by_test (is_name key (codes ":print-success")) _ _
-      (with_truth_keeps value (λ b. record s.options { print_success = b }))
-      (by_test (is_name key (codes ":produce-models")) _ _
-      (with_truth_keeps value (λ b. record s.options { produce_models = b })) same)
+      set_by_keeps (filter (λ row. is_brought (an_option row.0)) settings) key value
+      (filter_keep (λ row. is_brought (an_option row.0)) settings (
+        λ value. with_truth_keeps value (λ b. record s.options { print_success = b }),
+        (
+          λ value. with_truth_keeps value (λ b. record s.options { produce_models = b }),
+          (
+            λ value. with_truth_keeps value (λ b. record s.options { produce_unsat_assumptions = b }),
+            (global_keeps, (limit_keeps, tt)),
+          ),
+        ),
+      ))
+
+  get_option_keeps : (key : Name) → IsKept s (options.get_option key s)
+  get_option_keeps key = by_option (found_in option_texts key) _ _ (λ text. same) same
+
+  reason_keeps : (m : Mode) → IsKept s (reason_unknown m s)
+  reason_keeps undecided = same
+  reason_keeps plain = same
+  reason_keeps (satisfied v) = same
+  reason_keeps (refuted assumptions) = same
+
+  get_info_keeps : (key : Name) → IsKept s (options.get_info key s)
+  get_info_keeps key =
+      by_test (is_name key (codes ":reason-unknown")) _ _ (reason_keeps s.mode)
+      (by_option (found_in info_texts key) _ _ (λ text. same) same)
+
+  -- Declarations and definitions.
 
   declare_constant_keeps : (name : Name) (sort : Form) → IsKept s (meaning.declare_constant name sort s)
   declare_constant_keeps name sort =
@@ -298,21 +454,97 @@ module _ (s : State) (fit : IsFit s) where
   declare_function_keeps : (name : Name) → IsKept s (meaning.declare_function name s)
   declare_function_keeps name = by_test (is_taken (names_of s) name) _ _ same (goes_marked s name fit)
 
+  bound_fits : (n place : ℕ) (ps : List Parameter) (kinds : List Sort) → place + length kinds ≤ n
+      → list_all (naming_fits s.sorts n) (bound_from place ps kinds) ≡ true
+  bound_fits n place [] kinds low = refl
+  bound_fits n place (p ∷ ps) [] low = refl
+  bound_fits n place (p ∷ ps) (kind ∷ kinds) low =
+      and_from (nat_lt place n) (list_all (naming_fits s.sorts n) (bound_from (place + 1) ps kinds))
+      (lt-ltb place n (omega (arith, low))) (bound_fits n (place + 1) ps kinds (omega (arith, low)))
+
+  -- the names in force fit beside parameters too
+  names_beside : (n : ℕ) → list_all (naming_fits s.sorts n) (names_of s) ≡ true
+  names_beside n =
+      subst (λ (sorts : List Sort). list_all (naming_fits sorts n) (names_of s) ≡ true) (append-nil s.sorts)
+      (all_weaker (naming_fits s.sorts 0) (naming_fits (s.sorts ++ []) n) (names_of s)
+      (λ m. kind_more s.sorts [] 0 n (omega arith) m.1) (names_fit s.sorts s.first s.above fit))
+
+  defines_keeps : (name : Name) (kinds : List Sort) (r : Result Term Fault)
+      → if_read (fits_in s.sorts (length kinds)) r ≡ true → IsKept s (defines name kinds r s)
+  defines_keeps name kinds (Ok body) h = goes_defined s name kinds body h fit
+  defines_keeps name kinds (Err fault) h = goes_marked s name fit
+
+  define_by_keeps : (name : Name) (ps : List Parameter) (kinds : List Sort) (sort : Sort) (body : Form)
+      → IsKept s (define_by name ps kinds sort body s)
+  define_by_keeps name ps kinds sort body =
+      let n = length kinds in
+      let names = bound_from 0 ps kinds ++ names_of s in
+      by_errors (name_errors name ps s ++ body_errors sort (read names body)) (defines name kinds (read names body) s)
+      (defines_keeps name kinds (read names body)
+      (term_read s.sorts n names
+      (all_append (naming_fits s.sorts n) (bound_from 0 ps kinds) (names_of s)
+      (bound_fits n 0 ps kinds (omega arith)) (names_beside n))
+      body))
+
+  define_function_keeps : (name : Name) (ps : List Parameter) (sort body : Form)
+      → IsKept s (meaning.define_function name ps sort body s)
+  define_function_keeps name ps sort body =
+      by_option (sorts_in_definition ps) _ _
+      (λ kinds. by_option (sort_in_definition sort) _ _ (λ made. define_by_keeps name ps kinds made body) left_out)
+      left_out
+    where
+      left_out : IsKept s (unless_error (name_errors name ps s) (is_unsupported (marked name s)) s)
+      left_out = by_errors (name_errors name ps s) (is_unsupported (marked name s)) (goes_marked s name fit)
+
+  -- Assertions and levels.
+
   refused_term_keeps : (fault : Fault) → IsKept s (refused_term fault s)
   refused_term_keeps (unknown_symbol name) = same
   refused_term_keeps wrong_sort = same
   refused_term_keeps wrong_count = same
   refused_term_keeps bad_index = same
+  refused_term_keeps numeral_too_large = same
   refused_term_keeps bad_literal = same
   refused_term_keeps malformed = same
+  refused_term_keeps (already_bound name) = same
   refused_term_keeps unsupported = goes_asserted s a_mark refl fit
 
   assert_keeps : (form : Form) → IsKept s (meaning.assert form s)
   assert_keeps form =
-      by_result (read (names_of s) form) _ _
-      (term_read s.sorts (names_of s) (names_fit s.sorts s.first s.above fit) form)
+      by_result (fits_in s.sorts 0) (read (names_of s) form) _ _
+      (term_read s.sorts 0 (names_of s) (names_fit s.sorts s.first s.above fit) form)
       (λ t h. by_test (is_same_sort boolean (sort_of t)) _ _ (goes_asserted s (asserted t) h fit) same)
       refused_term_keeps
+
+  push_keeps : (n : ℕ) → IsKept s (meaning.push n s)
+  push_keeps n =
+      by_test (nat_le (n + length s.above) level_limit) (succeeds (pushed n s)) (fails_by error.numeral_too_large s)
+      (goes_pushed s n fit) same
+
+  pop_keeps : (n : ℕ) → IsKept s (meaning.pop n s)
+  pop_keeps n =
+      let new = popped n s in
+      let left : Leaves s (above (length new.above)) new = (
+        record { sorts = λ v has. has; live = popped_live n s.first s.above },
+        popped_fit s.sorts n s.first s.above fit,
+      ) in
+      by_test (nat_le n (length s.above)) (leaves (above (length new.above)) (success new) new)
+      (fails_by error.no_such_level s) left same
+
+  check_sat_assuming_keeps : (forms : List Form) → IsKept s (meaning.check_sat_assuming forms s)
+  check_sat_assuming_keeps forms =
+      by_errors (errors_in (map (assumed_form s) forms)) (checks (assumptions_in (map (assumed_form s) forms))) tt
+
+  contradicted_keeps : (m : Mode) → IsKept s (contradicted m s)
+  contradicted_keeps (refuted assumptions) = same
+  contradicted_keeps plain = same
+  contradicted_keeps (satisfied v) = same
+  contradicted_keeps undecided = same
+
+  get_unsat_assumptions_keeps : IsKept s (meaning.get_unsat_assumptions s)
+  get_unsat_assumptions_keeps = by_test s.options.produce_unsat_assumptions _ _ (contradicted_keeps s.mode) same
+
+  -- Values.
 
   with_values_keeps : (answer : Valuation → Step) → ((v : Valuation) → IsKept s (answer v))
       → IsKept s (with_values s answer)
@@ -333,12 +565,23 @@ module _ (s : State) (fit : IsFit s) where
   step_keeps : (c : command.Command) → IsKept s (step c s)
   step_keeps (command.set_logic name) = set_logic_keeps name
   step_keeps (command.set_option key value) = set_option_keeps key value
+  step_keeps (command.get_option key) = get_option_keeps key
+  step_keeps command.set_info = same
+  step_keeps (command.get_info key) = get_info_keeps key
   step_keeps (command.declare_constant name sort) = declare_constant_keeps name sort
   step_keeps (command.declare_function name) = declare_function_keeps name
+  step_keeps (command.define_function name ps sort body) = define_function_keeps name ps sort body
   step_keeps (command.assert form) = assert_keeps form
+  step_keeps (command.push n) = push_keeps n
+  step_keeps (command.pop n) = pop_keeps n
   step_keeps command.check_sat = tt
+  step_keeps (command.check_sat_assuming forms) = check_sat_assuming_keeps forms
   step_keeps command.get_model = get_model_keeps
   step_keeps (command.get_value forms) = get_value_keeps forms
+  step_keeps command.get_unsat_assumptions = get_unsat_assumptions_keeps
+  step_keeps (command.echo bytes) = same
+  step_keeps command.reset_assertions = (λ v has. has, empty_fits s.sorts)
+  step_keeps command.reset = (λ v has. has, empty_fits s.sorts)
   step_keeps command.exit = tt
   step_keeps command.another = same
 
@@ -346,20 +589,49 @@ module _ (s : State) (fit : IsFit s) where
   entry_keeps (Command form) = by_option (command_of form) (λ c. step c s) _ step_keeps same
   entry_keeps (Refused refusal) = same
 
+-- All entries.
+
+goes_on_same : (asked : Asked) → Continues asked asked
+goes_on_same asked = record { sorts = λ v has. has; live = λ place a there. there }
+
+goes_further : (before : Asked) (s now : State) → Continues before (asked_in s) → Goes s now
+    → Continues before (asked_in now)
+goes_further before s now goes on = record {
+  sorts = λ v has. goes.sorts v (on.sorts v has);
+  live = λ place a there. subst (λ (live : List (Option Term × ℕ)). slice_get live place ≡ Some a) (sym on.live.whole)
+      (slice_get-more (live_by_level s.first s.above) on.live.more place a (goes.live place a there));
+}
+
+module _ (s : State) (fit : IsFit s) (before : Asked) (goes : Continues before (asked_in s)) where
   history_by : (entries : List Entry) (x : Step)
-      → ((now : State) → IsFit now → IsHistory (asked_in now) (events now entries)) → IsKept s x
-      → IsHistory (asked_in s) (elim x [
-        | answers bytes new ↦ leaves_above (length new.above) ∷ events new entries
-        | checks ↦ asks (question_in s) ∷ events s entries
-        | exits bytes ↦ []
-      ])
-  history_by entries (answers bytes now) rest goes = (asked_in now, goes_on s now goes, rest now goes.fit)
-  history_by entries checks rest kept = (refl, are_terms s fit, rest s fit)
+      → ((now : State) → IsFit now → (asked : Asked) → Continues asked (asked_in now)
+      → IsHistory asked (events now entries))
+      → IsKept s x
+      → IsHistory before (events_of x s
+      ++ elim (state_behind x s) as (λ _. List Event) [ Some next ↦ events next entries | None ↦ [] ])
+  history_by entries (answers bytes now) rest on = rest now on.fit before (goes_further before s now goes on)
+  history_by entries (leaves (above level) bytes now) rest left = (
+    asked_in now,
+    record {
+      sorts = λ v has. goes.sorts v (left.0.sorts v has);
+      live = λ place a there low. left.0.live place a (goes.live place a there) low;
+    },
+    rest now left.1 (asked_in now) (goes_on_same (asked_in now)),
+  )
+  history_by entries (leaves all bytes now) rest left = (
+    asked_in now,
+    λ v has. goes.sorts v (left.0 v has),
+    rest now left.1 (asked_in now) (goes_on_same (asked_in now)),
+  )
+  history_by entries (checks given) rest kept =
+      (goes, are_terms s fit, rest s fit (asked_in s) (goes_on_same (asked_in s)))
   history_by entries (exits bytes) rest kept = tt
 
-history : (entries : List Entry) (s : State) → IsFit s → IsHistory (asked_in s) (events s entries)
-history [] s fit = tt
-history (entry ∷ entries) s fit = history_by s fit entries (step_of entry s) (history entries) (entry_keeps s fit entry)
+history : (entries : List Entry) (s : State) → IsFit s → (before : Asked) → Continues before (asked_in s)
+    → IsHistory before (events s entries)
+history [] s fit before goes = tt
+history (entry ∷ entries) s fit before goes =
+    history_by s fit before goes entries (step_of entry s) (history entries) (entry_keeps s fit entry)
 
 pub script_history : ScriptIsHistory
-script_history entries = history entries start (record { names = refl; assertions = refl })
+script_history entries = history entries start (empty_fits []) (asked_in start) (goes_on_same (asked_in start))

@@ -12,18 +12,18 @@ use Rattle.std.proofs.lemmas.Option.{option_and_then_some}
 use Rattle.std.proofs.lemmas.Bool.{and_parts, and_from}
 use Rattle.std.proofs.lemmas.Bool.Decides.{Decides-int_eq}
 use Rattle.std.proofs.Math.IntN.{zero-*ℤ, *ℤ-zero, *ℤ_comm, +ℤ_idl, +ℤ_idr, +ℤ_assoc, pos-+ℤ-pos}
-use Rattle.sb_meaning.specs.Terms.{Sort, boolean, integer, text, reglan, Term, Terms, constant, word, numeral, apply, no_terms, with_term}
+use Rattle.sb_meaning.specs.Terms.{Sort, boolean, integer, text, reglan, Term, Terms, constant, word, numeral, apply, parameter, no_terms, with_term}
 use Rattle.sb_meaning.specs.Terms as symbol
 use Rattle.sb_meaning.specs.Values.{Valuation, Value, Text, Int, Truth, is_of, value_in}
 use Rattle.sb_meaning.specs.Truth.{Meaning, means_number, word_in, number_in, meaning_of_value, meaning_of, meanings_of, product_of, difference_of}
 use Rattle.sb_meaning.specs.Truth as truth
-use Rattle.sb_rulebook.specs.Atoms.{Piece, constant_piece, word_piece, word_at, Variable, int_constant, length_of, Summand, serial_of, value_of, value_of_sum}
+use Rattle.sb_rulebook.specs.Atoms.{word_at, value_of, value_of_sum}
 use Rattle.sb_rulebook.specs.AtomRules.{is_declared, is_declared_variable}
-use Rattle.sb_rulebook.specs.Sums.{Sum, onto_sum, with_summand, with_summands, number_sum, variable_sum, added, times_each, scaled, total, difference, multiplied, product, length_sum, is_small, if_small}
-use Rattle.sb_rulebook.specs.Parts.{pieces_of, is_ground, are_ground, is_linear_product, length_of_term, sum_of, sums_of}
 use Rattle.sb_sound.specs.TermLaws.{HasSorts, fits_sorts, all_fit}
 use Rattle.sb_sound.proofs.PieceFacts.{option_map_some, some_if, declared_at, words_of, pieces_keep, PiecesDeclared, pieces_declared}
 use Rattle.sb_sound.proofs.ProductFacts.{sum_times, times_sum, times_times, less_one_times}
+use Rattle.sb_script.specs.Pieces.{Piece, constant_piece, word_piece, pieces_of, is_ground, are_ground}
+use Rattle.sb_script.specs.Sums.{Variable, int_constant, length_of, Summand, serial_of, Sum, onto_sum, with_summand, with_summands, number_sum, variable_sum, added, times_each, scaled, total, difference, multiplied, product, length_sum, is_small, if_small, is_linear_product, length_of_term, sum_of, sums_of}
 
 -- Declared variables: one for each serial.
 
@@ -170,6 +170,7 @@ mutual
       (λ ss there small. subst (SumDeclared sorts) (small_same (product ss) s small)
       (product_declared sorts ss (sums_declared sorts terms ss fits there)))
   sum_declared sorts (apply _ terms) s fits h = absurd (Prim.cc (h))
+  sum_declared sorts (parameter place sort) s fits h = absurd (Prim.cc (h))
 
   sums_declared : (sorts : List Sort) (terms : Terms) (ss : List Sum) → all_fit sorts terms ≡ true
       → sums_of terms ≡ Some ss → SumsDeclared sorts ss
@@ -197,6 +198,7 @@ mutual
   ground_fits sorts (word w) g fits = fits
   ground_fits sorts (numeral n) g fits = refl
   ground_fits sorts (apply s terms) g fits = ground_all_fit sorts terms g fits
+  ground_fits sorts (parameter place sort) g fits = absurd (Prim.cc (g))
 
   ground_all_fit : (sorts : List Sort) (terms : Terms) → are_ground terms ≡ true → all_fit sorts terms ≡ true
       → all_fit [] terms ≡ true
@@ -492,6 +494,7 @@ mutual
       ∙ ap (λ (k : ℤ). means_number k) (sym (product_value v ss (linear_sums sorts terms ss both.0 fits there)))
       ∙ ap (meant_number v) (small_same (product ss) s small))
   sums_keep v sorts (apply _ terms) s has fits h = absurd (Prim.cc (h))
+  sums_keep v sorts (parameter place sort) s has fits h = absurd (Prim.cc (h))
 
   all_sums_keep : (v : Valuation) (sorts : List Sort) (terms : Terms) (ss : List Sum) → HasSorts v sorts
       → all_fit sorts terms ≡ true → sums_of terms ≡ Some ss

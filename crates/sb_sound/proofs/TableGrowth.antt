@@ -127,8 +127,13 @@ atom_sound asked kept after line sound h =
       empty = sound.empty;
       expanded = sound.expanded;
       died = sound.died;
+      resting = sound.resting;
       known = λ id clause there. are_known-push atoms a clause.literals (sound.known id clause there);
       clauses = λ id clause there v words sorts hold.
           clause_holds-push v atoms a clause.literals (sound.known id clause there)
           ∙ sound.clauses id clause there v words sorts hold;
+      places = sound.places;
+      rested = λ id clause there v words sorts hold.
+          clause_holds-push v atoms a clause.literals (sound.known id clause there)
+          ∙ sound.rested id clause there v words sorts hold;
     })

@@ -8,7 +8,7 @@ use Rattle.std.proofs.lemmas.Option.{option_and_then_some}
 use Rattle.sb_lit.specs.declared.clause.Lit.{Lit}
 use Rattle.sb_lang.specs.OrderLaws.{OrderTellsApart}
 use Rattle.sb_lang.specs.NormalLaws.{NormalHasTermsWords}
-use Rattle.sb_meaning.specs.Terms.{Sort, boolean, integer, text, reglan, Symbol, Term, Terms, constant, word, numeral, apply, no_terms, with_term}
+use Rattle.sb_meaning.specs.Terms.{Sort, boolean, integer, text, reglan, Symbol, Term, Terms, constant, word, numeral, apply, parameter, no_terms, with_term}
 use Rattle.sb_meaning.specs.Terms as symbol
 use Rattle.sb_meaning.specs.Sorts.{sort_of}
 use Rattle.sb_meaning.specs.Values.{Value, Text, Int, Truth, Valuation, is_of, value_in}
@@ -333,6 +333,7 @@ mutual
   term_says v sorts atoms s (apply f terms) fits l h =
       ap (meaning.applied f) (meanings_of_arguments v atoms terms)
       ∙ applied_says v sorts atoms s f (arguments_of atoms terms) (terms_say v sorts atoms s terms fits) l h
+  term_says v sorts atoms s (parameter place sort) fits l h = absurd (Prim.cc (h))
 
   terms_say : (v : Valuation) (sorts : List Sort) (atoms : List Atom) → Setting v sorts atoms → (terms : Terms)
       → all_fit sorts terms ≡ true → AllTrueTo v sorts atoms (arguments_of atoms terms)

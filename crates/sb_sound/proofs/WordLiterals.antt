@@ -13,18 +13,20 @@ use Rattle.sb_lang.specs.Membership.{in_re, is_word}
 use Rattle.sb_lang.specs.Normal.{normal, word_regex}
 use Rattle.sb_lang.specs.NormalLaws.{NormalHasTermsWords}
 use Rattle.sb_lang.specs.Language.{language}
-use Rattle.sb_meaning.specs.Terms.{Sort, boolean, integer, text, reglan, Symbol, Term, Terms, constant, word, numeral, apply, no_terms, with_term}
+use Rattle.sb_meaning.specs.Terms.{Sort, boolean, integer, text, reglan, Symbol, Term, Terms, constant, word, numeral, apply, parameter, no_terms, with_term}
 use Rattle.sb_meaning.specs.Terms as symbol
 use Rattle.sb_meaning.specs.Values.{Value, Text, Int, Truth, Valuation, is_of, value_in}
 use Rattle.sb_meaning.specs.Truth.{Meaning, means_word, means_number, means_truth, means_reglan, meaning_of_value, word_in, reglan_in, are_equal, is_member, chosen, applied, meaning_of, meanings_of}
-use Rattle.sb_rulebook.specs.Atoms.{Atom, Piece, constant_piece, word_piece, word_of_piece, in_atom}
+use Rattle.sb_rulebook.specs.Atoms.{Atom, word_of_piece, in_atom}
 use Rattle.sb_rulebook.specs.AtomRules.{is_declared}
-use Rattle.sb_rulebook.specs.Parts.{is_ground, are_ground, word_of, pieces_of, are_single, single_pieces, ground_word, is_regular, regex_meant, regex_of}
+use Rattle.sb_rulebook.specs.Parts.{regex_meant, regex_of}
 use Rattle.sb_rulebook.specs.Translation.{positive, membership, word_equality}
 use Rattle.sb_sound.specs.TermLaws.{HasSorts, fits_sorts, all_fit, PiecesKeepWord, SumsKeepNumber}
 use Rattle.sb_sound.proofs.PieceFacts.{declared_at}
 use Rattle.sb_sound.proofs.AtomLiterals.{HasAtomsTruth}
 use Rattle.sb_sound.proofs.GateLiterals.{T, Says}
+use Rattle.sb_script.specs.Pieces.{Piece, constant_piece, word_piece, is_ground, are_ground, word_of, pieces_of, are_single, single_pieces, ground_word}
+use Rattle.sb_script.specs.Sizes.{is_regular}
 
 -- a table and a valuation, and the laws of terms
 pub record Setting (v : Valuation) (sorts : List Sort) (atoms : List Atom) : Type 0 where
@@ -92,6 +94,7 @@ mutual
   term_has_characters v sorts sorted (numeral n) fits = tt
   term_has_characters v sorts sorted (apply s terms) fits =
       applied_has_characters s (meanings_of v terms) (terms_have_characters v sorts sorted terms fits)
+  term_has_characters v sorts sorted (parameter place sort) fits = absurd (Prim.cc (fits))
 
   terms_have_characters : (v : Valuation) (sorts : List Sort) → HasSorts v sorts → (terms : Terms)
       → all_fit sorts terms ≡ true → AllHaveCharacters (meanings_of v terms)
@@ -216,6 +219,7 @@ mutual
   ground_meaning v w (word u) h = refl
   ground_meaning v w (numeral n) h = refl
   ground_meaning v w (apply s terms) h = ap (applied s) (ground_meanings v w terms h)
+  ground_meaning v w (parameter place sort) h = absurd (Prim.cc (h))
 
   ground_meanings : (v w : Valuation) (terms : Terms) → are_ground terms ≡ true
       → meanings_of v terms ≡ meanings_of w terms

@@ -1,38 +1,70 @@
 -- What an accepted proof means.
-use Rattle.std.specs.Prelude.{◌≡◌, ℕ, List, [], ◌∷◌}
+use Rattle.std.specs.Prelude.{◌≡◌, ℕ, Bool, true, false, not, List, [], ◌∷◌, ◌++◌, Result, Ok, Err}
+use Rattle.std.specs.List.{list_all, count_by}
 use Rattle.sb_reader.specs.Entries.{Entry}
 use Rattle.sb_script.specs.State as state
-use Rattle.sb_rulebook.specs.Lines.{Said}
+use Rattle.sb_rulebook.specs.Refusals.{Refusal}
+use Rattle.sb_rulebook.specs.Lines.{Line, verdict_line, Said}
+use Rattle.sb_rulebook.specs.Reading.{LineText, texts_of, read}
 use Rattle.sb_rulebook.specs.Kept.{AllKept, Asked}
 use Rattle.sb_rulebook.specs.Verdicts.{Question}
-use Rattle.sb_rulebook.specs.Accepted.{Event, leaves_above, leaves_all, asks, accepted, judged, events, asked_in}
-use Rattle.sb_sound.specs.SoundLaws.{AreTerms, GoesOn, MeansSo}
+use Rattle.sb_rulebook.specs.Judging.{Event, leaves_above, leaves_all, asks, ends, accepted, judged}
+use Rattle.sb_rulebook.specs.Accepted.{events, asked_in}
+use Rattle.sb_sound.specs.CountLaws.{is_counted_line}
+use Rattle.sb_sound.specs.SoundLaws.{AreTerms, KeepsSorts, Continues, GoesOn, MeansSo}
 
--- The events are those of a script that goes on from what was asked: where levels are left no assertion below is lost,
--- and a check asks for what stands there.
+-- The events are those of a script that goes on from what was asked before: up to a check no assertion is lost, and
+-- where levels are left none below; sorts stay, also where all assertions are left.
 abbrev pub IsHistory : Asked → List Event → Type 0
 IsHistory before [] = Unit {0}
 IsHistory before (leaves_above level ∷ es) = (now : Asked) × GoesOn level before now × IsHistory now es
-IsHistory before (leaves_all ∷ es) = (now : Asked) × IsHistory now es
-IsHistory before (asks q ∷ es) = (q.asked ≡ before) × AreTerms q.asked × IsHistory before es
+IsHistory before (leaves_all ∷ es) = (now : Asked) × KeepsSorts before now × IsHistory now es
+IsHistory before (asks q ∷ es) = Continues before q.asked × AreTerms q.asked × IsHistory q.asked es
+IsHistory before (ends ∷ es) = Unit {0}
 
--- the questions among events, in order
+-- the questions among events, in order; behind the end there are none
 abbrev pub questions : List Event → List Question
 questions [] = []
 questions (asks q ∷ es) = q ∷ questions es
 questions (leaves_above level ∷ es) = questions es
 questions (leaves_all ∷ es) = questions es
+questions (ends ∷ es) = []
 
--- there is one verdict for each question, and it means so
-abbrev pub AllMeanSo : List Question → List Said → Type 0
-AllMeanSo [] [] = Unit {0}
-AllMeanSo (q ∷ qs) (said ∷ rest) = ((kept : AllKept) × MeansSo q kept said) × AllMeanSo qs rest
-AllMeanSo _ _ = ⊥
+-- What came for a check.
+
+abbrev pub is_counted_read : Result Line Refusal → Bool
+is_counted_read (Ok line) = is_counted_line line
+is_counted_read (Err refusal) = false
+
+abbrev pub is_verdict_read : Result Line Refusal → Bool
+is_verdict_read (Ok (verdict_line said)) = true
+is_verdict_read _ = false
+
+-- how many of the lines count
+abbrev pub counted_among : List LineText → ℕ
+counted_among lines = count_by (λ text. is_counted_read (read text)) lines
+
+-- the verdict of a check means so, by what was kept where it came; as many lines were counted as came for the check and
+-- count
+pub record IsAnswered (q : Question) (said : Said) (lines : List LineText) (verdict : LineText) : Type 0 where
+  pub no_verdicts : list_all (λ text. not (is_verdict_read (read text))) lines ≡ true
+  pub is_verdict : read verdict ≡ Ok (verdict_line said)
+  pub kept : AllKept
+  pub counted : kept.counted ≡ counted_among lines
+  pub means : MeansSo q kept said
+
+-- There is one verdict for each question, and it means so. The lines up to a verdict came for its check, those behind
+-- it for the next one; the first line of the proof stands in front of those of the first check.
+abbrev pub AllMeanSo : List Question → List LineText → List Said → Type 0
+AllMeanSo [] came [] = Unit {0}
+AllMeanSo (q ∷ qs) came (said ∷ rest) = (lines : List LineText) × (verdict : LineText) × (left : List LineText)
+    × (came ≡ lines ++ verdict ∷ left) × IsAnswered q said lines verdict × AllMeanSo qs left rest
+AllMeanSo _ came _ = ⊥
 
 -- an accepted proof of a history
 abbrev pub AcceptedMeansSo : Type 0
 AcceptedMeansSo = (asked : Asked) (es : List Event) (bytes : List ℕ) (verdicts : List Said) → IsHistory asked es
-    → judged es bytes ≡ accepted verdicts → AllMeanSo (questions es) verdicts
+    → judged es bytes ≡ accepted verdicts → AllMeanSo (questions es) (texts_of bytes) verdicts
 
 -- the events of a script are a history
 abbrev pub ScriptIsHistory : Type 0
@@ -42,4 +74,4 @@ ScriptIsHistory = (entries : List Entry) → IsHistory (asked_in state.start) (e
 abbrev pub AcceptedScriptMeansSo : Type 0
 AcceptedScriptMeansSo = (entries : List Entry) (bytes : List ℕ) (verdicts : List Said)
     → judged (events state.start entries) bytes ≡ accepted verdicts
-    → AllMeanSo (questions (events state.start entries)) verdicts
+    → AllMeanSo (questions (events state.start entries)) (texts_of bytes) verdicts

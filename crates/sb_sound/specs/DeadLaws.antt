@@ -1,10 +1,10 @@
 -- Expansions are right, and dead regexes have no word.
-use Rattle.std.specs.Prelude.{◌≡◌, ℕ, true, List, Some, Ok, Contains, slice_get}
+use Rattle.std.specs.Prelude.{◌≡◌, ℕ, true, List, Option, Some, Ok, Contains, slice_get}
 use Rattle.sb_word.specs.Words.{is_character}
 use Rattle.sb_lang.specs.Regex.{Regex}
 use Rattle.sb_lang.specs.Derivative.{nd}
 use Rattle.sb_rulebook.specs.Lines.{Class}
-use Rattle.sb_rulebook.specs.Kept.{AllKept, Asked, Expansion}
+use Rattle.sb_rulebook.specs.Kept.{AllKept, Asked, targets_in}
 use Rattle.sb_rulebook.specs.RegexRules.{follows_expansion, follows_dead}
 use Rattle.sb_sound.specs.MembershipLaws.{AreEmpty}
 
@@ -15,9 +15,9 @@ pub record LeadsOn (known : List Regex) (r : Regex) (targets : List ℕ) (c : �
   pub there : slice_get known target ≡ Some (nd r c)
 
 -- each kept expansion has the derivatives of its regex as its targets
-abbrev pub AreRight : List Regex → List Expansion → Type 0
-AreRight known expansions = (e : Expansion) (r : Regex) → Contains expansions e → slice_get known e.regex ≡ Some r
-    → (c : ℕ) → is_character c ≡ true → LeadsOn known r e.targets c
+abbrev pub AreRight : List Regex → List (Option (List ℕ)) → Type 0
+AreRight known expansions = (id : ℕ) (r : Regex) (targets : List ℕ) → targets_in expansions id ≡ Some targets
+    → slice_get known id ≡ Some r → (c : ℕ) → is_character c ≡ true → LeadsOn known r targets c
 
 abbrev pub ExpandedIsRight : Type 0
 ExpandedIsRight = (asked : Asked) (kept after : AllKept) (id : ℕ) (classes : List Class)

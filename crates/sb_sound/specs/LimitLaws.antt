@@ -1,7 +1,8 @@
 -- The limits of numbers in atoms.
 use Rattle.std.specs.Prelude.{◌≡◌, ◌↔◌, ℕ, ℤ, pos, neg_ℤ, ◌≤ℤ◌, ◌^◌, true}
 use Rattle.sb_lang.specs.Regex.{Regex}
-use Rattle.sb_rulebook.specs.Atoms.{Variable, le_atom, is_well_formed}
+use Rattle.sb_rulebook.specs.Atoms.{le_atom, is_well_formed}
+use Rattle.sb_script.specs.Sums.{Variable}
 
 -- the number is at most so far from 0
 pub record IsWithin (limit : ℕ) (k : ℤ) : Type 0 where

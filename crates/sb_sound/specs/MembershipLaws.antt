@@ -1,5 +1,5 @@
 -- Clauses of memberships are true.
-use Rattle.std.specs.Prelude.{◌≡◌, ℕ, true, false, List, Some, Contains, slice_get}
+use Rattle.std.specs.Prelude.{◌≡◌, ℕ, Bool, true, false, List, Some, slice_get}
 use Rattle.sb_word.specs.Words.{IsWord}
 use Rattle.sb_lit.specs.declared.clause.Lit.{Lit}
 use Rattle.sb_lang.specs.Regex.{Regex}
@@ -19,8 +19,8 @@ abbrev pub HasNone : Regex → Type 0
 HasNone r = (w : List ℕ) → IsWord w → language r w ≡ false
 
 -- no regex that is kept as dead has a word
-abbrev pub AreEmpty : List Regex → List ℕ → Type 0
-AreEmpty known dead = (id : ℕ) (r : Regex) → Contains dead id → slice_get known id ≡ Some r → HasNone r
+abbrev pub AreEmpty : List Regex → List Bool → Type 0
+AreEmpty known dead = (id : ℕ) (r : Regex) → slice_get dead id ≡ Some true → slice_get known id ≡ Some r → HasNone r
 
 abbrev pub EmptyHolds : Type 0
 EmptyHolds = (v : Valuation) (kept : AllKept) (clause : List Lit) → HasWords v

@@ -1,10 +1,11 @@
 -- What the tests of relevant atoms and regexes say.
-use Rattle.std.specs.Prelude.{◌≡◌, ◌≢◌, ℕ, ℤ, pos, ◌-ℤ◌, ◌≤ℤ◌, true, List, Some, AllPairs, Contains, flat_map}
-use Rattle.sb_rulebook.specs.Atoms.{Atom, Variable, Summand, bool_atom, in_atom, le_atom, sum_atom, and_atom, iff_atom}
-use Rattle.sb_rulebook.specs.Bounds.{lower_in, upper_in}
-use Rattle.sb_rulebook.specs.LiteralBounds.{bounds_of}
+use Rattle.std.specs.Prelude.{◌≡◌, ◌≢◌, ℤ, pos, ◌-ℤ◌, ◌≤ℤ◌, true, List, Some, AllPairs, Contains, flat_map}
+use Rattle.sb_rulebook.specs.Atoms.{Atom, le_atom, sum_atom}
 use Rattle.sb_rulebook.specs.Verdicts.{Question}
 use Rattle.sb_rulebook.specs.Relevant.{Signed, live_terms, speaks_of, is_near, are_distinct}
+use Rattle.sb_script.specs.Sums.{Variable, Summand}
+use Rattle.sb_script.specs.Bounds.{lower_in, upper_in}
+use Rattle.sb_script.specs.LiteralBounds.{bounds_of}
 
 -- the variable stands in the atom
 abbrev pub StandsIn : Variable → Atom → Type 0

@@ -8,10 +8,13 @@ pub fn accepted_means_so()
 {
     crate::steps::nothing_is_sound();
     crate::steps::line_stays_sound();
+    crate::steps::follows_by_rule();
+    crate::steps::continued_stays_sound();
     crate::steps::dropped_stays_sound();
     crate::steps::all_dropped_is_sound();
     crate::steps::counted_again_stays_sound();
     crate::steps::verdict_means_so();
+    crate::counts::lines_are_counted();
 }
 
 /// The events of a script are a history: its terms fit the sorts of the constants, and no command loses an assertion of

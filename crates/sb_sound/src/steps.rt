@@ -1,13 +1,13 @@
 //! A proof, line by line.
 
-ghost use Rattle.sb_sound.specs.SoundLaws.{NothingIsSound, LineStaysSound, DroppedStaysSound, AllDroppedIsSound, CountedAgainStaysSound, VerdictMeansSo};
+ghost use Rattle.sb_sound.specs.SoundLaws.{NothingIsSound, LineStaysSound, FollowsByRule, ContinuedStaysSound, DroppedStaysSound, AllDroppedIsSound, CountedAgainStaysSound, VerdictMeansSo};
 
 /// Where nothing is kept, all of it is true.
 pub fn nothing_is_sound()
     ensures { NothingIsSound }
 {}
 
-/// A line that follows keeps true what is kept.
+/// A line keeps true what is kept, where it follows by the rule of its kind.
 pub fn line_stays_sound()
     ensures { LineStaysSound }
 {
@@ -22,6 +22,16 @@ pub fn line_stays_sound()
     crate::dead::dead_stays_empty();
     crate::translations::translation_holds();
 }
+
+/// A line that follows does so by the rule of its kind.
+pub fn follows_by_rule()
+    ensures { FollowsByRule }
+{}
+
+/// Where a script goes on, and loses no assertion, what is kept stays true.
+pub fn continued_stays_sound()
+    ensures { ContinuedStaysSound }
+{}
 
 /// Where levels are left, and the script goes on, the clauses up to the level that stays are true.
 pub fn dropped_stays_sound()
@@ -43,6 +53,7 @@ pub fn verdict_means_so()
     ensures { VerdictMeansSo }
 {
     crate::verdicts::unsat_is_refuted();
+    crate::verdicts::named_are_refuted();
     crate::verdicts::sat_is_model();
     crate::verdicts::unknown_is_counted();
     crate::verdicts::unsupported_is_outside();

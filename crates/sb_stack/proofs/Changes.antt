@@ -6,11 +6,12 @@ use Rattle.std.proofs.lemmas.List.{map-append}
 use Rattle.std.specs.declared.vec.Vec.{Vec}
 use Rattle.std.specs.declared.alloc.Global.{Global}
 use Rattle.sb_script.specs.Names.{Name}
-use Rattle.sb_meaning.specs.Terms.{Term, Terms, constant, word, numeral, apply, no_terms, with_term, text}
+use Rattle.sb_meaning.specs.Terms.{Term, Terms, constant, word, numeral, apply, parameter, no_terms, with_term, text}
 use Rattle.sb_script.specs.Symbols.{is_taken}
 use Rattle.sb_script.specs.Scopes.{a_constant}
 use Rattle.sb_script.specs.State.{State, plain, declared}
-use Rattle.sb_script.specs.Replies as meaning
+use Rattle.sb_script.specs.Errors as error
+use Rattle.sb_script.specs.Steps as meaning
 use Rattle.sb_sorts.specs.Scopes as scopes
 use Rattle.sb_sorts.specs.Scopes.{naming_in, names_in, texts, with_constant}
 use Rattle.sb_sorts.specs.Terms.{term_in}
@@ -20,7 +21,7 @@ use Rattle.sb_stack.specs.declared.stack.Assertion.{Assertion}
 use Rattle.sb_stack.specs.declared.stack.Assertion.TheVariants as code
 use Rattle.sb_stack.specs.declared.stack.Step.{Step}
 use Rattle.sb_stack.specs.declared.stack.Step.TheVariants as step
-use Rattle.sb_stack.specs.Stacked.{Stacked, state_of, assertion_in, have_serials_below}
+use Rattle.sb_stack.specs.Stacked.{Stacked, options_of, state_of, assertion_in, have_serials_below}
 use Rattle.sb_stack.specs.Steps.{IsStep}
 use Rattle.sb_stack.specs.Taking.{declares}
 
@@ -40,6 +41,7 @@ mutual
   term_below_more n (word w) h = refl
   term_below_more n (numeral m) h = refl
   term_below_more n (apply s terms) h = terms_below_more n terms h
+  term_below_more n (parameter place sort) h = refl
 
   terms_below_more : (n : ℕ) (ts : Terms) → reads.have_serials_below n ts ≡ true
       → reads.have_serials_below (n + 1) ts ≡ true
@@ -63,7 +65,8 @@ length-texts (suc n) = ap suc (length-texts n)
 
 -- a constant more
 declared_is : (k : Stacked) (name : Name)
-    → state_of (record k { scope = with_constant name k.scope; mode = mode.Plain }) ≡ declared name text (state_of k)
+    → state_of (record k { begun = true; scope = with_constant name k.scope; mode = mode.Plain })
+    ≡ declared name text (state_of k)
 declared_is k name =
     let n : ℕ = k.scope.declared in
     let sorts : texts (n + 1) ≡ texts n ++ text ∷ [] = texts_more n in
@@ -72,7 +75,8 @@ declared_is k name =
     ∙ ap (λ m. names_in k.scope ++ (name, a_constant m text) ∷ []) (sym (length-texts n)) in
     (λ j. record {
       logic_set = k.logic_set;
-      options = record { print_success = k.print_success; produce_models = k.produce_models };
+      begun = true;
+      options = options_of k.print_success k.produce_models;
       sorts = sorts j;
       mode = plain;
       first = record { names = names j; assertions = map assertion_in k.assertions };
@@ -83,16 +87,16 @@ pub declare_step : (k : Stacked) (name : Name) (scope : scopes.ScopeNames) (answ
     → is_taken (names_in k.scope) name ≡ false → scope ≡ with_constant name k.scope
     → answer.items ≡ (if k.print_success then meaning.line (codes "success") else [])
     → IsStep (declares name (state_of k)) (step.Answer answer) (state_of k)
-    (state_of (record k { scope = scope; mode = mode.Plain }))
+    (state_of (record k { begun = true; scope = scope; mode = mode.Plain }))
 declare_step k name scope answer free is said =
     let taken : declares name (state_of k)
     ≡ meaning.answers (if k.print_success then meaning.line (codes "success") else [])
     (declared name text (state_of k)) =
-    ap (λ (b : Bool). if b then meaning.fails (meaning.already_declared name) (state_of k)
+    ap (λ (b : Bool). if b then meaning.fails_by (error.already_declared name) (state_of k)
     else meaning.succeeds (declared name text (state_of k))) free in
     rw taken (
       said,
-      ap (λ (c : scopes.ScopeNames). state_of (record k { scope = c; mode = mode.Plain })) is
+      ap (λ (c : scopes.ScopeNames). state_of (record k { begun = true; scope = c; mode = mode.Plain })) is
           ∙ declared_is k name,
     )
 

@@ -3,7 +3,7 @@ use Rattle.std.proofs.Common.{◌≡◌, ℕ, ◌+◌, ◌<◌, List, [], ◌∷
 use Rattle.std.proofs.lemmas.List.{map-append, append-nil, drop_more, take_more}
 use Rattle.std.proofs.lemmas.Option.{slice_get_within, get_or_from_slice_get}
 use Rattle.sb_script.specs.Names.{Name}
-use Rattle.sb_script.specs.Scopes.{Naming, a_constant, a_marked_name, constants_in, Constant}
+use Rattle.sb_script.specs.Scopes.{Naming, a_constant, a_definition, a_marked_name, a_term, constants_in, Constant}
 use Rattle.sb_script.specs.Replies.{all_constants}
 use Rattle.sb_sorts.specs.declared.scope.Named.{Named}
 use Rattle.sb_sorts.specs.declared.scope.Named.TheVariants as named
@@ -38,7 +38,9 @@ constants_append : (ns ms : List Naming) → constants_in (ns ++ ms) ≡ constan
 constants_append [] ms = refl
 constants_append ((name, a_constant serial sort) ∷ ns) ms =
     ap (λ cs. record { name = name; serial = serial; sort = sort } ∷ cs) (constants_append ns ms)
+constants_append ((name, a_definition sorts body) ∷ ns) ms = constants_append ns ms
 constants_append ((name, a_marked_name) ∷ ns) ms = constants_append ns ms
+constants_append ((name, a_term t) ∷ ns) ms = constants_append ns ms
 
 -- the constants of one more name
 names_step : (ns : List (Name × Named)) (i : ℕ) (n : Name × Named) → Some n ≡ slice_get ns i

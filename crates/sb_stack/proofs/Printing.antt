@@ -7,7 +7,7 @@ use Rattle.sb_word.specs.Literals.{literal_text}
 use Rattle.sb_meaning.specs.Terms.{text}
 use Rattle.sb_meaning.specs.Values.{Text, value_in}
 use Rattle.sb_meaning.specs.Printed.{printed}
-use Rattle.sb_script.specs.Replies.{spaced}
+use Rattle.sb_script.specs.Steps.{spaced}
 use Rattle.sb_stack.specs.Stacked.{values_from}
 use Rattle.sb_stack.specs.Values.{gap_at}
 

@@ -1,5 +1,5 @@
 -- What the code keeps, as the state that the definitions have.
-use Rattle.std.specs.Prelude.{ℕ, ◌+◌, Bool, true, ◌&&◌, List, [], ◌∷◌, map}
+use Rattle.std.specs.Prelude.{ℕ, ◌+◌, Bool, true, false, ◌&&◌, List, [], ◌∷◌, map}
 use Rattle.sb_word.specs.Words.{are_characters}
 use Rattle.sb_sorts.specs.Scopes as scopes
 use Rattle.sb_sorts.specs.Scopes.{names_in, texts}
@@ -14,6 +14,7 @@ use Rattle.sb_script.specs.State as meaning
 
 pub record Stacked : Type 0 where
   pub logic_set : Bool
+  pub begun : Bool
   pub print_success : Bool
   pub produce_models : Bool
   pub scope : scopes.ScopeNames
@@ -38,10 +39,21 @@ abbrev pub assertion_in : Assertion → meaning.Assertion
 assertion_in (code.Term term) = meaning.asserted (term_in term)
 assertion_in code.Mark = meaning.a_mark
 
+-- the options, where those that scripts can't set yet are as at the start
+abbrev pub options_of : Bool → Bool → meaning.Options
+options_of print_success produce_models = record {
+  print_success = print_success;
+  produce_models = produce_models;
+  produce_unsat_assumptions = false;
+  global_declarations = false;
+  resource_limit = 0;
+}
+
 abbrev pub state_of : Stacked → meaning.State
 state_of kept = record {
   logic_set = kept.logic_set;
-  options = record { print_success = kept.print_success; produce_models = kept.produce_models };
+  begun = kept.begun;
+  options = options_of kept.print_success kept.produce_models;
   sorts = texts kept.scope.declared;
   mode = mode_in kept.mode;
   first = record { names = names_in kept.scope; assertions = map assertion_in kept.assertions };

@@ -6,7 +6,8 @@ use Rattle.sb_reader.specs.declared.feed.Refusal.TheVariants.{BareToken}
 use Rattle.sb_reader.specs.Forms.{form_of}
 use Rattle.sb_reader.specs.Entries as entries
 use Rattle.sb_script.specs.State.{State}
-use Rattle.sb_script.specs.Replies as meaning
+use Rattle.sb_script.specs.Steps as meaning
+use Rattle.sb_script.specs.Verdicts as finding
 use Rattle.sb_stack.specs.declared.stack.Step.{Step}
 use Rattle.sb_stack.specs.declared.stack.Step.TheVariants as code
 use Rattle.sb_stack.specs.declared.verdict.Verdict.{Verdict}
@@ -27,14 +28,14 @@ entry_of (next.Refused refusal) = entries.Refused refusal
 entry_of next.NotYet = entries.Refused BareToken
 entry_of (next.Ended ending) = entries.Refused BareToken
 
-abbrev pub verdict_in : Verdict → meaning.Verdict
-verdict_in (verdict.Sat words) = meaning.is_sat (values_from 0 words.items)
-verdict_in verdict.Unsat = meaning.is_unsat []
-verdict_in verdict.Outside = meaning.is_outside
+abbrev pub verdict_in : Verdict → finding.Verdict
+verdict_in (verdict.Sat words) = finding.is_sat (values_from 0 words.items)
+verdict_in verdict.Unsat = finding.is_unsat []
+verdict_in verdict.Outside = finding.is_outside
 
--- The step that the definitions have is taken. A check and an exit leave the state.
+-- The step that the definitions have is taken. A check is one without assumptions. A check and an exit leave the state.
 abbrev pub IsStep : meaning.Step → Step → State → State → Type 0
 IsStep (meaning.answers bytes s) (code.Answer text) old new = (text.items ≡ bytes) × (new ≡ s)
-IsStep meaning.checks code.Check old new = new ≡ old
+IsStep (meaning.checks []) code.Check old new = new ≡ old
 IsStep (meaning.exits bytes) (code.Exit text) old new = (text.items ≡ bytes) × (new ≡ old)
 IsStep _ _ old new = ⊥

@@ -2,7 +2,8 @@
 
 ghost use Rattle.std.specs.Prelude.{◌≡◌, option_map};
 ghost use Rattle.sb_reader.specs.Forms.{form_of};
-ghost use Rattle.sb_script.specs.Replies as meaning;
+ghost use Rattle.sb_script.specs.Options as meaning;
+ghost use Rattle.sb_script.specs.Replies.{sort_of_form};
 ghost use Rattle.sb_sorts.specs.Terms.{sort_in};
 
 use crate::command::symbol_in;
@@ -37,7 +38,7 @@ pub(crate) fn truth_in(value: &Sexpr) -> Option<bool>
 
 /// The sort that a form names, where constants may have it.
 pub(crate) fn sort_of(sort: &Sexpr) -> Option<Sort>
-    ensures { option_map sort_in result ≡ meaning.sort_of_form (form_of sort.now) }
+    ensures { option_map sort_in result ≡ sort_of_form (form_of sort.now) }
 {
     sort_named(symbol_in(sort)?)
 }

@@ -2,7 +2,7 @@
 
 ghost use Rattle.std.specs.Prelude.{◌≡◌, ◌++◌, [], codes, if◌then◌else◌, IfOk};
 ghost use Rattle.sb_script.specs.Names.{name_in_text};
-ghost use Rattle.sb_script.specs.Replies as meaning;
+ghost use Rattle.sb_script.specs.Steps as meaning;
 
 use crate::name::push_name_in_text;
 use sb_reader::Refusal;

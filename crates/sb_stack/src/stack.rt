@@ -6,10 +6,13 @@ ghost use Rattle.sb_reader.specs.Forms.{form_of};
 ghost use Rattle.sb_script.specs.Names.{name_in_text};
 ghost use Rattle.sb_meaning.specs.Terms as terms;
 ghost use Rattle.sb_meaning.specs.Values.{Valuation};
-ghost use Rattle.sb_script.specs.Reading.{Fault, unsupported};
+ghost use Rattle.sb_script.specs.Faults.{Fault, unsupported};
 ghost use Rattle.sb_script.specs.State.{State, start, live, constants_of, fits};
 ghost use Rattle.sb_script.specs.Replies as meaning;
-ghost use Rattle.sb_script.specs.Replies.{step_of, verdict_text, settled};
+ghost use Rattle.sb_script.specs.Steps as steps;
+ghost use Rattle.sb_script.specs.Options as options;
+ghost use Rattle.sb_script.specs.Replies.{step_of};
+ghost use Rattle.sb_script.specs.Verdicts.{verdict_text, settled};
 ghost use Rattle.sb_sorts.specs.Terms.{term_in};
 ghost use Rattle.sb_sorts.specs.Reads.{ReadsAs, has_serials_below};
 ghost use Rattle.sb_stack.specs.Commands.{command_in, forms_in};
@@ -67,6 +70,8 @@ pub enum Step {
 pub struct Stack {
     alloc: Global,
     logic_set: bool,
+    /// A logic was set, or something declared or asserted.
+    begun: bool,
     print_success: bool,
     produce_models: bool,
     scope: Scope,
@@ -86,6 +91,7 @@ impl Model for Stack {
 
     ghost view = { λ s. record {
       logic_set = s.logic_set;
+      begun = s.begun;
       print_success = s.print_success;
       produce_models = s.produce_models;
       scope = s.scope;
@@ -104,6 +110,7 @@ impl Stack {
         Stack {
             alloc,
             logic_set: false,
+            begun: false,
             print_success: true,
             produce_models: false,
             scope: Scope::new(alloc),
@@ -166,7 +173,7 @@ impl Stack {
 
     fn set_logic(&mut self, name: &[u8]) -> Result<Step, AllocError>
         ensures ok { IfOk result
-            (λ step. IsStep (meaning.set_logic name.now (state_of self.old)) step (state_of self.old)
+            (λ step. IsStep (options.set_logic name.now (state_of self.old)) step (state_of self.old)
             (state_of self.new)) }
         ensures err { OnErr result (self.new ≡ self.old) }
     {
@@ -178,12 +185,13 @@ impl Stack {
         }
         let answer = success_line(self.alloc, self.print_success)?;
         self.logic_set = true;
+        self.begun = true;
         Ok(Step::Answer(answer))
     }
 
     fn set_option(&mut self, key: &[u8], value: &Sexpr) -> Result<Step, AllocError>
         ensures ok { IfOk result
-            (λ step. IsStep (meaning.set_option key.now (form_of value.now) (state_of self.old)) step
+            (λ step. IsStep (options.set_option key.now (form_of value.now) (state_of self.old)) step
             (state_of self.old) (state_of self.new)) }
         ensures err { OnErr result (self.new ≡ self.old) }
     {
@@ -200,7 +208,7 @@ impl Stack {
     fn set_print_success(&mut self, value: &Sexpr) -> Result<Step, AllocError>
         ensures ok { IfOk result
             (λ step. IsStep
-            (meaning.with_truth (form_of value.now) (with_print_success (state_of self.old)) (state_of self.old)) step
+            (options.with_truth (form_of value.now) (with_print_success (state_of self.old)) (state_of self.old)) step
             (state_of self.old) (state_of self.new)) }
         ensures err { OnErr result (self.new ≡ self.old) }
     {
@@ -215,7 +223,7 @@ impl Stack {
     fn set_produce_models(&mut self, value: &Sexpr) -> Result<Step, AllocError>
         ensures ok { IfOk result
             (λ step. IsStep
-            (meaning.with_truth (form_of value.now) (with_produce_models (state_of self.old)) (state_of self.old)) step
+            (options.with_truth (form_of value.now) (with_produce_models (state_of self.old)) (state_of self.old)) step
             (state_of self.old) (state_of self.new)) }
         ensures err { OnErr result (self.new ≡ self.old) }
     {
@@ -248,6 +256,7 @@ impl Stack {
         let answer = success_line(self.alloc, self.print_success)?;
         match self.scope.declare(name) {
             Ok(()) => {
+                self.begun = true;
                 self.mode = Mode::Plain;
                 Ok(Step::Answer(answer))
             }
@@ -268,6 +277,7 @@ impl Stack {
         let answer = unsupported_line(self.alloc)?;
         match self.scope.mark(name) {
             Ok(()) => {
+                self.begun = true;
                 self.mode = Mode::Plain;
                 Ok(Step::Answer(answer))
             }
@@ -302,6 +312,7 @@ impl Stack {
         }
         let answer = success_line(self.alloc, self.print_success)?;
         self.assertions.push(Assertion::Term(term))?;
+        self.begun = true;
         self.mode = Mode::Plain;
         Ok(Step::Answer(answer))
     }
@@ -334,22 +345,23 @@ impl Stack {
     /// Leaves a mark in the place of an assertion.
     fn leave_mark(&mut self) -> Result<Step, AllocError>
         ensures ok { IfOk result
-            (λ step. IsStep (meaning.refused_term unsupported (state_of self.old)) step (state_of self.old)
+            (λ step. IsStep (steps.refused_term unsupported (state_of self.old)) step (state_of self.old)
             (state_of self.new)) }
         ensures err { OnErr result (self.new ≡ self.old) }
     {
         let answer = unsupported_line(self.alloc)?;
         self.assertions.push(Assertion::Mark)?;
+        self.begun = true;
         self.mode = Mode::Plain;
         Ok(Step::Answer(answer))
     }
 
     /// The words of the last check, or why there are none.
     fn words(&self) -> Result<&[Word], &'static [u8]>
-        ensures { MatchResult result (λ words. (answer : Valuation → meaning.Step)
+        ensures { MatchResult result (λ words. (answer : Valuation → steps.Step)
             → meaning.with_values (state_of self.now) answer ≡ answer (values_from 0 words.now))
-            (λ message. (answer : Valuation → meaning.Step)
-            → meaning.with_values (state_of self.now) answer ≡ meaning.fails message.now (state_of self.now)) }
+            (λ message. (answer : Valuation → steps.Step)
+            → meaning.with_values (state_of self.now) answer ≡ steps.fails message.now (state_of self.now)) }
     {
         if !self.produce_models {
             return Err(b"models not enabled");
@@ -413,7 +425,7 @@ impl Stack {
 
     fn exit(&self) -> Result<Step, AllocError>
         ensures { IfOk result
-            (λ step. IsStep (meaning.exits (meaning.success (state_of self.now))) step (state_of self.now)
+            (λ step. IsStep (steps.exits (steps.success (state_of self.now))) step (state_of self.now)
             (state_of self.now)) }
     {
         Ok(Step::Exit(success_line(self.alloc, self.print_success)?))
@@ -461,7 +473,7 @@ impl Stack {
 
 /// Answers a command that is left out, and changes nothing.
 fn leave_out(alloc: Global) -> Result<Step, AllocError>
-    ensures { IfOk result (λ step. (s : State) → IsStep (meaning.is_unsupported s) step s s) }
+    ensures { IfOk result (λ step. (s : State) → IsStep (steps.is_unsupported s) step s s) }
 {
     Ok(Step::Answer(unsupported_line(alloc)?))
 }

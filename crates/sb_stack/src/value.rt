@@ -8,6 +8,7 @@ ghost use Rattle.sb_meaning.specs.Values.{value_in};
 ghost use Rattle.sb_meaning.specs.Printed.{printed};
 ghost use Rattle.sb_script.specs.Scopes.{constants_in};
 ghost use Rattle.sb_script.specs.Replies as meaning;
+ghost use Rattle.sb_script.specs.Steps.{line, list_text};
 ghost use Rattle.sb_sorts.specs.Scopes.{names_in};
 ghost use Rattle.sb_stack.specs.Commands.{forms_in};
 ghost use Rattle.sb_stack.specs.Stacked.{values_from};
@@ -242,8 +243,8 @@ pub(crate) fn model_line(
 ) -> Result<Vec<u8>, AllocError>
     ensures { IfOk result
         (λ text. text.items
-        ≡ meaning.line
-        (meaning.list_text (map (meaning.definition_text (values_from 0 words.now)) (map constant_in constants.now)))) }
+        ≡ line
+        (list_text (map (meaning.definition_text (values_from 0 words.now)) (map constant_in constants.now)))) }
 {
     let mut text = Vec::from_slice(alloc, b"(")?;
     for (place, constant) in constants.iter().enumerate() {
@@ -262,8 +263,8 @@ pub(crate) fn values_line(
 ) -> Result<Vec<u8>, AllocError>
     ensures { IfOk result
         (λ text. text.items
-        ≡ meaning.line
-        (meaning.list_text (map (meaning.value_text (values_from 0 words.now)) (map asked_in constants.now)))) }
+        ≡ line
+        (list_text (map (meaning.value_text (values_from 0 words.now)) (map asked_in constants.now)))) }
 {
     let mut text = Vec::from_slice(alloc, b"(")?;
     for (place, constant) in constants.iter().enumerate() {

@@ -1,33 +1,13 @@
 -- A literal stands for one word: what its first character is, and where the rest begins, is determined.
 use Rattle.std.proofs.Common.{◌≡◌, ℕ, ◌+◌, ◌*◌, false, eqb, List, [], ◌∷◌, ◌++◌, length, take, drop, refl, sym, ap, ◌∙◌, subst, inl, inr, Option, Some, None, arith}
 use Rattle.std.proofs.lemmas.List.{take_at, drop_at}
+use Rattle.sb_word.proofs.CallerLemmas.{AreHex, are_hex}
 use Rattle.sb_word.proofs.LiteralLemmas.{head_same, tail_same}
 use Rattle.sb_word.specs.Literals.{hex_value, hex_number_from, IsEscape, StandsForItself, Spells, Literal, StandsForOneWord}
 
 -- two values of one option are equal
 pub same_value : {x y : ℕ} {o : Option ℕ} → o ≡ Some x → o ≡ Some y → x ≡ y
 same_value e f = cc
-
--- each byte is a hexadecimal digit
-abbrev pub AreHex : List ℕ → Type 0
-AreHex [] = Unit {0}
-AreHex (b ∷ bs) = (hex_value b ≡ None → ⊥) × AreHex bs
-
-hex_step : (n b c : ℕ) (bs : List ℕ) (o : Option ℕ) → hex_value b ≡ o → hex_number_from n (b ∷ bs) ≡ Some c
-    → ((m : ℕ) → hex_number_from m bs ≡ Some c → AreHex bs) → AreHex (b ∷ bs)
-unfolding hex_number_from
-hex_step n b c bs None is e more = let none : None ≡ Some c =
-    sym (ap (λ o. elim o as (λ _. Option ℕ) [ None ↦ None | Some v ↦ hex_number_from (16 * n + v) bs ]) is) ∙ e in cc
-hex_step n b c bs (Some d) is e more =
-    let some : hex_number_from (16 * n + d) bs ≡ Some c =
-    sym (ap (λ o. elim o as (λ _. Option ℕ) [ None ↦ None | Some v ↦ hex_number_from (16 * n + v) bs ]) is) ∙ e in
-    (λ none. let both : None ≡ Some d = sym none ∙ is in cc, more (16 * n + d) some)
-
--- what spells a number has only hexadecimal digits
-pub are_hex : (n c : ℕ) (bs : List ℕ) → hex_number_from n bs ≡ Some c → AreHex bs
-are_hex n c [] e = tt
-are_hex n c (b ∷ bs) e =
-    hex_step n b c bs (hex_value b) refl e (λ m h. are_hex m c bs h)
 
 -- braces are no hexadecimal digits
 open_brace : hex_value 123 ≡ None

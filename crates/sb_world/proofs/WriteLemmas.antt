@@ -4,7 +4,17 @@ use Rattle.std.proofs.Math.Seq.{take-add}
 use Rattle.std.proofs.lemmas.List.{drop-drop}
 use Rattle.sb_world.specs.declared.OutPort.{OutPort}
 use Rattle.sb_world.specs.Outside.{Outside, write_at}
-use Rattle.sb_world.proofs.CallerLemmas.{write_at-append}
+use Rattle.sb_world.specs.Moved.{moved_by, writing}
+use Rattle.sb_world.proofs.CallerLemmas.{moved_by-both, write_at-moves, writing-append}
+
+-- one piece after another is both in one
+write_at-append : (port : OutPort) (a b : List ℕ) (o : Outside)
+    → write_at port b (write_at port a o) ≡ write_at port (a ++ b) o
+write_at-append port a b o =
+    write_at-moves port b (write_at port a o)
+    ∙ (ap (moved_by (writing (port, b))) (write_at-moves port a o)
+    ∙ (moved_by-both (writing (port, a)) (writing (port, b)) o
+    ∙ (ap (λ m. moved_by m o) (writing-append port a b) ∙ sym (write_at-moves port (a ++ b) o))))
 
 -- rest is the back of the bytes, and what is before it is out
 pub record Sofar (port : OutPort) (bytes rest : List ℕ) (start now : Outside) (faults_start faults_now : ℕ) : Type 0

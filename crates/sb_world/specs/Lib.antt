@@ -1,4 +1,5 @@
 pub mod Outside
+pub mod Moved
 pub mod Memory
 pub mod Ports
 pub mod Sources

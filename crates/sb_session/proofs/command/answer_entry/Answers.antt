@@ -1,7 +1,7 @@
 use Rattle.std.proofs.Common.{List, ℕ, true, false, sym, subst}
 use Rattle.std.proofs.lemmas.Result.{err_from_is_err_and}
 use Rattle.sb_stack.specs.Stacked.{state_of}
-use Rattle.sb_stack.specs.Steps.{entry_of, verdict_in}
+use Rattle.sb_stack.specs.Steps.{entry_of}
 use Rattle.sb_script.specs.Replies.{step_of}
 use Rattle.sb_session.proofs.CommandLemmas.{Replied, by_answer, by_check, by_exit, whole_reply, cut_reply}
 use Rattle.sb_session.proofs.command.answer_entry.Goals as goal
@@ -43,7 +43,7 @@ returns-in_err-write_all-in-Check-clause-err g c =
     rw p.1
     (cut_reply entry false c.settle.result.now s (state_of c.settle.new.self) (g.W.World.outside c.args.world.now)
     (g.W.World.outside c.write_all-in-Check.new.world)
-    (by_check (step_of entry s) (verdict_in c.in_ok-verdict-in-Check.verdict) c.settle.result.now s
+    (by_check (step_of entry s) c.in_ok-verdict-in-Check.verdict c.settle.result.now s
     (state_of c.apply.new.self) (state_of c.settle.new.self)
     (rw c.in-Check.is at c.in_ok-text.ensures.ok) c.in_ok-verdict-in-Check.ensures c.settle.ensures.reply
     c.settle.ensures.state)
@@ -77,7 +77,7 @@ returns-in_ok-write_all-in-Check-clause-ok g c =
     let s = state_of c.args.stack.now in
     whole_reply entry false c.settle.result.now s (state_of c.settle.new.self) (g.W.World.outside c.args.world.now)
     (g.W.World.outside c.write_all-in-Check.new.world)
-    (by_check (step_of entry s) (verdict_in c.in_ok-verdict-in-Check.verdict) c.settle.result.now s
+    (by_check (step_of entry s) c.in_ok-verdict-in-Check.verdict c.settle.result.now s
     (state_of c.apply.new.self) (state_of c.settle.new.self)
     (rw c.in-Check.is at c.in_ok-text.ensures.ok) c.in_ok-verdict-in-Check.ensures c.settle.ensures.reply
     c.settle.ensures.state)

@@ -1,22 +1,22 @@
 -- so many bytes are read, all whole entries in them are answered, and nothing else was done
 use Rattle.std.proofs.Common.{◌≡◌, ◌≤◌, ◌-◌, ℕ, false, List, length}
 use Rattle.sb_world.specs.Outside.{Outside}
-use Rattle.sb_session.specs.Solve.{input_limit, opened}
+use Rattle.sb_session.specs.Solve.{usual, opened}
 use Rattle.sb_session.specs.Underway.{Underway}
 use Rattle.sb_session.proofs.solve.answer_script.Given as goal
 
 abbrev pub invariant-loop-count : goal.invariant-loop-count
 invariant-loop-count g l =
     record {
-      within : l.count ≤ input_limit;
+      within : l.count ≤ usual.limit;
       goes_on : l.feed.1 ≡ false;
       session_goes_on : l.session.ended ≡ false;
       faults : g.W.World.faults l.world ≡ g.W.World.faults l.fn.world;
       underway :
-          (old : Outside) → g.W.World.outside l.fn.world ≡ opened old
+          (old : Outside) → g.W.World.outside l.fn.world ≡ opened usual old
           → (bytes : List ℕ) × (length bytes ≡ l.count)
-          × Underway old bytes l.feed l.session (g.W.World.outside l.world);
+          × Underway usual old bytes l.feed l.session (g.W.World.outside l.world);
     }
 
 abbrev pub decreases-loop-count : goal.decreases-loop-count
-decreases-loop-count g l = input_limit - l.count
+decreases-loop-count g l = usual.limit - l.count

@@ -1,6 +1,7 @@
 use Rattle.std.proofs.Common.{sym, ap, subst, ◌∙◌}
 use Rattle.sb_reader.specs.Forms.{form_of, forms_in}
-use Rattle.sb_script.specs.Reading.{read_head, read_list_head}
+use Rattle.sb_script.specs.Heads.{read_head}
+use Rattle.sb_script.specs.Reading.{read_list_head}
 use Rattle.sb_sorts.specs.Scopes.{names_in}
 use Rattle.sb_sorts.specs.Heads.{beginning_in, some_beginning, with_arguments, Gives}
 use Rattle.sb_sorts.proofs.Shapes.{list_form}

@@ -1,7 +1,8 @@
 use Rattle.std.proofs.Common.{Ok, ◌+◌, ◌-◌, length, take, drop, sym, ap, subst, ◌∙◌, arith}
 use Rattle.std.proofs.lemmas.Result.{err_from_is_err_and}
 use Rattle.sb_reader.specs.Forms.{form_of, forms_in}
-use Rattle.sb_script.specs.Reading.{read, read_list, applied_to}
+use Rattle.sb_script.specs.Reading.{read, read_list}
+use Rattle.sb_script.specs.Heads.{applied_to}
 use Rattle.sb_sorts.specs.Scopes.{names_in}
 use Rattle.sb_sorts.specs.Terms.{term_in}
 use Rattle.sb_sorts.specs.Heads.{head_in, terms_in, beginning_in, beginning_of, Gives}

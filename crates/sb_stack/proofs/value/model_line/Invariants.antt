@@ -1,5 +1,6 @@
 use Rattle.std.proofs.Common.{◌≡◌, ◌∷◌, map, take}
-use Rattle.sb_script.specs.Replies.{definition_text, spaced}
+use Rattle.sb_script.specs.Replies.{definition_text}
+use Rattle.sb_script.specs.Steps.{spaced}
 use Rattle.sb_stack.specs.Stacked.{values_from}
 use Rattle.sb_stack.specs.Values.{constant_in}
 use Rattle.sb_stack.proofs.value.model_line.Given as goal

@@ -1,5 +1,6 @@
 use Rattle.std.proofs.Common.{◌≡◌, ◌∷◌, map, take}
-use Rattle.sb_script.specs.Replies.{value_text, spaced}
+use Rattle.sb_script.specs.Replies.{value_text}
+use Rattle.sb_script.specs.Steps.{spaced}
 use Rattle.sb_stack.specs.Stacked.{values_from}
 use Rattle.sb_stack.specs.Values.{asked_in}
 use Rattle.sb_stack.proofs.value.values_line.Given as goal

@@ -28,7 +28,7 @@ returns-then-half-run-clause-members t c =
     (λ whole e. halves rs c.args.ids.now (take c.in_ok-run.run' c.args.ids.now) c.in_ok-right.right.items
     c.in_ok-run.run' (regexes_at rs whole.items) (λ r. refl)
     (rw (one, rest_whole c.in_ok-run.run' c.args.ids.now) at c.in_ok-right.ensures.members) (rw
-        (two, one, c.deref.ensures.value) at e)) c.merge.ensures.members
+    (two, one, c.deref.ensures.value) at e)) c.merge.ensures.members
 
 pub returns-clause-members : goal.returns-clause-members
 returns-clause-members t c =

@@ -41,9 +41,12 @@ and_of-requires-clause-normal c =
     let order = rest_sorted c.order_tells_apart.ensures old new c.normal_regexes_each_once.ensures.distinct ext _ _
     c.in_ok-anything.ensures.ok ms c.others.result.items c.in_ok-rising.rising.items c.deref-3.result.now
     c.requires.numbers there c.others.ensures (rw
-        (c.in_order.ensures.same, c.deref-2.ensures.value) at c.in_ok-rising.ensures.value) c.deref-3.ensures.value in
-    rw (c.in_order.ensures.same, intersection_is_rest (regexes_at old ms)
-        (regexes_at new c.deref-3.result.now) not_found order)
+    (c.in_order.ensures.same, c.deref-2.ensures.value) at c.in_ok-rising.ensures.value) c.deref-3.ensures.value in
+    rw (
+      c.in_order.ensures.same,
+      intersection_is_rest (regexes_at old ms)
+          (regexes_at new c.deref-3.result.now) not_found order,
+    )
     (c.requires.normal)
 
 pub returns-clause-ok : goal.returns-clause-ok
@@ -60,6 +63,6 @@ returns-clause-ok c =
     let order = rest_sorted c.order_tells_apart.ensures old new c.normal_regexes_each_once.ensures.distinct ext _ _
     c.in_ok-anything.ensures.ok ms c.others.result.items c.in_ok-rising.rising.items c.deref-3.result.now
     c.requires.numbers there c.others.ensures (rw
-        (c.in_order.ensures.same, c.deref-2.ensures.value) at c.in_ok-rising.ensures.value) c.deref-3.ensures.value in
+    (c.in_order.ensures.same, c.deref-2.ensures.value) at c.in_ok-rising.ensures.value) c.deref-3.ensures.value in
     rw (← intersection_is_rest (regexes_at old ms) (regexes_at new c.deref-3.result.now) not_found order)
     (rw (c.in_order.ensures.same) at c.and_of.ensures.ok)

@@ -13,7 +13,7 @@ loop-i-preserved-in-Less c =
     let whole = regexes_at rs c.args.left.now ++ regexes_at rs c.args.right.now in
     let m = take_left rs c.loop-i.all.items c.push.new.self.items c.args.left.now c.args.right.now c.loop-i.i c.loop-i.j
     c.index-left-i.result c.index-right-j.result whole c.loop-i-test.true c.if-j-right.true c.index-left-i.is
-        c.index-right-j.is
+    c.index-right-j.is
     (c.loop-i.invariant.4, c.loop-i.invariant.5, c.loop-i.invariant.6) c.order_is_total.ensures
     c.in_ok-push-in-Less.ensures.items (sym c.in_ok-place.ensures.value ∙ c.in-Less.is) in
     rw (c.place.ensures.same) (
@@ -35,7 +35,7 @@ loop-i-preserved-in-Equal c =
     let whole = regexes_at rs c.args.left.now ++ regexes_at rs c.args.right.now in
     let m = skip_left rs c.loop-i.all.items c.loop-i.all.items c.args.left.now c.args.right.now c.loop-i.i c.loop-i.j
     c.index-left-i.result c.index-right-j.result whole c.loop-i-test.true c.if-j-right.true c.index-left-i.is
-        c.index-right-j.is
+    c.index-right-j.is
     (c.loop-i.invariant.4, c.loop-i.invariant.5, c.loop-i.invariant.6) c.order_tells_apart.ensures
     (sym c.in_ok-place.ensures.value ∙ c.in-Equal.is) in
     rw (c.place.ensures.same) (
@@ -55,7 +55,7 @@ loop-i-preserved c =
     let m = take_right rs c.loop-i.all.items c.push-in-Greater.new.self.items c.args.left.now c.args.right.now
     c.loop-i.i c.loop-i.j
     c.index-left-i.result c.index-right-j.result whole c.loop-i-test.true c.if-j-right.true c.index-left-i.is
-        c.index-right-j.is
+    c.index-right-j.is
     (c.loop-i.invariant.4, c.loop-i.invariant.5, c.loop-i.invariant.6) c.order_is_total.ensures
     c.in_ok-push-in-Greater.ensures.items (sym c.in_ok-place.ensures.value ∙ c.in-Greater.is) in
     rw (c.place.ensures.same) (

@@ -39,8 +39,11 @@ alt_of-requires-clause-normal c =
     (names_kept c.none.new.self c.anything.new.self _ _ c.in_ok-anything.ensures.extends c.in_ok-none.ensures.ok) ms
     c.others.result.items c.in_ok-rising.rising.items c.deref-3.result.now c.requires.numbers there c.others.ensures
     (rw (c.in_order.ensures.same, c.deref-2.ensures.value) at c.in_ok-rising.ensures.value) c.deref-3.ensures.value in
-    rw (c.in_order.ensures.same, union_is_rest (regexes_at old ms)
-        (regexes_at new c.deref-3.result.now) not_found order) (c.requires.normal)
+    rw (
+      c.in_order.ensures.same,
+      union_is_rest (regexes_at old ms)
+          (regexes_at new c.deref-3.result.now) not_found order,
+    ) (c.requires.normal)
 
 pub returns-clause-ok : goal.returns-clause-ok
 returns-clause-ok c =
@@ -57,4 +60,4 @@ returns-clause-ok c =
     c.others.result.items c.in_ok-rising.rising.items c.deref-3.result.now c.requires.numbers there c.others.ensures
     (rw (c.in_order.ensures.same, c.deref-2.ensures.value) at c.in_ok-rising.ensures.value) c.deref-3.ensures.value in
     rw (← union_is_rest (regexes_at old ms) (regexes_at new c.deref-3.result.now) not_found order) (rw
-        (c.in_order.ensures.same) at c.alt_of.ensures.ok)
+    (c.in_order.ensures.same) at c.alt_of.ensures.ok)

@@ -13,6 +13,7 @@ pub returns-in-Ok-clause-ok : goal.returns-in-Ok-clause-ok
 returns-in-Ok-clause-ok c =
     let kept : Stacked = record {
       logic_set = c.self.inside.logic_set;
+      begun = c.self.inside.begun;
       print_success = c.self.inside.print_success;
       produce_models = c.self.inside.produce_models;
       scope = c.self.inside.scope;

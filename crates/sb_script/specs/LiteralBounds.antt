@@ -2,11 +2,10 @@
 -- length of a String constant, the other a numeral or its negation. They stand in an assertion, or in a conjunct of
 -- one.
 use Rattle.std.specs.Prelude.{ℤ, pos, ◌+ℤ◌, neg_ℤ, List, [], ◌∷◌, ◌++◌, Option, Some, None}
-use Rattle.sb_meaning.specs.Terms.{integer, text, Term, Terms, constant, numeral, apply, no_terms, with_term}
+use Rattle.sb_meaning.specs.Terms.{integer, text, Term, Terms, constant, numeral, apply, no_terms, with_term, terms_in}
 use Rattle.sb_meaning.specs.Terms as symbol
-use Rattle.sb_rulebook.specs.Atoms.{Variable, int_constant, length_of}
-use Rattle.sb_rulebook.specs.Bounds.{Bound, at_least, at_most}
-use Rattle.sb_rulebook.specs.Parts.{terms_in}
+use Rattle.sb_script.specs.Sums.{Variable, int_constant, length_of}
+use Rattle.sb_script.specs.Bounds.{Bound, at_least, at_most}
 
 abbrev pub number_in : Term → Option ℤ
 number_in (numeral n) = Some (pos n)

@@ -1,6 +1,6 @@
 -- Bounds of variables, and of linear sums by them.
 use Rattle.std.specs.Prelude.{ℤ, pos, ◌+ℤ◌, ◌*ℤ◌, int_lt, int_le, if◌then◌else◌, List, [], ◌∷◌, Option, Some, None, option_map, option_and_then}
-use Rattle.sb_rulebook.specs.Atoms.{Variable, int_constant, length_of, Summand, is_same_variable}
+use Rattle.sb_script.specs.Sums.{Variable, int_constant, length_of, Summand, is_same_variable}
 
 pub data Bound : Type 0 where
   -- the variable is at least the number, and at most

@@ -1,10 +1,39 @@
 -- Linear sums of Int terms (SMT-LIB 2.6, theory Ints), collected: each variable once, by ascending serial, with a
 -- factor that is not 0.
-use Rattle.std.specs.Prelude.{ℤ, pos, ◌+ℤ◌, ◌*ℤ◌, neg_ℤ, Bool, ◌&&◌, nat_le, if◌then◌else◌, List, [], ◌∷◌, length, Option, Some, None}
+use Rattle.std.specs.Prelude.{ℕ, ℤ, pos, ◌+ℤ◌, ◌*ℤ◌, neg_ℤ, Bool, true, false, ◌&&◌, ◌==◌, nat_le, int_le, if◌then◌else◌, List, [], ◌∷◌, length, Option, Some, None, option_map, option_and_then}
 use Rattle.std.specs.List.{list_all}
 use Rattle.std.specs.Ordering.{nat_cmp, int_eq}
 use Rattle.std.specs.declared.cmp.Ordering.TheVariants.{Less, Equal, Greater}
-use Rattle.sb_rulebook.specs.Atoms.{Variable, Summand, length_of, Piece, constant_piece, word_piece, serial_of, size_limit, is_within}
+use Rattle.sb_meaning.specs.Terms.{integer, Term, Terms, constant, numeral, apply, no_terms, with_term}
+use Rattle.sb_meaning.specs.Terms as symbol
+use Rattle.sb_script.specs.Pieces.{Piece, constant_piece, word_piece, pieces_of, is_ground, are_ground}
+
+-- what a bound speaks of
+pub data Variable : Type 0 where
+  -- an Int constant, by its serial
+  int_constant : ℕ → Variable
+  -- the length of a String constant, by its serial
+  length_of : ℕ → Variable
+
+-- a number times a variable
+abbrev pub Summand : Type 0
+Summand = ℤ × Variable
+
+abbrev pub serial_of : Variable → ℕ
+serial_of (int_constant serial) = serial
+serial_of (length_of serial) = serial
+
+abbrev pub size_limit : ℤ
+size_limit = pos 0x7fffffff
+
+-- the number is at most so far from 0
+abbrev pub is_within : ℤ → ℤ → Bool
+is_within limit n = int_le n limit && int_le (neg_ℤ limit) n
+
+abbrev pub is_same_variable : Variable → Variable → Bool
+is_same_variable (int_constant s) (int_constant t) = s == t
+is_same_variable (length_of s) (length_of t) = s == t
+is_same_variable _ _ = false
 
 pub record Sum : Type 0 where
   pub summands : List Summand
@@ -81,3 +110,29 @@ is_small s = is_within size_limit s.constant
 -- the sum, where it is within the limits
 abbrev pub if_small : Sum → Option Sum
 if_small s = if is_small s then Some s else None
+
+-- Int terms.
+
+-- at most one of the terms is not ground
+abbrev pub is_linear_product : Terms → Bool
+is_linear_product no_terms = true
+is_linear_product (with_term term terms) = if is_ground term then is_linear_product terms else are_ground terms
+
+abbrev pub length_of_term : Term → Option Sum
+length_of_term t = option_map length_sum (pieces_of t)
+
+abbrev mutual
+  -- the sum of an Int term; its parts are within the limits too
+  pub sum_of : Term → Option Sum
+  sum_of (constant serial integer) = Some (variable_sum (int_constant serial))
+  sum_of (numeral n) = if_small (number_sum (pos n))
+  sum_of (apply symbol.str_len (with_term t no_terms)) = option_and_then if_small (length_of_term t)
+  sum_of (apply symbol.plus terms) = option_and_then (λ ss. if_small (total ss)) (sums_of terms)
+  sum_of (apply symbol.minus terms) = option_and_then (λ ss. if_small (difference ss)) (sums_of terms)
+  sum_of (apply symbol.times terms) =
+      if is_linear_product terms then option_and_then (λ ss. if_small (product ss)) (sums_of terms) else None
+  sum_of _ = None
+
+  pub sums_of : Terms → Option (List Sum)
+  sums_of no_terms = Some []
+  sums_of (with_term term terms) = option_and_then (λ s. option_map (λ ss. s ∷ ss) (sums_of terms)) (sum_of term)

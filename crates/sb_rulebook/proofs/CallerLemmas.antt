@@ -1,0 +1,4 @@
+-- What a caller cites of the rules of proofs: the tests of equals, what an accepted result comes from, and tables.
+pub use Rattle.sb_rulebook.proofs.SameFacts.{FindsEquals, same_lists, same_regex, same_number, same_word, same_piece, same_pieces, same_variable, same_summand, same_atom, FindsItself, regex_itself, atom_itself}
+pub use Rattle.sb_rulebook.proofs.Accepting.{some_of, if_so, if_not, same_ok}
+pub use Rattle.sb_rulebook.proofs.KeptFacts.{table-push, NamesKept, names-kept}

@@ -1,0 +1,5 @@
+use Rattle.sb_rulebook.proofs.NumberFacts.{regex_is_dead_by_number}
+use Rattle.sb_rulebook.proofs.laws.regex_is_dead_by_number.Goals as goal
+
+pub returns : goal.returns
+returns c = regex_is_dead_by_number c.order_tells_apart.ensures

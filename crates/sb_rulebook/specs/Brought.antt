@@ -1,0 +1,42 @@
+-- What of proofs is brought so far. A line of a kind, atom or rule that is not, or of such a form of one, is refused by
+-- rule. Which is which stands here alone.
+use Rattle.std.specs.Prelude.{ℕ, Bool, true, false, not, nat_le, List, [], ◌∷◌}
+use Rattle.std.specs.List.{list_all}
+use Rattle.sb_lit.specs.declared.clause.Lit.{Lit}
+use Rattle.sb_script.specs.Pieces.{constant_piece}
+use Rattle.sb_rulebook.specs.Atoms.{AtomOver, in_atom}
+use Rattle.sb_rulebook.specs.Lines.{Line, regex_line, atom_line, rule_line, Node, none_node, eps_node, set_node, cat_node, alt_node, and_node, star_node, Rule, empty}
+
+-- formats are numbered from 1
+abbrev pub newest_format : ℕ
+newest_format = 1
+
+-- a format that says on which assertions an `unsat` rests
+abbrev pub has_rests : ℕ → Bool
+has_rests format = nat_le 3 format
+
+abbrev pub is_brought_node : Node → Bool
+is_brought_node none_node = true
+is_brought_node eps_node = true
+is_brought_node (set_node rs) = true
+is_brought_node (cat_node a b) = true
+is_brought_node (alt_node ids) = true
+is_brought_node (and_node ids) = true
+is_brought_node (star_node a) = true
+is_brought_node _ = false
+
+-- memberships of one constant
+abbrev pub is_brought_atom : AtomOver ℕ → Bool
+is_brought_atom (in_atom (constant_piece serial ∷ []) r) = true
+is_brought_atom _ = false
+
+-- by rule empty, of negative literals
+abbrev pub is_brought_rule : Rule → List Lit → Bool
+is_brought_rule empty clause = list_all (λ l. not l.positive) clause
+is_brought_rule _ clause = false
+
+abbrev pub is_brought : Line → Bool
+is_brought (regex_line node) = is_brought_node node
+is_brought (atom_line atom) = is_brought_atom atom
+is_brought (rule_line rule clause) = is_brought_rule rule clause
+is_brought _ = true

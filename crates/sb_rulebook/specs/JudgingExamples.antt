@@ -1,0 +1,195 @@
+-- Computed examples of proofs and scripts so far, of levels that are left between checks, and of lines of which the
+-- kind, atom, rule or form is not brought.
+use Rattle.std.specs.Prelude.{◌≡◌, ℕ, true, List, [], ◌∷◌, ◌++◌, codes, take, None, refl}
+use Rattle.std.specs.List.{repeat}
+use Rattle.sb_script.specs.State as state
+use Rattle.sb_script.specs.Steps.{leaves, above, all}
+use Rattle.sb_rulebook.specs.Refusals.{bad_word, misplaced, unknown_id, repeated, rule_broken, wrong_verdict}
+use Rattle.sb_rulebook.specs.Lines.{said_unsat, said_unknown}
+use Rattle.sb_rulebook.specs.Verdicts.{Question}
+use Rattle.sb_rulebook.specs.Reading.{LineText, texts_of}
+use Rattle.sb_rulebook.specs.LineLaws.{bytes_of}
+use Rattle.sb_rulebook.specs.Judging.{Event, leaves_above, leaves_all, asks, Progress, beginning, met, takes, along, along_all, Outcome, accepted, refused, goes_on, outcome_of, judged}
+use Rattle.sb_rulebook.specs.Accepted.{events_of}
+use Rattle.sb_rulebook.specs.ProofExamples.{computing, question_with, question, proof, judged_lines, changed}
+
+-- A proof so far, along a script so far.
+
+abbrev progress_after : ℕ → Progress
+progress_after n = (along beginning (asks question ∷ []) (texts_of (bytes_of (take n proof)))).0
+
+-- what has become before these lines, and behind each of them
+abbrev outcomes : Progress → List LineText → List Outcome
+outcomes p [] = outcome_of p ∷ []
+outcomes p (text ∷ texts) = outcome_of p ∷ outcomes (takes text p) texts
+
+each_line_goes_on : outcomes (met (asks question) beginning) (texts_of (bytes_of (take 17 proof)))
+    ≡ repeat 18 (goes_on [] ∷ [])
+unfolding computing
+each_line_goes_on = refl
+
+before_the_verdict : outcome_of (progress_after 17) ≡ goes_on []
+unfolding computing
+before_the_verdict = refl
+
+behind_the_verdict : outcome_of (progress_after 18) ≡ goes_on (said_unsat 3 None ∷ [])
+unfolding computing
+behind_the_verdict = refl
+
+-- no line is due behind the verdict, until the script goes on
+a_line_that_is_left : (along beginning (asks question ∷ []) (texts_of (bytes_of proof))).1 ≡ texts_of (codes "end\n")
+unfolding computing
+a_line_that_is_left = refl
+
+no_line_so_far : outcome_of (along_all beginning [] []) ≡ goes_on []
+no_line_so_far = refl
+
+-- where no line is due none is taken, and none is refused
+no_line_is_due : takes (codes "end", true) beginning ≡ beginning
+unfolding computing
+no_line_is_due = refl
+
+no_bad_word_is_due : takes (codes "begin", true) beginning ≡ beginning
+unfolding computing
+no_bad_word_is_due = refl
+
+-- the places of the assertions on which clauses rest: the last one on both
+rests : (progress_after 17).kept.rests ≡ (0 ∷ []) ∷ (1 ∷ []) ∷ [] ∷ (0 ∷ 1 ∷ []) ∷ []
+unfolding computing
+rests = refl
+
+-- Two checks with the same assertions. Between them clauses are left; regexes, atoms and numbers stay.
+
+left_at_once : events_of (leaves all [] state.start) state.start ≡ leaves_all ∷ []
+left_at_once = refl
+
+left_above : events_of (leaves (above 2) [] state.start) state.start ≡ leaves_above 2 ∷ []
+left_above = refl
+
+abbrev judged_twice_with : Question → Event → List (List ℕ) → Outcome
+judged_twice_with q between lines =
+    judged (asks q ∷ between ∷ asks q ∷ []) (bytes_of (take 18 proof ++ (lines ++ codes "end" ∷ [])))
+
+abbrev judged_twice : Event → List (List ℕ) → Outcome
+judged_twice = judged_twice_with question
+
+clauses_anew : judged_twice leaves_all
+    (codes "c assert 0 +0"
+    ∷ codes "c assert 1 +1"
+    ∷ codes "c empty -0 -1"
+    ∷ codes "c learn : 4 5 6"
+    ∷ codes "v unsat 7" ∷ []) ≡ accepted (said_unsat 3 None ∷ said_unsat 7 None ∷ [])
+unfolding computing
+clauses_anew = refl
+
+a_hint_from_before : judged_twice leaves_all
+    (codes "c assert 0 +0"
+    ∷ codes "c assert 1 +1"
+    ∷ codes "c learn : 4 5 2"
+    ∷ codes "v unsat 6" ∷ []) ≡ refused (said_unsat 3 None ∷ []) 21 unknown_id
+unfolding computing
+a_hint_from_before = refl
+
+a_verdict_by_a_clause_from_before : judged_twice leaves_all (codes "v unsat 3" ∷ [])
+    ≡ refused (said_unsat 3 None ∷ []) 19 unknown_id
+unfolding computing
+a_verdict_by_a_clause_from_before = refl
+
+an_atom_from_before : judged_twice leaves_all (codes "a in v0 : 1" ∷ []) ≡ refused (said_unsat 3 None ∷ []) 19 repeated
+unfolding computing
+an_atom_from_before = refl
+
+-- clauses of level 0 stay where levels above it are left
+clauses_that_stay : judged_twice (leaves_above 0) (codes "v unsat 3" ∷ [])
+    ≡ accepted (said_unsat 3 None ∷ said_unsat 3 None ∷ [])
+unfolding computing
+clauses_that_stay = refl
+
+-- what is learned from a clause of a level that is left is left with it
+a_clause_of_a_level_that_is_left : judged_twice_with (question_with 1 0) (leaves_above 0) (codes "v unsat 3" ∷ [])
+    ≡ refused (said_unsat 3 None ∷ []) 19 unknown_id
+unfolding computing
+a_clause_of_a_level_that_is_left = refl
+
+clauses_of_a_level_that_stays : judged_twice_with (question_with 1 0) (leaves_above 1) (codes "v unsat 3" ∷ [])
+    ≡ accepted (said_unsat 3 None ∷ said_unsat 3 None ∷ [])
+unfolding computing
+clauses_of_a_level_that_stays = refl
+
+-- four lines count in the first check, and two in the second
+each_check_counts_anew : judged_twice_with (question_with 0 4) leaves_all
+    (codes "c assert 0 +0"
+    ∷ codes "c assert 1 +1"
+    ∷ codes "c empty -0 -1"
+    ∷ codes "c learn : 4 5 6"
+    ∷ codes "v unsat 7" ∷ []) ≡ accepted (said_unsat 3 None ∷ said_unsat 7 None ∷ [])
+unfolding computing
+each_check_counts_anew = refl
+
+past_the_limit : judged_twice_with (question_with 0 3) leaves_all [] ≡ refused [] 17 wrong_verdict
+unfolding computing
+past_the_limit = refl
+
+the_limit_is_reached : judged (asks (question_with 0 3) ∷ [])
+    (bytes_of (take 16 proof ++ (codes "v unknown 3" ∷ codes "end" ∷ []))) ≡ accepted (said_unknown 3 ∷ [])
+unfolding computing
+the_limit_is_reached = refl
+
+the_limit_is_not_reached : judged (asks (question_with 0 4) ∷ [])
+    (bytes_of (take 16 proof ++ (codes "v unknown 4" ∷ codes "end" ∷ []))) ≡ refused [] 17 wrong_verdict
+unfolding computing
+the_limit_is_not_reached = refl
+
+-- What is not brought is refused by rule, unless a number names nothing.
+
+a_kind : judged_lines (changed 3 (codes "r not 0")) ≡ refused [] 3 rule_broken
+unfolding computing
+a_kind = refl
+
+a_kind_of_no_regex : judged_lines (changed 3 (codes "r not 1")) ≡ refused [] 3 unknown_id
+unfolding computing
+a_kind_of_no_regex = refl
+
+an_atom : judged_lines (changed 9 (codes "a le l0 5")) ≡ refused [] 9 rule_broken
+unfolding computing
+an_atom = refl
+
+an_atom_of_no_constant : judged_lines (changed 9 (codes "a le l1 5")) ≡ refused [] 9 unknown_id
+unfolding computing
+an_atom_of_no_constant = refl
+
+many_pieces : judged_lines (changed 9 (codes "a in v0 w61 v0 : 1")) ≡ refused [] 9 rule_broken
+unfolding computing
+many_pieces = refl
+
+one_piece_of_no_constant : judged_lines (changed 9 (codes "a in v0 w61 v1 : 1")) ≡ refused [] 9 unknown_id
+unfolding computing
+one_piece_of_no_constant = refl
+
+many_pieces_in_no_regex : judged_lines (changed 9 (codes "a in v0 w61 : 7")) ≡ refused [] 9 unknown_id
+unfolding computing
+many_pieces_in_no_regex = refl
+
+a_rule : judged_lines (changed 14 (codes "c gate +0 -0")) ≡ refused [] 14 rule_broken
+unfolding computing
+a_rule = refl
+
+a_rule_over_no_atom : judged_lines (changed 14 (codes "c gate +2 -2")) ≡ refused [] 14 unknown_id
+unfolding computing
+a_rule_over_no_atom = refl
+
+a_positive_literal : judged_lines (changed 16 (codes "c empty +0 -1")) ≡ refused [] 16 rule_broken
+unfolding computing
+a_positive_literal = refl
+
+a_positive_literal_of_no_atom : judged_lines (changed 16 (codes "c empty +2 -1")) ≡ refused [] 16 unknown_id
+unfolding computing
+a_positive_literal_of_no_atom = refl
+
+another_format : judged_lines (changed 1 (codes "strproof 2")) ≡ refused [] 1 misplaced
+unfolding computing
+another_format = refl
+
+places : judged_lines (changed 18 (codes "v unsat 3 : 0 1")) ≡ refused [] 18 bad_word
+unfolding computing
+places = refl

@@ -1,0 +1,8 @@
+pub mod CallerLemmas
+mod EscapeFacts
+mod LiteralFacts
+mod ReadingFacts
+mod SortedTerms
+mod SortedSteps
+mod OrderedSums
+mod OppositeSums

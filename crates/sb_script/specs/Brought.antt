@@ -1,0 +1,81 @@
+-- What is read and decided so far. All else is answered `unsupported`, as what is left out for good is. Which is which
+-- stands here alone.
+use Rattle.std.specs.Prelude.{Bool, true, false, ◌&&◌, List, [], ◌∷◌, codes}
+use Rattle.sb_meaning.specs.Terms.{Sort, Symbol, Term, Terms, text, constant, word, apply, no_terms, with_term}
+use Rattle.sb_meaning.specs.Terms as symbol
+use Rattle.sb_script.specs.Names.{Name, is_among}
+
+pub data Feature : Type 0 where
+  a_symbol : Symbol → Feature
+  -- a sort that constants may have
+  a_sort : Sort → Feature
+  a_command : Name → Feature
+  an_option : Name → Feature
+  -- escapes in literals, and (_ char #xH)
+  escapes : Feature
+  -- numerals as terms
+  numerals : Feature
+  lets : Feature
+  -- the declaration of a function without arguments
+  functions : Feature
+  definitions : Feature
+  -- a check under this live assertion
+  a_check_of : Term → Feature
+  -- the proof of a check, so that the limits on sizes count, past which there is none
+  proofs : Feature
+
+abbrev pub brought_commands : List Name
+brought_commands =
+    codes "assert" ∷ codes "check-sat" ∷ codes "declare-const" ∷ codes "declare-fun" ∷ codes "define-fun"
+    ∷ codes "exit" ∷ codes "get-model" ∷ codes "get-value" ∷ codes "set-logic" ∷ codes "set-option" ∷ []
+
+abbrev pub brought_options : List Name
+brought_options = codes ":print-success" ∷ codes ":produce-models" ∷ []
+
+abbrev pub is_brought_symbol : Symbol → Bool
+is_brought_symbol symbol.str_in_re = true
+is_brought_symbol symbol.str_to_re = true
+is_brought_symbol symbol.re_range = true
+is_brought_symbol symbol.re_concat = true
+is_brought_symbol symbol.re_union = true
+is_brought_symbol symbol.re_star = true
+is_brought_symbol symbol.re_plus = true
+is_brought_symbol _ = false
+
+abbrev pub is_brought_sort : Sort → Bool
+is_brought_sort text = true
+is_brought_sort _ = false
+
+-- The term is a regular expression over literals: a word, a range, or made of such by concatenation, union and
+-- repetition.
+abbrev mutual
+  pub is_regex : Term → Bool
+  is_regex (apply symbol.str_to_re (with_term (word s) no_terms)) = true
+  is_regex (apply symbol.re_range (with_term (word s) (with_term (word t) no_terms))) = true
+  is_regex (apply symbol.re_concat (with_term R Rs)) = is_regex R && are_regexes Rs
+  is_regex (apply symbol.re_union (with_term R Rs)) = is_regex R && are_regexes Rs
+  is_regex (apply symbol.re_star (with_term R no_terms)) = is_regex R
+  is_regex (apply symbol.re_plus (with_term R no_terms)) = is_regex R
+  is_regex _ = false
+
+  pub are_regexes : Terms → Bool
+  are_regexes no_terms = true
+  are_regexes (with_term R Rs) = is_regex R && are_regexes Rs
+
+-- the term is the membership of a constant in such a regular expression
+abbrev pub is_membership : Term → Bool
+is_membership (apply symbol.str_in_re (with_term (constant serial text) (with_term R no_terms))) = is_regex R
+is_membership _ = false
+
+abbrev pub is_brought : Feature → Bool
+is_brought (a_symbol s) = is_brought_symbol s
+is_brought (a_sort sort) = is_brought_sort sort
+is_brought (a_command name) = is_among brought_commands name
+is_brought (an_option name) = is_among brought_options name
+is_brought escapes = false
+is_brought numerals = false
+is_brought lets = false
+is_brought functions = false
+is_brought definitions = false
+is_brought (a_check_of t) = is_membership t
+is_brought proofs = false

@@ -1,0 +1,123 @@
+-- Computed examples of commands by their shapes, of those too that are not answered yet.
+use Rattle.std.specs.Prelude.{◌≡◌, [], ◌∷◌, codes, Some, None, refl}
+use Rattle.sb_reader.specs.Forms.{Form, Symbol, QuotedSymbol, Keyword, Numeral, Words}
+use Rattle.sb_script.specs.ReadingExamples.{group}
+use Rattle.sb_script.specs.Commands.{shapes, shaped_by, shaped, command_of, push, pop, check_sat_assuming, get_value, get_unsat_assumptions, set_info, get_info, get_option, echo, reset, reset_assertions, declare_function, another}
+
+abbrev one : Form
+one = Numeral (codes "1")
+
+abbrev x : Form
+x = Symbol (codes "x")
+
+abbrev bool : Form
+bool = Symbol (codes "Bool")
+
+-- one level where no number stands, and one number at most
+one_level : shaped_by shapes (codes "push") [] ≡ Some (push 1)
+one_level = refl
+
+some_levels : shaped_by shapes (codes "pop") (Numeral (codes "12") ∷ []) ≡ Some (pop 12)
+some_levels = refl
+
+two_numbers : shaped_by shapes (codes "push") (one ∷ one ∷ []) ≡ None
+two_numbers = refl
+
+a_name_of_levels : shaped_by shapes (codes "pop") (x ∷ []) ≡ None
+a_name_of_levels = refl
+
+-- before they are answered, such commands are left out whatever their shape is
+not_answered_yet : shaped (codes "push") (one ∷ one ∷ []) ≡ Some another
+not_answered_yet = refl
+
+left_out_for_good : shaped_by shapes (codes "declare-sort") (one ∷ []) ≡ Some another
+left_out_for_good = refl
+
+-- assumptions are any forms but keywords and reserved words, and there may be none
+no_assumption : shaped_by shapes (codes "check-sat-assuming") (group [] ∷ []) ≡ Some (check_sat_assuming [])
+no_assumption = refl
+
+any_assumption : shaped_by shapes (codes "check-sat-assuming") (group (x ∷ one ∷ []) ∷ [])
+    ≡ Some (check_sat_assuming (x ∷ one ∷ []))
+any_assumption = refl
+
+a_keyword_assumed : shaped_by shapes (codes "check-sat-assuming") (group (Keyword (codes ":x") ∷ []) ∷ []) ≡ None
+a_keyword_assumed = refl
+
+a_reserved_word_assumed :
+    shaped_by shapes (codes "check-sat-assuming") (group (group (Symbol (codes "not") ∷ Symbol (codes "let") ∷ []) ∷
+    []) ∷ [])
+    ≡ None
+a_reserved_word_assumed = refl
+
+assumptions_without_a_list : shaped_by shapes (codes "check-sat-assuming") (x ∷ []) ≡ None
+assumptions_without_a_list = refl
+
+-- values are asked for in a list that is not empty, of anything but keywords
+a_text_asked : shaped_by shapes (codes "get-value") (group (Words (codes "a") ∷ []) ∷ [])
+    ≡ Some (get_value (Words (codes "a") ∷ []))
+a_text_asked = refl
+
+a_keyword_asked : shaped_by shapes (codes "get-value") (group (Keyword (codes ":x") ∷ []) ∷ []) ≡ None
+a_keyword_asked = refl
+
+nothing_asked : shaped_by shapes (codes "get-value") (group [] ∷ []) ≡ None
+nothing_asked = refl
+
+-- what follows a keyword
+anything_behind : shaped_by shapes (codes "set-info") (Keyword (codes ":status") ∷ one ∷ x ∷ []) ≡ Some set_info
+anything_behind = refl
+
+nothing_behind : shaped_by shapes (codes "set-info") (Keyword (codes ":status") ∷ []) ≡ Some set_info
+nothing_behind = refl
+
+no_keyword : shaped_by shapes (codes "set-info") (x ∷ []) ≡ None
+no_keyword = refl
+
+an_option_without_value : shaped_by shapes (codes "set-option") (Keyword (codes ":print-success") ∷ []) ≡ None
+an_option_without_value = refl
+
+an_option_asked : shaped_by shapes (codes "get-option") (Keyword (codes ":print-success") ∷ [])
+    ≡ Some (get_option (codes ":print-success"))
+an_option_asked = refl
+
+an_information_asked : shaped_by shapes (codes "get-info") (Keyword (codes ":name") ∷ [])
+    ≡ Some (get_info (codes ":name"))
+an_information_asked = refl
+
+-- a text that is echoed
+a_text : shaped_by shapes (codes "echo") (Words (codes "a\"\"b") ∷ []) ≡ Some (echo (codes "a\"\"b"))
+a_text = refl
+
+no_text : shaped_by shapes (codes "echo") (x ∷ []) ≡ None
+no_text = refl
+
+resets : shaped_by shapes (codes "reset") [] ≡ Some reset
+resets = refl
+
+resets_assertions : shaped_by shapes (codes "reset-assertions") [] ≡ Some reset_assertions
+resets_assertions = refl
+
+unsat_assumptions : shaped_by shapes (codes "get-unsat-assumptions") [] ≡ Some get_unsat_assumptions
+unsat_assumptions = refl
+
+-- a wrong shape comes first, also of what is left out
+a_sort_too_many : shaped (codes "declare-fun") (Symbol (codes "g") ∷ group [] ∷ Symbol (codes "Int") ∷ one ∷ []) ≡ None
+a_sort_too_many = refl
+
+no_parameter : shaped (codes "define-fun") (Symbol (codes "f") ∷ group (x ∷ []) ∷ bool ∷ Symbol (codes "true") ∷ [])
+    ≡ None
+no_parameter = refl
+
+-- a function with arguments is left out
+with_arguments : shaped (codes "declare-fun") (Symbol (codes "g") ∷ group (bool ∷ []) ∷ bool ∷ [])
+    ≡ Some (declare_function (codes "g"))
+with_arguments = refl
+
+-- the sort of a declaration is a symbol, or a list that begins with one; a reserved word is an unknown sort
+a_number_as_a_sort : shaped (codes "declare-const") (x ∷ one ∷ []) ≡ None
+a_number_as_a_sort = refl
+
+-- only a symbol without bars begins a command
+a_quoted_command : command_of (group (QuotedSymbol (codes "check-sat") ∷ [])) ≡ None
+a_quoted_command = refl
