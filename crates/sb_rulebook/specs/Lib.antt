@@ -30,6 +30,7 @@ pub mod LineExamples
 pub mod RuleExamples
 pub mod ScriptExamples
 pub mod CommandExamples
+pub mod WorkedExamples
 pub mod JudgingExamples
 pub mod TranslationLaws
 pub mod FittingExamples

@@ -122,13 +122,13 @@ end_unfinished asked old bytes kept after session session' before between now re
 pub end_cut : (asked : Asked) (old : Outside) (bytes : List ℕ) (kept : feed.Unanswered) (session : SessionState)
     (before now : Outside)
     → AllRead asked old bytes kept session before → Cut (opened asked old) bytes true now → CutShort asked old now
-end_cut asked old bytes kept session before now read cut = inr (record {
+end_cut asked old bytes kept session before now read cut = inr (inr (record {
   bytes = bytes;
   ended = true;
   front = front_of_all bytes (opened asked old) read.all;
   whole = λ _. read.all;
   cut = cut;
-})
+}))
 
 -- the answer to the script's end is cut
 pub end_unfinished_cut : (asked : Asked) (old : Outside) (bytes : List ℕ) (kept after : feed.Unanswered)

@@ -19,7 +19,7 @@ use Rattle.sb_session.specs.Commanding.{SessionState}
 use Rattle.sb_session.specs.Progress.{Sofar}
 use Rattle.sb_session.specs.Reading.{IsFront, UpToExit, Cut}
 use Rattle.sb_session.specs.Pausing.{Pauses}
-use Rattle.sb_session.specs.Solve.{Asked, opened, Run, PastLimit, CutShort}
+use Rattle.sb_session.specs.Solve.{Asked, opened, Run, PastLimit, CutInScript, CutShort}
 use Rattle.sb_session.specs.Underway.{Underway, AllRead, StaysOpen}
 use Rattle.sb_session.proofs.ReadingLemmas.{cut_between, open_gap_is_none}
 use Rattle.sb_session.proofs.WritingLemmas.{nothing_yet, work_reads}
@@ -52,9 +52,13 @@ underway_start asked old now kept session e same state going = record {
   };
 }
 
+-- the run is cut short in the script
+pub cut_in_script : (asked : Asked) (old now : Outside) → CutInScript asked old now → CutShort asked old now
+cut_in_script asked old now cut = inr (inr cut)
+
 -- the run is cut short before any byte is read
 pub opened_cut : (asked : Asked) (old now : Outside) → now ≡ opened asked old → CutShort asked old now
-opened_cut asked old now e = inr (record {
+opened_cut asked old now e = cut_in_script asked old now (record {
   bytes = [];
   ended = false;
   front = told_nothing (opened asked old).script_in.left;
@@ -73,7 +77,7 @@ opened_cut asked old now e = inr (record {
 pub underway_cut : (asked : Asked) (old : Outside) (bytes : List ℕ) (kept : feed.Unanswered) (session : SessionState)
     (before now : Outside)
     → Underway asked old bytes kept session before → now ≡ before → CutShort asked old now
-underway_cut asked old bytes kept session before now way same = inr (record {
+underway_cut asked old bytes kept session before now way same = cut_in_script asked old now (record {
   bytes = bytes;
   ended = false;
   front = way.front;
@@ -154,7 +158,8 @@ all_read asked old bytes buffer count kept session before now h below way moved 
 pub piece_cut : (asked : Asked) (old : Outside) (bytes : List ℕ) (now : Outside) → IsFront bytes (opened asked old)
     → Cut (opened asked old) bytes false now → CutShort asked old now
 piece_cut asked old bytes now front cut =
-    inr (record { bytes = bytes; ended = false; front = front; whole = λ e. absurd (false≢true e); cut = cut })
+    cut_in_script asked old now
+    (record { bytes = bytes; ended = false; front = front; whole = λ e. absurd (false≢true e); cut = cut })
 
 -- (exit) is answered
 pub piece_exit : (asked : Asked) (old : Outside) (bytes : List ℕ) (ended : Bool) (now : Outside) → ended ≡ false

@@ -55,11 +55,11 @@ pub nothing_yet : (opened : Outside) → opened ≡ moved_by (work 0 []) opened
 nothing_yet opened = sym (moved_by-nothing opened)
 
 -- what is written is not read
-nothing_read : (writes : List Write) → (writing_all writes).script ≡ 0
-nothing_read [] = refl
-nothing_read ((out_port.Answers, bytes) ∷ writes) = let h = nothing_read writes in omega arith
-nothing_read ((out_port.Proof, bytes) ∷ writes) = let h = nothing_read writes in omega arith
-nothing_read ((out_port.Faults, bytes) ∷ writes) = let h = nothing_read writes in omega arith
+writes_read_nothing : (writes : List Write) → (writing_all writes).script ≡ 0
+writes_read_nothing [] = refl
+writes_read_nothing ((out_port.Answers, bytes) ∷ writes) = let h = writes_read_nothing writes in omega arith
+writes_read_nothing ((out_port.Proof, bytes) ∷ writes) = let h = writes_read_nothing writes in omega arith
+writes_read_nothing ((out_port.Faults, bytes) ∷ writes) = let h = writes_read_nothing writes in omega arith
 
 pub work_reads : (count : ℕ) (writes : List Write) → (work count writes).script ≡ count
-work_reads count writes = let h = nothing_read writes in omega arith
+work_reads count writes = let h = writes_read_nothing writes in omega arith

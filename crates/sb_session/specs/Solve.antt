@@ -81,9 +81,10 @@ pub record CutInScript (asked : Asked) (old new : Outside) : Type 0 where
   pub whole : ended ≡ true → IsAll bytes (opened asked old)
   pub cut : Cut (opened asked old) bytes ended new
 
--- The run was cut short: before the script was opened, or later.
+-- The run was cut short: before the script was opened, before what takes the proof was created, or later.
 abbrev pub CutShort : Asked → Outside → Outside → Type 0
-CutShort asked old new = (new ≡ old) ⊎ CutInScript asked old new
+CutShort asked old new =
+    (new ≡ old) ⊎ ((new ≡ open_at in_port.Script asked.script old) ⊎ CutInScript asked old new)
 
 -- what a run of which this is asked does
 abbrev pub Run : Asked → SolveStatus → Outside → Outside → Type 0

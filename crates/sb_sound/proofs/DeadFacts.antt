@@ -22,7 +22,7 @@ use Rattle.sb_sound.specs.DeadLaws.{LeadsOn, AreRight, ExpandedIsRight, DeadStay
 use Rattle.sb_sound.specs.MembershipLaws.{AreEmpty}
 use Rattle.sb_sound.proofs.SameParts.{same_regex}
 use Rattle.sb_sound.proofs.ByNumber.{slice_get-set, targets_there, there_targets, mark_there, marked-cases}
-use Rattle.sb_sound.proofs.PassFacts.{list_any-from_filter, Contains-cases, Contains-first, Contains-later, Contains-none}
+use Rattle.sb_sound.proofs.PassFacts.{list_any-from_filter, Contains-cases, Contains-first, Contains-later, Contains-none, all_contained}
 
 some_same : {A : Type 0} (a b : A) → Some a ≡ Some b → a ≡ b
 some_same a b e = Prim.cc (e)
@@ -255,13 +255,6 @@ members-are kept all (n ∷ ids) ms are alive id r among there =
           (subst (λ (m : ℕ × Regex). IsMember kept all m.0 m.1) (sym same) tests.0)
       | inr later ↦ members-are kept all ids parts.others parts.rest tests.1 id r later there
     ]
-
-all_contained : (p : ℕ → Bool) (ns : List ℕ) (n : ℕ) → list_all p ns ≡ true → Contains ns n → p n ≡ true
-all_contained p [] n all among = absurd (Contains-none n among)
-all_contained p (m ∷ ns) n all among =
-    let parts = and_parts (p m) (list_all p ns) all in
-    elim (Contains-cases m ns n among)
-    [ inl here ↦ ap p (sym here) ∙ parts.0 | inr later ↦ all_contained p ns n parts.1 later ]
 
 -- where a derivative of a closed regex is kept, and that it is settled
 record IsNext (kept : AllKept) (ids : List ℕ) (r : Regex) (c : ℕ) : Type 0 where

@@ -34,3 +34,7 @@ mod ScriptHistory
 mod NamedFacts
 mod CountFacts
 mod RelevantFacts
+mod FittingValues
+mod SomeFacts
+mod AssumedTerms
+mod ScriptTruth

@@ -1,5 +1,5 @@
 -- Tests that elements of a list pass.
-use Rattle.std.proofs.Common.{◌≡◌, ℕ, suc, zero, ◌<◌, Bool, true, false, cond, ◌||◌, List, [], ◌∷◌, ◌++◌, length, get_or, filter, refl, ap, ◌∙◌, ◌⊎◌, inl, inr, arith}
+use Rattle.std.proofs.Common.{◌≡◌, ℕ, suc, zero, ◌<◌, Bool, true, false, cond, ◌||◌, List, [], ◌∷◌, ◌++◌, length, get_or, filter, refl, ap, ◌∙◌, ◌⊎◌, inl, inr, sym, arith}
 use Rattle.std.specs.List.{list_all, list_any, Contains}
 use Rattle.std.proofs.lemmas.Bool.{and_parts, and_from, and_left, and_right, or_left, or_right, or_cases, false≢true}
 
@@ -67,6 +67,17 @@ pub all_push : {A : Type 0} → (p : A → Bool) (xs : List A) (x : A) → list_
     → list_all p (xs ++ x ∷ []) ≡ true
 all_push p xs x h k = all_append p xs (x ∷ []) h (and_from (p x) true k refl)
 
+pub all_filter : {A : Type 0} → (p q : A → Bool) (xs : List A) → list_all p xs ≡ true
+    → list_all p (filter q xs) ≡ true
+all_filter p q [] h = refl
+all_filter p q (x ∷ xs) h =
+    let parts = and_parts (p x) (list_all p xs) h in step (q x) parts.0 (all_filter p q xs parts.1)
+  where
+    step : (b : Bool) → p x ≡ true → list_all p (filter q xs) ≡ true
+        → list_all p (cond b (x ∷ filter q xs) (filter q xs)) ≡ true
+    step true here rest = and_from (p x) (list_all p (filter q xs)) here rest
+    step false here rest = rest
+
 -- an element is the first one or one of the others
 pub Contains-cases : {X : Type 0} → (x : X) (xs : List X) (y : X) → Contains (x ∷ xs) y → (x ≡ y) ⊎ Contains xs y
 Contains-cases x xs y h = at h.0 h.1 h.2
@@ -83,6 +94,14 @@ Contains-later x xs y h = (suc h.0, omega (arith, h.1), h.2)
 
 pub Contains-none : {X : Type 0} → (y : X) → Contains [] y → ⊥
 Contains-none y h = omega (arith, h.1)
+
+pub all_contained : {X : Type 0} → (p : X → Bool) (xs : List X) (x : X) → list_all p xs ≡ true → Contains xs x
+    → p x ≡ true
+all_contained p [] x all among = absurd (Contains-none x among)
+all_contained p (y ∷ ys) x all among =
+    let parts = and_parts (p y) (list_all p ys) all in
+    elim (Contains-cases y ys x among)
+    [ inl here ↦ ap p (sym here) ∙ parts.0 | inr later ↦ all_contained p ys x parts.1 later ]
 
 -- an element that passes the test
 pub record Found {X : Type 0} (test : X → Bool) (xs : List X) : Type 0 where

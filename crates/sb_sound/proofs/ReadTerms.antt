@@ -192,7 +192,7 @@ module _ (sorts : List Sort) (n : ℕ) where
 
   -- Heads.
 
-  abbrev found_fits : Option Named → Bool
+  abbrev pub found_fits : Option Named → Bool
   found_fits (Some kind) = kind_fits sorts n kind
   found_fits None = true
 
@@ -201,7 +201,7 @@ module _ (sorts : List Sort) (n : ℕ) where
   found_by true kind o h k = h
   found_by false kind o h k = k
 
-  named_fits : (names : List Naming) (name : Name) → list_all (naming_fits sorts n) names ≡ true
+  pub named_fits : (names : List Naming) (name : Name) → list_all (naming_fits sorts n) names ≡ true
       → found_fits (named names name) ≡ true
   named_fits [] name h = refl
   named_fits (m ∷ ms) name h =

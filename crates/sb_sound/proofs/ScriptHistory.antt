@@ -5,28 +5,29 @@ use Rattle.std.specs.List.{list_all, All, Contains}
 use Rattle.std.proofs.lemmas.Bool.{and_parts, and_from, false≢true, lt-ltb, ltb-true}
 use Rattle.std.proofs.lemmas.List.{append-nil, length-drop}
 use Rattle.std.proofs.lemmas.List.Elements.{All-nil, All-cons, All-append, All-contains}
-use Rattle.sb_reader.specs.Forms.{Form, Numeral}
+use Rattle.sb_reader.specs.Forms.{Form, Symbol, QuotedSymbol, Numeral, Group, none, more}
 use Rattle.sb_script.specs.Texts.{number_of}
 use Rattle.sb_reader.specs.Entries.{Entry, Command, Refused}
-use Rattle.sb_meaning.specs.Terms.{Sort, Term, Terms, boolean, integer, text, reglan, constant, word, numeral, apply, parameter, no_terms, with_term}
-use Rattle.sb_meaning.specs.Values.{Valuation}
+use Rattle.sb_meaning.specs.Terms.{Sort, Term, Terms, boolean, constant, word, numeral, apply, parameter, no_terms, with_term}
+use Rattle.sb_meaning.specs.Values.{Valuation, default_of, is_of}
 use Rattle.sb_meaning.specs.Sorts.{sort_of, is_same_sort}
-use Rattle.sb_script.specs.Names.{Name, is_name}
-use Rattle.sb_script.specs.Scopes.{Named, a_constant, a_definition, a_marked_name, a_term}
-use Rattle.sb_script.specs.Symbols.{is_taken, found_in}
-use Rattle.sb_script.specs.Brought.{an_option, is_brought}
+use Rattle.sb_script.specs.Names.{Name, is_name, begins_term}
+use Rattle.sb_script.specs.Scopes.{Named, a_constant, a_definition, a_marked_name, a_term, named}
+use Rattle.sb_script.specs.Symbols.{is_taken, found_in, sorts_of_constants, sort_named, is_theory_name}
+use Rattle.sb_script.specs.Brought.{a_sort, an_option, is_brought}
 use Rattle.sb_script.specs.Faults.{Fault, unknown_symbol, wrong_sort, wrong_count, bad_index, unsupported, numeral_too_large, bad_literal, malformed, already_bound}
 use Rattle.sb_script.specs.Errors.{Error, first_of}
 use Rattle.sb_script.specs.Errors as error
 use Rattle.sb_script.specs.Reading.{read}
-use Rattle.sb_script.specs.State.{Assertion, asserted, a_mark, Mode, plain, satisfied, refuted, undecided, Options, Level, State, empty_level, start, over_levels, names_of, in_level, with_name, declared, defined, marked, with_assertion, pushed, popped}
+use Rattle.sb_script.specs.State.{Assertion, asserted, a_mark, Assumption, Mode, plain, satisfied, refuted, undecided, Options, Level, State, empty_level, start, over_levels, names_of, in_level, with_name, declared, defined, marked, with_assertion, pushed, popped}
 use Rattle.sb_script.specs.Commands as command
-use Rattle.sb_script.specs.Commands.{command_of, Parameter}
+use Rattle.sb_script.specs.Commands.{command_of, Parameter, symbol_in}
 use Rattle.sb_script.specs.Steps.{Step, answers, leaves, checks, exits, Leaving, above, all, fails_by, success, succeeds, is_unsupported, refused_term}
 use Rattle.sb_script.specs.Options as options
 use Rattle.sb_script.specs.Options.{is_logic, truth_in, with_truth, settings, set_by, option_texts, info_texts, reason_unknown}
 use Rattle.sb_script.specs.Replies as meaning
-use Rattle.sb_script.specs.Replies.{sort_of_form, sorts_in_definition, sort_in_definition, bound_from, name_errors, body_errors, unless_error, defines, define_by, level_limit, assumed_form, errors_in, assumptions_in, contradicted, with_values, Item, some_malformed, first_unknown, all_constants, values_of, item_of, step, step_of}
+use Rattle.sb_script.specs.Replies.{sort_of_form, sorts_in_definition, sort_in_definition, bound_from, name_errors, body_errors, unless_error, defines, define_by, level_limit, Assumed, an_assumption, an_error, assumed_name, assumed_bare, is_not, assumed_form, errors_in, assumptions_in, contradicted, with_values, Item, some_malformed, first_unknown, all_constants, values_of, item_of, step, step_of}
+use Rattle.sb_script.proofs.CallerLemmas.{same_sort, same_sort_itself}
 use Rattle.sb_rulebook.specs.AtomRules.{is_declared}
 use Rattle.sb_rulebook.specs.Kept.{Asked}
 use Rattle.sb_rulebook.specs.Judging.{Event}
@@ -36,7 +37,7 @@ use Rattle.sb_sound.specs.SoundLaws.{AreTerms, KeepsSorts, Continues, GoesOn}
 use Rattle.sb_sound.specs.AcceptedLaws.{IsHistory, ScriptIsHistory}
 use Rattle.sb_sound.proofs.Accepting.{slice_get-more, Contains-slice_get}
 use Rattle.sb_sound.proofs.PassFacts.{all_weaker, all_append, all_push}
-use Rattle.sb_sound.proofs.ReadTerms.{fits_in, all_in, fits_without, kind_fits, naming_fits, if_read, term_read}
+use Rattle.sb_sound.proofs.ReadTerms.{found_fits, named_fits, fits_in, all_in, fits_without, kind_fits, naming_fits, if_read, term_read}
 
 -- Sorts grow at the end.
 
@@ -46,14 +47,8 @@ declared_more [] ys sort serial h = absurd (false≢true h)
 declared_more (x ∷ xs) ys sort zero h = h
 declared_more (x ∷ xs) ys sort (suc serial) h = declared_more xs ys sort serial h
 
-same_sort : (sort : Sort) → is_same_sort sort sort ≡ true
-same_sort boolean = refl
-same_sort integer = refl
-same_sort text = refl
-same_sort reglan = refl
-
 declared_last : (xs : List Sort) (sort : Sort) → is_declared (xs ++ sort ∷ []) sort (length xs) ≡ true
-declared_last [] sort = same_sort sort
+declared_last [] sort = same_sort_itself sort
 declared_last (x ∷ xs) sort = declared_last xs sort
 
 module _ (xs ys : List Sort) (n m : ℕ) (low : n ≤ m) where
@@ -81,7 +76,7 @@ kind_more xs ys n m low (a_term t) h = fits_more xs ys n m low t h
 
 -- The names in force and the live terms fit the sorts of the constants.
 
-abbrev assertion_fits : List Sort → Assertion → Bool
+abbrev pub assertion_fits : List Sort → Assertion → Bool
 assertion_fits sorts (asserted term) = fits_in sorts 0 term
 assertion_fits sorts a_mark = true
 
@@ -90,16 +85,20 @@ assertion_more : (xs ys : List Sort) (a : Assertion) → assertion_fits xs a ≡
 assertion_more xs ys (asserted term) h = fits_more xs ys 0 0 (omega arith) term h
 assertion_more xs ys a_mark h = refl
 
-record Fits (sorts : List Sort) (level : Level) : Type 0 where
-  names : list_all (naming_fits sorts 0) level.names ≡ true
-  assertions : list_all (assertion_fits sorts) level.assertions ≡ true
+pub record Fits (sorts : List Sort) (level : Level) : Type 0 where
+  pub names : list_all (naming_fits sorts 0) level.names ≡ true
+  pub assertions : list_all (assertion_fits sorts) level.assertions ≡ true
 
-abbrev AllFit : List Sort → Level → List Level → Type 0
+abbrev pub AllFit : List Sort → Level → List Level → Type 0
 AllFit sorts first [] = Fits sorts first
 AllFit sorts first (level ∷ levels) = AllFit sorts first levels × Fits sorts level
 
-abbrev IsFit : State → Type 0
-IsFit s = AllFit s.sorts s.first s.above
+-- the sort's default is of the sort: all sorts of constants are such
+abbrev pub has_default : Sort → Bool
+has_default sort = is_of sort (default_of sort)
+
+abbrev pub IsFit : State → Type 0
+IsFit s = AllFit s.sorts s.first s.above × (list_all has_default s.sorts ≡ true)
 
 empty_fits : (sorts : List Sort) → Fits sorts empty_level
 empty_fits sorts = record { names = refl; assertions = refl }
@@ -112,7 +111,7 @@ fits_longer xs ys level h = record {
       h.assertions;
 }
 
-names_fit : (sorts : List Sort) (first : Level) (levels : List Level) → AllFit sorts first levels
+pub names_fit : (sorts : List Sort) (first : Level) (levels : List Level) → AllFit sorts first levels
     → list_all (naming_fits sorts 0) (over_levels (λ l. l.names) first levels) ≡ true
 names_fit sorts first [] h = h.names
 names_fit sorts first (level ∷ levels) h =
@@ -145,32 +144,36 @@ live_terms_fit sorts first (level ∷ levels) h =
 
 are_terms : (s : State) → IsFit s → AreTerms (asked_in s)
 are_terms s fit a t among is =
-    All-contains (IsTerm s.sorts) (live_by_level s.first s.above) a (live_terms_fit s.sorts s.first s.above fit) among t
-    is
+    All-contains (IsTerm s.sorts) (live_by_level s.first s.above) a
+    (live_terms_fit s.sorts s.first s.above fit.0) among t is
 
 -- A state goes on to another: no sort and no live assertion is lost.
 
-record IsLonger (before now : List (Option Term × ℕ)) : Type 0 where
-  more : List (Option Term × ℕ)
-  whole : now ≡ before ++ more
+pub record IsLonger (before now : List (Option Term × ℕ)) : Type 0 where
+  pub more : List (Option Term × ℕ)
+  pub whole : now ≡ before ++ more
 
-record Goes (s now : State) : Type 0 where
-  sorts : KeepsSorts (asked_in s) (asked_in now)
-  live : IsLonger (live_by_level s.first s.above) (live_by_level now.first now.above)
-  fit : IsFit now
+pub record Goes (s now : State) : Type 0 where
+  pub sorts : KeepsSorts (asked_in s) (asked_in now)
+  pub live : IsLonger (live_by_level s.first s.above) (live_by_level now.first now.above)
+  pub fit : IsFit now
 
 same_live : (live : List (Option Term × ℕ)) → IsLonger live live
 same_live live = record { more = []; whole = sym (append-nil live) }
 
 -- what is left: of some levels, or of none
-abbrev Leaves : State → Leaving → State → Type 0
+abbrev pub Leaves : State → Leaving → State → Type 0
 Leaves s (above level) now = GoesOn level (asked_in s) (asked_in now) × IsFit now
 Leaves s all now = KeepsSorts (asked_in s) (asked_in now) × IsFit now
 
-abbrev IsKept : State → Step → Type 0
+-- the assumption is of a Bool constant
+abbrev pub assumption_fits : List Sort → Assumption → Bool
+assumption_fits sorts a = is_declared sorts boolean a.0
+
+abbrev pub IsKept : State → Step → Type 0
 IsKept s (answers bytes now) = Goes s now
 IsKept s (leaves what bytes now) = Leaves s what now
-IsKept s (checks given) = Unit {0}
+IsKept s (checks given) = list_all (assumption_fits s.sorts) given ≡ true
 IsKept s (exits bytes) = Unit {0}
 
 goes_same : (s : State) (logic begun : Bool) (options : Options) (mode : Mode) → IsFit s
@@ -217,19 +220,23 @@ fit_changed sorts change f first (level ∷ levels) h = (h.0, f level h.1)
 
 -- a name is added, over sorts of which some are new
 goes_named : (s : State) (new : List Sort) (name : Name) (kind : Named) → kind_fits (s.sorts ++ new) 0 kind ≡ true
-    → IsFit s → Goes s (with_name name kind (record s { sorts = s.sorts ++ new }))
-goes_named s new name kind here fit =
+    → list_all has_default new ≡ true → IsFit s
+    → Goes s (with_name name kind (record s { sorts = s.sorts ++ new }))
+goes_named s new name kind here valued fit =
     let change : Level → Level = λ l. record l { names = l.names ++ (name, kind) ∷ [] } in
     let sorts = s.sorts ++ new in
     record {
       sorts = λ v has serial sort there. has serial sort (slice_get-more s.sorts new serial sort there);
       live = live_longer change [] (λ l. sym (append-nil l.assertions)) s.first s.above;
-      fit = fit_changed sorts change
-          (λ l h. record {
-            names = all_push (naming_fits sorts 0) l.names (name, kind) h.names here;
-            assertions = h.assertions;
-          })
-          s.first s.above (fit_longer s.sorts new s.first s.above fit);
+      fit = (
+        fit_changed sorts change
+            (λ l h. record {
+              names = all_push (naming_fits sorts 0) l.names (name, kind) h.names here;
+              assertions = h.assertions;
+            })
+            s.first s.above (fit_longer s.sorts new s.first s.above fit.0),
+        all_append has_default s.sorts new fit.1 valued,
+      );
     }
 
 -- a name is added, and no sort
@@ -240,17 +247,22 @@ goes_renamed s name kind here fit =
     record {
       sorts = λ v has. has;
       live = live_longer change [] (λ l. sym (append-nil l.assertions)) s.first s.above;
-      fit = fit_changed s.sorts change
-          (λ l h. record {
-            names = all_push (naming_fits s.sorts 0) l.names (name, kind) h.names here;
-            assertions = h.assertions;
-          })
-          s.first s.above fit;
+      fit = (
+        fit_changed s.sorts change
+            (λ l h. record {
+              names = all_push (naming_fits s.sorts 0) l.names (name, kind) h.names here;
+              assertions = h.assertions;
+            })
+            s.first s.above fit.0,
+        fit.1,
+      );
     }
 
-goes_declared : (s : State) (name : Name) (sort : Sort) → IsFit s → Goes s (declared name sort s)
-goes_declared s name sort fit =
-    goes_named s (sort ∷ []) name (a_constant (length s.sorts) sort) (declared_last s.sorts sort) fit
+goes_declared : (s : State) (name : Name) (sort : Sort) → has_default sort ≡ true → IsFit s
+    → Goes s (declared name sort s)
+goes_declared s name sort valued fit =
+    goes_named s (sort ∷ []) name (a_constant (length s.sorts) sort) (declared_last s.sorts sort)
+    (and_from (has_default sort) true valued refl) fit
 
 goes_marked : (s : State) (name : Name) → IsFit s → Goes s (marked name s)
 goes_marked s name fit = goes_renamed s name a_marked_name refl fit
@@ -266,12 +278,15 @@ goes_asserted s assertion here fit =
     record {
       sorts = λ v has. has;
       live = live_longer change (assertion ∷ []) (λ l. refl) s.first s.above;
-      fit = fit_changed s.sorts change
-          (λ l h. record {
-            names = h.names;
-            assertions = all_push (assertion_fits s.sorts) l.assertions assertion h.assertions here;
-          })
-          s.first s.above fit;
+      fit = (
+        fit_changed s.sorts change
+            (λ l h. record {
+              names = h.names;
+              assertions = all_push (assertion_fits s.sorts) l.assertions assertion h.assertions here;
+            })
+            s.first s.above fit.0,
+        fit.1,
+      );
     }
 
 -- Levels are entered, and left.
@@ -294,7 +309,7 @@ goes_pushed s n fit = record {
     more = [];
     whole = pushed_live n s.first s.above ∙ sym (append-nil (live_by_level s.first s.above));
   };
-  fit = pushed_fit s.sorts n s.first s.above fit;
+  fit = (pushed_fit s.sorts n s.first s.above fit.0, fit.1);
 }
 
 popped_fit : (sorts : List Sort) (n : ℕ) (first : Level) (levels : List Level) → AllFit sorts first levels
@@ -330,6 +345,33 @@ popped_live (suc n) first (level ∷ levels) place a there low =
           absurd (omega (arith, is, low, length-drop n levels))
     ]
 
+-- What is found in a table.
+
+abbrev if_found : {A : Type 0} → (A → Bool) → Option A → Bool
+if_found p (Some x) = p x
+if_found p None = true
+
+found_passes : {A : Type 0} → (p : A → Bool) (rows : List (Name × A)) (name : Name)
+    → list_all (λ row. p row.1) rows ≡ true → if_found p (found_in rows name) ≡ true
+found_passes p [] name h = refl
+found_passes p (row ∷ rows) name h =
+    let parts = and_parts (p row.1) (list_all (λ r. p r.1) rows) h in
+    step (is_name name row.0) parts.0 (found_passes p rows name parts.1)
+  where
+    step : (b : Bool) → p row.1 ≡ true → if_found p (found_in rows name) ≡ true
+        → if_found p (if b then Some row.1 else found_in rows name) ≡ true
+    step true here rest = here
+    step false here rest = rest
+
+form_valued : (sort : Form) → if_found has_default (sort_of_form sort) ≡ true
+form_valued sort = step (symbol_in sort)
+  where
+    step : (o : Option Name) → if_found has_default
+        (elim o as (λ _. Option Sort) [ Some name ↦ sort_named name | None ↦ None ]) ≡ true
+    step (Some name) =
+        found_passes has_default (filter (λ row. is_brought (a_sort row.1)) sorts_of_constants) name refl
+    step None = refl
+
 -- Each command.
 
 module _ (s : State) (fit : IsFit s) where
@@ -347,6 +389,11 @@ module _ (s : State) (fit : IsFit s) where
       → IsKept s (elim o [ Some a ↦ f a | None ↦ x ])
   by_option None f x p q = q
   by_option (Some a) f x p q = p a
+
+  by_option_so : {A : Type 0} (p : A → Bool) (o : Option A) (f : A → Step) (x : Step) → if_found p o ≡ true
+      → ((a : A) → p a ≡ true → IsKept s (f a)) → IsKept s x → IsKept s (elim o [ Some a ↦ f a | None ↦ x ])
+  by_option_so p None f x h k l = l
+  by_option_so p (Some a) f x h k l = k a h
 
   by_result : (p : Term → Bool) (r : Result Term Fault) (f : Term → Step) (g : Fault → Step)
       → if_read p r ≡ true → ((t : Term) → p t ≡ true → IsKept s (f t))
@@ -449,7 +496,8 @@ module _ (s : State) (fit : IsFit s) where
   declare_constant_keeps : (name : Name) (sort : Form) → IsKept s (meaning.declare_constant name sort s)
   declare_constant_keeps name sort =
       by_test (is_taken (names_of s) name) _ _ same
-      (by_option (sort_of_form sort) _ _ (λ kind. goes_declared s name kind fit) (goes_marked s name fit))
+      (by_option_so has_default (sort_of_form sort) _ _ (form_valued sort)
+      (λ kind valued. goes_declared s name kind valued fit) (goes_marked s name fit))
 
   declare_function_keeps : (name : Name) → IsKept s (meaning.declare_function name s)
   declare_function_keeps name = by_test (is_taken (names_of s) name) _ _ same (goes_marked s name fit)
@@ -467,7 +515,7 @@ module _ (s : State) (fit : IsFit s) where
   names_beside n =
       subst (λ (sorts : List Sort). list_all (naming_fits sorts n) (names_of s) ≡ true) (append-nil s.sorts)
       (all_weaker (naming_fits s.sorts 0) (naming_fits (s.sorts ++ []) n) (names_of s)
-      (λ m. kind_more s.sorts [] 0 n (omega arith) m.1) (names_fit s.sorts s.first s.above fit))
+      (λ m. kind_more s.sorts [] 0 n (omega arith) m.1) (names_fit s.sorts s.first s.above fit.0))
 
   defines_keeps : (name : Name) (kinds : List Sort) (r : Result Term Fault)
       → if_read (fits_in s.sorts (length kinds)) r ≡ true → IsKept s (defines name kinds r s)
@@ -512,7 +560,7 @@ module _ (s : State) (fit : IsFit s) where
   assert_keeps : (form : Form) → IsKept s (meaning.assert form s)
   assert_keeps form =
       by_result (fits_in s.sorts 0) (read (names_of s) form) _ _
-      (term_read s.sorts 0 (names_of s) (names_fit s.sorts s.first s.above fit) form)
+      (term_read s.sorts 0 (names_of s) (names_fit s.sorts s.first s.above fit.0) form)
       (λ t h. by_test (is_same_sort boolean (sort_of t)) _ _ (goes_asserted s (asserted t) h fit) same)
       refused_term_keeps
 
@@ -526,14 +574,89 @@ module _ (s : State) (fit : IsFit s) where
       let new = popped n s in
       let left : Leaves s (above (length new.above)) new = (
         record { sorts = λ v has. has; live = popped_live n s.first s.above },
-        popped_fit s.sorts n s.first s.above fit,
+        (popped_fit s.sorts n s.first s.above fit.0, fit.1),
       ) in
       by_test (nat_le n (length s.above)) (leaves (above (length new.above)) (success new) new)
       (fails_by error.no_such_level s) left same
 
+  -- Assumptions.
+
+  abbrev item_fits : Assumed → Bool
+  item_fits (an_assumption a) = assumption_fits s.sorts a
+  item_fits (an_error e) = true
+
+  name_assumed : (positive : Bool) (name : Name) → item_fits (assumed_name s positive name) ≡ true
+  name_assumed positive name =
+      step (named (names_of s) name)
+      (named_fits s.sorts 0 (names_of s) name (names_fit s.sorts s.first s.above fit.0))
+    where
+      constant_assumed : (b : Bool) (serial : ℕ) (sort : Sort) → is_same_sort boolean sort ≡ b
+          → is_declared s.sorts sort serial ≡ true
+          → item_fits (if b then an_assumption (serial, positive) else an_error error.wrong_sort) ≡ true
+      constant_assumed true serial sort is h =
+          subst (λ (kind : Sort). is_declared s.sorts kind serial ≡ true) (same_sort boolean sort is) h
+      constant_assumed false serial sort is h = refl
+
+      theory : (b : Bool)
+          → item_fits (if b then an_error error.not_a_literal else an_error (error.unknown_symbol name)) ≡ true
+      theory true = refl
+      theory false = refl
+
+      step : (o : Option Named) → found_fits s.sorts 0 o ≡ true → item_fits (elim o as (λ _. Assumed) [
+        | Some (a_constant serial sort) ↦ if is_same_sort boolean sort then an_assumption (serial, positive)
+            else an_error error.wrong_sort
+        | Some _ ↦ an_error error.not_a_literal
+        | None ↦ if is_theory_name name then an_error error.not_a_literal else an_error (error.unknown_symbol name)
+      ]) ≡ true
+      step (Some (a_constant serial sort)) h = constant_assumed (is_same_sort boolean sort) serial sort refl h
+      step (Some (a_definition kinds body)) h = refl
+      step (Some a_marked_name) h = refl
+      step (Some (a_term t)) h = refl
+      step None h = theory (is_theory_name name)
+
+  either_fits : (b : Bool) (x y : Assumed) → item_fits x ≡ true → item_fits y ≡ true
+      → item_fits (if b then x else y) ≡ true
+  either_fits true x y h k = h
+  either_fits false x y h k = k
+
+  bare_assumed : (positive : Bool) (name : Name) → item_fits (assumed_bare s positive name) ≡ true
+  bare_assumed positive name = either_fits (begins_term name) (an_error error.not_a_literal)
+      (assumed_name s positive name) refl (name_assumed positive name)
+
+  form_assumed : (form : Form) → item_fits (assumed_form s form) ≡ true
+  form_assumed (Symbol name) = bare_assumed true name
+  form_assumed (QuotedSymbol name) = name_assumed true name
+  form_assumed (Group (more head (more (Symbol name) none))) =
+      either_fits (is_not head) (assumed_bare s false name) (an_error error.not_a_literal)
+      (bare_assumed false name) refl
+  form_assumed (Group (more head (more (QuotedSymbol name) none))) =
+      either_fits (is_not head) (assumed_name s false name) (an_error error.not_a_literal)
+      (name_assumed false name) refl
+  form_assumed _ = refl
+
+  items_fit : (items : List Assumed) → list_all item_fits items ≡ true
+      → list_all (assumption_fits s.sorts) (assumptions_in items) ≡ true
+  items_fit [] h = refl
+  items_fit (an_assumption a ∷ items) h =
+      let parts = and_parts (assumption_fits s.sorts a) (list_all item_fits items) h in
+      and_from (assumption_fits s.sorts a) (list_all (assumption_fits s.sorts) (assumptions_in items)) parts.0
+      (items_fit items parts.1)
+  items_fit (an_error e ∷ items) h = items_fit items h
+
+  forms_fit : (forms : List Form) → list_all item_fits (map (assumed_form s) forms) ≡ true
+  forms_fit [] = refl
+  forms_fit (form ∷ forms) =
+      and_from (item_fits (assumed_form s form)) (list_all item_fits (map (assumed_form s) forms)) (form_assumed form)
+      (forms_fit forms)
+
+  assumptions_fit : (forms : List Form)
+      → list_all (assumption_fits s.sorts) (assumptions_in (map (assumed_form s) forms)) ≡ true
+  assumptions_fit forms = items_fit (map (assumed_form s) forms) (forms_fit forms)
+
   check_sat_assuming_keeps : (forms : List Form) → IsKept s (meaning.check_sat_assuming forms s)
   check_sat_assuming_keeps forms =
-      by_errors (errors_in (map (assumed_form s) forms)) (checks (assumptions_in (map (assumed_form s) forms))) tt
+      by_errors (errors_in (map (assumed_form s) forms)) (checks (assumptions_in (map (assumed_form s) forms)))
+      (assumptions_fit forms)
 
   contradicted_keeps : (m : Mode) → IsKept s (contradicted m s)
   contradicted_keeps (refuted assumptions) = same
@@ -574,18 +697,18 @@ module _ (s : State) (fit : IsFit s) where
   step_keeps (command.assert form) = assert_keeps form
   step_keeps (command.push n) = push_keeps n
   step_keeps (command.pop n) = pop_keeps n
-  step_keeps command.check_sat = tt
+  step_keeps command.check_sat = refl
   step_keeps (command.check_sat_assuming forms) = check_sat_assuming_keeps forms
   step_keeps command.get_model = get_model_keeps
   step_keeps (command.get_value forms) = get_value_keeps forms
   step_keeps command.get_unsat_assumptions = get_unsat_assumptions_keeps
   step_keeps (command.echo bytes) = same
-  step_keeps command.reset_assertions = (λ v has. has, empty_fits s.sorts)
-  step_keeps command.reset = (λ v has. has, empty_fits s.sorts)
+  step_keeps command.reset_assertions = (λ v has. has, (empty_fits s.sorts, fit.1))
+  step_keeps command.reset = (λ v has. has, (empty_fits s.sorts, fit.1))
   step_keeps command.exit = tt
   step_keeps command.another = same
 
-  entry_keeps : (entry : Entry) → IsKept s (step_of entry s)
+  pub entry_keeps : (entry : Entry) → IsKept s (step_of entry s)
   entry_keeps (Command form) = by_option (command_of form) (λ c. step c s) _ step_keeps same
   entry_keeps (Refused refusal) = same
 
@@ -633,5 +756,8 @@ history [] s fit before goes = tt
 history (entry ∷ entries) s fit before goes =
     history_by s fit before goes entries (step_of entry s) (history entries) (entry_keeps s fit entry)
 
+pub start_fits : IsFit start
+start_fits = (empty_fits [], refl)
+
 pub script_history : ScriptIsHistory
-script_history entries = history entries start (empty_fits []) (asked_in start) (goes_on_same (asked_in start))
+script_history entries = history entries start start_fits (asked_in start) (goes_on_same (asked_in start))

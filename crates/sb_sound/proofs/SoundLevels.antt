@@ -132,6 +132,7 @@ unsat_means unsat names q kept id places sound h =
     let l = unsat q kept id places h in
     let core = names q kept id places l.clause h l.there in
     record {
+      inside = l.inside;
       all = λ v words sorts hold assumed.
           let true_so = sound.clauses id l.clause l.there v words sorts (hold l.clause.level) in
           false≢true (sym (l.refutes v true_so) ∙ assumed);

@@ -13,3 +13,4 @@ pub mod AcceptedLaws
 pub mod LimitLaws
 pub mod CountLaws
 pub mod RelevantLaws
+pub mod TruthLaws

@@ -121,6 +121,7 @@ AreContradictedAt q places assumptions = (v : Valuation) → HasWords v → HasS
 
 -- what an `unsat` means
 pub record IsUnsat (q : Question) (kept : AllKept) (id : ℕ) (places : Option (List ℕ)) : Type 0 where
+  pub inside : q.inside ≡ true
   pub all : AreContradicted q q.assumptions
   -- the assumptions that the clause denies are contradicted alone, by what it rests on alone
   pub clause : KeptClause

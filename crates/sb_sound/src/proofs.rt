@@ -1,6 +1,7 @@
 //! Whole proofs.
 
 ghost use Rattle.sb_sound.specs.AcceptedLaws.{AcceptedMeansSo, ScriptIsHistory, AcceptedScriptMeansSo};
+ghost use Rattle.sb_sound.specs.TruthLaws.{AcceptedScriptIsTrue};
 
 /// Where a proof along a history of events is accepted, each of its verdicts means so.
 pub fn accepted_means_so()
@@ -30,4 +31,11 @@ pub fn accepted_script_means_so()
 {
     accepted_means_so();
     script_is_history();
+}
+
+/// Where a proof of a script is accepted, each of its verdicts is true of the state and the assumptions of its check.
+pub fn accepted_script_is_true()
+    ensures { AcceptedScriptIsTrue }
+{
+    accepted_script_means_so();
 }

@@ -1,0 +1,149 @@
+-- The verdicts of an accepted proof are true of the states and the assumptions of their checks.
+use Rattle.std.proofs.Common.{◌≡◌, ℕ, Bool, true, List, [], ◌∷◌, ◌++◌, map, Option, Some, None, refl, sym, subst, ◌∙◌}
+use Rattle.std.specs.List.{list_all, list_any}
+use Rattle.std.specs.Prelude.{slice_get}
+use Rattle.std.proofs.lemmas.Bool.{and_parts, and_from}
+use Rattle.sb_reader.specs.Entries.{Entry}
+use Rattle.sb_meaning.specs.Terms.{Term}
+use Rattle.sb_meaning.specs.Values.{Value, Valuation}
+use Rattle.sb_meaning.specs.Truth.{all_hold}
+use Rattle.sb_script.specs.State as state
+use Rattle.sb_script.specs.State.{State, Assumption, assumed, names_of, constants_of, live, live_terms, fits, is_model, Satisfiable}
+use Rattle.sb_script.specs.Steps.{Step, answers, leaves, checks, exits, above, all}
+use Rattle.sb_script.specs.Replies.{step_of}
+use Rattle.sb_rulebook.specs.Lines.{Said, said_sat, said_unsat, said_unknown, said_unsupported}
+use Rattle.sb_rulebook.specs.Reading.{LineText, texts_of}
+use Rattle.sb_rulebook.specs.Kept.{AllKept, rests_of}
+use Rattle.sb_rulebook.specs.Verdicts.{denies, denied_by}
+use Rattle.sb_rulebook.specs.Judging.{Event}
+use Rattle.sb_rulebook.specs.Accepted.{live_by_level, question_in, events_of, state_behind, events}
+use Rattle.sb_sound.specs.TermLaws.{HasSorts}
+use Rattle.sb_sound.specs.SoundLaws.{LevelsHold, AreContradicted, AreContradictedAt, IsUnsat, MeansSo}
+use Rattle.sb_sound.specs.VerdictLaws.{IsModel}
+use Rattle.sb_sound.specs.AcceptedLaws.{AllMeanSo, questions, counted_among, AcceptedScriptMeansSo}
+use Rattle.sb_sound.specs.TruthLaws.{terms_at, AreContradictory, IsTrueUnsat, IsTrueSat, IsTrueOf, AreTrueBehind, AreTrue, AcceptedScriptIsTrue}
+use Rattle.sb_sound.proofs.ScriptHistory.{IsFit, IsKept, names_fit, assumption_fits, start_fits, entry_keeps}
+use Rattle.sb_sound.proofs.FittingValues.{has_sorts, has_words}
+use Rattle.sb_sound.proofs.AssumedTerms.{hold_both, given_hold, unless_mark, live_hold, asserted_hold, places_hold}
+use Rattle.sb_sound.proofs.PassFacts.{all_filter, all_contained}
+use Rattle.sb_sound.proofs.SomeFacts.{filter_some, some_once}
+
+module _ (s : State) (fit : IsFit s) where
+  sorts_of : (v : Valuation) → fits (constants_of s) v ≡ true → HasSorts v s.sorts
+  sorts_of v fitting = has_sorts s.sorts (names_of s) v fit.1 (names_fit s.sorts s.first s.above fit.0) fitting
+
+  -- where the live terms are true, all levels are
+  levels_hold : (v : Valuation) → all_hold (live_terms s) v ≡ true → (level : ℕ)
+      → LevelsHold v (live_by_level s.first s.above) level
+  levels_hold v h level a t among is low =
+      subst (λ (o : Option Term). unless_mark v o ≡ true) is
+      (all_contained (λ (b : Option Term × ℕ). unless_mark v b.0) (live_by_level s.first s.above) a
+      (live_hold v s.first s.above ∙ h) among)
+
+  module _ (given : List Assumption) (bools : list_all (assumption_fits s.sorts) given ≡ true) where
+    -- assumptions that are contradicted have no model
+    no_model : (named : List Assumption) → list_all (assumption_fits s.sorts) named ≡ true
+        → AreContradicted (question_in s given) named → Satisfiable s named → ⊥
+    no_model named fine contradicted model =
+        let v = model.0 in
+        let parts = and_parts (fits (constants_of s) v) (all_hold (map assumed named ++ live_terms s) v) model.1 in
+        let both = and_parts (all_hold (map assumed named) v) (all_hold (live_terms s) v)
+        (sym (hold_both (map assumed named) (live_terms s) v) ∙ parts.1) in
+        let sorts = sorts_of v parts.0 in
+        contradicted v (has_words (constants_of s) v parts.0) sorts (levels_hold v both.1)
+        (sym (given_hold v s.sorts sorts named fine) ∙ both.0)
+
+    none_at : (places : List ℕ) (named : List Assumption) → list_all (assumption_fits s.sorts) named ≡ true
+        → AreContradictedAt (question_in s given) places named → AreContradictory s places named
+    none_at places named fine contradicted v fitting h =
+        let both = and_parts (all_hold (map assumed named) v) (all_hold (terms_at (live s) places) v)
+        (sym (hold_both (map assumed named) (terms_at (live s) places) v) ∙ h) in
+        let sorts = sorts_of v fitting in
+        contradicted v (has_words (constants_of s) v fitting) sorts (places_hold v s.first s.above places both.1)
+        (sym (given_hold v s.sorts sorts named fine) ∙ both.0)
+
+    true_unsat : (kept : AllKept) (id : ℕ) (places : Option (List ℕ))
+        → IsUnsat (question_in s given) kept id places → IsTrueUnsat s given id places
+    true_unsat kept id places h =
+        let denied : Assumption → Bool =
+        λ a. list_any (λ l. denies l (slice_get kept.atoms l.atom) a) h.clause.literals in
+        let named = denied_by (question_in s given) kept h.clause in
+        let fine = all_filter (assumption_fits s.sorts) denied given bools in
+        record {
+          inside = h.inside;
+          all = no_model given bools h.all;
+          kept = kept;
+          clause = h.clause;
+          there = h.there;
+          named = named;
+          denied = refl;
+          some = filter_some denied given;
+          contradicted = no_model named fine h.core;
+          core = λ once. record { some = some_once denied given once; contradicted = no_model named fine h.core };
+          rests = λ listed is.
+              subst (λ (ps : List ℕ). AreContradictory s ps named) (sym (h.listed listed is))
+              (none_at (rests_of kept id) named fine h.rests);
+        }
+
+    true_sat : (values : List Value) → IsModel (question_in s given) values → IsTrueSat s given values
+    true_sat values h =
+        let v = h.valuation in
+        let assumptions = given_hold v s.sorts (sorts_of v h.fit) given bools ∙ h.assumptions in
+        let terms = asserted_hold v s.first s.above h.assertions in
+        record {
+          inside = h.inside;
+          valuation = v;
+          of_constants = h.valued_so;
+          model = and_from (fits (constants_of s) v) (all_hold (map assumed given ++ live_terms s) v) h.fit
+              (hold_both (map assumed given) (live_terms s) v
+              ∙ and_from (all_hold (map assumed given) v) (all_hold (live_terms s) v) assumptions terms);
+        }
+
+    true_of : (kept : AllKept) (lines : List LineText) (said : Said) → kept.counted ≡ counted_among lines
+        → MeansSo (question_in s given) kept said → IsTrueOf s given lines said
+    true_of kept lines (said_unsat id places) counts h = true_unsat kept id places h
+    true_of kept lines (said_sat values) counts h = true_sat values h
+    true_of kept lines (said_unknown n) counts h =
+        record { inside = h.inside; limit = h.limit; counted = sym counts ∙ h.counted }
+    true_of kept lines said_unsupported counts h = h
+
+-- All entries.
+
+none_left : (came : List LineText) (verdicts : List Said) → AllMeanSo [] came verdicts → verdicts ≡ []
+none_left came [] h = refl
+none_left came (said ∷ verdicts) h = absurd h
+
+module _ (s : State) (fit : IsFit s) (entries : List Entry)
+    (more : (now : State) → IsFit now → (came : List LineText) (verdicts : List Said)
+    → AllMeanSo (questions (events now entries)) came verdicts → AreTrue now entries came verdicts) where
+  true_behind : (x : Step) → IsKept s x → (came : List LineText) (verdicts : List Said)
+      → AllMeanSo (questions (events_of x s
+      ++ elim (state_behind x s) as (λ _. List Event) [ Some next ↦ events next entries | None ↦ [] ])) came verdicts
+      → AreTrueBehind x s (λ next left rest. AreTrue next entries left rest) came verdicts
+  true_behind (answers text new) kept came verdicts h = more new kept.fit came verdicts h
+  true_behind (leaves (above level) text new) kept came verdicts h = more new kept.1 came verdicts h
+  true_behind (leaves all text new) kept came verdicts h = more new kept.1 came verdicts h
+  true_behind (checks given) bools came [] h = absurd h
+  true_behind (checks given) bools came (said ∷ verdicts) h =
+      let answer = h.4 in
+      record {
+        lines = h.0;
+        verdict = h.1;
+        left = h.2;
+        whole = h.3;
+        no_verdicts = answer.no_verdicts;
+        is_verdict = answer.is_verdict;
+        so = true_of s fit given bools answer.kept h.0 said answer.counted answer.means;
+        rest = more s fit h.2 verdicts h.5;
+      }
+  true_behind (exits text) kept came verdicts h = none_left came verdicts h
+
+true_along : (entries : List Entry) (s : State) → IsFit s → (came : List LineText) (verdicts : List Said)
+    → AllMeanSo (questions (events s entries)) came verdicts → AreTrue s entries came verdicts
+true_along [] s fit came verdicts h = none_left came verdicts h
+true_along (entry ∷ entries) s fit came verdicts h =
+    true_behind s fit entries (true_along entries) (step_of entry s) (entry_keeps s fit entry) came verdicts h
+
+pub script_true : AcceptedScriptMeansSo → AcceptedScriptIsTrue
+script_true means entries bytes verdicts h =
+    true_along entries state.start start_fits (texts_of bytes) verdicts (means entries bytes verdicts h)
