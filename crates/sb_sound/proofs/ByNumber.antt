@@ -1,8 +1,8 @@
 -- What stands in a list by number, where the list grows behind or an element is set.
-use Rattle.std.proofs.Common.{◌≡◌, ℕ, zero, suc, Bool, true, false, ◌&&◌, List, [], ◌∷◌, ◌++◌, length, slice_get, Option, Some, None, unwrap_or, refl, ap, ◌⊎◌, inl, inr}
+use Rattle.std.proofs.Common.{◌≡◌, ℕ, zero, suc, Bool, true, false, ◌&&◌, List, [], ◌∷◌, ◌++◌, length, slice_get, Option, Some, None, unwrap_or, refl, ap, ◌∙◌, ◌⊎◌, inl, inr}
 use Rattle.std.specs.Prelude.{set}
 use Rattle.std.specs.List.{list_any, zip}
-use Rattle.std.proofs.lemmas.Bool.{and_parts, or_cases, false≢true}
+use Rattle.std.proofs.lemmas.Bool.{and_parts, and_from, or_cases, or_left, or_right, false≢true}
 use Rattle.sb_lit.specs.Kept.{Kept, KeptClause, kept_at}
 use Rattle.sb_rulebook.specs.Kept.{targets_in, marked}
 use Rattle.std.specs.List.{Contains}
@@ -96,3 +96,15 @@ find_beside test (x ∷ xs) (b ∷ marks) any =
             passes = f.passes;
           }
     ]
+
+pub any_beside : {A : Type 0} → (test : A → Bool) (xs : List A) (marks : List Bool) (n : ℕ) (x : A)
+    → slice_get xs n ≡ Some x → slice_get marks n ≡ Some true → test x ≡ true
+    → list_any (λ p. p.1 && test p.0) (zip xs marks) ≡ true
+any_beside test [] marks n x there marked passes = absurd (Prim.cc (there))
+any_beside test (y ∷ xs) [] n x there marked passes = absurd (Prim.cc (marked))
+any_beside test (y ∷ xs) (b ∷ marks) zero x there marked passes =
+    or_left (b && test y) (list_any (λ p. p.1 && test p.0) (zip xs marks))
+    (and_from b (test y) (Prim.cc (marked)) (ap test (Prim.cc (there)) ∙ passes))
+any_beside test (y ∷ xs) (b ∷ marks) (suc n) x there marked passes =
+    or_right (b && test y) (list_any (λ p. p.1 && test p.0) (zip xs marks))
+    (any_beside test xs marks n x there marked passes)

@@ -97,12 +97,12 @@ with_clause_sound asked kept clause level rests known stand true_so sound =
 -- Assertions.
 
 -- the literal is that of a term
-record IsOfTerm (atoms : List Atom) (o : Option Term) (l : Lit) : Type 0 where
-  term : Term
-  is : o ≡ Some term
-  there : translation atoms term ≡ Some l
+pub record IsOfTerm (atoms : List Atom) (o : Option Term) (l : Lit) : Type 0 where
+  pub term : Term
+  pub is : o ≡ Some term
+  pub there : translation atoms term ≡ Some l
 
-translation-parts : (atoms : List Atom) (o : Option Term) (l : Lit) → is_translation atoms o l ≡ true
+pub translation-parts : (atoms : List Atom) (o : Option Term) (l : Lit) → is_translation atoms o l ≡ true
     → IsOfTerm atoms o l
 translation-parts atoms None l h = absurd (false≢true h)
 translation-parts atoms (Some t) l h = step (translation atoms t) refl h

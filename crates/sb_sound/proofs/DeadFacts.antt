@@ -49,14 +49,16 @@ together-parts {A} (Some first) os all h = step (together os) refl h
 -- Expansions.
 
 -- what an accepted expansion has
-record IsExpanded (kept after : AllKept) (id : ℕ) (ks : List Class) : Type 0 where
-  regex : Regex
-  branches : List Branch
-  there : slice_get kept.regexes id ≡ Some regex
-  are : together (map (branch_of kept.regexes) ks) ≡ Some branches
-  expands : is_expansion regex branches ≡ true
-  same : after.regexes ≡ kept.regexes
-  more : after.expansions ≡ set kept.expansions id (Some (map (λ (k : Class). k.1) ks))
+pub record IsExpanded (asked : Asked) (kept after : AllKept) (id : ℕ) (ks : List Class) : Type 0 where
+  pub regex : Regex
+  pub branches : List Branch
+  pub there : slice_get kept.regexes id ≡ Some regex
+  pub are : together (map (branch_of kept.regexes) ks) ≡ Some branches
+  pub new : is_some (targets_in kept.expansions id) ≡ false
+  pub expands : is_expansion regex branches ≡ true
+  pub counts : counting asked (with_expansion id (map (λ (k : Class). k.1) ks) kept) ≡ Ok after
+  pub same : after.regexes ≡ kept.regexes
+  pub more : after.expansions ≡ set kept.expansions id (Some (map (λ (k : Class). k.1) ks))
 
 counted-parts : (asked : Asked) (kept after : AllKept) → counting asked kept ≡ Ok after
     → (after.regexes ≡ kept.regexes) × (after.expansions ≡ kept.expansions)
@@ -70,45 +72,48 @@ counted-parts asked kept after h = step (nat_lt kept.counted (most_counted asked
         (ap (λ (k : AllKept). k.regexes) same, ap (λ (k : AllKept). k.expansions) same)
     step false h = absurd (Prim.cc (h))
 
-expansion-parts : (asked : Asked) (kept after : AllKept) (id : ℕ) (ks : List Class)
-    → follows_expansion asked kept id ks ≡ Ok after → IsExpanded kept after id ks
+pub expansion-parts : (asked : Asked) (kept after : AllKept) (id : ℕ) (ks : List Class)
+    → follows_expansion asked kept id ks ≡ Ok after → IsExpanded asked kept after id ks
 expansion-parts asked kept after id ks h = step (slice_get kept.regexes id) refl h
   where
     more : AllKept
     more = with_expansion id (map (λ (k : Class). k.1) ks) kept
 
     tests : (r : Regex) (ps : List Branch) → slice_get kept.regexes id ≡ Some r
-        → together (map (branch_of kept.regexes) ks) ≡ Some ps → (b d : Bool) → is_expansion r ps ≡ d
+        → together (map (branch_of kept.regexes) ks) ≡ Some ps → (b d : Bool)
+        → is_some (targets_in kept.expansions id) ≡ b → is_expansion r ps ≡ d
         → (if b then Err repeated else if d then counting asked more else Err wrong_target) ≡ Ok after
-        → IsExpanded kept after id ks
-    tests r ps there are true d expands h = absurd (Prim.cc (h))
-    tests r ps there are false true expands h =
+        → IsExpanded asked kept after id ks
+    tests r ps there are true d new expands h = absurd (Prim.cc (h))
+    tests r ps there are false true new expands h =
         let parts = counted-parts asked more after h in
         record {
           regex = r;
           branches = ps;
           there = there;
           are = are;
+          new = new;
           expands = expands;
+          counts = h;
           same = parts.0;
           more = parts.1;
         }
-    tests r ps there are false false expands h = absurd (Prim.cc (h))
+    tests r ps there are false false new expands h = absurd (Prim.cc (h))
 
     by : (r : Regex) (o : Option (List Branch)) → slice_get kept.regexes id ≡ Some r
         → together (map (branch_of kept.regexes) ks) ≡ o
         → (elim o as (λ _. Result AllKept Refusal) [ None ↦ Err unknown_id | Some ps ↦ expanded asked kept id ks r ps ])
-        ≡ Ok after → IsExpanded kept after id ks
+        ≡ Ok after → IsExpanded asked kept after id ks
     by r None there are h = absurd (Prim.cc (h))
     by r (Some ps) there are h =
-        tests r ps there are (is_some (targets_in kept.expansions id)) (is_expansion r ps) refl h
+        tests r ps there are (is_some (targets_in kept.expansions id)) (is_expansion r ps) refl refl h
 
     step : (o : Option Regex) → slice_get kept.regexes id ≡ o
         → (elim o as (λ _. Result AllKept Refusal) [
           | None ↦ Err unknown_id
           | Some r ↦ elim (together (map (branch_of kept.regexes) ks)) as (λ _. Result AllKept Refusal)
               [ None ↦ Err unknown_id | Some ps ↦ expanded asked kept id ks r ps ]
-        ]) ≡ Ok after → IsExpanded kept after id ks
+        ]) ≡ Ok after → IsExpanded asked kept after id ks
     step None there h = absurd (Prim.cc (h))
     step (Some r) there h = by r (together (map (branch_of kept.regexes) ks)) there refl h
 
@@ -179,7 +184,7 @@ expanded_right tells decides asked kept after id ks h right =
 
 -- Dead regexes.
 
-among_contains : (ns : List ℕ) (n : ℕ) → is_among_numbers ns n ≡ true → Contains ns n
+pub among_contains : (ns : List ℕ) (n : ℕ) → is_among_numbers ns n ≡ true → Contains ns n
 among_contains [] n h = absurd (false≢true h)
 among_contains (m ∷ ns) n h = elim (or_cases (eqb m n) (is_among_numbers ns n) h) [
   | inl here ↦ subst (λ k. Contains (m ∷ ns) k) (eqb-true m n here) (Contains-first m ns)
@@ -187,32 +192,36 @@ among_contains (m ∷ ns) n h = elim (or_cases (eqb m n) (is_among_numbers ns n)
 ]
 
 -- what an accepted line of dead regexes has
-record HaveDied (kept after : AllKept) (ids : List ℕ) : Type 0 where
-  members : List (ℕ × Regex)
-  are : together (map (member_at kept.regexes) ids) ≡ Some members
-  none_alive : first_alive kept ids members ≡ None
-  same : after.regexes ≡ kept.regexes
-  more : after.dead ≡ marked ids kept.dead
+pub record HaveDied (kept after : AllKept) (ids : List ℕ) : Type 0 where
+  pub members : List (ℕ × Regex)
+  pub are : together (map (member_at kept.regexes) ids) ≡ Some members
+  pub none_repeated : has_repeated kept ids ≡ false
+  pub none_alive : first_alive kept ids members ≡ None
+  pub whole : after ≡ with_dead ids kept
+  pub same : after.regexes ≡ kept.regexes
+  pub more : after.dead ≡ marked ids kept.dead
 
-dead-parts : (kept after : AllKept) (ids : List ℕ) → follows_dead kept ids ≡ Ok after → HaveDied kept after ids
+pub dead-parts : (kept after : AllKept) (ids : List ℕ) → follows_dead kept ids ≡ Ok after → HaveDied kept after ids
 dead-parts kept after ids h = step (together (map (member_at kept.regexes) ids)) refl h
   where
     now : AllKept
     now = with_dead ids kept
 
     tests : (ms : List (ℕ × Regex)) → together (map (member_at kept.regexes) ids) ≡ Some ms → (b : Bool)
-        (o : Option Refusal) → first_alive kept ids ms ≡ o
+        (o : Option Refusal) → has_repeated kept ids ≡ b → first_alive kept ids ms ≡ o
         → (if b then Err repeated else elim o as (λ _. Result AllKept Refusal)
         [ Some refusal ↦ Err refusal | None ↦ Ok now ]) ≡ Ok after
         → HaveDied kept after ids
-    tests ms are true o alive h = absurd (Prim.cc (h))
-    tests ms are false (Some refusal) alive h = absurd (Prim.cc (h))
-    tests ms are false None alive h =
+    tests ms are true o twice alive h = absurd (Prim.cc (h))
+    tests ms are false (Some refusal) twice alive h = absurd (Prim.cc (h))
+    tests ms are false None twice alive h =
         let same : after ≡ now = Prim.cc (h) in
         record {
           members = ms;
           are = are;
+          none_repeated = twice;
           none_alive = alive;
+          whole = same;
           same = ap (λ (k : AllKept). k.regexes) same;
           more = ap (λ (k : AllKept). k.dead) same;
         }
@@ -221,12 +230,12 @@ dead-parts kept after ids h = step (together (map (member_at kept.regexes) ids))
         → (elim o as (λ _. Result AllKept Refusal) [ None ↦ Err unknown_id | Some ms ↦ died kept ids ms ]) ≡ Ok after
         → HaveDied kept after ids
     step None are h = absurd (Prim.cc (h))
-    step (Some ms) are h = tests ms are (has_repeated kept ids) (first_alive kept ids ms) refl h
+    step (Some ms) are h = tests ms are (has_repeated kept ids) (first_alive kept ids ms) refl refl h
 
 -- a member is not nullable, and closed
-record IsMember (kept : AllKept) (ids : List ℕ) (id : ℕ) (r : Regex) : Type 0 where
-  empty_word : nullable r ≡ false
-  closed : is_closed kept ids id ≡ true
+pub record IsMember (kept : AllKept) (ids : List ℕ) (id : ℕ) (r : Regex) : Type 0 where
+  pub empty_word : nullable r ≡ false
+  pub closed : is_closed kept ids id ≡ true
 
 alive-parts : (kept : AllKept) (ids : List ℕ) (m : ℕ × Regex) (ms : List (ℕ × Regex))
     → first_alive kept ids (m ∷ ms) ≡ None → IsMember kept ids m.0 m.1 × (first_alive kept ids ms ≡ None)
@@ -239,7 +248,7 @@ alive-parts kept ids m ms h = step (nullable m.1) (is_closed kept ids m.0) refl 
     step false true is closed h = (record { empty_word = is; closed = closed }, h)
     step false false is closed h = absurd (Prim.cc (h))
 
-members-are : (kept : AllKept) (all ids : List ℕ) (ms : List (ℕ × Regex))
+pub members-are : (kept : AllKept) (all ids : List ℕ) (ms : List (ℕ × Regex))
     → together (map (member_at kept.regexes) ids) ≡ Some ms → first_alive kept all ms ≡ None → (id : ℕ) (r : Regex)
     → Contains ids id → slice_get kept.regexes id ≡ Some r → IsMember kept all id r
 members-are kept all [] ms are alive id r among there = absurd (Contains-none id among)

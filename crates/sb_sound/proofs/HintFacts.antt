@@ -12,34 +12,45 @@ use Rattle.sb_sound.proofs.PassFacts.{both_pass, list_any-filter, Contains-cases
 
 -- What a clause that is learned has.
 
-record IsLearned (kept : Kept) (clause : List Lit) (ids : List ℕ) (level : ℕ) : Type 0 where
-  hints : List KeptClause
-  are : hinted kept ids ≡ Some hints
-  ends : course (map negation clause) hints ≡ ends_false
-  greatest : greatest_level hints ≡ level
+pub record IsLearned (kept : Kept) (clause : List Lit) (ids : List ℕ) (level : ℕ) : Type 0 where
+  pub hints : List KeptClause
+  pub are : hinted kept ids ≡ Some hints
+  pub new : is_repeated kept clause ≡ false
+  pub ends : course (map negation clause) hints ≡ ends_false
+  pub ascends : are_ascending clause ≡ true
+  pub greatest : greatest_level hints ≡ level
 
 level_by-parts : (c : Course) (clause : List Lit) (hints : List KeptClause) (level : ℕ)
-    → level_by c clause hints ≡ Ok level → (c ≡ ends_false) × (greatest_level hints ≡ level)
-level_by-parts ends_false clause hints level h = step (are_ascending clause) h
+    → level_by c clause hints ≡ Ok level
+    → (c ≡ ends_false) × (are_ascending clause ≡ true) × (greatest_level hints ≡ level)
+level_by-parts ends_false clause hints level h = step (are_ascending clause) refl h
   where
-    step : (b : Bool) → (if b then Ok (greatest_level hints) else Err not_by_hints) ≡ Ok level
-        → (ends_false ≡ ends_false) × (greatest_level hints ≡ level)
-    step true h = (refl, Prim.cc (h))
-    step false h = absurd (Prim.cc (h))
+    step : (b : Bool) → are_ascending clause ≡ b
+        → (if b then Ok (greatest_level hints) else Err not_by_hints) ≡ Ok level
+        → (ends_false ≡ ends_false) × (are_ascending clause ≡ true) × (greatest_level hints ≡ level)
+    step true is h = (refl, is, Prim.cc (h))
+    step false is h = absurd (Prim.cc (h))
 level_by-parts stays_open clause hints level h = absurd (Prim.cc (h))
 level_by-parts has_idle_hint clause hints level h = absurd (Prim.cc (h))
 
-learned-parts : (kept : Kept) (clause : List Lit) (ids : List ℕ) (level : ℕ) → learned kept clause ids ≡ Ok level
+pub learned-parts : (kept : Kept) (clause : List Lit) (ids : List ℕ) (level : ℕ) → learned kept clause ids ≡ Ok level
     → IsLearned kept clause ids level
 learned-parts kept clause ids level h = step (hinted kept ids) refl h
   where
-    by : (b : Bool) (hints : List KeptClause) → hinted kept ids ≡ Some hints
+    by : (b : Bool) (hints : List KeptClause) → hinted kept ids ≡ Some hints → is_repeated kept clause ≡ b
         → (if b then Err repeated_clause else level_by (course (map negation clause) hints) clause hints) ≡ Ok level
         → IsLearned kept clause ids level
-    by true hints are h = absurd (Prim.cc (h))
-    by false hints are h =
+    by true hints are new h = absurd (Prim.cc (h))
+    by false hints are new h =
         let parts = level_by-parts (course (map negation clause) hints) clause hints level h in
-        record { hints = hints; are = are; ends = parts.0; greatest = parts.1 }
+        record {
+          hints = hints;
+          are = are;
+          new = new;
+          ends = parts.0;
+          ascends = parts.1;
+          greatest = parts.2;
+        }
 
     step : (o : Option (List KeptClause)) → hinted kept ids ≡ o
         → (elim o as (λ _. Result ℕ Unlearned) [
@@ -48,18 +59,18 @@ learned-parts kept clause ids level h = step (hinted kept ids) refl h
               else level_by (course (map negation clause) hints) clause hints
         ]) ≡ Ok level → IsLearned kept clause ids level
     step None are h = absurd (Prim.cc (h))
-    step (Some hints) are h = by (is_repeated kept clause) hints are h
+    step (Some hints) are h = by (is_repeated kept clause) hints are refl h
 
 -- The hints are the clauses that the numbers name.
 
-record IsHinted (kept : Kept) (id : ℕ) (ids : List ℕ) (hints : List KeptClause) : Type 0 where
-  first : KeptClause
-  others : List KeptClause
-  there : kept_at kept id ≡ Some first
-  rest : hinted kept ids ≡ Some others
-  all : hints ≡ first ∷ others
+pub record IsHinted (kept : Kept) (id : ℕ) (ids : List ℕ) (hints : List KeptClause) : Type 0 where
+  pub first : KeptClause
+  pub others : List KeptClause
+  pub there : kept_at kept id ≡ Some first
+  pub rest : hinted kept ids ≡ Some others
+  pub all : hints ≡ first ∷ others
 
-hinted-parts : (kept : Kept) (id : ℕ) (ids : List ℕ) (hints : List KeptClause) → hinted kept (id ∷ ids) ≡ Some hints
+pub hinted-parts : (kept : Kept) (id : ℕ) (ids : List ℕ) (hints : List KeptClause) → hinted kept (id ∷ ids) ≡ Some hints
     → IsHinted kept id ids hints
 hinted-parts kept id ids hints h = step (kept_at kept id) refl h
   where

@@ -2,6 +2,16 @@ mod SameParts
 mod TableFacts
 mod LinearFacts
 mod ClauseSets
+mod SetForms
+mod GateForms
+mod OrderForms
+mod StepForms
+mod EmptyForms
+mod LinearForms
+mod FilterForms
+mod HintForms
+mod DeadForms
+mod ExpansionForms
 mod BoundOrders
 mod ShortWords
 mod GateFacts
@@ -34,6 +44,10 @@ mod ScriptHistory
 mod NamedFacts
 mod CountFacts
 mod RelevantFacts
+mod LeastFacts
+mod LineForms
+mod BestBounds
+mod RegexForms
 mod FittingValues
 mod SomeFacts
 mod AssumedTerms

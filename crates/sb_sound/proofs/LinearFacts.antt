@@ -226,12 +226,12 @@ denied v atoms (l ∷ ls) h =
 
 -- By bounds that hold, a forced literal of a sum is true.
 
-record Passed (test : ℤ → Bool) (o : Option ℤ) : Type 0 where
-  number : ℤ
-  there : o ≡ Some number
-  good : test number ≡ true
+pub record Passed (test : ℤ → Bool) (o : Option ℤ) : Type 0 where
+  pub number : ℤ
+  pub there : o ≡ Some number
+  pub good : test number ≡ true
 
-passed : (test : ℤ → Bool) (o : Option ℤ) → passes test o ≡ true → Passed test o
+pub passed : (test : ℤ → Bool) (o : Option ℤ) → passes test o ≡ true → Passed test o
 passed test None h = absurd (Prim.cc (h))
 passed test (Some n) h = record { number = n; there = refl; good = h }
 

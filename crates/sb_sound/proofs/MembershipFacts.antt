@@ -226,12 +226,12 @@ steps_hold empty apart along keeps v atoms clause h =
 
 -- Empty: the words that the negations of the literals speak of.
 
-record IsDenied (positive : Bool) (o : Option Atom) (m : ℕ × Regex) : Type 0 where
-  regex : Regex
-  there : o ≡ Some (in_atom (constant_piece m.0 ∷ []) regex)
-  is : m.1 ≡ (if positive then mknot regex else regex)
+pub record IsDenied (positive : Bool) (o : Option Atom) (m : ℕ × Regex) : Type 0 where
+  pub regex : Regex
+  pub there : o ≡ Some (in_atom (constant_piece m.0 ∷ []) regex)
+  pub is : m.1 ≡ (if positive then mknot regex else regex)
 
-seen_denied : (positive : Bool) (o : Option Atom) (m : ℕ × Regex) → denied positive o ≡ Some m
+pub seen_denied : (positive : Bool) (o : Option Atom) (m : ℕ × Regex) → denied positive o ≡ Some m
     → IsDenied positive o m
 seen_denied true (Some (in_atom (constant_piece x ∷ []) r)) m h =
     let same : (x, mknot r) ≡ m = cc in

@@ -117,3 +117,20 @@ find_any test (x ∷ xs) any = elim (or_cases (test x) (list_any test xs) any) [
       let f = find_any test xs later in
       record { element = f.element; within = Contains-later x xs f.element f.within; passes = f.passes }
 ]
+
+-- one that passes, of a list
+pub any_of : {X : Type 0} → (test : X → Bool) (xs : List X) (x : X) → Contains xs x → test x ≡ true
+    → list_any test xs ≡ true
+any_of test [] x within h = absurd (Contains-none x within)
+any_of test (y ∷ xs) x within h = elim (Contains-cases y xs x within) [
+  | inl here ↦ or_left (test y) (list_any test xs) (ap test here ∙ h)
+  | inr later ↦ or_right (test y) (list_any test xs) (any_of test xs x later h)
+]
+
+-- all pass where each does
+pub all_from : {X : Type 0} → (test : X → Bool) (xs : List X) → ((x : X) → Contains xs x → test x ≡ true)
+    → list_all test xs ≡ true
+all_from test [] h = refl
+all_from test (y ∷ xs) h =
+    and_from (test y) (list_all test xs) (h y (Contains-first y xs))
+    (all_from test xs (λ x within. h x (Contains-later y xs x within)))

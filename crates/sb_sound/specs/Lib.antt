@@ -1,4 +1,5 @@
 pub mod Tables
+pub mod ClauseForms
 pub mod GateLaws
 pub mod BoundLaws
 pub mod LinearLaws
@@ -13,4 +14,6 @@ pub mod AcceptedLaws
 pub mod LimitLaws
 pub mod CountLaws
 pub mod RelevantLaws
+pub mod ClauseLaws
+pub mod RegexLaws
 pub mod TruthLaws

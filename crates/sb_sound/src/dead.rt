@@ -1,6 +1,6 @@
 //! Dead regexes.
 
-ghost use Rattle.sb_sound.specs.DeadLaws.{ExpandedIsRight, DeadStaysEmpty};
+ghost use Rattle.sb_sound.specs.DeadLaws.{ExpandedIsRight, ExpandedIsExact, DeadStaysEmpty, DeadIsExact};
 
 use sb_lang::derivative::{derivative_has_rests, nullable_has_empty_word};
 use sb_lang::order::order_tells_apart;
@@ -21,3 +21,16 @@ pub fn dead_stays_empty()
     nullable_has_empty_word();
     derivative_has_rests();
 }
+
+/// An expansion is accepted exactly where it is new and right, and the count is below the limit.
+pub fn expanded_is_exact()
+    ensures { ExpandedIsExact }
+{
+    order_tells_apart();
+    test_decides_expansion();
+}
+
+/// Regexes are accepted as dead exactly where they are new and not nullable, and stay among themselves and the dead.
+pub fn dead_is_exact()
+    ensures { DeadIsExact }
+{}

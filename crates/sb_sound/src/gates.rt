@@ -1,6 +1,6 @@
 //! Clauses of gates.
 
-ghost use Rattle.sb_sound.specs.GateLaws.{GatesHold};
+ghost use Rattle.sb_sound.specs.GateLaws.{GatesHold, GatesAreExact};
 
 use sb_lang::constructors::mkrep_keeps_language;
 use sb_lang::languages::repetition_is_some_power;
@@ -13,4 +13,11 @@ pub fn gates_hold()
     order_tells_apart();
     mkrep_keeps_language();
     repetition_is_some_power();
+}
+
+/// Gates are the clauses of these forms and no others.
+pub fn gates_are_exact()
+    ensures { GatesAreExact }
+{
+    order_tells_apart();
 }
