@@ -2,6 +2,7 @@
 # make prove                  builds the proved program, crates/strsolve/out/strsolve
 # make install [PREFIX=path]  builds it, and puts it into PREFIX/bin
 # make test                   the gate: proves everything, and runs the tests, the program and the examples
+# make wrong-rules            tries wrong rules of proofs against the laws of sb_sound
 # make bench                  times the program
 SHELL := /bin/bash
 SCRIPT ?= examples/first.smt2
@@ -10,7 +11,7 @@ export SCRIPT PREFIX DESTDIR
 
 PROGRAM := crates/strsolve/out/strsolve
 
-.PHONY: run prove install test bench
+.PHONY: run prove install test wrong-rules bench
 
 run:
 	@exec 3>&1 < "$$SCRIPT" || exit 2; set -o pipefail; cd crates/strsolve; \
@@ -27,6 +28,9 @@ install: prove
 
 test:
 	@.ci/run
+
+wrong-rules:
+	@.ci/wrong-rules
 
 bench:
 	@bench/run.sh

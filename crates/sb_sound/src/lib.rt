@@ -3,8 +3,8 @@
 //! Each rule of `sb_rulebook` is a test on clauses, sets of regexes or verdicts; a law here says that what the test
 //! accepts is true. The one idea is that truth is that of the atoms under a valuation, so a law on clauses speaks of
 //! every valuation, or of every one whose words are words of characters, and a rule that is too wide has no law.
-//! Beside it stands a law that says in words exactly which clauses, or lines, the test accepts. The laws of `steps` carry those
-//! of the rules over to the lines of a proof, and the laws of `proofs` to whole proofs.
+//! Beside it stands a law that says in words exactly which clauses, or lines, the test accepts. The laws of `steps`
+//! carry those of the rules over to the lines of a proof, and the laws of `proofs` to whole proofs.
 //!
 //! There is no program code here. Each function is a law: its body is empty, or calls the laws that it rests on. A
 //! caller calls it to have the law.
