@@ -10,6 +10,13 @@ use std::alloc::{AllocError, Global};
 use std::process::Abort;
 use std::test::Fail;
 
+/// A graph that knows nothing.
+fn new_graph(alloc: Global, arena: &Arena) -> Graph
+    ensures { IsGraph arena.now result }
+{
+    Graph::new(alloc)
+}
+
 fn explore(graph: &mut Graph, arena: &mut Arena, root: RegexId) -> Result<Explored, AllocError>
     requires { IsGraph arena.old graph.old }
     ensures { IsGraph arena.new graph.new }
@@ -83,7 +90,7 @@ fn all_find(
 ) -> Result<(), AllocError> {
     for (text, codes) in rows {
         let root = regex(alloc, arena, text)?;
-        expect_word(rt, &mut Graph::new(alloc), arena, root, codes)?;
+        expect_word(rt, &mut new_graph(alloc, arena), arena, root, codes)?;
     }
     Ok(())
 }
@@ -93,7 +100,7 @@ fn ends(rt: &impl Abort, alloc: Global, arena: &mut Arena) -> Result<(), AllocEr
     let a = word(alloc, arena, &[0x2ffff, 0])?;
     let b = word(alloc, arena, &[0, 0x2ffff])?;
     let both = alt(arena, &[a, b])?;
-    expect_word(rt, &mut Graph::new(alloc), arena, both, &[0, 0x2ffff])
+    expect_word(rt, &mut new_graph(alloc, arena), arena, both, &[0, 0x2ffff])
 }
 
 fn least(rt: &impl Abort, alloc: Global, arena: &mut Arena) -> Result<(), AllocError> {
@@ -205,7 +212,7 @@ const TEXTS: [&[u8]; 14] = [
 /// The word that is found is the first of all that match.
 fn agrees(rt: &impl Abort, alloc: Global, arena: &mut Arena, r: RegexId) -> Result<(), AllocError> {
     let place = first_place(alloc, arena, r)?;
-    let graph = &mut Graph::new(alloc);
+    let graph = &mut new_graph(alloc, arena);
     if place == WORDS {
         expect_dead(rt, graph, arena, r)
     } else {
@@ -258,7 +265,7 @@ fn all_are_marked(
 ) -> Result<(), AllocError> {
     for text in texts {
         let root = regex(alloc, arena, text)?;
-        marks(rt, &mut Graph::new(alloc), arena, root)?;
+        marks(rt, &mut new_graph(alloc, arena), arena, root)?;
     }
     Ok(())
 }
@@ -278,7 +285,11 @@ fn share(
     expect_word(rt, graph, arena, first, &[0x61, 0x62, 0x63])?;
     assert!(rt; graph.derivative(rest).is_some());
     assert!(rt; graph.derivative(second).is_none());
-    expect_word(rt, graph, arena, second, &[0x63, 0x62, 0x63])
+    expect_word(rt, graph, arena, second, &[0x63, 0x62, 0x63])?;
+    let count = graph.expanded().len();
+    expect_word(rt, graph, arena, first, &[0x61, 0x62, 0x63])?;
+    assert!(rt; graph.expanded().len() == count);
+    Ok(())
 }
 
 fn stays(rt: &impl Abort, alloc: Global, arena: &mut Arena) -> Result<(), AllocError> {
@@ -286,7 +297,7 @@ fn stays(rt: &impl Abort, alloc: Global, arena: &mut Arena) -> Result<(), AllocE
     let rest = regex(alloc, arena, b"x*b.c.")?;
     let first = regex(alloc, arena, b"ax*b.c..")?;
     let second = regex(alloc, arena, b"cx*b.c..")?;
-    share(rt, &mut Graph::new(alloc), arena, first, second, rest)
+    share(rt, &mut new_graph(alloc, arena), arena, first, second, rest)
 }
 
 #[test]
