@@ -6,7 +6,8 @@ use Rattle.sb_lang.specs.Language.{language}
 use Rattle.sb_lang.specs.Least.{IsShortestLeast}
 use Rattle.sb_regex.specs.Numbered.{Names, Extends}
 use Rattle.sb_regex.proofs.CallerLemmas.{at_kept, names_kept, names_below, number_kept}
-use Rattle.sb_graph.specs.Findings.{Answers, AreBarren, AreAnswers}
+use Rattle.sb_deriv.specs.Faithful.{Memo, IsFaithful}
+use Rattle.sb_graph.specs.Findings.{Answers, AreBarren, AreAnswers, IsGraph}
 use Rattle.sb_graph.specs.Queue.{Entry, regex_of, word_at}
 use Rattle.sb_graph.specs.Search.{AreReached, IsDone, IsSearched}
 
@@ -34,6 +35,15 @@ module _ (old new : List Regex) (more : Extends old new) where
         known = number_kept old new n more a.known;
         least = subst (λ r. IsShortestLeast (language r) w) (sym (at_kept old new n more a.known)) a.least;
       }
+
+  pub graph_carried : (memo : Memo) (dead : List Bool) (answers : Answers) (expanded : List ℕ) → IsFaithful new memo
+      → AreBarren old dead → AreAnswers old answers
+      → IsGraph new (record { memo = memo; dead = dead; answers = answers; expanded = expanded })
+  graph_carried memo dead answers expanded f b a = record {
+    faithful = f;
+    barren = barren_carried dead b;
+    answered = answers_carried answers a;
+  }
 
   pub reached_carried : (root : ℕ) (es : List Entry) (ws : List (List ℕ)) → AreReached old root es ws
       → AreReached new root es ws

@@ -17,9 +17,13 @@ use indexmap::IndexMap;
 use sb_deriv::{Derivative, Deriver};
 use sb_lang::derivative::{derivative_along_has_rests, nullable_has_empty_word};
 use sb_regex::{Arena, RegexId};
+use sb_witness::{Outcome, find_word};
 use sb_word::Word;
 use std::alloc::{AllocError, Global};
 use std::marker::Model;
+
+/// How many states a walk over members may meet before the regex is explored.
+const FEW: usize = 2000;
 
 /// What is known of the regexes of an arena: derivatives, marks of dead ones, and words of others.
 #[derive(Drop)]
@@ -116,6 +120,57 @@ impl Graph {
             Some(explored) => Ok(explored),
             None => self.walk(arena, root),
         }
+    }
+
+    /// The least of the shortest words of a regex's language, or that there is none: what `explore` finds, asked for
+    /// first from a walk over the members of unions, which meets few states where the derivatives are unions of many.
+    ///
+    /// Where that walk meets so many states that it gives up, or none that has a word, the regex is explored. So a call
+    /// takes at most the time of `explore` and that of a walk over 2,000 states. The derivatives that the walk wants
+    /// are kept, and not counted among those that explorations expanded.
+    pub fn answer(&mut self, arena: &mut Arena, root: RegexId) -> Result<Explored, AllocError>
+        requires known { root < length arena.old }
+        requires graph { IsGraph arena.old self.old }
+        ensures found { IfOk result (λ explored. IsFinding (language (regex_at arena.old root)) explored) }
+        ensures dead { IfOk result (λ explored. MarksDead self.new.dead root explored) }
+        ensures extends { Extends arena.old arena.new }
+        ensures graph { IsGraph arena.new self.new }
+        ensures marks_stay { KeepsMarks self.old.dead self.new.dead }
+        ensures derivatives_stay { KeepsEntries self.old.memo self.new.memo }
+        ensures expands { GoesOn (IsReachedBy arena.new (regex_at arena.old root) (λ v. ComesBefore v result))
+            self.old.expanded self.new.expanded }
+        ensures settles { OnOk result (is_settled self.new root ≡ true) }
+        ensures settled { is_settled self.old root ≡ true → self.new ≡ self.old }
+    {
+        if !self.is_settled(root) {
+            self.walk_members(arena, root)?;
+        }
+        self.explore(arena, root)
+    }
+
+    /// Whether it is known if a regex has a word.
+    fn is_settled(&self, root: RegexId) -> bool
+        ensures { result ≡ is_settled self.now root }
+    {
+        self.is_dead(root) || self.answers.get(&root).is_some()
+    }
+
+    /// Keeps the word of a regex, where a walk over members finds it.
+    fn walk_members(&mut self, arena: &mut Arena, root: RegexId) -> Result<(), AllocError>
+        requires known { root < length arena.old }
+        requires graph { IsGraph arena.old self.old }
+        ensures extends { Extends arena.old arena.new }
+        ensures graph { IsGraph arena.new self.new }
+        ensures marks { self.new.dead ≡ self.old.dead }
+        ensures expanded { self.new.expanded ≡ self.old.expanded }
+        ensures derivatives_stay { KeepsEntries self.old.memo self.new.memo }
+    {
+        let alloc = *self.dead.allocator();
+        let outcome = find_word(alloc, arena, &mut self.deriver, root, FEW)?;
+        if let Outcome::Found(word) = outcome {
+            self.keep(alloc, root, &word)?;
+        }
+        Ok(())
     }
 
     /// What an earlier exploration found.

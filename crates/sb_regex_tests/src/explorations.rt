@@ -28,6 +28,15 @@ fn explore(graph: &mut Graph, arena: &mut Arena, root: RegexId) -> Result<Explor
     }
 }
 
+/// The answer of a graph that knows nothing.
+fn answer(alloc: Global, arena: &mut Arena, root: RegexId) -> Result<Explored, AllocError> {
+    if root.number() < arena.len() {
+        new_graph(alloc, arena).answer(arena, root)
+    } else {
+        Ok(Explored::Dead)
+    }
+}
+
 fn is_word(explored: &Explored, codes: &[u32]) -> bool {
     match explored {
         Explored::Alive(word) => word.codes() == codes,
@@ -209,14 +218,17 @@ const TEXTS: [&[u8]; 14] = [
     b"a*E*b.E*.&", // a* & .*b.*
 ];
 
-/// The word that is found is the first of all that match.
+/// The word that is found is the first of all that match, and it is the answer.
 fn agrees(rt: &impl Abort, alloc: Global, arena: &mut Arena, r: RegexId) -> Result<(), AllocError> {
     let place = first_place(alloc, arena, r)?;
+    let answered = answer(alloc, arena, r)?;
     let graph = &mut new_graph(alloc, arena);
     if place == WORDS {
+        assert!(rt; is_dead(&answered));
         expect_dead(rt, graph, arena, r)
     } else {
         let word = word_at(alloc, place)?;
+        assert!(rt; is_word(&answered, &word));
         expect_word(rt, graph, arena, r, &word)
     }
 }

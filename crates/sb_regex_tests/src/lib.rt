@@ -14,4 +14,6 @@ mod derivatives;
 #[cfg(test)]
 mod explorations;
 #[cfg(test)]
+mod members;
+#[cfg(test)]
 mod terms;

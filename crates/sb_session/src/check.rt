@@ -177,7 +177,7 @@ fn least_word(
     mkand_keeps_language();
     intersection_is_of_each();
     let root = arena.and(ids)?;
-    match graph.explore(arena, root)? {
+    match graph.answer(arena, root)? {
         Explored::Alive(word) => Ok(Some(word)),
         Explored::Dead => Ok(None),
     }

@@ -10,13 +10,13 @@ pub returns-in_err-root-clause-graph : goal.returns-in_err-root-clause-graph
 returns-in_err-root-clause-graph c =
     c.graph_stays.ensures c.args.arena.now c.and.new.self c.args.graph.now c.and.ensures.extends c.requires.graph
 
-pub explore-requires-clause-known : goal.explore-requires-clause-known
-explore-requires-clause-known c =
+pub answer-requires-clause-known : goal.answer-requires-clause-known
+answer-requires-clause-known c =
     names_below c.and.new.self c.in_ok-root.root (mkand (regexes_at c.args.arena.now c.args.ids.now))
     c.in_ok-root.ensures.ok
 
-pub explore-requires-clause-graph : goal.explore-requires-clause-graph
-explore-requires-clause-graph c =
+pub answer-requires-clause-graph : goal.answer-requires-clause-graph
+answer-requires-clause-graph c =
     c.graph_stays.ensures c.args.arena.now c.and.new.self c.args.graph.now c.and.ensures.extends c.requires.graph
 
 pub returns-in-Alive-clause-least : goal.returns-in-Alive-clause-least

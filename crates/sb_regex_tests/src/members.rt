@@ -1,0 +1,88 @@
+//! Words that a walk over the members of unions finds, where the derivatives are many.
+
+use crate::terms::{cat, range, regex, star};
+use sb_deriv::Deriver;
+use sb_graph::{Explored, Graph};
+use sb_regex::{Arena, RegexId};
+use sb_witness::{Outcome, find_word};
+use std::alloc::{AllocError, Global};
+use std::process::Abort;
+use std::test::Fail;
+
+/// `(a|b)*a(a|b)^n`, which has 2^n derivatives.
+fn many(alloc: Global, arena: &mut Arena, n: u32) -> Result<RegexId, AllocError> {
+    let ab = range(alloc, arena, 0x61, 0x62)?;
+    let mut rest = arena.eps()?;
+    for _ in 0..n {
+        rest = cat(arena, ab, rest)?;
+    }
+    let a = range(alloc, arena, 0x61, 0x61)?;
+    let rest = cat(arena, a, rest)?;
+    let front = star(arena, ab)?;
+    cat(arena, front, rest)
+}
+
+/// The word is as long as said, and all `a`.
+fn is_as(explored: &Explored, length: usize) -> bool {
+    match explored {
+        Explored::Alive(word) => {
+            word.codes().len() == length && word.codes().iter().all(|code| *code == 0x61)
+        }
+        Explored::Dead => false,
+    }
+}
+
+fn finds(rt: &impl Abort, alloc: Global, arena: &mut Arena, n: u32) -> Result<(), AllocError> {
+    let root = many(alloc, arena, n)?;
+    let before = arena.len();
+    if root.number() < before {
+        let explored = Graph::new(alloc).answer(arena, root)?;
+        assert!(rt; is_as(&explored, n as usize + 1));
+        assert!(rt; arena.len() - before <= 3 * n as usize + 10);
+    }
+    Ok(())
+}
+
+#[test]
+fn a_word_behind_many_derivatives_is_found(rt: HostRuntime) -> Result<(), Fail> {
+    Ok(finds(&rt, rt.alloc(), &mut Arena::new(rt.alloc()), 60)?)
+}
+
+/// The length of the word that is found, a million for none, and two millions where the bound is met.
+fn length_of(outcome: &Outcome) -> usize {
+    match outcome {
+        Outcome::Found(word) => word.codes().len(),
+        Outcome::Empty => 1000000,
+        Outcome::Bounded => 2000000,
+    }
+}
+
+/// Regexes, how many states a walk may meet, and what it finds.
+const ROWS: [(&[u8], usize, usize); 5] = [
+    (b"aa.b.z|", 100, 1),
+    (b"E*ba..E*.E*ab..E*.&", 100, 3),
+    (b"aaa.*.aa.a.*&", 100, 3),
+    (b"a*b.a*c.&", 100, 1000000),
+    (b"ab.a.b.a.b.", 3, 2000000),
+];
+
+fn all_walk(
+    rt: &impl Abort,
+    alloc: Global,
+    rows: &[(&[u8], usize, usize)],
+) -> Result<(), AllocError> {
+    for (text, bound, length) in rows {
+        let mut arena = Arena::new(alloc);
+        let root = regex(alloc, &mut arena, text)?;
+        if root.number() < arena.len() {
+            let outcome = find_word(alloc, &mut arena, &mut Deriver::new(alloc), root, *bound)?;
+            assert!(rt; length_of(&outcome) == *length);
+        }
+    }
+    Ok(())
+}
+
+#[test]
+fn a_walk_finds_the_word_or_none_or_meets_its_bound(rt: HostRuntime) -> Result<(), Fail> {
+    Ok(all_walk(&rt, rt.alloc(), &ROWS)?)
+}

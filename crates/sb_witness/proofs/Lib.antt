@@ -1,0 +1,12 @@
+mod Ranks
+mod Lists
+mod Splits
+mod Steps
+mod Growing
+mod Carrying
+mod Pushing
+mod Turns
+mod Derived
+mod Runs
+mod Ends
+mod Walking

@@ -1,0 +1,4 @@
+pub mod Witness
+pub mod Queue
+pub mod Edges
+pub mod Search
