@@ -29,7 +29,7 @@ fn explore(graph: &mut Graph, arena: &mut Arena, root: RegexId) -> Result<Explor
 }
 
 /// The answer of a graph that knows nothing.
-fn answer(alloc: Global, arena: &mut Arena, root: RegexId) -> Result<Explored, AllocError> {
+pub fn answer(alloc: Global, arena: &mut Arena, root: RegexId) -> Result<Explored, AllocError> {
     if root.number() < arena.len() {
         new_graph(alloc, arena).answer(arena, root)
     } else {

@@ -1,8 +1,9 @@
 //! Words that a walk over the members of unions finds, where the derivatives are many.
 
+use crate::explorations::answer;
 use crate::terms::{cat, range, regex, star};
 use sb_deriv::Deriver;
-use sb_graph::{Explored, Graph};
+use sb_graph::Explored;
 use sb_regex::{Arena, RegexId};
 use sb_witness::{Outcome, find_word};
 use std::alloc::{AllocError, Global};
@@ -34,12 +35,9 @@ fn is_as(explored: &Explored, length: usize) -> bool {
 
 fn finds(rt: &impl Abort, alloc: Global, arena: &mut Arena, n: u32) -> Result<(), AllocError> {
     let root = many(alloc, arena, n)?;
-    let before = arena.len();
-    if root.number() < before {
-        let explored = Graph::new(alloc).answer(arena, root)?;
-        assert!(rt; is_as(&explored, n as usize + 1));
-        assert!(rt; arena.len() - before <= 3 * n as usize + 10);
-    }
+    let explored = answer(alloc, arena, root)?;
+    assert!(rt; is_as(&explored, n as usize + 1));
+    assert!(rt; arena.len() < 1000);
     Ok(())
 }
 

@@ -1,0 +1,27 @@
+(set-option :print-success false)
+(set-option :produce-models true)
+(declare-const text String)
+; any text, a card number of one of three brands, any text, and a hexadecimal digit
+(assert (str.in_re text (re.++
+    (re.* (re.range " " "~"))
+    (re.union
+        (re.++ (str.to_re "4") (re.range "0" "9") (re.range "0" "9") (re.range "0" "9")
+            (re.range "0" "9") (re.range "0" "9") (re.range "0" "9") (re.range "0" "9")
+            (re.range "0" "9") (re.range "0" "9") (re.range "0" "9") (re.range "0" "9")
+            (re.range "0" "9") (re.range "0" "9") (re.range "0" "9") (re.range "0" "9"))
+        (re.++ (str.to_re "5") (re.range "0" "9") (re.range "0" "9") (re.range "0" "9")
+            (re.range "0" "9") (re.range "0" "9") (re.range "0" "9") (re.range "0" "9")
+            (re.range "0" "9") (re.range "0" "9") (re.range "0" "9") (re.range "0" "9")
+            (re.range "0" "9") (re.range "0" "9") (re.range "0" "9") (re.range "0" "9"))
+        (re.++ (str.to_re "37") (re.range "0" "9") (re.range "0" "9") (re.range "0" "9")
+            (re.range "0" "9") (re.range "0" "9") (re.range "0" "9") (re.range "0" "9")
+            (re.range "0" "9") (re.range "0" "9") (re.range "0" "9") (re.range "0" "9")
+            (re.range "0" "9") (re.range "0" "9")))
+    (re.* (re.range " " "~"))
+    (re.union (re.range "0" "9") (re.range "a" "f")))))
+(check-sat)
+(get-value (text))
+; and a word in it
+(assert (str.in_re text (re.++ (re.* (re.range " " "~")) (str.to_re "visa") (re.* (re.range " " "~")))))
+(check-sat)
+(get-value (text))

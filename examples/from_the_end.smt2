@@ -1,0 +1,16 @@
+(set-option :print-success false)
+(set-option :produce-models true)
+(declare-const bits String)
+; the twenty-fifth bit from the end is set
+(assert (str.in_re bits (re.++ (re.* (re.range "0" "1")) (str.to_re "1")
+    (re.range "0" "1") (re.range "0" "1") (re.range "0" "1") (re.range "0" "1") (re.range "0" "1")
+    (re.range "0" "1") (re.range "0" "1") (re.range "0" "1") (re.range "0" "1") (re.range "0" "1")
+    (re.range "0" "1") (re.range "0" "1") (re.range "0" "1") (re.range "0" "1") (re.range "0" "1")
+    (re.range "0" "1") (re.range "0" "1") (re.range "0" "1") (re.range "0" "1") (re.range "0" "1")
+    (re.range "0" "1") (re.range "0" "1") (re.range "0" "1") (re.range "0" "1"))))
+(check-sat)
+(get-value (bits))
+; and the first is not
+(assert (str.in_re bits (re.++ (str.to_re "0") (re.* (re.range "0" "1")))))
+(check-sat)
+(get-value (bits))
