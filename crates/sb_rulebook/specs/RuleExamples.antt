@@ -1,5 +1,5 @@
 -- Computed examples of what follows, rule by rule, and of verdicts, levels and limits.
-use Rattle.std.specs.Prelude.{◌≡◌, ℕ, pos, negsuc, true, false, List, [], ◌∷◌, map, codes, Option, Some, None, option_map, Ok, Err, refl}
+use Rattle.std.specs.Prelude.{◌≡◌, ℕ, pos, negsuc, true, false, List, [], ◌∷◌, ◌++◌, map, codes, Option, Some, None, option_map, Ok, Err, refl}
 use Rattle.sb_lit.specs.declared.clause.Lit.{Lit}
 use Rattle.sb_lang.specs.Regex.{Regex, none, set, cat, star, rep, path}
 use Rattle.sb_lang.specs.Order.{regex_eq}
@@ -8,7 +8,7 @@ use Rattle.sb_meaning.specs.Terms.{boolean, integer, text, constant, numeral}
 use Rattle.sb_meaning.specs.Terms as symbol
 use Rattle.sb_meaning.specs.Values.{Text, Int, Truth}
 use Rattle.sb_rulebook.specs.Refusals.{Refusal, unknown_id, repeated, not_normal, wrong_target, not_closed, rule_broken, wrong_verdict}
-use Rattle.sb_rulebook.specs.Atoms.{Atom, bool_atom, in_atom, le_atom, sum_atom, and_atom, iff_atom, truths_of}
+use Rattle.sb_rulebook.specs.Atoms.{Atom, bool_atom, in_atom, le_atom, sum_atom, and_atom, iff_atom, truths_of, is_well_formed}
 use Rattle.sb_rulebook.specs.Lines.{Line, regex_line, atom_line, expansion_line, dead_line, assertion_line, rule_line, learned_line, gate, set_node, rep_node, alt_node, said_sat, said_unsat, said_unknown, said_unsupported}
 use Rattle.sb_rulebook.specs.Kept.{AllKept, Asked, nothing_kept, with_numbers, dropped_above, all_dropped}
 use Rattle.sb_rulebook.specs.Expansions.{is_expansion}
@@ -16,7 +16,8 @@ use Rattle.sb_rulebook.specs.Gates.{is_gate}
 use Rattle.sb_rulebook.specs.BoundClauses.{is_order, is_linear}
 use Rattle.sb_rulebook.specs.Splits.{is_step, is_empty}
 use Rattle.sb_rulebook.specs.Follows.{by_rule}
-use Rattle.sb_rulebook.specs.Verdicts.{Question, refusal_of}
+use Rattle.sb_rulebook.specs.Verdicts.{Question, refusal_of, denies}
+use Rattle.sb_rulebook.specs.Relevant.{lies_between}
 use Rattle.sb_rulebook.specs.Tables.{is_table}
 use Rattle.sb_rulebook.specs.KeptLaws.{are_distinct, has_targets_below, names_regex_of, is_orderly_clause, is_rising}
 use Rattle.sb_rulebook.specs.ProofExamples.{computing}
@@ -129,6 +130,21 @@ two_sums : is_linear bounds (minus 3 ∷ plus 4 ∷ minus 5 ∷ []) ≡ false
 unfolding computing
 two_sums = refl
 
+of_another_atom : is_linear (bounds ++ bool_atom 9 ∷ []) (minus 0 ∷ minus 3 ∷ plus 4 ∷ plus 6 ∷ []) ≡ false
+unfolding computing
+of_another_atom = refl
+
+abbrev large_bound : Atom
+large_bound = le_atom (length_of 0) (pos 0x100000001)
+
+a_bound_too_large : is_well_formed large_bound ≡ false
+unfolding computing
+a_bound_too_large = refl
+
+no_bound_no_number_near : lies_between None (Some (pos 2)) (pos 1) ≡ false
+unfolding computing
+no_bound_no_number_near = refl
+
 -- Step.
 
 abbrev memberships : List Atom
@@ -146,6 +162,11 @@ split_there = refl
 split_back : is_step memberships (plus 0 ∷ minus 1 ∷ minus 2 ∷ []) ≡ true
 unfolding computing
 split_back = refl
+
+no_split_of_other_pieces : is_step (memberships ++ in_atom (constant_piece 2 ∷ []) b ∷ [])
+    (minus 0 ∷ minus 1 ∷ plus 6 ∷ []) ≡ false
+unfolding computing
+no_split_of_other_pieces = refl
 
 no_split_without_a_way : is_step memberships (minus 0 ∷ plus 1 ∷ minus 2 ∷ []) ≡ false
 unfolding computing
@@ -553,3 +574,13 @@ places_put_together = refl
 
 a_place_twice : is_rising (0 ∷ 1 ∷ 1 ∷ []) ≡ false
 a_place_twice = refl
+
+-- Literals that are the negation of an assumption.
+
+denied : denies (minus 0) (Some (bool_atom 3)) (3, true) ≡ true
+unfolding computing
+denied = refl
+
+not_with_its_sign : denies (plus 0) (Some (bool_atom 3)) (3, true) ≡ false
+unfolding computing
+not_with_its_sign = refl
