@@ -72,3 +72,7 @@ mutual
 abbrev pub terms_in : Terms → List Term
 terms_in no_terms = []
 terms_in (with_term term terms) = term ∷ terms_in terms
+
+abbrev pub terms_of : List Term → Terms
+terms_of [] = no_terms
+terms_of (t ∷ ts) = with_term t (terms_of ts)

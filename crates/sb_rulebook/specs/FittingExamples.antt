@@ -1,11 +1,10 @@
 -- Computed examples of why a term that fits must be well sorted to have a literal: the fragment looks for constants in
 -- the second argument of str.in_re, and not at its sort.
 use Rattle.std.specs.Prelude.{◌≡◌, true, false, [], ◌∷◌, codes, None, refl}
-use Rattle.sb_meaning.specs.Terms.{Term, text, constant, word, apply}
+use Rattle.sb_meaning.specs.Terms.{Term, text, constant, word, apply, terms_of}
 use Rattle.sb_meaning.specs.Terms as symbol
 use Rattle.sb_rulebook.specs.Parts.{regex_of}
 use Rattle.sb_script.specs.Fragment.{fits}
-use Rattle.sb_script.specs.Heads.{terms_of}
 use Rattle.sb_script.specs.WellSorted.{is_well_sorted}
 
 abbrev a_word : Term

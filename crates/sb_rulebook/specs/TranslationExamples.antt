@@ -2,12 +2,11 @@
 use Rattle.std.specs.Prelude.{◌≡◌, ℕ, pos, negsuc, true, false, List, [], ◌∷◌, codes, Option, Some, None, refl}
 use Rattle.sb_lit.specs.declared.clause.Lit.{Lit}
 use Rattle.sb_lang.specs.Regex.{Regex, star, set, cat}
-use Rattle.sb_meaning.specs.Terms.{Term, boolean, integer, text, constant, word, numeral, apply}
+use Rattle.sb_meaning.specs.Terms.{Term, boolean, integer, text, constant, word, numeral, apply, terms_of}
 use Rattle.sb_meaning.specs.Terms as symbol
 use Rattle.sb_rulebook.specs.Atoms.{Atom, bool_atom, in_atom, le_atom, sum_atom, and_atom, iff_atom}
 use Rattle.sb_rulebook.specs.Translation.{translation}
 use Rattle.sb_rulebook.specs.ProofExamples.{computing}
-use Rattle.sb_script.specs.Heads.{terms_of}
 use Rattle.sb_script.specs.Pieces.{constant_piece, word_piece}
 use Rattle.sb_script.specs.Sums.{int_constant, length_of}
 

@@ -2,11 +2,10 @@
 -- models, and what is answered.
 use Rattle.std.specs.Prelude.{◌≡◌, ℕ, pos, true, false, List, [], ◌∷◌, ◌++◌, map, codes, refl}
 use Rattle.sb_reader.specs.Forms.{Form, Symbol}
-use Rattle.sb_meaning.specs.Terms.{Term, boolean, integer, text, constant, word, numeral, apply, no_terms}
+use Rattle.sb_meaning.specs.Terms.{Term, boolean, integer, text, constant, word, numeral, apply, no_terms, terms_of}
 use Rattle.sb_meaning.specs.Terms as symbol
 use Rattle.sb_meaning.specs.Values.{Valuation, Text, Int, Truth}
 use Rattle.sb_meaning.specs.Examples.{one, two}
-use Rattle.sb_script.specs.Heads.{terms_of}
 use Rattle.sb_script.specs.Fragment.{are_in_fragment}
 use Rattle.sb_script.specs.Models.{are_defaults}
 use Rattle.sb_script.specs.Commands as command

@@ -5,14 +5,14 @@ use Rattle.std.specs.List.{list_all}
 use Rattle.std.proofs.lemmas.Bool.{and_parts, and_from, false≢true}
 use Rattle.sb_word.specs.Literals.{is_printable}
 use Rattle.sb_reader.specs.Forms.{Form}
-use Rattle.sb_meaning.specs.Terms.{Sort, boolean, integer, text, reglan, Term, Terms, constant, word, numeral, apply, parameter, no_terms, with_term, terms_in}
+use Rattle.sb_meaning.specs.Terms.{Sort, boolean, integer, text, reglan, Term, Terms, constant, word, numeral, apply, parameter, no_terms, with_term, terms_in, terms_of}
 use Rattle.sb_meaning.specs.Terms as symbol
 use Rattle.sb_meaning.specs.Sorts.{sort_of, is_same_sort, are_sorts, is_of_one}
 use Rattle.sb_script.specs.Brought.{escapes, is_brought}
 use Rattle.sb_script.specs.Scopes.{Naming}
 use Rattle.sb_script.specs.Faults.{unsupported, bad_literal, numeral_too_large, wrong_count, wrong_sort}
 use Rattle.sb_script.specs.Texts.{word_of_literal, unquoted, has_backslash, read_text, number_of}
-use Rattle.sb_script.specs.Heads.{terms_of, judged, joined, made, with_arguments, each_with_arguments, judged_definition}
+use Rattle.sb_script.specs.Heads.{judged, joined, made, with_arguments, each_with_arguments, judged_definition}
 use Rattle.sb_script.specs.Reading.{read}
 use Rattle.sb_script.specs.WellSorted.{is_parameter_of, is_well_sorted_over, are_well_sorted_over}
 use Rattle.sb_script.specs.ReadingLaws.{if_read, IsKept, is_sorted_naming}

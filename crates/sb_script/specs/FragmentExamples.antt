@@ -1,6 +1,6 @@
 -- Computed examples of what is decided: of what is brought so far, and of the whole fragment.
 use Rattle.std.specs.Prelude.{◌≡◌, pos, Bool, true, false, List, [], ◌∷◌, map, codes, refl}
-use Rattle.sb_meaning.specs.Terms.{Term, boolean, integer, text, constant, word, numeral, apply, no_terms}
+use Rattle.sb_meaning.specs.Terms.{Term, boolean, integer, text, constant, word, numeral, apply, no_terms, terms_of}
 use Rattle.sb_meaning.specs.Terms as symbol
 use Rattle.sb_meaning.specs.Values.{Int, Truth}
 use Rattle.sb_meaning.specs.Examples.{one, two, x, as_and_more}
@@ -9,7 +9,6 @@ use Rattle.sb_script.specs.Fragment.{fits, are_in_fragment}
 use Rattle.sb_script.specs.State.{Assertion, asserted, a_mark, assumed}
 use Rattle.sb_script.specs.Models.{is_plain_term, are_defaults, about}
 use Rattle.sb_script.specs.Sizes.{size_of}
-use Rattle.sb_script.specs.Heads.{terms_of}
 
 -- What is brought.
 

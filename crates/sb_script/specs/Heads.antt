@@ -3,7 +3,7 @@
 use Rattle.std.specs.Prelude.{ℕ, Bool, not, ◌&&◌, ◌==◌, nat_eq, nat_le, if◌then◌else◌, List, [], ◌∷◌, map, length, codes, slice_get, Option, Some, None, option_map, unwrap_or, is_none, Result, Ok, Err}
 use Rattle.std.specs.List.{list_all}
 use Rattle.sb_reader.specs.Forms.{Forms, Numeral, OtherNumber, none, more}
-use Rattle.sb_meaning.specs.Terms.{Sort, Term, Terms, constant, word, numeral, apply, parameter, no_terms, with_term}
+use Rattle.sb_meaning.specs.Terms.{Sort, Term, Terms, constant, word, numeral, apply, parameter, no_terms, with_term, terms_of}
 use Rattle.sb_meaning.specs.Terms as symbol
 use Rattle.sb_meaning.specs.Sorts.{arity_of, is_of_one, sort_of, are_sorts, is_count, takes_sorts, is_left_out_use}
 use Rattle.sb_script.specs.Names.{Name, is_name}
@@ -93,10 +93,6 @@ read_indexed names name indices =
     else without_indices name indices (read_head names name)
 
 -- Arguments.
-
-abbrev pub terms_of : List Term → Terms
-terms_of [] = no_terms
-terms_of (t ∷ ts) = with_term t (terms_of ts)
 
 -- The fault of a symbol with arguments of these sorts, none where it takes them. What is left out is judged last.
 abbrev pub judged : symbol.Symbol → List Sort → Option Fault

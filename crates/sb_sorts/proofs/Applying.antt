@@ -5,10 +5,10 @@ use Rattle.std.specs.List.{list_all, zip}
 use Rattle.std.specs.declared.vec.Vec.{Vec}
 use Rattle.std.specs.declared.alloc.Global.{Global}
 use Rattle.std.proofs.lemmas.List.{length-map}
-use Rattle.sb_meaning.specs.Terms.{Terms, with_term}
+use Rattle.sb_meaning.specs.Terms.{Terms, with_term, terms_of}
 use Rattle.sb_meaning.specs.Terms as meaning
 use Rattle.sb_meaning.specs.Sorts.{sort_of, is_same_sort, are_sorts, is_of_one}
-use Rattle.sb_script.specs.Heads.{terms_of, joined, made}
+use Rattle.sb_script.specs.Heads.{joined, made}
 use Rattle.sb_sorts.specs.declared.sort.Sort.{Sort}
 use Rattle.sb_sorts.specs.declared.sort.Symbol.{Symbol}
 use Rattle.sb_sorts.specs.declared.term.Term as code

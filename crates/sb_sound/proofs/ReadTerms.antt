@@ -7,7 +7,7 @@ use Rattle.std.proofs.lemmas.Bool.{and_parts, and_from, ltb-true, eqb-true}
 use Rattle.sb_word.specs.Words.{is_character, are_characters}
 use Rattle.sb_word.specs.Literals.{is_printable}
 use Rattle.sb_reader.specs.Forms.{Form, Forms, Symbol, QuotedSymbol, Keyword, Numeral, OtherNumber, Words, Group, none, more}
-use Rattle.sb_meaning.specs.Terms.{Sort, Term, Terms, constant, word, numeral, apply, parameter, no_terms, with_term}
+use Rattle.sb_meaning.specs.Terms.{Sort, Term, Terms, constant, word, numeral, apply, parameter, no_terms, with_term, terms_of}
 use Rattle.sb_meaning.specs.Terms as symbol
 use Rattle.sb_meaning.specs.Sorts.{is_of_one, sort_of, are_sorts}
 use Rattle.sb_script.specs.Names.{Name, is_name, is_reserved, begins_term}
@@ -18,7 +18,7 @@ use Rattle.sb_script.specs.Reading.{◌>>=◌, read_name, read_index_list, read_
 use Rattle.sb_rulebook.specs.AtomRules.{is_declared}
 use Rattle.sb_sound.specs.TermLaws.{fits_sorts, all_fit}
 use Rattle.sb_script.specs.Faults.{Fault, unknown_symbol, wrong_sort, wrong_count, bad_index, unsupported, numeral_too_large, bad_literal, malformed, already_bound}
-use Rattle.sb_script.specs.Heads.{Head, head_constant, head_symbol, head_definition, head_term, head_of, head_of_theory, indices_of, are_small_indices, symbol_with, if_small_indices, with_indices, hexadecimal_digits, character_word, without_indices, terms_of, judged, joined, made, with_arguments, each_with_arguments, unless, judged_definition, read_head, applied_to, read_indexed}
+use Rattle.sb_script.specs.Heads.{Head, head_constant, head_symbol, head_definition, head_term, head_of, head_of_theory, indices_of, are_small_indices, symbol_with, if_small_indices, with_indices, hexadecimal_digits, character_word, without_indices, judged, joined, made, with_arguments, each_with_arguments, unless, judged_definition, read_head, applied_to, read_indexed}
 use Rattle.sb_script.specs.Texts.{word_of_literal, has_backslash, unquoted, read_text, number_of, read_numeral, character_of}
 use Rattle.sb_sound.proofs.PassFacts.{all_append}
 use Rattle.sb_sound.proofs.ReadTexts.{unquoted_characters, character_spelled, literal_characters}

@@ -1,0 +1,47 @@
+-- What a caller cites of terms by their numbers, in a table that grows.
+use Rattle.std.proofs.Common.{◌≡◌, ℕ, suc, ◌<◌, ◌≤◌, Some, List, [], ◌∷◌, ◌++◌, length, get_or, refl, sym, ap, ap₂, ◌∙◌, arith, append_assoc, length-append}
+use Rattle.std.specs.List.{All}
+use Rattle.std.proofs.lemmas.List.{append-nil, get_or_append_left}
+use Rattle.std.proofs.lemmas.Option.{get_or_from_slice_get, slice_get_within, slice_get-get_or}
+use Rattle.sb_meaning.specs.Terms.{Term, word}
+use Rattle.sb_term.specs.Numbered.{term_at, terms_at, Names, AllNumbers, Extends}
+
+pub extends_same : (ts : List Term) → Extends ts ts
+extends_same ts = record { more = []; is = sym (append-nil ts) }
+
+pub extends_more : (a b c : List Term) → Extends a b → Extends b c → Extends a c
+extends_more a b c p q =
+    record { more = p.more ++ q.more; is = q.is ∙ ap (λ x. x ++ q.more) p.is ∙ append_assoc a p.more q.more }
+
+pub long_kept : (old new : List Term) → Extends old new → length old ≤ length new
+long_kept old new e = omega (arith, ap length e.is, length-append old e.more)
+
+pub at_kept : (old new : List Term) (i : ℕ) → Extends old new → i < length old → term_at new i ≡ term_at old i
+at_kept old new i e h = ap (λ xs. get_or xs i (word [])) e.is ∙ get_or_append_left old e.more (word []) i h
+
+pub names_at : (ts : List Term) (i : ℕ) (t : Term) → Names ts i t → term_at ts i ≡ t
+names_at ts i t h = get_or_from_slice_get ts i t (word []) h
+
+pub names_below : (ts : List Term) (i : ℕ) (t : Term) → Names ts i t → i < length ts
+names_below ts i t h = slice_get_within ts i t h
+
+pub names_from : (ts : List Term) (i : ℕ) (t : Term) → i < length ts → term_at ts i ≡ t → Names ts i t
+names_from ts i t l e = slice_get-get_or ts i (word []) l ∙ ap Some e
+
+pub names_kept : (old new : List Term) (i : ℕ) (t : Term) → Extends old new → Names old i t → Names new i t
+names_kept old new i t e h =
+    let l = names_below old i t h in
+    names_from new i t (omega (arith, l, long_kept old new e)) (at_kept old new i e l ∙ names_at old i t h)
+
+pub number_kept : (old new : List Term) (i : ℕ) → Extends old new → i < length old → i < length new
+number_kept old new i e h = omega (arith, h, long_kept old new e)
+
+pub numbers_kept : (old new : List Term) (is : List ℕ) → Extends old new → AllNumbers old is → AllNumbers new is
+numbers_kept old new is e h = λ k d l. number_kept old new (get_or is k d) e (h k d l)
+
+pub ats_kept : (old new : List Term) (is : List ℕ) → Extends old new → AllNumbers old is
+    → terms_at new is ≡ terms_at old is
+ats_kept old new [] e h = refl
+ats_kept old new (i ∷ is) e h =
+    ap₂ (λ t ts. t ∷ ts) (at_kept old new i e (h 0 0 (omega arith)))
+    (ats_kept old new is e (λ k d l. h (suc k) d (omega (arith, l))))

@@ -1,0 +1,4 @@
+pub mod CallerLemmas
+pub mod SymbolEq
+pub mod NodeEq
+pub mod TableFacts

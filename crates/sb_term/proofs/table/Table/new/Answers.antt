@@ -1,0 +1,9 @@
+use Rattle.std.proofs.lemmas.List.{nil_from_length}
+use Rattle.sb_term.proofs.TableFacts.{table_none, terms_nil}
+use Rattle.sb_term.proofs.table.Table.new.Goals as goal
+
+pub invariant_of-result : goal.invariant_of-result
+invariant_of-result c = rw (nil_from_length _ c.new.ensures.len) table_none
+
+pub returns : goal.returns
+returns c = terms_nil _ c.new.ensures.len

@@ -1,0 +1,4 @@
+pub mod Symbols
+pub mod Numbered
+pub mod Nodes
+pub mod Interning
