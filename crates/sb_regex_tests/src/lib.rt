@@ -1,6 +1,7 @@
-//! Tests of the crates from sets of characters up to the exploration of derivatives, by their public items alone.
+//! Tests of the crates from sets of characters up to derivatives, by their public items alone, and regexes of texts for
+//! the tests of the crates above.
 //!
-//! The crate has no code of its own. What each layer promises is proved there; here are worked examples with expected
+//! The crate has no other code of its own. What each layer promises is proved there; here are worked examples with expected
 //! answers from outside the code, comparisons with plain ways to compute the same, large inputs, and each public call
 //! once with ample memory.
 #![tactic(auto)]
@@ -11,9 +12,4 @@ mod arenas;
 mod classes;
 #[cfg(test)]
 mod derivatives;
-#[cfg(test)]
-mod explorations;
-#[cfg(test)]
-mod members;
-#[cfg(test)]
-mod terms;
+pub mod terms;

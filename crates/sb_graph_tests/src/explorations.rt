@@ -3,7 +3,7 @@
 
 ghost use Rattle.sb_graph.specs.Findings.{IsGraph};
 
-use crate::terms::{alt, regex, word};
+use sb_regex_tests::terms::{alt, regex, word};
 use sb_graph::{Explored, Graph};
 use sb_regex::{Arena, Node, RegexId};
 use std::alloc::{AllocError, Global};

@@ -1,7 +1,7 @@
 //! Words that a walk over the members of unions finds, where the derivatives are many.
 
 use crate::explorations::answer;
-use crate::terms::{cat, range, regex, star};
+use sb_regex_tests::terms::{cat, range, regex, star};
 use sb_deriv::Deriver;
 use sb_graph::Explored;
 use sb_regex::{Arena, RegexId};

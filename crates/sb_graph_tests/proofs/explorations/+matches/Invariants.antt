@@ -1,4 +1,4 @@
-use Rattle.sb_regex_tests.proofs.explorations.+matches.Given as goal
+use Rattle.sb_graph_tests.proofs.explorations.+matches.Given as goal
 
 abbrev pub decreases-matches : goal.decreases-matches
 decreases-matches l = l.depth
