@@ -17,20 +17,9 @@ use Rattle.sb_deriv.specs.declared.operation.Operation.{Operation}
 use Rattle.sb_deriv.specs.declared.operation.Operation.TheVariants as operation
 use Rattle.sb_deriv.specs.Choices.{made, AreConstants}
 
--- the complement of a complement, and of none
-
-pub mknot_neg : (rs : List Regex) (d : Node) (r : Regex) (b : ℕ) → node_regex rs d ≡ r → d ≡ node.Not b
-    → regex_at rs b ≡ mknot r
-unfolding mknot
-mknot_neg rs d r b e is = ap (λ x. mknot (node_regex rs x)) (sym is) ∙ ap mknot e
-
 pub no_members : mkand [] ≡ anything
 unfolding mkand meet_sets meet_of ranges_of is_set conjuncts sorted and_of code
 no_members = refl
-
-pub mknot_none : (rs : List Regex) (d : Node) (r : Regex) → node_regex rs d ≡ r → d ≡ node.None → mkand [] ≡ mknot r
-unfolding mknot
-mknot_none rs d r e is = no_members ∙ ap (λ x. mknot (node_regex rs x)) (sym is) ∙ ap mknot e
 
 -- what is made of no regex, and of one
 

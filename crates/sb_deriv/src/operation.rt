@@ -2,7 +2,6 @@
 
 ghost use Rattle.std.specs.Prelude.{◌≡◌, ◌<◌, ◌∷◌, [], List, true, length, IfOk};
 ghost use Rattle.sb_lang.specs.Regex.{Regex, none, eps, neg};
-ghost use Rattle.sb_lang.specs.Constructors.{mknot};
 ghost use Rattle.sb_regex.specs.Numbered.{regex_at, regexes_at, AllNumbers, Extends, Names};
 ghost use Rattle.sb_deriv.specs.Choices.{made, drops, absorbs, AreConstants, OperandIsKnown, IsShape};
 
@@ -147,7 +146,7 @@ impl Operation {
                 }
                 arena.and(&[id])
             }
-            Operation::Not => complement(arena, id),
+            Operation::Not => arena.not(id),
             Operation::Cat(b) => arena.cat(id, *b),
         }
     }
@@ -164,7 +163,7 @@ impl Operation {
             Operation::And => arena.and(ids),
             Operation::Not => match ids {
                 [] => arena.none(),
-                [a, ..] => complement(arena, *a),
+                [a, ..] => arena.not(*a),
             },
             Operation::Cat(b) => match ids {
                 [] => arena.none(),
@@ -195,19 +194,6 @@ impl Operation {
             Operation::And => id == constants.none,
             Operation::Not | Operation::Cat(_) => false,
         }
-    }
-}
-
-/// The complement.
-fn complement(arena: &mut Arena, a: RegexId) -> Result<RegexId, AllocError>
-    requires { a < length arena.old }
-    ensures ok { IfOk result (λ id. Names arena.new id (mknot (regex_at arena.old a))) }
-    ensures extends { Extends arena.old arena.new }
-{
-    match arena.node(a) {
-        Node::Not(b) => Ok(*b),
-        Node::None => arena.and(&[]),
-        _ => Err(AllocError),
     }
 }
 

@@ -86,3 +86,28 @@ star_other rs d r e f g h k = ap (λ x. star x) (sym e) ∙ plain d f g h k ∙ 
 
 pub normal_star : (r : Regex) → ConstructorsGiveNormal → IsNormal r → star r ≡ mkstar r → IsNormal (star r)
 normal_star r law n e = rw e (law.stars r n)
+
+-- Complements.
+
+pub not_not : (rs : List Regex) (d : Node) (r : Regex) (b : ℕ) → node_regex rs d ≡ r → d ≡ node.Not b
+    → regex_at rs b ≡ mknot r
+unfolding mknot
+not_not rs d r b e is = ap (λ x. mknot (node_regex rs x)) (sym is) ∙ ap mknot e
+
+pub not_other : (rs : List Regex) (d : Node) (r : Regex) → node_regex rs d ≡ r
+    → ((b : ℕ) → d ≡ node.Not b → ⊥) → neg r ≡ mknot r
+unfolding mknot
+not_other rs d r e f = ap neg (sym e) ∙ plain d f ∙ ap mknot e
+  where
+    plain : (d : Node) → ((b : ℕ) → d ≡ node.Not b → ⊥) → neg (node_regex rs d) ≡ mknot (node_regex rs d)
+    plain node.None f = refl
+    plain node.Eps f = refl
+    plain (node.Set v) f = refl
+    plain (node.Cat a b) f = refl
+    plain (node.Alt ps) f = refl
+    plain (node.And ps) f = refl
+    plain (node.Not a) f = absurd (f a refl)
+    plain (node.Star a) f = refl
+
+pub normal_not : (r : Regex) → ConstructorsGiveNormal → IsNormal r → neg r ≡ mknot r → IsNormal (neg r)
+normal_not r law n e = rw e (law.complements r n)

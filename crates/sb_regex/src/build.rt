@@ -2,7 +2,7 @@
 
 ghost use Rattle.std.specs.Prelude.{◌≡◌, ◌<◌, true, false, length, IfOk};
 ghost use Rattle.sb_lang.specs.Regex.{set};
-ghost use Rattle.sb_lang.specs.Constructors.{any_character, mkset, mkcat, mkstar};
+ghost use Rattle.sb_lang.specs.Constructors.{any_character, mkset, mkcat, mknot, mkstar};
 ghost use Rattle.sb_lang.specs.Order.{regex_eq};
 ghost use Rattle.sb_lang.specs.Normal.{word_regex};
 ghost use Rattle.sb_lang.specs.NormalForm.{IsNormal};
@@ -109,6 +109,20 @@ impl Arena {
             whole = self.intern(Node::Cat(heads[left], whole))?;
         }
         Ok(whole)
+    }
+
+    /// The complement. Constant time.
+    pub fn not(&mut self, a: RegexId) -> Result<RegexId, AllocError>
+        requires { a < length self.old }
+        ensures ok { IfOk result (λ id. Names self.new id (mknot (regex_at self.old a))) }
+        ensures extends { Extends self.old self.new }
+    {
+        constructors_give_normal();
+        self.normal_regexes_each_once();
+        match self.node(a) {
+            Node::Not(b) => Ok(*b),
+            _ => self.intern(Node::Not(a)),
+        }
     }
 
     /// The star. Constant time, but for a set it is linear in the number of ranges.

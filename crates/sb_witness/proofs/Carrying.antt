@@ -1,13 +1,13 @@
 -- More regexes change nothing of what is known of those that were there.
-use Rattle.std.proofs.Common.{◌≡◌, ℕ, ◌+◌, ◌*◌, ◌<◌, List, ◌∷◌, length, sym, ap, ◌∙◌}
+use Rattle.std.proofs.Common.{◌≡◌, ℕ, ◌<◌, List, ◌∷◌, length, sym, ap, ◌∙◌}
 use Rattle.sb_lang.specs.Regex.{Regex}
 use Rattle.sb_lang.specs.Derivative.{nullable}
 use Rattle.sb_lang.specs.Language.{language}
 use Rattle.sb_lang.specs.Languages.{Language}
 use Rattle.sb_regex.specs.Numbered.{regex_at, Extends}
 use Rattle.sb_regex.proofs.CallerLemmas.{at_kept, number_kept}
-use Rattle.sb_witness.specs.Queue.{Entry, regex_of, word_at}
-use Rattle.sb_witness.specs.Search.{rank_at, IsMet, AreReached, IsDone, IsSearched}
+use Rattle.sb_witness.specs.Queue.{Entry, regex_of}
+use Rattle.sb_witness.specs.Search.{AreReached, IsDone, IsSearched}
 
 module _ (old new : List Regex) (more : Extends old new) where
   language_kept : (n : ℕ) → n < length old → (u : List ℕ) → language (regex_at new n) u ≡ language (regex_at old n) u

@@ -1,25 +1,19 @@
 -- The pieces of derivatives as edges.
-use Rattle.std.proofs.Common.{◌≡◌, ℕ, zero, suc, inl, inr, ◌<◌, ◌≤◌, Bool, true, false, cond, ◌==◌, ◌&&◌, nat_le, List, [], ◌∷◌, ◌++◌, length, get_or, Some, None, ◌⊎◌, IsSome, Option, unwrap_or, refl, sym, ap, subst, ◌∙◌, arith}
-use Rattle.std.specs.List.{All, Contains, flat_map}
-use Rattle.std.specs.List.Sorted.{IsPermutation, IsSorted}
+use Rattle.std.proofs.Common.{◌≡◌, ℕ, zero, suc, inl, inr, ◌<◌, ◌≤◌, Bool, true, false, cond, ◌==◌, nat_le, List, [], ◌∷◌, length, get_or, ◌⊎◌, refl, sym, ap, subst, ◌∙◌, arith}
+use Rattle.std.specs.List.{Contains}
+use Rattle.std.specs.List.Sorted.{IsSorted}
 use Rattle.std.specs.Ordering.{nat_cmp, ordering_then, is_lt}
 use Rattle.std.proofs.lemmas.Bool.{and_parts, false≢true, leb-true, le-leb, lt-ltb, cases_order}
 use Rattle.std.proofs.lemmas.Bool.Decides.{nat_tests}
-use Rattle.std.proofs.lemmas.List.Elements.{All-append, All-nil}
-use Rattle.std.proofs.Math.ListN.{get_or-map}
-use Rattle.std.proofs.lemmas.List.{length-append, length-map, get_or_append_left}
 use Rattle.sb_word.specs.Words.{is_character}
 use Rattle.sb_lang.specs.Regex.{Regex}
 use Rattle.sb_lang.specs.Derivative.{nd}
-use Rattle.sb_lang.specs.DerivativeLaws.{DerivativeHasRests}
-use Rattle.sb_lang.specs.Language.{language}
-use Rattle.sb_regex.specs.Numbered.{regex_at, AllNumbers}
-use Rattle.sb_deriv.specs.Pieces.{value_from, value_at, rises, covers, targets_of}
-use Rattle.sb_deriv.specs.Faithful.{Memo, entry_of, IsFaithful, IsDerivative}
+use Rattle.sb_regex.specs.Numbered.{regex_at}
+use Rattle.sb_deriv.specs.Pieces.{value_from, value_at, rises, covers}
+use Rattle.sb_deriv.specs.Faithful.{IsDerivative}
 use Rattle.sb_deriv.proofs.CallerLemmas.{above_stays, covers_rises, rises_le, rises_head, rises_rest, value_after}
-use Rattle.sb_witness.specs.Edges.{pieces_of, edges_from, AreOrderedEdges}
-use Rattle.sb_witness.proofs.Lists.{Each, each_all, all_each}
-use Rattle.sb_witness.proofs.Turns.{AreRising}
+use Rattle.sb_witness.specs.Edges.{AreRising}
+use Rattle.sb_witness.proofs.Lists.{Each, all_each}
 
 -- One derivative.
 
@@ -51,11 +45,11 @@ derivative_pieces rs q ps d =
     pieces_right rs q ps 0 0 (covers_rises ps 0x30000 d.ordered.whole) (λ c h m. d.values c h)
 
 -- a piece of the list begins at or below the character, and leads to the number
-record HasPiece (ps : List (ℕ × ℕ)) (c t : ℕ) : Type 0 where
-  piece : ℕ × ℕ
-  among : Contains ps piece
-  soon : piece.0 ≤ c
-  is : piece.1 ≡ t
+pub record HasPiece (ps : List (ℕ × ℕ)) (c t : ℕ) : Type 0 where
+  pub piece : ℕ × ℕ
+  pub among : Contains ps piece
+  pub soon : piece.0 ≤ c
+  pub is : piece.1 ≡ t
 
 value_has : (Q : ℕ → Type 0) (c d : ℕ) (ps : List (ℕ × ℕ)) → Each (λ p. p.0 ≤ c → Q p.1) ps → Q d
     → Q (value_from d ps c)
@@ -84,104 +78,13 @@ each_found c ps = all_each (λ p. p.0 ≤ c → HasPiece ps c p.1) ps
     again (p ∷ ps) zero d l = refl
     again (p ∷ ps) (suc k) d l = again ps k d (omega (arith, l))
 
-value_found : (c : ℕ) (ps : List (ℕ × ℕ)) → covers ps 0x30000 ≡ true → HasPiece ps c (value_at ps c)
+pub value_found : (c : ℕ) (ps : List (ℕ × ℕ)) → covers ps 0x30000 ≡ true → HasPiece ps c (value_at ps c)
 value_found c [] h = absurd (not_covers h)
 value_found c (p ∷ ps) h =
     let l : p.0 ≤ c = omega (arith, first_at_0 p ps h) in
     let e = each_found c (p ∷ ps) in
     subst (HasPiece (p ∷ ps) c) (sym (value_after 0 p ps c l))
     (value_has (HasPiece (p ∷ ps) c) c p.1 ps e.1 (e.0 l))
-
--- Those of some numbers.
-
--- an edge of the list that begins at or below the character leads to the word
-pub record HasEdge (rs : List Regex) (edges : List (ℕ × ℕ)) (c : ℕ) (u : List ℕ) : Type 0 where
-  pub edge : ℕ × ℕ
-  pub among : Contains edges edge
-  pub soon : edge.0 ≤ c
-  pub has : language (regex_at rs edge.1) u ≡ true
-
-contains_left : (xs ys : List (ℕ × ℕ)) (x : ℕ × ℕ) → Contains xs x → Contains (xs ++ ys) x
-contains_left xs ys x h =
-    (h.0, (omega (arith, h.1, length-append xs ys)), (get_or_append_left xs ys x h.0 h.1 ∙ h.2))
-
-contains_right : (xs ys : List (ℕ × ℕ)) (x : ℕ × ℕ) → Contains ys x → Contains (xs ++ ys) x
-contains_right [] ys x h = h
-contains_right (y ∷ xs) ys x h =
-    let r = contains_right xs ys x h in (suc r.0, (omega (arith, r.1)), r.2)
-
-module _ (law : DerivativeHasRests) (rs : List Regex) (memo : Memo) (faithful : IsFaithful rs memo) where
-  pieces_known : (n : ℕ) (o : Option (List (ℕ × ℕ))) → entry_of memo n ≡ o → IsSome o
-      → IsDerivative rs (regex_at rs n) (unwrap_or o [])
-  pieces_known n None e h = absurd (false≢true h)
-  pieces_known n (Some ps) e h = (faithful n ps e).derivative
-
-  derivative_known : (n : ℕ) → IsSome (entry_of memo n) → IsDerivative rs (regex_at rs n) (pieces_of memo n)
-  derivative_known n h = pieces_known n (entry_of memo n) refl h
-
-  pub edges_known : (ns : List ℕ) → Each (λ n. IsSome (entry_of memo n)) ns
-      → All (λ e. e.1 < length rs) (edges_from memo ns)
-  edges_known [] k = All-nil (λ e. e.1 < length rs)
-  edges_known (n ∷ ns) k =
-      All-append (λ e. e.1 < length rs) (pieces_of memo n) (edges_from memo ns)
-      (targets_known (pieces_of memo n) (derivative_known n k.0).targets) (edges_known ns k.1)
-    where
-      targets_known : (ps : List (ℕ × ℕ)) → AllNumbers rs (targets_of ps) → All (λ e. e.1 < length rs) ps
-      targets_known ps h k d l =
-          subst (λ t. t < length rs) (get_or-map (λ p. p.1) ps k d)
-          (h k d.1 (omega (arith, l, length-map ps (λ p. p.1))))
-
-  pub edges_sound : (P : ℕ × ℕ → Type 0) (ns : List ℕ)
-      → Each (λ n. (e : ℕ × ℕ) → is_character e.0 ≡ true
-      → ((u : List ℕ) → language (regex_at rs e.1) u ≡ true → language (regex_at rs n) (e.0 ∷ u) ≡ true) → P e) ns
-      → Each (λ n. IsSome (entry_of memo n)) ns → All P (edges_from memo ns)
-  edges_sound P [] h k = All-nil P
-  edges_sound P (n ∷ ns) h k =
-      All-append P (pieces_of memo n) (edges_from memo ns)
-      (each_all P (pieces_of memo n) (sound (pieces_of memo n)
-      (derivative_pieces rs (regex_at rs n) _ (derivative_known n k.0))))
-      (edges_sound P ns h.1 k.1)
-    where
-      sound : (ps : List (ℕ × ℕ)) → Each (IsPieceOf rs (regex_at rs n)) ps → Each P ps
-      sound [] e = tt
-      sound (p ∷ ps) e = (
-        h.0 p e.0.character (λ u m. sym (law (regex_at rs n) p.0 u) ∙ ap (λ r. language r u) (sym e.0.is) ∙ m),
-        sound ps e.1,
-      )
-
-  edge_here : (n c : ℕ) (u : List ℕ) → IsSome (entry_of memo n) → is_character c ≡ true
-      → language (regex_at rs n) (c ∷ u) ≡ true → HasEdge rs (pieces_of memo n) c u
-  edge_here n c u k char h =
-      let d = derivative_known n k in
-      let p = value_found c (pieces_of memo n) d.ordered.whole in
-      record {
-        edge = p.piece;
-        among = p.among;
-        soon = p.soon;
-        has = ap (λ t. language (regex_at rs t) u) p.is ∙ ap (λ r. language r u) (d.values c char)
-            ∙ law (regex_at rs n) c u ∙ h;
-      }
-
-  pub edges_complete : (c : ℕ) (u : List ℕ) → is_character c ≡ true → (ns : List ℕ) (k d : ℕ) → k < length ns
-      → Each (λ n. IsSome (entry_of memo n)) ns → language (regex_at rs (get_or ns k d)) (c ∷ u) ≡ true
-      → HasEdge rs (edges_from memo ns) c u
-  edges_complete c u char [] k d l s h = absurd (omega (arith, l))
-  edges_complete c u char (n ∷ ns) zero d l s h =
-      let e = edge_here n c u s.0 char h in
-      record {
-        edge = e.edge;
-        among = contains_left (pieces_of memo n) (edges_from memo ns) e.edge e.among;
-        soon = e.soon;
-        has = e.has;
-      }
-  edges_complete c u char (n ∷ ns) (suc k) d l s h =
-      let e = edges_complete c u char ns k d (omega (arith, l)) s.1 h in
-      record {
-        edge = e.edge;
-        among = contains_right (pieces_of memo n) (edges_from memo ns) e.edge e.among;
-        soon = e.soon;
-        has = e.has;
-      }
 
 -- Edges in order.
 
@@ -211,11 +114,12 @@ rising (e ∷ f ∷ edges) n a h =
         let next : f.0 ≤ g.0 = a 0 f (omega arith) in
         (l, above g edges m (omega (arith, l, next)) (λ k d l. a (suc k) d (omega (arith, l))))
 
-pub edges_rising : (all edges : List (ℕ × ℕ)) → AreOrderedEdges all edges → AreRising 0 edges
-edges_rising all edges o =
+pub edges_rising : (edges : List (ℕ × ℕ))
+    → IsSorted (λ x y. ordering_then (nat_cmp x.0 y.0) (nat_cmp x.1 y.1)) edges → AreRising 0 edges
+edges_rising edges ordered =
     rising edges 0
     (λ k d l. not_less (get_or edges (suc k) d) (get_or edges k d)
     (subst (λ m. is_lt (ordering_then (nat_cmp (get_or edges m d).0 (get_or edges k d).0)
     (nat_cmp (get_or edges m d).1 (get_or edges k d).1)) ≡ false) (omega arith)
-    (o.ordered k d (omega arith) (omega (arith, l)))))
+    (ordered k d (omega arith) (omega (arith, l)))))
     (all_each (λ e. 0 ≤ e.0) edges (λ k d l. omega arith))

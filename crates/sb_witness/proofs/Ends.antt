@@ -1,5 +1,5 @@
 -- What a walk says of the language, where it comes to a state with the empty word and where it comes to the end.
-use Rattle.std.proofs.Common.{◌≡◌, ℕ, suc, ◌+◌, ◌*◌, ◌<◌, ◌≤◌, Bool, true, false, nat_eq, ltb, List, [], ◌∷◌, ◌++◌, length, refl, sym, ap, subst, ◌∙◌, arith}
+use Rattle.std.proofs.Common.{◌≡◌, ℕ, ◌+◌, ◌*◌, ◌<◌, ◌≤◌, Bool, true, false, nat_eq, ltb, List, [], ◌∷◌, length, refl, sym, ap, subst, ◌∙◌, arith}
 use Rattle.std.proofs.lemmas.Bool.{and_parts, false≢true, false_from_ne_true}
 use Rattle.std.proofs.lemmas.Bool.Decides.{nat_tests}
 use Rattle.std.proofs.lemmas.List.{append-nil}
@@ -13,7 +13,7 @@ use Rattle.sb_lang.specs.Least.{IsShortestLeast, HasNoWord}
 use Rattle.sb_regex.specs.Numbered.{regex_at}
 use Rattle.sb_witness.specs.Queue.{Entry, regex_of, word_at, AreWords}
 use Rattle.sb_witness.specs.Search.{rank_from, rank, rank_at, AreReached, IsSearched, IsFound, IsWhole}
-use Rattle.sb_witness.proofs.Ranks.{rank_empty, rank_grows, rank_later, rank_short, rank_least}
+use Rattle.sb_witness.proofs.Ranks.{rank_empty, rank_grows, rank_short, rank_least}
 
 module _ (empty : NullableHasEmptyWord) (rs : List Regex) (L : Language) (es : List Entry) where
   -- ranks ascend, also where two places are one

@@ -1,10 +1,10 @@
 -- A queue that grows at its end keeps what is known of its places.
-use Rattle.std.proofs.Common.{◌≡◌, ℕ, ◌+◌, ◌*◌, ◌<◌, ◌≤◌, true, List, [], ◌∷◌, ◌++◌, length, refl, sym, ap, subst, ◌∙◌, arith}
+use Rattle.std.proofs.Common.{◌≡◌, ℕ, ◌+◌, ◌*◌, ◌<◌, ◌≤◌, List, [], ◌∷◌, ◌++◌, length, refl, sym, ap, subst, ◌∙◌, arith}
 use Rattle.std.proofs.lemmas.List.{get_or_append_left, length_push}
 use Rattle.sb_lang.specs.Regex.{Regex}
 use Rattle.sb_lang.specs.Language.{language}
 use Rattle.sb_regex.specs.Numbered.{regex_at}
-use Rattle.sb_witness.specs.Queue.{Entry, entry_at, regex_of, word_at}
+use Rattle.sb_witness.specs.Queue.{Entry, entry_at, word_at}
 use Rattle.sb_witness.specs.Search.{rank, IsMet, IsDone}
 
 pub record IsGrown (es : List Entry) (ws : List (List ℕ)) (es' : List Entry) (ws' : List (List ℕ)) : Type 0 where

@@ -1,5 +1,6 @@
 mod Ranks
 mod Lists
+mod Beginnings
 mod Splits
 mod Steps
 mod Growing
@@ -7,6 +8,7 @@ mod Carrying
 mod Pushing
 mod Turns
 mod Derived
+mod Fronts
 mod Runs
 mod Ends
 mod Walking

@@ -1,5 +1,6 @@
 -- What holds of each element of a list, element by element.
-use Rattle.std.proofs.Common.{◌≡◌, ℕ, zero, suc, ◌<◌, List, [], ◌∷◌, length, get_or, subst, arith}
+use Rattle.std.proofs.Common.{zero, suc, List, [], ◌∷◌, ◌++◌, refl, subst, ◌∙◌, arith}
+use Rattle.std.proofs.lemmas.List.{length-append, get_or_append_left}
 use Rattle.std.specs.List.{All, Contains}
 
 abbrev pub Each : {A : Type 0} → (A → Type 0) → List A → Type 0
@@ -21,3 +22,15 @@ each_in P xs x e c = subst P c.2 (each_all P xs e c.0 x c.1)
 pub each_as : {A : Type 0} (P Q : A → Type 0) → ((x : A) → P x → Q x) → (xs : List A) → Each P xs → Each Q xs
 each_as P Q f [] e = tt
 each_as P Q f (x ∷ xs) e = (f x e.0, each_as P Q f xs e.1)
+
+pub contains_left : {A : Type 0} (xs ys : List A) (x : A) → Contains xs x → Contains (xs ++ ys) x
+contains_left xs ys x h =
+    (h.0, (omega (arith, h.1, length-append xs ys)), (get_or_append_left xs ys x h.0 h.1 ∙ h.2))
+
+pub contains_right : {A : Type 0} (xs ys : List A) (x : A) → Contains ys x → Contains (xs ++ ys) x
+contains_right [] ys x h = h
+contains_right (y ∷ xs) ys x h =
+    let r = contains_right xs ys x h in (suc r.0, (omega (arith, r.1)), r.2)
+
+pub contains_last : {A : Type 0} (xs : List A) (x : A) → Contains (xs ++ x ∷ []) x
+contains_last xs x = contains_right xs (x ∷ []) x (0, (omega arith), refl)

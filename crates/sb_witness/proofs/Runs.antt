@@ -1,33 +1,29 @@
 -- The turn of a run of places: all its states are done.
-use Rattle.std.proofs.Common.{◌≡◌, ℕ, zero, suc, ◌+◌, ◌-◌, ◌*◌, ◌<◌, ◌≤◌, Bool, true, false, ltb, nat_eq, IsSome, List, [], ◌∷◌, ◌++◌, length, get_or, take, drop, map, refl, sym, ap, subst, ◌∙◌, arith}
-use Rattle.std.specs.List.{Contains}
+use Rattle.std.proofs.Common.{◌≡◌, ℕ, zero, suc, ◌+◌, ◌-◌, ◌*◌, ◌<◌, ◌≤◌, Bool, true, false, ltb, List, [], ◌∷◌, ◌++◌, length, get_or, take, drop, map, refl, sym, ap, subst, ◌∙◌, arith}
 use Rattle.std.proofs.Math.ListN.{get_or-map}
 use Rattle.std.proofs.lemmas.Bool.Decides.{nat_tests}
 use Rattle.std.proofs.lemmas.List.{get_or-take, get_or-drop}
-use Rattle.std.proofs.lemmas.List.Sorted.{All-permutation, Contains-permutation}
-use Rattle.std.proofs.lemmas.Grind.{get_or_default_zero}
-use Rattle.sb_word.specs.Words.{is_character}
+use Rattle.std.proofs.lemmas.List.Elements.{All-weaker}
+use Rattle.std.proofs.lemmas.List.Folds.{list_any_at}
 use Rattle.sb_lang.specs.Regex.{Regex}
-use Rattle.sb_lang.specs.DerivativeLaws.{DerivativeHasRests}
 use Rattle.sb_lang.specs.Language.{language}
 use Rattle.sb_lang.specs.Languages.{Language}
 use Rattle.sb_regex.specs.Numbered.{regex_at}
-use Rattle.sb_deriv.specs.Faithful.{Memo, entry_of, IsFaithful}
-use Rattle.sb_witness.specs.Queue.{Entry, entry_at, regex_of, way_of, word_at, IsRun}
-use Rattle.sb_witness.specs.Edges.{edges_from, AreOrderedEdges, Puts}
+use Rattle.sb_witness.specs.Queue.{Entry, regex_of, way_of, word_at, IsRun}
+use Rattle.sb_witness.specs.Edges.{in_some, AreRising, AreEdges, IsEdgeFrom, Puts}
 use Rattle.sb_witness.specs.Search.{rank, rank_at, IsMet, IsDone, IsSearched, IsTurned}
 use Rattle.sb_witness.proofs.Ranks.{rank_empty, rank_grows, rank_from-push}
-use Rattle.sb_witness.proofs.Lists.{Each, all_each, each_all, each_in}
+use Rattle.sb_witness.proofs.Lists.{Each, all_each, each_in}
+use Rattle.sb_witness.proofs.Fronts.{HasState, some_at}
 use Rattle.sb_witness.proofs.Growing.{met_later, done_grown}
 use Rattle.sb_witness.proofs.Turns.{Turn, IsEdge, IsEdgeMet, Turned, turned}
-use Rattle.sb_witness.proofs.Derived.{edges_sound, edges_complete, edges_rising}
 
-module _ (law : DerivativeHasRests) (rs : List Regex) (L : Language) (memo : Memo) (faithful : IsFaithful rs memo)
-    (es : List Entry) (place end : ℕ) (s : IsSearched rs L es place) (run : IsRun es place end) (ns : List ℕ)
+module _ (rs : List Regex) (L : Language) (es : List Entry) (place end : ℕ) (s : IsSearched rs L es place)
+    (run : IsRun es place end) (ns : List ℕ)
     (are : ns ≡ take (end - place) (drop place (map (λ e. e.0) es)))
-    (long : length ns ≡ end - place)
-    (known : Each (λ n. IsSome (entry_of memo n)) ns) (edges : List (ℕ × ℕ))
-    (ordered : AreOrderedEdges (edges_from memo ns) edges) (es' : List Entry) (puts : Puts rs place edges es es') where
+    (long : length ns ≡ end - place) (edges : List (ℕ × ℕ))
+    (lead : AreEdges rs (in_some rs ns) edges) (ordered : AreRising 0 edges) (es' : List Entry)
+    (puts : Puts rs place edges es es') where
   abbrev ws : List (List ℕ)
   ws = s.words
 
@@ -61,25 +57,21 @@ module _ (law : DerivativeHasRests) (rs : List Regex) (L : Language) (memo : Mem
       ∙ get_or-map (λ e. e.0) es (place + j) (0, (0, 0))
 
   sound : Each (IsEdge rs L place (length es) w) edges
-  sound =
-      all_each (IsEdge rs L place (length es) w) edges
-      (All-permutation (IsEdge rs L place (length es) w) (edges_from memo ns) edges ordered.permutation
-      (edges_sound law rs memo faithful (IsEdge rs L place (length es) w) ns (all_each _ ns each) known))
+  sound = all_each (IsEdge rs L place (length es) w) edges
+      (All-weaker (IsEdgeFrom rs (in_some rs ns)) (IsEdge rs L place (length es) w) each edges lead.sound)
     where
-      each : (j d : ℕ) → j < length ns → (e : ℕ × ℕ) → is_character e.0 ≡ true
-          → ((u : List ℕ) → language (regex_at rs e.1) u ≡ true
-          → language (regex_at rs (get_or ns j d)) (e.0 ∷ u) ≡ true)
-          → IsEdge rs L place (length es) w e
-      each j d l e char h =
-          let is = get_or_default_zero ns j d l ∙ at_run j l in
-          let k : place + j < end = omega (arith, l, long, run.later) in
-          record {
-            character = char;
-            rests = λ u m.
-                sym (ap (λ v. L (v ++ e.0 ∷ u)) (run_word (place + j) (omega arith) k))
-                ∙ s.reached.rests (place + j) (omega (arith, k, run.within)) (e.0 ∷ u)
-                (sym (ap (λ n. language (regex_at rs n) (e.0 ∷ u)) is) ∙ h u m);
-          }
+      each : (e : ℕ × ℕ) → IsEdgeFrom rs (in_some rs ns) e → IsEdge rs L place (length es) w e
+      each e f = record {
+        character = f.character;
+        rests = λ u m. behind e u (some_at rs ns (e.0 ∷ u) (f.rests u m));
+      }
+        where
+          behind : (e : ℕ × ℕ) (u : List ℕ) → HasState rs ns (e.0 ∷ u) → L (w ++ e.0 ∷ u) ≡ true
+          behind e u h =
+              let k : place + h.place < end = omega (arith, h.within, long, run.later) in
+              sym (ap (λ v. L (v ++ e.0 ∷ u)) (run_word (place + h.place) (omega arith) k))
+              ∙ s.reached.rests (place + h.place) (omega (arith, k, run.within)) (e.0 ∷ u)
+              (sym (ap (λ n. language (regex_at rs n) (e.0 ∷ u)) (at_run h.place h.within)) ∙ h.has)
 
   start : Turn rs L place (length es) w es ws 0
   start = record {
@@ -93,7 +85,7 @@ module _ (law : DerivativeHasRests) (rs : List Regex) (L : Language) (memo : Mem
 
   after : Turned rs L place (length es) w es ws edges es'
   after = turned rs L place (length es) w edges es ws 0 es' (omega arith) start
-      (edges_rising (edges_from memo ns) edges ordered) sound puts
+      ordered sound puts
 
   done_here : (k : ℕ) → place ≤ k → k < end → IsDone rs es' after.words k
   done_here k h l c char u m =
@@ -102,10 +94,9 @@ module _ (law : DerivativeHasRests) (rs : List Regex) (L : Language) (memo : Mem
       let e : place + (k - place) ≡ k = omega (arith, h) in
       let j : k - place < length ns = omega (arith, h, l, long) in
       let is = at_run (k - place) j ∙ ap (regex_of es) e in
-      let f = edges_complete law rs memo faithful c u char ns (k - place) 0 j known
-      (ap (λ n. language (regex_at rs n) (c ∷ u)) is ∙ old) in
-      let among = Contains-permutation (edges_from memo ns) edges f.edge ordered.permutation f.among in
-      let met = each_in (IsEdgeMet rs L place (length es) w es' after.words) edges f.edge after.met among u f.has in
+      let f = lead.whole c u char (list_any_at (λ n. language (regex_at rs n) (c ∷ u)) ns (k - place) 0 j
+      (ap (λ n. language (regex_at rs n) (c ∷ u)) is ∙ old)) in
+      let met = each_in (IsEdgeMet rs L place (length es) w es' after.words) edges f.edge after.met f.among u f.has in
       subst (λ v. IsMet rs es' after.words u (rank v * 0x30000 + c))
       (sym (after.grown.words k here ∙ run_word k h l))
       (met_later rs es' after.words u _ (rank w * 0x30000 + c) (omega (arith, f.soon)) met)

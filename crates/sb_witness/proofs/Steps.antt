@@ -1,13 +1,13 @@
 -- The steps of the functions, over lists.
-use Rattle.std.proofs.Common.{◌≡◌, ℕ, zero, suc, ◌+◌, ◌<◌, ◌≤◌, Bool, true, false, cond, ◌&&◌, ◌||◌, nat_eq, is_some, Some, None, IsSome, Option, List, [], ◌∷◌, ◌++◌, length, get_or, take, drop, map, ◌-◌, reverse, slice_get, refl, sym, ap, subst, ◌∙◌, arith}
+use Rattle.std.proofs.Common.{◌≡◌, ℕ, zero, suc, ◌+◌, ◌<◌, ◌≤◌, Bool, true, false, cond, ◌||◌, nat_eq, is_some, Some, List, [], ◌∷◌, ◌++◌, length, get_or, take, drop, map, ◌-◌, reverse, slice_get, refl, sym, ap, subst, ◌∙◌, arith}
 use Rattle.std.proofs.Math.Bool.{or-false}
 use Rattle.std.proofs.Math.ListN.{get_or-map}
-use Rattle.std.proofs.lemmas.Bool.{and_parts, true≢false, false≢true}
+use Rattle.std.proofs.lemmas.Bool.{and_parts, true≢false}
 use Rattle.std.proofs.lemmas.Bool.Decides.{nat_tests}
-use Rattle.std.proofs.lemmas.List.{at_drop_more, at_drop_all, append_assoc, append-nil, reverse-append, length-map, length-drop, length-take-le}
+use Rattle.std.proofs.lemmas.List.{at_drop_more, at_drop_all, append_assoc, reverse-append, length-map, length-drop, length-take-le}
 use Rattle.std.proofs.lemmas.Grind.{get_or_default_zero}
 use Rattle.std.proofs.lemmas.Option.{get_or_from_slice_get}
-use Rattle.std.specs.List.{All, list_any, flat_map}
+use Rattle.std.specs.List.{All, list_any}
 use Rattle.std.specs.Map.{lookup}
 use Rattle.indexmap.specs.IndexMap.{insert_entry}
 use Rattle.sb_word.specs.Words.{is_character, are_characters, IsWord}
@@ -17,9 +17,8 @@ use Rattle.sb_lang.specs.Language.{language, some_language}
 use Rattle.sb_regex.specs.Numbered.{regex_at, regexes_at, AllNumbers}
 use Rattle.sb_regex.proofs.CallerLemmas.{one_number}
 use Rattle.sb_deriv.specs.Pieces.{targets_of}
-use Rattle.sb_deriv.specs.Faithful.{Memo, entry_of, KeepsEntries}
 use Rattle.sb_witness.specs.Queue.{Entry, entry_at, regex_of, has_regex, with_entry, with_each, word_at, AreWords, LeadsBy}
-use Rattle.sb_witness.specs.Edges.{pieces_of, edges_from, IsSplit, IsPut, Puts}
+use Rattle.sb_witness.specs.Edges.{IsSplit, IsPut, Puts}
 use Rattle.sb_witness.specs.Search.{AreTested}
 
 -- The queue.
@@ -75,26 +74,6 @@ put_all way es goal ns i l h = sym (at_drop_all (with_each way es) ns i l) ∙ h
 
 -- Edges.
 
-pub some_kept : (old new : Memo) (n : ℕ) → KeepsEntries old new → IsSome (entry_of old n) → IsSome (entry_of new n)
-some_kept old new n keeps h = by (entry_of old n) refl h
-  where
-    by : (o : Option (List (ℕ × ℕ))) → entry_of old n ≡ o → IsSome o → IsSome (entry_of new n)
-    by None e h = absurd (false≢true h)
-    by (Some ps) e h = subst IsSome (sym (keeps n ps e)) refl
-
-pub derived_more : (old new : Memo) (ns : List ℕ) (i n : ℕ) → KeepsEntries old new → i < length ns → n ≡ get_or ns i n
-    → IsSome (entry_of new n)
-    → ((k d : ℕ) → k < i → k < length ns → IsSome (entry_of old (get_or ns k d)))
-    → (k d : ℕ) → k < i + 1 → k < length ns → IsSome (entry_of new (get_or ns k d))
-derived_more old new ns i n keeps l is h done k d m w = by (nat_eq k i) refl
-  where
-    by : (t : Bool) → nat_eq k i ≡ t → IsSome (entry_of new (get_or ns k d))
-    by true t =
-        let e : i ≡ k = grind (arith, nat_tests, t) in
-        let same : n ≡ get_or ns i d = is ∙ get_or_default_zero ns i n l ∙ sym (get_or_default_zero ns i d l) in
-        subst (λ k. IsSome (entry_of new (get_or ns k d))) e (subst (λ n. IsSome (entry_of new n)) same h)
-    by false t = some_kept old new (get_or ns k d) keeps (done k d (grind (arith, nat_tests, t, m)) w)
-
 -- the edge leads to a number
 pub target_known : (rs : List Regex) (edges : List (ℕ × ℕ)) (i : ℕ) (e : ℕ × ℕ) → i < length edges
     → e ≡ get_or edges i e → AllNumbers rs (targets_of edges) → e.1 < length rs
@@ -116,21 +95,6 @@ pub run_long : (es : List Entry) (place end : ℕ) → place < end → end ≤ l
 run_long es place end l m =
     length-take-le (end - place) (drop place (map (λ e. e.0) es))
     (omega (arith, l, m, length-drop place (map (λ e. e.0) es), length-map es (λ e. e.0)))
-
-pub gather_more : (memo : Memo) (ns : List ℕ) (i n : ℕ) (out after whole : List (ℕ × ℕ)) → i < length ns
-    → n ≡ get_or ns i n → after ≡ out ++ pieces_of memo n → out ++ edges_from memo (drop i ns) ≡ whole
-    → after ++ edges_from memo (drop (i + 1) ns) ≡ whole
-gather_more memo ns i n out after whole l is e h =
-    ap (λ x. x ++ edges_from memo (drop (i + 1) ns)) e
-    ∙ append_assoc out (pieces_of memo n) (edges_from memo (drop (i + 1) ns))
-    ∙ ap (λ x. out ++ x)
-    (sym (at_drop_more (edges_from memo) ns i n l ∙ ap (λ x. edges_from memo (x ∷ drop (i + 1) ns)) (sym is)))
-    ∙ h
-
-pub gather_all : (memo : Memo) (ns : List ℕ) (i : ℕ) (out whole : List (ℕ × ℕ)) → length ns ≤ i
-    → out ++ edges_from memo (drop i ns) ≡ whole → out ≡ whole
-gather_all memo ns i out whole l h =
-    sym (append-nil out) ∙ ap (λ x. out ++ x) (sym (at_drop_all (edges_from memo) ns i l)) ∙ h
 
 pub puts_more : (rs : List Regex) (place : ℕ) (edges : List (ℕ × ℕ)) (i : ℕ) (e : ℕ × ℕ) (es es' end : List Entry)
     → i < length edges → e ≡ get_or edges i e → IsPut rs e.1 (place, e.0) es es'

@@ -10,17 +10,12 @@ use Rattle.sb_lang.specs.Language.{language}
 use Rattle.sb_lang.specs.Languages.{Language}
 use Rattle.sb_regex.specs.Numbered.{regex_at}
 use Rattle.sb_witness.specs.Queue.{Entry, entry_at, regex_of, way_of, has_regex, with_each, word_at}
-use Rattle.sb_witness.specs.Edges.{IsSplit, IsPut, Puts}
+use Rattle.sb_witness.specs.Edges.{AreRising, IsSplit, Puts}
 use Rattle.sb_witness.specs.Search.{rank, rank_at, IsMet, AreReached}
 use Rattle.sb_class.proofs.CallerLemmas.{character_below}
 use Rattle.sb_witness.proofs.Lists.{Each, each_as, all_each, each_all}
 use Rattle.sb_witness.proofs.Growing.{IsGrown, grown_same, grown_more, met_grown}
 use Rattle.sb_witness.proofs.Pushing.{reached_push, push_grown, push_rank, push_entry, push_each}
-
--- the edges ascend from a number on
-abbrev pub AreRising : ℕ → List (ℕ × ℕ) → Type 0
-AreRising n [] = Unit {0}
-AreRising n (e ∷ edges) = (n ≤ e.0) × AreRising e.0 edges
 
 pub record StandsBy (es : List Entry) (ws : List (List ℕ)) (n most : ℕ) : Type 0 where
   pub place : ℕ

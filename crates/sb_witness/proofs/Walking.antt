@@ -1,6 +1,5 @@
 -- The parts of a walk, put together.
-use Rattle.std.proofs.Common.{◌≡◌, ℕ, zero, suc, ◌+◌, ◌*◌, ◌<◌, ◌≤◌, Bool, true, false, ltb, List, [], ◌∷◌, ◌++◌, length, get_or, map, refl, sym, ap, subst, ◌∙◌, arith}
-use Rattle.std.specs.List.{All, AllPairs}
+use Rattle.std.proofs.Common.{◌≡◌, ℕ, zero, suc, ◌*◌, ◌<◌, ◌≤◌, Bool, true, false, ltb, List, [], ◌∷◌, ◌++◌, length, get_or, map, refl, sym, ap, subst, ◌∙◌, arith}
 use Rattle.std.proofs.Math.ListN.{get_or-map}
 use Rattle.std.proofs.lemmas.Bool.Decides.{nat_tests}
 use Rattle.std.proofs.lemmas.List.{length-map}
@@ -11,8 +10,8 @@ use Rattle.sb_lang.specs.Derivative.{nullable}
 use Rattle.sb_lang.specs.Language.{language}
 use Rattle.sb_lang.specs.Languages.{Language}
 use Rattle.sb_regex.specs.Numbered.{regex_at, Extends}
-use Rattle.sb_witness.specs.Queue.{Entry, regex_of, way_of, word_at, AreWords, LeadsBy}
-use Rattle.sb_witness.specs.Search.{rank, rank_at, first_language, AreTested, IsFirstNullable, AreWithout, IsSearched, IsTurned, IsUnderWay, IsFound, IsWhole}
+use Rattle.sb_witness.specs.Queue.{Entry, regex_of, word_at, LeadsBy}
+use Rattle.sb_witness.specs.Search.{rank_at, first_language, AreTested, IsFirstNullable, AreWithout, IsSearched, IsTurned, IsUnderWay, IsFound, IsWhole}
 use Rattle.sb_witness.specs.Witness.{IsState, AreMany}
 use Rattle.sb_witness.proofs.Ranks.{rank_empty}
 use Rattle.sb_witness.proofs.Carrying.{nullable_kept}

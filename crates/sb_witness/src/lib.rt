@@ -14,6 +14,7 @@ mod edges;
 mod queue;
 mod search;
 mod split;
+mod starts;
 mod turn;
 
 pub use search::{Outcome, find_word};

@@ -9,11 +9,10 @@ ghost use Rattle.sb_witness.specs.Queue.{regex_of};
 ghost use Rattle.sb_witness.specs.Edges.{Puts, IsPut};
 ghost use Rattle.sb_witness.specs.Search.{IsSearched, IsTurned};
 
-use crate::edges::{derive_each, edges_of};
+use crate::edges::edges_of;
 use crate::queue::Queue;
 use crate::split::split;
 use sb_deriv::{Deriver, faithful_stays};
-use sb_lang::derivative::derivative_has_rests;
 use sb_regex::{Arena, Node, RegexId};
 use std::alloc::{AllocError, Global};
 
@@ -35,11 +34,9 @@ pub(crate) fn take_turn(
     ensures faithful { IsFaithful arena.new deriver.new }
     ensures kept { KeepsEntries deriver.old deriver.new }
 {
-    derivative_has_rests();
     faithful_stays();
     let end = queue.run_end(place);
-    derive_each(arena, deriver, &queue.regexes()[place..end])?;
-    let edges = edges_of(alloc, deriver, &queue.regexes()[place..end])?;
+    let edges = edges_of(alloc, arena, deriver, &queue.regexes()[place..end])?;
     put_edges(alloc, arena, queue, &edges, place)?;
     Ok(end)
 }

@@ -1,7 +1,13 @@
-use Rattle.std.proofs.Common.{◌≡◌, ◌++◌, drop}
-use Rattle.sb_witness.specs.Edges.{edges_from}
+use Rattle.sb_deriv.specs.Faithful.{IsFaithful, KeepsEntries}
+use Rattle.sb_regex.specs.Numbered.{Extends}
+use Rattle.sb_witness.specs.Edges.{AreGathered}
 use Rattle.sb_witness.proofs.edges.gather.Given as goal
 
-abbrev pub invariant-loop-state : goal.invariant-loop-state
-invariant-loop-state l =
-    l.edges.items ++ edges_from l.deriver (drop l.state-index l.states) ≡ edges_from l.deriver l.states
+abbrev pub invariant-loop-start : goal.invariant-loop-start
+invariant-loop-start l =
+    record {
+      extends : Extends l.fn.arena l.arena;
+      faithful : IsFaithful l.arena l.deriver;
+      kept : KeepsEntries l.fn.deriver l.deriver;
+      gathered : AreGathered l.arena l.starts l.start-index l.edges.items;
+    }

@@ -1,7 +1,7 @@
 use Rattle.std.proofs.Common.{ap, sym, ◌∙◌}
 use Rattle.sb_regex.specs.Nodes.{node_regex}
 use Rattle.sb_witness.specs.Edges.{in_each}
-use Rattle.sb_witness.proofs.Splits.{choice_and, choice_one}
+use Rattle.sb_witness.proofs.Splits.{choice_and}
 use Rattle.sb_witness.proofs.split.choose.Goals as goal
 
 pub returns-in_ok-choice-in-And : goal.returns-in_ok-choice-in-And

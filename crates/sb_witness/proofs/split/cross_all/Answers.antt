@@ -1,4 +1,4 @@
-use Rattle.std.proofs.Common.{◌&&◌, ap, ap₂, sym, ◌∙◌}
+use Rattle.std.proofs.Common.{◌&&◌, ap₂, ◌∙◌}
 use Rattle.sb_regex.proofs.CallerLemmas.{extends_more, extends_same, number_in, number_kept}
 use Rattle.sb_witness.specs.Edges.{in_some}
 use Rattle.sb_witness.proofs.Splits.{unions_start, unions_known, unions_more, unions_done}

@@ -15,7 +15,7 @@ returns-in-empty-clause-ok c =
 pub returns-in-len1-up-clause-ok : goal.returns-in-len1-up-clause-ok
 returns-in-len1-up-clause-ok c =
     rw (made_not c.args.arena.now c.args.self.now c.args.ids.now _ c.in-Not.is (omega arith) c.a-item.is) at
-    c.complement.ensures.ok
+    c.not.ensures.ok
 
 pub returns-in-empty-ids-clause-ok : goal.returns-in-empty-ids-clause-ok
 returns-in-empty-ids-clause-ok c =

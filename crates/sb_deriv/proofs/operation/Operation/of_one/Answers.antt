@@ -18,7 +18,7 @@ returns-else-eq-clause-ok c = rw (made_and c.args.arena.now c.args.self.now _ c.
 pub returns-in-Not-clause-ok : goal.returns-in-Not-clause-ok
 returns-in-Not-clause-ok c =
     rw (made_not c.args.arena.now c.args.self.now (c.args.id ∷ []) c.args.id c.in-Not.is (omega arith) refl) at
-    c.complement.ensures.ok
+    c.not.ensures.ok
 
 pub returns-in-Cat-clause-ok : goal.returns-in-Cat-clause-ok
 returns-in-Cat-clause-ok c =
