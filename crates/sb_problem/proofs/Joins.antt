@@ -1,8 +1,7 @@
 -- Regexes joined from the right, and by unions of many.
-use Rattle.std.proofs.Common.{◌≡◌, ℕ, zero, suc, ◌+◌, ◌-◌, ◌≤◌, ◌<◌, Bool, true, false, ◌==◌, List, [], ◌∷◌, length, get_or, drop, refl, sym, ap, ap₂, ◌∙◌, arith, Option, Some, None, option_map}
+use Rattle.std.proofs.Common.{◌≡◌, ℕ, suc, ◌≤◌, ◌<◌, Bool, true, false, ◌==◌, List, [], ◌∷◌, length, get_or, refl, sym, ap, ap₂, ◌∙◌, arith, Option, Some, option_map}
 use Rattle.std.proofs.lemmas.Bool.{and_parts, and_from, false≢true}
 use Rattle.std.specs.List.{list_all}
-use Rattle.std.proofs.lemmas.List.{drop_more}
 use Rattle.std.proofs.lemmas.List.Folds.{list_all_at}
 use Rattle.sb_lang.specs.Regex.{Regex, none}
 use Rattle.sb_lang.specs.Constructors.{mkcat, mkalt, mkstar}
@@ -10,55 +9,12 @@ use Rattle.sb_lang.specs.NormalForm.{is_normal, IsNormal}
 use Rattle.sb_lang.specs.FoldLaws.{UnionOfOne, UnionOfMore, AllNormal}
 use Rattle.sb_regex.specs.Numbered.{regex_at, regexes_at, Names, AllNumbers, Extends}
 use Rattle.sb_problem.specs.Shapes.{IsFound, joined_right, of_one, either, repeated}
-use Rattle.sb_regex.proofs.CallerLemmas.{names_at, names_below, at_kept, extends_more, names_from, number_in}
+use Rattle.sb_regex.proofs.CallerLemmas.{names_at, at_kept, number_in}
 
 -- what is found by its regex
 pub found : (rs : List Regex) (id : ℕ) (r : Regex) (o : Option Regex) → o ≡ Some r → Names rs id r
     → IsFound rs (Some id) o
 found rs id r o is names = rw is (ap Some names)
-
--- the regexes from the place on are joined, and the number is of them
-pub record Joining (old new : List Regex) (ids : List ℕ) (left whole : ℕ) : Type 0 where
-  pub extends : Extends old new
-  pub inside : left < length ids
-  pub below : whole < length new
-  pub names : joined_right mkcat (regexes_at old (drop left ids)) ≡ Some (regex_at new whole)
-
-joined_more : (join : Regex → Regex → Regex) (r s : Regex) (rs : List Regex) → joined_right join rs ≡ Some s
-    → joined_right join (r ∷ rs) ≡ Some (join r s)
-joined_more join r s [] h = absurd (nothing s h)
-  where
-    nothing : (s : Regex) → None ≡ Some s → ⊥
-    nothing s h = cc
-joined_more join r s (t ∷ rs) h = ap (option_map (join r)) h
-
-before : (left : ℕ) → 0 < left → left - 1 + 1 ≡ left
-before left h = omega arith
-
-pub joining_more : (old new more : List Regex) (ids : List ℕ) (left whole x id : ℕ) → Joining old new ids left whole
-    → 0 < left → AllNumbers old ids → x ≡ get_or ids (left - 1) x →
-    Names more id (mkcat (regex_at new x) (regex_at new whole)) → Extends new more → Joining old more ids (left - 1) id
-joining_more old new more ids left whole x id joining positive numbers is names extends = record {
-  extends = extends_more old new more joining.extends extends;
-  inside = omega (arith, joining.inside);
-  below = names_below more id _ names;
-  names =
-      let split : drop (left - 1) ids ≡ x ∷ drop left ids =
-      drop_more ids (left - 1) x (omega (arith, joining.inside))
-      ∙ ap₂ (λ y n. y ∷ drop n ids) (sym is) (before left positive) in
-      let here : regex_at new x ≡ regex_at old x =
-      at_kept old new x joining.extends (number_in old ids (left - 1) x numbers (omega (arith, joining.inside)) is)
-      in
-      ap (λ xs. joined_right mkcat (regexes_at old xs)) split
-      ∙ (joined_more mkcat (regex_at old x) (regex_at new whole) (regexes_at old (drop left ids)) joining.names
-      ∙ ap Some (ap (λ r. mkcat r (regex_at new whole)) (sym here) ∙ sym (names_at more id _ names)));
-}
-
-pub joining_all : (old new : List Regex) (ids : List ℕ) (left whole : ℕ) → Joining old new ids left whole → left ≤ 0
-    → IsFound new (Some whole) (joined_right mkcat (regexes_at old ids))
-joining_all old new ids zero whole joining h =
-    found new whole (regex_at new whole) _ joining.names (names_from new whole (regex_at new whole) joining.below refl)
-joining_all old new ids (suc left) whole joining h = absurd (omega arith)
 
 -- of one alone
 pub of_one_regex : (make : Regex → Regex) (rs : List Regex) (ids : List ℕ) (x : ℕ) → 1 ≤ length ids → length ids < 2

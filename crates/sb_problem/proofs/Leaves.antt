@@ -3,14 +3,11 @@ use Rattle.std.proofs.Common.{◌≡◌, ℕ, ◌≤◌, ◌<◌, true, false, n
 use Rattle.std.proofs.lemmas.Bool.Decides.{nat_tests}
 use Rattle.sb_class.proofs.CallerLemmas.{in_ranges-one}
 use Rattle.sb_class.specs.Ranges.{Range, in_range, in_ranges, rises_from, IsCanonical}
-use Rattle.sb_lang.specs.RegLan.{re_range, re_word}
 use Rattle.sb_lang.specs.Regex.{Regex, none, set}
 use Rattle.sb_lang.specs.Constructors.{mkset}
-use Rattle.sb_lang.specs.Normal.{normal, word_regex, range_regex}
+use Rattle.sb_lang.specs.Normal.{range_regex}
 use Rattle.sb_regex.specs.Numbered.{Names}
 use Rattle.sb_word.specs.Words.{IsWord, are_characters}
-use Rattle.sb_meaning.specs.Terms.{Terms, word, apply, no_terms, with_term, str_to_re as word_symbol, re_range as range_symbol}
-use Rattle.sb_problem.specs.Normals.{IsRegexOf}
 
 -- what is named by a regex that is the same
 pub named : {E : Type 0} (rs : List Regex) (found : Result ℕ E) (r s : Regex) → s ≡ r → IfOk found (λ id. Names rs id r)
@@ -76,31 +73,3 @@ rising (a ∷ []) (b ∷ []) class same is_word low high low' high' h canonical 
     upward a b h = grind (arith, nat_tests)
 rising (a ∷ []) (b ∷ d ∷ to) class same is_word low high low' high' h canonical members = absurd (omega arith)
 rising (a ∷ d ∷ from) to class same is_word low high low' high' h canonical members = absurd (omega arith)
-
--- the regular expression of a word, and that of a range
-normal_word : (w : List ℕ) → normal (re_word w) ≡ word_regex w
-unfolding normal
-normal_word w = refl
-
-normal_range : (s t : List ℕ) → normal (re_range s t) ≡ range_regex s t
-unfolding normal
-normal_range s t = refl
-
-pub word_found : (rs : List Regex) (ts : Terms) (w : List ℕ) (id : ℕ) → ts ≡ with_term (word w) no_terms
-    → Names rs id (word_regex w) → IsRegexOf rs (apply word_symbol ts) id
-word_found rs ts w id is names = rw is (record {
-  kind = refl;
-  reglan = re_word w;
-  means = λ v. refl;
-  names = rw (normal_word w) names;
-})
-
-pub range_found : (rs : List Regex) (ts : Terms) (s t s' t' : List ℕ) (id : ℕ)
-    → ts ≡ with_term (word s) (with_term (word t) no_terms) → s' ≡ s → t' ≡ t → Names rs id (range_regex s' t')
-    → IsRegexOf rs (apply range_symbol ts) id
-range_found rs ts s t s' t' id is same same' names = rw is (record {
-  kind = refl;
-  reglan = re_range s t;
-  means = λ v. refl;
-  names = rw (normal_range s t) (rw (← same) (rw (← same') names));
-})

@@ -1,4 +1,7 @@
 pub mod TermShapes
 pub mod Leaves
 pub mod Joins
-pub mod Arguments
+pub mod Meanings
+pub mod Keeping
+pub mod Chains
+pub mod CallerLemmas

@@ -1,2 +1,4 @@
 pub mod Normals
 pub mod Shapes
+pub mod Known
+pub mod Laws

@@ -1,10 +1,10 @@
--- The number of a term's normal regex.
-use Rattle.std.specs.Prelude.{◌≡◌, ℕ, true, false, List, Option, Some, None}
+-- The number of a term's normal regex, and the constant that a term is.
+use Rattle.std.specs.Prelude.{◌≡◌, ℕ, Bool, true, false, List, Option, Some, None}
 use Rattle.sb_lang.specs.RegLan.{RegLan}
 use Rattle.sb_lang.specs.Regex.{Regex}
 use Rattle.sb_lang.specs.Normal.{normal}
 use Rattle.sb_regex.specs.Numbered.{Names}
-use Rattle.sb_meaning.specs.Terms.{Term}
+use Rattle.sb_meaning.specs.Terms.{Term, text, constant}
 use Rattle.sb_meaning.specs.Values.{Valuation}
 use Rattle.sb_meaning.specs.Truth.{meaning_of, means_reglan}
 use Rattle.sb_script.specs.Brought.{is_regex}
@@ -21,3 +21,8 @@ pub record IsRegexOf (rs : List Regex) (term : Term) (id : ℕ) : Type 0 where
 abbrev pub IsNumberOf : List Regex → Term → Option ℕ → Type 0
 IsNumberOf rs term None = is_regex term ≡ false
 IsNumberOf rs term (Some id) = IsRegexOf rs term id
+
+-- the term is a constant of sort String
+abbrev pub is_text_constant : Term → Bool
+is_text_constant (constant serial text) = true
+is_text_constant _ = false

@@ -1,13 +1,13 @@
 //! Regular expressions that are made of others.
 
 ghost use Rattle.std.specs.Prelude.{IfOk};
-ghost use Rattle.sb_lang.specs.Constructors.{mkcat, mkstar};
+ghost use Rattle.sb_lang.specs.Constructors.{mkstar};
 ghost use Rattle.sb_regex.specs.Numbered.{AllNumbers, Extends, regexes_at};
 ghost use Rattle.sb_problem.specs.Shapes.{IsFound, joined_right, of_one, either, repeated, made};
 
 use sb_lang::fold::{union_of_more, union_of_one};
 use sb_regex::{Arena, RegexId};
-use sb_sorts::Symbol;
+use sb_term::Symbol;
 use std::alloc::AllocError;
 
 /// What a symbol makes of regexes, `None` where it does not take so many.
@@ -21,30 +21,11 @@ pub(crate) fn joined(
     ensures extends { Extends arena.old arena.new }
 {
     match symbol {
-        Symbol::Concat => concatenation(arena, ids),
-        Symbol::Union => union(arena, ids),
-        Symbol::Star => star(arena, ids),
-        Symbol::Plus => plus(arena, ids),
-        Symbol::InRe | Symbol::ToRe | Symbol::Range => Ok(None),
+        Symbol::ReUnion => union(arena, ids),
+        Symbol::ReStar => star(arena, ids),
+        Symbol::RePlus => plus(arena, ids),
+        _ => Ok(None),
     }
-}
-
-/// The concatenation of one or more.
-fn concatenation(arena: &mut Arena, ids: &[RegexId]) -> Result<Option<RegexId>, AllocError>
-    requires { AllNumbers arena.old ids.now }
-    ensures ok { IfOk result (λ found. IsFound arena.new found (joined_right mkcat (regexes_at arena.old ids.now))) }
-    ensures extends { Extends arena.old arena.new }
-{
-    if ids.is_empty() {
-        return Ok(None);
-    }
-    let mut left = ids.len() - 1;
-    let mut whole = ids[left];
-    while left > 0 {
-        left -= 1;
-        whole = arena.cat(ids[left], whole)?;
-    }
-    Ok(Some(whole))
 }
 
 /// The union of one or more.

@@ -1,12 +1,17 @@
-//! What terms are to the parts that decide: the normal regex of a regular expression.
+//! What terms are to the parts that decide: the normal regex of a regular expression, and the constant of a membership.
 //!
-//! [`normal`] goes over a term from its leaves up, and makes each regex by the constructor of its symbol, in an arena
-//! in which equal regexes have one number. The layer above asks for the regexes of a constant's memberships, and
+//! [`Normals`] goes over the terms of a table in the order of their numbers, in which arguments come first, and keeps
+//! by number what each is as a regular expression: its regex is made by the constructor of its symbol, once, in an
+//! arena in which equal regexes have one number. The layer above asks for the regexes of a constant's memberships, and
 //! explores what they have in common.
 #![tactic(auto)]
 
 mod join;
+mod laws;
 mod literals;
-mod terms;
+mod normals;
+mod pieces;
 
-pub use terms::normal;
+pub use laws::normals_stay;
+pub use normals::Normals;
+pub use pieces::constant_of;

@@ -6,6 +6,7 @@ ghost use Rattle.sb_lang.specs.Constructors.{any_character, mkset, mkcat, mknot,
 ghost use Rattle.sb_lang.specs.Order.{regex_eq};
 ghost use Rattle.sb_lang.specs.Normal.{word_regex};
 ghost use Rattle.sb_lang.specs.NormalForm.{IsNormal};
+ghost use Rattle.sb_word.specs.Words.{IsWord};
 ghost use Rattle.sb_regex.specs.Numbered.{regex_at, regexes_at, AllNumbers, Extends, Names};
 ghost use Rattle.sb_regex.specs.Spine.{chain, is_cat, is_plain};
 
@@ -153,8 +154,16 @@ impl Arena {
         ensures ok { IfOk result (λ id. Names self.new id (word_regex word.now)) }
         ensures extends { Extends self.old self.new }
     {
+        self.characters(word.codes())
+    }
+
+    /// The sets of the characters, one behind the other. Linear.
+    pub fn characters(&mut self, codes: &[u32]) -> Result<RegexId, AllocError>
+        requires { IsWord codes.now }
+        ensures ok { IfOk result (λ id. Names self.new id (word_regex codes.now)) }
+        ensures extends { Extends self.old self.new }
+    {
         constructors_give_normal();
-        let codes = word.codes();
         let mut whole = self.eps()?;
         let mut left = codes.len();
         while left > 0 {

@@ -4,4 +4,3 @@ pub mod Applying
 pub mod Shapes
 pub mod Reading
 pub mod Sizes
-pub mod CallerLemmas

@@ -1,6 +1,5 @@
 -- Reading of lists: what a list begins with, and its arguments one by one.
-use Rattle.std.proofs.Common.{◌≡◌, ℕ, ◌+◌, ◌<◌, ◌≤◌, Bool, true, false, if◌then◌else◌, List, [], ◌∷◌, ◌++◌, length, take, drop, get_or, ◌-◌, suc, codes, Result, Ok, Err, sym, refl, ap, subst, ◌∙◌, arith, append_assoc}
-use Rattle.std.proofs.lemmas.Bool.{and_parts, and_from}
+use Rattle.std.proofs.Common.{◌≡◌, ℕ, zero, suc, ◌+◌, ◌<◌, ◌≤◌, Bool, true, false, if◌then◌else◌, List, [], ◌∷◌, ◌++◌, length, take, drop, get_or, ◌-◌, codes, Result, Ok, Err, sym, refl, ap, subst, ◌∙◌, arith, append_assoc}
 use Rattle.std.proofs.lemmas.List.{drop_more, map-append}
 use Rattle.sb_reader.specs.declared.sexpr.Sexpr.{Sexpr}
 use Rattle.sb_reader.specs.Forms.{Form, Forms, Symbol, QuotedSymbol, Keyword, Numeral, OtherNumber, Words, Group, none, more, form_of, forms_in}
@@ -10,36 +9,21 @@ use Rattle.sb_meaning.specs.Terms as meaning
 use Rattle.sb_script.specs.Faults.{Fault, malformed}
 use Rattle.sb_script.specs.Heads.{Head, applied_to, read_head}
 use Rattle.sb_script.specs.Reading.{◌>>=◌, read, read_all, read_list, read_index_list, read_list_head, read_reserved}
-use Rattle.sb_sorts.specs.declared.term.Term.{Term}
+use Rattle.sb_term.specs.Numbered.{term_at, terms_at, AllNumbers}
+use Rattle.sb_term.proofs.CallerLemmas.{extends_same, extends_more, ats_kept, numbers_kept}
 use Rattle.sb_sorts.specs.declared.read.ReadFault.{ReadFault}
 use Rattle.sb_sorts.specs.declared.read.ReadFault.TheVariants as fault
-use Rattle.sb_sorts.specs.Terms.{term_in}
-use Rattle.sb_sorts.specs.Reads.{ReadsAs, has_serials_below}
-use Rattle.sb_sorts.specs.Heads.{terms_in, all_below, Faults, Gives, Beginning, whole, takes, beginning_of}
+use Rattle.sb_sorts.specs.Growth.{Grows, AreRead}
+use Rattle.sb_sorts.specs.Reads.{ReadsAs, Faults}
+use Rattle.sb_sorts.specs.Heads.{Beginning, whole, takes, beginning_of}
 
-pub reads_from_gives : (reading : Result meaning.Term Fault) (result : Result Term ReadFault)
-    → Gives term_in reading result → ReadsAs reading result
-reads_from_gives reading (Ok term) h = h
-reads_from_gives reading (Err (fault.UnknownSymbol name)) h = h
-reads_from_gives reading (Err fault.WrongSort) h = h
-reads_from_gives reading (Err fault.WrongCount) h = h
-reads_from_gives reading (Err fault.BadIndex) h = h
-reads_from_gives reading (Err fault.Unsupported) h = h
-reads_from_gives reading (Err fault.BadLiteral) h = h
-reads_from_gives reading (Err fault.Malformed) h = h
-reads_from_gives reading (Err fault.NoMemory) h = h
+-- how a table grows
+pub grows_same : (n : ℕ) (ts : List meaning.Term) → Grows n ts ts
+grows_same n ts = record { extends = extends_same ts; below = λ h. h }
 
-pub gives_from_reads : (reading : Result meaning.Term Fault) (result : Result Term ReadFault) → ReadsAs reading result
-    → Gives term_in reading result
-gives_from_reads reading (Ok term) h = h
-gives_from_reads reading (Err (fault.UnknownSymbol name)) h = h
-gives_from_reads reading (Err fault.WrongSort) h = h
-gives_from_reads reading (Err fault.WrongCount) h = h
-gives_from_reads reading (Err fault.BadIndex) h = h
-gives_from_reads reading (Err fault.Unsupported) h = h
-gives_from_reads reading (Err fault.BadLiteral) h = h
-gives_from_reads reading (Err fault.Malformed) h = h
-gives_from_reads reading (Err fault.NoMemory) h = h
+pub grows_more : (n : ℕ) (a b c : List meaning.Term) → Grows n a b → Grows n b c → Grows n a c
+grows_more n a b c p q =
+    record { extends = extends_more a b c p.extends q.extends; below = λ h. q.below (p.below h) }
 
 -- a fault stays the first whatever would follow
 pub faults_first : {A B : Type 0} (reading : Result A Fault) (f : A → Result B Fault) (e : ReadFault) → Faults reading e
@@ -117,60 +101,77 @@ list_split names (form ∷ forms) others first some is behind =
     ∙ ap (λ f. beginning_of names (form_of f) (forms_in forms) >>= finished names (forms_in forms)) (sym is)
     ∙ ap (λ fs. beginning_of names (form_of first) (forms_in fs) >>= finished names (forms_in fs)) (sym behind)
 
--- the terms that were read, and what is left to read
-pub record HasRead (names : List Naming) (n : ℕ) (forms : List Sexpr) (terms : List Term) (left : List Sexpr) : Type 0
+-- the numbers that were read so far, and what is left to read
+pub record HasRead (names : List Naming) (n : ℕ) (start : List meaning.Term) (forms : List Sexpr)
+    (ts : List meaning.Term) (ids : List ℕ) (left : List Sexpr) : Type 0
   where
-    pub whole : read_all names (forms_in forms) ≡ (read_all names (forms_in left) >>= (λ ts. Ok (terms_in terms ++ ts)))
-    pub below : all_below n terms ≡ true
+    pub whole : read_all names (forms_in forms)
+        ≡ (read_all names (forms_in left) >>= (λ us. Ok (terms_at ts ids ++ us)))
+    pub numbers : AllNumbers ts ids
+    pub grows : Grows n start ts
 
-joined : (names : List Naming) (reading : Result (List meaning.Term) Fault)
-    → reading ≡ (reading >>= (λ ts. Ok ([] ++ ts)))
-joined names (Ok ts) = refl
-joined names (Err fault) = refl
+none_before : (reading : Result (List meaning.Term) Fault) → reading ≡ (reading >>= (λ us. Ok ([] ++ us)))
+none_before (Ok us) = refl
+none_before (Err fault) = refl
 
-pub has_read_none : (names : List Naming) (n : ℕ) (forms : List Sexpr) → HasRead names n forms [] forms
-has_read_none names n forms = record { whole = joined names (read_all names (forms_in forms)); below = refl }
+pub has_read_none : (names : List Naming) (n : ℕ) (start : List meaning.Term) (forms : List Sexpr)
+    → HasRead names n start forms start [] forms
+has_read_none names n start forms = record {
+  whole = none_before (read_all names (forms_in forms));
+  numbers = λ k d l. absurd (omega arith);
+  grows = grows_same n start;
+}
 
 pushed : (done : List meaning.Term) (t : meaning.Term) (reading : Result (List meaning.Term) Fault)
-    → ((reading >>= (λ ts. Ok (t ∷ ts))) >>= (λ ts. Ok (done ++ ts)))
-    ≡ (reading >>= (λ ts. Ok ((done ++ t ∷ []) ++ ts)))
-pushed done t (Ok ts) = ap Ok (sym (append_assoc done (t ∷ []) ts))
+    → ((reading >>= (λ us. Ok (t ∷ us))) >>= (λ us. Ok (done ++ us)))
+    ≡ (reading >>= (λ us. Ok ((done ++ t ∷ []) ++ us)))
+pushed done t (Ok us) = ap Ok (sym (append_assoc done (t ∷ []) us))
 pushed done t (Err fault) = refl
 
-below_push : (n : ℕ) (terms : List Term) (term : Term) → all_below n terms ≡ true
-    → has_serials_below n (term_in term) ≡ true → all_below n (terms ++ term ∷ []) ≡ true
-below_push n [] term all here = and_from _ _ here refl
-below_push n (t ∷ ts) term all here = let parts = and_parts _ _ all in
-    and_from _ _ parts.0 (below_push n ts term parts.1 here)
+numbers_push : (ts : List meaning.Term) (ids : List ℕ) (id : ℕ) → AllNumbers ts ids → id < length ts
+    → AllNumbers ts (ids ++ id ∷ [])
+numbers_push ts [] id all here zero d l = here
+numbers_push ts [] id all here (suc k) d l = absurd (omega arith)
+numbers_push ts (i ∷ ids) id all here zero d l = all 0 0 (omega arith)
+numbers_push ts (i ∷ ids) id all here (suc k) d l =
+    numbers_push ts ids id (λ j e m. all (suc j) e (omega (arith, m))) here k d (omega arith)
 
-module _ (names : List Naming) (n : ℕ) (forms : List Sexpr) (terms : List Term) (form : Sexpr) (left : List Sexpr)
-    (so_far : HasRead names n forms terms (form ∷ left)) where
-  pub reads_one : (term : Term) (more_terms : List Term) → read names (form_of form) ≡ Ok (term_in term)
-      → has_serials_below n (term_in term) ≡ true → more_terms ≡ terms ++ term ∷ []
-      → HasRead names n forms more_terms left
-  reads_one term more_terms reading here pushed_is =
+module _ (names : List Naming) (n : ℕ) (start : List meaning.Term) (forms : List Sexpr) (ts : List meaning.Term)
+    (ids : List ℕ) (form : Sexpr) (left : List Sexpr)
+    (so_far : HasRead names n start forms ts ids (form ∷ left)) where
+  -- one more form was read
+  pub reads_one : (us : List meaning.Term) (id : ℕ) (more_ids : List ℕ)
+      → (read names (form_of form) ≡ Ok (term_at us id)) × (id < length us) → Grows n ts us → more_ids ≡ ids ++ id ∷ []
+      → HasRead names n start forms us more_ids left
+  reads_one us id more_ids reading grows pushed_is =
       let rest = read_all names (forms_in left) in
-      let here_is = ap (λ r. (r >>= (λ t. rest >>= (λ ts. Ok (t ∷ ts)))) >>= (λ ts. Ok (terms_in terms ++ ts))) reading
-      in
-      subst (λ ts. HasRead names n forms ts left) (sym pushed_is) (record {
-        whole = so_far.whole ∙ here_is ∙ pushed (terms_in terms) (term_in term) rest
-            ∙ ap (λ done. rest >>= (λ ts. Ok (done ++ ts))) (sym (map-append term_in terms (term ∷ [])));
-        below = below_push n terms term so_far.below here;
+      let here_is = ap (λ r. (r >>= (λ t. rest >>= (λ vs. Ok (t ∷ vs)))) >>= (λ vs. Ok (terms_at ts ids ++ vs)))
+      reading.0 in
+      let all : terms_at us (ids ++ id ∷ []) ≡ terms_at ts ids ++ term_at us id ∷ [] =
+      map-append (term_at us) ids (id ∷ [])
+      ∙ ap (λ vs. vs ++ term_at us id ∷ []) (ats_kept ts us ids grows.extends so_far.numbers) in
+      subst (λ is. HasRead names n start forms us is left) (sym pushed_is) (record {
+        whole = so_far.whole ∙ here_is ∙ pushed (terms_at ts ids) (term_at us id) rest
+            ∙ ap (λ done. rest >>= (λ vs. Ok (done ++ vs))) (sym all);
+        numbers = numbers_push us ids id (numbers_kept ts us ids grows.extends so_far.numbers) reading.1;
+        grows = grows_more n start ts us so_far.grows grows;
       })
 
   pub reads_fault : (e : ReadFault) → Faults (read names (form_of form)) e → Faults (read_all names (forms_in forms)) e
   reads_fault e h =
       subst (λ r. Faults r e) (sym so_far.whole)
-      (faults_first (read_all names (forms_in (form ∷ left))) (λ ts. Ok (terms_in terms ++ ts)) e
-      (faults_first (read names (form_of form)) (λ t. read_all names (forms_in left) >>= (λ ts. Ok (t ∷ ts))) e h))
+      (faults_first (read_all names (forms_in (form ∷ left))) (λ us. Ok (terms_at ts ids ++ us)) e
+      (faults_first (read names (form_of form)) (λ t. read_all names (forms_in left) >>= (λ us. Ok (t ∷ us))) e h))
 
 append_none : (ts : List meaning.Term) → ts ++ [] ≡ ts
 append_none [] = refl
 append_none (t ∷ ts) = ap (λ us. t ∷ us) (append_none ts)
 
-pub reads_all : (names : List Naming) (n : ℕ) (forms : List Sexpr) (terms : List Term) → HasRead names n forms terms []
-    → read_all names (forms_in forms) ≡ Ok (terms_in terms)
-reads_all names n forms terms so_far = so_far.whole ∙ ap Ok (append_none (terms_in terms))
+pub reads_all : (names : List Naming) (n : ℕ) (start : List meaning.Term) (forms : List Sexpr)
+    (ts : List meaning.Term) (ids : List ℕ) → HasRead names n start forms ts ids []
+    → AreRead ts (read_all names (forms_in forms)) ids
+reads_all names n start forms ts ids so_far =
+    record { terms = so_far.whole ∙ ap Ok (append_none (terms_at ts ids)); numbers = so_far.numbers }
 
 -- the answers for a list, where what it begins with is read
 module _ (names : List Naming) (others : List Sexpr) (begun : Result Beginning Fault)
@@ -178,10 +179,10 @@ module _ (names : List Naming) (others : List Sexpr) (begun : Result Beginning F
   pub front_fault : (e : ReadFault) → Faults begun e → Faults reading e
   front_fault e h = subst (λ r. Faults r e) (sym split) (faults_first begun (finished names (forms_in others)) e h)
 
-  pub whole_list : (h : Head) (result : Result Term ReadFault) → begun ≡ Ok (whole h)
-      → Gives term_in (applied_to h []) result → Gives term_in reading result
-  whole_list h result is given =
-      subst (λ r. Gives term_in r result) (sym (split ∙ ap (λ b. b >>= finished names (forms_in others)) is)) given
+  pub whole_list : (h : Head) (ts : List meaning.Term) (result : Result ℕ ReadFault) → begun ≡ Ok (whole h)
+      → ReadsAs ts (applied_to h []) result → ReadsAs ts reading result
+  whole_list h ts result is given =
+      subst (λ r. ReadsAs ts r result) (sym (split ∙ ap (λ b. b >>= finished names (forms_in others)) is)) given
 
   pub argument_fault : (h : Head) (e : ReadFault) → begun ≡ Ok (takes h) → Faults (read_all names (forms_in others)) e
       → Faults reading e
@@ -189,17 +190,17 @@ module _ (names : List Naming) (others : List Sexpr) (begun : Result Beginning F
       subst (λ r. Faults r e) (sym (split ∙ ap (λ b. b >>= finished names (forms_in others)) is))
       (faults_first (read_all names (forms_in others)) (applied_to h) e fault)
 
-  pub applied_list : (h : Head) (terms : List meaning.Term) (result : Result Term ReadFault) → begun ≡ Ok (takes h)
-      → read_all names (forms_in others) ≡ Ok terms → Gives term_in (applied_to h terms) result
-      → Gives term_in reading result
-  applied_list h terms result is all given =
-      subst (λ r. Gives term_in r result)
+  pub applied_list : (h : Head) (terms ts : List meaning.Term) (result : Result ℕ ReadFault) → begun ≡ Ok (takes h)
+      → read_all names (forms_in others) ≡ Ok terms → ReadsAs ts (applied_to h terms) result
+      → ReadsAs ts reading result
+  applied_list h terms ts result is all given =
+      subst (λ r. ReadsAs ts r result)
       (sym (split ∙ ap (λ b. b >>= finished names (forms_in others)) is ∙ ap (λ r. r >>= applied_to h) all)) given
 
 -- the exit of a fault
-pub exits : (reading : Result meaning.Term Fault) (result : Result Term ReadFault) (e y : ReadFault) → result ≡ Err y
-    → y ≡ e → Faults reading e → Gives term_in reading result
-exits reading result e y is same fault = subst (Gives term_in reading) (sym (is ∙ ap Err same)) fault
+pub exits : (ts : List meaning.Term) (reading : Result meaning.Term Fault) (result : Result ℕ ReadFault)
+    (e y : ReadFault) → result ≡ Err y → y ≡ e → Faults reading e → ReadsAs ts reading result
+exits ts reading result e y is same fault = subst (ReadsAs ts reading) (sym (is ∙ ap Err same)) fault
 
 pub rest_of : (forms : List Sexpr) → take (length forms - 1) (drop 1 forms) ≡ drop 1 forms
 rest_of [] = refl
@@ -213,9 +214,9 @@ rest_of (form ∷ forms) = ap (λ n. take n forms) (less (length forms)) ∙ tak
     take_all (x ∷ xs) = ap (λ ys. x ∷ ys) (take_all xs)
 
 -- what is left to read, at the form at this place
-pub next_left : (names : List Naming) (n : ℕ) (forms : List Sexpr) (terms : List Term) (i : ℕ) (form : Sexpr)
-    → i < length forms → form ≡ get_or forms i form → HasRead names n forms terms (drop i forms)
-    → HasRead names n forms terms (form ∷ drop (i + 1) forms)
-next_left names n forms terms i form within is so_far =
-    subst (HasRead names n forms terms) (drop_more forms i form within ∙ ap (λ f. f ∷ drop (i + 1) forms) (sym is))
-    so_far
+pub next_left : (names : List Naming) (n : ℕ) (start : List meaning.Term) (forms : List Sexpr)
+    (ts : List meaning.Term) (ids : List ℕ) (i : ℕ) (form : Sexpr) → i < length forms → form ≡ get_or forms i form
+    → HasRead names n start forms ts ids (drop i forms) → HasRead names n start forms ts ids (form ∷ drop (i + 1) forms)
+next_left names n start forms ts ids i form within is so_far =
+    subst (HasRead names n start forms ts ids)
+    (drop_more forms i form within ∙ ap (λ f. f ∷ drop (i + 1) forms) (sym is)) so_far

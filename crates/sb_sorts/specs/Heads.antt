@@ -1,25 +1,23 @@
 -- Private: what the parts of reading say: heads, the forms of a slice, and the first fault.
-use Rattle.std.specs.Prelude.{◌≡◌, ℕ, Bool, true, false, ◌&&◌, nat_lt, if◌then◌else◌, List, [], ◌∷◌, map, codes, Option, Some, None, Result, Ok, Err}
+use Rattle.std.specs.Prelude.{◌≡◌, ℕ, Bool, true, false, ◌&&◌, nat_lt, if◌then◌else◌, List, map, codes, Option, Some, None, Result, Ok, Err}
 use Rattle.sb_reader.specs.Forms.{Form, Forms, Symbol, QuotedSymbol, Keyword, Numeral, OtherNumber, Words, Group, none, more}
 use Rattle.sb_sorts.specs.declared.read.ReadFault.{ReadFault}
-use Rattle.sb_sorts.specs.declared.read.ReadFault.TheVariants as fault
 use Rattle.sb_sorts.specs.declared.head.Head.{Head}
 use Rattle.sb_sorts.specs.declared.head.Head.TheVariants as head
 use Rattle.sb_sorts.specs.declared.head.Front.{Front}
 use Rattle.sb_sorts.specs.declared.head.Front.TheVariants as front
 use Rattle.sb_sorts.specs.declared.apply.Arity.{Arity}
 use Rattle.sb_sorts.specs.declared.apply.Arity.TheVariants as arity
-use Rattle.sb_sorts.specs.declared.term.Term as code
 use Rattle.sb_script.specs.Names.{Name, is_name, is_reserved}
 use Rattle.sb_meaning.specs.Sorts as theory
 use Rattle.sb_script.specs.Scopes.{Naming}
-use Rattle.sb_meaning.specs.Terms.{Term, text}
+use Rattle.sb_meaning.specs.Terms.{text}
 use Rattle.sb_script.specs.Heads as meaning
-use Rattle.sb_script.specs.Faults.{Fault, unknown_symbol, wrong_sort, wrong_count, bad_index, unsupported, bad_literal, malformed}
+use Rattle.sb_script.specs.Faults.{Fault, malformed}
 use Rattle.sb_script.specs.Heads.{head_constant, head_symbol, read_head}
 use Rattle.sb_script.specs.Reading.{◌>>=◌, read_index_list, read_list_head, read_reserved, is_binding, are_bindings}
-use Rattle.sb_sorts.specs.Terms.{sort_in, symbol_in, term_in}
-use Rattle.sb_sorts.specs.Reads.{has_serials_below}
+use Rattle.sb_term.specs.Symbols.{sort_in, symbol_in}
+use Rattle.sb_sorts.specs.Reads.{Faults}
 
 abbrev pub head_in : Head → meaning.Head
 head_in (head.Constant serial) = head_constant serial.0 text
@@ -27,31 +25,14 @@ head_in (head.Symbol s) = head_symbol (symbol_in s)
 
 abbrev pub arity_in : Arity → theory.Arity
 arity_in (arity.OfEach sorts) = theory.of_each (map sort_in sorts.now)
-arity_in (arity.OneOrMore sort) = theory.or_more 1 (sort_in sort)
+arity_in (arity.OrMore least sort) = theory.or_more least (sort_in sort)
+arity_in arity.OfOneSort = theory.of_one_sort
+arity_in arity.Choice = theory.choice
 
 -- a constant that is the head has a serial below this
 abbrev pub head_below : ℕ → Head → Bool
 head_below n (head.Constant serial) = nat_lt serial.0 n
 head_below n (head.Symbol s) = true
-
-abbrev pub terms_in : List code.Term → List Term
-terms_in terms = map term_in terms
-
--- each term of the list has serials below this
-abbrev pub all_below : ℕ → List code.Term → Bool
-all_below n [] = true
-all_below n (term ∷ terms) = has_serials_below n (term_in term) && all_below n terms
-
--- Reading gives this fault. Want of memory says nothing.
-abbrev pub Faults : {A : Type 0} → Result A Fault → ReadFault → Type 0
-Faults reading (fault.UnknownSymbol name) = reading ≡ Err (unknown_symbol name.items)
-Faults reading fault.WrongSort = reading ≡ Err wrong_sort
-Faults reading fault.WrongCount = reading ≡ Err wrong_count
-Faults reading fault.BadIndex = reading ≡ Err bad_index
-Faults reading fault.Unsupported = reading ≡ Err unsupported
-Faults reading fault.BadLiteral = reading ≡ Err bad_literal
-Faults reading fault.Malformed = reading ≡ Err malformed
-Faults reading fault.NoMemory = Unit {0}
 
 -- The answer, seen by the view, is what reading gives.
 abbrev pub Gives : {A B : Type 0} → (B → A) → Result A Fault → Result B ReadFault → Type 0

@@ -1,5 +1,5 @@
-pub mod Terms
 pub mod Scopes
 pub mod Reads
+pub mod Growth
 pub mod Heads
 pub mod NameTable

@@ -6,14 +6,14 @@ ghost use Rattle.sb_script.specs.Reading as meaning;
 ghost use Rattle.sb_script.specs.Heads as theory;
 ghost use Rattle.sb_script.specs.Faults.{Fault};
 ghost use Rattle.sb_sorts.specs.Scopes.{names_in};
-ghost use Rattle.sb_sorts.specs.Heads.{head_in, head_below, beginning_in, beginning_below, beginning_of, some_beginning, symbol_beginning, with_arguments, name_of, has_bindings, Beginning, Faults, Gives};
+ghost use Rattle.sb_sorts.specs.Heads.{head_in, head_below, beginning_in, beginning_below, beginning_of, some_beginning, symbol_beginning, with_arguments, name_of, has_bindings, Beginning, Gives};
+ghost use Rattle.sb_sorts.specs.Reads.{Faults};
 
 use crate::names::{begins_term, is_left_out, is_reserved, symbol_named};
 use crate::read::ReadFault;
 use crate::scope::{Named, Scope};
-use crate::sort::Symbol;
-use crate::term::Serial;
 use sb_reader::Sexpr;
+use sb_term::{Serial, Symbol};
 use std::alloc::Global;
 
 /// A head that takes arguments: a constant, which takes none, or a symbol of the theories.

@@ -1,9 +1,9 @@
 //! Names and sorts: what a name stands for, and how a term is read (SMT-LIB 2.6, sections 3.5 to 3.7).
 //!
-//! A [`Scope`] holds the names that are in force, and [`read_term`] makes the well-sorted term of a form,
-//! or gives the first fault in reading order. Contracts see a scope as the list of its names and the sorts
-//! of the constants, and a term as the tree that the definitions have. The layer above declares names and
-//! keeps the terms that are asserted.
+//! A [`Scope`] holds the names that are in force, and [`read_term`] puts the well-sorted term of a form into a table
+//! of terms, or gives the first fault in reading order. Contracts see a scope as the list of its names and the sorts
+//! of the constants, and a term as the tree that its number stands for. The layer above declares names and keeps the
+//! numbers of the terms that are asserted.
 #![tactic(auto)]
 
 mod apply;
@@ -11,12 +11,8 @@ mod head;
 mod names;
 mod read;
 mod scope;
-mod sort;
-mod term;
 mod text;
 
 pub use names::{begins_term, is_reserved, is_theory_name, sort_named};
 pub use read::{ReadFault, read_term};
 pub use scope::{DeclareError, Named, Scope};
-pub use sort::{Sort, Symbol};
-pub use term::{Serial, Term};

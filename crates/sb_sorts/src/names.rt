@@ -4,9 +4,9 @@ ghost use Rattle.std.specs.Prelude.{◌≡◌, option_map};
 ghost use Rattle.std.specs.List.{list_any};
 ghost use Rattle.sb_script.specs.Names as meaning;
 ghost use Rattle.sb_script.specs.Symbols as theory;
-ghost use Rattle.sb_sorts.specs.Terms.{symbol_in, sort_in};
+ghost use Rattle.sb_term.specs.Symbols.{symbol_in, sort_in};
 
-use crate::sort::{Sort, Symbol};
+use sb_term::{Sort, Symbol};
 
 /// What begins a term of its own shape.
 const WORDS_OF_TERMS: [&[u8]; 5] = [b"forall", b"exists", b"match", b"as", b"!"];
@@ -134,19 +134,19 @@ pub(crate) fn symbol_named(name: &[u8]) -> Option<Symbol>
     ensures { option_map symbol_in result ≡ theory.symbol_named name.now }
 {
     if name == b"str.in_re".as_slice() {
-        Some(Symbol::InRe)
+        Some(Symbol::StrInRe)
     } else if name == b"str.to_re".as_slice() {
-        Some(Symbol::ToRe)
+        Some(Symbol::StrToRe)
     } else if name == b"re.++".as_slice() {
-        Some(Symbol::Concat)
+        Some(Symbol::ReConcat)
     } else if name == b"re.union".as_slice() {
-        Some(Symbol::Union)
+        Some(Symbol::ReUnion)
     } else if name == b"re.*".as_slice() {
-        Some(Symbol::Star)
+        Some(Symbol::ReStar)
     } else if name == b"re.+".as_slice() {
-        Some(Symbol::Plus)
+        Some(Symbol::RePlus)
     } else if name == b"re.range".as_slice() {
-        Some(Symbol::Range)
+        Some(Symbol::ReRange)
     } else {
         None
     }

@@ -1,21 +1,23 @@
 //! The reading of terms.
 
-ghost use Rattle.std.specs.Prelude.{◌≡◌, true, IfOk};
+ghost use Rattle.std.specs.Prelude.{◌≡◌, ℕ, ◌<◌, true, List, length, Result, IfOk, MatchResult};
 ghost use Rattle.sb_reader.specs.Forms.{form_of, Symbol, forms_in};
 ghost use Rattle.sb_script.specs.Reading.{read};
 ghost use Rattle.sb_script.specs.Reading as meaning;
-ghost use Rattle.sb_sorts.specs.Heads.{terms_in, all_below, Gives};
+ghost use Rattle.sb_term.specs.Numbered.{Extends};
+ghost use Rattle.sb_term.specs.Serials.{all_below};
+ghost use Rattle.sb_sorts.specs.Growth.{Grows, AreRead};
+ghost use Rattle.sb_sorts.specs.Reads.{ReadsAs, Faults};
 ghost use Rattle.sb_sorts.specs.Scopes.{names_in};
-ghost use Rattle.sb_sorts.specs.Terms.{term_in};
-ghost use Rattle.sb_sorts.specs.Reads.{ReadsAs, has_serials_below};
 
 use crate::apply::applied_to;
 use crate::head::{Front, read_front, read_head};
 use crate::names::{begins_term, is_reserved};
 use crate::scope::Scope;
-use crate::term::Term;
 use crate::text::read_text;
 use sb_reader::Sexpr;
+use sb_term::{Table, TermId};
+use smallvec::SmallVec;
 use std::alloc::{AllocError, AllocFailed, Global};
 use thiserror::Error;
 
@@ -56,83 +58,125 @@ impl From<AllocError> for ReadFault {
     }
 }
 
-impl From<AllocFailed<Term>> for ReadFault {
+impl From<AllocFailed<TermId>> for ReadFault {
     ghost use Rattle.sb_sorts.specs.declared.read.ReadFault.TheVariants.{NoMemory};
 
     ghost from_gives = { λ _ error. error ≡ NoMemory };
 
-    fn from(_failed: AllocFailed<Term>) -> ReadFault {
+    fn from(_failed: AllocFailed<TermId>) -> ReadFault {
         ReadFault::NoMemory
     }
 }
 
-/// The term of a form, or the first fault in reading order. Linear in the form, but for the look-ups of names.
+/// Puts the term of a form into the table, and gives its number, or the first fault in reading order. The terms that
+/// were there keep their numbers, whatever the answer; behind a fault the table may hold parts of the form. Linear in
+/// the form: each list's arguments are collected once, and names and terms are looked up by hash.
+pub fn read_term(
+    alloc: Global,
+    table: &mut Table,
+    scope: &Scope,
+    form: &Sexpr,
+) -> Result<TermId, ReadFault>
+    ensures reads { ReadsAs table.new (read (names_in scope.now) (form_of form.now)) result }
+    ensures extends { Extends table.old table.new }
+    ensures declared { all_below scope.now.declared table.old ≡ true → all_below scope.now.declared table.new ≡ true }
+{
+    read_form(alloc, table, scope, form)
+}
+
+/// The term of a form.
 #[cycle(read)]
-pub fn read_term(alloc: Global, scope: &Scope, form: &Sexpr) -> Result<Term, ReadFault>
-    ensures reads { ReadsAs (read (names_in scope.now) (form_of form.now)) result }
-    ensures declared { IfOk result (λ term. has_serials_below scope.now.declared (term_in term) ≡ true) }
+fn read_form(
+    alloc: Global,
+    table: &mut Table,
+    scope: &Scope,
+    form: &Sexpr,
+) -> Result<TermId, ReadFault>
+    ensures reads { ReadsAs table.new (read (names_in scope.now) (form_of form.now)) result }
+    ensures grows { Grows scope.now.declared table.old table.new }
 {
     match form {
-        Sexpr::Symbol(name) => read_bare_name(alloc, scope, name),
-        Sexpr::QuotedSymbol(name) => read_name(alloc, scope, name),
+        Sexpr::Symbol(name) => read_bare_name(alloc, table, scope, name),
+        Sexpr::QuotedSymbol(name) => read_name(alloc, table, scope, name),
         Sexpr::Keyword(_) => Err(ReadFault::Malformed),
         Sexpr::Numeral(_) | Sexpr::OtherNumber(_) => Err(ReadFault::Unsupported),
-        Sexpr::Text(bytes) => read_text(alloc, bytes),
-        Sexpr::List(forms) => read_list(alloc, scope, forms),
+        Sexpr::Text(bytes) => read_text(alloc, table, bytes),
+        Sexpr::List(forms) => read_list(alloc, table, scope, forms),
     }
 }
 
 /// The term of a list.
 #[cycle(read)]
-fn read_list(alloc: Global, scope: &Scope, forms: &[Sexpr]) -> Result<Term, ReadFault>
-    ensures reads { Gives term_in (meaning.read_list (names_in scope.now) (forms_in forms.now)) result }
-    ensures declared { IfOk result (λ term. has_serials_below scope.now.declared (term_in term) ≡ true) }
+fn read_list(
+    alloc: Global,
+    table: &mut Table,
+    scope: &Scope,
+    forms: &[Sexpr],
+) -> Result<TermId, ReadFault>
+    ensures reads { ReadsAs table.new (meaning.read_list (names_in scope.now) (forms_in forms.now)) result }
+    ensures grows { Grows scope.now.declared table.old table.new }
 {
     let [first, others @ ..] = forms else {
         return Err(ReadFault::Malformed);
     };
     match read_front(alloc, scope, first, others)? {
-        Front::Whole(head) => applied_to(head, Vec::new(alloc)),
+        Front::Whole(head) => applied_to(alloc, table, head, SmallVec::new(alloc)),
         Front::Takes(head) => {
-            let terms = read_all(alloc, scope, others)?;
-            applied_to(head, terms)
+            let ids = read_all(alloc, table, scope, others)?;
+            applied_to(alloc, table, head, ids)
         }
     }
 }
 
 /// The terms of forms, from left to right.
 #[cycle(read)]
-fn read_all(alloc: Global, scope: &Scope, forms: &[Sexpr]) -> Result<Vec<Term>, ReadFault>
-    ensures reads { Gives (λ terms. terms_in terms.items) (meaning.read_all (names_in scope.now) (forms_in forms.now))
-        result }
-    ensures declared { IfOk result (λ terms. all_below scope.now.declared terms.items ≡ true) }
+fn read_all(
+    alloc: Global,
+    table: &mut Table,
+    scope: &Scope,
+    forms: &[Sexpr],
+) -> Result<SmallVec<TermId, 4>, ReadFault>
+    ensures reads { MatchResult result
+        (λ ids. AreRead table.new (meaning.read_all (names_in scope.now) (forms_in forms.now)) ids.items)
+        (λ fault. Faults (meaning.read_all (names_in scope.now) (forms_in forms.now)) fault) }
+    ensures grows { Grows scope.now.declared table.old table.new }
 {
-    let mut terms = Vec::new(alloc);
+    let mut ids = SmallVec::new(alloc);
     for form in forms {
-        terms.push(read_term(alloc, scope, form)?)?;
+        ids.push(read_form(alloc, table, scope, form)?)?;
     }
-    Ok(terms)
+    Ok(ids)
 }
 
 /// The term of a name that stands alone.
-fn read_name(alloc: Global, scope: &Scope, name: &[u8]) -> Result<Term, ReadFault>
-    ensures reads { Gives term_in (meaning.read_name (names_in scope.now) name.now) result }
-    ensures declared { IfOk result (λ term. has_serials_below scope.now.declared (term_in term) ≡ true) }
+fn read_name(
+    alloc: Global,
+    table: &mut Table,
+    scope: &Scope,
+    name: &[u8],
+) -> Result<TermId, ReadFault>
+    ensures reads { ReadsAs table.new (meaning.read_name (names_in scope.now) name.now) result }
+    ensures grows { Grows scope.now.declared table.old table.new }
 {
     let head = read_head(alloc, scope, name)?;
-    applied_to(head, Vec::new(alloc))
+    applied_to(alloc, table, head, SmallVec::new(alloc))
 }
 
 /// The term of a symbol that stands alone and was not written between bars.
-fn read_bare_name(alloc: Global, scope: &Scope, name: &[u8]) -> Result<Term, ReadFault>
-    ensures reads { Gives term_in (meaning.read (names_in scope.now) (Symbol name.now)) result }
-    ensures declared { IfOk result (λ term. has_serials_below scope.now.declared (term_in term) ≡ true) }
+fn read_bare_name(
+    alloc: Global,
+    table: &mut Table,
+    scope: &Scope,
+    name: &[u8],
+) -> Result<TermId, ReadFault>
+    ensures reads { ReadsAs table.new (meaning.read (names_in scope.now) (Symbol name.now)) result }
+    ensures grows { Grows scope.now.declared table.old table.new }
 {
     if begins_term(name) {
         Err(ReadFault::Unsupported)
     } else if is_reserved(name) {
         Err(ReadFault::Malformed)
     } else {
-        read_name(alloc, scope, name)
+        read_name(alloc, table, scope, name)
     }
 }

@@ -8,8 +8,8 @@ ghost use Rattle.sb_sorts.specs.Scopes.{named_in, names_in, serials_in, counted,
 ghost use Rattle.sb_sorts.specs.NameTable.{kept_in, namings_in, named_below};
 
 use crate::names::is_theory_name;
-use crate::term::Serial;
 use indexmap::IndexMap;
+use sb_term::Serial;
 use std::alloc::{AllocError, Global};
 use std::marker::Model;
 use thiserror::Error;

@@ -1,23 +1,21 @@
 //! Texts as terms.
 
-ghost use Rattle.std.specs.Prelude.{◌≡◌, true, nat_eq, IfOk, ℕ};
+ghost use Rattle.std.specs.Prelude.{◌≡◌, nat_eq, IfOk, ℕ};
 ghost use Rattle.std.specs.List.{list_all, list_any};
 ghost use Rattle.sb_word.specs.Words.{IsWord};
 ghost use Rattle.sb_word.specs.Literals.{is_printable};
 ghost use Rattle.sb_script.specs.Texts as meaning;
-ghost use Rattle.sb_sorts.specs.Terms.{term_in};
-ghost use Rattle.sb_sorts.specs.Heads.{Gives};
-ghost use Rattle.sb_sorts.specs.Reads.{has_serials_below};
+ghost use Rattle.sb_sorts.specs.Growth.{Grows};
+ghost use Rattle.sb_sorts.specs.Reads.{ReadsAs};
 
 use crate::read::ReadFault;
-use crate::term::Term;
-use sb_word::{CodesError, Word};
+use sb_term::{Table, Term, TermId};
 use std::alloc::{AllocError, Global};
 
 /// A text as a term, by the bytes between its quotes. One that may have an escape is left out.
-pub(crate) fn read_text(alloc: Global, bytes: &[u8]) -> Result<Term, ReadFault>
-    ensures reads { Gives term_in (meaning.read_text bytes.now) result }
-    ensures declared { IfOk result (λ term. (n : ℕ) → has_serials_below n (term_in term) ≡ true) }
+pub(crate) fn read_text(alloc: Global, table: &mut Table, bytes: &[u8]) -> Result<TermId, ReadFault>
+    ensures reads { ReadsAs table.new (meaning.read_text bytes.now) result }
+    ensures grows { (n : ℕ) → Grows n table.old table.new }
 {
     if !are_printable(bytes) {
         return Err(ReadFault::BadLiteral);
@@ -26,11 +24,7 @@ pub(crate) fn read_text(alloc: Global, bytes: &[u8]) -> Result<Term, ReadFault>
         return Err(ReadFault::Unsupported);
     }
     let codes = unquoted(alloc, bytes)?;
-    match Word::from_codes(alloc, &codes) {
-        Ok(word) => Ok(Term::Word(word)),
-        Err(CodesError::NoMemory) => Err(ReadFault::NoMemory),
-        Err(CodesError::NotACharacter(_)) => unreachable!(),
-    }
+    Ok(table.add(Term::Word(codes))?)
 }
 
 fn are_printable(bytes: &[u8]) -> bool
@@ -50,7 +44,7 @@ fn unquoted(alloc: Global, bytes: &[u8]) -> Result<Vec<u32>, AllocError>
     ensures codes { IfOk result (λ codes. codes.items ≡ meaning.unquoted bytes.now) }
     ensures word { IfOk result (λ codes. IsWord codes.items) }
 {
-    let mut codes = Vec::new(alloc);
+    let mut codes = Vec::with_capacity(alloc, bytes.len())?;
     let mut behind_quote = false;
     for byte in bytes {
         if behind_quote {

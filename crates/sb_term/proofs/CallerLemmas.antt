@@ -1,10 +1,13 @@
 -- What a caller cites of terms by their numbers, in a table that grows.
-use Rattle.std.proofs.Common.{◌≡◌, ℕ, suc, ◌<◌, ◌≤◌, Some, List, [], ◌∷◌, ◌++◌, length, get_or, refl, sym, ap, ap₂, ◌∙◌, arith, append_assoc, length-append}
-use Rattle.std.specs.List.{All}
+use Rattle.std.proofs.Common.{◌≡◌, ℕ, zero, suc, ◌+◌, ◌<◌, ◌≤◌, Bool, true, nat_lt, Some, List, [], ◌∷◌, ◌++◌, length, get_or, refl, sym, ap, ap₂, ◌∙◌, arith, append_assoc, length-append}
+use Rattle.std.specs.List.{All, list_all}
+use Rattle.std.proofs.lemmas.Bool.{and_parts, and_from}
+use Rattle.std.proofs.lemmas.Bool.Decides.{nat_tests}
 use Rattle.std.proofs.lemmas.List.{append-nil, get_or_append_left}
 use Rattle.std.proofs.lemmas.Option.{get_or_from_slice_get, slice_get_within, slice_get-get_or}
-use Rattle.sb_meaning.specs.Terms.{Term, word}
+use Rattle.sb_meaning.specs.Terms.{Term, Terms, constant, word, numeral, apply, parameter, no_terms, with_term, terms_of}
 use Rattle.sb_term.specs.Numbered.{term_at, terms_at, Names, AllNumbers, Extends}
+use Rattle.sb_term.specs.Serials.{has_serials_below, have_serials_below, all_below}
 
 pub extends_same : (ts : List Term) → Extends ts ts
 extends_same ts = record { more = []; is = sym (append-nil ts) }
@@ -45,3 +48,42 @@ ats_kept old new [] e h = refl
 ats_kept old new (i ∷ is) e h =
     ap₂ (λ t ts. t ∷ ts) (at_kept old new i e (h 0 0 (omega arith)))
     (ats_kept old new is e (λ k d l. h (suc k) d (omega (arith, l))))
+
+-- The serials of constants.
+
+pub below_at : (n : ℕ) (ts : List Term) (i : ℕ) → all_below n ts ≡ true → i < length ts
+    → has_serials_below n (term_at ts i) ≡ true
+below_at n [] i h l = absurd (omega arith)
+below_at n (t ∷ ts) zero h l = (and_parts (has_serials_below n t) (all_below n ts) h).0
+below_at n (t ∷ ts) (suc i) h l =
+    below_at n ts i (and_parts (has_serials_below n t) (all_below n ts) h).1 (omega arith)
+
+-- the terms of numbers in the table
+pub belows_at : (n : ℕ) (ts : List Term) (is : List ℕ) → all_below n ts ≡ true → AllNumbers ts is
+    → have_serials_below n (terms_of (terms_at ts is)) ≡ true
+belows_at n ts [] h l = refl
+belows_at n ts (i ∷ is) h l =
+    and_from _ _ (below_at n ts i h (l 0 0 (omega arith)))
+    (belows_at n ts is h (λ k d m. l (suc k) d (omega (arith, m))))
+
+below_next : (serial n : ℕ) → nat_lt serial n ≡ true → nat_lt serial (n + 1) ≡ true
+below_next serial n h = grind (arith, nat_tests)
+
+mutual
+  term_below_more : (n : ℕ) (t : Term) → has_serials_below n t ≡ true → has_serials_below (n + 1) t ≡ true
+  term_below_more n (constant serial sort) h = below_next serial n h
+  term_below_more n (word w) h = refl
+  term_below_more n (numeral m) h = refl
+  term_below_more n (apply s terms) h = terms_below_more n terms h
+  term_below_more n (parameter place sort) h = refl
+
+  terms_below_more : (n : ℕ) (ts : Terms) → have_serials_below n ts ≡ true → have_serials_below (n + 1) ts ≡ true
+  terms_below_more n no_terms h = refl
+  terms_below_more n (with_term t ts) h = let parts = and_parts _ _ h in
+      and_from _ _ (term_below_more n t parts.0) (terms_below_more n ts parts.1)
+
+-- where one more constant is declared
+pub all_below_more : (n : ℕ) (ts : List Term) → all_below n ts ≡ true → all_below (n + 1) ts ≡ true
+all_below_more n [] h = refl
+all_below_more n (t ∷ ts) h = let parts = and_parts (has_serials_below n t) (all_below n ts) h in
+    and_from _ _ (term_below_more n t parts.0) (all_below_more n ts parts.1)

@@ -1,8 +1,8 @@
 -- The terms of a table, with one more term of the code.
 use Rattle.std.proofs.Common.{◌≡◌, ℕ, ◌<◌, Bool, true, false, ◌⊎◌, inl, inr, nat_lt, not, cond, Some, List, [], ◌∷◌, ◌++◌, length, get_or, slice_get, refl, sym, ap, ap₂, ◌∙◌, arith, length-append}
-use Rattle.std.specs.List.{list_any}
+use Rattle.std.specs.List.{list_any, list_all}
 use Rattle.std.specs.Prelude.{Result, Ok, Err, IfOk}
-use Rattle.std.proofs.lemmas.Bool.{false≢true}
+use Rattle.std.proofs.lemmas.Bool.{false≢true, and_parts, and_from}
 use Rattle.std.proofs.lemmas.Bool.Decides.{nat_tests}
 use Rattle.std.proofs.lemmas.List.{get_or_append_left, get_or_push, get_or_default, nil_from_length}
 use Rattle.std.proofs.lemmas.List.Folds.{list_any-from_Any}
@@ -172,3 +172,26 @@ named old after d n t e p stored =
 pub if_ok_moved : {A E : Type 0} (r : Result A E) (P Q : A → Type 0) → ((x : A) → P x → Q x) → IfOk r P → IfOk r Q
 if_ok_moved (Ok x) P Q f h = f x h
 if_ok_moved (Err e) P Q f h = tt
+
+all_push : (test : Term → Bool) (ts : List Term) (t : Term) → list_all test ts ≡ true → test t ≡ true
+    → list_all test (ts ++ t ∷ []) ≡ true
+all_push test [] t h k = and_from _ _ k refl
+all_push test (x ∷ xs) t h k = let parts = and_parts (test x) (list_all test xs) h in
+    and_from _ _ parts.0 (all_push test xs t parts.1 k)
+
+-- what is true of the terms before and of the one that was added is true of all
+pub all_added : (old : List Term) (ds after : List code.Term) (d : code.Term) → terms_of_table ds ≡ old
+    → after ≡ inserted ds d → (test : Term → Bool) → list_all test old ≡ true → test (node_term old d) ≡ true
+    → list_all test (terms_of_table after) ≡ true
+all_added old ds after d is e test h k =
+    rw e (step (list_any (same d) ds))
+  where
+    all : list_all test (terms_of_table ds) ≡ true
+    all = rw is h
+
+    new : test (node_term (terms_of_table ds) d) ≡ true
+    new = rw is k
+
+    step : (b : Bool) → list_all test (terms_of_table (cond b ds (ds ++ d ∷ []))) ≡ true
+    step true = all
+    step false = rw (onto-push [] ds d) (all_push test (terms_of_table ds) (node_term (terms_of_table ds) d) all new)

@@ -1,4 +1,5 @@
 pub mod Symbols
 pub mod Numbered
 pub mod Nodes
+pub mod Serials
 pub mod Interning

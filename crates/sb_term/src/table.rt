@@ -1,6 +1,8 @@
 //! The table of terms.
 
-ghost use Rattle.std.specs.Prelude.{◌≡◌, ℕ, ◌<◌, length, [], IfOk};
+ghost use Rattle.std.specs.Prelude.{◌≡◌, ℕ, ◌<◌, Bool, true, length, [], IfOk};
+ghost use Rattle.std.specs.List.{list_all};
+ghost use Rattle.sb_meaning.specs.Terms as terms;
 ghost use Rattle.sb_meaning.specs.Sorts.{result_of, sort_of};
 ghost use Rattle.sb_term.specs.Nodes.{node_term, ArgumentsBelow, IsWritten};
 ghost use Rattle.sb_term.specs.Numbered.{term_at, Names, Extends, AreDistinct};
@@ -134,6 +136,8 @@ impl Table {
         requires written { IsWritten term }
         ensures ok { IfOk result (λ id. Names self.new id (node_term self.old term)) }
         ensures extends { Extends self.old self.new }
+        ensures only { (test : terms.Term → Bool) → list_all test self.old ≡ true
+            → test (node_term self.old term) ≡ true → list_all test self.new ≡ true }
     {
         let (number, _) = self.nodes.insert_full(term)?;
         TermId::new(number)

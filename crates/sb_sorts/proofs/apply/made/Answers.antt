@@ -1,10 +1,10 @@
-use Rattle.std.proofs.Common.{sym, ◌∙◌}
-use Rattle.sb_sorts.proofs.Applying.{made_in_memory, symbol_below}
+use Rattle.sb_term.specs.Serials.{has_serials_below}
+use Rattle.sb_term.proofs.CallerLemmas.{belows_at}
 use Rattle.sb_sorts.proofs.apply.made.Goals as goal
 
-pub returns-else-is_of_one-clause-value : goal.returns-else-is_of_one-clause-value
-returns-else-is_of_one-clause-value c =
-    made_in_memory c.args.symbol c.args.terms (sym c.is_of_one.ensures ∙ c.if-is_of_one.false)
-
-pub returns-else-is_of_one-clause-below : goal.returns-else-is_of_one-clause-below
-returns-else-is_of_one-clause-below c = λ n all. symbol_below n c.args.symbol c.args.terms all
+pub returns-else-is_of_one-clause-grows : goal.returns-else-is_of_one-clause-grows
+returns-else-is_of_one-clause-grows c = λ n. record {
+  extends = c.add.ensures.extends;
+  below = λ h. c.add.ensures.only (has_serials_below n) h
+      (belows_at n c.args.table.now c.args.ids.items h c.requires);
+}

@@ -7,10 +7,10 @@ use Rattle.sb_sorts.proofs.read.+read.Given as goal
 
 abbrev pub invariant-read_all-loop-form : goal.invariant-read_all-loop-form
 invariant-read_all-loop-form l =
-    HasRead (names_in l.scope) l.scope.declared l.forms l.terms.items (drop l.form-index l.forms)
+    HasRead (names_in l.scope) l.scope.declared l.fn.table l.forms l.table l.ids.items (drop l.form-index l.forms)
 
-abbrev pub decreases-read_term : goal.decreases-read_term
-decreases-read_term l = 3 * size (form_of l.form.now)
+abbrev pub decreases-read_form : goal.decreases-read_form
+decreases-read_form l = 3 * size (form_of l.form.now)
 
 abbrev pub decreases-read_list : goal.decreases-read_list
 decreases-read_list l = 3 * size_of_slice l.forms.now + 2

@@ -1,4 +1,4 @@
-use Rattle.sb_term.proofs.TableFacts.{extended, table_added, named, if_ok_moved}
+use Rattle.sb_term.proofs.TableFacts.{extended, table_added, named, all_added, if_ok_moved}
 use Rattle.sb_term.proofs.table.Table.add.Goals as goal
 
 pub invariant_of-self-2 : goal.invariant_of-self-2
@@ -19,4 +19,9 @@ returns-clause-ok c =
 pub returns-clause-extends : goal.returns-clause-extends
 returns-clause-extends c =
     extended c.args.self.now c.self.inside.nodes.keys c.insert_full.new.self.keys c.args.term c.self.view_is
+    c.in_ok-number.ensures.keys
+
+pub returns-clause-only : goal.returns-clause-only
+returns-clause-only c =
+    all_added c.args.self.now c.self.inside.nodes.keys c.insert_full.new.self.keys c.args.term c.self.view_is
     c.in_ok-number.ensures.keys

@@ -1,0 +1,312 @@
+-- What is kept of terms by number, as more of them become known.
+use Rattle.std.proofs.Common.{◌≡◌, ℕ, zero, suc, ◌+◌, ◌<◌, ◌≤◌, ◌≢◌, Bool, true, false, not, ◌&&◌, nat_eq, List, [], ◌∷◌, ◌++◌, length, get_or, take, set, map, slice_get, refl, sym, ap, ap₂, ◌∙◌, arith, ◌⊎◌, inl, inr, Option, Some, None, option_map, length-append}
+use Rattle.std.proofs.lemmas.Bool.{false≢true}
+use Rattle.std.proofs.lemmas.Option.{same_Some}
+use Rattle.std.proofs.lemmas.List.{take_more, take_all, map-append, get_or_append_left, get_or_push, get_or_default, get_or-set_same, get_or-set_other, length-set}
+use Rattle.std.proofs.lemmas.List.Elements.{All-append}
+use Rattle.std.proofs.lemmas.List.Folds.{list_all-append}
+use Rattle.std.proofs.lemmas.Bool.Decides.{nat_tests}
+use Rattle.std.specs.List.{All, list_all}
+use Rattle.sb_term.specs.declared.sort.Symbol.{Symbol}
+use Rattle.sb_term.specs.declared.sort.Symbol.TheVariants as symbol
+use Rattle.sb_term.specs.Symbols.{symbol_in}
+use Rattle.sb_term.specs.declared.term.Term as code
+use Rattle.sb_term.specs.declared.term.Term.TheVariants as node
+use Rattle.sb_term.specs.Nodes.{node_term}
+use Rattle.sb_term.specs.Numbered.{term_at, terms_at}
+use Rattle.sb_term.proofs.CallerLemmas as table_facts
+use Rattle.sb_lang.specs.Regex.{Regex}
+use Rattle.sb_regex.specs.Numbered.{regex_at, regexes_at, Extends}
+use Rattle.sb_regex.proofs.CallerLemmas.{names_kept, names_at, names_below, one_number, numbers_kept, ats_kept}
+use Rattle.sb_meaning.specs.Terms.{Term, Terms, apply, terms_of, no_terms, with_term, re_concat}
+use Rattle.sb_script.specs.Brought.{is_regex, are_regexes}
+use Rattle.sb_problem.specs.declared.normals.Known.{Known}
+use Rattle.sb_problem.specs.declared.normals.Known.TheVariants as known
+use Rattle.sb_problem.specs.Known.{IsKnown, IsConcatenation, AreNormals, AreTold, known_from, is_other}
+use Rattle.sb_problem.specs.Laws.{NormalsStay}
+use Rattle.sb_problem.specs.Shapes.{IsNumbered, IsFound, AreRegexesOf, made, joined_right, either, or_none, regex_of, regexes_of}
+use Rattle.sb_problem.proofs.Meanings.{are_all, regexes_all}
+
+pub normals_new : (ts : List Term) (rs : List Regex) (ks : List Known) → length ks ≡ 0 → AreNormals ts rs ks
+normals_new ts rs ks h = record { short = omega (arith, h); each = λ i l. absurd (omega (arith, h, l)) }
+
+-- in an arena that grows
+pub known_kept : (rs new : List Regex) (t : Term) (k : Known) → Extends rs new → IsKnown rs t k → IsKnown new t k
+known_kept rs new t known.Other e h = h
+known_kept rs new t known.Concatenation e h = h
+known_kept rs new t (known.Made id) e h = (h.0, names_kept rs new id (regex_of t) e h.1)
+
+pub normals_stay : NormalsStay
+normals_stay ts more rs new ks e f n = record {
+  short = omega (arith, n.short, table_facts.long_kept ts more e);
+  each = λ i l.
+      let same = table_facts.at_kept ts more i e (omega (arith, l, n.short)) in
+      rw same (known_kept rs new (term_at ts i) (get_or ks i known.Other) f (n.each i l));
+}
+
+pub normals_grown : (ts : List Term) (rs new : List Regex) (ks : List Known) → Extends rs new → AreNormals ts rs ks
+    → AreNormals ts new ks
+normals_grown ts rs new ks e n = normals_stay ts ts rs new ks (table_facts.extends_same ts) e n
+
+-- one more
+pub normals_more : (ts : List Term) (rs : List Regex) (ks : List Known) (k : Known) → length ks < length ts
+    → AreNormals ts rs ks → IsKnown rs (term_at ts (length ks)) k → AreNormals ts rs (ks ++ k ∷ [])
+normals_more ts rs ks k l n h = record {
+  short = omega (arith, l, length-append ks (k ∷ []));
+  each = λ i m. step i m (nat_eq i (length ks)) refl;
+}
+  where
+    step : (i : ℕ) → i < length (ks ++ k ∷ []) → (b : Bool) → nat_eq i (length ks) ≡ b
+        → IsKnown rs (term_at ts i) (get_or (ks ++ k ∷ []) i known.Other)
+    step i m true is =
+        let e : i ≡ length ks = grind (arith, nat_tests) in
+        rw e (rw (get_or_push ks k known.Other (length ks) refl) h)
+    step i m false is =
+        let low : i < length ks = grind (arith, nat_tests, length-append ks (k ∷ [])) in
+        rw (get_or_append_left ks (k ∷ []) known.Other i low) (n.each i low)
+
+-- which terms are regular expressions
+told_known : (rs : List Regex) (t : Term) (k : Known) → IsKnown rs t k → is_regex t ≡ not (is_other k)
+told_known rs t known.Other h = h
+told_known rs t known.Concatenation h = h.kind
+told_known rs t (known.Made id) h = h.0
+
+pub told : (ts : List Term) (rs : List Regex) (ks : List Known) → AreNormals ts rs ks → AreTold ts ks
+told ts rs ks n i l = told_known rs (term_at ts i) (get_or ks i known.Other) (n.each i l)
+
+pub known_is : (rs : List Regex) (t : Term) (found : Option ℕ) → IsNumbered rs t found → IsKnown rs t (known_from found)
+known_is rs t None h = h
+known_is rs t (Some id) h = h
+
+-- a list of terms, one further
+pub kinds_further : (p : Term → Bool) (ts : List Term) (ids : List ℕ) (i x : ℕ) → i < length ids → x ≡ get_or ids i x
+    → list_all p (terms_at ts (take i ids)) ≡ true → p (term_at ts x) ≡ true →
+    list_all p (terms_at ts (take (i + 1) ids)) ≡ true
+kinds_further p ts ids i x l there all one =
+    ap (λ xs. list_all p (terms_at ts xs)) (take_more ids i x l ∙ ap (λ y. take i ids ++ y ∷ []) (sym there))
+    ∙ (ap (list_all p) (map-append (term_at ts) (take i ids) (x ∷ []))
+    ∙ (list_all-append p (terms_at ts (take i ids)) (term_at ts x ∷ [])
+    ∙ ap₂ ◌&&◌ all (ap (λ b. b && true) one)))
+
+-- where one is not
+pub one_other : (p : Term → Bool) (ts : List Term) (ids : List ℕ) (i x : ℕ) → i < length ids → x ≡ get_or ids i x
+    → p (term_at ts x) ≡ false → list_all p (terms_at ts ids) ≡ false
+one_other p ts [] i x l there other = absurd (omega arith)
+one_other p ts (y ∷ ids) zero x l there other =
+    ap (λ b. b && list_all p (terms_at ts ids)) (ap (λ z. p (term_at ts z)) (sym there) ∙ other)
+one_other p ts (y ∷ ids) (suc i) x l there other =
+    ap (λ b. p (term_at ts y) && b) (one_other p ts ids i x (omega (arith, l)) there other) ∙ and_false (p (term_at ts y))
+  where
+    and_false : (b : Bool) → (b && false) ≡ false
+    and_false true = refl
+    and_false false = refl
+
+pub regexes_further : (rs new : List Regex) (ts : List Term) (ids : List ℕ) (i x : ℕ) (found found' : List ℕ) (id : ℕ)
+    → AreRegexesOf rs (terms_at ts (take i ids)) found → Extends rs new → i < length ids → x ≡ get_or ids i x →
+    IsNumbered new (term_at ts x) (Some id) → found' ≡ found ++ id ∷ []
+    → AreRegexesOf new (terms_at ts (take (i + 1) ids)) found'
+regexes_further rs new ts ids i x found found' id all e l there one is = rw is (record {
+  kind = kinds_further is_regex ts ids i x l there all.kind one.0;
+  numbers = All-append (λ n. n < length new) found (id ∷ []) (numbers_kept rs new found e all.numbers)
+      (one_number new id (names_below new id _ one.1));
+  regexes = map-append (regex_at new) found (id ∷ [])
+      ∙ (ap₂ (λ xs y. xs ++ y ∷ []) (ats_kept rs new found e all.numbers ∙ all.regexes) (names_at new id _ one.1)
+      ∙ sym (further ∙ map-append regex_of (terms_at ts (take i ids)) (term_at ts x ∷ [])));
+})
+  where
+    further : map regex_of (terms_at ts (take (i + 1) ids)) ≡ map regex_of (terms_at ts (take i ids) ++ term_at ts x ∷ [])
+    further = ap (λ xs. map regex_of (terms_at ts xs)) (take_more ids i x l ∙ ap (λ y. take i ids ++ y ∷ []) (sym there))
+        ∙ ap (map regex_of) (map-append (term_at ts) (take i ids) (x ∷ []))
+
+-- the symbols of which the arguments' regexes are asked for
+abbrev pub joins : Symbol → Bool
+joins symbol.ReUnion = true
+joins symbol.ReStar = true
+joins symbol.RePlus = true
+joins _ = false
+
+pub is_joining : (s : Symbol) → (s ≡ symbol.ReUnion) ⊎ ((s ≡ symbol.ReStar) ⊎ (s ≡ symbol.RePlus)) → joins s ≡ true
+is_joining s (inl h) = ap joins h
+is_joining s (inr (inl h)) = ap joins h
+is_joining s (inr (inr h)) = ap joins h
+
+alone_false : (b : Bool) → (b && true) ≡ false → b ≡ false
+alone_false true h = h
+alone_false false h = refl
+
+alone_true : (b : Bool) → (b && true) ≡ true → b ≡ true
+alone_true true h = h
+alone_true false h = h
+
+other_one : (s : Symbol) (ts : Terms) → joins s ≡ true → are_regexes ts ≡ false
+    → is_regex (apply (symbol_in s) ts) ≡ false
+other_one symbol.ReUnion no_terms h k = refl
+other_one symbol.ReUnion (with_term t ts) h k = k
+other_one symbol.ReStar no_terms h k = refl
+other_one symbol.ReStar (with_term t no_terms) h k = alone_false (is_regex t) k
+other_one symbol.ReStar (with_term t (with_term u ts)) h k = refl
+other_one symbol.RePlus no_terms h k = refl
+other_one symbol.RePlus (with_term t no_terms) h k = alone_false (is_regex t) k
+other_one symbol.RePlus (with_term t (with_term u ts)) h k = refl
+other_one s ts h k = absurd (false≢true h)
+
+pub none_given : (rs : List Regex) (s : Symbol) (ts : List Term) (ids : List ℕ) (t : Term) → joins s ≡ true
+    → t ≡ apply (symbol_in s) (terms_of (terms_at ts ids)) → list_all is_regex (terms_at ts ids) ≡ false →
+    is_regex t ≡ false
+none_given rs s ts ids t h is other =
+    ap is_regex is ∙ other_one s (terms_of (terms_at ts ids)) h (are_all (terms_at ts ids) ∙ other)
+
+some_one : (s : Symbol) (t : Term) (ts : Terms) → joins s ≡ true → are_regexes (with_term t ts) ≡ true
+    → (o : Option Regex) → made s (regex_of t ∷ regexes_of ts) ≡ o
+    → elim o as (λ _. Type 0) [
+      | None ↦ is_regex (apply (symbol_in s) (with_term t ts)) ≡ false
+      | Some r ↦ (is_regex (apply (symbol_in s) (with_term t ts)) ≡ true)
+          × (regex_of (apply (symbol_in s) (with_term t ts)) ≡ r)
+    ]
+some_one symbol.ReUnion t ts h k None e = absurd (some_joined either (regex_of t) (regexes_of ts) e)
+  where
+    some_joined : (join : Regex → Regex → Regex) (r : Regex) (rs : List Regex) → joined_right join (r ∷ rs) ≡ None → ⊥
+    some_joined join r [] e = cc
+    some_joined join r (s ∷ rs) e = some_joined join s rs (nothing (joined_right join (s ∷ rs)) e)
+      where
+        nothing : (o : Option Regex) → option_map (join r) o ≡ None → o ≡ None
+        nothing None e = refl
+        nothing (Some x) e = cc
+some_one symbol.ReUnion t ts h k (Some r) e = (k, ap or_none e)
+some_one symbol.ReStar t no_terms h k None e = cc
+some_one symbol.ReStar t no_terms h k (Some r) e = (alone_true (is_regex t) k, ap or_none e)
+some_one symbol.ReStar t (with_term u ts) h k None e = refl
+some_one symbol.ReStar t (with_term u ts) h k (Some r) e = cc
+some_one symbol.RePlus t no_terms h k None e = cc
+some_one symbol.RePlus t no_terms h k (Some r) e = (alone_true (is_regex t) k, ap or_none e)
+some_one symbol.RePlus t (with_term u ts) h k None e = refl
+some_one symbol.RePlus t (with_term u ts) h k (Some r) e = cc
+some_one s t ts h k o e = absurd (false≢true h)
+
+empty_one : (s : Symbol) → joins s ≡ true
+    → (made s [] ≡ None) × (is_regex (apply (symbol_in s) no_terms) ≡ false)
+empty_one symbol.ReUnion h = (refl, refl)
+empty_one symbol.ReStar h = (refl, refl)
+empty_one symbol.RePlus h = (refl, refl)
+empty_one s h = absurd (false≢true h)
+
+abbrev Gives : Term → Option Regex → Type 0
+Gives t None = is_regex t ≡ false
+Gives t (Some r) = (is_regex t ≡ true) × (regex_of t ≡ r)
+
+found_is : (new : List Regex) (t : Term) (r : Option Regex) (o : Option ℕ) → Gives t r → IsFound new o r
+    → IsNumbered new t o
+found_is new t None None g f = g
+found_is new t None (Some id) g f = absurd (nothing (slice_get new id) f)
+  where
+    nothing : (x : Option Regex) → Some x ≡ None → ⊥
+    nothing x e = cc
+found_is new t (Some r) None g f = absurd (nothing (Some r) f)
+  where
+    nothing : (x : Option Regex) → None ≡ Some x → ⊥
+    nothing x e = cc
+found_is new t (Some r) (Some id) g f = (g.0, same_Some (slice_get new id) (Some r) f ∙ ap Some (sym g.1))
+
+gives : (s : Symbol) (t : Term) (ts : Terms) → joins s ≡ true → are_regexes (with_term t ts) ≡ true
+    → (o : Option Regex) → made s (regex_of t ∷ regexes_of ts) ≡ o → Gives (apply (symbol_in s) (with_term t ts)) o
+gives s t ts h k None e = some_one s t ts h k None e
+gives s t ts h k (Some r) e = some_one s t ts h k (Some r) e
+
+by_regexes : (s : Symbol) (new : List Regex) (ts : Terms) (o : Option ℕ) → joins s ≡ true → are_regexes ts ≡ true
+    → IsFound new o (made s (regexes_of ts)) → IsNumbered new (apply (symbol_in s) ts) o
+by_regexes s new no_terms o h k f =
+    found_is new (apply (symbol_in s) no_terms) None o (empty_one s h).1
+    (f ∙ ap (λ r. option_map Some r) (empty_one s h).0)
+by_regexes s new (with_term t ts) o h k f =
+    found_is new (apply (symbol_in s) (with_term t ts)) (made s (regex_of t ∷ regexes_of ts)) o
+    (gives s t ts h k (made s (regex_of t ∷ regexes_of ts)) refl) f
+
+pub made_known : (rs new : List Regex) (s : Symbol) (ts : List Term) (ids found found' : List ℕ) (t : Term)
+    (o : Option ℕ) (k : Known) → joins s ≡ true → t ≡ apply (symbol_in s) (terms_of (terms_at ts ids)) →
+    AreRegexesOf rs (terms_at ts ids) found → found' ≡ found → IsFound new o (made s (regexes_at rs found')) →
+    k ≡ known_from o → IsKnown new t k
+made_known rs new s ts ids found found' t o k h is all same f from =
+    let same_regexes : regexes_at rs found' ≡ regexes_of (terms_of (terms_at ts ids)) =
+    ap (regexes_at rs) same ∙ (all.regexes ∙ sym (regexes_all (terms_at ts ids))) in
+    rw (from, is) (known_is new (apply (symbol_in s) (terms_of (terms_at ts ids))) o
+    (by_regexes s new (terms_of (terms_at ts ids)) o h (are_all (terms_at ts ids) ∙ all.kind)
+    (f ∙ ap (λ rs. option_map Some (made s rs)) same_regexes)))
+
+-- what is known of one of the terms
+pub known_at : (ts : List Term) (rs : List Regex) (ks items : List Known) (number id : ℕ) (k : Known)
+    → AreNormals ts rs ks → items ≡ ks → number ≡ id → id < length ks → k ≡ get_or items number k →
+    IsKnown rs (term_at ts id) k
+known_at ts rs ks items number id k n view same l is =
+    let here : get_or ks id known.Other ≡ k =
+    get_or_default ks id known.Other k l ∙ (sym (ap (λ xs. get_or xs id k) view)
+    ∙ (sym (ap (λ i. get_or items i k) same) ∙ sym is)) in
+    rw (← here) (n.each id l)
+
+pub told_at : (ts : List Term) (ks items : List Known) (number id : ℕ) (k : Known)
+    → AreTold ts ks → items ≡ ks → number ≡ id → id < length ks → k ≡ get_or items number k → k ≡ known.Other →
+    is_regex (term_at ts id) ≡ false
+told_at ts ks items number id k t view same l is other =
+    let here : get_or ks id known.Other ≡ known.Other =
+    get_or_default ks id known.Other k l ∙ (sym (ap (λ xs. get_or xs id k) view)
+    ∙ (sym (ap (λ i. get_or items i k) same) ∙ (sym is ∙ other))) in
+    t id l ∙ ap (λ x. not (is_other x)) here
+
+pub item_below : (n : ℕ) (ids : List ℕ) (i x : ℕ) → All (λ k. k < n) ids → i < length ids → x ≡ get_or ids i x → x < n
+item_below n ids i x h l is = rw is (h i x l)
+
+pub concat_other : (ts : List Term) (ids : List ℕ) (i x : ℕ) → i < length ids → x ≡ get_or ids i x
+    → is_regex (term_at ts x) ≡ false → is_regex (apply re_concat (terms_of (terms_at ts ids))) ≡ false
+concat_other ts ids i x l there other =
+    by_list (terms_at ts ids) (one_other is_regex ts ids i x l there other)
+  where
+    by_list : (xs : List Term) → list_all is_regex xs ≡ false → is_regex (apply re_concat (terms_of xs)) ≡ false
+    by_list [] h = refl
+    by_list (t ∷ xs) h = ap (λ b. is_regex t && b) (are_all xs) ∙ h
+
+pub concat_known : (ts : List Term) (ids : List ℕ) (i : ℕ) → list_all is_regex (terms_at ts (take i ids)) ≡ true
+    → length ids ≤ i → (length ids ≡ 0 → ⊥) → IsConcatenation (apply re_concat (terms_of (terms_at ts ids)))
+concat_known ts ids i h l some =
+    let all = ap (λ xs. list_all is_regex (terms_at ts xs)) (sym (take_all i ids l)) ∙ h in
+    record { kind = by_ids ids all some; parts = terms_of (terms_at ts ids); is = refl }
+  where
+    by_ids : (ids : List ℕ) → list_all is_regex (terms_at ts ids) ≡ true → (length ids ≡ 0 → ⊥)
+        → is_regex (apply re_concat (terms_of (terms_at ts ids))) ≡ true
+    by_ids [] h some = absurd (some refl)
+    by_ids (x ∷ ids) h some = ap (λ b. is_regex (term_at ts x) && b) (are_all (terms_at ts ids)) ∙ h
+
+pub normals_set : (ts : List Term) (rs new : List Regex) (ks items : List Known) (number id regex : ℕ)
+    → AreNormals ts rs ks → Extends rs new → items ≡ ks → number ≡ id → id < length ks →
+    IsNumbered new (term_at ts id) (Some regex) → AreNormals ts new (set items number (known.Made regex))
+normals_set ts rs new ks items number id regex n e view same l h = rw (view, same) (record {
+  short = omega (arith, n.short, length-set ks id (known.Made regex));
+  each = λ i m. step i (omega (arith, m, length-set ks id (known.Made regex))) (nat_eq i id) refl;
+})
+  where
+    step : (i : ℕ) → i < length ks → (b : Bool) → nat_eq i id ≡ b
+        → IsKnown new (term_at ts i) (get_or (set ks id (known.Made regex)) i known.Other)
+    step i m true is =
+        let z : i ≡ id = grind (arith, nat_tests) in
+        rw z (rw (get_or-set_same ks id (known.Made regex) known.Other l) h)
+    step i m false is =
+        let z : i ≢ id = grind (arith, nat_tests) in
+        rw (get_or-set_other ks id i (known.Made regex) known.Other z)
+        (known_kept rs new (term_at ts i) (get_or ks i known.Other) e (n.each i m))
+
+pub normals_pushed : (ts : List Term) (rs : List Regex) (ks items items' : List Known) (k : Known) (n : ℕ)
+    → AreNormals ts rs ks → items ≡ ks → items' ≡ items ++ k ∷ [] → n ≡ length ks → n < length ts →
+    IsKnown rs (term_at ts n) k → AreNormals ts rs items'
+normals_pushed ts rs ks items items' k n a view more is l h =
+    rw (more, view) (normals_more ts rs ks k (omega (arith, is, l)) a (rw (← is) h))
+
+-- the term of a node with arguments
+pub applied_at : (ts : List Term) (d : code.Term) (s : Symbol) (arguments : _) (items : List ℕ) (id : ℕ)
+    → node_term ts d ≡ term_at ts id → d ≡ node.Apply s arguments → items ≡ arguments.items →
+    term_at ts id ≡ apply (symbol_in s) (terms_of (terms_at ts items))
+applied_at ts d s arguments items id value is same =
+    sym value ∙ (ap (node_term ts) is ∙ ap (λ xs. apply (symbol_in s) (terms_of (terms_at ts xs))) (sym same))
+
+pub concat_is : (rs : List Regex) (ts : List Term) (s : Symbol) (items : List ℕ) (id : ℕ) (k : Known)
+    → term_at ts id ≡ apply (symbol_in s) (terms_of (terms_at ts items)) → s ≡ symbol.ReConcat →
+    ((rs : List Regex) → IsKnown rs (apply re_concat (terms_of (terms_at ts items))) k) → IsKnown rs (term_at ts id) k
+concat_is rs ts s items id k is which h =
+    rw (is ∙ ap (λ x. apply (symbol_in x) (terms_of (terms_at ts items))) which) (h rs)

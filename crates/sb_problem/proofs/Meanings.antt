@@ -1,0 +1,156 @@
+-- A regular expression over literals means a RegLan term, whose normal regex is the one that is made of its parts.
+use Rattle.std.proofs.Common.{◌≡◌, ℕ, true, ◌&&◌, List, [], ◌∷◌, map, refl, sym, ap, ap₂, ◌∙◌, Option, Some, None, option_map}
+use Rattle.std.proofs.lemmas.Bool.{and_parts, false≢true}
+use Rattle.std.specs.List.{flat_map, list_all}
+use Rattle.std.proofs.Common.{Result, Ok, Err, IfOk}
+use Rattle.sb_lang.specs.RegLan as reglan
+use Rattle.sb_lang.specs.RegLan.{RegLan}
+use Rattle.sb_lang.specs.Regex.{Regex}
+use Rattle.sb_lang.specs.Constructors.{mkcat, mkstar}
+use Rattle.sb_lang.specs.Normal.{normal, word_regex, range_regex}
+use Rattle.sb_meaning.specs.Terms.{Term, Terms, word, apply, no_terms, with_term, terms_of, str_to_re, re_range, re_concat, re_union, re_star, re_plus}
+use Rattle.sb_meaning.specs.Values.{Valuation}
+use Rattle.sb_meaning.specs.Truth.{Meaning, meaning_of, meanings_of, means_reglan, reglan_in}
+use Rattle.sb_meaning.specs.Truth as truth
+use Rattle.sb_script.specs.Brought.{is_regex, are_regexes}
+use Rattle.sb_problem.specs.Normals.{IsNumberOf}
+use Rattle.sb_problem.specs.Shapes.{IsNumbered, joined_right, either, repeated, or_none, regex_of, regexes_of}
+
+pub record IsMeant (t : Term) : Type 0 where
+  pub reglan : RegLan
+  pub means : (v : Valuation) → meaning_of v t ≡ means_reglan reglan
+  pub normal : normal reglan ≡ regex_of t
+
+pub record AreMeant (ts : Terms) : Type 0 where
+  pub reglans : List RegLan
+  pub mean : (v : Valuation) → meanings_of v ts ≡ map means_reglan reglans
+  pub normals : map normal reglans ≡ regexes_of ts
+
+reglans_among : (Rs : List RegLan) → flat_map reglan_in (map means_reglan Rs) ≡ Rs
+reglans_among [] = refl
+reglans_among (R ∷ Rs) = ap (λ Ss. R ∷ Ss) (reglans_among Rs)
+
+normal_word : (w : List ℕ) → normal (reglan.re_word w) ≡ word_regex w
+unfolding normal
+normal_word w = refl
+
+normal_range : (s t : List ℕ) → normal (reglan.re_range s t) ≡ range_regex s t
+unfolding normal
+normal_range s t = refl
+
+normal_concat : (R S : RegLan) → normal (reglan.re_concat R S) ≡ mkcat (normal R) (normal S)
+unfolding normal
+normal_concat R S = refl
+
+normal_union : (R S : RegLan) → normal (reglan.re_union R S) ≡ either (normal R) (normal S)
+unfolding normal
+normal_union R S = refl
+
+normal_star : (R : RegLan) → normal (reglan.re_star R) ≡ mkstar (normal R)
+unfolding normal
+normal_star R = refl
+
+normal_plus : (R : RegLan) → normal (reglan.re_plus R) ≡ repeated (normal R)
+unfolding normal
+normal_plus R = refl
+
+all_normal : (join : RegLan → RegLan → RegLan) (make : Regex → Regex → Regex)
+    → ((R S : RegLan) → normal (join R S) ≡ make (normal R) (normal S)) → (R : RegLan) (Rs : List RegLan)
+    → joined_right make (map normal (R ∷ Rs)) ≡ Some (normal (truth.joined_right join (R ∷ Rs)))
+all_normal join make law R [] = refl
+all_normal join make law R (S ∷ Rs) = ap (option_map (make (normal R))) (all_normal join make law S Rs)
+    ∙ ap Some (sym (law R (truth.joined_right join (S ∷ Rs))))
+
+all_meant : (join : RegLan → RegLan → RegLan) (make : Regex → Regex → Regex)
+    → ((R S : RegLan) → normal (join R S) ≡ make (normal R) (normal S)) → (t : Term) (ts : Terms) (R : RegLan)
+    (Rs : List RegLan) → normal R ≡ regex_of t → map normal Rs ≡ regexes_of ts →
+    normal (truth.joined_right join (R ∷ Rs)) ≡ or_none (joined_right make (regex_of t ∷ regexes_of ts))
+all_meant join make law t ts R Rs h k =
+    ap or_none (sym (all_normal join make law R Rs))
+    ∙ ap₂ (λ r rs. or_none (joined_right make (r ∷ rs))) h k
+
+all_mean : (join : RegLan → RegLan → RegLan) (v : Valuation) (t : Term) (ts : Terms) (R : RegLan) (Rs : List RegLan)
+    → meaning_of v t ≡ means_reglan R → meanings_of v ts ≡ map means_reglan Rs →
+    means_reglan (truth.joined_right join (flat_map reglan_in (meaning_of v t ∷ meanings_of v ts)))
+    ≡ means_reglan (truth.joined_right join (R ∷ Rs))
+all_mean join v t ts R Rs h k =
+    ap₂ (λ m ms. means_reglan (truth.joined_right join (flat_map reglan_in (m ∷ ms)))) h k
+    ∙ ap (λ Ss. means_reglan (truth.joined_right join Ss)) (reglans_among (R ∷ Rs))
+
+mutual
+  pub regex_means : (t : Term) → is_regex t ≡ true → IsMeant t
+  regex_means (apply str_to_re (with_term (word w) no_terms)) h =
+      record { reglan = reglan.re_word w; means = λ v. refl; normal = normal_word w }
+  regex_means (apply re_range (with_term (word s) (with_term (word t) no_terms))) h =
+      record { reglan = reglan.re_range s t; means = λ v. refl; normal = normal_range s t }
+  regex_means (apply re_concat (with_term t ts)) h =
+      let parts = and_parts (is_regex t) (are_regexes ts) h in
+      let one = regex_means t parts.0 in
+      let rest = regexes_mean ts parts.1 in
+      record {
+        reglan = truth.joined_right reglan.re_concat (one.reglan ∷ rest.reglans);
+        means = λ v. all_mean reglan.re_concat v t ts one.reglan rest.reglans (one.means v) (rest.mean v);
+        normal = all_meant reglan.re_concat mkcat normal_concat t ts one.reglan rest.reglans one.normal rest.normals;
+      }
+  regex_means (apply re_union (with_term t ts)) h =
+      let parts = and_parts (is_regex t) (are_regexes ts) h in
+      let one = regex_means t parts.0 in
+      let rest = regexes_mean ts parts.1 in
+      record {
+        reglan = truth.joined_right reglan.re_union (one.reglan ∷ rest.reglans);
+        means = λ v. all_mean reglan.re_union v t ts one.reglan rest.reglans (one.means v) (rest.mean v);
+        normal = all_meant reglan.re_union either normal_union t ts one.reglan rest.reglans one.normal rest.normals;
+      }
+  regex_means (apply re_star (with_term t no_terms)) h =
+      let one = regex_means t h in
+      record {
+        reglan = reglan.re_star one.reglan;
+        means = λ v. ap (λ m. means_reglan (truth.of_one reglan.re_star (flat_map reglan_in (m ∷ [])))) (one.means v);
+        normal = normal_star one.reglan ∙ ap mkstar one.normal;
+      }
+  regex_means (apply re_plus (with_term t no_terms)) h =
+      let one = regex_means t h in
+      record {
+        reglan = reglan.re_plus one.reglan;
+        means = λ v. ap (λ m. means_reglan (truth.of_one reglan.re_plus (flat_map reglan_in (m ∷ [])))) (one.means v);
+        normal = normal_plus one.reglan ∙ ap repeated one.normal;
+      }
+  regex_means t h = absurd (false≢true h)
+
+  regexes_mean : (ts : Terms) → are_regexes ts ≡ true → AreMeant ts
+  regexes_mean no_terms h = record { reglans = []; mean = λ v. refl; normals = refl }
+  regexes_mean (with_term t ts) h =
+      let parts = and_parts (is_regex t) (are_regexes ts) h in
+      let one = regex_means t parts.0 in
+      let rest = regexes_mean ts parts.1 in
+      record {
+        reglans = one.reglan ∷ rest.reglans;
+        mean = λ v. ap₂ (λ m ms. m ∷ ms) (one.means v) (rest.mean v);
+        normals = ap₂ (λ r rs. r ∷ rs) one.normal rest.normals;
+      }
+
+-- what is found of a term, in the words of its meaning
+pub number_of : (rs : List Regex) (t : Term) (found : Option ℕ) → IsNumbered rs t found → IsNumberOf rs t found
+number_of rs t None h = h
+number_of rs t (Some id) h =
+    let one = regex_means t h.0 in
+    record {
+      kind = h.0;
+      reglan = one.reglan;
+      means = one.means;
+      names = h.1 ∙ ap Some (sym one.normal);
+    }
+
+pub number_given : {E : Type 0} (rs : List Regex) (t : Term) (found : Result (Option ℕ) E)
+    → IfOk found (λ o. IsNumbered rs t o) → IfOk found (λ o. IsNumberOf rs t o)
+number_given rs t (Ok o) h = number_of rs t o h
+number_given rs t (Err e) h = tt
+
+-- terms in a list
+pub are_all : (xs : List Term) → are_regexes (terms_of xs) ≡ list_all is_regex xs
+are_all [] = refl
+are_all (t ∷ xs) = ap (λ b. is_regex t && b) (are_all xs)
+
+pub regexes_all : (xs : List Term) → regexes_of (terms_of xs) ≡ map regex_of xs
+regexes_all [] = refl
+regexes_all (t ∷ xs) = ap (λ rs. regex_of t ∷ rs) (regexes_all xs)
