@@ -1,59 +1,120 @@
--- What the commands change, as the definitions have it, and that serials stay below the number of constants.
-use Rattle.std.proofs.Common.{◌≡◌, ℕ, ◌+◌, Bool, true, false, if◌then◌else◌, nat_lt, List, [], ◌∷◌, ◌++◌, map, length, zero, suc, codes, Result, Ok, Err, IfOk, refl, ap, sym, ◌∙◌, arith, add-one}
-use Rattle.std.proofs.lemmas.Bool.{and_parts, and_from}
-use Rattle.std.proofs.lemmas.Bool.Decides.{nat_tests}
-use Rattle.std.proofs.lemmas.List.{map-append}
+-- What the commands change, as the definitions have it, and what they keep.
+use Rattle.std.proofs.Common.{◌≡◌, ℕ, ◌+◌, ◌<◌, ◌≤◌, Bool, true, false, if◌then◌else◌, List, [], ◌∷◌, ◌++◌, map, length, get_or, zero, suc, codes, Option, Some, None, IfSome, Result, Ok, Err, IfOk, refl, ap, ap₂, sym, ◌∙◌, arith, add-one, append_assoc}
+use Rattle.std.specs.List.{All}
+use Rattle.std.proofs.lemmas.List.{map-append, append-nil}
 use Rattle.std.specs.declared.vec.Vec.{Vec}
 use Rattle.std.specs.declared.alloc.Global.{Global}
 use Rattle.sb_script.specs.Names.{Name}
-use Rattle.sb_meaning.specs.Terms.{Term, Terms, constant, word, numeral, apply, parameter, no_terms, with_term, text}
+use Rattle.sb_meaning.specs.Terms.{Term, text}
 use Rattle.sb_script.specs.Symbols.{is_taken}
 use Rattle.sb_script.specs.Scopes.{a_constant}
-use Rattle.sb_script.specs.State.{State, plain, declared}
+use Rattle.sb_script.specs.State.{State, plain, declared, asserted}
 use Rattle.sb_script.specs.Errors as error
 use Rattle.sb_script.specs.Steps as meaning
+use Rattle.sb_term.specs.declared.assertion.Assertion.{Assertion}
+use Rattle.sb_term.specs.Numbered.{Extends}
+use Rattle.sb_term.specs.Serials.{all_below}
+use Rattle.sb_term.proofs.CallerLemmas.{extends_more, long_kept, at_kept, all_below_more}
 use Rattle.sb_sorts.specs.Scopes as scopes
 use Rattle.sb_sorts.specs.Scopes.{naming_in, names_in, texts, with_constant}
-use Rattle.sb_sorts.specs.Terms.{term_in}
-use Rattle.sb_sorts.specs.Reads as reads
 use Rattle.sb_stack.specs.declared.stack.Mode.TheVariants as mode
-use Rattle.sb_stack.specs.declared.stack.Assertion.{Assertion}
-use Rattle.sb_stack.specs.declared.stack.Assertion.TheVariants as code
 use Rattle.sb_stack.specs.declared.stack.Step.{Step}
 use Rattle.sb_stack.specs.declared.stack.Step.TheVariants as step
-use Rattle.sb_stack.specs.Stacked.{Stacked, options_of, state_of, assertion_in, have_serials_below}
+use Rattle.sb_stack.specs.Stacked.{Stacked, options_of, mode_in, state_of, assertion_of, assertion_in, HasNumberBelow, IsLonger}
+use Rattle.sb_stack.specs.Keeping.{IsKept, Keeps}
 use Rattle.sb_stack.specs.Steps.{IsStep}
 use Rattle.sb_stack.specs.Taking.{declares}
 
-pub below_push : (n : ℕ) (xs : List Assertion) (a : Assertion) → have_serials_below n xs ≡ true
-    → have_serials_below n (a ∷ []) ≡ true → have_serials_below n (xs ++ a ∷ []) ≡ true
-below_push n [] a all here = here
-below_push n (code.Term term ∷ xs) a all here = let parts = and_parts _ _ all in
-    and_from _ _ parts.0 (below_push n xs a parts.1 here)
-below_push n (code.Mark ∷ xs) a all here = below_push n xs a all here
+pub numbers_push : (n : ℕ) (xs : List Assertion) (a : Assertion) → All (HasNumberBelow n) xs → HasNumberBelow n a
+    → All (HasNumberBelow n) (xs ++ a ∷ [])
+numbers_push n [] a all here zero d l = here
+numbers_push n [] a all here (suc k) d l = absurd (omega arith)
+numbers_push n (x ∷ xs) a all here zero d l = all 0 d (omega arith)
+numbers_push n (x ∷ xs) a all here (suc k) d l =
+    numbers_push n xs a (λ j e m. all (suc j) e (omega (arith, m))) here k d (omega arith)
 
-below_next : (serial n : ℕ) → nat_lt serial n ≡ true → nat_lt serial (n + 1) ≡ true
-below_next serial n h = grind (arith, nat_tests)
+number_more : (m n : ℕ) (o : Option ℕ) → m ≤ n → IfSome o (λ id. id < m) → IfSome o (λ id. id < n)
+number_more m n (Some id) more below = omega arith
+number_more m n None more below = tt
 
-mutual
-  term_below_more : (n : ℕ) (t : Term) → reads.has_serials_below n t ≡ true → reads.has_serials_below (n + 1) t ≡ true
-  term_below_more n (constant serial sort) h = below_next serial n h
-  term_below_more n (word w) h = refl
-  term_below_more n (numeral m) h = refl
-  term_below_more n (apply s terms) h = terms_below_more n terms h
-  term_below_more n (parameter place sort) h = refl
+-- the table grows, or a constant is declared, or an assertion is made
+pub kept_read : (declared : ℕ) (old new : List Term) (xs : List Assertion) → IsKept declared old xs → Extends old new
+    → (all_below declared old ≡ true → all_below declared new ≡ true) → IsKept declared new xs
+kept_read declared old new xs kept extends below = record {
+  numbers = λ k d l. number_more (length old) (length new) (get_or xs k d).term (long_kept old new extends)
+      (kept.numbers k d l);
+  below = below kept.below;
+}
 
-  terms_below_more : (n : ℕ) (ts : Terms) → reads.have_serials_below n ts ≡ true
-      → reads.have_serials_below (n + 1) ts ≡ true
-  terms_below_more n no_terms h = refl
-  terms_below_more n (with_term t ts) h = let parts = and_parts _ _ h in
-      and_from _ _ (term_below_more n t parts.0) (terms_below_more n ts parts.1)
+pub kept_declared : (declared : ℕ) (table : List Term) (xs : List Assertion) → IsKept declared table xs
+    → IsKept (declared + 1) table xs
+kept_declared declared table xs kept =
+    record { numbers = kept.numbers; below = all_below_more declared table kept.below }
 
-pub below_more : (n : ℕ) (xs : List Assertion) → have_serials_below n xs ≡ true → have_serials_below (n + 1) xs ≡ true
-below_more n [] h = refl
-below_more n (code.Term term ∷ xs) h = let parts = and_parts _ _ h in
-    and_from _ _ (term_below_more n (term_in term) parts.0) (below_more n xs parts.1)
-below_more n (code.Mark ∷ xs) h = below_more n xs h
+pub kept_push : (declared : ℕ) (table : List Term) (xs : List Assertion) (a : Assertion) → IsKept declared table xs
+    → HasNumberBelow (length table) a → IsKept declared table (xs ++ a ∷ [])
+kept_push declared table xs a kept here =
+    record { numbers = numbers_push (length table) xs a kept.numbers here; below = kept.below }
+
+-- assertions stay what they are in a table that grows
+assertion_kept : (old new : List Term) (o : Option ℕ) → Extends old new → IfSome o (λ id. id < length old)
+    → assertion_of new o ≡ assertion_of old o
+assertion_kept old new (Some id) extends below = ap asserted (at_kept old new id extends below)
+assertion_kept old new None extends below = refl
+
+assertions_kept : (old new : List Term) (xs : List Assertion) → Extends old new
+    → All (HasNumberBelow (length old)) xs → map (assertion_in new) xs ≡ map (assertion_in old) xs
+assertions_kept old new [] extends below = refl
+assertions_kept old new (x ∷ xs) extends below =
+    ap₂ (λ b bs. b ∷ bs) (assertion_kept old new x.term extends (below 0 x (omega arith)))
+    (assertions_kept old new xs extends (λ k d l. below (suc k) d (omega (arith, l))))
+
+pub state_kept : (k : Stacked) (new : List Term) → IsKept k.scope.declared k.table k.assertions → Extends k.table new
+    → state_of (record k { table = new }) ≡ state_of k
+state_kept k new kept extends =
+    let same : map (assertion_in new) k.assertions ≡ map (assertion_in k.table) k.assertions =
+    assertions_kept k.table new k.assertions extends kept.numbers in
+    (λ j. record {
+      logic_set = k.logic_set;
+      begun = k.begun;
+      options = options_of k.print_success k.produce_models;
+      sorts = texts k.scope.declared;
+      mode = mode_in k.words k.mode;
+      first = record { names = names_in k.scope; assertions = same j };
+      above = [];
+    })
+
+-- what changes neither table nor assertions keeps all of it
+pub longer_same : (xs : List Assertion) → IsLonger xs xs
+longer_same xs = ([], sym (append-nil xs))
+
+pub keeps_parts : (old new : Stacked) → new.table ≡ old.table → new.assertions ≡ old.assertions
+    → new.words ≡ old.words → old.scope.declared ≤ new.scope.declared → Keeps old new
+keeps_parts old new table assertions words constants = record {
+  extends = record { more = []; is = table ∙ sym (append-nil old.table) };
+  grows = ([], assertions ∙ sym (append-nil old.assertions));
+  words = words;
+  constants = constants;
+}
+
+pub keeps_read : (k : Stacked) (new : List Term) → Extends k.table new → Keeps k (record k { table = new })
+keeps_read k new extends =
+    record { extends = extends; grows = longer_same k.assertions; words = refl; constants = omega arith }
+
+pub keeps_same : (k : Stacked) → Keeps k k
+keeps_same k = keeps_parts k k refl refl refl (omega arith)
+
+pub keeps_more : (a b c : Stacked) → Keeps a b → Keeps b c → Keeps a c
+keeps_more a b c p q = record {
+  extends = extends_more a.table b.table c.table p.extends q.extends;
+  grows = (
+    p.grows.0 ++ q.grows.0,
+    q.grows.1 ∙ ap (λ xs. xs ++ q.grows.0) p.grows.1
+        ∙ append_assoc a.assertions p.grows.0 q.grows.0,
+  );
+  words = q.words ∙ p.words;
+  constants = omega (arith, p.constants, q.constants);
+}
 
 texts_more : (n : ℕ) → texts (n + 1) ≡ texts n ++ text ∷ []
 texts_more zero = refl
@@ -79,7 +140,7 @@ declared_is k name =
       options = options_of k.print_success k.produce_models;
       sorts = sorts j;
       mode = plain;
-      first = record { names = names j; assertions = map assertion_in k.assertions };
+      first = record { names = names j; assertions = map (assertion_in k.table) k.assertions };
       above = [];
     })
 

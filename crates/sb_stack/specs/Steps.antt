@@ -12,7 +12,8 @@ use Rattle.sb_stack.specs.declared.stack.Step.{Step}
 use Rattle.sb_stack.specs.declared.stack.Step.TheVariants as code
 use Rattle.sb_stack.specs.declared.verdict.Verdict.{Verdict}
 use Rattle.sb_stack.specs.declared.verdict.Verdict.TheVariants as verdict
-use Rattle.sb_stack.specs.Stacked.{values_from}
+use Rattle.sb_stack.specs.declared.stack.Mode.TheVariants as mode
+use Rattle.sb_stack.specs.Stacked.{Stacked, values_from}
 
 -- what comes next is an entry
 abbrev pub IsEntry : Next → Type 0
@@ -32,6 +33,12 @@ abbrev pub verdict_in : Verdict → finding.Verdict
 verdict_in (verdict.Sat words) = finding.is_sat (values_from 0 words.items)
 verdict_in verdict.Unsat = finding.is_unsat []
 verdict_in verdict.Outside = finding.is_outside
+
+-- what is kept after a verdict: the words of the last one that had some
+abbrev pub found : Verdict → Stacked → Stacked
+found (verdict.Sat words) kept = record kept { mode = mode.Sat; words = words.items }
+found verdict.Unsat kept = record kept { mode = mode.Unsat }
+found verdict.Outside kept = record kept { mode = mode.Plain }
 
 -- The step that the definitions have is taken. A check is one without assumptions. A check and an exit leave the state.
 abbrev pub IsStep : meaning.Step → Step → State → State → Type 0

@@ -2,8 +2,9 @@
 //! (SMT-LIB 2.6, sections 3.9 and 4).
 //!
 //! A [`Stack`] takes one entry of a script after another, and answers it, or says that a check is asked for
-//! or the run ends. Contracts see it as the state that the definitions have. The session above decides the
-//! checks by the live assertions, and settles them.
+//! or the run ends. Contracts see it as the state that the definitions have, with the table of terms that assertions
+//! are numbers of. What is known of a term by its number, or of an assertion by its place, stays so from entry to
+//! entry. The session above decides the checks by the live assertions, and settles them.
 #![tactic(auto)]
 
 mod command;
@@ -14,5 +15,5 @@ mod stack;
 mod value;
 mod verdict;
 
-pub use stack::{Assertion, Stack, Step};
+pub use stack::{Stack, Step};
 pub use verdict::Verdict;

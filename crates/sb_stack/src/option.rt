@@ -4,11 +4,12 @@ ghost use Rattle.std.specs.Prelude.{◌≡◌, option_map};
 ghost use Rattle.sb_reader.specs.Forms.{form_of};
 ghost use Rattle.sb_script.specs.Options as meaning;
 ghost use Rattle.sb_script.specs.Replies.{sort_of_form};
-ghost use Rattle.sb_sorts.specs.Terms.{sort_in};
+ghost use Rattle.sb_term.specs.Symbols.{sort_in};
 
 use crate::command::symbol_in;
 use sb_reader::Sexpr;
-use sb_sorts::{Sort, sort_named};
+use sb_sorts::sort_named;
+use sb_term::Sort;
 
 /// Whether the logic is one of those that scripts may be in.
 pub(crate) fn is_logic(name: &[u8]) -> bool

@@ -1,23 +1,27 @@
 //! The stack.
 
-ghost use Rattle.std.specs.Prelude.{◌≡◌, ◌++◌, ℕ, List, [], true, map, length, Result, IfOk, OnErr, MatchResult};
+ghost use Rattle.std.specs.Prelude.{◌≡◌, ℕ, ◌<◌, ◌≤◌, List, [], true, map, length, Result, IfOk, OnErr, MatchResult};
+ghost use Rattle.std.specs.List.{All};
 ghost use Rattle.sb_reader.specs.Entries as entries;
 ghost use Rattle.sb_reader.specs.Forms.{form_of};
-ghost use Rattle.sb_script.specs.Names.{name_in_text};
 ghost use Rattle.sb_meaning.specs.Terms as terms;
 ghost use Rattle.sb_meaning.specs.Values.{Valuation};
 ghost use Rattle.sb_script.specs.Faults.{Fault, unsupported};
-ghost use Rattle.sb_script.specs.State.{State, start, live, constants_of, fits};
+ghost use Rattle.sb_script.specs.Reading.{read};
+ghost use Rattle.sb_script.specs.State.{State, start, live, constants_of, fits, plain};
 ghost use Rattle.sb_script.specs.Replies as meaning;
 ghost use Rattle.sb_script.specs.Steps as steps;
 ghost use Rattle.sb_script.specs.Options as options;
 ghost use Rattle.sb_script.specs.Replies.{step_of};
 ghost use Rattle.sb_script.specs.Verdicts.{verdict_text, settled};
-ghost use Rattle.sb_sorts.specs.Terms.{term_in};
-ghost use Rattle.sb_sorts.specs.Reads.{ReadsAs, has_serials_below};
+ghost use Rattle.sb_sorts.specs.Reads.{ReadsAs, Faults};
+ghost use Rattle.sb_sorts.specs.Scopes.{names_in};
+ghost use Rattle.sb_term.specs.Numbered.{term_at, Extends};
+ghost use Rattle.sb_term.specs.Serials.{all_below};
 ghost use Rattle.sb_stack.specs.Commands.{command_in, forms_in};
-ghost use Rattle.sb_stack.specs.Stacked.{state_of, assertion_in, values_from, are_words, have_serials_below};
-ghost use Rattle.sb_stack.specs.Steps.{verdict_in, IsStep, IsEntry, entry_of};
+ghost use Rattle.sb_stack.specs.Keeping.{Keeps};
+ghost use Rattle.sb_stack.specs.Stacked.{state_of, assertion_in, values_from, are_words, HasNumberBelow, IsLonger, without_words};
+ghost use Rattle.sb_stack.specs.Steps.{verdict_in, found, IsStep, IsEntry, entry_of};
 ghost use Rattle.sb_stack.specs.Taking.{with_print_success, with_produce_models, declares, asserts, asks, answers_values};
 ghost use Rattle.sb_stack.specs.Values.{item_in};
 
@@ -31,26 +35,19 @@ use crate::value::{
 };
 use crate::verdict::Verdict;
 use sb_reader::{Next, Sexpr};
-use sb_sorts::{DeclareError, ReadFault, Scope, Sort, Term, read_term};
+use sb_sorts::{DeclareError, ReadFault, Scope, read_term};
+use sb_term::{Assertion, Sort, Table, TermId};
 use sb_word::Word;
 use std::alloc::{AllocError, Global};
 use std::marker::Model;
-
-/// What stands for an assertion.
-#[derive(Debug, Drop)]
-pub enum Assertion {
-    /// Its term, of sort Bool.
-    Term(Term),
-    /// A mark, where the assertion was left out.
-    Mark,
-}
+use std::mem;
 
 /// What the last check found, until the script says something new.
-#[derive(Debug, Drop)]
+#[derive(Clone, Copy, Debug)]
 enum Mode {
     Plain,
-    /// The word of each constant at its serial.
-    Sat(Vec<Word>),
+    /// The last words are a model.
+    Sat,
     Unsat,
 }
 
@@ -76,18 +73,21 @@ pub struct Stack {
     produce_models: bool,
     scope: Scope,
     mode: Mode,
+    /// The word of each constant at its serial, as the last check that found some had it.
+    words: Vec<Word>,
+    table: Table,
     assertions: Vec<Assertion>,
 }
 
 impl Model for Stack {
-    ghost use Rattle.std.specs.Prelude.{◌≡◌, true};
-    ghost use Rattle.sb_stack.specs.Stacked.{Stacked, have_serials_below};
-    ghost use Rattle.sb_sorts.specs.contracts.term.Term as term;
+    ghost use Rattle.sb_stack.specs.Stacked.{Stacked};
     ghost use Rattle.std.specs.Coded.{codes};
+    ghost use Rattle.sb_meaning.proofs.CallerLemmas.{coded_term};
+    ghost use Rattle.sb_stack.specs.Keeping.{IsKept};
 
     ghost Value = { Stacked };
 
-    ghost coded = { Prim.hlevel (codes, term.the_row.coded) };
+    ghost coded = { Prim.hlevel (codes, coded_term) };
 
     ghost view = { λ s. record {
       logic_set = s.logic_set;
@@ -96,16 +96,22 @@ impl Model for Stack {
       produce_models = s.produce_models;
       scope = s.scope;
       mode = s.mode;
+      words = s.words.items;
+      table = s.table;
       assertions = s.assertions.items;
     } };
 
-    ghost invariant = { λ s. have_serials_below s.scope.declared s.assertions.items ≡ true };
+    ghost invariant = { λ s. IsKept s.scope.declared s.table s.assertions.items };
 }
 
+#[tactic(auto, using(crate::proofs::Changes::keeps_parts, crate::proofs::Changes::keeps_more))]
 impl Stack {
     /// The state at the start of a script. It takes no memory.
     pub fn new(alloc: Global) -> Stack
-        ensures { state_of result ≡ start }
+        ensures state { state_of result ≡ start }
+        ensures assertions { result.assertions ≡ [] }
+        ensures words { result.words ≡ [] }
+        ensures table { result.table ≡ [] }
     {
         Stack {
             alloc,
@@ -115,18 +121,37 @@ impl Stack {
             produce_models: false,
             scope: Scope::new(alloc),
             mode: Mode::Plain,
+            words: Vec::new(alloc),
+            table: Table::new(alloc),
             assertions: Vec::new(alloc),
         }
     }
 
     /// Takes the next entry of the script, and answers it, unless it asks for a check. Linear in the entry, and in
-    /// the answer.
+    /// the answer. Terms and assertions keep their numbers and places, whatever the answer; where memory runs out the
+    /// table may hold parts of a term that was not asserted.
     pub fn apply(&mut self, entry: &Next) -> Result<Step, AllocError>
         requires { IsEntry entry.now }
         ensures ok { IfOk result
             (λ step. IsStep (step_of (entry_of entry.now) (state_of self.old)) step (state_of self.old)
             (state_of self.new)) }
-        ensures err { OnErr result (self.new ≡ self.old) }
+        ensures err { OnErr result (state_of self.new ≡ state_of self.old) }
+        ensures extends { Extends self.old.table self.new.table }
+        ensures grows { IsLonger self.old.assertions self.new.assertions }
+        ensures words { self.new.words ≡ self.old.words }
+        ensures constants { self.old.scope.declared ≤ self.new.scope.declared }
+    {
+        self.answer(entry)
+    }
+
+    /// Takes the next entry, for the contract above.
+    fn answer(&mut self, entry: &Next) -> Result<Step, AllocError>
+        requires { IsEntry entry.now }
+        ensures ok { IfOk result
+            (λ step. IsStep (step_of (entry_of entry.now) (state_of self.old)) step (state_of self.old)
+            (state_of self.new)) }
+        ensures err { OnErr result (state_of self.new ≡ state_of self.old) }
+        ensures keeps { Keeps self.old self.new }
     {
         match entry {
             Next::Command(form) => self.run(form),
@@ -143,7 +168,8 @@ impl Stack {
         ensures ok { IfOk result
             (λ step. IsStep (meaning.step_of (entries.Command (form_of form.now)) (state_of self.old)) step
             (state_of self.old) (state_of self.new)) }
-        ensures err { OnErr result (self.new ≡ self.old) }
+        ensures err { OnErr result (state_of self.new ≡ state_of self.old) }
+        ensures keeps { Keeps self.old self.new }
     {
         match command_of(form) {
             Some(command) => self.take(command),
@@ -155,7 +181,8 @@ impl Stack {
         ensures ok { IfOk result
             (λ step. IsStep (meaning.step (command_in command.entry) (state_of self.old)) step (state_of self.old)
             (state_of self.new)) }
-        ensures err { OnErr result (self.new ≡ self.old) }
+        ensures err { OnErr result (state_of self.new ≡ state_of self.old) }
+        ensures keeps { Keeps self.old self.new }
     {
         match command {
             Command::SetLogic(name) => self.set_logic(name),
@@ -175,7 +202,8 @@ impl Stack {
         ensures ok { IfOk result
             (λ step. IsStep (options.set_logic name.now (state_of self.old)) step (state_of self.old)
             (state_of self.new)) }
-        ensures err { OnErr result (self.new ≡ self.old) }
+        ensures err { OnErr result (state_of self.new ≡ state_of self.old) }
+        ensures keeps { Keeps self.old self.new }
     {
         if self.logic_set {
             return Ok(Step::Answer(error_line(self.alloc, b"logic already set")?));
@@ -193,7 +221,8 @@ impl Stack {
         ensures ok { IfOk result
             (λ step. IsStep (options.set_option key.now (form_of value.now) (state_of self.old)) step
             (state_of self.old) (state_of self.new)) }
-        ensures err { OnErr result (self.new ≡ self.old) }
+        ensures err { OnErr result (state_of self.new ≡ state_of self.old) }
+        ensures keeps { Keeps self.old self.new }
     {
         if key == b":print-success".as_slice() {
             self.set_print_success(value)
@@ -210,7 +239,8 @@ impl Stack {
             (λ step. IsStep
             (options.with_truth (form_of value.now) (with_print_success (state_of self.old)) (state_of self.old)) step
             (state_of self.old) (state_of self.new)) }
-        ensures err { OnErr result (self.new ≡ self.old) }
+        ensures err { OnErr result (state_of self.new ≡ state_of self.old) }
+        ensures keeps { Keeps self.old self.new }
     {
         let Some(printed) = truth_in(value) else {
             return Ok(Step::Answer(error_line(self.alloc, b"bad option value")?));
@@ -225,7 +255,8 @@ impl Stack {
             (λ step. IsStep
             (options.with_truth (form_of value.now) (with_produce_models (state_of self.old)) (state_of self.old)) step
             (state_of self.old) (state_of self.new)) }
-        ensures err { OnErr result (self.new ≡ self.old) }
+        ensures err { OnErr result (state_of self.new ≡ state_of self.old) }
+        ensures keeps { Keeps self.old self.new }
     {
         let Some(produced) = truth_in(value) else {
             return Ok(Step::Answer(error_line(self.alloc, b"bad option value")?));
@@ -239,7 +270,8 @@ impl Stack {
         ensures ok { IfOk result
             (λ step. IsStep (meaning.declare_constant name.now (form_of sort.now) (state_of self.old)) step
             (state_of self.old) (state_of self.new)) }
-        ensures err { OnErr result (self.new ≡ self.old) }
+        ensures err { OnErr result (state_of self.new ≡ state_of self.old) }
+        ensures keeps { Keeps self.old self.new }
     {
         match sort_of(sort) {
             Some(_) => self.declare(name),
@@ -251,7 +283,8 @@ impl Stack {
     fn declare(&mut self, name: &[u8]) -> Result<Step, AllocError>
         ensures ok { IfOk result
             (λ step. IsStep (declares name.now (state_of self.old)) step (state_of self.old) (state_of self.new)) }
-        ensures err { OnErr result (self.new ≡ self.old) }
+        ensures err { OnErr result (state_of self.new ≡ state_of self.old) }
+        ensures keeps { Keeps self.old self.new }
     {
         let answer = success_line(self.alloc, self.print_success)?;
         match self.scope.declare(name) {
@@ -272,7 +305,8 @@ impl Stack {
         ensures ok { IfOk result
             (λ step. IsStep (meaning.declare_function name.now (state_of self.old)) step (state_of self.old)
             (state_of self.new)) }
-        ensures err { OnErr result (self.new ≡ self.old) }
+        ensures err { OnErr result (state_of self.new ≡ state_of self.old) }
+        ensures keeps { Keeps self.old self.new }
     {
         let answer = unsupported_line(self.alloc)?;
         match self.scope.mark(name) {
@@ -292,26 +326,41 @@ impl Stack {
         ensures ok { IfOk result
             (λ step. IsStep (meaning.assert (form_of form.now) (state_of self.old)) step (state_of self.old)
             (state_of self.new)) }
-        ensures err { OnErr result (self.new ≡ self.old) }
+        ensures err { OnErr result (state_of self.new ≡ state_of self.old) }
+        ensures keeps { Keeps self.old self.new }
     {
-        match read_term(self.alloc, &self.scope, form) {
+        match self.read(form) {
             Ok(term) => self.assert_term(term),
             Err(fault) => self.refuse_term(fault),
         }
     }
 
-    fn assert_term(&mut self, term: Term) -> Result<Step, AllocError>
-        requires { has_serials_below self.old.scope.declared (term_in term) ≡ true }
-        ensures ok { IfOk result
-            (λ step. IsStep (asserts (Ok (term_in term)) (state_of self.old)) step (state_of self.old)
-            (state_of self.new)) }
-        ensures err { OnErr result (self.new ≡ self.old) }
+    /// Reads a term. Only the table grows.
+    fn read(&mut self, form: &Sexpr) -> Result<TermId, ReadFault>
+        ensures reads { ReadsAs self.new.table (read (names_in self.old.scope) (form_of form.now)) result }
+        ensures state { state_of self.new ≡ state_of self.old }
+        ensures keeps { Keeps self.old self.new }
     {
-        if term.sort() != Sort::Bool {
+        read_term(self.alloc, &mut self.table, &self.scope, form)
+    }
+
+    fn assert_term(&mut self, term: TermId) -> Result<Step, AllocError>
+        requires { term < length self.old.table }
+        ensures ok { IfOk result
+            (λ step. IsStep (asserts (Ok (term_at self.old.table term)) (state_of self.old)) step (state_of self.old)
+            (state_of self.new)) }
+        ensures err { OnErr result (state_of self.new ≡ state_of self.old) }
+        ensures keeps { Keeps self.old self.new }
+    {
+        if self.table.sort(term) != Sort::Bool {
             return Ok(Step::Answer(error_line(self.alloc, b"wrong sort")?));
         }
         let answer = success_line(self.alloc, self.print_success)?;
-        self.assertions.push(Assertion::Term(term))?;
+        let assertion = Assertion {
+            term: Some(term),
+            level: 0,
+        };
+        self.assertions.push(assertion)?;
         self.begun = true;
         self.mode = Mode::Plain;
         Ok(Step::Answer(answer))
@@ -319,9 +368,10 @@ impl Stack {
 
     /// Answers a form that is no term. One that is left out leaves a mark.
     fn refuse_term(&mut self, fault: ReadFault) -> Result<Step, AllocError>
-        ensures ok { IfOk result (λ step. (reading : Result terms.Term Fault) → ReadsAs reading (Err fault)
+        ensures ok { IfOk result (λ step. (reading : Result terms.Term Fault) → Faults reading fault
             → IsStep (asserts reading (state_of self.old)) step (state_of self.old) (state_of self.new)) }
-        ensures err { OnErr result (self.new ≡ self.old) }
+        ensures err { OnErr result (state_of self.new ≡ state_of self.old) }
+        ensures keeps { Keeps self.old self.new }
     {
         match fault {
             ReadFault::UnknownSymbol(name) => Ok(Step::Answer(error_line_with_name(
@@ -347,17 +397,22 @@ impl Stack {
         ensures ok { IfOk result
             (λ step. IsStep (steps.refused_term unsupported (state_of self.old)) step (state_of self.old)
             (state_of self.new)) }
-        ensures err { OnErr result (self.new ≡ self.old) }
+        ensures err { OnErr result (state_of self.new ≡ state_of self.old) }
+        ensures keeps { Keeps self.old self.new }
     {
         let answer = unsupported_line(self.alloc)?;
-        self.assertions.push(Assertion::Mark)?;
+        let mark = Assertion {
+            term: None,
+            level: 0,
+        };
+        self.assertions.push(mark)?;
         self.begun = true;
         self.mode = Mode::Plain;
         Ok(Step::Answer(answer))
     }
 
     /// The words of the last check, or why there are none.
-    fn words(&self) -> Result<&[Word], &'static [u8]>
+    fn model(&self) -> Result<&[Word], &'static [u8]>
         ensures { MatchResult result (λ words. (answer : Valuation → steps.Step)
             → meaning.with_values (state_of self.now) answer ≡ answer (values_from 0 words.now))
             (λ message. (answer : Valuation → steps.Step)
@@ -366,8 +421,8 @@ impl Stack {
         if !self.produce_models {
             return Err(b"models not enabled");
         }
-        match &self.mode {
-            Mode::Sat(words) => Ok(words),
+        match self.mode {
+            Mode::Sat => Ok(&self.words),
             Mode::Plain | Mode::Unsat => Err(b"no model"),
         }
     }
@@ -376,7 +431,7 @@ impl Stack {
         ensures { IfOk result
             (λ step. IsStep (meaning.get_model (state_of self.now)) step (state_of self.now) (state_of self.now)) }
     {
-        match self.words() {
+        match self.model() {
             Ok(words) => {
                 let constants = constants(self.alloc, &self.scope)?;
                 Ok(Step::Answer(model_line(self.alloc, words, &constants)?))
@@ -417,7 +472,7 @@ impl Stack {
             (λ step. IsStep (meaning.values_of (map item_in items.now) (state_of self.now)) step (state_of self.now)
             (state_of self.now)) }
     {
-        match self.words() {
+        match self.model() {
             Ok(words) => answer_values(self.alloc, words, items),
             Err(message) => Ok(Step::Answer(error_line(self.alloc, message)?)),
         }
@@ -431,10 +486,19 @@ impl Stack {
         Ok(Step::Exit(success_line(self.alloc, self.print_success)?))
     }
 
+    /// The terms that assertions are numbers of. Takes no memory.
+    pub fn table(&self) -> &Table
+        ensures { result.now ≡ self.now.table }
+    {
+        &self.table
+    }
+
     /// The live assertions, in order. Takes no memory.
     pub fn assertions(&self) -> &[Assertion]
-        ensures live { map assertion_in result.now ≡ live (state_of self.now) }
-        ensures declared { have_serials_below self.now.scope.declared result.now ≡ true }
+        ensures value { result.now ≡ self.now.assertions }
+        ensures live { map (assertion_in self.now.table) result.now ≡ live (state_of self.now) }
+        ensures numbers { All (HasNumberBelow (length self.now.table)) self.now.assertions }
+        ensures declared { all_below self.now.scope.declared self.now.table ≡ true }
     {
         self.assertions.as_slice()
     }
@@ -449,14 +513,28 @@ impl Stack {
         self.scope.declared()
     }
 
-    /// Answers a check by what it found, and keeps it for the questions after it. Takes no memory.
+    /// Takes the words of the last `Sat` verdict out, the one of each constant at its serial: a check changes those
+    /// that are new and gives them back in its verdict, so it copies none. None are left, and no model. Takes no memory.
+    pub fn take_words(&mut self) -> Vec<Word>
+        ensures words { result.items ≡ self.old.words }
+        ensures rest { self.new ≡ without_words self.old }
+        ensures state { state_of self.new ≡ record (state_of self.old) { mode = plain } }
+    {
+        self.mode = Mode::Plain;
+        mem::replace(&mut self.words, Vec::new(self.alloc))
+    }
+
+    /// Answers a check by what it found, and keeps it for the questions after it. The words of an earlier `Sat` stay
+    /// where this verdict has none. Takes no memory.
     pub fn settle(&mut self, verdict: Verdict) -> &'static [u8]
         ensures reply { result.now ≡ verdict_text (verdict_in verdict) }
         ensures state { state_of self.new ≡ settled (verdict_in verdict) (state_of self.old) }
+        ensures kept { self.new ≡ found verdict self.old }
     {
         match verdict {
             Verdict::Sat(words) => {
-                self.mode = Mode::Sat(words);
+                self.words = words;
+                self.mode = Mode::Sat;
                 b"sat\n"
             }
             Verdict::Unsat => {

@@ -16,7 +16,8 @@ ghost use Rattle.sb_stack.specs.Values.{constant_in, asked_in, item_in, with_nam
 
 use crate::name::push_name;
 use sb_reader::Sexpr;
-use sb_sorts::{Named, Scope, Serial, begins_term, is_reserved, is_theory_name};
+use sb_sorts::{Named, Scope, begins_term, is_reserved, is_theory_name};
+use sb_term::Serial;
 use sb_word::{Word, print_literal};
 use std::alloc::{AllocError, Global};
 

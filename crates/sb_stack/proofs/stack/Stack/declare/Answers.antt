@@ -1,13 +1,15 @@
-use Rattle.std.proofs.Common.{◌∙◌, ap}
-use Rattle.sb_stack.specs.Stacked.{Stacked, have_serials_below}
-use Rattle.sb_stack.proofs.Changes.{below_more, declare_step}
+use Rattle.std.proofs.Common.{sym, subst}
+use Rattle.sb_sorts.specs.Scopes.{ScopeNames}
+use Rattle.sb_stack.specs.Stacked.{Stacked}
+use Rattle.sb_stack.specs.Keeping.{IsKept}
+use Rattle.sb_stack.proofs.Changes.{kept_declared, declare_step}
 use Rattle.sb_stack.proofs.stack.Stack.declare.Goals as goal
 
 pub invariant_of-self : goal.invariant_of-self
 invariant_of-self c =
     let items = c.self.inside.assertions.items in
-    ap (λ scope. have_serials_below scope.declared items) c.in-Ok.ensures.ok.0
-    ∙ below_more c.self.inside.scope.declared items c.self.invariant
+    subst (λ (scope : ScopeNames). IsKept scope.declared c.self.inside.table items) (sym c.in-Ok.ensures.ok.0)
+    (kept_declared c.self.inside.scope.declared c.self.inside.table items c.self.invariant)
 
 pub returns-in-Ok-clause-ok : goal.returns-in-Ok-clause-ok
 returns-in-Ok-clause-ok c =
@@ -18,6 +20,8 @@ returns-in-Ok-clause-ok c =
       produce_models = c.self.inside.produce_models;
       scope = c.self.inside.scope;
       mode = c.self.inside.mode;
+      words = c.self.inside.words.items;
+      table = c.self.inside.table;
       assertions = c.self.inside.assertions.items;
     } in
     rw (← c.self.view_is)
