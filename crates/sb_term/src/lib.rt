@@ -5,10 +5,12 @@
 //! its terms, as trees, by number. The layers above read terms into a table, and keep numbers.
 #![tactic(auto)]
 
+mod assertion;
 mod sort;
 mod table;
 mod term;
 
+pub use assertion::{Assertion, Assumption};
 pub use sort::{Sort, Symbol};
 pub use table::Table;
 pub use term::{Serial, Term, TermId};

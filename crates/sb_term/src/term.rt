@@ -29,7 +29,7 @@ impl Model for TermId {
 
 impl TermId {
     /// The term of this number. `AllocError` where there are as many terms as a table holds at most, 2^32.
-    pub(crate) fn new(number: usize) -> Result<TermId, AllocError>
+    pub fn new(number: usize) -> Result<TermId, AllocError>
         ensures { IfOk result (λ id. id ≡ number) }
     {
         match u32::try_from(number) {
