@@ -1,0 +1,5 @@
+pub mod PointFacts
+pub mod Shapes
+pub mod Waiting
+pub mod Remembering
+pub mod Along
