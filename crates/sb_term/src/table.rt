@@ -30,7 +30,6 @@ impl Model for Table {
 
     ghost coded = { coded_list coded_term };
 
-
     ghost use Rattle.sb_term.specs.Nodes.{terms_of_table};
     ghost use Rattle.sb_term.specs.Interning.{IsTable};
 

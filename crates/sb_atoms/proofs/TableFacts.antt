@@ -1,0 +1,132 @@
+-- Atoms by number, with one more atom of the code.
+use Rattle.std.proofs.Common.{◌≡◌, ℕ, zero, suc, ◌<◌, Bool, true, false, ◌&&◌, ◌||◌, ◌⊎◌, inl, inr, nat_eq, nat_lt, cond, Some, List, [], ◌∷◌, ◌++◌, length, get_or, slice_get, refl, sym, ap, ap₂, ◌∙◌, arith, length-append}
+use Rattle.std.specs.List.{list_any, position}
+use Rattle.std.specs.Prelude.{Option, None, is_some, option_map}
+use Rattle.std.proofs.lemmas.Bool.{and_parts, false≢true}
+use Rattle.std.proofs.lemmas.Bool.Decides.{nat_tests}
+use Rattle.std.proofs.lemmas.List.{get_or_append_left, get_or_push}
+use Rattle.std.proofs.lemmas.List.Quantifiers.{position-Some}
+use Rattle.std.proofs.lemmas.Option.{get_or_from_slice_get, slice_get_within, slice_get-get_or, slice_get-map}
+use Rattle.sb_rulebook.specs.Atoms.{AtomOver, in_atom}
+use Rattle.sb_script.specs.Pieces.{constant_piece}
+use Rattle.sb_atoms.specs.declared.atom.Atom as code
+use Rattle.sb_atoms.specs.declared.atom.Atom.TheVariants as atom
+use Rattle.sb_atoms.specs.contracts.atom.AtomPartialEq.TheImpl as derived
+use Rattle.sb_atoms.specs.Numbered.{atom_in, numbered_atoms, Names, IsWith, AreDistinct}
+
+abbrev pub same : code.Atom → code.Atom → Bool
+same = derived.ghosts.eq
+
+nat_same : (x y : ℕ) → nat_eq x y ≡ true → x ≡ y
+nat_same x y h = grind (arith, nat_tests)
+
+same_nat : (x y : ℕ) → x ≡ y → nat_eq x y ≡ true
+same_nat x y h = grind (arith, nat_tests)
+
+both : (a b : Bool) → a ≡ true → b ≡ true → (a && b) ≡ true
+both a b h k = rw (h, k) refl
+
+pub same_gives : (d e : code.Atom) → same d e ≡ true → atom_in d ≡ atom_in e
+same_gives (atom.In s r) (atom.In t q) h =
+    let p = and_parts (nat_eq s.0 t.0) _ h in
+    ap₂ (λ n m. in_atom (constant_piece n ∷ []) m) (nat_same s.0 t.0 p.0) (nat_same r q p.1)
+
+in_parts : (n m r q : ℕ) → in_atom (constant_piece n ∷ []) r ≡ in_atom (constant_piece m ∷ []) q → (n ≡ m) × (r ≡ q)
+in_parts n m r q e = (cc, cc)
+
+pub gives_same : (d e : code.Atom) → atom_in d ≡ atom_in e → same d e ≡ true
+gives_same (atom.In s r) (atom.In t q) h =
+    let p = in_parts s.0 t.0 r q h in both _ _ (same_nat s.0 t.0 p.0) (same_nat r q p.1)
+
+-- where the one more element is
+pub get_push : {X : Type 0} (xs : List X) (y x : X) (i : ℕ) → slice_get (xs ++ y ∷ []) i ≡ Some x
+    → (slice_get xs i ≡ Some x) ⊎ ((i ≡ length xs) × (x ≡ y))
+get_push xs y x i h = step (nat_lt i (length xs)) refl
+  where
+    within : i < length (xs ++ y ∷ [])
+    within = slice_get_within (xs ++ y ∷ []) i x h
+
+    step : (b : Bool) → nat_lt i (length xs) ≡ b → (slice_get xs i ≡ Some x) ⊎ ((i ≡ length xs) × (x ≡ y))
+    step true is =
+        let l : i < length xs = grind (arith, nat_tests) in
+        inl (slice_get-get_or xs i x l
+        ∙ ap Some (sym (get_or_append_left xs (y ∷ []) x i l) ∙ get_or_from_slice_get (xs ++ y ∷ []) i x x h))
+    step false is =
+        let e : i ≡ length xs = grind (arith, nat_tests, within, length-append xs (y ∷ [])) in
+        inr (e, sym (get_or_from_slice_get (xs ++ y ∷ []) i x x h) ∙ get_or_push xs y x i (sym e))
+
+map_push : (ds : List code.Atom) (d : code.Atom) → numbered_atoms (ds ++ d ∷ []) ≡ numbered_atoms ds ++ atom_in d ∷ []
+map_push [] d = refl
+map_push (x ∷ xs) d = ap (λ ys. atom_in x ∷ ys) (map_push xs d)
+
+either : (a b : Bool) → b ≡ true → (a || b) ≡ true
+either true b h = refl
+either false b h = h
+
+some_is : {X : Type 0} (x y : X) → Some x ≡ Some y → x ≡ y
+some_is x y e = cc
+
+-- an atom of the table is found in it
+pub listed : (ds : List code.Atom) (d : code.Atom) (i : ℕ) → Names (numbered_atoms ds) i (atom_in d)
+    → list_any (same d) ds ≡ true
+listed [] d i h = absurd (omega (arith, slice_get_within [] i (atom_in d) h))
+listed (x ∷ xs) d zero h =
+    ap (λ b. b || list_any (same d) xs) (gives_same d x (sym (some_is (atom_in x) (atom_in d) h)))
+listed (x ∷ xs) d (suc i) h = either (same d x) (list_any (same d) xs) (listed xs d i h)
+
+distinct_more : (ds : List code.Atom) (d : code.Atom) → AreDistinct (numbered_atoms ds) → list_any (same d) ds ≡ false
+    → AreDistinct (numbered_atoms (ds ++ d ∷ []))
+distinct_more ds d once fresh = λ i j a h k.
+    apart i j a (get_push (numbered_atoms ds) (atom_in d) a i (rw (map_push ds d) at h))
+    (get_push (numbered_atoms ds) (atom_in d) a j (rw (map_push ds d) at k))
+  where
+    none : (i : ℕ) (a : AtomOver ℕ) → Names (numbered_atoms ds) i a → a ≡ atom_in d → ⊥
+    none i a h e = false≢true (sym fresh ∙ listed ds d i (h ∙ ap Some e))
+
+    apart : (i j : ℕ) (a : AtomOver ℕ)
+        → (Names (numbered_atoms ds) i a) ⊎ ((i ≡ length (numbered_atoms ds)) × (a ≡ atom_in d))
+        → (Names (numbered_atoms ds) j a) ⊎ ((j ≡ length (numbered_atoms ds)) × (a ≡ atom_in d)) → i ≡ j
+    apart i j a (inl h) (inl k) = once i j a h k
+    apart i j a (inl h) (inr k) = absurd (none i a h k.1)
+    apart i j a (inr h) (inl k) = absurd (none j a k h.1)
+    apart i j a (inr h) (inr k) = h.0 ∙ sym k.0
+
+-- What adding an atom makes of the table.
+
+abbrev pub inserted : List code.Atom → code.Atom → List code.Atom
+inserted ds d = cond (list_any (same d) ds) ds (ds ++ d ∷ [])
+
+pub added : (ds after : List code.Atom) (d : code.Atom) → AreDistinct (numbered_atoms ds) → after ≡ inserted ds d
+    → AreDistinct (numbered_atoms after)
+added ds after d once e = rw e (step (list_any (same d) ds) refl)
+  where
+    step : (b : Bool) → list_any (same d) ds ≡ b → AreDistinct (numbered_atoms (cond b ds (ds ++ d ∷ [])))
+    step true h = once
+    step false h = distinct_more ds d once h
+
+pub with_one : (old : List (AtomOver ℕ)) (ds after : List code.Atom) (d : code.Atom) → numbered_atoms ds ≡ old
+    → after ≡ inserted ds d → IsWith old (numbered_atoms after) (atom_in d)
+with_one old ds after d is e = rw (← is, e) (step (list_any (same d) ds))
+  where
+    step : (b : Bool) → IsWith (numbered_atoms ds) (numbered_atoms (cond b ds (ds ++ d ∷ []))) (atom_in d)
+    step true = inl refl
+    step false = inr (map_push ds d)
+
+-- the atom of the code that is found, or added, stands for the atom
+pub named : (after : List code.Atom) (d : code.Atom) (n : ℕ)
+    → ((k : code.Atom) × (slice_get after n ≡ Some k) × (same d k ≡ true)) → Names (numbered_atoms after) n (atom_in d)
+named after d n stored =
+    slice_get-map atom_in after n ∙ ap (option_map atom_in) stored.1 ∙ ap Some (sym (same_gives d stored.0 stored.2))
+
+-- Looking for an atom.
+
+pub found : (old : List (AtomOver ℕ)) (ds : List code.Atom) (d : code.Atom) (o : Option ℕ) (n id : ℕ)
+    → numbered_atoms ds ≡ old → o ≡ position (same d) ds → o ≡ Some n → id ≡ n → Names old id (atom_in d)
+found old ds d o n id is place some e =
+    let p = position-Some (same d) ds n d (sym place ∙ some) in
+    rw (← is, e) (named ds d n (get_or ds n d, slice_get-get_or ds n d p.0, p.1))
+
+pub missing : (old : List (AtomOver ℕ)) (ds : List code.Atom) (d : code.Atom) (o : Option ℕ) → numbered_atoms ds ≡ old
+    → is_some o ≡ list_any (same d) ds → o ≡ None → (i : ℕ) → Names old i (atom_in d) → ⊥
+missing old ds d o is any none i h =
+    false≢true (sym (ap is_some none) ∙ any ∙ listed ds d i (rw is h))

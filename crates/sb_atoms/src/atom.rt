@@ -1,0 +1,45 @@
+//! Atoms, which literals speak of.
+
+ghost use Rattle.std.specs.Prelude.{◌≡◌};
+
+use sb_regex::RegexId;
+use sb_term::Serial;
+use std::marker::Model;
+
+/// The number of an atom in its table.
+#[derive(Clone, Copy, Debug, Default, PartialEq, Eq, PartialOrd, Ord, Hash)]
+pub struct AtomId {
+    number: usize,
+}
+
+impl Model for AtomId {
+    ghost use Rattle.std.specs.Prelude.{ℕ};
+
+    ghost Value = { ℕ };
+
+    ghost view = { λ id. id.number };
+
+    ghost inverse = { λ n. record { number = n } };
+}
+
+impl AtomId {
+    pub(crate) fn new(number: usize) -> AtomId
+        ensures { result ≡ number }
+    {
+        AtomId { number }
+    }
+
+    /// The number itself.
+    pub fn number(self) -> usize
+        ensures { result ≡ self }
+    {
+        self.number
+    }
+}
+
+/// An atom, whose regex is a number.
+#[derive(Clone, Copy, Debug, PartialEq, Eq, Hash)]
+pub enum Atom {
+    /// The String constant is in the language of the regex.
+    In(Serial, RegexId),
+}

@@ -1,0 +1,13 @@
+//! Atoms by number: an [`Atoms`] keeps each atom once, so that equal atoms have equal numbers.
+//!
+//! A literal of the search speaks of an atom by its number, so an assertion's term is one literal over the table:
+//! [`Atoms::translate`] gives it and adds the atom that it needs. Contracts see a table as the list of its atoms by
+//! number, over the numbers of regexes in an arena.
+#![tactic(auto)]
+
+mod atom;
+mod table;
+mod translate;
+
+pub use atom::{Atom, AtomId};
+pub use table::Atoms;

@@ -1,0 +1,81 @@
+//! The table of atoms.
+
+ghost use Rattle.std.specs.Prelude.{◌≡◌, ◌<◌, length, [], IfOk};
+ghost use Rattle.sb_atoms.specs.Numbered.{atom_in, Names, IsWith, IsNumberIn, AreDistinct};
+
+use crate::atom::{Atom, AtomId};
+use indexmap::IndexSet;
+use std::alloc::{AllocError, Global};
+use std::marker::Model;
+
+/// Atoms by their numbers, each once.
+#[derive(Drop)]
+pub struct Atoms {
+    atoms: IndexSet<Atom>,
+}
+
+impl Model for Atoms {
+    ghost use Rattle.std.specs.Prelude.{ℕ, List};
+    ghost use Rattle.sb_rulebook.specs.Atoms.{AtomOver};
+
+    ghost Value = { List (AtomOver ℕ) };
+
+    ghost use Rattle.sb_atoms.specs.Numbered.{numbered_atoms, AreDistinct};
+
+    ghost view = { λ atoms. numbered_atoms atoms.atoms.keys };
+
+    ghost invariant = { λ atoms. AreDistinct (numbered_atoms atoms.atoms.keys) };
+}
+
+impl Atoms {
+    /// A table without atoms. Takes no memory.
+    pub fn new(alloc: Global) -> Atoms
+        ensures { result ≡ [] }
+    {
+        Atoms {
+            atoms: IndexSet::new(alloc),
+        }
+    }
+
+    /// The number of atoms. The numbers of atoms are those below it.
+    pub fn len(&self) -> usize
+        ensures { result ≡ length self.now }
+    {
+        self.atoms.len()
+    }
+
+    /// The atom of a number. Takes constant time and no memory.
+    pub fn describe(&self, id: AtomId) -> &Atom
+        requires { id < length self.now }
+        ensures { Names self.now id (atom_in result.now) }
+    {
+        &self.atoms[id.number()]
+    }
+
+    /// Numbers are equal exactly where their atoms are.
+    pub fn atoms_each_once(&self)
+        ensures { AreDistinct self.now }
+    {
+        let _atoms = &self.atoms;
+    }
+
+    /// The number of an atom, a new one where it has none. Takes constant time, by hash. `AllocError` only for want of
+    /// memory; the table is then as it was.
+    pub fn add(&mut self, atom: Atom) -> Result<AtomId, AllocError>
+        ensures ok { IfOk result (λ id. Names self.new id (atom_in atom)) }
+        ensures grows { IsWith self.old self.new (atom_in atom) }
+    {
+        let (number, _) = self.atoms.insert_full(atom)?;
+        Ok(AtomId::new(number))
+    }
+
+    /// The number of an atom, if it has one. Takes constant time and no memory.
+    pub fn find(&self, atom: &Atom) -> Option<AtomId>
+        ensures { IsNumberIn self.now (atom_in atom.now) result }
+    {
+        match self.atoms.get_index_of(atom) {
+            Some(number) => Some(AtomId::new(number)),
+            None => None,
+        }
+    }
+}

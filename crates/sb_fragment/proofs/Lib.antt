@@ -1,0 +1,4 @@
+pub mod MeasureFacts
+pub mod ShapeFacts
+pub mod RuleFacts
+pub mod CallerLemmas

@@ -1,0 +1,217 @@
+-- Measures of terms are those that their arguments' measures give.
+use Rattle.std.proofs.Common.{◌≡◌, ℕ, zero, suc, ◌+◌, ◌<◌, Bool, true, false, ◌⊎◌, inl, inr, not, ◌&&◌, ◌==◌, nat_lt, nat_le, Some, List, [], ◌∷◌, ◌++◌, length, get_or, slice_get, drop, refl, sym, ap, ap₂, ◌∙◌, arith, length-append}
+use Rattle.std.specs.List.{All, list_all}
+use Rattle.std.proofs.lemmas.Bool.Decides.{nat_tests}
+use Rattle.std.proofs.lemmas.List.{get_or_append_left, get_or_push}
+use Rattle.std.proofs.lemmas.Option.{get_or_from_slice_get, slice_get_within, slice_get-get_or}
+use Rattle.sb_meaning.specs.Terms.{Symbol, Term, Terms, constant, word, numeral, apply, parameter, no_terms, with_term, terms_of}
+use Rattle.sb_meaning.specs.Terms as symbol
+use Rattle.sb_script.specs.Brought.{is_regex, are_regexes}
+use Rattle.sb_script.specs.Pieces.{are_ground}
+use Rattle.sb_script.specs.Sizes.{size_of, sizes_of, has_short_words, have_short_words, is_regular}
+use Rattle.sb_term.specs.declared.term.Term as code
+use Rattle.sb_term.specs.declared.term.Term.TheVariants as node
+use Rattle.sb_term.specs.Nodes.{node_term, ArgumentsBelow}
+use Rattle.sb_term.specs.Numbered.{term_at, terms_at}
+use Rattle.sb_term.specs.Symbols.{symbol_in}
+use Rattle.sb_fragment.specs.declared.measure.Measure.{Measure}
+use Rattle.sb_fragment.specs.Measures.{is_literal, within_limit, IsMeasure, AreMeasures}
+use Rattle.sb_fragment.specs.Measured.{is_regex_by, is_short_by, size_by, joined, no_measure, within, total, applied_measure, node_measure}
+
+pub drop_at : {X : Type 0} (xs : List X) (i : ℕ) (d : X) → i < length xs → drop i xs ≡ get_or xs i d ∷ drop (suc i) xs
+drop_at [] i d h = absurd (omega arith)
+drop_at (x ∷ xs) zero d h = refl
+drop_at (x ∷ xs) (suc i) d h = drop_at xs i d (omega (arith, h))
+
+within_sum : (a b : ℕ) → within_limit (within_limit a + within_limit b) ≡ within_limit (a + b)
+within_sum a b = grind (arith, nat_tests)
+
+within_next : (a : ℕ) → within_limit (1 + within_limit a) ≡ within_limit (1 + a)
+within_next a = grind (arith, nat_tests)
+
+within_short : (a : ℕ) → nat_le (within_limit a) 65535 ≡ nat_le a 65535
+within_short a = grind (arith, nat_tests)
+
+-- what is known of terms together
+pub record IsTotal (ts : List Term) (m : Measure) : Type 0 where
+  pub word : m.is_word ≡ list_all is_literal ts
+  pub constants : m.is_ground ≡ are_ground (terms_of ts)
+  pub regex : m.is_regex ≡ are_regexes (terms_of ts)
+  pub short : m.is_short ≡ have_short_words (terms_of ts)
+  pub size : m.size ≡ within_limit (sizes_of (terms_of ts))
+
+total_more : (t : Term) (ts : List Term) (m n : Measure) → IsMeasure t m → IsTotal ts n → IsTotal (t ∷ ts) (joined m n)
+total_more t ts m n p q = record {
+  word = ap₂ ◌&&◌ p.word q.word;
+  constants = ap₂ ◌&&◌ p.constants q.constants;
+  regex = ap₂ ◌&&◌ p.regex q.regex;
+  short = ap₂ ◌&&◌ p.short q.short;
+  size = ap₂ (λ a b. within_limit (a + b)) p.size q.size ∙ within_sum (size_of t) (sizes_of (terms_of ts));
+}
+
+pub total_is : (ts : List Term) (ms : List Measure) (is : List ℕ) → AreMeasures ts ms → All (λ i. i < length ms) is
+    → IsTotal (terms_at ts is) (total ms is)
+total_is ts ms [] h l = record { word = refl; constants = refl; regex = refl; short = refl; size = refl }
+total_is ts ms (i ∷ is) h l =
+    total_more (term_at ts i) (terms_at ts is) (get_or ms i no_measure) (total ms is)
+    (h.each i (get_or ms i no_measure) (slice_get-get_or ms i no_measure (l 0 0 (omega arith))))
+    (total_is ts ms is h (λ k d m. l (suc k) d (omega (arith, m))))
+
+-- A symbol with arguments.
+
+word_first : (t : Term) → (is_regex (apply symbol.str_to_re (with_term t no_terms))) ≡ is_literal t && true
+word_first (word w) = refl
+word_first (constant n s) = refl
+word_first (numeral n) = refl
+word_first (apply s ts) = refl
+word_first (parameter n s) = refl
+
+words_two : (t u : Term) → is_regex (apply symbol.re_range (with_term t (with_term u no_terms)))
+    ≡ is_literal t && (is_literal u && true)
+words_two (word w) (word v) = refl
+words_two (word w) (constant n s) = refl
+words_two (word w) (numeral n) = refl
+words_two (word w) (apply s ts) = refl
+words_two (word w) (parameter n s) = refl
+words_two (constant n s) u = refl
+words_two (numeral n) u = refl
+words_two (apply s ts) u = refl
+words_two (parameter n s) u = refl
+
+one_regex : (b : Bool) → b ≡ b && true
+one_regex true = refl
+one_regex false = refl
+
+not_one : (n : ℕ) (b : Bool) → false ≡ ((suc (suc n) == 1) && b)
+not_one n b = ap (λ t. t && b) none
+  where
+    none : false ≡ (suc (suc n) == 1)
+    none = grind (arith, nat_tests)
+
+not_two : (n : ℕ) (b : Bool) → false ≡ ((suc (suc (suc n)) == 2) && b)
+not_two n b = ap (λ t. t && b) none
+  where
+    none : false ≡ (suc (suc (suc n)) == 2)
+    none = grind (arith, nat_tests)
+
+some_parts : (n : ℕ) (b : Bool) → b ≡ (not (suc n == 0) && b)
+some_parts n b = ap (λ t. t && b) some
+  where
+    some : true ≡ not (suc n == 0)
+    some = grind (arith, nat_tests)
+
+regex_applied : (s : Symbol) (ts : List Term)
+    → is_regex (apply s (terms_of ts)) ≡ is_regex_by s (length ts) (list_all is_literal ts) (are_regexes (terms_of ts))
+regex_applied symbol.str_to_re [] = refl
+regex_applied symbol.str_to_re (t ∷ []) = word_first t
+regex_applied symbol.str_to_re (word w ∷ u ∷ ts) = not_one (length ts) _
+regex_applied symbol.str_to_re (t ∷ u ∷ ts) = not_one (length ts) _
+regex_applied symbol.re_range [] = refl
+regex_applied symbol.re_range (word w ∷ []) = refl
+regex_applied symbol.re_range (t ∷ []) = refl
+regex_applied symbol.re_range (t ∷ u ∷ []) = words_two t u
+regex_applied symbol.re_range (word w ∷ word v ∷ x ∷ ts) = not_two (length ts) _
+regex_applied symbol.re_range (word w ∷ u ∷ x ∷ ts) = not_two (length ts) _
+regex_applied symbol.re_range (t ∷ u ∷ x ∷ ts) = not_two (length ts) _
+regex_applied symbol.re_concat [] = refl
+regex_applied symbol.re_concat (t ∷ ts) = some_parts (length ts) _
+regex_applied symbol.re_union [] = refl
+regex_applied symbol.re_union (t ∷ ts) = some_parts (length ts) _
+regex_applied symbol.re_star [] = refl
+regex_applied symbol.re_star (t ∷ []) = one_regex (is_regex t)
+regex_applied symbol.re_star (t ∷ u ∷ ts) = not_one (length ts) _
+regex_applied symbol.re_plus [] = refl
+regex_applied symbol.re_plus (t ∷ []) = one_regex (is_regex t)
+regex_applied symbol.re_plus (t ∷ u ∷ ts) = not_one (length ts) _
+regex_applied _ ts = refl
+
+short_applied : (s : Symbol) (ts : List Term) (short : Bool) (size : ℕ) → short ≡ have_short_words (terms_of ts)
+    → size ≡ within_limit (sizes_of (terms_of ts)) → is_short_by s short size ≡ has_short_words (apply s (terms_of ts))
+short_applied symbol.str_concat ts short size h k = ap (λ n. nat_le n 65535) k ∙ within_short (sizes_of (terms_of ts))
+short_applied _ ts short size h k = h
+
+size_applied : (s : Symbol) (ts : List Term) (size : ℕ) → size ≡ within_limit (sizes_of (terms_of ts))
+    → size_by s size ≡ within_limit (size_of (apply s (terms_of ts)))
+size_applied symbol.str_concat ts size k = k
+size_applied _ ts size k = ap (λ n. within_limit (1 + n)) k ∙ within_next (sizes_of (terms_of ts))
+
+applied_is : (s : Symbol) (ts : List Term) (n : ℕ) (all : Measure) → n ≡ length ts → IsTotal ts all
+    → IsMeasure (apply s (terms_of ts)) (applied_measure s n all)
+applied_is s ts n all e h = record {
+  word = refl;
+  constants = h.constants;
+  regex = by_parts n all.is_word all.is_regex e h.word h.regex ∙ sym (regex_applied s ts);
+  short = short_applied s ts all.is_short all.size h.short h.size;
+  size = size_applied s ts all.size h.size;
+}
+  where
+    by_parts : (k : ℕ) (b c : Bool) → k ≡ length ts → b ≡ list_all is_literal ts → c ≡ are_regexes (terms_of ts)
+        → is_regex_by s k b c ≡ is_regex_by s (length ts) (list_all is_literal ts) (are_regexes (terms_of ts))
+    by_parts k b c p q r = rw (p, q, r) refl
+
+length_terms_at : (ts : List Term) (is : List ℕ) → length is ≡ length (terms_at ts is)
+length_terms_at ts [] = refl
+length_terms_at ts (i ∷ is) = ap suc (length_terms_at ts is)
+
+pub measure_is : (ts : List Term) (ms : List Measure) (d : code.Term) → AreMeasures ts ms → ArgumentsBelow (length ms) d
+    → IsMeasure (node_term ts d) (node_measure ms d)
+measure_is ts ms (node.Constant n s) h l =
+    record { word = refl; constants = refl; regex = refl; short = refl; size = refl }
+measure_is ts ms (node.Word w) h l = record { word = refl; constants = refl; regex = refl; short = refl; size = refl }
+measure_is ts ms (node.Numeral n) h l = record { word = refl; constants = refl; regex = refl; short = refl; size = refl }
+measure_is ts ms (node.Apply s is) h l =
+    applied_is (symbol_in s) (terms_at ts is.items) (length is.items) (total ms is.items)
+    (length_terms_at ts is.items) (total_is ts ms is.items h l)
+measure_is ts ms (node.Parameter n s) h l =
+    record { word = refl; constants = refl; regex = refl; short = refl; size = refl }
+
+-- One more measure.
+
+get_push : {X : Type 0} (xs : List X) (y x : X) (i : ℕ) → slice_get (xs ++ y ∷ []) i ≡ Some x
+    → (slice_get xs i ≡ Some x) ⊎ ((i ≡ length xs) × (x ≡ y))
+get_push xs y x i h = step (nat_lt i (length xs)) refl
+  where
+    within : i < length (xs ++ y ∷ [])
+    within = slice_get_within (xs ++ y ∷ []) i x h
+
+    step : (b : Bool) → nat_lt i (length xs) ≡ b → (slice_get xs i ≡ Some x) ⊎ ((i ≡ length xs) × (x ≡ y))
+    step true is =
+        let l : i < length xs = grind (arith, nat_tests) in
+        inl (slice_get-get_or xs i x l
+        ∙ ap Some (sym (get_or_append_left xs (y ∷ []) x i l) ∙ get_or_from_slice_get (xs ++ y ∷ []) i x x h))
+    step false is =
+        let e : i ≡ length xs = grind (arith, nat_tests, within, length-append xs (y ∷ [])) in
+        inr (e, sym (get_or_from_slice_get (xs ++ y ∷ []) i x x h) ∙ get_or_push xs y x i (sym e))
+
+pub measures_more : (ts : List Term) (ms : List Measure) (d : code.Term) (m : Measure) (n : ℕ) → AreMeasures ts ms
+    → n ≡ length ms → n < length ts → node_term ts d ≡ term_at ts n → ArgumentsBelow n d → m ≡ node_measure ms d
+    → AreMeasures ts (ms ++ m ∷ [])
+measures_more ts ms d m n h e l value below is = record {
+  few = grind (arith, l, e, length-append ms (m ∷ []));
+  each = λ i x g. elim (get_push ms m x i g) as (λ _. IsMeasure (term_at ts i) x) [
+    | inl s ↦ h.each i x s
+    | inr s ↦ moved i x (s.0 ∙ sym e) s.1
+  ];
+}
+  where
+    new : IsMeasure (term_at ts n) m
+    new = rw (is, ← value) (measure_is ts ms d h (λ k z q. omega (arith, below k z q, e)))
+
+    moved : (i : ℕ) (x : Measure) → i ≡ n → x ≡ m → IsMeasure (term_at ts i) x
+    moved i x p q = rw (p, q) new
+
+pub measure_found : (ts : List Term) (ms : List Measure) (i n : ℕ) (m : Measure) → AreMeasures ts ms → n ≡ i
+    → i < length ms → m ≡ get_or ms n m → IsMeasure (term_at ts i) m
+measure_found ts ms i n m h e l is = h.each i m (slice_get-get_or ms i m l ∙ ap Some (sym (is ∙ ap (λ k. get_or ms k m) e)))
+
+within_size : (n : ℕ) → nat_le (within_limit n) 1000000 ≡ nat_le n 1000000
+within_size n = grind (arith, nat_tests)
+
+and_moved : (a b c : Bool) → ((a && b) && c) ≡ (a && (b && c))
+and_moved true b c = refl
+and_moved false b c = refl
+
+pub regular_is : (t : Term) (m : Measure) → IsMeasure t m → within m ≡ is_regular t
+regular_is t m h =
+    and_moved m.is_ground m.is_short (nat_le m.size 1000000)
+    ∙ ap₂ ◌&&◌ h.constants (ap₂ ◌&&◌ h.short (ap (λ n. nat_le n 1000000) h.size ∙ within_size (size_of t)))

@@ -1,0 +1,4 @@
+pub mod Measures
+pub mod Memberships
+pub mod Rules
+pub mod Measured

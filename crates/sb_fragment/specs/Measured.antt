@@ -1,0 +1,73 @@
+-- Private: the measure of a term from those of its arguments.
+use Rattle.std.specs.Prelude.{ℕ, ◌+◌, Bool, true, false, not, ◌&&◌, ◌==◌, nat_le, List, [], ◌∷◌, length, get_or}
+use Rattle.sb_meaning.specs.Terms.{Symbol}
+use Rattle.sb_meaning.specs.Terms as symbol
+use Rattle.sb_term.specs.declared.term.Term as code
+use Rattle.sb_term.specs.declared.term.Term.TheVariants as node
+use Rattle.sb_term.specs.Symbols.{symbol_in}
+use Rattle.sb_fragment.specs.declared.measure.Measure.{Measure}
+use Rattle.sb_fragment.specs.Measures.{within_limit}
+
+abbrev pub is_regex_by : Symbol → ℕ → Bool → Bool → Bool
+is_regex_by symbol.str_to_re n words regexes = (n == 1) && words
+is_regex_by symbol.re_range n words regexes = (n == 2) && words
+is_regex_by symbol.re_concat n words regexes = not (n == 0) && regexes
+is_regex_by symbol.re_union n words regexes = not (n == 0) && regexes
+is_regex_by symbol.re_star n words regexes = (n == 1) && regexes
+is_regex_by symbol.re_plus n words regexes = (n == 1) && regexes
+is_regex_by _ n words regexes = false
+
+abbrev pub is_short_by : Symbol → Bool → ℕ → Bool
+is_short_by symbol.str_concat short size = nat_le size 65535
+is_short_by _ short size = short
+
+abbrev pub size_by : Symbol → ℕ → ℕ
+size_by symbol.str_concat size = size
+size_by _ size = within_limit (1 + size)
+
+abbrev pub joined : Measure → Measure → Measure
+joined a b = record {
+  is_word = a.is_word && b.is_word;
+  is_ground = a.is_ground && b.is_ground;
+  is_regex = a.is_regex && b.is_regex;
+  is_short = a.is_short && b.is_short;
+  size = within_limit (a.size + b.size);
+}
+
+-- of no term
+abbrev pub no_measure : Measure
+no_measure = record { is_word = true; is_ground = true; is_regex = true; is_short = true; size = 0 }
+
+-- of all these together
+abbrev pub total : List Measure → List ℕ → Measure
+total ms [] = no_measure
+total ms (i ∷ is) = joined (get_or ms i no_measure) (total ms is)
+
+abbrev pub applied_measure : Symbol → ℕ → Measure → Measure
+applied_measure s n all = record {
+  is_word = false;
+  is_ground = all.is_ground;
+  is_regex = is_regex_by s n all.is_word all.is_regex;
+  is_short = is_short_by s all.is_short all.size;
+  size = size_by s all.size;
+}
+
+abbrev pub node_measure : List Measure → code.Term → Measure
+node_measure ms (node.Constant serial sort) =
+    record { is_word = false; is_ground = false; is_regex = false; is_short = true; size = 0 }
+node_measure ms (node.Word codes) = record {
+  is_word = true;
+  is_ground = true;
+  is_regex = false;
+  is_short = nat_le (length codes.items) 65535;
+  size = within_limit (length codes.items);
+}
+node_measure ms (node.Numeral n) = record { is_word = false; is_ground = true; is_regex = false; is_short = true; size = 0 }
+node_measure ms (node.Apply s arguments) =
+    applied_measure (symbol_in s) (length arguments.items) (total ms arguments.items)
+node_measure ms (node.Parameter place sort) =
+    record { is_word = false; is_ground = false; is_regex = false; is_short = true; size = 0 }
+
+-- no constants, and sizes within the limits
+abbrev pub within : Measure → Bool
+within m = (m.is_ground && m.is_short) && nat_le m.size 1000000

@@ -1,0 +1,169 @@
+//! What is known of a term by its arguments.
+
+ghost use Rattle.std.specs.Prelude.{◌≡◌, ◌<◌, ◌+◌, length, All};
+ghost use Rattle.sb_term.specs.Symbols.{symbol_in};
+ghost use Rattle.sb_term.specs.Nodes.{ArgumentsBelow};
+ghost use Rattle.sb_fragment.specs.Measures.{within_limit};
+ghost use Rattle.sb_fragment.specs.Measured.{is_regex_by, is_short_by, size_by, joined, total, within, node_measure, applied_measure};
+
+use sb_term::{Symbol, Term, TermId};
+
+/// What the rules of the fragment ask of a term.
+#[derive(Clone, Copy, Debug, PartialEq, Eq)]
+pub struct Measure {
+    /// The term is the word of a literal.
+    pub is_word: bool,
+    /// No constant stands in the term.
+    pub is_ground: bool,
+    /// The term is a regular expression over literals: made of words and ranges by concatenation, union and repetition.
+    pub is_regex: bool,
+    /// No String term within, as a word, has more than 65,535 characters.
+    pub is_short: bool,
+    /// One for each application of sort RegLan in it and one for each character of its words, up to 1,000,001.
+    pub size: u32,
+}
+
+/// The largest size within the limit.
+const SIZE_LIMIT: u32 = 1_000_000;
+
+/// The size up to the least one past the limit.
+fn capped(size: usize) -> u32
+    ensures { result ≡ within_limit size }
+{
+    if size <= SIZE_LIMIT as usize {
+        size as u32
+    } else {
+        SIZE_LIMIT + 1
+    }
+}
+
+/// The sum of two sizes, up to the least one past the limit.
+fn sum(a: u32, b: u32) -> u32
+    ensures { result ≡ within_limit (a + b) }
+{
+    let sum = a as u64 + b as u64;
+    if sum <= SIZE_LIMIT as u64 {
+        sum as u32
+    } else {
+        SIZE_LIMIT + 1
+    }
+}
+
+/// What is known of an argument and of those behind it, together.
+fn join(first: Measure, rest: Measure) -> Measure
+    ensures { result ≡ joined first rest }
+{
+    Measure {
+        is_word: first.is_word && rest.is_word,
+        is_ground: first.is_ground && rest.is_ground,
+        is_regex: first.is_regex && rest.is_regex,
+        is_short: first.is_short && rest.is_short,
+        size: sum(first.size, rest.size),
+    }
+}
+
+/// What is known of all arguments together.
+fn total_of(measures: &[Measure], arguments: &[TermId]) -> Measure
+    requires { All (λ i. i < length measures.now) arguments.now }
+    ensures { result ≡ total measures.now arguments.now }
+{
+    let mut left = arguments.len();
+    let mut all = Measure {
+        is_word: true,
+        is_ground: true,
+        is_regex: true,
+        is_short: true,
+        size: 0,
+    };
+    while left > 0 {
+        left -= 1;
+        all = join(measures[arguments[left].number()], all);
+    }
+    all
+}
+
+/// Whether a symbol makes a regular expression over literals of so many arguments.
+fn makes_regex(symbol: Symbol, count: usize, words: bool, regexes: bool) -> bool
+    ensures { result ≡ is_regex_by (symbol_in symbol) count words regexes }
+{
+    match symbol {
+        Symbol::StrToRe => count == 1 && words,
+        Symbol::ReRange => count == 2 && words,
+        Symbol::ReConcat | Symbol::ReUnion => count != 0 && regexes,
+        Symbol::ReStar | Symbol::RePlus => count == 1 && regexes,
+        _ => false,
+    }
+}
+
+/// Whether String terms within are short, where those of the arguments are, or are not, and have this size.
+fn short_with(symbol: Symbol, short: bool, size: u32) -> bool
+    ensures { result ≡ is_short_by (symbol_in symbol) short size }
+{
+    match symbol {
+        Symbol::StrConcat => size <= 65_535,
+        _ => short,
+    }
+}
+
+/// The size, where that of the arguments is this.
+fn size_with(symbol: Symbol, size: u32) -> u32
+    ensures { result ≡ size_by (symbol_in symbol) size }
+{
+    match symbol {
+        Symbol::StrConcat => size,
+        _ => sum(1, size),
+    }
+}
+
+/// What is known of a symbol with so many arguments.
+fn applied(symbol: Symbol, count: usize, all: Measure) -> Measure
+    ensures { result ≡ applied_measure (symbol_in symbol) count all }
+{
+    Measure {
+        is_word: false,
+        is_ground: all.is_ground,
+        is_regex: makes_regex(symbol, count, all.is_word, all.is_regex),
+        is_short: short_with(symbol, all.is_short, all.size),
+        size: size_with(symbol, all.size),
+    }
+}
+
+/// What is known of a term, where the measures of its arguments are there.
+pub(crate) fn measure_of(node: &Term, measures: &[Measure]) -> Measure
+    requires { ArgumentsBelow (length measures.now) node.now }
+    ensures { result ≡ node_measure measures.now node.now }
+{
+    match node {
+        Term::Constant(..) | Term::Parameter(..) => Measure {
+            is_word: false,
+            is_ground: false,
+            is_regex: false,
+            is_short: true,
+            size: 0,
+        },
+        Term::Word(codes) => Measure {
+            is_word: true,
+            is_ground: true,
+            is_regex: false,
+            is_short: codes.len() <= 65_535,
+            size: capped(codes.len()),
+        },
+        Term::Numeral(_) => Measure {
+            is_word: false,
+            is_ground: true,
+            is_regex: false,
+            is_short: true,
+            size: 0,
+        },
+        Term::Apply(symbol, arguments) => {
+            applied(*symbol, arguments.len(), total_of(measures, arguments))
+        }
+    }
+}
+
+/// Whether the term has no constants, and its words and itself are within the limits on sizes.
+pub(crate) fn is_within(measure: Measure) -> bool
+    ensures { result ≡ within measure }
+{
+    measure.is_ground && measure.is_short && measure.size <= SIZE_LIMIT
+}

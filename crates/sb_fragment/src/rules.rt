@@ -1,0 +1,98 @@
+//! Which rule of the fragment live assertions break.
+
+ghost use Rattle.std.specs.Prelude.{◌≡◌, ◌<◌, true, false, length, map, All, IfOk};
+ghost use Rattle.sb_term.specs.Numbered.{term_at};
+ghost use Rattle.sb_script.specs.State.{asserted};
+ghost use Rattle.sb_script.specs.Fragment.{is_inside};
+ghost use Rattle.sb_fragment.specs.Measures.{AreMeasures};
+ghost use Rattle.sb_fragment.specs.Rules.{assertion_in, HasNumberBelow, IsStanding, IsBrokenBy, is_broken};
+
+use crate::measures::Measures;
+use crate::shape::arguments_of;
+use sb_term::{Assertion, Table, TermId};
+use std::alloc::AllocError;
+
+/// A rule of the fragment that an assertion breaks.
+#[derive(Clone, Copy, Debug, PartialEq, Eq)]
+pub enum Reason {
+    /// An assertion was left out.
+    Marked,
+    /// A constant stands in the regular expression of a membership.
+    NotGround,
+    /// The assertion is of another form than those that are decided so far: the membership of one String constant in a
+    /// regular expression over literals.
+    NotBrought,
+}
+
+/// What live assertions that are inside the fragment ask: so far nothing but that the script is plain, so that each of
+/// them is a membership of one constant.
+#[derive(Clone, Copy, Debug, PartialEq, Eq)]
+pub struct Problem;
+
+/// Whether live assertions are inside the fragment.
+#[derive(Clone, Copy, Debug, PartialEq, Eq)]
+pub enum Standing {
+    Inside(Problem),
+    /// They are not, by the rule that the first one outside breaks.
+    Outside(Reason),
+}
+
+/// The rule that an assertion outside the fragment breaks.
+fn rule_of(measures: &mut Measures, table: &Table, id: TermId) -> Result<Reason, AllocError>
+    requires number { id < length table.now }
+    requires right { AreMeasures table.now measures.old }
+    requires outside { is_inside (asserted (term_at table.now id)) ≡ false }
+    ensures ok { IfOk result (λ reason. is_broken reason (asserted (term_at table.now id)) ≡ true) }
+    ensures right { AreMeasures table.now measures.new }
+{
+    let Some((_, regex)) = arguments_of(table, id) else {
+        return Ok(Reason::NotBrought);
+    };
+    if measures.measure(table, regex)?.is_ground {
+        Ok(Reason::NotBrought)
+    } else {
+        Ok(Reason::NotGround)
+    }
+}
+
+/// The rule that an assertion breaks, if it breaks one.
+fn broken(
+    measures: &mut Measures,
+    table: &Table,
+    assertion: Assertion,
+) -> Result<Option<Reason>, AllocError>
+    requires number { HasNumberBelow (length table.now) assertion }
+    requires right { AreMeasures table.now measures.old }
+    ensures ok { IfOk result (λ found. IsBrokenBy (assertion_in table.now assertion) found) }
+    ensures right { AreMeasures table.now measures.new }
+{
+    let Some(id) = assertion.term else {
+        return Ok(Some(Reason::Marked));
+    };
+    if measures.fits(table, id)? {
+        Ok(None)
+    } else {
+        Ok(Some(rule_of(measures, table, id)?))
+    }
+}
+
+/// Whether live assertions are inside the fragment, and where not, which rule the first of them outside breaks. Linear
+/// in the assertions up to that one, but that terms are measured which were not yet. `AllocError` only for want of
+/// memory.
+pub fn fragment(
+    measures: &mut Measures,
+    table: &Table,
+    live: &[Assertion],
+) -> Result<Standing, AllocError>
+    requires numbers { All (HasNumberBelow (length table.now)) live.now }
+    requires right { AreMeasures table.now measures.old }
+    ensures ok { IfOk result (λ standing. IsStanding (map (assertion_in table.now) live.now) standing) }
+    ensures right { AreMeasures table.now measures.new }
+{
+    for assertion in live {
+        if let Some(reason) = broken(measures, table, *assertion)? {
+            return Ok(Standing::Outside(reason));
+        }
+    }
+    Ok(Standing::Inside(Problem))
+}
