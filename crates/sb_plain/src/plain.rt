@@ -249,7 +249,7 @@ impl Plain {
         ensures elsewhere { (n : ℕ) → (n ≡ id → ⊥) → found self.new n c ≡ found self.old n c }
     {
         let targets = self.targets(parts, c)?;
-        let target = operation.make(arena, c, &targets)?;
+        let target = operation.make(self.allocator(), arena, c, &targets)?;
         let begin = self.stretch(id, c);
         self.derivatives.insert((id, begin), target)?;
         Ok(())
