@@ -11,6 +11,7 @@ returns-clause-ok c =
     rw (
       c.deref.ensures.value,
       intersection_same c.args.arena.now c.in_ok-members.members.items c.args.ids.now
-          c.intersection_of_members.ensures c.normal_regexes_each_once.ensures.normal c.in_ok-members.ensures c.requires,
+          c.intersection_of_members.ensures c.normal_regexes_each_once.ensures.normal c.in_ok-members.ensures
+          c.requires,
     ) at
     c.and.ensures.ok
