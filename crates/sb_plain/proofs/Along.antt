@@ -34,7 +34,8 @@ along_all rs r codes i rest l n = subst (λ (u : List ℕ). Names rs rest (nd_al
 
 pub code_below : (codes : List ℕ) (i : ℕ) → IsWord codes → i < length codes → get_or codes i 0 ≤ 0x2ffff
 code_below [] i w l = absurd (omega (arith, l))
-code_below (c ∷ cs) zero w l = let h = (and_parts (is_character c) (are_characters cs) w).0 in grind (arith, nat_tests, h)
+code_below (c ∷ cs) zero w l =
+    let h = (and_parts (is_character c) (are_characters cs) w).0 in grind (arith, nat_tests, h)
 code_below (c ∷ cs) (suc i) w l =
     code_below cs i (and_parts (is_character c) (are_characters cs) w).1 (omega (arith, l))
 

@@ -3,3 +3,4 @@ pub mod Shapes
 pub mod Waiting
 pub mod Remembering
 pub mod Along
+pub mod Runs

@@ -239,7 +239,8 @@ module _ (rs : List Regex) (m m1 m' : Memory) (id k : ℕ) (op : Operation) (par
             points = q.points;
           }
     ];
-    derivatives = λ n c t h. r.derivatives n c t (sym (ap (lookup (same_pair (n, c))) (l2 ∙ ap (λ x. x.1) grown.rest)) ∙ h);
+    derivatives = λ n c t h.
+        r.derivatives n c t (sym (ap (lookup (same_pair (n, c))) (l2 ∙ ap (λ x. x.1) grown.rest)) ∙ h);
   }
 
   pub points_elsewhere : (n : ℕ) → (n ≡ id → ⊥) → points_of m' n ≡ points_of m n
@@ -384,7 +385,8 @@ AreAllPlaces m parts places = All (λ n. (k : ℕ) → place_of m n ≡ Some k �
 lists_have : (P : List ℕ → Type 0) (m : Memory) (parts places : List ℕ) → AreAllPlaces m parts places
     → All (λ k. (l : List ℕ) → slice_get m.0 k ≡ Some l → P l) places
     → All (λ n. (l : List ℕ) → points_of m n ≡ Some l → P l) parts
-lists_have P m parts places a h = λ i d b l e. step (get_or parts i d) (a i d b) l (place_of m (get_or parts i d)) refl e
+lists_have P m parts places a h = λ i d b l e.
+    step (get_or parts i d) (a i d b) l (place_of m (get_or parts i d)) refl e
   where
     step : (n : ℕ) → ((k : ℕ) → place_of m n ≡ Some k → Covers places (k ∷ [])) → (l : List ℕ) (o : Option ℕ)
         → place_of m n ≡ o → option_and_then (slice_get m.0) o ≡ Some l → P l

@@ -137,7 +137,8 @@ lacking_falls f g x (suc n) s p q l = step (nat_lt x n) refl (lacking_falls f g 
     step true e k =
         let m : x < n = lt_tells x n e in
         let r : lacking g n < lacking f n = k m in
-        let t : ◌≡◌ {A = ℕ} (cond (g n) 0 1) (cond (f n) 0 1) = ap (λ b. cond b 0 1) (s n (λ z. absurd (omega (arith, m, z)))) in
+        let t : ◌≡◌ {A = ℕ} (cond (g n) 0 1) (cond (f n) 0 1) =
+        ap (λ b. cond b 0 1) (s n (λ z. absurd (omega (arith, m, z)))) in
         omega (arith, r, t)
     step false e k =
         let z : x ≡ n = grind (arith, nat_tests) in

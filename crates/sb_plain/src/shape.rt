@@ -1,11 +1,13 @@
 //! What the derivative of a regex is made from.
 
-ghost use Rattle.std.specs.Prelude.{◌≡◌, ◌<◌, ◌≤◌, length, IfOk};
+ghost use Rattle.std.specs.Prelude.{◌≡◌, ℕ, ◌<◌, ◌≤◌, Bool, true, length, IfOk};
+ghost use Rattle.std.specs.List.{list_any};
 ghost use Rattle.sb_class.specs.Ranges.{in_range, in_ranges};
-ghost use Rattle.sb_lang.specs.Constructors.{mknot};
+ghost use Rattle.sb_lang.specs.Constructors.{mkalt, mkand, mknot};
 ghost use Rattle.sb_regex.specs.Numbered.{regex_at, regexes_at, AllNumbers, Extends, Names};
 ghost use Rattle.sb_plain.specs.Making.{made, set_ranges, least_parts, OperandIsKnown, IsShape, IsShapeOfCat};
 
+use sb_lang::fold::{intersection_of_members, union_of_members};
 use sb_regex::{Arena, Node, RegexId};
 use std::alloc::{AllocError, Global};
 
@@ -88,10 +90,11 @@ impl Operation {
         }
     }
 
-    /// What is made by a character of these, the derivatives of the parts. One constructor, or two.
+    /// What is made by a character of these, the derivatives of the parts: one constructor, or two.
     #[tactic(auto, unfolding(crate::specs::Making::made, crate::specs::Making::least_parts))]
     pub(crate) fn make(
         &self,
+        alloc: Global,
         arena: &mut Arena,
         c: u32,
         ids: &[RegexId],
@@ -117,10 +120,57 @@ impl Operation {
                 let front = arena.cat(ids[0], *b)?;
                 arena.alt(&[front, ids[1]])
             }
-            Operation::Alt => arena.alt(ids),
-            Operation::And => arena.and(ids),
+            Operation::Alt => union_of(alloc, arena, ids),
+            Operation::And => intersection_of(alloc, arena, ids),
             Operation::Not => complement(arena, ids[0]),
         }
+    }
+}
+
+/// The union.
+fn union_of(alloc: Global, arena: &mut Arena, ids: &[RegexId]) -> Result<RegexId, AllocError>
+    requires { AllNumbers arena.old ids.now }
+    ensures ok { IfOk result (λ id. Names arena.new id (mkalt (regexes_at arena.old ids.now))) }
+    ensures extends { Extends arena.old arena.new }
+{
+    union_of_members();
+    arena.normal_regexes_each_once();
+    let members = without_runs(alloc, ids)?;
+    arena.alt(&members)
+}
+
+/// The intersection.
+fn intersection_of(alloc: Global, arena: &mut Arena, ids: &[RegexId]) -> Result<RegexId, AllocError>
+    requires { AllNumbers arena.old ids.now }
+    ensures ok { IfOk result (λ id. Names arena.new id (mkand (regexes_at arena.old ids.now))) }
+    ensures extends { Extends arena.old arena.new }
+{
+    intersection_of_members();
+    arena.normal_regexes_each_once();
+    let members = without_runs(alloc, ids)?;
+    arena.and(&members)
+}
+
+/// The numbers without those that are equal to the one before, as the many are that stand for none.
+fn without_runs(alloc: Global, ids: &[RegexId]) -> Result<Vec<RegexId>, AllocError>
+    ensures { IfOk result (λ some. (t : ℕ → Bool) → list_any t some.items ≡ list_any t ids.now) }
+{
+    let mut some = Vec::new(alloc);
+    for id in ids {
+        if !ends_with(&some, *id) {
+            some.push(*id)?;
+        }
+    }
+    Ok(some)
+}
+
+/// Whether a number is the last one.
+fn ends_with(ids: &[RegexId], id: RegexId) -> bool
+    ensures { result ≡ true → (t : ℕ → Bool) → t id ≡ true → list_any t ids.now ≡ true }
+{
+    match ids {
+        [] => false,
+        [.., last] => *last == id,
     }
 }
 

@@ -5,7 +5,8 @@ use Rattle.sb_plain.proofs.plain.Plain.place_for.Goals as goal
 
 pub returns-then-is_empty-clause-ok : goal.returns-then-is_empty-clause-ok
 returns-then-is_empty-clause-ok c =
-    let l = c.in_ok-places.ensures.within 0 c.index-place.result.now (omega (arith, c.if-len-eq1.true, c.len.ensures)) in
+    let l = c.in_ok-places.ensures.within 0 c.index-place.result.now
+    (omega (arith, c.if-len-eq1.true, c.len.ensures)) in
     one_place c.args.self.now c.args.operation.now c.args.parts.now c.in_ok-places.places.items c.index-place.result.now
     c.in_ok-places.ensures.all (omega (arith, c.if-len-eq1.true, c.len.ensures)) c.index-place.ensures
     (subst (λ (x : ℕ). x < length c.args.self.now.0) (sym c.index-place.ensures) l)

@@ -1,0 +1,17 @@
+use Rattle.sb_plain.proofs.Runs.{intersection_same, numbers_same}
+use Rattle.sb_plain.proofs.shape.intersection_of.Goals as goal
+
+pub and-requires : goal.and-requires
+and-requires c =
+    rw (c.deref.ensures.value)
+    (numbers_same c.args.arena.now c.in_ok-members.members.items c.args.ids.now c.in_ok-members.ensures c.requires)
+
+pub returns-clause-ok : goal.returns-clause-ok
+returns-clause-ok c =
+    rw (
+      c.deref.ensures.value,
+      intersection_same c.args.arena.now c.in_ok-members.members.items c.args.ids.now
+          c.intersection_of_members.ensures c.normal_regexes_each_once.ensures.normal c.in_ok-members.ensures
+          c.requires,
+    ) at
+    c.and.ensures.ok
