@@ -2,23 +2,16 @@
 use Rattle.std.specs.Prelude.{◌≡◌, ℕ, if◌then◌else◌, List, length, Option, Some, None}
 use Rattle.sb_lit.specs.declared.clause.Lit.{Lit}
 use Rattle.sb_lang.specs.Regex.{Regex}
-use Rattle.sb_meaning.specs.Terms.{Term, apply, no_terms, with_term}
-use Rattle.sb_meaning.specs.Terms as symbol
+use Rattle.sb_meaning.specs.Terms.{Term}
 use Rattle.sb_rulebook.specs.Atoms.{Atom}
 use Rattle.sb_rulebook.specs.Translation.{translation, positive}
 use Rattle.sb_script.specs.Brought.{is_membership}
-use Rattle.sb_problem.specs.Normals.{IsNumberOf}
 use Rattle.sb_atoms.specs.declared.atom.Atom as code
 use Rattle.sb_atoms.specs.Numbered.{atom_in, over, HasRegexBelow}
 
 -- The literal of a term that may be asserted so far; of another there is none.
 abbrev pub brought_translation : List Atom → Term → Option Lit
 brought_translation atoms t = if is_membership t then translation atoms t else None
-
--- of a membership, the number of its regular expression
-abbrev pub IsMemberRegex : List Regex → Term → Option ℕ → Type 0
-IsMemberRegex rs (apply symbol.str_in_re (with_term t (with_term R no_terms))) found = IsNumberOf rs R found
-IsMemberRegex rs _ found = Unit {0}
 
 -- the one atom that the term's literal speaks of; none where the term has no literal, whatever the table is
 abbrev pub IsAtomOf : List Regex → Term → Option code.Atom → Type 0

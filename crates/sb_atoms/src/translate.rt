@@ -4,8 +4,9 @@ ghost use Rattle.std.specs.Prelude.{◌≡◌, ◌<◌, true, List, length, IfOk
 ghost use Rattle.sb_lang.specs.Regex.{Regex};
 ghost use Rattle.sb_term.specs.Numbered.{term_at};
 ghost use Rattle.sb_fragment.specs.Measures.{AreMeasures};
+ghost use Rattle.sb_fragment.specs.Memberships.{IsMemberRegex};
 ghost use Rattle.sb_atoms.specs.Numbered.{atom_in, atoms_in, HaveRegexesBelow, Extends};
-ghost use Rattle.sb_atoms.specs.Translated.{brought_translation, IsMemberRegex, IsAtomOf};
+ghost use Rattle.sb_atoms.specs.Translated.{brought_translation, IsAtomOf};
 
 use crate::atom::{Atom, AtomId};
 use crate::table::Atoms;

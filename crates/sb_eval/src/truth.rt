@@ -1,0 +1,57 @@
+//! The truth of a term.
+
+ghost use Rattle.std.specs.Prelude.{◌≡◌, ◌<◌, true, length, Some, IfOk};
+ghost use Rattle.sb_meaning.specs.Values.{Valuation};
+ghost use Rattle.sb_meaning.specs.Truth.{holds};
+ghost use Rattle.sb_script.specs.Fragment.{is_inside};
+ghost use Rattle.sb_script.specs.State.{asserted};
+ghost use Rattle.sb_regex.specs.Numbered.{Extends};
+ghost use Rattle.sb_term.specs.Numbered.{term_at};
+ghost use Rattle.sb_plain.specs.Memory.{IsRight};
+ghost use Rattle.sb_fragment.specs.Memberships.{IsMemberRegex};
+ghost use Rattle.sb_eval.specs.Given.{GivesWords};
+
+use sb_fragment::membership;
+use sb_lang::derivative::nullable_has_empty_word;
+use sb_lang::normal::normal_has_terms_words;
+use sb_plain::Plain;
+use sb_regex::{Arena, RegexId};
+use sb_term::{Table, TermId};
+use sb_word::Word;
+use std::alloc::AllocError;
+
+/// Whether an assertion that is inside the fragment is true, where each String constant has the word at its serial, the
+/// empty word past the last one. `regex` is the number of the normal regex of its regular expression. Only words are
+/// values so far.
+///
+/// Its cost is that of [`Plain::matches`]. `AllocError` only for want of memory; the arena may hold more regexes then.
+pub fn eval(
+    plain: &mut Plain,
+    arena: &mut Arena,
+    table: &Table,
+    id: TermId,
+    regex: RegexId,
+    values: &[Word],
+) -> Result<bool, AllocError>
+    requires number { id < length table.now }
+    requires inside { is_inside (asserted (term_at table.now id)) ≡ true }
+    requires regex { IsMemberRegex arena.old (term_at table.now id) (Some regex) }
+    requires right { IsRight arena.old plain.old }
+    ensures ok { IfOk result
+        (λ truth. (v : Valuation) → GivesWords values.now v → truth ≡ holds (term_at table.now id) v) }
+    ensures extends { Extends arena.old arena.new }
+    ensures right { IsRight arena.new plain.new }
+{
+    normal_has_terms_words();
+    nullable_has_empty_word();
+    let Some((serial, _)) = membership(table, id) else {
+        return Ok(false);
+    };
+    match values.get(serial.0 as usize) {
+        Some(word) => {
+            let _codes = word.codes();
+            plain.matches(arena, word, regex)
+        }
+        None => Ok(arena.nullable(regex)),
+    }
+}
