@@ -142,7 +142,7 @@ fn scripts_and_the_examples_have_their_answers(rt: HostRuntime) -> Result<(), Fa
 
 fn expect_calmly(rt: &impl Abort, world: &mut CalmWorld, alloc: Global) -> Result<(), AllocError> {
     world.set_standard_input(SCRIPT)?;
-    let words = words(alloc, 1)?;
+    let words = words(alloc, &[])?;
     let status = solve_top(alloc, &words, world);
     assert_eq!(rt; status, SolveStatus::Done);
     assert_eq!(rt; world.written(OutPort::Answers), ANSWERS);

@@ -17,24 +17,24 @@ pub const ANSWERS: &[u8] = b"sat\n((x \"a\"))\n((define-fun x () String \"a\"))\
 /// A script and its answers.
 pub type Case = (&'static [u8], &'static [u8]);
 
-/// So many words, each of them the program's name.
-pub fn words(alloc: Global, count: usize) -> Result<Vec<String>, AllocError> {
+/// The program's name, and these words behind it.
+pub fn words(alloc: Global, behind: &[&str]) -> Result<Vec<String>, AllocError> {
     let mut words = Vec::new(alloc);
-    for _ in 0..count {
-        words.push(String::from_str(alloc, "strsolve")?)?;
+    words.push(String::from_str(alloc, "strsolve")?)?;
+    for word in behind {
+        words.push(String::from_str(alloc, word)?)?;
     }
     Ok(words)
 }
 
-/// Solves the script with so many words.
+/// Solves the script that standard input holds.
 pub fn solve(
     alloc: Global,
     world: &mut MemWorld,
     script: &[u8],
-    count: usize,
 ) -> Result<SolveStatus, AllocError> {
     world.set_standard_input(script)?;
-    let words = words(alloc, count)?;
+    let words = words(alloc, &[])?;
     Ok(solve_top(alloc, &words, world))
 }
 
@@ -62,7 +62,7 @@ fn expect_answers(
     answers: &[u8],
     wanted: SolveStatus,
 ) -> Result<(), AllocError> {
-    let status = solve(alloc, world, script, 1)?;
+    let status = solve(alloc, world, script)?;
     assert_eq!(rt; status, wanted);
     assert_eq!(rt; world.written(OutPort::Answers), answers);
     assert_eq!(rt; world.faults(), 0);
@@ -101,7 +101,7 @@ fn expect_front(
     answers: &[u8],
 ) -> Result<(), AllocError> {
     world.fail_at(call)?;
-    let status = solve(alloc, world, SCRIPT, 1)?;
+    let status = solve(alloc, world, SCRIPT)?;
     assert_eq!(rt; status, SolveStatus::Fault);
     assert_eq!(rt; world.written(OutPort::Answers), answers);
     assert_eq!(rt; world.calls(), call);

@@ -1,5 +1,5 @@
 -- A script is read piece by piece, and answered.
-use Rattle.std.proofs.Common.{◌≡◌, ◌+◌, ◌<◌, ◌≤◌, ℕ, Bool, false, List, [], ◌++◌, length, take, drop, Option, Some, None, option_map, IfSome, Result, Ok, Err, IfOk, OnErr, append_assoc, length-append, refl, sym, ap, ◌∙◌, subst, inl, inr}
+use Rattle.std.proofs.Common.{◌≡◌, ◌+◌, ◌^◌, ◌<◌, ◌≤◌, ℕ, Bool, false, List, [], ◌++◌, length, take, drop, Option, Some, None, option_map, IfSome, Result, Ok, Err, IfOk, OnErr, append_assoc, length-append, refl, sym, ap, ◌∙◌, subst, inl, inr}
 use Rattle.std.proofs.lemmas.Bool.{false≢true}
 use Rattle.std.proofs.lemmas.List.{append-nil, drop-drop, take-append-drop, take-append-le, length-take-le}
 use Rattle.sb_world.specs.Outside.{Outside, read_at, ReadsFront}
@@ -225,20 +225,30 @@ module _ (asked : Asked) (old : Outside) (bytes buffer rest : List ℕ) (count :
   pub longer : length (bytes ++ take count (buffer ++ rest)) ≡ length bytes + count
   longer = length-append bytes (take count (buffer ++ rest)) ∙ ap (λ (n : ℕ). length bytes + n) piece_length
 
--- what the end of the script gives
-pub end_ok : (asked : Asked) (r : Result SolveStatus SessionFault) (from read now : Outside) (kept : feed.Unanswered)
-    (session : SessionState)
-    → ((old : Outside) → from ≡ opened asked old → (bytes : List ℕ) × AllRead asked old bytes kept session read)
-    → IfOk r (λ status. (old : Outside) (bytes : List ℕ) → AllRead asked old bytes kept session read
-    → Run asked status old now)
-    → IfOk r (λ status. (old : Outside) → from ≡ opened asked old → Run asked status old now)
-end_ok asked (Err _) from read now kept session all h = tt
-end_ok asked (Ok _) from read now kept session all h = λ old e. h old (all old e).0 (all old e).1
+-- all of the script was read from what was opened
+abbrev pub Reached : Outside → Outside → feed.Unanswered → SessionState → Type 0
+Reached from read kept session = (asked : Asked) (old : Outside) → asked.limit ≡ 2 ^ 32 → from ≡ opened asked old
+    → (bytes : List ℕ) × AllRead asked old bytes kept session read
 
-pub end_err : (asked : Asked) (r : Result SolveStatus SessionFault) (from read now : Outside) (kept : feed.Unanswered)
+-- what the end of the script gives
+pub end_ok : (r : Result SolveStatus SessionFault) (from read now : Outside) (kept : feed.Unanswered)
     (session : SessionState)
-    → ((old : Outside) → from ≡ opened asked old → (bytes : List ℕ) × AllRead asked old bytes kept session read)
-    → OnErr r ((old : Outside) (bytes : List ℕ) → AllRead asked old bytes kept session read → CutShort asked old now)
-    → OnErr r ((old : Outside) → from ≡ opened asked old → CutShort asked old now)
-end_err asked (Ok _) from read now kept session all h = tt
-end_err asked (Err _) from read now kept session all h = λ old e. h old (all old e).0 (all old e).1
+    → Reached from read kept session
+    → IfOk r (λ status. (asked : Asked) (old : Outside) (bytes : List ℕ) → AllRead asked old bytes kept session read
+    → Run asked status old now)
+    → IfOk r (λ status. (asked : Asked) (old : Outside) → asked.limit ≡ 2 ^ 32 → from ≡ opened asked old
+    → Run asked status old now)
+end_ok (Err _) from read now kept session all h = tt
+end_ok (Ok _) from read now kept session all h =
+    λ asked old l e. h asked old (all asked old l e).0 (all asked old l e).1
+
+pub end_err : (r : Result SolveStatus SessionFault) (from read now : Outside) (kept : feed.Unanswered)
+    (session : SessionState)
+    → Reached from read kept session
+    → OnErr r ((asked : Asked) (old : Outside) (bytes : List ℕ) → AllRead asked old bytes kept session read
+    → CutShort asked old now)
+    → OnErr r ((asked : Asked) (old : Outside) → asked.limit ≡ 2 ^ 32 → from ≡ opened asked old
+    → CutShort asked old now)
+end_err (Ok _) from read now kept session all h = tt
+end_err (Err _) from read now kept session all h =
+    λ asked old l e. h asked old (all asked old l e).0 (all asked old l e).1

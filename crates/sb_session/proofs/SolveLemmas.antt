@@ -1,11 +1,12 @@
 -- From the outcome of a run to its status.
-use Rattle.std.proofs.Common.{◌≡◌, ◌+◌, ◌<◌, ◌≤◌, ◌⊎◌, ℕ, true, false, List, [], ◌∷◌, ◌++◌, length, take, drop, Option, Some, None, IfSome, Result, Ok, Err, IfOk, OnErr, append_assoc, length-append, refl, sym, ap, ◌∙◌, subst, inl, inr, arith}
+use Rattle.std.proofs.Common.{◌≡◌, ◌+◌, ◌<◌, ◌≤◌, ◌^◌, ◌⊎◌, ℕ, true, false, List, [], ◌∷◌, ◌++◌, length, take, drop, Option, Some, None, IfSome, Result, Ok, Err, IfOk, OnErr, append_assoc, length-append, refl, sym, ap, ◌∙◌, subst, inl, inr, arith}
 use Rattle.std.proofs.lemmas.Bool.{false≢true}
 use Rattle.std.proofs.lemmas.List.{take-append-drop, take-append-le}
 use Rattle.std.proofs.Math.Seq.{take-append_seam}
 use Rattle.sb_world.specs.Outside.{Outside, Rose, open_at, source_of}
-use Rattle.sb_world.specs.Moved.{Write}
+use Rattle.sb_world.specs.Moved.{Write, moved_by, writing}
 use Rattle.sb_world.specs.declared.InPort.TheVariants as in_port
+use Rattle.sb_world.specs.declared.OutPort.TheVariants as out_port
 use Rattle.sb_reader.specs.Entries.{Entry, Begins}
 use Rattle.sb_reader.proofs.CallerLemmas.{beginning_stays, beginning_is_first}
 use Rattle.sb_script.specs.State.{State, start}
@@ -16,7 +17,7 @@ use Rattle.sb_session.specs.declared.command.SessionFault.TheVariants as fault
 use Rattle.sb_session.specs.declared.solve.SolveStatus.{SolveStatus}
 use Rattle.sb_session.specs.declared.solve.SolveStatus.TheVariants.{Done, Unfinished, Usage, Fault, NoMemory, InputLimit}
 use Rattle.sb_session.specs.Commanding.{CountsSessionFault}
-use Rattle.sb_session.specs.Solve.{Asked, created, opened, Run, CountsFaults, CutShort, PastLimit, IsBounded}
+use Rattle.sb_session.specs.Solve.{Asked, created, opened, Run, CountsFaults, CutShort, CutInText, WrongWords, PastLimit, IsBounded}
 use Rattle.sb_session.specs.Reading.{GoesOn}
 use Rattle.sb_session.specs.Progress.{status_by}
 
@@ -37,17 +38,29 @@ counts_by P (Err fault.Ended) f g ok faults = faults
 
 -- a run from the outside that is opened is one from before
 pub run_from : (asked : Asked) (r : Result SolveStatus SessionFault) (old from now : Outside) (f g h : ℕ)
-    → from ≡ opened asked old → g ≡ f
-    → IfOk r (λ s. (o : Outside) → from ≡ opened asked o → Run asked s o now)
+    → asked.limit ≡ 2 ^ 32 → from ≡ opened asked old → g ≡ f
+    → IfOk r (λ s. (a : Asked) (o : Outside) → a.limit ≡ 2 ^ 32 → from ≡ opened a o → Run a s o now)
     → IfOk r (λ s. CountsFaults s g h) → IfOk r (λ s. Run asked s old now × CountsFaults s f h)
-run_from asked (Err _) old from now f g h e same run counts = tt
-run_from asked (Ok s) old from now f g h e same run counts =
-    (run old e, subst (λ (n : ℕ). CountsFaults s n h) same counts)
+run_from asked (Err _) old from now f g h l e same run counts = tt
+run_from asked (Ok s) old from now f g h l e same run counts =
+    (run asked old l e, subst (λ (n : ℕ). CountsFaults s n h) same counts)
 
-pub cut_from : (asked : Asked) (r : Result SolveStatus SessionFault) (old from now : Outside) → from ≡ opened asked old
-    → OnErr r ((o : Outside) → from ≡ opened asked o → CutShort asked o now) → OnErr r (CutShort asked old now)
-cut_from asked (Ok _) old from now e cut = tt
-cut_from asked (Err _) old from now e cut = cut old e
+pub cut_from : (asked : Asked) (r : Result SolveStatus SessionFault) (old from now : Outside) → asked.limit ≡ 2 ^ 32
+    → from ≡ opened asked old
+    → OnErr r ((a : Asked) (o : Outside) → a.limit ≡ 2 ^ 32 → from ≡ opened a o → CutShort a o now)
+    → OnErr r (CutShort asked old now)
+cut_from asked (Ok _) old from now l e cut = tt
+cut_from asked (Err _) old from now l e cut = cut asked old l e
+
+-- words that are not taken are answered by a text
+pub wrong_by : (text : List ℕ) (r : Result SolveStatus SessionFault) (old new : Outside) (f g : ℕ)
+    → IfOk r (λ s. (s ≡ Usage) × (new ≡ moved_by (writing (out_port.Faults, text)) old) × CountsFaults s f g)
+    → OnErr r (CutInText text old new) → WrongWords (status_by r) old new
+wrong_by text (Ok s) old new f g ok err =
+    subst (λ (status : SolveStatus). WrongWords status old new) (sym ok.0) (text, ok.1)
+wrong_by text (Err fault.Fault) old new f g ok err = (text, err)
+wrong_by text (Err fault.NoMemory) old new f g ok err = inr (text, err)
+wrong_by text (Err fault.Ended) old new f g ok err = inr (text, err)
 
 -- None of the entries that are answered is (exit).
 no_exit_among : (s : State) (before : List Entry) (entry : Entry) (behind : List Entry) (writes : List Write)

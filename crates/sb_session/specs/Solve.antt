@@ -1,15 +1,14 @@
 -- What a run of the solver does outside, by its status.
-use Rattle.std.specs.Prelude.{◌≡◌, ℕ, ◌^◌, ◌<◌, ◌≤◌, Bool, true, false, List, [], ◌∷◌, ◌++◌, ◌⊎◌, if◌then◌else◌, length, Option, None, Some, codes}
+use Rattle.std.specs.Prelude.{◌≡◌, ℕ, ◌^◌, ◌<◌, ◌≤◌, Bool, true, false, List, [], ◌∷◌, ◌++◌, ◌⊎◌, length, Option, None, Some}
 use Rattle.sb_world.specs.Outside.{Outside, open_at, create_at, source_of, Rose}
 use Rattle.sb_world.specs.Moved.{moved_by, writing}
 use Rattle.sb_world.specs.declared.InPort.TheVariants as in_port
 use Rattle.sb_world.specs.declared.OutPort.TheVariants as out_port
 use Rattle.sb_reader.specs.Tokens.{is_open_gap}
 use Rattle.sb_reader.specs.Entries.{Entry, Begins}
-use Rattle.sb_script.specs.Names.{is_name}
-use Rattle.sb_script.specs.Steps.{line}
 use Rattle.sb_script.specs.Replies.{is_exit}
 use Rattle.sb_script.specs.Scripts.{unfinished_line}
+use Rattle.sb_words.specs.Words.{script_of, proof_of}
 use Rattle.sb_session.specs.declared.solve.SolveStatus.{SolveStatus}
 use Rattle.sb_session.specs.declared.solve.SolveStatus.TheVariants.{Done, Unfinished, Usage, Fault, NoMemory, InputLimit}
 use Rattle.sb_session.specs.Commanding.{CutOf}
@@ -24,9 +23,13 @@ pub record Asked : Type 0 where
   -- a script of so many bytes is not read to its end
   pub limit : ℕ
 
--- what is asked where nothing else is said
-abbrev pub usual : Asked
-usual = record { script = None; proof = None; limit = 2 ^ 32 }
+-- what is asked by the names of a script and of a proof
+abbrev pub asked_for : Option (List ℕ) → Option (List ℕ) → Asked
+asked_for script proof = record { script = script; proof = proof; limit = 2 ^ 32 }
+
+-- what the program's words ask, where they are taken
+abbrev pub asked_by : List (List ℕ) → Asked
+asked_by words = asked_for (script_of words) (proof_of words)
 
 abbrev pub created : Option (List ℕ) → Outside → Outside
 created None o = o
@@ -95,27 +98,18 @@ Run asked Fault old new = CutShort asked old new
 Run asked NoMemory old new = CutShort asked old new
 Run asked Usage old new = ⊥
 
--- the version is asked for: behind the program's name there is one word, --version
-abbrev pub asks_version : List (List ℕ) → Bool
-asks_version (name ∷ word ∷ []) = is_name word (codes "--version")
-asks_version _ = false
-
--- what is said where there are other words than the program's name: the version where it is asked for, else the usage
-abbrev pub text_for : List (List ℕ) → List ℕ
-text_for words = if asks_version words then line (codes "strsolve 0.1.0") else line (codes "usage: strsolve")
-
 -- less than all of the text was written to standard error
 abbrev pub CutInText : List ℕ → Outside → Outside → Type 0
 CutInText text old new = CutOf ((out_port.Faults, text) ∷ []) old new
 
--- What a run with other words than the program's name does: it writes a text, and touches nothing else.
-abbrev pub WrongWords : List ℕ → SolveStatus → Outside → Outside → Type 0
-WrongWords text Usage old new = new ≡ moved_by (writing (out_port.Faults, text)) old
-WrongWords text Fault old new = CutInText text old new
-WrongWords text NoMemory old new = CutInText text old new
-WrongWords text Done old new = ⊥
-WrongWords text InputLimit old new = ⊥
-WrongWords text Unfinished old new = ⊥
+-- What a run does whose words are not taken: it writes a text to standard error, and touches nothing else.
+abbrev pub WrongWords : SolveStatus → Outside → Outside → Type 0
+WrongWords Usage old new = (text : List ℕ) × (new ≡ moved_by (writing (out_port.Faults, text)) old)
+WrongWords Fault old new = (text : List ℕ) × CutInText text old new
+WrongWords NoMemory old new = (new ≡ old) ⊎ ((text : List ℕ) × CutInText text old new)
+WrongWords Done old new = ⊥
+WrongWords InputLimit old new = ⊥
+WrongWords Unfinished old new = ⊥
 
 -- The count of faults rose where the status says so, and only there.
 abbrev pub CountsFaults : SolveStatus → ℕ → ℕ → Type 0

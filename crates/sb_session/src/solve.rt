@@ -1,45 +1,43 @@
 //! The top call of the solver.
 
-ghost use Rattle.std.specs.Prelude.{◌≡◌, ◌≢◌, ℕ, ◌<◌, ◌⊎◌, false, List, [], ◌++◌, length, map, string_bytes, codes, IfOk, OnErr, MatchOption};
-ghost use Rattle.sb_world.specs.Outside.{Outside, Rose, read_at};
+ghost use Rattle.std.specs.Prelude.{◌≡◌, ℕ, ◌^◌, ◌<◌, ◌⊎◌, true, false, List, [], ◌++◌, length, map, string_bytes, IfOk, OnOk, OnErr, MatchOption};
+ghost use Rattle.std.specs.Option.{option_copied};
+ghost use Rattle.sb_world.specs.Outside.{Outside, Rose, CountsFault, read_at};
+ghost use Rattle.sb_world.specs.Moved.{moved_by, writing};
 ghost use Rattle.sb_reader.specs.Feeding as feed;
-ghost use Rattle.sb_script.specs.Names.{is_name};
 ghost use Rattle.sb_script.specs.State.{start};
 ghost use Rattle.sb_stack.specs.Stacked.{state_of};
 ghost use Rattle.sb_stack.specs.Steps.{IsEntry};
+ghost use Rattle.sb_words.specs.Words.{are_taken};
 ghost use Rattle.sb_session.specs.Commanding.{CountsSessionFault};
 ghost use Rattle.sb_session.specs.Progress.{Sofar, status_by};
 ghost use Rattle.sb_session.specs.Reading.{Cut};
 ghost use Rattle.sb_session.specs.Pausing.{Pauses};
 ghost use Rattle.sb_session.specs.Underway.{Turns, StaysOpen, AllRead};
-ghost use Rattle.sb_session.specs.Solve.{Run, usual, WrongWords, CountsFaults, CutShort, CutInText, IsBounded, opened};
-ghost use Rattle.sb_session.specs.Solve as specs;
+ghost use Rattle.sb_session.specs.Solve.{Asked, asked_for, asked_by, created, opened, Run, WrongWords, CountsFaults, CutShort, CutInText, IsBounded};
 
 use crate::command::{Session, SessionFault, Went};
 use sb_reader::{Ending, Feed, Next};
-use sb_world::{InPort, OutPort, World, write_all};
+use sb_words::{NoRun, read_words};
+use sb_world::{InPort, OutPort, World, WorldError, write_all};
 use std::alloc::{AllocError, Global};
 
-/// How a run of the solver ended. The program's exit status is the number.
+/// How a run of the solver ended.
 #[derive(Clone, Copy, Debug, PartialEq, Eq)]
 pub enum SolveStatus {
     /// The script was read to its end, or to `(exit)`, and all of it is answered.
-    Done = 0,
+    Done,
     /// The script ended within a form.
-    Unfinished = 1,
-    /// The program's words are wrong.
-    Usage = 2,
+    Unfinished,
+    /// The program's words are wrong, or ask for a text.
+    Usage,
     /// The outside failed.
-    Fault = 3,
+    Fault,
     /// There was not enough memory.
-    NoMemory = 4,
+    NoMemory,
     /// So many bytes as the limit were read, and neither the script's end nor `(exit)`.
-    InputLimit = 5,
+    InputLimit,
 }
-
-const USAGE: &[u8] = b"usage: strsolve\n";
-
-const VERSION: &[u8] = b"strsolve 0.1.0\n";
 
 const UNFINISHED: &[u8] = b"(error \"unexpected end of input\")\n";
 
@@ -49,29 +47,32 @@ const INPUT_LIMIT: usize = 0x1_0000_0000;
 /// How many bytes are asked of the world at a time.
 const PIECE: usize = 0x1_0000;
 
-/// Answers the script that standard input holds. `words` are the program's words, its own name first. Other words get a
-/// text on standard error and nothing else: `--version` alone the program's version, any others the usage.
+/// Answers the script that the words ask for, `strsolve [--proof FILE] [SCRIPT]` with the program's name first: that of
+/// the file SCRIPT, or without one of standard input. The script is opened first, then FILE is created, then entries are
+/// answered. Words that are not taken get a text on standard error and nothing else, `--help` and `--version` too.
 ///
 /// After each read all whole commands in what was read are answered before the next read. The status is
-/// `Usage` where there is another word, `Fault` only where the world's count of faults rose, and `InputLimit`
+/// `Usage` where the words are not taken, `Fault` only where the world's count of faults rose, and `InputLimit`
 /// where `2^32` bytes of the script were read and neither its end nor `(exit)`. Where a fault or want of memory
 /// cuts the run short, the answers written are a prefix of all of them.
 pub fn solve_top<W: World>(alloc: Global, words: &[String], world: &mut W) -> SolveStatus
-    ensures usage { length words.now ≢ 1
-        → WrongWords (specs.text_for (map string_bytes words.now)) result (W.outside world.old) (W.outside world.new) }
-    ensures run { length words.now ≡ 1 → Run usual result (W.outside world.old) (W.outside world.new) }
+    ensures usage { are_taken (map string_bytes words.now) ≡ false
+        → WrongWords result (W.outside world.old) (W.outside world.new) }
+    ensures run { are_taken (map string_bytes words.now) ≡ true
+        → Run (asked_by (map string_bytes words.now)) result (W.outside world.old) (W.outside world.new) }
     ensures faults { CountsFaults result (W.faults world.old) (W.faults world.new) }
 
     // Nothing else than want of memory keeps a script whose end or exit is below the limit from being answered, where
     // no fault comes.
-    ensures complete { length words.now ≡ 1 → (Rose (W.faults world.old) (W.faults world.new) → ⊥)
-        → ((script : List ℕ) × IsBounded usual script (W.outside world.old)) → (result ≡ SolveStatus.Done)
-        ⊎ ((result ≡ SolveStatus.Unfinished) ⊎ (result ≡ SolveStatus.NoMemory)) }
+    ensures complete { are_taken (map string_bytes words.now) ≡ true
+        → (Rose (W.faults world.old) (W.faults world.new) → ⊥)
+        → ((script : List ℕ) × IsBounded (asked_by (map string_bytes words.now)) script (W.outside world.old))
+        → (result ≡ SolveStatus.Done) ⊎ ((result ≡ SolveStatus.Unfinished) ⊎ (result ≡ SolveStatus.NoMemory)) }
 {
-    if words.len() == 1 {
-        status_of(answer_standard_input(alloc, world))
-    } else {
-        status_of(refuse_words(text_for(words), world))
+    match read_words(alloc, words) {
+        Ok(asked) => status_of(answer_files(alloc, asked.script, asked.proof, world)),
+        Err(NoRun::Told(text)) => status_of(refuse_words(text.as_bytes(), world)),
+        Err(NoRun::NoMemory) => SolveStatus::NoMemory,
     }
 }
 
@@ -86,26 +87,10 @@ fn status_of(outcome: Result<SolveStatus, SessionFault>) -> SolveStatus
     }
 }
 
-/// What is said where there are other words than the program's name.
-fn text_for(words: &[String]) -> &'static [u8]
-    ensures { result.now ≡ specs.text_for (map string_bytes words.now) }
-{
-    if let [_, word] = words {
-        if asks_version(word) { VERSION } else { USAGE }
-    } else {
-        USAGE
-    }
-}
-
-fn asks_version(word: &str) -> bool
-    ensures { result ≡ is_name word.now (codes "--version") }
-{
-    word == "--version"
-}
-
 /// Writes the text to standard error.
 fn refuse_words<W: World>(text: &[u8], world: &mut W) -> Result<SolveStatus, SessionFault>
-    ensures ok { IfOk result (λ status. WrongWords text.now status (W.outside world.old) (W.outside world.new)
+    ensures ok { IfOk result (λ status. (status ≡ SolveStatus.Usage)
+        × (W.outside world.new ≡ moved_by (writing (OutPort.Faults, text.now)) (W.outside world.old))
         × CountsFaults status (W.faults world.old) (W.faults world.new)) }
     ensures err { OnErr result (CutInText text.now (W.outside world.old) (W.outside world.new)) }
     ensures faults { CountsSessionFault result (W.faults world.old) (W.faults world.new) }
@@ -114,17 +99,23 @@ fn refuse_words<W: World>(text: &[u8], world: &mut W) -> Result<SolveStatus, Ses
     Ok(SolveStatus::Usage)
 }
 
-/// Reads the script of standard input piece by piece, and answers it.
-fn answer_standard_input<W: World>(
+/// Opens the script of this name, or standard input, creates the proof where it has a name, and answers the script.
+fn answer_files<W: World>(
     alloc: Global,
+    script: Option<&str>,
+    proof: Option<&str>,
     world: &mut W,
 ) -> Result<SolveStatus, SessionFault>
-    ensures ok { IfOk result (λ status. Run usual status (W.outside world.old) (W.outside world.new)
+    ensures ok { IfOk result
+        (λ status. Run (asked_for (option_copied script.entry) (option_copied proof.entry)) status
+        (W.outside world.old) (W.outside world.new)
         × CountsFaults status (W.faults world.old) (W.faults world.new)) }
-    ensures err { OnErr result (CutShort usual (W.outside world.old) (W.outside world.new)) }
+    ensures err { OnErr result (CutShort (asked_for (option_copied script.entry) (option_copied proof.entry))
+        (W.outside world.old) (W.outside world.new)) }
     ensures faults { CountsSessionFault result (W.faults world.old) (W.faults world.new) }
 {
-    world.open_input(InPort::Script, None)?;
+    world.open_input(InPort::Script, script)?;
+    create_proof(proof, world)?;
     let mut buffer = empty_piece(alloc)?;
     answer_script(
         &mut buffer,
@@ -132,6 +123,18 @@ fn answer_standard_input<W: World>(
         &mut Session::new(alloc),
         world,
     )
+}
+
+/// Creates what takes the proof, where it has a name.
+fn create_proof<W: World>(name: Option<&str>, world: &mut W) -> Result<(), WorldError>
+    ensures created { OnOk result (W.outside world.new ≡ created (option_copied name.entry) (W.outside world.old)) }
+    ensures err { OnErr result (W.outside world.new ≡ W.outside world.old) }
+    ensures counts { CountsFault result (W.faults world.old) (W.faults world.new) }
+{
+    match name {
+        Some(_) => world.create_output(OutPort::Proof, name),
+        None => Ok(()),
+    }
 }
 
 /// Reads the script that is opened piece by piece, as much at a time as the buffer holds, and answers it.
@@ -145,11 +148,11 @@ fn answer_script<W: World>(
     requires feed { feed.old ≡ ([], false) }
     requires state { state_of session.old.stack ≡ start }
     requires goes_on { session.old.ended ≡ false }
-    ensures ok { IfOk result (λ status. (old : Outside) → W.outside world.old ≡ opened usual old
-        → Run usual status old (W.outside world.new)) }
+    ensures ok { IfOk result (λ status. (asked : Asked) (old : Outside) → asked.limit ≡ 2 ^ 32
+        → W.outside world.old ≡ opened asked old → Run asked status old (W.outside world.new)) }
     ensures counts { IfOk result (λ status. CountsFaults status (W.faults world.old) (W.faults world.new)) }
-    ensures err { OnErr result ((old : Outside) → W.outside world.old ≡ opened usual old
-        → CutShort usual old (W.outside world.new)) }
+    ensures err { OnErr result ((asked : Asked) (old : Outside) → asked.limit ≡ 2 ^ 32
+        → W.outside world.old ≡ opened asked old → CutShort asked old (W.outside world.new)) }
     ensures faults { CountsSessionFault result (W.faults world.old) (W.faults world.new) }
 {
     let mut count = 0;
@@ -292,13 +295,13 @@ fn answer_end<W: World>(
     world: &mut W,
 ) -> Result<SolveStatus, SessionFault>
     requires { session.old.ended ≡ false }
-    ensures ok { IfOk result (λ status. (old : Outside) (bytes : List ℕ)
-        → AllRead usual old bytes feed.old session.old (W.outside world.old)
-        → Run usual status old (W.outside world.new)) }
+    ensures ok { IfOk result (λ status. (asked : Asked) (old : Outside) (bytes : List ℕ)
+        → AllRead asked old bytes feed.old session.old (W.outside world.old)
+        → Run asked status old (W.outside world.new)) }
     ensures counts { IfOk result (λ status. CountsFaults status (W.faults world.old) (W.faults world.new)) }
-    ensures err { OnErr result ((old : Outside) (bytes : List ℕ)
-        → AllRead usual old bytes feed.old session.old (W.outside world.old)
-        → CutShort usual old (W.outside world.new)) }
+    ensures err { OnErr result ((asked : Asked) (old : Outside) (bytes : List ℕ)
+        → AllRead asked old bytes feed.old session.old (W.outside world.old)
+        → CutShort asked old (W.outside world.new)) }
     ensures faults { CountsSessionFault result (W.faults world.old) (W.faults world.new) }
 {
     feed.finish();

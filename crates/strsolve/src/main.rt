@@ -1,9 +1,13 @@
-//! `strsolve`: answers the SMT-LIB script that standard input holds, on standard output.
+//! `strsolve [--proof FILE] [SCRIPT]`: answers the SMT-LIB script of a file, or of standard input, on standard output.
 //!
 //! The exit status is 0 where the script is answered to its end or to `(exit)`, 1 where it ended within a form,
-//! 2 where the program's words are wrong, 3 where input or output failed, 4 where memory ran out, 5 where `2^32`
-//! bytes of the script were read without an end.
+//! 2 where the program's words are wrong or ask for a text, 3 where input or output failed, 4 where memory ran out,
+//! 5 where `2^32` bytes of the script were read without an end. For 2 to 5 standard error says why.
 #![tactic(auto)]
+
+ghost use Rattle.std.specs.Prelude.{◌≡◌};
+ghost use Rattle.std.specs.Process.{exit_status};
+ghost use Rattle.strsolve.specs.Exit.{number_of};
 
 use sb_session::{SolveStatus, solve_top};
 use std::env;
@@ -20,10 +24,27 @@ fn main(rt: HostRuntime) -> ExitCode {
         Ok(words) => solve_top(rt.alloc(), &words, &mut world),
         Err(status) => status,
     };
-    ExitCode::from(status as u8)
+    if let Some(why) = reason(status, &world) {
+        say(rt, why);
+    }
+    exit_code(status)
 }
 
-/// The program's words. There are none where one of them is no text, and so they are wrong.
+/// What the system is told of the run.
+pub fn exit_code(status: SolveStatus) -> ExitCode
+    ensures { exit_status result ≡ number_of status }
+{
+    ExitCode::from(match status {
+        SolveStatus::Done => 0,
+        SolveStatus::Unfinished => 1,
+        SolveStatus::Usage => 2,
+        SolveStatus::Fault => 3,
+        SolveStatus::NoMemory => 4,
+        SolveStatus::InputLimit => 5,
+    })
+}
+
+/// The program's words. Where one of them is no text that is said here.
 fn words(rt: HostRuntime) -> Result<Vec<String>, SolveStatus> {
     match env::args(&rt) {
         Ok(args) => match args.collect(rt.alloc()) {
@@ -31,6 +52,24 @@ fn words(rt: HostRuntime) -> Result<Vec<String>, SolveStatus> {
             Err(_) => Err(SolveStatus::NoMemory),
         },
         Err(error) if error.kind() == ErrorKind::OutOfMemory => Err(SolveStatus::NoMemory),
-        Err(_) => Ok(Vec::new(rt.alloc())),
+        Err(_) => {
+            say(rt, "a word is not UTF-8");
+            Err(SolveStatus::Usage)
+        }
     }
+}
+
+/// Why the run ended so, where nothing that was written says it.
+fn reason(status: SolveStatus, world: &StdWorld) -> Option<&str> {
+    match status {
+        SolveStatus::Done | SolveStatus::Unfinished | SolveStatus::Usage => None,
+        SolveStatus::Fault => Some(world.first_failure().unwrap_or("input or output failed")),
+        SolveStatus::NoMemory => Some("out of memory"),
+        SolveStatus::InputLimit => Some("the script has 2^32 bytes or more"),
+    }
+}
+
+/// Writes a line to standard error; that it fails changes nothing.
+fn say(rt: HostRuntime, what: &str) {
+    let _outcome = eprintln!(rt; "strsolve: {what}");
 }

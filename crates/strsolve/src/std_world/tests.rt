@@ -7,7 +7,7 @@ use std::{env, fs};
 fn expect_fault(world: &mut StdWorld, rt: &impl Abort) {
     let absent = world.open_input(InPort::Script, Some("no/such/file"));
     assert_eq!(rt; absent, Err(WorldError::Failed));
-    assert_eq!(rt; world.faults, 1);
+    assert_eq!(rt; world.failures.count, 1);
 }
 
 fn write_both<W: World>(world: &mut W, name: &str) -> Result<(), WorldError> {
@@ -30,7 +30,7 @@ fn expect_kept(world: &mut StdWorld, rt: &impl Abort, name: &str) -> Result<(), 
     expect_fault(world, rt);
     write_both(world, name)?;
     expect_read(world, rt, name)?;
-    assert_eq!(rt; world.faults, 1);
+    assert_eq!(rt; world.failures.count, 1);
     Ok(())
 }
 

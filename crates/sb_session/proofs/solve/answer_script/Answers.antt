@@ -4,7 +4,7 @@ use Rattle.sb_reader.specs.Feeding as feed
 use Rattle.sb_session.specs.declared.solve.Pause.{Pause}
 use Rattle.sb_session.specs.declared.solve.Pause.TheVariants.{Exited}
 use Rattle.sb_session.specs.Pausing.{Pauses}
-use Rattle.sb_session.specs.Solve.{usual, opened}
+use Rattle.sb_session.specs.Solve.{opened}
 use Rattle.sb_session.proofs.ScriptLemmas.{underway_start, underway_cut, all_read, piece_front, piece_moved, longer, piece_cut, piece_exit, piece_on, stays_open, past_limit, end_ok, end_err}
 use Rattle.sb_session.proofs.solve.answer_script.Goals as goal
 
@@ -14,10 +14,10 @@ loop-count-init g c = record {
   goes_on = ap (λ (k : feed.Unanswered). k.1) c.requires.feed;
   session_goes_on = c.requires.goes_on;
   faults = refl;
-  underway = λ old e. (
+  underway = λ asked old l e. (
     [],
     refl,
-    underway_start usual old (g.W.World.outside c.args.world.now) c.args.feed.now c.args.session.now e c.requires.feed
+    underway_start asked old (g.W.World.outside c.args.world.now) c.args.feed.now c.args.session.now e c.requires.feed
         c.requires.state c.requires.goes_on,
   );
 }
@@ -26,15 +26,15 @@ pub returns-in_err-read-clause-err : goal.returns-in_err-read-clause-err
 returns-in_err-read-clause-err g c =
     let p = err_from_is_err_and c.from_residual.result c.from_residual.ensures.1 in
     rw p.1
-    (λ old e.
-    let way = c.loop-count.invariant.underway old e in
-    underway_cut usual old way.0 c.loop-count.feed c.loop-count.session (g.W.World.outside c.loop-count.world)
+    (λ asked old l e.
+    let way = c.loop-count.invariant.underway asked old l e in
+    underway_cut asked old way.0 c.loop-count.feed c.loop-count.session (g.W.World.outside c.loop-count.world)
     (g.W.World.outside c.read.new.self) way.2 c.in_err-read.ensures.err)
 
 pub returns-clause-ok : goal.returns-clause-ok
-returns-clause-ok g c old e =
-    let way = c.loop-count.invariant.underway old e in
-    past_limit usual old way.0 c.loop-count.feed c.loop-count.session (g.W.World.outside c.loop-count.world)
+returns-clause-ok g c asked old l e =
+    let way = c.loop-count.invariant.underway asked old l e in
+    past_limit asked old way.0 c.loop-count.feed c.loop-count.session (g.W.World.outside c.loop-count.world)
     (let h = way.1 in
     omega arith) way.2
 
@@ -42,12 +42,12 @@ pub returns-then-read-eq0-clause-ok : goal.returns-then-read-eq0-clause-ok
 returns-then-read-eq0-clause-ok g c =
     let before = g.W.World.outside c.loop-count.world in
     let now = g.W.World.outside c.read.new.self in
-    end_ok usual c.answer_end.result (g.W.World.outside c.args.world.now) now (g.W.World.outside c.answer_end.new.world)
+    end_ok c.answer_end.result (g.W.World.outside c.args.world.now) now (g.W.World.outside c.answer_end.new.world)
     c.loop-count.feed c.loop-count.session
-    (λ old e.
-    let way = c.loop-count.invariant.underway old e in (
+    (λ asked old l e.
+    let way = c.loop-count.invariant.underway asked old l e in (
       way.0,
-      all_read usual old way.0 c.read.new.buffer c.in_ok-read.read c.loop-count.feed c.loop-count.session before now
+      all_read asked old way.0 c.read.new.buffer c.in_ok-read.read c.loop-count.feed c.loop-count.session before now
           c.if-read-eq0.true (let h = way.1 in omega arith) way.2 c.in_ok-read.ensures.moved c.in_ok-read.ensures.bytes,
     ))
     c.answer_end.ensures.ok
@@ -56,13 +56,13 @@ pub returns-then-read-eq0-clause-err : goal.returns-then-read-eq0-clause-err
 returns-then-read-eq0-clause-err g c =
     let before = g.W.World.outside c.loop-count.world in
     let now = g.W.World.outside c.read.new.self in
-    end_err usual c.answer_end.result (g.W.World.outside c.args.world.now) now
+    end_err c.answer_end.result (g.W.World.outside c.args.world.now) now
     (g.W.World.outside c.answer_end.new.world)
     c.loop-count.feed c.loop-count.session
-    (λ old e.
-    let way = c.loop-count.invariant.underway old e in (
+    (λ asked old l e.
+    let way = c.loop-count.invariant.underway asked old l e in (
       way.0,
-      all_read usual old way.0 c.read.new.buffer c.in_ok-read.read c.loop-count.feed c.loop-count.session before now
+      all_read asked old way.0 c.read.new.buffer c.in_ok-read.read c.loop-count.feed c.loop-count.session before now
           c.if-read-eq0.true (let h = way.1 in omega arith) way.2 c.in_ok-read.ensures.moved c.in_ok-read.ensures.bytes,
     ))
     c.answer_end.ensures.err
@@ -77,17 +77,17 @@ returns-in_err-answer_piece-clause-err g c =
     let count = c.in_ok-read.read in
     let fits : count ≤ length buffer = search rules in
     rw p.1
-    (λ old e.
-    let way = c.loop-count.invariant.underway old e in
-    piece_cut usual old (way.0 ++ take count (buffer ++ rest)) (g.W.World.outside c.answer_piece.new.world)
-    (piece_front usual old way.0 buffer rest count c.loop-count.feed c.loop-count.session before fits way.2
+    (λ asked old l e.
+    let way = c.loop-count.invariant.underway asked old l e in
+    piece_cut asked old (way.0 ++ take count (buffer ++ rest)) (g.W.World.outside c.answer_piece.new.world)
+    (piece_front asked old way.0 buffer rest count c.loop-count.feed c.loop-count.session before fits way.2
     c.in_ok-read.ensures.bytes)
-    (c.in_err-answer_piece.ensures.err (opened usual old) way.0 before way.2.left.sofar
-    (piece_moved usual old way.0 buffer rest count c.loop-count.feed c.loop-count.session before fits way.2
+    (c.in_err-answer_piece.ensures.err (opened asked old) way.0 before way.2.left.sofar
+    (piece_moved asked old way.0 buffer rest count c.loop-count.feed c.loop-count.session before fits way.2
     c.in_ok-read.ensures.bytes (g.W.World.outside c.read.new.self) c.in_ok-read.ensures.moved)))
 
 pub returns-then-eq-clause-ok : goal.returns-then-eq-clause-ok
-returns-then-eq-clause-ok g c old e =
+returns-then-eq-clause-ok g c asked old l e =
     let before = g.W.World.outside c.loop-count.world in
     let now = g.W.World.outside c.answer_piece.new.world in
     let buffer = c.read.new.buffer in
@@ -95,21 +95,21 @@ returns-then-eq-clause-ok g c old e =
     let count = c.in_ok-read.read in
     let fits : count ≤ length buffer = search rules in
     let exits : c.in_ok-answer_piece.field-0 ≡ Exited = search rules in
-    let way = c.loop-count.invariant.underway old e in
+    let way = c.loop-count.invariant.underway asked old l e in
     let room : count ≤ c.min-room.result = search rules in
-    let limit : length way.0 + count ≤ usual.limit = let h = way.1 in omega arith in
-    let e = longer usual old way.0 buffer rest count c.loop-count.feed c.loop-count.session before fits way.2
+    let limit : length way.0 + count ≤ asked.limit = let h = way.1 in omega arith in
+    let e = longer asked old way.0 buffer rest count c.loop-count.feed c.loop-count.session before fits way.2
     c.in_ok-read.ensures.bytes in
-    piece_exit usual old (way.0 ++ take count (buffer ++ rest)) c.answer_piece.new.feed.1 now
+    piece_exit asked old (way.0 ++ take count (buffer ++ rest)) c.answer_piece.new.feed.1 now
     c.in_ok-answer_piece.ensures.finished
-    (piece_front usual old way.0 buffer rest count c.loop-count.feed c.loop-count.session before fits way.2
+    (piece_front asked old way.0 buffer rest count c.loop-count.feed c.loop-count.session before fits way.2
     c.in_ok-read.ensures.bytes)
     (omega arith)
-    (subst (λ (pause : Pause). Pauses pause (opened usual old) (way.0 ++ take count (buffer
+    (subst (λ (pause : Pause). Pauses pause (opened asked old) (way.0 ++ take count (buffer
     ++ rest)) c.answer_piece.new.feed
     c.answer_piece.new.session now) exits
-    (c.in_ok-answer_piece.ensures.ok (opened usual old) way.0 before way.2.left.sofar
-    (piece_moved usual old way.0 buffer rest count c.loop-count.feed c.loop-count.session before fits way.2
+    (c.in_ok-answer_piece.ensures.ok (opened asked old) way.0 before way.2.left.sofar
+    (piece_moved asked old way.0 buffer rest count c.loop-count.feed c.loop-count.session before fits way.2
     c.in_ok-read.ensures.bytes (g.W.World.outside c.read.new.self) c.in_ok-read.ensures.moved)))
 
 pub loop-count-preserved : goal.loop-count-preserved
@@ -127,18 +127,18 @@ loop-count-preserved g c =
       session_goes_on = stays_open c.in_ok-answer_piece.field-0 c.answer_piece.new.session ne
           c.in_ok-answer_piece.ensures.goes_on;
       faults = c.in_ok-answer_piece.ensures.faults ∙ c.in_ok-read.ensures.counts ∙ c.loop-count.invariant.faults;
-      underway = λ old e.
-          let way = c.loop-count.invariant.underway old e in
-          let front = piece_front usual old way.0 buffer rest count c.loop-count.feed c.loop-count.session before fits
+      underway = λ asked old l e.
+          let way = c.loop-count.invariant.underway asked old l e in
+          let front = piece_front asked old way.0 buffer rest count c.loop-count.feed c.loop-count.session before fits
           way.2 c.in_ok-read.ensures.bytes in (
             way.0 ++ take count (buffer ++ rest),
-            longer usual old way.0 buffer rest count c.loop-count.feed c.loop-count.session before fits way.2
+            longer asked old way.0 buffer rest count c.loop-count.feed c.loop-count.session before fits way.2
                 c.in_ok-read.ensures.bytes ∙ ap (λ (n : ℕ). n + count) way.1,
-            piece_on c.in_ok-answer_piece.field-0 usual old
+            piece_on c.in_ok-answer_piece.field-0 asked old
                 (way.0 ++ take count (buffer ++ rest)) c.answer_piece.new.feed
                 c.answer_piece.new.session now ne c.in_ok-answer_piece.ensures.finished front
-                (c.in_ok-answer_piece.ensures.ok (opened usual old) way.0 before way.2.left.sofar
-                (piece_moved usual old way.0 buffer rest count c.loop-count.feed c.loop-count.session before fits way.2
+                (c.in_ok-answer_piece.ensures.ok (opened asked old) way.0 before way.2.left.sofar
+                (piece_moved asked old way.0 buffer rest count c.loop-count.feed c.loop-count.session before fits way.2
                 c.in_ok-read.ensures.bytes (g.W.World.outside c.read.new.self) c.in_ok-read.ensures.moved)),
           );
     }

@@ -1,22 +1,22 @@
 -- so many bytes are read, all whole entries in them are answered, and nothing else was done
-use Rattle.std.proofs.Common.{◌≡◌, ◌≤◌, ◌-◌, ℕ, false, List, length}
+use Rattle.std.proofs.Common.{◌≡◌, ◌≤◌, ◌-◌, ◌^◌, ℕ, false, List, length}
 use Rattle.sb_world.specs.Outside.{Outside}
-use Rattle.sb_session.specs.Solve.{usual, opened}
+use Rattle.sb_session.specs.Solve.{Asked, opened}
 use Rattle.sb_session.specs.Underway.{Underway}
 use Rattle.sb_session.proofs.solve.answer_script.Given as goal
 
 abbrev pub invariant-loop-count : goal.invariant-loop-count
 invariant-loop-count g l =
     record {
-      within : l.count ≤ usual.limit;
+      within : l.count ≤ 2 ^ 32;
       goes_on : l.feed.1 ≡ false;
       session_goes_on : l.session.ended ≡ false;
       faults : g.W.World.faults l.world ≡ g.W.World.faults l.fn.world;
       underway :
-          (old : Outside) → g.W.World.outside l.fn.world ≡ opened usual old
+          (asked : Asked) (old : Outside) → asked.limit ≡ 2 ^ 32 → g.W.World.outside l.fn.world ≡ opened asked old
           → (bytes : List ℕ) × (length bytes ≡ l.count)
-          × Underway usual old bytes l.feed l.session (g.W.World.outside l.world);
+          × Underway asked old bytes l.feed l.session (g.W.World.outside l.world);
     }
 
 abbrev pub decreases-loop-count : goal.decreases-loop-count
-decreases-loop-count g l = usual.limit - l.count
+decreases-loop-count g l = 2 ^ 32 - l.count
