@@ -35,7 +35,7 @@ barren_along rs dead barren (c ∷ v) n q names m is =
     barren_along rs dead barren v k.number (nd q c) names' k.marked p.1
 
 -- a word is in the language where the derivative along it has the empty word
-member_along : NullableHasEmptyWord → DerivativeAlongHasRests → (q : Regex) (v : List ℕ)
+pub member_along : NullableHasEmptyWord → DerivativeAlongHasRests → (q : Regex) (v : List ℕ)
     → nullable (nd_along q v) ≡ language q v
 member_along empty along q v = empty (nd_along q v) ∙ along q v [] ∙ ap (language q) (append-nil v)
 
@@ -78,7 +78,7 @@ module _ (rs : List Regex) (root : ℕ) (dead : List Bool) (es : List Entry) (pl
       by (inr m) = named_nullable rs v.number q v.names (ap (λ n. nullable (regex_at rs n)) (sym m.is)
           ∙ tested m.place m.within m.soon)
 
-  rejected : (v : List ℕ) (q : Regex) (b : ℕ) → IsWord v
+  pub rejected : (v : List ℕ) (q : Regex) (b : ℕ) → IsWord v
       → ((j : ℕ) → j < length es → rank_at s.words j * 0x30000 ≤ rank_from b v → j < place)
       → ((j : ℕ) → j < length es → rank_at s.words j ≤ rank_from b v → nullable (regex_at rs (regex_of es j)) ≡ false)
       → IsCovered rs dead es s.words q b → nullable (nd_along q v) ≡ false
@@ -90,7 +90,7 @@ module _ (rs : List Regex) (root : ℕ) (dead : List Bool) (es : List Entry) (pl
       rejected v (nd q c) (b * 0x30000 + c) p.1 below tested
       (covered_next q b c p.0 (λ j h l. below j h (omega (arith, l, g))) k)
 
-  root_covered : IsCovered rs dead es s.words (regex_at rs root) 1
+  pub root_covered : IsCovered rs dead es s.words (regex_at rs root) 1
   unfolding nd_along rank_from
   root_covered = record {
     number = regex_of es 0;
