@@ -13,14 +13,14 @@ use Rattle.sb_lang.specs.Language.{language}
 use Rattle.sb_lang.specs.Languages.{Language}
 use Rattle.sb_regex.specs.Numbered.{regex_at, Names, Extends}
 use Rattle.sb_regex.proofs.CallerLemmas.{at_kept, names_kept}
-use Rattle.sb_graph.specs.Queue.{Entry, regex_of, word_at, AreWords}
 use Rattle.sb_graph.specs.Findings.{AreBarren}
 use Rattle.sb_graph.specs.declared.graph.Explored.{Explored}
 use Rattle.sb_graph.specs.declared.graph.Explored.TheVariants.{Alive, Dead}
 use Rattle.sb_graph.specs.Witness.{shortlex, IsFinding, ComesBefore, Precedes, IsReachedBy, GoesOn}
-use Rattle.sb_graph.specs.Search.{rank, rank_at, IsSearched, IsTaken, IsFound, IsUnderWay}
+use Rattle.sb_graph.specs.Search.{IsSearched, IsTaken, IsFound, IsUnderWay}
 use Rattle.sb_graph.proofs.Ranks.{shortlex_rank}
 use Rattle.sb_graph.proofs.Ends.{member_along, rejected, root_covered}
+use Rattle.sb_witness.specs.Queue.{Entry, regex_of, word_at, AreWords, rank, rank_at}
 
 pub goes_on_same : (P : ℕ → Type 0) (old new : List ℕ) → new ≡ old → GoesOn P old new
 goes_on_same P old new e = record { more = []; is = e ∙ sym (append-nil old); each = All-nil P }

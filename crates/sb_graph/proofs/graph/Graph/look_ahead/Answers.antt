@@ -1,7 +1,7 @@
 use Rattle.std.proofs.Common.{ap, ◌∙◌}
-use Rattle.sb_graph.specs.Queue.{with_entry}
 use Rattle.sb_graph.proofs.Steps.{started}
 use Rattle.sb_graph.proofs.graph.Graph.look_ahead.Goals as goal
+use Rattle.sb_witness.specs.Queue.{with_entry}
 
 pub sweep-requires-clause-start : goal.sweep-requires-clause-start
 sweep-requires-clause-start c =
