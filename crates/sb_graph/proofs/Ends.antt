@@ -11,11 +11,11 @@ use Rattle.sb_lang.specs.DerivativeLaws.{NullableHasEmptyWord, DerivativeAlongHa
 use Rattle.sb_regex.specs.Numbered.{regex_at, Names}
 use Rattle.sb_regex.proofs.CallerLemmas.{names_at, names_below, names_from}
 use Rattle.sb_graph.specs.Findings.{is_marked, IsBarren, AreBarren}
-use Rattle.sb_graph.specs.Queue.{Entry, regex_of, has_regex, word_at, AreWords}
 use Rattle.sb_lang.specs.Least.{IsShortestLeast, HasNoWord}
-use Rattle.sb_graph.specs.Search.{rank_from, rank, rank_at, IsMetBy, IsCovered, IsSearched, IsFound, AreMarked}
-use Rattle.sb_graph.proofs.Ranks.{rank_grows, rank_short, rank_least}
+use Rattle.sb_graph.specs.Search.{IsMetBy, IsCovered, IsSearched, IsFound, AreMarked}
 use Rattle.sb_graph.proofs.Growing.{covered_later}
+use Rattle.sb_witness.specs.Queue.{Entry, regex_of, has_regex, word_at, AreWords, rank_from, rank, rank_at}
+use Rattle.sb_witness.proofs.CallerLemmas.{rank_grows, rank_short, rank_least}
 
 -- Regexes with marks have no word.
 
@@ -35,7 +35,7 @@ barren_along rs dead barren (c ∷ v) n q names m is =
     barren_along rs dead barren v k.number (nd q c) names' k.marked p.1
 
 -- a word is in the language where the derivative along it has the empty word
-member_along : NullableHasEmptyWord → DerivativeAlongHasRests → (q : Regex) (v : List ℕ)
+pub member_along : NullableHasEmptyWord → DerivativeAlongHasRests → (q : Regex) (v : List ℕ)
     → nullable (nd_along q v) ≡ language q v
 member_along empty along q v = empty (nd_along q v) ∙ along q v [] ∙ ap (language q) (append-nil v)
 
@@ -78,7 +78,7 @@ module _ (rs : List Regex) (root : ℕ) (dead : List Bool) (es : List Entry) (pl
       by (inr m) = named_nullable rs v.number q v.names (ap (λ n. nullable (regex_at rs n)) (sym m.is)
           ∙ tested m.place m.within m.soon)
 
-  rejected : (v : List ℕ) (q : Regex) (b : ℕ) → IsWord v
+  pub rejected : (v : List ℕ) (q : Regex) (b : ℕ) → IsWord v
       → ((j : ℕ) → j < length es → rank_at s.words j * 0x30000 ≤ rank_from b v → j < place)
       → ((j : ℕ) → j < length es → rank_at s.words j ≤ rank_from b v → nullable (regex_at rs (regex_of es j)) ≡ false)
       → IsCovered rs dead es s.words q b → nullable (nd_along q v) ≡ false
@@ -90,7 +90,7 @@ module _ (rs : List Regex) (root : ℕ) (dead : List Bool) (es : List Entry) (pl
       rejected v (nd q c) (b * 0x30000 + c) p.1 below tested
       (covered_next q b c p.0 (λ j h l. below j h (omega (arith, l, g))) k)
 
-  root_covered : IsCovered rs dead es s.words (regex_at rs root) 1
+  pub root_covered : IsCovered rs dead es s.words (regex_at rs root) 1
   unfolding nd_along rank_from
   root_covered = record {
     number = regex_of es 0;

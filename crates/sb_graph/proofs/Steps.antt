@@ -1,24 +1,22 @@
 -- The steps of the functions, over lists.
-use Rattle.std.proofs.Common.{◌≡◌, ℕ, zero, suc, ◌+◌, ◌<◌, ◌≤◌, Bool, true, false, cond, ◌||◌, nat_eq, is_some, unwrap_or, Some, List, [], ◌∷◌, ◌++◌, length, get_or, set, take, drop, replicate, map, reverse, slice_get, refl, sym, ap, subst, ◌∙◌, arith}
+use Rattle.std.proofs.Common.{◌≡◌, ℕ, zero, suc, ◌+◌, ◌<◌, ◌≤◌, Bool, true, false, cond, ◌||◌, nat_eq, is_some, unwrap_or, Some, List, [], ◌∷◌, ◌++◌, length, get_or, set, take, drop, replicate, map, refl, sym, ap, subst, ◌∙◌, arith}
 use Rattle.std.proofs.Math.Bool.{or-false, or-true}
-use Rattle.std.proofs.lemmas.Bool.{and_parts, true≢false, false_from_ne_true}
+use Rattle.std.proofs.lemmas.Bool.{true≢false, false_from_ne_true}
 use Rattle.std.proofs.lemmas.Bool.Decides.{nat_tests}
-use Rattle.std.proofs.lemmas.List.{at_drop_more, at_drop_all, get_or-set_same, get_or-set_other, length-set, append_assoc, reverse-append}
-use Rattle.std.proofs.lemmas.Grind.{get_or_default_zero}
-use Rattle.std.proofs.lemmas.Option.{get_or_from_slice_get}
+use Rattle.std.proofs.lemmas.List.{at_drop_more, at_drop_all, get_or-set_same, get_or-set_other, length-set}
 use Rattle.std.specs.List.{list_any}
-use Rattle.indexmap.specs.IndexMap.{insert_entry}
 use Rattle.std.specs.Map.{lookup}
-use Rattle.sb_word.specs.Words.{is_character, are_characters, IsWord}
+use Rattle.sb_word.specs.Words.{IsWord}
 use Rattle.sb_lang.specs.Regex.{Regex}
-use Rattle.sb_lang.specs.Derivative.{nullable, nd_along}
+use Rattle.sb_lang.specs.Derivative.{nd_along}
 use Rattle.sb_lang.specs.Language.{language}
 use Rattle.sb_lang.specs.Least.{IsShortestLeast}
 use Rattle.sb_regex.specs.Numbered.{regex_at, Names}
 use Rattle.sb_regex.proofs.CallerLemmas.{names_from}
 use Rattle.sb_graph.specs.Findings.{Findings, Answers, is_marked, answer_of, is_settled, IsAnswer, AreAnswers}
-use Rattle.sb_graph.specs.Queue.{Entry, entry_at, regex_of, has_regex, with_entry, visited, with_marks, word_at, AreWords, LeadsBy}
-use Rattle.sb_graph.specs.Search.{rank_from, rank_at, AreTested, IsSearched, AreMarked}
+use Rattle.sb_graph.specs.Queue.{visited, with_marks}
+use Rattle.sb_graph.specs.Search.{IsSearched, AreMarked}
+use Rattle.sb_witness.specs.Queue.{Entry, regex_of, has_regex, with_entry, word_at, rank_from, rank_at}
 
 -- The queue.
 
@@ -30,33 +28,6 @@ found_or_not n (e ∷ es) = by (nat_eq n e.0) (found_or_not n es)
         → is_some (cond b (Some e.1) (lookup (nat_eq n) es)) ≡ (b || has_regex es n)
     by true h = refl
     by false h = h
-
-inserted_new : (n : ℕ) (v : ℕ × ℕ) (es : List Entry) → has_regex es n ≡ false
-    → insert_entry nat_eq es n v ≡ es ++ (n, v) ∷ []
-inserted_new n v [] h = refl
-inserted_new n v (e ∷ es) h = by (nat_eq n e.0) h (inserted_new n v es)
-  where
-    by : (b : Bool) → (b || has_regex es n) ≡ false
-        → (has_regex es n ≡ false → insert_entry nat_eq es n v ≡ es ++ (n, v) ∷ []) →
-        cond b ((e.0, v) ∷ es) (e ∷ insert_entry nat_eq es n v) ≡ e ∷ (es ++ (n, v) ∷ [])
-    by true h rest = absurd (true≢false h)
-    by false h rest = ap (λ es. e ∷ es) (rest h)
-
-pub put_new : (old es after : List Entry) (n : ℕ) (v : ℕ × ℕ) → es ≡ old → is_some (lookup (nat_eq n) es) ≡ false
-    → after ≡ insert_entry nat_eq es n v → after ≡ with_entry old (n, v)
-put_new old es after n v is h e =
-    let f = sym (found_or_not n es) ∙ h in
-    e ∙ inserted_new n v es f ∙ ap (λ es. es ++ (n, v) ∷ []) is
-    ∙ sym (ap (λ b. cond b old (old ++ (n, v) ∷ [])) (ap (λ es. has_regex es n) (sym is) ∙ f))
-
-pub put_old : (old es : List Entry) (n : ℕ) (v : ℕ × ℕ) → es ≡ old → is_some (lookup (nat_eq n) es) ≡ true
-    → old ≡ with_entry old (n, v)
-put_old old es n v is h =
-    let f = sym (found_or_not n es) ∙ h in
-    sym (ap (λ b. cond b old (old ++ (n, v) ∷ [])) (ap (λ es. has_regex es n) (sym is) ∙ f))
-
-pub entry_is : (es : List Entry) (k : ℕ) (e : Entry) → slice_get es k ≡ Some e → entry_at es k ≡ e
-entry_is es k e h = get_or_from_slice_get es k e (0, (0, 0)) h
 
 -- One piece of a derivative.
 
@@ -157,51 +128,6 @@ buried old made new es ns len more e l is known marks is_new n =
     ∙ with_marks_has made ns n (λ k h. let x = below k h in omega (arith, x, l))
     ∙ ap (λ b. b || list_any (nat_eq n) ns) (ap (λ dead. is_marked dead n) e ∙ resized old len more n (marks n))
     ∙ ap (λ b. is_marked old n || b) (ap (list_any (nat_eq n)) is ∙ any_regex n es)
-
--- Regexes with the empty word.
-
-pub item_nullable : (rs : List Regex) (ns : List ℕ) (k n : ℕ) (a b : Bool) → k < length ns → n ≡ get_or ns k n
-    → a ≡ nullable (regex_at rs n) → a ≡ b → nullable (regex_at rs (get_or ns k 0)) ≡ b
-item_nullable rs ns k n a b l is e h =
-    ap (λ n. nullable (regex_at rs n)) (sym (is ∙ get_or_default_zero ns k n l)) ∙ sym e ∙ h
-
-pub tested_more : (rs : List Regex) (ns : List ℕ) (from place : ℕ) → AreTested rs ns from place
-    → nullable (regex_at rs (get_or ns place 0)) ≡ false → AreTested rs ns from (place + 1)
-tested_more rs ns from place h e k f l = by (nat_eq k place) refl
-  where
-    by : (b : Bool) → nat_eq k place ≡ b → nullable (regex_at rs (get_or ns k 0)) ≡ false
-    by true t =
-        let is : place ≡ k = grind (arith, nat_tests, t) in
-        subst (λ k. nullable (regex_at rs (get_or ns k 0)) ≡ false) is e
-    by false t = h k f (grind (arith, nat_tests, t, l))
-
--- The word of a place.
-
--- the numbers of a word are all characters
-pub none_outside : (codes : List ℕ) (place code : ℕ) → IsWord codes → slice_get codes place ≡ Some code
-    → is_character code ≡ false → ⊥
-none_outside [] place code is h out = cc
-none_outside (c ∷ codes) zero code is h out =
-    let p = and_parts (is_character c) (are_characters codes) is in
-    let same : c ≡ code = cc in
-    true≢false (sym p.0 ∙ ap is_character same ∙ out)
-none_outside (c ∷ codes) (suc place) code is h out =
-    none_outside codes place code (and_parts (is_character c) (are_characters codes) is).1 h out
-
-pub word_read : (es : List Entry) (place : ℕ) (codes : List ℕ) → LeadsBy IsWord es place
-    → ((words : List (List ℕ)) → AreWords es words → word_at words place ≡ word_at words 0 ++ codes) → IsWord codes
-word_read es place codes l h =
-    subst IsWord (h l.words l.are ∙ ap (λ w. w ++ codes) l.are.first) l.is
-
-pub word_back : (es : List Entry) (words : List (List ℕ)) (place k : ℕ) (e : Entry) (codes codes' : List ℕ)
-    → AreWords es words → 0 < k → k < length es → entry_at es k ≡ e →
-    codes' ≡ codes ++ e.1.1 ∷ [] → word_at words place ≡ word_at words k ++ reverse codes
-    → word_at words place ≡ word_at words e.1.0 ++ reverse codes'
-word_back es words place k e codes codes' w p l is more h =
-    h
-    ∙ ap (λ u. u ++ reverse codes) (w.next k p l ∙ ap (λ e. word_at words e.1.0 ++ e.1.1 ∷ []) is)
-    ∙ append_assoc (word_at words e.1.0) (e.1.1 ∷ []) (reverse codes)
-    ∙ ap (λ u. word_at words e.1.0 ++ u) (sym (ap reverse more ∙ reverse-append codes (e.1.1 ∷ [])))
 
 -- The start of a search.
 

@@ -1,24 +1,14 @@
 -- Private: how far a search has come.
-use Rattle.std.specs.Prelude.{◌≡◌, ℕ, ◌+◌, ◌*◌, ◌<◌, ◌≤◌, ◌||◌, ◌⊎◌, Bool, true, false, List, [], ◌∷◌, length, get_or, Option, MatchOption}
+use Rattle.std.specs.Prelude.{◌≡◌, ℕ, ◌+◌, ◌*◌, ◌<◌, ◌≤◌, ◌||◌, ◌⊎◌, Bool, true, false, List, length, Option, MatchOption}
 use Rattle.sb_word.specs.Words.{is_character, IsWord}
 use Rattle.sb_lang.specs.Regex.{Regex}
 use Rattle.sb_lang.specs.Derivative.{nullable, nd, nd_along}
 use Rattle.sb_regex.specs.Numbered.{regex_at, Names}
 use Rattle.sb_deriv.specs.Faithful.{IsDerivative}
 use Rattle.sb_graph.specs.Findings.{is_marked}
-use Rattle.sb_graph.specs.Queue.{Entry, regex_of, has_regex, visited, word_at, GoesBack, AreWords}
+use Rattle.sb_graph.specs.Queue.{visited}
 use Rattle.sb_graph.specs.Witness.{GoesOn}
-
--- The rank of a word: shorter words come first, and of two as long the one that is less by code points.
-unfoldable pub rank_from : ℕ → List ℕ → ℕ
-rank_from b [] = b
-rank_from b (c ∷ w) = rank_from (b * 0x30000 + c) w
-
-abbrev pub rank : List ℕ → ℕ
-rank w = rank_from 1 w
-
-abbrev pub rank_at : List (List ℕ) → ℕ → ℕ
-rank_at words k = rank (word_at words k)
+use Rattle.sb_witness.specs.Queue.{Entry, regex_of, has_regex, word_at, GoesBack, AreWords, rank_at}
 
 -- the number stands at a place whose word has at most this rank
 pub record StandsBy (es : List Entry) (words : List (List ℕ)) (n : ℕ) (most : ℕ) : Type 0 where
@@ -60,17 +50,6 @@ pub record IsSearched (rs : List Regex) (root : ℕ) (dead : List Bool) (es : Li
   pub reached : AreReached rs root es words
   pub below : (k : ℕ) → k < place → k < length es → IsDone rs dead es words k
   pub near : place < length es → (j : ℕ) → j < length es → rank_at words j < rank_at words place * 0x30000
-
--- the regexes from one place up to another are without the empty word
-abbrev pub AreTested : List Regex → List ℕ → ℕ → ℕ → Type 0
-AreTested rs ns from upto = (k : ℕ) → from ≤ k → k < upto → nullable (regex_at rs (get_or ns k 0)) ≡ false
-
--- the place is the first from one on of a regex with the empty word
-pub record IsFirstNullable (rs : List Regex) (ns : List ℕ) (from place : ℕ) : Type 0 where
-  pub after : from ≤ place
-  pub within : place < length ns
-  pub before : AreTested rs ns from place
-  pub empty_word : nullable (regex_at rs (get_or ns place 0)) ≡ true
 
 -- the number stands at a place below this one
 pub record IsTaken (es : List Entry) (place n : ℕ) : Type 0 where

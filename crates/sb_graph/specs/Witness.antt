@@ -34,6 +34,10 @@ ComesBefore v (Ok (Alive w)) = shortlex v w ≡ Less
 ComesBefore v (Ok Dead) = Unit {0}
 ComesBefore v (Err _) = Unit {0}
 
+-- the word comes before each word of the language
+abbrev pub Precedes : Language → List ℕ → Type 0
+Precedes L v = (w : List ℕ) → IsWord w → L w ≡ true → shortlex v w ≡ Less
+
 -- a word, such as is wanted, leads from the regex to that of the number
 pub record IsReachedBy (rs : List Regex) (r : Regex) (P : List ℕ → Type 0) (n : ℕ) : Type 0 where
   pub word : List ℕ

@@ -7,23 +7,25 @@ ghost use Rattle.sb_lang.specs.Least.{IsShortestLeast};
 ghost use Rattle.sb_deriv.specs.Faithful.{entry_of, KeepsEntries};
 ghost use Rattle.sb_regex.specs.Numbered.{regex_at, Extends};
 ghost use Rattle.sb_graph.specs.Findings.{is_marked, is_settled, KeepsMarks, IsGraph};
-ghost use Rattle.sb_graph.specs.Witness.{IsFinding, MarksDead, ComesBefore, GoesOn, IsReachedBy};
-ghost use Rattle.sb_graph.specs.Queue.{regex_of};
+ghost use Rattle.sb_graph.specs.Witness.{IsFinding, MarksDead, ComesBefore, Precedes, GoesOn, IsReachedBy};
 ghost use Rattle.sb_graph.specs.Search.{IsSearched, IsSearchEnd, IsVisited, AreMarked};
+ghost use Rattle.sb_witness.specs.Queue.{regex_of};
 
-use crate::queue::Queue;
-use crate::search::{first_nullable, is_marked, mark, visit, word_from, word_of};
+use crate::search::{is_marked, mark, visit};
 use indexmap::IndexMap;
 use sb_deriv::{Derivative, Deriver};
 use sb_lang::derivative::{derivative_along_has_rests, nullable_has_empty_word};
 use sb_regex::{Arena, RegexId};
-use sb_witness::{Outcome, find_word};
+use sb_witness::{Outcome, Queue, find_word, first_nullable, word_from, word_of};
 use sb_word::Word;
 use std::alloc::{AllocError, Global};
 use std::marker::Model;
 
-/// How many states a walk over members may meet before the regex is explored.
-const FEW: usize = 2000;
+/// How many states a walk over members may meet, and how many regexes an exploration may expand, in their first turns.
+const FIRST: usize = 2000;
+
+/// From so many on there are no more turns.
+const LAST: usize = 1 << 40;
 
 /// What is known of the regexes of an arena: derivatives, marks of dead ones, and words of others.
 #[derive(Drop)]
@@ -122,12 +124,13 @@ impl Graph {
         }
     }
 
-    /// The least of the shortest words of a regex's language, or that there is none: what `explore` finds, asked for
-    /// first from a walk over the members of unions, which meets few states where the derivatives are unions of many.
+    /// The least of the shortest words of a regex's language, or that there is none: what `explore` finds, while a walk
+    /// over the members of unions, which meets few states where the derivatives are unions of many, takes turns with it.
     ///
-    /// Where that walk meets so many states that it gives up, or none that has a word, the regex is explored. So a call
-    /// takes at most the time of `explore` and that of a walk over 2,000 states. The derivatives that the walk wants
-    /// are kept, and not counted among those that explorations expanded.
+    /// In its turn each begins anew and may meet four times as many states as before, 2,000 at first; derivatives are
+    /// kept. So a call meets at most six times as many states as the one of the two that meets fewer, and some
+    /// thousands. Where the walk ends without a word, the regex is explored to the end. The derivatives that the walk
+    /// wants are not counted among those that explorations expanded.
     pub fn answer(&mut self, arena: &mut Arena, root: RegexId) -> Result<Explored, AllocError>
         requires known { root < length arena.old }
         requires graph { IsGraph arena.old self.old }
@@ -142,10 +145,105 @@ impl Graph {
         ensures settles { OnOk result (is_settled self.new root ≡ true) }
         ensures settled { is_settled self.old root ≡ true → self.new ≡ self.old }
     {
-        if !self.is_settled(root) {
-            self.walk_members(arena, root)?;
+        if self.is_settled(root) {
+            return self.explore(arena, root);
         }
+        self.take_turns(arena, root)?;
         self.explore(arena, root)
+    }
+
+    /// Lets walks over members and explorations take turns, up to one that comes to its end. The word that a walk finds
+    /// is kept, and so are all derivatives.
+    fn take_turns(&mut self, arena: &mut Arena, root: RegexId) -> Result<(), AllocError>
+        requires known { root < length arena.old }
+        requires graph { IsGraph arena.old self.old }
+        ensures extends { Extends arena.old arena.new }
+        ensures graph { IsGraph arena.new self.new }
+        ensures marks { self.new.dead ≡ self.old.dead }
+        ensures derivatives_stay { KeepsEntries self.old.memo self.new.memo }
+        ensures expands { GoesOn (IsReachedBy arena.new (regex_at arena.old root) (λ v. Unit {0}))
+            self.old.expanded self.new.expanded }
+        ensures before { OnOk result
+            (GoesOn (IsReachedBy arena.new (regex_at arena.old root) (Precedes (language (regex_at arena.old root))))
+            self.old.expanded self.new.expanded) }
+    {
+        let mut bound = FIRST;
+        while bound < LAST {
+            if self.walk_members(arena, root, bound)? {
+                return Ok(());
+            }
+            if self.look_ahead(arena, root, bound)? {
+                return Ok(());
+            }
+            bound *= 4;
+        }
+        Ok(())
+    }
+
+    /// Makes the derivatives known that an exploration wants, of so many regexes at most. Whether the exploration comes
+    /// to its end with these.
+    fn look_ahead(
+        &mut self,
+        arena: &mut Arena,
+        root: RegexId,
+        bound: usize,
+    ) -> Result<bool, AllocError>
+        requires known { root < length arena.old }
+        requires graph { IsGraph arena.old self.old }
+        ensures extends { Extends arena.old arena.new }
+        ensures graph { IsGraph arena.new self.new }
+        ensures marks { self.new.dead ≡ self.old.dead }
+        ensures derivatives_stay { KeepsEntries self.old.memo self.new.memo }
+        ensures expands { GoesOn (IsReachedBy arena.new (regex_at arena.old root) (λ v. Unit {0}))
+            self.old.expanded self.new.expanded }
+        ensures before { OnOk result
+            (GoesOn (IsReachedBy arena.new (regex_at arena.old root) (Precedes (language (regex_at arena.old root))))
+            self.old.expanded self.new.expanded) }
+    {
+        let mut queue = Queue::new(*self.dead.allocator());
+        queue.put(root, 0, 0)?;
+        self.sweep(arena, &mut queue, bound)
+    }
+
+    /// Goes through the queue up to a turn that meets a regex with the empty word, and not behind so many places.
+    /// Whether it came to such a turn, or to the end.
+    fn sweep(
+        &mut self,
+        arena: &mut Arena,
+        queue: &mut Queue,
+        bound: usize,
+    ) -> Result<bool, AllocError>
+        requires graph { IsGraph arena.old self.old }
+        requires start { IsSearched arena.old (regex_of queue.old 0) self.old.dead queue.old 0 }
+        ensures extends { Extends arena.old arena.new }
+        ensures graph { IsGraph arena.new self.new }
+        ensures marks { self.new.dead ≡ self.old.dead }
+        ensures derivatives_stay { KeepsEntries self.old.memo self.new.memo }
+        ensures expands { GoesOn
+            (IsReachedBy arena.new (regex_at arena.old (regex_of queue.old 0)) (λ v. Unit {0}))
+            self.old.expanded self.new.expanded }
+        ensures before { OnOk result
+            (GoesOn
+            (IsReachedBy arena.new (regex_at arena.old (regex_of queue.old 0))
+            (Precedes (language (regex_at arena.old (regex_of queue.old 0)))))
+            self.old.expanded self.new.expanded) }
+    {
+        nullable_has_empty_word();
+        derivative_along_has_rests();
+        let mut place = 0;
+        let mut tested = 0;
+        while place < queue.len() {
+            if let Some(_found) = first_nullable(arena, queue.regexes(), tested) {
+                return Ok(true);
+            }
+            if place >= bound {
+                return Ok(false);
+            }
+            tested = queue.len();
+            self.expand(arena, queue, place)?;
+            place += 1;
+        }
+        Ok(true)
     }
 
     /// Whether it is known if a regex has a word.
@@ -155,8 +253,13 @@ impl Graph {
         self.is_dead(root) || self.answers.get(&root).is_some()
     }
 
-    /// Keeps the word of a regex, where a walk over members finds it.
-    fn walk_members(&mut self, arena: &mut Arena, root: RegexId) -> Result<(), AllocError>
+    /// Keeps the word of a regex, where a walk over so many members finds it. Whether the walk came to its end.
+    fn walk_members(
+        &mut self,
+        arena: &mut Arena,
+        root: RegexId,
+        bound: usize,
+    ) -> Result<bool, AllocError>
         requires known { root < length arena.old }
         requires graph { IsGraph arena.old self.old }
         ensures extends { Extends arena.old arena.new }
@@ -166,11 +269,12 @@ impl Graph {
         ensures derivatives_stay { KeepsEntries self.old.memo self.new.memo }
     {
         let alloc = *self.dead.allocator();
-        let outcome = find_word(alloc, arena, &mut self.deriver, root, FEW)?;
+        let outcome = find_word(alloc, arena, &mut self.deriver, root, bound)?;
+        let ends = comes_to_end(&outcome);
         if let Outcome::Found(word) = outcome {
             self.keep(alloc, root, &word)?;
         }
-        Ok(())
+        Ok(ends)
     }
 
     /// What an earlier exploration found.
@@ -329,5 +433,12 @@ impl Graph {
         self.dead.resize(len, false)?;
         mark(&mut self.dead, queue.regexes());
         Ok(())
+    }
+}
+
+fn comes_to_end(outcome: &Outcome) -> bool {
+    match outcome {
+        Outcome::Found(_) | Outcome::Empty => true,
+        Outcome::Bounded => false,
     }
 }

@@ -5,12 +5,11 @@
 //! so the first regex with the empty word is reached by the word that is wanted, and none that comes later is expanded.
 //! Where there is none, the regexes that were met are closed under derivatives by characters, and none of them has a
 //! word. Such regexes are marked; the marks stay, and so do the words that were found. The layer above asks for an
-//! answer, for which a short walk over members comes first, for a mark, and for the derivatives that are kept.
+//! answer, for which a walk over members takes turns with the exploration, for a mark, and for the derivatives that are kept.
 #![tactic(auto)]
 
 mod graph;
 mod laws;
-mod queue;
 mod search;
 
 pub use graph::{Explored, Graph};

@@ -11,8 +11,8 @@ use Rattle.sb_lang.specs.Language.{language}
 use Rattle.sb_lang.specs.Languages.{Language}
 use Rattle.sb_lang.specs.Least.{IsShortestLeast, HasNoWord}
 use Rattle.sb_regex.specs.Numbered.{regex_at}
-use Rattle.sb_witness.specs.Queue.{Entry, regex_of, word_at, AreWords}
-use Rattle.sb_witness.specs.Search.{rank_from, rank, rank_at, AreReached, IsSearched, IsFound, IsWhole}
+use Rattle.sb_witness.specs.Queue.{Entry, regex_of, word_at, AreWords, rank_from, rank, rank_at}
+use Rattle.sb_witness.specs.Search.{AreReached, IsSearched, IsFound, IsWhole}
 use Rattle.sb_witness.proofs.Ranks.{rank_empty, rank_grows, rank_short, rank_least}
 
 module _ (empty : NullableHasEmptyWord) (rs : List Regex) (L : Language) (es : List Entry) where

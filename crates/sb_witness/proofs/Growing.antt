@@ -4,8 +4,8 @@ use Rattle.std.proofs.lemmas.List.{get_or_append_left, length_push}
 use Rattle.sb_lang.specs.Regex.{Regex}
 use Rattle.sb_lang.specs.Language.{language}
 use Rattle.sb_regex.specs.Numbered.{regex_at}
-use Rattle.sb_witness.specs.Queue.{Entry, entry_at, word_at}
-use Rattle.sb_witness.specs.Search.{rank, IsMet, IsDone}
+use Rattle.sb_witness.specs.Queue.{Entry, entry_at, word_at, rank}
+use Rattle.sb_witness.specs.Search.{IsMet, IsDone}
 
 pub record IsGrown (es : List Entry) (ws : List (List ℕ)) (es' : List Entry) (ws' : List (List ℕ)) : Type 0 where
   pub long : length es ≤ length es'

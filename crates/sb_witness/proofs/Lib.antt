@@ -1,3 +1,4 @@
+pub mod CallerLemmas
 mod Ranks
 mod Lists
 mod Beginnings

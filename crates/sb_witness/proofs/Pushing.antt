@@ -8,8 +8,8 @@ use Rattle.sb_lang.specs.Regex.{Regex}
 use Rattle.sb_lang.specs.Language.{language}
 use Rattle.sb_lang.specs.Languages.{Language}
 use Rattle.sb_regex.specs.Numbered.{regex_at}
-use Rattle.sb_witness.specs.Queue.{Entry, entry_at, regex_of, way_of, has_regex, word_at, GoesBack, AreWords}
-use Rattle.sb_witness.specs.Search.{rank, rank_at, AreReached}
+use Rattle.sb_witness.specs.Queue.{Entry, entry_at, regex_of, way_of, has_regex, word_at, GoesBack, AreWords, rank, rank_at}
+use Rattle.sb_witness.specs.Search.{AreReached}
 use Rattle.sb_witness.proofs.Ranks.{rank_from-push}
 use Rattle.sb_witness.proofs.Growing.{IsGrown, grown_push}
 

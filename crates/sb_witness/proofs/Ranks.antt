@@ -7,8 +7,8 @@ use Rattle.std.specs.Cmp.Lexicographic.{slice_cmp}
 use Rattle.std.specs.declared.cmp.Ordering.{Ordering}
 use Rattle.std.specs.declared.cmp.Ordering.TheVariants.{Less, Equal, Greater}
 use Rattle.sb_word.specs.Words.{is_character, are_characters, IsWord}
-use Rattle.sb_witness.specs.Search.{rank_from}
 use Rattle.sb_class.proofs.CallerLemmas.{character_below}
+use Rattle.sb_witness.specs.Queue.{rank_from}
 
 pub rank_empty : rank_from 1 [] ≡ 1
 unfolding rank_from
@@ -30,7 +30,7 @@ unfolding rank_from
 rank_later a b [] h = h
 rank_later a b (c ∷ w) h = rank_later (a * 0x30000 + c) (b * 0x30000 + c) w (omega (arith, h))
 
-rank_less : (a b : ℕ) (v w : List ℕ) → a < b → length v ≡ length w → IsWord v → rank_from a v < rank_from b w
+pub rank_less : (a b : ℕ) (v w : List ℕ) → a < b → length v ≡ length w → IsWord v → rank_from a v < rank_from b w
 unfolding rank_from
 rank_less a b [] [] h l is = h
 rank_less a b [] (d ∷ w) h l is = absurd (omega (arith, l))

@@ -9,9 +9,9 @@ use Rattle.sb_lang.specs.Regex.{Regex}
 use Rattle.sb_lang.specs.Language.{language}
 use Rattle.sb_lang.specs.Languages.{Language}
 use Rattle.sb_regex.specs.Numbered.{regex_at}
-use Rattle.sb_witness.specs.Queue.{Entry, regex_of, way_of, word_at, IsRun}
+use Rattle.sb_witness.specs.Queue.{Entry, regex_of, way_of, word_at, IsRun, rank, rank_at}
 use Rattle.sb_witness.specs.Edges.{in_some, AreRising, AreEdges, IsEdgeFrom, Puts}
-use Rattle.sb_witness.specs.Search.{rank, rank_at, IsMet, IsDone, IsSearched, IsTurned}
+use Rattle.sb_witness.specs.Search.{IsMet, IsDone, IsSearched, IsTurned}
 use Rattle.sb_witness.proofs.Ranks.{rank_empty, rank_grows, rank_from-push}
 use Rattle.sb_witness.proofs.Lists.{Each, all_each, each_in}
 use Rattle.sb_witness.proofs.Fronts.{HasState, some_at}

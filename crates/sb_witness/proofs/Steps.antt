@@ -17,9 +17,8 @@ use Rattle.sb_lang.specs.Language.{language, some_language}
 use Rattle.sb_regex.specs.Numbered.{regex_at, regexes_at, AllNumbers}
 use Rattle.sb_regex.proofs.CallerLemmas.{one_number}
 use Rattle.sb_deriv.specs.Pieces.{targets_of}
-use Rattle.sb_witness.specs.Queue.{Entry, entry_at, regex_of, has_regex, with_entry, with_each, word_at, AreWords, LeadsBy}
+use Rattle.sb_witness.specs.Queue.{Entry, entry_at, regex_of, has_regex, with_entry, with_each, word_at, AreWords, LeadsBy, AreTested}
 use Rattle.sb_witness.specs.Edges.{IsSplit, IsPut, Puts}
-use Rattle.sb_witness.specs.Search.{AreTested}
 
 -- The queue.
 

@@ -9,9 +9,9 @@ use Rattle.sb_lang.specs.Regex.{Regex}
 use Rattle.sb_lang.specs.Language.{language}
 use Rattle.sb_lang.specs.Languages.{Language}
 use Rattle.sb_regex.specs.Numbered.{regex_at}
-use Rattle.sb_witness.specs.Queue.{Entry, entry_at, regex_of, way_of, has_regex, with_each, word_at}
+use Rattle.sb_witness.specs.Queue.{Entry, entry_at, regex_of, way_of, has_regex, with_each, word_at, rank, rank_at}
 use Rattle.sb_witness.specs.Edges.{AreRising, IsSplit, Puts}
-use Rattle.sb_witness.specs.Search.{rank, rank_at, IsMet, AreReached}
+use Rattle.sb_witness.specs.Search.{IsMet, AreReached}
 use Rattle.sb_class.proofs.CallerLemmas.{character_below}
 use Rattle.sb_witness.proofs.Lists.{Each, each_as, all_each, each_all}
 use Rattle.sb_witness.proofs.Growing.{IsGrown, grown_same, grown_more, met_grown}

@@ -10,8 +10,8 @@ use Rattle.sb_lang.specs.Derivative.{nullable}
 use Rattle.sb_lang.specs.Language.{language}
 use Rattle.sb_lang.specs.Languages.{Language}
 use Rattle.sb_regex.specs.Numbered.{regex_at, Extends}
-use Rattle.sb_witness.specs.Queue.{Entry, regex_of, word_at, LeadsBy}
-use Rattle.sb_witness.specs.Search.{rank_at, first_language, AreTested, IsFirstNullable, AreWithout, IsSearched, IsTurned, IsUnderWay, IsFound, IsWhole}
+use Rattle.sb_witness.specs.Queue.{Entry, regex_of, word_at, LeadsBy, rank_at, AreTested, IsFirstNullable}
+use Rattle.sb_witness.specs.Search.{first_language, AreWithout, IsSearched, IsTurned, IsUnderWay, IsFound, IsWhole}
 use Rattle.sb_witness.specs.Witness.{IsState, AreMany}
 use Rattle.sb_witness.proofs.Ranks.{rank_empty}
 use Rattle.sb_witness.proofs.Carrying.{nullable_kept}

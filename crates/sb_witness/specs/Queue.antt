@@ -1,6 +1,9 @@
--- Private: queues as lists: each state by its number, with its way: a place before it, and the character taken there.
-use Rattle.std.specs.Prelude.{◌≡◌, ◌≢◌, ℕ, ◌<◌, ◌≤◌, Bool, ◌&&◌, List, [], ◌∷◌, ◌++◌, length, get_or, nat_eq, if◌then◌else◌}
+-- Queues as lists: each state by its number, with its way: a place before it, and the character taken there.
+use Rattle.std.specs.Prelude.{◌≡◌, ◌≢◌, ℕ, ◌+◌, ◌*◌, ◌<◌, ◌≤◌, Bool, true, false, ◌&&◌, List, [], ◌∷◌, ◌++◌, length, get_or, nat_eq, if◌then◌else◌}
 use Rattle.std.specs.List.{list_any}
+use Rattle.sb_lang.specs.Regex.{Regex}
+use Rattle.sb_lang.specs.Derivative.{nullable}
+use Rattle.sb_regex.specs.Numbered.{regex_at}
 
 abbrev pub Entry : Type 0
 Entry = ℕ × (ℕ × ℕ)
@@ -56,3 +59,25 @@ pub record IsRun (es : List Entry) (place end : ℕ) : Type 0 where
   pub same : (k : ℕ) → place ≤ k → k < end → way_of es k ≡ way_of es place
   pub alone : place ≡ 0 → end ≡ 1
   pub ends : 0 < place → end < length es → way_of es end ≢ way_of es place
+
+-- The rank of a word: shorter words come first, and of two as long the one that is less by code points.
+unfoldable pub rank_from : ℕ → List ℕ → ℕ
+rank_from b [] = b
+rank_from b (c ∷ w) = rank_from (b * 0x30000 + c) w
+
+abbrev pub rank : List ℕ → ℕ
+rank w = rank_from 1 w
+
+abbrev pub rank_at : List (List ℕ) → ℕ → ℕ
+rank_at words k = rank (word_at words k)
+
+-- the regexes from one place up to another are without the empty word
+abbrev pub AreTested : List Regex → List ℕ → ℕ → ℕ → Type 0
+AreTested rs ns from upto = (k : ℕ) → from ≤ k → k < upto → nullable (regex_at rs (get_or ns k 0)) ≡ false
+
+-- the place is the first from one on of a regex with the empty word
+pub record IsFirstNullable (rs : List Regex) (ns : List ℕ) (from place : ℕ) : Type 0 where
+  pub after : from ≤ place
+  pub within : place < length ns
+  pub before : AreTested rs ns from place
+  pub empty_word : nullable (regex_at rs (get_or ns place 0)) ≡ true

@@ -8,23 +8,12 @@ use Rattle.sb_lang.specs.Languages.{Language}
 use Rattle.sb_regex.specs.Numbered.{regex_at}
 use Rattle.sb_witness.specs.declared.search.Stop.{Stop}
 use Rattle.sb_witness.specs.declared.search.Stop.TheVariants as stop
-use Rattle.sb_witness.specs.Queue.{Entry, regex_of, way_of, word_at, GoesBack, AreWords}
+use Rattle.sb_witness.specs.Queue.{Entry, regex_of, way_of, word_at, GoesBack, AreWords, rank_at}
 use Rattle.sb_witness.specs.Witness.{AreMany}
 
 -- the language of the state at the first place
 abbrev pub first_language : List Regex → List Entry → Language
 first_language rs es = language (regex_at rs (regex_of es 0))
-
--- The rank of a word: shorter words come first, and of two as long the one that is less by code points.
-unfoldable pub rank_from : ℕ → List ℕ → ℕ
-rank_from b [] = b
-rank_from b (c ∷ w) = rank_from (b * 0x30000 + c) w
-
-abbrev pub rank : List ℕ → ℕ
-rank w = rank_from 1 w
-
-abbrev pub rank_at : List (List ℕ) → ℕ → ℕ
-rank_at words k = rank (word_at words k)
 
 -- a state whose word has at most this rank has the word
 pub record IsMet (rs : List Regex) (es : List Entry) (words : List (List ℕ)) (u : List ℕ) (most : ℕ) : Type 0 where
@@ -64,17 +53,6 @@ pub record IsSearched (rs : List Regex) (L : Language) (es : List Entry) (place 
 pub record IsTurned (rs : List Regex) (L : Language) (old new : List Entry) (end : ℕ) : Type 0 where
   pub searched : IsSearched rs L new end
   pub stays : (k : ℕ) → k < length old → (k < length new) × (regex_of new k ≡ regex_of old k)
-
--- the regexes from one place up to another are without the empty word
-abbrev pub AreTested : List Regex → List ℕ → ℕ → ℕ → Type 0
-AreTested rs ns from upto = (k : ℕ) → from ≤ k → k < upto → nullable (regex_at rs (get_or ns k 0)) ≡ false
-
--- the place is the first from one on of a regex with the empty word
-pub record IsFirstNullable (rs : List Regex) (ns : List ℕ) (from place : ℕ) : Type 0 where
-  pub after : from ≤ place
-  pub within : place < length ns
-  pub before : AreTested rs ns from place
-  pub empty_word : nullable (regex_at rs (get_or ns place 0)) ≡ true
 
 -- the states below a place are without the empty word
 abbrev pub AreWithout : List Regex → List Entry → ℕ → Type 0

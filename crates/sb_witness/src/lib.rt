@@ -7,7 +7,8 @@
 //! no more states than there are members. States are met in the order of the least words that lead to them, and those
 //! that one word leads to take their turn together, so the first state with the empty word is reached by the word that
 //! is wanted. A walk that comes to its end shows that there is no word, and one that meets as many states as it may
-//! says no more. The layer above asks for the word before it explores whole derivatives.
+//! says no more. The layer above lets the walk take turns with an exploration of whole derivatives, and uses the queue
+//! of the walk for it.
 #![tactic(auto)]
 
 mod edges;
@@ -17,4 +18,5 @@ mod split;
 mod starts;
 mod turn;
 
-pub use search::{Outcome, find_word};
+pub use queue::Queue;
+pub use search::{Outcome, find_word, first_nullable, word_from, word_of};

@@ -12,7 +12,7 @@ use std::marker::Model;
 ///
 /// Of the places that one word leads to, the first one stands in the ways of the states behind them.
 #[derive(Drop)]
-pub(crate) struct Queue {
+pub struct Queue {
     entries: IndexMap<RegexId, (usize, u32)>,
 }
 
@@ -26,7 +26,7 @@ impl Model for Queue {
 
 impl Queue {
     /// A queue with no state. Takes no memory.
-    pub(crate) fn new(alloc: Global) -> Queue
+    pub fn new(alloc: Global) -> Queue
         ensures { result ≡ [] }
     {
         Queue {
@@ -34,15 +34,15 @@ impl Queue {
         }
     }
 
-    /// The number of states.
-    pub(crate) fn len(&self) -> usize
+    /// The number of states. Constant time.
+    pub fn len(&self) -> usize
         ensures { result ≡ length self.now }
     {
         self.entries.len()
     }
 
-    /// The state at a place, and its way.
-    pub(crate) fn at(&self, place: usize) -> (RegexId, (usize, u32))
+    /// The state at a place, and its way. Constant time.
+    pub fn at(&self, place: usize) -> (RegexId, (usize, u32))
         requires { place < length self.now }
         ensures { slice_get self.now place ≡ Some result }
     {
@@ -50,15 +50,15 @@ impl Queue {
         (*regex, *way)
     }
 
-    /// The states, in order.
-    pub(crate) fn regexes(&self) -> &[RegexId]
+    /// The states, in order. Takes no memory.
+    pub fn regexes(&self) -> &[RegexId]
         ensures { result.now ≡ map (λ e. e.0) self.now }
     {
         self.entries.keys().as_slice()
     }
 
-    /// Puts a state at the end, unless it is there.
-    pub(crate) fn put(
+    /// Puts a state at the end, unless it is there. Constant time.
+    pub fn put(
         &mut self,
         regex: RegexId,
         before: usize,

@@ -6,8 +6,8 @@ ghost use Rattle.sb_lang.specs.Language.{language};
 ghost use Rattle.sb_regex.specs.Numbered.{regex_at, Extends};
 ghost use Rattle.sb_deriv.specs.Faithful.{IsFaithful, KeepsEntries};
 ghost use Rattle.sb_witness.specs.Witness.{IsOutcome, MeetsBound};
-ghost use Rattle.sb_witness.specs.Queue.{word_at, GoesBack, AreWords, LeadsBy};
-ghost use Rattle.sb_witness.specs.Search.{AreTested, IsFirstNullable, IsSearched, IsStop, first_language};
+ghost use Rattle.sb_witness.specs.Queue.{word_at, GoesBack, AreWords, LeadsBy, AreTested, IsFirstNullable};
+ghost use Rattle.sb_witness.specs.Search.{IsSearched, IsStop, first_language};
 
 use crate::queue::Queue;
 use crate::turn::take_turn;
@@ -103,8 +103,8 @@ fn walk(
     Ok(Stop::End)
 }
 
-/// The first place from one on of a regex with the empty word.
-fn first_nullable(arena: &Arena, regexes: &[RegexId], from: usize) -> Option<usize>
+/// The first place from one on of a regex with the empty word. Linear in the number of the places that are looked at.
+pub fn first_nullable(arena: &Arena, regexes: &[RegexId], from: usize) -> Option<usize>
     requires { (k : ℕ) → k < length regexes.now → get_or regexes.now k 0 < length arena.now }
     ensures { MatchOption result (AreTested arena.now regexes.now from (length regexes.now))
         (IsFirstNullable arena.now regexes.now from) }
@@ -119,8 +119,8 @@ fn first_nullable(arena: &Arena, regexes: &[RegexId], from: usize) -> Option<usi
     None
 }
 
-/// The word along which a place was reached.
-fn word_of(alloc: Global, queue: &Queue, place: usize) -> Result<Word, AllocError>
+/// The word along which a place was reached. Linear in its length.
+pub fn word_of(alloc: Global, queue: &Queue, place: usize) -> Result<Word, AllocError>
     requires within { place < length queue.now }
     requires back { GoesBack queue.now }
     requires word { LeadsBy IsWord queue.now place }
@@ -139,8 +139,8 @@ fn word_of(alloc: Global, queue: &Queue, place: usize) -> Result<Word, AllocErro
     word_from(alloc, &codes)
 }
 
-/// The word of these characters.
-fn word_from(alloc: Global, codes: &[u32]) -> Result<Word, AllocError>
+/// The word of these characters. Linear.
+pub fn word_from(alloc: Global, codes: &[u32]) -> Result<Word, AllocError>
     requires { IsWord codes.now }
     ensures { IfOk result (λ word. word ≡ codes.now) }
 {

@@ -1,11 +1,11 @@
 use Rattle.std.proofs.Common.{◌+◌, refl, sym, subst, ◌∙◌, arith}
 use Rattle.sb_regex.proofs.CallerLemmas.{extends_more, names_below}
-use Rattle.sb_graph.specs.Queue.{regex_of}
 use Rattle.sb_graph.specs.Search.{IsUnderWay}
 use Rattle.sb_graph.proofs.Carrying.{searched_carried}
 use Rattle.sb_graph.proofs.Expanding.{idle_more, taken_next, each_reached}
 use Rattle.sb_graph.proofs.Searching.{under_way_known, under_way_found, under_way_next}
 use Rattle.sb_graph.proofs.graph.Graph.search.Goals as goal
+use Rattle.sb_witness.specs.Queue.{regex_of}
 
 pub first_nullable-requires : goal.first_nullable-requires
 first_nullable-requires c =

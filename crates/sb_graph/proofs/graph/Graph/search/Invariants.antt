@@ -2,9 +2,9 @@ use Rattle.std.proofs.Common.{◌≡◌, ◌-◌, ◌^◌}
 use Rattle.sb_deriv.specs.Faithful.{KeepsEntries}
 use Rattle.sb_regex.specs.Numbered.{Extends}
 use Rattle.sb_graph.specs.Findings.{IsGraph}
-use Rattle.sb_graph.specs.Queue.{regex_of}
 use Rattle.sb_graph.specs.Search.{IsUnderWay}
 use Rattle.sb_graph.proofs.graph.Graph.search.Given as goal
+use Rattle.sb_witness.specs.Queue.{regex_of}
 
 abbrev pub invariant-loop-place : goal.invariant-loop-place
 invariant-loop-place l =

@@ -7,13 +7,13 @@ use Rattle.sb_deriv.specs.Faithful.{IsFaithful}
 use Rattle.sb_regex.specs.Numbered.{regex_at}
 use Rattle.sb_regex.proofs.CallerLemmas.{at_kept, names_below, number_kept}
 use Rattle.sb_graph.specs.Findings.{AreBarren, AreAnswers}
-use Rattle.sb_graph.specs.Queue.{regex_of, with_entry}
 use Rattle.sb_graph.specs.Search.{IsSearchEnd}
 use Rattle.sb_graph.specs.Witness.{shortlex, GoesOn, IsReachedBy}
 use Rattle.sb_graph.proofs.Expanding.{found_reached}
 use Rattle.sb_graph.proofs.Steps.{started, settled_by}
 use Rattle.sb_graph.proofs.Searching.{found_answer, dead_barren, dead_root, dead_answer}
 use Rattle.sb_graph.proofs.graph.Graph.walk.Goals as goal
+use Rattle.sb_witness.specs.Queue.{regex_of, with_entry}
 
 pub search-requires-clause-start : goal.search-requires-clause-start
 search-requires-clause-start c =
