@@ -1,5 +1,5 @@
 -- The literal of an assertion that is decided so far, and the atom that it speaks of.
-use Rattle.std.specs.Prelude.{◌≡◌, ℕ, if◌then◌else◌, List, length, Option, Some, None}
+use Rattle.std.specs.Prelude.{◌≡◌, if◌then◌else◌, List, length, Option, Some, None}
 use Rattle.sb_lit.specs.declared.clause.Lit.{Lit}
 use Rattle.sb_lang.specs.Regex.{Regex}
 use Rattle.sb_meaning.specs.Terms.{Term}
