@@ -122,7 +122,7 @@ impl Operation {
             }
             Operation::Alt => union_of(alloc, arena, ids),
             Operation::And => intersection_of(alloc, arena, ids),
-            Operation::Not => complement(arena, ids[0]),
+            Operation::Not => arena.not(ids[0]),
         }
     }
 }
@@ -191,17 +191,4 @@ fn lies_in(range: (u32, u32), c: u32) -> bool
     ensures { result ≡ in_range range c }
 {
     range.0 <= c && c <= range.1
-}
-
-/// The complement. An arena has complements of few regexes yet: of others the answer is as where memory is wanting.
-fn complement(arena: &mut Arena, a: RegexId) -> Result<RegexId, AllocError>
-    requires { a < length arena.old }
-    ensures ok { IfOk result (λ id. Names arena.new id (mknot (regex_at arena.old a))) }
-    ensures extends { Extends arena.old arena.new }
-{
-    match arena.node(a) {
-        Node::Not(b) => Ok(*b),
-        Node::None => arena.and(&[]),
-        _ => Err(AllocError),
-    }
 }
