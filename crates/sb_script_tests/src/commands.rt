@@ -192,6 +192,26 @@ fn expect_answers(
     Ok(())
 }
 
+/// The words of a model are given once.
+fn expect_words_once(rt: &impl Abort, alloc: Global, stack: &mut Stack) -> Result<(), AllocError> {
+    let verdict = verdict_of(alloc, Some(&[&[0x61]]))?;
+    let reply = stack.settle(verdict);
+    assert_eq!(rt; reply, b"sat\n".as_slice());
+    let reply = stack.settle(Verdict::Unsat);
+    assert_eq!(rt; reply, b"unsat\n".as_slice());
+    let words = stack.take_words();
+    assert_eq!(rt; words.len(), 1);
+    let words = stack.take_words();
+    assert_eq!(rt; words.len(), 0);
+    Ok(())
+}
+
+#[test]
+fn gives_the_words_of_a_model_once(rt: HostRuntime) -> Result<(), Fail> {
+    expect_words_once(&rt, rt.alloc(), &mut Stack::new(rt.alloc()))?;
+    Ok(())
+}
+
 #[test]
 fn answers_commands_by_their_shape(rt: HostRuntime) -> Result<(), Fail> {
     for (script, wanted) in COMMANDS {

@@ -2,10 +2,11 @@
 
 use crate::terms::{list_of, scope_of_tests};
 use sb_class::Class;
-use sb_problem::normal;
+use sb_problem::Normals;
 use sb_reader::{Feed, Next, Sexpr};
 use sb_regex::{Arena, RegexId};
-use sb_sorts::{Scope, Term, read_term};
+use sb_sorts::{Scope, read_term};
+use sb_term::Table;
 use sb_word::Word;
 use std::alloc::{AllocError, Global};
 use std::process::Abort;
@@ -35,11 +36,6 @@ const NONE: [&[u8]; 3] = [
     b"\"a\"",
 ];
 
-/// The term of a form.
-fn term_of(alloc: Global, scope: &Scope, form: &Sexpr) -> Option<Term> {
-    read_term(alloc, scope, form).ok()
-}
-
 /// The number of the first form of a list; an error where it is no term.
 fn number_in(
     alloc: Global,
@@ -53,9 +49,10 @@ fn number_in(
     let Some(form) = forms.first() else {
         return Err(AllocError);
     };
-    match term_of(alloc, scope, form) {
-        Some(term) => normal(alloc, arena, &term),
-        None => Err(AllocError),
+    let mut table = Table::new(alloc);
+    match read_term(alloc, &mut table, scope, form) {
+        Ok(id) => Normals::new(alloc).normal(&table, arena, id),
+        Err(_) => Err(AllocError),
     }
 }
 

@@ -4,26 +4,31 @@ ghost use Rattle.std.specs.Prelude.{◌≡◌, false};
 
 use crate::bytes::push_bytes;
 use sb_reader::{Feed, Next, Sexpr};
-use sb_sorts::{DeclareError, Named, ReadFault, Scope, Serial, Symbol, Term, read_term};
-use sb_word::print_literal;
+use sb_sorts::{DeclareError, Named, ReadFault, Scope, read_term};
+use sb_term::{Serial, Sort, Symbol, Table, Term, TermId};
 use std::alloc::{AllocError, Global};
 use std::process::Abort;
 use std::test::Fail;
 
-/// Forms, and what they are read as, where x, y and let are constants and m is marked: a term with `#` before a
-/// serial, or a fault behind `!`.
-const FORMS: [(&[u8], &str); 55] = [
+/// Forms, and what they are read as into an empty table, where x, y and let are constants and m is marked: the table's
+/// terms in the order of their numbers, `#` before a serial and `'` before a word, and the number of the form's term;
+/// or a fault behind `!`.
+const FORMS: [(&[u8], &str); 56] = [
     (
         b"(str.in_re x (re.+ (re.range \"a\" \"b\")))",
-        "(in #0 (plus (range \"a\" \"b\")))",
+        "#0; 'a; 'b; (range 1 2); (plus 3); (in 0 4); 5",
     ),
     (
         b"(re.++ (str.to_re \"ab\") (re.* (re.range \"a\" \"b\")) (str.to_re x))",
-        "(concat (word \"ab\") (star (range \"a\" \"b\")) (word #0))",
+        "'ab; (word 0); 'a; 'b; (range 2 3); (star 4); #0; (word 6); (concat 1 5 7); 8",
     ),
     (
         b"(re.union (str.to_re \"a\") (re.union (str.to_re \"b\")))",
-        "(union (word \"a\") (word \"b\"))",
+        "'a; (word 0); 'b; (word 2); (union 1 3); 4",
+    ),
+    (
+        b"(re.++ (str.to_re \"a\") (re.* (str.to_re \"a\")) (str.to_re \"a\"))",
+        "'a; (word 0); (star 1); (concat 1 2 1); 3",
     ),
     (b"(re.++ (str.to_re \"a\") x w)", "!unknown w"),
     (b"(re.++ (str.to_re \"a\") x)", "!sort"),
@@ -32,10 +37,10 @@ const FORMS: [(&[u8], &str); 55] = [
     (b"(str.to_re \"a\" \"b\")", "!count"),
     (b"(re.* (str.to_re (re.+ x)))", "!sort"),
     (b"(_ re.* 2)", "!index"),
-    (b"x", "#0"),
-    (b"|x|", "#0"),
-    (b"|y z|", "#1"),
-    (b"|let|", "#2"),
+    (b"x", "#0; 0"),
+    (b"|x|", "#0; 0"),
+    (b"|y z|", "#1; 0"),
+    (b"|let|", "#2; 0"),
     (b"(re.range \"a\" w v)", "!unknown w"),
     (b"(re.range \"a\" \"b\" x)", "!count"),
     (b"(re.range w)", "!unknown w"),
@@ -73,7 +78,7 @@ const FORMS: [(&[u8], &str); 55] = [
     (b"(str.replace w)", "!unsupported"),
     (b":named", "!malformed"),
     (b"12", "!unsupported"),
-    (b"\"x\"\"y\"", "\"x\"\"y\""),
+    (b"\"x\"\"y\"", "'x\"y; 0"),
     (b"(re.range \"\\u{61}\" \"b\")", "!unsupported"),
     (b"\"\\\x80\"", "!literal"),
     (b"(\"a\" x)", "!malformed"),
@@ -81,35 +86,67 @@ const FORMS: [(&[u8], &str); 55] = [
 
 fn name_of(symbol: Symbol) -> &'static str {
     match symbol {
-        Symbol::InRe => "(in",
-        Symbol::ToRe => "(word",
-        Symbol::Range => "(range",
-        Symbol::Concat => "(concat",
-        Symbol::Union => "(union",
-        Symbol::Star => "(star",
-        Symbol::Plus => "(plus",
+        Symbol::StrInRe => "(in",
+        Symbol::StrToRe => "(word",
+        Symbol::ReRange => "(range",
+        Symbol::ReConcat => "(concat",
+        Symbol::ReUnion => "(union",
+        Symbol::ReStar => "(star",
+        Symbol::RePlus => "(plus",
+        _ => "(another",
     }
 }
 
-fn push_term(alloc: Global, out: &mut String, term: &Term) -> Result<(), AllocError> {
-    match term {
-        Term::Constant(Serial(0)) => out.push_str("#0"),
-        Term::Constant(Serial(1)) => out.push_str("#1"),
-        Term::Constant(_) => out.push_str("#2"),
-        Term::Word(word) => {
-            out.push_str("\"")?;
-            out.push_str(&print_literal(alloc, word)?)?;
-            out.push_str("\"")
-        }
-        Term::Apply(symbol, terms) => {
-            out.push_str(name_of(*symbol))?;
-            for part in terms {
-                out.push_str(" ")?;
-                push_term(alloc, out, part)?;
-            }
-            out.push_str(")")
-        }
+/// Appends a number below ten.
+fn push_number(out: &mut String, number: u64) -> Result<(), AllocError> {
+    match u8::try_from(number) {
+        Ok(digit) if digit < 10 => out.push(char::from(b'0' + digit)),
+        _ => out.push('?'),
     }
+}
+
+fn push_word(out: &mut String, codes: &[u32]) -> Result<(), AllocError> {
+    for code in codes {
+        out.push(char::from_u32(*code).unwrap_or('?'))?;
+    }
+    Ok(())
+}
+
+fn push_ids(out: &mut String, ids: &[TermId]) -> Result<(), AllocError> {
+    for id in ids {
+        out.push(' ')?;
+        push_number(out, id.number() as u64)?;
+    }
+    Ok(())
+}
+
+fn push_term(out: &mut String, term: &Term) -> Result<(), AllocError> {
+    match term {
+        Term::Constant(serial, Sort::String) => {
+            out.push('#')?;
+            push_number(out, serial.0)?;
+        }
+        Term::Word(codes) => {
+            out.push('\'')?;
+            push_word(out, codes)?;
+        }
+        Term::Apply(symbol, ids) => {
+            out.push_str(name_of(*symbol))?;
+            push_ids(out, ids.as_slice())?;
+            out.push(')')?;
+        }
+        _ => out.push('?')?,
+    }
+    out.push_str("; ")
+}
+
+/// Writes the terms of a table.
+fn push_table(out: &mut String, table: &Table) -> Result<(), AllocError> {
+    for number in 0..table.len() {
+        let id = TermId::new(number)?;
+        push_term(out, table.term(id))?;
+    }
+    Ok(())
 }
 
 fn push_fault(out: &mut String, fault: &ReadFault) -> Result<(), AllocError> {
@@ -128,15 +165,19 @@ fn push_fault(out: &mut String, fault: &ReadFault) -> Result<(), AllocError> {
     }
 }
 
-/// Writes what the form is read as.
+/// Writes what the form is read as into an empty table.
 fn push_read(
     alloc: Global,
     scope: &Scope,
     out: &mut String,
     form: &Sexpr,
 ) -> Result<(), AllocError> {
-    match read_term(alloc, scope, form) {
-        Ok(term) => push_term(alloc, out, &term),
+    let mut table = Table::new(alloc);
+    match read_term(alloc, &mut table, scope, form) {
+        Ok(id) => {
+            push_table(out, &table)?;
+            push_number(out, id.number() as u64)
+        }
         Err(fault) => push_fault(out, &fault),
     }
 }
@@ -201,24 +242,94 @@ fn reads_terms_or_their_first_faults(rt: HostRuntime) -> Result<(), Fail> {
     Ok(())
 }
 
-/// `(re.+ (re.+ .. x))`, with so many parentheses on either side.
-fn nested(alloc: Global, depth: usize) -> Result<Vec<u8>, AllocError> {
-    let mut form = Vec::new(alloc);
-    for _ in 0..depth {
-        form.extend_from_slice(b"(re.+ ")?;
+/// A text as often as is said.
+fn push_often(form: &mut Vec<u8>, text: &[u8], times: usize) -> Result<(), AllocError> {
+    for _ in 0..times {
+        form.extend_from_slice(text)?;
     }
-    form.extend_from_slice(b"x")?;
-    for _ in 0..depth {
-        form.push(b')').map_err(AllocError::from)?;
-    }
+    Ok(())
+}
+
+/// A front, a part as often as is said, a middle, and an end as often as is said.
+fn large_form(
+    alloc: Global,
+    parts: (&[u8], &[u8], &[u8], &[u8]),
+    times: (usize, usize),
+) -> Result<Vec<u8>, AllocError> {
+    let mut form = Vec::from_slice(alloc, parts.0)?;
+    push_often(&mut form, parts.1, times.0)?;
+    form.extend_from_slice(parts.2)?;
+    push_often(&mut form, parts.3, times.1)?;
     Ok(form)
 }
 
+/// Large forms by their parts, and how many terms there are after they are read, and how many arguments the last has:
+/// a form nested 512 deep, a hundred thousand arguments that are one text, and as many that are two by turns.
+const LARGE: [((&[u8], &[u8], &[u8], &[u8]), (usize, usize), (usize, usize)); 3] = [
+    (
+        (b"", b"(re.+ ", b"(str.to_re \"a\")", b")"),
+        (510, 510),
+        (512, 1),
+    ),
+    (
+        (b"(re.union", b" (str.to_re \"a\")", b"", b")"),
+        (1_000_000, 1),
+        (3, 1_000_000),
+    ),
+    (
+        (
+            b"(re.++",
+            b" (re.range \"a\" \"b\") (re.* (re.range \"a\" \"b\"))",
+            b"",
+            b")",
+        ),
+        (500_000, 1),
+        (5, 1_000_000),
+    ),
+];
+
+/// How many terms there are after the first form of a list is read, and how many arguments the last has.
+fn sizes_of(
+    alloc: Global,
+    table: &mut Table,
+    scope: &Scope,
+    list: &Next,
+) -> Result<Option<(usize, usize)>, AllocError> {
+    let Next::Command(Sexpr::List(forms)) = list else {
+        return Ok(None);
+    };
+    let Some(form) = forms.first() else {
+        return Ok(None);
+    };
+    match read_term(alloc, table, scope, form) {
+        Ok(id) => match table.term(id) {
+            Term::Apply(_, ids) => Ok(Some((table.len(), ids.len()))),
+            _ => Ok(None),
+        },
+        Err(_) => Ok(None),
+    }
+}
+
+fn expect_sizes(
+    rt: &impl Abort,
+    alloc: Global,
+    scope: &Scope,
+    form: &[u8],
+    wanted: (usize, usize),
+) -> Result<(), AllocError> {
+    let list = list_of(&mut Feed::new(alloc), form)?;
+    let sizes = sizes_of(alloc, &mut Table::new(alloc), scope, &list)?;
+    assert_eq!(rt; sizes, Some(wanted));
+    Ok(())
+}
+
 #[test]
-fn reads_the_deepest_form(rt: HostRuntime) -> Result<(), Fail> {
+fn reads_large_forms_into_few_terms(rt: HostRuntime) -> Result<(), Fail> {
     let scope = scope_of_tests(rt.alloc())?;
-    let form = nested(rt.alloc(), 511)?;
-    expect_answer(&rt, rt.alloc(), &scope, &form, "!sort")?;
+    for (parts, times, wanted) in LARGE {
+        let form = large_form(rt.alloc(), parts, times)?;
+        expect_sizes(&rt, rt.alloc(), &scope, &form, wanted)?;
+    }
     Ok(())
 }
 

@@ -1,6 +1,6 @@
 -- More bytes may come.
 use Rattle.std.proofs.Common.{◌≡◌, false}
-use Rattle.sb_script_tests.proofs.entries.take.Given as goal
+use Rattle.sb_reader_tests.proofs.entries.take.Given as goal
 
 abbrev pub invariant-loop-piece : goal.invariant-loop-piece
 invariant-loop-piece l =
