@@ -1,4 +1,4 @@
--- Private: the normal regex of a term, and what the parts of a term give.
+-- The normal regex of a term, and what the parts of a term give.
 use Rattle.std.specs.Prelude.{◌≡◌, ℕ, true, false, List, [], ◌∷◌, Option, Some, None, option_map, unwrap_or, map, slice_get}
 use Rattle.std.specs.List.{list_all}
 use Rattle.sb_term.specs.declared.sort.Symbol.{Symbol}
