@@ -5,5 +5,5 @@ use Rattle.sb_session.proofs.check.Regexes.new.Goals as goal
 
 pub returns : goal.returns
 returns c = λ stack words.
-    knows_none _ stack refl (no_items _ c.new-4.ensures.len) (no_items _ c.new-5.ensures.len) refl
-    (c.new-2.ensures.graph _) (c.new-3.ensures _ _) words
+    knows_none _ stack refl (no_items c.new-4.result c.new-4.ensures.len) (no_items c.new-5.result c.new-5.ensures.len)
+    refl (c.new-2.ensures.graph _) (c.new-3.ensures _ _) words
