@@ -14,6 +14,9 @@ SIZES = {
     "dictionaries": [625, 1250, 2500, 5000, 40000],
     "ranges": [625, 1250, 2500, 5000, 40000],
     "union": [625, 1250, 2500, 5000, 40000],
+    "checked-classes": [1250, 2500, 5000, 10000, 20000],
+    "checked-constants": [1250, 2500, 5000, 10000, 20000],
+    "checked-addresses": [1250, 2500, 5000, 10000, 20000],
 }
 here = os.path.dirname(os.path.abspath(__file__))
 program = os.path.join(here, "..", "crates", "strsolve", "out", "strsolve")
@@ -37,7 +40,7 @@ def run(command, path):
 
 
 families = sys.argv[1:] or list(SIZES)
-print(f"{'family':<14}{'size':>7}" + "".join(f"{name:>12} s{'MB':>8}" for name in solvers) + f"{'ratio':>9}  answer")
+print(f"{'family':<18}{'size':>7}" + "".join(f"{name:>12} s{'MB':>8}" for name in solvers) + f"{'ratio':>9}  answer")
 for family in families:
     for size in SIZES[family]:
         with tempfile.NamedTemporaryFile(suffix=".smt2") as script:
@@ -45,7 +48,7 @@ for family in families:
             script.flush()
             rows = {name: run(command, script.name) for name, command in solvers.items()}
         answers = {answer for _, _, answer in rows.values() if answer}
-        line = f"{family:<14}{size:>7}"
+        line = f"{family:<18}{size:>7}"
         for seconds, memory, answer in rows.values():
             line += f"{'-' if seconds is None else format(seconds, '.3f'):>13} {memory:>8.1f}"
         others = [rows[name][0] for name in rows if name != "strsolve" and rows[name][0] is not None]

@@ -5,6 +5,11 @@ the intersection has as many derivatives as the product of the lengths, which is
 `dictionaries`: one constant in two unions of so many words that have no word in common.
 `ranges`: one constant in so many `(re.+ (re.range ..))` that overlap.
 `union`: one constant in `re.+` of a union of so many words.
+
+And scripts of so many checks, each behind a new assertion:
+`checked-classes`: one constant in one more range of characters each time.
+`checked-constants`: one more constant each time, in a range of characters.
+`checked-addresses`: one more constant each time, in a regular expression of mail addresses.
 """
 import random
 import sys
@@ -63,7 +68,37 @@ def of_union(size):
     return in_re(f"(re.+ {union(words)})")
 
 
-FAMILIES = {"coprime": coprime, "dictionaries": dictionaries, "ranges": ranges, "union": of_union}
+def one_more(name, regex):
+    return f"(declare-const {name} String)\n(assert (str.in_re {name} {regex}))\n(check-sat)\n"
+
+
+def checked_classes(size):
+    text = ""
+    for number in range(size):
+        low, high = chr(ord("a") + number % 12), chr(ord("o") + number % 12)
+        text += in_re(f'(re.range "{low}" "{high}")') + "(check-sat)\n"
+    return text
+
+
+def checked_constants(size):
+    return "".join(one_more(f"y{number}", '(re.range "a" "m")') for number in range(size))
+
+
+def checked_addresses(size):
+    letters = '(re.+ (re.union (re.range "a" "z") (re.range "0" "9")))'
+    address = f'(re.++ {letters} (str.to_re "@") {letters} (str.to_re ".") (re.range "a" "z") (re.+ (re.range "a" "z")))'
+    return "".join(one_more(f"y{number}", address) for number in range(size))
+
+
+FAMILIES = {
+    "coprime": coprime,
+    "dictionaries": dictionaries,
+    "ranges": ranges,
+    "union": of_union,
+    "checked-classes": checked_classes,
+    "checked-constants": checked_constants,
+    "checked-addresses": checked_addresses,
+}
 
 if __name__ == "__main__":
     family, size = sys.argv[1], int(sys.argv[2])

@@ -10,6 +10,8 @@ mod answers;
 #[cfg(test)]
 mod asked;
 #[cfg(test)]
+mod checks;
+#[cfg(test)]
 mod errors;
 #[cfg(test)]
 mod faults;

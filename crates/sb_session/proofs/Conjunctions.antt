@@ -1,9 +1,12 @@
 -- The words that regexes have in common.
-use Rattle.std.proofs.Common.{◌≡◌, ℕ, ◌<◌, ◌&&◌, List, [], ◌∷◌, ◌++◌, length, refl, sym, ap, ◌∙◌, Option, Some, None}
+use Rattle.std.proofs.Common.{◌≡◌, ◌≢◌, ℕ, ◌<◌, true, ◌&&◌, List, [], ◌∷◌, ◌++◌, length, refl, sym, ap, ◌∙◌, arith}
 use Rattle.std.proofs.Math.Bool.{and-true, and_assoc}
 use Rattle.std.specs.List.{list_all}
 use Rattle.std.proofs.lemmas.List.Elements.{All-head, All-tail}
-use Rattle.sb_word.specs.Words.{IsWord}
+use Rattle.std.specs.Ordering.{nat_cmp}
+use Rattle.std.specs.Cmp.Lexicographic.{slice_cmp}
+use Rattle.std.specs.declared.cmp.Ordering.TheVariants.{Less}
+use Rattle.sb_word.specs.Words.{IsWord, are_characters}
 use Rattle.sb_lang.specs.Languages.{Language}
 use Rattle.sb_lang.specs.Least.{IsShortestLeast, HasNoWord}
 use Rattle.sb_lang.specs.Language.{language}
@@ -11,7 +14,7 @@ use Rattle.sb_lang.specs.Regex.{Regex}
 use Rattle.sb_lang.specs.Constructors.{mkand}
 use Rattle.sb_lang.specs.ConstructorLaws.{MkandKeepsLanguage, IntersectionIsOfEach}
 use Rattle.sb_regex.specs.Numbered.{regex_at, regexes_at, AllNumbers, Extends, Names}
-use Rattle.sb_session.specs.Deciding.{in_each, IsLeastOf}
+use Rattle.sb_session.specs.Deciding.{in_each}
 use Rattle.sb_regex.proofs.CallerLemmas.{at_kept, names_at}
 
 pub in_each-append : (rs : List Regex) (ids : List ℕ) (id : ℕ) (w : List ℕ)
@@ -52,13 +55,16 @@ same_least L M v same l = record {
 pub same_no_word : (L M : Language) → ((w : List ℕ) → IsWord w → M w ≡ L w) → HasNoWord L → HasNoWord M
 same_no_word L M same none = λ w c. same w c ∙ none w c
 
-pub same_least_of : (L M : Language) (found : Option (List ℕ)) → ((w : List ℕ) → IsWord w → M w ≡ L w)
-    → IsLeastOf L found → IsLeastOf M found
-same_least_of L M None same none = same_no_word L M same none
-same_least_of L M (Some v) same l = same_least L M v same l
-
 -- a regex that is the intersection has these words
 pub in_root : MkandKeepsLanguage → IntersectionIsOfEach → (old new : List Regex) (ids : List ℕ) (root : ℕ)
     → Names new root (mkand (regexes_at old ids)) → (w : List ℕ) → in_each old ids w ≡ language (regex_at new root) w
 in_root keeps each old new ids root names w = in_intersection keeps each old ids w
     ∙ ap (λ r. language r w) (sym (names_at new root (mkand (regexes_at old ids)) names))
+
+-- every word is in no regexes, so the empty word is the least
+pub least_of_all : (language : Language) → ((w : List ℕ) → language w ≡ true) → IsShortestLeast language []
+least_of_all language all = record { word = refl; member = all []; shortest = λ v c h. omega arith; least = least_of }
+  where
+    least_of : (v : List ℕ) → are_characters v ≡ true → language v ≡ true → length v ≡ 0 → slice_cmp nat_cmp v [] ≢ Less
+    least_of [] c h e = λ less. cc
+    least_of (c ∷ v) k h e = absurd (omega arith)

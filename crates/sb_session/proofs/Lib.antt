@@ -9,7 +9,9 @@ pub mod ScriptLemmas
 pub mod SolveLemmas
 pub mod TermShapes
 pub mod Conjunctions
-pub mod LeastWords
 pub mod OneMembership
 pub mod DefaultValues
 pub mod Verdicts
+pub mod Knowledge
+pub mod Constants
+pub mod TakingOver

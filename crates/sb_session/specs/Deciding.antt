@@ -1,5 +1,5 @@
 -- Private: what a check finds on the way: for each constant the regexes of its memberships.
-use Rattle.std.specs.Prelude.{◌≡◌, ◌≢◌, ℕ, true, List, [], ◌∷◌, ◌++◌, length, Option, MatchOption, slice_index_or}
+use Rattle.std.specs.Prelude.{◌≡◌, ◌≢◌, ℕ, ◌<◌, true, List, [], ◌∷◌, ◌++◌, length, slice_index_or}
 use Rattle.std.specs.List.{list_all}
 use Rattle.sb_word.specs.Words.{IsWord}
 use Rattle.sb_lang.specs.Languages.{Language}
@@ -8,13 +8,13 @@ use Rattle.sb_lang.specs.Language.{language}
 use Rattle.sb_lang.specs.Regex.{Regex}
 use Rattle.sb_regex.specs.Numbered.{regex_at, AllNumbers}
 use Rattle.sb_meaning.specs.Terms.{Term, text, constant, apply, no_terms, with_term, str_in_re}
-use Rattle.sb_script.specs.State.{Assertion, terms_in}
+use Rattle.sb_script.specs.State.{Assertion, asserted, terms_in}
+use Rattle.sb_term.specs.declared.assertion.Assertion as code
+use Rattle.sb_term.specs.Numbered.{term_at}
 use Rattle.sb_meaning.specs.Truth.{all_hold}
 use Rattle.sb_script.specs.Fragment.{are_inside}
-use Rattle.sb_stack.specs.Stacked.{values_from, are_words}
-use Rattle.sb_stack.specs.declared.verdict.Verdict.{Verdict}
+use Rattle.sb_stack.specs.Stacked.{values_from, are_words, assertion_in}
 use Rattle.sb_script.specs.Models.{words_for}
-use Rattle.sb_stack.specs.declared.verdict.Verdict.TheVariants as verdict
 
 -- the membership of the constant in the regular expression
 abbrev pub membership_of : ℕ → Term → Term
@@ -49,9 +49,22 @@ pub record IsSofar (rs : List Regex) (count : ℕ) (assertions : List Assertion)
   pub together : (words : List (List ℕ)) → ((n : ℕ) → words_for n (terms_in assertions) (word_at words n) ≡ true)
       → all_hold (terms_in assertions) (values_from 0 words) ≡ true
 
--- the word that a model gives, or that there is none
-abbrev pub IsLeastOf : Language → Option (List ℕ) → Type 0
-IsLeastOf language found = MatchOption found (HasNoWord language) (λ w. IsShortestLeast language w)
+-- what a constant's root and word are, where these are its regexes
+pub record IsRooted (rs : List Regex) (L : Language) (root : ℕ) (word : List ℕ) : Type 0 where
+  pub known : root < length rs
+  pub same : (w : List ℕ) → L w ≡ language (regex_at rs root) w
+  pub least : IsShortestLeast L word
+
+-- the assertion is the membership of the constant in the term of the number
+pub record IsMembership (ts : List Term) (a : code.Assertion) (serial id : ℕ) : Type 0 where
+  pub is : assertion_in ts a ≡ asserted (membership_of serial (term_at ts id))
+  pub below : id < length ts
+
+-- so many words, of which those that are new are empty
+pub record AreFilled (count : ℕ) (old new : List (List ℕ)) : Type 0 where
+  pub long : length new ≡ count
+  pub same : (n : ℕ) → word_at new n ≡ word_at old n
+  pub characters : are_words old ≡ true → are_words new ≡ true
 
 -- the word of each constant
 pub record AreLeastWords (rs : List Regex) (found words : List (List ℕ)) : Type 0 where
@@ -62,8 +75,3 @@ pub record AreLeastWords (rs : List Regex) (found words : List (List ℕ)) : Typ
 -- some constant has no word
 abbrev pub HasEmpty : List Regex → List (List ℕ) → Type 0
 HasEmpty rs found = (n : ℕ) × HasNoWord (in_each rs (ids_at found n))
-
-abbrev pub AreBest : List Regex → List (List ℕ) → Verdict → Type 0
-AreBest rs found (verdict.Sat words) = AreLeastWords rs found words.items
-AreBest rs found verdict.Unsat = HasEmpty rs found
-AreBest rs found verdict.Outside = ⊥

@@ -5,3 +5,5 @@ pub mod Solve
 pub mod Pausing
 pub mod Underway
 pub mod Deciding
+pub mod Conjoined
+pub mod Knowing

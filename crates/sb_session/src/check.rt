@@ -1,184 +1,304 @@
 //! Deciding a check: what the regexes of each constant's memberships have in common, explored.
 //!
 //! A constant's memberships are true of one word exactly where the intersection of their regexes has a word, and the
-//! word that exploring the intersection finds is the one that a model gives.
+//! word that exploring the intersection finds is the one that a model gives. What is known of the assertions so far
+//! is kept, so that a check takes in those that are new, and finds words of the constants that they speak of.
 
-ghost use Rattle.std.specs.Prelude.{◌≡◌, ℕ, ◌<◌, [], ◌∷◌, length, map, true, false, IfOk, OnOk, MatchOption};
+ghost use Rattle.std.specs.Prelude.{◌≡◌, ℕ, ◌+◌, ◌<◌, ◌≤◌, [], List, length, map, true, false, All, IfOk, OnOk, MatchOption};
+ghost use Rattle.sb_lang.specs.Regex.{Regex};
 ghost use Rattle.sb_regex.specs.Numbered.{AllNumbers, Extends};
 ghost use Rattle.sb_graph.specs.Findings.{IsGraph};
+ghost use Rattle.sb_lang.specs.Least.{HasNoWord};
 ghost use Rattle.sb_script.specs.Fragment.{is_inside, are_inside};
-ghost use Rattle.sb_script.specs.State.{asserted};
-ghost use Rattle.sb_script.specs.Verdicts.{IsVerdict};
-ghost use Rattle.sb_session.specs.Deciding.{in_each, ids_at, membership_of, IsPut, IsSofar, IsLeastOf, AreBest};
-ghost use Rattle.sb_sorts.specs.Terms.{term_in};
-ghost use Rattle.sb_stack.specs.Stacked.{state_of, assertion_in, have_serials_below};
-ghost use Rattle.sb_stack.specs.Steps.{verdict_in};
+ghost use Rattle.sb_script.specs.State.{live};
+ghost use Rattle.sb_script.specs.Verdicts.{IsVerdict, settled};
+ghost use Rattle.sb_session.specs.Conjoined.{found_of, ids_of, OthersSettled, HasRoom, IsPutAt};
+ghost use Rattle.sb_session.specs.Deciding.{in_each, ids_at, HasEmpty, IsRooted, IsMembership, AreFilled};
+ghost use Rattle.sb_session.specs.Knowing.{IsTaken, StayKept, Knows, HasAll, AreFound, IsTakingOver};
+ghost use Rattle.sb_stack.specs.Stacked.{Stacked, state_of, assertion_in, HasNumberBelow};
+ghost use Rattle.sb_stack.specs.Steps.{verdict_in, found};
+ghost use Rattle.sb_term.specs.Serials.{all_below};
 
 use crate::conjuncts::Conjuncts;
 use sb_graph::{Explored, Graph, graph_stays};
 use sb_lang::constructors::{intersection_is_of_each, mkand_keeps_language};
 use sb_lang::normal::normal_has_terms_words;
-use sb_problem::normal;
+use sb_problem::{Normals, constant_of, normals_stay};
 use sb_regex::{Arena, RegexId};
-use sb_sorts::{Serial, Symbol, Term};
-use sb_stack::{Assertion, Stack, Verdict};
+use sb_stack::{Stack, Verdict};
+use sb_term::{Assertion, Serial, Symbol, Table, Term, TermId};
 use sb_word::Word;
 use std::alloc::{AllocError, Global};
-use std::marker::Model;
 
-/// The regexes that checks have met, and what was found out of them, which stays true from one check to the next.
+/// What is known of the assertions that were taken in, and of the regexes that checks have met, which stays true from
+/// one check to the next.
 #[derive(Drop)]
 pub(crate) struct Regexes {
     arena: Arena,
     graph: Graph,
+    normals: Normals,
+    /// How many assertions are taken in.
+    taken: usize,
+    /// By serial the regexes of each constant's memberships.
+    constants: Vec<Conjuncts>,
+    /// The constants with memberships that are new since the last check with a model.
+    changed: Vec<Serial>,
+    /// Some constant is known to have no word.
+    dead: bool,
 }
 
-impl Model for Regexes {
-    ghost use Rattle.sb_graph.specs.Findings.{IsGraph};
-
-    ghost Value = { Unit {0} };
-
-    ghost view = { λ regexes. tt };
-
-    ghost invariant = { λ regexes. IsGraph regexes.arena regexes.graph };
+/// What a check finds of a constant: its memberships' intersection, and the word of it that a model gives.
+#[derive(Drop)]
+pub(crate) struct Found {
+    serial: Serial,
+    root: RegexId,
+    word: Word,
 }
 
 impl Regexes {
-    /// No regexes. Takes no memory.
-    pub(crate) fn new(alloc: Global) -> Regexes {
+    /// Nothing is known. Takes no memory.
+    pub(crate) fn new(alloc: Global) -> Regexes
+        ensures { (stack : Stacked) → stack.words ≡ [] → Knows result stack }
+    {
         Regexes {
             arena: Arena::new(alloc),
             graph: Graph::new(alloc),
+            normals: Normals::new(alloc),
+            taken: 0,
+            constants: Vec::new(alloc),
+            changed: Vec::new(alloc),
+            dead: false,
         }
     }
 
-    /// What a check of the live assertions finds. Linear in the assertions, the constants and what is explored; a regex
-    /// that was explored before is not expanded again. `AllocError` only for want of memory.
-    pub(crate) fn decide(&mut self, alloc: Global, stack: &Stack) -> Result<Verdict, AllocError>
-        ensures { IfOk result (λ verdict. IsVerdict (state_of stack.now) [] (verdict_in verdict)) }
+    /// What a check of the live assertions finds. Linear in the assertions and constants that are new since the last
+    /// check with a model, the constants that the new ones speak of, and what is explored; a regex that was explored
+    /// before is not expanded again. `AllocError` only for want of memory.
+    pub(crate) fn decide(&mut self, alloc: Global, stack: &mut Stack) -> Result<Verdict, AllocError>
+        requires { Knows self.old stack.old }
+        ensures verdict { IfOk result (λ verdict. IsVerdict (state_of stack.old) [] (verdict_in verdict)) }
+        ensures knows { IfOk result (λ verdict. Knows self.new (found verdict stack.new)) }
+        ensures state { IfOk result (λ verdict. settled (verdict_in verdict) (state_of stack.new)
+            ≡ settled (verdict_in verdict) (state_of stack.old)) }
     {
-        graph_stays();
-        let assertions = stack.assertions();
-        let count = stack.declared();
-        let Some(found) = memberships(alloc, &mut self.arena, assertions, count)? else {
+        if !self.take_in(alloc, stack)? {
             return Ok(Verdict::Outside);
+        }
+        if self.dead {
+            return Ok(Verdict::Unsat);
+        }
+        let Some(found) = least_words(
+            alloc,
+            &mut self.arena,
+            &mut self.graph,
+            &self.constants,
+            &self.changed,
+        )?
+        else {
+            self.dead = true;
+            return Ok(Verdict::Unsat);
         };
-        least_words(alloc, &mut self.arena, &mut self.graph, &found)
+        let mut words = stack.take_words();
+        fill(alloc, &mut words, self.constants.len())?;
+        take_over(&mut self.constants, &mut words, found);
+        self.changed.clear();
+        Ok(Verdict::Sat(words))
+    }
+
+    /// Takes in the assertions that are new, and answers whether all of them are decided ones. Linear in them, and in
+    /// the constants that are new.
+    fn take_in(&mut self, alloc: Global, stack: &Stack) -> Result<bool, AllocError>
+        requires { Knows self.old stack.now }
+        ensures knows { OnOk result (Knows self.new stack.now) }
+        ensures all { IfOk result (λ all. all ≡ true → HasAll self.new stack.now) }
+        ensures outside { IfOk result (λ all. all ≡ false → are_inside (live (state_of stack.now)) ≡ false) }
+    {
+        let assertions = stack.assertions();
+        let table = stack.table();
+        make_room(alloc, &mut self.constants, stack.declared())?;
+        while self.taken < assertions.len() {
+            if !self.take_one(table, assertions)? {
+                return Ok(false);
+            }
+        }
+        Ok(true)
+    }
+
+    /// Takes in the next assertion, and answers whether it is a decided one; if not, it is not taken in.
+    fn take_one(
+        &mut self,
+        table: &Table,
+        assertions: &[Assertion],
+    ) -> Result<bool, AllocError>
+        requires more { self.old.taken < length assertions.now }
+        requires numbers { All (HasNumberBelow (length table.now)) assertions.now }
+        requires serials { all_below (length self.old.constants.items) table.now ≡ true }
+        requires taken { IsTaken self.old table.now assertions.now }
+        ensures taken { OnOk result (IsTaken self.new table.now assertions.now) }
+        ensures words { OnOk result (StayKept self.old self.new) }
+        ensures further { IfOk result (λ all. all ≡ true → self.new.taken ≡ self.old.taken + 1) }
+        ensures outside { IfOk result
+            (λ all. all ≡ false → are_inside (map (assertion_in table.now) assertions.now) ≡ false) }
+    {
+        normal_has_terms_words();
+        graph_stays();
+        normals_stay();
+        let Some((serial, regex)) = membership(table, &assertions[self.taken]) else {
+            return Ok(false);
+        };
+        let Some(id) = self.normals.normal(table, &mut self.arena, regex)? else {
+            return Ok(false);
+        };
+        put(&mut self.constants, &mut self.changed, serial, id)?;
+        self.taken += 1;
+        Ok(true)
     }
 }
 
-/// By serial the regexes of the memberships of each of so many constants, `None` where an assertion is none that is
-/// decided.
-fn memberships(
-    alloc: Global,
-    arena: &mut Arena,
-    assertions: &[Assertion],
-    count: usize,
-) -> Result<Option<Vec<Conjuncts>>, AllocError>
-    requires { have_serials_below count assertions.now ≡ true }
-    ensures found { IfOk result
-        (λ found. MatchOption found (are_inside (map assertion_in assertions.now) ≡ false)
-        (λ found. IsSofar arena.new count (map assertion_in assertions.now) found.items)) }
-    ensures extends { Extends arena.old arena.new }
+/// The constant and the regular expression of a membership, `None` where the assertion is another. Takes constant time.
+fn membership(table: &Table, assertion: &Assertion) -> Option<(Serial, TermId)>
+    requires { HasNumberBelow (length table.now) assertion.now }
+    ensures { MatchOption result (is_inside (assertion_in table.now assertion.now) ≡ false)
+        (λ m. IsMembership table.now assertion.now m.0.0 m.1) }
 {
-    normal_has_terms_words();
-    let mut found = without_conjuncts(alloc, count)?;
-    for assertion in assertions {
-        let Some((serial, regex)) = membership(assertion) else {
-            return Ok(None);
-        };
-        let Some(id) = normal(alloc, arena, regex)? else {
-            return Ok(None);
-        };
-        put(&mut found, serial, id)?;
-    }
-    Ok(Some(found))
-}
-
-/// No regexes yet for each of so many constants.
-fn without_conjuncts(alloc: Global, count: usize) -> Result<Vec<Conjuncts>, AllocError>
-    ensures { IfOk result (λ found. (length found.items ≡ count) × ((n : ℕ) → ids_at found.items n ≡ [])) }
-{
-    let mut found = Vec::new(alloc);
-    for _ in 0..count {
-        found.push(Conjuncts::new(alloc))?;
-    }
-    Ok(found)
-}
-
-/// The constant and the regular expression of a membership.
-fn membership(assertion: &Assertion) -> Option<(Serial, &Term)>
-    ensures { MatchOption result (is_inside (assertion_in assertion.now) ≡ false)
-        (λ m. assertion_in assertion.now ≡ asserted (membership_of m.0.0 (term_in m.1.now))) }
-{
-    let Assertion::Term(term) = assertion else {
+    let Some(id) = assertion.term else {
         return None;
     };
-    let Term::Apply(symbol, arguments) = term else {
+    let Term::Apply(symbol, arguments) = table.term(id) else {
         return None;
     };
-    let Symbol::InRe = symbol else {
+    let Symbol::StrInRe = symbol else {
         return None;
     };
     let [constant, regex] = arguments.as_slice() else {
         return None;
     };
-    let Term::Constant(serial) = constant else {
+    let Some(serial) = constant_of(table, *constant) else {
         return None;
     };
-    Some((*serial, regex))
+    Some((serial, *regex))
+}
+
+/// Room for so many constants, of which those that are new have no memberships.
+fn make_room(
+    alloc: Global,
+    constants: &mut Vec<Conjuncts>,
+    count: usize,
+) -> Result<(), AllocError>
+    requires { length constants.old.items ≤ count }
+    ensures { OnOk result (HasRoom count constants.old.items constants.new.items) }
+{
+    while constants.len() < count {
+        constants.push(Conjuncts::new(alloc))?;
+    }
+    Ok(())
 }
 
 /// Takes one more membership of a constant into account.
-fn put(found: &mut [Conjuncts], serial: Serial, id: RegexId) -> Result<(), AllocError>
-    requires { serial.0 < length found.old }
-    ensures { OnOk result (IsPut found.old found.new serial.0 id) }
+fn put(
+    constants: &mut [Conjuncts],
+    changed: &mut Vec<Serial>,
+    serial: Serial,
+    id: RegexId,
+) -> Result<(), AllocError>
+    requires within { serial.0 < length constants.old }
+    requires settled { OthersSettled changed.old.items constants.old }
+    requires listed { All (λ other. other.0 < length constants.old) changed.old.items }
+    ensures put { OnOk result (IsPutAt constants.old constants.new serial.0 id) }
+    ensures settled { OnOk result (OthersSettled changed.new.items constants.new) }
+    ensures listed { OnOk result (All (λ other. other.0 < length constants.old) changed.new.items) }
 {
-    let conjuncts = &mut found[serial.0 as usize];
+    let conjuncts = &mut constants[serial.0 as usize];
+    if conjuncts.is_settled() {
+        changed.push(serial)?;
+    }
     conjuncts.push(id)
 }
 
-/// The least word of each constant, where each has one.
+/// The least word of each of these constants, `None` where one has none.
 fn least_words(
     alloc: Global,
     arena: &mut Arena,
     graph: &mut Graph,
-    found: &[Conjuncts],
-) -> Result<Verdict, AllocError>
-    requires known { (n : ℕ) → AllNumbers arena.old (ids_at found.now n) }
+    constants: &[Conjuncts],
+    changed: &[Serial],
+) -> Result<Option<Vec<Found>>, AllocError>
+    requires known { (n : ℕ) → AllNumbers arena.old (ids_at (found_of constants.now) n) }
+    requires listed { All (λ serial. serial.0 < length constants.now) changed.now }
     requires graph { IsGraph arena.old graph.old }
-    ensures best { IfOk result (λ verdict. AreBest arena.old found.now verdict) }
+    ensures found { IfOk result (λ found. MatchOption found (HasEmpty arena.new (found_of constants.now))
+        (λ fs. AreFound arena.new constants.now changed.now fs.items)) }
+    ensures extends { Extends arena.old arena.new }
     ensures graph { IsGraph arena.new graph.new }
 {
-    let mut words = Vec::new(alloc);
-    for conjuncts in found {
-        let Some(word) = least_word(arena, graph, conjuncts.ids())? else {
-            return Ok(Verdict::Unsat);
+    let mut found = Vec::new(alloc);
+    for serial in changed {
+        let conjuncts = &constants[serial.0 as usize];
+        let Some(one) = least_word(arena, graph, *serial, conjuncts)? else {
+            return Ok(None);
         };
-        words.push(word)?;
+        found.push(one)?;
     }
-    Ok(Verdict::Sat(words))
+    Ok(Some(found))
 }
 
-/// The shortest word that all the regexes have, the least by code points among the shortest; `None` where there is
-/// none.
+/// The intersection of a constant's regexes, with its shortest word, the least by code points among the shortest;
+/// `None` where it has none.
 fn least_word(
     arena: &mut Arena,
     graph: &mut Graph,
-    ids: &[RegexId],
-) -> Result<Option<Word>, AllocError>
-    requires known { AllNumbers arena.old ids.now }
+    serial: Serial,
+    conjuncts: &Conjuncts,
+) -> Result<Option<Found>, AllocError>
+    requires known { AllNumbers arena.old (ids_of conjuncts.now) }
     requires graph { IsGraph arena.old graph.old }
-    ensures least { IfOk result (λ found. IsLeastOf (in_each arena.old ids.now) found) }
+    ensures found { IfOk result (λ found. MatchOption found (HasNoWord (in_each arena.old (ids_of conjuncts.now)))
+        (λ one. (one.serial ≡ serial)
+        × IsRooted arena.new (in_each arena.old (ids_of conjuncts.now)) one.root one.word)) }
     ensures extends { Extends arena.old arena.new }
     ensures graph { IsGraph arena.new graph.new }
 {
     graph_stays();
     mkand_keeps_language();
     intersection_is_of_each();
-    let root = arena.and(ids)?;
+    let ids = conjuncts.ids()?;
+    let root = arena.and(&ids)?;
     match graph.answer(arena, root)? {
-        Explored::Alive(word) => Ok(Some(word)),
+        Explored::Alive(word) => Ok(Some(Found { serial, root, word })),
         Explored::Dead => Ok(None),
+    }
+}
+
+/// Words for so many constants, of which those that are new have the empty one.
+fn fill(alloc: Global, words: &mut Vec<Word>, count: usize) -> Result<(), AllocError>
+    requires { length words.old.items ≤ count }
+    ensures { OnOk result (AreFilled count words.old.items words.new.items) }
+{
+    while words.len() < count {
+        words.push(empty_word(alloc)?)?;
+    }
+    Ok(())
+}
+
+fn empty_word(alloc: Global) -> Result<Word, AllocError>
+    ensures { IfOk result (λ word. word ≡ []) }
+{
+    match Word::from_codes(alloc, &[]) {
+        Ok(word) => Ok(word),
+        Err(_) => Err(AllocError),
+    }
+}
+
+/// Gives each constant of which something was found its root and its word. Takes no memory.
+fn take_over(constants: &mut [Conjuncts], words: &mut [Word], mut found: Vec<Found>)
+    requires long { length words.old ≡ length constants.old }
+    requires within { All (λ one. one.serial.0 < length constants.old) found.items }
+    ensures { (rs : List Regex) → IsTakingOver rs constants.old constants.old words.old found.items
+        → IsTakingOver rs constants.old constants.new words.new [] }
+{
+    while let Some(one) = found.pop() {
+        let place = one.serial.0 as usize;
+        constants[place].settle(one.root);
+        words[place] = one.word;
     }
 }

@@ -1,10 +1,11 @@
 //! The session, entry by entry.
 
-ghost use Rattle.std.specs.Prelude.{◌≡◌, true, false, IfOk, IfErr, OnErr};
+ghost use Rattle.std.specs.Prelude.{◌≡◌, true, false, IfOk, IfErr, OnOk, OnErr};
 ghost use Rattle.sb_world.specs.Outside.{CountsFault};
 ghost use Rattle.sb_script.specs.State.{start};
 ghost use Rattle.sb_stack.specs.Stacked.{state_of};
 ghost use Rattle.sb_stack.specs.Steps.{IsEntry, entry_of};
+ghost use Rattle.sb_session.specs.Knowing.{Knows};
 ghost use Rattle.sb_session.specs.Commanding.{Goes, Fails, AnswersEntry, CutOrNot, went_of, CountsSessionFault};
 
 use crate::check::Regexes;
@@ -70,15 +71,19 @@ pub struct Session {
 }
 
 impl Model for Session {
+    ghost use Rattle.std.specs.Prelude.{◌≡◌, false};
     ghost use Rattle.sb_session.specs.Commanding.{SessionState};
-    ghost use Rattle.sb_sorts.specs.contracts.term.Term as term;
+    ghost use Rattle.sb_session.specs.Knowing.{Knows};
+    ghost use Rattle.sb_meaning.proofs.CallerLemmas.{coded_term};
     ghost use Rattle.std.specs.Coded.{codes};
 
     ghost Value = { SessionState };
 
-    ghost coded = { Prim.hlevel (codes, term.the_row.coded) };
+    ghost coded = { Prim.hlevel (codes, coded_term) };
 
     ghost view = { λ s. record { stack = s.stack; ended = s.ended } };
+
+    ghost invariant = { λ s. s.ended ≡ false → Knows s.regexes s.stack };
 }
 
 impl Session {
@@ -97,7 +102,8 @@ impl Session {
 
     /// Answers the next entry of the script, whole, before it returns. `Ended` exactly where an earlier entry was
     /// `(exit)` or was not answered; `Fault` only where the world's count of faults rose. Linear in the entry and the
-    /// answer, and for a check in the live assertions and in what they make it explore.
+    /// answer, and for a check in the assertions and constants that are new since the last check with a model, and in
+    /// what they make it explore.
     pub fn command<W: World>(&mut self, entry: &Next, world: &mut W) -> Result<Went, SessionFault>
         requires { IsEntry entry.now }
         ensures ok { IfOk result
@@ -124,7 +130,9 @@ fn answer_entry<W: World>(
     entry: &Next,
     world: &mut W,
 ) -> Result<Went, WorldError>
-    requires { IsEntry entry.now }
+    requires entry { IsEntry entry.now }
+    requires knows { Knows regexes.old stack.old }
+    ensures knows { OnOk result (Knows regexes.new stack.new) }
     ensures ok { IfOk result (λ went. (went ≡ went_of (entry_of entry.now))
         × AnswersEntry (entry_of entry.now) (state_of stack.old) (state_of stack.new) (W.outside world.old)
         (W.outside world.new)) }
