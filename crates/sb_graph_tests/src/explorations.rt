@@ -3,9 +3,9 @@
 
 ghost use Rattle.sb_graph.specs.Findings.{IsGraph};
 
-use sb_regex_tests::terms::{alt, regex, word};
 use sb_graph::{Explored, Graph};
 use sb_regex::{Arena, Node, RegexId};
+use sb_regex_tests::terms::{alt, regex, word};
 use std::alloc::{AllocError, Global};
 use std::process::Abort;
 use std::test::Fail;

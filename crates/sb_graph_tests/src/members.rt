@@ -1,10 +1,10 @@
 //! Words that a walk over the members of unions finds, where the derivatives are many.
 
 use crate::explorations::answer;
-use sb_regex_tests::terms::{cat, range, regex, star};
 use sb_deriv::Deriver;
 use sb_graph::Explored;
 use sb_regex::{Arena, RegexId};
+use sb_regex_tests::terms::{cat, range, regex, star};
 use sb_witness::{Outcome, find_word};
 use std::alloc::{AllocError, Global};
 use std::process::Abort;

@@ -1,16 +1,15 @@
 -- Constants by their place, with the regexes of their memberships.
-use Rattle.std.proofs.Common.{◌≡◌, ◌≢◌, ℕ, zero, suc, ◌+◌, ◌<◌, ◌≤◌, Bool, true, false, ◌||◌, ◌==◌, List, [], ◌∷◌, ◌++◌, length, get_or, set, map, refl, sym, ap, ◌∙◌, arith, ◌⊎◌, inl, inr, Option, Some, None, length-append, slice_index_or}
+use Rattle.std.proofs.Common.{◌≡◌, ◌≢◌, ℕ, zero, suc, ◌<◌, ◌≤◌, Bool, true, false, ◌||◌, ◌==◌, List, [], ◌∷◌, ◌++◌, length, get_or, set, refl, sym, ap, ◌∙◌, arith, Option, Some, None, length-append}
 use Rattle.std.proofs.lemmas.Bool.{or_parts, false≢true, eq-eqb, eqb-true, eqb-false}
-use Rattle.std.proofs.lemmas.Bool.Decides.{nat_tests}
 use Rattle.std.proofs.lemmas.List.{length-set}
-use Rattle.std.proofs.lemmas.List.Elements.{All-append, All-push}
-use Rattle.std.specs.List.{All, list_any}
+use Rattle.std.proofs.lemmas.List.Elements.{All-push}
+use Rattle.std.specs.List.{All}
 use Rattle.sb_word.specs.Words.{are_characters}
 use Rattle.std.proofs.lemmas.Bool.{and_parts, and_from}
 use Rattle.sb_term.specs.declared.term.Serial.{Serial}
 use Rattle.sb_stack.specs.Stacked.{are_words}
-use Rattle.sb_session.specs.Conjoined.{Conjoined, blank, with_root, ids_of, found_of, conjoined_at, is_listed, OthersSettled, HasRoom, IsPutAt}
-use Rattle.sb_session.specs.Deciding.{ids_at, word_at, IsPut, AreFilled}
+use Rattle.sb_session.specs.Conjoined.{Conjoined, blank, with_root, ids_of, found_of, conjoined_at, is_listed, OthersSettled, IsPutAt}
+use Rattle.sb_session.specs.Deciding.{ids_at, word_at, IsPut}
 
 pub ids_found : (cs : List Conjoined) (n : ℕ) → ids_at (found_of cs) n ≡ ids_of (conjoined_at cs n)
 ids_found [] n = refl

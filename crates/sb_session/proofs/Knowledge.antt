@@ -1,8 +1,8 @@
 -- What is known of the assertions so far, as more of it becomes known.
-use Rattle.std.proofs.Common.{◌≡◌, ◌≢◌, ℕ, zero, suc, ◌+◌, ◌<◌, ◌≤◌, Bool, true, false, ◌&&◌, ◌==◌, nat_lt, List, [], ◌∷◌, ◌++◌, length, get_or, map, take, refl, sym, ap, ◌∙◌, arith, Option, Some, None, IfSome, length-append}
+use Rattle.std.proofs.Common.{◌≡◌, ℕ, zero, suc, ◌+◌, ◌<◌, ◌≤◌, Bool, true, false, ◌&&◌, ◌==◌, nat_lt, List, [], ◌∷◌, ◌++◌, length, get_or, map, take, refl, sym, ap, ◌∙◌, arith, Option, Some, None, IfSome, length-append}
 use Rattle.std.proofs.lemmas.Bool.{and_parts, false≢true, eqb-true, eqb-false}
 use Rattle.std.proofs.lemmas.Bool.Decides.{nat_tests}
-use Rattle.std.proofs.lemmas.List.{take_more, take_all, take-append-le, map-append, nil_from_length}
+use Rattle.std.proofs.lemmas.List.{take_more, take-append-le, map-append, nil_from_length}
 use Rattle.std.proofs.lemmas.List.Elements.{All-take, All-head, All-tail, All-nil}
 use Rattle.std.specs.List.{All}
 use Rattle.std.specs.declared.vec.Vec.{Vec}
@@ -19,7 +19,6 @@ use Rattle.sb_problem.specs.Normals.{IsRegexOf}
 use Rattle.sb_problem.specs.Laws.{NormalsStay}
 use Rattle.sb_meaning.specs.Terms.{Term}
 use Rattle.sb_term.specs.declared.assertion.Assertion as code
-use Rattle.sb_term.specs.declared.term.Serial.{Serial}
 use Rattle.sb_term.specs.Numbered.{term_at}
 use Rattle.sb_term.specs.Numbered as table
 use Rattle.sb_term.specs.Serials.{has_serials_below, all_below}
@@ -27,14 +26,14 @@ use Rattle.sb_term.proofs.CallerLemmas as table_facts
 use Rattle.sb_script.specs.State.{Assertion, asserted, a_mark}
 use Rattle.sb_script.specs.Fragment.{is_inside, are_inside}
 use Rattle.sb_script.specs.Brought.{is_regex}
-use Rattle.sb_stack.specs.Stacked.{Stacked, assertion_in, assertion_of, HasNumberBelow, IsLonger, are_words}
+use Rattle.sb_stack.specs.Stacked.{Stacked, assertion_in, assertion_of, HasNumberBelow, IsLonger}
 use Rattle.sb_session.specs.declared.check.Regexes.{Regexes}
-use Rattle.sb_session.specs.Conjoined.{Conjoined, blank, found_of, conjoined_at, is_listed, OthersSettled, HasRoom, IsPutAt}
+use Rattle.sb_session.specs.Conjoined.{Conjoined, found_of, OthersSettled, HasRoom, IsPutAt}
 use Rattle.sb_session.specs.Deciding.{IsSofar, IsMembership, HasEmpty, in_each, ids_at, word_at, membership_of}
 use Rattle.sb_session.specs.Knowing.{IsTaken, AreKept, StayKept, Knows, words_in}
 use Rattle.sb_session.proofs.Conjunctions.{in_each-append, in_each_kept, same_least, least_of_all}
 use Rattle.sb_session.proofs.OneMembership.{sofar_more, sofar_kept, sofar_none}
-use Rattle.sb_session.proofs.Constants.{ids_found, same_ids, found_length, put_of, put_elsewhere}
+use Rattle.sb_session.proofs.Constants.{same_ids, found_length, put_of, put_elsewhere}
 
 -- the same regexes
 sofar_same : (rs : List Regex) (m k : ℕ) (done : List Assertion) (found new : List (List ℕ)) → IsSofar rs m done found
@@ -168,24 +167,24 @@ pub taken_more : NormalHasTermsWords → GraphStays → (kept new : Regexes) (ts
     new.taken ≡ kept.taken + 1 → new.dead ≡ kept.dead → IsTaken new ts xs
 taken_more law stays kept new ts xs x serial term id t low numbers is member e normals regex put settled listed graph
     taken dead = record {
-  graph = rw graph (stays kept.arena new.arena kept.graph e t.graph);
-  normals = normals;
-  front = omega (arith, taken, low);
-  numbers = All-take (HasNumberBelow (length ts)) new.taken xs numbers;
-  sofar =
-      let before = sofar_kept kept.arena new.arena (length kept.constants.items) _ (found_of kept.constants.items) e
+      graph = rw graph (stays kept.arena new.arena kept.graph e t.graph);
+      normals = normals;
+      front = omega (arith, taken, low);
+      numbers = All-take (HasNumberBelow (length ts)) new.taken xs numbers;
+      sofar =
+          let before = sofar_kept kept.arena new.arena (length kept.constants.items) _ (found_of kept.constants.items) e
           t.sofar in
-      let here = sofar_more law new.arena (length kept.constants.items) (map (assertion_in ts) (take kept.taken xs))
+          let here = sofar_more law new.arena (length kept.constants.items) (map (assertion_in ts) (take kept.taken xs))
           serial (term_at ts term) id (found_of kept.constants.items) (found_of new.constants.items) before regex
           (put_of kept.constants.items new.constants.items serial id put) in
-      let further = one_further ts xs kept.taken x low is
+          let further = one_further ts xs kept.taken x low is
           ∙ ap (λ a. map (assertion_in ts) (take kept.taken xs) ++ a ∷ []) member.is in
-      rw (taken, further, put.same_length) here;
-  settled = settled;
-  listed = rw put.same_length listed;
-  dead = λ h. empty_put new.arena kept.constants.items new.constants.items serial id put
-      (empty_kept kept.arena new.arena (found_of kept.constants.items) e t.sofar.known (t.dead (sym dead ∙ h)));
-}
+          rw (taken, further, put.same_length) here;
+      settled = settled;
+      listed = rw put.same_length listed;
+      dead = λ h. empty_put new.arena kept.constants.items new.constants.items serial id put
+          (empty_kept kept.arena new.arena (found_of kept.constants.items) e t.sofar.known (t.dead (sym dead ∙ h)));
+    }
 
 -- an assertion that is none of the fragment
 pub one_outside : (ts : List Term) (xs : List code.Assertion) (i : ℕ) (x : code.Assertion) → i < length xs
@@ -275,7 +274,7 @@ pub knows_stays : NormalsStay → (kept : Regexes) (old new : Stacked) → table
 knows_stays stays kept old new e longer words constants k =
     let t = k.taken in
     let front : take kept.taken new.assertions ≡ take kept.taken old.assertions =
-        ap (take kept.taken) longer.1 ∙ take-append-le kept.taken old.assertions longer.0 t.front in
+    ap (take kept.taken) longer.1 ∙ take-append-le kept.taken old.assertions longer.0 t.front in
     record {
       taken = record {
         graph = t.graph;

@@ -1,11 +1,12 @@
 -- What was found of constants is taken over, and a verdict given.
-use Rattle.std.proofs.Common.{◌≡◌, ◌≢◌, ℕ, zero, suc, ◌+◌, ◌<◌, ◌≤◌, Bool, true, false, ◌||◌, ◌==◌, List, [], ◌∷◌, ◌++◌, length, get_or, set, map, take, refl, sym, ap, ◌∙◌, arith, Some, vec_len}
+use Rattle.std.proofs.Common.{◌≡◌, ◌≢◌, ℕ, zero, suc, ◌+◌, ◌<◌, ◌≤◌, Bool, true, false, ◌||◌, ◌==◌, List, [], ◌∷◌, ◌++◌, length, get_or, set, map, take, refl, sym, ap, ◌∙◌, arith, Some, vec_len, subst}
 use Rattle.std.proofs.Math.Bool.{and-true}
-use Rattle.std.proofs.lemmas.Bool.{or_parts, false≢true, eq-eqb, eqb-true, eqb-false}
+use Rattle.std.proofs.lemmas.Bool.{or_parts, false≢true, eqb-true, eqb-false}
 use Rattle.std.proofs.lemmas.Bool.Decides.{nat_tests}
-use Rattle.std.proofs.lemmas.List.{map-append, take_all, take_more, length-set, nil_from_length}
+use Rattle.std.proofs.lemmas.List.{map-append, take_all, take_more, length-set, nil_from_length, get_or_default, with_items_is}
+use Rattle.std.specs.Vec.{with_items}
 use Rattle.std.proofs.lemmas.List.Elements.{All-push}
-use Rattle.std.specs.List.{All, list_any}
+use Rattle.std.specs.List.{All}
 use Rattle.std.specs.declared.vec.Vec.{Vec}
 use Rattle.std.specs.declared.alloc.Global.{Global}
 use Rattle.sb_lang.specs.Least.{IsShortestLeast, HasNoWord}
@@ -18,16 +19,15 @@ use Rattle.sb_regex.proofs.CallerLemmas.{one_number, number_kept, numbers_kept, 
 use Rattle.sb_graph.specs.Findings.{Findings, IsGraph}
 use Rattle.sb_problem.specs.Laws.{NormalsStay}
 use Rattle.sb_term.specs.declared.term.Serial.{Serial}
-use Rattle.sb_script.specs.State.{State, Assertion, live, constants_of, fits}
+use Rattle.sb_script.specs.State.{Assertion, live, constants_of, fits}
 use Rattle.sb_script.specs.Verdicts.{IsVerdict, is_sat, is_unsat}
-use Rattle.sb_stack.specs.Stacked.{Stacked, state_of, assertion_in, are_words, values_from, without_words}
+use Rattle.sb_stack.specs.Stacked.{Stacked, state_of, assertion_in, are_words, values_from}
 use Rattle.sb_stack.specs.declared.stack.Mode.{Mode}
-use Rattle.sb_stack.specs.declared.stack.Mode.TheVariants as mode
 use Rattle.sb_session.specs.declared.check.Regexes.{Regexes}
 use Rattle.sb_session.specs.declared.check.Found.{Found}
-use Rattle.sb_session.specs.Conjoined.{Conjoined, found_of, ids_of, conjoined_at, is_listed, OthersSettled}
-use Rattle.sb_session.specs.Deciding.{IsSofar, HasEmpty, IsRooted, AreLeastWords, AreFilled, in_each, ids_at, word_at}
-use Rattle.sb_session.specs.Knowing.{IsTaken, AreKept, Knows, HasAll, IsFoundOf, AreFound, IsTakingOver, words_in}
+use Rattle.sb_session.specs.Conjoined.{Conjoined, found_of, ids_of, conjoined_at, is_listed, OthersSettled, IsPutAt}
+use Rattle.sb_session.specs.Deciding.{IsSofar, HasEmpty, IsRooted, AreFilled, in_each, ids_at, word_at}
+use Rattle.sb_session.specs.Knowing.{AreKept, Knows, HasAll, IsFoundOf, AreFound, IsTakingOver, words_in}
 use Rattle.sb_session.proofs.Conjunctions.{same_least, same_no_word, in_root, in_each_kept}
 use Rattle.sb_session.proofs.Constants.{ids_found, same_ids, found_length, conjoined_within, conjoined_set, conjoined_set_other, word_set, word_set_other, words_set}
 use Rattle.sb_session.proofs.Knowledge.{taken_searched, kept_grown}
@@ -295,9 +295,11 @@ found_all rs cs changed i fs a l = record { each = a.each; serials = a.serials �
 pub empty_here : (old rs new : List Regex) (cs : List Conjoined) (n : ℕ) (c : Conjoined) → Extends old rs → Extends rs new
     → ((m : ℕ) → AllNumbers old (ids_at (found_of cs) m)) → n < length cs → c ≡ get_or cs n c →
     HasNoWord (in_each rs (ids_of c)) → HasEmpty new (found_of cs)
-empty_here old rs new cs n c e f known l there none =
-    (n, λ w k. in_each_kept rs new (ids_at (found_of cs) n) w f (numbers_kept old rs (ids_at (found_of cs) n) e (known n))
-    ∙ (ap (λ ids. in_each rs ids w) (ids_found cs n ∙ ap ids_of (conjoined_within cs n c l there)) ∙ none w k))
+empty_here old rs new cs n c e f known l there none = (
+  n,
+  λ w k. in_each_kept rs new (ids_at (found_of cs) n) w f (numbers_kept old rs (ids_at (found_of cs) n) e (known n))
+      ∙ (ap (λ ids. in_each rs ids w) (ids_found cs n ∙ ap ids_of (conjoined_within cs n c l there)) ∙ none w k),
+)
 
 pub known_here : (old rs : List Regex) (cs : List Conjoined) (n : ℕ) (c : Conjoined) → Extends old rs
     → ((m : ℕ) → AllNumbers old (ids_at (found_of cs) m)) → n < length cs → c ≡ get_or cs n c →
@@ -333,3 +335,57 @@ no_items v h = omega (arith, v.ok.0, h)
 pub over_all : (rs : List Regex) (old new : List Conjoined) (words : List (List ℕ)) (fs : List Found) → length fs ≡ 0
     → IsTakingOver rs old new words fs → IsTakingOver rs old new words []
 over_all rs old new words fs none t = rw (nil_from_length fs none) at t
+
+-- a vector whose elements were written over
+pub put_through : (v : Vec Conjoined Global) (now new : List Conjoined) (serial id : ℕ) → now ≡ v.items
+    → IsPutAt now new serial id → IsPutAt v.items (with_items v new).items serial id
+put_through v now new serial id value p =
+    let q : IsPutAt v.items new serial id = rw value at p in
+    subst (λ cs. IsPutAt v.items cs serial id) (sym (with_items_is v new (omega (arith, q.same_length, v.ok.0)))) q
+
+pub settled_through : (v : Vec Conjoined Global) (now new : List Conjoined) (serial id : ℕ) (changed : List Serial)
+    → now ≡ v.items → IsPutAt now new serial id → OthersSettled changed new →
+    OthersSettled changed (with_items v new).items
+settled_through v now new serial id changed value p settled =
+    let q : IsPutAt v.items new serial id = rw value at p in
+    subst (OthersSettled changed) (sym (with_items_is v new (omega (arith, q.same_length, v.ok.0)))) settled
+
+-- what was found of the next of these constants
+pub found_next : (old rs new : List Regex) (cs : List Conjoined) (changed : List Serial) (i : ℕ) (d : Serial)
+    (fs fs' : List Found) (one : Found) (c : Conjoined) → AreFound rs cs (take i changed) fs → Extends old rs →
+    Extends rs new → ((n : ℕ) → AllNumbers old (ids_at (found_of cs) n)) → i < length changed →
+    All (λ serial. serial.0 < length cs) changed → c ≡ get_or cs (get_or changed i d).0 c →
+    ((one.serial ≡ get_or changed i d) × IsRooted new (in_each rs (ids_of c)) one.root one.word) →
+    fs' ≡ fs ++ one ∷ [] → AreFound new cs (take (i + 1) changed) fs'
+found_next old rs new cs changed i d fs fs' one c a e f known l listed there is more =
+    found_more old rs new cs changed i (get_or changed i d) fs fs' one c a e f known l
+    (sym (get_or_default changed i (get_or changed i d) d l)) (listed i d l) there is.0 is.1 more
+
+-- what a check with a model makes of what is known
+pub over_of : (kept : Regexes) (rs : List Regex) (stack : Stacked) (fs : List Found) (count : ℕ)
+    (given filled : List (List ℕ)) (cs new : List Conjoined) (before after : List (List ℕ)) → Knows kept stack →
+    HasAll kept stack → Extends kept.arena rs → AreFound rs kept.constants.items kept.changed.items fs →
+    given ≡ stack.words → count ≡ stack.scope.declared → AreFilled count given filled → cs ≡ kept.constants.items →
+    before ≡ filled →
+    ((ts : List Regex) → IsTakingOver ts cs cs before fs → IsTakingOver ts cs new after []) →
+    IsTakingOver rs kept.constants.items new after []
+over_of kept rs stack fs count given filled cs new before after k all e found same_words same_count more same_cs
+    same_before over =
+    let long : count ≡ length kept.constants.items = same_count ∙ sym all.1 in
+    let begun : IsTakingOver rs kept.constants.items kept.constants.items filled fs =
+    starts rs kept.constants.items kept.changed.items fs stack.words filled
+    (λ n. numbers_kept kept.arena rs (ids_at (found_of kept.constants.items) n) e (k.taken.sofar.known n))
+    k.taken.settled
+    (kept_grown kept.arena rs kept.constants.items stack.words e k.taken.sofar.known k.words)
+    (rw (same_words, long) at more) found in
+    let there = over rs in
+    (rw (same_cs, same_before) at there) begun
+
+pub words_long : (rs : List Regex) (old new : List Conjoined) (words : List (List ℕ)) (v : Vec (List ℕ) Global)
+    (count : ℕ) (given : List (List ℕ)) → IsTakingOver rs old new words [] → count ≡ length old →
+    AreFilled count given v.items → length words ≡ v.len
+words_long rs old new words v count given t same more = omega (arith, t.long, same, more.long, v.ok.0)
+
+pub constants_long : (rs : List Regex) (v : Vec Conjoined Global) (new : List Conjoined) (words : List (List ℕ))
+    → IsTakingOver rs v.items new words [] → length new ≡ v.len
+constants_long rs v new words t = omega (arith, t.same_length, v.ok.0)

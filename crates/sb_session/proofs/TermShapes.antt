@@ -1,5 +1,5 @@
 -- Assertions by their shape, as the code takes them apart.
-use Rattle.std.proofs.Common.{◌≡◌, ℕ, ◌≤◌, ◌<◌, true, false, List, [], ◌∷◌, length, get_or, map, Option, Some, refl, sym, ap, ◌∙◌, arith}
+use Rattle.std.proofs.Common.{◌≡◌, ℕ, ◌≤◌, ◌<◌, true, false, List, [], ◌∷◌, length, get_or, Some, refl, sym, ap, ◌∙◌, arith}
 use Rattle.std.proofs.lemmas.List.{length-map}
 use Rattle.std.specs.List.{All}
 use Rattle.sb_term.specs.declared.assertion.Assertion as holder
@@ -12,11 +12,10 @@ use Rattle.sb_term.specs.Numbered.{term_at, terms_at}
 use Rattle.sb_term.specs.Symbols.{symbol_in}
 use Rattle.sb_meaning.specs.Terms.{Term, Terms, text, integer, boolean, reglan, constant, word, numeral, apply, parameter, no_terms, with_term, terms_of, str_in_re}
 use Rattle.sb_script.specs.State.{asserted}
-use Rattle.sb_script.specs.Fragment.{is_inside}
 use Rattle.sb_script.specs.Brought.{is_membership}
 use Rattle.sb_stack.specs.Stacked.{assertion_in, assertion_of}
 use Rattle.sb_problem.specs.Normals.{is_text_constant}
-use Rattle.sb_session.specs.Deciding.{membership_of, IsMembership}
+use Rattle.sb_session.specs.Deciding.{IsMembership}
 
 pub by_assertion : (ts : List Term) (a : holder.Assertion) (id : ℕ) (d : code.Term) (s : Symbol) (arguments : _)
     (xs : List ℕ) → a.term ≡ Some id → node_term ts d ≡ term_at ts id → d ≡ node.Apply s arguments →

@@ -1,5 +1,5 @@
 -- Private: what a session knows of the assertions so far.
-use Rattle.std.specs.Prelude.{◌≡◌, ℕ, ◌<◌, ◌≤◌, true, false, List, [], ◌∷◌, length, map, take, Option, Some, None}
+use Rattle.std.specs.Prelude.{◌≡◌, ℕ, ◌<◌, ◌≤◌, true, List, [], length, map, take}
 use Rattle.std.specs.List.{All}
 use Rattle.sb_lang.specs.Regex.{Regex}
 use Rattle.sb_lang.specs.Languages.{Language}
@@ -13,7 +13,7 @@ use Rattle.sb_term.specs.declared.term.Serial.{Serial}
 use Rattle.sb_stack.specs.Stacked.{Stacked, assertion_in, are_words, HasNumberBelow}
 use Rattle.sb_session.specs.declared.check.Regexes.{Regexes}
 use Rattle.sb_session.specs.declared.check.Found.{Found}
-use Rattle.sb_session.specs.Conjoined.{Conjoined, found_of, conjoined_at, is_listed, OthersSettled}
+use Rattle.sb_session.specs.Conjoined.{Conjoined, found_of, conjoined_at, OthersSettled}
 use Rattle.sb_session.specs.Deciding.{IsSofar, HasEmpty, IsRooted, in_each, ids_at, word_at}
 
 -- the words of a constant's regexes

@@ -81,6 +81,8 @@ impl Regexes {
         ensures state { IfOk result (λ verdict. settled (verdict_in verdict) (state_of stack.new)
             ≡ settled (verdict_in verdict) (state_of stack.old)) }
     {
+        normals_stay();
+        let declared = stack.declared();
         if !self.take_in(alloc, stack)? {
             return Ok(Verdict::Outside);
         }
@@ -99,7 +101,7 @@ impl Regexes {
             return Ok(Verdict::Unsat);
         };
         let mut words = stack.take_words();
-        fill(alloc, &mut words, self.constants.len())?;
+        fill(alloc, &mut words, declared)?;
         take_over(&mut self.constants, &mut words, found);
         self.changed.clear();
         Ok(Verdict::Sat(words))
@@ -125,11 +127,7 @@ impl Regexes {
     }
 
     /// Takes in the next assertion, and answers whether it is a decided one; if not, it is not taken in.
-    fn take_one(
-        &mut self,
-        table: &Table,
-        assertions: &[Assertion],
-    ) -> Result<bool, AllocError>
+    fn take_one(&mut self, table: &Table, assertions: &[Assertion]) -> Result<bool, AllocError>
         requires more { self.old.taken < length assertions.now }
         requires numbers { All (HasNumberBelow (length table.now)) assertions.now }
         requires serials { all_below (length self.old.constants.items) table.now ≡ true }
@@ -143,13 +141,13 @@ impl Regexes {
         normal_has_terms_words();
         graph_stays();
         normals_stay();
-        let Some((serial, regex)) = membership(table, &assertions[self.taken]) else {
+        let Some(member) = membership(table, &assertions[self.taken]) else {
             return Ok(false);
         };
-        let Some(id) = self.normals.normal(table, &mut self.arena, regex)? else {
+        let Some(id) = self.normals.normal(table, &mut self.arena, member.1)? else {
             return Ok(false);
         };
-        put(&mut self.constants, &mut self.changed, serial, id)?;
+        put(&mut self.constants, &mut self.changed, member.0, id)?;
         self.taken += 1;
         Ok(true)
     }
@@ -180,11 +178,7 @@ fn membership(table: &Table, assertion: &Assertion) -> Option<(Serial, TermId)>
 }
 
 /// Room for so many constants, of which those that are new have no memberships.
-fn make_room(
-    alloc: Global,
-    constants: &mut Vec<Conjuncts>,
-    count: usize,
-) -> Result<(), AllocError>
+fn make_room(alloc: Global, constants: &mut Vec<Conjuncts>, count: usize) -> Result<(), AllocError>
     requires { length constants.old.items ≤ count }
     ensures { OnOk result (HasRoom count constants.old.items constants.new.items) }
 {

@@ -9,6 +9,7 @@ ghost use Rattle.sb_session.specs.Knowing.{Knows};
 ghost use Rattle.sb_session.specs.Commanding.{Goes, Fails, AnswersEntry, CutOrNot, went_of, CountsSessionFault};
 
 use crate::check::Regexes;
+use sb_problem::normals_stay;
 use sb_reader::Next;
 use sb_stack::{Stack, Step};
 use sb_world::{OutPort, World, WorldError, write_all};
@@ -140,6 +141,7 @@ fn answer_entry<W: World>(
         (CutOrNot (entry_of entry.now) (state_of stack.old) (W.outside world.old) (W.outside world.new)) }
     ensures faults { CountsFault result (W.faults world.old) (W.faults world.new) }
 {
+    normals_stay();
     match stack.apply(entry)? {
         Step::Answer(text) => {
             write_all(world, OutPort::Answers, &text)?;

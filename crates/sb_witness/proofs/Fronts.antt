@@ -363,12 +363,16 @@ module _ (old new : List Regex) (ext : Extends old new) (ns : List ℕ) (known :
   IsFromSome rs e = (n : ℕ) × Contains ns n × IsEdgeFrom rs (language (regex_at rs n)) e
 
   from_kept : (e : ℕ × ℕ) → IsFromSome old e → IsFromSome new e
-  from_kept e (n, c, f) = (n, c, record {
-    character = f.character;
-    known = number_kept old new e.1 ext f.known;
-    rests = λ u m. ap (λ r. language r (e.0 ∷ u)) (at_kept old new n ext (number_at n c))
-        ∙ f.rests u (ap (λ r. language r u) (sym (at_kept old new e.1 ext f.known)) ∙ m);
-  })
+  from_kept e (n, c, f) = (
+    n,
+    c,
+    record {
+      character = f.character;
+      known = number_kept old new e.1 ext f.known;
+      rests = λ u m. ap (λ r. language r (e.0 ∷ u)) (at_kept old new n ext (number_at n c))
+          ∙ f.rests u (ap (λ r. language r u) (sym (at_kept old new e.1 ext f.known)) ∙ m);
+    },
+  )
 
   pub gathering_next : (es es' : List (ℕ × ℕ)) (i n : ℕ) → i < length ns → n ≡ get_or ns i n
       → AreFrom new n es es' → AreGathered old ns i es → AreGathered new ns (i + 1) es'

@@ -58,12 +58,7 @@ impl Queue {
     }
 
     /// Puts a state at the end, unless it is there. Constant time.
-    pub fn put(
-        &mut self,
-        regex: RegexId,
-        before: usize,
-        character: u32,
-    ) -> Result<(), AllocError>
+    pub fn put(&mut self, regex: RegexId, before: usize, character: u32) -> Result<(), AllocError>
         ensures { OnOk result (self.new ≡ with_entry self.old (regex, (before, character))) }
     {
         if !self.entries.contains_key(&regex) {

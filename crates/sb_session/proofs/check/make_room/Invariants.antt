@@ -1,4 +1,4 @@
-use Rattle.std.proofs.Common.{ℕ, ◌-◌, length}
+use Rattle.std.proofs.Common.{◌-◌, length}
 use Rattle.sb_session.proofs.Constants.{Growing}
 use Rattle.sb_session.proofs.check.make_room.Given as goal
 

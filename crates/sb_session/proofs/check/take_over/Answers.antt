@@ -1,6 +1,6 @@
 use Rattle.std.proofs.Common.{ap, set, refl, ◌∙◌}
 use Rattle.std.proofs.lemmas.List.{length-set}
-use Rattle.sb_session.proofs.TakingOver.{goes_on, last_within, front_within, no_items, over_all}
+use Rattle.sb_session.proofs.TakingOver.{goes_on, front_within, no_items, over_all}
 use Rattle.sb_session.proofs.check.take_over.Goals as goal
 
 pub loop-one-preserved : goal.loop-one-preserved

@@ -1,9 +1,10 @@
-use Rattle.std.proofs.Common.{List, ℕ, true, false, sym, subst}
+use Rattle.std.proofs.Common.{List, ℕ, true, false, sym, subst, ◌∙◌}
 use Rattle.std.proofs.lemmas.Result.{err_from_is_err_and}
 use Rattle.sb_stack.specs.Stacked.{state_of}
 use Rattle.sb_stack.specs.Steps.{entry_of}
 use Rattle.sb_script.specs.Replies.{step_of}
 use Rattle.sb_session.proofs.CommandLemmas.{Replied, by_answer, by_check, by_exit, whole_reply, cut_reply}
+use Rattle.sb_session.proofs.Knowledge.{knows_stays}
 use Rattle.sb_session.proofs.command.answer_entry.Goals as goal
 
 pub returns-in_err-write_all-in-Answer-clause-err : goal.returns-in_err-write_all-in-Answer-clause-err
@@ -45,8 +46,8 @@ returns-in_err-write_all-in-Check-clause-err g c =
     (g.W.World.outside c.write_all-in-Check.new.world)
     (by_check (step_of entry s) c.in_ok-verdict-in-Check.verdict c.settle.result.now s
     (state_of c.apply.new.self) (state_of c.settle.new.self)
-    (rw c.in-Check.is at c.in_ok-text.ensures.ok) c.in_ok-verdict-in-Check.ensures c.settle.ensures.reply
-    c.settle.ensures.state)
+    (rw c.in-Check.is at c.in_ok-text.ensures.ok) c.in_ok-verdict-in-Check.ensures.verdict c.settle.ensures.reply
+    (c.settle.ensures.state ∙ c.in_ok-verdict-in-Check.ensures.state))
     c.in_err-write_all-in-Check.ensures.err)
 
 pub returns-in_ok-write_all-in-Answer-clause-ok : goal.returns-in_ok-write_all-in-Answer-clause-ok
@@ -79,6 +80,21 @@ returns-in_ok-write_all-in-Check-clause-ok g c =
     (g.W.World.outside c.write_all-in-Check.new.world)
     (by_check (step_of entry s) c.in_ok-verdict-in-Check.verdict c.settle.result.now s
     (state_of c.apply.new.self) (state_of c.settle.new.self)
-    (rw c.in-Check.is at c.in_ok-text.ensures.ok) c.in_ok-verdict-in-Check.ensures c.settle.ensures.reply
-    c.settle.ensures.state)
+    (rw c.in-Check.is at c.in_ok-text.ensures.ok) c.in_ok-verdict-in-Check.ensures.verdict c.settle.ensures.reply
+    (c.settle.ensures.state ∙ c.in_ok-verdict-in-Check.ensures.state))
     c.in_ok-write_all-in-Check.ensures.ok
+
+pub decide-requires : goal.decide-requires
+decide-requires g c =
+    knows_stays c.normals_stay.ensures c.args.regexes.now c.args.stack.now c.apply.new.self c.apply.ensures.extends
+    c.apply.ensures.grows c.apply.ensures.words c.apply.ensures.constants c.requires.knows
+
+pub returns-in_ok-write_all-in-Answer-clause-knows : goal.returns-in_ok-write_all-in-Answer-clause-knows
+returns-in_ok-write_all-in-Answer-clause-knows g c =
+    knows_stays c.normals_stay.ensures c.args.regexes.now c.args.stack.now c.apply.new.self c.apply.ensures.extends
+    c.apply.ensures.grows c.apply.ensures.words c.apply.ensures.constants c.requires.knows
+
+pub returns-in_ok-write_all-in-Exit-clause-knows : goal.returns-in_ok-write_all-in-Exit-clause-knows
+returns-in_ok-write_all-in-Exit-clause-knows g c =
+    knows_stays c.normals_stay.ensures c.args.regexes.now c.args.stack.now c.apply.new.self c.apply.ensures.extends
+    c.apply.ensures.grows c.apply.ensures.words c.apply.ensures.constants c.requires.knows

@@ -1,4 +1,4 @@
-use Rattle.std.proofs.Common.{◌≡◌, ℕ, ◌-◌, length}
+use Rattle.std.proofs.Common.{◌≡◌, ◌-◌, length}
 use Rattle.sb_session.specs.Knowing.{Knows}
 use Rattle.sb_session.proofs.check.Regexes.take_in.Given as goal
 

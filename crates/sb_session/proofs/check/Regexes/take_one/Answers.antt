@@ -1,5 +1,7 @@
-use Rattle.std.proofs.Common.{refl}
+use Rattle.std.proofs.Common.{refl, ◌+◌}
+use Rattle.std.specs.Vec.{with_items}
 use Rattle.sb_session.proofs.Knowledge.{one_outside, regex_outside, taken_grown, stay_grown, stay_put, taken_more}
+use Rattle.sb_session.proofs.TakingOver.{put_through, settled_through}
 use Rattle.sb_session.proofs.check.Regexes.take_one.Goals as goal
 
 pub returns-in_default-clause-outside : goal.returns-in_default-clause-outside
@@ -20,18 +22,32 @@ returns-in_default-2-clause-words c =
 pub returns-in_default-2-clause-outside : goal.returns-in_default-2-clause-outside
 returns-in_default-2-clause-outside c = λ _.
     regex_outside c.args.table.now c.args.assertions.now c.args.self.now.taken c.index-assertions-self.result
-    c.in-Some.serial.0 c.in-Some.regex c.requires.more c.index-assertions-self.is c.in-Some.ensures
+    c.in-Some.member.0.0 c.in-Some.member.1 c.requires.more c.index-assertions-self.is c.in-Some.ensures
     (rw c.in_default-2.is at c.in_ok-id.ensures.number)
 
 pub returns-clause-taken : goal.returns-clause-taken
 returns-clause-taken c =
     taken_more c.normal_has_terms_words.ensures c.graph_stays.ensures c.args.self.now _ c.args.table.now
-    c.args.assertions.now c.index-assertions-self.result c.in-Some.serial.0 c.in-Some.regex c.in-Some-2.id
+    c.args.assertions.now c.index-assertions-self.result c.in-Some.member.0.0 c.in-Some.member.1 c.in-Some-2.id
     c.requires.taken c.requires.more c.requires.numbers c.index-assertions-self.is c.in-Some.ensures
     c.in_ok-id.ensures.extends c.in_ok-id.ensures.normals (rw c.in-Some-2.is at c.in_ok-id.ensures.number)
-    c.in_ok-put.ensures.put c.in_ok-put.ensures.settled c.in_ok-put.ensures.listed refl refl refl
+    (put_through c.args.self.now.constants c.deref_mut.result.now c.put.new.constants c.in-Some.member.0.0
+    c.in-Some-2.id c.deref_mut.ensures.value c.in_ok-put.ensures.put)
+    (settled_through c.args.self.now.constants c.deref_mut.result.now c.put.new.constants c.in-Some.member.0.0
+    c.in-Some-2.id c.put.new.changed.items c.deref_mut.ensures.value c.in_ok-put.ensures.put
+    c.in_ok-put.ensures.settled)
+    (rw c.deref_mut.ensures.value at c.in_ok-put.ensures.listed) refl refl refl
 
 pub returns-clause-words : goal.returns-clause-words
 returns-clause-words c =
-    stay_put c.args.self.now _ c.args.table.now c.args.assertions.now c.in-Some.serial.0 c.in-Some-2.id
-    c.in_ok-id.ensures.extends c.in_ok-put.ensures.put c.requires.taken
+    stay_put c.args.self.now
+    (record c.args.self.now {
+      arena = c.normal.new.arena;
+      normals = c.normal.new.self;
+      taken = c.args.self.now.taken + 1;
+      constants = with_items c.args.self.now.constants c.put.new.constants;
+      changed = c.put.new.changed;
+    })
+    c.args.table.now c.args.assertions.now c.in-Some.member.0.0 c.in-Some-2.id c.in_ok-id.ensures.extends
+    (put_through c.args.self.now.constants c.deref_mut.result.now c.put.new.constants c.in-Some.member.0.0
+    c.in-Some-2.id c.deref_mut.ensures.value c.in_ok-put.ensures.put) c.requires.taken
