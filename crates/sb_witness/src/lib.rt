@@ -6,7 +6,7 @@
 //! the members of its derivatives, so where a language has many derivatives, as (a|b)*a(a|b)^n has 2^n, the walk meets
 //! no more states than there are members. States are met in the order of the least words that lead to them, and those
 //! that one word leads to take their turn together, so the first state with the empty word is reached by the word that
-//! is wanted. A walk that comes to its end shows that there is no word, and one that meets as many states as it may
+//! is wanted. A walk that comes to its end shows that there is no word, and one that expands as many states as it may
 //! says no more. The layer above lets the walk take turns with an exploration of whole derivatives, and uses the queue
 //! of the walk for it.
 #![tactic(auto)]

@@ -24,16 +24,17 @@ pub enum Outcome {
     Found(Word),
     /// No word is in the language.
     Empty,
-    /// The walk met as many states as it may, and has found no word.
+    /// The walk expanded as many states as it may, and has found no word.
     Bounded,
 }
 
-/// The least of the shortest words of a regex's language, that there is none, or that a walk met `bound` states.
+/// The least of the shortest words of a regex's language, that there is none, or that a walk expanded `bound` states.
 ///
 /// Takes time n log n in the number of the states that it meets and of the pieces of their derivatives, beside those
 /// derivatives, which are kept, and the intersections that targets are split into, at most 16 for each piece. No state
 /// is expanded whose word is as long as the one that is found. The walk ends at the bound where there are many states,
-/// or where it takes many to see that there is no word.
+/// or where it takes many to see that there is no word. States that are met and not expanded are not counted, so one
+/// that leads to thousands ends no walk.
 pub fn find_word(
     alloc: Global,
     arena: &mut Arena,
@@ -94,10 +95,10 @@ fn walk(
         if let Some(found) = first_nullable(arena, queue.regexes(), tested) {
             return Ok(Stop::Nullable(found));
         }
-        tested = queue.len();
-        if tested >= bound {
+        if place >= bound {
             return Ok(Stop::Bound);
         }
+        tested = queue.len();
         place = take_turn(alloc, arena, deriver, queue, place)?;
     }
     Ok(Stop::End)

@@ -15,11 +15,11 @@ returns-in-Some-clause-stop c =
     c.loop-place.place c.loop-place.tested c.loop-place.invariant.under_way c.regexes.result.now c.regexes.ensures
     c.in-Some.found c.in-Some.ensures
 
-pub returns-then-tested-bound-clause-stop : goal.returns-then-tested-bound-clause-stop
-returns-then-tested-bound-clause-stop c =
+pub returns-then-place-bound-clause-stop : goal.returns-then-place-bound-clause-stop
+returns-then-place-bound-clause-stop c =
     under_way_many c.loop-place.arena (first_language c.args.arena.now c.args.queue.now) c.loop-place.queue
     c.loop-place.place c.loop-place.tested c.loop-place.invariant.under_way c.args.bound
-    (omega (arith, c.if-tested-bound.true, c.len-tested.ensures))
+    (omega (arith, c.if-place-bound.true, c.loop-place-test.true, c.len.ensures))
 
 pub loop-place-preserved : goal.loop-place-preserved
 loop-place-preserved c =
