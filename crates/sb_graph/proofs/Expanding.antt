@@ -182,21 +182,3 @@ expanded_both first mid new more later root known result found a b c g h =
     (precedes_before (language (regex_at first root)) result
     (subst (λ r. IfOk result (IsFinding (language r))) is found)) a b g)
     (subst (λ r. GoesOn (IsReachedBy new r (λ v. ComesBefore v result)) b c) is h)
-
--- one more turn
-pub turn_more : (first mid new : List Regex) → Extends first mid → Extends mid new → (root : ℕ) → root < length first
-    → (P : Regex → List ℕ → Type 0) (a b c : List ℕ) → GoesOn (IsReachedBy mid (regex_at first root) (P (regex_at first root))) a b
-    → GoesOn (IsReachedBy new (regex_at mid root) (P (regex_at mid root))) b c
-    → GoesOn (IsReachedBy new (regex_at first root) (P (regex_at first root))) a c
-turn_more first mid new more later root known P a b c g h =
-    let is = at_kept first mid root more known in
-    goes_on_more _ a b c
-    (reached_kept mid new later (regex_at first root) (P (regex_at first root)) (P (regex_at first root)) (λ v p. p) a b g)
-    (subst (λ r. GoesOn (IsReachedBy new r (P r)) b c) is h)
-
--- a turn that expands nothing
-pub turn_idle : (old new : List Regex) → Extends old new → (r : Regex) (P Q : List ℕ → Type 0)
-    → ((v : List ℕ) → P v → Q v) → (from upto upto' : List ℕ) → upto' ≡ upto → GoesOn (IsReachedBy old r P) from upto
-    → GoesOn (IsReachedBy new r Q) from upto'
-turn_idle old new more r P Q f from upto upto' e g =
-    subst (GoesOn (IsReachedBy new r Q) from) (sym e) (reached_kept old new more r P Q f from upto g)

@@ -14,13 +14,13 @@ use Rattle.sb_deriv.specs.Faithful.{IsDerivative}
 use Rattle.sb_graph.specs.Findings.{is_marked, AreBarren}
 use Rattle.sb_graph.specs.Queue.{visited}
 use Rattle.sb_lang.specs.Least.{IsShortestLeast, HasNoWord}
-use Rattle.sb_graph.specs.Search.{IsTaken, IsSearched, IsUnderWay, IsFound, IsVisited, AreMarked}
+use Rattle.sb_graph.specs.Search.{IsTaken, IsSearched, HasCome, IsUnderWay, IsFound, IsVisited, AreMarked}
 use Rattle.sb_graph.proofs.Carrying.{searched_carried}
 use Rattle.sb_graph.proofs.Ends.{found_is, marked_has_no_word, end_root, end_barren}
 use Rattle.sb_graph.proofs.Turns.{searched_next, visited_keeps}
 use Rattle.sb_graph.proofs.Steps.{regexes_below}
-use Rattle.sb_graph.proofs.Expanding.{goes_on_same, taken_next}
-use Rattle.sb_graph.specs.Witness.{GoesOn}
+use Rattle.sb_graph.proofs.Expanding.{goes_on_same, taken_next, each_reached}
+use Rattle.sb_graph.specs.Witness.{GoesOn, IsReachedBy}
 use Rattle.sb_witness.specs.Queue.{Entry, regex_of, word_at, AreWords, AreTested, IsFirstNullable}
 
 pub on_ok : {T E : Type 0} (P Q : Type 0) (r : Result T E) → OnOk r P → (P → Q) → OnOk r Q
@@ -103,15 +103,49 @@ module _ (rs : List Regex) (root : ℕ) (dead : List Bool) (es : List Entry) (pl
       long zero e = omega (arith, e)
       long (suc n) e = let k = keeps n (omega (arith, e)) in omega (arith, e, k.0)
 
-pub under_way_start : (rs : List Regex) (root : ℕ) (dead : List Bool) (es : List Entry) (old : List ℕ)
-    → IsSearched rs root dead es 0 → IsUnderWay rs root dead es 0 0 old old
-under_way_start rs root dead es old s = record {
-  searched = s;
-  taken = goes_on_same (IsTaken es 0) old old refl;
+pub come_start : (rs : List Regex) (root : ℕ) (dead : List Bool) (es : List Entry) (place : ℕ) (old : List ℕ)
+    → IsSearched rs root dead es place → place ≤ length es → HasCome rs root dead es place old old
+come_start rs root dead es place old s within =
+    record { searched = s; taken = goes_on_same (IsTaken es place) old old refl; within = within }
+
+pub under_way_start : (rs : List Regex) (root : ℕ) (dead : List Bool) (es : List Entry) (place : ℕ) (old new : List ℕ)
+    → HasCome rs root dead es place old new → IsUnderWay rs root dead es place place old new
+under_way_start rs root dead es place old new h = record {
+  searched = h.searched;
+  taken = h.taken;
   ahead = omega arith;
-  within = omega arith;
-  empty_words = λ k h. absurd (omega (arith, h));
+  within = h.within;
+  empty_words = λ k l. (h.searched.below k l (omega (arith, l, h.within))).empty_word;
 }
+
+pub under_way_come : (rs : List Regex) (root : ℕ) (dead : List Bool) (es : List Entry) (place tested : ℕ)
+    (old new : List ℕ) → IsUnderWay rs root dead es place tested old new → HasCome rs root dead es place old new
+under_way_come rs root dead es place tested old new u =
+    record { searched = u.searched; taken = u.taken; within = omega (arith, u.ahead, u.within) }
+
+pub root_known : (rs : List Regex) (root : ℕ) (dead : List Bool) (es : List Entry) (place : ℕ)
+    → IsSearched rs root dead es place → root < length rs
+root_known rs root dead es place s =
+    subst (λ n. n < length rs) s.reached.first (names_below rs (regex_of es 0) _ (s.reached.along 0 s.reached.some))
+
+-- what was expanded, words lead to
+pub come_reached : (first rs : List Regex) → Extends first rs → (root : ℕ) → root < length first → (dead : List Bool)
+    (es : List Entry) (place : ℕ) (old new : List ℕ) → HasCome rs root dead es place old new
+    → GoesOn (IsReachedBy rs (regex_at first root) (λ v. Unit {0})) old new
+come_reached first rs more root known dead es place old new h =
+    each_reached first rs more root known dead es place h.searched place old new h.taken
+
+-- a walk over members goes before
+pub come_carried : (rs later : List Regex) → Extends rs later → (root : ℕ) (dead dead' : List Bool) (es : List Entry)
+    (place : ℕ) (old new new' : List ℕ) → dead' ≡ dead → new' ≡ new → HasCome rs root dead es place old new
+    → HasCome later root dead' es place old new'
+come_carried rs later more root dead dead' es place old new new' d e h =
+    subst (λ dead. HasCome later root dead es place old new') (sym d)
+    (subst (HasCome later root dead es place old) (sym e) (record {
+      searched = searched_carried rs later more root dead es place h.searched;
+      taken = h.taken;
+      within = h.within;
+    }))
 
 pub under_way_end : (rs : List Regex) (root : ℕ) (dead : List Bool) (es : List Entry) (place tested : ℕ)
     (old new : List ℕ) → IsUnderWay rs root dead es place tested old new → length es ≤ place

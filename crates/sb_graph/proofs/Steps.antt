@@ -154,8 +154,8 @@ start rs dead root l = record {
 }
 
 pub started : (rs : List Regex) (dead : List Bool) (es : List Entry) (root : ℕ) → es ≡ (root, (0, 0)) ∷ []
-    → root < length rs → IsSearched rs (regex_of es 0) dead es 0
-started rs dead es root e l = subst (λ es. IsSearched rs (regex_of es 0) dead es 0) (sym e) (start rs dead root l)
+    → root < length rs → IsSearched rs root dead es 0
+started rs dead es root e l = subst (λ es. IsSearched rs root dead es 0) (sym e) (start rs dead root l)
 
 -- One more word that is kept.
 

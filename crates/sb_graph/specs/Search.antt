@@ -58,6 +58,13 @@ pub record IsTaken (es : List Entry) (place n : ℕ) : Type 0 where
   pub within : at < length es
   pub is : regex_of es at ≡ n
 
+-- the places below this one are done, and what was expanded behind the old list stands there
+pub record HasCome (rs : List Regex) (root : ℕ) (dead : List Bool) (es : List Entry) (place : ℕ) (old new : List ℕ)
+    : Type 0 where
+  pub searched : IsSearched rs root dead es place
+  pub taken : GoesOn (IsTaken es place) old new
+  pub within : place ≤ length es
+
 -- the places below one are done, and the regexes up to another one are without the empty word
 pub record IsUnderWay (rs : List Regex) (root : ℕ) (dead : List Bool) (es : List Entry) (place tested : ℕ)
     (old new : List ℕ) : Type 0 where

@@ -1,14 +1,14 @@
 //! The graph.
 
-ghost use Rattle.std.specs.Prelude.{◌≡◌, ℕ, ◌<◌, true, false, List, [], length, IfOk, IfSome, IfNone, option_copied, OnOk, OnErr, IsSome};
+ghost use Rattle.std.specs.Prelude.{◌≡◌, ℕ, ◌<◌, ◌≤◌, true, false, List, [], length, IfOk, IfSome, IfNone, option_copied, OnOk, OnErr, IsSome};
 ghost use Rattle.sb_lang.specs.Regex.{Regex};
 ghost use Rattle.sb_lang.specs.Language.{language};
 ghost use Rattle.sb_lang.specs.Least.{IsShortestLeast};
 ghost use Rattle.sb_deriv.specs.Faithful.{entry_of, KeepsEntries};
 ghost use Rattle.sb_regex.specs.Numbered.{regex_at, Extends};
 ghost use Rattle.sb_graph.specs.Findings.{is_marked, is_settled, KeepsMarks, IsGraph};
-ghost use Rattle.sb_graph.specs.Witness.{IsFinding, MarksDead, ComesBefore, Precedes, GoesOn, IsReachedBy};
-ghost use Rattle.sb_graph.specs.Search.{IsSearched, IsSearchEnd, IsVisited, AreMarked};
+ghost use Rattle.sb_graph.specs.Witness.{IsFinding, MarksDead, ComesBefore, GoesOn, IsReachedBy};
+ghost use Rattle.sb_graph.specs.Search.{IsSearched, HasCome, IsSearchEnd, IsVisited, AreMarked};
 ghost use Rattle.sb_witness.specs.Queue.{regex_of};
 
 use crate::search::{is_marked, mark, visit};
@@ -21,7 +21,7 @@ use sb_word::Word;
 use std::alloc::{AllocError, Global};
 use std::marker::Model;
 
-/// How many states a walk over members may meet, and how many regexes an exploration may expand, in their first turns.
+/// How many states a walk over members and an exploration may expand in their first turns.
 const FIRST: usize = 2000;
 
 /// From so many on there are no more turns.
@@ -127,10 +127,11 @@ impl Graph {
     /// The least of the shortest words of a regex's language, or that there is none: what `explore` finds, while a walk
     /// over the members of unions, which meets few states where the derivatives are unions of many, takes turns with it.
     ///
-    /// In its turn each begins anew and may meet four times as many states as before, 2,000 at first; derivatives are
-    /// kept. So a call meets at most six times as many states as the one of the two that meets fewer, and some
-    /// thousands. Where the walk ends without a word, the regex is explored to the end. The derivatives that the walk
-    /// wants are not counted among those that explorations expanded.
+    /// In its turn the walk begins anew and may expand four times as many states as before, 2,000 at first; the
+    /// exploration goes on from where it stands up to as many regexes. Derivatives are kept. So a call expands at most
+    /// six times as many states as the one of the two that expands fewer, and some thousands. Where the walk ends
+    /// without a word, the exploration goes on to its end. The derivatives that the walk wants are not counted among
+    /// those that explorations expanded.
     pub fn answer(&mut self, arena: &mut Arena, root: RegexId) -> Result<Explored, AllocError>
         requires known { root < length arena.old }
         requires graph { IsGraph arena.old self.old }
@@ -148,102 +149,90 @@ impl Graph {
         if self.is_settled(root) {
             return self.explore(arena, root);
         }
-        self.take_turns(arena, root)?;
+        nullable_has_empty_word();
+        derivative_along_has_rests();
+        let mut queue = Queue::new(*self.dead.allocator());
+        queue.put(root, 0, 0)?;
+        let place = self.take_turns(arena, &mut queue, root)?;
+        if !self.is_settled(root) {
+            return self.finish(arena, &mut queue, root, place);
+        }
         self.explore(arena, root)
     }
 
-    /// Lets walks over members and explorations take turns, up to one that comes to its end. The word that a walk finds
-    /// is kept, and so are all derivatives.
-    fn take_turns(&mut self, arena: &mut Arena, root: RegexId) -> Result<(), AllocError>
+    /// Lets walks over members take turns with the exploration of a queue, up to one that comes to its end. The place
+    /// where the exploration stands. The word that a walk finds is kept, and so are all derivatives.
+    fn take_turns(
+        &mut self,
+        arena: &mut Arena,
+        queue: &mut Queue,
+        root: RegexId,
+    ) -> Result<usize, AllocError>
         requires known { root < length arena.old }
         requires graph { IsGraph arena.old self.old }
+        requires start { IsSearched arena.old root self.old.dead queue.old 0 }
+        ensures come { IfOk result
+            (λ place. HasCome arena.new root self.new.dead queue.new place self.old.expanded self.new.expanded) }
         ensures extends { Extends arena.old arena.new }
         ensures graph { IsGraph arena.new self.new }
         ensures marks { self.new.dead ≡ self.old.dead }
         ensures derivatives_stay { KeepsEntries self.old.memo self.new.memo }
         ensures expands { GoesOn (IsReachedBy arena.new (regex_at arena.old root) (λ v. Unit {0}))
             self.old.expanded self.new.expanded }
-        ensures before { OnOk result
-            (GoesOn (IsReachedBy arena.new (regex_at arena.old root) (Precedes (language (regex_at arena.old root))))
-            self.old.expanded self.new.expanded) }
     {
         let mut bound = FIRST;
+        let mut place = 0;
         while bound < LAST {
             if self.walk_members(arena, root, bound)? {
-                return Ok(());
+                return Ok(place);
             }
-            if self.look_ahead(arena, root, bound)? {
-                return Ok(());
+            place = self.sweep(arena, queue, root, place, bound)?;
+            if place < bound {
+                return Ok(place);
             }
             bound *= 4;
         }
-        Ok(())
+        Ok(place)
     }
 
-    /// Makes the derivatives known that an exploration wants, of so many regexes at most. Whether the exploration comes
-    /// to its end with these.
-    fn look_ahead(
-        &mut self,
-        arena: &mut Arena,
-        root: RegexId,
-        bound: usize,
-    ) -> Result<bool, AllocError>
-        requires known { root < length arena.old }
-        requires graph { IsGraph arena.old self.old }
-        ensures extends { Extends arena.old arena.new }
-        ensures graph { IsGraph arena.new self.new }
-        ensures marks { self.new.dead ≡ self.old.dead }
-        ensures derivatives_stay { KeepsEntries self.old.memo self.new.memo }
-        ensures expands { GoesOn (IsReachedBy arena.new (regex_at arena.old root) (λ v. Unit {0}))
-            self.old.expanded self.new.expanded }
-        ensures before { OnOk result
-            (GoesOn (IsReachedBy arena.new (regex_at arena.old root) (Precedes (language (regex_at arena.old root))))
-            self.old.expanded self.new.expanded) }
-    {
-        let mut queue = Queue::new(*self.dead.allocator());
-        queue.put(root, 0, 0)?;
-        self.sweep(arena, &mut queue, bound)
-    }
-
-    /// Goes through the queue up to a turn that meets a regex with the empty word, and not behind so many places.
-    /// Whether it came to such a turn, or to the end.
+    /// Goes on through the queue from a place, up to a turn that meets a regex with the empty word, and not behind so
+    /// many places. The place where it stops.
     fn sweep(
         &mut self,
         arena: &mut Arena,
         queue: &mut Queue,
+        root: RegexId,
+        from: usize,
         bound: usize,
-    ) -> Result<bool, AllocError>
+    ) -> Result<usize, AllocError>
         requires graph { IsGraph arena.old self.old }
-        requires start { IsSearched arena.old (regex_of queue.old 0) self.old.dead queue.old 0 }
+        requires start { IsSearched arena.old root self.old.dead queue.old from }
+        requires within { from ≤ length queue.old }
+        ensures come { IfOk result (λ place. (before : List ℕ)
+            → HasCome arena.old root self.old.dead queue.old from before self.old.expanded
+            → HasCome arena.new root self.new.dead queue.new place before self.new.expanded) }
         ensures extends { Extends arena.old arena.new }
         ensures graph { IsGraph arena.new self.new }
         ensures marks { self.new.dead ≡ self.old.dead }
         ensures derivatives_stay { KeepsEntries self.old.memo self.new.memo }
-        ensures expands { GoesOn
-            (IsReachedBy arena.new (regex_at arena.old (regex_of queue.old 0)) (λ v. Unit {0}))
-            self.old.expanded self.new.expanded }
-        ensures before { OnOk result
-            (GoesOn
-            (IsReachedBy arena.new (regex_at arena.old (regex_of queue.old 0))
-            (Precedes (language (regex_at arena.old (regex_of queue.old 0)))))
-            self.old.expanded self.new.expanded) }
+        ensures expands { (before : List ℕ)
+            → HasCome arena.old root self.old.dead queue.old from before self.old.expanded
+            → GoesOn (IsReachedBy arena.new (regex_at arena.old root) (λ v. Unit {0})) before self.new.expanded }
     {
-        nullable_has_empty_word();
-        derivative_along_has_rests();
-        let mut place = 0;
-        let mut tested = 0;
+        let mut place = from;
+        let mut tested = from;
         while place < queue.len() {
             if let Some(_found) = first_nullable(arena, queue.regexes(), tested) {
-                return Ok(true);
+                return Ok(place);
             }
             if place >= bound {
-                return Ok(false);
+                return Ok(place);
             }
             tested = queue.len();
             self.expand(arena, queue, place)?;
             place += 1;
         }
-        Ok(true)
+        Ok(place)
     }
 
     /// Whether it is known if a regex has a word.
@@ -314,42 +303,76 @@ impl Graph {
         ensures idle { self.new.expanded ≡ self.old.expanded → self.new.memo ≡ self.old.memo }
         ensures settles { OnOk result (is_settled self.new root ≡ true) }
     {
+        let mut queue = Queue::new(*self.dead.allocator());
+        queue.put(root, 0, 0)?;
+        self.finish(arena, &mut queue, root, 0)
+    }
+
+    /// Goes on with an exploration from a place to its end, and keeps what it finds.
+    fn finish(
+        &mut self,
+        arena: &mut Arena,
+        queue: &mut Queue,
+        root: RegexId,
+        from: usize,
+    ) -> Result<Explored, AllocError>
+        requires graph { IsGraph arena.old self.old }
+        requires start { IsSearched arena.old root self.old.dead queue.old from }
+        requires within { from ≤ length queue.old }
+        ensures found { IfOk result (λ explored. IsFinding (language (regex_at arena.old root)) explored) }
+        ensures dead { IfOk result (λ explored. MarksDead self.new.dead root explored) }
+        ensures extends { Extends arena.old arena.new }
+        ensures graph { IsGraph arena.new self.new }
+        ensures marks_stay { KeepsMarks self.old.dead self.new.dead }
+        ensures derivatives_stay { KeepsEntries self.old.memo self.new.memo }
+        ensures expands { (before : List ℕ)
+            → HasCome arena.old root self.old.dead queue.old from before self.old.expanded
+            → GoesOn (IsReachedBy arena.new (regex_at arena.old root) (λ v. ComesBefore v result)) before
+            self.new.expanded }
+        ensures idle { self.new.expanded ≡ self.old.expanded → self.new.memo ≡ self.old.memo }
+        ensures settles { OnOk result (is_settled self.new root ≡ true) }
+    {
         nullable_has_empty_word();
         derivative_along_has_rests();
         let alloc = *self.dead.allocator();
-        let mut queue = Queue::new(alloc);
-        queue.put(root, 0, 0)?;
-        match self.search(arena, &mut queue)? {
+        match self.search(arena, queue, root, from)? {
             Some(place) => {
-                let word = word_of(alloc, &queue, place)?;
+                let word = word_of(alloc, queue, place)?;
                 self.keep(alloc, root, &word)?;
                 Ok(Explored::Alive(word))
             }
             None => {
-                self.bury(arena.len(), &queue)?;
+                self.bury(arena.len(), queue)?;
                 Ok(Explored::Dead)
             }
         }
     }
 
-    /// Goes through the queue up to a turn that meets a regex with the empty word.
-    fn search(&mut self, arena: &mut Arena, queue: &mut Queue) -> Result<Option<usize>, AllocError>
+    /// Goes on through the queue from a place, up to a turn that meets a regex with the empty word.
+    fn search(
+        &mut self,
+        arena: &mut Arena,
+        queue: &mut Queue,
+        root: RegexId,
+        from: usize,
+    ) -> Result<Option<usize>, AllocError>
         requires graph { IsGraph arena.old self.old }
-        requires start { IsSearched arena.old (regex_of queue.old 0) self.old.dead queue.old 0 }
-        ensures end { IfOk result
-            (λ end. IsSearchEnd arena.new (regex_of queue.old 0) self.new.dead queue.new self.old.expanded
-            self.new.expanded end) }
-        ensures expands { GoesOn
-            (IsReachedBy arena.new (regex_at arena.old (regex_of queue.old 0)) (λ v. Unit {0}))
-            self.old.expanded self.new.expanded }
+        requires start { IsSearched arena.old root self.old.dead queue.old from }
+        requires within { from ≤ length queue.old }
+        ensures end { IfOk result (λ end. (before : List ℕ)
+            → HasCome arena.old root self.old.dead queue.old from before self.old.expanded
+            → IsSearchEnd arena.new root self.new.dead queue.new before self.new.expanded end) }
+        ensures expands { (before : List ℕ)
+            → HasCome arena.old root self.old.dead queue.old from before self.old.expanded
+            → GoesOn (IsReachedBy arena.new (regex_at arena.old root) (λ v. Unit {0})) before self.new.expanded }
         ensures idle { self.new.expanded ≡ self.old.expanded → self.new.memo ≡ self.old.memo }
         ensures extends { Extends arena.old arena.new }
         ensures graph { IsGraph arena.new self.new }
         ensures marks { self.new.dead ≡ self.old.dead }
         ensures derivatives_stay { KeepsEntries self.old.memo self.new.memo }
     {
-        let mut place = 0;
-        let mut tested = 0;
+        let mut place = from;
+        let mut tested = from;
         while place < queue.len() {
             if let Some(found) = first_nullable(arena, queue.regexes(), tested) {
                 return Ok(Some(found));

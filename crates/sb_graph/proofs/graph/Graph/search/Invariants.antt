@@ -1,10 +1,9 @@
-use Rattle.std.proofs.Common.{◌≡◌, ◌-◌, ◌^◌}
+use Rattle.std.proofs.Common.{◌≡◌, ℕ, ◌-◌, ◌^◌, List}
 use Rattle.sb_deriv.specs.Faithful.{KeepsEntries}
 use Rattle.sb_regex.specs.Numbered.{Extends}
 use Rattle.sb_graph.specs.Findings.{IsGraph}
-use Rattle.sb_graph.specs.Search.{IsUnderWay}
+use Rattle.sb_graph.specs.Search.{HasCome, IsUnderWay}
 use Rattle.sb_graph.proofs.graph.Graph.search.Given as goal
-use Rattle.sb_witness.specs.Queue.{regex_of}
 
 abbrev pub invariant-loop-place : goal.invariant-loop-place
 invariant-loop-place l =
@@ -14,8 +13,9 @@ invariant-loop-place l =
       marks : l.self.dead ≡ l.fn.self.dead;
       derivatives_stay : KeepsEntries l.fn.self.memo l.self.memo;
       idle : l.self.expanded ≡ l.fn.self.expanded → l.self.memo ≡ l.fn.self.memo;
-      under_way : IsUnderWay l.arena (regex_of l.fn.queue 0) l.self.dead l.queue l.place l.tested l.fn.self.expanded
-          l.self.expanded;
+      under_way : (before : List ℕ)
+          → HasCome l.fn.arena l.fn.root l.fn.self.dead l.fn.queue l.fn.from before l.fn.self.expanded
+          → IsUnderWay l.arena l.fn.root l.self.dead l.queue l.place l.tested before l.self.expanded;
     }
 
 abbrev pub decreases-loop-place : goal.decreases-loop-place

@@ -1,9 +1,8 @@
 use Rattle.std.proofs.Common.{◌≡◌, ◌-◌, ◌^◌, ◌<◌}
 use Rattle.sb_deriv.specs.Faithful.{KeepsEntries}
-use Rattle.sb_lang.specs.Language.{language}
-use Rattle.sb_regex.specs.Numbered.{regex_at, Extends}
+use Rattle.sb_regex.specs.Numbered.{Extends}
 use Rattle.sb_graph.specs.Findings.{IsGraph}
-use Rattle.sb_graph.specs.Witness.{Precedes, GoesOn, IsReachedBy}
+use Rattle.sb_graph.specs.Search.{HasCome}
 use Rattle.sb_graph.proofs.graph.Graph.take_turns.Given as goal
 
 abbrev pub invariant-loop-bound : goal.invariant-loop-bound
@@ -14,8 +13,7 @@ invariant-loop-bound l =
       graph : IsGraph l.arena l.self;
       marks : l.self.dead ≡ l.fn.self.dead;
       derivatives_stay : KeepsEntries l.fn.self.memo l.self.memo;
-      before : GoesOn (IsReachedBy l.arena (regex_at l.fn.arena l.root) (Precedes (language (regex_at l.fn.arena l.root))))
-          l.fn.self.expanded l.self.expanded;
+      come : HasCome l.arena l.fn.root l.self.dead l.queue l.place l.fn.self.expanded l.self.expanded;
     }
 
 abbrev pub decreases-loop-bound : goal.decreases-loop-bound

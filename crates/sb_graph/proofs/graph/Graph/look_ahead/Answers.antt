@@ -1,9 +1,0 @@
-use Rattle.std.proofs.Common.{ap, ◌∙◌}
-use Rattle.sb_graph.proofs.Steps.{started}
-use Rattle.sb_graph.proofs.graph.Graph.look_ahead.Goals as goal
-use Rattle.sb_witness.specs.Queue.{with_entry}
-
-pub sweep-requires-clause-start : goal.sweep-requires-clause-start
-sweep-requires-clause-start c =
-    started c.args.arena.now c.args.self.now.dead c.put.new.self c.args.root
-    (c.in_ok-put.ensures ∙ ap (λ queue. with_entry queue (c.args.root, (0, 0))) c.new-queue.ensures) c.requires.known
