@@ -129,7 +129,7 @@ impl Graph {
     ///
     /// In its turn the walk begins anew and may expand four times as many states as before, 2,000 at first; the
     /// exploration goes on from where it stands up to as many regexes. Derivatives are kept. So a call expands at most
-    /// six times as many states as the one of the two that expands fewer, and some thousands. Where the walk ends
+    /// seven times as many states as the one of the two that expands fewer, and some thousands. Where the walk ends
     /// without a word, the exploration goes on to its end. The derivatives that the walk wants are not counted among
     /// those that explorations expanded.
     pub fn answer(&mut self, arena: &mut Arena, root: RegexId) -> Result<Explored, AllocError>
