@@ -18,8 +18,8 @@ use sb_regex::Arena;
 use sb_term::{Table, TermId};
 use std::alloc::AllocError;
 
-/// The atom that the literal of a term speaks of, if it has one. A regular expression past the limits on sizes is not
-/// made a normal regex.
+/// The atom that the literal of a term speaks of, if it has one. Of a regular expression past the limits on sizes no
+/// normal regex is asked for.
 fn atom_of(
     measures: &mut Measures,
     normals: &mut Normals,
