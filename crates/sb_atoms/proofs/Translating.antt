@@ -1,5 +1,6 @@
 -- The literal of a term over a table.
-use Rattle.std.proofs.Common.{◌≡◌, ℕ, zero, suc, ◌+◌, Bool, true, false, ◌⊎◌, inl, inr, nat_eq, cond, Some, List, [], ◌∷◌, length, map, slice_get, refl, sym, ap, ap₂, ◌∙◌, arith}
+use Rattle.std.proofs.Common.{◌≡◌, ℕ, zero, suc, ◌+◌, Bool, true, false, ◌⊎◌, inl, inr, nat_eq, cond, Some, List, []}
+use Rattle.std.proofs.Common.{◌∷◌, length, map, slice_get, refl, sym, ap, ap₂, ◌∙◌, arith}
 use Rattle.std.specs.List.{position_from}
 use Rattle.std.specs.Prelude.{ℤ, Option, None, option_map}
 use Rattle.std.proofs.lemmas.Bool.{false≢true}
@@ -11,7 +12,8 @@ use Rattle.sb_lang.specs.Regex.{Regex}
 use Rattle.sb_lang.specs.OrderLaws.{OrderTellsApart}
 use Rattle.sb_regex.specs.Numbered.{regex_at}
 use Rattle.sb_regex.specs.Numbered as regex
-use Rattle.sb_rulebook.specs.Atoms.{Atom, AtomOver, bool_atom, in_atom, le_atom, sum_atom, and_atom, iff_atom, is_same_atom, number_of}
+use Rattle.sb_rulebook.specs.Atoms.{Atom, AtomOver, bool_atom, in_atom, le_atom, sum_atom, and_atom, iff_atom}
+use Rattle.sb_rulebook.specs.Atoms.{is_same_atom, number_of}
 use Rattle.sb_rulebook.proofs.CallerLemmas.{same_atom, atom_itself}
 use Rattle.sb_script.specs.Pieces.{Piece}
 use Rattle.sb_script.specs.Sums.{Variable, Summand}
@@ -19,7 +21,8 @@ use Rattle.sb_meaning.specs.Terms.{Term}
 use Rattle.sb_atoms.specs.declared.atom.Atom as code
 use Rattle.sb_atoms.specs.Translated.{brought_translation, IsAtomOf}
 use Rattle.sb_atoms.proofs.TableFacts.{get_push}
-use Rattle.sb_atoms.specs.Numbered.{atom_in, Names, IsNumberIn, IsWith, Extends, AreDistinct, over, atoms_in, HasRegexBelow, HaveRegexesBelow}
+use Rattle.sb_atoms.specs.Numbered.{atom_in, Names, IsNumberIn, IsWith, Extends, AreDistinct, over, atoms_in}
+use Rattle.sb_atoms.specs.Numbered.{HasRegexBelow, HaveRegexesBelow}
 
 -- Equal atoms over an arena are one.
 

@@ -1,10 +1,10 @@
 //! The literals of assertions.
 
 ghost use Rattle.std.specs.Prelude.{◌≡◌, ◌<◌, true, List, length, IfOk};
-ghost use Rattle.sb_lang.specs.Regex.{Regex};
+ghost use Rattle.sb_regex.specs.Numbered as regex;
 ghost use Rattle.sb_term.specs.Numbered.{term_at};
+ghost use Rattle.sb_problem.specs.Known.{AreNormals};
 ghost use Rattle.sb_fragment.specs.Measures.{AreMeasures};
-ghost use Rattle.sb_fragment.specs.Memberships.{IsMemberRegex};
 ghost use Rattle.sb_atoms.specs.Numbered.{atom_in, atoms_in, HaveRegexesBelow, Extends};
 ghost use Rattle.sb_atoms.specs.Translated.{brought_translation, IsAtomOf};
 
@@ -13,33 +13,37 @@ use crate::table::Atoms;
 use sb_fragment::{Measures, membership};
 use sb_lang::order::order_tells_apart;
 use sb_lit::Lit;
-use sb_regex::{Arena, RegexId};
+use sb_problem::Normals;
+use sb_regex::Arena;
 use sb_term::{Table, TermId};
 use std::alloc::AllocError;
 
-/// The atom that the literal of a term speaks of, if it has one.
+/// The atom that the literal of a term speaks of, if it has one. Of a regular expression past the limits on sizes no
+/// normal regex is asked for.
 fn atom_of(
     measures: &mut Measures,
+    normals: &mut Normals,
     table: &Table,
+    arena: &mut Arena,
     id: TermId,
-    regex: Option<RegexId>,
 ) -> Result<Option<Atom>, AllocError>
     requires number { id < length table.now }
     requires right { AreMeasures table.now measures.old }
-    ensures ok { IfOk result (λ found.
-        (rs : List Regex) → IsMemberRegex rs (term_at table.now id) regex → IsAtomOf rs (term_at table.now id) found) }
+    requires normals { AreNormals table.now arena.old normals.old }
+    ensures ok { IfOk result (λ found. IsAtomOf arena.new (term_at table.now id) found) }
     ensures right { AreMeasures table.now measures.new }
+    ensures normals { AreNormals table.now arena.new normals.new }
+    ensures arena { regex.Extends arena.old arena.new }
 {
     let Some((serial, expression)) = membership(table, id) else {
         return Ok(None);
     };
-    let Some(regex) = regex else {
+    if !measures.is_regular(table, expression)? {
         return Ok(None);
-    };
-    if measures.is_regular(table, expression)? {
-        Ok(Some(Atom::In(serial, regex)))
-    } else {
-        Ok(None)
+    }
+    match normals.normal(table, arena, expression)? {
+        Some(regex) => Ok(Some(Atom::In(serial, regex))),
+        None => Ok(None),
     }
 }
 
@@ -56,30 +60,31 @@ fn positive(id: AtomId) -> Lit
 impl Atoms {
     /// The literal of an assertion's term, of which the atom is added where it is missing. So far terms are translated
     /// that are inside the fragment: the memberships of one String constant. There is none of others, and none of a
-    /// membership that is past the limits on sizes. `regex` is the number of the regular expression of a membership,
-    /// none where it is none over literals.
+    /// membership that is past the limits on sizes.
     ///
-    /// Constant time, by hash, but that the regular expression is measured where it was not yet. `AllocError` only for
-    /// want of memory; the table may hold the atom then.
+    /// Constant time, by hash, but that the regular expression is measured, and its normal regex made, where they were
+    /// not yet. `AllocError` only for want of memory; the arena may hold more regexes then, and the table the atom.
     pub fn translate(
         &mut self,
         measures: &mut Measures,
+        normals: &mut Normals,
         table: &Table,
-        arena: &Arena,
+        arena: &mut Arena,
         id: TermId,
-        regex: Option<RegexId>,
     ) -> Result<Option<Lit>, AllocError>
         requires number { id < length table.now }
         requires right { AreMeasures table.now measures.old }
-        requires regex { IsMemberRegex arena.now (term_at table.now id) regex }
-        requires regexes { HaveRegexesBelow (length arena.now) self.old }
+        requires normals { AreNormals table.now arena.old normals.old }
+        requires regexes { HaveRegexesBelow (length arena.old) self.old }
         ensures ok { IfOk result
-            (λ found. found ≡ brought_translation (atoms_in arena.now self.new) (term_at table.now id)) }
+            (λ found. found ≡ brought_translation (atoms_in arena.new self.new) (term_at table.now id)) }
         ensures extends { Extends self.old self.new }
-        ensures regexes { HaveRegexesBelow (length arena.now) self.new }
+        ensures regexes { HaveRegexesBelow (length arena.new) self.new }
         ensures right { AreMeasures table.now measures.new }
+        ensures normals { AreNormals table.now arena.new normals.new }
+        ensures arena { regex.Extends arena.old arena.new }
     {
-        let Some(atom) = atom_of(measures, table, id, regex)? else {
+        let Some(atom) = atom_of(measures, normals, table, arena, id)? else {
             return Ok(None);
         };
         let id = self.add(atom)?;
@@ -89,25 +94,29 @@ impl Atoms {
         Ok(Some(positive(id)))
     }
 
-    /// The literal of an assertion's term, as [`Atoms::translate`] gives it, where the atom that it needs is there; none
-    /// where it is missing. Adds no atom. `AllocError` where there is no memory for the measures.
+    /// The literal of an assertion's term, as [`Atoms::translate`] gives it, where the atom that it needs is there;
+    /// none where it is missing. Adds no atom; the arena may hold more regexes. Its cost and its error are those of
+    /// [`Atoms::translate`].
     pub fn find_translation(
         &self,
         measures: &mut Measures,
+        normals: &mut Normals,
         table: &Table,
-        arena: &Arena,
+        arena: &mut Arena,
         id: TermId,
-        regex: Option<RegexId>,
     ) -> Result<Option<Lit>, AllocError>
         requires number { id < length table.now }
         requires right { AreMeasures table.now measures.old }
-        requires regex { IsMemberRegex arena.now (term_at table.now id) regex }
-        requires regexes { HaveRegexesBelow (length arena.now) self.now }
+        requires normals { AreNormals table.now arena.old normals.old }
+        requires regexes { HaveRegexesBelow (length arena.old) self.now }
         ensures ok { IfOk result
-            (λ found. found ≡ brought_translation (atoms_in arena.now self.now) (term_at table.now id)) }
+            (λ found. found ≡ brought_translation (atoms_in arena.new self.now) (term_at table.now id)) }
+        ensures regexes { HaveRegexesBelow (length arena.new) self.now }
         ensures right { AreMeasures table.now measures.new }
+        ensures normals { AreNormals table.now arena.new normals.new }
+        ensures arena { regex.Extends arena.old arena.new }
     {
-        let Some(atom) = atom_of(measures, table, id, regex)? else {
+        let Some(atom) = atom_of(measures, normals, table, arena, id)? else {
             return Ok(None);
         };
         self.atoms_each_once();

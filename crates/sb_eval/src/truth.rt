@@ -7,6 +7,7 @@ ghost use Rattle.sb_script.specs.Fragment.{is_inside};
 ghost use Rattle.sb_script.specs.State.{asserted};
 ghost use Rattle.sb_regex.specs.Numbered.{Extends};
 ghost use Rattle.sb_term.specs.Numbered.{term_at};
+ghost use Rattle.sb_problem.specs.Known.{AreNormals};
 ghost use Rattle.sb_plain.specs.Memory.{IsRight};
 ghost use Rattle.sb_fragment.specs.Memberships.{IsMemberRegex};
 ghost use Rattle.sb_eval.specs.Given.{GivesWords};
@@ -14,18 +15,15 @@ ghost use Rattle.sb_eval.specs.Given.{GivesWords};
 use sb_fragment::membership;
 use sb_lang::derivative::nullable_has_empty_word;
 use sb_lang::normal::normal_has_terms_words;
-use sb_plain::Plain;
+use sb_plain::{Plain, right_stays};
+use sb_problem::{Normals, normals_stay};
 use sb_regex::{Arena, RegexId};
 use sb_term::{Table, TermId};
 use sb_word::Word;
 use std::alloc::AllocError;
 
-/// Whether an assertion that is inside the fragment is true, where each String constant has the word at its serial, the
-/// empty word past the last one. `regex` is the number of the normal regex of its regular expression. Only words are
-/// values so far.
-///
-/// Its cost is that of [`Plain::matches`]. `AllocError` only for want of memory; the arena may hold more regexes then.
-pub fn eval(
+/// Whether an assertion is true, where `regex` is the number of the normal regex of its regular expression.
+fn is_true_by(
     plain: &mut Plain,
     arena: &mut Arena,
     table: &Table,
@@ -54,4 +52,38 @@ pub fn eval(
         }
         None => Ok(arena.nullable(regex)),
     }
+}
+
+/// Whether an assertion that is inside the fragment is true, where each String constant has the word at its serial, the
+/// empty word past the last one. Only words are values so far.
+///
+/// Its cost is that of [`Plain::matches`], and that of [`Normals::normal`] where the regular expression was not asked
+/// for yet. `AllocError` only for want of memory; the arena may hold more regexes then.
+pub fn eval(
+    plain: &mut Plain,
+    normals: &mut Normals,
+    arena: &mut Arena,
+    table: &Table,
+    id: TermId,
+    values: &[Word],
+) -> Result<bool, AllocError>
+    requires number { id < length table.now }
+    requires inside { is_inside (asserted (term_at table.now id)) ≡ true }
+    requires normals { AreNormals table.now arena.old normals.old }
+    requires right { IsRight arena.old plain.old }
+    ensures ok { IfOk result
+        (λ truth. (v : Valuation) → GivesWords values.now v → truth ≡ holds (term_at table.now id) v) }
+    ensures extends { Extends arena.old arena.new }
+    ensures normals { AreNormals table.now arena.new normals.new }
+    ensures right { IsRight arena.new plain.new }
+{
+    right_stays();
+    normals_stay();
+    let Some((_, expression)) = membership(table, id) else {
+        return Ok(false);
+    };
+    let Some(regex) = normals.normal(table, arena, expression)? else {
+        return Ok(false);
+    };
+    is_true_by(plain, arena, table, id, regex, values)
 }

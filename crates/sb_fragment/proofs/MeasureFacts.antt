@@ -1,10 +1,13 @@
 -- Measures of terms are those that their arguments' measures give.
-use Rattle.std.proofs.Common.{◌≡◌, ℕ, zero, suc, ◌+◌, ◌<◌, Bool, true, false, ◌⊎◌, inl, inr, not, ◌&&◌, ◌==◌, nat_lt, nat_le, Some, List, [], ◌∷◌, ◌++◌, length, get_or, slice_get, drop, refl, sym, ap, ap₂, ◌∙◌, arith, length-append}
+use Rattle.std.proofs.Common.{◌≡◌, ℕ, zero, suc, ◌+◌, ◌<◌, Bool, true, false, ◌⊎◌, inl, inr, not, ◌&&◌, ◌==◌, nat_lt}
+use Rattle.std.proofs.Common.{nat_le, Some, List, [], ◌∷◌, ◌++◌, length, get_or, slice_get, drop, refl, sym, ap, ap₂}
+use Rattle.std.proofs.Common.{◌∙◌, arith, length-append}
 use Rattle.std.specs.List.{All, list_all}
 use Rattle.std.proofs.lemmas.Bool.Decides.{nat_tests}
 use Rattle.std.proofs.lemmas.List.{get_or_append_left, get_or_push}
 use Rattle.std.proofs.lemmas.Option.{get_or_from_slice_get, slice_get_within, slice_get-get_or}
-use Rattle.sb_meaning.specs.Terms.{Symbol, Term, Terms, constant, word, numeral, apply, parameter, no_terms, with_term, terms_of}
+use Rattle.sb_meaning.specs.Terms.{Symbol, Term, Terms, constant, word, numeral, apply, parameter, no_terms}
+use Rattle.sb_meaning.specs.Terms.{with_term, terms_of}
 use Rattle.sb_meaning.specs.Terms as symbol
 use Rattle.sb_script.specs.Brought.{is_regex, are_regexes}
 use Rattle.sb_script.specs.Pieces.{are_ground}
@@ -16,7 +19,8 @@ use Rattle.sb_term.specs.Numbered.{term_at, terms_at}
 use Rattle.sb_term.specs.Symbols.{symbol_in}
 use Rattle.sb_fragment.specs.declared.measure.Measure.{Measure}
 use Rattle.sb_fragment.specs.Measures.{is_literal, within_limit, IsMeasure, AreMeasures}
-use Rattle.sb_fragment.specs.Measured.{is_regex_by, is_short_by, size_by, joined, no_measure, within, total, applied_measure, node_measure}
+use Rattle.sb_fragment.specs.Measured.{is_regex_by, is_short_by, size_by, joined, no_measure, within, total}
+use Rattle.sb_fragment.specs.Measured.{applied_measure, node_measure}
 
 pub drop_at : {X : Type 0} (xs : List X) (i : ℕ) (d : X) → i < length xs → drop i xs ≡ get_or xs i d ∷ drop (suc i) xs
 drop_at [] i d h = absurd (omega arith)
@@ -158,7 +162,8 @@ pub measure_is : (ts : List Term) (ms : List Measure) (d : code.Term) → AreMea
 measure_is ts ms (node.Constant n s) h l =
     record { word = refl; constants = refl; regex = refl; short = refl; size = refl }
 measure_is ts ms (node.Word w) h l = record { word = refl; constants = refl; regex = refl; short = refl; size = refl }
-measure_is ts ms (node.Numeral n) h l = record { word = refl; constants = refl; regex = refl; short = refl; size = refl }
+measure_is ts ms (node.Numeral n) h l =
+    record { word = refl; constants = refl; regex = refl; short = refl; size = refl }
 measure_is ts ms (node.Apply s is) h l =
     applied_is (symbol_in s) (terms_at ts is.items) (length is.items) (total ms is.items)
     (length_terms_at ts is.items) (total_is ts ms is.items h l)
@@ -202,7 +207,8 @@ measures_more ts ms d m n h e l value below is = record {
 
 pub measure_found : (ts : List Term) (ms : List Measure) (i n : ℕ) (m : Measure) → AreMeasures ts ms → n ≡ i
     → i < length ms → m ≡ get_or ms n m → IsMeasure (term_at ts i) m
-measure_found ts ms i n m h e l is = h.each i m (slice_get-get_or ms i m l ∙ ap Some (sym (is ∙ ap (λ k. get_or ms k m) e)))
+measure_found ts ms i n m h e l is =
+    h.each i m (slice_get-get_or ms i m l ∙ ap Some (sym (is ∙ ap (λ k. get_or ms k m) e)))
 
 within_size : (n : ℕ) → nat_le (within_limit n) 1000000 ≡ nat_le n 1000000
 within_size n = grind (arith, nat_tests)

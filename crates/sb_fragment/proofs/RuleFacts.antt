@@ -1,5 +1,6 @@
 -- The first assertion outside the fragment, among all of them.
-use Rattle.std.proofs.Common.{◌≡◌, ℕ, zero, suc, ◌+◌, ◌<◌, Bool, true, false, ◌&&◌, ◌||◌, List, [], ◌∷◌, ◌++◌, length, get_or, map, take, refl, sym, ap, ◌∙◌, arith}
+use Rattle.std.proofs.Common.{◌≡◌, ℕ, zero, suc, ◌+◌, ◌<◌, Bool, true, false, ◌&&◌, ◌||◌, List, [], ◌∷◌, ◌++◌, length}
+use Rattle.std.proofs.Common.{get_or, map, take, refl, sym, ap, ◌∙◌, arith}
 use Rattle.std.specs.List.{list_any}
 use Rattle.std.specs.Prelude.{Option, Some, None}
 use Rattle.std.proofs.lemmas.Bool.{and_parts, and_from}
@@ -54,7 +55,8 @@ outside_at ts (x ∷ xs) (suc k) a reason l is h = let rest = outside_at ts xs k
     (both _ _ rest.0, either _ _ rest.1)
 
 pub one_outside : (ts : List Term) (live : List code.Assertion) (k : ℕ) (a : code.Assertion) (found : Option Reason)
-    (reason : Reason) → k < length live → a ≡ get_or live k a → found ≡ Some reason → IsBrokenBy (assertion_in ts a) found
+    (reason : Reason) → k < length live → a ≡ get_or live k a → found ≡ Some reason
+    → IsBrokenBy (assertion_in ts a) found
     → (are_inside (map (assertion_in ts) live) ≡ false)
     × (list_any (is_broken reason) (map (assertion_in ts) live) ≡ true)
 one_outside ts live k a found reason l is e h = outside_at ts live k a reason l is (rw e at h)

@@ -62,7 +62,8 @@ node_measure ms (node.Word codes) = record {
   is_short = nat_le (length codes.items) 65535;
   size = within_limit (length codes.items);
 }
-node_measure ms (node.Numeral n) = record { is_word = false; is_ground = true; is_regex = false; is_short = true; size = 0 }
+node_measure ms (node.Numeral n) =
+    record { is_word = false; is_ground = true; is_regex = false; is_short = true; size = 0 }
 node_measure ms (node.Apply s arguments) =
     applied_measure (symbol_in s) (length arguments.items) (total ms arguments.items)
 node_measure ms (node.Parameter place sort) =

@@ -1,7 +1,7 @@
 -- Terms that are str.in_re of two arguments (SMT-LIB theory of Unicode Strings).
 use Rattle.std.specs.Prelude.{ℕ, Bool, true, false, List, Option}
 use Rattle.sb_lang.specs.Regex.{Regex}
-use Rattle.sb_meaning.specs.Terms.{text, Term, constant, apply, no_terms, with_term}
+use Rattle.sb_meaning.specs.Terms.{Term, apply, no_terms, with_term}
 use Rattle.sb_meaning.specs.Terms as symbol
 use Rattle.sb_problem.specs.Normals.{IsNumberOf}
 
@@ -11,10 +11,6 @@ in_re t R = apply symbol.str_in_re (with_term t (with_term R no_terms))
 abbrev pub is_in_re : Term → Bool
 is_in_re (apply symbol.str_in_re (with_term t (with_term R no_terms))) = true
 is_in_re _ = false
-
-abbrev pub is_text_constant : Term → Bool
-is_text_constant (constant serial text) = true
-is_text_constant _ = false
 
 -- of a membership, the number of its regular expression's normal regex
 abbrev pub IsMemberRegex : List Regex → Term → Option ℕ → Type 0

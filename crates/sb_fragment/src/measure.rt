@@ -4,7 +4,8 @@ ghost use Rattle.std.specs.Prelude.{◌≡◌, ◌<◌, ◌+◌, length, All};
 ghost use Rattle.sb_term.specs.Symbols.{symbol_in};
 ghost use Rattle.sb_term.specs.Nodes.{ArgumentsBelow};
 ghost use Rattle.sb_fragment.specs.Measures.{within_limit};
-ghost use Rattle.sb_fragment.specs.Measured.{is_regex_by, is_short_by, size_by, joined, total, within, node_measure, applied_measure};
+ghost use Rattle.sb_fragment.specs.Measured.{is_regex_by, is_short_by, size_by, joined, total, within, node_measure};
+ghost use Rattle.sb_fragment.specs.Measured.{applied_measure};
 
 use sb_term::{Symbol, Term, TermId};
 

@@ -65,8 +65,8 @@ impl Measures {
         Ok(self.measures[id.number()])
     }
 
-    /// Whether a term is a RegLan term without constants and within the limits on sizes. Its cost and its error are those
-    /// of [`Measures::measure`].
+    /// Whether a term is a RegLan term without constants and within the limits on sizes. Its cost and its error are
+    /// those of [`Measures::measure`].
     pub fn is_regular(&mut self, table: &Table, id: TermId) -> Result<bool, AllocError>
         requires number { id < length table.now }
         requires right { AreMeasures table.now self.old }

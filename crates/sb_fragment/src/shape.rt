@@ -4,9 +4,10 @@ ghost use Rattle.std.specs.Prelude.{◌≡◌, ◌<◌, false, length, MatchOpti
 ghost use Rattle.sb_meaning.specs.Terms.{text, constant};
 ghost use Rattle.sb_script.specs.Brought.{is_membership};
 ghost use Rattle.sb_term.specs.Numbered.{term_at};
-ghost use Rattle.sb_fragment.specs.Memberships.{is_in_re, in_re, is_text_constant};
+ghost use Rattle.sb_fragment.specs.Memberships.{is_in_re, in_re};
 
-use sb_term::{Serial, Sort, Symbol, Table, Term, TermId};
+use sb_problem::constant_of;
+use sb_term::{Serial, Symbol, Table, Term, TermId};
 
 /// The two arguments of a term that is `str.in_re` of them.
 pub(crate) fn arguments_of(table: &Table, id: TermId) -> Option<(TermId, TermId)>
@@ -27,21 +28,6 @@ pub(crate) fn arguments_of(table: &Table, id: TermId) -> Option<(TermId, TermId)
     Some((*term, *regex))
 }
 
-/// The serial of a String constant.
-fn text_constant(table: &Table, id: TermId) -> Option<Serial>
-    requires { id < length table.now }
-    ensures { MatchOption result (is_text_constant (term_at table.now id) ≡ false)
-        (λ serial. term_at table.now id ≡ constant serial.0 text) }
-{
-    let Term::Constant(serial, sort) = table.term(id) else {
-        return None;
-    };
-    let Sort::String = sort else {
-        return None;
-    };
-    Some(*serial)
-}
-
 /// The constant and the regular expression of a term that is the membership of one String constant, whatever the
 /// regular expression is. Takes constant time and no memory.
 pub fn membership(table: &Table, id: TermId) -> Option<(Serial, TermId)>
@@ -51,6 +37,6 @@ pub fn membership(table: &Table, id: TermId) -> Option<(Serial, TermId)>
     ensures smaller { IfSome result (λ p. p.1 < id) }
 {
     let (term, regex) = arguments_of(table, id)?;
-    let serial = text_constant(table, term)?;
+    let serial = constant_of(table, term)?;
     Some((serial, regex))
 }

@@ -7,7 +7,8 @@ pub loop-id-preserved : goal.loop-id-preserved
 loop-id-preserved c =
     rw (c.in_ok-push.ensures.items)
     (measures_more c.args.table.now c.loop-id.measures.items c.term.result.now c.measure_of-measure.result
-    c.in_ok-next.next c.loop-id.invariant (omega (arith, c.in_ok-next.ensures, c.len-in-loop-id.ensures, c.deref.ensures.len))
+    c.in_ok-next.next c.loop-id.invariant
+    (omega (arith, c.in_ok-next.ensures, c.len-in-loop-id.ensures, c.deref.ensures.len))
     (omega (arith, c.in_ok-next.ensures, c.loop-id-test.true, c.requires.number)) c.term.ensures.value
     c.term.ensures.arguments
     (c.measure_of-measure.ensures ∙ ap (λ ms. node_measure ms c.term.result.now) c.deref.ensures.value))

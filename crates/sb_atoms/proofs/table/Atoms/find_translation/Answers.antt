@@ -1,16 +1,36 @@
 use Rattle.sb_term.specs.Numbered.{term_at}
+use Rattle.sb_atoms.proofs.CallerLemmas.{regexes_kept}
 use Rattle.sb_atoms.proofs.Translating.{literal_there, literal_missing}
 use Rattle.sb_atoms.proofs.table.Atoms.find_translation.Goals as goal
 
 pub returns-in-Some-find-clause-ok : goal.returns-in-Some-find-clause-ok
 returns-in-Some-find-clause-ok c =
-    literal_there c.order_tells_apart.ensures c.args.arena.now (term_at c.args.table.now c.args.id) c.in-Some.atom
-    c.args.self.now c.in-Some-find.id c.positive.result c.in_ok-atom.field-0
-    c.normal_regexes_each_once.ensures.distinct c.atoms_each_once.ensures c.requires.regexes c.in-Some.is
-    (c.in_ok-atom.ensures.ok c.args.arena.now c.requires.regex) c.in-Some-find.ensures c.positive.ensures
+    let rs = c.atom_of.new.arena in
+    let below = regexes_kept c.args.arena.now rs c.args.self.now c.in_ok-atom.ensures.arena c.requires.regexes in
+    literal_there c.order_tells_apart.ensures rs (term_at c.args.table.now c.args.id) c.in-Some.atom c.args.self.now
+    c.in-Some-find.id c.positive.result c.in_ok-atom.field-0 c.normal_regexes_each_once.ensures.distinct
+    c.atoms_each_once.ensures below c.in-Some.is c.in_ok-atom.ensures.ok c.in-Some-find.ensures c.positive.ensures
 
 pub returns-in-None-clause-ok : goal.returns-in-None-clause-ok
 returns-in-None-clause-ok c =
-    literal_missing c.order_tells_apart.ensures c.args.arena.now (term_at c.args.table.now c.args.id) c.in-Some.atom
-    c.args.self.now c.in_ok-atom.field-0 c.normal_regexes_each_once.ensures.distinct c.requires.regexes c.in-Some.is
-    (c.in_ok-atom.ensures.ok c.args.arena.now c.requires.regex) c.in-None.ensures
+    let rs = c.atom_of.new.arena in
+    let below = regexes_kept c.args.arena.now rs c.args.self.now c.in_ok-atom.ensures.arena c.requires.regexes in
+    literal_missing c.order_tells_apart.ensures rs (term_at c.args.table.now c.args.id) c.in-Some.atom c.args.self.now
+    c.in_ok-atom.field-0 c.normal_regexes_each_once.ensures.distinct below c.in-Some.is c.in_ok-atom.ensures.ok
+    c.in-None.ensures
+
+pub returns-in_err-atom-clause-regexes : goal.returns-in_err-atom-clause-regexes
+returns-in_err-atom-clause-regexes c =
+    regexes_kept c.args.arena.now c.atom_of.new.arena c.args.self.now c.in_err-atom.ensures.arena c.requires.regexes
+
+pub returns-in_default-clause-regexes : goal.returns-in_default-clause-regexes
+returns-in_default-clause-regexes c =
+    regexes_kept c.args.arena.now c.atom_of.new.arena c.args.self.now c.in_ok-atom.ensures.arena c.requires.regexes
+
+pub returns-in-Some-find-clause-regexes : goal.returns-in-Some-find-clause-regexes
+returns-in-Some-find-clause-regexes c =
+    regexes_kept c.args.arena.now c.atom_of.new.arena c.args.self.now c.in_ok-atom.ensures.arena c.requires.regexes
+
+pub returns-in-None-clause-regexes : goal.returns-in-None-clause-regexes
+returns-in-None-clause-regexes c =
+    regexes_kept c.args.arena.now c.atom_of.new.arena c.args.self.now c.in_ok-atom.ensures.arena c.requires.regexes

@@ -5,4 +5,5 @@ use Rattle.sb_fragment.proofs.measures.Measures.is_regular.Goals as goal
 
 pub returns-clause-ok : goal.returns-clause-ok
 returns-clause-ok c =
-    c.is_within.ensures ∙ regular_is (term_at c.args.table.now c.args.id) c.in_ok-measure.measure c.in_ok-measure.ensures.ok
+    c.is_within.ensures
+    ∙ regular_is (term_at c.args.table.now c.args.id) c.in_ok-measure.measure c.in_ok-measure.ensures.ok
