@@ -1,0 +1,126 @@
+//! Lines of proofs.
+
+use sb_lit::Lit;
+
+/// A regex whose parts are numbers of regexes.
+#[derive(Debug, PartialEq, Eq, Drop)]
+pub enum Node {
+    /// No word.
+    None,
+    /// The empty word alone.
+    Eps,
+    /// The words of one character of a set: its ranges, with both ends of each.
+    Set(Vec<(u64, u64)>),
+    /// Concatenation.
+    Cat(u64, u64),
+    /// Union.
+    Alt(Vec<u64>),
+    /// Intersection.
+    And(Vec<u64>),
+    /// Complement.
+    Not(u64),
+    /// Star.
+    Star(u64),
+    /// A regex from so many to so many times.
+    Rep(u64, u64, u64),
+    /// The words along which the derivative takes the first regex to the second.
+    Path(u64, u64),
+}
+
+/// A piece of a concatenation.
+#[derive(Debug, PartialEq, Eq, Drop)]
+pub enum Piece {
+    /// The String constant of this serial.
+    Constant(u64),
+    /// A word, by its characters.
+    Word(Vec<u64>),
+}
+
+/// What a bound speaks of.
+#[derive(Clone, Copy, Debug, PartialEq, Eq)]
+pub enum Variable {
+    /// The Int constant of this serial.
+    Int(u64),
+    /// The length of the String constant of this serial.
+    Length(u64),
+}
+
+/// What a literal is true or false of.
+#[derive(Debug, PartialEq, Eq, Drop)]
+pub enum Atom {
+    /// The Bool constant of this serial is true.
+    Bool(u64),
+    /// The concatenation of the pieces is in the language of the regex.
+    In(Vec<Piece>, u64),
+    /// The variable is at most the number.
+    Le(Variable, i128),
+    /// The sum of numbers times variables is at most the number.
+    Sum(i128, Vec<(i128, Variable)>),
+    /// All the literals are true.
+    And(Vec<Lit>),
+    /// The two literals are both true or both false.
+    Iff(Lit, Lit),
+}
+
+/// The characters of some ranges, and the number of the regex to which they lead.
+#[derive(Debug, PartialEq, Eq, Drop)]
+pub struct Class {
+    pub ranges: Vec<(u64, u64)>,
+    pub target: u64,
+}
+
+/// The rules whose clauses are true under all values.
+#[derive(Clone, Copy, Debug, PartialEq, Eq)]
+pub enum Rule {
+    Gate,
+    Order,
+    Linear,
+    Step,
+    Empty,
+}
+
+/// The value of a constant.
+#[derive(Debug, PartialEq, Eq, Drop)]
+pub enum Value {
+    Text(Vec<u64>),
+    Int(i128),
+    Truth(bool),
+}
+
+/// What a verdict line says.
+#[derive(Debug, PartialEq, Eq, Drop)]
+pub enum Said {
+    /// The values of the live constants, by serial.
+    Sat(Vec<Value>),
+    /// The number of the clause that refutes the assumptions.
+    Unsat(u64),
+    /// The limit that is used up.
+    Unknown(u64),
+    /// The check is outside the fragment.
+    Unsupported,
+}
+
+/// A line of a proof. Regexes, atoms and clauses are numbered from 0, each kind by its own lines.
+#[derive(Debug, PartialEq, Eq, Drop)]
+pub enum Line {
+    /// The first line, with the number of the format.
+    Header(u64),
+    /// The next regex.
+    Regex(Node),
+    /// The next atom.
+    Atom(Atom),
+    /// The expansion of a regex.
+    Expansion(u64, Vec<Class>),
+    /// Regexes without a word.
+    Dead(Vec<u64>),
+    /// The next clause: the literal of the live assertion at this place, counted from 0.
+    Assertion(u64, Lit),
+    /// The next clause, by a rule.
+    Rule(Rule, Vec<Lit>),
+    /// The next clause, learned by hints, which are numbers of clauses.
+    Learned(Vec<Lit>, Vec<u64>),
+    /// The verdict of a check.
+    Verdict(Said),
+    /// The last line.
+    End,
+}
