@@ -1,4 +1,5 @@
-//! Tests of what is known of terms by number: which assertions are inside the fragment, and atoms by number.
+//! Tests of what is known of terms by number: their measures, which assertions are inside the fragment, atoms and
+//! literals by number, and truth under values.
 //!
 //! The crate has no code of its own. What each call promises is proved in its crate; here are worked examples, and
 //! each public call once with ample memory.
@@ -8,3 +9,11 @@
 mod atoms;
 #[cfg(test)]
 mod fragments;
+#[cfg(test)]
+mod literals;
+#[cfg(test)]
+mod measures;
+#[cfg(test)]
+mod terms;
+#[cfg(test)]
+mod truths;

@@ -1,6 +1,6 @@
 use Rattle.std.proofs.Common.{◌∙◌, arith, below_more}
 use Rattle.std.proofs.lemmas.List.{get_or_read, get_or_default}
-use Rattle.sb_atom_tests.proofs.fragments.are_terms.Goals as goal
+use Rattle.sb_atom_tests.proofs.terms.are_terms.Goals as goal
 
 pub loop-id-preserved : goal.loop-id-preserved
 loop-id-preserved c =
