@@ -1,1 +1,3 @@
 pub mod FieldFacts
+pub mod NumberFacts
+pub mod RowFacts

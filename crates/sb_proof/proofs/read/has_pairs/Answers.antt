@@ -1,0 +1,7 @@
+use Rattle.std.proofs.Common.{arith}
+use Rattle.std.proofs.lemmas.Grind.{common_steps}
+use Rattle.sb_proof.proofs.RowFacts.{pairs-by_length}
+use Rattle.sb_proof.proofs.read.has_pairs.Goals as goal
+
+pub returns-then-not-is_empty : goal.returns-then-not-is_empty
+returns-then-not-is_empty c = pairs-by_length c.args.fields.now (grind (arith, common_steps))
