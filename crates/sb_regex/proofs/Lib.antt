@@ -2,6 +2,7 @@ pub mod CallerLemmas
 pub mod NodeEq
 pub mod TableFacts
 pub mod Rests
+pub mod Measured
 pub mod Interned
 pub mod Comparing
 pub mod Building

@@ -3,18 +3,18 @@ use Rattle.std.proofs.Common.{◌≡◌, ℕ, ◌<◌, Bool, true, false, ◌&&�
 use Rattle.std.specs.List.{list_any}
 use Rattle.std.proofs.lemmas.Bool.{false≢true}
 use Rattle.std.proofs.lemmas.Bool.Decides.{nat_tests}
-use Rattle.std.proofs.lemmas.List.{get_or_append_left, get_or_push, get_or_default, map-append, nil_from_length}
+use Rattle.std.proofs.lemmas.List.{get_or_append_left, get_or_push, get_or_default, nil_from_length}
 use Rattle.std.proofs.lemmas.List.Folds.{list_all-append, list_any-from_Any}
 use Rattle.std.proofs.lemmas.Option.{get_or_from_slice_get, slice_get_within, slice_get-get_or}
-use Rattle.sb_lang.specs.Derivative.{nullable}
 use Rattle.sb_lang.specs.NormalForm.{is_normal}
 use Rattle.sb_lang.specs.Regex.{Regex, none, cat, alt, and, neg, star, regexes}
+use Rattle.sb_regex.specs.declared.arena.Facts.{Facts}
 use Rattle.sb_regex.specs.declared.node.Node.{Node}
 use Rattle.sb_regex.specs.declared.node.Node.TheVariants as node
 use Rattle.sb_regex.specs.Numbered.{regex_at, Names, Extends}
 use Rattle.sb_regex.specs.Nodes.{node_regex, PartsBelow}
 use Rattle.sb_regex.specs.Table.{regexes_onto, regexes_of}
-use Rattle.sb_regex.specs.Interning.{IsTable}
+use Rattle.sb_regex.specs.Interning.{AreFactsOf, IsTable}
 use Rattle.sb_regex.proofs.CallerLemmas.{at_kept, ats_kept, names_at, names_from, names_kept}
 use Rattle.sb_regex.proofs.NodeEq.{same, gives_same}
 
@@ -58,10 +58,10 @@ names_push rs r i e =
     names_from (rs ++ r ∷ []) i r (omega (arith, length-append rs (r ∷ []))) (get_or_push rs r none i (sym e))
 
 -- a new regex is none of the table's
-new_one : (rs : List Regex) (ds : List Node) (empty : List Bool) (d : Node) → IsTable rs ds empty
+new_one : (rs : List Regex) (ds : List Node) (facts : List Facts) (d : Node) → IsTable rs ds facts
     → PartsBelow (length rs) d → list_any (same d) ds ≡ false → (i : ℕ) → i < length rs
     → node_regex rs d ≡ regex_at rs i → ⊥
-new_one rs ds empty d t p fresh i l e =
+new_one rs ds facts d t p fresh i l e =
     let here : i < length ds = omega (arith, l, t.long) in
     let x = get_or ds i d in
     let g : slice_get ds i ≡ Some x = slice_get-get_or ds i d here in
@@ -70,10 +70,10 @@ new_one rs ds empty d t p fresh i l e =
     gives_same rs d x t.distinct p below (e ∙ names_at rs i (node_regex rs x) (t.nodes i x g)) in
     false≢true (sym fresh ∙ list_any-from_Any (same d) ds (i, x, here, get_or_default ds i x d here, found))
 
-pub table_more : (rs : List Regex) (ds : List Node) (empty : List Bool) (d : Node) (b : Bool) → IsTable rs ds empty
-    → PartsBelow (length rs) d → is_normal (node_regex rs d) ≡ true → b ≡ nullable (node_regex rs d)
-    → list_any (same d) ds ≡ false → IsTable (rs ++ node_regex rs d ∷ []) (ds ++ d ∷ []) (empty ++ b ∷ [])
-table_more rs ds empty d b t p norm flag fresh = record {
+pub table_more : (rs : List Regex) (ds : List Node) (facts : List Facts) (d : Node) (f : Facts) → IsTable rs ds facts
+    → PartsBelow (length rs) d → is_normal (node_regex rs d) ≡ true → AreFactsOf f (node_regex rs d)
+    → list_any (same d) ds ≡ false → IsTable (rs ++ node_regex rs d ∷ []) (ds ++ d ∷ []) (facts ++ f ∷ [])
+table_more rs ds facts d f t p norm true_facts fresh = record {
   nodes = λ i x g. elim (get_push ds d x i g) as (λ _. Names new i (node_regex new x)) [
     | inl s ↦
         let below : PartsBelow (length rs) x =
@@ -90,7 +90,13 @@ table_more rs ds empty d b t p norm flag fresh = record {
   long = grind (arith, t.long, length-append rs (node_regex rs d ∷ []), length-append ds (d ∷ []));
   distinct = λ i j l m e. apart i j (last i l) (last j m) e;
   normal = list_all-append is_normal rs (node_regex rs d ∷ []) ∙ ap₂ ◌&&◌ t.normal (ap (λ x. x && true) norm);
-  nullable = ap₂ (λ xs x. xs ++ x ∷ []) t.nullable flag ∙ sym (map-append nullable rs (node_regex rs d ∷ []));
+  known = grind (arith, t.known, length-append rs (node_regex rs d ∷ []), length-append facts (f ∷ []));
+  holds = λ i x g. elim (get_push facts f x i g) as (λ _. AreFactsOf x (regex_at new i)) [
+    | inl s ↦
+        let l : i < length rs = omega (arith, slice_get_within facts i x s, t.known) in
+        rw (at_kept rs new i ext l) (t.holds i x s)
+    | inr s ↦ facts_moved i x (s.0 ∙ t.known) s.1
+  ];
 }
   where
     new : List Regex
@@ -98,6 +104,10 @@ table_more rs ds empty d b t p norm flag fresh = record {
 
     ext : Extends rs new
     ext = record { more = node_regex rs d ∷ []; is = refl }
+
+    facts_moved : (i : ℕ) (x : Facts) → i ≡ length rs → x ≡ f → AreFactsOf x (regex_at new i)
+    facts_moved i x e same =
+        rw (names_at new i (node_regex rs d) (names_push rs (node_regex rs d) i e), same) true_facts
 
     moved : (i : ℕ) (x : Node) → i ≡ length rs → x ≡ d → PartsBelow i x
     moved i x e f = rw (e, f) p
@@ -113,11 +123,11 @@ table_more rs ds empty d b t p norm flag fresh = record {
         → regex_at new i ≡ regex_at new j → i ≡ j
     apart i j (inl l) (inl m) e = t.distinct i j l m (sym (at_kept rs new i ext l) ∙ e ∙ at_kept rs new j ext m)
     apart i j (inl l) (inr m) e =
-        absurd (new_one rs ds empty d t p fresh i l
+        absurd (new_one rs ds facts d t p fresh i l
         (sym (names_at new j (node_regex rs d) (names_push rs (node_regex rs d) j m)) ∙ sym e
         ∙ at_kept rs new i ext l))
     apart i j (inr l) (inl m) e =
-        absurd (new_one rs ds empty d t p fresh j m
+        absurd (new_one rs ds facts d t p fresh j m
         (sym (names_at new i (node_regex rs d) (names_push rs (node_regex rs d) i l)) ∙ e ∙ at_kept rs new j ext m))
     apart i j (inr l) (inr m) e = l ∙ sym m
 
@@ -129,11 +139,15 @@ table_none = record {
   long = refl;
   distinct = λ i j l m e. omega arith;
   normal = refl;
-  nullable = refl;
+  known = refl;
+  holds = λ i f g. absurd (no_facts i f g);
 }
   where
     nothing : (i : ℕ) (x : Node) → slice_get [] i ≡ Some x → ⊥
     nothing i x g = omega (arith, slice_get_within [] i x g)
+
+    no_facts : (i : ℕ) (f : Facts) → slice_get [] i ≡ Some f → ⊥
+    no_facts i f g = omega (arith, slice_get_within [] i f g)
 
 pub regexes_nil : (ds : List Node) → length ds ≡ 0 → regexes_of ds ≡ []
 unfolding regexes_onto

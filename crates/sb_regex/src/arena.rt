@@ -2,17 +2,20 @@
 
 ghost use Rattle.std.specs.Prelude.{◌≡◌, ℕ, ◌<◌, true, length, map, slice_get, Some, [], IfOk, IfSome};
 ghost use Rattle.std.specs.List.{list_all};
-ghost use Rattle.sb_lang.specs.Regex.{none, eps, regexes};
+ghost use Rattle.sb_lang.specs.Regex.{none, eps};
 ghost use Rattle.sb_lang.specs.Constructors.{anything};
 ghost use Rattle.sb_lang.specs.Order.{regex_cmp};
-ghost use Rattle.sb_lang.specs.Derivative.{nullable, some_nullable, all_nullable};
+ghost use Rattle.sb_lang.specs.Derivative.{nullable};
+ghost use Rattle.sb_lang.specs.Language.{language};
 ghost use Rattle.sb_lang.specs.NormalForm.{is_normal, IsNormal};
-ghost use Rattle.sb_regex.specs.Numbered.{regex_at, regexes_at, AllNumbers, AreDistinct, Extends, Names};
+ghost use Rattle.sb_lengths.specs.Lengths.{AreLengths};
+ghost use Rattle.sb_regex.specs.Numbered.{regex_at, AreDistinct, Extends, Names};
 ghost use Rattle.sb_regex.specs.Nodes.{node_regex, PartsBelow};
 ghost use Rattle.sb_regex.specs.Remembered.{normal_of};
 
 use crate::node::{Node, RegexId};
 use indexmap::{IndexMap, IndexSet};
+use sb_lengths::Lengths;
 use std::alloc::{AllocError, Global};
 use std::cmp::Ordering;
 use std::marker::Model;
@@ -25,11 +28,18 @@ struct Basics {
     anything: Option<RegexId>,
 }
 
+/// What is known of a regex from when it is made.
+#[derive(Clone, Copy)]
+pub(crate) struct Facts {
+    pub(crate) nullable: bool,
+    pub(crate) lengths: Lengths,
+}
+
 /// Normal regexes by their numbers, each once, with what unions, intersections and comparisons were answered.
 #[derive(Drop)]
 pub struct Arena {
     nodes: IndexSet<Node>,
-    nullable: Vec<bool>,
+    facts: Vec<Facts>,
     /// The numbers of what constructors made, by their calls: a node of the operation and of the members by number.
     made: IndexMap<Node, RegexId>,
     orders: IndexMap<(RegexId, RegexId), Ordering>,
@@ -52,7 +62,7 @@ impl Model for Arena {
 
     ghost view = { λ arena. regexes_of arena.nodes.keys };
 
-    ghost invariant = { λ arena. IsTable (regexes_of arena.nodes.keys) arena.nodes.keys arena.nullable.items
+    ghost invariant = { λ arena. IsTable (regexes_of arena.nodes.keys) arena.nodes.keys arena.facts.items
         × IsRemembered (regexes_of arena.nodes.keys) arena.made arena.orders
         × AreBasic (regexes_of arena.nodes.keys) arena.basics.none arena.basics.eps arena.basics.anything };
 }
@@ -64,7 +74,7 @@ impl Arena {
     {
         Arena {
             nodes: IndexSet::new(alloc),
-            nullable: Vec::new(alloc),
+            facts: Vec::new(alloc),
             made: IndexMap::new(alloc),
             orders: IndexMap::new(alloc),
             basics: Basics {
@@ -104,12 +114,21 @@ impl Arena {
         requires { id < length self.now }
         ensures { result ≡ nullable (regex_at self.now id) }
     {
-        self.nullable[id.number()]
+        self.facts[id.number()].nullable
+    }
+
+    /// Which lengths words of a regex may have, and at which each word of characters is one. Takes constant time and
+    /// no memory.
+    pub fn lengths(&self, id: RegexId) -> Lengths
+        requires { id < length self.now }
+        ensures { AreLengths result (language (regex_at self.now id)) }
+    {
+        self.facts[id.number()].lengths
     }
 
     /// The allocator of the table.
     pub(crate) fn allocator(&self) -> Global {
-        *self.nullable.allocator()
+        *self.facts.allocator()
     }
 
     /// The number of the node's regex, a new one where it has none.
@@ -119,12 +138,16 @@ impl Arena {
         ensures ok { IfOk result (λ id. Names self.new id (node_regex self.old node)) }
         ensures extends { Extends self.old self.new }
     {
-        let nullable = self.node_nullable(&node);
-        self.nullable.reserve(1)?;
-        let (number, added) = self.nodes.insert_full(node)?;
-        if added {
-            self.nullable.push(nullable)?;
+        if let Some(number) = self.nodes.get_index_of(&node) {
+            return Ok(RegexId::new(number));
         }
+        let facts = Facts {
+            nullable: self.node_nullable(&node),
+            lengths: self.node_lengths(&node),
+        };
+        self.facts.reserve(1)?;
+        let (number, _) = self.nodes.insert_full(node)?;
+        self.facts.push(facts)?;
         Ok(RegexId::new(number))
     }
 
@@ -208,45 +231,5 @@ impl Arena {
     {
         self.orders.insert((a, b), order)?;
         Ok(())
-    }
-
-    /// Whether the node's regex has the empty word.
-    #[tactic(auto, unfolding(sb_lang::specs::Derivative::nullable))]
-    fn node_nullable(&self, node: &Node) -> bool
-        requires { PartsBelow (length self.now) node.now }
-        ensures { result ≡ nullable (node_regex self.now node.now) }
-    {
-        match node {
-            Node::None | Node::Set(_) => false,
-            Node::Eps | Node::Star(_) => true,
-            Node::Cat(a, b) => self.nullable(*a) && self.nullable(*b),
-            Node::Alt(parts) => self.some_nullable(parts.as_slice()),
-            Node::And(parts) => self.all_nullable(parts.as_slice()),
-            Node::Not(a) => !self.nullable(*a),
-        }
-    }
-
-    fn some_nullable(&self, ids: &[RegexId]) -> bool
-        requires { AllNumbers self.now ids.now }
-        ensures { result ≡ some_nullable (regexes (regexes_at self.now ids.now)) }
-    {
-        for id in ids {
-            if self.nullable(*id) {
-                return true;
-            }
-        }
-        false
-    }
-
-    fn all_nullable(&self, ids: &[RegexId]) -> bool
-        requires { AllNumbers self.now ids.now }
-        ensures { result ≡ all_nullable (regexes (regexes_at self.now ids.now)) }
-    {
-        for id in ids {
-            if !self.nullable(*id) {
-                return false;
-            }
-        }
-        true
     }
 }

@@ -178,7 +178,7 @@ impl Arena {
 }
 
 /// Whether the ranges are those of the set of all characters.
-fn is_full(ranges: &[(u32, u32)]) -> bool
+pub(crate) fn is_full(ranges: &[(u32, u32)]) -> bool
     ensures { result ≡ regex_eq (set ranges.now) any_character }
 {
     match ranges {

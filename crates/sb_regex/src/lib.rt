@@ -10,6 +10,7 @@ mod arena;
 mod build;
 mod combine;
 mod compare;
+mod facts;
 mod members;
 mod node;
 mod sort;

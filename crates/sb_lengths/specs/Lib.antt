@@ -1,0 +1,2 @@
+pub mod LengthSets
+pub mod Lengths
