@@ -474,3 +474,11 @@ below_more id n parts l h k d b = let x = h k d b in omega (arith, l, x)
 pub found_still : (m m' : Memory) (c : ℕ) (parts : List ℕ)
     → ((n x : ℕ) → is_found m x n ≡ true → found m' n x ≡ found m n x) → AreFound m c parts → AreFound m' c parts
 found_still m m' c parts k f i d l = ap is_some (k (get_or parts i d) c (f i d l)) ∙ f i d l
+
+pub targets_still : (m m' : Memory) (c : ℕ) (parts : List ℕ)
+    → ((n x : ℕ) → is_found m x n ≡ true → found m' n x ≡ found m n x) → AreFound m c parts
+    → map (target_at m c) parts ≡ map (target_at m' c) parts
+targets_still m m' c [] k f = refl
+targets_still m m' c (n ∷ parts) k f =
+    ap₂ (λ x xs. x ∷ xs) (ap (λ o. unwrap_or o 0) (sym (k n c (f 0 0 (omega arith)))))
+    (targets_still m m' c parts k (λ i d l. f (suc i) d (omega (arith, l))))

@@ -1,5 +1,5 @@
 -- The numbers that wait for their derivatives.
-use Rattle.std.proofs.Common.{◌≡◌, ℕ, zero, suc, ◌+◌, ◌*◌, ◌<◌, ◌≤◌, Bool, true, false, cond, Some, None, Option, List, [], ◌∷◌, length, get_or, refl, sym, ap, subst, ◌∙◌, arith}
+use Rattle.std.proofs.Common.{◌≡◌, ℕ, zero, suc, ◌+◌, ◌*◌, ◌<◌, ◌≤◌, Bool, true, false, cond, Some, None, Option, List, [], ◌∷◌, ◌++◌, length, get_or, map, take, refl, sym, ap, subst, ◌∙◌, arith}
 use Rattle.std.specs.Prelude.{nat_lt, ◌||◌, is_some, IsSome, IfSome, unwrap_or}
 use Rattle.std.specs.List.{All, list_any}
 use Rattle.std.specs.Ordering.{nat_cmp, match_ordering}
@@ -7,6 +7,7 @@ use Rattle.std.specs.BTreeSet.{insert_key}
 use Rattle.std.proofs.lemmas.Bool.{or_left, or_right}
 use Rattle.std.proofs.lemmas.Map.Views.{All-insert_key}
 use Rattle.std.proofs.lemmas.Bool.Decides.{nat_tests}
+use Rattle.std.proofs.lemmas.List.{take_more, map-append}
 use Rattle.std.proofs.lemmas.List.Elements.{All-nil}
 use Rattle.std.specs.declared.cmp.Ordering.{Ordering}
 use Rattle.std.specs.declared.cmp.Ordering.TheVariants.{Less, Equal, Greater}
@@ -14,7 +15,7 @@ use Rattle.sb_lang.specs.Regex.{Regex}
 use Rattle.sb_regex.specs.Numbered.{Extends}
 use Rattle.sb_regex.proofs.CallerLemmas.{extends_more}
 use Rattle.sb_plain.specs.Memory.{Memory, IsRight}
-use Rattle.sb_plain.specs.Making.{found, is_found, IsWanted, lacking}
+use Rattle.sb_plain.specs.Making.{found, is_found, target_at, IsWanted, lacking}
 
 -- some key, after one more
 
@@ -57,15 +58,19 @@ lt_tells a b h = grind (arith, nat_tests)
 
 -- one more part is looked at
 
-pub record Wanting (m : Memory) (c : ℕ) (parts : List ℕ) (k : ℕ) (some : Bool) (old new : List ℕ) : Type 0 where
-  pub known : some ≡ false → (i d : ℕ) → i < k → is_found m c (get_or parts i d) ≡ true
-  pub idle : some ≡ false → new ≡ old
-  pub waits : some ≡ true → (n : ℕ) → All (λ i. i < n) parts → list_any (λ q. nat_lt q n) new ≡ true
-  pub added : (n : ℕ) → All (λ i. i < n) parts → All (IsWanted n m c) old → All (IsWanted n m c) new
+pub record Wanting (m : Memory) (c : ℕ) (parts : List ℕ) (k : ℕ) (some : Bool) (targets old new : List ℕ) : Type 0
+  where
+    pub known : some ≡ false → (i d : ℕ) → i < k → is_found m c (get_or parts i d) ≡ true
+    pub made : some ≡ false → targets ≡ map (target_at m c) (take k parts)
+    pub idle : some ≡ false → new ≡ old
+    pub waits : some ≡ true → (n : ℕ) → All (λ i. i < n) parts → list_any (λ q. nat_lt q n) new ≡ true
+    pub added : (n : ℕ) → All (λ i. i < n) parts → All (IsWanted n m c) old → All (IsWanted n m c) new
 
-pub wanting_init : (m : Memory) (c : ℕ) (parts keys : List ℕ) → Wanting m c parts 0 false keys keys
-wanting_init m c parts keys = record {
+pub wanting_init : (m : Memory) (c : ℕ) (parts targets keys : List ℕ) → targets ≡ []
+    → Wanting m c parts 0 false targets keys keys
+wanting_init m c parts targets keys none = record {
   known = λ f i d l. absurd (omega arith);
+  made = λ f. none;
   idle = λ f. refl;
   waits = λ t. absurd (cc);
   added = λ n b h. h;
@@ -76,11 +81,18 @@ same_at [] i d e l = absurd (omega arith)
 same_at (y ∷ ys) zero d e l = refl
 same_at (y ∷ ys) (suc i) d e l = same_at ys i d e (omega (arith, l))
 
-pub wanting_skip : (m : Memory) (c : ℕ) (parts : List ℕ) (k : ℕ) (some : Bool) (old new : List ℕ) (x : ℕ)
-    → Wanting m c parts k some old new → k < length parts → x ≡ get_or parts k x → is_found m c x ≡ true
-    → Wanting m c parts (k + 1) some old new
-wanting_skip m c parts k some old new x w l is e = record {
+map_one_more : (f : ℕ → ℕ) (xs : List ℕ) (k d : ℕ) → k < length xs
+    → map f (take (k + 1) xs) ≡ map f (take k xs) ++ f (get_or xs k d) ∷ []
+map_one_more f xs k d l = ap (map f) (take_more xs k d l) ∙ map-append f (take k xs) (get_or xs k d ∷ [])
+
+pub wanting_known : (m : Memory) (c : ℕ) (parts : List ℕ) (k : ℕ) (some : Bool) (targets targets' old new : List ℕ)
+    (x t : ℕ) → Wanting m c parts k some targets old new → k < length parts → x ≡ get_or parts k x
+    → found m x c ≡ Some t → targets' ≡ targets ++ t ∷ [] → Wanting m c parts (k + 1) some targets' old new
+wanting_known m c parts k some targets targets' old new x t w l is e more = record {
   known = λ f i d n. choose f i d n (nat_lt i k) refl;
+  made = λ f. more ∙ ap (λ ts. ts ++ t ∷ []) (w.made f) ∙ sym (map_one_more (target_at m c) parts k x l
+      ∙ ap (λ u. map (target_at m c) (take k parts) ++ u ∷ [])
+      (ap (target_at m c) (sym is) ∙ ap (λ o. unwrap_or o 0) e));
   idle = w.idle;
   waits = w.waits;
   added = w.added;
@@ -91,17 +103,18 @@ wanting_skip m c parts k some old new x w l is e = record {
     choose f i d n true h = w.known f i d (lt_tells i k h)
     choose f i d n false h =
         let z : i ≡ k = grind (arith, nat_tests) in
-        ap (is_found m c) (ap (λ j. get_or parts j d) z ∙ same_at parts k d x l ∙ sym is) ∙ e
+        ap (is_found m c) (ap (λ j. get_or parts j d) z ∙ same_at parts k d x l ∙ sym is) ∙ ap is_some e
 
-pub wanting_add : (m : Memory) (c : ℕ) (parts : List ℕ) (k : ℕ) (some : Bool) (old new new' : List ℕ) (x : ℕ)
-    → Wanting m c parts k some old new → k < length parts → x ≡ get_or parts k x → is_found m c x ≡ false
-    → new' ≡ insert_key nat_cmp new x → Wanting m c parts (k + 1) true old new'
-wanting_add m c parts k some old new new' x w l is e keys = record {
+pub wanting_add : (m : Memory) (c : ℕ) (parts : List ℕ) (k : ℕ) (some : Bool) (targets old new new' : List ℕ) (x : ℕ)
+    → Wanting m c parts k some targets old new → k < length parts → x ≡ get_or parts k x → found m x c ≡ None
+    → new' ≡ insert_key nat_cmp new x → Wanting m c parts (k + 1) true targets old new'
+wanting_add m c parts k some targets old new new' x w l is e keys = record {
   known = λ f. absurd (cc);
+  made = λ f. absurd (cc);
   idle = λ f. absurd (cc);
   waits = λ t n b. ap (list_any (λ q. nat_lt q n)) keys ∙ any_insert (λ q. nat_lt q n) x new (lt_test x n (below n b));
   added = λ n b h. subst (All (IsWanted n m c)) (sym keys)
-      (All-insert_key nat_cmp x (IsWanted n m c) new (w.added n b h) (below n b, e));
+      (All-insert_key nat_cmp x (IsWanted n m c) new (w.added n b h) (below n b, ap is_some e));
 }
   where
     below : (n : ℕ) → All (λ i. i < n) parts → x < n

@@ -1,6 +1,7 @@
-use Rattle.std.proofs.Common.{◌∙◌}
+use Rattle.std.proofs.Common.{◌∙◌, ap, map}
 use Rattle.sb_plain.proofs.Waiting.{any_after, wanted_after}
-use Rattle.sb_plain.proofs.Remembering.{below_more, found_still}
+use Rattle.sb_plain.proofs.Remembering.{below_more, found_still, targets_still}
+use Rattle.sb_plain.specs.Making.{target_at}
 use Rattle.sb_plain.proofs.plain.Plain.advance.Goals as goal
 
 pub returns-then-branch-clause-waits : goal.returns-then-branch-clause-waits
@@ -17,8 +18,15 @@ returns-then-branch-clause-wanted c = λ f e n l h.
 
 pub learn_derivative-requires-clause-parts : goal.learn_derivative-requires-clause-parts
 learn_derivative-requires-clause-parts c =
-    found_still c.args.self.now c.learn_points.new.self c.args.c c.deref-3.result.now c.in_ok-learn_points.ensures.kept
-    (rw (c.deref-3.ensures.value, ← c.deref.ensures.value) (c.in_ok-want.ensures.none c.if-branch.false))
+    found_still c.args.self.now c.learn_points.new.self c.args.c c.in_ok-shape.shape.parts.items
+    c.in_ok-learn_points.ensures.kept (rw (← c.deref.ensures.value) (c.in_ok-want.ensures.none c.if-branch.false))
+
+pub learn_derivative-requires-clause-targets : goal.learn_derivative-requires-clause-targets
+learn_derivative-requires-clause-targets c =
+    c.deref-3.ensures.value ∙ c.in_ok-want.ensures.targets c.if-branch.false
+    ∙ ap (map (target_at c.args.self.now c.args.c)) c.deref.ensures.value
+    ∙ targets_still c.args.self.now c.learn_points.new.self c.args.c c.in_ok-shape.shape.parts.items
+    c.in_ok-learn_points.ensures.kept (rw (← c.deref.ensures.value) (c.in_ok-want.ensures.none c.if-branch.false))
 
 pub returns-in_err-learn_derivative-clause-elsewhere : goal.returns-in_err-learn_derivative-clause-elsewhere
 returns-in_err-learn_derivative-clause-elsewhere c = λ n a.

@@ -1,4 +1,4 @@
-use Rattle.std.proofs.Common.{◌∙◌, ap}
+use Rattle.std.proofs.Common.{ap}
 use Rattle.sb_regex.proofs.CallerLemmas.{number_kept}
 use Rattle.sb_plain.specs.Memory.{points_of}
 use Rattle.sb_plain.proofs.Remembering.{something, character, place_points, right_kept, targets_are, start_is, derivative_named, derivative_right, derivative_found, derivative_elsewhere}
@@ -6,8 +6,8 @@ use Rattle.sb_plain.proofs.plain.Plain.learn_derivative.Goals as goal
 
 pub make-requires-clause-members : goal.make-requires-clause-members
 make-requires-clause-members c =
-    rw (c.deref.ensures.value, c.in_ok-targets.ensures)
-    (targets_are c.args.arena.now c.args.self.now c.args.c c.args.parts.now
+    rw (c.requires.targets)
+    (targets_are c.args.arena.now c.args.self.now c.args.c c.args.shape.now.parts.items
     (character c.args.c c.requires.character) c.requires.right c.requires.parts).0
 
 pub returns-in_err-target-clause-right : goal.returns-in_err-target-clause-right
@@ -36,8 +36,8 @@ returns-clause-right c =
     (number_kept c.args.arena.now c.make.new.arena c.args.id c.in_ok-target.ensures.extends c.requires.known)
     (right_kept c.args.arena.now c.make.new.arena c.args.self.now c.in_ok-target.ensures.extends c.requires.right)
     (derivative_named c.args.arena.now c.make.new.arena c.args.self.now c.args.id c.args.c c.in_ok-target.target
-    c.args.operation.now c.args.parts.now c.deref.result.now h c.requires.right c.requires.parts c.requires.shape
-    c.in_ok-target.ensures.extends c.requires.known (c.deref.ensures.value ∙ c.in_ok-targets.ensures)
+    c.args.shape.now.operation c.args.shape.now.parts.items c.args.targets.now h c.requires.right c.requires.parts
+    c.requires.shape c.in_ok-target.ensures.extends c.requires.known c.requires.targets
     c.in_ok-target.ensures.ok)
 
 pub returns-clause-done : goal.returns-clause-done
