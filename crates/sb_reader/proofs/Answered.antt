@@ -1,18 +1,16 @@
--- What a feed keeps once an entry is taken, or a gap.
-use Rattle.std.proofs.Common.{◌≡◌, ℕ, ◌+◌, ◌-◌, ◌≤◌, Bool, true, false, List, [], refl, arith, length, take, drop, sym, Result, Ok, Err}
+-- What a feed keeps once an entry is taken.
+use Rattle.std.proofs.Common.{◌≡◌, ℕ, ◌+◌, ◌-◌, Bool, true, List, [], refl, arith, take, drop, sym, Result, Ok, Err}
 use Rattle.std.specs.Prelude.{MatchResult}
-use Rattle.std.proofs.lemmas.List.{take-append-drop, drop-drop, take_rest, length-drop}
+use Rattle.std.proofs.lemmas.List.{take-append-drop, drop-drop}
 use Rattle.sb_reader.specs.declared.feed.Refusal.{Refusal}
-use Rattle.sb_reader.specs.declared.scan.Scan.{Scan}
 use Rattle.sb_reader.specs.declared.sexpr.Sexpr.{Sexpr}
-use Rattle.sb_reader.specs.Tokens.{Token, is_gap}
+use Rattle.sb_reader.specs.Tokens.{Token}
 use Rattle.sb_reader.specs.Forms.{form_of}
 use Rattle.sb_reader.specs.Entries.{Entry, Command, Refused, IsEntry, IsCommand, Spells}
 use Rattle.sb_reader.specs.OneEntry.{IsOneEntry, is_one_entry}
-use Rattle.sb_reader.specs.Feeding.{Takes, Waits}
-use Rattle.sb_reader.specs.Scanning.{EndsEntry, IsScan, IsStarted}
+use Rattle.sb_reader.specs.Feeding.{Takes}
+use Rattle.sb_reader.specs.Scanning.{EndsEntry}
 use Rattle.sb_reader.proofs.Growing.{Spells-alone}
-use Rattle.sb_reader.proofs.Goes.{scanned_all}
 
 -- the bytes of an entry whose end is found
 pub entry_is_one : (kept : List ℕ) (start n : ℕ) (finished : Bool) → EndsEntry finished (drop start kept) n
@@ -63,33 +61,3 @@ module _ (kept : List ℕ) (start n : ℕ) (finished : Bool) (e : EndsEntry fini
   pub takes_refused : (refusal : Refusal) → parsed ≡ Err refusal
       → Takes (Refused refusal) (drop start kept, finished) (drop (start + n) kept, finished)
   takes_refused refusal is = takes (Refused refusal) kept start n finished e (rw is at parsed_at)
-
--- a gap at the front is left out of the bytes and of the scan
-module _ (kept : List ℕ) (start gap : ℕ) (scan new : Scan)
-    (s : IsScan scan (take (length kept - start) (drop start kept))) (left : (bytes : List ℕ) → IsScan scan bytes
-    → IsScan new (drop gap bytes)) (less : new.scanned + gap ≡ scan.scanned) where
-  scan_of_rest : IsScan scan (drop start kept)
-  scan_of_rest = rw take_rest at s
-
-  pub started_behind_gap : start ≤ length kept → IsStarted kept (start + gap) new
-  started_behind_gap h =
-      let inside : scan.scanned ≤ length kept - start = simp length-drop at scan_of_rest.within in
-      record { within = omega (arith, inside); scan_of = rw drop-drop at (left (drop start kept) scan_of_rest) }
-
-  pub waits_behind_gap : (finished : Bool) → finished ≡ false
-      → scan.scanned ≡ length (take (length kept - start) (drop start kept))
-      → is_gap (take gap (drop start kept)) ≡ true
-      → Waits (drop start kept, finished) (drop (start + gap) kept, finished)
-  waits_behind_gap finished more all g =
-      let whole : scan.scanned ≡ length (drop start kept) = rw take_rest at all in
-      let behind : new.scanned ≡ length (drop gap (drop start kept)) =
-      simp (length-drop) (omega (arith, simp length-drop at whole)) in
-      rw (more, ← drop-drop gap start kept)
-      (record {
-        gap = take gap (drop start kept);
-        is_gap = g;
-        split = sym (take-append-drop gap (drop start kept));
-        more_may_come = refl;
-        still = refl;
-        no_entry = scanned_all new (drop gap (drop start kept)) (left (drop start kept) scan_of_rest) behind;
-      })

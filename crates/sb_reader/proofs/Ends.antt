@@ -8,6 +8,7 @@ use Rattle.sb_reader.specs.declared.scan.Place.TheVariants.{InGap, InComment, In
 use Rattle.sb_reader.specs.Tokens.{Token, Open, Text, Run, is_blank, is_line_end, is_run_byte, is_gap, is_comment_then_gap, is_open_gap, is_comment_then_open_gap}
 use Rattle.sb_reader.specs.Entries.{Spells, is_parenthesis, HoldsNoToken, HoldsNoEntry}
 use Rattle.sb_reader.specs.Scanning.{found_at_end, EndsInGap, EndsInComment, EndsInText, EndsBehindQuote, EndsInQuoted, EndsInRun, LeavesOpen, Scanned, SpellsOne, EndsEntry, FindsEnd}
+use Rattle.sb_reader.proofs.Comments.{comment_opened}
 use Rattle.sb_reader.proofs.Growing.{Spells-grow}
 use Rattle.sb_reader.proofs.Opened.{LeavesOpen-atom, one_atom, open_entry}
 use Rattle.sb_reader.proofs.Steps.{EndsInGap-is_gap, text_spelled, run_spelled, text_paired, run_passes}
@@ -108,7 +109,7 @@ gap_is_open : (rest : List ℕ) → EndsInGap rest → is_open_gap rest ≡ true
 gap_is_open rest g = rw (append-nil rest) at (g.opened [])
 
 comment_is_open : (rest : List ℕ) → EndsInComment rest → is_open_gap rest ≡ true
-comment_is_open rest g = rw (append-nil rest) at (g.opened [])
+comment_is_open rest e = rw (append-nil rest) at (comment_opened rest e [])
 
 -- what begins a run is no gap
 run_byte_is_no_gap : (b : ℕ) (bs : List ℕ) → is_run_byte b ≡ true → is_open_gap (b ∷ bs) ≡ false

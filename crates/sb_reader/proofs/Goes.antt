@@ -1,6 +1,6 @@
 -- A scan goes on over a list of bytes, and ends.
-use Rattle.std.proofs.Common.{◌≡◌, ℕ, ◌+◌, ◌-◌, ◌<◌, ◌≤◌, zero, suc, Bool, true, false, List, [], ◌∷◌, ◌++◌, refl, arith, eqb, leb, sym, length, take, drop, get_or, subst, drop-cons, ne_eqb}
-use Rattle.std.proofs.lemmas.List.{take_more, take_all, append_assoc, take-append-drop, take-take, drop-take, length-drop}
+use Rattle.std.proofs.Common.{◌≡◌, ℕ, ◌+◌, ◌-◌, ◌<◌, ◌≤◌, suc, Bool, false, List, [], ◌∷◌, ◌++◌, refl, arith, eqb, leb, sym, length, take, drop, get_or, subst, drop-cons}
+use Rattle.std.proofs.lemmas.List.{take_more, take_all}
 use Rattle.std.proofs.lemmas.Bool.{cond_both}
 use Rattle.sb_reader.specs.declared.scan.Place.{Place}
 use Rattle.sb_reader.specs.declared.scan.Place.TheVariants.{InGap, InComment, InText, BehindQuote, InQuoted, InRun}
@@ -9,13 +9,13 @@ use Rattle.sb_reader.specs.declared.scan.Step.TheVariants.{To, EndsBefore, EndsB
 use Rattle.sb_reader.specs.declared.scan.Scan.{Scan}
 use Rattle.sb_reader.specs.declared.scan.Found.{Found}
 use Rattle.sb_reader.specs.declared.scan.Found.TheVariants as found
-use Rattle.sb_reader.specs.Tokens.{is_blank, is_line_end, is_run_byte, is_gap}
+use Rattle.sb_reader.specs.Tokens.{is_blank, is_line_end, is_run_byte}
 use Rattle.sb_reader.specs.Entries.{HoldsNoEntry}
-use Rattle.sb_reader.specs.Scanning.{step_in_gap, step_behind_token, step_at, found_at_end, gap_to, scan_to, EndsInGap, EndsInComment, EndsAt, IsScan, Scanned, SpellsOne, EndsEntry, FindsEnd, ScansAll}
+use Rattle.sb_reader.specs.Scanning.{step_in_gap, step_behind_token, step_at, found_at_end, scan_to, IsScan, Scanned, SpellsOne, EndsEntry, FindsEnd, ScansAll}
 use Rattle.sb_reader.proofs.Growing.{Spells-grow}
 use Rattle.sb_reader.proofs.Opened.{LeavesOpen-nil}
-use Rattle.sb_reader.proofs.Steps.{Says, step_says, EndsInGap-is_gap}
-use Rattle.sb_reader.proofs.Ends.{found_says, not_found, all_is_rest, is_gap-append, is_open_gap-append}
+use Rattle.sb_reader.proofs.Steps.{Says, step_says, EndsInGap-nil}
+use Rattle.sb_reader.proofs.Ends.{found_says, not_found}
 
 -- a step leaves at most so many parentheses open
 abbrev LeavesAtMost : ℕ → Step → Type 0
@@ -63,28 +63,6 @@ next_says : (scan : Scan) (bytes : List ℕ) → IsScan scan bytes → (step : S
 next_says scan bytes s step e =
     rw e (step_says scan.place scan.depth (take scan.scanned bytes) (get_or bytes scan.scanned 0) s.knows)
 
--- a gap at the front reaches as far as the scan does, outside a form and a token
-gap_so_far : (place : Place) (depth : ℕ) (bytes : List ℕ) (scanned gap : ℕ) → is_gap (take gap bytes) ≡ true
-    → Scanned place depth (take scanned bytes) → is_gap (take (gap_to place depth scanned gap) bytes) ≡ true
-gap_so_far InGap zero bytes scanned gap g s =
-    rw (all_is_rest InGap (take scanned bytes) s) (EndsInGap-is_gap s.rest s.ends)
-gap_so_far InGap (suc depth) bytes scanned gap g s =
-    let within : eqb (suc depth) 0 ≡ false = ne_eqb (suc depth) 0 (λ e. omega arith) in
-    rw within g
-gap_so_far InComment depth bytes scanned gap g s = g
-gap_so_far InText depth bytes scanned gap g s = g
-gap_so_far BehindQuote depth bytes scanned gap g s = g
-gap_so_far InQuoted depth bytes scanned gap g s = g
-gap_so_far InRun depth bytes scanned gap g s = g
-
-gap_to-le : (place : Place) (depth scanned gap : ℕ) → gap ≤ scanned → gap_to place depth scanned gap ≤ scanned
-gap_to-le InGap depth scanned gap h = cond_both (eqb depth 0) scanned gap (λ n. n ≤ scanned) (λ _. omega arith) (λ _. h)
-gap_to-le InComment depth scanned gap h = h
-gap_to-le InText depth scanned gap h = h
-gap_to-le BehindQuote depth scanned gap h = h
-gap_to-le InQuoted depth scanned gap h = h
-gap_to-le InRun depth scanned gap h = h
-
 -- the scan goes on
 pub IsScan-to : (scan : Scan) (bytes : List ℕ) (place : Place) (depth : ℕ) → IsScan scan bytes
     → scan.scanned < length bytes → To place depth ≡ step_at scan.place scan.depth (get_or bytes scan.scanned 0)
@@ -98,8 +76,6 @@ IsScan-to scan bytes place depth s lt e =
     record {
       within = omega arith;
       depth_within = omega (arith, at_most, s.depth_within);
-      gap_within = gap_to-le place depth (scan.scanned + 1) scan.gap (omega (arith, s.gap_within));
-      gap_is = gap_so_far place depth bytes (scan.scanned + 1) scan.gap s.gap_is further;
       knows = further;
     }
 
@@ -150,67 +126,21 @@ pub scanned_all : (scan : Scan) (bytes : List ℕ) → IsScan scan bytes → sca
     → HoldsNoEntry false bytes
 scanned_all scan bytes s e = not_found scan.place scan.depth bytes scan.scanned (scan_found false scan bytes s e)
 
--- a gap at the front is left out
-rest_behind_gap : (gap rest : List ℕ) → is_gap gap ≡ true → EndsInGap (gap ++ rest) → EndsInGap rest
-rest_behind_gap gap rest g e =
+-- the semicolon of a comment
+pub IsScan-comment : IsScan (record { scanned = 1; depth = 0; place = InComment }) (59 ∷ [])
+IsScan-comment =
     record {
-      closed = λ more. rw (← is_gap-append gap (rest ++ more) g, ← append_assoc gap rest more) (e.closed more);
-      opened = λ more. rw (← is_open_gap-append gap (rest ++ more) g, ← append_assoc gap rest more) (e.opened more);
-    }
-
-comment_behind_gap : (gap rest : List ℕ) → is_gap gap ≡ true → EndsInComment (gap ++ rest) → EndsInComment rest
-comment_behind_gap gap rest g e =
-    record {
-      closed = λ more. rw (← is_gap-append gap (rest ++ more) g, ← append_assoc gap rest more) (e.closed more);
-      opened = λ more. rw (← is_open_gap-append gap (rest ++ more) g, ← append_assoc gap rest more) (e.opened more);
-    }
-
-outside : (place : Place) (rest : List ℕ) → EndsAt place rest → Scanned place 0 rest
-outside place rest e =
-    record { tokens = []; front = []; rest = rest; split = refl; spelled = refl; leaves = LeavesOpen-nil; ends = e }
-
-take_parts : (bytes : List ℕ) (n m : ℕ) → take (n + m) bytes ≡ take n bytes ++ take m (drop n bytes)
-take_parts bytes n m =
-    let whole : take n (take (n + m) bytes) ++ drop n (take (n + m) bytes) ≡ take (n + m) bytes =
-    take-append-drop n (take (n + m) bytes) in
-    sym (rw (take-take n (n + m) bytes (omega arith), drop-take n m bytes) at whole)
-
-pub IsScan-gap : (scan : Scan) (bytes : List ℕ) → scan.place ≡ InGap → scan.depth ≡ 0 → IsScan scan bytes
-    → IsScan (record { scanned = scan.scanned - scan.gap; gap = 0; depth = scan.depth; place = scan.place })
-    (drop scan.gap bytes)
-IsScan-gap scan bytes p d s =
-    let inside : scan.gap + (scan.scanned - scan.gap) ≡ scan.scanned = omega (arith, s.gap_within) in
-    let knows : Scanned InGap 0 (take scan.scanned bytes) = rw (p, d) at s.knows in
-    let rest : EndsInGap (take scan.scanned bytes) = rw (all_is_rest InGap (take scan.scanned bytes) knows) knows.ends
-    in
-    let behind : EndsInGap (take (scan.scanned - scan.gap) (drop scan.gap bytes)) =
-    rest_behind_gap (take scan.gap bytes) (take (scan.scanned - scan.gap) (drop scan.gap bytes)) s.gap_is
-    (rw (← take_parts bytes scan.gap (scan.scanned - scan.gap), inside) rest) in
-    record {
-      within = simp length-drop (omega (arith, s.within));
+      within = omega arith;
       depth_within = omega arith;
-      gap_within = omega arith;
-      gap_is = refl;
-      knows = rw (p, d) (outside InGap (take (scan.scanned - scan.gap) (drop scan.gap bytes)) behind);
-    }
-
-pub IsScan-comment : (scan : Scan) (bytes : List ℕ) → scan.place ≡ InComment → scan.depth ≡ 0 → IsScan scan bytes
-    → IsScan (record { scanned = scan.scanned - scan.gap; gap = 0; depth = scan.depth; place = scan.place })
-    (drop scan.gap bytes)
-IsScan-comment scan bytes p d s =
-    let inside : scan.gap + (scan.scanned - scan.gap) ≡ scan.scanned = omega (arith, s.gap_within) in
-    let knows : Scanned InComment 0 (take scan.scanned bytes) = rw (p, d) at s.knows in
-    let rest : EndsInComment (take scan.scanned bytes) =
-    rw (all_is_rest InComment (take scan.scanned bytes) knows) knows.ends in
-    let behind : EndsInComment (take (scan.scanned - scan.gap) (drop scan.gap bytes)) =
-    comment_behind_gap (take scan.gap bytes) (take (scan.scanned - scan.gap) (drop scan.gap bytes)) s.gap_is
-    (rw (← take_parts bytes scan.gap (scan.scanned - scan.gap), inside) rest) in
-    record {
-      within = simp length-drop (omega (arith, s.within));
-      depth_within = omega arith;
-      gap_within = omega arith;
-      gap_is = refl;
-      knows = rw (p, d) (outside InComment (take (scan.scanned - scan.gap) (drop scan.gap bytes)) behind);
+      knows = record {
+        tokens = [];
+        front = [];
+        rest = 59 ∷ [];
+        split = refl;
+        spelled = refl;
+        leaves = LeavesOpen-nil;
+        ends = record { gap = []; inside = []; split = refl; is_gap = EndsInGap-nil; no_line_end = refl };
+      };
     }
 
 -- no byte is left to scan, if no end is found

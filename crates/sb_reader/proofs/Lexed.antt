@@ -116,6 +116,9 @@ run_start b h =
       bar = not-true _ semicolon.1;
     }
 
+pub run_byte_is_no_semicolon : (b : ℕ) → is_run_byte b ≡ true → eqb b 59 ≡ false
+run_byte_is_no_semicolon b h = (run_start b h).semicolon
+
 abbrev pub Lexes : Token → List ℕ → Type 0
 Lexes token after = token_in (skip_from false (spelling_of token ++ after)) ≡ Some (token, after)
 

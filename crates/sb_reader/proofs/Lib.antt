@@ -12,10 +12,12 @@ pub mod Shorter
 pub mod Spelled
 pub mod Stack
 pub mod Growing
+pub mod Comments
 pub mod Opened
 pub mod Steps
 pub mod Ends
 pub mod Goes
 pub mod Answered
 pub mod FirstEntries
+pub mod Shortening
 pub mod CallerLemmas

@@ -10,6 +10,7 @@ use Rattle.sb_reader.specs.declared.scan.Step.TheVariants.{To, EndsBefore, EndsB
 use Rattle.sb_reader.specs.Tokens.{Token, Open, Close, Text, Quoted, Run, spelling_of, all_pass, some_pass, has_paired_quotes, is_whole, is_blank, is_line_end, is_run_byte, is_gap}
 use Rattle.sb_reader.specs.Entries.{Spells, is_parenthesis}
 use Rattle.sb_reader.specs.Scanning.{step_in_gap, step_behind_token, step_at, EndsInGap, EndsInComment, EndsInText, EndsBehindQuote, EndsInQuoted, EndsInRun, EndsAt, LeavesOpen, Scanned, SpellsOne}
+use Rattle.sb_reader.proofs.Comments.{all_pass-append, comment_closed, comment_opened}
 use Rattle.sb_reader.proofs.Growing.{Spells-grow, Spells-push}
 use Rattle.sb_reader.proofs.Opened.{LeavesOpen-open, LeavesOpen-atom, LeavesOpen-close, one_atom, one_close}
 
@@ -35,23 +36,24 @@ gap_then_blank gap b g n h =
 
 gap_then_comment : (gap : List ℕ) (b : ℕ) → EndsInGap gap → eqb b 59 ≡ true → EndsInComment (gap ++ b ∷ [])
 gap_then_comment gap b g h =
+    record { gap = gap; inside = []; split = rw (eqb-true b 59 h) refl; is_gap = g; no_line_end = refl }
+
+comment_then_line_end : (rest : List ℕ) (b : ℕ) → EndsInComment rest → is_line_end b ≡ true → EndsInGap (rest ++ b ∷ [])
+comment_then_line_end rest b e h =
     record {
-      closed = λ more. rw append_assoc (rw h at (g.closed (b ∷ more)));
-      opened = λ more. rw append_assoc (rw h at (g.opened (b ∷ more)));
+      closed = λ more. rw append_assoc (rw h at (comment_closed rest e (b ∷ more)));
+      opened = λ more. rw append_assoc (rw h at (comment_opened rest e (b ∷ more)));
     }
 
-comment_then_line_end : (gap : List ℕ) (b : ℕ) → EndsInComment gap → is_line_end b ≡ true → EndsInGap (gap ++ b ∷ [])
-comment_then_line_end gap b g h =
+comment_then_more : (rest : List ℕ) (b : ℕ) → EndsInComment rest → is_line_end b ≡ false
+    → EndsInComment (rest ++ b ∷ [])
+comment_then_more rest b e h =
     record {
-      closed = λ more. rw append_assoc (rw h at (g.closed (b ∷ more)));
-      opened = λ more. rw append_assoc (rw h at (g.opened (b ∷ more)));
-    }
-
-comment_then_more : (gap : List ℕ) (b : ℕ) → EndsInComment gap → is_line_end b ≡ false → EndsInComment (gap ++ b ∷ [])
-comment_then_more gap b g h =
-    record {
-      closed = λ more. rw append_assoc (rw h at (g.closed (b ∷ more)));
-      opened = λ more. rw append_assoc (rw h at (g.opened (b ∷ more)));
+      gap = e.gap;
+      inside = e.inside ++ b ∷ [];
+      split = rw e.split (append_assoc e.gap (59 ∷ e.inside) (b ∷ []));
+      is_gap = e.is_gap;
+      no_line_end = all_pass-append (λ b. not (is_line_end b)) e.inside (b ∷ []) e.no_line_end (rw h refl);
     }
 
 -- A byte follows bytes that end in a gap.

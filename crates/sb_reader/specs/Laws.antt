@@ -2,6 +2,7 @@
 use Rattle.std.specs.Prelude.{◌≡◌, ℕ, ◌<◌, Bool, true, false, List, [], ◌∷◌, ◌++◌, length}
 use Rattle.sb_reader.specs.Tokens.{Token, spelling_of, is_gap, is_open_gap, is_whole}
 use Rattle.sb_reader.specs.Entries.{Entry, Spells, SpellsEntry, HoldsNoEntry, Reads, Begins}
+use Rattle.sb_reader.specs.Feeding.{ShortensTo}
 
 -- Tokens that are whole stay whole when more bytes come, or no more come.
 abbrev pub TokensStay : Type 0
@@ -52,18 +53,28 @@ abbrev pub NoEntry : Type 0
 NoEntry = (ended : Bool) (entry : Entry) (bytes front rest : List ℕ) → HoldsNoEntry ended bytes → bytes ≡ front ++ rest
     → SpellsEntry ended entry front rest → ⊥
 
--- White space and comments before an entry belong to it; before bytes without an entry they make none, and they leave
--- it open whether the bytes are within a form.
-abbrev pub GapBeforeEntry : Type 0
-GapBeforeEntry = (ended : Bool) (entry : Entry) (gap front rest : List ℕ) → is_gap gap ≡ true
-    → SpellsEntry ended entry front rest → SpellsEntry ended entry (gap ++ front) rest
+-- Bytes shorten to themselves, twice is once, and more bytes behind change nothing.
+abbrev pub ShortensToItself : Type 0
+ShortensToItself = (bytes : List ℕ) → ShortensTo bytes bytes
 
-abbrev pub GapBeforeNone : Type 0
-GapBeforeNone = (ended : Bool) (gap bytes : List ℕ) → is_gap gap ≡ true → HoldsNoEntry ended bytes
-    → HoldsNoEntry ended (gap ++ bytes)
+abbrev pub ShortensTwice : Type 0
+ShortensTwice = (left kept less : List ℕ) → ShortensTo left kept → ShortensTo kept less → ShortensTo left less
 
-abbrev pub GapBeforeGap : Type 0
-GapBeforeGap = (gap bytes : List ℕ) → is_gap gap ≡ true → is_open_gap (gap ++ bytes) ≡ is_open_gap bytes
+abbrev pub ShortensBefore : Type 0
+ShortensBefore = (left kept more : List ℕ) → ShortensTo left kept → ShortensTo (left ++ more) (kept ++ more)
+
+-- What bytes shorten to has the same entry, with as much behind it, or none, and it is outside a form where they are.
+abbrev pub SameEntry : Type 0
+SameEntry = (ended : Bool) (entry : Entry) (left kept front rest : List ℕ) → ShortensTo left kept → kept ≡ front ++ rest
+    → SpellsEntry ended entry front rest
+    → (longer : List ℕ) × (left ≡ longer ++ rest) × SpellsEntry ended entry longer rest
+
+abbrev pub SameNone : Type 0
+SameNone = (ended : Bool) (left kept : List ℕ) → ShortensTo left kept → HoldsNoEntry ended kept
+    → HoldsNoEntry ended left
+
+abbrev pub SameEnd : Type 0
+SameEnd = (left kept : List ℕ) → ShortensTo left kept → is_open_gap left ≡ is_open_gap kept
 
 -- Entries that the bytes begin with stay when more bytes come, or no more come.
 abbrev pub BeginningStays : Type 0

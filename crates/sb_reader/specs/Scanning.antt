@@ -8,7 +8,7 @@ use Rattle.sb_reader.specs.declared.scan.Step.TheVariants.{To, EndsBefore, EndsB
 use Rattle.sb_reader.specs.declared.scan.Found.{Found}
 use Rattle.sb_reader.specs.declared.scan.Found.TheVariants as found
 use Rattle.sb_reader.specs.declared.scan.Scan.{Scan}
-use Rattle.sb_reader.specs.Tokens.{Token, Open, all_pass, has_paired_quotes, is_blank, is_line_end, is_run_byte, is_gap, is_comment_then_gap, is_open_gap, is_comment_then_open_gap}
+use Rattle.sb_reader.specs.Tokens.{Token, Open, all_pass, has_paired_quotes, is_blank, is_line_end, is_run_byte, is_gap, is_open_gap}
 use Rattle.sb_reader.specs.Entries.{closes_at_end, stays_open, is_open_entry, Spells, HoldsNoEntry}
 use Rattle.sb_reader.specs.OneEntry.{is_one_entry}
 
@@ -36,34 +36,10 @@ step_at BehindQuote depth b = if b == 34 then To InText depth else step_behind_t
 step_at InQuoted depth b = if b == 124 then (if depth == 0 then EndsBehind else To InGap depth) else To InQuoted depth
 step_at InRun depth b = if is_run_byte b then To InRun depth else step_behind_token depth b
 
--- how many bytes at the front are a gap, once a byte leads to that place
-abbrev pub gap_to : Place → ℕ → ℕ → ℕ → ℕ
-gap_to InGap depth scanned gap = if depth == 0 then scanned else gap
-gap_to InComment depth scanned gap = gap
-gap_to InText depth scanned gap = gap
-gap_to BehindQuote depth scanned gap = gap
-gap_to InQuoted depth scanned gap = gap
-gap_to InRun depth scanned gap = gap
-
--- how many bytes at the front can be left out: a gap, if nothing but a comment follows it
-abbrev pub front_gap : Place → ℕ → ℕ → ℕ
-front_gap InGap depth gap = if depth == 0 then gap else 0
-front_gap InComment depth gap = if depth == 0 then gap else 0
-front_gap InText depth gap = 0
-front_gap BehindQuote depth gap = 0
-front_gap InQuoted depth gap = 0
-front_gap InRun depth gap = 0
-
 -- the scan with one more byte, which leads to that place
 abbrev pub scan_to : Scan → Place → ℕ → Scan
 scan_to scan place depth =
-    record {
-      scanned = scan.scanned + 1;
-      gap = gap_to place depth (scan.scanned + 1) scan.gap;
-      depth = depth;
-      place =
-          place;
-    }
+    record { scanned = scan.scanned + 1; depth = depth; place = place }
 
 -- what has been found where all bytes are scanned
 abbrev pub found_at_end : Bool → Place → ℕ → ℕ → Found
@@ -80,9 +56,12 @@ pub record EndsInGap (gap : List ℕ) : Type 0 where
   pub opened : (more : List ℕ) → is_open_gap (gap ++ more) ≡ is_open_gap more
 
 -- a gap, and the beginning of a comment
-pub record EndsInComment (gap : List ℕ) : Type 0 where
-  pub closed : (more : List ℕ) → is_gap (gap ++ more) ≡ is_comment_then_gap more
-  pub opened : (more : List ℕ) → is_open_gap (gap ++ more) ≡ is_comment_then_open_gap more
+pub record EndsInComment (rest : List ℕ) : Type 0 where
+  pub gap : List ℕ
+  pub inside : List ℕ
+  pub split : rest ≡ gap ++ 59 ∷ inside
+  pub is_gap : EndsInGap gap
+  pub no_line_end : all_pass (λ b. not (is_line_end b)) inside ≡ true
 
 -- a gap, and the beginning of a text
 pub record EndsInText (rest : List ℕ) : Type 0 where
@@ -163,8 +142,6 @@ pub record Scanned (place : Place) (depth : ℕ) (bytes : List ℕ) : Type 0 whe
 pub record IsScan (scan : Scan) (bytes : List ℕ) : Type 0 where
   pub within : scan.scanned ≤ length bytes
   pub depth_within : scan.depth ≤ scan.scanned
-  pub gap_within : scan.gap ≤ scan.scanned
-  pub gap_is : is_gap (take scan.gap bytes) ≡ true
   pub knows : Scanned scan.place scan.depth (take scan.scanned bytes)
 
 -- The tokens of one entry are the front, and rest follows them.

@@ -5,7 +5,7 @@ ghost use Rattle.sb_reader.specs.Feeding.{IsNext};
 ghost use Rattle.sb_reader.specs.Scanning.{EndsEntry};
 
 use crate::parse::parse_entry;
-use crate::scan::{Found, Scan, find_end};
+use crate::scan::{Found, Scan, find_end, shorten};
 use crate::sexpr::Sexpr;
 use std::alloc::{AllocError, Global};
 use std::marker::Model;
@@ -45,8 +45,8 @@ pub enum Next {
     Ended(Ending),
 }
 
-/// A script that comes in pieces. Memory is linear in the longest form, comment or piece, and time in the
-/// bytes that were pushed.
+/// A script that comes in pieces. Memory is linear in the longest entry or piece, and time in the bytes that were
+/// pushed. A comment outside a form takes no memory, however long it is; one within a form counts with the form.
 #[derive(Drop)]
 pub struct Feed {
     alloc: Global,
@@ -114,7 +114,8 @@ impl Feed {
     }
 
     /// The next entry, or that none is whole. Linear in the bytes of the entry that were not scanned yet and in those
-    /// of the entry. White space and comments in front of nothing else are dropped.
+    /// of the entry. White space and comments in front of nothing else are dropped, but for a semicolon in place of a
+    /// comment that goes on.
     pub fn next(&mut self) -> Result<Next, AllocError>
         ensures ok { IfOk result (λ next. IsNext next self.old self.new) }
         ensures err { OnErr result (self.new ≡ self.old) }
@@ -123,7 +124,7 @@ impl Feed {
         match find_end(&self.kept[self.start..], &mut self.scan, self.finished) {
             Found::End(end) => self.take(end),
             _ if !self.finished => {
-                self.start += self.scan.drop_gap();
+                self.start = shorten(&mut self.kept, self.start, &mut self.scan);
                 Ok(Next::NotYet)
             }
             Found::Gap => Ok(Next::Ended(Ending::Clean)),

@@ -1,6 +1,6 @@
 //! Laws of the definitions, each the contract of a function without a body.
 
-ghost use Rattle.sb_reader.specs.Laws.{TokensStay, EntryStays, OneFirstToken, OneReading, OneScript, OneEntry, EntryHasBytes, NoEntry, GapBeforeEntry, GapBeforeNone, GapBeforeGap, BeginningStays, BeginningGrows, BeginningIsFirst};
+ghost use Rattle.sb_reader.specs.Laws.{TokensStay, EntryStays, OneFirstToken, OneReading, OneScript, OneEntry, EntryHasBytes, NoEntry, ShortensToItself, ShortensTwice, ShortensBefore, SameEntry, SameNone, SameEnd, BeginningStays, BeginningGrows, BeginningIsFirst};
 
 /// Tokens that are whole stay whole, whether more bytes come or none.
 pub fn tokens_stay()
@@ -38,11 +38,14 @@ pub fn no_entry()
     ensures { NoEntry }
 {}
 
-/// White space and comments before an entry belong to it; before bytes without one they make none.
-pub fn gap_before()
-    ensures entry { GapBeforeEntry }
-    ensures none { GapBeforeNone }
-    ensures gap { GapBeforeGap }
+/// Bytes without white space and comments in front, or without part of a comment there, hold the same entries.
+pub fn shortened()
+    ensures itself { ShortensToItself }
+    ensures twice { ShortensTwice }
+    ensures more { ShortensBefore }
+    ensures entry { SameEntry }
+    ensures none { SameNone }
+    ensures end { SameEnd }
 {}
 
 /// Entries that bytes begin with stay whatever comes behind, and are the first of all entries.

@@ -1,8 +1,8 @@
 //! The end of the first entry, found as the bytes come.
 
-ghost use Rattle.std.specs.Prelude.{◌≡◌, ℕ, ◌+◌, ◌^◌, ◌<◌, ◌≤◌, List, length, take, drop, true};
-ghost use Rattle.sb_reader.specs.Tokens.{is_gap};
-ghost use Rattle.sb_reader.specs.Scanning.{IsScan, FindsEnd, ScansAll, front_gap, scan_to, step_in_gap, step_behind_token, step_at, found_at_end};
+ghost use Rattle.std.specs.Prelude.{◌≡◌, ℕ, ◌+◌, ◌^◌, ◌<◌, ◌≤◌, List, [], ◌∷◌, length, drop};
+ghost use Rattle.sb_reader.specs.Feeding.{ShortensTo};
+ghost use Rattle.sb_reader.specs.Scanning.{IsScan, IsStarted, FindsEnd, ScansAll, scan_to, step_in_gap, step_behind_token, step_at, found_at_end};
 
 use crate::token::{is_line_end, is_run_byte};
 
@@ -46,8 +46,6 @@ pub(crate) enum Found {
 pub(crate) struct Scan {
     /// How many bytes were scanned.
     scanned: usize,
-    /// How many of them, at the front, are white space and whole comments alone.
-    gap: usize,
     /// How many parentheses are open behind them.
     depth: usize,
     place: Place,
@@ -56,13 +54,25 @@ pub(crate) struct Scan {
 impl Scan {
     /// No byte was scanned.
     pub(crate) fn new() -> Scan
-        ensures { (bytes : List ℕ) → IsScan result bytes }
+        ensures scan { (bytes : List ℕ) → IsScan result bytes }
+        ensures none { result.scanned ≡ 0 }
     {
         Scan {
             scanned: 0,
-            gap: 0,
             depth: 0,
             place: Place::InGap,
+        }
+    }
+
+    /// The semicolon of a comment was scanned.
+    fn in_comment() -> Scan
+        ensures scan { IsScan result (59 ∷ []) }
+        ensures one { result.scanned ≡ 1 }
+    {
+        Scan {
+            scanned: 1,
+            depth: 0,
+            place: Place::InComment,
         }
     }
 
@@ -71,36 +81,10 @@ impl Scan {
         requires { self.scanned + 1 < 2 ^ 64 }
         ensures { result ≡ scan_to self place depth }
     {
-        let scanned = self.scanned + 1;
-        let gap = match place {
-            Place::InGap if depth == 0 => scanned,
-            _ => self.gap,
-        };
         Scan {
-            scanned,
-            gap,
+            scanned: self.scanned + 1,
             depth,
             place,
-        }
-    }
-
-    /// Leaves out white space and whole comments at the front, if nothing but a comment follows them. Returns how
-    /// many bytes they are.
-    pub(crate) fn drop_gap(&mut self) -> usize
-        requires { self.old.gap ≤ self.old.scanned }
-        ensures scan { (bytes : List ℕ) → IsScan self.old bytes → IsScan self.new (drop result bytes) }
-        ensures gap { (bytes : List ℕ) → IsScan self.old bytes → is_gap (take result bytes) ≡ true }
-        ensures scanned { self.new.scanned + result ≡ self.old.scanned }
-        ensures exact { result ≡ front_gap self.old.place self.old.depth self.old.gap }
-    {
-        match self.place {
-            Place::InGap | Place::InComment if self.depth == 0 => {
-                let gap = self.gap;
-                self.scanned -= gap;
-                self.gap = 0;
-                gap
-            }
-            _ => 0,
         }
     }
 }
@@ -183,4 +167,28 @@ pub(crate) fn find_end(bytes: &[u8], scan: &mut Scan, ended: bool) -> Found
         }
     }
     found_at_end(*scan, ended)
+}
+
+/// Leaves out white space and comments where nothing else was scanned of the bytes from `start` on: all of them, but
+/// for a semicolon where the last comment goes on. Returns where what is kept starts. It takes constant time.
+pub(crate) fn shorten(bytes: &mut [u8], start: usize, scan: &mut Scan) -> usize
+    requires started { IsStarted bytes.old start scan.old }
+    requires all { scan.old.scanned ≡ length (drop start bytes.old) }
+    ensures shorter { ShortensTo (drop start bytes.old) (drop result bytes.new) }
+    ensures started { IsStarted bytes.new result scan.new }
+    ensures all { scan.new.scanned ≡ length (drop result bytes.new) }
+{
+    match scan.place {
+        Place::InGap if scan.depth == 0 => {
+            *scan = Scan::new();
+            bytes.len()
+        }
+        Place::InComment if scan.depth == 0 => {
+            let last = bytes.len() - 1;
+            bytes[last] = b';';
+            *scan = Scan::in_comment();
+            last
+        }
+        _ => start,
+    }
 }

@@ -10,7 +10,7 @@ use std::test::Fail;
 
 /// Scripts, and their answers. An answer is a form, with `'` before a numeral and `#` before another number, or
 /// a refusal after `!`. How the script ends comes last.
-const SCRIPTS: [(&[u8], &str); 60] = [
+const SCRIPTS: [(&[u8], &str); 61] = [
     // how a script without a whole entry ends
     (b"", "clean"),
     (b" \t\r\n", "clean"),
@@ -39,6 +39,11 @@ const SCRIPTS: [(&[u8], &str); 60] = [
         "(a:k'1##b1\"t\"|q|()) clean",
     ),
     (b" ; one\n(a ; two )\n)", "(a) clean"),
+    // of a comment outside a form no more is kept than its semicolon
+    (
+        b"; (a \" | ;;\r ;(b\n(c ;d (\n);e\r;) f\n)",
+        "(c) !stray clean",
+    ),
     (b"(a);b\r(c)", "(a) (c) clean"),
     (b"(a;b\r)", "(a) clean"),
     (b"(a;b)\n c;\r)", "(ac) clean"),

@@ -9,7 +9,7 @@ use Rattle.sb_world.proofs.CallerLemmas.{write_at-moves}
 use Rattle.sb_reader.specs.declared.feed.Ending.TheVariants.{Clean, Unfinished}
 use Rattle.sb_reader.specs.Entries.{HoldsNoEntry, Begins}
 use Rattle.sb_reader.specs.Feeding as feed
-use Rattle.sb_reader.proofs.CallerLemmas.{gap_before_none, gap_before_gap, beginning_stays}
+use Rattle.sb_reader.proofs.CallerLemmas.{same_none, same_end, beginning_stays}
 use Rattle.sb_script.specs.Scripts.{unfinished_line}
 use Rattle.sb_stack.specs.Stacked.{state_of}
 use Rattle.sb_session.specs.declared.solve.Pause.{Pause}
@@ -40,12 +40,12 @@ pub end_sofar : (asked : Asked) (old : Outside) (bytes : List ℕ) (kept finishe
     → Sofar (opened asked old) bytes finished (state_of session.stack) now
 end_sofar asked old bytes kept finished session now e read =
     let sofar = read.sofar in
-    let left = sofar.gap ++ kept.0 in
+    let left = sofar.left in
     subst (λ (k : feed.Unanswered). Sofar (opened asked old) bytes k (state_of session.stack) now) (sym e) (record {
       entries = sofar.entries;
       writes = sofar.writes;
-      gap = sofar.gap;
-      is_gap = sofar.is_gap;
+      left = left;
+      shorter = sofar.shorter;
       answered = record {
         begins = subst (λ (b : List ℕ). Begins true b sofar.entries left) (append-nil bytes)
             (subst (λ (l : List ℕ). Begins true (bytes ++ []) sofar.entries l) (append-nil left)
@@ -60,16 +60,15 @@ end_sofar asked old bytes kept finished session now e read =
 pub all_answered : (o : Outside) (bytes : List ℕ) (kept : feed.Unanswered) (session : SessionState) (now : Outside)
     (ended : Bool)
     (none : NoneLeft o bytes kept session now) → kept.1 ≡ ended
-    → AllAnswered o bytes ended (none.sofar.gap ++ kept.0) now
+    → AllAnswered o bytes ended none.sofar.left now
 all_answered o bytes kept session now ended none e = record {
   entries = none.sofar.entries;
   writes = none.sofar.writes;
   s = state_of session.stack;
   answered = subst
-      (λ (b : Bool). Answered bytes b none.sofar.entries (none.sofar.gap ++ kept.0) none.sofar.writes
-      (state_of session.stack))
+      (λ (b : Bool). Answered bytes b none.sofar.entries none.sofar.left none.sofar.writes (state_of session.stack))
       e none.sofar.answered;
-  none = gap_before_none ended none.sofar.gap kept.0 none.sofar.is_gap
+  none = same_none ended none.sofar.left kept.0 none.sofar.shorter
       (subst (λ (b : Bool). HoldsNoEntry b kept.0) e none.none);
   outside = none.sofar.outside;
 }
@@ -92,10 +91,10 @@ end_done Waiting asked old bytes kept after session session' before now ne ended
     absurd (false≢true (sym waits.0 ∙ ended))
 end_done (Ended Clean) asked old bytes kept after session session' before now ne ended read ends = inl (record {
   script = bytes;
-  left = ends.2.sofar.gap ++ after.0;
+  left = ends.2.sofar.left;
   all = read.all;
   below_limit = read.below_limit;
-  clean = gap_before_gap ends.2.sofar.gap after.0 ends.2.sofar.is_gap ∙ ends.1;
+  clean = same_end ends.2.sofar.left after.0 ends.2.sofar.shorter ∙ ends.1;
   answered = all_answered (opened asked old) bytes after session' now true ends.2 ends.0;
 })
 end_done (Ended Unfinished) asked old bytes kept after session session' before now ne ended read ends = absurd (ne refl)
@@ -109,11 +108,11 @@ pub end_unfinished : (asked : Asked) (old : Outside) (bytes : List ℕ) (kept af
     → now ≡ write_at out_port.Answers unfinished_line between → AnsweredUnfinished asked old now
 end_unfinished asked old bytes kept after session session' before between now read ends e = record {
   script = bytes;
-  left = ends.2.sofar.gap ++ after.0;
+  left = ends.2.sofar.left;
   before = between;
   all = read.all;
   below_limit = read.below_limit;
-  unfinished = gap_before_gap ends.2.sofar.gap after.0 ends.2.sofar.is_gap ∙ ends.1;
+  unfinished = same_end ends.2.sofar.left after.0 ends.2.sofar.shorter ∙ ends.1;
   answered = all_answered (opened asked old) bytes after session' between true ends.2 ends.0;
   outside = e ∙ write_at-moves out_port.Answers unfinished_line between;
 }
@@ -142,12 +141,12 @@ end_unfinished_cut asked old bytes kept after session session' before between no
     let all = all_answered (opened asked old) bytes after session' between true ends.2 ends.0 in
     end_cut asked old bytes kept session before now read (inr (record {
       entries = all.entries;
-      left = sofar.gap ++ after.0;
+      left = sofar.left;
       writes = all.writes;
       s = all.s;
       answered = all.answered;
       own = (out_port.Answers, unfinished_line) ∷ [];
-      next = inr (refl, all.none, gap_before_gap sofar.gap after.0 sofar.is_gap ∙ ends.1, refl);
+      next = inr (refl, all.none, same_end sofar.left after.0 sofar.shorter ∙ ends.1, refl);
       front = cut.0;
       proper = cut.1;
       outside = writes_on (opened asked old) between now (length bytes) all.writes cut.0 all.outside cut.2;

@@ -1,11 +1,11 @@
 -- A piece of the script is read.
-use Rattle.std.proofs.Common.{arith, ◌+◌, ◌≡◌, ℕ, Bool, false, List, ◌++◌, length, Result, Ok, Err, IfOk, OnErr, append_assoc, length-append, sym, ap, ◌∙◌, subst, inl}
+use Rattle.std.proofs.Common.{arith, ◌+◌, ◌≡◌, ℕ, Bool, false, List, ◌++◌, length, Result, Ok, Err, IfOk, OnErr, length-append, sym, ap, ◌∙◌, subst, inl}
 use Rattle.sb_world.specs.Outside.{Outside, read_at}
 use Rattle.sb_world.specs.Moved.{Write, moved_by}
 use Rattle.sb_world.specs.declared.InPort.TheVariants as in_port
 use Rattle.sb_reader.specs.Entries.{Begins}
 use Rattle.sb_reader.specs.Feeding as feed
-use Rattle.sb_reader.proofs.CallerLemmas.{beginning_stays}
+use Rattle.sb_reader.proofs.CallerLemmas.{shortens_before, beginning_stays}
 use Rattle.sb_script.specs.State.{State}
 use Rattle.sb_session.specs.declared.command.SessionFault.{SessionFault}
 use Rattle.sb_session.specs.declared.solve.Pause.{Pause}
@@ -32,13 +32,11 @@ pub push_on : (opened : Outside) (bytes piece : List ℕ) (old : feed.Unanswered
 push_on opened bytes piece old s before now goes sofar moved = record {
   entries = sofar.entries;
   writes = sofar.writes;
-  gap = sofar.gap;
-  is_gap = sofar.is_gap;
+  left = sofar.left ++ piece;
+  shorter = shortens_before sofar.left old.0 piece sofar.shorter;
   answered = record {
-    begins = subst (λ (left : List ℕ). Begins false (bytes ++ piece) sofar.entries left)
-        (append_assoc sofar.gap old.0 piece)
-        (beginning_stays false bytes piece sofar.entries (sofar.gap ++ old.0)
-        (subst (λ (ended : Bool). Begins ended bytes sofar.entries (sofar.gap ++ old.0)) goes sofar.answered.begins));
+    begins = beginning_stays false bytes piece sofar.entries sofar.left
+        (subst (λ (ended : Bool). Begins ended bytes sofar.entries sofar.left) goes sofar.answered.begins);
     along = sofar.answered.along;
   };
   outside = piece_read opened before now bytes piece sofar.writes sofar.outside moved;

@@ -8,7 +8,7 @@ use Rattle.sb_reader.specs.Tokens.{is_open_gap}
 use Rattle.sb_reader.specs.Entries.{Entry, HoldsNoEntry, Begins}
 use Rattle.sb_reader.specs.Feeding as feed
 use Rattle.sb_reader.specs.Feeding.{Takes, Waits, Ends}
-use Rattle.sb_reader.proofs.CallerLemmas.{is_gap-append, gap_before_entry, beginning_grows}
+use Rattle.sb_reader.proofs.CallerLemmas.{shortens_to_itself, shortens_twice, same_entry, beginning_grows}
 use Rattle.sb_script.specs.State.{State}
 use Rattle.sb_script.specs.State as meaning
 use Rattle.sb_script.specs.Replies.{is_exit}
@@ -47,10 +47,9 @@ begins_on : (opened : Outside) (bytes : List ℕ) (entry : Entry) (old new : fee
     (sofar : Sofar opened bytes old s before) → Takes entry old new
     → Begins old.1 bytes (sofar.entries ++ entry ∷ []) new.0
 begins_on opened bytes entry old new s before sofar takes =
-    beginning_grows old.1 bytes sofar.entries entry (sofar.gap ++ takes.0) new.0
-    (subst (λ (left : List ℕ). Begins old.1 bytes sofar.entries left) (ap (λ (x : List ℕ). sofar.gap ++ x) takes.1
-    ∙ sym (append_assoc sofar.gap takes.0 new.0)) sofar.answered.begins)
-    (gap_before_entry old.1 entry sofar.gap takes.0 new.0 sofar.is_gap takes.3)
+    let whole = same_entry old.1 entry sofar.left old.0 takes.0 new.0 sofar.shorter takes.1 takes.3 in
+    beginning_grows old.1 bytes sofar.entries entry whole.0 new.0
+    (subst (λ (left : List ℕ). Begins old.1 bytes sofar.entries left) whole.1 sofar.answered.begins) whole.2
 
 -- one more entry is answered
 pub answer_on : (opened : Outside) (bytes : List ℕ) (entry : Entry) (old new : feed.Unanswered) (s after : State)
@@ -59,8 +58,8 @@ pub answer_on : (opened : Outside) (bytes : List ℕ) (entry : Entry) (old new :
 answer_on opened bytes entry old new s after before now goes takes answers sofar = record {
   entries = sofar.entries ++ entry ∷ [];
   writes = sofar.writes ++ answers.writes;
-  gap = [];
-  is_gap = refl;
+  left = new.0;
+  shorter = shortens_to_itself new.0;
   answered = record {
     begins = subst (λ (ended : Bool). Begins ended bytes (sofar.entries ++ entry ∷ []) new.0) (sym takes.2)
         (begins_on opened bytes entry old new s before sofar takes);
@@ -95,7 +94,7 @@ pub cut_between : (opened : Outside) (bytes : List ℕ) (kept : feed.Unanswered)
     → Sofar opened bytes kept s now → CutBetween opened bytes kept.1 now
 cut_between opened bytes kept s now sofar = record {
   entries = sofar.entries;
-  left = sofar.gap ++ kept.0;
+  left = sofar.left;
   writes = sofar.writes;
   s = s;
   answered = sofar.answered;
@@ -110,7 +109,7 @@ cut_answer opened bytes entry old new s before now takes (inl same) sofar =
     inl (cut_between opened bytes old s now (subst (λ (o : Outside). Sofar opened bytes old s o) (sym same) sofar))
 cut_answer opened bytes entry old new s before now takes (inr cut) sofar = inr (record {
   entries = sofar.entries;
-  left = sofar.gap ++ old.0;
+  left = sofar.left;
   writes = sofar.writes;
   s = s;
   answered = sofar.answered;
@@ -132,15 +131,11 @@ wait_on opened bytes old new session now waits going sofar = (
     sofar = record {
       entries = sofar.entries;
       writes = sofar.writes;
-      gap = sofar.gap ++ waits.gap;
-      is_gap = is_gap-append sofar.gap waits.gap sofar.is_gap ∙ waits.is_gap;
+      left = sofar.left;
+      shorter = shortens_twice sofar.left old.0 new.0 sofar.shorter waits.shorter;
       answered = subst
-          (λ (ended : Bool). Answered bytes ended sofar.entries ((sofar.gap ++ waits.gap) ++ new.0) sofar.writes
-          (state_of session.stack))
-          (waits.more_may_come ∙ sym waits.still)
-          (subst (λ (left : List ℕ). Answered bytes old.1 sofar.entries left sofar.writes (state_of session.stack))
-          (ap (λ (x : List ℕ). sofar.gap ++ x) waits.split ∙ sym (append_assoc sofar.gap waits.gap new.0))
-          sofar.answered);
+          (λ (ended : Bool). Answered bytes ended sofar.entries sofar.left sofar.writes (state_of session.stack))
+          (waits.more_may_come ∙ sym waits.still) sofar.answered;
       outside = sofar.outside;
     };
     none = subst (λ (ended : Bool). HoldsNoEntry ended new.0) (sym waits.still) waits.no_entry;

@@ -8,6 +8,7 @@ use Rattle.sb_world.specs.Moved.{Moved, moved_by}
 use Rattle.sb_world.specs.declared.InPort.TheVariants as in_port
 use Rattle.sb_reader.specs.Entries.{HoldsNoEntry}
 use Rattle.sb_reader.specs.Feeding as feed
+use Rattle.sb_reader.proofs.CallerLemmas.{shortens_to_itself}
 use Rattle.sb_script.specs.State as meaning
 use Rattle.sb_stack.specs.Stacked.{state_of}
 use Rattle.sb_session.specs.declared.command.SessionFault.{SessionFault}
@@ -42,9 +43,9 @@ underway_start asked old now kept session e same state going = record {
     sofar = record {
       entries = [];
       writes = [];
-      gap = [];
-      is_gap = refl;
-      answered = record { begins = sym (ap (λ (k : feed.Unanswered). k.0) same); along = (refl, state) };
+      left = [];
+      shorter = subst (λ (k : feed.Unanswered). feed.ShortensTo [] k.0) (sym same) (shortens_to_itself []);
+      answered = record { begins = refl; along = (refl, state) };
       outside = e ∙ nothing_yet (opened asked old);
     };
     none = subst (λ (k : feed.Unanswered). HoldsNoEntry k.1 k.0) (sym same) (open_gap_is_none false [] refl);
@@ -200,7 +201,7 @@ pub past_limit : (asked : Asked) (old : Outside) (bytes : List ℕ) (kept : feed
     → length bytes ≡ asked.limit → Underway asked old bytes kept session now → PastLimit asked old now
 past_limit asked old bytes kept session now h way = record {
   bytes = bytes;
-  left = way.left.sofar.gap ++ kept.0;
+  left = way.left.sofar.left;
   front = way.front;
   at_limit = h;
   answered = all_answered (opened asked old) bytes kept session now false way.left way.goes_on;

@@ -1,8 +1,7 @@
 -- Private: how far a run has come.
-use Rattle.std.specs.Prelude.{◌≡◌, ℕ, true, List, ◌++◌, length, Result, Ok, Err}
+use Rattle.std.specs.Prelude.{◌≡◌, ℕ, List, length, Result, Ok, Err}
 use Rattle.sb_world.specs.Outside.{Outside}
 use Rattle.sb_world.specs.Moved.{Write, moved_by}
-use Rattle.sb_reader.specs.Tokens.{is_gap}
 use Rattle.sb_reader.specs.Entries.{Entry}
 use Rattle.sb_reader.specs.Feeding as feed
 use Rattle.sb_script.specs.State.{State}
@@ -16,10 +15,10 @@ use Rattle.sb_session.specs.Reading.{work, Answered}
 pub record Sofar (opened : Outside) (bytes : List ℕ) (kept : feed.Unanswered) (s : State) (now : Outside) : Type 0 where
   pub entries : List Entry
   pub writes : List Write
-  -- white space and comments that are not kept
-  pub gap : List ℕ
-  pub is_gap : is_gap gap ≡ true
-  pub answered : Answered bytes kept.1 entries (gap ++ kept.0) writes s
+  -- the bytes behind the entries, of which not all white space and comments are kept
+  pub left : List ℕ
+  pub shorter : feed.ShortensTo left kept.0
+  pub answered : Answered bytes kept.1 entries left writes s
   pub outside : now ≡ moved_by (work (length bytes) writes) opened
 
 -- the status of a run that ended with a status or a fault

@@ -1,27 +1,28 @@
--- A gap at the front is dropped.
-use Rattle.std.proofs.Common.{refl}
-use Rattle.std.proofs.lemmas.List.{take_rest}
-use Rattle.sb_reader.proofs.Goes.{scans_all}
-use Rattle.sb_reader.proofs.Answered.{started_behind_gap, waits_behind_gap}
+-- What was scanned is shortened where no entry is whole.
+use Rattle.std.proofs.Common.{◌≡◌, ℕ, false, List, ◌++◌, length, take, drop, refl, sym, subst, rules}
+use Rattle.std.proofs.lemmas.List.{take_at}
+use Rattle.sb_reader.specs.Entries.{HoldsNoEntry}
+use Rattle.sb_reader.specs.Feeding.{ShortensTo}
+use Rattle.sb_reader.proofs.Goes.{scanned_all}
 use Rattle.sb_reader.proofs.feed.Feed.next.Goals as goal
-
-pub invariant_of-self-then-not-self : goal.invariant_of-self-then-not-self
-invariant_of-self-then-not-self c =
-    let scan = rw c.deref.ensures.value at c.find_end.ensures.scan in
-    started_behind_gap c.self.inside.kept.items c.self.inside.start c.drop_gap.result c.find_end.new.scan
-    c.drop_gap.new.self scan c.drop_gap.ensures.scan c.drop_gap.ensures.scanned c.self.invariant.within
 
 pub returns-in_default : goal.returns-in_default
 returns-in_default c =
-    let scan = rw c.deref.ensures.value at c.find_end.ensures.scan in
-    let all = rw c.deref.ensures.value at c.find_end.ensures.all_scanned in
-    let gap = c.drop_gap.ensures.gap _ scan in
+    let shorten = c.shorten-self-inside in
+    let kept = c.self.inside.kept in
+    let long : length shorten.new.bytes ≡ kept.len = search rules in
+    let all : take kept.len (shorten.new.bytes ++ drop (length shorten.new.bytes) kept.items) ≡ shorten.new.bytes =
+    take_at shorten.new.bytes (drop (length shorten.new.bytes) kept.items) kept.len long in
     record {
-      ok = rw (← c.self.view_is)
-          (waits_behind_gap c.self.inside.kept.items c.self.inside.start c.drop_gap.result c.find_end.new.scan
-          c.drop_gap.new.self scan c.drop_gap.ensures.scan c.drop_gap.ensures.scanned c.self.inside.finished
-          c.if-not-self.true (scans_all c.find_end.result c.find_end.new.scan _ c.in_default.not-End all)
-          (rw take_rest at gap));
+      ok = rw (← c.self.view_is) (record {
+        shorter = subst (λ (bytes : List ℕ). ShortensTo (drop c.self.inside.start kept.items)
+            (drop shorten.result bytes)) (sym all) (rw c.deref_mut.ensures.value at shorten.ensures.shorter);
+        more_may_come = c.if-not-self.true;
+        still = c.if-not-self.true;
+        no_entry = subst (λ (bytes : List ℕ). HoldsNoEntry false (drop shorten.result bytes)) (sym all)
+            (scanned_all shorten.new.scan (drop shorten.result shorten.new.bytes) shorten.ensures.started.scan_of
+            shorten.ensures.all);
+      });
       err = tt;
       finished = rw (← c.self.view_is) refl;
     }

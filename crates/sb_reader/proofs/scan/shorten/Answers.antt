@@ -1,0 +1,17 @@
+-- What is left out is a gap, and what a comment holds.
+use Rattle.std.proofs.Common.{◌≡◌, ◌+◌, ◌-◌, ◌<◌, length, drop, [], arith}
+use Rattle.std.proofs.lemmas.List.{drop-set, drop_all, length-drop}
+use Rattle.sb_reader.proofs.Shortening.{shortens_to_semicolon, comment_has_a_byte}
+use Rattle.sb_reader.proofs.scan.shorten.Goals as goal
+
+pub returns-in-InComment-clause-shorter : goal.returns-in-InComment-clause-shorter
+returns-in-InComment-clause-shorter c =
+    let bytes = c.args.bytes.now in
+    let left = drop c.args.start bytes in
+    let scan = c.requires.started.scan_of in
+    let a_byte : 0 < length bytes - c.args.start = simp length-drop at
+    (comment_has_a_byte c.args.scan.now left scan c.requires.all c.if-scan-eq0-2.true c.in-InComment.is) in
+    let none_behind : drop (length bytes - 1 + 1) bytes ≡ [] =
+    drop_all (length bytes - 1 + 1) bytes (omega (arith, a_byte)) in
+    rw (drop-set bytes (length bytes - 1) 59 (omega (arith, a_byte)), none_behind)
+    (shortens_to_semicolon c.args.scan.now left scan c.requires.all c.if-scan-eq0-2.true c.in-InComment.is)
