@@ -3,6 +3,7 @@
 ghost use Rattle.sb_deriv.specs.Faithful.{IsFaithful};
 
 use crate::arenas::long;
+use crate::kinds::{TEXTS, derive, derive_all, regexes, target};
 use crate::terms::{alt, cat, join, nullable, range, regex, star, word};
 use sb_class::Class;
 use sb_deriv::Deriver;
@@ -92,24 +93,6 @@ fn slow(arena: &mut Arena, r: RegexId, c: u32, depth: u32) -> Result<RegexId, Al
     }
 }
 
-fn derive(arena: &mut Arena, deriver: &mut Deriver, r: RegexId) -> Result<(), AllocError>
-    requires { IsFaithful arena.old deriver.old }
-    ensures { IsFaithful arena.new deriver.new }
-{
-    if r.number() < arena.len() {
-        deriver.derive(arena, r)
-    } else {
-        Ok(())
-    }
-}
-
-fn target(deriver: &Deriver, r: RegexId, c: u32) -> Option<RegexId> {
-    match deriver.derivative(r) {
-        Some(derivative) if c <= 0x2ffff => Some(derivative.value_at(c)),
-        _ => None,
-    }
-}
-
 fn piece_count(deriver: &Deriver, r: RegexId) -> usize {
     match deriver.derivative(r) {
         Some(derivative) => derivative.pieces().len(),
@@ -132,42 +115,6 @@ fn agrees(
         target(deriver, r, 0x2ffff),
         Some(slow(arena, r, 0x2ffff, 50)?)
     );
-    Ok(())
-}
-
-/// Regexes of each kind, each made of earlier ones.
-const TEXTS: [&[u8]; 14] = [
-    b"a",
-    b"F",
-    b"L",
-    b"E",
-    b"ab.",
-    b"F*",
-    b"E*",
-    b"E*ab..",
-    b"F*bc..",
-    b"ab.bc.|cd.|L|F*bc..|",
-    b"F*bc..E*ab..&",
-    b"ab.bc.|cd.|L|F*bc..|*",
-    b"ab.bc.|cd.|L|F*bc..|*F*bc..E*ab..&.",
-    b"ab.bc.|cd.|L|F*bc..|*F*bc..E*ab..&.ab.bc.|cd.|L|F*bc..|*|F*bc..E*ab..&|E*ab..|",
-];
-
-fn regexes(alloc: Global, arena: &mut Arena, texts: &[&[u8]]) -> Result<Vec<RegexId>, AllocError> {
-    let mut rs = Vec::new(alloc);
-    for text in texts {
-        let r = regex(alloc, arena, text)?;
-        rs.push(r)?;
-    }
-    Ok(rs)
-}
-
-fn derive_all(arena: &mut Arena, deriver: &mut Deriver, rs: &[RegexId]) -> Result<(), AllocError>
-    requires { IsFaithful arena.old deriver.old }
-{
-    for r in rs {
-        derive(arena, deriver, *r)?;
-    }
     Ok(())
 }
 

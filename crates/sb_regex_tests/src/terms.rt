@@ -121,7 +121,7 @@ pub fn join(
 }
 
 /// `N` is none, `Z` is the empty word alone; `x` is each of `a` to `c`, `F` each of `a` to `f`, `L` each character from
-/// `e` on, `E` every character; other letters are themselves.
+/// `e` on, `Y` the last character, `E` every character; other letters are themselves.
 fn atom(alloc: Global, arena: &mut Arena, sign: u8) -> Result<RegexId, AllocError> {
     match sign {
         b'N' => arena.none(),
@@ -129,6 +129,7 @@ fn atom(alloc: Global, arena: &mut Arena, sign: u8) -> Result<RegexId, AllocErro
         b'x' => range(alloc, arena, 0x61, 0x63),
         b'F' => range(alloc, arena, 0x61, 0x66),
         b'L' => range(alloc, arena, 0x65, 0x2ffff),
+        b'Y' => range(alloc, arena, 0x2ffff, 0x2ffff),
         b'E' => range(alloc, arena, 0, 0x2ffff),
         letter => range(alloc, arena, letter as u32, letter as u32),
     }

@@ -14,8 +14,8 @@ loop-part-preserved c =
           rw (w.some-is, w.waiting-is, w.targets-is)
           (wanting_known c.args.self.now c.args.c c.args.parts.now c.loop-part.part-index c.loop-part.some
           c.loop-part.targets.items _ c.args.waiting.now.keys c.loop-part.waiting.keys c.part-item.result
-          w.in-Some.target c.loop-part.invariant c.loop-part-test.true c.part-item.is (sym c.found.ensures ∙ w.in-Some.is)
-          w.in_ok-push-in-Some.ensures.items)
+          w.in-Some.target c.loop-part.invariant c.loop-part-test.true c.part-item.is
+          (sym c.found.ensures ∙ w.in-Some.is) w.in_ok-push-in-Some.ensures.items)
       | in-None+in_ok-insert-in-None w ↦
           rw (w.some-is, w.waiting-is, w.targets-is)
           (wanting_add c.args.self.now c.args.c c.args.parts.now c.loop-part.part-index c.loop-part.some
