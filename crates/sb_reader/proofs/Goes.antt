@@ -1,7 +1,8 @@
 -- A scan goes on over a list of bytes, and ends.
-use Rattle.std.proofs.Common.{◌≡◌, ℕ, ◌+◌, ◌-◌, ◌<◌, ◌≤◌, suc, Bool, false, List, [], ◌∷◌, ◌++◌, refl, arith, eqb, leb, sym, length, take, drop, get_or, subst, drop-cons}
+use Rattle.std.proofs.Common.{◌≡◌, ℕ, ◌+◌, ◌-◌, ◌<◌, ◌≤◌, ◌⊎◌, suc, Bool, true, false, List, [], ◌∷◌, ◌++◌, ◌∙◌, ◌==◌, if◌then◌else◌, refl, arith, eqb, leb, sym, length, take, drop, get_or, subst, inl, inr, drop-cons}
 use Rattle.std.proofs.lemmas.List.{take_more, take_all}
-use Rattle.std.proofs.lemmas.Bool.{cond_both}
+use Rattle.std.proofs.lemmas.Bool.{cond_both, false≢true}
+use Rattle.std.proofs.lemmas.Bool.Decides.{nat_tests}
 use Rattle.sb_reader.specs.declared.scan.Place.{Place}
 use Rattle.sb_reader.specs.declared.scan.Place.TheVariants.{InGap, InComment, InText, BehindQuote, InQuoted, InRun}
 use Rattle.sb_reader.specs.declared.scan.Step.{Step}
@@ -9,7 +10,7 @@ use Rattle.sb_reader.specs.declared.scan.Step.TheVariants.{To, EndsBefore, EndsB
 use Rattle.sb_reader.specs.declared.scan.Scan.{Scan}
 use Rattle.sb_reader.specs.declared.scan.Found.{Found}
 use Rattle.sb_reader.specs.declared.scan.Found.TheVariants as found
-use Rattle.sb_reader.specs.Tokens.{is_blank, is_line_end, is_run_byte}
+use Rattle.sb_reader.specs.Tokens.{is_blank, is_line_end, is_run_byte, is_open_gap}
 use Rattle.sb_reader.specs.Entries.{HoldsNoEntry}
 use Rattle.sb_reader.specs.Scanning.{step_in_gap, step_behind_token, step_at, found_at_end, scan_to, IsScan, Scanned, SpellsOne, EndsEntry, FindsEnd, ScansAll}
 use Rattle.sb_reader.proofs.Growing.{Spells-grow}
@@ -125,6 +126,56 @@ scan_found ended scan bytes s e =
 pub scanned_all : (scan : Scan) (bytes : List ℕ) → IsScan scan bytes → scan.scanned ≡ length bytes
     → HoldsNoEntry false bytes
 scanned_all scan bytes s e = not_found scan.place scan.depth bytes scan.scanned (scan_found false scan bytes s e)
+
+-- Where there is a gap alone, a scan of all stands in it, or in its last comment.
+abbrev pub IsInGap : Place → ℕ → Type 0
+IsInGap InGap depth = (depth == 0) ≡ true
+IsInGap InComment depth = (depth == 0) ≡ true
+IsInGap InText depth = ⊥
+IsInGap BehindQuote depth = ⊥
+IsInGap InQuoted depth = ⊥
+IsInGap InRun depth = ⊥
+
+zero_from : (depth : ℕ) → (depth == 0) ≡ true → depth ≡ 0
+zero_from depth h = grind (arith, nat_tests)
+
+-- within a form there is no such place
+pub in_no_gap : (place : Place) (depth : ℕ) → (depth ≡ 0 → ⊥) → IsInGap place depth → ⊥
+in_no_gap InGap depth within h = within (zero_from depth h)
+in_no_gap InComment depth within h = within (zero_from depth h)
+in_no_gap InText depth within h = h
+in_no_gap BehindQuote depth within h = h
+in_no_gap InQuoted depth within h = h
+in_no_gap InRun depth within h = h
+
+-- within a token neither
+pub no_gap_in_token : (place : Place) (depth : ℕ)
+    → (place ≡ InText) ⊎ ((place ≡ BehindQuote) ⊎ ((place ≡ InQuoted) ⊎ (place ≡ InRun)))
+    → IsInGap place depth → ⊥
+no_gap_in_token place depth (inl e) h = subst (λ p. IsInGap p depth) e h
+no_gap_in_token place depth (inr (inl e)) h = subst (λ p. IsInGap p depth) e h
+no_gap_in_token place depth (inr (inr (inl e))) h = subst (λ p. IsInGap p depth) e h
+no_gap_in_token place depth (inr (inr (inr e))) h = subst (λ p. IsInGap p depth) e h
+
+outside_a_form : (b : Bool) (bytes : List ℕ) → FindsEnd false bytes (if b then found.Gap else found.Part)
+    → is_open_gap bytes ≡ true → b ≡ true
+outside_a_form true bytes h alone = refl
+outside_a_form false bytes h alone = absurd (false≢true (sym h.0 ∙ alone))
+
+found_in_gap : (place : Place) (depth n : ℕ) (bytes : List ℕ)
+    → FindsEnd false bytes (found_at_end false place depth n)
+    → is_open_gap bytes ≡ true → IsInGap place depth
+found_in_gap InGap depth n bytes h alone = outside_a_form (depth == 0) bytes h alone
+found_in_gap InComment depth n bytes h alone = outside_a_form (depth == 0) bytes h alone
+found_in_gap InText depth n bytes h alone = absurd (false≢true (sym h.0 ∙ alone))
+found_in_gap BehindQuote depth n bytes h alone = absurd (false≢true (sym h.0 ∙ alone))
+found_in_gap InQuoted depth n bytes h alone = absurd (false≢true (sym h.0 ∙ alone))
+found_in_gap InRun depth n bytes h alone = absurd (false≢true (sym h.0 ∙ alone))
+
+pub scanned_in_gap : (scan : Scan) (bytes : List ℕ) → IsScan scan bytes → scan.scanned ≡ length bytes
+    → is_open_gap bytes ≡ true → IsInGap scan.place scan.depth
+scanned_in_gap scan bytes s e alone =
+    found_in_gap scan.place scan.depth scan.scanned bytes (scan_found false scan bytes s e) alone
 
 -- the semicolon of a comment
 pub IsScan-comment : IsScan (record { scanned = 1; depth = 0; place = InComment }) (59 ∷ [])

@@ -1,5 +1,5 @@
 -- What a feed keeps, and what its answers say of it.
-use Rattle.std.specs.Prelude.{◌≡◌, ℕ, ◌⊎◌, Bool, true, false, not, List, ◌∷◌, ◌++◌}
+use Rattle.std.specs.Prelude.{◌≡◌, ℕ, ◌≤◌, ◌⊎◌, Bool, true, false, not, List, ◌∷◌, ◌++◌, length}
 use Rattle.sb_reader.specs.declared.feed.Ending.TheVariants.{Clean, Unfinished}
 use Rattle.sb_reader.specs.declared.feed.Ending.{Ending}
 use Rattle.sb_reader.specs.declared.feed.Next.{Next}
@@ -34,9 +34,11 @@ pub record ShortensTo (left kept : List ℕ) : Type 0 where
   pub split : left ≡ gap ++ whole
   pub cut : (whole ≡ kept) ⊎ CutsComment whole kept
 
--- No entry is whole. White space and comments in front may be taken, so that they don't pile up.
+-- No entry is whole. White space and comments in front may be taken, so that they don't pile up: where there is nothing
+-- else, at most the semicolon of a comment is kept.
 pub record Waits (old new : Unanswered) : Type 0 where
   pub shorter : ShortensTo old.0 new.0
+  pub short : is_open_gap old.0 ≡ true → length new.0 ≤ 1
   pub more_may_come : old.1 ≡ false
   pub still : new.1 ≡ false
   pub no_entry : HoldsNoEntry false new.0

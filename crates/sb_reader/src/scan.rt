@@ -1,6 +1,7 @@
 //! The end of the first entry, found as the bytes come.
 
-ghost use Rattle.std.specs.Prelude.{◌≡◌, ℕ, ◌+◌, ◌^◌, ◌<◌, ◌≤◌, List, [], ◌∷◌, length, drop};
+ghost use Rattle.std.specs.Prelude.{◌≡◌, ℕ, ◌+◌, ◌^◌, ◌<◌, ◌≤◌, true, List, [], ◌∷◌, length, drop};
+ghost use Rattle.sb_reader.specs.Tokens.{is_open_gap};
 ghost use Rattle.sb_reader.specs.Feeding.{ShortensTo};
 ghost use Rattle.sb_reader.specs.Scanning.{IsScan, IsStarted, FindsEnd, ScansAll, scan_to, step_in_gap, step_behind_token, step_at, found_at_end};
 
@@ -175,6 +176,7 @@ pub(crate) fn shorten(bytes: &mut [u8], start: usize, scan: &mut Scan) -> usize
     requires started { IsStarted bytes.old start scan.old }
     requires all { scan.old.scanned ≡ length (drop start bytes.old) }
     ensures shorter { ShortensTo (drop start bytes.old) (drop result bytes.new) }
+    ensures short { is_open_gap (drop start bytes.old) ≡ true → length (drop result bytes.new) ≤ 1 }
     ensures started { IsStarted bytes.new result scan.new }
     ensures all { scan.new.scanned ≡ length (drop result bytes.new) }
 {
@@ -189,6 +191,7 @@ pub(crate) fn shorten(bytes: &mut [u8], start: usize, scan: &mut Scan) -> usize
             *scan = Scan::in_comment();
             last
         }
-        _ => start,
+        Place::InGap | Place::InComment => start,
+        Place::InText | Place::BehindQuote | Place::InQuoted | Place::InRun => start,
     }
 }

@@ -1,7 +1,8 @@
 -- What is left out is a gap, and what a comment holds.
 use Rattle.std.proofs.Common.{◌≡◌, ◌+◌, ◌-◌, ◌<◌, length, drop, [], arith}
 use Rattle.std.proofs.lemmas.List.{drop-set, drop_all, length-drop}
-use Rattle.sb_reader.proofs.Shortening.{shortens_to_semicolon, comment_has_a_byte}
+use Rattle.sb_reader.proofs.Shortening.{shortens_to_itself, shortens_to_semicolon, comment_has_a_byte}
+use Rattle.sb_reader.proofs.Goes.{in_no_gap, no_gap_in_token, scanned_in_gap}
 use Rattle.sb_reader.proofs.scan.shorten.Goals as goal
 
 pub returns-in-InComment-clause-shorter : goal.returns-in-InComment-clause-shorter
@@ -15,3 +16,29 @@ returns-in-InComment-clause-shorter c =
     drop_all (length bytes - 1 + 1) bytes (omega (arith, a_byte)) in
     rw (drop-set bytes (length bytes - 1) 59 (omega (arith, a_byte)), none_behind)
     (shortens_to_semicolon c.args.scan.now left scan c.requires.all c.if-scan-eq0-2.true c.in-InComment.is)
+
+pub returns-in-InGap-2-clause-short : goal.returns-in-InGap-2-clause-short
+returns-in-InGap-2-clause-short c = λ alone. absurd
+    (in_no_gap c.args.scan.now.place c.args.scan.now.depth c.if-scan-eq0.false
+    (scanned_in_gap c.args.scan.now (drop c.args.start c.args.bytes.now) c.requires.started.scan_of c.requires.all
+    alone))
+
+pub returns-in-InGap-2-2-clause-short : goal.returns-in-InGap-2-2-clause-short
+returns-in-InGap-2-2-clause-short c = λ alone. absurd
+    (in_no_gap c.args.scan.now.place c.args.scan.now.depth c.if-scan-eq0-2.false
+    (scanned_in_gap c.args.scan.now (drop c.args.start c.args.bytes.now) c.requires.started.scan_of c.requires.all
+    alone))
+
+pub returns-in-InText : goal.returns-in-InText
+returns-in-InText c =
+    let bytes = c.args.bytes.now in
+    let left = drop c.args.start bytes in
+    let scan = c.args.scan.now in
+    record {
+      shorter = shortens_to_itself left;
+      short = λ alone. absurd
+          (no_gap_in_token scan.place scan.depth c.in-InText.is
+          (scanned_in_gap scan left c.requires.started.scan_of c.requires.all alone));
+      started = c.requires.started;
+      all = c.requires.all;
+    }

@@ -1,5 +1,5 @@
 -- What was scanned is shortened where no entry is whole.
-use Rattle.std.proofs.Common.{◌≡◌, ℕ, false, List, ◌++◌, length, take, drop, refl, sym, subst, rules}
+use Rattle.std.proofs.Common.{◌≡◌, ℕ, ◌≤◌, false, List, ◌++◌, length, take, drop, refl, sym, subst, rules}
 use Rattle.std.proofs.lemmas.List.{take_at}
 use Rattle.sb_reader.specs.Entries.{HoldsNoEntry}
 use Rattle.sb_reader.specs.Feeding.{ShortensTo}
@@ -17,6 +17,8 @@ returns-in_default c =
       ok = rw (← c.self.view_is) (record {
         shorter = subst (λ (bytes : List ℕ). ShortensTo (drop c.self.inside.start kept.items)
             (drop shorten.result bytes)) (sym all) (rw c.deref_mut.ensures.value at shorten.ensures.shorter);
+        short = λ alone. subst (λ (bytes : List ℕ). length (drop shorten.result bytes) ≤ 1) (sym all)
+            ((rw c.deref_mut.ensures.value at shorten.ensures.short) alone);
         more_may_come = c.if-not-self.true;
         still = c.if-not-self.true;
         no_entry = subst (λ (bytes : List ℕ). HoldsNoEntry false (drop shorten.result bytes)) (sym all)
