@@ -20,4 +20,4 @@ pub use laws::{
     beginning, entry_stays, gap_before, no_entry, one_entry, one_first_token, one_reading,
     one_script, tokens_stay,
 };
-pub use sexpr::Sexpr;
+pub use sexpr::{Sexpr, Shape, Shapes};
