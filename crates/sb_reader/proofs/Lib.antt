@@ -10,6 +10,8 @@ pub mod RunForms
 pub mod Scripts
 pub mod Shorter
 pub mod Spelled
+pub mod Laid
+pub mod Laying
 pub mod Stack
 pub mod Growing
 pub mod Comments

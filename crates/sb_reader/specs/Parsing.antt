@@ -1,58 +1,115 @@
--- Private: what the parser keeps while it reads the tokens of a form: for private contracts alone.
-use Rattle.std.specs.Prelude.{◌≡◌, ℕ, ◌+◌, Bool, true, false, ◌&&◌, List, [], ◌∷◌, ◌++◌, Option, Some, None, Result, MatchResult, map, length}
+-- Private: how forms lie in memory, and what the parser keeps while it reads the tokens of a form: for private
+-- contracts alone.
+use Rattle.std.specs.Prelude.{◌≡◌, ℕ, Bool, true, false, ◌&&◌, List, [], ◌∷◌, ◌++◌, Option, Some, None, Result, MatchResult, length}
 use Rattle.sb_reader.specs.declared.feed.Refusal.{Refusal}
 use Rattle.sb_reader.specs.Entries.{Refused, Spells, IsCommand, IsEntry, closes_at_end}
 use Rattle.sb_reader.specs.declared.sexpr.Sexpr.{Sexpr}
+use Rattle.sb_reader.specs.declared.sexpr.Node.{Node}
+use Rattle.sb_reader.specs.declared.sexpr.Node.TheVariants as node
+use Rattle.sb_reader.specs.declared.sexpr.Kind.TheVariants as kind
+use Rattle.sb_reader.specs.declared.parse.Atom.{Atom}
+use Rattle.sb_reader.specs.declared.parse.Mark.{Mark}
 use Rattle.sb_reader.specs.declared.parse.OpenLists.{OpenLists}
-use Rattle.sb_reader.specs.Tokens.{Token, Open, Close, is_bad}
-use Rattle.sb_reader.specs.Forms.{Form, Forms, Group, tokens_of, tokens_of_all, has_kinds, have_kinds, form_of, forms_in}
+use Rattle.sb_reader.specs.Tokens.{Token, Open, is_bad}
+use Rattle.sb_reader.specs.Forms.{Form, Forms, Symbol, QuotedSymbol, Keyword, Numeral, OtherNumber, Words, Group, none, more, tokens_of, tokens_of_all, has_kinds, have_kinds, atom_of, form_of}
 
--- the tokens of lists that are open, the outermost first
-abbrev pub open_tokens : List (List Sexpr) → List Token
-open_tokens [] = []
-open_tokens (list ∷ lists) = Open ∷ (tokens_of_all (forms_in list) ++ open_tokens lists)
+-- the bytes of the atoms of a form
+abbrev mutual
+  pub bytes_of : Form → List ℕ
+  bytes_of (Symbol name) = name
+  bytes_of (QuotedSymbol name) = name
+  bytes_of (Keyword name) = name
+  bytes_of (Numeral digits) = digits
+  bytes_of (OtherNumber bytes) = bytes
+  bytes_of (Words bytes) = bytes
+  bytes_of (Group forms) = bytes_of_all forms
 
--- each atom in them is of its kind
-abbrev pub open_kinds : List (List Sexpr) → Bool
-open_kinds [] = true
-open_kinds (list ∷ lists) = have_kinds (forms_in list) && open_kinds lists
+  pub bytes_of_all : Forms → List ℕ
+  bytes_of_all none = []
+  bytes_of_all (more form forms) = bytes_of form ++ bytes_of_all forms
 
--- the lists, the outermost first
-abbrev pub lists_of : OpenLists → List (List Sexpr)
-lists_of lists = map (λ list. list.items) lists.outer.items ++ lists.inner.items ∷ []
+-- the nodes of a form
+abbrev mutual
+  pub nodes_of : Form → List Node
+  nodes_of (Symbol name) = node.Atom kind.Symbol (length name) ∷ []
+  nodes_of (QuotedSymbol name) = node.Atom kind.QuotedSymbol (length name) ∷ []
+  nodes_of (Keyword name) = node.Atom kind.Keyword (length name) ∷ []
+  nodes_of (Numeral digits) = node.Atom kind.Numeral (length digits) ∷ []
+  nodes_of (OtherNumber bytes) = node.Atom kind.OtherNumber (length bytes) ∷ []
+  nodes_of (Words bytes) = node.Atom kind.Text (length bytes) ∷ []
+  nodes_of (Group forms) = node.List (length (nodes_of_all forms)) (length (bytes_of_all forms)) ∷ nodes_of_all forms
 
-abbrev pub read_tokens : OpenLists → List Token
-read_tokens lists = open_tokens (lists_of lists)
+  pub nodes_of_all : Forms → List Node
+  nodes_of_all none = []
+  nodes_of_all (more form forms) = nodes_of form ++ nodes_of_all forms
 
-abbrev pub depth_of : OpenLists → ℕ
-depth_of lists = length (lists_of lists)
+-- with one form more at the end
+abbrev pub pushed : Forms → Form → Forms
+pushed none form = more form none
+pushed (more first forms) form = more first (pushed forms form)
 
-abbrev pub is_kind : OpenLists → Bool
-is_kind lists = open_kinds (lists_of lists)
+-- The lists that are open, the innermost first, each with the forms that it has so far: their tokens,
+abbrev pub read_tokens : List Forms → List Token
+read_tokens [] = []
+read_tokens (forms ∷ outer) = read_tokens outer ++ Open ∷ tokens_of_all forms
 
--- More tokens are read, and kinds stay right.
-pub record Gains (tokens : List Token) (old new : OpenLists) : Type 0 where
-  pub appended : read_tokens new ≡ read_tokens old ++ tokens
-  pub kinds : is_kind old ≡ true → is_kind new ≡ true
+-- that each atom in them is of its kind,
+abbrev pub are_kinds : List Forms → Bool
+are_kinds [] = true
+are_kinds (forms ∷ outer) = have_kinds forms && are_kinds outer
 
--- a form that the outermost list has become
-pub record Closes (old : OpenLists) (form : Form) : Type 0 where
+-- their nodes, where that of an open list has no numbers yet,
+abbrev pub open_nodes : List Forms → List Node
+open_nodes [] = []
+open_nodes (forms ∷ outer) = open_nodes outer ++ node.List 0 0 ∷ nodes_of_all forms
+
+-- their bytes,
+abbrev pub open_bytes : List Forms → List ℕ
+open_bytes [] = []
+open_bytes (forms ∷ outer) = open_bytes outer ++ bytes_of_all forms
+
+-- and where each begins
+abbrev pub open_marks : List Forms → List Mark
+open_marks [] = []
+open_marks (forms ∷ outer) =
+    open_marks outer ++ record { node = length (open_nodes outer); byte = length (open_bytes outer) } ∷ []
+
+-- the lists lie in memory
+pub record IsLaid (lists : OpenLists) (levels : List Forms) : Type 0 where
+  pub nodes : lists.nodes.items ≡ open_nodes levels
+  pub bytes : lists.bytes.items ≡ open_bytes levels
+  pub marks : lists.marks.items ≡ open_marks levels
+
+-- some list is open
+pub record IsOpen (lists : OpenLists) : Type 0 where
   pub forms : Forms
-  pub list : form ≡ Group forms
-  pub tokens_are : tokens_of form ≡ read_tokens old ++ Close ∷ []
-  pub outermost : depth_of old ≡ 1
-  pub kinds : is_kind old ≡ true → has_kinds form ≡ true
+  pub outer : List Forms
+  pub laid : IsLaid lists (forms ∷ outer)
+
+-- the outermost list has become a form
+pub record IsClosed (lists : OpenLists) (forms : Forms) (outer : List Forms) : Type 0 where
+  pub outermost : outer ≡ []
+  pub nodes : lists.nodes.items ≡ nodes_of (Group forms)
+  pub bytes : lists.bytes.items ≡ bytes_of (Group forms)
+
+-- the innermost list is a form of the one around it
+pub record IsInside (lists : OpenLists) (forms : Forms) (outer : List Forms) : Type 0 where
+  pub around : Forms
+  pub others : List Forms
+  pub outer_is : outer ≡ around ∷ others
+  pub laid : IsLaid lists (pushed around (Group forms) ∷ others)
 
 -- what closing the innermost list gives
-abbrev pub AfterClose : Option Sexpr → OpenLists → OpenLists → Type 0
-AfterClose None old new = Gains (Close ∷ []) old new × (depth_of old ≡ depth_of new + 1)
-AfterClose (Some form) old new = Closes old (form_of form)
+abbrev pub AfterClose : Bool → Forms → List Forms → OpenLists → Type 0
+AfterClose true forms outer lists = IsClosed lists forms outer
+AfterClose false forms outer lists = IsInside lists forms outer
 
 -- an atom of a token, or none where the token is bad
-abbrev pub IsAtom : Option Sexpr → Token → Type 0
+abbrev pub IsAtom : Option Atom → Token → Type 0
 IsAtom None token = is_bad token ≡ true
-IsAtom (Some sexpr) token = (is_bad token ≡ false) × (tokens_of (form_of sexpr) ≡ token ∷ [])
-    × (has_kinds (form_of sexpr) ≡ true)
+IsAtom (Some atom) token = (is_bad token ≡ false)
+    × (tokens_of (atom_of atom.kind atom.bytes.now) ≡ token ∷ [])
+    × (has_kinds (atom_of atom.kind atom.bytes.now) ≡ true)
 
 -- The tokens behind the first parenthesis of a form, up to the one that closes it.
 pub record IsTail (tokens : List Token) (bytes : List ℕ) : Type 0 where

@@ -21,4 +21,4 @@ pub use laws::{
     beginning, entry_stays, no_entry, one_entry, one_first_token, one_reading, one_script,
     shortened, tokens_stay,
 };
-pub use sexpr::Sexpr;
+pub use sexpr::{Sexpr, Shape, Shapes};

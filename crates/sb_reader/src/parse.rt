@@ -1,81 +1,123 @@
 //! From the bytes of one entry to its form, or to its first fault.
 
-ghost use Rattle.std.specs.Prelude.{◌≡◌, ◌+◌, ◌==◌, ◌&&◌, not, nat_le, true, false, List, [], ◌∷◌, IfOk, OnOk, MatchResult, IsSomeAnd};
+ghost use Rattle.std.specs.Prelude.{◌≡◌, ◌==◌, ◌&&◌, not, nat_le, true, false, List, [], ◌∷◌, length, IfOk, OnOk, MatchResult, IsSomeAnd};
 ghost use Rattle.sb_reader.specs.Tokens.{Token, Open, Close, Text, Quoted, Run, all_pass, is_bad_byte};
-ghost use Rattle.sb_reader.specs.Forms.{form_of, tokens_of, has_kinds};
+ghost use Rattle.sb_reader.specs.Forms.{Forms, none, atom_of, form_of};
 ghost use Rattle.sb_reader.specs.Entries.{Spells, IsCommand, IsEntry, Refused, is_parenthesis, depth_limit};
 ghost use Rattle.sb_reader.specs.OneEntry.{IsOneEntry, is_one_entry};
 ghost use Rattle.sb_reader.specs.Lexing.{token_of};
-ghost use Rattle.sb_reader.specs.Parsing.{read_tokens, depth_of, is_kind, Gains, AfterClose, IsAtom, IsTail, IsParsed};
+ghost use Rattle.sb_reader.specs.Parsing.{pushed, IsLaid, IsOpen, AfterClose, IsAtom, IsTail, IsParsed};
 
 use crate::feed::Refusal;
 use crate::kind::{is_decimal, is_hexadecimal_or_binary, is_keyword, is_numeral, is_simple_symbol};
-use crate::sexpr::Sexpr;
+use crate::sexpr::{Kind, Node, Sexpr};
 use crate::token::{Lexeme, is_bad_byte, next_token};
 use std::alloc::{AllocError, Global};
-use std::mem;
 
 /// How deep parentheses may be nested.
 const DEPTH_LIMIT: usize = 512;
 
-/// The lists that are open: the forms that each has so far, the innermost list apart.
+/// An atom by its kind and its bytes.
+#[derive(Clone, Copy)]
+struct Atom<'a> {
+    kind: Kind,
+    bytes: &'a [u8],
+}
+
+/// Where a list that is open begins: the place of its node, and how many bytes are kept before it.
+#[derive(Clone, Copy)]
+struct Mark {
+    node: usize,
+    byte: usize,
+}
+
+/// A form that is read in part, with the places where the lists that are open begin, the innermost last.
 #[derive(Drop)]
 struct OpenLists {
-    outer: Vec<Vec<Sexpr>>,
-    inner: Vec<Sexpr>,
+    nodes: Vec<Node>,
+    bytes: Vec<u8>,
+    marks: Vec<Mark>,
+}
+
+/// The number, where it fits. A form of four billion bytes or parts is answered as one that memory has no room for.
+fn narrow(number: usize) -> Result<u32, AllocError>
+    ensures { IfOk result (λ n. n ≡ number) }
+{
+    match u32::try_from(number) {
+        Ok(number) => Ok(number),
+        Err(_) => Err(AllocError),
+    }
 }
 
 impl OpenLists {
     /// One list, without a form.
-    fn new(alloc: Global) -> OpenLists
-        ensures tokens { read_tokens result ≡ Open ∷ [] }
-        ensures depth { depth_of result ≡ 1 }
-        ensures kinds { is_kind result ≡ true }
+    fn new(alloc: Global) -> Result<OpenLists, AllocError>
+        ensures { IfOk result (λ lists. IsLaid lists (none ∷ [])) }
     {
-        OpenLists {
-            outer: Vec::new(alloc),
-            inner: Vec::new(alloc),
-        }
+        let mut lists = OpenLists {
+            nodes: Vec::new(alloc),
+            bytes: Vec::new(alloc),
+            marks: Vec::new(alloc),
+        };
+        lists.open()?;
+        Ok(lists)
     }
 
     /// As many lists are open as may be.
     fn is_full(&self) -> bool
-        ensures { result ≡ nat_le depth_limit (depth_of self.now) }
+        ensures { (levels : List Forms) → IsLaid self.now levels → result ≡ nat_le depth_limit (length levels) }
     {
-        self.outer.len() >= DEPTH_LIMIT - 1
+        self.marks.len() >= DEPTH_LIMIT
     }
 
-    /// Adds a form to the innermost list.
-    fn push(&mut self, form: Sexpr) -> Result<(), AllocError>
-        requires { has_kinds (form_of form) ≡ true }
-        ensures gains { OnOk result (Gains (tokens_of (form_of form)) self.old self.new) }
-        ensures depth { depth_of self.new ≡ depth_of self.old }
+    /// Adds an atom to the innermost list.
+    fn push(&mut self, atom: Atom) -> Result<(), AllocError>
+        ensures { (forms : Forms) (outer : List Forms) → IsLaid self.old (forms ∷ outer)
+            → OnOk result (IsLaid self.new (pushed forms (atom_of atom.entry.kind atom.entry.bytes.now) ∷ outer)) }
     {
-        self.inner.push(form)?;
+        let length = narrow(atom.bytes.len())?;
+        self.nodes.push(Node::Atom(atom.kind, length))?;
+        self.bytes.extend_from_slice(atom.bytes)?;
         Ok(())
     }
 
     /// Opens a list in the innermost one.
-    fn open(&mut self, alloc: Global) -> Result<(), AllocError>
-        ensures gains { OnOk result (Gains (Open ∷ []) self.old self.new) }
-        ensures depth { OnOk result (depth_of self.new ≡ depth_of self.old + 1) }
+    fn open(&mut self) -> Result<(), AllocError>
+        ensures { (levels : List Forms) → IsLaid self.old levels → OnOk result (IsLaid self.new (none ∷ levels)) }
     {
-        let list = mem::replace(&mut self.inner, Vec::new(alloc));
-        self.outer.push(list)?;
+        let mark = Mark {
+            node: self.nodes.len(),
+            byte: self.bytes.len(),
+        };
+        self.marks.push(mark)?;
+        self.nodes.push(Node::List(0, 0))?;
         Ok(())
     }
 
-    /// Closes the innermost list. Where it is the last, it is the answer.
-    fn close(&mut self, alloc: Global) -> Result<Option<Sexpr>, AllocError>
-        ensures { IfOk result (λ form. AfterClose form self.old self.new) }
+    /// Closes the innermost list, and tells whether it is the last that was open.
+    fn close(&mut self) -> Result<bool, AllocError>
+        requires { IsOpen self.old }
+        ensures { (forms : Forms) (outer : List Forms) → IsLaid self.old (forms ∷ outer)
+            → IfOk result (λ last. AfterClose last forms outer self.new) }
     {
-        let form = Sexpr::List(mem::replace(&mut self.inner, Vec::new(alloc)));
-        let Some(list) = self.outer.pop() else {
-            return Ok(Some(form));
+        let Some(mark) = self.marks.pop() else {
+            unreachable!();
         };
-        self.inner = list;
-        self.inner.push(form)?;
-        Ok(None)
+        let count = narrow(self.nodes.len() - mark.node - 1)?;
+        let length = narrow(self.bytes.len() - mark.byte)?;
+        self.nodes[mark.node] = Node::List(count, length);
+        Ok(self.marks.is_empty())
+    }
+
+    /// The form, where no list is open.
+    fn into_form(self) -> Sexpr
+        ensures nodes { result.nodes ≡ self.nodes }
+        ensures bytes { result.bytes ≡ self.bytes }
+    {
+        Sexpr {
+            nodes: self.nodes,
+            bytes: self.bytes,
+        }
     }
 }
 
@@ -91,50 +133,56 @@ fn all_good_unescaped(bytes: &[u8]) -> bool
     bytes.iter().all(|b| !is_bad_byte(*b) && *b != b'\\')
 }
 
-fn text_form(alloc: Global, text: &[u8]) -> Result<Option<Sexpr>, AllocError>
-    ensures { IfOk result (λ form. IsAtom form (Text text.now)) }
+fn text_atom(bytes: &[u8]) -> Option<Atom<'_>>
+    ensures { IsAtom result (Text bytes.now) }
 {
-    if !all_good(text) {
-        return Ok(None);
+    if !all_good(bytes) {
+        return None;
     }
-    Ok(Some(Sexpr::Text(text.to_vec(alloc)?)))
+    let kind = Kind::Text;
+    Some(Atom { kind, bytes })
 }
 
-fn quoted_form(alloc: Global, name: &[u8]) -> Result<Option<Sexpr>, AllocError>
-    ensures { IfOk result (λ form. IsAtom form (Quoted name.now)) }
+fn quoted_atom(bytes: &[u8]) -> Option<Atom<'_>>
+    ensures { IsAtom result (Quoted bytes.now) }
 {
-    if !all_good_unescaped(name) {
-        return Ok(None);
+    if !all_good_unescaped(bytes) {
+        return None;
     }
-    Ok(Some(Sexpr::QuotedSymbol(name.to_vec(alloc)?)))
+    let kind = Kind::QuotedSymbol;
+    Some(Atom { kind, bytes })
 }
 
-fn run_form(alloc: Global, run: &[u8]) -> Result<Option<Sexpr>, AllocError>
-    ensures { IfOk result (λ form. IsAtom form (Run run.now)) }
+fn run_atom(bytes: &[u8]) -> Option<Atom<'_>>
+    ensures { IsAtom result (Run bytes.now) }
 {
-    if is_numeral(run) {
-        Ok(Some(Sexpr::Numeral(run.to_vec(alloc)?)))
-    } else if is_decimal(run) || is_hexadecimal_or_binary(run) {
-        Ok(Some(Sexpr::OtherNumber(run.to_vec(alloc)?)))
-    } else if is_simple_symbol(run) {
-        Ok(Some(Sexpr::Symbol(run.to_vec(alloc)?)))
-    } else if is_keyword(run) {
-        Ok(Some(Sexpr::Keyword(run.to_vec(alloc)?)))
+    if is_numeral(bytes) {
+        let kind = Kind::Numeral;
+        Some(Atom { kind, bytes })
+    } else if is_decimal(bytes) || is_hexadecimal_or_binary(bytes) {
+        let kind = Kind::OtherNumber;
+        Some(Atom { kind, bytes })
+    } else if is_simple_symbol(bytes) {
+        let kind = Kind::Symbol;
+        Some(Atom { kind, bytes })
+    } else if is_keyword(bytes) {
+        let kind = Kind::Keyword;
+        Some(Atom { kind, bytes })
     } else {
-        Ok(None)
+        None
     }
 }
 
-/// The form of a token that is no parenthesis, or `None` where the token is bad.
-fn atom(alloc: Global, lexeme: Lexeme) -> Result<Option<Sexpr>, AllocError>
+/// The atom of a token that is no parenthesis, or `None` where the token is bad.
+fn read_atom(lexeme: Lexeme) -> Option<Atom>
     requires { is_parenthesis (token_of lexeme) ≡ false }
-    ensures { IfOk result (λ form. IsAtom form (token_of lexeme.entry)) }
+    ensures { IsAtom result (token_of lexeme.entry) }
 {
     match lexeme {
         Lexeme::Open | Lexeme::Close => unreachable!(),
-        Lexeme::Text(text) => text_form(alloc, text),
-        Lexeme::Quoted(name) => quoted_form(alloc, name),
-        Lexeme::Run(run) => run_form(alloc, run),
+        Lexeme::Text(text) => text_atom(text),
+        Lexeme::Quoted(name) => quoted_atom(name),
+        Lexeme::Run(run) => run_atom(run),
     }
 }
 
@@ -144,7 +192,7 @@ fn parse_list(alloc: Global, bytes: &[u8]) -> Result<Option<Result<Sexpr, Refusa
     ensures { IfOk result (λ parsed. (tokens : List Token) → IsTail tokens bytes.now
         → IsSomeAnd parsed (λ p. IsParsed p (Open ∷ tokens))) }
 {
-    let mut lists = OpenLists::new(alloc);
+    let mut lists = OpenLists::new(alloc)?;
     let mut rest = bytes;
     while let Some((lexeme, behind)) = next_token(rest) {
         match lexeme {
@@ -152,18 +200,18 @@ fn parse_list(alloc: Global, bytes: &[u8]) -> Result<Option<Result<Sexpr, Refusa
                 if lists.is_full() {
                     return Ok(Some(Err(Refusal::TooDeep)));
                 }
-                lists.open(alloc)?;
+                lists.open()?;
             }
             Lexeme::Close => {
-                if let Some(form) = lists.close(alloc)? {
-                    return Ok(Some(Ok(form)));
+                if lists.close()? {
+                    return Ok(Some(Ok(lists.into_form())));
                 }
             }
             _ => {
-                let Some(form) = atom(alloc, lexeme)? else {
+                let Some(atom) = read_atom(lexeme) else {
                     return Ok(Some(Err(Refusal::BadToken)));
                 };
-                lists.push(form)?;
+                lists.push(atom)?;
             }
         }
         rest = behind;
@@ -182,7 +230,7 @@ fn parse_first(alloc: Global, bytes: &[u8]) -> Result<Option<Result<Sexpr, Refus
     match lexeme {
         Lexeme::Open => parse_list(alloc, rest),
         Lexeme::Close => Ok(Some(Err(Refusal::StrayClose))),
-        _ => match atom(alloc, lexeme)? {
+        _ => match read_atom(lexeme) {
             Some(_) => Ok(Some(Err(Refusal::BareToken))),
             None => Ok(Some(Err(Refusal::BadToken))),
         },

@@ -3,7 +3,7 @@
 ghost use Rattle.std.specs.Prelude.{◌≡◌, ◌<◌, ◌≤◌, false, length};
 
 use crate::bytes::push_bytes;
-use sb_reader::{Ending, Feed, Next, Refusal, Sexpr};
+use sb_reader::{Ending, Feed, Next, Refusal, Sexpr, Shape, Shapes};
 use std::alloc::{AllocError, Global};
 use std::process::Abort;
 use std::test::Fail;
@@ -112,21 +112,60 @@ fn push_marked(out: &mut String, mark: &str, bytes: &[u8]) -> Result<(), AllocEr
     push_bytes(out, bytes)
 }
 
-fn push_form(out: &mut String, form: &Sexpr) -> Result<(), AllocError> {
-    match form {
-        Sexpr::Symbol(name) | Sexpr::Keyword(name) => push_bytes(out, name),
-        Sexpr::QuotedSymbol(name) => push_quoted(out, "|", name),
-        Sexpr::Numeral(digits) => push_marked(out, "'", digits),
-        Sexpr::OtherNumber(bytes) => push_marked(out, "#", bytes),
-        Sexpr::Text(bytes) => push_quoted(out, "\"", bytes),
-        Sexpr::List(forms) => {
+/// How many steps the printing of a form takes at most.
+const MOST_STEPS: usize = 10_000;
+
+fn push_atom(out: &mut String, shape: Shape<'_>) -> Result<(), AllocError> {
+    match shape {
+        Shape::Symbol(name) | Shape::Keyword(name) => push_bytes(out, name),
+        Shape::QuotedSymbol(name) => push_quoted(out, "|", name),
+        Shape::Numeral(digits) => push_marked(out, "'", digits),
+        Shape::OtherNumber(bytes) => push_marked(out, "#", bytes),
+        Shape::Text(bytes) => push_quoted(out, "\"", bytes),
+        Shape::List(_) => Ok(()),
+    }
+}
+
+/// Writes a form, and leaves the forms that a list has on the open lists.
+fn push_shape<'a>(
+    out: &mut String,
+    open: &mut Vec<Shapes<'a>>,
+    shape: Shape<'a>,
+) -> Result<(), AllocError> {
+    match shape {
+        Shape::List(forms) => {
             out.push_str("(")?;
-            for form in forms {
-                push_form(out, form)?;
-            }
-            out.push_str(")")
+            open.push(forms)?;
+            Ok(())
+        }
+        _ => push_atom(out, shape),
+    }
+}
+
+/// Writes what is next in the open lists. False where none is open.
+fn push_next<'a>(out: &mut String, open: &mut Vec<Shapes<'a>>) -> Result<bool, AllocError> {
+    let Some(forms) = open.pop() else {
+        return Ok(false);
+    };
+    match forms.split_first() {
+        Some((first, others)) => {
+            open.push(others)?;
+            push_shape(out, open, first)?;
+        }
+        None => out.push_str(")")?,
+    }
+    Ok(true)
+}
+
+fn push_form(alloc: Global, out: &mut String, form: &Sexpr) -> Result<(), AllocError> {
+    let mut open = Vec::new(alloc);
+    push_shape(out, &mut open, form.shape())?;
+    for _ in 0..MOST_STEPS {
+        if !push_next(out, &mut open)? {
+            break;
         }
     }
+    Ok(())
 }
 
 fn name_of(refusal: Refusal) -> &'static str {
@@ -139,10 +178,10 @@ fn name_of(refusal: Refusal) -> &'static str {
 }
 
 /// Writes an answer, and says whether it is an entry.
-fn push_answer(out: &mut String, answer: &Next) -> Result<bool, AllocError> {
+fn push_answer(alloc: Global, out: &mut String, answer: &Next) -> Result<bool, AllocError> {
     match answer {
         Next::Command(form) => {
-            push_form(out, form)?;
+            push_form(alloc, out, form)?;
             out.push_str(" ")?;
         }
         Next::Refused(refusal) => out.push_str(name_of(*refusal))?,
@@ -160,12 +199,12 @@ fn push_answer(out: &mut String, answer: &Next) -> Result<bool, AllocError> {
 }
 
 /// Writes the answers that a feed has now.
-fn push_answers(out: &mut String, feed: &mut Feed) -> Result<(), AllocError>
+fn push_answers(alloc: Global, out: &mut String, feed: &mut Feed) -> Result<(), AllocError>
     ensures { feed.new.1 ≡ feed.old.1 }
 {
     for _ in 0..9 {
         let answer = feed.next()?;
-        if !push_answer(out, &answer)? {
+        if !push_answer(alloc, out, &answer)? {
             return Ok(());
         }
     }
@@ -174,6 +213,7 @@ fn push_answers(out: &mut String, feed: &mut Feed) -> Result<(), AllocError>
 
 /// Takes a script in two pieces, the second in pieces of so many bytes, and writes the answers.
 fn take(
+    alloc: Global,
     out: &mut String,
     feed: &mut Feed,
     script: &[u8],
@@ -185,13 +225,13 @@ fn take(
     requires size { 0 < size }
 {
     feed.push(&script[..cut])?;
-    push_answers(out, feed)?;
+    push_answers(alloc, out, feed)?;
     for piece in script[cut..].chunks(size) {
         feed.push(piece)?;
-        push_answers(out, feed)?;
+        push_answers(alloc, out, feed)?;
     }
     feed.finish();
-    push_answers(out, feed)
+    push_answers(alloc, out, feed)
 }
 
 /// The answers to a script that comes in two pieces, the second in pieces of so many bytes, are the wanted ones.
@@ -207,7 +247,7 @@ fn expect_pieces(
     requires size { 0 < size }
 {
     let mut out = String::new(alloc);
-    take(&mut out, &mut Feed::new(alloc), script, cut, size)?;
+    take(alloc, &mut out, &mut Feed::new(alloc), script, cut, size)?;
     assert_eq!(rt; out.as_str(), wanted, "cut at {cut}, then by {size}");
     Ok(())
 }
@@ -285,7 +325,7 @@ fn expect_waits(rt: &impl Abort, feed: &mut Feed) -> Result<(), AllocError>
     assert!(rt; matches!(answer, Next::NotYet));
     feed.push(b" |c d| \"x\"\"y\")")?;
     let answer = feed.next()?;
-    assert!(rt; matches!(answer, Next::Command(Sexpr::List(_))));
+    assert!(rt; matches!(answer, Next::Command(_)));
     let answer = feed.next()?;
     assert!(rt; matches!(answer, Next::NotYet));
     feed.finish();

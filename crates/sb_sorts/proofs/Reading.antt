@@ -1,8 +1,7 @@
 -- Reading of lists: what a list begins with, and its arguments one by one.
-use Rattle.std.proofs.Common.{◌≡◌, ℕ, zero, suc, ◌+◌, ◌<◌, ◌≤◌, Bool, true, false, if◌then◌else◌, List, [], ◌∷◌, ◌++◌, length, take, drop, get_or, ◌-◌, codes, Result, Ok, Err, sym, refl, ap, subst, ◌∙◌, arith, append_assoc}
-use Rattle.std.proofs.lemmas.List.{drop_more, map-append}
-use Rattle.sb_reader.specs.declared.sexpr.Sexpr.{Sexpr}
-use Rattle.sb_reader.specs.Forms.{Form, Forms, Symbol, QuotedSymbol, Keyword, Numeral, OtherNumber, Words, Group, none, more, form_of, forms_in}
+use Rattle.std.proofs.Common.{◌≡◌, ℕ, zero, suc, ◌<◌, ◌≤◌, Bool, true, false, if◌then◌else◌, List, [], ◌∷◌, ◌++◌, length, codes, Result, Ok, Err, sym, refl, ap, subst, ◌∙◌, arith, append_assoc}
+use Rattle.std.proofs.lemmas.List.{map-append}
+use Rattle.sb_reader.specs.Forms.{Form, Forms, Symbol, QuotedSymbol, Keyword, Numeral, OtherNumber, Words, Group, none, more}
 use Rattle.sb_script.specs.Names.{is_name, is_reserved}
 use Rattle.sb_script.specs.Scopes.{Naming}
 use Rattle.sb_meaning.specs.Terms as meaning
@@ -16,6 +15,7 @@ use Rattle.sb_sorts.specs.declared.read.ReadFault.TheVariants as fault
 use Rattle.sb_sorts.specs.Growth.{Grows, AreRead}
 use Rattle.sb_sorts.specs.Reads.{ReadsAs, Faults}
 use Rattle.sb_sorts.specs.Heads.{Beginning, whole, takes, beginning_of}
+use Rattle.sb_sorts.proofs.Sizes.{size_of_all, size_of_more}
 
 -- how a table grows
 pub grows_same : (n : ℕ) (ts : List meaning.Term) → Grows n ts ts
@@ -90,23 +90,17 @@ list_begun : (names : List Naming) (first : Form) (others : Forms)
 list_begun names first none = one_form names first
 list_begun names first (more second rest) = begins_list names first second rest
 
--- a list in memory, by its first form and the others
-pub list_split : (names : List Naming) (forms others : List Sexpr) (first : Sexpr) → 1 ≤ length forms
-    → first ≡ get_or forms 0 first → others ≡ drop 1 forms
-    → read_list names (forms_in forms)
-    ≡ (beginning_of names (form_of first) (forms_in others) >>= finished names (forms_in others))
-list_split names [] others first some is behind = absurd (omega arith)
-list_split names (form ∷ forms) others first some is behind =
-    list_begun names (form_of form) (forms_in forms)
-    ∙ ap (λ f. beginning_of names (form_of f) (forms_in forms) >>= finished names (forms_in forms)) (sym is)
-    ∙ ap (λ fs. beginning_of names (form_of first) (forms_in fs) >>= finished names (forms_in fs)) (sym behind)
+-- a list, by its first form and the others
+pub list_split : (names : List Naming) (forms others : Forms) (first : Form) → forms ≡ more first others
+    → read_list names forms ≡ (beginning_of names first others >>= finished names others)
+list_split names forms others first is = ap (read_list names) is ∙ list_begun names first others
 
 -- the numbers that were read so far, and what is left to read
-pub record HasRead (names : List Naming) (n : ℕ) (start : List meaning.Term) (forms : List Sexpr)
-    (ts : List meaning.Term) (ids : List ℕ) (left : List Sexpr) : Type 0
+pub record HasRead (names : List Naming) (n : ℕ) (start : List meaning.Term) (forms : Forms)
+    (ts : List meaning.Term) (ids : List ℕ) (left : Forms) : Type 0
   where
-    pub whole : read_all names (forms_in forms)
-        ≡ (read_all names (forms_in left) >>= (λ us. Ok (terms_at ts ids ++ us)))
+    pub whole : read_all names forms ≡ (read_all names left >>= (λ us. Ok (terms_at ts ids ++ us)))
+    pub no_larger : size_of_all left ≤ size_of_all forms
     pub numbers : AllNumbers ts ids
     pub grows : Grows n start ts
 
@@ -114,10 +108,11 @@ none_before : (reading : Result (List meaning.Term) Fault) → reading ≡ (read
 none_before (Ok us) = refl
 none_before (Err fault) = refl
 
-pub has_read_none : (names : List Naming) (n : ℕ) (start : List meaning.Term) (forms : List Sexpr)
+pub has_read_none : (names : List Naming) (n : ℕ) (start : List meaning.Term) (forms : Forms)
     → HasRead names n start forms start [] forms
 has_read_none names n start forms = record {
-  whole = none_before (read_all names (forms_in forms));
+  whole = none_before (read_all names forms);
+  no_larger = omega arith;
   numbers = λ k d l. absurd (omega arith);
   grows = grows_same n start;
 }
@@ -136,87 +131,73 @@ numbers_push ts (i ∷ ids) id all here zero d l = all 0 0 (omega arith)
 numbers_push ts (i ∷ ids) id all here (suc k) d l =
     numbers_push ts ids id (λ j e m. all (suc j) e (omega (arith, m))) here k d (omega arith)
 
-module _ (names : List Naming) (n : ℕ) (start : List meaning.Term) (forms : List Sexpr) (ts : List meaning.Term)
-    (ids : List ℕ) (form : Sexpr) (left : List Sexpr)
-    (so_far : HasRead names n start forms ts ids (form ∷ left)) where
+module _ (names : List Naming) (n : ℕ) (start : List meaning.Term) (forms : Forms) (ts : List meaning.Term)
+    (ids : List ℕ) (all left : Forms) (form : Form) (so_far : HasRead names n start forms ts ids all)
+    (split : all ≡ more form left) where
   -- one more form was read
   pub reads_one : (us : List meaning.Term) (id : ℕ) (more_ids : List ℕ)
-      → (read names (form_of form) ≡ Ok (term_at us id)) × (id < length us) → Grows n ts us → more_ids ≡ ids ++ id ∷ []
+      → (read names form ≡ Ok (term_at us id)) × (id < length us) → Grows n ts us → more_ids ≡ ids ++ id ∷ []
       → HasRead names n start forms us more_ids left
   reads_one us id more_ids reading grows pushed_is =
-      let rest = read_all names (forms_in left) in
-      let here_is = ap (λ r. (r >>= (λ t. rest >>= (λ vs. Ok (t ∷ vs)))) >>= (λ vs. Ok (terms_at ts ids ++ vs)))
-      reading.0 in
-      let all : terms_at us (ids ++ id ∷ []) ≡ terms_at ts ids ++ term_at us id ∷ [] =
+      let rest = read_all names left in
+      let here_is = ap (λ fs. read_all names fs >>= (λ vs. Ok (terms_at ts ids ++ vs))) split
+      ∙ ap (λ r. (r >>= (λ t. rest >>= (λ vs. Ok (t ∷ vs)))) >>= (λ vs. Ok (terms_at ts ids ++ vs))) reading.0 in
+      let terms : terms_at us (ids ++ id ∷ []) ≡ terms_at ts ids ++ term_at us id ∷ [] =
       map-append (term_at us) ids (id ∷ [])
       ∙ ap (λ vs. vs ++ term_at us id ∷ []) (ats_kept ts us ids grows.extends so_far.numbers) in
       subst (λ is. HasRead names n start forms us is left) (sym pushed_is) (record {
         whole = so_far.whole ∙ here_is ∙ pushed (terms_at ts ids) (term_at us id) rest
-            ∙ ap (λ done. rest >>= (λ vs. Ok (done ++ vs))) (sym all);
+            ∙ ap (λ done. rest >>= (λ vs. Ok (done ++ vs))) (sym terms);
+        no_larger = omega (arith, so_far.no_larger, size_of_more all form left split);
         numbers = numbers_push us ids id (numbers_kept ts us ids grows.extends so_far.numbers) reading.1;
         grows = grows_more n start ts us so_far.grows grows;
       })
 
-  pub reads_fault : (e : ReadFault) → Faults (read names (form_of form)) e → Faults (read_all names (forms_in forms)) e
+  pub reads_fault : (e : ReadFault) → Faults (read names form) e → Faults (read_all names forms) e
   reads_fault e h =
-      subst (λ r. Faults r e) (sym so_far.whole)
-      (faults_first (read_all names (forms_in (form ∷ left))) (λ us. Ok (terms_at ts ids ++ us)) e
-      (faults_first (read names (form_of form)) (λ t. read_all names (forms_in left) >>= (λ us. Ok (t ∷ us))) e h))
+      subst (λ r. Faults r e)
+      (sym (so_far.whole ∙ ap (λ fs. read_all names fs >>= (λ us. Ok (terms_at ts ids ++ us))) split))
+      (faults_first (read_all names (more form left)) (λ us. Ok (terms_at ts ids ++ us)) e
+      (faults_first (read names form) (λ t. read_all names left >>= (λ us. Ok (t ∷ us))) e h))
 
 append_none : (ts : List meaning.Term) → ts ++ [] ≡ ts
 append_none [] = refl
 append_none (t ∷ ts) = ap (λ us. t ∷ us) (append_none ts)
 
-pub reads_all : (names : List Naming) (n : ℕ) (start : List meaning.Term) (forms : List Sexpr)
-    (ts : List meaning.Term) (ids : List ℕ) → HasRead names n start forms ts ids []
-    → AreRead ts (read_all names (forms_in forms)) ids
-reads_all names n start forms ts ids so_far =
-    record { terms = so_far.whole ∙ ap Ok (append_none (terms_at ts ids)); numbers = so_far.numbers }
+pub reads_all : (names : List Naming) (n : ℕ) (start : List meaning.Term) (forms left : Forms)
+    (ts : List meaning.Term) (ids : List ℕ) → HasRead names n start forms ts ids left → left ≡ none
+    → AreRead ts (read_all names forms) ids
+reads_all names n start forms left ts ids so_far empty = record {
+  terms = so_far.whole ∙ ap (λ fs. read_all names fs >>= (λ us. Ok (terms_at ts ids ++ us))) empty
+      ∙ ap Ok (append_none (terms_at ts ids));
+  numbers = so_far.numbers;
+}
 
 -- the answers for a list, where what it begins with is read
-module _ (names : List Naming) (others : List Sexpr) (begun : Result Beginning Fault)
-    (reading : Result meaning.Term Fault) (split : reading ≡ (begun >>= finished names (forms_in others))) where
+module _ (names : List Naming) (others : Forms) (begun : Result Beginning Fault)
+    (reading : Result meaning.Term Fault) (split : reading ≡ (begun >>= finished names others)) where
   pub front_fault : (e : ReadFault) → Faults begun e → Faults reading e
-  front_fault e h = subst (λ r. Faults r e) (sym split) (faults_first begun (finished names (forms_in others)) e h)
+  front_fault e h = subst (λ r. Faults r e) (sym split) (faults_first begun (finished names others) e h)
 
   pub whole_list : (h : Head) (ts : List meaning.Term) (result : Result ℕ ReadFault) → begun ≡ Ok (whole h)
       → ReadsAs ts (applied_to h []) result → ReadsAs ts reading result
   whole_list h ts result is given =
-      subst (λ r. ReadsAs ts r result) (sym (split ∙ ap (λ b. b >>= finished names (forms_in others)) is)) given
+      subst (λ r. ReadsAs ts r result) (sym (split ∙ ap (λ b. b >>= finished names others) is)) given
 
-  pub argument_fault : (h : Head) (e : ReadFault) → begun ≡ Ok (takes h) → Faults (read_all names (forms_in others)) e
+  pub argument_fault : (h : Head) (e : ReadFault) → begun ≡ Ok (takes h) → Faults (read_all names others) e
       → Faults reading e
   argument_fault h e is fault =
-      subst (λ r. Faults r e) (sym (split ∙ ap (λ b. b >>= finished names (forms_in others)) is))
-      (faults_first (read_all names (forms_in others)) (applied_to h) e fault)
+      subst (λ r. Faults r e) (sym (split ∙ ap (λ b. b >>= finished names others) is))
+      (faults_first (read_all names others) (applied_to h) e fault)
 
   pub applied_list : (h : Head) (terms ts : List meaning.Term) (result : Result ℕ ReadFault) → begun ≡ Ok (takes h)
-      → read_all names (forms_in others) ≡ Ok terms → ReadsAs ts (applied_to h terms) result
+      → read_all names others ≡ Ok terms → ReadsAs ts (applied_to h terms) result
       → ReadsAs ts reading result
   applied_list h terms ts result is all given =
       subst (λ r. ReadsAs ts r result)
-      (sym (split ∙ ap (λ b. b >>= finished names (forms_in others)) is ∙ ap (λ r. r >>= applied_to h) all)) given
+      (sym (split ∙ ap (λ b. b >>= finished names others) is ∙ ap (λ r. r >>= applied_to h) all)) given
 
 -- the exit of a fault
 pub exits : (ts : List meaning.Term) (reading : Result meaning.Term Fault) (result : Result ℕ ReadFault)
     (e y : ReadFault) → result ≡ Err y → y ≡ e → Faults reading e → ReadsAs ts reading result
 exits ts reading result e y is same fault = subst (ReadsAs ts reading) (sym (is ∙ ap Err same)) fault
-
-pub rest_of : (forms : List Sexpr) → take (length forms - 1) (drop 1 forms) ≡ drop 1 forms
-rest_of [] = refl
-rest_of (form ∷ forms) = ap (λ n. take n forms) (less (length forms)) ∙ take_all forms
-  where
-    less : (n : ℕ) → suc n - 1 ≡ n
-    less n = omega arith
-
-    take_all : (xs : List Sexpr) → take (length xs) xs ≡ xs
-    take_all [] = refl
-    take_all (x ∷ xs) = ap (λ ys. x ∷ ys) (take_all xs)
-
--- what is left to read, at the form at this place
-pub next_left : (names : List Naming) (n : ℕ) (start : List meaning.Term) (forms : List Sexpr)
-    (ts : List meaning.Term) (ids : List ℕ) (i : ℕ) (form : Sexpr) → i < length forms → form ≡ get_or forms i form
-    → HasRead names n start forms ts ids (drop i forms) → HasRead names n start forms ts ids (form ∷ drop (i + 1) forms)
-next_left names n start forms ts ids i form within is so_far =
-    subst (HasRead names n start forms ts ids)
-    (drop_more forms i form within ∙ ap (λ f. f ∷ drop (i + 1) forms) (sym is)) so_far

@@ -1,11 +1,6 @@
 -- The size of a form, by which reading ends.
-use Rattle.std.proofs.Common.{◌≡◌, ℕ, zero, suc, ◌+◌, ◌≤◌, ◌<◌, List, [], ◌∷◌, length, drop, get_or, sym, refl, ap, ◌∙◌, arith}
-use Rattle.std.specs.declared.vec.Vec.{Vec}
-use Rattle.std.specs.declared.alloc.Global.{Global}
-use Rattle.sb_reader.specs.declared.sexpr.Sexpr as sexpr
-use Rattle.sb_reader.specs.declared.sexpr.Sexpr.{Sexpr}
-use Rattle.sb_reader.specs.Forms.{Form, Forms, Symbol, QuotedSymbol, Keyword, Numeral, OtherNumber, Words, Group, none, more, form_of, forms_in}
-use Rattle.sb_sorts.proofs.Shapes.{list_form}
+use Rattle.std.proofs.Common.{◌≡◌, ℕ, ◌+◌, ◌≤◌, ap, arith}
+use Rattle.sb_reader.specs.Forms.{Form, Forms, Symbol, QuotedSymbol, Keyword, Numeral, OtherNumber, Words, Group, none, more}
 
 -- how many forms there are in a form
 mutual
@@ -22,36 +17,21 @@ mutual
   size_of_all none = 0
   size_of_all (more form forms) = size form + size_of_all forms
 
-pub size_of_slice : List Sexpr → ℕ
-size_of_slice forms = size_of_all (forms_in forms)
-
-unfold_group : (forms : Forms) → size (Group forms) ≡ size_of_all forms + 1
+pub size_of_list : (form : Form) (forms : Forms) → form ≡ Group forms → size form ≡ size_of_all forms + 1
 unfolding size size_of_all
-unfold_group forms = refl
+size_of_list form forms is = ap size is
 
-unfold_more : (form : Sexpr) (forms : List Sexpr)
-    → size_of_slice (form ∷ forms) ≡ size (form_of form) + size_of_slice forms
-unfolding size size_of_all size_of_slice
-unfold_more form forms = refl
+pub size_of_more : (all : Forms) (form : Form) (forms : Forms) → all ≡ more form forms
+    → size_of_all all ≡ size form + size_of_all forms
+unfolding size size_of_all
+size_of_more all form forms is = ap size_of_all is
 
-size_of_slice_is : (forms : List Sexpr) → size_of_slice forms ≡ size_of_all (forms_in forms)
-unfolding size_of_slice
-size_of_slice_is forms = refl
-
-pub list_size : (form : Sexpr) (v : Vec Sexpr Global) (forms : List Sexpr) → form ≡ sexpr.List v → forms ≡ v.items
-    → size (form_of form) ≡ size_of_slice forms + 1
-list_size form v forms is items = ap size (list_form form v forms is items) ∙ unfold_group (forms_in forms)
-    ∙ ap (λ n. n + 1) (sym (size_of_slice_is forms))
-
-pub behind_size : (forms others : List Sexpr) → others ≡ drop 1 forms → 1 ≤ length forms
-    → size_of_slice others ≤ size_of_slice forms
-behind_size [] others is some = absurd (omega arith)
-behind_size (form ∷ forms) others is some = omega (arith, ap size_of_slice is, unfold_more form forms)
-
-pub item_size : (forms : List Sexpr) (i : ℕ) (x : Sexpr) → i < length forms → x ≡ get_or forms i x
-    → size (form_of x) ≤ size_of_slice forms
-item_size [] i x within is = absurd (omega arith)
-item_size (form ∷ forms) zero x within is = omega (arith, ap (λ f. size (form_of f)) is, unfold_more form forms)
-item_size (form ∷ forms) (suc i) x within is =
-    let less : i < length forms = omega arith in
-    omega (arith, item_size forms i x less is, unfold_more form forms)
+pub some_size : (form : Form) → 1 ≤ size form
+unfolding size size_of_all
+some_size (Symbol name) = omega arith
+some_size (QuotedSymbol name) = omega arith
+some_size (Keyword name) = omega arith
+some_size (Numeral digits) = omega arith
+some_size (OtherNumber bytes) = omega arith
+some_size (Words bytes) = omega arith
+some_size (Group forms) = omega arith

@@ -1,7 +1,7 @@
 //! The heads of terms: names, names with indices, and what a list begins with.
 
 ghost use Rattle.std.specs.Prelude.{◌≡◌, ℕ, true, Result, Err, IfOk, option_map};
-ghost use Rattle.sb_reader.specs.Forms.{Forms, form_of, forms_in};
+ghost use Rattle.sb_reader.specs.Forms.{Forms, shape_of, shapes_in};
 ghost use Rattle.sb_script.specs.Reading as meaning;
 ghost use Rattle.sb_script.specs.Heads as theory;
 ghost use Rattle.sb_script.specs.Faults.{Fault};
@@ -12,7 +12,7 @@ ghost use Rattle.sb_sorts.specs.Reads.{Faults};
 use crate::names::{begins_term, is_left_out, is_reserved, symbol_named};
 use crate::read::ReadFault;
 use crate::scope::{Named, Scope};
-use sb_reader::Sexpr;
+use sb_reader::{Shape, Shapes};
 use sb_term::{Serial, Symbol};
 use std::alloc::Global;
 
@@ -72,24 +72,27 @@ fn read_indexed(alloc: Global, scope: &Scope, name: &[u8]) -> Result<Head, ReadF
 }
 
 /// The name that a form is: a symbol, but no reserved word.
-fn name_of(form: &Sexpr) -> Option<&[u8]>
-    ensures { option_map (λ name. name.now) result ≡ name_of (form_of form.now) }
+fn name_of(form: Shape<'_>) -> Option<&[u8]>
+    ensures { option_map (λ name. name.now) result ≡ name_of (shape_of form.entry) }
 {
     match form {
-        Sexpr::Symbol(name) if !is_reserved(name) => Some(name.as_slice()),
-        Sexpr::QuotedSymbol(name) => Some(name.as_slice()),
+        Shape::Symbol(name) if !is_reserved(name) => Some(name),
+        Shape::QuotedSymbol(name) => Some(name),
         _ => None,
     }
 }
 
 /// What `(_ name index ..)` is as a head, without the underscore.
-fn read_index_list(alloc: Global, scope: &Scope, forms: &[Sexpr]) -> Result<Head, ReadFault>
-    ensures reads { Gives head_in (meaning.read_index_list (names_in scope.now) (forms_in forms.now)) result }
+fn read_index_list(alloc: Global, scope: &Scope, forms: Shapes<'_>) -> Result<Head, ReadFault>
+    ensures reads { Gives head_in (meaning.read_index_list (names_in scope.now) (shapes_in forms.entry)) result }
     ensures declared { IfOk result (λ head. head_below scope.now.declared head ≡ true) }
 {
-    let [first, _, ..] = forms else {
+    let Some((first, indices)) = forms.split_first() else {
         return Err(ReadFault::Malformed);
     };
+    if indices.is_empty() {
+        return Err(ReadFault::Malformed);
+    }
     match name_of(first) {
         Some(name) => read_indexed(alloc, scope, name),
         None => Err(ReadFault::Malformed),
@@ -97,16 +100,19 @@ fn read_index_list(alloc: Global, scope: &Scope, forms: &[Sexpr]) -> Result<Head
 }
 
 /// What a list is as the head of a list.
-fn read_list_head(alloc: Global, scope: &Scope, forms: &[Sexpr]) -> Result<Head, ReadFault>
-    ensures reads { Gives head_in (meaning.read_list_head (names_in scope.now) (forms_in forms.now)) result }
+fn read_list_head(alloc: Global, scope: &Scope, forms: Shapes<'_>) -> Result<Head, ReadFault>
+    ensures reads { Gives head_in (meaning.read_list_head (names_in scope.now) (shapes_in forms.entry)) result }
     ensures declared { IfOk result (λ head. head_below scope.now.declared head ≡ true) }
 {
-    let [Sexpr::Symbol(name), rest @ ..] = forms else {
+    let Some((first, rest)) = forms.split_first() else {
         return Err(ReadFault::Malformed);
     };
-    if name.as_slice() == b"_".as_slice() {
+    let Shape::Symbol(name) = first else {
+        return Err(ReadFault::Malformed);
+    };
+    if name == b"_".as_slice() {
         read_index_list(alloc, scope, rest)
-    } else if name.as_slice() == b"as".as_slice() {
+    } else if name == b"as".as_slice() {
         Err(ReadFault::Unsupported)
     } else {
         Err(ReadFault::Malformed)
@@ -114,48 +120,55 @@ fn read_list_head(alloc: Global, scope: &Scope, forms: &[Sexpr]) -> Result<Head,
 }
 
 /// Whether the form is `(name term)`, as in a `let`.
-fn is_binding(form: &Sexpr) -> bool
-    ensures { result ≡ meaning.is_binding (form_of form.now) }
+fn is_binding(form: Shape<'_>) -> bool
+    ensures { result ≡ meaning.is_binding (shape_of form.entry) }
 {
-    let Sexpr::List(parts) = form else {
+    let Shape::List(parts) = form else {
         return false;
     };
-    match parts.as_slice() {
-        [first, _] => name_of(first).is_some(),
-        _ => false,
+    match parts.pair() {
+        Some((first, _)) => name_of(first).is_some(),
+        None => false,
     }
 }
 
 /// Whether each form is `(name term)`.
-fn are_bindings(forms: &[Sexpr]) -> bool
-    ensures { result ≡ meaning.are_bindings (forms_in forms.now) }
+fn are_bindings(forms: Shapes<'_>) -> bool
+    ensures { result ≡ meaning.are_bindings (shapes_in forms.entry) }
 {
-    forms.iter().all(is_binding)
+    let mut left = forms;
+    while let Some((form, behind)) = left.split_first() {
+        if !is_binding(form) {
+            return false;
+        }
+        left = behind;
+    }
+    true
 }
 
 /// Whether the form is `((name term) ..)`.
-fn has_bindings(form: &Sexpr) -> bool
-    ensures { result ≡ has_bindings (form_of form.now) }
+fn has_bindings(form: Shape<'_>) -> bool
+    ensures { result ≡ has_bindings (shape_of form.entry) }
 {
     match form {
-        Sexpr::List(bindings) => !bindings.is_empty() && are_bindings(bindings),
+        Shape::List(bindings) => !bindings.is_empty() && are_bindings(bindings),
         _ => false,
     }
 }
 
 /// Whether the forms are `((name term) ..) term`.
-fn is_let(forms: &[Sexpr]) -> bool
-    ensures { result ≡ meaning.is_let (forms_in forms.now) }
+fn is_let(forms: Shapes<'_>) -> bool
+    ensures { result ≡ meaning.is_let (shapes_in forms.entry) }
 {
-    match forms {
-        [bindings, _] => has_bindings(bindings),
-        _ => false,
+    match forms.pair() {
+        Some((bindings, _)) => has_bindings(bindings),
+        None => false,
     }
 }
 
 /// The fault of a list whose head is a reserved word.
-fn read_reserved(name: &[u8], arguments: &[Sexpr]) -> ReadFault
-    ensures { Faults {A = Beginning} (Err (meaning.read_reserved name.now (forms_in arguments.now))) result }
+fn read_reserved(name: &[u8], arguments: Shapes<'_>) -> ReadFault
+    ensures { Faults {A = Beginning} (Err (meaning.read_reserved name.now (shapes_in arguments.entry))) result }
 {
     if begins_term(name) || (name == b"let".as_slice() && is_let(arguments)) {
         ReadFault::Unsupported
@@ -179,9 +192,9 @@ fn read_symbol_front(
     alloc: Global,
     scope: &Scope,
     name: &[u8],
-    others: &[Sexpr],
+    others: Shapes<'_>,
 ) -> Result<Front, ReadFault>
-    ensures reads { Gives beginning_in (symbol_beginning (names_in scope.now) name.now (forms_in others.now)) result }
+    ensures reads { Gives beginning_in (symbol_beginning (names_in scope.now) name.now (shapes_in others.entry)) result }
     ensures declared { IfOk result (λ front. beginning_below scope.now.declared front ≡ true) }
 {
     if name == b"_".as_slice() {
@@ -197,17 +210,17 @@ fn read_symbol_front(
 fn read_some_front(
     alloc: Global,
     scope: &Scope,
-    first: &Sexpr,
-    others: &[Sexpr],
+    first: Shape<'_>,
+    others: Shapes<'_>,
 ) -> Result<Front, ReadFault>
-    ensures reads { Gives beginning_in (some_beginning (names_in scope.now) (form_of first.now) (forms_in others.now))
+    ensures reads { Gives beginning_in (some_beginning (names_in scope.now) (shape_of first.entry) (shapes_in others.entry))
         result }
     ensures declared { IfOk result (λ front. beginning_below scope.now.declared front ≡ true) }
 {
     match first {
-        Sexpr::Symbol(name) => read_symbol_front(alloc, scope, name, others),
-        Sexpr::QuotedSymbol(name) => takes_arguments(read_head(alloc, scope, name)),
-        Sexpr::List(forms) => takes_arguments(read_list_head(alloc, scope, forms)),
+        Shape::Symbol(name) => read_symbol_front(alloc, scope, name, others),
+        Shape::QuotedSymbol(name) => takes_arguments(read_head(alloc, scope, name)),
+        Shape::List(forms) => takes_arguments(read_list_head(alloc, scope, forms)),
         _ => Err(ReadFault::Malformed),
     }
 }
@@ -216,10 +229,10 @@ fn read_some_front(
 pub(crate) fn read_front(
     alloc: Global,
     scope: &Scope,
-    first: &Sexpr,
-    others: &[Sexpr],
+    first: Shape<'_>,
+    others: Shapes<'_>,
 ) -> Result<Front, ReadFault>
-    ensures reads { Gives beginning_in (beginning_of (names_in scope.now) (form_of first.now) (forms_in others.now))
+    ensures reads { Gives beginning_in (beginning_of (names_in scope.now) (shape_of first.entry) (shapes_in others.entry))
         result }
     ensures declared { IfOk result (λ front. beginning_below scope.now.declared front ≡ true) }
 {

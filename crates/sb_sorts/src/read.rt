@@ -1,7 +1,7 @@
 //! The reading of terms.
 
 ghost use Rattle.std.specs.Prelude.{◌≡◌, ℕ, ◌<◌, true, List, length, Result, IfOk, MatchResult};
-ghost use Rattle.sb_reader.specs.Forms.{form_of, Symbol, forms_in};
+ghost use Rattle.sb_reader.specs.Forms.{Symbol, shape_of, shapes_in};
 ghost use Rattle.sb_script.specs.Reading.{read};
 ghost use Rattle.sb_script.specs.Reading as meaning;
 ghost use Rattle.sb_term.specs.Numbered.{Extends};
@@ -15,7 +15,7 @@ use crate::head::{Front, read_front, read_head};
 use crate::names::{begins_term, is_reserved};
 use crate::scope::Scope;
 use crate::text::read_text;
-use sb_reader::Sexpr;
+use sb_reader::{Shape, Shapes};
 use sb_term::{Table, TermId};
 use smallvec::SmallVec;
 use std::alloc::{AllocError, AllocFailed, Global};
@@ -75,9 +75,9 @@ pub fn read_term(
     alloc: Global,
     table: &mut Table,
     scope: &Scope,
-    form: &Sexpr,
+    form: Shape<'_>,
 ) -> Result<TermId, ReadFault>
-    ensures reads { ReadsAs table.new (read (names_in scope.now) (form_of form.now)) result }
+    ensures reads { ReadsAs table.new (read (names_in scope.now) (shape_of form.entry)) result }
     ensures extends { Extends table.old table.new }
     ensures declared { all_below scope.now.declared table.old ≡ true → all_below scope.now.declared table.new ≡ true }
 {
@@ -90,18 +90,18 @@ fn read_form(
     alloc: Global,
     table: &mut Table,
     scope: &Scope,
-    form: &Sexpr,
+    form: Shape<'_>,
 ) -> Result<TermId, ReadFault>
-    ensures reads { ReadsAs table.new (read (names_in scope.now) (form_of form.now)) result }
+    ensures reads { ReadsAs table.new (read (names_in scope.now) (shape_of form.entry)) result }
     ensures grows { Grows scope.now.declared table.old table.new }
 {
     match form {
-        Sexpr::Symbol(name) => read_bare_name(alloc, table, scope, name),
-        Sexpr::QuotedSymbol(name) => read_name(alloc, table, scope, name),
-        Sexpr::Keyword(_) => Err(ReadFault::Malformed),
-        Sexpr::Numeral(_) | Sexpr::OtherNumber(_) => Err(ReadFault::Unsupported),
-        Sexpr::Text(bytes) => read_text(alloc, table, bytes),
-        Sexpr::List(forms) => read_list(alloc, table, scope, forms),
+        Shape::Symbol(name) => read_bare_name(alloc, table, scope, name),
+        Shape::QuotedSymbol(name) => read_name(alloc, table, scope, name),
+        Shape::Keyword(_) => Err(ReadFault::Malformed),
+        Shape::Numeral(_) | Shape::OtherNumber(_) => Err(ReadFault::Unsupported),
+        Shape::Text(bytes) => read_text(alloc, table, bytes),
+        Shape::List(forms) => read_list(alloc, table, scope, forms),
     }
 }
 
@@ -111,12 +111,12 @@ fn read_list(
     alloc: Global,
     table: &mut Table,
     scope: &Scope,
-    forms: &[Sexpr],
+    forms: Shapes<'_>,
 ) -> Result<TermId, ReadFault>
-    ensures reads { ReadsAs table.new (meaning.read_list (names_in scope.now) (forms_in forms.now)) result }
+    ensures reads { ReadsAs table.new (meaning.read_list (names_in scope.now) (shapes_in forms.entry)) result }
     ensures grows { Grows scope.now.declared table.old table.new }
 {
-    let [first, others @ ..] = forms else {
+    let Some((first, others)) = forms.split_first() else {
         return Err(ReadFault::Malformed);
     };
     match read_front(alloc, scope, first, others)? {
@@ -134,16 +134,18 @@ fn read_all(
     alloc: Global,
     table: &mut Table,
     scope: &Scope,
-    forms: &[Sexpr],
+    forms: Shapes<'_>,
 ) -> Result<SmallVec<TermId, 4>, ReadFault>
     ensures reads { MatchResult result
-        (λ ids. AreRead table.new (meaning.read_all (names_in scope.now) (forms_in forms.now)) ids.items)
-        (λ fault. Faults (meaning.read_all (names_in scope.now) (forms_in forms.now)) fault) }
+        (λ ids. AreRead table.new (meaning.read_all (names_in scope.now) (shapes_in forms.entry)) ids.items)
+        (λ fault. Faults (meaning.read_all (names_in scope.now) (shapes_in forms.entry)) fault) }
     ensures grows { Grows scope.now.declared table.old table.new }
 {
     let mut ids = SmallVec::new(alloc);
-    for form in forms {
+    let mut left = forms;
+    while let Some((form, behind)) = left.split_first() {
         ids.push(read_form(alloc, table, scope, form)?)?;
+        left = behind;
     }
     Ok(ids)
 }

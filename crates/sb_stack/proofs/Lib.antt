@@ -1,5 +1,4 @@
 pub mod Fitting
-pub mod Groups
 pub mod Shapes
 pub mod Items
 pub mod Printing

@@ -1,27 +1,40 @@
--- The shapes of commands, by the forms of a slice.
-use Rattle.std.proofs.Common.{◌≡◌, ℕ, ◌-◌, ◌<◌, ◌≤◌, ◌==◌, Bool, true, false, if◌then◌else◌, List, [], ◌∷◌, length, take, drop, Option, Some, None, slice_index_or, refl, ap, sym, ◌∙◌, arith}
-use Rattle.std.proofs.lemmas.Slice.{between_to_end}
-use Rattle.std.proofs.lemmas.Bool.{eqb-true}
+-- The shapes of commands, by their forms.
+use Rattle.std.proofs.Common.{◌≡◌, ℕ, ◌+◌, Bool, true, false, not, ◌&&◌, if◌then◌else◌, List, [], ◌∷◌, length, Option, Some, None, is_some, option_map, option_copied, Bor, refl, ap, sym, ◌∙◌, arith}
 use Rattle.std.specs.List.{list_all}
-use Rattle.std.specs.declared.vec.Vec.{Vec}
-use Rattle.std.specs.declared.alloc.Global.{Global}
-use Rattle.sb_reader.specs.declared.sexpr.Sexpr as sexpr
-use Rattle.sb_reader.specs.declared.sexpr.Sexpr.{Sexpr}
-use Rattle.sb_reader.specs.Forms.{Form, Forms, Symbol, QuotedSymbol, Keyword, Numeral, OtherNumber, Words, Group, none, more, form_of, forms_in as group_in}
+use Rattle.sb_reader.specs.Forms.{Form, Forms, Symbol, QuotedSymbol, Keyword, Numeral, OtherNumber, Words, Group, none, more, is_none, only_of, pair_of}
 use Rattle.sb_script.specs.Commands as meaning
-use Rattle.sb_stack.specs.Commands.{forms_in}
-use Rattle.sb_stack.proofs.Groups.{list_of_group}
+use Rattle.std.proofs.lemmas.Bool.{false≢true}
+use Rattle.sb_stack.specs.Commands.{is_sort_list}
+
+-- what is made of the one form that is there, and of the two
+abbrev pub of_only : (Form → Option meaning.Command) → Option Form → Option meaning.Command
+of_only make None = None
+of_only make (Some form) = make form
+
+abbrev pub of_pair : (Form → Form → Option meaning.Command) → Option (Form × Form) → Option meaning.Command
+of_pair make None = None
+of_pair make (Some (first, second)) = make first second
+
+-- the first form is smaller than all
+pub fewer_behind : (all : Forms) (form : Form) (forms : Forms) → all ≡ more form forms
+    → length (meaning.list_of forms) + 1 ≡ length (meaning.list_of all)
+fewer_behind all form forms is = omega (arith, ap (λ fs. length (meaning.list_of fs)) is)
 
 -- a list that begins with a symbol
-pub command_of_symbol : (xs : List Sexpr) (head : Sexpr) (name : Vec ℕ Global) (rest : List Sexpr) → 1 ≤ length xs
-    → head ≡ slice_index_or xs 0 head → head ≡ sexpr.Symbol name → rest ≡ take (length xs - 1) (drop 1 xs)
-    → meaning.command_of (Group (group_in xs)) ≡ meaning.shaped name.items (forms_in rest)
-command_of_symbol [] head name rest some first symbol is = absurd (omega arith)
-command_of_symbol (x ∷ xs) head name rest some first symbol is =
-    let form : form_of x ≡ Symbol name.items = ap form_of (sym first ∙ symbol) in
-    let behind : rest ≡ xs = is ∙ between_to_end (x ∷ xs) 1 (length (x ∷ xs)) (omega arith) in
-    ap (λ f. meaning.command_of (Group (more f (group_in xs)))) form
-    ∙ ap (meaning.shaped name.items) (list_of_group xs ∙ ap forms_in (sym behind))
+pub sort_of_list : (form : Form) (forms : Forms)
+    → meaning.is_sort_form (Group (more form forms)) ≡ is_some (meaning.symbol_in form)
+sort_of_list (Symbol x) forms = refl
+sort_of_list (QuotedSymbol x) forms = refl
+sort_of_list (Keyword x) forms = refl
+sort_of_list (Numeral x) forms = refl
+sort_of_list (OtherNumber x) forms = refl
+sort_of_list (Words x) forms = refl
+sort_of_list (Group x) forms = refl
+
+-- a parameter is a name with a sort
+abbrev pub name_and_sort : Option (Form × Form) → Bool
+name_and_sort None = false
+name_and_sort (Some (name, sort)) = is_some (meaning.declarable name) && meaning.is_sort_form sort
 
 one_is_no_parameter : (f : Form) → meaning.is_parameter (Group (more f none)) ≡ false
 one_is_no_parameter (Symbol x) = refl
@@ -31,6 +44,20 @@ one_is_no_parameter (Numeral x) = refl
 one_is_no_parameter (OtherNumber x) = refl
 one_is_no_parameter (Words x) = refl
 one_is_no_parameter (Group x) = refl
+
+reserved_or_not : (r s : Bool) (name : List ℕ) → (not r && s) ≡ is_some (if r then None else Some name) && s
+reserved_or_not true s name = refl
+reserved_or_not false s name = refl
+
+two_are_parameter : (f g : Form)
+    → meaning.is_parameter (Group (more f (more g none))) ≡ is_some (meaning.declarable f) && meaning.is_sort_form g
+two_are_parameter (Symbol name) g = reserved_or_not _ (meaning.is_sort_form g) name
+two_are_parameter (QuotedSymbol x) g = refl
+two_are_parameter (Keyword x) g = refl
+two_are_parameter (Numeral x) g = refl
+two_are_parameter (OtherNumber x) g = refl
+two_are_parameter (Words x) g = refl
+two_are_parameter (Group x) g = refl
 
 three_are_no_parameter : (f g h : Form) (fs : Forms)
     → meaning.is_parameter (Group (more f (more g (more h fs)))) ≡ false
@@ -42,51 +69,165 @@ three_are_no_parameter (OtherNumber x) g h fs = refl
 three_are_no_parameter (Words x) g h fs = refl
 three_are_no_parameter (Group x) g h fs = refl
 
--- a parameter has two forms
-pub few_are_no_parameter : (xs : List Sexpr) → length xs < 2 → meaning.is_parameter (Group (group_in xs)) ≡ false
-few_are_no_parameter [] few = refl
-few_are_no_parameter (x ∷ []) few = one_is_no_parameter (form_of x)
-few_are_no_parameter (x ∷ y ∷ xs) few = absurd (omega arith)
+pub parameter_of_pair : (forms : Forms) → meaning.is_parameter (Group forms) ≡ name_and_sort (pair_of forms)
+parameter_of_pair none = refl
+parameter_of_pair (more f none) = one_is_no_parameter f
+parameter_of_pair (more f (more g none)) = two_are_parameter f g
+parameter_of_pair (more f (more g (more h fs))) = three_are_no_parameter f g h fs
 
-pub many_are_no_parameter : (xs : List Sexpr) → 3 ≤ length xs → meaning.is_parameter (Group (group_in xs)) ≡ false
-many_are_no_parameter [] many = refl
-many_are_no_parameter (x ∷ []) many = absurd (omega arith)
-many_are_no_parameter (x ∷ y ∷ []) many = absurd (omega arith)
-many_are_no_parameter (x ∷ y ∷ z ∷ xs) many = three_are_no_parameter (form_of x) (form_of y) (form_of z) (group_in xs)
+pub logic_of_only : (forms : Forms) → meaning.logic_shape (meaning.list_of forms)
+    ≡ of_only (λ f. meaning.logic_shape (f ∷ [])) (only_of forms)
+logic_of_only none = refl
+logic_of_only (more f none) = refl
+logic_of_only (more f (more g fs)) = refl
 
-pub none_asked : (xs : List Sexpr) → (length xs == 0) ≡ true → meaning.value_shape (Group (group_in xs) ∷ []) ≡ None
-none_asked [] h = refl
-none_asked (x ∷ xs) h = let none : length (x ∷ xs) ≡ 0 = eqb-true _ _ h in absurd (omega arith)
+pub assert_of_only : (forms : Forms) → meaning.assert_shape (meaning.list_of forms)
+    ≡ of_only (λ f. meaning.assert_shape (f ∷ [])) (only_of forms)
+assert_of_only none = refl
+assert_of_only (more f none) = refl
+assert_of_only (more f (more g fs)) = refl
 
-asked_is : (x : Sexpr) (xs : List Sexpr)
-    → meaning.value_shape (Group (group_in (x ∷ xs)) ∷ [])
-    ≡ (if list_all meaning.is_item (forms_in (x ∷ xs)) then Some (meaning.get_value (forms_in (x ∷ xs))) else None)
-asked_is x xs = ap (λ (forms : List Form). if list_all meaning.is_item (form_of x ∷ forms)
-    then Some (meaning.get_value (form_of x ∷ forms)) else None) (list_of_group xs)
+two_values : (f : Form) (g : Form) (fs : List Form) → meaning.value_shape (f ∷ g ∷ fs) ≡ None
+two_values (Symbol x) g fs = refl
+two_values (QuotedSymbol x) g fs = refl
+two_values (Keyword x) g fs = refl
+two_values (Numeral x) g fs = refl
+two_values (OtherNumber x) g fs = refl
+two_values (Words x) g fs = refl
+two_values (Group none) g fs = refl
+two_values (Group (more item items)) g fs = refl
 
-pub no_items_asked : (xs : List Sexpr) → list_all meaning.is_item (forms_in xs) ≡ false
-    → meaning.value_shape (Group (group_in xs) ∷ []) ≡ None
-no_items_asked [] h = refl
-no_items_asked (x ∷ xs) h =
-    asked_is x xs ∙ ap (λ (b : Bool). if b then Some (meaning.get_value (forms_in (x ∷ xs))) else None) h
+pub value_of_only : (forms : Forms) → meaning.value_shape (meaning.list_of forms)
+    ≡ of_only (λ f. meaning.value_shape (f ∷ [])) (only_of forms)
+value_of_only none = refl
+value_of_only (more f none) = refl
+value_of_only (more f (more g fs)) = two_values f g (meaning.list_of fs)
 
-pub items_asked : (xs : List Sexpr) → (length xs == 0) ≡ false → list_all meaning.is_item (forms_in xs) ≡ true
-    → meaning.value_shape (Group (group_in xs) ∷ []) ≡ Some (meaning.get_value (forms_in xs))
-items_asked [] some h = absurd (cc)
-items_asked (x ∷ xs) some h =
-    asked_is x xs ∙ ap (λ (b : Bool). if b then Some (meaning.get_value (forms_in (x ∷ xs))) else None) h
+-- the question for the values of a list
+pub value_of_items : (forms : Forms) → meaning.value_shape (Group forms ∷ [])
+    ≡ (if is_none forms then None else if list_all meaning.is_item (meaning.list_of forms)
+    then Some (meaning.get_value (meaning.list_of forms)) else None)
+value_of_items none = refl
+value_of_items (more form forms) = refl
 
-pub four_of_definition : (xs : List Sexpr) (a b c : Sexpr) (r : Option meaning.Command) → 4 ≤ length xs → length xs < 5
-    → a ≡ slice_index_or xs 0 a → b ≡ slice_index_or xs 1 b → c ≡ slice_index_or xs 2 c
-    → ((body : Form) → r ≡ meaning.definition_shape (form_of a ∷ form_of b ∷ form_of c ∷ body ∷ []))
-    → r ≡ meaning.definition_shape (forms_in xs)
-four_of_definition [] a b c r least most ai bi ci h = absurd (omega arith)
-four_of_definition (x ∷ []) a b c r least most ai bi ci h = absurd (omega arith)
-four_of_definition (x ∷ y ∷ []) a b c r least most ai bi ci h = absurd (omega arith)
-four_of_definition (x ∷ y ∷ z ∷ []) a b c r least most ai bi ci h = absurd (omega arith)
-four_of_definition (x ∷ y ∷ z ∷ w ∷ []) a b c r least most ai bi ci h =
-    let f : Form → Form → Form → Option meaning.Command = λ d e g. meaning.definition_shape (d ∷ e ∷ g ∷ form_of w ∷ [])
-    in
-    h (form_of w) ∙ ap (λ d. f d (form_of b) (form_of c)) (ap form_of ai)
-    ∙ ap (λ e. f (form_of x) e (form_of c)) (ap form_of bi) ∙ ap (λ g. f (form_of x) (form_of y) g) (ap form_of ci)
-four_of_definition (x ∷ y ∷ z ∷ w ∷ v ∷ xs) a b c r least most ai bi ci h = absurd (omega arith)
+one_option : (f : Form) → meaning.option_shape (f ∷ []) ≡ None
+one_option (Symbol x) = refl
+one_option (QuotedSymbol x) = refl
+one_option (Keyword x) = refl
+one_option (Numeral x) = refl
+one_option (OtherNumber x) = refl
+one_option (Words x) = refl
+one_option (Group x) = refl
+
+three_options : (f g h : Form) (fs : List Form) → meaning.option_shape (f ∷ g ∷ h ∷ fs) ≡ None
+three_options (Symbol x) g h fs = refl
+three_options (QuotedSymbol x) g h fs = refl
+three_options (Keyword x) g h fs = refl
+three_options (Numeral x) g h fs = refl
+three_options (OtherNumber x) g h fs = refl
+three_options (Words x) g h fs = refl
+three_options (Group x) g h fs = refl
+
+pub option_of_pair : (forms : Forms) → meaning.option_shape (meaning.list_of forms)
+    ≡ of_pair (λ f g. meaning.option_shape (f ∷ g ∷ [])) (pair_of forms)
+option_of_pair none = refl
+option_of_pair (more f none) = one_option f
+option_of_pair (more f (more g none)) = refl
+option_of_pair (more f (more g (more h fs))) = three_options f g h (meaning.list_of fs)
+
+pub constant_of_pair : (forms : Forms) → meaning.constant_shape (meaning.list_of forms)
+    ≡ of_pair (λ f g. meaning.constant_shape (f ∷ g ∷ [])) (pair_of forms)
+constant_of_pair none = refl
+constant_of_pair (more f none) = refl
+constant_of_pair (more f (more g none)) = refl
+constant_of_pair (more f (more g (more h fs))) = refl
+
+two_of_function : (name f : Form) → meaning.function_shape (name ∷ f ∷ []) ≡ None
+two_of_function name (Symbol x) = refl
+two_of_function name (QuotedSymbol x) = refl
+two_of_function name (Keyword x) = refl
+two_of_function name (Numeral x) = refl
+two_of_function name (OtherNumber x) = refl
+two_of_function name (Words x) = refl
+two_of_function name (Group x) = refl
+
+four_of_function : (name f g h : Form) (fs : List Form) → meaning.function_shape (name ∷ f ∷ g ∷ h ∷ fs) ≡ None
+four_of_function name (Symbol x) g h fs = refl
+four_of_function name (QuotedSymbol x) g h fs = refl
+four_of_function name (Keyword x) g h fs = refl
+four_of_function name (Numeral x) g h fs = refl
+four_of_function name (OtherNumber x) g h fs = refl
+four_of_function name (Words x) g h fs = refl
+four_of_function name (Group x) g h fs = refl
+
+pub function_of_pair : (name : Form) (forms : Forms) → meaning.function_shape (name ∷ meaning.list_of forms)
+    ≡ of_pair (λ f g. meaning.function_shape (name ∷ f ∷ g ∷ [])) (pair_of forms)
+function_of_pair name none = refl
+function_of_pair name (more f none) = two_of_function name f
+function_of_pair name (more f (more g none)) = refl
+function_of_pair name (more f (more g (more h fs))) = four_of_function name f g h (meaning.list_of fs)
+
+two_of_definition : (name f : Form) → meaning.definition_shape (name ∷ f ∷ []) ≡ None
+two_of_definition name (Symbol x) = refl
+two_of_definition name (QuotedSymbol x) = refl
+two_of_definition name (Keyword x) = refl
+two_of_definition name (Numeral x) = refl
+two_of_definition name (OtherNumber x) = refl
+two_of_definition name (Words x) = refl
+two_of_definition name (Group x) = refl
+
+three_of_definition : (name f g : Form) → meaning.definition_shape (name ∷ f ∷ g ∷ []) ≡ None
+three_of_definition name (Symbol x) g = refl
+three_of_definition name (QuotedSymbol x) g = refl
+three_of_definition name (Keyword x) g = refl
+three_of_definition name (Numeral x) g = refl
+three_of_definition name (OtherNumber x) g = refl
+three_of_definition name (Words x) g = refl
+three_of_definition name (Group x) g = refl
+
+five_of_definition : (name f g h i : Form) (fs : List Form)
+    → meaning.definition_shape (name ∷ f ∷ g ∷ h ∷ i ∷ fs) ≡ None
+five_of_definition name (Symbol x) g h i fs = refl
+five_of_definition name (QuotedSymbol x) g h i fs = refl
+five_of_definition name (Keyword x) g h i fs = refl
+five_of_definition name (Numeral x) g h i fs = refl
+five_of_definition name (OtherNumber x) g h i fs = refl
+five_of_definition name (Words x) g h i fs = refl
+five_of_definition name (Group x) g h i fs = refl
+
+pub definition_of_pair : (name parameters : Form) (forms : Forms)
+    → meaning.definition_shape (name ∷ parameters ∷ meaning.list_of forms)
+    ≡ of_pair (λ f g. meaning.definition_shape (name ∷ parameters ∷ f ∷ g ∷ [])) (pair_of forms)
+definition_of_pair name f none = two_of_definition name f
+definition_of_pair name f (more g none) = three_of_definition name f g
+definition_of_pair name f (more g (more h none)) = refl
+definition_of_pair name f (more g (more h (more i fs))) = five_of_definition name f g h i (meaning.list_of fs)
+
+pub bare_command : (command : meaning.Command) (forms : Forms) → meaning.bare command (meaning.list_of forms)
+    ≡ (if is_none forms then Some command else None)
+bare_command command none = refl
+bare_command command (more form forms) = refl
+
+pub some_copied : {A : Type 0} (o : Option (Bor A)) → is_some o ≡ is_some (option_copied o)
+some_copied None = refl
+some_copied (Some x) = refl
+
+left_out : (name : List ℕ) (sorts : List Form) (sort : Form)
+    → meaning.function_of name sorts sort ≡ meaning.declare_function name
+left_out name [] sort = refl
+left_out name (s ∷ ss) sort = refl
+
+-- a function is left out
+pub function_named : (name sorts sort : Form) (n : List ℕ) → is_sort_list sorts ≡ true
+    → meaning.is_sort_form sort ≡ true → Some n ≡ meaning.declarable name
+    → Some (meaning.declare_function n) ≡ meaning.function_shape (name ∷ sorts ∷ sort ∷ [])
+function_named name (Symbol x) sort n all one is = absurd (false≢true all)
+function_named name (QuotedSymbol x) sort n all one is = absurd (false≢true all)
+function_named name (Keyword x) sort n all one is = absurd (false≢true all)
+function_named name (Numeral x) sort n all one is = absurd (false≢true all)
+function_named name (OtherNumber x) sort n all one is = absurd (false≢true all)
+function_named name (Words x) sort n all one is = absurd (false≢true all)
+function_named name (Group sorts) sort n all one is =
+    let of : List ℕ → meaning.Command = λ m. meaning.function_of m (meaning.list_of sorts) sort in
+    ap Some (sym (left_out n (meaning.list_of sorts) sort)) ∙ ap (option_map of) is
+    ∙ sym (λ j. if all j && one j then option_map of (meaning.declarable name) else None)

@@ -1,14 +1,14 @@
--- Private: the commands of the code, and the forms of a slice, as the definitions have them.
-use Rattle.std.specs.Prelude.{Bool, false, List, map}
+-- Private: the commands of the code, and the forms of a list, as the definitions have them.
+use Rattle.std.specs.Prelude.{Bool, false, List}
 use Rattle.std.specs.List.{list_all}
-use Rattle.sb_reader.specs.declared.sexpr.Sexpr.{Sexpr}
-use Rattle.sb_reader.specs.Forms.{Form, Group, form_of}
+use Rattle.sb_reader.specs.declared.sexpr.Shapes.{Shapes}
+use Rattle.sb_reader.specs.Forms.{Form, Group, shape_of, shapes_in}
 use Rattle.sb_stack.specs.declared.command.Command.{Command}
 use Rattle.sb_stack.specs.declared.command.Command.TheVariants as code
 use Rattle.sb_script.specs.Commands as meaning
 
-abbrev pub forms_in : List Sexpr → List Form
-forms_in forms = map form_of forms
+abbrev pub forms_in : Shapes → List Form
+forms_in forms = meaning.list_of (shapes_in forms)
 
 -- a list of sorts
 abbrev pub is_sort_list : Form → Bool
@@ -22,12 +22,12 @@ is_parameter_list _ = false
 
 abbrev pub command_in : Command → meaning.Command
 command_in (code.SetLogic name) = meaning.set_logic name.now
-command_in (code.SetOption key value) = meaning.set_option key.now (form_of value.now)
-command_in (code.DeclareConstant name sort) = meaning.declare_constant name.now (form_of sort.now)
+command_in (code.SetOption key value) = meaning.set_option key.now (shape_of value)
+command_in (code.DeclareConstant name sort) = meaning.declare_constant name.now (shape_of sort)
 command_in (code.DeclareFunction name) = meaning.declare_function name.now
-command_in (code.Assert form) = meaning.assert (form_of form.now)
+command_in (code.Assert form) = meaning.assert (shape_of form)
 command_in code.CheckSat = meaning.check_sat
 command_in code.GetModel = meaning.get_model
-command_in (code.GetValue forms) = meaning.get_value (forms_in forms.now)
+command_in (code.GetValue forms) = meaning.get_value (forms_in forms)
 command_in code.Exit = meaning.exit
 command_in code.Another = meaning.another

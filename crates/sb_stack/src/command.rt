@@ -2,11 +2,11 @@
 
 ghost use Rattle.std.specs.Prelude.{◌≡◌, [], ◌∷◌, option_map, option_copied};
 ghost use Rattle.std.specs.List.{list_all};
-ghost use Rattle.sb_reader.specs.Forms.{Form, Group, form_of, forms_in as group_in};
+ghost use Rattle.sb_reader.specs.Forms.{Form, Group, form_of, shape_of, shapes_in};
 ghost use Rattle.sb_script.specs.Commands as meaning;
 ghost use Rattle.sb_stack.specs.Commands.{command_in, forms_in, is_sort_list, is_parameter_list};
 
-use sb_reader::Sexpr;
+use sb_reader::{Sexpr, Shape, Shapes};
 use sb_sorts::is_reserved;
 
 /// A command, which borrows from its form.
@@ -14,16 +14,16 @@ use sb_sorts::is_reserved;
 pub(crate) enum Command<'a> {
     SetLogic(&'a [u8]),
     /// The option's keyword, and its value.
-    SetOption(&'a [u8], &'a Sexpr),
+    SetOption(&'a [u8], Shape<'a>),
     /// The constant's name, and its sort.
-    DeclareConstant(&'a [u8], &'a Sexpr),
+    DeclareConstant(&'a [u8], Shape<'a>),
     /// A declaration or definition of a function, which is left out.
     DeclareFunction(&'a [u8]),
-    Assert(&'a Sexpr),
+    Assert(Shape<'a>),
     CheckSat,
     GetModel,
     /// The terms whose values are asked for.
-    GetValue(&'a [Sexpr]),
+    GetValue(Shapes<'a>),
     Exit,
     /// A command that is left out.
     Another,
@@ -33,28 +33,28 @@ pub(crate) enum Command<'a> {
 pub(crate) fn command_of(form: &Sexpr) -> Option<Command<'_>>
     ensures { option_map command_in result ≡ meaning.command_of (form_of form.now) }
 {
-    match form {
-        Sexpr::List(forms) => command_in(forms),
+    match form.shape() {
+        Shape::List(forms) => command_in(forms),
         _ => None,
     }
 }
 
 /// The command of a list.
-fn command_in(forms: &[Sexpr]) -> Option<Command<'_>>
-    ensures { option_map command_in result ≡ meaning.command_of (Group (group_in forms.now)) }
+fn command_in(forms: Shapes<'_>) -> Option<Command<'_>>
+    ensures { option_map command_in result ≡ meaning.command_of (Group (shapes_in forms.entry)) }
 {
-    let [head, arguments @ ..] = forms else {
+    let Some((head, arguments)) = forms.split_first() else {
         return None;
     };
     match head {
-        Sexpr::Symbol(name) => shaped(name, arguments),
+        Shape::Symbol(name) => shaped(name, arguments),
         _ => None,
     }
 }
 
 /// A command by its name, with what follows the name.
-fn shaped<'a>(name: &[u8], arguments: &'a [Sexpr]) -> Option<Command<'a>>
-    ensures { option_map command_in result ≡ meaning.shaped name.now (forms_in arguments.now) }
+fn shaped<'a>(name: &[u8], arguments: Shapes<'a>) -> Option<Command<'a>>
+    ensures { option_map command_in result ≡ meaning.shaped name.now (forms_in arguments.entry) }
 {
     if name == b"assert".as_slice() {
         assert_shape(arguments)
@@ -82,160 +82,223 @@ fn shaped<'a>(name: &[u8], arguments: &'a [Sexpr]) -> Option<Command<'a>>
 }
 
 /// The name of a symbol, written between bars or not.
-pub(crate) fn symbol_in(form: &Sexpr) -> Option<&[u8]>
-    ensures { option_copied result ≡ meaning.symbol_in (form_of form.now) }
+pub(crate) fn symbol_in(form: Shape<'_>) -> Option<&[u8]>
+    ensures { option_copied result ≡ meaning.symbol_in (shape_of form.entry) }
 {
     match form {
-        Sexpr::Symbol(name) | Sexpr::QuotedSymbol(name) => Some(name),
+        Shape::Symbol(name) | Shape::QuotedSymbol(name) => Some(name),
         _ => None,
     }
 }
 
 /// The name, where it may be declared: no reserved word, unless it is written between bars.
-fn declarable(form: &Sexpr) -> Option<&[u8]>
-    ensures { option_copied result ≡ meaning.declarable (form_of form.now) }
+fn declarable(form: Shape<'_>) -> Option<&[u8]>
+    ensures { option_copied result ≡ meaning.declarable (shape_of form.entry) }
 {
     match form {
-        Sexpr::Symbol(name) if !is_reserved(name) => Some(name),
-        Sexpr::QuotedSymbol(name) => Some(name),
+        Shape::Symbol(name) if !is_reserved(name) => Some(name),
+        Shape::QuotedSymbol(name) => Some(name),
         _ => None,
     }
 }
 
 /// A sort by its shape: a symbol, or a list that begins with one.
-fn is_sort(form: &Sexpr) -> bool
-    ensures { result ≡ meaning.is_sort_form (form_of form.now) }
+fn is_sort(form: Shape<'_>) -> bool
+    ensures { result ≡ meaning.is_sort_form (shape_of form.entry) }
 {
     match form {
-        Sexpr::Symbol(_) | Sexpr::QuotedSymbol(_) => true,
-        Sexpr::List(forms) => begins_with_symbol(forms),
+        Shape::Symbol(_) | Shape::QuotedSymbol(_) => true,
+        Shape::List(forms) => begins_with_symbol(forms),
         _ => false,
     }
 }
 
 /// Whether the first form is a symbol.
-fn begins_with_symbol(forms: &[Sexpr]) -> bool
-    ensures { result ≡ meaning.is_sort_form (Group (group_in forms.now)) }
+fn begins_with_symbol(forms: Shapes<'_>) -> bool
+    ensures { result ≡ meaning.is_sort_form (Group (shapes_in forms.entry)) }
 {
-    matches!(forms, [Sexpr::Symbol(_) | Sexpr::QuotedSymbol(_), ..])
+    match forms.split_first() {
+        Some((first, _)) => symbol_in(first).is_some(),
+        None => false,
+    }
 }
 
 /// `(name sort)`, a parameter of a definition.
-fn is_parameter(form: &Sexpr) -> bool
-    ensures { result ≡ meaning.is_parameter (form_of form.now) }
+fn is_parameter(form: Shape<'_>) -> bool
+    ensures { result ≡ meaning.is_parameter (shape_of form.entry) }
 {
     match form {
-        Sexpr::List(forms) => are_name_and_sort(forms),
+        Shape::List(forms) => are_name_and_sort(forms),
         _ => false,
     }
 }
 
-fn are_name_and_sort(forms: &[Sexpr]) -> bool
-    ensures { result ≡ meaning.is_parameter (Group (group_in forms.now)) }
+fn are_name_and_sort(forms: Shapes<'_>) -> bool
+    ensures { result ≡ meaning.is_parameter (Group (shapes_in forms.entry)) }
 {
-    match forms {
-        [name, sort] => declarable(name).is_some() && is_sort(sort),
-        _ => false,
+    match forms.pair() {
+        Some((name, sort)) => declarable(name).is_some() && is_sort(sort),
+        None => false,
     }
 }
 
 /// What may stand in a list of terms whose values are asked for.
-fn is_item(form: &Sexpr) -> bool
-    ensures { result ≡ meaning.is_item (form_of form.now) }
+fn is_item(form: Shape<'_>) -> bool
+    ensures { result ≡ meaning.is_item (shape_of form.entry) }
 {
-    !matches!(form, Sexpr::Keyword(_))
+    !matches!(form, Shape::Keyword(_))
 }
 
-fn are_sorts(forms: &[Sexpr]) -> bool
-    ensures { result ≡ list_all meaning.is_sort_form (forms_in forms.now) }
+fn are_sorts(forms: Shapes<'_>) -> bool
+    ensures { result ≡ list_all meaning.is_sort_form (forms_in forms.entry) }
 {
-    forms.iter().all(|form| is_sort(form))
+    let mut left = forms;
+    while let Some((form, behind)) = left.split_first() {
+        if !is_sort(form) {
+            return false;
+        }
+        left = behind;
+    }
+    true
 }
 
-fn are_parameters(forms: &[Sexpr]) -> bool
-    ensures { result ≡ list_all meaning.is_parameter (forms_in forms.now) }
+fn are_parameters(forms: Shapes<'_>) -> bool
+    ensures { result ≡ list_all meaning.is_parameter (forms_in forms.entry) }
 {
-    forms.iter().all(|form| is_parameter(form))
+    let mut left = forms;
+    while let Some((form, behind)) = left.split_first() {
+        if !is_parameter(form) {
+            return false;
+        }
+        left = behind;
+    }
+    true
 }
 
-fn are_items(forms: &[Sexpr]) -> bool
-    ensures { result ≡ list_all meaning.is_item (forms_in forms.now) }
+fn are_items(forms: Shapes<'_>) -> bool
+    ensures { result ≡ list_all meaning.is_item (forms_in forms.entry) }
 {
-    forms.iter().all(|form| is_item(form))
+    let mut left = forms;
+    while let Some((form, behind)) = left.split_first() {
+        if !is_item(form) {
+            return false;
+        }
+        left = behind;
+    }
+    true
 }
 
 /// A list of sorts.
-fn is_sort_list(form: &Sexpr) -> bool
-    ensures { result ≡ is_sort_list (form_of form.now) }
+fn is_sort_list(form: Shape<'_>) -> bool
+    ensures { result ≡ is_sort_list (shape_of form.entry) }
 {
     match form {
-        Sexpr::List(sorts) => are_sorts(sorts),
+        Shape::List(sorts) => are_sorts(sorts),
         _ => false,
     }
 }
 
 /// A list of parameters.
-fn is_parameter_list(form: &Sexpr) -> bool
-    ensures { result ≡ is_parameter_list (form_of form.now) }
+fn is_parameter_list(form: Shape<'_>) -> bool
+    ensures { result ≡ is_parameter_list (shape_of form.entry) }
 {
     match form {
-        Sexpr::List(parameters) => are_parameters(parameters),
+        Shape::List(parameters) => are_parameters(parameters),
         _ => false,
     }
 }
 
-fn logic_shape(arguments: &[Sexpr]) -> Option<Command<'_>>
-    ensures { option_map command_in result ≡ meaning.logic_shape (forms_in arguments.now) }
+fn logic_shape(arguments: Shapes<'_>) -> Option<Command<'_>>
+    ensures { option_map command_in result ≡ meaning.logic_shape (forms_in arguments.entry) }
 {
-    match arguments {
-        [logic] => Some(Command::SetLogic(symbol_in(logic)?)),
+    match arguments.only() {
+        Some(logic) => Some(Command::SetLogic(symbol_in(logic)?)),
+        None => None,
+    }
+}
+
+fn option_shape(arguments: Shapes<'_>) -> Option<Command<'_>>
+    ensures { option_map command_in result ≡ meaning.option_shape (forms_in arguments.entry) }
+{
+    match arguments.pair() {
+        Some((key, value)) => option_of(key, value),
+        None => None,
+    }
+}
+
+/// An option by its keyword and its value.
+fn option_of<'a>(key: Shape<'a>, value: Shape<'a>) -> Option<Command<'a>>
+    ensures { option_map command_in result ≡ meaning.option_shape (shape_of key.entry ∷ shape_of value.entry ∷ []) }
+{
+    match key {
+        Shape::Keyword(key) => Some(Command::SetOption(key, value)),
         _ => None,
     }
 }
 
-fn option_shape(arguments: &[Sexpr]) -> Option<Command<'_>>
-    ensures { option_map command_in result ≡ meaning.option_shape (forms_in arguments.now) }
+fn constant_shape(arguments: Shapes<'_>) -> Option<Command<'_>>
+    ensures { option_map command_in result ≡ meaning.constant_shape (forms_in arguments.entry) }
 {
-    match arguments {
-        [Sexpr::Keyword(key), value] => Some(Command::SetOption(key, value)),
-        _ => None,
+    match arguments.pair() {
+        Some((name, sort)) => constant_of(name, sort),
+        None => None,
     }
 }
 
-fn constant_shape(arguments: &[Sexpr]) -> Option<Command<'_>>
-    ensures { option_map command_in result ≡ meaning.constant_shape (forms_in arguments.now) }
+/// A constant by its name and its sort.
+fn constant_of<'a>(name: Shape<'a>, sort: Shape<'a>) -> Option<Command<'a>>
+    ensures { option_map command_in result ≡ meaning.constant_shape (shape_of name.entry ∷ shape_of sort.entry ∷ []) }
 {
-    match arguments {
-        [name, sort] if is_sort(sort) => Some(Command::DeclareConstant(declarable(name)?, sort)),
-        _ => None,
+    if !is_sort(sort) {
+        return None;
+    }
+    Some(Command::DeclareConstant(declarable(name)?, sort))
+}
+
+fn function_shape(arguments: Shapes<'_>) -> Option<Command<'_>>
+    ensures { option_map command_in result ≡ meaning.function_shape (forms_in arguments.entry) }
+{
+    let Some((name, rest)) = arguments.split_first() else {
+        return None;
+    };
+    match rest.pair() {
+        Some((sorts, sort)) => function_of(name, sorts, sort),
+        None => None,
     }
 }
 
-fn function_shape(arguments: &[Sexpr]) -> Option<Command<'_>>
-    ensures { option_map command_in result ≡ meaning.function_shape (forms_in arguments.now) }
+/// A function by its name, the sorts of its arguments and its own.
+fn function_of<'a>(name: Shape<'a>, sorts: Shape<'_>, sort: Shape<'_>) -> Option<Command<'a>>
+    ensures { option_map command_in result
+        ≡ meaning.function_shape (shape_of name.entry ∷ shape_of sorts.entry ∷ shape_of sort.entry ∷ []) }
 {
-    match arguments {
-        [name, sorts, sort] if is_sort_list(sorts) && is_sort(sort) => {
-            Some(Command::DeclareFunction(declarable(name)?))
-        }
-        _ => None,
+    if !is_sort_list(sorts) || !is_sort(sort) {
+        return None;
     }
+    Some(Command::DeclareFunction(declarable(name)?))
 }
 
-fn definition_shape(arguments: &[Sexpr]) -> Option<Command<'_>>
-    ensures { option_map command_in result ≡ meaning.definition_shape (forms_in arguments.now) }
+fn definition_shape(arguments: Shapes<'_>) -> Option<Command<'_>>
+    ensures { option_map command_in result ≡ meaning.definition_shape (forms_in arguments.entry) }
 {
-    match arguments {
-        [name, parameters, sort, _] => definition_of(name, parameters, sort),
-        _ => None,
+    let Some((name, behind)) = arguments.split_first() else {
+        return None;
+    };
+    let Some((parameters, rest)) = behind.split_first() else {
+        return None;
+    };
+    match rest.pair() {
+        Some((sort, _)) => definition_of(name, parameters, sort),
+        None => None,
     }
 }
 
 /// A definition by its name, parameters and sort, whatever its body.
-fn definition_of<'a>(name: &'a Sexpr, parameters: &Sexpr, sort: &Sexpr) -> Option<Command<'a>>
+fn definition_of<'a>(name: Shape<'a>, parameters: Shape<'_>, sort: Shape<'_>) -> Option<Command<'a>>
     ensures { (body : Form)
         → option_map command_in result
-        ≡ meaning.definition_shape (form_of name.now ∷ form_of parameters.now ∷ form_of sort.now ∷ body ∷ []) }
+        ≡ meaning.definition_shape
+        (shape_of name.entry ∷ shape_of parameters.entry ∷ shape_of sort.entry ∷ body ∷ []) }
 {
     if !is_parameter_list(parameters) || !is_sort(sort) {
         return None;
@@ -243,46 +306,49 @@ fn definition_of<'a>(name: &'a Sexpr, parameters: &Sexpr, sort: &Sexpr) -> Optio
     Some(Command::DeclareFunction(declarable(name)?))
 }
 
-fn assert_shape(arguments: &[Sexpr]) -> Option<Command<'_>>
-    ensures { option_map command_in result ≡ meaning.assert_shape (forms_in arguments.now) }
+fn assert_shape(arguments: Shapes<'_>) -> Option<Command<'_>>
+    ensures { option_map command_in result ≡ meaning.assert_shape (forms_in arguments.entry) }
 {
-    match arguments {
-        [term] => Some(Command::Assert(term)),
-        _ => None,
+    match arguments.only() {
+        Some(term) => Some(Command::Assert(term)),
+        None => None,
     }
 }
 
-fn value_shape(arguments: &[Sexpr]) -> Option<Command<'_>>
-    ensures { option_map command_in result ≡ meaning.value_shape (forms_in arguments.now) }
+fn value_shape(arguments: Shapes<'_>) -> Option<Command<'_>>
+    ensures { option_map command_in result ≡ meaning.value_shape (forms_in arguments.entry) }
 {
-    match arguments {
-        [terms] => asked(terms),
-        _ => None,
+    match arguments.only() {
+        Some(terms) => asked(terms),
+        None => None,
     }
 }
 
 /// The question for the values of a list of terms.
-fn asked(terms: &Sexpr) -> Option<Command<'_>>
-    ensures { option_map command_in result ≡ meaning.value_shape (form_of terms.now ∷ []) }
+fn asked(terms: Shape<'_>) -> Option<Command<'_>>
+    ensures { option_map command_in result ≡ meaning.value_shape (shape_of terms.entry ∷ []) }
 {
     match terms {
-        Sexpr::List(items) => asked_items(items),
+        Shape::List(items) => asked_items(items),
         _ => None,
     }
 }
 
-fn asked_items(items: &[Sexpr]) -> Option<Command<'_>>
-    ensures { option_map command_in result ≡ meaning.value_shape (Group (group_in items.now) ∷ []) }
+fn asked_items(items: Shapes<'_>) -> Option<Command<'_>>
+    ensures { option_map command_in result ≡ meaning.value_shape (Group (shapes_in items.entry) ∷ []) }
 {
-    if items.is_empty() || !are_items(items) {
+    if items.is_empty() {
+        return None;
+    }
+    if !are_items(items) {
         return None;
     }
     Some(Command::GetValue(items))
 }
 
 /// A command without arguments.
-fn bare<'a>(command: Command<'a>, arguments: &[Sexpr]) -> Option<Command<'a>>
-    ensures { option_map command_in result ≡ meaning.bare (command_in command.entry) (forms_in arguments.now) }
+fn bare<'a>(command: Command<'a>, arguments: Shapes<'_>) -> Option<Command<'a>>
+    ensures { option_map command_in result ≡ meaning.bare (command_in command.entry) (forms_in arguments.entry) }
 {
     arguments.is_empty().then_some(command)
 }

@@ -3,7 +3,7 @@
 ghost use Rattle.std.specs.Prelude.{◌≡◌, ℕ, ◌<◌, ◌≤◌, List, [], true, map, length, Result, IfOk, OnErr, MatchResult};
 ghost use Rattle.std.specs.List.{All};
 ghost use Rattle.sb_reader.specs.Entries as entries;
-ghost use Rattle.sb_reader.specs.Forms.{form_of};
+ghost use Rattle.sb_reader.specs.Forms.{form_of, shape_of};
 ghost use Rattle.sb_meaning.specs.Terms as terms;
 ghost use Rattle.sb_meaning.specs.Values.{Valuation};
 ghost use Rattle.sb_script.specs.Faults.{Fault, unsupported};
@@ -34,7 +34,7 @@ use crate::value::{
     Item, all_constants, constants, first_unknown, items, model_line, some_malformed, values_line,
 };
 use crate::verdict::Verdict;
-use sb_reader::{Next, Sexpr};
+use sb_reader::{Next, Sexpr, Shape, Shapes};
 use sb_sorts::{DeclareError, ReadFault, Scope, read_term};
 use sb_term::{Assertion, Sort, Table, TermId};
 use sb_word::Word;
@@ -217,9 +217,9 @@ impl Stack {
         Ok(Step::Answer(answer))
     }
 
-    fn set_option(&mut self, key: &[u8], value: &Sexpr) -> Result<Step, AllocError>
+    fn set_option(&mut self, key: &[u8], value: Shape<'_>) -> Result<Step, AllocError>
         ensures ok { IfOk result
-            (λ step. IsStep (options.set_option key.now (form_of value.now) (state_of self.old)) step
+            (λ step. IsStep (options.set_option key.now (shape_of value.entry) (state_of self.old)) step
             (state_of self.old) (state_of self.new)) }
         ensures err { OnErr result (state_of self.new ≡ state_of self.old) }
         ensures keeps { Keeps self.old self.new }
@@ -234,10 +234,10 @@ impl Stack {
     }
 
     /// Sets `:print-success`. The answer goes by the new value.
-    fn set_print_success(&mut self, value: &Sexpr) -> Result<Step, AllocError>
+    fn set_print_success(&mut self, value: Shape<'_>) -> Result<Step, AllocError>
         ensures ok { IfOk result
             (λ step. IsStep
-            (options.with_truth (form_of value.now) (with_print_success (state_of self.old)) (state_of self.old)) step
+            (options.with_truth (shape_of value.entry) (with_print_success (state_of self.old)) (state_of self.old)) step
             (state_of self.old) (state_of self.new)) }
         ensures err { OnErr result (state_of self.new ≡ state_of self.old) }
         ensures keeps { Keeps self.old self.new }
@@ -250,10 +250,10 @@ impl Stack {
         Ok(Step::Answer(answer))
     }
 
-    fn set_produce_models(&mut self, value: &Sexpr) -> Result<Step, AllocError>
+    fn set_produce_models(&mut self, value: Shape<'_>) -> Result<Step, AllocError>
         ensures ok { IfOk result
             (λ step. IsStep
-            (options.with_truth (form_of value.now) (with_produce_models (state_of self.old)) (state_of self.old)) step
+            (options.with_truth (shape_of value.entry) (with_produce_models (state_of self.old)) (state_of self.old)) step
             (state_of self.old) (state_of self.new)) }
         ensures err { OnErr result (state_of self.new ≡ state_of self.old) }
         ensures keeps { Keeps self.old self.new }
@@ -266,9 +266,9 @@ impl Stack {
         Ok(Step::Answer(answer))
     }
 
-    fn declare_constant(&mut self, name: &[u8], sort: &Sexpr) -> Result<Step, AllocError>
+    fn declare_constant(&mut self, name: &[u8], sort: Shape<'_>) -> Result<Step, AllocError>
         ensures ok { IfOk result
-            (λ step. IsStep (meaning.declare_constant name.now (form_of sort.now) (state_of self.old)) step
+            (λ step. IsStep (meaning.declare_constant name.now (shape_of sort.entry) (state_of self.old)) step
             (state_of self.old) (state_of self.new)) }
         ensures err { OnErr result (state_of self.new ≡ state_of self.old) }
         ensures keeps { Keeps self.old self.new }
@@ -322,9 +322,9 @@ impl Stack {
         }
     }
 
-    fn assert(&mut self, form: &Sexpr) -> Result<Step, AllocError>
+    fn assert(&mut self, form: Shape<'_>) -> Result<Step, AllocError>
         ensures ok { IfOk result
-            (λ step. IsStep (meaning.assert (form_of form.now) (state_of self.old)) step (state_of self.old)
+            (λ step. IsStep (meaning.assert (shape_of form.entry) (state_of self.old)) step (state_of self.old)
             (state_of self.new)) }
         ensures err { OnErr result (state_of self.new ≡ state_of self.old) }
         ensures keeps { Keeps self.old self.new }
@@ -336,8 +336,8 @@ impl Stack {
     }
 
     /// Reads a term. Only the table grows.
-    fn read(&mut self, form: &Sexpr) -> Result<TermId, ReadFault>
-        ensures reads { ReadsAs self.new.table (read (names_in self.old.scope) (form_of form.now)) result }
+    fn read(&mut self, form: Shape<'_>) -> Result<TermId, ReadFault>
+        ensures reads { ReadsAs self.new.table (read (names_in self.old.scope) (shape_of form.entry)) result }
         ensures state { state_of self.new ≡ state_of self.old }
         ensures keeps { Keeps self.old self.new }
     {
@@ -440,9 +440,9 @@ impl Stack {
         }
     }
 
-    fn get_value(&self, forms: &[Sexpr]) -> Result<Step, AllocError>
+    fn get_value(&self, forms: Shapes<'_>) -> Result<Step, AllocError>
         ensures { IfOk result
-            (λ step. IsStep (meaning.get_value (forms_in forms.now) (state_of self.now)) step (state_of self.now)
+            (λ step. IsStep (meaning.get_value (forms_in forms.entry) (state_of self.now)) step (state_of self.now)
             (state_of self.now)) }
     {
         let items = items(self.alloc, &self.scope, forms)?;

@@ -1,7 +1,7 @@
 //! Constants with their values, and what is asked for (SMT-LIB 2.6, section 4.2.6).
 
 ghost use Rattle.std.specs.Prelude.{◌≡◌, ◌++◌, [], map, option_map, option_copied, slice_index_or, IfOk, OnOk};
-ghost use Rattle.sb_reader.specs.Forms.{form_of, Symbol};
+ghost use Rattle.sb_reader.specs.Forms.{shape_of, Symbol};
 ghost use Rattle.sb_word.specs.Literals.{literal_text};
 ghost use Rattle.sb_meaning.specs.Terms.{text as of_text};
 ghost use Rattle.sb_meaning.specs.Values.{value_in};
@@ -15,7 +15,7 @@ ghost use Rattle.sb_stack.specs.Stacked.{values_from};
 ghost use Rattle.sb_stack.specs.Values.{constant_in, asked_in, item_in, with_names, gap_at};
 
 use crate::name::push_name;
-use sb_reader::Sexpr;
+use sb_reader::{Shape, Shapes};
 use sb_sorts::{Named, Scope, begins_term, is_reserved, is_theory_name};
 use sb_term::Serial;
 use sb_word::{Word, print_literal};
@@ -81,12 +81,12 @@ fn item_bare<'a>(scope: &Scope, name: &'a [u8]) -> Item<'a>
     }
 }
 
-fn item_of<'a>(scope: &Scope, form: &'a Sexpr) -> Item<'a>
-    ensures { item_in result ≡ meaning.item_of (with_names (names_in scope.now)) (form_of form.now) }
+fn item_of<'a>(scope: &Scope, form: Shape<'a>) -> Item<'a>
+    ensures { item_in result ≡ meaning.item_of (with_names (names_in scope.now)) (shape_of form.entry) }
 {
     match form {
-        Sexpr::Symbol(name) => item_bare(scope, name),
-        Sexpr::QuotedSymbol(name) => item_named(scope, name),
+        Shape::Symbol(name) => item_bare(scope, name),
+        Shape::QuotedSymbol(name) => item_named(scope, name),
         _ => Item::Other,
     }
 }
@@ -95,15 +95,17 @@ fn item_of<'a>(scope: &Scope, form: &'a Sexpr) -> Item<'a>
 pub(crate) fn items<'a>(
     alloc: Global,
     scope: &Scope,
-    forms: &'a [Sexpr],
+    forms: Shapes<'a>,
 ) -> Result<Vec<Item<'a>>, AllocError>
     ensures { IfOk result
         (λ found. map item_in found.items
-        ≡ map (meaning.item_of (with_names (names_in scope.now))) (forms_in forms.now)) }
+        ≡ map (meaning.item_of (with_names (names_in scope.now))) (forms_in forms.entry)) }
 {
     let mut found = Vec::new(alloc);
-    for form in forms {
+    let mut left = forms;
+    while let Some((form, behind)) = left.split_first() {
         found.push(item_of(scope, form))?;
+        left = behind;
     }
     Ok(found)
 }

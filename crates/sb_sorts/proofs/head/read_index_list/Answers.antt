@@ -1,23 +1,16 @@
-use Rattle.std.proofs.Common.{drop, sym, ap, subst, ◌∙◌, arith}
-use Rattle.sb_reader.specs.Forms.{forms_in}
+use Rattle.std.proofs.Common.{sym, ap, subst, ◌∙◌}
+use Rattle.sb_reader.specs.Forms.{shape_of, shapes_in}
+use Rattle.sb_script.specs.Reading.{read_index_list}
 use Rattle.sb_sorts.specs.Scopes.{names_in}
 use Rattle.sb_sorts.specs.Heads.{head_in, Gives}
-use Rattle.sb_sorts.proofs.Shapes.{by_name, indexed, unindexed}
+use Rattle.sb_sorts.proofs.Shapes.{by_name, indexed}
 use Rattle.sb_sorts.proofs.head.read_index_list.Goals as goal
 
-pub returns-in_default-clause-reads : goal.returns-in_default-clause-reads
-returns-in_default-clause-reads c = unindexed (names_in c.args.scope.now) c.args.forms.now (omega arith)
-
-pub returns-in-Some-clause-reads : goal.returns-in-Some-clause-reads
-returns-in-Some-clause-reads c =
+pub returns-in-Some-name_of-clause-reads : goal.returns-in-Some-name_of-clause-reads
+returns-in-Some-name_of-clause-reads c =
     let names = names_in c.args.scope.now in
-    let indices = forms_in (drop 1 c.args.forms.now) in
-    let by = indexed names c.args.forms.now c.first-item.result (omega arith) c.first-item.is in
+    let indices = shapes_in c.in-Some.indices in
+    let by = ap (read_index_list names) c.in-Some.ensures
+    ∙ indexed names (shape_of c.in-Some.first) indices (sym c.is_empty.ensures ∙ c.if-is_empty.false) in
     subst (λ reading. Gives head_in reading c.read_indexed.result)
-    (sym (by ∙ ap (by_name names indices) (sym c.in-Some.ensures))) (c.read_indexed.ensures.reads indices)
-
-pub returns-in-None-clause-reads : goal.returns-in-None-clause-reads
-returns-in-None-clause-reads c =
-    let names = names_in c.args.scope.now in
-    indexed names c.args.forms.now c.first-item.result (omega arith) c.first-item.is
-    ∙ ap (by_name names (forms_in (drop 1 c.args.forms.now))) (sym c.in-None.ensures)
+    (sym (by ∙ ap (by_name names indices) (sym c.in-Some-name_of.ensures))) (c.read_indexed.ensures.reads indices)

@@ -1,5 +1,8 @@
-use Rattle.sb_reader.proofs.Stack.{push_gains}
+use Rattle.std.proofs.Common.{refl}
+use Rattle.sb_reader.proofs.Laying.{push_laid}
 use Rattle.sb_reader.proofs.parse.OpenLists.push.Goals as goal
 
-pub returns-clause-gains : goal.returns-clause-gains
-returns-clause-gains c = push_gains c.args.self.now c.push.new.self c.args.form c.in_ok-push.ensures.items c.requires
+pub returns : goal.returns
+returns c = λ forms outer laid.
+    push_laid c.args.self.now _ forms outer c.args.atom.kind c.args.atom.bytes.now _ laid
+    c.in_ok-length.ensures c.in_ok-push.ensures.items c.in_ok-extend_from_slice.ensures.items refl

@@ -11,7 +11,7 @@ use Rattle.sb_stack.proofs.stack.Stack.get_value.Goals as goal
 pub returns : goal.returns
 returns c =
     let s = state_of c.args.self.now in
-    let kept = ap (λ (k : Stacked). map (item_of (with_names (names_of (state_of k)))) (forms_in c.args.forms.now))
+    let kept = ap (λ (k : Stacked). map (item_of (with_names (names_of (state_of k)))) (forms_in c.args.forms))
     c.self.view_is in
     let items = ap (map item_in) c.deref.ensures.value ∙ c.in_ok-items.ensures ∙ kept in
     same_step c.answer_items.result _ _ s c.answer_items.ensures (ap (λ q. asks q s) (sym items))
