@@ -142,11 +142,11 @@ the_limit_is_not_reached = refl
 
 -- What is not brought is refused by rule, unless a number names nothing.
 
-a_kind : judged_lines (changed 3 (codes "r not 0")) ≡ refused [] 3 rule_broken
+a_kind : judged_lines (changed 3 (codes "r rep 0 2 3")) ≡ refused [] 3 rule_broken
 unfolding computing
 a_kind = refl
 
-a_kind_of_no_regex : judged_lines (changed 3 (codes "r not 1")) ≡ refused [] 3 unknown_id
+a_kind_of_no_regex : judged_lines (changed 3 (codes "r rep 1 2 3")) ≡ refused [] 3 unknown_id
 unfolding computing
 a_kind_of_no_regex = refl
 
