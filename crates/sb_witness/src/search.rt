@@ -5,12 +5,13 @@ ghost use Rattle.sb_word.specs.Words.{IsWord};
 ghost use Rattle.sb_lang.specs.Language.{language};
 ghost use Rattle.sb_regex.specs.Numbered.{regex_at, Extends};
 ghost use Rattle.sb_deriv.specs.Faithful.{IsFaithful, KeepsEntries};
-ghost use Rattle.sb_witness.specs.Witness.{IsOutcome, MeetsBound};
+ghost use Rattle.sb_witness.specs.Witness.{IsOutcome, MeetsBound, AreMany};
 ghost use Rattle.sb_witness.specs.Queue.{word_at, GoesBack, AreWords, LeadsBy, AreTested, IsFirstNullable};
 ghost use Rattle.sb_witness.specs.Search.{IsSearched, IsStop, first_language};
 
 use crate::queue::Queue;
 use crate::turn::take_turn;
+use sb_depth::find_by_length;
 use sb_deriv::Deriver;
 use sb_lang::derivative::nullable_has_empty_word;
 use sb_regex::{Arena, RegexId};
@@ -34,7 +35,8 @@ pub enum Outcome {
 /// derivatives, which are kept, and the intersections that targets are split into, at most 16 for each piece. No state
 /// is expanded whose word is as long as the one that is found. The walk ends at the bound where there are many states,
 /// or where it takes many to see that there is no word. States that are met and not expanded are not counted, so one
-/// that leads to thousands ends no walk.
+/// that leads to thousands ends no walk. Where the walk came to the bound, a search for a word of one length after the
+/// other expands as many states again: it finds a short word that lies behind many others.
 pub fn find_word(
     alloc: Global,
     arena: &mut Arena,
@@ -60,7 +62,33 @@ pub fn find_word(
             Ok(Outcome::Found(word))
         }
         Stop::End => Ok(Outcome::Empty),
-        Stop::Bound => Ok(Outcome::Bounded),
+        Stop::Bound => search_lengths(alloc, arena, deriver, root, bound),
+    }
+}
+
+/// What a search by lengths finds, where a walk has met so many states.
+fn search_lengths(
+    alloc: Global,
+    arena: &mut Arena,
+    deriver: &mut Deriver,
+    root: RegexId,
+    bound: usize,
+) -> Result<Outcome, AllocError>
+    requires known { root < length arena.old }
+    requires faithful { IsFaithful arena.old deriver.old }
+    requires many { AreMany arena.old (language (regex_at arena.old root)) bound }
+    ensures found { IfOk result (λ outcome. IsOutcome (language (regex_at arena.old root)) outcome) }
+    ensures bound { IfOk result (λ outcome. MeetsBound arena.new (language (regex_at arena.old root)) bound outcome) }
+    ensures extends { Extends arena.old arena.new }
+    ensures faithful { IsFaithful arena.new deriver.new }
+    ensures kept { KeepsEntries deriver.old deriver.new }
+{
+    match find_by_length(alloc, arena, deriver, root, bound)? {
+        Some(codes) => {
+            let word = word_from(alloc, &codes)?;
+            Ok(Outcome::Found(word))
+        }
+        None => Ok(Outcome::Bounded),
     }
 }
 
