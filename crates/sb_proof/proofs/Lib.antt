@@ -1,3 +1,4 @@
 pub mod FieldFacts
 pub mod NumberFacts
 pub mod RowFacts
+pub mod HexadecimalFacts

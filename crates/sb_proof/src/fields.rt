@@ -27,7 +27,7 @@ pub(crate) fn put_integer(text: &mut String, n: i128) -> Result<(), AllocError>
     text.push_str(buffer.format(n))
 }
 
-pub(crate) fn put_hexadecimal(text: &mut String, n: u64) -> Result<(), AllocError>
+fn put_hexadecimal(text: &mut String, n: u64) -> Result<(), AllocError>
     ensures { OnOk result (string_bytes text.new ≡ string_bytes text.old ++ hexadecimal n) }
 {
     write!(text, "{n:x}")

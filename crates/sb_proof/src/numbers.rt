@@ -1,17 +1,16 @@
 //! Numbers in fields.
 
-ghost use Rattle.std.specs.Prelude.{◌≡◌, ℕ, ◌+◌, ◌*◌, option_map, IfOk};
+ghost use Rattle.std.specs.Prelude.{◌≡◌, ◌+◌, ◌*◌, ◌<◌, false, option_map};
+ghost use Rattle.std.specs.Fmt.{digit_glyph};
 ghost use Rattle.sb_word.specs.Literals.{hex_value, hex_number_from};
 ghost use Rattle.sb_rulebook.specs.Lines.{hexadecimal};
 ghost use Rattle.sb_rulebook.specs.Reading.{is_text, decimal_from, number, hexadecimal_number, negative, integer, literal, variable};
 ghost use Rattle.sb_proof.specs.Lines.{variable_in};
 ghost use Rattle.sb_proof.specs.Spelled.{decimal_value, if_small, small};
 
-use crate::fields::put_hexadecimal;
 use crate::line::Variable;
 use itoa::Buffer;
 use sb_lit::Lit;
-use std::alloc::{AllocError, Global};
 
 /// The number in decimal digits, without leading zeros.
 pub(crate) fn number(field: &[u8]) -> Option<u64>
@@ -27,17 +26,15 @@ pub(crate) fn number(field: &[u8]) -> Option<u64>
 }
 
 /// The number in lower-case hexadecimal digits, without leading zeros.
-pub(crate) fn hexadecimal_number(alloc: Global, field: &[u8]) -> Result<Option<u64>, AllocError>
-    ensures { IfOk result (λ n. n ≡ hexadecimal_number field.now) }
+pub(crate) fn hexadecimal_number(field: &[u8]) -> Option<u64>
+    ensures { result ≡ hexadecimal_number field.now }
 {
-    let Some(n) = hexadecimal_spelled(field) else {
-        return Ok(None);
-    };
-    Ok(if is_hexadecimal(alloc, n, field)? {
+    let n = hexadecimal_spelled(field)?;
+    if is_hexadecimal(n, field) {
         Some(n)
     } else {
         None
-    })
+    }
 }
 
 /// An integer: a number, with `-` before a negative one.
@@ -90,12 +87,33 @@ fn negative(n: u64) -> Option<i128>
 }
 
 /// Whether the field is what is printed of the number.
-fn is_hexadecimal(alloc: Global, n: u64, field: &[u8]) -> Result<bool, AllocError>
-    ensures { IfOk result (λ is. is ≡ is_text (hexadecimal n) field.now) }
+fn is_hexadecimal(n: u64, field: &[u8]) -> bool
+    ensures { result ≡ is_text (hexadecimal n) field.now }
 {
-    let mut text = String::new(alloc);
-    put_hexadecimal(&mut text, n)?;
-    Ok(text.as_bytes() == field)
+    let mut left = n;
+    let mut unread = field;
+    while let Some((last, front)) = unread.split_last() {
+        if hexadecimal_glyph(left % 16) != *last {
+            return false;
+        }
+        left /= 16;
+        unread = front;
+        if left == 0 {
+            return unread.is_empty();
+        }
+    }
+    false
+}
+
+fn hexadecimal_glyph(digit: u64) -> u8
+    requires { digit < 16 }
+    ensures { result ≡ digit_glyph false digit }
+{
+    if digit < 10 {
+        b'0' + digit as u8
+    } else {
+        b'a' + (digit as u8 - 10)
+    }
 }
 
 /// The number that decimal digits spell, where it is below 2^64.

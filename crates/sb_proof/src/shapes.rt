@@ -64,7 +64,7 @@ fn each_character(alloc: Global, fields: &[&[u8]]) -> Result<Option<Vec<u64>>, A
 {
     let mut characters = Vec::new(alloc);
     for field in fields {
-        let Some(character) = hexadecimal_number(alloc, field)? else {
+        let Some(character) = hexadecimal_number(field) else {
             return Ok(None);
         };
         characters.push(character)?;
@@ -185,10 +185,10 @@ impl Shape for (u64, u64) {
         let [first, last] = parts.as_slice() else {
             return Ok(None);
         };
-        let Some(first) = hexadecimal_number(alloc, first)? else {
+        let Some(first) = hexadecimal_number(first) else {
             return Ok(None);
         };
-        let Some(last) = hexadecimal_number(alloc, last)? else {
+        let Some(last) = hexadecimal_number(last) else {
             return Ok(None);
         };
         Ok(Some((first, last)))
