@@ -1,9 +1,9 @@
 //! Terms of one language have one number, and terms with a constant in them have none.
 
-use crate::terms::{list_of, scope_of_tests};
+use crate::terms::{list_of, only_in, scope_of_tests};
 use sb_class::Class;
 use sb_problem::Normals;
-use sb_reader::{Feed, Next, Sexpr};
+use sb_reader::{Feed, Next};
 use sb_regex::{Arena, RegexId};
 use sb_sorts::{Scope, read_term};
 use sb_term::Table;
@@ -43,10 +43,7 @@ fn number_in(
     arena: &mut Arena,
     list: &Next,
 ) -> Result<Option<RegexId>, AllocError> {
-    let Next::Command(Sexpr::List(forms)) = list else {
-        return Err(AllocError);
-    };
-    let Some(form) = forms.first() else {
+    let Some(form) = only_in(list) else {
         return Err(AllocError);
     };
     let mut table = Table::new(alloc);

@@ -3,7 +3,7 @@
 ghost use Rattle.std.specs.Prelude.{◌≡◌, false};
 
 use crate::bytes::push_bytes;
-use sb_reader::{Feed, Next, Sexpr};
+use sb_reader::{Feed, Next, Shape};
 use sb_sorts::{DeclareError, Named, ReadFault, Scope, read_term};
 use sb_term::{Serial, Sort, Symbol, Table, Term, TermId};
 use std::alloc::{AllocError, Global};
@@ -170,7 +170,7 @@ fn push_read(
     alloc: Global,
     scope: &Scope,
     out: &mut String,
-    form: &Sexpr,
+    form: Shape<'_>,
 ) -> Result<(), AllocError> {
     let mut table = Table::new(alloc);
     match read_term(alloc, &mut table, scope, form) {
@@ -182,15 +182,28 @@ fn push_read(
     }
 }
 
-/// Writes what the forms of a list are read as.
-fn push_all(alloc: Global, scope: &Scope, out: &mut String, list: &Next) -> Result<(), AllocError> {
-    let Next::Command(Sexpr::List(forms)) = list else {
-        return Ok(());
+/// The form of a list that has no other.
+pub fn only_in(list: &Next) -> Option<Shape<'_>> {
+    let Next::Command(form) = list else {
+        return None;
     };
-    for form in forms {
-        push_read(alloc, scope, out, form)?;
+    let Shape::List(forms) = form.shape() else {
+        return None;
+    };
+    forms.only()
+}
+
+/// Writes what the form of a list is read as.
+fn push_only(
+    alloc: Global,
+    scope: &Scope,
+    out: &mut String,
+    list: &Next,
+) -> Result<(), AllocError> {
+    match only_in(list) {
+        Some(form) => push_read(alloc, scope, out, form),
+        None => Ok(()),
     }
-    Ok(())
 }
 
 /// The list of the form alone.
@@ -207,7 +220,7 @@ pub fn list_of(feed: &mut Feed, form: &[u8]) -> Result<Next, AllocError>
 fn answer(alloc: Global, scope: &Scope, form: &[u8]) -> Result<String, AllocError> {
     let list = list_of(&mut Feed::new(alloc), form)?;
     let mut out = String::new(alloc);
-    push_all(alloc, scope, &mut out, &list)?;
+    push_only(alloc, scope, &mut out, &list)?;
     Ok(out)
 }
 
@@ -295,10 +308,7 @@ fn sizes_of(
     scope: &Scope,
     list: &Next,
 ) -> Result<Option<(usize, usize)>, AllocError> {
-    let Next::Command(Sexpr::List(forms)) = list else {
-        return Ok(None);
-    };
-    let Some(form) = forms.first() else {
+    let Some(form) = only_in(list) else {
         return Ok(None);
     };
     match read_term(alloc, table, scope, form) {
