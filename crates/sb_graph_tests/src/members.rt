@@ -55,13 +55,15 @@ fn length_of(outcome: &Outcome) -> usize {
     }
 }
 
-/// Regexes, how many states a walk may meet, and what it finds.
-const ROWS: [(&[u8], usize, usize); 5] = [
+/// Regexes, how many states a walk may meet, and what it finds, or a search by lengths where it met so many.
+const ROWS: [(&[u8], usize, usize); 7] = [
     (b"aa.b.z|", 100, 1),
     (b"E*ba..E*.E*ab..E*.&", 100, 3),
     (b"aaa.*.aa.a.*&", 100, 3),
     (b"a*b.a*c.&", 100, 1000000),
     (b"ab.a.b.a.b.", 3, 2000000),
+    (b"x*a.x.x.x.x*b.x.x.x.x.&", 8, 5),
+    (b"x*a.x.x.x.x*b.x.x.x.x.&", 4, 2000000),
 ];
 
 fn all_walk(

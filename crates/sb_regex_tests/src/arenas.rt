@@ -33,27 +33,38 @@ fn are_same(
     Ok(())
 }
 
-/// Regexes, and whether they have the empty word.
-const NULLABLE: [(&[u8], bool); 8] = [
-    (b"N", false),
-    (b"Z", true),
-    (b"a", false),
-    (b"a*", true),
-    (b"ab.c.", false),
-    (b"a*b*.", true),
-    (b"aZ|", true),
-    (b"a*aa.|", true),
+/// Regexes, whether they have the empty word, and for a length whether a word of it may be one, and each must.
+const ROWS: [(&[u8], bool, usize, (bool, bool)); 10] = [
+    (b"N", false, 0, (false, false)),
+    (b"Z", true, 0, (true, true)),
+    (b"a", false, 1, (true, false)),
+    (b"a*", true, 63, (true, false)),
+    (b"ab.c.", false, 2, (false, false)),
+    (b"a*b*.", true, 64, (true, false)),
+    (b"aZ|", true, 1, (true, false)),
+    (b"a*aa.|", true, 2, (true, false)),
+    (b"EE.*", true, 62, (true, true)),
+    (b"EE.*ZEE.E.|&", true, 3, (false, false)),
 ];
 
-fn are_nullable(
+/// Whether a word of the length may be in the regex, and each must.
+fn at_length(arena: &Arena, r: RegexId, length: usize) -> (bool, bool) {
+    if r.number() >= arena.len() {
+        return (false, false);
+    }
+    (arena.lengths(r).may(length), arena.lengths(r).must(length))
+}
+
+fn have_lengths(
     rt: &impl Abort,
     alloc: Global,
     arena: &mut Arena,
-    rows: &[(&[u8], bool)],
+    rows: &[(&[u8], bool, usize, (bool, bool))],
 ) -> Result<(), AllocError> {
-    for (text, wanted) in rows {
+    for (text, empty, length, wanted) in rows {
         let r = regex(alloc, arena, text)?;
-        assert_eq!(rt; nullable(arena, r), *wanted);
+        assert_eq!(rt; nullable(arena, r), *empty);
+        assert!(rt; at_length(arena, r, *length) == *wanted);
     }
     Ok(())
 }
@@ -114,7 +125,7 @@ fn stand_in_order(rt: &impl Abort, alloc: Global, arena: &mut Arena) -> Result<(
 
 fn are_normal(rt: &impl Abort, alloc: Global, arena: &mut Arena) -> Result<(), AllocError> {
     are_same(rt, alloc, arena, &SAME)?;
-    are_nullable(rt, alloc, arena, &NULLABLE)?;
+    have_lengths(rt, alloc, arena, &ROWS)?;
     joins(rt, alloc, arena)?;
     stand_in_order(rt, alloc, arena)
 }
