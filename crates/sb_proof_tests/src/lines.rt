@@ -1,6 +1,6 @@
 //! Texts of lines, as docs/PROOF-FORMAT.md has them.
 
-use sb_proof::{Line, LineFault, print_line, read_line};
+use sb_proof::{Atom, Line, LineFault, Node, Variable, print_line, read_line};
 use std::alloc::{AllocError, Global};
 use std::process::Abort;
 use std::test::Fail;
@@ -193,6 +193,19 @@ fn lines_go_round(rt: HostRuntime) -> Result<(), Fail> {
     for text in LINES {
         goes_round(&rt, rt.alloc(), text)?;
     }
+    Ok(())
+}
+
+fn in_order(rt: &impl Abort, alloc: Global) -> Result<(), AllocError> {
+    let bound = Line::Atom(Atom::Le(Variable::Length(2), -5));
+    prints_as(rt, alloc, &Line::Regex(Node::Cat(2, 3)), "r cat 2 3")?;
+    prints_as(rt, alloc, &Line::Regex(Node::Rep(1, 2, 3)), "r rep 1 2 3")?;
+    prints_as(rt, alloc, &bound, "a le l2 -5")
+}
+
+#[test]
+fn numbers_keep_their_order(rt: HostRuntime) -> Result<(), Fail> {
+    in_order(&rt, rt.alloc())?;
     Ok(())
 }
 
