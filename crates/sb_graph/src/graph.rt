@@ -410,8 +410,9 @@ impl Graph {
         visit(queue, &self.dead, derivative.pieces(), place)
     }
 
-    /// Makes the derivative of a regex known. Where it was not, the regex counts as expanded.
-    fn derive(&mut self, arena: &mut Arena, regex: RegexId) -> Result<(), AllocError>
+    /// Makes the derivative of a regex known. Where it was not, the regex counts as expanded. Linear in the pieces of
+    /// the derivatives that were not known of the regex and its parts.
+    pub fn derive(&mut self, arena: &mut Arena, regex: RegexId) -> Result<(), AllocError>
         requires graph { IsGraph arena.old self.old }
         requires known { regex < length arena.old }
         ensures done { OnOk result (IsSome (entry_of self.new.memo regex)) }

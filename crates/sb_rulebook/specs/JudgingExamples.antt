@@ -142,7 +142,7 @@ the_limit_is_not_reached = refl
 
 -- What is not brought is refused by rule, unless a number names nothing.
 
-a_kind : judged_lines (changed 3 (codes "r not 0")) ≡ refused [] 3 rule_broken
+a_kind : judged_lines (changed 3 (codes "r rep 0 2 3")) ≡ refused [] 3 rule_broken
 unfolding computing
 a_kind = refl
 
