@@ -1,8 +1,8 @@
 -- Private: the parts of a node, and the classes of an expansion.
-use Rattle.std.specs.Prelude.{◌≡◌, ℕ, ◌+◌, ◌-◌, ◌<◌, ◌≤◌, Bool, true, List, [], ◌∷◌, length, map, slice_get, Option, Some, None, is_some}
-use Rattle.std.specs.List.{zip}
+use Rattle.std.specs.Prelude.{◌≡◌, ℕ, ◌-◌, ◌<◌, Bool, true, not, List, [], ◌∷◌, length, map, Some, is_some}
 use Rattle.sb_lang.specs.Regex.{Regex}
 use Rattle.sb_regex.specs.declared.node.Node.{Node}
+use Rattle.sb_regex.specs.declared.node.Node.TheVariants as node
 use Rattle.sb_regex.specs.Numbered.{regex_at}
 use Rattle.sb_regex.specs.Nodes.{node_regex, PartsBelow}
 use Rattle.sb_deriv.specs.Pieces.{end_of_characters, targets_of}
@@ -15,16 +15,23 @@ use Rattle.sb_trace.specs.Tracking.{number_in}
 abbrev pub IsNumbered : List ℕ → ℕ → Type 0
 IsNumbered order n = is_some (number_in order n) ≡ true
 
--- the parts in front of a place, from another one on, have numbers
-abbrev pub AreNumberedFrom : List ℕ → List ℕ → ℕ → ℕ → Type 0
-AreNumberedFrom order parts from end =
-    (k : ℕ) (part : ℕ) → from ≤ k → k < end → slice_get parts k ≡ Some part → IsNumbered order part
+-- the regex has none
+abbrev pub is_lacking : List ℕ → ℕ → Bool
+is_lacking order n = not (is_some (number_in order n))
 
--- the first part from a place on that has no number
-abbrev pub IsLacking : List ℕ → List ℕ → ℕ → Option (ℕ × ℕ) → Type 0
-IsLacking order parts from None = (k : ℕ) (part : ℕ) → from ≤ k → slice_get parts k ≡ Some part → IsNumbered order part
-IsLacking order parts from (Some found) = (from ≤ found.0) × (slice_get parts found.0 ≡ Some found.1)
-    × (number_in order found.1 ≡ None) × AreNumberedFrom order parts from found.0
+-- the node of a proof with the numbers of the parts
+abbrev pub IsNodeIn : List ℕ → Node → lines.Node → Type 0
+IsNodeIn order node.None n = n ≡ lines.none_node
+IsNodeIn order node.Eps n = n ≡ lines.eps_node
+IsNodeIn order (node.Set ranges) n = n ≡ lines.set_node ranges.items
+IsNodeIn order (node.Cat a b) n =
+    (i : ℕ) × (j : ℕ) × (number_in order a ≡ Some i) × (number_in order b ≡ Some j) × (n ≡ lines.cat_node i j)
+IsNodeIn order (node.Alt parts) n =
+    (is : List ℕ) × (map (number_in order) parts.items ≡ map Some is) × (n ≡ lines.alt_node is)
+IsNodeIn order (node.And parts) n =
+    (is : List ℕ) × (map (number_in order) parts.items ≡ map Some is) × (n ≡ lines.and_node is)
+IsNodeIn order (node.Not a) n = (i : ℕ) × (number_in order a ≡ Some i) × (n ≡ lines.not_node i)
+IsNodeIn order (node.Star a) n = (i : ℕ) × (number_in order a ≡ Some i) × (n ≡ lines.star_node i)
 
 -- the node is the one of the regex at a number
 pub record IsNodeAt (rs : List Regex) (n : ℕ) (node : Node) : Type 0 where

@@ -1,3 +1,4 @@
 pub mod Putting
 pub mod Tracking
 pub mod Defining
+pub mod Waiting

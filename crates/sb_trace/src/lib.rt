@@ -8,6 +8,7 @@
 //! and verdicts.
 #![tactic(auto)]
 
+mod frame;
 mod node;
 mod trace;
 

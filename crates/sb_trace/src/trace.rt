@@ -1,25 +1,27 @@
 //! The trace.
 
-ghost use Rattle.std.specs.Prelude.{◌≡◌, ◌≢◌, ◌<◌, ◌↔◌, ◌++◌, ◌∷◌, ℕ, [], true, false, Some, None, List, length, slice_get, All, IfOk, OnOk, IsSome};
+ghost use Rattle.std.specs.Prelude.{◌≡◌, ◌≢◌, ◌<◌, ◌↔◌, ℕ, true, false, nat_eq, List, length, IfOk, OnOk, OnErr, IsSome};
+ghost use Rattle.indexmap.specs.IndexSet.{insert_key};
 ghost use Rattle.sb_lang.specs.Regex.{Regex};
 ghost use Rattle.sb_lang.specs.Language.{language};
 ghost use Rattle.sb_regex.specs.Numbered.{regex_at, AllNumbers, Extends};
-ghost use Rattle.sb_regex.specs.Nodes.{node_parts};
 ghost use Rattle.sb_deriv.specs.Faithful.{Memo, KeepsEntries, entry_of};
 ghost use Rattle.sb_deriv.specs.Pieces.{targets_of};
 ghost use Rattle.sb_graph.specs.Findings.{IsGraph, KeepsMarks, is_marked};
 ghost use Rattle.sb_rulebook.specs.Kept.{AllKept, Asked, nothing_kept};
 ghost use Rattle.sb_trace.specs.Putting.{IsCounted, CountsTapeFault};
-ghost use Rattle.sb_trace.specs.Tracking.{Tracks, Traces, TracesUncounted, StaysNumbered, IsExpandedIn, is_dead_in, IsExploring, number_in};
-ghost use Rattle.sb_trace.specs.Defining.{IsNumbered, IsLacking, IsNodeAt, AreClassesOf};
+ghost use Rattle.sb_trace.specs.Tracking.{Tracks, Traces, TracesUncounted, StaysNumbered, IsExpandedIn, is_dead_in, IsExploring};
+ghost use Rattle.sb_trace.specs.Defining.{AreClassesOf};
 
-use crate::node::{number_of, numbers_of, part_at, proof_node};
+mod numbering;
+
+use crate::node::{number_of, numbers_of};
 use indexmap::IndexSet;
 use sb_deriv::Derivative;
 use sb_graph::{Explored, Graph};
 use sb_lit::Budget;
 use sb_proof::{Class, Line, Tape, TapeFault};
-use sb_regex::{Arena, Node, RegexId};
+use sb_regex::{Arena, RegexId};
 use sb_word::Word;
 use std::alloc::{AllocError, Global};
 use std::marker::Model;
@@ -60,15 +62,9 @@ pub enum Explore {
     Spent,
 }
 
-/// A regex whose parts get their numbers, from a place on.
-#[derive(Clone, Copy)]
-struct Frame {
-    regex: RegexId,
-    place: usize,
-}
-
 impl Model for Trace {
-    ghost use Rattle.std.specs.Prelude.{◌≤◌, length};
+    ghost use Rattle.std.specs.Prelude.{◌≡◌, ◌≤◌, ℕ, false, length};
+    ghost use Rattle.sb_graph.specs.Findings.{is_marked};
     ghost use Rattle.sb_trace.specs.Tracking.{Traced};
 
     ghost Value = { Traced };
@@ -80,7 +76,9 @@ impl Model for Trace {
     } };
 
     ghost invariant = { λ trace. (length trace.order.keys ≤ length trace.expanded.items)
-        × (length trace.order.keys ≤ length trace.dead.items) };
+        × (length trace.order.keys ≤ length trace.dead.items)
+        × ((n : ℕ) → length trace.order.keys ≤ n → is_marked trace.expanded.items n ≡ false)
+        × ((n : ℕ) → length trace.order.keys ≤ n → is_marked trace.dead.items n ≡ false) };
 }
 
 impl Trace {
@@ -94,78 +92,6 @@ impl Trace {
             expanded: Vec::new(alloc),
             dead: Vec::new(alloc),
         }
-    }
-
-    /// The number of a regex in the proof. The lines that define it and its parts are put where they are lacking. Linear
-    /// in the parts of the regexes that were lacking.
-    pub fn number<L: Tape>(
-        &mut self,
-        arena: &Arena,
-        regex: RegexId,
-        tape: &mut L,
-    ) -> Result<u64, TapeFault>
-        requires { regex < length arena.now }
-        ensures number { IfOk result (λ n. slice_get self.new.order n ≡ Some regex) }
-        ensures puts { OnOk result ((asked : Asked) (memo : Memo) (before : AllKept)
-            → Tracks arena.now memo self.old before
-            → TracesUncounted asked before arena.now memo self.new (L.Tape.told tape.old) (L.Tape.told tape.new)) }
-        ensures stays { StaysNumbered self.old self.new }
-        ensures counts { CountsTapeFault result (L.Tape.faults tape.old) (L.Tape.faults tape.new) }
-    {
-        if let Some(number) = self.order.get_index_of(&regex) {
-            return Ok(number as u64);
-        }
-        let mut open = Vec::new(self.alloc);
-        open_frame(&mut open, regex, 0)?;
-        while let Some(top) = open.pop() {
-            match self.lacking_part(arena.node(top.regex), top.place) {
-                Some((place, part)) => {
-                    open_frame(&mut open, top.regex, place + 1)?;
-                    open_frame(&mut open, part, 0)?;
-                }
-                None => self.define(arena.node(top.regex), top.regex, tape)?,
-            }
-        }
-        Ok(self.order.len() as u64 - 1)
-    }
-
-    /// The first part of a node, from a place on, that has no number, with its place.
-    fn lacking_part(&self, node: &Node, from: usize) -> Option<(usize, RegexId)>
-        ensures { IsLacking self.now.order (node_parts node.now) from result }
-    {
-        let mut place = from;
-        while let Some(part) = part_at(node, place) {
-            if !self.order.contains(&part) {
-                return Some((place, part));
-            }
-            place += 1;
-        }
-        None
-    }
-
-    /// Puts the line of a regex whose parts have numbers.
-    fn define<L: Tape>(
-        &mut self,
-        node: &Node,
-        regex: RegexId,
-        tape: &mut L,
-    ) -> Result<(), TapeFault>
-        requires parts { All (IsNumbered self.old.order) (node_parts node.now) }
-        requires new { number_in self.old.order regex ≡ None }
-        ensures puts { OnOk result ((asked : Asked) (rs : List Regex) (memo : Memo) (before : AllKept)
-            → IsNodeAt rs regex node.now → Tracks rs memo self.old before
-            → TracesUncounted asked before rs memo self.new (L.Tape.told tape.old) (L.Tape.told tape.new)) }
-        ensures added { OnOk result (self.new.order ≡ self.old.order ++ regex ∷ []) }
-        ensures stays { StaysNumbered self.old self.new }
-        ensures counts { CountsTapeFault result (L.Tape.faults tape.old) (L.Tape.faults tape.new) }
-    {
-        let line = Line::Regex(proof_node(self.alloc, &self.order, node)?);
-        let long = self.order.len() + 1;
-        self.expanded.resize(long, false)?;
-        self.dead.resize(long, false)?;
-        tape.put(&line)?;
-        add(&mut self.order, regex)?;
-        Ok(())
     }
 
     /// Puts the expansion of a regex, unless it stands there, with the lines of the regexes that it names. The budget is
@@ -381,14 +307,11 @@ fn add_class(
     Ok(())
 }
 
-/// Opens a regex from a part on.
-fn open_frame(open: &mut Vec<Frame>, regex: RegexId, place: usize) -> Result<(), AllocError> {
-    open.push(Frame { regex, place })?;
-    Ok(())
-}
-
 /// Adds a regex, where it is not there.
-fn add(regexes: &mut IndexSet<RegexId>, regex: RegexId) -> Result<(), AllocError> {
+fn add(regexes: &mut IndexSet<RegexId>, regex: RegexId) -> Result<(), AllocError>
+    ensures ok { OnOk result (regexes.new.keys ≡ insert_key nat_eq regexes.old.keys regex) }
+    ensures err { OnErr result (regexes.new.keys ≡ regexes.old.keys) }
+{
     regexes.insert(regex)?;
     Ok(())
 }
