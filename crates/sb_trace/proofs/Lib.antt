@@ -1,3 +1,4 @@
 pub mod Puts
 pub mod Positions
 pub mod Stacks
+pub mod RegexLines
