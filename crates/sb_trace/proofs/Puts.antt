@@ -11,7 +11,10 @@ use Rattle.sb_rulebook.specs.LineLaws.{has_text, bytes_of}
 use Rattle.sb_rulebook.specs.Kept.{AllKept, Asked}
 use Rattle.sb_rulebook.specs.Follows.{follows}
 use Rattle.sb_proof.specs.Tapes.{with_bytes}
-use Rattle.sb_trace.specs.Putting.{Puts, follow_all}
+use Rattle.sb_lang.specs.Regex.{Regex}
+use Rattle.sb_deriv.specs.Faithful.{Memo}
+use Rattle.sb_trace.specs.Putting.{Puts, KeepsClauses, follow_all}
+use Rattle.sb_trace.specs.Tracking.{Traced, Tracks, TracesUncounted, StaysNumbered}
 
 with_bytes-nil : (told : Option (List ℕ)) → told ≡ with_bytes [] told
 with_bytes-nil None = refl
@@ -69,3 +72,36 @@ puts_one asked a b l t u h text told = record {
   told = told ∙ ap (λ bytes. with_bytes bytes t) (sym (append-nil (line (text_of l))));
   follow = follow-one asked b (follows asked a l) h;
 }
+
+-- What a trace knows, through lines that are put.
+
+pub traces_none : (asked : Asked) (kept : AllKept) (rs : List Regex) (memo : Memo) (t : Traced)
+    (told : Option (List ℕ)) → Tracks rs memo t kept → TracesUncounted asked kept rs memo t told told
+traces_none asked kept rs memo t told tracks = (
+  kept,
+  puts_none asked kept told,
+  tracks,
+  record { format = refl; atoms = refl; clauses = refl; rests = refl },
+  refl,
+)
+
+pub traces_both : (asked : Asked) (kept : AllKept) (rs : List Regex) (memo : Memo) (t u : Traced)
+    (x y z : Option (List ℕ)) → TracesUncounted asked kept rs memo t x y
+    → ((after : AllKept) → Tracks rs memo t after → TracesUncounted asked after rs memo u y z)
+    → TracesUncounted asked kept rs memo u x z
+traces_both asked kept rs memo t u x y z p more =
+    let q = more p.0 p.2 in (
+      q.0,
+      puts_both asked kept p.0 q.0 x y z p.1 q.1,
+      q.2,
+      record {
+        format = q.3.format ∙ p.3.format;
+        atoms = q.3.atoms ∙ p.3.atoms;
+        clauses = q.3.clauses ∙ p.3.clauses;
+        rests = q.3.rests ∙ p.3.rests;
+      },
+      q.4 ∙ p.4,
+    )
+
+pub stays_both : (a b c : Traced) → StaysNumbered a b → StaysNumbered b c → StaysNumbered a c
+stays_both a b c p q = (p.0 ++ q.0, q.1 ∙ ap (λ order. order ++ q.0) p.1 ∙ append_assoc a.order p.0 q.0)

@@ -112,7 +112,7 @@ not-kept rs (m ∷ ms) n apart once l known h =
         → (b || list_any (regex_eq (regex_at rs n)) (regexes_at rs ms)) ≡ false
     step true same rest =
         let e : n ≡ m =
-            once n m l (known 0 0 (omega arith)) (same_regex apart (regex_at rs n) (regex_at rs m) same)
+        once n m l (known 0 0 (omega arith)) (same_regex apart (regex_at rs n) (regex_at rs m) same)
         in
         absurd (true≢false (sym (same_nat n m e) ∙ p.0))
     step false same rest = rest
@@ -300,9 +300,9 @@ pub regex_put : (asked : Asked) (rs : List Regex) (memo : Memo) (t now : Traced)
 regex_put asked rs memo t now kept d n r old new apart once normal at l is lacks order expanded dead told tracks = (
   with_regex (regex_at rs r) kept,
   puts_one asked kept (with_regex (regex_at rs r) kept) (regex_line n) old new
-  (regex_follows asked rs memo t kept d n r apart once normal at tracks is lacks)
-  (node-has-text rs t.order d n l (ap is_normal at.regex ∙ normal-at rs r normal at.known) is) told,
+      (regex_follows asked rs memo t kept d n r apart once normal at tracks is lacks)
+      (node-has-text rs t.order d n l (ap is_normal at.regex ∙ normal-at rs r normal at.known) is) told,
   tracks_regex rs memo t now kept r at.known order expanded dead tracks,
   keeps_clauses kept (regex_at rs r),
-  refl
+  refl,
 )

@@ -1,8 +1,9 @@
 -- Regexes that wait for a number, as the stack changes.
-use Rattle.std.proofs.Common.{◌≡◌, ℕ, zero, suc, ◌+◌, ◌*◌, ◌<◌, ◌≤◌, Bool, true, false, cond, not, ◌||◌, ◌&&◌, nat_eq, nat_lt, if◌then◌else◌, List, [], ◌∷◌, ◌++◌, length, map, filter, drop, reverse, get_or, slice_get, Option, Some, None, is_some, refl, sym, ap, ap₂, subst, ◌∙◌, arith, add-one, length-append, append_assoc}
+use Rattle.std.proofs.Common.{◌≡◌, ℕ, zero, suc, ◌+◌, ◌*◌, ◌<◌, ◌≤◌, Bool, true, false, cond, not, ◌||◌, ◌&&◌, nat_eq, nat_lt, if◌then◌else◌, List, [], ◌∷◌, ◌++◌, length, map, filter, drop, reverse, get_or, slice_get, Option, Some, None, is_some, Result, Ok, Err, refl, sym, ap, ap₂, subst, ◌∙◌, arith, add-one, length-append, append_assoc}
 use Rattle.std.specs.List.{list_all, list_any, All}
 use Rattle.std.proofs.lemmas.Bool.{and_parts, false≢true, ltb-true, lt-ltb}
-use Rattle.std.proofs.lemmas.List.{map-append}
+use Rattle.std.proofs.lemmas.List.{map-append, reverse-append}
+use Rattle.std.specs.Result.{OnOk}
 use Rattle.std.proofs.lemmas.List.Folds.{list_any-append, list_all-append}
 use Rattle.std.proofs.lemmas.List.Elements.{All-cons, All-nil}
 use Rattle.std.proofs.Math.Seq.{drop-cons}
@@ -41,7 +42,7 @@ pub parts_pushed : (order qs : List ℕ) (i k p : ℕ) (before now rest : List F
     → now ≡ map waits (filter (is_lacking order) (drop i qs)) ++ rest
 parts_pushed order qs i k p before now rest e at b n =
     let d : drop i qs ≡ p ∷ drop (suc i) qs =
-        drop-cons qs i p (slice_get_within qs i p at) ∙ ap (λ x. x ∷ drop (suc i) qs) (get_or_from_slice_get qs i p p at)
+    drop-cons qs i p (slice_get_within qs i p at) ∙ ap (λ x. x ∷ drop (suc i) qs) (get_or_from_slice_get qs i p p at)
     in
     n ∙ ap (λ fs. map waits (lacking order (p ∷ [])) ++ fs)
     (b ∙ ap (λ m. map waits (lacking order (drop m qs)) ++ rest) e)
@@ -198,9 +199,9 @@ entered-more rs old new above below [] grows h = tt
 entered-more rs old new above below (f ∷ fs) grows h = (
   (λ e d at. all-weaker (is_in old above) (is_in new below) grows (node_parts d) (h.0 e d at)),
   entered-more rs old new (f.regex ∷ above) (f.regex ∷ below) fs
-  (λ n. or-step (is_some (number_in old n)) (list_any (nat_eq n) above) (is_some (number_in new n))
-  (list_any (nat_eq n) below) (nat_eq n f.regex) (grows n))
-  h.1
+      (λ n. or-step (is_some (number_in old n)) (list_any (nat_eq n) above) (is_some (number_in new n))
+      (list_any (nat_eq n) below) (nat_eq n f.regex) (grows n))
+      h.1,
 )
 
 abbrev onto : List ℕ → List ℕ → List ℕ
@@ -291,13 +292,14 @@ settles_entered rs order f fs now d once at fresh is s =
       stack = record {
         known = list_all-append (is_known rs) (map waits ws) (e ∷ fs)
             ∙ ap₂ ◌&&◌ (known-waits rs order f.regex (node_parts d) (omega (arith, at.known)) at.parts) s.known;
-        entered = entered-waits rs order [] ws (e ∷ fs)
-            ((λ _ b p. ap (list_all (is_in order (onto ws []))) (parts_same rs f.regex d b once at p)
-            ∙ covered order (node_parts d) (onto ws [])
-            (λ n h. any-onto (nat_eq n) ws [] ∙ ap (λ b. b || false) h)),
-            entered-more rs order order (f.regex ∷ []) (f.regex ∷ onto ws []) fs
-            (λ n. or-more (is_some (number_in order n)) (nat_eq n f.regex) (list_any (nat_eq n) (onto ws [])))
-            s.entered.1);
+        entered = entered-waits rs order [] ws (e ∷ fs) (
+          (λ _ b p. ap (list_all (is_in order (onto ws []))) (parts_same rs f.regex d b once at p)
+              ∙ covered order (node_parts d) (onto ws [])
+              (λ n h. any-onto (nat_eq n) ws [] ∙ ap (λ b. b || false) h)),
+          entered-more rs order order (f.regex ∷ []) (f.regex ∷ onto ws []) fs
+              (λ n. or-more (is_some (number_in order n)) (nat_eq n f.regex) (list_any (nat_eq n) (onto ws [])))
+              s.entered.1,
+        );
       };
       keeps = λ n h. ap (λ b. is_some (number_in order n) || b)
           (ap (list_any (nat_eq n)) (map-append (λ g. g.regex) (map waits ws) (e ∷ fs))
@@ -323,3 +325,30 @@ all_numbered order [] h = All-nil (IsNumbered order)
 all_numbered order (p ∷ ps) h =
     let a = and_parts (is_in order [] p) (list_all (is_in order []) ps) h in
     All-cons (IsNumbered order) p ps (or-false (is_some (number_in order p)) a.0) (all_numbered order ps a.1)
+
+-- the last of a list is on top of its stack
+pub stack_pushed : (before now : List Frame) (f : Frame) → now ≡ before ++ f ∷ [] → stack_of now ≡ f ∷ stack_of before
+stack_pushed before now f e = ap reverse e ∙ reverse-append before (f ∷ [])
+
+-- at first the root waits alone
+pub one_waits : (rs : List Regex) (order : List ℕ) (n : ℕ) → n < length rs → IsStack rs order (waits n ∷ [])
+one_waits rs order n l = record {
+  known = ap (λ b. b && true) (lt-ltb n (length rs) l);
+  entered = ((λ e. absurd (false≢true e)), tt);
+}
+
+pub one_is_in : (order : List ℕ) (n : ℕ) → is_in order (n ∷ []) n ≡ true
+one_is_in order n = or-right (is_some (number_in order n)) (nat_eq n n || false)
+    (ap (λ b. b || false) (same_nat n n refl))
+
+pub numbered_at_last : (order : List ℕ) (n : ℕ) → is_in order [] n ≡ true → is_some (number_in order n) ≡ true
+numbered_at_last order n h = or-false (is_some (number_in order n)) h
+
+pub top_known : (rs : List Regex) (order : List ℕ) (f : Frame) (fs : List Frame) → IsStack rs order (f ∷ fs)
+    → f.regex < length rs
+top_known rs order f fs s =
+    ltb-true f.regex (length rs) (and_parts (is_known rs f) (list_all (is_known rs) fs) s.known).0
+
+pub on_ok : {A E : Type 0} (r : Result A E) (P Q : Type 0) → (P → Q) → OnOk r P → OnOk r Q
+on_ok (Ok x) P Q f h = f h
+on_ok (Err e) P Q f h = tt
