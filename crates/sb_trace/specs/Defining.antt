@@ -1,10 +1,11 @@
 -- Private: the parts of a node, and the classes of an expansion.
-use Rattle.std.specs.Prelude.{◌≡◌, ℕ, ◌-◌, ◌<◌, Bool, true, not, List, [], ◌∷◌, length, map, Some, is_some}
+use Rattle.std.specs.Prelude.{◌≡◌, ℕ, ◌-◌, ◌<◌, Bool, true, not, List, [], ◌∷◌, ◌++◌, length, map, take, drop, Some, is_some}
 use Rattle.sb_lang.specs.Regex.{Regex}
 use Rattle.sb_regex.specs.declared.node.Node.{Node}
 use Rattle.sb_regex.specs.declared.node.Node.TheVariants as node
 use Rattle.sb_regex.specs.Numbered.{regex_at}
 use Rattle.sb_regex.specs.Nodes.{node_regex, PartsBelow}
+use Rattle.sb_deriv.specs.Choices.{first_of}
 use Rattle.sb_deriv.specs.Pieces.{end_of_characters, targets_of}
 use Rattle.sb_proof.specs.declared.line.Class.{Class}
 use Rattle.sb_proof.specs.Lines.{class_in}
@@ -43,8 +44,13 @@ pub record IsNodeAt (rs : List Regex) (n : ℕ) (node : Node) : Type 0 where
 abbrev pub classes_of : List (ℕ × ℕ) → List ℕ → List lines.Class
 classes_of [] ns = []
 classes_of (p ∷ ps) [] = []
-classes_of (p ∷ []) (n ∷ ns) = (((p.0, end_of_characters - 1) ∷ []), n) ∷ []
-classes_of (p ∷ q ∷ ps) (n ∷ ns) = (((p.0, q.0 - 1) ∷ []), n) ∷ classes_of (q ∷ ps) ns
+classes_of (p ∷ ps) (n ∷ ns) = (((p.0, first_of end_of_characters ps - 1) ∷ []), n) ∷ classes_of ps ns
+
+-- the classes of the pieces before a place: with those of the others they are the classes of all
+pub record AreClassesUpTo (order : List ℕ) (pieces : List (ℕ × ℕ)) (place : ℕ) (classes : List Class) : Type 0 where
+  pub targets : List ℕ
+  pub numbered : map (number_in order) (targets_of (take place pieces)) ≡ map Some targets
+  pub are : (ns : List ℕ) → map class_in classes ++ classes_of (drop place pieces) ns ≡ classes_of pieces (targets ++ ns)
 
 pub record AreClassesOf (order : List ℕ) (pieces : List (ℕ × ℕ)) (classes : List Class) : Type 0 where
   pub targets : List ℕ

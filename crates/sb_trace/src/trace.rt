@@ -1,17 +1,21 @@
 //! The trace.
 
-ghost use Rattle.std.specs.Prelude.{◌≡◌, ◌≢◌, ◌<◌, ◌↔◌, ℕ, true, false, nat_eq, List, length, IfOk, OnOk, OnErr, IsSome};
+ghost use Rattle.std.specs.Prelude.{◌≡◌, ◌≢◌, ◌<◌, ◌≤◌, ◌↔◌, ◌++◌, ◌∷◌, ◌+◌, ◌-◌, ◌||◌, ℕ, Bool, [], true, false, nat_eq, Some, None, List, length, slice_get, get_or, drop, map, All, IfOk, OnOk, OnErr, IsSome};
 ghost use Rattle.indexmap.specs.IndexSet.{insert_key};
+ghost use Rattle.std.specs.List.{list_all, list_any};
 ghost use Rattle.sb_lang.specs.Regex.{Regex};
 ghost use Rattle.sb_lang.specs.Language.{language};
 ghost use Rattle.sb_regex.specs.Numbered.{regex_at, AllNumbers, Extends};
-ghost use Rattle.sb_deriv.specs.Faithful.{Memo, KeepsEntries, entry_of};
-ghost use Rattle.sb_deriv.specs.Pieces.{targets_of};
-ghost use Rattle.sb_graph.specs.Findings.{IsGraph, KeepsMarks, is_marked};
+ghost use Rattle.sb_deriv.specs.Faithful.{Memo, KeepsEntries, IsKnown, entry_of};
+ghost use Rattle.sb_deriv.specs.Pieces.{IsIntervalMap, end_of_characters, targets_of};
+ghost use Rattle.sb_deriv.specs.Choices.{first_of};
+ghost use Rattle.sb_graph.specs.Findings.{IsGraph, AreBarren, KeepsMarks, is_marked};
 ghost use Rattle.sb_rulebook.specs.Kept.{AllKept, Asked, nothing_kept};
 ghost use Rattle.sb_trace.specs.Putting.{IsCounted, CountsTapeFault};
-ghost use Rattle.sb_trace.specs.Tracking.{Tracks, Traces, TracesUncounted, StaysNumbered, IsExpandedIn, is_dead_in, IsExploring};
-ghost use Rattle.sb_trace.specs.Defining.{AreClassesOf};
+ghost use Rattle.sb_trace.specs.Tracking.{Tracks, Traces, TracesUncounted, StaysNumbered, IsExpandedIn, is_dead_in, IsExploring, number_in};
+ghost use Rattle.sb_trace.specs.Defining.{IsNumbered, AreClassesOf};
+ghost use Rattle.sb_trace.specs.Closing.{is_unburied, is_settled_in, IsClosedIn, AreClosedUpTo, GrewTo, GoesOn};
+ghost use Rattle.sb_proof.specs.Lines.{class_in};
 
 mod numbering;
 
@@ -19,9 +23,11 @@ use crate::node::{number_of, numbers_of};
 use indexmap::IndexSet;
 use sb_deriv::Derivative;
 use sb_graph::{Explored, Graph};
+use sb_lang::order::order_tells_apart;
 use sb_lit::Budget;
 use sb_proof::{Class, Line, Tape, TapeFault};
 use sb_regex::{Arena, RegexId};
+use sb_rulebook::laws::test_decides_expansion;
 use sb_word::Word;
 use std::alloc::{AllocError, Global};
 use std::marker::Model;
@@ -116,23 +122,91 @@ impl Trace {
         ensures derived { OnOk result (IsSome (entry_of graph.new.memo regex)) }
         ensures stays { StaysNumbered self.old self.new }
         ensures dead { (n : ℕ) → is_marked self.new.dead n ≡ is_marked self.old.dead n }
+        ensures buried { (n : ℕ) → is_dead_in self.new n ≡ is_dead_in self.old n }
+        ensures expanded_stay { (n : ℕ) → IsExpandedIn self.old n → IsExpandedIn self.new n }
         ensures extends { Extends arena.old arena.new }
         ensures graph { IsGraph arena.new graph.new }
         ensures marks { graph.new.dead ≡ graph.old.dead }
         ensures derivatives_stay { KeepsEntries graph.old.memo graph.new.memo }
         ensures counts { CountsTapeFault result (L.Tape.faults tape.old) (L.Tape.faults tape.new) }
     {
+        self.marks_have_numbers();
+        graph.derive(arena, regex)?;
+        let derivative = graph.derivative(regex).unwrap();
+        self.expand_by(arena, regex, derivative, tape, budget)
+    }
+
+    /// Puts the expansion of a regex by its derivative, unless it stands there.
+    fn expand_by<L: Tape>(
+        &mut self,
+        arena: &Arena,
+        regex: RegexId,
+        derivative: &Derivative,
+        tape: &mut L,
+        budget: &mut Budget,
+    ) -> Result<Expand, TapeFault>
+        requires known { regex < length arena.now }
+        requires targets { AllNumbers arena.now (targets_of derivative.now) }
+        ensures puts { OnOk result ((asked : Asked) (memo : Memo) (before : AllKept)
+            → IsKnown arena.now regex derivative.now → entry_of memo regex ≡ Some derivative.now
+            → Tracks arena.now memo self.old before → IsCounted asked before budget.old
+            → Traces asked before arena.now memo self.new budget.new (L.Tape.told tape.old) (L.Tape.told tape.new)) }
+        ensures expanded { IfOk result (λ e. e ≢ Expand.Spent → IsExpandedIn self.new regex) }
+        ensures already { IfOk result (λ e. (e ≡ Expand.Already) ↔ IsExpandedIn self.old regex) }
+        ensures spent { IfOk result (λ e. e ≡ Expand.Spent → budget.new.spent ≡ budget.new.limit) }
+        ensures stays { StaysNumbered self.old self.new }
+        ensures dead { (n : ℕ) → is_marked self.new.dead n ≡ is_marked self.old.dead n }
+        ensures marks { (n : ℕ) → is_marked self.old.expanded n ≡ true → is_marked self.new.expanded n ≡ true }
+        ensures counts { CountsTapeFault result (L.Tape.faults tape.old) (L.Tape.faults tape.new) }
+    {
+        self.marks_have_numbers();
         let number = self.number(arena, regex, tape)?;
         if self.expanded[number as usize] {
             return Ok(Expand::Already);
         }
-        graph.derive(arena, regex)?;
-        let derivative = graph.derivative(regex).unwrap();
         let classes = self.classes(arena, derivative, tape)?;
+        self.put_expansion(number, classes, tape, budget)
+    }
+
+    /// No mark is on a number that is not there yet.
+    fn marks_have_numbers(&self)
+        ensures expanded { (n : ℕ) → length self.now.order ≤ n → is_marked self.now.expanded n ≡ false }
+        ensures dead { (n : ℕ) → length self.now.order ≤ n → is_marked self.now.dead n ≡ false }
+    {
+        let _order = &self.order;
+    }
+
+    /// Puts the line of an expansion, unless the budget is spent.
+    fn put_expansion<L: Tape>(
+        &mut self,
+        number: u64,
+        classes: Vec<Class>,
+        tape: &mut L,
+        budget: &mut Budget,
+    ) -> Result<Expand, TapeFault>
+        requires { number < length self.old.order }
+        ensures puts { OnOk result
+            ((asked : Asked) (rs : List Regex) (memo : Memo) (pieces : List (ℕ × ℕ)) (before : AllKept)
+            → IsKnown rs (get_or self.old.order number 0) pieces
+            → entry_of memo (get_or self.old.order number 0) ≡ Some pieces
+            → AreClassesOf self.old.order pieces classes.items → is_marked self.old.expanded number ≡ false
+            → Tracks rs memo self.old before → IsCounted asked before budget.old
+            → Traces asked before rs memo self.new budget.new (L.Tape.told tape.old) (L.Tape.told tape.new)) }
+        ensures expanded { IfOk result (λ e. e ≢ Expand.Spent → is_marked self.new.expanded number ≡ true) }
+        ensures anew { IfOk result (λ e. e ≢ Expand.Already) }
+        ensures spent { IfOk result (λ e. e ≡ Expand.Spent → budget.new.spent ≡ budget.new.limit) }
+        ensures order { self.new.order ≡ self.old.order }
+        ensures marks { (n : ℕ) → is_marked self.old.expanded n ≡ true → is_marked self.new.expanded n ≡ true }
+        ensures dead { self.new.dead ≡ self.old.dead }
+        ensures counts { CountsTapeFault result (L.Tape.faults tape.old) (L.Tape.faults tape.new) }
+    {
+        test_decides_expansion();
+        order_tells_apart();
         if budget.tick().is_err() {
             return Ok(Expand::Spent);
         }
-        tape.put(&Line::Expansion(number, classes))?;
+        let line = Line::Expansion(number, classes);
+        tape.put(&line)?;
         self.expanded[number as usize] = true;
         Ok(Expand::Expanded)
     }
@@ -150,16 +224,42 @@ impl Trace {
             → Tracks arena.now memo self.old before
             → TracesUncounted asked before arena.now memo self.new (L.Tape.told tape.old) (L.Tape.told tape.new)) }
         ensures stays { StaysNumbered self.old self.new }
+        ensures expanded_stay { (n : ℕ) → is_marked self.new.expanded n ≡ is_marked self.old.expanded n }
+        ensures dead_stay { (n : ℕ) → is_marked self.new.dead n ≡ is_marked self.old.dead n }
         ensures counts { CountsTapeFault result (L.Tape.faults tape.old) (L.Tape.faults tape.new) }
     {
         let pieces = derivative.pieces();
         let mut classes = Vec::with_capacity(self.alloc, pieces.len())?;
+        self.add_classes(arena, pieces, &mut classes, tape)?;
+        Ok(classes)
+    }
+
+    /// Adds a class for each piece.
+    fn add_classes<L: Tape>(
+        &mut self,
+        arena: &Arena,
+        pieces: &[(u32, RegexId)],
+        classes: &mut Vec<Class>,
+        tape: &mut L,
+    ) -> Result<(), TapeFault>
+        requires map { IsIntervalMap pieces.now }
+        requires targets { AllNumbers arena.now (targets_of pieces.now) }
+        requires none { classes.old.items ≡ [] }
+        ensures classes { OnOk result (AreClassesOf self.new.order pieces.now classes.new.items) }
+        ensures puts { OnOk result ((asked : Asked) (memo : Memo) (before : AllKept)
+            → Tracks arena.now memo self.old before
+            → TracesUncounted asked before arena.now memo self.new (L.Tape.told tape.old) (L.Tape.told tape.new)) }
+        ensures stays { StaysNumbered self.old self.new }
+        ensures expanded_stay { (n : ℕ) → is_marked self.new.expanded n ≡ is_marked self.old.expanded n }
+        ensures dead_stay { (n : ℕ) → is_marked self.new.dead n ≡ is_marked self.old.dead n }
+        ensures counts { CountsTapeFault result (L.Tape.faults tape.old) (L.Tape.faults tape.new) }
+    {
         for (place, (first, target)) in pieces.iter().enumerate() {
             let last = last_of(pieces, place);
             let number = self.number(arena, *target, tape)?;
-            add_class(&mut classes, *first, last, number)?;
+            add_class(classes, *first, last, number)?;
         }
-        Ok(classes)
+        Ok(())
     }
 
     /// Whether a regex is dead in the proof.
@@ -244,10 +344,32 @@ impl Trace {
         if !self.close(arena, graph, &mut members, tape, budget)? {
             return Ok(false);
         }
-        let numbers = numbers_of(self.alloc, &self.order, members.as_slice())?;
-        tape.put(&Line::Dead(numbers))?;
-        mark(&mut self.dead, &self.order, members.as_slice());
+        self.put_dead(&members, tape)?;
         Ok(true)
+    }
+
+    /// Puts the line that says that members are dead, all of which have numbers.
+    fn put_dead<L: Tape>(
+        &mut self,
+        members: &IndexSet<RegexId>,
+        tape: &mut L,
+    ) -> Result<(), TapeFault>
+        requires { All (IsNumbered self.old.order) members.now.keys }
+        ensures puts { OnOk result
+            ((asked : Asked) (rs : List Regex) (memo : Memo) (marks : List Bool) (before : AllKept)
+            → AreBarren rs marks → list_all (is_unburied marks self.old) members.now.keys ≡ true
+            → AreClosedUpTo memo self.old members.now.keys (length members.now.keys)
+            → Tracks rs memo self.old before
+            → TracesUncounted asked before rs memo self.new (L.Tape.told tape.old) (L.Tape.told tape.new)) }
+        ensures dead { OnOk result (list_all (is_dead_in self.new) members.now.keys ≡ true) }
+        ensures order { self.new.order ≡ self.old.order }
+        ensures counts { CountsTapeFault result (L.Tape.faults tape.old) (L.Tape.faults tape.new) }
+    {
+        let regexes = members.as_slice();
+        let line = Line::Dead(numbers_of(self.alloc, &self.order, regexes)?);
+        tape.put(&line)?;
+        mark(&mut self.dead, &self.order, regexes);
+        Ok(())
     }
 
     /// Expands the members, and the regexes to which they lead that are not dead, which become members. Whether the
@@ -259,16 +381,64 @@ impl Trace {
         members: &mut IndexSet<RegexId>,
         tape: &mut L,
         budget: &mut Budget,
-    ) -> Result<bool, TapeFault> {
+    ) -> Result<bool, TapeFault>
+        requires graph { IsGraph arena.old graph.old }
+        requires members { list_all (is_unburied graph.old.dead self.old) members.old.keys ≡ true }
+        ensures puts { OnOk result ((asked : Asked) (before : AllKept)
+            → Tracks arena.old graph.old.memo self.old before → IsCounted asked before budget.old
+            → Traces asked before arena.new graph.new.memo self.new budget.new (L.Tape.told tape.old)
+            (L.Tape.told tape.new)) }
+        ensures closed { IfOk result
+            (λ done. done ≡ true
+            → AreClosedUpTo graph.new.memo self.new members.new.keys (length members.new.keys)) }
+        ensures spent { IfOk result (λ done. done ≡ false → budget.new.spent ≡ budget.new.limit) }
+        ensures members { OnOk result (list_all (is_unburied graph.new.dead self.new) members.new.keys ≡ true) }
+        ensures grew { OnOk result (GrewTo members.old.keys members.new.keys) }
+        ensures goes { GoesOn arena.old arena.new graph.old graph.new self.old self.new }
+        ensures counts { CountsTapeFault result (L.Tape.faults tape.old) (L.Tape.faults tape.new) }
+    {
         let mut place = 0;
         while place < members.len() {
-            let regex = members.as_slice()[place];
-            if let Expand::Spent = self.expand(arena, graph, regex, tape, budget)? {
+            if !self.close_at(arena, graph, place, members, tape, budget)? {
                 return Ok(false);
             }
-            self.add_targets(graph.derivative(regex).unwrap().pieces(), members)?;
             place += 1;
         }
+        Ok(true)
+    }
+
+    /// Expands the member at a place, and makes the regexes to which it leads members. Whether the budget sufficed.
+    fn close_at<L: Tape>(
+        &mut self,
+        arena: &mut Arena,
+        graph: &mut Graph,
+        place: usize,
+        members: &mut IndexSet<RegexId>,
+        tape: &mut L,
+        budget: &mut Budget,
+    ) -> Result<bool, TapeFault>
+        requires place { place < length members.old.keys }
+        requires graph { IsGraph arena.old graph.old }
+        requires members { list_all (is_unburied graph.old.dead self.old) members.old.keys ≡ true }
+        ensures puts { OnOk result ((asked : Asked) (before : AllKept)
+            → Tracks arena.old graph.old.memo self.old before → IsCounted asked before budget.old
+            → Traces asked before arena.new graph.new.memo self.new budget.new (L.Tape.told tape.old)
+            (L.Tape.told tape.new)) }
+        ensures closed { IfOk result
+            (λ done. done ≡ true
+            → IsClosedIn graph.new.memo self.new members.new.keys (get_or members.old.keys place 0)) }
+        ensures spent { IfOk result (λ done. done ≡ false → budget.new.spent ≡ budget.new.limit) }
+        ensures members { OnOk result (list_all (is_unburied graph.new.dead self.new) members.new.keys ≡ true) }
+        ensures grew { OnOk result (GrewTo members.old.keys members.new.keys) }
+        ensures goes { GoesOn arena.old arena.new graph.old graph.new self.old self.new }
+        ensures counts { CountsTapeFault result (L.Tape.faults tape.old) (L.Tape.faults tape.new) }
+    {
+        let regex = members.as_slice()[place];
+        if let Expand::Spent = self.expand(arena, graph, regex, tape, budget)? {
+            return Ok(false);
+        }
+        arena.normal_regexes_each_once();
+        self.add_targets(graph.derivative(regex).unwrap().pieces(), members)?;
         Ok(true)
     }
 
@@ -277,18 +447,45 @@ impl Trace {
         &self,
         pieces: &[(u32, RegexId)],
         members: &mut IndexSet<RegexId>,
-    ) -> Result<(), AllocError> {
+    ) -> Result<(), AllocError>
+        ensures settled { OnOk result
+            (list_all (is_settled_in self.now members.new.keys) (targets_of pieces.now) ≡ true) }
+        ensures grew { OnOk result (GrewTo members.old.keys members.new.keys) }
+        ensures members { OnOk result ((marks : List Bool) → list_all (is_marked marks) (targets_of pieces.now) ≡ true
+            → list_all (is_unburied marks self.now) members.old.keys ≡ true
+            → list_all (is_unburied marks self.now) members.new.keys ≡ true) }
+    {
         for (_, target) in pieces {
-            if !self.is_dead(*target) {
-                members.insert(*target)?;
-            }
+            self.add_target(*target, members)?;
+        }
+        Ok(())
+    }
+
+    /// Makes a target a member, unless it is dead.
+    fn add_target(
+        &self,
+        target: RegexId,
+        members: &mut IndexSet<RegexId>,
+    ) -> Result<(), AllocError>
+        ensures settled { OnOk result (is_settled_in self.now members.new.keys target ≡ true) }
+        ensures grew { OnOk result (GrewTo members.old.keys members.new.keys) }
+        ensures members { OnOk result ((marks : List Bool) → is_marked marks target ≡ true
+            → list_all (is_unburied marks self.now) members.old.keys ≡ true
+            → list_all (is_unburied marks self.now) members.new.keys ≡ true) }
+    {
+        if !self.is_dead(target) {
+            members.insert(target)?;
         }
         Ok(())
     }
 }
 
 /// The last character of a piece.
-fn last_of(pieces: &[(u32, RegexId)], place: usize) -> u32 {
+fn last_of(pieces: &[(u32, RegexId)], place: usize) -> u32
+    requires map { IsIntervalMap pieces.now }
+    requires place { place < length pieces.now }
+    ensures { result ≡ first_of end_of_characters (drop (place + 1) pieces.now) - 1 }
+{
     match pieces.get(place + 1) {
         Some((next, _)) => *next - 1,
         None => LAST,
@@ -301,7 +498,10 @@ fn add_class(
     first: u32,
     last: u32,
     target: u64,
-) -> Result<(), AllocError> {
+) -> Result<(), AllocError>
+    ensures { OnOk result
+        (map class_in classes.new.items ≡ map class_in classes.old.items ++ ((first, last) ∷ [], target) ∷ []) }
+{
     let ranges = Vec::from_slice(*classes.allocator(), &[(first as u64, last as u64)])?;
     classes.push(Class { ranges, target })?;
     Ok(())
@@ -317,7 +517,12 @@ fn add(regexes: &mut IndexSet<RegexId>, regex: RegexId) -> Result<(), AllocError
 }
 
 /// Marks the regexes, by their numbers.
-fn mark(dead: &mut [bool], order: &IndexSet<RegexId>, regexes: &[RegexId]) {
+fn mark(dead: &mut [bool], order: &IndexSet<RegexId>, regexes: &[RegexId])
+    requires numbered { All (IsNumbered order.now.keys) regexes.now }
+    requires room { length order.now.keys ≤ length dead.old }
+    ensures { (numbers : List ℕ) → map (number_in order.now.keys) regexes.now ≡ map Some numbers
+        → (n : ℕ) → is_marked dead.new n ≡ (list_any (nat_eq n) numbers || is_marked dead.old n) }
+{
     for regex in regexes {
         dead[number_of(order, *regex) as usize] = true;
     }
