@@ -12,3 +12,4 @@ pub mod Expanding
 pub mod Views
 pub mod DeadLines
 pub mod Marks
+pub mod Closures

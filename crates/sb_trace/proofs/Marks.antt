@@ -1,7 +1,8 @@
 -- Marks on the numbers of regexes, one more in each step.
 use Rattle.std.proofs.Common.{◌≡◌, ℕ, zero, suc, ◌+◌, ◌<◌, ◌≤◌, nat_eq, Bool, true, false, cond, ◌||◌, List, [], ◌∷◌, ◌++◌, length, get_or, set, take, drop, map, Option, Some, None, refl, sym, ap, ap₂, ◌∙◌, arith}
 use Rattle.std.specs.List.{list_any}
-use Rattle.std.proofs.lemmas.List.{append-nil, take_more, take_all, drop_all, length-map}
+use Rattle.std.proofs.lemmas.Bool.Decides.{nat_tests}
+use Rattle.std.proofs.lemmas.List.{take_more, take_all, length-map}
 use Rattle.std.proofs.lemmas.List.Folds.{list_any-append}
 use Rattle.sb_graph.specs.Findings.{is_marked}
 use Rattle.sb_trace.specs.Tracking.{number_in}
@@ -22,7 +23,7 @@ number_of_place f (y ∷ xs) (n ∷ ns) (suc i) x k h l is here =
     number_of_place f xs ns i x k rest (omega (arith, l)) is here
 
 length_numbers : (f : ℕ → Option ℕ) (xs ns : List ℕ) → map f xs ≡ map Some ns → length xs ≡ length ns
-length_numbers f xs ns h = sym (length-map f xs) ∙ ap length h ∙ length-map Some ns
+length_numbers f xs ns h = sym (length-map xs f) ∙ ap length h ∙ length-map ns Some
 
 or_round : (a b c : Bool) → (a || (b || c)) ≡ ((b || (a || false)) || c)
 or_round true true c = refl
@@ -54,10 +55,11 @@ mark_all order regexes numbers i dead old n h high before =
     let l : length numbers ≤ i = omega (arith, high, length_numbers (number_in order) regexes numbers h) in
     before ∙ ap (λ ms. list_any (nat_eq n) ms || is_marked old n) (take_all i numbers l)
 
--- what is written over a list of the same length stands there
-pub refilled : (len : ℕ) (ws items : List Bool) → length ws ≡ length items → len ≡ length items
-    → take len (ws ++ drop (length ws) items) ≡ ws
-refilled len ws items same long =
-    ap (λ rest. take len (ws ++ rest)) (drop_all (length ws) items (omega (arith, same)))
-    ∙ ap (take len) (append-nil ws)
-    ∙ take_all len ws (omega (arith, same, long))
+-- a mark on another number changes nothing
+pub mark_elsewhere : (dead old : List Bool) (k n : ℕ) → k < length dead → k < n → is_marked dead n ≡ is_marked old n
+    → is_marked (set dead k true) n ≡ is_marked old n
+mark_elsewhere dead old k n within less h =
+    mark_set dead k n within ∙ ap (λ b. cond b true (is_marked dead n)) (apart n k less) ∙ h
+  where
+    apart : (m j : ℕ) → j < m → nat_eq m j ≡ false
+    apart m j l = grind (arith, nat_tests)

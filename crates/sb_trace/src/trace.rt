@@ -517,11 +517,14 @@ fn add(regexes: &mut IndexSet<RegexId>, regex: RegexId) -> Result<(), AllocError
 }
 
 /// Marks the regexes, by their numbers.
-fn mark(dead: &mut [bool], order: &IndexSet<RegexId>, regexes: &[RegexId])
+fn mark(dead: &mut Vec<bool>, order: &IndexSet<RegexId>, regexes: &[RegexId])
     requires numbered { All (IsNumbered order.now.keys) regexes.now }
-    requires room { length order.now.keys ≤ length dead.old }
-    ensures { (numbers : List ℕ) → map (number_in order.now.keys) regexes.now ≡ map Some numbers
-        → (n : ℕ) → is_marked dead.new n ≡ (list_any (nat_eq n) numbers || is_marked dead.old n) }
+    requires room { length order.now.keys ≤ length dead.old.items }
+    ensures marks { (numbers : List ℕ) → map (number_in order.now.keys) regexes.now ≡ map Some numbers
+        → (n : ℕ) → is_marked dead.new.items n ≡ (list_any (nat_eq n) numbers || is_marked dead.old.items n) }
+    ensures long { length dead.new.items ≡ length dead.old.items }
+    ensures stay { (n : ℕ) → length order.now.keys ≤ n
+        → is_marked dead.new.items n ≡ is_marked dead.old.items n }
 {
     for regex in regexes {
         dead[number_of(order, *regex) as usize] = true;
