@@ -1,6 +1,5 @@
 -- Lines that are put one behind another.
-use Rattle.std.proofs.Common.{◌≡◌, ℕ, Bool, true, ◌&&◌, List, [], ◌∷◌, ◌++◌, map, Option, Some, None, Result, Ok, Err, refl, sym, ap, ap₂, ◌∙◌, append_assoc}
-use Rattle.std.specs.List.{list_all, flat_map}
+use Rattle.std.proofs.Common.{◌≡◌, ℕ, true, ◌&&◌, List, [], ◌∷◌, ◌++◌, map, Option, Some, None, Result, Ok, Err, refl, sym, ap, ap₂, ◌∙◌, append_assoc}
 use Rattle.std.proofs.lemmas.Grind.{flat_map-append}
 use Rattle.std.proofs.lemmas.List.{map-append, append-nil}
 use Rattle.std.proofs.lemmas.List.Folds.{list_all-append}
@@ -13,7 +12,7 @@ use Rattle.sb_rulebook.specs.Follows.{follows}
 use Rattle.sb_proof.specs.Tapes.{with_bytes}
 use Rattle.sb_lang.specs.Regex.{Regex}
 use Rattle.sb_deriv.specs.Faithful.{Memo}
-use Rattle.sb_trace.specs.Putting.{Puts, KeepsClauses, follow_all}
+use Rattle.sb_trace.specs.Putting.{Puts, follow_all}
 use Rattle.sb_trace.specs.Tracking.{Traced, Tracks, TracesUncounted, StaysNumbered}
 
 with_bytes-nil : (told : Option (List ℕ)) → told ≡ with_bytes [] told
@@ -32,7 +31,8 @@ bytes-append ls ms = ap bytes_of (map-append text_of ls ms) ∙ flat_map-append 
 follow-step : (asked : Asked) (b : AllKept) (ls ms : List Line) (r : Result AllKept Refusal)
     → ((after : AllKept) → follow_all asked after ls ≡ Ok b
     → follow_all asked after (ls ++ ms) ≡ follow_all asked b ms)
-    → elim r as (λ _. Result AllKept Refusal) [ Ok after ↦ follow_all asked after ls | Err refusal ↦ Err refusal ] ≡ Ok b
+    → elim r as (λ _. Result AllKept Refusal)
+    [ Ok after ↦ follow_all asked after ls | Err refusal ↦ Err refusal ] ≡ Ok b
     → elim r as (λ _. Result AllKept Refusal)
     [ Ok after ↦ follow_all asked after (ls ++ ms) | Err refusal ↦ Err refusal ] ≡ follow_all asked b ms
 follow-step asked b ls ms (Ok after) more h = more after h

@@ -1,22 +1,21 @@
 -- The line of a regex whose parts have numbers.
-use Rattle.std.proofs.Common.{◌≡◌, ℕ, zero, suc, ◌+◌, ◌^◌, ◌<◌, ◌≤◌, Bool, true, false, cond, not, ◌||◌, ◌&&◌, nat_eq, nat_lt, nat_le, if◌then◌else◌, List, [], ◌∷◌, ◌++◌, length, map, filter, get_or, slice_get, Option, Some, None, is_some, option_map, option_and_then, unwrap_or, Result, Ok, Err, refl, sym, ap, ap₂, subst, ◌∙◌, arith, length-append}
-use Rattle.std.specs.List.{list_all, list_any, flat_map}
-use Rattle.std.proofs.lemmas.Bool.{and_parts, false≢true, true≢false, ltb-true, lt-ltb, leb-true, le-leb}
-use Rattle.std.proofs.lemmas.Bool.Decides.{nat_tests}
+use Rattle.std.proofs.Common.{◌≡◌, ℕ, zero, suc, ◌+◌, ◌^◌, ◌<◌, Bool, true, false, ◌||◌, ◌&&◌, nat_eq, nat_lt, nat_le, if◌then◌else◌, List, [], ◌∷◌, ◌++◌, length, map, get_or, slice_get, Option, Some, None, is_some, option_map, option_and_then, unwrap_or, Result, Ok, Err, refl, sym, ap, ap₂, subst, ◌∙◌, arith, length-append}
+use Rattle.std.specs.List.{list_all, list_any}
+use Rattle.std.proofs.lemmas.Bool.{and_parts, false≢true, true≢false, lt-ltb, leb-true, le-leb}
 use Rattle.std.proofs.lemmas.List.{map-append, get_or_append_left}
 use Rattle.std.proofs.lemmas.List.Elements.{All-append, All-cons, All-nil}
 use Rattle.std.proofs.lemmas.List.Sums.{AllPass-from_list_all}
 use Rattle.std.proofs.lemmas.Option.{slice_get-map, slice_get_within, unwrap_or-slice_get}
 use Rattle.sb_class.specs.Ranges.{Range, fits_from, rises_from}
-use Rattle.sb_lang.specs.Regex.{Regex, Regexes, none, eps, set, cat, alt, and, neg, star, rep, path, no_more, regexes, parts}
-use Rattle.sb_lang.specs.Order.{code, regex_cmp, regex_eq}
+use Rattle.sb_lang.specs.Regex.{Regex, none, set, cat, alt, and, neg, star, no_more, regexes, parts}
+use Rattle.sb_lang.specs.Order.{code, regex_eq}
 use Rattle.sb_lang.specs.OrderLaws.{OrderTellsApart}
 use Rattle.sb_lang.specs.Constructors.{mkset, mkalt, mkand, alternatives, conjuncts, ranges_of, is_set, union_of, join_sets, meet_of, meet_sets, sorted, alt_of, and_of}
-use Rattle.sb_lang.specs.NormalForm.{is_normal, all_normal}
+use Rattle.sb_lang.specs.NormalForm.{is_normal}
 use Rattle.sb_regex.specs.Numbered.{regex_at, regexes_at, AllNumbers, AreDistinct}
 use Rattle.sb_regex.specs.declared.node.Node.{Node}
 use Rattle.sb_regex.specs.declared.node.Node.TheVariants as node
-use Rattle.sb_regex.specs.Nodes.{node_regex, node_parts}
+use Rattle.sb_regex.specs.Nodes.{node_regex}
 use Rattle.sb_deriv.specs.Faithful.{Memo, entry_of}
 use Rattle.sb_deriv.specs.Pieces.{targets_of}
 use Rattle.sb_graph.specs.Findings.{is_marked}
@@ -26,9 +25,9 @@ use Rattle.sb_rulebook.specs.Parts.{together}
 use Rattle.sb_rulebook.specs.Lines as lines
 use Rattle.sb_rulebook.specs.Lines.{regex_line, text_of}
 use Rattle.sb_rulebook.specs.LineLaws.{is_small, are_small, is_small_range, have_text, some_small, node_has_text}
-use Rattle.sb_rulebook.specs.Kept.{AllKept, Asked, is_dead, targets_in, with_regex}
-use Rattle.sb_rulebook.specs.RegexRules.{of_one, of_two, of_several, regex_of_node, defined, follows_regex}
-use Rattle.sb_rulebook.specs.Follows.{by_rule, not_brought, follows}
+use Rattle.sb_rulebook.specs.Kept.{AllKept, Asked, targets_in, with_regex}
+use Rattle.sb_rulebook.specs.RegexRules.{of_one, regex_of_node, defined, follows_regex}
+use Rattle.sb_rulebook.specs.Follows.{not_brought, follows}
 use Rattle.sb_rulebook.proofs.CallerLemmas.{same_regex}
 use Rattle.sb_script.specs.Steps.{line}
 use Rattle.sb_proof.specs.Tapes.{with_bytes}
@@ -36,7 +35,7 @@ use Rattle.sb_trace.specs.Putting.{KeepsClauses}
 use Rattle.sb_trace.specs.Tracking.{Traced, Tracks, TracesUncounted, IsExpandedTo, number_in}
 use Rattle.sb_trace.specs.Defining.{IsNodeAt, IsNodeIn}
 use Rattle.sb_trace.proofs.Puts.{puts_one}
-use Rattle.sb_trace.proofs.Positions.{nat_same, same_nat, number-there, number-below, number-stays, number-missing}
+use Rattle.sb_trace.proofs.Positions.{same_nat, number-there, number-below, number-stays, number-missing}
 
 -- What the numbers of parts name.
 
@@ -232,7 +231,8 @@ default-pushed : {X : Type 0} (xs : List X) (d : X) (n : ℕ)
 default-pushed xs d n =
     unwrap_or-slice_get (xs ++ d ∷ []) n d ∙ push-default xs d n ∙ sym (unwrap_or-slice_get xs n d)
 
-targets-within : (xs : List (Option (List ℕ))) (n : ℕ) (targets : List ℕ) → targets_in xs n ≡ Some targets → n < length xs
+targets-within : (xs : List (Option (List ℕ))) (n : ℕ) (targets : List ℕ) → targets_in xs n ≡ Some targets
+    → n < length xs
 targets-within xs n targets h = step (slice_get xs n) refl h
   where
     step : (o : Option (Option (List ℕ))) → slice_get xs n ≡ o → unwrap_or o None ≡ Some targets → n < length xs

@@ -1,5 +1,5 @@
 -- Regexes that wait for a number, as the stack changes.
-use Rattle.std.proofs.Common.{◌≡◌, ℕ, zero, suc, ◌+◌, ◌*◌, ◌<◌, ◌≤◌, Bool, true, false, cond, not, ◌||◌, ◌&&◌, nat_eq, nat_lt, if◌then◌else◌, List, [], ◌∷◌, ◌++◌, length, map, filter, drop, reverse, get_or, slice_get, Option, Some, None, is_some, Result, Ok, Err, refl, sym, ap, ap₂, subst, ◌∙◌, arith, add-one, length-append, append_assoc}
+use Rattle.std.proofs.Common.{◌≡◌, ℕ, suc, ◌+◌, ◌*◌, ◌<◌, ◌≤◌, Bool, true, false, cond, not, ◌||◌, ◌&&◌, nat_eq, if◌then◌else◌, List, [], ◌∷◌, ◌++◌, length, map, filter, drop, reverse, slice_get, Some, None, is_some, Result, Ok, Err, refl, sym, ap, ap₂, subst, ◌∙◌, arith}
 use Rattle.std.specs.List.{list_all, list_any, All}
 use Rattle.std.proofs.lemmas.Bool.{and_parts, false≢true, ltb-true, lt-ltb}
 use Rattle.std.proofs.lemmas.List.{map-append, reverse-append}
@@ -8,16 +8,16 @@ use Rattle.std.proofs.lemmas.List.Folds.{list_any-append, list_all-append}
 use Rattle.std.proofs.lemmas.List.Elements.{All-cons, All-nil}
 use Rattle.std.proofs.Math.Seq.{drop-cons}
 use Rattle.std.proofs.lemmas.Option.{get_or_from_slice_get, slice_get_within}
-use Rattle.sb_lang.specs.Regex.{Regex, Regexes, none, eps, set, cat, alt, and, neg, star, rep, path, regexes, parts}
+use Rattle.sb_lang.specs.Regex.{Regex, none, eps, set, cat, alt, and, neg, star, rep, path, regexes, parts}
 use Rattle.sb_lang.proofs.CallerLemmas.{parts-regexes}
 use Rattle.sb_regex.specs.Numbered.{regex_at, regexes_at, AllNumbers, AreDistinct}
 use Rattle.sb_regex.specs.declared.node.Node.{Node}
 use Rattle.sb_regex.specs.declared.node.Node.TheVariants as node
-use Rattle.sb_regex.specs.Nodes.{node_regex, node_parts, PartsBelow}
+use Rattle.sb_regex.specs.Nodes.{node_regex, node_parts}
 use Rattle.sb_trace.specs.declared.frame.Frame.{Frame}
 use Rattle.sb_trace.specs.Tracking.{number_in}
 use Rattle.sb_trace.specs.Defining.{IsNodeAt, IsNumbered, is_lacking}
-use Rattle.sb_trace.specs.Waiting.{stack_of, waits, numbers_in, is_in, HasPartsIn, AreEntered, is_known, IsStack, weight, weights, frame_weight, stack_weight, Settles}
+use Rattle.sb_trace.specs.Waiting.{stack_of, waits, numbers_in, is_in, AreEntered, is_known, IsStack, weight, weights, frame_weight, stack_weight, Settles}
 use Rattle.sb_trace.proofs.Positions.{nat_same, same_nat, numbered-stays, number-last}
 
 -- Parts that are put on the stack.

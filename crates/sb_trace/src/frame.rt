@@ -20,7 +20,8 @@ pub(crate) struct Frame {
 
 /// Puts a regex on the stack.
 pub(crate) fn wait(stack: &mut Vec<Frame>, regex: RegexId, entered: bool) -> Result<(), AllocError>
-    ensures { OnOk result (stack_of stack.new.items ≡ (record { regex = regex; entered = entered }) ∷ stack_of stack.old.items) }
+    ensures { OnOk result (stack_of stack.new.items
+        ≡ (record { regex = regex; entered = entered }) ∷ stack_of stack.old.items) }
 {
     stack.push(Frame { regex, entered })?;
     Ok(())

@@ -9,8 +9,10 @@ use sb_trace::{Expand, Explore, Trace};
 use std::alloc::{AllocError, Global};
 use std::test::Fail;
 
-/// The lines of the expansions of `a*` and `b b*` together.
-const BOTH: &[u8] = b"r none\nr eps\n";
+/// The lines by which the intersection of `a*` and `b b*` is dead.
+const BOTH: &[u8] =
+    b"r set 62-62\nr star 0\nr cat 0 1\nr set 61-61\nr star 3\nr and 2 4\nr none\nx 5 0-2ffff>6\n\
+    x 6 0-2ffff>6\nd 5 6\n";
 
 fn letter(alloc: Global, arena: &mut Arena, c: u32) -> Result<RegexId, AllocError> {
     arena.set(&Class::range(alloc, c, c)?)

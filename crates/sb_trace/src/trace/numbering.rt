@@ -23,8 +23,9 @@ use sb_regex::{Arena, Node, RegexId};
 use std::alloc::AllocError;
 
 impl Trace {
-    /// The number of a regex in the proof. The lines that define it and its parts are put where they are lacking. Linear
-    /// in the parts of the regexes that were lacking.
+    /// The number of a regex in the proof. The lines that define it and its parts are put where they are lacking.
+    /// Linear in the parts of the regexes that were lacking. After an error the tape may have a line that the trace does
+    /// not know, so nothing more may be put.
     pub fn number<L: Tape>(
         &mut self,
         arena: &Arena,

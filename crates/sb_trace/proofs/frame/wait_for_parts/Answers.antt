@@ -11,6 +11,7 @@ loop-place-preserved c =
     record {
       within = omega arith;
       pushed = parts_pushed c.args.order.now.keys (node_parts c.args.node.now) (place - 1) place c.unwrap.result
-          (stack_of c.loop-place.stack.items) (stack_of c.wait_for_part.new.stack.items) (stack_of c.args.stack.now.items) e
+          (stack_of c.loop-place.stack.items) (stack_of c.wait_for_part.new.stack.items)
+          (stack_of c.args.stack.now.items) e
           (sym c.part_at.ensures ∙ c.unwrap.ensures) c.loop-place.invariant.pushed c.in_ok-wait_for_part.ensures;
     }

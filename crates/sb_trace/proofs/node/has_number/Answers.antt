@@ -4,4 +4,5 @@ use Rattle.sb_trace.proofs.node.has_number.Goals as goal
 
 pub returns : goal.returns
 returns c = c.is_some.ensures
-    ∙ ap is_some (number_from_index c.args.order.now.keys c.args.regex c.get_index_of.result c.get_index_of.ensures.index)
+    ∙ ap is_some
+    (number_from_index c.args.order.now.keys c.args.regex c.get_index_of.result c.get_index_of.ensures.index)

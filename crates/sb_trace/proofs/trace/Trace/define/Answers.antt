@@ -1,4 +1,4 @@
-use Rattle.std.proofs.Common.{◌≡◌, ◌∷◌, ◌++◌, ◌^◌, ◌<◌, [], length, nat_eq, ap, subst, ◌∙◌, arith}
+use Rattle.std.proofs.Common.{◌^◌, ◌<◌, length, nat_eq, ap, subst, ◌∙◌, arith}
 use Rattle.indexmap.specs.IndexSet.{insert_key}
 use Rattle.sb_graph.specs.Findings.{is_marked}
 use Rattle.sb_proof.specs.Lines.{node_in}
@@ -26,7 +26,8 @@ returns-clause-puts g c = λ asked rs memo before once normal at tracks.
       dead = c.make_room-2.new.marks.items;
     })
     before c.args.node.now n c.args.regex (g.L.Tape.told c.args.tape.now) (g.L.Tape.told c.put.new.self)
-    c.order_tells_apart.ensures once normal at small (subst (λ o. IsNodeIn o c.args.node.now n) order c.in_ok-proof_node.ensures)
+    c.order_tells_apart.ensures once normal at small
+    (subst (λ o. IsNodeIn o c.args.node.now n) order c.in_ok-proof_node.ensures)
     c.requires.new
     (insert-missing c.args.self.now.order c.add.new.regexes.keys c.args.regex c.requires.new
     (c.in_ok-add.ensures.ok ∙ ap (λ t. insert_key nat_eq t.order c.args.regex) c.self.view_is))

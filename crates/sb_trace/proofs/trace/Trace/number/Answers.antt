@@ -1,6 +1,6 @@
-use Rattle.std.proofs.Common.{◌≡◌, sym, ap, ◌∙◌}
+use Rattle.std.proofs.Common.{sym, ap, ◌∙◌}
 use Rattle.sb_trace.specs.Tracking.{number_in}
-use Rattle.sb_trace.specs.Waiting.{stack_of, numbers_in, is_in}
+use Rattle.sb_trace.specs.Waiting.{numbers_in, is_in}
 use Rattle.sb_trace.proofs.Positions.{number_from_index, number-there}
 use Rattle.sb_trace.proofs.Puts.{traces_both, stays_both}
 use Rattle.sb_trace.proofs.Stacks.{stack_pushed}
@@ -29,7 +29,8 @@ loop-frame-preserved g c =
     let known = c.loop-frame.invariant in
     let turn = c.in_ok-settle.ensures in
     let rs = c.args.arena.now in
-    let top = stack_pushed c.pop.new.self.items c.loop-frame.stack.items c.in-Some-pop.frame c.in-Some-pop.ensures.items in
+    let frame = c.in-Some-pop.frame in
+    let top = stack_pushed c.pop.new.self.items c.loop-frame.stack.items frame c.in-Some-pop.ensures.items in
     record {
       stack = turn.settles.stack;
       keeps = turn.settles.keeps c.args.regex

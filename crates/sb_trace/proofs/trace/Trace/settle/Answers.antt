@@ -19,7 +19,8 @@ returns-then-frame-clause-settles g c =
     let old = c.args.self.now.order in
     let new = c.define.new.self.order in
     let fs = stack_of c.args.stack.now.items in
-    on_ok c.define.result (new ≡ old ++ c.args.frame.regex ∷ []) (Settles c.args.arena.now old new (c.args.frame ∷ fs) fs)
+    on_ok c.define.result (new ≡ old ++ c.args.frame.regex ∷ [])
+    (Settles c.args.arena.now old new (c.args.frame ∷ fs) fs)
     (λ e. settles_defined c.args.arena.now old new c.args.frame fs
     (none-false (number_in old c.args.frame.regex)
     (sym (c.has_number.ensures ∙ ap (λ t. is_some (number_in t.order c.args.frame.regex)) c.self.view_is)
@@ -33,7 +34,8 @@ returns-clause-settles g c =
     settles_entered c.args.arena.now c.args.self.now.order c.args.frame (stack_of c.args.stack.now.items)
     (stack_of c.wait_for_parts.new.stack.items) c.node-node.result.now c.normal_regexes_each_once.ensures.distinct
     (record {
-      known = top_known c.args.arena.now c.args.self.now.order c.args.frame (stack_of c.args.stack.now.items) c.requires;
+      known = top_known c.args.arena.now c.args.self.now.order c.args.frame (stack_of c.args.stack.now.items)
+          c.requires;
       regex = c.node-node.ensures.value;
       parts = c.node-node.ensures.parts;
     })
