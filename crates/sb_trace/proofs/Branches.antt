@@ -1,11 +1,8 @@
 -- The classes of a derivative's pieces are an expansion.
-use Rattle.std.proofs.Common.{◌≡◌, ℕ, zero, suc, ◌+◌, ◌-◌, ◌<◌, ◌≤◌, Bool, true, false, cond, ◌&&◌, ◌||◌, List, [], ◌∷◌, ◌++◌, length, filter, map, slice_get, Option, Some, None, is_some, option_map, refl, sym, ap, subst, ◌∙◌, arith}
+use Rattle.std.proofs.Common.{◌≡◌, ℕ, zero, suc, ◌+◌, ◌-◌, ◌<◌, ◌≤◌, Bool, true, false, cond, ◌&&◌, ◌||◌, List, [], ◌∷◌, filter, map, slice_get, Option, Some, None, is_some, option_map, refl, sym, ap, subst, ◌∙◌, arith}
 use Rattle.std.specs.Prelude.{nat_le}
-use Rattle.std.specs.List.{list_all}
 use Rattle.std.proofs.lemmas.Bool.{and_parts, and_from, le-leb, leb-true, lt-leb, leb-false, false≢true}
-use Rattle.std.proofs.lemmas.Bool.Decides.{nat_tests}
 use Rattle.std.proofs.lemmas.Option.{slice_get-map}
-use Rattle.sb_word.specs.Words.{is_character}
 use Rattle.sb_class.specs.Ranges.{in_range, in_ranges, rises_from}
 use Rattle.sb_lang.specs.Regex.{Regex}
 use Rattle.sb_lang.specs.Order.{regex_eq}
@@ -52,7 +49,8 @@ classes_branches rs order (p ∷ ps) (n ∷ ns) h =
     let first : number_in order p.1 ≡ Some n = Prim.cc (h) in
     let rest : map (number_in order) (targets_of ps) ≡ map Some ns = Prim.cc (h) in
     let range = (p.0, first_of end_of_characters ps - 1) ∷ [] in
-    together-cons (branch_of (regexes_at rs order) (range, n)) (map (branch_of (regexes_at rs order)) (classes_of ps ns))
+    together-cons (branch_of (regexes_at rs order) (range, n))
+    (map (branch_of (regexes_at rs order)) (classes_of ps ns))
     (range, regex_at rs p.1) (branches_of rs ps)
     (ap (option_map (λ r. (range, r))) (regex_by_number rs order p.1 n first)) (classes_branches rs order ps ns rest)
 

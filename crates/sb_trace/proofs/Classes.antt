@@ -1,5 +1,5 @@
 -- The classes of pieces, one more in each step.
-use Rattle.std.proofs.Common.{◌≡◌, ℕ, zero, suc, ◌+◌, ◌-◌, ◌<◌, ◌≤◌, List, [], ◌∷◌, ◌++◌, length, get_or, take, drop, map, Option, Some, refl, sym, ap, ap₂, subst, ◌∙◌, arith, append_assoc}
+use Rattle.std.proofs.Common.{◌≡◌, ℕ, zero, suc, ◌+◌, ◌-◌, ◌<◌, ◌≤◌, List, [], ◌∷◌, ◌++◌, length, get_or, take, drop, map, Some, refl, sym, ap, ap₂, subst, ◌∙◌, arith, append_assoc}
 use Rattle.sb_lang.specs.Regex.{Regex}
 use Rattle.sb_regex.specs.Numbered.{AllNumbers}
 use Rattle.std.proofs.lemmas.List.{append-nil, map-append, take_more, drop_more, drop_all, take_all}
@@ -7,7 +7,6 @@ use Rattle.sb_deriv.specs.Pieces.{end_of_characters, targets_of}
 use Rattle.sb_deriv.specs.Choices.{first_of}
 use Rattle.sb_proof.specs.declared.line.Class.{Class}
 use Rattle.sb_proof.specs.Lines.{class_in}
-use Rattle.sb_rulebook.specs.Lines as lines
 use Rattle.sb_trace.specs.Tracking.{Traced, number_in, StaysNumbered}
 use Rattle.sb_trace.specs.Defining.{classes_of, AreClassesUpTo, AreClassesOf}
 use Rattle.sb_trace.proofs.Numbering.{numbers_stay}
@@ -50,7 +49,7 @@ one_class_more t u pieces i p last n classes more stays l is end here added befo
           ∙ append_assoc (map class_in classes) (((p.0, last) ∷ [], n) ∷ []) (classes_of (drop (i + 1) pieces) ns)
           ∙ ap (λ (e : ℕ). map class_in classes ++ ((p.0, e) ∷ [], n) ∷ classes_of (drop (i + 1) pieces) ns) end
           ∙ sym (ap (λ (xs : List (ℕ × ℕ)). map class_in classes ++ classes_of xs (n ∷ ns))
-              (drop_more pieces i p l ∙ ap (λ (q : ℕ × ℕ). q ∷ drop (i + 1) pieces) (sym is)))
+          (drop_more pieces i p l ∙ ap (λ (q : ℕ × ℕ). q ∷ drop (i + 1) pieces) (sym is)))
           ∙ before.are (n ∷ ns)
           ∙ ap (classes_of pieces) (sym (append_assoc targets (n ∷ []) ns));
     }
@@ -59,7 +58,8 @@ pub all_classes : (order : List ℕ) (pieces : List (ℕ × ℕ)) (i : ℕ) (cla
     → AreClassesUpTo order pieces i classes → AreClassesOf order pieces classes
 all_classes order pieces i classes l before = record {
   targets = before.targets;
-  numbered = ap (λ (xs : List (ℕ × ℕ)). map (number_in order) (targets_of xs)) (sym (take_all i pieces l)) ∙ before.numbered;
+  numbered =
+      ap (λ (xs : List (ℕ × ℕ)). map (number_in order) (targets_of xs)) (sym (take_all i pieces l)) ∙ before.numbered;
   are =
       sym (append-nil (map class_in classes))
       ∙ sym (ap (λ (xs : List (ℕ × ℕ)). map class_in classes ++ classes_of xs []) (drop_all i pieces l))

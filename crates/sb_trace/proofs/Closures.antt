@@ -1,8 +1,8 @@
 -- Members that are closed under derivatives, as more of them come.
-use Rattle.std.proofs.Common.{◌≡◌, ℕ, zero, suc, ◌+◌, ◌-◌, ◌<◌, ◌≤◌, nat_eq, Bool, true, false, cond, not, ◌&&◌, ◌||◌, List, [], ◌∷◌, ◌++◌, length, get_or, take, map, Option, Some, None, is_some, refl, sym, ap, ap₂, subst, ◌∙◌, arith, append_assoc, length-append}
+use Rattle.std.proofs.Common.{◌≡◌, ℕ, zero, suc, ◌+◌, ◌<◌, ◌≤◌, nat_eq, Bool, true, false, cond, not, ◌&&◌, ◌||◌, List, [], ◌∷◌, ◌++◌, length, get_or, take, is_some, refl, sym, ap, ap₂, subst, ◌∙◌, arith, append_assoc}
 use Rattle.std.specs.Prelude.{nat_le}
 use Rattle.std.specs.List.{list_all, list_any, All, IsDistinct}
-use Rattle.std.proofs.lemmas.Bool.{and_parts, and_from, not-true, not_from_false, le-leb, leb-true, leb-false, false≢true, true≢false}
+use Rattle.std.proofs.lemmas.Bool.{and_parts, and_from, not_from_false, le-leb, leb-true, leb-false, false≢true}
 use Rattle.std.proofs.lemmas.List.{append-nil, get_or_append_left, get_or_default, take_more, take_all, map-append}
 use Rattle.std.proofs.lemmas.List.Folds.{list_all-append, list_any-append}
 use Rattle.std.proofs.lemmas.Map.Steps.{length-le_from_distinct_below}
@@ -11,12 +11,13 @@ use Rattle.sb_lang.specs.Regex.{Regex}
 use Rattle.sb_lang.specs.Derivative.{nd}
 use Rattle.sb_regex.specs.Numbered.{regex_at, AreDistinct}
 use Rattle.sb_regex.proofs.CallerLemmas.{names_at, names_below}
-use Rattle.sb_deriv.specs.Faithful.{Memo, KeepsEntries, IsKnown, entry_of}
-use Rattle.sb_deriv.specs.Pieces.{value_from, value_at, rises, end_of_characters, targets_of}
+use Rattle.sb_deriv.specs.Faithful.{Memo, IsKnown}
+use Rattle.sb_deriv.specs.Pieces.{value_from, rises, end_of_characters, targets_of}
 use Rattle.sb_deriv.proofs.CallerLemmas.{above_stays, rises_head, rises_rest, rises_le, covers_rises}
 use Rattle.sb_graph.specs.Findings.{Findings, is_marked, HasMark, IsBarren}
-use Rattle.sb_trace.specs.Tracking.{Traced, is_dead_in, IsExpandedIn}
+use Rattle.sb_trace.specs.Tracking.{Traced, is_dead_in}
 use Rattle.sb_trace.proofs.Positions.{nat_same}
+use Rattle.sb_trace.proofs.DeadLines.{or_first}
 use Rattle.sb_trace.specs.Defining.{IsNumbered}
 use Rattle.sb_trace.specs.Closing.{is_member, is_settled_in, is_unburied, IsClosedIn, AreClosedUpTo, GrewTo, GoesOn}
 
@@ -30,9 +31,6 @@ grew_both a b c p q = (p.0 ++ q.0, q.1 ∙ ap (λ members. members ++ q.0) p.1 �
 
 pub grew_at : (old new : List ℕ) (k : ℕ) → GrewTo old new → k < length old → get_or new k 0 ≡ get_or old k 0
 grew_at old new k grew l = ap (λ members. get_or members k 0) grew.1 ∙ get_or_append_left old grew.0 0 k l
-
-or_first : (a b : Bool) → a ≡ true → (a || b) ≡ true
-or_first a b h = ap (λ x. x || b) h
 
 member_stays : (old new : List ℕ) (n : ℕ) → GrewTo old new → is_member old n ≡ true → is_member new n ≡ true
 member_stays old new n grew h =
@@ -107,7 +105,7 @@ target_marked : (rs : List Regex) (dead : List Bool) (r : Regex) (t : ℕ) → A
     → regex_at rs t ≡ r → HasMark rs dead r → is_marked dead t ≡ true
 target_marked rs dead r t apart known same mark =
     let e : mark.number ≡ t = apart mark.number t (names_below rs mark.number r mark.names) known
-        (names_at rs mark.number r mark.names ∙ sym same) in
+    (names_at rs mark.number r mark.names ∙ sym same) in
     ap (is_marked dead) (sym e) ∙ mark.marked
 
 value_of_first : (d n : ℕ) (p : ℕ × ℕ) (ps : List (ℕ × ℕ)) → rises n (p ∷ ps) end_of_characters ≡ true

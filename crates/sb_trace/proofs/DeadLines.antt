@@ -1,5 +1,5 @@
 -- The line that says that regexes are dead follows, and what is tracked behind it.
-use Rattle.std.proofs.Common.{◌≡◌, ◌≢◌, ℕ, zero, suc, ◌+◌, ◌^◌, ◌<◌, ◌≤◌, nat_lt, nat_eq, Bool, true, false, cond, not, ◌&&◌, ◌||◌, ◌==◌, if◌then◌else◌, List, [], ◌∷◌, ◌++◌, length, get_or, set, map, slice_get, Option, Some, None, is_some, unwrap_or, option_map, Result, Ok, Err, refl, sym, ap, ap₂, subst, ◌∙◌, arith}
+use Rattle.std.proofs.Common.{◌≡◌, ℕ, suc, ◌^◌, ◌<◌, ◌≤◌, nat_eq, Bool, true, false, cond, not, ◌||◌, ◌==◌, if◌then◌else◌, List, [], ◌∷◌, length, get_or, map, Option, Some, None, is_some, option_map, Result, Ok, Err, refl, sym, ap, ap₂, subst, ◌∙◌, arith}
 use Rattle.std.specs.List.{list_all, list_any, IsDistinct}
 use Rattle.std.proofs.lemmas.Bool.{and_parts, and_from, lt-ltb, not-true, false≢true, true≢false}
 use Rattle.std.proofs.lemmas.Bool.Decides.{nat_tests}
@@ -7,23 +7,22 @@ use Rattle.std.proofs.lemmas.List.{length-set}
 use Rattle.std.proofs.lemmas.List.Elements.{All-from_recursion}
 use Rattle.std.proofs.lemmas.List.Folds.{list_any_none}
 use Rattle.std.proofs.lemmas.Map.Keys.{IsDistinct-head, IsDistinct-tail}
-use Rattle.std.proofs.lemmas.Option.{slice_get-map, slice_get-get_or, unwrap_or-slice_get}
+use Rattle.std.proofs.lemmas.Option.{slice_get-map, unwrap_or-slice_get}
 use Rattle.sb_script.specs.Steps.{line}
 use Rattle.sb_lang.specs.Regex.{Regex}
-use Rattle.sb_lang.specs.Derivative.{nullable}
 use Rattle.sb_regex.specs.Numbered.{regex_at, regexes_at}
 use Rattle.sb_deriv.specs.Faithful.{Memo, entry_of}
 use Rattle.sb_deriv.specs.Pieces.{targets_of}
 use Rattle.sb_graph.specs.Findings.{is_marked, AreBarren}
 use Rattle.sb_proof.specs.Tapes.{with_bytes}
 use Rattle.sb_rulebook.specs.Lines.{dead_line, text_of}
-use Rattle.sb_rulebook.specs.LineLaws.{has_text, is_small, are_small}
+use Rattle.sb_rulebook.specs.LineLaws.{is_small, are_small}
 use Rattle.sb_rulebook.specs.Refusals.{Refusal, unknown_id, repeated, holds_empty_word, not_closed}
 use Rattle.sb_rulebook.specs.Parts.{together}
 use Rattle.sb_rulebook.specs.Kept.{AllKept, Asked, is_among_numbers, is_dead, targets_in, marked, with_dead}
 use Rattle.sb_rulebook.specs.RegexRules.{has_repeated, is_settled, is_closed, first_alive, died, member_at, follows_dead}
 use Rattle.sb_rulebook.specs.Follows.{follows}
-use Rattle.sb_trace.specs.Tracking.{Traced, number_in, Tracks, TracesUncounted, is_dead_in, IsExpandedIn}
+use Rattle.sb_trace.specs.Tracking.{Traced, number_in, Tracks, TracesUncounted, is_dead_in}
 use Rattle.sb_trace.specs.Closing.{is_unburied, is_settled_in, is_member, IsClosedIn, AreClosedUpTo}
 use Rattle.sb_trace.proofs.Positions.{number-there, number-below, nat_same}
 use Rattle.sb_trace.proofs.Numbering.{number_of_at, one_number, eq_itself}
@@ -138,7 +137,7 @@ none_repeated rs memo t kept marks (m ∷ ms) (id ∷ ids) tracks once all h =
     let others = other_numbers t.order m ms id ids h in
     let parts = and_parts (is_unburied marks t m) (list_all (is_unburied marks t) ms) all in
     let apart = list_any_none (nat_eq m) ms
-        (All-from_recursion (λ n. nat_eq m n ≡ false) ms (IsDistinct-head nat_eq m ms once)) in
+    (All-from_recursion (λ n. nat_eq m n ≡ false) ms (IsDistinct-head nat_eq m ms once)) in
     or_none (is_among_numbers ids id) (is_dead kept id) (has_repeated kept ids)
     (among t.order ms ids m id others first ∙ apart)
     (tracks.dead id ∙ sym (dead_at t m id first) ∙ unburied_alive marks t m parts.0)
@@ -285,14 +284,15 @@ pub dead_traced : (asked : Asked) (rs : List Regex) (memo : Memo) (t : Traced) (
     → after ≡ with_bytes (line (text_of (dead_line ids))) told → AreBarren rs marks
     → list_all (is_unburied marks t) members ≡ true → AreClosedUpTo memo t members (length members)
     → Tracks rs memo t kept → TracesUncounted asked kept rs memo (record t { dead = dead }) told after
-dead_traced asked rs memo t kept marks dead members ids told after long once h marked put barren all closed tracks =
-    (with_dead ids kept,
-    puts_one asked kept (with_dead ids kept) (dead_line ids) told after
-    (dead_follows asked rs memo t kept marks members ids tracks barren once all closed h)
-    (dead_has_text t.order members ids long h) put,
-    tracks_dead rs memo t kept dead members ids h marked tracks,
-    record { format = refl; atoms = refl; clauses = refl; rests = refl },
-    refl)
+dead_traced asked rs memo t kept marks dead members ids told after long once h marked put barren all closed tracks = (
+  with_dead ids kept,
+  puts_one asked kept (with_dead ids kept) (dead_line ids) told after
+      (dead_follows asked rs memo t kept marks members ids tracks barren once all closed h)
+      (dead_has_text t.order members ids long h) put,
+  tracks_dead rs memo t kept dead members ids h marked tracks,
+  record { format = refl; atoms = refl; clauses = refl; rests = refl },
+  refl,
+)
 
 -- the same of a trace that is seen in two ways
 pub dead_traced_at : (asked : Asked) (rs : List Regex) (memo : Memo) (t u : Traced) (kept : AllKept)
@@ -305,8 +305,8 @@ pub dead_traced_at : (asked : Asked) (rs : List Regex) (memo : Memo) (t u : Trac
 dead_traced_at asked rs memo t u kept marks dead members ids told after same long once h marked put barren all closed
     tracks =
     subst (λ (v : Traced). length v.order ≤ 2 ^ 64 → AreNumbers v.order members ids
-        → ((n : ℕ) → is_marked dead n ≡ (list_any (nat_eq n) ids || is_marked v.dead n))
-        → TracesUncounted asked kept rs memo (record v { dead = dead }) told after) (sym same)
+    → ((n : ℕ) → is_marked dead n ≡ (list_any (nat_eq n) ids || is_marked v.dead n))
+    → TracesUncounted asked kept rs memo (record v { dead = dead }) told after) (sym same)
     (λ long h marked. dead_traced asked rs memo t kept marks dead members ids told after long once h marked put barren
     all closed tracks) long h marked
 

@@ -1,5 +1,5 @@
 -- What a result says, and what follows from that.
-use Rattle.std.proofs.Common.{◌≡◌, ℕ, Bool, true, false, Result, Ok, Err}
+use Rattle.std.proofs.Common.{◌≡◌, false, Result, Ok, Err}
 use Rattle.std.specs.Result.{is_err, OnOk, IfOk}
 use Rattle.std.proofs.lemmas.Bool.{true≢false}
 

@@ -1,9 +1,8 @@
 -- The line of an expansion follows, and what is tracked behind it.
-use Rattle.std.proofs.Common.{◌≡◌, ◌≢◌, ℕ, zero, suc, ◌+◌, ◌-◌, ◌^◌, ◌<◌, ◌≤◌, nat_lt, nat_eq, Bool, true, false, cond, ◌&&◌, ◌==◌, if◌then◌else◌, List, [], ◌∷◌, ◌++◌, length, get_or, set, map, slice_get, Option, Some, None, is_some, unwrap_or, option_map, Result, Ok, Err, refl, sym, ap, subst, ◌∙◌, arith}
+use Rattle.std.proofs.Common.{◌≡◌, ◌≢◌, ℕ, suc, ◌+◌, ◌-◌, ◌^◌, ◌<◌, ◌≤◌, nat_lt, nat_eq, Bool, true, false, cond, if◌then◌else◌, List, [], ◌∷◌, length, get_or, set, map, slice_get, Option, Some, None, is_some, option_map, Result, Ok, Err, refl, sym, ap, subst, ◌∙◌, arith}
 use Rattle.std.specs.List.{list_all}
 use Rattle.std.proofs.Math.Dec.{lit<}
-use Rattle.std.proofs.lemmas.Bool.{and_parts, and_from, lt-ltb, false≢true, true≢false}
-use Rattle.std.proofs.lemmas.Bool.Decides.{nat_tests}
+use Rattle.std.proofs.lemmas.Bool.{and_from, lt-ltb, true≢false}
 use Rattle.std.proofs.lemmas.List.{get_or-set_same, get_or-set_other, length-set}
 use Rattle.std.proofs.lemmas.Option.{slice_get-map, slice_get-get_or, unwrap_or-slice_get}
 use Rattle.sb_script.specs.Steps.{line}
@@ -14,14 +13,14 @@ use Rattle.sb_regex.specs.Numbered.{regex_at, regexes_at}
 use Rattle.sb_deriv.specs.Faithful.{Memo, IsKnown, entry_of}
 use Rattle.sb_deriv.specs.Pieces.{rises, end_of_characters, targets_of}
 use Rattle.sb_deriv.specs.Choices.{first_of}
-use Rattle.sb_deriv.proofs.CallerLemmas.{rises_head, rises_rest, rises_le, covers_rises}
+use Rattle.sb_deriv.proofs.CallerLemmas.{rises_rest, rises_le, covers_rises}
 use Rattle.sb_graph.specs.Findings.{is_marked}
 use Rattle.sb_proof.specs.Tapes.{with_bytes}
 use Rattle.sb_proof.specs.declared.line.Class.{Class}
 use Rattle.sb_proof.specs.Lines.{class_in}
 use Rattle.sb_rulebook.specs.Lines as lines
 use Rattle.sb_rulebook.specs.Lines.{expansion_line, text_of}
-use Rattle.sb_rulebook.specs.LineLaws.{has_text, is_small, is_small_range, is_small_class}
+use Rattle.sb_rulebook.specs.LineLaws.{has_text, is_small, is_small_class}
 use Rattle.sb_rulebook.specs.Refusals.{Refusal, unknown_id, repeated, wrong_target, wrong_verdict}
 use Rattle.sb_rulebook.specs.Parts.{together}
 use Rattle.sb_rulebook.specs.Kept.{AllKept, Asked, targets_in, with_expansion, most_counted, counting}
@@ -56,7 +55,7 @@ follows_by asked kept id ks r ps there branches new right within =
           [ None ↦ Err unknown_id | Some ps ↦ expanded asked kept id ks r ps ]
     ]) there
     ∙ ap (λ o. elim o as (λ _. Result AllKept Refusal)
-        [ None ↦ Err unknown_id | Some ps ↦ expanded asked kept id ks r ps ]) branches
+    [ None ↦ Err unknown_id | Some ps ↦ expanded asked kept id ks r ps ]) branches
     ∙ ap (λ b. if b then Err repeated else if is_expansion r ps then counting asked now else Err wrong_target) new
     ∙ ap (λ b. if b then counting asked now else Err wrong_target) right
     ∙ ap (λ b. if b then Ok (record now { counted = now.counted + 1 }) else Err wrong_verdict) within
@@ -85,7 +84,7 @@ expansion_follows apart decides asked rs memo t kept number pieces targets withi
     ap (λ known. together (map (branch_of known) (classes_of pieces targets))) tracks.regexes
     ∙ classes_branches rs t.order pieces targets numbered in
     let right = (decides r (branches_of rs pieces)).1
-        (pieces_expand apart rs (get_or t.order number 0) pieces known) in
+    (pieces_expand apart rs (get_or t.order number 0) pieces known) in
     follows_by asked kept number (classes_of pieces targets) r (branches_of rs pieces) there branches
     (tracks.expanded number ∙ new) right (lt-ltb kept.counted (most_counted asked) room)
     ∙ ap (λ ns. Ok (behind_expansion number ns kept)) (classes_targets t.order pieces targets numbered)
@@ -239,6 +238,6 @@ pub expansion_traced_at : OrderTellsApart → TestDecidesExpansion → (asked : 
 expansion_traced_at apart decides asked rs memo t u kept number pieces classes budget left told after same long small
     room spent put within known entry are new tracks counts =
     subst (λ (v : Traced). length v.order ≤ length v.expanded → length v.order ≤ 2 ^ 64
-        → Traces asked kept rs memo (record v { expanded = set v.expanded number true }) left told after) (sym same)
+    → Traces asked kept rs memo (record v { expanded = set v.expanded number true }) left told after) (sym same)
     (λ long small. expansion_traced apart decides asked rs memo t kept number pieces classes budget left told after
     within long small known entry are new tracks counts room spent put) long small

@@ -1,16 +1,15 @@
 -- What a trace knows, where an arena, a graph and the trace itself grow.
-use Rattle.std.proofs.Common.{◌≡◌, ℕ, ◌<◌, ◌≤◌, Bool, true, false, List, [], ◌∷◌, ◌++◌, length, get_or, map, Option, Some, None, is_some, refl, sym, ap, subst, ◌∙◌, arith, append_assoc}
-use Rattle.std.specs.List.{All}
-use Rattle.std.proofs.lemmas.Bool.{false≢true, true≢false}
+use Rattle.std.proofs.Common.{◌≡◌, ℕ, ◌≤◌, Bool, true, false, List, [], length, get_or, Option, Some, None, is_some, refl, sym, ap, subst, ◌∙◌}
+use Rattle.std.proofs.lemmas.Bool.{true≢false}
 use Rattle.std.proofs.lemmas.List.{append-nil}
 use Rattle.sb_lang.specs.Regex.{Regex}
 use Rattle.sb_lit.specs.Budgets.{Spending}
 use Rattle.sb_regex.specs.Numbered.{Extends}
 use Rattle.sb_regex.proofs.CallerLemmas.{numbers_kept, ats_kept, extends_same, extends_more}
-use Rattle.sb_deriv.specs.Faithful.{Memo, KeepsEntries, entry_of}
+use Rattle.sb_deriv.specs.Faithful.{Memo, KeepsEntries}
 use Rattle.sb_graph.specs.Findings.{Findings, IsGraph, is_marked}
-use Rattle.sb_rulebook.specs.Kept.{AllKept, Asked, targets_in}
-use Rattle.sb_trace.specs.Putting.{Puts, IsCounted, KeepsClauses}
+use Rattle.sb_rulebook.specs.Kept.{AllKept, Asked}
+use Rattle.sb_trace.specs.Putting.{IsCounted, KeepsClauses}
 use Rattle.sb_trace.specs.Tracking.{Traced, number_in, IsExpandedTo, Tracks, Traces, TracesUncounted, IsExpandedIn, is_dead_in, StaysNumbered}
 use Rattle.sb_trace.specs.Closing.{GoesOn}
 use Rattle.sb_trace.proofs.Positions.{number-stays}

@@ -33,8 +33,8 @@ AreClosedUpTo memo t members place = (k : ℕ) → k < place → IsClosedIn memo
 abbrev pub GrewTo : List ℕ → List ℕ → Type 0
 GrewTo old new = (more : List ℕ) × (new ≡ old ++ more)
 
--- What becomes of an arena, a graph and a trace while lines are put: all that was known stays known, and nothing more is
--- dead.
+-- What becomes of an arena, a graph and a trace while lines are put: all that was known stays known, and nothing more
+-- is dead.
 pub record GoesOn (rs new : List Regex) (g h : Findings) (t u : Traced) : Type 0 where
   pub stays : StaysNumbered t u
   pub buried : (n : ℕ) → is_dead_in u n ≡ is_dead_in t n

@@ -50,7 +50,8 @@ classes_of (p ∷ ps) (n ∷ ns) = (((p.0, first_of end_of_characters ps - 1) �
 pub record AreClassesUpTo (order : List ℕ) (pieces : List (ℕ × ℕ)) (place : ℕ) (classes : List Class) : Type 0 where
   pub targets : List ℕ
   pub numbered : map (number_in order) (targets_of (take place pieces)) ≡ map Some targets
-  pub are : (ns : List ℕ) → map class_in classes ++ classes_of (drop place pieces) ns ≡ classes_of pieces (targets ++ ns)
+  pub are : (ns : List ℕ)
+      → map class_in classes ++ classes_of (drop place pieces) ns ≡ classes_of pieces (targets ++ ns)
 
 pub record AreClassesOf (order : List ℕ) (pieces : List (ℕ × ℕ)) (classes : List Class) : Type 0 where
   pub targets : List ℕ

@@ -1,5 +1,5 @@
 -- Lines of a proof that are put on a tape, each of which follows from what is kept before it.
-use Rattle.std.specs.Prelude.{◌≡◌, ℕ, ◌≤◌, true, List, [], ◌∷◌, map, Option, Result, Ok, Err}
+use Rattle.std.specs.Prelude.{◌≡◌, ℕ, true, List, [], ◌∷◌, map, Option, Result, Ok, Err}
 use Rattle.std.specs.List.{list_all}
 use Rattle.sb_lit.specs.Budgets.{Spending}
 use Rattle.sb_rulebook.specs.Refusals.{Refusal}

@@ -100,8 +100,9 @@ impl Trace {
         }
     }
 
-    /// Puts the expansion of a regex, unless it stands there, with the lines of the regexes that it names. The budget is
-    /// asked before the line is put.
+    /// Puts the expansion of a regex, unless it stands there, with the lines of the regexes that it names. The budget
+    /// is asked before the line is put. Linear in the pieces of the derivative, and in the parts of the regexes that
+    /// were lacking; what is not known yet of the derivative is found first.
     pub fn expand<L: Tape>(
         &mut self,
         arena: &mut Arena,
@@ -310,8 +311,8 @@ impl Trace {
         }
     }
 
-    /// Makes a regex without a word dead in the proof: its derivatives, and theirs, are expanded, and then all of them are
-    /// dead. Whether the budget sufficed.
+    /// Makes a regex without a word dead in the proof: its derivatives, and theirs, are expanded, and then all of them
+    /// are dead. Whether the budget sufficed.
     fn bury<L: Tape>(
         &mut self,
         arena: &mut Arena,
@@ -462,11 +463,7 @@ impl Trace {
     }
 
     /// Makes a target a member, unless it is dead.
-    fn add_target(
-        &self,
-        target: RegexId,
-        members: &mut IndexSet<RegexId>,
-    ) -> Result<(), AllocError>
+    fn add_target(&self, target: RegexId, members: &mut IndexSet<RegexId>) -> Result<(), AllocError>
         ensures settled { OnOk result (is_settled_in self.now members.new.keys target ≡ true) }
         ensures grew { OnOk result (GrewTo members.old.keys members.new.keys) }
         ensures members { OnOk result ((marks : List Bool) → is_marked marks target ≡ true
@@ -493,12 +490,7 @@ fn last_of(pieces: &[(u32, RegexId)], place: usize) -> u32
 }
 
 /// Adds the class of the characters from one to another, with the number to which they lead.
-fn add_class(
-    classes: &mut Vec<Class>,
-    first: u32,
-    last: u32,
-    target: u64,
-) -> Result<(), AllocError>
+fn add_class(classes: &mut Vec<Class>, first: u32, last: u32, target: u64) -> Result<(), AllocError>
     ensures { OnOk result
         (map class_in classes.new.items ≡ map class_in classes.old.items ++ ((first, last) ∷ [], target) ∷ []) }
 {

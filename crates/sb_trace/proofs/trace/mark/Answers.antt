@@ -1,4 +1,4 @@
-use Rattle.std.proofs.Common.{ℕ, ◌<◌, true, length, refl, ◌∙◌, arith}
+use Rattle.std.proofs.Common.{◌<◌, true, length, refl, ◌∙◌, arith}
 use Rattle.std.proofs.lemmas.List.{length-set}
 use Rattle.sb_trace.proofs.Positions.{number-below}
 use Rattle.sb_trace.proofs.Marks.{mark_more, mark_all, mark_elsewhere}
@@ -16,7 +16,8 @@ pub loop-regex-preserved : goal.loop-regex-preserved
 loop-regex-preserved c =
     let before = c.loop-regex.invariant in
     let low = number-below c.args.order.now.keys c.regex-item.result c.number_of.result c.number_of.ensures in
-    let within : c.number_of.result < length c.loop-regex.dead.items = omega (arith, low, c.requires.room, before.long) in
+    let within : c.number_of.result < length c.loop-regex.dead.items =
+    omega (arith, low, c.requires.room, before.long) in
     record {
       marks = λ numbers h n.
           mark_more c.args.order.now.keys c.args.regexes.now numbers c.loop-regex.regex-index c.regex-item.result

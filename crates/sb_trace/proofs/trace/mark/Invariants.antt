@@ -9,5 +9,5 @@ invariant-loop-regex l = record {
   marks : (numbers : List ℕ) → map (number_in l.order.keys) l.regexes ≡ map Some numbers → (n : ℕ)
       → is_marked l.dead.items n ≡ (list_any (nat_eq n) (take l.regex-index numbers) || is_marked l.fn.dead.items n);
   long : length l.dead.items ≡ length l.fn.dead.items;
-  stay : (n : ℕ) → length l.order.keys ≤ n → is_marked l.dead.items n ≡ is_marked l.fn.dead.items n
+  stay : (n : ℕ) → length l.order.keys ≤ n → is_marked l.dead.items n ≡ is_marked l.fn.dead.items n;
 }

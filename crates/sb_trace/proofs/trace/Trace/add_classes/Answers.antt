@@ -1,4 +1,4 @@
-use Rattle.std.proofs.Common.{◌≡◌, ℕ, refl, ◌∙◌}
+use Rattle.std.proofs.Common.{refl, ◌∙◌}
 use Rattle.sb_trace.proofs.Puts.{traces_none, traces_both, stays_both}
 use Rattle.sb_trace.proofs.Growing.{stays_same}
 use Rattle.sb_trace.proofs.Classes.{no_classes, one_class_more, all_classes, target_known}

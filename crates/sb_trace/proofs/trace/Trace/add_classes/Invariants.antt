@@ -14,5 +14,5 @@ invariant-loop-place g l = record {
   dead_stay : (n : ℕ) → is_marked l.self.dead n ≡ is_marked l.fn.self.dead n;
   faults : g.L.Tape.faults l.tape ≡ g.L.Tape.faults l.fn.tape;
   puts : (asked : Asked) (memo : Memo) (before : AllKept) → Tracks l.arena memo l.fn.self before
-      → TracesUncounted asked before l.arena memo l.self (g.L.Tape.told l.fn.tape) (g.L.Tape.told l.tape)
+      → TracesUncounted asked before l.arena memo l.self (g.L.Tape.told l.fn.tape) (g.L.Tape.told l.tape);
 }

@@ -11,5 +11,5 @@ invariant-loop-target l = record {
   settled : list_all (is_settled_in l.self l.members.keys) (targets_of (take l.target-index l.pieces)) ≡ true;
   members : (marks : List Bool) → list_all (is_marked marks) (targets_of l.pieces) ≡ true
       → list_all (is_unburied marks l.self) l.fn.members.keys ≡ true
-      → list_all (is_unburied marks l.self) l.members.keys ≡ true
+      → list_all (is_unburied marks l.self) l.members.keys ≡ true;
 }

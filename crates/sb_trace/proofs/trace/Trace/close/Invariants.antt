@@ -18,5 +18,5 @@ invariant-loop-place g l = record {
   faults : g.L.Tape.faults l.tape ≡ g.L.Tape.faults l.fn.tape;
   puts : (asked : Asked) (before : AllKept) → Tracks l.fn.arena l.fn.graph.memo l.fn.self before
       → IsCounted asked before l.fn.budget
-      → Traces asked before l.arena l.graph.memo l.self l.budget (g.L.Tape.told l.fn.tape) (g.L.Tape.told l.tape)
+      → Traces asked before l.arena l.graph.memo l.self l.budget (g.L.Tape.told l.fn.tape) (g.L.Tape.told l.tape);
 }

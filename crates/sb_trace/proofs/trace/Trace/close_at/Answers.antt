@@ -47,8 +47,8 @@ returns-clause-members g c =
     ap (λ (ds : List Bool). is_marked ds regex) h.marks ∙ ap (is_marked old) same
     ∙ unburied_at old c.args.self.now keys c.args.place c.requires.members c.requires.place in
     let targets = targets_marked c.expand.new.arena marks regex c.unwrap.result.now
-        c.normal_regexes_each_once.ensures.distinct (h.graph.barren regex mark)
-        (h.graph.faithful regex c.unwrap.result.now entry) in
+    c.normal_regexes_each_once.ensures.distinct (h.graph.barren regex mark)
+    (h.graph.faithful regex c.unwrap.result.now entry) in
     c.in_ok-add_targets.ensures.members marks
     (ap (λ (ps : List (ℕ × ℕ)). list_all (is_marked marks) (targets_of ps)) c.pieces.ensures.value ∙ targets)
     (unburied_stay old marks c.args.self.now c.expand.new.self keys h.marks h.buried c.requires.members)

@@ -1,4 +1,4 @@
-use Rattle.std.proofs.Common.{◌≡◌, ◌<◌, ◌≤◌, ℕ, Bool, true, false, Some, length, get_or, refl, sym, ap, ◌∙◌, arith}
+use Rattle.std.proofs.Common.{◌≡◌, ◌≤◌, ℕ, Bool, true, false, Some, length, get_or, refl, sym, ap, ◌∙◌, arith}
 use Rattle.sb_graph.specs.Findings.{is_marked}
 use Rattle.sb_trace.specs.Tracking.{Traced, IsExpandedIn, number_in}
 use Rattle.sb_trace.proofs.Positions.{number-below}
@@ -48,11 +48,11 @@ returns-then-index-clause-already g c =
     let s = c.self.inside in
     let u : Traced = record { order = s.order.keys; expanded = s.expanded.items; dead = s.dead.items } in
     let h = c.in_ok-number.ensures in
-    (λ same. expanded_before c.args.self.now c.number.new.self h.stays h.expanded_stay c.marks_have_numbers.ensures.expanded
-    c.args.regex
-    (there c.number.new.self u c.args.regex c.in_ok-number.number c.index.result.now c.self.view_is c.self.invariant.0
-    h.first c.index.ensures c.if-index.true),
-    λ e. refl)
+    let now = there c.number.new.self u c.args.regex c.in_ok-number.number c.index.result.now c.self.view_is
+    c.self.invariant.0 h.first c.index.ensures c.if-index.true in
+    let before = expanded_before c.args.self.now c.number.new.self h.stays h.expanded_stay
+    c.marks_have_numbers.ensures.expanded c.args.regex now in
+    (λ same. before, λ e. refl)
 
 pub returns-then-index-clause-marks : goal.returns-then-index-clause-marks
 returns-then-index-clause-marks g c = λ n h. c.in_ok-number.ensures.expanded_stay n ∙ h
@@ -78,7 +78,7 @@ returns-clause-puts g c =
     let h = c.in_ok-number.ensures in
     let k = c.in_ok-classes.ensures in
     let here = new c.number.new.self u c.args.regex c.in_ok-number.number c.index.result.now c.self.view_is
-        c.self.invariant.0 h.first c.index.ensures c.if-index.false in
+    c.self.invariant.0 h.first c.index.ensures c.if-index.false in
     on_ok_more c.put_expansion.result _ _
     (λ put. puts_expansion c.args.arena.now c.args.self.now c.number.new.self c.classes.new.self
     c.put_expansion.new.self c.args.budget.now c.put_expansion.new.budget (g.L.Tape.told c.args.tape.now)
@@ -90,10 +90,13 @@ returns-clause-puts g c =
 pub returns-clause-expanded : goal.returns-clause-expanded
 returns-clause-expanded g c =
     let first = number_kept c.number.new.self c.classes.new.self c.args.regex c.in_ok-number.number
-        c.in_ok-classes.ensures.stays c.in_ok-number.ensures.first in
+    c.in_ok-classes.ensures.stays c.in_ok-number.ensures.first in
     if_ok_more c.put_expansion.result _ _
-    (λ e marked not_spent. (c.in_ok-number.number, ap (λ order. number_in order c.args.regex) c.put_expansion.ensures.order ∙ first,
-    marked not_spent)) c.put_expansion.ensures.expanded
+    (λ e marked not_spent. (
+      c.in_ok-number.number,
+      ap (λ order. number_in order c.args.regex) c.put_expansion.ensures.order ∙ first,
+      marked not_spent,
+    )) c.put_expansion.ensures.expanded
 
 pub returns-clause-already : goal.returns-clause-already
 returns-clause-already g c =
@@ -101,7 +104,7 @@ returns-clause-already g c =
     let u : Traced = record { order = s.order.keys; expanded = s.expanded.items; dead = s.dead.items } in
     let h = c.in_ok-number.ensures in
     let here = new c.number.new.self u c.args.regex c.in_ok-number.number c.index.result.now c.self.view_is
-        c.self.invariant.0 h.first c.index.ensures c.if-index.false in
+    c.self.invariant.0 h.first c.index.ensures c.if-index.false in
     if_ok_more c.put_expansion.result _ _
     (λ e anew. anew_is_not_already e (IsExpandedIn c.args.self.now c.args.regex)
     (λ before. not_expanded c.args.self.now c.number.new.self c.args.regex c.in_ok-number.number h.stays h.first

@@ -1,4 +1,4 @@
-use Rattle.std.proofs.Common.{◌≡◌, ◌<◌, ℕ, false, length, subst, sym, ◌∙◌, arith}
+use Rattle.std.proofs.Common.{◌≡◌, ◌<◌, false, length, subst, sym, ◌∙◌, arith}
 use Rattle.sb_trace.specs.Tracking.{Traced, is_dead_in}
 use Rattle.sb_trace.proofs.Numbering.{dead_by_number, alive_without_number}
 use Rattle.sb_trace.proofs.trace.Trace.is_dead.Goals as goal

@@ -1,4 +1,4 @@
-use Rattle.std.proofs.Common.{◌≡◌, ◌≤◌, ◌^◌, ℕ, true, nat_eq, List, length, map, Some, sym, ap, ◌∙◌, arith}
+use Rattle.std.proofs.Common.{◌≤◌, ◌^◌, nat_eq, length, map, sym, ap, ◌∙◌, arith}
 use Rattle.std.specs.List.{list_any}
 use Rattle.sb_graph.specs.Findings.{is_marked}
 use Rattle.sb_trace.specs.Tracking.{Traced, number_in}
@@ -15,7 +15,8 @@ returns-clause-puts g c =
     let s = c.self.inside in
     let u : Traced = record { order = s.order.keys; expanded = s.expanded.items; dead = s.dead.items } in
     let long = c.self.invariant.0 in
-    let small : length s.order.keys ≤ 2 ^ 64 = omega (arith, long, s.expanded.ok.0, s.expanded.ok.1, s.expanded.small) in
+    let small : length s.order.keys ≤ 2 ^ 64 =
+    omega (arith, long, s.expanded.ok.0, s.expanded.ok.1, s.expanded.small) in
     let numbers = c.in_ok-numbers_of.field-0.items in
     let h = ap (map (number_in s.order.keys)) (sym c.as_slice-regexes.ensures.keys) ∙ c.in_ok-numbers_of.ensures in
     let marked = c.mark.ensures.marks numbers c.in_ok-numbers_of.ensures in

@@ -1,4 +1,4 @@
-use Rattle.std.proofs.Common.{◌≡◌, ◌≤◌, ◌^◌, ℕ, length, sym, ◌∙◌, arith}
+use Rattle.std.proofs.Common.{◌≤◌, ◌^◌, length, sym, ◌∙◌, arith}
 use Rattle.sb_trace.specs.Tracking.{Traced}
 use Rattle.sb_trace.proofs.Exits.{told_ok}
 use Rattle.sb_trace.proofs.ExpansionLines.{expansion_traced_at}
@@ -10,7 +10,8 @@ returns-clause-puts g c =
     let s = c.self.inside in
     let u : Traced = record { order = s.order.keys; expanded = s.expanded.items; dead = s.dead.items } in
     let long = c.self.invariant.0 in
-    let small : length s.order.keys ≤ 2 ^ 64 = omega (arith, long, s.expanded.ok.0, s.expanded.ok.1, s.expanded.small) in
+    let small : length s.order.keys ≤ 2 ^ 64 =
+    omega (arith, long, s.expanded.ok.0, s.expanded.ok.1, s.expanded.small) in
     let no = sym c.is_err.ensures.value ∙ c.if-is_err.false in
     let put = c.in_ok-put.ensures in
     λ asked rs memo pieces before known entry are new tracks counts.
