@@ -1,0 +1,116 @@
+use Rattle.std.proofs.Common.{◌≡◌, ◌≤◌, ℕ, Bool, true, false, Some, length, get_or, refl, sym, ap, ◌∙◌, arith}
+use Rattle.sb_graph.specs.Findings.{is_marked}
+use Rattle.sb_trace.specs.Tracking.{Traced, IsExpandedIn, number_in}
+use Rattle.sb_trace.proofs.Positions.{number-below}
+use Rattle.sb_trace.proofs.Growing.{number_kept, traces_uncounted, expanded_before}
+use Rattle.sb_trace.proofs.Exits.{on_ok_more, if_ok_more}
+use Rattle.sb_trace.proofs.Views.{within_expanded, expanded_read}
+use Rattle.sb_trace.proofs.Expanding.{puts_expansion, not_expanded, anew_is_not_already}
+use Rattle.sb_trace.proofs.trace.Trace.expand_by.Goals as goal
+
+pub index-requires : goal.index-requires
+index-requires g c =
+    let s = c.self.inside in
+    let u : Traced = record { order = s.order.keys; expanded = s.expanded.items; dead = s.dead.items } in
+    let low = number-below c.number.new.self.order c.args.regex c.in_ok-number.number c.in_ok-number.ensures.first in
+    let l = within_expanded c.number.new.self u c.self.view_is c.in_ok-number.number c.self.invariant.0 low in
+    omega (arith, l, s.expanded.ok.0)
+
+pub returns-in_err-number-clause-marks : goal.returns-in_err-number-clause-marks
+returns-in_err-number-clause-marks g c = λ n h. c.number.ensures.expanded_stay n ∙ h
+
+pub returns-in_err-classes-clause-marks : goal.returns-in_err-classes-clause-marks
+returns-in_err-classes-clause-marks g c =
+    λ n h. c.classes.ensures.expanded_stay n ∙ c.number.ensures.expanded_stay n ∙ h
+
+pub returns-then-index-clause-puts : goal.returns-then-index-clause-puts
+returns-then-index-clause-puts g c =
+    λ asked memo before known entry tracks counts.
+    traces_uncounted asked before c.args.arena.now memo c.number.new.self c.args.budget.now
+    (g.L.Tape.told c.args.tape.now) (g.L.Tape.told c.number.new.tape) counts
+    (c.in_ok-number.ensures.puts asked memo before tracks)
+
+there : (t u : Traced) (regex number : ℕ) (b : Bool) → u ≡ t → length u.order ≤ length u.expanded
+    → number_in t.order regex ≡ Some number → b ≡ get_or u.expanded number b → b ≡ true → IsExpandedIn t regex
+there t u regex number b same long first is marked =
+    let l = within_expanded t u same number long (number-below t.order regex number first) in
+    (number, first, sym (expanded_read t u same number b l is) ∙ marked)
+
+pub returns-then-index-clause-expanded : goal.returns-then-index-clause-expanded
+returns-then-index-clause-expanded g c =
+    let s = c.self.inside in
+    let u : Traced = record { order = s.order.keys; expanded = s.expanded.items; dead = s.dead.items } in
+    λ not_spent. there c.number.new.self u c.args.regex c.in_ok-number.number c.index.result.now c.self.view_is
+    c.self.invariant.0 c.in_ok-number.ensures.first c.index.ensures c.if-index.true
+
+pub returns-then-index-clause-already : goal.returns-then-index-clause-already
+returns-then-index-clause-already g c =
+    let s = c.self.inside in
+    let u : Traced = record { order = s.order.keys; expanded = s.expanded.items; dead = s.dead.items } in
+    let h = c.in_ok-number.ensures in
+    let now = there c.number.new.self u c.args.regex c.in_ok-number.number c.index.result.now c.self.view_is
+    c.self.invariant.0 h.first c.index.ensures c.if-index.true in
+    let before = expanded_before c.args.self.now c.number.new.self h.stays h.expanded_stay
+    c.marks_have_numbers.ensures.expanded c.args.regex now in
+    (λ same. before, λ e. refl)
+
+pub returns-then-index-clause-marks : goal.returns-then-index-clause-marks
+returns-then-index-clause-marks g c = λ n h. c.in_ok-number.ensures.expanded_stay n ∙ h
+
+pub put_expansion-requires : goal.put_expansion-requires
+put_expansion-requires g c =
+    number-below c.classes.new.self.order c.args.regex c.in_ok-number.number
+    (number_kept c.number.new.self c.classes.new.self c.args.regex c.in_ok-number.number c.in_ok-classes.ensures.stays
+    c.in_ok-number.ensures.first)
+
+-- the mark that was read
+new : (t u : Traced) (regex number : ℕ) (b : Bool) → u ≡ t → length u.order ≤ length u.expanded
+    → number_in t.order regex ≡ Some number → b ≡ get_or u.expanded number b → b ≡ false
+    → is_marked t.expanded number ≡ false
+new t u regex number b same long first is no_mark =
+    let l = within_expanded t u same number long (number-below t.order regex number first) in
+    sym (expanded_read t u same number b l is) ∙ no_mark
+
+pub returns-clause-puts : goal.returns-clause-puts
+returns-clause-puts g c =
+    let s = c.self.inside in
+    let u : Traced = record { order = s.order.keys; expanded = s.expanded.items; dead = s.dead.items } in
+    let h = c.in_ok-number.ensures in
+    let k = c.in_ok-classes.ensures in
+    let here = new c.number.new.self u c.args.regex c.in_ok-number.number c.index.result.now c.self.view_is
+    c.self.invariant.0 h.first c.index.ensures c.if-index.false in
+    on_ok_more c.put_expansion.result _ _
+    (λ put. puts_expansion c.args.arena.now c.args.self.now c.number.new.self c.classes.new.self
+    c.put_expansion.new.self c.args.budget.now c.put_expansion.new.budget (g.L.Tape.told c.args.tape.now)
+    (g.L.Tape.told c.number.new.tape) (g.L.Tape.told c.classes.new.tape) (g.L.Tape.told c.put_expansion.new.tape)
+    c.args.regex c.in_ok-number.number c.args.derivative.now c.in_ok-classes.classes.items k.stays h.first
+    (k.expanded_stay c.in_ok-number.number ∙ here) k.classes h.puts k.puts put)
+    c.put_expansion.ensures.puts
+
+pub returns-clause-expanded : goal.returns-clause-expanded
+returns-clause-expanded g c =
+    let first = number_kept c.number.new.self c.classes.new.self c.args.regex c.in_ok-number.number
+    c.in_ok-classes.ensures.stays c.in_ok-number.ensures.first in
+    if_ok_more c.put_expansion.result _ _
+    (λ e marked not_spent. (
+      c.in_ok-number.number,
+      ap (λ order. number_in order c.args.regex) c.put_expansion.ensures.order ∙ first,
+      marked not_spent,
+    )) c.put_expansion.ensures.expanded
+
+pub returns-clause-already : goal.returns-clause-already
+returns-clause-already g c =
+    let s = c.self.inside in
+    let u : Traced = record { order = s.order.keys; expanded = s.expanded.items; dead = s.dead.items } in
+    let h = c.in_ok-number.ensures in
+    let here = new c.number.new.self u c.args.regex c.in_ok-number.number c.index.result.now c.self.view_is
+    c.self.invariant.0 h.first c.index.ensures c.if-index.false in
+    if_ok_more c.put_expansion.result _ _
+    (λ e anew. anew_is_not_already e (IsExpandedIn c.args.self.now c.args.regex)
+    (λ before. not_expanded c.args.self.now c.number.new.self c.args.regex c.in_ok-number.number h.stays h.first
+    h.expanded_stay here before) anew) c.put_expansion.ensures.anew
+
+pub returns-clause-marks : goal.returns-clause-marks
+returns-clause-marks g c =
+    λ n h. c.put_expansion.ensures.marks n
+    (c.in_ok-classes.ensures.expanded_stay n ∙ c.in_ok-number.ensures.expanded_stay n ∙ h)

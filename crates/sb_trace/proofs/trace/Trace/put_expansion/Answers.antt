@@ -1,0 +1,28 @@
+use Rattle.std.proofs.Common.{◌≤◌, ◌^◌, length, sym, ◌∙◌, arith}
+use Rattle.sb_trace.specs.Tracking.{Traced}
+use Rattle.sb_trace.proofs.Exits.{told_ok}
+use Rattle.sb_trace.proofs.ExpansionLines.{expansion_traced_at}
+use Rattle.sb_trace.proofs.Views.{within_expanded, expanded_after}
+use Rattle.sb_trace.proofs.trace.Trace.put_expansion.Goals as goal
+
+pub returns-clause-puts : goal.returns-clause-puts
+returns-clause-puts g c =
+    let s = c.self.inside in
+    let u : Traced = record { order = s.order.keys; expanded = s.expanded.items; dead = s.dead.items } in
+    let long = c.self.invariant.0 in
+    let small : length s.order.keys ≤ 2 ^ 64 =
+    omega (arith, long, s.expanded.ok.0, s.expanded.ok.1, s.expanded.small) in
+    let no = sym c.is_err.ensures.value ∙ c.if-is_err.false in
+    let put = c.in_ok-put.ensures in
+    λ asked rs memo pieces before known entry are new tracks counts.
+    expansion_traced_at c.order_tells_apart.ensures c.test_decides_expansion.ensures asked rs memo c.args.self.now u
+    before c.args.number pieces c.args.classes.items c.args.budget.now c.tick.new.self (g.L.Tape.told c.args.tape.now)
+    (g.L.Tape.told c.put.new.self) c.self.view_is long small (told_ok c.tick.result _ no c.tick.ensures.room)
+    (told_ok c.tick.result _ no c.tick.ensures.ok) put.ok c.requires known entry are new tracks counts
+
+pub returns-clause-marks : goal.returns-clause-marks
+returns-clause-marks g c =
+    let s = c.self.inside in
+    let u : Traced = record { order = s.order.keys; expanded = s.expanded.items; dead = s.dead.items } in
+    let within = within_expanded c.args.self.now u c.self.view_is c.args.number c.self.invariant.0 c.requires in
+    λ n h. expanded_after c.args.self.now u c.self.view_is c.args.number n within h

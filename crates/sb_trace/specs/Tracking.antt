@@ -1,0 +1,77 @@
+-- What a trace knows of a proof, and what a reader of the proof keeps.
+use Rattle.std.specs.Prelude.{◌≡◌, ℕ, Bool, true, false, nat_eq, List, ◌++◌, length, map, get_or, Option, Some, None, is_some}
+use Rattle.std.specs.List.{position_from}
+use Rattle.sb_lang.specs.Regex.{Regex}
+use Rattle.sb_lang.specs.Languages.{Language}
+use Rattle.sb_lang.specs.Least.{IsShortestLeast, HasNoWord}
+use Rattle.sb_lit.specs.Budgets.{Spending}
+use Rattle.sb_regex.specs.Numbered.{regexes_at, AllNumbers}
+use Rattle.sb_deriv.specs.Faithful.{Memo, entry_of}
+use Rattle.sb_deriv.specs.Pieces.{targets_of}
+use Rattle.sb_graph.specs.Findings.{is_marked}
+use Rattle.sb_rulebook.specs.Kept.{AllKept, Asked, is_dead, targets_in}
+use Rattle.sb_trace.specs.Putting.{Puts, IsCounted, KeepsClauses}
+use Rattle.sb_trace.specs.declared.trace.Explore.{Explore}
+use Rattle.sb_trace.specs.declared.trace.Explore.TheVariants as explore
+
+-- what of an arena's regexes stands in a proof
+pub record Traced : Type 0 where
+  -- by the numbers in the proof the numbers in the arena
+  pub order : List ℕ
+  -- by the numbers in the proof, whether the regex is expanded, and whether it is dead
+  pub expanded : List Bool
+  pub dead : List Bool
+
+-- the number in the proof of an arena's regex
+abbrev pub number_in : List ℕ → ℕ → Option ℕ
+number_in order n = position_from (nat_eq n) 0 order
+
+-- the targets are those of the regex's derivative, in order, by their numbers in the proof
+pub record IsExpandedTo (memo : Memo) (order : List ℕ) (n : ℕ) (targets : List ℕ) : Type 0 where
+  pub pieces : List (ℕ × ℕ)
+  pub derivative : entry_of memo (get_or order n 0) ≡ Some pieces
+  pub are : map (number_in order) (targets_of pieces) ≡ map Some targets
+
+-- The reader keeps the regexes of the trace, and of each what the trace knows of it.
+pub record Tracks (rs : List Regex) (memo : Memo) (t : Traced) (kept : AllKept) : Type 0 where
+  pub numbers : AllNumbers rs t.order
+  pub regexes : kept.regexes ≡ regexes_at rs t.order
+  pub expansions_long : length kept.expansions ≡ length t.order
+  pub dead_long : length kept.dead ≡ length t.order
+  pub expanded : (n : ℕ) → is_some (targets_in kept.expansions n) ≡ is_marked t.expanded n
+  pub dead : (n : ℕ) → is_dead kept n ≡ is_marked t.dead n
+  pub targets : (n : ℕ) (targets : List ℕ) → targets_in kept.expansions n ≡ Some targets
+      → IsExpandedTo memo t.order n targets
+
+-- Lines were put that follow, and the reader keeps what the trace knows behind them.
+pub record Traces (asked : Asked) (before : AllKept) (rs : List Regex) (memo : Memo) (t : Traced) (budget : Spending)
+    (old new : Option (List ℕ)) : Type 0
+  where
+    pub after : AllKept
+    pub puts : Puts asked before after old new
+    pub tracks : Tracks rs memo t after
+    pub counts : IsCounted asked after budget
+    pub keeps : KeepsClauses before after
+
+-- the same where no line was counted
+abbrev pub TracesUncounted : Asked → AllKept → List Regex → Memo → Traced → Option (List ℕ) → Option (List ℕ) → Type 0
+TracesUncounted asked before rs memo t old new =
+    (after : AllKept) × Puts asked before after old new × Tracks rs memo t after × KeepsClauses before after
+    × (after.counted ≡ before.counted)
+
+-- the regex is expanded in the proof, or dead there
+abbrev pub IsExpandedIn : Traced → ℕ → Type 0
+IsExpandedIn t n = (number : ℕ) × (number_in t.order n ≡ Some number) × (is_marked t.expanded number ≡ true)
+
+abbrev pub is_dead_in : Traced → ℕ → Bool
+is_dead_in t n = elim (number_in t.order n) [ None ↦ false | Some number ↦ is_marked t.dead number ]
+
+-- what an exploration says of a language
+abbrev pub IsExploring : Language → Explore → Type 0
+IsExploring L (explore.Alive word) = IsShortestLeast L word
+IsExploring L explore.Dead = HasNoWord L
+IsExploring L explore.Spent = Unit {0}
+
+-- the old numbers stay
+abbrev pub StaysNumbered : Traced → Traced → Type 0
+StaysNumbered old new = (more : List ℕ) × (new.order ≡ old.order ++ more)
