@@ -11,7 +11,7 @@ use Rattle.sb_lang.specs.Derivative.{nd}
 use Rattle.sb_regex.specs.Numbered.{regex_at, regexes_at}
 use Rattle.sb_deriv.specs.Faithful.{IsKnown}
 use Rattle.sb_deriv.specs.Pieces.{value_from, rises, end_of_characters, targets_of, IsIntervalMap}
-use Rattle.sb_deriv.specs.Choices.{first_of}
+use Rattle.sb_trace.specs.Defining.{first_of}
 use Rattle.sb_deriv.proofs.CallerLemmas.{above_stays, rises_head, rises_rest, rises_le, covers_first, covers_rises}
 use Rattle.sb_rulebook.specs.Lines.{Class}
 use Rattle.sb_rulebook.specs.Parts.{together}

@@ -4,7 +4,7 @@ use Rattle.sb_lang.specs.Regex.{Regex}
 use Rattle.sb_regex.specs.Numbered.{AllNumbers}
 use Rattle.std.proofs.lemmas.List.{append-nil, map-append, take_more, drop_more, drop_all, take_all}
 use Rattle.sb_deriv.specs.Pieces.{end_of_characters, targets_of}
-use Rattle.sb_deriv.specs.Choices.{first_of}
+use Rattle.sb_trace.specs.Defining.{first_of}
 use Rattle.sb_proof.specs.declared.line.Class.{Class}
 use Rattle.sb_proof.specs.Lines.{class_in}
 use Rattle.sb_trace.specs.Tracking.{Traced, number_in, StaysNumbered}

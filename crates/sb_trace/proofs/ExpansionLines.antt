@@ -12,7 +12,7 @@ use Rattle.sb_lang.specs.OrderLaws.{OrderTellsApart}
 use Rattle.sb_regex.specs.Numbered.{regex_at, regexes_at}
 use Rattle.sb_deriv.specs.Faithful.{Memo, IsKnown, entry_of}
 use Rattle.sb_deriv.specs.Pieces.{rises, end_of_characters, targets_of}
-use Rattle.sb_deriv.specs.Choices.{first_of}
+use Rattle.sb_trace.specs.Defining.{first_of}
 use Rattle.sb_deriv.proofs.CallerLemmas.{rises_rest, rises_le, covers_rises}
 use Rattle.sb_graph.specs.Findings.{is_marked}
 use Rattle.sb_proof.specs.Tapes.{with_bytes}

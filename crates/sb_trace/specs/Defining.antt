@@ -5,7 +5,6 @@ use Rattle.sb_regex.specs.declared.node.Node.{Node}
 use Rattle.sb_regex.specs.declared.node.Node.TheVariants as node
 use Rattle.sb_regex.specs.Numbered.{regex_at}
 use Rattle.sb_regex.specs.Nodes.{node_regex, PartsBelow}
-use Rattle.sb_deriv.specs.Choices.{first_of}
 use Rattle.sb_deriv.specs.Pieces.{end_of_characters, targets_of}
 use Rattle.sb_proof.specs.declared.line.Class.{Class}
 use Rattle.sb_proof.specs.Lines.{class_in}
@@ -39,6 +38,11 @@ pub record IsNodeAt (rs : List Regex) (n : ℕ) (node : Node) : Type 0 where
   pub known : n < length rs
   pub regex : node_regex rs node ≡ regex_at rs n
   pub parts : PartsBelow n node
+
+-- where the first of the pieces begins, or the end
+abbrev pub first_of : ℕ → List (ℕ × ℕ) → ℕ
+first_of end [] = end
+first_of end (p ∷ ps) = p.0
 
 -- a class for each piece: its characters, up to where the next piece begins, and the number of its target
 abbrev pub classes_of : List (ℕ × ℕ) → List ℕ → List lines.Class

@@ -8,7 +8,7 @@ ghost use Rattle.sb_lang.specs.Language.{language};
 ghost use Rattle.sb_regex.specs.Numbered.{regex_at, AllNumbers, Extends};
 ghost use Rattle.sb_deriv.specs.Faithful.{Memo, KeepsEntries, IsKnown, entry_of};
 ghost use Rattle.sb_deriv.specs.Pieces.{IsIntervalMap, end_of_characters, targets_of};
-ghost use Rattle.sb_deriv.specs.Choices.{first_of};
+ghost use Rattle.sb_trace.specs.Defining.{first_of};
 ghost use Rattle.sb_graph.specs.Findings.{IsGraph, AreBarren, KeepsMarks, is_marked};
 ghost use Rattle.sb_rulebook.specs.Kept.{AllKept, Asked, nothing_kept};
 ghost use Rattle.sb_trace.specs.Putting.{IsCounted, CountsTapeFault};
