@@ -2,6 +2,7 @@
 
 ghost use Rattle.std.specs.Prelude.{◌≡◌};
 
+use sb_lit::Lit;
 use sb_regex::RegexId;
 use sb_term::Serial;
 use std::marker::Model;
@@ -27,6 +28,13 @@ impl AtomId {
         ensures { result ≡ number }
     {
         AtomId { number }
+    }
+
+    /// The number of a literal's atom.
+    pub fn of(literal: Lit) -> AtomId
+        ensures { result ≡ literal.atom }
+    {
+        AtomId::new(literal.atom as usize)
     }
 
     /// The number itself.

@@ -6,7 +6,7 @@ ghost use Rattle.sb_term.specs.Numbered.{term_at};
 ghost use Rattle.sb_problem.specs.Known.{AreNormals};
 ghost use Rattle.sb_fragment.specs.Measures.{AreMeasures};
 ghost use Rattle.sb_atoms.specs.Numbered.{atom_in, atoms_in, HaveRegexesBelow, Extends};
-ghost use Rattle.sb_atoms.specs.Translated.{brought_translation, IsAtomOf};
+ghost use Rattle.sb_atoms.specs.Translated.{brought_translation, IsAtomOf, IsAdded};
 
 use crate::atom::{Atom, AtomId};
 use crate::table::Atoms;
@@ -78,6 +78,7 @@ impl Atoms {
         requires regexes { HaveRegexesBelow (length arena.old) self.old }
         ensures ok { IfOk result
             (λ found. found ≡ brought_translation (atoms_in arena.new self.new) (term_at table.now id)) }
+        ensures adds { IfOk result (λ found. IsAdded self.old self.new found) }
         ensures extends { Extends self.old self.new }
         ensures regexes { HaveRegexesBelow (length arena.new) self.new }
         ensures right { AreMeasures table.now measures.new }

@@ -1,4 +1,6 @@
+use Rattle.std.proofs.Common.{slice_get, ap, ◌∙◌}
 use Rattle.sb_term.specs.Numbered.{term_at}
+use Rattle.sb_atoms.specs.Numbered.{atom_in}
 use Rattle.sb_atoms.proofs.CallerLemmas.{regexes_kept}
 use Rattle.sb_atoms.proofs.Translating.{literal_there, all_below}
 use Rattle.sb_atoms.proofs.table.Atoms.translate.Goals as goal
@@ -36,3 +38,11 @@ returns-in_err-id-clause-regexes c =
     let below = regexes_kept c.args.arena.now rs c.args.self.now c.in_ok-atom.ensures.arena c.requires.regexes in
     all_below rs (term_at c.args.table.now c.args.id) c.in-Some.atom c.args.self.now c.add.new.self
     c.in_ok-atom.field-0 below c.in-Some.is c.in_ok-atom.ensures.ok c.in_err-id.ensures.grows
+
+pub returns-clause-adds : goal.returns-clause-adds
+returns-clause-adds c = (
+  atom_in c.in-Some.atom,
+  c.in_ok-id.ensures.grows,
+  ap (λ l. slice_get c.add.new.self l.atom) c.positive.ensures ∙ c.in_ok-id.ensures.ok,
+  ap (λ l. l.positive) c.positive.ensures,
+)
