@@ -78,4 +78,4 @@ is_brought lets = false
 is_brought functions = false
 is_brought definitions = false
 is_brought (a_check_of t) = is_membership t
-is_brought proofs = false
+is_brought proofs = true
