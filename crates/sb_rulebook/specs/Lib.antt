@@ -22,7 +22,6 @@ pub mod JudgingLaws
 pub mod Tables
 pub mod KeptLaws
 pub mod Accepted
-pub mod Certified
 pub mod Relevant
 pub mod ProofExamples
 pub mod TranslationExamples
