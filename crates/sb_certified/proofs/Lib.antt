@@ -1,0 +1,5 @@
+pub mod CallerLemmas
+mod WholeLines
+mod StepsAlike
+mod EventFacts
+mod AlongFacts
