@@ -13,3 +13,4 @@ pub mod Views
 pub mod DeadLines
 pub mod Marks
 pub mod Closures
+pub mod CallerLemmas

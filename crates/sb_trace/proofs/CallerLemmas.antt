@@ -1,0 +1,4 @@
+-- What a caller cites of lines that are put, of a trace that grows, and of the numbers of regexes in an order.
+pub use Rattle.sb_trace.proofs.Puts.{puts_none, puts_one, puts_both, stays_both}
+pub use Rattle.sb_trace.proofs.Growing.{tracks_grow, stays_same}
+pub use Rattle.sb_trace.proofs.Positions.{number-there}
