@@ -37,6 +37,7 @@ abbrev pub mode_in : List (List ℕ) → Mode → meaning.Mode
 mode_in words mode.Plain = meaning.plain
 mode_in words mode.Sat = meaning.satisfied (values_from 0 words)
 mode_in words mode.Unsat = meaning.refuted []
+mode_in words mode.Unknown = meaning.undecided
 
 abbrev pub assertion_of : List Term → Option ℕ → meaning.Assertion
 assertion_of ts (Some id) = meaning.asserted (term_at ts id)

@@ -32,12 +32,14 @@ entry_of (next.Ended ending) = entries.Refused BareToken
 abbrev pub verdict_in : Verdict → finding.Verdict
 verdict_in (verdict.Sat words) = finding.is_sat (values_from 0 words.items)
 verdict_in verdict.Unsat = finding.is_unsat []
+verdict_in verdict.Unknown = finding.is_unknown
 verdict_in verdict.Outside = finding.is_outside
 
 -- what is kept after a verdict: the words of the last one that had some
 abbrev pub found : Verdict → Stacked → Stacked
 found (verdict.Sat words) kept = record kept { mode = mode.Sat; words = words.items }
 found verdict.Unsat kept = record kept { mode = mode.Unsat }
+found verdict.Unknown kept = record kept { mode = mode.Unknown }
 found verdict.Outside kept = record kept { mode = mode.Plain }
 
 -- The step that the definitions have is taken. A check is one without assumptions. A check and an exit leave the state.

@@ -49,6 +49,7 @@ enum Mode {
     /// The last words are a model.
     Sat,
     Unsat,
+    Unknown,
 }
 
 /// What becomes of an entry.
@@ -423,7 +424,7 @@ impl Stack {
         }
         match self.mode {
             Mode::Sat => Ok(&self.words),
-            Mode::Plain | Mode::Unsat => Err(b"no model"),
+            Mode::Plain | Mode::Unsat | Mode::Unknown => Err(b"no model"),
         }
     }
 
@@ -540,6 +541,10 @@ impl Stack {
             Verdict::Unsat => {
                 self.mode = Mode::Unsat;
                 b"unsat\n"
+            }
+            Verdict::Unknown => {
+                self.mode = Mode::Unknown;
+                b"unknown\n"
             }
             Verdict::Outside => {
                 self.mode = Mode::Plain;

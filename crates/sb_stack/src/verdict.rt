@@ -9,6 +9,8 @@ pub enum Verdict {
     Sat(Vec<Word>),
     /// No values make the live assertions true.
     Unsat,
+    /// As many lines of the proof were counted as may be.
+    Unknown,
     /// A live assertion is not of the kind that is decided.
     Outside,
 }
