@@ -2,3 +2,4 @@ pub mod MeasureFacts
 pub mod ShapeFacts
 pub mod RuleFacts
 pub mod CallerLemmas
+pub mod WholeFacts

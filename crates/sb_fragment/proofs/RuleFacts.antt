@@ -1,22 +1,21 @@
 -- The first assertion outside the fragment, among all of them.
 use Rattle.std.proofs.Common.{◌≡◌, ℕ, zero, suc, ◌+◌, ◌<◌, Bool, true, false, ◌&&◌, ◌||◌, List, [], ◌∷◌, ◌++◌, length}
 use Rattle.std.proofs.Common.{get_or, map, take, refl, sym, ap, ◌∙◌, arith}
-use Rattle.std.specs.List.{list_any}
+use Rattle.std.specs.List.{list_all, list_any}
 use Rattle.std.specs.Prelude.{Option, Some, None}
 use Rattle.std.proofs.lemmas.Bool.{and_parts, and_from}
 use Rattle.std.proofs.lemmas.List.{take_more}
 use Rattle.sb_meaning.specs.Terms.{Term}
-use Rattle.sb_script.specs.Fragment.{are_inside, is_inside}
 use Rattle.sb_script.specs.State.{Assertion}
 use Rattle.sb_term.specs.declared.assertion.Assertion as code
 use Rattle.sb_fragment.specs.declared.rules.Reason.{Reason}
-use Rattle.sb_fragment.specs.Rules.{assertion_in, is_broken, IsBrokenBy}
+use Rattle.sb_fragment.specs.Rules.{assertion_in, is_broken, is_decided, IsBrokenBy}
 
-inside_more : (live : List Assertion) (a : Assertion) → are_inside live ≡ true → is_inside a ≡ true
-    → are_inside (live ++ a ∷ []) ≡ true
+inside_more : (live : List Assertion) (a : Assertion) → list_all is_decided live ≡ true → is_decided a ≡ true
+    → list_all is_decided (live ++ a ∷ []) ≡ true
 inside_more [] a h k = ap (λ b. b && true) k
-inside_more (x ∷ xs) a h k = let parts = and_parts (is_inside x) (are_inside xs) h in
-    and_from (is_inside x) (are_inside (xs ++ a ∷ [])) parts.0 (inside_more xs a parts.1 k)
+inside_more (x ∷ xs) a h k = let parts = and_parts (is_decided x) (list_all is_decided xs) h in
+    and_from (is_decided x) (list_all is_decided (xs ++ a ∷ [])) parts.0 (inside_more xs a parts.1 k)
 
 map_push : (ts : List Term) (live : List code.Assertion) (a : code.Assertion)
     → map (assertion_in ts) (live ++ a ∷ []) ≡ map (assertion_in ts) live ++ assertion_in ts a ∷ []
@@ -25,11 +24,11 @@ map_push ts (x ∷ xs) a = ap (λ ys. assertion_in ts x ∷ ys) (map_push ts xs 
 
 pub one_more : (ts : List Term) (live : List code.Assertion) (k : ℕ) (a : code.Assertion) (found : Option Reason)
     → k < length live → a ≡ get_or live k a → found ≡ None → IsBrokenBy (assertion_in ts a) found
-    → are_inside (map (assertion_in ts) (take k live)) ≡ true
-    → are_inside (map (assertion_in ts) (take (k + 1) live)) ≡ true
+    → list_all is_decided (map (assertion_in ts) (take k live)) ≡ true
+    → list_all is_decided (map (assertion_in ts) (take (k + 1) live)) ≡ true
 one_more ts live k a found l is none h before =
-    ap (λ xs. are_inside (map (assertion_in ts) xs)) (take_more live k a l ∙ ap (λ x. take k live ++ x ∷ []) (sym is))
-    ∙ ap are_inside (map_push ts (take k live) a)
+    ap (λ xs. list_all is_decided (map (assertion_in ts) xs)) (take_more live k a l ∙ ap (λ x. take k live ++ x ∷ []) (sym is))
+    ∙ ap (list_all is_decided) (map_push ts (take k live) a)
     ∙ inside_more (map (assertion_in ts) (take k live)) (assertion_in ts a) before (rw none at h)
 
 either : (a b : Bool) → b ≡ true → (a || b) ≡ true
@@ -42,12 +41,12 @@ both false b h = refl
 
 outside_at : (ts : List Term) (live : List code.Assertion) (k : ℕ) (a : code.Assertion) (reason : Reason)
     → k < length live → a ≡ get_or live k a → IsBrokenBy (assertion_in ts a) (Some reason)
-    → (are_inside (map (assertion_in ts) live) ≡ false)
+    → (list_all is_decided (map (assertion_in ts) live) ≡ false)
     × (list_any (is_broken reason) (map (assertion_in ts) live) ≡ true)
 outside_at ts [] k a reason l is h = absurd (omega arith)
 outside_at ts (x ∷ xs) zero a reason l is h = (
-  ap (λ y. is_inside (assertion_in ts y) && are_inside (map (assertion_in ts) xs)) (sym is)
-      ∙ ap (λ b. b && are_inside (map (assertion_in ts) xs)) h.0,
+  ap (λ y. is_decided (assertion_in ts y) && list_all is_decided (map (assertion_in ts) xs)) (sym is)
+      ∙ ap (λ b. b && list_all is_decided (map (assertion_in ts) xs)) h.0,
   ap (λ y. is_broken reason (assertion_in ts y) || list_any (is_broken reason) (map (assertion_in ts) xs)) (sym is)
       ∙ ap (λ b. b || list_any (is_broken reason) (map (assertion_in ts) xs)) h.1,
 )
@@ -57,6 +56,6 @@ outside_at ts (x ∷ xs) (suc k) a reason l is h = let rest = outside_at ts xs k
 pub one_outside : (ts : List Term) (live : List code.Assertion) (k : ℕ) (a : code.Assertion) (found : Option Reason)
     (reason : Reason) → k < length live → a ≡ get_or live k a → found ≡ Some reason
     → IsBrokenBy (assertion_in ts a) found
-    → (are_inside (map (assertion_in ts) live) ≡ false)
+    → (list_all is_decided (map (assertion_in ts) live) ≡ false)
     × (list_any (is_broken reason) (map (assertion_in ts) live) ≡ true)
 one_outside ts live k a found reason l is e h = outside_at ts live k a reason l is (rw e at h)

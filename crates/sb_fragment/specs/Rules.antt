@@ -1,18 +1,18 @@
 -- The rules of the fragment that assertions break, as far as it is decided so far.
 use Rattle.std.specs.Prelude.{◌≡◌, ℕ, ◌<◌, Bool, true, false, not, ◌&&◌, List, Option, Some, None, IfSome}
-use Rattle.std.specs.List.{list_any}
+use Rattle.std.specs.List.{list_all, list_any}
 use Rattle.sb_meaning.specs.Terms.{Term, apply, no_terms, with_term}
 use Rattle.sb_meaning.specs.Terms as symbol
 use Rattle.sb_script.specs.Brought.{is_membership}
-use Rattle.sb_script.specs.Fragment.{are_inside, is_inside, is_unmarked}
+use Rattle.sb_script.specs.Fragment.{fits, in_fragment, is_inside, is_unmarked}
 use Rattle.sb_script.specs.Pieces.{is_ground}
-use Rattle.sb_script.specs.State.{Assertion, asserted, a_mark}
+use Rattle.sb_script.specs.State.{State, Assertion, asserted, a_mark, live}
 use Rattle.sb_term.specs.declared.assertion.Assertion as code
 use Rattle.sb_term.specs.Numbered.{term_at}
 use Rattle.sb_fragment.specs.declared.rules.Standing.{Standing}
 use Rattle.sb_fragment.specs.declared.rules.Standing.TheVariants.{Inside, Outside}
 use Rattle.sb_fragment.specs.declared.rules.Reason.{Reason}
-use Rattle.sb_fragment.specs.declared.rules.Reason.TheVariants.{Marked, NotGround, NotBrought}
+use Rattle.sb_fragment.specs.declared.rules.Reason.TheVariants.{Marked, NotGround, NotBrought, TooLarge}
 
 -- the assertion, among the terms of a table
 abbrev pub assertion_in : List Term → code.Assertion → Assertion
@@ -20,6 +20,15 @@ assertion_in ts a = elim a.term [ Some id ↦ asserted (term_at ts id) | None �
 
 abbrev pub HasNumberBelow : ℕ → code.Assertion → Type 0
 HasNumberBelow n a = IfSome a.term (λ id. id < n)
+
+-- the assertion is of a form that is decided, within the limits on sizes
+abbrev pub is_decided : Assertion → Bool
+is_decided (asserted t) = is_inside (asserted t) && fits t
+is_decided a_mark = false
+
+-- a check is decided exactly where each live assertion is
+abbrev pub FragmentIsOfEach : Type 0
+FragmentIsOfEach = (s : State) → in_fragment s ≡ list_all is_decided (live s)
 
 -- a membership in a regular expression in which a constant stands
 abbrev pub is_over_constants : Term → Bool
@@ -31,15 +40,16 @@ abbrev pub is_broken : Reason → Assertion → Bool
 is_broken Marked a = not (is_unmarked a)
 is_broken NotGround (asserted t) = is_over_constants t
 is_broken NotBrought (asserted t) = not (is_membership t) && not (is_over_constants t)
+is_broken TooLarge (asserted t) = is_membership t && not (fits t)
 is_broken _ a_mark = false
 
--- the rule that an assertion breaks, and none where it is inside
+-- the rule that an assertion breaks, and none where it is decided
 abbrev pub IsBrokenBy : Assertion → Option Reason → Type 0
-IsBrokenBy a None = is_inside a ≡ true
-IsBrokenBy a (Some reason) = (is_inside a ≡ false) × (is_broken reason a ≡ true)
+IsBrokenBy a None = is_decided a ≡ true
+IsBrokenBy a (Some reason) = (is_decided a ≡ false) × (is_broken reason a ≡ true)
 
--- all are inside, or one breaks the rule
+-- all are decided, or one breaks the rule
 abbrev pub IsStanding : List Assertion → Standing → Type 0
-IsStanding assertions (Inside problem) = are_inside assertions ≡ true
+IsStanding assertions (Inside problem) = list_all is_decided assertions ≡ true
 IsStanding assertions (Outside reason) =
-    (are_inside assertions ≡ false) × (list_any (is_broken reason) assertions ≡ true)
+    (list_all is_decided assertions ≡ false) × (list_any (is_broken reason) assertions ≡ true)

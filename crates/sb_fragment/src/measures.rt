@@ -6,6 +6,7 @@ ghost use Rattle.sb_script.specs.Sizes.{is_regular};
 ghost use Rattle.sb_script.specs.State.{asserted};
 ghost use Rattle.sb_term.specs.Numbered.{term_at};
 ghost use Rattle.sb_fragment.specs.Measures.{IsMeasure, AreMeasures};
+ghost use Rattle.sb_fragment.specs.Rules.{is_decided};
 
 use crate::measure::{Measure, is_within, measure_of};
 use crate::shape::membership;
@@ -77,16 +78,34 @@ impl Measures {
         Ok(is_within(measure))
     }
 
-    /// Whether a term is inside the fragment as an assertion: so far, whether it is the membership of one String
-    /// constant in a regular expression over literals. Its cost and its error are those of [`Measures::measure`].
-    pub fn fits(&mut self, table: &Table, id: TermId) -> Result<bool, AllocError>
+    /// Whether a term is the membership of one String constant in a regular expression over literals, whatever its size.
+    /// Its cost and its error are those of [`Measures::measure`].
+    pub(crate) fn is_brought(&mut self, table: &Table, id: TermId) -> Result<bool, AllocError>
         requires number { id < length table.now }
         requires right { AreMeasures table.now self.old }
-        ensures ok { IfOk result (λ fits. fits ≡ is_inside (asserted (term_at table.now id))) }
+        ensures ok { IfOk result (λ brought. brought ≡ is_inside (asserted (term_at table.now id))) }
         ensures right { AreMeasures table.now self.new }
     {
         match membership(table, id) {
             Some((_, regex)) => Ok(self.measure(table, regex)?.is_regex),
+            None => Ok(false),
+        }
+    }
+
+    /// Whether a term is decided as an assertion: so far, whether it is the membership of one String constant in a
+    /// regular expression over literals within the limits on sizes. Its cost and its error are those of
+    /// [`Measures::measure`].
+    pub fn fits(&mut self, table: &Table, id: TermId) -> Result<bool, AllocError>
+        requires number { id < length table.now }
+        requires right { AreMeasures table.now self.old }
+        ensures ok { IfOk result (λ fits. fits ≡ is_decided (asserted (term_at table.now id))) }
+        ensures right { AreMeasures table.now self.new }
+    {
+        match membership(table, id) {
+            Some((_, regex)) => {
+                let measure = self.measure(table, regex)?;
+                Ok(measure.is_regex && is_within(measure))
+            }
             None => Ok(false),
         }
     }

@@ -3,9 +3,8 @@
 ghost use Rattle.std.specs.Prelude.{◌≡◌, ◌<◌, true, false, length, map, All, IfOk};
 ghost use Rattle.sb_term.specs.Numbered.{term_at};
 ghost use Rattle.sb_script.specs.State.{asserted};
-ghost use Rattle.sb_script.specs.Fragment.{is_inside};
 ghost use Rattle.sb_fragment.specs.Measures.{AreMeasures};
-ghost use Rattle.sb_fragment.specs.Rules.{assertion_in, HasNumberBelow, IsStanding, IsBrokenBy, is_broken};
+ghost use Rattle.sb_fragment.specs.Rules.{assertion_in, HasNumberBelow, IsStanding, IsBrokenBy, is_broken, is_decided, FragmentIsOfEach};
 
 use crate::measures::Measures;
 use crate::shape::arguments_of;
@@ -22,6 +21,8 @@ pub enum Reason {
     /// The assertion is of another form than those that are decided so far: the membership of one String constant in a
     /// regular expression over literals.
     NotBrought,
+    /// The assertion is of that form, but a word or the regular expression is past the limits on sizes.
+    TooLarge,
 }
 
 /// What live assertions that are inside the fragment ask: so far nothing but that the script is plain, so that each of
@@ -41,10 +42,13 @@ pub enum Standing {
 fn rule_of(measures: &mut Measures, table: &Table, id: TermId) -> Result<Reason, AllocError>
     requires number { id < length table.now }
     requires right { AreMeasures table.now measures.old }
-    requires outside { is_inside (asserted (term_at table.now id)) ≡ false }
+    requires outside { is_decided (asserted (term_at table.now id)) ≡ false }
     ensures ok { IfOk result (λ reason. is_broken reason (asserted (term_at table.now id)) ≡ true) }
     ensures right { AreMeasures table.now measures.new }
 {
+    if measures.is_brought(table, id)? {
+        return Ok(Reason::TooLarge);
+    }
     let Some((_, regex)) = arguments_of(table, id) else {
         return Ok(Reason::NotBrought);
     };
@@ -96,3 +100,8 @@ pub fn fragment(
     }
     Ok(Standing::Inside(Problem))
 }
+
+/// A check is decided exactly where each of the live assertions is.
+pub fn fragment_is_of_each()
+    ensures { FragmentIsOfEach }
+{}

@@ -1,0 +1,89 @@
+-- A check is decided exactly where each of its live assertions is: memberships ask for no bounds.
+use Rattle.std.proofs.Common.{◌≡◌, Bool, true, false, ◌&&◌, List, [], ◌∷◌, ◌++◌, refl, sym, ap, ap₂, ◌∙◌}
+use Rattle.std.specs.List.{list_all, flat_map}
+use Rattle.std.proofs.lemmas.Bool.{and_parts, false≢true}
+use Rattle.sb_meaning.specs.Terms.{Term, Terms, text, constant, word, apply, no_terms, with_term}
+use Rattle.sb_meaning.specs.Terms as symbol
+use Rattle.sb_script.specs.Brought.{is_regex, are_regexes, is_membership}
+use Rattle.sb_script.specs.Fragment.{variables_in, variables_in_each, are_bounded, is_unmarked, fits, is_inside}
+use Rattle.sb_script.specs.Fragment.{are_inside, are_in_fragment}
+use Rattle.sb_script.specs.State.{Assertion, asserted, a_mark, live, terms_in as asserted_terms}
+use Rattle.sb_fragment.specs.Rules.{is_decided, FragmentIsOfEach}
+
+joined : (R : Term) (Rs : Terms) → (is_regex R && are_regexes Rs) ≡ true → (is_regex R ≡ true → variables_in R ≡ [])
+    → (are_regexes Rs ≡ true → variables_in_each Rs ≡ []) → variables_in_each (with_term R Rs) ≡ []
+joined R Rs h one rest = let parts = and_parts (is_regex R) (are_regexes Rs) h in
+    ap₂ (λ xs ys. xs ++ ys) (one parts.0) (rest parts.1)
+
+mutual
+  no_variables : (R : Term) → is_regex R ≡ true → variables_in R ≡ []
+  no_variables (apply symbol.str_to_re (with_term (word w) no_terms)) h = refl
+  no_variables (apply symbol.re_range (with_term (word s) (with_term (word t) no_terms))) h = refl
+  no_variables (apply symbol.re_concat (with_term R Rs)) h = joined R Rs h (no_variables R) (no_variables_in_each Rs)
+  no_variables (apply symbol.re_union (with_term R Rs)) h = joined R Rs h (no_variables R) (no_variables_in_each Rs)
+  no_variables (apply symbol.re_star (with_term R no_terms)) h = ap (λ xs. xs ++ []) (no_variables R h)
+  no_variables (apply symbol.re_plus (with_term R no_terms)) h = ap (λ xs. xs ++ []) (no_variables R h)
+  no_variables R h = absurd (false≢true h)
+
+  no_variables_in_each : (Rs : Terms) → are_regexes Rs ≡ true → variables_in_each Rs ≡ []
+  no_variables_in_each no_terms h = refl
+  no_variables_in_each (with_term R Rs) h = joined R Rs h (no_variables R) (no_variables_in_each Rs)
+
+of_membership : (t : Term) → is_membership t ≡ true → variables_in t ≡ []
+of_membership (apply symbol.str_in_re (with_term (constant serial text) (with_term R no_terms))) h =
+    ap (λ xs. xs ++ []) (no_variables R h)
+of_membership t h = absurd (false≢true h)
+
+of_memberships : (all : List Assertion) → are_inside all ≡ true → flat_map variables_in (asserted_terms all) ≡ []
+of_memberships [] h = refl
+of_memberships (asserted t ∷ all) h = let parts = and_parts (is_membership t) (are_inside all) h in
+    ap₂ (λ xs ys. xs ++ ys) (of_membership t parts.0) (of_memberships all parts.1)
+of_memberships (a_mark ∷ all) h = absurd (false≢true h)
+
+unmarked : (all : List Assertion) → are_inside all ≡ true → list_all is_unmarked all ≡ true
+unmarked [] h = refl
+unmarked (asserted t ∷ all) h = unmarked all (and_parts (is_membership t) (are_inside all) h).1
+unmarked (a_mark ∷ all) h = absurd (false≢true h)
+
+fits_of_each : (all : List Assertion) → are_inside all ≡ true
+    → list_all fits (asserted_terms all) ≡ list_all is_decided all
+fits_of_each [] h = refl
+fits_of_each (asserted t ∷ all) h = let parts = and_parts (is_membership t) (are_inside all) h in
+    ap (λ b. fits t && b) (fits_of_each all parts.1)
+    ∙ ap (λ b. (b && fits t) && list_all is_decided all) (sym parts.0)
+fits_of_each (a_mark ∷ all) h = absurd (false≢true h)
+
+outside : (m f b d : Bool) → (m && b) ≡ false → (b ≡ false → d ≡ false) → ((m && f) && d) ≡ false
+outside true true b d h k = k h
+outside true false b d h k = refl
+outside false f b d h k = refl
+
+none_decided : (all : List Assertion) → are_inside all ≡ false → list_all is_decided all ≡ false
+none_decided [] h = absurd (false≢true (sym h))
+none_decided (asserted t ∷ all) h =
+    outside (is_membership t) (fits t) (are_inside all) (list_all is_decided all) h (none_decided all)
+none_decided (a_mark ∷ all) h = refl
+
+of_three : (u f b d : Bool) → u ≡ true → f ≡ d → b ≡ true → ((u && (f && b)) && true) ≡ d
+of_three u f true true p q r = rw (p, q) refl
+of_three u f true false p q r = rw (p, q) refl
+of_three u f false d p q r = absurd (false≢true r)
+
+and_none : (b : Bool) → (b && false) ≡ false
+and_none true = refl
+and_none false = refl
+
+bounded : (all : List Assertion) → are_inside all ≡ true → are_bounded (asserted_terms all) ≡ true
+bounded all h = rw (of_memberships all h) refl
+
+all_of : (all : List Assertion) → (are_in_fragment all && are_inside all) ≡ list_all is_decided all
+all_of all = step (are_inside all) refl
+  where
+    step : (b : Bool) → are_inside all ≡ b → (are_in_fragment all && are_inside all) ≡ list_all is_decided all
+    step true h = ap (λ b. are_in_fragment all && b) h
+        ∙ of_three (list_all is_unmarked all) (list_all fits (asserted_terms all)) (are_bounded (asserted_terms all))
+        (list_all is_decided all) (unmarked all h) (fits_of_each all h) (bounded all h)
+    step false h = ap (λ b. are_in_fragment all && b) h ∙ (and_none (are_in_fragment all) ∙ sym (none_decided all h))
+
+pub fragment_is_of_each : FragmentIsOfEach
+fragment_is_of_each s = all_of (live s)
