@@ -1,0 +1,358 @@
+-- What is put of a denial of memberships, and behind what a budget cut off.
+use Rattle.std.proofs.Common.{◌≡◌, ◌≢◌, ℕ, suc, ◌+◌, ◌^◌, ◌<◌, ◌⊎◌, inl, inr, true, false, Bool, List, [], ◌∷◌, ◌++◌, length, get_or, map, Option, Some, None, is_some, IsSome, Result, Ok, Err, All, refl, sym, ap, ap₂, subst, ◌∙◌, Contains, arith}
+use Rattle.std.specs.List.{list_all}
+use Rattle.std.specs.Result.{is_err, OnOk, OnErr}
+use Rattle.std.specs.Ordering.{nat_cmp}
+use Rattle.std.specs.declared.cmp.Ordering.TheVariants.{Equal}
+use Rattle.std.specs.BTreeMap.{insert_entry}
+use Rattle.std.proofs.lemmas.Bool.{and_from, and_parts, true≢false, lt-ltb}
+use Rattle.std.proofs.lemmas.Bool.Decides.{nat_tests}
+use Rattle.std.proofs.lemmas.List.Elements.{All-nil, All-cons}
+use Rattle.sb_lang.specs.Regex.{Regex}
+use Rattle.sb_lang.specs.Language.{language}
+use Rattle.sb_lang.specs.Constructors.{mkand}
+use Rattle.sb_lang.specs.ConstructorLaws.{MkandKeepsLanguage}
+use Rattle.sb_lit.specs.declared.clause.ClauseId.{ClauseId}
+use Rattle.sb_lit.specs.Budgets.{Spending}
+use Rattle.sb_lit.specs.Kept.{kept_at}
+use Rattle.sb_regex.specs.Numbered.{Names, Extends, regex_at, regexes_at}
+use Rattle.sb_regex.proofs.CallerLemmas.{at_kept, names_at, names_below, extends_more}
+use Rattle.sb_deriv.specs.Faithful.{Memo}
+use Rattle.sb_script.specs.Steps.{line}
+use Rattle.sb_rulebook.specs.Atoms.{AtomOver}
+use Rattle.sb_rulebook.specs.Kept.{AllKept, Asked}
+use Rattle.sb_rulebook.specs.LineLaws.{is_small, are_small, is_small_literal}
+use Rattle.sb_rulebook.specs.Lines.{rule_line, learned_line, empty, text_of}
+use Rattle.sb_proof.specs.Tapes.{with_bytes}
+use Rattle.sb_sound.specs.MembershipLaws.{AreDeniedIn}
+use Rattle.sb_sound.specs.ClauseLaws.{RuleLinesAreExact, LearnedLinesAreExact}
+use Rattle.sb_atoms.specs.Numbered.{HaveRegexesBelow}
+use Rattle.sb_atoms.proofs.CallerLemmas.{atoms_kept}
+use Rattle.sb_trace.proofs.CallerLemmas.{puts_none, puts_both}
+use Rattle.sb_trace.specs.Putting.{IsCounted}
+use Rattle.sb_trace.specs.Tracking.{Traced, Traces, is_dead_in}
+use Rattle.sb_refute.specs.declared.evidence.Asserted.{Asserted}
+use Rattle.sb_refute.specs.Backing.{Backing, Backs, Evidences, asserted_at, at_the_bottom}
+use Rattle.sb_refute.specs.Refuting.{AreDisjoint, membership_at}
+use Rattle.sb_refute.specs.Units.{AreOfAtoms, AreUnits, CanBeDenied, IsUnitOf, AreRegexesOf, Rise, numbered, denials_of, hints_of}
+use Rattle.sb_refute.proofs.AtomLines.{alone}
+use Rattle.sb_refute.proofs.Meets.{never-alive}
+use Rattle.sb_refute.proofs.Backs.{backs-traced}
+use Rattle.sb_refute.proofs.Disjoint.{membership-parts, units-denied}
+use Rattle.sb_refute.proofs.Hints.{unit_of, here, later, cons-cases, not-in-nil}
+use Rattle.sb_refute.proofs.LinesPut.{denial-put, empty-put}
+use Rattle.sb_refute.proofs.UnitFacts.{inserted-unit, atom-there, atoms-stay}
+
+-- Lists with one more behind them.
+
+push-last : {X : Type 0} (xs : List X) (y : X) → Contains (xs ++ y ∷ []) y
+push-last [] y = here y []
+push-last (x ∷ xs) y = later x (xs ++ y ∷ []) y (push-last xs y)
+
+push-keeps : {X : Type 0} (xs : List X) (y x : X) → Contains xs x → Contains (xs ++ y ∷ []) x
+push-keeps [] y x h = absurd (not-in-nil x h)
+push-keeps (z ∷ zs) y x h = elim (cons-cases z zs x h) [
+  | inl one ↦ subst (Contains (z ∷ zs ++ y ∷ [])) one (here z (zs ++ y ∷ []))
+  | inr more ↦ later z (zs ++ y ∷ []) x (push-keeps zs y x more)
+]
+
+push-cases : {X : Type 0} (xs : List X) (y x : X) → Contains (xs ++ y ∷ []) x → Contains xs x ⊎ (y ≡ x)
+push-cases [] y x h = elim (cons-cases y [] x h) [ inl one ↦ inr one | inr none ↦ absurd (not-in-nil x none) ]
+push-cases (z ∷ zs) y x h = elim (cons-cases z (zs ++ y ∷ []) x h) [
+  | inl one ↦ inl (subst (Contains (z ∷ zs)) one (here z zs))
+  | inr more ↦ elim (push-cases zs y x more) [ inl before ↦ inl (later z zs x before) | inr last ↦ inr last ]
+]
+
+-- The clauses of the assertions at some places, with one place more.
+
+equal : (n m : ℕ) → nat_cmp n m ≡ Equal → n ≡ m
+equal n m h = grind (arith, nat_tests)
+
+pub units-none : (e : Backing) → AreUnits e [] []
+units-none e = record {
+  from = λ unit among. absurd (not-in-nil unit among);
+  has = λ place a among there. absurd (not-in-nil place among);
+}
+
+same-asserted : (a b : Asserted) → Some a ≡ Some b → a ≡ b
+same-asserted a b h = cc
+
+pub units-one : (e : Backing) (places more : List ℕ) (place : ℕ) (a : Asserted) (es : List (ℕ × ClauseId))
+    → more ≡ places ++ place ∷ [] → asserted_at e.asserted place ≡ Some a → AreUnits e places (numbered es)
+    → AreUnits e more (numbered (insert_entry nat_cmp es a.literal.atom a.clause))
+units-one e places more place a es is there h = subst (λ ps. AreUnits e ps now) (sym is) (record {
+  from = λ unit among. elim (inserted-unit a.literal.atom a.clause equal es unit among) [
+    | inl one ↦ record {
+      place = place;
+      among = push-last places place;
+      asserted = a;
+      there = there;
+      atom = ap (λ (p : ℕ × ℕ). p.0) one;
+      clause = ap (λ (p : ℕ × ℕ). p.1) one;
+    }
+    | inr old ↦
+        let u = h.from unit old in
+        record {
+          place = u.place;
+          among = push-keeps places place u.place u.among;
+          asserted = u.asserted;
+          there = u.there;
+          atom = u.atom;
+          clause = u.clause;
+        }
+  ];
+  has = λ q b among found. elim (push-cases places place q among) [
+    | inl before ↦ atoms-stay a.literal.atom a.clause es b.literal.atom (h.has q b before found)
+    | inr one ↦ subst (Contains (map (λ (u : ℕ × ℕ). u.0) now))
+        (ap (λ (o : Asserted). o.literal.atom)
+        (same-asserted a b (sym there ∙ ap (asserted_at e.asserted) one ∙ found)))
+        (atom-there a.literal.atom a.clause equal es)
+  ];
+})
+  where
+    now : List (ℕ × ℕ)
+    now = numbered (insert_entry nat_cmp es a.literal.atom a.clause)
+
+-- What is known of them.
+
+all-from : (P : ℕ × ℕ → Type 0) (us : List (ℕ × ℕ)) → ((u : ℕ × ℕ) → Contains us u → P u) → All P us
+all-from P [] h = All-nil P
+all-from P (u ∷ us) h = All-cons P u us (h u (here u us)) (all-from P us (λ v among. h v (later u us v among)))
+
+pub units-below : (e : Backing) (places : List ℕ) (us : List (ℕ × ℕ)) → AreOfAtoms e.atoms e.asserted
+    → AreUnits e places us → All (λ u. u.0 < length e.atoms) us
+units-below e places us of units = all-from (λ u. u.0 < length e.atoms) us (λ u among.
+    let unit = units.from u among in
+    subst (λ n. n < length e.atoms) unit.atom (of unit.place unit.asserted unit.there).1)
+
+units-kept : (e : Backing) (places : List ℕ) (us : List (ℕ × ℕ)) (rs : List Regex) (memo : Memo) (before : AllKept)
+    → AreOfAtoms e.atoms e.asserted → AreUnits e places us → Backs rs memo e before → (u : ℕ × ℕ) → Contains us u
+    → kept_at before.clauses u.1 ≡ Some (unit_of u)
+units-kept e places us rs memo before of units b u among =
+    let unit = units.from u among in
+    ap (kept_at before.clauses) (sym unit.clause) ∙ b.asserted unit.place unit.asserted unit.there
+    ∙ ap₂ (λ n p. Some (at_the_bottom ((record { atom = n; positive = p }) ∷ []))) unit.atom
+    (of unit.place unit.asserted unit.there).0
+
+first-same : {X : Type 0} (x y : X) (xs ys : List X) → x ∷ xs ≡ y ∷ ys → x ≡ y
+first-same x y xs ys h = cc
+
+others-same : {X : Type 0} (x y : X) (xs ys : List X) → x ∷ xs ≡ y ∷ ys → xs ≡ ys
+others-same x y xs ys h = cc
+
+some-units : (rs : List Regex) (e : Backing) (places : List ℕ) (us : List (ℕ × ℕ)) → AreDisjoint rs e places
+    → AreUnits e places us → us ≢ []
+some-units rs e places us apart units none = step places apart.regexes apart.are apart.no_word units.has
+  where
+    step : (ps regexes : List ℕ) → map (membership_at e) ps ≡ map (λ r. Some (apart.constant, r)) regexes
+        → ((w : List ℕ) → list_all (λ r. language r w) (regexes_at rs regexes) ≡ false)
+        → ((place : ℕ) (a : Asserted) → Contains ps place → asserted_at e.asserted place ≡ Some a
+        → Contains (map (λ (u : ℕ × ℕ). u.0) us) a.literal.atom) → ⊥
+    step [] [] h no_word has = true≢false (no_word [])
+    step [] (r ∷ regexes) h no_word has = absurd (cc)
+    step (p ∷ ps) [] h no_word has = absurd (cc)
+    step (p ∷ ps) (r ∷ regexes) h no_word has =
+        let m = membership-parts e p apart.constant r
+        (first-same (membership_at e p) (Some (apart.constant, r)) (map (membership_at e) ps)
+        (map (λ r. Some (apart.constant, r)) regexes) h)
+        in
+        not-in-nil m.asserted.literal.atom
+        (subst (λ all. Contains (map (λ (u : ℕ × ℕ). u.0) all) m.asserted.literal.atom) none
+        (has p m.asserted (here p ps) m.there))
+
+-- the assertions stand in the proof
+pub places-asserted : (rs : List Regex) (e : Backing) (places : List ℕ) → AreDisjoint rs e places
+    → All (λ place. IsSome (asserted_at e.asserted place)) places
+places-asserted rs e places apart = step places apart.regexes apart.are
+  where
+    some : (place r : ℕ) → membership_at e place ≡ Some (apart.constant, r) → IsSome (asserted_at e.asserted place)
+    some place r h = ap is_some (membership-parts e place apart.constant r h).there
+
+    step : (ps regexes : List ℕ) → map (membership_at e) ps ≡ map (λ r. Some (apart.constant, r)) regexes
+        → All (λ place. IsSome (asserted_at e.asserted place)) ps
+    step [] regexes h = λ k d l. absurd (omega (arith, l))
+    step (p ∷ ps) [] h = absurd (cc)
+    step (p ∷ ps) (r ∷ regexes) h =
+        All-cons (λ place. IsSome (asserted_at e.asserted place)) p ps
+        (some p r (first-same (membership_at e p) (Some (apart.constant, r)) (map (membership_at e) ps)
+        (map (λ r. Some (apart.constant, r)) regexes) h))
+        (step ps regexes (others-same (membership_at e p) (Some (apart.constant, r)) (map (membership_at e) ps)
+        (map (λ r. Some (apart.constant, r)) regexes) h))
+
+-- the regexes of their atoms are in the arena
+pub regexes-known : (n : ℕ) (atoms : List (AtomOver ℕ)) (us : List (ℕ × ℕ)) (ids : List ℕ) → AreRegexesOf atoms us ids
+    → HaveRegexesBelow n atoms → All (λ i. i < n) ids
+regexes-known n atoms [] [] are below = All-nil (λ i. i < n)
+regexes-known n atoms [] (i ∷ ids) are below = absurd are
+regexes-known n atoms (u ∷ us) [] are below = absurd are
+regexes-known n atoms (u ∷ us) (i ∷ ids) are below =
+    All-cons (λ i. i < n) i ids (below u.0 (alone are.0 i) are.1) (regexes-known n atoms us ids are.2 below)
+
+-- and their intersection has no word
+pub no-word : MkandKeepsLanguage → (rs mid : List Regex) (e : Backing) (places : List ℕ) (us : List (ℕ × ℕ))
+    (ids : List ℕ) (root : ℕ) → AreDisjoint rs e places → AreUnits e places us → AreRegexesOf e.atoms us ids
+    → Names mid root (mkand (regexes_at rs ids)) → (w : List ℕ) → language (regex_at mid root) w ≡ false
+no-word keeps rs mid e places us ids root apart units are names w =
+    ap (λ r. language r w) (names_at mid root (mkand (regexes_at rs ids)) names)
+    ∙ never (language (mkand (regexes_at rs ids)) w) refl
+  where
+    never : (b : Bool) → language (mkand (regexes_at rs ids)) w ≡ b → b ≡ false
+    never false h = refl
+    never true h = absurd (never-alive keeps rs e places us ids w apart units are h)
+
+small-units : (us : List (ℕ × ℕ)) → list_all is_small_literal (denials_of us) ≡ true
+    → list_all (λ u. is_small u.0) us ≡ true
+small-units [] h = refl
+small-units (u ∷ us) h =
+    let parts = and_parts (is_small u.0) (list_all is_small_literal (denials_of us)) h in
+    and_from (is_small u.0) (list_all (λ v. is_small v.0) us) parts.0 (small-units us parts.1)
+
+-- Lines that were put.
+
+pub evidences-none : (asked : Asked) (before : AllKept) (rs : List Regex) (memo : Memo) (e : Backing)
+    (budget : Spending) (told : Option (List ℕ)) → Backs rs memo e before → IsCounted asked before budget
+    → Evidences asked before rs memo e budget told told
+evidences-none asked before rs memo e budget told b counts =
+    record { after = before; puts = puts_none asked before told; backs = b; counts = counts }
+
+pub evidences-both : (asked : Asked) (before : AllKept) (rs : List Regex) (memo : Memo) (e f : Backing)
+    (budget left : Spending) (old mid new : Option (List ℕ)) → Evidences asked before rs memo e budget old mid
+    → ((after : AllKept) → Backs rs memo e after → IsCounted asked after budget
+    → Evidences asked after rs memo f left mid new) → Evidences asked before rs memo f left old new
+evidences-both asked before rs memo e f budget left old mid new p next =
+    let q = next p.after p.backs p.counts in
+    record {
+      after = q.after;
+      puts = puts_both asked before p.after q.after old mid new p.puts q.puts;
+      backs = q.backs;
+      counts = q.counts;
+    }
+
+-- where nothing but lines of regexes was put
+pub explored-put : (asked : Asked) (before : AllKept) (rs more : List Regex) (memo memos : Memo) (e : Backing)
+    (t : Traced) (budget : Spending) (old new : Option (List ℕ)) → Extends rs more
+    → HaveRegexesBelow (length rs) e.atoms → Backs rs memo e before → Traces asked before more memos t budget old new
+    → Evidences asked before more memos (record e { trace = t }) budget old new
+explored-put asked before rs more memo memos e t budget old new grows below b traced = record {
+  after = traced.after;
+  puts = traced.puts;
+  backs = backs-traced rs more memo memos e t before traced.after b traced.tracks traced.keeps
+      (atoms_kept rs more e.atoms grows below);
+  counts = traced.counts;
+}
+
+-- what the denial asks, behind the lines that show the intersection dead
+pub can-be-denied : (rs mid more : List Regex) (memo : Memo) (e : Backing) (t : Traced) (places : List ℕ)
+    (us : List (ℕ × ℕ)) (ids : List ℕ) (root : ℕ) (kept : AllKept) → AreDisjoint rs e places
+    → AreOfAtoms e.atoms e.asserted → AreUnits e places us → Rise us → AreRegexesOf e.atoms us ids
+    → HaveRegexesBelow (length rs) e.atoms → Extends rs mid → Extends mid more
+    → Names mid root (mkand (regexes_at rs ids)) → is_dead_in t root ≡ true
+    → Backs more memo (record e { trace = t }) kept → CanBeDenied more (record e { trace = t }) us kept
+can-be-denied rs mid more memo e t places us ids root kept apart of units rise are below first second names dead b =
+    record {
+      constant = apart.constant;
+      meet = root;
+      regexes = regexes_at rs ids;
+      some = some-units rs e places us apart units;
+      rise = rise;
+      denied = subst (λ atoms. AreDeniedIn atoms apart.constant (denials_of us) (regexes_at rs ids))
+          (sym (atoms_kept rs more e.atoms (extends_more rs mid more first second) below))
+          (units-denied rs e apart.constant places apart.regexes apart.are us ids are units.from);
+      meets = at_kept mid more root second (names_below mid root (mkand (regexes_at rs ids)) names)
+          ∙ names_at mid root (mkand (regexes_at rs ids)) names;
+      dead = dead;
+      units = units-kept (record e { trace = t }) places us more memo kept of
+          (record { from = λ unit among. from-same (units.from unit among); has = units.has }) b;
+    }
+  where
+    from-same : {unit : ℕ × ℕ} → IsUnitOf e places unit → IsUnitOf (record e { trace = t }) places unit
+    from-same u = record {
+      place = u.place;
+      among = u.among;
+      asserted = u.asserted;
+      there = u.there;
+      atom = u.atom;
+      clause = u.clause;
+    }
+
+-- the denial, behind the lines that show the intersection dead
+pub denied-all : (asked : Asked) (before : AllKept) (rs mid more : List Regex) (memo memos : Memo) (e f : Backing)
+    (t : Traced) (places : List ℕ) (us : List (ℕ × ℕ)) (ids : List ℕ) (root : ℕ) (budget left : Spending)
+    (old told new : Option (List ℕ)) → AreDisjoint rs e places → AreOfAtoms e.atoms e.asserted
+    → AreUnits e places us → Rise us → AreRegexesOf e.atoms us ids → HaveRegexesBelow (length rs) e.atoms
+    → Extends rs mid → Extends mid more → Names mid root (mkand (regexes_at rs ids)) → is_dead_in t root ≡ true
+    → Backs rs memo e before → Traces asked before more memos t budget old told
+    → ((after : AllKept) → CanBeDenied more (record e { trace = t }) us after
+    → Backs more memos (record e { trace = t }) after → IsCounted asked after budget
+    → Evidences asked after more memos f left told new)
+    → Evidences asked before more memos f left old new
+denied-all asked before rs mid more memo memos e f t places us ids root budget left old told new apart of units rise are
+    below first second names dead b traced next =
+    evidences-both asked before more memos (record e { trace = t }) f budget left old told new
+    (explored-put asked before rs more memo memos e t budget old told (extends_more rs mid more first second) below b
+    traced)
+    (λ after now counts.
+    next after
+    (can-be-denied rs mid more memos e t places us ids root after apart of units rise are below first second names dead
+    now)
+    now counts)
+
+pub denied-put : RuleLinesAreExact → (asked : Asked) (before : AllKept) (rs : List Regex) (memo : Memo) (e f : Backing)
+    (us : List (ℕ × ℕ)) (budget left : Spending) (old new : Option (List ℕ)) → CanBeDenied rs e us before
+    → e.hints ≡ None → e.refuted ≡ None → budget.spent < budget.limit
+    → left ≡ record budget { spent = budget.spent + 1 } → list_all is_small_literal (denials_of us) ≡ true
+    → f ≡ record e { clauses = e.clauses + 1; hints = Some (hints_of us e.clauses) } → Backs rs memo e before
+    → IsCounted asked before budget → new ≡ with_bytes (line (text_of (rule_line empty (denials_of us)))) old
+    → Evidences asked before rs memo f left old new
+denied-put exact asked before rs memo e f us budget left old new h hints unset room spends smalls is b counts told =
+    subst (λ g. Evidences asked before rs memo g left old new) (sym is)
+    (subst (λ l. Evidences asked before rs memo
+    (record e { clauses = e.clauses + 1; hints = Some (hints_of us e.clauses) }) l old new) (sym spends)
+    (denial-put exact asked before rs rs memo memo e e.trace h.constant h.meet us h.regexes budget old old new h.some
+    h.rise h.denied h.meets h.dead h.units hints unset room (small-units us smalls) refl b
+    (record {
+      after = before;
+      puts = puts_none asked before old;
+      tracks = b.tracks;
+      counts = counts;
+      keeps = record { format = refl; atoms = refl; clauses = refl; rests = refl };
+    })
+    told))
+
+-- numbers of 64 bits
+pub numbers-small : (ns : List ℕ) → ((i : ℕ) → get_or ns i 0 < 2 ^ 64) → are_small ns ≡ true
+numbers-small [] h = refl
+numbers-small (n ∷ ns) h =
+    and_from (is_small n) (are_small ns) (lt-ltb n (2 ^ 64) (h 0)) (numbers-small ns (λ i. h (suc i)))
+
+pub learned-is : (e v w : Backing) (hints : Option (List ℕ)) (id : ℕ) → v ≡ e → hints ≡ None
+    → w ≡ record v { clauses = v.clauses + 1; hints = hints } → id ≡ v.clauses
+    → record w { refuted = Some id } ≡ record e { clauses = e.clauses + 1; hints = None; refuted = Some e.clauses }
+learned-is e v w hints id is taken next number =
+    ap₂ (λ (x : Backing) (n : ℕ). record x { refuted = Some n }) next number
+    ∙ ap₂ (λ (x : Backing) (h : Option (List ℕ)).
+    record x { clauses = x.clauses + 1; hints = h; refuted = Some x.clauses }) is taken
+
+pub learned-put : LearnedLinesAreExact → (asked : Asked) (before : AllKept) (rs : List Regex) (memo : Memo)
+    (e f : Backing) (ids : List ℕ) (budget left : Spending) (old new : Option (List ℕ)) → e.hints ≡ Some ids
+    → e.refuted ≡ None → are_small ids ≡ true → budget.spent < budget.limit
+    → left ≡ record budget { spent = budget.spent + 1 }
+    → f ≡ record e { clauses = e.clauses + 1; hints = None; refuted = Some e.clauses } → Backs rs memo e before
+    → IsCounted asked before budget → new ≡ with_bytes (line (text_of (learned_line [] ids))) old
+    → Evidences asked before rs memo f left old new
+learned-put exact asked before rs memo e f ids budget left old new hints unset smalls room spends is b counts told =
+    subst (λ g. Evidences asked before rs memo g left old new) (sym is)
+    (subst (λ l. Evidences asked before rs memo
+    (record e { clauses = e.clauses + 1; hints = None; refuted = Some e.clauses }) l old new) (sym spends)
+    (empty-put exact asked before rs memo e ids budget old new hints unset room
+    smalls b counts told))
+
+-- What a result says.
+
+pub on-ok : {A E : Type 0} (r : Result A E) (P : Type 0) → is_err r ≡ false → OnOk r P → P
+on-ok (Ok x) P fine h = h
+on-ok (Err e) P fine h = absurd (true≢false fine)
+
+pub on-err : {A E : Type 0} (r : Result A E) (P : Type 0) → is_err r ≡ true → OnErr r P → P
+on-err (Ok x) P fails h = absurd (true≢false (sym fails))
+on-err (Err e) P fails h = h

@@ -1,0 +1,14 @@
+pub mod Clauses
+pub mod Hints
+pub mod Places
+pub mod ClauseLines
+pub mod AtomLines
+pub mod Backs
+pub mod LinesPut
+pub mod Asserting
+pub mod UnitLists
+pub mod Denials
+pub mod UnitFacts
+pub mod Disjoint
+pub mod Meets
+pub mod CallerLemmas

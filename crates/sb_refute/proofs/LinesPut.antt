@@ -1,0 +1,174 @@
+-- Lines that are put, behind which the reader keeps what the evidence knows.
+use Rattle.std.proofs.Common.{◌≡◌, ◌≢◌, ℕ, ◌+◌, ◌^◌, ◌<◌, Bool, true, false, ◌&&◌, nat_eq, List, [], ◌∷◌, ◌++◌, length, slice_get, Option, Some, None, option_map, unwrap_or, refl, sym, ap, subst, ◌∙◌, Contains, arith}
+use Rattle.std.specs.List.{list_all}
+use Rattle.std.proofs.lemmas.Bool.{and_from, and_parts, false≢true, lt-ltb}
+use Rattle.std.proofs.lemmas.Option.{slice_get-map}
+use Rattle.indexmap.specs.IndexMap.{insert_entry}
+use Rattle.sb_lit.specs.Budgets.{Spending}
+use Rattle.sb_lit.specs.Kept.{kept_at}
+use Rattle.sb_lang.specs.Regex.{Regex}
+use Rattle.sb_lang.specs.Constructors.{mkand}
+use Rattle.sb_lang.specs.OrderLaws.{OrderTellsApart}
+use Rattle.sb_regex.specs.Numbered.{regex_at}
+use Rattle.sb_regex.specs.Numbered as regex
+use Rattle.sb_deriv.specs.Faithful.{Memo}
+use Rattle.sb_graph.specs.Findings.{is_marked}
+use Rattle.sb_meaning.specs.Terms.{text}
+use Rattle.sb_script.specs.Steps.{line}
+use Rattle.sb_rulebook.specs.AtomRules.{is_declared}
+use Rattle.sb_rulebook.specs.Kept.{AllKept, Asked, rests_of_any}
+use Rattle.sb_rulebook.specs.Lines.{atom_line, assertion_line, rule_line, learned_line, empty, text_of}
+use Rattle.sb_rulebook.specs.LineLaws.{is_small, are_small, is_small_literal}
+use Rattle.sb_sound.specs.MembershipLaws.{AreDeniedIn}
+use Rattle.sb_sound.specs.ClauseLaws.{RuleLinesAreExact, LearnedLinesAreExact, AssertionLinesAreExact}
+use Rattle.sb_proof.specs.Tapes.{with_bytes}
+use Rattle.sb_atoms.specs.Numbered.{Names, atoms_in, HaveRegexesBelow}
+use Rattle.sb_trace.specs.Putting.{IsCounted}
+use Rattle.sb_trace.specs.Tracking.{Traced, TracesUncounted, Traces, is_dead_in, number_in}
+use Rattle.sb_trace.proofs.CallerLemmas.{puts_one, puts_both, number-there}
+use Rattle.sb_refute.specs.declared.evidence.Asserted.{Asserted}
+use Rattle.sb_refute.specs.Backing.{Backing, Backs, Evidences, EvidencesUncounted, at_the_bottom}
+use Rattle.sb_refute.specs.Lines.{IsAssertion}
+use Rattle.sb_refute.specs.Units.{Rise, denials_of, hints_of}
+use Rattle.sb_refute.proofs.AtomLines.{alone, atom-follows}
+use Rattle.sb_refute.proofs.ClauseLines.{pushed, some-denials, denial-follows, learned-follows, assertion-follows}
+use Rattle.sb_refute.proofs.Clauses.{kept-stays, kept-last}
+use Rattle.sb_refute.proofs.Hints.{unit_of, leads-nowhere}
+use Rattle.sb_refute.proofs.Backs.{backs-traced, backs-atoms, backs-assertion, backs-denial, backs-empty}
+
+small : (n : ℕ) → n < 2 ^ 64 → is_small n ≡ true
+small n l = lt-ltb n (2 ^ 64) l
+
+-- An atom, behind the lines of its regex.
+pub atom-put : OrderTellsApart → (asked : Asked) (before : AllKept) (rs : List Regex) (memo : Memo) (e : Backing)
+    (t : Traced) (x r n : ℕ) (old mid new : Option (List ℕ)) → regex.AreDistinct rs → r < length rs
+    → HaveRegexesBelow (length rs) e.atoms → ((k : ℕ) → Names e.atoms k (alone x r) → ⊥)
+    → slice_get t.order n ≡ Some r → is_declared asked.sorts text x ≡ true → x < 2 ^ 64 → n < 2 ^ 64
+    → Backs rs memo e before → TracesUncounted asked before rs memo t old mid
+    → new ≡ with_bytes (line (text_of (atom_line (alone x n)))) mid
+    → EvidencesUncounted asked before rs memo (record e { trace = t; atoms = e.atoms ++ alone x r ∷ [] }) old new
+atom-put apart asked before rs memo e t x r n old mid new once known below lacks number declared sx sn b traced told =
+    record {
+      after = record traced.0 { atoms = atoms_in rs (e.atoms ++ alone x r ∷ []) };
+      puts = puts_both asked before traced.0 (record traced.0 { atoms = atoms_in rs (e.atoms ++ alone x r ∷ []) }) old
+          mid new traced.1
+          (puts_one asked traced.0 (record traced.0 { atoms = atoms_in rs (e.atoms ++ alone x r ∷ []) })
+          (atom_line (alone x n)) mid new
+          (atom-follows apart rs once x r known asked traced.0 e.atoms n below (traced.3.atoms ∙ b.atoms) lacks
+          (ap (λ known. slice_get known n) traced.2.regexes ∙ slice_get-map (regex_at rs) t.order n
+          ∙ ap (option_map (regex_at rs)) number)
+          declared)
+          (and_from (is_small x && true) (is_small n) (and_from (is_small x) true (small x sx) refl) (small n sn))
+          told);
+      backs = backs-atoms rs memo (record e { trace = t }) traced.0 (e.atoms ++ alone x r ∷ [])
+          (backs-traced rs rs memo memo e t before traced.0 b traced.2 traced.3 refl);
+      counted = traced.4;
+    }
+
+-- The clause of an assertion.
+pub assertion-put : AssertionLinesAreExact → (asked : Asked) (before : AllKept) (rs : List Regex) (memo : Memo)
+    (e : Backing) (place : ℕ) (a : Asserted) (old new : Option (List ℕ)) → a.literal.atom < length before.atoms
+    → a.literal.positive ≡ true → a.clause.0 ≡ e.clauses → place < 2 ^ 64 → a.literal.atom < 2 ^ 64
+    → Backs rs memo e before → IsAssertion asked before place a.literal
+    → new ≡ with_bytes (line (text_of (assertion_line place a.literal))) old
+    → EvidencesUncounted asked before rs memo
+    (record e { clauses = e.clauses + 1; asserted = insert_entry nat_eq e.asserted place a }) old new
+assertion-put exact asked before rs memo e place a old new known positive number sp sa b is told = record {
+  after = pushed before (a.literal ∷ []) (place ∷ []) before.counted;
+  puts = puts_one asked before (pushed before (a.literal ∷ []) (place ∷ []) before.counted)
+      (assertion_line place a.literal) old new
+      (assertion-follows exact asked before place a.literal is.term is.live known is.literal)
+      (and_from (is_small place) (is_small_literal a.literal) (small place sp) (small a.literal.atom sa)) told;
+  backs = backs-assertion rs memo e before place a (place ∷ []) before.counted b number positive;
+  counted = refl;
+}
+
+-- The empty clause.
+pub empty-put : LearnedLinesAreExact → (asked : Asked) (before : AllKept) (rs : List Regex) (memo : Memo)
+    (e : Backing) (ids : List ℕ) (budget : Spending) (old new : Option (List ℕ)) → e.hints ≡ Some ids
+    → e.refuted ≡ None → budget.spent < budget.limit → are_small ids ≡ true → Backs rs memo e before
+    → IsCounted asked before budget → new ≡ with_bytes (line (text_of (learned_line [] ids))) old
+    → Evidences asked before rs memo
+    (record e { clauses = e.clauses + 1; hints = None; refuted = Some e.clauses })
+    (record budget { spent = budget.spent + 1 }) old new
+empty-put exact asked before rs memo e ids budget old new hints unset room smalls b counts told = record {
+  after = pushed before [] (rests_of_any before ids) (before.counted + 1);
+  puts = puts_one asked before (pushed before [] (rests_of_any before ids) (before.counted + 1)) (learned_line [] ids)
+      old new
+      (learned-follows exact asked before ids (b.hints ids hints) (b.some unset)
+      (omega (arith, room, counts.spent, counts.limit)))
+      smalls told;
+  backs = backs-empty rs memo e before (rests_of_any before ids) (before.counted + 1) b;
+  counts = record { spent = ap (λ n. n + 1) counts.spent; limit = counts.limit };
+}
+
+-- The denial of memberships, behind the lines of their dead intersection.
+
+dead-there : (dead : List Bool) (n : ℕ) → unwrap_or (slice_get dead n) false ≡ true → slice_get dead n ≡ Some true
+dead-there dead n h = step (slice_get dead n) h
+  where
+    step : (o : Option Bool) → unwrap_or o false ≡ true → o ≡ Some true
+    step None h = absurd (false≢true h)
+    step (Some b) h = ap Some h
+
+-- where a regex that is dead in a proof stands, and its mark
+pub record IsDeadAt (t : Traced) (root : ℕ) : Type 0 where
+  pub number : ℕ
+  pub there : slice_get t.order number ≡ Some root
+  pub marked : is_marked t.dead number ≡ true
+
+pub dead-at : (t : Traced) (root : ℕ) → is_dead_in t root ≡ true → IsDeadAt t root
+dead-at t root h = step (number_in t.order root) refl h
+  where
+    step : (o : Option ℕ) → number_in t.order root ≡ o
+        → elim o as (λ _. Bool) [ None ↦ false | Some n ↦ is_marked t.dead n ] ≡ true → IsDeadAt t root
+    step None is h = absurd (false≢true h)
+    step (Some n) is h = record { number = n; there = number-there t.order root n is; marked = h }
+
+all-small : (us : List (ℕ × ℕ)) → list_all (λ u. is_small u.0) us ≡ true
+    → list_all is_small_literal (denials_of us) ≡ true
+all-small [] h = refl
+all-small (u ∷ us) h =
+    let parts = and_parts (is_small u.0) (list_all (λ v. is_small v.0) us) h in
+    and_from (is_small u.0) (list_all is_small_literal (denials_of us)) parts.0 (all-small us parts.1)
+
+pub denial-put : RuleLinesAreExact → (asked : Asked) (before : AllKept) (rs more : List Regex) (memo memos : Memo)
+    (e : Backing) (t : Traced) (x root : ℕ) (us : List (ℕ × ℕ)) (ss : List Regex) (budget : Spending)
+    (old mid new : Option (List ℕ)) → us ≢ [] → Rise us → AreDeniedIn (atoms_in more e.atoms) x (denials_of us) ss
+    → regex_at more root ≡ mkand ss → is_dead_in t root ≡ true
+    → ((u : ℕ × ℕ) → Contains us u → kept_at before.clauses u.1 ≡ Some (unit_of u)) → e.hints ≡ None
+    → e.refuted ≡ None → budget.spent < budget.limit → list_all (λ u. is_small u.0) us ≡ true
+    → atoms_in more e.atoms ≡ atoms_in rs e.atoms → Backs rs memo e before
+    → Traces asked before more memos t budget old mid
+    → new ≡ with_bytes (line (text_of (rule_line empty (denials_of us)))) mid
+    → Evidences asked before more memos
+    (record e { trace = t; clauses = e.clauses + 1; hints = Some (hints_of us e.clauses) })
+    (record budget { spent = budget.spent + 1 }) old new
+denial-put exact asked before rs more memo memos e t x root us ss budget old mid new some rise denied meets dead units
+    hints unset room smalls same b traced told =
+    let kept = traced.after in
+    let now = backs-traced rs more memo memos e t before kept b traced.tracks traced.keeps same in
+    let at = dead-at t root dead in
+    record {
+      after = pushed kept (denials_of us) [] (kept.counted + 1);
+      puts = puts_both asked before kept (pushed kept (denials_of us) [] (kept.counted + 1)) old mid new traced.puts
+          (puts_one asked kept (pushed kept (denials_of us) [] (kept.counted + 1)) (rule_line empty (denials_of us)) mid
+          new
+          (denial-follows exact asked kept x us ss at.number some rise
+          (subst (λ atoms. AreDeniedIn atoms x (denials_of us) ss) (sym now.atoms) denied)
+          (ap (λ known. slice_get known at.number) traced.tracks.regexes
+          ∙ slice_get-map (regex_at more) t.order at.number ∙ ap (option_map (regex_at more)) at.there
+          ∙ ap Some meets)
+          (dead-there kept.dead at.number (traced.tracks.dead at.number ∙ at.marked)) (now.positive hints unset)
+          (omega (arith, room, traced.counts.spent, traced.counts.limit)))
+          (all-small us smalls) told);
+      backs = backs-denial more memos (record e { trace = t }) kept (denials_of us) [] (hints_of us e.clauses)
+          (kept.counted + 1) now (some-denials us some)
+          (leads-nowhere (kept.clauses ++ Some (at_the_bottom (denials_of us)) ∷ []) us e.clauses rise
+          (λ u among. kept-stays kept.clauses (Some (at_the_bottom (denials_of us))) u.1 (unit_of u)
+          (ap (λ k. kept_at k u.1) traced.keeps.clauses ∙ units u among))
+          (ap (kept_at (kept.clauses ++ Some (at_the_bottom (denials_of us)) ∷ [])) (sym now.clauses)
+          ∙ kept-last kept.clauses (Some (at_the_bottom (denials_of us)))))
+          unset;
+      counts = record { spent = ap (λ n. n + 1) traced.counts.spent; limit = traced.counts.limit };
+    }

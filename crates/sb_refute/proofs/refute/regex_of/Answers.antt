@@ -1,0 +1,10 @@
+use Rattle.std.proofs.Common.{Some, ap, sym, ◌∙◌, slice_get}
+use Rattle.sb_lit.specs.declared.clause.Lit.{Lit}
+use Rattle.sb_refute.proofs.refute.regex_of.Goals as goal
+
+pub returns : goal.returns
+returns c = (
+  c.membership_of-regex.result.0.0,
+  ap (slice_get c.args.atoms.now) (sym (c.of.ensures ∙ ap (λ (l : Lit). l.atom) c.literal.ensures.is))
+      ∙ c.describe.ensures ∙ ap Some c.membership_of-regex.ensures,
+)

@@ -1,0 +1,4 @@
+pub mod Backing
+pub mod Refuting
+pub mod Units
+pub mod Lines

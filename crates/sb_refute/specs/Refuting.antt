@@ -1,0 +1,35 @@
+-- Live assertions that are memberships of one constant with no word in common, and what a refutation of them answers.
+use Rattle.std.specs.Prelude.{◌≡◌, ℕ, false, List, [], ◌∷◌, map, slice_get, Option, Some, None, option_and_then}
+use Rattle.std.specs.List.{list_all}
+use Rattle.sb_lang.specs.Regex.{Regex}
+use Rattle.sb_lang.specs.Language.{language}
+use Rattle.sb_lit.specs.Budgets.{Spending}
+use Rattle.sb_regex.specs.Numbered.{regexes_at}
+use Rattle.sb_rulebook.specs.Atoms.{AtomOver, in_atom}
+use Rattle.sb_script.specs.Pieces.{constant_piece}
+use Rattle.sb_refute.specs.Backing.{Backing, asserted_at}
+use Rattle.sb_refute.specs.declared.refute.Refuted.{Refuted}
+use Rattle.sb_refute.specs.declared.refute.Refuted.TheVariants as refuted
+
+-- the constant of a membership, and the number of the regex
+abbrev pub membership_of : AtomOver ℕ → Option (ℕ × ℕ)
+membership_of (in_atom (constant_piece x ∷ []) r) = Some (x, r)
+membership_of _ = None
+
+-- the same of the assertion at a place
+abbrev pub membership_at : Backing → ℕ → Option (ℕ × ℕ)
+membership_at e place =
+    option_and_then (λ a. option_and_then membership_of (slice_get e.atoms a.literal.atom))
+    (asserted_at e.asserted place)
+
+-- The places are of memberships of one constant, and no word is in all of their regexes.
+pub record AreDisjoint (rs : List Regex) (e : Backing) (places : List ℕ) : Type 0 where
+  pub constant : ℕ
+  pub regexes : List ℕ
+  pub are : map (membership_at e) places ≡ map (λ r. Some (constant, r)) regexes
+  pub no_word : (w : List ℕ) → list_all (λ r. language r w) (regexes_at rs regexes) ≡ false
+
+-- the number is that of the empty clause, or the budget is spent
+abbrev pub IsRefutation : Backing → Spending → Refuted → Type 0
+IsRefutation e budget (refuted.Clause id) = e.refuted ≡ Some id.0
+IsRefutation e budget refuted.Spent = budget.spent ≡ budget.limit

@@ -1,0 +1,248 @@
+//! What stands in a proof of the live assertions.
+
+ghost use Rattle.std.specs.Prelude.{◌≡◌, ◌<◌, ◌+◌, ◌∷◌, ℕ, [], true, List, None, length, option_map, OnOk, IfOk};
+ghost use Rattle.indexmap.specs.IndexMap.{insert_entry};
+ghost use Rattle.std.specs.Prelude.{nat_eq, map, OnErr};
+ghost use Rattle.sb_script.specs.Pieces.{constant_piece};
+ghost use Rattle.sb_proof.specs.Lines.{piece_in};
+ghost use Rattle.sb_lang.specs.Regex.{Regex};
+ghost use Rattle.sb_regex.specs.Numbered as regex;
+ghost use Rattle.sb_deriv.specs.Faithful.{Memo};
+ghost use Rattle.sb_term.specs.Numbered.{term_at};
+ghost use Rattle.sb_problem.specs.Known.{AreNormals};
+ghost use Rattle.sb_fragment.specs.Measures.{AreMeasures};
+ghost use Rattle.sb_rulebook.specs.Atoms.{AtomOver, in_atom};
+ghost use Rattle.sb_rulebook.specs.Kept.{AllKept, Asked, nothing_kept};
+ghost use Rattle.sb_atoms.specs.Numbered.{atom_in, atoms_in, HaveRegexesBelow, Extends};
+ghost use Rattle.sb_atoms.specs.Translated.{brought_translation};
+ghost use Rattle.sb_trace.specs.Putting.{CountsTapeFault};
+ghost use Rattle.sb_trace.specs.Tracking.{StaysNumbered};
+ghost use Rattle.sb_refute.specs.Backing.{Backs, EvidencesUncounted, IsLive, KeepsAsserted, asserted_at};
+ghost use Rattle.sb_refute.specs.Lines.{BringsAtom, IsAssertion};
+
+use indexmap::IndexMap;
+use sb_atoms::{Atom, AtomId, Atoms};
+use sb_fragment::Measures;
+use sb_lang::order::order_tells_apart;
+use sb_lit::{ClauseId, Lit};
+use sb_problem::Normals;
+use sb_proof::{Atom as ProofAtom, Line, Piece, Tape, TapeFault};
+use sb_regex::{Arena, RegexId};
+use sb_sound::clauses::assertion_lines_are_exact;
+use sb_term::{Serial, Table, TermId};
+use sb_trace::Trace;
+use std::alloc::{AllocError, Global};
+use std::marker::Model;
+
+/// The clause of an assertion, and its one literal.
+#[derive(Clone, Copy, Debug, PartialEq, Eq)]
+pub struct Asserted {
+    pub clause: ClauseId,
+    pub literal: Lit,
+}
+
+/// What of an arena's regexes, of the atoms of assertions and of their clauses stands in a proof.
+#[derive(Drop)]
+pub struct Evidence {
+    pub(crate) alloc: Global,
+    pub(crate) trace: Trace,
+    /// An atom has the same number in the proof.
+    pub(crate) atoms: Atoms,
+    /// How many clauses stand in the proof.
+    clauses: u64,
+    /// By the places of live assertions.
+    asserted: IndexMap<usize, Asserted>,
+    /// The hints of the empty clause, where it can be learned and was not yet.
+    pub(crate) hints: Option<Vec<u64>>,
+    /// The empty clause.
+    pub(crate) refuted: Option<ClauseId>,
+}
+
+impl Model for Evidence {
+    ghost use Rattle.std.specs.Prelude.{option_map};
+    ghost use Rattle.sb_refute.specs.Backing.{Backing};
+    ghost use Rattle.sb_refute.specs.Units.{AreOfAtoms};
+
+    ghost Value = { Backing };
+
+    ghost view = { λ evidence. record {
+      trace = evidence.trace;
+      atoms = evidence.atoms;
+      clauses = evidence.clauses;
+      asserted = evidence.asserted.entries;
+      hints = option_map (λ hints. hints.items) evidence.hints;
+      refuted = option_map (λ id. id.0) evidence.refuted;
+    } };
+
+    ghost invariant = { λ evidence. AreOfAtoms evidence.atoms evidence.asserted.entries };
+}
+
+impl Evidence {
+    /// Nothing stands in the proof. Takes no memory.
+    pub fn new(alloc: Global) -> Evidence
+        ensures { (rs : List Regex) (memo : Memo) (format : ℕ) → Backs rs memo result (nothing_kept format) }
+    {
+        Evidence {
+            alloc,
+            trace: Trace::new(alloc),
+            atoms: Atoms::new(alloc),
+            clauses: 0,
+            asserted: IndexMap::new(alloc),
+            hints: None,
+            refuted: None,
+        }
+    }
+
+    /// The clause of the live assertion at a place, if it stands in the proof. Constant time.
+    pub fn asserted(&self, place: usize) -> Option<Asserted>
+        ensures { result ≡ asserted_at self.now.asserted place }
+    {
+        self.asserted.get(&place).copied()
+    }
+
+    /// The clause of the live assertion at a place, whose term it is. The lines that it lacks are put: those of the
+    /// regex, that of the atom, and its own. None where the term has no literal; no clause is put then.
+    ///
+    /// Constant time where the clause stands in the proof, else linear in the lines that are put, but that the regular
+    /// expression is measured, and its normal regex made, where they were not yet. After an error the tape may have a
+    /// line of which nothing is known here, so nothing more may be put.
+    pub fn assertion<L: Tape>(
+        &mut self,
+        measures: &mut Measures,
+        normals: &mut Normals,
+        table: &Table,
+        arena: &mut Arena,
+        place: usize,
+        term: TermId,
+        tape: &mut L,
+    ) -> Result<Option<Asserted>, TapeFault>
+        requires number { term < length table.now }
+        requires right { AreMeasures table.now measures.old }
+        requires normals { AreNormals table.now arena.old normals.old }
+        requires regexes { HaveRegexesBelow (length arena.old) self.old.atoms }
+        ensures puts { OnOk result ((asked : Asked) (memo : Memo) (before : AllKept)
+            → Backs arena.old memo self.old before → IsLive asked place (term_at table.now term)
+            → EvidencesUncounted asked before arena.new memo self.new (L.Tape.told tape.old) (L.Tape.told tape.new)) }
+        ensures asserted { IfOk result (λ found. found ≡ asserted_at self.new.asserted place) }
+        ensures literal { asserted_at self.old.asserted place ≡ None → IfOk result (λ found.
+            option_map (λ a. a.literal) found
+            ≡ brought_translation (atoms_in arena.new self.new.atoms) (term_at table.now term)) }
+        ensures stays { KeepsAsserted self.old self.new }
+        ensures numbers_stay { StaysNumbered self.old.trace self.new.trace }
+        ensures extends { Extends self.old.atoms self.new.atoms }
+        ensures regexes { HaveRegexesBelow (length arena.new) self.new.atoms }
+        ensures right { AreMeasures table.now measures.new }
+        ensures normals { AreNormals table.now arena.new normals.new }
+        ensures arena { regex.Extends arena.old arena.new }
+        ensures counts { CountsTapeFault result (L.Tape.faults tape.old) (L.Tape.faults tape.new) }
+    {
+        if let Some(asserted) = self.asserted(place) {
+            return Ok(Some(asserted));
+        }
+        let known = self.atoms.len();
+        let Some(literal) = self.atoms.translate(measures, normals, table, arena, term)? else {
+            return Ok(None);
+        };
+        self.define(arena, known, literal, tape)?;
+        Ok(Some(self.claim(place, literal, tape)?))
+    }
+
+    /// Puts the line of a literal's atom, with those of its regex, where so many atoms were known before and it is new.
+    fn define<L: Tape>(
+        &mut self,
+        arena: &Arena,
+        known: usize,
+        literal: Lit,
+        tape: &mut L,
+    ) -> Result<(), TapeFault>
+        requires atom { literal.atom < length self.old.atoms }
+        requires regexes { HaveRegexesBelow (length arena.now) self.old.atoms }
+        ensures puts { OnOk result ((asked : Asked) (memo : Memo) (before : AllKept) (atoms : List (AtomOver ℕ))
+            → BringsAtom asked arena.now atoms self.old.atoms literal → length atoms ≡ known
+            → Backs arena.now memo (record self.old { atoms = atoms }) before
+            → EvidencesUncounted asked before arena.now memo self.new (L.Tape.told tape.old) (L.Tape.told tape.new)) }
+        ensures numbers_stay { StaysNumbered self.old.trace self.new.trace }
+        ensures others { self.new ≡ record self.old { trace = self.new.trace } }
+        ensures counts { CountsTapeFault result (L.Tape.faults tape.old) (L.Tape.faults tape.new) }
+    {
+        if self.atoms.len() == known {
+            return Ok(());
+        }
+        self.atoms.atoms_each_once();
+        arena.normal_regexes_each_once();
+        order_tells_apart();
+        let (serial, regex) = membership_of(*self.atoms.describe(AtomId::of(literal)));
+        let number = self.trace.number(arena, regex, tape)?;
+        let pieces = constant(self.alloc, serial)?;
+        tape.put(&Line::Atom(ProofAtom::In(pieces, number)))?;
+        Ok(())
+    }
+
+    /// Puts the clause of the assertion at a place, whose literal it is.
+    fn claim<L: Tape>(
+        &mut self,
+        place: usize,
+        literal: Lit,
+        tape: &mut L,
+    ) -> Result<Asserted, TapeFault>
+        requires known { literal.atom < length self.old.atoms }
+        requires positive { literal.positive ≡ true }
+        requires new { asserted_at self.old.asserted place ≡ None }
+        ensures puts { OnOk result ((asked : Asked) (rs : List Regex) (memo : Memo) (before : AllKept)
+            → Backs rs memo self.old before → IsAssertion asked before place literal
+            → EvidencesUncounted asked before rs memo self.new (L.Tape.told tape.old) (L.Tape.told tape.new)) }
+        ensures literal { IfOk result (λ a. a.literal ≡ literal) }
+        ensures asserted { IfOk result (λ a. self.new.asserted ≡ insert_entry nat_eq self.old.asserted place a) }
+        ensures atoms { self.new.atoms ≡ self.old.atoms }
+        ensures trace { self.new.trace ≡ self.old.trace }
+        ensures stays { KeepsAsserted self.old self.new }
+        ensures counts { CountsTapeFault result (L.Tape.faults tape.old) (L.Tape.faults tape.new) }
+    {
+        assertion_lines_are_exact();
+        tape.put(&Line::Assertion(place as u64, literal))?;
+        let clause = self.next_clause()?;
+        let asserted = Asserted { clause, literal };
+        self.keep(place, asserted)?;
+        Ok(asserted)
+    }
+
+    /// Keeps the clause of the assertion at a place.
+    fn keep(&mut self, place: usize, asserted: Asserted) -> Result<(), AllocError>
+        requires known { asserted.literal.atom < length self.old.atoms }
+        requires positive { asserted.literal.positive ≡ true }
+        ensures ok { OnOk result
+            (self.new ≡ record self.old { asserted = insert_entry nat_eq self.old.asserted place asserted }) }
+        ensures err { OnErr result (self.new ≡ self.old) }
+    {
+        self.asserted.insert(place, asserted)?;
+        Ok(())
+    }
+
+    /// The number of a clause whose line was put. `AllocError` where 2^64 - 1 stand there.
+    pub(crate) fn next_clause(&mut self) -> Result<ClauseId, AllocError>
+        ensures number { IfOk result (λ id. id.0 ≡ self.old.clauses) }
+        ensures ok { OnOk result (self.new ≡ record self.old { clauses = self.old.clauses + 1 }) }
+        ensures err { OnErr result (self.new ≡ self.old) }
+    {
+        let id = self.clauses;
+        self.clauses = id.checked_add(1).ok_or(AllocError)?;
+        Ok(ClauseId(id))
+    }
+}
+
+/// The pieces of a constant alone.
+fn constant(alloc: Global, serial: Serial) -> Result<Vec<Piece>, AllocError>
+    ensures { IfOk result (λ pieces. map piece_in pieces.items ≡ constant_piece serial.0 ∷ []) }
+{
+    let mut pieces = Vec::new(alloc);
+    pieces.push(Piece::Constant(serial.0))?;
+    Ok(pieces)
+}
+
+/// The constant and the regex of an atom.
+pub(crate) fn membership_of(atom: Atom) -> (Serial, RegexId)
+    ensures { atom_in atom ≡ in_atom (constant_piece result.0.0 ∷ []) result.1 }
+{
+    let Atom::In(serial, regex) = atom;
+    (serial, regex)
+}
