@@ -13,6 +13,8 @@ use Rattle.sb_stack.specs.declared.stack.Step.TheVariants as code
 use Rattle.sb_stack.specs.declared.verdict.Verdict as found
 use Rattle.sb_stack.specs.declared.verdict.Verdict.TheVariants as verdict
 use Rattle.sb_stack.specs.Steps.{IsStep, verdict_in}
+use Rattle.sb_decide.specs.declared.decide.Decider.{Decider}
+use Rattle.sb_decide.specs.Knowing.{IsDecision}
 use Rattle.sb_session.specs.declared.command.Went.{Went}
 use Rattle.sb_session.specs.declared.command.Went.TheVariants.{Go, Exited}
 use Rattle.sb_session.specs.Commanding.{Answers, AnswersEntry, CutOrNot, went_of}
@@ -47,29 +49,31 @@ by_exit (meaning.exits bytes) text s after h =
     record { ends_run = refl; found = None; reply = (refl, refl, h.0, h.1) }
 
 -- each check that is decided is decided
-finds : (v : found.Verdict) (s : State) → IsVerdict s [] (verdict_in v) → FindsUnproved s [] [] (verdict_in v)
-finds (verdict.Sat words) s is = (refl, is)
-finds verdict.Unsat s is = (refl, is)
-finds verdict.Outside s is = (refl, is)
+finds : (v : found.Verdict) (kept : Decider) (s : State) → IsDecision v kept → IsVerdict s [] (verdict_in v)
+    → FindsUnproved s [] [] (verdict_in v)
+finds (verdict.Sat words) kept s decided is = (refl, is)
+finds verdict.Unsat kept s decided is = (refl, is)
+finds verdict.Unknown kept s decided is = absurd decided
+finds verdict.Outside kept s decided is = (refl, is)
 
-pub by_check : (step : meaning.Step) (v : found.Verdict) (text : List ℕ) (s same after : State)
-    → IsStep step code.Check s same → IsVerdict same [] (verdict_in v) → text ≡ verdict_text (verdict_in v)
-    → after ≡ settled (verdict_in v) same → Replied step false text s after
-by_check (meaning.answers bytes t) v text s same after h is reply state = absurd h
-by_check (meaning.leaves what bytes t) v text s same after h is reply state = absurd h
-by_check (meaning.checks []) v text s same after h is reply state = record {
+pub by_check : (step : meaning.Step) (v : found.Verdict) (kept : Decider) (text : List ℕ) (s same after : State)
+    → IsStep step code.Check s same → IsDecision v kept → IsVerdict same [] (verdict_in v)
+    → text ≡ verdict_text (verdict_in v) → after ≡ settled (verdict_in v) same → Replied step false text s after
+by_check (meaning.answers bytes t) v kept text s same after h decided is reply state = absurd h
+by_check (meaning.leaves what bytes t) v kept text s same after h decided is reply state = absurd h
+by_check (meaning.checks []) v kept text s same after h decided is reply state = record {
   ends_run = refl;
   found = Some (verdict_in v);
   reply = (
     verdict_in v,
-    finds v s (subst (λ (t : State). IsVerdict t [] (verdict_in v)) h is),
+    finds v kept s decided (subst (λ (t : State). IsVerdict t [] (verdict_in v)) h is),
     refl,
     reply,
     state ∙ ap (settled (verdict_in v)) h,
   );
 }
-by_check (meaning.checks (a ∷ given)) v text s same after h is reply state = absurd h
-by_check (meaning.exits bytes) v text s same after h is reply state = absurd h
+by_check (meaning.checks (a ∷ given)) v kept text s same after h decided is reply state = absurd h
+by_check (meaning.exits bytes) v kept text s same after h decided is reply state = absurd h
 
 answers_by : (entry : Entry) (ends : Bool) (text : List ℕ) (s after : State)
     → Replied (step_of entry s) ends text s after → Answers s entry ((out_port.Answers, text) ∷ []) after

@@ -7,11 +7,3 @@ pub mod PieceLemmas
 pub mod EndLemmas
 pub mod ScriptLemmas
 pub mod SolveLemmas
-pub mod TermShapes
-pub mod Conjunctions
-pub mod OneMembership
-pub mod DefaultValues
-pub mod Verdicts
-pub mod Knowledge
-pub mod Constants
-pub mod TakingOver

@@ -4,6 +4,3 @@ pub mod Progress
 pub mod Solve
 pub mod Pausing
 pub mod Underway
-pub mod Deciding
-pub mod Conjoined
-pub mod Knowing

@@ -5,11 +5,10 @@ ghost use Rattle.sb_world.specs.Outside.{CountsFault};
 ghost use Rattle.sb_script.specs.State.{start};
 ghost use Rattle.sb_stack.specs.Stacked.{state_of};
 ghost use Rattle.sb_stack.specs.Steps.{IsEntry, entry_of};
-ghost use Rattle.sb_session.specs.Knowing.{Knows};
+ghost use Rattle.sb_decide.specs.Knowing.{Knows};
 ghost use Rattle.sb_session.specs.Commanding.{Goes, Fails, AnswersEntry, CutOrNot, went_of, CountsSessionFault};
 
-use crate::check::Regexes;
-use sb_problem::normals_stay;
+use sb_decide::{Decider, knows_stays};
 use sb_reader::Next;
 use sb_stack::{Stack, Step};
 use sb_world::{OutPort, World, WorldError, write_all};
@@ -67,14 +66,14 @@ impl From<WorldError> for SessionFault {
 pub struct Session {
     alloc: Global,
     stack: Stack,
-    regexes: Regexes,
+    decider: Decider,
     ended: bool,
 }
 
 impl Model for Session {
     ghost use Rattle.std.specs.Prelude.{◌≡◌, false};
     ghost use Rattle.sb_session.specs.Commanding.{SessionState};
-    ghost use Rattle.sb_session.specs.Knowing.{Knows};
+    ghost use Rattle.sb_decide.specs.Knowing.{Knows};
     ghost use Rattle.sb_meaning.proofs.CallerLemmas.{coded_term};
     ghost use Rattle.std.specs.Coded.{codes};
 
@@ -84,7 +83,7 @@ impl Model for Session {
 
     ghost view = { λ s. record { stack = s.stack; ended = s.ended } };
 
-    ghost invariant = { λ s. s.ended ≡ false → Knows s.regexes s.stack };
+    ghost invariant = { λ s. s.ended ≡ false → Knows s.decider s.stack };
 }
 
 impl Session {
@@ -96,7 +95,7 @@ impl Session {
         Session {
             alloc,
             stack: Stack::new(alloc),
-            regexes: Regexes::new(alloc),
+            decider: Decider::new(alloc),
             ended: false,
         }
     }
@@ -117,7 +116,7 @@ impl Session {
             return Err(SessionFault::Ended);
         }
         self.ended = true;
-        let went = answer_entry(self.alloc, &mut self.stack, &mut self.regexes, entry, world)?;
+        let went = answer_entry(self.alloc, &mut self.stack, &mut self.decider, entry, world)?;
         self.ended = matches!(went, Went::Exited);
         Ok(went)
     }
@@ -127,13 +126,13 @@ impl Session {
 fn answer_entry<W: World>(
     alloc: Global,
     stack: &mut Stack,
-    regexes: &mut Regexes,
+    decider: &mut Decider,
     entry: &Next,
     world: &mut W,
 ) -> Result<Went, WorldError>
     requires entry { IsEntry entry.now }
-    requires knows { Knows regexes.old stack.old }
-    ensures knows { OnOk result (Knows regexes.new stack.new) }
+    requires knows { Knows decider.old stack.old }
+    ensures knows { OnOk result (Knows decider.new stack.new) }
     ensures ok { IfOk result (λ went. (went ≡ went_of (entry_of entry.now))
         × AnswersEntry (entry_of entry.now) (state_of stack.old) (state_of stack.new) (W.outside world.old)
         (W.outside world.new)) }
@@ -141,14 +140,14 @@ fn answer_entry<W: World>(
         (CutOrNot (entry_of entry.now) (state_of stack.old) (W.outside world.old) (W.outside world.new)) }
     ensures faults { CountsFault result (W.faults world.old) (W.faults world.new) }
 {
-    normals_stay();
+    knows_stays();
     match stack.apply(entry)? {
         Step::Answer(text) => {
             write_all(world, OutPort::Answers, &text)?;
             Ok(Went::Go)
         }
         Step::Check => {
-            let verdict = regexes.decide(alloc, stack)?;
+            let verdict = decider.decide(alloc, stack)?;
             write_all(world, OutPort::Answers, stack.settle(verdict))?;
             Ok(Went::Go)
         }

@@ -4,7 +4,6 @@ use Rattle.sb_stack.specs.Stacked.{state_of}
 use Rattle.sb_stack.specs.Steps.{entry_of}
 use Rattle.sb_script.specs.Replies.{step_of}
 use Rattle.sb_session.proofs.CommandLemmas.{Replied, by_answer, by_check, by_exit, whole_reply, cut_reply}
-use Rattle.sb_session.proofs.Knowledge.{knows_stays}
 use Rattle.sb_session.proofs.command.answer_entry.Goals as goal
 
 pub returns-in_err-write_all-in-Answer-clause-err : goal.returns-in_err-write_all-in-Answer-clause-err
@@ -44,9 +43,10 @@ returns-in_err-write_all-in-Check-clause-err g c =
     rw p.1
     (cut_reply entry false c.settle.result.now s (state_of c.settle.new.self) (g.W.World.outside c.args.world.now)
     (g.W.World.outside c.write_all-in-Check.new.world)
-    (by_check (step_of entry s) c.in_ok-verdict-in-Check.verdict c.settle.result.now s
+    (by_check (step_of entry s) c.in_ok-verdict-in-Check.verdict c.decide.new.self c.settle.result.now s
     (state_of c.apply.new.self) (state_of c.settle.new.self)
-    (rw c.in-Check.is at c.in_ok-text.ensures.ok) c.in_ok-verdict-in-Check.ensures.verdict c.settle.ensures.reply
+    (rw c.in-Check.is at c.in_ok-text.ensures.ok) c.in_ok-verdict-in-Check.ensures.decided
+    c.in_ok-verdict-in-Check.ensures.verdict c.settle.ensures.reply
     (c.settle.ensures.state ∙ c.in_ok-verdict-in-Check.ensures.state))
     c.in_err-write_all-in-Check.ensures.err)
 
@@ -78,23 +78,24 @@ returns-in_ok-write_all-in-Check-clause-ok g c =
     let s = state_of c.args.stack.now in
     whole_reply entry false c.settle.result.now s (state_of c.settle.new.self) (g.W.World.outside c.args.world.now)
     (g.W.World.outside c.write_all-in-Check.new.world)
-    (by_check (step_of entry s) c.in_ok-verdict-in-Check.verdict c.settle.result.now s
+    (by_check (step_of entry s) c.in_ok-verdict-in-Check.verdict c.decide.new.self c.settle.result.now s
     (state_of c.apply.new.self) (state_of c.settle.new.self)
-    (rw c.in-Check.is at c.in_ok-text.ensures.ok) c.in_ok-verdict-in-Check.ensures.verdict c.settle.ensures.reply
+    (rw c.in-Check.is at c.in_ok-text.ensures.ok) c.in_ok-verdict-in-Check.ensures.decided
+    c.in_ok-verdict-in-Check.ensures.verdict c.settle.ensures.reply
     (c.settle.ensures.state ∙ c.in_ok-verdict-in-Check.ensures.state))
     c.in_ok-write_all-in-Check.ensures.ok
 
 pub decide-requires : goal.decide-requires
 decide-requires g c =
-    knows_stays c.normals_stay.ensures c.args.regexes.now c.args.stack.now c.apply.new.self c.apply.ensures.extends
+    c.knows_stays.ensures c.args.decider.now c.args.stack.now c.apply.new.self c.apply.ensures.extends
     c.apply.ensures.grows c.apply.ensures.words c.apply.ensures.constants c.requires.knows
 
 pub returns-in_ok-write_all-in-Answer-clause-knows : goal.returns-in_ok-write_all-in-Answer-clause-knows
 returns-in_ok-write_all-in-Answer-clause-knows g c =
-    knows_stays c.normals_stay.ensures c.args.regexes.now c.args.stack.now c.apply.new.self c.apply.ensures.extends
+    c.knows_stays.ensures c.args.decider.now c.args.stack.now c.apply.new.self c.apply.ensures.extends
     c.apply.ensures.grows c.apply.ensures.words c.apply.ensures.constants c.requires.knows
 
 pub returns-in_ok-write_all-in-Exit-clause-knows : goal.returns-in_ok-write_all-in-Exit-clause-knows
 returns-in_ok-write_all-in-Exit-clause-knows g c =
-    knows_stays c.normals_stay.ensures c.args.regexes.now c.args.stack.now c.apply.new.self c.apply.ensures.extends
+    c.knows_stays.ensures c.args.decider.now c.args.stack.now c.apply.new.self c.apply.ensures.extends
     c.apply.ensures.grows c.apply.ensures.words c.apply.ensures.constants c.requires.knows

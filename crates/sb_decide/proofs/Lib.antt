@@ -1,0 +1,9 @@
+pub mod Conjunctions
+pub mod OneMembership
+pub mod DefaultValues
+pub mod Verdicts
+pub mod Constants
+pub mod Knowledge
+pub mod PlaceFacts
+pub mod KnownPlaces
+pub mod TakingOver

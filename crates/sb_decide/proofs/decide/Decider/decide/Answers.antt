@@ -1,0 +1,135 @@
+use Rattle.std.proofs.Common.{◌≡◌, ℕ, true, List, length, [], refl, sym, ap, ◌∙◌, subst}
+use Rattle.std.proofs.lemmas.List.{with_items_is}
+use Rattle.std.specs.Vec.{with_items}
+use Rattle.sb_script.specs.State.{constants_of, fits}
+use Rattle.sb_script.specs.Verdicts.{IsVerdict, is_sat}
+use Rattle.sb_stack.specs.Stacked.{Stacked, state_of, are_words, values_from}
+use Rattle.sb_stack.specs.declared.stack.Mode.TheVariants as mode
+use Rattle.sb_regex.proofs.CallerLemmas.{extends_more}
+use Rattle.sb_decide.specs.Knowing.{Knows}
+use Rattle.sb_decide.specs.Taking.{IsTakingOver}
+use Rattle.sb_decide.proofs.Knowledge.{knows_mode, knows_dead}
+use Rattle.sb_decide.proofs.TakingOver.{Fit, dead_given, unsat_found, sat_found, knows_over, over_of, words_long, constants_long, same_memo, grown_memo}
+use Rattle.sb_decide.proofs.decide.Decider.decide.Goals as goal
+
+fit_of : (stack : Stacked) (count : ℕ) → count ≡ stack.scope.declared
+    → ((words : List (List ℕ)) → length words ≡ count → are_words words ≡ true
+    → fits (constants_of (state_of stack)) (values_from 0 words) ≡ true) → Fit stack stack.scope.declared
+fit_of stack count is h ws long = h ws (long ∙ sym is)
+
+pub returns-then-not-branch-clause-verdict : goal.returns-then-not-branch-clause-verdict
+returns-then-not-branch-clause-verdict c =
+    c.fragment_is_of_each.ensures (state_of c.args.stack.now)
+    ∙ c.in_ok-take_in.ensures.outside c.if-not-branch.true
+
+pub returns-then-is_some-clause-verdict : goal.returns-then-is_some-clause-verdict
+returns-then-is_some-clause-verdict c =
+    dead_given c.fragment_is_of_each.ensures c.take_in.new.self c.args.stack.now c.in_ok-take_in.ensures.knows
+    (c.in_ok-take_in.ensures.all c.if-not-branch.false) (sym c.is_some.ensures ∙ c.if-is_some.true)
+    (fit_of c.args.stack.now c.declared-declared.result c.declared-declared.ensures.value
+    c.declared-declared.ensures.fit)
+
+pub returns-in-Dead-clause-verdict : goal.returns-in-Dead-clause-verdict
+returns-in-Dead-clause-verdict c =
+    unsat_found c.fragment_is_of_each.ensures c.normals_stay.ensures c.take_in.new.self c.least_words.new.arena
+    c.least_words.new.graph c.args.stack.now c.in-Dead.serial.0 c.in_ok-take_in.ensures.knows
+    (c.in_ok-take_in.ensures.all c.if-not-branch.false) c.in_ok-serial.ensures.extends
+    c.in_ok-serial.ensures.graph
+    (rw (c.in-Dead.is, c.deref.ensures.value) at c.in_ok-serial.ensures.words)
+    (fit_of c.args.stack.now c.declared-declared.result c.declared-declared.ensures.value
+    c.declared-declared.ensures.fit)
+
+pub returns-in-Dead-clause-knows : goal.returns-in-Dead-clause-knows
+returns-in-Dead-clause-knows c =
+    knows_dead c.normals_stay.ensures c.take_in.new.self c.least_words.new.arena c.least_words.new.graph
+    (record c.args.stack.now { mode = mode.Unsat }) c.in-Dead.serial c.in_ok-serial.ensures.extends
+    c.in_ok-serial.ensures.graph (rw (c.in-Dead.is, c.deref.ensures.value) at c.in_ok-serial.ensures.words)
+    (knows_mode c.take_in.new.self c.args.stack.now mode.Unsat c.in_ok-take_in.ensures.knows)
+
+pub returns-in_ok-fill-in-Found-clause-verdict : goal.returns-in_ok-fill-in-Found-clause-verdict
+returns-in_ok-fill-in-Found-clause-verdict c =
+    let all = c.in_ok-take_in.ensures.all c.if-not-branch.false in
+    let over = over_of c.take_in.new.self c.least_words.new.arena c.args.stack.now c.in-Found.found.items
+    c.declared-declared.result c.take_words-words.result.items c.fill.new.words.items c.deref_mut.result.now
+    c.take_over.new.constants c.deref_mut-in-Found.result.now c.take_over.new.words c.in_ok-take_in.ensures.knows all
+    c.in_ok-serial.ensures.extends
+    (rw (c.in-Found.is, c.deref.ensures.value, c.deref-2.ensures.value) at c.in_ok-serial.ensures.words)
+    c.take_words-words.ensures.words c.declared-declared.ensures.value c.in_ok-fill-in-Found.ensures
+    c.deref_mut.ensures.value c.deref_mut-in-Found.ensures.value c.take_over.ensures in
+    subst (λ ws. IsVerdict (state_of c.args.stack.now) [] (is_sat (values_from 0 ws)))
+    (sym (with_items_is c.fill.new.words c.take_over.new.words
+    (words_long c.least_words.new.arena c.take_in.new.self.constants.items c.take_over.new.constants
+    c.take_over.new.words c.fill.new.words c.declared-declared.result c.take_words-words.result.items over
+    (c.declared-declared.ensures.value ∙ sym all.1) c.in_ok-fill-in-Found.ensures)))
+    (sat_found c.fragment_is_of_each.ensures c.normals_stay.ensures c.take_in.new.self c.least_words.new.arena
+    c.least_words.new.graph c.args.stack.now c.take_over.new.constants c.take_over.new.words
+    c.in_ok-take_in.ensures.knows all c.in_ok-serial.ensures.extends c.in_ok-serial.ensures.graph over
+    (fit_of c.args.stack.now c.declared-declared.result c.declared-declared.ensures.value
+    c.declared-declared.ensures.fit))
+
+pub returns-in_ok-fill-in-Found-clause-knows : goal.returns-in_ok-fill-in-Found-clause-knows
+returns-in_ok-fill-in-Found-clause-knows c =
+    let all = c.in_ok-take_in.ensures.all c.if-not-branch.false in
+    let over = over_of c.take_in.new.self c.least_words.new.arena c.args.stack.now c.in-Found.found.items
+    c.declared-declared.result c.take_words-words.result.items c.fill.new.words.items c.deref_mut.result.now
+    c.take_over.new.constants c.deref_mut-in-Found.result.now c.take_over.new.words c.in_ok-take_in.ensures.knows all
+    c.in_ok-serial.ensures.extends
+    (rw (c.in-Found.is, c.deref.ensures.value, c.deref-2.ensures.value) at c.in_ok-serial.ensures.words)
+    c.take_words-words.ensures.words c.declared-declared.ensures.value c.in_ok-fill-in-Found.ensures
+    c.deref_mut.ensures.value c.deref_mut-in-Found.ensures.value c.take_over.ensures in
+    let words = with_items_is c.fill.new.words c.take_over.new.words
+    (words_long c.least_words.new.arena c.take_in.new.self.constants.items c.take_over.new.constants
+    c.take_over.new.words c.fill.new.words c.declared-declared.result c.take_words-words.result.items over
+    (c.declared-declared.ensures.value ∙ sym all.1) c.in_ok-fill-in-Found.ensures) in
+    let constants = with_items_is c.take_in.new.self.constants c.take_over.new.constants
+    (constants_long c.least_words.new.arena c.take_in.new.self.constants c.take_over.new.constants
+    c.take_over.new.words over) in
+    let after = record c.take_in.new.self {
+      arena = c.least_words.new.arena;
+      graph = c.least_words.new.graph;
+      constants = with_items c.take_in.new.self.constants c.take_over.new.constants;
+      changed = c.clear.new.self;
+    } in
+    subst
+    (λ (s : Stacked). Knows after
+    (record s { mode = mode.Sat; words = (with_items c.fill.new.words c.take_over.new.words).items }))
+    (sym c.take_words-words.ensures.rest)
+    (knows_over c.normals_stay.ensures c.take_in.new.self after c.args.stack.now
+    (with_items c.fill.new.words c.take_over.new.words).items mode.Sat c.in_ok-take_in.ensures.knows
+    c.in_ok-serial.ensures.extends c.in_ok-serial.ensures.graph
+    (subst (λ cs. IsTakingOver c.least_words.new.arena c.take_in.new.self.constants.items cs
+    (with_items c.fill.new.words c.take_over.new.words).items []) (sym constants)
+    (subst (λ ws. IsTakingOver c.least_words.new.arena c.take_in.new.self.constants.items c.take_over.new.constants ws
+    []) (sym words) over))
+    refl refl refl (ap length c.clear.ensures.items) refl)
+
+pub returns-in_ok-fill-in-Found-clause-extends : goal.returns-in_ok-fill-in-Found-clause-extends
+returns-in_ok-fill-in-Found-clause-extends c =
+    extends_more c.args.self.now.arena c.take_in.new.self.arena c.least_words.new.arena c.in_ok-take_in.ensures.extends
+    c.in_ok-serial.ensures.extends
+
+pub returns-in_ok-fill-in-Found-clause-derivatives_stay : goal.returns-in_ok-fill-in-Found-clause-derivatives_stay
+returns-in_ok-fill-in-Found-clause-derivatives_stay c =
+    grown_memo c.args.self.now.graph c.take_in.new.self.graph c.least_words.new.graph c.in_ok-take_in.ensures.graph
+    c.in_ok-serial.ensures.derivatives_stay
+
+pub returns-in-Dead-clause-extends : goal.returns-in-Dead-clause-extends
+returns-in-Dead-clause-extends c =
+    extends_more c.args.self.now.arena c.take_in.new.self.arena c.least_words.new.arena c.in_ok-take_in.ensures.extends
+    c.in_ok-serial.ensures.extends
+
+pub returns-in-Dead-clause-derivatives_stay : goal.returns-in-Dead-clause-derivatives_stay
+returns-in-Dead-clause-derivatives_stay c =
+    grown_memo c.args.self.now.graph c.take_in.new.self.graph c.least_words.new.graph c.in_ok-take_in.ensures.graph
+    c.in_ok-serial.ensures.derivatives_stay
+
+pub returns-then-is_some-clause-derivatives_stay : goal.returns-then-is_some-clause-derivatives_stay
+returns-then-is_some-clause-derivatives_stay c =
+    same_memo c.args.self.now.graph c.take_in.new.self.graph c.in_ok-take_in.ensures.graph
+
+pub returns-then-not-branch-clause-derivatives_stay : goal.returns-then-not-branch-clause-derivatives_stay
+returns-then-not-branch-clause-derivatives_stay c =
+    same_memo c.args.self.now.graph c.take_in.new.self.graph c.in_ok-take_in.ensures.graph
+
+pub returns-then-is_some-clause-decided : goal.returns-then-is_some-clause-decided
+returns-then-is_some-clause-decided c = sym c.is_some.ensures ∙ c.if-is_some.true

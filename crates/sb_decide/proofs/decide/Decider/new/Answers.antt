@@ -1,0 +1,9 @@
+use Rattle.std.proofs.Common.{refl}
+use Rattle.sb_decide.proofs.Knowledge.{knows_none}
+use Rattle.sb_decide.proofs.TakingOver.{no_items}
+use Rattle.sb_decide.proofs.decide.Decider.new.Goals as goal
+
+pub returns : goal.returns
+returns c = λ stack words.
+    knows_none _ stack refl (no_items c.new-5.result c.new-5.ensures.len) (no_items c.new-6.result c.new-6.ensures.len)
+    refl (c.new-2.ensures.graph _) (c.new-3.ensures _ _) c.new-4.ensures words

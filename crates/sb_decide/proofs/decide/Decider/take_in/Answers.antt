@@ -1,0 +1,22 @@
+use Rattle.std.proofs.Common.{◌≡◌, ◌≤◌, length, ◌∙◌, arith, refl}
+use Rattle.sb_regex.proofs.CallerLemmas.{extends_same}
+use Rattle.sb_decide.proofs.Knowledge.{taken_roomy, kept_roomy}
+use Rattle.sb_decide.proofs.decide.Decider.take_in.Goals as goal
+
+pub loop-self-init : goal.loop-self-init
+loop-self-init c =
+    let room = c.in_ok-make_room.ensures in
+    let count : c.declared.result ≡ c.args.stack.now.scope.declared = c.declared.ensures.value in
+    let more : length c.args.self.now.constants.items ≤ c.declared.result = omega (arith, count, c.requires.declared)
+    in (
+      record {
+        taken = taken_roomy c.args.self.now c.make_room.new.constants c.declared.result c.args.stack.now.table
+            c.args.stack.now.assertions room more c.requires.taken;
+        words = kept_roomy c.args.self.now.arena c.args.self.now.constants.items c.make_room.new.constants.items
+            c.declared.result c.args.stack.now.words room more c.requires.words;
+        declared = omega (arith, room.long, count);
+      },
+      room.long ∙ count,
+      extends_same c.args.self.now.arena,
+      refl,
+    )

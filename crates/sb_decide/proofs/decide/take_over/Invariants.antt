@@ -1,0 +1,16 @@
+use Rattle.std.proofs.Common.{◌≡◌, ◌<◌, List, length}
+use Rattle.std.specs.List.{All}
+use Rattle.sb_lang.specs.Regex.{Regex}
+use Rattle.sb_decide.specs.Taking.{IsTakingOver}
+use Rattle.sb_decide.proofs.decide.take_over.Given as goal
+
+abbrev pub invariant-loop-one : goal.invariant-loop-one
+invariant-loop-one l =
+    (length l.constants ≡ length l.fn.constants)
+    × (length l.words ≡ length l.fn.words)
+    × All (λ one. one.serial.0 < length l.fn.constants) l.found.items
+    × ((rs : List Regex) → IsTakingOver rs l.fn.constants l.fn.constants l.fn.words l.fn.found.items
+    → IsTakingOver rs l.fn.constants l.constants l.words l.found.items)
+
+abbrev pub decreases-loop-one : goal.decreases-loop-one
+decreases-loop-one l = length l.found.items

@@ -1,0 +1,6 @@
+pub mod Conjoined
+pub mod Deciding
+pub mod Places
+pub mod Knowing
+pub mod Taking
+pub mod Laws

@@ -1,0 +1,16 @@
+//! Deciding checks: which verdict the live assertions of a script have.
+//!
+//! A [`Decider`] keeps what is known of the assertions of a script from one check to the next: the regexes of each
+//! constant's memberships, and what exploring them found. The one idea is that each constant has a word for itself, so
+//! a check asks for the words of those constants that new assertions speak of. The layer above answers checks by
+//! [`Decider::decide`]; and after an `Unsat` it asks for the constant that has no word, and for the places of its
+//! memberships among the live assertions.
+#![tactic(auto)]
+
+mod conjuncts;
+mod decide;
+mod laws;
+
+pub use conjuncts::Conjuncts;
+pub use decide::Decider;
+pub use laws::{knows_grown, knows_stays};

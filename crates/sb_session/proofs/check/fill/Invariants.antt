@@ -1,9 +1,0 @@
-use Rattle.std.proofs.Common.{◌-◌, length}
-use Rattle.sb_session.proofs.Constants.{Filling}
-use Rattle.sb_session.proofs.check.fill.Given as goal
-
-abbrev pub invariant-loop-alloc : goal.invariant-loop-alloc
-invariant-loop-alloc l = Filling l.fn.words.items l.words.items l.fn.count
-
-abbrev pub decreases-loop-alloc : goal.decreases-loop-alloc
-decreases-loop-alloc l = l.fn.count - length l.words.items
