@@ -13,9 +13,13 @@ use Rattle.sb_atoms.specs.Numbered.{atom_in, Names, IsWith, over, HasRegexBelow}
 abbrev pub brought_translation : List Atom → Term → Option Lit
 brought_translation atoms t = if is_membership t then translation atoms t else None
 
+-- the term has no literal, whatever the table is
+abbrev pub HasNoLiteral : Term → Type 0
+HasNoLiteral t = (atoms : List Atom) → brought_translation atoms t ≡ None
+
 -- the one atom that the term's literal speaks of; none where the term has no literal, whatever the table is
 abbrev pub IsAtomOf : List Regex → Term → Option code.Atom → Type 0
-IsAtomOf rs t None = (atoms : List Atom) → brought_translation atoms t ≡ None
+IsAtomOf rs t None = HasNoLiteral t
 IsAtomOf rs t (Some atom) = HasRegexBelow (length rs) (atom_in atom)
     × ((atoms : List Atom) → brought_translation atoms t ≡ positive atoms (over rs (atom_in atom)))
 

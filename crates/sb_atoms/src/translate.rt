@@ -6,7 +6,7 @@ ghost use Rattle.sb_term.specs.Numbered.{term_at};
 ghost use Rattle.sb_problem.specs.Known.{AreNormals};
 ghost use Rattle.sb_fragment.specs.Measures.{AreMeasures};
 ghost use Rattle.sb_atoms.specs.Numbered.{atom_in, atoms_in, HaveRegexesBelow, Extends};
-ghost use Rattle.sb_atoms.specs.Translated.{brought_translation, IsAtomOf, IsAdded};
+ghost use Rattle.sb_atoms.specs.Translated.{brought_translation, IsAtomOf, IsAdded, HasNoLiteral};
 
 use crate::atom::{Atom, AtomId};
 use crate::table::Atoms;
@@ -79,6 +79,7 @@ impl Atoms {
         ensures ok { IfOk result
             (λ found. found ≡ brought_translation (atoms_in arena.new self.new) (term_at table.now id)) }
         ensures adds { IfOk result (λ found. IsAdded self.old self.new found) }
+        ensures none { IfOk result (λ found. found ≡ None → HasNoLiteral (term_at table.now id)) }
         ensures extends { Extends self.old self.new }
         ensures regexes { HaveRegexesBelow (length arena.new) self.new }
         ensures right { AreMeasures table.now measures.new }

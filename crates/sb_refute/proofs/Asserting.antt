@@ -26,7 +26,7 @@ use Rattle.sb_rulebook.specs.Lines.{atom_line, text_of}
 use Rattle.sb_rulebook.specs.Parts.{regex_of}
 use Rattle.sb_rulebook.specs.Translation.{translation, membership}
 use Rattle.sb_rulebook.proofs.CallerLemmas.{same_pieces}
-use Rattle.sb_sound.specs.TermLaws.{fits_sorts, all_fit}
+use Rattle.sb_fragment.specs.Memberships.{in_re}
 use Rattle.sb_proof.specs.Tapes.{with_bytes}
 use Rattle.sb_atoms.specs.Numbered.{Names, IsWith, AreDistinct, Extends, over, atoms_in, HaveRegexesBelow}
 use Rattle.sb_atoms.specs.Translated.{brought_translation, IsAdded}
@@ -95,20 +95,19 @@ brought-is atoms t l h = step (is_membership t) refl h
     step false is h = absurd (none-some l (sym h))
 
 atom-parts : (sorts : List Sort) (rs : List Regex) (old new : List (AtomOver ℕ)) (t : Term) (l : Lit) (a : AtomOver ℕ)
-    → fits_sorts sorts t ≡ true → Some l ≡ brought_translation (atoms_in rs new) t → Names new l.atom a
+    → ((serial : ℕ) (expression : Term) → t ≡ in_re (constant serial text) expression
+    → is_declared sorts text serial ≡ true) → Some l ≡ brought_translation (atoms_in rs new) t → Names new l.atom a
     → has_its_parts sorts (atoms_in rs old) a ≡ true
-atom-parts sorts rs old new t l a fits literal names =
+atom-parts sorts rs old new t l a declared literal names =
     let brought = brought-is (atoms_in rs new) t l literal in
     let m = is-member t brought.0 in
     let R = m.expression in
     let found = member-literal (atoms_in rs new) m.serial (regex_of R) l
     (ap (translation (atoms_in rs new)) (sym m.is) ∙ brought.1) in
-    let declared = and_parts (is_declared sorts text m.serial) (all_fit sorts (with_term R no_terms))
-    (ap (fits_sorts sorts) (sym m.is) ∙ fits) in
     same-parts sorts (atoms_in rs old) rs m.serial found.0 a
     (number-same (atoms_in rs new) (in_atom (constant_piece m.serial ∷ []) found.0) (over rs a) l.atom found.1
     (slice_get-map (over rs) new l.atom ∙ ap (option_map (over rs)) names))
-    declared.0
+    (declared m.serial R m.is)
 
 pub brings-atom : (asked : Asked) (rs : List Regex) (old new : List (AtomOver ℕ)) (place : ℕ) (t : Term) (l : Lit)
     → IsLive asked place t → Some l ≡ brought_translation (atoms_in rs new) t → IsAdded old new (Some l)

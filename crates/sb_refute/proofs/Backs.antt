@@ -182,3 +182,20 @@ backs-atoms rs memo e kept atoms b = record {
   hints = b.hints;
   refuted = b.refuted;
 }
+
+-- where the evidence forgets which assertions have clauses
+pub backs-forgotten : (rs : List Regex) (memo : Memo) (e : Backing) (kept : AllKept) → Backs rs memo e kept
+    → Backs rs memo (record e { asserted = [] }) kept
+backs-forgotten rs memo e kept b = record {
+  tracks = b.tracks;
+  atoms = b.atoms;
+  clauses = b.clauses;
+  asserted = λ place a h. absurd (nothing-asserted a h);
+  positive = b.positive;
+  some = b.some;
+  hints = b.hints;
+  refuted = b.refuted;
+}
+  where
+    nothing-asserted : (a : Asserted) → None ≡ Some a → ⊥
+    nothing-asserted a h = cc

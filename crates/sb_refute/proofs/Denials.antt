@@ -8,6 +8,7 @@ use Rattle.std.specs.BTreeMap.{insert_entry}
 use Rattle.std.proofs.lemmas.Bool.{and_from, and_parts, true≢false, lt-ltb}
 use Rattle.std.proofs.lemmas.Bool.Decides.{nat_tests}
 use Rattle.std.proofs.lemmas.List.Elements.{All-nil, All-cons}
+use Rattle.sb_word.specs.Words.{IsWord}
 use Rattle.sb_lang.specs.Regex.{Regex}
 use Rattle.sb_lang.specs.Language.{language}
 use Rattle.sb_lang.specs.Constructors.{mkand}
@@ -145,10 +146,10 @@ some-units : (rs : List Regex) (e : Backing) (places : List ℕ) (us : List (ℕ
 some-units rs e places us apart units none = step places apart.regexes apart.are apart.no_word units.has
   where
     step : (ps regexes : List ℕ) → map (membership_at e) ps ≡ map (λ r. Some (apart.constant, r)) regexes
-        → ((w : List ℕ) → list_all (λ r. language r w) (regexes_at rs regexes) ≡ false)
+        → ((w : List ℕ) → IsWord w → list_all (λ r. language r w) (regexes_at rs regexes) ≡ false)
         → ((place : ℕ) (a : Asserted) → Contains ps place → asserted_at e.asserted place ≡ Some a
         → Contains (map (λ (u : ℕ × ℕ). u.0) us) a.literal.atom) → ⊥
-    step [] [] h no_word has = true≢false (no_word [])
+    step [] [] h no_word has = true≢false (no_word [] refl)
     step [] (r ∷ regexes) h no_word has = absurd (cc)
     step (p ∷ ps) [] h no_word has = absurd (cc)
     step (p ∷ ps) (r ∷ regexes) h no_word has =
@@ -191,14 +192,14 @@ regexes-known n atoms (u ∷ us) (i ∷ ids) are below =
 -- and their intersection has no word
 pub no-word : MkandKeepsLanguage → (rs mid : List Regex) (e : Backing) (places : List ℕ) (us : List (ℕ × ℕ))
     (ids : List ℕ) (root : ℕ) → AreDisjoint rs e places → AreUnits e places us → AreRegexesOf e.atoms us ids
-    → Names mid root (mkand (regexes_at rs ids)) → (w : List ℕ) → language (regex_at mid root) w ≡ false
-no-word keeps rs mid e places us ids root apart units are names w =
+    → Names mid root (mkand (regexes_at rs ids)) → (w : List ℕ) → IsWord w → language (regex_at mid root) w ≡ false
+no-word keeps rs mid e places us ids root apart units are names w word =
     ap (λ r. language r w) (names_at mid root (mkand (regexes_at rs ids)) names)
     ∙ never (language (mkand (regexes_at rs ids)) w) refl
   where
     never : (b : Bool) → language (mkand (regexes_at rs ids)) w ≡ b → b ≡ false
     never false h = refl
-    never true h = absurd (never-alive keeps rs e places us ids w apart units are h)
+    never true h = absurd (never-alive keeps rs e places us ids w apart units are word h)
 
 small-units : (us : List (ℕ × ℕ)) → list_all is_small_literal (denials_of us) ≡ true
     → list_all (λ u. is_small u.0) us ≡ true

@@ -2,6 +2,7 @@
 use Rattle.std.proofs.Common.{◌≡◌, ℕ, true, ◌&&◌, List, [], ◌∷◌, refl, sym, ap, ◌∙◌}
 use Rattle.std.specs.List.{list_all}
 use Rattle.std.proofs.lemmas.Bool.{false≢true}
+use Rattle.sb_word.specs.Words.{IsWord}
 use Rattle.sb_lang.specs.Regex.{Regex, and, regexes}
 use Rattle.sb_lang.specs.Language.{language}
 use Rattle.sb_lang.specs.Constructors.{mkand}
@@ -19,8 +20,9 @@ all-meet (s ∷ ss) w = ap (λ b. language s w && b) (all-meet ss w)
 
 pub never-alive : MkandKeepsLanguage → (rs : List Regex) (e : Backing) (places : List ℕ) (us : List (ℕ × ℕ))
     (ids : List ℕ) (w : List ℕ) → AreDisjoint rs e places → AreUnits e places us → AreRegexesOf e.atoms us ids
+    → IsWord w
     → language (mkand (regexes_at rs ids)) w ≡ true → ⊥
-never-alive keeps rs e places us ids w apart units are h =
-    false≢true (sym (apart.no_word w)
+never-alive keeps rs e places us ids w apart units are word h =
+    false≢true (sym (apart.no_word w word)
     ∙ all-words rs e w us ids apart.constant are
     (sym (keeps (regexes_at rs ids) w ∙ all-meet (regexes_at rs ids) w) ∙ h) places apart.regexes apart.are units.has)

@@ -1,11 +1,21 @@
 -- Assertions by their places, with one more.
-use Rattle.std.proofs.Common.{◌≡◌, ℕ, ◌⊎◌, inl, inr, Bool, true, false, cond, nat_eq, List, [], ◌∷◌, Some, None, refl, sym, ap, ◌∙◌, arith}
+use Rattle.std.proofs.Common.{◌≡◌, ◌≢◌, ℕ, ◌⊎◌, inl, inr, Bool, true, false, cond, nat_eq, List, [], ◌∷◌, Some, None, refl, sym, ap, ◌∙◌, arith}
 use Rattle.std.proofs.lemmas.Bool.Decides.{nat_tests}
 use Rattle.std.specs.Map.{lookup}
 use Rattle.indexmap.specs.IndexMap.{insert_entry}
 
 itself : (n : ℕ) → nat_eq n n ≡ true
 itself n = grind (arith, nat_tests)
+
+not-there : (k q n : ℕ) → nat_eq k n ≡ true → nat_eq q k ≡ false → nat_eq q n ≡ false
+not-there k q n is apart = grind (arith, nat_tests)
+
+not-same : (q k : ℕ) → q ≢ k → nat_eq q k ≡ false
+not-same q k h = step (nat_eq q k) refl
+  where
+    step : (b : Bool) → nat_eq q k ≡ b → nat_eq q k ≡ false
+    step false e = e
+    step true e = absurd (h (grind (arith, nat_tests)))
 
 module _ {A : Type 0} where
   some-same : (v w : A) → Some v ≡ Some w → v ≡ w
@@ -92,3 +102,29 @@ module _ {A : Type 0} where
       first true is rest = over (nat_eq q e.0) refl (sym (ap (lookup (nat_eq q)) (insert-head e es k v true is)) ∙ h)
       first false is rest =
           behind rest (nat_eq q e.0) refl (sym (ap (lookup (nat_eq q)) (insert-head e es k v false is)) ∙ h)
+
+  -- those of other places stay, whatever the place had
+  pub inserted-apart : (es : List (ℕ × A)) (k q : ℕ) (v : A) → nat_eq q k ≡ false
+      → lookup (nat_eq q) (insert_entry nat_eq es k v) ≡ lookup (nat_eq q) es
+  inserted-apart [] k q v apart = ap (λ c. cond c (Some v) None) apart
+  inserted-apart (e ∷ es) k q v apart = first (nat_eq k e.0) refl (inserted-apart es k q v apart)
+    where
+      second : (b : Bool) → nat_eq q e.0 ≡ b
+          → lookup (nat_eq q) (insert_entry nat_eq es k v) ≡ lookup (nat_eq q) es
+          → lookup (nat_eq q) (e ∷ insert_entry nat_eq es k v) ≡ lookup (nat_eq q) (e ∷ es)
+      second true is rest = at-head e (insert_entry nat_eq es k v) q true is ∙ sym (at-head e es q true is)
+      second false is rest =
+          at-head e (insert_entry nat_eq es k v) q false is ∙ (rest ∙ sym (at-head e es q false is))
+
+      first : (b : Bool) → nat_eq k e.0 ≡ b
+          → lookup (nat_eq q) (insert_entry nat_eq es k v) ≡ lookup (nat_eq q) es
+          → lookup (nat_eq q) (insert_entry nat_eq (e ∷ es) k v) ≡ lookup (nat_eq q) (e ∷ es)
+      first true is rest =
+          let other = not-there k q e.0 is apart in
+          ap (lookup (nat_eq q)) (insert-head e es k v true is)
+          ∙ (at-head (e.0, v) es q false other ∙ sym (at-head e es q false other))
+      first false is rest = ap (lookup (nat_eq q)) (insert-head e es k v false is) ∙ second (nat_eq q e.0) refl rest
+
+  pub inserted-others : (es : List (ℕ × A)) (k : ℕ) (v : A) (q : ℕ) → q ≢ k
+      → lookup (nat_eq q) (insert_entry nat_eq es k v) ≡ lookup (nat_eq q) es
+  inserted-others es k v q h = inserted-apart es k q v (not-same q k h)

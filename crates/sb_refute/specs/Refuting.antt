@@ -1,6 +1,7 @@
 -- Live assertions that are memberships of one constant with no word in common, and what a refutation of them answers.
 use Rattle.std.specs.Prelude.{◌≡◌, ℕ, false, List, [], ◌∷◌, map, slice_get, Option, Some, None, option_and_then}
 use Rattle.std.specs.List.{list_all}
+use Rattle.sb_word.specs.Words.{IsWord}
 use Rattle.sb_lang.specs.Regex.{Regex}
 use Rattle.sb_lang.specs.Language.{language}
 use Rattle.sb_lit.specs.Budgets.{Spending}
@@ -27,7 +28,7 @@ pub record AreDisjoint (rs : List Regex) (e : Backing) (places : List ℕ) : Typ
   pub constant : ℕ
   pub regexes : List ℕ
   pub are : map (membership_at e) places ≡ map (λ r. Some (constant, r)) regexes
-  pub no_word : (w : List ℕ) → list_all (λ r. language r w) (regexes_at rs regexes) ≡ false
+  pub no_word : (w : List ℕ) → IsWord w → list_all (λ r. language r w) (regexes_at rs regexes) ≡ false
 
 -- the number is that of the empty clause, or the budget is spent
 abbrev pub IsRefutation : Backing → Spending → Refuted → Type 0

@@ -1,6 +1,6 @@
 //! What stands in a proof of the live assertions.
 
-ghost use Rattle.std.specs.Prelude.{◌≡◌, ◌<◌, ◌+◌, ◌∷◌, ℕ, [], true, List, None, length, option_map, OnOk, IfOk};
+ghost use Rattle.std.specs.Prelude.{◌≡◌, ◌≢◌, ◌<◌, ◌+◌, ◌∷◌, ℕ, [], true, List, None, length, option_map, OnOk, IfOk};
 ghost use Rattle.indexmap.specs.IndexMap.{insert_entry};
 ghost use Rattle.std.specs.Prelude.{nat_eq, map, OnErr};
 ghost use Rattle.sb_script.specs.Pieces.{constant_piece};
@@ -14,7 +14,7 @@ ghost use Rattle.sb_fragment.specs.Measures.{AreMeasures};
 ghost use Rattle.sb_rulebook.specs.Atoms.{AtomOver, in_atom};
 ghost use Rattle.sb_rulebook.specs.Kept.{AllKept, Asked, nothing_kept};
 ghost use Rattle.sb_atoms.specs.Numbered.{atom_in, atoms_in, HaveRegexesBelow, Extends};
-ghost use Rattle.sb_atoms.specs.Translated.{brought_translation};
+ghost use Rattle.sb_atoms.specs.Translated.{brought_translation, HasNoLiteral};
 ghost use Rattle.sb_trace.specs.Putting.{CountsTapeFault};
 ghost use Rattle.sb_trace.specs.Tracking.{StaysNumbered};
 ghost use Rattle.sb_refute.specs.Backing.{Backs, EvidencesUncounted, IsLive, KeepsAsserted, asserted_at};
@@ -100,6 +100,14 @@ impl Evidence {
         self.asserted.get(&place).copied()
     }
 
+    /// Forgets which assertions have clauses: the clause of one that is asked for again is put again. Those that were put
+    /// stay in the proof. Takes no memory.
+    pub fn forget(&mut self)
+        ensures { self.new ≡ record self.old { asserted = [] } }
+    {
+        self.asserted = IndexMap::new(self.alloc);
+    }
+
     /// The clause of the live assertion at a place, whose term it is. The lines that it lacks are put: those of the
     /// regex, that of the atom, and its own. None where the term has no literal; no clause is put then.
     ///
@@ -127,7 +135,10 @@ impl Evidence {
         ensures literal { asserted_at self.old.asserted place ≡ None → IfOk result (λ found.
             option_map (λ a. a.literal) found
             ≡ brought_translation (atoms_in arena.new self.new.atoms) (term_at table.now term)) }
+        ensures none { IfOk result (λ found. found ≡ None → HasNoLiteral (term_at table.now term)) }
         ensures stays { KeepsAsserted self.old self.new }
+        ensures others { OnOk result ((other : ℕ) → other ≢ place
+            → asserted_at self.new.asserted other ≡ asserted_at self.old.asserted other) }
         ensures numbers_stay { StaysNumbered self.old.trace self.new.trace }
         ensures extends { Extends self.old.atoms self.new.atoms }
         ensures regexes { HaveRegexesBelow (length arena.new) self.new.atoms }

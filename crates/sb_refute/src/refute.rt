@@ -4,6 +4,7 @@ ghost use Rattle.std.specs.Prelude.{◌≡◌, ◌<◌, ℕ, true, false, List, 
 ghost use Rattle.std.specs.List.{list_all};
 ghost use Rattle.sb_lang.specs.Regex.{Regex};
 ghost use Rattle.sb_lang.specs.Language.{language};
+ghost use Rattle.sb_lang.specs.Least.{HasNoWord};
 ghost use Rattle.sb_regex.specs.Numbered.{Extends, regex_at};
 ghost use Rattle.sb_deriv.specs.Faithful.{Memo, KeepsEntries};
 ghost use Rattle.sb_graph.specs.Findings.{IsGraph, KeepsMarks};
@@ -219,7 +220,7 @@ fn show_dead<L: Tape>(
 ) -> Result<bool, TapeFault>
     requires known { regex < length arena.old }
     requires graph { IsGraph arena.old graph.old }
-    requires no_word { (w : List ℕ) → language (regex_at arena.old regex) w ≡ false }
+    requires no_word { HasNoWord (language (regex_at arena.old regex)) }
     ensures puts { OnOk result ((asked : Asked) (before : AllKept)
         → Tracks arena.old graph.old.memo trace.old before → IsCounted asked before budget.old
         → Traces asked before arena.new graph.new.memo trace.new budget.new (L.Tape.told tape.old)

@@ -5,7 +5,7 @@ use Rattle.sb_atoms.specs.Numbered.{atoms_in}
 use Rattle.sb_atoms.specs.Translated.{brought_translation, IsAdded}
 use Rattle.sb_refute.specs.Backing.{Backing, Backs, EvidencesUncounted, asserted_at}
 use Rattle.sb_refute.proofs.Backs.{backs-more}
-use Rattle.sb_refute.proofs.Places.{inserted-there}
+use Rattle.sb_refute.proofs.Places.{inserted-there, inserted-others}
 use Rattle.sb_refute.proofs.Asserting.{brings-atom, is-assertion, of-more-atoms, nothing-put, both-put}
 use Rattle.sb_refute.proofs.evidence.Evidence.assertion.Goals as goal
 
@@ -71,3 +71,10 @@ returns-clause-puts g c = λ asked memo before b live.
     (is-assertion asked more memo mid after c.args.place t l live
     (subst (λ (f : Backing). Some l ≡ brought_translation (atoms_in more f.atoms) t)
     (sym c.in_ok-define.ensures.others) literal) then))
+
+pub returns-clause-others : goal.returns-clause-others
+returns-clause-others g c = λ other apart.
+    ap (λ es. asserted_at es other) c.in_ok-claim.ensures.asserted
+    ∙ (inserted-others c.define.new.self.asserted c.args.place c.in_ok-claim.field-0 other apart
+    ∙ (ap (λ (f : Backing). asserted_at f.asserted other) c.in_ok-define.ensures.others
+    ∙ ap (λ (f : Backing). asserted_at f.asserted other) c.self.view_is))
