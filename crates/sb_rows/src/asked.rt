@@ -7,6 +7,11 @@ use std::alloc::{AllocError, Global};
 use std::process::Abort;
 use std::test::Fail;
 
+/// The proof of a script without a check, and that of the one in `a.smt2`.
+const NO_CHECK: &[u8] = b"strproof 1\nend\n";
+
+const ONE_CHECK: &[u8] = b"strproof 1\nv sat w61\nend\n";
+
 /// Standard input holds a script that ends within a form, and the file `a.smt2` one that is answered.
 const UNFINISHED: &[u8] = b"(error \"unexpected end of input\")\n";
 
@@ -18,23 +23,40 @@ enum Ports {
     ScriptAndProof,
 }
 
-/// The words, the number of the call that fails or 0, and what comes of it.
+/// The words, the number of the call that fails or 0, and what comes of it: the status, the answers, the proof, and what
+/// is opened and created.
 type Row = (
     &'static [&'static str],
     u64,
     SolveStatus,
     &'static [u8],
+    &'static [u8],
     Ports,
 );
 
 const ROWS: [Row; 8] = [
-    (&[], 0, SolveStatus::Unfinished, UNFINISHED, Ports::Script),
-    (&["a.smt2"], 0, SolveStatus::Done, ANSWERS, Ports::Script),
+    (
+        &[],
+        0,
+        SolveStatus::Unfinished,
+        UNFINISHED,
+        b"",
+        Ports::Script,
+    ),
+    (
+        &["a.smt2"],
+        0,
+        SolveStatus::Done,
+        ANSWERS,
+        b"",
+        Ports::Script,
+    ),
     (
         &["--proof", "p"],
         0,
         SolveStatus::Unfinished,
         UNFINISHED,
+        NO_CHECK,
         Ports::ScriptAndProof,
     ),
     (
@@ -42,13 +64,15 @@ const ROWS: [Row; 8] = [
         0,
         SolveStatus::Done,
         ANSWERS,
+        ONE_CHECK,
         Ports::ScriptAndProof,
     ),
-    (&["b.smt2"], 0, SolveStatus::Fault, b"", Ports::Nothing),
+    (&["b.smt2"], 0, SolveStatus::Fault, b"", b"", Ports::Nothing),
     (
         &["--proof", "p", "b.smt2"],
         0,
         SolveStatus::Fault,
+        b"",
         b"",
         Ports::Nothing,
     ),
@@ -57,9 +81,10 @@ const ROWS: [Row; 8] = [
         2,
         SolveStatus::Fault,
         b"",
+        b"",
         Ports::Script,
     ),
-    (&["--help"], 1, SolveStatus::Fault, b"", Ports::Nothing),
+    (&["--help"], 1, SolveStatus::Fault, b"", b"", Ports::Nothing),
 ];
 
 /// Words that are not taken.
@@ -96,9 +121,9 @@ fn touched(world: &MemWorld) -> Ports {
     }
 }
 
-fn expect_ports(world: &MemWorld, rt: &impl Abort, answers: &[u8], wanted: Ports) {
+fn expect_ports(world: &MemWorld, rt: &impl Abort, answers: &[u8], proof: &[u8], wanted: Ports) {
     assert_eq!(rt; world.written(OutPort::Answers), answers);
-    assert_eq!(rt; world.written(OutPort::Proof).len(), 0);
+    assert_eq!(rt; world.written(OutPort::Proof), proof);
     assert_eq!(rt; touched(world), wanted);
 }
 
@@ -108,11 +133,11 @@ fn expect_row(
     alloc: Global,
     row: Row,
 ) -> Result<(), AllocError> {
-    let (behind, fails, wanted, answers, opened) = row;
+    let (behind, fails, wanted, answers, proof, opened) = row;
     let status = run(world, alloc, behind, fails)?;
     assert_eq!(rt; status, wanted);
     assert_eq!(rt; world.written(OutPort::Faults).len(), 0);
-    expect_ports(world, rt, answers, opened);
+    expect_ports(world, rt, answers, proof, opened);
     Ok(())
 }
 
@@ -126,7 +151,7 @@ fn expect_refusal(
     assert_eq!(rt; status, SolveStatus::Usage);
     assert!(rt; !world.written(OutPort::Faults).is_empty());
     assert_eq!(rt; world.calls(), 1);
-    expect_ports(world, rt, b"", Ports::Nothing);
+    expect_ports(world, rt, b"", b"", Ports::Nothing);
     Ok(())
 }
 

@@ -18,6 +18,8 @@ mod faults;
 #[cfg(test)]
 mod pieces;
 #[cfg(test)]
+mod proofs;
+#[cfg(test)]
 mod regexes;
 #[cfg(test)]
 mod runs;

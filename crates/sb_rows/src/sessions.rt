@@ -37,6 +37,6 @@ fn an_exit_ends_the_session(rt: HostRuntime) -> Result<(), Fail> {
     let mut world = MemWorld::new(alloc);
     let mut feed = Feed::new(alloc);
     feed.push(b"(set-logic QF_S) (exit) (check-sat)")?;
-    answers_three(&mut feed, &mut Session::new(alloc), &mut world, &rt);
+    answers_three(&mut feed, &mut Session::new(alloc, false), &mut world, &rt);
     Ok(())
 }

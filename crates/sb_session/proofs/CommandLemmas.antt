@@ -1,5 +1,5 @@
 -- What the steps of the state make of an entry that is answered.
-use Rattle.std.proofs.Common.{◌≡◌, ℕ, ◌<◌, Bool, true, false, if◌then◌else◌, List, [], ◌∷◌, length, take, Option, None, Some, refl, sym, ap, ◌∙◌, inr, subst}
+use Rattle.std.proofs.Common.{◌≡◌, ◌⊎◌, ℕ, ◌<◌, Bool, true, false, if◌then◌else◌, List, [], ◌∷◌, length, take, Option, None, Some, refl, sym, ap, ◌∙◌, inl, inr, subst}
 use Rattle.std.specs.declared.vec.Vec.{Vec}
 use Rattle.std.specs.declared.alloc.Global.{Global}
 use Rattle.sb_world.specs.Outside.{Outside, write_at}
@@ -8,32 +8,47 @@ use Rattle.sb_reader.specs.Entries.{Entry}
 use Rattle.sb_script.specs.State.{State}
 use Rattle.sb_script.specs.Steps as meaning
 use Rattle.sb_script.specs.Replies.{step_of}
-use Rattle.sb_script.specs.Verdicts.{Verdict, IsVerdict, verdict_text, settled, FindsUnproved, IsReply}
+use Rattle.sb_script.specs.Verdicts.{Verdict, verdict_text, settled, Finding, FindsUnproved, IsReply}
+use Rattle.sb_rulebook.specs.Accepted.{events_of}
+use Rattle.sb_rulebook.specs.Judging.{Event, Progress}
+use Rattle.sb_certified.specs.Certified.{behind, FindsProved}
+use Rattle.sb_certified.proofs.CallerLemmas.{is_exits, entry_exits}
 use Rattle.sb_stack.specs.declared.stack.Step.TheVariants as code
-use Rattle.sb_stack.specs.declared.verdict.Verdict as found
-use Rattle.sb_stack.specs.declared.verdict.Verdict.TheVariants as verdict
-use Rattle.sb_stack.specs.Steps.{IsStep, verdict_in}
-use Rattle.sb_decide.specs.declared.decide.Decider.{Decider}
-use Rattle.sb_decide.specs.Knowing.{IsDecision}
+use Rattle.sb_stack.specs.Stacked.{state_of}
+use Rattle.sb_stack.specs.Steps.{IsStep}
 use Rattle.sb_session.specs.declared.command.Went.{Went}
 use Rattle.sb_session.specs.declared.command.Went.TheVariants.{Go, Exited}
-use Rattle.sb_session.specs.Commanding.{Answers, AnswersEntry, CutOrNot, went_of}
-use Rattle.sb_session.proofs.ExitFacts.{is_exits, entry_exits}
+use Rattle.sb_session.specs.Commanding.{SessionState, is_proved, IsTracked, Answering, Answers, AnswersEntry, CutReply, CutOrNot, went_of}
+use Rattle.sb_session.specs.Checking.{Finds, AnswersCheck, CutCheck}
 use Rattle.sb_session.proofs.WritingLemmas.{one_written, one_cut}
 
 abbrev pub went_by : Bool → Went
 went_by ends = if ends then Exited else Go
 
--- a reply, whether it ends the run, and the state after it
+-- the reply of a step that is no check
+abbrev pub IsQuietReply : meaning.Step → State → List ℕ → State → Type 0
+IsQuietReply (meaning.answers bytes new) s text after = (text ≡ bytes) × (after ≡ new)
+IsQuietReply (meaning.leaves what bytes new) s text after = ⊥
+IsQuietReply (meaning.checks given) s text after = ⊥
+IsQuietReply (meaning.exits bytes) s text after = (text ≡ bytes) × (after ≡ s)
+
+is_reply : (Finds : Finding) (step : meaning.Step) (s : State) (text : List ℕ) (after : State)
+    → IsQuietReply step s text after → IsReply Finds step s [] None text after
+is_reply Finds (meaning.answers bytes new) s text after h = (refl, refl, h.0, h.1)
+is_reply Finds (meaning.leaves what bytes new) s text after h = absurd h
+is_reply Finds (meaning.checks given) s text after h = absurd h
+is_reply Finds (meaning.exits bytes) s text after h = (refl, refl, h.0, h.1)
+
+-- a reply of an entry that is no check, whether it ends the run, and the state after it
 pub record Replied (step : meaning.Step) (ends : Bool) (text : List ℕ) (s after : State) : Type 0 where
   pub ends_run : is_exits step ≡ ends
-  pub found : Option Verdict
-  pub reply : IsReply FindsUnproved step s [] found text after
+  pub reply : IsQuietReply step s text after
+  pub quiet : events_of step s ≡ []
 
 pub by_answer : (step : meaning.Step) (text : Vec ℕ Global) (s after : State) → IsStep step (code.Answer text) s after
     → Replied step false text.items s after
 by_answer (meaning.answers bytes t) text s after h =
-    record { ends_run = refl; found = None; reply = (refl, refl, h.0, h.1) }
+    record { ends_run = refl; reply = (h.0, h.1); quiet = refl }
 by_answer (meaning.leaves what bytes t) text s after h = absurd h
 by_answer (meaning.checks []) text s after h = absurd h
 by_answer (meaning.checks (a ∷ given)) text s after h = absurd h
@@ -46,61 +61,165 @@ by_exit (meaning.leaves what bytes t) text s after h = absurd h
 by_exit (meaning.checks []) text s after h = absurd h
 by_exit (meaning.checks (a ∷ given)) text s after h = absurd h
 by_exit (meaning.exits bytes) text s after h =
-    record { ends_run = refl; found = None; reply = (refl, refl, h.0, h.1) }
+    record { ends_run = refl; reply = (h.0, h.1); quiet = refl }
 
--- each check that is decided is decided
-finds : (v : found.Verdict) (kept : Decider) (s : State) → IsDecision v kept → IsVerdict s [] (verdict_in v)
-    → FindsUnproved s [] [] (verdict_in v)
-finds (verdict.Sat words) kept s decided is = (refl, is)
-finds verdict.Unsat kept s decided is = (refl, is)
-finds verdict.Unknown kept s decided is = absurd decided
-finds verdict.Outside kept s decided is = (refl, is)
+-- the step of a check, which has no assumptions
+pub by_check : (step : meaning.Step) (s same : State) → IsStep step code.Check s same
+    → (step ≡ meaning.checks []) × (same ≡ s)
+by_check (meaning.answers bytes t) s same h = absurd h
+by_check (meaning.leaves what bytes t) s same h = absurd h
+by_check (meaning.checks []) s same h = (refl, h)
+by_check (meaning.checks (a ∷ given)) s same h = absurd h
+by_check (meaning.exits bytes) s same h = absurd h
 
-pub by_check : (step : meaning.Step) (v : found.Verdict) (kept : Decider) (text : List ℕ) (s same after : State)
-    → IsStep step code.Check s same → IsDecision v kept → IsVerdict same [] (verdict_in v)
-    → text ≡ verdict_text (verdict_in v) → after ≡ settled (verdict_in v) same → Replied step false text s after
-by_check (meaning.answers bytes t) v kept text s same after h decided is reply state = absurd h
-by_check (meaning.leaves what bytes t) v kept text s same after h decided is reply state = absurd h
-by_check (meaning.checks []) v kept text s same after h decided is reply state = record {
-  ends_run = refl;
-  found = Some (verdict_in v);
-  reply = (
-    verdict_in v,
-    finds v kept s decided (subst (λ (t : State). IsVerdict t [] (verdict_in v)) h is),
-    refl,
-    reply,
-    state ∙ ap (settled (verdict_in v)) h,
-  );
+-- An entry that is no check.
+
+answering_by : (proved : Bool) (entry : Entry) (ends : Bool) (text : List ℕ) (s after : State) (p : Progress)
+    → Replied (step_of entry s) ends text s after → Answering proved (s, p) entry [] text None (after, p)
+answering_by true entry ends text s after p h = record {
+  replies = is_reply (FindsProved p p) (step_of entry s) s text after h.reply;
+  keeps = sym (ap (λ (es : List Event). behind es p) h.quiet);
 }
-by_check (meaning.checks (a ∷ given)) v kept text s same after h decided is reply state = absurd h
-by_check (meaning.exits bytes) v kept text s same after h decided is reply state = absurd h
+answering_by false entry ends text s after p h =
+    (is_reply FindsUnproved (step_of entry s) s text after h.reply, refl)
 
-answers_by : (entry : Entry) (ends : Bool) (text : List ℕ) (s after : State)
-    → Replied (step_of entry s) ends text s after → Answers s entry ((out_port.Answers, text) ∷ []) after
-answers_by entry ends text s after h =
-    record { reply = text; found = h.found; replies = h.reply; written = refl }
+answers_by : (proved : Bool) (entry : Entry) (ends : Bool) (text : List ℕ) (s after : State) (p : Progress)
+    → Replied (step_of entry s) ends text s after
+    → Answers proved (s, p) entry ((out_port.Answers, text) ∷ []) (after, p)
+answers_by proved entry ends text s after p h =
+    record { lines = []; reply = text; found = None; answered = answering_by proved entry ends text s after p h; written = refl }
 
 -- an entry that is answered whole
-pub whole_reply : (entry : Entry) (ends : Bool) (text : List ℕ) (s after : State) (old new : Outside)
-    → Replied (step_of entry s) ends text s after → new ≡ write_at out_port.Answers text old
-    → (went_by ends ≡ went_of entry) × AnswersEntry entry s after old new
-whole_reply entry ends text s after old new h e = (
-  ap went_by (sym h.ends_run ∙ entry_exits entry s),
-  record {
+pub whole_reply : (entry : Entry) (ends : Bool) (text : List ℕ) (session after : SessionState) (old new : Outside)
+    → ((p : Progress) → IsTracked session p → IsTracked after p)
+    → Replied (step_of entry (state_of session.stack)) ends text (state_of session.stack) (state_of after.stack)
+    → new ≡ write_at out_port.Answers text old
+    → (went_by ends ≡ went_of entry) × AnswersEntry entry session after old new
+whole_reply entry ends text session after old new stays h e = (
+  ap went_by (sym h.ends_run ∙ entry_exits entry (state_of session.stack)),
+  λ p tracked. record {
     writes = (out_port.Answers, text) ∷ [];
-    answers = answers_by entry ends text s after h;
+    progress = p;
+    answers = answers_by (is_proved session) entry ends text (state_of session.stack) (state_of after.stack) p h;
+    tracked = stays p tracked;
     outside = one_written out_port.Answers text old new e;
   },
 )
 
 -- an entry whose answer is cut
-pub cut_reply : (entry : Entry) (ends : Bool) (text : List ℕ) (s after : State) (old new : Outside)
-    → Replied (step_of entry s) ends text s after
+pub cut_reply : (entry : Entry) (ends : Bool) (text : List ℕ) (session : SessionState) (after : State)
+    (old new : Outside)
+    → Replied (step_of entry (state_of session.stack)) ends text (state_of session.stack) after
     → ((out : ℕ) × (out < length text) × (new ≡ write_at out_port.Answers (take out text) old))
-    → CutOrNot entry s old new
-cut_reply entry ends text s after old new h cut = inr (record {
+    → CutOrNot entry session old new
+cut_reply entry ends text session after old new h cut p tracked = inr (record {
   writes = (out_port.Answers, text) ∷ [];
-  after = after;
-  answers = answers_by entry ends text s after h;
+  after = (after, p);
+  answers = answers_by (is_proved session) entry ends text (state_of session.stack) after p h;
   cut = one_cut out_port.Answers text old new cut;
 })
+
+-- A check.
+
+answering_check : (proved : Bool) (entry : Entry) (s : State) (p q : Progress) (lines : List ℕ) (v : Verdict)
+    (after : State) → step_of entry s ≡ meaning.checks [] → Finds proved p q s lines v → after ≡ settled v s
+    → Answering proved (s, p) entry lines (verdict_text v) (Some v) (after, q)
+answering_check true entry s p q lines v after step finds state = record {
+  replies = subst (λ (t : meaning.Step). IsReply (FindsProved p q) t s lines (Some v) (verdict_text v) after) (sym step)
+      (v, finds, refl, refl, state);
+  keeps = tt;
+}
+answering_check false entry s p q lines v after step finds state = (
+  subst (λ (t : meaning.Step). IsReply FindsUnproved t s lines (Some v) (verdict_text v) after) (sym step)
+      (v, finds.0, refl, refl, state),
+  finds.1,
+)
+
+check_exits : (entry : Entry) (s : State) → step_of entry s ≡ meaning.checks [] → Go ≡ went_of entry
+check_exits entry s step = ap went_by (sym (ap is_exits step) ∙ entry_exits entry s)
+
+-- the state that is checked is the one before
+pub check_replies : (entry : Entry) (session before after : SessionState) (old new : Outside)
+    → IsStep (step_of entry (state_of session.stack)) code.Check (state_of session.stack) (state_of before.stack)
+    → is_proved before ≡ is_proved session
+    → ((p : Progress) → IsTracked session p → IsTracked before p)
+    → ((p : Progress) → IsTracked before p → AnswersCheck p before after old new)
+    → (Go ≡ went_of entry) × AnswersEntry entry session after old new
+check_replies entry session before after old new is kind stays answers =
+    let step = by_check (step_of entry (state_of session.stack)) (state_of session.stack) (state_of before.stack) is in (
+      check_exits entry (state_of session.stack) step.0,
+      λ p tracked.
+          let h = answers p (stays p tracked) in
+          record {
+            writes = _;
+            progress = h.progress;
+            answers = record {
+              lines = h.lines;
+              reply = verdict_text h.v;
+              found = Some h.v;
+              answered = answering_check (is_proved session) entry (state_of session.stack) p h.progress h.lines h.v
+                  (state_of after.stack) step.0
+                  (subst (λ (b : Bool). Finds b p h.progress (state_of session.stack) h.lines h.v) kind
+                  (subst (λ (s : State). Finds (is_proved before) p h.progress s h.lines h.v) step.1 h.finds))
+                  (h.state ∙ ap (settled h.v) step.1);
+              written = refl;
+            };
+            tracked = h.tracked;
+            outside = h.outside;
+          },
+    )
+
+-- a check whose proof or answer is cut
+pub cut_check_reply : (entry : Entry) (session before : SessionState) (old new : Outside)
+    → IsStep (step_of entry (state_of session.stack)) code.Check (state_of session.stack) (state_of before.stack)
+    → is_proved before ≡ is_proved session
+    → ((p : Progress) → IsTracked session p → IsTracked before p)
+    → ((p : Progress) → IsTracked before p → (new ≡ old) ⊎ CutCheck p before old new)
+    → CutOrNot entry session old new
+cut_check_reply entry session before old new is kind stays cuts p tracked = by_cut (cuts p (stays p tracked))
+  where
+    by_cut : (new ≡ old) ⊎ CutCheck p before old new → (new ≡ old) ⊎ CutReply p entry session old new
+    by_cut (inl same) = inl same
+    by_cut (inr h) =
+        let step = by_check (step_of entry (state_of session.stack)) (state_of session.stack) (state_of before.stack)
+        is in
+        inr (record {
+          writes = _;
+          after = (settled h.v (state_of session.stack), h.progress);
+          answers = record {
+            lines = h.lines;
+            reply = verdict_text h.v;
+            found = Some h.v;
+            answered = answering_check (is_proved session) entry (state_of session.stack) p h.progress h.lines h.v
+                (settled h.v (state_of session.stack)) step.0
+                (subst (λ (b : Bool). Finds b p h.progress (state_of session.stack) h.lines h.v) kind
+                (subst (λ (s : State). Finds (is_proved before) p h.progress s h.lines h.v) step.1 h.finds))
+                refl;
+            written = refl;
+          };
+          cut = h.cut;
+        })
+
+-- Whether the session has ended plays no part in what an entry has for an answer.
+
+pub answers_regardless : (entry : Entry) (session after : SessionState) (e f : Bool) (old new : Outside)
+    → AnswersEntry entry session after old new
+    → AnswersEntry entry (record session { ended = e }) (record after { ended = f }) old new
+answers_regardless entry session after e f old new h p tracked =
+    let a = h p tracked in
+    record {
+      writes = a.writes;
+      progress = a.progress;
+      answers = a.answers;
+      tracked = a.tracked;
+      outside = a.outside;
+    }
+
+pub cut_regardless : (entry : Entry) (session : SessionState) (e : Bool) (old new : Outside)
+    → CutOrNot entry session old new → CutOrNot entry (record session { ended = e }) old new
+cut_regardless entry session e old new h p tracked = by_cut (h p tracked)
+  where
+    by_cut : (new ≡ old) ⊎ CutReply p entry session old new
+        → (new ≡ old) ⊎ CutReply p entry (record session { ended = e }) old new
+    by_cut (inl same) = inl same
+    by_cut (inr cut) = inr (record { writes = cut.writes; after = cut.after; answers = cut.answers; cut = cut.cut })

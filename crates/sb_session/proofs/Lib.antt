@@ -1,5 +1,5 @@
-pub mod ExitFacts
 pub mod WritingLemmas
+pub mod CheckLemmas
 pub mod CommandLemmas
 pub mod ReadingLemmas
 pub mod TurnLemmas
@@ -7,3 +7,4 @@ pub mod PieceLemmas
 pub mod EndLemmas
 pub mod ScriptLemmas
 pub mod SolveLemmas
+pub mod CertifyingLemmas

@@ -1,5 +1,5 @@
 -- Reading on and answering on: what each step makes of what was read and answered.
-use Rattle.std.proofs.Common.{◌≡◌, ℕ, Bool, true, false, List, [], ◌∷◌, ◌++◌, length, append_assoc, refl, sym, ap, ◌∙◌, inl, inr, subst}
+use Rattle.std.proofs.Common.{◌≡◌, ◌⊎◌, ℕ, Bool, true, false, if◌then◌else◌, List, [], ◌∷◌, ◌++◌, length, append_assoc, refl, sym, ap, ◌∙◌, inl, inr, subst}
 use Rattle.std.proofs.lemmas.List.{append-nil}
 use Rattle.sb_world.specs.Outside.{Outside}
 use Rattle.sb_reader.specs.declared.feed.Ending.{Ending}
@@ -9,16 +9,15 @@ use Rattle.sb_reader.specs.Entries.{Entry, HoldsNoEntry, Begins}
 use Rattle.sb_reader.specs.Feeding as feed
 use Rattle.sb_reader.specs.Feeding.{Takes, Waits, Ends}
 use Rattle.sb_reader.proofs.CallerLemmas.{shortens_to_itself, shortens_twice, same_entry, beginning_grows}
-use Rattle.sb_script.specs.State.{State}
-use Rattle.sb_script.specs.State as meaning
+use Rattle.sb_rulebook.specs.Judging.{Progress}
 use Rattle.sb_script.specs.Replies.{is_exit}
 use Rattle.sb_script.specs.Scripts.{Along}
 use Rattle.sb_stack.specs.Stacked.{state_of}
-use Rattle.sb_session.specs.Commanding.{SessionState, AnswersEntry, CutOrNot}
+use Rattle.sb_session.specs.Commanding.{SessionState, Stage, is_proved, IsTracked, Answers, AnswersEntry, CutReply, CutOrNot}
 use Rattle.sb_session.specs.Progress.{Sofar}
-use Rattle.sb_session.specs.Reading.{GoesOn, Answered, UpToExit, CutBetween, Cut}
+use Rattle.sb_session.specs.Reading.{GoesOn, beginnings, Answered, UpToExit, CutBetween, NextAnswer, Cut, end_writes}
 use Rattle.sb_session.specs.Pausing.{NoneLeft, is_clean}
-use Rattle.sb_session.proofs.WritingLemmas.{writes_on}
+use Rattle.sb_session.proofs.WritingLemmas.{writes_on, front-longer}
 
 -- one step more
 along_grows : {S W : Type 0} (R : S → Entry → List W → S → Type 0) (s : S) (entries : List Entry) (writes : List W)
@@ -42,7 +41,7 @@ along_grows {S = S} {W = W} R s (first ∷ entries) writes t entry own after h s
 )
 
 -- the entries with the next one
-begins_on : (opened : Outside) (bytes : List ℕ) (entry : Entry) (old new : feed.Unanswered) (s : State)
+begins_on : (opened : Outside) (bytes : List ℕ) (entry : Entry) (old new : feed.Unanswered) (s : SessionState)
     (before : Outside)
     (sofar : Sofar opened bytes old s before) → Takes entry old new
     → Begins old.1 bytes (sofar.entries ++ entry ∷ []) new.0
@@ -52,79 +51,110 @@ begins_on opened bytes entry old new s before sofar takes =
     (subst (λ (left : List ℕ). Begins old.1 bytes sofar.entries left) whole.1 sofar.answered.begins) whole.2
 
 -- one more entry is answered
-pub answer_on : (opened : Outside) (bytes : List ℕ) (entry : Entry) (old new : feed.Unanswered) (s after : State)
-    (before now : Outside) → is_exit entry ≡ false → Takes entry old new
+pub answer_on : (opened : Outside) (bytes : List ℕ) (entry : Entry) (old new : feed.Unanswered)
+    (s after : SessionState) (before now : Outside) → is_exit entry ≡ false → is_proved after ≡ is_proved s
+    → Takes entry old new
     → AnswersEntry entry s after before now → Sofar opened bytes old s before → Sofar opened bytes new after now
-answer_on opened bytes entry old new s after before now goes takes answers sofar = record {
-  entries = sofar.entries ++ entry ∷ [];
-  writes = sofar.writes ++ answers.writes;
-  left = new.0;
-  shorter = shortens_to_itself new.0;
-  answered = record {
-    begins = subst (λ (ended : Bool). Begins ended bytes (sofar.entries ++ entry ∷ []) new.0) (sym takes.2)
-        (begins_on opened bytes entry old new s before sofar takes);
-    along = along_grows GoesOn meaning.start sofar.entries sofar.writes s entry answers.writes after
-        sofar.answered.along (goes, answers.answers);
-  };
-  outside = writes_on opened before now (length bytes) sofar.writes answers.writes sofar.outside answers.outside;
-}
+answer_on opened bytes entry old new s after before now goes kind takes answering sofar =
+    let answers = answering sofar.progress sofar.tracked in
+    record {
+      entries = sofar.entries ++ entry ∷ [];
+      writes = sofar.writes ++ answers.writes;
+      left = new.0;
+      shorter = shortens_to_itself new.0;
+      progress = answers.progress;
+      tracked = answers.tracked;
+      answered = record {
+        begins = subst (λ (ended : Bool). Begins ended bytes (sofar.entries ++ entry ∷ []) new.0) (sym takes.2)
+            (begins_on opened bytes entry old new s before sofar takes);
+        along = subst (λ (proved : Bool). Along (GoesOn proved) beginnings (sofar.entries ++ entry ∷ [])
+            (sofar.writes ++ answers.writes) (state_of after.stack, answers.progress)) (sym kind)
+            (along_grows (GoesOn (is_proved s)) beginnings sofar.entries sofar.writes
+            (state_of s.stack, sofar.progress) entry answers.writes (state_of after.stack, answers.progress)
+            sofar.answered.along (goes, answers.answers));
+      };
+      outside = writes_on opened before now (length bytes) sofar.writes answers.writes sofar.outside answers.outside;
+    }
 
 -- (exit) is answered
-pub answer_exit : (opened : Outside) (bytes : List ℕ) (entry : Entry) (old new : feed.Unanswered) (s after : State)
-    (before now : Outside) → is_exit entry ≡ true → Takes entry old new
-    → AnswersEntry entry s after before now → Sofar opened bytes old s before → UpToExit opened bytes new.1 now
-answer_exit opened bytes entry old new s after before now exits takes answers sofar = record {
-  entries = sofar.entries;
-  exit = entry;
-  left = new.0;
-  writes = sofar.writes;
-  s = s;
-  own = answers.writes;
-  after = after;
-  begins = subst (λ (ended : Bool). Begins ended bytes (sofar.entries ++ entry ∷ []) new.0) (sym takes.2)
-      (begins_on opened bytes entry old new s before sofar takes);
-  along = sofar.answered.along;
-  is_exit = exits;
-  answers = answers.answers;
-  outside = writes_on opened before now (length bytes) sofar.writes answers.writes sofar.outside answers.outside;
-}
+pub answer_exit : (opened : Outside) (bytes : List ℕ) (entry : Entry) (old new : feed.Unanswered)
+    (s after : SessionState) (before now : Outside) → is_exit entry ≡ true → is_proved after ≡ is_proved s
+    → Takes entry old new
+    → AnswersEntry entry s after before now → Sofar opened bytes old s before
+    → (up : UpToExit (is_proved after) opened bytes new.1 now) × IsTracked after up.after.1
+answer_exit opened bytes entry old new s after before now exits kind takes answering sofar =
+    let answers = answering sofar.progress sofar.tracked in (
+      record {
+        entries = sofar.entries;
+        exit = entry;
+        left = new.0;
+        writes = sofar.writes;
+        s = (state_of s.stack, sofar.progress);
+        own = answers.writes;
+        after = (state_of after.stack, answers.progress);
+        begins = subst (λ (ended : Bool). Begins ended bytes (sofar.entries ++ entry ∷ []) new.0) (sym takes.2)
+            (begins_on opened bytes entry old new s before sofar takes);
+        along = subst (λ (proved : Bool). Along (GoesOn proved) beginnings sofar.entries sofar.writes
+            (state_of s.stack, sofar.progress)) (sym kind) sofar.answered.along;
+        is_exit = exits;
+        answers = subst (λ (proved : Bool). Answers proved (state_of s.stack, sofar.progress) entry answers.writes
+            (state_of after.stack, answers.progress)) (sym kind) answers.answers;
+        outside = writes_on opened before now (length bytes) sofar.writes answers.writes sofar.outside answers.outside;
+      },
+      answers.tracked,
+    )
 
 -- the run is cut short between two entries
-pub cut_between : (opened : Outside) (bytes : List ℕ) (kept : feed.Unanswered) (s : State) (now : Outside)
-    → Sofar opened bytes kept s now → CutBetween opened bytes kept.1 now
+pub cut_between : (opened : Outside) (bytes : List ℕ) (kept : feed.Unanswered) (s : SessionState) (now : Outside)
+    → Sofar opened bytes kept s now → CutBetween (is_proved s) opened bytes kept.1 now
 cut_between opened bytes kept s now sofar = record {
   entries = sofar.entries;
   left = sofar.left;
   writes = sofar.writes;
-  s = s;
+  s = (state_of s.stack, sofar.progress);
   answered = sofar.answered;
   outside = sofar.outside;
 }
 
 -- the run is cut short at an entry
-pub cut_answer : (opened : Outside) (bytes : List ℕ) (entry : Entry) (old new : feed.Unanswered) (s : State)
-    (before now : Outside) → Takes entry old new
-    → CutOrNot entry s before now → Sofar opened bytes old s before → Cut opened bytes old.1 now
-cut_answer opened bytes entry old new s before now takes (inl same) sofar =
+cut_at : (opened : Outside) (bytes : List ℕ) (entry : Entry) (old new : feed.Unanswered) (s : SessionState)
+    (before now : Outside) → Takes entry old new → (sofar : Sofar opened bytes old s before)
+    → (now ≡ before) ⊎ CutReply sofar.progress entry s before now → Cut (is_proved s) opened bytes old.1 now
+cut_at opened bytes entry old new s before now takes sofar (inl same) =
     inl (cut_between opened bytes old s now (subst (λ (o : Outside). Sofar opened bytes old s o) (sym same) sofar))
-cut_answer opened bytes entry old new s before now takes (inr cut) sofar = inr (record {
+cut_at opened bytes entry old new s before now takes sofar (inr cut) = inr (record {
   entries = sofar.entries;
   left = sofar.left;
   writes = sofar.writes;
-  s = s;
+  s = (state_of s.stack, sofar.progress);
   answered = sofar.answered;
-  own = cut.writes;
-  next = inl (entry, new.0, cut.after, begins_on opened bytes entry old new s before sofar takes, cut.answers);
+  own = cut.writes ++ (if is_exit entry then end_writes (is_proved s) cut.after.1 else []);
+  next = inl (record {
+    next = entry;
+    behind = new.0;
+    after = cut.after;
+    answer = cut.writes;
+    begins = begins_on opened bytes entry old new s before sofar takes;
+    answers = cut.answers;
+    all = refl;
+  });
   front = cut.cut.0;
-  proper = cut.cut.1;
+  proper = front-longer cut.cut.0 cut.writes (if is_exit entry then end_writes (is_proved s) cut.after.1 else [])
+      cut.cut.1;
   outside = writes_on opened before now (length bytes) sofar.writes cut.cut.0 sofar.outside cut.cut.2;
 })
+
+pub cut_answer : (opened : Outside) (bytes : List ℕ) (entry : Entry) (old new : feed.Unanswered) (s : SessionState)
+    (before now : Outside) → Takes entry old new
+    → CutOrNot entry s before now → Sofar opened bytes old s before → Cut (is_proved s) opened bytes old.1 now
+cut_answer opened bytes entry old new s before now takes cut sofar =
+    cut_at opened bytes entry old new s before now takes sofar (cut sofar.progress sofar.tracked)
 
 -- no entry is whole, and white space and comments are taken
 pub wait_on : (opened : Outside) (bytes : List ℕ) (old new : feed.Unanswered) (session : SessionState) (now : Outside)
     → Waits old new
     → session.ended ≡ false
-    → Sofar opened bytes old (state_of session.stack) now → (new.1 ≡ false) × NoneLeft opened bytes new session now
+    → Sofar opened bytes old session now → (new.1 ≡ false) × NoneLeft opened bytes new session now
 wait_on opened bytes old new session now waits going sofar = (
   waits.still,
   record {
@@ -133,8 +163,11 @@ wait_on opened bytes old new session now waits going sofar = (
       writes = sofar.writes;
       left = sofar.left;
       shorter = shortens_twice sofar.left old.0 new.0 sofar.shorter waits.shorter;
+      progress = sofar.progress;
+      tracked = sofar.tracked;
       answered = subst
-          (λ (ended : Bool). Answered bytes ended sofar.entries sofar.left sofar.writes (state_of session.stack))
+          (λ (ended : Bool). Answered (is_proved session) bytes ended sofar.entries sofar.left sofar.writes
+          (state_of session.stack, sofar.progress))
           (waits.more_may_come ∙ sym waits.still) sofar.answered;
       outside = sofar.outside;
     };
@@ -150,9 +183,9 @@ open_gap_is_none ended bytes h =
 none_left : (opened : Outside) (bytes : List ℕ) (old new : feed.Unanswered) (session : SessionState) (now : Outside)
     → old.1 ≡ true
     → new ≡ old → HoldsNoEntry true old.0 → session.ended ≡ false
-    → Sofar opened bytes old (state_of session.stack) now → NoneLeft opened bytes new session now
+    → Sofar opened bytes old session now → NoneLeft opened bytes new session now
 none_left opened bytes old new session now ended same none going sofar = record {
-  sofar = subst (λ (k : feed.Unanswered). Sofar opened bytes k (state_of session.stack) now) (sym same) sofar;
+  sofar = subst (λ (k : feed.Unanswered). Sofar opened bytes k session now) (sym same) sofar;
   none = subst (λ (k : feed.Unanswered). HoldsNoEntry k.1 k.0) (sym same)
       (subst (λ (e : Bool). HoldsNoEntry e old.0) (sym ended) none);
   goes_on = going;
@@ -161,7 +194,7 @@ none_left opened bytes old new session now ended same none going sofar = record 
 -- the bytes have ended
 pub end_on : (ending : Ending) (opened : Outside) (bytes : List ℕ) (old new : feed.Unanswered) (session : SessionState)
     (now : Outside) → Ends ending old new → session.ended ≡ false
-    → Sofar opened bytes old (state_of session.stack) now → (new.1 ≡ true) × (is_open_gap new.0 ≡ is_clean ending)
+    → Sofar opened bytes old session now → (new.1 ≡ true) × (is_open_gap new.0 ≡ is_clean ending)
     × NoneLeft opened bytes new session now
 end_on Clean opened bytes old new session now ends going sofar = (
   ap (λ (k : feed.Unanswered). k.1) ends.1 ∙ ends.0,

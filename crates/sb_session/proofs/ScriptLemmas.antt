@@ -9,22 +9,24 @@ use Rattle.sb_world.specs.declared.InPort.TheVariants as in_port
 use Rattle.sb_reader.specs.Entries.{HoldsNoEntry}
 use Rattle.sb_reader.specs.Feeding as feed
 use Rattle.sb_reader.proofs.CallerLemmas.{shortens_to_itself}
+use Rattle.sb_script.specs.State.{State}
 use Rattle.sb_script.specs.State as meaning
+use Rattle.sb_rulebook.specs.Judging.{beginning}
 use Rattle.sb_stack.specs.Stacked.{state_of}
 use Rattle.sb_session.specs.declared.command.SessionFault.{SessionFault}
 use Rattle.sb_session.specs.declared.solve.Pause.{Pause}
 use Rattle.sb_session.specs.declared.solve.Pause.TheVariants.{Exited, Waiting, Ended}
 use Rattle.sb_session.specs.declared.solve.SolveStatus.{SolveStatus}
 use Rattle.sb_session.specs.declared.solve.SolveStatus.TheVariants as status
-use Rattle.sb_session.specs.Commanding.{SessionState}
+use Rattle.sb_session.specs.Commanding.{SessionState, is_proved, IsTracked}
 use Rattle.sb_session.specs.Progress.{Sofar}
-use Rattle.sb_session.specs.Reading.{IsFront, UpToExit, Cut}
+use Rattle.sb_session.specs.Reading.{IsFront, beginnings, AllAnswered, Cut}
 use Rattle.sb_session.specs.Pausing.{Pauses}
-use Rattle.sb_session.specs.Solve.{Asked, opened, Run, PastLimit, CutInScript, CutShort}
+use Rattle.sb_session.specs.Solve.{Asked, opened, asks_proof, Run, PastLimit, CutInScript, CutShort}
 use Rattle.sb_session.specs.Underway.{Underway, AllRead, StaysOpen}
 use Rattle.sb_session.proofs.ReadingLemmas.{cut_between, open_gap_is_none}
 use Rattle.sb_session.proofs.WritingLemmas.{nothing_yet, work_reads}
-use Rattle.sb_session.proofs.EndLemmas.{all_answered}
+use Rattle.sb_session.proofs.EndLemmas.{all_answered, EndsProof, exit_ended}
 
 told_nothing : (left : Option (List ℕ)) → IfSome left (λ l. l ≡ [] ++ drop 0 l)
 told_nothing None = tt
@@ -34,9 +36,11 @@ told_nothing (Some l) = refl
 pub underway_start : (asked : Asked) (old now : Outside) (kept : feed.Unanswered) (session : SessionState)
     → now ≡ opened asked old
     → kept ≡ ([], false)
-    → state_of session.stack ≡ meaning.start → session.ended ≡ false
+    → state_of session.stack ≡ meaning.start → session.ended ≡ false → IsTracked session beginning
+    → is_proved session ≡ asks_proof asked
     → Underway asked old [] kept session now
-underway_start asked old now kept session e same state going = record {
+underway_start asked old now kept session e same state going tracked kind = record {
+  kind = kind;
   front = told_nothing (opened asked old).script_in.left;
   goes_on = ap (λ (k : feed.Unanswered). k.1) same;
   left = record {
@@ -45,7 +49,9 @@ underway_start asked old now kept session e same state going = record {
       writes = [];
       left = [];
       shorter = subst (λ (k : feed.Unanswered). feed.ShortensTo [] k.0) (sym same) (shortens_to_itself []);
-      answered = record { begins = refl; along = (refl, state) };
+      progress = beginning;
+      tracked = tracked;
+      answered = record { begins = refl; along = (refl, ap (λ (s : State). (s, beginning)) state) };
       outside = e ∙ nothing_yet (opened asked old);
     };
     none = subst (λ (k : feed.Unanswered). HoldsNoEntry k.1 k.0) (sym same) (open_gap_is_none false [] refl);
@@ -68,7 +74,7 @@ opened_cut asked old now e = cut_in_script asked old now (record {
     entries = [];
     left = [];
     writes = [];
-    s = meaning.start;
+    s = beginnings;
     answered = record { begins = refl; along = (refl, refl) };
     outside = e ∙ nothing_yet (opened asked old);
   });
@@ -83,10 +89,11 @@ underway_cut asked old bytes kept session before now way same = cut_in_script as
   ended = false;
   front = way.front;
   whole = λ e. absurd (false≢true e);
-  cut = subst (λ (ended : Bool). Cut (opened asked old) bytes ended now) way.goes_on
-      (inl (cut_between (opened asked old) bytes kept (state_of session.stack) now
-      (subst (λ (o : Outside). Sofar (opened asked old) bytes kept (state_of session.stack) o) (sym same)
-      way.left.sofar)));
+  cut = subst (λ (proved : Bool). Cut proved (opened asked old) bytes false now) way.kind
+      (subst (λ (ended : Bool). Cut (is_proved session) (opened asked old) bytes ended now) way.goes_on
+      (inl (cut_between (opened asked old) bytes kept session now
+      (subst (λ (o : Outside). Sofar (opened asked old) bytes kept session o) (sym same)
+      way.left.sofar))));
 })
 
 -- what is left of the script
@@ -145,48 +152,52 @@ pub all_read : (asked : Asked) (old : Outside) (bytes buffer : List ℕ) (count 
     → Underway asked old bytes kept session before → now ≡ read_at in_port.Script count before
     → IfSome before.script_in.left (λ left. ReadsFront left buffer count) → AllRead asked old bytes kept session now
 all_read asked old bytes buffer count kept session before now h below way moved reads = record {
-  all = told_all (opened asked old).script_in.left bytes buffer count h way.front
-      (subst (λ (left : Option (List ℕ)). IfSome left (λ l. ReadsFront l buffer count))
-      (left_of asked old bytes kept session before way) reads);
-  below_limit = below;
+  kind = way.kind;
+  is_read = record {
+    all = told_all (opened asked old).script_in.left bytes buffer count h way.front
+        (subst (λ (left : Option (List ℕ)). IfSome left (λ l. ReadsFront l buffer count))
+        (left_of asked old bytes kept session before way) reads);
+    below_limit = below;
+  };
   goes_on = way.goes_on;
-  sofar = subst (λ (o : Outside). Sofar (opened asked old) bytes kept (state_of session.stack) o)
+  sofar = subst (λ (o : Outside). Sofar (opened asked old) bytes kept session o)
       (sym (moved ∙ ap (λ (n : ℕ). read_at in_port.Script n before) h ∙ nothing_read before))
       way.left.sofar;
 }
 
 -- the run is cut short at a piece
-pub piece_cut : (asked : Asked) (old : Outside) (bytes : List ℕ) (now : Outside) → IsFront bytes (opened asked old)
-    → Cut (opened asked old) bytes false now → CutShort asked old now
-piece_cut asked old bytes now front cut =
-    cut_in_script asked old now
-    (record { bytes = bytes; ended = false; front = front; whole = λ e. absurd (false≢true e); cut = cut })
-
--- (exit) is answered
-pub piece_exit : (asked : Asked) (old : Outside) (bytes : List ℕ) (ended : Bool) (now : Outside) → ended ≡ false
-    → IsFront bytes (opened asked old) → length bytes ≤ asked.limit → UpToExit (opened asked old) bytes ended now
-    → Run asked status.Done old now
-piece_exit asked old bytes ended now goes_on front within exit =
-    inr (record {
+pub piece_cut : (asked : Asked) (old : Outside) (bytes : List ℕ) (proved : Bool) (now : Outside)
+    → proved ≡ asks_proof asked → IsFront bytes (opened asked old)
+    → Cut proved (opened asked old) bytes false now → CutShort asked old now
+piece_cut asked old bytes proved now kind front cut =
+    cut_in_script asked old now (record {
       bytes = bytes;
-      ended = ended;
+      ended = false;
       front = front;
-      whole =
-          λ e. absurd (false≢true (sym goes_on ∙ e));
-      within_limit = within;
-      answered = exit;
+      whole = λ e. absurd (false≢true e);
+      cut = subst (λ (b : Bool). Cut b (opened asked old) bytes false now) kind cut;
     })
+
+-- (exit) is answered, and the proof is ended
+pub piece_exit : (asked : Asked) (old : Outside) (bytes : List ℕ) (kept : feed.Unanswered) (session : SessionState)
+    (before now : Outside) → kept.1 ≡ false → is_proved session ≡ asks_proof asked
+    → IsFront bytes (opened asked old) → length bytes ≤ asked.limit
+    → Pauses Exited (opened asked old) bytes kept session before → EndsProof session before now
+    → Run asked status.Done old now
+piece_exit asked old bytes kept session before now goes_on kind front within exit ends =
+    inr (exit_ended asked old bytes kept.1 session before now kind front
+    (λ e. absurd (false≢true (sym goes_on ∙ e))) within exit ends)
 
 -- the piece is answered
 pub piece_on : (pause : Pause) (asked : Asked) (old : Outside) (bytes : List ℕ) (kept : feed.Unanswered)
     (session : SessionState)
     (now : Outside)
-    → (pause ≡ Exited → ⊥) → kept.1 ≡ false → IsFront bytes (opened asked old)
+    → (pause ≡ Exited → ⊥) → kept.1 ≡ false → is_proved session ≡ asks_proof asked → IsFront bytes (opened asked old)
     → Pauses pause (opened asked old) bytes kept session now → Underway asked old bytes kept session now
-piece_on Exited asked old bytes kept session now ne going front h = absurd (ne refl)
-piece_on Waiting asked old bytes kept session now ne going front h =
-    record { front = front; goes_on = going; left = h.1 }
-piece_on (Ended _) asked old bytes kept session now ne going front h = absurd (false≢true (sym going ∙ h.0))
+piece_on Exited asked old bytes kept session now ne going kind front h = absurd (ne refl)
+piece_on Waiting asked old bytes kept session now ne going kind front h =
+    record { kind = kind; front = front; goes_on = going; left = h.1 }
+piece_on (Ended _) asked old bytes kept session now ne going kind front h = absurd (false≢true (sym going ∙ h.0))
 
 -- it did not end the session
 pub stays_open : (pause : Pause) (session : SessionState) → (pause ≡ Exited → ⊥) → StaysOpen pause session
@@ -204,7 +215,8 @@ past_limit asked old bytes kept session now h way = record {
   left = way.left.sofar.left;
   front = way.front;
   at_limit = h;
-  answered = all_answered (opened asked old) bytes kept session now false way.left way.goes_on;
+  answered = subst (λ (b : Bool). AllAnswered b (opened asked old) bytes false way.left.sofar.left now) way.kind
+      (all_answered (opened asked old) bytes kept session now false way.left way.goes_on);
 }
 
 module _ (asked : Asked) (old : Outside) (bytes buffer rest : List ℕ) (count : ℕ) (kept : feed.Unanswered)
@@ -227,29 +239,30 @@ module _ (asked : Asked) (old : Outside) (bytes buffer rest : List ℕ) (count :
   longer = length-append bytes (take count (buffer ++ rest)) ∙ ap (λ (n : ℕ). length bytes + n) piece_length
 
 -- all of the script was read from what was opened
-abbrev pub Reached : Outside → Outside → feed.Unanswered → SessionState → Type 0
-Reached from read kept session = (asked : Asked) (old : Outside) → asked.limit ≡ 2 ^ 32 → from ≡ opened asked old
+abbrev pub Reached : Bool → Outside → Outside → feed.Unanswered → SessionState → Type 0
+Reached proved from read kept session = (asked : Asked) (old : Outside) → asked.limit ≡ 2 ^ 32
+    → proved ≡ asks_proof asked → from ≡ opened asked old
     → (bytes : List ℕ) × AllRead asked old bytes kept session read
 
 -- what the end of the script gives
-pub end_ok : (r : Result SolveStatus SessionFault) (from read now : Outside) (kept : feed.Unanswered)
+pub end_ok : (r : Result SolveStatus SessionFault) (proved : Bool) (from read now : Outside) (kept : feed.Unanswered)
     (session : SessionState)
-    → Reached from read kept session
+    → Reached proved from read kept session
     → IfOk r (λ status. (asked : Asked) (old : Outside) (bytes : List ℕ) → AllRead asked old bytes kept session read
     → Run asked status old now)
-    → IfOk r (λ status. (asked : Asked) (old : Outside) → asked.limit ≡ 2 ^ 32 → from ≡ opened asked old
-    → Run asked status old now)
-end_ok (Err _) from read now kept session all h = tt
-end_ok (Ok _) from read now kept session all h =
-    λ asked old l e. h asked old (all asked old l e).0 (all asked old l e).1
+    → IfOk r (λ status. (asked : Asked) (old : Outside) → asked.limit ≡ 2 ^ 32 → proved ≡ asks_proof asked
+    → from ≡ opened asked old → Run asked status old now)
+end_ok (Err _) proved from read now kept session all h = tt
+end_ok (Ok _) proved from read now kept session all h =
+    λ asked old l k e. h asked old (all asked old l k e).0 (all asked old l k e).1
 
-pub end_err : (r : Result SolveStatus SessionFault) (from read now : Outside) (kept : feed.Unanswered)
+pub end_err : (r : Result SolveStatus SessionFault) (proved : Bool) (from read now : Outside) (kept : feed.Unanswered)
     (session : SessionState)
-    → Reached from read kept session
+    → Reached proved from read kept session
     → OnErr r ((asked : Asked) (old : Outside) (bytes : List ℕ) → AllRead asked old bytes kept session read
     → CutShort asked old now)
-    → OnErr r ((asked : Asked) (old : Outside) → asked.limit ≡ 2 ^ 32 → from ≡ opened asked old
-    → CutShort asked old now)
-end_err (Ok _) from read now kept session all h = tt
-end_err (Err _) from read now kept session all h =
-    λ asked old l e. h asked old (all asked old l e).0 (all asked old l e).1
+    → OnErr r ((asked : Asked) (old : Outside) → asked.limit ≡ 2 ^ 32 → proved ≡ asks_proof asked
+    → from ≡ opened asked old → CutShort asked old now)
+end_err (Ok _) proved from read now kept session all h = tt
+end_err (Err _) proved from read now kept session all h =
+    λ asked old l k e. h asked old (all asked old l k e).0 (all asked old l k e).1

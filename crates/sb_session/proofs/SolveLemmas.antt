@@ -1,5 +1,5 @@
 -- From the outcome of a run to its status.
-use Rattle.std.proofs.Common.{◌≡◌, ◌+◌, ◌<◌, ◌≤◌, ◌^◌, ◌⊎◌, ℕ, true, false, List, [], ◌∷◌, ◌++◌, length, take, drop, Option, Some, None, IfSome, Result, Ok, Err, IfOk, OnErr, append_assoc, length-append, refl, sym, ap, ◌∙◌, subst, inl, inr, arith}
+use Rattle.std.proofs.Common.{◌≡◌, ◌+◌, ◌<◌, ◌≤◌, ◌^◌, ◌⊎◌, ℕ, Bool, true, false, List, [], ◌∷◌, ◌++◌, length, take, drop, Option, Some, None, is_some, option_map, IfSome, Result, Ok, Err, IfOk, OnErr, append_assoc, length-append, refl, sym, ap, ◌∙◌, subst, inl, inr, arith}
 use Rattle.std.proofs.lemmas.Bool.{false≢true}
 use Rattle.std.proofs.lemmas.List.{take-append-drop, take-append-le}
 use Rattle.std.proofs.Math.Seq.{take-append_seam}
@@ -9,17 +9,20 @@ use Rattle.sb_world.specs.declared.InPort.TheVariants as in_port
 use Rattle.sb_world.specs.declared.OutPort.TheVariants as out_port
 use Rattle.sb_reader.specs.Entries.{Entry, Begins}
 use Rattle.sb_reader.proofs.CallerLemmas.{beginning_stays, beginning_is_first}
-use Rattle.sb_script.specs.State.{State, start}
 use Rattle.sb_script.specs.Replies.{is_exit}
 use Rattle.sb_script.specs.Scripts.{Along}
 use Rattle.sb_session.specs.declared.command.SessionFault.{SessionFault}
 use Rattle.sb_session.specs.declared.command.SessionFault.TheVariants as fault
 use Rattle.sb_session.specs.declared.solve.SolveStatus.{SolveStatus}
 use Rattle.sb_session.specs.declared.solve.SolveStatus.TheVariants.{Done, Unfinished, Usage, Fault, NoMemory, InputLimit}
-use Rattle.sb_session.specs.Commanding.{CountsSessionFault}
-use Rattle.sb_session.specs.Solve.{Asked, created, opened, Run, CountsFaults, CutShort, CutInText, WrongWords, PastLimit, IsBounded}
-use Rattle.sb_session.specs.Reading.{GoesOn}
+use Rattle.sb_session.specs.Commanding.{Stage, CountsSessionFault}
+use Rattle.sb_session.specs.Solve.{Asked, created, opened, asks_proof, Run, CountsFaults, CutShort, CutInText, WrongWords, PastLimit, IsBounded}
+use Rattle.sb_session.specs.Reading.{GoesOn, beginnings}
 use Rattle.sb_session.specs.Progress.{status_by}
+
+pub some_mapped : {A B : Type 0} (f : A → B) (x : Option A) → is_some x ≡ is_some (option_map f x)
+some_mapped f None = refl
+some_mapped f (Some x) = refl
 
 pub run_by : (asked : Asked) (r : Result SolveStatus SessionFault) (old new : Outside) (f g : ℕ)
     → IfOk r (λ s. Run asked s old new × CountsFaults s f g) → OnErr r (CutShort asked old new)
@@ -37,20 +40,22 @@ counts_by P (Err fault.NoMemory) f g ok faults = faults
 counts_by P (Err fault.Ended) f g ok faults = faults
 
 -- a run from the outside that is opened is one from before
-pub run_from : (asked : Asked) (r : Result SolveStatus SessionFault) (old from now : Outside) (f g h : ℕ)
-    → asked.limit ≡ 2 ^ 32 → from ≡ opened asked old → g ≡ f
-    → IfOk r (λ s. (a : Asked) (o : Outside) → a.limit ≡ 2 ^ 32 → from ≡ opened a o → Run a s o now)
+pub run_from : (asked : Asked) (proved : Bool) (r : Result SolveStatus SessionFault) (old from now : Outside) (f g h : ℕ)
+    → asked.limit ≡ 2 ^ 32 → proved ≡ asks_proof asked → from ≡ opened asked old → g ≡ f
+    → IfOk r (λ s. (a : Asked) (o : Outside) → a.limit ≡ 2 ^ 32 → proved ≡ asks_proof a → from ≡ opened a o
+    → Run a s o now)
     → IfOk r (λ s. CountsFaults s g h) → IfOk r (λ s. Run asked s old now × CountsFaults s f h)
-run_from asked (Err _) old from now f g h l e same run counts = tt
-run_from asked (Ok s) old from now f g h l e same run counts =
-    (run asked old l e, subst (λ (n : ℕ). CountsFaults s n h) same counts)
+run_from asked proved (Err _) old from now f g h l k e same run counts = tt
+run_from asked proved (Ok s) old from now f g h l k e same run counts =
+    (run asked old l k e, subst (λ (n : ℕ). CountsFaults s n h) same counts)
 
-pub cut_from : (asked : Asked) (r : Result SolveStatus SessionFault) (old from now : Outside) → asked.limit ≡ 2 ^ 32
-    → from ≡ opened asked old
-    → OnErr r ((a : Asked) (o : Outside) → a.limit ≡ 2 ^ 32 → from ≡ opened a o → CutShort a o now)
+pub cut_from : (asked : Asked) (proved : Bool) (r : Result SolveStatus SessionFault) (old from now : Outside) → asked.limit ≡ 2 ^ 32
+    → proved ≡ asks_proof asked → from ≡ opened asked old
+    → OnErr r ((a : Asked) (o : Outside) → a.limit ≡ 2 ^ 32 → proved ≡ asks_proof a → from ≡ opened a o
+    → CutShort a o now)
     → OnErr r (CutShort asked old now)
-cut_from asked (Ok _) old from now l e cut = tt
-cut_from asked (Err _) old from now l e cut = cut asked old l e
+cut_from asked proved (Ok _) old from now l k e cut = tt
+cut_from asked proved (Err _) old from now l k e cut = cut asked old l k e
 
 -- words that are not taken are answered by a text
 pub wrong_by : (text : List ℕ) (r : Result SolveStatus SessionFault) (old new : Outside) (f g : ℕ)
@@ -63,10 +68,10 @@ wrong_by text (Err fault.NoMemory) old new f g ok err = inr (text, err)
 wrong_by text (Err fault.Ended) old new f g ok err = inr (text, err)
 
 -- None of the entries that are answered is (exit).
-no_exit_among : (s : State) (before : List Entry) (entry : Entry) (behind : List Entry) (writes : List Write)
-    (after : State) → Along GoesOn s (before ++ entry ∷ behind) writes after → is_exit entry ≡ false
-no_exit_among s [] entry behind writes after h = h.3.0
-no_exit_among s (first ∷ before) entry behind writes after h = no_exit_among h.2 before entry behind h.1 after h.5
+no_exit_among : (proved : Bool) (s : Stage) (before : List Entry) (entry : Entry) (behind : List Entry)
+    (writes : List Write) (after : Stage) → Along (GoesOn proved) s (before ++ entry ∷ behind) writes after → is_exit entry ≡ false
+no_exit_among proved s [] entry behind writes after h = h.3.0
+no_exit_among proved s (first ∷ before) entry behind writes after h = no_exit_among proved h.2 before entry behind h.1 after h.5
 
 -- a list goes on behind each shorter beginning of what it begins
 goes_on_behind : (bytes left front behind : List ℕ) → bytes ++ left ≡ front ++ behind → length front ≤ length bytes
@@ -121,8 +126,8 @@ no_limit_exit asked script front behind entries exit left old new told split bel
     let e : past.answered.entries ≡ entries ++ exit ∷ others.0 =
     ◌∙◌ {b = (entries ++ exit ∷ []) ++ others.0} others.1 (append_assoc entries (exit ∷ []) others.0) in
     let goes : is_exit exit ≡ false =
-    no_exit_among start entries exit others.0 past.answered.writes past.answered.s
-    (subst (λ (es : List Entry). Along GoesOn start es past.answered.writes past.answered.s) e
+    no_exit_among (asks_proof asked) beginnings entries exit others.0 past.answered.writes past.answered.s
+    (subst (λ (es : List Entry). Along (GoesOn (asks_proof asked)) beginnings es past.answered.writes past.answered.s) e
     past.answered.answered.along) in
     false≢true (sym goes ∙ exits)
 

@@ -7,15 +7,14 @@ use Rattle.sb_reader.specs.declared.feed.Next.TheVariants as next
 use Rattle.sb_reader.specs.Feeding as feed
 use Rattle.sb_reader.specs.Feeding.{Takes}
 use Rattle.sb_script.specs.Replies.{is_exit}
-use Rattle.sb_stack.specs.Stacked.{state_of}
 use Rattle.sb_stack.specs.Steps.{IsEntry, entry_of}
 use Rattle.sb_session.specs.declared.command.Went.{Went}
 use Rattle.sb_session.specs.declared.command.Went.TheVariants.{Go, Exited}
 use Rattle.sb_session.specs.declared.command.SessionFault.{SessionFault}
 use Rattle.sb_session.specs.declared.command.SessionFault.TheVariants as fault
-use Rattle.sb_session.specs.Commanding.{SessionState, Goes, Fails}
+use Rattle.sb_session.specs.Commanding.{SessionState, is_proved, Goes, Fails}
 use Rattle.sb_session.specs.Progress.{Sofar}
-use Rattle.sb_session.specs.Reading.{UpToExit, Cut}
+use Rattle.sb_session.specs.Reading.{Cut}
 use Rattle.sb_session.specs.Pausing.{Pauses}
 use Rattle.sb_session.specs.declared.solve.Pause.TheVariants as pause
 use Rattle.sb_session.proofs.ReadingLemmas.{answer_on, answer_exit, cut_answer, wait_on}
@@ -38,38 +37,38 @@ an_exit false e = cc
 pub goes : (n : Next) (went : Went) (session session' : SessionState) (before now : Outside) → IsEntry n → went ≡ Go
     → Goes went (entry_of n) session session' before now
     → (opened : Outside) (bytes : List ℕ) (old new : feed.Unanswered) → feed.IsNext n old new
-    → Sofar opened bytes old (state_of session.stack) before → Sofar opened bytes new (state_of session'.stack) now
+    → Sofar opened bytes old session before → Sofar opened bytes new session' now
 goes n went session session' before now is e h opened bytes old new answers sofar =
-    answer_on opened bytes (entry_of n) old new (state_of session.stack) (state_of session'.stack) before now
-    (no_exit (is_exit (entry_of n)) (sym e ∙ h.went_is)) (takes_entry n old new is answers) h.answers sofar
+    answer_on opened bytes (entry_of n) old new session session' before now
+    (no_exit (is_exit (entry_of n)) (sym e ∙ h.went_is)) h.same_kind (takes_entry n old new is answers) h.answers sofar
 
 -- the entry was (exit)
 pub exits : (n : Next) (went : Went) (session session' : SessionState) (before now : Outside) → IsEntry n
     → went ≡ Exited
     → Goes went (entry_of n) session session' before now
     → (opened : Outside) (bytes : List ℕ) (old new : feed.Unanswered) → feed.IsNext n old new
-    → Sofar opened bytes old (state_of session.stack) before → UpToExit opened bytes new.1 now
+    → Sofar opened bytes old session before → Pauses pause.Exited opened bytes new session' now
 exits n went session session' before now is e h opened bytes old new answers sofar =
-    answer_exit opened bytes (entry_of n) old new (state_of session.stack) (state_of session'.stack) before now
-    (an_exit (is_exit (entry_of n)) (sym e ∙ h.went_is)) (takes_entry n old new is answers) h.answers sofar
+    answer_exit opened bytes (entry_of n) old new session session' before now
+    (an_exit (is_exit (entry_of n)) (sym e ∙ h.went_is)) h.same_kind (takes_entry n old new is answers) h.answers sofar
 
 -- the entry is not answered, or not whole
 pub fails : (n : Next) (f : SessionFault) (session session' : SessionState) (before now : Outside) → IsEntry n
     → session.ended ≡ false → Fails f (entry_of n) session session' before now
     → (opened : Outside) (bytes : List ℕ) (old new : feed.Unanswered) → feed.IsNext n old new
-    → Sofar opened bytes old (state_of session.stack) before → Cut opened bytes old.1 now
+    → Sofar opened bytes old session before → Cut (is_proved session) opened bytes old.1 now
 fails n fault.Ended session session' before now is going h opened bytes old new answers sofar =
     absurd (false≢true (sym going ∙ h.0))
 fails n fault.Fault session session' before now is going h opened bytes old new answers sofar =
-    cut_answer opened bytes (entry_of n) old new (state_of session.stack) before now (takes_entry n old new is answers)
+    cut_answer opened bytes (entry_of n) old new session before now (takes_entry n old new is answers)
     h.2 sofar
 fails n fault.NoMemory session session' before now is going h opened bytes old new answers sofar =
-    cut_answer opened bytes (entry_of n) old new (state_of session.stack) before now (takes_entry n old new is answers)
+    cut_answer opened bytes (entry_of n) old new session before now (takes_entry n old new is answers)
     h.2 sofar
 
 -- no whole entry is there
 pub waits : (n : Next) (session : SessionState) (now : Outside) → n ≡ next.NotYet → session.ended ≡ false
     → (opened : Outside) (bytes : List ℕ) (old new : feed.Unanswered) → feed.IsNext n old new
-    → Sofar opened bytes old (state_of session.stack) now → Pauses pause.Waiting opened bytes new session now
+    → Sofar opened bytes old session now → Pauses pause.Waiting opened bytes new session now
 waits n session now e going opened bytes old new answers sofar =
     wait_on opened bytes old new session now (rw e at answers) going sofar

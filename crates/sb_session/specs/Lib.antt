@@ -4,3 +4,5 @@ pub mod Progress
 pub mod Solve
 pub mod Pausing
 pub mod Underway
+pub mod Certifying
+pub mod Checking

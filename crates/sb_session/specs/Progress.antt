@@ -4,21 +4,27 @@ use Rattle.sb_world.specs.Outside.{Outside}
 use Rattle.sb_world.specs.Moved.{Write, moved_by}
 use Rattle.sb_reader.specs.Entries.{Entry}
 use Rattle.sb_reader.specs.Feeding as feed
-use Rattle.sb_script.specs.State.{State}
+use Rattle.sb_rulebook.specs.Judging as rulebook
+use Rattle.sb_stack.specs.Stacked.{state_of}
 use Rattle.sb_session.specs.declared.command.SessionFault.{SessionFault}
 use Rattle.sb_session.specs.declared.command.SessionFault.TheVariants as fault
 use Rattle.sb_session.specs.declared.solve.SolveStatus.{SolveStatus}
 use Rattle.sb_session.specs.declared.solve.SolveStatus.TheVariants.{Fault, NoMemory}
+use Rattle.sb_session.specs.Commanding.{SessionState, is_proved, IsTracked}
 use Rattle.sb_session.specs.Reading.{work, Answered}
 
 -- Of the bytes that were read the entries in front are answered, and what is kept of them is not.
-pub record Sofar (opened : Outside) (bytes : List ℕ) (kept : feed.Unanswered) (s : State) (now : Outside) : Type 0 where
+pub record Sofar (opened : Outside) (bytes : List ℕ) (kept : feed.Unanswered) (session : SessionState) (now : Outside)
+    : Type 0 where
   pub entries : List Entry
   pub writes : List Write
   -- the bytes behind the entries, of which not all white space and comments are kept
   pub left : List ℕ
   pub shorter : feed.ShortensTo left kept.0
-  pub answered : Answered bytes kept.1 entries left writes s
+  -- how far the proof has come
+  pub progress : rulebook.Progress
+  pub tracked : IsTracked session progress
+  pub answered : Answered (is_proved session) bytes kept.1 entries left writes (state_of session.stack, progress)
   pub outside : now ≡ moved_by (work (length bytes) writes) opened
 
 -- the status of a run that ended with a status or a fault

@@ -1,7 +1,7 @@
 -- What a run of the solver does outside, by its status.
-use Rattle.std.specs.Prelude.{◌≡◌, ℕ, ◌^◌, ◌<◌, ◌≤◌, Bool, true, false, List, [], ◌∷◌, ◌++◌, ◌⊎◌, length, Option, None, Some}
+use Rattle.std.specs.Prelude.{◌≡◌, ℕ, ◌^◌, ◌<◌, ◌≤◌, Bool, true, false, List, [], ◌∷◌, ◌++◌, ◌⊎◌, length, Option, None, Some, is_some}
 use Rattle.sb_world.specs.Outside.{Outside, open_at, create_at, source_of, Rose}
-use Rattle.sb_world.specs.Moved.{moved_by, writing}
+use Rattle.sb_world.specs.Moved.{moved_by, writing, writing_all}
 use Rattle.sb_world.specs.declared.InPort.TheVariants as in_port
 use Rattle.sb_world.specs.declared.OutPort.TheVariants as out_port
 use Rattle.sb_reader.specs.Tokens.{is_open_gap}
@@ -12,7 +12,7 @@ use Rattle.sb_words.specs.Words.{script_of, proof_of}
 use Rattle.sb_session.specs.declared.solve.SolveStatus.{SolveStatus}
 use Rattle.sb_session.specs.declared.solve.SolveStatus.TheVariants.{Done, Unfinished, Usage, Fault, NoMemory, InputLimit}
 use Rattle.sb_session.specs.Commanding.{CutOf}
-use Rattle.sb_session.specs.Reading.{IsFront, IsAll, UpToExit, AllAnswered, Cut}
+use Rattle.sb_session.specs.Reading.{IsFront, IsAll, UpToExit, AllAnswered, Cut, end_writes}
 
 -- What is asked of a run.
 pub record Asked : Type 0 where
@@ -39,25 +39,34 @@ created (Some name) o = create_at out_port.Proof (Some name) o
 abbrev pub opened : Asked → Outside → Outside
 opened asked o = created asked.proof (open_at in_port.Script asked.script o)
 
--- All of the script was read, it ends outside a form, and each entry is answered.
+-- whether a proof is asked for
+abbrev pub asks_proof : Asked → Bool
+asks_proof asked = is_some asked.proof
+
+-- All of the script was read, it ends outside a form, each entry is answered, and the proof is ended.
 pub record AnsweredToTheEnd (asked : Asked) (old new : Outside) : Type 0 where
   pub script : List ℕ
   pub left : List ℕ
   pub all : IsAll script (opened asked old)
   pub below_limit : length script < asked.limit
+  pub before : Outside
   pub clean : is_open_gap left ≡ true
-  pub answered : AllAnswered (opened asked old) script true left new
+  pub answered : AllAnswered (asks_proof asked) (opened asked old) script true left before
+  pub ends : new ≡ moved_by (writing_all (end_writes (asks_proof asked) answered.s.1)) before
 
--- Some of the script was read, up to (exit) and maybe further, or all of it, and each entry up to it is answered.
+-- Some of the script was read, up to (exit) and maybe further, or all of it, each entry up to it is answered, and the
+-- proof is ended.
 pub record AnsweredToTheExit (asked : Asked) (old new : Outside) : Type 0 where
   pub bytes : List ℕ
   pub ended : Bool
   pub front : IsFront bytes (opened asked old)
   pub whole : ended ≡ true → IsAll bytes (opened asked old)
   pub within_limit : length bytes ≤ asked.limit
-  pub answered : UpToExit (opened asked old) bytes ended new
+  pub before : Outside
+  pub answered : UpToExit (asks_proof asked) (opened asked old) bytes ended before
+  pub ends : new ≡ moved_by (writing_all (end_writes (asks_proof asked) answered.after.1)) before
 
--- All of the script was read, it ends within a form, each entry is answered, and the end too.
+-- All of the script was read, it ends within a form, each entry is answered, the end too, and the proof is ended.
 pub record AnsweredUnfinished (asked : Asked) (old new : Outside) : Type 0 where
   pub script : List ℕ
   pub left : List ℕ
@@ -65,8 +74,9 @@ pub record AnsweredUnfinished (asked : Asked) (old new : Outside) : Type 0 where
   pub all : IsAll script (opened asked old)
   pub below_limit : length script < asked.limit
   pub unfinished : is_open_gap left ≡ false
-  pub answered : AllAnswered (opened asked old) script true left before
-  pub outside : new ≡ moved_by (writing (out_port.Answers, unfinished_line)) before
+  pub answered : AllAnswered (asks_proof asked) (opened asked old) script true left before
+  pub outside : new
+      ≡ moved_by (writing_all ((out_port.Answers, unfinished_line) ∷ end_writes (asks_proof asked) answered.s.1)) before
 
 -- So many bytes as the limit were read of the script, each whole entry in them is answered, and none of them is (exit).
 pub record PastLimit (asked : Asked) (old new : Outside) : Type 0 where
@@ -74,7 +84,7 @@ pub record PastLimit (asked : Asked) (old new : Outside) : Type 0 where
   pub left : List ℕ
   pub front : IsFront bytes (opened asked old)
   pub at_limit : length bytes ≡ asked.limit
-  pub answered : AllAnswered (opened asked old) bytes false left new
+  pub answered : AllAnswered (asks_proof asked) (opened asked old) bytes false left new
 
 -- Some of the script was read and answered when the run was cut short.
 pub record CutInScript (asked : Asked) (old new : Outside) : Type 0 where
@@ -82,7 +92,7 @@ pub record CutInScript (asked : Asked) (old new : Outside) : Type 0 where
   pub ended : Bool
   pub front : IsFront bytes (opened asked old)
   pub whole : ended ≡ true → IsAll bytes (opened asked old)
-  pub cut : Cut (opened asked old) bytes ended new
+  pub cut : Cut (asks_proof asked) (opened asked old) bytes ended new
 
 -- The run was cut short: before the script was opened, before what takes the proof was created, or later.
 abbrev pub CutShort : Asked → Outside → Outside → Type 0

@@ -9,14 +9,17 @@ ghost use Rattle.sb_script.specs.State.{start};
 ghost use Rattle.sb_stack.specs.Stacked.{state_of};
 ghost use Rattle.sb_stack.specs.Steps.{IsEntry};
 ghost use Rattle.sb_words.specs.Words.{are_taken};
-ghost use Rattle.sb_session.specs.Commanding.{CountsSessionFault};
+ghost use Rattle.sb_rulebook.specs.Judging.{beginning};
+ghost use Rattle.sb_session.specs.Commanding.{CountsSessionFault, IsTracked, is_proved};
+ghost use Rattle.sb_session.specs.Certifying.{IsCertified};
 ghost use Rattle.sb_session.specs.Progress.{Sofar, status_by};
 ghost use Rattle.sb_session.specs.Reading.{Cut};
 ghost use Rattle.sb_session.specs.Pausing.{Pauses};
-ghost use Rattle.sb_session.specs.Underway.{Turns, StaysOpen, AllRead};
-ghost use Rattle.sb_session.specs.Solve.{Asked, asked_for, asked_by, created, opened, Run, WrongWords, CountsFaults, CutShort, CutInText, IsBounded};
+ghost use Rattle.sb_session.specs.Underway.{Turns, StaysOpen, IsRead, AllRead};
+ghost use Rattle.sb_session.specs.Solve.{Asked, asked_for, asked_by, asks_proof, created, opened, Run, WrongWords, CountsFaults, CutShort, CutInText, IsBounded};
 
 use crate::command::{Session, SessionFault, Went};
+use sb_certified::laws::{certified_is_accepted, certified_to_exit_is_accepted};
 use sb_reader::{Ending, Feed, Next};
 use sb_words::{NoRun, read_words};
 use sb_world::{InPort, OutPort, World, WorldError, write_all};
@@ -62,6 +65,12 @@ pub fn solve_top<W: World>(alloc: Global, words: &[String], world: &mut W) -> So
         → Run (asked_by (map string_bytes words.now)) result (W.outside world.old) (W.outside world.new) }
     ensures faults { CountsFaults result (W.faults world.old) (W.faults world.new) }
 
+    // Where the script is answered and a proof is asked for, an accepted proof of it is written.
+    ensures certified { are_taken (map string_bytes words.now) ≡ true
+        → asks_proof (asked_by (map string_bytes words.now)) ≡ true
+        → (result ≡ SolveStatus.Done) ⊎ (result ≡ SolveStatus.Unfinished)
+        → IsCertified (asked_by (map string_bytes words.now)) (W.outside world.old) (W.outside world.new) }
+
     // Nothing else than want of memory keeps a script whose end or exit is below the limit from being answered, where
     // no fault comes.
     ensures complete { are_taken (map string_bytes words.now) ≡ true
@@ -69,6 +78,8 @@ pub fn solve_top<W: World>(alloc: Global, words: &[String], world: &mut W) -> So
         → ((script : List ℕ) × IsBounded (asked_by (map string_bytes words.now)) script (W.outside world.old))
         → (result ≡ SolveStatus.Done) ⊎ ((result ≡ SolveStatus.Unfinished) ⊎ (result ≡ SolveStatus.NoMemory)) }
 {
+    certified_is_accepted();
+    certified_to_exit_is_accepted();
     match read_words(alloc, words) {
         Ok(asked) => status_of(answer_files(alloc, asked.script, asked.proof, world)),
         Err(NoRun::Told(text)) => status_of(refuse_words(text.as_bytes(), world)),
@@ -120,7 +131,7 @@ fn answer_files<W: World>(
     answer_script(
         &mut buffer,
         &mut Feed::new(alloc),
-        &mut Session::new(alloc),
+        &mut Session::new(alloc, proof.is_some()),
         world,
     )
 }
@@ -148,11 +159,14 @@ fn answer_script<W: World>(
     requires feed { feed.old ≡ ([], false) }
     requires state { state_of session.old.stack ≡ start }
     requires goes_on { session.old.ended ≡ false }
+    requires tracked { IsTracked session.old beginning }
     ensures ok { IfOk result (λ status. (asked : Asked) (old : Outside) → asked.limit ≡ 2 ^ 32
-        → W.outside world.old ≡ opened asked old → Run asked status old (W.outside world.new)) }
+        → is_proved session.old ≡ asks_proof asked → W.outside world.old ≡ opened asked old
+        → Run asked status old (W.outside world.new)) }
     ensures counts { IfOk result (λ status. CountsFaults status (W.faults world.old) (W.faults world.new)) }
     ensures err { OnErr result ((asked : Asked) (old : Outside) → asked.limit ≡ 2 ^ 32
-        → W.outside world.old ≡ opened asked old → CutShort asked old (W.outside world.new)) }
+        → is_proved session.old ≡ asks_proof asked → W.outside world.old ≡ opened asked old
+        → CutShort asked old (W.outside world.new)) }
     ensures faults { CountsSessionFault result (W.faults world.old) (W.faults world.new) }
 {
     let mut count = 0;
@@ -163,6 +177,7 @@ fn answer_script<W: World>(
             return answer_end(feed, session, world);
         }
         if answer_piece(&buffer[..read], feed, session, world)? == Pause::Exited {
+            session.finish(world)?;
             return Ok(SolveStatus::Done);
         }
         count += read;
@@ -198,15 +213,16 @@ fn answer_piece<W: World>(
     requires feed { feed.old.1 ≡ false }
     requires session { session.old.ended ≡ false }
     ensures ok { IfOk result (λ pause. (opened : Outside) (bytes : List ℕ) (before : Outside)
-        → Sofar opened bytes feed.old (state_of session.old.stack) before
+        → Sofar opened bytes feed.old session.old before
         → W.outside world.old ≡ read_at InPort.Script (length piece.now) before
         → Pauses pause opened (bytes ++ piece.now) feed.new session.new (W.outside world.new)) }
     ensures err { OnErr result ((opened : Outside) (bytes : List ℕ) (before : Outside)
-        → Sofar opened bytes feed.old (state_of session.old.stack) before
+        → Sofar opened bytes feed.old session.old before
         → W.outside world.old ≡ read_at InPort.Script (length piece.now) before
-        → Cut opened (bytes ++ piece.now) false (W.outside world.new)) }
+        → Cut (is_proved session.old) opened (bytes ++ piece.now) false (W.outside world.new)) }
     ensures finished { IfOk result (λ pause. feed.new.1 ≡ false) }
     ensures goes_on { IfOk result (λ pause. StaysOpen pause session.new) }
+    ensures kind { OnOk result (is_proved session.new ≡ is_proved session.old) }
     ensures faults { CountsSessionFault result (W.faults world.old) (W.faults world.new) }
 {
     feed.push(piece)?;
@@ -221,13 +237,14 @@ fn answer_entries<W: World>(
 ) -> Result<Pause, SessionFault>
     requires { session.old.ended ≡ false }
     ensures ok { IfOk result (λ pause. (opened : Outside) (bytes : List ℕ)
-        → Sofar opened bytes feed.old (state_of session.old.stack) (W.outside world.old)
+        → Sofar opened bytes feed.old session.old (W.outside world.old)
         → Pauses pause opened bytes feed.new session.new (W.outside world.new)) }
     ensures goes_on { IfOk result (λ pause. StaysOpen pause session.new) }
     ensures err { OnErr result ((opened : Outside) (bytes : List ℕ)
-        → Sofar opened bytes feed.old (state_of session.old.stack) (W.outside world.old)
-        → Cut opened bytes feed.old.1 (W.outside world.new)) }
+        → Sofar opened bytes feed.old session.old (W.outside world.old)
+        → Cut (is_proved session.old) opened bytes feed.old.1 (W.outside world.new)) }
     ensures finished { feed.new.1 ≡ feed.old.1 }
+    ensures kind { OnOk result (is_proved session.new ≡ is_proved session.old) }
     ensures faults { CountsSessionFault result (W.faults world.old) (W.faults world.new) }
 {
     loop {
@@ -245,15 +262,16 @@ fn answer_next<W: World>(
 ) -> Result<Option<Pause>, SessionFault>
     requires { session.old.ended ≡ false }
     ensures ok { IfOk result (λ turn. (opened : Outside) (bytes : List ℕ)
-        → Sofar opened bytes feed.old (state_of session.old.stack) (W.outside world.old)
+        → Sofar opened bytes feed.old session.old (W.outside world.old)
         → Turns turn opened bytes feed.new session.new (W.outside world.new)) }
     ensures goes_on { IfOk result
         (λ turn. MatchOption turn ((session.new.ended ≡ false) × (length feed.new.0 < length feed.old.0))
         (λ pause. StaysOpen pause session.new)) }
     ensures err { OnErr result ((opened : Outside) (bytes : List ℕ)
-        → Sofar opened bytes feed.old (state_of session.old.stack) (W.outside world.old)
-        → Cut opened bytes feed.old.1 (W.outside world.new)) }
+        → Sofar opened bytes feed.old session.old (W.outside world.old)
+        → Cut (is_proved session.old) opened bytes feed.old.1 (W.outside world.new)) }
     ensures finished { feed.new.1 ≡ feed.old.1 }
+    ensures kind { OnOk result (is_proved session.new ≡ is_proved session.old) }
     ensures faults { CountsSessionFault result (W.faults world.old) (W.faults world.new) }
 {
     let next = feed.next()?;
@@ -268,14 +286,15 @@ fn answer_what_came<W: World>(
 ) -> Result<Option<Pause>, SessionFault>
     requires { session.old.ended ≡ false }
     ensures ok { IfOk result (λ turn. (opened : Outside) (bytes : List ℕ) (old new : feed.Unanswered)
-        → feed.IsNext next.now old new → Sofar opened bytes old (state_of session.old.stack) (W.outside world.old)
+        → feed.IsNext next.now old new → Sofar opened bytes old session.old (W.outside world.old)
         → Turns turn opened bytes new session.new (W.outside world.new)) }
     ensures goes_on { IfOk result
         (λ turn. MatchOption turn (IsEntry next.now × (session.new.ended ≡ false))
         (λ pause. StaysOpen pause session.new)) }
     ensures err { OnErr result ((opened : Outside) (bytes : List ℕ) (old new : feed.Unanswered)
-        → feed.IsNext next.now old new → Sofar opened bytes old (state_of session.old.stack) (W.outside world.old)
-        → Cut opened bytes old.1 (W.outside world.new)) }
+        → feed.IsNext next.now old new → Sofar opened bytes old session.old (W.outside world.old)
+        → Cut (is_proved session.old) opened bytes old.1 (W.outside world.new)) }
+    ensures kind { OnOk result (is_proved session.new ≡ is_proved session.old) }
     ensures faults { CountsSessionFault result (W.faults world.old) (W.faults world.new) }
 {
     match next {
@@ -305,10 +324,32 @@ fn answer_end<W: World>(
     ensures faults { CountsSessionFault result (W.faults world.old) (W.faults world.new) }
 {
     feed.finish();
-    if answer_entries(feed, session, world)? == Pause::Ended(Ending::Unfinished) {
+    let pause = answer_entries(feed, session, world)?;
+    end_script(pause, session, world)
+}
+
+/// Answers the end of the script, and ends the proof.
+fn end_script<W: World>(
+    pause: Pause,
+    session: &mut Session,
+    world: &mut W,
+) -> Result<SolveStatus, SessionFault>
+    ensures ok { IfOk result (λ status. (asked : Asked) (old : Outside) (bytes : List ℕ) (kept : feed.Unanswered)
+        → IsRead asked old bytes → kept.1 ≡ true → is_proved session.old ≡ asks_proof asked
+        → Pauses pause (opened asked old) bytes kept session.old (W.outside world.old)
+        → Run asked status old (W.outside world.new)) }
+    ensures counts { IfOk result (λ status. CountsFaults status (W.faults world.old) (W.faults world.new)) }
+    ensures err { OnErr result ((asked : Asked) (old : Outside) (bytes : List ℕ) (kept : feed.Unanswered)
+        → IsRead asked old bytes → kept.1 ≡ true → is_proved session.old ≡ asks_proof asked
+        → Pauses pause (opened asked old) bytes kept session.old (W.outside world.old)
+        → CutShort asked old (W.outside world.new)) }
+    ensures faults { CountsSessionFault result (W.faults world.old) (W.faults world.new) }
+{
+    if pause == Pause::Ended(Ending::Unfinished) {
         write_all(world, OutPort::Answers, UNFINISHED)?;
-        Ok(SolveStatus::Unfinished)
-    } else {
-        Ok(SolveStatus::Done)
+        session.finish(world)?;
+        return Ok(SolveStatus::Unfinished);
     }
+    session.finish(world)?;
+    Ok(SolveStatus::Done)
 }

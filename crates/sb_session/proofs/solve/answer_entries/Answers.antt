@@ -1,5 +1,6 @@
 use Rattle.std.proofs.Common.{Bool, subst}
 use Rattle.std.proofs.lemmas.Result.{err_from_is_err_and}
+use Rattle.sb_session.specs.Commanding.{is_proved}
 use Rattle.sb_session.specs.Reading.{Cut}
 use Rattle.sb_session.proofs.solve.answer_entries.Goals as goal
 
@@ -12,6 +13,8 @@ returns-in_err-pause-clause-err g c =
     let p = err_from_is_err_and c.from_residual.result c.from_residual.ensures.1 in
     rw p.1
     (λ opened bytes sofar.
-    subst (λ (ended : Bool). Cut opened bytes ended (g.W.World.outside c.answer_next.new.world))
-    c.loop-pause.invariant.finished
-    (c.in_err-pause.ensures.err opened bytes (c.loop-pause.invariant.sofar opened bytes sofar)))
+    subst (λ (ended : Bool). Cut (is_proved c.args.session.now) opened bytes ended
+    (g.W.World.outside c.answer_next.new.world)) c.loop-pause.invariant.finished
+    (subst (λ (proved : Bool). Cut proved opened bytes c.loop-pause.feed.1
+    (g.W.World.outside c.answer_next.new.world)) c.loop-pause.invariant.kind
+    (c.in_err-pause.ensures.err opened bytes (c.loop-pause.invariant.sofar opened bytes sofar))))

@@ -1,7 +1,7 @@
 -- so many entries are answered, and nothing else was done
 use Rattle.std.proofs.Common.{◌≡◌, ℕ, false, List, length}
 use Rattle.sb_world.specs.Outside.{Outside}
-use Rattle.sb_stack.specs.Stacked.{state_of}
+use Rattle.sb_session.specs.Commanding.{is_proved}
 use Rattle.sb_session.specs.Progress.{Sofar}
 use Rattle.sb_session.proofs.solve.answer_entries.Given as goal
 
@@ -9,12 +9,13 @@ abbrev pub invariant-loop-pause : goal.invariant-loop-pause
 invariant-loop-pause g l =
     record {
       going : l.session.ended ≡ false;
+      kind : is_proved l.session ≡ is_proved l.fn.session;
       finished : l.feed.1 ≡ l.fn.feed.1;
       faults : g.W.World.faults l.world ≡ g.W.World.faults l.fn.world;
       sofar :
           (opened : Outside) (bytes : List ℕ)
-          → Sofar opened bytes l.fn.feed (state_of l.fn.session.stack) (g.W.World.outside l.fn.world)
-          → Sofar opened bytes l.feed (state_of l.session.stack) (g.W.World.outside l.world);
+          → Sofar opened bytes l.fn.feed l.fn.session (g.W.World.outside l.fn.world)
+          → Sofar opened bytes l.feed l.session (g.W.World.outside l.world);
     }
 
 abbrev pub decreases-loop-pause : goal.decreases-loop-pause

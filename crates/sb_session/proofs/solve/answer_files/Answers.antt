@@ -1,28 +1,29 @@
 use Rattle.std.proofs.Common.{◌∙◌, refl, ap, inl, inr}
 use Rattle.std.proofs.lemmas.Result.{err_from_is_err_and}
 use Rattle.std.specs.Option.{option_copied}
+use Rattle.sb_session.specs.Commanding.{is_proved}
 use Rattle.sb_session.proofs.ScriptLemmas.{opened_cut}
-use Rattle.sb_session.proofs.SolveLemmas.{run_from, cut_from}
+use Rattle.sb_session.proofs.SolveLemmas.{run_from, cut_from, some_mapped}
 use Rattle.sb_session.specs.Solve.{asked_for, created}
 use Rattle.sb_session.proofs.solve.answer_files.Goals as goal
 
 pub returns-clause-ok : goal.returns-clause-ok
 returns-clause-ok g c =
-    run_from (asked_for (option_copied c.args.script) (option_copied c.args.proof)) c.answer_script.result
+    run_from (asked_for (option_copied c.args.script) (option_copied c.args.proof)) (is_proved c.new-2.result) c.answer_script.result
     (g.W.World.outside c.args.world.now) (g.W.World.outside c.create_proof.new.world)
     (g.W.World.outside c.answer_script.new.world)
     (g.W.World.faults c.args.world.now) (g.W.World.faults c.create_proof.new.world)
     (g.W.World.faults c.answer_script.new.world)
-    refl (c.in_ok-create_proof.ensures.created ∙ ap (created (option_copied c.args.proof)) c.in_ok-open_input.ensures.opened)
+    refl (c.new-2.ensures.kind ∙ (c.is_some.ensures ∙ some_mapped _ c.args.proof)) (c.in_ok-create_proof.ensures.created ∙ ap (created (option_copied c.args.proof)) c.in_ok-open_input.ensures.opened)
     (c.in_ok-create_proof.ensures.counts ∙ c.in_ok-open_input.ensures.counts) c.answer_script.ensures.ok
     c.answer_script.ensures.counts
 
 pub returns-clause-err : goal.returns-clause-err
 returns-clause-err g c =
-    cut_from (asked_for (option_copied c.args.script) (option_copied c.args.proof)) c.answer_script.result
+    cut_from (asked_for (option_copied c.args.script) (option_copied c.args.proof)) (is_proved c.new-2.result) c.answer_script.result
     (g.W.World.outside c.args.world.now) (g.W.World.outside c.create_proof.new.world)
     (g.W.World.outside c.answer_script.new.world)
-    refl (c.in_ok-create_proof.ensures.created ∙ ap (created (option_copied c.args.proof)) c.in_ok-open_input.ensures.opened)
+    refl (c.new-2.ensures.kind ∙ (c.is_some.ensures ∙ some_mapped _ c.args.proof)) (c.in_ok-create_proof.ensures.created ∙ ap (created (option_copied c.args.proof)) c.in_ok-open_input.ensures.opened)
     c.answer_script.ensures.err
 
 pub returns-in_err-create_proof-clause-err : goal.returns-in_err-create_proof-clause-err

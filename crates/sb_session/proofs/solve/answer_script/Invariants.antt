@@ -1,7 +1,8 @@
 -- so many bytes are read, all whole entries in them are answered, and nothing else was done
 use Rattle.std.proofs.Common.{◌≡◌, ◌≤◌, ◌-◌, ◌^◌, ℕ, false, List, length}
 use Rattle.sb_world.specs.Outside.{Outside}
-use Rattle.sb_session.specs.Solve.{Asked, opened}
+use Rattle.sb_session.specs.Solve.{Asked, opened, asks_proof}
+use Rattle.sb_session.specs.Commanding.{is_proved}
 use Rattle.sb_session.specs.Underway.{Underway}
 use Rattle.sb_session.proofs.solve.answer_script.Given as goal
 
@@ -13,7 +14,8 @@ invariant-loop-count g l =
       session_goes_on : l.session.ended ≡ false;
       faults : g.W.World.faults l.world ≡ g.W.World.faults l.fn.world;
       underway :
-          (asked : Asked) (old : Outside) → asked.limit ≡ 2 ^ 32 → g.W.World.outside l.fn.world ≡ opened asked old
+          (asked : Asked) (old : Outside) → asked.limit ≡ 2 ^ 32
+          → is_proved l.fn.session ≡ asks_proof asked → g.W.World.outside l.fn.world ≡ opened asked old
           → (bytes : List ℕ) × (length bytes ≡ l.count)
           × Underway asked old bytes l.feed l.session (g.W.World.outside l.world);
     }

@@ -5,6 +5,7 @@ use Rattle.sb_session.specs.declared.solve.SolveStatus.TheVariants.{Done, Unfini
 use Rattle.sb_session.specs.Solve.{Asked, Run, asked_for, asked_by}
 use Rattle.sb_session.specs.Progress.{status_by}
 use Rattle.sb_session.proofs.SolveLemmas.{run_by, counts_by, complete_by}
+use Rattle.sb_session.proofs.CertifyingLemmas.{certified_by}
 use Rattle.sb_session.proofs.solve.solve_top.Goals as goal
 
 pub returns-in-Ok-clause-complete : goal.returns-in-Ok-clause-complete
@@ -22,3 +23,18 @@ returns-in-Ok-clause-complete g c taken no_fault bounded =
     (ap₂ asked_for c.in-Ok.ensures.script c.in-Ok.ensures.proof)
     (run_by asked result old new before after ensures.ok ensures.err))
     (counts_by (λ s. Run asked s old new) result before after ensures.ok ensures.faults) no_fault bounded)
+
+pub returns-in-Ok-clause-certified : goal.returns-in-Ok-clause-certified
+returns-in-Ok-clause-certified g c taken proved answered =
+    let old = g.W.World.outside c.args.world.now in
+    let new = g.W.World.outside c.answer_files.new.world in
+    let result = c.answer_files.result in
+    let ensures = c.answer_files.ensures in
+    let asked = asked_for (option_copied c.in-Ok.asked.script) (option_copied c.in-Ok.asked.proof) in
+    certified_by c.certified_is_accepted.ensures c.certified_to_exit_is_accepted.ensures
+    (asked_by (map string_bytes c.args.words.now)) old new proved (status_by result)
+    (subst (λ (s : SolveStatus). (s ≡ Done) ⊎ (s ≡ Unfinished)) c.status_of.ensures answered)
+    (subst (λ (a : Asked). Run a (status_by result) old new)
+    (ap₂ asked_for c.in-Ok.ensures.script c.in-Ok.ensures.proof)
+    (run_by asked result old new (g.W.World.faults c.args.world.now) (g.W.World.faults c.answer_files.new.world)
+    ensures.ok ensures.err))

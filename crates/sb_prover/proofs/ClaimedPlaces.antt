@@ -1,0 +1,200 @@
+-- The clauses of the memberships of one constant.
+use Rattle.std.proofs.Common.{◌≡◌, ◌≢◌, ℕ, zero, suc, ◌+◌, ◌<◌, Bool, true, false, nat_eq, List, [], ◌∷◌, ◌++◌, length, map, get_or, take, slice_get, Option, Some, None, refl, sym, ap, ap₂, subst, ◌∙◌, arith}
+use Rattle.std.specs.Prelude.{option_and_then}
+use Rattle.std.specs.List.{All}
+use Rattle.std.proofs.lemmas.Bool.Decides.{nat_tests}
+use Rattle.std.proofs.lemmas.List.Elements.{All-push, All-nil}
+use Rattle.std.proofs.lemmas.Option.{slice_get_within}
+use Rattle.sb_lit.specs.Budgets.{Spending}
+use Rattle.sb_word.specs.Words.{IsWord}
+use Rattle.sb_lang.specs.Normal.{normal}
+use Rattle.sb_lang.specs.Regex.{Regex}
+use Rattle.sb_regex.specs.Numbered.{Extends}
+use Rattle.sb_regex.proofs.CallerLemmas.{names_kept, extends_same, extends_more}
+use Rattle.sb_deriv.specs.Faithful.{Memo}
+use Rattle.sb_meaning.specs.Terms.{Term, text, constant}
+use Rattle.sb_script.specs.State.{Assertion}
+use Rattle.sb_problem.specs.Normals.{IsRegexOf}
+use Rattle.sb_fragment.specs.Memberships.{in_re}
+use Rattle.sb_rulebook.specs.Atoms.{AtomOver}
+use Rattle.sb_rulebook.specs.Kept.{AllKept, Asked}
+use Rattle.sb_atoms.specs.Numbered as numbered
+use Rattle.sb_trace.specs.Putting.{IsCounted}
+use Rattle.sb_trace.proofs.CallerLemmas.{puts_none, puts_both}
+use Rattle.sb_decide.specs.Places.{IsRegexAt, AreRegexesAt, HasNoWordAt}
+use Rattle.sb_refute.specs.declared.evidence.Asserted.{Asserted}
+use Rattle.sb_refute.specs.Backing.{Backing, Backs, Evidences, EvidencesUncounted, KeepsAsserted, asserted_at}
+use Rattle.sb_refute.specs.Refuting.{AreDisjoint, membership_of, membership_at}
+use Rattle.sb_prover.specs.Claiming.{HasClause, IsClaimed, Claims, AreClaimed}
+
+same-some : {X : Type 0} (x y : X) → Some x ≡ Some y → x ≡ y
+same-some x y h = cc
+
+none-some : {X : Type 0} (x : X) → None ≡ Some x → ⊥
+none-some x h = cc
+
+-- A claim stays, as arena and table grow.
+
+got-more : {X : Type 0} (xs ys : List X) (i : ℕ) (x : X) → slice_get xs i ≡ Some x → slice_get (xs ++ ys) i ≡ Some x
+got-more [] ys i x h = absurd (omega (arith, slice_get_within [] i x h))
+got-more (z ∷ xs) ys zero x h = h
+got-more (z ∷ xs) ys (suc i) x h = got-more xs ys i x h
+
+regex-kept : (rs more : List Regex) (R : Term) (id : ℕ) → Extends rs more → IsRegexOf rs R id → IsRegexOf more R id
+regex-kept rs more R id grows h = record {
+  kind = h.kind;
+  reglan = h.reglan;
+  means = h.means;
+  names = names_kept rs more id (normal h.reglan) grows h.names;
+}
+
+atom-kept : (old new : List (AtomOver ℕ)) (i : ℕ) (m : ℕ × ℕ) → numbered.Extends old new
+    → option_and_then membership_of (slice_get old i) ≡ Some m
+    → option_and_then membership_of (slice_get new i) ≡ Some m
+atom-kept old new i m grows h = step (slice_get old i) refl h
+  where
+    step : (o : Option (AtomOver ℕ)) → slice_get old i ≡ o → option_and_then membership_of o ≡ Some m
+        → option_and_then membership_of (slice_get new i) ≡ Some m
+    step None is k = absurd (none-some m k)
+    step (Some a) is k =
+        ap (option_and_then membership_of)
+        (ap (λ xs. slice_get xs i) grows.is ∙ got-more old grows.more i a is) ∙ k
+
+membership-kept : (e f : Backing) (place : ℕ) (m : ℕ × ℕ) → numbered.Extends e.atoms f.atoms → KeepsAsserted e f
+    → membership_at e place ≡ Some m → membership_at f place ≡ Some m
+membership-kept e f place m grows stays h = step (asserted_at e.asserted place) refl h
+  where
+    at : List (AtomOver ℕ) → Option Asserted → Option (ℕ × ℕ)
+    at atoms o = option_and_then (λ (a : Asserted). option_and_then membership_of (slice_get atoms a.literal.atom)) o
+
+    step : (o : Option Asserted) → asserted_at e.asserted place ≡ o → at e.atoms o ≡ Some m
+        → at f.atoms (asserted_at f.asserted place) ≡ Some m
+    step None is k = absurd (none-some m k)
+    step (Some a) is k = ap (at f.atoms) (stays place a is) ∙ atom-kept e.atoms f.atoms a.literal.atom m grows k
+
+claimed-kept : (assertions : List Assertion) (serial place : ℕ) (rs more : List Regex) (e f : Backing)
+    → Extends rs more → numbered.Extends e.atoms f.atoms → KeepsAsserted e f
+    → IsClaimed assertions serial rs e place → IsClaimed assertions serial more f place
+claimed-kept assertions serial place rs more e f grows atoms stays h = record {
+  expression = h.expression;
+  number = h.number;
+  there = membership-kept e f place (serial, h.number) atoms stays h.there;
+  stands = h.stands;
+  is = regex-kept rs more h.expression h.number grows h.is;
+}
+
+-- Lines one behind the other.
+
+uncounted-none : (asked : Asked) (before : AllKept) (rs : List Regex) (memo : Memo) (e : Backing)
+    (told : Option (List ℕ)) → Backs rs memo e before → EvidencesUncounted asked before rs memo e told told
+uncounted-none asked before rs memo e told b =
+    record { after = before; puts = puts_none asked before told; backs = b; counted = refl }
+
+uncounted-both : (asked : Asked) (before : AllKept) (mid more : List Regex) (memo : Memo) (f g : Backing)
+    (old told new : Option (List ℕ)) → EvidencesUncounted asked before mid memo f old told
+    → ((after : AllKept) → Backs mid memo f after → EvidencesUncounted asked after more memo g told new)
+    → EvidencesUncounted asked before more memo g old new
+uncounted-both asked before mid more memo f g old told new p then =
+    let q = then p.after p.backs in
+    record {
+      after = q.after;
+      puts = puts_both asked before p.after q.after old told new p.puts q.puts;
+      backs = q.backs;
+      counted = q.counted ∙ p.counted;
+    }
+
+counted-behind : (asked : Asked) (before after : AllKept) (budget : Spending) → after.counted ≡ before.counted
+    → IsCounted asked before budget → IsCounted asked after budget
+counted-behind asked before after budget same h = record { spent = same ∙ h.spent; limit = h.limit }
+
+-- lines that are not counted, and behind them others
+pub lines-both : (asked : Asked) (before : AllKept) (mid more : List Regex) (memo memos : Memo) (f g : Backing)
+    (budget left : Spending) (old told new : Option (List ℕ)) → EvidencesUncounted asked before mid memo f old told
+    → IsCounted asked before budget
+    → ((after : AllKept) → Backs mid memo f after → IsCounted asked after budget
+    → Evidences asked after more memos g left told new)
+    → Evidences asked before more memos g left old new
+lines-both asked before mid more memo memos f g budget left old told new p counts then =
+    let q = then p.after p.backs (counted-behind asked before p.after budget p.counted counts) in
+    record {
+      after = q.after;
+      puts = puts_both asked before p.after q.after old told new p.puts q.puts;
+      backs = q.backs;
+      counts = q.counts;
+    }
+
+-- Place after place.
+
+pub claimed-none : (asked : Asked) (assertions : List Assertion) (serial : ℕ) (rs : List Regex) (e : Backing)
+    (told : Option (List ℕ)) → e.asserted ≡ [] → AreClaimed asked assertions serial rs rs e e told told []
+claimed-none asked assertions serial rs e told nothing = record {
+  puts = λ memo before b. uncounted-none asked before rs memo e told b;
+  extends = extends_same rs;
+  only = λ place h. absurd (none-some h.0 (ap (λ entries. asserted_at entries place) (sym nothing) ∙ h.1));
+  all = All-nil (HasClause e);
+}
+
+pub claimed-more : (asked : Asked) (assertions : List Assertion) (serial place : ℕ) (rs mid more : List Regex)
+    (e f g : Backing) (old told new : Option (List ℕ)) (places : List ℕ)
+    → AreClaimed asked assertions serial rs mid e f old told places
+    → Claims asked assertions serial place mid more f g told new
+    → AreClaimed asked assertions serial rs more e g old new (places ++ place ∷ [])
+claimed-more asked assertions serial place rs mid more e f g old told new places h c = record {
+  puts = λ memo before b. uncounted-both asked before mid more memo f g old told new (h.puts memo before b)
+      (λ after then. c.puts memo after then);
+  extends = extends_more rs mid more h.extends c.extends;
+  only = λ other has. step other has (nat_eq other place) refl;
+  all = All-push (HasClause g) places place (λ i d l. has-kept (get_or places i d) (h.all i d l)) c.has;
+}
+  where
+    has-kept : (other : ℕ) → HasClause f other → HasClause g other
+    has-kept other has = (has.0, c.stays other has.0 has.1)
+
+    kept : (other : ℕ) → HasClause f other → IsClaimed assertions serial more g other
+    kept other has = claimed-kept assertions serial other mid more f g c.extends c.atoms c.stays (h.only other has)
+
+    here : (o : Option Asserted) → asserted_at f.asserted place ≡ o → IsClaimed assertions serial more g place
+    here None is = c.claimed is
+    here (Some a) is = kept place (a, is)
+
+    step : (other : ℕ) → HasClause g other → (b : Bool) → nat_eq other place ≡ b
+        → IsClaimed assertions serial more g other
+    step other has true is =
+        let same : place ≡ other = grind (arith, nat_tests) in
+        subst (IsClaimed assertions serial more g) same (here (asserted_at f.asserted place) refl)
+    step other has false is =
+        let apart : other ≢ place = grind (arith, nat_tests) in
+        kept other (has.0, sym (c.others other apart) ∙ has.1)
+
+-- The memberships have no word in common.
+
+record HaveNumbers (assertions : List Assertion) (serial : ℕ) (rs : List Regex) (e : Backing) (places : List ℕ) : Type 0
+  where
+    numbers : List ℕ
+    are : map (membership_at e) places ≡ map (λ r. Some (serial, r)) numbers
+    regexes : AreRegexesAt rs assertions places numbers
+
+regex-there : (assertions : List Assertion) (serial place : ℕ) (rs : List Regex) (e : Backing)
+    → (h : IsClaimed assertions serial rs e place) → IsRegexAt rs assertions place h.number
+regex-there assertions serial place rs e h =
+    record { term = in_re (constant serial text) h.expression; there = h.stands; regex = h.is }
+
+numbers-of : (assertions : List Assertion) (serial : ℕ) (rs : List Regex) (e : Backing) (places : List ℕ)
+    → All (IsClaimed assertions serial rs e) places → HaveNumbers assertions serial rs e places
+numbers-of assertions serial rs e [] h = record { numbers = []; are = refl; regexes = tt }
+numbers-of assertions serial rs e (place ∷ places) h =
+    let first = h 0 0 (omega arith) in
+    let rest = numbers-of assertions serial rs e places (λ i d l. h (suc i) d (omega (arith, l))) in
+    record {
+      numbers = first.number ∷ rest.numbers;
+      are = ap₂ (λ x xs. x ∷ xs) first.there rest.are;
+      regexes = (regex-there assertions serial place rs e first, rest.regexes);
+    }
+
+pub disjoint : (asked : Asked) (assertions : List Assertion) (serial : ℕ) (rs more : List Regex) (e f : Backing)
+    (old new : Option (List ℕ)) (places : List ℕ) → AreClaimed asked assertions serial rs more e f old new places
+    → HasNoWordAt assertions places → AreDisjoint more f places
+disjoint asked assertions serial rs more e f old new places h none =
+    let n = numbers-of assertions serial more f places
+    (λ i d l. h.only (get_or places i d) (h.all i d l)) in
+    record { constant = serial; regexes = n.numbers; are = n.are; no_word = none more n.numbers n.regexes }

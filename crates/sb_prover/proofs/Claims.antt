@@ -1,0 +1,359 @@
+-- The clause of one membership, and the literal in it.
+use Rattle.std.proofs.Common.{◌≡◌, ◌≢◌, ℕ, zero, suc, ◌+◌, ◌<◌, Bool, true, false, ◌&&◌, nat_lt, List, [], ◌∷◌, length, map, get_or, slice_get, Option, Some, None, option_map, refl, sym, ap, ap₂, subst, ◌∙◌, arith}
+use Rattle.std.specs.Prelude.{option_and_then, MatchOption, is_some, IfSome}
+use Rattle.std.specs.List.{All, list_all, position_from}
+use Rattle.std.proofs.lemmas.Bool.{and_parts, false≢true}
+use Rattle.std.proofs.lemmas.Bool.Decides.{nat_tests}
+use Rattle.std.proofs.lemmas.Iterator.Adapters.{position_from-zero}
+use Rattle.std.proofs.lemmas.List.Quantifiers.{position-Some}
+use Rattle.std.proofs.lemmas.Option.{slice_get_within, slice_get-get_or, get_or_from_slice_get}
+use Rattle.sb_lit.specs.declared.clause.Lit.{Lit}
+use Rattle.sb_lang.specs.RegLan.{RegLan}
+use Rattle.sb_lang.specs.Regex.{Regex}
+use Rattle.sb_lang.specs.Normal.{normal}
+use Rattle.sb_lang.specs.OrderLaws.{OrderTellsApart}
+use Rattle.sb_regex.specs.Numbered.{regex_at, Extends}
+use Rattle.sb_regex.proofs.CallerLemmas.{names_from, extends_more}
+use Rattle.sb_deriv.specs.Faithful.{Memo}
+use Rattle.sb_meaning.specs.Terms.{Term, text, constant, no_terms, with_term}
+use Rattle.sb_meaning.specs.Values.{Valuation}
+use Rattle.sb_meaning.specs.Truth.{meaning_of, means_reglan}
+use Rattle.sb_term.specs.Serials.{has_serials_below, have_serials_below, all_below}
+use Rattle.sb_term.specs.Numbered.{term_at}
+use Rattle.sb_term.specs.declared.assertion.Assertion as code
+use Rattle.sb_stack.specs.Stacked.{Stacked, state_of, assertion_of, assertion_in, HasNumberBelow}
+use Rattle.sb_sorts.specs.Scopes.{texts}
+use Rattle.sb_script.specs.Brought.{is_regex, is_membership}
+use Rattle.sb_script.specs.Pieces.{Piece, constant_piece}
+use Rattle.sb_script.specs.Sizes.{is_regular}
+use Rattle.sb_script.specs.State.{Assertion, asserted, a_mark, live}
+use Rattle.sb_problem.specs.Normals.{IsRegexOf, IsNumberOf}
+use Rattle.sb_fragment.specs.Memberships.{in_re}
+use Rattle.sb_fragment.specs.Rules.{is_decided}
+use Rattle.sb_rulebook.specs.Accepted.{at_level, term_of}
+use Rattle.sb_rulebook.specs.AtomRules.{is_declared}
+use Rattle.sb_rulebook.specs.Atoms.{Atom, AtomOver, bool_atom, in_atom, le_atom, sum_atom, and_atom, iff_atom, is_same_atom, number_of}
+use Rattle.sb_rulebook.specs.Kept.{AllKept, Asked}
+use Rattle.sb_rulebook.specs.Translation.{positive}
+use Rattle.sb_rulebook.proofs.CallerLemmas.{same_atom, atom_itself}
+use Rattle.sb_atoms.specs.Numbered as numbered
+use Rattle.sb_atoms.specs.Numbered.{Names, over, atoms_in, HaveRegexesBelow}
+use Rattle.sb_atoms.specs.Translated.{brought_translation, HasNoLiteral}
+use Rattle.sb_decide.specs.Places.{IsPlaceOf}
+use Rattle.sb_refute.specs.declared.evidence.Asserted.{Asserted}
+use Rattle.sb_refute.specs.Backing.{Backing, Backs, EvidencesUncounted, IsLive, KeepsAsserted, asserted_at}
+use Rattle.sb_refute.specs.Refuting.{membership_of}
+use Rattle.sb_refute.proofs.CallerLemmas.{backs-grown}
+use Rattle.sb_prover.specs.Claiming.{IsClaimed, Claims, Stands}
+
+same-some : {X : Type 0} (x y : X) → Some x ≡ Some y → x ≡ y
+same-some x y h = cc
+
+some-none : {X : Type 0} (x : X) → Some x ≡ None → ⊥
+some-none x h = cc
+
+same-term : (t u : Term) → asserted t ≡ asserted u → t ≡ u
+same-term t u h = cc
+
+same-expression : (s z : ℕ) (R Q : Term) → in_re (constant s text) R ≡ in_re (constant z text) Q → R ≡ Q
+same-expression s z R Q h = cc
+
+-- What stands at a place.
+
+-- the term is that of the membership
+pub the-term : (assertions : List Assertion) (place : ℕ) (t u : Term) → slice_get assertions place ≡ Some (asserted t)
+    → slice_get assertions place ≡ Some (asserted u) → t ≡ u
+the-term assertions place t u h k = same-term t u (same-some (asserted t) (asserted u) (sym h ∙ k))
+
+-- it is a live assertion on the lowest level
+pub live-there : (assertions : List Assertion) (place : ℕ) (t : Term) → slice_get assertions place ≡ Some (asserted t)
+    → slice_get (at_level 0 assertions) place ≡ Some (Some t, 0)
+live-there [] place t h = absurd (omega (arith, slice_get_within [] place (asserted t) h))
+live-there (a ∷ rest) zero t h = ap (λ b. Some (term_of b, 0)) (same-some a (asserted t) h)
+live-there (a ∷ rest) (suc place) t h = live-there rest place t h
+
+sort-there : (n serial : ℕ) → serial < n → slice_get (texts n) serial ≡ Some text
+sort-there zero serial l = absurd (omega (arith, l))
+sort-there (suc n) zero l = refl
+sort-there (suc n) (suc serial) l = sort-there n serial (omega (arith, l))
+
+-- its constant is declared
+pub declared-there : (n : ℕ) (t : Term) → has_serials_below n t ≡ true → (serial : ℕ) (R : Term)
+    → t ≡ in_re (constant serial text) R → is_declared (texts n) text serial ≡ true
+declared-there n t h serial R is =
+    let parts = and_parts (nat_lt serial n) (have_serials_below n (with_term R no_terms))
+    (ap (has_serials_below n) (sym is) ∙ h) in
+    let below : nat_lt serial n ≡ true = parts.0 in
+    let l : serial < n = grind (arith, nat_tests) in
+    rw (sort-there n serial l, is_declared) refl
+
+-- What a decided membership is.
+
+pub decided-parts : (serial : ℕ) (R : Term) → is_decided (asserted (in_re (constant serial text) R)) ≡ true
+    → (is_regex R ≡ true) × (is_regular R ≡ true)
+decided-parts serial R h = and_parts (is_regex R) (is_regular R) h
+
+pub is-member : (t : Term) (serial : ℕ) (R : Term) → t ≡ in_re (constant serial text) R
+    → is_decided (asserted (in_re (constant serial text) R)) ≡ true → is_membership t ≡ true
+is-member t serial R is h = ap is_membership is ∙ (decided-parts serial R h).0
+
+-- under every valuation its regular expression means one
+record IsMeant (R : Term) : Type 0 where
+  reglan : RegLan
+  means : (v : Valuation) → meaning_of v R ≡ means_reglan reglan
+
+meant : (rs : List Regex) (R : Term) (found : Option ℕ) → is_regex R ≡ true → IsNumberOf rs R found → IsMeant R
+meant rs R None kind h = absurd (false≢true (sym h ∙ kind))
+meant rs R (Some id) kind h = record { reglan = h.reglan; means = h.means }
+
+-- Its literal.
+
+literal-of : (atoms : List Atom) (serial : ℕ) (R : Term) (reglan : RegLan) → is_regex R ≡ true → is_regular R ≡ true
+    → meaning_of [] R ≡ means_reglan reglan
+    → brought_translation atoms (in_re (constant serial text) R)
+    ≡ positive atoms (in_atom (constant_piece serial ∷ []) (normal reglan))
+literal-of atoms serial R reglan kind regular means = rw (kind, regular, means) refl
+
+first-there : (test : Atom → Bool) (a : Atom) → test a ≡ true → position_from test 0 (a ∷ []) ≡ Some 0
+first-there test a h = rw h refl
+
+-- there is one over some table
+pub has-literal : OrderTellsApart → (rs : List Regex) (t : Term) (serial : ℕ) (R : Term) (found : Option ℕ)
+    → t ≡ in_re (constant serial text) R → is_decided (asserted (in_re (constant serial text) R)) ≡ true
+    → IsNumberOf rs R found → HasNoLiteral t → ⊥
+has-literal apart rs t serial R found is decided number none =
+    let parts = decided-parts serial R decided in
+    let m = meant rs R found parts.0 number in
+    let only : Atom = in_atom (constant_piece serial ∷ []) (normal m.reglan) in
+    some-none (record { atom = 0; positive = true })
+    (sym (ap (brought_translation (only ∷ [])) is
+    ∙ literal-of (only ∷ []) serial R m.reglan parts.0 parts.1 (m.means [])
+    ∙ ap (option_map (λ (n : ℕ). record { atom = n; positive = true }))
+    (first-there (is_same_atom only) only (atom_itself apart only)))
+    ∙ none (only ∷ []))
+
+literal-number : (o : Option ℕ) (l : Lit)
+    → option_map {T = ℕ} (λ n. (record { atom = n; positive = true })) o ≡ Some l → o ≡ Some l.atom
+literal-number None l h = absurd (some-none l (sym h))
+literal-number (Some n) l h = ap (option_map (λ (m : Lit). m.atom)) h
+
+mapped : {A B : Type 0} (f : A → B) (xs : List A) (k : ℕ) (y : B) → slice_get (map f xs) k ≡ Some y
+    → (x : A) × (slice_get xs k ≡ Some x) × (f x ≡ y)
+mapped f [] k y h = absurd (omega (arith, slice_get_within [] k y h))
+mapped f (x ∷ xs) zero y h = (x, refl, same-some (f x) y h)
+mapped f (x ∷ xs) (suc k) y h = mapped f xs k y h
+
+-- the atom, over the numbers of regexes
+record IsAlone (rs : List Regex) (serial : ℕ) (r : Regex) (a : AtomOver ℕ) : Type 0 where
+  number : ℕ
+  is : a ≡ in_atom (constant_piece serial ∷ []) number
+  regex : regex_at rs number ≡ r
+
+same-parts : (ps qs : List Piece) (r q : Regex) → in_atom ps r ≡ in_atom qs q → (ps ≡ qs) × (r ≡ q)
+same-parts ps qs r q h = (cc, cc)
+
+alone : (rs : List Regex) (serial : ℕ) (r : Regex) (a : AtomOver ℕ)
+    → over rs a ≡ in_atom (constant_piece serial ∷ []) r → IsAlone rs serial r a
+alone rs serial r (in_atom ps q) h =
+    let parts = same-parts ps (constant_piece serial ∷ []) (regex_at rs q) r h in
+    record { number = q; is = ap (λ qs. in_atom qs q) parts.0; regex = parts.1 }
+alone rs serial r (bool_atom s) h = absurd (other h)
+  where
+    other : bool_atom s ≡ in_atom (constant_piece serial ∷ []) r → ⊥
+    other e = cc
+alone rs serial r (le_atom x k) h = absurd (other h)
+  where
+    other : le_atom x k ≡ in_atom (constant_piece serial ∷ []) r → ⊥
+    other e = cc
+alone rs serial r (sum_atom k ss) h = absurd (other h)
+  where
+    other : sum_atom k ss ≡ in_atom (constant_piece serial ∷ []) r → ⊥
+    other e = cc
+alone rs serial r (and_atom ls) h = absurd (other h)
+  where
+    other : and_atom ls ≡ in_atom (constant_piece serial ∷ []) r → ⊥
+    other e = cc
+alone rs serial r (iff_atom l m) h = absurd (other h)
+  where
+    other : iff_atom l m ≡ in_atom (constant_piece serial ∷ []) r → ⊥
+    other e = cc
+
+-- the literal that the code found is that of the membership
+pub is-claimed : OrderTellsApart → (assertions : List Assertion) (serial place : ℕ) (R : Term) (reglan : RegLan)
+    (rs : List Regex) (e : Backing) (a : Asserted) → is_regex R ≡ true → is_regular R ≡ true
+    → ((v : Valuation) → meaning_of v R ≡ means_reglan reglan)
+    → slice_get assertions place ≡ Some (asserted (in_re (constant serial text) R))
+    → HaveRegexesBelow (length rs) e.atoms → asserted_at e.asserted place ≡ Some a
+    → Some a.literal ≡ brought_translation (atoms_in rs e.atoms) (in_re (constant serial text) R)
+    → IsClaimed assertions serial rs e place
+is-claimed apart assertions serial place R reglan rs e a kind regular means stands below there literal = record {
+  expression = R;
+  number = it.number;
+  there = ap (option_and_then (λ (b : Asserted). option_and_then membership_of (slice_get e.atoms b.literal.atom)))
+      there
+      ∙ ap (option_and_then membership_of) names;
+  stands = stands;
+  is = record {
+    kind = kind;
+    reglan = reglan;
+    means = means;
+    names = names_from rs it.number (normal reglan)
+        (below a.literal.atom (in_atom (constant_piece serial ∷ []) it.number) names) it.regex;
+  };
+}
+  where
+    atom : Atom
+    atom = in_atom (constant_piece serial ∷ []) (normal reglan)
+
+    atoms : List Atom
+    atoms = atoms_in rs e.atoms
+
+    number : number_of atoms atom ≡ Some a.literal.atom
+    number = literal-number (number_of atoms atom) a.literal
+        (sym (literal ∙ literal-of atoms serial R reglan kind regular (means [])))
+
+    found : (a.literal.atom < length atoms) × (is_same_atom atom (get_or atoms a.literal.atom atom) ≡ true)
+        × ((k : ℕ) → k < a.literal.atom → is_same_atom atom (get_or atoms k atom) ≡ false)
+    found = position-Some (is_same_atom atom) atoms a.literal.atom atom
+        (position_from-zero (is_same_atom atom) atoms ∙ number)
+
+    at : (x : AtomOver ℕ) × (slice_get e.atoms a.literal.atom ≡ Some x) × (over rs x ≡ get_or atoms a.literal.atom atom)
+    at = mapped (over rs) e.atoms a.literal.atom (get_or atoms a.literal.atom atom)
+        (slice_get-get_or atoms a.literal.atom atom found.0)
+
+    it : IsAlone rs serial (normal reglan) at.0
+    it = alone rs serial (normal reglan) at.0
+        (at.2 ∙ sym (same_atom apart atom (get_or atoms a.literal.atom atom) found.1))
+
+    names : slice_get e.atoms a.literal.atom ≡ Some (in_atom (constant_piece serial ∷ []) it.number)
+    names = at.1 ∙ ap Some it.is
+
+-- What is put at one place.
+pub claims : OrderTellsApart → (asked : Asked) (assertions : List Assertion) (serial z place : ℕ) (t R : Term)
+    (found : Option ℕ) (rs mid more : List Regex) (e f : Backing) (o : Option Asserted) (a : Asserted)
+    (old new : Option (List ℕ)) → IsPlaceOf assertions serial place → slice_get assertions place ≡ Some (asserted t)
+    → t ≡ in_re (constant z text) R → IsNumberOf mid R found → Extends rs mid → Extends mid more
+    → HaveRegexesBelow (length rs) e.atoms → HaveRegexesBelow (length more) f.atoms
+    → ((memo : Memo) (before : AllKept) → Backs mid memo e before → EvidencesUncounted asked before more memo f old new)
+    → numbered.Extends e.atoms f.atoms → KeepsAsserted e f
+    → ((other : ℕ) → other ≢ place → asserted_at f.asserted other ≡ asserted_at e.asserted other)
+    → o ≡ asserted_at f.asserted place → o ≡ Some a
+    → (asserted_at e.asserted place ≡ None
+    → option_map (λ (b : Asserted). b.literal) o ≡ brought_translation (atoms_in more f.atoms) t)
+    → Claims asked assertions serial place rs more e f old new
+claims apart asked assertions serial z place t R found rs mid more e f o a old new p stands is number first second
+    below above puts atoms stays others answer some literal = record {
+      puts = λ memo before b.
+          puts memo before (backs-grown rs mid memo memo e before first (λ n pieces h. h) below b);
+      extends = extends_more rs mid more first second;
+      atoms = atoms;
+      stays = stays;
+      others = others;
+      has = (a, there);
+      claimed = λ fresh. is-claimed apart assertions serial place p.regex m.reglan more f a parts.0 parts.1 m.means
+          p.there above there
+          (ap (option_map (λ (b : Asserted). b.literal)) (sym some) ∙ literal fresh
+          ∙ ap (brought_translation (atoms_in more f.atoms)) same);
+    }
+  where
+    there : asserted_at f.asserted place ≡ Some a
+    there = sym answer ∙ some
+
+    same : t ≡ in_re (constant serial text) p.regex
+    same = the-term assertions place t (in_re (constant serial text) p.regex) stands p.there
+
+    parts : (is_regex p.regex ≡ true) × (is_regular p.regex ≡ true)
+    parts = decided-parts serial p.regex p.decided
+
+    m : IsMeant p.regex
+    m = meant mid p.regex found parts.0
+        (subst (λ Q. IsNumberOf mid Q found) (same-expression z serial R p.regex (sym is ∙ same)) number)
+
+-- Some clause is put.
+pub never-none : OrderTellsApart → (assertions : List Assertion) (serial z place : ℕ) (t R : Term) (found : Option ℕ)
+    (rs : List Regex) → IsPlaceOf assertions serial place → slice_get assertions place ≡ Some (asserted t)
+    → t ≡ in_re (constant z text) R → IsNumberOf rs R found → HasNoLiteral t → ⊥
+never-none apart assertions serial z place t R found rs p stands is number none =
+    let same = the-term assertions place t (in_re (constant serial text) p.regex) stands p.there in
+    has-literal apart rs t serial p.regex found same p.decided
+    (subst (λ Q. IsNumberOf rs Q found) (same-expression z serial R p.regex (sym is ∙ same)) number) none
+
+pub a-member : (assertions : List Assertion) (serial place : ℕ) (t : Term) → IsPlaceOf assertions serial place
+    → slice_get assertions place ≡ Some (asserted t) → is_membership t ≡ true
+a-member assertions serial place t p stands =
+    is-member t serial p.regex (the-term assertions place t (in_re (constant serial text) p.regex) stands p.there)
+    p.decided
+
+pub is-live : (asked : Asked) (assertions : List Assertion) (n place : ℕ) (t : Term)
+    → asked.live ≡ at_level 0 assertions → asked.sorts ≡ texts n → slice_get assertions place ≡ Some (asserted t)
+    → has_serials_below n t ≡ true → IsLive asked place t
+is-live asked assertions n place t same sorts stands below = record {
+  live = ap (λ xs. slice_get xs place) same ∙ live-there assertions place t stands;
+  declared = λ serial R is. ap (λ ss. is_declared ss text serial) sorts ∙ declared-there n t below serial R is;
+}
+
+pub some-pair : {X : Type 0} (o : Option X) (b : Bool) (Q : X → Type 0) → MatchOption o (b ≡ false) Q → b ≡ true
+    → is_some o ≡ true
+some-pair None b Q h is = absurd (false≢true (sym h ∙ is))
+some-pair (Some x) b Q h is = refl
+
+-- the assertion of a row of the table
+pub row-there : (ts : List Term) (rows : List code.Assertion) (assertions : List Assertion) (place : ℕ) (t : Term)
+    → map (assertion_in ts) rows ≡ assertions → slice_get assertions place ≡ Some (asserted t)
+    → (a : code.Assertion) × (slice_get rows place ≡ Some a) × (assertion_in ts a ≡ asserted t)
+row-there ts rows assertions place t same h =
+    mapped (assertion_in ts) rows place (asserted t) (ap (λ xs. slice_get xs place) same ∙ h)
+
+pub place-within : (ts : List Term) (rows : List code.Assertion) (assertions : List Assertion) (place : ℕ) (t : Term)
+    → map (assertion_in ts) rows ≡ assertions → slice_get assertions place ≡ Some (asserted t) → place < length rows
+place-within ts rows assertions place t same h =
+    let row = row-there ts rows assertions place t same h in slice_get_within rows place row.0 row.1
+
+pub row-at : (ts : List Term) (rows : List code.Assertion) (assertions : List Assertion) (place : ℕ) (t : Term)
+    (d : code.Assertion) → map (assertion_in ts) rows ≡ assertions → slice_get assertions place ≡ Some (asserted t)
+    → assertion_in ts (get_or rows place d) ≡ asserted t
+row-at ts rows assertions place t d same h =
+    let row = row-there ts rows assertions place t same h in
+    ap (assertion_in ts) (get_or_from_slice_get rows place row.0 d row.1) ∙ row.2
+
+mark-asserted : (t : Term) → a_mark ≡ asserted t → ⊥
+mark-asserted t h = cc
+
+pub no-mark : (ts : List Term) (rows : List code.Assertion) (assertions : List Assertion) (place : ℕ) (t : Term)
+    (d : code.Assertion) → map (assertion_in ts) rows ≡ assertions → slice_get assertions place ≡ Some (asserted t)
+    → (get_or rows place d).term ≡ None → ⊥
+no-mark ts rows assertions place t d same h none =
+    mark-asserted t (sym (ap (assertion_of ts) none) ∙ row-at ts rows assertions place t d same h)
+
+all-at : (test : Term → Bool) (ts : List Term) (id : ℕ) → id < length ts → list_all test ts ≡ true
+    → test (term_at ts id) ≡ true
+all-at test [] id l h = absurd (omega (arith, l))
+all-at test (t ∷ ts) zero l h = (and_parts (test t) (list_all test ts) h).0
+all-at test (t ∷ ts) (suc id) l h =
+    all-at test ts id (omega (arith, l)) (and_parts (test t) (list_all test ts) h).1
+
+pub stands-there : (s : Stacked) (place id : ℕ) (rows : List code.Assertion) (t : Term) (d : code.Assertion)
+    → rows ≡ s.assertions → map (assertion_in s.table) rows ≡ live (state_of s)
+    → All (HasNumberBelow (length s.table)) s.assertions → all_below s.scope.declared s.table ≡ true
+    → slice_get (live (state_of s)) place ≡ Some (asserted t) → (get_or rows place d).term ≡ Some id
+    → Stands s place id
+stands-there s place id rows t d value same numbers below there some =
+    record {
+      known = known;
+      stands = stands;
+      declared = all-at (has_serials_below s.scope.declared) s.table id known below;
+    }
+  where
+    within : place < length s.assertions
+    within = subst (λ (xs : List code.Assertion). place < length xs) value
+        (place-within s.table rows (live (state_of s)) place t same there)
+
+    its : (get_or s.assertions place d).term ≡ Some id
+    its = subst (λ (xs : List code.Assertion). (get_or xs place d).term ≡ Some id) value some
+
+    known : id < length s.table
+    known = subst (λ o. IfSome o (λ i. i < length s.table)) its (numbers place d within)
+
+    stands : slice_get (live (state_of s)) place ≡ Some (asserted (term_at s.table id))
+    stands = there
+        ∙ ap Some (sym (row-at s.table rows (live (state_of s)) place t d same there) ∙ ap (assertion_of s.table) some)

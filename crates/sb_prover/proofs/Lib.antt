@@ -1,0 +1,9 @@
+mod LinesTaken
+mod Formats
+mod Sayings
+mod SatValues
+mod Growing
+mod Proved
+mod Refutations
+mod ClaimedPlaces
+mod Claims

@@ -1,0 +1,29 @@
+-- Verdicts that may be said.
+use Rattle.std.proofs.Common.{◌≡◌, ℕ, ◌^◌, ◌-◌, true, false, not, cond, ◌&&◌, ◌==◌, [], Option, Some, None, ap, ap₂, ◌∙◌}
+use Rattle.sb_lit.specs.Kept.{kept_at}
+use Rattle.sb_rulebook.specs.Refusals.{Refusal, unknown_id}
+use Rattle.sb_rulebook.specs.Brought.{newest_format, has_rests}
+use Rattle.sb_rulebook.specs.Lines.{said_unsat, said_unknown, said_unsupported}
+use Rattle.sb_rulebook.specs.Kept.{AllKept, most_counted}
+use Rattle.sb_rulebook.specs.Verdicts.{Question, refusal_of, unless_wrong, are_live, is_listed, refutes}
+
+pub unsat-right : (q : Question) (kept : AllKept) (id : ℕ) → q.inside ≡ true → kept.format ≡ newest_format
+    → kept_at kept.clauses id ≡ Some (record { literals = []; level = 0 })
+    → refusal_of q kept (said_unsat id None) ≡ None
+unsat-right q kept id inside format there =
+    ap (λ o. elim o as (λ _. Option Refusal) [
+      | None ↦ Some unknown_id
+      | Some clause ↦ cond (are_live q kept None)
+          (unless_wrong (q.inside && (is_listed kept id None && refutes q kept clause))) (Some unknown_id)
+    ]) there
+    ∙ ap₂ (λ b f. unless_wrong (b && (not (has_rests f) && true))) inside format
+
+pub unknown-right : (q : Question) (kept : AllKept) → q.inside ≡ true → most_counted q.asked ≡ 2 ^ 64 - 1
+    → kept.counted ≡ 2 ^ 64 - 1 → refusal_of q kept (said_unknown (2 ^ 64 - 1)) ≡ None
+unknown-right q kept inside limit counted =
+    ap₂ (λ (m c : ℕ). unless_wrong (q.inside && (((2 ^ 64 - 1) == m) && (c == (2 ^ 64 - 1))))) limit counted
+    ∙ ap (λ b. unless_wrong (b && true)) inside
+
+pub unsupported-right : (q : Question) (kept : AllKept) → q.inside ≡ false
+    → refusal_of q kept said_unsupported ≡ None
+unsupported-right q kept outside = ap (λ b. unless_wrong (not b)) outside

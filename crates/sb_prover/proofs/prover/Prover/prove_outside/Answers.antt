@@ -1,0 +1,16 @@
+use Rattle.std.proofs.Common.{[], subst, sym}
+use Rattle.sb_script.specs.Verdicts.{is_outside}
+use Rattle.sb_rulebook.specs.Accepted.{question_in}
+use Rattle.sb_stack.specs.Stacked.{state_of}
+use Rattle.sb_prover.specs.Proving.{IsProved}
+use Rattle.sb_prover.proofs.Proved.{outside-proved}
+use Rattle.sb_prover.proofs.prover.Prover.prove_outside.Goals as goal
+
+pub returns-clause-proves : goal.returns-clause-proves
+returns-clause-proves g c = λ s rs memo before verdict h.
+    subst (λ p. IsProved (question_in (state_of s) []) is_outside before rs memo p (g.L.Tape.told c.args.tape.now)
+    (g.L.Tape.told c.say.new.tape))
+    (sym c.in_ok-begin.ensures.begun)
+    (outside-proved c.text_is_read.ensures c.text_is_one_line.ensures c.texts_are_lines.ensures s before rs memo
+    c.args.self.now (g.L.Tape.told c.args.tape.now) (g.L.Tape.told c.begin.new.tape) (g.L.Tape.told c.say.new.tape)
+    verdict h c.in_ok-begin.ensures.told c.in_ok-say.ensures.told)

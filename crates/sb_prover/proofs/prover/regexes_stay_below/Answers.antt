@@ -1,0 +1,5 @@
+use Rattle.sb_atoms.proofs.CallerLemmas.{regexes_kept}
+use Rattle.sb_prover.proofs.prover.regexes_stay_below.Goals as goal
+
+pub returns : goal.returns
+returns c = λ rs more atoms grows below. regexes_kept rs more atoms grows below

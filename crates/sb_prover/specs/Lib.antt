@@ -1,0 +1,3 @@
+pub mod Proving
+pub mod Saying
+pub mod Claiming

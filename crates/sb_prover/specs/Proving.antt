@@ -1,0 +1,50 @@
+-- What is known of a proof that is written along a script.
+use Rattle.std.specs.Prelude.{◌≡◌, ℕ, Bool, false, List, length, Option}
+use Rattle.sb_lang.specs.Regex.{Regex}
+use Rattle.sb_regex.specs.Numbered.{Extends}
+use Rattle.sb_deriv.specs.Faithful.{Memo, KeepsEntries}
+use Rattle.sb_script.specs.Verdicts.{Verdict}
+use Rattle.sb_rulebook.specs.Atoms.{AtomOver}
+use Rattle.sb_rulebook.specs.Kept.{nothing_kept}
+use Rattle.sb_rulebook.specs.Brought.{newest_format}
+use Rattle.sb_rulebook.specs.Verdicts.{Question}
+use Rattle.sb_rulebook.specs.Judging.{at_rest, Progress}
+use Rattle.sb_certified.specs.Certified.{Proves}
+use Rattle.sb_proof.specs.Tapes.{with_bytes}
+use Rattle.sb_atoms.specs.Numbered.{HaveRegexesBelow}
+use Rattle.sb_refute.specs.Backing.{Backing, Backs}
+
+pub record Proving : Type 0 where
+  pub evidence : Backing
+  -- the first line stands in the proof
+  pub begun : Bool
+
+-- The proof has come so far that no line is due, and what its reader keeps is what is known of it.
+pub record IsAbreast (rs : List Regex) (memo : Memo) (proving : Proving) (p : Progress) : Type 0 where
+  pub rests : p.phase ≡ at_rest
+  pub begun : p.begun ≡ proving.begun
+  pub first : p.begun ≡ false → p.kept ≡ nothing_kept newest_format
+  pub format : p.kept.format ≡ newest_format
+  pub counted : p.kept.counted ≡ 0
+  pub backs : Backs rs memo proving.evidence p.kept
+  pub regexes : HaveRegexesBelow (length rs) proving.evidence.atoms
+
+-- It stays so where more regexes and more derivatives become known.
+abbrev pub AbreastStays : Type 0
+AbreastStays = (rs more : List Regex) (memo new : Memo) (proving : Proving) (p : Progress) → Extends rs more
+    → KeepsEntries memo new → IsAbreast rs memo proving p → IsAbreast more new proving p
+
+-- atoms whose regexes are below a number have them below a greater one, so also where the arena grew
+abbrev pub RegexesStayBelow : Type 0
+RegexesStayBelow = (rs more : List Regex) (atoms : List (AtomOver ℕ)) → Extends rs more
+    → HaveRegexesBelow (length rs) atoms → HaveRegexesBelow (length more) atoms
+
+-- Lines were put that prove a verdict, and the proof has come so far behind them.
+pub record IsProved (q : Question) (v : Verdict) (before : Progress) (rs : List Regex) (memo : Memo)
+    (proving : Proving) (old new : Option (List ℕ)) : Type 0
+  where
+    pub lines : List ℕ
+    pub after : Progress
+    pub proves : Proves before after q lines v
+    pub told : new ≡ with_bytes lines old
+    pub abreast : IsAbreast rs memo proving after

@@ -1,0 +1,55 @@
+-- Private: the lines that a verdict has, and what they prove.
+use Rattle.std.specs.Prelude.{◌≡◌, ℕ, ◌^◌, ◌-◌, Some, Bool, true, if◌then◌else◌, List, [], ◌∷◌, map, Option}
+use Rattle.sb_script.specs.Verdicts.{Verdict}
+use Rattle.sb_rulebook.specs.Brought.{newest_format}
+use Rattle.sb_rulebook.specs.Lines.{Line, header_line, text_of}
+use Rattle.sb_rulebook.specs.LineLaws.{bytes_of}
+use Rattle.sb_rulebook.specs.Kept.{AllKept, Asked, most_counted, count_again}
+use Rattle.sb_rulebook.specs.Verdicts.{Question}
+use Rattle.sb_rulebook.specs.Judging.{Progress}
+use Rattle.sb_certified.specs.Certified.{Proves}
+use Rattle.sb_proof.specs.Tapes.{with_bytes}
+use Rattle.sb_lang.specs.Regex.{Regex}
+use Rattle.sb_lit.specs.Kept.{kept_at}
+use Rattle.sb_deriv.specs.Faithful.{Memo}
+use Rattle.sb_trace.specs.Putting.{Puts}
+use Rattle.sb_refute.specs.Backing.{Backing, Backs, at_the_bottom}
+use Rattle.sb_refute.specs.declared.refute.Refuted.{Refuted}
+use Rattle.sb_refute.specs.declared.refute.Refuted.TheVariants as refuted
+
+-- the first line, where it does not stand there
+abbrev pub first_lines : Bool → List Line
+first_lines begun = if begun then [] else header_line newest_format ∷ []
+
+-- these lines are what was told since
+abbrev pub Tells : List Line → Option (List ℕ) → Option (List ℕ) → Type 0
+Tells ls old new = new ≡ with_bytes (bytes_of (map text_of ls)) old
+
+-- Lines were put that prove a verdict, and their reader keeps this behind them.
+pub record IsSaid (q : Question) (v : Verdict) (before : Progress) (reached : AllKept) (old new : Option (List ℕ)) :
+    Type 0 where
+  pub lines : List ℕ
+  pub after : Progress
+  pub proves : Proves before after q lines v
+  pub told : new ≡ with_bytes lines old
+  pub begun : after.begun ≡ true
+  pub kept : after.kept ≡ count_again reached
+
+-- the empty clause is kept, or so many lines were counted as a check may have
+abbrev pub SaysRefuted : Asked → AllKept → Refuted → Type 0
+SaysRefuted asked kept (refuted.Clause id) = kept_at kept.clauses id.0 ≡ Some (at_the_bottom [])
+SaysRefuted asked kept refuted.Spent = (most_counted asked ≡ 2 ^ 64 - 1) × (kept.counted ≡ 2 ^ 64 - 1)
+
+-- the empty clause is known by its number
+abbrev pub IsKeptClause : Backing → Refuted → Type 0
+IsKeptClause e (refuted.Clause id) = e.refuted ≡ Some id.0
+IsKeptClause e refuted.Spent = Unit {0}
+
+-- Lines were put that refute the live assertions, as far as a check may have lines.
+pub record IsRefuted (asked : Asked) (before : AllKept) (rs : List Regex) (memo : Memo) (e : Backing) (r : Refuted)
+    (old new : Option (List ℕ)) : Type 0
+  where
+    pub after : AllKept
+    pub puts : Puts asked before after old new
+    pub backs : Backs rs memo e after
+    pub says : SaysRefuted asked after r

@@ -1,0 +1,13 @@
+//! The prover: it puts the lines that prove the verdict of each check of a script.
+//!
+//! A [`Prover`] puts the first line, for an `unsat` the lines that the live assertions of one constant lack and those
+//! that refute them, and for each check its verdict. The one idea is that the proof, as far as it has come, keeps what
+//! the prover knows of it ([`IsAbreast`](../specs/Proving.antt)), from check to check. The layer above decides, hands
+//! over the verdict, writes what was put, and then answers.
+#![tactic(auto)]
+
+mod prover;
+mod refutation;
+mod verdict;
+
+pub use prover::{Prover, abreast_stays, regexes_stay_below};

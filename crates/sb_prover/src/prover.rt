@@ -1,0 +1,256 @@
+//! The prover.
+
+ghost use Rattle.std.specs.Prelude.{◌≡◌, ℕ, [], List, length, true, IsSome, IfOk, OnOk};
+ghost use Rattle.sb_lang.specs.Regex.{Regex};
+ghost use Rattle.sb_deriv.specs.Faithful.{Memo};
+ghost use Rattle.sb_script.specs.Verdicts.{IsVerdict, is_sat, is_unsat, is_outside};
+ghost use Rattle.sb_rulebook.specs.Accepted.{question_in, asked_in};
+ghost use Rattle.sb_rulebook.specs.Judging.{Progress, beginning};
+ghost use Rattle.sb_rulebook.specs.Kept.{AllKept};
+ghost use Rattle.sb_rulebook.specs.LineLaws.{bytes_of};
+ghost use Rattle.sb_rulebook.specs.Lines.{text_of};
+ghost use Rattle.sb_certified.specs.Certified.{last_lines};
+ghost use Rattle.sb_proof.specs.Tapes.{with_bytes};
+ghost use Rattle.sb_stack.specs.Stacked.{Stacked, state_of, values_from};
+ghost use Rattle.sb_stack.specs.Steps.{verdict_in, found};
+ghost use Rattle.sb_stack.specs.declared.verdict.Verdict.TheVariants as verdicts;
+ghost use Rattle.sb_trace.specs.Putting.{CountsTapeFault};
+ghost use Rattle.sb_atoms.specs.Numbered.{HaveRegexesBelow};
+ghost use Rattle.sb_refute.specs.Backing.{Backs};
+ghost use Rattle.sb_decide.specs.Knowing.{Knows, IsDecision};
+ghost use Rattle.sb_prover.specs.Proving.{IsAbreast, IsProved, AbreastStays, RegexesStayBelow};
+ghost use Rattle.sb_prover.specs.Saying.{first_lines, IsKeptClause, IsRefuted, Tells};
+
+use crate::refutation::refute;
+use crate::verdict::{number_of, say, values_of};
+use sb_decide::Decider;
+use sb_lit::{Budget, ClauseId};
+use sb_proof::{Line, Said, Tape, TapeFault};
+use sb_refute::{Evidence, Refuted};
+use sb_rulebook::laws::{text_is_one_line, text_is_read, texts_are_lines};
+use sb_stack::{Stack, Verdict};
+use sb_word::Word;
+use std::alloc::Global;
+use std::marker::Model;
+
+/// The format of the proofs that are written.
+const FORMAT: u64 = 1;
+
+/// What of the regexes, atoms and clauses of a script stands in the proof that is written along it.
+#[derive(Drop)]
+pub struct Prover {
+    alloc: Global,
+    evidence: Evidence,
+    /// The empty clause, which refutes all checks from then on.
+    refuted: Option<ClauseId>,
+    /// The first line stands in the proof.
+    begun: bool,
+}
+
+impl Model for Prover {
+    ghost use Rattle.std.specs.Prelude.{◌≡◌, Some, IfSome};
+    ghost use Rattle.sb_prover.specs.Proving.{Proving};
+
+    ghost Value = { Proving };
+
+    ghost view = { λ prover. record { evidence = prover.evidence; begun = prover.begun } };
+
+    ghost invariant = { λ prover. IfSome prover.refuted (λ id. prover.evidence.refuted ≡ Some id.0) };
+}
+
+impl Prover {
+    /// Nothing stands in the proof. Takes no memory.
+    pub fn new(alloc: Global) -> Prover
+        ensures abreast { (rs : List Regex) (memo : Memo) → IsAbreast rs memo result beginning }
+        ensures regexes { (n : ℕ) → HaveRegexesBelow n result.evidence.atoms }
+    {
+        Prover {
+            alloc,
+            evidence: Evidence::new(alloc),
+            refuted: None,
+            begun: false,
+        }
+    }
+
+    /// Puts the lines that prove the verdict of a check, the verdict's own line as the last, and answers the verdict:
+    /// the one that was found, or `Unknown` where a check may have no more lines. Linear in the lines, and for an
+    /// `unsat` in what is explored that was not yet. After an error nothing more may be put.
+    pub fn prove<L: Tape>(
+        &mut self,
+        decider: &mut Decider,
+        stack: &Stack,
+        verdict: Verdict,
+        tape: &mut L,
+    ) -> Result<Verdict, TapeFault>
+        requires knows { Knows decider.old (found verdict stack.now) }
+        requires verdict { IsVerdict (state_of stack.now) [] (verdict_in verdict) }
+        requires decided { IsDecision verdict decider.old }
+        requires regexes { HaveRegexesBelow (length decider.old.arena) self.old.evidence.atoms }
+        ensures proves { IfOk result (λ v. (before : Progress)
+            → IsAbreast decider.old.arena decider.old.graph.memo self.old before
+            → IsProved (question_in (state_of stack.now) []) (verdict_in v) before decider.new.arena
+            decider.new.graph.memo self.new (L.Tape.told tape.old) (L.Tape.told tape.new)) }
+        ensures verdict { IfOk result (λ v. IsVerdict (state_of stack.now) [] (verdict_in v)) }
+        ensures regexes { OnOk result (HaveRegexesBelow (length decider.new.arena) self.new.evidence.atoms) }
+        ensures knows { IfOk result (λ v. Knows decider.new (found v stack.now)) }
+        ensures counts { CountsTapeFault result (L.Tape.faults tape.old) (L.Tape.faults tape.new) }
+    {
+        match verdict {
+            Verdict::Sat(words) => {
+                self.prove_sat(&words, tape)?;
+                Ok(Verdict::Sat(words))
+            }
+            Verdict::Unsat => self.prove_unsat(decider, stack, tape),
+            Verdict::Unknown => unreachable!(),
+            Verdict::Outside => {
+                self.prove_outside(tape)?;
+                Ok(Verdict::Outside)
+            }
+        }
+    }
+
+    /// Puts the last line, and the first one before it where no check had it put. Constant time.
+    pub fn finish<L: Tape>(&mut self, tape: &mut L) -> Result<(), TapeFault>
+        ensures told { OnOk result ((rs : List Regex) (memo : Memo) (p : Progress) → IsAbreast rs memo self.old p
+            → L.Tape.told tape.new ≡ with_bytes (last_lines p) (L.Tape.told tape.old)) }
+        ensures counts { CountsTapeFault result (L.Tape.faults tape.old) (L.Tape.faults tape.new) }
+    {
+        self.begin(tape)?;
+        tape.put(&Line::End)?;
+        Ok(())
+    }
+
+    /// Puts the first line where it does not stand in the proof.
+    fn begin<L: Tape>(&mut self, tape: &mut L) -> Result<(), TapeFault>
+        ensures told { OnOk result
+            (Tells (first_lines self.old.begun) (L.Tape.told tape.old) (L.Tape.told tape.new)) }
+        ensures begun { OnOk result (self.new ≡ record self.old { begun = true }) }
+        ensures counts { CountsTapeFault result (L.Tape.faults tape.old) (L.Tape.faults tape.new) }
+    {
+        if self.begun {
+            return Ok(());
+        }
+        tape.put(&Line::Header(FORMAT))?;
+        self.begun = true;
+        Ok(())
+    }
+
+    /// Puts the lines of a check whose live assertions are true for these words.
+    fn prove_sat<L: Tape>(&mut self, words: &[Word], tape: &mut L) -> Result<(), TapeFault>
+        ensures proves { OnOk result ((s : Stacked) (rs : List Regex) (memo : Memo) (before : Progress)
+            → IsVerdict (state_of s) [] (is_sat (values_from 0 words.now)) → IsAbreast rs memo self.old before
+            → IsProved (question_in (state_of s) []) (is_sat (values_from 0 words.now)) before rs memo self.new
+            (L.Tape.told tape.old) (L.Tape.told tape.new)) }
+        ensures evidence { OnOk result (self.new.evidence ≡ self.old.evidence) }
+        ensures counts { CountsTapeFault result (L.Tape.faults tape.old) (L.Tape.faults tape.new) }
+    {
+        text_is_read();
+        text_is_one_line();
+        texts_are_lines();
+        self.begin(tape)?;
+        let values = values_of(self.alloc, words)?;
+        say(Said::Sat(values), tape)?;
+        Ok(())
+    }
+
+    /// Puts the lines of a check that is not decided.
+    fn prove_outside<L: Tape>(&mut self, tape: &mut L) -> Result<(), TapeFault>
+        ensures proves { OnOk result ((s : Stacked) (rs : List Regex) (memo : Memo) (before : Progress)
+            → IsVerdict (state_of s) [] is_outside → IsAbreast rs memo self.old before
+            → IsProved (question_in (state_of s) []) is_outside before rs memo self.new
+            (L.Tape.told tape.old) (L.Tape.told tape.new)) }
+        ensures evidence { OnOk result (self.new.evidence ≡ self.old.evidence) }
+        ensures counts { CountsTapeFault result (L.Tape.faults tape.old) (L.Tape.faults tape.new) }
+    {
+        text_is_read();
+        text_is_one_line();
+        texts_are_lines();
+        self.begin(tape)?;
+        say(Said::Unsupported, tape)?;
+        Ok(())
+    }
+
+    /// Puts the lines of a check whose live assertions no values make true.
+    fn prove_unsat<L: Tape>(
+        &mut self,
+        decider: &mut Decider,
+        stack: &Stack,
+        tape: &mut L,
+    ) -> Result<Verdict, TapeFault>
+        requires knows { Knows decider.old (found verdicts.Unsat stack.now) }
+        requires verdict { IsVerdict (state_of stack.now) [] (is_unsat []) }
+        requires dead { IsSome decider.old.dead }
+        requires regexes { HaveRegexesBelow (length decider.old.arena) self.old.evidence.atoms }
+        ensures proves { IfOk result (λ v. (before : Progress)
+            → IsAbreast decider.old.arena decider.old.graph.memo self.old before
+            → IsProved (question_in (state_of stack.now) []) (verdict_in v) before decider.new.arena
+            decider.new.graph.memo self.new (L.Tape.told tape.old) (L.Tape.told tape.new)) }
+        ensures verdict { IfOk result (λ v. IsVerdict (state_of stack.now) [] (verdict_in v)) }
+        ensures regexes { OnOk result (HaveRegexesBelow (length decider.new.arena) self.new.evidence.atoms) }
+        ensures knows { IfOk result (λ v. Knows decider.new (found v stack.now)) }
+        ensures counts { CountsTapeFault result (L.Tape.faults tape.old) (L.Tape.faults tape.new) }
+    {
+        text_is_read();
+        text_is_one_line();
+        texts_are_lines();
+        self.begin(tape)?;
+        match self.refutation(decider, stack, tape)? {
+            Refuted::Clause(id) => {
+                say(Said::Unsat(number_of(id)), tape)?;
+                Ok(Verdict::Unsat)
+            }
+            Refuted::Spent => {
+                say(Said::Unknown(u64::MAX), tape)?;
+                Ok(Verdict::Unknown)
+            }
+        }
+    }
+
+    /// The empty clause, with the lines that it lacks.
+    fn refutation<L: Tape>(
+        &mut self,
+        decider: &mut Decider,
+        stack: &Stack,
+        tape: &mut L,
+    ) -> Result<Refuted, TapeFault>
+        requires knows { Knows decider.old (found verdicts.Unsat stack.now) }
+        requires dead { IsSome decider.old.dead }
+        requires regexes { HaveRegexesBelow (length decider.old.arena) self.old.evidence.atoms }
+        ensures refuted { IfOk result (λ r. (before : AllKept)
+            → Backs decider.old.arena decider.old.graph.memo self.old.evidence before → before.counted ≡ 0
+            → IsRefuted (asked_in (state_of stack.now)) before decider.new.arena decider.new.graph.memo
+            self.new.evidence r (L.Tape.told tape.old) (L.Tape.told tape.new)) }
+        ensures regexes { OnOk result (HaveRegexesBelow (length decider.new.arena) self.new.evidence.atoms) }
+        ensures begun { self.new.begun ≡ self.old.begun }
+        ensures knows { OnOk result (Knows decider.new (found verdicts.Unsat stack.now)) }
+        ensures counts { CountsTapeFault result (L.Tape.faults tape.old) (L.Tape.faults tape.new) }
+    {
+        if let Some(id) = self.refuted {
+            return Ok(Refuted::Clause(id));
+        }
+        let mut budget = Budget::new(u64::MAX);
+        let refuted = refute(&mut self.evidence, decider, stack, tape, &mut budget)?;
+        self.keep(refuted);
+        Ok(refuted)
+    }
+
+    /// Keeps the empty clause.
+    fn keep(&mut self, refuted: Refuted)
+        requires { IsKeptClause self.old.evidence refuted }
+        ensures { self.new ≡ self.old }
+    {
+        if let Refuted::Clause(id) = refuted {
+            self.refuted = Some(id);
+        }
+    }
+}
+
+/// A proof that has come so far stays so where more regexes and more derivatives become known.
+pub fn abreast_stays()
+    ensures { AbreastStays }
+{}
+
+/// Atoms whose regexes are below a number have them below a greater one, so also where the arena grew.
+pub fn regexes_stay_below()
+    ensures { RegexesStayBelow }
+{}

@@ -1,0 +1,66 @@
+use Rattle.std.proofs.Common.{◌≡◌, ℕ, ◌<◌, List, length, take, refl, ap, ◌∙◌, subst, inr}
+use Rattle.sb_world.specs.Outside.{write_at}
+use Rattle.sb_world.specs.declared.OutPort.TheVariants.{Answers}
+use Rattle.std.proofs.lemmas.Result.{err_from_is_err_and}
+use Rattle.sb_stack.specs.Stacked.{state_of}
+use Rattle.sb_stack.specs.Steps.{verdict_in}
+use Rattle.sb_session.specs.Checking.{session_of}
+use Rattle.sb_session.proofs.CheckLemmas.{on_ok, on_err, regexes_stay, tracked_stays, check_answered, answer_cut, proof_cut}
+use Rattle.sb_session.proofs.command.answer_check.Goals as goal
+
+pub returns-in_err-verdict-clause-err : goal.returns-in_err-verdict-clause-err
+returns-in_err-verdict-clause-err g c =
+    let p = err_from_is_err_and c.from_residual-in_err-verdict.result c.from_residual-in_err-verdict.ensures.1 in
+    let session = session_of c.args.stack.now c.args.decider.now c.args.prover.now in
+    let between = session_of c.decide.new.stack c.decide.new.self c.args.prover.now in
+    rw p.1
+    (λ q tracked.
+    proof_cut (verdict_in c.in_ok-decided.decided) q session between c.in_ok-decided.ensures.state refl
+    (g.W.World.outside c.args.world.now) (g.W.World.outside c.prove_check.new.world)
+    (c.in_err-verdict.ensures.err q
+    (tracked_stays c.abreast_stays.ensures session between q refl c.in_ok-decided.ensures.extends
+    c.in_ok-decided.ensures.derivatives_stay tracked)))
+
+pub returns-clause-ok : goal.returns-clause-ok
+returns-clause-ok g c =
+    let session = session_of c.args.stack.now c.args.decider.now c.args.prover.now in
+    let between = session_of c.decide.new.stack c.decide.new.self c.args.prover.now in
+    let proven = session_of c.decide.new.stack c.prove_check.new.decider c.prove_check.new.prover in
+    let after = session_of c.settle.new.self c.prove_check.new.decider c.prove_check.new.prover in
+    on_ok c.write_all.result
+    (λ written q tracked.
+    check_answered (verdict_in c.in_ok-decided.decided) q session between proven after (verdict_in c.in_ok-verdict.verdict)
+    c.in_ok-decided.ensures.state refl (g.W.World.outside c.args.world.now)
+    (g.W.World.outside c.prove_check.new.world) (g.W.World.outside c.write_all.new.world) (λ r h. h)
+    (c.in_ok-verdict.ensures.ok q
+    (tracked_stays c.abreast_stays.ensures session between q refl c.in_ok-decided.ensures.extends
+    c.in_ok-decided.ensures.derivatives_stay tracked))
+    c.settle.ensures.state
+    (written ∙ ap (λ (t : List ℕ). write_at Answers t (g.W.World.outside c.prove_check.new.world))
+    c.settle.ensures.reply))
+    c.write_all.ensures.ok
+
+pub returns-clause-err : goal.returns-clause-err
+returns-clause-err g c =
+    let session = session_of c.args.stack.now c.args.decider.now c.args.prover.now in
+    let between = session_of c.decide.new.stack c.decide.new.self c.args.prover.now in
+    let proven = session_of c.decide.new.stack c.prove_check.new.decider c.prove_check.new.prover in
+    let after = session_of c.settle.new.self c.prove_check.new.decider c.prove_check.new.prover in
+    on_err c.write_all.result
+    (λ cut q tracked.
+    inr (answer_cut (verdict_in c.in_ok-decided.decided) q session between proven after
+    (verdict_in c.in_ok-verdict.verdict)
+    c.in_ok-decided.ensures.state refl (g.W.World.outside c.args.world.now)
+    (g.W.World.outside c.prove_check.new.world) (g.W.World.outside c.write_all.new.world)
+    (c.in_ok-verdict.ensures.ok q
+    (tracked_stays c.abreast_stays.ensures session between q refl c.in_ok-decided.ensures.extends
+    c.in_ok-decided.ensures.derivatives_stay tracked))
+    (subst (λ (t : List ℕ). (out : ℕ) × (out < length t)
+    × (g.W.World.outside c.write_all.new.world ≡ write_at Answers (take out t)
+    (g.W.World.outside c.prove_check.new.world))) c.settle.ensures.reply cut)))
+    c.write_all.ensures.err
+
+pub prove_check-requires-clause-regexes : goal.prove_check-requires-clause-regexes
+prove_check-requires-clause-regexes g c =
+    regexes_stay c.regexes_stay_below.ensures c.args.decider.now.arena c.decide.new.self.arena c.args.prover.now
+    c.in_ok-decided.ensures.extends c.requires.regexes

@@ -1,0 +1,66 @@
+-- Private: what answering a check does.
+use Rattle.std.specs.Prelude.{◌≡◌, ℕ, Bool, true, false, List, [], ◌∷◌, ◌⊎◌, length, Option, IfSome}
+use Rattle.sb_lang.specs.Regex.{Regex}
+use Rattle.sb_deriv.specs.Faithful.{Memo}
+use Rattle.sb_world.specs.Outside.{Outside}
+use Rattle.sb_world.specs.Moved.{moved_by, writing_all}
+use Rattle.sb_world.specs.declared.OutPort.TheVariants as out_port
+use Rattle.sb_script.specs.State.{State}
+use Rattle.sb_script.specs.Verdicts.{Verdict, FindsUnproved, verdict_text, settled}
+use Rattle.sb_rulebook.specs.Judging.{Progress}
+use Rattle.sb_certified.specs.Certified.{FindsProved}
+use Rattle.sb_prover.specs.Proving.{Proving}
+use Rattle.sb_stack.specs.Stacked.{Stacked, state_of}
+use Rattle.sb_decide.specs.declared.decide.Decider.{Decider}
+use Rattle.sb_atoms.specs.Numbered.{HaveRegexesBelow}
+use Rattle.sb_session.specs.Commanding.{SessionState, is_proved, IsTracked, with_lines, CutOf}
+
+-- a session that has not ended, by its parts
+abbrev pub session_of : Stacked → Decider → Option Proving → SessionState
+session_of stack decider proof =
+    record { stack = stack; arena = decider.arena; memo = decider.graph.memo; proof = proof; ended = false }
+
+-- the atoms of the proof speak of regexes that are there
+abbrev pub HasRegexes : List Regex → Option Proving → Type 0
+HasRegexes rs proof = IfSome proof (λ proving. HaveRegexesBelow (length rs) proving.evidence.atoms)
+
+-- a check finds a verdict, with the lines of its proof or without
+abbrev pub Finds : Bool → Progress → Progress → State → List ℕ → Verdict → Type 0
+Finds true before after s lines v = FindsProved before after s [] lines v
+Finds false before after s lines v = FindsUnproved s [] lines v × (after ≡ before)
+
+-- The lines of the proof of a verdict are written, where a proof is.
+pub record ProvesCheck (s : State) (v : Verdict) (p : Progress) (proved : Bool) (after : SessionState)
+    (old new : Outside) : Type 0
+  where
+    pub lines : List ℕ
+    pub progress : Progress
+    pub finds : Finds proved p progress s lines v
+    pub tracked : IsTracked after progress
+    pub outside : new ≡ moved_by (writing_all (with_lines lines [])) old
+
+-- Less than all of the lines is written, or nothing.
+pub record CutProof (s : State) (p : Progress) (proved : Bool) (old new : Outside) : Type 0 where
+  pub v : Verdict
+  pub lines : List ℕ
+  pub progress : Progress
+  pub finds : Finds proved p progress s lines v
+  pub cut : CutOf (with_lines lines []) old new
+
+-- A check is answered, with the lines of its proof in front.
+pub record AnswersCheck (p : Progress) (session after : SessionState) (old new : Outside) : Type 0 where
+  pub v : Verdict
+  pub lines : List ℕ
+  pub progress : Progress
+  pub finds : Finds (is_proved session) p progress (state_of session.stack) lines v
+  pub state : state_of after.stack ≡ settled v (state_of session.stack)
+  pub tracked : IsTracked after progress
+  pub outside : new ≡ moved_by (writing_all (with_lines lines ((out_port.Answers, verdict_text v) ∷ []))) old
+
+-- Less than all of it is written.
+pub record CutCheck (p : Progress) (session : SessionState) (old new : Outside) : Type 0 where
+  pub v : Verdict
+  pub lines : List ℕ
+  pub progress : Progress
+  pub finds : Finds (is_proved session) p progress (state_of session.stack) lines v
+  pub cut : CutOf (with_lines lines ((out_port.Answers, verdict_text v) ∷ [])) old new
