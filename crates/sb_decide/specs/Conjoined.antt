@@ -1,4 +1,4 @@
--- Private: a constant's memberships, and which constants have new ones.
+-- A constant's memberships, and which constants have new ones.
 use Rattle.std.specs.Prelude.{◌≡◌, ◌≢◌, ℕ, ◌==◌, Bool, false, List, [], ◌∷◌, ◌++◌, map, length, Option, Some, None, slice_index_or}
 use Rattle.std.specs.List.{list_any}
 use Rattle.sb_term.specs.declared.term.Serial.{Serial}

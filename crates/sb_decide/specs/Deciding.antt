@@ -1,4 +1,4 @@
--- Private: what a check finds on the way: for each constant the regexes of its memberships.
+-- What a check finds on the way: for each constant the regexes of its memberships.
 use Rattle.std.specs.Prelude.{◌≡◌, ◌≢◌, ℕ, ◌<◌, true, List, [], ◌∷◌, ◌++◌, length, slice_index_or}
 use Rattle.std.specs.List.{list_all}
 use Rattle.sb_word.specs.Words.{IsWord}
