@@ -10,9 +10,11 @@ use Rattle.sb_clauses.specs.declared.record.Record.{Record}
 use Rattle.sb_clauses.specs.Records.{clause_of, kept_of}
 use Rattle.sb_clauses.specs.WatchLists.{WatchLists}
 use Rattle.sb_clauses.specs.Watching.{HasClause, IsSide, AreWatched}
-use Rattle.sb_clauses.specs.declared.passed.Passed.{Passed}
+use Rattle.sb_trail.specs.declared.assigned.Assigned.{Assigned}
+use Rattle.sb_trail.specs.Assignments.{held, current_level}
 use Rattle.sb_clauses.specs.Settling.{AreFine}
-use Rattle.sb_clauses.specs.Passing.{literals_of, AreReady}
+use Rattle.sb_clauses.specs.Marking.{mark_at, held_up_to, IsHead, AreReady}
+use Rattle.sb_clauses.proofs.Marked.{head_by}
 use Rattle.sb_clauses.specs.Waiting.{HaveRoom, AreStored}
 
 -- the clauses above the level are dropped at the places below n, and the rest is as it was
@@ -132,13 +134,15 @@ dropped_fine level kept walked literals firsts seconds h = record {
 }
 
 dropped_ready : (level : ℕ) (kept : Kept) (firsts : List ℕ) (first : WatchLists) (seconds : List ℕ)
-    (second : WatchLists)
-    (passed : List Passed) → AreReady kept firsts first seconds second passed
-    → AreReady (kept_up_to level kept) firsts first seconds second passed
-dropped_ready level kept firsts first seconds second passed h = record {
+    (second : WatchLists) (entries : List Assigned) (marks : List ℕ) (bound : ℕ)
+    → AreReady kept firsts first seconds second entries marks bound
+    → AreReady (kept_up_to level kept) firsts first seconds second entries marks bound
+dropped_ready level kept firsts first seconds second entries marks bound h = record {
   watched = dropped_watched level kept firsts first seconds second h.watched;
-  marked = λ at within end. dropped_fine level kept (take (at + 1) (literals_of passed))
-      (take (at + 1) (literals_of passed)) firsts seconds (h.marked at within end);
+  ascending = h.ascending;
+  below = h.below;
+  marked = λ i within. dropped_fine level kept (held_up_to (mark_at marks i) entries)
+      (held_up_to (mark_at marks i) entries) firsts seconds (h.marked i within);
 }
 
 dropped_room : (level : ℕ) (kept : Kept) (firsts : List ℕ) (first : WatchLists) (seconds : List ℕ) (second : WatchLists)
@@ -154,26 +158,22 @@ dropped_room level kept firsts first seconds second h =
       second_lists = λ id c has. h.second_lists id c (has_before level kept id c has);
     }
 
-dropped_stored : (level : ℕ) (kept : Kept) (firsts : List ℕ) (first : WatchLists) (seconds : List ℕ)
-    (second : WatchLists)
-    (passed : List Passed) (listed : ℕ) → AreStored kept firsts first seconds second passed listed
-    → AreStored (kept_up_to level kept) firsts first seconds second passed listed
-dropped_stored level kept firsts first seconds second passed listed h = record {
-  ready = rw (take-map (stays_up_to level) listed kept)
-      (dropped_ready level (take listed kept) firsts first seconds second passed h.ready);
-  room = dropped_room level kept firsts first seconds second h.room;
-  within = omega (arith, h.within, length-map kept (stays_up_to level));
-}
-
--- the records of a `Vec` that was lent as a slice
-pub dropped_whole : (level n : ℕ) (items slice new more : List (Option Record)) (kept : Kept) (firsts : List ℕ)
-    (first : WatchLists) (seconds : List ℕ) (second : WatchLists) (passed : List Passed) (listed : ℕ)
-    → n ≡ length items → slice ≡ items → kept_of items ≡ kept → kept_of new ≡ kept_up_to level (kept_of slice)
-    → AreStored kept firsts first seconds second passed listed
-    → AreStored (kept_of (take n (new ++ more))) firsts first seconds second passed listed
-dropped_whole level n items slice new more kept firsts first seconds second passed listed len same is_kept dropped h =
-    let same_len : length new ≡ length slice = sym (length-map new (option_map clause_of)) ∙ ap length dropped
-    ∙ length-map (kept_of slice) (stays_up_to level) ∙ length-map slice (option_map clause_of) in
-    let whole : take n (new ++ more) ≡ new = take-append-le n new more (omega (arith, same_len, ap length same))
-    ∙ take_all n new (omega (arith, same_len, ap length same)) in
-    rw (whole, dropped, same, is_kept) (dropped_stored level kept firsts first seconds second passed listed h)
+pub dropped_stored : (level : ℕ) (kept : Kept) (firsts : List ℕ) (first : WatchLists) (seconds : List ℕ)
+    (second : WatchLists) (entries : List Assigned) (marks : List ℕ) (head : Option ℕ) (listed : ℕ)
+    → AreStored kept firsts first seconds second entries marks head listed
+    → AreStored (kept_up_to level kept) firsts first seconds second entries marks head listed
+dropped_stored level kept firsts first seconds second entries marks head listed h =
+    let front : take listed (kept_up_to level kept) ≡ kept_up_to level (take listed kept) =
+    take-map (stays_up_to level) listed kept in
+    record {
+      ready = rw front
+          (dropped_ready level (take listed kept) firsts first seconds second entries marks (current_level entries + 1)
+          h.ready);
+      begins = rw front (head_by head (IsHead (take listed kept) entries firsts seconds)
+          (IsHead (kept_up_to level (take listed kept)) entries firsts seconds) (λ n at. record {
+            inside = at.inside;
+            fine = dropped_fine level (take listed kept) (take n (held entries)) (held entries) firsts seconds at.fine;
+          }) h.begins);
+      room = dropped_room level kept firsts first seconds second h.room;
+      within = omega (arith, h.within, length-map kept (stays_up_to level));
+    }

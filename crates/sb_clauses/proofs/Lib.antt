@@ -1,12 +1,13 @@
 pub mod Literals
 pub mod Growing
-pub mod Dropped
 pub mod ListLemmas
 pub mod Adding
 pub mod Moving
 pub mod Walking
 pub mod Walked
 pub mod Settling
-pub mod Passing
+pub mod Marked
+pub mod Dropped
 pub mod Waiting
 pub mod NextClause
+pub mod Resting

@@ -66,7 +66,7 @@ module _ (held : List Lit) where
       let inner = and_parts (is_among clause l) (is_open_under held l) outer.0 in
       (inner.0, inner.1, outer.1)
 
-  leaves_only-from : (clause : List Lit) (l : Lit) → is_among clause l ≡ true → is_open_under held l ≡ true
+  pub leaves_only-from : (clause : List Lit) (l : Lit) → is_among clause l ≡ true → is_open_under held l ≡ true
       → list_all (is_or_false held l) clause ≡ true → leaves_only held clause l ≡ true
   leaves_only-from clause l among unset others =
       and_from (is_among clause l && is_open_under held l) (list_all (is_or_false held l) clause)

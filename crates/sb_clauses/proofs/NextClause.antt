@@ -1,24 +1,32 @@
 -- New clauses come to the lists.
-use Rattle.std.proofs.Common.{◌≡◌, ℕ, zero, suc, ◌+◌, ◌<◌, ◌≤◌, true, List, [], ◌∷◌, ◌++◌, length, get_or, set, take, Option, Some, None, refl, sym, ◌∙◌, ap, subst, inl, inr, arith}
+use Rattle.std.proofs.Common.{◌≡◌, ℕ, zero, suc, ◌+◌, ◌<◌, ◌≤◌, true, false, List, [], ◌∷◌, ◌++◌, length, get_or, set, take, Option, Some, None, Result, Ok, Err, refl, sym, ◌∙◌, ap, subst, inl, inr, arith}
 use Rattle.std.specs.List.{list_all}
+use Rattle.std.specs.Result.{IfOk, OnErr}
 use Rattle.std.specs.Option.{option_map}
-use Rattle.std.proofs.lemmas.Bool.{false≢true, cases_eq}
+use Rattle.std.proofs.lemmas.Bool.{false≢true, cases_eq, false_from_ne_true}
 use Rattle.std.proofs.lemmas.Option.{none-some}
 use Rattle.std.proofs.lemmas.List.{length-map, length-set, length-take-le, length_push, take_more, take_all, take-append-le, get_or-set_same, get_or-set_other}
 use Rattle.sb_lit.specs.declared.clause.Lit.{Lit}
-use Rattle.sb_lit.specs.Clauses.{negation, is_same_literal}
+use Rattle.sb_lit.specs.Clauses.{negation, is_same_literal, is_among, is_true_under, is_false_under, is_false_clause, leaves_only}
 use Rattle.sb_lit.specs.Kept.{Kept, KeptClause, kept_at}
 use Rattle.sb_clauses.specs.declared.record.Record.{Record}
-use Rattle.sb_clauses.specs.declared.passed.Passed.{Passed}
+use Rattle.sb_trail.specs.declared.assigned.Assigned.{Assigned}
+use Rattle.sb_trail.specs.Assignments.{Assignments, held, current_level}
+use Rattle.sb_lit.specs.declared.clause.ClauseId.{ClauseId}
+use Rattle.sb_clauses.specs.Propagation.{has_room_for, GrowsBy, IsConflict}
 use Rattle.sb_clauses.specs.Records.{clause_of, kept_of}
 use Rattle.sb_clauses.specs.WatchLists.{WatchLists}
 use Rattle.sb_clauses.specs.Watching.{literal_at, home, IsPlaced, HasClause, place_at, IsSide, AreWatched}
 use Rattle.sb_clauses.specs.Settling.{Grown, IsFine, IsFineSide, AreFine}
 use Rattle.sb_clauses.specs.Adding.{IsRoomier, HasRoom, AreEnough}
-use Rattle.sb_clauses.specs.Passing.{literals_of, AreMarked, AreReady}
-use Rattle.sb_clauses.specs.Waiting.{ArePlaces, HaveRoom, AreOpen, AreLate, AreStored}
-use Rattle.sb_lit.proofs.CallerLemmas.{is_same_literal-true}
-use Rattle.sb_clauses.proofs.Growing.{kept_place}
+use Rattle.sb_clauses.specs.Looking.{IsHeld, IsLeft}
+use Rattle.sb_clauses.specs.Marking.{mark_at, held_up_to, AreMarked, IsFront, IsHead, AreReady}
+use Rattle.sb_clauses.specs.Waiting.{ArePlaces, HaveRoom, AreOpen, AreLate, IsStaying, AreStored}
+use Rattle.sb_lit.proofs.CallerLemmas.{is_same_literal-true, open-not_false, among_push_same}
+use Rattle.sb_clauses.proofs.Literals.{leaves_only-parts}
+use Rattle.sb_clauses.proofs.Marked.{ascending_front, below_front, marked_front, marked_push, head_by, head_push, held_push, taken_push}
+use Rattle.sb_trail.proofs.CallerLemmas.{level_after-push}
+use Rattle.sb_clauses.proofs.Growing.{kept_place, place_of_forced, GrowsBy-none, GrowsBy-push}
 use Rattle.sb_clauses.proofs.Moving.{list_at, pushed}
 use Rattle.sb_clauses.proofs.Settling.{front_grown, short_back, long_back}
 use Rattle.sb_clauses.proofs.Adding.{clause_below, kept_last, last_clause, earlier_clause, added_watched, both_roomier, enough_wider, kept_pushed}
@@ -46,25 +54,34 @@ none_side kept own other all a b n side =
       fresh = λ id past. side.fresh id (omega (arith, more));
     }
 
+none_fine : (kept : Kept) (walked literals : List Lit) (firsts seconds : List ℕ)
+    → AreFine kept walked literals firsts seconds → AreFine (kept ++ None ∷ []) walked literals firsts seconds
+none_fine kept walked literals firsts seconds h = record {
+  at_first = λ id c has. h.at_first id c (none_before kept id c has);
+  at_second = λ id c has. h.at_second id c (none_before kept id c has);
+}
+
 none_ready : (kept : Kept) (firsts : List ℕ) (first : WatchLists) (seconds : List ℕ) (second : WatchLists)
-    (passed : List Passed)
+    (entries : List Assigned) (marks : List ℕ) (level : ℕ)
     → length kept < length firsts → length kept < length seconds → length kept < first.nodes
     → length kept < second.nodes
-    → AreReady kept firsts first seconds second passed → AreReady (kept ++ None ∷ []) firsts first seconds second passed
-none_ready kept firsts first seconds second passed a b m n h = record {
+    → AreReady kept firsts first seconds second entries marks level
+    → AreReady (kept ++ None ∷ []) firsts first seconds second entries marks level
+none_ready kept firsts first seconds second entries marks level a b m n h = record {
   watched = record {
     at_first = none_side kept firsts seconds first a b m h.watched.at_first;
     at_second = none_side kept seconds firsts second b a n h.watched.at_second;
   };
-  marked = λ at within end. record {
-    at_first = λ id c has. (h.marked at within end).at_first id c (none_before kept id c has);
-    at_second = λ id c has. (h.marked at within end).at_second id c (none_before kept id c has);
-  };
+  ascending = h.ascending;
+  below = h.below;
+  marked = λ i within. none_fine kept (held_up_to (mark_at marks i) entries) (held_up_to (mark_at marks i) entries)
+      firsts seconds (h.marked i within);
 }
 
 -- a clause whose two literals are not false is fine
-open_fine : (ls literals c : List Lit) (a b : ℕ) → Grown ls literals → AreOpen literals c a b → IsFine ls ls c a b
-open_fine ls literals c a b grown h = record {
+open_fine : (walked literals more c : List Lit) (a b : ℕ) → Grown walked literals → AreOpen literals c a b
+    → IsFine walked more c a b
+open_fine walked literals more c a b grown h = record {
   short = λ is. absurd (false≢true (sym h.long ∙ is));
   watched = λ is. absurd (false≢true (sym h.own_open ∙ grown (negation (literal_at c a)) is));
 }
@@ -72,10 +89,25 @@ open_fine ls literals c a b grown h = record {
 open_back : (literals c : List Lit) (a b : ℕ) → AreOpen literals c a b → AreOpen literals c b a
 open_back literals c a b h = record { long = long_back c a b h.long; own_open = h.other_open; other_open = h.own_open }
 
-some_fine : (kept : Kept) (k : KeptClause) (ls : List Lit) (own other : List ℕ) (n a b : ℕ) → n ≡ length kept
-    → n < length own → n < length other → IsFine ls ls k.literals a b → IsFineSide kept ls ls own other
-    → IsFineSide (kept ++ Some k ∷ []) ls ls (set own n a) (set other n b)
-some_fine kept k ls own other n a b is_n own_room other_room new old id c has =
+-- and one whose first literal is true
+held_fine : (walked literals c : List Lit) (a b : ℕ) → ArePlaces c a b
+    → is_false_under walked (literal_at c a) ≡ false → IsHeld literals c a → IsFine walked literals c a b
+held_fine walked literals c a b places not_false h = record {
+  short = λ is. record {
+    inside = (places.inside (omega (arith, h.inside))).1;
+    holds = ap (is_true_under literals) (sym (is_same_literal-true (literal_at c a) (literal_at c b) is)) ∙ h.holds;
+  };
+  watched = λ is. absurd (false≢true (sym not_false ∙ is));
+}
+
+held_back : (walked literals c : List Lit) (a b : ℕ) → IsHeld literals c a → IsFine walked literals c b a
+held_back walked literals c a b h = record { short = λ is. h; watched = λ is. h }
+
+some_side : (kept : Kept) (k : KeptClause) (walked literals : List Lit) (own other : List ℕ) (n a b : ℕ)
+    → n ≡ length kept → n < length own → n < length other → IsFine walked literals k.literals a b
+    → IsFineSide kept walked literals own other
+    → IsFineSide (kept ++ Some k ∷ []) walked literals (set own n a) (set other n b)
+some_side kept k walked literals own other n a b is_n own_room other_room new old id c has =
     elim (cases_eq id n) [
       | inl here ↦ rw (
         here,
@@ -87,21 +119,24 @@ some_fine kept k ls own other n a b is_n own_room other_room new old id c has =
           (old id c (earlier_clause kept (Some k) id c (λ same. apart (same ∙ sym is_n)) has))
     ]
 
-some_marked : (kept : Kept) (k : KeptClause) (passed : List Passed) (firsts seconds : List ℕ) (n a b : ℕ)
-    → n ≡ length kept → n < length firsts → n < length seconds → AreLate passed k.literals a b
-    → AreMarked kept passed firsts seconds → AreMarked (kept ++ Some k ∷ []) passed (set firsts n a) (set seconds n b)
-some_marked kept k passed firsts seconds n a b is_n f s (inl none) h at within end =
-    absurd (omega (arith, ap length none))
-some_marked kept k passed firsts seconds n a b is_n f s (inr late) h at within end =
-    let ls : List Lit = take (at + 1) (literals_of passed) in
-    let grown : Grown ls (literals_of passed) = front_grown (at + 1) (literals_of passed) in
-    record {
-      at_first = some_fine kept k ls firsts seconds n a b is_n f s
-          (open_fine ls (literals_of passed) k.literals a b grown late) (h at within end).at_first;
-      at_second = some_fine kept k ls seconds firsts n b a is_n s f
-          (open_fine ls (literals_of passed) k.literals b a grown (open_back (literals_of passed) k.literals a b late))
-          (h at within end).at_second;
-    }
+some_fine : (kept : Kept) (k : KeptClause) (walked literals : List Lit) (firsts seconds : List ℕ) (n a b : ℕ)
+    → n ≡ length kept → n < length firsts → n < length seconds → IsFine walked literals k.literals a b
+    → IsFine walked literals k.literals b a → AreFine kept walked literals firsts seconds
+    → AreFine (kept ++ Some k ∷ []) walked literals (set firsts n a) (set seconds n b)
+some_fine kept k walked literals firsts seconds n a b is_n f s here there h = record {
+  at_first = some_side kept k walked literals firsts seconds n a b is_n f s here h.at_first;
+  at_second = some_side kept k walked literals seconds firsts n b a is_n s f there h.at_second;
+}
+
+some_marked : (kept : Kept) (k : KeptClause) (entries : List Assigned) (marks firsts seconds : List ℕ) (n a b : ℕ)
+    → n ≡ length kept → n < length firsts → n < length seconds → AreLate entries marks k.literals a b
+    → AreMarked kept entries marks firsts seconds
+    → AreMarked (kept ++ Some k ∷ []) entries marks (set firsts n a) (set seconds n b)
+some_marked kept k entries marks firsts seconds n a b is_n f s late h i within =
+    let ls : List Lit = held_up_to (mark_at marks i) entries in
+    some_fine kept k ls ls firsts seconds n a b is_n f s
+    (open_fine ls ls ls k.literals a b (λ l among. among) (late i within))
+    (open_fine ls ls ls k.literals b a (λ l among. among) (open_back ls k.literals a b (late i within))) (h i within)
 
 placed_by : (lists : ℕ) (c : List Lit) (a b : ℕ) → AreEnough c lists → ArePlaces c a b → IsPlaced lists c a b
 placed_by lists c a b enough h =
@@ -132,27 +167,34 @@ module _ (records : List (Option Record)) (n : ℕ) (place : Option Record) (fir
   more = take_more all_kept n None below
       ∙ ap (λ o. take n all_kept ++ o ∷ []) (kept_place all_kept records records n place refl refl in_records here).1
 
-  pub next_none : (passed : List Passed) → place ≡ None → AreReady (take n all_kept) firsts first seconds second passed
-      → AreReady (take (n + 1) all_kept) firsts first seconds second passed
-  next_none passed none h =
-      rw (more, none) (none_ready (take n all_kept) firsts first seconds second passed
+  pub next_none : (entries : List Assigned) (marks : List ℕ) (level : ℕ) → place ≡ None
+      → AreReady (take n all_kept) firsts first seconds second entries marks level
+      → AreReady (take (n + 1) all_kept) firsts first seconds second entries marks level
+  next_none entries marks level none h =
+      rw (more, none) (none_ready (take n all_kept) firsts first seconds second entries marks level
       (omega (arith, is_n, room.first_places)) (omega (arith, is_n, room.second_places))
       (omega (arith, is_n, room.first_nodes)) (omega (arith, is_n, room.second_nodes)) h)
 
+  pub head_none : (entries : List Assigned) → place ≡ None → (head : ℕ)
+      → IsHead (take n all_kept) entries firsts seconds head → IsHead (take (n + 1) all_kept) entries firsts seconds head
+  head_none entries none head h = rw (more, none) (record {
+    inside = h.inside;
+    fine = none_fine (take n all_kept) (take head (held entries)) (held entries) firsts seconds h.fine;
+  })
+
   module _ (r : Record) (c : List Lit) (is : place ≡ Some r) (same : c ≡ r.literals.items) (a b : ℕ)
       (places : ArePlaces c a b) where
-    has : HasClause all_kept n c
-    has = record {
-      found = clause_of r;
-      there = kept_at_get all_kept n below ∙ (kept_place all_kept records records n place refl refl in_records here).1
-          ∙ ap (option_map clause_of) is;
-      literals = sym same;
-    }
+    there_of : kept_at all_kept n ≡ Some (clause_of r)
+    there_of = kept_at_get all_kept n below ∙ (kept_place all_kept records records n place refl refl in_records here).1
+        ∙ ap (option_map clause_of) is
       where
         kept_at_get : (ks : Kept) (i : ℕ) → i < length ks → kept_at ks i ≡ get_or ks i None
         kept_at_get [] i within = refl
         kept_at_get (x ∷ xs) zero within = refl
         kept_at_get (x ∷ xs) (suc i) within = kept_at_get xs i (omega arith)
+
+    has : HasClause all_kept n c
+    has = record { found = clause_of r; there = there_of; literals = sym same }
 
     pub first_placed : IsPlaced (length first.lists) c a b
     first_placed = placed_by (length first.lists) c a b (room.first_lists n c has) places
@@ -160,22 +202,130 @@ module _ (records : List (Option Record)) (n : ℕ) (place : Option Record) (fir
     pub second_placed : IsPlaced (length second.lists) c b a
     second_placed = placed_by (length second.lists) c b a (room.second_lists n c has) (places_back c a b places)
 
-    pub next_some : (passed : List Passed) → AreLate passed c a b
-        → AreWatched (take n all_kept) firsts first seconds second → AreMarked (take n all_kept) passed firsts seconds
+    whole : take (n + 1) all_kept ≡ take n all_kept ++ Some (clause_of r) ∷ []
+    whole = more ∙ ap (λ o. take n all_kept ++ option_map clause_of o ∷ []) is
+
+    in_firsts : n < length firsts
+    in_firsts = omega (arith, below, room.first_places)
+
+    in_seconds : n < length seconds
+    in_seconds = omega (arith, below, room.second_places)
+
+    pub next_some : (entries : List Assigned) (old marks : List ℕ) (level : ℕ) → AreLate entries marks c a b
+        → IsFront old marks → AreReady (take n all_kept) firsts first seconds second entries old level
         → AreReady (take (n + 1) all_kept) (set firsts n a) (record first { lists = pushed first.lists (home c a b) n })
-        (set seconds n b) (record second { lists = pushed second.lists (home c b a) n }) passed
-    next_some passed late watched marked =
-        let whole : take (n + 1) all_kept ≡ take n all_kept ++ Some (clause_of r) ∷ [] =
-        more ∙ ap (λ o. take n all_kept ++ option_map clause_of o ∷ []) is in
-        let f : n < length firsts = omega (arith, below, room.first_places) in
-        let s : n < length seconds = omega (arith, below, room.second_places) in
+        (set seconds n b) (record second { lists = pushed second.lists (home c b a) n }) entries marks level
+    next_some entries old marks level late front h =
         rw (whole, same) (record {
-          watched = added_watched (take n all_kept) (clause_of r) firsts seconds first second n a b watched is_n f s
-              (omega (arith, below, room.first_nodes)) (omega (arith, below, room.second_nodes))
+          watched = added_watched (take n all_kept) (clause_of r) firsts seconds first second n a b h.watched is_n
+              in_firsts in_seconds (omega (arith, below, room.first_nodes)) (omega (arith, below, room.second_nodes))
               (rw same at first_placed) (rw same at second_placed);
-          marked = some_marked (take n all_kept) (clause_of r) passed firsts seconds n a b is_n f s (rw same at late)
-              marked;
+          ascending = ascending_front old marks front h.ascending;
+          below = below_front old marks level front h.below;
+          marked = some_marked (take n all_kept) (clause_of r) entries marks firsts seconds n a b is_n in_firsts
+              in_seconds (rw same at late)
+              (marked_front (take n all_kept) entries old marks firsts seconds front h.marked);
         })
+
+    -- a head stays one where the clause is fine
+    next_head : (entries : List Assigned) (head : ℕ) → IsFine (take head (held entries)) (held entries) c a b
+        → IsFine (take head (held entries)) (held entries) c b a → IsHead (take n all_kept) entries firsts seconds head
+        → IsHead (take (n + 1) all_kept) entries (set firsts n a) (set seconds n b) head
+    next_head entries head here there h = rw whole (record {
+      inside = h.inside;
+      fine = some_fine (take n all_kept) (clause_of r) (take head (held entries)) (held entries) firsts seconds n a b
+          is_n in_firsts in_seconds (rw same at here) (rw same at there) h.fine;
+    })
+
+    pub head_stays : (entries : List Assigned) → IsStaying (held entries) c a b → (head : ℕ)
+        → IsHead (take n all_kept) entries firsts seconds head
+        → IsHead (take (n + 1) all_kept) entries (set firsts n a) (set seconds n b) head
+    head_stays entries h head is_head =
+        let ls : List Lit = held entries in
+        let walked : List Lit = take head ls in
+        let grown : Grown walked ls = front_grown head ls in
+        elim h.stays [
+          | inl holds ↦
+              let not_false : is_false_under walked (literal_at c a) ≡ false =
+              false_from_ne_true (is_false_under walked (literal_at c a)) (λ is.
+              false≢true (sym (h.consistent (literal_at c a) holds.holds) ∙ grown (negation (literal_at c a)) is)) in
+              next_head entries head (held_fine walked ls c a b places not_false holds)
+              (held_back walked ls c a b holds) is_head
+          | inr unset ↦ next_head entries head (open_fine walked ls ls c a b grown unset)
+              (open_fine walked ls ls c b a grown (open_back ls c a b unset)) is_head
+        ]
+
+    pub head_forced : (entries : List Assigned) (e : Assigned) → IsLeft entries c a e.literal → (head : ℕ)
+        → IsHead (take n all_kept) entries firsts seconds head
+        → IsHead (take (n + 1) all_kept) (entries ++ e ∷ []) (set firsts n a) (set seconds n b) head
+    head_forced entries e h head is_head =
+        let ls : List Lit = held (entries ++ e ∷ []) in
+        let walked : List Lit = take head ls in
+        let parts = leaves_only-parts (held entries) c e.literal h.forces in
+        let unset : is_false_under (held entries) (literal_at c a) ≡ false =
+        ap (is_false_under (held entries)) (sym h.there) ∙ open-not_false (held entries) e.literal parts.1 in
+        let not_false : is_false_under walked (literal_at c a) ≡ false =
+        false_from_ne_true (is_false_under walked (literal_at c a)) (λ is.
+        false≢true (sym unset ∙ front_grown head (held entries) (negation (literal_at c a))
+        (rw (taken_push entries e head is_head.inside) at is))) in
+        let holds : IsHeld ls c a = record {
+          inside = h.inside;
+          holds = ap (is_true_under ls) (sym h.there)
+              ∙ ap (λ (ms : List Lit). is_among ms e.literal) (held_push entries e)
+              ∙ among_push_same (held entries) e.literal;
+        } in
+        next_head (entries ++ e ∷ []) head (held_fine walked ls c a b places not_false holds)
+        (held_back walked ls c a b holds) (head_push (take n all_kept) entries e firsts seconds head is_head)
+
+    pub forced_place : (trail : Assignments) (l : Lit) → has_room_for trail.reserved all_kept ≡ true
+        → IsLeft trail.literals c a l → l.atom < trail.reserved
+    forced_place trail l reserved h =
+        place_of_forced all_kept trail.reserved n (clause_of r) reserved (there_of) (held trail.literals) l
+        (subst (λ (ls : List Lit). leaves_only (held trail.literals) ls l ≡ true) same h.forces)
+
+    pub forced_grows : (trail : Assignments) (id : ClauseId) (l : Lit) → id.0 ≡ n → IsLeft trail.literals c a l
+        → GrowsBy all_kept trail (record trail {
+          literals =
+              trail.literals
+              ++ record { literal = l; level = current_level trail.literals; reason = Some id } ∷ [];
+        })
+    forced_grows trail id l named h =
+        GrowsBy-push all_kept trail trail
+        (record { literal = l; level = current_level trail.literals; reason = Some id }) (GrowsBy-none all_kept trail)
+        (record {
+          id = id;
+          reason = refl;
+          clause = clause_of r;
+          there = ap (kept_at all_kept) named ∙ there_of;
+          forces = subst (λ (ls : List Lit). leaves_only (held trail.literals) ls l ≡ true) same h.forces;
+          level = refl;
+        })
+
+    pub forced_ready : (entries : List Assigned) (e : Assigned) (old marks : List ℕ) → e.level ≡ current_level entries
+        → AreLate entries marks c a b → IsFront old marks
+        → AreReady (take n all_kept) firsts first seconds second entries old (current_level entries)
+        → AreReady (take (n + 1) all_kept) (set firsts n a) (record first { lists = pushed first.lists (home c a b) n })
+        (set seconds n b) (record second { lists = pushed second.lists (home c b a) n }) (entries ++ e ∷ []) marks
+        (current_level (entries ++ e ∷ []))
+    forced_ready entries e old marks level late front h =
+        let now = next_some entries old marks (current_level entries) late front h in
+        let same_level : current_level (entries ++ e ∷ []) ≡ current_level entries =
+        level_after-push 0 entries e ∙ level in
+        rw same_level (record {
+          watched = now.watched;
+          ascending = now.ascending;
+          below = now.below;
+          marked = marked_push (take (n + 1) all_kept) entries e marks (set firsts n a) (set seconds n b)
+              (λ i within. rw level (now.below i within)) now.marked;
+        })
+
+    pub false_here : (literals : List Lit) (id : ClauseId) → id.0 ≡ n → is_false_clause literals c ≡ true
+        → IsConflict all_kept literals id.0
+    false_here literals id named is = rw named (record {
+      clause = clause_of r;
+      there = there_of;
+      is_false = subst (λ (ls : List Lit). is_false_clause literals ls ≡ true) same is;
+    })
 
     pub next_room : HaveRoom all_kept (set firsts n a) (record first { lists = pushed first.lists (home c a b) n })
         (set seconds n b) (record second { lists = pushed second.lists (home c b a) n })
@@ -205,16 +355,6 @@ room_of kept firsts first seconds second h =
       second_lists = λ id c has. enough (length second.lists) c (place_at seconds id) (place_at firsts id)
           (h.at_second.placed id c has);
     }
-
--- where all clauses are listed
-pub all_stored : (kept : Kept) (firsts : List ℕ) (first : WatchLists) (seconds : List ℕ) (second : WatchLists)
-    (passed : List Passed) (listed : ℕ) → listed ≡ length kept → AreReady kept firsts first seconds second passed
-    → AreStored kept firsts first seconds second passed listed
-all_stored kept firsts first seconds second passed listed all h = record {
-  ready = rw (take_all listed kept (omega (arith, all))) h;
-  room = room_of kept firsts first seconds second h.watched;
-  within = omega (arith, all);
-}
 
 roomier_room : (kept : Kept) (f0 f1 s0 s1 : List ℕ) (a0 a1 b0 b1 : WatchLists) → IsRoomier f0 a0 f1 a1
     → IsRoomier s0 b0 s1 b1 → HaveRoom kept f0 a0 s0 b0 → HaveRoom kept f1 a1 s1 b1
@@ -252,41 +392,47 @@ roomier_none places all = record {
 }
 
 -- more room, and nothing else
-pub stored_roomier : (kept : Kept) (f0 f1 s0 s1 : List ℕ) (a0 a1 b0 b1 : WatchLists) (old passed : List Passed)
-    (listed : ℕ)
-    → IsRoomier f0 a0 f1 a1 → IsRoomier s0 b0 s1 b1 → passed ≡ old → AreStored kept f0 a0 s0 b0 old listed
-    → AreStored kept f1 a1 s1 b1 passed listed
-stored_roomier kept f0 f1 s0 s1 a0 a1 b0 b1 old passed listed h k same stored =
-    let marked : AreMarked (take listed kept) old f1 s1 = λ at within end.
-    roomier_fine (take listed kept) f0 f1 s0 s1 a0 a1 b0 b1 (take (at + 1) (literals_of old))
-    (take (at + 1) (literals_of old)) h k stored.ready.watched.at_first.own_places
-    stored.ready.watched.at_second.own_places (stored.ready.marked at within end)
+pub stored_roomier : (kept : Kept) (f0 f1 s0 s1 : List ℕ) (a0 a1 b0 b1 : WatchLists) (entries : List Assigned)
+    (marks : List ℕ) (head : Option ℕ) (listed : ℕ) → IsRoomier f0 a0 f1 a1 → IsRoomier s0 b0 s1 b1
+    → AreStored kept f0 a0 s0 b0 entries marks head listed → AreStored kept f1 a1 s1 b1 entries marks head listed
+stored_roomier kept f0 f1 s0 s1 a0 a1 b0 b1 entries marks head listed h k stored =
+    let fine : (walked literals : List Lit) → AreFine (take listed kept) walked literals f0 s0
+    → AreFine (take listed kept) walked literals f1 s1 =
+    λ walked literals. roomier_fine (take listed kept) f0 f1 s0 s1 a0 a1 b0 b1 walked literals h k
+    stored.ready.watched.at_first.own_places stored.ready.watched.at_second.own_places
     in
     record {
       ready = record {
         watched = both_roomier (take listed kept) f0 f1 s0 s1 a0 a1 b0 b1 h k stored.ready.watched;
-        marked = subst (λ (ps : List Passed). AreMarked (take listed kept) ps f1 s1) (sym same) marked;
+        ascending = stored.ready.ascending;
+        below = stored.ready.below;
+        marked = λ i within. fine (held_up_to (mark_at marks i) entries) (held_up_to (mark_at marks i) entries)
+            (stored.ready.marked i within);
       };
+      begins = head_by head (IsHead (take listed kept) entries f0 s0) (IsHead (take listed kept) entries f1 s1)
+          (λ n at. record { inside = at.inside; fine = fine (take n (held entries)) (held entries) at.fine })
+          stored.begins;
       room = roomier_room kept f0 f1 s0 s1 a0 a1 b0 b1 h k stored.room;
       within = stored.within;
     }
 
 -- one more clause, not listed
-pub stored_more : (items new : List (Option Record)) (r : Record) (c : List Lit) (firsts : List ℕ) (first : WatchLists)
-    (seconds : List ℕ) (second : WatchLists) (passed : List Passed) (listed n lists : ℕ) → new ≡ items ++ Some r ∷ []
-    → r.literals.items ≡ c → n ≡ length items → AreEnough c lists
+pub stored_more : (kept new : Kept) (k : KeptClause) (c : List Lit) (firsts : List ℕ) (first : WatchLists)
+    (seconds : List ℕ) (second : WatchLists) (entries : List Assigned) (marks : List ℕ) (head : Option ℕ)
+    (listed n lists : ℕ) → new ≡ kept ++ Some k ∷ [] → k.literals ≡ c → n ≡ length kept → AreEnough c lists
     → HasRoom (n + 1) lists firsts first → HasRoom (n + 1) lists seconds second
-    → AreStored (kept_of items) firsts first seconds second passed listed
-    → AreStored (kept_of new) firsts first seconds second passed listed
-stored_more items new r c firsts first seconds second passed listed n lists grown same is_n enough f s stored =
-    let kept : Kept = kept_of items in
-    let k : KeptClause = clause_of r in
+    → AreStored kept firsts first seconds second entries marks head listed
+    → AreStored new firsts first seconds second entries marks head listed
+stored_more kept new k c firsts first seconds second entries marks head listed n lists grown same is_n enough f s stored =
     let one_more : length (kept ++ Some k ∷ []) ≡ n + 1 =
-    length_push kept (Some k) ∙ ap (λ m. m + 1) (length-map items (option_map clause_of) ∙ sym is_n) in
+    length_push kept (Some k) ∙ ap (λ m. m + 1) (sym is_n) in
     let last : (id : ℕ) (d : List Lit) → id ≡ length kept → HasClause (kept ++ Some k ∷ []) id d → d ≡ c =
     λ id d here has. last_clause kept k id d here has ∙ same in
-    rw (kept_pushed items new r grown) (record {
-      ready = rw (take-append-le listed kept (Some k ∷ []) stored.within) stored.ready;
+    let front : take listed (kept ++ Some k ∷ []) ≡ take listed kept =
+    take-append-le listed kept (Some k ∷ []) stored.within in
+    rw grown (record {
+      ready = rw front stored.ready;
+      begins = rw front stored.begins;
       room = record {
         first_places = omega (arith, one_more, f.enough_places);
         second_places = omega (arith, one_more, s.enough_places);
@@ -303,3 +449,17 @@ stored_more items new r c firsts first seconds second passed listed n lists grow
       };
       within = omega (arith, stored.within, length_push kept (Some k));
     })
+
+-- the same, where there may be no room for it
+pub stored_either : {E : Type 0} (result : Result ClauseId E) (kept new : Kept) (k : KeptClause) (c : List Lit)
+    (firsts : List ℕ) (first : WatchLists) (seconds : List ℕ) (second : WatchLists) (entries : List Assigned)
+    (marks : List ℕ) (head : Option ℕ) (listed n lists : ℕ) → IfOk result (λ _. new ≡ kept ++ Some k ∷ [])
+    → OnErr result (new ≡ kept) → k.literals ≡ c → n ≡ length kept → AreEnough c lists
+    → HasRoom (n + 1) lists firsts first → HasRoom (n + 1) lists seconds second
+    → AreStored kept firsts first seconds second entries marks head listed
+    → AreStored new firsts first seconds second entries marks head listed
+stored_either (Ok id) kept new k c firsts first seconds second entries marks head listed n lists ok err same is_n enough f
+    s stored =
+    stored_more kept new k c firsts first seconds second entries marks head listed n lists ok same is_n enough f s stored
+stored_either (Err e) kept new k c firsts first seconds second entries marks head listed n lists ok err same is_n enough
+    f s stored = rw err stored

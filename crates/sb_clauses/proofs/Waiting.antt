@@ -1,22 +1,22 @@
 -- Clauses that are kept and not yet listed.
-use Rattle.std.proofs.Common.{◌≡◌, ℕ, zero, suc, ◌<◌, ◌≤◌, Bool, true, false, List, [], ◌∷◌, length, get_or, take, Some, None, refl, sym, ◌∙◌, ap, inl, inr, arith}
+use Rattle.std.proofs.Common.{◌≡◌, ℕ, zero, suc, eqb, ◌+◌, ◌<◌, ◌≤◌, Bool, true, false, ◌||◌, List, [], ◌∷◌, length, Option, Some, None, refl, sym, ◌∙◌, ap, inl, inr, arith}
 use Rattle.std.specs.List.{list_all}
-use Rattle.std.specs.Option.{option_map}
-use Rattle.std.proofs.lemmas.Bool.{false≢true, or_cases, eq-eqb, false_from_ne_true}
+use Rattle.std.specs.Option.{option_map, is_none, MatchOption}
+use Rattle.std.proofs.lemmas.Bool.{false≢true, or_cases, or_left, or_parts, eq-eqb, false_from_ne_true}
 use Rattle.std.proofs.lemmas.Option.{same_Some}
-use Rattle.std.proofs.lemmas.List.{length-map, length-take-le, take-map, take-take}
 use Rattle.sb_lit.specs.declared.clause.Lit.{Lit}
-use Rattle.sb_lit.specs.Clauses.{negation, is_same_literal, is_among, is_false_under}
+use Rattle.sb_lit.specs.Clauses.{negation, is_same_literal, is_among, is_false_under, is_false_clause, value_under}
 use Rattle.sb_trail.specs.declared.assigned.Assigned.{Assigned}
-use Rattle.sb_trail.specs.Assignments.{held, is_of, entry_of, level_after, AreLevelled}
-use Rattle.sb_clauses.specs.declared.passed.Passed.{Passed}
-use Rattle.sb_clauses.specs.Watching.{literal_at}
-use Rattle.sb_clauses.specs.Passing.{literals_of, ArePassed, IsFront}
-use Rattle.sb_clauses.specs.Waiting.{is_the, IsOther, ArePlaces, HasRank, EndsBelow, no_entry}
-use Rattle.sb_lit.proofs.CallerLemmas.{is_same_literal-true}
-use Rattle.sb_trail.proofs.CallerLemmas.{entry_of-front, entry_of-level, AreLevelled-front}
-use Rattle.sb_clauses.proofs.Settling.{front_grown, long_back}
-use Rattle.sb_clauses.proofs.Passing.{front_of, literal_of, passed_within}
+use Rattle.sb_trail.specs.Assignments.{held, is_of, entry_of, value_of, up_to, AreDistinct, IsConsistent}
+use Rattle.sb_clauses.specs.Looking.{is_or_false, IsLeft}
+use Rattle.sb_clauses.specs.Watching.{literal_at, no_literal, is_short}
+use Rattle.sb_clauses.specs.Marking.{mark_at, held_up_to, AreBelow, IsFront}
+use Rattle.sb_clauses.specs.Waiting.{is_the, IsOther, IsBest, ArePlaces, AreBest, AreLate, HasRank, IsStaying}
+use Rattle.sb_lit.proofs.CallerLemmas.{is_same_literal-true, open-not_false}
+use Rattle.sb_trail.proofs.CallerLemmas.{entry_of-up_to}
+use Rattle.sb_clauses.proofs.Literals.{all_weaker, true_by_value, false_by_value, open_by_value, leaves_only-from, among_at}
+use Rattle.sb_clauses.proofs.Settling.{short_back, long_back}
+use Rattle.sb_clauses.proofs.Marked.{front_at, up_to_in}
 
 -- places to watch
 pub no_places : (clause : List Lit) → list_all (is_the None) clause ≡ true → ArePlaces clause 0 0
@@ -33,13 +33,6 @@ two_places clause first second h k = record {
 pub one_place : (clause : List Lit) (first : ℕ) → IsOther clause None first
     → list_all (is_the (Some (literal_at clause first))) clause ≡ true → ArePlaces clause first first
 one_place clause first h all = record { inside = λ some. (h.inside, h.inside); short = λ is. all }
-
--- the level of the newest one
-level_after_front : (n at : ℕ) (es : List Assigned) → at < length es
-    → level_after n (take (suc at) es) ≡ (get_or es at no_entry).level
-level_after_front n at [] within = absurd (omega arith)
-level_after_front n zero (e ∷ es) within = refl
-level_after_front n (suc at) (e ∷ es) within = level_after_front e.level at es (omega arith)
 
 record HasEntry (es : List Assigned) (a : ℕ) : Type 0 where
   entry : Assigned
@@ -59,60 +52,144 @@ has_entry (x ∷ xs) l among = go (is_of l.atom x) refl (has_entry xs l)
           | inr later ↦ record { entry = (rest later).entry; there = rw here (rest later).there }
         ]
 
-not_false_in : (es : List Assigned) (count rank : ℕ) (l : Lit) → count ≤ length es → AreLevelled 0 es
-    → HasRank es l rank → EndsBelow es count rank → is_false_under (held (take count es)) l ≡ true → ⊥
-not_false_in es zero rank l within levelled ranked below is = false≢true is
-not_false_in es (suc at) rank l within levelled ranked below is =
-    let found : HasEntry (take (suc at) es) l.atom = has_entry (take (suc at) es) (negation l) is in
-    let low : found.entry.level < rank =
-    omega (
-      arith,
-      entry_of-level 0 l.atom (take (suc at) es) found.entry (AreLevelled-front 0 (suc at) es levelled)
-          found.there,
-      level_after_front 0 at es (omega arith),
-      below at (omega arith),
-    )
-    in
-    let whole : is_false_under (held es) l ≡ true =
-    front_grown (suc at) (held es) (negation l) (rw (take-map (λ (e : Assigned). e.literal) (suc at) es) is) in
-    elim (ranked whole) [
-      | inl zero_rank ↦ omega (arith, low, zero_rank)
-      | inr level ↦
+-- a literal is not false up to a level below the one at which it became false
+not_false_up_to : (es : List Assigned) (level rank : ℕ) (l : Lit) → AreDistinct es → HasRank es l rank → level < rank
+    → is_false_under (held_up_to level es) l ≡ true → ⊥
+not_false_up_to es level rank l distinct ranked below is =
+    let found : HasEntry (up_to level es) l.atom = has_entry (up_to level es) (negation l) is in
+    let there = entry_of-up_to level l.atom es found.entry distinct found.there in
+    elim (ranked (up_to_in level es (negation l) is)) [
+      | inl zero_rank ↦ omega (arith, below, zero_rank)
+      | inr at ↦
           let same : found.entry.level ≡ rank =
           same_Some found.entry.level rank
-          (sym (ap (option_map (λ (e : Assigned). e.level))
-          (entry_of-front l.atom (suc at) es found.entry found.there)) ∙ level) in
-          omega (arith, low, same)
+          (sym (ap (option_map (λ (e : Assigned). e.level)) there.0) ∙ at) in
+          omega (arith, below, same, there.1)
     ]
 
-pub late_literal : (passed : List Passed) (es : List Assigned) (count rank : ℕ) (l : Lit) → ArePassed passed es
-    → count ≤ length passed → AreLevelled 0 es → HasRank es l rank → EndsBelow es count rank
-    → is_false_under (literals_of (take count passed)) l ≡ false
-late_literal passed es count rank l front within levelled ranked below =
-    let f : Assigned → Lit = λ e. e.literal in
-    let same : literals_of (take count passed) ≡ held (take count es) =
-    sym (take-map literal_of count passed) ∙ front_of passed es count front within ∙ take-map f count es in
-    false_from_ne_true (is_false_under (literals_of (take count passed)) l) (λ is.
-    not_false_in es count rank l (omega (arith, within, passed_within passed es front, length-map es f)) levelled ranked
-    below (ap (λ ls. is_false_under ls l) (sym same) ∙ is))
+pub late_literal : (es : List Assigned) (level rank : ℕ) (l : Lit) → AreDistinct es → HasRank es l rank → level < rank
+    → is_false_under (held_up_to level es) l ≡ false
+late_literal es level rank l distinct ranked below =
+    false_from_ne_true (is_false_under (held_up_to level es) l) (not_false_up_to es level rank l distinct ranked below)
 
-pub front_then : (a b c : List Passed) → IsFront a b → IsFront b c → IsFront a c
-front_then a b c h k =
-    let inner : length b ≡ h.count = ap length h.is_front ∙ length-take-le h.count a h.within in
+-- both literals are not false up to the marks that are left
+pub both_late : (es : List Assigned) (mid new : List ℕ) (c : List Lit) (a b first second : ℕ) → AreDistinct es
+    → IsFront mid new → AreBelow mid first → AreBelow new second → HasRank es (literal_at c a) first
+    → HasRank es (literal_at c b) second → is_short c a b ≡ false → AreLate es new c a b
+both_late es mid new c a b first second distinct front below also ranked ranked_too long i within =
+    let before = front_at mid new i front within in
     record {
-      count = k.count;
-      within = omega (arith, h.within, k.within, inner);
-      is_front = k.is_front ∙ ap (take k.count) h.is_front
-          ∙ take-take k.count h.count a (omega (arith, k.within, inner));
+      long = long;
+      own_open = late_literal es (mark_at new i) first (literal_at c a) distinct ranked
+          (omega (arith, before.1, below i before.0));
+      other_open = late_literal es (mark_at new i) second (literal_at c b) distinct ranked_too (also i within);
     }
 
--- what was not false is not false in a front
-pub front_late : (old new : List Passed) (l : Lit) → IsFront old new → is_false_under (literals_of old) l ≡ false
-    → is_false_under (literals_of new) l ≡ false
-front_late old new l h late =
-    let same : literals_of new ≡ take h.count (literals_of old) =
-    ap literals_of h.is_front ∙ sym (take-map literal_of h.count old) in
-    false_from_ne_true (is_false_under (literals_of new) l)
-    (λ is. false≢true
-    (sym late ∙ front_grown h.count (literals_of old) (negation l) (ap (λ ls. is_among ls (negation l)) (sym same)
-    ∙ is)))
+pub none_late : (es : List Assigned) (new : List ℕ) (c : List Lit) (a b : ℕ) → new ≡ [] → AreLate es new c a b
+none_late es new c a b none i within = absurd (omega (arith, ap length none))
+
+-- the best place, found by its level where all are false
+pub best_of : (literals clause : List Lit) (avoided : Option Lit) (found : Option ℕ)
+    → list_all (λ l. is_the avoided l || is_false_under literals l) clause ≡ true
+    → MatchOption found (list_all (is_the avoided) clause ≡ true) (IsOther clause avoided)
+    → MatchOption found (list_all (is_the avoided) clause ≡ true) (IsBest literals clause avoided)
+best_of literals clause avoided None all h = h
+best_of literals clause avoided (Some place) all h = record { other = h; best = λ is. all }
+
+pub best_here : (literals clause : List Lit) (avoided : Option Lit) (place : ℕ) → place < length clause
+    → (is_the avoided (literal_at clause place) || is_false_under literals (literal_at clause place)) ≡ false
+    → IsBest literals clause avoided place
+best_here literals clause avoided place within h =
+    let parts = or_parts (is_the avoided (literal_at clause place)) (is_false_under literals (literal_at clause place)) h in
+    record {
+      other = record { inside = within; other = parts.0 };
+      best = λ is. absurd (false≢true (sym parts.1 ∙ is));
+    }
+
+-- what the places to watch say of the others
+pub no_best : (literals clause : List Lit) → list_all (is_the None) clause ≡ true → AreBest literals clause 0 0
+no_best literals [] h = record { top = λ is. refl; next = λ is. refl }
+no_best literals (x ∷ xs) h = absurd (false≢true h)
+
+pub two_best : (literals clause : List Lit) (first second : ℕ) → IsBest literals clause None first
+    → IsBest literals clause (Some (literal_at clause first)) second → AreBest literals clause first second
+two_best literals clause first second h k = record { top = h.best; next = k.best }
+
+pub one_best : (literals clause : List Lit) (first : ℕ) → IsBest literals clause None first
+    → list_all (is_the (Some (literal_at clause first))) clause ≡ true → AreBest literals clause first first
+one_best literals clause first h all = record {
+  top = h.best;
+  next = λ is. all_weaker (is_the (Some (literal_at clause first))) (is_or_false literals (literal_at clause first))
+      (λ m same. or_left (is_same_literal m (literal_at clause first)) (is_false_under literals m) same) clause all;
+}
+
+pub some_length : (n : ℕ) → eqb n 0 ≡ false → 0 < n
+some_length zero h = absurd (false≢true (sym h))
+some_length (suc n) h = omega arith
+
+-- what a new clause comes to
+pub arrives_false : (literals clause : List Lit) (own other : ℕ) (v : Option Bool) → AreBest literals clause own other
+    → v ≡ value_under literals (literal_at clause own) → v ≡ Some false → is_false_clause literals clause ≡ true
+arrives_false literals clause own other v best value is =
+    best.top (false_by_value literals (literal_at clause own) (sym value ∙ is))
+
+pub arrives_true : (literals clause : List Lit) (own other : ℕ) (v : Option Bool) → own < length clause
+    → IsConsistent literals → v ≡ value_under literals (literal_at clause own) → v ≡ Some true
+    → IsStaying literals clause own other
+arrives_true literals clause own other v within consistent value is = record {
+  consistent = consistent;
+  stays = inl (record { inside = within; holds = true_by_value literals (literal_at clause own) (sym value ∙ is) });
+}
+
+pub arrives_open : (literals clause : List Lit) (own other : ℕ) (v : Option Bool) → IsConsistent literals
+    → v ≡ value_under literals (literal_at clause own) → v ≡ None
+    → is_or_false literals (literal_at clause own) (literal_at clause other) ≡ false
+    → IsStaying literals clause own other
+arrives_open literals clause own other v consistent value is h =
+    let parts = or_parts (is_same_literal (literal_at clause other) (literal_at clause own))
+    (is_false_under literals (literal_at clause other)) h in
+    record {
+      consistent = consistent;
+      stays = inr (record {
+        long = long_back clause other own parts.0;
+        own_open = open-not_false literals (literal_at clause own) (open_by_value literals (literal_at clause own) (sym value ∙ is));
+        other_open = parts.1;
+      });
+    }
+
+pub arrives_forced : (entries : List Assigned) (clause : List Lit) (own other : ℕ) (v : Option Bool) → own < length clause
+    → ArePlaces clause own other → AreBest (held entries) clause own other
+    → v ≡ value_under (held entries) (literal_at clause own) → v ≡ None
+    → is_none v ≡ is_none (value_of entries (literal_at clause own).atom)
+    → is_or_false (held entries) (literal_at clause own) (literal_at clause other) ≡ true
+    → IsLeft entries clause own (literal_at clause own)
+arrives_forced entries clause own other v within places best value is atom h =
+    let l : Lit = literal_at clause own in
+    let literals : List Lit = held entries in
+    let all : list_all (is_or_false literals l) clause ≡ true =
+    elim (or_cases (is_same_literal (literal_at clause other) l) (is_false_under literals (literal_at clause other)) h) [
+      | inl same ↦ short_all same
+      | inr gone ↦ best.next gone
+    ]
+    in
+    record {
+      inside = within;
+      there = refl;
+      forces = leaves_only-from literals clause l (among_at literals clause own no_literal within)
+          (open_by_value literals l (sym value ∙ is)) all;
+      unassigned = none_of (value_of entries l.atom) (sym atom ∙ ap is_none is);
+    }
+  where
+    none_of : {A : Type 0} (o : Option A) → is_none o ≡ true → o ≡ None
+    none_of None e = refl
+    none_of (Some x) e = absurd (false≢true e)
+
+    short_all : is_same_literal (literal_at clause other) (literal_at clause own) ≡ true
+        → list_all (is_or_false (held entries) (literal_at clause own)) clause ≡ true
+    short_all same =
+        let short : is_short clause own other ≡ true = short_back clause other own same in
+        all_weaker (λ m. is_same_literal m (literal_at clause other))
+        (is_or_false (held entries) (literal_at clause own)) (λ m here.
+        or_left (is_same_literal m (literal_at clause own)) (is_false_under (held entries) m)
+        (rw (is_same_literal-true (literal_at clause other) (literal_at clause own) same) at here)) clause
+        (places.short short)

@@ -7,5 +7,5 @@ pub mod Looking
 pub mod Walking
 pub mod Settling
 pub mod Adding
-pub mod Passing
+pub mod Marking
 pub mod Waiting

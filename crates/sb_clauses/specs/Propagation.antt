@@ -10,6 +10,11 @@ use Rattle.sb_trail.specs.Assignments.{Assignments, held, current_level}
 use Rattle.sb_clauses.specs.declared.propagated.Propagated.{Propagated}
 use Rattle.sb_clauses.specs.declared.propagated.Propagated.TheVariants.{Done, Conflict}
 
+-- the kept clauses, and the trail that they are propagated on
+pub record State : Type 0 where
+  pub kept : Kept
+  pub trail : Assignments
+
 -- each atom of the literals has a place
 abbrev pub are_reserved : ℕ → List Lit → Bool
 are_reserved reserved literals = list_all (λ l. nat_lt l.atom reserved) literals

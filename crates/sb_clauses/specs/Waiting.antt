@@ -1,16 +1,18 @@
 -- Private: clauses that are kept and not yet listed.
-use Rattle.std.specs.Prelude.{◌≡◌, ◌⊎◌, ℕ, ◌+◌, ◌<◌, ◌≤◌, Bool, true, false, [], List, length, take, slice_index_or, Option, Some, None}
+use Rattle.std.specs.Prelude.{◌≡◌, ◌⊎◌, ℕ, ◌+◌, ◌<◌, ◌≤◌, Bool, true, false, ◌||◌, [], List, length, take, Option, Some, None, IfSome}
 use Rattle.std.specs.List.{list_all}
 use Rattle.sb_lit.specs.declared.clause.Lit.{Lit}
-use Rattle.sb_lit.specs.Clauses.{is_same_literal, is_false_under}
+use Rattle.sb_lit.specs.Clauses.{is_same_literal, is_false_under, is_false_clause}
 use Rattle.sb_lit.specs.Kept.{Kept}
 use Rattle.sb_trail.specs.declared.assigned.Assigned.{Assigned}
-use Rattle.sb_trail.specs.Assignments.{held, level_of}
-use Rattle.sb_clauses.specs.declared.passed.Passed.{Passed}
+use Rattle.sb_trail.specs.Assignments.{held, level_of, current_level, IsConsistent}
+use Rattle.sb_clauses.specs.declared.place.Arrival.{Arrival}
+use Rattle.sb_clauses.specs.declared.place.Arrival.TheVariants.{Stays, Forces, False}
 use Rattle.sb_clauses.specs.WatchLists.{WatchLists}
-use Rattle.sb_clauses.specs.Watching.{no_literal, literal_at, is_short, HasClause}
+use Rattle.sb_clauses.specs.Watching.{literal_at, is_short, HasClause}
+use Rattle.sb_clauses.specs.Looking.{is_or_false, IsHeld, IsLeft}
 use Rattle.sb_clauses.specs.Adding.{AreEnough}
-use Rattle.sb_clauses.specs.Passing.{literals_of, AreReady}
+use Rattle.sb_clauses.specs.Marking.{mark_at, held_up_to, IsHead, AreReady}
 
 -- the literal is this one, if there is one
 abbrev pub is_the : Option Lit → Lit → Bool
@@ -44,24 +46,43 @@ pub record AreOpen (literals clause : List Lit) (own other : ℕ) : Type 0 where
   pub own_open : is_false_under literals (literal_at clause own) ≡ false
   pub other_open : is_false_under literals (literal_at clause other) ≡ false
 
--- nothing that was passed makes one of the two literals false
-abbrev pub AreLate : List Passed → List Lit → ℕ → ℕ → Type 0
-AreLate passed clause own other = (passed ≡ []) ⊎ AreOpen (literals_of passed) clause own other
+-- up to each marked level the literals at both places differ, and none of them is false
+abbrev pub AreLate : List Assigned → List ℕ → List Lit → ℕ → ℕ → Type 0
+AreLate entries marks clause own other = (i : ℕ) → i < length marks
+    → AreOpen (held_up_to (mark_at marks i) entries) clause own other
 
 -- a false literal has the level at which it became false, or 0
 abbrev pub HasRank : List Assigned → Lit → ℕ → Type 0
 HasRank entries l rank = is_false_under (held entries) l ≡ true → (rank ≡ 0) ⊎ (level_of entries l.atom ≡ Some rank)
 
-abbrev pub no_entry : Assigned
-no_entry = record { literal = no_literal; level = 0; reason = None }
+-- the place has another literal, which is false only where all others are
+pub record IsBest (literals clause : List Lit) (avoided : Option Lit) (place : ℕ) : Type 0 where
+  pub other : IsOther clause avoided place
+  pub best : is_false_under literals (literal_at clause place) ≡ true
+      → list_all (λ l. is_the avoided l || is_false_under literals l) clause ≡ true
 
--- the last one of so many entries is below the level
-abbrev pub EndsBelow : List Assigned → ℕ → ℕ → Type 0
-EndsBelow entries count level = (at : ℕ) → count ≡ at + 1 → (slice_index_or entries at no_entry).level < level
+-- the literal at the first place is false only where all are, and the one at the second place only where all but that
+-- one are
+pub record AreBest (literals clause : List Lit) (own other : ℕ) : Type 0 where
+  pub top : is_false_under literals (literal_at clause own) ≡ true → is_false_clause literals clause ≡ true
+  pub next : is_false_under literals (literal_at clause other) ≡ true
+      → list_all (is_or_false literals (literal_at clause own)) clause ≡ true
+
+-- the clause is fine as it is
+pub record IsStaying (literals clause : List Lit) (own other : ℕ) : Type 0 where
+  pub consistent : IsConsistent literals
+  pub stays : IsHeld literals clause own ⊎ AreOpen literals clause own other
+
+-- what a new clause comes to
+abbrev pub IsArrival : List Assigned → List Lit → ℕ → ℕ → Arrival → Type 0
+IsArrival entries clause own other Stays = IsStaying (held entries) clause own other
+IsArrival entries clause own other (Forces l) = IsLeft entries clause own l
+IsArrival entries clause own other False = is_false_clause (held entries) clause ≡ true
 
 -- the first clauses are listed, and there is room for the others
 pub record AreStored (kept : Kept) (firsts : List ℕ) (first : WatchLists) (seconds : List ℕ) (second : WatchLists)
-    (passed : List Passed) (listed : ℕ) : Type 0 where
-  pub ready : AreReady (take listed kept) firsts first seconds second passed
+    (entries : List Assigned) (marks : List ℕ) (head : Option ℕ) (listed : ℕ) : Type 0 where
+  pub ready : AreReady (take listed kept) firsts first seconds second entries marks (current_level entries + 1)
+  pub begins : IfSome head (IsHead (take listed kept) entries firsts seconds)
   pub room : HaveRoom kept firsts first seconds second
   pub within : listed ≤ length kept

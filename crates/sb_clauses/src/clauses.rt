@@ -3,43 +3,28 @@
 ghost use Rattle.std.specs.Prelude.{◌≡◌, [], ◌∷◌, ◌++◌, length, true, Some, IfOk, OnErr};
 ghost use Rattle.std.specs.Option.{option_map, option_copied};
 ghost use Rattle.sb_lit.specs.Kept.{kept_at, kept_up_to, is_above};
-ghost use Rattle.sb_trail.specs.Assignments.{held};
 ghost use Rattle.sb_clauses.specs.Records.{clause_of, kept_of};
-ghost use Rattle.sb_clauses.specs.Propagation.{are_reserved, is_reserved, has_room_for, GrowsBy, AnswersOf};
+ghost use Rattle.sb_clauses.specs.Propagation.{are_reserved, is_reserved, has_room_for};
 
-use crate::passed::Passed;
-use crate::propagated::Propagated;
 use crate::record::Record;
-use crate::settle::settle_on;
-use crate::watches::{Watches, lists_for};
 use sb_lit::{Clause, ClauseId, Lit};
 use sb_trail::Trail;
 use std::alloc::{AllocError, Global};
 use std::marker::Model;
 
-/// The clauses that are kept, by number. Each has two watched literals, and stands in the watch list of each.
+/// The clauses that are kept, by number.
 #[derive(Debug, Drop)]
 pub struct Clauses {
     records: Vec<Option<Record>>,
-    first: Watches,
-    second: Watches,
-    /// The literals in front of the propagation queue head, at which the next propagation begins.
-    passed: Vec<Passed>,
-    /// How many of the clauses stand in the watch lists; propagation puts the others there.
-    listed: usize,
 }
 
 impl Model for Clauses {
     ghost use Rattle.sb_lit.specs.Kept.{Kept};
     ghost use Rattle.sb_clauses.specs.Records.{kept_of};
-    ghost use Rattle.sb_clauses.specs.Waiting.{AreStored};
 
     ghost Value = { Kept };
 
     ghost view = { λ clauses. kept_of clauses.records.items };
-
-    ghost invariant = { λ clauses. AreStored (kept_of clauses.records.items) clauses.first.places.items
-        clauses.first.lists clauses.second.places.items clauses.second.lists clauses.passed.items clauses.listed };
 }
 
 impl Clauses {
@@ -49,15 +34,11 @@ impl Clauses {
     {
         Clauses {
             records: Vec::new(alloc),
-            first: Watches::new(alloc),
-            second: Watches::new(alloc),
-            passed: Vec::new(alloc),
-            listed: 0,
         }
     }
 
-    /// Keeps a clause at a level, under the next number. Linear in the number of its literals; takes memory for
-    /// each atom up to the greatest one, and is an error where that cannot be had, as for an atom of 2 ^ 62.
+    /// Keeps a clause at a level, under the next number. Linear in the number of its literals; an error for want of
+    /// memory.
     pub fn add(&mut self, clause: &Clause, level: u64) -> Result<ClauseId, AllocError>
         ensures number { IfOk result (λ id. id.0 ≡ length self.old) }
         ensures ok { IfOk result
@@ -66,18 +47,16 @@ impl Clauses {
     {
         let alloc = *self.records.allocator();
         let number = self.records.len();
-        let given = clause.literals();
-        let literals = Vec::from_slice(alloc, given)?;
-        let Some(lists) = lists_for(given) else {
-            return Err(AllocError);
-        };
-        let atoms = lists / 2;
-        self.passed
-            .reserve(atoms.saturating_sub(self.passed.len()))?;
-        self.first.make_room(number + 1, lists)?;
-        self.second.make_room(number + 1, lists)?;
+        let literals = Vec::from_slice(alloc, clause.literals())?;
         self.records.push(Some(Record { literals, level }))?;
         Ok(ClauseId(number as u64))
+    }
+
+    /// The records, by number.
+    pub(crate) fn records(&self) -> &[Option<Record>]
+        ensures { kept_of result.now ≡ self.now }
+    {
+        self.records.as_slice()
     }
 
     /// The literals of the clause, `None` exactly where the number is not given or its clause was dropped.
@@ -129,32 +108,6 @@ impl Clauses {
             }
         }
         true
-    }
-
-    /// Adds what the clauses force to the trail, until nothing more is forced or one of them is false.
-    /// Takes no memory. It compares the trail with what it was at the end of the last call, looks once at each clause
-    /// that is new, and then, for each literal of the trail from the propagation queue head on, at the clauses that
-    /// watch its negation. Going back on the trail takes the queue head back, and so does a new clause whose watched
-    /// literals are false, to the level at which the first of them became false.
-    pub fn propagate(&mut self, trail: &mut Trail) -> Propagated
-        requires { has_room_for trail.old.reserved self.old ≡ true }
-        ensures kept { self.new ≡ self.old }
-        ensures grows { GrowsBy self.old trail.old trail.new }
-        ensures answer { AnswersOf self.old (held trail.new.literals) result }
-    {
-        let conflict = settle_on(
-            &self.records,
-            &mut self.first,
-            &mut self.second,
-            &mut self.passed,
-            trail,
-            self.listed,
-        );
-        self.listed = self.records.len();
-        match conflict {
-            Some(id) => Propagated::Conflict(id),
-            None => Propagated::Done,
-        }
     }
 }
 

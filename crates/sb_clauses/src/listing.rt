@@ -1,39 +1,59 @@
 //! New clauses come to the lists.
 
-ghost use Rattle.std.specs.Prelude.{◌+◌, ◌<◌, ◌≤◌, length, take};
+ghost use Rattle.std.specs.Prelude.{◌≡◌, ℕ, ◌+◌, ◌<◌, ◌≤◌, length, take, true, IfNone, IfSome};
+ghost use Rattle.sb_trail.specs.Assignments.{held, current_level};
 ghost use Rattle.sb_clauses.specs.Records.{kept_of};
-ghost use Rattle.sb_clauses.specs.Passing.{ArePassed, AreReady};
+ghost use Rattle.sb_clauses.specs.Propagation.{has_room_for, GrowsBy, IsConflict};
+ghost use Rattle.sb_clauses.specs.Marking.{IsHead, AreReady};
 ghost use Rattle.sb_clauses.specs.Waiting.{HaveRoom};
 
-use crate::passed::Passed;
-use crate::place::{forget_behind, watched_places};
+use crate::marks::Queue;
+use crate::place::{Arrival, arrive, forget_late, watched_places};
 use crate::record::Record;
 use crate::watches::Watches;
+use sb_lit::ClauseId;
 use sb_trail::Trail;
 
-/// Lists the clauses from a number on, each at two of its literals that are not false or became false last,
-/// and forgets what was passed behind that. Takes no memory.
+/// Lists the clauses that are new, each at two of its literals that are not false or became false last, and assigns
+/// what they force, until one of them is false. Takes no memory.
 pub fn list_new(
     records: &[Option<Record>],
     first: &mut Watches,
     second: &mut Watches,
-    passed: &mut Vec<Passed>,
-    trail: &Trail,
-    listed: usize,
-)
-    requires listed { listed ≤ length (kept_of records.now) }
-    requires ready { AreReady (take listed (kept_of records.now)) first.old.places.items first.old.lists
-        second.old.places.items second.old.lists passed.old.items }
+    queue: &mut Queue,
+    trail: &mut Trail,
+) -> Option<ClauseId>
+    requires listed { queue.old.listed ≤ length (kept_of records.now) }
+    requires ready { AreReady (take queue.old.listed (kept_of records.now)) first.old.places.items first.old.lists
+        second.old.places.items second.old.lists trail.old.literals queue.old.marks.items
+        (current_level trail.old.literals) }
     requires room { HaveRoom (kept_of records.now) first.old.places.items first.old.lists second.old.places.items
         second.old.lists }
-    requires passed { ArePassed passed.old.items trail.now.literals }
-    ensures ready { AreReady (kept_of records.now) first.new.places.items first.new.lists second.new.places.items
-        second.new.lists passed.new.items }
-    ensures passed { ArePassed passed.new.items trail.now.literals }
+    requires reserved { has_room_for trail.old.reserved (kept_of records.now) ≡ true }
+    ensures listed { queue.new.listed ≤ length (kept_of records.now) }
+    ensures all { IfNone result (queue.new.listed ≡ length (kept_of records.now)) }
+    ensures head { queue.new.head ≡ queue.old.head }
+    ensures ready { AreReady (take queue.new.listed (kept_of records.now)) first.new.places.items first.new.lists
+        second.new.places.items second.new.lists trail.new.literals queue.new.marks.items
+        (current_level trail.new.literals) }
+    ensures room { HaveRoom (kept_of records.now) first.new.places.items first.new.lists second.new.places.items
+        second.new.lists }
+    ensures grows { GrowsBy (kept_of records.now) trail.old trail.new }
+    ensures fine { IfNone result ((head : ℕ)
+        → IsHead (take queue.old.listed (kept_of records.now)) trail.old.literals first.old.places.items
+        second.old.places.items head
+        → IsHead (take queue.new.listed (kept_of records.now)) trail.new.literals first.new.places.items
+        second.new.places.items head) }
+    ensures answer { IfSome result (λ id. IsConflict (kept_of records.now) (held trail.new.literals) id.0) }
 {
-    for number in listed..records.len() {
-        list_next(records, first, second, passed, trail, number);
+    for number in queue.listed..records.len() {
+        queue.listed = number + 1;
+        let conflict = list_next(records, first, second, &mut queue.marks, trail, number);
+        if conflict.is_some() {
+            return conflict;
+        }
     }
+    None
 }
 
 /// Lists one clause more.
@@ -41,28 +61,45 @@ fn list_next(
     records: &[Option<Record>],
     first: &mut Watches,
     second: &mut Watches,
-    passed: &mut Vec<Passed>,
-    trail: &Trail,
+    marks: &mut Vec<usize>,
+    trail: &mut Trail,
     number: usize,
-)
+) -> Option<ClauseId>
     requires inside { number < length (kept_of records.now) }
     requires ready { AreReady (take number (kept_of records.now)) first.old.places.items first.old.lists
-        second.old.places.items second.old.lists passed.old.items }
+        second.old.places.items second.old.lists trail.old.literals marks.old.items
+        (current_level trail.old.literals) }
     requires room { HaveRoom (kept_of records.now) first.old.places.items first.old.lists second.old.places.items
         second.old.lists }
-    requires passed { ArePassed passed.old.items trail.now.literals }
+    requires reserved { has_room_for trail.old.reserved (kept_of records.now) ≡ true }
     ensures ready { AreReady (take (number + 1) (kept_of records.now)) first.new.places.items first.new.lists
-        second.new.places.items second.new.lists passed.new.items }
+        second.new.places.items second.new.lists trail.new.literals marks.new.items
+        (current_level trail.new.literals) }
     ensures room { HaveRoom (kept_of records.now) first.new.places.items first.new.lists second.new.places.items
         second.new.lists }
-    ensures passed { ArePassed passed.new.items trail.now.literals }
+    ensures grows { GrowsBy (kept_of records.now) trail.old trail.new }
+    ensures fine { IfNone result ((head : ℕ)
+        → IsHead (take number (kept_of records.now)) trail.old.literals first.old.places.items
+        second.old.places.items head
+        → IsHead (take (number + 1) (kept_of records.now)) trail.new.literals first.new.places.items
+        second.new.places.items head) }
+    ensures answer { IfSome result (λ id. IsConflict (kept_of records.now) (held trail.new.literals) id.0) }
 {
     let Some(record) = &records[number] else {
-        return;
+        return None;
     };
     let clause = record.literals.as_slice();
     let (own, other) = watched_places(trail, clause);
-    forget_behind(passed, trail, clause, own, other);
+    forget_late(marks, trail, clause, own, other);
     first.watch(number, clause, own, other);
     second.watch(number, clause, other, own);
+    let id = ClauseId(number as u64);
+    match arrive(trail, clause, own, other) {
+        Arrival::Stays => None,
+        Arrival::Forces(literal) => {
+            trail.assign(literal, id);
+            None
+        }
+        Arrival::False => Some(id),
+    }
 }

@@ -1,30 +1,57 @@
-//! Where a new clause is watched.
+//! Where a new clause is watched, and what it comes to.
 
-ghost use Rattle.std.specs.Prelude.{◌≡◌, ◌≤◌, length, true, false, MatchOption};
+ghost use Rattle.std.specs.Prelude.{◌≡◌, ◌||◌, true, MatchOption};
 ghost use Rattle.std.specs.List.{list_all};
 ghost use Rattle.sb_lit.specs.Clauses.{is_false_under};
-ghost use Rattle.sb_clauses.specs.Passing.{literals_of, ArePassed, IsFront};
-ghost use Rattle.sb_clauses.specs.Waiting.{is_the, IsOther, ArePlaces, AreLate, HasRank, EndsBelow};
+ghost use Rattle.sb_trail.specs.Assignments.{held, AreDistinct};
+ghost use Rattle.sb_clauses.specs.Marking.{AreAscending, IsFront};
+ghost use Rattle.sb_clauses.specs.Waiting.{is_the, IsOther, IsBest, ArePlaces, AreBest, AreLate, HasRank, IsArrival};
 
-use crate::passed::Passed;
+use crate::marks::forget_from;
+use crate::watch::is_or_false;
 use sb_lit::Lit;
-use sb_trail::{Assigned, Trail};
+use sb_trail::Trail;
+
+/// What a new clause comes to.
+#[derive(Clone, Copy, Debug, PartialEq, Eq)]
+pub enum Arrival {
+    /// The literal at the first place is true, or those at both places are not false.
+    Stays,
+    /// All literals are false but this one, which has no value.
+    Forces(Lit),
+    /// All literals are false.
+    False,
+}
 
 /// Two places of a clause to watch: of literals that are not false, or else that became false last. The same
 /// place twice where the clause has no two different literals, and 0 where it has none. Linear in its length.
 pub fn watched_places(trail: &Trail, clause: &[Lit]) -> (usize, usize)
-    ensures { ArePlaces clause.now result.0 result.1 }
+    ensures places { ArePlaces clause.now result.0 result.1 }
+    ensures best { AreBest (held trail.now.literals) clause.now result.0 result.1 }
 {
-    let Some(first) = latest(trail, clause, None) else {
+    let Some(first) = best_place(trail, clause, None) else {
         return (0, 0);
     };
-    match latest(trail, clause, Some(clause[first])) {
+    match best_place(trail, clause, Some(clause[first])) {
         Some(second) => (first, second),
         None => (first, first),
     }
 }
 
 /// The place of a literal other than this one that is not false, or else became false last.
+fn best_place(trail: &Trail, clause: &[Lit], avoided: Option<Lit>) -> Option<usize>
+    ensures { MatchOption result (list_all (is_the avoided) clause.now ≡ true)
+        (IsBest (held trail.now.literals) clause.now avoided) }
+{
+    for (place, literal) in clause.iter().enumerate() {
+        if !is_the_or_false(trail, avoided, *literal) {
+            return Some(place);
+        }
+    }
+    latest(trail, clause, avoided)
+}
+
+/// The place of a literal other than this one that became false last.
 fn latest(trail: &Trail, clause: &[Lit], avoided: Option<Lit>) -> Option<usize>
     ensures { MatchOption result (list_all (is_the avoided) clause.now ≡ true) (IsOther clause.now avoided) }
 {
@@ -53,9 +80,20 @@ fn is_the(avoided: Option<Lit>, literal: Lit) -> bool
     }
 }
 
+/// Whether it is this literal, if there is one, or false.
+fn is_the_or_false(trail: &Trail, avoided: Option<Lit>, literal: Lit) -> bool
+    ensures { result ≡ (is_the avoided literal || is_false_under (held trail.now.literals) literal) }
+{
+    match trail.literal_value(literal) {
+        Some(false) => true,
+        _ => is_the(avoided, literal),
+    }
+}
+
 /// The level at which the literal became false, and the greatest number where it is not false.
 fn rank(trail: &Trail, literal: Lit) -> usize
-    ensures { HasRank trail.now.literals literal result }
+    ensures rank { HasRank trail.now.literals literal result }
+    ensures distinct { AreDistinct trail.now.literals }
 {
     match trail.literal_value(literal) {
         Some(false) => trail.level(literal.atom).unwrap_or(0),
@@ -63,52 +101,37 @@ fn rank(trail: &Trail, literal: Lit) -> usize
     }
 }
 
-/// Forgets what was passed behind the first of the two watched literals that became false, and all where the
+/// Forgets the marks from the level on at which the first of the two watched literals became false, and all where the
 /// clause has no two different literals.
-pub fn forget_behind(
-    passed: &mut Vec<Passed>,
-    trail: &Trail,
-    clause: &[Lit],
-    own: usize,
-    other: usize,
-)
+pub fn forget_late(marks: &mut Vec<usize>, trail: &Trail, clause: &[Lit], own: usize, other: usize)
     requires places { ArePlaces clause.now own other }
-    requires passed { ArePassed passed.old.items trail.now.literals }
-    ensures passed { ArePassed passed.new.items trail.now.literals }
-    ensures front { IsFront passed.old.items passed.new.items }
-    ensures late { AreLate passed.new.items clause.now own other }
+    requires ascending { AreAscending marks.old.items }
+    ensures ascending { AreAscending marks.new.items }
+    ensures front { IsFront marks.old.items marks.new.items }
+    ensures late { AreLate trail.now.literals marks.new.items clause.now own other }
 {
     if clause.is_empty() || clause[own] == clause[other] {
-        passed.clear();
+        marks.clear();
         return;
     }
-    forget_false(passed, trail, clause[own]);
-    forget_false(passed, trail, clause[other]);
+    forget_from(marks, rank(trail, clause[own]));
+    forget_from(marks, rank(trail, clause[other]));
 }
 
-/// Forgets what was passed from the level on at which the literal became false.
-fn forget_false(passed: &mut Vec<Passed>, trail: &Trail, literal: Lit)
-    requires { ArePassed passed.old.items trail.now.literals }
-    ensures passed { ArePassed passed.new.items trail.now.literals }
-    ensures front { IsFront passed.old.items passed.new.items }
-    ensures not_false { is_false_under (literals_of passed.new.items) literal ≡ false }
+/// What a new clause comes to that is watched at these places.
+pub fn arrive(trail: &Trail, clause: &[Lit], own: usize, other: usize) -> Arrival
+    requires places { ArePlaces clause.now own other }
+    requires best { AreBest (held trail.now.literals) clause.now own other }
+    ensures { IsArrival trail.now.literals clause.now own other result }
 {
-    let rank = rank(trail, literal);
-    let entries = trail.literals();
-    let count = count_below(entries, passed.len(), rank);
-    passed.truncate(count);
-}
-
-/// How many of the first entries are left where those at their end that are of this level or above are taken
-/// away.
-fn count_below(entries: &[Assigned], count: usize, level: usize) -> usize
-    requires { count ≤ length entries.now }
-    ensures within { result ≤ count }
-    ensures below { EndsBelow entries.now result level }
-{
-    let mut left = count;
-    while left > 0 && entries[left - 1].level >= level {
-        left -= 1;
+    if clause.is_empty() {
+        return Arrival::False;
     }
-    left
+    let first = clause[own];
+    match trail.literal_value(first) {
+        Some(true) => Arrival::Stays,
+        Some(false) => Arrival::False,
+        None if is_or_false(trail, first, clause[other]) => Arrival::Forces(first),
+        None => Arrival::Stays,
+    }
 }

@@ -8,12 +8,12 @@ ghost use Rattle.sb_clauses.specs.Records.{kept_of};
 ghost use Rattle.sb_clauses.specs.Propagation.{has_room_for, GrowsBy, IsConflict, IsSettled};
 ghost use Rattle.sb_clauses.specs.Watching.{list_of, IsSide, AreWatched};
 ghost use Rattle.sb_clauses.specs.Walking.{AreHeld, Advances};
-ghost use Rattle.sb_clauses.specs.Passing.{AreReady};
 ghost use Rattle.sb_clauses.specs.Waiting.{AreStored};
 ghost use Rattle.sb_clauses.specs.Settling.{Grown, AreFine, Settles, IsFalseAt};
 
+use crate::clauses::Clauses;
 use crate::listing::list_new;
-use crate::passed::{Passed, note_head, queue_head, rewind};
+use crate::marks::{Queue, end_of_marks, forget_from, mark};
 use crate::record::Record;
 use crate::walk::walk;
 use crate::watches::{SHORT, Watches, list_among};
@@ -21,32 +21,36 @@ use sb_lit::{ClauseId, Lit};
 use sb_trail::Trail;
 
 /// Assigns what the clauses force until nothing more is forced or one of them is false, and answers that one.
-/// Puts the clauses that are new on the watch lists, and begins at the queue head that propagation left before.
+/// Puts the clauses that are new on the watch lists, and begins at the queue head.
 pub fn settle_on(
-    records: &[Option<Record>],
+    clauses: &Clauses,
     first: &mut Watches,
     second: &mut Watches,
-    passed: &mut Vec<Passed>,
+    queue: &mut Queue,
     trail: &mut Trail,
-    listed: usize,
 ) -> Option<ClauseId>
-    requires stored { AreStored (kept_of records.now) first.old.places.items first.old.lists second.old.places.items
-        second.old.lists passed.old.items listed }
-    requires room { has_room_for trail.old.reserved (kept_of records.now) ≡ true }
-    ensures ready { AreReady (kept_of records.now) first.new.places.items first.new.lists second.new.places.items
-        second.new.lists passed.new.items }
-    ensures grows { GrowsBy (kept_of records.now) trail.old trail.new }
-    ensures answer { MatchOption result (IsSettled (kept_of records.now) (held trail.new.literals))
-        (λ id. IsConflict (kept_of records.now) (held trail.new.literals) id.0) }
+    requires stored { AreStored clauses.now first.old.places.items first.old.lists second.old.places.items
+        second.old.lists trail.old.literals queue.old.marks.items queue.old.head queue.old.listed }
+    requires room { has_room_for trail.old.reserved clauses.now ≡ true }
+    ensures stored { AreStored clauses.now first.new.places.items first.new.lists second.new.places.items
+        second.new.lists trail.new.literals queue.new.marks.items queue.new.head queue.new.listed }
+    ensures grows { GrowsBy clauses.now trail.old trail.new }
+    ensures answer { MatchOption result (IsSettled clauses.now (held trail.new.literals))
+        (λ id. IsConflict clauses.now (held trail.new.literals) id.0) }
 {
-    rewind(passed, trail.literals());
-    list_new(records, first, second, passed, trail, listed);
-    let head = queue_head(passed);
-    let conflict = settle(records, first, second, trail, head);
+    let records = clauses.records();
+    forget_from(&mut queue.marks, trail.current_level());
+    let conflict = list_new(records, first, second, queue, trail);
+    if conflict.is_some() {
+        queue.head = end_of_marks(&queue.marks, trail.literals());
+        return conflict;
+    }
+    let conflict = settle(records, first, second, trail, queue.head);
     if conflict.is_some() {
         return conflict;
     }
-    note_head(passed, trail.literals());
+    queue.head = Some(trail.literals().len());
+    mark(&mut queue.marks, trail.current_level());
     None
 }
 

@@ -57,7 +57,7 @@ fn replacement(trail: &Trail, literals: &[Lit], partner: Lit) -> Option<usize>
 }
 
 /// Whether a literal is this one or false.
-fn is_or_false(trail: &Trail, partner: Lit, literal: Lit) -> bool
+pub fn is_or_false(trail: &Trail, partner: Lit, literal: Lit) -> bool
     ensures { result ≡ is_or_false (held trail.now.literals) partner literal }
 {
     match trail.literal_value(literal) {

@@ -8,9 +8,9 @@ ghost use Rattle.sb_analyze.specs.Reasons.{AreReasoned, level_in, highest};
 ghost use Rattle.sb_analyze.specs.Learning.{HasTwoOf};
 ghost use Rattle.sb_analyze.specs.Cores.{AreAssumed};
 
-use crate::search::{Search, keep, literal, literals};
+use crate::search::{keep, literal, literals};
 use sb_analyze::{Core, Hints, Learned, final_core, learn};
-use sb_clauses::{Clauses, Propagated};
+use sb_clauses::{Clauses, Engine, Propagated};
 use sb_lit::{Clause, ClauseId, Lit};
 use sb_trail::{Assigned, Trail};
 use std::alloc::{AllocError, Global};
@@ -18,51 +18,52 @@ use std::process::Abort;
 use std::test::Fail;
 
 /// Propagates, and says which clause is false.
-fn settle(rt: &impl Abort, search: &mut Search) -> Option<ClauseId>
-    requires { AreReasoned search.old.clauses [] search.old.trail.literals }
-    ensures kept { search.new.clauses ≡ search.old.clauses }
-    ensures reasoned { AreReasoned search.new.clauses [] search.new.trail.literals }
-    ensures grows { GrowsBy search.old.clauses search.old.trail search.new.trail }
-    ensures answer { MatchOption result (IsSettled search.new.clauses (held search.new.trail.literals))
-        (λ id. IsConflict search.new.clauses (held search.new.trail.literals) id.0) }
+fn settle(rt: &impl Abort, search: &mut Engine) -> Option<ClauseId>
+    requires { AreReasoned search.old.kept [] search.old.trail.literals }
+    ensures kept { search.new.kept ≡ search.old.kept }
+    ensures reasoned { AreReasoned search.new.kept [] search.new.trail.literals }
+    ensures grows { GrowsBy search.old.kept search.old.trail search.new.trail }
+    ensures answer { MatchOption result (IsSettled search.new.kept (held search.new.trail.literals))
+        (λ id. IsConflict search.new.kept (held search.new.trail.literals) id.0) }
 {
-    let room = search.clauses.have_room_on(&search.trail);
+    let room = search.has_room();
     assert!(rt; room);
-    match search.clauses.propagate(&mut search.trail) {
+    match search.propagate() {
         Propagated::Done => None,
         Propagated::Conflict(id) => Some(id),
     }
 }
 
 /// Propagates, and expects that no clause is false.
-fn rests(rt: &impl Abort, search: &mut Search)
-    requires { AreReasoned search.old.clauses [] search.old.trail.literals }
-    ensures kept { search.new.clauses ≡ search.old.clauses }
-    ensures reasoned { AreReasoned search.new.clauses [] search.new.trail.literals }
-    ensures settled { IsSettled search.new.clauses (held search.new.trail.literals) }
+fn rests(rt: &impl Abort, search: &mut Engine)
+    requires { AreReasoned search.old.kept [] search.old.trail.literals }
+    ensures kept { search.new.kept ≡ search.old.kept }
+    ensures reasoned { AreReasoned search.new.kept [] search.new.trail.literals }
+    ensures settled { IsSettled search.new.kept (held search.new.trail.literals) }
 {
     let conflict = settle(rt, search);
     assert!(rt; conflict.is_none());
 }
 
-fn decide(rt: &impl Abort, search: &mut Search, literal: Lit)
-    requires { AreReasoned search.old.clauses [] search.old.trail.literals }
-    ensures kept { search.new.clauses ≡ search.old.clauses }
-    ensures reasoned { AreReasoned search.new.clauses [] search.new.trail.literals }
+fn decide(rt: &impl Abort, search: &mut Engine, literal: Lit)
+    requires { AreReasoned search.old.kept [] search.old.trail.literals }
+    ensures kept { search.new.kept ≡ search.old.kept }
+    ensures reasoned { AreReasoned search.new.kept [] search.new.trail.literals }
     ensures decided { search.new.trail.literals ≡ search.old.trail.literals
         ++ record { literal = literal; level = current_level search.old.trail.literals + 1; reason = None } ∷ [] }
     ensures trail { IsTrail search.old.trail }
 {
-    assert!(rt; literal.atom < search.trail.reserved() as u64);
-    assert!(rt; search.trail.value(literal.atom).is_none());
-    let _before = search.trail.literals();
-    search.trail.decide(literal);
+    let trail = search.trail();
+    assert!(rt; literal.atom < trail.reserved() as u64);
+    assert!(rt; trail.value(literal.atom).is_none());
+    let _before = trail.literals();
+    search.decide(literal);
 }
 
 /// Decides a literal, and expects that no clause is false then.
-fn chooses(rt: &impl Abort, search: &mut Search, number: i8)
-    requires { AreReasoned search.old.clauses [] search.old.trail.literals }
-    ensures { AreReasoned search.new.clauses [] search.new.trail.literals }
+fn chooses(rt: &impl Abort, search: &mut Engine, number: i8)
+    requires { AreReasoned search.old.kept [] search.old.trail.literals }
+    ensures { AreReasoned search.new.kept [] search.new.trail.literals }
 {
     decide(rt, search, literal(number));
     rests(rt, search);
@@ -135,35 +136,38 @@ fn has_two(trail: &Trail, literals: &[Lit], level: usize) -> bool
 fn learns(
     rt: &impl Abort,
     alloc: Global,
-    search: &mut Search,
+    search: &mut Engine,
     number: i8,
 ) -> Result<Learned, AllocError>
-    requires { AreReasoned search.old.clauses [] search.old.trail.literals }
-    ensures { AreReasoned search.new.clauses [] search.new.trail.literals }
+    requires { AreReasoned search.old.kept [] search.old.trail.literals }
+    ensures { AreReasoned search.new.kept [] search.new.trail.literals }
 {
     rests(rt, search);
     decide(rt, search, literal(number));
     let conflict = settle(rt, search).expect(rt, "a conflict");
-    let literals = search.clauses.literals(conflict).expect(rt, "a clause");
-    let level = search.trail.current_level();
-    assert!(rt; highest(&search.trail, literals) == level);
-    assert!(rt; has_two(&search.trail, literals, level));
-    learn(alloc, &search.trail, &search.clauses, conflict)
+    let trail = search.trail();
+    let clauses = search.clauses();
+    let literals = clauses.literals(conflict).expect(rt, "a clause");
+    let level = trail.current_level();
+    assert!(rt; highest(trail, literals) == level);
+    assert!(rt; has_two(trail, literals, level));
+    learn(alloc, trail, clauses, conflict)
 }
 
 /// Keeps what was learned, goes back to the level, and expects that no clause is false there.
 fn takes(
     rt: &impl Abort,
-    search: &mut Search,
+    search: &mut Engine,
     lesson: &Learned,
     level: usize,
 ) -> Result<(), AllocError>
-    requires { AreReasoned search.old.clauses [] search.old.trail.literals }
-    ensures { OnOk result (AreReasoned search.new.clauses [] search.new.trail.literals) }
+    requires { AreReasoned search.old.kept [] search.old.trail.literals }
+    ensures { OnOk result (AreReasoned search.new.kept [] search.new.trail.literals) }
 {
-    search.clauses.add(&lesson.clause, 0)?;
-    let _before = search.trail.literals();
-    search.trail.backtrack(level);
+    search.add(&lesson.clause, 0)?;
+    let trail = search.trail();
+    let _before = trail.literals();
+    search.backtrack(level);
     rests(rt, search);
     Ok(())
 }
@@ -312,20 +316,20 @@ fn are_assumed(entries: &[Assigned], assumptions: &[Lit]) -> bool
 fn blames_after(
     rt: &impl Abort,
     alloc: Global,
-    search: &mut Search,
+    search: &mut Engine,
     number: i8,
     assumptions: &[Lit],
 ) -> Result<Core, AllocError>
-    requires { AreReasoned search.old.clauses [] search.old.trail.literals }
-    ensures { AreReasoned search.new.clauses [] search.new.trail.literals }
+    requires { AreReasoned search.old.kept [] search.old.trail.literals }
+    ensures { AreReasoned search.new.kept [] search.new.trail.literals }
 {
     decide(rt, search, literal(number));
     let conflict = settle(rt, search).expect(rt, "a conflict");
-    assert!(rt; are_assumed(search.trail.literals(), assumptions));
+    assert!(rt; are_assumed(search.trail().literals(), assumptions));
     final_core(
         alloc,
-        &search.trail,
-        &search.clauses,
+        search.trail(),
+        search.clauses(),
         Some(conflict),
         assumptions,
     )
@@ -335,21 +339,24 @@ fn blames_after(
 fn blames_for(
     rt: &impl Abort,
     alloc: Global,
-    search: &Search,
+    search: &Engine,
     number: i8,
     assumptions: &[Lit],
 ) -> Result<Core, AllocError>
-    requires { AreReasoned search.now.clauses [] search.now.trail.literals }
+    requires { AreReasoned search.now.kept [] search.now.trail.literals }
 {
     let assumption = literal(number);
     assert!(rt; has(assumptions, assumption));
-    assert!(rt; search.trail.literal_value(assumption) == Some(false));
-    let reason = search.trail.reason(assumption.atom).expect(rt, "a reason");
-    assert!(rt; are_assumed(search.trail.literals(), assumptions));
+    assert!(rt; search.trail().literal_value(assumption) == Some(false));
+    let reason = search
+        .trail()
+        .reason(assumption.atom)
+        .expect(rt, "a reason");
+    assert!(rt; are_assumed(search.trail().literals(), assumptions));
     final_core(
         alloc,
-        &search.trail,
-        &search.clauses,
+        search.trail(),
+        search.clauses(),
         Some(reason),
         assumptions,
     )
@@ -359,17 +366,17 @@ fn blames_for(
 fn blames_of_pair(
     rt: &impl Abort,
     alloc: Global,
-    search: &Search,
+    search: &Engine,
     number: i8,
     assumptions: &[Lit],
 ) -> Result<Core, AllocError>
-    requires { AreReasoned search.now.clauses [] search.now.trail.literals }
+    requires { AreReasoned search.now.kept [] search.now.trail.literals }
 {
     let assumption = literal(number);
     assert!(rt; has(assumptions, assumption));
     assert!(rt; has(assumptions, assumption.negated()));
-    assert!(rt; are_assumed(search.trail.literals(), assumptions));
-    final_core(alloc, &search.trail, &search.clauses, None, assumptions)
+    assert!(rt; are_assumed(search.trail().literals(), assumptions));
+    final_core(alloc, search.trail(), search.clauses(), None, assumptions)
 }
 
 /// How it came that the assumptions can't all be true.
@@ -393,12 +400,12 @@ enum Found {
 fn blames(
     rt: &impl Abort,
     alloc: Global,
-    search: &mut Search,
+    search: &mut Engine,
     cause: Cause,
     assumptions: &[Lit],
 ) -> Result<Core, AllocError>
-    requires { AreReasoned search.old.clauses [] search.old.trail.literals }
-    ensures { AreReasoned search.new.clauses [] search.new.trail.literals }
+    requires { AreReasoned search.old.kept [] search.old.trail.literals }
+    ensures { AreReasoned search.new.kept [] search.new.trail.literals }
 {
     match cause {
         Cause::Decided(number) => blames_after(rt, alloc, search, number, assumptions),
@@ -462,40 +469,40 @@ enum Move {
 fn teaches(
     rt: &impl Abort,
     alloc: Global,
-    search: &mut Search,
+    search: &mut Engine,
     number: i8,
     expected: Expected,
 ) -> Result<(), AllocError>
-    requires { AreReasoned search.old.clauses [] search.old.trail.literals }
-    ensures { AreReasoned search.new.clauses [] search.new.trail.literals }
+    requires { AreReasoned search.old.kept [] search.old.trail.literals }
+    ensures { AreReasoned search.new.kept [] search.new.trail.literals }
 {
     let lesson = learns(rt, alloc, search, number)?;
-    says(rt, alloc, &search.clauses, &lesson, expected)
+    says(rt, alloc, search.clauses(), &lesson, expected)
 }
 
 fn says_and_takes(
     rt: &impl Abort,
     alloc: Global,
-    search: &mut Search,
+    search: &mut Engine,
     lesson: &Learned,
     expected: Expected,
 ) -> Result<(), AllocError>
-    requires { AreReasoned search.old.clauses [] search.old.trail.literals }
-    ensures { OnOk result (AreReasoned search.new.clauses [] search.new.trail.literals) }
+    requires { AreReasoned search.old.kept [] search.old.trail.literals }
+    ensures { OnOk result (AreReasoned search.new.kept [] search.new.trail.literals) }
 {
-    says(rt, alloc, &search.clauses, lesson, expected)?;
+    says(rt, alloc, search.clauses(), lesson, expected)?;
     takes(rt, search, lesson, 0)
 }
 
 fn teaches_more(
     rt: &impl Abort,
     alloc: Global,
-    search: &mut Search,
+    search: &mut Engine,
     number: i8,
     expected: Expected,
 ) -> Result<(), AllocError>
-    requires { AreReasoned search.old.clauses [] search.old.trail.literals }
-    ensures { OnOk result (AreReasoned search.new.clauses [] search.new.trail.literals) }
+    requires { AreReasoned search.old.kept [] search.old.trail.literals }
+    ensures { OnOk result (AreReasoned search.new.kept [] search.new.trail.literals) }
 {
     let lesson = learns(rt, alloc, search, number)?;
     says_and_takes(rt, alloc, search, &lesson, expected)
@@ -504,22 +511,22 @@ fn teaches_more(
 fn explains(
     rt: &impl Abort,
     alloc: Global,
-    search: &mut Search,
+    search: &mut Engine,
     cause: Cause,
     numbers: &[i8],
     found: Found,
 ) -> Result<(), AllocError>
-    requires { AreReasoned search.old.clauses [] search.old.trail.literals }
-    ensures { OnOk result (AreReasoned search.new.clauses [] search.new.trail.literals) }
+    requires { AreReasoned search.old.kept [] search.old.trail.literals }
+    ensures { OnOk result (AreReasoned search.new.kept [] search.new.trail.literals) }
 {
     let assumptions = literals(alloc, numbers)?;
     let core = blames(rt, alloc, search, cause, &assumptions)?;
-    finds(rt, alloc, &search.clauses, &core, found)
+    finds(rt, alloc, search.clauses(), &core, found)
 }
 
-fn plays(rt: &impl Abort, alloc: Global, search: &mut Search, play: Move) -> Result<(), AllocError>
-    requires { AreReasoned search.old.clauses [] search.old.trail.literals }
-    ensures { OnOk result (AreReasoned search.new.clauses [] search.new.trail.literals) }
+fn plays(rt: &impl Abort, alloc: Global, search: &mut Engine, play: Move) -> Result<(), AllocError>
+    requires { AreReasoned search.old.kept [] search.old.trail.literals }
+    ensures { OnOk result (AreReasoned search.new.kept [] search.new.trail.literals) }
 {
     match play {
         Move::Chooses(number) => {
@@ -537,10 +544,10 @@ fn plays(rt: &impl Abort, alloc: Global, search: &mut Search, play: Move) -> Res
 fn plays_all(
     rt: &impl Abort,
     alloc: Global,
-    search: &mut Search,
+    search: &mut Engine,
     moves: &[Move],
 ) -> Result<(), AllocError>
-    requires { AreReasoned search.old.clauses [] search.old.trail.literals }
+    requires { AreReasoned search.old.kept [] search.old.trail.literals }
 {
     for play in moves {
         plays(rt, alloc, search, *play)?;
@@ -549,13 +556,13 @@ fn plays_all(
 }
 
 /// A clause at level 0 for each row, on an empty trail with room.
-fn fill(alloc: Global, search: &mut Search, rows: &[[i8; 3]]) -> Result<(), AllocError>
+fn fill(alloc: Global, search: &mut Engine, rows: &[[i8; 3]]) -> Result<(), AllocError>
     requires { search.old.trail.literals ≡ [] }
     ensures { search.new.trail.literals ≡ [] }
 {
-    search.trail.reserve(10)?;
+    search.reserve(10)?;
     for row in rows {
-        keep(alloc, &mut search.clauses, row, 0)?;
+        keep(alloc, search, row, 0)?;
     }
     Ok(())
 }
@@ -563,7 +570,7 @@ fn fill(alloc: Global, search: &mut Search, rows: &[[i8; 3]]) -> Result<(), Allo
 fn begins(
     rt: &impl Abort,
     alloc: Global,
-    search: &mut Search,
+    search: &mut Engine,
     rows: &[[i8; 3]],
     moves: &[Move],
 ) -> Result<(), AllocError>
@@ -581,10 +588,7 @@ fn runs(
     rows: &[[i8; 3]],
     moves: &[Move],
 ) -> Result<(), AllocError> {
-    let mut search = Search {
-        clauses: Clauses::new(alloc),
-        trail: Trail::new(alloc),
-    };
+    let mut search = Engine::new(alloc);
     begins(rt, alloc, &mut search, rows, moves)
 }
 

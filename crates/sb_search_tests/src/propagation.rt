@@ -1,7 +1,7 @@
 //! Kept clauses, and what they force.
 
-use crate::search::{Search, keep, literal};
-use sb_clauses::{Clauses, Propagated};
+use crate::search::{keep, literal};
+use sb_clauses::{Clauses, Engine, Propagated};
 use sb_lit::ClauseId;
 use sb_trail::Trail;
 use std::alloc::{AllocError, Global};
@@ -90,38 +90,38 @@ const UNITS: [Step; 6] = [
 fn keeps(
     rt: &impl Abort,
     alloc: Global,
-    clauses: &mut Clauses,
+    search: &mut Engine,
     numbers: &[i8],
     level: u64,
 ) -> Result<(), AllocError> {
-    let next = clauses.len() as u64;
-    let id = keep(alloc, clauses, numbers, level)?;
+    let next = search.clauses().len() as u64;
+    let id = keep(alloc, search, numbers, level)?;
     assert!(rt; id == ClauseId(next));
     Ok(())
 }
 
-fn decides(rt: &impl Abort, trail: &mut Trail, number: i8) {
+fn decides(rt: &impl Abort, search: &mut Engine, number: i8) {
     let literal = literal(number);
-    assert!(rt; literal.atom < trail.reserved() as u64);
-    assert!(rt; trail.value(literal.atom).is_none());
-    trail.decide(literal);
+    assert!(rt; literal.atom < search.trail().reserved() as u64);
+    assert!(rt; search.trail().value(literal.atom).is_none());
+    search.decide(literal);
 }
 
-fn propagate(rt: &impl Abort, search: &mut Search) -> Propagated {
-    let room = search.clauses.have_room_on(&search.trail);
+fn propagate(rt: &impl Abort, search: &mut Engine) -> Propagated {
+    let room = search.has_room();
     assert!(rt; room);
-    search.clauses.propagate(&mut search.trail)
+    search.propagate()
 }
 
-fn propagates(rt: &impl Abort, search: &mut Search, conflict: Option<u64>, len: usize) {
+fn propagates(rt: &impl Abort, search: &mut Engine, conflict: Option<u64>, len: usize) {
     match propagate(rt, search) {
         Propagated::Done => assert!(rt; conflict.is_none()),
         Propagated::Conflict(id) => assert!(rt; conflict == Some(id.0)),
     }
-    assert!(rt; search.trail.len() == len);
+    assert!(rt; search.trail().len() == len);
 }
 
-fn conflicts(rt: &impl Abort, search: &mut Search, is_conflict: bool) {
+fn conflicts(rt: &impl Abort, search: &mut Engine, is_conflict: bool) {
     let is_done = propagate(rt, search) == Propagated::Done;
     assert!(rt; is_done != is_conflict);
 }
@@ -144,16 +144,16 @@ fn has_level(rt: &impl Abort, clauses: &Clauses, id: u64, level: Option<u64>) {
 }
 
 /// Takes a step that takes no memory.
-fn steps_on(rt: &impl Abort, search: &mut Search, step: Step) {
+fn steps_on(rt: &impl Abort, search: &mut Engine, step: Step) {
     match step {
-        Step::Decides(number) => decides(rt, &mut search.trail, number),
+        Step::Decides(number) => decides(rt, search, number),
         Step::Propagates(conflict, len) => propagates(rt, search, conflict, len),
         Step::Conflicts(is_conflict) => conflicts(rt, search, is_conflict),
-        Step::Says(atom, value, reason) => says(rt, &search.trail, atom, value, reason),
-        Step::Drops(level) => search.clauses.drop_above(level),
-        Step::GoesBack(level) => search.trail.backtrack(level),
-        Step::HasLevel(id, level) => has_level(rt, &search.clauses, id, level),
-        Step::Counts(len) => counts(rt, &search.clauses, len),
+        Step::Says(atom, value, reason) => says(rt, search.trail(), atom, value, reason),
+        Step::Drops(level) => search.drop_above(level),
+        Step::GoesBack(level) => search.backtrack(level),
+        Step::HasLevel(id, level) => has_level(rt, search.clauses(), id, level),
+        Step::Counts(len) => counts(rt, search.clauses(), len),
         _ => {}
     }
 }
@@ -161,12 +161,12 @@ fn steps_on(rt: &impl Abort, search: &mut Search, step: Step) {
 fn steps(
     rt: &impl Abort,
     alloc: Global,
-    search: &mut Search,
+    search: &mut Engine,
     step: Step,
 ) -> Result<(), AllocError> {
     match step {
-        Step::Reserves(atoms) => search.trail.reserve(atoms),
-        Step::Keeps(numbers, level) => keeps(rt, alloc, &mut search.clauses, &numbers, level),
+        Step::Reserves(atoms) => search.reserve(atoms),
+        Step::Keeps(numbers, level) => keeps(rt, alloc, search, &numbers, level),
         _ => {
             steps_on(rt, search, step);
             Ok(())
@@ -177,7 +177,7 @@ fn steps(
 fn takes_all(
     rt: &impl Abort,
     alloc: Global,
-    search: &mut Search,
+    search: &mut Engine,
     all: &[Step],
 ) -> Result<(), AllocError> {
     for step in all {
@@ -187,10 +187,7 @@ fn takes_all(
 }
 
 fn runs(rt: &impl Abort, alloc: Global, all: &[Step]) -> Result<(), AllocError> {
-    let mut search = Search {
-        clauses: Clauses::new(alloc),
-        trail: Trail::new(alloc),
-    };
+    let mut search = Engine::new(alloc);
     takes_all(rt, alloc, &mut search, all)
 }
 

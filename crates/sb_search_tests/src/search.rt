@@ -1,16 +1,10 @@
 //! What the tests of a search share.
 
-use sb_clauses::Clauses;
-use sb_lit::{Clause, ClauseId, Lit};
-use sb_trail::Trail;
-use std::alloc::{AllocError, Global};
+ghost use Rattle.std.specs.Prelude.{◌≡◌};
 
-/// Kept clauses and the trail of a search.
-#[derive(Drop)]
-pub struct Search {
-    pub clauses: Clauses,
-    pub trail: Trail,
-}
+use sb_clauses::Engine;
+use sb_lit::{Clause, ClauseId, Lit};
+use std::alloc::{AllocError, Global};
 
 /// The literal of a number as DIMACS writes it, but for the atom 0: 1 is the atom 1, and -1 its negation.
 pub fn literal(number: i8) -> Lit {
@@ -46,10 +40,12 @@ pub fn literals(alloc: Global, numbers: &[i8]) -> Result<Vec<Lit>, AllocError> {
 /// Keeps the clause of a row of numbers.
 pub fn keep(
     alloc: Global,
-    clauses: &mut Clauses,
+    search: &mut Engine,
     numbers: &[i8],
     level: u64,
-) -> Result<ClauseId, AllocError> {
+) -> Result<ClauseId, AllocError>
+    ensures { search.new.trail ≡ search.old.trail }
+{
     let clause = Clause::from_literals(literals(alloc, numbers)?);
-    clauses.add(&clause, level)
+    search.add(&clause, level)
 }

@@ -2,7 +2,7 @@
 
 ghost use Rattle.std.specs.Prelude.{◌<◌, max};
 
-use sb_clauses::{Clauses, Propagated};
+use sb_clauses::{Clauses, Engine, Propagated};
 use sb_lit::{Clause, ClauseId, Lit};
 use sb_trail::Trail;
 use std::alloc::{AllocError, Global};
@@ -112,17 +112,17 @@ impl Draw {
     }
 }
 
-/// Two trails on which the same is decided, one for each way to propagate.
+/// Clauses, and two trails on which the same is decided, one for each way to propagate.
 #[derive(Drop)]
 struct Pair {
-    watched: Trail,
+    engine: Engine,
     swept: Trail,
 }
 
 fn add_clause(
     alloc: Global,
     draw: &mut Draw,
-    clauses: &mut Clauses,
+    engine: &mut Engine,
     atoms: u64,
 ) -> Result<(), AllocError> {
     let mut literals = Vec::new(alloc);
@@ -130,15 +130,16 @@ fn add_clause(
         literals.push(draw.literal(atoms))?;
     }
     let level = draw.below(4);
-    clauses.add(&Clause::from_literals(literals), level)?;
+    engine.add(&Clause::from_literals(literals), level)?;
     Ok(())
 }
 
 /// Propagates on both trails, compares, and says whether a clause is false.
-fn both_conflict(rt: &impl Abort, clauses: &mut Clauses, pair: &mut Pair, atoms: u64) -> bool {
-    assert!(rt; clauses.have_room_on(&pair.watched));
-    let conflict = clauses.propagate(&mut pair.watched) != Propagated::Done;
-    let swept = sweeps_to_a_conflict(rt, clauses, &mut pair.swept);
+fn both_conflict(rt: &impl Abort, pair: &mut Pair, atoms: u64) -> bool {
+    let room = pair.engine.has_room();
+    assert!(rt; room);
+    let conflict = pair.engine.propagate() != Propagated::Done;
+    let swept = sweeps_to_a_conflict(rt, pair.engine.clauses(), &mut pair.swept);
     assert!(rt; swept == conflict);
     if !conflict {
         same_values(rt, pair, atoms);
@@ -147,22 +148,26 @@ fn both_conflict(rt: &impl Abort, clauses: &mut Clauses, pair: &mut Pair, atoms:
 }
 
 fn same_values(rt: &impl Abort, pair: &Pair, atoms: u64) {
-    assert!(rt; pair.watched.len() == pair.swept.len());
+    let watched = pair.engine.trail();
+    assert!(rt; watched.len() == pair.swept.len());
     for atom in 0..atoms {
-        assert!(rt; pair.watched.value(atom) == pair.swept.value(atom));
+        assert!(rt; watched.value(atom) == pair.swept.value(atom));
     }
 }
 
-fn decide(rt: &impl Abort, trail: &mut Trail, literal: Lit) {
-    if trail.value(literal.atom).is_none() {
-        assert!(rt; literal.atom < trail.reserved() as u64);
-        trail.decide(literal);
+fn decide(rt: &impl Abort, pair: &mut Pair, literal: Lit) {
+    if pair.swept.value(literal.atom).is_none() {
+        assert!(rt; literal.atom < pair.swept.reserved() as u64);
+        pair.swept.decide(literal);
+        assert!(rt; literal.atom < pair.engine.trail().reserved() as u64);
+        assert!(rt; pair.engine.trail().value(literal.atom).is_none());
+        pair.engine.decide(literal);
     }
 }
 
 fn go_back(draw: &mut Draw, pair: &mut Pair) {
-    let level = draw.below(pair.watched.current_level() as u64) as usize;
-    pair.watched.backtrack(level);
+    let level = draw.below(pair.swept.current_level() as u64) as usize;
+    pair.engine.backtrack(level);
     pair.swept.backtrack(level);
 }
 
@@ -171,12 +176,11 @@ fn one_step(
     rt: &impl Abort,
     alloc: Global,
     draw: &mut Draw,
-    clauses: &mut Clauses,
     pair: &mut Pair,
     atoms: u64,
 ) -> Result<bool, AllocError> {
-    if both_conflict(rt, clauses, pair, atoms) {
-        if pair.watched.current_level() == 0 {
+    if both_conflict(rt, pair, atoms) {
+        if pair.swept.current_level() == 0 {
             return Ok(true);
         }
         go_back(draw, pair);
@@ -184,19 +188,18 @@ fn one_step(
     }
     match draw.below(12) {
         0 => go_back(draw, pair),
-        1 => add_clause(alloc, draw, clauses, atoms)?,
-        2 => clauses.drop_above(draw.below(4)),
+        1 => add_clause(alloc, draw, &mut pair.engine, atoms)?,
+        2 => pair.engine.drop_above(draw.below(4)),
         _ => {
             let literal = draw.literal(atoms);
-            decide(rt, &mut pair.watched, literal);
-            decide(rt, &mut pair.swept, literal);
+            decide(rt, pair, literal);
         }
     }
     Ok(false)
 }
 
 fn reserve(pair: &mut Pair, atoms: u64) -> Result<(), AllocError> {
-    pair.watched.reserve(atoms as usize)?;
+    pair.engine.reserve(atoms as usize)?;
     pair.swept.reserve(atoms as usize)
 }
 
@@ -205,16 +208,15 @@ fn steps(
     rt: &impl Abort,
     alloc: Global,
     draw: &mut Draw,
-    clauses: &mut Clauses,
     pair: &mut Pair,
 ) -> Result<(), AllocError> {
     let atoms = 3 + draw.below(10);
     reserve(pair, atoms)?;
     for _ in 0..atoms + draw.below(2 * atoms) {
-        add_clause(alloc, draw, clauses, atoms)?;
+        add_clause(alloc, draw, &mut pair.engine, atoms)?;
     }
     for _ in 0..40 {
-        if one_step(rt, alloc, draw, clauses, pair, atoms)? {
+        if one_step(rt, alloc, draw, pair, atoms)? {
             return Ok(());
         }
     }
@@ -222,12 +224,11 @@ fn steps(
 }
 
 fn one_list(rt: &impl Abort, alloc: Global, draw: &mut Draw) -> Result<(), AllocError> {
-    let mut clauses = Clauses::new(alloc);
     let mut pair = Pair {
-        watched: Trail::new(alloc),
+        engine: Engine::new(alloc),
         swept: Trail::new(alloc),
     };
-    steps(rt, alloc, draw, &mut clauses, &mut pair)
+    steps(rt, alloc, draw, &mut pair)
 }
 
 #[test]

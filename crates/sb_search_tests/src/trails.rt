@@ -76,6 +76,11 @@ fn forth_and_back(rt: &impl Abort, trail: &mut Trail) -> Result<(), AllocError> 
     counts(rt, trail, 0, 1);
     add(rt, trail, literal(5, true), None);
     says(rt, trail, 5, Some(true), Some(1), None);
+    trail.clear();
+    counts(rt, trail, 0, 0);
+    says(rt, trail, 2, None, None, None);
+    add(rt, trail, literal(2, true), None);
+    says(rt, trail, 2, Some(true), Some(1), None);
     Ok(())
 }
 

@@ -1,9 +1,10 @@
 -- Entries of a trail when one is added or taken off at the end.
 use Rattle.std.proofs.Common.{◌≡◌, ℕ, suc, ◌+◌, ◌-◌, ◌<◌, ◌≤◌, Bool, true, false, cond, eqb, leb, List, [], ◌∷◌, ◌++◌, length, Option, Some, None, refl, sym, ◌∙◌, ◌↔◌, ap, arith, ◌⊎◌, inl, inr, zero, take}
 use Rattle.std.specs.Option.{option_or, option_map, option_to_list, IsSome, MatchOption}
+use Rattle.std.specs.Bool.{MatchBool}
 use Rattle.std.specs.List.{slice_get}
-use Rattle.std.proofs.lemmas.Bool.{false≢true, eq-eqb, ne_eqb, eqb-false, le-leb, lt-leb}
-use Rattle.std.proofs.lemmas.Option.{same_Some}
+use Rattle.std.proofs.lemmas.Bool.{false≢true, cases_lt, eq-eqb, ne_eqb, eqb-false, le-leb, lt-leb}
+use Rattle.std.proofs.lemmas.Option.{same_Some, none-some}
 use Rattle.std.proofs.lemmas.List.{append-nil}
 use Rattle.std.proofs.lemmas.List.Folds.{find-append}
 use Rattle.std.proofs.lemmas.List.Elements.{filter-append}
@@ -151,17 +152,45 @@ pub map_none : {A B : Type 0} (f : A → B) (o : Option A) → option_map f o �
 map_none f None h = refl
 map_none f (Some x) h = absurd (cc)
 
--- where the newest entry is above a level there is one,
-some_above : (level : ℕ) (es : List Assigned) → level < current_level es → 0 < length es
-some_above level [] above = absurd (omega arith)
-some_above level (e ∷ es) above = omega arith
+-- what is taken off
+pub popped_last : (n : ℕ) (old new : List Assigned) (popped : Option Assigned) → n ≡ length old
+    → IsSome popped ↔ (0 < n) → old ≡ new ++ option_to_list popped
+    → MatchOption popped ((new ≡ old) × (old ≡ [])) (λ entry. old ≡ new ++ entry ∷ [])
+popped_last n [] new None len some h = (sym (append-nil new) ∙ sym h, refl)
+popped_last n (e ∷ es) new None len some h = absurd (false≢true (some.1 (omega (arith, len))))
+popped_last n old new (Some e) len some h = h
 
--- and it is what is taken off
-pub popped_above : (level n : ℕ) (old new : List Assigned) (popped : Option Assigned) → n ≡ length old
-    → IsSome popped ↔ (0 < n) → old ≡ new ++ option_to_list popped → level < current_level old
-    → MatchOption popped ((new ≡ old) × (current_level old ≤ level)) (λ entry. (old ≡ new ++ entry ∷ [])
-    × (level < entry.level))
-popped_above level n old new None len some h above =
-    absurd (false≢true (some.1 (omega (arith, len, some_above level old above))))
-popped_above level n old new (Some e) len some h above =
-    (h, omega (arith, ap current_level h, level_after-push 0 new e))
+-- and is of the newest level
+pub popped_above : (level : ℕ) (old new : List Assigned) (popped : Bool) → level < current_level old
+    → MatchBool popped ((entry : Assigned) × (old ≡ new ++ entry ∷ [])) ((new ≡ old) × (old ≡ []))
+    → MatchBool popped ((entry : Assigned) × (old ≡ new ++ entry ∷ []) × (level < entry.level))
+    ((new ≡ old) × (up_to level old ≡ old))
+popped_above level old new true above h =
+    (h.0, h.1, omega (arith, ap current_level h.1, level_after-push 0 new h.0))
+popped_above level old new false above h = absurd (omega (arith, ap current_level h.1))
+
+-- what is up to a level, and up to a lower one
+pub up_to-up_to : (low high : ℕ) (es : List Assigned) → low ≤ high → up_to low (up_to high es) ≡ up_to low es
+up_to-up_to low high [] le = refl
+up_to-up_to low high (e ∷ es) le =
+    elim (cases_lt high e.level) [
+      | inr stays ↦ rw (le-leb e.level high stays) (rw (up_to-up_to low high es le) refl)
+      | inl goes ↦ rw (lt-leb e.level high goes, lt-leb e.level low (omega arith)) (up_to-up_to low high es le)
+    ]
+
+-- an entry up to a level is the entry of its atom
+pub entry_of-up_to : (level a : ℕ) (es : List Assigned) (e : Assigned) → AreDistinct es
+    → entry_of (up_to level es) a ≡ Some e → (entry_of es a ≡ Some e) × (e.level ≤ level)
+entry_of-up_to level a [] e distinct h = absurd (cc)
+entry_of-up_to level a (x ∷ xs) e distinct h =
+    elim (cases_lt level x.level) [
+      | inr stays ↦
+          elim (cond_cases (eqb x.literal.atom a) x e (entry_of (up_to level xs) a) (rw (le-leb x.level level stays) at h)) [
+            | inl here ↦ (rw here.0 (ap (λ (y : Assigned). Some y) here.1), omega (arith, ap (λ (y : Assigned). y.level) here.1))
+            | inr later ↦ (rw later.0 (entry_of-up_to level a xs e distinct.1 later.1).0, (entry_of-up_to level a xs e distinct.1 later.1).1)
+          ]
+      | inl goes ↦
+          let rest = entry_of-up_to level a xs e distinct.1 (rw (lt-leb x.level level goes) at h) in
+          let other : x.literal.atom ≡ a → ⊥ = λ same. none-some e (sym distinct.0 ∙ ap (entry_of xs) same ∙ rest.0) in
+          (rw (ne_eqb x.literal.atom a other) rest.0, rest.1)
+    ]

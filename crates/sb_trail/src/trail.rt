@@ -104,6 +104,13 @@ impl Trail {
         while self.pop_above(level) {}
     }
 
+    /// Takes all literals off, those of level 0 too. Takes no memory; linear in their number.
+    pub fn clear(&mut self)
+        ensures { self.new ≡ record self.old { literals = [] } }
+    {
+        while self.pop() {}
+    }
+
     /// The value of the atom, that is whether its positive literal is true; `None` exactly where it has
     /// none, as an atom without a place. Constant time.
     pub fn value(&self, atom: u64) -> Option<bool>
@@ -117,6 +124,7 @@ impl Trail {
     pub fn literal_value(&self, literal: Lit) -> Option<bool>
         ensures value { result ≡ value_under (held self.now.literals) literal }
         ensures atom { is_none result ≡ is_none (value_of self.now.literals literal.atom) }
+        ensures distinct { AreDistinct self.now.literals }
         ensures consistent { IsConsistent (held self.now.literals) }
     {
         match self.value(literal.atom) {
@@ -213,7 +221,19 @@ impl Trail {
             × (level < entry.level)) ((self.new.literals ≡ self.old.literals)
             × (up_to level self.old.literals ≡ self.old.literals)) }
     {
-        let Some(entry) = pop_entry_above(&mut self.entries, level) else {
+        if newest_level(&self.entries) <= level {
+            return false;
+        }
+        self.pop()
+    }
+
+    /// Takes the newest entry off, and says whether there was one.
+    fn pop(&mut self) -> bool
+        ensures reserved { self.new.reserved ≡ self.old.reserved }
+        ensures cases { MatchBool result ((entry : Assigned) × (self.old.literals ≡ self.new.literals ++ entry ∷ []))
+            ((self.new.literals ≡ self.old.literals) × (self.old.literals ≡ [])) }
+    {
+        let Some(entry) = pop_entry(&mut self.entries) else {
             return false;
         };
         let atom = entry.literal.atom as usize;
@@ -241,15 +261,11 @@ fn level_behind(newest: usize, reason: Option<ClauseId>) -> usize
     if reason.is_none() { newest + 1 } else { newest }
 }
 
-/// Takes the newest entry off where it is above the level.
-fn pop_entry_above(entries: &mut Vec<Assigned>, level: usize) -> Option<Assigned>
+/// Takes the newest entry off, if there is one.
+fn pop_entry(entries: &mut Vec<Assigned>) -> Option<Assigned>
     ensures capacity { vec_capacity entries.new ≡ vec_capacity entries.old }
-    ensures cases { MatchOption result ((entries.new.items ≡ entries.old.items)
-        × (current_level entries.old.items ≤ level)) (λ entry. (entries.old.items ≡ entries.new.items ++ entry ∷ [])
-        × (level < entry.level)) }
+    ensures cases { MatchOption result ((entries.new.items ≡ entries.old.items) × (entries.old.items ≡ []))
+        (λ entry. entries.old.items ≡ entries.new.items ++ entry ∷ []) }
 {
-    if newest_level(entries) <= level {
-        return None;
-    }
     entries.pop()
 }

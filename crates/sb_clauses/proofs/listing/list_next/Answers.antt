@@ -1,39 +1,124 @@
-use Rattle.sb_clauses.proofs.NextClause.{next_none, first_placed, second_placed, next_some, next_room}
-use Rattle.sb_clauses.proofs.Passing.{marked_shorter}
+use Rattle.std.proofs.Common.{refl}
+use Rattle.sb_clauses.proofs.NextClause.{next_none, head_none, first_placed, second_placed, next_some, next_room, head_stays, head_forced, forced_place, forced_grows, forced_ready, false_here}
 use Rattle.sb_clauses.proofs.listing.list_next.Goals as goal
 
 pub returns-in_default-clause-ready : goal.returns-in_default-clause-ready
 returns-in_default-clause-ready c =
     next_none c.args.records.now c.args.number c.index-records-number.result _ _ _ _ c.requires.inside
-    c.index-records-number.is c.requires.room _ c.in_default.is c.requires.ready
+    c.index-records-number.is c.requires.room _ _ _ c.in_default.is c.requires.ready
+
+pub returns-in_default-clause-fine : goal.returns-in_default-clause-fine
+returns-in_default-clause-fine c =
+    head_none c.args.records.now c.args.number c.index-records-number.result _ _ _ _ c.requires.inside
+    c.index-records-number.is c.requires.room _ c.in_default.is
 
 pub watch-requires-clause-placed : goal.watch-requires-clause-placed
 watch-requires-clause-placed c =
     first_placed c.args.records.now c.args.number c.index-records-number.result _ _ _ _ c.requires.inside
     c.index-records-number.is c.requires.room c.in-Some.record c.as_slice-clause.result.now c.in-Some.is
     c.as_slice-clause.ensures.value c.watched_places-own.result.0 c.watched_places-own.result.1
-    c.watched_places-own.ensures
+    c.watched_places-own.ensures.places
 
 pub watch-requires-2-clause-placed : goal.watch-requires-2-clause-placed
 watch-requires-2-clause-placed c =
     second_placed c.args.records.now c.args.number c.index-records-number.result _ _ _ _ c.requires.inside
     c.index-records-number.is c.requires.room c.in-Some.record c.as_slice-clause.result.now c.in-Some.is
     c.as_slice-clause.ensures.value c.watched_places-own.result.0 c.watched_places-own.result.1
-    c.watched_places-own.ensures
+    c.watched_places-own.ensures.places
 
-pub returns-clause-ready : goal.returns-clause-ready
-returns-clause-ready c =
+pub assign-requires-clause-reserved : goal.assign-requires-clause-reserved
+assign-requires-clause-reserved c =
+    forced_place c.args.records.now c.args.number c.index-records-number.result _ _ _ _ c.requires.inside
+    c.index-records-number.is c.requires.room c.in-Some.record c.as_slice-clause.result.now c.in-Some.is
+    c.as_slice-clause.ensures.value c.watched_places-own.result.0 c.watched_places-own.result.1
+    c.watched_places-own.ensures.places c.args.trail.now c.in-Forces.literal c.requires.reserved
+    c.in-Forces.ensures
+
+pub returns-in-Stays-clause-ready : goal.returns-in-Stays-clause-ready
+returns-in-Stays-clause-ready c =
     rw (c.watch.ensures.places, c.watch.ensures.lists, c.watch-2.ensures.places, c.watch-2.ensures.lists)
     (next_some c.args.records.now c.args.number c.index-records-number.result _ _ _ _ c.requires.inside
     c.index-records-number.is c.requires.room c.in-Some.record c.as_slice-clause.result.now c.in-Some.is
     c.as_slice-clause.ensures.value c.watched_places-own.result.0 c.watched_places-own.result.1
-    c.watched_places-own.ensures c.forget_behind.new.passed.items c.forget_behind.ensures.late
-    c.requires.ready.watched (marked_shorter _ _ _ _ _ c.forget_behind.ensures.front c.requires.ready.marked))
+    c.watched_places-own.ensures.places _ _ _ _ c.forget_late.ensures.late c.forget_late.ensures.front
+    c.requires.ready)
 
-pub returns-clause-room : goal.returns-clause-room
-returns-clause-room c =
+pub returns-in-False-clause-ready : goal.returns-in-False-clause-ready
+returns-in-False-clause-ready c =
+    rw (c.watch.ensures.places, c.watch.ensures.lists, c.watch-2.ensures.places, c.watch-2.ensures.lists)
+    (next_some c.args.records.now c.args.number c.index-records-number.result _ _ _ _ c.requires.inside
+    c.index-records-number.is c.requires.room c.in-Some.record c.as_slice-clause.result.now c.in-Some.is
+    c.as_slice-clause.ensures.value c.watched_places-own.result.0 c.watched_places-own.result.1
+    c.watched_places-own.ensures.places _ _ _ _ c.forget_late.ensures.late c.forget_late.ensures.front
+    c.requires.ready)
+
+pub returns-in-Stays-clause-room : goal.returns-in-Stays-clause-room
+returns-in-Stays-clause-room c =
     rw (c.watch.ensures.places, c.watch.ensures.lists, c.watch-2.ensures.places, c.watch-2.ensures.lists)
     (next_room c.args.records.now c.args.number c.index-records-number.result _ _ _ _ c.requires.inside
     c.index-records-number.is c.requires.room c.in-Some.record c.as_slice-clause.result.now c.in-Some.is
     c.as_slice-clause.ensures.value c.watched_places-own.result.0 c.watched_places-own.result.1
-    c.watched_places-own.ensures)
+    c.watched_places-own.ensures.places)
+
+pub returns-in-Forces-clause-room : goal.returns-in-Forces-clause-room
+returns-in-Forces-clause-room c =
+    rw (c.watch.ensures.places, c.watch.ensures.lists, c.watch-2.ensures.places, c.watch-2.ensures.lists)
+    (next_room c.args.records.now c.args.number c.index-records-number.result _ _ _ _ c.requires.inside
+    c.index-records-number.is c.requires.room c.in-Some.record c.as_slice-clause.result.now c.in-Some.is
+    c.as_slice-clause.ensures.value c.watched_places-own.result.0 c.watched_places-own.result.1
+    c.watched_places-own.ensures.places)
+
+pub returns-in-False-clause-room : goal.returns-in-False-clause-room
+returns-in-False-clause-room c =
+    rw (c.watch.ensures.places, c.watch.ensures.lists, c.watch-2.ensures.places, c.watch-2.ensures.lists)
+    (next_room c.args.records.now c.args.number c.index-records-number.result _ _ _ _ c.requires.inside
+    c.index-records-number.is c.requires.room c.in-Some.record c.as_slice-clause.result.now c.in-Some.is
+    c.as_slice-clause.ensures.value c.watched_places-own.result.0 c.watched_places-own.result.1
+    c.watched_places-own.ensures.places)
+
+pub returns-in-Stays-clause-fine : goal.returns-in-Stays-clause-fine
+returns-in-Stays-clause-fine c =
+    rw (c.watch.ensures.places, c.watch-2.ensures.places)
+    (head_stays c.args.records.now c.args.number c.index-records-number.result _ _ _ _ c.requires.inside
+    c.index-records-number.is c.requires.room c.in-Some.record c.as_slice-clause.result.now c.in-Some.is
+    c.as_slice-clause.ensures.value c.watched_places-own.result.0 c.watched_places-own.result.1
+    c.watched_places-own.ensures.places _ c.in-Stays.ensures)
+
+pub returns-in-Forces-clause-ready : goal.returns-in-Forces-clause-ready
+returns-in-Forces-clause-ready c =
+    rw (
+      c.watch.ensures.places,
+      c.watch.ensures.lists,
+      c.watch-2.ensures.places,
+      c.watch-2.ensures.lists,
+      c.assign.ensures,
+    )
+    (forced_ready c.args.records.now c.args.number c.index-records-number.result _ _ _ _ c.requires.inside
+    c.index-records-number.is c.requires.room c.in-Some.record c.as_slice-clause.result.now c.in-Some.is
+    c.as_slice-clause.ensures.value c.watched_places-own.result.0 c.watched_places-own.result.1
+    c.watched_places-own.ensures.places c.args.trail.now.literals _ _ _ refl c.forget_late.ensures.late
+    c.forget_late.ensures.front c.requires.ready)
+
+pub returns-in-Forces-clause-grows : goal.returns-in-Forces-clause-grows
+returns-in-Forces-clause-grows c =
+    rw c.assign.ensures
+    (forced_grows c.args.records.now c.args.number c.index-records-number.result _ _ _ _ c.requires.inside
+    c.index-records-number.is c.requires.room c.in-Some.record c.as_slice-clause.result.now c.in-Some.is
+    c.as_slice-clause.ensures.value c.watched_places-own.result.0 c.watched_places-own.result.1
+    c.watched_places-own.ensures.places c.args.trail.now _ c.in-Forces.literal refl
+    c.in-Forces.ensures)
+
+pub returns-in-Forces-clause-fine : goal.returns-in-Forces-clause-fine
+returns-in-Forces-clause-fine c =
+    rw (c.watch.ensures.places, c.watch-2.ensures.places, c.assign.ensures)
+    (head_forced c.args.records.now c.args.number c.index-records-number.result _ _ _ _ c.requires.inside
+    c.index-records-number.is c.requires.room c.in-Some.record c.as_slice-clause.result.now c.in-Some.is
+    c.as_slice-clause.ensures.value c.watched_places-own.result.0 c.watched_places-own.result.1
+    c.watched_places-own.ensures.places c.args.trail.now.literals _ c.in-Forces.ensures)
+
+pub returns-in-False-clause-answer : goal.returns-in-False-clause-answer
+returns-in-False-clause-answer c =
+    false_here c.args.records.now c.args.number c.index-records-number.result _ _ _ _ c.requires.inside
+    c.index-records-number.is c.requires.room c.in-Some.record c.as_slice-clause.result.now c.in-Some.is
+    c.as_slice-clause.ensures.value c.watched_places-own.result.0 c.watched_places-own.result.1
+    c.watched_places-own.ensures.places _ _ refl c.in-False.ensures

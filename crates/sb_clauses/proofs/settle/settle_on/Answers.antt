@@ -1,42 +1,66 @@
-use Rattle.std.proofs.Common.{sym, ◌∙◌}
-use Rattle.sb_clauses.proofs.Settling.{at_none, all_settled}
-use Rattle.sb_clauses.proofs.Passing.{ready_shorter, fine_behind, marked_later, passed_later, marked_noted}
+use Rattle.std.proofs.Common.{length, sym, ◌∙◌, ap}
+use Rattle.sb_clauses.proofs.Growing.{GrowsBy-then}
+use Rattle.sb_clauses.proofs.Settling.{none_given, at_none, all_settled}
+use Rattle.sb_clauses.proofs.Resting.{ready_forgotten, stored_of, begin_fine, head_fine, stored_stopped, stored_settled}
 use Rattle.sb_clauses.proofs.settle.settle_on.Goals as goal
 
-pub list_new-requires-clause-ready : goal.list_new-requires-clause-ready
-list_new-requires-clause-ready c = ready_shorter _ _ _ _ _ _ _ c.rewind.ensures.front c.requires.stored.ready
+pub list_new-conflict-requires-clause-ready : goal.list_new-conflict-requires-clause-ready
+list_new-conflict-requires-clause-ready c =
+    rw c.records-records.ensures
+    (ready_forgotten _ _ _ _ _ _ _ _ _ _ c.forget_from.ensures.front
+    (rw c.current_level.ensures at c.forget_from.ensures.below) c.requires.stored.ready)
+
+pub returns-then-is_some-clause-stored : goal.returns-then-is_some-clause-stored
+returns-then-is_some-clause-stored c =
+    rw (← c.records-records.ensures)
+    (stored_of _ _ _ _ _ _ _ _ _ c.list_new-conflict.ensures.ready
+    (rw (c.deref.ensures.value, c.literals.ensures.value) at c.end_of_marks-queue.ensures)
+    c.list_new-conflict.ensures.room c.list_new-conflict.ensures.listed)
 
 pub settle-conflict-requires-clause-fine : goal.settle-conflict-requires-clause-fine
 settle-conflict-requires-clause-fine c =
-    fine_behind _ c.list_new.new.passed.items _ _ c.args.trail.now.literals c.queue_head-head.result
-    c.list_new.ensures.ready.marked c.list_new.ensures.passed (rw c.deref.ensures.value at c.queue_head-head.ensures)
+    let none = sym c.is_some.ensures ∙ c.if-is_some.false in
+    head_fine _ _ _ _ _
+    (begin_fine _ _ _ _ _ _ _ _ _ _ _ c.list_new-conflict.ensures.head
+    (none_given c.list_new-conflict.result _ none c.list_new-conflict.ensures.all)
+    (rw (← c.records-records.ensures) at c.requires.stored.begins)
+    (none_given c.list_new-conflict.result _ none c.list_new-conflict.ensures.fine))
 
-pub returns-then-is_some-clause-ready : goal.returns-then-is_some-clause-ready
-returns-then-is_some-clause-ready c = record {
-  watched = c.settle-conflict.ensures.watched;
-  marked = marked_later _ _ _ _ _ _ _ _ c.list_new.ensures.passed c.settle-conflict.ensures.settles
-      c.list_new.ensures.ready.marked;
-}
+pub returns-then-is_some-2-clause-stored : goal.returns-then-is_some-2-clause-stored
+returns-then-is_some-2-clause-stored c =
+    let none = sym c.is_some.ensures ∙ c.if-is_some.false in
+    let all = none_given c.list_new-conflict.result _ none c.list_new-conflict.ensures.all in
+    rw (← c.records-records.ensures)
+    (stored_stopped _ _ _ _ _ _ _ _ _ _ _ _ _ _ all c.settle-conflict.ensures.watched
+    c.list_new-conflict.ensures.ready c.settle-conflict.ensures.settles
+    (begin_fine _ _ _ _ _ _ _ _ _ _ _ c.list_new-conflict.ensures.head all
+    (rw (← c.records-records.ensures) at c.requires.stored.begins)
+    (none_given c.list_new-conflict.result _ none c.list_new-conflict.ensures.fine)))
 
-pub note_head-requires : goal.note_head-requires
-note_head-requires c =
-    rw c.literals-2.ensures.value
-    (passed_later _ _ _ _ c.list_new.ensures.passed c.settle-conflict.ensures.settles.grows)
+pub returns-then-is_some-2-clause-grows : goal.returns-then-is_some-2-clause-grows
+returns-then-is_some-2-clause-grows c =
+    rw (← c.records-records.ensures)
+    (GrowsBy-then _ _ _ _ c.list_new-conflict.ensures.grows c.settle-conflict.ensures.settles.grows)
 
-pub returns-clause-ready : goal.returns-clause-ready
-returns-clause-ready c = record {
-  watched = c.settle-conflict.ensures.watched;
-  marked =
-      marked_noted _ _ _ _ _ _ (passed_later _ _ _ _ c.list_new.ensures.passed c.settle-conflict.ensures.settles.grows)
-      (rw c.literals-2.ensures.value at c.note_head.ensures)
-      (at_none c.settle-conflict.result _ _ (sym c.is_some.ensures ∙ c.if-is_some.false)
-      c.settle-conflict.ensures.answer)
-      (marked_later _ _ _ _ _ _ _ _ c.list_new.ensures.passed c.settle-conflict.ensures.settles
-      c.list_new.ensures.ready.marked);
-}
+pub returns-clause-stored : goal.returns-clause-stored
+returns-clause-stored c =
+    let none = sym c.is_some.ensures ∙ c.if-is_some.false in
+    rw (← c.records-records.ensures)
+    (stored_settled _ _ _ _ _ _ _ _ _ _ _ _ _ _ _
+    (none_given c.list_new-conflict.result _ none c.list_new-conflict.ensures.all)
+    (ap length c.literals-2.ensures.value) c.literals-2.ensures.trail.levelled
+    c.settle-conflict.ensures.watched c.list_new-conflict.ensures.ready c.settle-conflict.ensures.settles
+    (at_none c.settle-conflict.result _ _ (sym c.is_some-2.ensures ∙ c.if-is_some-2.false)
+    c.settle-conflict.ensures.answer) (rw c.current_level-2.ensures at c.mark.ensures))
+
+pub returns-clause-grows : goal.returns-clause-grows
+returns-clause-grows c =
+    rw (← c.records-records.ensures)
+    (GrowsBy-then _ _ _ _ c.list_new-conflict.ensures.grows c.settle-conflict.ensures.settles.grows)
 
 pub returns-clause-answer : goal.returns-clause-answer
 returns-clause-answer c =
-    all_settled _ _ _ _ _ _ c.literals-2.ensures.consistent c.settle-conflict.ensures.watched
-    (at_none c.settle-conflict.result _ _ (sym c.is_some.ensures ∙ c.if-is_some.false)
-    c.settle-conflict.ensures.answer)
+    rw (← c.records-records.ensures)
+    (all_settled _ _ _ _ _ _ c.literals-2.ensures.consistent c.settle-conflict.ensures.watched
+    (at_none c.settle-conflict.result _ _ (sym c.is_some-2.ensures ∙ c.if-is_some-2.false)
+    c.settle-conflict.ensures.answer))

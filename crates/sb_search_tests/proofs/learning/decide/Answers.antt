@@ -1,10 +1,13 @@
-use Rattle.std.proofs.Common.{[], refl, sym, subst}
-use Rattle.sb_trail.specs.Assignments.{Assignments}
-use Rattle.sb_analyze.specs.Reasons.{AreReasoned}
+use Rattle.std.proofs.Common.{refl, subst}
+use Rattle.sb_trail.specs.Assignments.{Assignments, IsTrail}
 use Rattle.sb_analyze.proofs.CallerLemmas.{reasoned_decided}
 use Rattle.sb_search_tests.proofs.learning.decide.Goals as goal
 
 pub returns-clause-reasoned : goal.returns-clause-reasoned
 returns-clause-reasoned g c =
-    subst (λ (t : Assignments). AreReasoned c.args.search.now.clauses [] t.literals) (sym c.decide.ensures)
-    (reasoned_decided c.args.search.now.clauses c.args.search.now.trail.literals _ c.requires refl)
+    rw c.decide.ensures
+    (reasoned_decided c.args.search.now.kept c.args.search.now.trail.literals _ c.requires refl)
+
+pub returns-clause-trail : goal.returns-clause-trail
+returns-clause-trail g c =
+    subst (λ (t : Assignments). IsTrail t) c.trail-trail.ensures c.literals-before.ensures.trail

@@ -1,0 +1,6 @@
+use Rattle.sb_clauses.proofs.Dropped.{dropped_stored}
+use Rattle.sb_clauses.proofs.engine.Engine.drop_above.Goals as goal
+
+pub invariant_of-self : goal.invariant_of-self
+invariant_of-self c =
+    rw c.drop_above.ensures (dropped_stored c.args.level _ _ _ _ _ _ _ _ _ c.self.invariant)
