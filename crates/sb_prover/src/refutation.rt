@@ -67,7 +67,13 @@ pub(crate) fn refute<L: Tape>(
         &places,
         tape,
     )?;
-    evidence.refute(&mut decider.arena, &mut decider.graph, &places, tape, budget)
+    evidence.refute(
+        &mut decider.arena,
+        &mut decider.graph,
+        &places,
+        tape,
+        budget,
+    )
 }
 
 /// Puts the clauses of the live assertions at these places, which are memberships of one constant, with the lines that

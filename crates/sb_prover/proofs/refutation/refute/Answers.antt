@@ -25,12 +25,13 @@ unwrap-serial-requires g c = subst (λ o. is_some o ≡ true) (sym c.dead.ensure
 
 pub claim_all-requires-clause-members : goal.claim_all-requires-clause-members
 claim_all-requires-clause-members g c =
-    let s = found verdicts.Unsat c.args.stack.now in
-    (c.unwrap-serial.result.0,
-    subst (All (IsPlaceOf (live (state_of c.args.stack.now)) c.unwrap-serial.result.0))
-    (sym (c.deref.ensures.value ∙ c.in_ok-extend_from_slice.ensures.items
-    ∙ ap (λ xs. xs ++ c.places.result.now) c.new-places.ensures.items))
-    (c.places.ensures.are s c.requires.knows))
+    let s = found verdicts.Unsat c.args.stack.now in (
+      c.unwrap-serial.result.0,
+      subst (All (IsPlaceOf (live (state_of c.args.stack.now)) c.unwrap-serial.result.0))
+          (sym (c.deref.ensures.value ∙ c.in_ok-extend_from_slice.ensures.items
+          ∙ ap (λ xs. xs ++ c.places.result.now) c.new-places.ensures.items))
+          (c.places.ensures.are s c.requires.knows),
+    )
 
 pub claim_all-requires-clause-nothing : goal.claim_all-requires-clause-nothing
 claim_all-requires-clause-nothing g c = ap (λ (e : Backing). e.asserted) c.forget.ensures
