@@ -5,6 +5,8 @@ the intersection has as many derivatives as the product of the lengths, which is
 `dictionaries`: one constant in two unions of so many words that have no word in common.
 `ranges`: one constant in so many `(re.+ (re.range ..))` that overlap.
 `union`: one constant in `re.+` of a union of so many words.
+`ends`: one constant in all fronts `w ALL` and all ends `ALL w` of the word of so many letters a to z in turn.
+`runs`: the same of a word of so many times one letter.
 
 And scripts of so many checks, each behind a new assertion:
 `checked-classes`: one constant in one more range of characters each time.
@@ -90,11 +92,27 @@ def checked_addresses(size):
     return "".join(one_more(f"y{number}", address) for number in range(size))
 
 
+def fronts_and_ends(text):
+    every = '(re.* (re.range " " "~"))'
+    fronts = "".join(in_re(f"(re.++ {to_re(text[:i])} {every})") for i in range(1, len(text)))
+    return fronts + "".join(in_re(f"(re.++ {every} {to_re(text[i:])})") for i in range(1, len(text)))
+
+
+def ends(size):
+    return fronts_and_ends("".join("abcdefghijklmnopqrstuvwxyz"[i % 26] for i in range(size)))
+
+
+def runs(size):
+    return fronts_and_ends("a" * size)
+
+
 FAMILIES = {
     "coprime": coprime,
     "dictionaries": dictionaries,
     "ranges": ranges,
     "union": of_union,
+    "ends": ends,
+    "runs": runs,
     "checked-classes": checked_classes,
     "checked-constants": checked_constants,
     "checked-addresses": checked_addresses,
