@@ -22,7 +22,7 @@ use Rattle.sb_analyze.proofs.Findings.{is_or_false}
 use Rattle.sb_trail.proofs.CallerLemmas.{cond_cases, cond_none}
 use Rattle.sb_analyze.proofs.Entries.{stands_from, entry_of-atom, stands_once, entry_of_true, reasoned_at}
 use Rattle.sb_analyze.proofs.Chains.{not_both}
-use Rattle.sb_analyze.proofs.Lessons.{accepted, not_repeated}
+use Rattle.sb_analyze.proofs.Lessons.{is_lesson, not_repeated}
 
 all_same : (p q : Lit → Bool) → ((l : Lit) → p l ≡ q l) → (ls : List Lit) → list_all p ls ≡ list_all q ls
 all_same p q same [] = refl
@@ -224,7 +224,7 @@ module _ (kept : Kept) (entries : List Assigned) (distinct : AreDistinct entries
   pub new_core : AreAssumed assumptions entries → HasNoKeptCore kept assumptions
       → ((l : Lit) → is_among assumptions l ≡ true → is_among assumptions (negation l) ≡ false) → (id : ClauseId)
       → IsConflict kept (held entries) id.0 ⊎ IsReasonOfFalse entries assumptions id
-      → (lesson : Learned) → IsDecided kept entries id lesson → IsNewCore kept assumptions lesson.clause lesson.hints
+      → (lesson : Learned) → IsDecided kept entries id lesson → IsNewCore kept assumptions lesson
   new_core decisions no_kept apart id final lesson h =
       let p : Lit → Bool = is_among (map negation assumptions) in
       let all : list_all p h.explanation.clause ≡ true = h.decided p
@@ -239,8 +239,8 @@ module _ (kept : Kept) (entries : List Assigned) (distinct : AreDistinct entries
         no_kept = no_kept;
         not_both = apart;
         negated = negated;
-        accepted = accepted kept h.explanation lesson.clause lesson.hints h.explained h.made.permutation h.made.hints
-            (h.made.ascending h.distinct) (not_repeated kept lesson.clause (λ other k there.
+        is_lesson = is_lesson kept h.explanation 0 lesson h.explained h.distinct h.named h.made
+            (not_repeated kept lesson.clause (λ other k there.
             false_from_ne_true (are_among k.literals lesson.clause) (λ subset.
             false≢true (sym (no_kept other k there)
             ∙ all_from_among p k.literals

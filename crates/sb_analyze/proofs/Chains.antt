@@ -18,6 +18,7 @@ use Rattle.sb_analyze.proofs.Literals.{AreDistinctLiterals-push}
 use Rattle.sb_analyze.proofs.Findings.{finding_false, finding_forces, is_or_false}
 use Rattle.sb_trail.proofs.CallerLemmas.{entry_of-push_none, AreDistinct-pop}
 use Rattle.sb_analyze.proofs.Entries.{stands_true, stands_once, entry_of_true, stands_push, stands_last, stands_cases, level_in_stands, count_none, one_if}
+use Rattle.sb_analyze.proofs.Named.{literals_of, all_named, named_clause}
 use Rattle.sb_analyze.proofs.Marks.{IsFalseBefore, AreBefore, Extends, meet_all_marked, meet_all_extends, meet_all_lower, all_met}
 
 -- a literal that is false before and was met is false under literals that suit
@@ -91,6 +92,29 @@ not_both entries distinct e there is_false =
     let same : found.entry ≡ e = stands_once entries e found.entry there found.stands atom in
     let is : negation e.literal ≡ e.literal = sym found.literal ∙ ap (λ (x : Assigned). x.literal) same in
     false≢true (sym (is_same_literal-negation e.literal) ∙ is_same_literal-of (negation e.literal) e.literal is)
+
+-- where nothing is to be resolved the walk may end
+pub explaining_end : (kept : Kept) (front : List Assigned) (s : Explanation) → IsExplaining kept front s
+    → s.pending ≡ 0 → IsExplaining kept [] s
+explaining_end kept front s h none_left = record {
+  marked = record {
+    lower = λ f there. absurd (Prim.cc (there));
+    upright = λ f there. absurd (Prim.cc (there));
+    counted = none_left;
+    distinct = h.marked.distinct;
+  };
+  explained = record {
+    clauses = h.explained.clauses;
+    named = h.explained.named;
+    ends = λ literals suits. h.explained.ends literals (record {
+      lower = suits.lower;
+      higher = λ f there pending. absurd
+          (false≢true (sym (count_none (is_pending s.level s.marks) front f (omega (arith, h.marked.counted, none_left))
+          there) ∙ pending));
+      others = λ l one other _. suits.others l one other refl;
+    });
+  };
+}
 
 module _ (kept : Kept) (entries front : List Assigned) (e : Assigned) (distinct : AreDistinct entries)
     (distinct' : AreDistinct (front ++ e ∷ [])) (within : (f : Assigned) → Stands (front ++ e ∷ []) f
@@ -192,6 +216,7 @@ module _ (kept : Kept) (entries front : List Assigned) (e : Assigned) (distinct 
     here = h.here;
     base = explaining_skip s h.base off;
     lower = h.lower;
+    named = h.named;
     flat = λ f there. h.flat f (stands_push front e f there);
     more = h.more;
   }
@@ -429,6 +454,8 @@ module _ (kept : Kept) (entries front : List Assigned) (e : Assigned) (distinct 
           here = extends.level ∙ h.here;
           base = explaining_resolve s h.base on id clause there forced;
           lower = meet_all_lower entries front clause.literals (record s { hints = id ∷ s.hints }) h.lower;
+          named = named_clause kept entries distinct s id clause.literals (literals_of kept id clause there) h.named
+              (resolved s id clause.literals) refl;
           flat = λ f there' _. omega (arith, levels f there', h.flat e here on, extends.level);
           more = omega (arith, h.more, extends.pending, more);
         }
@@ -446,6 +473,8 @@ module _ (kept : Kept) (entries front : List Assigned) (e : Assigned) (distinct 
       here = h.here;
       explained = explained_left s h.base on alone;
       distinct = left_distinct s h.base on;
+      named = all_named kept s.hints s.clause (negation e.literal) h.named.clause_named
+          (h.named.met e (within e here) (met s h.base on));
       lower = h.lower;
       is_true = stands_true entries e (within e here);
       at = level_in_stands entries e e.literal (within e here) refl

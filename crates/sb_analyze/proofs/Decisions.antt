@@ -1,7 +1,7 @@
 -- The walk down to decisions, where it begins.
 use Rattle.std.proofs.Common.{◌≡◌, ℕ, ◌+◌, ◌-◌, ◌<◌, ◌≤◌, Bool, true, false, eqb, List, [], ◌∷◌, ◌++◌, length, get_or, take, Option, Some, None, refl, sym, ◌∙◌, ap, subst, inl, inr, arith}
 use Rattle.std.specs.List.{list_all, position, position_from}
-use Rattle.std.proofs.lemmas.Bool.{false≢true, eqb-true, eq-eqb}
+use Rattle.std.proofs.lemmas.Bool.{false≢true, or_left, eqb-true, eq-eqb}
 use Rattle.std.proofs.lemmas.Option.{same_Some}
 use Rattle.std.proofs.lemmas.List.{take_all}
 use Rattle.std.proofs.lemmas.List.Folds.{list_all-append}
@@ -15,15 +15,16 @@ use Rattle.sb_trail.specs.declared.assigned.Assigned.{Assigned}
 use Rattle.sb_trail.specs.Assignments.{Assignments, IsTrail, entry_of, held, AreDistinct}
 use Rattle.sb_clauses.specs.Propagation.{IsConflict}
 use Rattle.sb_analyze.specs.Reasons.{AreReasoned}
-use Rattle.sb_analyze.specs.Explaining.{Explanation, begun, is_met, with_literals, with_clause, is_forced_by, with_forced, end_before, no_entry, literals_at}
+use Rattle.sb_analyze.specs.Explaining.{Explanation, begun, is_met, with_literals, with_clause, is_forced_by, with_forced, end_before, no_entry}
+use Rattle.sb_analyze.specs.Learning.{literals_at, is_named}
+use Rattle.sb_analyze.proofs.Named.{Named, literals_of, named_none, named_push, named_all}
 use Rattle.sb_analyze.specs.Explained.{Stands, Suits, IsMarked, IsTraced, IsFalseOrReason}
 use Rattle.sb_lit.proofs.CallerLemmas.{is_same_literal-apart, all_among, all_from_among, among_push_other, among_push_same}
 use Rattle.sb_analyze.proofs.Literals.{AreDistinctLiterals-push}
 use Rattle.sb_trail.proofs.CallerLemmas.{cond_cases, cond_none, AreDistinct-pop}
-use Rattle.sb_analyze.proofs.Entries.{stands_push}
 use Rattle.sb_analyze.proofs.Marks.{AreBefore, meet_all_marked, meet_all_extends, all_met, same_clause_at_zero}
 use Rattle.sb_analyze.proofs.Chains.{covered, covered_literal, explained_start, Forces, forces_from, reason_before, false_before, false_on}
-use Rattle.sb_analyze.proofs.Walks.{entry, front, literals_at_some, distinct_more, stands_more, stands_here, reason_here}
+use Rattle.sb_analyze.proofs.Walks.{entry, front, distinct_more, stands_more, stands_here, reason_here}
 use Rattle.sb_analyze.proofs.Starts.{start, marked_start, before_whole}
 
 abbrev numbered : ℕ → ClauseId
@@ -60,7 +61,20 @@ module _ (kept : Kept) (trail : Assignments) (is_trail : IsTrail trail) (reasone
   entries = trail.literals
 
   abbrev begin : Explanation
-  begin = start trail 0 (id.0 ∷ [])
+  begin = start 0 (id.0 ∷ [])
+
+  -- a literal of the clause that is the first hint
+  in_first : (clause : KeptClause) → kept_at kept id.0 ≡ Some clause → (l : Lit) → is_among clause.literals l ≡ true
+      → is_named kept (id.0 ∷ []) l ≡ true
+  in_first clause there l among =
+      or_left (is_among (literals_at kept id.0) l) false
+      (ap (λ (ls : List Lit). is_among ls l) (literals_of kept id.0 clause there) ∙ among)
+
+  named_begun : (clause : KeptClause) → kept_at kept id.0 ≡ Some clause
+      → Named kept entries (id.0 ∷ []) (with_literals entries begin clause.literals)
+  named_begun clause there =
+      named_all kept entries is_trail.distinct (id.0 ∷ []) clause.literals begin
+      (named_none kept entries (id.0 ∷ [])) (in_first clause there)
 
   -- the walk begins before an entry that the clause forced
   module _ (place : ℕ) (some : 0 < place) (within : place ≤ length entries) where
@@ -100,7 +114,7 @@ module _ (kept : Kept) (trail : Assignments) (is_trail : IsTrail trail) (reasone
 
       marked_t : IsMarked rest t
       marked_t = meet_all_marked entries rest before clause.literals begin
-          (marked_start trail is_trail 0 (id.0 ∷ []) rest before (λ f there'. stands f (stands_push rest e f there')))
+          (marked_start 0 (id.0 ∷ []) rest before)
           false_front
 
       marked_u : IsMarked rest u
@@ -141,30 +155,33 @@ module _ (kept : Kept) (trail : Assignments) (is_trail : IsTrail trail) (reasone
                   (λ literals suits. all_from_among (is_false_under literals) clause.literals
                   (clause_false literals suits));
             };
+            named = subst (λ (ids : List ℕ). Named kept entries ids u) (sym extends.hints)
+                (named_push kept entries (id.0 ∷ []) t.marks t.clause e.literal
+                (named_begun clause there) (in_first clause there e.literal forced.among));
             decided = λ p h _. h;
           }
 
-    traced_forced : e.reason ≡ Some id → (t : Explanation) → t ≡ with_clause kept entries (begun trail.reserved 0) id.0
+    traced_forced : e.reason ≡ Some id → (t : Explanation) → t ≡ with_clause kept entries (begun 0) id.0
         → IsTraced kept entries (record t { clause = t.clause ++ e.literal ∷ [] }) rest
         (record t { clause = t.clause ++ e.literal ∷ [] })
     traced_forced is t t_is =
         let r = reason_here kept trail is_trail reasoned place no_entry some within 0 id is in
         let forced = forces_from kept entries rest e is_trail.distinct distinct stands r.0.literals r.2 in
         let same : t ≡ with_literals entries begin r.0.literals =
-        t_is ∙ ap (with_literals entries begin) (literals_at_some kept id.0 r.0 r.1) in
+        t_is ∙ ap (with_literals entries begin) (literals_of kept id.0 r.0 r.1) in
         subst (λ (x : Explanation). IsTraced kept entries (record x { clause = x.clause ++ e.literal ∷ [] }) rest
         (record x { clause = x.clause ++ e.literal ∷ [] })) (sym same) (traced_u r.0 r.1 forced)
 
   -- and at the end of the trail, where the clause is false
   traced_false : (conflict : IsConflict kept (held entries) id.0) → (t : Explanation)
-      → t ≡ with_clause kept entries (begun trail.reserved 0) id.0 → IsTraced kept entries t entries t
+      → t ≡ with_clause kept entries (begun 0) id.0 → IsTraced kept entries t entries t
   traced_false conflict t t_is =
       let ls = conflict.clause.literals in
       let whole = before_whole entries is_trail.distinct ls in
       let same : t ≡ with_literals entries begin ls =
-      t_is ∙ ap (with_literals entries begin) (literals_at_some kept id.0 conflict.clause conflict.there) in
+      t_is ∙ ap (with_literals entries begin) (literals_of kept id.0 conflict.clause conflict.there) in
       let marked = meet_all_marked entries entries is_trail.distinct ls begin
-      (marked_start trail is_trail 0 (id.0 ∷ []) entries is_trail.distinct (λ f there. there)) whole in
+      (marked_start 0 (id.0 ∷ []) entries is_trail.distinct) whole in
       let extends = meet_all_extends entries entries ls begin whole in
       subst (λ (x : Explanation). IsTraced kept entries x entries x) (sym same) (record {
         here = extends.level;
@@ -176,6 +193,8 @@ module _ (kept : Kept) (trail : Assignments) (is_trail : IsTrail trail) (reasone
               (λ m among. covered_literal entries entries begin ls whole marked literals suits m among
               (all_among (is_false_under (held entries)) ls m conflict.is_false among)));
         };
+        named = subst (λ (ids : List ℕ). Named kept entries ids (with_literals entries begin ls)) (sym extends.hints)
+            (named_begun conflict.clause conflict.there);
         decided = λ p h _. h;
       })
 
@@ -187,13 +206,13 @@ module _ (kept : Kept) (trail : Assignments) (is_trail : IsTrail trail) (reasone
     pub forced : (p : Lit → Bool) → ((f : Assigned) → Stands entries f → f.reason ≡ Some id → p f.literal ≡ true)
         → list_all p (with_forced entries t o).clause ≡ true
 
-  empty : (t : Explanation) → t ≡ with_clause kept entries (begun trail.reserved 0) id.0 → t.clause ≡ []
+  empty : (t : Explanation) → t ≡ with_clause kept entries (begun 0) id.0 → t.clause ≡ []
   empty t t_is = ap (λ (x : Explanation). x.clause) t_is
       ∙ same_clause_at_zero entries (literals_at kept id.0) begin refl
 
   begins_at : (place : ℕ) → 0 < place → place ≤ length entries
       → is_forced_by id (get_or entries (place - 1) no_entry) ≡ true → (t : Explanation)
-      → t ≡ with_clause kept entries (begun trail.reserved 0) id.0 → Begins (Some (place - 1)) t
+      → t ≡ with_clause kept entries (begun 0) id.0 → Begins (Some (place - 1)) t
   begins_at place some within test t t_is =
       let is = forced_true id (e place some within).reason test in
       record {
@@ -207,7 +226,7 @@ module _ (kept : Kept) (trail : Assignments) (is_trail : IsTrail trail) (reasone
       }
 
   begins : IsFalseOrReason kept entries id → (o : Option ℕ) → position (is_forced_by id) entries ≡ o → (t : Explanation)
-      → t ≡ with_clause kept entries (begun trail.reserved 0) id.0 → Begins o t
+      → t ≡ with_clause kept entries (begun 0) id.0 → Begins o t
   begins conflict None none t t_is =
       let no : position_from (is_forced_by id) 0 entries ≡ None = sym (position_from-zero (is_forced_by id) entries)
       ∙ none in
@@ -230,7 +249,7 @@ module _ (kept : Kept) (trail : Assignments) (is_trail : IsTrail trail) (reasone
       (ap (λ (k : ℕ). is_forced_by id (get_or entries k no_entry)) index ∙ at.1) t t_is)
 
   pub begins_from : IsFalseOrReason kept entries id → (t : Explanation)
-      → t ≡ with_clause kept entries (begun trail.reserved 0) id.0 → Begins (position (is_forced_by id) entries) t
+      → t ≡ with_clause kept entries (begun 0) id.0 → Begins (position (is_forced_by id) entries) t
   begins_from conflict t t_is = begins conflict (position (is_forced_by id) entries) refl t t_is
 
   -- the same of what the code has

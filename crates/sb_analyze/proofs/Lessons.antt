@@ -1,6 +1,8 @@
 -- What an analysis comes to.
-use Rattle.std.proofs.Common.{◌≡◌, ℕ, suc, ◌-◌, ◌<◌, ◌≤◌, true, false, cond, ◌&&◌, ◌||◌, ◌⊎◌, eqb, ltb, leb, List, [], ◌∷◌, ◌++◌, map, Option, Some, None, Result, Ok, Err, refl, sym, ◌∙◌, ap, subst, inl, inr, arith}
+use Rattle.std.proofs.Common.{◌≡◌, ℕ, suc, ◌-◌, ◌<◌, ◌≤◌, true, false, cond, ◌&&◌, ◌||◌, ◌⊎◌, eqb, ltb, leb, List, [], ◌∷◌, ◌++◌, map, max, Option, Some, None, Result, Ok, Err, refl, sym, ◌∙◌, ap, subst, inl, inr, arith}
 use Rattle.std.specs.List.{list_all}
+use Rattle.std.specs.Option.{option_map, unwrap_or}
+use Rattle.std.proofs.lemmas.Option.{same_Some}
 use Rattle.std.specs.List.Sorted.{IsPermutation}
 use Rattle.std.proofs.lemmas.Bool.{false≢true, and_parts, and_from, or_left, or_right, or_cases, or_from, cases_Bool, cases_lt, le-leb, leb-true, ltb-true, false_from_ne_true}
 use Rattle.std.proofs.lemmas.List.Sorted.{list_any-IsPermutation}
@@ -11,10 +13,10 @@ use Rattle.sb_lit.specs.Hints.{Unlearned, unknown_hint, repeated_clause, hinted,
 use Rattle.sb_trail.specs.declared.assigned.Assigned.{Assigned}
 use Rattle.sb_trail.specs.Assignments.{entry_of, held, up_to, AreDistinct}
 use Rattle.sb_analyze.specs.Reasons.{level_in, highest}
-use Rattle.sb_analyze.specs.Learning.{IsTeaching, IsAccepted, IsAsserting}
+use Rattle.sb_analyze.specs.Learning.{IsTeaching, is_named, IsLesson, IsAsserting}
 use Rattle.sb_analyze.specs.declared.learned.Learned.{Learned}
 use Rattle.sb_analyze.specs.Explaining.{Explanation}
-use Rattle.sb_analyze.specs.Explained.{Stands, Suits, IsExplained, AreDistinctLiterals, IsFirstUip, IsMadeOf}
+use Rattle.sb_analyze.specs.Explained.{Stands, Suits, IsExplained, AreDistinctLiterals, IsFirstUip, greatest_at, IsMadeOf}
 use Rattle.sb_lit.proofs.CallerLemmas.{is_same_literal-true, is_same_literal-self, is_same_literal-of, negation_twice, all_among, all_from_among, among_push, among_push_same, among_negated}
 use Rattle.sb_analyze.proofs.Findings.{is_or_false}
 use Rattle.sb_trail.proofs.CallerLemmas.{cond_cases}
@@ -49,14 +51,37 @@ accepted_by kept clause ids clauses named new ends ascending =
           (level_by (course (map negation clause) hints) clause hints)
     ]) named ∙ rw (new, ends, ascending) refl
 
-pub accepted : (kept : Kept) (s : Explanation) (clause : List Lit) (ids : List ℕ) → IsExplained kept [] s
-    → IsPermutation s.clause clause → ids ≡ s.hints → are_ascending clause ≡ true → is_repeated kept clause ≡ false
-    → IsAccepted kept clause ids
-accepted kept s clause ids h perm hints ascending new = (
-  greatest_level h.clauses,
-  accepted_by kept clause ids h.clauses (ap (hinted kept) hints ∙ h.named) new
-      (h.ends (map negation clause) (suits_end s clause perm)) ascending,
-)
+-- the greatest level of the clauses that hints name
+greatest_is : (kept : Kept) (ids : List ℕ) (clauses : List KeptClause) → hinted kept ids ≡ Some clauses
+    → greatest_at kept ids ≡ greatest_level clauses
+greatest_is kept [] clauses h = ap greatest_level (same_Some [] clauses h)
+greatest_is kept (id ∷ ids) clauses h = by_first (kept_at kept id) (hinted kept ids) refl (greatest_is kept ids) h
+  where
+    by_first : (o : Option KeptClause) (rest : Option (List KeptClause)) → hinted kept ids ≡ rest
+        → ((cs : List KeptClause) → hinted kept ids ≡ Some cs → greatest_at kept ids ≡ greatest_level cs)
+        → elim o as (λ _. Option (List KeptClause)) [ None ↦ None | Some c ↦ option_map (λ cs. c ∷ cs) rest ]
+        ≡ Some clauses
+        → max (unwrap_or (option_map (λ (c : KeptClause). c.level) o) 0) (greatest_at kept ids)
+        ≡ greatest_level clauses
+    by_first None rest is again none = absurd (Prim.cc (none))
+    by_first (Some c) None is again none = absurd (Prim.cc (none))
+    by_first (Some c) (Some cs) is again some =
+        ap (max c.level) (again cs is) ∙ ap greatest_level (same_Some (c ∷ cs) clauses some)
+
+pub is_lesson : (kept : Kept) (s : Explanation) (n : ℕ) (lesson : Learned) → IsExplained kept [] s
+    → AreDistinctLiterals s.clause → list_all (is_named kept s.hints) s.clause ≡ true → IsMadeOf kept s n lesson
+    → is_repeated kept lesson.clause ≡ false → IsLesson kept lesson.clause lesson.hints lesson.level
+is_lesson kept s n lesson h distinct named made new =
+    let hinted_is : hinted kept lesson.hints ≡ Some h.clauses = ap (hinted kept) made.hints ∙ h.named in
+    record {
+      accepted = accepted_by kept lesson.clause lesson.hints h.clauses hinted_is new
+          (h.ends (map negation lesson.clause) (suits_end s lesson.clause made.permutation)) (made.ascending distinct)
+          ∙ ap (λ (level : ℕ). Ok level) (sym (made.scope ∙ greatest_is kept lesson.hints h.clauses hinted_is));
+      named = all_from_among (is_named kept lesson.hints) lesson.clause (λ l among.
+          ap (λ (ids : List ℕ). is_named kept ids l) made.hints
+          ∙ all_among (is_named kept s.hints) s.clause l named
+          (list_any-IsPermutation (λ m. is_same_literal m l) s.clause lesson.clause made.permutation ∙ among));
+    }
 
 -- no kept clause is a subset
 pub not_repeated : (kept : Kept) (clause : List Lit)
@@ -178,7 +203,7 @@ module _ (kept : Kept) (entries : List Assigned) (distinct : AreDistinct entries
     (teaching : IsTeaching kept entries id conflict)
     (s : Explanation) (left : Lit) (is_left : IsFirstUip kept entries (highest entries conflict.literals) s left)
     (t : Explanation) (t_clause : t.clause ≡ s.clause ++ negation left ∷ []) (t_hints : t.hints ≡ s.hints)
-    (lesson : Learned) (made : IsMadeOf t (highest entries s.clause) lesson) where
+    (lesson : Learned) (made : IsMadeOf kept t (highest entries s.clause) lesson) where
   abbrev level : ℕ
   level = highest entries conflict.literals
 
@@ -290,7 +315,7 @@ module _ (kept : Kept) (entries : List Assigned) (distinct : AreDistinct entries
             ]))
       ])
 
-  pub lesson_from : IsAsserting kept entries level ls lesson.hints lesson.backjump_level
+  pub lesson_from : IsAsserting kept entries level lesson
   lesson_from =
       let back = made.level in
       let below : highest entries s.clause < level =
@@ -298,9 +323,14 @@ module _ (kept : Kept) (entries : List Assigned) (distinct : AreDistinct entries
       (subst (λ (n : ℕ). list_all (λ l. ltb (level_in entries l) n) s.clause ≡ true) is_left.here is_left.lower.1)
       in
       rw back (record {
-        accepted = accepted kept (record s { clause = all; pending = 0 }) ls lesson.hints is_left.explained permuted
-            (made.hints ∙ t_hints) (made.ascending (subst AreDistinctLiterals (sym t_clause) is_left.distinct))
-            (not_repeated kept ls new);
+        is_lesson = is_lesson kept (record s { clause = all; pending = 0 }) (highest entries s.clause) lesson
+            is_left.explained is_left.distinct is_left.named (record {
+              permutation = permuted;
+              ascending = λ distinct'. made.ascending (subst AreDistinctLiterals (sym t_clause) distinct');
+              hints = made.hints ∙ t_hints;
+              scope = made.scope;
+              level = made.level;
+            }) (not_repeated kept ls new);
         is_false = ls_false;
         asserted = negation left;
         asserted_level = left_level;

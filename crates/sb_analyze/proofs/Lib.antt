@@ -3,6 +3,7 @@ pub mod Literals
 pub mod Findings
 pub mod Entries
 pub mod Marks
+pub mod Named
 pub mod Chains
 pub mod Walks
 pub mod Orders

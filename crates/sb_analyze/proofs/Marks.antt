@@ -1,15 +1,14 @@
 -- Meeting literals.
-use Rattle.std.proofs.Common.{◌≡◌, ℕ, ◌+◌, ◌<◌, ◌≤◌, Bool, true, false, not, cond, ◌&&◌, ◌||◌, ◌⊎◌, ltb, leb, List, [], ◌∷◌, ◌++◌, length, set, Some, None, refl, sym, ◌∙◌, ap, inl, inr, arith}
+use Rattle.std.proofs.Common.{◌≡◌, ℕ, ◌+◌, ◌<◌, ◌≤◌, Bool, true, false, not, cond, ◌&&◌, ◌||◌, ◌⊎◌, ltb, leb, List, [], ◌∷◌, ◌++◌, Some, None, refl, sym, ◌∙◌, ap, inl, inr, arith}
 use Rattle.std.specs.List.{list_all}
-use Rattle.std.proofs.lemmas.Bool.{false≢true, and_parts, and_left, and_right, or_left, or_right, or_cases, or_parts, cases_eq, cases_lt, cond_both, not-true, not-false, ltb-true, ltb-false, lt-ltb, le-ltb, le-leb, lt-leb}
-use Rattle.std.proofs.lemmas.List.{get_or-set_same, get_or-set_other, get_or_past}
+use Rattle.std.proofs.lemmas.Bool.{false≢true, and_parts, and_left, and_right, or_left, or_right, or_cases, or_parts, cases_eq, cond_both, not-true, not-false, ltb-true, ltb-false, lt-ltb, le-ltb, le-leb, lt-leb, eq-eqb, ne_eqb}
 use Rattle.std.proofs.lemmas.List.Folds.{list_all-append}
 use Rattle.sb_lit.specs.declared.clause.Lit.{Lit}
 use Rattle.sb_lit.specs.Clauses.{negation, is_same_literal, is_among, is_false_under}
 use Rattle.sb_trail.specs.declared.assigned.Assigned.{Assigned}
 use Rattle.sb_trail.specs.Assignments.{entry_of, held, AreDistinct}
 use Rattle.sb_analyze.specs.Reasons.{level_in}
-use Rattle.sb_analyze.specs.Explaining.{Explanation, is_met, is_pending, with_literal, with_literals}
+use Rattle.sb_analyze.specs.Explaining.{Explanation, is_met, also_met, is_pending, with_literal, with_literals}
 use Rattle.sb_analyze.specs.Explained.{Stands, IsMarked, AreLower}
 use Rattle.sb_lit.proofs.CallerLemmas.{is_same_literal-true, is_same_literal-of, is_same_literal-apart, is_same_literal-negation, among_push_other, among_push_same}
 use Rattle.sb_analyze.proofs.Literals.{AreDistinctLiterals-push}
@@ -29,11 +28,11 @@ AreBefore entries front ls = (l : Lit) → is_among ls l ≡ true → is_false_u
 
 -- the literal into the clause
 abbrev pub put_lower : Explanation → Lit → Explanation
-put_lower s l = record s { marks = set s.marks l.atom true; clause = s.clause ++ l ∷ [] }
+put_lower s l = record s { marks = also_met s.marks l.atom; clause = s.clause ++ l ∷ [] }
 
 -- the literal to those that are to be resolved
 abbrev pub put_open : Explanation → Lit → Explanation
-put_open s l = record s { marks = set s.marks l.atom true; pending = s.pending + 1 }
+put_open s l = record s { marks = also_met s.marks l.atom; pending = s.pending + 1 }
 
 -- what holds in each case holds of a literal that is met
 pub by_cases : (P : Explanation → Type 0) (entries : List Assigned) (s : Explanation) (l : Lit)
@@ -57,25 +56,16 @@ by_cases P entries s l stay lower higher =
     (λ below. lower parts.0 as_false (ltb-true (level_in entries l) s.level below))
     (λ above. higher parts.0 as_false (ltb-false (level_in entries l) s.level above)))
 
--- an atom that counts as not met has a place
-place_of_unmet : (marks : List Bool) (a : ℕ) → is_met marks a ≡ false → a < length marks
-place_of_unmet marks a h =
-    elim (cases_lt a (length marks)) [
-      | inl place ↦ place
-      | inr past ↦ absurd (false≢true (sym h ∙ get_or_past marks a true past))
-    ]
+met_same : (marks : ℕ → Bool) (a : ℕ) → is_met (also_met marks a) a ≡ true
+met_same marks a = rw (eq-eqb a a refl) refl
 
-met_same : (marks : List Bool) (a : ℕ) → is_met marks a ≡ false → is_met (set marks a true) a ≡ true
-met_same marks a h = get_or-set_same marks a true true (place_of_unmet marks a h)
+pub met_other : (marks : ℕ → Bool) (a b : ℕ) → (b ≡ a → ⊥) → is_met (also_met marks a) b ≡ is_met marks b
+met_other marks a b other = rw (ne_eqb a b (λ same. other (sym same))) refl
 
-met_other : (marks : List Bool) (a b : ℕ) → (b ≡ a → ⊥) → is_met (set marks a true) b ≡ is_met marks b
-met_other marks a b other = get_or-set_other marks a b true true other
-
-met_more : (marks : List Bool) (a b : ℕ) → is_met marks a ≡ false → is_met marks b ≡ true
-    → is_met (set marks a true) b ≡ true
-met_more marks a b unmet met =
+met_more : (marks : ℕ → Bool) (a b : ℕ) → is_met marks b ≡ true → is_met (also_met marks a) b ≡ true
+met_more marks a b met =
     elim (cases_eq b a) [
-      | inl same ↦ absurd (false≢true (sym unmet ∙ ap (is_met marks) (sym same) ∙ met))
+      | inl same ↦ ap (is_met (also_met marks a)) same ∙ met_same marks a
       | inr other ↦ met_other marks a b other ∙ met
     ]
 
@@ -104,8 +94,8 @@ module _ (entries front : List Assigned) (distinct : AreDistinct front) where
               let is_e : e ≡ f.entry = is_its_entry l f e there same in
               let is_l : l ≡ negation e.literal = f.literal ∙ ap (λ (x : Assigned). negation x.literal) (sym is_e) in
               let level : e.level ≡ f.entry.level = ap (λ (x : Assigned). x.level) is_e in
-              let met : is_met (set s.marks l.atom true) e.literal.atom ≡ true =
-              ap (is_met (set s.marks l.atom true)) same ∙ met_same s.marks l.atom unmet in
+              let met : is_met (also_met s.marks l.atom) e.literal.atom ≡ true =
+              ap (is_met (also_met s.marks l.atom)) same ∙ met_same s.marks l.atom in
               ap (is_among (s.clause ++ l ∷ [])) (sym is_l) ∙ among_push_same s.clause l
               ∙ sym (rw (met, lt-ltb e.level s.level (omega (arith, level, low))) refl)
           | inr other ↦
@@ -123,14 +113,14 @@ module _ (entries front : List Assigned) (distinct : AreDistinct front) where
             ] in
             among_push_other s.clause l e.literal apart ∙ h.upright e there;
         counted =
-            let count = count_agree (is_pending s.level s.marks) (is_pending s.level (set s.marks l.atom true)) front
+            let count = count_agree (is_pending s.level s.marks) (is_pending s.level (also_met s.marks l.atom)) front
             distinct (λ e there. elim (cases_eq e.literal.atom l.atom) [
               | inl same ↦
                   let level : e.level ≡ f.entry.level = ap (λ (x : Assigned). x.level) (is_its_entry l f e there same)
                   in
                   let is_low : leb s.level e.level ≡ false = lt-leb s.level e.level (omega (arith, level, low)) in
                   and_left (leb s.level e.level) (is_met s.marks e.literal.atom) is_low
-                  ∙ sym (and_left (leb s.level e.level) (is_met (set s.marks l.atom true) e.literal.atom) is_low)
+                  ∙ sym (and_left (leb s.level e.level) (is_met (also_met s.marks l.atom) e.literal.atom) is_low)
               | inr other ↦ ap (λ b. leb s.level e.level && b) (sym (met_other s.marks l.atom e.literal.atom other))
             ]) in
             omega (arith, h.counted, count);
@@ -148,16 +138,16 @@ module _ (entries front : List Assigned) (distinct : AreDistinct front) where
               let level : e.level ≡ f.entry.level = ap (λ (x : Assigned). x.level) (is_its_entry l f e there same) in
               let is_high : ltb e.level s.level ≡ false = le-ltb e.level s.level (omega (arith, level, high)) in
               h.lower e there ∙ and_right (is_met s.marks e.literal.atom) (ltb e.level s.level) is_high
-              ∙ sym (and_right (is_met (set s.marks l.atom true) e.literal.atom) (ltb e.level s.level) is_high)
+              ∙ sym (and_right (is_met (also_met s.marks l.atom) e.literal.atom) (ltb e.level s.level) is_high)
           | inr other ↦ h.lower e there
               ∙ ap (λ b. b && ltb e.level s.level) (sym (met_other s.marks l.atom e.literal.atom other))
         ];
         upright = h.upright;
         counted =
-            let met : is_met (set s.marks l.atom true) f.entry.literal.atom ≡ true =
-            ap (is_met (set s.marks l.atom true)) atom ∙ met_same s.marks l.atom unmet in
+            let met : is_met (also_met s.marks l.atom) f.entry.literal.atom ≡ true =
+            ap (is_met (also_met s.marks l.atom)) atom ∙ met_same s.marks l.atom in
             let unmet' : is_met s.marks f.entry.literal.atom ≡ false = ap (is_met s.marks) atom ∙ unmet in
-            let count = count_more (is_pending s.level s.marks) (is_pending s.level (set s.marks l.atom true)) front
+            let count = count_more (is_pending s.level s.marks) (is_pending s.level (also_met s.marks l.atom)) front
             f.entry distinct f.stands
             (and_right (leb s.level f.entry.level) (is_met s.marks f.entry.literal.atom) unmet')
             (rw (le-leb s.level f.entry.level high, met) refl)
@@ -223,7 +213,7 @@ module _ (entries front : List Assigned) where
       (λ unmet is_false below. record {
         level = refl;
         hints = refl;
-        met = λ a h. met_more s.marks l.atom a unmet h;
+        met = λ a h. met_more s.marks l.atom a h;
         clause = λ p h. (and_parts (list_all p s.clause) (list_all p (l ∷ []))
             (sym (list_all-append p s.clause (l ∷ [])) ∙ h)).0;
         outside = λ m none. among_push_other s.clause l m (is_same_literal-apart l m (λ same.
@@ -236,7 +226,7 @@ module _ (entries front : List Assigned) where
       (λ unmet is_false above. record {
         level = refl;
         hints = refl;
-        met = λ a h. met_more s.marks l.atom a unmet h;
+        met = λ a h. met_more s.marks l.atom a h;
         clause = λ p h. h;
         outside = λ m none. refl;
         pending = omega arith;
@@ -257,8 +247,8 @@ module _ (entries front : List Assigned) where
   met_after s l is_false =
       by_cases (λ t. is_met t.marks l.atom ≡ true) entries s l
       (λ h. elim h [ inl met ↦ met | inr not_false ↦ absurd (false≢true (sym not_false ∙ is_false)) ])
-      (λ h k b. met_same s.marks l.atom h)
-      (λ h k b. met_same s.marks l.atom h)
+      (λ h k b. met_same s.marks l.atom)
+      (λ h k b. met_same s.marks l.atom)
 
   pub all_met : (ls : List Lit) (s : Explanation) → AreBefore entries front ls → (l : Lit) → is_among ls l ≡ true
       → is_false_under (held entries) l ≡ true → is_met (with_literals entries s ls).marks l.atom ≡ true

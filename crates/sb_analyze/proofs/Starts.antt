@@ -1,25 +1,24 @@
 -- An analysis where it begins.
-use Rattle.std.proofs.Common.{◌≡◌, ℕ, ◌<◌, ◌≤◌, true, false, ltb, leb, List, [], ◌∷◌, set, Some, None, refl, sym, ◌∙◌, ap, subst, inl, inr, arith}
+use Rattle.std.proofs.Common.{◌≡◌, ℕ, ◌<◌, ◌≤◌, true, false, leb, List, [], ◌∷◌, Some, refl, sym, ◌∙◌, ap, subst, inl, inr, arith}
 use Rattle.std.specs.List.{count_by}
 use Rattle.std.specs.Option.{option_map}
 use Rattle.std.proofs.lemmas.Option.{same_Some}
-use Rattle.std.proofs.lemmas.Bool.{false≢true, and_parts, and_left, and_right, or_left, or_right, or_cases, cases_eq, cases_lt, le-leb}
+use Rattle.std.proofs.lemmas.Bool.{false≢true, and_parts, and_right, or_left, or_right, or_cases, cases_eq, cases_lt, le-leb}
 use Rattle.std.proofs.lemmas.List.Sums.{sum_by-cons}
-use Rattle.std.proofs.lemmas.List.{get_or-replicate, get_or-set_other}
 use Rattle.sb_lit.specs.declared.clause.Lit.{Lit}
 use Rattle.sb_lit.specs.Clauses.{negation, is_same_literal, is_among, is_false_under}
 use Rattle.sb_lit.specs.Kept.{Kept, KeptClause, kept_at}
 use Rattle.sb_trail.specs.declared.assigned.Assigned.{Assigned}
-use Rattle.sb_trail.specs.Assignments.{Assignments, IsTrail, entry_of, held, AreDistinct}
+use Rattle.sb_trail.specs.Assignments.{Assignments, IsTrail, held, AreDistinct}
 use Rattle.sb_analyze.specs.Reasons.{level_in, highest}
 use Rattle.sb_analyze.specs.Learning.{IsTeaching}
-use Rattle.sb_analyze.specs.Explaining.{Explanation, begun, is_met, is_pending, with_literal, with_literals, with_clause}
+use Rattle.sb_analyze.specs.Explaining.{Explanation, begun, is_met, also_met, is_pending, with_literal, with_literals, with_clause}
 use Rattle.sb_analyze.specs.Explained.{Stands, IsMarked, IsWalked}
 use Rattle.sb_lit.proofs.CallerLemmas.{is_same_literal-true, is_same_literal-of, negation_moved, all_among, all_from_among}
 use Rattle.sb_analyze.proofs.Entries.{entry_of_true, level_in_stands, count_agree, count_none}
-use Rattle.sb_analyze.proofs.Marks.{AreBefore, by_cases, meet_all_marked, meet_all_extends, meet_all_lower, all_met}
+use Rattle.sb_analyze.proofs.Marks.{AreBefore, by_cases, met_other, meet_all_marked, meet_all_extends, meet_all_lower, all_met}
 use Rattle.sb_analyze.proofs.Chains.{explained_start, covered_literal}
-use Rattle.sb_analyze.proofs.Walks.{literals_at_some}
+use Rattle.sb_analyze.proofs.Named.{literals_of, named_none, named_clause}
 
 -- no literal is of a higher level than the highest
 pub highest_above : (entries : List Assigned) (ls : List Lit) (l : Lit) → is_among ls l ≡ true
@@ -43,11 +42,11 @@ met_from P entries (l ∷ ls) s here before a met =
     head : P l.atom
     head = here l (or_left (is_same_literal l l) (is_among ls l) (is_same_literal-of l l refl))
 
-    written : (b : ℕ) → is_met (set s.marks l.atom true) b ≡ true → P b
+    written : (b : ℕ) → is_met (also_met s.marks l.atom) b ≡ true → P b
     written b met' =
         elim (cases_eq b l.atom) [
           | inl same ↦ subst P (sym same) head
-          | inr other ↦ before b (sym (get_or-set_other s.marks l.atom b true true other) ∙ met')
+          | inr other ↦ before b (sym (met_other s.marks l.atom b other) ∙ met')
         ]
 
     after : (b : ℕ) → is_met (with_literal entries s l).marks b ≡ true → P b
@@ -70,31 +69,17 @@ count_zero [] = refl
 count_zero (e ∷ es) = omega (arith, sum_by-cons (λ (x : Assigned). 0) e es, count_zero es)
 
 -- nothing is met yet, and there are hints
-abbrev pub start : Assignments → ℕ → List ℕ → Explanation
-start trail level ids = record (begun trail.reserved level) { hints = ids }
+abbrev pub start : ℕ → List ℕ → Explanation
+start level ids = record (begun level) { hints = ids }
 
-module _ (trail : Assignments) (is_trail : IsTrail trail) (level : ℕ) (ids : List ℕ) where
-  -- an atom of the trail was not met
-  unmet : (e : Assigned) → Stands trail.literals e → is_met (start trail level ids).marks e.literal.atom ≡ false
-  unmet e there =
-      elim (cases_lt e.literal.atom trail.reserved) [
-        | inl place ↦ get_or-replicate trail.reserved e.literal.atom false true place
-        | inr past ↦
-            let none : entry_of trail.literals e.literal.atom ≡ None = is_trail.reserved e.literal.atom past in
-            absurd (Prim.cc (none, there))
-      ]
-
-  pub marked_start : (front : List Assigned) → AreDistinct front
-      → ((e : Assigned) → Stands front e → Stands trail.literals e) → IsMarked front (start trail level ids)
-  marked_start front distinct within = record {
-    lower = λ e there. sym
-        (and_left (is_met (start trail level ids).marks e.literal.atom) (ltb e.level level) (unmet e (within e there)));
+module _ (level : ℕ) (ids : List ℕ) where
+  pub marked_start : (front : List Assigned) → AreDistinct front → IsMarked front (start level ids)
+  marked_start front distinct = record {
+    lower = λ e there. refl;
     upright = λ e there. refl;
     counted =
-        let count = count_agree (λ e. false) (is_pending level (start trail level ids).marks) front distinct
-        (λ e there.
-        sym (and_right (leb level e.level) (is_met (start trail level ids).marks e.literal.atom)
-        (unmet e (within e there)))) in
+        let count = count_agree (λ e. false) (is_pending level (start level ids).marks) front distinct
+        (λ e there. sym (and_right (leb level e.level) false refl)) in
         omega (arith, count, count_zero front);
     distinct = λ l. omega arith;
   }
@@ -105,7 +90,7 @@ module _ (kept : Kept) (trail : Assignments) (is_trail : IsTrail trail) (id : �
   level = highest trail.literals clause.literals
 
   abbrev s : Explanation
-  s = start trail level (id ∷ [])
+  s = start level (id ∷ [])
 
   abbrev t : Explanation
   t = with_literals trail.literals s clause.literals
@@ -118,7 +103,7 @@ module _ (kept : Kept) (trail : Assignments) (is_trail : IsTrail trail) (id : �
 
   marked : IsMarked trail.literals t
   marked = meet_all_marked trail.literals trail.literals is_trail.distinct clause.literals s
-      (marked_start trail is_trail level (id ∷ []) trail.literals is_trail.distinct (λ e there. there)) before
+      (marked_start level (id ∷ []) trail.literals is_trail.distinct) before
 
   level_t : t.level ≡ level
   level_t = (meet_all_extends trail.literals trail.literals clause.literals s before).level
@@ -134,9 +119,7 @@ module _ (kept : Kept) (trail : Assignments) (is_trail : IsTrail trail) (id : �
         highest_above trail.literals clause.literals l among,
         level_in_stands trail.literals e l there (sym same),
       ))
-      (λ a met e there same.
-      let none = unmet trail is_trail level (id ∷ []) e there in
-      absurd (false≢true (sym none ∙ ap (is_met s.marks) same ∙ met)))
+      (λ a met e there same. absurd (false≢true met))
 
   more : 0 < t.pending
   more =
@@ -155,10 +138,10 @@ module _ (kept : Kept) (trail : Assignments) (is_trail : IsTrail trail) (id : �
             f.stands) ∙ rw (high, met) refl))
       ]
 
-  pub walked_start : (u : Explanation) → u ≡ with_clause kept trail.literals (begun trail.reserved level) id
+  pub walked_start : (u : Explanation) → u ≡ with_clause kept trail.literals (begun level) id
       → IsWalked kept trail.literals level trail.literals u
   walked_start u is =
-      let same : u ≡ t = is ∙ ap (with_literals trail.literals s) (literals_at_some kept id clause teaching.there) in
+      let same : u ≡ t = is ∙ ap (with_literals trail.literals s) (literals_of kept id clause teaching.there) in
       subst (λ (x : Explanation). IsWalked kept trail.literals level trail.literals x) (sym same) (record {
         here = level_t;
         base = record {
@@ -170,6 +153,8 @@ module _ (kept : Kept) (trail : Assignments) (is_trail : IsTrail trail) (id : �
               suits m among (is_false m among)));
         };
         lower = meet_all_lower trail.literals trail.literals clause.literals s (refl, refl);
+        named = named_clause kept trail.literals is_trail.distinct (begun level) id clause.literals
+            (literals_of kept id clause teaching.there) (named_none kept trail.literals []) t refl;
         flat = λ e there pending.
             omega (
               arith,
@@ -189,12 +174,12 @@ same_clause kept id k l hk hl = same_Some k l (sym hk ∙ hl)
 pub walked_begin : (kept : Kept) (trail : Assignments) → IsTrail trail → (id : ℕ) (clause : KeptClause)
     → IsTeaching kept trail.literals id clause → (ls : List Lit) (n : ℕ) (a u : Explanation)
     → Some ls ≡ option_map (λ (k : KeptClause). k.literals) (kept_at kept id) → n ≡ highest trail.literals ls
-    → a ≡ begun trail.reserved n → u ≡ with_clause kept trail.literals a id
+    → a ≡ begun n → u ≡ with_clause kept trail.literals a id
     → IsWalked kept trail.literals (highest trail.literals clause.literals) trail.literals u
 walked_begin kept trail is_trail id clause teaching ls n a u found level_is a_is u_is =
     let same : ls ≡ clause.literals =
     same_Some ls clause.literals (found ∙ ap (option_map (λ (k : KeptClause). k.literals)) teaching.there) in
-    let begun_is : a ≡ begun trail.reserved (highest trail.literals clause.literals) =
-    a_is ∙ ap (begun trail.reserved) (level_is ∙ ap (highest trail.literals) same) in
+    let begun_is : a ≡ begun (highest trail.literals clause.literals) =
+    a_is ∙ ap begun (level_is ∙ ap (highest trail.literals) same) in
     walked_start kept trail is_trail id clause teaching u
     (u_is ∙ ap (λ (x : Explanation). with_clause kept trail.literals x id) begun_is)

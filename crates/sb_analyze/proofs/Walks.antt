@@ -1,27 +1,29 @@
 -- The steps of a walk along the trail, from its end.
-use Rattle.std.proofs.Common.{◌≡◌, ℕ, ◌+◌, ◌-◌, ◌<◌, ◌≤◌, true, false, List, [], ◌∷◌, ◌++◌, length, get_or, take, Option, Some, None, refl, sym, ◌∙◌, ap, subst, inl, inr, arith}
+use Rattle.std.proofs.Common.{◌≡◌, ℕ, ◌+◌, ◌-◌, ◌<◌, ◌≤◌, leb, true, false, List, [], ◌∷◌, ◌++◌, length, get_or, take, Option, Some, None, refl, sym, ◌∙◌, ap, subst, inl, inr, arith}
 use Rattle.std.proofs.lemmas.List.{take_more}
 use Rattle.std.specs.List.{list_all}
+use Rattle.std.proofs.lemmas.Bool.{and_parts}
 use Rattle.std.proofs.lemmas.Option.{same_Some}
 use Rattle.std.proofs.lemmas.List.Folds.{list_all-append}
-use Rattle.sb_lit.specs.declared.clause.Lit.{Lit}
 use Rattle.sb_lit.specs.declared.clause.ClauseId.{ClauseId}
 use Rattle.sb_lit.specs.Clauses.{negation, leaves_only}
 use Rattle.sb_lit.specs.Kept.{Kept, KeptClause, kept_at}
 use Rattle.sb_trail.specs.declared.assigned.Assigned.{Assigned}
 use Rattle.sb_trail.specs.Assignments.{Assignments, IsTrail, held, level_after, level_behind, AreDistinct}
 use Rattle.sb_analyze.specs.Reasons.{AreReasoned}
-use Rattle.sb_analyze.specs.Explaining.{Explanation, is_pending, literals_at, with_literals, with_clause, traced}
+use Rattle.sb_analyze.specs.Explaining.{Explanation, is_met, is_pending, with_literals, with_clause, traced}
 use Rattle.sb_analyze.specs.Explained.{Stands, IsExplaining, IsWalked, IsFirstUip, IsTraced}
 use Rattle.sb_trail.proofs.CallerLemmas.{AreLevelled-front, level_behind-above, AreDistinct-pop}
 use Rattle.sb_analyze.proofs.Entries.{distinct_front, stands_front, reasoned_at, level_at, level_below, stands_last}
+use Rattle.sb_analyze.proofs.Named.{literals_of, named_push, named_clause}
 use Rattle.sb_analyze.proofs.Marks.{same_clause_at_zero}
-use Rattle.sb_analyze.proofs.Chains.{forces_from, walked_skip, walked_resolve, walked_left, alone_by_count, alone_by_level, explaining_skip, explaining_resolve, explaining_stay, extends_t, some_pending}
+use Rattle.sb_analyze.proofs.Chains.{forces_from, walked_skip, walked_resolve, walked_left, alone_by_count, alone_by_level, explaining_end, explaining_skip, explaining_resolve, explaining_stay, extends_t, some_pending}
 
-pub literals_at_some : (kept : Kept) (id : ℕ) (clause : KeptClause) → kept_at kept id ≡ Some clause
-    → literals_at kept id ≡ clause.literals
-literals_at_some kept id clause there =
-    ap (λ (o : Option KeptClause). elim o as (λ _. List Lit) [ None ↦ [] | Some c ↦ c.literals ]) there
+-- where nothing is to be resolved the walk down to decisions is at its end
+pub trace_end : (kept : Kept) (entries front : List Assigned) (start s : Explanation)
+    → IsTraced kept entries start front s → s.pending ≡ 0 → IsTraced kept entries start [] s
+trace_end kept entries front start s h none_left =
+    record { here = h.here; base = explaining_end kept front s h.base none_left; named = h.named; decided = h.decided }
 
 module _ (kept : Kept) (trail : Assignments) (is_trail : IsTrail trail) (reasoned : AreReasoned kept [] trail.literals)
     (place : ℕ) (d : Assigned) (some : 0 < place) (within : place ≤ length trail.literals) (lev : ℕ) where
@@ -92,7 +94,7 @@ module _ (kept : Kept) (trail : Assignments) (is_trail : IsTrail trail) (reasone
       let r = reason_here reason is in
       let same : t ≡ with_literals trail.literals (record s { hints = reason.0 ∷ s.hints }) r.0.literals =
       equal ∙ ap (with_literals trail.literals (record s { hints = reason.0 ∷ s.hints }))
-      (literals_at_some kept reason.0 r.0 r.1) in
+      (literals_of kept reason.0 r.0 r.1) in
       subst (λ (u : Explanation). IsWalked kept trail.literals lev front (record u { pending = u.pending - 1 }))
       (sym same)
       (walked_resolve kept trail.literals front entry is_trail.distinct distinct_more stands_more lev s (walked s h) on
@@ -129,6 +131,7 @@ module _ (kept : Kept) (trail : Assignments) (is_trail : IsTrail trail) (reasone
       here = h.here;
       base = explaining_skip kept trail.literals front entry is_trail.distinct distinct_more stands_more s
           (explaining s h.base) off;
+      named = h.named;
       decided = h.decided;
     }
 
@@ -148,7 +151,7 @@ module _ (kept : Kept) (trail : Assignments) (is_trail : IsTrail trail) (reasone
           let same : with_clause kept trail.literals s reason.0
           ≡ with_literals trail.literals (record s { hints = reason.0 ∷ s.hints }) r.0.literals =
           ap (with_literals trail.literals (record s { hints = reason.0 ∷ s.hints }))
-          (literals_at_some kept reason.0 r.0 r.1) in
+          (literals_of kept reason.0 r.0 r.1) in
           let extends = extends_t kept trail.literals front entry is_trail.distinct distinct_more stands_more s
           (explaining s h.base) on reason.0 r.0 r.1 forced in
           let stays : (with_literals trail.literals (record s { hints = reason.0 ∷ s.hints }) r.0.literals).clause
@@ -165,6 +168,9 @@ module _ (kept : Kept) (trail : Assignments) (is_trail : IsTrail trail) (reasone
               here = extends.level ∙ h.here;
               base = explaining_resolve kept trail.literals front entry is_trail.distinct distinct_more stands_more s
                   (explaining s h.base) on reason.0 r.0 r.1 forced;
+              named = named_clause kept trail.literals is_trail.distinct s reason.0 r.0.literals
+                  (literals_of kept reason.0 r.0 r.1) h.named
+                  (with_literals trail.literals (record s { hints = reason.0 ∷ s.hints }) r.0.literals) refl;
               decided = λ p start_passes decisions_pass. ap (list_all p) stays
                   ∙ h.decided p start_passes decisions_pass;
             };
@@ -178,6 +184,9 @@ module _ (kept : Kept) (trail : Assignments) (is_trail : IsTrail trail) (reasone
           here = h.here;
           base = explaining_stay kept trail.literals front entry is_trail.distinct distinct_more stands_more s
               (explaining s h.base) on;
+          named = named_push kept trail.literals s.hints s.marks s.clause (negation entry.literal) h.named
+              (h.named.met entry stands_here
+              (and_parts (leb s.level entry.level) (is_met s.marks entry.literal.atom) on).1);
           decided = λ p start_passes decisions_pass. list_all-append p s.clause (negation entry.literal ∷ [])
               ∙ rw (h.decided p start_passes decisions_pass, decisions_pass entry stands_here is) refl;
         };

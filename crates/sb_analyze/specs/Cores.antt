@@ -7,7 +7,8 @@ use Rattle.sb_lit.specs.Kept.{Kept, KeptClause, kept_at}
 use Rattle.sb_trail.specs.declared.assigned.Assigned.{Assigned}
 use Rattle.sb_trail.specs.Assignments.{held, reason_of}
 use Rattle.sb_clauses.specs.Propagation.{IsConflict}
-use Rattle.sb_analyze.specs.Learning.{IsAccepted}
+use Rattle.sb_analyze.specs.Learning.{IsLesson}
+use Rattle.sb_analyze.specs.declared.learned.Learned.{Learned}
 use Rattle.sb_analyze.specs.declared.cores.Core.{Core}
 use Rattle.sb_analyze.specs.declared.cores.Core.TheVariants as core
 
@@ -57,13 +58,13 @@ pub record IsBothCore (kept : Kept) (assumptions : List Lit) (l : Lit) : Type 0 
   pub one : is_among assumptions l ≡ true
   pub other : is_among assumptions (negation l) ≡ true
 
-pub record IsNewCore (kept : Kept) (assumptions : List Lit) (clause : List Lit) (hints : List ℕ) : Type 0 where
+pub record IsNewCore (kept : Kept) (assumptions : List Lit) (lesson : Learned) : Type 0 where
   pub no_kept : HasNoKeptCore kept assumptions
   pub not_both : (l : Lit) → is_among assumptions l ≡ true → is_among assumptions (negation l) ≡ false
-  pub negated : are_negated assumptions clause ≡ true
-  pub accepted : IsAccepted kept clause hints
+  pub negated : are_negated assumptions lesson.clause ≡ true
+  pub is_lesson : IsLesson kept lesson.clause lesson.hints lesson.level
 
 abbrev pub IsCore : Kept → List Lit → Core → Type 0
 IsCore kept assumptions (core.Kept id) = IsKeptCore kept assumptions id.0
 IsCore kept assumptions (core.Both l) = IsBothCore kept assumptions l
-IsCore kept assumptions (core.New lesson) = IsNewCore kept assumptions lesson.clause lesson.hints
+IsCore kept assumptions (core.New lesson) = IsNewCore kept assumptions lesson

@@ -1,16 +1,17 @@
 -- Private: what an analysis of a conflict has established, once it has walked the trail down to a front of it.
-use Rattle.std.specs.Prelude.{◌≡◌, ℕ, ◌<◌, ◌≤◌, ◌⊎◌, nat_lt, Bool, true, false, ◌&&◌, List, [], ◌∷◌, ◌++◌, count_by, Some, None}
+use Rattle.std.specs.Prelude.{◌≡◌, ℕ, ◌<◌, ◌≤◌, ◌⊎◌, nat_lt, Bool, true, false, ◌&&◌, List, [], ◌∷◌, ◌++◌, count_by, max, unwrap_or, option_map, Some, None}
 use Rattle.std.specs.List.{list_all}
 use Rattle.std.specs.List.Sorted.{IsPermutation}
 use Rattle.sb_lit.specs.declared.clause.Lit.{Lit}
 use Rattle.sb_lit.specs.declared.clause.ClauseId.{ClauseId}
 use Rattle.sb_lit.specs.Clauses.{negation, is_same_literal, are_ascending, is_among, is_true_under, is_open_under, is_false_clause}
-use Rattle.sb_lit.specs.Kept.{Kept, KeptClause}
+use Rattle.sb_lit.specs.Kept.{Kept, KeptClause, kept_at}
 use Rattle.sb_lit.specs.Hints.{hinted, course, ends_false}
 use Rattle.sb_trail.specs.declared.assigned.Assigned.{Assigned}
 use Rattle.sb_trail.specs.Assignments.{held, entry_of, AreDistinct}
 use Rattle.sb_clauses.specs.Propagation.{IsConflict}
 use Rattle.sb_analyze.specs.Reasons.{level_in}
+use Rattle.sb_analyze.specs.Learning.{is_named}
 use Rattle.sb_analyze.specs.Explaining.{Explanation, is_met, is_pending}
 use Rattle.sb_analyze.specs.declared.learned.Learned.{Learned}
 
@@ -50,6 +51,13 @@ abbrev pub AreLower : List Assigned → Explanation → Type 0
 AreLower entries s = (is_false_clause (held entries) s.clause ≡ true)
     × (list_all (λ l. nat_lt (level_in entries l) s.level) s.clause ≡ true)
 
+-- What was met on the trail, and what is in the clause, stands in clauses that the hints name.
+pub record AreNamed (kept : Kept) (entries : List Assigned) (hints : List ℕ) (marks : ℕ → Bool) (clause : List Lit)
+    : Type 0 where
+  pub met : (entry : Assigned) → Stands entries entry → is_met marks entry.literal.atom ≡ true
+      → is_named kept hints (negation entry.literal) ≡ true
+  pub clause_named : list_all (is_named kept hints) clause ≡ true
+
 pub record IsExplaining (kept : Kept) (front : List Assigned) (s : Explanation) : Type 0 where
   pub marked : IsMarked front s
   pub explained : IsExplained kept front s
@@ -60,6 +68,7 @@ pub record IsWalked (kept : Kept) (entries : List Assigned) (level : ℕ) (front
   pub here : s.level ≡ level
   pub base : IsExplaining kept front s
   pub lower : AreLower entries s
+  pub named : AreNamed kept entries s.hints s.marks s.clause
   pub flat : (entry : Assigned) → Stands front entry → is_pending s.level s.marks entry ≡ true → entry.level ≤ s.level
   pub more : 0 < s.pending
 
@@ -68,6 +77,7 @@ pub record IsFirstUip (kept : Kept) (entries : List Assigned) (level : ℕ) (s :
   pub here : s.level ≡ level
   pub explained : IsExplained kept [] (record s { clause = s.clause ++ negation left ∷ []; pending = 0 })
   pub distinct : AreDistinctLiterals (s.clause ++ negation left ∷ [])
+  pub named : list_all (is_named kept s.hints) (s.clause ++ negation left ∷ []) ≡ true
   pub lower : AreLower entries s
   pub is_true : is_true_under (held entries) left ≡ true
   pub at : level_in entries left ≡ level
@@ -78,15 +88,26 @@ pub record IsTraced (kept : Kept) (entries : List Assigned) (start : Explanation
     (s : Explanation) : Type 0 where
   pub here : s.level ≡ 0
   pub base : IsExplaining kept front s
+  pub named : AreNamed kept entries s.hints s.marks s.clause
   pub decided : (p : Lit → Bool) → list_all p start.clause ≡ true
       → ((entry : Assigned) → Stands entries entry → entry.reason ≡ None → p (negation entry.literal) ≡ true)
       → list_all p s.clause ≡ true
 
+-- the level of the kept clause, 0 where there is no clause
+abbrev pub level_at : Kept → ℕ → ℕ
+level_at kept id = unwrap_or (option_map (λ clause. clause.level) (kept_at kept id)) 0
+
+-- the greatest level of the clauses
+abbrev pub greatest_at : Kept → List ℕ → ℕ
+greatest_at kept [] = 0
+greatest_at kept (id ∷ ids) = max (level_at kept id) (greatest_at kept ids)
+
 -- the clause in order, with its hints
-pub record IsMadeOf (s : Explanation) (backjump_level : ℕ) (lesson : Learned) : Type 0 where
+pub record IsMadeOf (kept : Kept) (s : Explanation) (backjump_level : ℕ) (lesson : Learned) : Type 0 where
   pub permutation : IsPermutation s.clause lesson.clause
   pub ascending : AreDistinctLiterals s.clause → are_ascending lesson.clause ≡ true
   pub hints : lesson.hints ≡ s.hints
+  pub scope : lesson.level ≡ greatest_at kept lesson.hints
   pub level : lesson.backjump_level ≡ backjump_level
 
 -- the kept clause is false, or an entry has it for its reason
@@ -100,7 +121,8 @@ pub record IsDecided (kept : Kept) (entries : List Assigned) (id : ClauseId) (le
   pub explanation : Explanation
   pub explained : IsExplained kept [] explanation
   pub distinct : AreDistinctLiterals explanation.clause
-  pub made : IsMadeOf explanation 0 lesson
+  pub named : list_all (is_named kept explanation.hints) explanation.clause ≡ true
+  pub made : IsMadeOf kept explanation 0 lesson
   pub decided : (p : Lit → Bool)
       → ((entry : Assigned) → Stands entries entry → entry.reason ≡ None → p (negation entry.literal) ≡ true)
       → ((entry : Assigned) → Stands entries entry → entry.reason ≡ Some id → p entry.literal ≡ true)

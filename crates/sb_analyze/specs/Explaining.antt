@@ -1,18 +1,19 @@
 -- Private: what an analysis of a conflict knows so far, from the newest literal back.
-use Rattle.std.specs.Prelude.{ℕ, ◌+◌, nat_lt, nat_le, Bool, true, false, not, ◌&&◌, ◌||◌, ◌==◌, if◌then◌else◌, List, [], ◌∷◌, ◌++◌, length, replicate, slice_set, slice_index_or, Option, Some, None}
+use Rattle.std.specs.Prelude.{ℕ, ◌+◌, nat_lt, nat_le, Bool, true, false, not, ◌&&◌, ◌||◌, ◌==◌, if◌then◌else◌, List, [], ◌∷◌, ◌++◌, length, slice_index_or, Option, Some, None}
 use Rattle.sb_lit.specs.declared.clause.Lit.{Lit}
 use Rattle.sb_lit.specs.declared.clause.ClauseId.{ClauseId}
 use Rattle.sb_lit.specs.Clauses.{negation, is_false_under}
-use Rattle.sb_lit.specs.Kept.{Kept, kept_at}
+use Rattle.sb_lit.specs.Kept.{Kept}
 use Rattle.sb_trail.specs.declared.assigned.Assigned.{Assigned}
 use Rattle.sb_trail.specs.Assignments.{held}
 use Rattle.sb_analyze.specs.Reasons.{level_in}
+use Rattle.sb_analyze.specs.Learning.{literals_at}
 
 -- Literals of levels below `level` go into the clause, and all others are resolved.
 pub record Explanation : Type 0 where
   pub level : ℕ
-  -- the atoms of which a literal was met
-  pub marks : List Bool
+  -- whether a literal of the atom was met
+  pub marks : ℕ → Bool
   -- how many literals were met and are still to be resolved
   pub pending : ℕ
   pub clause : List Lit
@@ -20,15 +21,19 @@ pub record Explanation : Type 0 where
   pub hints : List ℕ
 
 -- nothing is met yet
-abbrev pub begun : ℕ → ℕ → Explanation
-begun reserved level = record { level = level; marks = replicate reserved false; pending = 0; clause = []; hints = [] }
+abbrev pub begun : ℕ → Explanation
+begun level = record { level = level; marks = λ atom. false; pending = 0; clause = []; hints = [] }
 
--- a literal of the atom was met; atoms without a place count as met
-abbrev pub is_met : List Bool → ℕ → Bool
-is_met marks atom = slice_index_or marks atom true
+-- a literal of the atom was met
+abbrev pub is_met : (ℕ → Bool) → ℕ → Bool
+is_met marks atom = marks atom
+
+-- a literal of the atom is met too
+abbrev pub also_met : (ℕ → Bool) → ℕ → ℕ → Bool
+also_met marks met atom = if met == atom then true else marks atom
 
 -- the literal of the entry was met and is still to be resolved
-abbrev pub is_pending : ℕ → List Bool → Assigned → Bool
+abbrev pub is_pending : ℕ → (ℕ → Bool) → Assigned → Bool
 is_pending level marks entry = nat_le level entry.level && is_met marks entry.literal.atom
 
 -- a literal that is false and was not met is met
@@ -36,16 +41,12 @@ abbrev pub with_literal : List Assigned → Explanation → Lit → Explanation
 with_literal entries s l =
     if is_met s.marks l.atom || not (is_false_under (held entries) l) then s
     else if nat_lt (level_in entries l) s.level
-    then record s { marks = slice_set s.marks l.atom true; clause = s.clause ++ l ∷ [] }
-    else record s { marks = slice_set s.marks l.atom true; pending = s.pending + 1 }
+    then record s { marks = also_met s.marks l.atom; clause = s.clause ++ l ∷ [] }
+    else record s { marks = also_met s.marks l.atom; pending = s.pending + 1 }
 
 abbrev pub with_literals : List Assigned → Explanation → List Lit → Explanation
 with_literals entries s [] = s
 with_literals entries s (l ∷ ls) = with_literals entries (with_literal entries s l) ls
-
--- the literals of the kept clause, none where there is no clause
-abbrev pub literals_at : Kept → ℕ → List Lit
-literals_at kept id = elim (kept_at kept id) [ None ↦ [] | Some clause ↦ clause.literals ]
 
 -- the clause is a hint, and its false literals are met
 abbrev pub with_clause : Kept → List Assigned → Explanation → ℕ → Explanation

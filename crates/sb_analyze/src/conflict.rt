@@ -16,8 +16,8 @@ use std::alloc::{AllocError, Global};
 /// The asserting clause of a conflict: it is found by resolving the conflict with the reasons of its newest literals
 /// until one literal of the conflict's level is left, the first unique implication point.
 ///
-/// Linear in the number of atoms that have a place, in the trail's part behind that literal and in the literals of the
-/// clauses that are resolved, and it sorts the new clause's literals. `AllocError` only for want of memory.
+/// Linear in the trail's part behind that literal and in the literals of the clauses that are resolved, and it sorts
+/// the new clause's literals. `AllocError` only for want of memory.
 pub fn learn(
     alloc: Global,
     trail: &Trail,
@@ -27,17 +27,16 @@ pub fn learn(
     requires reasoned { AreReasoned clauses.now [] trail.now.literals }
     requires conflict { (clause : KeptClause) × IsTeaching clauses.now trail.now.literals conflict.0 clause }
     ensures { IfOk result (λ lesson. (clause : KeptClause) → kept_at clauses.now conflict.0 ≡ Some clause
-        → IsAsserting clauses.now trail.now.literals (highest trail.now.literals clause.literals) lesson.clause
-        lesson.hints lesson.backjump_level) }
+        → IsAsserting clauses.now trail.now.literals (highest trail.now.literals clause.literals) lesson) }
 {
     let Some(literals) = clauses.literals(conflict) else {
         unreachable!();
     };
     let entries = trail.literals();
-    let mut analysis = Analysis::new(alloc, trail, highest(trail, literals))?;
+    let mut analysis = Analysis::new(alloc, highest(trail, literals));
     analysis.resolve(trail, clauses, conflict)?;
     let uip = analysis.resolve_to_first_uip(trail, clauses, entries)?;
     let backjump_level = highest(trail, &analysis.clause);
     analysis.clause.push(uip.negated())?;
-    Ok(lesson(analysis, backjump_level))
+    Ok(lesson(analysis, clauses, backjump_level))
 }

@@ -29,8 +29,9 @@ pub enum Core {
 /// contradict each other, else `New`. The conflict is a false clause, or the reason of a false assumption; `None` only
 /// where two assumptions contradict each other.
 ///
-/// Linear in the literals of all kept clauses, in the assumptions, in the trail and in the number of atoms that have a
-/// place, and it sorts a new clause's literals. `AllocError` only for want of memory.
+/// Linear in the assumptions and in the number of clauses, of each up to its first literal that is no negated
+/// assumption; for a new clause also in the trail and in the literals of the clauses that the conflict rests on, and it
+/// sorts the new clause's literals. `AllocError` only for want of memory.
 pub fn final_core(
     alloc: Global,
     trail: &Trail,
@@ -69,9 +70,9 @@ fn from_decisions(
     ensures { IfOk result (IsDecided clauses.now trail.now.literals conflict) }
 {
     let entries = trail.literals();
-    let mut analysis = Analysis::new(alloc, trail, 0)?;
+    let mut analysis = Analysis::new(alloc, 0);
     analysis.resolve(trail, clauses, conflict)?;
     let end = analysis.keep_forced(entries, conflict)?;
     analysis.resolve_all(trail, clauses, entries, end)?;
-    Ok(lesson(analysis, 0))
+    Ok(lesson(analysis, clauses, 0))
 }

@@ -1,11 +1,12 @@
 //! Finding how a conflict came about, from the newest literal back.
 
-ghost use Rattle.std.specs.Prelude.{◌≡◌, ◌≤◌, [], length, take, position, OnOk, IfOk};
+ghost use Rattle.std.specs.Prelude.{◌≡◌, ◌+◌, ◌^◌, ◌<◌, ◌≤◌, false, [], length, map, take, position, OnOk, IfOk};
+ghost use Rattle.std.specs.HashSet.{hash_set_len};
 ghost use Rattle.sb_trail.specs.Assignments.{IsTrail};
 ghost use Rattle.sb_analyze.specs.Reasons.{AreReasoned, highest};
-ghost use Rattle.sb_analyze.specs.Explained.{IsWalked, IsFirstUip, IsTraced, IsMadeOf};
-ghost use Rattle.sb_analyze.specs.Shown.{shown};
-ghost use Rattle.sb_analyze.specs.Explaining.{begun, with_literal, with_literals, with_clause, traced, is_met, is_pending, is_forced_by, with_forced, end_before};
+ghost use Rattle.sb_analyze.specs.Explained.{IsWalked, IsFirstUip, IsTraced, greatest_at, IsMadeOf};
+ghost use Rattle.sb_analyze.specs.Shown.{marks_of, shown};
+ghost use Rattle.sb_analyze.specs.Explaining.{begun, also_met, with_literal, with_literals, with_clause, traced, is_pending, is_forced_by, with_forced, end_before};
 
 use crate::analysis::Analysis;
 use crate::learned::{Hints, Learned};
@@ -13,19 +14,20 @@ use sb_clauses::Clauses;
 use sb_lit::{Clause, ClauseId, Lit};
 use sb_trail::{Assigned, Trail};
 use std::alloc::{AllocError, Global};
+use std::collections::HashSet;
 
 impl Analysis {
     /// Nothing is met yet.
-    pub(crate) fn new(alloc: Global, trail: &Trail, level: usize) -> Result<Analysis, AllocError>
-        ensures { IfOk result (λ analysis. shown analysis ≡ begun trail.now.reserved level) }
+    pub(crate) fn new(alloc: Global, level: usize) -> Analysis
+        ensures { shown result ≡ begun level }
     {
-        Ok(Analysis {
+        Analysis {
             level,
-            marks: vec![in alloc; false; trail.reserved()]?,
+            seen: HashSet::new(alloc),
             pending: 0,
             clause: Vec::new(alloc),
             reasons: Vec::new(alloc),
-        })
+        }
     }
 
     /// Takes a clause for a hint, and meets those of its literals that are false.
@@ -61,7 +63,7 @@ impl Analysis {
         if self.is_met(literal.atom) || trail.literal_value(literal) != Some(false) {
             return Ok(());
         }
-        self.marks[literal.atom as usize] = true;
+        see(&mut self.seen, literal.atom)?;
         if trail.level(literal.atom).unwrap_or(0) < self.level {
             self.clause.push(literal)?;
             return Ok(());
@@ -119,7 +121,7 @@ impl Analysis {
         Ok(place)
     }
 
-    /// Resolves the literals of all levels that stand before the place, down to decisions.
+    /// Resolves the literals of all levels that stand before the place, down to decisions. Stops where none is left.
     pub(crate) fn resolve_all(
         &mut self,
         trail: &Trail,
@@ -136,6 +138,9 @@ impl Analysis {
         ensures { OnOk result (IsTraced clauses.now trail.now.literals (shown self.old) [] (shown self.new)) }
     {
         for place in (0..end).rev() {
+            if self.pending == 0 {
+                return Ok(());
+            }
             let entry = entries[place];
             if self.is_pending(entry) {
                 self.trace(trail, clauses, entry)?;
@@ -158,16 +163,16 @@ impl Analysis {
         }
     }
 
-    /// Whether a literal of the atom was met; atoms without a place count as met.
+    /// Whether a literal of the atom was met.
     fn is_met(&self, atom: u64) -> bool
-        ensures { result ≡ is_met self.now.marks.items atom }
+        ensures { result ≡ marks_of self.now.seen atom }
     {
-        self.marks.get(atom as usize).copied().unwrap_or(true)
+        self.seen.contains(&atom)
     }
 
     /// Whether the literal of the entry was met and is still to be resolved.
     fn is_pending(&self, entry: Assigned) -> bool
-        ensures { result ≡ is_pending self.now.level self.now.marks.items entry }
+        ensures { result ≡ is_pending self.now.level (marks_of self.now.seen) entry }
     {
         entry.level >= self.level && self.is_met(entry.literal.atom)
     }
@@ -178,6 +183,19 @@ fn place_forced(entries: &[Assigned], id: ClauseId) -> Option<usize>
     ensures { result ≡ position (is_forced_by id) entries.now }
 {
     entries.iter().position(|entry| is_forced_by(entry, id))
+}
+
+/// Takes an atom for one of which a literal was met.
+fn see(seen: &mut HashSet<u64>, atom: u64) -> Result<(), AllocError>
+    ensures marks { OnOk result (marks_of seen.new ≡ also_met (marks_of seen.old) atom) }
+    ensures more { OnOk result (marks_of seen.old atom ≡ false → hash_set_len seen.new ≡ hash_set_len seen.old + 1) }
+    ensures no_less { hash_set_len seen.old ≤ hash_set_len seen.new }
+    ensures small { hash_set_len seen.new < 2 ^ 63 }
+{
+    let added = seen.insert(atom);
+    let _small = seen.len();
+    added?;
+    Ok(())
 }
 
 /// Whether the clause forced the entry's literal.
@@ -191,8 +209,8 @@ fn is_forced_by(entry: &Assigned, id: ClauseId) -> bool
 }
 
 /// The clause in order, with the hints in the order in which they force literals.
-pub(crate) fn lesson(analysis: Analysis, backjump_level: usize) -> Learned
-    ensures { IsMadeOf (shown analysis) backjump_level result }
+pub(crate) fn lesson(analysis: Analysis, clauses: &Clauses, backjump_level: usize) -> Learned
+    ensures { IsMadeOf clauses.now (shown analysis) backjump_level result }
 {
     let Analysis {
         mut clause,
@@ -201,11 +219,24 @@ pub(crate) fn lesson(analysis: Analysis, backjump_level: usize) -> Learned
     } = analysis;
     clause.sort_unstable();
     reasons.reverse();
+    let level = greatest_level(clauses, &reasons);
     Learned {
         clause: Clause::from_literals(clause),
         hints: Hints::new(reasons),
+        level,
         backjump_level,
     }
+}
+
+/// The greatest level of the clauses, 0 where there are none.
+fn greatest_level(clauses: &Clauses, ids: &[ClauseId]) -> u64
+    ensures { result ≡ greatest_at clauses.now (map (λ id. id.0) ids.now) }
+{
+    let mut level = 0;
+    for id in ids {
+        level = level.max(clauses.level(*id).unwrap_or(0));
+    }
+    level
 }
 
 /// The greatest level of the literals, 0 where there are none.

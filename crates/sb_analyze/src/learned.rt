@@ -41,6 +41,8 @@ pub struct Learned {
     /// Its literals ascend.
     pub clause: Clause,
     pub hints: Hints,
+    /// The level at which it holds: the greatest of those of the clauses that the hints name.
+    pub level: u64,
     /// The backjump level: the least one at which the clause leaves one literal; 0 where it comes of assumptions.
     pub backjump_level: usize,
 }

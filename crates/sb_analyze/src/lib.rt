@@ -6,7 +6,7 @@
 //!
 //! Names. What [`learn`] gives is the asserting clause of the first unique implication point (`uip`), without
 //! minimising: on the backjump level it is unit, and asserts the negation of that literal. `highest` is the decision
-//! level of the conflict; `marks` are the variables that analysis has seen, and `pending` counts the seen literals of
+//! level of the conflict; `seen` are the variables that analysis has seen, and `pending` counts the seen literals of
 //! that level that are not resolved yet. A `lesson` is a learned clause with its hints. A [`Core`] is what a solver
 //! with assumptions calls the final conflict, or the failed assumptions.
 #![tactic(auto)]

@@ -92,7 +92,7 @@ pub place_in : (kept : Kept) (records items : List (Option Record)) (n : ℕ) (p
 place_in kept records items n place same is_kept within here =
     ap (λ k. kept_at k n) (sym is_kept ∙ ap kept_of (sym same)) ∙ kept_at_place items n place within here
 
-kept_at_past : (records : List (Option Record)) (n : ℕ) → length records ≤ n → kept_at (kept_of records) n ≡ None
+pub kept_at_past : (records : List (Option Record)) (n : ℕ) → length records ≤ n → kept_at (kept_of records) n ≡ None
 kept_at_past records n past =
     ap (λ o. unwrap_or o None)
     (slice_get_past (kept_of records) n (omega (arith, length-map records (option_map clause_of))))

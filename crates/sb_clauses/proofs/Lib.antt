@@ -8,6 +8,8 @@ pub mod Walked
 pub mod Settling
 pub mod Marked
 pub mod Dropped
+pub mod Scoping
+pub mod Room
 pub mod Waiting
 pub mod NextClause
 pub mod Resting

@@ -1,24 +1,20 @@
 -- Marks of levels, and what is on the trail up to them.
-use Rattle.std.proofs.Common.{◌≡◌, ℕ, zero, suc, ◌+◌, ◌-◌, ◌<◌, ◌≤◌, Bool, true, false, ◌||◌, leb, List, [], ◌∷◌, ◌++◌, length, get_or, take, Option, Some, None, refl, sym, ◌∙◌, ap, subst, inl, inr, append_assoc, arith}
-use Rattle.std.specs.Option.{IfSome, option_map}
-use Rattle.std.specs.List.{filter}
-use Rattle.std.proofs.lemmas.Bool.{false≢true, cases_lt, cases_Bool, or_cases, or_left, or_right, eq-eqb, le-leb, lt-leb, leb-true, false_from_ne_true}
-use Rattle.std.proofs.lemmas.Option.{same_Some, none-some}
-use Rattle.std.proofs.lemmas.List.{length-map, length-take-le, length_push, take-map, take-take, get_or-take, take_all, take_more, take-append-le, map-append, get_or_append_left, append-nil}
+use Rattle.std.proofs.Common.{◌≡◌, ℕ, zero, suc, ◌+◌, ◌-◌, ◌<◌, ◌≤◌, Bool, true, false, ◌||◌, leb, List, [], ◌∷◌, ◌++◌, length, get_or, take, Option, Some, None, refl, sym, ◌∙◌, ap, inl, inr, append_assoc, arith}
+use Rattle.std.specs.Option.{IfSome}
+use Rattle.std.proofs.lemmas.Bool.{or_cases, or_left, or_right}
+use Rattle.std.proofs.lemmas.List.{length-map, length-take-le, length_push, take-map, take-take, get_or-take, take_more, take-append-le, map-append, append-nil}
 use Rattle.std.proofs.lemmas.List.Folds.{list_any-append}
 use Rattle.sb_lit.specs.declared.clause.Lit.{Lit}
-use Rattle.sb_lit.specs.Clauses.{negation, is_same_literal, is_among, is_false_under}
+use Rattle.sb_lit.specs.Clauses.{is_same_literal, is_among}
 use Rattle.sb_lit.specs.Kept.{Kept}
 use Rattle.sb_trail.specs.declared.assigned.Assigned.{Assigned}
-use Rattle.sb_trail.specs.Assignments.{Assignments, held, is_of, entry_of, level_after, current_level, up_to, AreDistinct, AreLevelled}
+use Rattle.sb_trail.specs.Assignments.{Assignments, held, level_after, current_level, up_to, AreLevelled}
 use Rattle.sb_clauses.specs.Propagation.{AreForced, GrowsBy}
 use Rattle.sb_clauses.specs.Watching.{no_literal}
-use Rattle.sb_clauses.specs.Settling.{Grown, AreFine, Settles}
-use Rattle.sb_clauses.specs.Marking.{mark_at, AreAscending, AreBelow, held_up_to, AreMarked, IsFront, AreNoted, IsEndOf, IsHead}
-use Rattle.sb_clauses.specs.Waiting.{HasRank}
-use Rattle.sb_lit.proofs.CallerLemmas.{is_same_literal-true}
+use Rattle.sb_clauses.specs.Settling.{Grown, Settles}
+use Rattle.sb_clauses.specs.Marking.{mark_at, AreAscending, AreBelow, held_up_to, AreMarked, IsFront, IsEndOf, IsHead}
 use Rattle.sb_trail.proofs.CallerLemmas.{level_after-push, up_to-all, up_to-push_above, AreLevelled-front}
-use Rattle.sb_clauses.proofs.Settling.{front_grown, fine_longer}
+use Rattle.sb_clauses.proofs.Settling.{fine_longer}
 
 -- a front of the marks
 pub front_at : (old new : List ℕ) (i : ℕ) → IsFront old new → i < length new

@@ -5,7 +5,7 @@ use Rattle.std.specs.Result.{IfOk, OnErr}
 use Rattle.std.specs.Option.{option_map}
 use Rattle.std.proofs.lemmas.Bool.{false≢true, cases_eq, false_from_ne_true}
 use Rattle.std.proofs.lemmas.Option.{none-some}
-use Rattle.std.proofs.lemmas.List.{length-map, length-set, length-take-le, length_push, take_more, take_all, take-append-le, get_or-set_same, get_or-set_other}
+use Rattle.std.proofs.lemmas.List.{length-map, length-set, length-take-le, length_push, take_more, take-append-le, get_or-set_same, get_or-set_other}
 use Rattle.sb_lit.specs.declared.clause.Lit.{Lit}
 use Rattle.sb_lit.specs.Clauses.{negation, is_same_literal, is_among, is_true_under, is_false_under, is_false_clause, leaves_only}
 use Rattle.sb_lit.specs.Kept.{Kept, KeptClause, kept_at}
@@ -29,7 +29,7 @@ use Rattle.sb_trail.proofs.CallerLemmas.{level_after-push}
 use Rattle.sb_clauses.proofs.Growing.{kept_place, place_of_forced, GrowsBy-none, GrowsBy-push}
 use Rattle.sb_clauses.proofs.Moving.{list_at, pushed}
 use Rattle.sb_clauses.proofs.Settling.{front_grown, short_back, long_back}
-use Rattle.sb_clauses.proofs.Adding.{clause_below, kept_last, last_clause, earlier_clause, added_watched, both_roomier, enough_wider, kept_pushed}
+use Rattle.sb_clauses.proofs.Adding.{clause_below, kept_last, last_clause, earlier_clause, added_watched, both_roomier, enough_wider}
 
 -- an empty place is no clause
 none_before : (kept : Kept) (id : ℕ) (c : List Lit) → HasClause (kept ++ None ∷ []) id c → HasClause kept id c

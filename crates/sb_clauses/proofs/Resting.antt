@@ -1,23 +1,21 @@
 -- What is kept beside the clauses from one call to the next.
-use Rattle.std.proofs.Common.{◌≡◌, ℕ, ◌+◌, ◌<◌, ◌≤◌, true, false, List, [], ◌∷◌, ◌++◌, length, get_or, take, Option, Some, None, refl, sym, ◌∙◌, ap, subst, inl, inr, arith}
+use Rattle.std.proofs.Common.{◌≡◌, ℕ, ◌+◌, ◌<◌, ◌≤◌, List, [], ◌∷◌, ◌++◌, length, get_or, take, Option, Some, refl, sym, ◌∙◌, ap, subst, inl, inr, arith}
 use Rattle.std.specs.Option.{IfSome}
 use Rattle.std.proofs.lemmas.Bool.{cases_lt}
 use Rattle.std.proofs.lemmas.List.{length-map, length-append, length_push, take_all, take-append-le, map-append, get_or_append_left}
-use Rattle.sb_lit.specs.declared.clause.Lit.{Lit}
 use Rattle.sb_lit.specs.Kept.{Kept}
 use Rattle.sb_trail.specs.declared.assigned.Assigned.{Assigned}
 use Rattle.sb_trail.specs.Assignments.{Assignments, held, current_level, up_to, AreLevelled}
 use Rattle.sb_clauses.specs.WatchLists.{WatchLists}
-use Rattle.sb_clauses.specs.Propagation.{GrowsBy}
 use Rattle.sb_clauses.specs.Watching.{AreWatched}
-use Rattle.sb_clauses.specs.Settling.{Grown, AreFine, Settles}
+use Rattle.sb_clauses.specs.Settling.{AreFine, Settles}
 use Rattle.sb_clauses.specs.Marking.{mark_at, AreAscending, AreBelow, held_up_to, AreMarked, IsFront, AreNoted, IsEndOf, IsHead, AreReady}
 use Rattle.sb_clauses.specs.Waiting.{HaveRoom, AreStored}
 use Rattle.sb_trail.proofs.CallerLemmas.{level_after-push, up_to-all, up_to-up_to}
 use Rattle.sb_clauses.proofs.Walking.{grown_by}
 use Rattle.sb_clauses.proofs.Settling.{front_grown, fine_longer}
 use Rattle.sb_clauses.proofs.NextClause.{room_of}
-use Rattle.sb_clauses.proofs.Marked.{below_front, ascending_front, marked_front, marked_push, marked_later, level_grown, head_by, head_push, head_at_mark}
+use Rattle.sb_clauses.proofs.Marked.{ascending_front, marked_front, marked_push, marked_later, level_grown, head_by, head_push, head_at_mark}
 
 below_weaker : (marks : List ℕ) (low high : ℕ) → low ≤ high → AreBelow marks low → AreBelow marks high
 below_weaker marks low high le h i within = omega (arith, h i within)

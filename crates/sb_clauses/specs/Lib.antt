@@ -9,3 +9,4 @@ pub mod Settling
 pub mod Adding
 pub mod Marking
 pub mod Waiting
+pub mod Scoped

@@ -1,6 +1,6 @@
 //! The kept clauses with the trail that they are propagated on.
 
-ghost use Rattle.std.specs.Prelude.{◌≡◌, ◌+◌, ◌<◌, ◌≤◌, [], ◌∷◌, ◌++◌, length, max, true, Some, None, IsOk, IfOk, OnOk, OnErr};
+ghost use Rattle.std.specs.Prelude.{◌≡◌, ℕ, ◌+◌, ◌<◌, ◌≤◌, [], ◌∷◌, ◌++◌, length, max, true, Some, None, IsOk, IfOk, OnOk, OnErr};
 ghost use Rattle.sb_lit.specs.Kept.{kept_up_to};
 ghost use Rattle.sb_trail.specs.Assignments.{held, value_of, current_level, up_to};
 ghost use Rattle.sb_clauses.specs.Propagation.{has_room_for, GrowsBy, AnswersOf};
@@ -86,8 +86,9 @@ impl Engine {
         self.trail.reserve(atoms)
     }
 
-    /// Keeps a clause at a level, under the next number. Linear in the number of its literals; takes memory for
-    /// each atom up to the greatest one, and is an error where that cannot be had, as for an atom of 2 ^ 62.
+    /// Keeps a clause at a level, under the next number. Linear in the number of its literals, and above level 0
+    /// logarithmic in the number of clauses there; takes memory for each atom up to the greatest one, and is an error
+    /// where that cannot be had, as for an atom of 2 ^ 62.
     pub fn add(&mut self, clause: &Clause, level: u64) -> Result<ClauseId, AllocError>
         ensures number { IfOk result (λ id. id.0 ≡ length self.old.kept) }
         ensures ok { IfOk result
@@ -108,7 +109,7 @@ impl Engine {
     }
 
     /// Drops the clauses above the level; their numbers are not given again. Takes no memory; linear in the
-    /// number of clauses.
+    /// clauses that go, each with a logarithm of the number of clauses above level 0.
     pub fn drop_above(&mut self, level: u64)
         ensures { self.new ≡ record self.old { kept = kept_up_to level self.old.kept } }
     {
@@ -184,6 +185,14 @@ impl Engine {
         ensures { result ≡ has_room_for self.now.trail.reserved self.now.kept }
     {
         self.clauses.have_room_on(&self.trail)
+    }
+
+    /// So many places are enough for the atoms of the kept clauses, and for those that were dropped: a search that
+    /// reserves them after each clause may propagate, and has not to ask whether there is room. Constant time.
+    pub fn atoms(&self) -> usize
+        ensures { (reserved : ℕ) → result ≤ reserved → has_room_for reserved self.now.kept ≡ true }
+    {
+        self.first.lists.len().saturating_sub(1) / 2
     }
 
     /// Adds what the clauses force to the trail, until nothing more is forced or one of them is false.

@@ -18,7 +18,7 @@ use std::process::Abort;
 use std::test::Fail;
 
 /// Propagates, and says which clause is false.
-fn settle(rt: &impl Abort, search: &mut Engine) -> Option<ClauseId>
+pub(crate) fn settle(rt: &impl Abort, search: &mut Engine) -> Option<ClauseId>
     requires { AreReasoned search.old.kept [] search.old.trail.literals }
     ensures kept { search.new.kept ≡ search.old.kept }
     ensures reasoned { AreReasoned search.new.kept [] search.new.trail.literals }
@@ -45,7 +45,7 @@ fn rests(rt: &impl Abort, search: &mut Engine)
     assert!(rt; conflict.is_none());
 }
 
-fn decide(rt: &impl Abort, search: &mut Engine, literal: Lit)
+pub(crate) fn decide(rt: &impl Abort, search: &mut Engine, literal: Lit)
     requires { AreReasoned search.old.kept [] search.old.trail.literals }
     ensures kept { search.new.kept ≡ search.old.kept }
     ensures reasoned { AreReasoned search.new.kept [] search.new.trail.literals }
@@ -70,7 +70,7 @@ fn chooses(rt: &impl Abort, search: &mut Engine, number: i8)
 }
 
 /// The greatest level of the literals.
-fn highest(trail: &Trail, literals: &[Lit]) -> usize
+pub(crate) fn highest(trail: &Trail, literals: &[Lit]) -> usize
     ensures { result ≡ highest trail.now.literals literals.now }
 {
     let mut level = 0;
@@ -123,7 +123,7 @@ fn another_of(trail: &Trail, literals: &[Lit], level: usize, one: Lit) -> Option
 }
 
 /// Whether two literals are of the level.
-fn has_two(trail: &Trail, literals: &[Lit], level: usize) -> bool
+pub(crate) fn has_two(trail: &Trail, literals: &[Lit], level: usize) -> bool
     ensures { result ≡ true → HasTwoOf trail.now.literals literals.now level }
 {
     let Some(one) = one_of(trail, literals, level) else {
@@ -164,7 +164,7 @@ fn takes(
     requires { AreReasoned search.old.kept [] search.old.trail.literals }
     ensures { OnOk result (AreReasoned search.new.kept [] search.new.trail.literals) }
 {
-    search.add(&lesson.clause, 0)?;
+    search.add(&lesson.clause, lesson.level)?;
     let trail = search.trail();
     let _before = trail.literals();
     search.backtrack(level);
@@ -556,11 +556,11 @@ fn plays_all(
 }
 
 /// A clause at level 0 for each row, on an empty trail with room.
-fn fill(alloc: Global, search: &mut Engine, rows: &[[i8; 3]]) -> Result<(), AllocError>
+pub(crate) fn fill(alloc: Global, search: &mut Engine, rows: &[[i8; 3]]) -> Result<(), AllocError>
     requires { search.old.trail.literals ≡ [] }
     ensures { search.new.trail.literals ≡ [] }
 {
-    search.reserve(10)?;
+    search.reserve(13)?;
     for row in rows {
         keep(alloc, search, row, 0)?;
     }

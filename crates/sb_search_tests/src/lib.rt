@@ -10,6 +10,8 @@ mod learning;
 #[cfg(test)]
 mod literals;
 #[cfg(test)]
+mod loops;
+#[cfg(test)]
 mod propagation;
 #[cfg(test)]
 mod search;

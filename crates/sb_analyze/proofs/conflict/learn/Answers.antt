@@ -14,8 +14,8 @@ pub resolve_to_first_uip-requires-clause-walked : goal.resolve_to_first_uip-requ
 resolve_to_first_uip-requires-clause-walked c =
     let walked = walked_begin c.args.clauses.now c.args.trail.now c.literals-entries.ensures.trail c.args.conflict.0
     c.requires.conflict.0 c.requires.conflict.1 c.in-Some.literals.now c.highest.result
-    (shown c.in_ok-analysis.analysis) (shown c.resolve.new.self) c.in-Some.ensures c.highest.ensures
-    c.in_ok-analysis.ensures c.in_ok-resolve.ensures in
+    (shown c.new-analysis.result) (shown c.resolve.new.self) c.in-Some.ensures c.highest.ensures
+    c.new-analysis.ensures c.in_ok-resolve.ensures in
     subst (λ (n : ℕ). IsWalked c.args.clauses.now c.args.trail.now.literals n c.args.trail.now.literals
     (shown c.resolve.new.self)) (sym walked.here) walked
 
@@ -26,8 +26,8 @@ returns c = λ clause there.
     there) c.requires.conflict.1 in
     let walked = walked_begin c.args.clauses.now c.args.trail.now c.literals-entries.ensures.trail c.args.conflict.0
     clause teaching c.in-Some.literals.now c.highest.result
-    (shown c.in_ok-analysis.analysis) (shown c.resolve.new.self) c.in-Some.ensures c.highest.ensures
-    c.in_ok-analysis.ensures c.in_ok-resolve.ensures in
+    (shown c.new-analysis.result) (shown c.resolve.new.self) c.in-Some.ensures c.highest.ensures
+    c.new-analysis.ensures c.in_ok-resolve.ensures in
     let uip = subst (λ (n : ℕ). IsFirstUip c.args.clauses.now c.args.trail.now.literals n
     (shown c.resolve_to_first_uip.new.self) c.in_ok-uip.uip) walked.here c.in_ok-uip.ensures in
     let clause_is : c.push.new.self.items
@@ -38,6 +38,7 @@ returns c = λ clause there.
     clause teaching
     (shown c.resolve_to_first_uip.new.self) c.in_ok-uip.uip uip
     (record (shown c.resolve_to_first_uip.new.self) { clause = c.push.new.self.items }) clause_is refl c.lesson.result
-    (subst (λ (n : ℕ). IsMadeOf (record (shown c.resolve_to_first_uip.new.self) { clause = c.push.new.self.items }) n
+    (subst (λ (n : ℕ). IsMadeOf c.args.clauses.now
+    (record (shown c.resolve_to_first_uip.new.self) { clause = c.push.new.self.items }) n
     c.lesson.result) (c.highest-backjump_level.ensures ∙ ap (highest c.args.trail.now.literals) c.deref.ensures.value)
     c.lesson.ensures)

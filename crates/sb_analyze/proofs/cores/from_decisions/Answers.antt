@@ -10,7 +10,7 @@ resolve_all-requires-clause-traced c =
     c.args.conflict c.requires.conflict (shown c.resolve.new.self)
     (c.in_ok-resolve.ensures
     ∙ ap (λ (s : Explanation). with_clause c.args.clauses.now c.args.trail.now.literals s c.args.conflict.0)
-    c.in_ok-analysis.ensures) in
+    c.new-analysis.ensures) in
     begins_traced c.args.clauses.now c.args.trail.now c.literals-entries.ensures.trail c.requires.reasoned
     c.args.conflict (shown c.resolve.new.self) started
     c.literals-entries.result.now c.literals-entries.ensures.value (shown c.keep_forced.new.self)
@@ -22,13 +22,14 @@ returns c =
     c.args.conflict c.requires.conflict (shown c.resolve.new.self)
     (c.in_ok-resolve.ensures
     ∙ ap (λ (s : Explanation). with_clause c.args.clauses.now c.args.trail.now.literals s c.args.conflict.0)
-    c.in_ok-analysis.ensures) in
+    c.new-analysis.ensures) in
     let traced = c.in_ok-resolve_all.ensures in
     record {
       trail = c.literals-entries.ensures.trail.distinct;
       explanation = shown c.resolve_all.new.self;
       explained = traced.base.explained;
       distinct = traced.base.marked.distinct;
+      named = traced.named.clause_named;
       made = c.lesson.ensures;
       decided = λ p decisions forced. traced.decided p
           (begins_passes c.args.clauses.now c.args.trail.now c.literals-entries.ensures.trail c.requires.reasoned

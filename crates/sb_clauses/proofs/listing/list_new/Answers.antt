@@ -1,7 +1,7 @@
-use Rattle.std.proofs.Common.{◌≡◌, length, sym, ◌∙◌, subst, ℕ, refl, arith}
+use Rattle.std.proofs.Common.{sym, ◌∙◌, refl, arith}
 use Rattle.std.proofs.lemmas.List.{length-map}
 use Rattle.std.specs.Option.{option_map}
-use Rattle.sb_clauses.specs.Records.{clause_of, kept_of}
+use Rattle.sb_clauses.specs.Records.{clause_of}
 use Rattle.sb_clauses.proofs.Growing.{GrowsBy-then}
 use Rattle.sb_clauses.proofs.Settling.{none_given}
 use Rattle.sb_clauses.proofs.listing.list_new.Goals as goal

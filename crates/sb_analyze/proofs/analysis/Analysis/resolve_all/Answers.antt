@@ -2,7 +2,7 @@ use Rattle.std.proofs.Common.{◌≤◌, ◌-◌, List, get_or, ap, sym, ◌∙�
 use Rattle.sb_trail.specs.declared.assigned.Assigned.{Assigned}
 use Rattle.sb_analyze.specs.Shown.{shown}
 use Rattle.sb_analyze.specs.Explaining.{traced}
-use Rattle.sb_analyze.proofs.Walks.{trace_skip, trace_step}
+use Rattle.sb_analyze.proofs.Walks.{trace_end, trace_skip, trace_step}
 use Rattle.sb_analyze.proofs.analysis.Analysis.resolve_all.Goals as goal
 
 -- what a read past the end of the trail gives
@@ -38,3 +38,8 @@ loop-place-preserved c =
     trace_skip c.args.clauses.now c.args.trail.now c.requires.trail c.requires.reasoned c.loop-place.place none
     c.loop-place-test.true within 0 (shown c.args.self.now) (shown c.loop-place.self) c.loop-place.invariant
     (rw c.requires.whole at (sym c.is_pending.ensures ∙ c.if-is_pending.false))
+
+pub returns-then-self-eq0 : goal.returns-then-self-eq0
+returns-then-self-eq0 c =
+    trace_end c.args.clauses.now c.args.trail.now.literals _ (shown c.args.self.now) (shown c.loop-place.self)
+    c.loop-place.invariant c.if-self-eq0.true

@@ -1,4 +1,4 @@
-use Rattle.std.proofs.Common.{refl, arith}
+use Rattle.std.proofs.Common.{refl}
 use Rattle.sb_clauses.proofs.NextClause.{roomier_none, stored_roomier, stored_either}
 use Rattle.sb_clauses.proofs.engine.Engine.add.Goals as goal
 

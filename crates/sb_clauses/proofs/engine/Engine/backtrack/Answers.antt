@@ -1,6 +1,5 @@
-use Rattle.std.proofs.Common.{◌≡◌, refl, sym, ◌∙◌, ap, arith}
-use Rattle.std.proofs.lemmas.List.{take_all}
-use Rattle.sb_trail.specs.Assignments.{Assignments, up_to}
+use Rattle.std.proofs.Common.{ap}
+use Rattle.sb_trail.specs.Assignments.{Assignments}
 use Rattle.sb_clauses.proofs.Marked.{front_then, below_front}
 use Rattle.sb_clauses.proofs.Resting.{stored_back}
 use Rattle.sb_clauses.proofs.engine.Engine.backtrack.Goals as goal
