@@ -4,7 +4,7 @@ use crate::explorations::answer;
 use sb_deriv::Deriver;
 use sb_graph::Explored;
 use sb_regex::{Arena, RegexId};
-use sb_regex_tests::terms::{cat, range, regex, star};
+use sb_regex_tests::terms::{and, cat, range, regex, star};
 use sb_witness::{Outcome, find_word};
 use std::alloc::{AllocError, Global};
 use std::process::Abort;
@@ -44,6 +44,35 @@ fn finds(rt: &impl Abort, alloc: Global, arena: &mut Arena, n: u32) -> Result<()
 #[test]
 fn a_word_behind_many_derivatives_is_found(rt: HostRuntime) -> Result<(), Fail> {
     Ok(finds(&rt, rt.alloc(), &mut Arena::new(rt.alloc()), 60)?)
+}
+
+/// All `a^i ALL` and `ALL a^i` up to n, of which `a^n ALL` and `ALL a^n` have the words.
+fn fronts_and_ends(alloc: Global, arena: &mut Arena, n: u32) -> Result<RegexId, AllocError> {
+    let character = range(alloc, arena, 0x61, 0x7a)?;
+    let all = star(arena, character)?;
+    let a = range(alloc, arena, 0x61, 0x61)?;
+    let mut run = arena.eps()?;
+    let mut both = all;
+    for _ in 0..n {
+        run = cat(arena, a, run)?;
+        let front = cat(arena, run, all)?;
+        let end = cat(arena, all, run)?;
+        both = and(arena, &[both, front, end])?;
+    }
+    Ok(both)
+}
+
+fn finds_run(rt: &impl Abort, alloc: Global, arena: &mut Arena, n: u32) -> Result<(), AllocError> {
+    let root = fronts_and_ends(alloc, arena, n)?;
+    let explored = answer(alloc, arena, root)?;
+    assert!(rt; is_as(&explored, n as usize));
+    assert!(rt; arena.len() < 1000);
+    Ok(())
+}
+
+#[test]
+fn of_ends_of_one_word_the_longest_counts(rt: HostRuntime) -> Result<(), Fail> {
+    Ok(finds_run(&rt, rt.alloc(), &mut Arena::new(rt.alloc()), 100)?)
 }
 
 /// The length of the word that is found, a million for none, and two millions where the bound is met.

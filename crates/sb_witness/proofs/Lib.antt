@@ -3,6 +3,7 @@ mod Ranks
 mod Lists
 mod Beginnings
 mod Splits
+mod Stronger
 mod Steps
 mod Growing
 mod Carrying

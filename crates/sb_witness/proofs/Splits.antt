@@ -42,13 +42,13 @@ any_append f (m ∷ ns) n = ap (λ b. f m || b) (any_append f ns n) ∙ assoc (f
     assoc true b c = refl
     assoc false b c = refl
 
-all_append : (f : ℕ → Bool) (ns : List ℕ) (n : ℕ) → list_all f (ns ++ n ∷ []) ≡ (list_all f ns && f n)
-all_append f [] n = swap (f n)
+pub all_append : {A : Type 0} (f : A → Bool) (xs : List A) (x : A) → list_all f (xs ++ x ∷ []) ≡ (list_all f xs && f x)
+all_append f [] x = swap (f x)
   where
     swap : (a : Bool) → (a && true) ≡ (true && a)
     swap true = refl
     swap false = refl
-all_append f (m ∷ ns) n = ap (λ b. f m && b) (all_append f ns n) ∙ assoc (f m) (list_all f ns) (f n)
+all_append f (y ∷ xs) x = ap (λ b. f y && b) (all_append f xs x) ∙ assoc (f y) (list_all f xs) (f x)
   where
     assoc : (a b c : Bool) → (a && (b && c)) ≡ ((a && b) && c)
     assoc true b c = refl
@@ -61,7 +61,7 @@ numbers_push rs ns ns' n h l e =
 
 -- The words of an intersection of numbers.
 
-each_of : (rs : List Regex) (ns : List ℕ) (u : List ℕ)
+pub each_of : (rs : List Regex) (ns : List ℕ) (u : List ℕ)
     → list_all (λ r. language r u) (regexes_at rs ns) ≡ in_each rs ns u
 each_of rs [] u = refl
 each_of rs (n ∷ ns) u = ap (λ b. language (regex_at rs n) u && b) (each_of rs ns u)

@@ -155,7 +155,7 @@ fn push_one(
     Ok(())
 }
 
-fn is_none(arena: &Arena, regex: RegexId) -> bool
+pub(crate) fn is_none(arena: &Arena, regex: RegexId) -> bool
     requires { regex < length arena.now }
     ensures { result ≡ true → regex_at arena.now regex ≡ none }
 {

@@ -16,6 +16,7 @@ mod queue;
 mod search;
 mod split;
 mod starts;
+mod strongest;
 mod turn;
 
 pub use queue::Queue;

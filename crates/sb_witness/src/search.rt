@@ -10,9 +10,10 @@ ghost use Rattle.sb_witness.specs.Queue.{word_at, GoesBack, AreWords, LeadsBy, A
 ghost use Rattle.sb_witness.specs.Search.{IsSearched, IsStop, first_language};
 
 use crate::queue::Queue;
+use crate::strongest::strongest;
 use crate::turn::take_turn;
 use sb_depth::find_by_length;
-use sb_deriv::Deriver;
+use sb_deriv::{Deriver, faithful_stays};
 use sb_lang::derivative::nullable_has_empty_word;
 use sb_regex::{Arena, RegexId};
 use sb_word::{CodesError, Word};
@@ -38,6 +39,27 @@ pub enum Outcome {
 /// that leads to thousands ends no walk. Where the walk came to the bound, a search for a word of one length after the
 /// other expands as many states again: it finds a short word that lies behind many others.
 pub fn find_word(
+    alloc: Global,
+    arena: &mut Arena,
+    deriver: &mut Deriver,
+    root: RegexId,
+    bound: usize,
+) -> Result<Outcome, AllocError>
+    requires known { root < length arena.old }
+    requires faithful { IsFaithful arena.old deriver.old }
+    ensures found { IfOk result (λ outcome. IsOutcome (language (regex_at arena.old root)) outcome) }
+    ensures bound { IfOk result (λ outcome. MeetsBound arena.new (language (regex_at arena.old root)) bound outcome) }
+    ensures extends { Extends arena.old arena.new }
+    ensures faithful { IsFaithful arena.new deriver.new }
+    ensures kept { KeepsEntries deriver.old deriver.new }
+{
+    faithful_stays();
+    let start = strongest(alloc, arena, root)?;
+    find_from(alloc, arena, deriver, start, bound)
+}
+
+/// That of a regex, by a walk that begins with it.
+fn find_from(
     alloc: Global,
     arena: &mut Arena,
     deriver: &mut Deriver,

@@ -13,6 +13,9 @@ use std::alloc::{AllocError, Global};
 /// Into so many members an intersection is split at most.
 const MOST: usize = 16;
 
+/// One of more members than this is left whole, since each of those that it were split into would have as many.
+const MANY: usize = 64;
+
 /// Regexes whose languages together are that of a regex: of an intersection, one for each choice of members of the
 /// unions in it, as long as these are few; else the regex itself, or the members of a union.
 pub(crate) fn split(
@@ -89,7 +92,7 @@ fn choose_among(
 {
     let mut whole = Vec::new(alloc);
     let mut divided = Vec::new(alloc);
-    let mut room = MOST;
+    let mut room = room_for(parts.len());
     for part in parts {
         let size = size_of(arena, *part);
         let left = left_of(room, size);
@@ -97,6 +100,14 @@ fn choose_among(
         room = left;
     }
     Ok((whole, divided))
+}
+
+/// Into so many members an intersection of so many is split at most.
+fn room_for(count: usize) -> usize {
+    if count > MANY {
+        return 1;
+    }
+    MOST
 }
 
 /// How many times as many members there may be once a union of this size is divided; the same where it can't be.

@@ -1,42 +1,37 @@
-use Rattle.std.proofs.Common.{ap, subst, ◌∙◌}
+use Rattle.std.proofs.lemmas.Result.{IfOk-weaker}
 use Rattle.sb_lang.specs.Language.{language}
-use Rattle.sb_lang.specs.Least.{IsShortestLeast, HasNoWord}
 use Rattle.sb_regex.specs.Numbered.{regex_at}
-use Rattle.sb_witness.specs.Queue.{regex_of, with_entry}
-use Rattle.sb_witness.specs.Search.{first_language, IsStop}
-use Rattle.sb_witness.proofs.Walking.{started, found_leads}
-use Rattle.sb_witness.proofs.Ends.{found_is, whole_is}
+use Rattle.sb_regex.proofs.CallerLemmas.{extends_more}
+use Rattle.sb_witness.specs.Witness.{IsOutcome, MeetsBound}
+use Rattle.sb_witness.proofs.Stronger.{outcome_same, bound_same}
 use Rattle.sb_witness.proofs.search.find_word.Goals as goal
 
-pub walk-requires-clause-start : goal.walk-requires-clause-start
-walk-requires-clause-start c =
-    started c.args.arena.now c.put.new.self c.args.root
-    (c.in_ok-put.ensures ∙ ap (λ queue. with_entry queue (c.args.root, (0, 0))) c.new-queue.ensures) c.requires.known
+pub find_from-requires-clause-faithful : goal.find_from-requires-clause-faithful
+find_from-requires-clause-faithful c =
+    c.faithful_stays.ensures c.args.arena.now c.strongest.new.arena c.args.deriver.now c.in_ok-start.ensures.extends
+    c.requires.faithful
 
-pub word_of-requires-clause-word : goal.word_of-requires-clause-word
-word_of-requires-clause-word c =
-    let L = first_language c.args.arena.now c.put.new.self in
-    let f = subst (IsStop c.walk.new.arena L c.walk.new.queue c.args.bound) c.in-Nullable.is c.in_ok-stop.ensures.stop
-    in
-    found_leads c.walk.new.arena L c.walk.new.queue c.in-Nullable.place f
+pub returns-in_err-start-clause-faithful : goal.returns-in_err-start-clause-faithful
+returns-in_err-start-clause-faithful c =
+    c.faithful_stays.ensures c.args.arena.now c.strongest.new.arena c.args.deriver.now c.strongest.ensures.extends
+    c.requires.faithful
 
-pub returns-in-Nullable-clause-found : goal.returns-in-Nullable-clause-found
-returns-in-Nullable-clause-found c =
-    let queue = c.in_ok-put.ensures ∙ ap (λ queue. with_entry queue (c.args.root, (0, 0))) c.new-queue.ensures in
-    let is = ap (λ queue. regex_of queue 0) queue in
-    let L = first_language c.args.arena.now c.put.new.self in
-    let f = subst (IsStop c.walk.new.arena L c.walk.new.queue c.args.bound) c.in-Nullable.is c.in_ok-stop.ensures.stop
-    in
-    let w = c.in_ok-word-in-Nullable.ensures in
-    subst (λ n. IsShortestLeast (language (regex_at c.args.arena.now n)) c.in_ok-word-in-Nullable.word) is
-    (found_is c.nullable_has_empty_word.ensures c.walk.new.arena L c.walk.new.queue c.in-Nullable.place f _ w.word
-    w.along)
+pub returns-clause-found : goal.returns-clause-found
+returns-clause-found c =
+    let L = language (regex_at c.strongest.new.arena c.in_ok-start.start) in
+    let M = language (regex_at c.args.arena.now c.args.root) in
+    IfOk-weaker c.find_from.result (IsOutcome L) (IsOutcome M) (outcome_same L M c.in_ok-start.ensures.same)
+    c.find_from.ensures.found
 
-pub returns-in-End-clause-found : goal.returns-in-End-clause-found
-returns-in-End-clause-found c =
-    let queue = c.in_ok-put.ensures ∙ ap (λ queue. with_entry queue (c.args.root, (0, 0))) c.new-queue.ensures in
-    let is = ap (λ queue. regex_of queue 0) queue in
-    let L = first_language c.args.arena.now c.put.new.self in
-    let f = subst (IsStop c.walk.new.arena L c.walk.new.queue c.args.bound) c.in-End.is c.in_ok-stop.ensures.stop in
-    subst (λ n. HasNoWord (language (regex_at c.args.arena.now n))) is
-    (whole_is c.nullable_has_empty_word.ensures c.walk.new.arena L c.walk.new.queue f)
+pub returns-clause-bound : goal.returns-clause-bound
+returns-clause-bound c =
+    let rs = c.find_from.new.arena in
+    let L = language (regex_at c.strongest.new.arena c.in_ok-start.start) in
+    let M = language (regex_at c.args.arena.now c.args.root) in
+    IfOk-weaker c.find_from.result (MeetsBound rs L c.args.bound) (MeetsBound rs M c.args.bound)
+    (bound_same L M c.in_ok-start.ensures.same rs c.args.bound) c.find_from.ensures.bound
+
+pub returns-clause-extends : goal.returns-clause-extends
+returns-clause-extends c =
+    extends_more c.args.arena.now c.strongest.new.arena c.find_from.new.arena c.in_ok-start.ensures.extends
+    c.find_from.ensures.extends
