@@ -1,6 +1,7 @@
 """Runs the program, and z3 and cvc5 where they are installed, over the families of scripts, and prints a table: processor
 seconds, peak memory in MB (at least some 10 MB, which is the start of a process from here), and the ratio to the better of
-the other two. A run has 20 seconds."""
+the other two. Then the program with its proof written to a file: processor seconds, how many times those without a proof
+that is, and the proof's MB. A run has 20 seconds."""
 import os
 import resource
 import shutil
@@ -41,14 +42,24 @@ def run(command, path):
     return (seconds if answer else None), used.ru_maxrss / 1000, answer
 
 
+def prove(path, without):
+    """The columns of a run that writes its proof, beside the seconds of one that does not."""
+    with tempfile.NamedTemporaryFile(suffix=".proof") as proof:
+        seconds, _, _ = run([program, "--proof", proof.name], path)
+        size = os.path.getsize(proof.name) / 1e6
+    times = format(seconds / without, ".2f") if seconds is not None and without else "-"
+    return f"{'-' if seconds is None else format(seconds, '.3f'):>11}{times:>8}{size:>9.1f}"
+
+
 families = sys.argv[1:] or list(SIZES)
-print(f"{'family':<18}{'size':>7}" + "".join(f"{name:>12} s{'MB':>8}" for name in solvers) + f"{'ratio':>9}  answer")
+print(f"{'family':<18}{'size':>7}" + "".join(f"{name:>12} s{'MB':>8}" for name in solvers) + f"{'ratio':>9}{'proof s':>11}{'times':>8}{'MB':>9}  answer")
 for family in families:
     for size in SIZES[family]:
         with tempfile.NamedTemporaryFile(suffix=".smt2") as script:
             subprocess.run([sys.executable, os.path.join(here, "families.py"), family, str(size)], stdout=script, check=True)
             script.flush()
             rows = {name: run(command, script.name) for name, command in solvers.items()}
+            proved = prove(script.name, rows["strsolve"][0])
         answers = {answer for _, _, answer in rows.values() if answer}
         line = f"{family:<18}{size:>7}"
         for seconds, memory, answer in rows.values():
@@ -56,6 +67,6 @@ for family in families:
         others = [rows[name][0] for name in rows if name != "strsolve" and rows[name][0] is not None]
         mine = rows["strsolve"][0]
         ratio = format(mine / min(others), ".2f") if others and mine is not None else "-"
-        print(line + f"{ratio:>9}  {'/'.join(sorted(answers)) or 'none'}", flush=True)
+        print(line + f"{ratio:>9}{proved}  {'/'.join(sorted(answers)) or 'none'}", flush=True)
         if len(answers) > 1:
             sys.exit("the answers differ")

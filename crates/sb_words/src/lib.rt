@@ -83,7 +83,7 @@ fn strsolve<'a>(alloc: Global) -> Result<Command<'a>, AllocError>
     let proof = Arg::new(alloc, "proof")
         .long("proof")
         .value_name("FILE")
-        .help("The file that takes the proof; it is created, and holds nothing yet");
+        .help("The file that takes a proof of the answers; what it held is lost");
     let script = Arg::new(alloc, "script")
         .value_name("SCRIPT")
         .help("The file that holds the script [standard input]");
