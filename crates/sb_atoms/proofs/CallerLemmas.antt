@@ -6,6 +6,8 @@ use Rattle.sb_regex.specs.Numbered as regex
 use Rattle.sb_regex.proofs.CallerLemmas.{at_kept, long_kept}
 use Rattle.sb_rulebook.specs.Atoms.{AtomOver, bool_atom, in_atom, le_atom, sum_atom, and_atom, iff_atom}
 use Rattle.sb_atoms.specs.Numbered.{Names, over, atoms_in, HasRegexBelow, HaveRegexesBelow}
+-- atoms over an arena are one where their numbers are
+pub use Rattle.sb_atoms.proofs.Translating.{over_one}
 
 pub no_atoms : (n : ℕ) → HaveRegexesBelow n []
 no_atoms n i a h = absurd (nothing i a h)

@@ -58,7 +58,7 @@ and_part ls ms e = cc
 iff_parts : (l m k n : Lit) → ◌≡◌ {A = Atom} (iff_atom l m) (iff_atom k n) → (l ≡ k) × (m ≡ n)
 iff_parts l m k n e = (cc, cc)
 
-over_one : (rs : List Regex) (a b : AtomOver ℕ) → regex.AreDistinct rs → HasRegexBelow (length rs) a
+pub over_one : (rs : List Regex) (a b : AtomOver ℕ) → regex.AreDistinct rs → HasRegexBelow (length rs) a
     → HasRegexBelow (length rs) b → over rs a ≡ over rs b → a ≡ b
 over_one rs (bool_atom s) (bool_atom t) once p q e = ap bool_atom (bool_part s t e)
 over_one rs (in_atom ps r) (in_atom qs s) once p q e =

@@ -1,0 +1,4 @@
+pub mod Between
+pub mod Counts
+pub mod Deciding
+pub mod Gathered

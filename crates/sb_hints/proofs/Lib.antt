@@ -1,0 +1,4 @@
+mod Storage
+mod Searching
+mod Upkeep
+mod Steps

@@ -1,0 +1,5 @@
+pub mod Storing
+pub mod Listing
+pub mod Keeping
+pub mod Judging
+pub mod Following

@@ -1,0 +1,16 @@
+//! The part of a checker of proofs that keeps clauses by number, and judges learned clauses by their hints.
+//!
+//! A [`KeptClauses`] is seen by contracts as the list of what stands at each number, and its answers are those of the
+//! definitions in `sb_lit`. The one idea is that each clause is listed under one of its literals, the one with the
+//! fewest clauses so far, so that a kept part of a clause is looked for under the clause's own literals alone. Nothing
+//! here knows what an atom stands for, nor how a proof is written down; the layers above bring numbers and signs.
+#![tactic(auto)]
+
+mod clauses;
+mod judge;
+mod lists;
+mod rows;
+mod sets;
+
+pub use clauses::KeptClauses;
+pub use judge::{NotLearned, are_ascending};

@@ -1,0 +1,239 @@
+-- What is known of assertions, one after the other, and as the state grows.
+use Rattle.std.proofs.Common.{◌≡◌, ℕ, zero, suc, ◌+◌, ◌<◌, ◌≤◌, Bool, true, false, ◌&&◌, List, [], ◌∷◌, ◌++◌, length, map, take, get_or, refl, sym, ap, ap₂, subst, ◌∙◌, arith, Option, Some, None, IfSome, slice_get, length-append}
+use Rattle.std.specs.List.{All, list_all}
+use Rattle.std.proofs.lemmas.Bool.{and_parts, and_from, false≢true}
+use Rattle.std.proofs.lemmas.List.{take_more, take_all, take-map, take-append-le, map-append, length-map}
+use Rattle.std.proofs.lemmas.List.Elements.{All-take, All-head, All-tail, All-nil}
+use Rattle.std.proofs.lemmas.List.Folds.{list_all-append}
+use Rattle.sb_meaning.specs.Terms.{Term}
+use Rattle.sb_meaning.specs.Values.{Valuation}
+use Rattle.sb_meaning.specs.Truth.{holds}
+use Rattle.sb_script.specs.State.{Assertion, asserted, live}
+use Rattle.sb_script.specs.Fragment.{in_fragment, is_inside, fits}
+use Rattle.sb_term.specs.declared.assertion.Assertion as code
+use Rattle.sb_term.specs.Numbered.{term_at, Extends}
+use Rattle.sb_term.proofs.CallerLemmas.{at_kept, long_kept}
+use Rattle.sb_fragment.specs.Rules.{is_decided, FragmentIsOfEach}
+use Rattle.sb_eval.specs.Given.{GivesWords}
+use Rattle.sb_stack.specs.Stacked.{Stacked, state_of, assertion_in, assertion_of, HasNumberBelow, IsLonger}
+use Rattle.sb_models.specs.declared.models.Models.{Models}
+use Rattle.sb_models.specs.Knowing.{Knows, IsTruthBy, is_true_under}
+use Rattle.sb_models.specs.Tried.{IsOfSame, MayPass}
+use Rattle.sb_models.proofs.Passing.{all_at}
+
+and_false : (b : Bool) → (b && false) ≡ false
+and_false true = refl
+and_false false = refl
+
+-- a test of the assertions as far as one place more
+pub further : (test : Assertion → Bool) (ts : List Term) (xs : List code.Assertion) (i : ℕ) (x : code.Assertion)
+    → i < length xs → x ≡ get_or xs i x → list_all test (map (assertion_in ts) (take (i + 1) xs))
+    ≡ (list_all test (map (assertion_in ts) (take i xs)) && test (assertion_in ts x))
+further test ts xs i x low is =
+    ap (λ ys. list_all test (map (assertion_in ts) ys)) (take_more xs i x low ∙ ap (λ y. take i xs ++ y ∷ []) (sym is))
+    ∙ (ap (list_all test) (map-append (assertion_in ts) (take i xs) (x ∷ []))
+    ∙ (list_all-append test (map (assertion_in ts) (take i xs)) (assertion_in ts x ∷ [])
+    ∙ ap (λ b. list_all test (map (assertion_in ts) (take i xs)) && b) (last (test (assertion_in ts x)))))
+  where
+    last : (b : Bool) → (b && true) ≡ b
+    last true = refl
+    last false = refl
+
+pub one_more : (test : Assertion → Bool) (ts : List Term) (xs : List code.Assertion) (i : ℕ) (x : code.Assertion)
+    → i < length xs → x ≡ get_or xs i x → list_all test (map (assertion_in ts) (take i xs)) ≡ true →
+    test (assertion_in ts x) ≡ true → list_all test (map (assertion_in ts) (take (i + 1) xs)) ≡ true
+one_more test ts xs i x low is before here =
+    further test ts xs i x low is ∙ and_from _ (test (assertion_in ts x)) before here
+
+-- one assertion for which the test fails
+pub one_fails : (test : Assertion → Bool) (ts : List Term) (xs : List code.Assertion) (i : ℕ) (x : code.Assertion)
+    → i < length xs → x ≡ get_or xs i x → test (assertion_in ts x) ≡ false →
+    list_all test (map (assertion_in ts) xs) ≡ false
+one_fails test ts [] i x low is h = absurd (omega arith)
+one_fails test ts (y ∷ xs) zero x low is h = rw (← is) (rw h refl)
+one_fails test ts (y ∷ xs) (suc i) x low is h =
+    ap (λ b. test (assertion_in ts y) && b) (one_fails test ts xs i x (omega arith) is h)
+    ∙ and_false (test (assertion_in ts y))
+
+pub there : (ts : List Term) (xs : List code.Assertion) (i : ℕ) (x : code.Assertion) → i < length xs
+    → x ≡ get_or xs i x → slice_get (map (assertion_in ts) xs) i ≡ Some (assertion_in ts x)
+there ts [] i x low is = absurd (omega arith)
+there ts (y ∷ xs) zero x low is = ap (λ z. Some (assertion_in ts z)) (sym is)
+there ts (y ∷ xs) (suc i) x low is = there ts xs i x (omega arith) is
+
+-- Nothing is known.
+pub knows_none : (m : Models) (stack : Stacked) → m.inside ≡ 0 → m.held ≡ 0 → Knows m stack
+knows_none m stack inside held = record {
+  front = omega (arith, inside);
+  numbers = rw inside (All-nil (HasNumberBelow (length stack.table)));
+  decided = rw inside refl;
+  held_front = omega (arith, inside, held);
+  held = rw held (λ v g. refl);
+}
+
+-- one more is a decided one
+pub knows_more : (m : Models) (stack : Stacked) (x : code.Assertion) → Knows m stack
+    → m.inside < length stack.assertions
+    → All (HasNumberBelow (length stack.table)) stack.assertions → x ≡ get_or stack.assertions m.inside x
+    → is_decided (assertion_in stack.table x) ≡ true → Knows (record m { inside = m.inside + 1 }) stack
+knows_more m stack x k low numbers is here = record {
+  front = omega arith;
+  numbers = All-take (HasNumberBelow (length stack.table)) (m.inside + 1) stack.assertions numbers;
+  decided = taken_map (m.inside + 1)
+      ∙ one_more is_decided stack.table stack.assertions m.inside x low is (sym (taken_map m.inside) ∙ k.decided) here;
+  held_front = omega (arith, k.held_front);
+  held = k.held;
+}
+  where
+    taken_map : (n : ℕ) → list_all is_decided (take n (map (assertion_in stack.table) stack.assertions))
+        ≡ list_all is_decided (map (assertion_in stack.table) (take n stack.assertions))
+    taken_map n = ap (list_all is_decided) (take-map (assertion_in stack.table) n stack.assertions)
+
+pub all_inside : (m : Models) (stack : Stacked) → Knows m stack → length stack.assertions ≤ m.inside
+    → list_all is_decided (live (state_of stack)) ≡ true
+all_inside m stack k long =
+    let whole : take m.inside (live (state_of stack)) ≡ live (state_of stack) =
+    take_all m.inside (map (assertion_in stack.table) stack.assertions)
+    (omega (arith, length-map stack.assertions (assertion_in stack.table))) in
+    ap (list_all is_decided) (sym whole) ∙ k.decided
+
+-- a model was found
+pub knows_model : (m : Models) (stack : Stacked) → m.inside ≡ length stack.assertions → m.held ≡ m.inside
+    → All (HasNumberBelow (length stack.table)) stack.assertions
+    → list_all is_decided (live (state_of stack)) ≡ true
+    → IsTruthBy m.words.items (live (state_of stack)) true → Knows m stack
+knows_model m stack inside held numbers decided true_by =
+    let whole : take m.inside (live (state_of stack)) ≡ live (state_of stack) =
+    take_all m.inside (map (assertion_in stack.table) stack.assertions)
+    (omega (arith, inside, length-map stack.assertions (assertion_in stack.table))) in
+    record {
+      front = omega (arith, inside);
+      numbers = All-take (HasNumberBelow (length stack.table)) m.inside stack.assertions numbers;
+      decided = ap (list_all is_decided) whole ∙ decided;
+      held_front = omega (arith, held);
+      held = rw (held, whole) true_by;
+    }
+
+-- The table and the assertions grow.
+
+same_front : (old new : List Term) (xs : List code.Assertion) → Extends old new → All (HasNumberBelow (length old)) xs
+    → map (assertion_in new) xs ≡ map (assertion_in old) xs
+same_front old new [] e h = refl
+same_front old new (x ∷ xs) e h =
+    let rest = same_front old new xs e (All-tail (HasNumberBelow (length old)) x xs h) in
+    rw rest (ap (λ a. a ∷ map (assertion_in old) xs)
+    (one x.term (All-head (HasNumberBelow (length old)) x xs h)))
+  where
+    one : (o : Option ℕ) → IfSome o (λ id. id < length old) → assertion_of new o ≡ assertion_of old o
+    one None l = refl
+    one (Some id) l = ap asserted (at_kept old new id e l)
+
+number_more : (m n : ℕ) → m ≤ n → (o : Option ℕ) → IfSome o (λ id. id < m) → IfSome o (λ id. id < n)
+number_more m n l None h = tt
+number_more m n l (Some id) h = omega (arith, l, h)
+
+-- the first so many live assertions are what they were
+front_kept : (old new : Stacked) (n held : ℕ) → Extends old.table new.table → IsLonger old.assertions new.assertions
+    → n ≤ length old.assertions → All (HasNumberBelow (length old.table)) (take n old.assertions) → held ≤ n
+    → take held (live (state_of new)) ≡ take held (live (state_of old))
+front_kept old new n held e longer low numbers few =
+    take-map (assertion_in new.table) held new.assertions
+    ∙ (ap (map (assertion_in new.table)) (ap (take held) longer.1
+    ∙ take-append-le held old.assertions longer.0 (omega (arith, low, few)))
+    ∙ (same_front old.table new.table (take held old.assertions) e first
+    ∙ sym (take-map (assertion_in old.table) held old.assertions)))
+  where
+    shorter : (xs : List code.Assertion) (n held : ℕ) → held ≤ n → take held (take n xs) ≡ take held xs
+    shorter xs n zero l = refl
+    shorter xs zero (suc held) l = absurd (omega arith)
+    shorter [] (suc n) (suc held) l = refl
+    shorter (x ∷ xs) (suc n) (suc held) l = ap (λ ys. x ∷ ys) (shorter xs n held (omega arith))
+
+    first : All (HasNumberBelow (length old.table)) (take held old.assertions)
+    first = subst (All (HasNumberBelow (length old.table))) (shorter old.assertions n held few)
+        (All-take (HasNumberBelow (length old.table)) held (take n old.assertions) numbers)
+
+pub models_stay : (m : Models) (old new : Stacked) → Extends old.table new.table
+    → IsLonger old.assertions new.assertions → Knows m old → Knows m new
+models_stay m old new e longer k = record {
+  front = omega (arith, k.front, ap length longer.1, length-append old.assertions longer.0);
+  numbers = rw front (λ i d l. number_more (length old.table) (length new.table) (long_kept old.table new.table e)
+      (get_or (take m.inside old.assertions) i d).term (k.numbers i d l));
+  decided = ap (list_all is_decided)
+      (front_kept old new m.inside m.inside e longer k.front k.numbers (omega arith)) ∙ k.decided;
+  held = rw (front_kept old new m.inside m.held e longer k.front k.numbers k.held_front) k.held;
+  held_front = k.held_front;
+}
+  where
+    front : take m.inside new.assertions ≡ take m.inside old.assertions
+    front = ap (take m.inside) longer.1 ∙ take-append-le m.inside old.assertions longer.0 k.front
+
+-- What a loop over the assertions finds.
+
+pub is_outside : FragmentIsOfEach → (stack : Stacked) (ts : List Term) (xs : List code.Assertion) (i : ℕ)
+    (x : code.Assertion) (b : Bool) → ts ≡ stack.table → xs ≡ stack.assertions → i < length xs → x ≡ get_or xs i x →
+    b ≡ is_decided (assertion_in ts x) → b ≡ false → false ≡ in_fragment (state_of stack)
+is_outside each stack ts xs i x b table assertions low is test none =
+    sym (each (state_of stack)
+    ∙ (sym (ap₂ (λ us ys. list_all is_decided (map (assertion_in us) ys)) table assertions)
+    ∙ one_fails is_decided ts xs i x low is (sym test ∙ none)))
+
+pub knows_next : (m : Models) (stack : Stacked) (ts : List Term) (xs : List code.Assertion) (x : code.Assertion)
+    (b : Bool) → ts ≡ stack.table → xs ≡ stack.assertions → Knows m stack → m.inside < length xs →
+    All (HasNumberBelow (length stack.table)) stack.assertions → x ≡ get_or xs m.inside x →
+    b ≡ is_decided (assertion_in ts x) → b ≡ true → Knows (record m { inside = m.inside + 1 }) stack
+knows_next m stack ts xs x b table assertions k low numbers is test some =
+    knows_more m stack x k (subst (λ ys. m.inside < length ys) assertions low) numbers
+    (subst (λ ys. x ≡ get_or ys m.inside x) assertions is)
+    (ap (λ us. is_decided (assertion_in us x)) (sym table) ∙ (sym test ∙ some))
+
+-- a mark is no decided one
+pub no_mark : (ts : List Term) (xs : List code.Assertion) (i : ℕ) (x : code.Assertion) → i < length xs
+    → x ≡ get_or xs i x → x.term ≡ None → list_all is_decided (map (assertion_in ts) xs) ≡ true → ⊥
+no_mark ts xs i x low is none decided =
+    false≢true (sym (one_fails is_decided ts xs i x low is (ap (λ o. is_decided (assertion_of ts o)) none)) ∙ decided)
+
+-- each assertion is a decided one
+pub decided_at : (ts : List Term) (xs : List code.Assertion) (i : ℕ) (x : code.Assertion) (id : ℕ) → i < length xs
+    → x ≡ get_or xs i x → x.term ≡ Some id → list_all is_decided (map (assertion_in ts) xs) ≡ true →
+    is_decided (asserted (term_at ts id)) ≡ true
+decided_at ts xs i x id low is some decided =
+    ap (λ o. is_decided (assertion_of ts o)) (sym some)
+    ∙ all_at is_decided (map (assertion_in ts) xs) i (assertion_in ts x) decided (there ts xs i x low is)
+
+pub inside_at : (ts : List Term) (xs : List code.Assertion) (i : ℕ) (x : code.Assertion) (id : ℕ) → i < length xs
+    → x ≡ get_or xs i x → x.term ≡ Some id → list_all is_decided (map (assertion_in ts) xs) ≡ true →
+    is_inside (asserted (term_at ts id)) ≡ true
+inside_at ts xs i x id low is some decided =
+    (and_parts (is_inside (asserted (term_at ts id))) (fits (term_at ts id))
+    (decided_at ts xs i x id low is some decided)).0
+
+pub true_more : (words : List (List ℕ)) (ts : List Term) (xs : List code.Assertion) (i : ℕ) (x : code.Assertion)
+    (id : ℕ) → i < length xs → x ≡ get_or xs i x → x.term ≡ Some id →
+    ((v : Valuation) → GivesWords words v → true ≡ holds (term_at ts id) v) →
+    IsTruthBy words (map (assertion_in ts) (take i xs)) true →
+    IsTruthBy words (map (assertion_in ts) (take (i + 1) xs)) true
+true_more words ts xs i x id low is some here before v gives =
+    sym (one_more (is_true_under v) ts xs i x low is (sym (before v gives))
+    (ap (λ o. is_true_under v (assertion_of ts o)) some ∙ sym (here v gives)))
+
+pub false_at : (words : List (List ℕ)) (ts : List Term) (xs : List code.Assertion) (i : ℕ) (x : code.Assertion)
+    (id : ℕ) → i < length xs → x ≡ get_or xs i x → x.term ≡ Some id →
+    ((v : Valuation) → GivesWords words v → false ≡ holds (term_at ts id) v) →
+    IsTruthBy words (map (assertion_in ts) xs) false
+false_at words ts xs i x id low is some here v gives =
+    sym (one_fails (is_true_under v) ts xs i x low is
+    (ap (λ o. is_true_under v (assertion_of ts o)) some ∙ sym (here v gives)))
+
+-- what is passed over is true
+pub passed : (words : List (List ℕ)) (same : List Bool) (held : ℕ) (ts : List Term) (xs : List code.Assertion) (i : ℕ)
+    (x : code.Assertion) (id : ℕ) → i < length xs → x ≡ get_or xs i x → x.term ≡ Some id → i < held →
+    IsOfSame same (term_at ts id) → MayPass words same held (map (assertion_in ts) xs) →
+    (v : Valuation) → GivesWords words v → true ≡ holds (term_at ts id) v
+passed words same held ts xs i x id low is some few member pass v gives =
+    sym (pass i (term_at ts id) few (there ts xs i x low is ∙ ap (λ o. Some (assertion_of ts o)) some) member v gives)
+
+pub true_all : (words : List (List ℕ)) (ts : List Term) (xs : List code.Assertion) (i : ℕ) → length xs ≤ i
+    → IsTruthBy words (map (assertion_in ts) (take i xs)) true → IsTruthBy words (map (assertion_in ts) xs) true
+true_all words ts xs i long h v gives =
+    h v gives ∙ ap (λ ys. list_all (is_true_under v) (map (assertion_in ts) ys)) (take_all i xs long)

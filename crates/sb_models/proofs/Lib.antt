@@ -1,0 +1,4 @@
+pub mod ValueFacts
+pub mod Judging
+pub mod Passing
+pub mod Knowledge

@@ -1,0 +1,15 @@
+//! Models of the live assertions of a script, as a checker of proofs asks for them: whether all of these are decided
+//! ones, and whether values make all of them true.
+//!
+//! [`Models`] keeps what it knows from one check to the next: how many of the assertions are decided ones, and how many
+//! are true under the words of the last model. So a check looks at the assertions that are new, and of the others at
+//! those whose constant has another word. The layer above asks it before it takes a verdict of `sat`.
+#![tactic(auto)]
+
+mod laws;
+mod models;
+mod trying;
+mod words;
+
+pub use laws::models_stay;
+pub use models::Models;

@@ -1,0 +1,98 @@
+//! Assertions under words.
+
+ghost use Rattle.std.specs.Prelude.{◌≡◌, ◌<◌, true, length, IfOk};
+ghost use Rattle.std.specs.List.{list_all};
+ghost use Rattle.sb_regex.specs.Numbered.{Extends};
+ghost use Rattle.sb_term.specs.Numbered.{term_at};
+ghost use Rattle.sb_problem.specs.Known.{AreNormals};
+ghost use Rattle.sb_plain.specs.Memory.{IsRight};
+ghost use Rattle.sb_script.specs.State.{live};
+ghost use Rattle.sb_fragment.specs.Rules.{is_decided};
+ghost use Rattle.sb_fragment.specs.Measures.{AreMeasures};
+ghost use Rattle.sb_stack.specs.Stacked.{state_of, assertion_in, HasNumberBelow};
+ghost use Rattle.sb_models.specs.Knowing.{IsTruthBy};
+ghost use Rattle.sb_models.specs.Tried.{IsOfSame, MayPass};
+
+use sb_eval::eval;
+use sb_fragment::{Measures, membership};
+use sb_plain::Plain;
+use sb_problem::Normals;
+use sb_regex::Arena;
+use sb_stack::Stack;
+use sb_term::{Assertion, Table, TermId};
+use sb_word::Word;
+use std::alloc::AllocError;
+
+/// Whether an assertion is a decided one.
+pub(crate) fn fits(
+    measures: &mut Measures,
+    table: &Table,
+    assertion: Assertion,
+) -> Result<bool, AllocError>
+    requires number { HasNumberBelow (length table.now) assertion }
+    requires right { AreMeasures table.now measures.old }
+    ensures ok { IfOk result (λ decided. decided ≡ is_decided (assertion_in table.now assertion)) }
+    ensures right { AreMeasures table.now measures.new }
+{
+    match assertion.term {
+        Some(id) => measures.fits(table, id),
+        None => Ok(false),
+    }
+}
+
+/// Whether the term is the membership of a constant whose word is said to be the same.
+fn is_of_same(table: &Table, id: TermId, same: &[bool]) -> bool
+    requires { id < length table.now }
+    ensures { result ≡ true → IsOfSame same.now (term_at table.now id) }
+{
+    let Some((serial, _)) = membership(table, id) else {
+        return false;
+    };
+    match same.get(serial.0 as usize) {
+        Some(same) => *same,
+        None => false,
+    }
+}
+
+/// Whether the term, of the assertion at a place, is of such a constant, and among the first so many.
+fn may_pass(table: &Table, id: TermId, place: usize, same: &[bool], held: usize) -> bool
+    requires { id < length table.now }
+    ensures { result ≡ true → (place < held) × IsOfSame same.now (term_at table.now id) }
+{
+    place < held && is_of_same(table, id, same)
+}
+
+/// Whether all live assertions are true under words, where those of the first so many are whose constant has the same
+/// word as before.
+pub(crate) fn all_hold(
+    plain: &mut Plain,
+    normals: &mut Normals,
+    arena: &mut Arena,
+    stack: &Stack,
+    words: &[Word],
+    same: &[bool],
+    held: usize,
+) -> Result<bool, AllocError>
+    requires decided { list_all is_decided (live (state_of stack.now)) ≡ true }
+    requires pass { MayPass words.now same.now held (live (state_of stack.now)) }
+    requires normals { AreNormals stack.now.table arena.old normals.old }
+    requires right { IsRight arena.old plain.old }
+    ensures ok { IfOk result (IsTruthBy words.now (live (state_of stack.now))) }
+    ensures extends { Extends arena.old arena.new }
+    ensures normals { AreNormals stack.now.table arena.new normals.new }
+    ensures right { IsRight arena.new plain.new }
+{
+    let table = stack.table();
+    for (place, assertion) in stack.assertions().iter().enumerate() {
+        let Some(id) = assertion.term else {
+            return Ok(false);
+        };
+        if may_pass(table, id, place, same, held) {
+            continue;
+        }
+        if !eval(plain, normals, arena, table, id, words)? {
+            return Ok(false);
+        }
+    }
+    Ok(true)
+}

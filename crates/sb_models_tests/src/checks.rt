@@ -1,0 +1,239 @@
+//! What is found of values, from one check to the next.
+
+ghost use Rattle.std.specs.Prelude.{◌≡◌, false};
+ghost use Rattle.sb_stack.specs.Stacked.{Stacked};
+ghost use Rattle.sb_models_tests.specs.Ready.{IsReady, Stays};
+
+use sb_fragment::Measures;
+use sb_models::{Models, models_stay};
+use sb_plain::Plain;
+use sb_problem::{Normals, normals_stay};
+use sb_proof::Value;
+use sb_reader::{Feed, Next};
+use sb_regex::Arena;
+use sb_stack::Stack;
+use std::alloc::{AllocError, Global};
+use std::process::Abort;
+use std::test::Fail;
+
+/// A value in the table.
+#[derive(Clone, Copy)]
+enum Given {
+    /// A text of these letters.
+    Text(&'static [u8]),
+    /// A text of one number.
+    Number(u64),
+    Int,
+    Truth,
+}
+
+/// More of a script, the values of a check, and whether they are a model; none where the check is outside.
+type Check = (&'static [u8], &'static [Given], Option<bool>);
+
+const ONE: &[u8] = b"(declare-const x String) (assert (str.in_re x (re.+ (str.to_re \"a\"))))";
+
+const TWO: &[u8] =
+    b"(declare-const x String) (declare-const y String) (assert (str.in_re x (re.+ (re.range \"a\" \"c\")))) (assert (str.in_re y (re.* (str.to_re \"b\"))))";
+
+/// Scripts with their checks.
+const SCRIPTS: &[&[Check]] = &[
+    &[
+        (ONE, &[Given::Text(b"a")], Some(true)),
+        (b"", &[Given::Text(b"")], Some(false)),
+        (b"", &[], Some(false)),
+        (b"", &[Given::Text(b"a"), Given::Text(b"a")], Some(false)),
+        (b"", &[Given::Int], Some(false)),
+        (b"", &[Given::Truth], Some(false)),
+        (b"", &[Given::Text(b"ab")], Some(false)),
+        (b"", &[Given::Text(b"aaa")], Some(true)),
+    ],
+    &[
+        (TWO, &[Given::Text(b"a"), Given::Text(b"b")], Some(true)),
+        (b"", &[Given::Text(b"d"), Given::Text(b"b")], Some(false)),
+        (b"", &[Given::Text(b"a"), Given::Text(b"c")], Some(false)),
+        (
+            b"(assert (str.in_re y (re.+ (str.to_re \"b\"))))",
+            &[Given::Text(b"a"), Given::Text(b"")],
+            Some(false),
+        ),
+        (b"", &[Given::Text(b"ab"), Given::Text(b"bb")], Some(true)),
+        (b"", &[Given::Text(b"ab"), Given::Text(b"")], Some(false)),
+        (
+            b"(assert (str.in_re x (re.range \"a\" \"b\")))",
+            &[Given::Text(b"ab"), Given::Text(b"bb")],
+            Some(false),
+        ),
+        (b"", &[Given::Text(b"b"), Given::Text(b"bb")], Some(true)),
+    ],
+    &[
+        (
+            b"(declare-const x String)",
+            &[Given::Number(0x2ffff)],
+            Some(true),
+        ),
+        (b"", &[Given::Number(0x30000)], Some(false)),
+        (b"", &[Given::Number(0x1_0000_0061)], Some(false)),
+    ],
+    &[
+        (ONE, &[Given::Text(b"a")], Some(true)),
+        (b"(assert (not true))", &[Given::Text(b"a")], None),
+        (b"", &[Given::Text(b"a")], None),
+    ],
+    &[
+        (b"", &[], Some(true)),
+        (b"", &[Given::Text(b"")], Some(false)),
+    ],
+];
+
+/// What a checker keeps.
+#[derive(Drop)]
+struct Checker {
+    models: Models,
+    measures: Measures,
+    plain: Plain,
+    normals: Normals,
+    arena: Arena,
+}
+
+fn new_checker(alloc: Global) -> Checker
+    ensures { (stack : Stacked) → IsReady result stack }
+{
+    Checker {
+        models: Models::new(alloc),
+        measures: Measures::new(alloc),
+        plain: Plain::new(alloc),
+        normals: Normals::new(alloc),
+        arena: Arena::new(alloc),
+    }
+}
+
+fn text_of(alloc: Global, letters: &[u8]) -> Result<Value, AllocError> {
+    let mut codes = Vec::new(alloc);
+    for letter in letters {
+        codes.push(*letter as u64)?;
+    }
+    Ok(Value::Text(codes))
+}
+
+fn value_of(alloc: Global, given: Given) -> Result<Value, AllocError> {
+    match given {
+        Given::Text(letters) => text_of(alloc, letters),
+        Given::Number(number) => Ok(Value::Text(Vec::from_slice(alloc, &[number])?)),
+        Given::Int => Ok(Value::Int(0)),
+        Given::Truth => Ok(Value::Truth(true)),
+    }
+}
+
+fn put(values: &mut Vec<Value>, value: Value) -> Result<(), AllocError> {
+    values.push(value)?;
+    Ok(())
+}
+
+fn put_all(alloc: Global, values: &mut Vec<Value>, given: &[Given]) -> Result<(), AllocError> {
+    for one in given {
+        put(values, value_of(alloc, *one)?)?;
+    }
+    Ok(())
+}
+
+/// Takes the next entry, if there is one.
+fn take_next(feed: &mut Feed, stack: &mut Stack) -> Result<(), AllocError>
+    ensures { Stays stack.old stack.new }
+{
+    models_stay();
+    normals_stay();
+    let next = feed.next()?;
+    if let Next::NotYet | Next::Ended(_) = next {
+        return Ok(());
+    }
+    stack.apply(&next)?;
+    Ok(())
+}
+
+/// Takes the entries of a script.
+fn take(feed: &mut Feed, stack: &mut Stack, script: &[u8]) -> Result<(), AllocError>
+    requires { feed.old.1 ≡ false }
+    ensures { Stays stack.old stack.new }
+{
+    feed.push(script)?;
+    feed.finish();
+    for _ in 0..6 {
+        take_next(feed, stack)?;
+    }
+    Ok(())
+}
+
+/// Whether values are a model, none where the check is outside.
+fn found(
+    alloc: Global,
+    checker: &mut Checker,
+    stack: &Stack,
+    values: &[Value],
+) -> Result<Option<bool>, AllocError>
+    requires { IsReady checker.old stack.now }
+    ensures { IsReady checker.new stack.now }
+{
+    if !checker.models.is_inside(&mut checker.measures, stack)? {
+        return Ok(None);
+    }
+    let model = checker.models.is_model(
+        alloc,
+        &mut checker.plain,
+        &mut checker.normals,
+        &mut checker.arena,
+        stack,
+        values,
+    )?;
+    Ok(Some(model))
+}
+
+/// What one check finds, after more of the script.
+fn check(
+    alloc: Global,
+    checker: &mut Checker,
+    stack: &mut Stack,
+    more: &[u8],
+    given: &[Given],
+) -> Result<Option<bool>, AllocError>
+    requires { IsReady checker.old stack.old }
+    ensures { IsReady checker.new stack.new }
+{
+    take(&mut Feed::new(alloc), stack, more)?;
+    let mut values = Vec::new(alloc);
+    put_all(alloc, &mut values, given)?;
+    found(alloc, checker, stack, &values)
+}
+
+fn expect_checks(
+    rt: &impl Abort,
+    alloc: Global,
+    checker: &mut Checker,
+    stack: &mut Stack,
+    checks: &[Check],
+) -> Result<(), AllocError>
+    requires { IsReady checker.old stack.old }
+{
+    for (more, given, wanted) in checks {
+        let found = check(alloc, checker, stack, more, given)?;
+        assert!(rt; found == *wanted, "at {more:?}");
+    }
+    Ok(())
+}
+
+fn expect_script(rt: &impl Abort, alloc: Global, checks: &[Check]) -> Result<(), AllocError> {
+    expect_checks(
+        rt,
+        alloc,
+        &mut new_checker(alloc),
+        &mut Stack::new(alloc),
+        checks,
+    )
+}
+
+#[test]
+fn values_are_models_or_not(rt: HostRuntime) -> Result<(), Fail> {
+    for checks in SCRIPTS {
+        expect_script(&rt, rt.alloc(), checks)?;
+    }
+    Ok(())
+}

@@ -1,0 +1,3 @@
+mod SimpleTerms
+mod ReachedCommands
+mod SimpleSteps

@@ -1,0 +1,378 @@
+-- Each term that is read is simple where it is a truth value, a String constant or a word where it is a text, and over
+-- literals or with a constant in it where it is a regular expression.
+use Rattle.std.proofs.Common.{◌≡◌, ℕ, Bool, true, false, not, ◌&&◌, ◌||◌, ◌==◌, nat_le, if◌then◌else◌, List, [], ◌∷◌, map, length, codes, Option, Some, None, Result, Ok, Err, refl, sym, ap, ◌∙◌, subst}
+use Rattle.std.specs.Prelude.{filter}
+use Rattle.std.specs.List.{list_all}
+use Rattle.std.proofs.lemmas.Bool.{and_parts, and_from, false≢true}
+use Rattle.sb_word.specs.Literals.{is_printable}
+use Rattle.sb_reader.specs.Forms.{Form, Forms, Symbol, QuotedSymbol, Keyword, Numeral, OtherNumber, Words, Group, none, more}
+use Rattle.sb_meaning.specs.Terms.{Sort, boolean, integer, text, reglan, Term, Terms, constant, word, numeral, apply, parameter, no_terms, with_term, terms_of}
+use Rattle.sb_meaning.specs.Terms as symbol
+use Rattle.sb_meaning.specs.Sorts.{sort_of, is_same_sort, are_sorts}
+use Rattle.sb_script.specs.Names.{Name, is_name, is_reserved, begins_term}
+use Rattle.sb_script.specs.Brought.{is_brought_symbol, is_regex, are_regexes}
+use Rattle.sb_script.specs.Pieces.{is_ground, are_ground}
+use Rattle.sb_script.specs.Scopes.{Named, Naming, a_constant, a_definition, a_marked_name, a_term, named}
+use Rattle.sb_script.specs.Symbols.{found_in, symbols_of_theories, is_brought_row, symbol_named, is_left_out}
+use Rattle.sb_script.specs.Faults.{Fault, unknown_symbol, wrong_count, wrong_sort, unsupported, malformed, bad_literal}
+use Rattle.sb_script.specs.Texts.{unquoted, has_backslash, read_text}
+use Rattle.sb_script.specs.Heads.{Head, head_constant, head_symbol, head_definition, head_term, head_of, head_of_theory, without_indices, judged, joined, made, unless, read_head, applied_to, read_indexed}
+use Rattle.sb_script.specs.Reading.{◌>>=◌, read_name, read_index_list, read_reserved, read, read_list, read_all, read_list_head}
+use Rattle.sb_script.specs.ReadingLaws.{if_read}
+use Rattle.sb_script.proofs.CallerLemmas.{same_sort}
+use Rattle.sb_reached.specs.SimpleStates.{is_simple, is_simple_named, is_simple_naming}
+
+-- Tables.
+
+-- what there is passes the test
+abbrev pub if_some : {A : Type 0} → (A → Bool) → Option A → Bool
+if_some test (Some x) = test x
+if_some test None = true
+
+pub some_by : {A : Type 0} (p : A → Bool) (b : Bool) (x y : Option A) → if_some p x ≡ true → if_some p y ≡ true
+    → if_some p (if b then x else y) ≡ true
+some_by p true x y h k = h
+some_by p false x y h k = k
+
+pub found_passes : {A : Type 0} (p : A → Bool) (rows : List (Name × A)) → list_all (λ row. p row.1) rows ≡ true
+    → (name : Name) → if_some p (found_in rows name) ≡ true
+found_passes p [] all name = refl
+found_passes p (row ∷ rows) all name =
+    let parts = and_parts (p row.1) (list_all (λ r. p r.1) rows) all in
+    some_by p (is_name name row.0) (Some row.1) (found_in rows name) parts.0 (found_passes p rows parts.1 name)
+
+-- Terms that may be read.
+
+-- a String constant or a word
+abbrev is_plain_text : Term → Bool
+is_plain_text (constant serial text) = true
+is_plain_text (word w) = true
+is_plain_text _ = false
+
+-- over literals, or with a constant in it
+abbrev is_plain_regex : Term → Bool
+is_plain_regex R = is_regex R || not (is_ground R)
+
+-- what a term of the sort looks like
+abbrev is_shallow_of : Sort → Term → Bool
+is_shallow_of boolean t = is_simple t
+is_shallow_of integer t = false
+is_shallow_of text t = is_plain_text t
+is_shallow_of reglan t = is_plain_regex t
+
+abbrev is_shallow : Term → Bool
+is_shallow t = is_shallow_of (sort_of t) t
+
+shallow_of : (sort : Sort) (t : Term) → is_shallow t ≡ true → is_same_sort sort (sort_of t) ≡ true
+    → is_shallow_of sort t ≡ true
+shallow_of sort t h same = subst (λ (k : Sort). is_shallow_of k t ≡ true) (same_sort sort (sort_of t) same) h
+
+-- Arguments that a symbol takes.
+
+taken_sorts : (count sorts left : Bool)
+    → (if not count then Some wrong_count
+    else if not sorts then Some wrong_sort
+    else if left then Some unsupported
+    else None) ≡ None → sorts ≡ true
+taken_sorts false sorts left h = absurd (Prim.cc (h))
+taken_sorts true true left h = refl
+taken_sorts true false left h = absurd (Prim.cc (h))
+
+-- the test of one argument of this sort
+by_one : (k : Sort) (p : Terms → Bool)
+    → ((t : Term) → is_shallow_of k t ≡ true → p (with_term t no_terms) ≡ true)
+    → (ts : List Term) → list_all is_shallow ts ≡ true → are_sorts (k ∷ []) (map sort_of ts) ≡ true
+    → p (terms_of ts) ≡ true
+by_one k p f [] all taken = absurd (false≢true taken)
+by_one k p f (t ∷ []) all taken =
+    f t (shallow_of k t (and_parts (is_shallow t) true all).0 (and_parts (is_same_sort k (sort_of t)) true taken).0)
+by_one k p f (t ∷ u ∷ us) all taken = absurd (false≢true (and_parts (is_same_sort k (sort_of t)) false taken).1)
+
+-- the test of two arguments of these sorts
+by_two : (k l : Sort) (p : Terms → Bool)
+    → ((t u : Term) → is_shallow_of k t ≡ true → is_shallow_of l u ≡ true
+    → p (with_term t (with_term u no_terms)) ≡ true)
+    → (ts : List Term) → list_all is_shallow ts ≡ true → are_sorts (k ∷ l ∷ []) (map sort_of ts) ≡ true
+    → p (terms_of ts) ≡ true
+by_two k l p f [] all taken = absurd (false≢true taken)
+by_two k l p f (t ∷ ts) all taken =
+    let here = and_parts (is_shallow t) (list_all is_shallow ts) all in
+    let same = and_parts (is_same_sort k (sort_of t)) (are_sorts (l ∷ []) (map sort_of ts)) taken in
+    by_one l (λ terms. p (with_term t terms)) (λ u h. f t u (shallow_of k t here.0 same.0) h) ts here.1 same.1
+
+-- Memberships.
+
+simple_of_text : (t R : Term) → is_plain_text t ≡ true → is_plain_regex R ≡ true
+    → is_simple (apply symbol.str_in_re (with_term t (with_term R no_terms))) ≡ true
+simple_of_text (constant serial text) R h k = k
+simple_of_text (constant serial boolean) R h k = absurd (false≢true h)
+simple_of_text (constant serial integer) R h k = absurd (false≢true h)
+simple_of_text (constant serial reglan) R h k = absurd (false≢true h)
+simple_of_text (word w) R h k = refl
+simple_of_text (numeral n) R h k = absurd (false≢true h)
+simple_of_text (apply s terms) R h k = absurd (false≢true h)
+simple_of_text (parameter place sort) R h k = absurd (false≢true h)
+
+-- Regular expressions.
+
+literal_plain : (t : Term) → is_plain_text t ≡ true
+    → is_plain_regex (apply symbol.str_to_re (with_term t no_terms)) ≡ true
+literal_plain (constant serial text) h = refl
+literal_plain (constant serial boolean) h = absurd (false≢true h)
+literal_plain (constant serial integer) h = absurd (false≢true h)
+literal_plain (constant serial reglan) h = absurd (false≢true h)
+literal_plain (word w) h = refl
+literal_plain (numeral n) h = absurd (false≢true h)
+literal_plain (apply s terms) h = absurd (false≢true h)
+literal_plain (parameter place sort) h = absurd (false≢true h)
+
+range_plain : (t u : Term) → is_plain_text t ≡ true → is_plain_text u ≡ true
+    → is_plain_regex (apply symbol.re_range (with_term t (with_term u no_terms))) ≡ true
+range_plain (word w) (constant serial text) h k = refl
+range_plain (word w) (constant serial boolean) h k = absurd (false≢true k)
+range_plain (word w) (constant serial integer) h k = absurd (false≢true k)
+range_plain (word w) (constant serial reglan) h k = absurd (false≢true k)
+range_plain (word w) (word v) h k = refl
+range_plain (word w) (numeral n) h k = absurd (false≢true k)
+range_plain (word w) (apply s terms) h k = absurd (false≢true k)
+range_plain (word w) (parameter place sort) h k = absurd (false≢true k)
+range_plain (constant serial sort) u h k = refl
+range_plain (numeral n) u h k = absurd (false≢true h)
+range_plain (apply s terms) u h k = absurd (false≢true h)
+range_plain (parameter place sort) u h k = absurd (false≢true h)
+
+-- a symbol that repeats its one argument
+repeated : (R : Term) → is_plain_regex R ≡ true → (is_regex R || not (is_ground R && true)) ≡ true
+repeated R h = step (is_regex R) (is_ground R) h
+  where
+    step : (a b : Bool) → (a || not b) ≡ true → (a || not (b && true)) ≡ true
+    step a true k = k
+    step a false k = k
+
+-- two are over literals, or one of them is not ground
+either_of_both : (a b c d : Bool) → (a || not b) ≡ true → (c || not d) ≡ true → (a && c || not (b && d)) ≡ true
+either_of_both true b true d h k = refl
+either_of_both true true false true h k = k
+either_of_both true true false false h k = refl
+either_of_both true false false d h k = refl
+either_of_both false true c d h k = absurd (false≢true h)
+either_of_both false false c d h k = refl
+
+each_plain : (ts : List Term) → list_all is_shallow ts ≡ true
+    → list_all (is_same_sort reglan) (map sort_of ts) ≡ true
+    → (are_regexes (terms_of ts) || not (are_ground (terms_of ts))) ≡ true
+each_plain [] all taken = refl
+each_plain (t ∷ ts) all taken =
+    let here = and_parts (is_shallow t) (list_all is_shallow ts) all in
+    let same = and_parts (is_same_sort reglan (sort_of t)) (list_all (is_same_sort reglan) (map sort_of ts)) taken in
+    either_of_both (is_regex t) (is_ground t) (are_regexes (terms_of ts)) (are_ground (terms_of ts))
+    (shallow_of reglan t here.0 same.0) (each_plain ts here.1 same.1)
+
+-- of one argument the argument, and of more all of them
+one_or_more : (s : symbol.Symbol)
+    → ((t : Term) (terms : Terms) → (are_regexes (with_term t terms) || not (are_ground (with_term t terms))) ≡ true
+    → is_shallow (apply s (with_term t terms)) ≡ true)
+    → (ts : List Term) → list_all is_shallow ts ≡ true → judged symbol.re_concat (map sort_of ts) ≡ None
+    → is_shallow (joined s ts) ≡ true
+one_or_more s f [] all taken = absurd (Prim.cc (taken))
+one_or_more s f (t ∷ []) all taken = (and_parts (is_shallow t) true all).0
+one_or_more s f (t ∷ u ∷ ts) all taken =
+    f t (terms_of (u ∷ ts))
+    (each_plain (t ∷ u ∷ ts) all
+    (taken_sorts (nat_le 1 (length (map sort_of (t ∷ u ∷ ts))))
+    (list_all (is_same_sort reglan) (map sort_of (t ∷ u ∷ ts))) false taken))
+
+-- Applications.
+
+made_shallow : (s : symbol.Symbol) (ts : List Term) → is_brought_symbol s ≡ true → list_all is_shallow ts ≡ true
+    → judged s (map sort_of ts) ≡ None → is_shallow (made s ts) ≡ true
+made_shallow symbol.str_in_re ts h all taken =
+    by_two text reglan (λ terms. is_simple (apply symbol.str_in_re terms)) simple_of_text ts all
+    (taken_sorts (2 == length (map sort_of ts)) (are_sorts (text ∷ reglan ∷ []) (map sort_of ts)) false taken)
+made_shallow symbol.str_to_re ts h all taken =
+    by_one text (λ terms. is_plain_regex (apply symbol.str_to_re terms)) literal_plain ts all
+    (taken_sorts (1 == length (map sort_of ts)) (are_sorts (text ∷ []) (map sort_of ts)) false taken)
+made_shallow symbol.re_range ts h all taken =
+    by_two text text (λ terms. is_plain_regex (apply symbol.re_range terms)) range_plain ts all
+    (taken_sorts (2 == length (map sort_of ts)) (are_sorts (text ∷ text ∷ []) (map sort_of ts)) false taken)
+made_shallow symbol.re_star ts h all taken =
+    by_one reglan (λ terms. is_plain_regex (apply symbol.re_star terms)) repeated ts all
+    (taken_sorts (1 == length (map sort_of ts)) (are_sorts (reglan ∷ []) (map sort_of ts)) false taken)
+made_shallow symbol.re_plus ts h all taken =
+    by_one reglan (λ terms. is_plain_regex (apply symbol.re_plus terms)) repeated ts all
+    (taken_sorts (1 == length (map sort_of ts)) (are_sorts (reglan ∷ []) (map sort_of ts)) false taken)
+made_shallow symbol.re_concat ts h all taken = one_or_more symbol.re_concat (λ t terms k. k) ts all taken
+made_shallow symbol.re_union ts h all taken = one_or_more symbol.re_union (λ t terms k. k) ts all taken
+made_shallow _ ts h all taken = absurd (false≢true h)
+
+-- the symbols of names are brought
+symbol_makes : (name : Name) → if_some is_brought_symbol (symbol_named name) ≡ true
+symbol_makes name = found_passes is_brought_symbol (filter is_brought_row symbols_of_theories) refl name
+
+-- Heads.
+
+abbrev head_shallow : Head → Bool
+head_shallow (head_constant serial sort) = is_shallow (constant serial sort)
+head_shallow (head_symbol s) = is_brought_symbol s
+head_shallow (head_definition own body) = false
+head_shallow (head_term t) = false
+
+by_test : {A : Type 0} (p : A → Bool) (b : Bool) (x y : Result A Fault) → if_read p x ≡ true → if_read p y ≡ true
+    → if_read p (if b then x else y) ≡ true
+by_test p true x y h k = h
+by_test p false x y h k = k
+
+by_bind : {A B : Type 0} (p : A → Bool) (q : B → Bool) (r : Result A Fault) (f : A → Result B Fault)
+    → if_read p r ≡ true → ((x : A) → p x ≡ true → if_read q (f x) ≡ true) → if_read q (r >>= f) ≡ true
+by_bind p q (Ok x) f h g = g x h
+by_bind p q (Err fault) f h g = refl
+
+unless_shallow : (o : Option Fault) (t : Term) → (o ≡ None → is_shallow t ≡ true)
+    → if_read is_shallow (unless o t) ≡ true
+unless_shallow None t h = h refl
+unless_shallow (Some fault) t h = refl
+
+applied_shallow : (head : Head) (ts : List Term) → head_shallow head ≡ true → list_all is_shallow ts ≡ true
+    → if_read is_shallow (applied_to head ts) ≡ true
+applied_shallow (head_constant serial sort) [] h all = h
+applied_shallow (head_constant serial sort) (t ∷ ts) h all = refl
+applied_shallow (head_symbol s) ts h all =
+    unless_shallow (judged s (map sort_of ts)) (made s ts) (made_shallow s ts h all)
+applied_shallow (head_definition own body) ts h all = absurd (false≢true h)
+applied_shallow (head_term t) ts h all = absurd (false≢true h)
+
+named_head : (kind : Named) → is_simple_named kind ≡ true → if_read head_shallow (head_of kind) ≡ true
+named_head (a_constant serial text) h = refl
+named_head (a_constant serial boolean) h = absurd (false≢true h)
+named_head (a_constant serial integer) h = absurd (false≢true h)
+named_head (a_constant serial reglan) h = absurd (false≢true h)
+named_head (a_definition own body) h = absurd (false≢true h)
+named_head a_marked_name h = refl
+named_head (a_term t) h = absurd (false≢true h)
+
+theory_head : (name : Name) → if_read head_shallow (head_of_theory name) ≡ true
+theory_head name = step (symbol_named name) (symbol_makes name)
+  where
+    step : (o : Option symbol.Symbol) → if_some is_brought_symbol o ≡ true → if_read head_shallow
+        (elim o as (λ _. Result Head Fault) [
+          | Some s ↦ Ok (head_symbol s)
+          | None ↦ if is_left_out name then Err unsupported else Err (unknown_symbol name)
+        ]) ≡ true
+    step (Some s) h = h
+    step None h = by_test head_shallow (is_left_out name) (Err unsupported) (Err (unknown_symbol name)) refl refl
+
+named_passes : (names : List Naming) (name : Name) → list_all is_simple_naming names ≡ true
+    → if_some is_simple_named (named names name) ≡ true
+named_passes [] name all = refl
+named_passes (n ∷ ns) name all =
+    let parts = and_parts (is_simple_naming n) (list_all is_simple_naming ns) all in
+    some_by is_simple_named (is_name name n.0) (Some n.1) (named ns name) parts.0 (named_passes ns name parts.1)
+
+-- no head with indices is brought
+no_indices : (name : Name) (indices : Forms) (r : Result Head Fault)
+    → if_read head_shallow (without_indices name indices r) ≡ true
+no_indices name indices (Ok head) = refl
+no_indices name indices (Err (unknown_symbol unknown)) =
+    by_test head_shallow (is_name name (codes "char")) (Err unsupported) (Err (unknown_symbol unknown)) refl refl
+no_indices name indices (Err _) = refl
+
+-- Reading, where these names are in force.
+
+module _ (names : List Naming) (fit : list_all is_simple_naming names ≡ true) where
+  head_read : (name : Name) → if_read head_shallow (read_head names name) ≡ true
+  head_read name = step (named names name) (named_passes names name fit)
+    where
+      step : (o : Option Named) → if_some is_simple_named o ≡ true → if_read head_shallow
+          (elim o as (λ _. Result Head Fault) [ Some kind ↦ head_of kind | None ↦ head_of_theory name ]) ≡ true
+      step (Some kind) h = named_head kind h
+      step None h = theory_head name
+
+  index_list_read : (forms : Forms) → if_read head_shallow (read_index_list names forms) ≡ true
+  index_list_read (more (Symbol name) (more index indices)) =
+      by_test head_shallow (is_reserved name) (Err malformed) (read_indexed names name (more index indices)) refl
+      (no_indices name (more index indices) (read_head names name))
+  index_list_read (more (QuotedSymbol name) (more index indices)) =
+      no_indices name (more index indices) (read_head names name)
+  index_list_read _ = refl
+
+  list_head_read : (forms : Forms) → if_read head_shallow (read_list_head names forms) ≡ true
+  list_head_read (more (Symbol name) rest) =
+      by_test head_shallow (is_name name (codes "_")) (read_index_list names rest) _ (index_list_read rest)
+      (by_test head_shallow (is_name name (codes "as")) (Err unsupported) (Err malformed) refl refl)
+  list_head_read _ = refl
+
+  name_read : (name : Name) → if_read is_shallow (read_name names name) ≡ true
+  name_read name =
+      by_bind head_shallow is_shallow (read_head names name) (λ head. applied_to head []) (head_read name)
+      (λ head h. applied_shallow head [] h refl)
+
+  text_read : (bytes : List ℕ) → if_read is_shallow (read_text bytes) ≡ true
+  text_read bytes =
+      by_test is_shallow (not (list_all is_printable bytes)) (Err bad_literal)
+      (if has_backslash bytes then Err unsupported else Ok (word (unquoted bytes))) refl
+      (by_test is_shallow (has_backslash bytes) (Err unsupported) (Ok (word (unquoted bytes))) refl refl)
+
+  -- a head with its arguments
+  with_arguments_read : (head : Result Head Fault) (arguments : Result (List Term) Fault)
+      → if_read head_shallow head ≡ true → if_read (list_all is_shallow) arguments ≡ true
+      → if_read is_shallow (head >>= (λ h. arguments >>= applied_to h)) ≡ true
+  with_arguments_read head arguments h all =
+      by_bind head_shallow is_shallow head (λ h. arguments >>= applied_to h) h
+      (λ x here. by_bind (list_all is_shallow) is_shallow arguments (applied_to x) all
+      (λ ts each. applied_shallow x ts here each))
+
+  one_more_read : (r : Result Term Fault) (rs : Result (List Term) Fault) → if_read is_shallow r ≡ true
+      → if_read (list_all is_shallow) rs ≡ true
+      → if_read (list_all is_shallow) (r >>= (λ t. rs >>= (λ ts. Ok (t ∷ ts)))) ≡ true
+  one_more_read (Err fault) rs h all = refl
+  one_more_read (Ok t) (Err fault) h all = refl
+  one_more_read (Ok t) (Ok ts) h all = and_from (is_shallow t) (list_all is_shallow ts) h all
+
+  mutual
+    term_read : (form : Form) → if_read is_shallow (read names form) ≡ true
+    term_read (Symbol name) =
+        by_test is_shallow (begins_term name) (Err unsupported) _ refl
+        (by_test is_shallow (is_reserved name) (Err malformed) (read_name names name) refl (name_read name))
+    term_read (QuotedSymbol name) = name_read name
+    term_read (Keyword name) = refl
+    term_read (Numeral digits) = refl
+    term_read (OtherNumber bytes) = refl
+    term_read (Words bytes) = text_read bytes
+    term_read (Group forms) = list_read forms
+
+    list_read : (forms : Forms) → if_read is_shallow (read_list names forms) ≡ true
+    list_read none = refl
+    list_read (more head none) = refl
+    list_read (more (Symbol name) (more first rest)) =
+        let by_head : Result Term Fault =
+        read_head names name >>= (λ head. read_all names (more first rest) >>= applied_to head) in
+        by_test is_shallow (is_name name (codes "_"))
+        (read_index_list names (more first rest) >>= (λ head. applied_to head []))
+        (if is_reserved name then Err (read_reserved name (more first rest)) else by_head)
+        (by_bind head_shallow is_shallow (read_index_list names (more first rest)) (λ head. applied_to head [])
+        (index_list_read (more first rest)) (λ head h. applied_shallow head [] h refl))
+        (by_test is_shallow (is_reserved name) (Err (read_reserved name (more first rest))) by_head refl
+        (with_arguments_read (read_head names name) (read_all names (more first rest)) (head_read name)
+        (all_read (more first rest))))
+    list_read (more (QuotedSymbol name) (more first rest)) =
+        with_arguments_read (read_head names name) (read_all names (more first rest)) (head_read name)
+        (all_read (more first rest))
+    list_read (more (Group list) (more first rest)) =
+        with_arguments_read (read_list_head names list) (read_all names (more first rest)) (list_head_read list)
+        (all_read (more first rest))
+    list_read (more (Keyword name) (more first rest)) = refl
+    list_read (more (Numeral digits) (more first rest)) = refl
+    list_read (more (OtherNumber bytes) (more first rest)) = refl
+    list_read (more (Words bytes) (more first rest)) = refl
+
+    all_read : (forms : Forms) → if_read (list_all is_shallow) (read_all names forms) ≡ true
+    all_read none = refl
+    all_read (more form forms) =
+        one_more_read (read names form) (read_all names forms) (term_read form) (all_read forms)
+
+  -- a truth value that is read
+  pub truth_read : (form : Form) (t : Term) → read names form ≡ Ok t → is_same_sort boolean (sort_of t) ≡ true
+      → is_simple t ≡ true
+  truth_read form t e h =
+      subst (λ (sort : Sort). is_shallow_of sort t ≡ true) (same_sort boolean (sort_of t) h)
+      (sym (ap (if_read is_shallow) e) ∙ term_read form)

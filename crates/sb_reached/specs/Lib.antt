@@ -1,0 +1,2 @@
+pub mod SimpleStates
+pub mod SimpleExamples

@@ -1,0 +1,7 @@
+mod Staying
+mod Expanded
+mod Atomic
+mod Clausal
+mod Emptied
+mod Overs
+mod Unbrought

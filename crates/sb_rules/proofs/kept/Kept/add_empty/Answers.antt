@@ -1,0 +1,33 @@
+use Rattle.std.proofs.Common.{[], not, if◌then◌else◌, Err, ap, sym, ◌∙◌}
+use Rattle.sb_rulebook.specs.Follows.{follows}
+use Rattle.sb_rulebook.specs.Kept.{AllKept, counting, with_clause}
+use Rattle.sb_rulebook.specs.Lines.{rule_line, empty}
+use Rattle.sb_rulebook.specs.Refusals.{rule_broken}
+use Rattle.sb_rules.specs.Kept.{kept_in}
+use Rattle.sb_rules.proofs.Staying.{judged_by}
+use Rattle.sb_rules.proofs.Emptied.{by_rule_empty}
+use Rattle.sb_rules.proofs.kept.Kept.add_empty.Goals as goal
+
+pub returns-then-not-branch-clause-judges : goal.returns-then-not-branch-clause-judges
+returns-then-not-branch-clause-judges c = λ asked limit others. (
+  by_rule_empty asked c.args.self.now others c.args.literals.now c.in_ok-have_no_word.field-0 c.requires.known
+      c.requires.negative (sym c.in_ok-is_repeated.ensures ∙ c.if-branch.false)
+      (sym c.are_ascending.ensures ∙ c.if-not-are_ascending.false) (c.in_ok-have_no_word.ensures.ok others)
+      ∙ ap (λ b. if not b then Err rule_broken
+      else counting asked (with_clause (kept_in c.args.self.now others) c.args.literals.now 0 [])) c.if-not-branch.true,
+  c.have_no_word.ensures.kept others,
+)
+
+pub returns-clause-judges : goal.returns-clause-judges
+returns-clause-judges c = λ asked limit others.
+    judged_by c.add_counted.result (follows asked (kept_in c.args.self.now others) (rule_line empty c.args.literals.now))
+    (counting asked (with_clause (kept_in c.have_no_word.new.self others) c.args.literals.now 0 []))
+    c.args.self.now c.have_no_word.new.self c.add_counted.new.self others
+    (by_rule_empty asked c.args.self.now others c.args.literals.now c.in_ok-have_no_word.field-0 c.requires.known
+    c.requires.negative (sym c.in_ok-is_repeated.ensures ∙ c.if-branch.false)
+    (sym c.are_ascending.ensures ∙ c.if-not-are_ascending.false) (c.in_ok-have_no_word.ensures.ok others)
+    ∙ (ap (λ b. if not b then Err rule_broken
+    else counting asked (with_clause (kept_in c.args.self.now others) c.args.literals.now 0 [])) c.if-not-branch.false
+    ∙ ap (λ (k : AllKept). counting asked (with_clause k c.args.literals.now 0 []))
+    (sym (c.have_no_word.ensures.kept others))))
+    (c.have_no_word.ensures.kept others) (c.add_counted.ensures.counts asked others [] limit)

@@ -1,0 +1,35 @@
+use Rattle.std.proofs.lemmas.Option.{slice_get_read}
+use Rattle.std.proofs.Common.{length, [], ◌∷◌, ◌++◌, if◌then◌else◌, Ok, Err, refl, ap, sym, ◌∙◌}
+use Rattle.sb_rulebook.specs.Kept.{with_clause}
+use Rattle.sb_rulebook.specs.Refusals.{rule_broken}
+use Rattle.sb_rules.specs.Kept.{kept_in}
+use Rattle.sb_rules.proofs.Staying.{clause_kept}
+use Rattle.sb_rules.proofs.Clausal.{by_asserted}
+use Rattle.sb_rules.proofs.kept.Kept.assert.Goals as goal
+
+pub returns-then-not-branch-clause-judges : goal.returns-then-not-branch-clause-judges
+returns-then-not-branch-clause-judges c = λ asked live others. (
+  by_asserted asked c.args.self.now others c.args.place c.args.literal c.args.table.now c.args.live.now
+      c.in-Some.assertion.now c.in-Some-term.term c.in_ok-is_asserted.field-0 live (slice_get_read c.args.live.now (length c.args.live.now) c.args.place c.in-Some.assertion.now refl
+      c.in-Some.ensures.lookup.3.0 c.in-Some.ensures.lookup.1)
+      c.in-Some-term.is (sym c.is_known.ensures ∙ c.if-not-is_known.false)
+      (c.in_ok-is_asserted.ensures.ok others)
+      ∙ ap (λ b. if b then Ok (with_clause (kept_in c.args.self.now others) (c.args.literal ∷ []) 0 (c.args.place ∷ []))
+      else Err rule_broken) c.if-not-branch.true,
+  c.is_asserted.ensures.kept others,
+)
+
+pub returns-clause-judges : goal.returns-clause-judges
+returns-clause-judges c = λ asked live others. (
+  others.rests ++ (c.args.place ∷ []) ∷ [],
+  by_asserted asked c.args.self.now others c.args.place c.args.literal c.args.table.now c.args.live.now
+      c.in-Some.assertion.now c.in-Some-term.term c.in_ok-is_asserted.field-0 live (slice_get_read c.args.live.now (length c.args.live.now) c.args.place c.in-Some.assertion.now refl
+      c.in-Some.ensures.lookup.3.0 c.in-Some.ensures.lookup.1)
+      c.in-Some-term.is (sym c.is_known.ensures ∙ c.if-not-is_known.false)
+      (c.in_ok-is_asserted.ensures.ok others)
+      ∙ (ap (λ b. if b then Ok (with_clause (kept_in c.args.self.now others) (c.args.literal ∷ []) 0 (c.args.place ∷ []))
+      else Err rule_broken) c.if-not-branch.false
+      ∙ ap Ok (clause_kept c.args.self.now c.is_asserted.new.self others c.add.new.self (c.args.literal ∷ []) 0
+      (c.args.place ∷ []) (c.is_asserted.ensures.kept (record others { rests = others.rests ++ (c.args.place ∷ []) ∷ [] }))
+      c.in_ok-add.ensures.ok)),
+)

@@ -1,0 +1,30 @@
+use Rattle.std.proofs.Common.{refl}
+use Rattle.sb_term.specs.Numbered.{term_at}
+use Rattle.sb_atoms.proofs.CallerLemmas.{atoms_kept}
+use Rattle.sb_rules.proofs.Staying.{same_kept}
+use Rattle.sb_rules.proofs.Clausal.{translated}
+use Rattle.sb_rules.proofs.kept.Kept.is_asserted.Goals as goal
+
+pub returns-in_err-found-clause-kept : goal.returns-in_err-found-clause-kept
+returns-in_err-found-clause-kept c = λ others.
+    same_kept c.args.self.now (record c.args.self.now {
+      arena = c.find_translation.new.arena;
+      normals = c.find_translation.new.normals;
+      measures = c.find_translation.new.measures;
+    }) others c.requires.over.whole c.find_translation.ensures.arena refl refl refl refl
+
+pub returns-clause-kept : goal.returns-clause-kept
+returns-clause-kept c = λ others.
+    same_kept c.args.self.now (record c.args.self.now {
+      arena = c.find_translation.new.arena;
+      normals = c.find_translation.new.normals;
+      measures = c.find_translation.new.measures;
+    }) others c.requires.over.whole c.find_translation.ensures.arena refl refl refl refl
+
+pub returns-clause-ok : goal.returns-clause-ok
+returns-clause-ok c = λ others.
+    translated c.args.self.now.arena c.find_translation.new.arena c.args.self.now.atoms
+    (term_at c.args.table.now c.args.term) c.args.literal c.in_ok-found.found c.is_literal.result
+    c.requires.over.whole.brought c.requires.simple
+    (atoms_kept _ _ _ c.find_translation.ensures.arena c.requires.over.whole.atoms) c.in_ok-found.ensures.ok
+    c.is_literal.ensures

@@ -1,0 +1,23 @@
+use Rattle.std.proofs.Common.{Ok, refl, ap, ◌∙◌}
+use Rattle.std.proofs.lemmas.Result.{err_from_is_err_and}
+use Rattle.sb_rulebook.specs.Kept.{with_expansion}
+use Rattle.sb_rules.specs.Kept.{kept_in}
+use Rattle.sb_rules.proofs.Staying.{refused_count}
+use Rattle.sb_rules.proofs.Expanded.{expansion_kept}
+use Rattle.sb_rules.proofs.kept.Kept.keep_expansion.Goals as goal
+
+pub returns-in_err-counted-clause-counts : goal.returns-in_err-counted-clause-counts
+returns-in_err-counted-clause-counts c = λ asked others limit.
+    let kept = with_expansion c.args.number c.args.targets.items (kept_in c.args.self.now others) in
+    let p = err_from_is_err_and c.from_residual.result c.from_residual.ensures.1 in
+    refused_count _ c.from_residual.result p.0 _ asked c.args.self.now kept others p.1 p.2
+    (c.in_err-counted.ensures asked kept limit refl)
+
+pub returns-clause-counts : goal.returns-clause-counts
+returns-clause-counts c = λ asked others limit.
+    let kept = with_expansion c.args.number c.args.targets.items (kept_in c.args.self.now others) in (
+      others.rests,
+      c.in_ok-counted.ensures asked kept limit refl
+          ∙ ap Ok (expansion_kept c.args.self.now others c.args.number c.args.targets.items c.in_ok-counted.counted
+          c.expand.new.self c.expand.ensures),
+    )

@@ -1,0 +1,5 @@
+pub mod Kept
+pub mod Judged
+pub mod Expanding
+pub mod Defining
+pub mod Refuting

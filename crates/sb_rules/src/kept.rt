@@ -1,0 +1,65 @@
+//! What is kept of a proof.
+
+ghost use Rattle.std.specs.Prelude.{◌≡◌, ◌+◌, ℕ, List, IfOk};
+ghost use Rattle.sb_meaning.specs.Terms.{Term};
+ghost use Rattle.sb_rulebook.specs.Kept.{nothing_kept};
+ghost use Rattle.sb_rules.specs.Kept.{IsOver, kept_in};
+ghost use Rattle.sb_rules.specs.Judged.{HasRoom};
+
+use sb_atoms::Atoms;
+use sb_fragment::Measures;
+use sb_hints::KeptClauses;
+use sb_plain::Plain;
+use sb_problem::Normals;
+use sb_regex::Arena;
+use sb_rules_regex::{Fault, KnownRegexes, Refusal};
+use std::alloc::Global;
+
+/// What is kept of a proof, by the numbers of its lines.
+#[derive(Drop)]
+pub struct Kept {
+    pub alloc: Global,
+    /// Regexes, of the proof and others.
+    pub arena: Arena,
+    pub plain: Plain,
+    /// What is known of the script's terms.
+    pub normals: Normals,
+    pub measures: Measures,
+    pub regexes: KnownRegexes,
+    pub atoms: Atoms,
+    pub clauses: KeptClauses,
+    /// The lines that were counted since the last verdict.
+    pub counted: u64,
+}
+
+impl Kept {
+    /// Nothing is kept. Takes no memory.
+    pub fn new(alloc: Global) -> Kept
+        ensures kept { (format : ℕ) → kept_in result (nothing_kept format) ≡ nothing_kept format }
+        ensures over { (ts : List Term) → IsOver ts result }
+    {
+        Kept {
+            alloc,
+            arena: Arena::new(alloc),
+            plain: Plain::new(alloc),
+            normals: Normals::new(alloc),
+            measures: Measures::new(alloc),
+            regexes: KnownRegexes::new(alloc),
+            atoms: Atoms::new(alloc),
+            clauses: KeptClauses::new(alloc),
+            counted: 0,
+        }
+    }
+}
+
+/// The count with one more line, unless it is past the limit.
+pub(crate) fn counted(count: u64, limit: u64) -> Result<u64, Fault>
+    ensures { HasRoom limit count result }
+{
+    let most = if limit == 0 { u64::MAX } else { limit };
+    if count < most {
+        Ok(count + 1)
+    } else {
+        Err(Fault::Refused(Refusal::WrongVerdict))
+    }
+}
