@@ -4,7 +4,7 @@ use Rattle.sb_plain.specs.Memory.{IsRight}
 use Rattle.sb_fragment.specs.Measures.{AreMeasures}
 use Rattle.sb_stack.specs.Stacked.{Stacked}
 use Rattle.sb_models.specs.Knowing.{Knows}
-use Rattle.sb_models_tests.specs.declared.checks.Checker.{Checker}
+use Rattle.sb_models_tests.specs.declared.kept.Checker.{Checker}
 
 pub record IsReady (kept : Checker) (stack : Stacked) : Type 0 where
   pub knows : Knows kept.models stack

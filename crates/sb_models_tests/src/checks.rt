@@ -1,16 +1,13 @@
 //! What is found of values, from one check to the next.
 
 ghost use Rattle.std.specs.Prelude.{◌≡◌, false};
-ghost use Rattle.sb_stack.specs.Stacked.{Stacked};
 ghost use Rattle.sb_models_tests.specs.Ready.{IsReady, Stays};
 
-use sb_fragment::Measures;
-use sb_models::{Models, models_stay};
-use sb_plain::Plain;
-use sb_problem::{Normals, normals_stay};
+use crate::kept::{Checker, new_checker};
+use sb_models::models_stay;
+use sb_problem::normals_stay;
 use sb_proof::Value;
 use sb_reader::{Feed, Next};
-use sb_regex::Arena;
 use sb_stack::Stack;
 use std::alloc::{AllocError, Global};
 use std::process::Abort;
@@ -84,28 +81,6 @@ const SCRIPTS: &[&[Check]] = &[
         (b"", &[Given::Text(b"")], Some(false)),
     ],
 ];
-
-/// What a checker keeps.
-#[derive(Drop)]
-struct Checker {
-    models: Models,
-    measures: Measures,
-    plain: Plain,
-    normals: Normals,
-    arena: Arena,
-}
-
-fn new_checker(alloc: Global) -> Checker
-    ensures { (stack : Stacked) → IsReady result stack }
-{
-    Checker {
-        models: Models::new(alloc),
-        measures: Measures::new(alloc),
-        plain: Plain::new(alloc),
-        normals: Normals::new(alloc),
-        arena: Arena::new(alloc),
-    }
-}
 
 fn text_of(alloc: Global, letters: &[u8]) -> Result<Value, AllocError> {
     let mut codes = Vec::new(alloc);

@@ -1,5 +1,5 @@
 use Rattle.sb_fragment.proofs.CallerLemmas.{no_measures}
-use Rattle.sb_models_tests.proofs.checks.new_checker.Goals as goal
+use Rattle.sb_models_tests.proofs.kept.new_checker.Goals as goal
 
 pub returns : goal.returns
 returns c = λ stack. record {
