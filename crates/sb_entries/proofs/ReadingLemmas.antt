@@ -200,9 +200,6 @@ cut_none o q same =
 pub cut_at : (count : ℕ) (o q : Outside) → q ≡ read_at in_port.Script count o → IsCutShort o q
 cut_at count o q moved = (count, moved ∙ read_at-moves in_port.Script count o)
 
-pub cut_now : (old now : EntriesState) (o p q : Outside) → Sofar old now o p → q ≡ p → IsCutShort o q
-cut_now old now o p q s same = (s.count, same ∙ s.moved)
-
 pub cut_behind : (old now : EntriesState) (o p q : Outside) → Sofar old now o p → IsCutShort p q → IsCutShort o q
 cut_behind old now o p q s cut = (s.count + cut.0, moved_both s.count cut.0 o p q s.moved cut.1)
 
