@@ -267,8 +267,13 @@ fn expect_row(
     world.read_at_most(longest);
     world.fail_at(failing)?;
     world.open_input(InPort::Script, None)?;
-    let found = expect_entries(entries, world, rt, row.wanted);
-    assert!(rt; (found == Err(EntriesFault::Fault)) == (failing != 0));
+    match expect_entries(entries, world, rt, row.wanted) {
+        Err(EntriesFault::Fault) => assert!(rt; failing != 0),
+        found => {
+            found?;
+            assert_eq!(rt; failing, 0);
+        }
+    }
     assert_eq!(rt; world.faults(), u64::from(failing != 0));
     Ok(world.calls())
 }
@@ -317,16 +322,21 @@ fn entries_do_not_depend_on_the_pieces(rt: HostRuntime) -> Result<(), Fail> {
 /// Three times as long as a piece.
 const LONG: usize = 0x3_0000;
 
+fn is_form_with(next: &Next, head: &[u8]) -> bool {
+    match next {
+        Next::Command(form) => begins_with(form, head),
+        _ => false,
+    }
+}
+
 fn expect_long_form(
     entries: &mut Entries,
     world: &mut MemWorld,
     rt: &impl Abort,
     head: &[u8],
 ) -> Result<(), EntriesFault> {
-    match entries.advance(world)? {
-        Next::Command(form) => assert!(rt; begins_with(&form, head)),
-        _ => assert!(rt; false),
-    }
+    let next = entries.advance(world)?;
+    assert!(rt; is_form_with(&next, head));
     Ok(())
 }
 
