@@ -10,13 +10,10 @@ ghost use Rattle.std.specs.Process.{exit_status};
 ghost use Rattle.strsolve.specs.Exit.{number_of};
 
 use sb_session::{SolveStatus, solve_top};
+use sb_std_world::StdWorld;
 use std::env;
 use std::io::ErrorKind;
 use std::process::ExitCode;
-
-mod std_world;
-
-use std_world::StdWorld;
 
 fn main(rt: HostRuntime) -> ExitCode {
     let mut world = StdWorld::new(rt);

@@ -1,7 +1,12 @@
-//! The real outside: files, standard input, standard output and standard error.
+//! The real outside of the programs: files, standard input, standard output and standard error.
+//!
+//! A [`StdWorld`] is a world that tells nothing of its bytes: it counts its faults, and keeps in one line what the
+//! first of them was. A program hands it to the call that does its work, and says that line where the call failed.
+#![tactic(auto)]
 
 ghost use Rattle.std.specs.Prelude.{◌≡◌, ℕ, ◌≤◌, length, Err, IfOk};
 ghost use Rattle.sb_world.specs.Outside.{untold, CountsFault};
+ghost use Rattle.sb_std_world.specs.Faults.{faults_of};
 
 use sb_world::{InPort, OutPort, World, WorldError};
 use std::fs::File;
@@ -81,8 +86,8 @@ impl Failures {
     }
 }
 
-/// The outside of a program of this system. It tells nothing of its bytes, counts its faults, and keeps what the first of
-/// them was.
+/// The outside of a program of this system. It tells nothing of its bytes, counts its faults, and keeps what the first
+/// of them was.
 #[derive(Drop)]
 pub struct StdWorld {
     rt: HostRuntime,
@@ -93,8 +98,9 @@ pub struct StdWorld {
 }
 
 impl StdWorld {
+    /// No port is opened, and nothing has failed. Takes no memory.
     pub fn new(rt: HostRuntime) -> StdWorld
-        ensures { result.failures.count ≡ 0 }
+        ensures { faults_of result ≡ 0 }
     {
         StdWorld {
             rt,
@@ -117,7 +123,7 @@ impl StdWorld {
 impl World for StdWorld {
     ghost outside = { λ _. untold };
 
-    ghost faults = { λ world. world.failures.count };
+    ghost faults = { faults_of };
 
     fn open_input(&mut self, port: InPort, name: Option<&str>) -> Result<(), WorldError> {
         let source = match name {

@@ -1,0 +1,2 @@
+mod NoFault
+mod RequiredLemmas
