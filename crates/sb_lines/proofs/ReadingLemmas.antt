@@ -206,6 +206,12 @@ cut_behind old now kept new o p q s none same =
     (subst (λ (t : LinesState). IsCutShort old t o p) (sym (same.0 ∙ ap cleared none.1.1))
     (cut_now old now o p s none.0 none.1.0))
 
+-- as many bytes were left
+within_left : (old now : LinesState) (o p : Outside) (s : Sofar old now o p) (left : List ℕ) → IsLeft old o left
+    → s.count ≤ length left
+within_left old now o p s left is = omega (arith, s.length, ap length (s.bytes left is).0, length-append old.kept left,
+    length-append now.kept (drop s.count left))
+
 ended_line : (old now new : LinesState) (o p : Outside) → Sofar old now o p → TakesLine now new
     → new.read ≤ new.limit → Advances (Line true) old new o p
 ended_line old now new o p s h within =
@@ -220,6 +226,7 @@ ended_line old now new o p s h within =
         omega (arith, size, s.length, s.read, s.limit, read, limit, within),
         (h.one, λ e. absurd (false≢true (sym e))),
       );
+      within = within_left old now o p s;
       finds = λ left is.
           let first = s.bytes left is in
           let behind = drop s.count left in (
@@ -237,6 +244,7 @@ last_line old now o p s ended one some within = record {
   count = s.count;
   reads = reads_found old now (all_taken now) o p s refl refl refl within;
   leaves = (omega (arith, s.length, s.read, s.limit, some, within), (one, λ _. (ended, refl)));
+  within = within_left old now o p s;
   finds = λ left is.
       let first = s.bytes left is in
       let behind = drop s.count left in
@@ -254,6 +262,7 @@ at_end old now o p s ended kept within = record {
   count = s.count;
   reads = reads_found old now (cleared now) o p s refl refl refl within;
   leaves = (ended, (kept, refl));
+  within = within_left old now o p s;
   finds = λ left is.
       let first = s.bytes left is in
       let behind = drop s.count left in
@@ -269,6 +278,7 @@ at_limit old now o p s ended full one = record {
   count = s.count;
   reads = reads_found old now (cleared now) o p s refl refl refl (omega (arith, full));
   leaves = (ended, (full, (one, refl)));
+  within = within_left old now o p s;
   finds = λ left is.
       let first = s.bytes left is in
       (left_found now (cleared now) p (drop s.count left) refl first.1, first.0);

@@ -72,6 +72,7 @@ pub record Advances (found : Found) (old new : LinesState) (before after : Outsi
   pub count : ℕ
   pub reads : ReadsOn count old new before after
   pub leaves : Leaves found old new
+  pub within : (left : List ℕ) → IsLeft old before left → count ≤ length left
   pub finds : (left : List ℕ) → IsLeft old before left
       → IsLeft new after (drop count left) × Finds found old left new (drop count left)
 

@@ -1,0 +1,92 @@
+-- What a check of the state asks of a line, over the table of its terms.
+use Rattle.std.proofs.Common.{◌≡◌, ℕ, zero, suc, ◌+◌, ◌<◌, Bool, true, false, ◌&&◌, nat_lt, List, [], ◌∷◌, map, length, Option, Some, None, option_map, slice_get, refl, ap, ap₂, sym, ◌∙◌, subst, arith}
+use Rattle.std.specs.List.{All, list_all}
+use Rattle.std.specs.Prelude.{IfSome}
+use Rattle.std.proofs.lemmas.Bool.{and_parts, false≢true}
+use Rattle.std.proofs.lemmas.Bool.Decides.{nat_tests}
+use Rattle.std.proofs.lemmas.List.Elements.{All-nil, All-cons}
+use Rattle.sb_meaning.specs.Terms.{Sort, Term, boolean, integer, text}
+use Rattle.sb_script.specs.State as meaning
+use Rattle.sb_rulebook.specs.AtomRules.{is_declared}
+use Rattle.sb_rulebook.specs.Accepted.{at_level, asked_in, term_of}
+use Rattle.sb_term.specs.Numbered.{term_at}
+use Rattle.sb_term.specs.declared.assertion.Assertion.{Assertion}
+use Rattle.sb_sorts.specs.Scopes.{texts}
+use Rattle.sb_stack.specs.Stacked.{Stacked, state_of, assertion_in, assertion_of}
+use Rattle.sb_reached.specs.SimpleStates.{is_simple}
+use Rattle.sb_rules.specs.Kept.{IsAsked, AreDeclared, IsSimple, live_in}
+
+term_as : (ts : List Term) (t : Option ℕ) → term_of (assertion_of ts t) ≡ option_map (term_at ts) t
+term_as ts None = refl
+term_as ts (Some id) = refl
+
+live_as : (ts : List Term) (assertions : List Assertion)
+    → at_level 0 (map (assertion_in ts) assertions) ≡ map (live_in ts) assertions
+live_as ts [] = refl
+live_as ts (a ∷ rest) = ap₂ (λ t ls. (t, 0) ∷ ls) (term_as ts a.term) (live_as ts rest)
+
+texts_there : (n serial : ℕ) → is_declared (texts n) text serial ≡ nat_lt serial n
+texts_there zero serial = sym (none serial)
+  where
+    none : (m : ℕ) → nat_lt m 0 ≡ false
+    none m = grind (arith, nat_tests)
+texts_there (suc n) zero = sym (first n)
+  where
+    first : (m : ℕ) → nat_lt 0 (suc m) ≡ true
+    first m = grind (arith, nat_tests)
+texts_there (suc n) (suc serial) = texts_there n serial ∙ next serial n
+  where
+    next : (k m : ℕ) → nat_lt k m ≡ nat_lt (suc k) (suc m)
+    next k m = grind (arith, nat_tests)
+
+booleans_there : (n serial : ℕ) → is_declared (texts n) boolean serial ≡ false
+booleans_there zero serial = refl
+booleans_there (suc n) zero = refl
+booleans_there (suc n) (suc serial) = booleans_there n serial
+
+integers_there : (n serial : ℕ) → is_declared (texts n) integer serial ≡ false
+integers_there zero serial = refl
+integers_there (suc n) zero = refl
+integers_there (suc n) (suc serial) = integers_there n serial
+
+pub asked_of : (stack : Stacked)
+    → IsAsked stack.table stack.assertions stack.scope.declared 0 (asked_in (state_of stack))
+asked_of stack = record {
+  live = live_as stack.table stack.assertions;
+  declared = record {
+    texts = texts_there stack.scope.declared;
+    booleans = booleans_there stack.scope.declared;
+    integers = integers_there stack.scope.declared;
+  };
+  limit = refl;
+}
+
+pub simple_of : (ts : List Term) (assertions : List Assertion)
+    → list_all is_simple (meaning.terms_in (map (assertion_in ts) assertions)) ≡ true → All (IsSimple ts) assertions
+simple_of ts [] h = All-nil (IsSimple ts)
+simple_of ts (a ∷ rest) h = step a.term refl h (simple_of ts rest)
+  where
+    step : (t : Option ℕ) → a.term ≡ t
+        → list_all is_simple (meaning.terms_in (assertion_of ts t ∷ map (assertion_in ts) rest)) ≡ true
+        → (list_all is_simple (meaning.terms_in (map (assertion_in ts) rest)) ≡ true → All (IsSimple ts) rest)
+        → All (IsSimple ts) (a ∷ rest)
+    step None is h again = All-cons (IsSimple ts) a rest (rw is tt) (again h)
+    step (Some id) is h again =
+        let parts = and_parts (is_simple (term_at ts id))
+            (list_all is_simple (meaning.terms_in (map (assertion_in ts) rest))) h in
+        All-cons (IsSimple ts) a rest (rw is parts.0) (again parts.1)
+
+pub asked_over : (stack : Stacked) (ts : List Term) (assertions : List Assertion) (n : ℕ) → ts ≡ stack.table
+    → assertions ≡ stack.assertions → n ≡ stack.scope.declared
+    → IsAsked ts assertions n 0 (asked_in (state_of stack))
+asked_over stack ts assertions n t a d =
+    subst (λ x. IsAsked x assertions n 0 (asked_in (state_of stack))) (sym t)
+    (subst (λ x. IsAsked stack.table x n 0 (asked_in (state_of stack))) (sym a)
+    (subst (λ x. IsAsked stack.table stack.assertions x 0 (asked_in (state_of stack))) (sym d) (asked_of stack)))
+
+pub simple_over : (stack : Stacked) (ts : List Term) (assertions : List Assertion) → ts ≡ stack.table
+    → assertions ≡ stack.assertions → list_all is_simple (meaning.live_terms (state_of stack)) ≡ true
+    → All (IsSimple ts) assertions
+simple_over stack ts assertions t a h =
+    subst (λ x. All (IsSimple x) assertions) (sym t)
+    (subst (λ x. All (IsSimple stack.table) x) (sym a) (simple_of stack.table stack.assertions h))

@@ -1,0 +1,5 @@
+mod Asking
+mod Entering
+mod Growing
+mod Taking
+mod Wrong
