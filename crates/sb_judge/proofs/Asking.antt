@@ -1,11 +1,10 @@
 -- What a check of the state asks of a line, over the table of its terms.
-use Rattle.std.proofs.Common.{◌≡◌, ℕ, zero, suc, ◌+◌, ◌<◌, Bool, true, false, ◌&&◌, nat_lt, List, [], ◌∷◌, map, length, Option, Some, None, option_map, slice_get, refl, ap, ap₂, sym, ◌∙◌, subst, arith}
+use Rattle.std.proofs.Common.{◌≡◌, ℕ, zero, suc, true, false, nat_lt, List, [], ◌∷◌, map, Option, Some, None, option_map, refl, ap₂, sym, ◌∙◌, subst, arith}
 use Rattle.std.specs.List.{All, list_all}
-use Rattle.std.specs.Prelude.{IfSome}
-use Rattle.std.proofs.lemmas.Bool.{and_parts, false≢true}
+use Rattle.std.proofs.lemmas.Bool.{and_parts}
 use Rattle.std.proofs.lemmas.Bool.Decides.{nat_tests}
 use Rattle.std.proofs.lemmas.List.Elements.{All-nil, All-cons}
-use Rattle.sb_meaning.specs.Terms.{Sort, Term, boolean, integer, text}
+use Rattle.sb_meaning.specs.Terms.{Term, boolean, integer, text}
 use Rattle.sb_script.specs.State as meaning
 use Rattle.sb_rulebook.specs.AtomRules.{is_declared}
 use Rattle.sb_rulebook.specs.Accepted.{at_level, asked_in, term_of}
@@ -14,7 +13,7 @@ use Rattle.sb_term.specs.declared.assertion.Assertion.{Assertion}
 use Rattle.sb_sorts.specs.Scopes.{texts}
 use Rattle.sb_stack.specs.Stacked.{Stacked, state_of, assertion_in, assertion_of}
 use Rattle.sb_reached.specs.SimpleStates.{is_simple}
-use Rattle.sb_rules.specs.Kept.{IsAsked, AreDeclared, IsSimple, live_in}
+use Rattle.sb_rules.specs.Kept.{IsAsked, IsSimple, live_in}
 
 term_as : (ts : List Term) (t : Option ℕ) → term_of (assertion_of ts t) ≡ option_map (term_at ts) t
 term_as ts None = refl
@@ -73,7 +72,7 @@ simple_of ts (a ∷ rest) h = step a.term refl h (simple_of ts rest)
     step None is h again = All-cons (IsSimple ts) a rest (rw is tt) (again h)
     step (Some id) is h again =
         let parts = and_parts (is_simple (term_at ts id))
-            (list_all is_simple (meaning.terms_in (map (assertion_in ts) rest))) h in
+        (list_all is_simple (meaning.terms_in (map (assertion_in ts) rest))) h in
         All-cons (IsSimple ts) a rest (rw is parts.0) (again parts.1)
 
 pub asked_over : (stack : Stacked) (ts : List Term) (assertions : List Assertion) (n : ℕ) → ts ≡ stack.table

@@ -1,8 +1,6 @@
 -- An entry of the script, and what is known behind it.
 use Rattle.std.proofs.Common.{◌≡◌, true, [], ◌∷◌, Some, ap, sym, refl, ◌∙◌}
-use Rattle.sb_meaning.specs.Terms.{Term}
 use Rattle.sb_reached.specs.SimpleStates.{is_simple_state, is_simple_behind}
-use Rattle.sb_reader.specs.Entries.{Entry}
 use Rattle.sb_script.specs.State.{State}
 use Rattle.sb_script.specs.Steps as meaning
 use Rattle.sb_rulebook.specs.Judging.{asks}

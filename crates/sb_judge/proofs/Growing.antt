@@ -20,7 +20,7 @@ pub grown : (k : Kept) (rs : List Regex) (plain : Memory) (normals : List Known)
     → kept_in (record k { arena = rs; plain = plain; normals = normals }) others ≡ kept_in k others
 grown k rs plain normals others w e =
     ap₂ (λ xs ys. record (kept_in k others) { regexes = xs; atoms = ys })
-        (ats_kept k.arena rs k.regexes.order e w.regexes) (atoms_kept k.arena rs k.atoms e w.atoms)
+    (ats_kept k.arena rs k.regexes.order e w.regexes) (atoms_kept k.arena rs k.atoms e w.atoms)
 
 pub stands_grown : (j : Judge) (rs : List Regex) (plain : Memory) (normals : List Known) (models : Models)
     → IsStanding j → Extends j.kept.arena rs → AreNormals j.stack.table rs normals → IsRight rs plain

@@ -1,14 +1,11 @@
 -- A line that is taken, as a step of the proof.
-use Rattle.std.proofs.Common.{◌≡◌, ℕ, ◌+◌, Bool, true, false, if◌then◌else◌, List, [], ◌∷◌, ◌++◌, Option, Some, None, option_map, Result, Ok, Err, IfErr, refl, ap, sym, subst, ◌∙◌}
+use Rattle.std.proofs.Common.{◌≡◌, ℕ, ◌+◌, Bool, true, false, if◌then◌else◌, List, [], Option, Some, None, option_map, Result, Ok, Err, IfErr, refl, ap, sym, subst, ◌∙◌}
 use Rattle.sb_proof.specs.Lines.{line_in}
 use Rattle.sb_proof.specs.declared.line.Line.TheVariants as code
 use Rattle.sb_proof.specs.declared.line.Line as declared
 use Rattle.sb_proof.specs.declared.line.Said.{Said}
 use Rattle.sb_script.specs.State.{State}
 use Rattle.sb_stack.specs.Stacked.{state_of}
-use Rattle.sb_rules_regex.specs.Answers.{refusal_in}
-use Rattle.sb_rules_regex.specs.declared.fault.Fault.{Fault}
-use Rattle.sb_rules_regex.specs.declared.fault.Fault.TheVariants as fault
 use Rattle.sb_rulebook.specs.Kept.{AllKept, Asked}
 use Rattle.sb_rulebook.specs.Lines.{Line}
 use Rattle.sb_rulebook.specs.Refusals as rules
@@ -19,7 +16,6 @@ use Rattle.sb_rulebook.specs.Judging.{Phase, at_rest, at_check, at_end, Progress
 use Rattle.sb_rulebook.specs.Accepted.{asked_in, question_in}
 use Rattle.sb_rules.specs.declared.kept.Kept.{Kept}
 use Rattle.sb_rules.specs.Kept.{kept_in}
-use Rattle.sb_rules.specs.Judged.{Meets}
 use Rattle.sb_judge.specs.declared.judge.Judge.{Judge}
 use Rattle.sb_judge.specs.declared.reason.Reason.{Reason}
 use Rattle.sb_judge.specs.declared.reason.JudgeFault.{JudgeFault}
@@ -49,9 +45,11 @@ pub kept_refused : (phase : Phase) (j : Judge) (asked : Asked) (line : Line) (p 
     → ((others : AllKept) → follows asked (kept_in j.kept others) line ≡ Err refusal)
     → reason_in reason ≡ refusal
     → IsRefusal (Refused j.next reason) p (takes_kept (follows asked p.kept line) p)
-kept_refused phase j asked line p refusal reason a m r =
-    (sym a.next, ap (λ o. takes_kept o p) (ap (λ k. follows asked k line) a.kept ∙ m a.others)
-    ∙ ap (λ x. stop x p) (sym r))
+kept_refused phase j asked line p refusal reason a m r = (
+  sym a.next,
+  ap (λ o. takes_kept o p) (ap (λ k. follows asked k line) a.kept ∙ m a.others)
+      ∙ ap (λ x. stop x p) (sym r),
+)
 
 -- a verdict that follows
 pub verdict_taken : (phase : Phase) (j new : Judge) (q : Question) (said : lines.Said) (p : Progress)

@@ -1,5 +1,5 @@
 -- Why an `unsat` does not follow where nothing is assumed.
-use Rattle.std.proofs.Common.{◌≡◌, ℕ, Bool, true, false, not, ◌&&◌, ◌==◌, ◌-◌, ◌^◌, if◌then◌else◌, List, [], ◌∷◌, Option, Some, None, option_map, Result, IfOk, refl, ap, sym, ◌∙◌}
+use Rattle.std.proofs.Common.{◌≡◌, ℕ, Bool, ◌&&◌, ◌==◌, ◌-◌, ◌^◌, List, [], ◌∷◌, Option, Some, None, option_map, Result, IfOk, refl, ap, sym, ◌∙◌}
 use Rattle.std.specs.declared.alloc.AllocError.{AllocError}
 use Rattle.std.specs.List.{list_all}
 use Rattle.sb_lit.specs.declared.clause.Lit.{Lit}
@@ -12,11 +12,10 @@ use Rattle.sb_rules.specs.declared.kept.Kept.{Kept}
 use Rattle.sb_rules.specs.Kept.{kept_in}
 use Rattle.sb_judge.specs.declared.reason.Reason.{Reason}
 use Rattle.sb_judge.specs.Reasons.{reason_in}
-use Rattle.sb_rulebook.specs.Brought.{has_rests}
 use Rattle.sb_stack.specs.Stacked.{Stacked, state_of}
 use Rattle.sb_script.specs.Fragment.{in_fragment}
 use Rattle.sb_rulebook.specs.Accepted.{question_in}
-use Rattle.sb_rulebook.specs.Verdicts.{Question, refusal_of, refutes, denies_assumption, is_listed, unless_wrong}
+use Rattle.sb_rulebook.specs.Verdicts.{Question, refusal_of, denies_assumption, is_listed, unless_wrong}
 
 none_denied : (q : Question) (kept : AllKept) (ls : List Lit) → q.assumptions ≡ []
     → list_all (denies_assumption q kept) ls ≡ is_bare ls
@@ -42,6 +41,7 @@ of_literals q kept id ls h none format = at (kept_at kept.clauses id) refl h
   where
     same : (xs ys : List Lit) → Some xs ≡ Some ys → xs ≡ ys
     same xs ys e = Prim.cc (e)
+
     at : (o : Option KeptClause) → kept_at kept.clauses id ≡ o
         → Some ls ≡ option_map (λ (clause : KeptClause). clause.literals) o
         → refusal_of q kept (said_unsat id None) ≡ unless_wrong (q.inside && is_bare ls)

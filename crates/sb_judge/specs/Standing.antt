@@ -1,5 +1,5 @@
 -- How far a proof has come along a script, as far as the judge knows.
-use Rattle.std.specs.Prelude.{◌≡◌, ℕ, Bool, true, false, List, [], ◌∷◌, ◌++◌, length, Option, Some, None}
+use Rattle.std.specs.Prelude.{◌≡◌, ℕ, Bool, true, false, List, [], ◌∷◌, ◌++◌, Option, Some, None}
 use Rattle.sb_lit.specs.declared.clause.Lit.{Lit}
 use Rattle.sb_reached.specs.SimpleStates.{is_simple_state}
 use Rattle.sb_script.specs.State.{State}

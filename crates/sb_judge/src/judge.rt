@@ -238,7 +238,13 @@ impl Judge {
     {
         live_are_simple();
         let declared = self.stack.declared();
-        match self.kept.follows(self.stack.table(), self.stack.assertions(), declared, 0, line) {
+        match self.kept.follows(
+            self.stack.table(),
+            self.stack.assertions(),
+            declared,
+            0,
+            line,
+        ) {
             Ok(()) => {
                 self.next += 1;
                 Ok(())

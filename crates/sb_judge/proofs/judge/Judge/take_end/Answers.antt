@@ -7,4 +7,4 @@ pub returns-in_err-take_first-clause-err : goal.returns-in_err-take_first-clause
 returns-in_err-take_first-clause-err c =
     let e = err_from_is_err_and c.from_residual.result c.from_residual.ensures.1 in
     first_refused_last c.from_residual.result e.0 _ c.args.self.now (line_in c.args.line.now) e.1 e.2 c.if-not-self.true
-        c.in_err-take_first.ensures.err
+    c.in_err-take_first.ensures.err
