@@ -1,0 +1,3 @@
+mod Fronts
+mod Exits
+mod Outcome
