@@ -1,0 +1,4 @@
+pub mod ThroughFacts
+pub mod ReadingOn
+pub mod CheckTurns
+pub mod EndTurns
