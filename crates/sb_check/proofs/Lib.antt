@@ -1,0 +1,9 @@
+pub mod Written
+pub mod Opening
+pub mod EntryFacts
+pub mod MoveLemmas
+pub mod GoingLemmas
+pub mod StopLemmas
+pub mod TurnLemmas
+pub mod FinishLemmas
+pub mod ScriptLemmas
