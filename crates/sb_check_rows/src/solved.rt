@@ -1,0 +1,133 @@
+//! Proofs that the solver wrote are accepted, with the verdicts that it answered.
+
+use crate::runs::check;
+use sb_check::CheckStatus;
+use sb_session::{SolveStatus, solve_top};
+use sb_world::{MemWorld, OutPort};
+use std::alloc::{AllocError, Global};
+use std::process::Abort;
+use std::test::Fail;
+
+/// A script, and what is answered of its proof.
+type Case = (&'static [u8], &'static [u8]);
+
+const CASES: [Case; 10] = [
+    (b"", b"accepted\n"),
+    (b"(set-logic QF_S)(check-sat)(exit)(check-sat)", b"check 1: sat\naccepted\n"),
+    (
+        b"(declare-const x String)(assert (str.in_re x (re.+ (re.range \"a\" \"b\"))))(check-sat)",
+        b"check 1: sat\naccepted\n",
+    ),
+    (
+        b"(declare-const x String)(assert (str.in_re x (re.* (str.to_re \"a\"))))\
+          (assert (str.in_re x (re.+ (str.to_re \"b\"))))(check-sat)(check-sat)",
+        b"check 1: unsat\ncheck 2: unsat\naccepted\n",
+    ),
+    (
+        b"(declare-const x String)(declare-const y String)(check-sat)(assert (str.in_re y (str.to_re \"bc\")))\
+          (check-sat)(assert (not (str.in_re y (re.++ (str.to_re \"b\") (str.to_re \"c\")))))(check-sat)\
+          (assert (= x x))(check-sat)",
+        b"check 1: sat\ncheck 2: sat\ncheck 3: unsat\ncheck 4: unsupported\naccepted\n",
+    ),
+    (
+        b"(declare-const x String)(assert (not (str.in_re x (re.* (re.range \"\\u{0}\" \"\\u{2ffff}\")))))(check-sat)",
+        b"check 1: unsupported\naccepted\n",
+    ),
+    (
+        b"(declare-const x String)(assert (str.in_re x (re.++ (re.* (re.union (str.to_re \"a\") (str.to_re \"b\")))\
+          (str.to_re \"a\") (re.range \"a\" \"b\") (re.range \"a\" \"b\"))))\
+          (assert (str.in_re x (re.* (str.to_re \"b\"))))(check-sat)",
+        b"check 1: unsat\naccepted\n",
+    ),
+    (
+        b"(assert y)(declare-const x Int)(declare-const x Int)(pop 1)(get-model))(check-sat)",
+        b"check 1: sat\naccepted\n",
+    ),
+    (b"(declare-const p Bool)(assert p)(check-sat)", b"check 1: unsupported\naccepted\n"),
+    (b"; nothing but a comment", b"accepted\n"),
+];
+
+/// Ten checks over three constants; those behind the first refutation use what stands in front of them.
+const TEN: Case = (
+    b"(declare-const x String)(declare-const y String)(declare-const z String)\
+      (assert (str.in_re x (re.* (str.to_re \"a\"))))(check-sat)(assert (str.in_re y (re.+ (str.to_re \"b\"))))\
+      (check-sat)(assert (str.in_re z (re.++ (re.* (str.to_re \"a\")) (str.to_re \"c\"))))(check-sat)(check-sat)\
+      (assert (str.in_re z (re.* (re.union (str.to_re \"b\") (str.to_re \"c\")))))(check-sat)\
+      (assert (str.in_re x (re.+ (str.to_re \"b\"))))(check-sat)(check-sat)\
+      (assert (str.in_re y (re.* (str.to_re \"a\"))))(check-sat)(assert (str.in_re z (re.* (str.to_re \"a\"))))\
+      (check-sat)(check-sat)",
+    b"check 1: sat\ncheck 2: sat\ncheck 3: sat\ncheck 4: sat\ncheck 5: sat\ncheck 6: unsat\ncheck 7: unsat\n\
+      check 8: unsat\ncheck 9: unsat\ncheck 10: unsat\naccepted\n",
+);
+
+/// Scripts that end within a form are checked up to there.
+const UNFINISHED: [Case; 2] = [
+    (b"(check-sat)(check-sat", b"check 1: sat\naccepted\n"),
+    (b"(", b"accepted\n"),
+];
+
+/// The proof that the solver writes.
+fn proof_of(
+    rt: &impl Abort,
+    alloc: Global,
+    script: &[u8],
+    wanted: SolveStatus,
+) -> Result<Vec<u8>, AllocError> {
+    let mut world = MemWorld::new(alloc);
+    world.set_standard_input(script)?;
+    let mut words = Vec::new(alloc);
+    for word in ["strsolve", "--proof", "p"] {
+        words.push(String::from_str(alloc, word)?)?;
+    }
+    let status = solve_top(alloc, &words, &mut world);
+    assert_eq!(rt; status, wanted);
+    Vec::from_slice(alloc, world.written(OutPort::Proof))
+}
+
+fn expect_case(rt: &impl Abort, alloc: Global, case: Case, wanted: SolveStatus) -> Result<(), AllocError> {
+    let (script, answers) = case;
+    let proof = proof_of(rt, alloc, script, wanted)?;
+    let mut world = MemWorld::new(alloc);
+    let status = check(alloc, &mut world, script, &proof)?;
+    assert_eq!(rt; world.written(OutPort::Answers), answers);
+    assert_eq!(rt; status, CheckStatus::Accepted);
+    Ok(())
+}
+
+#[test]
+fn proofs_that_the_solver_wrote_are_accepted(rt: HostRuntime) -> Result<(), Fail> {
+    for case in CASES {
+        expect_case(&rt, rt.alloc(), case, SolveStatus::Done)?;
+    }
+    for case in UNFINISHED {
+        expect_case(&rt, rt.alloc(), case, SolveStatus::Unfinished)?;
+    }
+    Ok(())
+}
+
+/// How many of the lines are this one.
+fn count(lines: &str, line: &str) -> usize {
+    let mut found = 0usize;
+    for other in lines.lines() {
+        if other == line {
+            found = found.saturating_add(1);
+        }
+    }
+    found
+}
+
+/// Expansions, dead regexes and the clauses of assertions are put once, however many checks rest on them.
+#[test]
+fn lines_of_earlier_checks_are_not_put_again(rt: HostRuntime) -> Result<(), Fail> {
+    let (script, _) = TEN;
+    let proof = proof_of(&rt, rt.alloc(), script, SolveStatus::Done)?;
+    let text = str::from_utf8(&proof).unwrap_or("no text");
+    for line in text.lines() {
+        if line.starts_with("x ") || line.starts_with("d ") || line.starts_with("c assert ") {
+            assert!(rt; count(text, line) == 1, "{line}");
+        }
+    }
+    assert_eq!(rt; count(text, "d 5 6"), 1);
+    expect_case(&rt, rt.alloc(), TEN, SolveStatus::Done)?;
+    Ok(())
+}
