@@ -1,4 +1,4 @@
--- The lines that are written.
+-- Private: the lines that are written.
 use Rattle.std.specs.Prelude.{ℕ, List, ◌++◌, codes, decimal}
 use Rattle.sb_script.specs.Steps.{line}
 use Rattle.sb_rulebook.specs.Lines.{Said}

@@ -1,4 +1,4 @@
--- Private: What a checker of models keeps, right for a state.
+-- What a checker of models keeps, right for a state.
 use Rattle.sb_problem.specs.Known.{AreNormals}
 use Rattle.sb_plain.specs.Memory.{IsRight}
 use Rattle.sb_fragment.specs.Measures.{AreMeasures}
