@@ -40,6 +40,6 @@ fn a_file_that_is_missing_is_a_fault(rt: HostRuntime) -> Result<(), Fail> {
     assert_eq!(rt; sb_check::check_top(rt.alloc(), &words, &mut world), CheckStatus::Fault);
     world.add_file("s", SCRIPT)?;
     assert_eq!(rt; sb_check::check_top(rt.alloc(), &words, &mut world), CheckStatus::Fault);
-    assert_eq!(rt; world.written(OutPort::Answers), b"");
+    assert_eq!(rt; world.written(OutPort::Answers), b"".as_slice());
     Ok(())
 }

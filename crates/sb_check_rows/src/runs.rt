@@ -45,14 +45,12 @@ pub fn changed(
     text: &[u8],
 ) -> Result<Vec<u8>, AllocError> {
     let mut proof = Vec::new(alloc);
-    let mut place = 1;
-    for line in lines {
-        if place == number {
+    for (place, line) in lines.iter().enumerate() {
+        if number > 0 && place == number - 1 {
             proof.extend_from_slice(text)?;
         } else {
             proof.extend_from_slice(line)?;
         }
-        place += 1;
     }
     Ok(proof)
 }

@@ -25,7 +25,7 @@ const CASES: [Case; 10] = [
     ),
     (
         b"(declare-const x String)(declare-const y String)(check-sat)(assert (str.in_re y (str.to_re \"bc\")))\
-          (check-sat)(assert (not (str.in_re y (re.++ (str.to_re \"b\") (str.to_re \"c\")))))(check-sat)\
+          (check-sat)(assert (str.in_re y (re.+ (str.to_re \"d\"))))(check-sat)\
           (assert (= x x))(check-sat)",
         b"check 1: sat\ncheck 2: sat\ncheck 3: unsat\ncheck 4: unsupported\naccepted\n",
     ),

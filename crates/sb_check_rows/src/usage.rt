@@ -26,7 +26,7 @@ fn expect_usage(rt: &impl Abort, alloc: Global, behind: &[&str]) -> Result<(), A
     world.add_file("p", b"strproof 1\nv sat\nend\n")?;
     assert_eq!(rt; check_top(alloc, &words, &mut world), CheckStatus::Usage);
     assert!(rt; !world.written(OutPort::Faults).is_empty());
-    assert_eq!(rt; world.written(OutPort::Answers), b"");
+    assert_eq!(rt; world.written(OutPort::Answers), b"".as_slice());
     Ok(())
 }
 
