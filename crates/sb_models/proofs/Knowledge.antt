@@ -208,6 +208,11 @@ inside_at ts xs i x id low is some decided =
     (and_parts (is_inside (asserted (term_at ts id))) (fits (term_at ts id))
     (decided_at ts xs i x id low is some decided)).0
 
+pub true_first : (words : List (List ℕ)) (ts : List Term) (xs : List code.Assertion) (i : ℕ)
+    → IsTruthBy words (take i (map (assertion_in ts) xs)) true
+    → IsTruthBy words (map (assertion_in ts) (take i xs)) true
+true_first words ts xs i h v gives = h v gives ∙ ap (list_all (is_true_under v)) (take-map (assertion_in ts) i xs)
+
 pub true_more : (words : List (List ℕ)) (ts : List Term) (xs : List code.Assertion) (i : ℕ) (x : code.Assertion)
     (id : ℕ) → i < length xs → x ≡ get_or xs i x → x.term ≡ Some id →
     ((v : Valuation) → GivesWords words v → true ≡ holds (term_at ts id) v) →

@@ -1,5 +1,5 @@
 -- What was true under other words stays so where a constant's word is the same.
-use Rattle.std.proofs.Common.{◌≡◌, ℕ, zero, suc, ◌<◌, Bool, true, List, [], ◌∷◌, take, refl, sym, ap, ap₂, ◌∙◌, arith, Some, None, unwrap_or, slice_get}
+use Rattle.std.proofs.Common.{◌≡◌, ℕ, zero, suc, ◌<◌, Bool, true, List, [], ◌∷◌, take, refl, sym, ap, ap₂, ◌∙◌, arith, Some, None, slice_get}
 use Rattle.std.specs.List.{list_all}
 use Rattle.std.proofs.lemmas.Bool.{and_parts, false≢true}
 use Rattle.sb_meaning.specs.Terms.{Term, Terms, constant, word, numeral, apply, parameter, no_terms, with_term, text, str_in_re}
@@ -13,7 +13,7 @@ use Rattle.sb_fragment.specs.Memberships.{in_re}
 use Rattle.sb_fragment.specs.Rules.{is_decided}
 use Rattle.sb_stack.specs.Stacked.{values_from}
 use Rattle.sb_models.specs.Knowing.{is_true_under, IsTruthBy}
-use Rattle.sb_models.specs.Tried.{AreSame, MayPass}
+use Rattle.sb_models.specs.Tried.{word_at, AreSame, AreKept, MayPass}
 use Rattle.sb_models.proofs.Judging.{words_given}
 
 -- a term without constants means the same under all values
@@ -68,8 +68,18 @@ may_pass old new same held live true_before decided words place t low at m v giv
     let is : is_decided (asserted (in_re (constant m.serial text) m.regex)) ≡ true =
     ap (λ u. is_decided (asserted u)) (sym m.is) ∙ one in
     let value : value_in v m.serial text ≡ value_in (values_from 0 old) m.serial text =
-    gives m.serial ∙ (ap (λ o. Text (unwrap_or o [])) (sym (words m.serial m.there))
-    ∙ sym (words_given old m.serial)) in
+    gives m.serial ∙ (ap Text (sym (words m.serial m.there)) ∙ sym (words_given old m.serial)) in
     ap (λ u. holds u v) m.is
     ∙ (member_same v (values_from 0 old) m.serial m.regex (ground_in m.serial m.regex is) value
     ∙ (ap (λ u. holds u (values_from 0 old)) (sym m.is) ∙ before))
+
+-- What was true under words is true under those that give each constant the same word.
+
+pub true_kept : (old o new : List (List ℕ)) (assertions : List Assertion) → o ≡ old → AreKept o new
+    → IsTruthBy old assertions true → IsTruthBy new assertions true
+true_kept old o new assertions is kept before v gives =
+    before v (λ serial. gives serial ∙ ap Text (kept serial ∙ ap (λ words. word_at words serial) is))
+
+-- none stands before the first place
+pub none_pass : (words : List (List ℕ)) (same : List Bool) (live : List Assertion) → MayPass words same 0 live
+none_pass words same live place t low = absurd (omega arith)

@@ -1,10 +1,10 @@
 -- Values as words, one after the other.
-use Rattle.std.proofs.Common.{◌≡◌, ℕ, zero, suc, ◌<◌, Bool, true, false, ◌&&◌, ◌⊎◌, inl, inr, nat_lt, List, [], ◌∷◌, ◌++◌, length, get_or, refl, sym, ap, ◌∙◌, arith, append_assoc, length-append, Option, Some, None, option_map, slice_get}
+use Rattle.std.proofs.Common.{◌≡◌, ℕ, zero, suc, ◌+◌, ◌<◌, ◌≤◌, Bool, true, false, ◌&&◌, ◌⊎◌, inl, inr, nat_lt, List, [], ◌∷◌, ◌++◌, length, get_or, refl, sym, ap, ◌∙◌, arith, append_assoc, length-append, Option, Some, None, option_map, unwrap_or, slice_get}
 use Rattle.std.proofs.lemmas.Bool.Decides.{nat_tests}
 use Rattle.std.proofs.lemmas.Option.{get_or_from_slice_get, slice_get_within, slice_get-get_or}
 use Rattle.std.proofs.lemmas.List.{get_or_append_left, get_or_push}
 use Rattle.sb_word.specs.Words.{is_character, are_characters}
-use Rattle.sb_models.specs.Tried.{word_in, put_first, AreSame}
+use Rattle.sb_models.specs.Tried.{word_in, put_first, word_at, AreSame, AreKept}
 
 -- behind what was read, the words of the rest
 abbrev pub behind : List (List ℕ) → Option (List (List ℕ)) → Option (List (List ℕ))
@@ -39,20 +39,57 @@ same_none old new = λ n h. absurd (nothing n h)
     nothing : (n : ℕ) → slice_get [] n ≡ Some true → ⊥
     nothing n h = omega (arith, slice_get_within [] n true h)
 
+-- the word at a place, as it is read
+at_place : (new : List (List ℕ)) (place : ℕ) (w : List ℕ) → place < length new → w ≡ get_or new place w
+    → w ≡ word_at new place
+at_place new place w low is = ap (λ o. unwrap_or o []) (sym (slice_get-get_or new place w low ∙ ap Some (sym is)))
+
 pub same_more : (old new : List (List ℕ)) (same : List Bool) (b : Bool) (place : ℕ) (w : List ℕ) → place ≡ length same
-    → place < length new → w ≡ get_or new place w → (b ≡ true → slice_get old place ≡ Some w) → AreSame old new same
+    → place < length new → w ≡ get_or new place w → (b ≡ true → word_at old place ≡ w) → AreSame old new same
     → AreSame old new (same ++ b ∷ [])
 same_more old new same b place w long low is here before n h = by (get_push same b true n h)
   where
-    by : (slice_get same n ≡ Some true) ⊎ ((n ≡ length same) × (true ≡ b)) → slice_get old n ≡ slice_get new n
+    by : (slice_get same n ≡ Some true) ⊎ ((n ≡ length same) × (true ≡ b)) → word_at old n ≡ word_at new n
     by (inl p) = before n p
     by (inr p) = let e : n ≡ place = p.0 ∙ sym long in
-        ap (slice_get old) e ∙ (here (sym p.1)
-        ∙ (sym (slice_get-get_or new place w low ∙ ap Some (sym is)) ∙ ap (slice_get new) (sym e)))
+        ap (word_at old) e ∙ (here (sym p.1) ∙ (at_place new place w low is ∙ ap (word_at new) (sym e)))
 
 pub same_through : (old o new : List (List ℕ)) (same s : List Bool) → o ≡ old → s ≡ same → AreSame o new same
     → AreSame old new s
 same_through old o new same s p q h = rw (q, ← p) h
+
+-- Words that stay, as far as they were looked at.
+
+abbrev pub AreKeptBelow : ℕ → List (List ℕ) → List (List ℕ) → Type 0
+AreKeptBelow place old new = (serial : ℕ) → serial < place → word_at new serial ≡ word_at old serial
+
+pub kept_none : (old new : List (List ℕ)) → AreKeptBelow 0 old new
+kept_none old new serial l = absurd (omega arith)
+
+pub kept_more : (old new : List (List ℕ)) (place : ℕ) (w : List ℕ) → place < length new → w ≡ get_or new place w
+    → word_at old place ≡ w → AreKeptBelow place old new → AreKeptBelow (place + 1) old new
+kept_more old new place w low is here before serial l = by (nat_lt serial place) refl
+  where
+    by : (b : Bool) → nat_lt serial place ≡ b → word_at new serial ≡ word_at old serial
+    by true is = before serial (grind (arith, nat_tests))
+    by false not =
+        let e : serial ≡ place = grind (arith, nat_tests, l) in
+        ap (word_at new) e ∙ (sym (at_place new place w low is) ∙ (sym here ∙ ap (word_at old) (sym e)))
+
+past_last : (words : List (List ℕ)) (serial : ℕ) → length words ≤ serial → word_at words serial ≡ []
+past_last [] serial l = refl
+past_last (w ∷ words) zero l = absurd (omega arith)
+past_last (w ∷ words) (suc serial) l = past_last words serial (omega arith)
+
+pub kept_all : (old new : List (List ℕ)) (place : ℕ) → length old ≤ length new → length new ≤ place
+    → AreKeptBelow place old new → AreKept old new
+kept_all old new place short long before serial = by (nat_lt serial place) refl
+  where
+    by : (b : Bool) → nat_lt serial place ≡ b → word_at new serial ≡ word_at old serial
+    by true is = before serial (grind (arith, nat_tests))
+    by false not =
+        let l : place ≤ serial = grind (arith, nat_tests) in
+        past_last new serial (omega arith) ∙ sym (past_last old serial (omega arith))
 
 -- Numbers, one after the other.
 

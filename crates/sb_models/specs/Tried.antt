@@ -1,5 +1,5 @@
 -- Private: values as words, and what of the last model holds under others.
-use Rattle.std.specs.Prelude.{◌≡◌, ℕ, ◌<◌, Bool, true, false, if◌then◌else◌, List, [], ◌∷◌, slice_get, Option, Some, None, option_map}
+use Rattle.std.specs.Prelude.{◌≡◌, ℕ, ◌<◌, Bool, true, false, if◌then◌else◌, List, [], ◌∷◌, slice_get, Option, Some, None, option_map, unwrap_or}
 use Rattle.sb_word.specs.Words.{are_characters}
 use Rattle.sb_meaning.specs.Terms.{Term, text, constant}
 use Rattle.sb_meaning.specs.Values.{Value, Valuation, Text, Int, Truth}
@@ -30,9 +30,17 @@ abbrev pub words_of : List Value → Option (List (List ℕ))
 words_of [] = Some []
 words_of (x ∷ xs) = put_first (word_of x) (words_of xs)
 
+-- the word at a serial, the empty one past the last
+abbrev pub word_at : List (List ℕ) → ℕ → List ℕ
+word_at words serial = unwrap_or (slice_get words serial) []
+
 -- where it says so, the words at a place are the same
 abbrev pub AreSame : List (List ℕ) → List (List ℕ) → List Bool → Type 0
-AreSame old new same = (n : ℕ) → slice_get same n ≡ Some true → slice_get old n ≡ slice_get new n
+AreSame old new same = (n : ℕ) → slice_get same n ≡ Some true → word_at old n ≡ word_at new n
+
+-- each constant has the word that it had, the empty one where it had none
+abbrev pub AreKept : List (List ℕ) → List (List ℕ) → Type 0
+AreKept old new = (serial : ℕ) → word_at new serial ≡ word_at old serial
 
 -- the term is the membership of a constant whose word is said to be the same
 pub record IsOfSame (same : List Bool) (t : Term) : Type 0 where

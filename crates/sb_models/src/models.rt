@@ -16,7 +16,7 @@ ghost use Rattle.sb_stack.specs.Stacked.{Stacked, state_of};
 ghost use Rattle.sb_models.specs.Knowing.{Knows, IsTruthBy};
 
 use crate::trying::{all_hold, fits};
-use crate::words::{same_words, words_of};
+use crate::words::{are_kept, same_words, words_of};
 use sb_fragment::{Measures, fragment_is_of_each};
 use sb_plain::Plain;
 use sb_problem::Normals;
@@ -73,9 +73,11 @@ impl Models {
     /// Whether the values, in the order of the constants, are a model of the live assertions, which are decided ones:
     /// there is a word for each constant, and the words make each assertion true. Where they are, they are kept.
     ///
-    /// An assertion that was true under the last model, and whose constant has the word that it had there, is passed
-    /// over in constant time; for each other one the cost is that of [`sb_eval::eval`]. Linear in the values besides.
-    /// `AllocError` only for want of memory; what was known stays so then.
+    /// Where each constant has the word that it had in the last model, and each one declared since has the empty word,
+    /// only the assertions behind those that were true there are looked at. Else all are, and one that was true there
+    /// and whose constant has the word that it had there is passed over in constant time. For each other one the cost
+    /// is that of [`sb_eval::eval`]. Linear in the values besides. `AllocError` only for want of memory; what was known
+    /// stays so then.
     pub fn is_model(
         &mut self,
         alloc: Global,
@@ -132,7 +134,10 @@ impl Models {
         ensures normals { AreNormals stack.now.table arena.new normals.new }
         ensures right { IsRight arena.new plain.new }
     {
+        if are_kept(&self.words, words) {
+            return all_hold(plain, normals, arena, stack, words, &[], 0, self.held);
+        }
         let same = same_words(alloc, &self.words, words)?;
-        all_hold(plain, normals, arena, stack, words, &same, self.held)
+        all_hold(plain, normals, arena, stack, words, &same, self.held, 0)
     }
 }

@@ -1,6 +1,6 @@
 //! Assertions under words.
 
-ghost use Rattle.std.specs.Prelude.{◌≡◌, ◌<◌, true, length, IfOk};
+ghost use Rattle.std.specs.Prelude.{◌≡◌, ◌<◌, true, length, take, IfOk};
 ghost use Rattle.std.specs.List.{list_all};
 ghost use Rattle.sb_regex.specs.Numbered.{Extends};
 ghost use Rattle.sb_term.specs.Numbered.{term_at};
@@ -62,8 +62,8 @@ fn may_pass(table: &Table, id: TermId, place: usize, same: &[bool], held: usize)
     place < held && is_of_same(table, id, same)
 }
 
-/// Whether all live assertions are true under words, where those of the first so many are whose constant has the same
-/// word as before.
+/// Whether all live assertions are true under words, where those before a place are, and where those of the first so
+/// many are whose constant has the same word as before.
 pub(crate) fn all_hold(
     plain: &mut Plain,
     normals: &mut Normals,
@@ -72,9 +72,11 @@ pub(crate) fn all_hold(
     words: &[Word],
     same: &[bool],
     held: usize,
+    from: usize,
 ) -> Result<bool, AllocError>
     requires decided { list_all is_decided (live (state_of stack.now)) ≡ true }
     requires pass { MayPass words.now same.now held (live (state_of stack.now)) }
+    requires before { IsTruthBy words.now (take from (live (state_of stack.now))) true }
     requires normals { AreNormals stack.now.table arena.old normals.old }
     requires right { IsRight arena.old plain.old }
     ensures ok { IfOk result (IsTruthBy words.now (live (state_of stack.now))) }
@@ -83,7 +85,9 @@ pub(crate) fn all_hold(
     ensures right { IsRight arena.new plain.new }
 {
     let table = stack.table();
-    for (place, assertion) in stack.assertions().iter().enumerate() {
+    let assertions = stack.assertions();
+    for place in from..assertions.len() {
+        let assertion = assertions[place];
         let Some(id) = assertion.term else {
             return Ok(false);
         };

@@ -1,29 +1,37 @@
-use Rattle.std.proofs.Common.{◌≡◌, ◌≤◌, true, length, subst, sym, ap, ◌∙◌, arith}
+use Rattle.std.proofs.Common.{◌≡◌, ◌≤◌, true, length, subst, sym, ap, ◌∙◌, arith, rules}
 use Rattle.sb_meaning.specs.Truth.{holds}
 use Rattle.sb_script.specs.Brought.{is_membership}
 use Rattle.sb_term.specs.Numbered.{term_at}
 use Rattle.sb_models.specs.Tried.{IsOfSame}
-use Rattle.sb_models.proofs.Knowledge.{no_mark, inside_at, true_more, false_at, passed, true_all}
+use Rattle.sb_models.proofs.Knowledge.{no_mark, inside_at, true_first, true_more, false_at, passed, true_all}
 use Rattle.sb_models.proofs.trying.all_hold.Goals as goal
 
 pub returns-in_default-clause-ok : goal.returns-in_default-clause-ok
 returns-in_default-clause-ok c =
-    absurd (no_mark c.args.stack.now.table c.args.stack.now.assertions c.loop-place.place c.assertion-item.result
-    (rw c.assertions-assertion-items.ensures.value at c.loop-place-test.true)
-    (rw c.assertions-assertion-items.ensures.value at c.assertion-item.is) c.in_default.is c.requires.decided)
+    absurd (no_mark c.args.stack.now.table c.args.stack.now.assertions c.loop-place.place
+    c.index-assertions-place.result (rw c.assertions-assertions.ensures.value at c.loop-place-test.true)
+    (rw c.assertions-assertions.ensures.value at c.index-assertions-place.is) c.in_default.is c.requires.decided)
+
+pub loop-place-init : goal.loop-place-init
+loop-place-init c = (
+  search rules,
+  c.requires.normals,
+  c.requires.right,
+  true_first c.args.words.now c.args.stack.now.table c.args.stack.now.assertions c.args.from c.requires.before,
+)
 
 pub loop-place-preserved-then-may_pass : goal.loop-place-preserved-then-may_pass
 loop-place-preserved-then-may_pass c =
-    let low = rw c.assertions-assertion-items.ensures.value at c.loop-place-test.true in
-    let is = rw c.assertions-assertion-items.ensures.value at c.assertion-item.is in
+    let low = rw c.assertions-assertions.ensures.value at c.loop-place-test.true in
+    let is = rw c.assertions-assertions.ensures.value at c.index-assertions-place.is in
     let known = c.may_pass.ensures c.if-may_pass.true in (
       c.loop-place.invariant.0,
       c.loop-place.invariant.1,
       c.loop-place.invariant.2,
       true_more c.args.words.now c.args.stack.now.table c.args.stack.now.assertions c.loop-place.place
-          c.assertion-item.result c.in-Some.id low is c.in-Some.is
+          c.index-assertions-place.result c.in-Some.id low is c.in-Some.is
           (passed c.args.words.now c.args.same.now c.args.held c.args.stack.now.table c.args.stack.now.assertions
-          c.loop-place.place c.assertion-item.result c.in-Some.id low is c.in-Some.is known.0
+          c.loop-place.place c.index-assertions-place.result c.in-Some.id low is c.in-Some.is known.0
           (subst (λ ts. IsOfSame c.args.same.now (term_at ts c.in-Some.id)) c.table-table.ensures known.1)
           c.requires.pass) c.loop-place.invariant.3,
     )
@@ -31,21 +39,21 @@ loop-place-preserved-then-may_pass c =
 pub eval-requires-clause-inside : goal.eval-requires-clause-inside
 eval-requires-clause-inside c =
     subst (λ ts. is_membership (term_at ts c.in-Some.id) ≡ true) (sym c.table-table.ensures)
-    (inside_at c.args.stack.now.table c.args.stack.now.assertions c.loop-place.place c.assertion-item.result
-    c.in-Some.id (rw c.assertions-assertion-items.ensures.value at c.loop-place-test.true)
-    (rw c.assertions-assertion-items.ensures.value at c.assertion-item.is) c.in-Some.is c.requires.decided)
+    (inside_at c.args.stack.now.table c.args.stack.now.assertions c.loop-place.place c.index-assertions-place.result
+    c.in-Some.id (rw c.assertions-assertions.ensures.value at c.loop-place-test.true)
+    (rw c.assertions-assertions.ensures.value at c.index-assertions-place.is) c.in-Some.is c.requires.decided)
 
 pub returns-then-not-branch-clause-ok : goal.returns-then-not-branch-clause-ok
 returns-then-not-branch-clause-ok c =
     false_at c.args.words.now c.args.stack.now.table c.args.stack.now.assertions c.loop-place.place
-    c.assertion-item.result c.in-Some.id (rw c.assertions-assertion-items.ensures.value at c.loop-place-test.true)
-    (rw c.assertions-assertion-items.ensures.value at c.assertion-item.is) c.in-Some.is
+    c.index-assertions-place.result c.in-Some.id (rw c.assertions-assertions.ensures.value at c.loop-place-test.true)
+    (rw c.assertions-assertions.ensures.value at c.index-assertions-place.is) c.in-Some.is
     (λ v gives. sym c.if-not-branch.true ∙ (c.in_ok-eval.ensures.ok v gives
     ∙ ap (λ ts. holds (term_at ts c.in-Some.id) v) c.table-table.ensures))
 
 pub returns-clause-ok : goal.returns-clause-ok
 returns-clause-ok c =
     let long : length c.args.stack.now.assertions ≤ c.loop-place.place =
-    omega (arith, c.loop-place-test.false, ap length c.assertions-assertion-items.ensures.value) in
+    omega (arith, c.loop-place-test.false, ap length c.assertions-assertions.ensures.value) in
     true_all c.args.words.now c.args.stack.now.table c.args.stack.now.assertions c.loop-place.place long
     c.loop-place.invariant.3
