@@ -1,7 +1,8 @@
 """Runs the program, and z3 and cvc5 where they are installed, over the families of scripts, and prints a table: processor
 seconds, peak memory in MB (at least some 10 MB, which is the start of a process from here), and the ratio to the better of
 the other two. Then the program with its proof written to a file: processor seconds, how many times those without a proof
-that is, and the proof's MB. A run has 20 seconds."""
+that is, and the proof's MB. Then the checker on that script and proof: processor seconds, how many times those of the run
+that wrote it that is, and peak memory in MB. A run has 20 seconds."""
 import os
 import resource
 import shutil
@@ -23,6 +24,7 @@ SIZES = {
 }
 here = os.path.dirname(os.path.abspath(__file__))
 program = os.path.join(here, "..", "crates", "strsolve", "out", "strsolve")
+checker = os.path.join(here, "..", "crates", "strcheck", "out", "strcheck")
 solvers = {"strsolve": [program]}
 if shutil.which("z3"):
     solvers["z3"] = ["z3", "-in"]
@@ -42,17 +44,32 @@ def run(command, path):
     return (seconds if answer else None), used.ru_maxrss / 1000, answer
 
 
+def check(path, proof):
+    """The processor seconds and the peak memory in MB of a run of the checker; None for the seconds where it refuses."""
+    started = subprocess.Popen([checker, path, proof], stdout=subprocess.PIPE, stderr=subprocess.DEVNULL,
+                               preexec_fn=lambda: resource.setrlimit(resource.RLIMIT_CPU, (LIMIT, LIMIT + 1)))
+    accepted = started.stdout.read().endswith(b"accepted\n")
+    _, _, used = os.wait4(started.pid, 0)
+    return (used.ru_utime + used.ru_stime if accepted else None), used.ru_maxrss / 1000
+
+
+def columns(seconds, others):
+    """Processor seconds, and how many times the others they are."""
+    times = format(seconds / others, ".2f") if seconds is not None and others else "-"
+    return f"{'-' if seconds is None else format(seconds, '.3f'):>11}{times:>8}"
+
+
 def prove(path, without):
-    """The columns of a run that writes its proof, beside the seconds of one that does not."""
+    """The columns of a run that writes its proof, beside the seconds of one that does not, and of one that checks it."""
     with tempfile.NamedTemporaryFile(suffix=".proof") as proof:
         seconds, _, _ = run([program, "--proof", proof.name], path)
         size = os.path.getsize(proof.name) / 1e6
-    times = format(seconds / without, ".2f") if seconds is not None and without else "-"
-    return f"{'-' if seconds is None else format(seconds, '.3f'):>11}{times:>8}{size:>9.1f}"
+        checked, memory = check(path, proof.name)
+    return columns(seconds, without) + f"{size:>9.1f}" + columns(checked, seconds) + f"{memory:>9.1f}"
 
 
 families = sys.argv[1:] or list(SIZES)
-print(f"{'family':<18}{'size':>7}" + "".join(f"{name:>12} s{'MB':>8}" for name in solvers) + f"{'ratio':>9}{'proof s':>11}{'times':>8}{'MB':>9}  answer")
+print(f"{'family':<18}{'size':>7}" + "".join(f"{name:>12} s{'MB':>8}" for name in solvers) + f"{'ratio':>9}{'proof s':>11}{'times':>8}{'MB':>9}{'check s':>11}{'times':>8}{'MB':>9}  answer")
 for family in families:
     for size in SIZES[family]:
         with tempfile.NamedTemporaryFile(suffix=".smt2") as script:

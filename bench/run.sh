@@ -1,16 +1,18 @@
 #!/usr/bin/env bash
 # Times the reader alone over 50 MB in pieces of several lengths, and the program over scripts of 1 to 50 MB, read
 # from a file: processor seconds, megabytes a second and peak memory in KB. Then the families of memberships, with z3 and
-# cvc5 beside the program where they are installed; a run of theirs has 20 seconds, so this takes some minutes.
+# cvc5 beside the program where they are installed, and the checker on the proofs; a run has 20 seconds, so this takes
+# some minutes.
 set -eu
 cd "$(dirname "$0")/.."
 build() { # the program, and what it is run on
   if [ ! -x "crates/$1/out/$1" ]; then
-    (cd "crates/$1" && rt run ${2:+-- $2} < stdin > /dev/null 2>&1)
+    (cd "crates/$1" && rt run ${2:+-- $2} < "$(test -f stdin && echo stdin || echo /dev/null)" > /dev/null 2>&1)
   fi
 }
 build read_entries 7
 build strsolve
+build strcheck "data/apart.smt2 data/apart.proof"
 work=$(mktemp -d)
 trap 'rm -rf "$work"' EXIT
 
