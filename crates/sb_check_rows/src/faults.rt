@@ -37,9 +37,15 @@ fn a_failing_call_leaves_a_front_of_the_answers(rt: HostRuntime) -> Result<(), F
 fn a_file_that_is_missing_is_a_fault(rt: HostRuntime) -> Result<(), Fail> {
     let words = crate::runs::words(rt.alloc())?;
     let mut world = MemWorld::new(rt.alloc());
-    assert_eq!(rt; sb_check::check_top(rt.alloc(), &words, &mut world), CheckStatus::Fault);
+    assert_eq!(rt;
+        sb_check::check_top(rt.alloc(), &words, &mut world),
+        CheckStatus::Fault
+    );
     world.add_file("s", SCRIPT)?;
-    assert_eq!(rt; sb_check::check_top(rt.alloc(), &words, &mut world), CheckStatus::Fault);
+    assert_eq!(rt;
+        sb_check::check_top(rt.alloc(), &words, &mut world),
+        CheckStatus::Fault
+    );
     assert_eq!(rt; world.written(OutPort::Answers), b"".as_slice());
     Ok(())
 }

@@ -14,20 +14,44 @@ const BEFORE: [Change; 31] = [
     (1, b"strproof 7\n", b"refused at line 1: misplaced line\n"),
     (1, b"strproof 0\n", b"refused at line 1: misplaced line\n"),
     (1, b"", b"refused at line 1: misplaced line\n"),
-    (1, b"strproof 1\nstrproof 1\n", b"refused at line 2: misplaced line\n"),
+    (
+        1,
+        b"strproof 1\nstrproof 1\n",
+        b"refused at line 2: misplaced line\n",
+    ),
     (2, b"q set 61-61\n", b"refused at line 2: bad word\n"),
     (2, b"\n", b"refused at line 2: bad word\n"),
     (2, b"end\n", b"refused at line 2: misplaced line\n"),
-    (2, b"r set 61-18446744073709551616\n", b"refused at line 2: bad number\n"),
+    (
+        2,
+        b"r set 61-18446744073709551616\n",
+        b"refused at line 2: bad number\n",
+    ),
     (2, b"r set 61-30000\n", b"refused at line 2: not normal\n"),
     (3, b"r star 1\n", b"refused at line 3: unknown id\n"),
-    (3, b"r star 18446744073709551615\n", b"refused at line 3: unknown id\n"),
-    (3, b"r star 18446744073709551616\n", b"refused at line 3: bad number\n"),
+    (
+        3,
+        b"r star 18446744073709551615\n",
+        b"refused at line 3: unknown id\n",
+    ),
+    (
+        3,
+        b"r star 18446744073709551616\n",
+        b"refused at line 3: bad number\n",
+    ),
     (5, b"r set 62-62\n", b"refused at line 5: repeated\n"),
     (7, b"r and 1 4\n", b"refused at line 7: not normal\n"),
     (9, b"a in v1 : 1\n", b"refused at line 9: unknown id\n"),
-    (11, b"x 5 0-60>6 62-2ffff>6\n", b"refused at line 11: wrong target\n"),
-    (11, b"x 5 0-2ffff>5\n", b"refused at line 11: wrong target\n"),
+    (
+        11,
+        b"x 5 0-60>6 62-2ffff>6\n",
+        b"refused at line 11: wrong target\n",
+    ),
+    (
+        11,
+        b"x 5 0-2ffff>5\n",
+        b"refused at line 11: wrong target\n",
+    ),
     (12, b"x 5 0-2ffff>6\n", b"refused at line 12: repeated\n"),
     (12, b"x 06 0-2ffff>6\n", b"refused at line 12: bad number\n"),
     (13, b"d 1\n", b"refused at line 13: holds the empty word\n"),
@@ -37,11 +61,23 @@ const BEFORE: [Change; 31] = [
     (14, b"c assert 1 +0\n", b"refused at line 14: rule broken\n"),
     (14, b"c assert 2 +0\n", b"refused at line 14: unknown id\n"),
     (16, b"c empty -0\n", b"refused at line 16: rule broken\n"),
-    (16, b"c empty -0 -1\nc empty -0 -1\n", b"refused at line 17: repeated\n"),
+    (
+        16,
+        b"c empty -0 -1\nc empty -0 -1\n",
+        b"refused at line 17: repeated\n",
+    ),
     (17, b"c learn : 2 0 1\n", b"refused at line 17: idle hint\n"),
-    (17, b"c learn : 0 1 2 2\n", b"refused at line 17: idle hint\n"),
+    (
+        17,
+        b"c learn : 0 1 2 2\n",
+        b"refused at line 17: idle hint\n",
+    ),
     (17, b"c learn : 0 1\n", b"refused at line 17: rule broken\n"),
-    (17, b"c learn : 0 1 2 \n", b"refused at line 17: bad number\n"),
+    (
+        17,
+        b"c learn : 0 1 2 \n",
+        b"refused at line 17: bad number\n",
+    ),
 ];
 
 /// Changes of the verdict and behind it.
@@ -51,14 +87,42 @@ const BEHIND: [Change; 13] = [
     (18, b"v unsat 7\n", b"refused at line 18: unknown id\n"),
     (18, b"v sat w61\n", b"refused at line 18: wrong verdict\n"),
     (18, b"v sat\n", b"refused at line 18: wrong verdict\n"),
-    (18, b"v unknown 18446744073709551615\n", b"refused at line 18: wrong verdict\n"),
-    (18, b"v unsupported\n", b"refused at line 18: wrong verdict\n"),
-    (18, b"v unsat 3\nv unsat 3\n", b"check 1: unsat\nrefused at line 19: misplaced line\n"),
+    (
+        18,
+        b"v unknown 18446744073709551615\n",
+        b"refused at line 18: wrong verdict\n",
+    ),
+    (
+        18,
+        b"v unsupported\n",
+        b"refused at line 18: wrong verdict\n",
+    ),
+    (
+        18,
+        b"v unsat 3\nv unsat 3\n",
+        b"check 1: unsat\nrefused at line 19: misplaced line\n",
+    ),
     (18, b"", b"refused at line 18: misplaced line\n"),
-    (19, b"end", b"check 1: unsat\nrefused at line 19: unended line\n"),
-    (19, b"", b"check 1: unsat\nrefused at line 19: missing line\n"),
-    (19, b"end\nend\n", b"check 1: unsat\nrefused at line 20: misplaced line\n"),
-    (19, b"end\n\n", b"check 1: unsat\nrefused at line 20: bad word\n"),
+    (
+        19,
+        b"end",
+        b"check 1: unsat\nrefused at line 19: unended line\n",
+    ),
+    (
+        19,
+        b"",
+        b"check 1: unsat\nrefused at line 19: missing line\n",
+    ),
+    (
+        19,
+        b"end\nend\n",
+        b"check 1: unsat\nrefused at line 20: misplaced line\n",
+    ),
+    (
+        19,
+        b"end\n\n",
+        b"check 1: unsat\nrefused at line 20: bad word\n",
+    ),
 ];
 
 fn status_of(answers: &[u8]) -> CheckStatus {
@@ -69,10 +133,23 @@ fn status_of(answers: &[u8]) -> CheckStatus {
     }
 }
 
-fn expect_change(rt: &impl Abort, alloc: Global, change: Change, length: usize) -> Result<(), AllocError> {
+fn expect_change(
+    rt: &impl Abort,
+    alloc: Global,
+    change: Change,
+    length: usize,
+) -> Result<(), AllocError> {
     let (number, text, answers) = change;
     let proof = changed(alloc, &PROOF, number, text)?;
-    expect(rt, alloc, SCRIPT, &proof, length.max(1), answers, status_of(answers))
+    expect(
+        rt,
+        alloc,
+        SCRIPT,
+        &proof,
+        length.max(1),
+        answers,
+        status_of(answers),
+    )
 }
 
 #[test]

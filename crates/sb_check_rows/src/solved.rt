@@ -13,7 +13,10 @@ type Case = (&'static [u8], &'static [u8]);
 
 const CASES: [Case; 10] = [
     (b"", b"accepted\n"),
-    (b"(set-logic QF_S)(check-sat)(exit)(check-sat)", b"check 1: sat\naccepted\n"),
+    (
+        b"(set-logic QF_S)(check-sat)(exit)(check-sat)",
+        b"check 1: sat\naccepted\n",
+    ),
     (
         b"(declare-const x String)(assert (str.in_re x (re.+ (re.range \"a\" \"b\"))))(check-sat)",
         b"check 1: sat\naccepted\n",
@@ -43,7 +46,10 @@ const CASES: [Case; 10] = [
         b"(assert y)(declare-const x Int)(declare-const x Int)(pop 1)(get-model))(check-sat)",
         b"check 1: sat\naccepted\n",
     ),
-    (b"(declare-const p Bool)(assert p)(check-sat)", b"check 1: unsupported\naccepted\n"),
+    (
+        b"(declare-const p Bool)(assert p)(check-sat)",
+        b"check 1: unsupported\naccepted\n",
+    ),
     (b"; nothing but a comment", b"accepted\n"),
 ];
 
@@ -84,7 +90,12 @@ fn proof_of(
     Vec::from_slice(alloc, world.written(OutPort::Proof))
 }
 
-fn expect_case(rt: &impl Abort, alloc: Global, case: Case, wanted: SolveStatus) -> Result<(), AllocError> {
+fn expect_case(
+    rt: &impl Abort,
+    alloc: Global,
+    case: Case,
+    wanted: SolveStatus,
+) -> Result<(), AllocError> {
     let (script, answers) = case;
     let proof = proof_of(rt, alloc, script, wanted)?;
     let mut world = MemWorld::new(alloc);

@@ -209,8 +209,13 @@ cut_behind old now kept new o p q s none same =
 -- as many bytes were left
 within_left : (old now : LinesState) (o p : Outside) (s : Sofar old now o p) (left : List ℕ) → IsLeft old o left
     → s.count ≤ length left
-within_left old now o p s left is = omega (arith, s.length, ap length (s.bytes left is).0, length-append old.kept left,
-    length-append now.kept (drop s.count left))
+within_left old now o p s left is = omega (
+  arith,
+  s.length,
+  ap length (s.bytes left is).0,
+  length-append old.kept left,
+  length-append now.kept (drop s.count left),
+)
 
 ended_line : (old now new : LinesState) (o p : Outside) → Sofar old now o p → TakesLine now new
     → new.read ≤ new.limit → Advances (Line true) old new o p
