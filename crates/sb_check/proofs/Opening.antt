@@ -68,7 +68,7 @@ pub concluded : (r : Result (Unit {0}) CheckerFault) (run : Run) (script proof :
     → Stops fault script proof old now)
     → GoesOn script proof run old before → Concludes r script proof old now
 concluded (Ok _) run script proof old before now ok err first = ok script proof old first
-concluded (Err fault) run script proof old before now ok err first = err script proof old first
+concluded (Err _) run script proof old before now ok err first = err script proof old first
 
 -- both are opened, and hold what their files do
 opened_of : (s : CheckStatus) (asked : Asked) (old middle new : Outside) → middle ≡ opened asked old
