@@ -208,7 +208,8 @@ fn finish<W: World>(run: &mut Run, world: &mut W) -> Result<(), CheckerFault>
 
 /// Opens the script and the proof of these names, and checks them.
 fn check_files<W: World>(alloc: Global, script: &str, proof: &str, world: &mut W) -> CheckStatus
-    ensures run { RunBy (record { script = script.entry.now; proof = proof.entry.now }) result (W.outside world.old) (W.outside world.new) }
+    ensures run { RunBy (record { script = script.entry.now; proof = proof.entry.now }) result
+        (W.outside world.old) (W.outside world.new) }
     ensures faults { CountsFaults result (W.faults world.old) (W.faults world.new) }
 {
     match open_files(script, proof, world) {
@@ -221,7 +222,8 @@ fn check_files<W: World>(alloc: Global, script: &str, proof: &str, world: &mut W
 /// Opens the script and the proof.
 fn open_files<W: World>(script: &str, proof: &str, world: &mut W) -> Result<(), WorldError>
     ensures ok { OnOk result
-        (W.outside world.new ≡ opened (record { script = script.entry.now; proof = proof.entry.now }) (W.outside world.old)) }
+        (W.outside world.new
+        ≡ opened (record { script = script.entry.now; proof = proof.entry.now }) (W.outside world.old)) }
     ensures err { OnErr result ((W.outside world.new ≡ W.outside world.old)
         ⊎ (W.outside world.new ≡ open_at InPort.Script (Some script.entry.now) (W.outside world.old))) }
     ensures counts { CountsFault result (W.faults world.old) (W.faults world.new) }
