@@ -1,0 +1,3 @@
+mod WordsTaken
+mod Solved
+mod Checked
