@@ -27,10 +27,13 @@ pub data Feature : Type 0 where
 abbrev pub brought_commands : List Name
 brought_commands =
     codes "assert" ∷ codes "check-sat" ∷ codes "declare-const" ∷ codes "declare-fun" ∷ codes "define-fun"
-    ∷ codes "exit" ∷ codes "get-model" ∷ codes "get-value" ∷ codes "set-logic" ∷ codes "set-option" ∷ []
+    ∷ codes "echo" ∷ codes "exit" ∷ codes "get-info" ∷ codes "get-model" ∷ codes "get-option" ∷ codes "get-value"
+    ∷ codes "set-info" ∷ codes "set-logic" ∷ codes "set-option" ∷ []
 
 abbrev pub brought_options : List Name
-brought_options = codes ":print-success" ∷ codes ":produce-models" ∷ []
+brought_options =
+    codes ":print-success" ∷ codes ":produce-models"
+    ∷ codes ":produce-unsat-assumptions" ∷ codes ":global-declarations" ∷ []
 
 abbrev pub is_brought_symbol : Symbol → Bool
 is_brought_symbol symbol.str_in_re = true
@@ -75,7 +78,7 @@ is_brought (an_option name) = is_among brought_options name
 is_brought escapes = false
 is_brought numerals = false
 is_brought lets = false
-is_brought functions = false
+is_brought functions = true
 is_brought definitions = false
 is_brought (a_check_of t) = is_membership t
 is_brought proofs = true

@@ -2,7 +2,7 @@
 use Rattle.std.specs.Prelude.{◌≡◌, [], ◌∷◌, codes, Some, None, refl}
 use Rattle.sb_reader.specs.Forms.{Form, Symbol, QuotedSymbol, Keyword, Numeral, Words}
 use Rattle.sb_script.specs.ReadingExamples.{group}
-use Rattle.sb_script.specs.Commands.{shapes, shaped_by, shaped, command_of, push, pop, check_sat_assuming, get_value, get_unsat_assumptions, set_info, get_info, get_option, echo, reset, reset_assertions, declare_function, another}
+use Rattle.sb_script.specs.Commands.{shapes, shaped_by, shaped, command_of, push, pop, check_sat_assuming, get_value, get_unsat_assumptions, set_info, get_info, get_option, echo, reset, reset_assertions, declare_constant, declare_function, another}
 
 abbrev one : Form
 one = Numeral (codes "1")
@@ -101,6 +101,32 @@ resets_assertions = refl
 unsat_assumptions : shaped_by shapes (codes "get-unsat-assumptions") [] ≡ Some get_unsat_assumptions
 unsat_assumptions = refl
 
+-- these are answered
+echoes : shaped (codes "echo") (Words (codes "a") ∷ []) ≡ Some (echo (codes "a"))
+echoes = refl
+
+two_texts : shaped (codes "echo") (Words (codes "a") ∷ Words (codes "b") ∷ []) ≡ None
+two_texts = refl
+
+asks_for_an_option : shaped (codes "get-option") (Keyword (codes ":seed") ∷ [])
+    ≡ Some (get_option (codes ":seed"))
+asks_for_an_option = refl
+
+no_key : shaped (codes "get-option") (x ∷ []) ≡ None
+no_key = refl
+
+asks_for_information : shaped (codes "get-info") (Keyword (codes ":name") ∷ []) ≡ Some (get_info (codes ":name"))
+asks_for_information = refl
+
+too_many_keys : shaped (codes "get-info") (Keyword (codes ":name") ∷ Keyword (codes ":version") ∷ []) ≡ None
+too_many_keys = refl
+
+sets_information : shaped (codes "set-info") (Keyword (codes ":source") ∷ group [] ∷ []) ≡ Some set_info
+sets_information = refl
+
+no_information : shaped (codes "set-info") [] ≡ None
+no_information = refl
+
 -- a wrong shape comes first, also of what is left out
 a_sort_too_many : shaped (codes "declare-fun") (Symbol (codes "g") ∷ group [] ∷ Symbol (codes "Int") ∷ one ∷ []) ≡ None
 a_sort_too_many = refl
@@ -108,6 +134,11 @@ a_sort_too_many = refl
 no_parameter : shaped (codes "define-fun") (Symbol (codes "f") ∷ group (x ∷ []) ∷ bool ∷ Symbol (codes "true") ∷ [])
     ≡ None
 no_parameter = refl
+
+-- a function without arguments is a constant
+without_arguments : shaped (codes "declare-fun") (x ∷ group [] ∷ Symbol (codes "String") ∷ [])
+    ≡ Some (declare_constant (codes "x") (Symbol (codes "String")))
+without_arguments = refl
 
 -- a function with arguments is left out
 with_arguments : shaped (codes "declare-fun") (Symbol (codes "g") ∷ group (bool ∷ []) ∷ bool ∷ [])

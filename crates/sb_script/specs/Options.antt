@@ -92,8 +92,11 @@ option_texts =
     ∷ (codes ":global-declarations", λ s. truth_text s.options.global_declarations)
     ∷ (codes ":reproducible-resource-limit", λ s. decimal s.options.resource_limit) ∷ []
 
+abbrev pub get_by : List (Name × (State → List ℕ)) → Name → State → Step
+get_by table key s = elim (found_in table key) [ Some text ↦ answers (line (text s)) s | None ↦ is_unsupported s ]
+
 abbrev pub get_option : Name → State → Step
-get_option key s = elim (found_in option_texts key) [ Some text ↦ answers (line (text s)) s | None ↦ is_unsupported s ]
+get_option key s = get_by (filter (λ row. is_brought (an_option row.0)) option_texts) key s
 
 -- what the solver says of itself
 abbrev pub info_texts : List (Name × List ℕ)

@@ -107,6 +107,42 @@ no_value_is_none = refl
 is_not_decided : in_fragment (run (command (Symbol (codes "assert") ∷ Symbol (codes "true") ∷ []) ∷ []) asked).1 ≡ false
 is_not_decided = refl
 
+-- a constant that is declared as a function, twice; a function with arguments, whose name is then taken
+abbrev declare_function : List ℕ → List Form → Entry
+declare_function name sorts = command
+    (Symbol (codes "declare-fun") ∷ Symbol name ∷ group sorts ∷ Symbol (codes "String") ∷ [])
+
+functions :
+    (run (declare_function (codes "x") [] ∷ declare_function (codes "x") [] ∷ declare_function (codes "f")
+    (Symbol (codes "Int") ∷ []) ∷ declare_function (codes "f") [] ∷ []) start).0
+    ≡ line (codes "success")
+    ++ (line (codes "(error \"already declared x\")")
+    ++ (unsupported_line ++ line (codes "(error \"already declared f\")")))
+functions = refl
+
+is_a_constant : (run (declare_function (codes "x") [] ∷ []) start).1
+    ≡ (run (declare (codes "x") (codes "String") ∷ []) start).1
+is_a_constant = refl
+
+-- what is asked of the solver, and what is told to it
+asks_the_solver :
+    (run (command (Symbol (codes "echo") ∷ Words (codes "a\"\"b") ∷ []) ∷ command (Symbol (codes "set-info") ∷ Keyword
+    (codes ":status") ∷ Symbol (codes "sat") ∷ []) ∷ command (Symbol (codes "get-info") ∷ Keyword (codes ":version") ∷
+    []) ∷ command (Symbol (codes "get-option") ∷ Keyword (codes ":print-success") ∷ []) ∷ command
+    (Symbol (codes "get-option") ∷ Keyword (codes ":reproducible-resource-limit") ∷ []) ∷ []) start).0
+    ≡ line (codes "\"a\"\"b\"")
+    ++ (line (codes "success")
+    ++ (line (codes "(:version \"1\")") ++ (line (codes "true") ++ unsupported_line)))
+asks_the_solver = refl
+
+-- declarations that are global are left out, and a declaration makes it too late
+globals :
+    (run (option (codes ":global-declarations") (codes "true") ∷ option (codes ":global-declarations") (codes "false") ∷
+    declare (codes "x") (codes "String") ∷ option (codes ":global-declarations") (codes "false") ∷ []) start).0
+    ≡ unsupported_line ++ (line (codes "success")
+    ++ (line (codes "success") ++ line (codes "(error \"option set too late\")")))
+globals = refl
+
 -- x is declared, and the check found "a"
 abbrev after_check : State
 after_check = settled (is_sat ((0, Text (codes "a")) ∷ []))

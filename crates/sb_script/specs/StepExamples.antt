@@ -11,7 +11,7 @@ use Rattle.sb_script.specs.Commands as command
 use Rattle.sb_script.specs.Commands.{Command}
 use Rattle.sb_script.specs.State.{State, start, declared, marked, live, constants_of, satisfied, refuted, undecided}
 use Rattle.sb_script.specs.Steps.{Step, answers, leaves, checks, exits, above, all, line, unsupported_line, refusal_text, refused_term}
-use Rattle.sb_script.specs.Options.{settings, set_by}
+use Rattle.sb_script.specs.Options.{settings, set_by, option_texts, get_by}
 use Rattle.sb_script.specs.Replies.{step}
 use Rattle.sb_script.specs.ReadingExamples.{group, range}
 
@@ -82,14 +82,26 @@ faults_of_terms = refl
 abbrev set : List ℕ → Form → State → Step
 set key value s = set_by settings key value s
 
+-- of all options, of those too that can't be set yet
+abbrev values_at_start : List Name → List ℕ
+values_at_start [] = []
+values_at_start (key ∷ keys) = told (get_by option_texts key start) ++ values_at_start keys
+
 values_of_options :
-    said_of (command.get_option (codes ":print-success") ∷ command.get_option (codes ":produce-models") ∷
-    command.get_option
-    (codes ":produce-unsat-assumptions") ∷ command.get_option (codes ":global-declarations") ∷ command.get_option
-    (codes ":reproducible-resource-limit") ∷ command.get_option (codes ":verbosity") ∷ []) start
+    values_at_start (codes ":print-success" ∷ codes ":produce-models" ∷ codes ":produce-unsat-assumptions" ∷ codes
+    ":global-declarations" ∷ codes ":reproducible-resource-limit" ∷ codes ":verbosity" ∷ [])
     ≡ codes "true\nfalse\nfalse\nfalse\n0\nunsupported\n"
 unfolding digits
 values_of_options = refl
+
+-- what is asked for is the value in force; an option that can't be set has none
+values_in_force :
+    said_of (command.get_option (codes ":produce-unsat-assumptions") ∷ command.set_option
+    (codes ":produce-unsat-assumptions") (Symbol (codes "true")) ∷ command.get_option
+    (codes ":produce-unsat-assumptions") ∷ command.get_option (codes ":global-declarations") ∷ command.set_option
+    (codes ":print-success") (Symbol (codes "false")) ∷ command.get_option (codes ":print-success") ∷ command.get_option
+    (codes ":reproducible-resource-limit") ∷ []) start ≡ codes "false\nsuccess\ntrue\nfalse\nfalse\nunsupported\n"
+values_in_force = refl
 
 a_limit : told (set (codes ":reproducible-resource-limit") (Numeral (codes "18446744073709551615")) start) ≡ success
 a_limit = refl
