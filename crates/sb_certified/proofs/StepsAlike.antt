@@ -66,7 +66,9 @@ get_info_answers key s =
     (an_option_of s (found_in info_texts key) _ _ (λ text. (_, refl)) (_, refl))
 
 get_option_answers : (key : Name) (s : State) → IsAnswer s (option.get_option key s)
-get_option_answers key s = an_option_of s (found_in option_texts key) _ _ (λ text. (_, refl)) (_, refl)
+get_option_answers key s =
+    an_option_of s (found_in (filter (λ row. is_brought (an_option row.0)) option_texts) key) _ _ (λ text. (_, refl))
+    (_, refl)
 
 contradicted_answers : (m : Mode) (s : State) → IsAnswer s (contradicted m s)
 contradicted_answers (refuted assumptions) s = (_, refl)

@@ -2,24 +2,28 @@
 use Rattle.std.proofs.Common.{◌≡◌, Bool, true, false, ◌&&◌, if◌then◌else◌, List, [], ◌∷◌, Option, Some, None, refl}
 use Rattle.std.specs.Prelude.{filter, option_map}
 use Rattle.std.specs.List.{list_all}
-use Rattle.sb_reader.specs.Forms.{Form, Symbol, Keyword, Group, more}
+use Rattle.sb_reader.specs.Forms.{Form, Symbol, Keyword, Words, Group, more}
 use Rattle.sb_script.specs.Names.{Name, is_name}
 use Rattle.sb_script.specs.Brought.{a_command, is_brought}
 use Rattle.sb_script.specs.Symbols.{found_in}
 use Rattle.sb_script.specs.Commands as command
-use Rattle.sb_script.specs.Commands.{list_of, symbol_in, declarable, is_sort_form, is_parameter, parameters_of, is_item, function_of, definition_of, constant_shape, function_shape, definition_shape, logic_shape, option_shape, assert_shape, value_shape, bare, shapes, shaped_by, shaped, command_of}
+use Rattle.sb_script.specs.Commands.{list_of, symbol_in, declarable, is_sort_form, is_parameter, parameters_of, is_item, function_of, definition_of, constant_shape, function_shape, definition_shape, logic_shape, option_shape, assert_shape, value_shape, keyword_shape, info_shape, echo_shape, bare, shapes, shaped_by, shaped, command_of}
 use Rattle.sb_reached.proofs.SimpleTerms.{if_some, some_by}
 
 -- the command is asked for by some form
 abbrev pub is_reached : command.Command → Bool
 is_reached (command.set_logic name) = true
 is_reached (command.set_option key value) = true
+is_reached (command.get_option key) = true
+is_reached command.set_info = true
+is_reached (command.get_info key) = true
 is_reached (command.declare_constant name sort) = true
 is_reached (command.declare_function name) = true
 is_reached (command.assert form) = true
 is_reached command.check_sat = true
 is_reached command.get_model = true
 is_reached (command.get_value forms) = true
+is_reached (command.echo bytes) = true
 is_reached command.exit = true
 is_reached command.another = true
 is_reached _ = false
@@ -78,6 +82,19 @@ value_gives (Group (more item items) ∷ []) =
     refl refl
 value_gives _ = refl
 
+keyword_gives : (make : Name → command.Command) → ((key : Name) → is_reached (make key) ≡ true)
+    → Gives (keyword_shape make)
+keyword_gives make h (Keyword key ∷ []) = h key
+keyword_gives make h _ = refl
+
+info_gives : Gives info_shape
+info_gives (Keyword key ∷ forms) = refl
+info_gives _ = refl
+
+echo_gives : Gives echo_shape
+echo_gives (Words bytes ∷ []) = refl
+echo_gives _ = refl
+
 bare_gives : (c : command.Command) → is_reached c ≡ true → Gives (bare c)
 bare_gives c h [] = h
 bare_gives c h (form ∷ forms) = refl
@@ -91,7 +108,9 @@ brought_give : AllGive (filter (λ row. is_brought (a_command row.0)) shapes)
 brought_give =
     assert_gives also constant_gives also function_gives also definition_gives
     also bare_gives command.check_sat refl also bare_gives command.get_model refl also value_gives
-    also logic_gives also option_gives also bare_gives command.exit refl also tt
+    also logic_gives also option_gives also keyword_gives command.get_option (λ key. refl)
+    also info_gives also keyword_gives command.get_info (λ key. refl) also echo_gives
+    also bare_gives command.exit refl also tt
 
 shaped_gives : (rows : List (Name × (List Form → Option command.Command))) → AllGive rows → (name : Name)
     (forms : List Form) → if_some is_reached (shaped_by rows name forms) ≡ true

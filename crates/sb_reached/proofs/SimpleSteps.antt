@@ -1,5 +1,5 @@
 -- Each step of a script keeps that everything in the state is simple.
-use Rattle.std.proofs.Common.{◌≡◌, ℕ, Bool, true, false, not, ◌&&◌, if◌then◌else◌, List, [], ◌∷◌, ◌++◌, map, length, Option, Some, None, Result, Ok, Err, refl, ap, ◌∙◌}
+use Rattle.std.proofs.Common.{◌≡◌, ℕ, Bool, true, false, not, ◌&&◌, if◌then◌else◌, List, [], ◌∷◌, ◌++◌, map, length, codes, Option, Some, None, Result, Ok, Err, refl, ap, ◌∙◌}
 use Rattle.std.specs.Prelude.{filter}
 use Rattle.std.specs.List.{list_all}
 use Rattle.std.proofs.lemmas.Bool.{and_parts, and_from, false≢true}
@@ -20,7 +20,7 @@ use Rattle.sb_script.specs.Commands as command
 use Rattle.sb_script.specs.Commands.{symbol_in, command_of}
 use Rattle.sb_script.specs.State.{State, Level, Assertion, Mode, plain, satisfied, refuted, undecided, asserted, a_mark, over_levels, names_of, live_terms, terms_in, in_level, innermost, said, with_name, declared, marked, with_assertion}
 use Rattle.sb_script.specs.Steps.{Step, answers, line, fails_by, succeeds, is_unsupported, refused_term, fault_error, list_text}
-use Rattle.sb_script.specs.Options.{is_logic, truth_in, with_truth, set_print_success, set_produce_models, settings, set_by}
+use Rattle.sb_script.specs.Options.{is_logic, truth_in, with_truth, set_print_success, set_produce_models, set_produce_assumptions, set_global_declarations, settings, set_by, option_texts, get_option, info_texts, reason_unknown, get_info}
 use Rattle.sb_script.specs.Reading.{read}
 use Rattle.sb_script.specs.Replies.{sort_of_form, declare_constant, declare_function, assert, with_values, value_text, Item, item_of, some_malformed, first_unknown, all_constants, values_of, get_value, step, step_of}
 use Rattle.sb_reached.specs.SimpleStates.{is_simple, is_simple_named, is_simple_naming, is_simple_level, is_simple_state, is_simple_behind}
@@ -140,8 +140,25 @@ models_keep : Keeps set_produce_models
 models_keep value s h =
     truth_simple value (λ b. record s { options = record s.options { produce_models = b } }) s h (λ b. h)
 
+assumptions_keep : Keeps set_produce_assumptions
+assumptions_keep value s h =
+    truth_simple value (λ b. record s { options = record s.options { produce_unsat_assumptions = b } }) s h (λ b. h)
+
+declarations_keep : Keeps set_global_declarations
+declarations_keep value s h =
+    by_either s.begun (fails_by error.option_too_late s) _ h (step (truth_in value))
+  where
+    step : (o : Option Bool) → is_simple_behind (elim o as (λ _. Step) [
+      | Some true ↦ is_unsupported s
+      | Some false ↦ succeeds (record s { options = record s.options { global_declarations = false } })
+      | None ↦ fails_by error.bad_option_value s
+    ]) ≡ true
+    step (Some true) = h
+    step (Some false) = h
+    step None = h
+
 brought_keep : AllKeep (filter (λ row. is_brought (an_option row.0)) settings)
-brought_keep = (success_keeps, (models_keep, tt))
+brought_keep = (success_keeps, (models_keep, (assumptions_keep, (declarations_keep, tt))))
 
 set_keeps : (rows : List (Name × (Form → State → Step))) → AllKeep rows → (key : Name) (value : Form) (s : State)
     → is_simple_state s ≡ true → is_simple_behind (set_by rows key value s) ≡ true
@@ -153,6 +170,32 @@ set_keeps (row ∷ rows) all key value s h = step (is_name key row.0) (set_keeps
         [ Some set ↦ set value s | None ↦ is_unsupported s ]) ≡ true
     step true rest = all.0 value s h
     step false rest = rest
+
+-- What is asked of the solver.
+
+option_got : (key : Name) (s : State) → is_simple_state s ≡ true → is_simple_behind (get_option key s) ≡ true
+option_got key s h = step (found_in (filter (λ row. is_brought (an_option row.0)) option_texts) key)
+  where
+    step : (o : Option (State → List ℕ)) → is_simple_behind (elim o as (λ _. Step)
+        [ Some shown ↦ answers (line (shown s)) s | None ↦ is_unsupported s ]) ≡ true
+    step (Some shown) = h
+    step None = h
+
+reason_got : (mode : Mode) (s : State) → is_simple_state s ≡ true → is_simple_behind (reason_unknown mode s) ≡ true
+reason_got undecided s h = h
+reason_got plain s h = h
+reason_got (satisfied v) s h = h
+reason_got (refuted assumptions) s h = h
+
+info_got : (key : Name) (s : State) → is_simple_state s ≡ true → is_simple_behind (get_info key s) ≡ true
+info_got key s h =
+    by_either (is_name key (codes ":reason-unknown")) (reason_unknown s.mode s) _ (reason_got s.mode s h)
+    (step (found_in info_texts key))
+  where
+    step : (o : Option (List ℕ)) → is_simple_behind (elim o as (λ _. Step)
+        [ Some shown ↦ answers (line shown) s | None ↦ is_unsupported s ]) ≡ true
+    step (Some shown) = h
+    step None = h
 
 -- Declarations.
 
@@ -263,12 +306,16 @@ command_simple (command.set_logic name) s r h =
     (by_either (is_logic name) (succeeds (record s { logic_set = true; begun = true })) (is_unsupported s) h h)
 command_simple (command.set_option key value) s r h =
     set_keeps (filter (λ row. is_brought (an_option row.0)) settings) brought_keep key value s h
+command_simple (command.get_option key) s r h = option_got key s h
+command_simple command.set_info s r h = h
+command_simple (command.get_info key) s r h = info_got key s h
 command_simple (command.declare_constant name sort) s r h = constant_declared name sort s h
 command_simple (command.declare_function name) s r h = function_declared name s h
 command_simple (command.assert form) s r h = term_asserted form s h
 command_simple command.check_sat s r h = refl
 command_simple command.get_model s r h = with_values_simple s _ h (λ v. h)
 command_simple (command.get_value forms) s r h = values_got forms s h
+command_simple (command.echo bytes) s r h = h
 command_simple command.exit s r h = refl
 command_simple command.another s r h = h
 command_simple _ s r h = absurd (false≢true r)

@@ -7,7 +7,7 @@ use std::alloc::{AllocError, Global};
 use std::process::Abort;
 use std::test::Fail;
 
-const CASES: [Case; 17] = [
+const CASES: [Case; 18] = [
     // nothing
     (b"", b""),
     // success is printed, and the logic may be QF_S
@@ -83,10 +83,19 @@ const CASES: [Case; 17] = [
     // what is left out is answered so, and leaves its mark
     (
         b"(set-option :print-success false)(set-logic QF_SLIA)(declare-const x String)(push 1)(assert (not true))\
-          (check-sat)(set-info :status sat)(declare-const n Int)(declare-fun f (Int) Int)\
-          (define-fun g ((a String)) Bool true)(echo \"x\")(get-option :print-success)(reset)",
+          (check-sat)(declare-const n Int)(declare-fun f (Int) Int)(define-fun g ((a String)) Bool true)\
+          (get-option :random-seed)(get-info :all-statistics)(reset)",
         b"unsupported\nunsupported\nunsupported\nunsupported\nunsupported\nunsupported\nunsupported\nunsupported\n\
-          unsupported\nunsupported\n",
+          unsupported\n",
+    ),
+    // a script as benchmarks are written
+    (
+        b"(set-info :smt-lib-version 2.6)(set-option :produce-models true)(set-logic QF_S)\
+          (set-info :source |a site|)(set-info :status sat)(declare-fun x () String)(echo \"x is \"\"short\"\"\")\
+          (assert (str.in_re x (re.+ (str.to_re \"ab\"))))(check-sat)(get-model)(get-info :reason-unknown)\
+          (get-option :produce-models)(exit)",
+        b"success\nsuccess\nsuccess\nsuccess\nsuccess\nsuccess\n\"x is \"\"short\"\"\"\nsuccess\nsat\n\
+          ((define-fun x () String \"ab\"))\n(error \"no unknown answer\")\ntrue\nsuccess\n",
     ),
     // a marked name is left out where it is used, and taken
     (

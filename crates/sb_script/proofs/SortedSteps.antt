@@ -256,7 +256,7 @@ set_keeps (row ∷ rows) all key value s h = step (is_name key row.0) (set_keeps
     step false rest = rest
 
 option_got : (key : Name) (s : State) → is_sorted_state s ≡ true → is_sorted_behind (get_option key s) ≡ true
-option_got key s h = step (found_in option_texts key)
+option_got key s h = step (found_in (filter (λ row. is_brought (an_option row.0)) option_texts) key)
   where
     step : (o : Option (State → List ℕ)) → is_sorted_behind (elim o as (λ _. Step)
         [ Some text ↦ answers (text s ++ 10 ∷ []) s | None ↦ is_unsupported s ]) ≡ true

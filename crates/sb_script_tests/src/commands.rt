@@ -24,7 +24,7 @@ const COMMANDS: [(&[u8], &str); 8] = [
         "(error \"bad option value\") (error \"bad option value\") success unsupported (error \"malformed command\")",
     ),
     (
-        b"abc ) (a\\b) (echo \"a\") (1) () (|check-sat|) (check-sat 1)",
+        b"abc ) (a\\b) (declare-sort a) (1) () (|check-sat|) (check-sat 1)",
         "(error \"malformed command\") (error \"unexpected )\") (error \"bad token\") unsupported (error \"malformed command\") (error \"malformed command\") (error \"malformed command\") (error \"malformed command\")",
     ),
     (
@@ -40,6 +40,50 @@ const COMMANDS: [(&[u8], &str); 8] = [
         "success (error \"already declared |a b|\") success (error \"already declared |a\"\"b|\") success (error \"already declared ||\")",
     ),
     (b"(set-option :print-success false) (exit) (check-sat)", ""),
+];
+
+/// Scripts that ask the solver about itself or tell it something, and their answers.
+const QUESTIONS: [(&[u8], &str); 7] = [
+    (
+        b"(get-info :name) (get-info :version) (get-info :authors) (get-info :error-behavior) (get-info :reason-unknown) (check-sat) (get-info :reason-unknown)",
+        "(:name \"strsolve\") (:version \"1\") (:authors \"the strsolve authors\") (:error-behavior continued-execution) (error \"no unknown answer\") unsat (error \"no unknown answer\")",
+    ),
+    (
+        b"(get-info :all-statistics) (get-info :nam) (get-info) (get-info name) (get-info :name :version) (get-option) (get-option |:seed|) (get-option :a :b) (get-option :seed) (get-option :reproducible-resource-limit)",
+        "unsupported unsupported (error \"malformed command\") (error \"malformed command\") (error \"malformed command\") (error \"malformed command\") (error \"malformed command\") (error \"malformed command\") unsupported unsupported",
+    ),
+    (
+        b"(get-option :print-success) (get-option :produce-models) (set-option :produce-models true) (get-option :produce-models) (get-option :produce-unsat-assumptions) (set-option :produce-unsat-assumptions true) (get-option :produce-unsat-assumptions) (set-option :produce-unsat-assumptions 0) (set-option :print-success false) (get-option :print-success)",
+        "true false success true false success true (error \"bad option value\") false",
+    ),
+    (
+        b"(get-option :global-declarations) (set-option :global-declarations true) (set-option :global-declarations 1) (set-option :global-declarations false) (assert y) (set-option :global-declarations |false|) (declare-fun x () String) (set-option :global-declarations false) (set-option :global-declarations 1) (get-option :global-declarations)",
+        "false unsupported (error \"bad option value\") success (error \"unknown symbol y\") success success (error \"option set too late\") (error \"option set too late\") false",
+    ),
+    (
+        b"(set-logic QF_LIA) (set-option :global-declarations false) (set-logic QF_S) (set-option :global-declarations true) (set-option :reproducible-resource-limit 1)",
+        "unsupported success success (error \"option set too late\") unsupported",
+    ),
+    (
+        b"(echo \"a\"\"b\") (echo \"\") (echo \"\\u{61}\") (echo a) (echo) (echo \"a\" \"b\") (set-option :print-success false) (echo \"c\")",
+        "\"a\"\"b\" \"\" \"\\u{61}\" (error \"malformed command\") (error \"malformed command\") (error \"malformed command\") \"c\"",
+    ),
+    (
+        b"(set-info :status sat) (set-info :notes |a b| (1 2)) (set-info :x) (set-info status) (set-info) (set-option :print-success false) (set-info :status sat)",
+        "success success success (error \"malformed command\") (error \"malformed command\")",
+    ),
+];
+
+/// Declarations of functions, and their answers. One without arguments is a constant.
+const FUNCTIONS: [(&[u8], &str); 2] = [
+    (
+        b"(declare-fun x () String) (declare-fun x () String) (declare-const x String) (declare-fun n () Int) (declare-fun n () String) (declare-fun f (String) String) (declare-fun f () String) (declare-fun str.len () String) (declare-fun |let| () String)",
+        "success (error \"already declared x\") (error \"already declared x\") unsupported (error \"already declared n\") unsupported (error \"already declared f\") (error \"already declared str.len\") success",
+    ),
+    (
+        b"(declare-fun y (1) String) (declare-fun y () 1) (declare-fun y ()) (declare-fun y String) (declare-fun y () String String) (declare-fun let () String) (declare-fun y () String) (assert (str.in_re y (re.range \"a\" \"b\"))) (check-sat)",
+        "(error \"malformed command\") (error \"malformed command\") (error \"malformed command\") (error \"malformed command\") (error \"malformed command\") (error \"malformed command\") success success unsat",
+    ),
 ];
 
 /// Scripts with assertions, and their answers, where each check finds unsat.
@@ -72,7 +116,7 @@ const VALUES: [(&[&[u32]], &[u8], &str); 5] = [
     ),
     (
         &[],
-        b"(set-option :produce-models true) (check-sat) (get-model) (declare-const x String) (get-model) (check-sat) (get-value (x))",
+        b"(set-option :produce-models true) (check-sat) (get-model) (declare-fun x () String) (get-model) (check-sat) (get-value (x))",
         "success sat () success (error \"no model\") sat ((x \"\"))",
     ),
     (
@@ -86,6 +130,10 @@ const VALUES: [(&[&[u32]], &[u8], &str); 5] = [
         "success success sat (error \"already declared x\") ((x \"a\")) success (error \"no model\")",
     ),
 ];
+
+/// The reason, and that a declaration ends it.
+const REASONS: &[u8] =
+    b"(get-info :reason-unknown) (declare-const x String) (get-info :reason-unknown)";
 
 /// The verdict of a check: sat with these words, or unsat.
 fn verdict_of(alloc: Global, found: Option<&[&[u32]]>) -> Result<Verdict, AllocError> {
@@ -203,6 +251,41 @@ fn expect_words_once(rt: &impl Abort, alloc: Global, stack: &mut Stack) -> Resul
     assert_eq!(rt; words.len(), 1);
     let words = stack.take_words();
     assert_eq!(rt; words.len(), 0);
+    Ok(())
+}
+
+/// Behind a check that was not decided the reason is told.
+fn expect_reason(rt: &impl Abort, alloc: Global, stack: &mut Stack) -> Result<(), AllocError> {
+    let reply = stack.settle(Verdict::Unknown);
+    assert_eq!(rt; reply, b"unknown\n".as_slice());
+    let (mut out, feed) = (String::new(alloc), &mut Feed::new(alloc));
+    answer_all(alloc, &mut out, feed, stack, REASONS, None)?;
+    assert_eq!(rt;
+        out.as_str().trim_end(),
+        "(:reason-unknown resource-limit) success (error \"no unknown answer\")"
+    );
+    Ok(())
+}
+
+#[test]
+fn tells_why_a_check_was_not_decided(rt: HostRuntime) -> Result<(), Fail> {
+    expect_reason(&rt, rt.alloc(), &mut Stack::new(rt.alloc()))?;
+    Ok(())
+}
+
+#[test]
+fn answers_questions_about_the_solver(rt: HostRuntime) -> Result<(), Fail> {
+    for (script, wanted) in QUESTIONS {
+        expect_answers(&rt, rt.alloc(), script, None, wanted)?;
+    }
+    Ok(())
+}
+
+#[test]
+fn answers_declarations_of_functions(rt: HostRuntime) -> Result<(), Fail> {
+    for (script, wanted) in FUNCTIONS {
+        expect_answers(&rt, rt.alloc(), script, None, wanted)?;
+    }
     Ok(())
 }
 

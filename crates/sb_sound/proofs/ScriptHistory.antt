@@ -478,7 +478,8 @@ module _ (s : State) (fit : IsFit s) where
       ))
 
   get_option_keeps : (key : Name) → IsKept s (options.get_option key s)
-  get_option_keeps key = by_option (found_in option_texts key) _ _ (λ text. same) same
+  get_option_keeps key =
+      by_option (found_in (filter (λ row. is_brought (an_option row.0)) option_texts) key) _ _ (λ text. same) same
 
   reason_keeps : (m : Mode) → IsKept s (reason_unknown m s)
   reason_keeps undecided = same

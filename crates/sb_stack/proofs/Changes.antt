@@ -77,7 +77,7 @@ state_kept k new kept extends =
     (λ j. record {
       logic_set = k.logic_set;
       begun = k.begun;
-      options = options_of k.print_success k.produce_models;
+      options = options_of k.print_success k.produce_models k.produce_unsat_assumptions;
       sorts = texts k.scope.declared;
       mode = mode_in k.words k.mode;
       first = record { names = names_in k.scope; assertions = same j };
@@ -137,7 +137,7 @@ declared_is k name =
     (λ j. record {
       logic_set = k.logic_set;
       begun = true;
-      options = options_of k.print_success k.produce_models;
+      options = options_of k.print_success k.produce_models k.produce_unsat_assumptions;
       sorts = sorts j;
       mode = plain;
       first = record { names = names j; assertions = map (assertion_in k.table) k.assertions };

@@ -3,8 +3,7 @@ use Rattle.std.proofs.Common.{◌≡◌, ℕ, ◌+◌, Bool, true, false, not, �
 use Rattle.std.specs.List.{list_all}
 use Rattle.sb_reader.specs.Forms.{Form, Forms, Symbol, QuotedSymbol, Keyword, Numeral, OtherNumber, Words, Group, none, more, is_none, only_of, pair_of}
 use Rattle.sb_script.specs.Commands as meaning
-use Rattle.std.proofs.lemmas.Bool.{false≢true}
-use Rattle.sb_stack.specs.Commands.{is_sort_list}
+use Rattle.sb_stack.specs.Commands.{keyword_in}
 
 -- what is made of the one form that is there, and of the two
 abbrev pub of_only : (Form → Option meaning.Command) → Option Form → Option meaning.Command
@@ -212,22 +211,72 @@ pub some_copied : {A : Type 0} (o : Option (Bor A)) → is_some o ≡ is_some (o
 some_copied None = refl
 some_copied (Some x) = refl
 
-left_out : (name : List ℕ) (sorts : List Form) (sort : Form)
-    → meaning.function_of name sorts sort ≡ meaning.declare_function name
-left_out name [] sort = refl
-left_out name (s ∷ ss) sort = refl
+-- a function without arguments is a constant, and one with arguments is left out
+pub function_of_forms : (name : List ℕ) (sorts : Forms) (sort : Form)
+    → meaning.function_of name (meaning.list_of sorts) sort
+    ≡ (if is_none sorts then meaning.declare_constant name sort else meaning.declare_function name)
+function_of_forms name none sort = refl
+function_of_forms name (more s ss) sort = refl
 
--- a function is left out
-pub function_named : (name sorts sort : Form) (n : List ℕ) → is_sort_list sorts ≡ true
-    → meaning.is_sort_form sort ≡ true → Some n ≡ meaning.declarable name
-    → Some (meaning.declare_function n) ≡ meaning.function_shape (name ∷ sorts ∷ sort ∷ [])
-function_named name (Symbol x) sort n all one is = absurd (false≢true all)
-function_named name (QuotedSymbol x) sort n all one is = absurd (false≢true all)
-function_named name (Keyword x) sort n all one is = absurd (false≢true all)
-function_named name (Numeral x) sort n all one is = absurd (false≢true all)
-function_named name (OtherNumber x) sort n all one is = absurd (false≢true all)
-function_named name (Words x) sort n all one is = absurd (false≢true all)
-function_named name (Group sorts) sort n all one is =
+-- a function by its name, where the sorts are of the right shape
+pub function_named : (name : Form) (sorts : Forms) (sort : Form) (n : List ℕ)
+    → list_all meaning.is_sort_form (meaning.list_of sorts) ≡ true → meaning.is_sort_form sort ≡ true
+    → Some n ≡ meaning.declarable name
+    → Some (meaning.function_of n (meaning.list_of sorts) sort)
+    ≡ meaning.function_shape (name ∷ Group sorts ∷ sort ∷ [])
+function_named name sorts sort n all one is =
     let of : List ℕ → meaning.Command = λ m. meaning.function_of m (meaning.list_of sorts) sort in
-    ap Some (sym (left_out n (meaning.list_of sorts) sort)) ∙ ap (option_map of) is
-    ∙ sym (λ j. if all j && one j then option_map of (meaning.declarable name) else None)
+    ap (option_map of) is ∙ sym (λ j. if all j && one j then option_map of (meaning.declarable name) else None)
+
+-- what follows a keyword
+pub keyword_of_one : (make : List ℕ → meaning.Command) (f : Form)
+    → meaning.keyword_shape make (f ∷ []) ≡ option_map make (keyword_in f)
+keyword_of_one make (Symbol x) = refl
+keyword_of_one make (QuotedSymbol x) = refl
+keyword_of_one make (Keyword x) = refl
+keyword_of_one make (Numeral x) = refl
+keyword_of_one make (OtherNumber x) = refl
+keyword_of_one make (Words x) = refl
+keyword_of_one make (Group x) = refl
+
+two_keywords : (make : List ℕ → meaning.Command) (f g : Form) (fs : List Form)
+    → meaning.keyword_shape make (f ∷ g ∷ fs) ≡ None
+two_keywords make (Symbol x) g fs = refl
+two_keywords make (QuotedSymbol x) g fs = refl
+two_keywords make (Keyword x) g fs = refl
+two_keywords make (Numeral x) g fs = refl
+two_keywords make (OtherNumber x) g fs = refl
+two_keywords make (Words x) g fs = refl
+two_keywords make (Group x) g fs = refl
+
+pub keyword_of_only : (make : List ℕ → meaning.Command) (forms : Forms)
+    → meaning.keyword_shape make (meaning.list_of forms)
+    ≡ of_only (λ f. option_map make (keyword_in f)) (only_of forms)
+keyword_of_only make none = refl
+keyword_of_only make (more f none) = keyword_of_one make f
+keyword_of_only make (more f (more g fs)) = two_keywords make f g (meaning.list_of fs)
+
+pub info_of_first : (f : Form) (fs : Forms)
+    → meaning.info_shape (meaning.list_of (more f fs)) ≡ option_map (λ key. meaning.set_info) (keyword_in f)
+info_of_first (Symbol x) fs = refl
+info_of_first (QuotedSymbol x) fs = refl
+info_of_first (Keyword x) fs = refl
+info_of_first (Numeral x) fs = refl
+info_of_first (OtherNumber x) fs = refl
+info_of_first (Words x) fs = refl
+info_of_first (Group x) fs = refl
+
+two_echoes : (f g : Form) (fs : List Form) → meaning.echo_shape (f ∷ g ∷ fs) ≡ None
+two_echoes (Symbol x) g fs = refl
+two_echoes (QuotedSymbol x) g fs = refl
+two_echoes (Keyword x) g fs = refl
+two_echoes (Numeral x) g fs = refl
+two_echoes (OtherNumber x) g fs = refl
+two_echoes (Words x) g fs = refl
+two_echoes (Group x) g fs = refl
+
+pub echo_of_only : (forms : Forms) → meaning.echo_shape (meaning.list_of forms)
+    ≡ of_only (λ f. meaning.echo_shape (f ∷ [])) (only_of forms)
+echo_of_only none = refl
+echo_of_only (more f none) = refl
+echo_of_only (more f (more g fs)) = two_echoes f g (meaning.list_of fs)

@@ -1,19 +1,20 @@
 -- Private: the commands of the code, and the forms of a list, as the definitions have them.
-use Rattle.std.specs.Prelude.{Bool, false, List}
+use Rattle.std.specs.Prelude.{Bool, false, List, Option, Some, None}
 use Rattle.std.specs.List.{list_all}
 use Rattle.sb_reader.specs.declared.sexpr.Shapes.{Shapes}
-use Rattle.sb_reader.specs.Forms.{Form, Group, shape_of, shapes_in}
+use Rattle.sb_reader.specs.Forms.{Form, Keyword, Group, shape_of, shapes_in}
 use Rattle.sb_stack.specs.declared.command.Command.{Command}
 use Rattle.sb_stack.specs.declared.command.Command.TheVariants as code
+use Rattle.sb_script.specs.Names.{Name}
 use Rattle.sb_script.specs.Commands as meaning
 
 abbrev pub forms_in : Shapes → List Form
 forms_in forms = meaning.list_of (shapes_in forms)
 
--- a list of sorts
-abbrev pub is_sort_list : Form → Bool
-is_sort_list (Group sorts) = list_all meaning.is_sort_form (meaning.list_of sorts)
-is_sort_list _ = false
+-- the keyword that a form is
+abbrev pub keyword_in : Form → Option Name
+keyword_in (Keyword key) = Some key
+keyword_in _ = None
 
 -- a list of parameters
 abbrev pub is_parameter_list : Form → Bool
@@ -23,11 +24,15 @@ is_parameter_list _ = false
 abbrev pub command_in : Command → meaning.Command
 command_in (code.SetLogic name) = meaning.set_logic name.now
 command_in (code.SetOption key value) = meaning.set_option key.now (shape_of value)
+command_in (code.GetOption key) = meaning.get_option key.now
+command_in code.SetInfo = meaning.set_info
+command_in (code.GetInfo key) = meaning.get_info key.now
 command_in (code.DeclareConstant name sort) = meaning.declare_constant name.now (shape_of sort)
 command_in (code.DeclareFunction name) = meaning.declare_function name.now
 command_in (code.Assert form) = meaning.assert (shape_of form)
 command_in code.CheckSat = meaning.check_sat
 command_in code.GetModel = meaning.get_model
 command_in (code.GetValue forms) = meaning.get_value (forms_in forms)
+command_in (code.Echo bytes) = meaning.echo bytes.now
 command_in code.Exit = meaning.exit
 command_in code.Another = meaning.another

@@ -16,6 +16,7 @@ pub record Stacked : Type 0 where
   pub begun : Bool
   pub print_success : Bool
   pub produce_models : Bool
+  pub produce_unsat_assumptions : Bool
   pub scope : scopes.ScopeNames
   pub mode : Mode
   -- the words of the last check that found some, unless they were taken; they count where the mode says so
@@ -46,12 +47,12 @@ assertion_of ts None = meaning.a_mark
 abbrev pub assertion_in : List Term → Assertion → meaning.Assertion
 assertion_in ts a = assertion_of ts a.term
 
--- the options, where those that scripts can't set yet are as at the start
-abbrev pub options_of : Bool → Bool → meaning.Options
-options_of print_success produce_models = record {
+-- the options, where those that scripts can't change yet are as at the start
+abbrev pub options_of : Bool → Bool → Bool → meaning.Options
+options_of print_success produce_models produce_unsat_assumptions = record {
   print_success = print_success;
   produce_models = produce_models;
-  produce_unsat_assumptions = false;
+  produce_unsat_assumptions = produce_unsat_assumptions;
   global_declarations = false;
   resource_limit = 0;
 }
@@ -60,7 +61,7 @@ abbrev pub state_of : Stacked → meaning.State
 state_of kept = record {
   logic_set = kept.logic_set;
   begun = kept.begun;
-  options = options_of kept.print_success kept.produce_models;
+  options = options_of kept.print_success kept.produce_models kept.produce_unsat_assumptions;
   sorts = texts kept.scope.declared;
   mode = mode_in kept.words kept.mode;
   first = record { names = names_in kept.scope; assertions = map (assertion_in kept.table) kept.assertions };

@@ -17,6 +17,9 @@ with_print_success s b = record s { options = record s.options { print_success =
 abbrev pub with_produce_models : State → Bool → State
 with_produce_models s b = record s { options = record s.options { produce_models = b } }
 
+abbrev pub with_produce_assumptions : State → Bool → State
+with_produce_assumptions s b = record s { options = record s.options { produce_unsat_assumptions = b } }
+
 -- a constant of sort String is declared
 abbrev pub declares : Name → State → Step
 declares name s = if is_taken (names_of s) name then fails_by (error.already_declared name) s

@@ -4,7 +4,7 @@ ghost use Rattle.std.specs.Prelude.{◌≡◌, [], ◌∷◌, option_map, option
 ghost use Rattle.std.specs.List.{list_all};
 ghost use Rattle.sb_reader.specs.Forms.{Form, Group, form_of, shape_of, shapes_in};
 ghost use Rattle.sb_script.specs.Commands as meaning;
-ghost use Rattle.sb_stack.specs.Commands.{command_in, forms_in, is_sort_list, is_parameter_list};
+ghost use Rattle.sb_stack.specs.Commands.{command_in, forms_in, keyword_in, is_parameter_list};
 
 use sb_reader::{Sexpr, Shape, Shapes};
 use sb_sorts::is_reserved;
@@ -15,6 +15,12 @@ pub(crate) enum Command<'a> {
     SetLogic(&'a [u8]),
     /// The option's keyword, and its value.
     SetOption(&'a [u8], Shape<'a>),
+    /// The keyword of the option that is asked for.
+    GetOption(&'a [u8]),
+    /// Information, which is not kept.
+    SetInfo,
+    /// The keyword of the information that is asked for.
+    GetInfo(&'a [u8]),
     /// The constant's name, and its sort.
     DeclareConstant(&'a [u8], Shape<'a>),
     /// A declaration or definition of a function, which is left out.
@@ -24,6 +30,8 @@ pub(crate) enum Command<'a> {
     GetModel,
     /// The terms whose values are asked for.
     GetValue(Shapes<'a>),
+    /// The text, as it was written between its quotes.
+    Echo(&'a [u8]),
     Exit,
     /// A command that is left out.
     Another,
@@ -74,6 +82,14 @@ fn shaped<'a>(name: &[u8], arguments: Shapes<'a>) -> Option<Command<'a>>
         logic_shape(arguments)
     } else if name == b"set-option".as_slice() {
         option_shape(arguments)
+    } else if name == b"get-option".as_slice() {
+        asked_option_shape(arguments)
+    } else if name == b"set-info".as_slice() {
+        info_shape(arguments)
+    } else if name == b"get-info".as_slice() {
+        asked_info_shape(arguments)
+    } else if name == b"echo".as_slice() {
+        echo_shape(arguments)
     } else if name == b"exit".as_slice() {
         bare(Command::Exit, arguments)
     } else {
@@ -188,16 +204,6 @@ fn are_items(forms: Shapes<'_>) -> bool
     true
 }
 
-/// A list of sorts.
-fn is_sort_list(form: Shape<'_>) -> bool
-    ensures { result ≡ is_sort_list (shape_of form.entry) }
-{
-    match form {
-        Shape::List(sorts) => are_sorts(sorts),
-        _ => false,
-    }
-}
-
 /// A list of parameters.
 fn is_parameter_list(form: Shape<'_>) -> bool
     ensures { result ≡ is_parameter_list (shape_of form.entry) }
@@ -236,6 +242,62 @@ fn option_of<'a>(key: Shape<'a>, value: Shape<'a>) -> Option<Command<'a>>
     }
 }
 
+/// The keyword that a form is.
+fn keyword_in(form: Shape<'_>) -> Option<&[u8]>
+    ensures { option_copied result ≡ keyword_in (shape_of form.entry) }
+{
+    match form {
+        Shape::Keyword(key) => Some(key),
+        _ => None,
+    }
+}
+
+fn asked_option_shape(arguments: Shapes<'_>) -> Option<Command<'_>>
+    ensures { option_map command_in result ≡ meaning.keyword_shape meaning.get_option (forms_in arguments.entry) }
+{
+    match arguments.only() {
+        Some(key) => Some(Command::GetOption(keyword_in(key)?)),
+        None => None,
+    }
+}
+
+fn asked_info_shape(arguments: Shapes<'_>) -> Option<Command<'_>>
+    ensures { option_map command_in result ≡ meaning.keyword_shape meaning.get_info (forms_in arguments.entry) }
+{
+    match arguments.only() {
+        Some(key) => Some(Command::GetInfo(keyword_in(key)?)),
+        None => None,
+    }
+}
+
+/// A keyword, and anything behind it.
+fn info_shape(arguments: Shapes<'_>) -> Option<Command<'_>>
+    ensures { option_map command_in result ≡ meaning.info_shape (forms_in arguments.entry) }
+{
+    let (first, _) = arguments.split_first()?;
+    keyword_in(first)?;
+    Some(Command::SetInfo)
+}
+
+fn echo_shape(arguments: Shapes<'_>) -> Option<Command<'_>>
+    ensures { option_map command_in result ≡ meaning.echo_shape (forms_in arguments.entry) }
+{
+    match arguments.only() {
+        Some(text) => echo_of(text),
+        None => None,
+    }
+}
+
+/// The echo of a text.
+fn echo_of(text: Shape<'_>) -> Option<Command<'_>>
+    ensures { option_map command_in result ≡ meaning.echo_shape (shape_of text.entry ∷ []) }
+{
+    match text {
+        Shape::Text(bytes) => Some(Command::Echo(bytes)),
+        _ => None,
+    }
+}
+
 fn constant_shape(arguments: Shapes<'_>) -> Option<Command<'_>>
     ensures { option_map command_in result ≡ meaning.constant_shape (forms_in arguments.entry) }
 {
@@ -268,14 +330,29 @@ fn function_shape(arguments: Shapes<'_>) -> Option<Command<'_>>
 }
 
 /// A function by its name, the sorts of its arguments and its own.
-fn function_of<'a>(name: Shape<'a>, sorts: Shape<'_>, sort: Shape<'_>) -> Option<Command<'a>>
+fn function_of<'a>(name: Shape<'a>, sorts: Shape<'_>, sort: Shape<'a>) -> Option<Command<'a>>
     ensures { option_map command_in result
         ≡ meaning.function_shape (shape_of name.entry ∷ shape_of sorts.entry ∷ shape_of sort.entry ∷ []) }
 {
-    if !is_sort_list(sorts) || !is_sort(sort) {
+    match sorts {
+        Shape::List(sorts) => function_from(name, sorts, sort),
+        _ => None,
+    }
+}
+
+/// A function from arguments of these sorts. One without arguments is a constant.
+fn function_from<'a>(name: Shape<'a>, sorts: Shapes<'_>, sort: Shape<'a>) -> Option<Command<'a>>
+    ensures { option_map command_in result
+        ≡ meaning.function_shape (shape_of name.entry ∷ Group (shapes_in sorts.entry) ∷ shape_of sort.entry ∷ []) }
+{
+    if !are_sorts(sorts) || !is_sort(sort) {
         return None;
     }
-    Some(Command::DeclareFunction(declarable(name)?))
+    let name = declarable(name)?;
+    if sorts.is_empty() {
+        return Some(Command::DeclareConstant(name, sort));
+    }
+    Some(Command::DeclareFunction(name))
 }
 
 fn definition_shape(arguments: Shapes<'_>) -> Option<Command<'_>>

@@ -1,8 +1,10 @@
-//! What the arguments of commands name: logics, truth values and sorts.
+//! What the arguments of commands name: logics, truth values, sorts, and what the solver says of itself.
 
-ghost use Rattle.std.specs.Prelude.{◌≡◌, option_map};
+ghost use Rattle.std.specs.Prelude.{◌≡◌, option_map, option_copied};
 ghost use Rattle.sb_reader.specs.Forms.{shape_of};
 ghost use Rattle.sb_script.specs.Options as meaning;
+ghost use Rattle.sb_script.specs.Steps.{line};
+ghost use Rattle.sb_script.specs.Symbols.{found_in};
 ghost use Rattle.sb_script.specs.Replies.{sort_of_form};
 ghost use Rattle.sb_term.specs.Symbols.{sort_in};
 
@@ -35,6 +37,23 @@ pub(crate) fn truth_in(value: Shape<'_>) -> Option<bool>
     ensures { result ≡ meaning.truth_in (shape_of value.entry) }
 {
     truth_named(symbol_in(value)?)
+}
+
+/// What the solver says of itself under a keyword, as a line.
+pub(crate) fn info_line(key: &[u8]) -> Option<&'static [u8]>
+    ensures { option_copied result ≡ option_map line (found_in meaning.info_texts key.now) }
+{
+    if key == b":name".as_slice() {
+        Some(b"(:name \"strsolve\")\n")
+    } else if key == b":version".as_slice() {
+        Some(b"(:version \"1\")\n")
+    } else if key == b":authors".as_slice() {
+        Some(b"(:authors \"the strsolve authors\")\n")
+    } else if key == b":error-behavior".as_slice() {
+        Some(b"(:error-behavior continued-execution)\n")
+    } else {
+        None
+    }
 }
 
 /// The sort that a form names, where constants may have it.

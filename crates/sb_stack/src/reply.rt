@@ -2,6 +2,7 @@
 
 ghost use Rattle.std.specs.Prelude.{◌≡◌, ◌++◌, [], codes, if◌then◌else◌, IfOk};
 ghost use Rattle.sb_script.specs.Names.{name_in_text};
+ghost use Rattle.sb_script.specs.Options.{truth_text};
 ghost use Rattle.sb_script.specs.Steps as meaning;
 
 use crate::name::push_name_in_text;
@@ -45,11 +46,32 @@ pub(crate) fn refusal_text(refusal: Refusal) -> &'static [u8]
     }
 }
 
+/// A text between its quotes, as it was written. Linear in the text.
+pub(crate) fn quoted_line(alloc: Global, bytes: &[u8]) -> Result<Vec<u8>, AllocError>
+    ensures { IfOk result (λ text. text.items ≡ meaning.line (meaning.quoted bytes.now)) }
+{
+    let mut text = Vec::from_slice(alloc, b"\"")?;
+    text.extend_from_slice(bytes)?;
+    text.extend_from_slice(b"\"\n")?;
+    Ok(text)
+}
+
 /// The answer to what is left out.
 pub(crate) fn unsupported_line(alloc: Global) -> Result<Vec<u8>, AllocError>
     ensures { IfOk result (λ text. text.items ≡ meaning.unsupported_line) }
 {
     Vec::from_slice(alloc, b"unsupported\n")
+}
+
+/// The value of an option.
+pub(crate) fn truth_line(alloc: Global, value: bool) -> Result<Vec<u8>, AllocError>
+    ensures { IfOk result (λ text. text.items ≡ meaning.line (truth_text value)) }
+{
+    if value {
+        Vec::from_slice(alloc, b"true\n")
+    } else {
+        Vec::from_slice(alloc, b"false\n")
+    }
 }
 
 /// The answer to a command that succeeds, which is empty where `:print-success` is false.

@@ -22,13 +22,14 @@ ghost use Rattle.sb_stack.specs.Commands.{command_in, forms_in};
 ghost use Rattle.sb_stack.specs.Keeping.{Keeps};
 ghost use Rattle.sb_stack.specs.Stacked.{state_of, assertion_in, values_from, are_words, HasNumberBelow, IsLonger, without_words};
 ghost use Rattle.sb_stack.specs.Steps.{verdict_in, found, IsStep, IsEntry, entry_of};
-ghost use Rattle.sb_stack.specs.Taking.{with_print_success, with_produce_models, declares, asserts, asks, answers_values};
+ghost use Rattle.sb_stack.specs.Taking.{with_print_success, with_produce_models, with_produce_assumptions, declares, asserts, asks, answers_values};
 ghost use Rattle.sb_stack.specs.Values.{item_in};
 
 use crate::command::{Command, command_of};
-use crate::option::{is_logic, sort_of, truth_in};
+use crate::option::{info_line, is_logic, sort_of, truth_in};
 use crate::reply::{
-    error_line, error_line_with_name, refusal_text, success_line, unsupported_line,
+    error_line, error_line_with_name, quoted_line, refusal_text, success_line, truth_line,
+    unsupported_line,
 };
 use crate::value::{
     Item, all_constants, constants, first_unknown, items, model_line, some_malformed, values_line,
@@ -72,6 +73,7 @@ pub struct Stack {
     begun: bool,
     print_success: bool,
     produce_models: bool,
+    produce_unsat_assumptions: bool,
     scope: Scope,
     mode: Mode,
     /// The word of each constant at its serial, as the last check that found some had it.
@@ -95,6 +97,7 @@ impl Model for Stack {
       begun = s.begun;
       print_success = s.print_success;
       produce_models = s.produce_models;
+      produce_unsat_assumptions = s.produce_unsat_assumptions;
       scope = s.scope;
       mode = s.mode;
       words = s.words.items;
@@ -120,6 +123,7 @@ impl Stack {
             begun: false,
             print_success: true,
             produce_models: false,
+            produce_unsat_assumptions: false,
             scope: Scope::new(alloc),
             mode: Mode::Plain,
             words: Vec::new(alloc),
@@ -188,12 +192,16 @@ impl Stack {
         match command {
             Command::SetLogic(name) => self.set_logic(name),
             Command::SetOption(key, value) => self.set_option(key, value),
+            Command::GetOption(key) => self.get_option(key),
+            Command::SetInfo => self.succeed(),
+            Command::GetInfo(key) => self.get_info(key),
             Command::DeclareConstant(name, sort) => self.declare_constant(name, sort),
             Command::DeclareFunction(name) => self.declare_function(name),
             Command::Assert(form) => self.assert(form),
             Command::CheckSat => Ok(Step::Check),
             Command::GetModel => self.get_model(),
             Command::GetValue(forms) => self.get_value(forms),
+            Command::Echo(text) => Ok(Step::Answer(quoted_line(self.alloc, text)?)),
             Command::Exit => self.exit(),
             Command::Another => leave_out(self.alloc),
         }
@@ -229,6 +237,10 @@ impl Stack {
             self.set_print_success(value)
         } else if key == b":produce-models".as_slice() {
             self.set_produce_models(value)
+        } else if key == b":produce-unsat-assumptions".as_slice() {
+            self.set_produce_assumptions(value)
+        } else if key == b":global-declarations".as_slice() {
+            self.set_global_declarations(value)
         } else {
             leave_out(self.alloc)
         }
@@ -265,6 +277,92 @@ impl Stack {
         let answer = success_line(self.alloc, self.print_success)?;
         self.produce_models = produced;
         Ok(Step::Answer(answer))
+    }
+
+    fn set_produce_assumptions(&mut self, value: Shape<'_>) -> Result<Step, AllocError>
+        ensures ok { IfOk result
+            (λ step. IsStep
+            (options.with_truth (shape_of value.entry) (with_produce_assumptions (state_of self.old))
+            (state_of self.old)) step (state_of self.old) (state_of self.new)) }
+        ensures err { OnErr result (state_of self.new ≡ state_of self.old) }
+        ensures keeps { Keeps self.old self.new }
+    {
+        let Some(produced) = truth_in(value) else {
+            return Ok(Step::Answer(error_line(self.alloc, b"bad option value")?));
+        };
+        let answer = success_line(self.alloc, self.print_success)?;
+        self.produce_unsat_assumptions = produced;
+        Ok(Step::Answer(answer))
+    }
+
+    /// Sets `:global-declarations`, which is false and stays so.
+    fn set_global_declarations(&self, value: Shape<'_>) -> Result<Step, AllocError>
+        ensures { IfOk result
+            (λ step. IsStep (options.set_global_declarations (shape_of value.entry) (state_of self.now)) step
+            (state_of self.now) (state_of self.now)) }
+    {
+        if self.begun {
+            return Ok(Step::Answer(error_line(self.alloc, b"option set too late")?));
+        }
+        match truth_in(value) {
+            Some(true) => leave_out(self.alloc),
+            Some(false) => self.succeed(),
+            None => Ok(Step::Answer(error_line(self.alloc, b"bad option value")?)),
+        }
+    }
+
+    /// Succeeds, and changes nothing.
+    fn succeed(&self) -> Result<Step, AllocError>
+        ensures { IfOk result
+            (λ step. IsStep (steps.succeeds (state_of self.now)) step (state_of self.now) (state_of self.now)) }
+    {
+        Ok(Step::Answer(success_line(self.alloc, self.print_success)?))
+    }
+
+    fn get_option(&self, key: &[u8]) -> Result<Step, AllocError>
+        ensures { IfOk result
+            (λ step. IsStep (options.get_option key.now (state_of self.now)) step (state_of self.now)
+            (state_of self.now)) }
+    {
+        if key == b":print-success".as_slice() {
+            answer_truth(self.alloc, self.print_success)
+        } else if key == b":produce-models".as_slice() {
+            answer_truth(self.alloc, self.produce_models)
+        } else if key == b":produce-unsat-assumptions".as_slice() {
+            answer_truth(self.alloc, self.produce_unsat_assumptions)
+        } else if key == b":global-declarations".as_slice() {
+            answer_truth(self.alloc, false)
+        } else {
+            leave_out(self.alloc)
+        }
+    }
+
+    fn get_info(&self, key: &[u8]) -> Result<Step, AllocError>
+        ensures { IfOk result
+            (λ step. IsStep (options.get_info key.now (state_of self.now)) step (state_of self.now)
+            (state_of self.now)) }
+    {
+        if key == b":reason-unknown".as_slice() {
+            return self.reason_unknown();
+        }
+        match info_line(key) {
+            Some(line) => answer_bytes(self.alloc, line),
+            None => leave_out(self.alloc),
+        }
+    }
+
+    /// Says why the last check was not decided.
+    fn reason_unknown(&self) -> Result<Step, AllocError>
+        ensures { IfOk result
+            (λ step. IsStep (options.reason_unknown (state_of self.now).mode (state_of self.now)) step
+            (state_of self.now) (state_of self.now)) }
+    {
+        match self.mode {
+            Mode::Unknown => answer_bytes(self.alloc, b"(:reason-unknown resource-limit)\n"),
+            Mode::Plain | Mode::Sat | Mode::Unsat => {
+                Ok(Step::Answer(error_line(self.alloc, b"no unknown answer")?))
+            }
+        }
     }
 
     fn declare_constant(&mut self, name: &[u8], sort: Shape<'_>) -> Result<Step, AllocError>
@@ -559,6 +657,21 @@ fn leave_out(alloc: Global) -> Result<Step, AllocError>
     ensures { IfOk result (λ step. (s : State) → IsStep (steps.is_unsupported s) step s s) }
 {
     Ok(Step::Answer(unsupported_line(alloc)?))
+}
+
+/// Answers these bytes, and changes nothing.
+fn answer_bytes(alloc: Global, bytes: &[u8]) -> Result<Step, AllocError>
+    ensures { IfOk result (λ step. (s : State) → IsStep (steps.answers bytes.now s) step s s) }
+{
+    Ok(Step::Answer(Vec::from_slice(alloc, bytes)?))
+}
+
+/// Answers the value of an option, and changes nothing.
+fn answer_truth(alloc: Global, value: bool) -> Result<Step, AllocError>
+    ensures { IfOk result
+        (λ step. (s : State) → IsStep (steps.answers (steps.line (options.truth_text value)) s) step s s) }
+{
+    Ok(Step::Answer(truth_line(alloc, value)?))
 }
 
 /// Answers with the values of items, where all are constants.

@@ -18,6 +18,7 @@ returns-in-Ok-clause-ok c =
       begun = c.self.inside.begun;
       print_success = c.self.inside.print_success;
       produce_models = c.self.inside.produce_models;
+      produce_unsat_assumptions = c.self.inside.produce_unsat_assumptions;
       scope = c.self.inside.scope;
       mode = c.self.inside.mode;
       words = c.self.inside.words.items;
