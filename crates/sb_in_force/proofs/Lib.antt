@@ -1,0 +1,2 @@
+mod ClosedTerms
+mod ClosedSteps

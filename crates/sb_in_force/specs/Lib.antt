@@ -1,0 +1,2 @@
+pub mod ClosedStates
+pub mod ClosedExamples
