@@ -2,7 +2,8 @@
 # Times the reader alone over 50 MB in pieces of several lengths, and the program over scripts of 1 to 50 MB, read
 # from a file: processor seconds, megabytes a second and peak memory in KB. Then the families of memberships, with z3 and
 # cvc5 beside the program where they are installed, and the checker on the proofs; a run has 20 seconds, so this takes
-# some minutes.
+# some minutes. At the end, where there is a C++ compiler, a small solver with array watches, beside minisat where it is
+# installed, over clauses alone: what the engine of clauses is to be measured against.
 set -eu
 cd "$(dirname "$0")/.."
 build() { # the program, and what it is run on
@@ -32,3 +33,16 @@ done
 
 echo
 python3 bench/compare.py
+
+if command -v c++ > /dev/null; then
+  echo
+  c++ -O2 -o "$work/reference" bench/reference.cpp
+  for family in 'binary 200000' 'random 200 active' 'pigeons 8 active'; do
+    read -r kind size how <<< "$family"
+    python3 bench/cnf.py "$kind" "$size" > "$work/$kind.cnf"
+    python3 bench/measure.py "$kind" "$work/$kind.cnf" reference "$work/reference" $how < "$work/$kind.cnf"
+    if command -v minisat > /dev/null; then
+      python3 bench/measure.py "$kind" "$work/$kind.cnf" minisat bash -c "minisat -verb=0; true" < "$work/$kind.cnf"
+    fi
+  done
+fi

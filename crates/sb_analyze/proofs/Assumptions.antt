@@ -1,20 +1,19 @@
 -- Assumptions that can't all be true.
 use Rattle.std.proofs.Common.{◌≡◌, ℕ, zero, suc, ◌<◌, Bool, true, false, ◌&&◌, ◌⊎◌, eqb, List, [], ◌∷◌, length, get_or, take, map, Option, Some, None, refl, sym, ◌∙◌, ap, subst, inl, inr, arith}
 use Rattle.std.specs.List.{list_all, find}
-use Rattle.std.specs.Option.{unwrap_or, option_and_then}
-use Rattle.std.proofs.lemmas.Bool.{false≢true, and_parts, or_left, or_right, or_cases, cases_lt, false_from_ne_true}
-use Rattle.std.proofs.lemmas.Option.{same_Some, slice_get_past}
+use Rattle.std.specs.Option.{option_and_then}
+use Rattle.std.proofs.lemmas.Bool.{false≢true, and_parts, or_left, or_right, or_cases, false_from_ne_true}
+use Rattle.std.proofs.lemmas.Option.{same_Some}
 use Rattle.std.proofs.lemmas.List.Sorted.{list_any-IsPermutation}
 use Rattle.sb_lit.specs.declared.clause.Lit.{Lit}
 use Rattle.sb_lit.specs.declared.clause.ClauseId.{ClauseId}
-use Rattle.sb_lit.specs.Clauses.{negation, is_same_literal, is_among, are_among, is_true_under, is_false_under, is_open_under}
+use Rattle.sb_lit.specs.Clauses.{negation, is_same_literal, is_among, are_among, is_true_under, is_false_under, is_open_under, is_false_clause}
 use Rattle.sb_lit.specs.Kept.{Kept, KeptClause, kept_at}
 use Rattle.sb_trail.specs.declared.assigned.Assigned.{Assigned}
 use Rattle.sb_trail.specs.Assignments.{entry_of, reason_of, held, AreDistinct}
-use Rattle.sb_clauses.specs.Propagation.{IsConflict}
+use Rattle.sb_clauses.specs.Propagation.{IsConflict, HasNoneFalse}
 use Rattle.sb_analyze.specs.Reasons.{HasReason, AreReasoned}
 use Rattle.sb_analyze.specs.Cores.{are_negated, HasBoth, IsReasonOfFalse, AreAssumed, IsKeptCore, HasNoKeptCore, IsBothCore, IsNewCore}
-use Rattle.sb_analyze.specs.Assumed.{passes_at}
 use Rattle.sb_analyze.specs.declared.learned.Learned.{Learned}
 use Rattle.sb_analyze.specs.Explained.{Stands, IsFalseOrReason, IsDecided}
 use Rattle.sb_lit.proofs.CallerLemmas.{is_same_literal-true, is_same_literal-of, negation_twice, all_among, all_from_among, among_negated}
@@ -52,39 +51,31 @@ none_passes p (m ∷ ms) h l among =
       | inr later ↦ none_passes p ms parts.1 l later
     ]
 
+same_negated : (assumptions ls : List Lit) → is_false_clause assumptions ls ≡ are_negated assumptions ls
+same_negated assumptions ls =
+    all_same (is_false_under assumptions) (is_among (map negation assumptions))
+    (λ l. sym (among_negated assumptions l)) ls
+
+-- a clause that is false where the assumptions are true is one of negated assumptions
+pub kept_core : (kept : Kept) (assumptions : List Lit) (id : ℕ) → IsConflict kept assumptions id
+    → IsKeptCore kept assumptions id
+kept_core kept assumptions id h = record {
+  clause = h.clause;
+  there = h.there;
+  negated = sym (same_negated assumptions h.clause.literals) ∙ h.is_false;
+}
+
+pub no_kept_core : (kept : Kept) (assumptions : List Lit) → HasNoneFalse kept assumptions
+    → HasNoKeptCore kept assumptions
+no_kept_core kept assumptions h id clause there =
+    sym (same_negated assumptions clause.literals) ∙ h id clause there
+
+pub has_negated : (assumptions : List Lit) (all : Lit → Bool) → ((l : Lit) → all l ≡ is_among assumptions l) → (l : Lit)
+    → all (negation l) ≡ is_among (map negation assumptions) l
+has_negated assumptions all same l = same (negation l) ∙ sym (among_negated assumptions l)
+
 module _ (kept : Kept) (assumptions : List Lit) (has : Lit → Bool) (has_is : (l : Lit)
     → has l ≡ is_among (map negation assumptions) l) where
-  by_clause : (id : ℕ) (o : Option KeptClause) → kept_at kept id ≡ o
-      → elim o as (λ _. Bool) [ None ↦ false | Some clause ↦ list_all has clause.literals ] ≡ true
-      → IsKeptCore kept assumptions id
-  by_clause id None there h = absurd (false≢true h)
-  by_clause id (Some clause) there h =
-      record {
-        clause = clause;
-        there = there;
-        negated =
-            sym (all_same has (is_among (map negation assumptions)) has_is clause.literals) ∙ h;
-      }
-
-  pub kept_core : (id : ℕ) → passes_at kept has id ≡ true → IsKeptCore kept assumptions id
-  kept_core id h = by_clause id (kept_at kept id) refl h
-
-  passes_clause : (id : ℕ) (clause : KeptClause) → kept_at kept id ≡ Some clause
-      → passes_at kept has id ≡ list_all has clause.literals
-  passes_clause id clause there =
-      ap (λ (o : Option KeptClause). elim o as (λ _. Bool) [ None ↦ false | Some c ↦ list_all has c.literals ]) there
-
-  pub no_kept_core : ((id : ℕ) → id < length kept → passes_at kept has id ≡ false) → HasNoKeptCore kept assumptions
-  no_kept_core h id clause there =
-      elim (cases_lt id (length kept)) [
-        | inl within ↦ sym (all_same has (is_among (map negation assumptions)) has_is clause.literals)
-            ∙ sym (passes_clause id clause there) ∙ h id within
-        | inr past ↦
-            let none : kept_at kept id ≡ None =
-            ap (λ (o : Option (Option KeptClause)). unwrap_or o None) (slice_get_past kept id past) in
-            absurd (Prim.cc (none, there))
-      ]
-
   has_negation : (l : Lit) → has l ≡ is_among assumptions (negation l)
   has_negation l = has_is l ∙ among_negated assumptions l
 

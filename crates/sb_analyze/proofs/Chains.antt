@@ -43,7 +43,7 @@ false_last literals clause h =
     ap (λ (f : Finding). elim f as (λ _. Course)
     [ falsified ↦ ends_false | forces l ↦ course (l ∷ literals) [] | idle ↦ has_idle_hint ]) h
 
-forced_first : (literals : List Lit) (clause : KeptClause) (clauses : List KeptClause) (l : Lit)
+pub forced_first : (literals : List Lit) (clause : KeptClause) (clauses : List KeptClause) (l : Lit)
     → finding literals clause.literals ≡ forces l → course literals (clause ∷ clauses) ≡ course (l ∷ literals) clauses
 forced_first literals clause clauses l h =
     ap (λ (f : Finding). elim f as (λ _. Course) [
@@ -52,7 +52,7 @@ forced_first literals clause clauses l h =
       | idle ↦ has_idle_hint
     ]) h
 
-hinted_more : (kept : Kept) (id : ℕ) (ids : List ℕ) (clause : KeptClause) (clauses : List KeptClause)
+pub hinted_more : (kept : Kept) (id : ℕ) (ids : List ℕ) (clause : KeptClause) (clauses : List KeptClause)
     → kept_at kept id ≡ Some clause → hinted kept ids ≡ Some clauses → hinted kept (id ∷ ids) ≡ Some (clause ∷ clauses)
 hinted_more kept id ids clause clauses there named =
     ap (λ (o : Option KeptClause). elim o as (λ _. Option (List KeptClause))

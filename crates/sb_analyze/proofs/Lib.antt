@@ -11,3 +11,4 @@ pub mod Starts
 pub mod Lessons
 pub mod Decisions
 pub mod Assumptions
+pub mod Minimal

@@ -5,3 +5,4 @@ pub mod Explaining
 pub mod Shown
 pub mod Explained
 pub mod Assumed
+pub mod Minimising

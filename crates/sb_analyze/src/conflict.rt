@@ -14,10 +14,11 @@ use sb_trail::Trail;
 use std::alloc::{AllocError, Global};
 
 /// The asserting clause of a conflict: it is found by resolving the conflict with the reasons of its newest literals
-/// until one literal of the conflict's level is left, the first unique implication point.
+/// until one literal of the conflict's level is left, the first unique implication point. Then each literal is left out
+/// whose negation the others of the clause force by one reason.
 ///
-/// Linear in the trail's part behind that literal and in the literals of the clauses that are resolved, and it sorts
-/// the new clause's literals. `AllocError` only for want of memory.
+/// Linear in the trail's part behind that literal and in the literals of the clauses that are resolved and of the
+/// reasons of the new clause's literals, and it sorts these. `AllocError` only for want of memory.
 pub fn learn(
     alloc: Global,
     trail: &Trail,
@@ -36,6 +37,7 @@ pub fn learn(
     let mut analysis = Analysis::new(alloc, highest(trail, literals));
     analysis.resolve(trail, clauses, conflict)?;
     let uip = analysis.resolve_to_first_uip(trail, clauses, entries)?;
+    analysis.minimise(alloc, trail, clauses)?;
     let backjump_level = highest(trail, &analysis.clause);
     analysis.clause.push(uip.negated())?;
     Ok(lesson(analysis, clauses, backjump_level))

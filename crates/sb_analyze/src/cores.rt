@@ -6,7 +6,7 @@ ghost use Rattle.sb_analyze.specs.Explained.{IsFalseOrReason, IsDecided};
 ghost use Rattle.sb_analyze.specs.Cores.{AreAssumed, IsFinal, IsCore};
 
 use crate::analysis::Analysis;
-use crate::assumed::{first_negated, first_within, negations};
+use crate::assumed::{first_negated, set_of};
 use crate::explain::lesson;
 use crate::learned::Learned;
 use sb_clauses::Clauses;
@@ -29,9 +29,9 @@ pub enum Core {
 /// contradict each other, else `New`. The conflict is a false clause, or the reason of a false assumption; `None` only
 /// where two assumptions contradict each other.
 ///
-/// Linear in the assumptions and in the number of clauses, of each up to its first literal that is no negated
-/// assumption; for a new clause also in the trail and in the literals of the clauses that the conflict rests on, and it
-/// sorts the new clause's literals. `AllocError` only for want of memory.
+/// Linear in the assumptions, and in the clauses that [`Clauses::false_where`] looks at, of each up to its first literal
+/// that is no negated assumption; for a new clause also in the trail and in the literals of the clauses that the
+/// conflict rests on, and it sorts the new clause's literals. `AllocError` only for want of memory.
 pub fn final_core(
     alloc: Global,
     trail: &Trail,
@@ -44,11 +44,12 @@ pub fn final_core(
     requires conflict { IsFinal clauses.now trail.now.literals assumptions.now conflict }
     ensures { IfOk result (λ core. IsCore clauses.now assumptions.now core) }
 {
-    let negated = negations(alloc, assumptions)?;
-    if let Some(id) = first_within(&negated, clauses) {
+    let kept = clauses.false_where(assumptions)?;
+    if let Some(id) = kept {
         return Ok(Core::Kept(id));
     }
-    if let Some(literal) = first_negated(&negated, assumptions) {
+    let given = set_of(alloc, assumptions)?;
+    if let Some(literal) = first_negated(&given, assumptions) {
         return Ok(Core::Both(literal));
     }
     let Some(id) = conflict else {

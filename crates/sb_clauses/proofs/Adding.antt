@@ -110,7 +110,7 @@ pub kept_last : (kept : Kept) (o : Option KeptClause) → kept_at (kept ++ o ∷
 kept_last [] o = refl
 kept_last (x ∷ xs) o = kept_last xs o
 
-kept_front : (kept : Kept) (o : Option KeptClause) (id : ℕ) (found : KeptClause) → id ≢ length kept
+pub kept_front : (kept : Kept) (o : Option KeptClause) (id : ℕ) (found : KeptClause) → id ≢ length kept
     → kept_at (kept ++ o ∷ []) id ≡ Some found → kept_at kept id ≡ Some found
 kept_front [] o zero found other h = absurd (other refl)
 kept_front [] o (suc id) found other h = h

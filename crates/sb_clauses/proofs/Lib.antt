@@ -9,6 +9,7 @@ pub mod Settling
 pub mod Marked
 pub mod Dropped
 pub mod Scoping
+pub mod OccurrenceLemmas
 pub mod Room
 pub mod Waiting
 pub mod NextClause

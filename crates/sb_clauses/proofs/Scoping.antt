@@ -71,7 +71,7 @@ scoped_end level kept scoped h all =
     ])
 
 -- a place that is emptied
-at_emptied : (kept : Kept) (number id : ℕ) (clause : KeptClause) → kept_at (set kept number None) id ≡ Some clause
+pub at_emptied : (kept : Kept) (number id : ℕ) (clause : KeptClause) → kept_at (set kept number None) id ≡ Some clause
     → (kept_at kept id ≡ Some clause) × (id ≡ number → ⊥)
 at_emptied [] number id clause h = absurd (none-some clause h)
 at_emptied (x ∷ xs) zero zero clause h = absurd (none-some clause h)

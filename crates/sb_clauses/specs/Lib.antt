@@ -10,3 +10,4 @@ pub mod Adding
 pub mod Marking
 pub mod Waiting
 pub mod Scoped
+pub mod Occurring

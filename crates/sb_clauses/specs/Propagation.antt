@@ -62,6 +62,11 @@ pub record IsConflict (kept : Kept) (literals : List Lit) (id : ℕ) : Type 0 wh
   pub there : kept_at kept id ≡ Some clause
   pub is_false : is_false_clause literals clause.literals ≡ true
 
+-- no kept clause is false where these literals are true
+abbrev pub HasNoneFalse : Kept → List Lit → Type 0
+HasNoneFalse kept literals = (id : ℕ) (clause : KeptClause) → kept_at kept id ≡ Some clause
+    → is_false_clause literals clause.literals ≡ false
+
 -- what an answer says
 abbrev pub AnswersOf : Kept → List Lit → Propagated → Type 0
 AnswersOf kept literals Done = IsSettled kept literals

@@ -1,15 +1,18 @@
 //! The kept clauses.
 
-ghost use Rattle.std.specs.Prelude.{◌≡◌, [], ◌∷◌, ◌++◌, ◌<◌, length, true, Some, IfOk, OnOk, OnErr, MatchBool};
+ghost use Rattle.std.specs.Prelude.{◌≡◌, [], ◌∷◌, ◌++◌, ◌<◌, length, true, Some, IfOk, OnOk, OnErr, MatchBool, MatchOption};
 ghost use Rattle.std.specs.List.{list_any};
 ghost use Rattle.std.specs.BinaryHeap.{IsHeap, heap_items};
 ghost use Rattle.std.specs.Option.{option_map, option_copied};
 ghost use Rattle.sb_lit.specs.Kept.{Kept, kept_at, kept_up_to, is_above};
 ghost use Rattle.sb_clauses.specs.Records.{clause_of, kept_of};
-ghost use Rattle.sb_clauses.specs.Propagation.{are_reserved, is_reserved, has_room_for};
+ghost use Rattle.sb_clauses.specs.Propagation.{are_reserved, is_reserved, has_room_for, HasNoneFalse, IsConflict};
 ghost use Rattle.sb_clauses.specs.Scoped.{scope_order, is_pair, AreScoped, PopsAbove, without_above, IsScopedTurn};
+ghost use Rattle.sb_clauses.specs.Occurring.{AreFound};
 
+use crate::occurrences::{Occurrences, false_where, home_for};
 use crate::record::Record;
+use crate::watches::lists_for;
 use sb_lit::{Clause, ClauseId, Lit};
 use sb_trail::Trail;
 use std::alloc::{AllocError, Global};
@@ -22,6 +25,7 @@ pub struct Clauses {
     records: Vec<Option<Record>>,
     /// The levels above 0 with the numbers of their clauses, the highest level first.
     scoped: BinaryHeap<(u64, usize)>,
+    occurrences: Occurrences,
 }
 
 impl Model for Clauses {
@@ -29,12 +33,14 @@ impl Model for Clauses {
     ghost use Rattle.std.specs.BinaryHeap.{heap_items};
     ghost use Rattle.sb_clauses.specs.Records.{kept_of};
     ghost use Rattle.sb_clauses.specs.Scoped.{AreScoped};
+    ghost use Rattle.sb_clauses.specs.Occurring.{AreFound};
 
     ghost Value = { Kept };
 
     ghost view = { λ clauses. kept_of clauses.records.items };
 
-    ghost invariant = { λ clauses. AreScoped (kept_of clauses.records.items) (heap_items clauses.scoped) };
+    ghost invariant = { λ clauses. AreScoped (kept_of clauses.records.items) (heap_items clauses.scoped)
+        × AreFound (kept_of clauses.records.items) clauses.occurrences.heads.items clauses.occurrences.nodes.items };
 }
 
 impl Clauses {
@@ -45,22 +51,31 @@ impl Clauses {
         Clauses {
             records: Vec::new(alloc),
             scoped: BinaryHeap::new(alloc),
+            occurrences: Occurrences::new(alloc),
         }
     }
 
     /// Keeps a clause at a level, under the next number. Linear in the number of its literals, and above level 0
-    /// logarithmic in the number of clauses there; an error for want of memory.
+    /// logarithmic in the number of clauses there; takes memory for each atom up to the greatest one, and is an error
+    /// where that cannot be had, as for an atom of 2 ^ 62.
     pub fn add(&mut self, clause: &Clause, level: u64) -> Result<ClauseId, AllocError>
         ensures number { IfOk result (λ id. id.0 ≡ length self.old) }
         ensures ok { IfOk result
             (λ _. self.new ≡ self.old ++ Some (record { literals = clause.now; level = level }) ∷ []) }
         ensures err { OnErr result (self.new ≡ self.old) }
     {
+        let given = clause.literals();
+        let Some(lists) = lists_for(given) else {
+            return Err(AllocError);
+        };
         let alloc = *self.records.allocator();
         let number = self.records.len();
-        let literals = Vec::from_slice(alloc, clause.literals())?;
+        self.occurrences.make_room(number + 1, lists)?;
+        let literals = Vec::from_slice(alloc, given)?;
         scope(&mut self.scoped, level, number)?;
         self.records.push(Some(Record { literals, level }))?;
+        let home = home_for(&self.occurrences.heads, given);
+        self.occurrences.put(number, home);
         Ok(ClauseId(number as u64))
     }
 
@@ -93,6 +108,23 @@ impl Clauses {
         }
     }
 
+    /// A kept clause that is false where these literals are true, `None` exactly where there is none. Looks at
+    /// clauses alone that have the negation of one of these literals or no literals: each clause stands in the list
+    /// of one of its literals, that whose list got a clause the longest ago, and the lists of the negations are gone
+    /// through once for each time that a literal stands here. An error for want of memory.
+    pub fn false_where(&self, literals: &[Lit]) -> Result<Option<ClauseId>, AllocError>
+        ensures { IfOk result (λ found. MatchOption found (HasNoneFalse self.now literals.now)
+            (λ id. IsConflict self.now literals.now id.0)) }
+    {
+        false_where(
+            *self.records.allocator(),
+            &self.records,
+            &self.occurrences.heads,
+            &self.occurrences.nodes,
+            literals,
+        )
+    }
+
     /// How many numbers were given.
     pub fn len(&self) -> usize
         ensures { result ≡ length self.now }
@@ -105,7 +137,12 @@ impl Clauses {
     pub fn drop_above(&mut self, level: u64)
         ensures { self.new ≡ kept_up_to level self.old }
     {
-        drop_records_above(&mut self.records, &mut self.scoped, level);
+        drop_records_above(
+            &mut self.records,
+            &mut self.scoped,
+            &mut self.occurrences,
+            level,
+        );
     }
 
     /// Whether the trail has a place for each atom of a kept clause. Takes no memory; linear in the number of
@@ -139,23 +176,29 @@ fn scope(scoped: &mut BinaryHeap<(u64, usize)>, level: u64, number: usize) -> Re
 fn drop_records_above(
     records: &mut [Option<Record>],
     scoped: &mut BinaryHeap<(u64, usize)>,
+    occurrences: &mut Occurrences,
     level: u64,
 )
-    requires { AreScoped (kept_of records.old) (heap_items scoped.old) }
+    requires scoped { AreScoped (kept_of records.old) (heap_items scoped.old) }
+    requires found { AreFound (kept_of records.old) occurrences.old.heads.items occurrences.old.nodes.items }
     ensures dropped { kept_of records.new ≡ kept_up_to level (kept_of records.old) }
     ensures scoped { AreScoped (kept_of records.new) (heap_items scoped.new) }
+    ensures found { AreFound (kept_of records.new) occurrences.new.heads.items occurrences.new.nodes.items }
 {
-    while drop_highest(records, scoped, level) {}
+    while drop_highest(records, scoped, occurrences, level) {}
 }
 
 /// Empties the place of the clause of the highest level, if that is above this one, and says whether it was.
 fn drop_highest(
     records: &mut [Option<Record>],
     scoped: &mut BinaryHeap<(u64, usize)>,
+    occurrences: &mut Occurrences,
     level: u64,
 ) -> bool
-    requires { AreScoped (kept_of records.old) (heap_items scoped.old) }
-    ensures { MatchBool result
+    requires scoped { AreScoped (kept_of records.old) (heap_items scoped.old) }
+    requires found { AreFound (kept_of records.old) occurrences.old.heads.items occurrences.old.nodes.items }
+    ensures found { AreFound (kept_of records.new) occurrences.new.heads.items occurrences.new.nodes.items }
+    ensures turn { MatchBool result
         (IsScopedTurn level (kept_of records.old) (kept_of records.new) (heap_items scoped.old) (heap_items scoped.new))
         ((kept_up_to level (kept_of records.old) ≡ kept_of records.old)
         × (kept_of records.new ≡ kept_of records.old) × (heap_items scoped.new ≡ heap_items scoped.old)) }
@@ -163,7 +206,7 @@ fn drop_highest(
     let Some(number) = pop_above(scoped, level) else {
         return false;
     };
-    drop_record(records, number, level);
+    drop_record(records, occurrences, number, level);
     true
 }
 
@@ -182,15 +225,23 @@ fn pop_above(scoped: &mut BinaryHeap<(u64, usize)>, level: u64) -> Option<usize>
     Some(number)
 }
 
-/// Empties the place of the number, if its clause is above the level.
-fn drop_record(records: &mut [Option<Record>], number: usize, level: u64)
-    ensures { kept_of records.new ≡ without_above level number (kept_of records.old) }
+/// Empties the place of the number, if its clause is above the level, and takes it off its list.
+fn drop_record(
+    records: &mut [Option<Record>],
+    occurrences: &mut Occurrences,
+    number: usize,
+    level: u64,
+)
+    requires { AreFound (kept_of records.old) occurrences.old.heads.items occurrences.old.nodes.items }
+    ensures dropped { kept_of records.new ≡ without_above level number (kept_of records.old) }
+    ensures found { AreFound (kept_of records.new) occurrences.new.heads.items occurrences.new.nodes.items }
 {
     if number >= records.len() {
         return;
     }
     if is_above(&records[number], level) {
         records[number] = None;
+        occurrences.remove(number);
     }
 }
 

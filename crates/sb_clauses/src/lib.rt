@@ -23,6 +23,7 @@ mod clauses;
 mod engine;
 mod listing;
 mod marks;
+mod occurrences;
 mod place;
 mod propagated;
 mod record;

@@ -639,17 +639,33 @@ const TWICE: [Move; 3] = [
     ),
 ];
 
+/// A literal whose negation the others force is left out, and its reason is a hint.
+const MINIMISED: [Move; 2] = [
+    Move::Chooses(1),
+    Move::Learns(
+        3,
+        Expected {
+            clause: [-1, -3],
+            hints: [0, 1, 2],
+            backjump_level: 1,
+        },
+    ),
+];
+
 const CHAIN: [[i8; 3]; 3] = [[-1, 2, 0], [-2, 3, 0], [-1, -3, 0]];
 
 const FORK: [[i8; 3]; 3] = [[-5, 6, 0], [-5, 7, 0], [-6, -7, -1]];
 
 const SQUARE: [[i8; 3]; 4] = [[-1, -2, 3], [-1, -2, -3], [1, -2, 4], [1, -2, -4]];
 
+const SPARE: [[i8; 3]; 3] = [[-1, 2, 0], [-1, -3, 4], [-2, -3, -4]];
+
 #[test]
 fn conflicts_teach_clauses(rt: HostRuntime) -> Result<(), Fail> {
     runs(&rt, rt.alloc(), &CHAIN, &UNIT)?;
     runs(&rt, rt.alloc(), &FORK, &JUMP)?;
     runs(&rt, rt.alloc(), &SQUARE, &TWICE)?;
+    runs(&rt, rt.alloc(), &SPARE, &MINIMISED)?;
     Ok(())
 }
 
@@ -665,6 +681,21 @@ const DECISIONS: [Move; 2] = [
     Move::Blames(
         Cause::Decided(2),
         [1, 2, 0],
+        Found::New(Expected {
+            clause: [-1, -2],
+            hints: [0, 1, NONE],
+            backjump_level: 0,
+        }),
+    ),
+];
+
+/// Of three assumptions one is not to blame.
+const IRRELEVANT: [Move; 3] = [
+    Move::Chooses(1),
+    Move::Chooses(5),
+    Move::Blames(
+        Cause::Decided(2),
+        [1, 5, 2],
         Found::New(Expected {
             clause: [-1, -2],
             hints: [0, 1, NONE],
@@ -697,6 +728,7 @@ const MEET: [[i8; 3]; 3] = [[-1, 3, 0], [-2, 4, 0], [-3, -4, 0]];
 fn assumptions_are_to_blame(rt: HostRuntime) -> Result<(), Fail> {
     runs(&rt, rt.alloc(), &PAIR, &KEPT)?;
     runs(&rt, rt.alloc(), &HALF, &DECISIONS)?;
+    runs(&rt, rt.alloc(), &HALF, &IRRELEVANT)?;
     runs(&rt, rt.alloc(), &MEET, &FALSE)?;
     Ok(())
 }

@@ -28,17 +28,17 @@ returns c = λ clause there.
     clause teaching c.in-Some.literals.now c.highest.result
     (shown c.new-analysis.result) (shown c.resolve.new.self) c.in-Some.ensures c.highest.ensures
     c.new-analysis.ensures c.in_ok-resolve.ensures in
-    let uip = subst (λ (n : ℕ). IsFirstUip c.args.clauses.now c.args.trail.now.literals n
+    let before = subst (λ (n : ℕ). IsFirstUip c.args.clauses.now c.args.trail.now.literals n
     (shown c.resolve_to_first_uip.new.self) c.in_ok-uip.uip) walked.here c.in_ok-uip.ensures in
-    let clause_is : c.push.new.self.items
-    ≡ c.resolve_to_first_uip.new.self.clause.items ++ negation c.in_ok-uip.uip ∷ [] =
+    let uip = c.in_ok-minimise.ensures _ _ before in
+    let clause_is : c.push.new.self.items ≡ c.minimise.new.self.clause.items ++ negation c.in_ok-uip.uip ∷ [] =
     c.in_ok-push.ensures.items
-    ∙ ap (λ (l : Lit). c.resolve_to_first_uip.new.self.clause.items ++ l ∷ []) c.negated.ensures in
+    ∙ ap (λ (l : Lit). c.minimise.new.self.clause.items ++ l ∷ []) c.negated.ensures in
     lesson_from c.args.clauses.now c.args.trail.now.literals c.literals-entries.ensures.trail.distinct c.args.conflict.0
     clause teaching
-    (shown c.resolve_to_first_uip.new.self) c.in_ok-uip.uip uip
-    (record (shown c.resolve_to_first_uip.new.self) { clause = c.push.new.self.items }) clause_is refl c.lesson.result
+    (shown c.minimise.new.self) c.in_ok-uip.uip uip
+    (record (shown c.minimise.new.self) { clause = c.push.new.self.items }) clause_is refl c.lesson.result
     (subst (λ (n : ℕ). IsMadeOf c.args.clauses.now
-    (record (shown c.resolve_to_first_uip.new.self) { clause = c.push.new.self.items }) n
+    (record (shown c.minimise.new.self) { clause = c.push.new.self.items }) n
     c.lesson.result) (c.highest-backjump_level.ensures ∙ ap (highest c.args.trail.now.literals) c.deref.ensures.value)
     c.lesson.ensures)

@@ -1,0 +1,34 @@
+use Rattle.std.proofs.Common.{◌≡◌, ◌<◌, length, false, ap, ◌∙◌, sym, Some, arith}
+use Rattle.std.specs.HashSet.{contains}
+use Rattle.std.specs.Option.{option_map}
+use Rattle.std.proofs.lemmas.List.{length-map}
+use Rattle.sb_lit.specs.Kept.{kept_at}
+use Rattle.sb_clauses.specs.Records.{kept_of, clause_of}
+use Rattle.sb_clauses.specs.Occurring.{are_equal, IsIn, is_false_place}
+use Rattle.sb_clauses.proofs.Growing.{kept_at_place}
+use Rattle.sb_clauses.proofs.OccurrenceLemmas.{in_next, walk_next, walk_end}
+use Rattle.sb_clauses.proofs.occurrences.false_in.Goals as goal
+
+pub loop-next-preserved : goal.loop-next-preserved
+loop-next-preserved c =
+    let records = c.args.records.now in
+    let kept = kept_of records in
+    let has = contains are_equal c.args.all.now in
+    let number = c.in-Some.number in
+    let inside : IsIn c.args.nodes.now (length kept) c.args.list (Some number) =
+    rw c.in-Some.is at c.loop-next.invariant.inside in
+    let below : number < length records = omega (arith, inside.0, length-map records (option_map clause_of)) in
+    let fails : is_false_place has (kept_at kept number) ≡ false =
+    ap (is_false_place has)
+    (kept_at_place records number c.index-records-number.result below c.index-records-number.is)
+    ∙ sym c.is_false_place.ensures ∙ c.if-is_false_place.false in
+    record {
+      inside = in_next c.args.nodes.now (length kept) c.args.list number inside (c.requires.leads number inside.0);
+      older = walk_next kept c.args.heads.now c.args.nodes.now has c.requires c.args.list number inside.0 inside.1
+          (rw c.in-Some.is at c.loop-next.invariant.older) fails;
+    }
+
+pub returns : goal.returns
+returns c =
+    walk_end (kept_of c.args.records.now) c.args.heads.now c.args.nodes.now (contains are_equal c.args.all.now)
+    c.requires c.args.list (rw c.in_default.is at c.loop-next.invariant.older)
