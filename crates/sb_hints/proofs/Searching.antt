@@ -214,7 +214,7 @@ all_same : (f g : Lit → Bool) → ((l : Lit) → f l ≡ g l) → (ls : List L
 all_same f g h [] = refl
 all_same f g h (l ∷ ls) = rw (h l, all_same f g h ls) refl
 
-passes-only : (has : Lit → Bool) (clause : List Lit) → ((l : Lit) → has l ≡ is_among clause l)
+pub passes-only : (has : Lit → Bool) (clause : List Lit) → ((l : Lit) → has l ≡ is_among clause l)
     → (o : Option KeptClause) → has_only clause o ≡ passes has o
 passes-only has clause h None = refl
 passes-only has clause h (Some kept) = sym (all_same has (is_among clause) h kept.literals)

@@ -8,7 +8,7 @@ use Rattle.std.proofs.lemmas.List.{length-map, map_push, length-append}
 use Rattle.std.proofs.lemmas.Option.{none-some}
 use Rattle.sb_lit.specs.declared.clause.Lit.{Lit}
 use Rattle.sb_lit.specs.Clauses.{is_among}
-use Rattle.sb_lit.specs.Hints.{is_repeated}
+use Rattle.sb_lit.specs.Hints.{has_only, is_repeated}
 use Rattle.sb_lit.specs.Kept.{Kept, KeptClause, kept_at, is_above, stays_up_to, kept_up_to}
 use Rattle.sb_hints.specs.declared.rows.Row.{Row}
 use Rattle.sb_hints.specs.declared.lists.Listed.{Listed}
@@ -16,7 +16,7 @@ use Rattle.sb_hints.specs.Storing.{before_of, emptied, row_up_to, place_in, kept
 use Rattle.sb_hints.specs.Listing.{are_equal, newest_in, last_of, last_at, put_at, IsPlace, IsBelow, on_list, passes_in, AreListed}
 use Rattle.sb_hints.specs.Keeping.{AreStored}
 use Rattle.sb_hints.proofs.Storage.{slice-new, kept-grown, within-more, within_push, kept-up_to, kept-emptied, within-emptied, within-up_to, before-up_to, before-emptied}
-use Rattle.sb_hints.proofs.Searching.{listed_push, listed_fewer, repeated-finds}
+use Rattle.sb_hints.proofs.Searching.{listed_push, listed_fewer, repeated-finds, passes-only}
 
 -- the lists of a map with the same entries
 pub lists_same : {S : Type 0} (old new : HashMap Lit Listed S) (bare : Option ℕ) → new.entries ≡ old.entries
@@ -151,6 +151,11 @@ module _ {S : Type 0} (ls : List Lit) (rows : List Row) (lists : HashMap Lit Lis
       → b ≡ list_any (λ l. finds (length rows) (last_of lists l)) clause → b ≡ is_repeated kept clause
   repeats_under none b is =
       is ∙ ap (λ a. a || list_any (λ l. finds (length rows) (last_of lists l)) clause) none ∙ sym either
+
+  pub part_is : (id : ℕ) → passes_in has (kept_in ls rows) id ≡ true → has_only clause (kept_at kept id) ≡ true
+  part_is id passes =
+      ap (λ (all : Kept). has_only clause (kept_at all id)) (sym view)
+      ∙ passes-only has clause set (kept_at (kept_in ls rows) id) ∙ passes
 
 pub all_below : (ls : List Lit) (rows : List Row) (lists : Option Lit → Option ℕ) → AreStored ls rows lists
     → (q : Option Lit) → IsBelow (length rows) (lists q)

@@ -1,11 +1,11 @@
 //! The kept clauses.
 
-ghost use Rattle.std.specs.Prelude.{◌≡◌, [], ◌∷◌, ◌++◌, length, map, Some, None, IfOk, OnOk, OnErr, option_map};
+ghost use Rattle.std.specs.Prelude.{◌≡◌, [], ◌∷◌, ◌++◌, length, map, Some, None, IfOk, OnOk, OnErr, IfSome, option_map, is_some, true};
 ghost use Rattle.std.specs.Option.{option_copied};
 ghost use Rattle.sb_lit.specs.Kept.{kept_at, kept_up_to};
-ghost use Rattle.sb_lit.specs.Hints.{is_repeated};
+ghost use Rattle.sb_lit.specs.Hints.{has_only, is_repeated};
 
-use crate::lists::{Listed, has_part, has_part_under, last_at, put, rarest};
+use crate::lists::{Listed, find_part, find_part_under, last_at, put, rarest};
 use crate::rows::{Row, drop_rows, drop_rows_above, literals_of};
 use crate::sets::set_of;
 use indexmap::IndexMap;
@@ -121,17 +121,29 @@ impl KeptClauses {
         }
     }
 
-    /// Whether some kept clause has only literals of this one. Looks at the clauses alone that are listed under a
-    /// literal of this one, once for each time that the literal stands in it, and at those without literals; linear in
-    /// the number of their literals. An error for want of memory.
+    /// The number of a kept clause that has only literals of this one, if there is one. Looks at the clauses alone that
+    /// are listed under a literal of this one, once for each time that the literal stands in it, and at those without
+    /// literals; linear in the number of their literals. An error for want of memory.
+    pub fn part_of(&self, clause: &[Lit]) -> Result<Option<u64>, AllocError>
+        ensures found { IfOk result (λ found. is_some found ≡ is_repeated self.now clause.now) }
+        ensures part { IfOk result (λ found. IfSome found (λ id. has_only clause.now (kept_at self.now id) ≡ true)) }
+    {
+        let all = set_of(self.alloc, clause)?;
+        if let Some(number) = find_part(&self.rows, &self.literals, self.bare, &all) {
+            return Ok(Some(number as u64));
+        }
+        match find_part_under(&self.rows, &self.literals, &self.lists, clause, &all) {
+            Some(number) => Ok(Some(number as u64)),
+            None => Ok(None),
+        }
+    }
+
+    /// Whether some kept clause has only literals of this one. Costs what [`KeptClauses::part_of`] does; an error for
+    /// want of memory.
     pub fn is_repeated(&self, clause: &[Lit]) -> Result<bool, AllocError>
         ensures { IfOk result (λ b. b ≡ is_repeated self.now clause.now) }
     {
-        let all = set_of(self.alloc, clause)?;
-        if has_part(&self.rows, &self.literals, self.bare, &all) {
-            return Ok(true);
-        }
-        Ok(has_part_under(&self.rows, &self.literals, &self.lists, clause, &all))
+        Ok(self.part_of(clause)?.is_some())
     }
 
     /// Drops the clauses above the level; their numbers are not given again. Takes no memory; linear in the number of

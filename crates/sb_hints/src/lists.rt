@@ -1,6 +1,6 @@
 //! The clauses that are listed under a literal.
 
-ghost use Rattle.std.specs.Prelude.{◌≡◌, ◌<◌, ℕ, map, length, slice_index_or, Option, Some, None};
+ghost use Rattle.std.specs.Prelude.{◌≡◌, ◌<◌, ℕ, map, length, slice_index_or, Option, Some, None, is_some, IfSome, true};
 ghost use Rattle.std.specs.List.{list_any};
 ghost use Rattle.std.specs.HashSet.{contains};
 ghost use Rattle.indexmap.specs.IndexMap.{spare};
@@ -111,50 +111,54 @@ fn is_part(rows: &[Row], literals: &[Lit], number: usize, all: &HashSet<Lit>) ->
     row.is_kept && has_all(all, literals_of(literals, row))
 }
 
-/// Whether some clause of a list is kept, and has only literals of the set. Looks at each clause of the list at most
-/// once.
-pub(crate) fn has_part(
+/// A clause of a list that is kept, and has only literals of the set. Looks at each clause of the list at most once.
+pub(crate) fn find_part(
     rows: &[Row],
     literals: &[Lit],
     newest: Option<usize>,
     all: &HashSet<Lit>,
-) -> bool
+) -> Option<usize>
     requires within { AreWithin literals.now rows.now }
     requires linked { AreLinked (map before_of rows.now) }
     requires below { IsBelow (length rows.now) newest }
-    ensures { result ≡ on_list (passes_in (contains are_equal all.now) (kept_in literals.now rows.now))
+    ensures found { is_some result ≡ on_list (passes_in (contains are_equal all.now) (kept_in literals.now rows.now))
         (map before_of rows.now) (length rows.now) newest }
+    ensures passes { IfSome result
+        (λ k. passes_in (contains are_equal all.now) (kept_in literals.now rows.now) k ≡ true) }
 {
     let mut next = newest;
     while let Some(number) = next {
         if is_part(rows, literals, number, all) {
-            return true;
+            return Some(number);
         }
         next = before(rows, number);
     }
-    false
+    None
 }
 
-/// Whether some clause that is listed under one of the literals has only literals of the set.
-pub(crate) fn has_part_under(
+/// A clause that is listed under one of the literals and has only literals of the set.
+pub(crate) fn find_part_under(
     rows: &[Row],
     literals: &[Lit],
     lists: &IndexMap<Lit, Listed>,
     clause: &[Lit],
     all: &HashSet<Lit>,
-) -> bool
+) -> Option<usize>
     requires within { AreWithin literals.now rows.now }
     requires linked { AreLinked (map before_of rows.now) }
     requires below { (l : Lit) → IsBelow (length rows.now) (last_of lists.now l) }
-    ensures { result ≡ list_any (λ l. on_list
+    ensures found { is_some result ≡ list_any (λ l. on_list
         (passes_in (contains are_equal all.now) (kept_in literals.now rows.now))
         (map before_of rows.now) (length rows.now) (last_of lists.now l)) clause.now }
+    ensures passes { IfSome result
+        (λ k. passes_in (contains are_equal all.now) (kept_in literals.now rows.now) k ≡ true) }
 {
     for literal in clause {
         let newest = last_of(lists, *literal);
-        if has_part(rows, literals, newest, all) {
-            return true;
+        let found = find_part(rows, literals, newest, all);
+        if found.is_some() {
+            return found;
         }
     }
-    false
+    None
 }

@@ -3,7 +3,7 @@ use Rattle.std.specs.HashSet.{contains}
 use Rattle.sb_hints.specs.Storing.{before_of, kept_in}
 use Rattle.sb_hints.specs.Listing.{are_equal, IsBelow, on_list, passes_in, steps_of}
 use Rattle.sb_hints.proofs.Searching.{IsWalk}
-use Rattle.sb_hints.proofs.lists.has_part.Given as goal
+use Rattle.sb_hints.proofs.lists.find_part.Given as goal
 
 abbrev pub invariant-loop-next : goal.invariant-loop-next
 invariant-loop-next l =

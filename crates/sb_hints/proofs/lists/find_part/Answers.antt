@@ -1,7 +1,7 @@
 use Rattle.std.proofs.Common.{◌<◌, length, sym, ◌∙◌, subst, arith}
 use Rattle.sb_hints.specs.Listing.{steps_of}
 use Rattle.sb_hints.proofs.Searching.{walk_start, walk_next, walk_found, walk_end, below_later, steps_fall}
-use Rattle.sb_hints.proofs.lists.has_part.Goals as goal
+use Rattle.sb_hints.proofs.lists.find_part.Goals as goal
 
 pub loop-next-init : goal.loop-next-init
 loop-next-init c = record {
@@ -12,8 +12,8 @@ loop-next-init c = record {
 pub is_part-requires-clause-inside : goal.is_part-requires-clause-inside
 is_part-requires-clause-inside c = rw c.in-Some.is at c.loop-next.invariant.below
 
-pub returns-then-is_part : goal.returns-then-is_part
-returns-then-is_part c =
+pub returns-then-is_part-clause-found : goal.returns-then-is_part-clause-found
+returns-then-is_part-clause-found c =
     walk_found _ _ c.in-Some.number _ (rw c.in-Some.is at c.loop-next.invariant.walk)
     (sym c.is_part.ensures ∙ c.if-is_part.true)
 
@@ -35,5 +35,5 @@ loop-next-preserved c =
           (sym c.is_part.ensures ∙ c.if-is_part.false));
     }
 
-pub returns : goal.returns
-returns c = walk_end _ _ _ (rw c.in_default.is at c.loop-next.invariant.walk)
+pub returns-clause-found : goal.returns-clause-found
+returns-clause-found c = walk_end _ _ _ (rw c.in_default.is at c.loop-next.invariant.walk)

@@ -3,7 +3,7 @@ use Rattle.std.specs.List.{list_any}
 use Rattle.std.specs.HashSet.{contains}
 use Rattle.sb_hints.specs.Storing.{before_of, kept_in}
 use Rattle.sb_hints.specs.Listing.{are_equal, last_of, on_list, passes_in}
-use Rattle.sb_hints.proofs.lists.has_part_under.Given as goal
+use Rattle.sb_hints.proofs.lists.find_part_under.Given as goal
 
 abbrev pub invariant-loop-literal : goal.invariant-loop-literal
 invariant-loop-literal l =
