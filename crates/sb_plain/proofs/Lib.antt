@@ -4,3 +4,6 @@ pub mod Waiting
 pub mod Remembering
 pub mod Along
 pub mod Runs
+pub mod Failing
+pub mod Members
+pub mod Turns

@@ -15,7 +15,7 @@ use Rattle.sb_regex.specs.Numbered.{regex_at, regexes_at, AllNumbers, Extends, N
 use Rattle.sb_regex.proofs.CallerLemmas.{at_kept, number_kept, names_at, names_below, names_kept}
 use Rattle.sb_plain.specs.declared.shape.Operation.{Operation}
 use Rattle.sb_plain.specs.CutPoints.{none_between, ArePoints, AreCutPoints}
-use Rattle.sb_plain.specs.Memory.{Memory, same_pair, place_of, points_of, derivative_of, IsRightPlace, IsRight, RightStays}
+use Rattle.sb_plain.specs.Memory.{Learnt, same_pair, place_of, points_of, derivative_of, IsRightPlace, LearntIsRight}
 use Rattle.sb_plain.specs.Making.{stretch, found, is_found, target_at, AreFound, Covers, Parts, made, set_ranges, nd_each, IsShape, IsPlaceFor, PlacesExist, ListsAreKept}
 use Rattle.sb_plain.proofs.PointFacts.{stretch_le, stretch_none, both, no_ranges}
 use Rattle.sb_plain.proofs.Shapes.{made_same}
@@ -58,7 +58,7 @@ nat_apart x y n = step (nat_eq x y) refl
 
 -- an arena that grows
 
-pub right_new : (rs : List Regex) → IsRight rs ([], ([], []))
+pub right_new : (rs : List Regex) → LearntIsRight rs ([], ([], []))
 right_new rs = record {
   places = λ n k h. absurd (none_not k (nothing n k h));
   derivatives = λ n c t h. absurd (none_not t h);
@@ -68,7 +68,7 @@ right_new rs = record {
     nothing zero k h = h
     nothing (suc n) k h = h
 
-pub right_kept : RightStays
+pub right_kept : (old new : List Regex) (m : Learnt) → Extends old new → LearntIsRight old m → LearntIsRight new m
 right_kept old new m e r = record {
   places = λ n k h.
       let p = r.places n k h in
@@ -88,7 +88,7 @@ right_kept old new m e r = record {
 
 -- what is found
 
-pub points_right : (rs : List Regex) (m : Memory) (n : ℕ) (points : List ℕ) → IsRight rs m
+pub points_right : (rs : List Regex) (m : Learnt) (n : ℕ) (points : List ℕ) → LearntIsRight rs m
     → points_of m n ≡ Some points → (n < length rs) × AreCutPoints (regex_at rs n) points
 points_right rs m n points r h = step (place_of m n) refl h
   where
@@ -100,14 +100,14 @@ points_right rs m n points r h = step (place_of m n) refl h
         let z : p.list ≡ points = some_same p.list points (sym p.there ∙ g) in
         (p.number, subst (AreCutPoints (regex_at rs n)) z p.points)
 
-pub place_points : (rs : List Regex) (m : Memory) (n : ℕ) → IsRight rs m → IsSome (place_of m n)
+pub place_points : (rs : List Regex) (m : Learnt) (n : ℕ) → LearntIsRight rs m → IsSome (place_of m n)
     → IsSome (points_of m n)
 place_points rs m n r h =
     let p = something (place_of m n) h in
     let q = r.places n p.0 p.1 in
     ap (λ o. is_some (option_and_then (slice_get m.0) o)) p.1 ∙ ap is_some q.there
 
-pub found_points : (m : Memory) (c n : ℕ) → is_found m c n ≡ true → IsSome (points_of m n)
+pub found_points : (m : Learnt) (c n : ℕ) → is_found m c n ≡ true → IsSome (points_of m n)
 found_points m c n h = step (points_of m n) h
   where
     step : (o : Option (List ℕ)) → is_some (option_and_then (λ points. derivative_of m n (stretch points c)) o) ≡ true
@@ -115,26 +115,26 @@ found_points m c n h = step (points_of m n) h
     step None g = absurd (cc)
     step (Some points) g = refl
 
-pub found_place : (m : Memory) (c n : ℕ) → is_found m c n ≡ true → IsSome (place_of m n)
+pub found_place : (m : Learnt) (c n : ℕ) → is_found m c n ≡ true → IsSome (place_of m n)
 found_place m c n h = step (place_of m n) (found_points m c n h)
   where
     step : (o : Option ℕ) → IsSome (option_and_then (slice_get m.0) o) → IsSome o
     step None g = absurd (cc)
     step (Some k) g = refl
 
-pub places_found : (m : Memory) (c : ℕ) (parts : List ℕ) → AreFound m c parts → All (λ n. IsSome (place_of m n)) parts
+pub places_found : (m : Learnt) (c : ℕ) (parts : List ℕ) → AreFound m c parts → All (λ n. IsSome (place_of m n)) parts
 places_found m c parts h = λ k d l. found_place m c (get_or parts k d) (h k d l)
 
-pub places_exist : (rs : List Regex) (m : Memory) → IsRight rs m → PlacesExist m
+pub places_exist : (rs : List Regex) (m : Learnt) → LearntIsRight rs m → PlacesExist m
 places_exist rs m r n k h = let p = r.places n k h in slice_get_within m.0 k p.list p.there
 
-same_stretch : (rs : List Regex) (m : Memory) (n c : ℕ) (points : List ℕ) → is_character c ≡ true → IsRight rs m
+same_stretch : (rs : List Regex) (m : Learnt) (n c : ℕ) (points : List ℕ) → is_character c ≡ true → LearntIsRight rs m
     → points_of m n ≡ Some points → nd (regex_at rs n) (stretch points c) ≡ nd (regex_at rs n) c
 same_stretch rs m n c points h r e =
     let p = (points_right rs m n points r e).1 in
     p.same (stretch points c) c (stretch_le points c) h (stretch_none points c p.are_points.ascending)
 
-pub found_names : (rs : List Regex) (m : Memory) (n c t : ℕ) → is_character c ≡ true → IsRight rs m
+pub found_names : (rs : List Regex) (m : Learnt) (n c t : ℕ) → is_character c ≡ true → LearntIsRight rs m
     → found m n c ≡ Some t → (n < length rs) × Names rs t (nd (regex_at rs n) c)
 found_names rs m n c t h r f = step (points_of m n) refl f
   where
@@ -151,14 +151,14 @@ character c l = grind (arith, nat_tests)
 
 -- the derivatives of parts
 
-pub target_names : (rs : List Regex) (m : Memory) (n c : ℕ) → is_character c ≡ true → IsRight rs m
+pub target_names : (rs : List Regex) (m : Learnt) (n c : ℕ) → is_character c ≡ true → LearntIsRight rs m
     → is_found m c n ≡ true → Names rs (target_at m c n) (nd (regex_at rs n) c)
 target_names rs m n c h r f =
     let p = something (found m n c) f in
     let d = found_names rs m n c p.0 h r p.1 in
     subst (λ (x : ℕ). Names rs x (nd (regex_at rs n) c)) (sym (ap (λ o. unwrap_or o 0) p.1)) d.1
 
-pub targets_are : (rs : List Regex) (m : Memory) (c : ℕ) (parts : List ℕ) → is_character c ≡ true → IsRight rs m
+pub targets_are : (rs : List Regex) (m : Learnt) (c : ℕ) (parts : List ℕ) → is_character c ≡ true → LearntIsRight rs m
     → AreFound m c parts
     → AllNumbers rs (map (target_at m c) parts)
     × (regexes_at rs (map (target_at m c) parts) ≡ nd_each (regexes_at rs parts) c)
@@ -175,7 +175,7 @@ targets_are rs m c (n ∷ parts) h r f =
 
 -- the points of a regex, from those of its parts
 
-each_same : (rs : List Regex) (m : Memory) (parts list : List ℕ) (c d : ℕ) → IsRight rs m
+each_same : (rs : List Regex) (m : Learnt) (parts list : List ℕ) (c d : ℕ) → LearntIsRight rs m
     → All (λ n. IsSome (place_of m n)) parts
     → All (λ n. (l : List ℕ) → points_of m n ≡ Some l → Covers list l) parts → c ≤ d → is_character d ≡ true
     → none_between list c d ≡ true → nd_each (regexes_at rs parts) c ≡ nd_each (regexes_at rs parts) d
@@ -188,7 +188,7 @@ each_same rs m (n ∷ parts) list c d r f v l h e =
     (each_same rs m parts list c d r (λ k x b. f (suc k) x (omega (arith, b))) (λ k x b. v (suc k) x (omega (arith, b)))
     l h e)
 
-pub cut_points_are : (rs : List Regex) (m : Memory) (n : ℕ) (op : Operation) (parts list : List ℕ) → IsRight rs m
+pub cut_points_are : (rs : List Regex) (m : Learnt) (n : ℕ) (op : Operation) (parts list : List ℕ) → LearntIsRight rs m
     → IsShape rs n op parts → All (λ q. IsSome (place_of m q)) parts → ArePoints list
     → All (λ q. (l : List ℕ) → points_of m q ≡ Some l → Covers list l) parts
     → Parts list (in_ranges (set_ranges op)) → AreCutPoints (regex_at rs n) list
@@ -202,7 +202,7 @@ cut_points_are rs m n op parts list r s f p v u = record {
 
 -- one more place
 
-module _ (rs : List Regex) (m m1 m' : Memory) (id k : ℕ) (op : Operation) (parts : List ℕ) (r : IsRight rs m)
+module _ (rs : List Regex) (m m1 m' : Learnt) (id k : ℕ) (op : Operation) (parts : List ℕ) (r : LearntIsRight rs m)
     (grown : ListsAreKept m m1) (l0 : m'.0 ≡ m1.0) (l1 : m'.1.0 ≡ set m1.1.0 id (Some k)) (l2 : m'.1.1 ≡ m1.1.1) where
   place_elsewhere : (n : ℕ) → (n ≡ id → ⊥) → place_of m' n ≡ place_of m n
   place_elsewhere n a = ap (λ xs. get_or xs n None) l1 ∙ get_or-set_other m1.1.0 id n (Some k) None a
@@ -219,7 +219,7 @@ module _ (rs : List Regex) (m m1 m' : Memory) (id k : ℕ) (op : Operation) (par
   place_is room = ap is_some (place_here room)
 
   pub place_right : id < length rs → id < length m.1.0 → IsPlaceFor m m1 op parts k → IsShape rs id op parts
-      → All (λ q. IsSome (place_of m q)) parts → IsRight rs m'
+      → All (λ q. IsSome (place_of m q)) parts → LearntIsRight rs m'
   place_right number room p s f = record {
     places = λ n j h. elim (same_number n id) [
       | inl e ↦
@@ -268,7 +268,7 @@ module _ (rs : List Regex) (m m1 m' : Memory) (id k : ℕ) (op : Operation) (par
           true_not z = cc
 
 -- a memory with more lists alone
-pub right_lists : (rs : List Regex) (m m1 : Memory) → ListsAreKept m m1 → IsRight rs m → IsRight rs m1
+pub right_lists : (rs : List Regex) (m m1 : Learnt) → ListsAreKept m m1 → LearntIsRight rs m → LearntIsRight rs m1
 right_lists rs m m1 g r = record {
   places = λ n k h.
       let p = r.places n k (sym (ap (λ x. get_or x.0 n None) g.rest) ∙ h) in
@@ -281,7 +281,7 @@ right_lists rs m m1 g r = record {
   derivatives = λ n c t h. r.derivatives n c t (sym (ap (λ x. lookup (same_pair (n, c)) x.1) g.rest) ∙ h);
 }
 
-pub found_lists : (rs : List Regex) (m m1 : Memory) → ListsAreKept m m1 → IsRight rs m → (n c : ℕ)
+pub found_lists : (rs : List Regex) (m m1 : Learnt) → ListsAreKept m m1 → LearntIsRight rs m → (n c : ℕ)
     → found m1 n c ≡ found m n c
 found_lists rs m m1 g r n c =
     ap (option_and_then (λ points. derivative_of m1 n (stretch points c)))
@@ -294,7 +294,7 @@ found_lists rs m m1 g r n c =
 
 -- one more derivative
 
-module _ (rs : List Regex) (m m' : Memory) (id c b t : ℕ) (points : List ℕ) (is : points_of m id ≡ Some points)
+module _ (rs : List Regex) (m m' : Learnt) (id c b t : ℕ) (points : List ℕ) (is : points_of m id ≡ Some points)
     (start : b ≡ stretch points c) (l0 : m'.0 ≡ m.0) (l1 : m'.1.0 ≡ m.1.0)
     (put : (q : ℕ × ℕ) → lookup (same_pair q) m'.1.1 ≡ cond (same_pair (id, b) q) (Some t) (lookup (same_pair q) m.1.1))
   where
@@ -321,8 +321,8 @@ module _ (rs : List Regex) (m m' : Memory) (id c b t : ℕ) (points : List ℕ) 
         ∙ ap (λ z. is_some (cond z (Some t) (derivative_of m id b)))
         (both (nat_eq id id) (nat_eq b b) (same_nat id) (same_nat b))
 
-    pub derivative_right : is_character c ≡ true → id < length rs → IsRight rs m → Names rs t (nd (regex_at rs id) c)
-        → IsRight rs m'
+    pub derivative_right : is_character c ≡ true → id < length rs → LearntIsRight rs m → Names rs t (nd (regex_at rs id) c)
+        → LearntIsRight rs m'
     derivative_right h number r named = record {
       places = λ n k e.
           let p = r.places n k (sym (ap (λ xs. get_or xs n None) l1) ∙ e) in
@@ -346,13 +346,13 @@ module _ (rs : List Regex) (m m' : Memory) (id c b t : ℕ) (points : List ℕ) 
             rw (← v, ← nat_same id n q.0, ← nat_same b x q.1) (number, w)
         step n x u false e g = r.derivatives n x u (sym (ap (λ z. cond z (Some t) (derivative_of m n x)) e) ∙ g)
 
-pub start_is : (m : Memory) (id c b : ℕ) (points : List ℕ)
+pub start_is : (m : Learnt) (id c b : ℕ) (points : List ℕ)
     → option_map (λ xs. stretch xs c) (points_of m id) ≡ Some b → points_of m id ≡ Some points → b ≡ stretch points c
 start_is m id c b points h e =
     some_same b (stretch points c) (sym h ∙ ap (option_map (λ xs. stretch xs c)) e)
 
-pub derivative_named : (rs rs' : List Regex) (m : Memory) (id c t : ℕ) (op : Operation) (parts ids : List ℕ)
-    → is_character c ≡ true → IsRight rs m → AreFound m c parts → IsShape rs id op parts → Extends rs rs'
+pub derivative_named : (rs rs' : List Regex) (m : Learnt) (id c t : ℕ) (op : Operation) (parts ids : List ℕ)
+    → is_character c ≡ true → LearntIsRight rs m → AreFound m c parts → IsShape rs id op parts → Extends rs rs'
     → id < length rs → ids ≡ map (target_at m c) parts → Names rs' t (made rs op c (regexes_at rs ids))
     → Names rs' t (nd (regex_at rs' id) c)
 derivative_named rs rs' m id c t op parts ids h r f s e number is named =
@@ -378,11 +378,11 @@ member_has P k xs v a = find xs a (λ h. absurd (same_flipped k (and_parts _ tru
         step false e g = g (λ h. f (both _ _ (ap not e) h))
 
 -- the places of the lists of all parts are among these
-abbrev pub AreAllPlaces : Memory → List ℕ → List ℕ → Type 0
+abbrev pub AreAllPlaces : Learnt → List ℕ → List ℕ → Type 0
 AreAllPlaces m parts places = All (λ n. (k : ℕ) → place_of m n ≡ Some k → Covers places (k ∷ [])) parts
 
 -- a property of the lists at the places is one of the lists of the parts
-lists_have : (P : List ℕ → Type 0) (m : Memory) (parts places : List ℕ) → AreAllPlaces m parts places
+lists_have : (P : List ℕ → Type 0) (m : Learnt) (parts places : List ℕ) → AreAllPlaces m parts places
     → All (λ k. (l : List ℕ) → slice_get m.0 k ≡ Some l → P l) places
     → All (λ n. (l : List ℕ) → points_of m n ≡ Some l → P l) parts
 lists_have P m parts places a h = λ i d b l e.
@@ -394,7 +394,7 @@ lists_have P m parts places a h = λ i d b l e.
     step n v l (Some k) p e =
         member_has (λ j. (x : List ℕ) → slice_get m.0 j ≡ Some x → P x) k places (v k p) h l e
 
-alone : (m : Memory) (k : ℕ) (xs : List ℕ) → length xs ≡ 1 → k ≡ get_or xs 0 k → k < length m.0
+alone : (m : Learnt) (k : ℕ) (xs : List ℕ) → length xs ≡ 1 → k ≡ get_or xs 0 k → k < length m.0
     → All (λ j. (x : List ℕ) → slice_get m.0 j ≡ Some x → Covers (get_or m.0 k []) x) xs
 alone m k [] z e b = λ i d l. absurd (omega (arith, l))
 alone m k (y ∷ ys) z e b = λ i d l x g.
@@ -407,7 +407,7 @@ alone m k (y ∷ ys) z e b = λ i d l x g.
     first zero zs d l q = refl
     first (suc i) zs d l q = absurd (omega (arith, l, q))
 
-pub one_place : (m : Memory) (op : Operation) (parts places : List ℕ) (k : ℕ) → AreAllPlaces m parts places
+pub one_place : (m : Learnt) (op : Operation) (parts places : List ℕ) (k : ℕ) → AreAllPlaces m parts places
     → length places ≡ 1 → k ≡ get_or places 0 k → k < length m.0 → length (set_ranges op) ≡ 0
     → ((list : List ℕ) → slice_get m.0 k ≡ Some list → ArePoints list) → IsPlaceFor m m op parts k
 one_place m op parts places k a l is b r p = record {
@@ -423,7 +423,7 @@ one_place m op parts places k a l is b r p = record {
     none_of [] z = refl
     none_of (x ∷ rs) z = absurd (omega (arith, z))
 
-module _ (m m' : Memory) (list : List ℕ) (pushed : m'.0 ≡ m.0 ++ list ∷ []) (rest : m'.1 ≡ m.1) where
+module _ (m m' : Learnt) (list : List ℕ) (pushed : m'.0 ≡ m.0 ++ list ∷ []) (rest : m'.1 ≡ m.1) where
   pub lists_pushed : ListsAreKept m m'
   lists_pushed = record {
     lists = λ k l. ap (λ xs. slice_get xs k) pushed ∙ before m.0 k l;
@@ -453,8 +453,8 @@ module _ (m m' : Memory) (list : List ℕ) (pushed : m'.0 ≡ m.0 ++ list ∷ []
 
 -- room for more places
 
-pub right_room : (rs : List Regex) (m m' : Memory) → m'.0 ≡ m.0 → ((n : ℕ) → place_of m' n ≡ place_of m n)
-    → m'.1.1 ≡ m.1.1 → IsRight rs m → IsRight rs m'
+pub right_room : (rs : List Regex) (m m' : Learnt) → m'.0 ≡ m.0 → ((n : ℕ) → place_of m' n ≡ place_of m n)
+    → m'.1.1 ≡ m.1.1 → LearntIsRight rs m → LearntIsRight rs m'
 right_room rs m m' l0 same l2 r = record {
   places = λ n k h.
       let p = r.places n k (sym (same n) ∙ h) in
@@ -471,11 +471,11 @@ pub below_more : (id n : ℕ) (parts : List ℕ) → id < n → All (λ i. i < i
 below_more id n parts l h k d b = let x = h k d b in omega (arith, l, x)
 
 -- what is found stays found
-pub found_still : (m m' : Memory) (c : ℕ) (parts : List ℕ)
+pub found_still : (m m' : Learnt) (c : ℕ) (parts : List ℕ)
     → ((n x : ℕ) → is_found m x n ≡ true → found m' n x ≡ found m n x) → AreFound m c parts → AreFound m' c parts
 found_still m m' c parts k f i d l = ap is_some (k (get_or parts i d) c (f i d l)) ∙ f i d l
 
-pub targets_still : (m m' : Memory) (c : ℕ) (parts : List ℕ)
+pub targets_still : (m m' : Learnt) (c : ℕ) (parts : List ℕ)
     → ((n x : ℕ) → is_found m x n ≡ true → found m' n x ≡ found m n x) → AreFound m c parts
     → map (target_at m c) parts ≡ map (target_at m' c) parts
 targets_still m m' c [] k f = refl

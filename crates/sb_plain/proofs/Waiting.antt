@@ -14,7 +14,7 @@ use Rattle.std.specs.declared.cmp.Ordering.TheVariants.{Less, Equal, Greater}
 use Rattle.sb_lang.specs.Regex.{Regex}
 use Rattle.sb_regex.specs.Numbered.{Extends}
 use Rattle.sb_regex.proofs.CallerLemmas.{extends_more}
-use Rattle.sb_plain.specs.Memory.{Memory, IsRight}
+use Rattle.sb_plain.specs.Memory.{Learnt, LearntIsRight}
 use Rattle.sb_plain.specs.Making.{found, is_found, target_at, IsWanted, lacking}
 
 -- some key, after one more
@@ -58,7 +58,7 @@ lt_tells a b h = grind (arith, nat_tests)
 
 -- one more part is looked at
 
-pub record Wanting (m : Memory) (c : ℕ) (parts : List ℕ) (k : ℕ) (some : Bool) (targets old new : List ℕ) : Type 0
+pub record Wanting (m : Learnt) (c : ℕ) (parts : List ℕ) (k : ℕ) (some : Bool) (targets old new : List ℕ) : Type 0
   where
     pub known : some ≡ false → (i d : ℕ) → i < k → is_found m c (get_or parts i d) ≡ true
     pub made : some ≡ false → targets ≡ map (target_at m c) (take k parts)
@@ -66,7 +66,7 @@ pub record Wanting (m : Memory) (c : ℕ) (parts : List ℕ) (k : ℕ) (some : B
     pub waits : some ≡ true → (n : ℕ) → All (λ i. i < n) parts → list_any (λ q. nat_lt q n) new ≡ true
     pub added : (n : ℕ) → All (λ i. i < n) parts → All (IsWanted n m c) old → All (IsWanted n m c) new
 
-pub wanting_init : (m : Memory) (c : ℕ) (parts targets keys : List ℕ) → targets ≡ []
+pub wanting_init : (m : Learnt) (c : ℕ) (parts targets keys : List ℕ) → targets ≡ []
     → Wanting m c parts 0 false targets keys keys
 wanting_init m c parts targets keys none = record {
   known = λ f i d l. absurd (omega arith);
@@ -85,7 +85,7 @@ map_one_more : (f : ℕ → ℕ) (xs : List ℕ) (k d : ℕ) → k < length xs
     → map f (take (k + 1) xs) ≡ map f (take k xs) ++ f (get_or xs k d) ∷ []
 map_one_more f xs k d l = ap (map f) (take_more xs k d l) ∙ map-append f (take k xs) (get_or xs k d ∷ [])
 
-pub wanting_known : (m : Memory) (c : ℕ) (parts : List ℕ) (k : ℕ) (some : Bool) (targets targets' old new : List ℕ)
+pub wanting_known : (m : Learnt) (c : ℕ) (parts : List ℕ) (k : ℕ) (some : Bool) (targets targets' old new : List ℕ)
     (x t : ℕ) → Wanting m c parts k some targets old new → k < length parts → x ≡ get_or parts k x
     → found m x c ≡ Some t → targets' ≡ targets ++ t ∷ [] → Wanting m c parts (k + 1) some targets' old new
 wanting_known m c parts k some targets targets' old new x t w l is e more = record {
@@ -105,7 +105,7 @@ wanting_known m c parts k some targets targets' old new x t w l is e more = reco
         let z : i ≡ k = grind (arith, nat_tests) in
         ap (is_found m c) (ap (λ j. get_or parts j d) z ∙ same_at parts k d x l ∙ sym is) ∙ ap is_some e
 
-pub wanting_add : (m : Memory) (c : ℕ) (parts : List ℕ) (k : ℕ) (some : Bool) (targets old new new' : List ℕ) (x : ℕ)
+pub wanting_add : (m : Learnt) (c : ℕ) (parts : List ℕ) (k : ℕ) (some : Bool) (targets old new new' : List ℕ) (x : ℕ)
     → Wanting m c parts k some targets old new → k < length parts → x ≡ get_or parts k x → found m x c ≡ None
     → new' ≡ insert_key nat_cmp new x → Wanting m c parts (k + 1) true targets old new'
 wanting_add m c parts k some targets old new new' x w l is e keys = record {
@@ -126,7 +126,7 @@ pub any_after : (k : ℕ) (ks ks' : List ℕ) → ks' ≡ insert_key nat_cmp ks 
     → list_any (λ q. nat_lt q k) ks' ≡ true
 any_after k ks ks' is h = ap (list_any (λ q. nat_lt q k)) is ∙ any_inserted (λ q. nat_lt q k) k ks h
 
-pub wanted_after : (m : Memory) (c n k : ℕ) (ks ks' : List ℕ) → ks' ≡ insert_key nat_cmp ks k → k < n
+pub wanted_after : (m : Learnt) (c n k : ℕ) (ks ks' : List ℕ) → ks' ≡ insert_key nat_cmp ks k → k < n
     → is_found m c k ≡ false → All (IsWanted n m c) ks → All (IsWanted n m c) ks'
 wanted_after m c n k ks ks' is l e h =
     subst (All (IsWanted n m c)) (sym is) (All-insert_key nat_cmp k (IsWanted n m c) ks h (l, e))
@@ -162,16 +162,16 @@ lacking_falls f g x (suc n) s p q l = step (nat_lt x n) refl (lacking_falls f g 
 
 -- the loop
 
-pub record Deriving (rs0 rs : List Regex) (m : Memory) (c r next : ℕ) (keys : List ℕ) : Type 0 where
+pub record Deriving (rs0 rs : List Regex) (m : Learnt) (c r next : ℕ) (keys : List ℕ) : Type 0 where
   pub extends : Extends rs0 rs
-  pub right : IsRight rs m
+  pub right : LearntIsRight rs m
   pub long : r < length m.1.0
   pub next_in : next ≤ r
   pub next_lacks : is_found m c r ≡ false → is_found m c next ≡ false
   pub wanted : All (IsWanted (suc r) m c) keys
   pub above : All (λ q. next < q) keys
 
-pub deriving_init : (rs0 : List Regex) (m : Memory) (c r : ℕ) (keys : List ℕ) → Extends rs0 rs0 → IsRight rs0 m
+pub deriving_init : (rs0 : List Regex) (m : Learnt) (c r : ℕ) (keys : List ℕ) → Extends rs0 rs0 → LearntIsRight rs0 m
     → r < length m.1.0 → keys ≡ [] → Deriving rs0 rs0 m c r r keys
 deriving_init rs0 m c r keys e f l is = record {
   extends = e;
@@ -184,7 +184,7 @@ deriving_init rs0 m c r keys e f l is = record {
 }
 
 -- what is done for a number: it is found, or numbers wait for it
-pub record Advanced (m m' : Memory) (c id : ℕ) (added : Bool) (keys keys' : List ℕ) : Type 0 where
+pub record Advanced (m m' : Learnt) (c id : ℕ) (added : Bool) (keys keys' : List ℕ) : Type 0 where
   pub elsewhere : (n : ℕ) → (n ≡ id → ⊥) → found m' n c ≡ found m n c
   pub added_is : added ≡ true → (is_found m' c id ≡ true) × (keys' ≡ keys)
   pub same : added ≡ false → m' ≡ m
@@ -192,7 +192,7 @@ pub record Advanced (m m' : Memory) (c id : ℕ) (added : Bool) (keys keys' : Li
   pub wanted : added ≡ false → is_found m c id ≡ false → (n : ℕ) → id < n → All (IsWanted n m c) keys
       → All (IsWanted n m c) keys'
 
-wanted_then : (m m' : Memory) (c r id : ℕ) (added : Bool) (keys keys' : List ℕ) → Advanced m m' c id added keys keys'
+wanted_then : (m m' : Learnt) (c r id : ℕ) (added : Bool) (keys keys' : List ℕ) → Advanced m m' c id added keys keys'
     → id ≤ r → is_found m c id ≡ false → All (IsWanted (suc r) m c) keys → All (λ q. id < q) keys
     → All (IsWanted (suc r) m' c) keys'
 wanted_then m m' c r id true keys keys' a l e w b =
@@ -202,7 +202,7 @@ wanted_then m m' c r id true keys keys' a l e w b =
     let u : id < get_or keys i d = b i d n in
     (x.0, ap is_some (a.elsewhere (get_or keys i d) (λ z. absurd (omega (arith, u, z)))) ∙ x.1))
 wanted_then m m' c r id false keys keys' a l e w b =
-    subst (λ (x : Memory). All (IsWanted (suc r) x c) keys') (sym (a.same refl))
+    subst (λ (x : Learnt). All (IsWanted (suc r) x c) keys') (sym (a.same refl))
     (a.wanted refl e (suc r) (omega (arith, l)) w)
 
 -- what is taken from those that wait
@@ -213,9 +213,9 @@ pub record IsTaken (r next' : ℕ) (keys' keys'' : List ℕ) (o : Option ℕ) : 
   pub len : length keys'' + cond (is_some o) 1 0 ≡ length keys'
   pub variant : 0 < length keys' → IsSome o
 
-pub deriving_step : (rs0 rs rs' : List Regex) (m m' : Memory) (c r next next' : ℕ) (keys keys' keys'' : List ℕ)
+pub deriving_step : (rs0 rs rs' : List Regex) (m m' : Learnt) (c r next next' : ℕ) (keys keys' keys'' : List ℕ)
     (o : Option ℕ) (added : Bool) → is_found m c r ≡ false → Deriving rs0 rs m c r next keys → Extends rs rs'
-    → IsRight rs' m' → length m'.1.0 ≡ length m.1.0 → Advanced m m' c next added keys keys'
+    → LearntIsRight rs' m' → length m'.1.0 ≡ length m.1.0 → Advanced m m' c next added keys keys'
     → IsTaken r next' keys' keys'' o → Deriving rs0 rs' m' c r next' keys''
 deriving_step rs0 rs rs' m m' c r next next' keys keys' keys'' (Some k) added lacks v e f l a t =
     let w = wanted_then m m' c r next added keys keys' a v.next_in (v.next_lacks lacks) v.wanted v.above in
@@ -267,10 +267,10 @@ least_falls k n ks h a = step (nat_lt k n) refl
     step true v = lt_tells k n v
     step false v = later ks (ap (λ t. t || list_any (λ q. nat_lt q n) ks) (sym v) ∙ h) a
 
-abbrev pub measure : Memory → ℕ → ℕ → ℕ → ℕ
+abbrev pub measure : Learnt → ℕ → ℕ → ℕ → ℕ
 measure m c r next = lacking (is_found m c) (suc r) * (r + 1) + next
 
-measure_falls : (rs0 rs : List Regex) (m m' : Memory) (c r next next' : ℕ) (keys keys' keys'' : List ℕ)
+measure_falls : (rs0 rs : List Regex) (m m' : Learnt) (c r next next' : ℕ) (keys keys' keys'' : List ℕ)
     (o : Option ℕ) (added : Bool) → is_found m c r ≡ false → Deriving rs0 rs m c r next keys → next' ≤ r
     → Advanced m m' c next added keys keys' → IsTaken r next' keys' keys'' o
     → measure m' c r next' < measure m c r next
@@ -281,16 +281,16 @@ measure_falls rs0 rs m m' c r next next' keys keys' keys'' o true lacks v l a t 
 measure_falls rs0 rs m m' c r next next' keys keys' keys'' (Some k) false lacks v l a t =
     let z : keys' ≡ k ∷ keys'' = t.removal in
     let f : k < next = least_falls k next keys'' (ap (list_any (λ x. nat_lt x next)) (sym z) ∙ a.waits refl) t.above in
-    let e : measure m' c r next' ≡ measure m c r next' = ap (λ (x : Memory). measure x c r next') (a.same refl) in
+    let e : measure m' c r next' ≡ measure m c r next' = ap (λ (x : Learnt). measure x c r next') (a.same refl) in
     omega (arith, e, f, t.next_is)
 measure_falls rs0 rs m m' c r next next' keys [] keys'' None false lacks v l a t =
     let x : list_any (λ x. nat_lt x next) [] ≡ true = a.waits refl in absurd (cc)
 measure_falls rs0 rs m m' c r next next' keys (k ∷ ks) keys'' None false lacks v l a t =
     let x : is_some {T = ℕ} None ≡ true = t.variant (omega arith) in absurd (cc)
 
-pub turn_falls : (rs0 rs rs' : List Regex) (m m' : Memory) (c r next next' : ℕ) (keys keys' keys'' : List ℕ)
+pub turn_falls : (rs0 rs rs' : List Regex) (m m' : Learnt) (c r next next' : ℕ) (keys keys' keys'' : List ℕ)
     (o : Option ℕ) (added : Bool) → is_found m c r ≡ false → Deriving rs0 rs m c r next keys → Extends rs rs'
-    → IsRight rs' m' → length m'.1.0 ≡ length m.1.0 → Advanced m m' c next added keys keys'
+    → LearntIsRight rs' m' → length m'.1.0 ≡ length m.1.0 → Advanced m m' c next added keys keys'
     → IsTaken r next' keys' keys'' o → measure m' c r next' < measure m c r next
 turn_falls rs0 rs rs' m m' c r next next' keys keys' keys'' o added lacks v e f l a t =
     measure_falls rs0 rs m m' c r next next' keys keys' keys'' o added lacks v

@@ -1,3 +1,4 @@
 pub mod CutPoints
 pub mod Memory
 pub mod Making
+pub mod Walking

@@ -10,7 +10,7 @@ use Rattle.sb_regex.specs.Numbered.{regex_at, regexes_at}
 use Rattle.sb_plain.specs.declared.shape.Operation.{Operation}
 use Rattle.sb_plain.specs.declared.shape.Operation.TheVariants as operation
 use Rattle.sb_plain.specs.CutPoints.{none_between, ArePoints}
-use Rattle.sb_plain.specs.Memory.{Memory, place_of, points_of, derivative_of}
+use Rattle.sb_plain.specs.Memory.{Learnt, place_of, points_of, derivative_of}
 
 -- the last point at or below the number, of ascending ones, or the first argument
 unfoldable pub floor : ℕ → List ℕ → ℕ → ℕ
@@ -22,17 +22,17 @@ abbrev pub stretch : List ℕ → ℕ → ℕ
 stretch points c = floor 0 points c
 
 -- the derivative of a regex by a character, if it is remembered
-abbrev pub found : Memory → ℕ → ℕ → Option ℕ
+abbrev pub found : Learnt → ℕ → ℕ → Option ℕ
 found m n c = option_and_then (λ points. derivative_of m n (stretch points c)) (points_of m n)
 
-abbrev pub is_found : Memory → ℕ → ℕ → Bool
+abbrev pub is_found : Learnt → ℕ → ℕ → Bool
 is_found m c n = is_some (found m n c)
 
-abbrev pub AreFound : Memory → ℕ → List ℕ → Type 0
+abbrev pub AreFound : Learnt → ℕ → List ℕ → Type 0
 AreFound m c parts = All (λ n. is_found m c n ≡ true) parts
 
 -- the number is below a bound, and its derivative is not remembered
-abbrev pub IsWanted : ℕ → Memory → ℕ → ℕ → Type 0
+abbrev pub IsWanted : ℕ → Learnt → ℕ → ℕ → Type 0
 IsWanted n m c q = (q < n) × (is_found m c q ≡ false)
 
 -- how many numbers below a bound do not pass the test
@@ -108,20 +108,20 @@ pub record IsShapeOfCat (rs : List Regex) (a b : ℕ) (op : Operation) (parts : 
       ≡ made rs op c (nd_each (regexes_at rs parts) c)
 
 -- the derivative that is remembered
-abbrev pub target_at : Memory → ℕ → ℕ → ℕ
+abbrev pub target_at : Learnt → ℕ → ℕ → ℕ
 target_at m c n = unwrap_or (found m n c) 0
 
 -- each place is one of a list
-abbrev pub PlacesExist : Memory → Type 0
+abbrev pub PlacesExist : Learnt → Type 0
 PlacesExist m = (n k : ℕ) → place_of m n ≡ Some k → k < length m.0
 
 -- there may be more lists, and all else stays
-pub record ListsAreKept (old new : Memory) : Type 0 where
+pub record ListsAreKept (old new : Learnt) : Type 0 where
   pub lists : (k : ℕ) → k < length old.0 → slice_get new.0 k ≡ slice_get old.0 k
   pub rest : new.1 ≡ old.1
 
 -- at the place is a list with the points of all parts and the ends of the operation's ranges
-pub record IsPlaceFor (old new : Memory) (op : Operation) (parts : List ℕ) (k : ℕ) : Type 0 where
+pub record IsPlaceFor (old new : Learnt) (op : Operation) (parts : List ℕ) (k : ℕ) : Type 0 where
   pub list : List ℕ
   pub there : slice_get new.0 k ≡ Some list
   pub points : ArePoints list

@@ -1,41 +1,57 @@
 -- What is remembered of regexes by their numbers, and when it is right for the regexes of an arena.
-use Rattle.std.specs.Prelude.{◌≡◌, ℕ, ◌<◌, Bool, ◌&&◌, nat_eq, List, Option, Some, None, get_or, slice_get, length, option_and_then}
+use Rattle.std.specs.Prelude.{◌≡◌, ℕ, ◌<◌, Bool, false, ◌&&◌, nat_eq, List, Option, Some, None, get_or, slice_get, length, drop, option_and_then, All}
 use Rattle.std.specs.Map.{lookup}
 use Rattle.sb_lang.specs.Regex.{Regex}
 use Rattle.sb_lang.specs.Derivative.{nd}
+use Rattle.sb_lang.specs.Language.{language}
 use Rattle.sb_regex.specs.Numbered.{regex_at, Extends, Names}
 use Rattle.sb_plain.specs.CutPoints.{AreCutPoints}
 
 -- lists of points; by number of regex the place of its list; by a number and a character the number of the derivative
-abbrev pub Memory : Type 0
-Memory = List (List ℕ) × (List (Option ℕ) × List ((ℕ × ℕ) × ℕ))
+abbrev pub Learnt : Type 0
+Learnt = List (List ℕ) × (List (Option ℕ) × List ((ℕ × ℕ) × ℕ))
 
 abbrev pub same_pair : ℕ × ℕ → ℕ × ℕ → Bool
 same_pair p q = nat_eq p.0 q.0 && nat_eq p.1 q.1
 
 -- the place of a regex's list
-abbrev pub place_of : Memory → ℕ → Option ℕ
+abbrev pub place_of : Learnt → ℕ → Option ℕ
 place_of m n = get_or m.1.0 n None
 
 -- the list of a regex
-abbrev pub points_of : Memory → ℕ → Option (List ℕ)
+abbrev pub points_of : Learnt → ℕ → Option (List ℕ)
 points_of m n = option_and_then (slice_get m.0) (place_of m n)
 
 -- the derivative of a regex by a character
-abbrev pub derivative_of : Memory → ℕ → ℕ → Option ℕ
+abbrev pub derivative_of : Learnt → ℕ → ℕ → Option ℕ
 derivative_of m n c = lookup (same_pair (n, c)) m.1.1
 
 -- the list at a place is that of a number's regex
-pub record IsRightPlace (rs : List Regex) (m : Memory) (n k : ℕ) : Type 0 where
+pub record IsRightPlace (rs : List Regex) (m : Learnt) (n k : ℕ) : Type 0 where
   pub number : n < length rs
   pub list : List ℕ
   pub there : slice_get m.0 k ≡ Some list
   pub points : AreCutPoints (regex_at rs n) list
 
 -- each is of a number of the list, and right for that number's regex
-pub record IsRight (rs : List Regex) (m : Memory) : Type 0 where
+pub record LearntIsRight (rs : List Regex) (m : Learnt) : Type 0 where
   pub places : (n k : ℕ) → place_of m n ≡ Some k → IsRightPlace rs m n k
   pub derivatives : (n c t : ℕ) → derivative_of m n c ≡ Some t → (n < length rs) × Names rs t (nd (regex_at rs n) c)
+
+-- characters of a word; regexes by number that do not match them from a place on, and the place
+abbrev pub Failed : Type 0
+Failed = List ℕ × List (ℕ × ℕ)
+
+-- what stands from the place on is no word of the regex
+abbrev pub AreFailed : List Regex → Failed → Type 0
+AreFailed rs f = All (λ p. (p.0 < length rs) × (language (regex_at rs p.0) (drop p.1 f.0) ≡ false)) f.1
+
+abbrev pub Memory : Type 0
+Memory = Learnt × Failed
+
+pub record IsRight (rs : List Regex) (m : Memory) : Type 0 where
+  pub learnt : LearntIsRight rs m.0
+  pub failed : AreFailed rs m.1
 
 -- more regexes change nothing
 abbrev pub RightStays : Type 0

@@ -1,0 +1,49 @@
+use Rattle.std.proofs.Common.{◌∙◌, ap, drop}
+use Rattle.sb_lang.specs.Language.{language}
+use Rattle.sb_regex.proofs.CallerLemmas.{at_kept, names_below}
+use Rattle.sb_plain.proofs.Along.{matched, slice_is, word_slice}
+use Rattle.sb_plain.proofs.Failing.{failed_kept, learnt_part, failed_part}
+use Rattle.sb_plain.proofs.plain.Plain.matches_from.Goals as goal
+
+pub returns-in_err-turn_to-clause-right : goal.returns-in_err-turn_to-clause-right
+returns-in_err-turn_to-clause-right c = record {
+  learnt = learnt_part c.args.arena.now c.self.inside.learnt c.self.inside.failed c.args.self.now c.self.view_is
+      c.requires.right;
+  failed = c.in_err-turn_to.ensures.right c.args.arena.now
+      (failed_part c.args.arena.now c.self.inside.learnt c.self.inside.failed c.args.self.now c.self.view_is
+      c.requires.right);
+}
+
+pub search-requires-clause-failed : goal.search-requires-clause-failed
+search-requires-clause-failed c =
+    c.in_ok-turn_to.ensures.right c.args.arena.now
+    (failed_part c.args.arena.now c.self.inside.learnt c.self.inside.failed c.args.self.now c.self.view_is
+    c.requires.right)
+
+pub along-requires-clause-word : goal.along-requires-clause-word
+along-requires-clause-word c = word_slice c.args.codes.now c.args.place c.requires.word
+
+pub returns-in_err-rest-clause-right : goal.returns-in_err-rest-clause-right
+returns-in_err-rest-clause-right c = record {
+  learnt = c.in_err-rest.ensures.right;
+  failed = failed_kept c.search.new.arena c.along.new.arena c.search.new.failed c.in_err-rest.ensures.extends
+      c.in_ok-found.ensures.failed;
+}
+
+pub nullable-requires : goal.nullable-requires
+nullable-requires c = names_below c.along.new.arena c.in_ok-rest.rest _ c.in_ok-rest.ensures.ok
+
+pub returns-clause-ok : goal.returns-clause-ok
+returns-clause-ok c =
+    matched c.along.new.arena _ _ (drop c.args.place c.args.codes.now) c.in_ok-rest.rest c.nullable.result
+    c.derivative_along_has_rests.ensures c.nullable_has_empty_word.ensures
+    (slice_is c.args.codes.now c.args.place) c.in_ok-rest.ensures.ok c.nullable.ensures
+    ∙ ap (λ r. language r (drop c.args.place c.args.codes.now))
+    (at_kept c.args.arena.now c.search.new.arena c.args.r c.in_ok-found.ensures.extends c.requires.known)
+
+pub returns-clause-right : goal.returns-clause-right
+returns-clause-right c = record {
+  learnt = c.in_ok-rest.ensures.right;
+  failed = failed_kept c.search.new.arena c.along.new.arena c.search.new.failed c.in_ok-rest.ensures.extends
+      c.in_ok-found.ensures.failed;
+}
