@@ -12,12 +12,19 @@ use Rattle.sb_lang.specs.Languages.{Language}
 use Rattle.sb_lang.specs.Least.{IsShortestLeast, HasNoWord}
 use Rattle.sb_graph.specs.declared.graph.Explored.{Explored}
 use Rattle.sb_graph.specs.declared.graph.Explored.TheVariants.{Alive, Dead}
+use Rattle.sb_graph.specs.declared.graph.Within.{Within}
+use Rattle.sb_graph.specs.declared.graph.Within.TheVariants.{Found, Limit}
 use Rattle.sb_graph.specs.Findings.{is_marked}
 
 -- the answer is right for the language
 abbrev pub IsFinding : Language → Explored → Type 0
 IsFinding L (Alive w) = IsShortestLeast L w
 IsFinding L Dead = HasNoWord L
+
+-- what is said of the answer, where there is one
+abbrev pub IfFound : Within → (Explored → Type 0) → Type 0
+IfFound (Found explored) P = P explored
+IfFound Limit P = Unit {0}
 
 -- the number has a mark where the answer is that there is no word
 abbrev pub MarksDead : List Bool → ℕ → Explored → Type 0

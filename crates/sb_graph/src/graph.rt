@@ -7,7 +7,7 @@ ghost use Rattle.sb_lang.specs.Least.{IsShortestLeast};
 ghost use Rattle.sb_deriv.specs.Faithful.{entry_of, KeepsEntries};
 ghost use Rattle.sb_regex.specs.Numbered.{regex_at, Extends};
 ghost use Rattle.sb_graph.specs.Findings.{is_marked, is_settled, KeepsMarks, IsGraph};
-ghost use Rattle.sb_graph.specs.Witness.{IsFinding, MarksDead, ComesBefore, GoesOn, IsReachedBy};
+ghost use Rattle.sb_graph.specs.Witness.{IsFinding, MarksDead, ComesBefore, GoesOn, IsReachedBy, IfFound};
 ghost use Rattle.sb_graph.specs.Search.{IsSearched, HasCome, IsSearchEnd, IsVisited, AreMarked};
 ghost use Rattle.sb_witness.specs.Queue.{regex_of};
 
@@ -56,6 +56,15 @@ pub enum Explored {
     Alive(Word),
     /// No word is in the language.
     Dead,
+}
+
+/// What an exploration finds that may not expand more than so many regexes.
+#[derive(Debug, Drop)]
+pub enum Within {
+    /// What one without a limit finds.
+    Found(Explored),
+    /// As many regexes as may be were expanded, and more are left.
+    Limit,
 }
 
 impl Graph {
@@ -153,20 +162,84 @@ impl Graph {
         derivative_along_has_rests();
         let mut queue = Queue::new(*self.dead.allocator());
         queue.put(root, 0, 0)?;
-        let place = self.take_turns(arena, &mut queue, root)?;
+        let place = self.take_turns(arena, &mut queue, root, usize::MAX)?;
         if !self.is_settled(root) {
             return self.finish(arena, &mut queue, root, place);
         }
         self.explore(arena, root)
     }
 
-    /// Lets walks over members take turns with the exploration of a queue, up to one that comes to its end. The place
-    /// where the exploration stands. The word that a walk finds is kept, and so are all derivatives.
+    /// What `answer` finds, as long as the exploration has not gone through so many regexes with more of them left. The
+    /// walks end with the turn in which that is seen, so a call expands at most seven times as many states as the limit,
+    /// and some thousands. Derivatives stay, so a later call costs less.
+    pub fn answer_within(
+        &mut self,
+        arena: &mut Arena,
+        root: RegexId,
+        limit: usize,
+    ) -> Result<Within, AllocError>
+        requires known { root < length arena.old }
+        requires graph { IsGraph arena.old self.old }
+        ensures found { IfOk result (λ w. IfFound w (IsFinding (language (regex_at arena.old root)))) }
+        ensures dead { IfOk result (λ w. IfFound w (MarksDead self.new.dead root)) }
+        ensures extends { Extends arena.old arena.new }
+        ensures graph { IsGraph arena.new self.new }
+        ensures marks_stay { KeepsMarks self.old.dead self.new.dead }
+        ensures derivatives_stay { KeepsEntries self.old.memo self.new.memo }
+        ensures settles { IfOk result (λ w. IfFound w (λ explored. is_settled self.new root ≡ true)) }
+        ensures settled { is_settled self.old root ≡ true → self.new ≡ self.old }
+    {
+        if self.is_settled(root) {
+            let explored = self.explore(arena, root)?;
+            return Ok(Within::Found(explored));
+        }
+        let mut queue = Queue::new(*self.dead.allocator());
+        queue.put(root, 0, 0)?;
+        let place = self.take_turns(arena, &mut queue, root, limit)?;
+        if self.is_settled(root) {
+            let explored = self.explore(arena, root)?;
+            return Ok(Within::Found(explored));
+        }
+        self.finish_within(arena, &mut queue, root, place, limit)
+    }
+
+    /// Goes on with an exploration from a place to its end, unless so many places do not suffice.
+    fn finish_within(
+        &mut self,
+        arena: &mut Arena,
+        queue: &mut Queue,
+        root: RegexId,
+        from: usize,
+        limit: usize,
+    ) -> Result<Within, AllocError>
+        requires graph { IsGraph arena.old self.old }
+        requires start { IsSearched arena.old root self.old.dead queue.old from }
+        requires within { from ≤ length queue.old }
+        ensures found { IfOk result (λ w. IfFound w (IsFinding (language (regex_at arena.old root)))) }
+        ensures dead { IfOk result (λ w. IfFound w (MarksDead self.new.dead root)) }
+        ensures extends { Extends arena.old arena.new }
+        ensures graph { IsGraph arena.new self.new }
+        ensures marks_stay { KeepsMarks self.old.dead self.new.dead }
+        ensures derivatives_stay { KeepsEntries self.old.memo self.new.memo }
+        ensures settles { IfOk result (λ w. IfFound w (λ explored. is_settled self.new root ≡ true)) }
+    {
+        let place = self.sweep(arena, queue, root, from, limit)?;
+        if place >= limit && is_open(arena, queue, place) {
+            return Ok(Within::Limit);
+        }
+        let explored = self.finish(arena, queue, root, place)?;
+        Ok(Within::Found(explored))
+    }
+
+    /// Lets walks over members take turns with the exploration of a queue, up to one that comes to its end, or to so
+    /// many places. The place where the exploration stands. The word that a walk finds is kept, and so are all
+    /// derivatives.
     fn take_turns(
         &mut self,
         arena: &mut Arena,
         queue: &mut Queue,
         root: RegexId,
+        limit: usize,
     ) -> Result<usize, AllocError>
         requires known { root < length arena.old }
         requires graph { IsGraph arena.old self.old }
@@ -186,7 +259,7 @@ impl Graph {
             if self.walk_members(arena, root, bound)? {
                 return Ok(place);
             }
-            place = self.sweep(arena, queue, root, place, bound)?;
+            place = self.sweep(arena, queue, root, place, bound.min(limit))?;
             if place < bound {
                 return Ok(place);
             }
@@ -458,6 +531,13 @@ impl Graph {
         mark(&mut self.dead, queue.regexes());
         Ok(())
     }
+}
+
+/// Whether an exploration that stands at a place has to go on: no regex from there on has the empty word.
+fn is_open(arena: &Arena, queue: &Queue, place: usize) -> bool
+    requires { (k : ℕ) → k < length queue.now → regex_of queue.now k < length arena.now }
+{
+    place < queue.len() && first_nullable(arena, queue.regexes(), place).is_none()
 }
 
 fn comes_to_end(outcome: &Outcome) -> bool {

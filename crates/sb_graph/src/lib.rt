@@ -12,5 +12,5 @@ mod graph;
 mod laws;
 mod search;
 
-pub use graph::{Explored, Graph};
+pub use graph::{Explored, Graph, Within};
 pub use laws::{graph_stays, marked_has_no_word};

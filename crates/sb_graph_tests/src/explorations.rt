@@ -11,7 +11,7 @@ use std::process::Abort;
 use std::test::Fail;
 
 /// A graph that knows nothing.
-fn new_graph(alloc: Global, arena: &Arena) -> Graph
+pub fn new_graph(alloc: Global, arena: &Arena) -> Graph
     ensures { IsGraph arena.now result }
 {
     Graph::new(alloc)

@@ -7,4 +7,6 @@
 #[cfg(test)]
 mod explorations;
 #[cfg(test)]
+mod limits;
+#[cfg(test)]
 mod members;

@@ -23,7 +23,8 @@ use Rattle.sb_rulebook.specs.Kept.{AllKept, Asked, is_among_numbers, is_dead, ta
 use Rattle.sb_rulebook.specs.RegexRules.{has_repeated, is_settled, is_closed, first_alive, died, member_at, follows_dead}
 use Rattle.sb_rulebook.specs.Follows.{follows}
 use Rattle.sb_trace.specs.Tracking.{Traced, number_in, Tracks, TracesUncounted, is_dead_in}
-use Rattle.sb_trace.specs.Closing.{is_unburied, is_settled_in, is_member, IsClosedIn, AreClosedUpTo}
+use Rattle.sb_trace.specs.Reaching.{is_member}
+use Rattle.sb_trace.specs.Closing.{is_unburied, is_settled_in, IsClosedIn, AreClosedUpTo}
 use Rattle.sb_trace.proofs.Positions.{number-there, number-below, nat_same}
 use Rattle.sb_trace.proofs.Numbering.{number_of_at, one_number, eq_itself}
 use Rattle.sb_trace.proofs.Branches.{together-cons}

@@ -10,10 +10,10 @@ use Rattle.sb_deriv.specs.Faithful.{Memo, KeepsEntries}
 use Rattle.sb_graph.specs.Findings.{Findings, IsGraph, is_marked}
 use Rattle.sb_rulebook.specs.Kept.{AllKept, Asked}
 use Rattle.sb_trace.specs.Putting.{IsCounted, KeepsClauses}
-use Rattle.sb_trace.specs.Tracking.{Traced, number_in, IsExpandedTo, Tracks, Traces, TracesUncounted, IsExpandedIn, is_dead_in, StaysNumbered}
+use Rattle.sb_trace.specs.Tracking.{Traced, number_in, IsExpandedTo, Tracks, Traces, TracesUncounted, IsExpandedIn, is_dead_in, is_expanded_in, StaysNumbered}
 use Rattle.sb_trace.specs.Closing.{GoesOn}
 use Rattle.sb_trace.proofs.Positions.{number-stays}
-use Rattle.sb_trace.proofs.Numbering.{number_later}
+use Rattle.sb_trace.proofs.Numbering.{number_later, marked_in}
 use Rattle.sb_trace.proofs.Puts.{puts_none, puts_both, stays_both}
 
 -- An arena and a graph that grow.
@@ -104,20 +104,32 @@ number_later_in t u n k stays none h =
     number_later t.order stays.0 n k none (subst (λ order. number_in order n ≡ Some k) stays.1 h)
 
 -- where marks stay, and none was on a number that is not there yet
-pub dead_in_stays : (t u : Traced) → StaysNumbered t u → ((k : ℕ) → is_marked u.dead k ≡ is_marked t.dead k)
-    → ((k : ℕ) → length t.order ≤ k → is_marked t.dead k ≡ false) → (n : ℕ) → is_dead_in u n ≡ is_dead_in t n
-dead_in_stays t u stays marks new n = step (number_in t.order n) (number_in u.order n) refl refl
+marked_in_stays : (t u : Traced) (old new : List Bool) → StaysNumbered t u
+    → ((k : ℕ) → is_marked new k ≡ is_marked old k)
+    → ((k : ℕ) → length t.order ≤ k → is_marked old k ≡ false) → (n : ℕ)
+    → marked_in u.order new n ≡ marked_in t.order old n
+marked_in_stays t u old new stays marks later n = step (number_in t.order n) (number_in u.order n) refl refl
   where
     step : (o p : Option ℕ) → number_in t.order n ≡ o → number_in u.order n ≡ p
-        → elim p as (λ _. Bool) [ None ↦ false | Some k ↦ is_marked u.dead k ]
-        ≡ elim o as (λ _. Bool) [ None ↦ false | Some k ↦ is_marked t.dead k ]
+        → elim p as (λ _. Bool) [ None ↦ false | Some k ↦ is_marked new k ]
+        ≡ elim o as (λ _. Bool) [ None ↦ false | Some k ↦ is_marked old k ]
     step None None g h = refl
-    step None (Some k) g h = marks k ∙ new k (number_later_in t u n k stays g h)
+    step None (Some k) g h = marks k ∙ later k (number_later_in t u n k stays g h)
     step (Some k) None g h = absurd (true≢false (ap is_some (sym (number_kept t u n k stays g) ∙ h)))
     step (Some j) (Some k) g h =
         let both : Some j ≡ Some k = sym (number_kept t u n j stays g) ∙ h in
         let same : j ≡ k = Prim.cc (both) in
-        subst (λ j. is_marked u.dead k ≡ is_marked t.dead j) (sym same) (marks k)
+        subst (λ j. is_marked new k ≡ is_marked old j) (sym same) (marks k)
+
+pub dead_in_stays : (t u : Traced) → StaysNumbered t u → ((k : ℕ) → is_marked u.dead k ≡ is_marked t.dead k)
+    → ((k : ℕ) → length t.order ≤ k → is_marked t.dead k ≡ false) → (n : ℕ) → is_dead_in u n ≡ is_dead_in t n
+dead_in_stays t u stays marks later n = marked_in_stays t u t.dead u.dead stays marks later n
+
+pub expanded_same : (t u : Traced) → StaysNumbered t u
+    → ((k : ℕ) → is_marked u.expanded k ≡ is_marked t.expanded k)
+    → ((k : ℕ) → length t.order ≤ k → is_marked t.expanded k ≡ false) → (n : ℕ)
+    → is_expanded_in u n ≡ is_expanded_in t n
+expanded_same t u stays marks later n = marked_in_stays t u t.expanded u.expanded stays marks later n
 
 pub expanded_in_stays : (t u : Traced) → StaysNumbered t u
     → ((k : ℕ) → is_marked t.expanded k ≡ true → is_marked u.expanded k ≡ true)
@@ -160,3 +172,17 @@ goes_both a b c g h i t u v p q = record {
   marks = q.marks ∙ p.marks;
   derivatives = λ n pieces k. q.derivatives n pieces (p.derivatives n pieces k);
 }
+
+-- A run over what is known after a graph grew is one over what was known before.
+
+abbrev pub TracesFrom : Traced → Spending → List Regex → Memo → List Regex → Memo → Traced → Spending
+    → Option (List ℕ) → Option (List ℕ) → Type 0
+TracesFrom t budget rs memo new more u left a b =
+    (asked : Asked) (before : AllKept) → Tracks rs memo t before → IsCounted asked before budget
+    → Traces asked before new more u left a b
+
+pub traces_grown : (old rs new : List Regex) (first memo more : Memo) (t u : Traced) (budget left : Spending)
+    (a b : Option (List ℕ)) → Extends old rs → KeepsEntries first memo
+    → TracesFrom t budget rs memo new more u left a b → TracesFrom t budget old first new more u left a b
+traces_grown old rs new first memo more t u budget left a b extends keeps put asked before tracks counts =
+    put asked before (tracks_grow old rs first memo t before extends keeps tracks) counts

@@ -13,4 +13,6 @@ pub mod Views
 pub mod DeadLines
 pub mod Marks
 pub mod Closures
+pub mod Reached
+pub mod Counts
 pub mod CallerLemmas

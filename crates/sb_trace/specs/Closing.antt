@@ -1,15 +1,14 @@
 -- Private: regexes that are closed under derivatives, but for those that are dead in a proof.
-use Rattle.std.specs.Prelude.{◌≡◌, ℕ, ◌<◌, Bool, true, not, ◌&&◌, ◌||◌, nat_eq, List, ◌++◌, get_or, Some}
-use Rattle.std.specs.List.{list_all, list_any}
+use Rattle.std.specs.Prelude.{◌≡◌, ℕ, ◌+◌, ◌<◌, ◌≤◌, Bool, true, not, ◌&&◌, ◌||◌, List, ◌++◌, get_or, Some}
+use Rattle.std.specs.List.{list_all}
 use Rattle.sb_lang.specs.Regex.{Regex}
+use Rattle.sb_lit.specs.Budgets.{Spending}
 use Rattle.sb_regex.specs.Numbered.{Extends}
 use Rattle.sb_deriv.specs.Faithful.{Memo, KeepsEntries, entry_of}
 use Rattle.sb_deriv.specs.Pieces.{targets_of}
 use Rattle.sb_graph.specs.Findings.{Findings, IsGraph, is_marked}
+use Rattle.sb_trace.specs.Reaching.{is_member}
 use Rattle.sb_trace.specs.Tracking.{Traced, StaysNumbered, IsExpandedIn, is_dead_in}
-
-abbrev pub is_member : List ℕ → ℕ → Bool
-is_member members n = list_any (nat_eq n) members
 
 -- the regex is a member, or dead in the proof
 abbrev pub is_settled_in : Traced → List ℕ → ℕ → Bool
@@ -29,6 +28,26 @@ pub record IsClosedIn (memo : Memo) (t : Traced) (members : List ℕ) (n : ℕ) 
 -- the members before a place are
 abbrev pub AreClosedUpTo : Memo → Traced → List ℕ → ℕ → Type 0
 AreClosedUpTo memo t members place = (k : ℕ) → k < place → IsClosedIn memo t members (get_or members k 0)
+
+-- the regex is a member, or dead in the proof, where those are passed over
+abbrev pub is_met : Bool → Traced → List ℕ → ℕ → Bool
+is_met skips t members n = is_member members n || (skips && is_dead_in t n)
+
+-- what the regex leads to is met
+pub record IsLed (memo : Memo) (skips : Bool) (t : Traced) (members : List ℕ) (n : ℕ) : Type 0 where
+  pub pieces : List (ℕ × ℕ)
+  pub derivative : entry_of memo n ≡ Some pieces
+  pub met : list_all (is_met skips t members) (targets_of pieces) ≡ true
+
+-- that of the members before a place is
+abbrev pub AreLedUpTo : Memo → Bool → Traced → List ℕ → ℕ → Type 0
+AreLedUpTo memo skips t members place = (k : ℕ) → k < place → IsLed memo skips t members (get_or members k 0)
+
+-- A budget spent so many steps.
+pub record HasSpent (old new : Spending) (steps : ℕ) : Type 0 where
+  pub spent : new.spent ≡ old.spent + steps
+  pub limit : new.limit ≡ old.limit
+  pub room : 0 < steps → new.spent ≤ new.limit
 
 abbrev pub GrewTo : List ℕ → List ℕ → Type 0
 GrewTo old new = (more : List ℕ) × (new ≡ old ++ more)

@@ -2,4 +2,5 @@ pub mod Putting
 pub mod Tracking
 pub mod Defining
 pub mod Waiting
+pub mod Reaching
 pub mod Closing

@@ -1,5 +1,5 @@
 -- What a trace knows of a proof, and what a reader of the proof keeps.
-use Rattle.std.specs.Prelude.{◌≡◌, ℕ, Bool, true, false, nat_eq, List, ◌++◌, length, map, get_or, Option, Some, None, is_some}
+use Rattle.std.specs.Prelude.{◌≡◌, ℕ, ◌+◌, ◌<◌, Bool, true, false, nat_eq, List, ◌++◌, length, map, get_or, Option, Some, None, is_some}
 use Rattle.std.specs.List.{position_from}
 use Rattle.sb_lang.specs.Regex.{Regex}
 use Rattle.sb_lang.specs.Languages.{Language}
@@ -11,6 +11,8 @@ use Rattle.sb_deriv.specs.Pieces.{targets_of}
 use Rattle.sb_graph.specs.Findings.{is_marked}
 use Rattle.sb_rulebook.specs.Kept.{AllKept, Asked, is_dead, targets_in}
 use Rattle.sb_trace.specs.Putting.{Puts, IsCounted, KeepsClauses}
+use Rattle.sb_trace.specs.declared.trace.Expand.{Expand}
+use Rattle.sb_trace.specs.declared.trace.Expand.TheVariants as expand
 use Rattle.sb_trace.specs.declared.trace.Explore.{Explore}
 use Rattle.sb_trace.specs.declared.trace.Explore.TheVariants as explore
 
@@ -66,11 +68,32 @@ IsExpandedIn t n = (number : ℕ) × (number_in t.order n ≡ Some number) × (i
 abbrev pub is_dead_in : Traced → ℕ → Bool
 is_dead_in t n = elim (number_in t.order n) [ None ↦ false | Some number ↦ is_marked t.dead number ]
 
+abbrev pub is_expanded_in : Traced → ℕ → Bool
+is_expanded_in t n = elim (number_in t.order n) [ None ↦ false | Some number ↦ is_marked t.expanded number ]
+
+-- the line of a regex's expansion was put
+abbrev pub is_put : Expand → ℕ → ℕ → Bool
+is_put expand.Expanded regex n = nat_eq n regex
+is_put expand.Already regex n = false
+is_put expand.Spent regex n = false
+
+-- a step of the budget was spent where the line was put, and none else
+abbrev pub Spends : Expand → Spending → Spending → Type 0
+Spends expand.Expanded old new = (old.spent < old.limit) × (new ≡ record old { spent = old.spent + 1 })
+Spends expand.Already old new = new ≡ old
+Spends expand.Spent old new = new ≡ old
+
 -- what an exploration says of a language
 abbrev pub IsExploring : Language → Explore → Type 0
 IsExploring L (explore.Alive word) = IsShortestLeast L word
 IsExploring L explore.Dead = HasNoWord L
 IsExploring L explore.Spent = Unit {0}
+
+-- what is said where a word was found
+abbrev pub IfAlive : Explore → Type 0 → Type 0
+IfAlive (explore.Alive word) P = P
+IfAlive explore.Dead P = Unit {0}
+IfAlive explore.Spent P = Unit {0}
 
 -- the old numbers stay
 abbrev pub StaysNumbered : Traced → Traced → Type 0

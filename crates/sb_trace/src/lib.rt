@@ -12,4 +12,4 @@ mod frame;
 mod node;
 mod trace;
 
-pub use trace::{Expand, Explore, Trace};
+pub use trace::{Closure, Expand, Explore, Trace};

@@ -10,19 +10,22 @@ ghost use Rattle.sb_deriv.specs.Faithful.{Memo, KeepsEntries, IsKnown, entry_of}
 ghost use Rattle.sb_deriv.specs.Pieces.{IsIntervalMap, end_of_characters, targets_of};
 ghost use Rattle.sb_trace.specs.Defining.{first_of};
 ghost use Rattle.sb_graph.specs.Findings.{IsGraph, AreBarren, KeepsMarks, is_marked};
+ghost use Rattle.sb_graph.specs.Witness.{IsFinding, MarksDead};
 ghost use Rattle.sb_rulebook.specs.Kept.{AllKept, Asked, nothing_kept};
 ghost use Rattle.sb_trace.specs.Putting.{IsCounted, CountsTapeFault};
-ghost use Rattle.sb_trace.specs.Tracking.{Tracks, Traces, TracesUncounted, StaysNumbered, IsExpandedIn, is_dead_in, IsExploring, number_in};
+ghost use Rattle.sb_trace.specs.Tracking.{Tracks, Traces, TracesUncounted, StaysNumbered, IsExpandedIn, is_dead_in, is_expanded_in, is_put, Spends, IsExploring, IfAlive, number_in};
 ghost use Rattle.sb_trace.specs.Defining.{IsNumbered, AreClassesOf};
 ghost use Rattle.sb_trace.specs.Closing.{is_unburied, is_settled_in, IsClosedIn, AreClosedUpTo, GrewTo, GoesOn};
 ghost use Rattle.sb_proof.specs.Lines.{class_in};
 
+mod closing;
 mod numbering;
 
 use crate::node::{number_of, numbers_of};
+pub use closing::Closure;
 use indexmap::IndexSet;
 use sb_deriv::Derivative;
-use sb_graph::{Explored, Graph};
+use sb_graph::{Explored, Graph, Within};
 use sb_lang::order::order_tells_apart;
 use sb_lit::Budget;
 use sb_proof::{Class, Line, Tape, TapeFault};
@@ -120,6 +123,10 @@ impl Trace {
         ensures expanded { IfOk result (λ e. e ≢ Expand.Spent → IsExpandedIn self.new regex) }
         ensures already { IfOk result (λ e. (e ≡ Expand.Already) ↔ IsExpandedIn self.old regex) }
         ensures spent { IfOk result (λ e. e ≡ Expand.Spent → budget.new.spent ≡ budget.new.limit) }
+        ensures spends { IfOk result (λ e. Spends e budget.old budget.new) }
+        ensures limit { budget.new.limit ≡ budget.old.limit }
+        ensures only { IfOk result
+            (λ e. (n : ℕ) → is_expanded_in self.new n ≡ (is_put e regex n || is_expanded_in self.old n)) }
         ensures derived { OnOk result (IsSome (entry_of graph.new.memo regex)) }
         ensures stays { StaysNumbered self.old self.new }
         ensures dead { (n : ℕ) → is_marked self.new.dead n ≡ is_marked self.old.dead n }
@@ -155,6 +162,10 @@ impl Trace {
         ensures expanded { IfOk result (λ e. e ≢ Expand.Spent → IsExpandedIn self.new regex) }
         ensures already { IfOk result (λ e. (e ≡ Expand.Already) ↔ IsExpandedIn self.old regex) }
         ensures spent { IfOk result (λ e. e ≡ Expand.Spent → budget.new.spent ≡ budget.new.limit) }
+        ensures spends { IfOk result (λ e. Spends e budget.old budget.new) }
+        ensures limit { budget.new.limit ≡ budget.old.limit }
+        ensures only { IfOk result
+            (λ e. (n : ℕ) → is_expanded_in self.new n ≡ (is_put e regex n || is_expanded_in self.old n)) }
         ensures stays { StaysNumbered self.old self.new }
         ensures dead { (n : ℕ) → is_marked self.new.dead n ≡ is_marked self.old.dead n }
         ensures marks { (n : ℕ) → is_marked self.old.expanded n ≡ true → is_marked self.new.expanded n ≡ true }
@@ -196,6 +207,10 @@ impl Trace {
         ensures expanded { IfOk result (λ e. e ≢ Expand.Spent → is_marked self.new.expanded number ≡ true) }
         ensures anew { IfOk result (λ e. e ≢ Expand.Already) }
         ensures spent { IfOk result (λ e. e ≡ Expand.Spent → budget.new.spent ≡ budget.new.limit) }
+        ensures spends { IfOk result (λ e. Spends e budget.old budget.new) }
+        ensures limit { budget.new.limit ≡ budget.old.limit }
+        ensures only { IfOk result
+            (λ e. (n : ℕ) → is_marked self.new.expanded n ≡ (is_put e number n || is_marked self.old.expanded n)) }
         ensures order { self.new.order ≡ self.old.order }
         ensures marks { (n : ℕ) → is_marked self.old.expanded n ≡ true → is_marked self.new.expanded n ≡ true }
         ensures dead { self.new.dead ≡ self.old.dead }
@@ -273,8 +288,11 @@ impl Trace {
         }
     }
 
-    /// What a regex's language has: its shortest-least word, or none, and then the lines that show that stand in the
-    /// proof. Where the budget is spent before, the lines that were put stay.
+    /// What a regex's language has: its shortest-least word, and then nothing is put, or none, and then the lines that
+    /// show that stand in the proof. Where the budget is spent before, the lines that were put stay.
+    ///
+    /// The search for a word goes no further than an exploration for which the steps suffice that are left, so a call
+    /// takes time linear in these, in the pieces of derivatives, and in the regexes that stand in the proof.
     pub fn explore<L: Tape>(
         &mut self,
         arena: &mut Arena,
@@ -290,6 +308,8 @@ impl Trace {
             → Tracks arena.old graph.old.memo self.old before → IsCounted asked before budget.old
             → Traces asked before arena.new graph.new.memo self.new budget.new (L.Tape.told tape.old)
             (L.Tape.told tape.new)) }
+        ensures alive { IfOk result
+            (λ e. IfAlive e ((self.new ≡ self.old) × (budget.new ≡ budget.old) × (tape.new ≡ tape.old))) }
         ensures dead { IfOk result (λ e. e ≡ Explore.Dead → is_dead_in self.new root ≡ true) }
         ensures spent { IfOk result (λ e. e ≡ Explore.Spent → budget.new.spent ≡ budget.new.limit) }
         ensures stays { StaysNumbered self.old self.new }
@@ -299,7 +319,44 @@ impl Trace {
         ensures derivatives_stay { KeepsEntries graph.old.memo graph.new.memo }
         ensures counts { CountsTapeFault result (L.Tape.faults tape.old) (L.Tape.faults tape.new) }
     {
-        match graph.answer(arena, root)? {
+        let left = budget.limit().saturating_sub(budget.spent());
+        match graph.answer_within(arena, root, left as usize)? {
+            Within::Found(explored) => self.show(arena, graph, root, explored, tape, budget),
+            Within::Limit => self.explore_front(arena, graph, root, tape, budget),
+        }
+    }
+
+    /// Puts the lines of what was found of a regex.
+    fn show<L: Tape>(
+        &mut self,
+        arena: &mut Arena,
+        graph: &mut Graph,
+        root: RegexId,
+        explored: Explored,
+        tape: &mut L,
+        budget: &mut Budget,
+    ) -> Result<Explore, TapeFault>
+        requires known { root < length arena.old }
+        requires graph { IsGraph arena.old graph.old }
+        requires found { IsFinding (language (regex_at arena.old root)) explored }
+        requires dead { MarksDead graph.old.dead root explored }
+        ensures found { IfOk result (λ e. IsExploring (language (regex_at arena.old root)) e) }
+        ensures puts { OnOk result ((asked : Asked) (before : AllKept)
+            → Tracks arena.old graph.old.memo self.old before → IsCounted asked before budget.old
+            → Traces asked before arena.new graph.new.memo self.new budget.new (L.Tape.told tape.old)
+            (L.Tape.told tape.new)) }
+        ensures alive { IfOk result
+            (λ e. IfAlive e ((self.new ≡ self.old) × (budget.new ≡ budget.old) × (tape.new ≡ tape.old))) }
+        ensures dead { IfOk result (λ e. e ≡ Explore.Dead → is_dead_in self.new root ≡ true) }
+        ensures spent { IfOk result (λ e. e ≡ Explore.Spent → budget.new.spent ≡ budget.new.limit) }
+        ensures stays { StaysNumbered self.old self.new }
+        ensures extends { Extends arena.old arena.new }
+        ensures graph { IsGraph arena.new graph.new }
+        ensures marks { graph.new.dead ≡ graph.old.dead }
+        ensures derivatives_stay { KeepsEntries graph.old.memo graph.new.memo }
+        ensures counts { CountsTapeFault result (L.Tape.faults tape.old) (L.Tape.faults tape.new) }
+    {
+        match explored {
             Explored::Alive(word) => Ok(Explore::Alive(word)),
             Explored::Dead => {
                 if self.bury(arena, graph, root, tape, budget)? {
@@ -309,6 +366,44 @@ impl Trace {
                 }
             }
         }
+    }
+
+    /// Puts the lines of the derivatives of a regex, and theirs, as far as the budget goes. Where it goes to their end,
+    /// what the language has is found first.
+    fn explore_front<L: Tape>(
+        &mut self,
+        arena: &mut Arena,
+        graph: &mut Graph,
+        root: RegexId,
+        tape: &mut L,
+        budget: &mut Budget,
+    ) -> Result<Explore, TapeFault>
+        requires known { root < length arena.old }
+        requires graph { IsGraph arena.old graph.old }
+        ensures found { IfOk result (λ e. IsExploring (language (regex_at arena.old root)) e) }
+        ensures puts { OnOk result ((asked : Asked) (before : AllKept)
+            → Tracks arena.old graph.old.memo self.old before → IsCounted asked before budget.old
+            → Traces asked before arena.new graph.new.memo self.new budget.new (L.Tape.told tape.old)
+            (L.Tape.told tape.new)) }
+        ensures alive { IfOk result
+            (λ e. IfAlive e ((self.new ≡ self.old) × (budget.new ≡ budget.old) × (tape.new ≡ tape.old))) }
+        ensures dead { IfOk result (λ e. e ≡ Explore.Dead → is_dead_in self.new root ≡ true) }
+        ensures spent { IfOk result (λ e. e ≡ Explore.Spent → budget.new.spent ≡ budget.new.limit) }
+        ensures stays { StaysNumbered self.old self.new }
+        ensures extends { Extends arena.old arena.new }
+        ensures graph { IsGraph arena.new graph.new }
+        ensures marks_stay { KeepsMarks graph.old.dead graph.new.dead }
+        ensures derivatives_stay { KeepsEntries graph.old.memo graph.new.memo }
+        ensures counts { CountsTapeFault result (L.Tape.faults tape.old) (L.Tape.faults tape.new) }
+    {
+        let left = budget.limit().saturating_sub(budget.spent());
+        let mut members = alone(self.alloc, root)?;
+        if self.gather(arena, graph, &mut members, true, left)? {
+            let explored = graph.answer(arena, root)?;
+            return self.show(arena, graph, root, explored, tape, budget);
+        }
+        let _done = self.expand_each(arena, graph, members.as_slice(), tape, budget)?;
+        Ok(Explore::Spent)
     }
 
     /// Makes a regex without a word dead in the proof: its derivatives, and theirs, are expanded, and then all of them
@@ -340,9 +435,8 @@ impl Trace {
         if self.is_dead(root) {
             return Ok(true);
         }
-        let mut members = IndexSet::new(self.alloc);
-        add(&mut members, root)?;
-        if !self.close(arena, graph, &mut members, tape, budget)? {
+        let mut members = alone(self.alloc, root)?;
+        if !self.close(arena, graph, &mut members, true, tape, budget)? {
             return Ok(false);
         }
         self.put_dead(&members, tape)?;
@@ -372,109 +466,6 @@ impl Trace {
         mark(&mut self.dead, &self.order, regexes);
         Ok(())
     }
-
-    /// Expands the members, and the regexes to which they lead that are not dead, which become members. Whether the
-    /// budget sufficed.
-    fn close<L: Tape>(
-        &mut self,
-        arena: &mut Arena,
-        graph: &mut Graph,
-        members: &mut IndexSet<RegexId>,
-        tape: &mut L,
-        budget: &mut Budget,
-    ) -> Result<bool, TapeFault>
-        requires graph { IsGraph arena.old graph.old }
-        requires members { list_all (is_unburied graph.old.dead self.old) members.old.keys ≡ true }
-        ensures puts { OnOk result ((asked : Asked) (before : AllKept)
-            → Tracks arena.old graph.old.memo self.old before → IsCounted asked before budget.old
-            → Traces asked before arena.new graph.new.memo self.new budget.new (L.Tape.told tape.old)
-            (L.Tape.told tape.new)) }
-        ensures closed { IfOk result
-            (λ done. done ≡ true
-            → AreClosedUpTo graph.new.memo self.new members.new.keys (length members.new.keys)) }
-        ensures spent { IfOk result (λ done. done ≡ false → budget.new.spent ≡ budget.new.limit) }
-        ensures members { OnOk result (list_all (is_unburied graph.new.dead self.new) members.new.keys ≡ true) }
-        ensures grew { OnOk result (GrewTo members.old.keys members.new.keys) }
-        ensures goes { GoesOn arena.old arena.new graph.old graph.new self.old self.new }
-        ensures counts { CountsTapeFault result (L.Tape.faults tape.old) (L.Tape.faults tape.new) }
-    {
-        let mut place = 0;
-        while place < members.len() {
-            if !self.close_at(arena, graph, place, members, tape, budget)? {
-                return Ok(false);
-            }
-            place += 1;
-        }
-        Ok(true)
-    }
-
-    /// Expands the member at a place, and makes the regexes to which it leads members. Whether the budget sufficed.
-    fn close_at<L: Tape>(
-        &mut self,
-        arena: &mut Arena,
-        graph: &mut Graph,
-        place: usize,
-        members: &mut IndexSet<RegexId>,
-        tape: &mut L,
-        budget: &mut Budget,
-    ) -> Result<bool, TapeFault>
-        requires place { place < length members.old.keys }
-        requires graph { IsGraph arena.old graph.old }
-        requires members { list_all (is_unburied graph.old.dead self.old) members.old.keys ≡ true }
-        ensures puts { OnOk result ((asked : Asked) (before : AllKept)
-            → Tracks arena.old graph.old.memo self.old before → IsCounted asked before budget.old
-            → Traces asked before arena.new graph.new.memo self.new budget.new (L.Tape.told tape.old)
-            (L.Tape.told tape.new)) }
-        ensures closed { IfOk result
-            (λ done. done ≡ true
-            → IsClosedIn graph.new.memo self.new members.new.keys (get_or members.old.keys place 0)) }
-        ensures spent { IfOk result (λ done. done ≡ false → budget.new.spent ≡ budget.new.limit) }
-        ensures members { OnOk result (list_all (is_unburied graph.new.dead self.new) members.new.keys ≡ true) }
-        ensures grew { OnOk result (GrewTo members.old.keys members.new.keys) }
-        ensures goes { GoesOn arena.old arena.new graph.old graph.new self.old self.new }
-        ensures counts { CountsTapeFault result (L.Tape.faults tape.old) (L.Tape.faults tape.new) }
-    {
-        let regex = members.as_slice()[place];
-        if let Expand::Spent = self.expand(arena, graph, regex, tape, budget)? {
-            return Ok(false);
-        }
-        arena.normal_regexes_each_once();
-        self.add_targets(graph.derivative(regex).unwrap().pieces(), members)?;
-        Ok(true)
-    }
-
-    /// Makes the targets that are not dead members.
-    fn add_targets(
-        &self,
-        pieces: &[(u32, RegexId)],
-        members: &mut IndexSet<RegexId>,
-    ) -> Result<(), AllocError>
-        ensures settled { OnOk result
-            (list_all (is_settled_in self.now members.new.keys) (targets_of pieces.now) ≡ true) }
-        ensures grew { OnOk result (GrewTo members.old.keys members.new.keys) }
-        ensures members { OnOk result ((marks : List Bool) → list_all (is_marked marks) (targets_of pieces.now) ≡ true
-            → list_all (is_unburied marks self.now) members.old.keys ≡ true
-            → list_all (is_unburied marks self.now) members.new.keys ≡ true) }
-    {
-        for (_, target) in pieces {
-            self.add_target(*target, members)?;
-        }
-        Ok(())
-    }
-
-    /// Makes a target a member, unless it is dead.
-    fn add_target(&self, target: RegexId, members: &mut IndexSet<RegexId>) -> Result<(), AllocError>
-        ensures settled { OnOk result (is_settled_in self.now members.new.keys target ≡ true) }
-        ensures grew { OnOk result (GrewTo members.old.keys members.new.keys) }
-        ensures members { OnOk result ((marks : List Bool) → is_marked marks target ≡ true
-            → list_all (is_unburied marks self.now) members.old.keys ≡ true
-            → list_all (is_unburied marks self.now) members.new.keys ≡ true) }
-    {
-        if !self.is_dead(target) {
-            members.insert(target)?;
-        }
-        Ok(())
-    }
 }
 
 /// The last character of a piece.
@@ -497,6 +488,15 @@ fn add_class(classes: &mut Vec<Class>, first: u32, last: u32, target: u64) -> Re
     let ranges = Vec::from_slice(*classes.allocator(), &[(first as u64, last as u64)])?;
     classes.push(Class { ranges, target })?;
     Ok(())
+}
+
+/// A regex alone.
+fn alone(alloc: Global, regex: RegexId) -> Result<IndexSet<RegexId>, AllocError>
+    ensures { IfOk result (λ members. members.keys ≡ regex ∷ []) }
+{
+    let mut members = IndexSet::new(alloc);
+    add(&mut members, regex)?;
+    Ok(members)
 }
 
 /// Adds a regex, where it is not there.

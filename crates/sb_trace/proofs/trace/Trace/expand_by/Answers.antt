@@ -1,8 +1,10 @@
-use Rattle.std.proofs.Common.{◌≡◌, ◌≤◌, ℕ, Bool, true, false, Some, length, get_or, refl, sym, ap, ◌∙◌, arith}
+use Rattle.std.proofs.Common.{◌≡◌, ◌≤◌, ℕ, Bool, true, false, ◌||◌, Some, length, get_or, refl, sym, ap, ◌∙◌, arith}
 use Rattle.sb_graph.specs.Findings.{is_marked}
-use Rattle.sb_trace.specs.Tracking.{Traced, IsExpandedIn, number_in}
+use Rattle.sb_trace.specs.Tracking.{Traced, IsExpandedIn, number_in, is_put}
 use Rattle.sb_trace.proofs.Positions.{number-below}
-use Rattle.sb_trace.proofs.Growing.{number_kept, traces_uncounted, expanded_before}
+use Rattle.sb_trace.proofs.Numbering.{expanded_put}
+use Rattle.sb_trace.proofs.Puts.{stays_both}
+use Rattle.sb_trace.proofs.Growing.{number_kept, traces_uncounted, expanded_before, expanded_same}
 use Rattle.sb_trace.proofs.Exits.{on_ok_more, if_ok_more}
 use Rattle.sb_trace.proofs.Views.{within_expanded, expanded_read}
 use Rattle.sb_trace.proofs.Expanding.{puts_expansion, not_expanded, anew_is_not_already}
@@ -114,3 +116,21 @@ pub returns-clause-marks : goal.returns-clause-marks
 returns-clause-marks g c =
     λ n h. c.put_expansion.ensures.marks n
     (c.in_ok-classes.ensures.expanded_stay n ∙ c.in_ok-number.ensures.expanded_stay n ∙ h)
+
+pub returns-then-index-clause-only : goal.returns-then-index-clause-only
+returns-then-index-clause-only g c =
+    let h = c.in_ok-number.ensures in
+    expanded_same c.args.self.now c.number.new.self h.stays h.expanded_stay c.marks_have_numbers.ensures.expanded
+
+pub returns-clause-only : goal.returns-clause-only
+returns-clause-only g c =
+    let h = c.in_ok-number.ensures in
+    let k = c.in_ok-classes.ensures in
+    let stays = stays_both c.args.self.now c.number.new.self c.classes.new.self h.stays k.stays in
+    let first = number_kept c.number.new.self c.classes.new.self c.args.regex c.in_ok-number.number k.stays h.first in
+    if_ok_more c.put_expansion.result _ _
+    (λ e marks n. expanded_put c.classes.new.self c.put_expansion.new.self e c.args.regex c.in_ok-number.number
+    c.put_expansion.ensures.order first marks n
+    ∙ ap (λ b. is_put e c.args.regex n || b)
+    (expanded_same c.args.self.now c.classes.new.self stays (λ m. k.expanded_stay m ∙ h.expanded_stay m)
+    c.marks_have_numbers.ensures.expanded n)) c.put_expansion.ensures.only

@@ -1,8 +1,9 @@
-use Rattle.std.proofs.Common.{◌≤◌, ◌^◌, length, sym, ◌∙◌, arith}
+use Rattle.std.proofs.Common.{◌≤◌, ◌^◌, length, sym, ap, ◌∙◌, arith}
+use Rattle.sb_lit.specs.Budgets.{Spending}
 use Rattle.sb_trace.specs.Tracking.{Traced}
-use Rattle.sb_trace.proofs.Exits.{told_ok}
+use Rattle.sb_trace.proofs.Exits.{told_ok, told_err}
 use Rattle.sb_trace.proofs.ExpansionLines.{expansion_traced_at}
-use Rattle.sb_trace.proofs.Views.{within_expanded, expanded_after}
+use Rattle.sb_trace.proofs.Views.{within_expanded, expanded_after, expanded_set}
 use Rattle.sb_trace.proofs.trace.Trace.put_expansion.Goals as goal
 
 pub returns-clause-puts : goal.returns-clause-puts
@@ -26,3 +27,34 @@ returns-clause-marks g c =
     let u : Traced = record { order = s.order.keys; expanded = s.expanded.items; dead = s.dead.items } in
     let within = within_expanded c.args.self.now u c.self.view_is c.args.number c.self.invariant.0 c.requires in
     λ n h. expanded_after c.args.self.now u c.self.view_is c.args.number n within h
+
+pub returns-then-is_err-clause-spends : goal.returns-then-is_err-clause-spends
+returns-then-is_err-clause-spends g c =
+    told_err c.tick.result _ (sym c.is_err.ensures.value ∙ c.if-is_err.true) c.tick.ensures.same
+
+pub returns-then-is_err-clause-limit : goal.returns-then-is_err-clause-limit
+returns-then-is_err-clause-limit g c =
+    ap (λ (b : Spending). b.limit)
+    (told_err c.tick.result _ (sym c.is_err.ensures.value ∙ c.if-is_err.true) c.tick.ensures.same)
+
+pub returns-in_err-put-clause-limit : goal.returns-in_err-put-clause-limit
+returns-in_err-put-clause-limit g c =
+    ap (λ (b : Spending). b.limit)
+    (told_ok c.tick.result _ (sym c.is_err.ensures.value ∙ c.if-is_err.false) c.tick.ensures.ok)
+
+pub returns-clause-limit : goal.returns-clause-limit
+returns-clause-limit g c =
+    ap (λ (b : Spending). b.limit)
+    (told_ok c.tick.result _ (sym c.is_err.ensures.value ∙ c.if-is_err.false) c.tick.ensures.ok)
+
+pub returns-clause-spends : goal.returns-clause-spends
+returns-clause-spends g c =
+    let no = sym c.is_err.ensures.value ∙ c.if-is_err.false in
+    (told_ok c.tick.result _ no c.tick.ensures.room, told_ok c.tick.result _ no c.tick.ensures.ok)
+
+pub returns-clause-only : goal.returns-clause-only
+returns-clause-only g c =
+    let s = c.self.inside in
+    let u : Traced = record { order = s.order.keys; expanded = s.expanded.items; dead = s.dead.items } in
+    let within = within_expanded c.args.self.now u c.self.view_is c.args.number c.self.invariant.0 c.requires in
+    λ n. expanded_set c.args.self.now u c.self.view_is c.args.number n within
