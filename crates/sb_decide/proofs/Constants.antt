@@ -1,24 +1,19 @@
--- Constants by their place, with the regexes of their memberships.
-use Rattle.std.proofs.Common.{◌≡◌, ◌≢◌, ℕ, zero, suc, ◌<◌, ◌≤◌, Bool, true, false, ◌||◌, ◌==◌, List, [], ◌∷◌, ◌++◌, length, get_or, set, refl, sym, ap, ◌∙◌, arith, Option, Some, None, length-append, if◌then◌else◌}
+-- Constants by their place, with the places of their memberships.
+use Rattle.std.proofs.Common.{◌≡◌, ◌≢◌, ℕ, zero, suc, ◌-◌, ◌<◌, ◌≤◌, Bool, true, false, ◌||◌, ◌==◌, List, [], ◌∷◌, ◌++◌, length, get_or, set, take, refl, sym, ap, ◌∙◌, arith, length-append}
 use Rattle.std.proofs.lemmas.Bool.{or_parts, false≢true, eq-eqb, eqb-true, eqb-false}
-use Rattle.std.proofs.lemmas.List.{length-set, append-nil}
+use Rattle.std.proofs.lemmas.List.{length-set}
+use Rattle.std.proofs.Math.Seq.{take-append_seam}
 use Rattle.std.proofs.lemmas.List.Elements.{All-push}
 use Rattle.std.specs.List.{All}
 use Rattle.sb_word.specs.Words.{are_characters}
 use Rattle.std.proofs.lemmas.Bool.{and_parts, and_from}
 use Rattle.sb_term.specs.declared.term.Serial.{Serial}
 use Rattle.sb_stack.specs.Stacked.{are_words}
-use Rattle.sb_decide.specs.Conjoined.{Conjoined, blank, with_one, with_root, ids_of, found_of, conjoined_at, is_listed, OthersSettled, IsPutAt}
-use Rattle.sb_decide.specs.Deciding.{ids_at, word_at, IsPut}
-
-pub ids_found : (cs : List Conjoined) (n : ℕ) → ids_at (found_of cs) n ≡ ids_of (conjoined_at cs n)
-ids_found [] n = refl
-ids_found (c ∷ cs) zero = refl
-ids_found (c ∷ cs) (suc n) = ids_found cs n
-
-pub same_ids : (old new : List Conjoined) (n : ℕ) → conjoined_at new n ≡ conjoined_at old n
-    → ids_at (found_of new) n ≡ ids_at (found_of old) n
-same_ids old new n h = ids_found new n ∙ (ap ids_of h ∙ sym (ids_found old n))
+use Rattle.sb_decide.specs.declared.conjuncts.Member.{Member}
+use Rattle.sb_decide.specs.Conjoined.{Conjoined, blank, changed_with, without_last, conjoined_at, is_listed, OthersSettled, IsChangedAt}
+use Rattle.sb_decide.specs.Deciding.{word_at}
+use Rattle.sb_decide.specs.Members.{places_in}
+use Rattle.sb_decide.proofs.MemberFacts.{places_here, places_other}
 
 pub conjoined_within : (cs : List Conjoined) (n : ℕ) (c : Conjoined) → n < length cs → c ≡ get_or cs n c
     → conjoined_at cs n ≡ c
@@ -106,40 +101,16 @@ words_set (x ∷ words) (suc i) w h c =
     and_from (are_characters x) (are_words (set words i w)) (and_parts (are_characters x) (are_words words) h).0
     (words_set words i w (and_parts (are_characters x) (are_words words) h).1 c)
 
--- one regex more of a constant
-pub put_at : (old new : List Conjoined) (serial id place : ℕ) (c : Conjoined) → serial < length old
-    → c ≡ get_or old serial c → new ≡ set old serial (with_one id place c) → IsPutAt old new serial id place
-put_at old new serial id place c l is new_is = rw new_is (record {
+-- one constant has other memberships
+pub changed_at : (old new : List Conjoined) (serial : ℕ) (places : List ℕ) → serial < length old
+    → new ≡ set old serial (changed_with places) → IsChangedAt old new serial places
+changed_at old new serial places l is = rw is (record {
   same_length = length-set old serial _;
-  there = conjoined_set old serial _ l
-      ∙ ap (with_one id place) (sym (conjoined_within old serial c l is));
+  there = conjoined_set old serial _ l;
   others = λ n h. conjoined_set_other old serial n _ h;
 })
 
-with_root-append : (root : Option ℕ) (ids : List ℕ) (id : ℕ)
-    → with_root root (ids ++ id ∷ []) ≡ with_root root ids ++ id ∷ []
-with_root-append (Some root) ids id = refl
-with_root-append None ids id = refl
-
-pub put_of : (old new : List Conjoined) (serial id place : ℕ) → IsPutAt old new serial id place
-    → IsPut (found_of old) (found_of new) serial id
-put_of old new serial id place p = record {
-  same_length = found_long new ∙ (p.same_length ∙ sym (found_long old));
-  there = ids_found new serial ∙ (ap ids_of p.there
-      ∙ (with_root-append (conjoined_at old serial).root (conjoined_at old serial).waiting id
-      ∙ ap (λ ids. ids ++ id ∷ []) (sym (ids_found old serial))));
-  others = λ n h. same_ids old new n (p.others n h);
-}
-  where
-    found_long : (cs : List Conjoined) → length (found_of cs) ≡ length cs
-    found_long [] = refl
-    found_long (c ∷ cs) = ap suc (found_long cs)
-
-pub found_length : (cs : List Conjoined) → length (found_of cs) ≡ length cs
-found_length [] = refl
-found_length (c ∷ cs) = ap suc (found_length cs)
-
--- the list of constants with new regexes
+-- the list of constants whose words are to be found
 listed_here : (changed : List Serial) (serial : Serial) (n : ℕ) → is_listed (changed ++ serial ∷ []) n ≡ false
     → (is_listed changed n ≡ false) × (n ≢ serial.0)
 listed_here [] serial n h = (
@@ -151,60 +122,76 @@ listed_here (s ∷ changed) serial n h =
     let rest = listed_here changed serial n parts.1 in
     (ap (λ b. b || is_listed changed n) parts.0 ∙ rest.0, rest.1)
 
-some_waiting : (ids : List ℕ) (id : ℕ) → ids ++ id ∷ [] ≡ [] → ⊥
-some_waiting [] id h = cc
-some_waiting (i ∷ ids) id h = cc
-
 -- it was put into the list
-pub settled_pushed : (changed changed' : List Serial) (old new : List Conjoined) (serial : Serial) (id place : ℕ)
-    → IsPutAt old new serial.0 id place → changed' ≡ changed ++ serial ∷ [] → OthersSettled changed old →
+pub settled_pushed : (changed changed' : List Serial) (old new : List Conjoined) (serial : Serial) (places : List ℕ)
+    → IsChangedAt old new serial.0 places → changed' ≡ changed ++ serial ∷ [] → OthersSettled changed old →
     OthersSettled changed' new
-settled_pushed changed changed' old new serial id place p is settled n h =
+settled_pushed changed changed' old new serial places p is settled n h =
     let both = listed_here changed serial n (ap (λ xs. is_listed xs n) (sym is) ∙ h) in
-    ap (λ (c : Conjoined). c.waiting) (p.others n both.1) ∙ settled n both.0
+    ap (λ (c : Conjoined). c.changed) (p.others n both.1) ∙ settled n both.0
 
 pub listed_pushed : (m : ℕ) (changed changed' : List Serial) (serial : Serial) → serial.0 < m
     → All (λ other. other.0 < m) changed → changed' ≡ changed ++ serial ∷ [] → All (λ other. other.0 < m) changed'
 listed_pushed m changed changed' serial l all is =
     rw is (All-push (λ other. other.0 < m) changed serial all l)
 
--- it is there already, since it has new regexes
-pub settled_there : (changed : List Serial) (old new : List Conjoined) (serial : Serial) (id place : ℕ)
-    (c : Conjoined) → IsPutAt old new serial.0 id place → serial.0 < length old → c ≡ get_or old serial.0 c →
-    (length c.waiting == 0) ≡ false → OthersSettled changed old → OthersSettled changed new
-settled_there changed old new serial id place c p l is some settled n h = by_test (n == serial.0) refl
+-- it is there already, since it is changed
+pub settled_there : (changed : List Serial) (old new : List Conjoined) (serial : Serial) (places : List ℕ)
+    (c : Conjoined) → IsChangedAt old new serial.0 places → serial.0 < length old → c ≡ get_or old serial.0 c →
+    c.changed ≡ true → OthersSettled changed old → OthersSettled changed new
+settled_there changed old new serial places c p l is there settled n h = by_test (n == serial.0) refl
   where
-    nothing : c.waiting ≡ [] → ⊥
-    nothing e = false≢true (sym some ∙ ap (λ ids. length ids == 0) e)
-
-    by_test : (b : Bool) → (n == serial.0) ≡ b → (conjoined_at new n).waiting ≡ []
+    by_test : (b : Bool) → (n == serial.0) ≡ b → (conjoined_at new n).changed ≡ false
     by_test true k =
         let e : n ≡ serial.0 = eqb-true n serial.0 k in
-        absurd (nothing (ap (λ (x : Conjoined). x.waiting) (sym (conjoined_within old serial.0 c l is))
-        ∙ (ap (λ i. (conjoined_at old i).waiting) (sym e) ∙ settled n h)))
+        absurd (false≢true (sym (settled n h) ∙ (ap (λ i. (conjoined_at old i).changed) e
+        ∙ (ap (λ (x : Conjoined). x.changed) (conjoined_within old serial.0 c l is) ∙ there))))
     by_test false k =
-        ap (λ (x : Conjoined). x.waiting) (p.others n (eqb-false n serial.0 k)) ∙ settled n h
+        ap (λ (x : Conjoined). x.changed) (p.others n (eqb-false n serial.0 k)) ∙ settled n h
 
--- constants without new regexes are not the one that has one
-pub put_elsewhere : (old new : List Conjoined) (serial id place n : ℕ) → IsPutAt old new serial id place
-    → (conjoined_at new n).waiting ≡ [] → conjoined_at new n ≡ conjoined_at old n
-put_elsewhere old new serial id place n p h = by_test (n == serial) refl
+-- constants that are not changed are another one
+pub other_than : (old new : List Conjoined) (serial n : ℕ) (places : List ℕ) → IsChangedAt old new serial places
+    → (conjoined_at new n).changed ≡ false → n ≢ serial
+other_than old new serial n places p h e =
+    false≢true (sym h ∙ (ap (λ i. (conjoined_at new i).changed) e ∙ ap (λ (x : Conjoined). x.changed) p.there))
+
+-- the places of a constant's memberships, with one more
+pub places_put : (old new : List Conjoined) (ms : List Member) (m : Member) (n : ℕ)
+    → ((k : ℕ) → (conjoined_at old k).places ≡ places_in 0 k ms)
+    → IsChangedAt old new m.serial.0 ((conjoined_at old m.serial.0).places ++ length ms ∷ [])
+    → (conjoined_at new n).places ≡ places_in 0 n (ms ++ m ∷ [])
+places_put old new ms m n places p = by_test (n == m.serial.0) refl
   where
-    by_test : (b : Bool) → (n == serial) ≡ b → conjoined_at new n ≡ conjoined_at old n
+    by_test : (b : Bool) → (n == m.serial.0) ≡ b → (conjoined_at new n).places ≡ places_in 0 n (ms ++ m ∷ [])
     by_test true k =
-        let e : n ≡ serial = eqb-true n serial k in
-        absurd (some_waiting (conjoined_at old serial).waiting id
-        (sym (ap (λ (x : Conjoined). x.waiting) p.there) ∙ (ap (λ i. (conjoined_at new i).waiting) (sym e) ∙ h)))
-    by_test false k = p.others n (eqb-false n serial k)
-
--- the places of a constant with one membership more
-pub places_put : (old new : List Conjoined) (serial id place n : ℕ) → IsPutAt old new serial id place
-    → (conjoined_at new n).places ≡ (conjoined_at old n).places ++ (if n == serial then place ∷ [] else [])
-places_put old new serial id place n p = by_test (n == serial) refl
-  where
-    by_test : (b : Bool) → (n == serial) ≡ b
-        → (conjoined_at new n).places ≡ (conjoined_at old n).places ++ (if b then place ∷ [] else [])
-    by_test true k = rw (eqb-true n serial k) (ap (λ (c : Conjoined). c.places) p.there)
+        let e : n ≡ m.serial.0 = eqb-true n m.serial.0 k in
+        ap (λ i. (conjoined_at new i).places) e
+        ∙ (ap (λ (c : Conjoined). c.places) p.there
+        ∙ (ap (λ ps. ps ++ length ms ∷ []) (places m.serial.0)
+        ∙ (sym (places_here m.serial.0 ms m refl) ∙ ap (λ i. places_in 0 i (ms ++ m ∷ [])) (sym e))))
     by_test false k =
-        ap (λ (c : Conjoined). c.places) (p.others n (eqb-false n serial k))
-        ∙ sym (append-nil (conjoined_at old n).places)
+        let e : n ≢ m.serial.0 = eqb-false n m.serial.0 k in
+        ap (λ (c : Conjoined). c.places) (p.others n e) ∙ (places n ∙ sym (places_other n ms m e))
+
+-- and with one less
+pub places_back : (old new : List Conjoined) (ms : List Member) (m : Member) (n : ℕ)
+    → ((k : ℕ) → (conjoined_at old k).places ≡ places_in 0 k (ms ++ m ∷ []))
+    → IsChangedAt old new m.serial.0 (without_last (conjoined_at old m.serial.0).places)
+    → (conjoined_at new n).places ≡ places_in 0 n ms
+places_back old new ms m n places p = by_test (n == m.serial.0) refl
+  where
+    last_gone : (ps : List ℕ) (i : ℕ) → without_last (ps ++ i ∷ []) ≡ ps
+    last_gone ps i =
+        let long : length (ps ++ i ∷ []) - 1 ≡ length ps = omega (arith, length-append ps (i ∷ [])) in
+        ap (λ k. take k (ps ++ i ∷ [])) long ∙ take-append_seam ps (i ∷ [])
+
+    by_test : (b : Bool) → (n == m.serial.0) ≡ b → (conjoined_at new n).places ≡ places_in 0 n ms
+    by_test true k =
+        let e : n ≡ m.serial.0 = eqb-true n m.serial.0 k in
+        ap (λ i. (conjoined_at new i).places) e
+        ∙ (ap (λ (c : Conjoined). c.places) p.there
+        ∙ (ap without_last (places m.serial.0 ∙ places_here m.serial.0 ms m refl)
+        ∙ (last_gone (places_in 0 m.serial.0 ms) (length ms) ∙ ap (λ i. places_in 0 i ms) (sym e))))
+    by_test false k =
+        let e : n ≢ m.serial.0 = eqb-false n m.serial.0 k in
+        ap (λ (c : Conjoined). c.places) (p.others n e) ∙ (places n ∙ places_other n ms m e)

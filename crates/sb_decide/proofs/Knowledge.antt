@@ -1,16 +1,17 @@
 -- What is known of the assertions so far, as more of it becomes known.
-use Rattle.std.proofs.Common.{◌≡◌, ℕ, zero, suc, ◌+◌, ◌<◌, ◌≤◌, Bool, true, false, ◌&&◌, ◌==◌, nat_lt, List, [], ◌∷◌, ◌++◌, length, get_or, map, take, refl, sym, ap, ◌∙◌, arith, Option, Some, None, IfSome, length-append, if◌then◌else◌, subst}
-use Rattle.std.proofs.lemmas.Bool.{and_parts, eqb-true, eqb-false}
+use Rattle.std.proofs.Common.{◌≡◌, ◌≢◌, ℕ, zero, suc, ◌<◌, ◌≤◌, Bool, true, false, ◌&&◌, ◌==◌, nat_lt, List, [], ◌∷◌, ◌++◌, length, get_or, map, take, refl, sym, ap, ◌∙◌, arith, Option, Some, None, IfSome, length-append, if◌then◌else◌, subst, vec_len}
+use Rattle.std.proofs.lemmas.Bool.{and_parts, eqb-false}
 use Rattle.std.proofs.lemmas.Bool.Decides.{nat_tests}
-use Rattle.std.proofs.lemmas.List.{take_more, take-append-le, map-append, nil_from_length, length-map, length-take-le}
-use Rattle.std.proofs.lemmas.List.Elements.{All-take, All-head, All-tail, All-nil}
+use Rattle.std.proofs.lemmas.List.{get_or_append_left, nil_from_length}
+use Rattle.std.proofs.lemmas.List.Elements.{All-push, All-nil}
+use Rattle.std.proofs.lemmas.Option.{slice_get_within}
 use Rattle.std.specs.List.{All, list_all}
 use Rattle.std.specs.declared.vec.Vec.{Vec}
 use Rattle.std.specs.declared.alloc.Global.{Global}
 use Rattle.sb_lang.specs.Regex.{Regex}
-use Rattle.sb_lang.specs.NormalLaws.{NormalHasTermsWords}
-use Rattle.sb_regex.specs.Numbered.{AllNumbers, Extends}
-use Rattle.sb_regex.proofs.CallerLemmas.{extends_same}
+use Rattle.sb_lang.specs.Normal.{normal}
+use Rattle.sb_regex.specs.Numbered.{Extends}
+use Rattle.sb_regex.proofs.CallerLemmas.{extends_same, names_below}
 use Rattle.sb_graph.specs.Findings.{Findings, IsGraph}
 use Rattle.sb_graph.specs.Laws.{GraphStays}
 use Rattle.sb_problem.specs.declared.normals.Known.{Known}
@@ -33,54 +34,17 @@ use Rattle.sb_fragment.specs.Measures.{AreMeasures}
 use Rattle.sb_fragment.specs.Rules.{is_decided}
 use Rattle.sb_fragment.proofs.CallerLemmas.{measures_kept, no_measures}
 use Rattle.sb_stack.specs.Stacked.{Stacked, assertion_in, assertion_of, HasNumberBelow, IsLonger}
+use Rattle.sb_decide.specs.declared.conjuncts.Member.{Member}
 use Rattle.sb_decide.specs.declared.decide.Decider.{Decider}
-use Rattle.sb_decide.specs.Conjoined.{Conjoined, found_of, conjoined_at, OthersSettled, HasRoom, IsPutAt}
-use Rattle.sb_decide.specs.Deciding.{IsSofar, IsMembership, IsEmptyAt, in_each, ids_at, word_at, membership_of}
-use Rattle.sb_decide.specs.Knowing.{IsTaken, AreKept, Knows, words_in, places_of}
-use Rattle.sb_decide.specs.Places.{places_from}
-use Rattle.sb_decide.specs.Taking.{StayKept}
-use Rattle.sb_decide.proofs.Conjunctions.{in_each-append, in_each_kept, same_least, least_of_all}
-use Rattle.sb_decide.proofs.OneMembership.{sofar_more, sofar_kept, sofar_none}
-use Rattle.sb_decide.proofs.Constants.{same_ids, found_length, put_of, put_elsewhere, places_put}
-use Rattle.sb_decide.proofs.PlaceFacts.{places-append}
-
--- the same regexes
-sofar_same : (rs : List Regex) (m k : ℕ) (done : List Assertion) (found new : List (List ℕ)) → IsSofar rs m done found
-    → length new ≡ k → ((n : ℕ) → ids_at new n ≡ ids_at found n) → IsSofar rs k done new
-sofar_same rs m k done found new s long same = record {
-  decided = s.decided;
-  same_length = long;
-  known = λ n. rw (same n) (s.known n);
-  words = λ n w c. rw (same n) (s.words n w c);
-  apart = s.apart;
-  together = s.together;
-}
-
-empty_kept : (old new : List Regex) (found : List (List ℕ)) (n : ℕ) → Extends old new
-    → AllNumbers old (ids_at found n) → IsEmptyAt old found n → IsEmptyAt new found n
-empty_kept old new found n e known h = λ w c. in_each_kept old new (ids_at found n) w e known ∙ h w c
-
-empty_same : (rs : List Regex) (found new : List (List ℕ)) (n : ℕ) → ids_at new n ≡ ids_at found n
-    → IsEmptyAt rs found n → IsEmptyAt rs new n
-empty_same rs found new n same h = λ w c. ap (λ ids. in_each rs ids w) same ∙ h w c
-
-empty_put : (rs : List Regex) (old new : List Conjoined) (serial id place n : ℕ) → IsPutAt old new serial id place
-    → IsEmptyAt rs (found_of old) n → IsEmptyAt rs (found_of new) n
-empty_put rs old new serial id place n p h = λ w c. by_test w (h w c) (n == serial) refl
-  where
-    and_false : (b d : Bool) → b ≡ false → (b && d) ≡ false
-    and_false b d e = rw e refl
-
-    by_test : (w : List ℕ) → in_each rs (ids_at (found_of old) n) w ≡ false → (b : Bool) → (n == serial) ≡ b
-        → in_each rs (ids_at (found_of new) n) w ≡ false
-    by_test w none true k =
-        let e : n ≡ serial = eqb-true n serial k in
-        ap (λ ids. in_each rs ids w) (ap (ids_at (found_of new)) e
-        ∙ ((put_of old new serial id place p).there ∙ ap (λ m. ids_at (found_of old) m ++ id ∷ []) (sym e)))
-        ∙ (in_each-append rs (ids_at (found_of old) n) id w
-        ∙ and_false (in_each rs (ids_at (found_of old) n) w) _ none)
-    by_test w none false k =
-        ap (λ ids. in_each rs ids w) ((put_of old new serial id place p).others n (eqb-false n serial k)) ∙ none
+use Rattle.sb_decide.specs.Conjoined.{Conjoined, conjoined_at, without_last, OthersSettled, HasRoom, IsChangedAt}
+use Rattle.sb_decide.specs.Deciding.{in_each, word_at, membership_of}
+use Rattle.sb_decide.specs.Knowing.{IsTaken, AreKept, Knows, places_of}
+use Rattle.sb_decide.specs.Members.{IsMember, AreMembers, AreRooted, IsEmptyAt, ids_in, places_in, words_in}
+use Rattle.sb_decide.specs.Taking.{StayKept, other_dead}
+use Rattle.sb_decide.proofs.Conjunctions.{same_least, least_of_all}
+use Rattle.sb_decide.proofs.Constants.{other_than, places_put, places_back}
+use Rattle.sb_decide.proofs.MemberFacts.{members_grown, members_told, members_longer, members_left, members_pushed, members_popped, ids_other, words_grown, words_same, empty_grown, empty_pushed, empty_popped}
+use Rattle.sb_decide.proofs.RootFacts.{rooted_grown, rooted_pushed, rooted_popped}
 
 -- of a constant, if there is one
 pub some_more : (P Q : ℕ → Type 0) → ((n : ℕ) → P n → Q n) → (dead : Option Serial) → IfSome dead (λ s. P s.0)
@@ -88,11 +52,11 @@ pub some_more : (P Q : ℕ → Type 0) → ((n : ℕ) → P n → Q n) → (dead
 some_more P Q more None h = tt
 some_more P Q more (Some serial) h = more serial.0 h
 
-dead_kept : (old new : List Regex) (cs : List Conjoined) (dead : Option Serial) → Extends old new
-    → ((n : ℕ) → AllNumbers old (ids_at (found_of cs) n)) → IfSome dead (λ s. IsEmptyAt old (found_of cs) s.0)
-    → IfSome dead (λ s. IsEmptyAt new (found_of cs) s.0)
-dead_kept old new cs dead e known h = some_more (IsEmptyAt old (found_of cs)) (IsEmptyAt new (found_of cs))
-    (λ n. empty_kept old new (found_of cs) n e (known n)) dead h
+dead_kept : (old new : List Regex) (ms : List Member) (dead : Option Serial) → Extends old new
+    → All (λ m. m.regex < length old) ms → IfSome dead (λ s. IsEmptyAt old ms s.0)
+    → IfSome dead (λ s. IsEmptyAt new ms s.0)
+dead_kept old new ms dead e known h = some_more (IsEmptyAt old ms) (IsEmptyAt new ms)
+    (λ n. empty_grown old new ms n e known) dead h
 
 -- the arena grows, and with it what is known of terms
 pub taken_grown : GraphStays → (kept : Decider) (rs : List Regex) (ks : List Known) (ms : List Measure)
@@ -102,13 +66,13 @@ taken_grown stays kept rs ks ms ts xs e normals measures t = record {
   graph = stays kept.arena rs kept.graph e t.graph;
   normals = normals;
   measures = measures;
-  front = t.front;
-  numbers = t.numbers;
-  sofar = sofar_kept kept.arena rs (length kept.constants.items) _ (found_of kept.constants.items) e t.sofar;
+  members = members_grown kept.arena rs ts kept.members.items xs e t.members;
+  rooted = rooted_grown kept.arena rs kept.members.items kept.roots.items e t.rooted;
+  within = t.within;
   places = t.places;
   settled = t.settled;
   listed = t.listed;
-  dead = dead_kept kept.arena rs kept.constants.items kept.dead e t.sofar.known t.dead;
+  dead = dead_kept kept.arena rs kept.members.items kept.dead e t.rooted.numbers t.dead;
 }
 
 -- more is known of sizes
@@ -118,9 +82,9 @@ taken_measured kept ms ts xs measures t = record {
   graph = t.graph;
   normals = t.normals;
   measures = measures;
-  front = t.front;
-  numbers = t.numbers;
-  sofar = t.sofar;
+  members = t.members;
+  rooted = t.rooted;
+  within = t.within;
   places = t.places;
   settled = t.settled;
   listed = t.listed;
@@ -135,121 +99,158 @@ taken_roomy kept constants count ts xs room l t = record {
   graph = t.graph;
   normals = t.normals;
   measures = t.measures;
-  front = t.front;
-  numbers = t.numbers;
-  sofar = sofar_same kept.arena _ _ _ (found_of kept.constants.items) (found_of constants.items) t.sofar
-      (found_length constants.items) (λ n. same_ids kept.constants.items constants.items n (room.same n));
+  members = t.members;
+  rooted = t.rooted;
+  within = λ k d m. let low = t.within k d m in omega (arith, room.long, l, low);
   places = λ n. ap (λ (c : Conjoined). c.places) (room.same n) ∙ t.places n;
-  settled = λ n h. ap (λ (c : Conjoined). c.waiting) (room.same n) ∙ t.settled n h;
+  settled = λ n h. ap (λ (c : Conjoined). c.changed) (room.same n) ∙ t.settled n h;
   listed = λ k d m. let low = t.listed k d m in omega (arith, room.long, l, low);
-  dead = some_more (IsEmptyAt kept.arena (found_of kept.constants.items))
-      (IsEmptyAt kept.arena (found_of constants.items))
-      (λ n. empty_same kept.arena (found_of kept.constants.items) (found_of constants.items) n
-      (same_ids kept.constants.items constants.items n (room.same n))) kept.dead t.dead;
+  dead = t.dead;
 }
 
-pub kept_roomy : (rs : List Regex) (old new : List Conjoined) (count : ℕ) (words : List (List ℕ))
-    → HasRoom count old new
-    → length old ≤ count → AreKept rs old words → AreKept rs new words
-kept_roomy rs old new count words room l k = record {
+pub kept_roomy : (rs : List Regex) (ms : List Member) (old new : List Conjoined) (count : ℕ) (words : List (List ℕ))
+    → HasRoom count old new → length old ≤ count → AreKept rs ms old words → AreKept rs ms new words
+kept_roomy rs ms old new count words room l k = record {
   characters = k.characters;
   few = omega (arith, k.few, room.long, l);
-  least = λ n h.
-      rw (same_ids old new n (room.same n)) (k.least n (sym (ap (λ (c : Conjoined). c.waiting) (room.same n)) ∙ h));
+  least = λ n h. k.least n (sym (ap (λ (c : Conjoined). c.changed) (room.same n)) ∙ h);
 }
 
-pub kept_grown : (rs new : List Regex) (cs : List Conjoined) (words : List (List ℕ)) → Extends rs new
-    → ((n : ℕ) → AllNumbers rs (ids_at (found_of cs) n)) → AreKept rs cs words → AreKept new cs words
-kept_grown rs new cs words e known k = record {
+pub kept_grown : (rs new : List Regex) (ms : List Member) (cs : List Conjoined) (words : List (List ℕ))
+    → Extends rs new → All (λ m. m.regex < length rs) ms → AreKept rs ms cs words → AreKept new ms cs words
+kept_grown rs new ms cs words e known k = record {
   characters = k.characters;
   few = k.few;
-  least = λ n h. same_least (words_in rs cs n) (words_in new cs n) (word_at words n)
-      (λ w _. in_each_kept rs new (ids_at (found_of cs) n) w e (known n)) (k.least n h);
+  least = λ n h. same_least (words_in rs ms n) (words_in new ms n) (word_at words n)
+      (λ w _. words_grown rs new ms n w e known) (k.least n h);
 }
 
-kept_put : (rs : List Regex) (old new : List Conjoined) (serial id place : ℕ) (words : List (List ℕ))
-    → IsPutAt old new serial id place → AreKept rs old words → AreKept rs new words
-kept_put rs old new serial id place words p k = record {
+-- one constant is changed
+kept_changed : (rs : List Regex) (ms ms' : List Member) (old new : List Conjoined) (serial : ℕ) (places : List ℕ)
+    (words : List (List ℕ)) → IsChangedAt old new serial places → ((n : ℕ) → n ≢ serial → ids_in ms' n ≡ ids_in ms n)
+    → AreKept rs ms old words → AreKept rs ms' new words
+kept_changed rs ms ms' old new serial places words p same k = record {
   characters = k.characters;
   few = omega (arith, k.few, p.same_length);
   least = λ n h.
-      let same = put_elsewhere old new serial id place n p h in
-      rw (same_ids old new n same) (k.least n (sym (ap (λ (c : Conjoined). c.waiting) same) ∙ h));
+      let other : n ≢ serial = other_than old new serial n places p h in
+      same_least (words_in rs ms n) (words_in rs ms' n) (word_at words n)
+      (λ w _. words_same rs ms ms' n w (same n other))
+      (k.least n (sym (ap (λ (c : Conjoined). c.changed) (p.others n other)) ∙ h));
 }
 
 pub stay_grown : (old new : Decider) (ts : List Term) (xs : List code.Assertion) → Extends old.arena new.arena
-    → new.constants ≡ old.constants → IsTaken old ts xs → StayKept old new
-stay_grown old new ts xs e same t words k =
-    rw same (refl, kept_grown old.arena new.arena old.constants.items words e t.sofar.known k)
+    → new.members ≡ old.members → new.constants ≡ old.constants → IsTaken old ts xs → StayKept old new
+stay_grown old new ts xs e members same t words k =
+    rw (members, same)
+    (refl, kept_grown old.arena new.arena old.members.items old.constants.items words e t.rooted.numbers k)
 
-pub stay_put : (old new : Decider) (ts : List Term) (xs : List code.Assertion) (serial id place : ℕ)
-    → Extends old.arena new.arena → IsPutAt old.constants.items new.constants.items serial id place →
-    IsTaken old ts xs → StayKept old new
-stay_put old new ts xs serial id place e p t words k = (
+pub stay_put : (old new : Decider) (ts : List Term) (xs : List code.Assertion) (m : Member) (places : List ℕ)
+    → Extends old.arena new.arena → new.members.items ≡ old.members.items ++ m ∷ []
+    → IsChangedAt old.constants.items new.constants.items m.serial.0 places → IsTaken old ts xs → StayKept old new
+stay_put old new ts xs m places e members p t words k = (
   p.same_length,
-  kept_put new.arena old.constants.items new.constants.items serial id place words p
-      (kept_grown old.arena new.arena old.constants.items words e t.sofar.known k),
+  rw members
+      (kept_changed new.arena old.members.items (old.members.items ++ m ∷ []) old.constants.items new.constants.items
+      m.serial.0 places words p (ids_other old.members.items m)
+      (kept_grown old.arena new.arena old.members.items old.constants.items words e t.rooted.numbers k)),
 )
 
--- the assertions as far as one place more
-one_further : (ts : List Term) (xs : List code.Assertion) (i : ℕ) (x : code.Assertion) → i < length xs
-    → x ≡ get_or xs i x
-    → map (assertion_in ts) (take (i + 1) xs) ≡ map (assertion_in ts) (take i xs) ++ assertion_in ts x ∷ []
-one_further ts xs i x low is =
-    ap (map (assertion_in ts)) (take_more xs i x low ∙ ap (λ y. take i xs ++ y ∷ []) (sym is))
-    ∙ map-append (assertion_in ts) (take i xs) (x ∷ [])
-
--- the places after one more membership
-places_more : (kept new : Decider) (done : List Assertion) (serial id n : ℕ) (R : Term) → length done ≡ kept.taken
-    → ((m : ℕ) → places_of kept m ≡ places_from 0 m done)
-    → IsPutAt kept.constants.items new.constants.items serial id kept.taken
-    → places_of new n ≡ places_from 0 n (done ++ asserted (membership_of serial R) ∷ [])
-places_more kept new done serial id n R long places put =
-    places_put kept.constants.items new.constants.items serial id kept.taken n put
-    ∙ (ap (λ ps. ps ++ (if n == serial then kept.taken ∷ [] else [])) (places n)
-    ∙ sym (places-append 0 n done (asserted (membership_of serial R)) kept.taken (omega (arith, long))))
-
 -- one more membership is taken in
-pub taken_more : NormalHasTermsWords → GraphStays → (kept new : Decider) (ts : List Term) (xs : List code.Assertion)
-    (x : code.Assertion) (serial term id : ℕ) → IsTaken kept ts xs → kept.taken < length xs →
-    All (HasNumberBelow (length ts)) xs → x ≡ get_or xs kept.taken x → IsMembership ts x serial term →
+pub taken_more : GraphStays → (kept new : Decider) (ts : List Term) (xs : List code.Assertion)
+    (x : code.Assertion) (m : Member) → IsTaken kept ts xs → length kept.members.items < length xs →
+    x ≡ get_or xs (length kept.members.items) x → IsMember new.arena ts m x →
+    m.serial.0 < length kept.constants.items →
     Extends kept.arena new.arena → AreNormals ts new.arena new.normals → AreMeasures ts new.measures →
-    IsRegexOf new.arena (term_at ts term) id →
-    IsPutAt kept.constants.items new.constants.items serial id kept.taken →
+    new.members.items ≡ kept.members.items ++ m ∷ [] → new.roots.items ≡ kept.roots.items ++ None ∷ [] →
+    IsChangedAt kept.constants.items new.constants.items m.serial.0
+    (places_of kept m.serial.0 ++ length kept.members.items ∷ []) →
     OthersSettled new.changed.items new.constants.items →
     All (λ other. other.0 < length kept.constants.items) new.changed.items → new.graph ≡ kept.graph →
-    new.taken ≡ kept.taken + 1 → new.dead ≡ kept.dead → IsTaken new ts xs
-taken_more law stays kept new ts xs x serial term id t low numbers is member e normals measures regex put settled listed
-    graph taken dead = record {
+    new.dead ≡ kept.dead → IsTaken new ts xs
+taken_more stays kept new ts xs x m t low is member within e normals measures members roots put settled listed graph
+    dead = record {
       graph = rw graph (stays kept.arena new.arena kept.graph e t.graph);
       normals = normals;
       measures = measures;
-      front = omega (arith, taken, low);
-      numbers = All-take (HasNumberBelow (length ts)) new.taken xs numbers;
-      sofar =
-          let before = sofar_kept kept.arena new.arena (length kept.constants.items) _ (found_of kept.constants.items) e
-          t.sofar in
-          let here = sofar_more law new.arena (length kept.constants.items) (map (assertion_in ts) (take kept.taken xs))
-          serial (term_at ts term) id (found_of kept.constants.items) (found_of new.constants.items) before regex
-          member.regular (put_of kept.constants.items new.constants.items serial id kept.taken put) in
-          rw (taken, further, put.same_length) here;
-      places = λ n. rw (taken, further) (places_more kept new (map (assertion_in ts) (take kept.taken xs)) serial id n
-          (term_at ts term) long t.places put);
+      members = rw members (members_pushed new.arena ts kept.members.items xs m x low is member
+          (members_grown kept.arena new.arena ts kept.members.items xs e t.members));
+      rooted = rw (members, roots) (rooted_pushed new.arena kept.members.items m kept.roots.items
+          (names_below new.arena m.regex (normal member.regex.reglan) member.regex.names)
+          (rooted_grown kept.arena new.arena kept.members.items kept.roots.items e t.rooted));
+      within = rw (members, put.same_length)
+          (All-push (λ n. n.serial.0 < length kept.constants.items) kept.members.items m t.within within);
+      places = λ n. places_put kept.constants.items new.constants.items kept.members.items m n t.places put
+          ∙ ap (places_in 0 n) (sym members);
       settled = settled;
       listed = rw put.same_length listed;
-      dead = rw dead (some_more (IsEmptyAt kept.arena (found_of kept.constants.items))
-          (IsEmptyAt new.arena (found_of new.constants.items))
-          (λ n h. empty_put new.arena kept.constants.items new.constants.items serial id kept.taken n put
-          (empty_kept kept.arena new.arena (found_of kept.constants.items) n e (t.sofar.known n) h)) kept.dead t.dead);
+      dead = rw (dead, members) (some_more (IsEmptyAt kept.arena kept.members.items)
+          (IsEmptyAt new.arena (kept.members.items ++ m ∷ []))
+          (λ n h. empty_pushed new.arena kept.members.items m n
+          (empty_grown kept.arena new.arena kept.members.items n e t.rooted.numbers h)) kept.dead t.dead);
     }
-  where
-    further : map (assertion_in ts) (take (kept.taken + 1) xs)
-        ≡ map (assertion_in ts) (take kept.taken xs) ++ asserted (membership_of serial (term_at ts term)) ∷ []
-    further = one_further ts xs kept.taken x low is
-        ∙ ap (λ a. map (assertion_in ts) (take kept.taken xs) ++ a ∷ []) member.is
 
-    long : length (map (assertion_in ts) (take kept.taken xs)) ≡ kept.taken
-    long = length-map (take kept.taken xs) (assertion_in ts) ∙ length-take-le kept.taken xs (omega (arith, low))
+-- the last one is taken back
+dead_back : (rs : List Regex) (ms : List Member) (m : Member) (dead : Option Serial)
+    → IfSome dead (λ s. IsEmptyAt rs (ms ++ m ∷ []) s.0)
+    → IfSome (other_dead dead m.serial.0) (λ s. IsEmptyAt rs ms s.0)
+dead_back rs ms m None h = tt
+dead_back rs ms m (Some s) h = by_test (s.0 == m.serial.0) refl
+  where
+    by_test : (b : Bool) → (s.0 == m.serial.0) ≡ b
+        → IfSome (if b then None else Some s) (λ (d : Serial). IsEmptyAt rs ms d.0)
+    by_test true k = tt
+    by_test false k = empty_popped rs ms m s.0 (eqb-false s.0 m.serial.0 k) h
+
+pub knows_back : (kept new : Decider) (m : Member) (ms : List Member) (stack : Stacked)
+    → kept.members.items ≡ ms ++ m ∷ []
+    → new.members.items ≡ ms → new.roots.items ≡ take (length ms) kept.roots.items
+    → new.dead ≡ other_dead kept.dead m.serial.0 → new.arena ≡ kept.arena → new.graph ≡ kept.graph
+    → new.normals ≡ kept.normals → new.measures ≡ kept.measures
+    → IsChangedAt kept.constants.items new.constants.items m.serial.0
+    (without_last (conjoined_at kept.constants.items m.serial.0).places)
+    → (OthersSettled kept.changed.items kept.constants.items → OthersSettled new.changed.items new.constants.items)
+    → (All (λ other. other.0 < length kept.constants.items) kept.changed.items
+    → All (λ other. other.0 < length kept.constants.items) new.changed.items)
+    → Knows kept stack → Knows new stack
+knows_back kept new m ms stack was members roots dead arena graph normals measures put settled listed k = record {
+  taken = record {
+    graph = rw (arena, graph) t.graph;
+    normals = rw (arena, normals) t.normals;
+    measures = rw measures t.measures;
+    members = rw (arena, members)
+        (members_popped kept.arena stack.table ms stack.assertions m (rw was at t.members));
+    rooted = rw (arena, members, roots) (rooted_popped kept.arena ms m kept.roots.items (rw was at t.rooted));
+    within = rw (members, put.same_length) (λ i d l.
+        subst (λ x. x.serial.0 < length kept.constants.items) (get_or_append_left ms (m ∷ []) d i l)
+        (within i d (omega (arith, l, length-append ms (m ∷ [])))));
+    places = λ n. places_back kept.constants.items new.constants.items ms m n places put
+        ∙ ap (places_in 0 n) (sym members);
+    settled = settled t.settled;
+    listed = rw put.same_length (listed t.listed);
+    dead = rw (dead, arena, members) (dead_back kept.arena ms m kept.dead (rw was at t.dead));
+  };
+  words = rw (arena, members)
+      (kept_changed kept.arena (ms ++ m ∷ []) ms kept.constants.items new.constants.items m.serial.0 _ stack.words
+      put (λ n other. sym (ids_other ms m n other)) (rw was at k.words));
+  declared = omega (arith, k.declared, put.same_length);
+}
+  where
+    t : IsTaken kept stack.table stack.assertions
+    t = k.taken
+
+    within : All (λ n. n.serial.0 < length kept.constants.items) (ms ++ m ∷ [])
+    within = rw was at t.within
+
+    places : (n : ℕ) → places_of kept n ≡ places_in 0 n (ms ++ m ∷ [])
+    places n = t.places n ∙ ap (places_in 0 n) was
+
+-- the assertion at the next place
+pub at_place : (v : Vec Member Global) (xs : List code.Assertion) (i : ℕ) (x : code.Assertion) → i ≡ vec_len v
+    → x ≡ get_or xs i x → x ≡ get_or xs (length v.items) x
+at_place v xs i x same is =
+    let e : i ≡ length v.items = omega (arith, same, v.ok.0) in
+    subst (λ j. x ≡ get_or xs j x) e is
 
 -- an assertion that is not decided
 pub one_outside : (ts : List Term) (xs : List code.Assertion) (i : ℕ) (x : code.Assertion) → i < length xs
@@ -303,11 +304,17 @@ pub regex_outside : (ts : List Term) (xs : List code.Assertion) (i id serial : �
 regex_outside ts xs i id serial R x low is there member none =
     one_outside ts xs i x low is (decided_of ts x id serial R there member ∙ ap (λ b. b && is_regular R) none)
 
-pub is_member : (ts : List Term) (x : code.Assertion) (id serial term : ℕ) → x.term ≡ Some id
-    → term_at ts id ≡ membership_of serial (term_at ts term) → is_regular (term_at ts term) ≡ true →
-    IsMembership ts x serial term
-is_member ts x id serial term there is regular =
-    record { is = ap (assertion_of ts) there ∙ ap asserted is; regular = regular }
+pub is_member : (rs : List Regex) (ts : List Term) (xs : List code.Assertion) (i : ℕ) (x : code.Assertion)
+    (m : Member) (id term : ℕ) → All (HasNumberBelow (length ts)) xs → i < length xs → x ≡ get_or xs i x →
+    x.term ≡ Some id → term_at ts id ≡ membership_of m.serial.0 (term_at ts term) →
+    is_regular (term_at ts term) ≡ true → IsRegexOf rs (term_at ts term) m.regex → IsMember rs ts m x
+is_member rs ts xs i x m id term numbers low at there is regular regex = record {
+  term = term_at ts term;
+  number = rw at (numbers i x low);
+  is = ap (assertion_of ts) there ∙ ap asserted is;
+  regular = regular;
+  regex = regex;
+}
 
 -- each constant's serial is below the number of constants
 below_in : (n : ℕ) (ts : List Term) (a : Assertion) (o : Option ℕ) → all_below n ts ≡ true
@@ -334,68 +341,52 @@ serial_within n ts xs i x id serial term h numbers l is there holds =
     grind (arith, nat_tests)
 
 -- nothing is known yet
-pub knows_none : (kept : Decider) (stack : Stacked) → kept.taken ≡ 0 → length kept.constants.items ≡ 0
+pub knows_none : (kept : Decider) (stack : Stacked) → length kept.members.items ≡ 0 → length kept.roots.items ≡ 0 →
+    length kept.constants.items ≡ 0
     → length kept.changed.items ≡ 0 → kept.dead ≡ None → IsGraph kept.arena kept.graph →
     AreNormals stack.table kept.arena kept.normals → kept.measures ≡ [] → stack.words ≡ [] → Knows kept stack
-knows_none kept stack taken constants changed dead graph normals measures words =
-    let none : kept.constants.items ≡ [] = nil_from_length kept.constants.items constants in record {
+knows_none kept stack members roots constants changed dead graph normals measures words =
+    let none : kept.constants.items ≡ [] = nil_from_length kept.constants.items constants in
+    let nothing : kept.members.items ≡ [] = nil_from_length kept.members.items members in
+    record {
       taken = record {
         graph = graph;
         normals = normals;
         measures = rw measures (no_measures stack.table);
-        front = omega (arith, taken);
-        numbers = rw taken (All-nil (HasNumberBelow (length stack.table)));
-        sofar = rw (taken, none) (sofar_none kept.arena 0 [] refl (λ n. refl));
-        places = λ n. subst
-            (λ cs. (conjoined_at cs n).places ≡ places_from 0 n (map (assertion_in stack.table)
-            (take kept.taken stack.assertions))) (sym none) (rw taken refl);
+        members = rw nothing tt;
+        rooted = record {
+          numbers = rw nothing (All-nil (λ (m : Member). m.regex < length kept.arena));
+          abreast = omega (arith, members, roots);
+          right = λ place m root at is. absurd (omega (arith, members, slice_get_within kept.members.items place m at));
+        };
+        within = λ i d l. absurd (omega (arith, l, members));
+        places = λ n. ap (λ cs. (conjoined_at cs n).places) none ∙ ap (places_in 0 n) (sym nothing);
         settled = λ n h. rw none refl;
-        listed = λ k d l. absurd (omega (arith, l, changed));
+        listed = λ i d l. absurd (omega (arith, l, changed));
         dead = rw dead tt;
       };
       words = record {
         characters = rw words refl;
         few = rw words (omega arith);
-        least = λ n h. rw (words, none) (least_of_all (in_each kept.arena []) (λ w. refl));
+        least = λ n h. rw (words, nothing) (least_of_all (in_each kept.arena []) (λ w. refl));
       };
       declared = omega (arith, constants);
     }
 
--- the table and the assertions grow
-same_front : (old new : List Term) (xs : List code.Assertion) → table.Extends old new
-    → All (HasNumberBelow (length old)) xs → map (assertion_in new) xs ≡ map (assertion_in old) xs
-same_front old new [] e h = refl
-same_front old new (x ∷ xs) e h =
-    let rest = same_front old new xs e (All-tail (HasNumberBelow (length old)) x xs h) in
-    rw rest (ap (λ a. a ∷ map (assertion_in old) xs)
-    (one x.term (All-head (HasNumberBelow (length old)) x xs h)))
-  where
-    one : (o : Option ℕ) → IfSome o (λ id. id < length old) → assertion_of new o ≡ assertion_of old o
-    one None l = refl
-    one (Some id) l = ap asserted (table_facts.at_kept old new id e l)
-
-number_more : (m n : ℕ) → m ≤ n → (o : Option ℕ) → IfSome o (λ id. id < m) → IfSome o (λ id. id < n)
-number_more m n l None h = tt
-number_more m n l (Some id) h = omega (arith, l, h)
-
-pub knows_stays : NormalsStay → (kept : Decider) (old new : Stacked) → table.Extends old.table new.table
-    → IsLonger old.assertions new.assertions → new.words ≡ old.words → old.scope.declared ≤ new.scope.declared →
-    Knows kept old → Knows kept new
-knows_stays stays kept old new e longer words constants k =
-    let t = k.taken in
-    let front : take kept.taken new.assertions ≡ take kept.taken old.assertions =
-    ap (take kept.taken) longer.1 ∙ take-append-le kept.taken old.assertions longer.0 t.front in
-    record {
+-- another table and other assertions
+knows_told : NormalsStay → (kept : Decider) (old new : Stacked) → table.Extends old.table new.table
+    → new.words ≡ old.words → old.scope.declared ≤ new.scope.declared
+    → AreMembers kept.arena new.table kept.members.items new.assertions → Knows kept old → Knows kept new
+knows_told stays kept old new e words constants members k =
+    let t = k.taken in record {
       taken = record {
         graph = t.graph;
-        normals = stays old.table new.table kept.arena kept.arena kept.normals e (regexes_same kept.arena) t.normals;
+        normals = stays old.table new.table kept.arena kept.arena kept.normals e (extends_same kept.arena) t.normals;
         measures = measures_kept old.table new.table kept.measures e t.measures;
-        front = omega (arith, t.front, ap length longer.1, length_more old.assertions longer.0);
-        numbers = rw front (λ i d l.
-            number_more (length old.table) (length new.table) (table_facts.long_kept old.table new.table e)
-            (get_or (take kept.taken old.assertions) i d).term (t.numbers i d l));
-        sofar = rw (front, same_front old.table new.table (take kept.taken old.assertions) e t.numbers) t.sofar;
-        places = rw (front, same_front old.table new.table (take kept.taken old.assertions) e t.numbers) t.places;
+        members = members;
+        rooted = t.rooted;
+        within = t.within;
+        places = t.places;
         settled = t.settled;
         listed = t.listed;
         dead = t.dead;
@@ -403,54 +394,72 @@ knows_stays stays kept old new e longer words constants k =
       words = rw words k.words;
       declared = omega (arith, k.declared, constants);
     }
-  where
-    regexes_same : (rs : List Regex) → Extends rs rs
-    regexes_same rs = extends_same rs
 
-    length_more : (xs ys : List code.Assertion) → length xs ≤ length (xs ++ ys)
-    length_more xs ys = omega (arith, length-append xs ys)
+-- the table and the assertions grow
+pub knows_stays : NormalsStay → (kept : Decider) (old new : Stacked) → table.Extends old.table new.table
+    → IsLonger old.assertions new.assertions → new.words ≡ old.words → old.scope.declared ≤ new.scope.declared →
+    Knows kept old → Knows kept new
+knows_stays stays kept old new e longer words constants k =
+    knows_told stays kept old new e words constants
+    (rw longer.1 (members_longer kept.arena new.table kept.members.items old.assertions longer.0
+    (members_told kept.arena old.table new.table kept.members.items old.assertions e k.taken.members))) k
+
+-- the table grows, and assertions go that were not taken in
+pub knows_left : NormalsStay → (kept : Decider) (old new : Stacked) → table.Extends old.table new.table
+    → IsLonger new.assertions old.assertions → length kept.members.items ≤ length new.assertions
+    → new.words ≡ old.words → old.scope.declared ≤ new.scope.declared → Knows kept old → Knows kept new
+knows_left stays kept old new e longer few words constants k =
+    knows_told stays kept old new e words constants
+    (members_left kept.arena new.table kept.members.items new.assertions longer.0 few
+    (subst (AreMembers kept.arena new.table kept.members.items) longer.1
+    (members_told kept.arena old.table new.table kept.members.items old.assertions e k.taken.members))) k
 
 -- another mode
 pub knows_mode : (kept : Decider) (stack : Stacked) (mode : _) → Knows kept stack
     → Knows kept (record stack { mode = mode })
 knows_mode kept stack mode k = record { taken = k.taken; words = k.words; declared = k.declared }
 
--- the graph and the arena grow
-pub taken_searched : NormalsStay → (kept : Decider) (rs : List Regex) (g : Findings) (ts : List Term)
-    (xs : List code.Assertion) → Extends kept.arena rs → IsGraph rs g → IsTaken kept ts xs →
-    IsTaken (record kept { arena = rs; graph = g }) ts xs
-taken_searched stays kept rs g ts xs e graph t = record {
+-- the graph and the arena grow, and intersections are known
+pub taken_searched : NormalsStay → (kept : Decider) (rs : List Regex) (g : Findings)
+    (roots : Vec (Option ℕ) Global) (ts : List Term)
+    (xs : List code.Assertion) → Extends kept.arena rs → IsGraph rs g →
+    AreRooted rs kept.members.items roots.items → IsTaken kept ts xs →
+    IsTaken (record kept { arena = rs; graph = g; roots = roots }) ts xs
+taken_searched stays kept rs g roots ts xs e graph rooted t = record {
   graph = graph;
   normals = stays ts ts kept.arena rs kept.normals (table_facts.extends_same ts) e t.normals;
   measures = t.measures;
-  front = t.front;
-  numbers = t.numbers;
-  sofar = sofar_kept kept.arena rs (length kept.constants.items) _ (found_of kept.constants.items) e t.sofar;
+  members = members_grown kept.arena rs ts kept.members.items xs e t.members;
+  rooted = rooted;
+  within = t.within;
   places = t.places;
   settled = t.settled;
   listed = t.listed;
-  dead = dead_kept kept.arena rs kept.constants.items kept.dead e t.sofar.known t.dead;
+  dead = dead_kept kept.arena rs kept.members.items kept.dead e t.rooted.numbers t.dead;
 }
 
 -- a constant has no word
-pub knows_dead : NormalsStay → (kept : Decider) (rs : List Regex) (g : Findings) (stack : Stacked) (serial : Serial)
-    → Extends kept.arena rs → IsGraph rs g → IsEmptyAt rs (found_of kept.constants.items) serial.0 → Knows kept stack →
-    Knows (record kept { arena = rs; graph = g; dead = Some serial }) stack
-knows_dead stays kept rs g stack serial e graph empty k =
-    let t = taken_searched stays kept rs g stack.table stack.assertions e graph k.taken in record {
+pub knows_dead : NormalsStay → (kept : Decider) (rs : List Regex) (g : Findings) (roots : Vec (Option ℕ) Global)
+    (stack : Stacked) (serial : Serial)
+    → Extends kept.arena rs → IsGraph rs g → AreRooted rs kept.members.items roots.items →
+    IsEmptyAt rs kept.members.items serial.0 → Knows kept stack →
+    Knows (record kept { arena = rs; graph = g; roots = roots; dead = Some serial }) stack
+knows_dead stays kept rs g roots stack serial e graph rooted empty k =
+    let t = taken_searched stays kept rs g roots stack.table stack.assertions e graph rooted k.taken in record {
       taken = record {
         graph = t.graph;
         normals = t.normals;
         measures = t.measures;
-        front = t.front;
-        numbers = t.numbers;
-        sofar = t.sofar;
+        members = t.members;
+        rooted = t.rooted;
+        within = t.within;
         places = t.places;
         settled = t.settled;
         listed = t.listed;
         dead = empty;
       };
-      words = kept_grown kept.arena rs kept.constants.items stack.words e k.taken.sofar.known k.words;
+      words = kept_grown kept.arena rs kept.members.items kept.constants.items stack.words e k.taken.rooted.numbers
+          k.words;
       declared = k.declared;
     }
 
@@ -465,14 +474,15 @@ knows_grown stays kept rs g ks ms stack e graph normals measures k =
         graph = graph;
         normals = t.normals;
         measures = t.measures;
-        front = t.front;
-        numbers = t.numbers;
-        sofar = t.sofar;
+        members = t.members;
+        rooted = t.rooted;
+        within = t.within;
         places = t.places;
         settled = t.settled;
         listed = t.listed;
         dead = t.dead;
       };
-      words = kept_grown kept.arena rs kept.constants.items stack.words e k.taken.sofar.known k.words;
+      words = kept_grown kept.arena rs kept.members.items kept.constants.items stack.words e k.taken.rooted.numbers
+          k.words;
       declared = k.declared;
     }

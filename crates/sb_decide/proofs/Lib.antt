@@ -1,5 +1,7 @@
 pub mod Conjunctions
 pub mod OneMembership
+pub mod MemberFacts
+pub mod RootFacts
 pub mod DefaultValues
 pub mod Verdicts
 pub mod Constants

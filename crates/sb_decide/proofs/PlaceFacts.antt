@@ -1,5 +1,5 @@
 -- The places of a constant's memberships among assertions.
-use Rattle.std.proofs.Common.{◌≡◌, ℕ, zero, suc, ◌+◌, Bool, true, false, ◌&&◌, ◌==◌, if◌then◌else◌, List, [], ◌∷◌, ◌++◌, length, refl, sym, ap, ap₂, ◌∙◌, arith, Some, slice_get, map, take, subst}
+use Rattle.std.proofs.Common.{◌≡◌, ℕ, zero, suc, ◌+◌, Bool, true, false, ◌&&◌, ◌==◌, if◌then◌else◌, List, [], ◌∷◌, refl, sym, ap, ap₂, ◌∙◌, arith, Some, slice_get, map, take, subst}
 use Rattle.std.proofs.lemmas.Bool.{and_parts, false≢true, eqb-true, eqb-false}
 use Rattle.std.proofs.lemmas.List.Elements.{All-nil}
 use Rattle.std.specs.List.{All, list_all}
@@ -19,22 +19,8 @@ use Rattle.sb_fragment.specs.Memberships.{IsMemberRegex}
 use Rattle.sb_fragment.specs.Rules.{is_decided}
 use Rattle.sb_stack.specs.Stacked.{assertion_in}
 use Rattle.sb_decide.specs.Deciding.{membership_of}
-use Rattle.sb_decide.specs.Places.{is_membership_of, places_from, IsPlaceOf, IsRegexAt, AreRegexesAt}
+use Rattle.sb_decide.specs.Places.{places_from, IsPlaceOf, IsRegexAt, AreRegexesAt}
 use Rattle.sb_decide.proofs.OneMembership.{words-append, one_same, one_other, member_language}
-
--- the places with one assertion more
-pub places-append : (k n : ℕ) (done : List Assertion) (a : Assertion) (place : ℕ) → place ≡ k + length done
-    → places_from k n (done ++ a ∷ []) ≡ places_from k n done ++ (if is_membership_of n a then place ∷ [] else [])
-places-append k n [] a place e = let same : k ≡ place = omega (arith, e) in
-    ap (λ m. if is_membership_of n a then m ∷ [] else []) same
-places-append k n (x ∷ done) a place e =
-    front (is_membership_of n x) k (places_from (k + 1) n (done ++ a ∷ [])) (places_from (k + 1) n done)
-    (if is_membership_of n a then place ∷ [] else []) (places-append (k + 1) n done a place (omega (arith, e)))
-  where
-    front : (b : Bool) (m : ℕ) (all some last : List ℕ) → all ≡ some ++ last
-        → (if b then m ∷ all else all) ≡ (if b then m ∷ some else some) ++ last
-    front true m all some last h = ap (λ ps. m ∷ ps) h
-    front false m all some last h = h
 
 -- what a decided assertion is
 pub record IsShaped (t : Term) : Type 0 where

@@ -3,7 +3,7 @@ use Rattle.std.proofs.Common.{◌≡◌, ℕ, zero, suc, ◌+◌, true, ◌&&◌
 use Rattle.std.proofs.lemmas.Bool.{and_parts, and_from, false≢true, eqb-true}
 use Rattle.sb_word.specs.Words.{IsWord, are_characters}
 use Rattle.sb_lang.specs.Regex.{Regex}
-use Rattle.sb_lang.specs.Least.{IsShortestLeast}
+use Rattle.sb_lang.specs.Least.{IsShortestLeast, HasNoWord}
 use Rattle.sb_stack.specs.Stacked.{values_from, are_words}
 use Rattle.sb_meaning.specs.Terms.{Term, Sort, boolean, integer, text, reglan}
 use Rattle.sb_meaning.specs.Values.{Valuation, Value, Text, Int, Truth, is_of}
@@ -11,7 +11,7 @@ use Rattle.sb_script.specs.Scopes.{Constant}
 use Rattle.sb_script.specs.State.{State, live, live_terms, constants_of, fits, Satisfiable}
 use Rattle.sb_meaning.specs.Truth.{all_hold}
 use Rattle.sb_fragment.specs.Rules.{FragmentIsOfEach}
-use Rattle.sb_decide.specs.Deciding.{IsSofar, IsEmptyAt, AreLeastWords, in_each, ids_at, word_at}
+use Rattle.sb_decide.specs.Deciding.{IsSofar, AreLeastWords, in_each, word_at}
 use Rattle.sb_decide.proofs.Conjunctions.{same_least}
 use Rattle.sb_decide.proofs.DefaultValues.{default_values}
 use Rattle.sb_script.specs.Models.{words_for, AreShortestLeast}
@@ -24,10 +24,10 @@ all_shortest ts [] k h = tt
 all_shortest ts (w ∷ words) k h =
     (h 0 k (omega arith), all_shortest ts words (k + 1) (λ j n e. h (suc j) n (omega arith)))
 
-pub sat_given : FragmentIsOfEach → (rs : List Regex) (s : State) (count : ℕ) (found words : List (List ℕ))
-    → IsSofar rs count (live s) found
+pub sat_given : FragmentIsOfEach → (rs : List Regex) (s : State) (count : ℕ) (found : ℕ → List ℕ)
+    (words : List (List ℕ)) → IsSofar rs (live s) found
     → ((ws : List (List ℕ)) → length ws ≡ count → are_words ws ≡ true → fits (constants_of s) (values_from 0 ws) ≡ true)
-    → AreLeastWords rs found words → IsVerdict s [] (is_sat (values_from 0 words))
+    → AreLeastWords rs count found words → IsVerdict s [] (is_sat (values_from 0 words))
 sat_given law rs s count found words f fit l = (
   law s ∙ f.decided,
   record {
@@ -39,11 +39,11 @@ sat_given law rs s count found words f fit l = (
 )
   where
     shortest : (n : ℕ) → IsShortestLeast (words_for n (live_terms s)) (word_at words n)
-    shortest n = same_least (in_each rs (ids_at found n)) (words_for n (live_terms s)) (word_at words n) (f.words n)
+    shortest n = same_least (in_each rs (found n)) (words_for n (live_terms s)) (word_at words n) (f.words n)
         (l.least n)
 
     fitting : fits (constants_of s) (values_from 0 words) ≡ true
-    fitting = fit words (l.same_length ∙ f.same_length) l.characters
+    fitting = fit words l.same_length l.characters
 
 -- so many empty words
 blanks : ℕ → List (List ℕ)
@@ -103,10 +103,10 @@ word_of_words [] n h = refl
 word_of_words (w ∷ words) zero h = (and_parts (are_characters w) (are_words words) h).0
 word_of_words (w ∷ words) (suc n) h = word_of_words words n (and_parts (are_characters w) (are_words words) h).1
 
-pub unsat_given : FragmentIsOfEach → (rs : List Regex) (s : State) (count : ℕ) (found : List (List ℕ)) (n : ℕ)
-    → IsSofar rs count (live s) found
+pub unsat_given : FragmentIsOfEach → (rs : List Regex) (s : State) (count : ℕ) (found : ℕ → List ℕ) (n : ℕ)
+    → IsSofar rs (live s) found
     → ((ws : List (List ℕ)) → length ws ≡ count → are_words ws ≡ true → fits (constants_of s) (values_from 0 ws) ≡ true)
-    → IsEmptyAt rs found n → IsVerdict s [] (is_unsat [])
+    → HasNoWord (in_each rs (found n)) → IsVerdict s [] (is_unsat [])
 unsat_given law rs s count found n f fit e =
     (law s ∙ f.decided, refuted, record { some = refl; contradicted = refuted })
   where

@@ -1,5 +1,5 @@
--- What is known stays so, as the state grows, and as what is kept does.
-use Rattle.std.specs.Prelude.{◌≡◌, ◌≤◌, List}
+-- What is known stays so, as the state grows, as assertions are taken back, and as what is kept grows.
+use Rattle.std.specs.Prelude.{◌≡◌, ℕ, ◌≤◌, List, length}
 use Rattle.sb_lang.specs.Regex.{Regex}
 use Rattle.sb_regex.specs.Numbered.{Extends}
 use Rattle.sb_graph.specs.Findings.{Findings, IsGraph}
@@ -17,6 +17,12 @@ abbrev pub KnowsStays : Type 0
 KnowsStays = (kept : Decider) (old new : Stacked) → table.Extends old.table new.table
     → IsLonger old.assertions new.assertions → new.words ≡ old.words → old.scope.declared ≤ new.scope.declared →
     Knows kept old → Knows kept new
+
+-- as they do, but that assertions are taken back from the end, and so many stay
+abbrev pub KnowsBack : ℕ → Decider → Decider → Type 0
+KnowsBack count kept kept' = (old new : Stacked) → table.Extends old.table new.table
+    → IsLonger new.assertions old.assertions → count ≤ length new.assertions → new.words ≡ old.words
+    → old.scope.declared ≤ new.scope.declared → Knows kept old → Knows kept' new
 
 -- more regexes, and more known of them and of terms
 abbrev pub KnowsGrown : Type 0

@@ -1,5 +1,6 @@
 pub mod Conjoined
 pub mod Deciding
+pub mod Members
 pub mod Places
 pub mod Knowing
 pub mod Taking

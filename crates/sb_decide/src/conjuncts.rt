@@ -1,19 +1,27 @@
 //! A constant's memberships.
 
-ghost use Rattle.std.specs.Prelude.{◌≡◌, ◌==◌, None, Some, [], ◌∷◌, ◌++◌, length, IfOk, OnOk};
-ghost use Rattle.sb_decide.specs.Conjoined.{blank, ids_of, with_one};
+ghost use Rattle.std.specs.Prelude.{◌≡◌, ℕ, ◌<◌, false, [], ◌∷◌, ◌++◌, length, All, List, IfOk, OnOk};
+ghost use Rattle.sb_lang.specs.Regex.{Regex};
+ghost use Rattle.sb_decide.specs.Conjoined.{blank, changed_with, without_last};
+ghost use Rattle.sb_decide.specs.Members.{AreConjuncts, AreRooted, places_in};
 
 use sb_regex::RegexId;
+use sb_term::Serial;
 use std::alloc::{AllocError, Global};
 use std::marker::Model;
 
-/// The memberships of one constant: their regexes, of which a word is to be in each, as the intersection of those up to
-/// the last check with a model, and those since then; and the places of all of them among the live assertions.
+/// A membership: the constant, whose word is to be in the regex.
+#[derive(Clone, Copy, Drop)]
+pub struct Member {
+    pub serial: Serial,
+    pub regex: RegexId,
+}
+
+/// The memberships of one constant by their places among the live assertions, and whether its word is to be found anew.
 #[derive(Drop)]
 pub struct Conjuncts {
-    root: Option<RegexId>,
-    waiting: Vec<RegexId>,
     places: Vec<usize>,
+    changed: bool,
 }
 
 impl Model for Conjuncts {
@@ -22,9 +30,8 @@ impl Model for Conjuncts {
     ghost Value = { Conjoined };
 
     ghost view = { λ conjuncts. record {
-      root = conjuncts.root;
-      waiting = conjuncts.waiting.items;
       places = conjuncts.places.items;
+      changed = conjuncts.changed;
     } };
 }
 
@@ -34,38 +41,33 @@ impl Conjuncts {
         ensures { result ≡ blank }
     {
         Conjuncts {
-            root: None,
-            waiting: Vec::new(alloc),
             places: Vec::new(alloc),
+            changed: false,
         }
     }
 
-    /// One more membership, by its regex and its place. `AllocError` only for want of memory.
-    pub fn push(&mut self, id: RegexId, place: usize) -> Result<(), AllocError>
-        ensures { OnOk result (self.new ≡ with_one id place self.old) }
+    /// One more membership, by its place. `AllocError` only for want of memory.
+    pub fn push(&mut self, place: usize) -> Result<(), AllocError>
+        ensures { OnOk result (self.new ≡ changed_with (self.old.places ++ place ∷ [])) }
     {
-        self.waiting.push(id)?;
+        self.changed = true;
         self.places.push(place)?;
         Ok(())
     }
 
-    /// Whether no membership came since the last check with a model. Constant time.
-    pub fn is_settled(&self) -> bool
-        ensures { result ≡ (length self.now.waiting == 0) }
+    /// One membership less, the last one. Takes no memory.
+    pub fn pop(&mut self)
+        ensures { self.new ≡ changed_with (without_last self.old.places) }
     {
-        self.waiting.is_empty()
+        self.changed = true;
+        self.places.pop();
     }
 
-    /// The regexes. Linear in those since the last check with a model. `AllocError` only for want of memory.
-    pub fn ids(&self) -> Result<Vec<RegexId>, AllocError>
-        ensures { IfOk result (λ ids. ids.items ≡ ids_of self.now) }
+    /// Whether memberships came or went since its word was found. Constant time.
+    pub fn is_changed(&self) -> bool
+        ensures { result ≡ self.now.changed }
     {
-        let mut ids = Vec::new(*self.waiting.allocator());
-        if let Some(root) = self.root {
-            ids.push(root)?;
-        }
-        ids.extend_from_slice(&self.waiting)?;
-        Ok(ids)
+        self.changed
     }
 
     /// The places, ascending. Constant time.
@@ -75,11 +77,36 @@ impl Conjuncts {
         self.places.as_slice()
     }
 
-    /// The intersection of all regexes is known. Takes no memory.
-    pub fn settle(&mut self, root: RegexId)
-        ensures { self.new ≡ record { root = Some root; waiting = []; places = self.old.places } }
+    /// Its word is found. Takes no memory.
+    pub fn settle(&mut self)
+        ensures { self.new ≡ record self.old { changed = false } }
     {
-        self.root = Some(root);
-        self.waiting.clear();
+        self.changed = false;
     }
+}
+
+/// Regexes that have the words in common that those of a constant's memberships have: the last intersection that is
+/// known, and the regexes of the memberships behind it. Linear in these. `AllocError` only for want of memory.
+pub fn conjuncts_at(
+    alloc: Global,
+    members: &[Member],
+    roots: &[Option<RegexId>],
+    places: &[usize],
+) -> Result<Vec<RegexId>, AllocError>
+    requires within { All (λ place. place < length members.now) places.now }
+    requires abreast { length roots.now ≡ length members.now }
+    ensures { IfOk result (λ ids. (rs : List Regex) (n : ℕ) → places.now ≡ places_in 0 n members.now
+        → AreRooted rs members.now roots.now → AreConjuncts rs members.now n ids.items) }
+{
+    let mut ids = Vec::new(alloc);
+    let mut left = places;
+    while let Some((place, front)) = left.split_last() {
+        if let Some(root) = roots[*place] {
+            ids.push(root)?;
+            return Ok(ids);
+        }
+        ids.push(members[*place].regex)?;
+        left = front;
+    }
+    Ok(ids)
 }

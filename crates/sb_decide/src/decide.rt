@@ -4,12 +4,12 @@
 //! word that exploring the intersection finds is the one that a model gives. What is known of the assertions so far
 //! is kept, so that a check takes in those that are new, and finds words of the constants that they speak of.
 
-ghost use Rattle.std.specs.Prelude.{◌≡◌, ℕ, ◌+◌, ◌<◌, ◌≤◌, [], List, length, map, true, false, All, IfOk, OnOk, IfSome};
-ghost use Rattle.std.specs.Prelude.{MatchOption};
+ghost use Rattle.std.specs.Prelude.{◌≡◌, ℕ, ◌+◌, ◌<◌, ◌≤◌, [], ◌∷◌, ◌++◌, List, length, map, true, false, All};
+ghost use Rattle.std.specs.Prelude.{IfOk, OnOk, IfSome, MatchOption};
 ghost use Rattle.std.specs.List.{list_all};
-ghost use Rattle.sb_lang.specs.Least.{HasNoWord};
+ghost use Rattle.sb_lang.specs.Least.{IsShortestLeast};
 ghost use Rattle.sb_lang.specs.Regex.{Regex};
-ghost use Rattle.sb_regex.specs.Numbered.{AllNumbers, Extends};
+ghost use Rattle.sb_regex.specs.Numbered.{Extends};
 ghost use Rattle.sb_deriv.specs.Faithful.{KeepsEntries};
 ghost use Rattle.sb_graph.specs.Findings.{IsGraph};
 ghost use Rattle.sb_script.specs.State.{live};
@@ -18,13 +18,15 @@ ghost use Rattle.sb_fragment.specs.Rules.{is_decided};
 ghost use Rattle.sb_stack.specs.Stacked.{Stacked, state_of, assertion_in, HasNumberBelow};
 ghost use Rattle.sb_stack.specs.Steps.{verdict_in, found};
 ghost use Rattle.sb_term.specs.Serials.{all_below};
-ghost use Rattle.sb_decide.specs.Conjoined.{found_of, ids_of, OthersSettled, HasRoom, IsPutAt};
-ghost use Rattle.sb_decide.specs.Deciding.{in_each, ids_at, IsRooted, AreFilled};
+ghost use Rattle.sb_decide.specs.Conjoined.{conjoined_at, OthersSettled, HasRoom, IsChangedAt, without_last};
+ghost use Rattle.sb_decide.specs.Deciding.{AreFilled};
 ghost use Rattle.sb_decide.specs.Knowing.{IsTaken, Knows, IsDecision, places_of};
+ghost use Rattle.sb_decide.specs.Laws.{KnowsBack};
+ghost use Rattle.sb_decide.specs.Members.{AreRooted, IsEmptyAt, IsRootOf, places_in, words_in};
 ghost use Rattle.sb_decide.specs.Places.{HasNoWordAt, IsPlaceOf};
-ghost use Rattle.sb_decide.specs.Taking.{StayKept, HasAll, AreWords, IsTakingOver};
+ghost use Rattle.sb_decide.specs.Taking.{StayKept, HasAll, AreWords, IsTakingOver, other_dead};
 
-use crate::conjuncts::Conjuncts;
+use crate::conjuncts::{Conjuncts, Member, conjuncts_at};
 use sb_fragment::{Measures, fragment_is_of_each, membership};
 use sb_graph::{Explored, Graph, graph_stays};
 use sb_lang::constructors::{intersection_is_of_each, mkand_keeps_language};
@@ -44,21 +46,22 @@ pub struct Decider {
     pub graph: Graph,
     pub normals: Normals,
     pub measures: Measures,
-    /// How many assertions are taken in.
-    pub taken: usize,
+    /// The memberships that the first assertions are, which are taken in.
+    pub members: Vec<Member>,
+    /// By place the intersection of the constant's memberships up to this one, where a check made it.
+    pub roots: Vec<Option<RegexId>>,
     /// By serial the memberships of each constant.
     pub constants: Vec<Conjuncts>,
-    /// The constants with memberships that are new since the last check with a model.
+    /// The constants with memberships that came or went since the last check with a model.
     pub changed: Vec<Serial>,
     /// A constant that is known to have no word.
     pub dead: Option<Serial>,
 }
 
-/// What a check finds of a constant: its memberships' intersection, and the word of it that a model gives.
+/// What a check finds of a constant: the word that a model gives.
 #[derive(Drop)]
 struct Found {
     serial: Serial,
-    root: RegexId,
     word: Word,
 }
 
@@ -81,7 +84,8 @@ impl Decider {
             graph: Graph::new(alloc),
             normals: Normals::new(alloc),
             measures: Measures::new(alloc),
-            taken: 0,
+            members: Vec::new(alloc),
+            roots: Vec::new(alloc),
             constants: Vec::new(alloc),
             changed: Vec::new(alloc),
             dead: None,
@@ -89,9 +93,9 @@ impl Decider {
     }
 
     /// What a check of the live assertions finds. Linear in the assertions and constants that are new since the last
-    /// check with a model, the constants that the new ones speak of, and what is explored; a regex that was explored
-    /// before is not expanded again. Where it finds `Unsat`, [`Decider::dead`] is a constant without a word.
-    /// `AllocError` only for want of memory.
+    /// check with a model, the constants that the new ones, and those that were taken back, speak of, and what is
+    /// explored; a regex that was explored before is not expanded again. Where it finds `Unsat`, [`Decider::dead`] is a
+    /// constant without a word. `AllocError` only for want of memory.
     pub fn decide(&mut self, alloc: Global, stack: &mut Stack) -> Result<Verdict, AllocError>
         requires { Knows self.old stack.old }
         ensures verdict { IfOk result (λ verdict. IsVerdict (state_of stack.old) [] (verdict_in verdict)) }
@@ -103,6 +107,7 @@ impl Decider {
         ensures derivatives_stay { OnOk result (KeepsEntries self.old.graph.memo self.new.graph.memo) }
     {
         normals_stay();
+        normal_has_terms_words();
         fragment_is_of_each();
         let declared = stack.declared();
         if !self.take_in(alloc, stack)? {
@@ -115,6 +120,8 @@ impl Decider {
             alloc,
             &mut self.arena,
             &mut self.graph,
+            &mut self.roots,
+            &self.members,
             &self.constants,
             &self.changed,
         )? {
@@ -130,6 +137,23 @@ impl Decider {
                 Ok(Verdict::Sat(words))
             }
         }
+    }
+
+    /// Takes assertions back from the end: the first `count` stay, and what is known of them, as what is known of terms
+    /// and regexes does. Linear in the assertions that were taken in and are taken back. `AllocError` only for want of
+    /// memory.
+    pub fn take_back(&mut self, count: usize) -> Result<(), AllocError>
+        ensures knows { OnOk result (KnowsBack count self.old self.new) }
+        ensures arena { self.new.arena ≡ self.old.arena }
+        ensures graph { self.new.graph ≡ self.old.graph }
+        ensures normals { self.new.normals ≡ self.old.normals }
+        ensures measures { self.new.measures ≡ self.old.measures }
+    {
+        normals_stay();
+        while self.members.len() > count {
+            self.take_last_back()?;
+        }
+        Ok(())
     }
 
     /// A constant that is known to have no word: none is in all regexes of the memberships at its places. Constant
@@ -168,7 +192,7 @@ impl Decider {
         let assertions = stack.assertions();
         let table = stack.table();
         make_room(alloc, &mut self.constants, stack.declared())?;
-        while self.taken < assertions.len() {
+        while self.members.len() < assertions.len() {
             if !self.take_one(table, assertions)? {
                 return Ok(false);
             }
@@ -178,7 +202,7 @@ impl Decider {
 
     /// Takes in the next assertion, and answers whether it is a decided one; if not, it is not taken in.
     fn take_one(&mut self, table: &Table, assertions: &[Assertion]) -> Result<bool, AllocError>
-        requires more { self.old.taken < length assertions.now }
+        requires more { length self.old.members.items < length assertions.now }
         requires numbers { All (HasNumberBelow (length table.now)) assertions.now }
         requires serials { all_below (length self.old.constants.items) table.now ≡ true }
         requires taken { IsTaken self.old table.now assertions.now }
@@ -186,14 +210,14 @@ impl Decider {
         ensures words { OnOk result (StayKept self.old self.new) }
         ensures extends { OnOk result (Extends self.old.arena self.new.arena) }
         ensures graph { OnOk result (self.new.graph ≡ self.old.graph) }
-        ensures further { IfOk result (λ all. all ≡ true → self.new.taken ≡ self.old.taken + 1) }
+        ensures further { IfOk result
+            (λ all. all ≡ true → length self.new.members.items ≡ length self.old.members.items + 1) }
         ensures outside { IfOk result
             (λ all. all ≡ false → list_all is_decided (map (assertion_in table.now) assertions.now) ≡ false) }
     {
-        normal_has_terms_words();
         graph_stays();
-        normals_stay();
-        let assertion = &assertions[self.taken];
+        let place = self.members.len();
+        let assertion = &assertions[place];
         let Some(term) = assertion.term else {
             return Ok(false);
         };
@@ -206,15 +230,45 @@ impl Decider {
         let Some(id) = self.normals.normal(table, &mut self.arena, member.1)? else {
             return Ok(false);
         };
-        put(
-            &mut self.constants,
-            &mut self.changed,
-            member.0,
-            id,
-            self.taken,
-        )?;
-        self.taken += 1;
+        self.members.push(Member {
+            serial: member.0,
+            regex: id,
+        })?;
+        self.roots.push(None)?;
+        put(&mut self.constants, &mut self.changed, member.0, place)?;
         Ok(true)
+    }
+
+    /// Takes the last one of the assertions that were taken in back, if there is one.
+    fn take_last_back(&mut self) -> Result<(), AllocError>
+        ensures knows { OnOk result ((stack : Stacked) → Knows self.old stack → Knows self.new stack) }
+        ensures fewer { 0 < length self.old.members.items
+            → length self.new.members.items < length self.old.members.items }
+        ensures arena { self.new.arena ≡ self.old.arena }
+        ensures graph { self.new.graph ≡ self.old.graph }
+        ensures normals { self.new.normals ≡ self.old.normals }
+        ensures measures { self.new.measures ≡ self.old.measures }
+    {
+        let Some(member) = self.members.pop() else {
+            return Ok(());
+        };
+        self.roots.pop();
+        self.dead = other_dead(self.dead, member.serial);
+        if member.serial.0 as usize >= self.constants.len() {
+            return Ok(());
+        }
+        put_back(&mut self.constants, &mut self.changed, member.serial)?;
+        Ok(())
+    }
+}
+
+/// The constant without a word, where it is not this one.
+fn other_dead(dead: Option<Serial>, serial: Serial) -> Option<Serial>
+    ensures { result ≡ other_dead dead serial.0 }
+{
+    match dead {
+        Some(dead) if dead.0 != serial.0 => Some(dead),
+        _ => None,
     }
 }
 
@@ -234,63 +288,96 @@ fn put(
     constants: &mut [Conjuncts],
     changed: &mut Vec<Serial>,
     serial: Serial,
-    id: RegexId,
     place: usize,
 ) -> Result<(), AllocError>
     requires within { serial.0 < length constants.old }
     requires settled { OthersSettled changed.old.items constants.old }
     requires listed { All (λ other. other.0 < length constants.old) changed.old.items }
-    ensures put { OnOk result (IsPutAt constants.old constants.new serial.0 id place) }
+    ensures put { OnOk result (IsChangedAt constants.old constants.new serial.0
+        ((conjoined_at constants.old serial.0).places ++ place ∷ [])) }
     ensures settled { OnOk result (OthersSettled changed.new.items constants.new) }
     ensures listed { OnOk result (All (λ other. other.0 < length constants.old) changed.new.items) }
 {
     let conjuncts = &mut constants[serial.0 as usize];
-    if conjuncts.is_settled() {
+    if !conjuncts.is_changed() {
         changed.push(serial)?;
     }
-    conjuncts.push(id, place)
+    conjuncts.push(place)
 }
 
-/// The least word of each of these constants, or one that has none.
+/// Takes the last membership of a constant out of account.
+fn put_back(
+    constants: &mut [Conjuncts],
+    changed: &mut Vec<Serial>,
+    serial: Serial,
+) -> Result<(), AllocError>
+    requires within { serial.0 < length constants.old }
+    ensures put { OnOk result (IsChangedAt constants.old constants.new serial.0
+        (without_last (conjoined_at constants.old serial.0).places)) }
+    ensures settled { OnOk result (OthersSettled changed.old.items constants.old
+        → OthersSettled changed.new.items constants.new) }
+    ensures listed { OnOk result (All (λ other. other.0 < length constants.old) changed.old.items
+        → All (λ other. other.0 < length constants.old) changed.new.items) }
+{
+    let conjuncts = &mut constants[serial.0 as usize];
+    if !conjuncts.is_changed() {
+        changed.push(serial)?;
+    }
+    conjuncts.pop();
+    Ok(())
+}
+
+/// The least word of each of these constants, or one that has none. The intersections that are made are kept.
 fn least_words(
     alloc: Global,
     arena: &mut Arena,
     graph: &mut Graph,
+    roots: &mut Vec<Option<RegexId>>,
+    members: &[Member],
     constants: &[Conjuncts],
     changed: &[Serial],
 ) -> Result<Words, AllocError>
-    requires known { (n : ℕ) → AllNumbers arena.old (ids_at (found_of constants.now) n) }
+    requires rooted { AreRooted arena.old members.now roots.old.items }
+    requires places { (n : ℕ) → (conjoined_at constants.now n).places ≡ places_in 0 n members.now }
     requires listed { All (λ serial. serial.0 < length constants.now) changed.now }
     requires graph { IsGraph arena.old graph.old }
-    ensures words { IfOk result (AreWords arena.new constants.now changed.now) }
+    ensures words { IfOk result (AreWords arena.new members.now constants.now changed.now) }
+    ensures rooted { OnOk result (AreRooted arena.new members.now roots.new.items) }
     ensures extends { Extends arena.old arena.new }
     ensures graph { IsGraph arena.new graph.new }
     ensures derivatives_stay { KeepsEntries graph.old.memo graph.new.memo }
 {
     let mut found = Vec::new(alloc);
     for serial in changed {
-        let conjuncts = &constants[serial.0 as usize];
-        let Some(one) = least_word(arena, graph, *serial, conjuncts)? else {
+        let places = constants[serial.0 as usize].places();
+        let Some(word) = least_word(alloc, arena, graph, roots, members, *serial, places)? else {
             return Ok(Words::Dead(*serial));
         };
-        found.push(one)?;
+        found.push(Found {
+            serial: *serial,
+            word,
+        })?;
     }
     Ok(Words::Found(found))
 }
 
-/// The intersection of a constant's regexes, with its shortest word, the least by code points among the shortest;
-/// `None` where it has none.
+/// The shortest word of all regexes of a constant, the least by code points among the shortest; `None` where it has
+/// none. Their intersection is kept.
 fn least_word(
+    alloc: Global,
     arena: &mut Arena,
     graph: &mut Graph,
+    roots: &mut Vec<Option<RegexId>>,
+    members: &[Member],
     serial: Serial,
-    conjuncts: &Conjuncts,
-) -> Result<Option<Found>, AllocError>
-    requires known { AllNumbers arena.old (ids_of conjuncts.now) }
+    places: &[usize],
+) -> Result<Option<Word>, AllocError>
+    requires rooted { AreRooted arena.old members.now roots.old.items }
+    requires places { places.now ≡ places_in 0 serial.0 members.now }
     requires graph { IsGraph arena.old graph.old }
-    ensures found { IfOk result (λ found. MatchOption found (HasNoWord (in_each arena.old (ids_of conjuncts.now)))
-        (λ one. (one.serial ≡ serial)
-        × IsRooted arena.new (in_each arena.old (ids_of conjuncts.now)) one.root one.word)) }
+    ensures found { IfOk result (λ found. MatchOption found (IsEmptyAt arena.new members.now serial.0)
+        (IsShortestLeast (words_in arena.new members.now serial.0))) }
+    ensures rooted { OnOk result (AreRooted arena.new members.now roots.new.items) }
     ensures extends { Extends arena.old arena.new }
     ensures graph { IsGraph arena.new graph.new }
     ensures derivatives_stay { KeepsEntries graph.old.memo graph.new.memo }
@@ -298,12 +385,25 @@ fn least_word(
     graph_stays();
     mkand_keeps_language();
     intersection_is_of_each();
-    let ids = conjuncts.ids()?;
+    let ids = conjuncts_at(alloc, members, roots, places)?;
     let root = arena.and(&ids)?;
+    keep_root(roots, places, root);
     match graph.answer(arena, root)? {
-        Explored::Alive(word) => Ok(Some(Found { serial, root, word })),
+        Explored::Alive(word) => Ok(Some(word)),
         Explored::Dead => Ok(None),
     }
+}
+
+/// Keeps the intersection of all memberships of a constant at the last of their places, if there is one.
+fn keep_root(roots: &mut Vec<Option<RegexId>>, places: &[usize], root: RegexId)
+    requires within { All (λ place. place < length roots.old.items) places.now }
+    ensures { (rs : List Regex) (ms : List Member) (n : ℕ) → places.now ≡ places_in 0 n ms → IsRootOf rs ms n root
+        → AreRooted rs ms roots.old.items → AreRooted rs ms roots.new.items }
+{
+    let Some((place, _)) = places.split_last() else {
+        return;
+    };
+    roots[*place] = Some(root);
 }
 
 /// Words for so many constants, of which those that are new have the empty one.
@@ -326,16 +426,17 @@ fn empty_word(alloc: Global) -> Result<Word, AllocError>
     }
 }
 
-/// Gives each constant of which something was found its root and its word. Takes no memory.
+/// Gives each constant of which something was found its word. Takes no memory.
 fn take_over(constants: &mut [Conjuncts], words: &mut [Word], mut found: Vec<Found>)
     requires long { length words.old ≡ length constants.old }
     requires within { All (λ one. one.serial.0 < length constants.old) found.items }
-    ensures { (rs : List Regex) → IsTakingOver rs constants.old constants.old words.old found.items
-        → IsTakingOver rs constants.old constants.new words.new [] }
+    ensures { (rs : List Regex) (ms : List Member)
+        → IsTakingOver rs ms constants.old constants.old words.old found.items
+        → IsTakingOver rs ms constants.old constants.new words.new [] }
 {
     while let Some(one) = found.pop() {
         let place = one.serial.0 as usize;
-        constants[place].settle(one.root);
+        constants[place].settle();
         words[place] = one.word;
     }
 }

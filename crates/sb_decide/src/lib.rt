@@ -4,13 +4,13 @@
 //! constant's memberships, and what exploring them found. The one idea is that each constant has a word for itself, so
 //! a check asks for the words of those constants that new assertions speak of. The layer above answers checks by
 //! [`Decider::decide`]; and after an `Unsat` it asks for the constant that has no word, and for the places of its
-//! memberships among the live assertions.
+//! memberships among the live assertions. Where assertions go it says so by [`Decider::take_back`].
 #![tactic(auto)]
 
 mod conjuncts;
 mod decide;
 mod laws;
 
-pub use conjuncts::Conjuncts;
+pub use conjuncts::{Conjuncts, Member};
 pub use decide::Decider;
 pub use laws::{knows_grown, knows_stays};

@@ -1,18 +1,36 @@
-use Rattle.std.proofs.Common.{refl, ◌∙◌}
+use Rattle.std.proofs.Common.{◌<◌, length, sym, subst, arith}
+use Rattle.std.specs.List.{All}
 use Rattle.sb_lang.specs.Constructors.{mkand}
 use Rattle.sb_regex.specs.Numbered.{regexes_at}
-use Rattle.sb_decide.specs.Conjoined.{ids_of}
 use Rattle.sb_regex.proofs.CallerLemmas.{names_below}
-use Rattle.sb_decide.proofs.TakingOver.{rooted, none_rooted}
+use Rattle.sb_decide.proofs.RootFacts.{places_within, rooted_grown}
+use Rattle.sb_decide.proofs.TakingOver.{root_made, word_found, none_found}
 use Rattle.sb_decide.proofs.decide.least_word.Goals as goal
+
+pub conjuncts_at-requires-clause-within : goal.conjuncts_at-requires-clause-within
+conjuncts_at-requires-clause-within c =
+    subst (All (λ place. place < length c.args.members.now)) (sym c.requires.places)
+    (places_within c.args.serial.0 c.args.members.now)
+
+pub and-requires : goal.and-requires
+and-requires c =
+    let conjuncts = c.in_ok-ids.ensures c.args.arena.now c.args.serial.0 c.requires.places
+    (rw c.deref.ensures.value c.requires.rooted) in
+    rw c.deref-2.ensures.value conjuncts.known
 
 pub returns-in_err-root-clause-graph : goal.returns-in_err-root-clause-graph
 returns-in_err-root-clause-graph c =
     c.graph_stays.ensures c.args.arena.now c.and.new.self c.args.graph.now c.and.ensures.extends c.requires.graph
 
+pub keep_root-requires : goal.keep_root-requires
+keep_root-requires c =
+    let all = subst (All (λ place. place < length c.args.members.now)) (sym c.requires.places)
+    (places_within c.args.serial.0 c.args.members.now) in
+    record { within = λ k d l. let low = all k d l in omega (arith, low, c.requires.rooted.abreast) }
+
 pub answer-requires-clause-known : goal.answer-requires-clause-known
 answer-requires-clause-known c =
-    names_below c.and.new.self c.in_ok-root.root (mkand (regexes_at c.args.arena.now c.deref.result.now))
+    names_below c.and.new.self c.in_ok-root.root (mkand (regexes_at c.args.arena.now c.deref-2.result.now))
     c.in_ok-root.ensures.ok
 
 pub answer-requires-clause-graph : goal.answer-requires-clause-graph
@@ -20,16 +38,47 @@ answer-requires-clause-graph c =
     c.graph_stays.ensures c.args.arena.now c.and.new.self c.args.graph.now c.and.ensures.extends c.requires.graph
 
 pub returns-in-Alive-clause-found : goal.returns-in-Alive-clause-found
-returns-in-Alive-clause-found c = (
-  refl,
-  rooted c.mkand_keeps_language.ensures c.intersection_is_of_each.ensures c.args.arena.now c.and.new.self
-      c.answer.new.arena (ids_of c.args.conjuncts.now) c.deref.result.now c.in_ok-root.root c.in-Alive.word
-      (c.deref.ensures.value ∙ c.in_ok-ids.ensures) c.in_ok-root.ensures.ok c.answer.ensures.extends
-      (rw c.in-Alive.is at c.in_ok-word.ensures.found),
-)
+returns-in-Alive-clause-found c =
+    let root = root_made c.mkand_keeps_language.ensures c.intersection_is_of_each.ensures c.args.arena.now
+    c.and.new.self c.args.members.now c.args.serial.0 c.args.places.now c.args.roots.now.items c.deref.result.now
+    c.in_ok-ids.ids.items c.deref-2.result.now c.in_ok-root.root c.deref.ensures.value c.deref-2.ensures.value
+    c.requires.places c.requires.rooted c.in_ok-ids.ensures c.and.ensures.extends c.in_ok-root.ensures.ok in
+    let rooted = rooted_grown c.args.arena.now c.and.new.self c.args.members.now c.args.roots.now.items
+    c.and.ensures.extends c.requires.rooted in
+    word_found c.and.new.self c.answer.new.arena c.args.members.now c.args.serial.0 c.in_ok-root.root c.in-Alive.word
+    root c.answer.ensures.extends rooted.numbers (rw c.in-Alive.is at c.in_ok-word.ensures.found)
+
+pub returns-in-Alive-clause-rooted : goal.returns-in-Alive-clause-rooted
+returns-in-Alive-clause-rooted c =
+    let root = root_made c.mkand_keeps_language.ensures c.intersection_is_of_each.ensures c.args.arena.now
+    c.and.new.self c.args.members.now c.args.serial.0 c.args.places.now c.args.roots.now.items c.deref.result.now
+    c.in_ok-ids.ids.items c.deref-2.result.now c.in_ok-root.root c.deref.ensures.value c.deref-2.ensures.value
+    c.requires.places c.requires.rooted c.in_ok-ids.ensures c.and.ensures.extends c.in_ok-root.ensures.ok in
+    let rooted = rooted_grown c.args.arena.now c.and.new.self c.args.members.now c.args.roots.now.items
+    c.and.ensures.extends c.requires.rooted in
+    rooted_grown c.and.new.self c.answer.new.arena c.args.members.now c.keep_root.new.roots.items
+    c.answer.ensures.extends
+    (c.keep_root.ensures c.and.new.self c.args.members.now c.args.serial.0 c.requires.places root rooted)
 
 pub returns-clause-found : goal.returns-clause-found
 returns-clause-found c =
-    none_rooted c.mkand_keeps_language.ensures c.intersection_is_of_each.ensures c.args.arena.now c.and.new.self
-    (ids_of c.args.conjuncts.now) c.deref.result.now c.in_ok-root.root (c.deref.ensures.value ∙ c.in_ok-ids.ensures)
-    c.in_ok-root.ensures.ok (rw c.in-Dead.is at c.in_ok-word.ensures.found)
+    let root = root_made c.mkand_keeps_language.ensures c.intersection_is_of_each.ensures c.args.arena.now
+    c.and.new.self c.args.members.now c.args.serial.0 c.args.places.now c.args.roots.now.items c.deref.result.now
+    c.in_ok-ids.ids.items c.deref-2.result.now c.in_ok-root.root c.deref.ensures.value c.deref-2.ensures.value
+    c.requires.places c.requires.rooted c.in_ok-ids.ensures c.and.ensures.extends c.in_ok-root.ensures.ok in
+    let rooted = rooted_grown c.args.arena.now c.and.new.self c.args.members.now c.args.roots.now.items
+    c.and.ensures.extends c.requires.rooted in
+    none_found c.and.new.self c.answer.new.arena c.args.members.now c.args.serial.0 c.in_ok-root.root root
+    c.answer.ensures.extends rooted.numbers (rw c.in-Dead.is at c.in_ok-word.ensures.found)
+
+pub returns-clause-rooted : goal.returns-clause-rooted
+returns-clause-rooted c =
+    let root = root_made c.mkand_keeps_language.ensures c.intersection_is_of_each.ensures c.args.arena.now
+    c.and.new.self c.args.members.now c.args.serial.0 c.args.places.now c.args.roots.now.items c.deref.result.now
+    c.in_ok-ids.ids.items c.deref-2.result.now c.in_ok-root.root c.deref.ensures.value c.deref-2.ensures.value
+    c.requires.places c.requires.rooted c.in_ok-ids.ensures c.and.ensures.extends c.in_ok-root.ensures.ok in
+    let rooted = rooted_grown c.args.arena.now c.and.new.self c.args.members.now c.args.roots.now.items
+    c.and.ensures.extends c.requires.rooted in
+    rooted_grown c.and.new.self c.answer.new.arena c.args.members.now c.keep_root.new.roots.items
+    c.answer.ensures.extends
+    (c.keep_root.ensures c.and.new.self c.args.members.now c.args.serial.0 c.requires.places root rooted)

@@ -9,15 +9,14 @@ loop-one-preserved c = (
   length-set c.loop-one.words c.in-Some.one.serial.0 c.in-Some.one.word ∙ c.loop-one.invariant.1,
   front_within _ c.loop-one.found.items c.pop.new.self.items c.in-Some.one c.loop-one.invariant.2
       c.in-Some.ensures.items,
-  λ rs t. goes_on rs c.args.constants.now c.loop-one.constants _ c.loop-one.words _ c.loop-one.found.items
-      c.pop.new.self.items c.in-Some.one c.index-constants-place.result (c.loop-one.invariant.3 rs t)
+  λ rs ms t. goes_on rs ms c.args.constants.now c.loop-one.constants _ c.loop-one.words _ c.loop-one.found.items
+      c.pop.new.self.items c.in-Some.one c.index-constants-place.result (c.loop-one.invariant.3 rs ms t)
       c.in-Some.ensures.items c.index-constants-place.is
       (ap (set c.loop-one.constants c.in-Some.one.serial.0)
-      (settles _ c.index-constants-place.result c.settle.new.self c.in-Some.one.root c.settle.ensures
-      c.index-constants-place.is)) refl,
+      (settles _ c.index-constants-place.result c.settle.new.self c.settle.ensures c.index-constants-place.is)) refl,
 )
 
 pub returns : goal.returns
-returns c = λ rs t.
-    over_all rs c.args.constants.now c.loop-one.constants c.loop-one.words c.loop-one.found.items
-    (no_items c.loop-one.found c.in_default.ensures.cases.0) (c.loop-one.invariant.3 rs t)
+returns c = λ rs ms t.
+    over_all rs ms c.args.constants.now c.loop-one.constants c.loop-one.words c.loop-one.found.items
+    (no_items c.loop-one.found c.in_default.ensures.cases.0) (c.loop-one.invariant.3 rs ms t)

@@ -24,17 +24,19 @@ returns-then-not-branch-clause-verdict c =
 
 pub returns-then-is_some-clause-verdict : goal.returns-then-is_some-clause-verdict
 returns-then-is_some-clause-verdict c =
-    dead_given c.fragment_is_of_each.ensures c.take_in.new.self c.args.stack.now c.in_ok-take_in.ensures.knows
-    (c.in_ok-take_in.ensures.all c.if-not-branch.false) (sym c.is_some.ensures ∙ c.if-is_some.true)
+    dead_given c.fragment_is_of_each.ensures c.normal_has_terms_words.ensures c.take_in.new.self c.args.stack.now
+    c.in_ok-take_in.ensures.knows (c.in_ok-take_in.ensures.all c.if-not-branch.false)
+    (sym c.is_some.ensures ∙ c.if-is_some.true)
     (fit_of c.args.stack.now c.declared-declared.result c.declared-declared.ensures.value
     c.declared-declared.ensures.fit)
 
 pub returns-in-Dead-clause-verdict : goal.returns-in-Dead-clause-verdict
 returns-in-Dead-clause-verdict c =
-    unsat_found c.fragment_is_of_each.ensures c.normals_stay.ensures c.take_in.new.self c.least_words.new.arena
-    c.least_words.new.graph c.args.stack.now c.in-Dead.serial.0 c.in_ok-take_in.ensures.knows
+    unsat_found c.fragment_is_of_each.ensures c.normal_has_terms_words.ensures c.normals_stay.ensures
+    c.take_in.new.self c.least_words.new.arena c.least_words.new.graph c.least_words.new.roots c.args.stack.now
+    c.in-Dead.serial.0 c.in_ok-take_in.ensures.knows
     (c.in_ok-take_in.ensures.all c.if-not-branch.false) c.in_ok-serial.ensures.extends
-    c.in_ok-serial.ensures.graph
+    c.in_ok-serial.ensures.graph (rw c.deref.ensures.value at c.in_ok-serial.ensures.rooted)
     (rw (c.in-Dead.is, c.deref.ensures.value) at c.in_ok-serial.ensures.words)
     (fit_of c.args.stack.now c.declared-declared.result c.declared-declared.ensures.value
     c.declared-declared.ensures.fit)
@@ -42,8 +44,10 @@ returns-in-Dead-clause-verdict c =
 pub returns-in-Dead-clause-knows : goal.returns-in-Dead-clause-knows
 returns-in-Dead-clause-knows c =
     knows_dead c.normals_stay.ensures c.take_in.new.self c.least_words.new.arena c.least_words.new.graph
-    (record c.args.stack.now { mode = mode.Unsat }) c.in-Dead.serial c.in_ok-serial.ensures.extends
-    c.in_ok-serial.ensures.graph (rw (c.in-Dead.is, c.deref.ensures.value) at c.in_ok-serial.ensures.words)
+    c.least_words.new.roots (record c.args.stack.now { mode = mode.Unsat }) c.in-Dead.serial
+    c.in_ok-serial.ensures.extends c.in_ok-serial.ensures.graph
+    (rw c.deref.ensures.value at c.in_ok-serial.ensures.rooted)
+    (rw (c.in-Dead.is, c.deref.ensures.value) at c.in_ok-serial.ensures.words)
     (knows_mode c.take_in.new.self c.args.stack.now mode.Unsat c.in_ok-take_in.ensures.knows)
 
 pub returns-in_ok-fill-in-Found-clause-verdict : goal.returns-in_ok-fill-in-Found-clause-verdict
@@ -53,17 +57,20 @@ returns-in_ok-fill-in-Found-clause-verdict c =
     c.declared-declared.result c.take_words-words.result.items c.fill.new.words.items c.deref_mut.result.now
     c.take_over.new.constants c.deref_mut-in-Found.result.now c.take_over.new.words c.in_ok-take_in.ensures.knows all
     c.in_ok-serial.ensures.extends
-    (rw (c.in-Found.is, c.deref.ensures.value, c.deref-2.ensures.value) at c.in_ok-serial.ensures.words)
+    (rw (c.in-Found.is, c.deref.ensures.value, c.deref-2.ensures.value, c.deref-3.ensures.value)
+    at c.in_ok-serial.ensures.words)
     c.take_words-words.ensures.words c.declared-declared.ensures.value c.in_ok-fill-in-Found.ensures
     c.deref_mut.ensures.value c.deref_mut-in-Found.ensures.value c.take_over.ensures in
     subst (λ ws. IsVerdict (state_of c.args.stack.now) [] (is_sat (values_from 0 ws)))
     (sym (with_items_is c.fill.new.words c.take_over.new.words
-    (words_long c.least_words.new.arena c.take_in.new.self.constants.items c.take_over.new.constants
+    (words_long c.least_words.new.arena c.take_in.new.self.members.items
+    c.take_in.new.self.constants.items c.take_over.new.constants
     c.take_over.new.words c.fill.new.words c.declared-declared.result c.take_words-words.result.items over
     (c.declared-declared.ensures.value ∙ sym all.1) c.in_ok-fill-in-Found.ensures)))
-    (sat_found c.fragment_is_of_each.ensures c.normals_stay.ensures c.take_in.new.self c.least_words.new.arena
-    c.least_words.new.graph c.args.stack.now c.take_over.new.constants c.take_over.new.words
-    c.in_ok-take_in.ensures.knows all c.in_ok-serial.ensures.extends c.in_ok-serial.ensures.graph over
+    (sat_found c.fragment_is_of_each.ensures c.normal_has_terms_words.ensures c.normals_stay.ensures
+    c.take_in.new.self c.least_words.new.arena c.least_words.new.graph c.least_words.new.roots c.args.stack.now
+    c.take_over.new.constants c.take_over.new.words c.in_ok-take_in.ensures.knows all c.in_ok-serial.ensures.extends
+    c.in_ok-serial.ensures.graph (rw c.deref.ensures.value at c.in_ok-serial.ensures.rooted) over
     (fit_of c.args.stack.now c.declared-declared.result c.declared-declared.ensures.value
     c.declared-declared.ensures.fit))
 
@@ -74,19 +81,23 @@ returns-in_ok-fill-in-Found-clause-knows c =
     c.declared-declared.result c.take_words-words.result.items c.fill.new.words.items c.deref_mut.result.now
     c.take_over.new.constants c.deref_mut-in-Found.result.now c.take_over.new.words c.in_ok-take_in.ensures.knows all
     c.in_ok-serial.ensures.extends
-    (rw (c.in-Found.is, c.deref.ensures.value, c.deref-2.ensures.value) at c.in_ok-serial.ensures.words)
+    (rw (c.in-Found.is, c.deref.ensures.value, c.deref-2.ensures.value, c.deref-3.ensures.value)
+    at c.in_ok-serial.ensures.words)
     c.take_words-words.ensures.words c.declared-declared.ensures.value c.in_ok-fill-in-Found.ensures
     c.deref_mut.ensures.value c.deref_mut-in-Found.ensures.value c.take_over.ensures in
     let words = with_items_is c.fill.new.words c.take_over.new.words
-    (words_long c.least_words.new.arena c.take_in.new.self.constants.items c.take_over.new.constants
+    (words_long c.least_words.new.arena c.take_in.new.self.members.items
+    c.take_in.new.self.constants.items c.take_over.new.constants
     c.take_over.new.words c.fill.new.words c.declared-declared.result c.take_words-words.result.items over
     (c.declared-declared.ensures.value ∙ sym all.1) c.in_ok-fill-in-Found.ensures) in
     let constants = with_items_is c.take_in.new.self.constants c.take_over.new.constants
-    (constants_long c.least_words.new.arena c.take_in.new.self.constants c.take_over.new.constants
+    (constants_long c.least_words.new.arena c.take_in.new.self.members.items c.take_in.new.self.constants
+    c.take_over.new.constants
     c.take_over.new.words over) in
     let after = record c.take_in.new.self {
       arena = c.least_words.new.arena;
       graph = c.least_words.new.graph;
+      roots = c.least_words.new.roots;
       constants = with_items c.take_in.new.self.constants c.take_over.new.constants;
       changed = c.clear.new.self;
     } in
@@ -97,10 +108,12 @@ returns-in_ok-fill-in-Found-clause-knows c =
     (knows_over c.normals_stay.ensures c.take_in.new.self after c.args.stack.now
     (with_items c.fill.new.words c.take_over.new.words).items mode.Sat c.in_ok-take_in.ensures.knows
     c.in_ok-serial.ensures.extends c.in_ok-serial.ensures.graph
-    (subst (λ cs. IsTakingOver c.least_words.new.arena c.take_in.new.self.constants.items cs
-    (with_items c.fill.new.words c.take_over.new.words).items []) (sym constants)
-    (subst (λ ws. IsTakingOver c.least_words.new.arena c.take_in.new.self.constants.items c.take_over.new.constants ws
-    []) (sym words) over))
+    (rw c.deref.ensures.value at c.in_ok-serial.ensures.rooted)
+    (subst (λ cs. IsTakingOver c.least_words.new.arena c.take_in.new.self.members.items
+    c.take_in.new.self.constants.items cs (with_items c.fill.new.words c.take_over.new.words).items [])
+    (sym constants)
+    (subst (λ ws. IsTakingOver c.least_words.new.arena c.take_in.new.self.members.items
+    c.take_in.new.self.constants.items c.take_over.new.constants ws []) (sym words) over))
     refl refl refl (ap length c.clear.ensures.items) refl)
 
 pub returns-in_ok-fill-in-Found-clause-extends : goal.returns-in_ok-fill-in-Found-clause-extends

@@ -1,21 +1,26 @@
-use Rattle.std.proofs.Common.{refl, sym, ◌+◌}
+use Rattle.std.proofs.Common.{◌≡◌, length, refl, sym, arith}
 use Rattle.std.specs.Vec.{with_items}
 use Rattle.sb_term.specs.Numbered.{term_at}
 use Rattle.sb_regex.proofs.CallerLemmas.{extends_same}
-use Rattle.sb_decide.proofs.Knowledge.{mark_outside, other_outside, size_outside, regex_outside, is_member}
+use Rattle.sb_decide.specs.declared.conjuncts.Member.{Member}
+use Rattle.sb_decide.proofs.Knowledge.{at_place, mark_outside, other_outside, size_outside, regex_outside, is_member}
 use Rattle.sb_decide.proofs.Knowledge.{serial_within, taken_grown, taken_measured, stay_grown, stay_put, taken_more}
-use Rattle.sb_decide.proofs.TakingOver.{put_through, settled_through}
+use Rattle.sb_decide.proofs.TakingOver.{put_here, put_through, settled_through}
 use Rattle.sb_decide.proofs.decide.Decider.take_one.Goals as goal
 
 pub returns-in_default-clause-outside : goal.returns-in_default-clause-outside
 returns-in_default-clause-outside c = λ _.
-    mark_outside c.args.table.now c.args.assertions.now c.args.self.now.taken c.index-assertions-self.result
-    c.requires.more c.index-assertions-self.is c.in_default.is
+    mark_outside c.args.table.now c.args.assertions.now _ c.index-assertions-place.result
+    c.requires.more
+    (at_place c.args.self.now.members c.args.assertions.now _ c.index-assertions-place.result c.len-place.ensures
+    c.index-assertions-place.is) c.in_default.is
 
 pub returns-in_default-membership-clause-outside : goal.returns-in_default-membership-clause-outside
 returns-in_default-membership-clause-outside c = λ _.
-    other_outside c.args.table.now c.args.assertions.now c.args.self.now.taken c.in-Some.term
-    c.index-assertions-self.result c.requires.more c.index-assertions-self.is c.in-Some.is
+    other_outside c.args.table.now c.args.assertions.now _ c.in-Some.term
+    c.index-assertions-place.result c.requires.more
+    (at_place c.args.self.now.members c.args.assertions.now _ c.index-assertions-place.result c.len-place.ensures
+    c.index-assertions-place.is) c.in-Some.is
     c.in_default-membership.ensures.parts
 
 pub returns-then-not-branch-clause-taken : goal.returns-then-not-branch-clause-taken
@@ -25,10 +30,12 @@ returns-then-not-branch-clause-taken c =
 
 pub returns-then-not-branch-clause-outside : goal.returns-then-not-branch-clause-outside
 returns-then-not-branch-clause-outside c = λ _.
-    size_outside c.args.table.now c.args.assertions.now c.args.self.now.taken c.in-Some.term
+    size_outside c.args.table.now c.args.assertions.now _ c.in-Some.term
     c.in-Some-membership.member.0.0 (term_at c.args.table.now c.in-Some-membership.member.1)
-    c.index-assertions-self.result
-    c.requires.more c.index-assertions-self.is c.in-Some.is c.in-Some-membership.ensures.parts
+    c.index-assertions-place.result
+    c.requires.more
+    (at_place c.args.self.now.members c.args.assertions.now _ c.index-assertions-place.result c.len-place.ensures
+    c.index-assertions-place.is) c.in-Some.is c.in-Some-membership.ensures.parts
     (sym (rw c.if-not-branch.true at c.in_ok-is_regular.ensures.ok))
 
 pub returns-in_default-2-clause-taken : goal.returns-in_default-2-clause-taken
@@ -45,60 +52,74 @@ returns-in_default-2-clause-words c =
       normals = c.normal.new.self;
       measures = c.is_regular.new.self;
     })
-    c.args.table.now c.args.assertions.now c.in_ok-id.ensures.extends refl c.requires.taken
+    c.args.table.now c.args.assertions.now c.in_ok-id.ensures.extends refl refl c.requires.taken
 
 pub returns-in_default-2-clause-outside : goal.returns-in_default-2-clause-outside
 returns-in_default-2-clause-outside c = λ _.
-    regex_outside c.args.table.now c.args.assertions.now c.args.self.now.taken c.in-Some.term
+    regex_outside c.args.table.now c.args.assertions.now _ c.in-Some.term
     c.in-Some-membership.member.0.0 (term_at c.args.table.now c.in-Some-membership.member.1)
-    c.index-assertions-self.result
-    c.requires.more c.index-assertions-self.is c.in-Some.is c.in-Some-membership.ensures.parts
+    c.index-assertions-place.result
+    c.requires.more
+    (at_place c.args.self.now.members c.args.assertions.now _ c.index-assertions-place.result c.len-place.ensures
+    c.index-assertions-place.is) c.in-Some.is c.in-Some-membership.ensures.parts
     (rw c.in_default-2.is at c.in_ok-id.ensures.number)
 
 pub put-requires-clause-within : goal.put-requires-clause-within
 put-requires-clause-within c =
     rw c.deref_mut.ensures.value
-    (serial_within _ c.args.table.now c.args.assertions.now c.args.self.now.taken c.index-assertions-self.result
+    (serial_within _ c.args.table.now c.args.assertions.now _ c.index-assertions-place.result
     c.in-Some.term c.in-Some-membership.member.0.0 c.in-Some-membership.member.1 c.requires.serials c.requires.numbers
-    c.requires.more c.index-assertions-self.is c.in-Some.is c.in-Some-membership.ensures.parts)
+    c.requires.more
+    (at_place c.args.self.now.members c.args.assertions.now _ c.index-assertions-place.result c.len-place.ensures
+    c.index-assertions-place.is) c.in-Some.is
+    c.in-Some-membership.ensures.parts)
 
 pub returns-clause-taken : goal.returns-clause-taken
 returns-clause-taken c =
     let regular = sym (rw c.if-not-branch.false at c.in_ok-is_regular.ensures.ok) in
-    taken_more c.normal_has_terms_words.ensures c.graph_stays.ensures c.args.self.now _ c.args.table.now
-    c.args.assertions.now c.index-assertions-self.result c.in-Some-membership.member.0.0 c.in-Some-membership.member.1
-    c.in-Some-2.id c.requires.taken c.requires.more c.requires.numbers c.index-assertions-self.is
-    (is_member c.args.table.now c.index-assertions-self.result c.in-Some.term c.in-Some-membership.member.0.0
-    c.in-Some-membership.member.1 c.in-Some.is c.in-Some-membership.ensures.parts regular)
+    let there = at_place c.args.self.now.members c.args.assertions.now _ c.index-assertions-place.result
+    c.len-place.ensures c.index-assertions-place.is in
+    let member : Member = record { serial = c.in-Some-membership.member.0; regex = c.in-Some-2.id } in
+    let place : c.len-place.result ≡ length c.args.self.now.members.items =
+    omega (arith, c.len-place.ensures, c.args.self.now.members.ok.0) in
+    taken_more c.graph_stays.ensures c.args.self.now _ c.args.table.now c.args.assertions.now
+    c.index-assertions-place.result member c.requires.taken c.requires.more there
+    (is_member c.normal.new.arena c.args.table.now c.args.assertions.now _ c.index-assertions-place.result member
+    c.in-Some.term c.in-Some-membership.member.1 c.requires.numbers c.requires.more there c.in-Some.is
+    c.in-Some-membership.ensures.parts regular (rw c.in-Some-2.is at c.in_ok-id.ensures.number))
+    (serial_within _ c.args.table.now c.args.assertions.now _ c.index-assertions-place.result
+    c.in-Some.term c.in-Some-membership.member.0.0 c.in-Some-membership.member.1 c.requires.serials c.requires.numbers
+    c.requires.more there c.in-Some.is c.in-Some-membership.ensures.parts)
     c.in_ok-id.ensures.extends c.in_ok-id.ensures.normals c.in_ok-is_regular.ensures.right
-    (rw c.in-Some-2.is at c.in_ok-id.ensures.number)
-    (put_through c.args.self.now.constants c.deref_mut.result.now c.put.new.constants c.in-Some-membership.member.0.0
-    c.in-Some-2.id c.args.self.now.taken c.deref_mut.ensures.value c.in_ok-put.ensures.put)
+    c.in_ok-push.ensures.items c.in_ok-push-2.ensures.items
+    (put_here c.args.self.now.constants c.deref_mut.result.now c.put.new.constants c.in-Some-membership.member.0.0
+    c.len-place.result (length c.args.self.now.members.items) c.deref_mut.ensures.value place c.in_ok-put.ensures.put)
     (settled_through c.args.self.now.constants c.deref_mut.result.now c.put.new.constants
-    c.in-Some-membership.member.0.0 c.in-Some-2.id c.args.self.now.taken c.put.new.changed.items
-    c.deref_mut.ensures.value c.in_ok-put.ensures.put c.in_ok-put.ensures.settled)
-    (rw c.deref_mut.ensures.value at c.in_ok-put.ensures.listed) refl refl refl
+    c.in-Some-membership.member.0.0 _ c.put.new.changed.items c.deref_mut.ensures.value c.in_ok-put.ensures.put
+    c.in_ok-put.ensures.settled)
+    (rw c.deref_mut.ensures.value at c.in_ok-put.ensures.listed) refl refl
 
 pub returns-clause-words : goal.returns-clause-words
 returns-clause-words c =
+    let member : Member = record { serial = c.in-Some-membership.member.0; regex = c.in-Some-2.id } in
     stay_put c.args.self.now
     (record c.args.self.now {
       arena = c.normal.new.arena;
       normals = c.normal.new.self;
       measures = c.is_regular.new.self;
-      taken = c.args.self.now.taken + 1;
+      members = c.push.new.self;
+      roots = c.push-2.new.self;
       constants = with_items c.args.self.now.constants c.put.new.constants;
       changed = c.put.new.changed;
     })
-    c.args.table.now c.args.assertions.now c.in-Some-membership.member.0.0 c.in-Some-2.id c.args.self.now.taken
-    c.in_ok-id.ensures.extends
+    c.args.table.now c.args.assertions.now member _ c.in_ok-id.ensures.extends c.in_ok-push.ensures.items
     (put_through c.args.self.now.constants c.deref_mut.result.now c.put.new.constants c.in-Some-membership.member.0.0
-    c.in-Some-2.id c.args.self.now.taken c.deref_mut.ensures.value c.in_ok-put.ensures.put) c.requires.taken
+    _ c.deref_mut.ensures.value c.in_ok-put.ensures.put) c.requires.taken
 
 pub returns-then-not-branch-clause-words : goal.returns-then-not-branch-clause-words
 returns-then-not-branch-clause-words c =
     stay_grown c.args.self.now (record c.args.self.now { measures = c.is_regular.new.self }) c.args.table.now
-    c.args.assertions.now (extends_same c.args.self.now.arena) refl c.requires.taken
+    c.args.assertions.now (extends_same c.args.self.now.arena) refl refl c.requires.taken
 
 pub returns-in_default-clause-words : goal.returns-in_default-clause-words
 returns-in_default-clause-words c = λ words kept. (refl, kept)

@@ -1,0 +1,32 @@
+use Rattle.std.proofs.Common.{◌<◌, [], ◌∷◌, ◌++◌, None, length, sym, ap, ◌∙◌, arith}
+use Rattle.std.proofs.lemmas.List.{get_or_default, nil_from_length}
+use Rattle.sb_decide.specs.declared.conjuncts.Member.{Member}
+use Rattle.sb_decide.proofs.RootFacts.{all_front, all_last, walk_on, walk_ends, walk_done}
+use Rattle.sb_decide.proofs.conjuncts.conjuncts_at.Goals as goal
+
+pub returns-in-Some-roots : goal.returns-in-Some-roots
+returns-in-Some-roots c = λ rs n is rooted.
+    let low = all_last (λ place. place < length c.args.members.now) c.in-Some.front.now c.loop-place.left.now
+    c.in-Some.place.now c.in-Some.ensures.cases.0 c.loop-place.invariant.0 in
+    walk_ends rs c.args.members.now c.args.roots.now n c.loop-place.left.now c.in-Some.front.now
+    c.loop-place.ids.items c.push.new.self.items c.in-Some.place.now c.in-Some-roots.root c.in-Some.ensures.cases.0
+    (get_or_default c.args.roots.now c.in-Some.place.now None _ (omega (arith, low, c.requires.abreast))
+    ∙ c.in-Some-roots.is)
+    c.in_ok-push.ensures.items rooted (c.loop-place.invariant.1 rs n is rooted)
+
+pub loop-place-preserved : goal.loop-place-preserved
+loop-place-preserved c = (
+  all_front (λ place. place < length c.args.members.now) c.in-Some.front.now c.loop-place.left.now
+      c.in-Some.place.now c.in-Some.ensures.cases.0 c.loop-place.invariant.0,
+  λ rs n is rooted. walk_on rs c.args.members.now n c.loop-place.left.now c.in-Some.front.now c.loop-place.ids.items
+      c.push-in-Some.new.self.items c.in-Some.place.now c.index-members-place.result c.in-Some.ensures.cases.0
+      c.index-members-place.is
+      (c.in_ok-push-2.ensures.items
+      ∙ ap (λ (m : Member). c.loop-place.ids.items ++ m.regex ∷ []) (sym c.index-members-place.is))
+      rooted.numbers (c.loop-place.invariant.1 rs n is rooted),
+)
+
+pub returns : goal.returns
+returns c = λ rs n is rooted.
+    walk_done rs c.args.members.now n c.loop-place.left.now c.loop-place.ids.items
+    (nil_from_length c.loop-place.left.now c.in_default.ensures.cases) (c.loop-place.invariant.1 rs n is rooted)

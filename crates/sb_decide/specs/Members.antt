@@ -1,0 +1,74 @@
+-- The memberships that were taken in, one for each of the first assertions, and what is known of them.
+use Rattle.std.specs.Prelude.{◌≡◌, ℕ, ◌+◌, ◌<◌, ◌==◌, true, if◌then◌else◌, List, [], ◌∷◌, length, take, Option, Some, None, slice_index_or, slice_get}
+use Rattle.std.specs.List.{All}
+use Rattle.sb_lang.specs.Languages.{Language}
+use Rattle.sb_lang.specs.Least.{HasNoWord}
+use Rattle.sb_lang.specs.Language.{language}
+use Rattle.sb_lang.specs.Regex.{Regex}
+use Rattle.sb_regex.specs.Numbered.{regex_at, AllNumbers}
+use Rattle.sb_meaning.specs.Terms.{Term}
+use Rattle.sb_script.specs.State.{asserted}
+use Rattle.sb_script.specs.Sizes.{is_regular}
+use Rattle.sb_problem.specs.Normals.{IsRegexOf}
+use Rattle.sb_term.specs.declared.assertion.Assertion.{Assertion}
+use Rattle.sb_stack.specs.Stacked.{assertion_in, HasNumberBelow}
+use Rattle.sb_decide.specs.declared.conjuncts.Member.{Member}
+use Rattle.sb_decide.specs.Deciding.{in_each, membership_of}
+
+-- The assertion is the membership of the constant in a term within the limits on sizes, of whose normal regex the
+-- number is.
+pub record IsMember (rs : List Regex) (ts : List Term) (m : Member) (a : Assertion) : Type 0 where
+  pub term : Term
+  pub number : HasNumberBelow (length ts) a
+  pub is : assertion_in ts a ≡ asserted (membership_of m.serial.0 term)
+  pub regular : is_regular term ≡ true
+  pub regex : IsRegexOf rs term m.regex
+
+-- the first assertions are these, in order
+abbrev pub AreMembers : List Regex → List Term → List Member → List Assertion → Type 0
+AreMembers rs ts [] assertions = Unit {0}
+AreMembers rs ts (m ∷ ms) [] = ⊥
+AreMembers rs ts (m ∷ ms) (a ∷ assertions) = IsMember rs ts m a × AreMembers rs ts ms assertions
+
+-- the regexes of a constant
+abbrev pub ids_in : List Member → ℕ → List ℕ
+ids_in [] n = []
+ids_in (m ∷ ms) n = if n == m.serial.0 then m.regex ∷ ids_in ms n else ids_in ms n
+
+-- their places, where the first of these memberships is at the first place
+abbrev pub places_in : ℕ → ℕ → List Member → List ℕ
+places_in place n [] = []
+places_in place n (m ∷ ms) =
+    if n == m.serial.0 then place ∷ places_in (place + 1) n ms else places_in (place + 1) n ms
+
+-- the words that all regexes of a constant have
+abbrev pub words_in : List Regex → List Member → ℕ → Language
+words_in rs ms n = in_each rs (ids_in ms n)
+
+-- the constant has no word
+abbrev pub IsEmptyAt : List Regex → List Member → ℕ → Type 0
+IsEmptyAt rs ms n = HasNoWord (words_in rs ms n)
+
+-- The number is of the intersection of all memberships of the constant.
+pub record IsRootOf (rs : List Regex) (ms : List Member) (n root : ℕ) : Type 0 where
+  pub known : root < length rs
+  pub same : (w : List ℕ) → words_in rs ms n w ≡ language (regex_at rs root) w
+
+abbrev pub root_at : List (Option ℕ) → ℕ → Option ℕ
+root_at roots place = slice_index_or roots place None
+
+-- each root that is known is of its constant's memberships up to its place
+abbrev pub AreRoots : List Regex → List Member → List (Option ℕ) → Type 0
+AreRoots rs ms roots = (place : ℕ) (m : Member) (root : ℕ) → slice_get ms place ≡ Some m
+    → root_at roots place ≡ Some root → IsRootOf rs (take (place + 1) ms) m.serial.0 root
+
+-- Regexes have their numbers, and there is a root or none for each membership.
+pub record AreRooted (rs : List Regex) (ms : List Member) (roots : List (Option ℕ)) : Type 0 where
+  pub numbers : All (λ m. m.regex < length rs) ms
+  pub abreast : length roots ≡ length ms
+  pub right : AreRoots rs ms roots
+
+-- These regexes have the words in common that those of the constant have.
+pub record AreConjuncts (rs : List Regex) (ms : List Member) (n : ℕ) (ids : List ℕ) : Type 0 where
+  pub known : AllNumbers rs ids
+  pub same : (w : List ℕ) → in_each rs ids w ≡ words_in rs ms n w
