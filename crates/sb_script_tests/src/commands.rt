@@ -179,7 +179,7 @@ fn push_step(
     found: Option<&[&[u32]]>,
 ) -> Result<bool, AllocError> {
     match step {
-        Step::Answer(text) => push_answer(out, text)?,
+        Step::Answer(text) | Step::Left(text, _) => push_answer(out, text)?,
         Step::Check => push_check(alloc, out, stack, found)?,
         Step::Exit(text) => {
             push_answer(out, text)?;

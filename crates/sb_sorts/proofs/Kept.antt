@@ -1,8 +1,8 @@
 -- The names of a scope: what a look-up finds, and the serials of its constants.
-use Rattle.std.proofs.Common.{◌≡◌, ℕ, zero, suc, ◌+◌, ◌≤◌, ◌<◌, Bool, true, false, cond, ◌||◌, nat_eq, nat_lt, List, [], ◌∷◌, ◌++◌, length, Option, Some, None, option_map, is_some, IfSome, sym, refl, ap, subst, ◌∙◌, arith, length-append}
+use Rattle.std.proofs.Common.{◌≡◌, ℕ, zero, suc, ◌+◌, ◌≤◌, Bool, true, false, cond, ◌||◌, nat_eq, nat_le, nat_lt, List, [], ◌∷◌, ◌++◌, take, drop, Option, Some, None, option_map, is_some, IfSome, sym, refl, ap, subst, ◌∙◌, arith}
 use Rattle.std.proofs.lemmas.Bool.{and_parts, and_from}
 use Rattle.std.proofs.lemmas.Bool.Decides.{nat_tests}
-use Rattle.std.proofs.lemmas.List.{length-map}
+use Rattle.std.proofs.lemmas.List.{take-append-drop}
 use Rattle.std.specs.Cmp.Lexicographic.{pointwise}
 use Rattle.std.specs.List.{list_all}
 use Rattle.std.specs.Map.{lookup}
@@ -14,7 +14,7 @@ use Rattle.sb_script.specs.Scopes as meaning
 use Rattle.sb_script.specs.Symbols.{is_taken, is_theory_name}
 use Rattle.sb_sorts.specs.declared.scope.Named.{Named}
 use Rattle.sb_sorts.specs.declared.scope.Named.TheVariants as code
-use Rattle.sb_sorts.specs.Scopes.{named_in, serials_in, counted}
+use Rattle.sb_sorts.specs.Scopes.{named_in, serials_in, ascend_below}
 use Rattle.sb_sorts.specs.NameTable.{kept_in, namings_in, named_below}
 
 abbrev is_key : Name → Vec ℕ Global → Bool
@@ -62,65 +62,75 @@ pub untaken_none : (names : List meaning.Naming) (name : Name) → is_taken name
     → meaning.named names name ≡ None
 untaken_none names name h = none_from (meaning.named names name) (is_theory_name name) h
 
--- serials are counted
+-- serials ascend
 serials_append : (ns ms : List (Name × Named)) → serials_in (ns ++ ms) ≡ serials_in ns ++ serials_in ms
 serials_append [] ms = refl
 serials_append ((name, code.Constant serial) ∷ ns) ms = ap (λ s. serial.0 ∷ s) (serials_append ns ms)
 serials_append ((name, code.Marked) ∷ ns) ms = serials_append ns ms
 
-counted_more : (from n : ℕ) → counted from (suc n) ≡ counted from n ++ (from + n) ∷ []
-counted_more from zero = let e : from ≡ from + 0 = omega arith in ap (λ s. s ∷ []) e
-counted_more from (suc n) = let e : (from + 1) + n ≡ from + suc n = omega arith in
-    ap (λ s. from ∷ s) (counted_more (from + 1) n ∙ ap (λ s. counted (from + 1) n ++ s ∷ []) e)
+-- one more serial, the bound itself
+ascend_more : (from bound : ℕ) (ns : List ℕ) → from ≤ bound → ascend_below from bound ns ≡ true
+    → ascend_below from (bound + 1) (ns ++ bound ∷ []) ≡ true
+ascend_more from bound [] least h = grind (arith, nat_tests)
+ascend_more from bound (n ∷ ns) least h =
+    let parts = and_parts (nat_le from n) _ h in
+    let more = and_parts (nat_lt n bound) (ascend_below (n + 1) bound ns) parts.1 in
+    let below : nat_lt n (bound + 1) ≡ true = grind (arith, nat_tests, more.0) in
+    let next : n + 1 ≤ bound = grind (arith, nat_tests, more.0) in
+    and_from _ _ parts.0 (and_from _ _ below (ascend_more (n + 1) bound ns next more.1))
 
-pub one_more : (ns : List (Name × Named)) (name : Name) (d : ℕ) → serials_in ns ≡ counted 0 d
-    → serials_in (ns ++ (name, code.Constant (record { 0 = d })) ∷ []) ≡ counted 0 (d + 1)
+pub one_more : (ns : List (Name × Named)) (name : Name) (d : ℕ) → ascend_below 0 d (serials_in ns) ≡ true
+    → ascend_below 0 (d + 1) (serials_in (ns ++ (name, code.Constant (record { 0 = d })) ∷ [])) ≡ true
 one_more ns name d h =
-    let zero_d : d ≡ 0 + d = omega arith in
-    let next : suc d ≡ d + 1 = omega arith in
-    serials_append ns _ ∙ ap (λ s. s ++ d ∷ []) h ∙ ap (λ s. counted 0 d ++ s ∷ []) zero_d ∙ sym (counted_more 0 d)
-    ∙ ap (counted 0) next
+    let least : 0 ≤ d = omega arith in
+    ap (ascend_below 0 (d + 1)) (serials_append ns _) ∙ ascend_more 0 d (serials_in ns) least h
 
 append_none : (xs : List ℕ) → xs ++ [] ≡ xs
 append_none [] = refl
 append_none (x ∷ xs) = ap (λ s. x ∷ s) (append_none xs)
 
-pub one_mark : (ns : List (Name × Named)) (name : Name) (d : ℕ) → serials_in ns ≡ counted 0 d
-    → serials_in (ns ++ (name, code.Marked) ∷ []) ≡ counted 0 d
-one_mark ns name d h = serials_append ns _ ∙ append_none (serials_in ns) ∙ h
+pub one_mark : (ns : List (Name × Named)) (name : Name) (d : ℕ) → ascend_below 0 d (serials_in ns) ≡ true
+    → ascend_below 0 d (serials_in (ns ++ (name, code.Marked) ∷ [])) ≡ true
+one_mark ns name d h = ap (ascend_below 0 d) (serials_append ns _ ∙ append_none (serials_in ns)) ∙ h
 
-length_counted : (from n : ℕ) → length (counted from n) ≡ n
-length_counted from zero = refl
-length_counted from (suc n) = ap suc (length_counted (from + 1) n)
+-- the first names, so many
+ascend_front : (from bound : ℕ) (front others : List ℕ) → ascend_below from bound (front ++ others) ≡ true
+    → ascend_below from bound front ≡ true
+ascend_front from bound [] others h = refl
+ascend_front from bound (n ∷ ns) others h =
+    let parts = and_parts (nat_le from n) _ h in
+    let more = and_parts (nat_lt n bound) (ascend_below (n + 1) bound (ns ++ others)) parts.1 in
+    and_from _ _ parts.0 (and_from _ _ more.0 (ascend_front (n + 1) bound ns others more.1))
 
-length_serials : (ns : List (Name × Named)) → length (serials_in ns) ≤ length ns
-length_serials [] = omega arith
-length_serials ((name, code.Constant serial) ∷ ns) = omega (arith, length_serials ns)
-length_serials ((name, code.Marked) ∷ ns) = omega (arith, length_serials ns)
+kept_taken : (count : ℕ) (es : List (Vec ℕ Global × Named)) → kept_in (take count es) ≡ take count (kept_in es)
+kept_taken zero es = refl
+kept_taken (suc n) [] = refl
+kept_taken (suc n) (e ∷ es) = ap (λ ns. (e.0.items, e.1) ∷ ns) (kept_taken n es)
 
--- there are no more constants than names
-few_constants : (ns : List (Name × Named)) (d : ℕ) → serials_in ns ≡ counted 0 d → d ≤ length ns
-few_constants ns d h = omega (arith, length_serials ns, length_counted 0 d, ap length h)
+pub fewer_names : (count bound : ℕ) (es fewer : List (Vec ℕ Global × Named)) → fewer ≡ take count es
+    → ascend_below 0 bound (serials_in (kept_in es)) ≡ true
+    → ascend_below 0 bound (serials_in (kept_in fewer)) ≡ true
+fewer_names count bound es fewer is h =
+    let ns = kept_in es in
+    let both : serials_in ns ≡ serials_in (take count ns) ++ serials_in (drop count ns) =
+    ap serials_in (sym (take-append-drop count ns)) ∙ serials_append (take count ns) (drop count ns) in
+    ap (λ es. ascend_below 0 bound (serials_in (kept_in es))) is
+    ∙ ap (λ ns. ascend_below 0 bound (serials_in ns)) (kept_taken count es)
+    ∙ ascend_front 0 bound (serials_in (take count ns)) (serials_in (drop count ns))
+    (ap (ascend_below 0 bound) (sym both) ∙ h)
 
-pub room : (es more : List (Vec ℕ Global × Named)) (n : Name × Named) (d : ℕ) → serials_in (kept_in es) ≡ counted 0 d
-    → kept_in more ≡ kept_in es ++ n ∷ [] → d < length more
-room es more n d h pushed =
-    omega (
-      arith,
-      few_constants (kept_in es) d h,
-      ap length pushed,
-      length-append (kept_in es) (n ∷ []),
-      length-map {B = Name × Named} more (λ (e : Vec ℕ Global × Named). (e.0.items, e.1)),
-      length-map {B = Name × Named} es (λ (e : Vec ℕ Global × Named). (e.0.items, e.1)),
-    )
+pub names_taken : (count : ℕ) (es fewer : List (Vec ℕ Global × Named)) → fewer ≡ take count es
+    → kept_in fewer ≡ take count (kept_in es)
+names_taken count es fewer is = ap kept_in is ∙ kept_taken count es
 
 -- a constant that is found has a serial below their number
-counted_below : (from d m : ℕ) → from + d ≤ m → list_all (λ s. nat_lt s m) (counted from d) ≡ true
-counted_below from zero m h = refl
-counted_below from (suc d) m h =
-    let here : nat_lt from m ≡ true = grind (arith, nat_tests) in
-    let less : (from + 1) + d ≤ m = omega arith in
-    and_from _ _ here (counted_below (from + 1) d m less)
+all_ascend_below : (from bound : ℕ) (ns : List ℕ) → ascend_below from bound ns ≡ true
+    → list_all (λ s. nat_lt s bound) ns ≡ true
+all_ascend_below from bound [] h = refl
+all_ascend_below from bound (n ∷ ns) h =
+    let parts = and_parts (nat_le from n) _ h in
+    let more = and_parts (nat_lt n bound) (ascend_below (n + 1) bound ns) parts.1 in
+    and_from _ _ more.0 (all_ascend_below (n + 1) bound ns more.1)
 
 found_step : (n : ℕ) (b : Bool) (v : Named) (found : Option Named) → named_below n v ≡ true
     → IfSome found (λ w. named_below n w ≡ true) → IfSome (cond b (Some v) found) (λ w. named_below n w ≡ true)
@@ -135,15 +145,13 @@ found_below n test ((key, code.Constant serial) ∷ es) all = let parts = and_pa
     found_step n (test key) _ _ parts.0 (found_below n test es parts.1)
 found_below n test ((key, code.Marked) ∷ es) all = found_step n (test key) _ _ refl (found_below n test es all)
 
-lookup_counted : (d : ℕ) (test : Vec ℕ Global → Bool) (es : List (Vec ℕ Global × Named))
-    → serials_in (kept_in es) ≡ counted 0 d → IfSome (lookup test es) (λ v. named_below d v ≡ true)
-lookup_counted d test es h =
-    let least : 0 + d ≤ d = omega arith in
-    found_below d test es (ap (list_all (λ s. nat_lt s d)) h ∙ counted_below 0 d d least)
+lookup_ascending : (d : ℕ) (test : Vec ℕ Global → Bool) (es : List (Vec ℕ Global × Named))
+    → ascend_below 0 d (serials_in (kept_in es)) ≡ true → IfSome (lookup test es) (λ v. named_below d v ≡ true)
+lookup_ascending d test es h = found_below d test es (all_ascend_below 0 d (serials_in (kept_in es)) h)
 
 pub lookup_below : (d : ℕ) (test : Vec ℕ Global → Bool) (es : List (Vec ℕ Global × Named)) (found : Option Named)
-    (m : ℕ) → found ≡ lookup test es → d ≡ m → serials_in (kept_in es) ≡ counted 0 d
+    (m : ℕ) → found ≡ lookup test es → d ≡ m → ascend_below 0 d (serials_in (kept_in es)) ≡ true
     → IfSome found (λ v. named_below m v ≡ true)
 lookup_below d test es found m is same h =
     subst (λ k. IfSome found (λ v. named_below k v ≡ true)) same
-    (subst (λ o. IfSome o (λ v. named_below d v ≡ true)) (sym is) (lookup_counted d test es h))
+    (subst (λ o. IfSome o (λ v. named_below d v ≡ true)) (sym is) (lookup_ascending d test es h))

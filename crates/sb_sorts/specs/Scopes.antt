@@ -1,5 +1,5 @@
 -- What a scope keeps, as the definitions have it. Constants are of sort String.
-use Rattle.std.specs.Prelude.{ℕ, ◌+◌, zero, suc, List, [], ◌∷◌, ◌++◌, map}
+use Rattle.std.specs.Prelude.{ℕ, ◌+◌, zero, suc, Bool, true, ◌&&◌, nat_le, nat_lt, List, [], ◌∷◌, ◌++◌, map}
 use Rattle.sb_sorts.specs.declared.scope.Named.{Named}
 use Rattle.sb_sorts.specs.declared.scope.Named.TheVariants as code
 use Rattle.sb_script.specs.Names.{Name}
@@ -32,10 +32,10 @@ serials_in [] = []
 serials_in ((name, code.Constant serial) ∷ ns) = serial.0 ∷ serials_in ns
 serials_in ((name, code.Marked) ∷ ns) = serials_in ns
 
--- so many numbers from this one on
-abbrev pub counted : ℕ → ℕ → List ℕ
-counted from zero = []
-counted from (suc n) = from ∷ counted (from + 1) n
+-- the numbers ascend, from this one on, and are below the bound
+abbrev pub ascend_below : ℕ → ℕ → List ℕ → Bool
+ascend_below from bound [] = true
+ascend_below from bound (n ∷ ns) = nat_le from n && (nat_lt n bound && ascend_below (n + 1) bound ns)
 
 -- the scope with one more constant, and with one more marked name
 abbrev pub with_constant : Name → ScopeNames → ScopeNames

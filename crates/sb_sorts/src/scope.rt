@@ -1,10 +1,10 @@
 //! Scopes.
 
-ghost use Rattle.std.specs.Prelude.{◌≡◌, [], ◌∷◌, ◌++◌, None, Some, length, map, option_map, true, false, slice_get, IfOk, OnOk, OnErr, IfErr, IfSome};
+ghost use Rattle.std.specs.Prelude.{◌≡◌, [], ◌∷◌, ◌++◌, None, Some, length, map, take, option_map, true, false, slice_get, IfOk, OnOk, OnErr, IfErr, IfSome};
 ghost use Rattle.sb_script.specs.Scopes as meaning;
 ghost use Rattle.sb_script.specs.Symbols.{is_taken};
 ghost use Rattle.sb_sorts.specs.declared.scope.DeclareError.TheVariants.{AlreadyDeclared, NoMemory};
-ghost use Rattle.sb_sorts.specs.Scopes.{named_in, names_in, serials_in, counted, with_constant, with_mark};
+ghost use Rattle.sb_sorts.specs.Scopes.{named_in, names_in, serials_in, ascend_below, with_constant, with_mark};
 ghost use Rattle.sb_sorts.specs.NameTable.{kept_in, namings_in, named_below};
 
 use crate::names::is_theory_name;
@@ -27,20 +27,20 @@ pub enum Named {
 #[derive(Drop)]
 pub struct Scope {
     names: IndexMap<Vec<u8>, Named>,
-    /// How many constants were declared so far.
+    /// How many constants were declared so far, those too whose names were taken back.
     declared: usize,
     alloc: Global,
 }
 
 impl Model for Scope {
-    ghost use Rattle.std.specs.Prelude.{◌≡◌, map};
-    ghost use Rattle.sb_sorts.specs.Scopes.{ScopeNames, serials_in, counted};
+    ghost use Rattle.std.specs.Prelude.{◌≡◌, map, true};
+    ghost use Rattle.sb_sorts.specs.Scopes.{ScopeNames, serials_in, ascend_below};
 
     ghost Value = { ScopeNames };
 
     ghost view = { λ s. record { names = map (λ e. (e.0.items, e.1)) s.names.entries; declared = s.declared } };
 
-    ghost invariant = { λ s. serials_in (map (λ e. (e.0.items, e.1)) s.names.entries) ≡ counted 0 s.declared };
+    ghost invariant = { λ s. ascend_below 0 s.declared (serials_in (map (λ e. (e.0.items, e.1)) s.names.entries)) ≡ true };
 }
 
 impl Scope {
@@ -85,10 +85,11 @@ impl Scope {
         self.names.len()
     }
 
-    /// How many constants were declared so far: their serials are the numbers below. Takes no memory.
+    /// How many constants were declared so far, those too whose names were taken back. The serials of the constants
+    /// that are left ascend, and are below. Takes no memory.
     pub fn declared(&self) -> usize
         ensures value { result ≡ self.now.declared }
-        ensures serials { serials_in self.now.names ≡ counted 0 result }
+        ensures serials { ascend_below 0 result (serials_in self.now.names) ≡ true }
     {
         self.declared
     }
@@ -102,10 +103,12 @@ impl Scope {
         ensures taken { IfErr result (λ e. e ≡ AlreadyDeclared → is_taken (names_in self.old) name.now ≡ true) }
     {
         self.refuse_taken(name)?;
+        let Some(next) = self.declared.checked_add(1) else {
+            return Err(DeclareError::NoMemory);
+        };
         let serial = Serial(self.declared as u64);
         push_name(&mut self.names, self.alloc, name, Named::Constant(serial))?;
-        prove!(self.declared < self.names.len());
-        self.declared += 1;
+        self.declared = next;
         Ok(())
     }
 
@@ -119,6 +122,13 @@ impl Scope {
     {
         self.refuse_taken(name)?;
         push_name(&mut self.names, self.alloc, name, Named::Marked)
+    }
+
+    /// Keeps the first names, so many, and takes the others back. Serials are not given again. Takes no memory.
+    pub fn retract(&mut self, count: usize)
+        ensures { self.new ≡ record self.old { names = take count self.old.names } }
+    {
+        self.names.truncate(count);
     }
 
     /// `AlreadyDeclared` where the name is live, marked or of the theories.

@@ -1,29 +1,35 @@
 -- What the commands change, as the definitions have it, and what they keep.
-use Rattle.std.proofs.Common.{◌≡◌, ℕ, ◌+◌, ◌<◌, ◌≤◌, Bool, true, false, if◌then◌else◌, List, [], ◌∷◌, ◌++◌, map, length, get_or, zero, suc, codes, Option, Some, None, IfSome, Result, Ok, Err, IfOk, refl, ap, ap₂, sym, ◌∙◌, arith, add-one, append_assoc}
-use Rattle.std.specs.List.{All}
-use Rattle.std.proofs.lemmas.List.{map-append, append-nil}
+use Rattle.std.proofs.Common.{◌≡◌, ℕ, ◌+◌, ◌<◌, ◌≤◌, Bool, true, false, if◌then◌else◌, nat_eq, List, [], ◌∷◌, ◌++◌, map, take, drop, replicate, length, get_or, zero, suc, codes, Option, Some, None, IfSome, Result, Ok, Err, IfOk, refl, ap, ap₂, sym, subst, ◌∙◌, arith, add-one, append_assoc, length-append}
+use Rattle.std.specs.List.{All, list_all}
+use Rattle.std.proofs.lemmas.Bool.{and_parts}
+use Rattle.std.proofs.lemmas.List.{map-append, append-nil, length-map, take-map, take-append-drop}
+use Rattle.std.proofs.lemmas.List.Elements.{All-take}
 use Rattle.std.specs.declared.vec.Vec.{Vec}
 use Rattle.std.specs.declared.alloc.Global.{Global}
-use Rattle.sb_script.specs.Names.{Name}
-use Rattle.sb_meaning.specs.Terms.{Term, text}
+use Rattle.sb_script.specs.Names.{Name, name_in_text}
+use Rattle.sb_meaning.specs.Terms.{Term, Sort, text}
 use Rattle.sb_script.specs.Symbols.{is_taken}
-use Rattle.sb_script.specs.Scopes.{a_constant}
-use Rattle.sb_script.specs.State.{State, plain, declared, asserted}
+use Rattle.sb_script.specs.Scopes.{Naming, constants_in, a_constant, a_marked_name}
+use Rattle.sb_script.specs.State as state
+use Rattle.sb_script.specs.State.{State, plain, names_of, live, constants_of, declared, marked, asserted, with_assertion, pushed, popped, without_assertions, start_behind, in_level, empty_level}
 use Rattle.sb_script.specs.Errors as error
 use Rattle.sb_script.specs.Steps as meaning
+use Rattle.sb_script.specs.Replies as reply
 use Rattle.sb_term.specs.declared.assertion.Assertion.{Assertion}
 use Rattle.sb_term.specs.Numbered.{Extends}
 use Rattle.sb_term.specs.Serials.{all_below}
 use Rattle.sb_term.proofs.CallerLemmas.{extends_more, long_kept, at_kept, all_below_more}
+use Rattle.sb_sorts.specs.declared.scope.Named.{Named}
 use Rattle.sb_sorts.specs.Scopes as scopes
-use Rattle.sb_sorts.specs.Scopes.{naming_in, names_in, texts, with_constant}
+use Rattle.sb_sorts.specs.Scopes.{naming_in, names_in, serials_in, texts, with_constant, with_mark}
+use Rattle.sb_stack.specs.declared.level.Level.{Level}
 use Rattle.sb_stack.specs.declared.stack.Mode.TheVariants as mode
-use Rattle.sb_stack.specs.declared.stack.Step.{Step}
 use Rattle.sb_stack.specs.declared.stack.Step.TheVariants as step
-use Rattle.sb_stack.specs.Stacked.{Stacked, options_of, mode_in, state_of, assertion_of, assertion_in, HasNumberBelow, IsLonger}
-use Rattle.sb_stack.specs.Keeping.{IsKept, Keeps}
-use Rattle.sb_stack.specs.Steps.{IsStep}
-use Rattle.sb_stack.specs.Taking.{declares}
+use Rattle.sb_stack.specs.Stacked.{Stacked, options_of, mode_in, state_of, first_level, levels_above, assertion_of, assertion_in, have_levels, HasNumberBelow, IsLonger}
+use Rattle.sb_stack.specs.Keeping.{are_nested, asserts_of, speak_of_theirs, IsKept, Keeps, KeepsBy, Leaves}
+use Rattle.sb_stack.specs.Taking.{IsAnswered, declares}
+use Rattle.sb_stack.proofs.Levels.{names_of_levels, live_of_levels, nested_more, nested_left, one_name, one_assertion, levelled_push, first_pushed, above_pushed, nested_pushed, levelled_pushed}
+use Rattle.sb_stack.proofs.Live.{theirs_name, theirs_assertion, theirs_pushed, theirs_left}
 
 pub numbers_push : (n : ℕ) (xs : List Assertion) (a : Assertion) → All (HasNumberBelow n) xs → HasNumberBelow n a
     → All (HasNumberBelow n) (xs ++ a ∷ [])
@@ -37,24 +43,36 @@ number_more : (m n : ℕ) (o : Option ℕ) → m ≤ n → IfSome o (λ id. id <
 number_more m n (Some id) more below = omega arith
 number_more m n None more below = tt
 
--- the table grows, or a constant is declared, or an assertion is made
-pub kept_read : (declared : ℕ) (old new : List Term) (xs : List Assertion) → IsKept declared old xs → Extends old new
-    → (all_below declared old ≡ true → all_below declared new ≡ true) → IsKept declared new xs
-kept_read declared old new xs kept extends below = record {
-  numbers = λ k d l. number_more (length old) (length new) (get_or xs k d).term (long_kept old new extends)
-      (kept.numbers k d l);
-  below = below kept.below;
-}
+-- What the state has of names and assertions.
 
-pub kept_declared : (declared : ℕ) (table : List Term) (xs : List Assertion) → IsKept declared table xs
-    → IsKept (declared + 1) table xs
-kept_declared declared table xs kept =
-    record { numbers = kept.numbers; below = all_below_more declared table kept.below }
+pub names_live : (k : Stacked) → names_of (state_of k) ≡ names_in k.scope
+names_live k = names_of_levels k.levels (names_in k.scope) (map (assertion_in k.table) k.assertions)
 
-pub kept_push : (declared : ℕ) (table : List Term) (xs : List Assertion) (a : Assertion) → IsKept declared table xs
-    → HasNumberBelow (length table) a → IsKept declared table (xs ++ a ∷ [])
-kept_push declared table xs a kept here =
-    record { numbers = numbers_push (length table) xs a kept.numbers here; below = kept.below }
+pub assertions_live : (k : Stacked) → live (state_of k) ≡ map (assertion_in k.table) k.assertions
+assertions_live k = live_of_levels k.levels (names_in k.scope) (map (assertion_in k.table) k.assertions)
+
+pub constants_live : (k : Stacked) → constants_of (state_of k) ≡ constants_in (names_in k.scope)
+constants_live k = ap constants_in (names_live k)
+
+-- The same lengths, as the definitions have names and assertions.
+
+nested_names : {B : Type 0} (ls : List Level) (ns : List (Name × Named)) (bs : List B)
+    → are_nested ls (length ns) (length bs) ≡ true → are_nested ls (length (map naming_in ns)) (length bs) ≡ true
+nested_names ls ns bs h = ap (λ n. are_nested ls n (length bs)) (length-map ns naming_in) ∙ h
+
+nested_assertions : {A : Type 0} (ls : List Level) (bs : List A) (table : List Term) (xs : List Assertion)
+    → are_nested ls (length bs) (length xs) ≡ true
+    → are_nested ls (length bs) (length (map (assertion_in table) xs)) ≡ true
+nested_assertions ls bs table xs h =
+    ap (λ n. are_nested ls (length bs) n) (length-map xs (assertion_in table)) ∙ h
+
+nested_both : (k : Stacked) → are_nested k.levels (length k.scope.names) (length k.assertions) ≡ true
+    → are_nested k.levels (length (names_in k.scope)) (length (map (assertion_in k.table) k.assertions)) ≡ true
+nested_both k h =
+    nested_assertions k.levels (names_in k.scope) k.table k.assertions
+    (nested_names k.levels k.scope.names k.assertions h)
+
+-- What holds between two entries.
 
 -- assertions stay what they are in a table that grows
 assertion_kept : (old new : List Term) (o : Option ℕ) → Extends old new → IfSome o (λ id. id < length old)
@@ -69,7 +87,108 @@ assertions_kept old new (x ∷ xs) extends below =
     ap₂ (λ b bs. b ∷ bs) (assertion_kept old new x.term extends (below 0 x (omega arith)))
     (assertions_kept old new xs extends (λ k d l. below (suc k) d (omega (arith, l))))
 
-pub state_kept : (k : Stacked) (new : List Term) → IsKept k.scope.declared k.table k.assertions → Extends k.table new
+pub kept_read : (scope : scopes.ScopeNames) (old new : List Term) (xs : List Assertion) (ls : List Level)
+    → IsKept scope old xs ls → Extends old new
+    → (all_below scope.declared old ≡ true → all_below scope.declared new ≡ true) → IsKept scope new xs ls
+kept_read scope old new xs ls kept extends below = record {
+  numbers = λ k d l. number_more (length old) (length new) (get_or xs k d).term (long_kept old new extends)
+      (kept.numbers k d l);
+  below = below kept.below;
+  nested = kept.nested;
+  levelled = kept.levelled;
+  theirs = ap (speak_of_theirs ls scope.names) (assertions_kept old new xs extends kept.numbers) ∙ kept.theirs;
+}
+
+-- one more name
+kept_name : (scope next : scopes.ScopeNames) (x : Name × Named) (table : List Term) (xs : List Assertion)
+    (ls : List Level) → next.names ≡ scope.names ++ x ∷ [] → all_below next.declared table ≡ true
+    → IsKept scope table xs ls → IsKept next table xs ls
+kept_name scope next x table xs ls is below kept =
+    let more : length scope.names ≤ length next.names =
+    omega (arith, ap length is, length-append scope.names (x ∷ [])) in
+    record {
+      numbers = kept.numbers;
+      below = below;
+      nested = nested_more ls (length scope.names) (length xs) (length next.names) (length xs) more (omega arith)
+          kept.nested;
+      levelled = kept.levelled;
+      theirs = ap (λ ns. speak_of_theirs ls ns (map (assertion_in table) xs)) is
+          ∙ theirs_name ls scope.names (map (assertion_in table) xs) x
+          (nested_assertions ls scope.names table xs kept.nested) kept.theirs;
+    }
+
+pub kept_declared : (scope next : scopes.ScopeNames) (name : Name) (table : List Term) (xs : List Assertion)
+    (ls : List Level) → next ≡ with_constant name scope → IsKept scope table xs ls → IsKept next table xs ls
+kept_declared scope next name table xs ls is kept =
+    subst (λ (s : scopes.ScopeNames). IsKept s table xs ls) (sym is)
+    (kept_name scope (with_constant name scope) _ table xs ls refl (all_below_more scope.declared table kept.below) kept)
+
+pub kept_marked : (scope next : scopes.ScopeNames) (name : Name) (table : List Term) (xs : List Assertion)
+    (ls : List Level) → next ≡ with_mark name scope → IsKept scope table xs ls → IsKept next table xs ls
+kept_marked scope next name table xs ls is kept =
+    subst (λ (s : scopes.ScopeNames). IsKept s table xs ls) (sym is)
+    (kept_name scope (with_mark name scope) _ table xs ls refl kept.below kept)
+
+-- one more assertion
+pub kept_push : (scope : scopes.ScopeNames) (table : List Term) (xs new : List Assertion) (ls : List Level)
+    (a : Assertion) → new ≡ xs ++ a ∷ [] → IsKept scope table xs ls → HasNumberBelow (length table) a
+    → a.level ≡ length ls → asserts_of (serials_in scope.names) (assertion_in table a) ≡ true
+    → IsKept scope table new ls
+kept_push scope table xs new ls a is kept here level speaks =
+    let more : length xs ≤ length (xs ++ a ∷ []) = omega (arith, length-append xs (a ∷ [])) in
+    subst (λ bs. IsKept scope table bs ls) (sym is) (record {
+      numbers = numbers_push (length table) xs a kept.numbers here;
+      below = kept.below;
+      nested = nested_more ls (length scope.names) (length xs) (length scope.names) (length (xs ++ a ∷ []))
+          (omega arith) more kept.nested;
+      levelled = levelled_push ls (length scope.names) xs a kept.nested level kept.levelled;
+      theirs = ap (speak_of_theirs ls scope.names) (map-append (assertion_in table) xs (a ∷ []))
+          ∙ theirs_assertion ls scope.names (map (assertion_in table) xs) (assertion_in table a)
+          (nested_assertions ls scope.names table xs kept.nested) speaks kept.theirs;
+    })
+
+-- some more levels
+pub kept_opened : (scope : scopes.ScopeNames) (table : List Term) (xs : List Assertion) (ls new : List Level) (n : ℕ)
+    (l : Level) → l.names ≡ length scope.names → l.assertions ≡ length xs → new ≡ replicate n l ++ ls
+    → IsKept scope table xs ls → IsKept scope table xs new
+kept_opened scope table xs ls new n l names assertions is kept =
+    subst (λ levels. IsKept scope table xs levels) (sym is) (record {
+      numbers = kept.numbers;
+      below = kept.below;
+      nested = ap₂ (are_nested (replicate n l ++ ls)) (sym names) (sym assertions)
+          ∙ nested_pushed n l ls (ap₂ (are_nested ls) names assertions ∙ kept.nested);
+      levelled = levelled_pushed n l ls xs assertions kept.levelled;
+      theirs = theirs_pushed n l ls scope.names (map (assertion_in table) xs) names
+          (assertions ∙ sym (length-map xs (assertion_in table))) kept.theirs;
+    })
+
+-- one level less
+pub kept_left : (scope : scopes.ScopeNames) (table : List Term) (xs : List Assertion) (ls all : List Level) (l : Level)
+    → all ≡ l ∷ ls → IsKept scope table xs all
+    → IsKept (record scope { names = take l.names scope.names }) table (take l.assertions xs) ls
+kept_left scope table xs ls all l is given =
+    let kept : IsKept scope table xs (l ∷ ls) = subst (λ levels. IsKept scope table xs levels) is given in
+    record {
+      numbers = All-take (HasNumberBelow (length table)) l.assertions xs kept.numbers;
+      below = kept.below;
+      nested = nested_left l ls scope.names xs kept.nested;
+      levelled = left_levelled l ls xs kept.levelled;
+      theirs = ap (speak_of_theirs ls (take l.names scope.names)) (sym (take-map (assertion_in table) l.assertions xs))
+          ∙ theirs_left l ls scope.names (map (assertion_in table) xs) kept.theirs;
+    }
+  where
+    left_levelled : (l : Level) (ls : List Level) (xs : List Assertion) → have_levels (l ∷ ls) xs ≡ true
+        → have_levels ls (take l.assertions xs) ≡ true
+    left_levelled l ls xs h =
+        (and_parts (list_all (λ a. nat_eq a.level (suc (length ls))) (drop l.assertions xs))
+        (have_levels ls (take l.assertions xs)) h).1
+
+pub kept_cleared : (scope : scopes.ScopeNames) (table : List Term) → all_below scope.declared table ≡ true
+    → IsKept scope table [] []
+kept_cleared scope table below =
+    record { numbers = λ k d l. absurd (omega (arith, l)); below = below; nested = refl; levelled = refl; theirs = refl }
+
+pub state_kept : (k : Stacked) (new : List Term) → IsKept k.scope k.table k.assertions k.levels → Extends k.table new
     → state_of (record k { table = new }) ≡ state_of k
 state_kept k new kept extends =
     let same : map (assertion_in new) k.assertions ≡ map (assertion_in k.table) k.assertions =
@@ -79,9 +198,9 @@ state_kept k new kept extends =
       begun = k.begun;
       options = options_of k.print_success k.produce_models k.produce_unsat_assumptions;
       sorts = texts k.scope.declared;
-      mode = mode_in k.words k.mode;
-      first = record { names = names_in k.scope; assertions = same j };
-      above = [];
+      mode = mode_in (serials_in k.scope.names) k.words k.mode;
+      first = first_level k.levels (names_in k.scope) (same j);
+      above = levels_above k.levels (names_in k.scope) (same j);
     })
 
 -- what changes neither table nor assertions keeps all of it
@@ -96,6 +215,16 @@ keeps_parts old new table assertions words constants = record {
   words = words;
   constants = constants;
 }
+
+-- levels that are left take the last assertions with them
+pub front_of : (n : ℕ) (xs : List Assertion) → IsLonger (take n xs) xs
+front_of n xs = (drop n xs, sym (take-append-drop n xs))
+
+pub longer_both : (xs ys zs : List Assertion) → IsLonger xs ys → IsLonger ys zs → IsLonger xs zs
+longer_both xs ys zs p q = (
+  p.0 ++ q.0,
+  q.1 ∙ ap (λ bs. bs ++ q.0) p.1 ∙ append_assoc xs p.0 q.0,
+)
 
 pub keeps_read : (k : Stacked) (new : List Term) → Extends k.table new → Keeps k (record k { table = new })
 keeps_read k new extends =
@@ -124,50 +253,225 @@ length-texts : (n : ℕ) → length (texts n) ≡ n
 length-texts zero = refl
 length-texts (suc n) = ap suc (length-texts n)
 
+-- a state in which something was said, with these sorts and levels
+abbrev said_with : Stacked → List Sort → state.Level × List state.Level → State
+said_with k sorts levels = record {
+  logic_set = k.logic_set;
+  begun = true;
+  options = options_of k.print_success k.produce_models k.produce_unsat_assumptions;
+  sorts = sorts;
+  mode = plain;
+  first = levels.0;
+  above = levels.1;
+}
+
+abbrev levels_with : Stacked → List Naming → List state.Assertion → state.Level × List state.Level
+levels_with k names assertions = (first_level k.levels names assertions, levels_above k.levels names assertions)
+
 -- a constant more
-declared_is : (k : Stacked) (name : Name)
+pub declared_is : (k : Stacked) (name : Name) → IsKept k.scope k.table k.assertions k.levels
     → state_of (record k { begun = true; scope = with_constant name k.scope; mode = mode.Plain })
     ≡ declared name text (state_of k)
-declared_is k name =
+declared_is k name kept =
     let n : ℕ = k.scope.declared in
-    let sorts : texts (n + 1) ≡ texts n ++ text ∷ [] = texts_more n in
+    let bs : List state.Assertion = map (assertion_in k.table) k.assertions in
     let names : names_in (with_constant name k.scope) ≡ names_in k.scope
     ++ (name, a_constant (length (texts n)) text) ∷ [] = map-append naming_in k.scope.names _
     ∙ ap (λ m. names_in k.scope ++ (name, a_constant m text) ∷ []) (sym (length-texts n)) in
-    (λ j. record {
-      logic_set = k.logic_set;
-      begun = true;
-      options = options_of k.print_success k.produce_models k.produce_unsat_assumptions;
-      sorts = sorts j;
+    ap₂ (said_with k) (texts_more n) (ap (λ ns. levels_with k ns bs) names)
+    ∙ ap (said_with k (texts n ++ text ∷ []))
+    (one_name k.levels (names_in k.scope) bs (name, a_constant (length (texts n)) text) (nested_both k kept.nested))
+
+-- a marked name more
+pub marked_is : (k : Stacked) (name : Name) → IsKept k.scope k.table k.assertions k.levels
+    → state_of (record k { begun = true; scope = with_mark name k.scope; mode = mode.Plain })
+    ≡ marked name (state_of k)
+marked_is k name kept =
+    let bs : List state.Assertion = map (assertion_in k.table) k.assertions in
+    ap (λ ns. said_with k (texts k.scope.declared) (levels_with k ns bs)) (map-append naming_in k.scope.names _)
+    ∙ ap (said_with k (texts k.scope.declared))
+    (one_name k.levels (names_in k.scope) bs (name, a_marked_name) (nested_both k kept.nested))
+
+-- an assertion more
+pub asserted_is : (k : Stacked) (a : Assertion) → IsKept k.scope k.table k.assertions k.levels
+    → state_of (record k { begun = true; mode = mode.Plain; assertions = k.assertions ++ a ∷ [] })
+    ≡ with_assertion (assertion_in k.table a) (state_of k)
+asserted_is k a kept =
+    let bs : List state.Assertion = map (assertion_in k.table) k.assertions in
+    ap (λ more. said_with k (texts k.scope.declared) (levels_with k (names_in k.scope) more))
+    (map-append (assertion_in k.table) k.assertions (a ∷ []))
+    ∙ ap (said_with k (texts k.scope.declared))
+    (one_assertion k.levels (names_in k.scope) bs (assertion_in k.table a) (nested_both k kept.nested))
+
+-- some more levels
+pub opened_is : (k : Stacked) (n : ℕ) (l : Level) → l.names ≡ length k.scope.names
+    → l.assertions ≡ length k.assertions
+    → state_of (record k { mode = mode.Plain; levels = replicate n l ++ k.levels }) ≡ pushed n (state_of k)
+opened_is k n l names assertions =
+    let bs : List state.Assertion = map (assertion_in k.table) k.assertions in
+    let all : l.names ≡ length (names_in k.scope) = names ∙ sym (length-map k.scope.names naming_in) in
+    let here : l.assertions ≡ length bs = assertions ∙ sym (length-map k.assertions (assertion_in k.table)) in
+    let first = first_pushed n l k.levels (names_in k.scope) bs all here in
+    let above = above_pushed n l k.levels (names_in k.scope) bs all here in
+    ap₂ (λ (one : state.Level) (more : List state.Level).
+    record (state_of k) { mode = plain; first = one; above = more }) first above
+
+-- one level less
+pub left_is : (k : Stacked) (ls : List Level) (l : Level) → k.levels ≡ l ∷ ls
+    → state_of (record k {
+      mode = mode.Plain;
+      scope = record k.scope { names = take l.names k.scope.names };
+      assertions = take l.assertions k.assertions;
+      levels = ls;
+    }) ≡ popped 1 (state_of k)
+left_is k ls l is =
+    let names : names_in (record k.scope { names = take l.names k.scope.names }) ≡ take l.names (names_in k.scope) =
+    sym (take-map naming_in l.names k.scope.names) in
+    let bs : List state.Assertion = map (assertion_in k.table) k.assertions in
+    let assertions : map (assertion_in k.table) (take l.assertions k.assertions) ≡ take l.assertions bs =
+    sym (take-map (assertion_in k.table) l.assertions k.assertions) in
+    ap₂ (λ ns xs. record (state_of k) {
       mode = plain;
-      first = record { names = names j; assertions = map (assertion_in k.table) k.assertions };
-      above = [];
-    })
+      first = first_level ls ns xs;
+      above = levels_above ls ns xs;
+    }) names assertions
+    ∙ ap (λ levels. record (state_of k) {
+      mode = plain;
+      first = first_level levels (names_in k.scope) bs;
+      above = drop 1 (levels_above levels (names_in k.scope) bs);
+    }) (sym is)
+
+pub none_left_is : (k : Stacked) → k.levels ≡ [] → state_of (record k { mode = mode.Plain }) ≡ popped 1 (state_of k)
+none_left_is k is =
+    let bs : List state.Assertion = map (assertion_in k.table) k.assertions in
+    ap (λ levels. record (state_of k) { mode = plain; above = levels_above levels (names_in k.scope) bs }) is
+    ∙ ap (λ levels. record (state_of k) {
+      mode = plain;
+      above = drop 1 (levels_above levels (names_in k.scope) bs);
+    }) (sym is)
+
+-- nothing is left
+pub cleared_is : (k : Stacked) (scope : scopes.ScopeNames)
+    → scope ≡ record k.scope { names = [] }
+    → state_of (record k { mode = mode.Plain; scope = scope; assertions = []; levels = [] })
+    ≡ without_assertions (state_of k)
+cleared_is k scope is =
+    ap (λ (s : scopes.ScopeNames). state_of
+    (record k { mode = mode.Plain; scope = s; assertions = []; levels = [] })) is
+
+-- and everything is as at the start, but for the serials
+pub reset_is : (k : Stacked) (s : State) → state_of k ≡ without_assertions s
+    → state_of (record k {
+      logic_set = false;
+      begun = false;
+      print_success = true;
+      produce_models = false;
+      produce_unsat_assumptions = false;
+    }) ≡ start_behind s.sorts
+reset_is k s is =
+    ap (λ (t : State). record t { logic_set = false; begun = false; options = state.first_options }) is
 
 pub declare_step : (k : Stacked) (name : Name) (scope : scopes.ScopeNames) (answer : Vec ℕ Global)
+    → IsKept k.scope k.table k.assertions k.levels
     → is_taken (names_in k.scope) name ≡ false → scope ≡ with_constant name k.scope
     → answer.items ≡ (if k.print_success then meaning.line (codes "success") else [])
-    → IsStep (declares name (state_of k)) (step.Answer answer) (state_of k)
+    → IsAnswered (declares name (state_of k)) answer (state_of k)
     (state_of (record k { begun = true; scope = scope; mode = mode.Plain }))
-declare_step k name scope answer free is said =
+declare_step k name scope answer kept free is said =
+    let free_there : is_taken (names_of (state_of k)) name ≡ false =
+    ap (λ names. is_taken names name) (names_live k) ∙ free in
     let taken : declares name (state_of k)
     ≡ meaning.answers (if k.print_success then meaning.line (codes "success") else [])
     (declared name text (state_of k)) =
     ap (λ (b : Bool). if b then meaning.fails_by (error.already_declared name) (state_of k)
-    else meaning.succeeds (declared name text (state_of k))) free in
+    else meaning.succeeds (declared name text (state_of k))) free_there in
     rw taken (
       said,
       ap (λ (c : scopes.ScopeNames). state_of (record k { begun = true; scope = c; mode = mode.Plain })) is
-          ∙ declared_is k name,
+          ∙ declared_is k name kept,
+    )
+
+pub mark_step : (k : Stacked) (name : Name) (scope : scopes.ScopeNames) (answer : Vec ℕ Global)
+    → IsKept k.scope k.table k.assertions k.levels
+    → is_taken (names_in k.scope) name ≡ false → scope ≡ with_mark name k.scope
+    → answer.items ≡ meaning.unsupported_line
+    → IsAnswered (reply.declare_function name (state_of k)) answer (state_of k)
+    (state_of (record k { begun = true; scope = scope; mode = mode.Plain }))
+mark_step k name scope answer kept free is said =
+    let free_there : is_taken (names_of (state_of k)) name ≡ false =
+    ap (λ names. is_taken names name) (names_live k) ∙ free in
+    let taken : reply.declare_function name (state_of k)
+    ≡ meaning.answers meaning.unsupported_line (marked name (state_of k)) =
+    ap (λ (b : Bool). if b then meaning.fails_by (error.already_declared name) (state_of k)
+    else meaning.is_unsupported (marked name (state_of k))) free_there in
+    rw taken (
+      said,
+      ap (λ (c : scopes.ScopeNames). state_of (record k { begun = true; scope = c; mode = mode.Plain })) is
+          ∙ marked_is k name kept,
     )
 
 -- an answer of a part is the answer of the whole
-pub same_step : {E : Type 0} (r : Result Step E) (a b : meaning.Step) (s : State) → IfOk r (λ x. IsStep b x s s) → a ≡ b
-    → IfOk r (λ x. IsStep a x s s)
+pub same_step : {E : Type 0} (r : Result (Vec ℕ Global) E) (a b : meaning.Step) (s : State) → IfOk r (λ x. IsAnswered b x s s) → a ≡ b
+    → IfOk r (λ x. IsAnswered a x s s)
 same_step (Ok x) a b s h is = rw is h
 same_step (Err e) a b s h is = tt
 
-pub same_step_at : {E : Type 0} (r : Result Step E) (f : State → meaning.Step) (a : meaning.Step) (s : State)
-    → IfOk r (λ x. (t : State) → IsStep (f t) x t t) → a ≡ f s → IfOk r (λ x. IsStep a x s s)
+pub same_step_at : {E : Type 0} (r : Result (Vec ℕ Global) E) (f : State → meaning.Step) (a : meaning.Step) (s : State)
+    → IfOk r (λ x. (t : State) → IsAnswered (f t) x t t) → a ≡ f s → IfOk r (λ x. IsAnswered a x s s)
 same_step_at (Ok x) f a s h is = rw is (h s)
 same_step_at (Err e) f a s h is = tt
+
+-- What an entry keeps, by its step.
+
+pub keeps_answer : {E : Type 0} (answer : Vec ℕ Global) (old new : Stacked) → Keeps old new
+    → KeepsBy {E = E} (Ok (step.Answer answer)) old new
+keeps_answer answer old new k =
+    record { extends = k.extends; moved = k.grows; words = k.words; constants = k.constants }
+
+pub keeps_error : {E : Type 0} (e : E) (old new : Stacked) → Keeps old new → KeepsBy {E = E} (Err e) old new
+keeps_error e old new k =
+    record { extends = k.extends; moved = k.grows; words = k.words; constants = k.constants }
+
+pub keeps_check : {E : Type 0} (old : Stacked) → KeepsBy {E = E} (Ok step.Check) old old
+keeps_check old =
+    let k = keeps_same old in
+    record { extends = k.extends; moved = k.grows; words = k.words; constants = k.constants }
+
+pub keeps_exit : {E : Type 0} (answer : Vec ℕ Global) (old : Stacked) → KeepsBy {E = E} (Ok (step.Exit answer)) old old
+keeps_exit answer old =
+    let k = keeps_same old in
+    record { extends = k.extends; moved = k.grows; words = k.words; constants = k.constants }
+
+pub keeps_left : {E : Type 0} (answer : Vec ℕ Global) (level : Option ℕ) (old new : Stacked) → Leaves old new
+    → KeepsBy {E = E} (Ok (step.Left answer level)) old new
+keeps_left answer level old new k =
+    record { extends = k.extends; moved = k.front; words = k.words; constants = k.constants }
+
+-- A name that is taken.
+
+pub keeps_scope : (k : Stacked) (scope : scopes.ScopeNames) → scope ≡ k.scope → Keeps k (record k { scope = scope })
+keeps_scope k scope is = subst (λ (s : scopes.ScopeNames). Keeps k (record k { scope = s })) (sym is) (keeps_same k)
+
+taken_there : (k : Stacked) (name : Name) → is_taken (names_in k.scope) name ≡ true
+    → is_taken (names_of (state_of k)) name ≡ true
+taken_there k name taken = ap (λ names. is_taken names name) (names_live k) ∙ taken
+
+pub taken_constant : (k : Stacked) (name : Name) (scope : scopes.ScopeNames) (answer : Vec ℕ Global)
+    → is_taken (names_in k.scope) name ≡ true → scope ≡ k.scope
+    → answer.items ≡ meaning.error_line (codes "already declared " ++ name_in_text name)
+    → IsAnswered (declares name (state_of k)) answer (state_of k) (state_of (record k { scope = scope }))
+taken_constant k name scope answer taken is said =
+    let fails : declares name (state_of k) ≡ meaning.fails_by (error.already_declared name) (state_of k) =
+    ap (λ (b : Bool). if b then meaning.fails_by (error.already_declared name) (state_of k)
+    else meaning.succeeds (declared name text (state_of k))) (taken_there k name taken) in
+    rw fails (said, ap (λ (c : scopes.ScopeNames). state_of (record k { scope = c })) is)
+
+pub taken_function : (k : Stacked) (name : Name) (scope : scopes.ScopeNames) (answer : Vec ℕ Global)
+    → is_taken (names_in k.scope) name ≡ true → scope ≡ k.scope
+    → answer.items ≡ meaning.error_line (codes "already declared " ++ name_in_text name)
+    → IsAnswered (reply.declare_function name (state_of k)) answer (state_of k) (state_of (record k { scope = scope }))
+taken_function k name scope answer taken is said =
+    let fails : reply.declare_function name (state_of k) ≡ meaning.fails_by (error.already_declared name) (state_of k) =
+    ap (λ (b : Bool). if b then meaning.fails_by (error.already_declared name) (state_of k)
+    else meaning.is_unsupported (marked name (state_of k))) (taken_there k name taken) in
+    rw fails (said, ap (λ (c : scopes.ScopeNames). state_of (record k { scope = c })) is)

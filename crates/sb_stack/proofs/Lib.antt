@@ -1,6 +1,10 @@
-pub mod Fitting
+pub mod Levels
+pub mod Live
+pub mod ReadLive
+pub mod Lefts
+pub mod ByWords
+pub mod Numbers
 pub mod Shapes
 pub mod Items
 pub mod Printing
-pub mod Asking
 pub mod Changes

@@ -1,38 +1,9 @@
 -- The texts of values, and of lists of texts.
-use Rattle.std.proofs.Common.{◌≡◌, ℕ, ◌+◌, ◌<◌, ◌==◌, Bool, true, false, if◌then◌else◌, List, [], ◌∷◌, ◌++◌, map, length, take, slice_index_or, get_or, refl, ap, sym, ◌∙◌, arith, append_assoc, zero, suc, zero-add}
+use Rattle.std.proofs.Common.{◌≡◌, ℕ, ◌+◌, ◌<◌, Bool, if◌then◌else◌, List, [], ◌∷◌, ◌++◌, map, length, take, get_or, refl, ap, sym, ◌∙◌, arith, append_assoc}
 use Rattle.std.proofs.Math.Dec.{eqb-suc-zero}
-use Rattle.std.proofs.lemmas.Bool.Decides.{nat_tests}
 use Rattle.std.proofs.lemmas.List.{map-append, length-map, length-take-le, take_more}
-use Rattle.sb_word.specs.Literals.{literal_text}
-use Rattle.sb_meaning.specs.Terms.{text}
-use Rattle.sb_meaning.specs.Values.{Text, value_in}
-use Rattle.sb_meaning.specs.Printed.{printed}
 use Rattle.sb_script.specs.Steps.{spaced}
-use Rattle.sb_stack.specs.Stacked.{values_from}
 use Rattle.sb_stack.specs.Values.{gap_at}
-
-here : (k i : ℕ) → i ≡ 0 → (k == k + i) ≡ true
-here k i h = grind (arith, nat_tests)
-
-behind : (k i : ℕ) → (k == k + suc i) ≡ false
-behind k i = grind (arith, nat_tests)
-
-further : (k i : ℕ) → k + suc i ≡ (k + 1) + i
-further k i = omega arith
-
--- the value of a constant is the word at its serial
-value_at : (ws : List (List ℕ)) (k i : ℕ) → value_in (values_from k ws) (k + i) text ≡ Text (slice_index_or ws i [])
-value_at [] k i = refl
-value_at (w ∷ ws) k zero =
-    ap (λ (b : Bool). if b then Text w else value_in (values_from (k + 1) ws) (k + 0) text) (here k 0 refl)
-value_at (w ∷ ws) k (suc i) =
-    ap (λ (b : Bool). if b then Text w else value_in (values_from (k + 1) ws) (k + suc i) text) (behind k i)
-    ∙ ap (λ n. value_in (values_from (k + 1) ws) n text) (further k i) ∙ value_at ws (k + 1) i
-
-pub printed_at : (ws : List (List ℕ)) (i : ℕ)
-    → printed (value_in (values_from 0 ws) i text) ≡ 34 ∷ (literal_text (slice_index_or ws i []) ++ 34 ∷ [])
-printed_at ws i = ap (λ n. printed (value_in (values_from 0 ws) n text)) (sym (zero-add i))
-    ∙ ap printed (value_at ws 0 i)
 
 no_gap : (ts : List (List ℕ)) (s u : List ℕ) → gap_at (length (s ∷ ts)) ++ u ≡ 32 ∷ u
 no_gap ts s u = ap (λ (b : Bool). (if b then [] else 32 ∷ []) ++ u) (eqb-suc-zero (length ts))

@@ -6,6 +6,7 @@ use Rattle.sb_reader.specs.Forms.{Form, Keyword, Group, shape_of, shapes_in}
 use Rattle.sb_stack.specs.declared.command.Command.{Command}
 use Rattle.sb_stack.specs.declared.command.Command.TheVariants as code
 use Rattle.sb_script.specs.Names.{Name}
+use Rattle.sb_script.specs.Texts.{number_of}
 use Rattle.sb_script.specs.Commands as meaning
 
 abbrev pub forms_in : Shapes → List Form
@@ -30,9 +31,13 @@ command_in (code.GetInfo key) = meaning.get_info key.now
 command_in (code.DeclareConstant name sort) = meaning.declare_constant name.now (shape_of sort)
 command_in (code.DeclareFunction name) = meaning.declare_function name.now
 command_in (code.Assert form) = meaning.assert (shape_of form)
+command_in (code.Push digits) = meaning.push (number_of digits.now)
+command_in (code.Pop digits) = meaning.pop (number_of digits.now)
 command_in code.CheckSat = meaning.check_sat
 command_in code.GetModel = meaning.get_model
 command_in (code.GetValue forms) = meaning.get_value (forms_in forms)
 command_in (code.Echo bytes) = meaning.echo bytes.now
+command_in code.ResetAssertions = meaning.reset_assertions
+command_in code.Reset = meaning.reset
 command_in code.Exit = meaning.exit
 command_in code.Another = meaning.another

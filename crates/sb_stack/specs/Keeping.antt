@@ -1,20 +1,71 @@
 -- Private: what holds between two entries, and what an entry keeps.
-use Rattle.std.specs.Prelude.{◌≡◌, ℕ, ◌≤◌, true, List, length}
-use Rattle.std.specs.List.{All}
+use Rattle.std.specs.Prelude.{◌≡◌, ℕ, ◌<◌, ◌≤◌, Bool, true, ◌&&◌, nat_le, List, [], ◌∷◌, map, take, drop, length, Option, Some, None, Result}
+use Rattle.std.specs.List.{list_all, All}
 use Rattle.sb_meaning.specs.Terms.{Term}
+use Rattle.sb_script.specs.Names.{Name}
+use Rattle.sb_script.specs.State as meaning
 use Rattle.sb_term.specs.declared.assertion.Assertion.{Assertion}
-use Rattle.sb_term.specs.Numbered.{Extends}
+use Rattle.sb_term.specs.Numbered.{term_at, Extends}
 use Rattle.sb_term.specs.Serials.{all_below}
-use Rattle.sb_stack.specs.Stacked.{Stacked, HasNumberBelow, IsLonger}
+use Rattle.sb_sorts.specs.Scopes.{ScopeNames, serials_in}
+use Rattle.sb_sorts.specs.declared.scope.Named.{Named}
+use Rattle.sb_stack.specs.declared.level.Level.{Level}
+use Rattle.sb_stack.specs.declared.stack.Step.{Step}
+use Rattle.sb_stack.specs.Speaking.{speaks_of}
+use Rattle.sb_stack.specs.Stacked.{Stacked, HasNumberBelow, IsLonger, assertion_in, have_levels}
+use Rattle.sb_stack.specs.Steps.{IsMoved}
 
--- assertions have numbers of the table, whose terms speak of declared constants
-pub record IsKept (declared : ℕ) (table : List Term) (assertions : List Assertion) : Type 0 where
+-- levels began one within the other, and the innermost with at most so many names and assertions
+abbrev pub are_nested : List Level → ℕ → ℕ → Bool
+are_nested [] names assertions = true
+are_nested (l ∷ ls) names assertions =
+    (nat_le l.names names && nat_le l.assertions assertions) && are_nested ls l.names l.assertions
+
+-- the assertion, where it is no mark, speaks of these constants alone
+abbrev pub asserts_of : List ℕ → meaning.Assertion → Bool
+asserts_of ns (meaning.asserted t) = speaks_of ns t
+asserts_of ns meaning.a_mark = true
+
+-- each assertion speaks of the constants of its level and of those below alone
+abbrev pub speak_of_theirs : List Level → List (Name × Named) → List meaning.Assertion → Bool
+speak_of_theirs [] names assertions = list_all (asserts_of (serials_in names)) assertions
+speak_of_theirs (l ∷ ls) names assertions =
+    list_all (asserts_of (serials_in names)) (drop l.assertions assertions)
+    && speak_of_theirs ls (take l.names names) (take l.assertions assertions)
+
+-- assertions have numbers of the table, whose terms speak of declared constants; they stand on their levels, and speak of
+-- what was declared there
+pub record IsKept (scope : ScopeNames) (table : List Term) (assertions : List Assertion)
+    (levels : List Level) : Type 0 where
   pub numbers : All (HasNumberBelow (length table)) assertions
-  pub below : all_below declared table ≡ true
+  pub below : all_below scope.declared table ≡ true
+  pub nested : are_nested levels (length scope.names) (length assertions) ≡ true
+  pub levelled : have_levels levels assertions ≡ true
+  pub theirs : speak_of_theirs levels scope.names (map (assertion_in table) assertions) ≡ true
 
 -- what is known by number and by place stays so
 pub record Keeps (old new : Stacked) : Type 0 where
   pub extends : Extends old.table new.table
   pub grows : IsLonger old.assertions new.assertions
+  pub words : new.words ≡ old.words
+  pub constants : old.scope.declared ≤ new.scope.declared
+
+-- and so does what is known by the place of an assertion that is left, where levels are left
+pub record KeepsBy {E : Type 0} (result : Result Step E) (old new : Stacked) : Type 0 where
+  pub extends : Extends old.table new.table
+  pub moved : IsMoved result old.assertions new.assertions
+  pub words : new.words ≡ old.words
+  pub constants : old.scope.declared ≤ new.scope.declared
+
+-- the number, where there is one, is of a term of the table that speaks of live constants alone
+abbrev pub StandsFor : Stacked → Option ℕ → Type 0
+StandsFor kept (Some id) =
+    (id < length kept.table) × (speaks_of (serials_in kept.scope.names) (term_at kept.table id) ≡ true)
+StandsFor kept None = Unit {0}
+
+-- where levels are left: what is known by number stays, and what is known by the place of an assertion that is left
+pub record Leaves (old new : Stacked) : Type 0 where
+  pub extends : Extends old.table new.table
+  pub front : IsLonger new.assertions old.assertions
   pub words : new.words ≡ old.words
   pub constants : old.scope.declared ≤ new.scope.declared

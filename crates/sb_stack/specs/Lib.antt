@@ -1,5 +1,6 @@
 pub mod Commands
 pub mod Stacked
+pub mod Speaking
 pub mod Keeping
 pub mod Steps
 pub mod Taking

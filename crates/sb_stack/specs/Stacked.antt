@@ -1,5 +1,6 @@
 -- What the code keeps, as the state that the definitions have.
-use Rattle.std.specs.Prelude.{◌≡◌, ℕ, ◌+◌, ◌<◌, Bool, true, false, ◌&&◌, List, [], ◌∷◌, ◌++◌, map, Option, Some, None, IfSome}
+use Rattle.std.specs.Prelude.{◌≡◌, ℕ, suc, ◌<◌, Bool, true, false, ◌&&◌, ◌==◌, List, [], ◌∷◌, ◌++◌, map, take, drop, length, get_or, Option, Some, None, IfSome}
+use Rattle.std.specs.List.{list_all}
 use Rattle.sb_word.specs.Words.{are_characters}
 use Rattle.sb_meaning.specs.Terms.{Term}
 use Rattle.sb_meaning.specs.Values.{Valuation, Text}
@@ -7,7 +8,9 @@ use Rattle.sb_script.specs.State as meaning
 use Rattle.sb_term.specs.declared.assertion.Assertion.{Assertion}
 use Rattle.sb_term.specs.Numbered.{term_at}
 use Rattle.sb_sorts.specs.Scopes as scopes
-use Rattle.sb_sorts.specs.Scopes.{names_in, texts}
+use Rattle.sb_sorts.specs.Scopes.{names_in, serials_in, texts}
+use Rattle.sb_script.specs.Scopes.{Naming}
+use Rattle.sb_stack.specs.declared.level.Level.{Level}
 use Rattle.sb_stack.specs.declared.stack.Mode.{Mode}
 use Rattle.sb_stack.specs.declared.stack.Mode.TheVariants as mode
 
@@ -21,24 +24,26 @@ pub record Stacked : Type 0 where
   pub mode : Mode
   -- the words of the last check that found some, unless they were taken; they count where the mode says so
   pub words : List (List ℕ)
-  -- the terms by number, and the assertions, in order
+  -- the terms by number, and the live assertions, in order
   pub table : List Term
   pub assertions : List Assertion
+  -- where the levels above the first one began, the innermost first
+  pub levels : List Level
 
--- words as the values of constants, from this serial on
-abbrev pub values_from : ℕ → List (List ℕ) → Valuation
-values_from serial [] = []
-values_from serial (w ∷ ws) = (serial, Text w) ∷ values_from (serial + 1) ws
+-- words, the one of each constant at its serial, as the values of these constants; past the last word is the empty one
+abbrev pub values_at : List ℕ → List (List ℕ) → Valuation
+values_at serials words = map (λ n. (n, Text (get_or words n []))) serials
 
 abbrev pub are_words : List (List ℕ) → Bool
 are_words [] = true
 are_words (w ∷ ws) = are_characters w && are_words ws
 
-abbrev pub mode_in : List (List ℕ) → Mode → meaning.Mode
-mode_in words mode.Plain = meaning.plain
-mode_in words mode.Sat = meaning.satisfied (values_from 0 words)
-mode_in words mode.Unsat = meaning.refuted []
-mode_in words mode.Unknown = meaning.undecided
+-- the values are of the constants of these serials
+abbrev pub mode_in : List ℕ → List (List ℕ) → Mode → meaning.Mode
+mode_in serials words mode.Plain = meaning.plain
+mode_in serials words mode.Sat = meaning.satisfied (values_at serials words)
+mode_in serials words mode.Unsat = meaning.refuted []
+mode_in serials words mode.Unknown = meaning.undecided
 
 abbrev pub assertion_of : List Term → Option ℕ → meaning.Assertion
 assertion_of ts (Some id) = meaning.asserted (term_at ts id)
@@ -57,22 +62,41 @@ options_of print_success produce_models produce_unsat_assumptions = record {
   resource_limit = 0;
 }
 
+-- what names and assertions are of the first level
+abbrev pub first_level : List Level → List Naming → List meaning.Assertion → meaning.Level
+first_level [] names assertions = record { names = names; assertions = assertions }
+first_level (l ∷ ls) names assertions = first_level ls (take l.names names) (take l.assertions assertions)
+
+-- and of those above it, the innermost first
+abbrev pub levels_above : List Level → List Naming → List meaning.Assertion → List meaning.Level
+levels_above [] names assertions = []
+levels_above (l ∷ ls) names assertions =
+    record { names = drop l.names names; assertions = drop l.assertions assertions }
+    ∷ levels_above ls (take l.names names) (take l.assertions assertions)
+
+-- each assertion has the number of its level, 0 of the first one
+abbrev pub have_levels : List Level → List Assertion → Bool
+have_levels [] assertions = list_all (λ a. a.level == 0) assertions
+have_levels (l ∷ ls) assertions =
+    list_all (λ a. a.level == suc (length ls)) (drop l.assertions assertions)
+    && have_levels ls (take l.assertions assertions)
+
 abbrev pub state_of : Stacked → meaning.State
 state_of kept = record {
   logic_set = kept.logic_set;
   begun = kept.begun;
   options = options_of kept.print_success kept.produce_models kept.produce_unsat_assumptions;
   sorts = texts kept.scope.declared;
-  mode = mode_in kept.words kept.mode;
-  first = record { names = names_in kept.scope; assertions = map (assertion_in kept.table) kept.assertions };
-  above = [];
+  mode = mode_in (serials_in kept.scope.names) kept.words kept.mode;
+  first = first_level kept.levels (names_in kept.scope) (map (assertion_in kept.table) kept.assertions);
+  above = levels_above kept.levels (names_in kept.scope) (map (assertion_in kept.table) kept.assertions);
 }
 
 -- the number of the assertion's term, where it is no mark, is below this
 abbrev pub HasNumberBelow : ℕ → Assertion → Type 0
 HasNumberBelow n a = IfSome a.term (λ id. id < n)
 
--- the old assertions stay in their places
+-- the old ones stay in their places
 abbrev pub IsLonger : List Assertion → List Assertion → Type 0
 IsLonger old new = (more : List Assertion) × (new ≡ old ++ more)
 

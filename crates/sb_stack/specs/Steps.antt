@@ -1,11 +1,12 @@
 -- What the answers of the code say.
-use Rattle.std.specs.Prelude.{◌≡◌, []}
+use Rattle.std.specs.Prelude.{◌≡◌, ℕ, List, [], Option, Some, None, Result, Ok, Err}
 use Rattle.sb_reader.specs.declared.feed.Next.{Next}
 use Rattle.sb_reader.specs.declared.feed.Next.TheVariants as next
 use Rattle.sb_reader.specs.declared.feed.Refusal.TheVariants.{BareToken}
 use Rattle.sb_reader.specs.Forms.{form_of}
 use Rattle.sb_reader.specs.Entries as entries
 use Rattle.sb_script.specs.State.{State}
+use Rattle.sb_term.specs.declared.assertion.Assertion.{Assertion}
 use Rattle.sb_script.specs.Steps as meaning
 use Rattle.sb_script.specs.Verdicts as finding
 use Rattle.sb_stack.specs.declared.stack.Step.{Step}
@@ -13,7 +14,7 @@ use Rattle.sb_stack.specs.declared.stack.Step.TheVariants as code
 use Rattle.sb_stack.specs.declared.verdict.Verdict.{Verdict}
 use Rattle.sb_stack.specs.declared.verdict.Verdict.TheVariants as verdict
 use Rattle.sb_stack.specs.declared.stack.Mode.TheVariants as mode
-use Rattle.sb_stack.specs.Stacked.{Stacked, values_from}
+use Rattle.sb_stack.specs.Stacked.{Stacked, values_at, IsLonger}
 
 -- what comes next is an entry
 abbrev pub IsEntry : Next → Type 0
@@ -29,11 +30,12 @@ entry_of (next.Refused refusal) = entries.Refused refusal
 entry_of next.NotYet = entries.Refused BareToken
 entry_of (next.Ended ending) = entries.Refused BareToken
 
-abbrev pub verdict_in : Verdict → finding.Verdict
-verdict_in (verdict.Sat words) = finding.is_sat (values_from 0 words.items)
-verdict_in verdict.Unsat = finding.is_unsat []
-verdict_in verdict.Unknown = finding.is_unknown
-verdict_in verdict.Outside = finding.is_outside
+-- the verdict, where the live constants have these serials
+abbrev pub verdict_in : List ℕ → Verdict → finding.Verdict
+verdict_in serials (verdict.Sat words) = finding.is_sat (values_at serials words.items)
+verdict_in serials verdict.Unsat = finding.is_unsat []
+verdict_in serials verdict.Unknown = finding.is_unknown
+verdict_in serials verdict.Outside = finding.is_outside
 
 -- what is kept after a verdict: the words of the last one that had some
 abbrev pub found : Verdict → Stacked → Stacked
@@ -42,9 +44,24 @@ found verdict.Unsat kept = record kept { mode = mode.Unsat }
 found verdict.Unknown kept = record kept { mode = mode.Unknown }
 found verdict.Outside kept = record kept { mode = mode.Plain }
 
+-- what is left of the assertions: those of levels above this one, or all
+abbrev pub leaving_in : Option ℕ → meaning.Leaving
+leaving_in (Some level) = meaning.above level
+leaving_in None = meaning.all
+
 -- The step that the definitions have is taken. A check is one without assumptions. A check and an exit leave the state.
 abbrev pub IsStep : meaning.Step → Step → State → State → Type 0
+IsStep (meaning.leaves what bytes s) (code.Left text level) old new =
+    (text.items ≡ bytes) × ((what ≡ leaving_in level) × (new ≡ s))
 IsStep (meaning.answers bytes s) (code.Answer text) old new = (text.items ≡ bytes) × (new ≡ s)
 IsStep (meaning.checks []) code.Check old new = new ≡ old
 IsStep (meaning.exits bytes) (code.Exit text) old new = (text.items ≡ bytes) × (new ≡ old)
 IsStep _ _ old new = ⊥
+
+-- Assertions keep their places: where levels are left the last ones go, else there are none less.
+abbrev pub IsMoved : {E : Type 0} → Result Step E → List Assertion → List Assertion → Type 0
+IsMoved (Ok (code.Left text level)) old new = IsLonger new old
+IsMoved (Ok (code.Answer text)) old new = IsLonger old new
+IsMoved (Ok code.Check) old new = IsLonger old new
+IsMoved (Ok (code.Exit text)) old new = IsLonger old new
+IsMoved (Err e) old new = IsLonger old new

@@ -1,15 +1,23 @@
 -- Private: what the parts of taking a command do: for private contracts alone.
-use Rattle.std.specs.Prelude.{Bool, if◌then◌else◌, List, map, Some, None, Result, Ok, Err}
+use Rattle.std.specs.Prelude.{ℕ, Bool, true, false, if◌then◌else◌, List, Some, None, Result, Ok, Err}
+use Rattle.std.specs.declared.vec.Vec.{Vec}
+use Rattle.std.specs.declared.alloc.Global.{Global}
 use Rattle.sb_script.specs.Names.{Name}
 use Rattle.sb_meaning.specs.Terms.{Term, boolean, text}
-use Rattle.sb_meaning.specs.Values.{Valuation}
 use Rattle.sb_script.specs.Symbols.{is_taken}
 use Rattle.sb_script.specs.Faults.{Fault}
 use Rattle.sb_meaning.specs.Sorts.{sort_of, is_same_sort}
 use Rattle.sb_script.specs.State.{State, asserted, names_of, declared, with_assertion}
 use Rattle.sb_script.specs.Errors as error
-use Rattle.sb_script.specs.Steps.{Step, answers, fails_by, succeeds, is_unsupported, refused_term, line, list_text}
-use Rattle.sb_script.specs.Replies.{value_text, Item, some_malformed, first_unknown, all_constants, values_of}
+use Rattle.sb_script.specs.Steps.{Step, fails_by, succeeds, refused_term}
+use Rattle.sb_script.specs.Replies.{Item, some_malformed, first_unknown, values_of}
+use Rattle.sb_stack.specs.declared.stack.Step.TheVariants as code
+use Rattle.sb_stack.specs.Stacked.{Stacked}
+use Rattle.sb_stack.specs.Steps.{IsStep}
+
+-- the step that the definitions have is an answer, these bytes
+abbrev pub IsAnswered : Step → Vec ℕ Global → State → State → Type 0
+IsAnswered step answer old new = IsStep step (code.Answer answer) old new
 
 abbrev pub with_print_success : State → Bool → State
 with_print_success s b = record s { options = record s.options { print_success = b } }
@@ -33,13 +41,18 @@ asserts reading s = elim reading [
   | Err fault ↦ refused_term fault s
 ]
 
-abbrev pub answers_values : Valuation → List Item → State → Step
-answers_values v items s =
-    elim (all_constants items)
-    [ Some cs ↦ answers (line (list_text (map (value_text v) cs))) s | None ↦ is_unsupported s ]
-
 -- what is answered to a question for values, by what is asked for
 abbrev pub asks : List Item → State → Step
 asks items s =
     if some_malformed items then fails_by error.malformed_command s
     else elim (first_unknown items) [ Some name ↦ fails_by (error.unknown_symbol name) s | None ↦ values_of items s ]
+
+-- no logic is set, nothing is begun, and options are as at the start
+abbrev pub at_start : Stacked → Stacked
+at_start kept = record kept {
+  logic_set = false;
+  begun = false;
+  print_success = true;
+  produce_models = false;
+  produce_unsat_assumptions = false;
+}

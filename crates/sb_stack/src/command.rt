@@ -26,12 +26,17 @@ pub(crate) enum Command<'a> {
     /// A declaration or definition of a function, which is left out.
     DeclareFunction(&'a [u8]),
     Assert(Shape<'a>),
+    /// So many levels, by the digits of their number.
+    Push(&'a [u8]),
+    Pop(&'a [u8]),
     CheckSat,
     GetModel,
     /// The terms whose values are asked for.
     GetValue(Shapes<'a>),
     /// The text, as it was written between its quotes.
     Echo(&'a [u8]),
+    ResetAssertions,
+    Reset,
     Exit,
     /// A command that is left out.
     Another,

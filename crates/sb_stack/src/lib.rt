@@ -3,11 +3,14 @@
 //!
 //! A [`Stack`] takes one entry of a script after another, and answers it, or says that a check is asked for
 //! or the run ends. Contracts see it as the state that the definitions have, with the table of terms that assertions
-//! are numbers of. What is known of a term by its number, or of an assertion by its place, stays so from entry to
+//! are numbers of. What is known of a term by its number, or of a live assertion by its place, stays so from entry to
 //! entry. The session above decides the checks by the live assertions, and settles them.
 #![tactic(auto)]
 
+mod asking;
 mod command;
+mod leaving;
+mod level;
 mod name;
 mod option;
 mod reply;

@@ -1,41 +1,39 @@
 //! The stack.
 
-ghost use Rattle.std.specs.Prelude.{◌≡◌, ℕ, ◌<◌, ◌≤◌, List, [], true, map, length, Result, IfOk, OnErr, MatchResult};
-ghost use Rattle.std.specs.List.{All};
+ghost use Rattle.std.specs.Prelude.{◌≡◌, ℕ, ◌≤◌, List, [], true, map, length, Result, IfOk, OnOk, OnErr};
+ghost use Rattle.std.specs.List.{All, list_all};
 ghost use Rattle.sb_reader.specs.Entries as entries;
 ghost use Rattle.sb_reader.specs.Forms.{form_of, shape_of};
 ghost use Rattle.sb_meaning.specs.Terms as terms;
-ghost use Rattle.sb_meaning.specs.Values.{Valuation};
 ghost use Rattle.sb_script.specs.Faults.{Fault, unsupported};
 ghost use Rattle.sb_script.specs.Reading.{read};
-ghost use Rattle.sb_script.specs.State.{State, start, live, constants_of, fits, plain};
+ghost use Rattle.sb_script.specs.Scopes.{constants_in};
+ghost use Rattle.sb_script.specs.State.{State, start, live, live_terms, names_of, constants_of, fits, plain, with_assertion};
 ghost use Rattle.sb_script.specs.Replies as meaning;
 ghost use Rattle.sb_script.specs.Steps as steps;
 ghost use Rattle.sb_script.specs.Options as options;
 ghost use Rattle.sb_script.specs.Replies.{step_of};
 ghost use Rattle.sb_script.specs.Verdicts.{verdict_text, settled};
 ghost use Rattle.sb_sorts.specs.Reads.{ReadsAs, Faults};
-ghost use Rattle.sb_sorts.specs.Scopes.{names_in};
+ghost use Rattle.sb_sorts.specs.Scopes.{names_in, serials_in, ascend_below};
 ghost use Rattle.sb_term.specs.Numbered.{term_at, Extends};
 ghost use Rattle.sb_term.specs.Serials.{all_below};
-ghost use Rattle.sb_stack.specs.Commands.{command_in, forms_in};
-ghost use Rattle.sb_stack.specs.Keeping.{Keeps};
-ghost use Rattle.sb_stack.specs.Stacked.{state_of, assertion_in, values_from, are_words, HasNumberBelow, IsLonger, without_words};
-ghost use Rattle.sb_stack.specs.Steps.{verdict_in, found, IsStep, IsEntry, entry_of};
-ghost use Rattle.sb_stack.specs.Taking.{with_print_success, with_produce_models, with_produce_assumptions, declares, asserts, asks, answers_values};
-ghost use Rattle.sb_stack.specs.Values.{item_in};
+ghost use Rattle.sb_stack.specs.Commands.{command_in};
+ghost use Rattle.sb_stack.specs.Keeping.{Keeps, KeepsBy, StandsFor};
+ghost use Rattle.sb_stack.specs.Speaking.{speaks_of};
+ghost use Rattle.sb_stack.specs.Stacked.{state_of, assertion_of, assertion_in, values_at, are_words, have_levels, HasNumberBelow, without_words};
+ghost use Rattle.sb_stack.specs.Steps.{verdict_in, found, IsStep, IsMoved, IsEntry, entry_of};
+ghost use Rattle.sb_stack.specs.Taking.{IsAnswered, with_print_success, with_produce_models, with_produce_assumptions, declares, asserts};
 
 use crate::command::{Command, command_of};
-use crate::option::{info_line, is_logic, sort_of, truth_in};
+use crate::level::Level;
+use crate::option::{is_logic, sort_of, truth_in};
 use crate::reply::{
-    error_line, error_line_with_name, quoted_line, refusal_text, success_line, truth_line,
-    unsupported_line,
-};
-use crate::value::{
-    Item, all_constants, constants, first_unknown, items, model_line, some_malformed, values_line,
+    error_line, error_line_with_name, quoted_line, refusal_text, success_line, unsupported_line,
 };
 use crate::verdict::Verdict;
-use sb_reader::{Next, Sexpr, Shape, Shapes};
+use sb_reader::{Next, Sexpr, Shape};
+use sb_script::laws::reading_keeps;
 use sb_sorts::{DeclareError, ReadFault, Scope, read_term};
 use sb_term::{Assertion, Sort, Table, TermId};
 use sb_word::Word;
@@ -45,7 +43,7 @@ use std::mem;
 
 /// What the last check found, until the script says something new.
 #[derive(Clone, Copy, Debug)]
-enum Mode {
+pub(crate) enum Mode {
     Plain,
     /// The last words are a model.
     Sat,
@@ -60,6 +58,9 @@ pub enum Step {
     Answer(Vec<u8>),
     /// A check is asked for: `settle` answers it.
     Check,
+    /// Levels are left, with what was declared and asserted there: it is answered by these bytes, and so many levels
+    /// above the first one are left. None: all names and assertions went.
+    Left(Vec<u8>, Option<usize>),
     /// The run ends, with these bytes as its last answer.
     Exit(Vec<u8>),
 }
@@ -67,23 +68,26 @@ pub enum Step {
 /// The state of a script between two commands.
 #[derive(Drop)]
 pub struct Stack {
-    alloc: Global,
-    logic_set: bool,
+    pub(crate) alloc: Global,
+    pub(crate) logic_set: bool,
     /// A logic was set, or something declared or asserted.
-    begun: bool,
-    print_success: bool,
-    produce_models: bool,
-    produce_unsat_assumptions: bool,
-    scope: Scope,
-    mode: Mode,
+    pub(crate) begun: bool,
+    pub(crate) print_success: bool,
+    pub(crate) produce_models: bool,
+    pub(crate) produce_unsat_assumptions: bool,
+    pub(crate) scope: Scope,
+    pub(crate) mode: Mode,
     /// The word of each constant at its serial, as the last check that found some had it.
-    words: Vec<Word>,
-    table: Table,
-    assertions: Vec<Assertion>,
+    pub(crate) words: Vec<Word>,
+    pub(crate) table: Table,
+    pub(crate) assertions: Vec<Assertion>,
+    /// The levels above the first one, the outermost first.
+    pub(crate) levels: Vec<Level>,
 }
 
 impl Model for Stack {
     ghost use Rattle.sb_stack.specs.Stacked.{Stacked};
+    ghost use Rattle.std.specs.Prelude.{reverse};
     ghost use Rattle.std.specs.Coded.{codes};
     ghost use Rattle.sb_meaning.proofs.CallerLemmas.{coded_term};
     ghost use Rattle.sb_stack.specs.Keeping.{IsKept};
@@ -103,9 +107,10 @@ impl Model for Stack {
       words = s.words.items;
       table = s.table;
       assertions = s.assertions.items;
+      levels = reverse s.levels.items;
     } };
 
-    ghost invariant = { λ s. IsKept s.scope.declared s.table s.assertions.items };
+    ghost invariant = { λ s. IsKept s.scope s.table s.assertions.items (reverse s.levels.items) };
 }
 
 #[tactic(auto, using(crate::proofs::Changes::keeps_parts, crate::proofs::Changes::keeps_more))]
@@ -116,6 +121,7 @@ impl Stack {
         ensures assertions { result.assertions ≡ [] }
         ensures words { result.words ≡ [] }
         ensures table { result.table ≡ [] }
+        ensures levels { result.levels ≡ [] }
     {
         Stack {
             alloc,
@@ -129,12 +135,13 @@ impl Stack {
             words: Vec::new(alloc),
             table: Table::new(alloc),
             assertions: Vec::new(alloc),
+            levels: Vec::new(alloc),
         }
     }
 
     /// Takes the next entry of the script, and answers it, unless it asks for a check. Linear in the entry, and in
-    /// the answer. Terms and assertions keep their numbers and places, whatever the answer; where memory runs out the
-    /// table may hold parts of a term that was not asserted.
+    /// the answer. Terms and live assertions keep their numbers and places, whatever the answer; where levels are left
+    /// the last assertions go. Where memory runs out the table may hold parts of a term that was not asserted.
     pub fn apply(&mut self, entry: &Next) -> Result<Step, AllocError>
         requires { IsEntry entry.now }
         ensures ok { IfOk result
@@ -142,7 +149,7 @@ impl Stack {
             (state_of self.new)) }
         ensures err { OnErr result (state_of self.new ≡ state_of self.old) }
         ensures extends { Extends self.old.table self.new.table }
-        ensures grows { IsLonger self.old.assertions self.new.assertions }
+        ensures grows { IsMoved result self.old.assertions self.new.assertions }
         ensures words { self.new.words ≡ self.old.words }
         ensures constants { self.old.scope.declared ≤ self.new.scope.declared }
     {
@@ -156,7 +163,7 @@ impl Stack {
             (λ step. IsStep (step_of (entry_of entry.now) (state_of self.old)) step (state_of self.old)
             (state_of self.new)) }
         ensures err { OnErr result (state_of self.new ≡ state_of self.old) }
-        ensures keeps { Keeps self.old self.new }
+        ensures keeps { KeepsBy result self.old self.new }
     {
         match entry {
             Next::Command(form) => self.run(form),
@@ -174,7 +181,7 @@ impl Stack {
             (λ step. IsStep (meaning.step_of (entries.Command (form_of form.now)) (state_of self.old)) step
             (state_of self.old) (state_of self.new)) }
         ensures err { OnErr result (state_of self.new ≡ state_of self.old) }
-        ensures keeps { Keeps self.old self.new }
+        ensures keeps { KeepsBy result self.old self.new }
     {
         match command_of(form) {
             Some(command) => self.take(command),
@@ -182,53 +189,60 @@ impl Stack {
         }
     }
 
+    #[tactic(auto, using(crate::proofs::Changes::keeps_answer, crate::proofs::Changes::keeps_error, crate::proofs::Changes::keeps_check, crate::proofs::Changes::keeps_exit, crate::proofs::Changes::keeps_same))]
     fn take(&mut self, command: Command) -> Result<Step, AllocError>
         ensures ok { IfOk result
             (λ step. IsStep (meaning.step (command_in command.entry) (state_of self.old)) step (state_of self.old)
             (state_of self.new)) }
         ensures err { OnErr result (state_of self.new ≡ state_of self.old) }
-        ensures keeps { Keeps self.old self.new }
+        ensures keeps { KeepsBy result self.old self.new }
     {
         match command {
-            Command::SetLogic(name) => self.set_logic(name),
-            Command::SetOption(key, value) => self.set_option(key, value),
-            Command::GetOption(key) => self.get_option(key),
-            Command::SetInfo => self.succeed(),
-            Command::GetInfo(key) => self.get_info(key),
-            Command::DeclareConstant(name, sort) => self.declare_constant(name, sort),
-            Command::DeclareFunction(name) => self.declare_function(name),
-            Command::Assert(form) => self.assert(form),
+            Command::SetLogic(name) => Ok(Step::Answer(self.set_logic(name)?)),
+            Command::SetOption(key, value) => Ok(Step::Answer(self.set_option(key, value)?)),
+            Command::GetOption(key) => Ok(Step::Answer(self.get_option(key)?)),
+            Command::SetInfo => Ok(Step::Answer(self.succeed()?)),
+            Command::GetInfo(key) => Ok(Step::Answer(self.get_info(key)?)),
+            Command::DeclareConstant(name, sort) => {
+                Ok(Step::Answer(self.declare_constant(name, sort)?))
+            }
+            Command::DeclareFunction(name) => Ok(Step::Answer(self.declare_function(name)?)),
+            Command::Assert(form) => Ok(Step::Answer(self.assert(form)?)),
+            Command::Push(count) => Ok(Step::Answer(self.push(count)?)),
+            Command::Pop(count) => self.pop(count),
             Command::CheckSat => Ok(Step::Check),
-            Command::GetModel => self.get_model(),
-            Command::GetValue(forms) => self.get_value(forms),
+            Command::GetModel => Ok(Step::Answer(self.get_model()?)),
+            Command::GetValue(forms) => Ok(Step::Answer(self.get_value(forms)?)),
             Command::Echo(text) => Ok(Step::Answer(quoted_line(self.alloc, text)?)),
+            Command::ResetAssertions => self.reset_assertions(),
+            Command::Reset => self.reset(),
             Command::Exit => self.exit(),
-            Command::Another => leave_out(self.alloc),
+            Command::Another => Ok(Step::Answer(unsupported_line(self.alloc)?)),
         }
     }
 
-    fn set_logic(&mut self, name: &[u8]) -> Result<Step, AllocError>
+    fn set_logic(&mut self, name: &[u8]) -> Result<Vec<u8>, AllocError>
         ensures ok { IfOk result
-            (λ step. IsStep (options.set_logic name.now (state_of self.old)) step (state_of self.old)
+            (λ text. IsAnswered (options.set_logic name.now (state_of self.old)) text (state_of self.old)
             (state_of self.new)) }
         ensures err { OnErr result (state_of self.new ≡ state_of self.old) }
         ensures keeps { Keeps self.old self.new }
     {
         if self.logic_set {
-            return Ok(Step::Answer(error_line(self.alloc, b"logic already set")?));
+            return Ok(error_line(self.alloc, b"logic already set")?);
         }
         if !is_logic(name) {
-            return leave_out(self.alloc);
+            return Ok(unsupported_line(self.alloc)?);
         }
         let answer = success_line(self.alloc, self.print_success)?;
         self.logic_set = true;
         self.begun = true;
-        Ok(Step::Answer(answer))
+        Ok(answer)
     }
 
-    fn set_option(&mut self, key: &[u8], value: Shape<'_>) -> Result<Step, AllocError>
+    fn set_option(&mut self, key: &[u8], value: Shape<'_>) -> Result<Vec<u8>, AllocError>
         ensures ok { IfOk result
-            (λ step. IsStep (options.set_option key.now (shape_of value.entry) (state_of self.old)) step
+            (λ text. IsAnswered (options.set_option key.now (shape_of value.entry) (state_of self.old)) text
             (state_of self.old) (state_of self.new)) }
         ensures err { OnErr result (state_of self.new ≡ state_of self.old) }
         ensures keeps { Keeps self.old self.new }
@@ -242,132 +256,86 @@ impl Stack {
         } else if key == b":global-declarations".as_slice() {
             self.set_global_declarations(value)
         } else {
-            leave_out(self.alloc)
+            Ok(unsupported_line(self.alloc)?)
         }
     }
 
     /// Sets `:print-success`. The answer goes by the new value.
-    fn set_print_success(&mut self, value: Shape<'_>) -> Result<Step, AllocError>
+    fn set_print_success(&mut self, value: Shape<'_>) -> Result<Vec<u8>, AllocError>
         ensures ok { IfOk result
-            (λ step. IsStep
-            (options.with_truth (shape_of value.entry) (with_print_success (state_of self.old)) (state_of self.old)) step
+            (λ text. IsAnswered
+            (options.with_truth (shape_of value.entry) (with_print_success (state_of self.old)) (state_of self.old)) text
             (state_of self.old) (state_of self.new)) }
         ensures err { OnErr result (state_of self.new ≡ state_of self.old) }
         ensures keeps { Keeps self.old self.new }
     {
         let Some(printed) = truth_in(value) else {
-            return Ok(Step::Answer(error_line(self.alloc, b"bad option value")?));
+            return Ok(error_line(self.alloc, b"bad option value")?);
         };
         let answer = success_line(self.alloc, printed)?;
         self.print_success = printed;
-        Ok(Step::Answer(answer))
+        Ok(answer)
     }
 
-    fn set_produce_models(&mut self, value: Shape<'_>) -> Result<Step, AllocError>
+    fn set_produce_models(&mut self, value: Shape<'_>) -> Result<Vec<u8>, AllocError>
         ensures ok { IfOk result
-            (λ step. IsStep
-            (options.with_truth (shape_of value.entry) (with_produce_models (state_of self.old)) (state_of self.old)) step
+            (λ text. IsAnswered
+            (options.with_truth (shape_of value.entry) (with_produce_models (state_of self.old)) (state_of self.old)) text
             (state_of self.old) (state_of self.new)) }
         ensures err { OnErr result (state_of self.new ≡ state_of self.old) }
         ensures keeps { Keeps self.old self.new }
     {
         let Some(produced) = truth_in(value) else {
-            return Ok(Step::Answer(error_line(self.alloc, b"bad option value")?));
+            return Ok(error_line(self.alloc, b"bad option value")?);
         };
         let answer = success_line(self.alloc, self.print_success)?;
         self.produce_models = produced;
-        Ok(Step::Answer(answer))
+        Ok(answer)
     }
 
-    fn set_produce_assumptions(&mut self, value: Shape<'_>) -> Result<Step, AllocError>
+    fn set_produce_assumptions(&mut self, value: Shape<'_>) -> Result<Vec<u8>, AllocError>
         ensures ok { IfOk result
-            (λ step. IsStep
+            (λ text. IsAnswered
             (options.with_truth (shape_of value.entry) (with_produce_assumptions (state_of self.old))
-            (state_of self.old)) step (state_of self.old) (state_of self.new)) }
+            (state_of self.old)) text (state_of self.old) (state_of self.new)) }
         ensures err { OnErr result (state_of self.new ≡ state_of self.old) }
         ensures keeps { Keeps self.old self.new }
     {
         let Some(produced) = truth_in(value) else {
-            return Ok(Step::Answer(error_line(self.alloc, b"bad option value")?));
+            return Ok(error_line(self.alloc, b"bad option value")?);
         };
         let answer = success_line(self.alloc, self.print_success)?;
         self.produce_unsat_assumptions = produced;
-        Ok(Step::Answer(answer))
+        Ok(answer)
     }
 
     /// Sets `:global-declarations`, which is false and stays so.
-    fn set_global_declarations(&self, value: Shape<'_>) -> Result<Step, AllocError>
+    fn set_global_declarations(&self, value: Shape<'_>) -> Result<Vec<u8>, AllocError>
         ensures { IfOk result
-            (λ step. IsStep (options.set_global_declarations (shape_of value.entry) (state_of self.now)) step
+            (λ text. IsAnswered (options.set_global_declarations (shape_of value.entry) (state_of self.now)) text
             (state_of self.now) (state_of self.now)) }
     {
         if self.begun {
-            return Ok(Step::Answer(error_line(self.alloc, b"option set too late")?));
+            return Ok(error_line(self.alloc, b"option set too late")?);
         }
         match truth_in(value) {
-            Some(true) => leave_out(self.alloc),
-            Some(false) => self.succeed(),
-            None => Ok(Step::Answer(error_line(self.alloc, b"bad option value")?)),
+            Some(true) => Ok(unsupported_line(self.alloc)?),
+            Some(false) => Ok(success_line(self.alloc, self.print_success)?),
+            None => Ok(error_line(self.alloc, b"bad option value")?),
         }
     }
 
     /// Succeeds, and changes nothing.
-    fn succeed(&self) -> Result<Step, AllocError>
+    fn succeed(&self) -> Result<Vec<u8>, AllocError>
         ensures { IfOk result
-            (λ step. IsStep (steps.succeeds (state_of self.now)) step (state_of self.now) (state_of self.now)) }
+            (λ text. IsAnswered (steps.succeeds (state_of self.now)) text (state_of self.now) (state_of self.now)) }
     {
-        Ok(Step::Answer(success_line(self.alloc, self.print_success)?))
+        Ok(success_line(self.alloc, self.print_success)?)
     }
 
-    fn get_option(&self, key: &[u8]) -> Result<Step, AllocError>
-        ensures { IfOk result
-            (λ step. IsStep (options.get_option key.now (state_of self.now)) step (state_of self.now)
-            (state_of self.now)) }
-    {
-        if key == b":print-success".as_slice() {
-            answer_truth(self.alloc, self.print_success)
-        } else if key == b":produce-models".as_slice() {
-            answer_truth(self.alloc, self.produce_models)
-        } else if key == b":produce-unsat-assumptions".as_slice() {
-            answer_truth(self.alloc, self.produce_unsat_assumptions)
-        } else if key == b":global-declarations".as_slice() {
-            answer_truth(self.alloc, false)
-        } else {
-            leave_out(self.alloc)
-        }
-    }
-
-    fn get_info(&self, key: &[u8]) -> Result<Step, AllocError>
-        ensures { IfOk result
-            (λ step. IsStep (options.get_info key.now (state_of self.now)) step (state_of self.now)
-            (state_of self.now)) }
-    {
-        if key == b":reason-unknown".as_slice() {
-            return self.reason_unknown();
-        }
-        match info_line(key) {
-            Some(line) => answer_bytes(self.alloc, line),
-            None => leave_out(self.alloc),
-        }
-    }
-
-    /// Says why the last check was not decided.
-    fn reason_unknown(&self) -> Result<Step, AllocError>
-        ensures { IfOk result
-            (λ step. IsStep (options.reason_unknown (state_of self.now).mode (state_of self.now)) step
-            (state_of self.now) (state_of self.now)) }
-    {
-        match self.mode {
-            Mode::Unknown => answer_bytes(self.alloc, b"(:reason-unknown resource-limit)\n"),
-            Mode::Plain | Mode::Sat | Mode::Unsat => {
-                Ok(Step::Answer(error_line(self.alloc, b"no unknown answer")?))
-            }
-        }
-    }
-
-    fn declare_constant(&mut self, name: &[u8], sort: Shape<'_>) -> Result<Step, AllocError>
+    fn declare_constant(&mut self, name: &[u8], sort: Shape<'_>) -> Result<Vec<u8>, AllocError>
         ensures ok { IfOk result
-            (λ step. IsStep (meaning.declare_constant name.now (shape_of sort.entry) (state_of self.old)) step
+            (λ text. IsAnswered (meaning.declare_constant name.now (shape_of sort.entry) (state_of self.old)) text
             (state_of self.old) (state_of self.new)) }
         ensures err { OnErr result (state_of self.new ≡ state_of self.old) }
         ensures keeps { Keeps self.old self.new }
@@ -379,9 +347,9 @@ impl Stack {
     }
 
     /// Declares a constant of sort String.
-    fn declare(&mut self, name: &[u8]) -> Result<Step, AllocError>
+    fn declare(&mut self, name: &[u8]) -> Result<Vec<u8>, AllocError>
         ensures ok { IfOk result
-            (λ step. IsStep (declares name.now (state_of self.old)) step (state_of self.old) (state_of self.new)) }
+            (λ text. IsAnswered (declares name.now (state_of self.old)) text (state_of self.old) (state_of self.new)) }
         ensures err { OnErr result (state_of self.new ≡ state_of self.old) }
         ensures keeps { Keeps self.old self.new }
     {
@@ -390,19 +358,19 @@ impl Stack {
             Ok(()) => {
                 self.begun = true;
                 self.mode = Mode::Plain;
-                Ok(Step::Answer(answer))
+                Ok(answer)
             }
             Err(DeclareError::AlreadyDeclared) => {
-                Ok(Step::Answer(error_line_with_name(self.alloc, b"already declared ", name)?))
+                Ok(error_line_with_name(self.alloc, b"already declared ", name)?)
             }
             Err(DeclareError::NoMemory) => Err(AllocError),
         }
     }
 
     /// Marks a name whose declaration or definition is left out.
-    fn declare_function(&mut self, name: &[u8]) -> Result<Step, AllocError>
+    fn declare_function(&mut self, name: &[u8]) -> Result<Vec<u8>, AllocError>
         ensures ok { IfOk result
-            (λ step. IsStep (meaning.declare_function name.now (state_of self.old)) step (state_of self.old)
+            (λ text. IsAnswered (meaning.declare_function name.now (state_of self.old)) text (state_of self.old)
             (state_of self.new)) }
         ensures err { OnErr result (state_of self.new ≡ state_of self.old) }
         ensures keeps { Keeps self.old self.new }
@@ -412,18 +380,18 @@ impl Stack {
             Ok(()) => {
                 self.begun = true;
                 self.mode = Mode::Plain;
-                Ok(Step::Answer(answer))
+                Ok(answer)
             }
             Err(DeclareError::AlreadyDeclared) => {
-                Ok(Step::Answer(error_line_with_name(self.alloc, b"already declared ", name)?))
+                Ok(error_line_with_name(self.alloc, b"already declared ", name)?)
             }
             Err(DeclareError::NoMemory) => Err(AllocError),
         }
     }
 
-    fn assert(&mut self, form: Shape<'_>) -> Result<Step, AllocError>
+    fn assert(&mut self, form: Shape<'_>) -> Result<Vec<u8>, AllocError>
         ensures ok { IfOk result
-            (λ step. IsStep (meaning.assert (shape_of form.entry) (state_of self.old)) step (state_of self.old)
+            (λ text. IsAnswered (meaning.assert (shape_of form.entry) (state_of self.old)) text (state_of self.old)
             (state_of self.new)) }
         ensures err { OnErr result (state_of self.new ≡ state_of self.old) }
         ensures keeps { Keeps self.old self.new }
@@ -436,145 +404,80 @@ impl Stack {
 
     /// Reads a term. Only the table grows.
     fn read(&mut self, form: Shape<'_>) -> Result<TermId, ReadFault>
-        ensures reads { ReadsAs self.new.table (read (names_in self.old.scope) (shape_of form.entry)) result }
+        ensures reads { ReadsAs self.new.table (read (names_of (state_of self.old)) (shape_of form.entry)) result }
+        ensures stands { IfOk result (λ term. StandsFor self.new (Some term)) }
         ensures state { state_of self.new ≡ state_of self.old }
         ensures keeps { Keeps self.old self.new }
     {
+        reading_keeps();
         read_term(self.alloc, &mut self.table, &self.scope, form)
     }
 
-    fn assert_term(&mut self, term: TermId) -> Result<Step, AllocError>
-        requires { term < length self.old.table }
+    fn assert_term(&mut self, term: TermId) -> Result<Vec<u8>, AllocError>
+        requires { StandsFor self.old (Some term) }
         ensures ok { IfOk result
-            (λ step. IsStep (asserts (Ok (term_at self.old.table term)) (state_of self.old)) step (state_of self.old)
+            (λ text. IsAnswered (asserts (Ok (term_at self.old.table term)) (state_of self.old)) text (state_of self.old)
             (state_of self.new)) }
         ensures err { OnErr result (state_of self.new ≡ state_of self.old) }
         ensures keeps { Keeps self.old self.new }
     {
         if self.table.sort(term) != Sort::Bool {
-            return Ok(Step::Answer(error_line(self.alloc, b"wrong sort")?));
+            return Ok(error_line(self.alloc, b"wrong sort")?);
         }
         let answer = success_line(self.alloc, self.print_success)?;
-        let assertion = Assertion {
-            term: Some(term),
-            level: 0,
-        };
-        self.assertions.push(assertion)?;
-        self.begun = true;
-        self.mode = Mode::Plain;
-        Ok(Step::Answer(answer))
+        self.add_assertion(Some(term))?;
+        Ok(answer)
     }
 
     /// Answers a form that is no term. One that is left out leaves a mark.
-    fn refuse_term(&mut self, fault: ReadFault) -> Result<Step, AllocError>
-        ensures ok { IfOk result (λ step. (reading : Result terms.Term Fault) → Faults reading fault
-            → IsStep (asserts reading (state_of self.old)) step (state_of self.old) (state_of self.new)) }
+    fn refuse_term(&mut self, fault: ReadFault) -> Result<Vec<u8>, AllocError>
+        ensures ok { IfOk result (λ text. (reading : Result terms.Term Fault) → Faults reading fault
+            → IsAnswered (asserts reading (state_of self.old)) text (state_of self.old) (state_of self.new)) }
         ensures err { OnErr result (state_of self.new ≡ state_of self.old) }
         ensures keeps { Keeps self.old self.new }
     {
         match fault {
-            ReadFault::UnknownSymbol(name) => Ok(Step::Answer(error_line_with_name(
+            ReadFault::UnknownSymbol(name) => Ok(error_line_with_name(
                 self.alloc,
                 b"unknown symbol ",
                 &name,
-            )?)),
-            ReadFault::WrongSort => Ok(Step::Answer(error_line(self.alloc, b"wrong sort")?)),
-            ReadFault::WrongCount => Ok(Step::Answer(error_line(
-                self.alloc,
-                b"wrong number of arguments",
-            )?)),
-            ReadFault::BadIndex => Ok(Step::Answer(error_line(self.alloc, b"bad index")?)),
+            )?),
+            ReadFault::WrongSort => Ok(error_line(self.alloc, b"wrong sort")?),
+            ReadFault::WrongCount => Ok(error_line(self.alloc, b"wrong number of arguments")?),
+            ReadFault::BadIndex => Ok(error_line(self.alloc, b"bad index")?),
             ReadFault::Unsupported => self.leave_mark(),
-            ReadFault::BadLiteral => Ok(Step::Answer(error_line(self.alloc, b"bad token")?)),
-            ReadFault::Malformed => Ok(Step::Answer(error_line(self.alloc, b"malformed command")?)),
+            ReadFault::BadLiteral => Ok(error_line(self.alloc, b"bad token")?),
+            ReadFault::Malformed => Ok(error_line(self.alloc, b"malformed command")?),
             ReadFault::NoMemory => Err(AllocError),
         }
     }
 
+    /// Puts an assertion behind the others, on the innermost level: a term of sort Bool, or a mark.
+    fn add_assertion(&mut self, term: Option<TermId>) -> Result<(), AllocError>
+        requires { StandsFor self.old term }
+        ensures ok { OnOk result
+            (state_of self.new ≡ with_assertion (assertion_of self.old.table term) (state_of self.old)) }
+        ensures err { OnErr result (state_of self.new ≡ state_of self.old) }
+        ensures keeps { Keeps self.old self.new }
+    {
+        let level = self.levels.len() as u64;
+        self.assertions.push(Assertion { term, level })?;
+        self.begun = true;
+        self.mode = Mode::Plain;
+        Ok(())
+    }
+
     /// Leaves a mark in the place of an assertion.
-    fn leave_mark(&mut self) -> Result<Step, AllocError>
+    fn leave_mark(&mut self) -> Result<Vec<u8>, AllocError>
         ensures ok { IfOk result
-            (λ step. IsStep (steps.refused_term unsupported (state_of self.old)) step (state_of self.old)
+            (λ text. IsAnswered (steps.refused_term unsupported (state_of self.old)) text (state_of self.old)
             (state_of self.new)) }
         ensures err { OnErr result (state_of self.new ≡ state_of self.old) }
         ensures keeps { Keeps self.old self.new }
     {
         let answer = unsupported_line(self.alloc)?;
-        let mark = Assertion {
-            term: None,
-            level: 0,
-        };
-        self.assertions.push(mark)?;
-        self.begun = true;
-        self.mode = Mode::Plain;
-        Ok(Step::Answer(answer))
-    }
-
-    /// The words of the last check, or why there are none.
-    fn model(&self) -> Result<&[Word], &'static [u8]>
-        ensures { MatchResult result (λ words. (answer : Valuation → steps.Step)
-            → meaning.with_values (state_of self.now) answer ≡ answer (values_from 0 words.now))
-            (λ message. (answer : Valuation → steps.Step)
-            → meaning.with_values (state_of self.now) answer ≡ steps.fails message.now (state_of self.now)) }
-    {
-        if !self.produce_models {
-            return Err(b"models not enabled");
-        }
-        match self.mode {
-            Mode::Sat => Ok(&self.words),
-            Mode::Plain | Mode::Unsat | Mode::Unknown => Err(b"no model"),
-        }
-    }
-
-    fn get_model(&self) -> Result<Step, AllocError>
-        ensures { IfOk result
-            (λ step. IsStep (meaning.get_model (state_of self.now)) step (state_of self.now) (state_of self.now)) }
-    {
-        match self.model() {
-            Ok(words) => {
-                let constants = constants(self.alloc, &self.scope)?;
-                Ok(Step::Answer(model_line(self.alloc, words, &constants)?))
-            }
-            Err(message) => Ok(Step::Answer(error_line(self.alloc, message)?)),
-        }
-    }
-
-    fn get_value(&self, forms: Shapes<'_>) -> Result<Step, AllocError>
-        ensures { IfOk result
-            (λ step. IsStep (meaning.get_value (forms_in forms.entry) (state_of self.now)) step (state_of self.now)
-            (state_of self.now)) }
-    {
-        let items = items(self.alloc, &self.scope, forms)?;
-        self.answer_items(&items)
-    }
-
-    fn answer_items(&self, items: &[Item]) -> Result<Step, AllocError>
-        ensures { IfOk result
-            (λ step. IsStep (asks (map item_in items.now) (state_of self.now)) step (state_of self.now)
-            (state_of self.now)) }
-    {
-        if some_malformed(items) {
-            return Ok(Step::Answer(error_line(self.alloc, b"malformed command")?));
-        }
-        match first_unknown(items) {
-            Some(name) => {
-                let answer = error_line_with_name(self.alloc, b"unknown symbol ", name)?;
-                Ok(Step::Answer(answer))
-            }
-            None => self.values_of(items),
-        }
-    }
-
-    /// Answers a question for items that all stand for something.
-    fn values_of(&self, items: &[Item]) -> Result<Step, AllocError>
-        ensures { IfOk result
-            (λ step. IsStep (meaning.values_of (map item_in items.now) (state_of self.now)) step (state_of self.now)
-            (state_of self.now)) }
-    {
-        match self.model() {
-            Ok(words) => answer_values(self.alloc, words, items),
-            Err(message) => Ok(Step::Answer(error_line(self.alloc, message)?)),
-        }
+        self.add_assertion(None)?;
+        Ok(answer)
     }
 
     fn exit(&self) -> Result<Step, AllocError>
@@ -598,16 +501,28 @@ impl Stack {
         ensures live { map (assertion_in self.now.table) result.now ≡ live (state_of self.now) }
         ensures numbers { All (HasNumberBelow (length self.now.table)) self.now.assertions }
         ensures declared { all_below self.now.scope.declared self.now.table ≡ true }
+        ensures levels { have_levels self.now.levels self.now.assertions ≡ true }
+        ensures named { list_all (speaks_of (serials_in self.now.scope.names)) (live_terms (state_of self.now)) ≡ true }
     {
         self.assertions.as_slice()
     }
 
-    /// How many constants are declared: their serials are the numbers below, and a word for each of them fits the
-    /// state. Takes no memory.
+    /// The names in force, in the order of declaration: those of the live constants with their serials. Takes no
+    /// memory.
+    pub fn scope(&self) -> &Scope
+        ensures { result.now ≡ self.now.scope }
+    {
+        &self.scope
+    }
+
+    /// How many constants were declared, those too that went with their levels: all serials are below. The serials of
+    /// the live constants ascend, and words, the one of each at its serial, fit the state. Takes no memory.
     pub fn declared(&self) -> usize
         ensures value { result ≡ self.now.scope.declared }
-        ensures fit { (words : List (List ℕ)) → length words ≡ result → are_words words ≡ true
-            → fits (constants_of (state_of self.now)) (values_from 0 words) ≡ true }
+        ensures serials { ascend_below 0 result (serials_in self.now.scope.names) ≡ true }
+        ensures constants { constants_of (state_of self.now) ≡ constants_in (names_in self.now.scope) }
+        ensures fit { (words : List (List ℕ)) → are_words words ≡ true
+            → fits (constants_of (state_of self.now)) (values_at (serials_in self.now.scope.names) words) ≡ true }
     {
         self.scope.declared()
     }
@@ -626,8 +541,9 @@ impl Stack {
     /// Answers a check by what it found, and keeps it for the questions after it. The words of an earlier `Sat` stay
     /// where this verdict has none. Takes no memory.
     pub fn settle(&mut self, verdict: Verdict) -> &'static [u8]
-        ensures reply { result.now ≡ verdict_text (verdict_in verdict) }
-        ensures state { state_of self.new ≡ settled (verdict_in verdict) (state_of self.old) }
+        ensures reply { result.now ≡ verdict_text (verdict_in (serials_in self.old.scope.names) verdict) }
+        ensures state { state_of self.new
+            ≡ settled (verdict_in (serials_in self.old.scope.names) verdict) (state_of self.old) }
         ensures kept { self.new ≡ found verdict self.old }
     {
         match verdict {
@@ -649,38 +565,5 @@ impl Stack {
                 b"unsupported\n"
             }
         }
-    }
-}
-
-/// Answers a command that is left out, and changes nothing.
-fn leave_out(alloc: Global) -> Result<Step, AllocError>
-    ensures { IfOk result (λ step. (s : State) → IsStep (steps.is_unsupported s) step s s) }
-{
-    Ok(Step::Answer(unsupported_line(alloc)?))
-}
-
-/// Answers these bytes, and changes nothing.
-fn answer_bytes(alloc: Global, bytes: &[u8]) -> Result<Step, AllocError>
-    ensures { IfOk result (λ step. (s : State) → IsStep (steps.answers bytes.now s) step s s) }
-{
-    Ok(Step::Answer(Vec::from_slice(alloc, bytes)?))
-}
-
-/// Answers the value of an option, and changes nothing.
-fn answer_truth(alloc: Global, value: bool) -> Result<Step, AllocError>
-    ensures { IfOk result
-        (λ step. (s : State) → IsStep (steps.answers (steps.line (options.truth_text value)) s) step s s) }
-{
-    Ok(Step::Answer(truth_line(alloc, value)?))
-}
-
-/// Answers with the values of items, where all are constants.
-fn answer_values(alloc: Global, words: &[Word], items: &[Item]) -> Result<Step, AllocError>
-    ensures { IfOk result (λ step. (s : State)
-        → IsStep (answers_values (values_from 0 words.now) (map item_in items.now) s) step s s) }
-{
-    match all_constants(alloc, items)? {
-        Some(constants) => Ok(Step::Answer(values_line(alloc, words, &constants)?)),
-        None => leave_out(alloc),
     }
 }

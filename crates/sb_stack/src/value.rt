@@ -1,18 +1,14 @@
 //! Constants with their values, and what is asked for (SMT-LIB 2.6, section 4.2.6).
 
-ghost use Rattle.std.specs.Prelude.{◌≡◌, ◌++◌, [], map, option_map, option_copied, slice_index_or, IfOk, OnOk};
+ghost use Rattle.std.specs.Prelude.{◌≡◌, ◌++◌, [], map, option_map, option_copied, get_or, IfOk, OnOk};
 ghost use Rattle.sb_reader.specs.Forms.{shape_of, Symbol};
 ghost use Rattle.sb_word.specs.Literals.{literal_text};
-ghost use Rattle.sb_meaning.specs.Terms.{text as of_text};
-ghost use Rattle.sb_meaning.specs.Values.{value_in};
-ghost use Rattle.sb_meaning.specs.Printed.{printed};
 ghost use Rattle.sb_script.specs.Scopes.{constants_in};
 ghost use Rattle.sb_script.specs.Replies as meaning;
 ghost use Rattle.sb_script.specs.Steps.{line, list_text};
 ghost use Rattle.sb_sorts.specs.Scopes.{names_in};
 ghost use Rattle.sb_stack.specs.Commands.{forms_in};
-ghost use Rattle.sb_stack.specs.Stacked.{values_from};
-ghost use Rattle.sb_stack.specs.Values.{constant_in, asked_in, item_in, with_names, gap_at};
+ghost use Rattle.sb_stack.specs.Values.{constant_in, asked_in, item_in, with_names, gap_at, value_literal, definition_by, value_by};
 
 use crate::name::push_name;
 use sb_reader::{Shape, Shapes};
@@ -166,7 +162,7 @@ fn push_literal_at(
     words: &[Word],
     place: usize,
 ) -> Result<(), AllocError>
-    ensures { OnOk result (text.new.items ≡ text.old.items ++ literal_text (slice_index_or words.now place [])) }
+    ensures { OnOk result (text.new.items ≡ text.old.items ++ literal_text (get_or words.now place [])) }
 {
     match words.get(place) {
         Some(word) => push_literal(alloc, text, word),
@@ -175,15 +171,13 @@ fn push_literal_at(
 }
 
 /// Appends the value of a constant, as a literal between quotes. A constant without a word has the empty one.
-#[tactic(auto, using(crate::proofs::Printing::printed_at))]
 fn push_value(
     alloc: Global,
     text: &mut Vec<u8>,
     words: &[Word],
     serial: Serial,
 ) -> Result<(), AllocError>
-    ensures { OnOk result
-        (text.new.items ≡ text.old.items ++ printed (value_in (values_from 0 words.now) serial.0 of_text)) }
+    ensures { OnOk result (text.new.items ≡ text.old.items ++ value_literal words.now serial.0) }
 {
     text.push(b'"')?;
     push_literal_at(alloc, text, words, serial.0 as usize)?;
@@ -199,8 +193,7 @@ fn push_definition(
     constant: &Constant,
 ) -> Result<(), AllocError>
     ensures { OnOk result
-        (text.new.items ≡ text.old.items
-        ++ meaning.definition_text (values_from 0 words.now) (constant_in constant.now)) }
+        (text.new.items ≡ text.old.items ++ definition_by words.now (constant_in constant.now)) }
 {
     text.extend_from_slice(b"(define-fun ")?;
     push_name(text, constant.name)?;
@@ -218,7 +211,7 @@ fn push_answer(
     constant: &Constant,
 ) -> Result<(), AllocError>
     ensures { OnOk result
-        (text.new.items ≡ text.old.items ++ meaning.value_text (values_from 0 words.now) (asked_in constant.now)) }
+        (text.new.items ≡ text.old.items ++ value_by words.now (asked_in constant.now)) }
 {
     text.push(b'(')?;
     push_name(text, constant.name)?;
@@ -247,7 +240,7 @@ pub(crate) fn model_line(
     ensures { IfOk result
         (λ text. text.items
         ≡ line
-        (list_text (map (meaning.definition_text (values_from 0 words.now)) (map constant_in constants.now)))) }
+        (list_text (map (definition_by words.now) (map constant_in constants.now)))) }
 {
     let mut text = Vec::from_slice(alloc, b"(")?;
     for (place, constant) in constants.iter().enumerate() {
@@ -267,7 +260,7 @@ pub(crate) fn values_line(
     ensures { IfOk result
         (λ text. text.items
         ≡ line
-        (list_text (map (meaning.value_text (values_from 0 words.now)) (map asked_in constants.now)))) }
+        (list_text (map (value_by words.now) (map asked_in constants.now)))) }
 {
     let mut text = Vec::from_slice(alloc, b"(")?;
     for (place, constant) in constants.iter().enumerate() {

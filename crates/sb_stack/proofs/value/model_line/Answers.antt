@@ -1,11 +1,9 @@
-use Rattle.sb_script.specs.Replies.{definition_text}
-use Rattle.sb_stack.specs.Stacked.{values_from}
-use Rattle.sb_stack.specs.Values.{constant_in}
+use Rattle.sb_stack.specs.Values.{constant_in, definition_by}
 use Rattle.sb_stack.proofs.Printing.{line_step}
 use Rattle.sb_stack.proofs.value.model_line.Goals as goal
 
 pub loop-place-preserved : goal.loop-place-preserved
 loop-place-preserved c =
-    line_step (definition_text (values_from 0 c.args.words.now)) constant_in c.args.constants.now c.loop-place.place _
+    line_step (definition_by c.args.words.now) constant_in c.args.constants.now c.loop-place.place _
     c.loop-place.text.items c.push_gap.new.text.items c.push_definition.new.text.items c.loop-place-test.true
     c.loop-place.invariant c.in_ok-push_gap.ensures c.in_ok-push_definition.ensures

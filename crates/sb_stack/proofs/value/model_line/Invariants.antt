@@ -1,11 +1,9 @@
 use Rattle.std.proofs.Common.{◌≡◌, ◌∷◌, map, take}
-use Rattle.sb_script.specs.Replies.{definition_text}
 use Rattle.sb_script.specs.Steps.{spaced}
-use Rattle.sb_stack.specs.Stacked.{values_from}
-use Rattle.sb_stack.specs.Values.{constant_in}
+use Rattle.sb_stack.specs.Values.{constant_in, definition_by}
 use Rattle.sb_stack.proofs.value.model_line.Given as goal
 
 abbrev pub invariant-loop-place : goal.invariant-loop-place
 invariant-loop-place l =
     l.text.items
-    ≡ 40 ∷ spaced (map (definition_text (values_from 0 l.words)) (map constant_in (take l.place l.constants)))
+    ≡ 40 ∷ spaced (map (definition_by l.words) (map constant_in (take l.place l.constants)))

@@ -1,10 +1,8 @@
 use Rattle.std.proofs.Common.{◌≡◌, ◌∷◌, map, take}
-use Rattle.sb_script.specs.Replies.{value_text}
 use Rattle.sb_script.specs.Steps.{spaced}
-use Rattle.sb_stack.specs.Stacked.{values_from}
-use Rattle.sb_stack.specs.Values.{asked_in}
+use Rattle.sb_stack.specs.Values.{asked_in, value_by}
 use Rattle.sb_stack.proofs.value.values_line.Given as goal
 
 abbrev pub invariant-loop-place : goal.invariant-loop-place
 invariant-loop-place l =
-    l.text.items ≡ 40 ∷ spaced (map (value_text (values_from 0 l.words)) (map asked_in (take l.place l.constants)))
+    l.text.items ≡ 40 ∷ spaced (map (value_by l.words) (map asked_in (take l.place l.constants)))

@@ -1,9 +1,40 @@
-use Rattle.std.proofs.Common.{◌∙◌, sym, ap}
-use Rattle.sb_sorts.specs.Scopes.{counted}
-use Rattle.sb_stack.proofs.Fitting.{fitting}
+use Rattle.std.proofs.Common.{reverse}
+use Rattle.sb_stack.specs.Stacked.{Stacked}
+use Rattle.sb_stack.proofs.Changes.{constants_live}
+use Rattle.sb_stack.proofs.Live.{fitting}
 use Rattle.sb_stack.proofs.stack.Stack.declared.Goals as goal
+
+pub returns-clause-constants : goal.returns-clause-constants
+returns-clause-constants c =
+    let kept : Stacked = record {
+      logic_set = c.self.inside.logic_set;
+      begun = c.self.inside.begun;
+      print_success = c.self.inside.print_success;
+      produce_models = c.self.inside.produce_models;
+      produce_unsat_assumptions = c.self.inside.produce_unsat_assumptions;
+      scope = c.self.inside.scope;
+      mode = c.self.inside.mode;
+      words = c.self.inside.words.items;
+      table = c.self.inside.table;
+      assertions = c.self.inside.assertions.items;
+      levels = reverse c.self.inside.levels.items;
+    } in
+    rw (← c.self.view_is) (constants_live kept)
 
 pub returns-clause-fit : goal.returns-clause-fit
 returns-clause-fit c =
+    let kept : Stacked = record {
+      logic_set = c.self.inside.logic_set;
+      begun = c.self.inside.begun;
+      print_success = c.self.inside.print_success;
+      produce_models = c.self.inside.produce_models;
+      produce_unsat_assumptions = c.self.inside.produce_unsat_assumptions;
+      scope = c.self.inside.scope;
+      mode = c.self.inside.mode;
+      words = c.self.inside.words.items;
+      table = c.self.inside.table;
+      assertions = c.self.inside.assertions.items;
+      levels = reverse c.self.inside.levels.items;
+    } in
     rw (← c.self.view_is)
-    (λ words h w. fitting c.self.inside.scope.names 0 words (c.declared.ensures.serials ∙ ap (counted 0) (sym h)) w)
+    (λ words w. rw (constants_live kept) (fitting c.self.inside.scope.names words w))

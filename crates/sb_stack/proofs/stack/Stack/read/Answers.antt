@@ -1,13 +1,41 @@
-use Rattle.std.proofs.Common.{ap, subst, ◌∙◌}
+use Rattle.std.proofs.Common.{reverse, ap, sym, subst, ◌∙◌}
+use Rattle.sb_reader.specs.Forms.{shape_of}
+use Rattle.sb_script.specs.Reading.{read}
+use Rattle.sb_script.specs.State.{names_of}
+use Rattle.sb_sorts.specs.Reads.{ReadsAs}
 use Rattle.sb_stack.specs.Stacked.{Stacked, state_of}
 use Rattle.sb_stack.specs.Keeping.{Keeps}
-use Rattle.sb_stack.proofs.Changes.{kept_read, state_kept, keeps_read}
+use Rattle.sb_stack.proofs.Changes.{kept_read, state_kept, keeps_read, names_live}
+use Rattle.sb_stack.proofs.ReadLive.{read_stands}
 use Rattle.sb_stack.proofs.stack.Stack.read.Goals as goal
 
 pub invariant_of-self : goal.invariant_of-self
 invariant_of-self c =
-    kept_read c.self.inside.scope.declared c.self.inside.table c.read_term.new.table c.self.inside.assertions.items
-    c.self.invariant c.read_term.ensures.extends c.read_term.ensures.declared
+    kept_read c.self.inside.scope c.self.inside.table c.read_term.new.table c.self.inside.assertions.items
+    (reverse c.self.inside.levels.items) c.self.invariant c.read_term.ensures.extends c.read_term.ensures.declared
+
+pub returns-clause-reads : goal.returns-clause-reads
+returns-clause-reads c =
+    let kept : Stacked = record {
+      logic_set = c.self.inside.logic_set;
+      begun = c.self.inside.begun;
+      print_success = c.self.inside.print_success;
+      produce_models = c.self.inside.produce_models;
+      produce_unsat_assumptions = c.self.inside.produce_unsat_assumptions;
+      scope = c.self.inside.scope;
+      mode = c.self.inside.mode;
+      words = c.self.inside.words.items;
+      table = c.self.inside.table;
+      assertions = c.self.inside.assertions.items;
+      levels = reverse c.self.inside.levels.items;
+    } in
+    subst (λ ns. ReadsAs c.read_term.new.table (read ns (shape_of c.args.form)) c.read_term.result)
+    (sym (names_live kept) ∙ ap (λ (k : Stacked). names_of (state_of k)) c.self.view_is) c.read_term.ensures.reads
+
+pub returns-clause-stands : goal.returns-clause-stands
+returns-clause-stands c =
+    read_stands c.reading_keeps.ensures c.self.inside.scope c.read_term.new.table (shape_of c.args.form)
+    c.read_term.result c.read_term.ensures.reads
 
 pub returns-clause-state : goal.returns-clause-state
 returns-clause-state c =
@@ -22,6 +50,7 @@ returns-clause-state c =
       words = c.self.inside.words.items;
       table = c.self.inside.table;
       assertions = c.self.inside.assertions.items;
+      levels = reverse c.self.inside.levels.items;
     } in
     state_kept kept c.read_term.new.table c.self.invariant c.read_term.ensures.extends ∙ ap state_of c.self.view_is
 
@@ -38,6 +67,7 @@ returns-clause-keeps c =
       words = c.self.inside.words.items;
       table = c.self.inside.table;
       assertions = c.self.inside.assertions.items;
+      levels = reverse c.self.inside.levels.items;
     } in
     subst (λ (k : Stacked). Keeps k (record kept { table = c.read_term.new.table })) c.self.view_is
     (keeps_read kept c.read_term.new.table c.read_term.ensures.extends)

@@ -1,13 +1,22 @@
-use Rattle.std.proofs.Common.{map}
-use Rattle.sb_stack.specs.Stacked.{state_of, values_from}
-use Rattle.sb_stack.specs.Taking.{answers_values}
-use Rattle.sb_stack.specs.Values.{item_in}
+use Rattle.std.proofs.Common.{map, Some, None, ◌∙◌}
+use Rattle.sb_sorts.specs.Scopes.{serials_in}
+use Rattle.sb_script.specs.Steps.{Step, answers, is_unsupported, line, list_text}
+use Rattle.sb_script.specs.Replies.{all_constants, value_text}
+use Rattle.sb_stack.specs.Stacked.{state_of}
+use Rattle.sb_stack.specs.Values.{item_in, answers_by}
 use Rattle.sb_stack.proofs.Changes.{same_step_at}
+use Rattle.sb_stack.proofs.ByWords.{values_answered}
 use Rattle.sb_stack.proofs.stack.Stack.values_of.Goals as goal
 
 pub returns-in-Ok : goal.returns-in-Ok
 returns-in-Ok c =
     let items = map item_in c.args.items.now in
     let s = state_of c.args.self.now in
-    same_step_at c.answer_values.result (answers_values (values_from 0 c.in-Ok.words.now) items) _ s
-    c.answer_values.ensures (c.in-Ok.ensures (λ v. answers_values v items s))
+    let words = c.in-Ok.words.now in
+    let serials = serials_in c.args.self.now.scope.names in
+    same_step_at c.answer_values.result (answers_by words items) _ s c.answer_values.ensures
+    (c.in-Ok.ensures (λ v. elim (all_constants items) as (λ _. Step) [
+      | Some cs ↦ answers (line (list_text (map (value_text v) cs))) s
+      | None ↦ is_unsupported s
+    ])
+    ∙ values_answered serials words items s c.requires)

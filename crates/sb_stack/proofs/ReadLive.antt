@@ -1,0 +1,135 @@
+-- A term that is read over the names of a scope speaks of its constants alone.
+use Rattle.std.proofs.Common.{◌≡◌, ℕ, zero, suc, ◌<◌, Bool, true, false, not, ◌||◌, ◌==◌, if◌then◌else◌, nat_le, List, [], ◌∷◌, map, length, slice_get, unwrap_or, Result, Ok, Err, IfOk, refl}
+use Rattle.std.specs.List.{list_all}
+use Rattle.std.proofs.lemmas.Bool.{and_parts, and_from, eq-eqb}
+use Rattle.sb_word.specs.Literals.{is_printable}
+use Rattle.sb_reader.specs.Forms.{Form}
+use Rattle.sb_meaning.specs.Terms.{Sort, Symbol, Term, Terms, constant, word, numeral, apply, parameter, no_terms, with_term, terms_of}
+use Rattle.sb_meaning.specs.Sorts.{is_of_one}
+use Rattle.sb_script.specs.Names.{Name}
+use Rattle.sb_script.specs.Brought.{escapes, is_brought}
+use Rattle.sb_script.specs.Faults.{Fault, unsupported, bad_literal, numeral_too_large}
+use Rattle.sb_script.specs.Texts.{word_of_literal, has_backslash, unquoted, read_text, number_of}
+use Rattle.sb_script.specs.Heads.{joined, made, with_arguments, each_with_arguments}
+use Rattle.sb_script.specs.Reading.{read}
+use Rattle.sb_script.specs.ReadingLaws.{if_read, IsKept, passes, ReadingKeeps}
+use Rattle.sb_sorts.specs.declared.scope.Named.{Named}
+use Rattle.sb_sorts.specs.declared.scope.Named.TheVariants as code
+use Rattle.sb_sorts.specs.declared.read.ReadFault.{ReadFault}
+use Rattle.sb_sorts.specs.Reads.{ReadsAs}
+use Rattle.sb_sorts.specs.Scopes.{ScopeNames, naming_in, names_in, serials_in}
+use Rattle.sb_term.specs.Numbered.{term_at}
+use Rattle.sb_stack.specs.Speaking.{speaks_of, speak_of}
+use Rattle.sb_stack.proofs.Live.{among}
+
+-- a test of terms that looks at no parameters
+abbrev over_any : List ℕ → List Sort → Term → Bool
+over_any ns sorts t = speaks_of ns t
+
+by_test : {A : Type 0} (p : A → Bool) (b : Bool) (x y : Result A Fault) → if_read p x ≡ true → if_read p y ≡ true
+    → if_read p (if b then x else y) ≡ true
+by_test p true x y h k = h
+by_test p false x y h k = k
+
+texts_speak : (ns : List ℕ) (bytes : List ℕ) → if_read (speaks_of ns) (read_text bytes) ≡ true
+texts_speak ns bytes =
+    by_test (speaks_of ns) (not (list_all is_printable bytes)) (Err bad_literal)
+    (if is_brought escapes then Ok (word (word_of_literal bytes))
+    else if has_backslash bytes then Err unsupported
+    else Ok (word (unquoted bytes))) refl
+    (by_test (speaks_of ns) (is_brought escapes) (Ok (word (word_of_literal bytes)))
+    (if has_backslash bytes then Err unsupported else Ok (word (unquoted bytes))) refl
+    (by_test (speaks_of ns) (has_backslash bytes) (Err unsupported) (Ok (word (unquoted bytes))) refl refl))
+
+list_speaks : (ns : List ℕ) (ts : List Term) → list_all (speaks_of ns) ts ≡ true → speak_of ns (terms_of ts) ≡ true
+list_speaks ns [] h = refl
+list_speaks ns (t ∷ ts) h =
+    let parts = and_parts (speaks_of ns t) (list_all (speaks_of ns) ts) h in
+    and_from (speaks_of ns t) (speak_of ns (terms_of ts)) parts.0 (list_speaks ns ts parts.1)
+
+joined_speaks : (ns : List ℕ) (s : Symbol) (ts : List Term) → list_all (speaks_of ns) ts ≡ true
+    → speaks_of ns (joined s ts) ≡ true
+joined_speaks ns s [] h = refl
+joined_speaks ns s (t ∷ []) h = (and_parts (speaks_of ns t) true h).0
+joined_speaks ns s (t ∷ u ∷ ts) h = list_speaks ns (t ∷ u ∷ ts) h
+
+made_speaks : (ns : List ℕ) (s : Symbol) (ts : List Term) → list_all (speaks_of ns) ts ≡ true
+    → speaks_of ns (made s ts) ≡ true
+made_speaks ns s ts h = step (is_of_one s)
+  where
+    step : (b : Bool) → speaks_of ns (if b then joined s ts else apply s (terms_of ts)) ≡ true
+    step true = joined_speaks ns s ts h
+    step false = list_speaks ns ts h
+
+argument_speaks : (ns : List ℕ) (ts : List Term) (place : ℕ) (other : Term) → list_all (speaks_of ns) ts ≡ true
+    → speaks_of ns other ≡ true → speaks_of ns (unwrap_or (slice_get ts place) other) ≡ true
+argument_speaks ns [] place other h k = k
+argument_speaks ns (t ∷ ts) zero other h k = (and_parts (speaks_of ns t) (list_all (speaks_of ns) ts) h).0
+argument_speaks ns (t ∷ ts) (suc place) other h k =
+    argument_speaks ns ts place other (and_parts (speaks_of ns t) (list_all (speaks_of ns) ts) h).1 k
+
+mutual
+  body_speaks : (ns : List ℕ) (ts : List Term) → list_all (speaks_of ns) ts ≡ true → (body : Term)
+      → speaks_of ns body ≡ true → speaks_of ns (with_arguments ts body) ≡ true
+  body_speaks ns ts all (constant serial sort) h = h
+  body_speaks ns ts all (word w) h = refl
+  body_speaks ns ts all (numeral n) h = refl
+  body_speaks ns ts all (apply s terms) h = each_speaks ns ts all terms h
+  body_speaks ns ts all (parameter place sort) h = argument_speaks ns ts place (parameter place sort) all refl
+
+  each_speaks : (ns : List ℕ) (ts : List Term) → list_all (speaks_of ns) ts ≡ true → (terms : Terms)
+      → speak_of ns terms ≡ true → speak_of ns (each_with_arguments ts terms) ≡ true
+  each_speaks ns ts all no_terms h = refl
+  each_speaks ns ts all (with_term t terms) h =
+      let parts = and_parts (speaks_of ns t) (speak_of ns terms) h in
+      and_from (speaks_of ns (with_arguments ts t)) (speak_of ns (each_with_arguments ts terms))
+      (body_speaks ns ts all t parts.0) (each_speaks ns ts all terms parts.1)
+
+speaking_is_kept : (ns : List ℕ) → IsKept (over_any ns) (λ serial sort. among ns serial)
+speaking_is_kept ns = record {
+  constants = λ parameters serial sort h. h;
+  texts = λ parameters bytes. texts_speak ns bytes;
+  numerals = λ parameters digits.
+      by_test (speaks_of ns) (nat_le (number_of digits) 0x7fffffff) (Ok (numeral (number_of digits)))
+      (Err numeral_too_large) refl refl;
+  characters = λ parameters digits c h. refl;
+  applications = λ parameters s ts all taken. made_speaks ns s ts all;
+  definitions = λ parameters own body ts h all taken. body_speaks ns ts all body h;
+}
+
+-- the names of a scope stand for its constants, beside others
+all_pass : (ns : List (Name × Named)) (serials : List ℕ)
+    → ((n : ℕ) → among (serials_in ns) n ≡ true → among serials n ≡ true)
+    → list_all (λ n. passes (over_any serials) (λ serial sort. among serials serial) [] n.1) (map naming_in ns) ≡ true
+all_pass [] serials more = refl
+all_pass ((name, code.Constant serial) ∷ ns) serials more =
+    and_from (among serials serial.0) _ (more serial.0 (first serial.0 (serials_in ns)))
+    (all_pass ns serials (λ n h. more n (later serial.0 n h)))
+  where
+    first : (n : ℕ) (ms : List ℕ) → among (n ∷ ms) n ≡ true
+    first n ms = step (n == n) (eq-eqb n n refl)
+      where
+        step : (b : Bool) → b ≡ true → (b || among ms n) ≡ true
+        step true h = refl
+        step false h = absurd (cc h)
+
+    later : (m n : ℕ) → among (serials_in ns) n ≡ true → among (m ∷ serials_in ns) n ≡ true
+    later m n h = step (m == n)
+      where
+        step : (b : Bool) → (b || among (serials_in ns) n) ≡ true
+        step true = refl
+        step false = h
+all_pass ((name, code.Marked) ∷ ns) serials more = all_pass ns serials more
+
+pub read_speaks : ReadingKeeps → (ns : List (Name × Named)) (form : Form) (t : Term)
+    → read (map naming_in ns) form ≡ Ok t → speaks_of (serials_in ns) t ≡ true
+read_speaks keeps ns form t is =
+    keeps (over_any (serials_in ns)) (λ serial sort. among (serials_in ns) serial) (speaking_is_kept (serials_in ns)) []
+    (map naming_in ns) (all_pass ns (serials_in ns) (λ n h. h)) form t is
+
+-- the number of a term that was read stands for one that speaks of live constants
+pub read_stands : ReadingKeeps → (scope : ScopeNames) (table : List Term) (form : Form) (r : Result ℕ ReadFault)
+    → ReadsAs table (read (names_in scope) form) r
+    → IfOk r (λ id. (id < length table) × (speaks_of (serials_in scope.names) (term_at table id) ≡ true))
+read_stands keeps scope table form (Ok id) h = (h.1, read_speaks keeps scope.names form (term_at table id) h.0)
+read_stands keeps scope table form (Err fault) h = tt

@@ -1,0 +1,23 @@
+use Rattle.std.proofs.Common.{map, refl, ap, sym, ◌∙◌}
+use Rattle.sb_script.specs.Scopes.{constants_in}
+use Rattle.sb_script.specs.State.{constants_of}
+use Rattle.sb_script.specs.Steps.{answers, line, list_text}
+use Rattle.sb_script.specs.Replies.{definition_text}
+use Rattle.sb_sorts.specs.Scopes.{names_in, serials_in}
+use Rattle.sb_stack.specs.Stacked.{Stacked, state_of, values_at}
+use Rattle.sb_stack.specs.Values.{constant_in, definition_by}
+use Rattle.sb_stack.proofs.Changes.{constants_live}
+use Rattle.sb_stack.proofs.ByWords.{definitions}
+use Rattle.sb_stack.proofs.stack.Stack.get_model.Goals as goal
+
+pub returns-in_ok-model_line-in-Ok : goal.returns-in_ok-model_line-in-Ok
+returns-in_ok-model_line-in-Ok c =
+    let k = c.args.self.now in
+    let s = state_of k in
+    let words = c.in-Ok.words.now in
+    let model = c.in-Ok.ensures (λ v. answers (line (list_text (map (definition_text v) (constants_of s)))) s) in
+    let constants = ap (map constant_in) c.deref.ensures.value ∙ c.in_ok-constants-in-Ok.ensures
+    ∙ ap (λ (k : Stacked). constants_in (names_in k.scope)) c.self.view_is in
+    let texts = ap (map (definition_text (values_at (serials_in k.scope.names) words))) (constants_live k)
+    ∙ definitions words k.scope.names ∙ ap (map (definition_by words)) (sym constants) in
+    rw (model ∙ ap (λ ts. answers (line (list_text ts)) s) texts) (c.in_ok-model_line-in-Ok.ensures, refl)

@@ -1,0 +1,156 @@
+//! What a script asks of the solver: options, information, models and values (SMT-LIB 2.6, sections 4.1.7, 4.1.8, 4.2.6).
+
+ghost use Rattle.std.specs.Prelude.{◌≡◌, List, true, map, IfOk, MatchResult};
+ghost use Rattle.std.specs.List.{list_all};
+ghost use Rattle.sb_meaning.specs.Values.{Valuation};
+ghost use Rattle.sb_script.specs.State.{State};
+ghost use Rattle.sb_script.specs.Replies as meaning;
+ghost use Rattle.sb_script.specs.Steps as steps;
+ghost use Rattle.sb_script.specs.Options as options;
+ghost use Rattle.sb_sorts.specs.Scopes.{serials_in};
+ghost use Rattle.sb_stack.specs.Commands.{forms_in};
+ghost use Rattle.sb_stack.specs.Stacked.{state_of, values_at};
+ghost use Rattle.sb_stack.specs.Taking.{IsAnswered, asks};
+ghost use Rattle.sb_stack.specs.Values.{item_in, is_live_item, answers_by};
+
+use crate::option::info_line;
+use crate::reply::{error_line, error_line_with_name, truth_line, unsupported_line};
+use crate::stack::{Mode, Stack};
+use crate::value::{
+    Item, all_constants, constants, first_unknown, items, model_line, some_malformed, values_line,
+};
+use sb_reader::Shapes;
+use sb_word::Word;
+use std::alloc::{AllocError, Global};
+
+impl Stack {
+    pub(crate) fn get_option(&self, key: &[u8]) -> Result<Vec<u8>, AllocError>
+        ensures { IfOk result
+            (λ text. IsAnswered (options.get_option key.now (state_of self.now)) text (state_of self.now)
+            (state_of self.now)) }
+    {
+        if key == b":print-success".as_slice() {
+            Ok(truth_line(self.alloc, self.print_success)?)
+        } else if key == b":produce-models".as_slice() {
+            Ok(truth_line(self.alloc, self.produce_models)?)
+        } else if key == b":produce-unsat-assumptions".as_slice() {
+            Ok(truth_line(self.alloc, self.produce_unsat_assumptions)?)
+        } else if key == b":global-declarations".as_slice() {
+            Ok(truth_line(self.alloc, false)?)
+        } else {
+            Ok(unsupported_line(self.alloc)?)
+        }
+    }
+
+    pub(crate) fn get_info(&self, key: &[u8]) -> Result<Vec<u8>, AllocError>
+        ensures { IfOk result
+            (λ text. IsAnswered (options.get_info key.now (state_of self.now)) text (state_of self.now)
+            (state_of self.now)) }
+    {
+        if key == b":reason-unknown".as_slice() {
+            return self.reason_unknown();
+        }
+        match info_line(key) {
+            Some(line) => Ok(Vec::from_slice(self.alloc, line)?),
+            None => Ok(unsupported_line(self.alloc)?),
+        }
+    }
+
+    /// Says why the last check was not decided.
+    fn reason_unknown(&self) -> Result<Vec<u8>, AllocError>
+        ensures { IfOk result
+            (λ text. IsAnswered (options.reason_unknown (state_of self.now).mode (state_of self.now)) text
+            (state_of self.now) (state_of self.now)) }
+    {
+        match self.mode {
+            Mode::Unknown => Ok(Vec::from_slice(
+                self.alloc,
+                b"(:reason-unknown resource-limit)\n",
+            )?),
+            Mode::Plain | Mode::Sat | Mode::Unsat => {
+                Ok(error_line(self.alloc, b"no unknown answer")?)
+            }
+        }
+    }
+
+    /// The words of the last check, or why there are none.
+    fn model(&self) -> Result<&[Word], &'static [u8]>
+        ensures { MatchResult result (λ words. (answer : Valuation → steps.Step)
+            → meaning.with_values (state_of self.now) answer
+            ≡ answer (values_at (serials_in self.now.scope.names) words.now))
+            (λ message. (answer : Valuation → steps.Step)
+            → meaning.with_values (state_of self.now) answer ≡ steps.fails message.now (state_of self.now)) }
+    {
+        if !self.produce_models {
+            return Err(b"models not enabled");
+        }
+        match self.mode {
+            Mode::Sat => Ok(&self.words),
+            Mode::Plain | Mode::Unsat | Mode::Unknown => Err(b"no model"),
+        }
+    }
+
+    pub(crate) fn get_model(&self) -> Result<Vec<u8>, AllocError>
+        ensures { IfOk result
+            (λ text. IsAnswered (meaning.get_model (state_of self.now)) text (state_of self.now) (state_of self.now)) }
+    {
+        match self.model() {
+            Ok(words) => {
+                let constants = constants(self.alloc, &self.scope)?;
+                Ok(model_line(self.alloc, words, &constants)?)
+            }
+            Err(message) => Ok(error_line(self.alloc, message)?),
+        }
+    }
+
+    pub(crate) fn get_value(&self, forms: Shapes<'_>) -> Result<Vec<u8>, AllocError>
+        ensures { IfOk result
+            (λ text. IsAnswered (meaning.get_value (forms_in forms.entry) (state_of self.now)) text (state_of self.now)
+            (state_of self.now)) }
+    {
+        let items = items(self.alloc, &self.scope, forms)?;
+        self.answer_items(&items)
+    }
+
+    fn answer_items(&self, items: &[Item]) -> Result<Vec<u8>, AllocError>
+        requires { list_all (is_live_item (serials_in self.now.scope.names)) (map item_in items.now) ≡ true }
+        ensures { IfOk result
+            (λ text. IsAnswered (asks (map item_in items.now) (state_of self.now)) text (state_of self.now)
+            (state_of self.now)) }
+    {
+        if some_malformed(items) {
+            return Ok(error_line(self.alloc, b"malformed command")?);
+        }
+        match first_unknown(items) {
+            Some(name) => {
+                let answer = error_line_with_name(self.alloc, b"unknown symbol ", name)?;
+                Ok(answer)
+            }
+            None => self.values_of(items),
+        }
+    }
+
+    /// Answers a question for items that all stand for something.
+    fn values_of(&self, items: &[Item]) -> Result<Vec<u8>, AllocError>
+        requires { list_all (is_live_item (serials_in self.now.scope.names)) (map item_in items.now) ≡ true }
+        ensures { IfOk result
+            (λ text. IsAnswered (meaning.values_of (map item_in items.now) (state_of self.now)) text (state_of self.now)
+            (state_of self.now)) }
+    {
+        match self.model() {
+            Ok(words) => answer_values(self.alloc, words, items),
+            Err(message) => Ok(error_line(self.alloc, message)?),
+        }
+    }
+}
+
+/// Answers with the values of items, where all are constants.
+fn answer_values(alloc: Global, words: &[Word], items: &[Item]) -> Result<Vec<u8>, AllocError>
+    ensures { IfOk result (λ text. (s : State)
+        → IsAnswered (answers_by words.now (map item_in items.now) s) text s s) }
+{
+    match all_constants(alloc, items)? {
+        Some(constants) => Ok(values_line(alloc, words, &constants)?),
+        None => Ok(unsupported_line(alloc)?),
+    }
+}
