@@ -178,15 +178,15 @@ pub by_asserted : (asked : Asked) (k : Kept) (others : AllKept) (place : ℕ) (l
     → slice_get live place ≡ Some a → a.term ≡ Some t → nat_lt l.atom (length k.atoms) ≡ true
     → b ≡ is_translation (kept_in k others).atoms (Some (term_at ts t)) l
     → follows asked (kept_in k others) (assertion_line place l)
-    ≡ (if b then Ok (with_clause (kept_in k others) (l ∷ []) 0 (place ∷ [])) else Err rule_broken)
+    ≡ (if b then Ok (with_clause (kept_in k others) (l ∷ []) a.level (place ∷ [])) else Err rule_broken)
 by_asserted asked k others place l ts live a t b e h g known is =
     by_assertion asked k others place l (live_in ts a)
     (ap (λ xs. slice_get xs place) e ∙ slice_get-map (live_in ts) live place ∙ ap (option_map (live_in ts)) h)
     ∙ (ap (λ c. if c then asserted (kept_in k others) place (live_in ts a) l else Err unknown_id)
     (known_as k.arena k.atoms l known)
     ∙ (ap (λ o. if is_translation (kept_in k others).atoms (option_map (term_at ts) o) l
-    then Ok (with_clause (kept_in k others) (l ∷ []) 0 (place ∷ [])) else Err rule_broken) g
-    ∙ ap (λ c. if c then Ok (with_clause (kept_in k others) (l ∷ []) 0 (place ∷ [])) else Err rule_broken) (sym is)))
+    then Ok (with_clause (kept_in k others) (l ∷ []) a.level (place ∷ [])) else Err rule_broken) g
+    ∙ ap (λ c. if c then Ok (with_clause (kept_in k others) (l ∷ []) a.level (place ∷ [])) else Err rule_broken) (sym is)))
 
 pub translated : (old new : List Regex) (atoms : List (AtomOver ℕ)) (t : Term) (l : Lit) (found : Option Lit)
     (b : Bool) → list_all is_brought_atom atoms ≡ true → is_simple t ≡ true

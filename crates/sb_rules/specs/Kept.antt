@@ -1,5 +1,5 @@
 -- What the code keeps of a proof, as the rules of proofs have it.
-use Rattle.std.specs.Prelude.{◌≡◌, ℕ, ◌<◌, true, false, nat_lt, List, map, length, Option, option_map, IfSome}
+use Rattle.std.specs.Prelude.{◌≡◌, ℕ, ◌<◌, true, false, nat_lt, List, map, length, Option, Some, None, option_map, IfSome}
 use Rattle.std.specs.List.{list_all}
 use Rattle.sb_meaning.specs.Terms.{Sort, boolean, integer, text, Term}
 use Rattle.sb_regex.specs.Numbered.{regexes_at, AllNumbers, Extends}
@@ -12,7 +12,7 @@ use Rattle.sb_term.specs.declared.assertion.Assertion.{Assertion}
 use Rattle.sb_reached.specs.SimpleStates.{is_simple}
 use Rattle.sb_rulebook.specs.Brought.{is_brought_atom}
 use Rattle.sb_rulebook.specs.AtomRules.{is_declared}
-use Rattle.sb_rulebook.specs.Kept.{AllKept, Asked}
+use Rattle.sb_rulebook.specs.Kept.{AllKept, Asked, dropped_above, all_dropped}
 use Rattle.sb_rules.specs.declared.kept.Kept.{Kept}
 
 -- all that is kept; the format and what clauses rest on are given
@@ -46,15 +46,20 @@ pub record KeepsTerms (old new : Kept) : Type 0 where
   pub normals : new.normals ≡ old.normals
   pub measures : new.measures ≡ old.measures
 
+-- what is kept where the levels above this one are left, or all of them
+abbrev pub left_in : Option ℕ → AllKept → AllKept
+left_in (Some level) kept = dropped_above level kept
+left_in None kept = all_dropped kept
+
 -- So many String constants are declared, and no others.
 pub record AreDeclared (declared : ℕ) (sorts : List Sort) : Type 0 where
   pub texts : (serial : ℕ) → is_declared sorts text serial ≡ nat_lt serial declared
   pub booleans : (serial : ℕ) → is_declared sorts boolean serial ≡ false
   pub integers : (serial : ℕ) → is_declared sorts integer serial ≡ false
 
--- a live assertion of the lowest level
+-- a live assertion, with its level
 abbrev pub live_in : List Term → Assertion → Option Term × ℕ
-live_in ts a = (option_map (term_at ts) a.term, 0)
+live_in ts a = (option_map (term_at ts) a.term, a.level)
 
 -- What a check asks: of these assertions over a table.
 pub record IsAsked (ts : List Term) (assertions : List Assertion) (count most : ℕ) (asked : Asked) : Type 0 where

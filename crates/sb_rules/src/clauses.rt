@@ -29,7 +29,8 @@ use sb_term::{Assertion, Serial, Table, TermId};
 use std::alloc::AllocError;
 
 impl Kept {
-    /// Judges the line that gives the literal of a live assertion, and keeps the clause where it follows.
+    /// Judges the line that gives the literal of a live assertion, and keeps the clause, of the assertion's level, where
+    /// it follows.
     pub(crate) fn assert(
         &mut self,
         table: &Table,
@@ -56,7 +57,7 @@ impl Kept {
         if !self.is_asserted(table, term, literal)? {
             return Err(Fault::Refused(Refusal::RuleBroken));
         }
-        self.clauses.add(&[literal], 0)?;
+        self.clauses.add(&[literal], assertion.level)?;
         Ok(())
     }
 

@@ -2,8 +2,8 @@
 
 ghost use Rattle.std.specs.Prelude.{◌≡◌, ◌+◌, ℕ, List, IfOk};
 ghost use Rattle.sb_meaning.specs.Terms.{Term};
-ghost use Rattle.sb_rulebook.specs.Kept.{nothing_kept};
-ghost use Rattle.sb_rules.specs.Kept.{IsOver, kept_in};
+ghost use Rattle.sb_rulebook.specs.Kept.{AllKept, nothing_kept};
+ghost use Rattle.sb_rules.specs.Kept.{IsOver, kept_in, left_in};
 ghost use Rattle.sb_rules.specs.Judged.{HasRoom};
 
 use sb_atoms::Atoms;
@@ -48,6 +48,18 @@ impl Kept {
             atoms: Atoms::new(alloc),
             clauses: KeptClauses::new(alloc),
             counted: 0,
+        }
+    }
+
+    /// Drops the clauses of the levels above this one, or each clause; their numbers are not given again. What is known
+    /// of regexes, of atoms and of the script's terms stays. Takes no memory; linear in the number of clauses.
+    pub fn leave(&mut self, level: Option<usize>)
+        ensures kept { (others : AllKept) → kept_in self.new others ≡ left_in level (kept_in self.old others) }
+        ensures over { (ts : List Term) → IsOver ts self.old → IsOver ts self.new }
+    {
+        match level {
+            Some(level) => self.clauses.drop_above(level as u64),
+            None => self.clauses.drop_all(),
         }
     }
 }

@@ -14,7 +14,7 @@ returns-then-not-branch-clause-judges c = λ asked live others. (
       c.in-Some.ensures.lookup.3.0 c.in-Some.ensures.lookup.1)
       c.in-Some-term.is (sym c.is_known.ensures ∙ c.if-not-is_known.false)
       (c.in_ok-is_asserted.ensures.ok others)
-      ∙ ap (λ b. if b then Ok (with_clause (kept_in c.args.self.now others) (c.args.literal ∷ []) 0 (c.args.place ∷ []))
+      ∙ ap (λ b. if b then Ok (with_clause (kept_in c.args.self.now others) (c.args.literal ∷ []) c.in-Some.assertion.now.level (c.args.place ∷ []))
       else Err rule_broken) c.if-not-branch.true,
   c.is_asserted.ensures.kept others,
 )
@@ -27,9 +27,9 @@ returns-clause-judges c = λ asked live others. (
       c.in-Some.ensures.lookup.3.0 c.in-Some.ensures.lookup.1)
       c.in-Some-term.is (sym c.is_known.ensures ∙ c.if-not-is_known.false)
       (c.in_ok-is_asserted.ensures.ok others)
-      ∙ (ap (λ b. if b then Ok (with_clause (kept_in c.args.self.now others) (c.args.literal ∷ []) 0 (c.args.place ∷ []))
+      ∙ (ap (λ b. if b then Ok (with_clause (kept_in c.args.self.now others) (c.args.literal ∷ []) c.in-Some.assertion.now.level (c.args.place ∷ []))
       else Err rule_broken) c.if-not-branch.false
-      ∙ ap Ok (clause_kept c.args.self.now c.is_asserted.new.self others c.add.new.self (c.args.literal ∷ []) 0
+      ∙ ap Ok (clause_kept c.args.self.now c.is_asserted.new.self others c.add.new.self (c.args.literal ∷ []) c.in-Some.assertion.now.level
       (c.args.place ∷ []) (c.is_asserted.ensures.kept (record others { rests = others.rests ++ (c.args.place ∷ []) ∷ [] }))
       c.in_ok-add.ensures.ok)),
 )
