@@ -1,21 +1,33 @@
--- Values are a model where they are words, as many as there are constants, under which all is true.
-use Rattle.std.proofs.Common.{◌≡◌, ℕ, zero, suc, ◌+◌, Bool, true, false, ◌&&◌, ◌==◌, List, [], ◌∷◌, length, replicate, refl, sym, ap, ◌∙◌, arith, Option, Some, None, option_map, unwrap_or, slice_get}
+-- Values are a model where they are words, as many as there are live constants, under which all is true.
+use Rattle.std.proofs.Common.{◌≡◌, ◌==◌, ℕ, suc, ◌+◌, Bool, true, false, ◌&&◌, if◌then◌else◌, List, [], ◌∷◌, length, map, refl, sym, ap, ap₂, ◌∙◌, Option, Some, None, option_map, Result, Ok, Err, IfOk}
 use Rattle.std.specs.List.{list_all}
 use Rattle.std.proofs.lemmas.Bool.{and_parts, false≢true, eq-eqb, eqb-true}
 use Rattle.std.proofs.lemmas.Bool.Decides.{nat_tests}
 use Rattle.std.proofs.Math.Bool.{and-true}
-use Rattle.std.proofs.lemmas.List.{length-replicate}
+use Rattle.std.proofs.lemmas.List.{length-map}
+use Rattle.std.proofs.lemmas.List.Folds.{list_all-append}
+use Rattle.std.proofs.Common.{arith}
 use Rattle.sb_word.specs.Words.{are_characters}
 use Rattle.sb_meaning.specs.Terms.{Term, Sort, boolean, integer, text, reglan}
 use Rattle.sb_meaning.specs.Values.{Value, Valuation, Text, Int, Truth, value_in, is_of}
 use Rattle.sb_script.specs.Scopes.{Constant}
-use Rattle.sb_script.specs.State.{Assertion, fits, live, constants_of}
-use Rattle.sb_rulebook.specs.Accepted.{at_level, question_in}
+use Rattle.sb_script.specs.State.{Level, Assertion, fits, over_levels, constants_of}
+use Rattle.sb_rulebook.specs.Accepted.{at_level, live_by_level, question_in}
 use Rattle.sb_rulebook.specs.Verdicts.{valued, are_model_of, assertion_holds}
 use Rattle.sb_eval.specs.Given.{GivesWords}
-use Rattle.sb_stack.specs.Stacked.{Stacked, state_of, values_from, are_words}
-use Rattle.sb_models.specs.Knowing.{is_true_under, IsTruthBy}
-use Rattle.sb_models.specs.Tried.{word_of, words_of, put_first}
+use Rattle.sb_term.specs.declared.term.Serial.{Serial}
+use Rattle.sb_stack.specs.Stacked as stacked
+use Rattle.sb_stack.specs.Stacked.{Stacked, state_of, live_serials, values_at, are_words}
+use Rattle.sb_stack.proofs.CallerLemmas.{live_laid}
+use Rattle.sb_models.specs.Knowing.{is_true_under, IsTruthBy, assertions_of, word_at}
+use Rattle.sb_models.specs.Tried.{word_of, words_of, put_first, word_given, AreAllTrue}
+use Rattle.sb_models.proofs.WordFacts.{same_next, none_next, some_none}
+
+-- words of the constants with these serials, one of each, as values
+abbrev paired : List ℕ → List (List ℕ) → Valuation
+paired [] words = []
+paired (n ∷ serials) [] = []
+paired (n ∷ serials) (w ∷ words) = (n, Text w) ∷ paired serials words
 
 -- what is made of values for constants, and of words
 abbrev made : List Constant → (Valuation → Bool) → Option Valuation → Bool
@@ -25,15 +37,6 @@ made cs test (Some v) = fits cs v && test v
 abbrev pub tried : ℕ → (List (List ℕ) → Bool) → Option (List (List ℕ)) → Bool
 tried n test None = false
 tried n test (Some ws) = (length ws == n) && test ws
-
-same_next : (a b : ℕ) → (suc a == suc b) ≡ (a == b)
-same_next a b = grind (arith, nat_tests)
-
-none_next : (n : ℕ) → (0 == suc n) ≡ false
-none_next n = grind (arith, nat_tests)
-
-some_none : (n : ℕ) → (suc n == 0) ≡ false
-some_none n = grind (arith, nat_tests)
 
 made_more : (c : Constant) (cs : List Constant) (x : Value) (test : Valuation → Bool) (o : Option Valuation)
     → is_of c.sort x ≡ true → made (c ∷ cs) test (option_map (λ v. (c.serial, x) ∷ v) o)
@@ -93,126 +96,157 @@ a_word (Text u) w h = by (are_characters u) refl
 a_word (Int n) w h = absurd (let both : None ≡ Some w = h in cc)
 a_word (Truth b) w h = absurd (let both : None ≡ Some w = h in cc)
 
-one_value : (c : Constant) (cs : List Constant) (k : ℕ) (x : Value) (xs : List Value) (test : Valuation → Bool)
-    (o : Option (List ℕ)) → c.serial ≡ k → c.sort ≡ text → word_of x ≡ o →
+one_value : (c : Constant) (cs : List Constant) (n : ℕ) (serials : List ℕ) (x : Value) (xs : List Value)
+    (test : Valuation → Bool) (o : Option (List ℕ)) → c.serial ≡ n → c.sort ≡ text → word_of x ≡ o →
     ((t : Valuation → Bool) → made cs t (valued cs xs)
-    ≡ tried (length cs) (λ ws. t (values_from (k + 1) ws)) (words_of xs)) →
+    ≡ tried (length serials) (λ ws. t (paired serials ws)) (words_of xs)) →
     made (c ∷ cs) test (valued (c ∷ cs) (x ∷ xs))
-    ≡ tried (suc (length cs)) (λ ws. test (values_from k ws)) (words_of (x ∷ xs))
-one_value c cs k x xs test None serial sort e more =
+    ≡ tried (suc (length serials)) (λ ws. test (paired (n ∷ serials) ws)) (words_of (x ∷ xs))
+one_value c cs n serials x xs test None serial sort e more =
     made_none c cs x test (valued cs xs) (rw sort (no_word x e))
-    ∙ sym (ap (λ o. tried (suc (length cs)) (λ ws. test (values_from k ws)) (put_first o (words_of xs))) e)
-one_value c cs k x xs test (Some w) serial sort e more =
+    ∙ sym (ap (λ o. tried (suc (length serials)) (λ ws. test (paired (n ∷ serials) ws)) (put_first o (words_of xs))) e)
+one_value c cs n serials x xs test (Some w) serial sort e more =
     let word = a_word x w e in
     made_more c cs x test (valued cs xs) (rw sort word.characters)
     ∙ (more (λ v. test ((c.serial, x) ∷ v))
-    ∙ (ap (λ n. tried (length cs) (λ ws. test ((n, x) ∷ values_from (k + 1) ws)) (words_of xs)) serial
-    ∙ (ap (λ y. tried (length cs) (λ ws. test ((k, y) ∷ values_from (k + 1) ws)) (words_of xs)) word.is
-    ∙ (sym (tried_more (length cs) w (λ ws. test (values_from k ws)) (words_of xs))
-    ∙ sym (ap (λ o. tried (suc (length cs)) (λ ws. test (values_from k ws)) (put_first o (words_of xs))) e)))))
+    ∙ (ap (λ m. tried (length serials) (λ ws. test ((m, x) ∷ paired serials ws)) (words_of xs)) serial
+    ∙ (ap (λ y. tried (length serials) (λ ws. test ((n, y) ∷ paired serials ws)) (words_of xs)) word.is
+    ∙ (sym (tried_more (length serials) w (λ ws. test (paired (n ∷ serials) ws)) (words_of xs))
+    ∙ sym (ap (λ o. tried (suc (length serials)) (λ ws. test (paired (n ∷ serials) ws)) (put_first o (words_of xs)))
+    e)))))
 
-values_tried : (cs : List Constant) (k : ℕ) (any : List (List ℕ)) (xs : List Value) (test : Valuation → Bool)
-    → fits cs (values_from k any) ≡ true
-    → made cs test (valued cs xs) ≡ tried (length cs) (λ ws. test (values_from k ws)) (words_of xs)
-values_tried [] k any [] test h = refl
-values_tried [] k any (x ∷ xs) test h =
-    sym (tried_none (λ ws. test (values_from k ws)) (word_of x) (words_of xs))
-values_tried (c ∷ cs) k any [] test h = sym (ap (λ b. b && test []) (none_next (length cs)))
-values_tried (c ∷ cs) k [] (x ∷ xs) test h = absurd (false≢true h)
-values_tried (c ∷ cs) k (w ∷ any) (x ∷ xs) test h =
-    let parts = and_parts ((c.serial == k) && is_of c.sort (Text w)) (fits cs (values_from (k + 1) any)) h in
-    let here = and_parts (c.serial == k) (is_of c.sort (Text w)) parts.0 in
-    one_value c cs k x xs test (word_of x) (eqb-true c.serial k here.0) (is_text c.sort w here.1) refl
-    (λ t. values_tried cs (k + 1) any xs t parts.1)
+values_tried : (cs : List Constant) (serials : List ℕ) (any : List (List ℕ)) (xs : List Value)
+    (test : Valuation → Bool) → fits cs (values_at serials any) ≡ true
+    → made cs test (valued cs xs) ≡ tried (length serials) (λ ws. test (paired serials ws)) (words_of xs)
+values_tried [] [] any [] test h = refl
+values_tried [] [] any (x ∷ xs) test h =
+    sym (tried_none (λ ws. test (paired [] ws)) (word_of x) (words_of xs))
+values_tried [] (n ∷ serials) any xs test h = absurd (false≢true h)
+values_tried (c ∷ cs) [] any xs test h = absurd (false≢true h)
+values_tried (c ∷ cs) (n ∷ serials) any [] test h =
+    sym (ap (λ b. b && test (paired (n ∷ serials) [])) (none_next (length serials)))
+values_tried (c ∷ cs) (n ∷ serials) any (x ∷ xs) test h =
+    let w = stacked.word_at any n in
+    let parts = and_parts ((c.serial == n) && is_of c.sort (Text w)) (fits cs (values_at serials any)) h in
+    let here = and_parts (c.serial == n) (is_of c.sort (Text w)) parts.0 in
+    one_value c cs n serials x xs test (word_of x) (eqb-true c.serial n here.0) (is_text c.sort w here.1) refl
+    (λ t. values_tried cs serials any xs t parts.1)
 
-fits_long : (cs : List Constant) (k : ℕ) (any : List (List ℕ)) → fits cs (values_from k any) ≡ true
-    → length cs ≡ length any
-fits_long [] k [] h = refl
-fits_long [] k (w ∷ any) h = absurd (false≢true h)
-fits_long (c ∷ cs) k [] h = absurd (false≢true h)
-fits_long (c ∷ cs) k (w ∷ any) h =
-    ap suc (fits_long cs (k + 1) any
-    (and_parts ((c.serial == k) && is_of c.sort (Text w)) (fits cs (values_from (k + 1) any)) h).1)
-
-level_holds : (v : Valuation) (assertions : List Assertion)
-    → list_all (λ (a : Option Term × ℕ). assertion_holds v a.0) (at_level 0 assertions)
+one_level : (v : Valuation) (level : ℕ) (assertions : List Assertion)
+    → list_all (λ (a : Option Term × ℕ). assertion_holds v a.0) (at_level level assertions)
     ≡ list_all (is_true_under v) assertions
-level_holds v [] = refl
-level_holds v (a ∷ rest) = ap (λ b. is_true_under v a && b) (level_holds v rest)
+one_level v level [] = refl
+one_level v level (a ∷ rest) = ap (λ b. is_true_under v a && b) (one_level v level rest)
 
--- the live assertions are true under the words
+levels_hold : (v : Valuation) (first : Level) (levels : List Level)
+    → list_all (λ (a : Option Term × ℕ). assertion_holds v a.0) (live_by_level first levels)
+    ≡ list_all (is_true_under v) (over_levels (λ l. l.assertions) first levels)
+levels_hold v first [] = one_level v 0 first.assertions
+levels_hold v first (level ∷ levels) =
+    list_all-append (λ (a : Option Term × ℕ). assertion_holds v a.0) (live_by_level first levels)
+    (at_level (length levels + 1) level.assertions)
+    ∙ (ap₂ (λ a b. a && b) (levels_hold v first levels) (one_level v (length levels + 1) level.assertions)
+    ∙ sym (list_all-append (is_true_under v) (over_levels (λ l. l.assertions) first levels) level.assertions))
+
+-- the live assertions are true where the live constants have these words
 abbrev pub are_true_by : Stacked → List (List ℕ) → Bool
-are_true_by stack ws = list_all (is_true_under (values_from 0 ws)) (live (state_of stack))
+are_true_by stack ws = list_all (is_true_under (paired (live_serials stack) ws)) (assertions_of stack)
 
 model_made : (stack : Stacked) (xs : List Value) → are_model_of (question_in (state_of stack) []) xs
-    ≡ made (constants_of (state_of stack)) (λ v. list_all (is_true_under v) (live (state_of stack)))
+    ≡ made (constants_of (state_of stack)) (λ v. list_all (is_true_under v) (assertions_of stack))
     (valued (constants_of (state_of stack)) xs)
 model_made stack xs = by (valued (constants_of (state_of stack)) xs)
   where
+    live : Valuation → Bool
+    live v = list_all (λ (a : Option Term × ℕ). assertion_holds v a.0)
+        (live_by_level (state_of stack).first (state_of stack).above)
+
     by : (o : Option Valuation)
         → elim o as (λ _. Bool) [
           | None ↦ false
-          | Some v ↦ fits (constants_of (state_of stack)) v
-              && (list_all (λ (a : Option Term × ℕ). assertion_holds v a.0) (at_level 0 (live (state_of stack)))
-              && true)
-        ] ≡ made (constants_of (state_of stack)) (λ v. list_all (is_true_under v) (live (state_of stack))) o
+          | Some v ↦ fits (constants_of (state_of stack)) v && (live v && true)
+        ] ≡ made (constants_of (state_of stack)) (λ v. list_all (is_true_under v) (assertions_of stack)) o
     by None = refl
     by (Some v) = ap (λ b. fits (constants_of (state_of stack)) v && b)
-        (and-true (list_all (λ (a : Option Term × ℕ). assertion_holds v a.0) (at_level 0 (live (state_of stack))))
-        ∙ level_holds v (live (state_of stack)))
-
-empty_words : (n : ℕ) → are_words (replicate n []) ≡ true
-empty_words zero = refl
-empty_words (suc n) = empty_words n
+        (and-true (live v)
+        ∙ (levels_hold v (state_of stack).first (state_of stack).above
+        ∙ ap (list_all (is_true_under v)) (live_laid stack)))
 
 -- what a caller is told of the constants
-abbrev pub HasFit : Stacked → ℕ → Type 0
-HasFit stack n = (words : List (List ℕ)) → length words ≡ n → are_words words ≡ true
-    → fits (constants_of (state_of stack)) (values_from 0 words) ≡ true
+abbrev pub HasFit : Stacked → Type 0
+HasFit stack = (words : List (List ℕ)) → are_words words ≡ true
+    → fits (constants_of (state_of stack)) (values_at (live_serials stack) words) ≡ true
 
-pub model_is : (stack : Stacked) (n : ℕ) (xs : List Value) (o : Option (List (List ℕ))) → HasFit stack n
-    → o ≡ words_of xs → are_model_of (question_in (state_of stack) []) xs ≡ tried n (are_true_by stack) o
-model_is stack n xs o fit is =
-    let here = fit (replicate n []) (length-replicate n []) (empty_words n) in
-    let long : length (constants_of (state_of stack)) ≡ n =
-    fits_long (constants_of (state_of stack)) 0 (replicate n []) here ∙ length-replicate n [] in
+pub model_is : (stack : Stacked) (xs : List Value) (o : Option (List (List ℕ))) → HasFit stack
+    → o ≡ words_of xs
+    → are_model_of (question_in (state_of stack) []) xs ≡ tried (length (live_serials stack)) (are_true_by stack) o
+model_is stack xs o fit is =
     model_made stack xs
-    ∙ (values_tried (constants_of (state_of stack)) 0 (replicate n []) xs
-    (λ v. list_all (is_true_under v) (live (state_of stack))) here
-    ∙ (ap (λ m. tried m (are_true_by stack) (words_of xs)) long ∙ ap (tried n (are_true_by stack)) (sym is)))
+    ∙ (values_tried (constants_of (state_of stack)) (live_serials stack) [] xs
+    (λ v. list_all (is_true_under v) (assertions_of stack)) (fit [] refl)
+    ∙ ap (tried (length (live_serials stack)) (are_true_by stack)) (sym is))
 
--- Words by serial give the constants these words.
+paired_given : (constants : List Serial) (words : List (List ℕ)) (n : ℕ)
+    → value_in (paired (map (λ c. c.0) constants) words) n text ≡ Text (word_given constants words n [])
+paired_given [] words n = refl
+paired_given (c ∷ constants) [] n = refl
+paired_given (c ∷ constants) (w ∷ words) n = by (c.0 == n) (paired_given constants words n)
+  where
+    by : (b : Bool)
+        → value_in (paired (map (λ c. c.0) constants) words) n text ≡ Text (word_given constants words n [])
+        → (if b then Text w else value_in (paired (map (λ c. c.0) constants) words) n text)
+        ≡ Text (if b then w else word_given constants words n [])
+    by true again = refl
+    by false again = again
 
-value_from : (words : List (List ℕ)) (k j n : ℕ) → n ≡ k + j
-    → value_in (values_from k words) n text ≡ Text (unwrap_or (slice_get words j) [])
-value_from [] k j n e = refl
-value_from (w ∷ words) k zero n e = let same : (k == n) ≡ true = eq-eqb k n (omega arith) in rw same refl
-value_from (w ∷ words) k (suc j) n e = let other : (k == n) ≡ false = grind (arith, nat_tests) in
-    rw other (value_from words (k + 1) j n (omega arith))
+-- What a check of values finds, where these are the live constants.
 
-pub words_given : (words : List (List ℕ)) → GivesWords words (values_from 0 words)
-words_given words = λ serial. value_from words 0 serial serial (omega arith)
+pub no_words : (stack : Stacked) (xs : List Value) (o : Option (List (List ℕ))) → HasFit stack → o ≡ words_of xs
+    → o ≡ None → false ≡ are_model_of (question_in (state_of stack) []) xs
+no_words stack xs o fit is none =
+    sym (model_is stack xs o fit is ∙ ap (tried (length (live_serials stack)) (are_true_by stack)) none)
 
--- What a check of values finds.
+as_many : (stack : Stacked) (constants : List Serial) → map (λ c. c.0) constants ≡ live_serials stack
+    → length (live_serials stack) ≡ length constants
+as_many stack constants live = ap length (sym live) ∙ length-map constants (λ c. c.0)
 
-pub no_words : (stack : Stacked) (n : ℕ) (xs : List Value) (o : Option (List (List ℕ))) → HasFit stack n
-    → o ≡ words_of xs → o ≡ None → false ≡ are_model_of (question_in (state_of stack) []) xs
-no_words stack n xs o fit is none = sym (model_is stack n xs o fit is ∙ ap (tried n (are_true_by stack)) none)
+pub other_number : (stack : Stacked) (xs : List Value) (ws : List (List ℕ)) (constants : List Serial) → HasFit stack
+    → map (λ c. c.0) constants ≡ live_serials stack → Some ws ≡ words_of xs
+    → (length ws ≡ length constants → ⊥) → false ≡ are_model_of (question_in (state_of stack) []) xs
+other_number stack xs ws constants fit live is other =
+    let many = as_many stack constants live in
+    let differ : (length ws == length (live_serials stack)) ≡ false =
+    rw many (not_equal (length ws) (length constants) other) in
+    sym (model_is stack xs (Some ws) fit is ∙ ap (λ b. b && are_true_by stack ws) differ)
+  where
+    not_equal : (a b : ℕ) → (a ≡ b → ⊥) → (a == b) ≡ false
+    not_equal a b other = grind (arith, nat_tests, other)
 
-pub other_number : (stack : Stacked) (n : ℕ) (xs : List Value) (ws : List (List ℕ)) → HasFit stack n
-    → Some ws ≡ words_of xs → (length ws ≡ n → ⊥) → false ≡ are_model_of (question_in (state_of stack) []) xs
-other_number stack n xs ws fit is other =
-    let differ : (length ws == n) ≡ false = grind (arith, nat_tests, other) in
-    sym (model_is stack n xs (Some ws) fit is ∙ ap (λ b. b && are_true_by stack ws) differ)
+pub truth_of : (stack : Stacked) (xs : List Value) (ws : List (List ℕ)) (constants : List Serial) (b : Bool)
+    → HasFit stack → map (λ c. c.0) constants ≡ live_serials stack → Some ws ≡ words_of xs
+    → length ws ≡ length constants → AreAllTrue constants ws (assertions_of stack) b
+    → b ≡ are_model_of (question_in (state_of stack) []) xs
+truth_of stack xs ws constants b fit live is long truth =
+    let same : (length ws == length (live_serials stack)) ≡ true =
+    eq-eqb (length ws) (length (live_serials stack)) (long ∙ sym (as_many stack constants live)) in
+    truth (paired (live_serials stack) ws)
+    (λ n. ap (λ ns. value_in (paired ns ws) n text) (sym live) ∙ paired_given constants ws n)
+    ∙ sym (model_is stack xs (Some ws) fit is ∙ ap (λ b. b && are_true_by stack ws) same)
+
+pub model_of : {E : Type 0} (r : Result Bool E) (stack : Stacked) (xs : List Value) (ws : List (List ℕ))
+    (constants : List Serial) → HasFit stack → map (λ c. c.0) constants ≡ live_serials stack → Some ws ≡ words_of xs
+    → length ws ≡ length constants → IfOk r (AreAllTrue constants ws (assertions_of stack))
+    → IfOk r (λ model. model ≡ are_model_of (question_in (state_of stack) []) xs)
+model_of (Ok b) stack xs ws constants fit live is long truth = truth_of stack xs ws constants b fit live is long truth
+model_of (Err e) stack xs ws constants fit live is long truth = truth
 
 pub truth_through : (ws us : List (List ℕ)) (assertions : List Assertion) (b d : Bool) → us ≡ ws → b ≡ d
     → IsTruthBy us assertions b → IsTruthBy ws assertions d
 truth_through ws us assertions b d p q h v gives = sym q ∙ h v (λ serial. rw p (gives serial))
 
-pub truth_of : (stack : Stacked) (n : ℕ) (xs : List Value) (ws : List (List ℕ)) (b : Bool) → HasFit stack n
-    → Some ws ≡ words_of xs → length ws ≡ n → IsTruthBy ws (live (state_of stack)) b
-    → b ≡ are_model_of (question_in (state_of stack) []) xs
-truth_of stack n xs ws b fit is long truth =
-    let same : (length ws == n) ≡ true = eq-eqb (length ws) n long in
-    truth (values_from 0 ws) (words_given ws)
-    ∙ sym (model_is stack n xs (Some ws) fit is ∙ ap (λ b. b && are_true_by stack ws) same)
+-- words by serial give constants theirs
+pub truth_given : (constants : List Serial) (given words us : List (List ℕ)) (assertions : List Assertion) (b d : Bool)
+    → us ≡ words → ((serial : ℕ) → word_at words serial ≡ word_given constants given serial []) → b ≡ d
+    → IsTruthBy us assertions b → AreAllTrue constants given assertions d
+truth_given constants given words us assertions b d p is q h v gives =
+    sym q ∙ h v (λ serial. gives serial ∙ (ap Text (sym (is serial)) ∙ ap (λ ws. Text (word_at ws serial)) (sym p)))

@@ -8,7 +8,7 @@ use Rattle.std.proofs.lemmas.List.Folds.{list_all-append}
 use Rattle.sb_meaning.specs.Terms.{Term}
 use Rattle.sb_meaning.specs.Values.{Valuation}
 use Rattle.sb_meaning.specs.Truth.{holds}
-use Rattle.sb_script.specs.State.{Assertion, asserted, live}
+use Rattle.sb_script.specs.State.{Assertion, asserted}
 use Rattle.sb_script.specs.Fragment.{in_fragment, is_inside, fits}
 use Rattle.sb_term.specs.declared.assertion.Assertion as code
 use Rattle.sb_term.specs.Numbered.{term_at, Extends}
@@ -17,7 +17,8 @@ use Rattle.sb_fragment.specs.Rules.{is_decided, FragmentIsOfEach}
 use Rattle.sb_eval.specs.Given.{GivesWords}
 use Rattle.sb_stack.specs.Stacked.{Stacked, state_of, assertion_in, assertion_of, HasNumberBelow, IsLonger}
 use Rattle.sb_models.specs.declared.models.Models.{Models}
-use Rattle.sb_models.specs.Knowing.{Knows, IsTruthBy, is_true_under}
+use Rattle.sb_stack.proofs.CallerLemmas.{live_laid}
+use Rattle.sb_models.specs.Knowing.{Knows, IsTruthBy, is_true_under, assertions_of, word_at, AreEmptyBut}
 use Rattle.sb_models.specs.Tried.{IsOfSame, MayPass}
 use Rattle.sb_models.proofs.Passing.{all_at}
 
@@ -62,13 +63,26 @@ there ts (y ∷ xs) zero x low is = ap (λ z. Some (assertion_in ts z)) (sym is)
 there ts (y ∷ xs) (suc i) x low is = there ts xs i x (omega arith) is
 
 -- Nothing is known.
-pub knows_none : (m : Models) (stack : Stacked) → m.inside ≡ 0 → m.held ≡ 0 → Knows m stack
-knows_none m stack inside held = record {
+pub knows_none : (m : Models) (stack : Stacked) → m.inside ≡ 0 → m.held ≡ 0 → m.words.items ≡ [] → Knows m stack
+knows_none m stack inside held words = record {
   front = omega (arith, inside);
   numbers = rw inside (All-nil (HasNumberBelow (length stack.table)));
   decided = rw inside refl;
   held_front = omega (arith, inside, held);
   held = rw held (λ v g. refl);
+  empty = λ serial h. ap (λ ws. word_at ws serial) words;
+}
+
+-- Nothing is known of the truth of assertions.
+pub knows_untried : (m m' : Models) (stack : Stacked) → Knows m stack → m'.inside ≡ m.inside → m'.held ≡ 0
+    → m'.words.items ≡ [] → Knows m' stack
+knows_untried m m' stack k inside held words = record {
+  front = omega (arith, inside, k.front);
+  numbers = rw inside k.numbers;
+  decided = rw inside k.decided;
+  held_front = omega (arith, held);
+  held = rw held (λ v g. refl);
+  empty = λ serial h. ap (λ ws. word_at ws serial) words;
 }
 
 -- one more is a decided one
@@ -83,6 +97,7 @@ knows_more m stack x k low numbers is here = record {
       ∙ one_more is_decided stack.table stack.assertions m.inside x low is (sym (taken_map m.inside) ∙ k.decided) here;
   held_front = omega (arith, k.held_front);
   held = k.held;
+  empty = k.empty;
 }
   where
     taken_map : (n : ℕ) → list_all is_decided (take n (map (assertion_in stack.table) stack.assertions))
@@ -90,9 +105,9 @@ knows_more m stack x k low numbers is here = record {
     taken_map n = ap (list_all is_decided) (take-map (assertion_in stack.table) n stack.assertions)
 
 pub all_inside : (m : Models) (stack : Stacked) → Knows m stack → length stack.assertions ≤ m.inside
-    → list_all is_decided (live (state_of stack)) ≡ true
+    → list_all is_decided (assertions_of stack) ≡ true
 all_inside m stack k long =
-    let whole : take m.inside (live (state_of stack)) ≡ live (state_of stack) =
+    let whole : take m.inside (assertions_of stack) ≡ assertions_of stack =
     take_all m.inside (map (assertion_in stack.table) stack.assertions)
     (omega (arith, length-map stack.assertions (assertion_in stack.table))) in
     ap (list_all is_decided) (sym whole) ∙ k.decided
@@ -100,10 +115,11 @@ all_inside m stack k long =
 -- a model was found
 pub knows_model : (m : Models) (stack : Stacked) → m.inside ≡ length stack.assertions → m.held ≡ m.inside
     → All (HasNumberBelow (length stack.table)) stack.assertions
-    → list_all is_decided (live (state_of stack)) ≡ true
-    → IsTruthBy m.words.items (live (state_of stack)) true → Knows m stack
-knows_model m stack inside held numbers decided true_by =
-    let whole : take m.inside (live (state_of stack)) ≡ live (state_of stack) =
+    → list_all is_decided (assertions_of stack) ≡ true
+    → IsTruthBy m.words.items (assertions_of stack) true → AreEmptyBut m.constants.items m.words.items
+    → Knows m stack
+knows_model m stack inside held numbers decided true_by empty =
+    let whole : take m.inside (assertions_of stack) ≡ assertions_of stack =
     take_all m.inside (map (assertion_in stack.table) stack.assertions)
     (omega (arith, inside, length-map stack.assertions (assertion_in stack.table))) in
     record {
@@ -112,6 +128,7 @@ knows_model m stack inside held numbers decided true_by =
       decided = ap (list_all is_decided) whole ∙ decided;
       held_front = omega (arith, held);
       held = rw (held, whole) true_by;
+      empty = empty;
     }
 
 -- The table and the assertions grow.
@@ -132,10 +149,16 @@ number_more : (m n : ℕ) → m ≤ n → (o : Option ℕ) → IfSome o (λ id. 
 number_more m n l None h = tt
 number_more m n l (Some id) h = omega (arith, l, h)
 
+front_of_front : (xs : List code.Assertion) (n held : ℕ) → held ≤ n → take held (take n xs) ≡ take held xs
+front_of_front xs n zero l = refl
+front_of_front xs zero (suc held) l = absurd (omega arith)
+front_of_front [] (suc n) (suc held) l = refl
+front_of_front (x ∷ xs) (suc n) (suc held) l = ap (λ ys. x ∷ ys) (front_of_front xs n held (omega arith))
+
 -- the first so many live assertions are what they were
 front_kept : (old new : Stacked) (n held : ℕ) → Extends old.table new.table → IsLonger old.assertions new.assertions
     → n ≤ length old.assertions → All (HasNumberBelow (length old.table)) (take n old.assertions) → held ≤ n
-    → take held (live (state_of new)) ≡ take held (live (state_of old))
+    → take held (assertions_of new) ≡ take held (assertions_of old)
 front_kept old new n held e longer low numbers few =
     take-map (assertion_in new.table) held new.assertions
     ∙ (ap (map (assertion_in new.table)) (ap (take held) longer.1
@@ -143,14 +166,8 @@ front_kept old new n held e longer low numbers few =
     ∙ (same_front old.table new.table (take held old.assertions) e first
     ∙ sym (take-map (assertion_in old.table) held old.assertions)))
   where
-    shorter : (xs : List code.Assertion) (n held : ℕ) → held ≤ n → take held (take n xs) ≡ take held xs
-    shorter xs n zero l = refl
-    shorter xs zero (suc held) l = absurd (omega arith)
-    shorter [] (suc n) (suc held) l = refl
-    shorter (x ∷ xs) (suc n) (suc held) l = ap (λ ys. x ∷ ys) (shorter xs n held (omega arith))
-
     first : All (HasNumberBelow (length old.table)) (take held old.assertions)
-    first = subst (All (HasNumberBelow (length old.table))) (shorter old.assertions n held few)
+    first = subst (All (HasNumberBelow (length old.table))) (front_of_front old.assertions n held few)
         (All-take (HasNumberBelow (length old.table)) held (take n old.assertions) numbers)
 
 pub models_stay : (m : Models) (old new : Stacked) → Extends old.table new.table
@@ -163,10 +180,64 @@ models_stay m old new e longer k = record {
       (front_kept old new m.inside m.inside e longer k.front k.numbers (omega arith)) ∙ k.decided;
   held = rw (front_kept old new m.inside m.held e longer k.front k.numbers k.held_front) k.held;
   held_front = k.held_front;
+  empty = k.empty;
 }
   where
     front : take m.inside new.assertions ≡ take m.inside old.assertions
     front = ap (take m.inside) longer.1 ∙ take-append-le m.inside old.assertions longer.0 k.front
+
+-- Levels are left: a front of the assertions is there.
+
+all_in_front : (test : Assertion → Bool) (xs : List Assertion) (n held : ℕ) → held ≤ n
+    → list_all test (take n xs) ≡ true → list_all test (take held xs) ≡ true
+all_in_front test xs n zero l h = refl
+all_in_front test xs zero (suc held) l h = absurd (omega arith)
+all_in_front test [] (suc n) (suc held) l h = refl
+all_in_front test (x ∷ xs) (suc n) (suc held) l h =
+    let parts = and_parts (test x) (list_all test (take n xs)) h in
+    and_from (test x) _ parts.0 (all_in_front test xs n held (omega arith) parts.1)
+
+-- the first so many of those that are there are what they were
+front_there : (old new : Stacked) (n held : ℕ) → Extends old.table new.table → IsLonger new.assertions old.assertions
+    → All (HasNumberBelow (length old.table)) (take n old.assertions) → held ≤ n → held ≤ length new.assertions
+    → take held (assertions_of new) ≡ take held (assertions_of old)
+front_there old new n held e longer numbers few there =
+    take-map (assertion_in new.table) held new.assertions
+    ∙ (ap (map (assertion_in new.table)) (sym (take-append-le held new.assertions longer.0 there)
+    ∙ ap (take held) (sym longer.1))
+    ∙ (same_front old.table new.table (take held old.assertions) e
+    (subst (All (HasNumberBelow (length old.table))) (front_of_front old.assertions n held few)
+    (All-take (HasNumberBelow (length old.table)) held (take n old.assertions) numbers))
+    ∙ sym (take-map (assertion_in old.table) held old.assertions)))
+
+-- what is known of so many of them
+pub knows_front : (m m' : Models) (old new : Stacked) → Extends old.table new.table
+    → IsLonger new.assertions old.assertions → Knows m old → m'.inside ≤ m.inside
+    → m'.inside ≤ length new.assertions → m'.held ≤ m.held → m'.held ≤ m'.inside → m'.words ≡ m.words
+    → m'.constants ≡ m.constants → Knows m' new
+knows_front m m' old new e longer k inside there held front words constants = record {
+  front = there;
+  numbers = subst (All (HasNumberBelow (length new.table))) same
+      (λ i d l. number_more (length old.table) (length new.table) (long_kept old.table new.table e)
+      (get_or (take m'.inside old.assertions) i d).term (few i d l));
+  decided = ap (list_all is_decided) (front_there old new m.inside m'.inside e longer k.numbers inside there)
+      ∙ all_in_front is_decided (assertions_of old) m.inside m'.inside inside k.decided;
+  held_front = front;
+  held = λ v gives.
+      let before = k.held v (subst (λ ws. GivesWords ws.items v) words gives) in
+      sym (ap (list_all (is_true_under v))
+      (front_there old new m.inside m'.held e longer k.numbers (omega (arith, front, inside))
+      (omega (arith, front, there)))
+      ∙ all_in_front (is_true_under v) (assertions_of old) m.held m'.held held (sym before));
+  empty = rw (words, constants) k.empty;
+}
+  where
+    same : take m'.inside old.assertions ≡ take m'.inside new.assertions
+    same = ap (take m'.inside) longer.1 ∙ take-append-le m'.inside new.assertions longer.0 there
+
+    few : All (HasNumberBelow (length old.table)) (take m'.inside old.assertions)
+    few = subst (All (HasNumberBelow (length old.table))) (front_of_front old.assertions m.inside m'.inside inside)
+        (All-take (HasNumberBelow (length old.table)) m'.inside (take m.inside old.assertions) k.numbers)
 
 -- What a loop over the assertions finds.
 
@@ -174,9 +245,9 @@ pub is_outside : FragmentIsOfEach → (stack : Stacked) (ts : List Term) (xs : L
     (x : code.Assertion) (b : Bool) → ts ≡ stack.table → xs ≡ stack.assertions → i < length xs → x ≡ get_or xs i x →
     b ≡ is_decided (assertion_in ts x) → b ≡ false → false ≡ in_fragment (state_of stack)
 is_outside each stack ts xs i x b table assertions low is test none =
-    sym (each (state_of stack)
+    sym (each (state_of stack) ∙ (ap (list_all is_decided) (live_laid stack)
     ∙ (sym (ap₂ (λ us ys. list_all is_decided (map (assertion_in us) ys)) table assertions)
-    ∙ one_fails is_decided ts xs i x low is (sym test ∙ none)))
+    ∙ one_fails is_decided ts xs i x low is (sym test ∙ none))))
 
 pub knows_next : (m : Models) (stack : Stacked) (ts : List Term) (xs : List code.Assertion) (x : code.Assertion)
     (b : Bool) → ts ≡ stack.table → xs ≡ stack.assertions → Knows m stack → m.inside < length xs →
@@ -231,11 +302,11 @@ false_at words ts xs i x id low is some here v gives =
     (ap (λ o. is_true_under v (assertion_of ts o)) some ∙ sym (here v gives)))
 
 -- what is passed over is true
-pub passed : (words : List (List ℕ)) (same : List Bool) (held : ℕ) (ts : List Term) (xs : List code.Assertion) (i : ℕ)
-    (x : code.Assertion) (id : ℕ) → i < length xs → x ≡ get_or xs i x → x.term ≡ Some id → i < held →
-    IsOfSame same (term_at ts id) → MayPass words same held (map (assertion_in ts) xs) →
+pub passed : (words : List (List ℕ)) (marks : ℕ → Bool) (held : ℕ) (ts : List Term) (xs : List code.Assertion)
+    (i : ℕ) (x : code.Assertion) (id : ℕ) → i < length xs → x ≡ get_or xs i x → x.term ≡ Some id → i < held →
+    IsOfSame marks (term_at ts id) → MayPass words marks held (map (assertion_in ts) xs) →
     (v : Valuation) → GivesWords words v → true ≡ holds (term_at ts id) v
-passed words same held ts xs i x id low is some few member pass v gives =
+passed words marks held ts xs i x id low is some few member pass v gives =
     sym (pass i (term_at ts id) few (there ts xs i x low is ∙ ap (λ o. Some (assertion_of ts o)) some) member v gives)
 
 pub true_all : (words : List (List ℕ)) (ts : List Term) (xs : List code.Assertion) (i : ℕ) → length xs ≤ i

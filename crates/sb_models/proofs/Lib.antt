@@ -2,3 +2,4 @@ pub mod ValueFacts
 pub mod Judging
 pub mod Passing
 pub mod Knowledge
+pub mod WordFacts

@@ -1,7 +1,8 @@
 -- What was true under other words stays so where a constant's word is the same.
-use Rattle.std.proofs.Common.{◌≡◌, ℕ, zero, suc, ◌<◌, Bool, true, List, [], ◌∷◌, take, refl, sym, ap, ap₂, ◌∙◌, arith, Some, None, slice_get}
+use Rattle.std.proofs.Common.{◌≡◌, ◌==◌, ℕ, zero, suc, ◌+◌, ◌<◌, Bool, true, false, List, [], ◌∷◌, take, refl, sym, ap, ap₂, subst, ◌∙◌, arith, Some, None, slice_get}
 use Rattle.std.specs.List.{list_all}
-use Rattle.std.proofs.lemmas.Bool.{and_parts, false≢true}
+use Rattle.std.proofs.lemmas.Bool.{and_parts, false≢true, eq-eqb}
+use Rattle.std.proofs.lemmas.Bool.Decides.{nat_tests}
 use Rattle.sb_meaning.specs.Terms.{Term, Terms, constant, word, numeral, apply, parameter, no_terms, with_term, text, str_in_re}
 use Rattle.sb_meaning.specs.Values.{Valuation, Text, value_in}
 use Rattle.sb_meaning.specs.Truth.{Meaning, meaning_of, meanings_of, meaning_of_value, applied, holds, all_true, truth_in}
@@ -11,10 +12,24 @@ use Rattle.sb_script.specs.Sizes.{is_regular}
 use Rattle.sb_script.specs.State.{Assertion, asserted}
 use Rattle.sb_fragment.specs.Memberships.{in_re}
 use Rattle.sb_fragment.specs.Rules.{is_decided}
-use Rattle.sb_stack.specs.Stacked.{values_from}
-use Rattle.sb_models.specs.Knowing.{is_true_under, IsTruthBy}
-use Rattle.sb_models.specs.Tried.{word_at, AreSame, AreKept, MayPass}
-use Rattle.sb_models.proofs.Judging.{words_given}
+use Rattle.sb_eval.specs.Given.{GivesWords}
+use Rattle.sb_models.specs.Knowing.{is_true_under, IsTruthBy, word_at}
+use Rattle.sb_models.specs.Tried.{AreSame, MayPass}
+
+-- words by serial, from this one on, as values
+abbrev values_from : ℕ → List (List ℕ) → Valuation
+values_from serial [] = []
+values_from serial (w ∷ words) = (serial, Text w) ∷ values_from (serial + 1) words
+
+value_from : (words : List (List ℕ)) (k j n : ℕ) → n ≡ k + j
+    → value_in (values_from k words) n text ≡ Text (word_at words j)
+value_from [] k j n e = refl
+value_from (w ∷ words) k zero n e = let same : (k == n) ≡ true = eq-eqb k n (omega arith) in rw same refl
+value_from (w ∷ words) k (suc j) n e = let other : (k == n) ≡ false = grind (arith, nat_tests) in
+    rw other (value_from words (k + 1) j n (omega arith))
+
+words_given : (words : List (List ℕ)) → GivesWords words (values_from 0 words)
+words_given words = λ serial. value_from words 0 serial serial (omega arith)
 
 -- a term without constants means the same under all values
 mutual
@@ -57,29 +72,33 @@ get_take [] (suc held) place l = refl
 get_take (x ∷ xs) (suc held) zero l = refl
 get_take (x ∷ xs) (suc held) (suc place) l = get_take xs held place (omega arith)
 
-pub may_pass : (old new : List (List ℕ)) (same : List Bool) (held : ℕ) (live : List Assertion)
-    → IsTruthBy old (take held live) true → list_all is_decided live ≡ true → AreSame old new same
-    → MayPass new same held live
-may_pass old new same held live true_before decided words place t low at m v gives =
+pub may_pass : (old new : List (List ℕ)) (marks : ℕ → Bool) (held : ℕ) (assertions : List Assertion)
+    → IsTruthBy old (take held assertions) true → list_all is_decided assertions ≡ true → AreSame old new marks
+    → MayPass new marks held assertions
+may_pass old new marks held assertions true_before decided words place t low at m v gives =
     let before : holds t (values_from 0 old) ≡ true =
-    all_at (is_true_under (values_from 0 old)) (take held live) place (asserted t)
-    (sym (true_before (values_from 0 old) (words_given old))) (get_take live held place low ∙ at) in
-    let one : is_decided (asserted t) ≡ true = all_at is_decided live place (asserted t) decided at in
+    all_at (is_true_under (values_from 0 old)) (take held assertions) place (asserted t)
+    (sym (true_before (values_from 0 old) (words_given old))) (get_take assertions held place low ∙ at) in
+    let one : is_decided (asserted t) ≡ true = all_at is_decided assertions place (asserted t) decided at in
     let is : is_decided (asserted (in_re (constant m.serial text) m.regex)) ≡ true =
     ap (λ u. is_decided (asserted u)) (sym m.is) ∙ one in
     let value : value_in v m.serial text ≡ value_in (values_from 0 old) m.serial text =
-    gives m.serial ∙ (ap Text (sym (words m.serial m.there)) ∙ sym (words_given old m.serial)) in
+    gives m.serial ∙ (ap Text (sym (words m.serial m.same)) ∙ sym (words_given old m.serial)) in
     ap (λ u. holds u v) m.is
     ∙ (member_same v (values_from 0 old) m.serial m.regex (ground_in m.serial m.regex is) value
     ∙ (ap (λ u. holds u (values_from 0 old)) (sym m.is) ∙ before))
 
+-- the same, of words and a number that are read out of where they are kept
+pub may_pass_of : (old o new n : List (List ℕ)) (marks : ℕ → Bool) (held h : ℕ) (assertions : List Assertion)
+    → o ≡ old → n ≡ new → h ≡ held → IsTruthBy old (take held assertions) true → list_all is_decided assertions ≡ true
+    → AreSame o new marks → MayPass n marks h assertions
+may_pass_of old o new n marks held h assertions p q r true_before decided same =
+    rw (q, r) (may_pass old new marks held assertions true_before decided
+    (subst (λ ws. AreSame ws new marks) p same))
+
 -- What was true under words is true under those that give each constant the same word.
 
-pub true_kept : (old o new : List (List ℕ)) (assertions : List Assertion) → o ≡ old → AreKept o new
-    → IsTruthBy old assertions true → IsTruthBy new assertions true
-true_kept old o new assertions is kept before v gives =
-    before v (λ serial. gives serial ∙ ap Text (kept serial ∙ ap (λ words. word_at words serial) is))
-
--- none stands before the first place
-pub none_pass : (words : List (List ℕ)) (same : List Bool) (live : List Assertion) → MayPass words same 0 live
-none_pass words same live place t low = absurd (omega arith)
+pub true_kept : (old new : List (List ℕ)) (marks : ℕ → Bool) (assertions : List Assertion) → AreSame old new marks
+    → ((serial : ℕ) → marks serial ≡ false) → IsTruthBy old assertions true → IsTruthBy new assertions true
+true_kept old new marks assertions same none before v gives =
+    before v (λ serial. gives serial ∙ ap Text (sym (same serial (none serial))))

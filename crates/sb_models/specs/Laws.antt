@@ -1,4 +1,5 @@
--- What is known of live assertions stays so, as the state grows.
+-- What is known of live assertions stays so, as the state grows, and where levels are left.
+use Rattle.std.specs.Prelude.{◌≡◌, ℕ, length}
 use Rattle.sb_term.specs.Numbered.{Extends}
 use Rattle.sb_stack.specs.Stacked.{Stacked, IsLonger}
 use Rattle.sb_models.specs.declared.models.Models.{Models}
@@ -8,3 +9,8 @@ use Rattle.sb_models.specs.Knowing.{Knows}
 abbrev pub ModelsStay : Type 0
 ModelsStay = (m : Models) (old new : Stacked) → Extends old.table new.table → IsLonger old.assertions new.assertions
     → Knows m old → Knows m new
+
+-- terms keep their numbers, and so many assertions, from the first on, their places
+abbrev pub AreTakenBack : ℕ → Models → Models → Type 0
+AreTakenBack count m m' = (old new : Stacked) → Extends old.table new.table → IsLonger new.assertions old.assertions
+    → length new.assertions ≡ count → Knows m old → Knows m' new

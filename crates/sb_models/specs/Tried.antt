@@ -1,12 +1,16 @@
 -- Private: values as words, and what of the last model holds under others.
-use Rattle.std.specs.Prelude.{◌≡◌, ℕ, ◌<◌, Bool, true, false, if◌then◌else◌, List, [], ◌∷◌, slice_get, Option, Some, None, option_map, unwrap_or}
+use Rattle.std.specs.Prelude.{◌≡◌, ◌==◌, ℕ, ◌<◌, Bool, true, false, if◌then◌else◌, List, [], ◌∷◌, length, slice_get, Option, Some, None, option_map}
+use Rattle.std.specs.HashSet.{HashSet, contains}
+use Rattle.std.specs.List.{list_all}
 use Rattle.sb_word.specs.Words.{are_characters}
 use Rattle.sb_meaning.specs.Terms.{Term, text, constant}
-use Rattle.sb_meaning.specs.Values.{Value, Valuation, Text, Int, Truth}
+use Rattle.sb_meaning.specs.Values.{Value, Valuation, Text, Int, Truth, value_in}
 use Rattle.sb_meaning.specs.Truth.{holds}
 use Rattle.sb_script.specs.State.{Assertion, asserted}
 use Rattle.sb_fragment.specs.Memberships.{in_re}
 use Rattle.sb_eval.specs.Given.{GivesWords}
+use Rattle.sb_term.specs.declared.term.Serial.{Serial}
+use Rattle.sb_models.specs.Knowing.{word_at, is_true_under}
 
 -- the numbers, or one of them is no character
 abbrev pub are_codes : List ℕ → Option (List ℕ) → Type 0
@@ -30,26 +34,58 @@ abbrev pub words_of : List Value → Option (List (List ℕ))
 words_of [] = Some []
 words_of (x ∷ xs) = put_first (word_of x) (words_of xs)
 
--- the word at a serial, the empty one past the last
-abbrev pub word_at : List (List ℕ) → ℕ → List ℕ
-word_at words serial = unwrap_or (slice_get words serial) []
+abbrev pub IsConstantAt : List Serial → ℕ → Serial → Type 0
+IsConstantAt constants place c = slice_get constants place ≡ Some c
 
--- where it says so, the words at a place are the same
-abbrev pub AreSame : List (List ℕ) → List (List ℕ) → List Bool → Type 0
-AreSame old new same = (n : ℕ) → slice_get same n ≡ Some true → word_at old n ≡ word_at new n
+-- The words of constants, one of each in order. The first of a serial counts, and another serial has this word.
+abbrev pub word_given : List Serial → List (List ℕ) → ℕ → List ℕ → List ℕ
+word_given [] words serial other = other
+word_given (c ∷ constants) [] serial other = other
+word_given (c ∷ constants) (w ∷ words) serial other =
+    if c.0 == serial then w else word_given constants words serial other
 
--- each constant has the word that it had, the empty one where it had none
-abbrev pub AreKept : List (List ℕ) → List (List ℕ) → Type 0
-AreKept old new = (serial : ℕ) → word_at new serial ≡ word_at old serial
+-- the values are those of constants with these words, the empty one for others
+abbrev pub GivesConstants : List Serial → List (List ℕ) → Valuation → Type 0
+GivesConstants constants words v = (serial : ℕ) → value_in v serial text ≡ Text (word_given constants words serial [])
 
--- the term is the membership of a constant whose word is said to be the same
-pub record IsOfSame (same : List Bool) (t : Term) : Type 0 where
+-- the test is that of whether all of them are true where constants have these words
+abbrev pub AreAllTrue : List Serial → List (List ℕ) → List Assertion → Bool → Type 0
+AreAllTrue constants words assertions truth =
+    (v : Valuation) → GivesConstants constants words v → truth ≡ list_all (is_true_under v) assertions
+
+-- the serials that the set has
+abbrev pub marks_of : {S : Type 0} → HashSet ℕ S → ℕ → Bool
+marks_of marks serial = contains (λ a b. a == b) marks serial
+
+abbrev pub also_marked : (ℕ → Bool) → ℕ → ℕ → Bool
+also_marked marks one serial = if one == serial then true else marks serial
+
+-- a serial that is not marked has the same word
+abbrev pub AreSame : List (List ℕ) → List (List ℕ) → (ℕ → Bool) → Type 0
+AreSame old new marks = (serial : ℕ) → marks serial ≡ false → word_at old serial ≡ word_at new serial
+
+-- a serial that is not marked now was not before, and has the same word
+abbrev pub Changes : List (List ℕ) → (ℕ → Bool) → List (List ℕ) → (ℕ → Bool) → Type 0
+Changes old marks new marks' = (serial : ℕ) → marks' serial ≡ false
+    → (marks serial ≡ false) × (word_at old serial ≡ word_at new serial)
+
+-- the word stands at the serial, and others stay
+abbrev pub IsPut : ℕ → List ℕ → List (List ℕ) → List (List ℕ) → Type 0
+IsPut place w old new = (serial : ℕ) → word_at new serial ≡ (if place == serial then w else word_at old serial)
+
+-- all words stay, and there is one at the place
+abbrev pub HasWordAt : ℕ → List (List ℕ) → List (List ℕ) → Type 0
+HasWordAt place old new = (place < length new) × ((serial : ℕ) → word_at new serial ≡ word_at old serial)
+
+-- the term is the membership of a constant whose serial is not marked
+pub record IsOfSame (marks : ℕ → Bool) (t : Term) : Type 0 where
   pub serial : ℕ
   pub regex : Term
   pub is : t ≡ in_re (constant serial text) regex
-  pub there : slice_get same serial ≡ Some true
+  pub same : marks serial ≡ false
 
 -- what stands at such a place, and is of a constant with the same word, is true where the constants have these words
-abbrev pub MayPass : List (List ℕ) → List Bool → ℕ → List Assertion → Type 0
-MayPass words same held live = (place : ℕ) (t : Term) → place < held → slice_get live place ≡ Some (asserted t)
-    → IsOfSame same t → (v : Valuation) → GivesWords words v → holds t v ≡ true
+abbrev pub MayPass : List (List ℕ) → (ℕ → Bool) → ℕ → List Assertion → Type 0
+MayPass words marks held assertions = (place : ℕ) (t : Term) → place < held
+    → slice_get assertions place ≡ Some (asserted t) → IsOfSame marks t → (v : Valuation) → GivesWords words v
+    → holds t v ≡ true

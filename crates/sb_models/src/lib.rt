@@ -3,9 +3,11 @@
 //!
 //! [`Models`] keeps what it knows from one check to the next: how many of the assertions are decided ones, and how many
 //! are true under the words of the last model. So a check looks at the assertions that are new, and of the others at
-//! those whose constant has another word. The layer above asks it before it takes a verdict of `sat`.
+//! those whose constant has another word. Where levels are left it is taken back to the assertions that are still there.
+//! The layer above asks it before it takes a verdict of `sat`.
 #![tactic(auto)]
 
+mod changes;
 mod laws;
 mod models;
 mod trying;

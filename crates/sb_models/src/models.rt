@@ -1,11 +1,10 @@
 //! What is known of live assertions.
 
-ghost use Rattle.std.specs.Prelude.{◌≡◌, true, [], map, IfOk};
+ghost use Rattle.std.specs.Prelude.{◌≡◌, ℕ, true, false, [], length, map, take, IfOk};
 ghost use Rattle.std.specs.List.{list_all};
 ghost use Rattle.sb_regex.specs.Numbered.{Extends};
 ghost use Rattle.sb_problem.specs.Known.{AreNormals};
 ghost use Rattle.sb_plain.specs.Memory.{IsRight};
-ghost use Rattle.sb_script.specs.State.{live};
 ghost use Rattle.sb_script.specs.Fragment.{in_fragment};
 ghost use Rattle.sb_rulebook.specs.Accepted.{question_in};
 ghost use Rattle.sb_rulebook.specs.Verdicts.{are_model_of};
@@ -13,18 +12,24 @@ ghost use Rattle.sb_fragment.specs.Measures.{AreMeasures};
 ghost use Rattle.sb_fragment.specs.Rules.{is_decided};
 ghost use Rattle.sb_proof.specs.Lines.{value_in};
 ghost use Rattle.sb_stack.specs.Stacked.{Stacked, state_of};
-ghost use Rattle.sb_models.specs.Knowing.{Knows, IsTruthBy};
+ghost use Rattle.sb_models.specs.Knowing.{Knows, IsTruthBy, assertions_of};
+ghost use Rattle.sb_models.specs.Tried.{marks_of, MayPass, AreAllTrue};
+ghost use Rattle.sb_models.specs.Laws.{AreTakenBack};
 
+use crate::changes::change;
 use crate::trying::{all_hold, fits};
-use crate::words::{are_kept, same_words, words_of};
+use crate::words::words_of;
 use sb_fragment::{Measures, fragment_is_of_each};
 use sb_plain::Plain;
 use sb_problem::Normals;
 use sb_proof::Value;
 use sb_regex::Arena;
 use sb_stack::Stack;
+use sb_term::Serial;
 use sb_word::Word;
 use std::alloc::{AllocError, Global};
+use std::collections::HashSet;
+use std::mem;
 
 /// What is known of the live assertions of a script from one check to the next.
 #[derive(Drop)]
@@ -33,8 +38,10 @@ pub struct Models {
     pub inside: usize,
     /// So many are known to be true under the words of the last model.
     pub held: usize,
-    /// These words, the one of each constant at its serial.
+    /// These words, the one of each constant at its serial, and the empty one at any other.
     pub words: Vec<Word>,
+    /// The constants that were live there.
+    pub constants: Vec<Serial>,
 }
 
 impl Models {
@@ -46,7 +53,17 @@ impl Models {
             inside: 0,
             held: 0,
             words: Vec::new(alloc),
+            constants: Vec::new(alloc),
         }
+    }
+
+    /// Takes back what is known to so many assertions, those that are still there where levels were left. Takes no
+    /// memory; constant time.
+    pub fn take_back(&mut self, count: usize)
+        ensures { AreTakenBack count self.old self.new }
+    {
+        self.inside = self.inside.min(count);
+        self.held = self.held.min(count);
     }
 
     /// Whether all live assertions are decided ones. Linear in those that are new since the last call, but that terms
@@ -70,14 +87,15 @@ impl Models {
         Ok(true)
     }
 
-    /// Whether the values, in the order of the constants, are a model of the live assertions, which are decided ones:
-    /// there is a word for each constant, and the words make each assertion true. Where they are, they are kept.
+    /// Whether the values, in the order of the live constants, are a model of the live assertions, which are decided
+    /// ones: there is a word for each constant, and the words make each assertion true. Where they are, they are kept.
     ///
     /// Where each constant has the word that it had in the last model, and each one declared since has the empty word,
     /// only the assertions behind those that were true there are looked at. Else all are, and one that was true there
     /// and whose constant has the word that it had there is passed over in constant time. For each other one the cost
-    /// is that of [`sb_eval::eval`]. Linear in the values besides. `AllocError` only for want of memory; what was known
-    /// stays so then.
+    /// is that of [`sb_eval::eval`]. Linear in the values besides, and in the constants of the last model that are gone.
+    /// After values that are none of a model, and after want of memory, the next call looks at all assertions.
+    /// `AllocError` only for want of memory.
     pub fn is_model(
         &mut self,
         alloc: Global,
@@ -99,45 +117,79 @@ impl Models {
         ensures right { IsRight arena.new plain.new }
     {
         fragment_is_of_each();
-        let declared = stack.declared();
+        let _declared = stack.declared();
+        let constants = stack.constants()?;
         let Some(words) = words_of(alloc, values)? else {
             return Ok(false);
         };
-        if words.len() != declared {
+        if words.len() != constants.len() {
             return Ok(false);
         }
-        if !self.are_true(alloc, plain, normals, arena, stack, &words)? {
-            return Ok(false);
-        }
-        self.inside = stack.assertions().len();
-        self.held = self.inside;
-        self.words = words;
-        Ok(true)
+        self.hold_under(alloc, plain, normals, arena, stack, constants, words)
     }
 
-    /// Whether all live assertions are true under words.
-    fn are_true(
-        &self,
+    /// Whether all live assertions are true where the live constants have these words, one each. Where they are, the
+    /// words are kept.
+    fn hold_under(
+        &mut self,
         alloc: Global,
         plain: &mut Plain,
         normals: &mut Normals,
         arena: &mut Arena,
         stack: &Stack,
-        words: &[Word],
+        constants: Vec<Serial>,
+        given: Vec<Word>,
     ) -> Result<bool, AllocError>
-        requires knows { Knows self.now stack.now }
-        requires decided { list_all is_decided (live (state_of stack.now)) ≡ true }
+        requires knows { Knows self.old stack.now }
+        requires decided { list_all is_decided (assertions_of stack.now) ≡ true }
+        requires long { length given.items ≡ length constants.items }
         requires normals { AreNormals stack.now.table arena.old normals.old }
         requires right { IsRight arena.old plain.old }
-        ensures ok { IfOk result (IsTruthBy words.now (live (state_of stack.now))) }
+        ensures ok { IfOk result (AreAllTrue constants.items given.items (assertions_of stack.now)) }
+        ensures knows { Knows self.new stack.now }
         ensures extends { Extends arena.old arena.new }
         ensures normals { AreNormals stack.now.table arena.new normals.new }
         ensures right { IsRight arena.new plain.new }
     {
-        if are_kept(&self.words, words) {
-            return all_hold(plain, normals, arena, stack, words, &[], 0, self.held);
+        let held = mem::replace(&mut self.held, 0);
+        let before = mem::replace(&mut self.constants, Vec::new(alloc));
+        let mut words = mem::replace(&mut self.words, Vec::new(alloc));
+        let changed = change(alloc, &mut words, &before, &constants, given)?;
+        if !are_true(plain, normals, arena, stack, &words, &changed, held)? {
+            return Ok(false);
         }
-        let same = same_words(alloc, &self.words, words)?;
-        all_hold(plain, normals, arena, stack, words, &same, self.held, 0)
+        self.inside = stack.assertions().len();
+        self.held = self.inside;
+        self.words = words;
+        self.constants = constants;
+        Ok(true)
     }
+}
+
+/// Whether all live assertions are true under words, where the first so many are but for those whose constant has
+/// another word than before.
+fn are_true(
+    plain: &mut Plain,
+    normals: &mut Normals,
+    arena: &mut Arena,
+    stack: &Stack,
+    words: &[Word],
+    changed: &HashSet<u64>,
+    held: usize,
+) -> Result<bool, AllocError>
+    requires decided { list_all is_decided (assertions_of stack.now) ≡ true }
+    requires pass { MayPass words.now (marks_of changed.now) held (assertions_of stack.now) }
+    requires before { ((serial : ℕ) → marks_of changed.now serial ≡ false)
+        → IsTruthBy words.now (take held (assertions_of stack.now)) true }
+    requires normals { AreNormals stack.now.table arena.old normals.old }
+    requires right { IsRight arena.old plain.old }
+    ensures ok { IfOk result (IsTruthBy words.now (assertions_of stack.now)) }
+    ensures extends { Extends arena.old arena.new }
+    ensures normals { AreNormals stack.now.table arena.new normals.new }
+    ensures right { IsRight arena.new plain.new }
+{
+    if changed.is_empty() {
+        return all_hold(plain, normals, arena, stack, words, changed, 0, held);
+    }
+    all_hold(plain, normals, arena, stack, words, changed, held, 0)
 }

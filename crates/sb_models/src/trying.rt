@@ -6,12 +6,11 @@ ghost use Rattle.sb_regex.specs.Numbered.{Extends};
 ghost use Rattle.sb_term.specs.Numbered.{term_at};
 ghost use Rattle.sb_problem.specs.Known.{AreNormals};
 ghost use Rattle.sb_plain.specs.Memory.{IsRight};
-ghost use Rattle.sb_script.specs.State.{live};
 ghost use Rattle.sb_fragment.specs.Rules.{is_decided};
 ghost use Rattle.sb_fragment.specs.Measures.{AreMeasures};
-ghost use Rattle.sb_stack.specs.Stacked.{state_of, assertion_in, HasNumberBelow};
-ghost use Rattle.sb_models.specs.Knowing.{IsTruthBy};
-ghost use Rattle.sb_models.specs.Tried.{IsOfSame, MayPass};
+ghost use Rattle.sb_stack.specs.Stacked.{assertion_in, HasNumberBelow};
+ghost use Rattle.sb_models.specs.Knowing.{IsTruthBy, assertions_of};
+ghost use Rattle.sb_models.specs.Tried.{marks_of, IsOfSame, MayPass};
 
 use sb_eval::eval;
 use sb_fragment::{Measures, membership};
@@ -22,6 +21,7 @@ use sb_stack::Stack;
 use sb_term::{Assertion, Table, TermId};
 use sb_word::Word;
 use std::alloc::AllocError;
+use std::collections::HashSet;
 
 /// Whether an assertion is a decided one.
 pub(crate) fn fits(
@@ -40,46 +40,43 @@ pub(crate) fn fits(
     }
 }
 
-/// Whether the term is the membership of a constant whose word is said to be the same.
-fn is_of_same(table: &Table, id: TermId, same: &[bool]) -> bool
+/// Whether the term is the membership of a constant whose word is not said to be another one.
+fn is_of_same(table: &Table, id: TermId, changed: &HashSet<u64>) -> bool
     requires { id < length table.now }
-    ensures { result ≡ true → IsOfSame same.now (term_at table.now id) }
+    ensures { result ≡ true → IsOfSame (marks_of changed.now) (term_at table.now id) }
 {
     let Some((serial, _)) = membership(table, id) else {
         return false;
     };
-    match same.get(serial.0 as usize) {
-        Some(same) => *same,
-        None => false,
-    }
+    !changed.contains(&serial.0)
 }
 
 /// Whether the term, of the assertion at a place, is of such a constant, and among the first so many.
-fn may_pass(table: &Table, id: TermId, place: usize, same: &[bool], held: usize) -> bool
+fn may_pass(table: &Table, id: TermId, place: usize, changed: &HashSet<u64>, held: usize) -> bool
     requires { id < length table.now }
-    ensures { result ≡ true → (place < held) × IsOfSame same.now (term_at table.now id) }
+    ensures { result ≡ true → (place < held) × IsOfSame (marks_of changed.now) (term_at table.now id) }
 {
-    place < held && is_of_same(table, id, same)
+    place < held && is_of_same(table, id, changed)
 }
 
 /// Whether all live assertions are true under words, where those before a place are, and where those of the first so
-/// many are whose constant has the same word as before.
+/// many are whose constant has no other word than before.
 pub(crate) fn all_hold(
     plain: &mut Plain,
     normals: &mut Normals,
     arena: &mut Arena,
     stack: &Stack,
     words: &[Word],
-    same: &[bool],
+    changed: &HashSet<u64>,
     held: usize,
     from: usize,
 ) -> Result<bool, AllocError>
-    requires decided { list_all is_decided (live (state_of stack.now)) ≡ true }
-    requires pass { MayPass words.now same.now held (live (state_of stack.now)) }
-    requires before { IsTruthBy words.now (take from (live (state_of stack.now))) true }
+    requires decided { list_all is_decided (assertions_of stack.now) ≡ true }
+    requires pass { MayPass words.now (marks_of changed.now) held (assertions_of stack.now) }
+    requires before { IsTruthBy words.now (take from (assertions_of stack.now)) true }
     requires normals { AreNormals stack.now.table arena.old normals.old }
     requires right { IsRight arena.old plain.old }
-    ensures ok { IfOk result (IsTruthBy words.now (live (state_of stack.now))) }
+    ensures ok { IfOk result (IsTruthBy words.now (assertions_of stack.now)) }
     ensures extends { Extends arena.old arena.new }
     ensures normals { AreNormals stack.now.table arena.new normals.new }
     ensures right { IsRight arena.new plain.new }
@@ -91,7 +88,7 @@ pub(crate) fn all_hold(
         let Some(id) = assertion.term else {
             return Ok(false);
         };
-        if may_pass(table, id, place, same, held) {
+        if may_pass(table, id, place, changed, held) {
             continue;
         }
         if !eval(plain, normals, arena, table, id, words)? {

@@ -2,7 +2,8 @@
 
 ghost use Rattle.std.specs.Prelude.{◌≡◌, true, map, option_map, IfOk};
 ghost use Rattle.sb_proof.specs.Lines.{value_in};
-ghost use Rattle.sb_models.specs.Tried.{word_of, words_of, word_in, are_codes, word_at, AreSame, AreKept};
+ghost use Rattle.sb_models.specs.Knowing.{word_at};
+ghost use Rattle.sb_models.specs.Tried.{word_of, words_of, word_in, are_codes};
 
 use sb_proof::Value;
 use sb_word::{CodesError, Word};
@@ -68,37 +69,11 @@ fn are_equal(one: &Word, other: &Word) -> bool
 }
 
 /// Whether the word is the one at the place, the empty one past the last.
-fn is_at(words: &[Word], place: usize, word: &Word) -> bool
+pub(crate) fn is_at(words: &[Word], place: usize, word: &Word) -> bool
     ensures { result ≡ true → word_at words.now place ≡ word.now }
 {
     match words.get(place) {
         Some(other) => are_equal(other, word),
         None => word.codes().is_empty(),
     }
-}
-
-/// By place, whether the new word is the old one, the empty one past the last.
-pub(crate) fn same_words(alloc: Global, old: &[Word], new: &[Word]) -> Result<Vec<bool>, AllocError>
-    ensures { IfOk result (λ same. AreSame old.now new.now same.items) }
-{
-    let mut same = Vec::new(alloc);
-    for (place, word) in new.iter().enumerate() {
-        same.push(is_at(old, place, word))?;
-    }
-    Ok(same)
-}
-
-/// Whether each constant has the word that it had, the empty one where it had none.
-pub(crate) fn are_kept(old: &[Word], new: &[Word]) -> bool
-    ensures { result ≡ true → AreKept old.now new.now }
-{
-    if old.len() > new.len() {
-        return false;
-    }
-    for (place, word) in new.iter().enumerate() {
-        if !is_at(old, place, word) {
-            return false;
-        }
-    }
-    true
 }

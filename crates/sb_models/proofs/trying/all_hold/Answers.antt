@@ -2,7 +2,7 @@ use Rattle.std.proofs.Common.{◌≡◌, ◌≤◌, true, length, subst, sym, ap
 use Rattle.sb_meaning.specs.Truth.{holds}
 use Rattle.sb_script.specs.Brought.{is_membership}
 use Rattle.sb_term.specs.Numbered.{term_at}
-use Rattle.sb_models.specs.Tried.{IsOfSame}
+use Rattle.sb_models.specs.Tried.{IsOfSame, marks_of}
 use Rattle.sb_models.proofs.Knowledge.{no_mark, inside_at, true_first, true_more, false_at, passed, true_all}
 use Rattle.sb_models.proofs.trying.all_hold.Goals as goal
 
@@ -30,9 +30,9 @@ loop-place-preserved-then-may_pass c =
       c.loop-place.invariant.2,
       true_more c.args.words.now c.args.stack.now.table c.args.stack.now.assertions c.loop-place.place
           c.index-assertions-place.result c.in-Some.id low is c.in-Some.is
-          (passed c.args.words.now c.args.same.now c.args.held c.args.stack.now.table c.args.stack.now.assertions
+          (passed c.args.words.now (marks_of c.args.changed.now) c.args.held c.args.stack.now.table c.args.stack.now.assertions
           c.loop-place.place c.index-assertions-place.result c.in-Some.id low is c.in-Some.is known.0
-          (subst (λ ts. IsOfSame c.args.same.now (term_at ts c.in-Some.id)) c.table-table.ensures known.1)
+          (subst (λ ts. IsOfSame (marks_of c.args.changed.now) (term_at ts c.in-Some.id)) c.table-table.ensures known.1)
           c.requires.pass) c.loop-place.invariant.3,
     )
 

@@ -1,6 +1,9 @@
 use Rattle.std.proofs.Common.{◌≤◌, length, subst, ap, sym, ◌∙◌, arith}
 use Rattle.sb_fragment.specs.Measures.{AreMeasures}
+use Rattle.std.specs.List.{list_all}
+use Rattle.sb_fragment.specs.Rules.{is_decided}
 use Rattle.sb_stack.specs.Stacked.{state_of}
+use Rattle.sb_stack.proofs.CallerLemmas.{live_laid}
 use Rattle.sb_models.proofs.Knowledge.{is_outside, knows_next, all_inside}
 use Rattle.sb_models.proofs.models.Models.is_inside.Goals as goal
 
@@ -26,4 +29,5 @@ returns-clause-ok c =
     let long : length c.args.stack.now.assertions ≤ c.loop-self.self.inside =
     omega (arith, c.loop-self-test.false, ap length c.assertions-assertions.ensures.value) in
     sym (c.fragment_is_of_each.ensures (state_of c.args.stack.now)
-    ∙ all_inside c.loop-self.self c.args.stack.now c.loop-self.invariant.0 long)
+    ∙ (ap (list_all is_decided) (live_laid c.args.stack.now)
+    ∙ all_inside c.loop-self.self c.args.stack.now c.loop-self.invariant.0 long))

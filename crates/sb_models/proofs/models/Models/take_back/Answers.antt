@@ -1,0 +1,9 @@
+use Rattle.std.proofs.Common.{refl, arith}
+use Rattle.sb_models.proofs.Knowledge.{knows_front}
+use Rattle.sb_models.proofs.models.Models.take_back.Goals as goal
+
+pub returns : goal.returns
+returns c old new e longer is k =
+    knows_front c.args.self.now _ old new e longer k (omega (arith, c.min-self.ensures))
+    (omega (arith, is, c.min-self.ensures)) (omega (arith, c.min-self-2.ensures))
+    (omega (arith, c.min-self.ensures, c.min-self-2.ensures, k.held_front)) refl refl
