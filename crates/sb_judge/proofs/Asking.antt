@@ -1,17 +1,21 @@
 -- What a check of the state asks of a line, over the table of its terms.
-use Rattle.std.proofs.Common.{◌≡◌, ℕ, zero, suc, true, false, nat_lt, List, [], ◌∷◌, map, Option, Some, None, option_map, refl, ap₂, sym, ◌∙◌, subst, arith}
+use Rattle.std.proofs.Common.{◌≡◌, ℕ, zero, suc, ◌+◌, true, false, nat_lt, List, [], ◌∷◌, ◌++◌, map, length, take, drop, Option, Some, None, option_map, refl, ap, ap₂, sym, ◌∙◌, subst, arith}
 use Rattle.std.specs.List.{All, list_all}
 use Rattle.std.proofs.lemmas.Bool.{and_parts}
 use Rattle.std.proofs.lemmas.Bool.Decides.{nat_tests}
-use Rattle.std.proofs.lemmas.List.Elements.{All-nil, All-cons}
+use Rattle.std.proofs.lemmas.List.{take-map, drop-map, map-append, take-append-drop}
+use Rattle.std.proofs.lemmas.List.Elements.{All-nil, All-cons, All-head, All-tail}
 use Rattle.sb_meaning.specs.Terms.{Term, boolean, integer, text}
 use Rattle.sb_script.specs.State as meaning
 use Rattle.sb_rulebook.specs.AtomRules.{is_declared}
-use Rattle.sb_rulebook.specs.Accepted.{at_level, asked_in, term_of}
+use Rattle.sb_script.specs.Scopes.{Naming}
+use Rattle.sb_rulebook.specs.Accepted.{at_level, live_by_level, asked_in, term_of}
 use Rattle.sb_term.specs.Numbered.{term_at}
 use Rattle.sb_term.specs.declared.assertion.Assertion.{Assertion}
-use Rattle.sb_sorts.specs.Scopes.{texts}
-use Rattle.sb_stack.specs.Stacked.{Stacked, state_of, assertion_in, assertion_of}
+use Rattle.sb_sorts.specs.Scopes.{texts, names_in}
+use Rattle.sb_stack.specs.declared.stack.Level.{Level}
+use Rattle.sb_stack.specs.Stacked.{Stacked, state_of, assertion_in, assertion_of, first_level, levels_above, AreAtLevels}
+use Rattle.sb_stack.proofs.CallerLemmas.{live_laid}
 use Rattle.sb_reached.specs.SimpleStates.{is_simple}
 use Rattle.sb_rules.specs.Kept.{IsAsked, IsSimple, live_in}
 
@@ -19,10 +23,33 @@ term_as : (ts : List Term) (t : Option ℕ) → term_of (assertion_of ts t) ≡ 
 term_as ts None = refl
 term_as ts (Some id) = refl
 
-live_as : (ts : List Term) (assertions : List Assertion)
-    → at_level 0 (map (assertion_in ts) assertions) ≡ map (live_in ts) assertions
-live_as ts [] = refl
-live_as ts (a ∷ rest) = ap₂ (λ t ls. (t, 0) ∷ ls) (term_as ts a.term) (live_as ts rest)
+at_one_level : (ts : List Term) (level : ℕ) (assertions : List Assertion) → All (λ a. a.level ≡ level) assertions
+    → at_level level (map (assertion_in ts) assertions) ≡ map (live_in ts) assertions
+at_one_level ts level [] h = refl
+at_one_level ts level (a ∷ rest) h =
+    ap₂ (λ x ls. x ∷ ls)
+    (ap₂ (λ t n. (t, n)) (term_as ts a.term) (sym (All-head (λ (b : Assertion). b.level ≡ level) a rest h)))
+    (at_one_level ts level rest (All-tail (λ (b : Assertion). b.level ≡ level) a rest h))
+
+as_many : (ls : List Level) (names : List Naming) (assertions : List meaning.Assertion)
+    → length (levels_above ls names assertions) ≡ length ls
+as_many [] names assertions = refl
+as_many (l ∷ ls) names assertions = ap suc (as_many ls (take l.names names) (take l.assertions assertions))
+
+-- the live assertions with their levels, by the number that each has
+live_as : (ts : List Term) (ls : List Level) (names : List Naming) (xs : List Assertion) → AreAtLevels ls xs
+    → live_by_level (first_level ls names (map (assertion_in ts) xs)) (levels_above ls names (map (assertion_in ts) xs))
+    ≡ map (live_in ts) xs
+live_as ts [] names xs h = at_one_level ts 0 xs h
+live_as ts (l ∷ ls) names xs h =
+    ap₂ (λ a b. a ++ b)
+    (ap (λ ys. live_by_level (first_level ls (take l.names names) ys) (levels_above ls (take l.names names) ys))
+    (take-map (assertion_in ts) l.assertions xs) ∙ live_as ts ls (take l.names names) (take l.assertions xs) h.1)
+    (ap₂ (λ m ys. at_level (m + 1) ys)
+    (as_many ls (take l.names names) (take l.assertions (map (assertion_in ts) xs)))
+    (drop-map (assertion_in ts) l.assertions xs) ∙ at_one_level ts (length ls + 1) (drop l.assertions xs) h.0)
+    ∙ (sym (map-append (live_in ts) (take l.assertions xs) (drop l.assertions xs))
+    ∙ ap (map (live_in ts)) (take-append-drop l.assertions xs))
 
 texts_there : (n serial : ℕ) → is_declared (texts n) text serial ≡ nat_lt serial n
 texts_there zero serial = sym (none serial)
@@ -48,10 +75,10 @@ integers_there zero serial = refl
 integers_there (suc n) zero = refl
 integers_there (suc n) (suc serial) = integers_there n serial
 
-pub asked_of : (stack : Stacked)
+pub asked_of : (stack : Stacked) → AreAtLevels stack.levels stack.assertions
     → IsAsked stack.table stack.assertions stack.scope.declared 0 (asked_in (state_of stack))
-asked_of stack = record {
-  live = live_as stack.table stack.assertions;
+asked_of stack levels = record {
+  live = live_as stack.table stack.levels (names_in stack.scope) stack.assertions levels;
   declared = record {
     texts = texts_there stack.scope.declared;
     booleans = booleans_there stack.scope.declared;
@@ -76,16 +103,17 @@ simple_of ts (a ∷ rest) h = step a.term refl h (simple_of ts rest)
         All-cons (IsSimple ts) a rest (rw is parts.0) (again parts.1)
 
 pub asked_over : (stack : Stacked) (ts : List Term) (assertions : List Assertion) (n : ℕ) → ts ≡ stack.table
-    → assertions ≡ stack.assertions → n ≡ stack.scope.declared
+    → assertions ≡ stack.assertions → n ≡ stack.scope.declared → AreAtLevels stack.levels stack.assertions
     → IsAsked ts assertions n 0 (asked_in (state_of stack))
-asked_over stack ts assertions n t a d =
+asked_over stack ts assertions n t a d levels =
     subst (λ x. IsAsked x assertions n 0 (asked_in (state_of stack))) (sym t)
     (subst (λ x. IsAsked stack.table x n 0 (asked_in (state_of stack))) (sym a)
-    (subst (λ x. IsAsked stack.table stack.assertions x 0 (asked_in (state_of stack))) (sym d) (asked_of stack)))
+    (subst (λ x. IsAsked stack.table stack.assertions x 0 (asked_in (state_of stack))) (sym d) (asked_of stack levels)))
 
 pub simple_over : (stack : Stacked) (ts : List Term) (assertions : List Assertion) → ts ≡ stack.table
     → assertions ≡ stack.assertions → list_all is_simple (meaning.live_terms (state_of stack)) ≡ true
     → All (IsSimple ts) assertions
 simple_over stack ts assertions t a h =
     subst (λ x. All (IsSimple x) assertions) (sym t)
-    (subst (λ x. All (IsSimple stack.table) x) (sym a) (simple_of stack.table stack.assertions h))
+    (subst (λ x. All (IsSimple stack.table) x) (sym a) (simple_of stack.table stack.assertions
+    (ap (λ live. list_all is_simple (meaning.terms_in live)) (sym (live_laid stack)) ∙ h)))
