@@ -7,7 +7,8 @@ use Rattle.sb_rulebook.specs.Refusals.{missing_line}
 use Rattle.sb_rulebook.specs.Reading.{LineText, texts_of}
 use Rattle.sb_rulebook.specs.Judging.{Event, asks, Phase, at_rest, at_check, Progress, takes, along_all, refused, outcome_of, closed}
 use Rattle.sb_rulebook.specs.JudgingLaws.{RefusalIsFinal}
-use Rattle.sb_rulebook.specs.Accepted.{question_in}
+use Rattle.sb_script.specs.Steps.{Leaving}
+use Rattle.sb_rulebook.specs.Accepted.{question_in, event_of_leaving}
 use Rattle.sb_stack.specs.Stacked.{state_of}
 use Rattle.sb_proof.specs.Lines.{said_in}
 use Rattle.sb_proof.specs.declared.line.Said.{Said}
@@ -21,11 +22,12 @@ use Rattle.sb_judge.specs.declared.reason.JudgeFault.TheVariants as judge_fault
 use Rattle.sb_judge.specs.declared.reason.Reason.TheVariants as reason
 use Rattle.sb_judge.specs.Reasons.{reason_in}
 use Rattle.sb_judge.specs.Standing.{IsAt, IsRefusal, Took, waiting_in}
+use Rattle.sb_judge.specs.Entering.{behind}
 use Rattle.sb_checker.specs.declared.checker.CheckerFault.{CheckerFault}
 use Rattle.sb_checker.specs.declared.checker.CheckerFault.TheVariants as fault
 use Rattle.sb_checker.specs.Going.{Goes, Fails, IsRefusedAlong, fault_of_judge}
 use Rattle.sb_checker.specs.Through.{goes_through, phase_behind, verdicts_of, GoesThrough, StopsThrough}
-use Rattle.sb_checker.proofs.ThroughFacts.{line_due, no_check_due, check_due, missing_at_check, refused_at_check}
+use Rattle.sb_checker.proofs.ThroughFacts.{line_due, no_check_due, leaving_due, said_at_leaving, check_due, missing_at_check, refused_at_check}
 use Rattle.sb_checker.proofs.ReadingOn.{reads_nothing, reads_of, reads_more, leaves_more, proof_none, proof_more, past_more}
 
 -- One line.
@@ -190,6 +192,27 @@ entry_goes old new s o es none same = record {
     rests = at_rest_still old new p same at;
     said_is = sym (append-nil p.said);
     goes = λ fs. ap (λ (events : List Event). along_all p (events ++ fs) (texts_of (s.kept ++ left))) none;
+  };
+}
+
+pub entry_left : (old new : Judge) (s : LinesState) (o : Outside) (es : List Event) (what : Leaving)
+    → es ≡ event_of_leaving what ∷ [] → ((p : Progress) → IsAt at_rest old p → IsAt at_rest new (behind es p))
+    → Goes [] es old new s s o o
+entry_left old new s o es what one comes = record {
+  count = 0;
+  reads = reads_nothing s o;
+  came = λ p left at l. record {
+    within = omega arith;
+    left_is = l;
+    progress = behind es p;
+    rests = comes p at;
+    said_is = ap (λ (events : List Event). (behind events p).said) one
+        ∙ said_at_leaving what p at.is ∙ sym (append-nil p.said);
+    goes = λ fs.
+        let texts = texts_of (s.kept ++ left) in
+        ap (λ (events : List Event). along_all p (events ++ fs) texts) one
+        ∙ leaving_due what p fs texts at.is
+        ∙ ap (λ (events : List Event). along_all (behind events p) fs texts) (sym one);
   };
 }
 

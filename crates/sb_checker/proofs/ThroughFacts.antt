@@ -6,6 +6,9 @@ use Rattle.sb_rulebook.specs.Reading.{LineText, read}
 use Rattle.sb_rulebook.specs.Verdicts.{Question}
 use Rattle.sb_rulebook.specs.Judging.{Event, asks, ends, Phase, at_rest, at_check, at_end, behind_end, stopped, Progress, met, meets, stop, takes_read, takes, takes_all, is_at_check, through, along, along_all, accepted, refused, outcome_in, outcome_of, closed, closed_in}
 use Rattle.sb_rulebook.specs.JudgingLaws.{RefusalIsFinal}
+use Rattle.sb_script.specs.Steps.{Leaving, above, all}
+use Rattle.sb_rulebook.specs.Accepted.{event_of_leaving}
+use Rattle.sb_judge.specs.Entering.{behind}
 use Rattle.sb_checker.specs.Through.{goes_through}
 
 -- Where no check waits no line is due, and where one waits the next line is.
@@ -45,6 +48,28 @@ meets_at_check q e p is = ap (λ (phase : Phase). elim phase as (λ _. Progress)
   | behind_end ↦ p
   | stopped n refusal ↦ p
 ]) is
+
+-- where levels are left no line is due
+
+leaving_rests : (what : Leaving) (p : Progress) → p.phase ≡ at_rest → (met (event_of_leaving what) p).phase ≡ at_rest
+leaving_rests (above n) p is = is
+leaving_rests all p is = is
+
+leaving_said : (what : Leaving) (p : Progress) → (met (event_of_leaving what) p).said ≡ p.said
+leaving_said (above n) p = refl
+leaving_said all p = refl
+
+pub leaving_due : (what : Leaving) (p : Progress) (es : List Event) (texts : List LineText) → p.phase ≡ at_rest
+    → along_all p (event_of_leaving what ∷ es) texts ≡ along_all (behind (event_of_leaving what ∷ []) p) es texts
+leaving_due what p es texts is =
+    ap (λ r. let s = along r.0 (es ++ ends ∷ []) r.1 in takes_all s.1 s.0)
+    (none_due at_rest (meets (event_of_leaving what) p) texts refl
+    (ap (λ (q : Progress). q.phase) (meets_at_rest (event_of_leaving what) p is) ∙ leaving_rests what p is))
+
+pub said_at_leaving : (what : Leaving) (p : Progress) → p.phase ≡ at_rest
+    → (behind (event_of_leaving what ∷ []) p).said ≡ p.said
+said_at_leaving what p is =
+    ap (λ (q : Progress). q.said) (meets_at_rest (event_of_leaving what) p is) ∙ leaving_said what p
 
 -- a check takes its lines
 pub check_due : (q : Question) (p : Progress) (es : List Event) (texts : List LineText) → p.phase ≡ at_rest

@@ -99,6 +99,7 @@ impl Checker {
     {
         match self.judge.enter(entry)? {
             Entered::Goes => Ok(Checked::Goes),
+            Entered::Left => Ok(Checked::Goes),
             Entered::Ends => Ok(Checked::Ends),
             Entered::Waits => Ok(Checked::Said(self.verdict(lines, world)?)),
         }
