@@ -14,7 +14,6 @@ use Rattle.sb_script.specs.Scopes.{Constant}
 use Rattle.sb_script.specs.State.{Level, Assertion, fits, over_levels, constants_of}
 use Rattle.sb_rulebook.specs.Accepted.{at_level, live_by_level, question_in}
 use Rattle.sb_rulebook.specs.Verdicts.{valued, are_model_of, assertion_holds}
-use Rattle.sb_eval.specs.Given.{GivesWords}
 use Rattle.sb_term.specs.declared.term.Serial.{Serial}
 use Rattle.sb_stack.specs.Stacked as stacked
 use Rattle.sb_stack.specs.Stacked.{Stacked, state_of, live_serials, values_at, are_words}
