@@ -23,9 +23,9 @@ use Rattle.sb_trace.specs.Putting.{IsCounted}
 use Rattle.sb_trace.proofs.CallerLemmas.{puts_none, puts_both}
 use Rattle.sb_decide.specs.Places.{IsRegexAt, AreRegexesAt, HasNoWordAt}
 use Rattle.sb_refute.specs.declared.evidence.Asserted.{Asserted}
-use Rattle.sb_refute.specs.Backing.{Backing, Backs, Evidences, EvidencesUncounted, KeepsAsserted, asserted_at}
+use Rattle.sb_refute.specs.Backing.{Backing, Backs, Evidences, EvidencesUncounted, asserted_at}
 use Rattle.sb_refute.specs.Refuting.{AreDisjoint, membership_of, membership_at}
-use Rattle.sb_prover.specs.Claiming.{HasClause, IsClaimed, Claims, AreClaimed}
+use Rattle.sb_prover.specs.Claiming.{IsClaimed, Claims, AreClaimed}
 
 same-some : {X : Type 0} (x y : X) → Some x ≡ Some y → x ≡ y
 same-some x y h = cc
@@ -60,8 +60,9 @@ atom-kept old new i m grows h = step (slice_get old i) refl h
         ap (option_and_then membership_of)
         (ap (λ xs. slice_get xs i) grows.is ∙ got-more old grows.more i a is) ∙ k
 
-membership-kept : (e f : Backing) (place : ℕ) (m : ℕ × ℕ) → numbered.Extends e.atoms f.atoms → KeepsAsserted e f
-    → membership_at e place ≡ Some m → membership_at f place ≡ Some m
+membership-kept : (e f : Backing) (place : ℕ) (m : ℕ × ℕ) → numbered.Extends e.atoms f.atoms
+    → asserted_at f.asserted place ≡ asserted_at e.asserted place → membership_at e place ≡ Some m
+    → membership_at f place ≡ Some m
 membership-kept e f place m grows stays h = step (asserted_at e.asserted place) refl h
   where
     at : List (AtomOver ℕ) → Option Asserted → Option (ℕ × ℕ)
@@ -70,11 +71,12 @@ membership-kept e f place m grows stays h = step (asserted_at e.asserted place) 
     step : (o : Option Asserted) → asserted_at e.asserted place ≡ o → at e.atoms o ≡ Some m
         → at f.atoms (asserted_at f.asserted place) ≡ Some m
     step None is k = absurd (none-some m k)
-    step (Some a) is k = ap (at f.atoms) (stays place a is) ∙ atom-kept e.atoms f.atoms a.literal.atom m grows k
+    step (Some a) is k = ap (at f.atoms) (stays ∙ is) ∙ atom-kept e.atoms f.atoms a.literal.atom m grows k
 
 claimed-kept : (assertions : List Assertion) (serial place : ℕ) (rs more : List Regex) (e f : Backing)
-    → Extends rs more → numbered.Extends e.atoms f.atoms → KeepsAsserted e f
-    → IsClaimed assertions serial rs e place → IsClaimed assertions serial more f place
+    → Extends rs more → numbered.Extends e.atoms f.atoms
+    → asserted_at f.asserted place ≡ asserted_at e.asserted place → IsClaimed assertions serial rs e place
+    → IsClaimed assertions serial more f place
 claimed-kept assertions serial place rs more e f grows atoms stays h = record {
   expression = h.expression;
   number = h.number;
@@ -126,12 +128,12 @@ lines-both asked before mid more memo memos f g budget left old told new p count
 -- Place after place.
 
 pub claimed-none : (asked : Asked) (assertions : List Assertion) (serial : ℕ) (rs : List Regex) (e : Backing)
-    (told : Option (List ℕ)) → e.asserted ≡ [] → AreClaimed asked assertions serial rs rs e e told told []
-claimed-none asked assertions serial rs e told nothing = record {
+    (told : Option (List ℕ)) → AreClaimed asked assertions serial rs rs e e told told []
+claimed-none asked assertions serial rs e told = record {
   puts = λ memo before b. uncounted-none asked before rs memo e told b;
   extends = extends_same rs;
-  only = λ place h. absurd (none-some h.0 (ap (λ entries. asserted_at entries place) (sym nothing) ∙ h.1));
-  all = All-nil (HasClause e);
+  all = All-nil (IsClaimed assertions serial rs e);
+  levels = λ h. h;
 }
 
 pub claimed-more : (asked : Asked) (assertions : List Assertion) (serial place : ℕ) (rs mid more : List Regex)
@@ -143,28 +145,19 @@ claimed-more asked assertions serial place rs mid more e f g old told new places
   puts = λ memo before b. uncounted-both asked before mid more memo f g old told new (h.puts memo before b)
       (λ after then. c.puts memo after then);
   extends = extends_more rs mid more h.extends c.extends;
-  only = λ other has. step other has (nat_eq other place) refl;
-  all = All-push (HasClause g) places place (λ i d l. has-kept (get_or places i d) (h.all i d l)) c.has;
+  all = All-push (IsClaimed assertions serial more g) places place
+      (λ i d l. step (get_or places i d) (h.all i d l) (nat_eq (get_or places i d) place) refl) c.claimed;
+  levels = λ low. c.levels (h.levels low);
 }
   where
-    has-kept : (other : ℕ) → HasClause f other → HasClause g other
-    has-kept other has = (has.0, c.stays other has.0 has.1)
-
-    kept : (other : ℕ) → HasClause f other → IsClaimed assertions serial more g other
-    kept other has = claimed-kept assertions serial other mid more f g c.extends c.atoms c.stays (h.only other has)
-
-    here : (o : Option Asserted) → asserted_at f.asserted place ≡ o → IsClaimed assertions serial more g place
-    here None is = c.claimed is
-    here (Some a) is = kept place (a, is)
-
-    step : (other : ℕ) → HasClause g other → (b : Bool) → nat_eq other place ≡ b
+    step : (other : ℕ) → IsClaimed assertions serial mid f other → (b : Bool) → nat_eq other place ≡ b
         → IsClaimed assertions serial more g other
-    step other has true is =
+    step other was true is =
         let same : place ≡ other = grind (arith, nat_tests) in
-        subst (IsClaimed assertions serial more g) same (here (asserted_at f.asserted place) refl)
-    step other has false is =
+        subst (IsClaimed assertions serial more g) same c.claimed
+    step other was false is =
         let apart : other ≢ place = grind (arith, nat_tests) in
-        kept other (has.0, sym (c.others other apart) ∙ has.1)
+        claimed-kept assertions serial other mid more f g c.extends c.atoms (c.others other apart) was
 
 -- The memberships have no word in common.
 
@@ -195,6 +188,5 @@ pub disjoint : (asked : Asked) (assertions : List Assertion) (serial : ℕ) (rs 
     (old new : Option (List ℕ)) (places : List ℕ) → AreClaimed asked assertions serial rs more e f old new places
     → HasNoWordAt assertions places → AreDisjoint more f places
 disjoint asked assertions serial rs more e f old new places h none =
-    let n = numbers-of assertions serial more f places
-    (λ i d l. h.only (get_or places i d) (h.all i d l)) in
+    let n = numbers-of assertions serial more f places h.all in
     record { constant = serial; regexes = n.numbers; are = n.are; no_word = none more n.numbers n.regexes }

@@ -1,5 +1,5 @@
 -- The clause of one membership, and the literal in it.
-use Rattle.std.proofs.Common.{◌≡◌, ◌≢◌, ℕ, zero, suc, ◌+◌, ◌<◌, Bool, true, false, ◌&&◌, nat_lt, List, [], ◌∷◌, length, map, get_or, slice_get, Option, Some, None, option_map, refl, sym, ap, ap₂, subst, ◌∙◌, arith}
+use Rattle.std.proofs.Common.{◌≡◌, ◌≢◌, ℕ, zero, suc, ◌+◌, ◌<◌, Bool, true, false, ◌&&◌, nat_lt, nat_eq, List, [], ◌∷◌, length, map, get_or, slice_get, Option, Some, None, option_map, refl, sym, ap, ap₂, subst, ◌∙◌, arith}
 use Rattle.std.specs.Prelude.{option_and_then, MatchOption, is_some, IfSome}
 use Rattle.std.specs.List.{All, list_all, position_from}
 use Rattle.std.proofs.lemmas.Bool.{and_parts, false≢true}
@@ -41,9 +41,10 @@ use Rattle.sb_atoms.specs.Numbered.{Names, over, atoms_in, HaveRegexesBelow}
 use Rattle.sb_atoms.specs.Translated.{brought_translation, HasNoLiteral}
 use Rattle.sb_decide.specs.Places.{IsPlaceOf}
 use Rattle.sb_refute.specs.declared.evidence.Asserted.{Asserted}
-use Rattle.sb_refute.specs.Backing.{Backing, Backs, EvidencesUncounted, IsLive, KeepsAsserted, asserted_at}
+use Rattle.sb_refute.specs.Backing.{Backing, Backs, EvidencesUncounted, IsLive, asserted_at}
 use Rattle.sb_refute.specs.Refuting.{membership_of}
 use Rattle.sb_refute.proofs.CallerLemmas.{backs-grown}
+use Rattle.sb_prover.specs.Proving.{HaveLevels, level_at}
 use Rattle.sb_prover.specs.Claiming.{IsClaimed, Claims, Stands}
 
 same-some : {X : Type 0} (x y : X) → Some x ≡ Some y → x ≡ y
@@ -228,6 +229,23 @@ is-claimed apart assertions serial place R reglan rs e a kind regular means stan
     names : slice_get e.atoms a.literal.atom ≡ Some (in_atom (constant_piece serial ∷ []) it.number)
     names = at.1 ∙ ap Some it.is
 
+-- The level of one clause more.
+
+levels-more : (live : List (Option Term × ℕ)) (place : ℕ) (e f : Backing) (a : Asserted)
+    → asserted_at f.asserted place ≡ Some a → level_at live place ≡ Some a.level
+    → ((other : ℕ) → other ≢ place → asserted_at f.asserted other ≡ asserted_at e.asserted other)
+    → HaveLevels live e → HaveLevels live f
+levels-more live place e f a there level others h other b found = step (nat_eq other place) refl
+  where
+    step : (t : Bool) → nat_eq other place ≡ t → level_at live other ≡ Some b.level
+    step true is =
+        let same : other ≡ place = grind (arith, nat_tests) in
+        ap (level_at live) same ∙ level
+        ∙ ap (option_map (λ (c : Asserted). c.level))
+        (sym there ∙ ap (asserted_at f.asserted) (sym same) ∙ found)
+    step false is =
+        let apart : other ≢ place = grind (arith, nat_tests) in h other b (sym (others other apart) ∙ found)
+
 -- What is put at one place.
 pub claims : OrderTellsApart → (asked : Asked) (assertions : List Assertion) (serial z place : ℕ) (t R : Term)
     (found : Option ℕ) (rs mid more : List Regex) (e f : Backing) (o : Option Asserted) (a : Asserted)
@@ -235,27 +253,29 @@ pub claims : OrderTellsApart → (asked : Asked) (assertions : List Assertion) (
     → t ≡ in_re (constant z text) R → IsNumberOf mid R found → Extends rs mid → Extends mid more
     → HaveRegexesBelow (length rs) e.atoms → HaveRegexesBelow (length more) f.atoms
     → ((memo : Memo) (before : AllKept) → Backs mid memo e before → EvidencesUncounted asked before more memo f old new)
-    → numbered.Extends e.atoms f.atoms → KeepsAsserted e f
+    → numbered.Extends e.atoms f.atoms
     → ((other : ℕ) → other ≢ place → asserted_at f.asserted other ≡ asserted_at e.asserted other)
     → o ≡ asserted_at f.asserted place → o ≡ Some a
-    → (asserted_at e.asserted place ≡ None
-    → option_map (λ (b : Asserted). b.literal) o ≡ brought_translation (atoms_in more f.atoms) t)
+    → option_map (λ (b : Asserted). b.literal) o ≡ brought_translation (atoms_in more f.atoms) t
+    → IfSome o (λ (b : Asserted). b.level ≡ 0) → level_at asked.live place ≡ Some 0
     → Claims asked assertions serial place rs more e f old new
 claims apart asked assertions serial z place t R found rs mid more e f o a old new p stands is number first second
-    below above puts atoms stays others answer some literal = record {
+    below above puts atoms others answer some literal level at = record {
       puts = λ memo before b.
           puts memo before (backs-grown rs mid memo memo e before first (λ n pieces h. h) below b);
       extends = extends_more rs mid more first second;
       atoms = atoms;
-      stays = stays;
       others = others;
-      has = (a, there);
-      claimed = λ fresh. is-claimed apart assertions serial place p.regex m.reglan more f a parts.0 parts.1 m.means
+      claimed = is-claimed apart assertions serial place p.regex m.reglan more f a parts.0 parts.1 m.means
           p.there above there
-          (ap (option_map (λ (b : Asserted). b.literal)) (sym some) ∙ literal fresh
+          (ap (option_map (λ (b : Asserted). b.literal)) (sym some) ∙ literal
           ∙ ap (brought_translation (atoms_in more f.atoms)) same);
+      levels = levels-more asked.live place e f a there (at ∙ ap Some (sym low)) others;
     }
   where
+    low : a.level ≡ 0
+    low = subst (λ (x : Option Asserted). IfSome x (λ (b : Asserted). b.level ≡ 0)) some level
+
     there : asserted_at f.asserted place ≡ Some a
     there = sym answer ∙ some
 
@@ -286,7 +306,7 @@ a-member assertions serial place t p stands =
 
 pub is-live : (asked : Asked) (assertions : List Assertion) (n place : ℕ) (t : Term)
     → asked.live ≡ at_level 0 assertions → asked.sorts ≡ texts n → slice_get assertions place ≡ Some (asserted t)
-    → has_serials_below n t ≡ true → IsLive asked place t
+    → has_serials_below n t ≡ true → IsLive asked place t 0
 is-live asked assertions n place t same sorts stands below = record {
   live = ap (λ xs. slice_get xs place) same ∙ live-there assertions place t stands;
   declared = λ serial R is. ap (λ ss. is_declared ss text serial) sorts ∙ declared-there n t below serial R is;

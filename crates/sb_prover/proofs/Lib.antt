@@ -7,3 +7,4 @@ mod Proved
 mod Refutations
 mod ClaimedPlaces
 mod Claims
+mod Leaving

@@ -22,7 +22,7 @@ use Rattle.sb_trace.specs.Tracking.{Traced, Tracks}
 use Rattle.sb_trace.specs.Putting.{Puts}
 use Rattle.sb_trace.proofs.CallerLemmas.{puts_none}
 use Rattle.sb_certified.specs.Certified.{SaysVerdict, last_lines}
-use Rattle.sb_refute.specs.Backing.{Backing, Backs, at_the_bottom}
+use Rattle.sb_refute.specs.Backing.{Backing, Backs}
 use Rattle.sb_refute.specs.declared.refute.Refuted.TheVariants as refuted
 use Rattle.sb_script.specs.Fragment.{in_fragment}
 use Rattle.sb_prover.specs.Proving.{Proving, IsAbreast, IsProved}
@@ -52,10 +52,9 @@ backs-again rs memo e kept h = record {
   atoms = h.atoms;
   clauses = h.clauses;
   asserted = h.asserted;
-  positive = h.positive;
-  some = h.some;
-  hints = h.hints;
+  denied = h.denied;
   refuted = h.refuted;
+  known = h.known;
 }
 
 pub said-proved : (q : Question) (v : Verdict) (before : Progress) (reached : AllKept) (rs : List Regex) (memo : Memo)
@@ -148,11 +147,12 @@ unsat-proved law one many s before rs more memo memos p e id n old begun mid new
     told-last =
     let q = question_in (state_of s) [] in
     let format = reached-format (asked_in (state_of s)) before.kept r.after begun mid r.puts h.format in
-    let says = ap (kept_at r.after.clauses) same ∙ r.says in
+    let says = ap (kept_at r.after.clauses) same ∙ r.says.1 in
     said-proved q (is_unsat []) before r.after more memos e old new
     (verdict-said law one many before r.after q (said_unsat n None) (is_unsat []) old begun mid new h.rests h.first
     (subst (λ b. Tells (first_lines b) old begun) (sym h.begun) told) r.puts (lt-ltb n (2 ^ 64) small)
-    (unsat-right q r.after n inside format says) (at_the_bottom [], says, refl) told-last)
+    (unsat-right q r.after n r.says.0 inside format says) (record { literals = []; level = r.says.0 }, says, refl)
+    told-last)
     r.backs format below
 
 pub unknown-proved : TextIsRead → TextIsOneLine → TextsAreLines → (s : Stacked) (before : Progress)

@@ -1,5 +1,5 @@
 -- What became of a refutation, and what the lines that were put for it say.
-use Rattle.std.proofs.Common.{◌≡◌, ℕ, ◌^◌, ◌-◌, List, Option, Some, refl, sym, ◌∙◌}
+use Rattle.std.proofs.Common.{◌≡◌, ℕ, ◌^◌, ◌-◌, List, Option, Some, None, option_map, refl, sym, ap, ◌∙◌}
 use Rattle.sb_lang.specs.Regex.{Regex}
 use Rattle.sb_lit.specs.Budgets.{Spending}
 use Rattle.sb_lit.specs.declared.clause.ClauseId.{ClauseId}
@@ -9,27 +9,50 @@ use Rattle.sb_rulebook.specs.Accepted.{asked_in}
 use Rattle.sb_stack.specs.Stacked.{Stacked, state_of}
 use Rattle.sb_trace.specs.Putting.{IsCounted}
 use Rattle.sb_trace.proofs.CallerLemmas.{puts_none}
+use Rattle.sb_lit.specs.Kept.{kept_at}
+use Rattle.sb_refute.specs.declared.evidence.EmptyClause.{EmptyClause}
 use Rattle.sb_refute.specs.Backing.{Backing, Backs, Evidences}
 use Rattle.sb_refute.specs.Refuting.{IsRefutation}
 use Rattle.sb_refute.specs.declared.refute.Refuted.{Refuted}
 use Rattle.sb_refute.specs.declared.refute.Refuted.TheVariants as refuted
-use Rattle.sb_prover.specs.Saying.{IsKeptClause, IsRefuted, SaysRefuted}
+use Rattle.sb_prover.specs.Saying.{IsRefuted, SaysRefuted}
+
+-- the empty clause is kept
+says-kept : (asked : Asked) (kept : AllKept) (rs : List Regex) (memo : Memo) (e : Backing) (id : ClauseId)
+    → Backs rs memo e kept → option_map (λ (c : EmptyClause). c.clause) e.refuted ≡ Some id
+    → SaysRefuted asked kept (refuted.Clause id)
+says-kept asked kept rs memo e id backs is = step e.refuted refl is
+  where
+    same-some : (c d : ClauseId) → Some c ≡ Some d → c ≡ d
+    same-some c d h = cc
+
+    none-some : (c : ClauseId) → None ≡ Some c → ⊥
+    none-some c h = cc
+
+    step : (o : Option EmptyClause) → e.refuted ≡ o → option_map (λ (c : EmptyClause). c.clause) o ≡ Some id
+        → SaysRefuted asked kept (refuted.Clause id)
+    step None at h = absurd (none-some id h)
+    step (Some c) at h = (
+      c.level,
+      ap (λ (i : ClauseId). kept_at kept.clauses i.0) (sym (same-some c.clause id h)) ∙ backs.refuted c at,
+    )
 
 -- The empty clause is kept already: no line is put.
-pub refuted-again : (s : Stacked) (before : AllKept) (rs : List Regex) (memo : Memo) (e : Backing) (id : ClauseId)
-    (told : Option (List ℕ)) → Backs rs memo e before → e.refuted ≡ Some id.0
-    → IsRefuted (asked_in (state_of s)) before rs memo e (refuted.Clause id) told told
-refuted-again s before rs memo e id told backs is = record {
+pub refuted-again : (s : Stacked) (before : AllKept) (rs : List Regex) (memo : Memo) (e : Backing) (c : EmptyClause)
+    (told : Option (List ℕ)) → Backs rs memo e before → e.refuted ≡ Some c
+    → IsRefuted (asked_in (state_of s)) before rs memo e (refuted.Clause c.clause) told told
+refuted-again s before rs memo e c told backs is = record {
   after = before;
   puts = puts_none (asked_in (state_of s)) before told;
   backs = backs;
-  says = backs.refuted id.0 is;
+  says = (c.level, backs.refuted c is);
 }
 
 says-refuted : (asked : Asked) (after : AllKept) (rs : List Regex) (memo : Memo) (e : Backing) (budget : Spending)
     (r : Refuted) → most_counted asked ≡ 2 ^ 64 - 1 → Backs rs memo e after → IsCounted asked after budget
     → IsRefutation e budget r → SaysRefuted asked after r
-says-refuted asked after rs memo e budget (refuted.Clause id) limit backs counts is = backs.refuted id.0 is
+says-refuted asked after rs memo e budget (refuted.Clause id) limit backs counts is =
+    says-kept asked after rs memo e id backs is
 says-refuted asked after rs memo e budget refuted.Spent limit backs counts is =
     (limit, counts.spent ∙ is ∙ sym counts.limit ∙ limit)
 
@@ -43,8 +66,3 @@ refuted-now s before rs memo e budget r old new h is = record {
   backs = h.backs;
   says = says-refuted (asked_in (state_of s)) h.after rs memo e budget r refl h.backs h.counts is;
 }
-
--- The number that is kept is that of the empty clause.
-pub clause-kept : (e : Backing) (budget : Spending) (r : Refuted) → IsRefutation e budget r → IsKeptClause e r
-clause-kept e budget (refuted.Clause id) is = is
-clause-kept e budget refuted.Spent is = tt

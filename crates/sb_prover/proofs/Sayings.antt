@@ -7,10 +7,10 @@ use Rattle.sb_rulebook.specs.Lines.{said_unsat, said_unknown, said_unsupported}
 use Rattle.sb_rulebook.specs.Kept.{AllKept, most_counted}
 use Rattle.sb_rulebook.specs.Verdicts.{Question, refusal_of, unless_wrong, are_live, is_listed, refutes}
 
-pub unsat-right : (q : Question) (kept : AllKept) (id : ℕ) → q.inside ≡ true → kept.format ≡ newest_format
-    → kept_at kept.clauses id ≡ Some (record { literals = []; level = 0 })
+pub unsat-right : (q : Question) (kept : AllKept) (id level : ℕ) → q.inside ≡ true → kept.format ≡ newest_format
+    → kept_at kept.clauses id ≡ Some (record { literals = []; level = level })
     → refusal_of q kept (said_unsat id None) ≡ None
-unsat-right q kept id inside format there =
+unsat-right q kept id level inside format there =
     ap (λ o. elim o as (λ _. Option Refusal) [
       | None ↦ Some unknown_id
       | Some clause ↦ cond (are_live q kept None)

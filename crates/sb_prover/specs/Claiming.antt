@@ -1,5 +1,5 @@
 -- Private: the clauses of one constant's memberships, as they are put on the way to a refutation.
-use Rattle.std.specs.Prelude.{◌≡◌, ◌≢◌, ℕ, ◌<◌, true, List, length, slice_get, Option, Some, None}
+use Rattle.std.specs.Prelude.{◌≡◌, ◌≢◌, ℕ, ◌<◌, true, List, length, slice_get, Option, Some}
 use Rattle.std.specs.List.{All}
 use Rattle.sb_lang.specs.Regex.{Regex}
 use Rattle.sb_regex.specs.Numbered.{Extends}
@@ -13,10 +13,10 @@ use Rattle.sb_term.specs.Serials.{has_serials_below}
 use Rattle.sb_fragment.specs.Memberships.{in_re}
 use Rattle.sb_rulebook.specs.Kept.{AllKept, Asked}
 use Rattle.sb_atoms.specs.Numbered as numbered
-use Rattle.sb_refute.specs.declared.evidence.Asserted.{Asserted}
-use Rattle.sb_refute.specs.Backing.{Backing, Backs, EvidencesUncounted, KeepsAsserted, asserted_at}
+use Rattle.sb_refute.specs.Backing.{Backing, Backs, EvidencesUncounted, asserted_at}
 use Rattle.sb_refute.specs.Refuting.{membership_at}
 use Rattle.sb_decide.specs.Places.{IsPlaceOf}
+use Rattle.sb_prover.specs.Proving.{HaveLevels}
 
 -- the assertion at the place is a membership of some constant, and a decided one
 abbrev pub IsMember : List Assertion → ℕ → Type 0
@@ -32,10 +32,6 @@ pub record Stands (s : Stacked) (place id : ℕ) : Type 0 where
   pub stands : slice_get (live (state_of s)) place ≡ Some (asserted (term_at s.table id))
   pub declared : has_serials_below s.scope.declared (term_at s.table id) ≡ true
 
--- the assertion at the place has its clause
-abbrev pub HasClause : Backing → ℕ → Type 0
-HasClause e place = (a : Asserted) × (asserted_at e.asserted place ≡ Some a)
-
 -- The assertion at the place is a membership of the constant, and its atom in the proof is that of its normal regex.
 pub record IsClaimed (assertions : List Assertion) (serial : ℕ) (rs : List Regex) (e : Backing) (place : ℕ) : Type 0
   where
@@ -45,7 +41,7 @@ pub record IsClaimed (assertions : List Assertion) (serial : ℕ) (rs : List Reg
     pub stands : slice_get assertions place ≡ Some (asserted (in_re (constant serial text) expression))
     pub is : IsRegexOf rs expression number
 
--- The clause of the assertion at one place is put, with the lines that it lacks.
+-- The clause of the assertion at one place stands in the proof, with the lines that it lacked.
 pub record Claims (asked : Asked) (assertions : List Assertion) (serial place : ℕ) (rs more : List Regex)
     (e f : Backing) (old new : Option (List ℕ)) : Type 0
   where
@@ -53,17 +49,16 @@ pub record Claims (asked : Asked) (assertions : List Assertion) (serial place : 
         → EvidencesUncounted asked before more memo f old new
     pub extends : Extends rs more
     pub atoms : numbered.Extends e.atoms f.atoms
-    pub stays : KeepsAsserted e f
     pub others : (other : ℕ) → other ≢ place → asserted_at f.asserted other ≡ asserted_at e.asserted other
-    pub has : HasClause f place
-    pub claimed : asserted_at e.asserted place ≡ None → IsClaimed assertions serial more f place
+    pub claimed : IsClaimed assertions serial more f place
+    pub levels : HaveLevels asked.live e → HaveLevels asked.live f
 
--- The clauses of the assertions at these places are put, where there were none before.
+-- The clauses of the assertions at these places stand in the proof.
 pub record AreClaimed (asked : Asked) (assertions : List Assertion) (serial : ℕ) (rs more : List Regex) (e f : Backing)
     (old new : Option (List ℕ)) (places : List ℕ) : Type 0
   where
     pub puts : (memo : Memo) (before : AllKept) → Backs rs memo e before
         → EvidencesUncounted asked before more memo f old new
     pub extends : Extends rs more
-    pub only : (place : ℕ) → HasClause f place → IsClaimed assertions serial more f place
-    pub all : All (HasClause f) places
+    pub all : All (IsClaimed assertions serial more f) places
+    pub levels : HaveLevels asked.live e → HaveLevels asked.live f

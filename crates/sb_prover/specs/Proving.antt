@@ -1,5 +1,5 @@
 -- What is known of a proof that is written along a script.
-use Rattle.std.specs.Prelude.{◌≡◌, ℕ, Bool, false, List, length, Option}
+use Rattle.std.specs.Prelude.{◌≡◌, ℕ, ◌≤◌, Bool, false, List, length, slice_get, Option, Some, None, option_map}
 use Rattle.sb_lang.specs.Regex.{Regex}
 use Rattle.sb_regex.specs.Numbered.{Extends}
 use Rattle.sb_deriv.specs.Faithful.{Memo, KeepsEntries}
@@ -8,11 +8,13 @@ use Rattle.sb_rulebook.specs.Atoms.{AtomOver}
 use Rattle.sb_rulebook.specs.Kept.{nothing_kept}
 use Rattle.sb_rulebook.specs.Brought.{newest_format}
 use Rattle.sb_rulebook.specs.Verdicts.{Question}
-use Rattle.sb_rulebook.specs.Judging.{at_rest, Progress}
+use Rattle.sb_rulebook.specs.Judging.{Event, leaves_above, leaves_all, at_rest, Progress}
 use Rattle.sb_certified.specs.Certified.{Proves}
 use Rattle.sb_proof.specs.Tapes.{with_bytes}
 use Rattle.sb_atoms.specs.Numbered.{HaveRegexesBelow}
-use Rattle.sb_refute.specs.Backing.{Backing, Backs}
+use Rattle.sb_meaning.specs.Terms.{Term}
+use Rattle.sb_refute.specs.declared.evidence.Asserted.{Asserted}
+use Rattle.sb_refute.specs.Backing.{Backing, Backs, asserted_at}
 
 pub record Proving : Type 0 where
   pub evidence : Backing
@@ -28,6 +30,25 @@ pub record IsAbreast (rs : List Regex) (memo : Memo) (proving : Proving) (p : Pr
   pub counted : p.kept.counted ≡ 0
   pub backs : Backs rs memo proving.evidence p.kept
   pub regexes : HaveRegexesBelow (length rs) proving.evidence.atoms
+
+-- The levels of live assertions.
+
+abbrev pub level_at : List (Option Term × ℕ) → ℕ → Option ℕ
+level_at live place = option_map (λ a. a.1) (slice_get live place)
+
+-- each clause of an assertion that is known is of the level of the live assertion at its place
+abbrev pub HaveLevels : List (Option Term × ℕ) → Backing → Type 0
+HaveLevels live e = (place : ℕ) (a : Asserted) → asserted_at e.asserted place ≡ Some a
+    → level_at live place ≡ Some a.level
+
+-- no assertion is of a level above this one
+abbrev pub AreLow : ℕ → List (Option Term × ℕ) → Type 0
+AreLow level live = (place n : ℕ) → level_at live place ≡ Some n → n ≤ level
+
+-- levels are left: those above this one, or with all assertions
+abbrev pub leaving : Option ℕ → Event
+leaving (Some level) = leaves_above level
+leaving None = leaves_all
 
 -- It stays so where more regexes and more derivatives become known.
 abbrev pub AbreastStays : Type 0

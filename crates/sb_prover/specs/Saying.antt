@@ -13,7 +13,7 @@ use Rattle.sb_lang.specs.Regex.{Regex}
 use Rattle.sb_lit.specs.Kept.{kept_at}
 use Rattle.sb_deriv.specs.Faithful.{Memo}
 use Rattle.sb_trace.specs.Putting.{Puts}
-use Rattle.sb_refute.specs.Backing.{Backing, Backs, at_the_bottom}
+use Rattle.sb_refute.specs.Backing.{Backing, Backs}
 use Rattle.sb_refute.specs.declared.refute.Refuted.{Refuted}
 use Rattle.sb_refute.specs.declared.refute.Refuted.TheVariants as refuted
 
@@ -37,13 +37,9 @@ pub record IsSaid (q : Question) (v : Verdict) (before : Progress) (reached : Al
 
 -- the empty clause is kept, or so many lines were counted as a check may have
 abbrev pub SaysRefuted : Asked → AllKept → Refuted → Type 0
-SaysRefuted asked kept (refuted.Clause id) = kept_at kept.clauses id.0 ≡ Some (at_the_bottom [])
+SaysRefuted asked kept (refuted.Clause id) =
+    (level : ℕ) × (kept_at kept.clauses id.0 ≡ Some (record { literals = []; level = level }))
 SaysRefuted asked kept refuted.Spent = (most_counted asked ≡ 2 ^ 64 - 1) × (kept.counted ≡ 2 ^ 64 - 1)
-
--- the empty clause is known by its number
-abbrev pub IsKeptClause : Backing → Refuted → Type 0
-IsKeptClause e (refuted.Clause id) = e.refuted ≡ Some id.0
-IsKeptClause e refuted.Spent = Unit {0}
 
 -- Lines were put that refute the live assertions, as far as a check may have lines.
 pub record IsRefuted (asked : Asked) (before : AllKept) (rs : List Regex) (memo : Memo) (e : Backing) (r : Refuted)

@@ -1,11 +1,12 @@
 //! The prover.
 
-ghost use Rattle.std.specs.Prelude.{◌≡◌, ℕ, [], List, length, true, IsSome, IfOk, OnOk};
+ghost use Rattle.std.specs.Prelude.{◌≡◌, ℕ, [], List, length, take, true, Option, IsSome, IfSome, IfOk, OnOk};
 ghost use Rattle.sb_lang.specs.Regex.{Regex};
 ghost use Rattle.sb_deriv.specs.Faithful.{Memo};
 ghost use Rattle.sb_script.specs.Verdicts.{IsVerdict, is_sat, is_unsat, is_outside};
 ghost use Rattle.sb_rulebook.specs.Accepted.{question_in, asked_in};
-ghost use Rattle.sb_rulebook.specs.Judging.{Progress, beginning};
+ghost use Rattle.sb_rulebook.specs.Judging.{Progress, beginning, met};
+ghost use Rattle.sb_meaning.specs.Terms.{Term};
 ghost use Rattle.sb_rulebook.specs.Kept.{AllKept};
 ghost use Rattle.sb_rulebook.specs.LineLaws.{bytes_of};
 ghost use Rattle.sb_rulebook.specs.Lines.{text_of};
@@ -18,13 +19,13 @@ ghost use Rattle.sb_trace.specs.Putting.{CountsTapeFault};
 ghost use Rattle.sb_atoms.specs.Numbered.{HaveRegexesBelow};
 ghost use Rattle.sb_refute.specs.Backing.{Backs};
 ghost use Rattle.sb_decide.specs.Knowing.{Knows, IsDecision};
-ghost use Rattle.sb_prover.specs.Proving.{IsAbreast, IsProved, AbreastStays, RegexesStayBelow};
-ghost use Rattle.sb_prover.specs.Saying.{first_lines, IsKeptClause, IsRefuted, Tells};
+ghost use Rattle.sb_prover.specs.Proving.{IsAbreast, IsProved, HaveLevels, AreLow, leaving, AbreastStays, RegexesStayBelow};
+ghost use Rattle.sb_prover.specs.Saying.{first_lines, IsRefuted, Tells};
 
 use crate::refutation::refute;
 use crate::verdict::{number_of, say, values_of};
 use sb_decide::Decider;
-use sb_lit::{Budget, ClauseId};
+use sb_lit::Budget;
 use sb_proof::{Line, Said, Tape, TapeFault};
 use sb_refute::{Evidence, Refuted};
 use sb_rulebook::laws::{text_is_one_line, text_is_read, texts_are_lines};
@@ -41,21 +42,16 @@ const FORMAT: u64 = 1;
 pub struct Prover {
     alloc: Global,
     evidence: Evidence,
-    /// The empty clause, which refutes all checks from then on.
-    refuted: Option<ClauseId>,
     /// The first line stands in the proof.
     begun: bool,
 }
 
 impl Model for Prover {
-    ghost use Rattle.std.specs.Prelude.{◌≡◌, Some, IfSome};
     ghost use Rattle.sb_prover.specs.Proving.{Proving};
 
     ghost Value = { Proving };
 
     ghost view = { λ prover. record { evidence = prover.evidence; begun = prover.begun } };
-
-    ghost invariant = { λ prover. IfSome prover.refuted (λ id. prover.evidence.refuted ≡ Some id.0) };
 }
 
 impl Prover {
@@ -63,11 +59,11 @@ impl Prover {
     pub fn new(alloc: Global) -> Prover
         ensures abreast { (rs : List Regex) (memo : Memo) → IsAbreast rs memo result beginning }
         ensures regexes { (n : ℕ) → HaveRegexesBelow n result.evidence.atoms }
+        ensures levels { (live : List (Option Term × ℕ)) → HaveLevels live result.evidence }
     {
         Prover {
             alloc,
             evidence: Evidence::new(alloc),
-            refuted: None,
             begun: false,
         }
     }
@@ -93,6 +89,8 @@ impl Prover {
         ensures verdict { IfOk result (λ v. IsVerdict (state_of stack.now) [] (verdict_in v)) }
         ensures regexes { OnOk result (HaveRegexesBelow (length decider.new.arena) self.new.evidence.atoms) }
         ensures knows { IfOk result (λ v. Knows decider.new (found v stack.now)) }
+        ensures levels { OnOk result (HaveLevels (asked_in (state_of stack.now)).live self.old.evidence
+            → HaveLevels (asked_in (state_of stack.now)).live self.new.evidence) }
         ensures counts { CountsTapeFault result (L.Tape.faults tape.old) (L.Tape.faults tape.new) }
     {
         match verdict {
@@ -106,6 +104,23 @@ impl Prover {
                 self.prove_outside(tape)?;
                 Ok(Verdict::Outside)
             }
+        }
+    }
+
+    /// Goes along where levels are left: those above a level, or all assertions where that is none. So many assertions
+    /// stay; their clauses do, and so does the empty clause where its level stays. Takes no memory, and time linear in
+    /// what is forgotten.
+    pub fn leave(&mut self, level: Option<u64>, count: usize)
+        ensures left { (rs : List Regex) (memo : Memo) (live : List (Option Term × ℕ)) (p : Progress)
+            → IsAbreast rs memo self.old p → HaveLevels live self.old.evidence
+            → IfSome level (λ n. AreLow n (take count live)) → IsAbreast rs memo self.new (met (leaving level) p) }
+        ensures levels { (live : List (Option Term × ℕ)) → HaveLevels live self.old.evidence
+            → HaveLevels (take count live) self.new.evidence }
+        ensures atoms { self.new.evidence.atoms ≡ self.old.evidence.atoms }
+    {
+        match level {
+            Some(level) => self.evidence.retract(level, count),
+            None => self.evidence.clear(),
         }
     }
 
@@ -188,6 +203,8 @@ impl Prover {
         ensures verdict { IfOk result (λ v. IsVerdict (state_of stack.now) [] (verdict_in v)) }
         ensures regexes { OnOk result (HaveRegexesBelow (length decider.new.arena) self.new.evidence.atoms) }
         ensures knows { IfOk result (λ v. Knows decider.new (found v stack.now)) }
+        ensures levels { OnOk result (HaveLevels (asked_in (state_of stack.now)).live self.old.evidence
+            → HaveLevels (asked_in (state_of stack.now)).live self.new.evidence) }
         ensures counts { CountsTapeFault result (L.Tape.faults tape.old) (L.Tape.faults tape.new) }
     {
         text_is_read();
@@ -223,25 +240,15 @@ impl Prover {
         ensures regexes { OnOk result (HaveRegexesBelow (length decider.new.arena) self.new.evidence.atoms) }
         ensures begun { self.new.begun ≡ self.old.begun }
         ensures knows { OnOk result (Knows decider.new (found verdicts.Unsat stack.now)) }
+        ensures levels { OnOk result (HaveLevels (asked_in (state_of stack.now)).live self.old.evidence
+            → HaveLevels (asked_in (state_of stack.now)).live self.new.evidence) }
         ensures counts { CountsTapeFault result (L.Tape.faults tape.old) (L.Tape.faults tape.new) }
     {
-        if let Some(id) = self.refuted {
-            return Ok(Refuted::Clause(id));
+        if let Some(empty) = self.evidence.refuted() {
+            return Ok(Refuted::Clause(empty.clause));
         }
         let mut budget = Budget::new(u64::MAX);
-        let refuted = refute(&mut self.evidence, decider, stack, tape, &mut budget)?;
-        self.keep(refuted);
-        Ok(refuted)
-    }
-
-    /// Keeps the empty clause.
-    fn keep(&mut self, refuted: Refuted)
-        requires { IsKeptClause self.old.evidence refuted }
-        ensures { self.new ≡ self.old }
-    {
-        if let Refuted::Clause(id) = refuted {
-            self.refuted = Some(id);
-        }
+        refute(&mut self.evidence, decider, stack, tape, &mut budget)
     }
 }
 

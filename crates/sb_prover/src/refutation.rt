@@ -15,6 +15,7 @@ ghost use Rattle.sb_refute.specs.Backing.{Backs, Evidences};
 ghost use Rattle.sb_refute.specs.Refuting.{IsRefutation};
 ghost use Rattle.sb_decide.specs.Knowing.{Knows};
 ghost use Rattle.sb_decide.specs.Places.{IsPlaceOf};
+ghost use Rattle.sb_prover.specs.Proving.{HaveLevels};
 ghost use Rattle.sb_prover.specs.Claiming.{IsMember, AreMembers, Stands, Claims, AreClaimed};
 
 use sb_decide::{Decider, knows_grown};
@@ -29,8 +30,11 @@ use sb_regex::Arena;
 use sb_stack::Stack;
 use sb_term::TermId;
 
+/// The level of each assertion, while scripts have no other.
+const LEVEL: u64 = 0;
+
 /// The empty clause, from the live assertions of a constant that is known to have no word. The lines that it lacks are
-/// put, those of assertions anew.
+/// put.
 pub(crate) fn refute<L: Tape>(
     evidence: &mut Evidence,
     decider: &mut Decider,
@@ -48,6 +52,8 @@ pub(crate) fn refute<L: Tape>(
         budget.new (L.Tape.told tape.old) (L.Tape.told tape.new)) }
     ensures refuted { IfOk result (IsRefutation evidence.new budget.new) }
     ensures knows { OnOk result (Knows decider.new (found verdicts.Unsat stack.now)) }
+    ensures levels { OnOk result (HaveLevels (asked_in (state_of stack.now)).live evidence.old
+        → HaveLevels (asked_in (state_of stack.now)).live evidence.new) }
     ensures regexes { OnOk result (HaveRegexesBelow (length decider.new.arena) evidence.new.atoms) }
     ensures counts { CountsTapeFault result (L.Tape.faults tape.old) (L.Tape.faults tape.new) }
 {
@@ -57,7 +63,6 @@ pub(crate) fn refute<L: Tape>(
     let serial = decider.dead().unwrap();
     let mut places = Vec::new(*decider.constants.allocator());
     places.extend_from_slice(decider.places(serial))?;
-    evidence.forget();
     claim_all(
         evidence,
         &mut decider.measures,
@@ -88,7 +93,6 @@ fn claim_all<L: Tape>(
     tape: &mut L,
 ) -> Result<(), TapeFault>
     requires members { AreMembers (live (state_of stack.now)) places.now }
-    requires nothing { evidence.old.asserted ≡ [] }
     requires right { AreMeasures stack.now.table measures.old }
     requires normals { AreNormals stack.now.table arena.old normals.old }
     requires regexes { HaveRegexesBelow (length arena.old) evidence.old.atoms }
@@ -133,7 +137,7 @@ fn claim<L: Tape>(
     let term = term_of(stack, place);
     let (_, expression) = membership(table, term).unwrap();
     normals.normal(table, arena, expression)?;
-    match evidence.assertion(measures, normals, table, arena, place, term, tape)? {
+    match evidence.assertion(measures, normals, table, arena, place, term, LEVEL, tape)? {
         Some(_) => Ok(()),
         None => unreachable!(),
     }

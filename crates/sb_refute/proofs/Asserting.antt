@@ -6,7 +6,6 @@ use Rattle.std.proofs.lemmas.Bool.{and_parts, and_from, false≢true}
 use Rattle.std.proofs.lemmas.Iterator.Adapters.{position_from-zero}
 use Rattle.std.proofs.lemmas.List.Quantifiers.{position-Some}
 use Rattle.std.proofs.lemmas.Option.{get_or_from_slice_get, slice_get_within, slice_get-map}
-use Rattle.indexmap.specs.IndexMap.{insert_entry}
 use Rattle.sb_lit.specs.declared.clause.Lit.{Lit}
 use Rattle.sb_lang.specs.Regex.{Regex}
 use Rattle.sb_lang.specs.Order.{regex_eq}
@@ -35,7 +34,7 @@ use Rattle.sb_trace.proofs.CallerLemmas.{puts_none, puts_both}
 use Rattle.sb_refute.specs.Backing.{Backing, Backs, EvidencesUncounted, IsLive}
 use Rattle.sb_refute.specs.declared.evidence.Asserted.{Asserted}
 use Rattle.sb_refute.specs.Units.{AreOfAtoms}
-use Rattle.sb_refute.specs.Lines.{BringsAtom, IsAssertion}
+use Rattle.sb_refute.specs.Lines.{BringsAtom, IsAssertion, placed}
 use Rattle.sb_refute.proofs.AtomLines.{alone}
 use Rattle.sb_refute.proofs.LinesPut.{atom-put}
 
@@ -110,9 +109,9 @@ atom-parts sorts rs old new t l a declared literal names =
     (declared m.serial R m.is)
 
 pub brings-atom : (asked : Asked) (rs : List Regex) (old new : List (AtomOver ℕ)) (place : ℕ) (t : Term) (l : Lit)
-    → IsLive asked place t → Some l ≡ brought_translation (atoms_in rs new) t → IsAdded old new (Some l)
+    (level : ℕ) → IsLive asked place t level → Some l ≡ brought_translation (atoms_in rs new) t → IsAdded old new (Some l)
     → BringsAtom asked rs old new l
-brings-atom asked rs old new place t l live literal added = record {
+brings-atom asked rs old new place t l level live literal added = record {
   atom = added.0;
   names = added.2;
   is = added.1;
@@ -120,9 +119,9 @@ brings-atom asked rs old new place t l live literal added = record {
 }
 
 pub is-assertion : (asked : Asked) (rs : List Regex) (memo : Memo) (e : Backing) (kept : AllKept) (place : ℕ) (t : Term)
-    (l : Lit) → IsLive asked place t → Some l ≡ brought_translation (atoms_in rs e.atoms) t → Backs rs memo e kept
-    → IsAssertion asked kept place l
-is-assertion asked rs memo e kept place t l live literal b = record {
+    (l : Lit) (level : ℕ) → IsLive asked place t level → Some l ≡ brought_translation (atoms_in rs e.atoms) t
+    → Backs rs memo e kept → IsAssertion asked kept place l level
+is-assertion asked rs memo e kept place t l level live literal b = record {
   term = t;
   live = live.live;
   literal = ap (λ (atoms : List Atom). translation atoms t) b.atoms
@@ -130,19 +129,19 @@ is-assertion asked rs memo e kept place t l live literal b = record {
 }
 
 -- the literals of assertions stay of atoms of the table
-pub of-more-atoms : (old new : List (AtomOver ℕ)) (asserted : List (ℕ × Asserted)) → Extends old new
+pub of-more-atoms : (old new : List (AtomOver ℕ)) (asserted : List (Option Asserted)) → Extends old new
     → AreOfAtoms old asserted → AreOfAtoms new asserted
 of-more-atoms old new asserted extends of = λ place a h.
     let known = of place a h in
     (known.0, omega (arith, known.1, ap length extends.is, length-append old extends.more))
 
 -- the clause is counted, and the assertion is kept
-pub counted-and-kept : (e next kept : Backing) (place : ℕ) (a : Asserted)
-    → kept ≡ record next { asserted = insert_entry nat_eq next.asserted place a }
+pub counted-and-kept : (e next kept : Backing) (place : ℕ) (a : Option Asserted)
+    → kept ≡ record next { asserted = placed next.asserted place a }
     → next ≡ record e { clauses = e.clauses + 1 }
-    → kept ≡ record e { clauses = e.clauses + 1; asserted = insert_entry nat_eq e.asserted place a }
+    → kept ≡ record e { clauses = e.clauses + 1; asserted = placed e.asserted place a }
 counted-and-kept e next kept place a keeps counts =
-    keeps ∙ ap (λ (f : Backing). record f { asserted = insert_entry nat_eq f.asserted place a }) counts
+    keeps ∙ ap (λ (f : Backing). record f { asserted = placed f.asserted place a }) counts
 
 -- Lines that are put one behind another.
 

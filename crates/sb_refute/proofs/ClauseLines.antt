@@ -13,31 +13,30 @@ use Rattle.sb_rulebook.specs.Lines.{rule_line, assertion_line, learned_line, emp
 use Rattle.sb_rulebook.specs.Kept.{AllKept, Asked, most_counted, with_clause, rests_of_any}
 use Rattle.sb_rulebook.specs.Follows.{not_brought, by_rule, follows}
 use Rattle.sb_rulebook.specs.Translation.{translation}
-use Rattle.sb_sound.specs.HintLaws.{Ascend, by_atom}
+use Rattle.sb_sound.specs.HintLaws.{Ascend, HasNoSubset, by_atom}
 use Rattle.sb_sound.specs.MembershipLaws.{AreDeniedIn}
 use Rattle.sb_sound.specs.ClauseLaws.{AreDefined, RuleLinesAreExact, LearnedLinesAreExact, AssertionLinesAreExact}
-use Rattle.sb_refute.specs.Backing.{HasPositive, LeadsNowhere}
-use Rattle.sb_refute.specs.Units.{Rise, denials_of}
+use Rattle.sb_refute.specs.Units.{Member, Rise, LeadsNowhere, denials_of}
 use Rattle.sb_refute.proofs.Hints.{here, cons-cases, not-in-nil}
 
 -- what is kept with one more clause, counted or not
-abbrev pub pushed : AllKept → List Lit → List ℕ → ℕ → AllKept
-pushed kept clause rests counted = record (with_clause kept clause 0 rests) { counted = counted }
+abbrev pub pushed : AllKept → List Lit → ℕ → List ℕ → ℕ → AllKept
+pushed kept clause level rests counted = record (with_clause kept clause level rests) { counted = counted }
 
 -- The denial of memberships.
 
-all-negative : (us : List (ℕ × ℕ)) → list_all (λ l. not l.positive) (denials_of us) ≡ true
+all-negative : (us : List Member) → list_all (λ l. not l.positive) (denials_of us) ≡ true
 all-negative [] = refl
 all-negative (u ∷ us) = all-negative us
 
-denial-negative : (us : List (ℕ × ℕ)) (l : Lit) → Contains (denials_of us) l → l.positive ≡ false
+pub denial-negative : (us : List Member) (l : Lit) → Contains (denials_of us) l → l.positive ≡ false
 denial-negative [] l h = absurd (not-in-nil l h)
 denial-negative (u ∷ us) l h = elim (cons-cases (record { atom = u.0; positive = false }) (denials_of us) l h) [
   | inl e ↦ sym (ap (λ m. m.positive) e)
   | inr more ↦ denial-negative us l more
 ]
 
-denials-ascend : (us : List (ℕ × ℕ)) → Rise us → Ascend (denials_of us)
+denials-ascend : (us : List Member) → Rise us → Ascend (denials_of us)
 denials-ascend [] rise = tt
 denials-ascend (u ∷ []) rise = tt
 denials-ascend (u ∷ v ∷ us) rise = (by_atom rise.0, denials-ascend (v ∷ us) rise.1)
@@ -51,23 +50,22 @@ denied-known atoms x (m ∷ ms) (s ∷ ss) h l among = elim (cons-cases m ms l a
   | inr more ↦ denied-known atoms x ms ss h.1 l more
 ]
 
-pub some-denials : (us : List (ℕ × ℕ)) → us ≢ [] → denials_of us ≢ []
+pub some-denials : (us : List Member) → us ≢ [] → denials_of us ≢ []
 some-denials [] h e = h refl
 some-denials (u ∷ us) h e = nonempty (record { atom = u.0; positive = false }) (denials_of us) e
   where
     nonempty : (l : Lit) (ls : List Lit) → l ∷ ls ≡ [] → ⊥
     nonempty l ls e = cc
 
-pub denial-follows : RuleLinesAreExact → (asked : Asked) (kept : AllKept) (x : ℕ) (us : List (ℕ × ℕ)) (ss : List Regex)
+pub denial-follows : RuleLinesAreExact → (asked : Asked) (kept : AllKept) (x : ℕ) (us : List Member) (ss : List Regex)
     (place : ℕ) → us ≢ [] → Rise us → AreDeniedIn kept.atoms x (denials_of us) ss
     → slice_get kept.regexes place ≡ Some (mkand ss) → slice_get kept.dead place ≡ Some true
-    → ((id : ℕ) (clause : KeptClause) → kept_at kept.clauses id ≡ Some clause → HasPositive clause)
-    → kept.counted < most_counted asked
-    → follows asked kept (rule_line empty (denials_of us)) ≡ Ok (pushed kept (denials_of us) [] (kept.counted + 1))
-denial-follows exact asked kept x us ss place some rise denied defined dead positive room =
+    → HasNoSubset kept.clauses (denials_of us) → kept.counted < most_counted asked
+    → follows asked kept (rule_line empty (denials_of us)) ≡ Ok (pushed kept (denials_of us) 0 [] (kept.counted + 1))
+denial-follows exact asked kept x us ss place some rise denied defined dead new room =
     ap (λ b. if b then by_rule asked kept (rule_line empty (denials_of us))
     else not_brought (by_rule asked kept (rule_line empty (denials_of us)))) (all-negative us)
-    ∙ (exact asked kept (pushed kept (denials_of us) [] (kept.counted + 1)) empty (denials_of us)).1 (record {
+    ∙ (exact asked kept (pushed kept (denials_of us) 0 [] (kept.counted + 1)) empty (denials_of us)).1 (record {
       defined = denied-known kept.atoms x (denials_of us) ss denied;
       ascend = denials-ascend us rise;
       form = record {
@@ -79,23 +77,22 @@ denial-follows exact asked kept x us ss place some rise denied defined dead posi
         defined = defined;
         dead = dead;
       };
-      new = λ c id other h among. let p = positive id other h in
-          true≢false (sym p.2 ∙ denial-negative us p.0 (among p.0 p.1));
+      new = λ c. new;
       counts = λ c. (room, refl);
       is_free = λ c. absurd (true≢false c);
     })
 
 -- The empty clause.
 
-pub learned-follows : LearnedLinesAreExact → (asked : Asked) (kept : AllKept) (ids : List ℕ)
-    → LeadsNowhere kept.clauses ids
+pub learned-follows : LearnedLinesAreExact → (asked : Asked) (kept : AllKept) (ids : List ℕ) (level : ℕ)
+    → LeadsNowhere kept.clauses ids level
     → ((id : ℕ) (clause : KeptClause) → kept_at kept.clauses id ≡ Some clause → clause.literals ≢ [])
     → kept.counted < most_counted asked
-    → follows asked kept (learned_line [] ids) ≡ Ok (pushed kept [] (rests_of_any kept ids) (kept.counted + 1))
-learned-follows exact asked kept ids leads some room =
-    (exact asked kept (pushed kept [] (rests_of_any kept ids) (kept.counted + 1)) [] ids).1 (record {
+    → follows asked kept (learned_line [] ids) ≡ Ok (pushed kept [] level (rests_of_any kept ids) (kept.counted + 1))
+learned-follows exact asked kept ids level leads some room =
+    (exact asked kept (pushed kept [] level (rests_of_any kept ids) (kept.counted + 1)) [] ids).1 (record {
       defined = λ l among. absurd (not-in-nil l among);
-      level = 0;
+      level = level;
       by_hints = record {
         hints = leads.clauses;
         named = leads.named;
@@ -114,12 +111,13 @@ learned-follows exact asked kept ids leads some room =
 -- The clause of an assertion.
 
 pub assertion-follows : AssertionLinesAreExact → (asked : Asked) (kept : AllKept) (place : ℕ) (l : Lit) (t : Term)
-    → slice_get asked.live place ≡ Some (Some t, 0) → l.atom < length kept.atoms → translation kept.atoms t ≡ Some l
-    → follows asked kept (assertion_line place l) ≡ Ok (with_clause kept (l ∷ []) 0 (place ∷ []))
-assertion-follows exact asked kept place l t live known literal =
-    (exact asked kept (with_clause kept (l ∷ []) 0 (place ∷ [])) place l).1 (record {
+    (level : ℕ) → slice_get asked.live place ≡ Some (Some t, level) → l.atom < length kept.atoms
+    → translation kept.atoms t ≡ Some l
+    → follows asked kept (assertion_line place l) ≡ Ok (with_clause kept (l ∷ []) level (place ∷ []))
+assertion-follows exact asked kept place l t level live known literal =
+    (exact asked kept (with_clause kept (l ∷ []) level (place ∷ [])) place l).1 (record {
       term = t;
-      level = 0;
+      level = level;
       live = live;
       defined = known;
       literal = literal;

@@ -1,6 +1,7 @@
 -- Clauses that are kept, with one behind them.
-use Rattle.std.proofs.Common.{◌≡◌, ℕ, zero, suc, ◌⊎◌, inl, inr, [], ◌∷◌, ◌++◌, length, Option, Some, refl}
-use Rattle.sb_lit.specs.Kept.{Kept, KeptClause, kept_at}
+use Rattle.std.proofs.Common.{◌≡◌, ℕ, zero, suc, ◌≤◌, ◌⊎◌, inl, inr, Bool, true, false, nat_lt, if◌then◌else◌, List, [], ◌∷◌, ◌++◌, length, map, get_or, ◌<◌, subst, Option, Some, None, refl, ap, ◌∙◌, sym, arith}
+use Rattle.std.proofs.lemmas.Bool.Decides.{nat_tests}
+use Rattle.sb_lit.specs.Kept.{Kept, KeptClause, kept_at, is_above, stays_up_to, kept_up_to}
 
 pub none-kept : (id : ℕ) (c : KeptClause) → kept_at [] id ≡ Some c → ⊥
 none-kept zero c h = cc
@@ -23,8 +24,71 @@ some-clause c d h = cc
 
 -- another one was kept before
 pub kept-cases : (kept : Kept) (d : KeptClause) (id : ℕ) (c : KeptClause) → kept_at (kept ++ Some d ∷ []) id ≡ Some c
-    → (kept_at kept id ≡ Some c) ⊎ (d ≡ c)
-kept-cases [] d zero c h = inr (some-clause c d h)
+    → (kept_at kept id ≡ Some c) ⊎ ((id ≡ length kept) × (d ≡ c))
+kept-cases [] d zero c h = inr (refl, some-clause c d h)
 kept-cases [] d (suc id) c h = absurd (none-kept id c h)
 kept-cases (k ∷ ks) d zero c h = inl h
-kept-cases (k ∷ ks) d (suc id) c h = kept-cases ks d id c h
+kept-cases (k ∷ ks) d (suc id) c h = elim (kept-cases ks d id c h) [
+  | inl before ↦ inl before
+  | inr last ↦ inr (ap suc last.0, last.1)
+]
+
+-- numbers beside them, with one more
+pub number-last : (ns : List ℕ) (n id : ℕ) → id ≡ length ns → get_or (ns ++ n ∷ []) id 0 ≡ n
+number-last [] n zero h = refl
+number-last [] n (suc id) h = absurd (omega (arith, h))
+number-last (m ∷ ns) n zero h = absurd (omega (arith, h))
+number-last (m ∷ ns) n (suc id) h = number-last ns n id (omega (arith, h))
+
+pub number-stays : (ns : List ℕ) (n id : ℕ) → id < length ns → get_or (ns ++ n ∷ []) id 0 ≡ get_or ns id 0
+number-stays [] n id h = absurd (omega (arith, h))
+number-stays (m ∷ ns) n zero h = refl
+number-stays (m ∷ ns) n (suc id) h = number-stays ns n id (omega (arith, h))
+
+pub kept-within : (kept : Kept) (id : ℕ) (c : KeptClause) → kept_at kept id ≡ Some c → id < length kept
+kept-within [] id c h = absurd (none-kept id c h)
+kept-within (k ∷ ks) zero c h = omega arith
+kept-within (k ∷ ks) (suc id) c h = let rest = kept-within ks id c h in omega (arith, rest)
+
+-- Clauses that are dropped.
+
+none-some : (c : KeptClause) → ◌≡◌ {A = Option KeptClause} None (Some c) → ⊥
+none-some c h = cc
+
+-- a clause that stays was there, and is not above the level
+place-stays : (level : ℕ) (o : Option KeptClause) (c : KeptClause) → stays_up_to level o ≡ Some c
+    → (o ≡ Some c) × (c.level ≤ level)
+place-stays level None c h = absurd (none-some c h)
+place-stays level (Some d) c h = step (nat_lt level d.level) refl h
+  where
+    step : (b : Bool) → nat_lt level d.level ≡ b → (if b then None else Some d) ≡ Some c
+        → (Some d ≡ Some c) × (c.level ≤ level)
+    step true is h = absurd (none-some c h)
+    step false is h =
+        let low : d.level ≤ level = grind (arith, nat_tests) in
+        (h, subst (λ (e : KeptClause). e.level ≤ level) (some-clause c d h) low)
+
+pub stayed : (level : ℕ) (kept : Kept) (id : ℕ) (c : KeptClause) → kept_at (kept_up_to level kept) id ≡ Some c
+    → (kept_at kept id ≡ Some c) × (c.level ≤ level)
+stayed level [] id c h = absurd (none-kept id c h)
+stayed level (k ∷ ks) zero c h = place-stays level k c h
+stayed level (k ∷ ks) (suc id) c h = stayed level ks id c h
+
+-- and one that is not above it stays
+low-stays : (level : ℕ) (c : KeptClause) → c.level ≤ level → stays_up_to level (Some c) ≡ Some c
+low-stays level c low = step (nat_lt level c.level) refl
+  where
+    step : (b : Bool) → nat_lt level c.level ≡ b → (if b then None else Some c) ≡ Some c
+    step false is = refl
+    step true is = absurd (grind (arith, nat_tests, low))
+
+pub stays : (level : ℕ) (kept : Kept) (id : ℕ) (c : KeptClause) → kept_at kept id ≡ Some c → c.level ≤ level
+    → kept_at (kept_up_to level kept) id ≡ Some c
+stays level [] id c h low = absurd (none-kept id c h)
+stays level (k ∷ ks) zero c h low = ap (stays_up_to level) h ∙ low-stays level c low
+stays level (k ∷ ks) (suc id) c h low = stays level ks id c h low
+
+pub none-stays : (kept : Kept) (id : ℕ) (c : KeptClause) → kept_at (map (λ clause. None) kept) id ≡ Some c → ⊥
+none-stays [] id c h = none-kept id c h
+none-stays (k ∷ ks) zero c h = none-some c h
+none-stays (k ∷ ks) (suc id) c h = none-stays ks id c h

@@ -13,7 +13,7 @@ use Rattle.sb_atoms.specs.Numbered.{Names, over, atoms_in}
 use Rattle.sb_refute.specs.declared.evidence.Asserted.{Asserted}
 use Rattle.sb_refute.specs.Backing.{Backing, asserted_at}
 use Rattle.sb_refute.specs.Refuting.{membership_of, membership_at}
-use Rattle.sb_refute.specs.Units.{IsUnitOf, AreRegexesOf, denials_of}
+use Rattle.sb_refute.specs.Units.{Member, IsUnitOf, AreRegexesOf, denials_of}
 use Rattle.sb_refute.proofs.AtomLines.{alone}
 use Rattle.sb_refute.proofs.Hints.{here, later, cons-cases, not-in-nil}
 
@@ -63,24 +63,24 @@ one-atom atoms q x c r s h k = parts (sym h ∙ k)
     parts e = (cc, cc)
 
 -- a word of all regexes of the atoms is one of each atom's
-each-word : (rs : List Regex) (atoms : List (AtomOver ℕ)) (w : List ℕ) (us : List (ℕ × ℕ)) (ids : List ℕ)
+each-word : (rs : List Regex) (atoms : List (AtomOver ℕ)) (w : List ℕ) (us : List Member) (ids : List ℕ)
     → AreRegexesOf atoms us ids → list_all (λ r. language r w) (regexes_at rs ids) ≡ true → (q c s : ℕ)
-    → Contains (map (λ (u : ℕ × ℕ). u.0) us) q → Names atoms q (alone c s) → language (regex_at rs s) w ≡ true
+    → Contains (map (λ (u : Member). u.0) us) q → Names atoms q (alone c s) → language (regex_at rs s) w ≡ true
 each-word rs atoms w [] ids are all q c s among names = absurd (not-in-nil q among)
 each-word rs atoms w (u ∷ us) [] are all q c s among names = absurd are
 each-word rs atoms w (u ∷ us) (r ∷ ids) are all q c s among names =
     let both = and_parts (language (regex_at rs r) w) (list_all (λ r. language r w) (regexes_at rs ids)) all in
-    elim (cons-cases u.0 (map (λ (u : ℕ × ℕ). u.0) us) q among) [
+    elim (cons-cases u.0 (map (λ (u : Member). u.0) us) q among) [
       | inl one ↦ ap (λ n. language (regex_at rs n) w)
           (sym (one-atom atoms q are.0 c r s (subst (λ n. Names atoms n (alone are.0 r)) one are.1) names).1) ∙ both.0
       | inr more ↦ each-word rs atoms w us ids are.2 both.1 q c s more names
     ]
 
-pub all-words : (rs : List Regex) (e : Backing) (w : List ℕ) (us : List (ℕ × ℕ)) (ids : List ℕ) (c : ℕ)
+pub all-words : (rs : List Regex) (e : Backing) (w : List ℕ) (us : List Member) (ids : List ℕ) (c : ℕ)
     → AreRegexesOf e.atoms us ids → list_all (λ r. language r w) (regexes_at rs ids) ≡ true
     → (places regexes : List ℕ) → map (membership_at e) places ≡ map (λ r. Some (c, r)) regexes
     → ((place : ℕ) (a : Asserted) → Contains places place → asserted_at e.asserted place ≡ Some a
-    → Contains (map (λ (u : ℕ × ℕ). u.0) us) a.literal.atom)
+    → Contains (map (λ (u : Member). u.0) us) a.literal.atom)
     → list_all (λ r. language r w) (regexes_at rs regexes) ≡ true
 all-words rs e w us ids c are all [] [] h has = refl
 all-words rs e w us ids c are all [] (r ∷ regexes) h has = absurd (cc)
@@ -122,8 +122,8 @@ place-in e c (p ∷ places) (r ∷ regexes) h place among = elim (cons-cases p p
 
 -- the denials are of memberships of the constant, in these regexes
 pub units-denied : (rs : List Regex) (e : Backing) (c : ℕ) (places regexes : List ℕ)
-    → map (membership_at e) places ≡ map (λ r. Some (c, r)) regexes → (us : List (ℕ × ℕ)) (ids : List ℕ)
-    → AreRegexesOf e.atoms us ids → ((u : ℕ × ℕ) → Contains us u → IsUnitOf e places u)
+    → map (membership_at e) places ≡ map (λ r. Some (c, r)) regexes → (us : List Member) (ids : List ℕ)
+    → AreRegexesOf e.atoms us ids → ((u : Member) → Contains us u → IsUnitOf e places u)
     → AreDeniedIn (atoms_in rs e.atoms) c (denials_of us) (regexes_at rs ids)
 units-denied rs e c places regexes h [] [] are from = tt
 units-denied rs e c places regexes h [] (i ∷ ids) are from = absurd are

@@ -5,9 +5,8 @@ use Rattle.sb_lit.specs.declared.clause.Lit.{Lit}
 use Rattle.sb_lit.specs.Clauses.{negation}
 use Rattle.sb_lit.specs.Kept.{Kept, KeptClause, kept_at}
 use Rattle.sb_sound.specs.HintLaws.{AreNamed, LeavesOpen, Refutes, IsGreatestLevel}
-use Rattle.sb_refute.specs.Backing.{at_the_bottom, LeadsNowhere}
-use Rattle.sb_refute.specs.Units.{Rise, denials_of, hints_of}
-use Rattle.sb_refute.proofs.Clauses.{kept-stays}
+use Rattle.sb_refute.specs.Denying.{at_the_bottom}
+use Rattle.sb_refute.specs.Units.{Member, Rise, AreKept, IsTop, LeadsNowhere, denials_of, unit_of}
 
 -- Elements of lists.
 
@@ -24,22 +23,18 @@ cons-cases y xs x (suc k, l, e) = inr (k, omega (arith, l), e)
 pub not-in-nil : {X : Type 0} (x : X) → Contains [] x → ⊥
 not-in-nil x (k, l, e) = omega (arith, l)
 
--- the clause that an atom is true
-abbrev pub unit_of : ℕ × ℕ → KeptClause
-unit_of u = at_the_bottom ((record { atom = u.0; positive = true }) ∷ [])
-
 -- Each hint forces its literal, and the last one is false.
 
 -- what is held is positive, and of lower atoms
-abbrev IsUnder : List Lit → List (ℕ × ℕ) → Type 0
+abbrev IsUnder : List Lit → List Member → Type 0
 IsUnder held [] = Unit {0}
 IsUnder held (u ∷ us) = (l : Lit) → Contains held l → (l.positive ≡ true) × (l.atom < u.0)
 
 -- each literal is false, or denies an atom that is still to come
-abbrev IsDenied : List Lit → List (ℕ × ℕ) → List Lit → Type 0
+abbrev IsDenied : List Lit → List Member → List Lit → Type 0
 IsDenied held us ls = (l : Lit) → Contains ls l → Contains held (negation l) ⊎ Contains (denials_of us) l
 
-opens : (held : List Lit) (u : ℕ × ℕ) (us : List (ℕ × ℕ)) → IsUnder held (u ∷ us)
+opens : (held : List Lit) (u : Member) (us : List Member) → IsUnder held (u ∷ us)
     → LeavesOpen held ((record { atom = u.0; positive = true }) ∷ []) (record { atom = u.0; positive = true })
 opens held u us under = record {
   within = here (record { atom = u.0; positive = true }) [];
@@ -55,7 +50,7 @@ opens held u us under = record {
       | inr none ↦ not-in-nil m none
     ]
 
-next-denied : (held : List Lit) (u : ℕ × ℕ) (us : List (ℕ × ℕ)) (ls : List Lit) → IsDenied held (u ∷ us) ls
+next-denied : (held : List Lit) (u : Member) (us : List Member) (ls : List Lit) → IsDenied held (u ∷ us) ls
     → IsDenied ((record { atom = u.0; positive = true }) ∷ held) us ls
 next-denied held u us ls denied = λ l h. step l (denied l h)
   where
@@ -68,7 +63,7 @@ next-denied held u us ls denied = λ l h. step l (denied l h)
       | inr more ↦ inr more
     ]
 
-next-under : (held : List Lit) (u v : ℕ × ℕ) (us : List (ℕ × ℕ)) → u.0 < v.0 → IsUnder held (u ∷ v ∷ us)
+next-under : (held : List Lit) (u v : Member) (us : List Member) → u.0 < v.0 → IsUnder held (u ∷ v ∷ us)
     → IsUnder ((record { atom = u.0; positive = true }) ∷ held) (v ∷ us)
 next-under held u v us low under = λ l h. step l (cons-cases (record { atom = u.0; positive = true }) held l h)
   where
@@ -77,7 +72,7 @@ next-under held u v us low under = λ l h. step l (cons-cases (record { atom = u
     step l (inl e) = (sym (ap (λ m. m.positive) e), subst (λ n. n < v.0) (ap (λ m. m.atom) e) low)
     step l (inr h) = let p = under l h in let q = p.1 in (p.0, omega (arith, low, q))
 
-pub refuted-by : (us : List (ℕ × ℕ)) (held ls : List Lit) → Rise us → IsUnder held us → IsDenied held us ls
+pub refuted-by : (us : List Member) (held ls : List Lit) → Rise us → IsUnder held us → IsDenied held us ls
     → Refutes held (map unit_of us ++ at_the_bottom ls ∷ [])
 refuted-by [] held ls rise under denied = λ l h. elim (denied l h) [
   | inl there ↦ there
@@ -95,74 +90,93 @@ refuted-by (u ∷ v ∷ us) held ls rise under denied = (
       (next-under held u v us rise.0 under) (next-denied held u (v ∷ us) ls denied),
 )
 
--- The hints name the clauses, which are of the lowest level.
+-- The hints name the clauses.
 
-all-named : (kept : Kept) (us : List (ℕ × ℕ)) (denial : ℕ) (last : KeptClause)
-    → ((u : ℕ × ℕ) → Contains us u → kept_at kept u.1 ≡ Some (unit_of u)) → kept_at kept denial ≡ Some last
-    → AreNamed kept (hints_of us denial) (map unit_of us ++ last ∷ [])
+pub all-named : (kept : Kept) (us : List Member) (denial : ℕ) (last : KeptClause) → AreKept us kept
+    → kept_at kept denial ≡ Some last
+    → AreNamed kept (map (λ (u : Member). u.1) us ++ denial ∷ []) (map unit_of us ++ last ∷ [])
 all-named kept [] denial last units h = (h, tt)
 all-named kept (u ∷ us) denial last units h =
     (units u (here u us), all-named kept us denial last (λ v among. units v (later u us v among)) h)
 
-all-low : (us : List (ℕ × ℕ)) (ls : List Lit) (c : KeptClause) → Contains (map unit_of us ++ at_the_bottom ls ∷ []) c
-    → c.level ≤ 0
-all-low [] ls c h = elim (cons-cases (at_the_bottom ls) [] c h) [
+-- Their greatest level is that of the units, or 0.
+
+none-above : (us : List Member) (ls : List Lit) (top : ℕ)
+    → ((n : ℕ) → Contains (map (λ (u : Member). u.2) us) n → n ≤ top) → (c : KeptClause)
+    → Contains (map unit_of us ++ at_the_bottom ls ∷ []) c → c.level ≤ top
+none-above [] ls top below c h = elim (cons-cases (at_the_bottom ls) [] c h) [
   | inl e ↦ low (sym (ap (λ d. d.level) e))
   | inr none ↦ absurd (not-in-nil c none)
 ]
   where
-    low : c.level ≡ 0 → c.level ≤ 0
+    low : c.level ≡ 0 → c.level ≤ top
     low e = omega (arith, e)
-all-low (u ∷ us) ls c h = elim (cons-cases (unit_of u) (map unit_of us ++ at_the_bottom ls ∷ []) c h) [
+none-above (u ∷ us) ls top below c h = elim (cons-cases (unit_of u) (map unit_of us ++ at_the_bottom ls ∷ []) c h) [
   | inl e ↦ low (sym (ap (λ d. d.level) e))
-  | inr more ↦ all-low us ls c more
+  | inr more ↦ none-above us ls top
+      (λ n among. below n (later u.2 (map (λ (v : Member). v.2) us) n among)) c more
 ]
   where
-    low : c.level ≡ 0 → c.level ≤ 0
-    low e = omega (arith, e)
+    low : c.level ≡ u.2 → c.level ≤ top
+    low e = let first = below u.2 (here u.2 (map (λ (v : Member). v.2) us)) in omega (arith, e, first)
 
-greatest : (us : List (ℕ × ℕ)) (ls : List Lit) → IsGreatestLevel (map unit_of us ++ at_the_bottom ls ∷ []) 0
-greatest [] ls = record {
-  hint = at_the_bottom ls;
-  among = here (at_the_bottom ls) [];
-  is = refl;
-  none_above = λ other h. all-low [] ls other h;
-}
-greatest (u ∷ us) ls = record {
-  hint = unit_of u;
-  among = here (unit_of u) (map unit_of us ++ at_the_bottom ls ∷ []);
-  is = refl;
-  none_above = λ other h. all-low (u ∷ us) ls other h;
-}
+-- a clause of one of the units' levels
+record OfLevel (clauses : List KeptClause) (level : ℕ) : Type 0 where
+  clause : KeptClause
+  among : Contains clauses clause
+  is : clause.level ≡ level
+
+of-unit : (us : List Member) (more : List KeptClause) (n : ℕ) → Contains (map (λ (u : Member). u.2) us) n
+    → OfLevel (map unit_of us ++ more) n
+of-unit [] more n h = absurd (not-in-nil n h)
+of-unit (u ∷ us) more n h = elim (cons-cases u.2 (map (λ (v : Member). v.2) us) n h) [
+  | inl e ↦ record { clause = unit_of u; among = here (unit_of u) (map unit_of us ++ more); is = e }
+  | inr rest ↦
+      let found = of-unit us more n rest in
+      record {
+        clause = found.clause;
+        among = later (unit_of u) (map unit_of us ++ more) found.clause found.among;
+        is = found.is;
+      }
+]
+
+of-last : (us : List Member) (ls : List Lit) (n : ℕ) → n ≡ 0 → OfLevel (map unit_of us ++ at_the_bottom ls ∷ []) n
+of-last [] ls n h = record { clause = at_the_bottom ls; among = here (at_the_bottom ls) []; is = sym h }
+of-last (u ∷ us) ls n h =
+    let found = of-last us ls n h in
+    record {
+      clause = found.clause;
+      among = later (unit_of u) (map unit_of us ++ at_the_bottom ls ∷ []) found.clause found.among;
+      is = found.is;
+    }
+
+greatest : (us : List Member) (ls : List Lit) (top : ℕ) → IsTop (map (λ (u : Member). u.2) us) top
+    → IsGreatestLevel (map unit_of us ++ at_the_bottom ls ∷ []) top
+greatest us ls top h = step (elim h.is [
+  | inl low ↦ of-last us ls top low
+  | inr among ↦ of-unit us (at_the_bottom ls ∷ []) top among
+])
+  where
+    step : OfLevel (map unit_of us ++ at_the_bottom ls ∷ []) top
+        → IsGreatestLevel (map unit_of us ++ at_the_bottom ls ∷ []) top
+    step found = record {
+      hint = found.clause;
+      among = found.among;
+      is = found.is;
+      none_above = λ other among. none-above us ls top h.none_above other among;
+    }
 
 -- units and their denial can't all be true
-pub leads-nowhere : (kept : Kept) (us : List (ℕ × ℕ)) (denial : ℕ) → Rise us
-    → ((u : ℕ × ℕ) → Contains us u → kept_at kept u.1 ≡ Some (unit_of u))
-    → kept_at kept denial ≡ Some (at_the_bottom (denials_of us)) → LeadsNowhere kept (hints_of us denial)
-leads-nowhere kept us denial rise units h = record {
+pub leads-nowhere : (kept : Kept) (us : List Member) (denial top : ℕ) → Rise us → AreKept us kept
+    → kept_at kept denial ≡ Some (at_the_bottom (denials_of us)) → IsTop (map (λ (u : Member). u.2) us) top
+    → LeadsNowhere kept (map (λ (u : Member). u.1) us ++ denial ∷ []) top
+leads-nowhere kept us denial top rise units h is = record {
   clauses = map unit_of us ++ at_the_bottom (denials_of us) ∷ [];
   named = all-named kept us denial (at_the_bottom (denials_of us)) units h;
   refutes = refuted-by us [] (denials_of us) rise (nothing us) (λ l among. inr among);
-  greatest = greatest us (denials_of us);
+  greatest = greatest us (denials_of us) top is;
 }
   where
-    nothing : (vs : List (ℕ × ℕ)) → IsUnder [] vs
+    nothing : (vs : List Member) → IsUnder [] vs
     nothing [] = tt
     nothing (v ∷ vs) = λ l none. absurd (not-in-nil l none)
-
--- and so with one more clause behind them
-named-stay : (kept : Kept) (x : KeptClause) (ids : List ℕ) (clauses : List KeptClause) → AreNamed kept ids clauses
-    → AreNamed (kept ++ Some x ∷ []) ids clauses
-named-stay kept x [] [] h = tt
-named-stay kept x [] (c ∷ cs) h = absurd h
-named-stay kept x (id ∷ ids) [] h = absurd h
-named-stay kept x (id ∷ ids) (c ∷ cs) h = (kept-stays kept (Some x) id c h.0, named-stay kept x ids cs h.1)
-
-pub leads-stay : (kept : Kept) (x : KeptClause) (ids : List ℕ) → LeadsNowhere kept ids
-    → LeadsNowhere (kept ++ Some x ∷ []) ids
-leads-stay kept x ids h = record {
-  clauses = h.clauses;
-  named = named-stay kept x ids h.clauses h.named;
-  refutes = h.refutes;
-  greatest = h.greatest;
-}

@@ -1,11 +1,12 @@
 -- Lines that are put, behind which the reader keeps what the evidence knows.
 use Rattle.std.proofs.Common.{◌≡◌, ◌≢◌, ℕ, ◌+◌, ◌^◌, ◌<◌, Bool, true, false, ◌&&◌, nat_eq, List, [], ◌∷◌, ◌++◌, length, slice_get, Option, Some, None, option_map, unwrap_or, refl, sym, ap, subst, ◌∙◌, Contains, arith}
 use Rattle.std.specs.List.{list_all}
-use Rattle.std.proofs.lemmas.Bool.{and_from, and_parts, false≢true, lt-ltb}
+use Rattle.std.proofs.lemmas.Bool.{and_from, false≢true, true≢false, lt-ltb}
 use Rattle.std.proofs.lemmas.Option.{slice_get-map}
-use Rattle.indexmap.specs.IndexMap.{insert_entry}
 use Rattle.sb_lit.specs.Budgets.{Spending}
-use Rattle.sb_lit.specs.Kept.{kept_at}
+use Rattle.sb_lit.specs.declared.clause.Lit.{Lit}
+use Rattle.sb_lit.specs.Kept.{KeptClause, kept_at}
+use Rattle.sb_lit.specs.Hints.{is_repeated}
 use Rattle.sb_lang.specs.Regex.{Regex}
 use Rattle.sb_lang.specs.Constructors.{mkand}
 use Rattle.sb_lang.specs.OrderLaws.{OrderTellsApart}
@@ -27,13 +28,15 @@ use Rattle.sb_trace.specs.Putting.{IsCounted}
 use Rattle.sb_trace.specs.Tracking.{Traced, TracesUncounted, Traces, is_dead_in, number_in}
 use Rattle.sb_trace.proofs.CallerLemmas.{puts_one, puts_both, number-there}
 use Rattle.sb_refute.specs.declared.evidence.Asserted.{Asserted}
-use Rattle.sb_refute.specs.Backing.{Backing, Backs, Evidences, EvidencesUncounted, at_the_bottom}
-use Rattle.sb_refute.specs.Lines.{IsAssertion}
-use Rattle.sb_refute.specs.Units.{Rise, denials_of, hints_of}
+use Rattle.sb_refute.specs.declared.evidence.EmptyClause.{EmptyClause}
+use Rattle.sb_refute.specs.Denying.{Denied, with_denial}
+use Rattle.sb_refute.specs.Backing.{Backing, Backs, Evidences, EvidencesUncounted, IsKnown, is_positive, is_denial, is_empty}
+use Rattle.sb_refute.specs.Lines.{IsAssertion, placed}
+use Rattle.sb_refute.specs.Units.{Member, Rise, AreDenials, CanBeDenied, LeadsNowhere, denials_of}
 use Rattle.sb_refute.proofs.AtomLines.{alone, atom-follows}
-use Rattle.sb_refute.proofs.ClauseLines.{pushed, some-denials, denial-follows, learned-follows, assertion-follows}
-use Rattle.sb_refute.proofs.Clauses.{kept-stays, kept-last}
-use Rattle.sb_refute.proofs.Hints.{unit_of, leads-nowhere}
+use Rattle.sb_refute.proofs.ClauseLines.{pushed, some-denials, denial-negative, denial-follows, learned-follows, assertion-follows}
+use Rattle.sb_refute.proofs.Hints.{not-in-nil}
+use Rattle.sb_refute.proofs.Parts.{is-repeated}
 use Rattle.sb_refute.proofs.Backs.{backs-traced, backs-atoms, backs-assertion, backs-denial, backs-empty}
 
 small : (n : ℕ) → n < 2 ^ 64 → is_small n ≡ true
@@ -69,38 +72,67 @@ atom-put apart asked before rs memo e t x r n old mid new once known below lacks
 pub assertion-put : AssertionLinesAreExact → (asked : Asked) (before : AllKept) (rs : List Regex) (memo : Memo)
     (e : Backing) (place : ℕ) (a : Asserted) (old new : Option (List ℕ)) → a.literal.atom < length before.atoms
     → a.literal.positive ≡ true → a.clause.0 ≡ e.clauses → place < 2 ^ 64 → a.literal.atom < 2 ^ 64
-    → Backs rs memo e before → IsAssertion asked before place a.literal
+    → Backs rs memo e before → IsAssertion asked before place a.literal a.level
     → new ≡ with_bytes (line (text_of (assertion_line place a.literal))) old
     → EvidencesUncounted asked before rs memo
-    (record e { clauses = e.clauses + 1; asserted = insert_entry nat_eq e.asserted place a }) old new
+    (record e { clauses = e.clauses + 1; asserted = placed e.asserted place (Some a) }) old new
 assertion-put exact asked before rs memo e place a old new known positive number sp sa b is told = record {
-  after = pushed before (a.literal ∷ []) (place ∷ []) before.counted;
-  puts = puts_one asked before (pushed before (a.literal ∷ []) (place ∷ []) before.counted)
+  after = pushed before (a.literal ∷ []) a.level (place ∷ []) before.counted;
+  puts = puts_one asked before (pushed before (a.literal ∷ []) a.level (place ∷ []) before.counted)
       (assertion_line place a.literal) old new
-      (assertion-follows exact asked before place a.literal is.term is.live known is.literal)
+      (assertion-follows exact asked before place a.literal is.term a.level is.live known is.literal)
       (and_from (is_small place) (is_small_literal a.literal) (small place sp) (small a.literal.atom sa)) told;
   backs = backs-assertion rs memo e before place a (place ∷ []) before.counted b number positive;
   counted = refl;
 }
 
+-- Why a clause is new.
+
+none-some : {X : Type 0} (x : X) → None ≡ Some x → ⊥
+none-some x h = cc
+
+nonempty : {X : Type 0} (x : X) (xs : List X) → x ∷ xs ≡ [] → ⊥
+nonempty x xs h = cc
+
+-- a clause that is known has literals, unless it is the empty one
+some-literal : (d : Denied) (r : Option EmptyClause) (c : KeptClause) → AreDenials d → r ≡ None → IsKnown d r c
+    → c.literals ≢ []
+some-literal d r c are unset (is_positive h) = λ nil. not-in-nil h.0 (subst (λ ls. Contains ls h.0) nil h.1)
+some-literal d r c are unset (is_denial i h) = λ nil.
+    let it = are.each i c h in
+    some-denials it.units it.some (sym (ap (λ (k : KeptClause). k.literals) it.is) ∙ nil)
+some-literal d r c are unset (is_empty found is h) = absurd (none-some found (sym unset ∙ is))
+
+-- a denial of which no kept denial has some literals alone is new
+no-part : (d : Denied) (r : Option EmptyClause) (us : List Member) (c : KeptClause)
+    → is_repeated d.clauses (denials_of us) ≡ false → r ≡ None → IsKnown d r c
+    → ((l : Lit) → Contains c.literals l → Contains (denials_of us) l) → ⊥
+no-part d r us c new unset (is_positive h) among =
+    true≢false (sym h.2 ∙ denial-negative us h.0 (among h.0 h.1))
+no-part d r us c new unset (is_denial i h) among =
+    true≢false (sym (is-repeated d.clauses (denials_of us) i c h among) ∙ new)
+no-part d r us c new unset (is_empty found is h) among = none-some found (sym unset ∙ is)
+
 -- The empty clause.
 pub empty-put : LearnedLinesAreExact → (asked : Asked) (before : AllKept) (rs : List Regex) (memo : Memo)
-    (e : Backing) (ids : List ℕ) (budget : Spending) (old new : Option (List ℕ)) → e.hints ≡ Some ids
+    (e : Backing) (ids : List ℕ) (c : EmptyClause) (budget : Spending) (old new : Option (List ℕ))
+    → LeadsNowhere before.clauses ids c.level → c.clause.0 ≡ e.clauses → AreDenials e.denials
     → e.refuted ≡ None → budget.spent < budget.limit → are_small ids ≡ true → Backs rs memo e before
     → IsCounted asked before budget → new ≡ with_bytes (line (text_of (learned_line [] ids))) old
-    → Evidences asked before rs memo
-    (record e { clauses = e.clauses + 1; hints = None; refuted = Some e.clauses })
+    → Evidences asked before rs memo (record e { clauses = e.clauses + 1; refuted = Some c })
     (record budget { spent = budget.spent + 1 }) old new
-empty-put exact asked before rs memo e ids budget old new hints unset room smalls b counts told = record {
-  after = pushed before [] (rests_of_any before ids) (before.counted + 1);
-  puts = puts_one asked before (pushed before [] (rests_of_any before ids) (before.counted + 1)) (learned_line [] ids)
-      old new
-      (learned-follows exact asked before ids (b.hints ids hints) (b.some unset)
-      (omega (arith, room, counts.spent, counts.limit)))
-      smalls told;
-  backs = backs-empty rs memo e before (rests_of_any before ids) (before.counted + 1) b;
-  counts = record { spent = ap (λ n. n + 1) counts.spent; limit = counts.limit };
-}
+empty-put exact asked before rs memo e ids c budget old new leads number are unset room smalls b counts told =
+    let after = pushed before [] c.level (rests_of_any before ids) (before.counted + 1) in
+    record {
+      after = after;
+      puts = puts_one asked before after (learned_line [] ids) old new
+          (learned-follows exact asked before ids c.level leads
+          (λ id d h. some-literal e.denials e.refuted d are unset (b.known id d h))
+          (omega (arith, room, counts.spent, counts.limit)))
+          smalls told;
+      backs = backs-empty rs memo e before c (rests_of_any before ids) (before.counted + 1) number unset b;
+      counts = record { spent = ap (λ n. n + 1) counts.spent; limit = counts.limit };
+    }
 
 -- The denial of memberships, behind the lines of their dead intersection.
 
@@ -125,50 +157,29 @@ dead-at t root h = step (number_in t.order root) refl h
     step None is h = absurd (false≢true h)
     step (Some n) is h = record { number = n; there = number-there t.order root n is; marked = h }
 
-all-small : (us : List (ℕ × ℕ)) → list_all (λ u. is_small u.0) us ≡ true
-    → list_all is_small_literal (denials_of us) ≡ true
-all-small [] h = refl
-all-small (u ∷ us) h =
-    let parts = and_parts (is_small u.0) (list_all (λ v. is_small v.0) us) h in
-    and_from (is_small u.0) (list_all is_small_literal (denials_of us)) parts.0 (all-small us parts.1)
-
-pub denial-put : RuleLinesAreExact → (asked : Asked) (before : AllKept) (rs more : List Regex) (memo memos : Memo)
-    (e : Backing) (t : Traced) (x root : ℕ) (us : List (ℕ × ℕ)) (ss : List Regex) (budget : Spending)
-    (old mid new : Option (List ℕ)) → us ≢ [] → Rise us → AreDeniedIn (atoms_in more e.atoms) x (denials_of us) ss
-    → regex_at more root ≡ mkand ss → is_dead_in t root ≡ true
-    → ((u : ℕ × ℕ) → Contains us u → kept_at before.clauses u.1 ≡ Some (unit_of u)) → e.hints ≡ None
-    → e.refuted ≡ None → budget.spent < budget.limit → list_all (λ u. is_small u.0) us ≡ true
-    → atoms_in more e.atoms ≡ atoms_in rs e.atoms → Backs rs memo e before
-    → Traces asked before more memos t budget old mid
-    → new ≡ with_bytes (line (text_of (rule_line empty (denials_of us)))) mid
-    → Evidences asked before more memos
-    (record e { trace = t; clauses = e.clauses + 1; hints = Some (hints_of us e.clauses) })
+pub denial-put : RuleLinesAreExact → (asked : Asked) (before : AllKept) (rs : List Regex) (memo : Memo)
+    (e : Backing) (us : List Member) (budget : Spending) (old new : Option (List ℕ)) → CanBeDenied rs e us → us ≢ []
+    → Rise us → is_repeated e.denials.clauses (denials_of us) ≡ false → AreDenials e.denials → e.refuted ≡ None
+    → budget.spent < budget.limit → list_all is_small_literal (denials_of us) ≡ true → Backs rs memo e before
+    → IsCounted asked before budget → new ≡ with_bytes (line (text_of (rule_line empty (denials_of us)))) old
+    → Evidences asked before rs memo
+    (record e { clauses = e.clauses + 1; denials = with_denial e.denials (denials_of us) e.clauses })
     (record budget { spent = budget.spent + 1 }) old new
-denial-put exact asked before rs more memo memos e t x root us ss budget old mid new some rise denied meets dead units
-    hints unset room smalls same b traced told =
-    let kept = traced.after in
-    let now = backs-traced rs more memo memos e t before kept b traced.tracks traced.keeps same in
-    let at = dead-at t root dead in
+denial-put exact asked before rs memo e us budget old new h some rise fresh are unset room smalls b counts told =
+    let at = dead-at e.trace h.meet h.dead in
+    let after = pushed before (denials_of us) 0 [] (before.counted + 1) in
     record {
-      after = pushed kept (denials_of us) [] (kept.counted + 1);
-      puts = puts_both asked before kept (pushed kept (denials_of us) [] (kept.counted + 1)) old mid new traced.puts
-          (puts_one asked kept (pushed kept (denials_of us) [] (kept.counted + 1)) (rule_line empty (denials_of us)) mid
-          new
-          (denial-follows exact asked kept x us ss at.number some rise
-          (subst (λ atoms. AreDeniedIn atoms x (denials_of us) ss) (sym now.atoms) denied)
-          (ap (λ known. slice_get known at.number) traced.tracks.regexes
-          ∙ slice_get-map (regex_at more) t.order at.number ∙ ap (option_map (regex_at more)) at.there
-          ∙ ap Some meets)
-          (dead-there kept.dead at.number (traced.tracks.dead at.number ∙ at.marked)) (now.positive hints unset)
-          (omega (arith, room, traced.counts.spent, traced.counts.limit)))
-          (all-small us smalls) told);
-      backs = backs-denial more memos (record e { trace = t }) kept (denials_of us) [] (hints_of us e.clauses)
-          (kept.counted + 1) now (some-denials us some)
-          (leads-nowhere (kept.clauses ++ Some (at_the_bottom (denials_of us)) ∷ []) us e.clauses rise
-          (λ u among. kept-stays kept.clauses (Some (at_the_bottom (denials_of us))) u.1 (unit_of u)
-          (ap (λ k. kept_at k u.1) traced.keeps.clauses ∙ units u among))
-          (ap (kept_at (kept.clauses ++ Some (at_the_bottom (denials_of us)) ∷ [])) (sym now.clauses)
-          ∙ kept-last kept.clauses (Some (at_the_bottom (denials_of us)))))
-          unset;
-      counts = record { spent = ap (λ n. n + 1) traced.counts.spent; limit = traced.counts.limit };
+      after = after;
+      puts = puts_one asked before after (rule_line empty (denials_of us)) old new
+          (denial-follows exact asked before h.constant us h.regexes at.number some rise
+          (subst (λ atoms. AreDeniedIn atoms h.constant (denials_of us) h.regexes) (sym b.atoms) h.denied)
+          (ap (λ known. slice_get known at.number) b.tracks.regexes
+          ∙ slice_get-map (regex_at rs) e.trace.order at.number ∙ ap (option_map (regex_at rs)) at.there
+          ∙ ap Some h.meets)
+          (dead-there before.dead at.number (b.tracks.dead at.number ∙ at.marked))
+          (λ id c there among. no-part e.denials e.refuted us c fresh unset (b.known id c there) among)
+          (omega (arith, room, counts.spent, counts.limit)))
+          smalls told;
+      backs = backs-denial rs memo e before (denials_of us) [] (before.counted + 1) are b;
+      counts = record { spent = ap (λ n. n + 1) counts.spent; limit = counts.limit };
     }

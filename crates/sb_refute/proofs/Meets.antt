@@ -10,7 +10,7 @@ use Rattle.sb_lang.specs.ConstructorLaws.{MkandKeepsLanguage}
 use Rattle.sb_regex.specs.Numbered.{regexes_at}
 use Rattle.sb_refute.specs.Backing.{Backing}
 use Rattle.sb_refute.specs.Refuting.{AreDisjoint}
-use Rattle.sb_refute.specs.Units.{AreUnits, AreRegexesOf}
+use Rattle.sb_refute.specs.Units.{Member, AreUnits, AreRegexesOf}
 use Rattle.sb_refute.proofs.Disjoint.{all-words}
 
 all-meet : (ss : List Regex) (w : List ℕ) → language (and (regexes ss)) w ≡ list_all (λ r. language r w) ss
@@ -18,7 +18,7 @@ unfolding language regexes
 all-meet [] w = refl
 all-meet (s ∷ ss) w = ap (λ b. language s w && b) (all-meet ss w)
 
-pub never-alive : MkandKeepsLanguage → (rs : List Regex) (e : Backing) (places : List ℕ) (us : List (ℕ × ℕ))
+pub never-alive : MkandKeepsLanguage → (rs : List Regex) (e : Backing) (places : List ℕ) (us : List Member)
     (ids : List ℕ) (w : List ℕ) → AreDisjoint rs e places → AreUnits e places us → AreRegexesOf e.atoms us ids
     → IsWord w
     → language (mkand (regexes_at rs ids)) w ≡ true → ⊥

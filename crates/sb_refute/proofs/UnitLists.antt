@@ -6,26 +6,21 @@ use Rattle.std.specs.Ordering.{nat_cmp}
 use Rattle.std.specs.Map.{keys_of}
 use Rattle.std.specs.List.Sorted.{IsStrictlySortedBy}
 use Rattle.sb_lit.specs.declared.clause.Lit.{Lit}
-use Rattle.sb_lit.specs.declared.clause.ClauseId.{ClauseId}
+use Rattle.sb_refute.specs.declared.evidence.Asserted.{Asserted}
 use Rattle.sb_script.specs.Pieces.{constant_piece}
 use Rattle.sb_rulebook.specs.Atoms.{AtomOver, in_atom}
 use Rattle.sb_atoms.specs.Numbered.{Names}
-use Rattle.sb_refute.specs.Units.{Rise, IsOfRegex, AreRegexesOf, numbered, denials_of}
+use Rattle.sb_refute.specs.Units.{Member, Rise, IsOfRegex, AreRegexesOf, numbered, denials_of}
 
-pub denials-by_atoms : (es : List (ℕ × ClauseId))
+pub denials-by_atoms : (es : List (ℕ × Asserted))
     → map (λ (k : ℕ). record { atom = k; positive = false }) (keys_of es) ≡ denials_of (numbered es)
 denials-by_atoms [] = refl
 denials-by_atoms (e ∷ es) = ap (λ (ls : List Lit). (record { atom = e.0; positive = false }) ∷ ls) (denials-by_atoms es)
 
-pub numbers-by_clauses : (es : List (ℕ × ClauseId))
-    → map (λ (c : ClauseId). c.0) (map (λ (e : ℕ × ClauseId). e.1) es) ≡ map (λ (u : ℕ × ℕ). u.1) (numbered es)
-numbers-by_clauses [] = refl
-numbers-by_clauses (e ∷ es) = ap (λ (ns : List ℕ). e.1.0 ∷ ns) (numbers-by_clauses es)
-
 less : (n m : ℕ) → nat_cmp n m ≡ Less → n < m
 less n m h = grind (arith, nat_tests)
 
-pub rise-sorted : (es : List (ℕ × ClauseId)) → IsStrictlySortedBy nat_cmp (keys_of es) → Rise (numbered es)
+pub rise-sorted : (es : List (ℕ × Asserted)) → IsStrictlySortedBy nat_cmp (keys_of es) → Rise (numbered es)
 unfolding IsStrictlySortedBy
 rise-sorted [] h = tt
 rise-sorted (e ∷ []) h = tt
@@ -39,39 +34,39 @@ AreRegexesAt atoms (k ∷ ks) (r ∷ rs) =
 AreRegexesAt atoms _ _ = ⊥
 
 -- The atoms that are left are of the table, and behind the regexes so far theirs make those of all.
-pub record Collects (atoms : List (AtomOver ℕ)) (us : List (ℕ × ℕ)) (left seen : List ℕ) : Type 0 where
+pub record Collects (atoms : List (AtomOver ℕ)) (us : List Member) (left seen : List ℕ) : Type 0 where
   pub below : All (λ k. k < length atoms) left
   pub all : (rest : List ℕ) → AreRegexesAt atoms left rest → AreRegexesOf atoms us (seen ++ rest)
 
-regexes-by_atoms : (atoms : List (AtomOver ℕ)) (es : List (ℕ × ClauseId)) (rs : List ℕ)
+regexes-by_atoms : (atoms : List (AtomOver ℕ)) (es : List (ℕ × Asserted)) (rs : List ℕ)
     → AreRegexesAt atoms (keys_of es) rs → AreRegexesOf atoms (numbered es) rs
 regexes-by_atoms atoms [] [] h = tt
 regexes-by_atoms atoms [] (r ∷ rs) h = absurd h
 regexes-by_atoms atoms (e ∷ es) [] h = absurd h
 regexes-by_atoms atoms (e ∷ es) (r ∷ rs) h = (h.0, h.1, regexes-by_atoms atoms es rs h.2)
 
-keys-below : (n : ℕ) (es : List (ℕ × ClauseId)) → All (λ u. u.0 < n) (numbered es) → All (λ k. k < n) (keys_of es)
+keys-below : (n : ℕ) (es : List (ℕ × Asserted)) → All (λ u. u.0 < n) (numbered es) → All (λ k. k < n) (keys_of es)
 keys-below n [] h = λ k d l. absurd (omega (arith, l))
 keys-below n (e ∷ es) h = step (keys-below n es (λ k d l. h (suc k) d (omega (arith, l))))
   where
     step : All (λ k. k < n) (keys_of es) → (k d : ℕ) → k < length (keys_of (e ∷ es))
         → slice_index_or (keys_of (e ∷ es)) k d < n
-    step rest zero d l = h zero (0, 0) (omega arith)
+    step rest zero d l = h zero (0, 0, 0) (omega arith)
     step rest (suc k) d l = rest k d (omega (arith, l))
 
-pub collects-none : (atoms : List (AtomOver ℕ)) (es : List (ℕ × ClauseId)) (left seen : List ℕ) → left ≡ keys_of es
+pub collects-none : (atoms : List (AtomOver ℕ)) (es : List (ℕ × Asserted)) (left seen : List ℕ) → left ≡ keys_of es
     → seen ≡ [] → All (λ u. u.0 < length atoms) (numbered es) → Collects atoms (numbered es) left seen
 collects-none atoms es left seen is none below =
     subst (λ ks. Collects atoms (numbered es) ks seen) (sym is)
     (subst (Collects atoms (numbered es) (keys_of es)) (sym none)
     (record { below = keys-below (length atoms) es below; all = λ rest. regexes-by_atoms atoms es rest }))
 
-pub collects-below : (atoms : List (AtomOver ℕ)) (us : List (ℕ × ℕ)) (left seen : List ℕ) (k : ℕ) (ks : List ℕ)
+pub collects-below : (atoms : List (AtomOver ℕ)) (us : List Member) (left seen : List ℕ) (k : ℕ) (ks : List ℕ)
     → left ≡ k ∷ ks → Collects atoms us left seen → k < length atoms
 collects-below atoms us left seen k ks is h =
     subst (λ all. All (λ k. k < length atoms) all) is h.below 0 0 (omega arith)
 
-pub collects-one : (atoms : List (AtomOver ℕ)) (us : List (ℕ × ℕ)) (left seen more : List ℕ) (k : ℕ) (ks : List ℕ)
+pub collects-one : (atoms : List (AtomOver ℕ)) (us : List Member) (left seen more : List ℕ) (k : ℕ) (ks : List ℕ)
     (r : ℕ) → left ≡ k ∷ ks → more ≡ seen ++ r ∷ [] → IsOfRegex atoms k r → Collects atoms us left seen
     → Collects atoms us ks more
 collects-one atoms us left seen more k ks r is now of h =
@@ -83,7 +78,7 @@ collects-one atoms us left seen more k ks r is now of h =
           (g.all (r ∷ rest) (of.0, of.1, are));
     }
 
-pub collects-all : (atoms : List (AtomOver ℕ)) (us : List (ℕ × ℕ)) (left seen : List ℕ) → left ≡ []
+pub collects-all : (atoms : List (AtomOver ℕ)) (us : List Member) (left seen : List ℕ) → left ≡ []
     → Collects atoms us left seen → AreRegexesOf atoms us seen
 collects-all atoms us left seen is h =
     subst (AreRegexesOf atoms us) (append-nil seen)

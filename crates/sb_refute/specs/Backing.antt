@@ -1,6 +1,5 @@
 -- What the evidence of an unsat knows of a proof, and what a reader of the proof keeps.
-use Rattle.std.specs.Prelude.{◌≡◌, ◌≢◌, ℕ, true, nat_eq, List, [], ◌∷◌, length, slice_get, Option, Some, None, Contains}
-use Rattle.std.specs.Map.{lookup}
+use Rattle.std.specs.Prelude.{◌≡◌, ℕ, ◌<◌, ◌≤◌, true, List, [], ◌∷◌, length, take, slice_get, slice_index_or, Option, Some, None, unwrap_or, nat_lt, if◌then◌else◌, Contains}
 use Rattle.sb_lang.specs.Regex.{Regex}
 use Rattle.sb_lit.specs.Budgets.{Spending}
 use Rattle.sb_lit.specs.declared.clause.Lit.{Lit}
@@ -9,13 +8,14 @@ use Rattle.sb_meaning.specs.Terms.{Term, text, constant}
 use Rattle.sb_deriv.specs.Faithful.{Memo}
 use Rattle.sb_rulebook.specs.Atoms.{AtomOver}
 use Rattle.sb_rulebook.specs.Kept.{AllKept, Asked}
-use Rattle.sb_sound.specs.HintLaws.{AreNamed, Refutes, IsGreatestLevel}
 use Rattle.sb_rulebook.specs.AtomRules.{is_declared}
 use Rattle.sb_fragment.specs.Memberships.{in_re}
 use Rattle.sb_atoms.specs.Numbered.{atoms_in}
 use Rattle.sb_trace.specs.Putting.{Puts, IsCounted}
 use Rattle.sb_trace.specs.Tracking.{Traced, Tracks}
+use Rattle.sb_refute.specs.Denying.{Denied, none_denied}
 use Rattle.sb_refute.specs.declared.evidence.Asserted.{Asserted}
+use Rattle.sb_refute.specs.declared.evidence.EmptyClause.{EmptyClause}
 
 -- what of regexes, atoms and clauses stands in a proof
 pub record Backing : Type 0 where
@@ -25,44 +25,46 @@ pub record Backing : Type 0 where
   -- how many clauses
   pub clauses : ℕ
   -- by the places of live assertions
-  pub asserted : List (ℕ × Asserted)
-  -- the hints of the empty clause, where it can be learned and was not yet
-  pub hints : Option (List ℕ)
+  pub asserted : List (Option Asserted)
+  pub denials : Denied
   -- the empty clause
-  pub refuted : Option ℕ
+  pub refuted : Option EmptyClause
 
-abbrev pub asserted_at : List (ℕ × Asserted) → ℕ → Option Asserted
-asserted_at asserted place = lookup (nat_eq place) asserted
+-- the clause of the assertion at a place, none where it has none
+abbrev pub asserted_at : List (Option Asserted) → ℕ → Option Asserted
+asserted_at asserted place = unwrap_or (slice_get asserted place) None
 
--- a clause of level 0, which holds in the whole script
-abbrev pub at_the_bottom : List Lit → KeptClause
-at_the_bottom literals = record { literals = literals; level = 0 }
+-- an assertion's one literal, on the assertion's level
+abbrev pub unit_at : Asserted → KeptClause
+unit_at a = record { literals = a.literal ∷ []; level = a.level }
+
+abbrev pub empty_at : EmptyClause → KeptClause
+empty_at empty = record { literals = []; level = empty.level }
 
 -- some literal of the clause is positive
 abbrev pub HasPositive : KeptClause → Type 0
 HasPositive clause = (l : Lit) × Contains clause.literals l × (l.positive ≡ true)
 
--- The hints name clauses that can't all be true.
-pub record LeadsNowhere (kept : Kept) (ids : List ℕ) : Type 0 where
-  pub clauses : List KeptClause
-  pub named : AreNamed kept ids clauses
-  pub refutes : Refutes [] clauses
-  pub greatest : IsGreatestLevel clauses 0
+-- a clause that may be kept: one with a positive literal, as those of assertions, a denial, or the empty clause
+pub data IsKnown (denials : Denied) (refuted : Option EmptyClause) (clause : KeptClause) : Type 0 where
+  is_positive : HasPositive clause → IsKnown denials refuted clause
+  is_denial : (d : ℕ) → kept_at denials.clauses d ≡ Some clause → IsKnown denials refuted clause
+  is_empty : (empty : EmptyClause) → refuted ≡ Some empty → clause ≡ empty_at empty → IsKnown denials refuted clause
 
--- The reader keeps the regexes and the atoms of the evidence, and of each assertion that was put the clause. Other
--- clauses are none but the denial of memberships and the empty clause.
+-- The reader keeps the regexes and the atoms of the evidence, of each assertion that was put the clause, each denial,
+-- and the empty clause. Other clauses than these, and such as have a positive literal, it keeps none.
 pub record Backs (rs : List Regex) (memo : Memo) (e : Backing) (kept : AllKept) : Type 0 where
   pub tracks : Tracks rs memo e.trace kept
   pub atoms : kept.atoms ≡ atoms_in rs e.atoms
   pub clauses : length kept.clauses ≡ e.clauses
   pub asserted : (place : ℕ) (a : Asserted) → asserted_at e.asserted place ≡ Some a
-      → kept_at kept.clauses a.clause.0 ≡ Some (at_the_bottom (a.literal ∷ []))
-  pub positive : e.hints ≡ None → e.refuted ≡ None → (id : ℕ) (clause : KeptClause)
-      → kept_at kept.clauses id ≡ Some clause → HasPositive clause
-  pub some : e.refuted ≡ None → (id : ℕ) (clause : KeptClause) → kept_at kept.clauses id ≡ Some clause
-      → clause.literals ≢ []
-  pub hints : (ids : List ℕ) → e.hints ≡ Some ids → LeadsNowhere kept.clauses ids
-  pub refuted : (id : ℕ) → e.refuted ≡ Some id → kept_at kept.clauses id ≡ Some (at_the_bottom [])
+      → kept_at kept.clauses a.clause.0 ≡ Some (unit_at a)
+  pub denied : (d : ℕ) (clause : KeptClause) → kept_at e.denials.clauses d ≡ Some clause
+      → kept_at kept.clauses (slice_index_or e.denials.numbers d 0) ≡ Some clause
+  pub refuted : (empty : EmptyClause) → e.refuted ≡ Some empty
+      → kept_at kept.clauses empty.clause.0 ≡ Some (empty_at empty)
+  pub known : (id : ℕ) (clause : KeptClause) → kept_at kept.clauses id ≡ Some clause
+      → IsKnown e.denials e.refuted clause
 
 -- Lines were put that follow, and the reader keeps what the evidence knows behind them.
 pub record Evidences (asked : Asked) (before : AllKept) (rs : List Regex) (memo : Memo) (e : Backing)
@@ -82,10 +84,10 @@ pub record EvidencesUncounted (asked : Asked) (before : AllKept) (rs : List Rege
     pub backs : Backs rs memo e after
     pub counted : after.counted ≡ before.counted
 
--- The term is the live assertion of the place, on the lowest level, and where it is a membership of a constant, that
--- one is declared.
-pub record IsLive (asked : Asked) (place : ℕ) (t : Term) : Type 0 where
-  pub live : slice_get asked.live place ≡ Some (Some t, 0)
+-- The term is the live assertion of the place, on this level, and where it is a membership of a constant, that one is
+-- declared.
+pub record IsLive (asked : Asked) (place : ℕ) (t : Term) (level : ℕ) : Type 0 where
+  pub live : slice_get asked.live place ≡ Some (Some t, level)
   pub declared : (serial : ℕ) (expression : Term) → t ≡ in_re (constant serial text) expression
       → is_declared asked.sorts text serial ≡ true
 
@@ -93,3 +95,26 @@ pub record IsLive (asked : Asked) (place : ℕ) (t : Term) : Type 0 where
 abbrev pub KeepsAsserted : Backing → Backing → Type 0
 KeepsAsserted old new = (place : ℕ) (a : Asserted) → asserted_at old.asserted place ≡ Some a
     → asserted_at new.asserted place ≡ Some a
+
+-- Levels that are left.
+
+-- the clauses of assertions before the place are of levels up to this one
+abbrev pub AreUpTo : ℕ → ℕ → List (Option Asserted) → Type 0
+AreUpTo level count asserted = (place : ℕ) (a : Asserted) → place < count → asserted_at asserted place ≡ Some a
+    → a.level ≤ level
+
+-- the empty clause, unless it is above the level
+abbrev pub refuted_up_to : ℕ → Option EmptyClause → Option EmptyClause
+refuted_up_to level None = None
+refuted_up_to level (Some empty) = if nat_lt level empty.level then None else Some empty
+
+-- the assertions before the place stay, and the empty clause unless it is above the level
+abbrev pub retracted : ℕ → ℕ → Backing → Backing
+retracted level count e = record e {
+  asserted = take count e.asserted;
+  refuted = refuted_up_to level e.refuted;
+}
+
+-- no clause stays
+abbrev pub cleared : Backing → Backing
+cleared e = record e { asserted = []; denials = none_denied; refuted = None }

@@ -1,3 +1,4 @@
+pub mod Denying
 pub mod Backing
 pub mod Refuting
 pub mod Units

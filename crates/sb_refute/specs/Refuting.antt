@@ -1,5 +1,5 @@
 -- Live assertions that are memberships of one constant with no word in common, and what a refutation of them answers.
-use Rattle.std.specs.Prelude.{◌≡◌, ℕ, false, List, [], ◌∷◌, map, slice_get, Option, Some, None, option_and_then}
+use Rattle.std.specs.Prelude.{◌≡◌, ℕ, false, List, [], ◌∷◌, map, slice_get, Option, Some, None, option_map, option_and_then}
 use Rattle.std.specs.List.{list_all}
 use Rattle.sb_word.specs.Words.{IsWord}
 use Rattle.sb_lang.specs.Regex.{Regex}
@@ -8,6 +8,7 @@ use Rattle.sb_lit.specs.Budgets.{Spending}
 use Rattle.sb_regex.specs.Numbered.{regexes_at}
 use Rattle.sb_rulebook.specs.Atoms.{AtomOver, in_atom}
 use Rattle.sb_script.specs.Pieces.{constant_piece}
+use Rattle.sb_refute.specs.declared.evidence.EmptyClause.{EmptyClause}
 use Rattle.sb_refute.specs.Backing.{Backing, asserted_at}
 use Rattle.sb_refute.specs.declared.refute.Refuted.{Refuted}
 use Rattle.sb_refute.specs.declared.refute.Refuted.TheVariants as refuted
@@ -32,5 +33,5 @@ pub record AreDisjoint (rs : List Regex) (e : Backing) (places : List ℕ) : Typ
 
 -- the number is that of the empty clause, or the budget is spent
 abbrev pub IsRefutation : Backing → Spending → Refuted → Type 0
-IsRefutation e budget (refuted.Clause id) = e.refuted ≡ Some id.0
+IsRefutation e budget (refuted.Clause id) = option_map (λ empty. empty.clause) e.refuted ≡ Some id
 IsRefutation e budget refuted.Spent = budget.spent ≡ budget.limit

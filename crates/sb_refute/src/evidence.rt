@@ -1,8 +1,6 @@
 //! What stands in a proof of the live assertions.
 
-ghost use Rattle.std.specs.Prelude.{◌≡◌, ◌≢◌, ◌<◌, ◌+◌, ◌∷◌, ℕ, [], true, List, None, length, option_map, OnOk, IfOk};
-ghost use Rattle.indexmap.specs.IndexMap.{insert_entry};
-ghost use Rattle.std.specs.Prelude.{nat_eq, map, OnErr};
+ghost use Rattle.std.specs.Prelude.{◌≡◌, ◌≢◌, ◌<◌, ◌+◌, ◌∷◌, ℕ, [], true, map, List, Some, None, length, option_map, OnOk, OnErr, IfOk, IfSome};
 ghost use Rattle.sb_script.specs.Pieces.{constant_piece};
 ghost use Rattle.sb_proof.specs.Lines.{piece_in};
 ghost use Rattle.sb_lang.specs.Regex.{Regex};
@@ -12,15 +10,15 @@ ghost use Rattle.sb_term.specs.Numbered.{term_at};
 ghost use Rattle.sb_problem.specs.Known.{AreNormals};
 ghost use Rattle.sb_fragment.specs.Measures.{AreMeasures};
 ghost use Rattle.sb_rulebook.specs.Atoms.{AtomOver, in_atom};
-ghost use Rattle.sb_rulebook.specs.Kept.{AllKept, Asked, nothing_kept};
+ghost use Rattle.sb_rulebook.specs.Kept.{AllKept, Asked, nothing_kept, dropped_above, all_dropped};
 ghost use Rattle.sb_atoms.specs.Numbered.{atom_in, atoms_in, HaveRegexesBelow, Extends};
 ghost use Rattle.sb_atoms.specs.Translated.{brought_translation, HasNoLiteral};
 ghost use Rattle.sb_trace.specs.Putting.{CountsTapeFault};
 ghost use Rattle.sb_trace.specs.Tracking.{StaysNumbered};
-ghost use Rattle.sb_refute.specs.Backing.{Backs, EvidencesUncounted, IsLive, KeepsAsserted, asserted_at};
-ghost use Rattle.sb_refute.specs.Lines.{BringsAtom, IsAssertion};
+ghost use Rattle.sb_refute.specs.Backing.{Backs, EvidencesUncounted, IsLive, KeepsAsserted, AreUpTo, asserted_at, retracted, refuted_up_to, cleared};
+ghost use Rattle.sb_refute.specs.Lines.{BringsAtom, IsAssertion, IsStanding, placed};
 
-use indexmap::IndexMap;
+use crate::denials::Denials;
 use sb_atoms::{Atom, AtomId, Atoms};
 use sb_fragment::Measures;
 use sb_lang::order::order_tells_apart;
@@ -34,11 +32,19 @@ use sb_trace::Trace;
 use std::alloc::{AllocError, Global};
 use std::marker::Model;
 
-/// The clause of an assertion, and its one literal.
+/// The clause of an assertion: its number, its one literal, and the assertion's level.
 #[derive(Clone, Copy, Debug, PartialEq, Eq)]
 pub struct Asserted {
     pub clause: ClauseId,
     pub literal: Lit,
+    pub level: u64,
+}
+
+/// The empty clause, and its level.
+#[derive(Clone, Copy, Debug, PartialEq, Eq)]
+pub struct EmptyClause {
+    pub clause: ClauseId,
+    pub level: u64,
 }
 
 /// What of an arena's regexes, of the atoms of assertions and of their clauses stands in a proof.
@@ -51,15 +57,12 @@ pub struct Evidence {
     /// How many clauses stand in the proof.
     clauses: u64,
     /// By the places of live assertions.
-    asserted: IndexMap<usize, Asserted>,
-    /// The hints of the empty clause, where it can be learned and was not yet.
-    pub(crate) hints: Option<Vec<u64>>,
-    /// The empty clause.
-    pub(crate) refuted: Option<ClauseId>,
+    asserted: Vec<Option<Asserted>>,
+    pub(crate) denials: Denials,
+    pub(crate) refuted: Option<EmptyClause>,
 }
 
 impl Model for Evidence {
-    ghost use Rattle.std.specs.Prelude.{option_map};
     ghost use Rattle.sb_refute.specs.Backing.{Backing};
     ghost use Rattle.sb_refute.specs.Units.{AreOfAtoms};
 
@@ -69,26 +72,27 @@ impl Model for Evidence {
       trace = evidence.trace;
       atoms = evidence.atoms;
       clauses = evidence.clauses;
-      asserted = evidence.asserted.entries;
-      hints = option_map (λ hints. hints.items) evidence.hints;
-      refuted = option_map (λ id. id.0) evidence.refuted;
+      asserted = evidence.asserted.items;
+      denials = evidence.denials;
+      refuted = evidence.refuted;
     } };
 
-    ghost invariant = { λ evidence. AreOfAtoms evidence.atoms evidence.asserted.entries };
+    ghost invariant = { λ evidence. AreOfAtoms evidence.atoms evidence.asserted.items };
 }
 
 impl Evidence {
     /// Nothing stands in the proof. Takes no memory.
     pub fn new(alloc: Global) -> Evidence
-        ensures { (rs : List Regex) (memo : Memo) (format : ℕ) → Backs rs memo result (nothing_kept format) }
+        ensures backs { (rs : List Regex) (memo : Memo) (format : ℕ) → Backs rs memo result (nothing_kept format) }
+        ensures nothing { result.asserted ≡ [] }
     {
         Evidence {
             alloc,
             trace: Trace::new(alloc),
             atoms: Atoms::new(alloc),
             clauses: 0,
-            asserted: IndexMap::new(alloc),
-            hints: None,
+            asserted: Vec::new(alloc),
+            denials: Denials::new(alloc),
             refuted: None,
         }
     }
@@ -97,23 +101,63 @@ impl Evidence {
     pub fn asserted(&self, place: usize) -> Option<Asserted>
         ensures { result ≡ asserted_at self.now.asserted place }
     {
-        self.asserted.get(&place).copied()
+        match self.asserted.get(place) {
+            Some(asserted) => *asserted,
+            None => None,
+        }
     }
 
-    /// Forgets which assertions have clauses: the clause of one that is asked for again is put again. Those that were put
-    /// stay in the proof. Takes no memory.
-    pub fn forget(&mut self)
-        ensures { self.new ≡ record self.old { asserted = [] } }
+    /// The empty clause, if it stands in the proof: it refutes each check until its level is left. Constant time.
+    pub fn refuted(&self) -> Option<EmptyClause>
+        ensures { result ≡ self.now.refuted }
     {
-        self.asserted = IndexMap::new(self.alloc);
+        self.refuted
     }
 
-    /// The clause of the live assertion at a place, whose term it is. The lines that it lacks are put: those of the
-    /// regex, that of the atom, and its own. None where the term has no literal; no clause is put then.
+    /// Forgets what a reader drops where the levels above this one are left, and so many assertions stay: the clauses
+    /// of the others, and the empty clause unless it is of a level that stays. Denials stay. Takes no memory, and time
+    /// linear in the places that are left.
+    pub fn retract(&mut self, level: u64, count: usize)
+        ensures retracted { self.new ≡ retracted level count self.old }
+        ensures backs { (rs : List Regex) (memo : Memo) (kept : AllKept) → Backs rs memo self.old kept
+            → AreUpTo level count self.old.asserted → Backs rs memo self.new (dropped_above level kept) }
+    {
+        self.denials.are_denials();
+        self.asserted.truncate(count);
+        self.refuted = self.empty_up_to(level);
+    }
+
+    /// The empty clause, unless it is above the level.
+    fn empty_up_to(&self, level: u64) -> Option<EmptyClause>
+        ensures { result ≡ refuted_up_to level self.now.refuted }
+    {
+        let empty = self.refuted?;
+        if empty.level > level {
+            None
+        } else {
+            Some(empty)
+        }
+    }
+
+    /// Forgets each clause, as a reader does where all assertions go. Regexes and atoms stay, and so do the numbers of
+    /// the clauses. Linear in what is forgotten.
+    pub fn clear(&mut self)
+        ensures cleared { self.new ≡ cleared self.old }
+        ensures backs { (rs : List Regex) (memo : Memo) (kept : AllKept) → Backs rs memo self.old kept
+            → Backs rs memo self.new (all_dropped kept) }
+    {
+        self.asserted.clear();
+        self.denials = Denials::new(self.alloc);
+        self.refuted = None;
+    }
+
+    /// The clause of the live assertion at a place, whose term and level these are. The lines that it lacks are put:
+    /// those of the regex, that of the atom, and its own, unless it stands in the proof. None where the term has no
+    /// literal; no clause is put then.
     ///
-    /// Constant time where the clause stands in the proof, else linear in the lines that are put, but that the regular
-    /// expression is measured, and its normal regex made, where they were not yet. After an error the tape may have a
-    /// line of which nothing is known here, so nothing more may be put.
+    /// Linear in the lines that are put, but that the regular expression is measured, and its normal regex made, where
+    /// they were not yet; a place behind those that have clauses costs time in how far it is behind. After an error the
+    /// tape may have a line of which nothing is known here, so nothing more may be put.
     pub fn assertion<L: Tape>(
         &mut self,
         measures: &mut Measures,
@@ -122,6 +166,7 @@ impl Evidence {
         arena: &mut Arena,
         place: usize,
         term: TermId,
+        level: u64,
         tape: &mut L,
     ) -> Result<Option<Asserted>, TapeFault>
         requires number { term < length table.now }
@@ -129,14 +174,16 @@ impl Evidence {
         requires normals { AreNormals table.now arena.old normals.old }
         requires regexes { HaveRegexesBelow (length arena.old) self.old.atoms }
         ensures puts { OnOk result ((asked : Asked) (memo : Memo) (before : AllKept)
-            → Backs arena.old memo self.old before → IsLive asked place (term_at table.now term)
+            → Backs arena.old memo self.old before → IsLive asked place (term_at table.now term) level
             → EvidencesUncounted asked before arena.new memo self.new (L.Tape.told tape.old) (L.Tape.told tape.new)) }
         ensures asserted { IfOk result (λ found. found ≡ asserted_at self.new.asserted place) }
-        ensures literal { asserted_at self.old.asserted place ≡ None → IfOk result (λ found.
-            option_map (λ a. a.literal) found
+        ensures literal { IfOk result (λ found. option_map (λ a. a.literal) found
             ≡ brought_translation (atoms_in arena.new self.new.atoms) (term_at table.now term)) }
+        ensures level { IfOk result (λ found. IfSome found (λ a. a.level ≡ level)) }
         ensures none { IfOk result (λ found. found ≡ None → HasNoLiteral (term_at table.now term)) }
-        ensures stays { KeepsAsserted self.old self.new }
+        ensures stays { OnOk result (IfSome (asserted_at self.old.asserted place) (λ a. (a.level ≡ level)
+            × (Some a.literal ≡ brought_translation (atoms_in arena.new self.new.atoms) (term_at table.now term)))
+            → KeepsAsserted self.old self.new) }
         ensures others { OnOk result ((other : ℕ) → other ≢ place
             → asserted_at self.new.asserted other ≡ asserted_at self.old.asserted other) }
         ensures numbers_stay { StaysNumbered self.old.trace self.new.trace }
@@ -147,15 +194,28 @@ impl Evidence {
         ensures arena { regex.Extends arena.old arena.new }
         ensures counts { CountsTapeFault result (L.Tape.faults tape.old) (L.Tape.faults tape.new) }
     {
-        if let Some(asserted) = self.asserted(place) {
-            return Ok(Some(asserted));
-        }
         let known = self.atoms.len();
         let Some(literal) = self.atoms.translate(measures, normals, table, arena, term)? else {
+            self.keep(place, None)?;
             return Ok(None);
         };
         self.define(arena, known, literal, tape)?;
-        Ok(Some(self.claim(place, literal, tape)?))
+        if let Some(asserted) = self.standing(place, literal, level) {
+            return Ok(Some(asserted));
+        }
+        Ok(Some(self.claim(place, literal, level, tape)?))
+    }
+
+    /// The clause of the assertion at a place, if it has this literal and this level.
+    fn standing(&self, place: usize, literal: Lit, level: u64) -> Option<Asserted>
+        ensures { IsStanding (asserted_at self.now.asserted place) literal level result }
+    {
+        let asserted = self.asserted(place)?;
+        if asserted.literal == literal && asserted.level == level {
+            Some(asserted)
+        } else {
+            None
+        }
     }
 
     /// Puts the line of a literal's atom, with those of its regex, where so many atoms were known before and it is new.
@@ -189,44 +249,45 @@ impl Evidence {
         Ok(())
     }
 
-    /// Puts the clause of the assertion at a place, whose literal it is.
+    /// Puts the clause of the assertion at a place, whose literal and level these are.
     fn claim<L: Tape>(
         &mut self,
         place: usize,
         literal: Lit,
+        level: u64,
         tape: &mut L,
     ) -> Result<Asserted, TapeFault>
         requires known { literal.atom < length self.old.atoms }
         requires positive { literal.positive ≡ true }
-        requires new { asserted_at self.old.asserted place ≡ None }
         ensures puts { OnOk result ((asked : Asked) (rs : List Regex) (memo : Memo) (before : AllKept)
-            → Backs rs memo self.old before → IsAssertion asked before place literal
+            → Backs rs memo self.old before → IsAssertion asked before place literal level
             → EvidencesUncounted asked before rs memo self.new (L.Tape.told tape.old) (L.Tape.told tape.new)) }
         ensures literal { IfOk result (λ a. a.literal ≡ literal) }
-        ensures asserted { IfOk result (λ a. self.new.asserted ≡ insert_entry nat_eq self.old.asserted place a) }
+        ensures level { IfOk result (λ a. a.level ≡ level) }
+        ensures asserted { IfOk result (λ a. self.new.asserted ≡ placed self.old.asserted place (Some a)) }
         ensures atoms { self.new.atoms ≡ self.old.atoms }
         ensures trace { self.new.trace ≡ self.old.trace }
-        ensures stays { KeepsAsserted self.old self.new }
         ensures counts { CountsTapeFault result (L.Tape.faults tape.old) (L.Tape.faults tape.new) }
     {
         assertion_lines_are_exact();
         tape.put(&Line::Assertion(place as u64, literal))?;
         let clause = self.next_clause()?;
-        let asserted = Asserted { clause, literal };
-        self.keep(place, asserted)?;
+        let asserted = Asserted {
+            clause,
+            literal,
+            level,
+        };
+        self.keep(place, Some(asserted))?;
         Ok(asserted)
     }
 
-    /// Keeps the clause of the assertion at a place.
-    fn keep(&mut self, place: usize, asserted: Asserted) -> Result<(), AllocError>
-        requires known { asserted.literal.atom < length self.old.atoms }
-        requires positive { asserted.literal.positive ≡ true }
-        ensures ok { OnOk result
-            (self.new ≡ record self.old { asserted = insert_entry nat_eq self.old.asserted place asserted }) }
+    /// Keeps the clause of the assertion at a place, or that it has none.
+    fn keep(&mut self, place: usize, asserted: Option<Asserted>) -> Result<(), AllocError>
+        requires { IfSome asserted (λ a. (a.literal.positive ≡ true) × (a.literal.atom < length self.old.atoms)) }
+        ensures ok { OnOk result (self.new ≡ record self.old { asserted = placed self.old.asserted place asserted }) }
         ensures err { OnErr result (self.new ≡ self.old) }
     {
-        self.asserted.insert(place, asserted)?;
-        Ok(())
+        put_at(&mut self.asserted, place, asserted)
     }
 
     /// The number of a clause whose line was put. `AllocError` where 2^64 - 1 stand there.
@@ -239,6 +300,26 @@ impl Evidence {
         self.clauses = id.checked_add(1).ok_or(AllocError)?;
         Ok(ClauseId(id))
     }
+}
+
+/// Puts what stands at a place, behind none where others lack before it.
+fn put_at(
+    all: &mut Vec<Option<Asserted>>,
+    place: usize,
+    asserted: Option<Asserted>,
+) -> Result<(), AllocError>
+    ensures ok { OnOk result (all.new.items ≡ placed all.old.items place asserted) }
+    ensures err { OnErr result (all.new.items ≡ all.old.items) }
+{
+    if place < all.len() {
+        all[place] = asserted;
+        return Ok(());
+    }
+    let lacking = place - all.len();
+    all.reserve(lacking.checked_add(1).ok_or(AllocError)?)?;
+    all.resize(place, None)?;
+    all.push(asserted)?;
+    Ok(())
 }
 
 /// The pieces of a constant alone.

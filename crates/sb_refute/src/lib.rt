@@ -8,8 +8,9 @@
 //! budget cut off are gone on with later. The layer above asks for the clause, and puts the verdict.
 #![tactic(auto)]
 
+mod denials;
 mod evidence;
 mod refute;
 
-pub use evidence::{Asserted, Evidence};
+pub use evidence::{Asserted, EmptyClause, Evidence};
 pub use refute::Refuted;

@@ -1,10 +1,11 @@
 //! Memberships of one constant that have no word in common.
 
-ghost use Rattle.std.specs.Prelude.{◌≡◌, ◌<◌, ℕ, true, false, List, None, length, IfOk, OnOk, IsSome, All};
+ghost use Rattle.std.specs.Prelude.{◌≡◌, ◌≢◌, ◌<◌, ℕ, true, false, List, [], None, length, map, Contains, IfOk, IfSome, OnOk, All};
 ghost use Rattle.std.specs.List.{list_all};
 ghost use Rattle.sb_lang.specs.Regex.{Regex};
 ghost use Rattle.sb_lang.specs.Language.{language};
 ghost use Rattle.sb_lang.specs.Least.{HasNoWord};
+ghost use Rattle.sb_lit.specs.Hints.{is_repeated};
 ghost use Rattle.sb_regex.specs.Numbered.{Extends, regex_at};
 ghost use Rattle.sb_deriv.specs.Faithful.{Memo, KeepsEntries};
 ghost use Rattle.sb_graph.specs.Findings.{IsGraph, KeepsMarks};
@@ -15,9 +16,9 @@ ghost use Rattle.sb_trace.specs.Putting.{IsCounted, CountsTapeFault};
 ghost use Rattle.sb_trace.specs.Tracking.{StaysNumbered, Tracks, Traces, is_dead_in};
 ghost use Rattle.sb_refute.specs.Backing.{Backs, Evidences};
 ghost use Rattle.sb_refute.specs.Refuting.{AreDisjoint, IsRefutation};
-ghost use Rattle.sb_refute.specs.Units.{AreUnits, AreOfAtoms, CanBeDenied, IsAsserted, IsOfRegex, Rise, AreRegexesOf, numbered, denials_of, hints_of as hints_in};
+ghost use Rattle.sb_refute.specs.Units.{AreUnits, HaveUnits, HaveNoWord, AreOfAtoms, CanBeDenied, IsAsserted, IsOfRegex, Rise, AreRegexesOf, HasPart, ArePicked, IsTop, LeadsNowhere, numbered, denials_of, hints_of as hints_in};
 
-use crate::evidence::{Evidence, membership_of};
+use crate::evidence::{Asserted, EmptyClause, Evidence, membership_of};
 use sb_atoms::{AtomId, Atoms};
 use sb_graph::{Graph, graph_stays};
 use sb_lang::constructors::mkand_keeps_language;
@@ -39,17 +40,26 @@ pub enum Refuted {
 }
 
 /// The clauses of memberships, by their atoms.
-type Units = BTreeMap<u64, ClauseId>;
+type Units = BTreeMap<u64, Asserted>;
+
+/// The hints of the empty clause, and their greatest level.
+#[derive(Drop)]
+struct Reasons {
+    hints: Vec<u64>,
+    level: u64,
+}
 
 impl Evidence {
     /// The empty clause, from live assertions that are memberships of one constant with no word in common, given by
-    /// their places. Their clauses stand in the proof. The lines that are lacking are put: those that show the
-    /// intersection dead, the clause that says that not all memberships are true, and the empty clause. The budget is
-    /// asked before each line that counts; where it is spent, the lines that were put stay, and a later call goes on
-    /// from there. Once the empty clause is there it is the answer, whatever the members.
+    /// their places. Their clauses stand in the proof. The lines that are lacking are put: where no denial of some of
+    /// these memberships stands there, those that show the intersection dead, and the clause that says that not all of
+    /// them are true; then the empty clause, of the greatest level of the assertions that are denied together. The
+    /// budget is asked before each line that counts; where it is spent, the lines that were put stay, and a later call
+    /// goes on from there. Once the empty clause is there it is the answer, whatever the members.
     ///
-    /// Its cost is that of the exploration, and log-linear in the members. After an error the tape may have a line of
-    /// which nothing is known here, so nothing more may be put.
+    /// Its cost is that of the exploration, and log-linear in the members, with a look at each denial that is listed
+    /// under one of their atoms. After an error the tape may have a line of which nothing is known here, so nothing
+    /// more may be put.
     pub fn refute<L: Tape>(
         &mut self,
         arena: &mut Arena,
@@ -75,39 +85,80 @@ impl Evidence {
         ensures derivatives_stay { KeepsEntries graph.old.memo graph.new.memo }
         ensures counts { CountsTapeFault result (L.Tape.faults tape.old) (L.Tape.faults tape.new) }
     {
-        if let Some(clause) = self.refuted {
-            return Ok(Refuted::Clause(clause));
+        if let Some(empty) = self.refuted {
+            return Ok(Refuted::Clause(empty.clause));
         }
-        if self.hints.is_some() {
-            return self.learn(tape, budget);
-        }
-        if !self.deny(arena, graph, members, tape, budget)? {
+        let units = self.units(members)?;
+        let Some(place) = self.denial(arena, graph, &units, tape, budget)? else {
             return Ok(Refuted::Spent);
-        }
-        self.learn(tape, budget)
+        };
+        self.learn(&units, place, tape, budget)
     }
 
-    /// Puts the clause that says that not all of the memberships are true, and keeps the hints of the empty clause.
-    /// Whether the budget sufficed.
-    fn deny<L: Tape>(
+    /// The place of a denial of some of the memberships: one that stands in the proof, or else a new one. None where the
+    /// budget did not suffice.
+    fn denial<L: Tape>(
         &mut self,
         arena: &mut Arena,
         graph: &mut Graph,
-        members: &[usize],
+        units: &Units,
         tape: &mut L,
         budget: &mut Budget,
-    ) -> Result<bool, TapeFault>
+    ) -> Result<Option<usize>, TapeFault>
         requires graph { IsGraph arena.old graph.old }
         requires regexes { HaveRegexesBelow (length arena.old) self.old.atoms }
-        requires members { AreDisjoint arena.old self.old members.now }
-        requires hints { self.old.hints ≡ None }
+        requires members { HaveNoWord arena.old self.old (numbered units.now.entries) }
         requires refuted { self.old.refuted ≡ None }
         ensures puts { OnOk result ((asked : Asked) (before : AllKept)
             → Backs arena.old graph.old.memo self.old before → IsCounted asked before budget.old
             → Evidences asked before arena.new graph.new.memo self.new budget.new (L.Tape.told tape.old)
             (L.Tape.told tape.new)) }
-        ensures hints { IfOk result (λ done. done ≡ true → IsSome self.new.hints) }
-        ensures spent { IfOk result (λ done. done ≡ false → budget.new.spent ≡ budget.new.limit) }
+        ensures part { IfOk result (λ found.
+            IfSome found (HasPart self.new.denials (denials_of (numbered units.now.entries)))) }
+        ensures spent { IfOk result (λ found. found ≡ None → budget.new.spent ≡ budget.new.limit) }
+        ensures refuted { self.new.refuted ≡ None }
+        ensures asserted { self.new.asserted ≡ self.old.asserted }
+        ensures atoms { self.new.atoms ≡ self.old.atoms }
+        ensures stays { StaysNumbered self.old.trace self.new.trace }
+        ensures extends { Extends arena.old arena.new }
+        ensures graph { IsGraph arena.new graph.new }
+        ensures marks_stay { KeepsMarks graph.old.dead graph.new.dead }
+        ensures derivatives_stay { KeepsEntries graph.old.memo graph.new.memo }
+        ensures counts { CountsTapeFault result (L.Tape.faults tape.old) (L.Tape.faults tape.new) }
+    {
+        let literals = negations(self.alloc, units)?;
+        let known = self.denials.part_of(&literals)?;
+        if known.is_some() {
+            return Ok(known);
+        }
+        self.deny(arena, graph, units, literals, tape, budget)
+    }
+
+    /// Puts the clause that says that not all of the memberships are true, whose literals these are, behind the lines
+    /// that show their intersection dead, and answers its place. None where the budget did not suffice.
+    fn deny<L: Tape>(
+        &mut self,
+        arena: &mut Arena,
+        graph: &mut Graph,
+        units: &Units,
+        literals: Vec<Lit>,
+        tape: &mut L,
+        budget: &mut Budget,
+    ) -> Result<Option<usize>, TapeFault>
+        requires graph { IsGraph arena.old graph.old }
+        requires regexes { HaveRegexesBelow (length arena.old) self.old.atoms }
+        requires members { HaveNoWord arena.old self.old (numbered units.now.entries) }
+        requires literals { literals.items ≡ denials_of (numbered units.now.entries) }
+        requires small { list_all is_small_literal literals.items ≡ true }
+        requires new { is_repeated self.old.denials.clauses literals.items ≡ false }
+        requires refuted { self.old.refuted ≡ None }
+        ensures puts { OnOk result ((asked : Asked) (before : AllKept)
+            → Backs arena.old graph.old.memo self.old before → IsCounted asked before budget.old
+            → Evidences asked before arena.new graph.new.memo self.new budget.new (L.Tape.told tape.old)
+            (L.Tape.told tape.new)) }
+        ensures part { IfOk result (λ found.
+            IfSome found (HasPart self.new.denials (denials_of (numbered units.now.entries)))) }
+        ensures spent { IfOk result (λ found. found ≡ None → budget.new.spent ≡ budget.new.limit) }
         ensures refuted { self.new.refuted ≡ None }
         ensures asserted { self.new.asserted ≡ self.old.asserted }
         ensures atoms { self.new.atoms ≡ self.old.atoms }
@@ -121,31 +172,36 @@ impl Evidence {
         self.literals_are_of_atoms();
         mkand_keeps_language();
         graph_stays();
-        let units = self.units(members)?;
-        let regexes = regexes_of(self.alloc, &self.atoms, &units)?;
+        let regexes = regexes_of(self.alloc, &self.atoms, units)?;
         let meet = arena.and(&regexes)?;
         if !show_dead(&mut self.trace, arena, graph, meet, tape, budget)? {
-            return Ok(false);
+            return Ok(None);
         }
-        self.put_denial(&units, tape, budget)
+        self.put_denial(units, literals, tape, budget)
     }
 
-    /// Puts the clause that says that not all of the memberships are true, whose intersection is dead in the proof, and
-    /// keeps the hints of the empty clause. Whether the budget sufficed.
+    /// Puts the clause that says that not all of the memberships are true, whose literals these are and whose
+    /// intersection is dead in the proof, and answers its place. None where the budget did not suffice.
     fn put_denial<L: Tape>(
         &mut self,
         units: &Units,
+        literals: Vec<Lit>,
         tape: &mut L,
         budget: &mut Budget,
-    ) -> Result<bool, TapeFault>
-        requires hints { self.old.hints ≡ None }
+    ) -> Result<Option<usize>, TapeFault>
+        requires some { numbered units.now.entries ≢ [] }
+        requires rise { Rise (numbered units.now.entries) }
+        requires literals { literals.items ≡ denials_of (numbered units.now.entries) }
+        requires small { list_all is_small_literal literals.items ≡ true }
+        requires new { is_repeated self.old.denials.clauses literals.items ≡ false }
         requires refuted { self.old.refuted ≡ None }
         ensures puts { OnOk result ((asked : Asked) (rs : List Regex) (memo : Memo) (before : AllKept)
-            → CanBeDenied rs self.old (numbered units.now.entries) before → Backs rs memo self.old before
+            → CanBeDenied rs self.old (numbered units.now.entries) → Backs rs memo self.old before
             → IsCounted asked before budget.old
             → Evidences asked before rs memo self.new budget.new (L.Tape.told tape.old) (L.Tape.told tape.new)) }
-        ensures hints { IfOk result (λ done. done ≡ true → IsSome self.new.hints) }
-        ensures spent { IfOk result (λ done. done ≡ false → budget.new.spent ≡ budget.new.limit) }
+        ensures part { IfOk result (λ found.
+            IfSome found (HasPart self.new.denials (denials_of (numbered units.now.entries)))) }
+        ensures spent { IfOk result (λ found. found ≡ None → budget.new.spent ≡ budget.new.limit) }
         ensures refuted { self.new.refuted ≡ None }
         ensures asserted { self.new.asserted ≡ self.old.asserted }
         ensures atoms { self.new.atoms ≡ self.old.atoms }
@@ -153,19 +209,26 @@ impl Evidence {
         ensures counts { CountsTapeFault result (L.Tape.faults tape.old) (L.Tape.faults tape.new) }
     {
         rule_lines_are_exact();
+        self.denials.are_denials();
         if budget.tick().is_err() {
-            return Ok(false);
+            return Ok(None);
         }
-        let literals = negations(self.alloc, units)?;
+        let number = self.next_clause()?;
+        let place = self.denials.add(&literals, number)?;
         tape.put(&Line::Rule(Rule::Empty, literals))?;
-        let denial = self.next_clause()?;
-        self.hints = Some(hints_of(self.alloc, units, denial)?);
-        Ok(true)
+        Ok(Some(place))
     }
 
-    /// Puts the empty clause, by the hints that are kept.
-    fn learn<L: Tape>(&mut self, tape: &mut L, budget: &mut Budget) -> Result<Refuted, TapeFault>
-        requires hints { IsSome self.old.hints }
+    /// Puts the empty clause, by the denial at a place and the clauses of the memberships that it denies.
+    fn learn<L: Tape>(
+        &mut self,
+        units: &Units,
+        place: usize,
+        tape: &mut L,
+        budget: &mut Budget,
+    ) -> Result<Refuted, TapeFault>
+        requires units { HaveUnits self.old (numbered units.now.entries) }
+        requires part { HasPart self.old.denials (denials_of (numbered units.now.entries)) place }
         requires refuted { self.old.refuted ≡ None }
         ensures puts { OnOk result ((asked : Asked) (rs : List Regex) (memo : Memo) (before : AllKept)
             → Backs rs memo self.old before → IsCounted asked before budget.old
@@ -180,12 +243,29 @@ impl Evidence {
             return Ok(Refuted::Spent);
         }
         learned_lines_are_exact();
-        let hints = self.hints.take().unwrap();
-        numbers_are_small(&hints);
+        self.denials.are_denials();
+        let Reasons { hints, level } = self.reasons(units, place)?;
         tape.put(&Line::Learned(Vec::new(self.alloc), hints))?;
         let clause = self.next_clause()?;
-        self.refuted = Some(clause);
+        self.refuted = Some(EmptyClause { clause, level });
         Ok(Refuted::Clause(clause))
+    }
+
+    /// The clauses of the memberships that the denial at a place denies, and the denial behind them.
+    fn reasons(&self, units: &Units, place: usize) -> Result<Reasons, AllocError>
+        requires units { HaveUnits self.now (numbered units.now.entries) }
+        requires part { HasPart self.now.denials (denials_of (numbered units.now.entries)) place }
+        ensures leads { IfOk result (λ r. (rs : List Regex) (memo : Memo) (kept : AllKept) → Backs rs memo self.now kept
+            → LeadsNowhere kept.clauses r.hints.items r.level) }
+        ensures small { IfOk result (λ r. are_small r.hints.items ≡ true) }
+    {
+        self.literals_are_of_atoms();
+        self.denials.are_denials();
+        let picked = pick(self.alloc, units, self.denials.literals(place))?;
+        let hints = hints_of(self.alloc, &picked, self.denials.number(place))?;
+        numbers_are_small(&hints);
+        let level = level_of(&picked);
+        Ok(Reasons { hints, level })
     }
 
     /// The literals of assertions are positive, of atoms of the table.
@@ -203,7 +283,7 @@ impl Evidence {
         let mut units = BTreeMap::new(self.alloc);
         for place in members {
             let asserted = self.asserted(*place).unwrap();
-            units.insert(asserted.literal.atom, asserted.clause)?;
+            units.insert(asserted.literal.atom, asserted)?;
         }
         Ok(units)
     }
@@ -275,16 +355,39 @@ fn negations(alloc: Global, units: &Units) -> Result<Vec<Lit>, AllocError>
     Ok(literals)
 }
 
-/// The clauses of the memberships, and behind them the one that denies them together.
-fn hints_of(alloc: Global, units: &Units, denial: ClauseId) -> Result<Vec<u64>, AllocError>
-    ensures { IfOk result (λ hints. hints.items ≡ hints_in (numbered units.now.entries) denial.0) }
+/// The clauses of the memberships that these literals deny, in order. Logarithmic in all memberships for each.
+fn pick(alloc: Global, units: &Units, literals: &[Lit]) -> Result<Vec<Asserted>, AllocError>
+    requires { All (Contains (denials_of (numbered units.now.entries))) literals.now }
+    ensures { IfOk result (λ picked. ArePicked (numbered units.now.entries) literals.now picked.items) }
 {
-    let mut hints = Vec::with_capacity(alloc, units.len())?;
-    for clause in units.values() {
-        hints.push(clause.0)?;
+    let mut picked = Vec::with_capacity(alloc, literals.len())?;
+    for literal in literals {
+        picked.push(*units.get(&literal.atom).unwrap())?;
+    }
+    Ok(picked)
+}
+
+/// The numbers of clauses, and behind them that of the one that denies them together.
+fn hints_of(alloc: Global, picked: &[Asserted], denial: ClauseId) -> Result<Vec<u64>, AllocError>
+    ensures { IfOk result (λ hints. hints.items ≡ hints_in picked.now denial.0) }
+{
+    let mut hints = Vec::with_capacity(alloc, picked.len())?;
+    for asserted in picked {
+        hints.push(asserted.clause.0)?;
     }
     hints.push(denial.0)?;
     Ok(hints)
+}
+
+/// The greatest level of the clauses.
+fn level_of(picked: &[Asserted]) -> u64
+    ensures { IsTop (map (λ a. a.level) picked.now) result }
+{
+    let mut level = 0;
+    for asserted in picked {
+        level = asserted.level.max(level);
+    }
+    level
 }
 
 /// The text of each number can be read again.

@@ -1,6 +1,6 @@
 use Rattle.std.proofs.Common.{◌≡◌, ◌<◌, length, true, refl, sym, ap, subst, ◌∙◌, arith, Option, Some, option_map}
 use Rattle.std.specs.Prelude.{IfSome, MatchOption, ℕ, false}
-use Rattle.sb_meaning.specs.Terms.{text, constant}
+use Rattle.sb_meaning.specs.Terms.{Term, text, constant}
 use Rattle.sb_script.specs.Brought.{is_membership}
 use Rattle.sb_script.specs.State.{live}
 use Rattle.sb_term.specs.Numbered.{term_at}
@@ -66,8 +66,8 @@ returns-clause-claims g c = λ serial p.
     (subst (λ o. MatchOption o (is_membership (term_at c.table-table.result.now id) ≡ false)
     (λ p. term_at c.table-table.result.now id ≡ in_re (constant p.0.0 text) (term_at c.table-table.result.now p.1)))
     c.unwrap-expression.ensures c.membership.ensures.parts) in
-    let placed : IsLive (asked_in s) c.args.place (term_at c.table-table.result.now id) =
-    subst (λ us. IsLive (asked_in s) c.args.place (term_at us id)) (sym same)
+    let placed : IsLive (asked_in s) c.args.place (term_at c.table-table.result.now id) 0 =
+    subst (λ us. IsLive (asked_in s) c.args.place (term_at us id) 0) (sym same)
     (is-live (asked_in s) (live s) c.args.stack.now.scope.declared c.args.place (term_at ts id) refl refl
     c.term_of-term.ensures.stands c.term_of-term.ensures.declared) in
     claims c.order_tells_apart.ensures (asked_in s) (live s) serial z c.args.place (term_at ts id) (term_at ts r)
@@ -81,8 +81,9 @@ returns-clause-claims g c = λ serial p.
     c.in_ok-normal.ensures.extends c.in_ok-assertion.ensures.arena c.requires.regexes
     c.in_ok-assertion.ensures.regexes
     (λ memo before b. c.in_ok-assertion.ensures.puts (asked_in s) memo before b placed)
-    c.in_ok-assertion.ensures.extends c.in_ok-assertion.ensures.stays c.in_ok-assertion.ensures.others
+    c.in_ok-assertion.ensures.extends c.in_ok-assertion.ensures.others
     c.in_ok-assertion.ensures.asserted c.in-Some.is
-    (λ fresh. subst (λ us. option_map (λ (b : Asserted). b.literal) c.in_ok-assertion.field-0
+    (subst (λ us. option_map (λ (b : Asserted). b.literal) c.in_ok-assertion.field-0
     ≡ brought_translation (atoms_in c.assertion.new.arena c.assertion.new.self.atoms) (term_at us id)) same
-    (c.in_ok-assertion.ensures.literal fresh))
+    c.in_ok-assertion.ensures.literal)
+    c.in_ok-assertion.ensures.level (ap (option_map (λ (x : Option Term × ℕ). x.1)) placed.live)

@@ -14,7 +14,7 @@ loop-place-init g c = (
   c.requires.regexes,
   refl,
   λ serial h. claimed-none (asked_in (state_of c.args.stack.now)) (live (state_of c.args.stack.now)) serial
-      c.args.arena.now c.args.evidence.now (g.L.Tape.told c.args.tape.now) c.requires.nothing,
+      c.args.arena.now c.args.evidence.now (g.L.Tape.told c.args.tape.now),
 )
 
 pub claim-requires-clause-member : goal.claim-requires-clause-member

@@ -11,8 +11,7 @@ use Rattle.sb_atoms.specs.Numbered.{HaveRegexesBelow}
 use Rattle.sb_atoms.proofs.CallerLemmas.{regexes_kept}
 use Rattle.sb_decide.specs.Knowing.{places_of}
 use Rattle.sb_decide.specs.Places.{IsPlaceOf, HasNoWordAt}
-use Rattle.sb_refute.specs.Backing.{Backing, Backs}
-use Rattle.sb_refute.proofs.CallerLemmas.{backs-forgotten}
+use Rattle.sb_refute.specs.Backing.{asserted_at}
 use Rattle.sb_prover.specs.Claiming.{AreClaimed}
 use Rattle.sb_rulebook.specs.Atoms.{AtomOver}
 use Rattle.sb_regex.proofs.CallerLemmas.{extends_more}
@@ -33,19 +32,11 @@ claim_all-requires-clause-members g c =
           (c.places.ensures.are s c.requires.knows),
     )
 
-pub claim_all-requires-clause-nothing : goal.claim_all-requires-clause-nothing
-claim_all-requires-clause-nothing g c = ap (λ (e : Backing). e.asserted) c.forget.ensures
-
 pub claim_all-requires-clause-right : goal.claim_all-requires-clause-right
 claim_all-requires-clause-right g c = c.requires.knows.taken.measures
 
 pub claim_all-requires-clause-normals : goal.claim_all-requires-clause-normals
 claim_all-requires-clause-normals g c = c.requires.knows.taken.normals
-
-pub claim_all-requires-clause-regexes : goal.claim_all-requires-clause-regexes
-claim_all-requires-clause-regexes g c =
-    subst (λ (e : Backing). HaveRegexesBelow (length c.args.decider.now.arena) e.atoms) (sym c.forget.ensures)
-    c.requires.regexes
 
 pub refute-requires-clause-graph : goal.refute-requires-clause-graph
 refute-requires-clause-graph g c =
@@ -73,9 +64,9 @@ refute-requires-clause-members g c =
     let places = sym (c.deref.ensures.value ∙ copied) in
     let none = subst (λ o. IfSome o (λ n. HasNoWordAt (live s) (places_of c.args.decider.now n.0)))
     c.unwrap-serial.ensures (c.dead.ensures.none now c.requires.knows) in
-    disjoint (asked_in s) (live s) serial c.args.decider.now.arena c.claim_all.new.arena c.forget.new.self
+    disjoint (asked_in s) (live s) serial c.args.decider.now.arena c.claim_all.new.arena c.args.evidence.now
     c.claim_all.new.evidence (g.L.Tape.told c.args.tape.now) (g.L.Tape.told c.claim_all.new.tape) c.deref-2.result.now
-    (subst (AreClaimed (asked_in s) (live s) serial c.args.decider.now.arena c.claim_all.new.arena c.forget.new.self
+    (subst (AreClaimed (asked_in s) (live s) serial c.args.decider.now.arena c.claim_all.new.arena c.args.evidence.now
     c.claim_all.new.evidence (g.L.Tape.told c.args.tape.now) (g.L.Tape.told c.claim_all.new.tape))
     (c.deref.ensures.value ∙ sym c.deref-2.ensures.value)
     (c.in_ok-claim_all.ensures.claimed serial
@@ -97,10 +88,7 @@ returns-clause-puts g c =
     lines-both (asked_in s) before c.claim_all.new.arena c.refute.new.arena c.args.decider.now.graph.memo
     c.refute.new.graph.memo c.claim_all.new.evidence c.refute.new.self c.args.budget.now c.refute.new.budget
     (g.L.Tape.told c.args.tape.now) (g.L.Tape.told c.claim_all.new.tape) (g.L.Tape.told c.refute.new.tape)
-    (claimed.puts c.args.decider.now.graph.memo before
-    (subst (λ (e : Backing). Backs c.args.decider.now.arena c.args.decider.now.graph.memo e before)
-    (sym c.forget.ensures)
-    (backs-forgotten c.args.decider.now.arena c.args.decider.now.graph.memo c.args.evidence.now before b)))
+    (claimed.puts c.args.decider.now.graph.memo before b)
     counts (λ after then n. put (asked_in s) after then n))
     c.refute.ensures.puts
 
@@ -133,4 +121,19 @@ returns-clause-regexes g c =
     (sym c.refute.ensures.atoms)
     (regexes_kept c.claim_all.new.arena c.refute.new.arena c.claim_all.new.evidence.atoms c.refute.ensures.extends
     c.in_ok-claim_all.ensures.regexes))
+    c.refute.ensures.puts
+
+pub returns-clause-levels : goal.returns-clause-levels
+returns-clause-levels g c =
+    let now = found verdicts.Unsat c.args.stack.now in
+    let s = state_of c.args.stack.now in
+    let serial = c.unwrap-serial.result.0 in
+    let copied = c.in_ok-extend_from_slice.ensures.items
+    ∙ ap (λ xs. xs ++ c.places.result.now) c.new-places.ensures.items in
+    let places = sym (c.deref.ensures.value ∙ copied) in
+    let claimed = c.in_ok-claim_all.ensures.claimed serial
+    (subst (All (IsPlaceOf (live s) serial)) places (c.places.ensures.are now c.requires.knows)) in
+    on_ok_weaker c.refute.result
+    (λ _. λ h place a there.
+    claimed.levels h place a (ap (λ xs. asserted_at xs place) (sym c.refute.ensures.asserted) ∙ there))
     c.refute.ensures.puts

@@ -1,8 +1,6 @@
-use Rattle.std.proofs.Common.{◌≡◌, ◌++◌, ℕ, map}
-use Rattle.sb_lit.specs.declared.clause.ClauseId.{ClauseId}
-use Rattle.sb_refute.specs.Units.{numbered}
+use Rattle.std.proofs.Common.{◌≡◌, map, take}
+use Rattle.sb_refute.specs.declared.evidence.Asserted.{Asserted}
 use Rattle.sb_refute.proofs.refute.hints_of.Given as goal
 
-abbrev pub invariant-loop-clause : goal.invariant-loop-clause
-invariant-loop-clause l =
-    l.hints.items ++ map (λ (c : ClauseId). c.0) l.clause-iterator ≡ map (λ (u : ℕ × ℕ). u.1) (numbered l.units.entries)
+abbrev pub invariant-loop-asserted : goal.invariant-loop-asserted
+invariant-loop-asserted l = l.hints.items ≡ map (λ (a : Asserted). a.clause.0) (take l.asserted-index l.picked)

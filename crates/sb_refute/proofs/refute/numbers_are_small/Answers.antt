@@ -1,5 +1,5 @@
 use Rattle.std.proofs.Common.{arith}
-use Rattle.sb_refute.proofs.Denials.{numbers-small}
+use Rattle.sb_refute.proofs.Memberships.{numbers-small}
 use Rattle.sb_refute.proofs.refute.numbers_are_small.Goals as goal
 
 pub returns : goal.returns

@@ -1,5 +1,7 @@
-use Rattle.std.proofs.Common.{[], length, refl}
+use Rattle.std.proofs.Common.{[], length, refl, sym, ap, ◌∙◌}
+use Rattle.sb_refute.specs.Backing.{asserted_at}
 use Rattle.sb_prover.proofs.Growing.{none-below}
+use Rattle.sb_prover.proofs.Leaving.{none-there}
 use Rattle.sb_prover.proofs.prover.Prover.new.Goals as goal
 
 pub returns-clause-abreast : goal.returns-clause-abreast
@@ -9,9 +11,13 @@ returns-clause-abreast c = λ rs memo. record {
   first = λ unbegun. refl;
   format = refl;
   counted = refl;
-  backs = c.new.ensures rs memo 1;
-  regexes = none-below rs (length rs) c.new.result.atoms (c.new.ensures rs memo 1).atoms;
+  backs = c.new.ensures.backs rs memo 1;
+  regexes = none-below rs (length rs) c.new.result.atoms (c.new.ensures.backs rs memo 1).atoms;
 }
 
 pub returns-clause-regexes : goal.returns-clause-regexes
-returns-clause-regexes c = λ n. none-below [] n c.new.result.atoms (c.new.ensures [] [] 1).atoms
+returns-clause-regexes c = λ n. none-below [] n c.new.result.atoms (c.new.ensures.backs [] [] 1).atoms
+
+pub returns-clause-levels : goal.returns-clause-levels
+returns-clause-levels c = λ live place a there.
+    absurd (none-there place a (ap (λ xs. asserted_at xs place) (sym c.new.ensures.nothing) ∙ there))

@@ -1,9 +1,8 @@
-use Rattle.std.proofs.Common.{◌<◌, length, sym, ap, subst, ◌∙◌, arith}
+use Rattle.std.proofs.Common.{◌<◌, length, Some, sym, ap, subst, ◌∙◌, arith}
 use Rattle.std.proofs.lemmas.List.{length-map}
 use Rattle.sb_atoms.specs.Numbered.{over}
 use Rattle.sb_refute.specs.declared.evidence.Asserted.{Asserted}
-use Rattle.sb_refute.specs.Backing.{Backing, EvidencesUncounted, asserted_at}
-use Rattle.sb_refute.proofs.Places.{inserted-keeps}
+use Rattle.sb_refute.specs.Backing.{Backing, EvidencesUncounted}
 use Rattle.sb_refute.proofs.LinesPut.{assertion-put}
 use Rattle.sb_refute.proofs.Asserting.{counted-and-kept}
 use Rattle.sb_refute.proofs.evidence.Evidence.claim.Goals as goal
@@ -11,22 +10,14 @@ use Rattle.sb_refute.proofs.evidence.Evidence.claim.Goals as goal
 pub returns-clause-puts : goal.returns-clause-puts
 returns-clause-puts g c = λ asked rs memo before b is.
     let e = c.args.self.now in
-    let one : Asserted = record { clause = c.in_ok-clause.clause; literal = c.args.literal } in
+    let one : Asserted =
+    record { clause = c.in_ok-clause.clause; literal = c.args.literal; level = c.args.level } in
     let known : c.args.literal.atom < length before.atoms =
     omega (arith, ap length b.atoms, length-map e.atoms (over rs), c.requires.known) in
     subst (λ (f : Backing). EvidencesUncounted asked before rs memo f (g.L.Tape.told c.args.tape.now)
     (g.L.Tape.told c.put.new.self))
-    (sym (counted-and-kept e c.next_clause.new.self c.keep.new.self c.args.place one c.in_ok-keep.ensures.ok
+    (sym (counted-and-kept e c.next_clause.new.self c.keep.new.self c.args.place (Some one) c.in_ok-keep.ensures.ok
     c.in_ok-clause.ensures.ok))
     (assertion-put c.assertion_lines_are_exact.ensures asked before rs memo e c.args.place one
     (g.L.Tape.told c.args.tape.now) (g.L.Tape.told c.put.new.self) known c.requires.positive
     c.in_ok-clause.ensures.number (omega arith) (omega arith) b is c.in_ok-put.ensures.ok)
-
-pub returns-clause-stays : goal.returns-clause-stays
-returns-clause-stays g c = λ place a h.
-    let e = c.args.self.now in
-    let one : Asserted = record { clause = c.in_ok-clause.clause; literal = c.args.literal } in
-    ap (λ (f : Backing). asserted_at f.asserted place)
-    (counted-and-kept e c.next_clause.new.self c.keep.new.self c.args.place one c.in_ok-keep.ensures.ok
-    c.in_ok-clause.ensures.ok)
-    ∙ inserted-keeps e.asserted c.args.place place one a c.requires.new h

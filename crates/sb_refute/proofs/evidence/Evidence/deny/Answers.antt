@@ -1,29 +1,26 @@
-use Rattle.std.proofs.Common.{◌≡◌, ℕ, ◌<◌, length, option_map, All, sym, subst}
+use Rattle.std.proofs.Common.{◌≡◌, ◌≢◌, ℕ, ◌<◌, false, None, length, All, [], sym, ap, subst, ◌∙◌}
 use Rattle.std.proofs.lemmas.Result.{on_ok_weaker}
 use Rattle.sb_lang.specs.Constructors.{mkand}
+use Rattle.sb_lit.specs.Hints.{is_repeated}
 use Rattle.sb_regex.specs.Numbered.{regexes_at}
 use Rattle.sb_regex.proofs.CallerLemmas.{extends_more, names_below}
 use Rattle.sb_atoms.specs.Numbered.{HaveRegexesBelow}
 use Rattle.sb_refute.specs.Backing.{Backing, Backs}
-use Rattle.sb_refute.specs.Refuting.{AreDisjoint}
-use Rattle.sb_refute.specs.Units.{AreOfAtoms, AreUnits, AreRegexesOf, numbered}
+use Rattle.sb_refute.specs.Units.{Member, AreOfAtoms, HaveNoWord, AreRegexesOf, numbered}
 use Rattle.sb_refute.proofs.Backs.{backs-more}
-use Rattle.sb_refute.proofs.Denials.{places-asserted, units-below, regexes-known, no-word, explored-put, denied-all}
+use Rattle.sb_refute.proofs.Memberships.{units-below, some-units, regexes-known, no-word, explored-put, denied-all}
 use Rattle.sb_refute.proofs.evidence.Evidence.deny.Goals as goal
-
-pub units-requires : goal.units-requires
-units-requires g c = places-asserted c.args.arena.now c.args.self.now c.args.members.now c.requires.members
 
 pub regexes_of-requires : goal.regexes_of-requires
 regexes_of-requires g c =
-    subst (λ (v : Backing). All (λ (u : ℕ × ℕ). u.0 < length v.atoms) (numbered c.in_ok-units.units.entries))
-    (sym c.self.view_is)
-    (units-below c.args.self.now c.args.members.now (numbered c.in_ok-units.units.entries)
-    c.literals_are_of_atoms.ensures c.in_ok-units.ensures)
+    let us = numbered c.args.units.now.entries in
+    subst (λ (v : Backing). All (λ (u : Member). u.0 < length v.atoms) us) (sym c.self.view_is)
+    (units-below c.args.self.now c.requires.members.places us c.literals_are_of_atoms.ensures
+    c.requires.members.units)
 
 pub and-requires : goal.and-requires
 and-requires g c =
-    let us = numbered c.in_ok-units.units.entries in
+    let us = numbered c.args.units.now.entries in
     regexes-known (length c.args.arena.now) c.self.inside.atoms us c.deref.result.now
     (subst (AreRegexesOf c.self.inside.atoms us) (sym c.deref.ensures.value) c.in_ok-regexes.ensures.regexes)
     (subst (λ (v : Backing). HaveRegexesBelow (length c.args.arena.now) v.atoms) (sym c.self.view_is)
@@ -44,9 +41,9 @@ show_dead-requires-clause-graph g c =
 
 pub show_dead-requires-clause-no_word : goal.show_dead-requires-clause-no_word
 show_dead-requires-clause-no_word g c =
-    let us = numbered c.in_ok-units.units.entries in
-    no-word c.mkand_keeps_language.ensures c.args.arena.now c.and.new.self c.args.self.now c.args.members.now us
-    c.deref.result.now c.in_ok-meet.meet c.requires.members c.in_ok-units.ensures
+    let us = numbered c.args.units.now.entries in
+    no-word c.mkand_keeps_language.ensures c.args.arena.now c.and.new.self c.args.self.now c.requires.members.places us
+    c.deref.result.now c.in_ok-meet.meet c.requires.members.disjoint c.requires.members.units
     (subst (λ (v : Backing). AreRegexesOf v.atoms us c.deref.result.now) c.self.view_is
     (subst (AreRegexesOf c.self.inside.atoms us) (sym c.deref.ensures.value) c.in_ok-regexes.ensures.regexes))
     c.in_ok-meet.ensures.ok
@@ -62,9 +59,9 @@ returns-then-not-branch-clause-puts g c =
       trace = i.trace;
       atoms = i.atoms;
       clauses = i.clauses;
-      asserted = i.asserted.entries;
-      hints = option_map (λ hints. hints.items) i.hints;
-      refuted = option_map (λ id. id.0) i.refuted;
+      asserted = i.asserted.items;
+      denials = i.denials;
+      refuted = i.refuted;
     }
     in
     let is : c.args.self.now ≡ v = sym c.self.view_is in
@@ -81,6 +78,11 @@ returns-then-not-branch-clause-puts g c =
     (subst (λ (w : Backing). Backs rs memo w before) is b)).tracks
     counts)
 
+pub put_denial-requires-clause-some : goal.put_denial-requires-clause-some
+put_denial-requires-clause-some g c =
+    some-units c.args.arena.now c.args.self.now c.requires.members.places (numbered c.args.units.now.entries)
+    c.requires.members.disjoint c.requires.members.units
+
 pub returns-clause-puts : goal.returns-clause-puts
 returns-clause-puts g c =
     let rs = c.args.arena.now in
@@ -88,28 +90,25 @@ returns-clause-puts g c =
     let more = c.show_dead.new.arena in
     let memo = c.args.graph.now.memo in
     let memos = c.show_dead.new.graph.memo in
-    let places = c.args.members.now in
-    let us = numbered c.in_ok-units.units.entries in
+    let us = numbered c.args.units.now.entries in
     let i = c.self.inside in
     let v : Backing = record {
       trace = i.trace;
       atoms = i.atoms;
       clauses = i.clauses;
-      asserted = i.asserted.entries;
-      hints = option_map (λ hints. hints.items) i.hints;
-      refuted = option_map (λ id. id.0) i.refuted;
+      asserted = i.asserted.items;
+      denials = i.denials;
+      refuted = i.refuted;
     }
     in
     let is : c.args.self.now ≡ v = sym c.self.view_is in
     let dead = c.in_ok-show_dead.ensures in
     on_ok_weaker c.put_denial.result
     (λ put asked before b counts.
-    denied-all asked before rs mid more memo memos v c.put_denial.new.self c.show_dead.new.trace places us
+    denied-all asked before rs mid more memo memos v c.put_denial.new.self c.show_dead.new.trace us
     c.deref.result.now c.in_ok-meet.meet c.show_dead.new.budget c.put_denial.new.budget
     (g.L.Tape.told c.args.tape.now) (g.L.Tape.told c.show_dead.new.tape) (g.L.Tape.told c.put_denial.new.tape)
-    (subst (λ (w : Backing). AreDisjoint rs w places) is c.requires.members)
-    (subst (λ (w : Backing). AreOfAtoms w.atoms w.asserted) is c.literals_are_of_atoms.ensures)
-    (subst (λ (w : Backing). AreUnits w places us) is c.in_ok-units.ensures) c.in_ok-regexes.ensures.rise
+    (subst (λ (w : Backing). HaveNoWord rs w us) is c.requires.members)
     (subst (AreRegexesOf i.atoms us) (sym c.deref.ensures.value) c.in_ok-regexes.ensures.regexes)
     (subst (λ (w : Backing). HaveRegexesBelow (length rs) w.atoms) is c.requires.regexes)
     c.and.ensures.extends dead.extends c.in_ok-meet.ensures.ok (dead.dead c.if-not-branch.false)

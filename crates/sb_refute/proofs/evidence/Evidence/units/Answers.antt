@@ -1,8 +1,8 @@
 use Rattle.std.proofs.Common.{◌+◌, ℕ, List, take, get_or, sym, subst, ◌∙◌}
 use Rattle.std.proofs.lemmas.List.{take_more}
-use Rattle.sb_lit.specs.declared.clause.ClauseId.{ClauseId}
+use Rattle.sb_refute.specs.declared.evidence.Asserted.{Asserted}
 use Rattle.sb_refute.specs.Units.{AreUnits, numbered}
-use Rattle.sb_refute.proofs.Denials.{units-one}
+use Rattle.sb_refute.proofs.Memberships.{units-one}
 use Rattle.sb_refute.proofs.evidence.Evidence.units.Goals as goal
 
 pub loop-place-preserved : goal.loop-place-preserved
@@ -10,7 +10,7 @@ loop-place-preserved c =
     let e = c.args.self.now in
     let i = c.loop-place.place-index in
     let members = c.args.members.now in
-    subst (λ (es : List (ℕ × ClauseId)). AreUnits e (take (i + 1) members) (numbered es))
+    subst (λ (es : List (ℕ × Asserted)). AreUnits e (take (i + 1) members) (numbered es))
     (sym c.in_ok-insert.ensures.entries)
     (units-one e (take i members) (take (i + 1) members) (get_or members i 0) c.unwrap-asserted.result
     c.loop-place.units.entries (take_more members i 0 c.loop-place-test.true)

@@ -1,4 +1,4 @@
--- What is put of a denial of memberships, and behind what a budget cut off.
+-- Memberships that are denied together, and what is put of that.
 use Rattle.std.proofs.Common.{◌≡◌, ◌≢◌, ℕ, suc, ◌+◌, ◌^◌, ◌<◌, ◌⊎◌, inl, inr, true, false, Bool, List, [], ◌∷◌, ◌++◌, length, get_or, map, Option, Some, None, is_some, IsSome, Result, Ok, Err, All, refl, sym, ap, ap₂, subst, ◌∙◌, Contains, arith}
 use Rattle.std.specs.List.{list_all}
 use Rattle.std.specs.Result.{is_err, OnOk, OnErr}
@@ -13,9 +13,11 @@ use Rattle.sb_lang.specs.Regex.{Regex}
 use Rattle.sb_lang.specs.Language.{language}
 use Rattle.sb_lang.specs.Constructors.{mkand}
 use Rattle.sb_lang.specs.ConstructorLaws.{MkandKeepsLanguage}
-use Rattle.sb_lit.specs.declared.clause.ClauseId.{ClauseId}
+use Rattle.sb_lit.specs.declared.clause.Lit.{Lit}
 use Rattle.sb_lit.specs.Budgets.{Spending}
-use Rattle.sb_lit.specs.Kept.{kept_at}
+use Rattle.sb_lit.specs.Clauses.{are_among}
+use Rattle.sb_lit.specs.Hints.{is_repeated}
+use Rattle.sb_lit.specs.Kept.{KeptClause, kept_at}
 use Rattle.sb_regex.specs.Numbered.{Names, Extends, regex_at, regexes_at}
 use Rattle.sb_regex.proofs.CallerLemmas.{at_kept, names_at, names_below, extends_more}
 use Rattle.sb_deriv.specs.Faithful.{Memo}
@@ -33,31 +35,35 @@ use Rattle.sb_trace.proofs.CallerLemmas.{puts_none, puts_both}
 use Rattle.sb_trace.specs.Putting.{IsCounted}
 use Rattle.sb_trace.specs.Tracking.{Traced, Traces, is_dead_in}
 use Rattle.sb_refute.specs.declared.evidence.Asserted.{Asserted}
-use Rattle.sb_refute.specs.Backing.{Backing, Backs, Evidences, asserted_at, at_the_bottom}
+use Rattle.sb_refute.specs.declared.evidence.EmptyClause.{EmptyClause}
+use Rattle.sb_refute.specs.Denying.{Denied, with_denial, at_the_bottom}
+use Rattle.sb_refute.specs.Backing.{Backing, Backs, Evidences, asserted_at}
 use Rattle.sb_refute.specs.Refuting.{AreDisjoint, membership_at}
-use Rattle.sb_refute.specs.Units.{AreOfAtoms, AreUnits, CanBeDenied, IsUnitOf, AreRegexesOf, Rise, numbered, denials_of, hints_of}
+use Rattle.sb_refute.specs.Units.{Member, AreOfAtoms, AreUnits, HaveNoWord, AreKept, CanBeDenied, IsDenial, AreDenials, HasPart, ArePicked, IsTop, LeadsNowhere, AreRegexesOf, Rise, numbered, denials_of, hints_of}
 use Rattle.sb_refute.proofs.AtomLines.{alone}
 use Rattle.sb_refute.proofs.Meets.{never-alive}
 use Rattle.sb_refute.proofs.Backs.{backs-traced}
 use Rattle.sb_refute.proofs.Disjoint.{membership-parts, units-denied}
-use Rattle.sb_refute.proofs.Hints.{unit_of, here, later, cons-cases, not-in-nil}
+use Rattle.sb_refute.proofs.Clauses.{kept-last}
+use Rattle.sb_refute.proofs.Parts.{themselves-among}
+use Rattle.sb_refute.proofs.Hints.{leads-nowhere, here, later, cons-cases, not-in-nil}
 use Rattle.sb_refute.proofs.LinesPut.{denial-put, empty-put}
 use Rattle.sb_refute.proofs.UnitFacts.{inserted-unit, atom-there, atoms-stay}
 
 -- Lists with one more behind them.
 
-push-last : {X : Type 0} (xs : List X) (y : X) → Contains (xs ++ y ∷ []) y
+pub push-last : {X : Type 0} (xs : List X) (y : X) → Contains (xs ++ y ∷ []) y
 push-last [] y = here y []
 push-last (x ∷ xs) y = later x (xs ++ y ∷ []) y (push-last xs y)
 
-push-keeps : {X : Type 0} (xs : List X) (y x : X) → Contains xs x → Contains (xs ++ y ∷ []) x
+pub push-keeps : {X : Type 0} (xs : List X) (y x : X) → Contains xs x → Contains (xs ++ y ∷ []) x
 push-keeps [] y x h = absurd (not-in-nil x h)
 push-keeps (z ∷ zs) y x h = elim (cons-cases z zs x h) [
   | inl one ↦ subst (Contains (z ∷ zs ++ y ∷ [])) one (here z (zs ++ y ∷ []))
   | inr more ↦ later z (zs ++ y ∷ []) x (push-keeps zs y x more)
 ]
 
-push-cases : {X : Type 0} (xs : List X) (y x : X) → Contains (xs ++ y ∷ []) x → Contains xs x ⊎ (y ≡ x)
+pub push-cases : {X : Type 0} (xs : List X) (y x : X) → Contains (xs ++ y ∷ []) x → Contains xs x ⊎ (y ≡ x)
 push-cases [] y x h = elim (cons-cases y [] x h) [ inl one ↦ inr one | inr none ↦ absurd (not-in-nil x none) ]
 push-cases (z ∷ zs) y x h = elim (cons-cases z (zs ++ y ∷ []) x h) [
   | inl one ↦ inl (subst (Contains (z ∷ zs)) one (here z zs))
@@ -78,18 +84,19 @@ units-none e = record {
 same-asserted : (a b : Asserted) → Some a ≡ Some b → a ≡ b
 same-asserted a b h = cc
 
-pub units-one : (e : Backing) (places more : List ℕ) (place : ℕ) (a : Asserted) (es : List (ℕ × ClauseId))
+pub units-one : (e : Backing) (places more : List ℕ) (place : ℕ) (a : Asserted) (es : List (ℕ × Asserted))
     → more ≡ places ++ place ∷ [] → asserted_at e.asserted place ≡ Some a → AreUnits e places (numbered es)
-    → AreUnits e more (numbered (insert_entry nat_cmp es a.literal.atom a.clause))
+    → AreUnits e more (numbered (insert_entry nat_cmp es a.literal.atom a))
 units-one e places more place a es is there h = subst (λ ps. AreUnits e ps now) (sym is) (record {
-  from = λ unit among. elim (inserted-unit a.literal.atom a.clause equal es unit among) [
+  from = λ unit among. elim (inserted-unit a.literal.atom a equal es unit among) [
     | inl one ↦ record {
       place = place;
       among = push-last places place;
       asserted = a;
       there = there;
-      atom = ap (λ (p : ℕ × ℕ). p.0) one;
-      clause = ap (λ (p : ℕ × ℕ). p.1) one;
+      atom = ap (λ (p : Member). p.0) one;
+      clause = ap (λ (p : Member). p.1) one;
+      level = ap (λ (p : Member). p.2) one;
     }
     | inr old ↦
         let u = h.from unit old in
@@ -100,40 +107,20 @@ units-one e places more place a es is there h = subst (λ ps. AreUnits e ps now)
           there = u.there;
           atom = u.atom;
           clause = u.clause;
+          level = u.level;
         }
   ];
   has = λ q b among found. elim (push-cases places place q among) [
-    | inl before ↦ atoms-stay a.literal.atom a.clause es b.literal.atom (h.has q b before found)
-    | inr one ↦ subst (Contains (map (λ (u : ℕ × ℕ). u.0) now))
+    | inl before ↦ atoms-stay a.literal.atom a es b.literal.atom (h.has q b before found)
+    | inr one ↦ subst (Contains (map (λ (u : Member). u.0) now))
         (ap (λ (o : Asserted). o.literal.atom)
         (same-asserted a b (sym there ∙ ap (asserted_at e.asserted) one ∙ found)))
-        (atom-there a.literal.atom a.clause equal es)
+        (atom-there a.literal.atom a equal es)
   ];
 })
   where
-    now : List (ℕ × ℕ)
-    now = numbered (insert_entry nat_cmp es a.literal.atom a.clause)
-
--- What is known of them.
-
-all-from : (P : ℕ × ℕ → Type 0) (us : List (ℕ × ℕ)) → ((u : ℕ × ℕ) → Contains us u → P u) → All P us
-all-from P [] h = All-nil P
-all-from P (u ∷ us) h = All-cons P u us (h u (here u us)) (all-from P us (λ v among. h v (later u us v among)))
-
-pub units-below : (e : Backing) (places : List ℕ) (us : List (ℕ × ℕ)) → AreOfAtoms e.atoms e.asserted
-    → AreUnits e places us → All (λ u. u.0 < length e.atoms) us
-units-below e places us of units = all-from (λ u. u.0 < length e.atoms) us (λ u among.
-    let unit = units.from u among in
-    subst (λ n. n < length e.atoms) unit.atom (of unit.place unit.asserted unit.there).1)
-
-units-kept : (e : Backing) (places : List ℕ) (us : List (ℕ × ℕ)) (rs : List Regex) (memo : Memo) (before : AllKept)
-    → AreOfAtoms e.atoms e.asserted → AreUnits e places us → Backs rs memo e before → (u : ℕ × ℕ) → Contains us u
-    → kept_at before.clauses u.1 ≡ Some (unit_of u)
-units-kept e places us rs memo before of units b u among =
-    let unit = units.from u among in
-    ap (kept_at before.clauses) (sym unit.clause) ∙ b.asserted unit.place unit.asserted unit.there
-    ∙ ap₂ (λ n p. Some (at_the_bottom ((record { atom = n; positive = p }) ∷ []))) unit.atom
-    (of unit.place unit.asserted unit.there).0
+    now : List Member
+    now = numbered (insert_entry nat_cmp es a.literal.atom a)
 
 first-same : {X : Type 0} (x y : X) (xs ys : List X) → x ∷ xs ≡ y ∷ ys → x ≡ y
 first-same x y xs ys h = cc
@@ -141,14 +128,66 @@ first-same x y xs ys h = cc
 others-same : {X : Type 0} (x y : X) (xs ys : List X) → x ∷ xs ≡ y ∷ ys → xs ≡ ys
 others-same x y xs ys h = cc
 
-some-units : (rs : List Regex) (e : Backing) (places : List ℕ) (us : List (ℕ × ℕ)) → AreDisjoint rs e places
+-- The atoms of some literals in order.
+
+rise-same : (us vs : List Member) → denials_of us ≡ denials_of vs → Rise us → Rise vs
+rise-same [] [] h rise = tt
+rise-same [] (v ∷ vs) h rise = absurd (cc)
+rise-same (u ∷ us) [] h rise = tt
+rise-same (u ∷ us) (v ∷ []) h rise = tt
+rise-same (u ∷ []) (v ∷ w ∷ vs) h rise = absurd (cc)
+rise-same (u ∷ x ∷ us) (v ∷ w ∷ vs) h rise =
+    let first = ap (λ (l : Lit). l.atom) (first-same _ _ _ _ h) in
+    let more = others-same _ _ _ _ h in
+    let second = ap (λ (l : Lit). l.atom) (first-same _ _ _ _ more) in
+    (omega (arith, first, second, rise.0), rise-same (x ∷ us) (w ∷ vs) more rise.1)
+
+-- the same where the clauses of assertions are
+pub units-same : (e f : Backing) (places : List ℕ) (us : List Member) → f.asserted ≡ e.asserted
+    → AreUnits e places us → AreUnits f places us
+units-same e f places us same h = record {
+  from = λ unit among.
+      let u = h.from unit among in
+      record {
+        place = u.place;
+        among = u.among;
+        asserted = u.asserted;
+        there = ap (λ xs. asserted_at xs u.place) same ∙ u.there;
+        atom = u.atom;
+        clause = u.clause;
+        level = u.level;
+      };
+  has = λ place a among there. h.has place a among (sym (ap (λ xs. asserted_at xs place) same) ∙ there);
+}
+
+-- What is known of them.
+
+all-from : (P : Member → Type 0) (us : List Member) → ((u : Member) → Contains us u → P u) → All P us
+all-from P [] h = All-nil P
+all-from P (u ∷ us) h = All-cons P u us (h u (here u us)) (all-from P us (λ v among. h v (later u us v among)))
+
+pub units-below : (e : Backing) (places : List ℕ) (us : List Member) → AreOfAtoms e.atoms e.asserted
+    → AreUnits e places us → All (λ u. u.0 < length e.atoms) us
+units-below e places us of units = all-from (λ u. u.0 < length e.atoms) us (λ u among.
+    let unit = units.from u among in
+    subst (λ n. n < length e.atoms) unit.atom (of unit.place unit.asserted unit.there).1)
+
+units-kept : (e : Backing) (places : List ℕ) (us : List Member) (rs : List Regex) (memo : Memo) (kept : AllKept)
+    → AreOfAtoms e.atoms e.asserted → AreUnits e places us → Backs rs memo e kept → AreKept us kept.clauses
+units-kept e places us rs memo kept of units b u among =
+    let unit = units.from u among in
+    ap (kept_at kept.clauses) (sym unit.clause) ∙ b.asserted unit.place unit.asserted unit.there
+    ∙ ap₂ (λ (l : Lit) n. Some (record { literals = l ∷ []; level = n }))
+    (ap₂ (λ n p. record { atom = n; positive = p }) unit.atom (of unit.place unit.asserted unit.there).0) unit.level
+
+pub some-units : (rs : List Regex) (e : Backing) (places : List ℕ) (us : List Member) → AreDisjoint rs e places
     → AreUnits e places us → us ≢ []
 some-units rs e places us apart units none = step places apart.regexes apart.are apart.no_word units.has
   where
     step : (ps regexes : List ℕ) → map (membership_at e) ps ≡ map (λ r. Some (apart.constant, r)) regexes
         → ((w : List ℕ) → IsWord w → list_all (λ r. language r w) (regexes_at rs regexes) ≡ false)
         → ((place : ℕ) (a : Asserted) → Contains ps place → asserted_at e.asserted place ≡ Some a
-        → Contains (map (λ (u : ℕ × ℕ). u.0) us) a.literal.atom) → ⊥
+        → Contains (map (λ (u : Member). u.0) us) a.literal.atom) → ⊥
     step [] [] h no_word has = true≢false (no_word [] refl)
     step [] (r ∷ regexes) h no_word has = absurd (cc)
     step (p ∷ ps) [] h no_word has = absurd (cc)
@@ -158,7 +197,7 @@ some-units rs e places us apart units none = step places apart.regexes apart.are
         (map (λ r. Some (apart.constant, r)) regexes) h)
         in
         not-in-nil m.asserted.literal.atom
-        (subst (λ all. Contains (map (λ (u : ℕ × ℕ). u.0) all) m.asserted.literal.atom) none
+        (subst (λ all. Contains (map (λ (u : Member). u.0) all) m.asserted.literal.atom) none
         (has p m.asserted (here p ps) m.there))
 
 -- the assertions stand in the proof
@@ -181,7 +220,7 @@ places-asserted rs e places apart = step places apart.regexes apart.are
         (map (λ r. Some (apart.constant, r)) regexes) h))
 
 -- the regexes of their atoms are in the arena
-pub regexes-known : (n : ℕ) (atoms : List (AtomOver ℕ)) (us : List (ℕ × ℕ)) (ids : List ℕ) → AreRegexesOf atoms us ids
+pub regexes-known : (n : ℕ) (atoms : List (AtomOver ℕ)) (us : List Member) (ids : List ℕ) → AreRegexesOf atoms us ids
     → HaveRegexesBelow n atoms → All (λ i. i < n) ids
 regexes-known n atoms [] [] are below = All-nil (λ i. i < n)
 regexes-known n atoms [] (i ∷ ids) are below = absurd are
@@ -190,7 +229,7 @@ regexes-known n atoms (u ∷ us) (i ∷ ids) are below =
     All-cons (λ i. i < n) i ids (below u.0 (alone are.0 i) are.1) (regexes-known n atoms us ids are.2 below)
 
 -- and their intersection has no word
-pub no-word : MkandKeepsLanguage → (rs mid : List Regex) (e : Backing) (places : List ℕ) (us : List (ℕ × ℕ))
+pub no-word : MkandKeepsLanguage → (rs mid : List Regex) (e : Backing) (places : List ℕ) (us : List Member)
     (ids : List ℕ) (root : ℕ) → AreDisjoint rs e places → AreUnits e places us → AreRegexesOf e.atoms us ids
     → Names mid root (mkand (regexes_at rs ids)) → (w : List ℕ) → IsWord w → language (regex_at mid root) w ≡ false
 no-word keeps rs mid e places us ids root apart units are names w word =
@@ -200,13 +239,6 @@ no-word keeps rs mid e places us ids root apart units are names w word =
     never : (b : Bool) → language (mkand (regexes_at rs ids)) w ≡ b → b ≡ false
     never false h = refl
     never true h = absurd (never-alive keeps rs e places us ids w apart units are word h)
-
-small-units : (us : List (ℕ × ℕ)) → list_all is_small_literal (denials_of us) ≡ true
-    → list_all (λ u. is_small u.0) us ≡ true
-small-units [] h = refl
-small-units (u ∷ us) h =
-    let parts = and_parts (is_small u.0) (list_all is_small_literal (denials_of us)) h in
-    and_from (is_small u.0) (list_all (λ v. is_small v.0) us) parts.0 (small-units us parts.1)
 
 -- Lines that were put.
 
@@ -243,82 +275,101 @@ explored-put asked before rs more memo memos e t budget old new grows below b tr
 }
 
 -- what the denial asks, behind the lines that show the intersection dead
-pub can-be-denied : (rs mid more : List Regex) (memo : Memo) (e : Backing) (t : Traced) (places : List ℕ)
-    (us : List (ℕ × ℕ)) (ids : List ℕ) (root : ℕ) (kept : AllKept) → AreDisjoint rs e places
-    → AreOfAtoms e.atoms e.asserted → AreUnits e places us → Rise us → AreRegexesOf e.atoms us ids
-    → HaveRegexesBelow (length rs) e.atoms → Extends rs mid → Extends mid more
-    → Names mid root (mkand (regexes_at rs ids)) → is_dead_in t root ≡ true
-    → Backs more memo (record e { trace = t }) kept → CanBeDenied more (record e { trace = t }) us kept
-can-be-denied rs mid more memo e t places us ids root kept apart of units rise are below first second names dead b =
+can-be-denied : (rs mid more : List Regex) (e : Backing) (t : Traced) (us : List Member) (ids : List ℕ) (root : ℕ)
+    → HaveNoWord rs e us → AreRegexesOf e.atoms us ids → HaveRegexesBelow (length rs) e.atoms → Extends rs mid
+    → Extends mid more → Names mid root (mkand (regexes_at rs ids)) → is_dead_in t root ≡ true
+    → CanBeDenied more (record e { trace = t }) us
+can-be-denied rs mid more e t us ids root h are below first second names dead =
     record {
-      constant = apart.constant;
+      constant = h.disjoint.constant;
       meet = root;
       regexes = regexes_at rs ids;
-      some = some-units rs e places us apart units;
-      rise = rise;
-      denied = subst (λ atoms. AreDeniedIn atoms apart.constant (denials_of us) (regexes_at rs ids))
+      denied = subst (λ atoms. AreDeniedIn atoms h.disjoint.constant (denials_of us) (regexes_at rs ids))
           (sym (atoms_kept rs more e.atoms (extends_more rs mid more first second) below))
-          (units-denied rs e apart.constant places apart.regexes apart.are us ids are units.from);
+          (units-denied rs e h.disjoint.constant h.places h.disjoint.regexes h.disjoint.are us ids are h.units.from);
       meets = at_kept mid more root second (names_below mid root (mkand (regexes_at rs ids)) names)
           ∙ names_at mid root (mkand (regexes_at rs ids)) names;
       dead = dead;
-      units = units-kept (record e { trace = t }) places us more memo kept of
-          (record { from = λ unit among. from-same (units.from unit among); has = units.has }) b;
-    }
-  where
-    from-same : {unit : ℕ × ℕ} → IsUnitOf e places unit → IsUnitOf (record e { trace = t }) places unit
-    from-same u = record {
-      place = u.place;
-      among = u.among;
-      asserted = u.asserted;
-      there = u.there;
-      atom = u.atom;
-      clause = u.clause;
     }
 
 -- the denial, behind the lines that show the intersection dead
 pub denied-all : (asked : Asked) (before : AllKept) (rs mid more : List Regex) (memo memos : Memo) (e f : Backing)
-    (t : Traced) (places : List ℕ) (us : List (ℕ × ℕ)) (ids : List ℕ) (root : ℕ) (budget left : Spending)
-    (old told new : Option (List ℕ)) → AreDisjoint rs e places → AreOfAtoms e.atoms e.asserted
-    → AreUnits e places us → Rise us → AreRegexesOf e.atoms us ids → HaveRegexesBelow (length rs) e.atoms
-    → Extends rs mid → Extends mid more → Names mid root (mkand (regexes_at rs ids)) → is_dead_in t root ≡ true
+    (t : Traced) (us : List Member) (ids : List ℕ) (root : ℕ) (budget left : Spending)
+    (old told new : Option (List ℕ)) → HaveNoWord rs e us → AreRegexesOf e.atoms us ids
+    → HaveRegexesBelow (length rs) e.atoms → Extends rs mid → Extends mid more
+    → Names mid root (mkand (regexes_at rs ids)) → is_dead_in t root ≡ true
     → Backs rs memo e before → Traces asked before more memos t budget old told
-    → ((after : AllKept) → CanBeDenied more (record e { trace = t }) us after
+    → ((after : AllKept) → CanBeDenied more (record e { trace = t }) us
     → Backs more memos (record e { trace = t }) after → IsCounted asked after budget
     → Evidences asked after more memos f left told new)
     → Evidences asked before more memos f left old new
-denied-all asked before rs mid more memo memos e f t places us ids root budget left old told new apart of units rise are
-    below first second names dead b traced next =
+denied-all asked before rs mid more memo memos e f t us ids root budget left old told new h are below first second names
+    dead b traced next =
     evidences-both asked before more memos (record e { trace = t }) f budget left old told new
     (explored-put asked before rs more memo memos e t budget old told (extends_more rs mid more first second) below b
     traced)
     (λ after now counts.
-    next after
-    (can-be-denied rs mid more memos e t places us ids root after apart of units rise are below first second names dead
-    now)
-    now counts)
+    next after (can-be-denied rs mid more e t us ids root h are below first second names dead) now counts)
 
 pub denied-put : RuleLinesAreExact → (asked : Asked) (before : AllKept) (rs : List Regex) (memo : Memo) (e f : Backing)
-    (us : List (ℕ × ℕ)) (budget left : Spending) (old new : Option (List ℕ)) → CanBeDenied rs e us before
-    → e.hints ≡ None → e.refuted ≡ None → budget.spent < budget.limit
-    → left ≡ record budget { spent = budget.spent + 1 } → list_all is_small_literal (denials_of us) ≡ true
-    → f ≡ record e { clauses = e.clauses + 1; hints = Some (hints_of us e.clauses) } → Backs rs memo e before
-    → IsCounted asked before budget → new ≡ with_bytes (line (text_of (rule_line empty (denials_of us)))) old
+    (us : List Member) (ls : List Lit) (budget left : Spending) (old new : Option (List ℕ)) → CanBeDenied rs e us
+    → us ≢ [] → Rise us → ls ≡ denials_of us → is_repeated e.denials.clauses ls ≡ false → AreDenials e.denials
+    → e.refuted ≡ None → budget.spent < budget.limit → left ≡ record budget { spent = budget.spent + 1 }
+    → list_all is_small_literal ls ≡ true
+    → f ≡ record e { clauses = e.clauses + 1; denials = with_denial e.denials ls e.clauses } → Backs rs memo e before
+    → IsCounted asked before budget → new ≡ with_bytes (line (text_of (rule_line empty ls))) old
     → Evidences asked before rs memo f left old new
-denied-put exact asked before rs memo e f us budget left old new h hints unset room spends smalls is b counts told =
-    subst (λ g. Evidences asked before rs memo g left old new) (sym is)
+denied-put exact asked before rs memo e f us ls budget left old new h some rise literals fresh are unset room spends
+    smalls is b counts told =
+    subst (λ g. Evidences asked before rs memo g left old new)
+    (sym (is ∙ ap (λ (all : List Lit). record e { clauses = e.clauses + 1; denials = with_denial e.denials all e.clauses })
+    literals))
     (subst (λ l. Evidences asked before rs memo
-    (record e { clauses = e.clauses + 1; hints = Some (hints_of us e.clauses) }) l old new) (sym spends)
-    (denial-put exact asked before rs rs memo memo e e.trace h.constant h.meet us h.regexes budget old old new h.some
-    h.rise h.denied h.meets h.dead h.units hints unset room (small-units us smalls) refl b
-    (record {
-      after = before;
-      puts = puts_none asked before old;
-      tracks = b.tracks;
-      counts = counts;
-      keeps = record { format = refl; atoms = refl; clauses = refl; rests = refl };
-    })
-    told))
+    (record e { clauses = e.clauses + 1; denials = with_denial e.denials (denials_of us) e.clauses }) l old new)
+    (sym spends)
+    (denial-put exact asked before rs memo e us budget old new h some rise
+    (ap (is_repeated e.denials.clauses) (sym literals) ∙ fresh) are unset room
+    (ap (list_all is_small_literal) (sym literals) ∙ smalls) b counts
+    (told ∙ ap (λ (all : List Lit). with_bytes (line (text_of (rule_line empty all))) old) literals)))
+
+-- the new denial is of the literals
+pub new-part : (d : Denied) (ls all : List Lit) (number place : ℕ) → ls ≡ all → place ≡ length d.clauses
+    → HasPart (with_denial d ls number) all place
+new-part d ls all number place is at = record {
+  clause = at_the_bottom ls;
+  there = ap (kept_at (d.clauses ++ Some (at_the_bottom ls) ∷ [])) at
+      ∙ kept-last d.clauses (Some (at_the_bottom ls));
+  among = ap (are_among ls) (sym is) ∙ themselves-among ls;
+}
+
+-- The clauses that a denial denies.
+
+-- the hints of the empty clause
+pub reasons-lead : (rs : List Regex) (memo : Memo) (e : Backing) (kept : AllKept) (places : List ℕ) (us : List Member)
+    (place top : ℕ) (part : HasPart e.denials (denials_of us) place) (ls : List Lit) (picked : List Asserted)
+    (number : ℕ) (ids : List ℕ) → AreOfAtoms e.atoms e.asserted → AreDenials e.denials → AreUnits e places us
+    → ls ≡ part.clause.literals → ArePicked us ls picked → IsTop (map (λ (a : Asserted). a.level) picked) top
+    → number ≡ get_or e.denials.numbers place 0 → ids ≡ hints_of picked number → Backs rs memo e kept
+    → LeadsNowhere kept.clauses ids top
+reasons-lead rs memo e kept places us place top part ls picked number ids of are units literals p is at hints b =
+    subst (λ ns. LeadsNowhere kept.clauses ns top)
+    (sym (hints ∙ ap₂ (λ (ns : List ℕ) (n : ℕ). ns ++ n ∷ []) (sym p.clauses) at))
+    (leads-nowhere kept.clauses p.units (get_or e.denials.numbers place 0) top rise
+    (λ u among. units-kept e places us rs memo kept of units b u (p.from u among))
+    (b.denied place part.clause part.there ∙ ap Some bottom)
+    (subst (λ ns. IsTop ns top) (sym p.levels) is))
+  where
+    it : IsDenial part.clause
+    it = are.each place part.clause part.there
+
+    same : denials_of p.units ≡ denials_of it.units
+    same = p.are ∙ literals ∙ ap (λ (c : KeptClause). c.literals) it.is
+
+    rise : Rise p.units
+    rise = rise-same it.units p.units (sym same) it.rise
+
+    bottom : part.clause ≡ at_the_bottom (denials_of p.units)
+    bottom = it.is ∙ ap at_the_bottom (sym same)
 
 -- numbers of 64 bits
 pub numbers-small : (ns : List ℕ) → ((i : ℕ) → get_or ns i 0 < 2 ^ 64) → are_small ns ≡ true
@@ -326,27 +377,20 @@ numbers-small [] h = refl
 numbers-small (n ∷ ns) h =
     and_from (is_small n) (are_small ns) (lt-ltb n (2 ^ 64) (h 0)) (numbers-small ns (λ i. h (suc i)))
 
-pub learned-is : (e v w : Backing) (hints : Option (List ℕ)) (id : ℕ) → v ≡ e → hints ≡ None
-    → w ≡ record v { clauses = v.clauses + 1; hints = hints } → id ≡ v.clauses
-    → record w { refuted = Some id } ≡ record e { clauses = e.clauses + 1; hints = None; refuted = Some e.clauses }
-learned-is e v w hints id is taken next number =
-    ap₂ (λ (x : Backing) (n : ℕ). record x { refuted = Some n }) next number
-    ∙ ap₂ (λ (x : Backing) (h : Option (List ℕ)).
-    record x { clauses = x.clauses + 1; hints = h; refuted = Some x.clauses }) is taken
-
 pub learned-put : LearnedLinesAreExact → (asked : Asked) (before : AllKept) (rs : List Regex) (memo : Memo)
-    (e f : Backing) (ids : List ℕ) (budget left : Spending) (old new : Option (List ℕ)) → e.hints ≡ Some ids
+    (e f : Backing) (ids : List ℕ) (c : EmptyClause) (budget left : Spending) (old new : Option (List ℕ))
+    → LeadsNowhere before.clauses ids c.level → c.clause.0 ≡ e.clauses → AreDenials e.denials
     → e.refuted ≡ None → are_small ids ≡ true → budget.spent < budget.limit
     → left ≡ record budget { spent = budget.spent + 1 }
-    → f ≡ record e { clauses = e.clauses + 1; hints = None; refuted = Some e.clauses } → Backs rs memo e before
+    → f ≡ record e { clauses = e.clauses + 1; refuted = Some c } → Backs rs memo e before
     → IsCounted asked before budget → new ≡ with_bytes (line (text_of (learned_line [] ids))) old
     → Evidences asked before rs memo f left old new
-learned-put exact asked before rs memo e f ids budget left old new hints unset smalls room spends is b counts told =
+learned-put exact asked before rs memo e f ids c budget left old new leads number are unset smalls room spends is b
+    counts told =
     subst (λ g. Evidences asked before rs memo g left old new) (sym is)
-    (subst (λ l. Evidences asked before rs memo
-    (record e { clauses = e.clauses + 1; hints = None; refuted = Some e.clauses }) l old new) (sym spends)
-    (empty-put exact asked before rs memo e ids budget old new hints unset room
-    smalls b counts told))
+    (subst (λ l. Evidences asked before rs memo (record e { clauses = e.clauses + 1; refuted = Some c }) l old new)
+    (sym spends)
+    (empty-put exact asked before rs memo e ids c budget old new leads number are unset room smalls b counts told))
 
 -- What a result says.
 

@@ -1,0 +1,38 @@
+use Rattle.std.proofs.Common.{IfSome, take, sym, ap, subst, ◌∙◌}
+use Rattle.sb_rulebook.specs.Judging.{met}
+use Rattle.sb_refute.specs.Backing.{Backing}
+use Rattle.sb_prover.specs.Proving.{Proving, IsAbreast, HaveLevels, AreLow, leaving}
+use Rattle.sb_prover.proofs.Leaving.{levels-up-to, levels-retracted, levels-cleared, left-above, left-all}
+use Rattle.sb_prover.proofs.prover.Prover.leave.Goals as goal
+
+pub returns-in-Some-clause-left : goal.returns-in-Some-clause-left
+returns-in-Some-clause-left c = λ rs memo live p h levels low.
+    let v : Proving = record { evidence = c.self.inside.evidence; begun = c.self.inside.begun } in
+    let n = c.in-Some.level in
+    let count = c.args.count in
+    let now = subst (λ (w : Proving). IsAbreast rs memo w p) (sym c.self.view_is) h in
+    subst (λ o. IsAbreast rs memo (record v { evidence = c.retract.new.self }) (met (leaving o) p)) (sym c.in-Some.is)
+    (left-above rs memo p v c.retract.new.self n now (ap (λ (e : Backing). e.atoms) c.retract.ensures.retracted)
+    (c.retract.ensures.backs rs memo p.kept now.backs
+    (levels-up-to live n count v.evidence
+    (subst (λ (w : Proving). HaveLevels live w.evidence) (sym c.self.view_is) levels)
+    (subst (λ o. IfSome o (λ m. AreLow m (take count live))) c.in-Some.is low))))
+
+pub returns-in-Some-clause-levels : goal.returns-in-Some-clause-levels
+returns-in-Some-clause-levels c = λ live levels.
+    subst (HaveLevels (take c.args.count live)) (sym c.retract.ensures.retracted)
+    (levels-retracted live c.in-Some.level c.args.count c.self.inside.evidence
+    (subst (λ (w : Proving). HaveLevels live w.evidence) (sym c.self.view_is) levels))
+
+pub returns-in-None-clause-left : goal.returns-in-None-clause-left
+returns-in-None-clause-left c = λ rs memo live p h levels low.
+    let v : Proving = record { evidence = c.self.inside.evidence; begun = c.self.inside.begun } in
+    let now = subst (λ (w : Proving). IsAbreast rs memo w p) (sym c.self.view_is) h in
+    subst (λ o. IsAbreast rs memo (record v { evidence = c.clear.new.self }) (met (leaving o) p)) (sym c.in-None.is)
+    (left-all rs memo p v c.clear.new.self now (ap (λ (e : Backing). e.atoms) c.clear.ensures.cleared)
+    (c.clear.ensures.backs rs memo p.kept now.backs))
+
+pub returns-in-None-clause-levels : goal.returns-in-None-clause-levels
+returns-in-None-clause-levels c = λ live levels.
+    subst (HaveLevels (take c.args.count live)) (sym c.clear.ensures.cleared)
+    (levels-cleared (take c.args.count live) c.self.inside.evidence)
