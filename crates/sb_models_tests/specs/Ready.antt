@@ -4,6 +4,7 @@ use Rattle.sb_plain.specs.Memory.{IsRight}
 use Rattle.sb_fragment.specs.Measures.{AreMeasures}
 use Rattle.sb_stack.specs.Stacked.{Stacked}
 use Rattle.sb_models.specs.Knowing.{Knows}
+use Rattle.sb_models.specs.declared.models.Models.{Models}
 use Rattle.sb_models_tests.specs.declared.kept.Checker.{Checker}
 
 pub record IsReady (kept : Checker) (stack : Stacked) : Type 0 where
@@ -12,6 +13,7 @@ pub record IsReady (kept : Checker) (stack : Stacked) : Type 0 where
   pub normals : AreNormals stack.table kept.arena kept.normals
   pub right : IsRight kept.arena kept.plain
 
--- what was right for the old state is so for the new one
-abbrev pub Stays : Stacked → Stacked → Type 0
-Stays old new = (kept : Checker) → IsReady kept old → IsReady kept new
+-- what was right for the old state is so for the new one, with what is known of its models
+abbrev pub Stays : Models → Stacked → Models → Stacked → Type 0
+Stays models old models' new =
+    (kept : Checker) → IsReady (record kept { models = models }) old → IsReady (record kept { models = models' }) new

@@ -4,11 +4,11 @@ ghost use Rattle.std.specs.Prelude.{◌≡◌, false};
 ghost use Rattle.sb_models_tests.specs.Ready.{IsReady, Stays};
 
 use crate::kept::{Checker, new_checker};
-use sb_models::models_stay;
+use sb_models::{Models, models_stay};
 use sb_problem::normals_stay;
 use sb_proof::Value;
 use sb_reader::{Feed, Next};
-use sb_stack::Stack;
+use sb_stack::{Stack, Step};
 use std::alloc::{AllocError, Global};
 use std::process::Abort;
 use std::test::Fail;
@@ -112,8 +112,8 @@ fn put_all(alloc: Global, values: &mut Vec<Value>, given: &[Given]) -> Result<()
 }
 
 /// Takes the next entry, if there is one.
-fn take_next(feed: &mut Feed, stack: &mut Stack) -> Result<(), AllocError>
-    ensures { Stays stack.old stack.new }
+fn take_next(feed: &mut Feed, stack: &mut Stack, models: &mut Models) -> Result<(), AllocError>
+    ensures { Stays models.old stack.old models.new stack.new }
 {
     models_stay();
     normals_stay();
@@ -121,19 +121,29 @@ fn take_next(feed: &mut Feed, stack: &mut Stack) -> Result<(), AllocError>
     if let Next::NotYet | Next::Ended(_) = next {
         return Ok(());
     }
-    stack.apply(&next)?;
-    Ok(())
+    match stack.apply(&next)? {
+        Step::Left(_, _) => {
+            models.take_back(stack.assertions().len());
+            Ok(())
+        }
+        _ => Ok(()),
+    }
 }
 
 /// Takes the entries of a script.
-fn take(feed: &mut Feed, stack: &mut Stack, script: &[u8]) -> Result<(), AllocError>
+fn take(
+    feed: &mut Feed,
+    stack: &mut Stack,
+    models: &mut Models,
+    script: &[u8],
+) -> Result<(), AllocError>
     requires { feed.old.1 ≡ false }
-    ensures { Stays stack.old stack.new }
+    ensures { Stays models.old stack.old models.new stack.new }
 {
     feed.push(script)?;
     feed.finish();
     for _ in 0..6 {
-        take_next(feed, stack)?;
+        take_next(feed, stack, models)?;
     }
     Ok(())
 }
@@ -173,7 +183,7 @@ fn check(
     requires { IsReady checker.old stack.old }
     ensures { IsReady checker.new stack.new }
 {
-    take(&mut Feed::new(alloc), stack, more)?;
+    take(&mut Feed::new(alloc), stack, &mut checker.models, more)?;
     let mut values = Vec::new(alloc);
     put_all(alloc, &mut values, given)?;
     found(alloc, checker, stack, &values)

@@ -1,12 +1,24 @@
-use Rattle.sb_models_tests.proofs.Growing.{stays}
+use Rattle.std.proofs.Common.{length, ap, sym, ◌∙◌, subst}
+use Rattle.sb_stack.specs.Stacked.{Stacked}
+use Rattle.sb_stack.specs.Steps.{Moves}
+use Rattle.sb_models.specs.Laws.{AreTakenBack}
+use Rattle.sb_models_tests.proofs.Growing.{stays, stays_by, stays_left}
 use Rattle.sb_models_tests.proofs.checks.take_next.Goals as goal
-
-pub returns : goal.returns
-returns c =
-    stays c.models_stay.ensures c.normals_stay.ensures c.args.stack.now c.apply.new.self c.in_ok-apply.ensures.extends
-    c.in_ok-apply.ensures.grows
 
 pub returns-in_err-apply : goal.returns-in_err-apply
 returns-in_err-apply c =
-    stays c.models_stay.ensures c.normals_stay.ensures c.args.stack.now c.apply.new.self
+    stays c.models_stay.ensures c.normals_stay.ensures c.args.models.now c.args.stack.now c.apply.new.self
     c.in_err-apply.ensures.extends c.in_err-apply.ensures.grows
+
+pub returns-in-Left : goal.returns-in-Left
+returns-in-Left c =
+    stays_left c.normals_stay.ensures c.args.models.now c.take_back.new.self c.args.stack.now c.apply.new.self
+    c.in_ok-apply.ensures.extends
+    (subst (λ s. Moves s c.args.stack.now c.apply.new.self) c.in-Left.is c.in_ok-apply.ensures.moves)
+    (subst (λ n. AreTakenBack n c.args.models.now c.take_back.new.self) (ap length c.assertions.ensures.value)
+    c.take_back.ensures)
+
+pub returns : goal.returns
+returns c =
+    stays_by c.models_stay.ensures c.normals_stay.ensures c.in_ok-apply.field-0 c.args.models.now c.args.stack.now
+    c.apply.new.self c.in_default.not-Left c.in_ok-apply.ensures.moves c.in_ok-apply.ensures.extends
