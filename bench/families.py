@@ -12,6 +12,12 @@ And scripts of so many checks, each behind a new assertion:
 `checked-classes`: one constant in one more range of characters each time.
 `checked-constants`: one more constant each time, in a range of characters.
 `checked-addresses`: one more constant each time, in a regular expression of mail addresses.
+
+And scripts of levels:
+`rounds`: 100 constants in rules that stay, and so many rounds of a level with one more rule and a check.
+`levels`: so many levels, each with one more letter that one constant begins with and a check, and back with a check at
+each.
+`pairs`: so many levels that are opened and left at once.
 """
 import random
 import sys
@@ -92,6 +98,31 @@ def checked_addresses(size):
     return "".join(one_more(f"y{number}", address) for number in range(size))
 
 
+LETTERS = '(re.+ (re.union (re.range "a" "z") (re.range "0" "9") (str.to_re "-")))'
+
+
+def rule(name, number):
+    end = word("abcdefghijklmnopqrstuvwxyz", number, 3)
+    return f'(assert (str.in_re {name} (re.++ {LETTERS} (str.to_re "{end}") (re.* (re.range "a" "z")))))\n'
+
+
+def rounds(size):
+    text = "".join(f"(declare-const y{number} String)\n" + rule(f"y{number}", number) for number in range(100))
+    for number in range(size):
+        text += f"(push 1)\n{rule(f'y{number % 100}', 7 * number)}(check-sat)\n(pop 1)\n"
+    return text
+
+
+def levels(size):
+    text = "".join("abcdefghijklmnopqrstuvwxyz"[i % 26] for i in range(size))
+    down = "".join(f"(push 1)\n{in_re(f'(re.++ {to_re(text[:i + 1])} {LETTERS})')}(check-sat)\n" for i in range(size))
+    return down + "(check-sat)\n(pop 1)\n" * size
+
+
+def pairs(size):
+    return "(push 1)\n(pop 1)\n" * size
+
+
 def fronts_and_ends(text):
     every = '(re.* (re.range " " "~"))'
     fronts = "".join(in_re(f"(re.++ {to_re(text[:i])} {every})") for i in range(1, len(text)))
@@ -116,6 +147,9 @@ FAMILIES = {
     "checked-classes": checked_classes,
     "checked-constants": checked_constants,
     "checked-addresses": checked_addresses,
+    "rounds": rounds,
+    "levels": levels,
+    "pairs": pairs,
 }
 
 if __name__ == "__main__":
