@@ -1,13 +1,14 @@
 -- The commands that forms ask for so far.
-use Rattle.std.proofs.Common.{◌≡◌, Bool, true, false, ◌&&◌, if◌then◌else◌, List, [], ◌∷◌, Option, Some, None, refl}
+use Rattle.std.proofs.Common.{◌≡◌, ℕ, Bool, true, false, ◌&&◌, if◌then◌else◌, List, [], ◌∷◌, Option, Some, None, refl}
 use Rattle.std.specs.Prelude.{filter, option_map}
 use Rattle.std.specs.List.{list_all}
-use Rattle.sb_reader.specs.Forms.{Form, Symbol, Keyword, Words, Group, more}
+use Rattle.sb_reader.specs.Forms.{Form, Symbol, Keyword, Numeral, Words, Group, more}
 use Rattle.sb_script.specs.Names.{Name, is_name}
 use Rattle.sb_script.specs.Brought.{a_command, is_brought}
 use Rattle.sb_script.specs.Symbols.{found_in}
+use Rattle.sb_script.specs.Texts.{number_of}
 use Rattle.sb_script.specs.Commands as command
-use Rattle.sb_script.specs.Commands.{list_of, symbol_in, declarable, is_sort_form, is_parameter, parameters_of, is_item, function_of, definition_of, constant_shape, function_shape, definition_shape, logic_shape, option_shape, assert_shape, value_shape, keyword_shape, info_shape, echo_shape, bare, shapes, shaped_by, shaped, command_of}
+use Rattle.sb_script.specs.Commands.{list_of, symbol_in, declarable, is_sort_form, is_parameter, parameters_of, is_item, function_of, definition_of, constant_shape, function_shape, definition_shape, logic_shape, option_shape, assert_shape, value_shape, keyword_shape, info_shape, levels_shape, echo_shape, bare, shapes, shaped_by, shaped, command_of}
 use Rattle.sb_reached.proofs.SimpleTerms.{if_some, some_by}
 
 -- the command is asked for by some form
@@ -20,10 +21,14 @@ is_reached (command.get_info key) = true
 is_reached (command.declare_constant name sort) = true
 is_reached (command.declare_function name) = true
 is_reached (command.assert form) = true
+is_reached (command.push n) = true
+is_reached (command.pop n) = true
 is_reached command.check_sat = true
 is_reached command.get_model = true
 is_reached (command.get_value forms) = true
 is_reached (command.echo bytes) = true
+is_reached command.reset_assertions = true
+is_reached command.reset = true
 is_reached command.exit = true
 is_reached command.another = true
 is_reached _ = false
@@ -95,6 +100,11 @@ echo_gives : Gives echo_shape
 echo_gives (Words bytes ∷ []) = refl
 echo_gives _ = refl
 
+levels_give : (make : ℕ → command.Command) → ((n : ℕ) → is_reached (make n) ≡ true) → Gives (levels_shape make)
+levels_give make h [] = h 1
+levels_give make h (Numeral digits ∷ []) = h (number_of digits)
+levels_give make h _ = refl
+
 bare_gives : (c : command.Command) → is_reached c ≡ true → Gives (bare c)
 bare_gives c h [] = h
 bare_gives c h (form ∷ forms) = refl
@@ -107,9 +117,11 @@ p also q = (p, q)
 brought_give : AllGive (filter (λ row. is_brought (a_command row.0)) shapes)
 brought_give =
     assert_gives also constant_gives also function_gives also definition_gives
+    also levels_give command.push (λ n. refl) also levels_give command.pop (λ n. refl)
     also bare_gives command.check_sat refl also bare_gives command.get_model refl also value_gives
     also logic_gives also option_gives also keyword_gives command.get_option (λ key. refl)
     also info_gives also keyword_gives command.get_info (λ key. refl) also echo_gives
+    also bare_gives command.reset_assertions refl also bare_gives command.reset refl
     also bare_gives command.exit refl also tt
 
 shaped_gives : (rows : List (Name × (List Form → Option command.Command))) → AllGive rows → (name : Name)

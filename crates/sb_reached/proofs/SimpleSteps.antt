@@ -1,5 +1,5 @@
 -- Each step of a script keeps that everything in the state is simple.
-use Rattle.std.proofs.Common.{◌≡◌, ℕ, Bool, true, false, not, ◌&&◌, if◌then◌else◌, List, [], ◌∷◌, ◌++◌, map, length, codes, Option, Some, None, Result, Ok, Err, refl, ap, ◌∙◌}
+use Rattle.std.proofs.Common.{◌≡◌, ℕ, zero, suc, ◌+◌, Bool, true, false, not, ◌&&◌, nat_le, if◌then◌else◌, List, [], ◌∷◌, ◌++◌, map, length, drop, replicate, codes, Option, Some, None, Result, Ok, Err, refl, ap, ◌∙◌}
 use Rattle.std.specs.Prelude.{filter}
 use Rattle.std.specs.List.{list_all}
 use Rattle.std.proofs.lemmas.Bool.{and_parts, and_from, false≢true}
@@ -18,11 +18,11 @@ use Rattle.sb_script.specs.Errors as error
 use Rattle.sb_script.specs.Errors.{Error}
 use Rattle.sb_script.specs.Commands as command
 use Rattle.sb_script.specs.Commands.{symbol_in, command_of}
-use Rattle.sb_script.specs.State.{State, Level, Assertion, Mode, plain, satisfied, refuted, undecided, asserted, a_mark, over_levels, names_of, live_terms, terms_in, in_level, innermost, said, with_name, declared, marked, with_assertion}
+use Rattle.sb_script.specs.State.{State, Level, Assertion, Mode, plain, satisfied, refuted, undecided, asserted, a_mark, empty_level, over_levels, names_of, live_terms, terms_in, in_level, innermost, said, with_name, declared, marked, with_assertion, pushed}
 use Rattle.sb_script.specs.Steps.{Step, answers, line, fails_by, succeeds, is_unsupported, refused_term, fault_error, list_text}
 use Rattle.sb_script.specs.Options.{is_logic, truth_in, with_truth, set_print_success, set_produce_models, set_produce_assumptions, set_global_declarations, settings, set_by, option_texts, get_option, info_texts, reason_unknown, get_info}
 use Rattle.sb_script.specs.Reading.{read}
-use Rattle.sb_script.specs.Replies.{sort_of_form, declare_constant, declare_function, assert, with_values, value_text, Item, item_of, some_malformed, first_unknown, all_constants, values_of, get_value, step, step_of}
+use Rattle.sb_script.specs.Replies.{sort_of_form, declare_constant, declare_function, assert, level_limit, push, pop, with_values, value_text, Item, item_of, some_malformed, first_unknown, all_constants, values_of, get_value, step, step_of}
 use Rattle.sb_reached.specs.SimpleStates.{is_simple, is_simple_named, is_simple_naming, is_simple_level, is_simple_state, is_simple_behind}
 use Rattle.sb_reached.proofs.SimpleTerms.{if_some, found_passes, truth_read}
 use Rattle.sb_reached.proofs.ReachedCommands.{is_reached, command_reached}
@@ -262,6 +262,33 @@ term_asserted form s h = step (read (names_of s) form) refl
     step (Ok t) e = of_truth t e (is_same_sort boolean (sort_of t)) refl
     step (Err fault) e = term_refused fault s h
 
+-- Levels that are opened and left.
+
+all_repeated : {A : Type 0} (p : A → Bool) (n : ℕ) (x : A) → p x ≡ true → list_all p (replicate n x) ≡ true
+all_repeated p zero x h = refl
+all_repeated p (suc n) x h = and_from (p x) (list_all p (replicate n x)) h (all_repeated p n x h)
+
+all_dropped : {A : Type 0} (p : A → Bool) (n : ℕ) (xs : List A) → list_all p xs ≡ true
+    → list_all p (drop n xs) ≡ true
+all_dropped p zero xs h = h
+all_dropped p (suc n) [] h = refl
+all_dropped p (suc n) (x ∷ xs) h = all_dropped p n xs (and_parts (p x) (list_all p xs) h).1
+
+levels_pushed : (n : ℕ) (s : State) → is_simple_state s ≡ true → is_simple_behind (push n s) ≡ true
+levels_pushed n s h =
+    let parts = state_parts s h in
+    by_either (nat_le (n + length s.above) level_limit) (succeeds (pushed n s)) (fails_by error.numeral_too_large s)
+    (and_from (is_simple_level s.first) (list_all is_simple_level (replicate n empty_level ++ s.above)) parts.0
+    (all_of_both is_simple_level (replicate n empty_level) s.above
+    (all_repeated is_simple_level n empty_level refl) parts.1)) h
+
+levels_popped : (n : ℕ) (s : State) → is_simple_state s ≡ true → is_simple_behind (pop n s) ≡ true
+levels_popped n s h =
+    let parts = state_parts s h in
+    by_either (nat_le n (length s.above)) _ (fails_by error.no_such_level s)
+    (and_from (is_simple_level s.first) (list_all is_simple_level (drop n s.above)) parts.0
+    (all_dropped is_simple_level n s.above parts.1)) h
+
 -- Values.
 
 with_values_simple : (s : State) (answer : Valuation → Step) → is_simple_state s ≡ true
@@ -312,10 +339,14 @@ command_simple (command.get_info key) s r h = info_got key s h
 command_simple (command.declare_constant name sort) s r h = constant_declared name sort s h
 command_simple (command.declare_function name) s r h = function_declared name s h
 command_simple (command.assert form) s r h = term_asserted form s h
+command_simple (command.push n) s r h = levels_pushed n s h
+command_simple (command.pop n) s r h = levels_popped n s h
 command_simple command.check_sat s r h = refl
 command_simple command.get_model s r h = with_values_simple s _ h (λ v. h)
 command_simple (command.get_value forms) s r h = values_got forms s h
 command_simple (command.echo bytes) s r h = h
+command_simple command.reset_assertions s r h = refl
+command_simple command.reset s r h = refl
 command_simple command.exit s r h = refl
 command_simple command.another s r h = h
 command_simple _ s r h = absurd (false≢true r)

@@ -28,7 +28,8 @@ abbrev pub brought_commands : List Name
 brought_commands =
     codes "assert" ∷ codes "check-sat" ∷ codes "declare-const" ∷ codes "declare-fun" ∷ codes "define-fun"
     ∷ codes "echo" ∷ codes "exit" ∷ codes "get-info" ∷ codes "get-model" ∷ codes "get-option" ∷ codes "get-value"
-    ∷ codes "set-info" ∷ codes "set-logic" ∷ codes "set-option" ∷ []
+    ∷ codes "pop" ∷ codes "push" ∷ codes "reset" ∷ codes "reset-assertions" ∷ codes "set-info" ∷ codes "set-logic"
+    ∷ codes "set-option" ∷ []
 
 abbrev pub brought_options : List Name
 brought_options =

@@ -27,8 +27,11 @@ a_name_of_levels : shaped_by shapes (codes "pop") (x ∷ []) ≡ None
 a_name_of_levels = refl
 
 -- before they are answered, such commands are left out whatever their shape is
-not_answered_yet : shaped (codes "push") (one ∷ one ∷ []) ≡ Some another
+not_answered_yet : shaped (codes "get-unsat-assumptions") (one ∷ one ∷ []) ≡ Some another
 not_answered_yet = refl
+
+answered_by_shape : shaped (codes "push") (one ∷ one ∷ []) ≡ None
+answered_by_shape = refl
 
 left_out_for_good : shaped_by shapes (codes "declare-sort") (one ∷ []) ≡ Some another
 left_out_for_good = refl

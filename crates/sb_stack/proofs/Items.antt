@@ -7,7 +7,9 @@ use Rattle.sb_script.specs.Scopes.{Naming, a_constant, a_definition, a_marked_na
 use Rattle.sb_script.specs.Replies.{all_constants}
 use Rattle.sb_sorts.specs.declared.scope.Named.{Named}
 use Rattle.sb_sorts.specs.declared.scope.Named.TheVariants as named
-use Rattle.sb_sorts.specs.Scopes.{naming_in}
+use Rattle.sb_term.specs.declared.term.Serial.{Serial}
+use Rattle.sb_sorts.specs.Scopes.{naming_in, serials_in}
+use Rattle.sb_stack.proofs.Live.{serials_append}
 use Rattle.sb_stack.specs.declared.value.Constant as value
 use Rattle.sb_stack.specs.declared.value.Item.{Item}
 use Rattle.sb_stack.specs.declared.value.Item.TheVariants as code
@@ -68,3 +70,26 @@ pub mark_step : (ns : List (Name × Named)) (i : ℕ) (name : Name) (k : Named) 
 mark_step ns i name (named.Constant serial) old is other before = absurd (other serial refl)
 mark_step ns i name named.Marked old is other before =
     before ∙ sym (append-nil _) ∙ sym (names_step ns i (name, named.Marked) is)
+
+-- the serials of one more name
+serials_step : (ns : List (Name × Named)) (i : ℕ) (n : Name × Named) → Some n ≡ slice_get ns i
+    → serials_in (take (i + 1) ns) ≡ serials_in (take i ns) ++ serials_in (n ∷ [])
+serials_step ns i n is =
+    let within : i < length ns = slice_get_within ns i n (sym is) in
+    let one : take (i + 1) ns ≡ take i ns ++ n ∷ [] =
+    take_more ns i n within ∙ ap (λ x. take i ns ++ x ∷ []) (get_or_from_slice_get ns i n n (sym is)) in
+    ap serials_in one ∙ serials_append (take i ns) (n ∷ [])
+
+pub serial_step : (ns : List (Name × Named)) (i : ℕ) (name : Name) (serial : Serial) (k : Named) (old new : List Serial)
+    → Some (name, k) ≡ slice_get ns i → k ≡ named.Constant serial → new ≡ old ++ serial ∷ []
+    → map (λ s. s.0) old ≡ serials_in (take i ns) → map (λ s. s.0) new ≡ serials_in (take (i + 1) ns)
+serial_step ns i name serial k old new is here pushed before =
+    ap (map (λ s. s.0)) pushed ∙ map-append (λ s. s.0) old (serial ∷ []) ∙ ap (λ xs. xs ++ serial.0 ∷ []) before
+    ∙ ap (λ j. serials_in (take i ns) ++ serials_in ((name, j) ∷ [])) (sym here) ∙ sym (serials_step ns i (name, k) is)
+
+pub no_serial_step : (ns : List (Name × Named)) (i : ℕ) (name : Name) (k : Named) (old : List ℕ)
+    → Some (name, k) ≡ slice_get ns i → ((serial : _) → k ≡ named.Constant serial → ⊥)
+    → old ≡ serials_in (take i ns) → old ≡ serials_in (take (i + 1) ns)
+no_serial_step ns i name (named.Constant serial) old is other before = absurd (other serial refl)
+no_serial_step ns i name named.Marked old is other before =
+    before ∙ sym (append-nil _) ∙ sym (serials_step ns i (name, named.Marked) is)

@@ -8,3 +8,4 @@ pub mod Shapes
 pub mod Items
 pub mod Printing
 pub mod Changes
+pub mod CallerLemmas

@@ -1,9 +1,11 @@
 -- The shapes of commands, by their forms.
-use Rattle.std.proofs.Common.{◌≡◌, ℕ, ◌+◌, Bool, true, false, not, ◌&&◌, if◌then◌else◌, List, [], ◌∷◌, length, Option, Some, None, is_some, option_map, option_copied, Bor, refl, ap, sym, ◌∙◌, arith}
+use Rattle.std.proofs.Common.{◌≡◌, ℕ, ◌+◌, Bool, true, false, not, ◌&&◌, if◌then◌else◌, List, [], ◌∷◌, length, codes, Option, Some, None, is_some, option_map, option_copied, Bor, refl, ap, sym, ◌∙◌, arith}
 use Rattle.std.specs.List.{list_all}
 use Rattle.sb_reader.specs.Forms.{Form, Forms, Symbol, QuotedSymbol, Keyword, Numeral, OtherNumber, Words, Group, none, more, is_none, only_of, pair_of}
 use Rattle.sb_script.specs.Commands as meaning
-use Rattle.sb_stack.specs.Commands.{keyword_in}
+use Rattle.std.proofs.lemmas.Bool.{false≢true}
+use Rattle.sb_script.specs.Texts.{number_of}
+use Rattle.sb_stack.specs.Commands.{keyword_in, numeral_in, levels_in}
 
 -- what is made of the one form that is there, and of the two
 abbrev pub of_only : (Form → Option meaning.Command) → Option Form → Option meaning.Command
@@ -280,3 +282,41 @@ pub echo_of_only : (forms : Forms) → meaning.echo_shape (meaning.list_of forms
 echo_of_only none = refl
 echo_of_only (more f none) = refl
 echo_of_only (more f (more g fs)) = two_echoes f g (meaning.list_of fs)
+
+-- a number of levels
+one_of_levels : (make : ℕ → meaning.Command) (f : Form)
+    → meaning.levels_shape make (f ∷ []) ≡ option_map (λ digits. make (number_of digits)) (numeral_in f)
+one_of_levels make (Symbol x) = refl
+one_of_levels make (QuotedSymbol x) = refl
+one_of_levels make (Keyword x) = refl
+one_of_levels make (Numeral x) = refl
+one_of_levels make (OtherNumber x) = refl
+one_of_levels make (Words x) = refl
+one_of_levels make (Group x) = refl
+
+two_of_levels : (make : ℕ → meaning.Command) (f g : Form) (fs : List Form) → meaning.levels_shape make (f ∷ g ∷ fs) ≡ None
+two_of_levels make (Symbol x) g fs = refl
+two_of_levels make (QuotedSymbol x) g fs = refl
+two_of_levels make (Keyword x) g fs = refl
+two_of_levels make (Numeral x) g fs = refl
+two_of_levels make (OtherNumber x) g fs = refl
+two_of_levels make (Words x) g fs = refl
+two_of_levels make (Group x) g fs = refl
+
+pub levels_of_forms : (make : ℕ → meaning.Command) (forms : Forms)
+    → meaning.levels_shape make (meaning.list_of forms)
+    ≡ option_map (λ digits. make (number_of digits)) (levels_in forms)
+levels_of_forms make none = refl
+levels_of_forms make (more f none) = one_of_levels make f
+levels_of_forms make (more f (more g fs)) = two_of_levels make f g (meaning.list_of fs)
+
+-- the digits where one form stands, or none
+pub levels_of_only : (forms : Forms) → is_none forms ≡ false
+    → levels_in forms ≡ elim (only_of forms) [ Some f ↦ numeral_in f | None ↦ None ]
+levels_of_only none h = absurd (false≢true (sym h))
+levels_of_only (more f none) h = refl
+levels_of_only (more f (more g fs)) h = refl
+
+pub levels_of_none : (forms : Forms) → is_none forms ≡ true → levels_in forms ≡ Some (codes "1")
+levels_of_none none h = refl
+levels_of_none (more f fs) h = absurd (false≢true h)

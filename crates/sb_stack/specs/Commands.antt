@@ -1,8 +1,8 @@
 -- Private: the commands of the code, and the forms of a list, as the definitions have them.
-use Rattle.std.specs.Prelude.{Bool, false, List, Option, Some, None}
+use Rattle.std.specs.Prelude.{ℕ, Bool, false, List, Option, Some, None, codes}
 use Rattle.std.specs.List.{list_all}
 use Rattle.sb_reader.specs.declared.sexpr.Shapes.{Shapes}
-use Rattle.sb_reader.specs.Forms.{Form, Keyword, Group, shape_of, shapes_in}
+use Rattle.sb_reader.specs.Forms.{Form, Forms, Keyword, Numeral, Group, none, more, shape_of, shapes_in}
 use Rattle.sb_stack.specs.declared.command.Command.{Command}
 use Rattle.sb_stack.specs.declared.command.Command.TheVariants as code
 use Rattle.sb_script.specs.Names.{Name}
@@ -16,6 +16,17 @@ forms_in forms = meaning.list_of (shapes_in forms)
 abbrev pub keyword_in : Form → Option Name
 keyword_in (Keyword key) = Some key
 keyword_in _ = None
+
+-- the digits of the numeral that a form is
+abbrev pub numeral_in : Form → Option (List ℕ)
+numeral_in (Numeral digits) = Some digits
+numeral_in _ = None
+
+-- the digits of a number of levels, one level where no number stands
+abbrev pub levels_in : Forms → Option (List ℕ)
+levels_in none = Some (codes "1")
+levels_in (more form none) = numeral_in form
+levels_in (more form (more next forms)) = None
 
 -- a list of parameters
 abbrev pub is_parameter_list : Form → Bool

@@ -34,6 +34,10 @@ pub record Stacked : Type 0 where
 abbrev pub values_at : List ℕ → List (List ℕ) → Valuation
 values_at serials words = map (λ n. (n, Text (get_or words n []))) serials
 
+-- the serials of the live constants, in the order of declaration
+abbrev pub live_serials : Stacked → List ℕ
+live_serials kept = serials_in kept.scope.names
+
 abbrev pub are_words : List (List ℕ) → Bool
 are_words [] = true
 are_words (w ∷ ws) = are_characters w && are_words ws
@@ -87,7 +91,7 @@ state_of kept = record {
   begun = kept.begun;
   options = options_of kept.print_success kept.produce_models kept.produce_unsat_assumptions;
   sorts = texts kept.scope.declared;
-  mode = mode_in (serials_in kept.scope.names) kept.words kept.mode;
+  mode = mode_in (live_serials kept) kept.words kept.mode;
   first = first_level kept.levels (names_in kept.scope) (map (assertion_in kept.table) kept.assertions);
   above = levels_above kept.levels (names_in kept.scope) (map (assertion_in kept.table) kept.assertions);
 }

@@ -4,7 +4,7 @@ ghost use Rattle.std.specs.Prelude.{◌≡◌, [], ◌∷◌, option_map, option
 ghost use Rattle.std.specs.List.{list_all};
 ghost use Rattle.sb_reader.specs.Forms.{Form, Group, form_of, shape_of, shapes_in};
 ghost use Rattle.sb_script.specs.Commands as meaning;
-ghost use Rattle.sb_stack.specs.Commands.{command_in, forms_in, keyword_in, is_parameter_list};
+ghost use Rattle.sb_stack.specs.Commands.{command_in, forms_in, keyword_in, numeral_in, levels_in, is_parameter_list};
 
 use sb_reader::{Sexpr, Shape, Shapes};
 use sb_sorts::is_reserved;
@@ -77,6 +77,10 @@ fn shaped<'a>(name: &[u8], arguments: Shapes<'a>) -> Option<Command<'a>>
         function_shape(arguments)
     } else if name == b"define-fun".as_slice() {
         definition_shape(arguments)
+    } else if name == b"push".as_slice() {
+        push_shape(arguments)
+    } else if name == b"pop".as_slice() {
+        pop_shape(arguments)
     } else if name == b"check-sat".as_slice() {
         bare(Command::CheckSat, arguments)
     } else if name == b"get-model".as_slice() {
@@ -95,6 +99,10 @@ fn shaped<'a>(name: &[u8], arguments: Shapes<'a>) -> Option<Command<'a>>
         asked_info_shape(arguments)
     } else if name == b"echo".as_slice() {
         echo_shape(arguments)
+    } else if name == b"reset-assertions".as_slice() {
+        bare(Command::ResetAssertions, arguments)
+    } else if name == b"reset".as_slice() {
+        bare(Command::Reset, arguments)
     } else if name == b"exit".as_slice() {
         bare(Command::Exit, arguments)
     } else {
@@ -394,6 +402,41 @@ fn assert_shape(arguments: Shapes<'_>) -> Option<Command<'_>>
     match arguments.only() {
         Some(term) => Some(Command::Assert(term)),
         None => None,
+    }
+}
+
+fn push_shape(arguments: Shapes<'_>) -> Option<Command<'_>>
+    ensures { option_map command_in result ≡ meaning.levels_shape meaning.push (forms_in arguments.entry) }
+{
+    Some(Command::Push(levels_in(arguments)?))
+}
+
+fn pop_shape(arguments: Shapes<'_>) -> Option<Command<'_>>
+    ensures { option_map command_in result ≡ meaning.levels_shape meaning.pop (forms_in arguments.entry) }
+{
+    Some(Command::Pop(levels_in(arguments)?))
+}
+
+/// The digits of a number of levels: one level where no number stands.
+fn levels_in(arguments: Shapes<'_>) -> Option<&[u8]>
+    ensures { option_copied result ≡ levels_in (shapes_in arguments.entry) }
+{
+    if arguments.is_empty() {
+        return Some(b"1");
+    }
+    match arguments.only() {
+        Some(form) => numeral_in(form),
+        None => None,
+    }
+}
+
+/// The digits of the numeral that a form is.
+fn numeral_in(form: Shape<'_>) -> Option<&[u8]>
+    ensures { option_copied result ≡ numeral_in (shape_of form.entry) }
+{
+    match form {
+        Shape::Numeral(digits) => Some(digits),
+        _ => None,
     }
 }
 

@@ -15,13 +15,13 @@ ghost use Rattle.sb_script.specs.Options as options;
 ghost use Rattle.sb_script.specs.Replies.{step_of};
 ghost use Rattle.sb_script.specs.Verdicts.{verdict_text, settled};
 ghost use Rattle.sb_sorts.specs.Reads.{ReadsAs, Faults};
-ghost use Rattle.sb_sorts.specs.Scopes.{names_in, serials_in, ascend_below};
+ghost use Rattle.sb_sorts.specs.Scopes.{names_in, ascend_below};
 ghost use Rattle.sb_term.specs.Numbered.{term_at, Extends};
 ghost use Rattle.sb_term.specs.Serials.{all_below};
 ghost use Rattle.sb_stack.specs.Commands.{command_in};
 ghost use Rattle.sb_stack.specs.Keeping.{Keeps, KeepsBy, StandsFor};
 ghost use Rattle.sb_stack.specs.Speaking.{speaks_of};
-ghost use Rattle.sb_stack.specs.Stacked.{state_of, assertion_of, assertion_in, values_at, are_words, have_levels, HasNumberBelow, without_words};
+ghost use Rattle.sb_stack.specs.Stacked.{state_of, assertion_of, assertion_in, values_at, live_serials, are_words, have_levels, HasNumberBelow, without_words};
 ghost use Rattle.sb_stack.specs.Steps.{verdict_in, found, IsStep, IsMoved, IsEntry, entry_of};
 ghost use Rattle.sb_stack.specs.Taking.{IsAnswered, with_print_success, with_produce_models, with_produce_assumptions, declares, asserts};
 
@@ -31,11 +31,12 @@ use crate::option::{is_logic, sort_of, truth_in};
 use crate::reply::{
     error_line, error_line_with_name, quoted_line, refusal_text, success_line, unsupported_line,
 };
+use crate::value::serials;
 use crate::verdict::Verdict;
 use sb_reader::{Next, Sexpr, Shape};
 use sb_script::laws::reading_keeps;
 use sb_sorts::{DeclareError, ReadFault, Scope, read_term};
-use sb_term::{Assertion, Sort, Table, TermId};
+use sb_term::{Assertion, Serial, Sort, Table, TermId};
 use sb_word::Word;
 use std::alloc::{AllocError, Global};
 use std::marker::Model;
@@ -502,7 +503,7 @@ impl Stack {
         ensures numbers { All (HasNumberBelow (length self.now.table)) self.now.assertions }
         ensures declared { all_below self.now.scope.declared self.now.table ≡ true }
         ensures levels { have_levels self.now.levels self.now.assertions ≡ true }
-        ensures named { list_all (speaks_of (serials_in self.now.scope.names)) (live_terms (state_of self.now)) ≡ true }
+        ensures named { list_all (speaks_of (live_serials self.now)) (live_terms (state_of self.now)) ≡ true }
     {
         self.assertions.as_slice()
     }
@@ -515,14 +516,21 @@ impl Stack {
         &self.scope
     }
 
+    /// The serials of the live constants, ascending. Linear in the live names. `AllocError` only for want of memory.
+    pub fn constants(&self) -> Result<Vec<Serial>, AllocError>
+        ensures { IfOk result (λ found. map (λ serial. serial.0) found.items ≡ live_serials self.now) }
+    {
+        serials(self.alloc, &self.scope)
+    }
+
     /// How many constants were declared, those too that went with their levels: all serials are below. The serials of
     /// the live constants ascend, and words, the one of each at its serial, fit the state. Takes no memory.
     pub fn declared(&self) -> usize
         ensures value { result ≡ self.now.scope.declared }
-        ensures serials { ascend_below 0 result (serials_in self.now.scope.names) ≡ true }
+        ensures serials { ascend_below 0 result (live_serials self.now) ≡ true }
         ensures constants { constants_of (state_of self.now) ≡ constants_in (names_in self.now.scope) }
         ensures fit { (words : List (List ℕ)) → are_words words ≡ true
-            → fits (constants_of (state_of self.now)) (values_at (serials_in self.now.scope.names) words) ≡ true }
+            → fits (constants_of (state_of self.now)) (values_at (live_serials self.now) words) ≡ true }
     {
         self.scope.declared()
     }
@@ -541,9 +549,9 @@ impl Stack {
     /// Answers a check by what it found, and keeps it for the questions after it. The words of an earlier `Sat` stay
     /// where this verdict has none. Takes no memory.
     pub fn settle(&mut self, verdict: Verdict) -> &'static [u8]
-        ensures reply { result.now ≡ verdict_text (verdict_in (serials_in self.old.scope.names) verdict) }
+        ensures reply { result.now ≡ verdict_text (verdict_in (live_serials self.old) verdict) }
         ensures state { state_of self.new
-            ≡ settled (verdict_in (serials_in self.old.scope.names) verdict) (state_of self.old) }
+            ≡ settled (verdict_in (live_serials self.old) verdict) (state_of self.old) }
         ensures kept { self.new ≡ found verdict self.old }
     {
         match verdict {

@@ -6,7 +6,7 @@ ghost use Rattle.sb_word.specs.Literals.{literal_text};
 ghost use Rattle.sb_script.specs.Scopes.{constants_in};
 ghost use Rattle.sb_script.specs.Replies as meaning;
 ghost use Rattle.sb_script.specs.Steps.{line, list_text};
-ghost use Rattle.sb_sorts.specs.Scopes.{names_in};
+ghost use Rattle.sb_sorts.specs.Scopes.{names_in, serials_in};
 ghost use Rattle.sb_stack.specs.Commands.{forms_in};
 ghost use Rattle.sb_stack.specs.Values.{constant_in, asked_in, item_in, with_names, gap_at, value_literal, definition_by, value_by};
 
@@ -47,6 +47,22 @@ pub(crate) fn constants(alloc: Global, scope: &Scope) -> Result<Vec<Constant<'_>
         };
         if let Named::Constant(serial) = named {
             found.push(Constant { name, serial })?;
+        }
+    }
+    Ok(found)
+}
+
+/// The serials of the constants of a scope, in the order of declaration. Linear in the names.
+pub(crate) fn serials(alloc: Global, scope: &Scope) -> Result<Vec<Serial>, AllocError>
+    ensures { IfOk result (λ found. map (λ serial. serial.0) found.items ≡ serials_in scope.now.names) }
+{
+    let mut found = Vec::new(alloc);
+    for place in 0..scope.len() {
+        let Some((_, named)) = scope.at(place) else {
+            unreachable!();
+        };
+        if let Named::Constant(serial) = named {
+            found.push(serial)?;
         }
     }
     Ok(found)

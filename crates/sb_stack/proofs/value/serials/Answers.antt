@@ -1,0 +1,18 @@
+use Rattle.std.proofs.Common.{map, ap, ◌∙◌}
+use Rattle.sb_stack.proofs.Items.{serial_step, no_serial_step}
+use Rattle.sb_stack.proofs.value.serials.Goals as goal
+use Rattle.sb_stack.proofs.value.serials.Goals.{in-Constant+in_ok-push, in_default-named}
+
+pub loop-place-preserved : goal.loop-place-preserved
+loop-place-preserved c =
+    let names = c.args.scope.now.names in
+    let place = c.loop-place.place in
+    elim c.match-named.branch [
+      | in-Constant+in_ok-push w ↦ ap (λ found. map (λ s. s.0) found.items) w.found-is
+          ∙ serial_step names place _ w.in-Constant.serial c.in-Some.named
+          c.loop-place.found.items _ c.in-Some.ensures w.in-Constant.is w.in_ok-push.ensures.items
+          c.loop-place.invariant
+      | in_default-named w ↦ ap (λ found. map (λ s. s.0) found.items) w.found-is
+          ∙ no_serial_step names place _ c.in-Some.named (map (λ s. s.0) c.loop-place.found.items)
+          c.in-Some.ensures w.in_default-named.not-Constant c.loop-place.invariant
+    ]
