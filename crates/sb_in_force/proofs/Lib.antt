@@ -1,2 +1,0 @@
-mod ClosedTerms
-mod ClosedSteps

@@ -1,2 +1,0 @@
-pub mod ClosedStates
-pub mod ClosedExamples
