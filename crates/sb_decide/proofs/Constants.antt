@@ -79,19 +79,6 @@ conjoined_set_other (x ∷ cs) zero (suc n) c h = refl
 conjoined_set_other (x ∷ cs) (suc i) zero c h = refl
 conjoined_set_other (x ∷ cs) (suc i) (suc n) c h = conjoined_set_other cs i n c (λ e. h (ap suc e))
 
-pub word_set : (words : List (List ℕ)) (i : ℕ) (w : List ℕ) → i < length words → word_at (set words i w) i ≡ w
-word_set [] i w l = absurd (omega arith)
-word_set (x ∷ words) zero w l = refl
-word_set (x ∷ words) (suc i) w l = word_set words i w (omega (arith, l))
-
-pub word_set_other : (words : List (List ℕ)) (i n : ℕ) (w : List ℕ) → n ≢ i
-    → word_at (set words i w) n ≡ word_at words n
-word_set_other [] i n w h = refl
-word_set_other (x ∷ words) zero zero w h = absurd (h refl)
-word_set_other (x ∷ words) zero (suc n) w h = refl
-word_set_other (x ∷ words) (suc i) zero w h = refl
-word_set_other (x ∷ words) (suc i) (suc n) w h = word_set_other words i n w (λ e. h (ap suc e))
-
 pub words_set : (words : List (List ℕ)) (i : ℕ) (w : List ℕ) → are_words words ≡ true → are_characters w ≡ true
     → are_words (set words i w) ≡ true
 words_set [] i w h c = refl

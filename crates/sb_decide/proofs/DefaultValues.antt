@@ -1,6 +1,6 @@
 -- A constant that occurs in no assertion has the empty word.
-use Rattle.std.proofs.Common.{◌≡◌, ℕ, ◌+◌, ◌≤◌, Bool, true, false, ◌&&◌, ◌||◌, ◌==◌, List, [], ◌∷◌, length, refl, ap, ◌∙◌, arith}
-use Rattle.std.proofs.lemmas.Bool.{and_parts, and_from, or_parts, false≢true}
+use Rattle.std.proofs.Common.{◌≡◌, ℕ, ◌≤◌, Bool, true, false, ◌&&◌, ◌||◌, ◌==◌, if◌then◌else◌, List, [], ◌∷◌, length, refl, ap, ◌∙◌, arith}
+use Rattle.std.proofs.lemmas.Bool.{and_parts, and_from, or_parts, false≢true, eqb-true}
 use Rattle.std.specs.List.{list_any}
 use Rattle.sb_lang.specs.Languages.{Language}
 use Rattle.sb_lang.specs.Least.{IsShortestLeast}
@@ -10,9 +10,8 @@ use Rattle.sb_meaning.specs.Truth.{all_hold}
 use Rattle.sb_script.specs.Scopes.{Constant}
 use Rattle.sb_script.specs.State.{fits}
 use Rattle.sb_script.specs.Models.{occurs, is_default, is_default_or_occurs, are_defaults, is_of, is_about, about, words_for}
-use Rattle.sb_stack.specs.Stacked.{values_from}
+use Rattle.sb_stack.specs.Stacked.{values_at}
 use Rattle.sb_decide.specs.Deciding.{word_at}
-use Rattle.sb_decide.proofs.OneMembership.{value_at}
 
 not_of : (n : ℕ) (t : Term) → occurs n t ≡ false → is_of n t ≡ false
 not_of n (apply str_in_re (with_term (constant other sort) (with_term R no_terms))) h = (or_parts (n == other) _ h).0
@@ -35,20 +34,29 @@ empty_least : (language : Language) (w : List ℕ) → ((v : List ℕ) → langu
 empty_least language [] all l = refl
 empty_least language (c ∷ w) all l = let h : length (c ∷ w) ≤ 0 = l.shortest [] refl (all []) in absurd (omega arith)
 
-default_or : (b : Bool) (w : List ℕ) → (b ≡ false → w ≡ []) → (b || is_default (Text w)) ≡ true
-default_or true w h = refl
-default_or false w h = ap (λ (v : List ℕ). is_default (Text v)) (h refl)
+default_or : (b : Bool) (value : Value) → (b ≡ false → value ≡ Text []) → (b || is_default value) ≡ true
+default_or true value h = refl
+default_or false value h = ap is_default (h refl)
 
-one_default : (ts : List Term) (words : List (List ℕ)) (c : Constant)
+value_empty : (serials : List ℕ) (words : List (List ℕ)) (n : ℕ) → word_at words n ≡ []
+    → value_in (values_at serials words) n text ≡ Text []
+value_empty [] words n h = refl
+value_empty (m ∷ serials) words n h = by_test (m == n) refl (value_empty serials words n h)
+  where
+    by_test : (b : Bool) → (m == n) ≡ b → value_in (values_at serials words) n text ≡ Text []
+        → (if b then Text (word_at words m) else value_in (values_at serials words) n text) ≡ Text []
+    by_test true k later = ap (λ i. Text (word_at words i)) (eqb-true m n k) ∙ ap Text h
+    by_test false k later = later
+
+one_default : (ts : List Term) (serials : List ℕ) (words : List (List ℕ)) (c : Constant)
     → ((n : ℕ) → IsShortestLeast (words_for n ts) (word_at words n)) → c.sort ≡ text
-    → is_default_or_occurs ts (values_from 0 words) c ≡ true
-one_default ts words c least kind =
+    → is_default_or_occurs ts (values_at serials words) c ≡ true
+one_default ts serials words c least kind =
     let stands = list_any (occurs c.serial) ts in
-    ap (λ (sort : Sort). stands || is_default (value_in (values_from 0 words) c.serial sort)) kind
-    ∙ (ap (λ (value : Value). stands || is_default value) (value_at words c.serial)
-    ∙ default_or stands (word_at words c.serial)
-    (λ none. empty_least (words_for c.serial ts) (word_at words c.serial) (words_all c.serial ts none)
-    (least c.serial)))
+    ap (λ (sort : Sort). stands || is_default (value_in (values_at serials words) c.serial sort)) kind
+    ∙ default_or stands (value_in (values_at serials words) c.serial text)
+    (λ none. value_empty serials words c.serial
+    (empty_least (words_for c.serial ts) (word_at words c.serial) (words_all c.serial ts none) (least c.serial)))
 
 is_text : (sort : Sort) (w : List ℕ) → has_sort sort (Text w) ≡ true → sort ≡ text
 is_text text w h = refl
@@ -56,14 +64,17 @@ is_text boolean w h = absurd (false≢true h)
 is_text integer w h = absurd (false≢true h)
 is_text reglan w h = absurd (false≢true h)
 
-pub default_values : (cs : List Constant) (ts : List Term) (words : List (List ℕ)) (k : ℕ) (rest : List (List ℕ))
-    → ((n : ℕ) → IsShortestLeast (words_for n ts) (word_at words n)) → fits cs (values_from k rest) ≡ true
-    → are_defaults cs ts (values_from 0 words) ≡ true
-default_values [] ts words k rest least h = refl
-default_values (c ∷ cs) ts words k [] least h = absurd (false≢true h)
-default_values (c ∷ cs) ts words k (w ∷ rest) least h =
-    let parts = and_parts ((c.serial == k) && has_sort c.sort (Text w)) (fits cs (values_from (k + 1) rest)) h in
-    and_from (is_default_or_occurs ts (values_from 0 words) c) (are_defaults cs ts (values_from 0 words))
-    (one_default ts words c least
-    (is_text c.sort w (and_parts (c.serial == k) (has_sort c.sort (Text w)) parts.0).1))
-    (default_values cs ts words (k + 1) rest least parts.1)
+-- values that fit, of the constants of some of these serials
+pub default_values : (cs : List Constant) (ts : List Term) (serials some : List ℕ) (words : List (List ℕ))
+    → ((n : ℕ) → IsShortestLeast (words_for n ts) (word_at words n)) → fits cs (values_at some words) ≡ true
+    → are_defaults cs ts (values_at serials words) ≡ true
+default_values [] ts serials some words least h = refl
+default_values (c ∷ cs) ts serials [] words least h = absurd (false≢true h)
+default_values (c ∷ cs) ts serials (n ∷ some) words least h =
+    let here : Bool = (c.serial == n) && has_sort c.sort (Text (word_at words n)) in
+    let parts = and_parts here (fits cs (values_at some words)) h in
+    and_from (is_default_or_occurs ts (values_at serials words) c) (are_defaults cs ts (values_at serials words))
+    (one_default ts serials words c least
+    (is_text c.sort (word_at words n)
+    (and_parts (c.serial == n) (has_sort c.sort (Text (word_at words n))) parts.0).1))
+    (default_values cs ts serials some words least parts.1)

@@ -1,5 +1,5 @@
 -- One more membership.
-use Rattle.std.proofs.Common.{◌≡◌, ◌≢◌, ℕ, zero, suc, ◌+◌, ◌<◌, Bool, true, false, ◌&&◌, ◌==◌, if◌then◌else◌, List, [], ◌∷◌, ◌++◌, length, map, take, refl, sym, ap, ap₂, subst, ◌∙◌, arith}
+use Rattle.std.proofs.Common.{◌≡◌, ◌≢◌, ℕ, ◌<◌, Bool, true, false, ◌&&◌, ◌||◌, ◌==◌, if◌then◌else◌, List, [], ◌∷◌, ◌++◌, length, map, take, refl, sym, ap, ap₂, subst, ◌∙◌, arith}
 use Rattle.std.proofs.lemmas.Bool.{and_parts, and_from, false≢true, eq-eqb, eqb-true, eqb-false}
 use Rattle.std.proofs.Math.Bool.{and-true, and_assoc}
 use Rattle.std.proofs.lemmas.Bool.Decides.{nat_tests}
@@ -12,7 +12,7 @@ use Rattle.sb_lang.specs.Language.{language}
 use Rattle.sb_lang.specs.Normal.{normal}
 use Rattle.sb_lang.specs.NormalLaws.{NormalHasTermsWords}
 use Rattle.sb_regex.specs.Numbered.{regex_at, AllNumbers}
-use Rattle.sb_meaning.specs.Terms.{Term, text}
+use Rattle.sb_meaning.specs.Terms.{Term, text, constant}
 use Rattle.sb_meaning.specs.Values.{Valuation, Text, value_in}
 use Rattle.sb_meaning.specs.Truth.{means_reglan, meaning_of, holds, all_hold}
 use Rattle.sb_script.specs.State.{Assertion, asserted, terms_in}
@@ -23,7 +23,8 @@ use Rattle.std.specs.List.{list_all}
 use Rattle.sb_term.specs.declared.assertion.Assertion as code
 use Rattle.sb_fragment.specs.Rules.{is_decided}
 use Rattle.sb_problem.specs.Normals.{IsRegexOf}
-use Rattle.sb_stack.specs.Stacked.{values_from, assertion_in}
+use Rattle.sb_stack.specs.Speaking.{speaks_of}
+use Rattle.sb_stack.specs.Stacked.{values_at, assertion_in}
 use Rattle.sb_decide.specs.declared.conjuncts.Member.{Member}
 use Rattle.sb_decide.specs.Deciding.{IsSofar, in_each, membership_of, word_at}
 use Rattle.sb_decide.specs.Members.{AreMembers, ids_in}
@@ -35,15 +36,18 @@ pub membership_holds : (v : Valuation) (serial : ℕ) (R : Term) (reglan : RegLa
     → holds (membership_of serial R) v ≡ in_re reglan w
 membership_holds v serial R reglan w means value = rw (means, value) (and-true (in_re reglan w))
 
-pub value_from : (words : List (List ℕ)) (k j n : ℕ) → n ≡ k + j
-    → value_in (values_from k words) n text ≡ Text (word_at words j)
-value_from [] k j n e = refl
-value_from (w ∷ words) k zero n e = let same : (k == n) ≡ true = eq-eqb k n (omega arith) in rw same refl
-value_from (w ∷ words) k (suc j) n e = let other : (k == n) ≡ false = grind (arith, nat_tests) in
-    rw other (value_from words (k + 1) j n (omega arith))
-
-pub value_at : (words : List (List ℕ)) (n : ℕ) → value_in (values_from 0 words) n text ≡ Text (word_at words n)
-value_at words n = value_from words 0 n n (omega arith)
+-- the word at a serial is the value of its constant, where that one is among these
+pub value_at : (serials : List ℕ) (words : List (List ℕ)) (n : ℕ) → speaks_of serials (constant n text) ≡ true
+    → value_in (values_at serials words) n text ≡ Text (word_at words n)
+value_at [] words n h = absurd (false≢true h)
+value_at (m ∷ serials) words n h = by_test (m == n) refl h (value_at serials words n)
+  where
+    by_test : (b : Bool) → (m == n) ≡ b → (b || speaks_of serials (constant n text)) ≡ true
+        → (speaks_of serials (constant n text) ≡ true
+        → value_in (values_at serials words) n text ≡ Text (word_at words n))
+        → (if b then Text (word_at words m) else value_in (values_at serials words) n text) ≡ Text (word_at words n)
+    by_test true k among later = ap (λ i. Text (word_at words i)) (eqb-true m n k)
+    by_test false k among later = later among
 
 alone_value : (n : ℕ) (w : List ℕ) → value_in ((n, Text w) ∷ []) n text ≡ Text w
 alone_value n w = let same : (n == n) ≡ true = eq-eqb n n refl in rw same refl
@@ -129,41 +133,43 @@ first_known rs m ms low known n = by_test (n == m.serial.0)
     by_test false = known n
 
 first_apart : (rs : List Regex) (ts : List Term) (serial : ℕ) (R : Term) (id : ℕ) → IsRegexOf rs R id
-    → ((words : List (List ℕ)) (n : ℕ) → all_hold ts (values_from 0 words) ≡ true
-    → words_for n ts (word_at words n) ≡ true)
-    → (words : List (List ℕ)) (n : ℕ) → all_hold (membership_of serial R ∷ ts) (values_from 0 words) ≡ true
-    → words_for n (membership_of serial R ∷ ts) (word_at words n) ≡ true
-first_apart rs ts serial R id r apart words n h = words-append n (membership_of serial R ∷ []) ts (word_at words n)
-    ∙ and_from (words_for n (membership_of serial R ∷ []) (word_at words n)) (words_for n ts (word_at words n))
-    (by_test (n == serial) refl)
-    (apart words n (and_parts (holds (membership_of serial R) (values_from 0 words)) _ h).1)
+    → ((v : Valuation) (n : ℕ) (w : List ℕ) → value_in v n text ≡ Text w → all_hold ts v ≡ true
+    → words_for n ts w ≡ true)
+    → (v : Valuation) (n : ℕ) (w : List ℕ) → value_in v n text ≡ Text w
+    → all_hold (membership_of serial R ∷ ts) v ≡ true → words_for n (membership_of serial R ∷ ts) w ≡ true
+first_apart rs ts serial R id r apart v n w value h = words-append n (membership_of serial R ∷ []) ts w
+    ∙ and_from (words_for n (membership_of serial R ∷ []) w) (words_for n ts w) (by_test (n == serial) refl)
+    (apart v n w value (and_parts (holds (membership_of serial R) v) (all_hold ts v) h).1)
   where
-    first : in_re r.reglan (word_at words serial) ≡ true
-    first =
-        sym (membership_holds (values_from 0 words) serial R r.reglan (word_at words serial)
-        (r.means (values_from 0 words)) (value_at words serial))
-        ∙ (and_parts (holds (membership_of serial R) (values_from 0 words)) (all_hold ts (values_from 0 words)) h).0
-
-    by_test : (b : Bool) → (n == serial) ≡ b → words_for n (membership_of serial R ∷ []) (word_at words n) ≡ true
+    by_test : (b : Bool) → (n == serial) ≡ b → words_for n (membership_of serial R ∷ []) w ≡ true
     by_test true k =
         let e : n ≡ serial = eqb-true n serial k in
-        one_same n serial R r.reglan (word_at words n) r.means e
-        ∙ (ap (λ m. in_re r.reglan (word_at words m)) e ∙ first)
-    by_test false k = one_other n serial R (word_at words n) (eqb-false n serial k)
+        one_same n serial R r.reglan w r.means e
+        ∙ (sym (membership_holds v serial R r.reglan w (r.means v) (ap (λ m. value_in v m text) (sym e) ∙ value))
+        ∙ (and_parts (holds (membership_of serial R) v) (all_hold ts v) h).0)
+    by_test false k = one_other n serial R w (eqb-false n serial k)
 
 first_together : (rs : List Regex) (ts : List Term) (serial : ℕ) (R : Term) (id : ℕ) → IsRegexOf rs R id
-    → ((words : List (List ℕ)) → ((n : ℕ) → words_for n ts (word_at words n) ≡ true)
-    → all_hold ts (values_from 0 words) ≡ true)
-    → (words : List (List ℕ)) → ((n : ℕ) → words_for n (membership_of serial R ∷ ts) (word_at words n) ≡ true)
-    → all_hold (membership_of serial R ∷ ts) (values_from 0 words) ≡ true
-first_together rs ts serial R id r together words h =
-    and_from (holds (membership_of serial R) (values_from 0 words)) (all_hold ts (values_from 0 words))
-    (membership_holds (values_from 0 words) serial R r.reglan (word_at words serial) (r.means (values_from 0 words))
-    (value_at words serial)
+    → ((serials : List ℕ) (words : List (List ℕ)) → list_all (speaks_of serials) ts ≡ true
+    → ((n : ℕ) → words_for n ts (word_at words n) ≡ true) → all_hold ts (values_at serials words) ≡ true)
+    → (serials : List ℕ) (words : List (List ℕ))
+    → list_all (speaks_of serials) (membership_of serial R ∷ ts) ≡ true
+    → ((n : ℕ) → words_for n (membership_of serial R ∷ ts) (word_at words n) ≡ true)
+    → all_hold (membership_of serial R ∷ ts) (values_at serials words) ≡ true
+first_together rs ts serial R id r together serials words named h =
+    and_from (holds (membership_of serial R) (values_at serials words)) (all_hold ts (values_at serials words))
+    (membership_holds (values_at serials words) serial R r.reglan (word_at words serial)
+    (r.means (values_at serials words)) (value_at serials words serial among)
     ∙ (sym (one_same serial serial R r.reglan (word_at words serial) r.means refl)
     ∙ (and_parts _ _ (parts serial)).0))
-    (together words (λ n. (and_parts _ _ (parts n)).1))
+    (together serials words both.1 (λ n. (and_parts _ _ (parts n)).1))
   where
+    both : (speaks_of serials (membership_of serial R) ≡ true) × (list_all (speaks_of serials) ts ≡ true)
+    both = and_parts (speaks_of serials (membership_of serial R)) (list_all (speaks_of serials) ts) named
+
+    among : speaks_of serials (constant serial text) ≡ true
+    among = (and_parts (speaks_of serials (constant serial text)) (speaks_of serials R && true) both.0).0
+
     parts : (n : ℕ) → (words_for n (membership_of serial R ∷ []) (word_at words n) && words_for n ts (word_at words n))
         ≡ true
     parts n = sym (words-append n (membership_of serial R ∷ []) ts (word_at words n)) ∙ h n
@@ -186,8 +192,8 @@ sofar_of law rs ts [] xs h = record {
   decided = refl;
   known = λ n. All-nil (λ i. i < length rs);
   words = λ n w c. refl;
-  apart = λ words n h. refl;
-  together = λ words h. refl;
+  apart = λ v n w value h. refl;
+  together = λ serials words named h. refl;
 }
 sofar_of law rs ts (m ∷ ms) [] h = absurd h
 sofar_of law rs ts (m ∷ ms) (x ∷ xs) h =

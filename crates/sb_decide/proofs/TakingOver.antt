@@ -2,10 +2,10 @@
 use Rattle.std.proofs.Common.{◌≡◌, ◌≢◌, ℕ, zero, suc, ◌+◌, ◌<◌, ◌≤◌, Bool, true, false, ◌||◌, ◌==◌, List, [], ◌∷◌, ◌++◌, length, get_or, set, map, take, refl, sym, ap, ap₂, ◌∙◌, arith, Option, None, Some, IfSome, is_some, vec_len, subst}
 use Rattle.std.proofs.lemmas.Bool.{or_parts, false≢true, eqb-true, eqb-false}
 use Rattle.std.proofs.lemmas.Bool.Decides.{nat_tests}
-use Rattle.std.proofs.lemmas.List.{map-append, take_all, take_more, length-set, nil_from_length, with_items_is}
+use Rattle.std.proofs.lemmas.List.{map-append, take_all, take_more, length-set, get_or-set_same, get_or-set_other, nil_from_length, with_items_is}
 use Rattle.std.specs.Vec.{with_items}
 use Rattle.std.proofs.lemmas.List.Elements.{All-push}
-use Rattle.std.specs.List.{All}
+use Rattle.std.specs.List.{All, list_all}
 use Rattle.std.specs.declared.vec.Vec.{Vec}
 use Rattle.std.specs.declared.alloc.Global.{Global}
 use Rattle.sb_lang.specs.Least.{IsShortestLeast, HasNoWord}
@@ -20,9 +20,11 @@ use Rattle.sb_deriv.specs.Faithful.{KeepsEntries, entry_of}
 use Rattle.sb_graph.specs.Findings.{Findings, IsGraph}
 use Rattle.sb_problem.specs.Laws.{NormalsStay}
 use Rattle.sb_term.specs.declared.term.Serial.{Serial}
-use Rattle.sb_script.specs.State.{live, constants_of, fits}
+use Rattle.sb_script.specs.State.{live, live_terms, constants_of, fits}
 use Rattle.sb_script.specs.Verdicts.{IsVerdict, is_sat, is_unsat}
-use Rattle.sb_stack.specs.Stacked.{Stacked, state_of, assertion_in, are_words, values_from}
+use Rattle.sb_stack.specs.Speaking.{speaks_of}
+use Rattle.sb_stack.specs.Stacked.{Stacked, state_of, live_serials, assertion_in, are_words, values_at}
+use Rattle.sb_stack.proofs.CallerLemmas.{live_laid}
 use Rattle.sb_stack.specs.declared.stack.Mode.{Mode}
 use Rattle.sb_fragment.specs.Rules.{FragmentIsOfEach}
 use Rattle.sb_decide.specs.declared.conjuncts.Member.{Member}
@@ -34,7 +36,7 @@ use Rattle.sb_decide.specs.Knowing.{AreKept, Knows}
 use Rattle.sb_decide.specs.Members.{AreConjuncts, AreRooted, IsEmptyAt, IsRootOf, ids_in, places_in, words_in}
 use Rattle.sb_decide.specs.Taking.{HasAll, IsFoundOf, AreFound, IsTakingOver}
 use Rattle.sb_decide.proofs.Conjunctions.{same_least, same_no_word, in_root}
-use Rattle.sb_decide.proofs.Constants.{conjoined_within, conjoined_set, conjoined_set_other, word_set, word_set_other, words_set}
+use Rattle.sb_decide.proofs.Constants.{conjoined_within, conjoined_set, conjoined_set_other, words_set}
 use Rattle.sb_decide.proofs.Knowledge.{taken_searched, kept_grown}
 use Rattle.sb_decide.proofs.MemberFacts.{words_grown}
 use Rattle.sb_decide.proofs.OneMembership.{sofar_of}
@@ -136,10 +138,10 @@ goes_on rs ms old new new' words words' fs rest one c t is there grown given = r
         → IsShortestLeast (words_in rs ms n) (word_at (set words place one.word) n)
     least_at n h true k =
         let e : n ≡ place = eqb-true n place k in
-        rw e (rw (word_set words place one.word (omega (arith, this.0, t.long))) this.1)
+        rw e (rw (get_or-set_same words place one.word [] (omega (arith, this.0, t.long))) this.1)
     least_at n h false k =
         let e : n ≢ place = eqb-false n place k in
-        rw (word_set_other words place n one.word e)
+        rw (get_or-set_other words place n one.word [] e)
         (t.least n (sym (ap (λ (c : Conjoined). c.changed) (conjoined_set_other new place n settled_one e)) ∙ h))
 
 -- all is taken over
@@ -153,15 +155,16 @@ all_sofar : NormalHasTermsWords → (kept : Decider) (stack : Stacked) → Knows
 all_sofar law kept stack k all =
     subst (λ done. IsSofar kept.arena done (ids_in kept.members.items))
     (ap (map (assertion_in stack.table))
-    (take_all (length kept.members.items) stack.assertions (omega (arith, all.0))))
+    (take_all (length kept.members.items) stack.assertions (omega (arith, all.0))) ∙ sym (live_laid stack))
     (sofar_of law kept.arena stack.table kept.members.items stack.assertions k.taken.members)
 
-abbrev pub Fit : Stacked → ℕ → Type 0
-Fit stack count = (words : List (List ℕ)) → length words ≡ count → are_words words ≡ true
-    → fits (constants_of (state_of stack)) (values_from 0 words) ≡ true
+-- words fit the live constants
+abbrev pub Fit : Stacked → Type 0
+Fit stack = (words : List (List ℕ)) → are_words words ≡ true
+    → fits (constants_of (state_of stack)) (values_at (live_serials stack) words) ≡ true
 
 pub dead_given : FragmentIsOfEach → NormalHasTermsWords → (kept : Decider) (stack : Stacked) → Knows kept stack
-    → HasAll kept stack → is_some kept.dead ≡ true → Fit stack stack.scope.declared
+    → HasAll kept stack → is_some kept.dead ≡ true → Fit stack
     → IsVerdict (state_of stack) [] (is_unsat [])
 dead_given law words kept stack k all dead fit = by_cases kept.dead dead k.taken.dead
   where
@@ -170,8 +173,8 @@ dead_given law words kept stack k all dead fit = by_cases kept.dead dead k.taken
         → IsVerdict (state_of stack) [] (is_unsat [])
     by_cases None some h = absurd (false≢true some)
     by_cases (Some serial) some h =
-        unsat_given law kept.arena (state_of stack) stack.scope.declared (ids_in kept.members.items) serial.0
-        (all_sofar words kept stack k all) fit h
+        unsat_given law kept.arena (state_of stack) (live_serials stack) (ids_in kept.members.items) serial.0
+        (all_sofar words kept stack k all) (fit [] refl) h
 
 -- the arena and the graph grow on the way
 searched : NormalsStay → (kept : Decider) (rs : List Regex) (g : Findings) (roots : Vec (Option ℕ) Global)
@@ -187,27 +190,24 @@ searched stays kept rs g roots stack k e graph rooted = record {
 pub unsat_found : FragmentIsOfEach → NormalHasTermsWords → NormalsStay → (kept : Decider) (rs : List Regex)
     (g : Findings) (roots : Vec (Option ℕ) Global) (stack : Stacked) (n : ℕ) → Knows kept stack → HasAll kept stack →
     Extends kept.arena rs → IsGraph rs g → AreRooted rs kept.members.items roots.items →
-    IsEmptyAt rs kept.members.items n → Fit stack stack.scope.declared → IsVerdict (state_of stack) [] (is_unsat [])
+    IsEmptyAt rs kept.members.items n → Fit stack → IsVerdict (state_of stack) [] (is_unsat [])
 unsat_found law words stays kept rs g roots stack n k all e graph rooted empty fit =
-    unsat_given law rs (state_of stack) stack.scope.declared (ids_in kept.members.items) n
+    unsat_given law rs (state_of stack) (live_serials stack) (ids_in kept.members.items) n
     (all_sofar words (record kept { arena = rs; graph = g; roots = roots }) stack
-    (searched stays kept rs g roots stack k e graph rooted) all) fit empty
+    (searched stays kept rs g roots stack k e graph rooted) all) (fit [] refl) empty
 
 pub sat_found : FragmentIsOfEach → NormalHasTermsWords → NormalsStay → (kept : Decider) (rs : List Regex)
     (g : Findings) (roots : Vec (Option ℕ) Global) (stack : Stacked) (new : List Conjoined) (words : List (List ℕ)) →
     Knows kept stack → HasAll kept stack → Extends kept.arena rs → IsGraph rs g →
     AreRooted rs kept.members.items roots.items →
-    IsTakingOver rs kept.members.items kept.constants.items new words [] → Fit stack stack.scope.declared →
-    IsVerdict (state_of stack) [] (is_sat (values_from 0 words))
-sat_found law terms stays kept rs g roots stack new words k all e graph rooted over fit =
-    sat_given law rs (state_of stack) stack.scope.declared (ids_in kept.members.items) words
+    IsTakingOver rs kept.members.items kept.constants.items new words [] →
+    list_all (speaks_of (live_serials stack)) (live_terms (state_of stack)) ≡ true → Fit stack →
+    IsVerdict (state_of stack) [] (is_sat (values_at (live_serials stack) words))
+sat_found law terms stays kept rs g roots stack new words k all e graph rooted over named fit =
+    sat_given law rs (state_of stack) (live_serials stack) (ids_in kept.members.items) words
     (all_sofar terms (record kept { arena = rs; graph = g; roots = roots }) stack
-    (searched stays kept rs g roots stack k e graph rooted) all) fit
-    (record {
-      same_length = over.long ∙ all.1;
-      characters = over.characters;
-      least = least_over rs kept.members.items kept.constants.items new words over;
-    })
+    (searched stays kept rs g roots stack k e graph rooted) all) named (fit words over.characters)
+    (least_over rs kept.members.items kept.constants.items new words over)
 
 pub knows_over : NormalsStay → (kept new : Decider) (stack : Stacked) (words : List (List ℕ)) (m : Mode)
     → Knows kept stack → Extends kept.arena new.arena → IsGraph new.arena new.graph →

@@ -1,17 +1,18 @@
 -- What a check finds on the way: for each constant the regexes of its memberships, and its word.
-use Rattle.std.specs.Prelude.{◌≡◌, ℕ, true, List, [], length, slice_index_or}
+use Rattle.std.specs.Prelude.{◌≡◌, ℕ, true, List, [], length, get_or}
 use Rattle.std.specs.List.{list_all}
 use Rattle.sb_word.specs.Words.{IsWord}
 use Rattle.sb_lang.specs.Languages.{Language}
-use Rattle.sb_lang.specs.Least.{IsShortestLeast}
 use Rattle.sb_lang.specs.Language.{language}
 use Rattle.sb_lang.specs.Regex.{Regex}
 use Rattle.sb_regex.specs.Numbered.{regex_at, AllNumbers}
 use Rattle.sb_meaning.specs.Terms.{Term, text, constant, apply, no_terms, with_term, str_in_re}
-use Rattle.sb_script.specs.State.{Assertion, terms_in}
+use Rattle.sb_meaning.specs.Values.{Valuation, Text, value_in}
 use Rattle.sb_meaning.specs.Truth.{all_hold}
+use Rattle.sb_script.specs.State.{Assertion, terms_in}
 use Rattle.sb_fragment.specs.Rules.{is_decided}
-use Rattle.sb_stack.specs.Stacked.{values_from, are_words}
+use Rattle.sb_stack.specs.Speaking.{speaks_of}
+use Rattle.sb_stack.specs.Stacked.{values_at, are_words}
 use Rattle.sb_script.specs.Models.{words_for}
 
 -- the membership of the constant in the regular expression
@@ -23,28 +24,23 @@ abbrev pub in_each : List Regex → List ℕ → Language
 in_each rs ids w = list_all (λ id. language (regex_at rs id) w) ids
 
 abbrev pub word_at : List (List ℕ) → ℕ → List ℕ
-word_at words n = slice_index_or words n []
+word_at words n = get_or words n []
 
 -- What is known after these assertions: each is a membership that is decided, each constant's words are those of its
--- regexes, and
--- values make all the assertions true exactly where each word is in its constant's memberships.
+-- regexes, and values make all the assertions true exactly where each word is in its constant's memberships. A constant
+-- that they don't speak of may have any word.
 pub record IsSofar (rs : List Regex) (assertions : List Assertion) (found : ℕ → List ℕ) : Type 0 where
   pub decided : list_all is_decided assertions ≡ true
   pub known : (n : ℕ) → AllNumbers rs (found n)
   pub words : (n : ℕ) (w : List ℕ) → IsWord w → words_for n (terms_in assertions) w ≡ in_each rs (found n) w
-  pub apart : (words : List (List ℕ)) → (n : ℕ) → all_hold (terms_in assertions) (values_from 0 words) ≡ true
-      → words_for n (terms_in assertions) (word_at words n) ≡ true
-  pub together : (words : List (List ℕ)) → ((n : ℕ) → words_for n (terms_in assertions) (word_at words n) ≡ true)
-      → all_hold (terms_in assertions) (values_from 0 words) ≡ true
+  pub apart : (v : Valuation) (n : ℕ) (w : List ℕ) → value_in v n text ≡ Text w
+      → all_hold (terms_in assertions) v ≡ true → words_for n (terms_in assertions) w ≡ true
+  pub together : (serials : List ℕ) (words : List (List ℕ)) → list_all (speaks_of serials) (terms_in assertions) ≡ true
+      → ((n : ℕ) → words_for n (terms_in assertions) (word_at words n) ≡ true)
+      → all_hold (terms_in assertions) (values_at serials words) ≡ true
 
 -- so many words, of which those that are new are empty
 pub record AreFilled (count : ℕ) (old new : List (List ℕ)) : Type 0 where
   pub long : length new ≡ count
   pub same : (n : ℕ) → word_at new n ≡ word_at old n
   pub characters : are_words old ≡ true → are_words new ≡ true
-
--- the word of each of so many constants
-pub record AreLeastWords (rs : List Regex) (count : ℕ) (found : ℕ → List ℕ) (words : List (List ℕ)) : Type 0 where
-  pub same_length : length words ≡ count
-  pub characters : are_words words ≡ true
-  pub least : (n : ℕ) → IsShortestLeast (in_each rs (found n)) (word_at words n)

@@ -12,10 +12,11 @@ ghost use Rattle.sb_lang.specs.Regex.{Regex};
 ghost use Rattle.sb_regex.specs.Numbered.{Extends};
 ghost use Rattle.sb_deriv.specs.Faithful.{KeepsEntries};
 ghost use Rattle.sb_graph.specs.Findings.{IsGraph};
-ghost use Rattle.sb_script.specs.State.{live};
+ghost use Rattle.sb_script.specs.State.{live, live_terms};
 ghost use Rattle.sb_script.specs.Verdicts.{IsVerdict, settled};
 ghost use Rattle.sb_fragment.specs.Rules.{is_decided};
-ghost use Rattle.sb_stack.specs.Stacked.{Stacked, state_of, assertion_in, HasNumberBelow};
+ghost use Rattle.sb_stack.specs.Stacked.{Stacked, state_of, live_serials, without_words, assertion_in, HasNumberBelow};
+ghost use Rattle.sb_stack.specs.Speaking.{speaks_of};
 ghost use Rattle.sb_stack.specs.Steps.{verdict_in, found};
 ghost use Rattle.sb_term.specs.Serials.{all_below};
 ghost use Rattle.sb_decide.specs.Conjoined.{conjoined_at, OthersSettled, HasRoom, IsChangedAt, without_last};
@@ -95,13 +96,17 @@ impl Decider {
     /// What a check of the live assertions finds. Linear in the assertions and constants that are new since the last
     /// check with a model, the constants that the new ones, and those that were taken back, speak of, and what is
     /// explored; a regex that was explored before is not expanded again. Where it finds `Unsat`, [`Decider::dead`] is a
-    /// constant without a word. `AllocError` only for want of memory.
+    /// constant without a word. Of the script's state it changes the mode and the kept words alone. `AllocError` only
+    /// for want of memory.
     pub fn decide(&mut self, alloc: Global, stack: &mut Stack) -> Result<Verdict, AllocError>
         requires { Knows self.old stack.old }
-        ensures verdict { IfOk result (λ verdict. IsVerdict (state_of stack.old) [] (verdict_in verdict)) }
+        ensures verdict { IfOk result
+            (λ verdict. IsVerdict (state_of stack.old) [] (verdict_in (live_serials stack.old) verdict)) }
         ensures knows { IfOk result (λ verdict. Knows self.new (found verdict stack.new)) }
-        ensures state { IfOk result (λ verdict. settled (verdict_in verdict) (state_of stack.new)
-            ≡ settled (verdict_in verdict) (state_of stack.old)) }
+        ensures state { IfOk result
+            (λ verdict. settled (verdict_in (live_serials stack.old) verdict) (state_of stack.new)
+            ≡ settled (verdict_in (live_serials stack.old) verdict) (state_of stack.old)) }
+        ensures rest { without_words stack.new ≡ without_words stack.old }
         ensures decided { IfOk result (λ verdict. IsDecision verdict self.new) }
         ensures extends { OnOk result (Extends self.old.arena self.new.arena) }
         ensures derivatives_stay { OnOk result (KeepsEntries self.old.graph.memo self.new.graph.memo) }
@@ -185,6 +190,8 @@ impl Decider {
         requires { Knows self.old stack.now }
         ensures knows { OnOk result (Knows self.new stack.now) }
         ensures all { IfOk result (λ all. all ≡ true → HasAll self.new stack.now) }
+        ensures named { OnOk result
+            (list_all (speaks_of (live_serials stack.now)) (live_terms (state_of stack.now)) ≡ true) }
         ensures extends { OnOk result (Extends self.old.arena self.new.arena) }
         ensures graph { OnOk result (self.new.graph ≡ self.old.graph) }
         ensures outside { IfOk result (λ all. all ≡ false → list_all is_decided (live (state_of stack.now)) ≡ false) }

@@ -1,21 +1,15 @@
-use Rattle.std.proofs.Common.{◌≡◌, ℕ, true, List, length, [], refl, sym, ap, ◌∙◌, subst}
+use Rattle.std.proofs.Common.{length, [], refl, sym, ap, ◌∙◌, subst}
 use Rattle.std.proofs.lemmas.List.{with_items_is}
 use Rattle.std.specs.Vec.{with_items}
-use Rattle.sb_script.specs.State.{constants_of, fits}
 use Rattle.sb_script.specs.Verdicts.{IsVerdict, is_sat}
-use Rattle.sb_stack.specs.Stacked.{Stacked, state_of, are_words, values_from}
+use Rattle.sb_stack.specs.Stacked.{Stacked, state_of, live_serials, values_at}
 use Rattle.sb_stack.specs.declared.stack.Mode.TheVariants as mode
 use Rattle.sb_regex.proofs.CallerLemmas.{extends_more}
 use Rattle.sb_decide.specs.Knowing.{Knows}
 use Rattle.sb_decide.specs.Taking.{IsTakingOver}
 use Rattle.sb_decide.proofs.Knowledge.{knows_mode, knows_dead}
-use Rattle.sb_decide.proofs.TakingOver.{Fit, dead_given, unsat_found, sat_found, knows_over, over_of, words_long, constants_long, same_memo, grown_memo}
+use Rattle.sb_decide.proofs.TakingOver.{dead_given, unsat_found, sat_found, knows_over, over_of, words_long, constants_long, same_memo, grown_memo}
 use Rattle.sb_decide.proofs.decide.Decider.decide.Goals as goal
-
-fit_of : (stack : Stacked) (count : ℕ) → count ≡ stack.scope.declared
-    → ((words : List (List ℕ)) → length words ≡ count → are_words words ≡ true
-    → fits (constants_of (state_of stack)) (values_from 0 words) ≡ true) → Fit stack stack.scope.declared
-fit_of stack count is h ws long = h ws (long ∙ sym is)
 
 pub returns-then-not-branch-clause-verdict : goal.returns-then-not-branch-clause-verdict
 returns-then-not-branch-clause-verdict c =
@@ -27,8 +21,7 @@ returns-then-is_some-clause-verdict c =
     dead_given c.fragment_is_of_each.ensures c.normal_has_terms_words.ensures c.take_in.new.self c.args.stack.now
     c.in_ok-take_in.ensures.knows (c.in_ok-take_in.ensures.all c.if-not-branch.false)
     (sym c.is_some.ensures ∙ c.if-is_some.true)
-    (fit_of c.args.stack.now c.declared-declared.result c.declared-declared.ensures.value
-    c.declared-declared.ensures.fit)
+    c.declared-declared.ensures.fit
 
 pub returns-in-Dead-clause-verdict : goal.returns-in-Dead-clause-verdict
 returns-in-Dead-clause-verdict c =
@@ -38,8 +31,7 @@ returns-in-Dead-clause-verdict c =
     (c.in_ok-take_in.ensures.all c.if-not-branch.false) c.in_ok-serial.ensures.extends
     c.in_ok-serial.ensures.graph (rw c.deref.ensures.value at c.in_ok-serial.ensures.rooted)
     (rw (c.in-Dead.is, c.deref.ensures.value) at c.in_ok-serial.ensures.words)
-    (fit_of c.args.stack.now c.declared-declared.result c.declared-declared.ensures.value
-    c.declared-declared.ensures.fit)
+    c.declared-declared.ensures.fit
 
 pub returns-in-Dead-clause-knows : goal.returns-in-Dead-clause-knows
 returns-in-Dead-clause-knows c =
@@ -61,7 +53,7 @@ returns-in_ok-fill-in-Found-clause-verdict c =
     at c.in_ok-serial.ensures.words)
     c.take_words-words.ensures.words c.declared-declared.ensures.value c.in_ok-fill-in-Found.ensures
     c.deref_mut.ensures.value c.deref_mut-in-Found.ensures.value c.take_over.ensures in
-    subst (λ ws. IsVerdict (state_of c.args.stack.now) [] (is_sat (values_from 0 ws)))
+    subst (λ ws. IsVerdict (state_of c.args.stack.now) [] (is_sat (values_at (live_serials c.args.stack.now) ws)))
     (sym (with_items_is c.fill.new.words c.take_over.new.words
     (words_long c.least_words.new.arena c.take_in.new.self.members.items
     c.take_in.new.self.constants.items c.take_over.new.constants
@@ -71,8 +63,7 @@ returns-in_ok-fill-in-Found-clause-verdict c =
     c.take_in.new.self c.least_words.new.arena c.least_words.new.graph c.least_words.new.roots c.args.stack.now
     c.take_over.new.constants c.take_over.new.words c.in_ok-take_in.ensures.knows all c.in_ok-serial.ensures.extends
     c.in_ok-serial.ensures.graph (rw c.deref.ensures.value at c.in_ok-serial.ensures.rooted) over
-    (fit_of c.args.stack.now c.declared-declared.result c.declared-declared.ensures.value
-    c.declared-declared.ensures.fit))
+    c.in_ok-take_in.ensures.named c.declared-declared.ensures.fit)
 
 pub returns-in_ok-fill-in-Found-clause-knows : goal.returns-in_ok-fill-in-Found-clause-knows
 returns-in_ok-fill-in-Found-clause-knows c =
