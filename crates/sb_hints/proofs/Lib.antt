@@ -1,4 +1,5 @@
 mod Storage
 mod Searching
+mod Scoping
 mod Upkeep
 mod Steps

@@ -1,14 +1,15 @@
 -- Clauses that are found in the lists.
-use Rattle.std.proofs.Common.{◌≡◌, ◌⊎◌, ℕ, zero, suc, ◌+◌, ◌<◌, ◌≤◌, Bool, true, false, ◌||◌, List, [], ◌∷◌, ◌++◌, length, get_or, Option, Some, None, refl, sym, ◌∙◌, ap, subst, inl, inr, arith}
+use Rattle.std.proofs.Common.{◌≡◌, ◌≢◌, ◌⊎◌, ℕ, zero, suc, ◌+◌, ◌<◌, ◌≤◌, Bool, true, false, not, eqb, ◌&&◌, ◌||◌, List, [], ◌∷◌, ◌++◌, length, get_or, set, Option, Some, None, refl, sym, ◌∙◌, ap, subst, inl, inr, arith}
 use Rattle.std.specs.List.{list_any, list_all}
-use Rattle.std.proofs.lemmas.Bool.{false≢true, cases_Bool, or_cases, or_left, or_right}
-use Rattle.std.proofs.lemmas.List.{get_or_append_left, length-append}
+use Rattle.std.proofs.lemmas.Bool.{false≢true, cases_Bool, cases_eq, and_parts, or_cases, or_left, or_right, eqb-true, eq-eqb}
+use Rattle.std.proofs.lemmas.List.{get_or_append_left, length-append, length-set, get_or-set_same, get_or-set_other}
+use Rattle.std.proofs.lemmas.Option.{none-some}
 use Rattle.sb_lit.specs.declared.clause.Lit.{Lit}
 use Rattle.sb_lit.specs.Clauses.{is_same_literal, is_among}
 use Rattle.sb_lit.specs.Kept.{Kept, KeptClause, kept_at}
 use Rattle.sb_lit.specs.Hints.{has_only, is_repeated}
 use Rattle.sb_lit.proofs.CallerLemmas.{is_same_literal-true, is_same_literal-beq, is_same_literal-self, all_among}
-use Rattle.sb_hints.specs.Listing.{are_equal, put_at, IsPlace, IsBelow, AreLinked, steps_of, on_list, passes, passes_in, AreListed}
+use Rattle.sb_hints.specs.Listing.{are_equal, put_at, passed_at, begun_at, IsPlace, IsBelow, AreLinked, steps_of, on_list, passes, passes_in, AreListed}
 
 pub below_later : (n m : ℕ) (next : Option ℕ) → n ≤ m → IsBelow n next → IsBelow m next
 below_later n m None le h = tt
@@ -109,7 +110,7 @@ put_here None n lists = refl
 put_here (Some l) n lists = rw (is_same_literal-beq l l, is_same_literal-self l) refl
 
 -- the clauses with one more
-push_cases : (kept : Kept) (clause : KeptClause) (id : ℕ) (found : KeptClause)
+pub push_cases : (kept : Kept) (clause : KeptClause) (id : ℕ) (found : KeptClause)
     → kept_at (kept ++ Some clause ∷ []) id ≡ Some found
     → (kept_at kept id ≡ Some found) ⊎ ((id ≡ length kept) × (clause ≡ found))
 push_cases [] clause zero found h = inr (refl, cc)
@@ -197,6 +198,168 @@ listed_fewer kept fewer before lists stays h = record {
   below = h.below;
   listed = λ id clause there. h.listed id clause (stays id clause there);
 }
+
+-- a walk finds what a narrower test finds
+on_list_more : (p q : ℕ → Bool) → ((j : ℕ) → p j ≡ true → q j ≡ true) → (before : List (Option ℕ)) (n : ℕ)
+    (next : Option ℕ) → on_list p before n next ≡ true → on_list q before n next ≡ true
+on_list_more p q more before zero next h = absurd (false≢true h)
+on_list_more p q more before (suc n) None h = absurd (false≢true h)
+on_list_more p q more before (suc n) (Some k) h =
+    elim (or_cases (p k) (on_list p before n (get_or before k None)) h) [
+      | inl here ↦ or_left (q k) (on_list q before n (get_or before k None)) (more k here)
+      | inr later ↦ or_right (q k) (on_list q before n (get_or before k None))
+          (on_list_more p q more before n (get_or before k None) later)
+    ]
+
+-- a clause that fails is passed over
+module _ (before : List (Option ℕ)) (k : ℕ) (next : Option ℕ) (linked : AreLinked before)
+    (leads : get_or before k None ≡ next) where
+  next_below : IsBelow k next
+  next_below = subst (IsBelow k) leads (linked k)
+
+  skipped : (p : ℕ → Bool) → p k ≡ false → (n m : ℕ) → k < n → IsBelow m next
+      → on_list p before n (Some k) ≡ on_list p before m next
+  skipped p fails zero m inside below = absurd (omega arith)
+  skipped p fails (suc n) m inside below =
+      ap (λ b. b || on_list p before n (get_or before k None)) fails ∙ ap (on_list p before n) leads
+      ∙ steps_same p before linked n m next (below_later k n next (omega arith) next_below) below
+
+  module _ (newer : ℕ) (inside : newer < length before) (led : get_or before newer None ≡ Some k) where
+    abbrev shorter : List (Option ℕ)
+    shorter = set before newer next
+
+    here : get_or shorter newer None ≡ next
+    here = get_or-set_same before newer next None inside
+
+    elsewhere : (j : ℕ) → j ≢ newer → get_or shorter j None ≡ get_or before j None
+    elsewhere j other = get_or-set_other before newer j next None other
+
+    older : k < newer
+    older = subst (IsBelow newer) led (linked newer)
+
+    shorter_linked : AreLinked shorter
+    shorter_linked j =
+        elim (cases_eq j newer) [
+          | inl same ↦ rw (same, here) (below_later k newer next (omega (arith, older)) next_below)
+          | inr other ↦ rw (elsewhere j other) (linked j)
+        ]
+
+    shorter_same : (p : ℕ → Bool) → p k ≡ false → (n : ℕ) (o : Option ℕ) → IsBelow n o
+        → on_list p shorter n o ≡ on_list p before n o
+    shorter_same p fails zero o below = refl
+    shorter_same p fails (suc n) None below = refl
+    shorter_same p fails (suc n) (Some j) below =
+        ap (λ rest. p j || rest)
+        (elim (cases_eq j newer) [
+          | inl same ↦
+              let low : k < n = omega (arith, older, same, below) in
+              let room : IsBelow n next = below_later k n next (omega (arith, low)) next_below in
+              ap (λ i. on_list p shorter n (get_or shorter i None)) same ∙ ap (on_list p shorter n) here
+              ∙ shorter_same p fails n next room ∙ sym (skipped p fails n n low room)
+              ∙ ap (on_list p before n) (sym led) ∙ ap (λ i. on_list p before n (get_or before i None)) (sym same)
+          | inr other ↦
+              ap (on_list p shorter n) (elsewhere j other)
+              ∙ shorter_same p fails n (get_or before j None)
+              (below_later j n (get_or before j None) (omega (arith, below)) (linked j))
+        ])
+
+-- a clause that is dropped leaves its list
+module _ (kept : Kept) (before : List (Option ℕ)) (lists : Option Lit → Option ℕ) (k : ℕ) (next : Option ℕ)
+    (h : AreListed kept before lists) (gone : kept_at kept k ≡ None) (leads : get_or before k None ≡ next) where
+  abbrev but : (ℕ → Bool) → ℕ → Bool
+  but p j = p j && not (eqb j k)
+
+  but_here : (p : ℕ → Bool) → but p k ≡ false
+  but_here p = rw (eq-eqb k k refl) (and_false (p k))
+    where
+      and_false : (b : Bool) → (b && false) ≡ false
+      and_false true = refl
+      and_false false = refl
+
+  but_there : (p : ℕ → Bool) (id : ℕ) (clause : KeptClause) → kept_at kept id ≡ Some clause → p id ≡ true
+      → but p id ≡ true
+  but_there p id clause there passes =
+      elim (cases_Bool (eqb id k)) [
+        | inl same ↦
+            absurd (none-some clause (sym gone ∙ ap (kept_at kept) (sym (eqb-true id k same)) ∙ there))
+        | inr other ↦ rw (passes, other) refl
+      ]
+
+  but_less : (p : ℕ → Bool) (j : ℕ) → but p j ≡ true → p j ≡ true
+  but_less p j both = (and_parts (p j) (not (eqb j k)) both).0
+
+  pub listed_passed : (newer : ℕ) → newer < length before → get_or before newer None ≡ Some k
+      → AreListed kept (set before newer next) lists
+  listed_passed newer inside led =
+      let len : length (set before newer next) ≡ length before = length-set before newer next in
+      record {
+        linked = shorter_linked before k next h.linked leads newer inside led;
+        below = λ q. subst (λ n. IsBelow n (lists q)) (sym len) (h.below q);
+        listed = λ id clause there.
+            let was = h.listed id clause there in
+            record {
+              place = was.place;
+              fits = was.fits;
+              found = λ p passes.
+                  on_list_more (but p) p (but_less p) (set before newer next) (length (set before newer next))
+                  (lists was.place)
+                  (ap (λ n. on_list (but p) (set before newer next) n (lists was.place)) len
+                  ∙ shorter_same before k next h.linked leads newer inside led (but p) (but_here p) (length before)
+                  (lists was.place) (h.below was.place)
+                  ∙ was.found (but p) (but_there p id clause there passes));
+            };
+      }
+
+  passed_cases : (o : Option ℕ) → (passed_at k next o ≡ o) ⊎ ((o ≡ Some k) × (passed_at k next o ≡ next))
+  passed_cases None = inl refl
+  passed_cases (Some newest) =
+      elim (cases_Bool (eqb newest k)) [
+        | inl same ↦ inr (ap (λ n. Some n) (eqb-true newest k same), rw same refl)
+        | inr other ↦ inl (rw other refl)
+      ]
+
+  begun_cases : (place q : Option Lit) → (begun_at place k next lists q ≡ lists q)
+      ⊎ ((lists q ≡ Some k) × (begun_at place k next lists q ≡ next))
+  begun_cases None None = passed_cases (lists None)
+  begun_cases None (Some m) = inl refl
+  begun_cases (Some l) None = inl refl
+  begun_cases (Some l) (Some m) =
+      elim (cases_Bool (are_equal l m)) [
+        | inl same ↦ rw same (passed_cases (lists (Some m)))
+        | inr other ↦ inl (rw other refl)
+      ]
+
+  pub listed_begun : (place : Option Lit) (later : Option Lit → Option ℕ)
+      → ((q : Option Lit) → later q ≡ begun_at place k next lists q) → AreListed kept before later
+  listed_begun place later begun = record {
+    linked = h.linked;
+    below = λ q. elim (begun_cases place q) [
+      | inl stays ↦ rw (begun q, stays) (h.below q)
+      | inr moved ↦
+          let inside : k < length before = subst (IsBelow (length before)) moved.0 (h.below q) in
+          rw (begun q, moved.1) (below_later k (length before) next (omega (arith, inside))
+          (next_below before k next h.linked leads))
+    ];
+    listed = λ id clause there.
+        let was = h.listed id clause there in
+        record {
+          place = was.place;
+          fits = was.fits;
+          found = λ p passes. elim (begun_cases place was.place) [
+            | inl stays ↦ rw (begun was.place, stays) (was.found p passes)
+            | inr moved ↦
+                let inside : k < length before =
+                subst (IsBelow (length before)) moved.0 (h.below was.place) in
+                rw (begun was.place, moved.1)
+                (on_list_more (but p) p (but_less p) before (length before) next
+                (sym (skipped before k next h.linked leads (but p) (but_here p) (length before) (length before) inside
+                (below_later k (length before) next (omega (arith, inside))
+                (next_below before k next h.linked leads)))
+                ∙ ap (on_list (but p) before (length before)) (sym moved.0)
+                ∙ was.found (but p) (but_there p id clause there passes)))
+          ];
+        };
+  }
 
 -- a clause that is repeated
 same_tests : (a b : Bool) → (a ≡ true → b ≡ true) → (b ≡ true → a ≡ true) → a ≡ b

@@ -1,21 +1,23 @@
 -- What stays true of the rows, their literals and their lists.
-use Rattle.std.proofs.Common.{◌≡◌, ℕ, zero, suc, Bool, true, false, List, [], ◌∷◌, ◌++◌, ◌||◌, length, map, Option, Some, None, refl, sym, ◌∙◌, ap, subst, arith}
-use Rattle.std.specs.HashMap.{HashMap}
+use Rattle.std.proofs.Common.{◌≡◌, ℕ, Bool, true, false, List, [], ◌∷◌, ◌++◌, ◌||◌, length, map, get_or, set, cond, ◌<◌, Option, Some, None, refl, sym, ◌∙◌, ap, subst, inl, inr, arith}
+use Rattle.std.specs.HashMap.{HashMap, get}
 use Rattle.std.specs.List.{list_any}
-use Rattle.std.proofs.lemmas.Bool.{or_left}
+use Rattle.std.proofs.lemmas.Bool.{false≢true, cases_Bool, or_left}
 use Rattle.std.specs.Map.{lookup}
 use Rattle.std.proofs.lemmas.List.{length-map, map_push, length-append}
-use Rattle.std.proofs.lemmas.Option.{none-some}
 use Rattle.sb_lit.specs.declared.clause.Lit.{Lit}
 use Rattle.sb_lit.specs.Clauses.{is_among}
 use Rattle.sb_lit.specs.Hints.{has_only, is_repeated}
-use Rattle.sb_lit.specs.Kept.{Kept, KeptClause, kept_at, is_above, stays_up_to, kept_up_to}
+use Rattle.sb_lit.specs.Kept.{Kept, KeptClause, kept_at}
+use Rattle.sb_lit.proofs.CallerLemmas.{is_same_literal-true, is_same_literal-beq}
 use Rattle.sb_hints.specs.declared.rows.Row.{Row}
 use Rattle.sb_hints.specs.declared.lists.Listed.{Listed}
-use Rattle.sb_hints.specs.Storing.{before_of, emptied, row_up_to, place_in, kept_in}
-use Rattle.sb_hints.specs.Listing.{are_equal, newest_in, last_of, last_at, put_at, IsPlace, IsBelow, on_list, passes_in, AreListed}
-use Rattle.sb_hints.specs.Keeping.{AreStored}
-use Rattle.sb_hints.proofs.Storage.{slice-new, kept-grown, within-more, within_push, kept-up_to, kept-emptied, within-emptied, within-up_to, before-up_to, before-emptied}
+use Rattle.sb_hints.specs.Storing.{before_of, row_at, emptied, place_in, kept_in, AreSame}
+use Rattle.sb_hints.specs.Listing.{are_equal, newest_in, last_of, last_at, put_at, passed_at, begun_at, IsPlace, IsBelow, on_list, passes_in, AreListed}
+use Rattle.sb_hints.specs.Dropping.{goes, without}
+use Rattle.sb_hints.specs.Keeping.{AreStored, AreInOrder}
+use Rattle.sb_hints.proofs.Storage.{kept_at-row, slice-new, kept-grown, within-more, within_push, within-set, kept-emptied, before-emptied, kept-none, within-none}
+use Rattle.sb_hints.proofs.Scoping.{at_emptied, none_at}
 use Rattle.sb_hints.proofs.Searching.{listed_push, listed_fewer, repeated-finds, passes-only}
 
 -- the lists of a map with the same entries
@@ -44,6 +46,23 @@ stored_lists ls rows lists later same h = record {
   within = h.within;
   listed = listed_lists (kept_in ls rows) (map before_of rows) lists later same h.listed;
 }
+
+-- a list that begins with the clause before this one
+pub lists_begun : {S : Type 0} (old new : HashMap Lit Listed S) (bare : Option ℕ) (l : Lit) (number : ℕ)
+    (before : Option ℕ) (list shorter : Listed) → get are_equal old l ≡ Some list
+    → shorter.last ≡ passed_at number before list.last
+    → ((m : Lit) → get are_equal new m ≡ cond (are_equal l m) (Some shorter) (get are_equal old m))
+    → (q : Option Lit) → last_at new bare q ≡ begun_at (Some l) number before (last_at old bare) q
+lists_begun old new bare l number before list shorter there last put None = refl
+lists_begun old new bare l number before list shorter there last put (Some m) =
+    elim (cases_Bool (are_equal l m)) [
+      | inl same ↦
+          let e : l ≡ m = is_same_literal-true l m (sym (is_same_literal-beq l m) ∙ same) in
+          ap newest_in (put m) ∙ rw same
+          (last ∙ ap (λ o. passed_at number before (newest_in o))
+          (sym there ∙ ap (λ k. get are_equal old k) e))
+      | inr other ↦ ap newest_in (put m) ∙ rw other refl
+    ]
 
 -- more literals
 pub stored_more : (ls more : List Lit) (rows : List Row) (lists : Option Lit → Option ℕ) → AreStored ls rows lists
@@ -82,51 +101,57 @@ module _ (ls : List Lit) (rows : List Row) (lists later : Option Lit → Option 
         (λ q. put q ∙ ap (λ n. put_at place n lists q) (sym (length-map rows before_of))));
   }
 
--- dropped clauses
-stays_there : (level : ℕ) (place : Option KeptClause) (found : KeptClause) → stays_up_to level place ≡ Some found
-    → place ≡ Some found
-stays_there level place found h = go (is_above place level) refl
-  where
-    go : (b : Bool) → is_above place level ≡ b → place ≡ Some found
-    go true is = absurd (none-some found (rw is at h))
-    go false is = rw is at h
+-- a clause that goes or stays
+pub row_without : (down_to : Option ℕ) (ls : List Lit) (rows : List Row) (k : ℕ) (row : Row) → k < length rows
+    → row ≡ get_or rows k row → (b : Bool) → b ≡ goes down_to (place_in ls row)
+    → without down_to k (kept_in ls rows) ≡ cond b (set (kept_in ls rows) k None) (kept_in ls rows)
+row_without down_to ls rows k row inside is b tells =
+    ap (λ (test : Bool). cond test (set (kept_in ls rows) k None) (kept_in ls rows))
+    (ap (goes down_to) (kept_at-row ls rows k row inside ∙ ap (place_in ls) (sym is)) ∙ sym tells)
 
-kept_before : (level : ℕ) (kept : Kept) (id : ℕ) (found : KeptClause) → kept_at (kept_up_to level kept) id ≡ Some found
-    → kept_at kept id ≡ Some found
-kept_before level [] id found h = h
-kept_before level (x ∷ xs) zero found h = stays_there level x found h
-kept_before level (x ∷ xs) (suc id) found h = kept_before level xs id found h
+-- a clause less
+module _ (ls : List Lit) (rows mid new : List Row) (k : ℕ)
+    (is : mid ≡ set rows k (emptied (row_at rows k))) (same : AreSame mid new) where
+  pub kept_less : kept_in ls new ≡ set (kept_in ls rows) k None
+  kept_less = same.kept ls ∙ ap (kept_in ls) is ∙ kept-emptied ls rows k
 
-none_kept : (kept : Kept) (id : ℕ) → kept_at (map (λ place. None) kept) id ≡ None
-none_kept [] id = refl
-none_kept (x ∷ xs) zero = refl
-none_kept (x ∷ xs) (suc id) = none_kept xs id
+  pub stored_less : (lists later : Option Lit → Option ℕ) → AreStored ls rows lists
+      → ((kept : Kept) → kept_at kept k ≡ None → AreListed kept (map before_of mid) lists
+      → AreListed kept (map before_of new) later)
+      → AreStored ls new later
+  stored_less lists later h off =
+      let fewer : Kept = set (kept_in ls rows) k None in
+      record {
+        within = same.within (length ls) (rw is
+            (within-set (length ls) rows k (emptied (row_at rows k)) h.within (λ kept. absurd (false≢true kept))));
+        listed = rw kept_less (off fewer (none_at (kept_in ls rows) k) (rw (is, before-emptied rows k)
+            (listed_fewer (kept_in ls rows) fewer (map before_of rows) lists
+            (λ id clause there. (at_emptied (kept_in ls rows) k id clause there).0) h.listed)));
+      }
 
-pub stored_up_to : (ls : List Lit) (level : ℕ) (rows : List Row) (lists : Option Lit → Option ℕ)
-    → AreStored ls rows lists → AreStored ls (map (row_up_to level) rows) lists
-stored_up_to ls level rows lists h = record {
-  within = within-up_to (length ls) level rows h.within;
-  listed = rw (kept-up_to ls level rows, before-up_to level rows)
-      (listed_fewer (kept_in ls rows) (kept_up_to level (kept_in ls rows)) (map before_of rows) lists
-      (kept_before level (kept_in ls rows)) h.listed);
+-- rows that stand for the same clauses, in the same lists
+pub order_same : (ls : List Lit) (rows new : List Row) (lists : Option Lit → Option ℕ) (heap : List (ℕ × ℕ))
+    → AreSame rows new → map before_of new ≡ map before_of rows → AreInOrder ls rows lists heap
+    → AreInOrder ls new lists heap
+order_same ls rows new lists heap same before h = record {
+  stored = record {
+    within = same.within (length ls) h.stored.within;
+    listed = rw (same.kept ls, before) h.stored.listed;
+  };
+  scoped = rw (same.kept ls) h.scoped;
 }
 
-pub stored_none : (ls : List Lit) (rows : List Row) (lists : Option Lit → Option ℕ) → AreStored ls rows lists
-    → (later : Option Lit → Option ℕ) → ((q : Option Lit) → later q ≡ None) → (more : List Lit)
-    → AreStored more (map emptied rows) later
-stored_none ls rows lists h later none more = record {
-  within = within-emptied (length more) rows;
-  listed = rw (kept-emptied ls more rows, before-emptied rows) (record {
-    linked = h.listed.linked;
-    below = λ q. rw (none q) tt;
-    listed = λ id clause there. absurd (none-some clause (sym (none_kept (kept_in ls rows) id) ∙ there));
-  });
+-- where no clause is kept
+pub order_none : (ls more : List Lit) (rows : List Row) (lists : Option Lit → Option ℕ) (scoped : List (ℕ × ℕ))
+    → ((id : ℕ) → kept_at (kept_in ls rows) id ≡ None) → AreInOrder ls rows lists scoped
+    → AreInOrder more rows lists scoped
+order_none ls more rows lists scoped none h = record {
+  stored = record {
+    within = within-none ls (length more) rows none;
+    listed = rw (kept-none ls more rows none) h.stored.listed;
+  };
+  scoped = rw (kept-none ls more rows none) h.scoped;
 }
-
-pub lists_none : {S : Type 0} (new : HashMap Lit Listed S) → new.entries ≡ [] → (q : Option Lit)
-    → last_at new None q ≡ None
-lists_none new empty None = refl
-lists_none new empty (Some l) = ap (λ es. newest_in (lookup (are_equal l) es)) empty
 
 -- a clause that is repeated
 module _ {S : Type 0} (ls : List Lit) (rows : List Row) (lists : HashMap Lit Listed S) (bare : Option ℕ) (kept : Kept)

@@ -1,5 +1,6 @@
 pub mod Storing
 pub mod Listing
+pub mod Dropping
 pub mod Keeping
 pub mod Judging
 pub mod Following

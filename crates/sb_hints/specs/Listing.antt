@@ -14,7 +14,7 @@ are_equal l m = (l.atom == m.atom) && beq l.positive m.positive
 
 abbrev pub newest_in : Option Listed → Option ℕ
 newest_in None = None
-newest_in (Some list) = Some list.last
+newest_in (Some list) = list.last
 
 -- the newest clause that is listed under a literal
 abbrev pub last_of : {S : Type 0} → HashMap Lit Listed S → Lit → Option ℕ
@@ -31,6 +31,18 @@ put_at None id lists None = Some id
 put_at None id lists (Some m) = lists (Some m)
 put_at (Some l) id lists None = lists None
 put_at (Some l) id lists (Some m) = if are_equal l m then Some id else lists (Some m)
+
+-- the list of a place that begins with this clause begins with the one before it
+abbrev pub passed_at : ℕ → Option ℕ → Option ℕ → Option ℕ
+passed_at id before None = None
+passed_at id before (Some newest) = if newest == id then before else Some newest
+
+abbrev pub begun_at : Option Lit → ℕ → Option ℕ → (Option Lit → Option ℕ) → Option Lit → Option ℕ
+begun_at None id before lists None = passed_at id before (lists None)
+begun_at None id before lists (Some m) = lists (Some m)
+begun_at (Some l) id before lists None = lists None
+begun_at (Some l) id before lists (Some m) = if are_equal l m then passed_at id before (lists (Some m))
+    else lists (Some m)
 
 -- a clause may be listed here
 abbrev pub IsPlace : List Lit → Option Lit → Type 0

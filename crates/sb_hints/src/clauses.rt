@@ -5,12 +5,14 @@ ghost use Rattle.std.specs.Option.{option_copied};
 ghost use Rattle.sb_lit.specs.Kept.{kept_at, kept_up_to};
 ghost use Rattle.sb_lit.specs.Hints.{has_only, is_repeated};
 
+use crate::levels::drop_left;
 use crate::lists::{Listed, find_part, find_part_under, last_at, put, rarest};
-use crate::rows::{Row, drop_rows, drop_rows_above, literals_of};
+use crate::rows::{Row, literals_of, set_behind};
 use crate::sets::set_of;
 use indexmap::IndexMap;
 use sb_lit::Lit;
 use std::alloc::{AllocError, Global};
+use std::collections::BinaryHeap;
 use std::marker::Model;
 
 /// Clauses by number, of which some were dropped.
@@ -20,23 +22,27 @@ pub struct KeptClauses {
     /// The literals of all clauses.
     literals: Vec<Lit>,
     rows: Vec<Row>,
-    /// The clauses that are listed under each literal.
+    /// The kept clauses that are listed under each literal.
     lists: IndexMap<Lit, Listed>,
-    /// The newest clause without literals.
+    /// The newest kept clause without literals.
     bare: Option<usize>,
+    /// The levels with the numbers of their clauses, the highest level first.
+    scoped: BinaryHeap<(u64, usize)>,
 }
 
 impl Model for KeptClauses {
     ghost use Rattle.sb_lit.specs.Kept.{Kept};
     ghost use Rattle.sb_hints.specs.Storing.{kept_in};
     ghost use Rattle.sb_hints.specs.Listing.{last_at};
-    ghost use Rattle.sb_hints.specs.Keeping.{AreStored};
+    ghost use Rattle.std.specs.BinaryHeap.{heap_items};
+    ghost use Rattle.sb_hints.specs.Keeping.{AreInOrder};
 
     ghost Value = { Kept };
 
     ghost view = { λ all. kept_in all.literals.items all.rows.items };
 
-    ghost invariant = { λ all. AreStored all.literals.items all.rows.items (last_at all.lists all.bare) };
+    ghost invariant = { λ all. AreInOrder all.literals.items all.rows.items (last_at all.lists all.bare)
+        (heap_items all.scoped) };
 }
 
 impl KeptClauses {
@@ -50,6 +56,7 @@ impl KeptClauses {
             rows: Vec::new(alloc),
             lists: IndexMap::new(alloc),
             bare: None,
+            scoped: BinaryHeap::new(alloc),
         }
     }
 
@@ -65,8 +72,8 @@ impl KeptClauses {
         self.rows.len()
     }
 
-    /// Keeps a clause at a level, under the next number. Linear in the number of its literals; an error for want of
-    /// memory, and then nothing changes.
+    /// Keeps a clause at a level, under the next number. Linear in the number of its literals, and logarithmic in the
+    /// number of kept clauses; an error for want of memory, and then nothing changes.
     pub fn add(&mut self, clause: &[Lit], level: u64) -> Result<(), AllocError>
         ensures ok { OnOk result
             (self.new ≡ self.old ++ Some (record { literals = clause.now; level = level }) ∷ []) }
@@ -77,6 +84,7 @@ impl KeptClauses {
         let start = self.literals.len();
         self.literals.extend_from_slice(clause)?;
         let end = self.literals.len();
+        self.scoped.push((level, number))?;
         let place = rarest(&self.lists, clause);
         let before = last_at(&self.lists, self.bare, place);
         self.rows.push(Row {
@@ -84,8 +92,11 @@ impl KeptClauses {
             end,
             level,
             is_kept: true,
+            place,
             before,
+            behind: None,
         })?;
+        set_behind(&mut self.rows, before, Some(number));
         put(&mut self.lists, &mut self.bare, place, number);
         Ok(())
     }
@@ -121,9 +132,9 @@ impl KeptClauses {
         }
     }
 
-    /// The number of a kept clause that has only literals of this one, if there is one. Looks at the clauses alone that
-    /// are listed under a literal of this one, once for each time that the literal stands in it, and at those without
-    /// literals; linear in the number of their literals. An error for want of memory.
+    /// The number of a kept clause that has only literals of this one, if there is one. Looks at the kept clauses alone
+    /// that are listed under a literal of this one, once for each time that the literal stands in it, and at those
+    /// without literals; linear in the number of their literals. An error for want of memory.
     pub fn part_of(&self, clause: &[Lit]) -> Result<Option<u64>, AllocError>
         ensures found { IfOk result (λ found. is_some found ≡ is_repeated self.now clause.now) }
         ensures part { IfOk result (λ found. IfSome found (λ id. has_only clause.now (kept_at self.now id) ≡ true)) }
@@ -147,20 +158,31 @@ impl KeptClauses {
     }
 
     /// Drops the clauses above the level; their numbers are not given again. Takes no memory; linear in the number of
-    /// clauses.
+    /// clauses that go, each with a logarithm of the number of those that were kept.
     pub fn drop_above(&mut self, level: u64)
         ensures { self.new ≡ kept_up_to level self.old }
     {
-        drop_rows_above(&mut self.rows, level);
+        drop_left(
+            &mut self.rows,
+            &mut self.lists,
+            &mut self.bare,
+            &mut self.scoped,
+            Some(level),
+        );
     }
 
-    /// Drops each clause; their numbers are not given again. Takes no memory; linear in the number of clauses.
+    /// Drops each clause; their numbers are not given again. Takes no memory; linear in the number of clauses that were
+    /// kept, each with a logarithm of it, and in the literals that were added since the last time.
     pub fn drop_all(&mut self)
         ensures { self.new ≡ map (λ clause. None) self.old }
     {
-        drop_rows(&mut self.rows);
+        drop_left(
+            &mut self.rows,
+            &mut self.lists,
+            &mut self.bare,
+            &mut self.scoped,
+            None,
+        );
         self.literals.clear();
-        self.lists.clear();
-        self.bare = None;
     }
 }

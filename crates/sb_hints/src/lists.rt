@@ -5,19 +5,21 @@ ghost use Rattle.std.specs.List.{list_any};
 ghost use Rattle.std.specs.HashSet.{contains};
 ghost use Rattle.indexmap.specs.IndexMap.{spare};
 ghost use Rattle.sb_lit.specs.declared.clause.Lit.{Lit};
-ghost use Rattle.sb_hints.specs.Listing.{are_equal, IsPlace, IsBelow, AreLinked, on_list, last_of, last_at, passes_in, put_at};
-ghost use Rattle.sb_hints.specs.Storing.{before_of, AreWithin, kept_in};
+ghost use Rattle.sb_lit.specs.Kept.{Kept, kept_at};
+ghost use Rattle.sb_hints.specs.Listing.{are_equal, IsPlace, IsBelow, AreLinked, AreListed, on_list, last_of, last_at, passes_in, put_at, passed_at, begun_at};
+ghost use Rattle.sb_hints.specs.Storing.{before_of, row_at, AreSame, AreWithin, kept_in};
 
-use crate::rows::{Row, literals_of};
+use crate::rows::{Row, lead, literals_of, set_behind};
 use crate::sets::has_all;
 use indexmap::IndexMap;
 use sb_lit::Lit;
 use std::collections::HashSet;
 
-/// The clauses that are listed under one literal: the newest one, from which each leads to the one before it.
+/// The kept clauses that are listed under one literal: the newest one, from which each leads to the one before it, and
+/// how many they are.
 #[derive(Clone, Copy, Debug)]
 pub(crate) struct Listed {
-    pub(crate) last: usize,
+    pub(crate) last: Option<usize>,
     pub(crate) count: usize,
 }
 
@@ -26,7 +28,7 @@ pub(crate) fn last_of(lists: &IndexMap<Lit, Listed>, literal: Lit) -> Option<usi
     ensures { result ≡ last_of lists.now literal }
 {
     match lists.get(&literal) {
-        Some(list) => Some(list.last),
+        Some(list) => list.last,
         None => None,
     }
 }
@@ -84,13 +86,103 @@ pub(crate) fn put(
         Some(literal) => {
             let count = count_of(lists, literal).saturating_add(1);
             let list = Listed {
-                last: number,
+                last: Some(number),
                 count,
             };
             lists.insert(literal, list).unwrap();
         }
         None => *bare = Some(number),
     }
+}
+
+/// Where a list begins with this clause, the one before it.
+fn passed(newest: Option<usize>, number: usize, before: Option<usize>) -> Option<usize>
+    ensures { result ≡ passed_at number before newest }
+{
+    match newest {
+        Some(newest) => {
+            if newest == number {
+                before
+            } else {
+                Some(newest)
+            }
+        }
+        None => None,
+    }
+}
+
+/// Takes a clause off the list of a literal, or off that of none, where it is the newest one there.
+fn begin_before(
+    lists: &mut IndexMap<Lit, Listed>,
+    bare: &mut Option<usize>,
+    place: Option<Lit>,
+    number: usize,
+    before: Option<usize>,
+)
+    ensures { (q : Option Lit) → last_at lists.new bare.new q
+        ≡ begun_at place number before (last_at lists.old bare.old) q }
+{
+    match place {
+        Some(literal) => {
+            let Some(list) = lists.get(&literal) else {
+                return;
+            };
+            let shorter = Listed {
+                last: passed(list.last, number, before),
+                count: list.count.saturating_sub(1),
+            };
+            lists.insert(literal, shorter).unwrap();
+        }
+        None => *bare = passed(*bare, number, before),
+    }
+}
+
+/// Whether a clause leads to another one.
+fn is_led(rows: &[Row], newer: usize, number: usize) -> bool
+    ensures { result ≡ true → (newer < length rows.now) × ((row_at rows.now newer).before ≡ Some number) }
+{
+    if newer >= rows.len() {
+        return false;
+    }
+    match rows[newer].before {
+        Some(before) => before == number,
+        None => false,
+    }
+}
+
+/// Leads from the clause behind this one to the one before it, where it leads to this one.
+fn pass_over(rows: &mut Vec<Row>, behind: Option<usize>, number: usize, before: Option<usize>)
+    ensures same { AreSame rows.old.items rows.new.items }
+    ensures listed { (kept : Kept) → kept_at kept number ≡ None
+        → slice_index_or (map before_of rows.old.items) number None ≡ before
+        → (lists : Option Lit → Option ℕ) → AreListed kept (map before_of rows.old.items) lists
+        → AreListed kept (map before_of rows.new.items) lists }
+{
+    let Some(newer) = behind else {
+        return;
+    };
+    if is_led(rows, newer, number) {
+        lead(rows, newer, before);
+    }
+}
+
+/// Takes a clause that is dropped off its list. Constant time.
+pub(crate) fn take_off(
+    rows: &mut Vec<Row>,
+    lists: &mut IndexMap<Lit, Listed>,
+    bare: &mut Option<usize>,
+    number: usize,
+)
+    requires { number < length rows.old.items }
+    ensures same { AreSame rows.old.items rows.new.items }
+    ensures listed { (kept : Kept) → kept_at kept number ≡ None
+        → AreListed kept (map before_of rows.old.items) (last_at lists.old bare.old)
+        → AreListed kept (map before_of rows.new.items) (last_at lists.new bare.new) }
+{
+    let row = rows[number];
+    begin_before(lists, bare, row.place, number, row.before);
+    pass_over(rows, row.behind, number, row.before);
+    set_behind(rows, row.before, row.behind);
 }
 
 /// The clause that was listed before another one.

@@ -64,7 +64,7 @@ const SINGLE: [Call; 14] = [
 ];
 
 /// Parts of clauses, of which some are dropped.
-const PARTS: [Call; 24] = [
+const PARTS: [Call; 34] = [
     Call::IsNew(&[]),
     Call::IsNew(&[1]),
     Call::Add(&[1, 2, 3], 1),
@@ -89,6 +89,16 @@ const PARTS: [Call; 24] = [
     Call::Drops(0),
     Call::IsNew(&[]),
     Call::IsNew(&[1, 2, 3]),
+    Call::Add(&[7], 2),
+    Call::Add(&[7, 7], 9),
+    Call::Add(&[-7, 7], 4),
+    Call::Add(&[7, 7], 3),
+    Call::Drops(3),
+    Call::Repeats(&[7]),
+    Call::Drops(2),
+    Call::Repeats(&[7]),
+    Call::DropsAll,
+    Call::IsNew(&[-7, 7]),
 ];
 
 fn literal(number: i8) -> Lit {

@@ -7,6 +7,7 @@ use Rattle.sb_hints.proofs.lists.is_part.Goals as goal
 
 pub literals_of-requires : goal.literals_of-requires
 literals_of-requires c = within_at _ c.args.rows.now c.args.number _ c.requires.within c.requires.inside
+    c.if-row.true
 
 pub returns-then-row : goal.returns-then-row
 returns-then-row c =

@@ -8,7 +8,7 @@ literals_of-requires c =
     let at = rw c.deref.ensures.value at c.in-Some.ensures.lookup.3 in
     rw c.deref-then-row.ensures.value
     (within_there c.self.inside.literals.items c.self.inside.rows.items _ c.args.id c.in-Some.row.now c.self.view_is
-    at.0 at.1 c.self.invariant.within)
+    at.0 at.1 c.self.invariant.stored.within c.if-row.true)
 
 pub returns-then-row : goal.returns-then-row
 returns-then-row c =
