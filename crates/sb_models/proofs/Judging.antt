@@ -1,5 +1,5 @@
 -- Values are a model where they are words, as many as there are live constants, under which all is true.
-use Rattle.std.proofs.Common.{◌≡◌, ◌==◌, ℕ, suc, ◌+◌, Bool, true, false, ◌&&◌, if◌then◌else◌, List, [], ◌∷◌, length, map, refl, sym, ap, ap₂, ◌∙◌, Option, Some, None, option_map, Result, Ok, Err, IfOk}
+use Rattle.std.proofs.Common.{◌≡◌, ◌==◌, ℕ, suc, ◌+◌, Bool, true, false, ◌&&◌, if◌then◌else◌, List, [], ◌∷◌, length, get_or, map, refl, sym, ap, ap₂, ◌∙◌, Option, Some, None, option_map, Result, Ok, Err, IfOk}
 use Rattle.std.specs.List.{list_all}
 use Rattle.std.proofs.lemmas.Bool.{and_parts, false≢true, eq-eqb, eqb-true}
 use Rattle.std.proofs.lemmas.Bool.Decides.{nat_tests}
@@ -15,7 +15,6 @@ use Rattle.sb_script.specs.State.{Level, Assertion, fits, over_levels, constants
 use Rattle.sb_rulebook.specs.Accepted.{at_level, live_by_level, question_in}
 use Rattle.sb_rulebook.specs.Verdicts.{valued, are_model_of, assertion_holds}
 use Rattle.sb_term.specs.declared.term.Serial.{Serial}
-use Rattle.sb_stack.specs.Stacked as stacked
 use Rattle.sb_stack.specs.Stacked.{Stacked, state_of, live_serials, values_at, are_words}
 use Rattle.sb_stack.proofs.CallerLemmas.{live_laid}
 use Rattle.sb_models.specs.Knowing.{is_true_under, IsTruthBy, assertions_of, word_at}
@@ -125,7 +124,7 @@ values_tried (c ∷ cs) [] any xs test h = absurd (false≢true h)
 values_tried (c ∷ cs) (n ∷ serials) any [] test h =
     sym (ap (λ b. b && test (paired (n ∷ serials) [])) (none_next (length serials)))
 values_tried (c ∷ cs) (n ∷ serials) any (x ∷ xs) test h =
-    let w = stacked.word_at any n in
+    let w = get_or any n [] in
     let parts = and_parts ((c.serial == n) && is_of c.sort (Text w)) (fits cs (values_at serials any)) h in
     let here = and_parts (c.serial == n) (is_of c.sort (Text w)) parts.0 in
     one_value c cs n serials x xs test (word_of x) (eqb-true c.serial n here.0) (is_text c.sort w here.1) refl
