@@ -1,10 +1,10 @@
 -- What a check of the state asks of a line, over the table of its terms.
-use Rattle.std.proofs.Common.{◌≡◌, ℕ, zero, suc, ◌+◌, true, false, nat_lt, List, [], ◌∷◌, ◌++◌, map, length, take, drop, Option, Some, None, option_map, refl, ap, ap₂, sym, ◌∙◌, subst, arith}
+use Rattle.std.proofs.Common.{◌≡◌, ◌==◌, ℕ, zero, suc, ◌+◌, true, false, ◌&&◌, nat_lt, List, [], ◌∷◌, ◌++◌, map, length, take, drop, Option, Some, None, option_map, refl, ap, ap₂, sym, ◌∙◌, subst, add-one, arith}
 use Rattle.std.specs.List.{All, list_all}
-use Rattle.std.proofs.lemmas.Bool.{and_parts}
+use Rattle.std.proofs.lemmas.Bool.{and_parts, eqb-true}
 use Rattle.std.proofs.lemmas.Bool.Decides.{nat_tests}
 use Rattle.std.proofs.lemmas.List.{take-map, drop-map, map-append, take-append-drop}
-use Rattle.std.proofs.lemmas.List.Elements.{All-nil, All-cons, All-head, All-tail}
+use Rattle.std.proofs.lemmas.List.Elements.{All-nil, All-cons}
 use Rattle.sb_meaning.specs.Terms.{Term, boolean, integer, text}
 use Rattle.sb_script.specs.State as meaning
 use Rattle.sb_rulebook.specs.AtomRules.{is_declared}
@@ -13,8 +13,8 @@ use Rattle.sb_rulebook.specs.Accepted.{at_level, live_by_level, asked_in, term_o
 use Rattle.sb_term.specs.Numbered.{term_at}
 use Rattle.sb_term.specs.declared.assertion.Assertion.{Assertion}
 use Rattle.sb_sorts.specs.Scopes.{texts, names_in}
-use Rattle.sb_stack.specs.declared.stack.Level.{Level}
-use Rattle.sb_stack.specs.Stacked.{Stacked, state_of, assertion_in, assertion_of, first_level, levels_above, AreAtLevels}
+use Rattle.sb_stack.specs.declared.level.Level.{Level}
+use Rattle.sb_stack.specs.Stacked.{Stacked, state_of, assertion_in, assertion_of, first_level, levels_above, have_levels}
 use Rattle.sb_stack.proofs.CallerLemmas.{live_laid}
 use Rattle.sb_reached.specs.SimpleStates.{is_simple}
 use Rattle.sb_rules.specs.Kept.{IsAsked, IsSimple, live_in}
@@ -23,13 +23,14 @@ term_as : (ts : List Term) (t : Option ℕ) → term_of (assertion_of ts t) ≡ 
 term_as ts None = refl
 term_as ts (Some id) = refl
 
-at_one_level : (ts : List Term) (level : ℕ) (assertions : List Assertion) → All (λ a. a.level ≡ level) assertions
+at_one_level : (ts : List Term) (level : ℕ) (assertions : List Assertion)
+    → list_all (λ a. a.level == level) assertions ≡ true
     → at_level level (map (assertion_in ts) assertions) ≡ map (live_in ts) assertions
 at_one_level ts level [] h = refl
 at_one_level ts level (a ∷ rest) h =
-    ap₂ (λ x ls. x ∷ ls)
-    (ap₂ (λ t n. (t, n)) (term_as ts a.term) (sym (All-head (λ (b : Assertion). b.level ≡ level) a rest h)))
-    (at_one_level ts level rest (All-tail (λ (b : Assertion). b.level ≡ level) a rest h))
+    let parts = and_parts (a.level == level) (list_all (λ b. b.level == level) rest) h in
+    ap₂ (λ x ls. x ∷ ls) (ap₂ (λ t n. (t, n)) (term_as ts a.term) (sym (eqb-true a.level level parts.0)))
+    (at_one_level ts level rest parts.1)
 
 as_many : (ls : List Level) (names : List Naming) (assertions : List meaning.Assertion)
     → length (levels_above ls names assertions) ≡ length ls
@@ -37,17 +38,19 @@ as_many [] names assertions = refl
 as_many (l ∷ ls) names assertions = ap suc (as_many ls (take l.names names) (take l.assertions assertions))
 
 -- the live assertions with their levels, by the number that each has
-live_as : (ts : List Term) (ls : List Level) (names : List Naming) (xs : List Assertion) → AreAtLevels ls xs
+live_as : (ts : List Term) (ls : List Level) (names : List Naming) (xs : List Assertion) → have_levels ls xs ≡ true
     → live_by_level (first_level ls names (map (assertion_in ts) xs)) (levels_above ls names (map (assertion_in ts) xs))
     ≡ map (live_in ts) xs
 live_as ts [] names xs h = at_one_level ts 0 xs h
 live_as ts (l ∷ ls) names xs h =
+    let parts = and_parts (list_all (λ a. a.level == suc (length ls)) (drop l.assertions xs))
+    (have_levels ls (take l.assertions xs)) h in
     ap₂ (λ a b. a ++ b)
     (ap (λ ys. live_by_level (first_level ls (take l.names names) ys) (levels_above ls (take l.names names) ys))
-    (take-map (assertion_in ts) l.assertions xs) ∙ live_as ts ls (take l.names names) (take l.assertions xs) h.1)
-    (ap₂ (λ m ys. at_level (m + 1) ys)
-    (as_many ls (take l.names names) (take l.assertions (map (assertion_in ts) xs)))
-    (drop-map (assertion_in ts) l.assertions xs) ∙ at_one_level ts (length ls + 1) (drop l.assertions xs) h.0)
+    (take-map (assertion_in ts) l.assertions xs) ∙ live_as ts ls (take l.names names) (take l.assertions xs) parts.1)
+    (ap₂ at_level (ap (λ m. m + 1) (as_many ls (take l.names names) (take l.assertions (map (assertion_in ts) xs)))
+    ∙ add-one (length ls)) (drop-map (assertion_in ts) l.assertions xs)
+    ∙ at_one_level ts (suc (length ls)) (drop l.assertions xs) parts.0)
     ∙ (sym (map-append (live_in ts) (take l.assertions xs) (drop l.assertions xs))
     ∙ ap (map (live_in ts)) (take-append-drop l.assertions xs))
 
@@ -75,7 +78,7 @@ integers_there zero serial = refl
 integers_there (suc n) zero = refl
 integers_there (suc n) (suc serial) = integers_there n serial
 
-pub asked_of : (stack : Stacked) → AreAtLevels stack.levels stack.assertions
+pub asked_of : (stack : Stacked) → have_levels stack.levels stack.assertions ≡ true
     → IsAsked stack.table stack.assertions stack.scope.declared 0 (asked_in (state_of stack))
 asked_of stack levels = record {
   live = live_as stack.table stack.levels (names_in stack.scope) stack.assertions levels;
@@ -103,7 +106,7 @@ simple_of ts (a ∷ rest) h = step a.term refl h (simple_of ts rest)
         All-cons (IsSimple ts) a rest (rw is parts.0) (again parts.1)
 
 pub asked_over : (stack : Stacked) (ts : List Term) (assertions : List Assertion) (n : ℕ) → ts ≡ stack.table
-    → assertions ≡ stack.assertions → n ≡ stack.scope.declared → AreAtLevels stack.levels stack.assertions
+    → assertions ≡ stack.assertions → n ≡ stack.scope.declared → have_levels stack.levels stack.assertions ≡ true
     → IsAsked ts assertions n 0 (asked_in (state_of stack))
 asked_over stack ts assertions n t a d levels =
     subst (λ x. IsAsked x assertions n 0 (asked_in (state_of stack))) (sym t)

@@ -1,7 +1,8 @@
 -- An entry of the script, and what is known behind it.
-use Rattle.std.proofs.Common.{◌≡◌, ℕ, true, List, [], ◌∷◌, length, Option, Some, None, ap, sym, refl, ◌∙◌, subst}
+use Rattle.std.proofs.Common.{◌≡◌, ℕ, true, List, [], ◌∷◌, length, Option, Some, None, Ok, ap, sym, refl, ◌∙◌, subst}
 use Rattle.std.specs.declared.vec.Vec.{Vec}
 use Rattle.std.specs.declared.alloc.Global.{Global}
+use Rattle.std.specs.declared.alloc.AllocError.{AllocError}
 use Rattle.sb_meaning.specs.Terms.{Term}
 use Rattle.sb_reached.specs.SimpleStates.{is_simple_state, is_simple_behind}
 use Rattle.sb_script.specs.State.{State}
@@ -19,7 +20,7 @@ use Rattle.sb_models.specs.Laws.{ModelsStay, AreTakenBack}
 use Rattle.sb_stack.specs.declared.stack.Step.{Step}
 use Rattle.sb_stack.specs.declared.stack.Step.TheVariants as code
 use Rattle.sb_stack.specs.Stacked.{Stacked, state_of, IsLonger}
-use Rattle.sb_stack.specs.Steps.{IsStep}
+use Rattle.sb_stack.specs.Steps.{IsStep, IsMoved, leaving_in}
 use Rattle.sb_judge.specs.declared.entry.Entered.{Entered}
 use Rattle.sb_judge.specs.declared.entry.Entered.TheVariants as entered
 use Rattle.sb_judge.specs.declared.judge.Judge.{Judge}
@@ -33,20 +34,21 @@ entered_by (code.Left text level) = entered.Left
 entered_by code.Check = entered.Waits
 entered_by (code.Exit text) = entered.Ends
 
+-- how assertions move, where this is the answer of the stack
+abbrev pub MovesBy : Step → Stacked → Stacked → Type 0
+MovesBy step old new = IsMoved {E = AllocError} (Ok step) old.assertions new.assertions
+
 pub enters : (is : meaning.Step) (step : Step) (old new : State) → IsStep is step old new
     → Enters (entered_by step) is old new
 enters (meaning.answers bytes s) (code.Answer text) old new h = (refl, ap (λ n. Some n) (sym h.1))
 enters (meaning.answers bytes s) (code.Left text level) old new h = absurd h
 enters (meaning.answers bytes s) code.Check old new h = absurd h
 enters (meaning.answers bytes s) (code.Exit text) old new h = absurd h
-enters (meaning.leaves (meaning.above n) bytes s) (code.Answer text) old new h = absurd h
-enters (meaning.leaves (meaning.above n) bytes s) (code.Left text level) old new h = (meaning.above n, (refl, ap (λ t. Some t) (sym h.1)))
-enters (meaning.leaves (meaning.above n) bytes s) code.Check old new h = absurd h
-enters (meaning.leaves (meaning.above n) bytes s) (code.Exit text) old new h = absurd h
-enters (meaning.leaves meaning.all bytes s) (code.Answer text) old new h = absurd h
-enters (meaning.leaves meaning.all bytes s) (code.Left text level) old new h = (meaning.all, (refl, ap (λ t. Some t) (sym h.1)))
-enters (meaning.leaves meaning.all bytes s) code.Check old new h = absurd h
-enters (meaning.leaves meaning.all bytes s) (code.Exit text) old new h = absurd h
+enters (meaning.leaves what bytes s) (code.Answer text) old new h = absurd h
+enters (meaning.leaves what bytes s) (code.Left text level) old new h =
+    (what, (refl, ap (λ t. Some t) (sym h.1.1)))
+enters (meaning.leaves what bytes s) code.Check old new h = absurd h
+enters (meaning.leaves what bytes s) (code.Exit text) old new h = absurd h
 enters (meaning.checks []) (code.Answer text) old new h = absurd h
 enters (meaning.checks []) (code.Left text level) old new h = absurd h
 enters (meaning.checks []) code.Check old new h =
@@ -67,16 +69,11 @@ stays_simple (meaning.answers bytes s) (code.Answer text) old new h behind simpl
 stays_simple (meaning.answers bytes s) (code.Left text level) old new h behind simple = absurd h
 stays_simple (meaning.answers bytes s) code.Check old new h behind simple = absurd h
 stays_simple (meaning.answers bytes s) (code.Exit text) old new h behind simple = absurd h
-stays_simple (meaning.leaves (meaning.above n) bytes s) (code.Answer text) old new h behind simple = absurd h
-stays_simple (meaning.leaves (meaning.above n) bytes s) (code.Left text level) old new h behind simple =
-    ap is_simple_state h.1 ∙ behind
-stays_simple (meaning.leaves (meaning.above n) bytes s) code.Check old new h behind simple = absurd h
-stays_simple (meaning.leaves (meaning.above n) bytes s) (code.Exit text) old new h behind simple = absurd h
-stays_simple (meaning.leaves meaning.all bytes s) (code.Answer text) old new h behind simple = absurd h
-stays_simple (meaning.leaves meaning.all bytes s) (code.Left text level) old new h behind simple =
-    ap is_simple_state h.1 ∙ behind
-stays_simple (meaning.leaves meaning.all bytes s) code.Check old new h behind simple = absurd h
-stays_simple (meaning.leaves meaning.all bytes s) (code.Exit text) old new h behind simple = absurd h
+stays_simple (meaning.leaves what bytes s) (code.Answer text) old new h behind simple = absurd h
+stays_simple (meaning.leaves what bytes s) (code.Left text level) old new h behind simple =
+    ap is_simple_state h.1.1 ∙ behind
+stays_simple (meaning.leaves what bytes s) code.Check old new h behind simple = absurd h
+stays_simple (meaning.leaves what bytes s) (code.Exit text) old new h behind simple = absurd h
 stays_simple (meaning.checks []) (code.Answer text) old new h behind simple = absurd h
 stays_simple (meaning.checks []) (code.Left text level) old new h behind simple = absurd h
 stays_simple (meaning.checks []) code.Check old new h behind simple = ap is_simple_state h ∙ simple
@@ -101,23 +98,16 @@ meets_at_rest e p is = ap (λ (phase : Phase). elim phase as (λ _. Progress) [
   | stopped n refusal ↦ p
 ]) is
 
-abbrev leaving_of : Option ℕ → meaning.Leaving
-leaving_of (Some n) = meaning.above n
-leaving_of None = meaning.all
-
 left_by : (is : meaning.Step) (text : Vec ℕ Global) (level : Option ℕ) (old new : State)
-    → IsStep is (code.Left text level) old new → events_of is old ≡ event_of_leaving (leaving_of level) ∷ []
+    → IsStep is (code.Left text level) old new → events_of is old ≡ event_of_leaving (leaving_in level) ∷ []
 left_by (meaning.answers bytes s) text level old new h = absurd h
-left_by (meaning.leaves (meaning.above n) bytes s) text level old new h =
-    ap (λ l. event_of_leaving (leaving_of l) ∷ []) (sym h.2)
-left_by (meaning.leaves meaning.all bytes s) text level old new h =
-    ap (λ l. event_of_leaving (leaving_of l) ∷ []) (sym h.2)
+left_by (meaning.leaves what bytes s) text level old new h = ap (λ l. event_of_leaving l ∷ []) h.1.0
 left_by (meaning.checks []) text level old new h = absurd h
 left_by (meaning.checks (a ∷ more)) text level old new h = absurd h
 left_by (meaning.exits bytes) text level old new h = absurd h
 
 met_leaving : (level : Option ℕ) (p : Progress)
-    → met (event_of_leaving (leaving_of level)) p ≡ record p { kept = left_in level p.kept }
+    → met (event_of_leaving (leaving_in level)) p ≡ record p { kept = left_in level p.kept }
 met_leaving (Some n) p = refl
 met_leaving None p = refl
 
@@ -141,7 +131,7 @@ pub behind_left : (is : meaning.Step) (text : Vec ℕ Global) (level : Option �
 behind_left is text level old new j k h begun next kept p at =
     subst (λ q. IsAt at_rest k q)
     (sym (ap (λ es. behind es p) (left_by is text level old new h)
-    ∙ (meets_at_rest (event_of_leaving (leaving_of level)) p at.is ∙ met_leaving level p)))
+    ∙ (meets_at_rest (event_of_leaving (leaving_in level)) p at.is ∙ met_leaving level p)))
     (at_left level j k p begun next kept at)
 
 left_nothing : (level : Option ℕ) (format : ℕ) → left_in level (nothing_kept format) ≡ nothing_kept format

@@ -1,10 +1,10 @@
 use Rattle.std.proofs.Common.{subst, sym}
 use Rattle.sb_stack.specs.Stacked.{Stacked, state_of}
-use Rattle.sb_stack.specs.Steps.{entry_of, IsStep, Moves}
+use Rattle.sb_stack.specs.Steps.{entry_of, IsStep}
 use Rattle.sb_script.specs.Replies.{step_of}
 use Rattle.sb_judge.specs.declared.entry.Entered.TheVariants as entered
 use Rattle.sb_judge.specs.Entering.{Enters}
-use Rattle.sb_judge.proofs.Entering.{entered_by, enters, stays_simple, stands, behind_left, stands_left}
+use Rattle.sb_judge.proofs.Entering.{entered_by, MovesBy, enters, stays_simple, stands, behind_left, stands_left}
 use Rattle.sb_judge.proofs.judge.Judge.enter.Goals as goal
 
 pub returns-in-Answer-clause-ok : goal.returns-in-Answer-clause-ok
@@ -22,8 +22,8 @@ returns-in-Answer-clause-standing c =
     (stays_simple step c.in_ok-apply.field-0 old (state_of c.apply.new.self) c.in_ok-apply.ensures.ok
     (c.entries_stay_simple.ensures (entry_of c.args.entry.now) old c.requires.standing.simple)
     c.requires.standing.simple)
-    c.in_ok-apply.ensures.extends (subst (λ s. Moves s c.args.self.now.stack c.apply.new.self) c.in-Answer.is
-    c.in_ok-apply.ensures.moves) c.normals_stay.ensures c.models_stay.ensures
+    c.in_ok-apply.ensures.extends (subst (λ s. MovesBy s c.args.self.now.stack c.apply.new.self) c.in-Answer.is
+    c.in_ok-apply.ensures.grows) c.normals_stay.ensures c.models_stay.ensures
 
 pub returns-in-Left-clause-ok : goal.returns-in-Left-clause-ok
 returns-in-Left-clause-ok c =
@@ -51,7 +51,7 @@ returns-in-Left-clause-standing c =
     (c.entries_stay_simple.ensures (entry_of c.args.entry.now) old c.requires.standing.simple)
     c.requires.standing.simple)
     c.in_ok-apply.ensures.extends
-    (subst (λ s. Moves s c.args.self.now.stack c.apply.new.self) c.in-Left.is c.in_ok-apply.ensures.moves)
+    (subst (λ s. MovesBy s c.args.self.now.stack c.apply.new.self) c.in-Left.is c.in_ok-apply.ensures.grows)
     c.normals_stay.ensures c.leave.ensures.same.begun c.leave.ensures.kept c.leave.ensures.over
     c.leave.ensures.models
 
@@ -70,8 +70,8 @@ returns-in-Check-clause-standing c =
     (stays_simple step c.in_ok-apply.field-0 old (state_of c.apply.new.self) c.in_ok-apply.ensures.ok
     (c.entries_stay_simple.ensures (entry_of c.args.entry.now) old c.requires.standing.simple)
     c.requires.standing.simple)
-    c.in_ok-apply.ensures.extends (subst (λ s. Moves s c.args.self.now.stack c.apply.new.self) c.in-Check.is
-    c.in_ok-apply.ensures.moves) c.normals_stay.ensures c.models_stay.ensures
+    c.in_ok-apply.ensures.extends (subst (λ s. MovesBy s c.args.self.now.stack c.apply.new.self) c.in-Check.is
+    c.in_ok-apply.ensures.grows) c.normals_stay.ensures c.models_stay.ensures
 
 pub returns-clause-ok : goal.returns-clause-ok
 returns-clause-ok c =
@@ -88,5 +88,5 @@ returns-clause-standing c =
     (stays_simple step c.in_ok-apply.field-0 old (state_of c.apply.new.self) c.in_ok-apply.ensures.ok
     (c.entries_stay_simple.ensures (entry_of c.args.entry.now) old c.requires.standing.simple)
     c.requires.standing.simple)
-    c.in_ok-apply.ensures.extends (subst (λ s. Moves s c.args.self.now.stack c.apply.new.self) c.in-Exit.is
-    c.in_ok-apply.ensures.moves) c.normals_stay.ensures c.models_stay.ensures
+    c.in_ok-apply.ensures.extends (subst (λ s. MovesBy s c.args.self.now.stack c.apply.new.self) c.in-Exit.is
+    c.in_ok-apply.ensures.grows) c.normals_stay.ensures c.models_stay.ensures
