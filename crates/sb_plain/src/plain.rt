@@ -94,7 +94,7 @@ impl Plain {
 
     /// Whether a word is in the language of a regex. The members of unions are followed one by one, depth first, and
     /// which of them fail at a place is remembered as long as the same word is asked for: a derivative for each member
-    /// and place that is met. That takes at most 16 turns for each character and 16 more, and no more than 2^18; where
+    /// and place that is met. That takes at most 16 turns for each character and 64 more, and no more than 2^18; where
     /// they do not suffice, a derivative of the whole for each character. A derivative that is known is looked up.
     ///
     /// An error comes for want of memory alone, and the arena may hold more regexes then.
