@@ -1,12 +1,12 @@
 -- The clause of one membership, and the literal in it.
-use Rattle.std.proofs.Common.{◌≡◌, ◌≢◌, ℕ, zero, suc, ◌+◌, ◌<◌, Bool, true, false, ◌&&◌, nat_lt, nat_eq, List, [], ◌∷◌, length, map, get_or, slice_get, Option, Some, None, option_map, refl, sym, ap, ap₂, subst, ◌∙◌, arith}
+use Rattle.std.proofs.Common.{◌≡◌, ◌≢◌, ℕ, zero, suc, ◌<◌, Bool, true, false, nat_lt, nat_eq, List, [], ◌∷◌, length, map, get_or, slice_get, Option, Some, None, option_map, refl, sym, ap, ap₂, subst, ◌∙◌, arith}
 use Rattle.std.specs.Prelude.{option_and_then, MatchOption, is_some, IfSome}
 use Rattle.std.specs.List.{All, list_all, position_from}
 use Rattle.std.proofs.lemmas.Bool.{and_parts, false≢true}
 use Rattle.std.proofs.lemmas.Bool.Decides.{nat_tests}
 use Rattle.std.proofs.lemmas.Iterator.Adapters.{position_from-zero}
 use Rattle.std.proofs.lemmas.List.Quantifiers.{position-Some}
-use Rattle.std.proofs.lemmas.Option.{slice_get_within, slice_get-get_or, get_or_from_slice_get}
+use Rattle.std.proofs.lemmas.Option.{slice_get_within, slice_get-get_or, slice_get-map, get_or_from_slice_get}
 use Rattle.sb_lit.specs.declared.clause.Lit.{Lit}
 use Rattle.sb_lang.specs.RegLan.{RegLan}
 use Rattle.sb_lang.specs.Regex.{Regex}
@@ -21,16 +21,15 @@ use Rattle.sb_meaning.specs.Truth.{meaning_of, means_reglan}
 use Rattle.sb_term.specs.Serials.{has_serials_below, have_serials_below, all_below}
 use Rattle.sb_term.specs.Numbered.{term_at}
 use Rattle.sb_term.specs.declared.assertion.Assertion as code
-use Rattle.sb_stack.specs.Stacked.{Stacked, state_of, assertion_of, assertion_in, HasNumberBelow}
+use Rattle.sb_stack.specs.Stacked.{Stacked, state_of, assertion_of, assertion_in, have_levels, HasNumberBelow}
 use Rattle.sb_sorts.specs.Scopes.{texts}
 use Rattle.sb_script.specs.Brought.{is_regex, is_membership}
 use Rattle.sb_script.specs.Pieces.{Piece, constant_piece}
 use Rattle.sb_script.specs.Sizes.{is_regular}
 use Rattle.sb_script.specs.State.{Assertion, asserted, a_mark, live}
-use Rattle.sb_problem.specs.Normals.{IsRegexOf, IsNumberOf}
+use Rattle.sb_problem.specs.Normals.{IsNumberOf}
 use Rattle.sb_fragment.specs.Memberships.{in_re}
 use Rattle.sb_fragment.specs.Rules.{is_decided}
-use Rattle.sb_rulebook.specs.Accepted.{at_level, term_of}
 use Rattle.sb_rulebook.specs.AtomRules.{is_declared}
 use Rattle.sb_rulebook.specs.Atoms.{Atom, AtomOver, bool_atom, in_atom, le_atom, sum_atom, and_atom, iff_atom, is_same_atom, number_of}
 use Rattle.sb_rulebook.specs.Kept.{AllKept, Asked}
@@ -46,6 +45,7 @@ use Rattle.sb_refute.specs.Refuting.{membership_of}
 use Rattle.sb_refute.proofs.CallerLemmas.{backs-grown}
 use Rattle.sb_prover.specs.Proving.{HaveLevels, level_at}
 use Rattle.sb_prover.specs.Claiming.{IsClaimed, Claims, Stands}
+use Rattle.sb_prover.proofs.LiveLevels.{row_of, live-rows}
 
 same-some : {X : Type 0} (x y : X) → Some x ≡ Some y → x ≡ y
 same-some x y h = cc
@@ -65,13 +65,6 @@ same-expression s z R Q h = cc
 pub the-term : (assertions : List Assertion) (place : ℕ) (t u : Term) → slice_get assertions place ≡ Some (asserted t)
     → slice_get assertions place ≡ Some (asserted u) → t ≡ u
 the-term assertions place t u h k = same-term t u (same-some (asserted t) (asserted u) (sym h ∙ k))
-
--- it is a live assertion on the lowest level
-pub live-there : (assertions : List Assertion) (place : ℕ) (t : Term) → slice_get assertions place ≡ Some (asserted t)
-    → slice_get (at_level 0 assertions) place ≡ Some (Some t, 0)
-live-there [] place t h = absurd (omega (arith, slice_get_within [] place (asserted t) h))
-live-there (a ∷ rest) zero t h = ap (λ b. Some (term_of b, 0)) (same-some a (asserted t) h)
-live-there (a ∷ rest) (suc place) t h = live-there rest place t h
 
 sort-there : (n serial : ℕ) → serial < n → slice_get (texts n) serial ≡ Some text
 sort-there zero serial l = absurd (omega (arith, l))
@@ -248,7 +241,7 @@ levels-more live place e f a there level others h other b found = step (nat_eq o
 
 -- What is put at one place.
 pub claims : OrderTellsApart → (asked : Asked) (assertions : List Assertion) (serial z place : ℕ) (t R : Term)
-    (found : Option ℕ) (rs mid more : List Regex) (e f : Backing) (o : Option Asserted) (a : Asserted)
+    (n : ℕ) (found : Option ℕ) (rs mid more : List Regex) (e f : Backing) (o : Option Asserted) (a : Asserted)
     (old new : Option (List ℕ)) → IsPlaceOf assertions serial place → slice_get assertions place ≡ Some (asserted t)
     → t ≡ in_re (constant z text) R → IsNumberOf mid R found → Extends rs mid → Extends mid more
     → HaveRegexesBelow (length rs) e.atoms → HaveRegexesBelow (length more) f.atoms
@@ -257,9 +250,9 @@ pub claims : OrderTellsApart → (asked : Asked) (assertions : List Assertion) (
     → ((other : ℕ) → other ≢ place → asserted_at f.asserted other ≡ asserted_at e.asserted other)
     → o ≡ asserted_at f.asserted place → o ≡ Some a
     → option_map (λ (b : Asserted). b.literal) o ≡ brought_translation (atoms_in more f.atoms) t
-    → IfSome o (λ (b : Asserted). b.level ≡ 0) → level_at asked.live place ≡ Some 0
+    → IfSome o (λ (b : Asserted). b.level ≡ n) → level_at asked.live place ≡ Some n
     → Claims asked assertions serial place rs more e f old new
-claims apart asked assertions serial z place t R found rs mid more e f o a old new p stands is number first second
+claims apart asked assertions serial z place t R n found rs mid more e f o a old new p stands is number first second
     below above puts atoms others answer some literal level at = record {
       puts = λ memo before b.
           puts memo before (backs-grown rs mid memo memo e before first (λ n pieces h. h) below b);
@@ -273,8 +266,8 @@ claims apart asked assertions serial z place t R found rs mid more e f o a old n
       levels = levels-more asked.live place e f a there (at ∙ ap Some (sym low)) others;
     }
   where
-    low : a.level ≡ 0
-    low = subst (λ (x : Option Asserted). IfSome x (λ (b : Asserted). b.level ≡ 0)) some level
+    low : a.level ≡ n
+    low = subst (λ (x : Option Asserted). IfSome x (λ (b : Asserted). b.level ≡ n)) some level
 
     there : asserted_at f.asserted place ≡ Some a
     there = sym answer ∙ some
@@ -304,11 +297,10 @@ a-member assertions serial place t p stands =
     is-member t serial p.regex (the-term assertions place t (in_re (constant serial text) p.regex) stands p.there)
     p.decided
 
-pub is-live : (asked : Asked) (assertions : List Assertion) (n place : ℕ) (t : Term)
-    → asked.live ≡ at_level 0 assertions → asked.sorts ≡ texts n → slice_get assertions place ≡ Some (asserted t)
-    → has_serials_below n t ≡ true → IsLive asked place t 0
-is-live asked assertions n place t same sorts stands below = record {
-  live = ap (λ xs. slice_get xs place) same ∙ live-there assertions place t stands;
+pub is-live : (asked : Asked) (n place : ℕ) (t : Term) (level : ℕ) → asked.sorts ≡ texts n
+    → slice_get asked.live place ≡ Some (Some t, level) → has_serials_below n t ≡ true → IsLive asked place t level
+is-live asked n place t level sorts there below = record {
+  live = there;
   declared = λ serial R is. ap (λ ss. is_declared ss text serial) sorts ∙ declared-there n t below serial R is;
 }
 
@@ -355,12 +347,16 @@ all-at test (t ∷ ts) (suc id) l h =
 pub stands-there : (s : Stacked) (place id : ℕ) (rows : List code.Assertion) (t : Term) (d : code.Assertion)
     → rows ≡ s.assertions → map (assertion_in s.table) rows ≡ live (state_of s)
     → All (HasNumberBelow (length s.table)) s.assertions → all_below s.scope.declared s.table ≡ true
-    → slice_get (live (state_of s)) place ≡ Some (asserted t) → (get_or rows place d).term ≡ Some id
-    → Stands s place id
-stands-there s place id rows t d value same numbers below there some =
+    → have_levels s.levels s.assertions ≡ true → slice_get (live (state_of s)) place ≡ Some (asserted t)
+    → (get_or rows place d).term ≡ Some id → Stands s place id (get_or rows place d).level
+stands-there s place id rows t d value same numbers below levels there some =
     record {
       known = known;
       stands = stands;
+      there = ap (λ live. slice_get live place) (live-rows s levels) ∙ slice_get-map (row_of s.table) s.assertions place
+          ∙ ap (option_map (row_of s.table)) (slice_get-get_or s.assertions place d within)
+          ∙ ap₂ (λ o n. Some (option_map (term_at s.table) o, n)) its
+          (ap (λ (xs : List code.Assertion). (get_or xs place d).level) (sym value));
       declared = all-at (has_serials_below s.scope.declared) s.table id known below;
     }
   where

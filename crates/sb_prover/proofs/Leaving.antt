@@ -1,10 +1,9 @@
 -- Levels that are left.
-use Rattle.std.proofs.Common.{◌≡◌, ℕ, zero, suc, ◌<◌, ◌≤◌, false, List, [], ◌∷◌, length, take, slice_get, Option, Some, None, option_map, refl, sym, ap, subst, ◌∙◌, arith}
+use Rattle.std.proofs.Common.{◌≡◌, ℕ, zero, suc, ◌<◌, List, [], ◌∷◌, take, Option, Some, None, refl, ap, ◌∙◌, arith}
 use Rattle.sb_lang.specs.Regex.{Regex}
 use Rattle.sb_deriv.specs.Faithful.{Memo}
 use Rattle.sb_meaning.specs.Terms.{Term}
-use Rattle.sb_rulebook.specs.Brought.{newest_format}
-use Rattle.sb_rulebook.specs.Kept.{AllKept, nothing_kept, dropped_above, all_dropped}
+use Rattle.sb_rulebook.specs.Kept.{dropped_above, all_dropped}
 use Rattle.sb_rulebook.specs.Judging.{Progress, met}
 use Rattle.sb_refute.specs.declared.evidence.Asserted.{Asserted}
 use Rattle.sb_refute.specs.Backing.{Backing, Backs, asserted_at, AreUpTo, retracted, cleared}

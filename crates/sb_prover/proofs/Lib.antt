@@ -1,4 +1,6 @@
 mod LinesTaken
+mod LiveLevels
+mod LiveSteps
 mod Formats
 mod Sayings
 mod SatValues

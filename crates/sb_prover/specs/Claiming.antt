@@ -11,6 +11,7 @@ use Rattle.sb_stack.specs.Stacked.{Stacked, state_of}
 use Rattle.sb_term.specs.Numbered.{term_at}
 use Rattle.sb_term.specs.Serials.{has_serials_below}
 use Rattle.sb_fragment.specs.Memberships.{in_re}
+use Rattle.sb_rulebook.specs.Accepted.{asked_in}
 use Rattle.sb_rulebook.specs.Kept.{AllKept, Asked}
 use Rattle.sb_atoms.specs.Numbered as numbered
 use Rattle.sb_refute.specs.Backing.{Backing, Backs, EvidencesUncounted, asserted_at}
@@ -26,10 +27,11 @@ IsMember assertions place = (serial : ℕ) × IsPlaceOf assertions serial place
 abbrev pub AreMembers : List Assertion → List ℕ → Type 0
 AreMembers assertions places = (serial : ℕ) × All (IsPlaceOf assertions serial) places
 
--- The number is of the term that is asserted at the place, whose constants are declared.
-pub record Stands (s : Stacked) (place id : ℕ) : Type 0 where
+-- The number is of the term that is asserted at the place, on this level, and whose constants are declared.
+pub record Stands (s : Stacked) (place id level : ℕ) : Type 0 where
   pub known : id < length s.table
   pub stands : slice_get (live (state_of s)) place ≡ Some (asserted (term_at s.table id))
+  pub there : slice_get (asked_in (state_of s)).live place ≡ Some (Some (term_at s.table id), level)
   pub declared : has_serials_below s.scope.declared (term_at s.table id) ≡ true
 
 -- The assertion at the place is a membership of the constant, and its atom in the proof is that of its normal regex.

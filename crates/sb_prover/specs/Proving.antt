@@ -1,9 +1,13 @@
 -- What is known of a proof that is written along a script.
-use Rattle.std.specs.Prelude.{◌≡◌, ℕ, ◌≤◌, Bool, false, List, length, slice_get, Option, Some, None, option_map}
+use Rattle.std.specs.Prelude.{◌≡◌, ℕ, ◌≤◌, Bool, false, List, ◌++◌, length, take, slice_get, Option, Some, None, option_map, IfSome}
 use Rattle.sb_lang.specs.Regex.{Regex}
 use Rattle.sb_regex.specs.Numbered.{Extends}
 use Rattle.sb_deriv.specs.Faithful.{Memo, KeepsEntries}
+use Rattle.sb_reader.specs.Entries.{Entry}
+use Rattle.sb_script.specs.State.{State, live}
+use Rattle.sb_script.specs.Replies.{step_of}
 use Rattle.sb_script.specs.Verdicts.{Verdict}
+use Rattle.sb_rulebook.specs.Accepted.{asked_in}
 use Rattle.sb_rulebook.specs.Atoms.{AtomOver}
 use Rattle.sb_rulebook.specs.Kept.{nothing_kept}
 use Rattle.sb_rulebook.specs.Brought.{newest_format}
@@ -13,6 +17,9 @@ use Rattle.sb_certified.specs.Certified.{Proves}
 use Rattle.sb_proof.specs.Tapes.{with_bytes}
 use Rattle.sb_atoms.specs.Numbered.{HaveRegexesBelow}
 use Rattle.sb_meaning.specs.Terms.{Term}
+use Rattle.sb_stack.specs.declared.stack.Step.{Step}
+use Rattle.sb_stack.specs.declared.stack.Step.TheVariants as code
+use Rattle.sb_stack.specs.Steps.{IsStep}
 use Rattle.sb_refute.specs.declared.evidence.Asserted.{Asserted}
 use Rattle.sb_refute.specs.Backing.{Backing, Backs, asserted_at}
 
@@ -49,6 +56,23 @@ AreLow level live = (place n : ℕ) → level_at live place ≡ Some n → n ≤
 abbrev pub leaving : Option ℕ → Event
 leaving (Some level) = leaves_above level
 leaving None = leaves_all
+
+-- Clauses keep the levels that they have where more assertions are live.
+abbrev pub LevelsStay : Type 0
+LevelsStay = (live more : List (Option Term × ℕ)) (e : Backing) → HaveLevels live e → HaveLevels (live ++ more) e
+
+-- what a step makes of the live assertions with their levels: where levels are left a front of them stays, of which
+-- none is above the level down to which they were left; else all stay in front
+abbrev pub MovesLive : Step → State → State → Type 0
+MovesLive (code.Left text level) old new =
+    ((asked_in new).live ≡ take (length (live new)) (asked_in old).live)
+    × IfSome level (λ n. AreLow n (asked_in new).live)
+MovesLive _ old new = (more : List (Option Term × ℕ)) × ((asked_in new).live ≡ (asked_in old).live ++ more)
+
+-- Each entry of a script does so.
+abbrev pub EntriesMoveLive : Type 0
+EntriesMoveLive = (entry : Entry) (old new : State) (step : Step) → IsStep (step_of entry old) step old new
+    → MovesLive step old new
 
 -- It stays so where more regexes and more derivatives become known.
 abbrev pub AbreastStays : Type 0

@@ -1,5 +1,6 @@
 -- Private: the lines that a verdict has, and what they prove.
-use Rattle.std.specs.Prelude.{◌≡◌, ℕ, ◌^◌, ◌-◌, Some, Bool, true, if◌then◌else◌, List, [], ◌∷◌, map, Option}
+use Rattle.std.specs.Prelude.{◌≡◌, ℕ, ◌^◌, ◌-◌, Some, Bool, true, if◌then◌else◌, List, [], ◌∷◌, map, get_or, Option}
+use Rattle.sb_meaning.specs.Values.{Value, Text}
 use Rattle.sb_script.specs.Verdicts.{Verdict}
 use Rattle.sb_rulebook.specs.Brought.{newest_format}
 use Rattle.sb_rulebook.specs.Lines.{Line, header_line, text_of}
@@ -24,6 +25,10 @@ first_lines begun = if begun then [] else header_line newest_format ∷ []
 -- these lines are what was told since
 abbrev pub Tells : List Line → Option (List ℕ) → Option (List ℕ) → Type 0
 Tells ls old new = new ≡ with_bytes (bytes_of (map text_of ls)) old
+
+-- the value of the constant of a serial: the word that stands there, past the last one the empty word
+abbrev pub value_at : List (List ℕ) → ℕ → Value
+value_at words n = Text (get_or words n [])
 
 -- Lines were put that prove a verdict, and their reader keeps this behind them.
 pub record IsSaid (q : Question) (v : Verdict) (before : Progress) (reached : AllKept) (old new : Option (List ℕ)) :

@@ -12,14 +12,14 @@ ghost use Rattle.sb_rulebook.specs.LineLaws.{bytes_of};
 ghost use Rattle.sb_rulebook.specs.Lines.{text_of};
 ghost use Rattle.sb_certified.specs.Certified.{last_lines};
 ghost use Rattle.sb_proof.specs.Tapes.{with_bytes};
-ghost use Rattle.sb_stack.specs.Stacked.{Stacked, state_of, values_from};
+ghost use Rattle.sb_stack.specs.Stacked.{Stacked, state_of, live_serials, values_at};
 ghost use Rattle.sb_stack.specs.Steps.{verdict_in, found};
 ghost use Rattle.sb_stack.specs.declared.verdict.Verdict.TheVariants as verdicts;
 ghost use Rattle.sb_trace.specs.Putting.{CountsTapeFault};
 ghost use Rattle.sb_atoms.specs.Numbered.{HaveRegexesBelow};
 ghost use Rattle.sb_refute.specs.Backing.{Backs};
 ghost use Rattle.sb_decide.specs.Knowing.{Knows, IsDecision};
-ghost use Rattle.sb_prover.specs.Proving.{IsAbreast, IsProved, HaveLevels, AreLow, leaving, AbreastStays, RegexesStayBelow};
+ghost use Rattle.sb_prover.specs.Proving.{IsAbreast, IsProved, HaveLevels, AreLow, leaving, AbreastStays, RegexesStayBelow, LevelsStay, EntriesMoveLive};
 ghost use Rattle.sb_prover.specs.Saying.{first_lines, IsRefuted, Tells};
 
 use crate::refutation::refute;
@@ -79,14 +79,15 @@ impl Prover {
         tape: &mut L,
     ) -> Result<Verdict, TapeFault>
         requires knows { Knows decider.old (found verdict stack.now) }
-        requires verdict { IsVerdict (state_of stack.now) [] (verdict_in verdict) }
+        requires verdict { IsVerdict (state_of stack.now) [] (verdict_in (live_serials stack.now) verdict) }
         requires decided { IsDecision verdict decider.old }
         requires regexes { HaveRegexesBelow (length decider.old.arena) self.old.evidence.atoms }
         ensures proves { IfOk result (λ v. (before : Progress)
             → IsAbreast decider.old.arena decider.old.graph.memo self.old before
-            → IsProved (question_in (state_of stack.now) []) (verdict_in v) before decider.new.arena
-            decider.new.graph.memo self.new (L.Tape.told tape.old) (L.Tape.told tape.new)) }
-        ensures verdict { IfOk result (λ v. IsVerdict (state_of stack.now) [] (verdict_in v)) }
+            → IsProved (question_in (state_of stack.now) []) (verdict_in (live_serials stack.now) v) before
+            decider.new.arena decider.new.graph.memo self.new (L.Tape.told tape.old) (L.Tape.told tape.new)) }
+        ensures verdict { IfOk result
+            (λ v. IsVerdict (state_of stack.now) [] (verdict_in (live_serials stack.now) v)) }
         ensures regexes { OnOk result (HaveRegexesBelow (length decider.new.arena) self.new.evidence.atoms) }
         ensures knows { IfOk result (λ v. Knows decider.new (found v stack.now)) }
         ensures levels { OnOk result (HaveLevels (asked_in (state_of stack.now)).live self.old.evidence
@@ -95,7 +96,7 @@ impl Prover {
     {
         match verdict {
             Verdict::Sat(words) => {
-                self.prove_sat(&words, tape)?;
+                self.prove_sat(stack, &words, tape)?;
                 Ok(Verdict::Sat(words))
             }
             Verdict::Unsat => self.prove_unsat(decider, stack, tape),
@@ -150,12 +151,19 @@ impl Prover {
         Ok(())
     }
 
-    /// Puts the lines of a check whose live assertions are true for these words.
-    fn prove_sat<L: Tape>(&mut self, words: &[Word], tape: &mut L) -> Result<(), TapeFault>
-        ensures proves { OnOk result ((s : Stacked) (rs : List Regex) (memo : Memo) (before : Progress)
-            → IsVerdict (state_of s) [] (is_sat (values_from 0 words.now)) → IsAbreast rs memo self.old before
-            → IsProved (question_in (state_of s) []) (is_sat (values_from 0 words.now)) before rs memo self.new
-            (L.Tape.told tape.old) (L.Tape.told tape.new)) }
+    /// Puts the lines of a check whose live assertions are true for these words, the one of each live constant at its
+    /// serial.
+    fn prove_sat<L: Tape>(
+        &mut self,
+        stack: &Stack,
+        words: &[Word],
+        tape: &mut L,
+    ) -> Result<(), TapeFault>
+        ensures proves { OnOk result ((rs : List Regex) (memo : Memo) (before : Progress)
+            → IsVerdict (state_of stack.now) [] (is_sat (values_at (live_serials stack.now) words.now))
+            → IsAbreast rs memo self.old before
+            → IsProved (question_in (state_of stack.now) []) (is_sat (values_at (live_serials stack.now) words.now))
+            before rs memo self.new (L.Tape.told tape.old) (L.Tape.told tape.new)) }
         ensures evidence { OnOk result (self.new.evidence ≡ self.old.evidence) }
         ensures counts { CountsTapeFault result (L.Tape.faults tape.old) (L.Tape.faults tape.new) }
     {
@@ -163,7 +171,8 @@ impl Prover {
         text_is_one_line();
         texts_are_lines();
         self.begin(tape)?;
-        let values = values_of(self.alloc, words)?;
+        let serials = stack.constants()?;
+        let values = values_of(self.alloc, &serials, words)?;
         say(Said::Sat(values), tape)?;
         Ok(())
     }
@@ -198,9 +207,10 @@ impl Prover {
         requires regexes { HaveRegexesBelow (length decider.old.arena) self.old.evidence.atoms }
         ensures proves { IfOk result (λ v. (before : Progress)
             → IsAbreast decider.old.arena decider.old.graph.memo self.old before
-            → IsProved (question_in (state_of stack.now) []) (verdict_in v) before decider.new.arena
-            decider.new.graph.memo self.new (L.Tape.told tape.old) (L.Tape.told tape.new)) }
-        ensures verdict { IfOk result (λ v. IsVerdict (state_of stack.now) [] (verdict_in v)) }
+            → IsProved (question_in (state_of stack.now) []) (verdict_in (live_serials stack.now) v) before
+            decider.new.arena decider.new.graph.memo self.new (L.Tape.told tape.old) (L.Tape.told tape.new)) }
+        ensures verdict { IfOk result
+            (λ v. IsVerdict (state_of stack.now) [] (verdict_in (live_serials stack.now) v)) }
         ensures regexes { OnOk result (HaveRegexesBelow (length decider.new.arena) self.new.evidence.atoms) }
         ensures knows { IfOk result (λ v. Knows decider.new (found v stack.now)) }
         ensures levels { OnOk result (HaveLevels (asked_in (state_of stack.now)).live self.old.evidence
@@ -248,7 +258,8 @@ impl Prover {
             return Ok(Refuted::Clause(empty.clause));
         }
         let mut budget = Budget::new(u64::MAX);
-        refute(&mut self.evidence, decider, stack, tape, &mut budget)
+        let refuted = refute(&mut self.evidence, decider, stack, tape, &mut budget)?;
+        Ok(refuted)
     }
 }
 
@@ -260,4 +271,15 @@ pub fn abreast_stays()
 /// Atoms whose regexes are below a number have them below a greater one, so also where the arena grew.
 pub fn regexes_stay_below()
     ensures { RegexesStayBelow }
+{}
+
+/// Clauses of assertions keep the levels that they have where more assertions are live.
+pub fn levels_stay()
+    ensures { LevelsStay }
+{}
+
+/// What an entry of a script makes of the live assertions with their levels: where levels are left a front of them
+/// stays, of which none is above the level down to which they were left; else all stay in front.
+pub fn entries_move_live()
+    ensures { EntriesMoveLive }
 {}

@@ -30,9 +30,6 @@ use sb_regex::Arena;
 use sb_stack::Stack;
 use sb_term::TermId;
 
-/// The level of each assertion, while scripts have no other.
-const LEVEL: u64 = 0;
-
 /// The empty clause, from the live assertions of a constant that is known to have no word. The lines that it lacks are
 /// put.
 pub(crate) fn refute<L: Tape>(
@@ -134,23 +131,24 @@ fn claim<L: Tape>(
 {
     order_tells_apart();
     let table = stack.table();
-    let term = term_of(stack, place);
+    let (term, level) = member_at(stack, place);
     let (_, expression) = membership(table, term).unwrap();
     normals.normal(table, arena, expression)?;
-    match evidence.assertion(measures, normals, table, arena, place, term, LEVEL, tape)? {
+    match evidence.assertion(measures, normals, table, arena, place, term, level, tape)? {
         Some(_) => Ok(()),
         None => unreachable!(),
     }
 }
 
-/// The term of the live assertion at a place, which is a membership of a constant.
-fn term_of(stack: &Stack, place: usize) -> TermId
+/// The term of the live assertion at a place, which is a membership of a constant, and the assertion's level.
+fn member_at(stack: &Stack, place: usize) -> (TermId, u64)
     requires { IsMember (live (state_of stack.now)) place }
-    ensures { Stands stack.now place result }
+    ensures { Stands stack.now place result.0 result.1 }
 {
     let assertions = stack.assertions();
-    let Some(id) = assertions[place].term else {
+    let assertion = &assertions[place];
+    let Some(id) = assertion.term else {
         unreachable!();
     };
-    id
+    (id, assertion.level)
 }

@@ -1,4 +1,4 @@
-use Rattle.std.proofs.Common.{◌+◌, arith, take, get_or, refl, sym, ap, subst, ◌∙◌}
+use Rattle.std.proofs.Common.{arith, take, get_or, refl, sym, subst, ◌∙◌}
 use Rattle.std.proofs.lemmas.List.{take_more, take_all}
 use Rattle.sb_script.specs.State.{live}
 use Rattle.sb_stack.specs.Stacked.{state_of}

@@ -1,4 +1,4 @@
-use Rattle.std.proofs.Common.{IfSome, take, sym, ap, subst, ◌∙◌}
+use Rattle.std.proofs.Common.{IfSome, take, sym, ap, subst}
 use Rattle.sb_rulebook.specs.Judging.{met}
 use Rattle.sb_refute.specs.Backing.{Backing}
 use Rattle.sb_prover.specs.Proving.{Proving, IsAbreast, HaveLevels, AreLow, leaving}

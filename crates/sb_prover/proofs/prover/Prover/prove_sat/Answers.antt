@@ -1,17 +1,23 @@
-use Rattle.std.proofs.Common.{[], subst, sym, ap}
+use Rattle.std.proofs.Common.{[], subst, sym, ap, map, ◌∙◌}
 use Rattle.sb_script.specs.Verdicts.{is_sat}
 use Rattle.sb_rulebook.specs.Lines.{said_sat}
 use Rattle.sb_rulebook.specs.Accepted.{question_in}
-use Rattle.sb_stack.specs.Stacked.{state_of, values_from}
+use Rattle.sb_stack.specs.Stacked.{state_of, live_serials, values_at}
 use Rattle.sb_prover.specs.Proving.{IsProved}
+use Rattle.sb_prover.specs.Saying.{value_at}
 use Rattle.sb_prover.proofs.Proved.{sat-proved}
 use Rattle.sb_prover.proofs.prover.Prover.prove_sat.Goals as goal
 
 pub returns-clause-proves : goal.returns-clause-proves
-returns-clause-proves g c = λ s rs memo before verdict h.
-    subst (λ p. IsProved (question_in (state_of s) []) (is_sat (values_from 0 c.args.words.now)) before rs memo p
+returns-clause-proves g c = λ rs memo before verdict h.
+    let s = c.args.stack.now in
+    let words = c.args.words.now in
+    subst (λ p. IsProved (question_in (state_of s) []) (is_sat (values_at (live_serials s) words)) before rs memo p
     (g.L.Tape.told c.args.tape.now) (g.L.Tape.told c.say.new.tape))
     (sym c.in_ok-begin.ensures.begun)
-    (sat-proved c.text_is_read.ensures c.text_is_one_line.ensures c.texts_are_lines.ensures s c.args.words.now _ before
-    rs memo c.args.self.now (g.L.Tape.told c.args.tape.now) (g.L.Tape.told c.begin.new.tape) (g.L.Tape.told c.say.new.tape)
-    verdict (ap said_sat c.in_ok-values.ensures) h c.in_ok-begin.ensures.told c.in_ok-say.ensures.told)
+    (sat-proved c.text_is_read.ensures c.text_is_one_line.ensures c.texts_are_lines.ensures s words _ before rs memo
+    c.args.self.now (g.L.Tape.told c.args.tape.now) (g.L.Tape.told c.begin.new.tape) (g.L.Tape.told c.say.new.tape)
+    verdict
+    (ap said_sat (c.in_ok-values.ensures
+    ∙ ap (map (value_at words)) (ap (map (λ n. n.0)) c.deref.ensures.value ∙ c.in_ok-serials.ensures)))
+    h c.in_ok-begin.ensures.told c.in_ok-say.ensures.told)

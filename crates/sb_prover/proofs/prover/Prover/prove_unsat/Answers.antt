@@ -3,7 +3,7 @@ use Rattle.sb_script.specs.Verdicts.{is_unsat, is_unknown}
 use Rattle.sb_rulebook.specs.Accepted.{question_in, asked_in}
 use Rattle.sb_stack.specs.Stacked.{state_of}
 use Rattle.sb_refute.specs.Backing.{Backs}
-use Rattle.sb_prover.specs.Proving.{IsProved}
+use Rattle.sb_prover.specs.Proving.{Proving, IsProved, HaveLevels}
 use Rattle.sb_prover.specs.Saying.{IsRefuted}
 use Rattle.sb_prover.proofs.Proved.{unsat-proved, unknown-proved}
 use Rattle.sb_prover.proofs.prover.Prover.prove_unsat.Goals as goal
@@ -48,3 +48,15 @@ returns-in_ok-say-in-Spent-clause-proves g c = λ before h.
     (c.in_ok-id.ensures.refuted before.kept
     (subst (λ p. Backs old.arena old.graph.memo p.evidence before.kept) (sym first) h.backs) h.counted))
     c.in_ok-id.ensures.regexes c.in_ok-say-in-Spent.ensures.told)
+
+pub returns-in_ok-say-in-Clause-clause-levels : goal.returns-in_ok-say-in-Clause-clause-levels
+returns-in_ok-say-in-Clause-clause-levels g c = λ h.
+    c.in_ok-id.ensures.levels
+    (subst (λ (p : Proving). HaveLevels (asked_in (state_of c.args.stack.now)).live p.evidence)
+    (sym c.in_ok-begin.ensures.begun) h)
+
+pub returns-in_ok-say-in-Spent-clause-levels : goal.returns-in_ok-say-in-Spent-clause-levels
+returns-in_ok-say-in-Spent-clause-levels g c = λ h.
+    c.in_ok-id.ensures.levels
+    (subst (λ (p : Proving). HaveLevels (asked_in (state_of c.args.stack.now)).live p.evidence)
+    (sym c.in_ok-begin.ensures.begun) h)
