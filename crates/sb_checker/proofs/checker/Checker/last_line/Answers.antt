@@ -1,6 +1,6 @@
-use Rattle.std.proofs.Common.{true, false, ◌∙◌, arith}
+use Rattle.std.proofs.Common.{true, false, refl, ◌∙◌, arith}
 use Rattle.std.proofs.lemmas.Result.{err_from_is_err_and}
-use Rattle.sb_checker.proofs.EndTurns.{last_more, last_stops}
+use Rattle.sb_checker.proofs.EndTurns.{last_none, last_more, last_stops}
 use Rattle.sb_checker.proofs.checker.Checker.last_line.Goals as goal
 
 pub returns-in_err-last_turn-clause-err : goal.returns-in_err-last_turn-clause-err
@@ -11,6 +11,14 @@ returns-in_err-last_turn-clause-err g c =
 pub returns-then-branch-clause-ok : goal.returns-then-branch-clause-ok
 returns-then-branch-clause-ok g c =
     last_more true _ _ _ _ _ _ _ _ _ c.loop.invariant.goes (rw c.if-branch.true at c.in_ok-last_turn.ensures.ok)
+
+pub loop-init : goal.loop-init
+loop-init g c = record {
+  goes = last_none c.args.self.now.judge c.args.lines.now (g.W.World.outside c.args.world.now);
+  standing = c.requires.standing;
+  room = omega arith;
+  faults = refl;
+}
 
 pub loop-preserved : goal.loop-preserved
 loop-preserved g c = record {

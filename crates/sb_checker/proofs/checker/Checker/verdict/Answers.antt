@@ -1,6 +1,6 @@
-use Rattle.std.proofs.Common.{Some, ◌∙◌, arith}
+use Rattle.std.proofs.Common.{Some, refl, ◌∙◌, arith}
 use Rattle.std.proofs.lemmas.Result.{err_from_is_err_and}
-use Rattle.sb_checker.proofs.CheckTurns.{through_more, waits_on, verdict_stops}
+use Rattle.sb_checker.proofs.CheckTurns.{through_none, through_more, waits_on, verdict_stops}
 use Rattle.sb_checker.proofs.checker.Checker.verdict.Goals as goal
 
 pub returns-in_err-said-clause-err : goal.returns-in_err-said-clause-err
@@ -13,6 +13,15 @@ pub returns-in-Some-clause-ok : goal.returns-in-Some-clause-ok
 returns-in-Some-clause-ok g c =
     through_more (Some c.in-Some.said) _ _ _ _ _ _ _ _ _ c.loop-said.invariant.goes (rw c.in-Some.is at
     c.in_ok-said.ensures.ok)
+
+pub loop-said-init : goal.loop-said-init
+loop-said-init g c = record {
+  goes = through_none c.args.self.now.judge c.args.lines.now (g.W.World.outside c.args.world.now);
+  stack = refl;
+  standing = c.requires.standing;
+  room = omega arith;
+  faults = refl;
+}
 
 pub loop-said-preserved : goal.loop-said-preserved
 loop-said-preserved g c = record {
