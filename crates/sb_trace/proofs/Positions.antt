@@ -1,5 +1,5 @@
 -- The numbers of regexes in an order.
-use Rattle.std.proofs.Common.{◌≡◌, ℕ, suc, ◌+◌, ◌<◌, Bool, true, false, cond, ◌||◌, nat_eq, List, [], ◌∷◌, ◌++◌, length, slice_get, Option, Some, None, is_some, refl, sym, ap, ◌∙◌, arith}
+use Rattle.std.proofs.Common.{◌≡◌, ℕ, suc, ◌+◌, ◌<◌, Bool, true, false, cond, ◌||◌, nat_eq, List, [], ◌∷◌, ◌++◌, length, slice_get, Option, Some, None, is_some, refl, sym, ap, ◌∙◌, ◌⊎◌, inl, inr, arith}
 use Rattle.std.specs.List.{position, position_from, list_any}
 use Rattle.std.proofs.lemmas.Bool.{false≢true}
 use Rattle.std.proofs.lemmas.Bool.Decides.{nat_tests}
@@ -80,6 +80,27 @@ position-last (x ∷ xs) n i h = step (nat_eq n x) h (position-last xs n (i + 1)
 -- the last regex of an order has a number
 pub number-last : (order : List ℕ) (n : ℕ) → number_in order n ≡ None → is_some (number_in (order ++ n ∷ []) n) ≡ true
 number-last order n h = ap is_some (position-last order n 0 h)
+
+-- one that has a number with one regex more had one before, or is that one
+position-before : (order : List ℕ) (m n i : ℕ) → is_some (position_from (nat_eq n) i (order ++ m ∷ [])) ≡ true
+    → (is_some (position_from (nat_eq n) i order) ≡ true) ⊎ (n ≡ m)
+position-before [] m n i h = step (nat_eq n m) refl h
+  where
+    step : (b : Bool) → nat_eq n m ≡ b → is_some (cond b (Some i) None) ≡ true → (false ≡ true) ⊎ (n ≡ m)
+    step true is h = inr (nat_same n m is)
+    step false is h = inl h
+position-before (x ∷ order) m n i h = step (nat_eq n x) h (position-before order m n (i + 1))
+  where
+    step : (b : Bool) → is_some (cond b (Some i) (position_from (nat_eq n) (i + 1) (order ++ m ∷ []))) ≡ true
+        → (is_some (position_from (nat_eq n) (i + 1) (order ++ m ∷ [])) ≡ true
+        → (is_some (position_from (nat_eq n) (i + 1) order) ≡ true) ⊎ (n ≡ m))
+        → (is_some (cond b (Some i) (position_from (nat_eq n) (i + 1) order)) ≡ true) ⊎ (n ≡ m)
+    step true h rest = inl refl
+    step false h rest = rest h
+
+pub numbered-before : (order : List ℕ) (m n : ℕ) → is_some (number_in (order ++ m ∷ []) n) ≡ true
+    → (is_some (number_in order n) ≡ true) ⊎ (n ≡ m)
+numbered-before order m n h = position-before order m n 0 h
 
 some-true : (o : Option ℕ) → is_some o ≡ true → (k : ℕ) × (o ≡ Some k)
 some-true None h = absurd (false≢true h)

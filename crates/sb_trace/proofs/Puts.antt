@@ -5,15 +5,15 @@ use Rattle.std.proofs.lemmas.List.{map-append, append-nil}
 use Rattle.std.proofs.lemmas.List.Folds.{list_all-append}
 use Rattle.sb_script.specs.Steps.{line}
 use Rattle.sb_rulebook.specs.Refusals.{Refusal}
-use Rattle.sb_rulebook.specs.Lines.{Line, text_of}
+use Rattle.sb_rulebook.specs.Lines.{Line, Node, regex_line, text_of}
 use Rattle.sb_rulebook.specs.LineLaws.{has_text, bytes_of}
 use Rattle.sb_rulebook.specs.Kept.{AllKept, Asked}
 use Rattle.sb_rulebook.specs.Follows.{follows}
 use Rattle.sb_proof.specs.Tapes.{with_bytes}
 use Rattle.sb_lang.specs.Regex.{Regex}
 use Rattle.sb_deriv.specs.Faithful.{Memo}
-use Rattle.sb_trace.specs.Putting.{Puts, follow_all}
-use Rattle.sb_trace.specs.Tracking.{Traced, Tracks, TracesUncounted, StaysNumbered}
+use Rattle.sb_trace.specs.Putting.{Puts, KeepsClauses, follow_all, defines_regex}
+use Rattle.sb_trace.specs.Tracking.{Traced, Tracks, TracesUncounted, TracesRegexes, StaysNumbered}
 
 with_bytes-nil : (told : Option (List ℕ)) → told ≡ with_bytes [] told
 with_bytes-nil None = refl
@@ -102,6 +102,36 @@ traces_both asked kept rs memo t u x y z p more =
       },
       q.4 ∙ p.4,
     )
+
+-- The same where each line defines a regex.
+
+pub regexes_none : (asked : Asked) (kept : AllKept) (rs : List Regex) (memo : Memo) (t : Traced)
+    (told : Option (List ℕ)) → Tracks rs memo t kept → TracesRegexes asked kept rs memo t told told
+unfolding puts_none traces_none
+regexes_none asked kept rs memo t told tracks =
+    record { traced = traces_none asked kept rs memo t told tracks; are = refl }
+
+pub regexes_one : (asked : Asked) (kept after : AllKept) (rs : List Regex) (memo : Memo) (t : Traced) (node : Node)
+    (x y : Option (List ℕ)) → follows asked kept (regex_line node) ≡ Ok after → has_text (regex_line node) ≡ true
+    → y ≡ with_bytes (line (text_of (regex_line node))) x → Tracks rs memo t after → KeepsClauses kept after
+    → after.counted ≡ kept.counted → TracesRegexes asked kept rs memo t x y
+unfolding puts_one
+regexes_one asked kept after rs memo t node x y h text told tracks keeps counted = record {
+  traced = (after, puts_one asked kept after (regex_line node) x y h text told, tracks, keeps, counted);
+  are = refl;
+}
+
+pub regexes_both : (asked : Asked) (kept : AllKept) (rs : List Regex) (memo : Memo) (t u : Traced)
+    (x y z : Option (List ℕ)) → TracesRegexes asked kept rs memo t x y
+    → ((after : AllKept) → Tracks rs memo t after → TracesRegexes asked after rs memo u y z)
+    → TracesRegexes asked kept rs memo u x z
+unfolding puts_both traces_both
+regexes_both asked kept rs memo t u x y z p more =
+    let q = more p.traced.0 p.traced.2 in
+    record {
+      traced = traces_both asked kept rs memo t u x y z p.traced (λ after tracks. (more after tracks).traced);
+      are = list_all-append defines_regex p.traced.1.lines q.traced.1.lines ∙ ap₂ (λ a b. a && b) p.are q.are;
+    }
 
 pub stays_both : (a b c : Traced) → StaysNumbered a b → StaysNumbered b c → StaysNumbered a c
 stays_both a b c p q = (p.0 ++ q.0, q.1 ∙ ap (λ order. order ++ q.0) p.1 ∙ append_assoc a.order p.0 q.0)

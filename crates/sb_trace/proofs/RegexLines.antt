@@ -32,9 +32,9 @@ use Rattle.sb_rulebook.proofs.CallerLemmas.{same_regex}
 use Rattle.sb_script.specs.Steps.{line}
 use Rattle.sb_proof.specs.Tapes.{with_bytes}
 use Rattle.sb_trace.specs.Putting.{KeepsClauses}
-use Rattle.sb_trace.specs.Tracking.{Traced, Tracks, TracesUncounted, IsExpandedTo, number_in}
+use Rattle.sb_trace.specs.Tracking.{Traced, Tracks, TracesRegexes, IsExpandedTo, number_in}
 use Rattle.sb_trace.specs.Defining.{IsNodeAt, IsNodeIn}
-use Rattle.sb_trace.proofs.Puts.{puts_one}
+use Rattle.sb_trace.proofs.Puts.{regexes_one}
 use Rattle.sb_trace.proofs.Positions.{same_nat, number-there, number-below, number-stays, number-missing}
 
 -- What the numbers of parts name.
@@ -296,13 +296,9 @@ pub regex_put : (asked : Asked) (rs : List Regex) (memo : Memo) (t now : Traced)
     → ((n : ℕ) → is_marked now.expanded n ≡ is_marked t.expanded n)
     → ((n : ℕ) → is_marked now.dead n ≡ is_marked t.dead n)
     → new ≡ with_bytes (line (text_of (regex_line n))) old → Tracks rs memo t kept
-    → TracesUncounted asked kept rs memo now old new
-regex_put asked rs memo t now kept d n r old new apart once normal at l is lacks order expanded dead told tracks = (
-  with_regex (regex_at rs r) kept,
-  puts_one asked kept (with_regex (regex_at rs r) kept) (regex_line n) old new
-      (regex_follows asked rs memo t kept d n r apart once normal at tracks is lacks)
-      (node-has-text rs t.order d n l (ap is_normal at.regex ∙ normal-at rs r normal at.known) is) told,
-  tracks_regex rs memo t now kept r at.known order expanded dead tracks,
-  keeps_clauses kept (regex_at rs r),
-  refl,
-)
+    → TracesRegexes asked kept rs memo now old new
+regex_put asked rs memo t now kept d n r old new apart once normal at l is lacks order expanded dead told tracks =
+    regexes_one asked kept (with_regex (regex_at rs r) kept) rs memo now n old new
+    (regex_follows asked rs memo t kept d n r apart once normal at tracks is lacks)
+    (node-has-text rs t.order d n l (ap is_normal at.regex ∙ normal-at rs r normal at.known) is) told
+    (tracks_regex rs memo t now kept r at.known order expanded dead tracks) (keeps_clauses kept (regex_at rs r)) refl

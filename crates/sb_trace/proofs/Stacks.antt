@@ -1,24 +1,25 @@
 -- Regexes that wait for a number, as the stack changes.
-use Rattle.std.proofs.Common.{◌≡◌, ℕ, suc, ◌+◌, ◌*◌, ◌<◌, ◌≤◌, Bool, true, false, cond, not, ◌||◌, ◌&&◌, nat_eq, if◌then◌else◌, List, [], ◌∷◌, ◌++◌, length, map, filter, drop, reverse, slice_get, Some, None, is_some, Result, Ok, Err, refl, sym, ap, ap₂, subst, ◌∙◌, arith}
-use Rattle.std.specs.List.{list_all, list_any, All}
+use Rattle.std.proofs.Common.{◌≡◌, ℕ, suc, ◌+◌, ◌*◌, ◌<◌, ◌≤◌, Bool, true, false, cond, not, ◌||◌, ◌&&◌, nat_eq, if◌then◌else◌, List, [], ◌∷◌, ◌++◌, length, map, filter, drop, reverse, slice_get, get_or, Option, Some, None, is_some, Result, Ok, Err, refl, sym, ap, ap₂, subst, ◌∙◌, ◌⊎◌, inl, inr, arith}
+use Rattle.std.specs.List.{list_all, list_any, All, Contains}
 use Rattle.std.proofs.lemmas.Bool.{and_parts, false≢true, ltb-true, lt-ltb}
-use Rattle.std.proofs.lemmas.List.{map-append, reverse-append}
+use Rattle.std.proofs.lemmas.List.{map-append, reverse-append, length-map, get_or-map}
 use Rattle.std.specs.Result.{OnOk}
 use Rattle.std.proofs.lemmas.List.Folds.{list_any-append, list_all-append}
 use Rattle.std.proofs.lemmas.List.Elements.{All-cons, All-nil}
 use Rattle.std.proofs.Math.Seq.{drop-cons}
 use Rattle.std.proofs.lemmas.Option.{get_or_from_slice_get, slice_get_within}
-use Rattle.sb_lang.specs.Regex.{Regex, none, eps, set, cat, alt, and, neg, star, rep, path, regexes, parts}
+use Rattle.sb_lang.specs.Regex.{Regex, none, eps, set, cat, alt, and, neg, star, rep, path, regexes}
 use Rattle.sb_lang.proofs.CallerLemmas.{parts-regexes}
 use Rattle.sb_regex.specs.Numbered.{regex_at, regexes_at, AllNumbers, AreDistinct}
 use Rattle.sb_regex.specs.declared.node.Node.{Node}
 use Rattle.sb_regex.specs.declared.node.Node.TheVariants as node
 use Rattle.sb_regex.specs.Nodes.{node_regex, node_parts}
 use Rattle.sb_trace.specs.declared.frame.Frame.{Frame}
-use Rattle.sb_trace.specs.Tracking.{number_in}
+use Rattle.sb_trace.specs.Parts.{regex_parts}
+use Rattle.sb_trace.specs.Tracking.{number_in, IsLackingFor, of_part, AddsLacking}
 use Rattle.sb_trace.specs.Defining.{IsNodeAt, IsNumbered, is_lacking}
-use Rattle.sb_trace.specs.Waiting.{stack_of, waits, numbers_in, is_in, AreEntered, is_known, IsStack, weight, weights, frame_weight, stack_weight, Settles}
-use Rattle.sb_trace.proofs.Positions.{nat_same, same_nat, numbered-stays, number-last}
+use Rattle.sb_trace.specs.Waiting.{stack_of, waits, numbers_in, is_in, AreEntered, AreLacking, KeepsNumbers, is_known, IsStack, weight, weights, frame_weight, stack_weight, Settles}
+use Rattle.sb_trace.proofs.Positions.{nat_same, same_nat, numbered-stays, numbered-before, number-last}
 
 -- Parts that are put on the stack.
 
@@ -50,14 +51,6 @@ parts_pushed order qs i k p before now rest e at b n =
     ∙ ap (λ xs. map waits (lacking order xs) ++ rest) (sym d)
 
 -- The parts of a regex are those of any node of it.
-
-abbrev regex_parts : Regex → List Regex
-regex_parts (cat a b) = a ∷ b ∷ []
-regex_parts (alt ps) = parts ps
-regex_parts (and ps) = parts ps
-regex_parts (neg a) = a ∷ []
-regex_parts (star a) = a ∷ []
-regex_parts _ = []
 
 node-parts : (rs : List Regex) (d : Node) → regex_parts (node_regex rs d) ≡ map (regex_at rs) (node_parts d)
 node-parts rs node.None = refl
@@ -93,6 +86,46 @@ parts_same : (rs : List Regex) (n : ℕ) (d e : Node) → AreDistinct rs → IsN
 parts_same rs n d e once p q =
     map-once rs (node_parts e) (node_parts d) once (parts-known rs n e q) (parts-known rs n d p)
     (sym (node-parts rs e) ∙ ap regex_parts (q.regex ∙ sym p.regex) ∙ node-parts rs d)
+
+-- What waits lacks a number.
+
+parts_at : (rs : List Regex) (r : Regex) (ps : List ℕ) → regex_parts r ≡ map (regex_at rs) ps
+    → All (λ p. Contains (regex_parts r) (regex_at rs p)) ps
+parts_at rs r ps is = λ k d inside.
+    let p = get_or ps k d in
+    let bound : k < length (map (regex_at rs) ps) = omega (arith, inside, length-map ps (regex_at rs)) in
+    let there : get_or (map (regex_at rs) ps) k (regex_at rs p) ≡ regex_at rs p =
+    get_or-map (regex_at rs) ps k d (regex_at rs p) inside in
+    subst (λ qs. Contains qs (regex_at rs p)) (sym is) (k, bound, there)
+
+lacked : (first order : List ℕ) (n : ℕ) → KeepsNumbers first order → is_lacking order n ≡ true
+    → number_in first n ≡ None
+lacked first order n keeps lacks = step (number_in first n) refl
+  where
+    step : (o : Option ℕ) → number_in first n ≡ o → o ≡ None
+    step None is = refl
+    step (Some k) is = absurd (false≢true (ap not (sym (keeps n (ap is_some is))) ∙ lacks))
+
+waits_lacking : (rs : List Regex) (first order : List ℕ) (root m : ℕ) (ps : List ℕ) (rest : List Frame)
+    → KeepsNumbers first order → IsLackingFor rs first root m
+    → All (λ p. Contains (regex_parts (regex_at rs m)) (regex_at rs p)) ps → AreLacking rs first root rest
+    → AreLacking rs first root (map waits (lacking order ps) ++ rest)
+waits_lacking rs first order root m [] rest keeps one each h = h
+waits_lacking rs first order root m (p ∷ ps) rest keeps one each h =
+    step (is_lacking order p) refl
+    (waits_lacking rs first order root m ps rest keeps one (λ k d b. each (suc k) d (omega (arith, b))) h)
+  where
+    step : (b : Bool) → is_lacking order p ≡ b → AreLacking rs first root (map waits (lacking order ps) ++ rest)
+        → AreLacking rs first root (map waits (cond b (p ∷ lacking order ps) (lacking order ps)) ++ rest)
+    step true is others = (of_part m p one (each 0 0 (omega arith)) (lacked first order p keeps is), others)
+    step false is others = others
+
+pub adds_both : (rs : List Regex) (first : List ℕ) (root : ℕ) (old mid new : List ℕ)
+    → AddsLacking rs first root old mid → AddsLacking rs first root mid new → AddsLacking rs first root old new
+adds_both rs first root old mid new h next = λ n is. elim (next n is) [
+  | inl before ↦ h n before
+  | inr lacks ↦ inr lacks
+]
 
 -- Weights.
 
@@ -252,8 +285,10 @@ known-waits rs order m (p ∷ ps) l h =
 -- the top has a number, so it is taken away
 pub settles_less : (rs : List Regex) (old new : List ℕ) (f : Frame) (fs : List Frame)
     → ((n : ℕ) → is_some (number_in old n) ≡ true → is_some (number_in new n) ≡ true)
-    → is_some (number_in new f.regex) ≡ true → IsStack rs old (f ∷ fs) → Settles rs old new (f ∷ fs) fs
-settles_less rs old new f fs grows there s = record {
+    → is_some (number_in new f.regex) ≡ true
+    → ((n : ℕ) → is_some (number_in new n) ≡ true → (is_some (number_in old n) ≡ true) ⊎ (n ≡ f.regex))
+    → IsStack rs old (f ∷ fs) → Settles rs old new (f ∷ fs) fs
+settles_less rs old new f fs grows there only s = record {
   stack = record {
     known = (and_parts (is_known rs f) (list_all (is_known rs) fs) s.known).1;
     entered = entered-more rs old new (f.regex ∷ []) [] fs (gone []) s.entered.1;
@@ -261,6 +296,11 @@ settles_less rs old new f fs grows there s = record {
   keeps = gone (numbers_in fs);
   lighter = let p = frame-positive f.entered (tree rs f.regex) (weight-positive (regex_at rs f.regex)) in
       omega (arith, p);
+  lacking = λ first root keeps h. h.1;
+  only = λ first root h n is. elim (only n is) [
+    | inl before ↦ inl before
+    | inr same ↦ inr (subst (IsLackingFor rs first root) (sym same) h.0)
+  ];
 }
   where
     gone : (above : List ℕ) (n : ℕ) → is_in old (f.regex ∷ above) n ≡ true → is_in new above n ≡ true
@@ -269,7 +309,7 @@ settles_less rs old new f fs grows there s = record {
 
 pub settles_numbered : (rs : List Regex) (order : List ℕ) (f : Frame) (fs : List Frame)
     → is_some (number_in order f.regex) ≡ true → IsStack rs order (f ∷ fs) → Settles rs order order (f ∷ fs) fs
-settles_numbered rs order f fs there s = settles_less rs order order f fs (λ n h. h) there s
+settles_numbered rs order f fs there s = settles_less rs order order f fs (λ n h. h) there (λ n h. inl h) s
 
 pub settles_defined : (rs : List Regex) (old new : List ℕ) (f : Frame) (fs : List Frame)
     → number_in old f.regex ≡ None → new ≡ old ++ f.regex ∷ [] → IsStack rs old (f ∷ fs)
@@ -277,7 +317,8 @@ pub settles_defined : (rs : List Regex) (old new : List ℕ) (f : Frame) (fs : L
 settles_defined rs old new f fs lacks is s =
     settles_less rs old new f fs
     (λ n h. ap (λ o. is_some (number_in o n)) is ∙ numbered-stays old (f.regex ∷ []) n h)
-    (ap (λ o. is_some (number_in o f.regex)) is ∙ number-last old f.regex lacks) s
+    (ap (λ o. is_some (number_in o f.regex)) is ∙ number-last old f.regex lacks)
+    (λ n h. numbered-before old f.regex n (ap (λ o. is_some (number_in o n)) (sym is) ∙ h)) s
 
 lighter : (a b s t w x : ℕ) → x ≡ s + (1 + t) → s ≤ 2 * b → w ≡ suc b → a ≡ 2 * w → x < a + t
 lighter a b s t w x p q e h = omega arith
@@ -311,6 +352,11 @@ settles_entered rs order f fs now d once at fresh is s =
           (stack_weight-append rs (map waits ws) (e ∷ fs)) (waits-weight rs order (node_parts d))
           (ap weight (sym at.regex) ∙ node-weight rs d)
           (ap (λ b. if b then 1 else 2 * tree rs f.regex) fresh);
+      lacking = λ first root keeps h.
+          waits_lacking rs first order root f.regex (node_parts d) (e ∷ fs) keeps h.0
+          (parts_at rs (regex_at rs f.regex) (node_parts d) (ap regex_parts (sym at.regex) ∙ node-parts rs d))
+          (h.0, h.1);
+      only = λ first root h n is. inl is;
     })
   where
     ws : List ℕ

@@ -1,3 +1,4 @@
+pub mod Parts
 pub mod Putting
 pub mod Tracking
 pub mod Defining

@@ -1,9 +1,9 @@
 -- Lines of a proof that are put on a tape, each of which follows from what is kept before it.
-use Rattle.std.specs.Prelude.{◌≡◌, ℕ, true, List, [], ◌∷◌, map, Option, Result, Ok, Err}
+use Rattle.std.specs.Prelude.{◌≡◌, ℕ, Bool, true, false, List, [], ◌∷◌, map, Option, Result, Ok, Err}
 use Rattle.std.specs.List.{list_all}
 use Rattle.sb_lit.specs.Budgets.{Spending}
 use Rattle.sb_rulebook.specs.Refusals.{Refusal}
-use Rattle.sb_rulebook.specs.Lines.{Line, text_of}
+use Rattle.sb_rulebook.specs.Lines.{Line, regex_line, text_of}
 use Rattle.sb_rulebook.specs.LineLaws.{has_text, bytes_of}
 use Rattle.sb_rulebook.specs.Kept.{AllKept, Asked, most_counted}
 use Rattle.sb_rulebook.specs.Follows.{follows}
@@ -23,6 +23,11 @@ pub record Puts (asked : Asked) (before after : AllKept) (old new : Option (List
   pub have_text : list_all has_text lines ≡ true
   pub told : new ≡ with_bytes (bytes_of (map text_of lines)) old
   pub follow : follow_all asked before lines ≡ Ok after
+
+-- the line defines a regex
+abbrev pub defines_regex : Line → Bool
+defines_regex (regex_line node) = true
+defines_regex _ = false
 
 -- A budget spends a step for each line that is counted, up to the limit in force.
 pub record IsCounted (asked : Asked) (kept : AllKept) (budget : Spending) : Type 0 where

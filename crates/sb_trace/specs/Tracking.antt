@@ -1,16 +1,17 @@
 -- What a trace knows of a proof, and what a reader of the proof keeps.
-use Rattle.std.specs.Prelude.{◌≡◌, ℕ, ◌+◌, ◌<◌, Bool, true, false, nat_eq, List, ◌++◌, length, map, get_or, Option, Some, None, is_some}
-use Rattle.std.specs.List.{position_from}
+use Rattle.std.specs.Prelude.{◌≡◌, ◌⊎◌, ℕ, ◌+◌, ◌<◌, Bool, true, false, nat_eq, List, ◌++◌, length, map, get_or, Option, Some, None, is_some}
+use Rattle.std.specs.List.{list_all, position_from, Contains}
 use Rattle.sb_lang.specs.Regex.{Regex}
 use Rattle.sb_lang.specs.Languages.{Language}
 use Rattle.sb_lang.specs.Least.{IsShortestLeast, HasNoWord}
 use Rattle.sb_lit.specs.Budgets.{Spending}
-use Rattle.sb_regex.specs.Numbered.{regexes_at, AllNumbers}
+use Rattle.sb_regex.specs.Numbered.{regex_at, regexes_at, AllNumbers}
 use Rattle.sb_deriv.specs.Faithful.{Memo, entry_of}
 use Rattle.sb_deriv.specs.Pieces.{targets_of}
 use Rattle.sb_graph.specs.Findings.{is_marked}
 use Rattle.sb_rulebook.specs.Kept.{AllKept, Asked, is_dead, targets_in}
-use Rattle.sb_trace.specs.Putting.{Puts, IsCounted, KeepsClauses}
+use Rattle.sb_trace.specs.Parts.{regex_parts}
+use Rattle.sb_trace.specs.Putting.{Puts, defines_regex, IsCounted, KeepsClauses}
 use Rattle.sb_trace.specs.declared.trace.Expand.{Expand}
 use Rattle.sb_trace.specs.declared.trace.Expand.TheVariants as expand
 use Rattle.sb_trace.specs.declared.trace.Explore.{Explore}
@@ -60,6 +61,24 @@ abbrev pub TracesUncounted : Asked → AllKept → List Regex → Memo → Trace
 TracesUncounted asked before rs memo t old new =
     (after : AllKept) × Puts asked before after old new × Tracks rs memo t after × KeepsClauses before after
     × (after.counted ≡ before.counted)
+
+-- And the same where each of the lines defines a regex. What follows defines its parts before it, and none twice.
+pub record TracesRegexes (asked : Asked) (before : AllKept) (rs : List Regex) (memo : Memo) (t : Traced)
+    (old new : Option (List ℕ)) : Type 0
+  where
+    pub traced : TracesUncounted asked before rs memo t old new
+    pub are : list_all defines_regex traced.1.lines ≡ true
+
+-- the regexes that lack a number where one is to have it: this one, and of each that lacks one the parts that do
+pub data IsLackingFor (rs : List Regex) (order : List ℕ) (root : ℕ) : ℕ → Type 0 where
+  itself : number_in order root ≡ None → IsLackingFor rs order root root
+  of_part : (m n : ℕ) → IsLackingFor rs order root m → Contains (regex_parts (regex_at rs m)) (regex_at rs n)
+      → number_in order n ≡ None → IsLackingFor rs order root n
+
+-- each regex that has a number now had one before, or is one of these
+abbrev pub AddsLacking : List Regex → List ℕ → ℕ → List ℕ → List ℕ → Type 0
+AddsLacking rs first root old new = (n : ℕ) → is_some (number_in new n) ≡ true
+    → (is_some (number_in old n) ≡ true) ⊎ IsLackingFor rs first root n
 
 -- the regex is expanded in the proof, or dead there
 abbrev pub IsExpandedIn : Traced → ℕ → Type 0

@@ -6,7 +6,7 @@ use Rattle.sb_regex.specs.Numbered.{regex_at}
 use Rattle.sb_regex.specs.declared.node.Node.{Node}
 use Rattle.sb_regex.specs.Nodes.{node_parts}
 use Rattle.sb_trace.specs.declared.frame.Frame.{Frame}
-use Rattle.sb_trace.specs.Tracking.{number_in}
+use Rattle.sb_trace.specs.Tracking.{number_in, IsLackingFor, AddsLacking}
 use Rattle.sb_trace.specs.Defining.{IsNodeAt}
 
 -- the stack of a list whose last element is on top
@@ -42,6 +42,14 @@ pub record IsStack (rs : List Regex) (order : List ℕ) (stack : List Frame) : T
   pub known : list_all (is_known rs) stack ≡ true
   pub entered : AreEntered rs order [] stack
 
+-- each regex that waits lacked a number where this one is to have it
+abbrev pub AreLacking : List Regex → List ℕ → ℕ → List Frame → Type 0
+AreLacking rs first root [] = Unit {0}
+AreLacking rs first root (f ∷ fs) = IsLackingFor rs first root f.regex × AreLacking rs first root fs
+
+abbrev pub KeepsNumbers : List ℕ → List ℕ → Type 0
+KeepsNumbers old new = (n : ℕ) → is_some (number_in old n) ≡ true → is_some (number_in new n) ≡ true
+
 -- how many regexes there are in one, as a tree
 abbrev mutual
   pub weight : Regex → ℕ
@@ -69,8 +77,11 @@ abbrev pub stack_weight : List Regex → List Frame → ℕ
 stack_weight rs [] = 0
 stack_weight rs (f ∷ fs) = frame_weight rs f + stack_weight rs fs
 
--- The stack becomes lighter; what has a number or waits does so behind it.
+-- The stack becomes lighter; what has a number or waits does so behind it, and no other does.
 pub record Settles (rs : List Regex) (old new : List ℕ) (before after : List Frame) : Type 0 where
   pub stack : IsStack rs new after
   pub keeps : (n : ℕ) → is_in old (numbers_in before) n ≡ true → is_in new (numbers_in after) n ≡ true
   pub lighter : stack_weight rs after < stack_weight rs before
+  pub lacking : (first : List ℕ) (root : ℕ) → KeepsNumbers first old → AreLacking rs first root before
+      → AreLacking rs first root after
+  pub only : (first : List ℕ) (root : ℕ) → AreLacking rs first root before → AddsLacking rs first root old new

@@ -10,7 +10,7 @@ ghost use Rattle.sb_deriv.specs.Faithful.{Memo};
 ghost use Rattle.sb_graph.specs.Findings.{is_marked};
 ghost use Rattle.sb_rulebook.specs.Kept.{AllKept, Asked};
 ghost use Rattle.sb_trace.specs.Putting.{CountsTapeFault};
-ghost use Rattle.sb_trace.specs.Tracking.{Tracks, TracesUncounted, StaysNumbered, number_in};
+ghost use Rattle.sb_trace.specs.Tracking.{Tracks, TracesUncounted, TracesRegexes, AddsLacking, StaysNumbered, number_in};
 ghost use Rattle.sb_trace.specs.Defining.{IsNumbered, IsNodeAt};
 ghost use Rattle.sb_trace.specs.Waiting.{stack_of, IsStack, Settles};
 
@@ -23,9 +23,9 @@ use sb_regex::{Arena, Node, RegexId};
 use std::alloc::AllocError;
 
 impl Trace {
-    /// The number of a regex in the proof. The lines that define it and its parts are put where they are lacking.
-    /// Linear in the parts of the regexes that were lacking. After an error the tape may have a line that the trace does
-    /// not know, so nothing more may be put.
+    /// The number of a regex in the proof. The lines that define it and its parts are put where they are lacking, each
+    /// part in front of what it is a part of, and no others. Linear in the parts of the regexes that were lacking. After
+    /// an error the tape may have a line that the trace does not know, so nothing more may be put.
     pub fn number<L: Tape>(
         &mut self,
         arena: &Arena,
@@ -40,6 +40,11 @@ impl Trace {
         ensures puts { OnOk result ((asked : Asked) (memo : Memo) (before : AllKept)
             → Tracks arena.now memo self.old before
             → TracesUncounted asked before arena.now memo self.new (L.Tape.told tape.old) (L.Tape.told tape.new)) }
+        ensures defines { OnOk result ((asked : Asked) (memo : Memo) (before : AllKept)
+            → Tracks arena.now memo self.old before
+            → TracesRegexes asked before arena.now memo self.new (L.Tape.told tape.old) (L.Tape.told tape.new)) }
+        ensures only { OnOk result
+            (AddsLacking arena.now self.old.order regex self.old.order self.new.order) }
         ensures stays { StaysNumbered self.old self.new }
         ensures counts { CountsTapeFault result (L.Tape.faults tape.old) (L.Tape.faults tape.new) }
     {
@@ -69,7 +74,7 @@ impl Trace {
         ensures dead_stay { (n : ℕ) → is_marked self.new.dead n ≡ is_marked self.old.dead n }
         ensures puts { OnOk result ((asked : Asked) (memo : Memo) (before : AllKept)
             → Tracks arena.now memo self.old before
-            → TracesUncounted asked before arena.now memo self.new (L.Tape.told tape.old) (L.Tape.told tape.new)) }
+            → TracesRegexes asked before arena.now memo self.new (L.Tape.told tape.old) (L.Tape.told tape.new)) }
         ensures stays { StaysNumbered self.old self.new }
         ensures counts { CountsTapeFault result (L.Tape.faults tape.old) (L.Tape.faults tape.new) }
     {
@@ -98,7 +103,7 @@ impl Trace {
         ensures puts { OnOk result ((asked : Asked) (rs : List Regex) (memo : Memo) (before : AllKept)
             → AreDistinct rs → list_all is_normal rs ≡ true → IsNodeAt rs regex node.now
             → Tracks rs memo self.old before
-            → TracesUncounted asked before rs memo self.new (L.Tape.told tape.old) (L.Tape.told tape.new)) }
+            → TracesRegexes asked before rs memo self.new (L.Tape.told tape.old) (L.Tape.told tape.new)) }
         ensures added { OnOk result (self.new.order ≡ self.old.order ++ regex ∷ []) }
         ensures expanded_stay { (n : ℕ) → is_marked self.new.expanded n ≡ is_marked self.old.expanded n }
         ensures dead_stay { (n : ℕ) → is_marked self.new.dead n ≡ is_marked self.old.dead n }

@@ -1,9 +1,10 @@
-use Rattle.std.proofs.Common.{sym, ap, ◌∙◌}
-use Rattle.sb_trace.specs.Tracking.{number_in}
-use Rattle.sb_trace.specs.Waiting.{numbers_in, is_in}
-use Rattle.sb_trace.proofs.Positions.{number_from_index, number-there}
-use Rattle.sb_trace.proofs.Puts.{traces_both, stays_both}
-use Rattle.sb_trace.proofs.Stacks.{stack_pushed}
+use Rattle.std.proofs.Common.{◌≡◌, [], ◌∷◌, None, is_some, refl, sym, ap, subst, inl, ◌∙◌}
+use Rattle.sb_trace.specs.Tracking.{number_in, itself}
+use Rattle.sb_trace.specs.Waiting.{stack_of, waits, numbers_in, is_in, AreLacking}
+use Rattle.sb_trace.proofs.Growing.{stays_same}
+use Rattle.sb_trace.proofs.Positions.{number_from_index, number-there, numbered-stays}
+use Rattle.sb_trace.proofs.Puts.{regexes_none, regexes_both, stays_both}
+use Rattle.sb_trace.proofs.Stacks.{stack_pushed, one_waits, one_is_in, adds_both}
 use Rattle.sb_trace.proofs.trace.Trace.number.Goals as goal
 
 pub returns-in-Some-clause-first : goal.returns-in-Some-clause-first
@@ -24,21 +25,60 @@ returns-clause-number g c =
     number-there c.loop-frame.self.order c.args.regex c.number_of.result
     (ap (λ t. number_in t.order c.args.regex) (sym c.self-2.view_is) ∙ c.number_of.ensures)
 
+pub returns-in-Some-clause-defines : goal.returns-in-Some-clause-defines
+returns-in-Some-clause-defines g c = λ asked memo before tracks.
+    regexes_none asked before c.args.arena.now memo c.args.self.now (g.L.Tape.told c.args.tape.now) tracks
+
+pub returns-clause-puts : goal.returns-clause-puts
+returns-clause-puts g c = λ asked memo before tracks.
+    (c.loop-frame.invariant.puts asked memo before tracks).traced
+
+pub loop-frame-init : goal.loop-frame-init
+loop-frame-init g c =
+    let rs = c.args.arena.now in
+    let root = c.args.regex in
+    let lacks : number_in c.args.self.now.order root ≡ None =
+    ap (λ t. number_in t.order root) (sym c.self.view_is)
+    ∙ sym (number_from_index c.self.inside.order.keys root c.get_index_of.result c.get_index_of.ensures.index)
+    ∙ c.in_default.is in
+    let stack : stack_of c.wait.new.stack.items ≡ waits root ∷ [] =
+    c.in_ok-wait.ensures ∙ ap (λ frames. waits root ∷ stack_of frames) c.new-stack.ensures.items in
+    record {
+      stack = rw stack (one_waits rs c.args.self.now.order root c.requires);
+      keeps = rw stack (one_is_in c.args.self.now.order root);
+      puts = λ asked memo before tracks.
+          regexes_none asked before rs memo c.args.self.now (g.L.Tape.told c.args.tape.now) tracks;
+      lacking = rw stack (itself lacks, tt);
+      only = λ n h. inl h;
+      stays = stays_same c.args.self.now;
+      expanded = λ n. refl;
+      dead = λ n. refl;
+      counts = refl;
+    }
+
 pub loop-frame-preserved : goal.loop-frame-preserved
 loop-frame-preserved g c =
     let known = c.loop-frame.invariant in
     let turn = c.in_ok-settle.ensures in
     let rs = c.args.arena.now in
+    let first = c.args.self.now.order in
     let frame = c.in-Some-pop.frame in
     let top = stack_pushed c.pop.new.self.items c.loop-frame.stack.items frame c.in-Some-pop.ensures.items in
+    let waiting = subst (AreLacking rs first c.args.regex) top known.lacking in
     record {
       stack = turn.settles.stack;
       keeps = turn.settles.keeps c.args.regex
           (ap (λ fs. is_in c.loop-frame.self.order (numbers_in fs) c.args.regex) (sym top) ∙ known.keeps);
       puts = λ asked memo before tracks.
-          traces_both asked before rs memo c.loop-frame.self c.settle.new.self (g.L.Tape.told c.args.tape.now)
+          regexes_both asked before rs memo c.loop-frame.self c.settle.new.self (g.L.Tape.told c.args.tape.now)
           (g.L.Tape.told c.loop-frame.tape) (g.L.Tape.told c.settle.new.tape) (known.puts asked memo before tracks)
           (λ after then. turn.puts asked memo after then);
+      lacking = turn.settles.lacking first c.args.regex
+          (λ n has. ap (λ order. is_some (number_in order n)) known.stays.1
+          ∙ numbered-stays first known.stays.0 n has)
+          waiting;
+      only = adds_both rs first c.args.regex first c.loop-frame.self.order c.settle.new.self.order known.only
+          (turn.settles.only first c.args.regex waiting);
       stays = stays_both c.args.self.now c.loop-frame.self c.settle.new.self known.stays turn.stays;
       expanded = λ n. turn.expanded_stay n ∙ known.expanded n;
       dead = λ n. turn.dead_stay n ∙ known.dead n;

@@ -4,6 +4,7 @@ use Rattle.sb_trace.specs.Tracking.{number_in}
 use Rattle.sb_trace.specs.Defining.{is_lacking}
 use Rattle.sb_trace.specs.Waiting.{waits, stack_of, Settles}
 use Rattle.sb_trace.proofs.Positions.{none-false}
+use Rattle.sb_trace.proofs.Puts.{regexes_none}
 use Rattle.sb_trace.proofs.Stacks.{settles_numbered, settles_defined, settles_entered, top_known, on_ok}
 use Rattle.sb_trace.proofs.trace.Trace.settle.Goals as goal
 
@@ -13,6 +14,14 @@ returns-then-has_number-clause-settles g c =
     (sym (c.has_number.ensures ∙ ap (λ t. is_some (number_in t.order c.args.frame.regex)) c.self.view_is)
     ∙ c.if-has_number.true)
     c.requires
+
+pub returns-then-has_number-clause-puts : goal.returns-then-has_number-clause-puts
+returns-then-has_number-clause-puts g c = λ asked memo before tracks.
+    regexes_none asked before c.args.arena.now memo c.args.self.now (g.L.Tape.told c.args.tape.now) tracks
+
+pub returns-clause-puts : goal.returns-clause-puts
+returns-clause-puts g c = λ asked memo before tracks.
+    regexes_none asked before c.args.arena.now memo c.args.self.now (g.L.Tape.told c.args.tape.now) tracks
 
 pub returns-then-frame-clause-settles : goal.returns-then-frame-clause-settles
 returns-then-frame-clause-settles g c =
