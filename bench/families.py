@@ -154,6 +154,6 @@ FAMILIES = {
 
 if __name__ == "__main__":
     family, size = sys.argv[1], int(sys.argv[2])
-    sys.stdout.write("(set-logic QF_S)\n(declare-const x String)\n")
+    sys.stdout.write("(set-option :print-success false)\n(set-logic QF_S)\n(declare-const x String)\n")
     sys.stdout.write(FAMILIES[family](size))
     sys.stdout.write("(check-sat)\n")
