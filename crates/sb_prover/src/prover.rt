@@ -69,8 +69,9 @@ impl Prover {
     }
 
     /// Puts the lines that prove the verdict of a check, the verdict's own line as the last, and answers the verdict:
-    /// the one that was found, or `Unknown` where a check may have no more lines. Linear in the lines, and for an
-    /// `unsat` in what is explored that was not yet. After an error nothing more may be put.
+    /// the one that was found, or `Unknown` where a check may have no more lines. Linear in the lines, for a `sat` in
+    /// the names in force, and for an `unsat` in what is explored that was not yet. After an error nothing more may be
+    /// put.
     pub fn prove<L: Tape>(
         &mut self,
         decider: &mut Decider,
