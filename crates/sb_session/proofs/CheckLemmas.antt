@@ -15,18 +15,19 @@ use Rattle.sb_script.specs.Verdicts.{Verdict, is_sat, is_unsat, is_unknown, is_o
 use Rattle.sb_rulebook.specs.Brought.{newest_format}
 use Rattle.sb_rulebook.specs.Lines.{text_of, header_line, end_line}
 use Rattle.sb_rulebook.specs.LineLaws.{bytes_of}
-use Rattle.sb_rulebook.specs.Accepted.{question_in}
+use Rattle.sb_meaning.specs.Terms.{Term}
+use Rattle.sb_rulebook.specs.Accepted.{question_in, asked_in}
 use Rattle.sb_rulebook.specs.Judging.{Progress}
 use Rattle.sb_certified.specs.Certified.{Proves, last_lines}
 use Rattle.sb_proof.specs.Tapes.{with_bytes}
-use Rattle.sb_prover.specs.Proving.{Proving, RegexesStayBelow, IsAbreast, IsProved, AbreastStays}
-use Rattle.sb_stack.specs.Stacked.{Stacked, state_of}
+use Rattle.sb_prover.specs.Proving.{Proving, RegexesStayBelow, IsAbreast, IsProved, AbreastStays, HaveLevels}
+use Rattle.sb_stack.specs.Stacked.{Stacked, state_of, without_words}
 use Rattle.sb_stack.specs.declared.verdict.Verdict as code
 use Rattle.sb_stack.specs.declared.verdict.Verdict.TheVariants as verdict
-use Rattle.sb_stack.specs.Steps.{verdict_in}
+use Rattle.sb_stack.specs.Steps.{verdict_in, found}
 use Rattle.sb_session.specs.Commanding.{SessionState, is_proved, IsTracked, CutOf, with_lines}
 use Rattle.sb_session.specs.Reading.{end_writes}
-use Rattle.sb_session.specs.Checking.{HasRegexes, Finds, ProvesCheck, CutProof, AnswersCheck, CutCheck}
+use Rattle.sb_session.specs.Checking.{HasRegexes, HasLevels, Finds, ProvesCheck, CutProof, AnswersCheck, CutCheck}
 use Rattle.sb_session.proofs.WritingLemmas.{one_written, one_cut, none_cut, lines_written, lines_cut, behind_lines, cut_in_lines, cut_behind_lines}
 
 abreast_of : (s : SessionState) (proving : Proving) (p : Progress) → s.proof ≡ Some proving → IsTracked s p
@@ -142,23 +143,23 @@ check_cut s v p rs memo proving empty told bytes old new start same is h cut = r
       (same ∙ told_behind empty told h.lines start h.told) cut);
 }
 
-decides : (v : code.Verdict) (s : State) (kept : Decider) → IsDecision v kept → IsVerdict s [] (verdict_in v)
-    → FindsUnproved s [] [] (verdict_in v)
-decides (verdict.Sat words) s kept is h = (refl, h)
-decides verdict.Unsat s kept is h = (refl, h)
-decides verdict.Unknown s kept is h = absurd is
-decides verdict.Outside s kept is h = (refl, h)
+decides : (ns : List ℕ) (v : code.Verdict) (s : State) (kept : Decider) → IsDecision v kept
+    → IsVerdict s [] (verdict_in ns v) → FindsUnproved s [] [] (verdict_in ns v)
+decides ns (verdict.Sat words) s kept is h = (refl, h)
+decides ns verdict.Unsat s kept is h = (refl, h)
+decides ns verdict.Unknown s kept is h = absurd is
+decides ns verdict.Outside s kept is h = (refl, h)
 
 -- without a proof
-pub check_unproved : (s : State) (v : code.Verdict) (kept : Decider) (p : Progress) (proof : Option Proving)
-    (after : SessionState)
-    (old : Outside) → proof ≡ None → after.proof ≡ proof → IsDecision v kept → IsVerdict s [] (verdict_in v)
-    → ProvesCheck s (verdict_in v) p (is_some proof) after old old
-check_unproved s v kept p proof after old e same is h =
-    subst (λ (b : Bool). ProvesCheck s (verdict_in v) p b after old old) (sym (ap is_some e)) (record {
+pub check_unproved : (s : State) (ns : List ℕ) (v : code.Verdict) (kept : Decider) (p : Progress)
+    (proof : Option Proving) (after : SessionState) (old : Outside) → proof ≡ None → after.proof ≡ proof
+    → IsDecision v kept → IsVerdict s [] (verdict_in ns v)
+    → ProvesCheck s (verdict_in ns v) p (is_some proof) after old old
+check_unproved s ns v kept p proof after old e same is h =
+    subst (λ (b : Bool). ProvesCheck s (verdict_in ns v) p b after old old) (sym (ap is_some e)) (record {
       lines = [];
       progress = p;
-      finds = (decides v s kept is h, refl);
+      finds = (decides ns v s kept is h, refl);
       tracked = subst (λ (o : Option Proving). IsTracked (record after { proof = o }) p) (sym (same ∙ e)) tt;
       outside = sym (moved_by-nothing old);
     })
@@ -291,3 +292,27 @@ proof_cut decided p session between state kind old new (inr h) =
           h.v same h.finds);
       cut = cut_in_lines h.lines ((out_port.Answers, verdict_text h.v) ∷ []) old new h.cut;
     })
+
+-- The live assertions with their levels are the same whatever a check finds.
+
+-- the states differ in their mode and words alone
+pub levels_of_rest : (old new : Stacked) (proof : Option Proving) → without_words new ≡ without_words old
+    → HasLevels (state_of old) proof → HasLevels (state_of new) proof
+levels_of_rest old new None e h = tt
+levels_of_rest old new (Some proving) e h =
+    subst (λ (live : List (Option Term × ℕ)). HaveLevels live proving.evidence)
+    (ap (λ (s : Stacked). (asked_in (state_of s)).live) (sym e)) h
+
+-- a verdict is found
+pub levels_of_found : (v : code.Verdict) (old new : Stacked) (proof : Option Proving) → new ≡ found v old
+    → HasLevels (state_of old) proof → HasLevels (state_of new) proof
+levels_of_found v old new None e h = tt
+levels_of_found v old new (Some proving) e h =
+    subst (λ (s : Stacked). HaveLevels (asked_in (state_of s)).live proving.evidence) (sym e) (of v h)
+  where
+    of : (v : code.Verdict) → HaveLevels (asked_in (state_of old)).live proving.evidence
+        → HaveLevels (asked_in (state_of (found v old))).live proving.evidence
+    of (verdict.Sat words) h = h
+    of verdict.Unsat h = h
+    of verdict.Unknown h = h
+    of verdict.Outside h = h

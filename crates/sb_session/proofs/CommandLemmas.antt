@@ -1,5 +1,5 @@
 -- What the steps of the state make of an entry that is answered.
-use Rattle.std.proofs.Common.{◌≡◌, ◌⊎◌, ℕ, ◌<◌, Bool, true, false, if◌then◌else◌, List, [], ◌∷◌, length, take, Option, None, Some, refl, sym, ap, ◌∙◌, inl, inr, subst}
+use Rattle.std.proofs.Common.{◌≡◌, ◌⊎◌, ℕ, ◌<◌, Bool, true, false, if◌then◌else◌, List, [], ◌∷◌, length, take, Option, None, Some, Result, Ok, refl, sym, ap, ◌∙◌, inl, inr, subst}
 use Rattle.std.specs.declared.vec.Vec.{Vec}
 use Rattle.std.specs.declared.alloc.Global.{Global}
 use Rattle.sb_world.specs.Outside.{Outside, write_at}
@@ -9,17 +9,20 @@ use Rattle.sb_script.specs.State.{State}
 use Rattle.sb_script.specs.Steps as meaning
 use Rattle.sb_script.specs.Replies.{step_of}
 use Rattle.sb_script.specs.Verdicts.{Verdict, verdict_text, settled, Finding, FindsUnproved, IsReply}
-use Rattle.sb_rulebook.specs.Accepted.{events_of}
+use Rattle.sb_rulebook.specs.Accepted.{event_of_leaving, events_of}
 use Rattle.sb_rulebook.specs.Judging.{Event, Progress}
 use Rattle.sb_certified.specs.Certified.{behind, FindsProved}
 use Rattle.sb_certified.proofs.CallerLemmas.{is_exits, entry_exits}
+use Rattle.sb_term.specs.declared.assertion.Assertion.{Assertion}
+use Rattle.sb_stack.specs.declared.stack.Step.{Step}
 use Rattle.sb_stack.specs.declared.stack.Step.TheVariants as code
 use Rattle.sb_stack.specs.Stacked.{state_of}
-use Rattle.sb_stack.specs.Steps.{IsStep}
+use Rattle.sb_prover.specs.Proving.{leaving}
+use Rattle.sb_stack.specs.Steps.{IsStep, IsMoved, leaving_in}
 use Rattle.sb_session.specs.declared.command.Went.{Went}
 use Rattle.sb_session.specs.declared.command.Went.TheVariants.{Go, Exited}
 use Rattle.sb_session.specs.Commanding.{SessionState, is_proved, IsTracked, Answering, Answers, AnswersEntry, CutReply, CutOrNot, went_of}
-use Rattle.sb_session.specs.Checking.{Finds, AnswersCheck, CutCheck}
+use Rattle.sb_session.specs.Checking.{progress_by, Finds, AnswersCheck, CutCheck}
 use Rattle.sb_session.proofs.WritingLemmas.{one_written, one_cut}
 
 abbrev pub went_by : Bool → Went
@@ -28,40 +31,63 @@ went_by ends = if ends then Exited else Go
 -- the reply of a step that is no check
 abbrev pub IsQuietReply : meaning.Step → State → List ℕ → State → Type 0
 IsQuietReply (meaning.answers bytes new) s text after = (text ≡ bytes) × (after ≡ new)
-IsQuietReply (meaning.leaves what bytes new) s text after = ⊥
+IsQuietReply (meaning.leaves what bytes new) s text after = (text ≡ bytes) × (after ≡ new)
 IsQuietReply (meaning.checks given) s text after = ⊥
 IsQuietReply (meaning.exits bytes) s text after = (text ≡ bytes) × (after ≡ s)
 
 is_reply : (Finds : Finding) (step : meaning.Step) (s : State) (text : List ℕ) (after : State)
     → IsQuietReply step s text after → IsReply Finds step s [] None text after
 is_reply Finds (meaning.answers bytes new) s text after h = (refl, refl, h.0, h.1)
-is_reply Finds (meaning.leaves what bytes new) s text after h = absurd h
+is_reply Finds (meaning.leaves what bytes new) s text after h = (refl, refl, h.0, h.1)
 is_reply Finds (meaning.checks given) s text after h = absurd h
 is_reply Finds (meaning.exits bytes) s text after h = (refl, refl, h.0, h.1)
 
--- a reply of an entry that is no check, whether it ends the run, and the state after it
-pub record Replied (step : meaning.Step) (ends : Bool) (text : List ℕ) (s after : State) : Type 0 where
-  pub ends_run : is_exits step ≡ ends
-  pub reply : IsQuietReply step s text after
-  pub quiet : events_of step s ≡ []
+-- a reply of an entry that is no check, whether it ends the run, what its proof meets, and the state after it
+pub record Replied (step : meaning.Step) (ends : Bool) (text : List ℕ) (es : List Event) (s after : State) : Type 0
+  where
+    pub ends_run : is_exits step ≡ ends
+    pub reply : IsQuietReply step s text after
+    pub events : events_of step s ≡ es
 
 pub by_answer : (step : meaning.Step) (text : Vec ℕ Global) (s after : State) → IsStep step (code.Answer text) s after
-    → Replied step false text.items s after
+    → Replied step false text.items [] s after
 by_answer (meaning.answers bytes t) text s after h =
-    record { ends_run = refl; reply = (h.0, h.1); quiet = refl }
+    record { ends_run = refl; reply = (h.0, h.1); events = refl }
 by_answer (meaning.leaves what bytes t) text s after h = absurd h
 by_answer (meaning.checks []) text s after h = absurd h
 by_answer (meaning.checks (a ∷ given)) text s after h = absurd h
 by_answer (meaning.exits bytes) text s after h = absurd h
 
 pub by_exit : (step : meaning.Step) (text : Vec ℕ Global) (s after : State) → IsStep step (code.Exit text) s after
-    → Replied step true text.items s after
+    → Replied step true text.items [] s after
 by_exit (meaning.answers bytes t) text s after h = absurd h
 by_exit (meaning.leaves what bytes t) text s after h = absurd h
 by_exit (meaning.checks []) text s after h = absurd h
 by_exit (meaning.checks (a ∷ given)) text s after h = absurd h
 by_exit (meaning.exits bytes) text s after h =
-    record { ends_run = refl; reply = (h.0, h.1); quiet = refl }
+    record { ends_run = refl; reply = (h.0, h.1); events = refl }
+
+leaving_event : (level : Option ℕ) → event_of_leaving (leaving_in level) ≡ leaving level
+leaving_event (Some level) = refl
+leaving_event None = refl
+
+pub by_left : (step : meaning.Step) (text : Vec ℕ Global) (level : Option ℕ) (s after : State)
+    → IsStep step (code.Left text level) s after → Replied step false text.items (leaving level ∷ []) s after
+by_left (meaning.answers bytes t) text level s after h = absurd h
+by_left (meaning.leaves what bytes t) text level s after h = record {
+  ends_run = refl;
+  reply = (h.0, h.1.1);
+  events = ap (λ (w : meaning.Leaving). event_of_leaving w ∷ []) h.1.0 ∙ ap (λ (e : Event). e ∷ []) (leaving_event level);
+}
+by_left (meaning.checks []) text level s after h = absurd h
+by_left (meaning.checks (a ∷ given)) text level s after h = absurd h
+by_left (meaning.exits bytes) text level s after h = absurd h
+
+-- what a step that is answered makes of the live assertions
+pub moved_by : {E : Type 0} (r : Result Step E) (step known : Step) (old new : List Assertion) → r ≡ Ok step
+    → step ≡ known → IsMoved r old new → IsMoved {E = E} (Ok known) old new
+moved_by {E = E} r step known old new is now h =
+    subst (λ (x : Result Step E). IsMoved x old new) (is ∙ ap Ok now) h
 
 -- the step of a check, which has no assumptions
 pub by_check : (step : meaning.Step) (s same : State) → IsStep step code.Check s same
@@ -74,48 +100,69 @@ by_check (meaning.exits bytes) s same h = absurd h
 
 -- An entry that is no check.
 
-answering_by : (proved : Bool) (entry : Entry) (ends : Bool) (text : List ℕ) (s after : State) (p : Progress)
-    → Replied (step_of entry s) ends text s after → Answering proved (s, p) entry [] text None (after, p)
-answering_by true entry ends text s after p h = record {
-  replies = is_reply (FindsProved p p) (step_of entry s) s text after h.reply;
-  keeps = sym (ap (λ (es : List Event). behind es p) h.quiet);
+answering_by : (proved : Bool) (entry : Entry) (ends : Bool) (text : List ℕ) (es : List Event) (s after : State)
+    (p : Progress) → Replied (step_of entry s) ends text es s after
+    → Answering proved (s, p) entry [] text None (after, progress_by proved es p)
+answering_by true entry ends text es s after p h = record {
+  replies = is_reply (FindsProved p (behind es p)) (step_of entry s) s text after h.reply;
+  keeps = sym (ap (λ (fs : List Event). behind fs p) h.events);
 }
-answering_by false entry ends text s after p h =
+answering_by false entry ends text es s after p h =
     (is_reply FindsUnproved (step_of entry s) s text after h.reply, refl)
 
-answers_by : (proved : Bool) (entry : Entry) (ends : Bool) (text : List ℕ) (s after : State) (p : Progress)
-    → Replied (step_of entry s) ends text s after
-    → Answers proved (s, p) entry ((out_port.Answers, text) ∷ []) (after, p)
-answers_by proved entry ends text s after p h =
-    record { lines = []; reply = text; found = None; answered = answering_by proved entry ends text s after p h; written = refl }
+answers_by : (proved : Bool) (entry : Entry) (ends : Bool) (text : List ℕ) (es : List Event) (s after : State)
+    (p : Progress) → Replied (step_of entry s) ends text es s after
+    → Answers proved (s, p) entry ((out_port.Answers, text) ∷ []) (after, progress_by proved es p)
+answers_by proved entry ends text es s after p h = record {
+  lines = [];
+  reply = text;
+  found = None;
+  answered = answering_by proved entry ends text es s after p h;
+  written = refl;
+}
 
 -- an entry that is answered whole
-pub whole_reply : (entry : Entry) (ends : Bool) (text : List ℕ) (session after : SessionState) (old new : Outside)
-    → ((p : Progress) → IsTracked session p → IsTracked after p)
-    → Replied (step_of entry (state_of session.stack)) ends text (state_of session.stack) (state_of after.stack)
+pub whole_reply_by : (entry : Entry) (ends : Bool) (text : List ℕ) (es : List Event) (session after : SessionState)
+    (old new : Outside)
+    → ((p : Progress) → IsTracked session p → IsTracked after (progress_by (is_proved session) es p))
+    → Replied (step_of entry (state_of session.stack)) ends text es (state_of session.stack) (state_of after.stack)
     → new ≡ write_at out_port.Answers text old
     → (went_by ends ≡ went_of entry) × AnswersEntry entry session after old new
-whole_reply entry ends text session after old new stays h e = (
+whole_reply_by entry ends text es session after old new stays h e = (
   ap went_by (sym h.ends_run ∙ entry_exits entry (state_of session.stack)),
   λ p tracked. record {
     writes = (out_port.Answers, text) ∷ [];
-    progress = p;
-    answers = answers_by (is_proved session) entry ends text (state_of session.stack) (state_of after.stack) p h;
+    progress = progress_by (is_proved session) es p;
+    answers = answers_by (is_proved session) entry ends text es (state_of session.stack) (state_of after.stack) p h;
     tracked = stays p tracked;
     outside = one_written out_port.Answers text old new e;
   },
 )
 
+no_event : (proved : Bool) (p : Progress) → progress_by proved [] p ≡ p
+no_event true p = refl
+no_event false p = refl
+
+-- and which the proof meets nothing by
+pub whole_reply : (entry : Entry) (ends : Bool) (text : List ℕ) (session after : SessionState) (old new : Outside)
+    → ((p : Progress) → IsTracked session p → IsTracked after p)
+    → Replied (step_of entry (state_of session.stack)) ends text [] (state_of session.stack) (state_of after.stack)
+    → new ≡ write_at out_port.Answers text old
+    → (went_by ends ≡ went_of entry) × AnswersEntry entry session after old new
+whole_reply entry ends text session after old new stays h e =
+    whole_reply_by entry ends text [] session after old new
+    (λ p tracked. subst (IsTracked after) (sym (no_event (is_proved session) p)) (stays p tracked)) h e
+
 -- an entry whose answer is cut
-pub cut_reply : (entry : Entry) (ends : Bool) (text : List ℕ) (session : SessionState) (after : State)
+pub cut_reply : (entry : Entry) (ends : Bool) (text : List ℕ) (es : List Event) (session : SessionState) (after : State)
     (old new : Outside)
-    → Replied (step_of entry (state_of session.stack)) ends text (state_of session.stack) after
+    → Replied (step_of entry (state_of session.stack)) ends text es (state_of session.stack) after
     → ((out : ℕ) × (out < length text) × (new ≡ write_at out_port.Answers (take out text) old))
     → CutOrNot entry session old new
-cut_reply entry ends text session after old new h cut p tracked = inr (record {
+cut_reply entry ends text es session after old new h cut p tracked = inr (record {
   writes = (out_port.Answers, text) ∷ [];
-  after = (after, p);
-  answers = answers_by (is_proved session) entry ends text (state_of session.stack) after p h;
+  after = (after, progress_by (is_proved session) es p);
+  answers = answers_by (is_proved session) entry ends text es (state_of session.stack) after p h;
   cut = one_cut out_port.Answers text old new cut;
 })
 

@@ -1,6 +1,7 @@
 pub mod WritingLemmas
 pub mod CheckLemmas
 pub mod CommandLemmas
+pub mod LeavingLemmas
 pub mod ReadingLemmas
 pub mod TurnLemmas
 pub mod PieceLemmas

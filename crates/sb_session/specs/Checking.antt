@@ -1,5 +1,5 @@
 -- Private: what answering a check does.
-use Rattle.std.specs.Prelude.{◌≡◌, ℕ, Bool, true, false, List, [], ◌∷◌, ◌⊎◌, length, Option, IfSome}
+use Rattle.std.specs.Prelude.{◌≡◌, ℕ, Bool, true, false, List, [], ◌∷◌, ◌⊎◌, length, take, Option, Some, None, IfSome}
 use Rattle.sb_lang.specs.Regex.{Regex}
 use Rattle.sb_deriv.specs.Faithful.{Memo}
 use Rattle.sb_world.specs.Outside.{Outside}
@@ -7,9 +7,11 @@ use Rattle.sb_world.specs.Moved.{moved_by, writing_all}
 use Rattle.sb_world.specs.declared.OutPort.TheVariants as out_port
 use Rattle.sb_script.specs.State.{State}
 use Rattle.sb_script.specs.Verdicts.{Verdict, FindsUnproved, verdict_text, settled}
-use Rattle.sb_rulebook.specs.Judging.{Progress}
-use Rattle.sb_certified.specs.Certified.{FindsProved}
-use Rattle.sb_prover.specs.Proving.{Proving}
+use Rattle.sb_meaning.specs.Terms.{Term}
+use Rattle.sb_rulebook.specs.Accepted.{asked_in}
+use Rattle.sb_rulebook.specs.Judging.{Event, Progress, met}
+use Rattle.sb_certified.specs.Certified.{behind, FindsProved}
+use Rattle.sb_prover.specs.Proving.{Proving, IsAbreast, HaveLevels, AreLow, leaving}
 use Rattle.sb_stack.specs.Stacked.{Stacked, state_of}
 use Rattle.sb_decide.specs.declared.decide.Decider.{Decider}
 use Rattle.sb_atoms.specs.Numbered.{HaveRegexesBelow}
@@ -23,6 +25,30 @@ session_of stack decider proof =
 -- the atoms of the proof speak of regexes that are there
 abbrev pub HasRegexes : List Regex → Option Proving → Type 0
 HasRegexes rs proof = IfSome proof (λ proving. HaveRegexesBelow (length rs) proving.evidence.atoms)
+
+-- each clause of an assertion that stands in the proof is of the level of the live assertion at its place
+abbrev pub HasLevels : State → Option Proving → Type 0
+HasLevels s proof = IfSome proof (λ proving. HaveLevels (asked_in s).live proving.evidence)
+
+-- Where levels are left and so many assertions stay, what is known of the proof goes along.
+pub record LeavesProof (level : Option ℕ) (count : ℕ) (old new : Proving) : Type 0 where
+  pub left : (rs : List Regex) (memo : Memo) (live : List (Option Term × ℕ)) (p : Progress) → IsAbreast rs memo old p
+      → HaveLevels live old.evidence → IfSome level (λ n. AreLow n (take count live))
+      → IsAbreast rs memo new (met (leaving level) p)
+  pub levels : (live : List (Option Term × ℕ)) → HaveLevels live old.evidence
+      → HaveLevels (take count live) new.evidence
+  pub atoms : new.evidence.atoms ≡ old.evidence.atoms
+
+-- a proof goes along, where one is written
+abbrev pub GoesAlong : Option ℕ → ℕ → Option Proving → Option Proving → Type 0
+GoesAlong level count None None = Unit {0}
+GoesAlong level count (Some old) (Some new) = LeavesProof level count old new
+GoesAlong level count _ _ = ⊥
+
+-- how far the proof comes behind the events of an entry that is no check, where one is written
+abbrev pub progress_by : Bool → List Event → Progress → Progress
+progress_by true es p = behind es p
+progress_by false es p = p
 
 -- a check finds a verdict, with the lines of its proof or without
 abbrev pub Finds : Bool → Progress → Progress → State → List ℕ → Verdict → Type 0

@@ -3,23 +3,25 @@
 ghost use Rattle.std.specs.Prelude.{◌≡◌, ◌⊎◌, [], List, length, true, false, is_some, Some, IfSome, IfOk, IfErr, OnOk, OnErr};
 ghost use Rattle.sb_world.specs.Outside.{CountsFault};
 ghost use Rattle.sb_world.specs.Moved.{moved_by, writing_all};
-ghost use Rattle.sb_script.specs.State.{start};
+ghost use Rattle.sb_script.specs.State.{State, start};
 ghost use Rattle.sb_script.specs.Verdicts.{IsVerdict};
 ghost use Rattle.sb_lang.specs.Regex.{Regex};
 ghost use Rattle.sb_deriv.specs.Faithful.{Memo};
 ghost use Rattle.sb_atoms.specs.Numbered.{HaveRegexesBelow};
-ghost use Rattle.sb_prover.specs.Proving.{IsAbreast};
+ghost use Rattle.sb_prover.specs.Proving.{IsAbreast, HaveLevels};
+ghost use Rattle.sb_rulebook.specs.Accepted.{asked_in};
 ghost use Rattle.sb_rulebook.specs.Judging.{Progress, beginning};
-ghost use Rattle.sb_stack.specs.Stacked.{state_of};
+ghost use Rattle.sb_stack.specs.Stacked.{state_of, live_serials};
 ghost use Rattle.sb_stack.specs.Steps.{IsEntry, entry_of, verdict_in, found};
 ghost use Rattle.sb_decide.specs.Knowing.{Knows, IsDecision};
+ghost use Rattle.sb_decide.specs.Laws.{KnowsBack};
 ghost use Rattle.sb_session.specs.Commanding.{SessionState, Goes, Fails, AnswersEntry, CutOrNot, CutOf, IsTracked, is_proved, is_exited, went_of, CountsSessionFault};
-ghost use Rattle.sb_session.specs.Checking.{session_of, HasRegexes, ProvesCheck, CutProof, AnswersCheck, CutCheck};
+ghost use Rattle.sb_session.specs.Checking.{session_of, HasRegexes, HasLevels, GoesAlong, ProvesCheck, CutProof, AnswersCheck, CutCheck};
 ghost use Rattle.sb_session.specs.Reading.{end_writes};
 
 use sb_decide::{Decider, knows_stays};
 use sb_proof::MemTape;
-use sb_prover::{Prover, abreast_stays, regexes_stay_below};
+use sb_prover::{Prover, abreast_stays, entries_move_live, levels_stay, regexes_stay_below};
 use sb_reader::Next;
 use sb_stack::{Stack, Step, Verdict};
 use sb_world::{OutPort, World, WorldError, write_all};
@@ -85,7 +87,8 @@ pub struct Session {
 
 impl Model for Session {
     ghost use Rattle.std.specs.Prelude.{◌≡◌, false};
-    ghost use Rattle.sb_session.specs.Checking.{HasRegexes};
+    ghost use Rattle.sb_session.specs.Checking.{HasRegexes, HasLevels};
+    ghost use Rattle.sb_stack.specs.Stacked.{state_of};
     ghost use Rattle.sb_session.specs.Commanding.{SessionState};
     ghost use Rattle.sb_decide.specs.Knowing.{Knows};
     ghost use Rattle.sb_lang.proofs.CallerLemmas.{coded_regex};
@@ -104,7 +107,8 @@ impl Model for Session {
       ended = s.ended;
     } };
 
-    ghost invariant = { λ s. s.ended ≡ false → Knows s.decider s.stack × HasRegexes s.decider.arena s.prover };
+    ghost invariant = { λ s. s.ended ≡ false → Knows s.decider s.stack × HasRegexes s.decider.arena s.prover
+        × HasLevels (state_of s.stack) s.prover };
 }
 
 impl Session {
@@ -173,6 +177,7 @@ fn prover_for(alloc: Global, proved: bool) -> Option<Prover>
     ensures kind { is_some result ≡ proved }
     ensures tracked { (rs : List Regex) (memo : Memo) → IfSome result (λ p. IsAbreast rs memo p beginning) }
     ensures regexes { (rs : List Regex) → HasRegexes rs result }
+    ensures levels { (s : State) → HasLevels s result }
 {
     if proved {
         Some(Prover::new(alloc))
@@ -227,8 +232,10 @@ fn answer_entry<W: World>(
     requires entry { IsEntry entry.now }
     requires knows { Knows decider.old stack.old }
     requires regexes { HasRegexes decider.old.arena prover.old }
+    requires levels { HasLevels (state_of stack.old) prover.old }
     ensures knows { OnOk result (Knows decider.new stack.new) }
     ensures regexes { OnOk result (HasRegexes decider.new.arena prover.new) }
+    ensures levels { OnOk result (HasLevels (state_of stack.new) prover.new) }
     ensures ok { IfOk result (λ went. (went ≡ went_of (entry_of entry.now))
         × AnswersEntry (entry_of entry.now) (session_of stack.old decider.old prover.old)
         (session_of stack.new decider.new prover.new) (W.outside world.old) (W.outside world.new)) }
@@ -238,6 +245,8 @@ fn answer_entry<W: World>(
     ensures faults { CountsFault result (W.faults world.old) (W.faults world.new) }
 {
     knows_stays();
+    levels_stay();
+    entries_move_live();
     match stack.apply(entry)? {
         Step::Answer(text) => {
             write_all(world, OutPort::Answers, &text)?;
@@ -247,10 +256,55 @@ fn answer_entry<W: World>(
             answer_check(alloc, stack, decider, prover, world)?;
             Ok(Went::Go)
         }
+        Step::Left(text, level) => {
+            leave(stack, decider, prover, level)?;
+            write_all(world, OutPort::Answers, &text)?;
+            Ok(Went::Go)
+        }
         Step::Exit(text) => {
             write_all(world, OutPort::Answers, &text)?;
             Ok(Went::Exited)
         }
+    }
+}
+
+/// Goes along where levels are left: what is known of the assertions that went is taken back, and what the proof had of
+/// them is forgotten.
+fn leave(
+    stack: &Stack,
+    decider: &mut Decider,
+    prover: &mut Option<Prover>,
+    level: Option<usize>,
+) -> Result<(), AllocError>
+    ensures knows { OnOk result (KnowsBack (length stack.now.assertions) decider.old decider.new) }
+    ensures arena { decider.new.arena ≡ decider.old.arena }
+    ensures graph { decider.new.graph ≡ decider.old.graph }
+    ensures proof { OnOk result (GoesAlong level (length stack.now.assertions) prover.old prover.new) }
+    ensures kind { is_some prover.new ≡ is_some prover.old }
+{
+    let count = stack.assertions().len();
+    decider.take_back(count)?;
+    leave_proof(prover, level, count);
+    Ok(())
+}
+
+/// Goes along with the proof, where one is written.
+fn leave_proof(prover: &mut Option<Prover>, level: Option<usize>, count: usize)
+    ensures along { GoesAlong level count prover.old prover.new }
+    ensures kind { is_some prover.new ≡ is_some prover.old }
+{
+    if let Some(prover) = prover {
+        prover.leave(level_of(level), count);
+    }
+}
+
+/// The level, as proofs number levels.
+fn level_of(level: Option<usize>) -> Option<u64>
+    ensures { result ≡ level }
+{
+    match level {
+        Some(level) => Some(level as u64),
+        None => None,
     }
 }
 
@@ -264,8 +318,10 @@ fn answer_check<W: World>(
 ) -> Result<(), WorldError>
     requires knows { Knows decider.old stack.old }
     requires regexes { HasRegexes decider.old.arena prover.old }
+    requires levels { HasLevels (state_of stack.old) prover.old }
     ensures knows { OnOk result (Knows decider.new stack.new) }
     ensures regexes { OnOk result (HasRegexes decider.new.arena prover.new) }
+    ensures levels { OnOk result (HasLevels (state_of stack.new) prover.new) }
     ensures ok { OnOk result ((p : Progress) → IsTracked (session_of stack.old decider.old prover.old) p
         → AnswersCheck p (session_of stack.old decider.old prover.old) (session_of stack.new decider.new prover.new)
         (W.outside world.old) (W.outside world.new)) }
@@ -292,13 +348,15 @@ fn prove_check<W: World>(
     world: &mut W,
 ) -> Result<Verdict, WorldError>
     requires knows { Knows decider.old (found verdict stack.now) }
-    requires verdict { IsVerdict (state_of stack.now) [] (verdict_in verdict) }
+    requires verdict { IsVerdict (state_of stack.now) [] (verdict_in (live_serials stack.now) verdict) }
     requires decided { IsDecision verdict decider.old }
     requires regexes { HasRegexes decider.old.arena prover.old }
     ensures knows { IfOk result (λ v. Knows decider.new (found v stack.now)) }
     ensures regexes { OnOk result (HasRegexes decider.new.arena prover.new) }
+    ensures levels { OnOk result (HasLevels (state_of stack.now) prover.old
+        → HasLevels (state_of stack.now) prover.new) }
     ensures ok { IfOk result (λ v. (p : Progress) → IsTracked (session_of stack.now decider.old prover.old) p
-        → ProvesCheck (state_of stack.now) (verdict_in v) p (is_some prover.old)
+        → ProvesCheck (state_of stack.now) (verdict_in (live_serials stack.now) v) p (is_some prover.old)
         (session_of stack.now decider.new prover.new) (W.outside world.old) (W.outside world.new)) }
     ensures err { OnErr result ((p : Progress) → IsTracked (session_of stack.now decider.old prover.old) p
         → (W.outside world.new ≡ W.outside world.old)
@@ -322,13 +380,15 @@ fn prove<W: World>(
     world: &mut W,
 ) -> Result<Verdict, WorldError>
     requires knows { Knows decider.old (found verdict stack.now) }
-    requires verdict { IsVerdict (state_of stack.now) [] (verdict_in verdict) }
+    requires verdict { IsVerdict (state_of stack.now) [] (verdict_in (live_serials stack.now) verdict) }
     requires decided { IsDecision verdict decider.old }
     requires regexes { HaveRegexesBelow (length decider.old.arena) prover.old.evidence.atoms }
     ensures knows { IfOk result (λ v. Knows decider.new (found v stack.now)) }
     ensures regexes { OnOk result (HaveRegexesBelow (length decider.new.arena) prover.new.evidence.atoms) }
+    ensures levels { OnOk result (HaveLevels (asked_in (state_of stack.now)).live prover.old.evidence
+        → HaveLevels (asked_in (state_of stack.now)).live prover.new.evidence) }
     ensures ok { IfOk result (λ v. (p : Progress) → IsTracked (session_of stack.now decider.old (Some prover.old)) p
-        → ProvesCheck (state_of stack.now) (verdict_in v) p true (session_of stack.now decider.new (Some prover.new))
+        → ProvesCheck (state_of stack.now) (verdict_in (live_serials stack.now) v) p true (session_of stack.now decider.new (Some prover.new))
         (W.outside world.old) (W.outside world.new)) }
     ensures err { OnErr result ((p : Progress) → IsTracked (session_of stack.now decider.old (Some prover.old)) p
         → (W.outside world.new ≡ W.outside world.old)
