@@ -66,6 +66,47 @@ const TEN: Case = (
       check 8: unsat\ncheck 9: unsat\ncheck 10: unsat\naccepted\n",
 );
 
+/// Scripts whose levels are left: clauses below stay, and those above are put again.
+const LEVELS: [Case; 6] = [
+    (
+        b"(declare-const x String)(assert (str.in_re x (str.to_re \"a\")))(push 1)\
+          (assert (str.in_re x (str.to_re \"b\")))(check-sat)(pop 1)(check-sat)(push 1)(declare-const y String)(pop 1)\
+          (declare-const y String)(assert (str.in_re y (re.+ (str.to_re \"b\"))))(check-sat)",
+        b"check 1: unsat\ncheck 2: sat\ncheck 3: sat\naccepted\n",
+    ),
+    (
+        b"(declare-const x String)(assert (str.in_re x (re.* (str.to_re \"a\"))))(push 1)\
+          (assert (str.in_re x (re.+ (str.to_re \"b\"))))(check-sat)(push 4)(check-sat)(pop 3)(check-sat)(pop 2)\
+          (check-sat)(push 1)(assert (str.in_re x (re.+ (str.to_re \"b\"))))(check-sat)(push 1)\
+          (assert (str.in_re x (str.to_re \"\")))(check-sat)(pop 1)(check-sat)(reset-assertions)(check-sat)",
+        b"check 1: unsat\ncheck 2: unsat\ncheck 3: unsat\ncheck 4: sat\ncheck 5: unsat\ncheck 6: unsat\n\
+          check 7: unsat\ncheck 8: sat\naccepted\n",
+    ),
+    (
+        b"(push 3)(declare-const x String)(assert (str.in_re x (re.+ (re.range \"a\" \"b\"))))(check-sat)(pop 3)\
+          (check-sat)(declare-const z String)(check-sat)",
+        b"check 1: sat\ncheck 2: sat\ncheck 3: sat\naccepted\n",
+    ),
+    (
+        b"(declare-const x String)(assert (str.in_re x (re.+ (str.to_re \"a\"))))(push)(assert (= x x))(check-sat)(pop)\
+          (check-sat)(push)(assert (str.in_re x (str.to_re \"b\")))(check-sat)(reset)(check-sat)\
+          (declare-const x String)(assert (str.in_re x (re.+ (str.to_re \"a\"))))\
+          (assert (str.in_re x (str.to_re \"b\")))(check-sat)",
+        b"check 1: unsupported\ncheck 2: sat\ncheck 3: unsat\ncheck 4: sat\ncheck 5: unsat\naccepted\n",
+    ),
+    (
+        b"(declare-const x String)(declare-const y String)(push)(assert (str.in_re x (str.to_re \"a\")))(push)\
+          (assert (str.in_re y (str.to_re \"a\")))(push)(assert (str.in_re y (str.to_re \"b\")))(check-sat)(pop)\
+          (assert (str.in_re x (str.to_re \"b\")))(check-sat)(pop 2)(assert (str.in_re x (str.to_re \"b\")))(check-sat)\
+          (assert (str.in_re x (str.to_re \"a\")))(check-sat)(reset-assertions)(check-sat)",
+        b"check 1: unsat\ncheck 2: unsat\ncheck 3: sat\ncheck 4: unsat\ncheck 5: sat\naccepted\n",
+    ),
+    (
+        b"(pop 1)(push 65535)(push 1)(pop 0)(check-sat)(pop 65535)(check-sat)(reset-assertions)(reset)(check-sat)",
+        b"check 1: sat\ncheck 2: sat\ncheck 3: sat\naccepted\n",
+    ),
+];
+
 /// Scripts that end within a form are checked up to there.
 const UNFINISHED: [Case; 2] = [
     (b"(check-sat)(check-sat", b"check 1: sat\naccepted\n"),
@@ -108,6 +149,9 @@ fn expect_case(
 #[test]
 fn proofs_that_the_solver_wrote_are_accepted(rt: HostRuntime) -> Result<(), Fail> {
     for case in CASES {
+        expect_case(&rt, rt.alloc(), case, SolveStatus::Done)?;
+    }
+    for case in LEVELS {
         expect_case(&rt, rt.alloc(), case, SolveStatus::Done)?;
     }
     for case in UNFINISHED {

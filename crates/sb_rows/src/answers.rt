@@ -82,9 +82,9 @@ const CASES: [Case; 18] = [
     ),
     // what is left out is answered so, and leaves its mark
     (
-        b"(set-option :print-success false)(set-logic QF_SLIA)(declare-const x String)(push 1)(assert (not true))\
+        b"(set-option :print-success false)(set-logic QF_SLIA)(declare-const x String)(declare-sort A 0)(assert (not true))\
           (check-sat)(declare-const n Int)(declare-fun f (Int) Int)(define-fun g ((a String)) Bool true)\
-          (get-option :random-seed)(get-info :all-statistics)(reset)",
+          (get-option :random-seed)(get-info :all-statistics)(check-sat-assuming ())",
         b"unsupported\nunsupported\nunsupported\nunsupported\nunsupported\nunsupported\nunsupported\nunsupported\n\
           unsupported\n",
     ),

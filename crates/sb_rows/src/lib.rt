@@ -24,4 +24,6 @@ mod regexes;
 #[cfg(test)]
 mod runs;
 #[cfg(test)]
+mod scopes;
+#[cfg(test)]
 mod sessions;
