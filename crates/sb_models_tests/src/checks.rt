@@ -80,6 +80,30 @@ const SCRIPTS: &[&[Check]] = &[
         (b"", &[], Some(true)),
         (b"", &[Given::Text(b"")], Some(false)),
     ],
+    &[
+        (ONE, &[Given::Text(b"a")], Some(true)),
+        (
+            b"(push 1) (declare-const y String) (assert (str.in_re y (re.+ (str.to_re \"b\"))))",
+            &[Given::Text(b"a"), Given::Text(b"b")],
+            Some(true),
+        ),
+        (b"", &[Given::Text(b"a"), Given::Text(b"")], Some(false)),
+        (b"(pop 1)", &[Given::Text(b"aa")], Some(true)),
+        (b"", &[Given::Text(b"a"), Given::Text(b"b")], Some(false)),
+        (
+            b"(declare-const y String) (assert (str.in_re y (re.* (str.to_re \"c\"))))",
+            &[Given::Text(b"a"), Given::Text(b"b")],
+            Some(false),
+        ),
+        (b"", &[Given::Text(b"a"), Given::Text(b"")], Some(true)),
+        (
+            b"(push 1) (assert (not true)) (pop 1)",
+            &[Given::Text(b"a"), Given::Text(b"cc")],
+            Some(true),
+        ),
+        (b"(reset-assertions)", &[Given::Text(b"a")], Some(false)),
+        (b"", &[], Some(true)),
+    ],
 ];
 
 fn text_of(alloc: Global, letters: &[u8]) -> Result<Value, AllocError> {
