@@ -71,7 +71,7 @@ impl Checker {
     /// Takes the next entry of the script, and at a check the lines of the proof up to its verdict. `Refused` comes
     /// where a line is refused by the rules of proofs, whatever entries come behind this one; `Limit` where as many
     /// bytes of the proof as the limit of `lines` were read, and not its end; `Fault` only where the world's count of
-    /// faults rose. After an error nothing more may be checked. Linear in the entry, and beyond that of the cost of
+    /// faults rose. After an error nothing more may be checked. The cost is that of `Judge::enter`, and that of
     /// each line.
     pub fn command<W: World>(
         &mut self,

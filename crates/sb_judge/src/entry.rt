@@ -35,8 +35,8 @@ pub enum Entered {
 
 impl Judge {
     /// Takes the next entry of the script, where no check waits. Linear in the entry; where levels are left, linear in
-    /// what they hold and in the clauses that are kept. `AllocError` only for want of memory, and then nothing more may
-    /// be judged.
+    /// what they hold and in the clauses that go, each with a logarithm of the number that were kept. `AllocError` only
+    /// for want of memory, and then nothing more may be judged.
     pub fn enter(&mut self, entry: &Next) -> Result<Entered, AllocError>
         requires entry { IsEntry entry.now }
         requires standing { IsStanding self.old }

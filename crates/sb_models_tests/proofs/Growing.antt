@@ -1,5 +1,5 @@
 -- What is right for a state stays so as it grows, and where levels are left.
-use Rattle.std.proofs.Common.{◌≡◌, ℕ, List, length, Option, Ok, refl}
+use Rattle.std.proofs.Common.{◌≡◌, ℕ, length, Option, Ok, refl}
 use Rattle.std.specs.declared.vec.Vec.{Vec}
 use Rattle.std.specs.declared.alloc.Global.{Global}
 use Rattle.std.specs.declared.alloc.AllocError.{AllocError}

@@ -5,7 +5,7 @@ use Rattle.std.proofs.lemmas.Bool.{and_parts, and_from}
 use Rattle.std.proofs.lemmas.Option.{slice_get-map}
 use Rattle.sb_lang.specs.Regex.{Regex}
 use Rattle.sb_lang.specs.OrderLaws.{OrderTellsApart}
-use Rattle.sb_regex.specs.Numbered.{regex_at, regexes_at, Extends}
+use Rattle.sb_regex.specs.Numbered.{regex_at}
 use Rattle.sb_regex.specs.Numbered as regex
 use Rattle.sb_script.specs.Pieces.{constant_piece}
 use Rattle.sb_atoms.specs.Numbered.{Names, IsWith, over, atoms_in, HasRegexBelow, HaveRegexesBelow}

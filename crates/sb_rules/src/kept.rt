@@ -52,7 +52,8 @@ impl Kept {
     }
 
     /// Drops the clauses of the levels above this one, or each clause; their numbers are not given again. What is known
-    /// of regexes, of atoms and of the script's terms stays. Takes no memory; linear in the number of clauses.
+    /// of regexes, of atoms and of the script's terms stays. Takes no memory; linear in the clauses that go, each with a
+    /// logarithm of the number that were kept.
     pub fn leave(&mut self, level: Option<usize>)
         ensures kept { (others : AllKept) → kept_in self.new others ≡ left_in level (kept_in self.old others) }
         ensures over { (ts : List Term) → IsOver ts self.old → IsOver ts self.new }

@@ -1,5 +1,4 @@
-use Rattle.std.proofs.Common.{length, ap, sym, ◌∙◌, subst}
-use Rattle.sb_stack.specs.Stacked.{Stacked}
+use Rattle.std.proofs.Common.{length, ap, subst}
 use Rattle.sb_models.specs.Laws.{AreTakenBack}
 use Rattle.sb_models_tests.proofs.Growing.{MovesBy, stays, stays_by, stays_left}
 use Rattle.sb_models_tests.proofs.checks.take_next.Goals as goal
