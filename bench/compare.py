@@ -1,7 +1,7 @@
 """Runs the program, and z3 and cvc5 where they are installed, over the families of scripts, and prints a table: processor
 seconds, peak memory in MB (at least some 10 MB, which is the start of a process from here), and the ratio to the better of
 the other two. Then the program with its proof written to a file: processor seconds, how many times those without a proof
-that is, and the proof's MB. Then the checker on that script and proof: processor seconds, how many times those of the run
+that is, the proof's MB, and how many of them come in a second. Then the checker on that script and proof: processor seconds, how many times those of the run
 that wrote it that is, and peak memory in MB. A run has 20 seconds."""
 import os
 import resource
@@ -68,11 +68,12 @@ def prove(path, without):
         seconds, _, _ = run([program, "--proof", proof.name], path)
         size = os.path.getsize(proof.name) / 1e6
         checked, memory = check(path, proof.name)
-    return columns(seconds, without) + f"{size:>9.1f}" + columns(checked, seconds) + f"{memory:>9.1f}"
+    rate = format(size / seconds, ".1f") if seconds else "-"
+    return columns(seconds, without) + f"{size:>9.1f}{rate:>8}" + columns(checked, seconds) + f"{memory:>9.1f}"
 
 
 families = sys.argv[1:] or list(SIZES)
-print(f"{'family':<18}{'size':>7}" + "".join(f"{name:>12} s{'MB':>8}" for name in solvers) + f"{'ratio':>9}{'proof s':>11}{'times':>8}{'MB':>9}{'check s':>11}{'times':>8}{'MB':>9}  answer")
+print(f"{'family':<18}{'size':>7}" + "".join(f"{name:>12} s{'MB':>8}" for name in solvers) + f"{'ratio':>9}{'proof s':>11}{'times':>8}{'MB':>9}{'MB/s':>8}{'check s':>11}{'times':>8}{'MB':>9}  answer")
 for family in families:
     for size in SIZES[family]:
         with tempfile.NamedTemporaryFile(suffix=".smt2") as script:
