@@ -3,10 +3,11 @@ use Rattle.std.proofs.Common.{◌≡◌, ℕ, zero, suc, ◌/◌, ◌%◌, ◌^�
 use Rattle.std.specs.Fmt.{digits, digits_onto, digit_glyph}
 use Rattle.std.proofs.Math.Nat.{pow-suc, pow-zero}
 use Rattle.std.proofs.lemmas.Bool.Decides.{nat_tests}
+use Rattle.std.proofs.lemmas.List.{append_assoc}
 use Rattle.sb_rulebook.specs.Lines.{Field, hexadecimal}
 use Rattle.sb_rulebook.specs.Reading.{is_text}
 
-abbrev last_digit : ℕ → ℕ
+abbrev pub last_digit : ℕ → ℕ
 last_digit n = digit_glyph false (n % 16)
 
 abbrev onto : ℕ → ℕ → Field → Field
@@ -57,6 +58,39 @@ hexadecimal-last : (n : ℕ) → n < 2 ^ 64
     → hexadecimal n ≡ cond (n / 16 == 0) [] (hexadecimal (n / 16)) ++ last_digit n ∷ []
 unfolding digits
 hexadecimal-last n h = onto-last 62 n (omega (arith, h))
+
+differ : (m n : ℕ) → (m ≡ n → ⊥) → (m == n) ≡ false
+differ m n h = grind (arith, nat_tests)
+
+pub one-digit : (n : ℕ) → n < 16 → hexadecimal n ≡ last_digit n ∷ []
+one-digit n h =
+    hexadecimal-last n (omega (arith, h)) ∙ ap (λ t. cond t [] (hexadecimal (n / 16)) ++ last_digit n ∷ []) none
+  where
+    none : (n / 16 == 0) ≡ true
+    none = let small : n / 16 ≡ 0 = omega (arith, h) in ap (λ m. m == 0) small
+
+pub two-digits : (n : ℕ) → n < 256 → (n < 16 → ⊥)
+    → hexadecimal n ≡ digit_glyph false (n / 16 % 16) ∷ last_digit n ∷ []
+two-digits n h more =
+    hexadecimal-last n (omega (arith, h))
+    ∙ ap (λ t. cond t [] (hexadecimal (n / 16)) ++ last_digit n ∷ []) some
+    ∙ ap (λ ds. ds ++ last_digit n ∷ []) (one-digit (n / 16) (omega (arith, h)))
+  where
+    some : (n / 16 == 0) ≡ false
+    some = differ (n / 16) 0 (λ e. more (omega (arith, e)))
+
+-- digits put behind a text
+pub one-put : (n : ℕ) (old new digit : Field) → n < 16 → digit ≡ last_digit n ∷ [] → new ≡ old ++ digit
+    → new ≡ old ++ hexadecimal n
+one-put n old new digit h is put = put ∙ ap (λ ds. old ++ ds) (is ∙ sym (one-digit n h))
+
+pub two-put : (n : ℕ) (old middle new first last : Field) → n < 256 → (n < 16 → ⊥)
+    → first ≡ digit_glyph false (n / 16 % 16) ∷ [] → last ≡ last_digit n ∷ [] → middle ≡ old ++ first
+    → new ≡ middle ++ last → new ≡ old ++ hexadecimal n
+two-put n old middle new first last h more is ends put later =
+    later ∙ ap (λ t. t ++ last) put ∙ append_assoc old first last
+    ∙ ap (λ ds. old ++ ds) (ap (λ ds. ds ++ last) is ∙ ap (λ ds. digit_glyph false (n / 16 % 16) ∷ ds) ends
+    ∙ sym (two-digits n h more))
 
 -- Two texts by their last bytes.
 
@@ -122,9 +156,6 @@ by_last_of : (n g b : ℕ) (field front : Field) → n < 2 ^ 64 → field ≡ fr
 by_last_of n g b field front h e is =
     ap (is_text (hexadecimal n)) e ∙ by_last n front b h
     ∙ ap (λ d. is_text (cond (n / 16 == 0) [] (hexadecimal (n / 16))) front && (d == b)) (sym is)
-
-differ : (m n : ℕ) → (m ≡ n → ⊥) → (m == n) ≡ false
-differ m n h = grind (arith, nat_tests)
 
 agree : (m n : ℕ) → m ≡ n → (m == n) ≡ true
 agree m n h = grind (arith, nat_tests)

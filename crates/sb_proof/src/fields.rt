@@ -1,8 +1,8 @@
 //! The text of fields.
 
-ghost use Rattle.std.specs.Prelude.{◌≡◌, ℕ, List, ◌∷◌, ◌++◌, decimal, OnOk};
+ghost use Rattle.std.specs.Prelude.{◌≡◌, ◌<◌, ℕ, List, ◌∷◌, ◌++◌, [], false, decimal, OnOk};
 ghost use Rattle.std.specs.List.{flat_map};
-ghost use Rattle.std.specs.Fmt.{signed_decimal};
+ghost use Rattle.std.specs.Fmt.{digit_glyph, signed_decimal};
 ghost use Rattle.std.specs.String.{string_bytes};
 ghost use Rattle.sb_rulebook.specs.Lines.{hexadecimal, range_text, ranges_text, word_text, literal_text, piece_text, variable_text, class_text, value_text};
 ghost use Rattle.sb_proof.specs.Lines.{piece_in, variable_in, class_in, value_in};
@@ -30,7 +30,46 @@ pub(crate) fn put_integer(text: &mut String, n: i128) -> Result<(), AllocError>
 fn put_hexadecimal(text: &mut String, n: u64) -> Result<(), AllocError>
     ensures { OnOk result (string_bytes text.new ≡ string_bytes text.old ++ hexadecimal n) }
 {
+    if n < 256 {
+        return put_two_digits(text, n);
+    }
     write!(text, "{n:x}")
+}
+
+/// Appends a number of at most two digits, as that of most characters is.
+fn put_two_digits(text: &mut String, n: u64) -> Result<(), AllocError>
+    requires { n < 256 }
+    ensures { OnOk result (string_bytes text.new ≡ string_bytes text.old ++ hexadecimal n) }
+{
+    if n >= 16 {
+        text.push_str(digit_text(n / 16 % 16))?;
+    }
+    text.push_str(digit_text(n % 16))
+}
+
+/// The digit of a number below 16.
+fn digit_text(digit: u64) -> &'static str
+    requires { digit < 16 }
+    ensures { result.now ≡ digit_glyph false digit ∷ [] }
+{
+    match digit {
+        0 => "0",
+        1 => "1",
+        2 => "2",
+        3 => "3",
+        4 => "4",
+        5 => "5",
+        6 => "6",
+        7 => "7",
+        8 => "8",
+        9 => "9",
+        10 => "a",
+        11 => "b",
+        12 => "c",
+        13 => "d",
+        14 => "e",
+        _ => "f",
+    }
 }
 
 fn put_character(text: &mut String, n: u64) -> Result<(), AllocError>

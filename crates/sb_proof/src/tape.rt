@@ -49,6 +49,9 @@ pub trait Tape {
         ensures counts { CountsFault result (faults self.old) (faults self.new) };
 }
 
+/// Room for most lines, so that a text does not grow byte by byte.
+const ROOM: usize = 64;
+
 /// A tape in memory, which keeps the bytes. It never answers `Fault`.
 #[derive(Drop)]
 pub struct MemTape {
@@ -86,6 +89,7 @@ impl MemTape {
         ensures err { OnErr result (self.new ≡ self.old) }
     {
         self.text.clear();
+        self.text.reserve(ROOM)?;
         put_line(&mut self.text, line)?;
         self.bytes.extend_from_slice(self.text.as_bytes())
     }
