@@ -13,7 +13,7 @@ use std::alloc::{AllocError, Global};
 fn codes_in(alloc: Global, numbers: &[u64]) -> Result<Option<Vec<u32>>, AllocError>
     ensures { IfOk result (λ found. are_codes numbers.now (option_map (λ codes. codes.items) found)) }
 {
-    let mut codes = Vec::new(alloc);
+    let mut codes = Vec::with_capacity(alloc, numbers.len())?;
     for number in numbers {
         let Ok(code) = u32::try_from(*number) else {
             return Ok(None);
@@ -42,7 +42,7 @@ fn word_of(alloc: Global, value: &Value) -> Result<Option<Word>, AllocError>
     ensures { IfOk result (λ found. found ≡ word_of (value_in value.now)) }
 {
     match value {
-        Value::Text(numbers) => word_in(alloc, numbers),
+        Value::Text(numbers) => word_in(alloc, numbers.as_slice()),
         Value::Int(_) | Value::Truth(_) => Ok(None),
     }
 }
@@ -52,7 +52,7 @@ pub(crate) fn words_of(alloc: Global, values: &[Value]) -> Result<Option<Vec<Wor
     ensures { IfOk result
         (λ found. option_map (λ words. words.items) found ≡ words_of (map value_in values.now)) }
 {
-    let mut words = Vec::new(alloc);
+    let mut words = Vec::with_capacity(alloc, values.len())?;
     for value in values {
         let Some(word) = word_of(alloc, value)? else {
             return Ok(None);

@@ -9,6 +9,7 @@ use sb_problem::normals_stay;
 use sb_proof::Value;
 use sb_reader::{Feed, Next};
 use sb_stack::{Stack, Step};
+use smallvec::SmallVec;
 use std::alloc::{AllocError, Global};
 use std::process::Abort;
 use std::test::Fail;
@@ -107,7 +108,7 @@ const SCRIPTS: &[&[Check]] = &[
 ];
 
 fn text_of(alloc: Global, letters: &[u8]) -> Result<Value, AllocError> {
-    let mut codes = Vec::new(alloc);
+    let mut codes = SmallVec::new(alloc);
     for letter in letters {
         codes.push(*letter as u64)?;
     }
@@ -117,7 +118,7 @@ fn text_of(alloc: Global, letters: &[u8]) -> Result<Value, AllocError> {
 fn value_of(alloc: Global, given: Given) -> Result<Value, AllocError> {
     match given {
         Given::Text(letters) => text_of(alloc, letters),
-        Given::Number(number) => Ok(Value::Text(Vec::from_slice(alloc, &[number])?)),
+        Given::Number(number) => Ok(Value::Text(SmallVec::from_slice(alloc, &[number])?)),
         Given::Int => Ok(Value::Int(0)),
         Given::Truth => Ok(Value::Truth(true)),
     }

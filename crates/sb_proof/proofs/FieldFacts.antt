@@ -1,9 +1,13 @@
 -- Fields with separators between, and in front.
-use Rattle.std.proofs.Common.{◌≡◌, ℕ, ℤ, List, [], ◌∷◌, ◌++◌, map, codes, cond, Result, Ok, Err, is_ok, OnOk, refl, sym, ap, ap₂, ◌∙◌}
-use Rattle.std.specs.List.{join_with_byte, flat_map}
+use Rattle.std.proofs.Common.{◌≡◌, ℕ, ℤ, Bool, true, false, ◌||◌, ◌==◌, List, [], ◌∷◌, ◌++◌, map, codes, cond, Result, Ok, Err, is_ok, OnOk, All, refl, sym, ap, ap₂, ◌∙◌}
+use Rattle.std.specs.List.{join_with_byte, flat_map, list_any}
 use Rattle.std.specs.Fmt.{signed_decimal}
+use Rattle.std.proofs.lemmas.Bool.{false≢true}
 use Rattle.std.proofs.lemmas.List.{append-nil, append_assoc}
+use Rattle.std.proofs.lemmas.List.Elements.{All-nil, All-cons}
 use Rattle.std.proofs.lemmas.List.Folds.{flat_map-map}
+use Rattle.std.proofs.lemmas.List.Splits.{slice_split_none}
+use Rattle.sb_rulebook.specs.Reading.{split_at, each, characters, hexadecimal_number}
 use Rattle.sb_rulebook.specs.Lines.{Field, summand_fields, variable_text}
 use Rattle.sb_proof.specs.declared.line.Variable.{Variable}
 use Rattle.sb_proof.specs.Fields.{behind, spaced}
@@ -72,3 +76,22 @@ around front fs gs before after p q =
     ∙ append_assoc (front ++ spaced fs) (codes " :") (spaced gs)
     ∙ append_assoc front (spaced fs) (codes " :" ++ spaced gs)
     ∙ ap (λ bs. front ++ bs) (sym (behind_append 32 fs (codes ":" ∷ gs)))
+
+-- a text without the separator is one field
+no_passes : (p : ℕ → Bool) (xs : List ℕ) → list_any p xs ≡ false → All (λ x. p x ≡ false) xs
+no_passes p [] h = All-nil (λ x. p x ≡ false)
+no_passes p (x ∷ xs) h = step (p x) refl h (no_passes p xs)
+  where
+    step : (b : Bool) → p x ≡ b → (b || list_any p xs) ≡ false
+        → (list_any p xs ≡ false → All (λ y. p y ≡ false) xs) → All (λ y. p y ≡ false) (x ∷ xs)
+    step true e is rest = absurd (false≢true (sym is))
+    step false e none rest = All-cons (λ y. p y ≡ false) x xs e (rest none)
+
+pub one_field : (separator : ℕ) (text : List ℕ) → list_any (λ b. b == separator) text ≡ false
+    → split_at separator text ≡ text ∷ []
+one_field separator text h = slice_split_none (λ b. b == separator) text (no_passes (λ b. b == separator) text h)
+
+pub characters_split : (text : List ℕ) (fields : List Field) → (text ≡ [] → ⊥) → split_at 46 text ≡ fields
+    → characters text ≡ each hexadecimal_number fields
+characters_split [] fields some e = absurd (some refl)
+characters_split (b ∷ bs) fields some e = ap (each hexadecimal_number) e

@@ -1,6 +1,7 @@
 //! Lines of proofs.
 
 use sb_lit::Lit;
+use smallvec::SmallVec;
 
 /// A regex whose parts are numbers of regexes.
 #[derive(Debug, PartialEq, Eq, Drop)]
@@ -33,7 +34,7 @@ pub enum Piece {
     /// The String constant of this serial.
     Constant(u64),
     /// A word, by its characters.
-    Word(Vec<u64>),
+    Word(SmallVec<u64, 4>),
 }
 
 /// What a bound speaks of.
@@ -82,7 +83,7 @@ pub enum Rule {
 /// The value of a constant.
 #[derive(Debug, PartialEq, Eq, Drop)]
 pub enum Value {
-    Text(Vec<u64>),
+    Text(SmallVec<u64, 4>),
     Int(i128),
     Truth(bool),
 }

@@ -14,6 +14,7 @@ ghost use Rattle.sb_proof.specs.Views.{texts};
 use crate::line::{Class, Piece, Value, Variable};
 use crate::numbers::{hexadecimal_number, integer, literal, number, variable};
 use sb_lit::Lit;
+use smallvec::SmallVec;
 use std::alloc::{AllocError, Global};
 
 /// What a field may say.
@@ -59,10 +60,24 @@ pub(crate) fn split(alloc: Global, text: &[u8], separator: u8) -> Result<Vec<&[u
     text.split(|byte| *byte == separator).collect(alloc)
 }
 
-fn each_character(alloc: Global, fields: &[&[u8]]) -> Result<Option<Vec<u64>>, AllocError>
+/// The characters of a word, between full stops. A word of one takes no memory.
+fn characters(alloc: Global, text: &[u8]) -> Result<Option<SmallVec<u64, 4>>, AllocError>
+    ensures { IfOk result (λ o. option_map (λ v. v.items) o ≡ characters text.now) }
+{
+    if text.is_empty() {
+        return Ok(Some(SmallVec::new(alloc)));
+    }
+    if !text.contains(&b'.') {
+        return each_character(alloc, &[text]);
+    }
+    let fields = split(alloc, text, b'.')?;
+    each_character(alloc, fields.as_slice())
+}
+
+fn each_character(alloc: Global, fields: &[&[u8]]) -> Result<Option<SmallVec<u64, 4>>, AllocError>
     ensures { IfOk result (λ o. option_map (λ v. v.items) o ≡ each hexadecimal_number (texts fields.now)) }
 {
-    let mut characters = Vec::new(alloc);
+    let mut characters = SmallVec::new(alloc);
     for field in fields {
         let Some(character) = hexadecimal_number(field) else {
             return Ok(None);
@@ -70,16 +85,6 @@ fn each_character(alloc: Global, fields: &[&[u8]]) -> Result<Option<Vec<u64>>, A
         characters.push(character)?;
     }
     Ok(Some(characters))
-}
-
-fn characters(alloc: Global, text: &[u8]) -> Result<Option<Vec<u64>>, AllocError>
-    ensures { IfOk result (λ o. option_map (λ v. v.items) o ≡ characters text.now) }
-{
-    if text.is_empty() {
-        return Ok(Some(Vec::new(alloc)));
-    }
-    let fields = split(alloc, text, b'.')?;
-    each_character(alloc, fields.as_slice())
 }
 
 impl Shape for u64 {

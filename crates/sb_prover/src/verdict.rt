@@ -12,6 +12,7 @@ use sb_lit::ClauseId;
 use sb_proof::{Line, Said, Tape, TapeFault, Value};
 use sb_term::Serial;
 use sb_word::Word;
+use smallvec::SmallVec;
 use std::alloc::{AllocError, Global};
 
 /// Puts the line of a verdict.
@@ -55,17 +56,18 @@ fn value_of(alloc: Global, words: &[Word], serial: Serial) -> Result<Value, Allo
 {
     let characters = match words.get(serial.0 as usize) {
         Some(word) => characters_of(alloc, word)?,
-        None => Vec::new(alloc),
+        None => SmallVec::new(alloc),
     };
     Ok(Value::Text(characters))
 }
 
 /// The characters of a word.
-fn characters_of(alloc: Global, word: &Word) -> Result<Vec<u64>, AllocError>
+fn characters_of(alloc: Global, word: &Word) -> Result<SmallVec<u64, 4>, AllocError>
     ensures { IfOk result (λ characters. characters.items ≡ word.now) }
 {
     let codes = word.codes();
-    let mut characters = Vec::with_capacity(alloc, codes.len())?;
+    let mut characters = SmallVec::new(alloc);
+    characters.reserve(codes.len())?;
     for code in codes {
         characters.push(*code as u64)?;
     }
