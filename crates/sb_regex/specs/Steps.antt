@@ -43,13 +43,6 @@ in_some sets c = list_any (λ s. in_ranges s c) sets
 abbrev pub in_all : List (List Range) → ℕ → Bool
 in_all sets c = list_all (λ s. in_ranges s c) sets
 
--- the order is this, or that of parts
-abbrev pub IsReduced : List Regex → ℕ → ℕ → Difference → Type 0
-IsReduced rs a b (Decided o) = regex_cmp (regex_at rs a) (regex_at rs b) ≡ o
-IsReduced rs a b (Parts x y) =
-    (x < length rs) × (y < length rs) × (regex_cmp (regex_at rs a) (regex_at rs b) ≡ regex_cmp (regex_at rs x)
-    (regex_at rs y))
-
 -- pairs of numbers whose regexes are in the order of these two
 abbrev pub AreAlike : List Regex → ℕ → ℕ → List (ℕ × ℕ) → Type 0
 AreAlike rs a b pairs =

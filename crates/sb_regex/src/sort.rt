@@ -6,7 +6,7 @@ ghost use Rattle.sb_lang.specs.Order.{regex_cmp};
 ghost use Rattle.sb_lang.specs.Constructors.{sorted};
 ghost use Rattle.sb_lang.specs.FoldLaws.{SameMembers};
 ghost use Rattle.sb_regex.specs.Numbered.{regex_at, regexes_at, AllNumbers};
-ghost use Rattle.sb_regex.specs.Steps.{AreAlike, IsReduced, IsRising};
+ghost use Rattle.sb_regex.specs.Steps.{AreAlike, IsRising};
 
 use crate::arena::Arena;
 use crate::compare::Difference;
@@ -20,8 +20,8 @@ use std::cmp::Ordering;
 /// So few numbers are merged with the doubles among them.
 const FEW: usize = 8;
 
-/// How many steps a comparison takes before it looks for what was kept.
-const NEAR: usize = 16;
+/// An odd number whose products with numbers in a row have high bits without a pattern.
+const SPREAD: u64 = 0x9e37_79b9_7f4a_7c15;
 
 impl Arena {
     /// The numbers in the order of their regexes, each once. Doubles go first; then it takes n log n comparisons, and n
@@ -143,46 +143,9 @@ impl Arena {
         Ok(all)
     }
 
-    /// The place of one regex before another, as `compare` gives it. Where many steps do not decide, what was kept
-    /// of earlier comparisons does, and this one is kept.
+    /// The place of one regex before another, as `compare` gives it. Where the comparison comes past milestones, what was
+    /// kept of an earlier one at the first of these decides; and it is kept at each that it passed.
     fn place(&mut self, a: RegexId, b: RegexId) -> Result<Ordering, AllocError>
-        requires left { a < length self.old }
-        requires right { b < length self.old }
-        ensures value { IfOk result (λ order. order ≡ regex_cmp (regex_at self.old a) (regex_at self.old b)) }
-        ensures same { self.new ≡ self.old }
-    {
-        match self.near(a, b) {
-            Difference::Decided(order) => Ok(order),
-            Difference::Parts(x, y) => self.far(x, y),
-        }
-    }
-
-    /// The first steps of a comparison.
-    fn near(&self, a: RegexId, b: RegexId) -> Difference
-        requires left { a < length self.now }
-        requires right { b < length self.now }
-        ensures { IsReduced self.now a b result }
-    {
-        order_tells_apart();
-        let mut left = a;
-        let mut right = b;
-        for _ in 0..NEAR {
-            if left == right {
-                return Difference::Decided(Ordering::Equal);
-            }
-            match self.difference(left, right) {
-                Difference::Decided(order) => return Difference::Decided(order),
-                Difference::Parts(x, y) => {
-                    left = x;
-                    right = y;
-                }
-            }
-        }
-        Difference::Parts(left, right)
-    }
-
-    /// A comparison that is kept, with each step of it.
-    fn far(&mut self, a: RegexId, b: RegexId) -> Result<Ordering, AllocError>
         requires left { a < length self.old }
         requires right { b < length self.old }
         ensures value { IfOk result (λ order. order ≡ regex_cmp (regex_at self.old a) (regex_at self.old b)) }
@@ -196,7 +159,7 @@ impl Arena {
         Ok(order)
     }
 
-    /// A comparison up to what was kept of an earlier one, and the pairs on the way.
+    /// A comparison up to what was kept of an earlier one, and the pairs on the way that are to be kept.
     fn trace(
         &self,
         a: RegexId,
@@ -213,10 +176,12 @@ impl Arena {
         let mut left = a;
         let mut right = b;
         while left != right {
-            if let Some(order) = self.known_order(left, right) {
-                return Ok(order);
+            if is_milestone(left) {
+                if let Some(order) = self.known_order(left, right) {
+                    return Ok(order);
+                }
+                path.push((left, right))?;
             }
-            path.push((left, right))?;
             match self.difference(left, right) {
                 Difference::Decided(order) => return Ok(order),
                 Difference::Parts(x, y) => {
@@ -227,4 +192,10 @@ impl Arena {
         }
         Ok(Ordering::Equal)
     }
+}
+
+/// Whether what was found is kept at this number: so it is at one of 16, with no pattern, so that a comparison that comes
+/// onto the way of an earlier one is soon at such a number.
+fn is_milestone(id: RegexId) -> bool {
+    (id.number() as u64).wrapping_mul(SPREAD) >> 60 == 0
 }
