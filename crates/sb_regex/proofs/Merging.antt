@@ -1,20 +1,21 @@
 -- Two lists in order, merged.
-use Rattle.std.proofs.Common.{◌≡◌, ℕ, ◌+◌, ◌-◌, ◌<◌, Bool, true, false, ◌||◌, List, [], ◌∷◌, ◌++◌, length, get_or, take, drop, Result, Ok, Err, IfOk, refl, sym, ap, ap₂, ◌∙◌, arith, add-one, append_assoc, drop-cons, length-drop}
+use Rattle.std.proofs.Common.{◌≡◌, ℕ, ◌+◌, ◌-◌, ◌<◌, Bool, true, false, ◌||◌, List, [], ◌∷◌, ◌++◌, length, get_or, take, drop, reverse, Result, Ok, Err, IfOk, refl, sym, ap, ap₂, ◌∙◌, arith, add-one, append_assoc, drop-cons, length-drop}
 use Rattle.std.specs.declared.cmp.Ordering.TheVariants.{Less, Equal, Greater}
 use Rattle.std.specs.Ordering.{ordering_reverse}
 use Rattle.std.specs.Cmp.{IsTotalOrder}
-use Rattle.std.specs.List.{AllByRecursion}
+use Rattle.std.specs.List.{AllByRecursion, list_any}
 use Rattle.std.specs.List.Sorted.{IsStrictlySortedBy}
-use Rattle.std.proofs.lemmas.List.{length-map, get_or-map, map-append, take-append-drop, take_all}
+use Rattle.std.proofs.lemmas.List.{length-map, length-reverse, get_or-map, get_or-reverse, map-append, take-append-drop, take_all}
 use Rattle.std.proofs.lemmas.List.Folds.{list_any-append}
+use Rattle.std.proofs.lemmas.List.Sorted.{All-permutation, IsPermutation-reverse, list_any-IsPermutation}
 use Rattle.std.proofs.lemmas.Map.Keys.{sorted_from_all_adjacent}
 use Rattle.sb_lang.specs.Regex.{Regex}
 use Rattle.sb_lang.specs.Order.{regex_cmp, regex_eq}
 use Rattle.sb_lang.specs.OrderLaws.{OrderTellsApart}
 use Rattle.sb_lang.specs.SortedLaws.{is_member}
 use Rattle.sb_lang.specs.FoldLaws.{SameMembers}
-use Rattle.sb_regex.specs.Numbered.{regex_at, regexes_at}
-use Rattle.sb_regex.specs.Steps.{IsRising}
+use Rattle.sb_regex.specs.Numbered.{regex_at, regexes_at, AllNumbers}
+use Rattle.sb_regex.specs.Steps.{AreSteps}
 use Rattle.sb_regex.proofs.Gathering.{ats-append}
 
 -- Strictly sorted lists.
@@ -172,7 +173,7 @@ module _ (rs : List Regex) (all after left right : List ℕ) (i j x y : ℕ) (wh
 
 -- Numbers that rise one by one are in order.
 
-pub rising_sorted : IsTotalOrder regex_cmp → (rs : List Regex) (ids : List ℕ) → IsRising rs ids
+pub rising_sorted : IsTotalOrder regex_cmp → (rs : List Regex) (ids : List ℕ) → AreSteps rs Less ids
     → IsStrictlySortedBy regex_cmp (regexes_at rs ids)
 rising_sorted total rs ids h =
     sorted_from_all_adjacent total (regexes_at rs ids) (regex_at rs 0) (λ k l.
@@ -180,6 +181,35 @@ rising_sorted total rs ids h =
     ap₂ (λ x y. regex_cmp x y) (get_or-map (regex_at rs) ids k 0 _ (omega (arith, n)))
     (get_or-map (regex_at rs) ids (k + 1) 0 _ n)
     ∙ h k n)
+
+-- Numbers that fall one by one are in order from the last to the first.
+
+pub turned_rises : IsTotalOrder regex_cmp → (rs : List Regex) (ids : List ℕ) → AreSteps rs Greater ids
+    → AreSteps rs Less (reverse ids)
+turned_rises total rs ids falls k l =
+    let n = length-reverse ids in
+    let j = length ids - 1 - (k + 1) in
+    let here : length ids - 1 - k ≡ j + 1 = omega (arith, l, n) in
+    ap₂ (λ x y. regex_cmp (regex_at rs x) (regex_at rs y))
+    (get_or-reverse ids k 0 (omega (arith, l, n)) ∙ ap (λ m. get_or ids m 0) here)
+    (get_or-reverse ids (k + 1) 0 (omega (arith, l, n)))
+    ∙ total.antisymm (regex_at rs (get_or ids (j + 1) 0)) (regex_at rs (get_or ids j 0))
+    ∙ ap ordering_reverse (falls j (omega (arith, l, n)))
+
+member_at : (rs : List Regex) (r : Regex) (ids : List ℕ)
+    → is_member r (regexes_at rs ids) ≡ list_any (λ n. regex_eq r (regex_at rs n)) ids
+member_at rs r [] = refl
+member_at rs r (n ∷ ids) = ap (λ b. regex_eq r (regex_at rs n) || b) (member_at rs r ids)
+
+pub turned_members : (rs : List Regex) (ids : List ℕ) → SameMembers (regexes_at rs (reverse ids)) (regexes_at rs ids)
+turned_members rs ids r =
+    member_at rs r (reverse ids)
+    ∙ sym (list_any-IsPermutation (λ n. regex_eq r (regex_at rs n)) ids (reverse ids) (IsPermutation-reverse ids))
+    ∙ sym (member_at rs r ids)
+
+pub turned_numbers : (rs : List Regex) (ids : List ℕ) → AllNumbers rs ids → AllNumbers rs (reverse ids)
+turned_numbers rs ids all =
+    All-permutation (λ i. i < length rs) ids (reverse ids) (IsPermutation-reverse ids) all
 
 -- A list cut in two, and each part sorted.
 

@@ -1,6 +1,7 @@
 -- Private: one step of a comparison, and the members that are left of a list.
 use Rattle.std.specs.Prelude.{◌≡◌, ◌<◌, ℕ, ◌+◌, Bool, not, if◌then◌else◌, cond, nat_eq, List, [], ◌∷◌, filter, length, get_or, All}
 use Rattle.std.specs.List.{list_any, list_all}
+use Rattle.std.specs.declared.cmp.Ordering.{Ordering}
 use Rattle.std.specs.declared.cmp.Ordering.TheVariants.{Less, Equal, Greater}
 use Rattle.sb_class.specs.Ranges.{Range, in_ranges}
 use Rattle.sb_lang.specs.Regex.{Regex, none}
@@ -49,7 +50,7 @@ AreAlike rs a b pairs =
     All (λ p. (p.0 < length rs) × (p.1 < length rs)
     × (regex_cmp (regex_at rs a) (regex_at rs b) ≡ regex_cmp (regex_at rs p.0) (regex_at rs p.1))) pairs
 
--- each number's regex comes before the next one's
-abbrev pub IsRising : List Regex → List ℕ → Type 0
-IsRising rs ids = (k : ℕ) → k + 1 < length ids → regex_cmp (regex_at rs (get_or ids k 0)) (regex_at rs (get_or ids
-    (k + 1) 0)) ≡ Less
+-- each number's regex has this place before the next one's
+abbrev pub AreSteps : List Regex → Ordering → List ℕ → Type 0
+AreSteps rs step ids = (k : ℕ) → k + 1 < length ids → regex_cmp (regex_at rs (get_or ids k 0)) (regex_at rs (get_or ids
+    (k + 1) 0)) ≡ step

@@ -1,12 +1,12 @@
 //! Members in the order of their regexes. What a long comparison finds is kept, for each pair of parts on its way.
 
-ghost use Rattle.std.specs.Prelude.{◌≡◌, ◌∷◌, ◌++◌, [], ◌<◌, ◌≤◌, length, take, IfOk, OnOk};
+ghost use Rattle.std.specs.Prelude.{◌≡◌, ◌∷◌, ◌++◌, [], ◌<◌, ◌≤◌, length, take, reverse, IfOk, OnOk};
 ghost use Rattle.std.specs.List.Sorted.{IsStrictlySortedBy};
 ghost use Rattle.sb_lang.specs.Order.{regex_cmp};
 ghost use Rattle.sb_lang.specs.Constructors.{sorted};
 ghost use Rattle.sb_lang.specs.FoldLaws.{SameMembers};
 ghost use Rattle.sb_regex.specs.Numbered.{regex_at, regexes_at, AllNumbers};
-ghost use Rattle.sb_regex.specs.Steps.{AreAlike, IsRising};
+ghost use Rattle.sb_regex.specs.Steps.{AreAlike, AreSteps};
 
 use crate::arena::Arena;
 use crate::compare::Difference;
@@ -14,7 +14,7 @@ use crate::node::RegexId;
 use indexmap::IndexSet;
 use sb_lang::order::{order_is_total, order_tells_apart};
 use sb_lang::sorted::sorted_is_the_only;
-use std::alloc::AllocError;
+use std::alloc::{AllocError, Global};
 use std::cmp::Ordering;
 
 /// So few numbers are merged with the doubles among them.
@@ -25,7 +25,7 @@ const SPREAD: u64 = 0x9e37_79b9_7f4a_7c15;
 
 impl Arena {
     /// The numbers in the order of their regexes, each once. Doubles go first; then it takes n log n comparisons, and n
-    /// where the rest is in order.
+    /// where the rest is in order, or in the reverse of it.
     pub(crate) fn in_order(&mut self, ids: &[RegexId]) -> Result<Vec<RegexId>, AllocError>
         requires { AllNumbers self.old ids.now }
         ensures value { IfOk result
@@ -70,7 +70,7 @@ impl Arena {
         ensures same { self.new ≡ self.old }
     {
         order_is_total();
-        let run = self.run(ids)?;
+        let run = self.run(ids, Ordering::Less)?;
         if run == ids.len() {
             return Vec::from_slice(self.allocator(), ids);
         }
@@ -79,17 +79,23 @@ impl Arena {
             let right = self.sort(&ids[run..])?;
             return self.merge(&ids[..run], &right);
         }
+        let falling = self.run(ids, Ordering::Greater)?;
+        if half <= falling {
+            let left = turned(self.allocator(), &ids[..falling])?;
+            let right = self.sort(&ids[falling..])?;
+            return self.merge(&left, &right);
+        }
         let left = self.sort(&ids[..half])?;
         let right = self.sort(&ids[half..])?;
         self.merge(&left, &right)
     }
 
-    /// How many of the numbers in front are in order already.
-    fn run(&mut self, ids: &[RegexId]) -> Result<usize, AllocError>
+    /// How many of the numbers in front rise one by one, or fall so.
+    fn run(&mut self, ids: &[RegexId], step: Ordering) -> Result<usize, AllocError>
         requires { AllNumbers self.old ids.now }
         ensures within { IfOk result (λ n. n ≤ length ids.now) }
         ensures some { IfOk result (λ n. 0 < length ids.now → 0 < n) }
-        ensures rising { IfOk result (λ n. IsRising self.old (take n ids.now)) }
+        ensures steps { IfOk result (λ n. AreSteps self.old step (take n ids.now)) }
         ensures same { self.new ≡ self.old }
     {
         if ids.is_empty() {
@@ -97,7 +103,7 @@ impl Arena {
         }
         let mut n = 1;
         while n < ids.len() {
-            if self.place(ids[n - 1], ids[n])? != Ordering::Less {
+            if self.place(ids[n - 1], ids[n])? != step {
                 return Ok(n);
             }
             n += 1;
@@ -192,6 +198,15 @@ impl Arena {
         }
         Ok(Ordering::Equal)
     }
+}
+
+/// The numbers from the last one to the first.
+fn turned(alloc: Global, ids: &[RegexId]) -> Result<Vec<RegexId>, AllocError>
+    ensures { IfOk result (λ all. all.items ≡ reverse ids.now) }
+{
+    let mut all = Vec::from_slice(alloc, ids)?;
+    all.reverse();
+    Ok(all)
 }
 
 /// Whether what was found is kept at this number: so it is at one of 16, with no pattern, so that a comparison that comes

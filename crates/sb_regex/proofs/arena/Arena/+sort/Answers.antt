@@ -1,15 +1,15 @@
-use Rattle.std.proofs.Common.{◌/◌, length, take, refl, arith}
+use Rattle.std.proofs.Common.{◌/◌, length, take, refl, ◌∙◌, arith}
 use Rattle.std.specs.List.Sorted.{IsStrictlySortedBy}
 use Rattle.std.proofs.lemmas.List.{take_all}
 use Rattle.sb_lang.specs.Order.{regex_cmp}
 use Rattle.sb_regex.specs.Numbered.{regexes_at}
-use Rattle.sb_regex.proofs.Merging.{ok_from, halves, rest_whole, rising_sorted}
+use Rattle.sb_regex.proofs.Merging.{ok_from, halves, rest_whole, rising_sorted, turned_rises, turned_members}
 use Rattle.sb_regex.proofs.arena.Arena.+sort.Goals as goal
 
 pub returns-then-run-ids-clause-rising : goal.returns-then-run-ids-clause-rising
 returns-then-run-ids-clause-rising t c =
     let rs = c.args.self.now in
-    let short = rising_sorted c.order_is_total.ensures rs _ c.in_ok-run.ensures.rising in
+    let short = rising_sorted c.order_is_total.ensures rs _ c.in_ok-run.ensures.steps in
     let rises = rw (take_all c.in_ok-run.run' c.args.ids.now (omega arith)) at short in
     ok_from _ (λ v. IsStrictlySortedBy regex_cmp (regexes_at rs v.items)) c.from_slice.result
     (λ v e. rw e rises) c.from_slice.ensures.items
@@ -17,7 +17,7 @@ returns-then-run-ids-clause-rising t c =
 pub merge-requires-clause-left_rises : goal.merge-requires-clause-left_rises
 merge-requires-clause-left_rises t c =
     rw (c.sort.ensures.same, c.run.ensures.same)
-    (rising_sorted c.order_is_total.ensures c.args.self.now _ c.in_ok-run.ensures.rising)
+    (rising_sorted c.order_is_total.ensures c.args.self.now _ c.in_ok-run.ensures.steps)
 
 pub returns-then-half-run-clause-members : goal.returns-then-half-run-clause-members
 returns-then-half-run-clause-members t c =
@@ -30,14 +30,41 @@ returns-then-half-run-clause-members t c =
     (rw (one, rest_whole c.in_ok-run.run' c.args.ids.now) at c.in_ok-right.ensures.members) (rw
     (two, one, c.deref.ensures.value) at e)) c.merge.ensures.members
 
+pub merge-requires-then-half-falling-clause-left_rises : goal.merge-requires-then-half-falling-clause-left_rises
+merge-requires-then-half-falling-clause-left_rises t c =
+    let total = c.order_is_total.ensures in
+    let rs = c.args.self.now in
+    let falls = rw (c.run.ensures.same) at c.in_ok-falling.ensures.steps in
+    rw (
+      c.deref-then-half-falling.ensures.value,
+      c.in_ok-left.ensures,
+      c.sort-then-half-falling.ensures.same,
+      c.run-2.ensures.same,
+      c.run.ensures.same,
+    )
+    (rising_sorted total rs _ (turned_rises total rs (take c.in_ok-falling.falling c.args.ids.now) falls))
+
+pub returns-then-half-falling-clause-members : goal.returns-then-half-falling-clause-members
+returns-then-half-falling-clause-members t c =
+    let rs = c.args.self.now in
+    let one = c.run-2.ensures.same ∙ c.run.ensures.same in
+    let two = c.sort-then-half-falling.ensures.same in
+    ok_from _ _ c.merge-then-half-falling.result
+    (λ whole e. halves rs c.args.ids.now c.in_ok-left.left.items c.in_ok-right-2.right.items
+    c.in_ok-falling.falling (regexes_at rs whole.items)
+    (rw (c.in_ok-left.ensures) (turned_members rs (take c.in_ok-falling.falling c.args.ids.now)))
+    (rw (one, rest_whole c.in_ok-falling.falling c.args.ids.now) at c.in_ok-right-2.ensures.members) (rw
+    (two, one, c.deref-then-half-falling.ensures.value, c.deref-then-half-falling-2.ensures.value) at e))
+    c.merge-then-half-falling.ensures.members
+
 pub returns-clause-members : goal.returns-clause-members
 returns-clause-members t c =
     let rs = c.args.self.now in
-    let one = c.run.ensures.same in
+    let one = c.run-2.ensures.same ∙ c.run.ensures.same in
     let two = c.sort-2.ensures.same in
     let three = c.sort-3.ensures.same in
     ok_from _ _ c.merge-2.result
-    (λ whole e. halves rs c.args.ids.now c.in_ok-left.left.items c.in_ok-right-2.right.items
-    _ (regexes_at rs whole.items) (rw (one) at c.in_ok-left.ensures.members)
-    (rw (two, one, rest_whole (length c.args.ids.now / 2) c.args.ids.now) at c.in_ok-right-2.ensures.members)
+    (λ whole e. halves rs c.args.ids.now c.in_ok-left-2.left.items c.in_ok-right-3.right.items
+    _ (regexes_at rs whole.items) (rw (one) at c.in_ok-left-2.ensures.members)
+    (rw (two, one, rest_whole (length c.args.ids.now / 2) c.args.ids.now) at c.in_ok-right-3.ensures.members)
     (rw (three, two, one, c.deref-2.ensures.value, c.deref-3.ensures.value) at e)) c.merge-2.ensures.members
