@@ -115,3 +115,76 @@ fn all_walk(
 fn a_walk_finds_the_word_or_none_or_meets_its_bound(rt: HostRuntime) -> Result<(), Fail> {
     Ok(all_walk(&rt, rt.alloc(), &ROWS)?)
 }
+
+/// `u ALL` for each front u of a word.
+fn push_fronts(
+    alloc: Global,
+    arena: &mut Arena,
+    all: RegexId,
+    word: &[u8],
+    members: &mut Vec<RegexId>,
+) -> Result<(), AllocError> {
+    let mut front = arena.eps()?;
+    for code in word {
+        let letter = range(alloc, arena, u32::from(*code), u32::from(*code))?;
+        front = cat(arena, front, letter)?;
+        members.push(cat(arena, front, all)?)?;
+    }
+    Ok(())
+}
+
+/// `ALL u` for each end u of a word.
+fn push_ends(
+    alloc: Global,
+    arena: &mut Arena,
+    all: RegexId,
+    word: &[u8],
+    members: &mut Vec<RegexId>,
+) -> Result<(), AllocError> {
+    let mut end = arena.eps()?;
+    for code in word.iter().rev() {
+        let letter = range(alloc, arena, u32::from(*code), u32::from(*code))?;
+        end = cat(arena, letter, end)?;
+        members.push(cat(arena, all, end)?)?;
+    }
+    Ok(())
+}
+
+/// Two words of which all fronts are wanted, one of which all ends are, the length of the word that is found, and how
+/// many regexes more than the members there may be then.
+const FRONTS: [(&[u8], &[u8], &[u8], usize, usize); 5] = [
+    (b"abcdefghijklmnopqrstuvwxyz", b"", b"", 26, 3),
+    (b"aaaaaaaaaaaaaaaaaaaabaaaaaaaaaaaaaaaaaaaa", b"", b"", 41, 3),
+    (b"aaaaaaaaaaaaaaaaaaaa", b"aaaaaaaaaaaaaaaaaaaab", b"", 21, 3),
+    (b"aaaaaaaaaaaaaaaaaaaa", b"aaaaaaaaaab", b"", 1000000, 100),
+    (b"abcabcabcabcabcabcabcabc", b"", b"cabcabcabcabc", 24, 100),
+];
+
+fn fronts_meet(
+    rt: &impl Abort,
+    alloc: Global,
+    rows: &[(&[u8], &[u8], &[u8], usize, usize)],
+) -> Result<(), AllocError> {
+    for (one, other, end, length, more) in rows {
+        let mut arena = Arena::new(alloc);
+        let character = range(alloc, &mut arena, 0x61, 0x7a)?;
+        let all = star(&mut arena, character)?;
+        let mut members = Vec::new(alloc);
+        push_fronts(alloc, &mut arena, all, one, &mut members)?;
+        push_fronts(alloc, &mut arena, all, other, &mut members)?;
+        push_ends(alloc, &mut arena, all, end, &mut members)?;
+        let root = and(&mut arena, members.as_slice())?;
+        let before = arena.len();
+        if root.number() < arena.len() {
+            let outcome = find_word(alloc, &mut arena, &mut Deriver::new(alloc), root, 1000)?;
+            assert!(rt; length_of(&outcome) == *length);
+            assert!(rt; arena.len() - before <= *more);
+        }
+    }
+    Ok(())
+}
+
+#[test]
+fn of_fronts_of_one_word_the_longest_counts(rt: HostRuntime) -> Result<(), Fail> {
+    Ok(fronts_meet(&rt, rt.alloc(), &FRONTS)?)
+}

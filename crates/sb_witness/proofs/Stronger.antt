@@ -1,10 +1,11 @@
 -- Members of an intersection that follow from others.
-use Rattle.std.proofs.Common.{◌≡◌, ℕ, zero, suc, ◌+◌, ◌<◌, ◌≤◌, Bool, true, false, not, ◌&&◌, ◌||◌, nat_le, nat_eq, cond, List, [], ◌∷◌, ◌++◌, length, get_or, drop, refl, sym, ap, subst, ◌∙◌, arith, append_assoc, inl, inr}
+use Rattle.std.proofs.Common.{◌≡◌, ℕ, zero, suc, ◌+◌, ◌-◌, ◌<◌, ◌≤◌, Bool, true, false, not, ◌&&◌, ◌||◌, nat_le, nat_eq, cond, List, [], ◌∷◌, ◌++◌, length, get_or, take, drop, refl, sym, ap, subst, ◌∙◌, arith, append_assoc, inl, inr}
 use Rattle.std.specs.List.{All, list_any, list_all}
 use Rattle.std.specs.List.Sorted.{IsPermutation}
-use Rattle.std.proofs.lemmas.Bool.{and_parts, and_from, or_cases, or_left, or_right, false≢true}
+use Rattle.std.proofs.lemmas.Bool.{and_parts, and_from, or_cases, or_left, or_right, false≢true, true≢false}
 use Rattle.std.proofs.lemmas.Bool.Decides.{nat_tests}
-use Rattle.std.proofs.lemmas.List.{append-nil, at_drop_more, at_drop_all}
+use Rattle.std.proofs.lemmas.List.{append-nil, at_drop_more, at_drop_all, take_all, get_or_default}
+use Rattle.std.proofs.lemmas.List.Folds.{list_all_more}
 use Rattle.std.proofs.lemmas.List.Elements.{All-push, All-nil, All-weaker}
 use Rattle.std.proofs.lemmas.List.Sorted.{All-permutation, list_any-IsPermutation}
 use Rattle.sb_class.specs.Ranges.{Range, in_range, in_ranges}
@@ -19,7 +20,7 @@ use Rattle.sb_witness.specs.declared.search.Outcome.{Outcome}
 use Rattle.sb_witness.specs.declared.search.Outcome.TheVariants.{Found, Empty, Bounded}
 use Rattle.sb_witness.specs.Witness.{IsOutcome, IsState, MeetsBound}
 use Rattle.sb_witness.specs.Edges.{in_each}
-use Rattle.sb_witness.specs.Strongest.{IsWithin, TakesUp, FollowsFrom, AreWeaker, IsNext, AreKept, IsTaken, in_rows, AreRows, AreNeeded}
+use Rattle.sb_witness.specs.Strongest.{IsWithin, TakesUp, FollowsFrom, AreWeaker, IsNext, AreKept, IsTaken, in_rows, AreRows, AreNeeded, AreBehind, IsBehindPart}
 use Rattle.sb_witness.proofs.Splits.{all_append, numbers_push, each_of, and_is}
 
 -- Heads that take up what stands behind them.
@@ -229,6 +230,167 @@ taken_noted rs n head rest kept kept' weaker weaker' known is e noted L a =
           (λ u h. subst (λ r. language r u ≡ true) (sym is) (and_parts (L u) (language (regex_at rs n) u) h).1)
           t.follow;
     }
+
+-- Fronts with every word behind them.
+
+cat_within : CutIsSomeCut → (h s t : Regex) → IsWithin (language s) (language t)
+    → IsWithin (language (cat h s)) (language (cat h t))
+unfolding language
+cat_within cuts h s t within u c =
+    let k = (cuts (language h) (language s) u).0 c in
+    (cuts (language h) (language t) u).1
+    (record {
+      first = k.first;
+      second = k.second;
+      whole = k.whole;
+      in_first = k.in_first;
+      in_second = within k.second k.in_second;
+    })
+
+pub behind_head : CutIsSomeCut → (rs : List Regex) (wide narrow head other x y : ℕ) → x < wide → y < narrow
+    → cat (regex_at rs head) (regex_at rs x) ≡ regex_at rs wide
+    → cat (regex_at rs other) (regex_at rs y) ≡ regex_at rs narrow → nat_eq head other ≡ true
+    → AreBehind rs wide narrow (x, y)
+behind_head cuts rs wide narrow head other x y l m is other_is same =
+    let e : head ≡ other = grind (arith, nat_tests, same) in
+    record {
+      first = l;
+      second = m;
+      within = λ w.
+          subst (λ r. IsWithin (language r) (language (regex_at rs wide))) other_is
+          (subst (λ r. IsWithin (language (cat (regex_at rs other) (regex_at rs y))) (language r)) is
+          (subst (λ n. IsWithin (language (cat (regex_at rs n) (regex_at rs y)))
+          (language (cat (regex_at rs head) (regex_at rs x)))) e
+          (cat_within cuts (regex_at rs head) (regex_at rs y) (regex_at rs x) w)));
+    }
+
+-- every word is one of the complement of none
+pub every_word : (rs : List Regex) (n part : ℕ) (L : Language) → neg (regex_at rs part) ≡ regex_at rs n
+    → regex_at rs part ≡ none → IsWithin L (language (regex_at rs n))
+unfolding language
+every_word rs n part L is nothing u h = subst (λ r. language r u ≡ true) (ap neg (sym nothing) ∙ is) refl
+
+-- a word of the body, with one of the star behind it
+star_more : CutIsSomeCut → IterationIsSomePower → (b t : Regex) → IsWithin (language t) (language (star b))
+    → IsWithin (language (cat b t)) (language (star b))
+unfolding language power
+star_more cuts powers b t within u h =
+    let k = (cuts (language b) (language t) u).0 h in
+    let p = (powers (language b) k.second).0 (within k.second k.in_second) in
+    (powers (language b) u).1 (
+      suc p.0,
+      (cuts (language b) (power (language b) p.0) u).1
+          (record { first = k.first; second = k.second; whole = k.whole; in_first = k.in_first; in_second = p.1 }),
+    )
+
+star_once : CutIsSomeCut → IterationIsSomePower → (b : Regex) → IsWithin (language b) (language (star b))
+unfolding language power
+star_once cuts powers b u h =
+    (powers (language b) u).1 (
+      suc zero,
+      (cuts (language b) (power (language b) zero) u).1
+          (record { first = u; second = []; whole = append-nil u; in_first = h; in_second = refl }),
+    )
+
+pub part_behind : CutIsSomeCut → (rs : List Regex) (body at first next : ℕ) → next < at
+    → cat (regex_at rs first) (regex_at rs next) ≡ regex_at rs at
+    → IsWithin (language (regex_at rs first)) (language (regex_at rs body)) → IsBehindPart rs body at next
+unfolding language
+part_behind cuts rs body at first next less is within = record {
+  part = less;
+  within = subst (λ r. IsWithin (language r) (language (cat (regex_at rs body) (regex_at rs next)))) is
+      (λ u h.
+      let k = (cuts (language (regex_at rs first)) (language (regex_at rs next)) u).0 h in
+      (cuts (language (regex_at rs body)) (language (regex_at rs next)) u).1
+      (record {
+        first = k.first;
+        second = k.second;
+        whole = k.whole;
+        in_first = within k.first k.in_first;
+        in_second = k.in_second;
+      }));
+}
+
+pub row_more : CutIsSomeCut → IterationIsSomePower → (rs : List Regex) (all body at next : ℕ)
+    → star (regex_at rs body) ≡ regex_at rs all → IsBehindPart rs body at next
+    → IsWithin (language (regex_at rs next)) (language (regex_at rs all))
+    → IsWithin (language (regex_at rs at)) (language (regex_at rs all))
+row_more cuts powers rs all body at next is b within u h =
+    subst (λ r. language r u ≡ true) is
+    (star_more cuts powers (regex_at rs body) (regex_at rs next)
+    (λ v w. subst (λ r. language r v ≡ true) (sym is) (within v w)) u (b.within u h))
+
+pub row_ends : CutIsSomeCut → IterationIsSomePower → (rs : List Regex) (all body at : ℕ)
+    → star (regex_at rs body) ≡ regex_at rs all
+    → IsWithin (language (regex_at rs at)) (language (regex_at rs body))
+    → IsWithin (language (regex_at rs at)) (language (regex_at rs all))
+row_ends cuts powers rs all body at is within u h =
+    subst (λ r. language r u ≡ true) is (star_once cuts powers (regex_at rs body) u (within u h))
+
+pub row_whole : (rs : List Regex) (all at : ℕ) → not (nat_eq at all) ≡ false
+    → IsWithin (language (regex_at rs at)) (language (regex_at rs all))
+row_whole rs all at same = by (nat_eq at all) refl same
+  where
+    by : (b : Bool) → nat_eq at all ≡ b → not b ≡ false
+        → IsWithin (language (regex_at rs at)) (language (regex_at rs all))
+    by true e h =
+        let f : at ≡ all = grind (arith, nat_tests, e) in
+        subst (λ n. IsWithin (language (regex_at rs at)) (language (regex_at rs n))) f (λ u w. w)
+    by false e h = absurd (true≢false h)
+
+before_within : (rs : List Regex) (parts : List ℕ) (i d : ℕ) (M : Language) → 0 < i → i < length parts
+    → IsWithin (language (regex_at rs (get_or parts (i - 1) d))) M → IsWithin (in_each rs (take i parts)) M
+before_within rs parts i d M some l within u h =
+    let one : (i - 1) + 1 ≡ i = omega (arith, some) in
+    within u (and_parts (in_each rs (take (i - 1) parts) u) (language (regex_at rs (get_or parts (i - 1) d)) u)
+    (sym (list_all_more (λ n. language (regex_at rs n) u) parts (i - 1) d (omega (arith, l)))
+    ∙ ap (λ k. in_each rs (take k parts) u) one
+    ∙ h)).1
+
+pub before_front : (rs : List Regex) (parts : List ℕ) (i front regex : ℕ) → (i ≡ 0 → ⊥) → i < length parts
+    → front ≡ get_or parts i front → regex ≡ get_or parts (i - 1) regex
+    → IsWithin (language (regex_at rs regex)) (language (regex_at rs front))
+    → IsWithin (in_each rs (take i parts)) (language (regex_at rs (get_or parts i 0)))
+before_front rs parts i front regex some l here before within =
+    before_within rs parts i regex (language (regex_at rs (get_or parts i 0))) (omega (arith, some)) l
+    (subst (λ n. IsWithin (language (regex_at rs n)) (language (regex_at rs (get_or parts i 0)))) before
+    (subst (λ n. IsWithin (language (regex_at rs regex)) (language (regex_at rs n)))
+    (here ∙ get_or_default parts i front 0 l) within))
+
+-- the numbers that are kept, of those before a place
+pub record AreFronts (rs : List Regex) (parts kept : List ℕ) (i : ℕ) : Type 0 where
+  pub known : AllNumbers rs kept
+  pub same : (u : List ℕ) → in_each rs kept u ≡ in_each rs (take i parts) u
+
+pub fronts_start : (rs : List Regex) (parts kept : List ℕ) → kept ≡ [] → AreFronts rs parts kept 0
+fronts_start rs parts kept e = record {
+  known = rw e (All-nil (λ i. i < length rs));
+  same = λ u. ap (λ ns. in_each rs ns u) e;
+}
+
+pub front_dropped : (rs : List Regex) (parts kept : List ℕ) (i d : ℕ) → i < length parts
+    → IsWithin (in_each rs (take i parts)) (language (regex_at rs (get_or parts i d))) → AreFronts rs parts kept i
+    → AreFronts rs parts kept (i + 1)
+front_dropped rs parts kept i d l within f = record {
+  known = f.known;
+  same = λ u. f.same u ∙ implied (in_each rs (take i parts) u) _ (within u)
+      ∙ sym (list_all_more (λ n. language (regex_at rs n) u) parts i d l);
+}
+
+pub front_kept : (rs : List Regex) (parts kept kept' : List ℕ) (i part : ℕ) → i < length parts → part < length rs
+    → part ≡ get_or parts i part → kept' ≡ kept ++ part ∷ [] → AreFronts rs parts kept i
+    → AreFronts rs parts kept' (i + 1)
+front_kept rs parts kept kept' i part l known is e f = record {
+  known = numbers_push rs kept kept' part f.known known e;
+  same = λ u. ap (λ ns. in_each rs ns u) e ∙ all_append (λ n. language (regex_at rs n) u) kept part
+      ∙ ap (λ b. b && language (regex_at rs part) u) (f.same u)
+      ∙ ap (λ n. in_each rs (take i parts) u && language (regex_at rs n) u) is
+      ∙ sym (list_all_more (λ n. language (regex_at rs n) u) parts i part l);
+}
+
+pub fronts_done : (rs : List Regex) (parts kept : List ℕ) (i : ℕ) → length parts ≤ i → AreFronts rs parts kept i
+    → (u : List ℕ) → in_each rs kept u ≡ in_each rs parts u
+fronts_done rs parts kept i l f u = f.same u ∙ ap (λ ns. in_each rs ns u) (take_all i parts l)
 
 -- All members.
 

@@ -19,6 +19,18 @@ TakesUp h x = (t : Regex) → IsWithin (language (cat h (cat x t))) (language (c
 abbrev pub FollowsFrom : List Regex → Language → ℕ × ℕ → Type 0
 FollowsFrom rs L p = IsWithin L (language (cat (regex_at rs p.0) (regex_at rs p.1)))
 
+-- the two numbers are of parts, and the first two follow from the others wherever these do
+pub record AreBehind (rs : List Regex) (wide narrow : ℕ) (p : ℕ × ℕ) : Type 0 where
+  pub first : p.0 < wide
+  pub second : p.1 < narrow
+  pub within : IsWithin (language (regex_at rs p.1)) (language (regex_at rs p.0))
+      → IsWithin (language (regex_at rs narrow)) (language (regex_at rs wide))
+
+-- the number is of a part, and behind words of the body its words are all those of the whole
+pub record IsBehindPart (rs : List Regex) (body at next : ℕ) : Type 0 where
+  pub part : next < at
+  pub within : IsWithin (language (regex_at rs at)) (language (cat (regex_at rs body) (regex_at rs next)))
+
 -- the pairs follow from whatever the first pair follows from, as long as the old ones do
 abbrev pub AreWeaker : List Regex → ℕ × ℕ → List (ℕ × ℕ) → List (ℕ × ℕ) → Type 0
 AreWeaker rs p old new =

@@ -1,15 +1,16 @@
 //! An intersection without members that follow from others.
 //!
 //! Of `ALL u` and `ALL v`, where `u` ends in `v` and `ALL` takes up what stands before it there, the second one follows
-//! from the first.
+//! from the first. Of `u v` and `u ALL`, where the words of `v` are words of `ALL`, the second one follows from the first.
 
-ghost use Rattle.std.specs.Prelude.{◌≡◌, ◌<◌, ℕ, List, true, length, IfOk, OnOk, IfSome};
+ghost use Rattle.std.specs.Prelude.{◌≡◌, ◌<◌, ℕ, List, true, length, get_or, take, IfOk, OnOk, IfSome};
+ghost use Rattle.sb_lang.specs.Regex.{star};
 ghost use Rattle.sb_lang.specs.Language.{language};
 ghost use Rattle.sb_lang.specs.Languages.{one_character};
 ghost use Rattle.sb_class.specs.Ranges.{in_range, in_ranges};
 ghost use Rattle.sb_regex.specs.Numbered.{regex_at, AllNumbers, Extends};
 ghost use Rattle.sb_witness.specs.Edges.{in_each};
-ghost use Rattle.sb_witness.specs.Strongest.{IsWithin, TakesUp, AreWeaker, IsNext, IsTaken, AreRows, AreNeeded};
+ghost use Rattle.sb_witness.specs.Strongest.{IsWithin, TakesUp, AreWeaker, IsNext, IsTaken, AreRows, AreNeeded, AreBehind, IsBehindPart};
 
 use crate::edges::is_none;
 use indexmap::IndexSet;
@@ -25,9 +26,11 @@ const MOST: usize = 16;
 const FEW: usize = 8;
 
 /// The intersection of the members that don't follow from others, as far as that is seen: a concatenation of a star, or
-/// of every word, and an end of what stands behind it in another member. Another regex is itself.
+/// of every word, and an end of what stands behind it in another member; and a front of the member before it, with such a
+/// star or every word behind it. Another regex is itself.
 ///
-/// Takes time n log n in the number of members, beside the intersection.
+/// Takes time n log n in the number of members, and linear in the numbers of parts of those that are concatenations,
+/// beside the intersection.
 pub(crate) fn strongest(
     alloc: Global,
     arena: &mut Arena,
@@ -67,6 +70,142 @@ fn needed(alloc: Global, arena: &Arena, regex: RegexId) -> Result<Option<Vec<Reg
 
 /// Those of the regexes that are needed for the words that all of them have.
 fn needed_among(alloc: Global, arena: &Arena, parts: &[RegexId]) -> Result<Vec<RegexId>, AllocError>
+    requires { AllNumbers arena.now parts.now }
+    ensures known { IfOk result (λ kept. AllNumbers arena.now kept.items) }
+    ensures same { IfOk result (λ kept. (u : List ℕ) → in_each arena.now kept.items u ≡ in_each arena.now parts.now u) }
+{
+    let longest = longest_fronts(alloc, arena, parts)?;
+    without_ends(alloc, arena, &longest)
+}
+
+/// The regexes without those that are seen to follow from the one before them: in the order of regexes, a front with a
+/// star behind it comes next to the longer fronts.
+fn longest_fronts(
+    alloc: Global,
+    arena: &Arena,
+    parts: &[RegexId],
+) -> Result<Vec<RegexId>, AllocError>
+    requires { AllNumbers arena.now parts.now }
+    ensures known { IfOk result (λ kept. AllNumbers arena.now kept.items) }
+    ensures same { IfOk result (λ kept. (u : List ℕ) → in_each arena.now kept.items u ≡ in_each arena.now parts.now u) }
+{
+    let mut kept = Vec::new(alloc);
+    for i in 0..parts.len() {
+        if !follows_at(arena, parts, i) {
+            kept.push(parts[i])?;
+        }
+    }
+    Ok(kept)
+}
+
+/// Whether the regex at a place is seen to follow from the one before it.
+fn follows_at(arena: &Arena, parts: &[RegexId], i: usize) -> bool
+    requires known { AllNumbers arena.now parts.now }
+    requires place { i < length parts.now }
+    ensures { result ≡ true
+        → IsWithin (in_each arena.now (take i parts.now)) (language (regex_at arena.now (get_or parts.now i 0))) }
+{
+    if i == 0 {
+        return false;
+    }
+    is_front_of(arena, parts[i], parts[i - 1])
+}
+
+/// Whether a regex is seen to be a front of another one with what takes in the rest behind it.
+fn is_front_of(arena: &Arena, front: RegexId, regex: RegexId) -> bool
+    requires front { front < length arena.now }
+    requires regex { regex < length arena.now }
+    ensures { result ≡ true
+        → IsWithin (language (regex_at arena.now regex)) (language (regex_at arena.now front)) }
+{
+    let mut wide = front;
+    let mut narrow = regex;
+    while !takes_in(arena, wide, narrow) {
+        let Some((x, y)) = behind_one_head(arena, wide, narrow) else {
+            return false;
+        };
+        wide = x;
+        narrow = y;
+    }
+    true
+}
+
+/// What stands behind the heads of two concatenations, where the heads are the same.
+fn behind_one_head(arena: &Arena, wide: RegexId, narrow: RegexId) -> Option<(RegexId, RegexId)>
+    requires wide { wide < length arena.now }
+    requires narrow { narrow < length arena.now }
+    ensures { IfSome result (AreBehind arena.now wide narrow) }
+{
+    cut_is_some_cut();
+    match arena.node(wide) {
+        Node::Cat(head, x) => match arena.node(narrow) {
+            Node::Cat(other, y) => {
+                if head == other {
+                    return Some((*x, *y));
+                }
+                None
+            }
+            _ => None,
+        },
+        _ => None,
+    }
+}
+
+/// Whether a star, or every word, has the words of another regex, as far as that is seen.
+fn takes_in(arena: &Arena, head: RegexId, regex: RegexId) -> bool
+    requires head { head < length arena.now }
+    requires regex { regex < length arena.now }
+    ensures { result ≡ true
+        → IsWithin (language (regex_at arena.now regex)) (language (regex_at arena.now head)) }
+{
+    match arena.node(head) {
+        Node::Star(body) => is_row(arena, head, *body, regex),
+        Node::Not(part) => is_none(arena, *part),
+        _ => false,
+    }
+}
+
+/// Whether a regex is seen to be a concatenation of parts of the body, with the star or one more part at the end.
+fn is_row(arena: &Arena, all: RegexId, body: RegexId, regex: RegexId) -> bool
+    requires all { all < length arena.now }
+    requires body { body < length arena.now }
+    requires regex { regex < length arena.now }
+    requires is { star (regex_at arena.now body) ≡ regex_at arena.now all }
+    ensures { result ≡ true
+        → IsWithin (language (regex_at arena.now regex)) (language (regex_at arena.now all)) }
+{
+    cut_is_some_cut();
+    iteration_is_some_power();
+    let mut at = regex;
+    while at != all {
+        let Some(next) = behind_part(arena, body, at) else {
+            return lies_within(arena, at, body);
+        };
+        at = next;
+    }
+    true
+}
+
+/// What stands behind the head of a concatenation, if the words of the head are seen to be words of the body.
+fn behind_part(arena: &Arena, body: RegexId, at: RegexId) -> Option<RegexId>
+    requires body { body < length arena.now }
+    requires at { at < length arena.now }
+    ensures { IfSome result (IsBehindPart arena.now body at) }
+{
+    cut_is_some_cut();
+    match arena.node(at) {
+        Node::Cat(first, next) => {
+            if lies_within(arena, *first, body) {
+                return Some(*next);
+            }
+            None
+        }
+        _ => None,
+    }
+}
+
+/// The regexes without those that are seen to follow from one with a longer end.
+fn without_ends(alloc: Global, arena: &Arena, parts: &[RegexId]) -> Result<Vec<RegexId>, AllocError>
     requires { AllNumbers arena.now parts.now }
     ensures known { IfOk result (λ kept. AllNumbers arena.now kept.items) }
     ensures same { IfOk result (λ kept. (u : List ℕ) → in_each arena.now kept.items u ≡ in_each arena.now parts.now u) }

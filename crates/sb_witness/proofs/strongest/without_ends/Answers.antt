@@ -1,7 +1,7 @@
 use Rattle.std.proofs.Common.{sym, subst}
 use Rattle.sb_witness.specs.Strongest.{AreRows}
 use Rattle.sb_witness.proofs.Stronger.{going_start, going_next, going_done}
-use Rattle.sb_witness.proofs.strongest.needed_among.Goals as goal
+use Rattle.sb_witness.proofs.strongest.without_ends.Goals as goal
 
 pub loop-row-init : goal.loop-row-init
 loop-row-init c =
