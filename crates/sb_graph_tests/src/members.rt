@@ -157,7 +157,7 @@ const FRONTS: [(&[u8], &[u8], &[u8], usize, usize); 5] = [
     (b"aaaaaaaaaaaaaaaaaaaabaaaaaaaaaaaaaaaaaaaa", b"", b"", 41, 3),
     (b"aaaaaaaaaaaaaaaaaaaa", b"aaaaaaaaaaaaaaaaaaaab", b"", 21, 3),
     (b"aaaaaaaaaaaaaaaaaaaa", b"aaaaaaaaaab", b"", 1000000, 100),
-    (b"abcabcabcabcabcabcabcabc", b"", b"cabcabcabcabc", 24, 100),
+    (b"abcabcabcabcabcabcabcabc", b"", b"cabcabcabcabc", 24, 400),
 ];
 
 fn fronts_meet(

@@ -10,6 +10,7 @@ ghost use Rattle.sb_witness.specs.Queue.{word_at, GoesBack, AreWords, LeadsBy, A
 ghost use Rattle.sb_witness.specs.Search.{IsSearched, IsStop, first_language};
 
 use crate::queue::Queue;
+use crate::split::room_for;
 use crate::strongest::strongest;
 use crate::turn::take_turn;
 use sb_depth::find_by_length;
@@ -54,16 +55,18 @@ pub fn find_word(
     ensures kept { KeepsEntries deriver.old deriver.new }
 {
     faithful_stays();
+    let room = room_for(arena, root);
     let start = strongest(alloc, arena, root)?;
-    find_from(alloc, arena, deriver, start, bound)
+    find_from(alloc, arena, deriver, start, room, bound)
 }
 
-/// That of a regex, by a walk that begins with it.
+/// That of a regex, by a walk that begins with it, whose states are split into at most `room`.
 fn find_from(
     alloc: Global,
     arena: &mut Arena,
     deriver: &mut Deriver,
     root: RegexId,
+    room: usize,
     bound: usize,
 ) -> Result<Outcome, AllocError>
     requires known { root < length arena.old }
@@ -77,7 +80,7 @@ fn find_from(
     nullable_has_empty_word();
     let mut queue = Queue::new(alloc);
     queue.put(root, 0, 0)?;
-    let stop = walk(alloc, arena, deriver, &mut queue, bound)?;
+    let stop = walk(alloc, arena, deriver, &mut queue, room, bound)?;
     match stop {
         Stop::Nullable(place) => {
             let word = word_of(alloc, &queue, place)?;
@@ -130,6 +133,7 @@ fn walk(
     arena: &mut Arena,
     deriver: &mut Deriver,
     queue: &mut Queue,
+    room: usize,
     bound: usize,
 ) -> Result<Stop, AllocError>
     requires start { IsSearched arena.old (first_language arena.old queue.old) queue.old 0 }
@@ -149,7 +153,7 @@ fn walk(
             return Ok(Stop::Bound);
         }
         tested = queue.len();
-        place = take_turn(alloc, arena, deriver, queue, place)?;
+        place = take_turn(alloc, arena, deriver, queue, place, room)?;
     }
     Ok(Stop::End)
 }

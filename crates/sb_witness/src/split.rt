@@ -17,11 +17,12 @@ const MOST: usize = 16;
 const MANY: usize = 64;
 
 /// Regexes whose languages together are that of a regex: of an intersection, one for each choice of members of the
-/// unions in it, as long as these are few; else the regex itself, or the members of a union.
+/// unions in it, as long as these are few, and at most `room`; else the regex itself, or the members of a union.
 pub(crate) fn split(
     alloc: Global,
     arena: &mut Arena,
     regex: RegexId,
+    room: usize,
 ) -> Result<Vec<RegexId>, AllocError>
     requires { regex < length arena.old }
     ensures split { IfOk result (λ members. IsSplit arena.new regex members.items) }
@@ -29,7 +30,7 @@ pub(crate) fn split(
 {
     mkand_keeps_language();
     intersection_is_of_each();
-    let choice = choose(alloc, arena, regex)?;
+    let choice = choose(alloc, arena, regex, room)?;
     if choice.1.is_empty() {
         return members_of(alloc, arena, regex);
     }
@@ -60,6 +61,7 @@ fn choose(
     alloc: Global,
     arena: &Arena,
     regex: RegexId,
+    room: usize,
 ) -> Result<(Vec<RegexId>, Vec<RegexId>), AllocError>
     requires { regex < length arena.now }
     ensures { IfOk result (λ choice. IsChoice arena.now regex choice.0.items choice.1.items) }
@@ -67,7 +69,7 @@ fn choose(
     intersection_is_of_each();
     match arena.node(regex) {
         Node::And(parts) => {
-            let choice = choose_among(alloc, arena, parts.as_slice())?;
+            let choice = choose_among(alloc, arena, parts.as_slice(), room)?;
             Ok(choice)
         }
         _ => {
@@ -82,6 +84,7 @@ fn choose_among(
     alloc: Global,
     arena: &Arena,
     parts: &[RegexId],
+    room: usize,
 ) -> Result<(Vec<RegexId>, Vec<RegexId>), AllocError>
     requires { AllNumbers arena.now parts.now }
     ensures whole { IfOk result (λ choice. AllNumbers arena.now choice.0.items) }
@@ -92,7 +95,7 @@ fn choose_among(
 {
     let mut whole = Vec::new(alloc);
     let mut divided = Vec::new(alloc);
-    let mut room = room_for(parts.len());
+    let mut room = room.min(room_of(parts.len()));
     for part in parts {
         let size = size_of(arena, *part);
         let left = left_of(room, size);
@@ -102,8 +105,19 @@ fn choose_among(
     Ok((whole, divided))
 }
 
+/// Into so many members the states of a walk that begins with a regex are split at most. Where that is an intersection
+/// of many, they are left whole, also where few of its members are left: each of them may have as many ways to go on.
+pub(crate) fn room_for(arena: &Arena, regex: RegexId) -> usize
+    requires { regex < length arena.now }
+{
+    match arena.node(regex) {
+        Node::And(parts) => room_of(parts.len()),
+        _ => MOST,
+    }
+}
+
 /// Into so many members an intersection of so many is split at most.
-fn room_for(count: usize) -> usize {
+fn room_of(count: usize) -> usize {
     if count > MANY {
         return 1;
     }

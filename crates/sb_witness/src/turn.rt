@@ -16,13 +16,15 @@ use sb_deriv::{Deriver, faithful_stays};
 use sb_regex::{Arena, Node, RegexId};
 use std::alloc::{AllocError, Global};
 
-/// Puts the states behind those that have the way of a place into the queue. The first place behind these.
+/// Puts the states behind those that have the way of a place into the queue, intersections split into at most `room`
+/// each. The first place behind these.
 pub(crate) fn take_turn(
     alloc: Global,
     arena: &mut Arena,
     deriver: &mut Deriver,
     queue: &mut Queue,
     place: usize,
+    room: usize,
 ) -> Result<usize, AllocError>
     requires within { place < length queue.old }
     requires faithful { IsFaithful arena.old deriver.old }
@@ -37,7 +39,7 @@ pub(crate) fn take_turn(
     faithful_stays();
     let end = queue.run_end(place);
     let edges = edges_of(alloc, arena, deriver, &queue.regexes()[place..end])?;
-    put_edges(alloc, arena, queue, &edges, place)?;
+    put_edges(alloc, arena, queue, &edges, place, room)?;
     Ok(end)
 }
 
@@ -48,13 +50,14 @@ fn put_edges(
     queue: &mut Queue,
     edges: &[(u32, RegexId)],
     place: usize,
+    room: usize,
 ) -> Result<(), AllocError>
     requires { AllNumbers arena.old (targets_of edges.now) }
     ensures puts { OnOk result (Puts arena.new place edges.now queue.old queue.new) }
     ensures extends { Extends arena.old arena.new }
 {
     for (character, target) in edges {
-        put_parts(alloc, arena, queue, *target, place, *character)?;
+        put_parts(alloc, arena, queue, *target, (place, *character), room)?;
     }
     Ok(())
 }
@@ -65,18 +68,18 @@ fn put_parts(
     arena: &mut Arena,
     queue: &mut Queue,
     target: RegexId,
-    place: usize,
-    character: u32,
+    way: (usize, u32),
+    room: usize,
 ) -> Result<(), AllocError>
     requires { target < length arena.old }
-    ensures put { OnOk result (IsPut arena.new target (place, character) queue.old queue.new) }
+    ensures put { OnOk result (IsPut arena.new target way queue.old queue.new) }
     ensures extends { Extends arena.old arena.new }
 {
     if is_intersection(arena, target) {
-        let members = split(alloc, arena, target)?;
-        return queue.put_each(&members, place, character);
+        let members = split(alloc, arena, target, room)?;
+        return queue.put_each(&members, way.0, way.1);
     }
-    put_union(arena, queue, target, place, character)
+    put_union(arena, queue, target, way.0, way.1)
 }
 
 fn is_intersection(arena: &Arena, regex: RegexId) -> bool
