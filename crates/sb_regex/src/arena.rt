@@ -139,7 +139,7 @@ impl Arena {
         ensures extends { Extends self.old self.new }
     {
         if let Some(number) = self.nodes.get_index_of(&node) {
-            return Ok(RegexId::new(number));
+            return RegexId::new(number);
         }
         let facts = Facts {
             nullable: self.node_nullable(&node),
@@ -148,7 +148,7 @@ impl Arena {
         self.facts.reserve(1)?;
         let (number, _) = self.nodes.insert_full(node)?;
         self.facts.push(facts)?;
-        Ok(RegexId::new(number))
+        RegexId::new(number)
     }
 
     /// The regex with no word. Constant time.

@@ -1,14 +1,15 @@
 //! The nodes of regexes.
 
-ghost use Rattle.std.specs.Prelude.{◌≡◌};
+ghost use Rattle.std.specs.Prelude.{◌≡◌, IfOk};
 
 use smallvec::SmallVec;
+use std::alloc::AllocError;
 use std::marker::Model;
 
 /// The number of a regex in its arena.
 #[derive(Clone, Copy, Debug, Default, PartialEq, Eq, PartialOrd, Ord, Hash)]
 pub struct RegexId {
-    number: usize,
+    number: u32,
 }
 
 impl Model for RegexId {
@@ -22,17 +23,21 @@ impl Model for RegexId {
 }
 
 impl RegexId {
-    pub(crate) fn new(number: usize) -> RegexId
-        ensures { result ≡ number }
+    /// The regex of a number. Want of memory where that is 2^32 or more.
+    pub(crate) fn new(number: usize) -> Result<RegexId, AllocError>
+        ensures { IfOk result (λ id. id ≡ number) }
     {
-        RegexId { number }
+        match u32::try_from(number) {
+            Ok(number) => Ok(RegexId { number }),
+            Err(_) => Err(AllocError),
+        }
     }
 
     /// The number itself.
     pub fn number(self) -> usize
         ensures { result ≡ self }
     {
-        self.number
+        self.number as usize
     }
 }
 
