@@ -8,6 +8,7 @@ use crate::operation::{Constants, Operation};
 use crate::pieces::Map;
 use sb_class::LAST_CHARACTER;
 use sb_regex::RegexId;
+use smallvec::SmallVec;
 use std::alloc::{AllocError, Global};
 use std::marker::Model;
 
@@ -32,13 +33,14 @@ impl Model for Choices {
 }
 
 impl Choices {
-    pub(crate) fn new(alloc: Global) -> Choices
-        ensures { result ≡ [] }
+    /// No pieces, with room for so many, and for so many regexes in all of them.
+    fn with_room(alloc: Global, pieces: usize, ids: usize) -> Result<Choices, AllocError>
+        ensures { IfOk result (λ choices. choices ≡ []) }
     {
-        Choices {
-            pieces: Vec::new(alloc),
-            ids: Vec::new(alloc),
-        }
+        Ok(Choices {
+            pieces: Vec::with_capacity(alloc, pieces)?,
+            ids: Vec::with_capacity(alloc, ids)?,
+        })
     }
 
     pub(crate) fn len(&self) -> usize
@@ -76,6 +78,9 @@ impl Choices {
 
 /// Up to so many maps are looked at together.
 const FEW: usize = 16;
+
+/// For so many pieces there is room from the start.
+const ROOM: usize = 16;
 
 /// The common refinement of maps, with the targets that make a difference. In the number of pieces and of such
 /// targets it takes time n log n.
@@ -131,12 +136,12 @@ fn sweep(
     ensures values { IfOk result (λ choices. (c : ℕ) → c < end_of_characters
         → value_from [] choices c ≡ picked constants.now operation.now (values_at maps.now c)) }
 {
-    let mut choices = Choices::new(alloc);
-    let mut ids = Vec::new(alloc);
+    let mut choices = Choices::with_room(alloc, ROOM, ROOM * 8)?;
+    let mut ids = SmallVec::new(alloc);
     let mut first = 0;
     while first <= LAST_CHARACTER {
         let end = choose(operation, constants, maps, first, &mut ids)?;
-        choices.push(first, &ids)?;
+        choices.push(first, ids.as_slice())?;
         first = end;
     }
     Ok(choices)
@@ -148,7 +153,7 @@ fn choose(
     constants: &Constants,
     maps: &[Map],
     c: u32,
-    ids: &mut Vec<RegexId>,
+    ids: &mut SmallVec<RegexId, 16>,
 ) -> Result<u32, AllocError>
     requires { c ≤ 0x2ffff }
     ensures { IfOk result (λ end. AreChosen constants.now operation.now maps.now c end ids.new.items) }
@@ -173,7 +178,7 @@ fn keep(
     operation: &Operation,
     constants: &Constants,
     target: RegexId,
-    ids: &mut Vec<RegexId>,
+    ids: &mut SmallVec<RegexId, 16>,
 ) -> Result<(), AllocError>
     ensures { OnOk result
         (ids.new.items ≡ ids.old.items ++ cond (drops constants.now operation.now target) [] (target ∷ [])) }
@@ -198,7 +203,7 @@ fn merge(
     ensures values { IfOk result (λ choices. (c : ℕ) → value_from [] choices c
         ≡ joined constants.now operation.now (value_from [] left.now c) (value_from [] right.now c)) }
 {
-    let mut choices = Choices::new(alloc);
+    let mut choices = Choices::with_room(alloc, ROOM, ROOM * 8)?;
     let mut ids = Vec::new(alloc);
     let mut i = 0;
     let mut j = 0;

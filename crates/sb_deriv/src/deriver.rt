@@ -166,7 +166,7 @@ impl Deriver {
             Shape::Set(ranges) => self.of_set(arena, constants, &ranges),
             Shape::Cat(a, b) => self.of_cat(arena, constants, a, b, waiting),
             Shape::Made(operation, parts) => {
-                self.of_all(arena, constants, operation, &parts, waiting)
+                self.of_all(arena, constants, operation, parts.as_slice(), waiting)
             }
         }
     }
@@ -324,7 +324,7 @@ impl Deriver {
         requires { HaveEntries self.now parts.now }
         ensures { IfOk result (λ maps. maps.items ≡ map (map_of self.now) parts.now) }
     {
-        let mut maps = Vec::new(self.allocator());
+        let mut maps = Vec::with_capacity(self.allocator(), parts.len())?;
         for part in parts {
             maps.push(Map::new(self.pieces_of(*part)))?;
         }

@@ -7,6 +7,7 @@ ghost use Rattle.sb_deriv.specs.Choices.{made, drops, absorbs, AreConstants, Ope
 
 use sb_lang::fold::union_of_one;
 use sb_regex::{Arena, Node, RegexId};
+use smallvec::SmallVec;
 use std::alloc::{AllocError, Global};
 
 /// The numbers of three regexes that are asked for again and again.
@@ -207,10 +208,10 @@ pub(crate) enum Shape {
     /// Of a concatenation.
     Cat(RegexId, RegexId),
     /// By an operation, from the derivatives of parts.
-    Made(Operation, Vec<RegexId>),
+    Made(Operation, SmallVec<RegexId, 16>),
 }
 
-/// The shape of a regex. Linear in the number of its parts or ranges.
+/// The shape of a regex. Linear in the number of its parts or ranges. Up to sixteen parts take no memory.
 pub(crate) fn shape_of(alloc: Global, arena: &Arena, id: RegexId) -> Result<Shape, AllocError>
     requires { id < length arena.now }
     ensures { IfOk result (λ shape. IsShape arena.now id shape) }
@@ -222,19 +223,19 @@ pub(crate) fn shape_of(alloc: Global, arena: &Arena, id: RegexId) -> Result<Shap
         Node::Set(ranges) => Ok(Shape::Set(Vec::from_slice(alloc, ranges.as_slice())?)),
         Node::Cat(a, b) => Ok(Shape::Cat(*a, *b)),
         Node::Alt(parts) => {
-            let parts = Vec::from_slice(alloc, parts.as_slice())?;
+            let parts = SmallVec::from_slice(alloc, parts.as_slice())?;
             Ok(Shape::Made(Operation::Alt, parts))
         }
         Node::And(parts) => {
-            let parts = Vec::from_slice(alloc, parts.as_slice())?;
+            let parts = SmallVec::from_slice(alloc, parts.as_slice())?;
             Ok(Shape::Made(Operation::And, parts))
         }
         Node::Not(a) => {
-            let parts = Vec::from_slice(alloc, &[*a])?;
+            let parts = SmallVec::from_slice(alloc, &[*a])?;
             Ok(Shape::Made(Operation::Not, parts))
         }
         Node::Star(a) => {
-            let parts = Vec::from_slice(alloc, &[*a])?;
+            let parts = SmallVec::from_slice(alloc, &[*a])?;
             Ok(Shape::Made(Operation::Cat(id), parts))
         }
     }

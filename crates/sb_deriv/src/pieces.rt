@@ -11,6 +11,7 @@ use crate::choices::Choices;
 use crate::operation::{Constants, Operation};
 use sb_class::LAST_CHARACTER;
 use sb_regex::{Arena, RegexId};
+use smallvec::SmallVec;
 use std::alloc::{AllocError, Global};
 use std::marker::Model;
 
@@ -203,14 +204,14 @@ pub(crate) fn make_each(
         (λ c. made arena.old operation.now (regexes_at arena.old (value_from [] choices.now c))) pieces.items) }
     ensures extends { Extends arena.old arena.new }
 {
-    let mut pieces = Vec::new(alloc);
-    let mut known = Vec::new(alloc);
+    let mut pieces = Vec::with_capacity(alloc, choices.len())?;
+    let mut known = SmallVec::new(alloc);
     for place in 0..choices.len() {
         let target = target_of(arena, operation, constants, choices, place, &mut known)?;
         push(&mut pieces, choices.first(place), target)?;
     }
-    let exact = Vec::from_slice(alloc, &pieces)?;
-    Ok(exact)
+    pieces.shrink_to_fit();
+    Ok(pieces)
 }
 
 /// So many different lists of regexes are remembered.
@@ -223,7 +224,7 @@ fn target_of(
     constants: &Constants,
     choices: &Choices,
     place: usize,
-    known: &mut Vec<(usize, RegexId)>,
+    known: &mut SmallVec<(usize, RegexId), 16>,
 ) -> Result<RegexId, AllocError>
     requires constants { AreConstants arena.old constants.now }
     requires within { place < length choices.now }
@@ -236,7 +237,7 @@ fn target_of(
     ensures extends { Extends arena.old arena.new }
 {
     let ids = choices.ids(place);
-    if let Some(target) = find(choices, known, ids) {
+    if let Some(target) = find(choices, known.as_slice(), ids) {
         return Ok(target);
     }
     let target = operation.make(arena, constants, ids)?;

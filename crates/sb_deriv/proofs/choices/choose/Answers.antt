@@ -12,7 +12,7 @@ returns-then-absorbs c =
     absorbed c.args.constants.now c.args.operation.now c.args.maps.now c.loop-map.map-index c.args.c
     c.span_at-stays.result.0 c.span_at-stays.result.1 c.map-item.result c.clear-then-absorbs.new.self.items
     c.push.new.self.items c.loop-map-test.true c.map-item.is c.span_at-stays.ensures
-    (sym c.absorbs.ensures ∙ c.if-absorbs.true) c.clear-then-absorbs.ensures.items c.in_ok-push.ensures.items
+    (sym c.absorbs.ensures ∙ c.if-absorbs.true) c.clear-then-absorbs.ensures.items c.in_ok-push.ensures.ok
 
 pub loop-map-preserved : goal.loop-map-preserved
 loop-map-preserved c =

@@ -6,7 +6,7 @@ use Rattle.sb_deriv.proofs.choices.merge.Goals as goal
 
 pub loop-first-init : goal.loop-first-init
 loop-first-init c = merge_init (joined c.args.constants.now c.args.operation.now) c.args.left.now c.args.right.now _
-    (nothing_joins c.args.constants.now c.args.operation.now) c.requires.left c.requires.right c.new-choices.ensures
+    (nothing_joins c.args.constants.now c.args.operation.now) c.requires.left c.requires.right c.in_ok-choices.ensures
 
 pub returns-clause-whole : goal.returns-clause-whole
 returns-clause-whole c =

@@ -3,14 +3,14 @@ use Rattle.sb_deriv.proofs.Choosing.{sweeping_init, sweeping_step, swept}
 use Rattle.sb_deriv.proofs.choices.sweep.Goals as goal
 
 pub loop-first-init : goal.loop-first-init
-loop-first-init c = sweeping_init c.args.constants.now c.args.operation.now c.args.maps.now c.new-choices.result
-    c.new-choices.ensures
+loop-first-init c = sweeping_init c.args.constants.now c.args.operation.now c.args.maps.now c.in_ok-choices.choices
+    c.in_ok-choices.ensures
 
 pub loop-first-preserved : goal.loop-first-preserved
 loop-first-preserved c =
     sweeping_step c.args.constants.now c.args.operation.now c.args.maps.now c.loop-first.choices c.push.new.self
     c.loop-first.first c.in_ok-end.end c.choose.new.ids.items c.loop-first.invariant c.in_ok-end.ensures
-    (c.in_ok-push.ensures ∙ ap (λ x. c.loop-first.choices ++ (c.loop-first.first, x) ∷ []) c.deref.ensures.value)
+    (c.in_ok-push.ensures ∙ ap (λ x. c.loop-first.choices ++ (c.loop-first.first, x) ∷ []) c.as_slice.ensures)
 
 pub returns-clause-whole : goal.returns-clause-whole
 returns-clause-whole c = (swept c.args.constants.now c.args.operation.now c.args.maps.now c.loop-first.choices

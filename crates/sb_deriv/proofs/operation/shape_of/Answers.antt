@@ -27,22 +27,22 @@ pub returns-in_ok-parts-in-Alt : goal.returns-in_ok-parts-in-Alt
 returns-in_ok-parts-in-Alt c =
     let parts = rw (c.in-Alt.is) at c.node.ensures.parts in
     made_alt c.args.arena.now c.args.id c.in-Alt.parts.items _ parts (ap (node_regex c.args.arena.now) (sym c.in-Alt.is)
-    ∙ c.node.ensures.value) (c.in_ok-parts-in-Alt.ensures.items ∙ c.as_slice-in-Alt.ensures)
+    ∙ c.node.ensures.value) (c.in_ok-parts-in-Alt.ensures.ok ∙ c.as_slice-in-Alt.ensures)
 
 pub returns-in_ok-parts-in-And : goal.returns-in_ok-parts-in-And
 returns-in_ok-parts-in-And c =
     let parts = rw (c.in-And.is) at c.node.ensures.parts in
     made_and c.args.arena.now c.args.id c.in-And.parts.items _ parts (ap (node_regex c.args.arena.now) (sym c.in-And.is)
-    ∙ c.node.ensures.value) (c.in_ok-parts-in-And.ensures.items ∙ c.as_slice-in-And.ensures)
+    ∙ c.node.ensures.value) (c.in_ok-parts-in-And.ensures.ok ∙ c.as_slice-in-And.ensures)
 
 pub returns-in_ok-parts-in-Not : goal.returns-in_ok-parts-in-Not
 returns-in_ok-parts-in-Not c =
     let parts = rw (c.in-Not.is) at c.node.ensures.parts in
     made_not c.args.arena.now c.args.id c.in-Not.a _ parts (ap (node_regex c.args.arena.now) (sym c.in-Not.is)
-    ∙ c.node.ensures.value) c.in_ok-parts-in-Not.ensures.items
+    ∙ c.node.ensures.value) c.in_ok-parts-in-Not.ensures.ok
 
 pub returns-in_ok-parts-in-Star : goal.returns-in_ok-parts-in-Star
 returns-in_ok-parts-in-Star c =
     let parts = rw (c.in-Star.is) at c.node.ensures.parts in
     made_star c.args.arena.now c.args.id c.in-Star.a _ c.requires parts
-    (ap (node_regex c.args.arena.now) (sym c.in-Star.is) ∙ c.node.ensures.value) c.in_ok-parts-in-Star.ensures.items
+    (ap (node_regex c.args.arena.now) (sym c.in-Star.is) ∙ c.node.ensures.value) c.in_ok-parts-in-Star.ensures.ok

@@ -7,7 +7,7 @@ use Rattle.sb_deriv.proofs.pieces.make_each.Goals as goal
 
 pub loop-place-init : goal.loop-place-init
 loop-place-init c = (
-  making_init c.args.choices.now c.args.arena.now c.args.operation.now _ c.requires.whole c.new-pieces.ensures.items,
+  making_init c.args.choices.now c.args.arena.now c.args.operation.now _ c.requires.whole c.in_ok-pieces.ensures.items,
   no_made c.args.arena.now c.args.operation.now c.args.choices.now c.new-known.result.items c.new-known.ensures.items,
   c.requires.constants,
 )
@@ -53,6 +53,6 @@ loop-place-preserved c =
 
 pub returns-clause-map : goal.returns-clause-map
 returns-clause-map c =
-    rw (c.in_ok-exact.ensures.items, c.deref.ensures.value) (made_each c.args.choices.now c.args.arena.now
+    rw (c.shrink_to_fit.ensures.items) (made_each c.args.choices.now c.args.arena.now
     c.loop-place.arena c.args.operation.now c.loop-place.place c.loop-place.pieces.items c.loop-place.invariant.0
     c.requires.whole (omega (arith, c.len-place-end.ensures, c.loop-place-test.false)))

@@ -8,7 +8,7 @@ returns-clause-known c =
       | then-len-lt-KEPT+in_ok-push w ↦
           rw (w.known-is) (made_more c.args.arena.now c.make.new.arena c.args.operation.now c.args.choices.now
           c.args.known.now.items w.push.new.self.items c.args.place c.in_ok-target.target
-          c.in_ok-target.ensures.extends c.requires.operand c.requires.known w.in_ok-push.ensures.items
+          c.in_ok-target.ensures.extends c.requires.operand c.requires.known w.in_ok-push.ensures.ok
           c.requires.within c.requires.members (rw (c.ids-ids.ensures) at c.in_ok-target.ensures.ok))
       | else-len-lt-KEPT w ↦
           rw (w.known-is) (made_stay c.args.arena.now c.make.new.arena c.args.operation.now c.args.choices.now

@@ -18,10 +18,10 @@ pub returns-in-Made-clause-waits : goal.returns-in-Made-clause-waits
 returns-in-Made-clause-waits c =
     let s = rw (c.in-Made.is) at c.in_ok-shape_of.ensures in
     IfOk-weaker c.of_all.result _ _ (λ f h. none_weaker f _ _ (λ w. w c.args.id s.below) h)
-    (rw (c.deref-in-Made.ensures.value) at c.of_all.ensures.waits)
+    (rw (c.as_slice.ensures) at c.of_all.ensures.waits)
 
 pub returns-in-Made-clause-added : goal.returns-in-Made-clause-added
 returns-in-Made-clause-added c =
     let s = rw (c.in-Made.is) at c.in_ok-shape_of.ensures in
     IfOk-weaker c.of_all.result _ _ (λ f h n l. h n (below_more c.args.id n c.in-Made.parts.items l s.below))
-    (rw (c.deref-in-Made.ensures.value) at c.of_all.ensures.added)
+    (rw (c.as_slice.ensures) at c.of_all.ensures.added)
