@@ -1,5 +1,5 @@
 -- What is picked at each piece of a common refinement.
-use Rattle.std.proofs.Common.{◌≡◌, ℕ, ◌+◌, ◌<◌, ◌≤◌, Bool, true, false, not, ◌||◌, cond, List, [], ◌∷◌, ◌++◌, length, take, drop, get_or, refl, sym, ap, ap₂, ◌∙◌, arith, min}
+use Rattle.std.proofs.Common.{◌≡◌, ℕ, zero, suc, ◌+◌, ◌<◌, ◌≤◌, Bool, true, false, not, ◌||◌, cond, List, [], ◌∷◌, ◌++◌, length, take, drop, get_or, set, refl, sym, ap, ap₂, ◌∙◌, arith, min}
 use Rattle.std.specs.Prelude.{nat_le}
 use Rattle.std.specs.List.{list_any}
 use Rattle.std.proofs.lemmas.Bool.{leb-true}
@@ -14,6 +14,13 @@ use Rattle.sb_deriv.specs.Pieces.{value_from, value_at, covers}
 use Rattle.sb_deriv.specs.Choices.{drops, absorbs, absorbing, kept, picked, leads, joined, values_at, IsSpan, AreChosen}
 use Rattle.sb_deriv.proofs.PieceFacts.{value_pushed, covers_pushed}
 use Rattle.sb_deriv.proofs.Kept.{picked-append}
+
+-- what was there, written back
+pub set_back : (maps : List (List (ℕ × ℕ))) (i : ℕ) (m : List (ℕ × ℕ)) → i < length maps → m ≡ get_or maps i m
+    → set maps i m ≡ maps
+set_back [] i m l is = absurd (omega arith)
+set_back (x ∷ maps) zero m l is = ap (λ y. y ∷ maps) is
+set_back (x ∷ maps) (suc i) m l is = ap (λ ys. x ∷ ys) (set_back maps i m (omega (arith, l)) is)
 
 -- so many maps were looked at, from a character up to an end
 pub record Choosing (k : Constants) (op : Operation) (maps : List (List (ℕ × ℕ))) (i c end : ℕ) (ids : List ℕ) : Type 0

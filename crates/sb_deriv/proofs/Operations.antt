@@ -7,10 +7,7 @@ use Rattle.sb_lang.specs.NormalForm.{is_normal}
 use Rattle.sb_lang.specs.FoldLaws.{UnionOfOne}
 use Rattle.sb_lang.specs.Order.{code}
 use Rattle.sb_lang.specs.Constructors.{anything, mkset, mkcat, mkalt, mkand, mknot, alternatives, conjuncts, union_of, join_sets, alt_of, ranges_of, is_set, meet_sets, meet_of, and_of, sorted}
-use Rattle.sb_regex.specs.declared.node.Node.{Node}
-use Rattle.sb_regex.specs.declared.node.Node.TheVariants as node
 use Rattle.sb_regex.specs.Numbered.{regex_at, regexes_at, Names}
-use Rattle.sb_regex.specs.Nodes.{node_regex}
 use Rattle.sb_regex.proofs.CallerLemmas.{names_at, names_from}
 use Rattle.sb_deriv.specs.declared.operation.Constants.{Constants}
 use Rattle.sb_deriv.specs.declared.operation.Operation.{Operation}

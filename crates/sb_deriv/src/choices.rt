@@ -2,13 +2,12 @@
 
 ghost use Rattle.std.specs.Prelude.{◌≡◌, ◌<◌, ◌≤◌, ◌++◌, ◌+◌, ◌∷◌, ℕ, true, [], length, get_or, IfOk, OnOk, take, drop, cond};
 ghost use Rattle.sb_deriv.specs.Pieces.{covers, value_from, value_at, IsIntervalMap, end_of_characters};
-ghost use Rattle.sb_deriv.specs.Choices.{drops, leads, joined, picked, values_at, first_of, count_at, last_value, list_of, AreChosen};
+ghost use Rattle.sb_deriv.specs.Choices.{drops, leads, joined, picked, values_at, first_of, count_at, last_value, list_of, IsSpan, AreChosen};
 
 use crate::operation::{Constants, Operation};
-use crate::pieces::Map;
+use crate::pieces::{Cursor, Map};
 use sb_class::LAST_CHARACTER;
 use sb_regex::RegexId;
-use smallvec::SmallVec;
 use std::alloc::{AllocError, Global};
 use std::marker::Model;
 
@@ -136,32 +135,46 @@ fn sweep(
     ensures values { IfOk result (λ choices. (c : ℕ) → c < end_of_characters
         → value_from [] choices c ≡ picked constants.now operation.now (values_at maps.now c)) }
 {
+    let mut cursors = cursors(alloc, maps)?;
     let mut choices = Choices::with_room(alloc, ROOM, ROOM * 8)?;
-    let mut ids = SmallVec::new(alloc);
+    let mut ids = Vec::with_capacity(alloc, maps.len())?;
     let mut first = 0;
     while first <= LAST_CHARACTER {
-        let end = choose(operation, constants, maps, first, &mut ids)?;
-        choices.push(first, ids.as_slice())?;
+        let end = choose(operation, constants, &mut cursors, first, &mut ids)?;
+        choices.push(first, &ids)?;
         first = end;
     }
     Ok(choices)
+}
+
+/// The maps, each at the first character.
+fn cursors<'a>(alloc: Global, maps: &[Map<'a>]) -> Result<Vec<Cursor<'a>>, AllocError>
+    ensures { IfOk result (λ cursors. cursors.items ≡ maps.now) }
+{
+    let mut cursors = Vec::with_capacity(alloc, maps.len())?;
+    for map in maps {
+        cursors.push(Cursor::new(map))?;
+    }
+    Ok(cursors)
 }
 
 /// The targets of maps at a character that make a difference. Up to where they are the same.
 fn choose(
     operation: &Operation,
     constants: &Constants,
-    maps: &[Map],
+    maps: &mut Vec<Cursor>,
     c: u32,
-    ids: &mut SmallVec<RegexId, 16>,
+    ids: &mut Vec<RegexId>,
 ) -> Result<u32, AllocError>
     requires { c ≤ 0x2ffff }
-    ensures { IfOk result (λ end. AreChosen constants.now operation.now maps.now c end ids.new.items) }
+    ensures same { OnOk result (maps.new.items ≡ maps.old.items) }
+    ensures chosen { IfOk result
+        (λ end. AreChosen constants.now operation.now maps.old.items c end ids.new.items) }
 {
     ids.clear();
     let mut end = LAST_CHARACTER + 1;
-    for map in maps {
-        let (stays, target) = map.span_at(c);
+    for i in 0..maps.len() {
+        let (stays, target) = span_of(maps, i, c);
         if operation.absorbs(constants, target) {
             ids.clear();
             ids.push(target)?;
@@ -173,12 +186,22 @@ fn choose(
     Ok(end)
 }
 
+/// Up to where the piece of a character goes in the map at a place, and its target.
+fn span_of(maps: &mut Vec<Cursor>, i: usize, c: u32) -> (u32, RegexId)
+    requires within { i < length maps.old.items }
+    requires character { c ≤ 0x2ffff }
+    ensures same { maps.new.items ≡ maps.old.items }
+    ensures span { IsSpan (get_or maps.old.items i []) c result.0 result.1 }
+{
+    maps[i].span_at(c)
+}
+
 /// Puts the regex behind the others, unless it makes no difference.
 fn keep(
     operation: &Operation,
     constants: &Constants,
     target: RegexId,
-    ids: &mut SmallVec<RegexId, 16>,
+    ids: &mut Vec<RegexId>,
 ) -> Result<(), AllocError>
     ensures { OnOk result
         (ids.new.items ≡ ids.old.items ++ cond (drops constants.now operation.now target) [] (target ∷ [])) }

@@ -89,13 +89,60 @@ impl<'a> Map<'a> {
     {
         Map { pieces }
     }
+}
 
-    /// Up to where the piece of a character goes, and its target. Logarithmic.
-    pub(crate) fn span_at(&self, c: u32) -> (u32, RegexId)
-        requires character { c ≤ 0x2ffff }
-        ensures { IsSpan self.now c result.0 result.1 }
+/// An interval map that is looked at from character to character, with the piece that was looked at last.
+#[derive(Drop)]
+pub(crate) struct Cursor<'a> {
+    pieces: &'a [(u32, RegexId)],
+    begin: u32,
+    end: u32,
+    target: RegexId,
+}
+
+impl<'a> Model for Cursor<'a> {
+    ghost use Rattle.std.specs.Prelude.{ℕ, List};
+
+    ghost Value = { List (ℕ × ℕ) };
+
+    ghost use Rattle.sb_deriv.specs.Pieces.{IsIntervalMap};
+    ghost use Rattle.sb_deriv.specs.Choices.{IsSpan};
+
+    ghost view = { λ cursor. cursor.pieces.now };
+
+    ghost invariant = { λ cursor. IsIntervalMap cursor.pieces.now
+        × IsSpan cursor.pieces.now cursor.begin cursor.end cursor.target };
+}
+
+impl<'a> Cursor<'a> {
+    /// At the first character.
+    pub(crate) fn new(map: &Map<'a>) -> Cursor<'a>
+        ensures { result ≡ map.now }
     {
-        span_at(self.pieces, c)
+        let (end, target) = span_at(map.pieces, 0);
+        Cursor {
+            pieces: map.pieces,
+            begin: 0,
+            end,
+            target,
+        }
+    }
+
+    /// Up to where the piece of a character goes, and its target. Constant where it is the piece that was looked at
+    /// last, else logarithmic.
+    pub(crate) fn span_at(&mut self, c: u32) -> (u32, RegexId)
+        requires { c ≤ 0x2ffff }
+        ensures same { self.new ≡ self.old }
+        ensures span { IsSpan self.old c result.0 result.1 }
+    {
+        if self.begin <= c && c < self.end {
+            return (self.end, self.target);
+        }
+        let (end, target) = span_at(self.pieces, c);
+        self.begin = c;
+        self.end = end;
+        self.target = target;
+        (end, target)
     }
 }
 

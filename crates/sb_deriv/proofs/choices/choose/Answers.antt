@@ -1,27 +1,52 @@
-use Rattle.std.proofs.Common.{arith, sym, ◌∙◌}
+use Rattle.std.proofs.Common.{ℕ, List, [], ◌<◌, length, get_or, refl, arith, sym, subst, ◌∙◌}
+use Rattle.std.proofs.lemmas.List.{get_or_default}
+use Rattle.sb_deriv.specs.Choices.{IsSpan}
 use Rattle.sb_deriv.proofs.Choosing.{choosing_init, choosing_step, absorbed, chosen}
 use Rattle.sb_deriv.proofs.choices.choose.Goals as goal
 
-pub loop-map-init : goal.loop-map-init
-loop-map-init c =
-    choosing_init c.args.constants.now c.args.operation.now c.args.maps.now c.args.c c.clear.new.self.items
-    c.requires c.clear.ensures.items
+pub loop-i-init : goal.loop-i-init
+loop-i-init c = (
+  refl,
+  choosing_init c.args.constants.now c.args.operation.now c.args.maps.now.items c.args.c
+      c.clear.new.self.items c.requires c.clear.ensures.items,
+)
 
-pub returns-then-absorbs : goal.returns-then-absorbs
-returns-then-absorbs c =
-    absorbed c.args.constants.now c.args.operation.now c.args.maps.now c.loop-map.map-index c.args.c
-    c.span_at-stays.result.0 c.span_at-stays.result.1 c.map-item.result c.clear-then-absorbs.new.self.items
-    c.push.new.self.items c.loop-map-test.true c.map-item.is c.span_at-stays.ensures
-    (sym c.absorbs.ensures ∙ c.if-absorbs.true) c.clear-then-absorbs.ensures.items c.in_ok-push.ensures.ok
+pub returns-then-absorbs-clause-same : goal.returns-then-absorbs-clause-same
+returns-then-absorbs-clause-same c = c.span_of-stays.ensures.same ∙ c.loop-i.invariant.0
 
-pub loop-map-preserved : goal.loop-map-preserved
-loop-map-preserved c =
-    choosing_step c.args.constants.now c.args.operation.now c.args.maps.now c.loop-map.map-index c.args.c c.loop-map.end
-    c.min-end.result c.span_at-stays.result.0 c.span_at-stays.result.1 c.map-item.result c.loop-map.ids.items
-    c.keep.new.ids.items c.loop-map.invariant c.loop-map-test.true c.map-item.is c.span_at-stays.ensures
-    (sym c.absorbs.ensures ∙ c.if-absorbs.false) c.in_ok-keep.ensures c.min-end.ensures
+pub returns-then-absorbs-clause-chosen : goal.returns-then-absorbs-clause-chosen
+returns-then-absorbs-clause-chosen c =
+    let l : c.loop-i.i < length c.args.maps.now.items =
+    omega (arith, c.len-i-end.ensures, c.loop-i-test.true, c.args.maps.now.ok)
+    in
+    absorbed c.args.constants.now c.args.operation.now c.args.maps.now.items c.loop-i.i c.args.c
+    c.span_of-stays.result.0 c.span_of-stays.result.1 (get_or c.args.maps.now.items c.loop-i.i [])
+    c.clear-then-absorbs.new.self.items c.push.new.self.items l
+    (get_or_default c.args.maps.now.items c.loop-i.i [] (get_or c.args.maps.now.items c.loop-i.i []) l)
+    (subst (λ (ms : List (List (ℕ × ℕ))). IsSpan (get_or ms c.loop-i.i []) c.args.c c.span_of-stays.result.0
+    c.span_of-stays.result.1) c.loop-i.invariant.0 c.span_of-stays.ensures.span)
+    (sym c.absorbs.ensures ∙ c.if-absorbs.true) c.clear-then-absorbs.ensures.items c.in_ok-push.ensures.items
 
-pub returns : goal.returns
-returns c =
-    chosen c.args.constants.now c.args.operation.now c.args.maps.now c.loop-map.map-index c.args.c
-    c.loop-map.end c.loop-map.ids.items c.loop-map.invariant (omega (arith, c.loop-map-test.false))
+pub loop-i-preserved : goal.loop-i-preserved
+loop-i-preserved c =
+    let l : c.loop-i.i < length c.args.maps.now.items =
+    omega (arith, c.len-i-end.ensures, c.loop-i-test.true, c.args.maps.now.ok)
+    in (
+      c.span_of-stays.ensures.same ∙ c.loop-i.invariant.0,
+      choosing_step c.args.constants.now c.args.operation.now c.args.maps.now.items c.loop-i.i c.args.c c.loop-i.end
+          c.min-end.result c.span_of-stays.result.0 c.span_of-stays.result.1
+          (get_or c.args.maps.now.items c.loop-i.i []) c.loop-i.ids.items c.keep.new.ids.items c.loop-i.invariant.1 l
+          (get_or_default c.args.maps.now.items c.loop-i.i [] (get_or c.args.maps.now.items c.loop-i.i []) l)
+          (subst (λ (ms : List (List (ℕ × ℕ))). IsSpan (get_or ms c.loop-i.i []) c.args.c c.span_of-stays.result.0
+          c.span_of-stays.result.1) c.loop-i.invariant.0 c.span_of-stays.ensures.span)
+          (sym c.absorbs.ensures ∙ c.if-absorbs.false) c.in_ok-keep.ensures c.min-end.ensures,
+    )
+
+pub returns-clause-same : goal.returns-clause-same
+returns-clause-same c = c.loop-i.invariant.0
+
+pub returns-clause-chosen : goal.returns-clause-chosen
+returns-clause-chosen c =
+    chosen c.args.constants.now c.args.operation.now c.args.maps.now.items c.loop-i.i c.args.c c.loop-i.end
+    c.loop-i.ids.items c.loop-i.invariant.1
+    (omega (arith, c.len-i-end.ensures, c.loop-i-test.false, c.args.maps.now.ok))

@@ -1,9 +1,9 @@
-use Rattle.std.proofs.Common.{◌-◌}
+use Rattle.std.proofs.Common.{◌≡◌, ◌-◌}
 use Rattle.sb_deriv.proofs.Choosing.{Sweeping}
 use Rattle.sb_deriv.proofs.choices.sweep.Given as goal
 
 abbrev pub invariant-loop-first : goal.invariant-loop-first
-invariant-loop-first l = Sweeping l.constants l.operation l.maps l.choices l.first
+invariant-loop-first l = (l.cursors.items ≡ l.maps) × Sweeping l.constants l.operation l.maps l.choices l.first
 
 abbrev pub decreases-loop-first : goal.decreases-loop-first
 decreases-loop-first l = 0x30000 - l.first
