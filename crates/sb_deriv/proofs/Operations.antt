@@ -1,9 +1,15 @@
 -- What operations make, and which members they drop.
-use Rattle.std.proofs.Common.{◌≡◌, ℕ, ◌<◌, true, Some, List, [], ◌∷◌, length, get_or, refl, sym, ap, ◌∙◌, arith, ◌⊎◌, inl, inr}
+use Rattle.std.proofs.Common.{◌≡◌, ℕ, ◌<◌, true, Some, List, [], ◌∷◌, length, get_or, refl, sym, ap, subst, ◌∙◌, arith, ◌⊎◌, inl, inr}
 use Rattle.std.specs.List.{list_all}
 use Rattle.std.proofs.lemmas.List.Sums.{AllPass-from_list_all}
-use Rattle.sb_lang.specs.Regex.{Regex, none}
-use Rattle.sb_lang.specs.NormalForm.{is_normal}
+use Rattle.sb_lang.specs.Regex.{Regex, none, alt, and, regexes, parts}
+use Rattle.sb_lang.specs.NormalForm.{is_normal, IsNormal}
+use Rattle.sb_lang.specs.OrderLaws.{OrderTellsApart}
+use Rattle.sb_lang.proofs.CallerLemmas.{parts-regexes}
+use Rattle.std.specs.Ordering.{is_eq}
+use Rattle.std.specs.declared.cmp.Ordering.{Ordering}
+use Rattle.std.specs.declared.cmp.Ordering.TheVariants.{Less, Equal, Greater}
+use Rattle.std.proofs.lemmas.Bool.{and_parts}
 use Rattle.sb_lang.specs.FoldLaws.{UnionOfOne}
 use Rattle.sb_lang.specs.Order.{code}
 use Rattle.sb_lang.specs.Constructors.{anything, mkset, mkcat, mkalt, mkand, mknot, alternatives, conjuncts, union_of, join_sets, alt_of, ranges_of, is_set, meet_sets, meet_of, and_of, sorted}
@@ -56,6 +62,37 @@ one_absorbed rs k op i a is e l =
     let z : regex_at rs i ≡ none = ap (regex_at rs) e ∙ names_at rs k.none none a.none_is in
     names_from rs i _ l (z ∙ sym one_none ∙ ap (λ r. mkand (r ∷ [])) (sym z)
     ∙ ap (λ o. made rs o (regex_at rs i ∷ [])) (sym is))
+
+-- a node whose parts are these is what is made of them
+
+equal : (o : Ordering) → is_eq o ≡ true → o ≡ Equal
+equal Less h = absurd (cc)
+equal Equal h = refl
+equal Greater h = absurd (cc)
+
+pub named_alt : (rs : List Regex) (n : ℕ) (ids ps : List ℕ) → OrderTellsApart → list_all is_normal rs ≡ true
+    → n < length rs → alt (regexes (regexes_at rs ids)) ≡ regex_at rs n → ids ≡ ps →
+    Names rs n (mkalt (regexes_at rs ps))
+unfolding is_normal
+named_alt rs n ids ps tells normal l e is =
+    let m : IsNormal (regex_at rs n) = AllPass-from_list_all is_normal rs normal n none l in
+    let k : IsNormal (alt (regexes (regexes_at rs ids))) = subst IsNormal (sym e) m in
+    let q = (tells (mkalt (parts (regexes (regexes_at rs ids)))) (alt (regexes (regexes_at rs ids)))).0
+    (equal _ (and_parts _ _ k).1) in
+    names_from rs n _ l (sym e ∙ sym q ∙ ap mkalt (parts-regexes (regexes_at rs ids))
+    ∙ ap (λ xs. mkalt (regexes_at rs xs)) is)
+
+pub named_and : (rs : List Regex) (n : ℕ) (ids ps : List ℕ) → OrderTellsApart → list_all is_normal rs ≡ true
+    → n < length rs → and (regexes (regexes_at rs ids)) ≡ regex_at rs n → ids ≡ ps →
+    Names rs n (mkand (regexes_at rs ps))
+unfolding is_normal
+named_and rs n ids ps tells normal l e is =
+    let m : IsNormal (regex_at rs n) = AllPass-from_list_all is_normal rs normal n none l in
+    let k : IsNormal (and (regexes (regexes_at rs ids))) = subst IsNormal (sym e) m in
+    let q = (tells (mkand (parts (regexes (regexes_at rs ids)))) (and (regexes (regexes_at rs ids)))).0
+    (equal _ (and_parts _ _ k).1) in
+    names_from rs n _ l (sym e ∙ sym q ∙ ap mkand (parts-regexes (regexes_at rs ids))
+    ∙ ap (λ xs. mkand (regexes_at rs xs)) is)
 
 -- what is made, by cases
 

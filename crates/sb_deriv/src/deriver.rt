@@ -166,7 +166,7 @@ impl Deriver {
             Shape::Set(ranges) => self.of_set(arena, constants, &ranges),
             Shape::Cat(a, b) => self.of_cat(arena, constants, a, b, waiting),
             Shape::Made(operation, parts) => {
-                self.of_all(arena, constants, operation, parts.as_slice(), waiting)
+                self.of_all(arena, constants, operation, parts.as_slice(), id, waiting)
             }
         }
     }
@@ -223,7 +223,7 @@ impl Deriver {
         ensures extends { Extends arena.old arena.new }
     {
         if !arena.nullable(a) {
-            return self.of_all(arena, constants, Operation::Cat(b), &[a], waiting);
+            return self.of_all(arena, constants, Operation::Cat(b), &[a], a, waiting);
         }
         if self.want(&[a, b], waiting)? {
             return Ok(None);
@@ -235,6 +235,7 @@ impl Deriver {
             &Operation::Alt,
             constants,
             &choices,
+            b,
         )?;
         Ok(Some(Derivative::new(pieces)))
     }
@@ -263,20 +264,22 @@ impl Deriver {
         let alloc = self.allocator();
         let operation = Operation::Cat(b);
         let heads = refine(alloc, &operation, constants, &[Map::new(self.pieces_of(a))])?;
-        let heads = make_each(arena, alloc, &operation, constants, &heads)?;
+        let heads = make_each(arena, alloc, &operation, constants, &heads, a)?;
         refine_two(alloc, &Operation::Alt, constants, &heads, self.pieces_of(b))
     }
 
-    /// What the operation makes of the derivatives of all parts.
+    /// What the operation makes of the derivatives of all parts, which the hint may be at some characters.
     fn of_all(
         &self,
         arena: &mut Arena,
         constants: &Constants,
         operation: Operation,
         parts: &[RegexId],
+        hint: RegexId,
         waiting: &mut BTreeSet<RegexId>,
     ) -> Result<Option<Derivative>, AllocError>
         requires constants { AreConstants arena.old constants.now }
+        requires hint { hint < length arena.old }
         requires numbers { AllNumbers arena.old parts.now }
         requires operand { OperandIsKnown arena.old operation }
         requires faithful { IsFaithful arena.old self.now }
@@ -296,7 +299,8 @@ impl Deriver {
         }
         let maps = self.maps(parts)?;
         let choices = refine(self.allocator(), &operation, constants, &maps)?;
-        let pieces = make_each(arena, self.allocator(), &operation, constants, &choices)?;
+        let alloc = self.allocator();
+        let pieces = make_each(arena, alloc, &operation, constants, &choices, hint)?;
         Ok(Some(Derivative::new(pieces)))
     }
 

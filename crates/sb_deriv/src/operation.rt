@@ -2,10 +2,12 @@
 
 ghost use Rattle.std.specs.Prelude.{◌≡◌, ◌<◌, ◌∷◌, [], List, true, length, IfOk};
 ghost use Rattle.sb_lang.specs.Regex.{Regex, none, eps, neg};
+ghost use Rattle.sb_lang.specs.Constructors.{mkalt, mkand};
 ghost use Rattle.sb_regex.specs.Numbered.{regex_at, regexes_at, AllNumbers, Extends, Names};
 ghost use Rattle.sb_deriv.specs.Choices.{made, drops, absorbs, AreConstants, OperandIsKnown, IsShape};
 
 use sb_lang::fold::union_of_one;
+use sb_lang::order::order_tells_apart;
 use sb_regex::{Arena, Node, RegexId};
 use smallvec::SmallVec;
 use std::alloc::{AllocError, Global};
@@ -79,6 +81,32 @@ fn is_complement(arena: &Arena, id: RegexId, of: RegexId) -> bool
     }
 }
 
+/// Whether the regex is a union whose parts are these, as they stand.
+fn is_union(arena: &Arena, id: RegexId, ids: &[RegexId]) -> bool
+    requires { id < length arena.now }
+    ensures { result ≡ true → Names arena.now id (mkalt (regexes_at arena.now ids.now)) }
+{
+    order_tells_apart();
+    arena.normal_regexes_each_once();
+    match arena.node(id) {
+        Node::Alt(parts) => parts.as_slice() == ids,
+        _ => false,
+    }
+}
+
+/// Whether the regex is an intersection whose parts are these, as they stand.
+fn is_intersection(arena: &Arena, id: RegexId, ids: &[RegexId]) -> bool
+    requires { id < length arena.now }
+    ensures { result ≡ true → Names arena.now id (mkand (regexes_at arena.now ids.now)) }
+{
+    order_tells_apart();
+    arena.normal_regexes_each_once();
+    match arena.node(id) {
+        Node::And(parts) => parts.as_slice() == ids,
+        _ => false,
+    }
+}
+
 /// What makes a regex of the targets of parts.
 #[derive(Drop)]
 pub(crate) enum Operation {
@@ -93,14 +121,16 @@ pub(crate) enum Operation {
 }
 
 impl Operation {
-    /// What is made of these.
+    /// What is made of these, which the hint may be.
     pub(crate) fn make(
         &self,
         arena: &mut Arena,
         constants: &Constants,
+        hint: RegexId,
         ids: &[RegexId],
     ) -> Result<RegexId, AllocError>
         requires constants { AreConstants arena.old constants.now }
+        requires hint { hint < length arena.old }
         requires members { AllNumbers arena.old ids.now }
         requires operand { OperandIsKnown arena.old self.now }
         ensures ok { IfOk result (λ id. Names arena.new id (made arena.old self.now (regexes_at arena.old ids.now))) }
@@ -109,7 +139,24 @@ impl Operation {
         match ids {
             [] => Ok(self.of_none(constants)),
             [id] => self.of_one(arena, constants, *id),
-            _ => self.of_many(arena, ids),
+            _ => {
+                if self.gives(arena, ids, hint) {
+                    return Ok(hint);
+                }
+                self.of_many(arena, ids)
+            }
+        }
+    }
+
+    /// Whether the regex is the union or intersection that is made of these.
+    fn gives(&self, arena: &Arena, ids: &[RegexId], id: RegexId) -> bool
+        requires { id < length arena.now }
+        ensures { result ≡ true → Names arena.now id (made arena.now self.now (regexes_at arena.now ids.now)) }
+    {
+        match self {
+            Operation::Alt => is_union(arena, id, ids),
+            Operation::And => is_intersection(arena, id, ids),
+            Operation::Not | Operation::Cat(_) => false,
         }
     }
 

@@ -234,15 +234,18 @@ pub(crate) fn of_ranges(
     Ok(pieces)
 }
 
-/// Of each piece what the operation makes of its choices. It is made once of each list of regexes, where there are few.
+/// Of each piece what the operation makes of its choices, which the hint may be. It is made once of each list of
+/// regexes, where there are few.
 pub(crate) fn make_each(
     arena: &mut Arena,
     alloc: Global,
     operation: &Operation,
     constants: &Constants,
     choices: &Choices,
+    hint: RegexId,
 ) -> Result<Vec<(u32, RegexId)>, AllocError>
     requires constants { AreConstants arena.old constants.now }
+    requires hint { hint < length arena.old }
     requires whole { covers choices.now end_of_characters ≡ true }
     requires members { (c : ℕ) → c < end_of_characters → AllNumbers arena.old (value_from [] choices.now c) }
     requires operand { OperandIsKnown arena.old operation.now }
@@ -254,7 +257,9 @@ pub(crate) fn make_each(
     let mut pieces = Vec::with_capacity(alloc, choices.len())?;
     let mut known = SmallVec::new(alloc);
     for place in 0..choices.len() {
-        let target = target_of(arena, operation, constants, choices, place, &mut known)?;
+        let target = target_of(
+            arena, operation, constants, choices, place, hint, &mut known,
+        )?;
         push(&mut pieces, choices.first(place), target)?;
     }
     pieces.shrink_to_fit();
@@ -271,10 +276,12 @@ fn target_of(
     constants: &Constants,
     choices: &Choices,
     place: usize,
+    hint: RegexId,
     known: &mut SmallVec<(usize, RegexId), 16>,
 ) -> Result<RegexId, AllocError>
     requires constants { AreConstants arena.old constants.now }
     requires within { place < length choices.now }
+    requires hint { hint < length arena.old }
     requires members { AllNumbers arena.old (list_of choices.now place) }
     requires operand { OperandIsKnown arena.old operation.now }
     requires known { AreMade arena.old operation.now choices.now known.old.items }
@@ -287,7 +294,7 @@ fn target_of(
     if let Some(target) = find(choices, known.as_slice(), ids) {
         return Ok(target);
     }
-    let target = operation.make(arena, constants, ids)?;
+    let target = operation.make(arena, constants, hint, ids)?;
     if known.len() < KEPT {
         known.push((place, target))?;
     }

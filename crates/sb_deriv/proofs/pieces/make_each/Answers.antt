@@ -1,5 +1,5 @@
 use Rattle.std.proofs.Common.{◌<◌, length, arith}
-use Rattle.sb_regex.proofs.CallerLemmas.{numbers_kept}
+use Rattle.sb_regex.proofs.CallerLemmas.{numbers_kept, number_kept}
 use Rattle.sb_deriv.specs.Choices.{list_of}
 use Rattle.sb_deriv.proofs.Derivatives.{constants_kept}
 use Rattle.sb_deriv.proofs.Making.{making_init, making_at, made_each, numbers_at, whole_at, operand_later, no_made}
@@ -20,6 +20,10 @@ target_of-requires-clause-members c =
     numbers_kept c.args.arena.now c.loop-place.arena (list_of c.args.choices.now c.loop-place.place)
     c.loop-place.invariant.0.extends (numbers_at c.args.choices.now c.args.arena.now c.loop-place.place c.requires.whole
     l c.requires.members)
+
+pub target_of-requires-clause-hint : goal.target_of-requires-clause-hint
+target_of-requires-clause-hint c =
+    number_kept c.args.arena.now c.loop-place.arena c.args.hint c.loop-place.invariant.0.extends c.requires.hint
 
 pub target_of-requires-clause-operand : goal.target_of-requires-clause-operand
 target_of-requires-clause-operand c =
