@@ -179,11 +179,14 @@ impl Engine {
         self.queue.head = end_of_marks(&self.queue.marks, self.trail.literals());
     }
 
-    /// Whether the trail has a place for each atom of a kept clause. Takes no memory; linear in the number of
-    /// all literals.
+    /// Whether the trail has a place for each atom of a kept clause. Takes no memory; constant time where it has as
+    /// many places as [`Engine::atoms`], else linear in the number of all literals.
     pub fn has_room(&self) -> bool
         ensures { result ≡ has_room_for self.now.trail.reserved self.now.kept }
     {
+        if self.atoms() <= self.trail.reserved() {
+            return true;
+        }
         self.clauses.have_room_on(&self.trail)
     }
 
