@@ -1,4 +1,4 @@
-"""Writes a family of clauses in DIMACS: `cnf.py binary|random|pigeons SIZE`."""
+"""Writes a family of clauses in DIMACS: `cnf.py free|forcing|binary|units|random|pigeons SIZE`."""
 import random
 import sys
 
@@ -7,10 +7,30 @@ def sign(atom):
     return atom if random.random() < 0.5 else -atom
 
 
+def free(size):
+    """So many atoms, in pairs that are not both true: each is a decision that forces nothing."""
+    return size, [[-atom, -atom - 1] for atom in range(1, size, 2)]
+
+
+def forcing(size):
+    """So many decisions, each of which forces ten atoms."""
+    return 11 * size, [
+        [11 * at + 1, 11 * at + 1 + force] for at in range(size) for force in range(1, 11)
+    ]
+
+
 def binary(size):
     """So many random clauses of two literals over 5/4 as many atoms."""
     atoms = size // 4 * 5
     return atoms, [[sign(atom) for atom in random.sample(range(1, atoms + 1), 2)] for _ in range(size)]
+
+
+def units(size):
+    """So many clauses of one literal, and behind them 1,000 pairs of atoms whose decision is wrong."""
+    wrong = [
+        [size + 2 * at + 1, sign * (size + 2 * at + 2)] for at in range(1000) for sign in (1, -1)
+    ]
+    return size + 2000, [[atom] for atom in range(1, size + 1)] + wrong
 
 
 def random3(size):
@@ -38,7 +58,15 @@ def pigeons(size):
 def main():
     random.seed(7)
     family, size = sys.argv[1], int(sys.argv[2])
-    atoms, clauses = {"binary": binary, "random": random3, "pigeons": pigeons}[family](size)
+    families = {
+        "free": free,
+        "forcing": forcing,
+        "binary": binary,
+        "units": units,
+        "random": random3,
+        "pigeons": pigeons,
+    }
+    atoms, clauses = families[family](size)
     print("p cnf", atoms, len(clauses))
     for clause in clauses:
         print(*clause, 0)

@@ -1,18 +1,22 @@
 -- What a search cites of its trail: reasons and levels when entries are added or taken off, and what `learn` wants.
-use Rattle.std.proofs.Common.{◌≡◌, ℕ, zero, suc, ◌+◌, ◌-◌, ◌<◌, true, leb, length, get_or, take, List, [], ◌∷◌, ◌++◌, Option, Some, None, refl, sym, ◌∙◌, ap, subst, inl, inr, arith, append_assoc}
+use Rattle.std.proofs.Common.{◌≡◌, ℕ, zero, suc, ◌+◌, ◌-◌, ◌<◌, ◌≤◌, ◌⊎◌, ◌&&◌, ◌||◌, true, false, leb, ltb, length, get_or, take, List, [], ◌∷◌, ◌++◌, Option, Some, None, refl, sym, ◌∙◌, ap, subst, inl, inr, arith, append_assoc}
 use Rattle.std.specs.Option.{option_map}
 use Rattle.std.proofs.lemmas.Option.{same_Some}
-use Rattle.std.proofs.lemmas.Bool.{cases_Bool, lt-leb, leb-false}
+use Rattle.std.specs.List.{list_all}
+use Rattle.std.proofs.lemmas.Bool.{false≢true, cases_Bool, lt-leb, leb-false, leb-true, ltb-true, ltb-false, and_parts, false_from_ne_true}
 use Rattle.std.proofs.lemmas.List.{take_more, append-nil}
 use Rattle.std.proofs.lemmas.List.Elements.{filter-append}
 use Rattle.sb_lit.specs.declared.clause.Lit.{Lit}
-use Rattle.sb_lit.specs.Clauses.{is_among}
+use Rattle.sb_lit.specs.Clauses.{negation, is_among, is_same_literal, is_open_under, is_false_under, is_false_clause, leaves_only}
 use Rattle.sb_lit.specs.Kept.{Kept, KeptClause, kept_at}
 use Rattle.sb_trail.specs.declared.assigned.Assigned.{Assigned}
-use Rattle.sb_trail.specs.Assignments.{Assignments, IsTrail, held, current_level, up_to, AreLevelled}
+use Rattle.sb_trail.specs.Assignments.{Assignments, IsTrail, held, current_level, up_to, AreLevelled, level_after, AreDistinct}
 use Rattle.sb_clauses.specs.Propagation.{AreForced, GrowsBy, IsSettled, IsConflict}
 use Rattle.sb_analyze.specs.Reasons.{AreReasoned, highest}
-use Rattle.sb_analyze.specs.Learning.{HasTwoOf, IsTeaching}
+use Rattle.sb_analyze.specs.Learning.{HasTwoOf, IsTeaching, IsAsserting, IsSettledBelow}
+use Rattle.sb_analyze.specs.declared.learned.Learned.{Learned}
+use Rattle.sb_analyze.proofs.Lessons.{true_up_to_low}
+use Rattle.sb_lit.proofs.CallerLemmas.{is_same_literal-true, all_among}
 use Rattle.sb_analyze.specs.Cores.{AreAssumed}
 use Rattle.sb_trail.proofs.CallerLemmas.{level_behind-above, level_after-push, up_to-all}
 
@@ -174,3 +178,163 @@ pub assumed_more : (assumptions : List Lit) (es : List Assigned) (i : ℕ) (d : 
     → AreAssumed assumptions (take (i + 1) es)
 assumed_more assumptions es i d within h here =
     rw (take_more es i d within) (assumed_push assumptions (take i es) (get_or es i d) h here)
+
+-- the levels below the current one are settled where the trail grew by propagation,
+pub below_grown : (kept : Kept) (old new : Assignments) → IsSettledBelow kept old.literals → GrowsBy kept old new
+    → IsSettledBelow kept new.literals
+below_grown kept old new h grows = λ n low.
+    let now : current_level new.literals ≡ current_level old.literals = ap current_level grows.literals
+    ∙ level_forced kept old.literals grows.added grows.forced in
+    let below : n < current_level old.literals = omega (arith, low, now) in
+    let same : up_to n new.literals ≡ up_to n old.literals = ap (up_to n) grows.literals
+    ∙ filter-append (λ x. leb x.level n) old.literals grows.added
+    ∙ ap (λ (es : List Assigned). up_to n old.literals ++ es)
+    (above_forced kept old.literals grows.added n grows.forced below)
+    ∙ append-nil (up_to n old.literals) in
+    subst (λ (es : List Assigned). IsSettled kept (held es)) (sym same) (h n below)
+
+-- where a literal was decided behind a propagation that came to its end,
+pub below_decided : (kept : Kept) (old : Assignments) (new : List Assigned) (e : Assigned) → IsTrail old
+    → IsSettledBelow kept old.literals → IsSettled kept (held old.literals)
+    → e.level ≡ current_level old.literals + 1 → new ≡ old.literals ++ e ∷ [] → IsSettledBelow kept new
+below_decided kept old new e is_trail h settled level pushed = λ n low.
+    let now : current_level new ≡ e.level = ap current_level pushed ∙ level_after-push 0 old.literals e in
+    let decision : up_to n (e ∷ []) ≡ [] = rw (lt-leb e.level n (omega (arith, low, now))) refl in
+    let same : up_to n new ≡ up_to n old.literals = ap (up_to n) pushed
+    ∙ filter-append (λ x. leb x.level n) old.literals (e ∷ [])
+    ∙ ap (λ (es : List Assigned). up_to n old.literals ++ es) decision
+    ∙ append-nil (up_to n old.literals) in
+    subst (λ (es : List Assigned). IsSettled kept (held es)) (sym same)
+    (elim (cases_Bool (ltb n (current_level old.literals))) [
+      | inl below ↦ h n (ltb-true n (current_level old.literals) below)
+      | inr top ↦
+          let whole : up_to n old.literals ≡ old.literals = up_to-all n 0 old.literals is_trail.levelled
+          (omega (arith, ltb-false n (current_level old.literals) top)) in
+          subst (λ (es : List Assigned). IsSettled kept (held es)) (sym whole) settled
+    ])
+
+level_up_to : (level m : ℕ) (es : List Assigned) → m ≤ level → level_after m (up_to level es) ≤ level
+level_up_to level m [] h = h
+level_up_to level m (e ∷ es) h =
+    elim (cases_Bool (leb e.level level)) [
+      | inl low ↦ rw low (level_up_to level e.level es (leb-true e.level level low))
+      | inr high ↦ rw high (level_up_to level m es h)
+    ]
+
+up_to_twice : (level n : ℕ) (es : List Assigned) → n ≤ level → up_to n (up_to level es) ≡ up_to n es
+up_to_twice level n [] h = refl
+up_to_twice level n (e ∷ es) h =
+    elim (cases_Bool (leb e.level level)) [
+      | inl low ↦ elim (cases_Bool (leb e.level n)) [
+        | inl here ↦ rw (low, here) (ap (λ (xs : List Assigned). e ∷ xs) (up_to_twice level n es h))
+        | inr above ↦ rw (low, above) (up_to_twice level n es h)
+      ]
+      | inr high ↦
+          let above : leb e.level n ≡ false =
+          lt-leb e.level n (omega (arith, leb-false e.level level high, h)) in
+          rw (high, above) (up_to_twice level n es h)
+    ]
+
+-- where the trail was taken back,
+pub below_up_to : (kept : Kept) (es : List Assigned) (level : ℕ) → IsSettledBelow kept es
+    → level < current_level es → IsSettledBelow kept (up_to level es)
+below_up_to kept es level h below = λ n low.
+    let under : n < level = omega (arith, low, level_up_to level 0 es (omega arith)) in
+    subst (λ (xs : List Assigned). IsSettled kept (held xs)) (sym (up_to_twice level n es (omega (arith, under))))
+    (h n (omega (arith, under, below)))
+
+added_at : (kept : Kept) (k clause : KeptClause) (id : ℕ) → kept_at (kept ++ Some k ∷ []) id ≡ Some clause
+    → (kept_at kept id ≡ Some clause) ⊎ (k ≡ clause)
+added_at [] k clause zero h = inr (same_Some k clause h)
+added_at [] k clause (suc id) h = absurd (Prim.cc (h))
+added_at (x ∷ xs) k clause zero h = inl h
+added_at (x ∷ xs) k clause (suc id) h = added_at xs k clause id h
+
+settled_more : (kept : Kept) (k : KeptClause) (literals : List Lit) → IsSettled kept literals
+    → is_false_clause literals k.literals ≡ false → ((l : Lit) → leaves_only literals k.literals l ≡ false)
+    → IsSettled (kept ++ Some k ∷ []) literals
+settled_more kept k literals h none_false none_forces = record {
+  none_false = λ id clause there. elim (added_at kept k clause id there) [
+    | inl old ↦ h.none_false id clause old
+    | inr new ↦ subst (λ (c : KeptClause). is_false_clause literals c.literals ≡ false) new none_false
+  ];
+  none_forces = λ id clause there l. elim (added_at kept k clause id there) [
+    | inl old ↦ h.none_forces id clause old l
+    | inr new ↦ subst (λ (c : KeptClause). leaves_only literals c.literals l ≡ false) new (none_forces l)
+  ];
+}
+
+-- a clause with a literal that is not false is not false, and leaves no other literal
+not_false_with : (literals clause : List Lit) (a : Lit) → is_among clause a ≡ true
+    → is_false_under literals a ≡ false → is_false_clause literals clause ≡ false
+not_false_with literals clause a among stays =
+    false_from_ne_true (is_false_clause literals clause) (λ all.
+    false≢true (sym stays ∙ all_among (is_false_under literals) clause a all among))
+
+leaves_no_other : (literals clause : List Lit) (a l : Lit) → is_among clause a ≡ true
+    → is_false_under literals a ≡ false → leaves_only literals clause a ≡ false
+    → leaves_only literals clause l ≡ false
+leaves_no_other literals clause a l among stays not_it =
+    false_from_ne_true (leaves_only literals clause l) (λ leaves.
+    let others = (and_parts (is_among clause l && is_open_under literals l)
+    (list_all (λ m. is_same_literal m l || is_false_under literals m) clause) leaves).1 in
+    let at : (is_same_literal a l || is_false_under literals a) ≡ true =
+    all_among (λ m. is_same_literal m l || is_false_under literals m) clause a others among in
+    elim (cases_Bool (is_same_literal a l)) [
+      | inl same ↦ false≢true (sym (subst (λ (m : Lit). leaves_only literals clause m ≡ false)
+          (is_same_literal-true a l same) not_it) ∙ leaves)
+      | inr other ↦ false≢true (sym (rw (other, stays) refl) ∙ at)
+    ])
+
+-- and where the asserting clause was added behind that
+pub below_learned : (kept : Kept) (es : List Assigned) (level : ℕ) (lesson : Learned) → AreDistinct es
+    → IsAsserting kept es level lesson → IsSettledBelow kept (up_to lesson.backjump_level es)
+    → IsSettledBelow (kept ++ Some (record { literals = lesson.clause; level = lesson.level }) ∷ [])
+    (up_to lesson.backjump_level es)
+below_learned kept es level lesson distinct a h = λ n low.
+    let under : n < lesson.backjump_level =
+    omega (arith, low, level_up_to lesson.backjump_level 0 es (omega arith)) in
+    let among : is_among lesson.clause a.asserted ≡ true =
+    (and_parts (is_among lesson.clause a.asserted) (is_open_under (held (up_to lesson.backjump_level es)) a.asserted)
+    (and_parts (is_among lesson.clause a.asserted && is_open_under (held (up_to lesson.backjump_level es)) a.asserted)
+    (list_all (λ m. is_same_literal m a.asserted || is_false_under (held (up_to lesson.backjump_level es)) m)
+    lesson.clause) a.leaves).0).0 in
+    let stays : is_false_under (held (up_to n es)) a.asserted ≡ false =
+    false_from_ne_true (is_false_under (held (up_to n es)) a.asserted) (λ is_false.
+    absurd (omega (
+      arith,
+      true_up_to_low n es (negation a.asserted) a.asserted distinct is_false refl,
+      a.asserted_level,
+      a.below,
+      under,
+    ))) in
+    let same = up_to_twice lesson.backjump_level n es (omega (arith, under)) in
+    let old : IsSettled kept (held (up_to n es)) =
+    subst (λ (xs : List Assigned). IsSettled kept (held xs)) same (h n low) in
+    subst (λ (xs : List Assigned). IsSettled
+    (kept ++ Some (record { literals = lesson.clause; level = lesson.level }) ∷ []) (held xs)) (sym same)
+    (settled_more kept (record { literals = lesson.clause; level = lesson.level }) (held (up_to n es)) old
+    (not_false_with (held (up_to n es)) lesson.clause a.asserted among stays)
+    (λ l. leaves_no_other (held (up_to n es)) lesson.clause a.asserted l among stays (a.lowest n under)))
+
+-- a conflict whose highest level is the current one teaches there
+pub teaches_below : (kept : Kept) (es : List Assigned) → IsSettledBelow kept es → (id : ℕ)
+    → IsConflict kept (held es) id → (ls : List Lit)
+    → Some ls ≡ option_map (λ (k : KeptClause). k.literals) (kept_at kept id)
+    → highest es ls ≡ current_level es → 0 < current_level es → HasTwoOf es ls (current_level es)
+    → (clause : KeptClause) × IsTeaching kept es id clause
+teaches_below kept es h id conflict ls found top above two =
+    let same : conflict.clause.literals ≡ ls =
+    same_Some conflict.clause.literals ls
+    (sym (ap (option_map (λ (k : KeptClause). k.literals)) conflict.there) ∙ sym found) in
+    let level : highest es conflict.clause.literals ≡ current_level es = ap (highest es) same ∙ top in (
+      conflict.clause,
+      record {
+        there = conflict.there;
+        is_false = conflict.is_false;
+        above = omega (arith, level, above);
+        two = subst (λ (m : ℕ). HasTwoOf es conflict.clause.literals m) (sym level)
+            (subst (λ (xs : List Lit). HasTwoOf es xs (current_level es)) (sym same) two);
+        settled = h (highest es conflict.clause.literals - 1) (omega (arith, level, above));
+      },
+    )

@@ -6,7 +6,7 @@ use Rattle.sb_lit.specs.Clauses.{is_same_literal, is_among, is_false_clause, lea
 use Rattle.sb_lit.specs.Kept.{Kept, KeptClause, kept_at}
 use Rattle.sb_lit.specs.Hints.{learned}
 use Rattle.sb_trail.specs.declared.assigned.Assigned.{Assigned}
-use Rattle.sb_trail.specs.Assignments.{held, up_to}
+use Rattle.sb_trail.specs.Assignments.{held, current_level, up_to}
 use Rattle.sb_clauses.specs.Propagation.{IsSettled}
 use Rattle.sb_analyze.specs.Reasons.{level_in, highest}
 use Rattle.sb_analyze.specs.declared.learned.Learned.{Learned}
@@ -58,3 +58,7 @@ pub record IsAsserting (kept : Kept) (entries : List Assigned) (level : ℕ) (le
   pub leaves : leaves_only (held (up_to lesson.backjump_level entries)) lesson.clause asserted ≡ true
   pub lowest : (n : ℕ) → n < lesson.backjump_level
       → leaves_only (held (up_to n entries)) lesson.clause asserted ≡ false
+
+-- no kept clause is false or leaves one literal on the levels below the current one
+abbrev pub IsSettledBelow : Kept → List Assigned → Type 0
+IsSettledBelow kept entries = (n : ℕ) → n < current_level entries → IsSettled kept (held (up_to n entries))

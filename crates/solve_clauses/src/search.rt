@@ -1,0 +1,203 @@
+//! A search that decides, propagates, learns and goes back.
+
+ghost use Rattle.std.specs.Prelude.{◌≡◌, ◌<◌, [], true, false, None, IfOk, OnOk, IfSome, MatchOption};
+ghost use Rattle.sb_lit.specs.Clauses.{is_same_literal, is_among};
+ghost use Rattle.sb_trail.specs.Assignments.{held, current_level};
+ghost use Rattle.sb_clauses.specs.Propagation.{IsSettled, IsConflict};
+ghost use Rattle.sb_analyze.specs.Reasons.{level_in, highest};
+ghost use Rattle.sb_analyze.specs.Learning.{HasTwoOf, IsAsserting};
+ghost use Rattle.solve_clauses.specs.Searching.{IsSearching};
+
+use crate::failure::Failure;
+use crate::order::Order;
+use sb_analyze::{Learned, learn};
+use sb_clauses::{Engine, Propagated};
+use sb_lit::{ClauseId, Lit};
+use sb_trail::Trail;
+use std::alloc::{AllocError, Global};
+
+/// How many turns a search has at most.
+const MOST_TURNS: u64 = 0x1_0000_0000;
+
+/// What a search comes to.
+#[derive(Clone, Copy, Drop)]
+pub enum Verdict {
+    Satisfiable,
+    Unsatisfiable,
+}
+
+/// Searches until all atoms have values, or a clause is false on level 0.
+pub fn search(alloc: Global, engine: &mut Engine, order: &mut Order) -> Result<Verdict, Failure>
+    requires { engine.old.trail.literals ≡ [] }
+{
+    for _ in 0..MOST_TURNS {
+        if let Some(verdict) = turn(alloc, engine, order)? {
+            return Ok(verdict);
+        }
+    }
+    Err(Failure::Lost)
+}
+
+/// Propagates, and decides the next atom, or learns from the clause that is false.
+fn turn(alloc: Global, engine: &mut Engine, order: &mut Order) -> Result<Option<Verdict>, Failure>
+    requires { IsSearching engine.old }
+    ensures { OnOk result (IsSearching engine.new) }
+{
+    match settle(engine)? {
+        None => Ok(decide(engine, order)),
+        Some(conflict) => take_back(alloc, engine, order, conflict),
+    }
+}
+
+/// Propagates, and says which clause is false.
+fn settle(engine: &mut Engine) -> Result<Option<ClauseId>, Failure>
+    requires { IsSearching engine.old }
+    ensures searching { OnOk result (IsSearching engine.new) }
+    ensures answer { IfOk result (λ found. MatchOption found (IsSettled engine.new.kept (held engine.new.trail.literals))
+        (λ id. IsConflict engine.new.kept (held engine.new.trail.literals) id.0)) }
+{
+    if !engine.has_room() {
+        return Err(Failure::Lost);
+    }
+    match engine.propagate() {
+        Propagated::Done => Ok(None),
+        Propagated::Conflict(id) => Ok(Some(id)),
+    }
+}
+
+/// Makes the next atom false.
+fn decide(engine: &mut Engine, order: &mut Order) -> Option<Verdict>
+    requires searching { IsSearching engine.old }
+    requires settled { IsSettled engine.old.kept (held engine.old.trail.literals) }
+    ensures { IsSearching engine.new }
+{
+    let trail = engine.trail();
+    let _before = trail.literals();
+    let Some(atom) = order.choose(trail) else {
+        return Some(Verdict::Satisfiable);
+    };
+    let literal = Lit {
+        atom,
+        positive: false,
+    };
+    engine.decide(literal);
+    None
+}
+
+/// Learns from the clause that is false, and goes back to where what was learned forces a literal.
+fn take_back(
+    alloc: Global,
+    engine: &mut Engine,
+    order: &mut Order,
+    conflict: ClauseId,
+) -> Result<Option<Verdict>, Failure>
+    requires searching { IsSearching engine.old }
+    requires conflict { IsConflict engine.old.kept (held engine.old.trail.literals) conflict.0 }
+    ensures { OnOk result (IsSearching engine.new) }
+{
+    if engine.trail().current_level() == 0 {
+        return Ok(Some(Verdict::Unsatisfiable));
+    }
+    let lesson = explain(alloc, engine, conflict)?;
+    order.meet(engine.trail(), engine.clauses(), lesson.hints.ids());
+    go_back(engine, &lesson)?;
+    Ok(None)
+}
+
+/// What the clause that is false teaches.
+fn explain(alloc: Global, engine: &Engine, conflict: ClauseId) -> Result<Learned, Failure>
+    requires searching { IsSearching engine.now }
+    requires conflict { IsConflict engine.now.kept (held engine.now.trail.literals) conflict.0 }
+    ensures { IfOk result
+        (IsAsserting engine.now.kept engine.now.trail.literals (current_level engine.now.trail.literals)) }
+{
+    let trail = engine.trail();
+    let clauses = engine.clauses();
+    let level = trail.current_level();
+    let Some(literals) = clauses.literals(conflict) else {
+        return Err(Failure::Lost);
+    };
+    if level == 0 || highest(trail, literals) != level || !has_two(trail, literals, level) {
+        return Err(Failure::Lost);
+    }
+    let lesson = learn(alloc, trail, clauses, conflict)?;
+    Ok(lesson)
+}
+
+/// Goes back to where what was learned forces a literal, and keeps it.
+fn go_back(engine: &mut Engine, lesson: &Learned) -> Result<(), AllocError>
+    requires searching { IsSearching engine.old }
+    requires asserting { IsAsserting engine.old.kept engine.old.trail.literals
+        (current_level engine.old.trail.literals) lesson.now }
+    ensures { OnOk result (IsSearching engine.new) }
+{
+    let trail = engine.trail();
+    let _before = trail.literals();
+    engine.backtrack(lesson.backjump_level);
+    engine.add(&lesson.clause, lesson.level)?;
+    Ok(())
+}
+
+/// The greatest level of the literals.
+fn highest(trail: &Trail, literals: &[Lit]) -> usize
+    ensures { result ≡ highest trail.now.literals literals.now }
+{
+    let mut level = 0;
+    for literal in literals {
+        level = level.max(trail.level(literal.atom).unwrap_or(0));
+    }
+    level
+}
+
+/// Whether two literals are of the level.
+fn has_two(trail: &Trail, literals: &[Lit], level: usize) -> bool
+    ensures { result ≡ true → HasTwoOf trail.now.literals literals.now level }
+{
+    let Some(one) = one_of(trail, literals, level) else {
+        return false;
+    };
+    another_of(trail, literals, level, one).is_some()
+}
+
+/// The first literal of the level.
+fn one_of(trail: &Trail, literals: &[Lit], level: usize) -> Option<Lit>
+    ensures { IfSome result (λ l. (is_among literals.now l ≡ true) × (level_in trail.now.literals l ≡ level)) }
+{
+    for literal in literals {
+        if trail.level(literal.atom).unwrap_or(0) == level {
+            return Some(*literal);
+        }
+    }
+    None
+}
+
+/// The first literal of the level that is not this one.
+fn another_of(trail: &Trail, literals: &[Lit], level: usize, one: Lit) -> Option<Lit>
+    ensures { IfSome result (λ l. (is_among literals.now l ≡ true) × (is_same_literal one l ≡ false)
+        × (level_in trail.now.literals l ≡ level)) }
+{
+    for literal in literals {
+        if is_other_of(trail, one, *literal, level) {
+            return Some(*literal);
+        }
+    }
+    None
+}
+
+/// Whether the literal is of the level, and is not this one.
+fn is_other_of(trail: &Trail, one: Lit, literal: Lit, level: usize) -> bool
+    ensures differ { result ≡ true → is_same_literal one literal ≡ false }
+    ensures at { result ≡ true → level_in trail.now.literals literal ≡ level }
+{
+    if is_same(one, literal) {
+        return false;
+    }
+    trail.level(literal.atom).unwrap_or(0) == level
+}
+
+/// Whether two literals are the same.
+fn is_same(one: Lit, other: Lit) -> bool
+    ensures { result ≡ is_same_literal one other }
+{
+    one == other
+}
