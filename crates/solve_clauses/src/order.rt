@@ -8,8 +8,11 @@ use sb_lit::{ClauseId, Lit};
 use sb_trail::Trail;
 use std::alloc::{AllocError, Global};
 
-/// Where scores are halved often enough to stay below.
+/// What a meeting counts at most.
 const MOST: u64 = 1 << 50;
+
+/// What all scores are divided by then.
+const SHRINK: u64 = 1 << 30;
 
 /// Which atom is decided next: the first that has no value, or of those the one of the greatest score.
 #[derive(Drop)]
@@ -32,7 +35,7 @@ impl Order {
         Ok(Order {
             scores: vec![in alloc; 0u64; atoms]?,
             met: vec![in alloc; 0u64; atoms]?,
-            bump: 1 << 10,
+            bump: 1 << 20,
             conflicts: 0,
             next: 0,
             active,
@@ -71,7 +74,7 @@ impl Order {
         }
         self.bump = self.bump.saturating_add(self.bump / 20);
         if self.bump > MOST {
-            self.bump /= MOST;
+            self.bump /= SHRINK;
             shrink(&mut self.scores);
         }
     }
@@ -106,7 +109,7 @@ fn bump(scores: &mut [u64], met: &mut [u64], atom: u64, conflict: u64, by: u64) 
 /// Makes all scores smaller.
 fn shrink(scores: &mut [u64]) {
     for score in scores {
-        *score /= MOST;
+        *score /= SHRINK;
     }
 }
 
