@@ -1,9 +1,9 @@
 -- What a turn of a search keeps.
-use Rattle.std.proofs.Common.{◌≡◌, ◌+◌, [], ◌∷◌, ◌++◌, List, Some, None, arith, refl, sym, ◌∙◌, ap, subst}
+use Rattle.std.proofs.Common.{◌≡◌, ◌+◌, [], ◌∷◌, ◌++◌, List, Some, None, arith, refl, sym, subst}
 use Rattle.sb_lit.specs.declared.clause.Lit.{Lit}
 use Rattle.sb_lit.specs.Kept.{Kept}
 use Rattle.sb_trail.specs.declared.assigned.Assigned.{Assigned}
-use Rattle.sb_trail.specs.Assignments.{Assignments, IsTrail, held, current_level, up_to}
+use Rattle.sb_trail.specs.Assignments.{IsTrail, held, current_level, up_to}
 use Rattle.sb_clauses.specs.Propagation.{State, GrowsBy, IsSettled}
 use Rattle.sb_analyze.specs.Reasons.{AreReasoned}
 use Rattle.sb_analyze.specs.Learning.{IsSettledBelow, IsAsserting}

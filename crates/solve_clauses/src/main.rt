@@ -2,27 +2,41 @@
 //! times the engine of clauses, by a plain search that learns: every learned clause is kept, and there are no restarts.
 //!
 //! `solve_clauses order` decides the atoms in their order, and `solve_clauses active` the one that was met most of late;
-//! each is made false first. It prints `SATISFIABLE` or `UNSATISFIABLE`, and how many conflicts there were. The exit
-//! status is 1 where input, output or memory failed, and 2 where the word is wrong.
+//! each is made false first. It prints `SATISFIABLE` or `UNSATISFIABLE`, and how many conflicts there were.
+//! `solve_clauses rounds N` reads nothing: so often ten clauses are kept, propagated and dropped. The exit status is 1
+//! where input, output or memory failed, and 2 where the words are wrong.
 #![tactic(auto)]
+
+ghost use Rattle.std.specs.Prelude.{◌≡◌, []};
 
 mod dimacs;
 mod failure;
 mod order;
+mod rounds;
 mod search;
 
 use crate::dimacs::read;
 use crate::failure::Failure;
 use crate::order::Order;
+use crate::rounds::rounds;
 use crate::search::{Verdict, search};
 use sb_clauses::Engine;
 use std::env;
 use std::io::{Read, Write};
 use std::process::ExitCode;
 
+/// What is asked for.
+#[derive(Clone, Copy)]
+enum Task {
+    /// To search, by activity or by the order of the atoms.
+    Search { active: bool },
+    /// So many rounds of clauses that come and go.
+    Rounds(u64),
+}
+
 fn main(rt: HostRuntime) -> ExitCode {
-    match is_active(rt) {
-        Some(active) => match run(rt, active) {
+    match wanted(rt) {
+        Some(task) => match run(rt, task) {
             Ok(()) => ExitCode::from(0u8),
             Err(_) => ExitCode::from(1u8),
         },
@@ -30,33 +44,53 @@ fn main(rt: HostRuntime) -> ExitCode {
     }
 }
 
-/// Whether atoms are decided by activity.
-fn is_active(rt: HostRuntime) -> Option<bool> {
+/// What the words ask for.
+fn wanted(rt: HostRuntime) -> Option<Task> {
     let words: Vec<String> = env::args(&rt).ok()?.collect(rt.alloc()).ok()?;
     match words.as_slice() {
-        [_, word] if word.as_str() == "active" => Some(true),
-        [_, word] if word.as_str() == "order" => Some(false),
+        [_, word] if word.as_str() == "active" => Some(Task::Search { active: true }),
+        [_, word] if word.as_str() == "order" => Some(Task::Search { active: false }),
+        [_, word, count] if word.as_str() == "rounds" => {
+            Some(Task::Rounds(count.parse::<u64>().ok()?))
+        }
         _ => None,
     }
 }
 
-fn run(rt: HostRuntime, active: bool) -> Result<(), Failure> {
+fn run(rt: HostRuntime, task: Task) -> Result<(), Failure> {
+    let mut engine = Engine::new(rt.alloc());
+    match task {
+        Task::Search { active } => decide(rt, &mut engine, active),
+        Task::Rounds(count) => {
+            rounds(rt.alloc(), &mut engine, count)?;
+            print(rt, "DONE", count)
+        }
+    }
+}
+
+/// Reads clauses, and searches.
+fn decide(rt: HostRuntime, engine: &mut Engine, active: bool) -> Result<(), Failure>
+    requires { engine.old.trail.literals ≡ [] }
+{
     let mut script = Vec::new(rt.alloc());
     match rt.stdin().read_to_end(&mut script) {
         Ok(_) => {}
         Err(_) => return Err(Failure::Outside),
     }
-    let mut engine = Engine::new(rt.alloc());
-    read(rt.alloc(), &script, &mut engine)?;
+    read(rt.alloc(), &script, engine)?;
     let atoms = engine.atoms();
     engine.reserve(atoms)?;
     let mut order = Order::new(rt.alloc(), atoms, active)?;
-    let verdict = search(rt.alloc(), &mut engine, &mut order)?;
-    let word = match verdict {
+    let word = match search(rt.alloc(), engine, &mut order)? {
         Verdict::Satisfiable => "SATISFIABLE",
         Verdict::Unsatisfiable => "UNSATISFIABLE",
     };
-    let text = format!(in rt.alloc(); "{} {}\n", word, order.conflicts())?;
+    print(rt, word, order.conflicts())
+}
+
+/// Prints a word and a number.
+fn print(rt: HostRuntime, word: &str, number: u64) -> Result<(), Failure> {
+    let text = format!(in rt.alloc(); "{} {}\n", word, number)?;
     match rt.stdout().write_all(text.as_bytes()) {
         Ok(()) => Ok(()),
         Err(_) => Err(Failure::Outside),
