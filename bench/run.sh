@@ -2,8 +2,8 @@
 # Times the reader alone over 50 MB in pieces of several lengths, and the program over scripts of 1 to 50 MB, read
 # from a file: processor seconds, megabytes a second and peak memory in KB. Then the families of memberships, with z3 and
 # cvc5 beside the program where they are installed, and the checker on the proofs; a run has 20 seconds, so this takes
-# some minutes. At the end, where there is a C++ compiler, a small solver with array watches, beside minisat where it is
-# installed, over clauses alone: what the engine of clauses is to be measured against.
+# some minutes. At the end a search over clauses alone, which times the engine of clauses; where there is a C++ compiler
+# with a small solver with array watches beside it, and with minisat where it is installed.
 set -eu
 cd "$(dirname "$0")/.."
 build() { # the program, and what it is run on
@@ -12,6 +12,7 @@ build() { # the program, and what it is run on
   fi
 }
 build read_entries 7
+build solve_clauses order
 build strsolve
 build strcheck "data/apart.smt2 data/apart.proof"
 work=$(mktemp -d)
@@ -34,15 +35,22 @@ done
 echo
 python3 bench/compare.py
 
+echo
+for rounds in 10000 20000 40000; do
+  python3 bench/measure.py "rounds $rounds" /dev/null solve_clauses crates/solve_clauses/out/solve_clauses rounds "$rounds"
+done
 if command -v c++ > /dev/null; then
-  echo
   c++ -O2 -o "$work/reference" bench/reference.cpp
-  for family in 'binary 200000' 'random 200 active' 'pigeons 8 active'; do
-    read -r kind size how <<< "$family"
-    python3 bench/cnf.py "$kind" "$size" > "$work/$kind.cnf"
-    python3 bench/measure.py "$kind" "$work/$kind.cnf" reference "$work/reference" $how < "$work/$kind.cnf"
-    if command -v minisat > /dev/null; then
-      python3 bench/measure.py "$kind" "$work/$kind.cnf" minisat bash -c "minisat -verb=0; true" < "$work/$kind.cnf"
-    fi
-  done
 fi
+for family in 'free 100000 order' 'forcing 20000 order' 'binary 200000 order' 'binary 1000000 order' 'units 100000 order' \
+  'random 210 active' 'random 230 active' 'pigeons 8 active'; do
+  read -r kind size how <<< "$family"
+  python3 bench/cnf.py "$kind" "$size" > "$work/$kind.cnf"
+  python3 bench/measure.py "$kind $size" "$work/$kind.cnf" solve_clauses crates/solve_clauses/out/solve_clauses "$how" < "$work/$kind.cnf"
+  if command -v c++ > /dev/null; then
+    python3 bench/measure.py "$kind $size" "$work/$kind.cnf" reference "$work/reference" "$how" < "$work/$kind.cnf"
+  fi
+  if command -v minisat > /dev/null; then
+    python3 bench/measure.py "$kind $size" "$work/$kind.cnf" minisat bash -c "minisat -verb=0; true" < "$work/$kind.cnf"
+  fi
+done
