@@ -36,21 +36,25 @@ echo
 python3 bench/compare.py
 
 echo
+clauses() { # a row: its name, the file, what is run, and its words
+  python3 bench/measure.py "$1" "$2" "$3" "${@:4}" < "$2"
+}
+solver=crates/solve_clauses/out/solve_clauses
 for rounds in 10000 20000 40000; do
-  python3 bench/measure.py "rounds $rounds" /dev/null solve_clauses crates/solve_clauses/out/solve_clauses rounds "$rounds"
+  clauses "rounds $rounds" /dev/null solve_clauses "$solver" rounds "$rounds"
 done
 if command -v c++ > /dev/null; then
   c++ -O2 -o "$work/reference" bench/reference.cpp
 fi
-for family in 'free 100000 order' 'forcing 20000 order' 'binary 200000 order' 'binary 1000000 order' 'units 100000 order' \
-  'random 210 active' 'random 230 active' 'pigeons 8 active'; do
+for family in 'free 100000 order' 'forcing 20000 order' 'binary 200000 order' 'binary 1000000 order' \
+  'units 100000 order' 'random 210 active' 'random 230 active' 'pigeons 8 active'; do
   read -r kind size how <<< "$family"
   python3 bench/cnf.py "$kind" "$size" > "$work/$kind.cnf"
-  python3 bench/measure.py "$kind $size" "$work/$kind.cnf" solve_clauses crates/solve_clauses/out/solve_clauses "$how" < "$work/$kind.cnf"
-  if command -v c++ > /dev/null; then
-    python3 bench/measure.py "$kind $size" "$work/$kind.cnf" reference "$work/reference" "$how" < "$work/$kind.cnf"
+  clauses "$kind $size" "$work/$kind.cnf" solve_clauses "$solver" "$how"
+  if [ -x "$work/reference" ]; then
+    clauses "$kind $size" "$work/$kind.cnf" reference "$work/reference" "$how"
   fi
   if command -v minisat > /dev/null; then
-    python3 bench/measure.py "$kind $size" "$work/$kind.cnf" minisat bash -c "minisat -verb=0; true" < "$work/$kind.cnf"
+    clauses "$kind $size" "$work/$kind.cnf" minisat bash -c "minisat -verb=0; true"
   fi
 done

@@ -14,7 +14,8 @@ use Rattle.solve_clauses.specs.Searching.{IsSearching}
 pub searching_none : (search : State) → search.trail.literals ≡ [] → IsSearching search
 searching_none search none = record {
   reasoned = subst (λ (es : List Assigned). AreReasoned search.kept [] es) (sym none) tt;
-  below = subst (λ (es : List Assigned). IsSettledBelow search.kept es) (sym none) (λ n low. absurd (omega (arith, low)));
+  below = subst (λ (es : List Assigned). IsSettledBelow search.kept es) (sym none)
+      (λ n low. absurd (omega (arith, low)));
 }
 
 pub searching_grown : (old new : State) → IsSearching old → new.kept ≡ old.kept

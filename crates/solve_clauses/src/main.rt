@@ -1,8 +1,8 @@
 //! `solve_clauses`: reads clauses in DIMACS from standard input, and says whether some values make all of them true. It
 //! times the engine of clauses, by a plain search that learns: every learned clause is kept, and there are no restarts.
 //!
-//! `solve_clauses order` decides the atoms in their order, and `solve_clauses active` the one that was met most of late;
-//! each is made false first. It prints `SATISFIABLE` or `UNSATISFIABLE`, and how many conflicts there were.
+//! `solve_clauses order` decides the atoms in their order, and `solve_clauses active` the one that was met most of
+//! late; each is made false first. It prints `SATISFIABLE` or `UNSATISFIABLE`, and how many conflicts there were.
 //! `solve_clauses rounds N` reads nothing: so often ten clauses are kept, propagated and dropped. The exit status is 1
 //! where input, output or memory failed, and 2 where the words are wrong.
 #![tactic(auto)]

@@ -53,8 +53,8 @@ fn turn(alloc: Global, engine: &mut Engine, order: &mut Order) -> Result<Option<
 fn settle(engine: &mut Engine) -> Result<Option<ClauseId>, Failure>
     requires { IsSearching engine.old }
     ensures searching { OnOk result (IsSearching engine.new) }
-    ensures answer { IfOk result (λ found. MatchOption found (IsSettled engine.new.kept (held engine.new.trail.literals))
-        (λ id. IsConflict engine.new.kept (held engine.new.trail.literals) id.0)) }
+    ensures answer { IfOk result (λ found. MatchOption found
+        (IsSettled engine.new.kept (held engine.new.trail.literals)) (λ id. IsConflict engine.new.kept (held engine.new.trail.literals) id.0)) }
 {
     if !engine.has_room() {
         return Err(Failure::Lost);
