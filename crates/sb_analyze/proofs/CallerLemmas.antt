@@ -16,9 +16,11 @@ use Rattle.sb_analyze.specs.Reasons.{AreReasoned, highest}
 use Rattle.sb_analyze.specs.Learning.{HasTwoOf, IsTeaching, IsAsserting, IsSettledBelow}
 use Rattle.sb_analyze.specs.declared.learned.Learned.{Learned}
 use Rattle.sb_analyze.proofs.Lessons.{true_up_to_low}
+use Rattle.sb_analyze.proofs.Teaching.{has_two_of}
+pub use Rattle.sb_analyze.proofs.Teaching.{is_highest}
 use Rattle.sb_lit.proofs.CallerLemmas.{is_same_literal-true, all_among}
 use Rattle.sb_analyze.specs.Cores.{AreAssumed}
-use Rattle.sb_trail.proofs.CallerLemmas.{level_behind-above, level_after-push, up_to-all}
+use Rattle.sb_trail.proofs.CallerLemmas.{level_behind-above, level_after-push, up_to-all, up_to-up_to}
 
 append_one : (xs : List Assigned) (e : Assigned) (ys : List Assigned) → (xs ++ e ∷ []) ++ ys ≡ xs ++ e ∷ ys
 append_one xs e ys = append_assoc xs (e ∷ []) ys
@@ -221,26 +223,12 @@ level_up_to level m (e ∷ es) h =
       | inr high ↦ rw high (level_up_to level m es h)
     ]
 
-up_to_twice : (level n : ℕ) (es : List Assigned) → n ≤ level → up_to n (up_to level es) ≡ up_to n es
-up_to_twice level n [] h = refl
-up_to_twice level n (e ∷ es) h =
-    elim (cases_Bool (leb e.level level)) [
-      | inl low ↦ elim (cases_Bool (leb e.level n)) [
-        | inl here ↦ rw (low, here) (ap (λ (xs : List Assigned). e ∷ xs) (up_to_twice level n es h))
-        | inr above ↦ rw (low, above) (up_to_twice level n es h)
-      ]
-      | inr high ↦
-          let above : leb e.level n ≡ false =
-          lt-leb e.level n (omega (arith, leb-false e.level level high, h)) in
-          rw (high, above) (up_to_twice level n es h)
-    ]
-
 -- where the trail was taken back,
 pub below_up_to : (kept : Kept) (es : List Assigned) (level : ℕ) → IsSettledBelow kept es
     → level < current_level es → IsSettledBelow kept (up_to level es)
 below_up_to kept es level h below = λ n low.
     let under : n < level = omega (arith, low, level_up_to level 0 es (omega arith)) in
-    subst (λ (xs : List Assigned). IsSettled kept (held xs)) (sym (up_to_twice level n es (omega (arith, under))))
+    subst (λ (xs : List Assigned). IsSettled kept (held xs)) (sym (up_to-up_to n level es (omega (arith, under))))
     (h n (omega (arith, under, below)))
 
 added_at : (kept : Kept) (k clause : KeptClause) (id : ℕ) → kept_at (kept ++ Some k ∷ []) id ≡ Some clause
@@ -308,7 +296,7 @@ below_learned kept es level lesson distinct a h = λ n low.
       a.below,
       under,
     ))) in
-    let same = up_to_twice lesson.backjump_level n es (omega (arith, under)) in
+    let same = up_to-up_to n lesson.backjump_level es (omega (arith, under)) in
     let old : IsSettled kept (held (up_to n es)) =
     subst (λ (xs : List Assigned). IsSettled kept (held xs)) same (h n low) in
     subst (λ (xs : List Assigned). IsSettled
@@ -317,24 +305,19 @@ below_learned kept es level lesson distinct a h = λ n low.
     (not_false_with (held (up_to n es)) lesson.clause a.asserted among stays)
     (λ l. leaves_no_other (held (up_to n es)) lesson.clause a.asserted l among stays (a.lowest n under)))
 
--- a conflict whose highest level is the current one teaches there
-pub teaches_below : (kept : Kept) (es : List Assigned) → IsSettledBelow kept es → (id : ℕ)
-    → IsConflict kept (held es) id → (ls : List Lit)
-    → Some ls ≡ option_map (λ (k : KeptClause). k.literals) (kept_at kept id)
-    → highest es ls ≡ current_level es → 0 < current_level es → HasTwoOf es ls (current_level es)
-    → (clause : KeptClause) × IsTeaching kept es id clause
-teaches_below kept es h id conflict ls found top above two =
-    let same : conflict.clause.literals ≡ ls =
-    same_Some conflict.clause.literals ls
-    (sym (ap (option_map (λ (k : KeptClause). k.literals)) conflict.there) ∙ sym found) in
-    let level : highest es conflict.clause.literals ≡ current_level es = ap (highest es) same ∙ top in (
+-- and then a conflict above level 0 teaches
+pub teaches_below : (kept : Kept) (trail : Assignments) → IsTrail trail → IsSettledBelow kept trail.literals
+    → 0 < current_level trail.literals → (id : ℕ) → IsConflict kept (held trail.literals) id
+    → (clause : KeptClause) × IsTeaching kept trail.literals id clause
+teaches_below kept trail is_trail h above id conflict =
+    let level = is_highest kept trail is_trail h above id conflict in (
       conflict.clause,
       record {
         there = conflict.there;
         is_false = conflict.is_false;
         above = omega (arith, level, above);
-        two = subst (λ (m : ℕ). HasTwoOf es conflict.clause.literals m) (sym level)
-            (subst (λ (xs : List Lit). HasTwoOf es xs (current_level es)) (sym same) two);
-        settled = h (highest es conflict.clause.literals - 1) (omega (arith, level, above));
+        two = subst (λ (m : ℕ). HasTwoOf trail.literals conflict.clause.literals m) (sym level)
+            (has_two_of kept trail is_trail h above id conflict);
+        settled = h (highest trail.literals conflict.clause.literals - 1) (omega (arith, level, above));
       },
     )

@@ -1,4 +1,5 @@
 pub mod CallerLemmas
+mod Teaching
 pub mod Literals
 pub mod Findings
 pub mod Entries

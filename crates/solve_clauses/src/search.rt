@@ -1,11 +1,9 @@
 //! A search that decides, propagates, learns and goes back.
 
-ghost use Rattle.std.specs.Prelude.{◌≡◌, ◌<◌, [], true, false, None, IfOk, OnOk, IfSome, MatchOption};
-ghost use Rattle.sb_lit.specs.Clauses.{is_same_literal, is_among};
+ghost use Rattle.std.specs.Prelude.{◌≡◌, ◌<◌, [], IfOk, OnOk, MatchOption};
 ghost use Rattle.sb_trail.specs.Assignments.{held, current_level};
 ghost use Rattle.sb_clauses.specs.Propagation.{IsSettled, IsConflict};
-ghost use Rattle.sb_analyze.specs.Reasons.{level_in, highest};
-ghost use Rattle.sb_analyze.specs.Learning.{HasTwoOf, IsAsserting};
+ghost use Rattle.sb_analyze.specs.Learning.{IsAsserting};
 ghost use Rattle.solve_clauses.specs.Searching.{IsSearching};
 
 use crate::failure::Failure;
@@ -13,7 +11,6 @@ use crate::order::Order;
 use sb_analyze::{Learned, learn};
 use sb_clauses::{Engine, Propagated};
 use sb_lit::{ClauseId, Lit};
-use sb_trail::Trail;
 use std::alloc::{AllocError, Global};
 
 /// How many turns a search has at most.
@@ -105,22 +102,16 @@ fn take_back(
 }
 
 /// What the clause that is false teaches.
-fn explain(alloc: Global, engine: &Engine, conflict: ClauseId) -> Result<Learned, Failure>
+fn explain(alloc: Global, engine: &Engine, conflict: ClauseId) -> Result<Learned, AllocError>
     requires searching { IsSearching engine.now }
+    requires above { 0 < current_level engine.now.trail.literals }
     requires conflict { IsConflict engine.now.kept (held engine.now.trail.literals) conflict.0 }
     ensures { IfOk result
         (IsAsserting engine.now.kept engine.now.trail.literals (current_level engine.now.trail.literals)) }
 {
     let trail = engine.trail();
-    let clauses = engine.clauses();
-    let level = trail.current_level();
-    let Some(literals) = clauses.literals(conflict) else {
-        return Err(Failure::Lost);
-    };
-    if level == 0 || highest(trail, literals) != level || !has_two(trail, literals, level) {
-        return Err(Failure::Lost);
-    }
-    let lesson = learn(alloc, trail, clauses, conflict)?;
+    let _before = trail.literals();
+    let lesson = learn(alloc, trail, engine.clauses(), conflict)?;
     Ok(lesson)
 }
 
@@ -136,68 +127,4 @@ fn go_back(engine: &mut Engine, lesson: &Learned) -> Result<(), AllocError>
     engine.backtrack(lesson.backjump_level);
     engine.add(&lesson.clause, lesson.level)?;
     Ok(())
-}
-
-/// The greatest level of the literals.
-fn highest(trail: &Trail, literals: &[Lit]) -> usize
-    ensures { result ≡ highest trail.now.literals literals.now }
-{
-    let mut level = 0;
-    for literal in literals {
-        level = level.max(trail.level(literal.atom).unwrap_or(0));
-    }
-    level
-}
-
-/// Whether two literals are of the level.
-fn has_two(trail: &Trail, literals: &[Lit], level: usize) -> bool
-    ensures { result ≡ true → HasTwoOf trail.now.literals literals.now level }
-{
-    let Some(one) = one_of(trail, literals, level) else {
-        return false;
-    };
-    another_of(trail, literals, level, one).is_some()
-}
-
-/// The first literal of the level.
-fn one_of(trail: &Trail, literals: &[Lit], level: usize) -> Option<Lit>
-    ensures { IfSome result (λ l. (is_among literals.now l ≡ true) × (level_in trail.now.literals l ≡ level)) }
-{
-    for literal in literals {
-        if trail.level(literal.atom).unwrap_or(0) == level {
-            return Some(*literal);
-        }
-    }
-    None
-}
-
-/// The first literal of the level that is not this one.
-fn another_of(trail: &Trail, literals: &[Lit], level: usize, one: Lit) -> Option<Lit>
-    ensures { IfSome result (λ l. (is_among literals.now l ≡ true) × (is_same_literal one l ≡ false)
-        × (level_in trail.now.literals l ≡ level)) }
-{
-    for literal in literals {
-        if is_other_of(trail, one, *literal, level) {
-            return Some(*literal);
-        }
-    }
-    None
-}
-
-/// Whether the literal is of the level, and is not this one.
-fn is_other_of(trail: &Trail, one: Lit, literal: Lit, level: usize) -> bool
-    ensures differ { result ≡ true → is_same_literal one literal ≡ false }
-    ensures at { result ≡ true → level_in trail.now.literals literal ≡ level }
-{
-    if is_same(one, literal) {
-        return false;
-    }
-    trail.level(literal.atom).unwrap_or(0) == level
-}
-
-/// Whether two literals are the same.
-fn is_same(one: Lit, other: Lit) -> bool
-    ensures { result ≡ is_same_literal one other }
-{
-    one == other
 }
