@@ -3,7 +3,7 @@ use Rattle.std.proofs.Common.{◌≡◌, ℕ, ◌-◌, ◌<◌, ◌≤◌, ◌&&
 use Rattle.std.specs.List.{list_all, list_any}
 use Rattle.std.proofs.lemmas.Bool.{false≢true, cases_Bool, and_parts, and_from, or_left, or_right, or_cases, eqb-true, false_from_ne_true, not-true, eq-eqb}
 use Rattle.sb_lit.specs.declared.clause.Lit.{Lit}
-use Rattle.sb_lit.specs.Clauses.{negation, is_same_literal, is_among, is_true_under, is_false_under, is_open_under, is_false_clause, leaves_only}
+use Rattle.sb_lit.specs.Clauses.{negation, is_same_literal, is_among, is_true_under, is_false_under, is_open_under}
 use Rattle.sb_lit.specs.Kept.{Kept}
 use Rattle.sb_trail.specs.declared.assigned.Assigned.{Assigned}
 use Rattle.sb_trail.specs.Assignments.{Assignments, IsTrail, held, current_level, up_to, AreDistinct}
@@ -169,7 +169,7 @@ module _ (kept : Kept) (trail : Assignments) (is_trail : IsTrail trail)
       omega (
         arith,
         highest_at_most es ls top (λ l among.
-        level_at_most trail is_trail l (all_among (is_false_under (held es)) ls l conflict.is_false among)),
+            level_at_most trail is_trail l (all_among (is_false_under (held es)) ls l conflict.is_false among)),
         highest_above es ls two.one two.one_there,
         two.one_level,
       )
