@@ -1,5 +1,5 @@
 -- What failed, as an arena grows and as more fails.
-use Rattle.std.proofs.Common.{◌≡◌, ℕ, subst, suc, ◌<◌, ◌≤◌, Bool, true, false, ◌&&◌, inl, inr, nat_eq, cond, List, [], ◌∷◌, ◌++◌, length, get_or, drop, refl, sym, ap, ap₂, ◌∙◌, arith}
+use Rattle.std.proofs.Common.{◌≡◌, ℕ, subst, suc, true, false, inl, inr, nat_eq, List, [], ◌∷◌, get_or, drop, sym, ap, ap₂, ◌∙◌, arith}
 use Rattle.std.specs.List.{list_any}
 use Rattle.std.proofs.lemmas.Bool.{and_parts, or_cases, false≢true}
 use Rattle.std.proofs.lemmas.Bool.Decides.{nat_tests}
@@ -7,8 +7,9 @@ use Rattle.sb_lang.specs.Regex.{Regex}
 use Rattle.sb_lang.specs.Language.{language}
 use Rattle.sb_regex.specs.Numbered.{regex_at, Extends}
 use Rattle.sb_regex.proofs.CallerLemmas.{at_kept, number_kept}
-use Rattle.sb_plain.specs.Memory.{Learnt, Failed, Memory, LearntIsRight, AreFailed, IsRight, same_pair, RightStays}
+use Rattle.sb_plain.specs.Memory.{Learnt, Failed, Walked, Memory, LearntIsRight, AreFailed, IsRight, same_pair, RightStays}
 use Rattle.sb_plain.proofs.Remembering.{right_kept}
+use Rattle.sb_plain.proofs.Staying.{walked_kept}
 
 pub failed_kept : (old new : List Regex) (f : Failed) → Extends old new → AreFailed old f → AreFailed new f
 failed_kept old new f more failed k d l =
@@ -35,14 +36,22 @@ pub all_right_kept : RightStays
 all_right_kept old new m more right = record {
   learnt = right_kept old new m.0 more right.learnt;
   failed = failed_kept old new m.1 more right.failed;
+  walked = walked_kept old new m.2 more right.walked;
 }
 
 -- the parts of what is right
 
-pub learnt_part : (rs : List Regex) (learnt : Learnt) (failed : Failed) (m : Memory) → (learnt, failed) ≡ m
-    → IsRight rs m → LearntIsRight rs learnt
-learnt_part rs learnt failed m is right = subst (LearntIsRight rs) (sym (ap (λ x. x.0) is)) right.learnt
+pub parts_right : (rs : List Regex) (learnt : Learnt) (failed : Failed) (walked : Walked) (m : Memory)
+    → (learnt, failed, walked) ≡ m → IsRight rs m → IsRight rs (learnt, failed, walked)
+parts_right rs learnt failed walked m is right = subst (IsRight rs) (sym is) right
 
-pub failed_part : (rs : List Regex) (learnt : Learnt) (failed : Failed) (m : Memory) → (learnt, failed) ≡ m
-    → IsRight rs m → AreFailed rs failed
-failed_part rs learnt failed m is right = subst (AreFailed rs) (sym (ap (λ x. x.1) is)) right.failed
+-- what was learnt changes, and the others stay
+pub learnt_changed : (old new : List Regex) (learnt learnt' : Learnt) (failed : Failed) (walked : Walked) (m : Memory)
+    → (learnt, failed, walked) ≡ m → IsRight old m → Extends old new → LearntIsRight new learnt'
+    → IsRight new (learnt', failed, walked)
+learnt_changed old new learnt learnt' failed walked m is right grown now =
+    let parts = parts_right old learnt failed walked m is right in record {
+      learnt = now;
+      failed = failed_kept old new failed grown parts.failed;
+      walked = walked_kept old new walked grown parts.walked;
+    }

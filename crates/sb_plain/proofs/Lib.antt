@@ -5,5 +5,6 @@ pub mod Remembering
 pub mod Along
 pub mod Runs
 pub mod Failing
+pub mod Staying
 pub mod Members
 pub mod Turns

@@ -1,6 +1,6 @@
 -- Members of unions as states.
-use Rattle.std.proofs.Common.{◌≡◌, ℕ, suc, ◌+◌, ◌-◌, ◌<◌, ◌≤◌, Bool, true, false, ◌||◌, List, [], ◌∷◌, ◌++◌, length, get_or, drop, refl, sym, ap, ap₂, subst, ◌∙◌, arith, append_assoc}
-use Rattle.std.specs.List.{All, list_any}
+use Rattle.std.proofs.Common.{◌≡◌, ℕ, ◌+◌, ◌-◌, ◌<◌, ◌≤◌, Bool, true, false, ◌||◌, List, [], ◌∷◌, ◌++◌, length, get_or, drop, refl, sym, ap, ap₂, ◌∙◌, arith, append_assoc}
+use Rattle.std.specs.List.{All}
 use Rattle.std.proofs.Math.Bool.{or-false}
 use Rattle.std.proofs.lemmas.List.{drop_more, append-nil}
 use Rattle.std.proofs.Math.Seq.{drop-length}
@@ -10,7 +10,7 @@ use Rattle.sb_lang.specs.Language.{language, some_language}
 use Rattle.sb_regex.specs.Numbered.{regex_at, regexes_at}
 use Rattle.sb_regex.proofs.CallerLemmas.{one_number}
 use Rattle.sb_plain.specs.declared.walk.State.{State}
-use Rattle.sb_plain.specs.Walking.{in_some, some_matches, fresh, states_of, AreMembers, ArePut}
+use Rattle.sb_plain.specs.Walking.{in_some, some_matches, fresh, states_of, ArePut}
 
 some_of : (rs : List Regex) (ns : List ℕ) (u : List ℕ) → in_some rs ns u ≡ some_language (regexes (regexes_at rs ns)) u
 unfolding language some_language regexes

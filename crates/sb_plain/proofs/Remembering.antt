@@ -20,7 +20,7 @@ use Rattle.sb_plain.specs.Making.{stretch, found, is_found, target_at, AreFound,
 use Rattle.sb_plain.proofs.PointFacts.{stretch_le, stretch_none, both, no_ranges}
 use Rattle.sb_plain.proofs.Shapes.{made_same}
 
-some_same : {X : Type 0} (x y : X) → Some x ≡ Some y → x ≡ y
+pub some_same : {X : Type 0} (x y : X) → Some x ≡ Some y → x ≡ y
 some_same x y h = cc
 
 none_not : {X : Type 0} (x : X) → None ≡ Some x → ⊥

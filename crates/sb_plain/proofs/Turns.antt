@@ -1,9 +1,9 @@
 -- What a turn does with the states of a walk.
-use Rattle.std.proofs.Common.{◌≡◌, ℕ, Vec, Global, vec_len, suc, ◌+◌, ◌<◌, ◌≤◌, Bool, true, false, ◌||◌, List, [], ◌∷◌, ◌++◌, length, get_or, drop, refl, sym, ap, ap₂, subst, ◌∙◌, arith, append_assoc}
-use Rattle.std.specs.List.{All, list_any}
+use Rattle.std.proofs.Common.{◌≡◌, ℕ, Vec, Global, vec_len, suc, ◌+◌, ◌<◌, ◌≤◌, Bool, true, false, ◌||◌, List, [], ◌∷◌, ◌++◌, length, get_or, drop, refl, sym, ap, ap₂, subst, ◌∙◌, arith}
+use Rattle.std.specs.List.{list_any}
 use Rattle.std.proofs.Math.Bool.{or-false}
 use Rattle.std.proofs.lemmas.Bool.{false≢true}
-use Rattle.std.proofs.lemmas.List.{drop_more, append-nil}
+use Rattle.std.proofs.lemmas.List.{drop_more}
 use Rattle.std.proofs.lemmas.List.Folds.{list_any-append}
 use Rattle.sb_lang.specs.Regex.{Regex}
 use Rattle.sb_lang.specs.Derivative.{nd, nullable}
@@ -12,7 +12,7 @@ use Rattle.sb_lang.specs.Language.{language}
 use Rattle.sb_regex.specs.Numbered.{regex_at, AllNumbers, Extends, Names}
 use Rattle.sb_regex.proofs.CallerLemmas.{at_kept, number_kept, names_at}
 use Rattle.sb_plain.specs.declared.walk.State.{State}
-use Rattle.sb_plain.specs.Walking.{in_some, state_matches, some_matches, IsState, AreWaiting, AreStates, fresh, states_of, ArePut, IsEntered}
+use Rattle.sb_plain.specs.Walking.{state_matches, some_matches, IsState, AreWaiting, AreStates, fresh, states_of, ArePut, IsEntered}
 use Rattle.sb_plain.proofs.Members.{some_states}
 
 abbrev pub entered : State → State

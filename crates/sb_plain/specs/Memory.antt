@@ -1,10 +1,11 @@
 -- What is remembered of regexes by their numbers, and when it is right for the regexes of an arena.
-use Rattle.std.specs.Prelude.{◌≡◌, ℕ, ◌<◌, Bool, false, ◌&&◌, nat_eq, List, Option, Some, None, get_or, slice_get, length, drop, option_and_then, All}
+use Rattle.std.specs.Prelude.{◌≡◌, ℕ, ◌<◌, ◌≤◌, Bool, false, ◌&&◌, nat_eq, List, Option, Some, None, get_or, slice_get, length, take, drop, option_and_then, All}
 use Rattle.std.specs.Map.{lookup}
 use Rattle.sb_lang.specs.Regex.{Regex}
-use Rattle.sb_lang.specs.Derivative.{nd}
+use Rattle.sb_lang.specs.Derivative.{nd, nd_along}
 use Rattle.sb_lang.specs.Language.{language}
 use Rattle.sb_regex.specs.Numbered.{regex_at, Extends, Names}
+use Rattle.sb_plain.specs.declared.walked.Stay.{Stay}
 use Rattle.sb_plain.specs.CutPoints.{AreCutPoints}
 
 -- lists of points; by number of regex the place of its list; by a number and a character the number of the derivative
@@ -46,12 +47,27 @@ Failed = List ℕ × List (ℕ × ℕ)
 abbrev pub AreFailed : List Regex → Failed → Type 0
 AreFailed rs f = All (λ p. (p.0 < length rs) × (language (regex_at rs p.0) (drop p.1 f.0) ≡ false)) f.1
 
+-- from a place in the characters up to another one the derivative of a number's regex is the same regex
+pub record IsStay (rs : List Regex) (n : ℕ) (codes : List ℕ) (s : Stay) : Type 0 where
+  pub within : s.to ≤ length codes
+  pub names : (p : ℕ) → s.from ≤ p → p ≤ s.to → Names rs s.rest (nd_along (regex_at rs n) (take p codes))
+
+-- characters of a word; regexes by number; and where the walks of these along the word stay, by the same places
+abbrev pub Walked : Type 0
+Walked = List ℕ × List ℕ × List Stay
+
+-- each stay is right for the regex at its place
+abbrev pub AreWalked : List Regex → Walked → Type 0
+AreWalked rs w = (i n : ℕ) (s : Stay) → slice_get w.1 i ≡ Some n → slice_get w.2 i ≡ Some s
+    → (n < length rs) × IsStay rs n w.0 s
+
 abbrev pub Memory : Type 0
-Memory = Learnt × Failed
+Memory = Learnt × Failed × Walked
 
 pub record IsRight (rs : List Regex) (m : Memory) : Type 0 where
   pub learnt : LearntIsRight rs m.0
   pub failed : AreFailed rs m.1
+  pub walked : AreWalked rs m.2
 
 -- more regexes change nothing
 abbrev pub RightStays : Type 0

@@ -7,11 +7,12 @@ ghost use Rattle.sb_lang.specs.Regex.{Regex};
 ghost use Rattle.sb_lang.specs.Derivative.{nd, nd_along};
 ghost use Rattle.sb_regex.specs.Numbered.{regex_at, Extends, Names};
 ghost use Rattle.sb_plain.specs.CutPoints.{ArePoints, AreCutPoints};
-ghost use Rattle.sb_plain.specs.Memory.{LearntIsRight, place_of, points_of};
+ghost use Rattle.sb_plain.specs.Memory.{LearntIsRight, IsStay, place_of, points_of};
 ghost use Rattle.sb_plain.specs.Making.{stretch, found, is_found, target_at, AreFound, IsWanted, IsShape, IsPlaceFor, PlacesExist, ListsAreKept, Covers};
 
 use crate::points::{Points, merge};
 use crate::shape::{Operation, Shape, shape_of};
+use crate::walked::Stay;
 use indexmap::IndexMap;
 use sb_regex::{Arena, Node, RegexId};
 use std::alloc::{AllocError, Global};
@@ -89,34 +90,38 @@ impl Learnt {
         self.copy_points(r)
     }
 
-    /// The derivative along the first characters, and how many these are: all, or up to a union whose derivative is not
+    /// The walk along the characters from where it stays on: to their end, or up to a union whose derivative is not
     /// known, once members of such unions were looked at that are a quarter as many as the characters.
-    pub(crate) fn begin(
+    pub(crate) fn walk_on(
         &mut self,
         arena: &mut Arena,
         codes: &[u32],
-        r: RegexId,
-    ) -> Result<(usize, RegexId), AllocError>
-        requires known { r < length arena.old }
+        begun: Stay,
+    ) -> Result<Stay, AllocError>
+        requires known { begun.rest < length arena.old }
+        requires begins { begun.from ≤ begun.to }
         requires word { IsWord codes.now }
         requires right { LearntIsRight arena.old self.old }
-        ensures place { IfOk result (λ begun. begun.0 ≤ length codes.now) }
-        ensures ok { IfOk result (λ begun.
-            Names arena.new begun.1 (nd_along (regex_at arena.old r) (take begun.0 codes.now))) }
+        ensures begins { IfOk result (λ stay. stay.from ≤ stay.to) }
+        ensures stay { IfOk result (λ stay. (n : ℕ) → n < length arena.old → IsStay arena.old n codes.now begun
+            → IsStay arena.new n codes.now stay) }
         ensures extends { Extends arena.old arena.new }
         ensures right { LearntIsRight arena.new self.new }
     {
-        let mut rest = r;
+        let mut stay = begun;
         let mut left = codes.len() / 4 + FEW;
-        for (place, c) in codes.iter().enumerate() {
-            let members = self.unknown_members(arena, rest, *c);
+        while stay.to < codes.len() {
+            let c = codes[stay.to];
+            let members = self.unknown_members(arena, stay.rest, c);
             if members > left {
-                return Ok((place, rest));
+                return Ok(stay);
             }
             left -= members;
-            rest = self.plain_derivative(arena, rest, *c)?;
+            let rest = self.plain_derivative(arena, stay.rest, c)?;
+            let to = stay.to + 1;
+            stay = stay.on(to, rest);
         }
-        Ok((codes.len(), rest))
+        Ok(stay)
     }
 
     /// The number of the members of a union whose derivative is not known; of another regex it is 0.

@@ -17,6 +17,7 @@ mod plain;
 mod points;
 mod shape;
 mod walk;
+mod walked;
 
 pub use plain::Plain;
 

@@ -12,26 +12,28 @@ ghost use Rattle.sb_plain.specs.Memory.{IsRight};
 use crate::failed::Failed;
 use crate::learnt::Learnt;
 use crate::walk::search;
+use crate::walked::Walked;
 use sb_lang::derivative::{derivative_along_has_rests, nullable_has_empty_word};
 use sb_regex::{Arena, RegexId};
 use sb_word::Word;
 use std::alloc::{AllocError, Global};
 use std::marker::Model;
 
-/// The derivatives and cut points that are remembered, of regexes of one arena, and which regexes were found not to
-/// match what is left of one word at a place.
+/// The derivatives and cut points that are remembered, of regexes of one arena, which of them were found not to match
+/// what is left of one word at a place, and at which regex the walk along one word stays.
 #[derive(Drop)]
 pub struct Plain {
     learnt: Learnt,
     failed: Failed,
+    walked: Walked,
 }
 
 impl Model for Plain {
-    ghost use Rattle.std.specs.Prelude.{ℕ, List, Option};
+    ghost use Rattle.sb_plain.specs.Memory.{Memory};
 
-    ghost Value = { (List (List ℕ) × (List (Option ℕ) × List ((ℕ × ℕ) × ℕ))) × (List ℕ × List (ℕ × ℕ)) };
+    ghost Value = { Memory };
 
-    ghost view = { λ plain. (plain.learnt, plain.failed) };
+    ghost view = { λ plain. (plain.learnt, plain.failed, plain.walked) };
 }
 
 impl Plain {
@@ -42,6 +44,7 @@ impl Plain {
         Plain {
             learnt: Learnt::new(alloc),
             failed: Failed::new(alloc),
+            walked: Walked::new(alloc),
         }
     }
 
@@ -97,6 +100,17 @@ impl Plain {
     /// and place that is met. That takes at most 16 turns for each character and 64 more, and no more than 2^18; where
     /// they do not suffice, a derivative of the whole for each character. A derivative that is known is looked up.
     ///
+    /// Where derivatives of the whole lead to the word's end, it is remembered of the regex at which one the walk
+    /// stays, behind how many characters it came there, and up to where. This is kept of one word. A later call for the
+    /// same regex begins from there, as far as both words have the same first characters; or with the first one, where
+    /// the walk came there behind these. It takes a look-up, a comparison of the first characters, and a derivative for
+    /// each character from there on.
+    ///
+    /// Where such a call comes to the end by one derivative at least, its word is the kept one from then on, unless the
+    /// kept one begins with it, and its characters are copied. Where the words part, what is kept of all regexes is cut
+    /// to the characters that both begin with, one step for each regex; or forgotten, where these are fewer than half
+    /// of the new word's, or the regexes more than 2^16.
+    ///
     /// An error comes for want of memory alone, and the arena may hold more regexes then.
     pub fn matches(
         &mut self,
@@ -113,11 +127,19 @@ impl Plain {
         derivative_along_has_rests();
         nullable_has_empty_word();
         let codes = word.codes();
-        let (place, rest) = self.learnt.begin(arena, codes, r)?;
-        if place == codes.len() {
+        let begun = self.walked.begin(codes, r);
+        let first = begun.to;
+        let stay = self.learnt.walk_on(arena, codes, begun)?;
+        let place = stay.to;
+        let rest = stay.rest;
+        if place < codes.len() {
+            return self.matches_from(arena, codes, rest, place);
+        }
+        if place == first {
             return Ok(arena.nullable(rest));
         }
-        self.matches_from(arena, codes, rest, place)
+        self.walked.put(codes, r, stay)?;
+        Ok(arena.nullable(rest))
     }
 
     /// Whether the characters from a place on are a word of a regex's language.

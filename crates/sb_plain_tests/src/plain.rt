@@ -197,6 +197,158 @@ fn words_match_as_said(rt: HostRuntime) -> Result<(), Fail> {
     Ok(rows_match(&rt, rt.alloc(), &mut Arena::new(rt.alloc()), &words)?)
 }
 
+/// Regexes of a word with every word behind it, of one with letters of a set behind it, and others.
+const FRONTS: [&[u8]; 15] = [
+    b"E*",
+    b"aE*.",
+    b"abE*..",
+    b"abaE*...",
+    b"abbE*...",
+    b"abaE*...bE*.|",
+    b"xE*.",
+    b"ab.*",
+    b"x*",
+    b"ax*.",
+    b"abx*..",
+    b"axx*..",
+    b"abxx*...",
+    b"abaxx*....",
+    b"abxx*...bx*.|",
+];
+
+/// Words that go on, go back, part, and go on again.
+const WALK: [&[u32]; 22] = [
+    &[],
+    &[0x61],
+    &[0x61, 0x62],
+    &[0x61, 0x62, 0x61],
+    &[0x61, 0x62, 0x61, 0x62],
+    &[0x61, 0x62, 0x61],
+    &[0x61, 0x62],
+    &[0x61],
+    &[],
+    &[0x62],
+    &[0x62, 0x62, 0x61],
+    &[0x61, 0x62],
+    &[0x61, 0x62, 0x62],
+    &[0x61, 0x62, 0x61],
+    &[0x61],
+    &[0x61, 0x61, 0x61],
+    &[0x61, 0x62, 0x62, 0x61],
+    &[0x63, 0x62, 0x61],
+    &[0x61, 0x62, 0x61, 0x62, 0x63],
+    &[0x61, 0x62, 0x61, 0x62, 0x61],
+    &[0x61, 0x62, 0x61, 0x64],
+    &[0x61, 0x62, 0x62, 0x62, 0x62, 0x62, 0x61],
+];
+
+/// Which regexes have the words, by one memory for all of them.
+fn answers(
+    arena: &mut Arena,
+    plain: &mut Plain,
+    rs: &[RegexId],
+    words: &[Word],
+    found: &mut Vec<bool>,
+) -> Result<(), AllocError>
+    requires { IsRight arena.old plain.old }
+    ensures { IsRight arena.new plain.new }
+{
+    for word in words {
+        answers_of(arena, plain, rs, word, found)?;
+    }
+    Ok(())
+}
+
+fn answers_of(
+    arena: &mut Arena,
+    plain: &mut Plain,
+    rs: &[RegexId],
+    word: &Word,
+    found: &mut Vec<bool>,
+) -> Result<(), AllocError>
+    requires { IsRight arena.old plain.old }
+    ensures { IsRight arena.new plain.new }
+{
+    for r in rs {
+        let answer = matches(arena, plain, word, *r)?;
+        note(found, answer)?;
+    }
+    Ok(())
+}
+
+fn answers_by_one(
+    alloc: Global,
+    arena: &mut Arena,
+    rs: &[RegexId],
+    words: &[Word],
+    found: &mut Vec<bool>,
+) -> Result<(), AllocError> {
+    let mut plain = Plain::new(alloc);
+    answers(arena, &mut plain, rs, words, found)
+}
+
+/// The same, by a memory of its own for each.
+fn answers_anew(
+    alloc: Global,
+    arena: &mut Arena,
+    rs: &[RegexId],
+    words: &[Word],
+    found: &mut Vec<bool>,
+) -> Result<(), AllocError> {
+    for word in words {
+        for r in rs {
+            let answer = matches_anew(alloc, arena, word, *r)?;
+            note(found, answer)?;
+        }
+    }
+    Ok(())
+}
+
+fn matches_anew(
+    alloc: Global,
+    arena: &mut Arena,
+    word: &Word,
+    r: RegexId,
+) -> Result<bool, AllocError> {
+    let mut plain = Plain::new(alloc);
+    matches(arena, &mut plain, word, r)
+}
+
+fn note(found: &mut Vec<bool>, answer: bool) -> Result<(), AllocError> {
+    found.push(answer)?;
+    Ok(())
+}
+
+fn words_of(alloc: Global, rows: &[&[u32]]) -> Result<Vec<Word>, AllocError> {
+    let mut words = Vec::new(alloc);
+    for codes in rows {
+        let word = word_of(alloc, codes)?;
+        put(&mut words, word)?;
+    }
+    Ok(words)
+}
+
+fn memory_changes_nothing(
+    rt: &impl Abort,
+    alloc: Global,
+    arena: &mut Arena,
+) -> Result<(), AllocError> {
+    let words = words_of(alloc, &WALK)?;
+    let rs = regexes(alloc, arena, &FRONTS)?;
+    let mut found = Vec::new(alloc);
+    let mut anew = Vec::new(alloc);
+    answers_by_one(alloc, arena, &rs, &words, &mut found)?;
+    answers_anew(alloc, arena, &rs, &words, &mut anew)?;
+    assert!(rt; found.len() == 330);
+    assert!(rt; found.as_slice() == anew.as_slice());
+    Ok(())
+}
+
+#[test]
+fn words_that_go_on_go_back_and_part_match_as_anew(rt: HostRuntime) -> Result<(), Fail> {
+    Ok(memory_changes_nothing(&rt, rt.alloc(), &mut Arena::new(rt.alloc()))?)
+}
+
 /// Regexes with their cut points: a set that ends where another one begins, those with the last character, one with
 /// every character, and parts behind a front that is nullable and one that is not.
 const POINTS: [(&[u8], &[u32]); 10] = [

@@ -1,4 +1,4 @@
-use Rattle.sb_plain.proofs.Members.{put_first, put_next, put_all}
+use Rattle.sb_plain.proofs.Members.{put_first, put_next}
 use Rattle.sb_plain.proofs.walk.put_each.Goals as goal
 
 pub loop-count-init : goal.loop-count-init

@@ -1,4 +1,4 @@
-use Rattle.std.proofs.Common.{◌∙◌, ◌≡◌, ◌<◌, ◌≤◌, ◌+◌, ap, sym, length, drop, false, arith}
+use Rattle.std.proofs.Common.{◌∙◌, ap, sym, drop, arith}
 use Rattle.sb_lang.specs.Language.{language}
 use Rattle.sb_regex.specs.Numbered.{regex_at}
 use Rattle.sb_plain.proofs.Turns.{states_dropped, states_entered, states_kept, matches_at_end}

@@ -1,6 +1,6 @@
-use Rattle.std.proofs.Common.{◌∙◌, sym, ap, subst}
+use Rattle.std.proofs.Common.{◌∙◌, sym, ap}
 use Rattle.std.specs.List.{list_any}
-use Rattle.sb_plain.specs.Memory.{Failed, AreFailed, same_pair}
+use Rattle.sb_plain.specs.Memory.{same_pair}
 use Rattle.sb_plain.proofs.Failing.{failed_has}
 use Rattle.sb_plain.proofs.failed.Failed.has.Goals as goal
 

@@ -1,39 +1,113 @@
 use Rattle.std.proofs.Common.{arith}
 use Rattle.std.proofs.lemmas.Result.{IfOk-weaker}
-use Rattle.sb_regex.proofs.CallerLemmas.{names_below}
-use Rattle.sb_plain.proofs.Along.{matched_begun, matched_at_end}
-use Rattle.sb_plain.proofs.Failing.{failed_kept, failed_part}
+use Rattle.sb_regex.proofs.CallerLemmas.{number_kept}
+use Rattle.sb_plain.proofs.Failing.{learnt_changed, parts_right}
+use Rattle.sb_plain.proofs.Staying.{stay_number, stay_matched, stay_ended}
 use Rattle.sb_plain.proofs.plain.Plain.matches.Goals as goal
+
+pub walk_on-requires-clause-known : goal.walk_on-requires-clause-known
+walk_on-requires-clause-known c =
+    stay_number c.args.arena.now c.args.r c.codes-codes.result.now c.begin-begun.result c.begin-begun.ensures.begins
+    (c.begin-begun.ensures.right c.args.arena.now
+    (parts_right c.args.arena.now c.self.inside.learnt c.self.inside.failed c.self.inside.walked c.args.self.now
+    c.self.view_is c.requires.right).walked c.requires.known)
+
+pub returns-in_err-stay-clause-right : goal.returns-in_err-stay-clause-right
+returns-in_err-stay-clause-right c =
+    learnt_changed c.args.arena.now c.walk_on.new.arena c.self.inside.learnt c.walk_on.new.self
+    c.self.inside.failed c.self.inside.walked c.args.self.now c.self.view_is c.requires.right
+    c.in_err-stay.ensures.extends c.in_err-stay.ensures.right
+
+pub matches_from-requires-clause-known : goal.matches_from-requires-clause-known
+matches_from-requires-clause-known c =
+    stay_number c.walk_on.new.arena c.args.r c.codes-codes.result.now c.in_ok-stay.stay c.in_ok-stay.ensures.begins
+    (c.in_ok-stay.ensures.stay c.args.r c.requires.known (c.begin-begun.ensures.right c.args.arena.now
+    (parts_right c.args.arena.now c.self.inside.learnt c.self.inside.failed c.self.inside.walked c.args.self.now
+    c.self.view_is c.requires.right).walked c.requires.known))
+
+pub matches_from-requires-clause-right : goal.matches_from-requires-clause-right
+matches_from-requires-clause-right c =
+    learnt_changed c.args.arena.now c.walk_on.new.arena c.self.inside.learnt c.walk_on.new.self
+    c.self.inside.failed c.self.inside.walked c.args.self.now c.self.view_is c.requires.right
+    c.in_ok-stay.ensures.extends c.in_ok-stay.ensures.right
 
 pub returns-then-place-codes-clause-ok : goal.returns-then-place-codes-clause-ok
 returns-then-place-codes-clause-ok c =
-    matched_begun c.begin.new.arena _ c.codes-codes.result.now c.args.word.now c.in_ok-place.place c.in_ok-place.rest
-    c.nullable.result c.derivative_along_has_rests.ensures c.codes-codes.ensures.value c.in_ok-place.ensures.ok
-    (matched_at_end c.begin.new.arena c.codes-codes.result.now c.in_ok-place.place c.in_ok-place.rest
-    c.nullable.result c.nullable_has_empty_word.ensures (omega (arith, c.if-place-codes.true)) c.nullable.ensures)
+    IfOk-weaker c.matches_from.result _ _
+    (λ b h. stay_matched c.args.arena.now c.walk_on.new.arena c.args.r c.codes-codes.result.now c.args.word.now
+    c.in_ok-stay.stay b c.derivative_along_has_rests.ensures c.codes-codes.ensures.value c.in_ok-stay.ensures.extends
+    c.requires.known c.in_ok-stay.ensures.begins
+    (c.in_ok-stay.ensures.stay c.args.r c.requires.known (c.begin-begun.ensures.right c.args.arena.now
+    (parts_right c.args.arena.now c.self.inside.learnt c.self.inside.failed c.self.inside.walked c.args.self.now
+    c.self.view_is c.requires.right).walked c.requires.known)) h)
+    c.matches_from.ensures.ok
 
-pub returns-then-place-codes-clause-right : goal.returns-then-place-codes-clause-right
-returns-then-place-codes-clause-right c = record {
-  learnt = c.in_ok-place.ensures.right;
-  failed = failed_kept c.args.arena.now c.begin.new.arena c.self.inside.failed c.in_ok-place.ensures.extends
-      (failed_part c.args.arena.now c.self.inside.learnt c.self.inside.failed c.args.self.now c.self.view_is
-      c.requires.right);
-}
+pub nullable-requires : goal.nullable-requires
+nullable-requires c =
+    stay_number c.walk_on.new.arena c.args.r c.codes-codes.result.now c.in_ok-stay.stay c.in_ok-stay.ensures.begins
+    (c.in_ok-stay.ensures.stay c.args.r c.requires.known (c.begin-begun.ensures.right c.args.arena.now
+    (parts_right c.args.arena.now c.self.inside.learnt c.self.inside.failed c.self.inside.walked c.args.self.now
+    c.self.view_is c.requires.right).walked c.requires.known))
 
-pub matches_from-requires-clause-known : goal.matches_from-requires-clause-known
-matches_from-requires-clause-known c = names_below c.begin.new.arena c.in_ok-place.rest _ c.in_ok-place.ensures.ok
+pub returns-then-place-first-clause-ok : goal.returns-then-place-first-clause-ok
+returns-then-place-first-clause-ok c =
+    stay_ended c.args.arena.now c.walk_on.new.arena c.args.r c.codes-codes.result.now c.args.word.now
+    c.in_ok-stay.stay c.nullable.result c.derivative_along_has_rests.ensures c.nullable_has_empty_word.ensures
+    c.codes-codes.ensures.value c.in_ok-stay.ensures.extends c.requires.known c.in_ok-stay.ensures.begins
+    (omega (arith, c.if-place-codes.false))
+    (c.in_ok-stay.ensures.stay c.args.r c.requires.known (c.begin-begun.ensures.right c.args.arena.now
+    (parts_right c.args.arena.now c.self.inside.learnt c.self.inside.failed c.self.inside.walked c.args.self.now
+    c.self.view_is c.requires.right).walked c.requires.known))
+    c.nullable.ensures
 
-pub matches_from-requires-clause-right : goal.matches_from-requires-clause-right
-matches_from-requires-clause-right c = record {
-  learnt = c.in_ok-place.ensures.right;
-  failed = failed_kept c.args.arena.now c.begin.new.arena c.self.inside.failed c.in_ok-place.ensures.extends
-      (failed_part c.args.arena.now c.self.inside.learnt c.self.inside.failed c.args.self.now c.self.view_is
-      c.requires.right);
-}
+pub returns-then-place-first-clause-right : goal.returns-then-place-first-clause-right
+returns-then-place-first-clause-right c =
+    learnt_changed c.args.arena.now c.walk_on.new.arena c.self.inside.learnt c.walk_on.new.self
+    c.self.inside.failed c.self.inside.walked c.args.self.now c.self.view_is c.requires.right
+    c.in_ok-stay.ensures.extends c.in_ok-stay.ensures.right
+
+pub returns-in_err-put-clause-right : goal.returns-in_err-put-clause-right
+returns-in_err-put-clause-right c =
+    let kept = learnt_changed c.args.arena.now c.walk_on.new.arena c.self.inside.learnt c.walk_on.new.self
+    c.self.inside.failed c.self.inside.walked c.args.self.now c.self.view_is c.requires.right
+    c.in_ok-stay.ensures.extends c.in_ok-stay.ensures.right in record {
+      learnt = kept.learnt;
+      failed = kept.failed;
+      walked = c.in_err-put.ensures c.walk_on.new.arena kept.walked
+          (number_kept c.args.arena.now c.walk_on.new.arena c.args.r c.in_ok-stay.ensures.extends c.requires.known)
+          (c.in_ok-stay.ensures.stay c.args.r c.requires.known (c.begin-begun.ensures.right c.args.arena.now
+          (parts_right c.args.arena.now c.self.inside.learnt c.self.inside.failed c.self.inside.walked c.args.self.now
+          c.self.view_is c.requires.right).walked c.requires.known));
+    }
+
+pub nullable-requires-2 : goal.nullable-requires-2
+nullable-requires-2 c =
+    stay_number c.walk_on.new.arena c.args.r c.codes-codes.result.now c.in_ok-stay.stay c.in_ok-stay.ensures.begins
+    (c.in_ok-stay.ensures.stay c.args.r c.requires.known (c.begin-begun.ensures.right c.args.arena.now
+    (parts_right c.args.arena.now c.self.inside.learnt c.self.inside.failed c.self.inside.walked c.args.self.now
+    c.self.view_is c.requires.right).walked c.requires.known))
 
 pub returns-clause-ok : goal.returns-clause-ok
 returns-clause-ok c =
-    IfOk-weaker c.matches_from.result _ _
-    (λ b h. matched_begun c.begin.new.arena _ c.codes-codes.result.now c.args.word.now c.in_ok-place.place
-    c.in_ok-place.rest b c.derivative_along_has_rests.ensures c.codes-codes.ensures.value c.in_ok-place.ensures.ok h)
-    c.matches_from.ensures.ok
+    stay_ended c.args.arena.now c.walk_on.new.arena c.args.r c.codes-codes.result.now c.args.word.now
+    c.in_ok-stay.stay c.nullable-2.result c.derivative_along_has_rests.ensures c.nullable_has_empty_word.ensures
+    c.codes-codes.ensures.value c.in_ok-stay.ensures.extends c.requires.known c.in_ok-stay.ensures.begins
+    (omega (arith, c.if-place-codes.false))
+    (c.in_ok-stay.ensures.stay c.args.r c.requires.known (c.begin-begun.ensures.right c.args.arena.now
+    (parts_right c.args.arena.now c.self.inside.learnt c.self.inside.failed c.self.inside.walked c.args.self.now
+    c.self.view_is c.requires.right).walked c.requires.known))
+    c.nullable-2.ensures
+
+pub returns-clause-right : goal.returns-clause-right
+returns-clause-right c =
+    let kept = learnt_changed c.args.arena.now c.walk_on.new.arena c.self.inside.learnt c.walk_on.new.self
+    c.self.inside.failed c.self.inside.walked c.args.self.now c.self.view_is c.requires.right
+    c.in_ok-stay.ensures.extends c.in_ok-stay.ensures.right in record {
+      learnt = kept.learnt;
+      failed = kept.failed;
+      walked = c.in_ok-put.ensures c.walk_on.new.arena kept.walked
+          (number_kept c.args.arena.now c.walk_on.new.arena c.args.r c.in_ok-stay.ensures.extends c.requires.known)
+          (c.in_ok-stay.ensures.stay c.args.r c.requires.known (c.begin-begun.ensures.right c.args.arena.now
+          (parts_right c.args.arena.now c.self.inside.learnt c.self.inside.failed c.self.inside.walked c.args.self.now
+          c.self.view_is c.requires.right).walked c.requires.known));
+    }

@@ -1,24 +1,43 @@
 use Rattle.std.proofs.Common.{◌∙◌, ap, drop}
 use Rattle.sb_lang.specs.Language.{language}
-use Rattle.sb_regex.proofs.CallerLemmas.{at_kept, names_below}
+use Rattle.sb_regex.proofs.CallerLemmas.{at_kept, extends_more, names_below}
 use Rattle.sb_plain.proofs.Along.{matched, slice_is, word_slice}
-use Rattle.sb_plain.proofs.Failing.{failed_kept, learnt_part, failed_part}
+use Rattle.sb_plain.proofs.Failing.{failed_kept, parts_right}
+use Rattle.sb_plain.proofs.Staying.{walked_kept}
 use Rattle.sb_plain.proofs.plain.Plain.matches_from.Goals as goal
 
 pub returns-in_err-turn_to-clause-right : goal.returns-in_err-turn_to-clause-right
-returns-in_err-turn_to-clause-right c = record {
-  learnt = learnt_part c.args.arena.now c.self.inside.learnt c.self.inside.failed c.args.self.now c.self.view_is
-      c.requires.right;
-  failed = c.in_err-turn_to.ensures.right c.args.arena.now
-      (failed_part c.args.arena.now c.self.inside.learnt c.self.inside.failed c.args.self.now c.self.view_is
-      c.requires.right);
-}
+returns-in_err-turn_to-clause-right c =
+    let parts = parts_right c.args.arena.now c.self.inside.learnt c.self.inside.failed c.self.inside.walked
+    c.args.self.now c.self.view_is c.requires.right in record {
+      learnt = parts.learnt;
+      failed = c.in_err-turn_to.ensures.right c.args.arena.now parts.failed;
+      walked = parts.walked;
+    }
 
 pub search-requires-clause-failed : goal.search-requires-clause-failed
 search-requires-clause-failed c =
-    c.in_ok-turn_to.ensures.right c.args.arena.now
-    (failed_part c.args.arena.now c.self.inside.learnt c.self.inside.failed c.args.self.now c.self.view_is
-    c.requires.right)
+    let parts = parts_right c.args.arena.now c.self.inside.learnt c.self.inside.failed c.self.inside.walked
+    c.args.self.now c.self.view_is c.requires.right in
+    c.in_ok-turn_to.ensures.right c.args.arena.now parts.failed
+
+pub returns-in_err-found-clause-right : goal.returns-in_err-found-clause-right
+returns-in_err-found-clause-right c = record {
+  learnt = c.in_err-found.ensures.right;
+  failed = c.in_err-found.ensures.failed;
+  walked = walked_kept c.args.arena.now c.search.new.arena c.self.inside.walked c.in_err-found.ensures.extends
+      (parts_right c.args.arena.now c.self.inside.learnt c.self.inside.failed c.self.inside.walked c.args.self.now
+      c.self.view_is c.requires.right).walked;
+}
+
+pub returns-in-Some-clause-right : goal.returns-in-Some-clause-right
+returns-in-Some-clause-right c = record {
+  learnt = c.in_ok-found.ensures.right;
+  failed = c.in_ok-found.ensures.failed;
+  walked = walked_kept c.args.arena.now c.search.new.arena c.self.inside.walked c.in_ok-found.ensures.extends
+      (parts_right c.args.arena.now c.self.inside.learnt c.self.inside.failed c.self.inside.walked c.args.self.now
+      c.self.view_is c.requires.right).walked;
+}
 
 pub along-requires-clause-word : goal.along-requires-clause-word
 along-requires-clause-word c = word_slice c.args.codes.now c.args.place c.requires.word
@@ -28,6 +47,11 @@ returns-in_err-rest-clause-right c = record {
   learnt = c.in_err-rest.ensures.right;
   failed = failed_kept c.search.new.arena c.along.new.arena c.search.new.failed c.in_err-rest.ensures.extends
       c.in_ok-found.ensures.failed;
+  walked = walked_kept c.args.arena.now c.along.new.arena c.self.inside.walked
+      (extends_more c.args.arena.now c.search.new.arena c.along.new.arena c.in_ok-found.ensures.extends
+      c.in_err-rest.ensures.extends)
+      (parts_right c.args.arena.now c.self.inside.learnt c.self.inside.failed c.self.inside.walked c.args.self.now
+      c.self.view_is c.requires.right).walked;
 }
 
 pub nullable-requires : goal.nullable-requires
@@ -46,4 +70,9 @@ returns-clause-right c = record {
   learnt = c.in_ok-rest.ensures.right;
   failed = failed_kept c.search.new.arena c.along.new.arena c.search.new.failed c.in_ok-rest.ensures.extends
       c.in_ok-found.ensures.failed;
+  walked = walked_kept c.args.arena.now c.along.new.arena c.self.inside.walked
+      (extends_more c.args.arena.now c.search.new.arena c.along.new.arena c.in_ok-found.ensures.extends
+      c.in_ok-rest.ensures.extends)
+      (parts_right c.args.arena.now c.self.inside.learnt c.self.inside.failed c.self.inside.walked c.args.self.now
+      c.self.view_is c.requires.right).walked;
 }
