@@ -1,4 +1,4 @@
--- What holds of the engine between the turns of a search.
+-- Private: what holds of the engine between the turns of a search.
 use Rattle.std.specs.Prelude.{[]}
 use Rattle.sb_clauses.specs.Propagation.{State}
 use Rattle.sb_analyze.specs.Reasons.{AreReasoned}
