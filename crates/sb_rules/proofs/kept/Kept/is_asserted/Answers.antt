@@ -1,5 +1,6 @@
 use Rattle.std.proofs.Common.{refl}
 use Rattle.sb_term.specs.Numbered.{term_at}
+use Rattle.sb_regex.proofs.CallerLemmas.{numbers_kept}
 use Rattle.sb_atoms.proofs.CallerLemmas.{atoms_kept}
 use Rattle.sb_rules.proofs.Staying.{same_kept}
 use Rattle.sb_rules.proofs.Clausal.{translated}
@@ -28,3 +29,29 @@ returns-clause-ok c = λ others.
     c.requires.over.whole.brought c.requires.simple
     (atoms_kept _ _ _ c.find_translation.ensures.arena c.requires.over.whole.atoms) c.in_ok-found.ensures.ok
     c.is_literal.ensures
+
+pub returns-in_err-found-clause-over : goal.returns-in_err-found-clause-over
+returns-in_err-found-clause-over c = record {
+  whole =
+      record {
+        regexes = numbers_kept _ _ _ c.find_translation.ensures.arena c.requires.over.whole.regexes;
+        plain = c.right_stays.ensures _ _ _ c.find_translation.ensures.arena c.requires.over.whole.plain;
+        atoms = c.find_translation.ensures.regexes;
+        brought = c.requires.over.whole.brought;
+      };
+  normals = c.find_translation.ensures.normals;
+  measures = c.find_translation.ensures.right;
+}
+
+pub returns-clause-over : goal.returns-clause-over
+returns-clause-over c = record {
+  whole =
+      record {
+        regexes = numbers_kept _ _ _ c.find_translation.ensures.arena c.requires.over.whole.regexes;
+        plain = c.right_stays.ensures _ _ _ c.find_translation.ensures.arena c.requires.over.whole.plain;
+        atoms = c.find_translation.ensures.regexes;
+        brought = c.requires.over.whole.brought;
+      };
+  normals = c.find_translation.ensures.normals;
+  measures = c.find_translation.ensures.right;
+}
