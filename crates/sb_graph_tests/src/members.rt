@@ -154,8 +154,20 @@ fn push_ends(
 /// many regexes more than the members there may be then.
 const FRONTS: [(&[u8], &[u8], &[u8], usize, usize); 5] = [
     (b"abcdefghijklmnopqrstuvwxyz", b"", b"", 26, 3),
-    (b"aaaaaaaaaaaaaaaaaaaabaaaaaaaaaaaaaaaaaaaa", b"", b"", 41, 3),
-    (b"aaaaaaaaaaaaaaaaaaaa", b"aaaaaaaaaaaaaaaaaaaab", b"", 21, 3),
+    (
+        b"aaaaaaaaaaaaaaaaaaaabaaaaaaaaaaaaaaaaaaaa",
+        b"",
+        b"",
+        41,
+        3,
+    ),
+    (
+        b"aaaaaaaaaaaaaaaaaaaa",
+        b"aaaaaaaaaaaaaaaaaaaab",
+        b"",
+        21,
+        3,
+    ),
     (b"aaaaaaaaaaaaaaaaaaaa", b"aaaaaaaaaab", b"", 1000000, 100),
     (b"abcabcabcabcabcabcabcabc", b"", b"cabcabcabcabc", 24, 400),
 ];
