@@ -4,3 +4,5 @@ pub mod WordLemmas
 pub mod HexLemmas
 pub mod LiteralLemmas
 pub mod OneWord
+pub mod EscapeLemmas
+pub mod LiteralWordLemmas

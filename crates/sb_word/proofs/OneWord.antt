@@ -1,5 +1,5 @@
 -- A literal stands for one word: what its first character is, and where the rest begins, is determined.
-use Rattle.std.proofs.Common.{◌≡◌, ℕ, ◌+◌, ◌*◌, false, eqb, List, [], ◌∷◌, ◌++◌, length, take, drop, refl, sym, ap, ◌∙◌, subst, inl, inr, Option, Some, None, arith}
+use Rattle.std.proofs.Common.{◌≡◌, ℕ, false, eqb, List, [], ◌∷◌, ◌++◌, length, take, drop, refl, sym, ap, ◌∙◌, subst, inl, inr, Option, Some, None, arith}
 use Rattle.std.proofs.lemmas.List.{take_at, drop_at}
 use Rattle.sb_word.proofs.CallerLemmas.{AreHex, are_hex}
 use Rattle.sb_word.proofs.LiteralLemmas.{head_same, tail_same}

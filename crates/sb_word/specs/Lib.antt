@@ -1,3 +1,5 @@
 pub mod Words
 pub mod Faults
 pub mod Literals
+pub mod LiteralWords
+pub mod LiteralExamples

@@ -7,5 +7,8 @@
 mod literal;
 mod word;
 
-pub use literal::{literal_stands_for_one_word, print_literal};
+pub use literal::{
+    literal_has_its_word, literal_stands_for_one_word, print_literal, rest_has_its_word,
+    text_is_literal,
+};
 pub use word::{CodesError, Word};

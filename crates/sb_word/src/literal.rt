@@ -3,6 +3,7 @@
 ghost use Rattle.std.specs.Prelude.{◌≡◌, ◌++◌, IfOk, OnOk};
 ghost use Rattle.std.specs.String.{string_bytes};
 ghost use Rattle.sb_word.specs.Literals.{character_text, literal_text, Literal, StandsForOneWord};
+ghost use Rattle.sb_word.specs.LiteralWords.{LiteralHasItsWord, RestHasItsWord, TextIsLiteral};
 
 use crate::word::Word;
 use std::alloc::{AllocError, Global};
@@ -38,4 +39,20 @@ fn push_character(text: &mut String, code: u32) -> Result<(), AllocError>
 /// are equal. It does nothing.
 pub fn literal_stands_for_one_word()
     ensures { StandsForOneWord }
+{}
+
+/// The law that bytes all of which a literal holds are a literal of the word that is computed from them. It does
+/// nothing.
+pub fn text_is_literal()
+    ensures { TextIsLiteral }
+{}
+
+/// The law that a literal holds no bad byte, and stands for the word that is computed from it. It does nothing.
+pub fn literal_has_its_word()
+    ensures { LiteralHasItsWord }
+{}
+
+/// The law that the word behind so many bytes of a literal is the word of the bytes that are left. It does nothing.
+pub fn rest_has_its_word()
+    ensures { RestHasItsWord }
 {}
