@@ -6,7 +6,7 @@ use Rattle.std.proofs.lemmas.Bool.Decides.{nat_tests}
 use Rattle.std.proofs.lemmas.List.{append_assoc, length-append}
 use Rattle.std.proofs.lemmas.List.Folds.{list_all-append}
 use Rattle.sb_word.specs.Literals.{hex_value, hex_number_from, is_printable, IsEscape, BeginsWithEscape}
-use Rattle.sb_word.proofs.CallerLemmas.{AreHex, are_hex}
+use Rattle.sb_word.proofs.DigitLemmas.{AreHex, are_hex}
 use Rattle.sb_word.specs.LiteralWords.{Spelled, before_brace, character_of, in_braces, of_four, escape_behind, escape_in_front}
 
 -- Digits.

@@ -6,7 +6,7 @@ use Rattle.std.proofs.lemmas.Bool.Decides.{nat_tests}
 use Rattle.sb_word.specs.Words.{are_characters, IsFirstOutside}
 use Rattle.sb_word.specs.Literals.{hex_value, hex_number_from, IsEscape, is_printable, Literal, literal_text}
 use Rattle.sb_word.proofs.LiteralLemmas.{tail_same, no_escape}
-use Rattle.sb_word.proofs.CallerLemmas.{are_hex}
+use Rattle.sb_word.proofs.DigitLemmas.{are_hex}
 use Rattle.sb_word.proofs.OneWord.{same_value, same_braced, four_not_braced}
 
 last_character : are_characters (97 ∷ 0x2ffff ∷ []) ≡ true

@@ -5,7 +5,7 @@ use Rattle.std.proofs.lemmas.Fmt.{digits_is_IsNumeral}
 use Rattle.std.proofs.lemmas.Bool.Decides.{nat_tests}
 use Rattle.std.proofs.Math.Nat.{pow-suc, pow-zero}
 use Rattle.sb_word.specs.Literals.{hex_number_from}
-use Rattle.sb_word.proofs.CallerLemmas.{hex_number-glyph}
+use Rattle.sb_word.proofs.DigitLemmas.{hex_number-glyph}
 
 -- the last step of the digits, and each step before it
 digits_onto_by : (k n : ℕ) (bs : List ℕ) (t : Bool) → eqb (n / 16) 0 ≡ t

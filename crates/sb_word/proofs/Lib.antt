@@ -1,4 +1,5 @@
 pub mod CallerLemmas
+pub mod DigitLemmas
 mod Examples
 pub mod WordLemmas
 pub mod HexLemmas
@@ -6,3 +7,4 @@ pub mod LiteralLemmas
 pub mod OneWord
 pub mod EscapeLemmas
 pub mod LiteralWordLemmas
+pub mod FrontLemmas

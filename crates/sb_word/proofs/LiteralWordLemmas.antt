@@ -1,9 +1,11 @@
 -- The word that is read from the bytes of a literal is its word, and bytes all of which a literal holds are one.
-use Rattle.std.proofs.Common.{◌≡◌, ℕ, zero, suc, ◌+◌, ◌-◌, ◌≤◌, Bool, true, false, not, nat_eq, if◌then◌else◌, List, [], ◌∷◌, ◌++◌, length, drop, Option, Some, None, option_map, refl, sym, ap, ◌∙◌, subst, inl, inr, arith}
+use Rattle.std.proofs.Common.{◌≡◌, ℕ, zero, suc, ◌+◌, ◌-◌, ◌*◌, ◌≤◌, Bool, true, false, not, nat_eq, if◌then◌else◌, List, [], ◌∷◌, ◌++◌, length, drop, Option, Some, None, option_map, refl, sym, ap, ◌∙◌, subst, inl, inr, arith}
 use Rattle.std.specs.List.{list_all}
 use Rattle.std.proofs.lemmas.Bool.{and_parts, and_from, eqb-true, not-true}
+use Rattle.std.proofs.lemmas.Bool.Decides.{nat_tests}
 use Rattle.std.proofs.lemmas.List.{drop_at, length-append}
-use Rattle.sb_word.specs.Literals.{is_printable, IsEscape, Spells, Literal}
+use Rattle.sb_word.specs.Words.{is_character, are_characters}
+use Rattle.sb_word.specs.Literals.{hex_value, hex_number_from, is_printable, IsEscape, Spells, Literal}
 use Rattle.sb_word.specs.LiteralWords.{Spelled, escape_in_front, in_front, word_of_literal, first_bad, first_bad_behind_quote, TextIsLiteral, LiteralHasItsWord, RestHasItsWord}
 use Rattle.sb_word.proofs.EscapeLemmas.{is_plain, escape_is_plain, front_spelled, escape_found}
 use Rattle.sb_word.proofs.OneWord.{stands_for_one_word}
@@ -45,6 +47,67 @@ behind_plain (b ∷ bs) rest plain =
 none_moved : (n : ℕ) (o : Option ℕ) → option_map (λ place. place + n) o ≡ None → o ≡ None
 none_moved n None h = refl
 none_moved n (Some place) h = absurd (Prim.cc (h))
+
+-- Characters.
+
+hex_low : (b d : ℕ) → hex_value b ≡ Some d → d ≤ 15
+unfolding hex_value
+hex_low b d h = grind (arith, nat_tests)
+
+record NextDigit (m : ℕ) (bs : List ℕ) (n : ℕ) : Type 0 where
+  digit : ℕ
+  low : digit ≤ 15
+  rest : hex_number_from (16 * m + digit) bs ≡ Some n
+
+next_digit : (m b : ℕ) (bs : List ℕ) (n : ℕ) → hex_number_from m (b ∷ bs) ≡ Some n → NextDigit m bs n
+unfolding hex_number_from
+next_digit m b bs n h = step (hex_value b) refl h
+  where
+    step : (o : Option ℕ) → hex_value b ≡ o
+        → (elim o as (λ _. Option ℕ) [ None ↦ None | Some d ↦ hex_number_from (16 * m + d) bs ]) ≡ Some n
+        → NextDigit m bs n
+    step None is h = absurd (Prim.cc (h))
+    step (Some d) is h = record { digit = d; low = hex_low b d is; rest = h }
+
+no_more : (m n : ℕ) → hex_number_from m [] ≡ Some n → m ≡ n
+unfolding hex_number_from
+no_more m n h = Prim.cc (h)
+
+four_low : (ds : List ℕ) (n : ℕ) → length ds ≡ 4 → hex_number_from 0 ds ≡ Some n → n ≤ 65535
+four_low (a ∷ b ∷ c ∷ d ∷ []) n four h =
+    let one = next_digit 0 a (b ∷ c ∷ d ∷ []) n h in
+    let two = next_digit (16 * 0 + one.digit) b (c ∷ d ∷ []) n one.rest in
+    let three = next_digit (16 * (16 * 0 + one.digit) + two.digit) c (d ∷ []) n two.rest in
+    let last = next_digit (16 * (16 * (16 * 0 + one.digit) + two.digit) + three.digit) d [] n three.rest in
+    let all =
+    no_more (16 * (16 * (16 * (16 * 0 + one.digit) + two.digit) + three.digit) + last.digit) n last.rest in
+    omega (arith, all, one.low, two.low, three.low, last.low)
+four_low [] n four h = absurd (omega arith)
+four_low (a ∷ []) n four h = absurd (omega arith)
+four_low (a ∷ b ∷ []) n four h = absurd (omega arith)
+four_low (a ∷ b ∷ c ∷ []) n four h = absurd (omega arith)
+four_low (a ∷ b ∷ c ∷ d ∷ e ∷ ds) n four h = absurd (omega arith)
+
+low_is_character : (c : ℕ) → c ≤ 0x2ffff → is_character c ≡ true
+low_is_character c h = grind (arith, nat_tests)
+
+printable_is_low : (c : ℕ) → is_printable c ≡ true → c ≤ 0x7e
+printable_is_low c h = grind (arith, nat_tests)
+
+-- what is spelled is a character
+pub spelled_character : (front rest : List ℕ) (c : ℕ) → Spells front rest c → is_character c ≡ true
+spelled_character front rest c (inl p) = ap is_character p.1
+spelled_character front rest c (inr (inl (inl p))) =
+    low_is_character c (omega (arith, four_low p.digits c p.four p.number))
+spelled_character front rest c (inr (inl (inr p))) = low_is_character c p.character
+spelled_character front rest c (inr (inr p)) =
+    low_is_character c (omega (arith, printable_is_low c p.printable))
+
+-- so a literal is one of a word
+pub literal_is_word : (w bytes : List ℕ) → Literal bytes w → are_characters w ≡ true
+literal_is_word [] bytes p = refl
+literal_is_word (c ∷ w) bytes p =
+    and_from (is_character c) (are_characters w) (spelled_character p.0 p.1 c p.3) (literal_is_word w p.1 p.4)
 
 -- What is spelled in front.
 

@@ -1,7 +1,7 @@
 -- A literal stands for one word: what its first character is, and where the rest begins, is determined.
 use Rattle.std.proofs.Common.{◌≡◌, ℕ, false, eqb, List, [], ◌∷◌, ◌++◌, length, take, drop, refl, sym, ap, ◌∙◌, subst, inl, inr, Option, Some, None, arith}
 use Rattle.std.proofs.lemmas.List.{take_at, drop_at}
-use Rattle.sb_word.proofs.CallerLemmas.{AreHex, are_hex}
+use Rattle.sb_word.proofs.DigitLemmas.{AreHex, are_hex}
 use Rattle.sb_word.proofs.LiteralLemmas.{head_same, tail_same}
 use Rattle.sb_word.specs.Literals.{hex_value, hex_number_from, IsEscape, StandsForItself, Spells, Literal, StandsForOneWord}
 

@@ -3,3 +3,5 @@ pub mod Faults
 pub mod Literals
 pub mod LiteralWords
 pub mod LiteralExamples
+pub mod Refusals
+pub mod Spelling

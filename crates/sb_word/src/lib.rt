@@ -4,11 +4,15 @@
 //! layers above print words as literals and keep them as witnesses.
 #![tactic(auto)]
 
+mod escape;
 mod literal;
+mod read;
 mod word;
 
+pub use escape::read_character;
 pub use literal::{
     literal_has_its_word, literal_stands_for_one_word, print_literal, rest_has_its_word,
     text_is_literal,
 };
+pub use read::{LiteralError, read_literal};
 pub use word::{CodesError, Word};

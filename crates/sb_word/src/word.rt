@@ -9,7 +9,7 @@ use std::marker::Model;
 use thiserror::Error;
 
 /// The last character: the theory's characters are the numbers from 0 to this one.
-const LAST_CHARACTER: u32 = 0x2ffff;
+pub(crate) const LAST_CHARACTER: u32 = 0x2ffff;
 
 /// A word: a list of characters.
 #[derive(Debug, Drop)]
@@ -53,12 +53,28 @@ impl Word {
         Ok(Word { codes })
     }
 
+    /// The word of these characters.
+    pub(crate) fn of_characters(codes: Vec<u32>) -> Word
+        requires { IsWord codes.items }
+        ensures { result ≡ codes.items }
+    {
+        Word { codes }
+    }
+
     /// The characters, in order. Takes no memory.
     pub fn codes(&self) -> &[u32]
         ensures value { result.now ≡ self.now }
         ensures word { IsWord self.now }
     {
         self.codes.as_slice()
+    }
+
+    /// The characters, in order, in place of the word. Takes no memory.
+    pub fn into_codes(self) -> Vec<u32>
+        ensures value { result.items ≡ self }
+        ensures word { IsWord self }
+    {
+        self.codes
     }
 }
 
