@@ -1,10 +1,10 @@
 -- Each term that is read is simple where it is a truth value, a String constant or a word where it is a text, and over
 -- literals or with a constant in it where it is a regular expression.
 use Rattle.std.proofs.Common.{◌≡◌, ℕ, Bool, true, false, not, ◌&&◌, ◌||◌, ◌==◌, nat_le, if◌then◌else◌, List, [], ◌∷◌, map, length, codes, Option, Some, None, Result, Ok, Err, refl, sym, ap, ◌∙◌, subst}
-use Rattle.std.specs.Prelude.{filter}
+use Rattle.std.specs.Prelude.{filter, is_some}
 use Rattle.std.specs.List.{list_all}
 use Rattle.std.proofs.lemmas.Bool.{and_parts, and_from, false≢true}
-use Rattle.sb_word.specs.Literals.{is_printable}
+use Rattle.sb_word.specs.LiteralWords.{character_of, word_of_literal, first_bad}
 use Rattle.sb_reader.specs.Forms.{Form, Forms, Symbol, QuotedSymbol, Keyword, Numeral, OtherNumber, Words, Group, none, more}
 use Rattle.sb_meaning.specs.Terms.{Sort, boolean, integer, text, reglan, Term, Terms, constant, word, numeral, apply, parameter, no_terms, with_term, terms_of}
 use Rattle.sb_meaning.specs.Terms as symbol
@@ -14,9 +14,9 @@ use Rattle.sb_script.specs.Brought.{is_brought_symbol, is_regex, are_regexes}
 use Rattle.sb_script.specs.Pieces.{is_ground, are_ground}
 use Rattle.sb_script.specs.Scopes.{Named, Naming, a_constant, a_definition, a_marked_name, a_term, named}
 use Rattle.sb_script.specs.Symbols.{found_in, symbols_of_theories, is_brought_row, symbol_named, is_left_out}
-use Rattle.sb_script.specs.Faults.{Fault, unknown_symbol, wrong_count, wrong_sort, unsupported, malformed, bad_literal}
-use Rattle.sb_script.specs.Texts.{unquoted, has_backslash, read_text}
-use Rattle.sb_script.specs.Heads.{Head, head_constant, head_symbol, head_definition, head_term, head_of, head_of_theory, without_indices, judged, joined, made, unless, read_head, applied_to, read_indexed}
+use Rattle.sb_script.specs.Faults.{Fault, unknown_symbol, wrong_count, wrong_sort, unsupported, malformed, bad_index, bad_literal}
+use Rattle.sb_script.specs.Texts.{read_text}
+use Rattle.sb_script.specs.Heads.{Head, head_constant, head_symbol, head_definition, head_term, head_of, head_of_theory, hexadecimal_digits, character_word, without_indices, judged, joined, made, unless, read_head, applied_to, read_indexed}
 use Rattle.sb_script.specs.Reading.{◌>>=◌, read_name, read_index_list, read_reserved, read, read_list, read_all, read_list_head}
 use Rattle.sb_script.specs.ReadingLaws.{if_read}
 use Rattle.sb_script.proofs.CallerLemmas.{same_sort}
@@ -215,7 +215,7 @@ abbrev head_shallow : Head → Bool
 head_shallow (head_constant serial sort) = is_shallow (constant serial sort)
 head_shallow (head_symbol s) = is_brought_symbol s
 head_shallow (head_definition own body) = false
-head_shallow (head_term t) = false
+head_shallow (head_term t) = is_shallow t
 
 by_test : {A : Type 0} (p : A → Bool) (b : Bool) (x y : Result A Fault) → if_read p x ≡ true → if_read p y ≡ true
     → if_read p (if b then x else y) ≡ true
@@ -239,7 +239,8 @@ applied_shallow (head_constant serial sort) (t ∷ ts) h all = refl
 applied_shallow (head_symbol s) ts h all =
     unless_shallow (judged s (map sort_of ts)) (made s ts) (made_shallow s ts h all)
 applied_shallow (head_definition own body) ts h all = absurd (false≢true h)
-applied_shallow (head_term t) ts h all = absurd (false≢true h)
+applied_shallow (head_term t) [] h all = h
+applied_shallow (head_term t) (u ∷ us) h all = refl
 
 named_head : (kind : Named) → is_simple_named kind ≡ true → if_read head_shallow (head_of kind) ≡ true
 named_head (a_constant serial text) h = refl
@@ -268,12 +269,23 @@ named_passes (n ∷ ns) name all =
     let parts = and_parts (is_simple_naming n) (list_all is_simple_naming ns) all in
     some_by is_simple_named (is_name name n.0) (Some n.1) (named ns name) parts.0 (named_passes ns name parts.1)
 
--- no head with indices is brought
+-- (_ char #xH)
+character_shallow : (indices : Forms) → if_read head_shallow (character_word indices) ≡ true
+character_shallow (more (OtherNumber bytes) none) = step (character_of (hexadecimal_digits bytes))
+  where
+    step : (o : Option ℕ) → if_read head_shallow
+        (elim o as (λ _. Result Head Fault) [ Some c ↦ Ok (head_term (word (c ∷ []))) | None ↦ Err bad_index ]) ≡ true
+    step (Some c) = refl
+    step None = refl
+character_shallow _ = refl
+
+-- no other head with indices is brought
 no_indices : (name : Name) (indices : Forms) (r : Result Head Fault)
     → if_read head_shallow (without_indices name indices r) ≡ true
 no_indices name indices (Ok head) = refl
 no_indices name indices (Err (unknown_symbol unknown)) =
-    by_test head_shallow (is_name name (codes "char")) (Err unsupported) (Err (unknown_symbol unknown)) refl refl
+    by_test head_shallow (is_name name (codes "char")) (character_word indices) (Err (unknown_symbol unknown))
+    (character_shallow indices) refl
 no_indices name indices (Err _) = refl
 
 -- Reading, where these names are in force.
@@ -308,9 +320,7 @@ module _ (names : List Naming) (fit : list_all is_simple_naming names ≡ true) 
 
   text_read : (bytes : List ℕ) → if_read is_shallow (read_text bytes) ≡ true
   text_read bytes =
-      by_test is_shallow (not (list_all is_printable bytes)) (Err bad_literal)
-      (if has_backslash bytes then Err unsupported else Ok (word (unquoted bytes))) refl
-      (by_test is_shallow (has_backslash bytes) (Err unsupported) (Ok (word (unquoted bytes))) refl refl)
+      by_test is_shallow (is_some (first_bad bytes)) (Err bad_literal) (Ok (word (word_of_literal bytes))) refl refl
 
   -- a head with its arguments
   with_arguments_read : (head : Result Head Fault) (arguments : Result (List Term) Fault)

@@ -1,6 +1,4 @@
 pub mod CallerLemmas
-mod EscapeFacts
-mod LiteralFacts
 mod ReadingFacts
 mod SortedTerms
 mod SortedSteps

@@ -8,11 +8,12 @@ use Rattle.sb_meaning.specs.Terms.{Sort, Term, word}
 use Rattle.sb_meaning.specs.Terms as symbol
 use Rattle.sb_meaning.specs.Sorts.{sort_of}
 use Rattle.sb_script.specs.Names.{Name, is_name, is_reserved, begins_term}
-use Rattle.sb_script.specs.Brought.{escapes, numerals, lets, is_brought}
+use Rattle.sb_script.specs.Brought.{numerals, lets, is_brought}
 use Rattle.sb_script.specs.Scopes.{Named, Naming, a_constant, a_definition, a_marked_name, a_term, named}
 use Rattle.sb_script.specs.Symbols.{symbol_named, is_indexed, is_left_out}
 use Rattle.sb_script.specs.Faults.{Fault, unknown_symbol, bad_index, unsupported, numeral_too_large, malformed, already_bound}
-use Rattle.sb_script.specs.Texts.{character_of, read_numeral}
+use Rattle.sb_word.specs.LiteralWords.{character_of}
+use Rattle.sb_script.specs.Texts.{read_numeral}
 use Rattle.sb_script.specs.Heads.{Head, head_constant, head_symbol, head_definition, head_term, head_of, head_of_theory, indices_of, are_small_indices, symbol_with, if_small_indices, with_indices, hexadecimal_digits, character_word, without_indices, judged, made, with_arguments, unless, judged_definition, read_head, applied_to, read_indexed}
 use Rattle.sb_script.specs.Reading.{◌>>=◌, read_name, read_index_list, read_reserved, is_let, first_again, names_in, once, read, read_list, read_all, read_list_head, read_let, read_bindings}
 use Rattle.sb_script.specs.ReadingLaws.{if_read, IsKept, passes}
@@ -143,9 +144,7 @@ module _ (test : List Sort → Term → Bool) (is_declared : ℕ → Sort → Bo
   unindexed_head name indices (Ok head) = refl
   unindexed_head name indices (Err (unknown_symbol unknown)) =
       by_test head_fine (is_name name (codes "char"))
-      (if is_brought escapes then character_word indices else Err unsupported) (Err (unknown_symbol unknown))
-      (by_test head_fine (is_brought escapes) (character_word indices) (Err unsupported) (character_head indices) refl)
-      refl
+      (character_word indices) (Err (unknown_symbol unknown)) (character_head indices) refl
   unindexed_head name indices (Err _) = refl
 
   indexed_read : (names : List Naming) (name : Name) (indices : Forms)

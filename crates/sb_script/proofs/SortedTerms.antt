@@ -1,17 +1,16 @@
 -- Each term that is read is well sorted, where what the names in force stand for is.
 use Rattle.std.proofs.Common.{◌≡◌, ℕ, zero, suc, Bool, true, false, not, ◌==◌, nat_le, if◌then◌else◌, List, [], ◌∷◌, map, length, slice_get, Some, None, unwrap_or, Ok, Err, refl, sym, ap, ap₂, ◌∙◌}
-use Rattle.std.specs.Prelude.{is_none}
+use Rattle.std.specs.Prelude.{is_none, is_some}
 use Rattle.std.specs.List.{list_all}
 use Rattle.std.proofs.lemmas.Bool.{and_parts, and_from, false≢true}
-use Rattle.sb_word.specs.Literals.{is_printable}
+use Rattle.sb_word.specs.LiteralWords.{word_of_literal, first_bad}
 use Rattle.sb_reader.specs.Forms.{Form}
 use Rattle.sb_meaning.specs.Terms.{Sort, boolean, integer, text, reglan, Term, Terms, constant, word, numeral, apply, parameter, no_terms, with_term, terms_in, terms_of}
 use Rattle.sb_meaning.specs.Terms as symbol
 use Rattle.sb_meaning.specs.Sorts.{sort_of, is_same_sort, are_sorts, is_of_one}
-use Rattle.sb_script.specs.Brought.{escapes, is_brought}
 use Rattle.sb_script.specs.Scopes.{Naming}
 use Rattle.sb_script.specs.Faults.{unsupported, bad_literal, numeral_too_large, wrong_count, wrong_sort}
-use Rattle.sb_script.specs.Texts.{word_of_literal, unquoted, has_backslash, read_text, number_of}
+use Rattle.sb_script.specs.Texts.{read_text, number_of}
 use Rattle.sb_script.specs.Heads.{judged, joined, made, with_arguments, each_with_arguments, judged_definition}
 use Rattle.sb_script.specs.Reading.{read}
 use Rattle.sb_script.specs.WellSorted.{is_parameter_of, is_well_sorted_over, are_well_sorted_over}
@@ -159,13 +158,8 @@ definition_sorted ps own body ts h all taken =
 
 text_sorted : (ps : List Sort) (bytes : List ℕ) → if_read (is_well_sorted_over ps) (read_text bytes) ≡ true
 text_sorted ps bytes =
-    by_test (is_well_sorted_over ps) (not (list_all is_printable bytes)) (Err bad_literal)
-    (if is_brought escapes then Ok (word (word_of_literal bytes))
-    else if has_backslash bytes then Err unsupported
-    else Ok (word (unquoted bytes))) refl
-    (by_test (is_well_sorted_over ps) (is_brought escapes) (Ok (word (word_of_literal bytes)))
-    (if has_backslash bytes then Err unsupported else Ok (word (unquoted bytes))) refl
-    (by_test (is_well_sorted_over ps) (has_backslash bytes) (Err unsupported) (Ok (word (unquoted bytes))) refl refl))
+    by_test (is_well_sorted_over ps) (is_some (first_bad bytes)) (Err bad_literal) (Ok (word (word_of_literal bytes))) refl
+    refl
 
 pub sorted_is_kept : IsKept is_well_sorted_over (λ serial sort. true)
 sorted_is_kept = record {

@@ -11,8 +11,6 @@ pub data Feature : Type 0 where
   a_sort : Sort → Feature
   a_command : Name → Feature
   an_option : Name → Feature
-  -- escapes in literals, and (_ char #xH)
-  escapes : Feature
   -- numerals as terms
   numerals : Feature
   lets : Feature
@@ -76,7 +74,6 @@ is_brought (a_symbol s) = is_brought_symbol s
 is_brought (a_sort sort) = is_brought_sort sort
 is_brought (a_command name) = is_among brought_commands name
 is_brought (an_option name) = is_among brought_options name
-is_brought escapes = false
 is_brought numerals = false
 is_brought lets = false
 is_brought functions = true

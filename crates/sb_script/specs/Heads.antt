@@ -7,11 +7,11 @@ use Rattle.sb_meaning.specs.Terms.{Sort, Term, Terms, constant, word, numeral, a
 use Rattle.sb_meaning.specs.Terms as symbol
 use Rattle.sb_meaning.specs.Sorts.{arity_of, is_of_one, sort_of, are_sorts, is_count, takes_sorts, is_left_out_use}
 use Rattle.sb_script.specs.Names.{Name, is_name}
-use Rattle.sb_script.specs.Brought.{escapes, is_brought}
 use Rattle.sb_script.specs.Symbols.{symbol_named, is_indexed, is_left_out}
 use Rattle.sb_script.specs.Scopes.{Naming, Named, a_constant, a_definition, a_marked_name, a_term, named}
 use Rattle.sb_script.specs.Faults.{Fault, unknown_symbol, wrong_sort, wrong_count, bad_index, unsupported, numeral_too_large}
-use Rattle.sb_script.specs.Texts.{number_of, character_of}
+use Rattle.sb_script.specs.Texts.{number_of}
+use Rattle.sb_word.specs.LiteralWords.{character_of}
 
 -- What takes arguments, some of them none.
 pub data Head : Type 0 where
@@ -82,7 +82,7 @@ character_word _ = Err bad_index
 abbrev pub without_indices : Name → Forms → Result Head Fault → Result Head Fault
 without_indices name indices (Ok head) = Err bad_index
 without_indices name indices (Err (unknown_symbol unknown)) =
-    if is_name name (codes "char") then (if is_brought escapes then character_word indices else Err unsupported)
+    if is_name name (codes "char") then character_word indices
     else Err (unknown_symbol unknown)
 without_indices name indices (Err fault) = Err fault
 

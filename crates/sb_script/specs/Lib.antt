@@ -4,7 +4,6 @@ pub mod Scopes
 pub mod Symbols
 pub mod Faults
 pub mod Texts
-pub mod TextLaws
 pub mod TextExamples
 pub mod Heads
 pub mod SymbolExamples

@@ -1,6 +1,7 @@
 -- Computed examples of how terms are read, and of names.
 use Rattle.std.specs.Prelude.{◌≡◌, List, [], ◌∷◌, codes, Ok, Err, refl}
-use Rattle.sb_reader.specs.Forms.{Form, Forms, Symbol, QuotedSymbol, Keyword, Numeral, Words, Group, none, more}
+use Rattle.sb_reader.specs.Forms.{Form, Forms, Symbol, QuotedSymbol, Keyword, Numeral, OtherNumber, Words, Group, none, more}
+use Rattle.sb_word.specs.Literals.{hex_value, hex_number_from}
 use Rattle.sb_script.specs.Names.{name_text, name_in_text}
 use Rattle.sb_meaning.specs.Terms.{Term, text, constant, word, apply, no_terms, with_term}
 use Rattle.sb_meaning.specs.Terms as symbol
@@ -106,7 +107,7 @@ a_let_is_left_out = refl
 reserved_in_a_term : read names (Symbol (codes "let")) ≡ Err malformed
 reserved_in_a_term = refl
 
--- ((_ re.^ 2) x) and (_ x 2) and (_ char #x61)
+-- ((_ re.^ 2) x) and (_ x 2)
 power_is_left_out : read names
     (group (group (Symbol (codes "_") ∷ Symbol (codes "re.^") ∷ Numeral (codes "2") ∷ []) ∷ x ∷ [])) ≡ Err unsupported
 power_is_left_out = refl
@@ -126,6 +127,30 @@ no_index_of_a_head : read names (group (group (Symbol (codes "_") ∷ Symbol (co
     ≡ Err malformed
 no_index_of_a_head = refl
 
+-- (_ char #x61) is a word, and takes no arguments; (_ char #x30000) is no character; where char is declared it is no more
+a_character : read names (group (Symbol (codes "_") ∷ Symbol (codes "char") ∷ OtherNumber (codes "#x61") ∷ []))
+    ≡ Ok (word (codes "a"))
+unfolding hex_value hex_number_from
+a_character = refl
+
+arguments_of_a_character : read names
+    (group (group (Symbol (codes "_") ∷ Symbol (codes "char") ∷ OtherNumber (codes "#x61") ∷ []) ∷ x ∷ []))
+    ≡ Err wrong_count
+unfolding hex_value hex_number_from
+arguments_of_a_character = refl
+
+no_character : read names (group (Symbol (codes "_") ∷ Symbol (codes "char") ∷ OtherNumber (codes "#x30000") ∷ []))
+    ≡ Err bad_index
+unfolding hex_value hex_number_from
+no_character = refl
+
+a_constant_char : read ((codes "char", a_constant 1 text) ∷ names)
+    (group (Symbol (codes "_") ∷ Symbol (codes "char") ∷ OtherNumber (codes "#x61") ∷ [])) ≡ Err bad_index
+a_constant_char = refl
+
+char_alone : read names (Symbol (codes "char")) ≡ Err (unknown_symbol (codes "char"))
+char_alone = refl
+
 -- a constant |let| is not reached by a bare let
 a_constant_let : read ((codes "let", a_constant 1 text) ∷ names) (QuotedSymbol (codes "let")) ≡ Ok (constant 1 text)
 a_constant_let = refl
@@ -143,15 +168,20 @@ left_out_symbol = refl
 no_keyword : read names (Keyword (codes ":named")) ≡ Err malformed
 no_keyword = refl
 
--- "x""y" is three characters; a byte above 126 is no literal; a backslash may begin an escape
+-- "x""y" is three characters; a byte above 126 is no literal; a backslash that begins no escape
+-- stands for itself
 doubled_quote : read names (Words (codes "x\"\"y")) ≡ Ok (word (codes "x\"y"))
 doubled_quote = refl
 
 no_literal : read names (Words (92 ∷ 128 ∷ [])) ≡ Err bad_literal
 no_literal = refl
 
-may_be_an_escape : read names (Words (92 ∷ [])) ≡ Err unsupported
-may_be_an_escape = refl
+no_escape : read names (Words (92 ∷ [])) ≡ Ok (word (92 ∷ []))
+no_escape = refl
+
+an_escape : read names (Words (codes "\\u{61}")) ≡ Ok (word (codes "a"))
+unfolding hex_value hex_number_from
+an_escape = refl
 
 -- let is reserved, and printed between bars; so is a name with a space; a quote is doubled within a text
 printed_between_bars : name_text (codes "let") ≡ codes "|let|"

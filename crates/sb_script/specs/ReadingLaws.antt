@@ -6,7 +6,8 @@ use Rattle.sb_meaning.specs.Terms.{Sort, Symbol, Term, constant, word}
 use Rattle.sb_meaning.specs.Sorts.{sort_of}
 use Rattle.sb_script.specs.Scopes.{Named, Naming, a_constant, a_definition, a_marked_name, a_term}
 use Rattle.sb_script.specs.Faults.{Fault}
-use Rattle.sb_script.specs.Texts.{character_of, read_text, read_numeral}
+use Rattle.sb_word.specs.LiteralWords.{character_of}
+use Rattle.sb_script.specs.Texts.{read_text, read_numeral}
 use Rattle.sb_script.specs.Heads.{judged, judged_definition, made, with_arguments}
 use Rattle.sb_script.specs.Reading.{read}
 use Rattle.sb_script.specs.WellSorted.{is_well_sorted_over}

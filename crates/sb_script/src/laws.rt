@@ -1,20 +1,8 @@
-//! Laws of how texts and terms are read, and of linear sums.
+//! Laws of how terms are read, and of linear sums.
 
 ghost use Rattle.sb_script.specs.ReadingLaws.{ReadIsWellSorted, ReadingKeeps};
 ghost use Rattle.sb_script.specs.SortedStates.{EntriesKeepSorts, LiveAreWellSorted, StartIsSorted};
 ghost use Rattle.sb_script.specs.SumLaws.{SmallBothWays};
-ghost use Rattle.sb_script.specs.TextLaws.{RestHasItsWord, TextIsLiteral};
-
-/// The word behind so many bytes of a literal is the word of the bytes that are left.
-pub fn rest_has_its_word()
-    ensures { RestHasItsWord }
-{}
-
-/// Printable bytes in which each quote is one of a pair are a literal of the word that is read: with
-/// `sb_word::literal::literal_stands_for_one_word`, of no other one.
-pub fn text_is_literal()
-    ensures { TextIsLiteral }
-{}
 
 /// What reading keeps, and holds of what the names in force stand for, holds of each term that is read.
 pub fn reading_keeps()

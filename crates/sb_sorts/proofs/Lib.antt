@@ -1,5 +1,4 @@
 pub mod Kept
-pub mod Unquoting
 pub mod Applying
 pub mod Shapes
 pub mod Reading

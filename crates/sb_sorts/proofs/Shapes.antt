@@ -1,10 +1,13 @@
 -- Forms by their shape, as the code takes them apart.
-use Rattle.std.proofs.Common.{◌≡◌, Bool, true, false, not, ◌&&◌, if◌then◌else◌, List, Option, Some, None, is_some, option_map, Result, Err, sym, refl, true≢false}
-use Rattle.sb_reader.specs.Forms.{Form, Forms, Symbol, QuotedSymbol, Keyword, Numeral, OtherNumber, Words, Group, none, more, is_none, pair_of}
+use Rattle.std.proofs.Common.{◌≡◌, ℕ, Bool, true, false, not, ◌&&◌, if◌then◌else◌, List, [], ◌∷◌, Option, Some, None, is_some, option_map, Result, Ok, Err, sym, refl, ap, ◌∙◌, true≢false}
+use Rattle.sb_reader.specs.Forms.{Form, Forms, Symbol, QuotedSymbol, Keyword, Numeral, OtherNumber, Words, Group, none, more, is_none, only_of, pair_of}
 use Rattle.sb_script.specs.Names.{Name, is_reserved}
 use Rattle.sb_script.specs.Scopes.{Naming}
-use Rattle.sb_script.specs.Faults.{Fault, malformed}
-use Rattle.sb_script.specs.Heads.{Head, read_indexed}
+use Rattle.sb_script.specs.Faults.{Fault, bad_index, malformed}
+use Rattle.sb_script.specs.Heads.{Head, head_term, hexadecimal_digits, character_word, read_indexed}
+use Rattle.sb_meaning.specs.Terms.{word}
+use Rattle.sb_word.specs.LiteralWords.{character_of}
+use Rattle.sb_sorts.specs.Characters.{character_in}
 use Rattle.sb_script.specs.Reading.{is_binding, are_bindings, is_let, read_index_list}
 use Rattle.sb_sorts.specs.Heads.{name_of, has_bindings, beginning_of, some_beginning}
 
@@ -143,3 +146,41 @@ pub begun : (names : List Naming) (first : Form) (others : Forms) → is_none ot
     → some_beginning names first others ≡ beginning_of names first others
 begun names first none some = absurd (true≢false some)
 begun names first (more form forms) some = refl
+
+-- (_ char #xH), by its only index
+abbrev pub by_character : Option ℕ → Result Head Fault
+by_character (Some c) = Ok (head_term (word (c ∷ [])))
+by_character None = Err bad_index
+
+digits_head : (o : Option ℕ)
+    → (elim o as (λ _. Result Head Fault) [ Some c ↦ Ok (head_term (word (c ∷ []))) | None ↦ Err bad_index ])
+    ≡ by_character o
+digits_head None = refl
+digits_head (Some c) = refl
+
+pub no_index_word : (indices : Forms) → only_of indices ≡ None → character_word indices ≡ Err bad_index
+no_index_word none e = refl
+no_index_word (more f none) e = absurd (Prim.cc (e))
+no_index_word (more (Symbol name) (more g gs)) e = refl
+no_index_word (more (QuotedSymbol name) (more g gs)) e = refl
+no_index_word (more (Keyword name) (more g gs)) e = refl
+no_index_word (more (Numeral digits) (more g gs)) e = refl
+no_index_word (more (OtherNumber bytes) (more g gs)) e = refl
+no_index_word (more (Words bytes) (more g gs)) e = refl
+no_index_word (more (Group list) (more g gs)) e = refl
+
+one_index_word : (f : Form) → character_word (more f none) ≡ by_character (character_in f)
+one_index_word (Symbol name) = refl
+one_index_word (QuotedSymbol name) = refl
+one_index_word (Keyword name) = refl
+one_index_word (Numeral digits) = refl
+one_index_word (OtherNumber bytes) = digits_head (character_of (hexadecimal_digits bytes))
+one_index_word (Words bytes) = refl
+one_index_word (Group list) = refl
+
+pub index_word : (indices : Forms) (f : Form) → Some f ≡ only_of indices
+    → character_word indices ≡ by_character (character_in f)
+index_word none f e = absurd (Prim.cc (e))
+index_word (more g none) f e =
+    let same : g ≡ f = Prim.cc (e) in one_index_word g ∙ ap (λ f. by_character (character_in f)) same
+index_word (more g (more h hs)) f e = absurd (Prim.cc (e))

@@ -1,5 +1,5 @@
 -- Private: what the parts of reading say: heads, the forms of a slice, and the first fault.
-use Rattle.std.specs.Prelude.{◌≡◌, ℕ, Bool, true, false, ◌&&◌, nat_lt, if◌then◌else◌, List, map, codes, Option, Some, None, Result, Ok, Err}
+use Rattle.std.specs.Prelude.{◌≡◌, ℕ, Bool, true, false, ◌&&◌, nat_lt, if◌then◌else◌, List, [], ◌∷◌, map, codes, Option, Some, None, Result, Ok, Err}
 use Rattle.sb_reader.specs.Forms.{Form, Forms, Symbol, QuotedSymbol, Keyword, Numeral, OtherNumber, Words, Group, none, more}
 use Rattle.sb_sorts.specs.declared.read.ReadFault.{ReadFault}
 use Rattle.sb_sorts.specs.declared.head.Head.{Head}
@@ -11,16 +11,17 @@ use Rattle.sb_sorts.specs.declared.apply.Arity.TheVariants as arity
 use Rattle.sb_script.specs.Names.{Name, is_name, is_reserved}
 use Rattle.sb_meaning.specs.Sorts as theory
 use Rattle.sb_script.specs.Scopes.{Naming}
-use Rattle.sb_meaning.specs.Terms.{text}
+use Rattle.sb_meaning.specs.Terms.{text, word}
 use Rattle.sb_script.specs.Heads as meaning
 use Rattle.sb_script.specs.Faults.{Fault, malformed}
-use Rattle.sb_script.specs.Heads.{head_constant, head_symbol, read_head}
+use Rattle.sb_script.specs.Heads.{head_constant, head_symbol, head_term, read_head}
 use Rattle.sb_script.specs.Reading.{◌>>=◌, read_index_list, read_list_head, read_reserved, is_binding, are_bindings}
 use Rattle.sb_term.specs.Symbols.{sort_in, symbol_in}
 use Rattle.sb_sorts.specs.Reads.{Faults}
 
 abbrev pub head_in : Head → meaning.Head
 head_in (head.Constant serial) = head_constant serial.0 text
+head_in (head.Character c) = head_term (word (c.code ∷ []))
 head_in (head.Symbol s) = head_symbol (symbol_in s)
 
 abbrev pub arity_in : Arity → theory.Arity
@@ -32,6 +33,7 @@ arity_in arity.Choice = theory.choice
 -- a constant that is the head has a serial below this
 abbrev pub head_below : ℕ → Head → Bool
 head_below n (head.Constant serial) = nat_lt serial.0 n
+head_below n (head.Character c) = true
 head_below n (head.Symbol s) = true
 
 -- The answer, seen by the view, is what reading gives.

@@ -1,3 +1,4 @@
+pub mod Characters
 pub mod Scopes
 pub mod Reads
 pub mod Growth

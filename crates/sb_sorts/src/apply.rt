@@ -1,16 +1,17 @@
 //! Heads with their arguments.
 
-ghost use Rattle.std.specs.Prelude.{◌≡◌, ℕ, ◌<◌, true, [], map, length, IfOk};
+ghost use Rattle.std.specs.Prelude.{◌≡◌, ℕ, ◌<◌, true, [], ◌∷◌, map, length, IfOk};
 ghost use Rattle.std.specs.List.{list_all};
 ghost use Rattle.sb_script.specs.Heads as meaning;
 ghost use Rattle.sb_meaning.specs.Sorts as theory;
-ghost use Rattle.sb_meaning.specs.Terms.{constant, text};
+ghost use Rattle.sb_meaning.specs.Terms.{constant, text, word};
 ghost use Rattle.sb_term.specs.Numbered.{term_at, terms_at, AllNumbers};
 ghost use Rattle.sb_term.specs.Symbols.{sort_in, symbol_in};
 ghost use Rattle.sb_sorts.specs.Growth.{Grows};
 ghost use Rattle.sb_sorts.specs.Heads.{arity_in, head_in, head_below};
 ghost use Rattle.sb_sorts.specs.Reads.{ReadsAs};
 
+use crate::character::Character;
 use crate::head::Head;
 use crate::read::ReadFault;
 use sb_term::{Serial, Sort, Symbol, Table, Term, TermId};
@@ -216,6 +217,15 @@ fn constant(table: &mut Table, serial: Serial) -> Result<TermId, AllocError>
     table.add(Term::Constant(serial, Sort::String))
 }
 
+/// The word of a character.
+fn character(alloc: Global, table: &mut Table, character: Character) -> Result<TermId, AllocError>
+    ensures value { IfOk result (λ id. term_at table.new id ≡ word (character.code ∷ [])) }
+    ensures number { IfOk result (λ id. id < length table.new) }
+    ensures grows { (n : ℕ) → Grows n table.old table.new }
+{
+    table.add(Term::Word(vec![in alloc; character.code]?))
+}
+
 /// A symbol with arguments. The number is judged before the sorts.
 fn symbol_applied(
     alloc: Global,
@@ -255,7 +265,8 @@ pub(crate) fn applied_to(
 {
     match head {
         Head::Constant(serial) if ids.is_empty() => Ok(constant(table, serial)?),
-        Head::Constant(_) => Err(ReadFault::WrongCount),
+        Head::Character(code) if ids.is_empty() => Ok(character(alloc, table, code)?),
+        Head::Constant(_) | Head::Character(_) => Err(ReadFault::WrongCount),
         Head::Symbol(symbol) => symbol_applied(alloc, table, symbol, ids),
     }
 }

@@ -1,7 +1,7 @@
 //! The heads of terms: names, names with indices, and what a list begins with.
 
 ghost use Rattle.std.specs.Prelude.{◌≡◌, ℕ, true, Result, Err, IfOk, option_map};
-ghost use Rattle.sb_reader.specs.Forms.{Forms, shape_of, shapes_in};
+ghost use Rattle.sb_reader.specs.Forms.{shape_of, shapes_in};
 ghost use Rattle.sb_script.specs.Reading as meaning;
 ghost use Rattle.sb_script.specs.Heads as theory;
 ghost use Rattle.sb_script.specs.Faults.{Fault};
@@ -9,6 +9,7 @@ ghost use Rattle.sb_sorts.specs.Scopes.{names_in};
 ghost use Rattle.sb_sorts.specs.Heads.{head_in, head_below, beginning_in, beginning_below, beginning_of, some_beginning, symbol_beginning, with_arguments, name_of, has_bindings, Beginning, Gives};
 ghost use Rattle.sb_sorts.specs.Reads.{Faults};
 
+use crate::character::{Character, character_of};
 use crate::names::{begins_term, is_left_out, is_reserved, symbol_named};
 use crate::read::ReadFault;
 use crate::scope::{Named, Scope};
@@ -16,10 +17,11 @@ use sb_reader::{Shape, Shapes};
 use sb_term::{Serial, Symbol};
 use std::alloc::Global;
 
-/// A head that takes arguments: a constant, which takes none, or a symbol of the theories.
+/// A head: a constant or the word of a character, which take no arguments, or a symbol of the theories.
 #[derive(Clone, Copy)]
 pub(crate) enum Head {
     Constant(Serial),
+    Character(Character),
     Symbol(Symbol),
 }
 
@@ -56,17 +58,34 @@ fn read_symbol(alloc: Global, name: &[u8]) -> Result<Head, ReadFault>
     }
 }
 
-/// What a name with indices is as a head, whatever they are: no symbol that is read takes one.
-fn read_indexed(alloc: Global, scope: &Scope, name: &[u8]) -> Result<Head, ReadFault>
-    ensures reads { (indices : Forms)
-        → Gives head_in (theory.read_indexed (names_in scope.now) name.now indices) result }
+/// What `(_ char #xH)` is as a head, by its indices.
+fn read_char(indices: Shapes<'_>) -> Result<Head, ReadFault>
+    ensures reads { Gives head_in (theory.character_word (shapes_in indices.entry)) result }
+    ensures declared { IfOk result (λ head. (n : ℕ) → head_below n head ≡ true) }
+{
+    let Some(index) = indices.only() else {
+        return Err(ReadFault::BadIndex);
+    };
+    match character_of(index) {
+        Some(character) => Ok(Head::Character(character)),
+        None => Err(ReadFault::BadIndex),
+    }
+}
+
+/// What a name with indices is as a head: of those that are read `char` alone takes one, where it stands for nothing
+/// else.
+fn read_indexed(
+    alloc: Global,
+    scope: &Scope,
+    name: &[u8],
+    indices: Shapes<'_>,
+) -> Result<Head, ReadFault>
+    ensures reads { Gives head_in (theory.read_indexed (names_in scope.now) name.now (shapes_in indices.entry)) result }
     ensures declared { IfOk result (λ head. head_below scope.now.declared head ≡ true) }
 {
     match read_head(alloc, scope, name) {
         Ok(_) => Err(ReadFault::BadIndex),
-        Err(ReadFault::UnknownSymbol(_)) if name == b"char".as_slice() => Err(
-            ReadFault::Unsupported,
-        ),
+        Err(ReadFault::UnknownSymbol(_)) if name == b"char".as_slice() => read_char(indices),
         Err(fault) => Err(fault),
     }
 }
@@ -94,7 +113,7 @@ fn read_index_list(alloc: Global, scope: &Scope, forms: Shapes<'_>) -> Result<He
         return Err(ReadFault::Malformed);
     }
     match name_of(first) {
-        Some(name) => read_indexed(alloc, scope, name),
+        Some(name) => read_indexed(alloc, scope, name, indices),
         None => Err(ReadFault::Malformed),
     }
 }

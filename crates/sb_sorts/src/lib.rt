@@ -7,6 +7,7 @@
 #![tactic(auto)]
 
 mod apply;
+mod character;
 mod head;
 mod names;
 mod read;

@@ -1,17 +1,18 @@
 -- A term that is read fits the sorts, where the names in force do.
 use Rattle.std.proofs.Common.{◌≡◌, ℕ, zero, suc, ◌<◌, Bool, true, false, not, ◌&&◌, if◌then◌else◌, nat_lt, nat_le, eqb, List, [], ◌∷◌, ◌++◌, length, map, codes, slice_get, Option, Some, None, unwrap_or, Result, Ok, Err, refl, subst, ◌∙◌, arith}
-use Rattle.std.specs.Prelude.{is_none}
+use Rattle.std.specs.Prelude.{is_none, is_some}
 use Rattle.std.specs.List.{list_all}
 use Rattle.std.proofs.lemmas.List.{length-map}
 use Rattle.std.proofs.lemmas.Bool.{and_parts, and_from, ltb-true, eqb-true}
 use Rattle.sb_word.specs.Words.{is_character, are_characters}
-use Rattle.sb_word.specs.Literals.{is_printable}
+use Rattle.sb_word.specs.LiteralWords.{character_of, word_of_literal, first_bad}
+use Rattle.sb_word.proofs.CallerLemmas.{text_is_word}
 use Rattle.sb_reader.specs.Forms.{Form, Forms, Symbol, QuotedSymbol, Keyword, Numeral, OtherNumber, Words, Group, none, more}
 use Rattle.sb_meaning.specs.Terms.{Sort, Term, Terms, constant, word, numeral, apply, parameter, no_terms, with_term, terms_of}
 use Rattle.sb_meaning.specs.Terms as symbol
 use Rattle.sb_meaning.specs.Sorts.{is_of_one, sort_of, are_sorts}
 use Rattle.sb_script.specs.Names.{Name, is_name, is_reserved, begins_term}
-use Rattle.sb_script.specs.Brought.{escapes, numerals, lets, is_brought}
+use Rattle.sb_script.specs.Brought.{numerals, lets, is_brought}
 use Rattle.sb_script.specs.Scopes.{Named, Naming, a_constant, a_definition, a_marked_name, a_term, named}
 use Rattle.sb_script.specs.Symbols.{symbol_named, is_indexed, is_left_out}
 use Rattle.sb_script.specs.Reading.{◌>>=◌, read_name, read_index_list, read_reserved, is_let, first_again, names_in, once, read, read_list, read_all, read_list_head, read_let, read_bindings}
@@ -19,9 +20,9 @@ use Rattle.sb_rulebook.specs.AtomRules.{is_declared}
 use Rattle.sb_sound.specs.TermLaws.{fits_sorts, all_fit}
 use Rattle.sb_script.specs.Faults.{Fault, unknown_symbol, wrong_sort, wrong_count, bad_index, unsupported, numeral_too_large, bad_literal, malformed, already_bound}
 use Rattle.sb_script.specs.Heads.{Head, head_constant, head_symbol, head_definition, head_term, head_of, head_of_theory, indices_of, are_small_indices, symbol_with, if_small_indices, with_indices, hexadecimal_digits, character_word, without_indices, judged, joined, made, with_arguments, each_with_arguments, unless, judged_definition, read_head, applied_to, read_indexed}
-use Rattle.sb_script.specs.Texts.{word_of_literal, has_backslash, unquoted, read_text, number_of, read_numeral, character_of}
+use Rattle.sb_script.specs.Texts.{read_text, number_of, read_numeral}
 use Rattle.sb_sound.proofs.PassFacts.{all_append}
-use Rattle.sb_sound.proofs.ReadTexts.{unquoted_characters, character_spelled, literal_characters}
+use Rattle.sb_sound.proofs.ReadTexts.{character_spelled}
 
 -- the constants of the term are declared with their sorts, its words are of characters, and its parameters are among
 -- the first so many
@@ -116,18 +117,12 @@ module _ (sorts : List Sort) (n : ℕ) where
   -- Texts and numerals.
 
   text_fits : (bytes : List ℕ) → if_read (fits_in sorts n) (read_text bytes) ≡ true
-  text_fits bytes = step (list_all is_printable bytes) refl
+  text_fits bytes = step (first_bad bytes) refl
     where
-      step : (b : Bool) → list_all is_printable bytes ≡ b → if_read (fits_in sorts n) (if not b then Err bad_literal
-          else if is_brought escapes then Ok (word (word_of_literal bytes))
-          else if has_backslash bytes then Err unsupported
-          else Ok (word (unquoted bytes))) ≡ true
-      step true h =
-          by_test (fits_in sorts n) (is_brought escapes) (Ok (word (word_of_literal bytes)))
-          (if has_backslash bytes then Err unsupported else Ok (word (unquoted bytes))) (literal_characters bytes h)
-          (by_test (fits_in sorts n) (has_backslash bytes) (Err unsupported) (Ok (word (unquoted bytes))) refl
-          (unquoted_characters bytes h))
-      step false h = refl
+      step : (o : Option ℕ) → first_bad bytes ≡ o → if_read (fits_in sorts n)
+          (if is_some o then Err bad_literal else Ok (word (word_of_literal bytes))) ≡ true
+      step None h = text_is_word bytes h
+      step (Some place) h = refl
 
   numeral_fits : (digits : List ℕ) → if_read (fits_in sorts n) (read_numeral digits) ≡ true
   numeral_fits digits =
@@ -268,9 +263,7 @@ module _ (sorts : List Sort) (n : ℕ) where
   unindexed_head name indices (Ok head) = refl
   unindexed_head name indices (Err (unknown_symbol unknown)) =
       by_test (head_fits sorts n) (is_name name (codes "char"))
-      (if is_brought escapes then character_word indices else Err unsupported) (Err (unknown_symbol unknown))
-      (by_test (head_fits sorts n) (is_brought escapes) (character_word indices) (Err unsupported)
-      (character_head indices) refl) refl
+      (character_word indices) (Err (unknown_symbol unknown)) (character_head indices) refl
   unindexed_head name indices (Err _) = refl
 
   indexed_read : (names : List Naming) (name : Name) (indices : Forms)

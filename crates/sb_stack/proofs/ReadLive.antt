@@ -1,15 +1,15 @@
 -- A term that is read over the names of a scope speaks of its constants alone.
 use Rattle.std.proofs.Common.{◌≡◌, ℕ, zero, suc, ◌<◌, Bool, true, false, not, ◌||◌, ◌==◌, if◌then◌else◌, nat_le, List, [], ◌∷◌, map, length, slice_get, unwrap_or, Result, Ok, Err, IfOk, refl}
+use Rattle.std.specs.Prelude.{is_some}
 use Rattle.std.specs.List.{list_all}
 use Rattle.std.proofs.lemmas.Bool.{and_parts, and_from, eq-eqb}
-use Rattle.sb_word.specs.Literals.{is_printable}
+use Rattle.sb_word.specs.LiteralWords.{word_of_literal, first_bad}
 use Rattle.sb_reader.specs.Forms.{Form}
 use Rattle.sb_meaning.specs.Terms.{Sort, Symbol, Term, Terms, constant, word, numeral, apply, parameter, no_terms, with_term, terms_of}
 use Rattle.sb_meaning.specs.Sorts.{is_of_one}
 use Rattle.sb_script.specs.Names.{Name}
-use Rattle.sb_script.specs.Brought.{escapes, is_brought}
-use Rattle.sb_script.specs.Faults.{Fault, unsupported, bad_literal, numeral_too_large}
-use Rattle.sb_script.specs.Texts.{word_of_literal, has_backslash, unquoted, read_text, number_of}
+use Rattle.sb_script.specs.Faults.{Fault, bad_literal, numeral_too_large}
+use Rattle.sb_script.specs.Texts.{read_text, number_of}
 use Rattle.sb_script.specs.Heads.{joined, made, with_arguments, each_with_arguments}
 use Rattle.sb_script.specs.Reading.{read}
 use Rattle.sb_script.specs.ReadingLaws.{if_read, IsKept, passes, ReadingKeeps}
@@ -33,13 +33,7 @@ by_test p false x y h k = k
 
 texts_speak : (ns : List ℕ) (bytes : List ℕ) → if_read (speaks_of ns) (read_text bytes) ≡ true
 texts_speak ns bytes =
-    by_test (speaks_of ns) (not (list_all is_printable bytes)) (Err bad_literal)
-    (if is_brought escapes then Ok (word (word_of_literal bytes))
-    else if has_backslash bytes then Err unsupported
-    else Ok (word (unquoted bytes))) refl
-    (by_test (speaks_of ns) (is_brought escapes) (Ok (word (word_of_literal bytes)))
-    (if has_backslash bytes then Err unsupported else Ok (word (unquoted bytes))) refl
-    (by_test (speaks_of ns) (has_backslash bytes) (Err unsupported) (Ok (word (unquoted bytes))) refl refl))
+    by_test (speaks_of ns) (is_some (first_bad bytes)) (Err bad_literal) (Ok (word (word_of_literal bytes))) refl refl
 
 list_speaks : (ns : List ℕ) (ts : List Term) → list_all (speaks_of ns) ts ≡ true → speak_of ns (terms_of ts) ≡ true
 list_speaks ns [] h = refl

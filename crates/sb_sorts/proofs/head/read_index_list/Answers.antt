@@ -13,4 +13,4 @@ returns-in-Some-name_of-clause-reads c =
     let by = ap (read_index_list names) c.in-Some.ensures
     ∙ indexed names (shape_of c.in-Some.first) indices (sym c.is_empty.ensures ∙ c.if-is_empty.false) in
     subst (λ reading. Gives head_in reading c.read_indexed.result)
-    (sym (by ∙ ap (by_name names indices) (sym c.in-Some-name_of.ensures))) (c.read_indexed.ensures.reads indices)
+    (sym (by ∙ ap (by_name names indices) (sym c.in-Some-name_of.ensures))) c.read_indexed.ensures.reads
