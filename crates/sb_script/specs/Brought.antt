@@ -37,27 +37,41 @@ brought_options =
 abbrev pub is_brought_symbol : Symbol → Bool
 is_brought_symbol symbol.str_in_re = true
 is_brought_symbol symbol.str_to_re = true
+is_brought_symbol symbol.re_none = true
+is_brought_symbol symbol.re_all = true
+is_brought_symbol symbol.re_allchar = true
 is_brought_symbol symbol.re_range = true
 is_brought_symbol symbol.re_concat = true
 is_brought_symbol symbol.re_union = true
+is_brought_symbol symbol.re_inter = true
+is_brought_symbol symbol.re_diff = true
 is_brought_symbol symbol.re_star = true
 is_brought_symbol symbol.re_plus = true
+is_brought_symbol symbol.re_opt = true
+is_brought_symbol symbol.re_comp = true
 is_brought_symbol _ = false
 
 abbrev pub is_brought_sort : Sort → Bool
 is_brought_sort text = true
 is_brought_sort _ = false
 
--- The term is a regular expression over literals: a word, a range, or made of such by concatenation, union and
--- repetition.
+-- The term is a regular expression over literals: a word, a range, no word, every word, every character, or made of such
+-- by concatenation, union, intersection, difference, complement, option and repetition.
 abbrev mutual
   pub is_regex : Term → Bool
   is_regex (apply symbol.str_to_re (with_term (word s) no_terms)) = true
   is_regex (apply symbol.re_range (with_term (word s) (with_term (word t) no_terms))) = true
+  is_regex (apply symbol.re_none no_terms) = true
+  is_regex (apply symbol.re_all no_terms) = true
+  is_regex (apply symbol.re_allchar no_terms) = true
   is_regex (apply symbol.re_concat (with_term R Rs)) = is_regex R && are_regexes Rs
   is_regex (apply symbol.re_union (with_term R Rs)) = is_regex R && are_regexes Rs
+  is_regex (apply symbol.re_inter (with_term R Rs)) = is_regex R && are_regexes Rs
+  is_regex (apply symbol.re_diff (with_term R Rs)) = is_regex R && are_regexes Rs
   is_regex (apply symbol.re_star (with_term R no_terms)) = is_regex R
   is_regex (apply symbol.re_plus (with_term R no_terms)) = is_regex R
+  is_regex (apply symbol.re_opt (with_term R no_terms)) = is_regex R
+  is_regex (apply symbol.re_comp (with_term R no_terms)) = is_regex R
   is_regex _ = false
 
   pub are_regexes : Terms → Bool

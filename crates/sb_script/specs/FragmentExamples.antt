@@ -1,5 +1,6 @@
 -- Computed examples of what is decided: of what is brought so far, and of the whole fragment.
 use Rattle.std.specs.Prelude.{◌≡◌, pos, Bool, true, false, List, [], ◌∷◌, map, codes, refl}
+use Rattle.std.specs.List.{list_all, list_any}
 use Rattle.sb_meaning.specs.Terms.{Term, boolean, integer, text, constant, word, numeral, apply, no_terms, terms_of}
 use Rattle.sb_meaning.specs.Terms as symbol
 use Rattle.sb_meaning.specs.Values.{Int, Truth}
@@ -46,6 +47,32 @@ three s t u v = apply s (terms_of (t ∷ u ∷ v ∷ []))
 abbrev joined : Term
 joined = three symbol.str_concat x a y
 
+-- Regular expressions by each symbol that is brought without indices; a constant within, and arguments too many or none.
+abbrev of_a : Term
+of_a = one symbol.str_to_re a
+
+abbrev of_y : Term
+of_y = one symbol.str_to_re y
+
+abbrev over_literals : List Term
+over_literals =
+    apply symbol.re_none no_terms ∷ all_words ∷ apply symbol.re_allchar no_terms ∷ two symbol.re_range a a
+    ∷ two symbol.re_concat of_a of_a ∷ three symbol.re_union of_a of_a of_a ∷ three symbol.re_inter of_a of_a of_a
+    ∷ three symbol.re_diff of_a of_a of_a ∷ one symbol.re_star of_a ∷ one symbol.re_plus of_a ∷ one symbol.re_opt of_a
+    ∷ one symbol.re_comp of_a ∷ []
+
+each_is_over_literals : list_all is_regex over_literals ≡ true
+each_is_over_literals = refl
+
+abbrev not_over_literals : List Term
+not_over_literals =
+    one symbol.re_comp of_y ∷ one symbol.re_opt of_y ∷ two symbol.re_inter of_a of_y ∷ two symbol.re_diff of_a of_y
+    ∷ one symbol.re_none of_a ∷ one symbol.re_all of_a ∷ one symbol.re_allchar of_a ∷ two symbol.re_opt of_a of_a
+    ∷ two symbol.re_comp of_a of_a ∷ apply symbol.re_inter no_terms ∷ apply symbol.re_diff no_terms ∷ []
+
+none_is_over_literals : list_any is_regex not_over_literals ≡ false
+none_is_over_literals = refl
+
 -- Membership: each constant once at most, no constant in the regular expression, ground terms too.
 of_a_concatenation : fits (two symbol.str_in_re joined all_words) ≡ true
 of_a_concatenation = refl
@@ -64,6 +91,11 @@ sizes : map size_of
     (one symbol.str_to_re (word (codes "ab")) ∷ two symbol.re_range a a ∷ one symbol.re_star (one symbol.str_to_re
     (two symbol.str_concat a a)) ∷ []) ≡ 3 ∷ 3 ∷ 4 ∷ []
 sizes = refl
+
+sizes_of_symbols : map size_of
+    (all_words ∷ one symbol.re_comp of_a ∷ two symbol.re_diff of_a of_a
+    ∷ one symbol.re_opt (apply symbol.re_allchar no_terms) ∷ []) ≡ 1 ∷ 3 ∷ 5 ∷ 2 ∷ []
+sizes_of_symbols = refl
 
 -- String equality: in each pair one side is ground, and in the other each constant stands once at most.
 to_a_word : fits (two symbol.core_equal a joined) ≡ true

@@ -73,6 +73,45 @@ three_in_a_union = refl
 one_in_a_union : read names (group (Symbol (codes "re.union") ∷ range a b ∷ [])) ≡ Ok a_range
 one_in_a_union = refl
 
+-- (re.diff (re.comp re.none) (re.opt re.allchar) re.all), from the left as it stands
+abbrev no_word : Form
+no_word = Symbol (codes "re.none")
+
+abbrev every_word : Form
+every_word = Symbol (codes "re.all")
+
+a_difference : read names
+    (group (Symbol (codes "re.diff") ∷ group (Symbol (codes "re.comp") ∷ no_word ∷ [])
+    ∷ group (Symbol (codes "re.opt") ∷ Symbol (codes "re.allchar") ∷ []) ∷ every_word ∷ []))
+    ≡ Ok (apply symbol.re_diff
+    (with_term (apply symbol.re_comp (with_term (apply symbol.re_none no_terms) no_terms))
+    (with_term (apply symbol.re_opt (with_term (apply symbol.re_allchar no_terms) no_terms))
+    (with_term (apply symbol.re_all no_terms) no_terms))))
+a_difference = refl
+
+-- (re.inter R) is R; (re.diff R) has too few arguments, (re.comp R S) too many, and re.opt alone none
+one_in_an_intersection : read names (group (Symbol (codes "re.inter") ∷ range a b ∷ [])) ≡ Ok a_range
+one_in_an_intersection = refl
+
+one_in_a_difference : read names (group (Symbol (codes "re.diff") ∷ range a b ∷ [])) ≡ Err wrong_count
+one_in_a_difference = refl
+
+two_in_a_complement : read names (group (Symbol (codes "re.comp") ∷ range a b ∷ range a b ∷ [])) ≡ Err wrong_count
+two_in_a_complement = refl
+
+option_of_nothing : read names (Symbol (codes "re.opt")) ≡ Err wrong_count
+option_of_nothing = refl
+
+-- (re.none) is of no shape, (re.all R) has an argument too many, and (re.comp "a") one of another sort
+none_in_a_list : read names (group (no_word ∷ [])) ≡ Err malformed
+none_in_a_list = refl
+
+all_of_an_argument : read names (group (every_word ∷ range a b ∷ [])) ≡ Err wrong_count
+all_of_an_argument = refl
+
+complement_of_a_word : read names (group (Symbol (codes "re.comp") ∷ a ∷ [])) ≡ Err wrong_sort
+complement_of_a_word = refl
+
 -- (re.++ R "a"), (re.* "a") and re.++ alone
 sort_of_a_part : read names (group (Symbol (codes "re.++") ∷ range a b ∷ a ∷ [])) ≡ Err wrong_sort
 sort_of_a_part = refl
