@@ -78,6 +78,12 @@ taken_sorts false sorts left h = absurd (Prim.cc (h))
 taken_sorts true true left h = refl
 taken_sorts true false left h = absurd (Prim.cc (h))
 
+-- the test of no argument
+by_none : (p : Terms → Bool) → p no_terms ≡ true → (ts : List Term) → are_sorts [] (map sort_of ts) ≡ true
+    → p (terms_of ts) ≡ true
+by_none p f [] taken = f
+by_none p f (t ∷ ts) taken = absurd (false≢true taken)
+
 -- the test of one argument of this sort
 by_one : (k : Sort) (p : Terms → Bool)
     → ((t : Term) → is_shallow_of k t ≡ true → p (with_term t no_terms) ≡ true)
@@ -141,9 +147,9 @@ range_plain (numeral n) u h k = absurd (false≢true h)
 range_plain (apply s terms) u h k = absurd (false≢true h)
 range_plain (parameter place sort) u h k = absurd (false≢true h)
 
--- a symbol that repeats its one argument
-repeated : (R : Term) → is_plain_regex R ≡ true → (is_regex R || not (is_ground R && true)) ≡ true
-repeated R h = step (is_regex R) (is_ground R) h
+-- a symbol with one argument
+of_one : (R : Term) → is_plain_regex R ≡ true → (is_regex R || not (is_ground R && true)) ≡ true
+of_one R h = step (is_regex R) (is_ground R) h
   where
     step : (a b : Bool) → (a || not b) ≡ true → (a || not (b && true)) ≡ true
     step a true k = k
@@ -182,6 +188,15 @@ one_or_more s f (t ∷ u ∷ ts) all taken =
     (taken_sorts (nat_le 1 (length (map sort_of (t ∷ u ∷ ts))))
     (list_all (is_same_sort reglan) (map sort_of (t ∷ u ∷ ts))) false taken))
 
+-- two or more
+difference : (ts : List Term) → list_all is_shallow ts ≡ true → judged symbol.re_diff (map sort_of ts) ≡ None
+    → is_shallow (apply symbol.re_diff (terms_of ts)) ≡ true
+difference [] all taken = absurd (Prim.cc (taken))
+difference (t ∷ ts) all taken =
+    each_plain (t ∷ ts) all
+    (taken_sorts (nat_le 2 (length (map sort_of (t ∷ ts)))) (list_all (is_same_sort reglan) (map sort_of (t ∷ ts))) false
+    taken)
+
 -- Applications.
 
 made_shallow : (s : symbol.Symbol) (ts : List Term) → is_brought_symbol s ≡ true → list_all is_shallow ts ≡ true
@@ -195,14 +210,31 @@ made_shallow symbol.str_to_re ts h all taken =
 made_shallow symbol.re_range ts h all taken =
     by_two text text (λ terms. is_plain_regex (apply symbol.re_range terms)) range_plain ts all
     (taken_sorts (2 == length (map sort_of ts)) (are_sorts (text ∷ text ∷ []) (map sort_of ts)) false taken)
+made_shallow symbol.re_none ts h all taken =
+    by_none (λ terms. is_plain_regex (apply symbol.re_none terms)) refl ts
+    (taken_sorts (0 == length (map sort_of ts)) (are_sorts [] (map sort_of ts)) false taken)
+made_shallow symbol.re_all ts h all taken =
+    by_none (λ terms. is_plain_regex (apply symbol.re_all terms)) refl ts
+    (taken_sorts (0 == length (map sort_of ts)) (are_sorts [] (map sort_of ts)) false taken)
+made_shallow symbol.re_allchar ts h all taken =
+    by_none (λ terms. is_plain_regex (apply symbol.re_allchar terms)) refl ts
+    (taken_sorts (0 == length (map sort_of ts)) (are_sorts [] (map sort_of ts)) false taken)
+made_shallow symbol.re_opt ts h all taken =
+    by_one reglan (λ terms. is_plain_regex (apply symbol.re_opt terms)) of_one ts all
+    (taken_sorts (1 == length (map sort_of ts)) (are_sorts (reglan ∷ []) (map sort_of ts)) false taken)
+made_shallow symbol.re_comp ts h all taken =
+    by_one reglan (λ terms. is_plain_regex (apply symbol.re_comp terms)) of_one ts all
+    (taken_sorts (1 == length (map sort_of ts)) (are_sorts (reglan ∷ []) (map sort_of ts)) false taken)
 made_shallow symbol.re_star ts h all taken =
-    by_one reglan (λ terms. is_plain_regex (apply symbol.re_star terms)) repeated ts all
+    by_one reglan (λ terms. is_plain_regex (apply symbol.re_star terms)) of_one ts all
     (taken_sorts (1 == length (map sort_of ts)) (are_sorts (reglan ∷ []) (map sort_of ts)) false taken)
 made_shallow symbol.re_plus ts h all taken =
-    by_one reglan (λ terms. is_plain_regex (apply symbol.re_plus terms)) repeated ts all
+    by_one reglan (λ terms. is_plain_regex (apply symbol.re_plus terms)) of_one ts all
     (taken_sorts (1 == length (map sort_of ts)) (are_sorts (reglan ∷ []) (map sort_of ts)) false taken)
 made_shallow symbol.re_concat ts h all taken = one_or_more symbol.re_concat (λ t terms k. k) ts all taken
 made_shallow symbol.re_union ts h all taken = one_or_more symbol.re_union (λ t terms k. k) ts all taken
+made_shallow symbol.re_inter ts h all taken = one_or_more symbol.re_inter (λ t terms k. k) ts all taken
+made_shallow symbol.re_diff ts h all taken = difference ts all taken
 made_shallow _ ts h all taken = absurd (false≢true h)
 
 -- the symbols of names are brought

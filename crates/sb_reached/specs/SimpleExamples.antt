@@ -88,15 +88,18 @@ two_words = refl
 another_constant : is_simple (of_x (or_b (literal (constant 1 text)))) ≡ true
 another_constant = refl
 
--- in the complement of a word, in that of a constant, and in a union with the complement of a word
-a_complement : is_simple (of_x (apply symbol.re_comp (with_term (literal (word [])) no_terms))) ≡ false
+-- in the complement of a word, in that of a constant, and in a union with the complement of a word; not in a power
+a_complement : is_simple (of_x (apply symbol.re_comp (with_term (literal (word [])) no_terms))) ≡ true
 a_complement = refl
 
 of_a_constant : is_simple (of_x (apply symbol.re_comp (with_term (literal (constant 1 text)) no_terms))) ≡ true
 of_a_constant = refl
 
-with_a_complement : is_simple (of_x (or_b (apply symbol.re_comp (with_term (literal (word [])) no_terms)))) ≡ false
+with_a_complement : is_simple (of_x (or_b (apply symbol.re_comp (with_term (literal (word [])) no_terms)))) ≡ true
 with_a_complement = refl
+
+a_power : is_simple (of_x (or_b (apply (symbol.re_power 2) (with_term (literal (word [])) no_terms)))) ≡ false
+a_power = refl
 
 -- the membership of a word in a complement
 of_a_word : is_simple (apply symbol.str_in_re
