@@ -54,7 +54,7 @@ const WORDS_OF_SCRIPTS: [&[u8]; 38] = [
 ];
 
 /// The names of the theories that are not read.
-const LEFT_OUT: [&[u8]; 51] = [
+const LEFT_OUT: [&[u8]; 44] = [
     b"true",
     b"false",
     b"not",
@@ -77,13 +77,6 @@ const LEFT_OUT: [&[u8]; 51] = [
     b"str.prefixof",
     b"str.suffixof",
     b"str.contains",
-    b"re.none",
-    b"re.all",
-    b"re.allchar",
-    b"re.inter",
-    b"re.diff",
-    b"re.opt",
-    b"re.comp",
     b"re.^",
     b"re.loop",
     b"div",
@@ -137,14 +130,28 @@ pub(crate) fn symbol_named(name: &[u8]) -> Option<Symbol>
         Some(Symbol::StrInRe)
     } else if name == b"str.to_re".as_slice() {
         Some(Symbol::StrToRe)
+    } else if name == b"re.none".as_slice() {
+        Some(Symbol::ReNone)
+    } else if name == b"re.all".as_slice() {
+        Some(Symbol::ReAll)
+    } else if name == b"re.allchar".as_slice() {
+        Some(Symbol::ReAllChar)
     } else if name == b"re.++".as_slice() {
         Some(Symbol::ReConcat)
     } else if name == b"re.union".as_slice() {
         Some(Symbol::ReUnion)
+    } else if name == b"re.inter".as_slice() {
+        Some(Symbol::ReInter)
+    } else if name == b"re.diff".as_slice() {
+        Some(Symbol::ReDiff)
     } else if name == b"re.*".as_slice() {
         Some(Symbol::ReStar)
     } else if name == b"re.+".as_slice() {
         Some(Symbol::RePlus)
+    } else if name == b"re.opt".as_slice() {
+        Some(Symbol::ReOpt)
+    } else if name == b"re.comp".as_slice() {
+        Some(Symbol::ReComp)
     } else if name == b"re.range".as_slice() {
         Some(Symbol::ReRange)
     } else {
