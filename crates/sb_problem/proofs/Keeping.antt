@@ -24,7 +24,7 @@ use Rattle.sb_problem.specs.declared.normals.Known.{Known}
 use Rattle.sb_problem.specs.declared.normals.Known.TheVariants as known
 use Rattle.sb_problem.specs.Known.{IsKnown, IsConcatenation, AreNormals, AreTold, known_from, is_other}
 use Rattle.sb_problem.specs.Laws.{NormalsStay}
-use Rattle.sb_problem.specs.Shapes.{IsNumbered, IsFound, AreRegexesOf, made, joined_right, either, or_none, regex_of, regexes_of}
+use Rattle.sb_problem.specs.Shapes.{IsNumbered, IsFound, AreRegexesOf, made, joined_right, either, both, or_none, regex_of, regexes_of}
 use Rattle.sb_problem.proofs.Meanings.{are_all, regexes_all}
 
 pub normals_new : (ts : List Term) (rs : List Regex) (ks : List Known) → length ks ≡ 0 → AreNormals ts rs ks
@@ -121,14 +121,31 @@ regexes_further rs new ts ids i x found found' id all e l there one is = rw is (
 -- the symbols of which the arguments' regexes are asked for
 abbrev pub joins : Symbol → Bool
 joins symbol.ReUnion = true
+joins symbol.ReInter = true
+joins symbol.ReDiff = true
 joins symbol.ReStar = true
 joins symbol.RePlus = true
+joins symbol.ReOpt = true
+joins symbol.ReComp = true
+joins symbol.ReNone = true
+joins symbol.ReAll = true
+joins symbol.ReAllChar = true
 joins _ = false
 
-pub is_joining : (s : Symbol) → (s ≡ symbol.ReUnion) ⊎ ((s ≡ symbol.ReStar) ⊎ (s ≡ symbol.RePlus)) → joins s ≡ true
+pub is_joining : (s : Symbol)
+    → (s ≡ symbol.ReUnion) ⊎ ((s ≡ symbol.ReInter) ⊎ ((s ≡ symbol.ReDiff) ⊎ ((s ≡ symbol.ReStar)
+    ⊎ ((s ≡ symbol.RePlus) ⊎ ((s ≡ symbol.ReOpt) ⊎ ((s ≡ symbol.ReComp) ⊎ ((s ≡ symbol.ReNone)
+    ⊎ ((s ≡ symbol.ReAll) ⊎ (s ≡ symbol.ReAllChar))))))))) → joins s ≡ true
 is_joining s (inl h) = ap joins h
 is_joining s (inr (inl h)) = ap joins h
-is_joining s (inr (inr h)) = ap joins h
+is_joining s (inr (inr (inl h))) = ap joins h
+is_joining s (inr (inr (inr (inl h)))) = ap joins h
+is_joining s (inr (inr (inr (inr (inl h))))) = ap joins h
+is_joining s (inr (inr (inr (inr (inr (inl h)))))) = ap joins h
+is_joining s (inr (inr (inr (inr (inr (inr (inl h))))))) = ap joins h
+is_joining s (inr (inr (inr (inr (inr (inr (inr (inl h)))))))) = ap joins h
+is_joining s (inr (inr (inr (inr (inr (inr (inr (inr (inl h))))))))) = ap joins h
+is_joining s (inr (inr (inr (inr (inr (inr (inr (inr (inr h))))))))) = ap joins h
 
 alone_false : (b : Bool) → (b && true) ≡ false → b ≡ false
 alone_false true h = h
@@ -148,6 +165,22 @@ other_one symbol.ReStar (with_term t (with_term u ts)) h k = refl
 other_one symbol.RePlus no_terms h k = refl
 other_one symbol.RePlus (with_term t no_terms) h k = alone_false (is_regex t) k
 other_one symbol.RePlus (with_term t (with_term u ts)) h k = refl
+other_one symbol.ReInter no_terms h k = refl
+other_one symbol.ReInter (with_term t ts) h k = k
+other_one symbol.ReDiff no_terms h k = refl
+other_one symbol.ReDiff (with_term t ts) h k = k
+other_one symbol.ReOpt no_terms h k = refl
+other_one symbol.ReOpt (with_term t no_terms) h k = alone_false (is_regex t) k
+other_one symbol.ReOpt (with_term t (with_term u ts)) h k = refl
+other_one symbol.ReComp no_terms h k = refl
+other_one symbol.ReComp (with_term t no_terms) h k = alone_false (is_regex t) k
+other_one symbol.ReComp (with_term t (with_term u ts)) h k = refl
+other_one symbol.ReNone no_terms h k = absurd (false≢true (sym k))
+other_one symbol.ReNone (with_term t ts) h k = refl
+other_one symbol.ReAll no_terms h k = absurd (false≢true (sym k))
+other_one symbol.ReAll (with_term t ts) h k = refl
+other_one symbol.ReAllChar no_terms h k = absurd (false≢true (sym k))
+other_one symbol.ReAllChar (with_term t ts) h k = refl
 other_one s ts h k = absurd (false≢true h)
 
 pub none_given : (rs : List Regex) (s : Symbol) (ts : List Term) (ids : List ℕ) (t : Term) → joins s ≡ true
@@ -155,6 +188,14 @@ pub none_given : (rs : List Regex) (s : Symbol) (ts : List Term) (ids : List ℕ
     is_regex t ≡ false
 none_given rs s ts ids t h is other =
     ap is_regex is ∙ other_one s (terms_of (terms_at ts ids)) h (are_all (terms_at ts ids) ∙ other)
+
+some_joined : (join : Regex → Regex → Regex) (r : Regex) (rs : List Regex) → joined_right join (r ∷ rs) ≡ None → ⊥
+some_joined join r [] e = cc
+some_joined join r (s ∷ rs) e = some_joined join s rs (nothing (joined_right join (s ∷ rs)) e)
+  where
+    nothing : (o : Option Regex) → option_map (join r) o ≡ None → o ≡ None
+    nothing None e = refl
+    nothing (Some x) e = cc
 
 some_one : (s : Symbol) (t : Term) (ts : Terms) → joins s ≡ true → are_regexes (with_term t ts) ≡ true
     → (o : Option Regex) → made s (regex_of t ∷ regexes_of ts) ≡ o
@@ -164,14 +205,6 @@ some_one : (s : Symbol) (t : Term) (ts : Terms) → joins s ≡ true → are_reg
           × (regex_of (apply (symbol_in s) (with_term t ts)) ≡ r)
     ]
 some_one symbol.ReUnion t ts h k None e = absurd (some_joined either (regex_of t) (regexes_of ts) e)
-  where
-    some_joined : (join : Regex → Regex → Regex) (r : Regex) (rs : List Regex) → joined_right join (r ∷ rs) ≡ None → ⊥
-    some_joined join r [] e = cc
-    some_joined join r (s ∷ rs) e = some_joined join s rs (nothing (joined_right join (s ∷ rs)) e)
-      where
-        nothing : (o : Option Regex) → option_map (join r) o ≡ None → o ≡ None
-        nothing None e = refl
-        nothing (Some x) e = cc
 some_one symbol.ReUnion t ts h k (Some r) e = (k, ap or_none e)
 some_one symbol.ReStar t no_terms h k None e = cc
 some_one symbol.ReStar t no_terms h k (Some r) e = (alone_true (is_regex t) k, ap or_none e)
@@ -181,18 +214,42 @@ some_one symbol.RePlus t no_terms h k None e = cc
 some_one symbol.RePlus t no_terms h k (Some r) e = (alone_true (is_regex t) k, ap or_none e)
 some_one symbol.RePlus t (with_term u ts) h k None e = refl
 some_one symbol.RePlus t (with_term u ts) h k (Some r) e = cc
+some_one symbol.ReInter t ts h k None e = absurd (some_joined both (regex_of t) (regexes_of ts) e)
+some_one symbol.ReInter t ts h k (Some r) e = (k, ap or_none e)
+some_one symbol.ReDiff t ts h k None e = cc
+some_one symbol.ReDiff t ts h k (Some r) e = (k, ap or_none e)
+some_one symbol.ReOpt t no_terms h k None e = cc
+some_one symbol.ReOpt t no_terms h k (Some r) e = (alone_true (is_regex t) k, ap or_none e)
+some_one symbol.ReOpt t (with_term u ts) h k None e = refl
+some_one symbol.ReOpt t (with_term u ts) h k (Some r) e = cc
+some_one symbol.ReComp t no_terms h k None e = cc
+some_one symbol.ReComp t no_terms h k (Some r) e = (alone_true (is_regex t) k, ap or_none e)
+some_one symbol.ReComp t (with_term u ts) h k None e = refl
+some_one symbol.ReComp t (with_term u ts) h k (Some r) e = cc
+some_one symbol.ReNone t ts h k None e = refl
+some_one symbol.ReNone t ts h k (Some r) e = cc
+some_one symbol.ReAll t ts h k None e = refl
+some_one symbol.ReAll t ts h k (Some r) e = cc
+some_one symbol.ReAllChar t ts h k None e = refl
+some_one symbol.ReAllChar t ts h k (Some r) e = cc
 some_one s t ts h k o e = absurd (false≢true h)
-
-empty_one : (s : Symbol) → joins s ≡ true
-    → (made s [] ≡ None) × (is_regex (apply (symbol_in s) no_terms) ≡ false)
-empty_one symbol.ReUnion h = (refl, refl)
-empty_one symbol.ReStar h = (refl, refl)
-empty_one symbol.RePlus h = (refl, refl)
-empty_one s h = absurd (false≢true h)
 
 abbrev Gives : Term → Option Regex → Type 0
 Gives t None = is_regex t ≡ false
 Gives t (Some r) = (is_regex t ≡ true) × (regex_of t ≡ r)
+
+empty_one : (s : Symbol) → joins s ≡ true → Gives (apply (symbol_in s) no_terms) (made s [])
+empty_one symbol.ReUnion h = refl
+empty_one symbol.ReInter h = refl
+empty_one symbol.ReDiff h = refl
+empty_one symbol.ReStar h = refl
+empty_one symbol.RePlus h = refl
+empty_one symbol.ReOpt h = refl
+empty_one symbol.ReComp h = refl
+empty_one symbol.ReNone h = (refl, refl)
+empty_one symbol.ReAll h = (refl, refl)
+empty_one symbol.ReAllChar h = (refl, refl)
+empty_one s h = absurd (false≢true h)
 
 found_is : (new : List Regex) (t : Term) (r : Option Regex) (o : Option ℕ) → Gives t r → IsFound new o r
     → IsNumbered new t o
@@ -214,9 +271,7 @@ gives s t ts h k (Some r) e = some_one s t ts h k (Some r) e
 
 by_regexes : (s : Symbol) (new : List Regex) (ts : Terms) (o : Option ℕ) → joins s ≡ true → are_regexes ts ≡ true
     → IsFound new o (made s (regexes_of ts)) → IsNumbered new (apply (symbol_in s) ts) o
-by_regexes s new no_terms o h k f =
-    found_is new (apply (symbol_in s) no_terms) None o (empty_one s h).1
-    (f ∙ ap (λ r. option_map Some r) (empty_one s h).0)
+by_regexes s new no_terms o h k f = found_is new (apply (symbol_in s) no_terms) (made s []) o (empty_one s h) f
 by_regexes s new (with_term t ts) o h k f =
     found_is new (apply (symbol_in s) (with_term t ts)) (made s (regex_of t ∷ regexes_of ts)) o
     (gives s t ts h k (made s (regex_of t ∷ regexes_of ts)) refl) f

@@ -4,7 +4,7 @@ use Rattle.std.proofs.lemmas.Bool.Decides.{nat_tests}
 use Rattle.sb_class.proofs.CallerLemmas.{in_ranges-one}
 use Rattle.sb_class.specs.Ranges.{Range, in_range, in_ranges, rises_from, IsCanonical}
 use Rattle.sb_lang.specs.Regex.{Regex, none, set}
-use Rattle.sb_lang.specs.Constructors.{mkset}
+use Rattle.sb_lang.specs.Constructors.{any_character, mkset}
 use Rattle.sb_lang.specs.Normal.{range_regex}
 use Rattle.sb_regex.specs.Numbered.{Names}
 use Rattle.sb_word.specs.Words.{IsWord, are_characters}
@@ -31,6 +31,11 @@ second_not_one (a ∷ d ∷ from) to h = refl
 two_alone : (a b : ℕ) → range_regex (a ∷ []) (b ∷ []) ≡ (if nat_le a b then set ((a, b) ∷ []) else none)
 unfolding range_regex
 two_alone a b = refl
+
+-- from the first character to the last
+pub each_character : any_character ≡ range_regex (0 ∷ []) (0x2ffff ∷ [])
+unfolding range_regex
+each_character = refl
 
 pub reversed : (from to : List ℕ) → 1 ≤ length from → length from < 2 → 1 ≤ length to → length to < 2
     → get_or to 0 0 < get_or from 0 0 → range_regex from to ≡ none

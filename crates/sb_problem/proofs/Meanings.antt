@@ -5,16 +5,16 @@ use Rattle.std.specs.List.{flat_map, list_all}
 use Rattle.std.proofs.Common.{Result, Ok, Err, IfOk}
 use Rattle.sb_lang.specs.RegLan as reglan
 use Rattle.sb_lang.specs.RegLan.{RegLan}
-use Rattle.sb_lang.specs.Regex.{Regex}
-use Rattle.sb_lang.specs.Constructors.{mkcat, mkstar}
+use Rattle.sb_lang.specs.Regex.{Regex, none}
+use Rattle.sb_lang.specs.Constructors.{anything, any_character, mkcat, mknot, mkstar}
 use Rattle.sb_lang.specs.Normal.{normal, word_regex, range_regex}
-use Rattle.sb_meaning.specs.Terms.{Term, Terms, word, apply, no_terms, with_term, terms_of, str_to_re, re_range, re_concat, re_union, re_star, re_plus}
+use Rattle.sb_meaning.specs.Terms.{Term, Terms, word, apply, no_terms, with_term, terms_of, str_to_re, re_none, re_all, re_allchar, re_range, re_concat, re_union, re_inter, re_diff, re_star, re_plus, re_opt, re_comp}
 use Rattle.sb_meaning.specs.Values.{Valuation}
 use Rattle.sb_meaning.specs.Truth.{Meaning, meaning_of, meanings_of, means_reglan, reglan_in}
 use Rattle.sb_meaning.specs.Truth as truth
 use Rattle.sb_script.specs.Brought.{is_regex, are_regexes}
 use Rattle.sb_problem.specs.Normals.{IsNumberOf}
-use Rattle.sb_problem.specs.Shapes.{IsNumbered, joined_right, either, repeated, or_none, regex_of, regexes_of}
+use Rattle.sb_problem.specs.Shapes.{IsNumbered, joined_right, joined_from, joined_left, either, both, without, repeated, optional, or_none, regex_of, regexes_of}
 
 pub record IsMeant (t : Term) : Type 0 where
   pub reglan : RegLan
@@ -38,6 +38,18 @@ normal_range : (s t : List ℕ) → normal (reglan.re_range s t) ≡ range_regex
 unfolding normal
 normal_range s t = refl
 
+normal_none : normal reglan.re_none ≡ none
+unfolding normal
+normal_none = refl
+
+normal_all : normal reglan.re_all ≡ anything
+unfolding normal
+normal_all = refl
+
+normal_allchar : normal reglan.re_allchar ≡ any_character
+unfolding normal
+normal_allchar = refl
+
 normal_concat : (R S : RegLan) → normal (reglan.re_concat R S) ≡ mkcat (normal R) (normal S)
 unfolding normal
 normal_concat R S = refl
@@ -46,6 +58,14 @@ normal_union : (R S : RegLan) → normal (reglan.re_union R S) ≡ either (norma
 unfolding normal
 normal_union R S = refl
 
+normal_inter : (R S : RegLan) → normal (reglan.re_inter R S) ≡ both (normal R) (normal S)
+unfolding normal
+normal_inter R S = refl
+
+normal_diff : (R S : RegLan) → normal (reglan.re_diff R S) ≡ without (normal R) (normal S)
+unfolding normal
+normal_diff R S = refl
+
 normal_star : (R : RegLan) → normal (reglan.re_star R) ≡ mkstar (normal R)
 unfolding normal
 normal_star R = refl
@@ -53,6 +73,14 @@ normal_star R = refl
 normal_plus : (R : RegLan) → normal (reglan.re_plus R) ≡ repeated (normal R)
 unfolding normal
 normal_plus R = refl
+
+normal_opt : (R : RegLan) → normal (reglan.re_opt R) ≡ optional (normal R)
+unfolding normal
+normal_opt R = refl
+
+normal_comp : (R : RegLan) → normal (reglan.re_comp R) ≡ mknot (normal R)
+unfolding normal
+normal_comp R = refl
 
 all_normal : (join : RegLan → RegLan → RegLan) (make : Regex → Regex → Regex)
     → ((R S : RegLan) → normal (join R S) ≡ make (normal R) (normal S)) → (R : RegLan) (Rs : List RegLan)
@@ -77,12 +105,43 @@ all_mean join v t ts R Rs h k =
     ap₂ (λ m ms. means_reglan (truth.joined_right join (flat_map reglan_in (m ∷ ms)))) h k
     ∙ ap (λ Ss. means_reglan (truth.joined_right join Ss)) (reglans_among (R ∷ Rs))
 
+-- from the left
+from_normal : (R : RegLan) (Rs : List RegLan)
+    → joined_from without (normal R) (map normal Rs) ≡ normal (truth.joined_from reglan.re_diff R Rs)
+from_normal R [] = refl
+from_normal R (S ∷ Rs) =
+    ap (λ r. joined_from without r (map normal Rs)) (sym (normal_diff R S)) ∙ from_normal (reglan.re_diff R S) Rs
+
+from_meant : (t : Term) (ts : Terms) (R : RegLan) (Rs : List RegLan) → normal R ≡ regex_of t
+    → map normal Rs ≡ regexes_of ts
+    → normal (truth.joined_left reglan.re_diff (R ∷ Rs)) ≡ or_none (joined_left without (regex_of t ∷ regexes_of ts))
+from_meant t ts R Rs h k = sym (from_normal R Rs) ∙ ap₂ (λ r rs. joined_from without r rs) h k
+
+from_mean : (v : Valuation) (t : Term) (ts : Terms) (R : RegLan) (Rs : List RegLan)
+    → meaning_of v t ≡ means_reglan R → meanings_of v ts ≡ map means_reglan Rs →
+    means_reglan (truth.joined_left reglan.re_diff (flat_map reglan_in (meaning_of v t ∷ meanings_of v ts)))
+    ≡ means_reglan (truth.joined_left reglan.re_diff (R ∷ Rs))
+from_mean v t ts R Rs h k =
+    ap₂ (λ m ms. means_reglan (truth.joined_left reglan.re_diff (flat_map reglan_in (m ∷ ms)))) h k
+    ∙ ap (λ Ss. means_reglan (truth.joined_left reglan.re_diff Ss)) (reglans_among (R ∷ Rs))
+
+-- of one
+one_means : (join : RegLan → RegLan) (v : Valuation) (t : Term) (R : RegLan) → meaning_of v t ≡ means_reglan R
+    → means_reglan (truth.of_one join (flat_map reglan_in (meaning_of v t ∷ []))) ≡ means_reglan (join R)
+one_means join v t R h = ap (λ m. means_reglan (truth.of_one join (flat_map reglan_in (m ∷ [])))) h
+
 mutual
   pub regex_means : (t : Term) → is_regex t ≡ true → IsMeant t
   regex_means (apply str_to_re (with_term (word w) no_terms)) h =
       record { reglan = reglan.re_word w; means = λ v. refl; normal = normal_word w }
   regex_means (apply re_range (with_term (word s) (with_term (word t) no_terms))) h =
       record { reglan = reglan.re_range s t; means = λ v. refl; normal = normal_range s t }
+  regex_means (apply re_none no_terms) h =
+      record { reglan = reglan.re_none; means = λ v. refl; normal = normal_none }
+  regex_means (apply re_all no_terms) h =
+      record { reglan = reglan.re_all; means = λ v. refl; normal = normal_all }
+  regex_means (apply re_allchar no_terms) h =
+      record { reglan = reglan.re_allchar; means = λ v. refl; normal = normal_allchar }
   regex_means (apply re_concat (with_term t ts)) h =
       let parts = and_parts (is_regex t) (are_regexes ts) h in
       let one = regex_means t parts.0 in
@@ -101,19 +160,51 @@ mutual
         means = λ v. all_mean reglan.re_union v t ts one.reglan rest.reglans (one.means v) (rest.mean v);
         normal = all_meant reglan.re_union either normal_union t ts one.reglan rest.reglans one.normal rest.normals;
       }
+  regex_means (apply re_inter (with_term t ts)) h =
+      let parts = and_parts (is_regex t) (are_regexes ts) h in
+      let one = regex_means t parts.0 in
+      let rest = regexes_mean ts parts.1 in
+      record {
+        reglan = truth.joined_right reglan.re_inter (one.reglan ∷ rest.reglans);
+        means = λ v. all_mean reglan.re_inter v t ts one.reglan rest.reglans (one.means v) (rest.mean v);
+        normal = all_meant reglan.re_inter both normal_inter t ts one.reglan rest.reglans one.normal rest.normals;
+      }
+  regex_means (apply re_diff (with_term t ts)) h =
+      let parts = and_parts (is_regex t) (are_regexes ts) h in
+      let one = regex_means t parts.0 in
+      let rest = regexes_mean ts parts.1 in
+      record {
+        reglan = truth.joined_left reglan.re_diff (one.reglan ∷ rest.reglans);
+        means = λ v. from_mean v t ts one.reglan rest.reglans (one.means v) (rest.mean v);
+        normal = from_meant t ts one.reglan rest.reglans one.normal rest.normals;
+      }
   regex_means (apply re_star (with_term t no_terms)) h =
       let one = regex_means t h in
       record {
         reglan = reglan.re_star one.reglan;
-        means = λ v. ap (λ m. means_reglan (truth.of_one reglan.re_star (flat_map reglan_in (m ∷ [])))) (one.means v);
+        means = λ v. one_means reglan.re_star v t one.reglan (one.means v);
         normal = normal_star one.reglan ∙ ap mkstar one.normal;
       }
   regex_means (apply re_plus (with_term t no_terms)) h =
       let one = regex_means t h in
       record {
         reglan = reglan.re_plus one.reglan;
-        means = λ v. ap (λ m. means_reglan (truth.of_one reglan.re_plus (flat_map reglan_in (m ∷ [])))) (one.means v);
+        means = λ v. one_means reglan.re_plus v t one.reglan (one.means v);
         normal = normal_plus one.reglan ∙ ap repeated one.normal;
+      }
+  regex_means (apply re_opt (with_term t no_terms)) h =
+      let one = regex_means t h in
+      record {
+        reglan = reglan.re_opt one.reglan;
+        means = λ v. one_means reglan.re_opt v t one.reglan (one.means v);
+        normal = normal_opt one.reglan ∙ ap optional one.normal;
+      }
+  regex_means (apply re_comp (with_term t no_terms)) h =
+      let one = regex_means t h in
+      record {
+        reglan = reglan.re_comp one.reglan;
+        means = λ v. one_means reglan.re_comp v t one.reglan (one.means v);
+        normal = normal_comp one.reglan ∙ ap mknot one.normal;
       }
   regex_means t h = absurd (false≢true h)
 

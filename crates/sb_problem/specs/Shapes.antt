@@ -3,11 +3,11 @@ use Rattle.std.specs.Prelude.{◌≡◌, ℕ, true, false, List, [], ◌∷◌, 
 use Rattle.std.specs.List.{list_all}
 use Rattle.sb_term.specs.declared.sort.Symbol.{Symbol}
 use Rattle.sb_term.specs.declared.sort.Symbol.TheVariants as symbol
-use Rattle.sb_lang.specs.Regex.{Regex, none}
-use Rattle.sb_lang.specs.Constructors.{mkcat, mkalt, mkstar}
+use Rattle.sb_lang.specs.Regex.{Regex, none, eps}
+use Rattle.sb_lang.specs.Constructors.{anything, any_character, mkcat, mkalt, mkand, mknot, mkstar}
 use Rattle.sb_lang.specs.Normal.{word_regex, range_regex}
 use Rattle.sb_regex.specs.Numbered.{regexes_at, AllNumbers, Names}
-use Rattle.sb_meaning.specs.Terms.{Term, Terms, word, apply, no_terms, with_term, str_to_re, re_range, re_concat, re_union, re_star, re_plus}
+use Rattle.sb_meaning.specs.Terms.{Term, Terms, word, apply, no_terms, with_term, str_to_re, re_none, re_all, re_allchar, re_range, re_concat, re_union, re_inter, re_diff, re_star, re_plus, re_opt, re_comp}
 use Rattle.sb_script.specs.Brought.{is_regex}
 
 -- one or more, joined from the right
@@ -15,6 +15,20 @@ abbrev pub joined_right : (Regex → Regex → Regex) → List Regex → Option 
 joined_right join [] = None
 joined_right join (r ∷ []) = Some r
 joined_right join (r ∷ s ∷ rest) = option_map (join r) (joined_right join (s ∷ rest))
+
+-- one or more, joined from the left
+abbrev pub joined_from : (Regex → Regex → Regex) → Regex → List Regex → Regex
+joined_from join r [] = r
+joined_from join r (s ∷ rest) = joined_from join (join r s) rest
+
+abbrev pub joined_left : (Regex → Regex → Regex) → List Regex → Option Regex
+joined_left join [] = None
+joined_left join (r ∷ rest) = Some (joined_from join r rest)
+
+-- of none at all
+abbrev pub of_nothing : Regex → List Regex → Option Regex
+of_nothing r [] = Some r
+of_nothing r rs = None
 
 -- of one alone
 abbrev pub of_one : (Regex → Regex) → List Regex → Option Regex
@@ -24,14 +38,31 @@ of_one make rs = None
 abbrev pub either : Regex → Regex → Regex
 either r s = mkalt (r ∷ s ∷ [])
 
+abbrev pub both : Regex → Regex → Regex
+both r s = mkand (r ∷ s ∷ [])
+
+-- the words of the first that the second lacks
+abbrev pub without : Regex → Regex → Regex
+without r s = mkand (r ∷ mknot s ∷ [])
+
+abbrev pub optional : Regex → Regex
+optional r = mkalt (r ∷ eps ∷ [])
+
 abbrev pub repeated : Regex → Regex
 repeated r = mkcat r (mkstar r)
 
 -- what a symbol makes of regexes, but for concatenations
 abbrev pub made : Symbol → List Regex → Option Regex
+made symbol.ReNone rs = of_nothing none rs
+made symbol.ReAll rs = of_nothing anything rs
+made symbol.ReAllChar rs = of_nothing any_character rs
 made symbol.ReUnion rs = joined_right either rs
+made symbol.ReInter rs = joined_right both rs
+made symbol.ReDiff rs = joined_left without rs
 made symbol.ReStar rs = of_one mkstar rs
 made symbol.RePlus rs = of_one repeated rs
+made symbol.ReOpt rs = of_one optional rs
+made symbol.ReComp rs = of_one mknot rs
 made _ rs = None
 
 abbrev pub or_none : Option Regex → Regex
@@ -42,10 +73,17 @@ abbrev mutual
   pub regex_of : Term → Regex
   regex_of (apply str_to_re (with_term (word w) no_terms)) = word_regex w
   regex_of (apply re_range (with_term (word v) (with_term (word w) no_terms))) = range_regex v w
+  regex_of (apply re_none ts) = or_none (of_nothing none (regexes_of ts))
+  regex_of (apply re_all ts) = or_none (of_nothing anything (regexes_of ts))
+  regex_of (apply re_allchar ts) = or_none (of_nothing any_character (regexes_of ts))
   regex_of (apply re_concat ts) = or_none (joined_right mkcat (regexes_of ts))
   regex_of (apply re_union ts) = or_none (joined_right either (regexes_of ts))
+  regex_of (apply re_inter ts) = or_none (joined_right both (regexes_of ts))
+  regex_of (apply re_diff ts) = or_none (joined_left without (regexes_of ts))
   regex_of (apply re_star ts) = or_none (of_one mkstar (regexes_of ts))
   regex_of (apply re_plus ts) = or_none (of_one repeated (regexes_of ts))
+  regex_of (apply re_opt ts) = or_none (of_one optional (regexes_of ts))
+  regex_of (apply re_comp ts) = or_none (of_one mknot (regexes_of ts))
   regex_of _ = none
 
   pub regexes_of : Terms → List Regex

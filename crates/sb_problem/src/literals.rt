@@ -1,6 +1,7 @@
 //! Regular expressions that are leaves.
 
 ghost use Rattle.std.specs.Prelude.{IfOk};
+ghost use Rattle.sb_lang.specs.Constructors.{any_character};
 ghost use Rattle.sb_lang.specs.Normal.{range_regex};
 ghost use Rattle.sb_meaning.specs.Terms.{apply, terms_of, str_to_re, re_range};
 ghost use Rattle.sb_regex.specs.Numbered.{Extends, Names};
@@ -8,7 +9,7 @@ ghost use Rattle.sb_word.specs.Words.{IsWord};
 ghost use Rattle.sb_term.specs.Numbered.{AllNumbers, terms_at};
 ghost use Rattle.sb_problem.specs.Shapes.{IsNumbered};
 
-use sb_class::{Class, same_members};
+use sb_class::{Class, LAST_CHARACTER, same_members};
 use sb_regex::{Arena, RegexId};
 use sb_term::{Table, Term, TermId};
 use std::alloc::{AllocError, Global};
@@ -81,4 +82,12 @@ fn between(
     } else {
         arena.none()
     }
+}
+
+/// The words of one character, whichever it is.
+pub(crate) fn of_characters(alloc: Global, arena: &mut Arena) -> Result<RegexId, AllocError>
+    ensures names { IfOk result (λ id. Names arena.new id any_character) }
+    ensures extends { Extends arena.old arena.new }
+{
+    between(alloc, arena, &[0], &[LAST_CHARACTER])
 }

@@ -43,7 +43,7 @@ impl Known {
 }
 
 /// What is known of the terms of a table, those below some number, as regular expressions over literals: those that
-/// are made of words and ranges by concatenation, union and repetition.
+/// are made of words, ranges and the constants of that sort by every symbol that takes no index.
 #[derive(Drop)]
 pub struct Normals {
     known: Vec<Known>,
@@ -71,9 +71,9 @@ impl Normals {
     /// The number of a term's normal regex, `None` exactly where the term is no regular expression over literals.
     ///
     /// Each term of the table is gone over once, when it or a later one is asked for first, and in all that is linear
-    /// in the terms, but that the members of unions are sorted. A concatenation is made when it is asked for by itself
-    /// or as a part of a union or a repetition, and then goes once over the members of its parts, however they are
-    /// nested. `AllocError` only for want of memory; the arena may hold more regexes then.
+    /// in the terms, but that the members of unions and intersections are sorted. A concatenation is made when it is
+    /// asked for by itself or as an argument of another symbol, and then goes once over the members of its parts, however
+    /// they are nested. `AllocError` only for want of memory; the arena may hold more regexes then.
     pub fn normal(
         &mut self,
         table: &Table,
@@ -117,12 +117,19 @@ impl Normals {
                 arguments,
             )?)),
             Symbol::ReConcat => Ok(self.concatenated(table, arguments)),
-            Symbol::ReUnion | Symbol::ReStar | Symbol::RePlus => {
-                match self.regexes(table, arena, arguments)? {
-                    Some(ids) => Ok(Known::made(joined(arena, *symbol, &ids)?)),
-                    None => Ok(Known::Other),
-                }
-            }
+            Symbol::ReUnion
+            | Symbol::ReInter
+            | Symbol::ReDiff
+            | Symbol::ReStar
+            | Symbol::RePlus
+            | Symbol::ReOpt
+            | Symbol::ReComp
+            | Symbol::ReNone
+            | Symbol::ReAll
+            | Symbol::ReAllChar => match self.regexes(table, arena, arguments)? {
+                Some(ids) => Ok(Known::made(joined(self.allocator(), arena, *symbol, &ids)?)),
+                None => Ok(Known::Other),
+            },
             _ => Ok(Known::Other),
         }
     }
