@@ -98,6 +98,9 @@ not_two n b = ap (λ t. t && b) none
     none : false ≡ (suc (suc (suc n)) == 2)
     none = grind (arith, nat_tests)
 
+not_none : (n : ℕ) → false ≡ (suc n == 0)
+not_none n = grind (arith, nat_tests)
+
 some_parts : (n : ℕ) (b : Bool) → b ≡ (not (suc n == 0) && b)
 some_parts n b = ap (λ t. t && b) some
   where
@@ -127,6 +130,22 @@ regex_applied symbol.re_star (t ∷ u ∷ ts) = not_one (length ts) _
 regex_applied symbol.re_plus [] = refl
 regex_applied symbol.re_plus (t ∷ []) = one_regex (is_regex t)
 regex_applied symbol.re_plus (t ∷ u ∷ ts) = not_one (length ts) _
+regex_applied symbol.re_inter [] = refl
+regex_applied symbol.re_inter (t ∷ ts) = some_parts (length ts) _
+regex_applied symbol.re_diff [] = refl
+regex_applied symbol.re_diff (t ∷ ts) = some_parts (length ts) _
+regex_applied symbol.re_opt [] = refl
+regex_applied symbol.re_opt (t ∷ []) = one_regex (is_regex t)
+regex_applied symbol.re_opt (t ∷ u ∷ ts) = not_one (length ts) _
+regex_applied symbol.re_comp [] = refl
+regex_applied symbol.re_comp (t ∷ []) = one_regex (is_regex t)
+regex_applied symbol.re_comp (t ∷ u ∷ ts) = not_one (length ts) _
+regex_applied symbol.re_none [] = refl
+regex_applied symbol.re_none (t ∷ ts) = not_none (length ts)
+regex_applied symbol.re_all [] = refl
+regex_applied symbol.re_all (t ∷ ts) = not_none (length ts)
+regex_applied symbol.re_allchar [] = refl
+regex_applied symbol.re_allchar (t ∷ ts) = not_none (length ts)
 regex_applied _ ts = refl
 
 short_applied : (s : Symbol) (ts : List Term) (short : Bool) (size : ℕ) → short ≡ have_short_words (terms_of ts)

@@ -21,6 +21,13 @@ mutual
   no_variables (apply symbol.re_range (with_term (word s) (with_term (word t) no_terms))) h = refl
   no_variables (apply symbol.re_concat (with_term R Rs)) h = joined R Rs h (no_variables R) (no_variables_in_each Rs)
   no_variables (apply symbol.re_union (with_term R Rs)) h = joined R Rs h (no_variables R) (no_variables_in_each Rs)
+  no_variables (apply symbol.re_none no_terms) h = refl
+  no_variables (apply symbol.re_all no_terms) h = refl
+  no_variables (apply symbol.re_allchar no_terms) h = refl
+  no_variables (apply symbol.re_inter (with_term R Rs)) h = joined R Rs h (no_variables R) (no_variables_in_each Rs)
+  no_variables (apply symbol.re_diff (with_term R Rs)) h = joined R Rs h (no_variables R) (no_variables_in_each Rs)
+  no_variables (apply symbol.re_opt (with_term R no_terms)) h = ap (λ xs. xs ++ []) (no_variables R h)
+  no_variables (apply symbol.re_comp (with_term R no_terms)) h = ap (λ xs. xs ++ []) (no_variables R h)
   no_variables (apply symbol.re_star (with_term R no_terms)) h = ap (λ xs. xs ++ []) (no_variables R h)
   no_variables (apply symbol.re_plus (with_term R no_terms)) h = ap (λ xs. xs ++ []) (no_variables R h)
   no_variables R h = absurd (false≢true h)

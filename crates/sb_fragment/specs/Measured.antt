@@ -11,10 +11,17 @@ use Rattle.sb_fragment.specs.Measures.{within_limit}
 abbrev pub is_regex_by : Symbol → ℕ → Bool → Bool → Bool
 is_regex_by symbol.str_to_re n words regexes = (n == 1) && words
 is_regex_by symbol.re_range n words regexes = (n == 2) && words
+is_regex_by symbol.re_none n words regexes = n == 0
+is_regex_by symbol.re_all n words regexes = n == 0
+is_regex_by symbol.re_allchar n words regexes = n == 0
 is_regex_by symbol.re_concat n words regexes = not (n == 0) && regexes
 is_regex_by symbol.re_union n words regexes = not (n == 0) && regexes
+is_regex_by symbol.re_inter n words regexes = not (n == 0) && regexes
+is_regex_by symbol.re_diff n words regexes = not (n == 0) && regexes
 is_regex_by symbol.re_star n words regexes = (n == 1) && regexes
 is_regex_by symbol.re_plus n words regexes = (n == 1) && regexes
+is_regex_by symbol.re_opt n words regexes = (n == 1) && regexes
+is_regex_by symbol.re_comp n words regexes = (n == 1) && regexes
 is_regex_by _ n words regexes = false
 
 abbrev pub is_short_by : Symbol → Bool → ℕ → Bool

@@ -16,7 +16,7 @@ pub struct Measure {
     pub is_word: bool,
     /// No constant stands in the term.
     pub is_ground: bool,
-    /// The term is a regular expression over literals: made of words and ranges by concatenation, union and repetition.
+    /// The term is a regular expression over literals: made by every symbol that takes no index, with words as strings.
     pub is_regex: bool,
     /// No String term within, as a word, has more than 65,535 characters.
     pub is_short: bool,
@@ -90,8 +90,11 @@ fn makes_regex(symbol: Symbol, count: usize, words: bool, regexes: bool) -> bool
     match symbol {
         Symbol::StrToRe => count == 1 && words,
         Symbol::ReRange => count == 2 && words,
-        Symbol::ReConcat | Symbol::ReUnion => count != 0 && regexes,
-        Symbol::ReStar | Symbol::RePlus => count == 1 && regexes,
+        Symbol::ReNone | Symbol::ReAll | Symbol::ReAllChar => count == 0,
+        Symbol::ReConcat | Symbol::ReUnion | Symbol::ReInter | Symbol::ReDiff => {
+            count != 0 && regexes
+        }
+        Symbol::ReStar | Symbol::RePlus | Symbol::ReOpt | Symbol::ReComp => count == 1 && regexes,
         _ => false,
     }
 }
