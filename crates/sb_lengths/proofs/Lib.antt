@@ -1,4 +1,5 @@
 pub mod Bits
 pub mod Sums
 pub mod Repeats
+pub mod Powers
 pub mod Within

@@ -123,7 +123,7 @@ repeats_passed lengths sums place none so_far = record {
         absurd (false≢true
         (sym (not_one _ none) ∙ sym (has_tested sums place) ∙ ap (has sums) (sym at) ∙ h))
 
-same_truth : (x y : Bool) → (x ≡ true → y ≡ true) → (y ≡ true → x ≡ true) → x ≡ y
+pub same_truth : (x y : Bool) → (x ≡ true → y ≡ true) → (y ≡ true → x ≡ true) → x ≡ y
 same_truth true y to from = sym (to refl)
 same_truth false true to from = from refl
 same_truth false false to from = refl

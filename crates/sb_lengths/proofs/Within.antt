@@ -3,8 +3,8 @@ use Rattle.std.proofs.Common.{◌≡◌, ℕ, zero, suc, ◌+◌, ◌<◌, Bool,
 use Rattle.std.proofs.lemmas.Bool.{and_parts, and_from, or_cases, or_right}
 use Rattle.std.proofs.lemmas.Bool.Decides.{nat_tests}
 use Rattle.sb_word.specs.Words.{is_character, are_characters, IsWord}
-use Rattle.sb_lang.specs.Languages.{Language, cut, power, iterate}
-use Rattle.sb_lang.specs.LanguageLaws.{CutIsSomeCut, IterationIsSomePower}
+use Rattle.sb_lang.specs.Languages.{Language, cut, power, iterate, repeat}
+use Rattle.sb_lang.specs.LanguageLaws.{CutIsSomeCut, IterationIsSomePower, RepetitionIsSomePower}
 use Rattle.sb_lengths.specs.declared.Lengths.{Lengths}
 use Rattle.sb_lengths.specs.LengthSets.{has, of_lengths}
 use Rattle.sb_lengths.specs.Lengths.{may, AreLengths}
@@ -46,6 +46,12 @@ pub iterate_within : CutIsSomeCut → IterationIsSomePower → (L L' : Language)
 iterate_within cuts powers L L' l w word short h =
     let p = (powers L w).0 h in
     (powers L' w).1 (p.0, power_within cuts L L' l p.0 w word short p.1)
+
+pub repeat_within : CutIsSomeCut → RepetitionIsSomePower → (L L' : Language) (n m : ℕ) → Within L L'
+    → Within (repeat L n m) (repeat L' n m)
+repeat_within cuts law L L' n m l w word short h =
+    let p = (law L n m w).0 h in
+    (law L' n m w).1 (p.0, p.1, p.2, power_within cuts L L' l p.0 w word short p.3)
 
 -- what is said of lengths, on short words
 pub possible_gives : (lengths : Lengths) (L : Language) → AreLengths lengths L
@@ -101,3 +107,12 @@ star_lengths cuts powers a c possible certain L l =
     lengths_from c (iterate L)
     (within_same _ _ _ (iterate_within cuts powers _ _ (possible_gives a L l)) possible)
     (same_within _ _ _ (iterate_within cuts powers _ _ (certain_gives a L l)) certain)
+
+pub repeat_lengths : CutIsSomeCut → RepetitionIsSomePower → (n m : ℕ) (a c : Lengths)
+    → ((w : List ℕ) → length w < 64 → of_lengths c.possible w ≡ repeat (of_lengths a.possible) n m w)
+    → ((w : List ℕ) → length w < 64 → of_lengths c.certain w ≡ repeat (of_lengths a.certain) n m w)
+    → (L : Language) → AreLengths a L → AreLengths c (repeat L n m)
+repeat_lengths cuts law n m a c possible certain L l =
+    lengths_from c (repeat L n m)
+    (within_same _ _ _ (repeat_within cuts law _ _ n m (possible_gives a L l)) possible)
+    (same_within _ _ _ (repeat_within cuts law _ _ n m (certain_gives a L l)) certain)

@@ -1,10 +1,10 @@
 //! Sets of lengths.
 
-ghost use Rattle.std.specs.Prelude.{◌≡◌, ℕ, ◌<◌, Bool, true, false, not, ◌&&◌, ◌||◌, ◌==◌, List, length};
-ghost use Rattle.sb_lang.specs.Languages.{cut, iterate};
+ghost use Rattle.std.specs.Prelude.{◌≡◌, ℕ, ◌<◌, ◌≤◌, Bool, true, false, not, ◌&&◌, ◌||◌, ◌==◌, List, length};
+ghost use Rattle.sb_lang.specs.Languages.{cut, power, iterate, repeat};
 ghost use Rattle.sb_lengths.specs.LengthSets.{has, of_lengths};
 
-use sb_lang::languages::{cut_is_some_cut, iteration_is_some_power};
+use sb_lang::languages::{cut_is_some_cut, iteration_is_some_power, repetition_is_some_power};
 use std::marker::Model;
 
 /// A set of lengths below 64.
@@ -111,5 +111,36 @@ impl LengthSet {
             }
         }
         LengthSet { bits: sums }
+    }
+    /// The sums of so many of the lengths, as far as they are below 64. As many steps as the count.
+    fn times(self, count: u64) -> LengthSet
+        ensures { (w : List ℕ) → length w < 64 → of_lengths result w ≡ power (of_lengths self) count w }
+    {
+        let mut these = LengthSet::of(0);
+        for _step in 0..count {
+            these = self.sums(these);
+        }
+        these
+    }
+
+    /// The sums of at least the one number of the lengths and at most the other, as far as they are below 64. At most 64
+    /// steps: of 64 lengths or more whose sum is below 64 some are 0, and one more or less of these makes no difference.
+    pub(crate) fn powers(self, least: u64, most: u64) -> LengthSet
+        ensures { (w : List ℕ) → length w < 64 → of_lengths result w ≡ repeat (of_lengths self) least most w }
+    {
+        cut_is_some_cut();
+        repetition_is_some_power();
+        if most < least {
+            return LengthSet::none();
+        }
+        let first = least.min(64);
+        let last = most.min(64);
+        let mut these = self.times(first);
+        let mut sums = these;
+        for _count in first..last {
+            these = self.sums(these);
+            sums = sums.union(these);
+        }
+        sums
     }
 }

@@ -10,11 +10,11 @@ mod length_set;
 
 ghost use Rattle.std.specs.Prelude.{◌≡◌, ℕ, Bool, true, false, not, ◌&&◌, ◌||◌};
 ghost use Rattle.sb_word.specs.Words.{is_character};
-ghost use Rattle.sb_lang.specs.Languages.{Language, empty_word, one_character, cut, iterate};
+ghost use Rattle.sb_lang.specs.Languages.{Language, empty_word, one_character, cut, iterate, repeat};
 ghost use Rattle.sb_lengths.specs.Lengths.{may, must, AreLengths};
 
 pub use length_set::LengthSet;
-use sb_lang::languages::{cut_is_some_cut, iteration_is_some_power};
+use sb_lang::languages::{cut_is_some_cut, iteration_is_some_power, repetition_is_some_power};
 
 /// The lengths that words of a language may have, and those at which every word of characters is in it.
 #[derive(Clone, Copy, Debug, PartialEq, Eq)]
@@ -123,6 +123,19 @@ impl Lengths {
         Lengths {
             possible: self.possible.repeats(),
             certain: self.certain.repeats(),
+        }
+    }
+
+    /// Of so many words of the language, one behind the other: of at least the one number of them, and at most the other.
+    /// Constant time, however great these are.
+    pub fn repeat(self, least: u64, most: u64) -> Lengths
+        ensures { (L : Language) → AreLengths self L → AreLengths result (repeat L least most) }
+    {
+        cut_is_some_cut();
+        repetition_is_some_power();
+        Lengths {
+            possible: self.possible.powers(least, most),
+            certain: self.certain.powers(least, most),
         }
     }
 
