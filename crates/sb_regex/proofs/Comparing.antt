@@ -103,6 +103,7 @@ not_none rs (node.Alt ps) h = refl
 not_none rs (node.And ps) h = refl
 not_none rs (node.Not a) h = refl
 not_none rs (node.Star a) h = refl
+not_none rs (node.Rep a n m) h = refl
 
 tied : (x m : ℕ) → nat_eq x m ≡ is_eq (ordering_then (nat_cmp x m) Equal)
 tied x m = step (nat_cmp x m) refl
@@ -187,6 +188,7 @@ kind_of rs (node.Alt ps) = refl
 kind_of rs (node.And ps) = refl
 kind_of rs (node.Not a) = refl
 kind_of rs (node.Star a) = refl
+kind_of rs (node.Rep a n m) = refl
 
 by_kinds : IsByKindThenParts regex_cmp → IsTotalOrder regex_cmp → (r s : Regex) → (kind r ≡ kind s → ⊥)
     → regex_cmp r s ≡ nat_cmp (kind r) (kind s)
@@ -225,6 +227,7 @@ none_first law total rs a b d e f g is = step (nat_eq (node_kind d) (node_kind e
     same_none (node.And ps) h = absurd (omega arith)
     same_none (node.Not a) h = absurd (omega arith)
     same_none (node.Star a) h = absurd (omega arith)
+    same_none (node.Rep a n m) h = absurd (omega arith)
 
     step : (t : Bool) → nat_eq (node_kind d) (node_kind e) ≡ t
         → regex_cmp (regex_at rs a) (regex_at rs b) ≡ nat_cmp (node_kind d) (node_kind e)
@@ -251,6 +254,7 @@ eps_first law total rs a b d e f g is = step (nat_eq (node_kind d) (node_kind e)
     same_eps (node.And ps) h = absurd (omega arith)
     same_eps (node.Not a) h = absurd (omega arith)
     same_eps (node.Star a) h = absurd (omega arith)
+    same_eps (node.Rep a n m) h = absurd (omega arith)
 
     step : (t : Bool) → nat_eq (node_kind d) (node_kind e) ≡ t
         → regex_cmp (regex_at rs a) (regex_at rs b) ≡ nat_cmp (node_kind d) (node_kind e)
@@ -272,6 +276,7 @@ not_set (node.Alt ps) h k = omega arith
 not_set (node.And ps) h k = omega arith
 not_set (node.Not a) h k = omega arith
 not_set (node.Star a) h k = omega arith
+not_set (node.Rep a n m) h k = omega arith
 
 pub set_first : IsByKindThenParts regex_cmp → IsTotalOrder regex_cmp → (rs : List Regex) (a b : ℕ) (d e : Node)
     → node_regex rs d ≡ regex_at rs a → node_regex rs e ≡ regex_at rs b → (v : _) → d ≡ node.Set v
@@ -288,6 +293,7 @@ not_cat (node.Alt ps) h k = omega arith
 not_cat (node.And ps) h k = omega arith
 not_cat (node.Not a) h k = omega arith
 not_cat (node.Star a) h k = omega arith
+not_cat (node.Rep a n m) h k = omega arith
 
 pub cat_first : IsByKindThenParts regex_cmp → IsTotalOrder regex_cmp → (rs : List Regex) (a b : ℕ) (d e : Node)
     → node_regex rs d ≡ regex_at rs a → node_regex rs e ≡ regex_at rs b → (p q : _) → d ≡ node.Cat p q
@@ -305,6 +311,7 @@ not_alt (node.Alt ps) h k = h ps refl
 not_alt (node.And ps) h k = omega arith
 not_alt (node.Not a) h k = omega arith
 not_alt (node.Star a) h k = omega arith
+not_alt (node.Rep a n m) h k = omega arith
 
 pub alt_first : IsByKindThenParts regex_cmp → IsTotalOrder regex_cmp → (rs : List Regex) (a b : ℕ) (d e : Node)
     → node_regex rs d ≡ regex_at rs a → node_regex rs e ≡ regex_at rs b → (ps : _) → d ≡ node.Alt ps
@@ -321,6 +328,7 @@ not_and (node.Alt ps) h k = omega arith
 not_and (node.And ps) h k = h ps refl
 not_and (node.Not a) h k = omega arith
 not_and (node.Star a) h k = omega arith
+not_and (node.Rep a n m) h k = omega arith
 
 pub and_first : IsByKindThenParts regex_cmp → IsTotalOrder regex_cmp → (rs : List Regex) (a b : ℕ) (d e : Node)
     → node_regex rs d ≡ regex_at rs a → node_regex rs e ≡ regex_at rs b → (ps : _) → d ≡ node.And ps
@@ -337,6 +345,7 @@ not_not (node.Alt ps) h k = omega arith
 not_not (node.And ps) h k = omega arith
 not_not (node.Not a) h k = h a refl
 not_not (node.Star a) h k = omega arith
+not_not (node.Rep a n m) h k = omega arith
 
 pub not_first : IsByKindThenParts regex_cmp → IsTotalOrder regex_cmp → (rs : List Regex) (a b : ℕ) (d e : Node)
     → node_regex rs d ≡ regex_at rs a → node_regex rs e ≡ regex_at rs b → (p : _) → d ≡ node.Not p
@@ -353,12 +362,31 @@ not_star (node.Alt ps) h k = omega arith
 not_star (node.And ps) h k = omega arith
 not_star (node.Not a) h k = omega arith
 not_star (node.Star a) h k = h a refl
+not_star (node.Rep a n m) h k = omega arith
 
 pub star_first : IsByKindThenParts regex_cmp → IsTotalOrder regex_cmp → (rs : List Regex) (a b : ℕ) (d e : Node)
     → node_regex rs d ≡ regex_at rs a → node_regex rs e ≡ regex_at rs b → (p : _) → d ≡ node.Star p
     → ((p : _) → e ≡ node.Star p → ⊥) → regex_cmp (regex_at rs a) (regex_at rs b) ≡ nat_cmp (node_kind d) (node_kind e)
 star_first law total rs a b d e f g x0 is other =
     other_kind law total rs a b d e f g (λ k. not_star e other (ap node_kind (sym is) ∙ k))
+
+not_rep : (e : Node) → ((p n m : _) → e ≡ node.Rep p n m → ⊥) → 8 ≡ node_kind e → ⊥
+not_rep node.None h k = omega arith
+not_rep node.Eps h k = omega arith
+not_rep (node.Set v) h k = omega arith
+not_rep (node.Cat a b) h k = omega arith
+not_rep (node.Alt ps) h k = omega arith
+not_rep (node.And ps) h k = omega arith
+not_rep (node.Not a) h k = omega arith
+not_rep (node.Star a) h k = omega arith
+not_rep (node.Rep a n m) h k = h a n m refl
+
+pub rep_first : IsByKindThenParts regex_cmp → IsTotalOrder regex_cmp → (rs : List Regex) (a b : ℕ) (d e : Node)
+    → node_regex rs d ≡ regex_at rs a → node_regex rs e ≡ regex_at rs b → (p n m : _) → d ≡ node.Rep p n m
+    → ((p n m : _) → e ≡ node.Rep p n m → ⊥)
+    → regex_cmp (regex_at rs a) (regex_at rs b) ≡ nat_cmp (node_kind d) (node_kind e)
+rep_first law total rs a b d e f g x0 x1 x2 is other =
+    other_kind law total rs a b d e f g (λ k. not_rep e other (ap node_kind (sym is) ∙ k))
 
 -- Members in order.
 
@@ -457,6 +485,27 @@ heads_differ law tells rs distinct a b p q r s f g l m h =
     ap₂ (λ x y. regex_cmp x y) (sym f) (sym g)
     ∙ law.concatenations _ _ _ _
     ∙ unlike_then _ _ (differ tells rs distinct p r l m h)
+
+-- Repetitions.
+
+pub bounds_differ : IsByKindThenParts regex_cmp → IsTotalOrder regex_cmp → (rs : List Regex)
+    → (a b p n m q k l : ℕ) → rep (regex_at rs p) n m ≡ regex_at rs a → rep (regex_at rs q) k l ≡ regex_at rs b
+    → nat_eq p q ≡ true
+    → regex_cmp (regex_at rs a) (regex_at rs b) ≡ ordering_then (nat_cmp n k) (nat_cmp m l)
+bounds_differ law total rs a b p n m q k l f g h =
+    ap₂ (λ x y. regex_cmp x y) (sym f) (sym g)
+    ∙ law.repetitions _ _ _ _ _ _
+    ∙ ap (λ o. ordering_then o (ordering_then (nat_cmp n k) (nat_cmp m l)))
+    (ap (λ i. regex_cmp (regex_at rs p) (regex_at rs i)) (sym (nat_same p q h)) ∙ tied_itself total (regex_at rs p))
+
+pub bodies_differ : IsByKindThenParts regex_cmp → OrderTellsApart → (rs : List Regex) → AreDistinct rs
+    → (a b p n m q k l : ℕ) → rep (regex_at rs p) n m ≡ regex_at rs a → rep (regex_at rs q) k l ≡ regex_at rs b
+    → p < length rs → q < length rs → nat_eq p q ≡ false
+    → regex_cmp (regex_at rs a) (regex_at rs b) ≡ regex_cmp (regex_at rs p) (regex_at rs q)
+bodies_differ law tells rs distinct a b p n m q k l f g u v h =
+    ap₂ (λ x y. regex_cmp x y) (sym f) (sym g)
+    ∙ law.repetitions _ _ _ _ _ _
+    ∙ unlike_then _ _ (differ tells rs distinct p q u v h)
 
 -- The loop over parts that differ.
 

@@ -88,6 +88,7 @@ alternatives_other rs d r e other = ap (λ x. x ∷ []) (sym e) ∙ step d other
     step (node.And ps) h = refl
     step (node.Not a) h = refl
     step (node.Star a) h = refl
+    step (node.Rep a n m) h = refl
 
 pub conjuncts_other : (rs : List Regex) (d : Node) (r : Regex) → node_regex rs d ≡ r → ((ps : _) → d ≡ node.And ps → ⊥)
     → r ∷ [] ≡ conjuncts r
@@ -103,6 +104,7 @@ conjuncts_other rs d r e other = ap (λ x. x ∷ []) (sym e) ∙ step d other �
     step (node.And ps) h = absurd (h ps refl)
     step (node.Not a) h = refl
     step (node.Star a) h = refl
+    step (node.Rep a n m) h = refl
 
 pub ranges_set : (rs : List Range) (r : Regex) → set rs ≡ r → rs ∷ [] ≡ ranges_of r
 unfolding ranges_of
@@ -122,6 +124,7 @@ ranges_other rs d r e other = step d other ∙ ap ranges_of e
     step (node.And ps) h = refl
     step (node.Not a) h = refl
     step (node.Star a) h = refl
+    step (node.Rep a n m) h = refl
 
 pub alone_set : (rs : List Range) (r : Regex) → set rs ≡ r → [] ≡ kept_alone r
 unfolding kept_alone is_set
@@ -141,6 +144,7 @@ alone_other rs d r e other = ap (λ x. x ∷ []) (sym e) ∙ step d other ∙ ap
     step (node.And ps) h = refl
     step (node.Not a) h = refl
     step (node.Star a) h = refl
+    step (node.Rep a n m) h = refl
 
 pub normal_is_canonical : (rs : List Range) (r : Regex) → set rs ≡ r → IsNormal r → IsCanonical rs
 unfolding is_normal

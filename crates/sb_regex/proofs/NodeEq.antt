@@ -4,7 +4,7 @@ use Rattle.std.specs.Cmp.Lexicographic.{pointwise, same_text}
 use Rattle.std.proofs.lemmas.Bool.{and_parts, false≢true}
 use Rattle.std.proofs.lemmas.Bool.Decides.{nat_tests}
 use Rattle.sb_class.specs.Ranges.{Range}
-use Rattle.sb_lang.specs.Regex.{Regex, set, cat, alt, and, neg, star, regexes, parts}
+use Rattle.sb_lang.specs.Regex.{Regex, set, cat, alt, and, neg, star, rep, regexes, parts}
 use Rattle.sb_lang.specs.OrderLaws.{kind}
 use Rattle.sb_regex.specs.declared.node.Node.{Node}
 use Rattle.sb_regex.specs.declared.node.Node.TheVariants as node
@@ -67,6 +67,9 @@ same_numbers rs (i ∷ is) (j ∷ js) d p q h =
     two : (x y : Regex) (xs ys : List Regex) → x ∷ xs ≡ y ∷ ys → (x ≡ y) × (xs ≡ ys)
     two x y xs ys e = (cc, cc)
 
+rep_same : (a b : Regex) (n k m l : ℕ) → a ≡ b → n ≡ k → m ≡ l → rep a n m ≡ rep b k l
+rep_same a b n k m l e f g = cc
+
 -- Nodes that the test takes for one stand for one regex.
 
 pub same_gives : (rs : List Regex) (d e : Node) → same d e ≡ true → node_regex rs d ≡ node_regex rs e
@@ -82,6 +85,11 @@ same_gives rs (node.And a) (node.And b) h =
     ap (λ is. and (regexes (regexes_at rs is))) (same_text a.items b.items (sym h))
 same_gives rs (node.Not a) (node.Not b) h = ap (λ i. neg (regex_at rs i)) (nat_same a b h)
 same_gives rs (node.Star a) (node.Star b) h = ap (λ i. star (regex_at rs i)) (nat_same a b h)
+same_gives rs (node.Rep a n m) (node.Rep b k l) h =
+    let p = and_parts (nat_eq a b) _ h in
+    let q = and_parts (nat_eq n k) _ p.1 in
+    rep_same (regex_at rs a) (regex_at rs b) n k m l (ap (regex_at rs) (nat_same a b p.0)) (nat_same n k q.0)
+    (nat_same m l q.1)
 same_gives rs _ _ h = absurd (false≢true h)
 
 -- Regexes of other kinds, and the parts of equal ones.
@@ -100,6 +108,9 @@ neg_part a b e = cc
 
 star_part : (a b : Regex) → star a ≡ star b → a ≡ b
 star_part a b e = cc
+
+rep_parts : (a b : Regex) (n k m l : ℕ) → rep a n m ≡ rep b k l → (a ≡ b) × (n ≡ k) × (m ≡ l)
+rep_parts a b n k m l e = (cc, cc, cc)
 
 -- The test finds nodes of one regex.
 
@@ -125,4 +136,9 @@ gives_same rs (node.Not a) (node.Not b) t p q h =
     same_nat a b (t a b (p 0 0 (omega arith)) (q 0 0 (omega arith)) (neg_part _ _ h))
 gives_same rs (node.Star a) (node.Star b) t p q h =
     same_nat a b (t a b (p 0 0 (omega arith)) (q 0 0 (omega arith)) (star_part _ _ h))
+gives_same rs (node.Rep a n m) (node.Rep b k l) t p q h =
+    let e = rep_parts _ _ _ _ _ _ h in
+    ap₂ ◌&&◌
+    (same_nat a b (t a b (p 0 0 (omega arith)) (q 0 0 (omega arith)) e.0))
+    (ap₂ ◌&&◌ (same_nat n k e.1) (same_nat m l e.2))
 gives_same rs d e t p q h = absurd (other_kinds _ _ refl h)

@@ -60,6 +60,7 @@ not_cat rs d r e other = sym (ap is_cat e) ∙ step d other
     step (node.And ps) h = refl
     step (node.Not a) h = refl
     step (node.Star a) h = refl
+    step (node.Rep a n m) h = refl
 
 pub plain_node : (rs : List Regex) (d : Node) (r : Regex) → node_regex rs d ≡ r → (d ≡ node.None → ⊥)
     → (d ≡ node.Eps → ⊥) → is_plain r ≡ true
@@ -75,6 +76,7 @@ plain_node rs d r e f g = sym (ap is_plain e) ∙ step d f g
     step (node.And ps) f g = refl
     step (node.Not a) f g = refl
     step (node.Star a) f g = refl
+    step (node.Rep a n m) f g = refl
 
 -- From the right.
 

@@ -22,6 +22,7 @@ node_kind (node.Alt ps) = 4
 node_kind (node.And ps) = 5
 node_kind (node.Not a) = 6
 node_kind (node.Star a) = 7
+node_kind (node.Rep a n m) = 8
 
 -- what is kept of a regex is true of it
 pub record AreFactsOf (facts : Facts) (r : Regex) : Type 0 where

@@ -1,8 +1,8 @@
-//! The constructors of single regexes, concatenations and stars.
+//! The constructors of single regexes, concatenations, stars and repetitions.
 
-ghost use Rattle.std.specs.Prelude.{◌≡◌, ◌<◌, true, false, length, IfOk};
+ghost use Rattle.std.specs.Prelude.{◌≡◌, ◌<◌, ◌≤◌, true, false, length, IfOk};
 ghost use Rattle.sb_lang.specs.Regex.{set};
-ghost use Rattle.sb_lang.specs.Constructors.{any_character, mkset, mkcat, mknot, mkstar};
+ghost use Rattle.sb_lang.specs.Constructors.{any_character, mkset, mkcat, mknot, mkstar, mkrep};
 ghost use Rattle.sb_lang.specs.Order.{regex_eq};
 ghost use Rattle.sb_lang.specs.Normal.{word_regex};
 ghost use Rattle.sb_lang.specs.NormalForm.{IsNormal};
@@ -146,6 +146,42 @@ impl Arena {
                 }
             }
             _ => self.intern(Node::Star(a)),
+        }
+    }
+
+    /// The repetition, from the one number of times to the other. Constant time, however great these are.
+    pub fn rep(&mut self, body: RegexId, least: u64, most: u64) -> Result<RegexId, AllocError>
+        requires { body < length self.old }
+        ensures ok { IfOk result (λ id. Names self.new id (mkrep (regex_at self.old body) least most)) }
+        ensures extends { Extends self.old self.new }
+    {
+        if most < least {
+            return self.none();
+        }
+        if most == 0 {
+            return self.eps();
+        }
+        if least == 1 && most == 1 {
+            return Ok(body);
+        }
+        self.repeat(body, least, most)
+    }
+
+    /// A repetition with bounds in order, of more than no time and more than once alone.
+    fn repeat(&mut self, body: RegexId, least: u64, most: u64) -> Result<RegexId, AllocError>
+        requires body { body < length self.old }
+        requires ordered { least ≤ most }
+        requires some { 0 < most }
+        requires not_once { (least ≡ 1) → (most ≡ 1) → ⊥ }
+        ensures ok { IfOk result (λ id. Names self.new id (mkrep (regex_at self.old body) least most)) }
+        ensures extends { Extends self.old self.new }
+    {
+        constructors_give_normal();
+        self.normal_regexes_each_once();
+        match self.node(body) {
+            Node::Eps => Ok(body),
+            Node::None => { if least == 0 { self.eps() } else { Ok(body) } }
+            _ => self.intern(Node::Rep(body, least, most)),
         }
     }
 

@@ -2,7 +2,7 @@
 
 ghost use Rattle.std.specs.Prelude.{◌≡◌, ◌<◌, ◌↔◌, length};
 ghost use Rattle.std.specs.declared.cmp.Ordering.TheVariants.{Equal};
-ghost use Rattle.std.specs.Ordering.{nat_cmp};
+ghost use Rattle.std.specs.Ordering.{nat_cmp, ordering_then};
 ghost use Rattle.std.specs.Cmp.Lexicographic.{slice_cmp};
 ghost use Rattle.sb_lang.specs.Order.{regex_cmp};
 ghost use Rattle.sb_lang.specs.OrderLaws.{ends};
@@ -104,8 +104,25 @@ impl Arena {
                 };
                 Difference::Parts(*p, *q)
             }
+            Node::Rep(p, least, most) => {
+                let Node::Rep(q, fewest, greatest) = right else {
+                    return by_kind(left, right);
+                };
+                if p == q {
+                    by_bounds(*least, *most, *fewest, *greatest)
+                } else {
+                    Difference::Parts(*p, *q)
+                }
+            }
         }
     }
+}
+
+/// The order of two repetitions of one body.
+fn by_bounds(least: u64, most: u64, fewest: u64, greatest: u64) -> Difference
+    ensures { result ≡ Decided (ordering_then (nat_cmp least fewest) (nat_cmp most greatest)) }
+{
+    Difference::Decided(least.cmp(&fewest).then(most.cmp(&greatest)))
 }
 
 /// The order of nodes of two kinds.

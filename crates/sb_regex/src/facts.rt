@@ -28,6 +28,7 @@ impl Arena {
             Node::Alt(parts) => self.some_nullable(parts.as_slice()),
             Node::And(parts) => self.all_nullable(parts.as_slice()),
             Node::Not(a) => !self.nullable(*a),
+            Node::Rep(a, least, most) => *least <= *most && (*least == 0 || self.nullable(*a)),
         }
     }
 
@@ -71,6 +72,7 @@ impl Arena {
             Node::And(parts) => self.all_lengths(parts.as_slice()),
             Node::Not(a) => self.lengths(*a).complement(),
             Node::Star(a) => self.lengths(*a).star(),
+            Node::Rep(a, least, most) => self.lengths(*a).repeat(*least, *most),
         }
     }
 

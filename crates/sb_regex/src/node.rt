@@ -60,6 +60,8 @@ pub enum Node {
     Not(RegexId),
     /// Star.
     Star(RegexId),
+    /// Repetition: the body, from the first number of times to the second.
+    Rep(RegexId, u64, u64),
 }
 
 impl Node {
@@ -78,6 +80,7 @@ impl Node {
             Node::And(_) => 5,
             Node::Not(_) => 6,
             Node::Star(_) => 7,
+            Node::Rep(..) => 8,
         }
     }
 }

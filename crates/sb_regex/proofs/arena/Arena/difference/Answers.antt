@@ -1,6 +1,6 @@
 use Rattle.std.proofs.Common.{ap, sym, ◌∙◌, arith}
 use Rattle.sb_regex.specs.Nodes.{node_regex}
-use Rattle.sb_regex.proofs.Comparing.{none_first, eps_first, set_first, cat_first, alt_first, and_first, not_first, star_first, unions_differ, intersections_differ, rests_differ, heads_differ}
+use Rattle.sb_regex.proofs.Comparing.{none_first, eps_first, set_first, cat_first, alt_first, and_first, not_first, star_first, rep_first, unions_differ, intersections_differ, rests_differ, heads_differ, bounds_differ, bodies_differ}
 use Rattle.sb_regex.proofs.arena.Arena.difference.Goals as goal
 
 pub returns-in_default : goal.returns-in_default
@@ -97,3 +97,34 @@ returns-in-And-right c =
     c.args.self.now c.normal_regexes_each_once.ensures.distinct c.args.a c.args.b c.requires.left c.requires.right
     c.in-And.ps.items c.in-And-right.qs.items p q f g _
     (rw (c.as_slice-in-And.ensures, c.as_slice-in-And-2.ensures) at c.first_difference-in-And.ensures)
+
+pub returns-in_default-right-6 : goal.returns-in_default-right-6
+returns-in_default-right-6 c =
+    rw (c.by_kind-in_default-right-6.ensures)
+    (rep_first c.order_is_by_parts.ensures c.order_is_total.ensures c.args.self.now c.args.a c.args.b _ _
+    c.node-left.ensures.value c.node-right.ensures.value c.in-Rep.p c.in-Rep.least c.in-Rep.most c.in-Rep.is
+    c.in_default-right-6.not-Rep)
+
+pub returns-then-eq-2 : goal.returns-then-eq-2
+returns-then-eq-2 c =
+    let f = ap (node_regex c.args.self.now) (sym c.in-Rep.is) ∙ c.node-left.ensures.value in
+    let g = ap (node_regex c.args.self.now) (sym c.in-Rep-right.is) ∙ c.node-right.ensures.value in
+    rw (c.by_bounds.ensures)
+    (bounds_differ c.order_is_by_parts.ensures c.order_is_total.ensures c.args.self.now c.args.a c.args.b _ _ _ _ _ _ f g
+    (sym c.eq-in-Rep.ensures ∙ c.if-eq-2.true))
+
+pub returns-else-eq-2 : goal.returns-else-eq-2
+returns-else-eq-2 c =
+    let f = ap (node_regex c.args.self.now) (sym c.in-Rep.is) ∙ c.node-left.ensures.value in
+    let g = ap (node_regex c.args.self.now) (sym c.in-Rep-right.is) ∙ c.node-right.ensures.value in
+    let p = rw (c.in-Rep.is) at c.node-left.ensures.parts in
+    let q = rw (c.in-Rep-right.is) at c.node-right.ensures.parts in
+    let l = p 0 0 (omega arith) in
+    let m = q 0 0 (omega arith) in (
+      l,
+      m,
+      bodies_differ c.order_is_by_parts.ensures c.order_tells_apart.ensures c.args.self.now
+          c.normal_regexes_each_once.ensures.distinct c.args.a c.args.b _ _ _ _ _ _ f g
+          (omega (arith, l, c.requires.left)) (omega (arith, m, c.requires.right))
+          (sym c.eq-in-Rep.ensures ∙ c.if-eq-2.false),
+    )
