@@ -1,19 +1,19 @@
 -- The derivative of a concatenation.
-use Rattle.std.proofs.Common.{◌≡◌, ℕ, zero, suc, ◌<◌, ◌≤◌, true, false, cond, Some, None, Option, List, [], ◌∷◌, length, refl, sym, ap, ap₂, subst, ◌∙◌, arith}
+use Rattle.std.proofs.Common.{◌≡◌, ℕ, zero, suc, ◌-◌, ◌<◌, ◌≤◌, true, false, cond, Some, None, Option, List, [], ◌∷◌, length, refl, sym, ap, ap₂, subst, ◌∙◌, arith}
 use Rattle.std.specs.Prelude.{IfSome, IfNone}
 use Rattle.std.specs.List.{All}
 use Rattle.std.proofs.lemmas.List.Elements.{All-nil, All-cons}
 use Rattle.sb_word.specs.Words.{is_character}
-use Rattle.sb_lang.specs.Regex.{Regex, cat}
-use Rattle.sb_lang.specs.Constructors.{mkalt, mkcat}
+use Rattle.sb_lang.specs.Regex.{Regex, cat, rep}
+use Rattle.sb_lang.specs.Constructors.{mkalt, mkcat, mkrep}
 use Rattle.sb_lang.specs.Derivative.{nd, nds, nullable}
-use Rattle.sb_regex.specs.Numbered.{regex_at, regexes_at, AllNumbers, Extends}
+use Rattle.sb_regex.specs.Numbered.{regex_at, regexes_at, AllNumbers, Extends, Names}
 use Rattle.sb_deriv.specs.declared.operation.Constants.{Constants}
 use Rattle.sb_deriv.specs.declared.operation.Operation.TheVariants as operation
 use Rattle.sb_deriv.specs.Pieces.{value_from, value_at}
 use Rattle.sb_deriv.specs.Faithful.{IsMapOf, IsDerivative, IsFaithful, Memo}
 use Rattle.sb_deriv.specs.Choices.{made, picked, map_of, values_at, targets_at, nd_each, AreConstants, HaveEntries}
-use Rattle.sb_regex.proofs.CallerLemmas.{at_kept}
+use Rattle.sb_regex.proofs.CallerLemmas.{at_kept, names_at}
 use Rattle.sb_deriv.proofs.Derivatives.{value_number, map_same, faithful_kept, constants_kept}
 use Rattle.sb_deriv.proofs.Kept.{made_picked, picked_numbers}
 use Rattle.sb_deriv.proofs.Gathering.{ArePicked, below_end, targets_are, target_numbers, made_of_choices}
@@ -122,6 +122,27 @@ pub cat_of_one : (rs rs' : List Regex) (a b : ℕ) (d : List (ℕ × ℕ)) → n
 cat_of_one rs rs' a b d n m =
     map_same rs' (λ c. made rs (operation.Cat b) (nd_each (regexes_at rs (a ∷ [])) c))
     (nd (cat (regex_at rs a) (regex_at rs b))) d (λ c u. cat_plain rs a b c n) m
+
+-- a repetition, with the rest of it behind the body
+
+rep_value : (old new : List Regex) (a rest least most c : ℕ) → Extends old new → a < length old → 0 < most
+    → Names new rest (mkrep (regex_at old a) (least - 1) (most - 1))
+    → made new (operation.Cat rest) (nd_each (regexes_at new (a ∷ [])) c) ≡ nd (rep (regex_at old a) least most) c
+unfolding made nd
+rep_value old new a rest least most c ext l some names =
+    let e : suc (most - 1) ≡ most = omega (arith, some) in
+    ap₂ (λ x y. mkcat (nd x c) y) (at_kept old new a ext l)
+    (names_at new rest (mkrep (regex_at old a) (least - 1) (most - 1)) names)
+    ∙ ap (λ m. nd (rep (regex_at old a) least m) c) e
+
+pub rep_of_one : (old new now : List Regex) (a rest least most : ℕ) (d : List (ℕ × ℕ)) → Extends old new
+    → a < length old → 0 < most → Names new rest (mkrep (regex_at old a) (least - 1) (most - 1))
+    → IsMapOf now (λ c. made new (operation.Cat rest) (nd_each (regexes_at new (a ∷ [])) c)) d
+    → IsDerivative now (rep (regex_at old a) least most) d
+rep_of_one old new now a rest least most d ext l some names m =
+    map_same now (λ c. made new (operation.Cat rest) (nd_each (regexes_at new (a ∷ [])) c))
+    (nd (rep (regex_at old a) least most)) d
+    (λ c u. rep_value old new a rest least most c ext l some names) m
 
 union_made : (rs ps : List Regex) → made rs operation.Alt ps ≡ mkalt ps
 unfolding made

@@ -1,13 +1,15 @@
 -- What the derivatives of nodes are made from.
-use Rattle.std.proofs.Common.{◌≡◌, ℕ, ◌<◌, true, List, [], ◌∷◌, length, refl, sym, ap, subst, ◌∙◌}
+use Rattle.std.proofs.Common.{◌≡◌, ℕ, ◌<◌, Bool, true, false, nat_lt, if◌then◌else◌, List, [], ◌∷◌, length, refl, sym, ap, subst, ◌∙◌, arith}
 use Rattle.std.specs.List.{All, list_all}
-use Rattle.std.proofs.lemmas.Bool.{and_parts}
+use Rattle.std.proofs.lemmas.Bool.{and_parts, false≢true}
+use Rattle.std.proofs.lemmas.Bool.Decides.{nat_tests}
 use Rattle.std.proofs.lemmas.List.Sums.{AllPass-from_list_all}
 use Rattle.sb_class.specs.Ranges.{Range, IsCanonical}
-use Rattle.sb_lang.specs.Regex.{Regex, none, set, alt, and, neg, star, regexes}
-use Rattle.sb_lang.specs.Constructors.{mkcat, mkalt, mkand}
+use Rattle.sb_lang.specs.Regex.{Regex, none, eps, set, alt, and, neg, star, rep, regexes}
+use Rattle.sb_lang.specs.Constructors.{mkcat, mkalt, mkand, mkrep}
 use Rattle.sb_lang.specs.Derivative.{nd, nds}
 use Rattle.sb_lang.specs.NormalForm.{is_normal, IsNormal}
+use Rattle.sb_lang.specs.Order.{code, regex_eq}
 use Rattle.sb_regex.specs.declared.node.Node.{Node}
 use Rattle.sb_regex.specs.declared.node.Node.TheVariants as node
 use Rattle.sb_regex.specs.Numbered.{regex_at, regexes_at}
@@ -56,6 +58,28 @@ shape_set rs n v w normal l e is =
     let m : IsNormal (regex_at rs n) = AllPass-from_list_all is_normal rs normal n none l in
     let k : IsCanonical v = set_canonical v (subst IsNormal (sym e) m) in
     (subst IsCanonical (sym is) k, sym e ∙ ap set (sym is))
+
+-- a repetition of no time is not normal
+no_time : (a : Regex) (n : ℕ) → IsNormal (rep a n 0) → ⊥
+unfolding is_normal mkrep code
+no_time a n h = step (nat_lt 0 n) (and_parts _ _ h).1
+  where
+    step : (b : Bool) → regex_eq (if b then none else eps) (rep a n 0) ≡ true → ⊥
+    step true e = false≢true e
+    step false e = false≢true e
+
+pub shape_rep : (rs : List Regex) (n a least most : ℕ) → list_all is_normal rs ≡ true → n < length rs
+    → rep (regex_at rs a) least most ≡ regex_at rs n → 0 < most
+shape_rep rs n a least most normal l e = step (nat_lt 0 most) refl
+  where
+    whole : IsNormal (rep (regex_at rs a) least most)
+    whole = subst IsNormal (sym e) (AllPass-from_list_all is_normal rs normal n none l)
+
+    step : (b : Bool) → nat_lt 0 most ≡ b → 0 < most
+    step true is = grind (arith, nat_tests)
+    step false is =
+        let z : most ≡ 0 = grind (arith, nat_tests) in
+        absurd (no_time (regex_at rs a) least (subst (λ m. IsNormal (rep (regex_at rs a) least m)) z whole))
 
 pub made_alt : (rs : List Regex) (n : ℕ) (ids ps : List ℕ) → All (λ i. i < n) ids
     → alt (regexes (regexes_at rs ids)) ≡ regex_at rs n → ps ≡ ids → IsMade rs n operation.Alt ps

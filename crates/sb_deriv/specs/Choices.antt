@@ -2,7 +2,7 @@
 use Rattle.std.specs.Prelude.{◌≡◌, ℕ, ◌<◌, ◌≤◌, ◌-◌, Bool, false, not, ◌==◌, cond, List, [], ◌∷◌, ◌++◌, map, filter, take, drop, get_or, unwrap_or, length, suc, Some, None, IsSome, All}
 use Rattle.std.specs.List.{list_any}
 use Rattle.sb_class.specs.Ranges.{Range, IsCanonical}
-use Rattle.sb_lang.specs.Regex.{Regex, none, eps, set, cat, neg}
+use Rattle.sb_lang.specs.Regex.{Regex, none, eps, set, cat, neg, rep}
 use Rattle.sb_lang.specs.Constructors.{mkcat, mkalt, mkand, mknot}
 use Rattle.sb_lang.specs.Derivative.{nd}
 use Rattle.sb_regex.specs.Numbered.{regex_at, regexes_at, AllNumbers, Names}
@@ -169,6 +169,7 @@ abbrev pub IsShape : List Regex → ℕ → Shape → Type 0
 IsShape rs n shape.Nowhere = (c : ℕ) → nd (regex_at rs n) c ≡ none
 IsShape rs n (shape.Set ranges) = IsCanonical ranges.items × (regex_at rs n ≡ set ranges.items)
 IsShape rs n (shape.Cat a b) = (a < n) × (b < n) × (regex_at rs n ≡ cat (regex_at rs a) (regex_at rs b))
+IsShape rs n (shape.Rep a least most) = (a < n) × (0 < most) × (regex_at rs n ≡ rep (regex_at rs a) least most)
 IsShape rs n (shape.Made op parts) = IsMade rs n op parts.items
 
 -- one more range: behind those of its target, or with the target at the end

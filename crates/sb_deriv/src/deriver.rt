@@ -2,7 +2,7 @@
 
 ghost use Rattle.std.specs.Prelude.{◌≡◌, ◌<◌, ◌≤◌, ℕ, true, false, [], ◌∷◌, length, IfOk, OnOk, IfSome, IfNone, OnSome, IsSome, is_some, None, IsSomeAnd, option_copied, All, map, nat_lt};
 ghost use Rattle.std.specs.List.{list_any};
-ghost use Rattle.sb_lang.specs.Regex.{none, set, cat};
+ghost use Rattle.sb_lang.specs.Regex.{none, set, cat, rep};
 ghost use Rattle.sb_lang.specs.Derivative.{nd};
 ghost use Rattle.sb_word.specs.Words.{is_character};
 ghost use Rattle.sb_class.specs.Ranges.{IsCanonical};
@@ -165,6 +165,7 @@ impl Deriver {
             Shape::Nowhere => self.nowhere(arena, constants),
             Shape::Set(ranges) => self.of_set(arena, constants, &ranges),
             Shape::Cat(a, b) => self.of_cat(arena, constants, a, b, waiting),
+            Shape::Rep(a, least, most) => { self.of_rep(arena, constants, a, least, most, waiting) }
             Shape::Made(operation, parts) => {
                 self.of_all(arena, constants, operation, parts.as_slice(), id, waiting)
             }
@@ -266,6 +267,33 @@ impl Deriver {
         let heads = refine(alloc, &operation, constants, &[Map::new(self.pieces_of(a))])?;
         let heads = make_each(arena, alloc, &operation, constants, &heads, a)?;
         refine_two(alloc, &Operation::Alt, constants, &heads, self.pieces_of(b))
+    }
+
+    /// The derivative of a repetition: that of the body, with the rest of the repetition behind it.
+    fn of_rep(
+        &self,
+        arena: &mut Arena,
+        constants: &Constants,
+        a: RegexId,
+        least: u64,
+        most: u64,
+        waiting: &mut BTreeSet<RegexId>,
+    ) -> Result<Option<Derivative>, AllocError>
+        requires constants { AreConstants arena.old constants.now }
+        requires body { a < length arena.old }
+        requires some { 0 < most }
+        requires faithful { IsFaithful arena.old self.now }
+        ensures found { IfOk result
+            (λ found. IfSome found (λ d. IsDerivative arena.new (rep (regex_at arena.old a) least most) d)) }
+        ensures idle { IfOk result (λ found. OnSome found (waiting.new.keys ≡ waiting.old.keys)) }
+        ensures waits { IfOk result
+            (λ found. IfNone found ((n : ℕ) → a < n → list_any (λ q. nat_lt q n) waiting.new.keys ≡ true)) }
+        ensures added { OnOk result ((n : ℕ) → a < n → All (IsWanted n self.now) waiting.old.keys
+            → All (IsWanted n self.now) waiting.new.keys) }
+        ensures extends { Extends arena.old arena.new }
+    {
+        let rest = arena.rep(a, least.saturating_sub(1), most - 1)?;
+        self.of_all(arena, constants, Operation::Cat(rest), &[a], rest, waiting)
     }
 
     /// What the operation makes of the derivatives of all parts, which the hint may be at some characters.

@@ -254,6 +254,8 @@ pub(crate) enum Shape {
     Set(Vec<(u32, u32)>),
     /// Of a concatenation.
     Cat(RegexId, RegexId),
+    /// Of a repetition: the body, and the least and the greatest number of times.
+    Rep(RegexId, u64, u64),
     /// By an operation, from the derivatives of parts.
     Made(Operation, SmallVec<RegexId, 16>),
 }
@@ -285,5 +287,6 @@ pub(crate) fn shape_of(alloc: Global, arena: &Arena, id: RegexId) -> Result<Shap
             let parts = SmallVec::from_slice(alloc, &[*a])?;
             Ok(Shape::Made(Operation::Cat(id), parts))
         }
+        Node::Rep(a, least, most) => Ok(Shape::Rep(*a, *least, *most)),
     }
 }

@@ -1,6 +1,6 @@
 use Rattle.std.proofs.Common.{◌∙◌, ap, sym, arith}
 use Rattle.sb_regex.specs.Nodes.{node_regex}
-use Rattle.sb_deriv.proofs.Shapes.{shape_none, shape_eps, shape_set, made_alt, made_and, made_not, made_star}
+use Rattle.sb_deriv.proofs.Shapes.{shape_none, shape_eps, shape_set, made_alt, made_and, made_not, made_star, shape_rep}
 use Rattle.sb_deriv.proofs.operation.shape_of.Goals as goal
 
 pub returns-in-None : goal.returns-in-None
@@ -46,3 +46,13 @@ returns-in_ok-parts-in-Star c =
     let parts = rw (c.in-Star.is) at c.node.ensures.parts in
     made_star c.args.arena.now c.args.id c.in-Star.a _ c.requires parts
     (ap (node_regex c.args.arena.now) (sym c.in-Star.is) ∙ c.node.ensures.value) c.in_ok-parts-in-Star.ensures.ok
+
+pub returns-in-Rep : goal.returns-in-Rep
+returns-in-Rep c =
+    let parts = rw (c.in-Rep.is) at c.node.ensures.parts in
+    let value = ap (node_regex c.args.arena.now) (sym c.in-Rep.is) ∙ c.node.ensures.value in (
+      parts 0 0 (omega arith),
+      shape_rep c.args.arena.now c.args.id c.in-Rep.a c.in-Rep.least c.in-Rep.most
+          c.normal_regexes_each_once.ensures.normal c.requires value,
+      sym value,
+    )

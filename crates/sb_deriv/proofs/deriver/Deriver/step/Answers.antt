@@ -25,3 +25,13 @@ returns-in-Made-clause-added c =
     let s = rw (c.in-Made.is) at c.in_ok-shape_of.ensures in
     IfOk-weaker c.of_all.result _ _ (λ f h n l. h n (below_more c.args.id n c.in-Made.parts.items l s.below))
     (rw (c.as_slice.ensures) at c.of_all.ensures.added)
+
+pub returns-in-Rep-clause-waits : goal.returns-in-Rep-clause-waits
+returns-in-Rep-clause-waits c =
+    let s = rw (c.in-Rep.is) at c.in_ok-shape_of.ensures in
+    IfOk-weaker c.of_rep.result _ _ (λ f h. none_weaker f _ _ (λ w. w c.args.id s.0) h) c.of_rep.ensures.waits
+
+pub returns-in-Rep-clause-added : goal.returns-in-Rep-clause-added
+returns-in-Rep-clause-added c =
+    let s = rw (c.in-Rep.is) at c.in_ok-shape_of.ensures in
+    IfOk-weaker c.of_rep.result _ _ (λ f h n l. h n (omega (arith, s.0, l))) c.of_rep.ensures.added
