@@ -5,7 +5,7 @@ use Rattle.std.specs.List.{list_all}
 use Rattle.sb_lit.specs.declared.clause.Lit.{Lit}
 use Rattle.sb_script.specs.Pieces.{constant_piece}
 use Rattle.sb_rulebook.specs.Atoms.{AtomOver, in_atom}
-use Rattle.sb_rulebook.specs.Lines.{Line, regex_line, atom_line, rule_line, Node, none_node, eps_node, set_node, cat_node, alt_node, and_node, not_node, star_node, Rule, empty}
+use Rattle.sb_rulebook.specs.Lines.{Line, regex_line, atom_line, rule_line, Node, none_node, eps_node, set_node, cat_node, alt_node, and_node, not_node, star_node, rep_node, Rule, empty}
 
 -- formats are numbered from 1
 abbrev pub newest_format : ℕ
@@ -24,6 +24,7 @@ is_brought_node (alt_node ids) = true
 is_brought_node (and_node ids) = true
 is_brought_node (not_node a) = true
 is_brought_node (star_node a) = true
+is_brought_node (rep_node a n m) = true
 is_brought_node _ = false
 
 -- memberships of one constant

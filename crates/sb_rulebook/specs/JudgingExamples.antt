@@ -1,10 +1,10 @@
 -- Computed examples of proofs and scripts so far, of levels that are left between checks, and of lines of which the
 -- kind, atom, rule or form is not brought.
-use Rattle.std.specs.Prelude.{◌≡◌, ℕ, true, List, [], ◌∷◌, ◌++◌, codes, take, None, refl}
+use Rattle.std.specs.Prelude.{◌≡◌, ℕ, true, List, [], ◌∷◌, ◌++◌, codes, take, drop, None, refl}
 use Rattle.std.specs.List.{repeat}
 use Rattle.sb_script.specs.State as state
 use Rattle.sb_script.specs.Steps.{leaves, above, all}
-use Rattle.sb_rulebook.specs.Refusals.{bad_word, misplaced, unknown_id, repeated, rule_broken, wrong_verdict}
+use Rattle.sb_rulebook.specs.Refusals.{bad_word, misplaced, unknown_id, repeated, not_normal, rule_broken, wrong_verdict}
 use Rattle.sb_rulebook.specs.Lines.{said_unsat, said_unknown}
 use Rattle.sb_rulebook.specs.Verdicts.{Question}
 use Rattle.sb_rulebook.specs.Reading.{LineText, texts_of}
@@ -140,13 +140,40 @@ the_limit_is_not_reached : judged (asks (question_with 0 4) ∷ [])
 unfolding computing
 the_limit_is_not_reached = refl
 
+-- A repetition is a regex like others, defined once, and only where it is normal.
+
+-- the proof with more regexes defined, before its atoms
+abbrev with_regexes : List (List ℕ) → List (List ℕ)
+with_regexes lines = take 8 proof ++ (lines ++ drop 8 proof)
+
+a_repetition : judged_lines (with_regexes (codes "r rep 0 2 3" ∷ [])) ≡ accepted (said_unsat 3 None ∷ [])
+unfolding computing
+a_repetition = refl
+
+a_repetition_twice : judged_lines (with_regexes (codes "r rep 0 2 3" ∷ codes "r rep 0 2 3" ∷ []))
+    ≡ refused [] 10 repeated
+unfolding computing
+a_repetition_twice = refl
+
+a_repetition_of_no_regex : judged_lines (changed 3 (codes "r rep 1 2 3")) ≡ refused [] 3 unknown_id
+unfolding computing
+a_repetition_of_no_regex = refl
+
+bounds_out_of_order : judged_lines (changed 3 (codes "r rep 0 3 2")) ≡ refused [] 3 not_normal
+unfolding computing
+bounds_out_of_order = refl
+
+once : judged_lines (changed 3 (codes "r rep 0 1 1")) ≡ refused [] 3 not_normal
+unfolding computing
+once = refl
+
 -- What is not brought is refused by rule, unless a number names nothing.
 
-a_kind : judged_lines (changed 3 (codes "r rep 0 2 3")) ≡ refused [] 3 rule_broken
+a_kind : judged_lines (changed 3 (codes "r path 0 0")) ≡ refused [] 3 rule_broken
 unfolding computing
 a_kind = refl
 
-a_kind_of_no_regex : judged_lines (changed 3 (codes "r rep 1 2 3")) ≡ refused [] 3 unknown_id
+a_kind_of_no_regex : judged_lines (changed 3 (codes "r path 0 1")) ≡ refused [] 3 unknown_id
 unfolding computing
 a_kind_of_no_regex = refl
 
