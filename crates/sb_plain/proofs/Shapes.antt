@@ -1,14 +1,14 @@
 -- What the derivatives of nodes are made from, and what operations make.
-use Rattle.std.proofs.Common.{◌≡◌, ℕ, zero, suc, ◌+◌, ◌<◌, ◌≤◌, true, false, List, [], ◌∷◌, length, get_or, drop, refl, sym, ap, subst, ◌∙◌, arith}
+use Rattle.std.proofs.Common.{◌≡◌, ℕ, zero, suc, ◌+◌, ◌-◌, ◌<◌, ◌≤◌, true, false, List, [], ◌∷◌, length, get_or, drop, refl, sym, ap, subst, ◌∙◌, arith}
 use Rattle.std.specs.Prelude.{Vec, ◌||◌, if◌then◌else◌}
 use Rattle.std.specs.List.{All}
 use Rattle.std.proofs.lemmas.List.{drop_more, drop_all}
 use Rattle.std.proofs.lemmas.List.Elements.{All-cons, All-nil}
 use Rattle.std.specs.declared.alloc.Global.{Global}
 use Rattle.sb_class.specs.Ranges.{Range, in_range, in_ranges}
-use Rattle.sb_lang.specs.Regex.{Regex, none, eps, set, cat, alt, and, neg, star, regexes}
+use Rattle.sb_lang.specs.Regex.{Regex, none, eps, set, cat, alt, and, neg, star, rep, regexes}
 use Rattle.sb_lang.specs.Order.{code}
-use Rattle.sb_lang.specs.Constructors.{anything, mkcat, mkalt, mkand, mknot, conjuncts, ranges_of, is_set, meet_sets, meet_of, and_of, sorted}
+use Rattle.sb_lang.specs.Constructors.{anything, mkcat, mkalt, mkand, mknot, mkrep, conjuncts, ranges_of, is_set, meet_sets, meet_of, and_of, sorted}
 use Rattle.sb_lang.specs.Derivative.{nd, nds, nullable}
 use Rattle.sb_regex.specs.declared.node.Node.{Node}
 use Rattle.sb_regex.specs.declared.node.Node.TheVariants as node
@@ -17,7 +17,7 @@ use Rattle.sb_regex.specs.Nodes.{node_regex}
 use Rattle.sb_plain.proofs.PointFacts.{range_at}
 use Rattle.sb_plain.specs.declared.shape.Operation.{Operation}
 use Rattle.sb_plain.specs.declared.shape.Operation.TheVariants as operation
-use Rattle.sb_plain.specs.Making.{made, least_parts, nd_each, IsShape, IsShapeOfCat, set_ranges}
+use Rattle.sb_plain.specs.Making.{made, least_parts, nd_each, IsShape, IsShapeOfCat, IsShapeOfRep, set_ranges}
 
 -- the shape with its parts as they were passed
 pub shape_with : (rs : List Regex) (n : ℕ) (op op' : Operation) (ps ps' : List ℕ) → op' ≡ op → ps' ≡ ps
@@ -137,6 +137,46 @@ cat_or_rest rs a b l e = record {
       else mkcat (nd (regex_at rs a) c) (regex_at rs b)) e;
 }
 
+-- repetitions
+
+pub rep_with : (rs : List Regex) (a least most : ℕ) (op op' : Operation) (ps ps' : List ℕ) → op' ≡ op → ps' ≡ ps
+    → IsShapeOfRep rs a least most op ps → IsShapeOfRep rs a least most op' ps'
+rep_with rs a least most op op' ps ps' e f h =
+    subst (λ (o : Operation). IsShapeOfRep rs a least most o ps') (sym e)
+    (subst (λ (xs : List ℕ). IsShapeOfRep rs a least most op xs) (sym f) h)
+
+pub of_rep : (rs : List Regex) (n a least most : ℕ) (op : Operation) (ps : List ℕ) → All (λ i. i < n) (a ∷ [])
+    → rep (regex_at rs a) least most ≡ regex_at rs n → IsShapeOfRep rs a least most op ps → IsShape rs n op ps
+of_rep rs n a least most op ps l e h = record {
+  below = h.below n (l 0 0 (omega arith));
+  long = h.long;
+  operand = h.operand;
+  value = λ c. ap (λ x. nd x c) (sym e) ∙ h.value c;
+}
+
+pub rep_nothing : (rs : List Regex) (a least most : ℕ) → most ≡ 0
+    → IsShapeOfRep rs a least most operation.Nothing []
+unfolding made nd nds least_parts
+rep_nothing rs a least most e = record {
+  below = λ n p. All-nil (λ i. i < n);
+  long = omega arith;
+  operand = tt;
+  value = λ c. ap (λ m. nd (rep (regex_at rs a) least m) c) e;
+}
+
+pub rep_once_less : (rs : List Regex) (a least most fewer lower : ℕ) → a < length rs → 0 < most → fewer ≡ least - 1
+    → lower ≡ most - 1 → IsShapeOfRep rs a least most (operation.Rep a fewer lower) (a ∷ [])
+unfolding made nd nds least_parts
+rep_once_less rs a least most fewer lower l some e f = record {
+  below = λ n p. All-cons (λ i. i < n) a [] p (All-nil (λ i. i < n));
+  long = omega arith;
+  operand = l;
+  value = λ c.
+      let up : most ≡ suc lower = omega (arith, some, f) in
+      ap (λ m. nd (rep (regex_at rs a) least m) c) up
+      ∙ ap (λ k. mkcat (nd (regex_at rs a) c) (mkrep (regex_at rs a) k lower)) (sym e);
+}
+
 -- operations
 
 pub at_each : (rs : List Regex) (ids : List ℕ) (k x : ℕ) → k < length ids → x ≡ get_or ids k x
@@ -155,6 +195,7 @@ made_same rs (operation.CatOrRest b) c d ps h = refl
 made_same rs operation.Alt c d ps h = refl
 made_same rs operation.And c d ps h = refl
 made_same rs operation.Not c d ps h = refl
+made_same rs (operation.Rep a n m) c d ps h = refl
 
 -- a number in ranges, as a loop goes over them
 

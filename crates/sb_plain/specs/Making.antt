@@ -3,8 +3,8 @@ use Rattle.std.specs.Prelude.{◌≡◌, ℕ, zero, suc, ◌+◌, ◌<◌, ◌�
 use Rattle.std.specs.List.{list_all}
 use Rattle.sb_class.specs.Ranges.{Range, in_ranges}
 use Rattle.sb_word.specs.Words.{is_character}
-use Rattle.sb_lang.specs.Regex.{Regex, none, eps, cat}
-use Rattle.sb_lang.specs.Constructors.{mkcat, mkalt, mkand, mknot}
+use Rattle.sb_lang.specs.Regex.{Regex, none, eps, cat, rep}
+use Rattle.sb_lang.specs.Constructors.{mkcat, mkalt, mkand, mknot, mkrep}
 use Rattle.sb_lang.specs.Derivative.{nd}
 use Rattle.sb_regex.specs.Numbered.{regex_at, regexes_at}
 use Rattle.sb_plain.specs.declared.shape.Operation.{Operation}
@@ -57,6 +57,7 @@ made rs (operation.CatOrRest b) c ps = mkalt (mkcat (get_or ps 0 none) (regex_at
 made rs operation.Alt c ps = mkalt ps
 made rs operation.And c ps = mkand ps
 made rs operation.Not c ps = mknot (get_or ps 0 none)
+made rs (operation.Rep a n m) c ps = mkcat (get_or ps 0 none) (mkrep (regex_at rs a) n m)
 
 -- the ranges of a set
 unfoldable pub set_ranges : Operation → List Range
@@ -67,6 +68,7 @@ set_ranges (operation.CatOrRest b) = []
 set_ranges operation.Alt = []
 set_ranges operation.And = []
 set_ranges operation.Not = []
+set_ranges (operation.Rep a n m) = []
 
 -- so many parts there are at least
 unfoldable pub least_parts : Operation → ℕ
@@ -77,6 +79,7 @@ least_parts (operation.CatOrRest b) = 2
 least_parts operation.Alt = 0
 least_parts operation.And = 0
 least_parts operation.Not = 1
+least_parts (operation.Rep a n m) = 1
 
 -- the number of a regex is known to the operation
 abbrev pub OperandIsKnown : List Regex → Operation → Type 0
@@ -87,6 +90,7 @@ OperandIsKnown rs (operation.CatOrRest b) = b < length rs
 OperandIsKnown rs operation.Alt = Unit {0}
 OperandIsKnown rs operation.And = Unit {0}
 OperandIsKnown rs operation.Not = Unit {0}
+OperandIsKnown rs (operation.Rep a n m) = a < length rs
 
 -- the derivatives of the parts by a character
 abbrev pub nd_each : List Regex → ℕ → List Regex
@@ -106,6 +110,13 @@ pub record IsShapeOfCat (rs : List Regex) (a b : ℕ) (op : Operation) (parts : 
   pub operand : OperandIsKnown rs op
   pub value : (c : ℕ) → nd (cat (regex_at rs a) (regex_at rs b)) c
       ≡ made rs op c (nd_each (regexes_at rs parts) c)
+
+-- that of a repetition
+pub record IsShapeOfRep (rs : List Regex) (a least most : ℕ) (op : Operation) (parts : List ℕ) : Type 0 where
+  pub below : (n : ℕ) → a < n → All (λ i. i < n) parts
+  pub long : least_parts op ≤ length parts
+  pub operand : OperandIsKnown rs op
+  pub value : (c : ℕ) → nd (rep (regex_at rs a) least most) c ≡ made rs op c (nd_each (regexes_at rs parts) c)
 
 -- the derivative that is remembered
 abbrev pub target_at : Learnt → ℕ → ℕ → ℕ

@@ -3,9 +3,9 @@
 ghost use Rattle.std.specs.Prelude.{◌≡◌, ℕ, ◌<◌, ◌≤◌, Bool, true, length, IfOk};
 ghost use Rattle.std.specs.List.{list_any};
 ghost use Rattle.sb_class.specs.Ranges.{in_range, in_ranges};
-ghost use Rattle.sb_lang.specs.Constructors.{mkalt, mkand, mknot};
+ghost use Rattle.sb_lang.specs.Constructors.{mkcat, mkalt, mkand, mknot, mkrep};
 ghost use Rattle.sb_regex.specs.Numbered.{regex_at, regexes_at, AllNumbers, Extends, Names};
-ghost use Rattle.sb_plain.specs.Making.{made, set_ranges, least_parts, OperandIsKnown, IsShape, IsShapeOfCat};
+ghost use Rattle.sb_plain.specs.Making.{made, set_ranges, least_parts, OperandIsKnown, IsShape, IsShapeOfCat, IsShapeOfRep};
 
 use sb_lang::fold::{intersection_of_members, union_of_members};
 use sb_regex::{Arena, Node, RegexId};
@@ -28,6 +28,8 @@ pub(crate) enum Operation {
     And,
     /// The complement of the first.
     Not,
+    /// The first with so many repetitions of this regex behind it.
+    Rep(RegexId, u64, u64),
 }
 
 /// How the derivative of a regex is made, and the parts whose derivatives it takes.
@@ -54,7 +56,30 @@ pub(crate) fn shape_of(alloc: Global, arena: &Arena, id: RegexId) -> Result<Shap
         Node::And(parts) => with_parts(alloc, Operation::And, parts.as_slice()),
         Node::Not(a) => with_parts(alloc, Operation::Not, &[*a]),
         Node::Star(a) => with_parts(alloc, Operation::Cat(id), &[*a]),
+        Node::Rep(a, least, most) => shape_of_rep(alloc, arena, *a, *least, *most),
     }
+}
+
+/// One repetition less stands behind the derivative of the body.
+fn shape_of_rep(
+    alloc: Global,
+    arena: &Arena,
+    a: RegexId,
+    least: u64,
+    most: u64,
+) -> Result<Shape, AllocError>
+    requires { a < length arena.now }
+    ensures { IfOk result
+        (λ shape. IsShapeOfRep arena.now a least most shape.operation shape.parts.items) }
+{
+    if most == 0 {
+        return with_parts(alloc, Operation::Nothing, &[]);
+    }
+    with_parts(
+        alloc,
+        Operation::Rep(a, least.saturating_sub(1), most - 1),
+        &[a],
+    )
 }
 
 /// The second part counts where the first one is nullable.
@@ -86,7 +111,7 @@ impl Operation {
         match self {
             Operation::Set(ranges) => ranges.as_slice(),
             Operation::Nothing | Operation::Cat(_) | Operation::CatOrRest(_) => &[],
-            Operation::Alt | Operation::And | Operation::Not => &[],
+            Operation::Alt | Operation::And | Operation::Not | Operation::Rep(..) => &[],
         }
     }
 
@@ -123,8 +148,27 @@ impl Operation {
             Operation::Alt => union_of(alloc, arena, ids),
             Operation::And => intersection_of(alloc, arena, ids),
             Operation::Not => arena.not(ids[0]),
+            Operation::Rep(a, least, most) => cat_with_rep(arena, ids[0], *a, *least, *most),
         }
     }
+}
+
+/// A regex with repetitions of another one behind it.
+fn cat_with_rep(
+    arena: &mut Arena,
+    front: RegexId,
+    a: RegexId,
+    least: u64,
+    most: u64,
+) -> Result<RegexId, AllocError>
+    requires front { front < length arena.old }
+    requires body { a < length arena.old }
+    ensures ok { IfOk result
+        (λ id. Names arena.new id (mkcat (regex_at arena.old front) (mkrep (regex_at arena.old a) least most))) }
+    ensures extends { Extends arena.old arena.new }
+{
+    let rest = arena.rep(a, least, most)?;
+    arena.cat(front, rest)
 }
 
 /// The union.

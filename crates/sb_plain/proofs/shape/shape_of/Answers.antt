@@ -1,7 +1,7 @@
 use Rattle.std.proofs.Common.{◌∙◌, ap, sym, arith}
 use Rattle.std.proofs.lemmas.Result.{IfOk-weaker}
 use Rattle.sb_regex.specs.Nodes.{node_regex}
-use Rattle.sb_plain.proofs.Shapes.{shape_with, of_none, of_eps, of_set_ranges, of_alt, of_and, of_not, of_star, of_cat}
+use Rattle.sb_plain.proofs.Shapes.{shape_with, of_none, of_eps, of_set_ranges, of_alt, of_and, of_not, of_star, of_cat, of_rep}
 use Rattle.sb_plain.proofs.shape.shape_of.Goals as goal
 
 pub returns-in-None : goal.returns-in-None
@@ -70,3 +70,11 @@ returns-in-Star c =
     (of_star c.args.arena.now c.args.id c.in-Star.a c.requires parts
     (ap (node_regex c.args.arena.now) (sym c.in-Star.is) ∙ c.node.ensures.value)))
     c.with_parts-in-Star.ensures
+
+pub returns-in-Rep : goal.returns-in-Rep
+returns-in-Rep c =
+    let parts = rw (c.in-Rep.is) at c.node.ensures.parts in
+    IfOk-weaker c.shape_of_rep.result _ _
+    (λ s h. of_rep c.args.arena.now c.args.id c.in-Rep.a c.in-Rep.least c.in-Rep.most s.operation s.parts.items parts
+    (ap (node_regex c.args.arena.now) (sym c.in-Rep.is) ∙ c.node.ensures.value) h)
+    c.shape_of_rep.ensures
