@@ -4,28 +4,29 @@ use Rattle.std.specs.List.{list_all}
 use Rattle.std.specs.Option.{unwrap_or, option_map}
 use Rattle.std.proofs.lemmas.Bool.{and_from, ltb-true, lt-ltb, cases_lt, cases_eq, ne_eqb}
 use Rattle.std.proofs.lemmas.Option.{none-some, same_Some, slice_get_past}
-use Rattle.std.proofs.lemmas.List.{length-set, length_push, map-append, get_or-set_same, get_or-set_other}
+use Rattle.std.proofs.lemmas.List.{length-set, length_push, map-append}
 use Rattle.std.proofs.lemmas.List.Folds.{list_all_more}
 use Rattle.sb_lit.specs.declared.clause.Lit.{Lit}
 use Rattle.sb_lit.specs.Kept.{Kept, KeptClause, kept_at}
 use Rattle.sb_clauses.specs.declared.record.Record.{Record}
 use Rattle.sb_clauses.specs.Records.{clause_of, kept_of}
 use Rattle.sb_clauses.specs.WatchLists.{WatchLists, times}
-use Rattle.sb_clauses.specs.Watching.{list_of, is_small, home, IsPlaced, HasClause, place_at, IsSide, AreWatched}
+use Rattle.sb_clauses.specs.Watching.{list_of, is_small, literal_of, home, IsPlaced, HasClause, watched_at, IsSide, AreWatched}
 use Rattle.sb_clauses.specs.Adding.{IsRoomier, AreEnough}
 use Rattle.sb_clauses.proofs.Literals.{all_weaker}
 use Rattle.sb_clauses.proofs.Moving.{list_at, pushed, pushed_self, pushed_other, pushed_times}
 use Rattle.sb_clauses.proofs.Walked.{home_inside}
+use Rattle.sb_clauses.proofs.Codes.{watched-set_same, watched-set_other}
 use Rattle.sb_clauses.proofs.Settling.{watched_back}
 
 pub enough_more : (clause : List Lit) (i lists more : ℕ) (d : Lit) → i < length clause → AreEnough (take i clause) lists
-    → lists ≤ more → list_of (get_or clause i d) < more → (get_or clause i d).atom < 2 ^ 62
+    → lists ≤ more → list_of (get_or clause i d) < more → (get_or clause i d).atom < 2 ^ 30
     → AreEnough (take (i + 1) clause) more
 enough_more clause i lists more d within h grown last small = record {
   begun = omega (arith, h.begun);
   small = list_all_more is_small clause i d within
       ∙ and_from (list_all is_small (take i clause)) (is_small (get_or clause i d)) h.small
-      (lt-ltb (get_or clause i d).atom (2 ^ 62) small);
+      (lt-ltb (get_or clause i d).atom (2 ^ 30) small);
   listed =
       let wider : list_all (λ l. ltb (list_of l) more) (take i clause) ≡ true =
       all_weaker (λ l. ltb (list_of l) lists) (λ l. ltb (list_of l) more) (λ m below.
@@ -44,9 +45,10 @@ clause_below kept id clause h =
       | inr past ↦ absurd (none-some h.found (sym (ap (λ o. unwrap_or o None) (slice_get_past kept id past)) ∙ h.there))
     ]
 
-placed_wider : (lists more : ℕ) (c : List Lit) (a b : ℕ) → lists ≤ more → IsPlaced lists c a b → IsPlaced more c a b
+placed_wider : (lists more : ℕ) (c : List Lit) (a b : Lit) → lists ≤ more → IsPlaced lists c a b → IsPlaced more c a b
 placed_wider lists more c a b grown h = record {
   inside = h.inside;
+  bare = h.bare;
   short = h.short;
   small = h.small;
   listed = all_weaker (λ l. ltb (list_of l) lists) (λ l. ltb (list_of l) more) (λ m below.
@@ -68,14 +70,14 @@ enough_wider lists more c grown h = record {
 module _ (kept : Kept) (own0 own1 other : List ℕ) (all0 all1 : WatchLists) (h : IsRoomier own0 all0 own1 all1) where
   own_roomier : IsSide kept own0 other all0 → IsSide kept own1 other all1
   own_roomier side =
-      let same : (id : ℕ) (c : List Lit) → HasClause kept id c → place_at own1 id ≡ place_at own0 id =
-      λ id c has. h.same_places id (omega (arith, clause_below kept id c has, side.own_places)) in
+      let same : (id : ℕ) (c : List Lit) → HasClause kept id c → watched_at own1 id ≡ watched_at own0 id =
+      λ id c has. ap literal_of (h.same_places id (omega (arith, clause_below kept id c has, side.own_places))) in
       record {
         own_places = omega (arith, side.own_places, h.more_places);
         other_places = side.other_places;
         nodes = omega (arith, side.nodes, h.more_nodes);
         placed = λ id c has. rw (same id c has)
-            (placed_wider (length all0.lists) (length all1.lists) c (place_at own0 id) (place_at other id) h.more_lists
+            (placed_wider (length all0.lists) (length all1.lists) c (watched_at own0 id) (watched_at other id) h.more_lists
             (side.placed id c has));
         listed = λ id c has list. rw (same id c has, h.same_lists list) (side.listed id c has list);
         fresh = λ id past. h.same_times id ∙ side.fresh id past;
@@ -84,8 +86,8 @@ module _ (kept : Kept) (own0 own1 other : List ℕ) (all0 all1 : WatchLists) (h 
   other_roomier : (all : WatchLists) → IsSide kept own0 other all0 → IsSide kept other own0 all
       → IsSide kept other own1 all
   other_roomier all side back =
-      let same : (id : ℕ) (c : List Lit) → HasClause kept id c → place_at own1 id ≡ place_at own0 id =
-      λ id c has. h.same_places id (omega (arith, clause_below kept id c has, side.own_places)) in
+      let same : (id : ℕ) (c : List Lit) → HasClause kept id c → watched_at own1 id ≡ watched_at own0 id =
+      λ id c has. ap literal_of (h.same_places id (omega (arith, clause_below kept id c has, side.own_places))) in
       record {
         own_places = back.own_places;
         other_places = omega (arith, back.other_places, h.more_places);
@@ -129,13 +131,13 @@ earlier_clause kept o id c apart has =
     record { found = has.found; there = kept_front kept o id has.found apart has.there; literals = has.literals }
 
 -- one more clause
-added_side : (kept : Kept) (k : KeptClause) (own other : List ℕ) (all : WatchLists) (n a b : ℕ)
+added_side : (kept : Kept) (k : KeptClause) (own other : List ℕ) (all : WatchLists) (n : ℕ) (a b : Lit)
     → IsSide kept own other all
     → n ≡ length kept → n < length own → n < length other → n < all.nodes → IsPlaced (length all.lists) k.literals a b
-    → IsSide (kept ++ Some k ∷ []) (set own n a) (set other n b)
-    (record all { lists = pushed all.lists (home k.literals a b) n })
+    → IsSide (kept ++ Some k ∷ []) (set own n (list_of a)) (set other n (list_of b))
+    (record all { lists = pushed all.lists (home a b) n })
 added_side kept k own other all n a b side is_n own_room other_room node_room placed =
-    let to : ℕ = home k.literals a b in
+    let to : ℕ = home a b in
     let inside : to < length all.lists = home_inside (length all.lists) k.literals a b placed in
     let one_more : length (kept ++ Some k ∷ []) ≡ length kept + 1 = length_push kept (Some k) in
     let nowhere : times n all.lists ≡ 0 = side.fresh n (omega (arith, is_n)) in
@@ -145,20 +147,20 @@ added_side kept k own other all n a b side is_n own_room other_room node_room pl
     λ id c same has. last_clause kept k id c (same ∙ is_n) has in
     let before : (id : ℕ) (c : List Lit) → id ≢ n → HasClause (kept ++ Some k ∷ []) id c → HasClause kept id c =
     λ id c apart has. earlier_clause kept (Some k) id c (λ same. apart (same ∙ sym is_n)) has in
-    let own_n : place_at (set own n a) n ≡ a = get_or-set_same own n a 0 own_room in
-    let other_n : place_at (set other n b) n ≡ b = get_or-set_same other n b 0 other_room in
+    let own_n : watched_at (set own n (list_of a)) n ≡ a = watched-set_same own n a own_room in
+    let other_n : watched_at (set other n (list_of b)) n ≡ b = watched-set_same other n b other_room in
     record {
-      own_places = omega (arith, one_more, length-set own n a, is_n);
-      other_places = omega (arith, one_more, length-set other n b, is_n);
+      own_places = omega (arith, one_more, length-set own n (list_of a), is_n);
+      other_places = omega (arith, one_more, length-set other n (list_of b), is_n);
       nodes = omega (arith, one_more, is_n);
       placed = λ id c has. rw lists_len (elim (cases_eq id n) [
         | inl here ↦ rw (here, at_n id c here has, own_n, other_n) placed
-        | inr apart ↦ rw (get_or-set_other own n id a 0 apart, get_or-set_other other n id b 0 apart)
+        | inr apart ↦ rw (watched-set_other own n id a apart, watched-set_other other n id b apart)
             (side.placed id c (before id c apart has))
       ]);
       listed = λ id c has list. elim (cases_eq id n) [
-        | inl here ↦ rw (here, at_n id c here has, own_n, other_n) (pushed_self all.lists to n inside nowhere list)
-        | inr apart ↦ rw (get_or-set_other own n id a 0 apart, get_or-set_other other n id b 0 apart)
+        | inl here ↦ rw (here, own_n, other_n) (pushed_self all.lists to n inside nowhere list)
+        | inr apart ↦ rw (watched-set_other own n id a apart, watched-set_other other n id b apart)
             (pushed_other all.lists to n inside id apart list ∙ side.listed id c (before id c apart has) list)
       ];
       fresh = λ id past.
@@ -170,13 +172,13 @@ added_side kept k own other all n a b side is_n own_room other_room node_room pl
           );
     }
 
-pub added_watched : (kept : Kept) (k : KeptClause) (firsts seconds : List ℕ) (first second : WatchLists) (n a b : ℕ)
+pub added_watched : (kept : Kept) (k : KeptClause) (firsts seconds : List ℕ) (first second : WatchLists) (n : ℕ) (a b : Lit)
     → AreWatched kept firsts first seconds second → n ≡ length kept → n < length firsts → n < length seconds
     → n < first.nodes → n < second.nodes
     → IsPlaced (length first.lists) k.literals a b → IsPlaced (length second.lists) k.literals b a
-    → AreWatched (kept ++ Some k ∷ []) (set firsts n a)
-    (record first { lists = pushed first.lists (home k.literals a b) n }) (set seconds n b)
-    (record second { lists = pushed second.lists (home k.literals b a) n })
+    → AreWatched (kept ++ Some k ∷ []) (set firsts n (list_of a))
+    (record first { lists = pushed first.lists (home a b) n }) (set seconds n (list_of b))
+    (record second { lists = pushed second.lists (home b a) n })
 added_watched kept k firsts seconds first second n a b w is_n f s nf ns pf ps = record {
   at_first = added_side kept k firsts seconds first n a b w.at_first is_n f s nf pf;
   at_second = added_side kept k seconds firsts second n b a w.at_second is_n s f ns ps;

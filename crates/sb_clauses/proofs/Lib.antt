@@ -3,6 +3,7 @@ pub mod Growing
 pub mod ListLemmas
 pub mod Adding
 pub mod Moving
+pub mod Codes
 pub mod Walking
 pub mod Walked
 pub mod Settling

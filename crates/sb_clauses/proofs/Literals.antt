@@ -1,9 +1,9 @@
 -- Clauses where some literals are true.
-use Rattle.std.proofs.Common.{◌≡◌, ℕ, zero, suc, ◌<◌, Bool, true, false, not, cond, ◌&&◌, eqb, List, [], ◌∷◌, length, get_or, take, Option, Some, None, refl, sym, ◌∙◌, ap, inl, inr}
+use Rattle.std.proofs.Common.{◌≡◌, ℕ, zero, suc, ◌<◌, Bool, true, false, not, cond, ◌&&◌, eqb, List, [], ◌∷◌, length, get_or, take, Option, Some, None, refl, sym, ◌∙◌, ap, inl, inr, arith}
 use mathlib.Core.Bool.{beq}
 use Rattle.std.specs.List.{list_all}
 use Rattle.std.proofs.lemmas.Bool.{false≢true, and_parts, and_from, or_left, or_right, or_from, or_cases, not-false, not_from_false, false_from_ne_true}
-use Rattle.std.proofs.lemmas.List.Folds.{list_all_at, list_any_at}
+use Rattle.std.proofs.lemmas.List.Folds.{list_any_at}
 use Rattle.sb_lit.specs.declared.clause.Lit.{Lit}
 use Rattle.sb_lit.specs.Clauses.{is_same_literal, is_among, is_true_under, is_false_under, is_open_under, value_under, is_false_clause, leaves_only}
 use Rattle.sb_lit.proofs.CallerLemmas.{is_same_literal-true, is_same_literal-self, is_same_literal-beq, all_among, open-not_false, open-not_true}
@@ -46,6 +46,17 @@ all_weaker p q weaker (m ∷ ms) h =
     let parts = and_parts (p m) (list_all p ms) h in
     and_from (q m) (list_all q ms) (weaker m parts.0) (all_weaker p q weaker ms parts.1)
 
+-- a list with a literal is not empty
+pub some_among : (clause : List Lit) (l : Lit) → is_among clause l ≡ true → 0 < length clause
+some_among [] l among = absurd (false≢true among)
+some_among (x ∷ xs) l among = omega arith
+
+-- what fails for a literal of a clause does not hold of all
+not_all : (p : Lit → Bool) (clause : List Lit) (l : Lit) → is_among clause l ≡ true → p l ≡ false
+    → list_all p clause ≡ false
+not_all p clause l among fails =
+    false_from_ne_true (list_all p clause) (λ all. false≢true (sym fails ∙ all_among p clause l all among))
+
 module _ (held : List Lit) where
   pub true_by_value : (l : Lit) → value_under held l ≡ Some true → is_true_under held l ≡ true
   true_by_value l h = value_true (is_true_under held l) (is_false_under held l) h
@@ -73,20 +84,19 @@ module _ (held : List Lit) where
       (and_from (is_among clause l) (is_open_under held l) among unset) others
 
   -- a clause with a true literal is idle
-  pub idle_by_true : IsConsistent held → (clause : List Lit) (i : ℕ) (d : Lit) → i < length clause
-      → is_true_under held (get_or clause i d) ≡ true → IsIdle held clause
-  idle_by_true consistent clause i d place is_true =
-      let t : Lit = get_or clause i d in
+  pub idle_by_true : IsConsistent held → (clause : List Lit) (t : Lit) → is_among clause t ≡ true
+      → is_true_under held t ≡ true → IsIdle held clause
+  idle_by_true consistent clause t place is_true =
       let not_false : is_false_under held t ≡ false = consistent t is_true in
       record {
-        no_conflict = list_all_at (is_false_under held) clause i d place not_false;
+        no_conflict = not_all (is_false_under held) clause t place not_false;
         forces_none = λ l. false_from_ne_true (leaves_only held clause l) (λ h.
             let parts = leaves_only-parts clause l h in
             let other : is_same_literal t l ≡ false =
             false_from_ne_true (is_same_literal t l)
             (λ same. false≢true (sym (open-not_true held l parts.1)
             ∙ ap (is_true_under held) (sym (is_same_literal-true t l same)) ∙ is_true)) in
-            false≢true (sym (list_all_at (is_or_false held l) clause i d place
+            false≢true (sym (not_all (is_or_false held l) clause t place
             (or_from (is_same_literal t l) (is_false_under held t) other not_false)) ∙ parts.2));
       }
 
@@ -101,14 +111,13 @@ module _ (held : List Lit) where
       ]
 
   -- a clause with two literals without a value is idle
-  pub idle_by_two : (clause : List Lit) (i : ℕ) (d : Lit) (first : Lit) → i < length clause
-      → is_among clause first ≡ true → is_open_under held first ≡ true → is_open_under held (get_or clause i d) ≡ true
-      → (first ≡ get_or clause i d → ⊥) → IsIdle held clause
-  idle_by_two clause i d first place among open_first unset other =
-      let t : Lit = get_or clause i d in
+  pub idle_by_two : (clause : List Lit) (t first : Lit) → is_among clause t ≡ true
+      → is_among clause first ≡ true → is_open_under held first ≡ true → is_open_under held t ≡ true
+      → (first ≡ t → ⊥) → IsIdle held clause
+  idle_by_two clause t first place among open_first unset other =
       let not_false : is_false_under held t ≡ false = open-not_false held t unset in
       record {
-        no_conflict = list_all_at (is_false_under held) clause i d place not_false;
+        no_conflict = not_all (is_false_under held) clause t place not_false;
         forces_none = λ l. false_from_ne_true (leaves_only held clause l) (λ h.
             let parts = leaves_only-parts clause l h in
             elim (or_cases (is_same_literal first l) (is_false_under held first)
@@ -117,7 +126,7 @@ module _ (held : List Lit) where
                   let apart : is_same_literal t l ≡ false =
                   false_from_ne_true (is_same_literal t l)
                   (λ as_l. other (is_same_literal-true first l same ∙ sym (is_same_literal-true t l as_l))) in
-                  false≢true (sym (list_all_at (is_or_false held l) clause i d place
+                  false≢true (sym (not_all (is_or_false held l) clause t place
                   (or_from (is_same_literal t l) (is_false_under held t) apart not_false)) ∙ parts.2)
               | inr as_false ↦ false≢true (sym (open-not_false held first open_first) ∙ as_false)
             ]);

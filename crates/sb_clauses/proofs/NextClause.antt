@@ -1,11 +1,11 @@
 -- New clauses come to the lists.
-use Rattle.std.proofs.Common.{◌≡◌, ℕ, zero, suc, ◌+◌, ◌<◌, ◌≤◌, true, false, List, [], ◌∷◌, ◌++◌, length, get_or, set, take, Option, Some, None, Result, Ok, Err, refl, sym, ◌∙◌, ap, subst, inl, inr, arith}
+use Rattle.std.proofs.Common.{◌≡◌, ℕ, zero, suc, ◌+◌, ◌^◌, ◌<◌, ◌≤◌, true, false, List, [], ◌∷◌, ◌++◌, length, get_or, set, take, Option, Some, None, Result, Ok, Err, refl, sym, ◌∙◌, ap, subst, inl, inr, arith}
 use Rattle.std.specs.List.{list_all}
 use Rattle.std.specs.Result.{IfOk, OnErr}
 use Rattle.std.specs.Option.{option_map}
 use Rattle.std.proofs.lemmas.Bool.{false≢true, cases_eq, false_from_ne_true}
 use Rattle.std.proofs.lemmas.Option.{none-some}
-use Rattle.std.proofs.lemmas.List.{length-map, length-set, length-take-le, length_push, take_more, take-append-le, get_or-set_same, get_or-set_other}
+use Rattle.std.proofs.lemmas.List.{length-map, length-set, length-take-le, length_push, take_more, take-append-le}
 use Rattle.sb_lit.specs.declared.clause.Lit.{Lit}
 use Rattle.sb_lit.specs.Clauses.{negation, is_same_literal, is_among, is_true_under, is_false_under, is_false_clause, leaves_only}
 use Rattle.sb_lit.specs.Kept.{Kept, KeptClause, kept_at}
@@ -16,18 +16,20 @@ use Rattle.sb_lit.specs.declared.clause.ClauseId.{ClauseId}
 use Rattle.sb_clauses.specs.Propagation.{has_room_for, GrowsBy, IsConflict}
 use Rattle.sb_clauses.specs.Records.{clause_of, kept_of}
 use Rattle.sb_clauses.specs.WatchLists.{WatchLists}
-use Rattle.sb_clauses.specs.Watching.{literal_at, home, IsPlaced, HasClause, place_at, IsSide, AreWatched}
+use Rattle.sb_clauses.specs.Watching.{list_of, literal_of, home, IsPlaced, HasClause, watched_at, IsSide, AreWatched}
 use Rattle.sb_clauses.specs.Settling.{Grown, IsFine, IsFineSide, AreFine}
 use Rattle.sb_clauses.specs.Adding.{IsRoomier, HasRoom, AreEnough}
 use Rattle.sb_clauses.specs.Looking.{IsHeld, IsLeft}
 use Rattle.sb_clauses.specs.Marking.{mark_at, held_up_to, AreMarked, IsFront, IsHead, AreReady}
-use Rattle.sb_clauses.specs.Waiting.{ArePlaces, HaveRoom, AreOpen, AreLate, IsStaying, AreStored}
+use Rattle.sb_clauses.specs.Waiting.{AreWatchable, HaveRoom, AreOpen, AreLate, IsStaying, AreStored}
 use Rattle.sb_lit.proofs.CallerLemmas.{is_same_literal-true, open-not_false, among_push_same}
-use Rattle.sb_clauses.proofs.Literals.{leaves_only-parts}
+use Rattle.sb_clauses.proofs.Literals.{leaves_only-parts, some_among}
 use Rattle.sb_clauses.proofs.Marked.{ascending_front, below_front, marked_front, marked_push, head_by, head_push, held_push, taken_push}
 use Rattle.sb_trail.proofs.CallerLemmas.{level_after-push}
 use Rattle.sb_clauses.proofs.Growing.{kept_place, place_of_forced, GrowsBy-none, GrowsBy-push}
 use Rattle.sb_clauses.proofs.Moving.{list_at, pushed}
+use Rattle.sb_clauses.proofs.Walked.{home_inside}
+use Rattle.sb_clauses.proofs.Codes.{watched-set_same, watched-set_other, watched_small}
 use Rattle.sb_clauses.proofs.Settling.{front_grown, short_back, long_back}
 use Rattle.sb_clauses.proofs.Adding.{clause_below, kept_last, last_clause, earlier_clause, added_watched, both_roomier, enough_wider}
 
@@ -79,74 +81,75 @@ none_ready kept firsts first seconds second entries marks level a b m n h = reco
 }
 
 -- a clause whose two literals are not false is fine
-open_fine : (walked literals more c : List Lit) (a b : ℕ) → Grown walked literals → AreOpen literals c a b
+open_fine : (walked literals more c : List Lit) (a b : Lit) → Grown walked literals → AreOpen literals a b
     → IsFine walked more c a b
 open_fine walked literals more c a b grown h = record {
   short = λ is. absurd (false≢true (sym h.long ∙ is));
-  watched = λ is. absurd (false≢true (sym h.own_open ∙ grown (negation (literal_at c a)) is));
+  watched = λ is. absurd (false≢true (sym h.own_open ∙ grown (negation a) is));
 }
 
-open_back : (literals c : List Lit) (a b : ℕ) → AreOpen literals c a b → AreOpen literals c b a
-open_back literals c a b h = record { long = long_back c a b h.long; own_open = h.other_open; other_open = h.own_open }
+open_back : (literals : List Lit) (a b : Lit) → AreOpen literals a b → AreOpen literals b a
+open_back literals a b h = record { long = long_back a b h.long; own_open = h.other_open; other_open = h.own_open }
 
 -- and one whose first literal is true
-held_fine : (walked literals c : List Lit) (a b : ℕ) → ArePlaces c a b
-    → is_false_under walked (literal_at c a) ≡ false → IsHeld literals c a → IsFine walked literals c a b
+held_fine : (walked literals c : List Lit) (a b : Lit) → AreWatchable c a b
+    → is_false_under walked a ≡ false → IsHeld literals c a → IsFine walked literals c a b
 held_fine walked literals c a b places not_false h = record {
   short = λ is. record {
-    inside = (places.inside (omega (arith, h.inside))).1;
-    holds = ap (is_true_under literals) (sym (is_same_literal-true (literal_at c a) (literal_at c b) is)) ∙ h.holds;
+    inside = (places.inside (some_among c a h.inside)).1;
+    holds = ap (is_true_under literals) (sym (is_same_literal-true a b is)) ∙ h.holds;
   };
   watched = λ is. absurd (false≢true (sym not_false ∙ is));
 }
 
-held_back : (walked literals c : List Lit) (a b : ℕ) → IsHeld literals c a → IsFine walked literals c b a
+held_back : (walked literals c : List Lit) (a b : Lit) → IsHeld literals c a → IsFine walked literals c b a
 held_back walked literals c a b h = record { short = λ is. h; watched = λ is. h }
 
-some_side : (kept : Kept) (k : KeptClause) (walked literals : List Lit) (own other : List ℕ) (n a b : ℕ)
+some_side : (kept : Kept) (k : KeptClause) (walked literals : List Lit) (own other : List ℕ) (n : ℕ) (a b : Lit)
     → n ≡ length kept → n < length own → n < length other → IsFine walked literals k.literals a b
     → IsFineSide kept walked literals own other
-    → IsFineSide (kept ++ Some k ∷ []) walked literals (set own n a) (set other n b)
+    → IsFineSide (kept ++ Some k ∷ []) walked literals (set own n (list_of a)) (set other n (list_of b))
 some_side kept k walked literals own other n a b is_n own_room other_room new old id c has =
     elim (cases_eq id n) [
       | inl here ↦ rw (
         here,
         last_clause kept k id c (here ∙ is_n) has,
-        get_or-set_same own n a 0 own_room,
-        get_or-set_same other n b 0 other_room,
+        watched-set_same own n a own_room,
+        watched-set_same other n b other_room,
       ) new
-      | inr apart ↦ rw (get_or-set_other own n id a 0 apart, get_or-set_other other n id b 0 apart)
+      | inr apart ↦ rw (watched-set_other own n id a apart, watched-set_other other n id b apart)
           (old id c (earlier_clause kept (Some k) id c (λ same. apart (same ∙ sym is_n)) has))
     ]
 
-some_fine : (kept : Kept) (k : KeptClause) (walked literals : List Lit) (firsts seconds : List ℕ) (n a b : ℕ)
+some_fine : (kept : Kept) (k : KeptClause) (walked literals : List Lit) (firsts seconds : List ℕ) (n : ℕ) (a b : Lit)
     → n ≡ length kept → n < length firsts → n < length seconds → IsFine walked literals k.literals a b
     → IsFine walked literals k.literals b a → AreFine kept walked literals firsts seconds
-    → AreFine (kept ++ Some k ∷ []) walked literals (set firsts n a) (set seconds n b)
+    → AreFine (kept ++ Some k ∷ []) walked literals (set firsts n (list_of a)) (set seconds n (list_of b))
 some_fine kept k walked literals firsts seconds n a b is_n f s here there h = record {
   at_first = some_side kept k walked literals firsts seconds n a b is_n f s here h.at_first;
   at_second = some_side kept k walked literals seconds firsts n b a is_n s f there h.at_second;
 }
 
-some_marked : (kept : Kept) (k : KeptClause) (entries : List Assigned) (marks firsts seconds : List ℕ) (n a b : ℕ)
-    → n ≡ length kept → n < length firsts → n < length seconds → AreLate entries marks k.literals a b
+some_marked : (kept : Kept) (k : KeptClause) (entries : List Assigned) (marks firsts seconds : List ℕ) (n : ℕ) (a b : Lit)
+    → n ≡ length kept → n < length firsts → n < length seconds → AreLate entries marks a b
     → AreMarked kept entries marks firsts seconds
-    → AreMarked (kept ++ Some k ∷ []) entries marks (set firsts n a) (set seconds n b)
+    → AreMarked (kept ++ Some k ∷ []) entries marks (set firsts n (list_of a)) (set seconds n (list_of b))
 some_marked kept k entries marks firsts seconds n a b is_n f s late h i within =
     let ls : List Lit = held_up_to (mark_at marks i) entries in
     some_fine kept k ls ls firsts seconds n a b is_n f s
     (open_fine ls ls ls k.literals a b (λ l among. among) (late i within))
-    (open_fine ls ls ls k.literals b a (λ l among. among) (open_back ls k.literals a b (late i within))) (h i within)
+    (open_fine ls ls ls k.literals b a (λ l among. among) (open_back ls a b (late i within))) (h i within)
 
-placed_by : (lists : ℕ) (c : List Lit) (a b : ℕ) → AreEnough c lists → ArePlaces c a b → IsPlaced lists c a b
+placed_by : (lists : ℕ) (c : List Lit) (a b : Lit) → AreEnough c lists → AreWatchable c a b → IsPlaced lists c a b
 placed_by lists c a b enough h =
-    record { inside = h.inside; short = h.short; small = enough.small; listed = enough.listed; begun = enough.begun }
+    record { inside = h.inside; bare = h.bare; short = h.short; small = enough.small; listed = enough.listed; begun = enough.begun }
 
-places_back : (c : List Lit) (a b : ℕ) → ArePlaces c a b → ArePlaces c b a
+places_back : (c : List Lit) (a b : Lit) → AreWatchable c a b → AreWatchable c b a
 places_back c a b h = record {
   inside = λ some. ((h.inside some).1, (h.inside some).0);
+  bare = λ none. ((h.bare none).1, (h.bare none).0);
   short = λ is. subst (λ l. list_all (λ m. is_same_literal m l) c ≡ true)
-      (is_same_literal-true (literal_at c b) (literal_at c a) is) (h.short (short_back c b a is));
+      (is_same_literal-true b a is) (h.short (short_back b a is));
 }
 
 -- what a step needs
@@ -182,8 +185,8 @@ module _ (records : List (Option Record)) (n : ℕ) (place : Option Record) (fir
     fine = none_fine (take n all_kept) (take head (held entries)) (held entries) firsts seconds h.fine;
   })
 
-  module _ (r : Record) (c : List Lit) (is : place ≡ Some r) (same : c ≡ r.literals.items) (a b : ℕ)
-      (places : ArePlaces c a b) where
+  module _ (r : Record) (c : List Lit) (is : place ≡ Some r) (same : c ≡ r.literals.items) (a b : Lit)
+      (places : AreWatchable c a b) where
     there_of : kept_at all_kept n ≡ Some (clause_of r)
     there_of = kept_at_get all_kept n below ∙ (kept_place all_kept records records n place refl refl in_records here).1
         ∙ ap (option_map clause_of) is
@@ -196,11 +199,23 @@ module _ (records : List (Option Record)) (n : ℕ) (place : Option Record) (fir
     has : HasClause all_kept n c
     has = record { found = clause_of r; there = there_of; literals = sym same }
 
-    pub first_placed : IsPlaced (length first.lists) c a b
+    first_placed : IsPlaced (length first.lists) c a b
     first_placed = placed_by (length first.lists) c a b (room.first_lists n c has) places
 
-    pub second_placed : IsPlaced (length second.lists) c b a
+    second_placed : IsPlaced (length second.lists) c b a
     second_placed = placed_by (length second.lists) c b a (room.second_lists n c has) (places_back c a b places)
+
+    pub first_home : home a b < length first.lists
+    first_home = home_inside (length first.lists) c a b first_placed
+
+    pub second_home : home b a < length second.lists
+    second_home = home_inside (length second.lists) c b a second_placed
+
+    pub first_small : a.atom < 2 ^ 30
+    first_small = watched_small c a b (room.first_lists n c has).small places
+
+    pub second_small : b.atom < 2 ^ 30
+    second_small = watched_small c b a (room.first_lists n c has).small (places_back c a b places)
 
     whole : take (n + 1) all_kept ≡ take n all_kept ++ Some (clause_of r) ∷ []
     whole = more ∙ ap (λ o. take n all_kept ++ option_map clause_of o ∷ []) is
@@ -211,26 +226,26 @@ module _ (records : List (Option Record)) (n : ℕ) (place : Option Record) (fir
     in_seconds : n < length seconds
     in_seconds = omega (arith, below, room.second_places)
 
-    pub next_some : (entries : List Assigned) (old marks : List ℕ) (level : ℕ) → AreLate entries marks c a b
+    pub next_some : (entries : List Assigned) (old marks : List ℕ) (level : ℕ) → AreLate entries marks a b
         → IsFront old marks → AreReady (take n all_kept) firsts first seconds second entries old level
-        → AreReady (take (n + 1) all_kept) (set firsts n a) (record first { lists = pushed first.lists (home c a b) n })
-        (set seconds n b) (record second { lists = pushed second.lists (home c b a) n }) entries marks level
+        → AreReady (take (n + 1) all_kept) (set firsts n (list_of a)) (record first { lists = pushed first.lists (home a b) n })
+        (set seconds n (list_of b)) (record second { lists = pushed second.lists (home b a) n }) entries marks level
     next_some entries old marks level late front h =
-        rw (whole, same) (record {
+        rw whole (record {
           watched = added_watched (take n all_kept) (clause_of r) firsts seconds first second n a b h.watched is_n
               in_firsts in_seconds (omega (arith, below, room.first_nodes)) (omega (arith, below, room.second_nodes))
               (rw same at first_placed) (rw same at second_placed);
           ascending = ascending_front old marks front h.ascending;
           below = below_front old marks level front h.below;
           marked = some_marked (take n all_kept) (clause_of r) entries marks firsts seconds n a b is_n in_firsts
-              in_seconds (rw same at late)
+              in_seconds late
               (marked_front (take n all_kept) entries old marks firsts seconds front h.marked);
         })
 
     -- a head stays one where the clause is fine
     next_head : (entries : List Assigned) (head : ℕ) → IsFine (take head (held entries)) (held entries) c a b
         → IsFine (take head (held entries)) (held entries) c b a → IsHead (take n all_kept) entries firsts seconds head
-        → IsHead (take (n + 1) all_kept) entries (set firsts n a) (set seconds n b) head
+        → IsHead (take (n + 1) all_kept) entries (set firsts n (list_of a)) (set seconds n (list_of b)) head
     next_head entries head here there h = rw whole (record {
       inside = h.inside;
       fine = some_fine (take n all_kept) (clause_of r) (take head (held entries)) (held entries) firsts seconds n a b
@@ -239,34 +254,34 @@ module _ (records : List (Option Record)) (n : ℕ) (place : Option Record) (fir
 
     pub head_stays : (entries : List Assigned) → IsStaying (held entries) c a b → (head : ℕ)
         → IsHead (take n all_kept) entries firsts seconds head
-        → IsHead (take (n + 1) all_kept) entries (set firsts n a) (set seconds n b) head
+        → IsHead (take (n + 1) all_kept) entries (set firsts n (list_of a)) (set seconds n (list_of b)) head
     head_stays entries h head is_head =
         let ls : List Lit = held entries in
         let walked : List Lit = take head ls in
         let grown : Grown walked ls = front_grown head ls in
         elim h.stays [
           | inl holds ↦
-              let not_false : is_false_under walked (literal_at c a) ≡ false =
-              false_from_ne_true (is_false_under walked (literal_at c a)) (λ is.
-              false≢true (sym (h.consistent (literal_at c a) holds.holds) ∙ grown (negation (literal_at c a)) is)) in
+              let not_false : is_false_under walked a ≡ false =
+              false_from_ne_true (is_false_under walked a) (λ is.
+              false≢true (sym (h.consistent a holds.holds) ∙ grown (negation a) is)) in
               next_head entries head (held_fine walked ls c a b places not_false holds)
               (held_back walked ls c a b holds) is_head
           | inr unset ↦ next_head entries head (open_fine walked ls ls c a b grown unset)
-              (open_fine walked ls ls c b a grown (open_back ls c a b unset)) is_head
+              (open_fine walked ls ls c b a grown (open_back ls a b unset)) is_head
         ]
 
     pub head_forced : (entries : List Assigned) (e : Assigned) → IsLeft entries c a e.literal → (head : ℕ)
         → IsHead (take n all_kept) entries firsts seconds head
-        → IsHead (take (n + 1) all_kept) (entries ++ e ∷ []) (set firsts n a) (set seconds n b) head
+        → IsHead (take (n + 1) all_kept) (entries ++ e ∷ []) (set firsts n (list_of a)) (set seconds n (list_of b)) head
     head_forced entries e h head is_head =
         let ls : List Lit = held (entries ++ e ∷ []) in
         let walked : List Lit = take head ls in
         let parts = leaves_only-parts (held entries) c e.literal h.forces in
-        let unset : is_false_under (held entries) (literal_at c a) ≡ false =
+        let unset : is_false_under (held entries) a ≡ false =
         ap (is_false_under (held entries)) (sym h.there) ∙ open-not_false (held entries) e.literal parts.1 in
-        let not_false : is_false_under walked (literal_at c a) ≡ false =
-        false_from_ne_true (is_false_under walked (literal_at c a)) (λ is.
-        false≢true (sym unset ∙ front_grown head (held entries) (negation (literal_at c a))
+        let not_false : is_false_under walked a ≡ false =
+        false_from_ne_true (is_false_under walked a) (λ is.
+        false≢true (sym unset ∙ front_grown head (held entries) (negation a)
         (rw (taken_push entries e head is_head.inside) at is))) in
         let holds : IsHeld ls c a = record {
           inside = h.inside;
@@ -302,10 +317,10 @@ module _ (records : List (Option Record)) (n : ℕ) (place : Option Record) (fir
         })
 
     pub forced_ready : (entries : List Assigned) (e : Assigned) (old marks : List ℕ) → e.level ≡ current_level entries
-        → AreLate entries marks c a b → IsFront old marks
+        → AreLate entries marks a b → IsFront old marks
         → AreReady (take n all_kept) firsts first seconds second entries old (current_level entries)
-        → AreReady (take (n + 1) all_kept) (set firsts n a) (record first { lists = pushed first.lists (home c a b) n })
-        (set seconds n b) (record second { lists = pushed second.lists (home c b a) n }) (entries ++ e ∷ []) marks
+        → AreReady (take (n + 1) all_kept) (set firsts n (list_of a)) (record first { lists = pushed first.lists (home a b) n })
+        (set seconds n (list_of b)) (record second { lists = pushed second.lists (home b a) n }) (entries ++ e ∷ []) marks
         (current_level (entries ++ e ∷ []))
     forced_ready entries e old marks level late front h =
         let now = next_some entries old marks (current_level entries) late front h in
@@ -315,7 +330,7 @@ module _ (records : List (Option Record)) (n : ℕ) (place : Option Record) (fir
           watched = now.watched;
           ascending = now.ascending;
           below = now.below;
-          marked = marked_push (take (n + 1) all_kept) entries e marks (set firsts n a) (set seconds n b)
+          marked = marked_push (take (n + 1) all_kept) entries e marks (set firsts n (list_of a)) (set seconds n (list_of b))
               (λ i within. rw level (now.below i within)) now.marked;
         })
 
@@ -327,32 +342,32 @@ module _ (records : List (Option Record)) (n : ℕ) (place : Option Record) (fir
       is_false = subst (λ (ls : List Lit). is_false_clause literals ls ≡ true) same is;
     })
 
-    pub next_room : HaveRoom all_kept (set firsts n a) (record first { lists = pushed first.lists (home c a b) n })
-        (set seconds n b) (record second { lists = pushed second.lists (home c b a) n })
+    pub next_room : HaveRoom all_kept (set firsts n (list_of a)) (record first { lists = pushed first.lists (home a b) n })
+        (set seconds n (list_of b)) (record second { lists = pushed second.lists (home b a) n })
     next_room = record {
-      first_places = omega (arith, room.first_places, length-set firsts n a);
-      second_places = omega (arith, room.second_places, length-set seconds n b);
+      first_places = omega (arith, room.first_places, length-set firsts n (list_of a));
+      second_places = omega (arith, room.second_places, length-set seconds n (list_of b));
       first_nodes = room.first_nodes;
       second_nodes = room.second_nodes;
-      first_lists = λ id d k. rw (length-set first.lists (home c a b) (n ∷ list_at first.lists (home c a b)))
+      first_lists = λ id d k. rw (length-set first.lists (home a b) (n ∷ list_at first.lists (home a b)))
           (room.first_lists id d k);
-      second_lists = λ id d k. rw (length-set second.lists (home c b a) (n ∷ list_at second.lists (home c b a)))
+      second_lists = λ id d k. rw (length-set second.lists (home b a) (n ∷ list_at second.lists (home b a)))
           (room.second_lists id d k);
     }
 
 pub room_of : (kept : Kept) (firsts : List ℕ) (first : WatchLists) (seconds : List ℕ) (second : WatchLists)
     → AreWatched kept firsts first seconds second → HaveRoom kept firsts first seconds second
 room_of kept firsts first seconds second h =
-    let enough : (lists : ℕ) (c : List Lit) (a b : ℕ) → IsPlaced lists c a b → AreEnough c lists =
+    let enough : (lists : ℕ) (c : List Lit) (a b : Lit) → IsPlaced lists c a b → AreEnough c lists =
     λ lists c a b p. record { begun = p.begun; small = p.small; listed = p.listed } in
     record {
       first_places = h.at_first.own_places;
       second_places = h.at_second.own_places;
       first_nodes = h.at_first.nodes;
       second_nodes = h.at_second.nodes;
-      first_lists = λ id c has. enough (length first.lists) c (place_at firsts id) (place_at seconds id)
+      first_lists = λ id c has. enough (length first.lists) c (watched_at firsts id) (watched_at seconds id)
           (h.at_first.placed id c has);
-      second_lists = λ id c has. enough (length second.lists) c (place_at seconds id) (place_at firsts id)
+      second_lists = λ id c has. enough (length second.lists) c (watched_at seconds id) (watched_at firsts id)
           (h.at_second.placed id c has);
     }
 
@@ -372,10 +387,10 @@ roomier_fine : (kept : Kept) (f0 f1 s0 s1 : List ℕ) (a0 a1 b0 b1 : WatchLists)
     → IsRoomier f0 a0 f1 a1 → IsRoomier s0 b0 s1 b1 → length kept ≤ length f0 → length kept ≤ length s0
     → AreFine kept walked literals f0 s0 → AreFine kept walked literals f1 s1
 roomier_fine kept f0 f1 s0 s1 a0 a1 b0 b1 walked literals h k a b fine =
-    let first : (id : ℕ) (c : List Lit) → HasClause kept id c → place_at f1 id ≡ place_at f0 id =
-    λ id c has. h.same_places id (omega (arith, clause_below kept id c has, a)) in
-    let second : (id : ℕ) (c : List Lit) → HasClause kept id c → place_at s1 id ≡ place_at s0 id =
-    λ id c has. k.same_places id (omega (arith, clause_below kept id c has, b)) in
+    let first : (id : ℕ) (c : List Lit) → HasClause kept id c → watched_at f1 id ≡ watched_at f0 id =
+    λ id c has. ap literal_of (h.same_places id (omega (arith, clause_below kept id c has, a))) in
+    let second : (id : ℕ) (c : List Lit) → HasClause kept id c → watched_at s1 id ≡ watched_at s0 id =
+    λ id c has. ap literal_of (k.same_places id (omega (arith, clause_below kept id c has, b))) in
     record {
       at_first = λ id c has. rw (first id c has, second id c has) (fine.at_first id c has);
       at_second = λ id c has. rw (first id c has, second id c has) (fine.at_second id c has);

@@ -13,40 +13,40 @@ use Rattle.sb_clauses.specs.WatchLists.{WatchLists}
 use Rattle.sb_clauses.specs.Looking.{IsHeld}
 use Rattle.sb_clauses.specs.Examining.{IsIdle}
 use Rattle.sb_clauses.specs.Propagation.{GrowsBy, IsSettled}
-use Rattle.sb_clauses.specs.Watching.{list_of, no_literal, literal_at, is_short, home, IsPlaced, HasClause, place_at, IsSide, AreWatched, stands}
+use Rattle.sb_clauses.specs.Watching.{list_of, no_literal, literal_at, is_short, home, IsPlaced, HasClause, watched_at, IsSide, AreWatched, stands}
 use Rattle.sb_clauses.specs.Walking.{IsMoved, Advances, AreHeld}
 use Rattle.sb_clauses.specs.Settling.{Grown, IsFine, IsFineSide, AreFine, Settles, IsFalseAt}
 use Rattle.sb_lit.proofs.CallerLemmas.{is_same_literal-true, is_same_literal-self, negation_twice}
-use Rattle.sb_clauses.proofs.Literals.{idle_by_true, idle_by_two, among_at, among_front}
+use Rattle.sb_clauses.proofs.Literals.{idle_by_true, idle_by_two, among_at, among_front, some_among}
 use Rattle.sb_clauses.proofs.Growing.{GrowsBy-none, GrowsBy-then}
 use Rattle.sb_clauses.proofs.Walking.{grown_by, held_more}
 
 -- short one way is short the other way
-pub short_back : (c : List Lit) (a b : ℕ) → is_short c a b ≡ true → is_short c b a ≡ true
-short_back c a b h =
-    let same : literal_at c a ≡ literal_at c b = is_same_literal-true (literal_at c a) (literal_at c b) h in
-    rw same (is_same_literal-self (literal_at c b))
+pub short_back : (a b : Lit) → is_short a b ≡ true → is_short b a ≡ true
+short_back a b h =
+    let same : a ≡ b = is_same_literal-true a b h in
+    rw same (is_same_literal-self b)
 
-pub long_back : (c : List Lit) (a b : ℕ) → is_short c a b ≡ false → is_short c b a ≡ false
-long_back c a b h = false_from_ne_true (is_short c b a) (λ is. false≢true (sym h ∙ short_back c b a is))
+pub long_back : (a b : Lit) → is_short a b ≡ false → is_short b a ≡ false
+long_back a b h = false_from_ne_true (is_short b a) (λ is. false≢true (sym h ∙ short_back b a is))
 
-fine_own : (walked literals held0 c : List Lit) (a b other : ℕ) → Grown walked held0 → IsMoved held0 c a b other
+fine_own : (walked literals held0 c : List Lit) (a b other : Lit) → Grown walked held0 → IsMoved held0 a b other
     → IsFine walked literals c a other → IsFine walked literals c b other
 fine_own walked literals held0 c a b other grown (inl same) fine = rw same fine
 fine_own walked literals held0 c a b other grown (inr away) fine = record {
   short = λ is. absurd (false≢true (sym away.now_long ∙ is));
-  watched = λ is. absurd (false≢true (sym away.came ∙ grown (negation (literal_at c b)) is));
+  watched = λ is. absurd (false≢true (sym away.came ∙ grown (negation b) is));
 }
 
-fine_other : (walked literals held0 c : List Lit) (a b other : ℕ) → Grown literals held0 → IsMoved held0 c a b other
+fine_other : (walked literals held0 c : List Lit) (a b other : Lit) → Grown literals held0 → IsMoved held0 a b other
     → IsFine walked literals c other a → IsFine walked literals c other b
 fine_other walked literals held0 c a b other grown (inl same) fine = rw same fine
 fine_other walked literals held0 c a b other grown (inr away) fine = record {
-  short = λ is. absurd (false≢true (sym (long_back c b other away.now_long) ∙ is));
-  watched = λ is. absurd (false≢true (sym away.left ∙ grown (literal_at c a) (fine.watched is).holds));
+  short = λ is. absurd (false≢true (sym (long_back b other away.now_long) ∙ is));
+  watched = λ is. absurd (false≢true (sym away.left ∙ grown a (fine.watched is).holds));
 }
 
-fine_grown : (walked literals more c : List Lit) (a b : ℕ) → Grown literals more → IsFine walked literals c a b
+fine_grown : (walked literals more c : List Lit) (a b : Lit) → Grown literals more → IsFine walked literals c a b
     → IsFine walked more c a b
 fine_grown walked literals more c a b grown fine = record {
   short = λ is. held_more literals more c b grown (fine.short is);
@@ -54,22 +54,22 @@ fine_grown walked literals more c a b grown fine = record {
 }
 
 -- one more literal whose clauses were walked over
-fine_more : (walked literals c : List Lit) (a b : ℕ) (l : Lit) → (home c a b ≡ list_of l → IsHeld literals c b)
+fine_more : (walked literals c : List Lit) (a b : Lit) (l : Lit) → (home a b ≡ list_of l → IsHeld literals c b)
     → IsFine walked literals c a b → IsFine (walked ++ negation l ∷ []) literals c a b
 fine_more walked literals c a b l holds fine = record {
   short = fine.short;
-  watched = λ is. elim (or_cases (is_false_under walked (literal_at c a))
-      (is_same_literal (negation l) (negation (literal_at c a)) || false)
-      (sym (list_any-append (λ m. is_same_literal m (negation (literal_at c a))) walked (negation l ∷ [])) ∙ is)) [
+  watched = λ is. elim (or_cases (is_false_under walked a)
+      (is_same_literal (negation l) (negation a) || false)
+      (sym (list_any-append (λ m. is_same_literal m (negation a)) walked (negation l ∷ [])) ∙ is)) [
         | inl before ↦ fine.watched before
         | inr here ↦
-            let same : l ≡ literal_at c a =
+            let same : l ≡ a =
             sym (negation_twice l)
             ∙ ap negation
-            (is_same_literal-true (negation l) (negation (literal_at c a))
-            (drop_false (is_same_literal (negation l) (negation (literal_at c a))) here))
-            ∙ negation_twice (literal_at c a) in
-            elim (cases_Bool (is_short c a b)) [
+            (is_same_literal-true (negation l) (negation a)
+            (drop_false (is_same_literal (negation l) (negation a)) here))
+            ∙ negation_twice a in
+            elim (cases_Bool (is_short a b)) [
               | inl short ↦ fine.short short
               | inr long ↦ holds (rw (long, same) refl)
             ]
@@ -86,13 +86,13 @@ module _ (kept : Kept) (other own0 own1 : List ℕ) (all0 all1 : WatchLists) (tr
   pub own_stays : (walked literals : List Lit) → Grown walked (held trail0.literals)
       → IsFineSide kept walked literals own0 other → IsFineSide kept walked literals own1 other
   own_stays walked literals grown fine id c has =
-      fine_own walked literals (held trail0.literals) c (place_at own0 id) (place_at own1 id) (place_at other id) grown
+      fine_own walked literals (held trail0.literals) c (watched_at own0 id) (watched_at own1 id) (watched_at other id) grown
       (h.moved id c has) (fine id c has)
 
   pub other_stays : (walked literals : List Lit) → Grown literals (held trail0.literals)
       → IsFineSide kept walked literals other own0 → IsFineSide kept walked literals other own1
   other_stays walked literals grown fine id c has =
-      fine_other walked literals (held trail0.literals) c (place_at own0 id) (place_at own1 id) (place_at other id)
+      fine_other walked literals (held trail0.literals) c (watched_at own0 id) (watched_at own1 id) (watched_at other id)
       grown (h.moved id c has) (fine id c has)
 
   pub grown_here : Grown (held trail0.literals) (held trail1.literals)
@@ -103,31 +103,32 @@ module _ (kept : Kept) (other own0 own1 : List ℕ) (all0 all1 : WatchLists) (tr
       → IsFineSide kept walked (held trail0.literals) own0 other
       → IsFineSide kept (walked ++ negation l ∷ []) (held trail1.literals) own1 other
   own_more walked l grown holds fine id c has =
-      fine_more walked (held trail1.literals) c (place_at own1 id) (place_at other id) l (holds id c has)
-      (fine_grown walked (held trail0.literals) (held trail1.literals) c (place_at own1 id) (place_at other id)
+      fine_more walked (held trail1.literals) c (watched_at own1 id) (watched_at other id) l (holds id c has)
+      (fine_grown walked (held trail0.literals) (held trail1.literals) c (watched_at own1 id) (watched_at other id)
       grown_here (own_stays walked (held trail0.literals) grown fine id c has))
 
   pub other_more : (walked : List Lit) → IsFineSide kept walked (held trail0.literals) other own0
       → IsFineSide kept walked (held trail1.literals) other own1
   other_more walked fine id c has =
-      fine_grown walked (held trail0.literals) (held trail1.literals) c (place_at other id) (place_at own1 id)
+      fine_grown walked (held trail0.literals) (held trail1.literals) c (watched_at other id) (watched_at own1 id)
       grown_here (other_stays walked (held trail0.literals) (λ l among. among) fine id c has)
 
   -- the own places have moved, and the other side watches as before
-  other_placed : (lists more : ℕ) (c : List Lit) (a b o : ℕ) → IsMoved (held trail0.literals) c a b o
+  other_placed : (lists more : ℕ) (c : List Lit) (a b o : Lit) → IsMoved (held trail0.literals) a b o
       → IsPlaced more c b o → IsPlaced lists c o a → IsPlaced lists c o b
   other_placed lists more c a b o (inl same) new old = rw same old
   other_placed lists more c a b o (inr away) new old = record {
     inside = λ some. ((new.inside some).1, (new.inside some).0);
-    short = λ is. absurd (false≢true (sym (long_back c b o away.now_long) ∙ is));
+    bare = λ none. ((new.bare none).1, (new.bare none).0);
+    short = λ is. absurd (false≢true (sym (long_back b o away.now_long) ∙ is));
     small = old.small;
     listed = old.listed;
     begun = old.begun;
   }
 
-  other_home : (c : List Lit) (a b o : ℕ) → IsMoved (held trail0.literals) c a b o → home c o a ≡ home c o b
-  other_home c a b o (inl same) = ap (home c o) (sym same)
-  other_home c a b o (inr away) = rw (long_back c a o away.old_long, long_back c b o away.now_long) refl
+  other_home : (a b o : Lit) → IsMoved (held trail0.literals) a b o → home o a ≡ home o b
+  other_home a b o (inl same) = ap (home o) (sym same)
+  other_home a b o (inr away) = rw (long_back a o away.old_long, long_back b o away.now_long) refl
 
   other_side : (all : WatchLists) → IsSide kept own1 other all1 → IsSide kept other own0 all
       → IsSide kept other own1 all
@@ -135,11 +136,11 @@ module _ (kept : Kept) (other own0 own1 : List ℕ) (all0 all1 : WatchLists) (tr
     own_places = old.own_places;
     other_places = new.own_places;
     nodes = old.nodes;
-    placed = λ id c has. other_placed (length all.lists) (length all1.lists) c (place_at own0 id) (place_at own1 id)
-        (place_at other id) (h.moved id c has) (new.placed id c has) (old.placed id c has);
+    placed = λ id c has. other_placed (length all.lists) (length all1.lists) c (watched_at own0 id) (watched_at own1 id)
+        (watched_at other id) (h.moved id c has) (new.placed id c has) (old.placed id c has);
     listed = λ id c has list. old.listed id c has list
         ∙ ap (λ n. stands n list)
-        (other_home c (place_at own0 id) (place_at own1 id) (place_at other id) (h.moved id c has));
+        (other_home (watched_at own0 id) (watched_at own1 id) (watched_at other id) (h.moved id c has));
     fresh = old.fresh;
   }
 
@@ -175,9 +176,9 @@ settles_back kept f0 s0 f1 s1 trail0 trail1 h = record {
 pub fine_longer : (kept : Kept) (walked literals more : List Lit) (firsts seconds : List ℕ) → Grown literals more
     → AreFine kept walked literals firsts seconds → AreFine kept walked more firsts seconds
 fine_longer kept walked literals more firsts seconds grown h = record {
-  at_first = λ id c has. fine_grown walked literals more c (place_at firsts id) (place_at seconds id) grown
+  at_first = λ id c has. fine_grown walked literals more c (watched_at firsts id) (watched_at seconds id) grown
       (h.at_first id c has);
-  at_second = λ id c has. fine_grown walked literals more c (place_at seconds id) (place_at firsts id) grown
+  at_second = λ id c has. fine_grown walked literals more c (watched_at seconds id) (watched_at firsts id) grown
       (h.at_second id c has);
 }
 
@@ -262,40 +263,44 @@ front_more kept old now at l grows h =
     ∙ take_more (held old.literals) at no_literal within
     ∙ ap (λ m. take at (held old.literals) ++ m ∷ []) (sym h.negated)))
 
-idle_if : (ls : List Lit) → IsConsistent ls → (lists : ℕ) (c : List Lit) (a b : ℕ) → IsPlaced lists c a b
+-- the watched literals of a clause without literals are the same
+pub bare_short : (lists : ℕ) (c : List Lit) (a b : Lit) → IsPlaced lists c a b → c ≡ [] → is_short a b ≡ true
+bare_short lists c a b h none = rw ((h.bare none).0, (h.bare none).1) refl
+
+idle_if : (ls : List Lit) → IsConsistent ls → (lists : ℕ) (c : List Lit) (a b : Lit) → IsPlaced lists c a b
     → IsFine ls ls c a b → IsFine ls ls c b a → IsIdle ls c
 idle_if ls consistent lists c a b placed fine back =
-    let by_held : (place : ℕ) → IsHeld ls c place → IsIdle ls c =
-    λ place h. idle_by_true ls consistent c place no_literal h.inside h.holds in
-    elim (cases_Bool (is_short c a b)) [
+    let by_held : (l : Lit) → IsHeld ls c l → IsIdle ls c =
+    λ l h. idle_by_true ls consistent c l h.inside h.holds in
+    elim (cases_Bool (is_short a b)) [
       | inl short ↦ by_held b (fine.short short)
-      | inr long ↦ long_idle (nonempty c a b long) long by_held
+      | inr long ↦ long_idle (nonempty c (bare_short lists c a b placed) long) long by_held
     ]
   where
-    nonempty : (c : List Lit) (a b : ℕ) → is_short c a b ≡ false → 0 < length c
-    nonempty [] a b h = absurd (false≢true (sym h ∙ is_same_literal-self (literal_at [] a)))
-    nonempty (x ∷ xs) a b h = omega arith
+    nonempty : (c : List Lit) → (c ≡ [] → is_short a b ≡ true) → is_short a b ≡ false → 0 < length c
+    nonempty [] short h = absurd (false≢true (sym h ∙ short refl))
+    nonempty (x ∷ xs) short h = omega arith
 
     open_from : (l : Lit) → is_true_under ls l ≡ false → is_false_under ls l ≡ false → is_open_under ls l ≡ true
     open_from l t f = and_from (not (is_true_under ls l)) (not (is_false_under ls l))
         (not_from_false (is_true_under ls l) t) (not_from_false (is_false_under ls l) f)
 
-    long_idle : 0 < length c → is_short c a b ≡ false → ((place : ℕ) → IsHeld ls c place → IsIdle ls c) → IsIdle ls c
+    long_idle : 0 < length c → is_short a b ≡ false → ((l : Lit) → IsHeld ls c l → IsIdle ls c) → IsIdle ls c
     long_idle some long by_held =
         let inside = placed.inside some in
-        elim (cases_Bool (is_false_under ls (literal_at c a))) [
+        elim (cases_Bool (is_false_under ls a)) [
           | inl first_false ↦ by_held b (fine.watched first_false)
-          | inr first_not ↦ elim (cases_Bool (is_false_under ls (literal_at c b))) [
+          | inr first_not ↦ elim (cases_Bool (is_false_under ls b)) [
             | inl second_false ↦ by_held a (back.watched second_false)
-            | inr second_not ↦ elim (cases_Bool (is_true_under ls (literal_at c a))) [
+            | inr second_not ↦ elim (cases_Bool (is_true_under ls a)) [
               | inl is ↦ by_held a (record { inside = inside.0; holds = is })
-              | inr first_unset ↦ elim (cases_Bool (is_true_under ls (literal_at c b))) [
+              | inr first_unset ↦ elim (cases_Bool (is_true_under ls b)) [
                 | inl is ↦ by_held b (record { inside = inside.1; holds = is })
                 | inr second_unset ↦
-                    idle_by_two ls c b no_literal (literal_at c a) inside.1 (among_at ls c a no_literal inside.0)
-                    (open_from (literal_at c a) first_unset first_not)
-                    (open_from (literal_at c b) second_unset second_not)
-                    (λ same. false≢true (sym long ∙ rw same (is_same_literal-self (literal_at c b))))
+                    idle_by_two ls c b a inside.1 inside.0
+                    (open_from a first_unset first_not)
+                    (open_from b second_unset second_not)
+                    (λ same. false≢true (sym long ∙ rw same (is_same_literal-self b)))
               ]
             ]
           ]
@@ -306,7 +311,7 @@ pub all_settled : (kept : Kept) (firsts seconds : List ℕ) (first second : Watc
 all_settled kept firsts seconds first second ls consistent watched fine =
     let idle : (id : ℕ) (k : KeptClause) → kept_at kept id ≡ Some k → IsIdle ls k.literals = λ id k there.
     let has : HasClause kept id k.literals = record { found = k; there = there; literals = refl } in
-    idle_if ls consistent (length first.lists) k.literals (place_at firsts id) (place_at seconds id)
+    idle_if ls consistent (length first.lists) k.literals (watched_at firsts id) (watched_at seconds id)
     (watched.at_first.placed id k.literals has) (fine.at_first id k.literals has) (fine.at_second id k.literals has)
     in
     record {
@@ -320,20 +325,20 @@ pub fine_by_short : (kept : Kept) (own0 own1 other : List ℕ) (all0 all1 : Watc
     → IsSide kept own1 other all1 → AreFine kept [] (held trail1.literals) own1 other
 fine_by_short kept own0 own1 other all0 all1 trail0 trail1 holds side =
     let short_held : (id : ℕ) (c : List Lit) → HasClause kept id c
-    → is_short c (place_at own1 id) (place_at other id) ≡ true
-    → IsHeld (held trail1.literals) c (place_at other id) = λ id c has short.
+    → is_short (watched_at own1 id) (watched_at other id) ≡ true
+    → IsHeld (held trail1.literals) c (watched_at other id) = λ id c has short.
     holds id c has (rw short refl) in
     record {
       at_first = λ id c has. record { short = short_held id c has; watched = λ is. absurd (false≢true is) };
       at_second = λ id c has. record {
         short = λ back.
-            let short : is_short c (place_at own1 id) (place_at other id) ≡ true =
-            short_back c (place_at other id) (place_at own1 id) back in
-            let h : IsHeld (held trail1.literals) c (place_at other id) = short_held id c has short in
+            let short : is_short (watched_at own1 id) (watched_at other id) ≡ true =
+            short_back (watched_at other id) (watched_at own1 id) back in
+            let h : IsHeld (held trail1.literals) c (watched_at other id) = short_held id c has short in
             record {
-              inside = ((side.placed id c has).inside (omega (arith, h.inside))).0;
+              inside = ((side.placed id c has).inside (some_among c (watched_at other id) h.inside)).0;
               holds = ap (is_true_under (held trail1.literals))
-                  (is_same_literal-true (literal_at c (place_at own1 id)) (literal_at c (place_at other id)) short)
+                  (is_same_literal-true (watched_at own1 id) (watched_at other id) short)
                   ∙ h.holds;
             };
         watched = λ is. absurd (false≢true is);

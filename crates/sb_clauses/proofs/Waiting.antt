@@ -11,7 +11,7 @@ use Rattle.sb_trail.specs.Assignments.{held, is_of, entry_of, value_of, up_to, A
 use Rattle.sb_clauses.specs.Looking.{is_or_false, IsLeft}
 use Rattle.sb_clauses.specs.Watching.{literal_at, no_literal, is_short}
 use Rattle.sb_clauses.specs.Marking.{mark_at, held_up_to, AreBelow, IsFront}
-use Rattle.sb_clauses.specs.Waiting.{is_the, IsOther, IsBest, ArePlaces, AreBest, AreLate, HasRank, IsStaying}
+use Rattle.sb_clauses.specs.Waiting.{is_the, IsOther, IsBest, AreWatchable, AreBest, AreLate, HasRank, IsStaying}
 use Rattle.sb_lit.proofs.CallerLemmas.{is_same_literal-true, open-not_false}
 use Rattle.sb_trail.proofs.CallerLemmas.{entry_of-up_to}
 use Rattle.sb_clauses.proofs.Literals.{all_weaker, true_by_value, false_by_value, open_by_value, leaves_only-from, among_at}
@@ -19,20 +19,29 @@ use Rattle.sb_clauses.proofs.Settling.{short_back, long_back}
 use Rattle.sb_clauses.proofs.Marked.{front_at, up_to_in}
 
 -- places to watch
-pub no_places : (clause : List Lit) → list_all (is_the None) clause ≡ true → ArePlaces clause 0 0
-no_places [] h = record { inside = λ some. absurd (omega arith); short = λ is. refl }
+pub no_places : (clause : List Lit) → list_all (is_the None) clause ≡ true → AreWatchable clause no_literal no_literal
+no_places [] h = record { inside = λ some. absurd (omega arith); bare = λ none. (refl, refl); short = λ is. refl }
 no_places (x ∷ xs) h = absurd (false≢true h)
 
 pub two_places : (clause : List Lit) (first second : ℕ) → IsOther clause None first
-    → IsOther clause (Some (literal_at clause first)) second → ArePlaces clause first second
+    → IsOther clause (Some (literal_at clause first)) second
+    → AreWatchable clause (literal_at clause first) (literal_at clause second)
 two_places clause first second h k = record {
-  inside = λ some. (h.inside, k.inside);
-  short = λ is. absurd (false≢true (sym (long_back clause second first k.other) ∙ is));
+  inside = λ some. (among_at clause clause first no_literal h.inside, among_at clause clause second no_literal k.inside);
+  bare = λ none. absurd (omega (arith, ap length none, h.inside));
+  short = λ is. absurd (false≢true (sym (long_back (literal_at clause second) (literal_at clause first) k.other) ∙ is));
 }
 
 pub one_place : (clause : List Lit) (first : ℕ) → IsOther clause None first
-    → list_all (is_the (Some (literal_at clause first))) clause ≡ true → ArePlaces clause first first
-one_place clause first h all = record { inside = λ some. (h.inside, h.inside); short = λ is. all }
+    → list_all (is_the (Some (literal_at clause first))) clause ≡ true
+    → AreWatchable clause (literal_at clause first) (literal_at clause first)
+one_place clause first h all =
+    let among = among_at clause clause first no_literal h.inside in
+    record {
+      inside = λ some. (among, among);
+      bare = λ none. absurd (omega (arith, ap length none, h.inside));
+      short = λ is. all;
+    }
 
 record HasEntry (es : List Assigned) (a : ℕ) : Type 0 where
   entry : Assigned
@@ -73,20 +82,20 @@ late_literal es level rank l distinct ranked below =
     false_from_ne_true (is_false_under (held_up_to level es) l) (not_false_up_to es level rank l distinct ranked below)
 
 -- both literals are not false up to the marks that are left
-pub both_late : (es : List Assigned) (mid new : List ℕ) (c : List Lit) (a b first second : ℕ) → AreDistinct es
-    → IsFront mid new → AreBelow mid first → AreBelow new second → HasRank es (literal_at c a) first
-    → HasRank es (literal_at c b) second → is_short c a b ≡ false → AreLate es new c a b
-both_late es mid new c a b first second distinct front below also ranked ranked_too long i within =
+pub both_late : (es : List Assigned) (mid new : List ℕ) (a b : Lit) (first second : ℕ) → AreDistinct es
+    → IsFront mid new → AreBelow mid first → AreBelow new second → HasRank es a first
+    → HasRank es b second → is_short a b ≡ false → AreLate es new a b
+both_late es mid new a b first second distinct front below also ranked ranked_too long i within =
     let before = front_at mid new i front within in
     record {
       long = long;
-      own_open = late_literal es (mark_at new i) first (literal_at c a) distinct ranked
+      own_open = late_literal es (mark_at new i) first a distinct ranked
           (omega (arith, before.1, below i before.0));
-      other_open = late_literal es (mark_at new i) second (literal_at c b) distinct ranked_too (also i within);
+      other_open = late_literal es (mark_at new i) second b distinct ranked_too (also i within);
     }
 
-pub none_late : (es : List Assigned) (new : List ℕ) (c : List Lit) (a b : ℕ) → new ≡ [] → AreLate es new c a b
-none_late es new c a b none i within = absurd (omega (arith, ap length none))
+pub none_late : (es : List Assigned) (new : List ℕ) (a b : Lit) → new ≡ [] → AreLate es new a b
+none_late es new a b none i within = absurd (omega (arith, ap length none))
 
 -- the best place, found by its level where all are false
 pub best_of : (literals clause : List Lit) (avoided : Option Lit) (found : Option ℕ)
@@ -107,16 +116,18 @@ best_here literals clause avoided place within h =
     }
 
 -- what the places to watch say of the others
-pub no_best : (literals clause : List Lit) → list_all (is_the None) clause ≡ true → AreBest literals clause 0 0
+pub no_best : (literals clause : List Lit) → list_all (is_the None) clause ≡ true → AreBest literals clause no_literal no_literal
 no_best literals [] h = record { top = λ is. refl; next = λ is. refl }
 no_best literals (x ∷ xs) h = absurd (false≢true h)
 
 pub two_best : (literals clause : List Lit) (first second : ℕ) → IsBest literals clause None first
-    → IsBest literals clause (Some (literal_at clause first)) second → AreBest literals clause first second
+    → IsBest literals clause (Some (literal_at clause first)) second
+    → AreBest literals clause (literal_at clause first) (literal_at clause second)
 two_best literals clause first second h k = record { top = h.best; next = k.best }
 
 pub one_best : (literals clause : List Lit) (first : ℕ) → IsBest literals clause None first
-    → list_all (is_the (Some (literal_at clause first))) clause ≡ true → AreBest literals clause first first
+    → list_all (is_the (Some (literal_at clause first))) clause ≡ true
+    → AreBest literals clause (literal_at clause first) (literal_at clause first)
 one_best literals clause first h all = record {
   top = h.best;
   next = λ is. all_weaker (is_the (Some (literal_at clause first))) (is_or_false literals (literal_at clause first))
@@ -128,46 +139,46 @@ some_length zero h = absurd (false≢true (sym h))
 some_length (suc n) h = omega arith
 
 -- what a new clause comes to
-pub arrives_false : (literals clause : List Lit) (own other : ℕ) (v : Option Bool) → AreBest literals clause own other
-    → v ≡ value_under literals (literal_at clause own) → v ≡ Some false → is_false_clause literals clause ≡ true
+pub arrives_false : (literals clause : List Lit) (own other : Lit) (v : Option Bool) → AreBest literals clause own other
+    → v ≡ value_under literals own → v ≡ Some false → is_false_clause literals clause ≡ true
 arrives_false literals clause own other v best value is =
-    best.top (false_by_value literals (literal_at clause own) (sym value ∙ is))
+    best.top (false_by_value literals own (sym value ∙ is))
 
-pub arrives_true : (literals clause : List Lit) (own other : ℕ) (v : Option Bool) → own < length clause
-    → IsConsistent literals → v ≡ value_under literals (literal_at clause own) → v ≡ Some true
+pub arrives_true : (literals clause : List Lit) (own other : Lit) (v : Option Bool) → is_among clause own ≡ true
+    → IsConsistent literals → v ≡ value_under literals own → v ≡ Some true
     → IsStaying literals clause own other
 arrives_true literals clause own other v within consistent value is = record {
   consistent = consistent;
-  stays = inl (record { inside = within; holds = true_by_value literals (literal_at clause own) (sym value ∙ is) });
+  stays = inl (record { inside = within; holds = true_by_value literals own (sym value ∙ is) });
 }
 
-pub arrives_open : (literals clause : List Lit) (own other : ℕ) (v : Option Bool) → IsConsistent literals
-    → v ≡ value_under literals (literal_at clause own) → v ≡ None
-    → is_or_false literals (literal_at clause own) (literal_at clause other) ≡ false
+pub arrives_open : (literals clause : List Lit) (own other : Lit) (v : Option Bool) → IsConsistent literals
+    → v ≡ value_under literals own → v ≡ None
+    → is_or_false literals own other ≡ false
     → IsStaying literals clause own other
 arrives_open literals clause own other v consistent value is h =
-    let parts = or_parts (is_same_literal (literal_at clause other) (literal_at clause own))
-    (is_false_under literals (literal_at clause other)) h in
+    let parts = or_parts (is_same_literal other own)
+    (is_false_under literals other) h in
     record {
       consistent = consistent;
       stays = inr (record {
-        long = long_back clause other own parts.0;
-        own_open = open-not_false literals (literal_at clause own) (open_by_value literals (literal_at clause own) (sym value ∙ is));
+        long = long_back other own parts.0;
+        own_open = open-not_false literals own (open_by_value literals own (sym value ∙ is));
         other_open = parts.1;
       });
     }
 
-pub arrives_forced : (entries : List Assigned) (clause : List Lit) (own other : ℕ) (v : Option Bool) → own < length clause
-    → ArePlaces clause own other → AreBest (held entries) clause own other
-    → v ≡ value_under (held entries) (literal_at clause own) → v ≡ None
-    → is_none v ≡ is_none (value_of entries (literal_at clause own).atom)
-    → is_or_false (held entries) (literal_at clause own) (literal_at clause other) ≡ true
-    → IsLeft entries clause own (literal_at clause own)
+pub arrives_forced : (entries : List Assigned) (clause : List Lit) (own other : Lit) (v : Option Bool) → is_among clause own ≡ true
+    → AreWatchable clause own other → AreBest (held entries) clause own other
+    → v ≡ value_under (held entries) own → v ≡ None
+    → is_none v ≡ is_none (value_of entries own.atom)
+    → is_or_false (held entries) own other ≡ true
+    → IsLeft entries clause own own
 arrives_forced entries clause own other v within places best value is atom h =
-    let l : Lit = literal_at clause own in
+    let l : Lit = own in
     let literals : List Lit = held entries in
     let all : list_all (is_or_false literals l) clause ≡ true =
-    elim (or_cases (is_same_literal (literal_at clause other) l) (is_false_under literals (literal_at clause other)) h) [
+    elim (or_cases (is_same_literal other l) (is_false_under literals other) h) [
       | inl same ↦ short_all same
       | inr gone ↦ best.next gone
     ]
@@ -175,7 +186,7 @@ arrives_forced entries clause own other v within places best value is atom h =
     record {
       inside = within;
       there = refl;
-      forces = leaves_only-from literals clause l (among_at literals clause own no_literal within)
+      forces = leaves_only-from literals clause l within
           (open_by_value literals l (sym value ∙ is)) all;
       unassigned = none_of (value_of entries l.atom) (sym atom ∙ ap is_none is);
     }
@@ -184,12 +195,12 @@ arrives_forced entries clause own other v within places best value is atom h =
     none_of None e = refl
     none_of (Some x) e = absurd (false≢true e)
 
-    short_all : is_same_literal (literal_at clause other) (literal_at clause own) ≡ true
-        → list_all (is_or_false (held entries) (literal_at clause own)) clause ≡ true
+    short_all : is_same_literal other own ≡ true
+        → list_all (is_or_false (held entries) own) clause ≡ true
     short_all same =
-        let short : is_short clause own other ≡ true = short_back clause other own same in
-        all_weaker (λ m. is_same_literal m (literal_at clause other))
-        (is_or_false (held entries) (literal_at clause own)) (λ m here.
-        or_left (is_same_literal m (literal_at clause own)) (is_false_under (held entries) m)
-        (rw (is_same_literal-true (literal_at clause other) (literal_at clause own) same) at here)) clause
+        let short : is_short own other ≡ true = short_back other own same in
+        all_weaker (λ m. is_same_literal m other)
+        (is_or_false (held entries) own) (λ m here.
+        or_left (is_same_literal m own) (is_false_under (held entries) m)
+        (rw (is_same_literal-true other own same) at here)) clause
         (places.short short)

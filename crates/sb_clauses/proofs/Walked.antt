@@ -1,5 +1,6 @@
 -- A whole walk over the clauses that watch a literal.
-use Rattle.std.proofs.Common.{◌≡◌, ◌≢◌, ℕ, ◌<◌, ◌≤◌, true, false, ltb, List, [], ◌∷◌, length, set, refl, sym, ◌∙◌, ap, inl, inr, arith}
+use Rattle.std.proofs.Common.{◌≡◌, ◌≢◌, ℕ, ◌<◌, ◌≤◌, true, false, ltb, List, [], ◌∷◌, length, set, Option, Some, None, refl, sym, ◌∙◌, ap, inl, inr, arith}
+use Rattle.std.specs.Option.{MatchOption}
 use Rattle.std.proofs.lemmas.Bool.{cases_eq, cases_Bool, false≢true, false_from_ne_true, ltb-true}
 use Rattle.std.proofs.lemmas.List.{length-set, get_or-set_same, get_or-set_other}
 use Rattle.std.proofs.lemmas.List.Sums.{sum_by-set}
@@ -9,35 +10,35 @@ use Rattle.sb_lit.specs.Kept.{Kept}
 use Rattle.sb_trail.specs.Assignments.{Assignments, held}
 use Rattle.sb_clauses.specs.WatchLists.{WatchLists, times_in, times, IsPoured}
 use Rattle.sb_clauses.specs.Propagation.{has_room_for}
-use Rattle.sb_clauses.specs.Watching.{list_of, literal_at, is_short, home, stands, IsPlaced, HasClause, place_at, IsSide}
+use Rattle.sb_clauses.specs.Watching.{list_of, is_short, home, stands, IsPlaced, HasClause, watched_at, IsSide}
 use Rattle.sb_clauses.specs.Walking.{Walk, AreFalseOf, IsWalking, IsAway, IsMoved, Advances, AreHeld}
 use Rattle.sb_clauses.specs.Settling.{Grown}
-use Rattle.sb_lit.proofs.CallerLemmas.{is_same_literal-self}
+use Rattle.sb_lit.proofs.CallerLemmas.{all_among}
 use Rattle.sb_clauses.proofs.Growing.{GrowsBy-none, GrowsBy-then}
 use Rattle.sb_clauses.proofs.Moving.{list_at}
-use Rattle.sb_clauses.proofs.Walking.{grown_by, list_of-positive, all_at, stands_self, stands_other}
+use Rattle.sb_clauses.proofs.Walking.{grown_by, list_of-positive, stands_self, stands_other}
 
 pub among_before : (old now : List Lit) (l : Lit) → Grown old now → is_among now l ≡ false → is_among old l ≡ false
 among_before old now l grown h = false_from_ne_true (is_among old l) (λ is. false≢true (sym h ∙ grown l is))
 
-away_before : (old now : List Lit) (c : List Lit) (a b other : ℕ) → Grown old now → IsAway now c a b other
-    → IsAway old c a b other
-away_before old now c a b other grown k = record {
-  left = among_before old now (literal_at c a) grown k.left;
-  came = among_before old now (negation (literal_at c b)) grown k.came;
+away_before : (old now : List Lit) (a b other : Lit) → Grown old now → IsAway now a b other
+    → IsAway old a b other
+away_before old now a b other grown k = record {
+  left = among_before old now a grown k.left;
+  came = among_before old now (negation b) grown k.came;
   old_long = k.old_long;
   now_long = k.now_long;
 }
 
-moved_then : (old now : List Lit) (c : List Lit) (a b d other : ℕ) → Grown old now → IsMoved old c a b other
-    → IsMoved now c b d other → IsMoved old c a d other
-moved_then old now c a b d other grown (inl same) (inl e) = inl (e ∙ same)
-moved_then old now c a b d other grown (inl same) (inr k) = inr (away_before old now c a d other grown (rw same at k))
-moved_then old now c a b d other grown (inr h) (inl e) = inr (rw e h)
-moved_then old now c a b d other grown (inr h) (inr k) =
+moved_then : (old now : List Lit) (a b d other : Lit) → Grown old now → IsMoved old a b other
+    → IsMoved now b d other → IsMoved old a d other
+moved_then old now a b d other grown (inl same) (inl e) = inl (e ∙ same)
+moved_then old now a b d other grown (inl same) (inr k) = inr (away_before old now a d other grown (rw same at k))
+moved_then old now a b d other grown (inr h) (inl e) = inr (rw e h)
+moved_then old now a b d other grown (inr h) (inr k) =
     inr (record {
       left = h.left;
-      came = among_before old now (negation (literal_at c d)) grown k.came;
+      came = among_before old now (negation d) grown k.came;
       old_long =
           h.old_long;
       now_long = k.now_long;
@@ -57,28 +58,28 @@ pub advances_then : (kept : Kept) (other own0 own1 own2 : List ℕ) (all0 all1 a
 advances_then kept other own0 own1 own2 all0 all1 all2 trail0 trail1 trail2 h k = record {
   grows = GrowsBy-then kept trail0 trail1 trail2 h.grows k.grows;
   len = k.len ∙ h.len;
-  moved = λ id c has. moved_then (held trail0.literals) (held trail1.literals) c (place_at own0 id) (place_at own1 id)
-      (place_at own2 id) (place_at other id) (grown_by kept trail0 trail1 h.grows) (h.moved id c has)
+  moved = λ id c has. moved_then (held trail0.literals) (held trail1.literals) (watched_at own0 id) (watched_at own1 id)
+      (watched_at own2 id) (watched_at other id) (grown_by kept trail0 trail1 h.grows) (h.moved id c has)
       (k.moved id c has);
 }
 
 -- a home is a list that is there, and not the scratch list
-pub home_positive : (c : List Lit) (own other : ℕ) → 0 < home c own other
-home_positive c own other = elim (cases_Bool (is_short c own other)) [
+pub home_positive : (own other : Lit) → 0 < home own other
+home_positive own other = elim (cases_Bool (is_short own other)) [
   | inl is ↦ rw is (omega arith)
-  | inr is ↦ rw is (omega (arith, list_of-positive (literal_at c own)))
+  | inr is ↦ rw is (omega (arith, list_of-positive own))
 ]
 
-home_short : (lists : ℕ) (c : List Lit) (own other : ℕ) → IsPlaced lists c own other → is_short c own other ≡ true
-    → home c own other < lists
+home_short : (lists : ℕ) (c : List Lit) (own other : Lit) → IsPlaced lists c own other → is_short own other ≡ true
+    → home own other < lists
 home_short lists c own other h is = rw is h.begun
 
-pub home_inside : (lists : ℕ) (c : List Lit) (own other : ℕ) → IsPlaced lists c own other → home c own other < lists
-home_inside lists [] own other h = home_short lists [] own other h (is_same_literal-self (literal_at [] own))
-home_inside lists (x ∷ xs) own other h = elim (cases_Bool (is_short (x ∷ xs) own other)) [
+pub home_inside : (lists : ℕ) (c : List Lit) (own other : Lit) → IsPlaced lists c own other → home own other < lists
+home_inside lists [] own other h = home_short lists [] own other h (rw ((h.bare refl).0, (h.bare refl).1) refl)
+home_inside lists (x ∷ xs) own other h = elim (cases_Bool (is_short own other)) [
   | inl is ↦ home_short lists (x ∷ xs) own other h is
-  | inr is ↦ rw is (ltb-true (list_of (literal_at (x ∷ xs) own)) lists
-      (all_at (λ l. ltb (list_of l) lists) (x ∷ xs) own (h.inside (omega arith)).0 h.listed))
+  | inr is ↦ rw is (ltb-true (list_of own) lists
+      (all_among (λ l. ltb (list_of l) lists) (x ∷ xs) own h.listed (h.inside (omega arith)).0))
 ]
 
 pub walk_begins : (list : ℕ) (w : Walk) → IsSide w.kept w.own w.other w.all
@@ -87,8 +88,8 @@ pub walk_begins : (list : ℕ) (w : Walk) → IsSide w.kept w.own w.other w.all
 walk_begins list w h room are_false begun inside =
     let scratch : (id : ℕ) (c : List Lit) → HasClause w.kept id c → times_in id (list_at w.all.lists 0) ≡ 0 =
     λ id c has.
-    h.listed id c has 0 ∙ stands_other (home c (place_at w.own id) (place_at w.other id)) 0
-    (λ e. omega (arith, home_positive c (place_at w.own id) (place_at w.other id), e)) in
+    h.listed id c has 0 ∙ stands_other (home (watched_at w.own id) (watched_at w.other id)) 0
+    (λ e. omega (arith, home_positive (watched_at w.own id) (watched_at w.other id), e)) in
     record {
       begun = begun;
       inside = inside;
@@ -119,9 +120,15 @@ pub walk_past : (list : ℕ) (w : Walk) → IsSide w.kept w.own w.other w.all �
 walk_past list w h past id c has is =
     absurd (omega (
       arith,
-      home_inside (length w.all.lists) c (place_at w.own id) (place_at w.other id) (h.placed id c has),
+      home_inside (length w.all.lists) c (watched_at w.own id) (watched_at w.other id) (h.placed id c has),
       is,
     ))
+
+-- what an answer says where there is none may be less
+pub match_weaker : {X : Type 0} (r : Option X) (A B : Type 0) (P : X → Type 0) → (A → B) → MatchOption r A P
+    → MatchOption r B P
+match_weaker None A B P weaker h = weaker h
+match_weaker (Some x) A B P weaker h = h
 
 abbrev pub put_back : List (List ℕ) → ℕ → List (List ℕ)
 put_back lists list = set (set lists list (list_at lists 0)) 0 []
@@ -163,8 +170,8 @@ walk_ends list w all h poured =
       placed = λ id c has. rw whole_len (h.placed id c has);
       listed = λ id c has l. elim (cases_eq l 0) [
         | inl at_0 ↦ rw (at_0, at_scratch)
-            (sym (stands_other (home c (place_at w.own id) (place_at w.other id)) 0
-            (λ e. omega (arith, home_positive c (place_at w.own id) (place_at w.other id), e))))
+            (sym (stands_other (home (watched_at w.own id) (watched_at w.other id)) 0
+            (λ e. omega (arith, home_positive (watched_at w.own id) (watched_at w.other id), e))))
         | inr off_0 ↦ elim (cases_eq l list) [
           | inl here ↦ rw (here, at_list) (poured.counts id ∙ h.here id c has)
           | inr off ↦ rw (at_other l off_0 off) (h.elsewhere id c has l off_0 off)

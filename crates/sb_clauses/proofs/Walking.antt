@@ -3,7 +3,7 @@ use Rattle.std.proofs.Common.{◌≡◌, ◌≢◌, ℕ, ◌+◌, ◌^◌, ◌<�
 use Rattle.std.specs.List.{slice_get, list_all}
 use Rattle.std.proofs.lemmas.Bool.{cases_eq, cases_lt, cases_Bool, eq-eqb, ne_eqb, false≢true, or_parts, or_left, false_from_ne_true, true_from_ne_false, ltb-true}
 use Rattle.std.proofs.lemmas.Option.{same_Some, none-some}
-use Rattle.std.proofs.lemmas.List.{length-set, map-append, get_or-set_same, get_or-set_other}
+use Rattle.std.proofs.lemmas.List.{length-set, map-append}
 use Rattle.std.proofs.lemmas.List.Folds.{list_all_at, list_any-append}
 use Rattle.sb_lit.specs.declared.clause.Lit.{Lit}
 use Rattle.sb_lit.specs.Clauses.{negation, is_same_literal, is_among, is_true_under, is_false_under, is_false_clause}
@@ -13,12 +13,14 @@ use Rattle.sb_trail.specs.Assignments.{Assignments, held, current_level}
 use Rattle.sb_clauses.specs.WatchLists.{times_in, times}
 use Rattle.sb_clauses.specs.Propagation.{GrowsBy, IsForced}
 use Rattle.sb_clauses.specs.Looking.{IsMove, IsLeft, IsHeld}
-use Rattle.sb_clauses.specs.Watching.{list_of, no_literal, literal_at, is_short, home, stands, is_small, IsPlaced, HasClause, place_at}
+use Rattle.sb_clauses.specs.Watching.{list_of, no_literal, literal_at, is_short, home, stands, is_small, IsPlaced, HasClause, watched_at}
 use Rattle.sb_clauses.specs.Walking.{Walk, IsWalking, IsTurn}
 use Rattle.sb_clauses.specs.Settling.{Grown}
 use Rattle.sb_clauses.specs.declared.walk.Turn.TheVariants.{Goes, Ends, Stops}
 use Rattle.sb_lit.proofs.CallerLemmas.{is_same_literal-self}
 use Rattle.sb_clauses.proofs.Growing.{GrowsBy-none, GrowsBy-push, place_of_forced}
+use Rattle.sb_clauses.proofs.Literals.{among_at}
+use Rattle.sb_clauses.proofs.Codes.{watched-set_same, watched-set_other}
 use Rattle.sb_clauses.proofs.Moving.{list_at, pushed, popped, part_le, stood, popped_other, popped_shorter, popped_times, pushed_other, pushed_self, pushed_off, pushed_times, ends_empty}
 
 -- what holds of each literal of a clause holds of one of its places
@@ -72,9 +74,9 @@ stands_is n l h =
       | inr other ↦ absurd (omega (arith, stands_other n l other))
     ]
 
-pub held_more : (old now clause : List Lit) (other : ℕ) → Grown old now → IsHeld old clause other
+pub held_more : (old now clause : List Lit) (other : Lit) → Grown old now → IsHeld old clause other
     → IsHeld now clause other
-held_more old now clause other grown h = record { inside = h.inside; holds = grown (literal_at clause other) h.holds }
+held_more old now clause other grown h = record { inside = h.inside; holds = grown other h.holds }
 
 -- where the list is empty
 pub turn_ends : (list : ℕ) (w : Walk) → IsWalking list w → None ≡ slice_get (list_at w.all.lists list) 0
@@ -135,19 +137,19 @@ module _ (list : ℕ) (w : Walk) (h : IsWalking list w) (n : ℕ) (first : Some 
         }
 
     module _ (nowhere : times n rest ≡ 0) (c : List Lit) (has : HasClause w.kept n c) where
-      pub home_is : home c (place_at w.own n) (place_at w.other n) ≡ list
+      pub home_is : home (watched_at w.own n) (watched_at w.other n) ≡ list
       home_is =
-          stands_is (home c (place_at w.own n) (place_at w.other n)) list
+          stands_is (home (watched_at w.own n) (watched_at w.other n)) list
           (omega (arith, h.here n c has, stood w.all.lists list n h.inside first))
 
       -- a push on some list
       pub turn_pushes : (own : List ℕ) (trail : Assignments) (to : ℕ) → to < length w.all.lists
-          → length own ≡ length w.own → ((id : ℕ) → id ≢ n → place_at own id ≡ place_at w.own id)
-          → IsPlaced (length w.all.lists) c (place_at own n) (place_at w.other n) → trail.reserved ≡ w.trail.reserved
+          → length own ≡ length w.own → ((id : ℕ) → id ≢ n → watched_at own id ≡ watched_at w.own id)
+          → IsPlaced (length w.all.lists) c (watched_at own n) (watched_at w.other n) → trail.reserved ≡ w.trail.reserved
           → Grown (held w.trail.literals) (held trail.literals)
-          → ((l : ℕ) → l ≢ 0 → l ≢ list → stands to l ≡ stands (home c (place_at own n) (place_at w.other n)) l)
-          → stands to 0 + stands to list ≡ stands (home c (place_at own n) (place_at w.other n)) list
-          → (to ≡ 0 → IsHeld (held trail.literals) c (place_at w.other n))
+          → ((l : ℕ) → l ≢ 0 → l ≢ list → stands to l ≡ stands (home (watched_at own n) (watched_at w.other n)) l)
+          → stands to 0 + stands to list ≡ stands (home (watched_at own n) (watched_at w.other n)) list
+          → (to ≡ 0 → IsHeld (held trail.literals) c (watched_at w.other n))
           → IsWalking list (record w { own = own; trail = trail; all = record w.all { lists = pushed rest to n } })
       turn_pushes own trail to inside len same placed reserved grown elsewhere_n here_n holds_n =
           let to_rest : to < length rest = omega (arith, same_len) in
@@ -171,15 +173,11 @@ module _ (list : ℕ) (w : Walk) (h : IsWalking list w) (n : ℕ) (first : Some 
               | inr apart ↦ rw (same id apart) (h.placed id d k)
             ]);
             elsewhere = λ id d k l a b. elim (cases_eq id n) [
-              | inl at_n ↦
-                  let is_c : d ≡ c = only_clause w.kept n c d has (subst (λ i. HasClause w.kept i d) at_n k) in
-                  rw (at_n, is_c) (self l ∙ elsewhere_n l a b)
+              | inl at_n ↦ rw at_n (self l ∙ elsewhere_n l a b)
               | inr apart ↦ rw (same id apart) (other id apart l ∙ h.elsewhere id d k l a b)
             ];
             here = λ id d k. elim (cases_eq id n) [
-              | inl at_n ↦
-                  let is_c : d ≡ c = only_clause w.kept n c d has (subst (λ i. HasClause w.kept i d) at_n k) in
-                  rw (at_n, is_c, self 0, self list) here_n
+              | inl at_n ↦ rw (at_n, self 0, self list) here_n
               | inr apart ↦ rw (same id apart, other id apart 0, other id apart list) (h.here id d k)
             ];
             holds = λ id d k many. elim (cases_eq id n) [
@@ -187,7 +185,7 @@ module _ (list : ℕ) (w : Walk) (h : IsWalking list w) (n : ℕ) (first : Some 
                   let is_c : d ≡ c = only_clause w.kept n c d has (subst (λ i. HasClause w.kept i d) at_n k) in
                   let there : to ≡ 0 = stands_is to 0 (rw (at_n, self 0) at many) in
                   rw (at_n, is_c) (holds_n there)
-              | inr apart ↦ held_more (held w.trail.literals) (held trail.literals) d (place_at w.other id) grown
+              | inr apart ↦ held_more (held w.trail.literals) (held trail.literals) d (watched_at w.other id) grown
                   (h.holds id d k (rw (other id apart 0) at many))
             ];
             fresh = λ id past.
@@ -209,7 +207,7 @@ module _ (list : ℕ) (w : Walk) (h : IsWalking list w) (n : ℕ) (first : Some 
 
       -- a clause that stays, with a true literal at its other place
       turn_keeps : (trail : Assignments) → GrowsBy w.kept w.trail trail
-          → IsHeld (held trail.literals) c (place_at w.other n) → IsTurn list w (pushed_state w.own trail 0) Goes
+          → IsHeld (held trail.literals) c (watched_at w.other n) → IsTurn list w (pushed_state w.own trail 0) Goes
       turn_keeps trail grows is_true =
           let scratch_apart : list ≢ 0 = λ e. omega (arith, h.begun, e) in
           record {
@@ -223,16 +221,16 @@ module _ (list : ℕ) (w : Walk) (h : IsWalking list w) (n : ℕ) (first : Some 
                 (popped_shorter w.all.lists list n h.inside first);
           }
 
-      pub turn_holds : IsHeld (held w.trail.literals) c (place_at w.other n)
+      pub turn_holds : IsHeld (held w.trail.literals) c (watched_at w.other n)
           → IsTurn list w (pushed_state w.own w.trail 0) Goes
       turn_holds seen = turn_keeps w.trail (GrowsBy-none w.kept w.trail) seen
 
-      pub turn_place : (l : Lit) → IsLeft w.trail.literals c (place_at w.other n) l → l.atom < w.trail.reserved
+      pub turn_place : (l : Lit) → IsLeft w.trail.literals c (watched_at w.other n) l → l.atom < w.trail.reserved
       turn_place l seen =
           place_of_forced w.kept w.trail.reserved n has.found h.room has.there (held w.trail.literals) l
           (rw has.literals seen.forces)
 
-      pub turn_forces : (l : Lit) → IsLeft w.trail.literals c (place_at w.other n) l
+      pub turn_forces : (l : Lit) → IsLeft w.trail.literals c (watched_at w.other n) l
           → IsTurn list w (pushed_state w.own
           (record w.trail {
             literals =
@@ -282,29 +280,29 @@ module _ (list : ℕ) (w : Walk) (h : IsWalking list w) (n : ℕ) (first : Some 
             out = record { clause = has.found; there = has.there; is_false = rw has.literals seen };
           }
 
-      module _ (place : ℕ) (seen : IsMove (held w.trail.literals) c (literal_at c (place_at w.other n)) place) where
-        apart_parts : (is_same_literal (literal_at c place) (literal_at c (place_at w.other n)) ≡ false)
+      module _ (place : ℕ) (seen : IsMove (held w.trail.literals) c (watched_at w.other n) place) where
+        apart_parts : (is_same_literal (literal_at c place) (watched_at w.other n) ≡ false)
             × (is_false_under (held w.trail.literals) (literal_at c place) ≡ false)
-        apart_parts = or_parts (is_same_literal (literal_at c place) (literal_at c (place_at w.other n)))
+        apart_parts = or_parts (is_same_literal (literal_at c place) (watched_at w.other n))
             (is_false_under (held w.trail.literals) (literal_at c place)) seen.replacement.is_new
 
-        placed : IsPlaced (length w.all.lists) c (place_at w.own n) (place_at w.other n)
+        placed : IsPlaced (length w.all.lists) c (watched_at w.own n) (watched_at w.other n)
         placed = h.placed n c has
 
-        old_long : is_short c (place_at w.own n) (place_at w.other n) ≡ false
-        old_long = false_from_ne_true (is_short c (place_at w.own n) (place_at w.other n)) (λ short.
+        old_long : is_short (watched_at w.own n) (watched_at w.other n) ≡ false
+        old_long = false_from_ne_true (is_short (watched_at w.own n) (watched_at w.other n)) (λ short.
             false≢true (sym apart_parts.0
-            ∙ all_at (λ l. is_same_literal l (literal_at c (place_at w.other n))) c place seen.replacement.inside
+            ∙ all_at (λ l. is_same_literal l (watched_at w.other n)) c place seen.replacement.inside
             (placed.short short)))
 
-        own_list : list_of (literal_at c (place_at w.own n)) ≡ list
+        own_list : list_of (watched_at w.own n) ≡ list
         own_list = rw old_long at home_is
 
-        own_false : is_false_under (held w.trail.literals) (literal_at c (place_at w.own n)) ≡ true
-        own_false = h.are_false (literal_at c (place_at w.own n)) own_list
+        own_false : is_false_under (held w.trail.literals) (watched_at w.own n) ≡ true
+        own_false = h.are_false (watched_at w.own n) own_list
 
-        pub move_small : (literal_at c place).atom < 2 ^ 62
-        move_small = ltb-true (literal_at c place).atom (2 ^ 62)
+        pub move_small : (literal_at c place).atom < 2 ^ 30
+        move_small = ltb-true (literal_at c place).atom (2 ^ 30)
             (all_at is_small c place seen.replacement.inside placed.small)
 
         pub move_inside : list_of (literal_at c place) < length w.all.lists
@@ -314,20 +312,22 @@ module _ (list : ℕ) (w : Walk) (h : IsWalking list w) (n : ℕ) (first : Some 
         elsewhere : list_of (literal_at c place) ≢ list
         elsewhere e = false≢true (sym apart_parts.1 ∙ h.are_false (literal_at c place) e)
 
-        pub turn_moves : IsTurn list w (pushed_state (set w.own n place) w.trail (list_of (literal_at c place))) Goes
+        pub turn_moves : IsTurn list w (pushed_state (set w.own n (list_of (literal_at c place))) w.trail (list_of (literal_at c place))) Goes
         turn_moves =
             let inside : n < length w.own = omega (arith, number_below, h.own_places) in
-            let at_n : place_at (set w.own n place) n ≡ place = get_or-set_same w.own n place 0 inside in
-            let other : (id : ℕ) → id ≢ n → place_at (set w.own n place) id ≡ place_at w.own id =
-            λ id apart. get_or-set_other w.own n id place 0 apart in
-            let new_home : home c (place_at (set w.own n place) n) (place_at w.other n) ≡ list_of (literal_at c place) =
+            let at_n : watched_at (set w.own n (list_of (literal_at c place))) n ≡ literal_at c place =
+            watched-set_same w.own n (literal_at c place) inside in
+            let other : (id : ℕ) → id ≢ n → watched_at (set w.own n (list_of (literal_at c place))) id ≡ watched_at w.own id =
+            λ id apart. watched-set_other w.own n id (literal_at c place) apart in
+            let new_home : home (watched_at (set w.own n (list_of (literal_at c place))) n) (watched_at w.other n) ≡ list_of (literal_at c place) =
             rw at_n (rw apart_parts.0 refl) in
             let some : 0 < length c = omega (arith, seen.replacement.inside) in
             record {
-              walking = turn_pushes (set w.own n place) w.trail (list_of (literal_at c place)) move_inside
-                  (length-set w.own n place) other
+              walking = turn_pushes (set w.own n (list_of (literal_at c place))) w.trail (list_of (literal_at c place)) move_inside
+                  (length-set w.own n (list_of (literal_at c place))) other
                   (record {
-                    inside = λ _. (rw at_n seen.replacement.inside, (placed.inside some).1);
+                    inside = λ _. (rw at_n (among_at c c place no_literal seen.replacement.inside), (placed.inside some).1);
+                    bare = λ none. absurd (omega (arith, ap length none, some));
                     short = λ short. absurd (false≢true (sym apart_parts.0 ∙ rw at_n at short));
                     small = placed.small;
                     listed = placed.listed;
@@ -343,14 +343,13 @@ module _ (list : ℕ) (w : Walk) (h : IsWalking list w) (n : ℕ) (first : Some 
                   (λ e. absurd (omega (arith, list_of-positive (literal_at c place), e)));
               advances = record {
                 grows = GrowsBy-none w.kept w.trail;
-                len = length-set w.own n place;
+                len = length-set w.own n (list_of (literal_at c place));
                 moved = λ id d k. elim (cases_eq id n) [
                   | inl here ↦
-                      let is_c : d ≡ c = only_clause w.kept n c d has (subst (λ i. HasClause w.kept i d) here k) in
-                      rw (here, is_c, at_n) (inr (record {
+                      rw (here, at_n) (inr (record {
                         left = false_from_ne_true
-                            (is_true_under (held w.trail.literals) (literal_at c (place_at w.own n)))
-                            (λ is. false≢true (sym (seen.consistent (literal_at c (place_at w.own n)) is) ∙ own_false));
+                            (is_true_under (held w.trail.literals) (watched_at w.own n))
+                            (λ is. false≢true (sym (seen.consistent (watched_at w.own n) is) ∙ own_false));
                         came = apart_parts.1;
                         old_long = old_long;
                         now_long = apart_parts.0;

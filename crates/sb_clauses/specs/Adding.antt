@@ -3,12 +3,12 @@ use Rattle.std.specs.Prelude.{◌≡◌, ℕ, ◌<◌, ◌≤◌, true, nat_lt, 
 use Rattle.std.specs.List.{list_all}
 use Rattle.sb_lit.specs.declared.clause.Lit.{Lit}
 use Rattle.sb_clauses.specs.WatchLists.{WatchLists, times}
-use Rattle.sb_clauses.specs.Watching.{list_of, is_small, place_at}
+use Rattle.sb_clauses.specs.Watching.{list_of, is_small, code_at}
 
 -- with room for more, and otherwise the same
 pub record IsRoomier (old_places : List ℕ) (old : WatchLists) (new_places : List ℕ) (new : WatchLists) : Type 0 where
   pub more_places : length old_places ≤ length new_places
-  pub same_places : (id : ℕ) → id < length old_places → place_at new_places id ≡ place_at old_places id
+  pub same_places : (id : ℕ) → id < length old_places → code_at new_places id ≡ code_at old_places id
   pub more_nodes : old.nodes ≤ new.nodes
   pub more_lists : length old.lists ≤ length new.lists
   pub same_lists : (list : ℕ) → slice_index_or new.lists list [] ≡ slice_index_or old.lists list []

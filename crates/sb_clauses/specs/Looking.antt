@@ -1,7 +1,7 @@
--- Private: what a clause comes to, seen from one of its two places.
+-- Private: what a clause comes to, seen from one of its two watched literals.
 use Rattle.std.specs.Prelude.{◌≡◌, ℕ, ◌<◌, Bool, true, false, ◌||◌, List, length, slice_index_or, None}
 use Rattle.sb_lit.specs.declared.clause.Lit.{Lit}
-use Rattle.sb_lit.specs.Clauses.{is_same_literal, is_true_under, is_false_under, is_false_clause, leaves_only}
+use Rattle.sb_lit.specs.Clauses.{is_same_literal, is_among, is_true_under, is_false_under, is_false_clause, leaves_only}
 use Rattle.sb_trail.specs.declared.assigned.Assigned.{Assigned}
 use Rattle.sb_trail.specs.Assignments.{held, value_of, IsConsistent}
 use Rattle.sb_clauses.specs.declared.watch.Seen.{Seen}
@@ -17,23 +17,24 @@ pub record IsReplacement (literals clause : List Lit) (l : Lit) (place : ℕ) : 
   pub inside : place < length clause
   pub is_new : is_or_false literals l (slice_index_or clause place no_literal) ≡ false
 
--- the literal at the other place is left
-pub record IsLeft (entries : List Assigned) (clause : List Lit) (other : ℕ) (l : Lit) : Type 0 where
-  pub inside : other < length clause
-  pub there : l ≡ slice_index_or clause other no_literal
+-- the other literal is left
+pub record IsLeft (entries : List Assigned) (clause : List Lit) (other : Lit) (l : Lit) : Type 0 where
+  pub inside : is_among clause other ≡ true
+  pub there : l ≡ other
   pub forces : leaves_only (held entries) clause l ≡ true
   pub unassigned : value_of entries l.atom ≡ None
 
-pub record IsHeld (literals clause : List Lit) (other : ℕ) : Type 0 where
-  pub inside : other < length clause
-  pub holds : is_true_under literals (slice_index_or clause other no_literal) ≡ true
+-- the other literal is true
+pub record IsHeld (literals clause : List Lit) (other : Lit) : Type 0 where
+  pub inside : is_among clause other ≡ true
+  pub holds : is_true_under literals other ≡ true
 
 pub record IsMove (literals clause : List Lit) (l : Lit) (place : ℕ) : Type 0 where
   pub replacement : IsReplacement literals clause l place
   pub consistent : IsConsistent literals
 
-abbrev pub IsSeen : List Assigned → List Lit → ℕ → Seen → Type 0
+abbrev pub IsSeen : List Assigned → List Lit → Lit → Seen → Type 0
 IsSeen entries clause other Holds = IsHeld (held entries) clause other
-IsSeen entries clause other (Moves place) = IsMove (held entries) clause (slice_index_or clause other no_literal) place
+IsSeen entries clause other (Moves place) = IsMove (held entries) clause other place
 IsSeen entries clause other (Forces l) = IsLeft entries clause other l
 IsSeen entries clause other False = is_false_clause (held entries) clause ≡ true

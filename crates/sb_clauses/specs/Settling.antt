@@ -7,21 +7,21 @@ use Rattle.sb_trail.specs.declared.assigned.Assigned.{Assigned}
 use Rattle.sb_trail.specs.Assignments.{Assignments, held}
 use Rattle.sb_clauses.specs.Looking.{IsHeld}
 use Rattle.sb_clauses.specs.Propagation.{GrowsBy}
-use Rattle.sb_clauses.specs.Watching.{literal_at, is_short, HasClause, place_at}
+use Rattle.sb_clauses.specs.Watching.{literal_at, is_short, HasClause, watched_at}
 
 -- each literal of the first list is in the second
 abbrev pub Grown : List Lit → List Lit → Type 0
 Grown old now = (l : Lit) → is_among old l ≡ true → is_among now l ≡ true
 
 -- where the own literal is false under `walked`, the other one is true
-pub record IsFine (walked literals clause : List Lit) (own other : ℕ) : Type 0 where
-  pub short : is_short clause own other ≡ true → IsHeld literals clause other
-  pub watched : is_false_under walked (literal_at clause own) ≡ true → IsHeld literals clause other
+pub record IsFine (walked literals clause : List Lit) (own other : Lit) : Type 0 where
+  pub short : is_short own other ≡ true → IsHeld literals clause other
+  pub watched : is_false_under walked own ≡ true → IsHeld literals clause other
 
 -- the same of each clause
 abbrev pub IsFineSide : Kept → List Lit → List Lit → List ℕ → List ℕ → Type 0
 IsFineSide kept walked literals own other = (id : ℕ) (clause : List Lit) → HasClause kept id clause
-    → IsFine walked literals clause (place_at own id) (place_at other id)
+    → IsFine walked literals clause (watched_at own id) (watched_at other id)
 
 pub record AreFine (kept : Kept) (walked literals : List Lit) (firsts seconds : List ℕ) : Type 0 where
   pub at_first : IsFineSide kept walked literals firsts seconds

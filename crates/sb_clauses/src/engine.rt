@@ -34,8 +34,8 @@ impl Model for Engine {
 
     ghost view = { λ engine. record { kept = engine.clauses; trail = engine.trail } };
 
-    ghost invariant = { λ engine. AreStored engine.clauses engine.first.places.items engine.first.lists
-        engine.second.places.items engine.second.lists engine.trail.literals engine.queue.marks.items
+    ghost invariant = { λ engine. AreStored engine.clauses engine.first.watched.items engine.first.lists
+        engine.second.watched.items engine.second.lists engine.trail.literals engine.queue.marks.items
         engine.queue.head engine.queue.listed };
 }
 
@@ -88,7 +88,7 @@ impl Engine {
 
     /// Keeps a clause at a level, under the next number. Linear in the number of its literals, and above level 0
     /// logarithmic in the number of clauses there; takes memory for each atom up to the greatest one, and is an error
-    /// where that cannot be had, as for an atom of 2 ^ 62.
+    /// where that cannot be had, as for an atom of 2 ^ 30.
     pub fn add(&mut self, clause: &Clause, level: u64) -> Result<ClauseId, AllocError>
         ensures number { IfOk result (λ id. id.0 ≡ length self.old.kept) }
         ensures ok { IfOk result

@@ -8,7 +8,7 @@ ghost use Rattle.sb_clauses.specs.Marking.{IsHead, AreReady};
 ghost use Rattle.sb_clauses.specs.Waiting.{HaveRoom};
 
 use crate::marks::Queue;
-use crate::place::{Arrival, arrive, forget_late, watched_places};
+use crate::place::{Arrival, arrive, forget_late, watched_literals};
 use crate::record::Record;
 use crate::watches::Watches;
 use sb_lit::ClauseId;
@@ -24,26 +24,26 @@ pub fn list_new(
     trail: &mut Trail,
 ) -> Option<ClauseId>
     requires listed { queue.old.listed ≤ length (kept_of records.now) }
-    requires ready { AreReady (take queue.old.listed (kept_of records.now)) first.old.places.items first.old.lists
-        second.old.places.items second.old.lists trail.old.literals queue.old.marks.items
+    requires ready { AreReady (take queue.old.listed (kept_of records.now)) first.old.watched.items first.old.lists
+        second.old.watched.items second.old.lists trail.old.literals queue.old.marks.items
         (current_level trail.old.literals) }
-    requires room { HaveRoom (kept_of records.now) first.old.places.items first.old.lists second.old.places.items
+    requires room { HaveRoom (kept_of records.now) first.old.watched.items first.old.lists second.old.watched.items
         second.old.lists }
     requires reserved { has_room_for trail.old.reserved (kept_of records.now) ≡ true }
     ensures listed { queue.new.listed ≤ length (kept_of records.now) }
     ensures all { IfNone result (queue.new.listed ≡ length (kept_of records.now)) }
     ensures head { queue.new.head ≡ queue.old.head }
-    ensures ready { AreReady (take queue.new.listed (kept_of records.now)) first.new.places.items first.new.lists
-        second.new.places.items second.new.lists trail.new.literals queue.new.marks.items
+    ensures ready { AreReady (take queue.new.listed (kept_of records.now)) first.new.watched.items first.new.lists
+        second.new.watched.items second.new.lists trail.new.literals queue.new.marks.items
         (current_level trail.new.literals) }
-    ensures room { HaveRoom (kept_of records.now) first.new.places.items first.new.lists second.new.places.items
+    ensures room { HaveRoom (kept_of records.now) first.new.watched.items first.new.lists second.new.watched.items
         second.new.lists }
     ensures grows { GrowsBy (kept_of records.now) trail.old trail.new }
     ensures fine { IfNone result ((head : ℕ)
-        → IsHead (take queue.old.listed (kept_of records.now)) trail.old.literals first.old.places.items
-        second.old.places.items head
-        → IsHead (take queue.new.listed (kept_of records.now)) trail.new.literals first.new.places.items
-        second.new.places.items head) }
+        → IsHead (take queue.old.listed (kept_of records.now)) trail.old.literals first.old.watched.items
+        second.old.watched.items head
+        → IsHead (take queue.new.listed (kept_of records.now)) trail.new.literals first.new.watched.items
+        second.new.watched.items head) }
     ensures answer { IfSome result (λ id. IsConflict (kept_of records.now) (held trail.new.literals) id.0) }
 {
     for number in queue.listed..records.len() {
@@ -66,33 +66,33 @@ fn list_next(
     number: usize,
 ) -> Option<ClauseId>
     requires inside { number < length (kept_of records.now) }
-    requires ready { AreReady (take number (kept_of records.now)) first.old.places.items first.old.lists
-        second.old.places.items second.old.lists trail.old.literals marks.old.items
+    requires ready { AreReady (take number (kept_of records.now)) first.old.watched.items first.old.lists
+        second.old.watched.items second.old.lists trail.old.literals marks.old.items
         (current_level trail.old.literals) }
-    requires room { HaveRoom (kept_of records.now) first.old.places.items first.old.lists second.old.places.items
+    requires room { HaveRoom (kept_of records.now) first.old.watched.items first.old.lists second.old.watched.items
         second.old.lists }
     requires reserved { has_room_for trail.old.reserved (kept_of records.now) ≡ true }
-    ensures ready { AreReady (take (number + 1) (kept_of records.now)) first.new.places.items first.new.lists
-        second.new.places.items second.new.lists trail.new.literals marks.new.items
+    ensures ready { AreReady (take (number + 1) (kept_of records.now)) first.new.watched.items first.new.lists
+        second.new.watched.items second.new.lists trail.new.literals marks.new.items
         (current_level trail.new.literals) }
-    ensures room { HaveRoom (kept_of records.now) first.new.places.items first.new.lists second.new.places.items
+    ensures room { HaveRoom (kept_of records.now) first.new.watched.items first.new.lists second.new.watched.items
         second.new.lists }
     ensures grows { GrowsBy (kept_of records.now) trail.old trail.new }
     ensures fine { IfNone result ((head : ℕ)
-        → IsHead (take number (kept_of records.now)) trail.old.literals first.old.places.items
-        second.old.places.items head
-        → IsHead (take (number + 1) (kept_of records.now)) trail.new.literals first.new.places.items
-        second.new.places.items head) }
+        → IsHead (take number (kept_of records.now)) trail.old.literals first.old.watched.items
+        second.old.watched.items head
+        → IsHead (take (number + 1) (kept_of records.now)) trail.new.literals first.new.watched.items
+        second.new.watched.items head) }
     ensures answer { IfSome result (λ id. IsConflict (kept_of records.now) (held trail.new.literals) id.0) }
 {
     let Some(record) = &records[number] else {
         return None;
     };
     let clause = record.literals.as_slice();
-    let (own, other) = watched_places(trail, clause);
-    forget_late(marks, trail, clause, own, other);
-    first.watch(number, clause, own, other);
-    second.watch(number, clause, other, own);
+    let (own, other) = watched_literals(trail, clause);
+    forget_late(marks, trail, own, other);
+    first.watch(number, own, other);
+    second.watch(number, other, own);
     let id = ClauseId(number as u64);
     match arrive(trail, clause, own, other) {
         Arrival::Stays => None,

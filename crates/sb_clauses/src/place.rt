@@ -5,7 +5,7 @@ ghost use Rattle.std.specs.List.{list_all};
 ghost use Rattle.sb_lit.specs.Clauses.{is_false_under};
 ghost use Rattle.sb_trail.specs.Assignments.{held, AreDistinct};
 ghost use Rattle.sb_clauses.specs.Marking.{AreAscending, IsFront};
-ghost use Rattle.sb_clauses.specs.Waiting.{is_the, IsOther, IsBest, ArePlaces, AreBest, AreLate, HasRank, IsArrival};
+ghost use Rattle.sb_clauses.specs.Waiting.{is_the, IsOther, IsBest, AreWatchable, AreBest, AreLate, HasRank, IsArrival};
 
 use crate::marks::forget_from;
 use crate::watch::is_or_false;
@@ -15,7 +15,7 @@ use sb_trail::Trail;
 /// What a new clause comes to.
 #[derive(Clone, Copy, Debug, PartialEq, Eq)]
 pub enum Arrival {
-    /// The literal at the first place is true, or those at both places are not false.
+    /// The first watched literal is true, or neither is false.
     Stays,
     /// All literals are false but this one, which has no value.
     Forces(Lit),
@@ -23,18 +23,25 @@ pub enum Arrival {
     False,
 }
 
-/// Two places of a clause to watch: of literals that are not false, or else that became false last. The same
-/// place twice where the clause has no two different literals, and 0 where it has none. Linear in its length.
-pub fn watched_places(trail: &Trail, clause: &[Lit]) -> (usize, usize)
-    ensures places { ArePlaces clause.now result.0 result.1 }
+/// What a clause without literals watches.
+const NO_LITERAL: Lit = Lit {
+    atom: 0,
+    positive: false,
+};
+
+/// Two literals of a clause to watch, that are not false, or else became false last. The same one twice where the
+/// clause has no two different literals. Linear in its length.
+pub fn watched_literals(trail: &Trail, clause: &[Lit]) -> (Lit, Lit)
+    ensures watchable { AreWatchable clause.now result.0 result.1 }
     ensures best { AreBest (held trail.now.literals) clause.now result.0 result.1 }
 {
     let Some(first) = best_place(trail, clause, None) else {
-        return (0, 0);
+        return (NO_LITERAL, NO_LITERAL);
     };
-    match best_place(trail, clause, Some(clause[first])) {
-        Some(second) => (first, second),
-        None => (first, first),
+    let own = clause[first];
+    match best_place(trail, clause, Some(own)) {
+        Some(second) => (own, clause[second]),
+        None => (own, own),
     }
 }
 
@@ -101,37 +108,35 @@ fn rank(trail: &Trail, literal: Lit) -> usize
     }
 }
 
-/// Forgets the marks from the level on at which the first of the two watched literals became false, and all where the
-/// clause has no two different literals.
-pub fn forget_late(marks: &mut Vec<usize>, trail: &Trail, clause: &[Lit], own: usize, other: usize)
-    requires places { ArePlaces clause.now own other }
+/// Forgets the marks from the level on at which the first of the two watched literals became false, and all where they
+/// are the same.
+pub fn forget_late(marks: &mut Vec<usize>, trail: &Trail, own: Lit, other: Lit)
     requires ascending { AreAscending marks.old.items }
     ensures ascending { AreAscending marks.new.items }
     ensures front { IsFront marks.old.items marks.new.items }
-    ensures late { AreLate trail.now.literals marks.new.items clause.now own other }
+    ensures late { AreLate trail.now.literals marks.new.items own other }
 {
-    if clause.is_empty() || clause[own] == clause[other] {
+    if own == other {
         marks.clear();
         return;
     }
-    forget_from(marks, rank(trail, clause[own]));
-    forget_from(marks, rank(trail, clause[other]));
+    forget_from(marks, rank(trail, own));
+    forget_from(marks, rank(trail, other));
 }
 
-/// What a new clause comes to that is watched at these places.
-pub fn arrive(trail: &Trail, clause: &[Lit], own: usize, other: usize) -> Arrival
-    requires places { ArePlaces clause.now own other }
+/// What a new clause comes to that watches these literals.
+pub fn arrive(trail: &Trail, clause: &[Lit], own: Lit, other: Lit) -> Arrival
+    requires watchable { AreWatchable clause.now own other }
     requires best { AreBest (held trail.now.literals) clause.now own other }
     ensures { IsArrival trail.now.literals clause.now own other result }
 {
     if clause.is_empty() {
         return Arrival::False;
     }
-    let first = clause[own];
-    match trail.literal_value(first) {
+    match trail.literal_value(own) {
         Some(true) => Arrival::Stays,
         Some(false) => Arrival::False,
-        None if is_or_false(trail, first, clause[other]) => Arrival::Forces(first),
+        None if is_or_false(trail, own, other) => Arrival::Forces(own),
         None => Arrival::Stays,
     }
 }

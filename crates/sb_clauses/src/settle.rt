@@ -29,10 +29,10 @@ pub fn settle_on(
     queue: &mut Queue,
     trail: &mut Trail,
 ) -> Option<ClauseId>
-    requires stored { AreStored clauses.now first.old.places.items first.old.lists second.old.places.items
+    requires stored { AreStored clauses.now first.old.watched.items first.old.lists second.old.watched.items
         second.old.lists trail.old.literals queue.old.marks.items queue.old.head queue.old.listed }
     requires room { has_room_for trail.old.reserved clauses.now ≡ true }
-    ensures stored { AreStored clauses.now first.new.places.items first.new.lists second.new.places.items
+    ensures stored { AreStored clauses.now first.new.watched.items first.new.lists second.new.watched.items
         second.new.lists trail.new.literals queue.new.marks.items queue.new.head queue.new.listed }
     ensures grows { GrowsBy clauses.now trail.old trail.new }
     ensures answer { MatchOption result (IsSettled clauses.now (held trail.new.literals))
@@ -62,19 +62,19 @@ fn settle(
     trail: &mut Trail,
     head: Option<usize>,
 ) -> Option<ClauseId>
-    requires watched { AreWatched (kept_of records.now) first.old.places.items first.old.lists second.old.places.items
+    requires watched { AreWatched (kept_of records.now) first.old.watched.items first.old.lists second.old.watched.items
         second.old.lists }
     requires room { has_room_for trail.old.reserved (kept_of records.now) ≡ true }
     requires fine { IfSome head
         (λ start. AreFine (kept_of records.now) (take start (held trail.old.literals)) (held trail.old.literals)
-        first.old.places.items second.old.places.items) }
-    ensures watched { AreWatched (kept_of records.now) first.new.places.items first.new.lists second.new.places.items
+        first.old.watched.items second.old.watched.items) }
+    ensures watched { AreWatched (kept_of records.now) first.new.watched.items first.new.lists second.new.watched.items
         second.new.lists }
-    ensures settles { Settles (kept_of records.now) first.old.places.items second.old.places.items
-        first.new.places.items second.new.places.items trail.old trail.new }
+    ensures settles { Settles (kept_of records.now) first.old.watched.items second.old.watched.items
+        first.new.watched.items second.new.watched.items trail.old trail.new }
     ensures answer { MatchOption result
-        (AreFine (kept_of records.now) (held trail.new.literals) (held trail.new.literals) first.new.places.items
-        second.new.places.items) (λ id. IsConflict (kept_of records.now) (held trail.new.literals) id.0) }
+        (AreFine (kept_of records.now) (held trail.new.literals) (held trail.new.literals) first.new.watched.items
+        second.new.watched.items) (λ id. IsConflict (kept_of records.now) (held trail.new.literals) id.0) }
 {
     match head {
         Some(start) => settle_from(records, first, second, trail, start),
@@ -89,18 +89,18 @@ fn settle_all(
     second: &mut Watches,
     trail: &mut Trail,
 ) -> Option<ClauseId>
-    requires watched { AreWatched (kept_of records.now) first.old.places.items first.old.lists second.old.places.items
+    requires watched { AreWatched (kept_of records.now) first.old.watched.items first.old.lists second.old.watched.items
         second.old.lists }
     requires room { has_room_for trail.old.reserved (kept_of records.now) ≡ true }
-    ensures watched { AreWatched (kept_of records.now) first.new.places.items first.new.lists second.new.places.items
+    ensures watched { AreWatched (kept_of records.now) first.new.watched.items first.new.lists second.new.watched.items
         second.new.lists }
-    ensures settles { Settles (kept_of records.now) first.old.places.items second.old.places.items
-        first.new.places.items second.new.places.items trail.old trail.new }
+    ensures settles { Settles (kept_of records.now) first.old.watched.items second.old.watched.items
+        first.new.watched.items second.new.watched.items trail.old trail.new }
     ensures answer { MatchOption result
-        (AreFine (kept_of records.now) (held trail.new.literals) (held trail.new.literals) first.new.places.items
-        second.new.places.items) (λ id. IsConflict (kept_of records.now) (held trail.new.literals) id.0) }
+        (AreFine (kept_of records.now) (held trail.new.literals) (held trail.new.literals) first.new.watched.items
+        second.new.watched.items) (λ id. IsConflict (kept_of records.now) (held trail.new.literals) id.0) }
 {
-    let short = walk(records, first, &second.places, trail, SHORT);
+    let short = walk(records, first, &second.watched, trail, SHORT);
     if short.is_some() {
         return short;
     }
@@ -115,18 +115,18 @@ fn settle_from(
     trail: &mut Trail,
     start: usize,
 ) -> Option<ClauseId>
-    requires watched { AreWatched (kept_of records.now) first.old.places.items first.old.lists second.old.places.items
+    requires watched { AreWatched (kept_of records.now) first.old.watched.items first.old.lists second.old.watched.items
         second.old.lists }
     requires room { has_room_for trail.old.reserved (kept_of records.now) ≡ true }
     requires fine { AreFine (kept_of records.now) (take start (held trail.old.literals)) (held trail.old.literals)
-        first.old.places.items second.old.places.items }
-    ensures watched { AreWatched (kept_of records.now) first.new.places.items first.new.lists second.new.places.items
+        first.old.watched.items second.old.watched.items }
+    ensures watched { AreWatched (kept_of records.now) first.new.watched.items first.new.lists second.new.watched.items
         second.new.lists }
-    ensures settles { Settles (kept_of records.now) first.old.places.items second.old.places.items
-        first.new.places.items second.new.places.items trail.old trail.new }
+    ensures settles { Settles (kept_of records.now) first.old.watched.items second.old.watched.items
+        first.new.watched.items second.new.watched.items trail.old trail.new }
     ensures answer { MatchOption result
-        (AreFine (kept_of records.now) (held trail.new.literals) (held trail.new.literals) first.new.places.items
-        second.new.places.items) (λ id. IsConflict (kept_of records.now) (held trail.new.literals) id.0) }
+        (AreFine (kept_of records.now) (held trail.new.literals) (held trail.new.literals) first.new.watched.items
+        second.new.watched.items) (λ id. IsConflict (kept_of records.now) (held trail.new.literals) id.0) }
 {
     let mut head = start;
     while let Some(literal) = false_literal(trail, head) {
@@ -147,44 +147,44 @@ fn walk_both(
     trail: &mut Trail,
     literal: Lit,
 ) -> Option<ClauseId>
-    requires watched { AreWatched (kept_of records.now) first.old.places.items first.old.lists second.old.places.items
+    requires watched { AreWatched (kept_of records.now) first.old.watched.items first.old.lists second.old.watched.items
         second.old.lists }
     requires room { has_room_for trail.old.reserved (kept_of records.now) ≡ true }
     requires is_false { is_false_under (held trail.old.literals) literal ≡ true }
-    ensures watched { AreWatched (kept_of records.now) first.new.places.items first.new.lists second.new.places.items
+    ensures watched { AreWatched (kept_of records.now) first.new.watched.items first.new.lists second.new.watched.items
         second.new.lists }
-    ensures settles { Settles (kept_of records.now) first.old.places.items second.old.places.items
-        first.new.places.items second.new.places.items trail.old trail.new }
+    ensures settles { Settles (kept_of records.now) first.old.watched.items second.old.watched.items
+        first.new.watched.items second.new.watched.items trail.old trail.new }
     ensures fine { IfNone result ((walked : List TheLit) → Grown walked (held trail.old.literals)
-        → AreFine (kept_of records.now) walked (held trail.old.literals) first.old.places.items second.old.places.items
+        → AreFine (kept_of records.now) walked (held trail.old.literals) first.old.watched.items second.old.watched.items
         → AreFine (kept_of records.now) (walked ++ negation literal ∷ []) (held trail.new.literals)
-        first.new.places.items second.new.places.items) }
+        first.new.watched.items second.new.watched.items) }
     ensures conflict { MatchOption result (Unit {0})
         (λ id. IsConflict (kept_of records.now) (held trail.new.literals) id.0) }
 {
-    let conflict = walk_watching(records, first, &second.places, trail, literal);
+    let conflict = walk_watching(records, first, &second.watched, trail, literal);
     if conflict.is_some() {
         return conflict;
     }
-    walk_watching(records, second, &first.places, trail, literal)
+    walk_watching(records, second, &first.watched, trail, literal)
 }
 
 /// Looks at each clause of which one of these watches is the literal.
 fn walk_watching(
     records: &[Option<Record>],
     own: &mut Watches,
-    other: &[usize],
+    other: &[u32],
     trail: &mut Trail,
     literal: Lit,
 ) -> Option<ClauseId>
-    requires side { IsSide (kept_of records.now) own.old.places.items other.now own.old.lists }
+    requires side { IsSide (kept_of records.now) own.old.watched.items other.now own.old.lists }
     requires room { has_room_for trail.old.reserved (kept_of records.now) ≡ true }
     requires is_false { is_false_under (held trail.old.literals) literal ≡ true }
-    ensures side { IsSide (kept_of records.now) own.new.places.items other.now own.new.lists }
+    ensures side { IsSide (kept_of records.now) own.new.watched.items other.now own.new.lists }
     ensures advances { Advances
         (record {
           kept = kept_of records.now;
-          own = own.old.places.items;
+          own = own.old.watched.items;
           other = other.now;
           all =
               own.old.lists;
@@ -192,7 +192,7 @@ fn walk_watching(
         })
         (record {
           kept = kept_of records.now;
-          own = own.new.places.items;
+          own = own.new.watched.items;
           other = other.now;
           all =
               own.new.lists;
@@ -202,7 +202,7 @@ fn walk_watching(
         (AreHeld (list_of literal)
         (record {
           kept = kept_of records.now;
-          own = own.new.places.items;
+          own = own.new.watched.items;
           other = other.now;
           all =
               own.new.lists;

@@ -11,7 +11,7 @@ ghost use Rattle.sb_clauses.specs.Walking.{AreFalseOf, AreHeld, IsWalking, Advan
 use crate::record::Record;
 use crate::watch::{Seen, look};
 use crate::watch_lists::pour;
-use crate::watches::{Watches, list_of};
+use crate::watches::{Watches, code_of, list_of, literal_of};
 use sb_lit::{ClauseId, Lit};
 use sb_trail::Trail;
 
@@ -33,14 +33,14 @@ pub enum Turn {
 fn take_turn(
     records: &[Option<Record>],
     own: &mut Watches,
-    other: &[usize],
+    other: &[u32],
     trail: &mut Trail,
     list: usize,
 ) -> Turn
     requires { IsWalking list
         (record {
           kept = kept_of records.now;
-          own = own.old.places.items;
+          own = own.old.watched.items;
           other = other.now;
           all =
               own.old.lists;
@@ -49,7 +49,7 @@ fn take_turn(
     ensures { IsTurn list
         (record {
           kept = kept_of records.now;
-          own = own.old.places.items;
+          own = own.old.watched.items;
           other = other.now;
           all =
               own.old.lists;
@@ -57,7 +57,7 @@ fn take_turn(
         })
         (record {
           kept = kept_of records.now;
-          own = own.new.places.items;
+          own = own.new.watched.items;
           other = other.now;
           all =
               own.new.lists;
@@ -70,7 +70,7 @@ fn take_turn(
     let Some(record) = &records[number] else {
         return Turn::Goes;
     };
-    match look(trail, &record.literals, other[number]) {
+    match look(trail, &record.literals, literal_of(other[number])) {
         Seen::Holds => {
             own.lists.push(SCRATCH, number);
             Turn::Goes
@@ -81,8 +81,9 @@ fn take_turn(
             Turn::Goes
         }
         Seen::Moves(place) => {
-            own.places[number] = place;
-            own.lists.push(list_of(record.literals[place]), number);
+            let literal = record.literals[place];
+            own.watched[number] = code_of(literal);
+            own.lists.push(list_of(literal), number);
             Turn::Goes
         }
         Seen::False => {
@@ -96,14 +97,14 @@ fn take_turn(
 fn take_turns(
     records: &[Option<Record>],
     own: &mut Watches,
-    other: &[usize],
+    other: &[u32],
     trail: &mut Trail,
     list: usize,
 ) -> Option<ClauseId>
     requires { IsWalking list
         (record {
           kept = kept_of records.now;
-          own = own.old.places.items;
+          own = own.old.watched.items;
           other = other.now;
           all =
               own.old.lists;
@@ -112,7 +113,7 @@ fn take_turns(
     ensures walking { IsWalking list
         (record {
           kept = kept_of records.now;
-          own = own.new.places.items;
+          own = own.new.watched.items;
           other = other.now;
           all =
               own.new.lists;
@@ -121,7 +122,7 @@ fn take_turns(
     ensures advances { Advances
         (record {
           kept = kept_of records.now;
-          own = own.old.places.items;
+          own = own.old.watched.items;
           other = other.now;
           all =
               own.old.lists;
@@ -129,7 +130,7 @@ fn take_turns(
         })
         (record {
           kept = kept_of records.now;
-          own = own.new.places.items;
+          own = own.new.watched.items;
           other = other.now;
           all =
               own.new.lists;
@@ -153,19 +154,19 @@ fn take_turns(
 pub fn walk(
     records: &[Option<Record>],
     own: &mut Watches,
-    other: &[usize],
+    other: &[u32],
     trail: &mut Trail,
     list: usize,
 ) -> Option<ClauseId>
-    requires side { IsSide (kept_of records.now) own.old.places.items other.now own.old.lists }
+    requires side { IsSide (kept_of records.now) own.old.watched.items other.now own.old.lists }
     requires room { has_room_for trail.old.reserved (kept_of records.now) ≡ true }
     requires are_false { AreFalseOf list (held trail.old.literals) }
     requires begun { 0 < list }
-    ensures side { IsSide (kept_of records.now) own.new.places.items other.now own.new.lists }
+    ensures side { IsSide (kept_of records.now) own.new.watched.items other.now own.new.lists }
     ensures advances { Advances
         (record {
           kept = kept_of records.now;
-          own = own.old.places.items;
+          own = own.old.watched.items;
           other = other.now;
           all =
               own.old.lists;
@@ -173,7 +174,7 @@ pub fn walk(
         })
         (record {
           kept = kept_of records.now;
-          own = own.new.places.items;
+          own = own.new.watched.items;
           other = other.now;
           all =
               own.new.lists;
@@ -183,7 +184,7 @@ pub fn walk(
         (AreHeld list
         (record {
           kept = kept_of records.now;
-          own = own.new.places.items;
+          own = own.new.watched.items;
           other = other.now;
           all =
               own.new.lists;

@@ -2,34 +2,35 @@
 
 ghost use Rattle.std.specs.Prelude.{◌≡◌, ◌<◌, true, length, MatchOption};
 ghost use Rattle.std.specs.List.{list_all};
+ghost use Rattle.sb_lit.specs.Clauses.{is_among};
 ghost use Rattle.sb_trail.specs.Assignments.{held};
 ghost use Rattle.sb_clauses.specs.Looking.{is_or_false, IsReplacement, IsSeen};
 
 use sb_lit::Lit;
 use sb_trail::Trail;
 
-/// What a clause comes to, seen from one of its two places.
+/// What a clause comes to, seen from one of its two watched literals.
 #[derive(Clone, Copy, Debug, PartialEq, Eq)]
 pub enum Seen {
-    /// The literal at the other place is true.
+    /// The other one is true.
     Holds,
-    /// The literal at this place is not false, and not the one at the other place.
+    /// The literal at this place is not false, and not the other one.
     Moves(usize),
-    /// All literals are false but that at the other place, which has no value.
+    /// All literals are false but the other one, which has no value.
     Forces(Lit),
     /// All literals are false.
     False,
 }
 
-/// Looks at a clause from one of its two places; `other` is the other one. Linear in the clause's length.
-pub fn look(trail: &Trail, literals: &[Lit], other: usize) -> Seen
-    requires { 0 < length literals.now → other < length literals.now }
-    ensures { IsSeen trail.now.literals literals.now other result }
+/// Looks at a clause from one of its two watched literals; `partner` is the other one. Where that is true the literals
+/// of the clause are not read; linear in their number otherwise.
+pub fn look(trail: &Trail, literals: &[Lit], partner: Lit) -> Seen
+    requires { 0 < length literals.now → is_among literals.now partner ≡ true }
+    ensures { IsSeen trail.now.literals literals.now partner result }
 {
     if literals.is_empty() {
         return Seen::False;
     }
-    let partner = literals[other];
     match trail.literal_value(partner) {
         Some(true) => Seen::Holds,
         Some(false) => match replacement(trail, literals, partner) {
@@ -43,7 +44,7 @@ pub fn look(trail: &Trail, literals: &[Lit], other: usize) -> Seen
     }
 }
 
-/// The place of a literal that is not false, and not the one at the other place.
+/// The place of a literal that is not false, and not the other watched one.
 fn replacement(trail: &Trail, literals: &[Lit], partner: Lit) -> Option<usize>
     ensures { MatchOption result (list_all (is_or_false (held trail.now.literals) partner) literals.now ≡ true)
         (λ place. IsReplacement (held trail.now.literals) literals.now partner place) }

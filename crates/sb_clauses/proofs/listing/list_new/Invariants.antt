@@ -11,12 +11,12 @@ invariant-loop-number l = record {
   inside : l.number ≤ length (kept_of l.records);
   listed : l.queue.listed ≡ l.number;
   head : l.queue.head ≡ l.initial.queue.head;
-  ready : AreReady (take l.number (kept_of l.records)) l.first.places.items l.first.lists l.second.places.items
+  ready : AreReady (take l.number (kept_of l.records)) l.first.watched.items l.first.lists l.second.watched.items
       l.second.lists l.trail.literals l.queue.marks.items (current_level l.trail.literals);
-  room : HaveRoom (kept_of l.records) l.first.places.items l.first.lists l.second.places.items l.second.lists;
+  room : HaveRoom (kept_of l.records) l.first.watched.items l.first.lists l.second.watched.items l.second.lists;
   grows : GrowsBy (kept_of l.records) l.initial.trail l.trail;
   fine : (head : ℕ)
       → IsHead (take l.initial.queue.listed (kept_of l.records)) l.initial.trail.literals
-      l.initial.first.places.items l.initial.second.places.items head
-      → IsHead (take l.number (kept_of l.records)) l.trail.literals l.first.places.items l.second.places.items head;
+      l.initial.first.watched.items l.initial.second.watched.items head
+      → IsHead (take l.number (kept_of l.records)) l.trail.literals l.first.watched.items l.second.watched.items head;
 }

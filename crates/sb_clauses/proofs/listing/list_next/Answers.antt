@@ -1,5 +1,5 @@
 use Rattle.std.proofs.Common.{refl}
-use Rattle.sb_clauses.proofs.NextClause.{next_none, head_none, first_placed, second_placed, next_some, next_room, head_stays, head_forced, forced_place, forced_grows, forced_ready, false_here}
+use Rattle.sb_clauses.proofs.NextClause.{next_none, head_none, first_home, second_home, first_small, second_small, next_some, next_room, head_stays, head_forced, forced_place, forced_grows, forced_ready, false_here}
 use Rattle.sb_clauses.proofs.listing.list_next.Goals as goal
 
 pub returns-in_default-clause-ready : goal.returns-in_default-clause-ready
@@ -12,91 +12,91 @@ returns-in_default-clause-fine c =
     head_none c.args.records.now c.args.number c.index-records-number.result _ _ _ _ c.requires.inside
     c.index-records-number.is c.requires.room _ c.in_default.is
 
-pub watch-requires-clause-placed : goal.watch-requires-clause-placed
-watch-requires-clause-placed c =
-    first_placed c.args.records.now c.args.number c.index-records-number.result _ _ _ _ c.requires.inside
+pub watch-requires-clause-home : goal.watch-requires-clause-home
+watch-requires-clause-home c =
+    first_home c.args.records.now c.args.number c.index-records-number.result _ _ _ _ c.requires.inside
     c.index-records-number.is c.requires.room c.in-Some.record c.as_slice-clause.result.now c.in-Some.is
-    c.as_slice-clause.ensures.value c.watched_places-own.result.0 c.watched_places-own.result.1
-    c.watched_places-own.ensures.places
+    c.as_slice-clause.ensures.value c.watched_literals.result.0 c.watched_literals.result.1
+    c.watched_literals.ensures.watchable
 
-pub watch-requires-2-clause-placed : goal.watch-requires-2-clause-placed
-watch-requires-2-clause-placed c =
-    second_placed c.args.records.now c.args.number c.index-records-number.result _ _ _ _ c.requires.inside
+pub watch-requires-2-clause-home : goal.watch-requires-2-clause-home
+watch-requires-2-clause-home c =
+    second_home c.args.records.now c.args.number c.index-records-number.result _ _ _ _ c.requires.inside
     c.index-records-number.is c.requires.room c.in-Some.record c.as_slice-clause.result.now c.in-Some.is
-    c.as_slice-clause.ensures.value c.watched_places-own.result.0 c.watched_places-own.result.1
-    c.watched_places-own.ensures.places
+    c.as_slice-clause.ensures.value c.watched_literals.result.0 c.watched_literals.result.1
+    c.watched_literals.ensures.watchable
 
 pub assign-requires-clause-reserved : goal.assign-requires-clause-reserved
 assign-requires-clause-reserved c =
     forced_place c.args.records.now c.args.number c.index-records-number.result _ _ _ _ c.requires.inside
     c.index-records-number.is c.requires.room c.in-Some.record c.as_slice-clause.result.now c.in-Some.is
-    c.as_slice-clause.ensures.value c.watched_places-own.result.0 c.watched_places-own.result.1
-    c.watched_places-own.ensures.places c.args.trail.now c.in-Forces.literal c.requires.reserved
+    c.as_slice-clause.ensures.value c.watched_literals.result.0 c.watched_literals.result.1
+    c.watched_literals.ensures.watchable c.args.trail.now c.in-Forces.literal c.requires.reserved
     c.in-Forces.ensures
 
 pub returns-in-Stays-clause-ready : goal.returns-in-Stays-clause-ready
 returns-in-Stays-clause-ready c =
-    rw (c.watch.ensures.places, c.watch.ensures.lists, c.watch-2.ensures.places, c.watch-2.ensures.lists)
+    rw (c.watch.ensures.watched, c.watch.ensures.lists, c.watch-2.ensures.watched, c.watch-2.ensures.lists)
     (next_some c.args.records.now c.args.number c.index-records-number.result _ _ _ _ c.requires.inside
     c.index-records-number.is c.requires.room c.in-Some.record c.as_slice-clause.result.now c.in-Some.is
-    c.as_slice-clause.ensures.value c.watched_places-own.result.0 c.watched_places-own.result.1
-    c.watched_places-own.ensures.places _ _ _ _ c.forget_late.ensures.late c.forget_late.ensures.front
+    c.as_slice-clause.ensures.value c.watched_literals.result.0 c.watched_literals.result.1
+    c.watched_literals.ensures.watchable _ _ _ _ c.forget_late.ensures.late c.forget_late.ensures.front
     c.requires.ready)
 
 pub returns-in-False-clause-ready : goal.returns-in-False-clause-ready
 returns-in-False-clause-ready c =
-    rw (c.watch.ensures.places, c.watch.ensures.lists, c.watch-2.ensures.places, c.watch-2.ensures.lists)
+    rw (c.watch.ensures.watched, c.watch.ensures.lists, c.watch-2.ensures.watched, c.watch-2.ensures.lists)
     (next_some c.args.records.now c.args.number c.index-records-number.result _ _ _ _ c.requires.inside
     c.index-records-number.is c.requires.room c.in-Some.record c.as_slice-clause.result.now c.in-Some.is
-    c.as_slice-clause.ensures.value c.watched_places-own.result.0 c.watched_places-own.result.1
-    c.watched_places-own.ensures.places _ _ _ _ c.forget_late.ensures.late c.forget_late.ensures.front
+    c.as_slice-clause.ensures.value c.watched_literals.result.0 c.watched_literals.result.1
+    c.watched_literals.ensures.watchable _ _ _ _ c.forget_late.ensures.late c.forget_late.ensures.front
     c.requires.ready)
 
 pub returns-in-Stays-clause-room : goal.returns-in-Stays-clause-room
 returns-in-Stays-clause-room c =
-    rw (c.watch.ensures.places, c.watch.ensures.lists, c.watch-2.ensures.places, c.watch-2.ensures.lists)
+    rw (c.watch.ensures.watched, c.watch.ensures.lists, c.watch-2.ensures.watched, c.watch-2.ensures.lists)
     (next_room c.args.records.now c.args.number c.index-records-number.result _ _ _ _ c.requires.inside
     c.index-records-number.is c.requires.room c.in-Some.record c.as_slice-clause.result.now c.in-Some.is
-    c.as_slice-clause.ensures.value c.watched_places-own.result.0 c.watched_places-own.result.1
-    c.watched_places-own.ensures.places)
+    c.as_slice-clause.ensures.value c.watched_literals.result.0 c.watched_literals.result.1
+    c.watched_literals.ensures.watchable)
 
 pub returns-in-Forces-clause-room : goal.returns-in-Forces-clause-room
 returns-in-Forces-clause-room c =
-    rw (c.watch.ensures.places, c.watch.ensures.lists, c.watch-2.ensures.places, c.watch-2.ensures.lists)
+    rw (c.watch.ensures.watched, c.watch.ensures.lists, c.watch-2.ensures.watched, c.watch-2.ensures.lists)
     (next_room c.args.records.now c.args.number c.index-records-number.result _ _ _ _ c.requires.inside
     c.index-records-number.is c.requires.room c.in-Some.record c.as_slice-clause.result.now c.in-Some.is
-    c.as_slice-clause.ensures.value c.watched_places-own.result.0 c.watched_places-own.result.1
-    c.watched_places-own.ensures.places)
+    c.as_slice-clause.ensures.value c.watched_literals.result.0 c.watched_literals.result.1
+    c.watched_literals.ensures.watchable)
 
 pub returns-in-False-clause-room : goal.returns-in-False-clause-room
 returns-in-False-clause-room c =
-    rw (c.watch.ensures.places, c.watch.ensures.lists, c.watch-2.ensures.places, c.watch-2.ensures.lists)
+    rw (c.watch.ensures.watched, c.watch.ensures.lists, c.watch-2.ensures.watched, c.watch-2.ensures.lists)
     (next_room c.args.records.now c.args.number c.index-records-number.result _ _ _ _ c.requires.inside
     c.index-records-number.is c.requires.room c.in-Some.record c.as_slice-clause.result.now c.in-Some.is
-    c.as_slice-clause.ensures.value c.watched_places-own.result.0 c.watched_places-own.result.1
-    c.watched_places-own.ensures.places)
+    c.as_slice-clause.ensures.value c.watched_literals.result.0 c.watched_literals.result.1
+    c.watched_literals.ensures.watchable)
 
 pub returns-in-Stays-clause-fine : goal.returns-in-Stays-clause-fine
 returns-in-Stays-clause-fine c =
-    rw (c.watch.ensures.places, c.watch-2.ensures.places)
+    rw (c.watch.ensures.watched, c.watch-2.ensures.watched)
     (head_stays c.args.records.now c.args.number c.index-records-number.result _ _ _ _ c.requires.inside
     c.index-records-number.is c.requires.room c.in-Some.record c.as_slice-clause.result.now c.in-Some.is
-    c.as_slice-clause.ensures.value c.watched_places-own.result.0 c.watched_places-own.result.1
-    c.watched_places-own.ensures.places _ c.in-Stays.ensures)
+    c.as_slice-clause.ensures.value c.watched_literals.result.0 c.watched_literals.result.1
+    c.watched_literals.ensures.watchable _ c.in-Stays.ensures)
 
 pub returns-in-Forces-clause-ready : goal.returns-in-Forces-clause-ready
 returns-in-Forces-clause-ready c =
     rw (
-      c.watch.ensures.places,
+      c.watch.ensures.watched,
       c.watch.ensures.lists,
-      c.watch-2.ensures.places,
+      c.watch-2.ensures.watched,
       c.watch-2.ensures.lists,
       c.assign.ensures,
     )
     (forced_ready c.args.records.now c.args.number c.index-records-number.result _ _ _ _ c.requires.inside
     c.index-records-number.is c.requires.room c.in-Some.record c.as_slice-clause.result.now c.in-Some.is
-    c.as_slice-clause.ensures.value c.watched_places-own.result.0 c.watched_places-own.result.1
-    c.watched_places-own.ensures.places c.args.trail.now.literals _ _ _ refl c.forget_late.ensures.late
+    c.as_slice-clause.ensures.value c.watched_literals.result.0 c.watched_literals.result.1
+    c.watched_literals.ensures.watchable c.args.trail.now.literals _ _ _ refl c.forget_late.ensures.late
     c.forget_late.ensures.front c.requires.ready)
 
 pub returns-in-Forces-clause-grows : goal.returns-in-Forces-clause-grows
@@ -104,21 +104,37 @@ returns-in-Forces-clause-grows c =
     rw c.assign.ensures
     (forced_grows c.args.records.now c.args.number c.index-records-number.result _ _ _ _ c.requires.inside
     c.index-records-number.is c.requires.room c.in-Some.record c.as_slice-clause.result.now c.in-Some.is
-    c.as_slice-clause.ensures.value c.watched_places-own.result.0 c.watched_places-own.result.1
-    c.watched_places-own.ensures.places c.args.trail.now _ c.in-Forces.literal refl
+    c.as_slice-clause.ensures.value c.watched_literals.result.0 c.watched_literals.result.1
+    c.watched_literals.ensures.watchable c.args.trail.now _ c.in-Forces.literal refl
     c.in-Forces.ensures)
 
 pub returns-in-Forces-clause-fine : goal.returns-in-Forces-clause-fine
 returns-in-Forces-clause-fine c =
-    rw (c.watch.ensures.places, c.watch-2.ensures.places, c.assign.ensures)
+    rw (c.watch.ensures.watched, c.watch-2.ensures.watched, c.assign.ensures)
     (head_forced c.args.records.now c.args.number c.index-records-number.result _ _ _ _ c.requires.inside
     c.index-records-number.is c.requires.room c.in-Some.record c.as_slice-clause.result.now c.in-Some.is
-    c.as_slice-clause.ensures.value c.watched_places-own.result.0 c.watched_places-own.result.1
-    c.watched_places-own.ensures.places c.args.trail.now.literals _ c.in-Forces.ensures)
+    c.as_slice-clause.ensures.value c.watched_literals.result.0 c.watched_literals.result.1
+    c.watched_literals.ensures.watchable c.args.trail.now.literals _ c.in-Forces.ensures)
 
 pub returns-in-False-clause-answer : goal.returns-in-False-clause-answer
 returns-in-False-clause-answer c =
     false_here c.args.records.now c.args.number c.index-records-number.result _ _ _ _ c.requires.inside
     c.index-records-number.is c.requires.room c.in-Some.record c.as_slice-clause.result.now c.in-Some.is
-    c.as_slice-clause.ensures.value c.watched_places-own.result.0 c.watched_places-own.result.1
-    c.watched_places-own.ensures.places _ _ refl c.in-False.ensures
+    c.as_slice-clause.ensures.value c.watched_literals.result.0 c.watched_literals.result.1
+    c.watched_literals.ensures.watchable _ _ refl c.in-False.ensures
+
+pub watch-requires-clause-small : goal.watch-requires-clause-small
+watch-requires-clause-small c =
+    first_small
+    c.args.records.now c.args.number c.index-records-number.result _ _ _ _ c.requires.inside
+    c.index-records-number.is c.requires.room c.in-Some.record c.as_slice-clause.result.now c.in-Some.is
+    c.as_slice-clause.ensures.value c.watched_literals.result.0 c.watched_literals.result.1
+    c.watched_literals.ensures.watchable
+
+pub watch-requires-2-clause-small : goal.watch-requires-2-clause-small
+watch-requires-2-clause-small c =
+    second_small
+    c.args.records.now c.args.number c.index-records-number.result _ _ _ _ c.requires.inside
+    c.index-records-number.is c.requires.room c.in-Some.record c.as_slice-clause.result.now c.in-Some.is
+    c.as_slice-clause.ensures.value c.watched_literals.result.0 c.watched_literals.result.1
+    c.watched_literals.ensures.watchable

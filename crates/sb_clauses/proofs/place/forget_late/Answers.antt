@@ -1,5 +1,4 @@
 use Rattle.std.proofs.Common.{sym, ◌∙◌}
-use Rattle.sb_clauses.specs.Watching.{literal_at}
 use Rattle.sb_clauses.proofs.Literals.{other_by_eq}
 use Rattle.sb_clauses.proofs.Waiting.{both_late}
 use Rattle.sb_clauses.proofs.place.forget_late.Goals as goal
@@ -7,8 +6,7 @@ use Rattle.sb_clauses.proofs.place.forget_late.Goals as goal
 pub returns-clause-late : goal.returns-clause-late
 returns-clause-late c =
     both_late c.args.trail.now.literals c.forget_from.new.marks.items c.forget_from-2.new.marks.items
-    c.args.clause.now c.args.own c.args.other c.rank.result c.rank-2.result c.rank.ensures.distinct
+    c.args.own c.args.other c.rank.result c.rank-2.result c.rank.ensures.distinct
     c.forget_from-2.ensures.front c.forget_from.ensures.below c.forget_from-2.ensures.below c.rank.ensures.rank
     c.rank-2.ensures.rank
-    (other_by_eq (literal_at c.args.clause.now c.args.own) (literal_at c.args.clause.now c.args.other)
-    (sym c.eq.ensures ∙ c.if-eq.false))
+    (other_by_eq c.args.own c.args.other (sym c.eq.ensures ∙ c.if-eq.false))

@@ -16,3 +16,7 @@ returns-clause-settles c =
     settles_then _ _ _ _ _ _ _ _ _ _
     (settles_step _ _ _ _ _ _ _ _ (rw c.deref.ensures.value at c.walk-short.ensures.advances))
     c.settle_from.ensures.settles
+
+pub returns-then-is_some-clause-settles : goal.returns-then-is_some-clause-settles
+returns-then-is_some-clause-settles c =
+    settles_step _ _ _ _ _ _ _ _ (rw c.deref.ensures.value at c.walk-short.ensures.advances)

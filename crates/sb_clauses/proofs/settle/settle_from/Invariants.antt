@@ -7,11 +7,11 @@ use Rattle.sb_clauses.proofs.settle.settle_from.Given as goal
 
 abbrev pub invariant-loop-literal : goal.invariant-loop-literal
 invariant-loop-literal l = record {
-  watched : AreWatched (kept_of l.records) l.first.places.items l.first.lists l.second.places.items l.second.lists;
-  settles : Settles (kept_of l.records) l.initial.first.places.items l.initial.second.places.items l.first.places.items
-      l.second.places.items l.initial.trail l.trail;
+  watched : AreWatched (kept_of l.records) l.first.watched.items l.first.lists l.second.watched.items l.second.lists;
+  settles : Settles (kept_of l.records) l.initial.first.watched.items l.initial.second.watched.items l.first.watched.items
+      l.second.watched.items l.initial.trail l.trail;
   fine : AreFine (kept_of l.records) (take l.head (held l.trail.literals)) (held l.trail.literals)
-      l.first.places.items l.second.places.items;
+      l.first.watched.items l.second.watched.items;
 }
 
 abbrev pub decreases-loop-literal : goal.decreases-loop-literal

@@ -1,4 +1,4 @@
-use Rattle.sb_clauses.proofs.Settling.{watched_step, both_settle, both_watched, both_fine, if_none, at_none}
+use Rattle.sb_clauses.proofs.Settling.{watched_step, settles_step, both_settle, both_watched, both_fine, if_none, at_none}
 use Rattle.std.proofs.Common.{sym, ◌∙◌}
 use Rattle.sb_clauses.proofs.settle.walk_both.Goals as goal
 
@@ -33,3 +33,7 @@ returns-clause-fine c =
     (rw c.deref.ensures.value at
     (at_none c.walk_watching-conflict.result _ _ (sym c.is_some.ensures ∙ c.if-is_some.false)
     c.walk_watching-conflict.ensures.answer)) (rw c.deref-2.ensures.value at also))
+
+pub returns-then-is_some-clause-settles : goal.returns-then-is_some-clause-settles
+returns-then-is_some-clause-settles c =
+    settles_step _ _ _ _ _ _ _ _ (rw c.deref.ensures.value at c.walk_watching-conflict.ensures.advances)

@@ -27,7 +27,7 @@ look-requires c =
     let below = number_below c.args.list _ c.requires c.in-Some.number first in
     let has = clause_at c.args.records.now c.in-Some.number c.index-records-number.result c.in-Some-records.record
     c.deref.result.now below c.index-records-number.is c.in-Some-records.is c.deref.ensures.value in
-    λ some. ((c.requires.placed c.in-Some.number c.deref.result.now has).inside some).1
+    rw c.literal_of.ensures (λ some. ((c.requires.placed c.in-Some.number c.deref.result.now has).inside some).1)
 
 pub assign-requires-clause-reserved : goal.assign-requires-clause-reserved
 assign-requires-clause-reserved c =
@@ -36,7 +36,7 @@ assign-requires-clause-reserved c =
     let has = clause_at c.args.records.now c.in-Some.number c.index-records-number.result c.in-Some-records.record
     c.deref.result.now below c.index-records-number.is c.in-Some-records.is c.deref.ensures.value in
     turn_place c.args.list _ c.requires c.in-Some.number first (rw c.pop.ensures.rest at c.in-Some.ensures.nowhere.1)
-    c.deref.result.now has c.in-Forces.literal c.in-Forces.ensures
+    c.deref.result.now has c.in-Forces.literal (rw c.literal_of.ensures at c.in-Forces.ensures)
 
 pub returns-in-Holds : goal.returns-in-Holds
 returns-in-Holds c =
@@ -46,13 +46,13 @@ returns-in-Holds c =
     c.deref.result.now below c.index-records-number.is c.in-Some-records.is c.deref.ensures.value in
     rw (c.push.ensures, c.pop.ensures.rest)
     (turn_holds c.args.list _ c.requires c.in-Some.number first
-    (rw c.pop.ensures.rest at c.in-Some.ensures.nowhere.1) c.deref.result.now has c.in-Holds.ensures)
+    (rw c.pop.ensures.rest at c.in-Some.ensures.nowhere.1) c.deref.result.now has (rw c.literal_of.ensures at c.in-Holds.ensures))
 
 pub index_mut-requires : goal.index_mut-requires
 index_mut-requires c =
     let first = sym c.in-Some.is ∙ c.pop.ensures.first in
     let below = number_below c.args.list _ c.requires c.in-Some.number first in
-    omega (arith, below, c.requires.own_places, c.args.own.now.places.ok.0)
+    omega (arith, below, c.requires.own_places, c.args.own.now.watched.ok.0)
 
 pub list_of-requires : goal.list_of-requires
 list_of-requires c =
@@ -60,15 +60,29 @@ list_of-requires c =
     let below = number_below c.args.list _ c.requires c.in-Some.number first in
     let has = clause_at c.args.records.now c.in-Some.number c.index-records-number.result c.in-Some-records.record
     c.deref.result.now below c.index-records-number.is c.in-Some-records.is c.deref.ensures.value in
-    let read : c.index.result.now ≡ literal_at c.deref.result.now c.in-Moves.place =
-    literal_read c.deref.result.now c.in-Some-records.record.literals.items c.in-Moves.place c.index.result.now
-    c.deref.ensures.value c.in-Moves.ensures.replacement.inside c.index.ensures in
+    let read : c.index-literal.result.now ≡ literal_at c.deref.result.now c.in-Moves.place =
+    literal_read c.deref.result.now c.in-Some-records.record.literals.items c.in-Moves.place c.index-literal.result.now
+    c.deref.ensures.value c.in-Moves.ensures.replacement.inside c.index-literal.ensures in
     rw read (omega (
       arith,
       move_small c.args.list _ c.requires c.in-Some.number first
           (rw c.pop.ensures.rest at c.in-Some.ensures.nowhere.1) c.deref.result.now has c.in-Moves.place
-          c.in-Moves.ensures,
+          (rw c.literal_of.ensures at c.in-Moves.ensures),
     ))
+
+pub code_of-requires : goal.code_of-requires
+code_of-requires c =
+    let first = sym c.in-Some.is ∙ c.pop.ensures.first in
+    let below = number_below c.args.list _ c.requires c.in-Some.number first in
+    let has = clause_at c.args.records.now c.in-Some.number c.index-records-number.result c.in-Some-records.record
+    c.deref.result.now below c.index-records-number.is c.in-Some-records.is c.deref.ensures.value in
+    let read : c.index-literal.result.now ≡ literal_at c.deref.result.now c.in-Moves.place =
+    literal_read c.deref.result.now c.in-Some-records.record.literals.items c.in-Moves.place c.index-literal.result.now
+    c.deref.ensures.value c.in-Moves.ensures.replacement.inside c.index-literal.ensures in
+    rw read (
+    move_small c.args.list _ c.requires c.in-Some.number first
+    (rw c.pop.ensures.rest at c.in-Some.ensures.nowhere.1) c.deref.result.now has c.in-Moves.place
+    (rw c.literal_of.ensures at c.in-Moves.ensures))
 
 pub push-requires-in-Moves-clause-list : goal.push-requires-in-Moves-clause-list
 push-requires-in-Moves-clause-list c =
@@ -76,9 +90,9 @@ push-requires-in-Moves-clause-list c =
     let below = number_below c.args.list _ c.requires c.in-Some.number first in
     let has = clause_at c.args.records.now c.in-Some.number c.index-records-number.result c.in-Some-records.record
     c.deref.result.now below c.index-records-number.is c.in-Some-records.is c.deref.ensures.value in
-    let read : c.index.result.now ≡ literal_at c.deref.result.now c.in-Moves.place =
-    literal_read c.deref.result.now c.in-Some-records.record.literals.items c.in-Moves.place c.index.result.now
-    c.deref.ensures.value c.in-Moves.ensures.replacement.inside c.index.ensures in
+    let read : c.index-literal.result.now ≡ literal_at c.deref.result.now c.in-Moves.place =
+    literal_read c.deref.result.now c.in-Some-records.record.literals.items c.in-Moves.place c.index-literal.result.now
+    c.deref.ensures.value c.in-Moves.ensures.replacement.inside c.index-literal.ensures in
     rw (
       c.list_of.ensures,
       read,
@@ -87,7 +101,7 @@ push-requires-in-Moves-clause-list c =
     )
     (move_inside c.args.list _ c.requires c.in-Some.number first
     (rw c.pop.ensures.rest at c.in-Some.ensures.nowhere.1) c.deref.result.now has c.in-Moves.place
-    c.in-Moves.ensures)
+    (rw c.literal_of.ensures at c.in-Moves.ensures))
 
 pub returns-in-Forces : goal.returns-in-Forces
 returns-in-Forces c =
@@ -98,7 +112,7 @@ returns-in-Forces c =
     rw (c.push-in-Forces.ensures, c.pop.ensures.rest, c.assign.ensures)
     (turn_forces c.args.list _ c.requires c.in-Some.number first
     (rw c.pop.ensures.rest at c.in-Some.ensures.nowhere.1) c.deref.result.now has c.in-Forces.literal
-    c.in-Forces.ensures)
+    (rw c.literal_of.ensures at c.in-Forces.ensures))
 
 pub returns-in-Moves : goal.returns-in-Moves
 returns-in-Moves c =
@@ -106,13 +120,13 @@ returns-in-Moves c =
     let below = number_below c.args.list _ c.requires c.in-Some.number first in
     let has = clause_at c.args.records.now c.in-Some.number c.index-records-number.result c.in-Some-records.record
     c.deref.result.now below c.index-records-number.is c.in-Some-records.is c.deref.ensures.value in
-    let read : c.index.result.now ≡ literal_at c.deref.result.now c.in-Moves.place =
-    literal_read c.deref.result.now c.in-Some-records.record.literals.items c.in-Moves.place c.index.result.now
-    c.deref.ensures.value c.in-Moves.ensures.replacement.inside c.index.ensures in
-    rw (c.push-in-Moves.ensures, c.pop.ensures.rest, c.list_of.ensures, read)
+    let read : c.index-literal.result.now ≡ literal_at c.deref.result.now c.in-Moves.place =
+    literal_read c.deref.result.now c.in-Some-records.record.literals.items c.in-Moves.place c.index-literal.result.now
+    c.deref.ensures.value c.in-Moves.ensures.replacement.inside c.index-literal.ensures in
+    rw (c.push-in-Moves.ensures, c.pop.ensures.rest, c.list_of.ensures, c.code_of.ensures, read)
     (turn_moves c.args.list _ c.requires c.in-Some.number first
     (rw c.pop.ensures.rest at c.in-Some.ensures.nowhere.1) c.deref.result.now has c.in-Moves.place
-    c.in-Moves.ensures)
+    (rw c.literal_of.ensures at c.in-Moves.ensures))
 
 pub returns-in-False : goal.returns-in-False
 returns-in-False c =

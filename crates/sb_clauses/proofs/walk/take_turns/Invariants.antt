@@ -9,7 +9,7 @@ invariant-loop-id l = record {
   walking : IsWalking l.list
       (record {
         kept = kept_of l.records;
-        own = l.own.places.items;
+        own = l.own.watched.items;
         other = l.other;
         all = l.own.lists;
         trail =
@@ -17,7 +17,7 @@ invariant-loop-id l = record {
       });
   advances : Advances (record {
     kept = kept_of l.records;
-    own = l.initial.own.places.items;
+    own = l.initial.own.watched.items;
     other = l.other;
     all =
         l.initial.own.lists;
@@ -25,7 +25,7 @@ invariant-loop-id l = record {
   })
       (record {
         kept = kept_of l.records;
-        own = l.own.places.items;
+        own = l.own.watched.items;
         other = l.other;
         all = l.own.lists;
         trail =

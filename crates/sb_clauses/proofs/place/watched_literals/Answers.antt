@@ -1,0 +1,13 @@
+use Rattle.sb_trail.specs.Assignments.{held}
+use Rattle.sb_clauses.proofs.Waiting.{no_places, no_best, one_best}
+use Rattle.sb_clauses.proofs.place.watched_literals.Goals as goal
+
+pub returns-in_default-clause-watchable : goal.returns-in_default-clause-watchable
+returns-in_default-clause-watchable c = no_places c.args.clause.now c.in_default.ensures
+
+pub returns-in_default-clause-best : goal.returns-in_default-clause-best
+returns-in_default-clause-best c = no_best (held c.args.trail.now.literals) c.args.clause.now c.in_default.ensures
+
+pub returns-in-None-clause-best : goal.returns-in-None-clause-best
+returns-in-None-clause-best c =
+    one_best (held c.args.trail.now.literals) c.args.clause.now c.in-Some.first c.in-Some.ensures c.in-None.ensures
