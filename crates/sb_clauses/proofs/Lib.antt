@@ -1,5 +1,6 @@
 pub mod Literals
 pub mod Growing
+pub mod LinkLemmas
 pub mod ListLemmas
 pub mod Adding
 pub mod Moving

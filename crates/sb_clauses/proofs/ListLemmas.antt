@@ -357,68 +357,67 @@ module _ (heads next : List (Option ℕ)) (now : WatchLists)
   nodes_shown = ap (λ (t : WatchLists). t.nodes) view
 
   pub pushed : (at n : ℕ) (x : Option ℕ) → at < length now.lists → n < now.nodes → times n now.lists ≡ 0
-      → x ≡ get_or heads at x
+      → x ≡ get_or heads at None
       → AreListsOf (set heads at (Some n)) (set next n x) (set now.lists at (n ∷ get_or now.lists at []))
   pushed at n x place below nowhere here =
       let inside : at < length heads = omega (arith, shown.len) in
-      rw (get_or_read heads at x inside here None)
+      rw here
       (AreListsOf-push heads next now.lists shown at n inside (omega (arith, nodes_shown)) nowhere)
 
   pub put_there : (from to : ℕ) (x : Option ℕ) → from < length now.lists → to < length now.lists → (from ≡ to → ⊥)
-      → get_or now.lists to [] ≡ [] → x ≡ get_or heads from x
+      → get_or now.lists to [] ≡ [] → x ≡ get_or heads from None
       → AreListsOf (set (set heads to x) from None) next (set (set now.lists to (get_or now.lists from [])) from [])
   put_there from to x place there apart empty here =
       let inside : from < length heads = omega (arith, shown.len) in
-      rw (get_or_read heads from x inside here None)
+      rw here
       (AreListsOf-put heads next now.lists shown from to inside (omega (arith, shown.len)) apart empty)
 
   -- a list that begins at a number has it in front
-  pub list_splits : (at n : ℕ) → at < length now.lists → Some n ≡ get_or heads at (Some n)
+  pub list_splits : (at n : ℕ) → at < length now.lists → Some n ≡ get_or heads at None
       → get_or now.lists at [] ≡ n ∷ drop 1 (get_or now.lists at [])
   list_splits at n place here =
       let inside : at < length heads = omega (arith, shown.len) in
       first_of next (get_or heads at None) (get_or now.lists at []) n (shown.each at inside)
-      (sym (get_or_read heads at (Some n) inside here None))
+      (sym here)
     where
       first_of : (next : List (Option ℕ)) (start : Option ℕ) (xs : List ℕ) (n : ℕ) → IsListFrom next start xs
           → start ≡ Some n → xs ≡ n ∷ drop 1 xs
       first_of next start [] n h is = absurd (none-some n (sym h ∙ is))
       first_of next start (x ∷ xs) n h is = ap (λ y. y ∷ xs) (same_Some x n (sym h.0 ∙ is))
 
-  pub list_ends : (at : ℕ) (x : Option ℕ) → at < length now.lists → x ≡ get_or heads at x → x ≡ None
+  pub list_ends : (at : ℕ) (x : Option ℕ) → at < length now.lists → x ≡ get_or heads at None → x ≡ None
       → get_or now.lists at [] ≡ []
   list_ends at x place here none =
       let inside : at < length heads = omega (arith, shown.len) in
       nothing_of next (get_or heads at None) (get_or now.lists at []) (shown.each at inside)
-      (sym (get_or_read heads at x inside here None) ∙ none)
+      (sym here ∙ none)
     where
       nothing_of : (next : List (Option ℕ)) (start : Option ℕ) (xs : List ℕ) → IsListFrom next start xs → start ≡ None
           → xs ≡ []
       nothing_of next start [] h is = refl
       nothing_of next start (x ∷ xs) h is = absurd (none-some x (sym is ∙ h.0))
 
-  pub popped : (at n : ℕ) (x : Option ℕ) → at < length now.lists → Some n ≡ get_or heads at (Some n)
-      → x ≡ get_or next n x → AreListsOf (set heads at x) next (set now.lists at (drop 1 (get_or now.lists at [])))
+  pub popped : (at n : ℕ) (x : Option ℕ) → at < length now.lists → Some n ≡ get_or heads at None
+      → x ≡ get_or next n None → AreListsOf (set heads at x) next (set now.lists at (drop 1 (get_or now.lists at [])))
   popped at n x place here behind =
       let split = list_splits at n place here in
       let inside : at < length heads = omega (arith, shown.len) in
       let nowhere = popped_nowhere heads next now.lists shown at n (drop 1 (get_or now.lists at [])) inside split in
-      rw (get_or_read next n x nowhere.0 behind None)
+      rw behind
       (AreListsOf-pop heads next now.lists shown at n (drop 1 (get_or now.lists at [])) inside split)
 
-  pub popped_free : (at n : ℕ) → at < length now.lists → Some n ≡ get_or heads at (Some n)
+  pub popped_free : (at n : ℕ) → at < length now.lists → Some n ≡ get_or heads at None
       → (n < length next) × (times n (set now.lists at (drop 1 (get_or now.lists at []))) ≡ 0)
   popped_free at n place here =
       popped_nowhere heads next now.lists shown at n (drop 1 (get_or now.lists at [])) (omega (arith, shown.len))
       (list_splits at n place here)
 
-  pub more_lists : (n : ℕ) → length heads ≤ n
-      → AreListsOf (take n heads ++ replicate (n - length heads) None) next
+  pub more_lists : (n : ℕ)
+      → AreListsOf (heads ++ replicate (n - length heads) None) next
       (now.lists ++ replicate (n - length now.lists) [])
-  more_lists n more = rw (take_all n heads more, shown.len)
+  more_lists n = rw shown.len
       (AreListsOf-more_lists heads next now.lists shown (n - length heads))
 
-  pub more_nodes : (n : ℕ) → length next ≤ n
-      → AreListsOf heads (take n next ++ replicate (n - length next) None) now.lists
-  more_nodes n more = rw (take_all n next more)
+  pub more_nodes : (n : ℕ) → AreListsOf heads (next ++ replicate (n - length next) None) now.lists
+  more_nodes n =
       (AreListsOf-more_nodes heads next (replicate (n - length next) None) now.lists shown)

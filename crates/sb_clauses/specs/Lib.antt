@@ -1,6 +1,7 @@
 pub mod Propagation
 pub mod Records
 pub mod Examining
+pub mod Links
 pub mod WatchLists
 pub mod Watching
 pub mod Looking

@@ -21,6 +21,7 @@
 
 mod clauses;
 mod engine;
+mod links;
 mod listing;
 mod marks;
 mod occurrences;

@@ -3,25 +3,26 @@
 ghost use Rattle.std.specs.Prelude.{◌≡◌, ◌≢◌, ◌+◌, ◌-◌, ◌<◌, ◌≤◌, [], ◌∷◌, ◌++◌, length, max, drop, replicate, slice_get, slice_index_or, slice_set, None, OnOk, OnErr, IfSome};
 ghost use Rattle.sb_clauses.specs.WatchLists.{times, IsPoured};
 
+use crate::links::{Links, NUMBERS};
 use std::alloc::{AllocError, Global};
 use std::marker::Model;
 
 /// Lists of clause numbers, of which each stands in one list at most.
 #[derive(Debug, Drop)]
 pub struct WatchLists {
-    heads: Vec<Option<usize>>,
-    next: Vec<Option<usize>>,
+    heads: Links,
+    next: Links,
 }
 
 impl Model for WatchLists {
-    ghost use Rattle.std.specs.Prelude.{length};
+    ghost use Rattle.std.specs.Prelude.{length, ◌<◌, ◌^◌};
     ghost use Rattle.sb_clauses.specs.WatchLists.{WatchLists, lists_from, AreListsOf};
 
     ghost Value = { WatchLists };
 
-    ghost view = { λ all. record { nodes = length all.next.items; lists = lists_from all.heads.items all.next.items } };
+    ghost view = { λ all. record { nodes = length all.next; lists = lists_from all.heads all.next } };
 
-    ghost invariant = { λ all. AreListsOf all.heads.items all.next.items (lists_from all.heads.items all.next.items) };
+    ghost invariant = { λ all. AreListsOf all.heads all.next (lists_from all.heads all.next) × (length all.next < 2 ^ 32) };
 }
 
 impl WatchLists {
@@ -30,21 +31,20 @@ impl WatchLists {
         ensures { result ≡ record { nodes = 0; lists = [] } }
     {
         WatchLists {
-            heads: Vec::new(alloc),
-            next: Vec::new(alloc),
+            heads: Links::new(alloc),
+            next: Links::new(alloc),
         }
     }
 
-    /// Makes room for the numbers below `nodes`.
+    /// Makes room for the numbers below `nodes`, an error where they are 2 ^ 32 or more.
     pub fn add_nodes(&mut self, nodes: usize) -> Result<(), AllocError>
         ensures ok { OnOk result (self.new ≡ record self.old { nodes = max self.old.nodes nodes }) }
         ensures err { OnErr result (self.new ≡ self.old) }
     {
-        if nodes <= self.next.len() {
-            return Ok(());
+        if nodes > NUMBERS {
+            return Err(AllocError);
         }
-        self.next.resize(nodes, None)?;
-        Ok(())
+        self.next.grow(nodes)
     }
 
     /// Adds empty lists, up to this many.
@@ -53,11 +53,7 @@ impl WatchLists {
             (self.new ≡ record self.old { lists = self.old.lists ++ replicate (lists - length self.old.lists) [] }) }
         ensures err { OnErr result (self.new ≡ self.old) }
     {
-        if lists <= self.heads.len() {
-            return Ok(());
-        }
-        self.heads.resize(lists, None)?;
-        Ok(())
+        self.heads.grow(lists)
     }
 
     /// Puts a number that stands in no list in front of a list. Takes no memory; constant time.
@@ -70,8 +66,9 @@ impl WatchLists {
               slice_set self.old.lists list (node ∷ slice_index_or self.old.lists list []);
         } }
     {
-        self.next[node] = self.heads[list];
-        self.heads[list] = Some(node);
+        let behind = self.heads.get(list);
+        self.next.set(node, behind);
+        self.heads.set(list, Some(node));
     }
 
     /// Takes the first number off a list. Takes no memory; constant time.
@@ -85,9 +82,10 @@ impl WatchLists {
             } }
         ensures nowhere { IfSome result (λ node. (node < self.new.nodes) × (times node self.new.lists ≡ 0)) }
     {
-        let first = self.heads[list];
+        let first = self.heads.get(list);
         if let Some(node) = first {
-            self.heads[list] = self.next[node];
+            let behind = self.next.get(node);
+            self.heads.set(list, behind);
         }
         first
     }
@@ -103,8 +101,9 @@ impl WatchLists {
               slice_set (slice_set self.old.lists to (slice_index_or self.old.lists from [])) from [];
         } }
     {
-        self.heads[to] = self.heads[from];
-        self.heads[from] = None;
+        let first = self.heads.get(from);
+        self.heads.set(to, first);
+        self.heads.set(from, None);
     }
 
     /// How many lists there are.

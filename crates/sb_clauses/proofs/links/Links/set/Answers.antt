@@ -1,0 +1,7 @@
+use Rattle.sb_clauses.proofs.LinkLemmas.{link_set}
+use Rattle.sb_clauses.proofs.links.Links.set.Goals as goal
+
+pub returns : goal.returns
+returns c =
+    rw (← c.self.view_is)
+    (link_set c.self.inside.codes.items c.args.at c.code_of.result c.args.number c.code_of.ensures)
