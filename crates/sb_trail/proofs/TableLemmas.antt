@@ -1,15 +1,16 @@
 -- The tables of a trail when an entry is added or taken off, and when atoms get a place.
-use Rattle.std.proofs.Common.{◌≡◌, ℕ, ◌+◌, ◌-◌, ◌<◌, ◌≤◌, Bool, cond, List, [], ◌∷◌, ◌++◌, length, get_or, set, take, replicate, Option, Some, None, refl, sym, ◌∙◌, ap, inl, inr, arith}
-use Rattle.std.specs.Option.{option_map, is_none}
-use Rattle.std.specs.List.{count_by}
-use Rattle.std.proofs.lemmas.Bool.{cases_eq, cases_lt}
+use Rattle.std.proofs.Common.{◌≡◌, ◌≢◌, ℕ, zero, suc, ◌+◌, ◌-◌, ◌^◌, ◌<◌, ◌≤◌, Bool, cond, eqb, List, [], ◌∷◌, ◌++◌, length, get_or, set, take, replicate, Option, Some, None, refl, sym, ◌∙◌, ap, inl, inr, arith}
+use Rattle.std.specs.Option.{option_map}
+use Rattle.std.specs.List.{slice_get, count_by}
+use Rattle.std.proofs.lemmas.Bool.{cases_eq, cases_lt, eqb-true, ne_eqb}
+use Rattle.std.proofs.lemmas.Option.{none-some}
 use Rattle.std.proofs.lemmas.List.{length-append, length-set, length-replicate, length_push, get_or-set_same, get_or-set_other, get_or_append_left, get_or-append_right, get_or-replicate, take_all}
 use Rattle.std.proofs.lemmas.List.Sums.{sum_by-set, sum_by-append}
 use Rattle.std.proofs.lemmas.List.Folds.{sum_by-replicate}
 use Rattle.sb_trail.specs.declared.assigned.Assigned.{Assigned}
 use Rattle.sb_trail.specs.Assignments.{entry_of, current_level, level_behind}
-use Rattle.sb_trail.specs.Tables.{Tabulates, AreTables}
-use Rattle.sb_trail.proofs.EntryLemmas.{entry_of-push_same, entry_of-push_other, entry_of-push_none, AreDistinct-push, AreDistinct-pop, AreLevelled-push, AreLevelled-pop}
+use Rattle.sb_trail.specs.Tables.{Tabulates, IsPlace, Locates, AreTables}
+use Rattle.sb_trail.proofs.EntryLemmas.{cond_cases, entry_of-push_same, entry_of-push_other, entry_of-push_none, AreDistinct-push, AreDistinct-pop, AreLevelled-push, AreLevelled-pop}
 
 Tabulates-push : {T : Type 0} (f : Assigned → T) (es : List Assigned) (e : Assigned) (table : List (Option T))
     → Tabulates f es table → entry_of es e.literal.atom ≡ None
@@ -62,106 +63,216 @@ Tabulates-grow f es table n h none more a within =
           ∙ ap (option_map f) (sym (none a new))
     ])
 
--- how many atoms have no value when one gets or loses it
-count-set : (table : List (Option Assigned)) (a : ℕ) (o : Option Assigned) → a < length table
-    → count_by is_none (set table a o) + cond (is_none (get_or table a None)) 1 0
-    ≡ count_by is_none table + cond (is_none o) 1 0
-count-set table a o place = sum_by-set (λ x. cond (is_none x) 1 0) table a o None place
+-- the entry of an atom is of it
+entry_atom : (es : List Assigned) (a : ℕ) (e : Assigned) → entry_of es a ≡ Some e → e.literal.atom ≡ a
+entry_atom [] a e is = absurd (none-some e is)
+entry_atom (x ∷ xs) a e is =
+    elim (cond_cases (eqb x.literal.atom a) x e (entry_of xs a) is) [
+      | inl here ↦ ap (λ (y : Assigned). y.literal.atom) (sym here.1) ∙ eqb-true x.literal.atom a here.0
+      | inr later ↦ entry_atom xs a e later.1
+    ]
 
-pub AreTables-push : {es : List Assigned} {room : ℕ} {values : List (Option Bool)} {by_atom : List (Option Assigned)}
-    → AreTables es room values by_atom → (e : Assigned) (more : ℕ) → room ≤ more → e.literal.atom < length by_atom
+get_front : (es fs : List Assigned) (k : ℕ) → k < length es → slice_get (es ++ fs) k ≡ slice_get es k
+get_front [] fs k within = absurd (omega arith)
+get_front (x ∷ xs) fs zero within = refl
+get_front (x ∷ xs) fs (suc k) within = get_front xs fs k (omega arith)
+
+get_last : (es : List Assigned) (e : Assigned) → slice_get (es ++ e ∷ []) (length es) ≡ Some e
+get_last [] e = refl
+get_last (x ∷ xs) e = get_last xs e
+
+-- an entry stays where it is when one comes behind it,
+place_more : (es : List Assigned) (e : Assigned) (n : ℕ) (o : Option Assigned) → IsPlace es n o
+    → IsPlace (es ++ e ∷ []) n o
+place_more es e n None h = h
+place_more es e n (Some x) h =
+    (h.0, omega (arith, h.1, length_push es e), get_front es (e ∷ []) (n - 1) (omega (arith, h.0, h.1)) ∙ h.2)
+
+-- and when another one goes that stands behind it
+place_less : (es : List Assigned) (e : Assigned) (n : ℕ) (o : Option Assigned) → (o ≡ Some e → ⊥)
+    → IsPlace (es ++ e ∷ []) n o → IsPlace es n o
+place_less es e n None other h = h
+place_less es e n (Some x) other h =
+    elim (cases_lt (n - 1) (length es)) [
+      | inl within ↦ (h.0, omega (arith, within, h.0), sym (get_front es (e ∷ []) (n - 1) within) ∙ h.2)
+      | inr past ↦
+          let at_end : n - 1 ≡ length es = omega (arith, past, h.0, h.1, length_push es e) in
+          absurd (other (sym h.2 ∙ ap (slice_get (es ++ e ∷ [])) at_end ∙ get_last es e))
+    ]
+
+Locates-push : (es : List Assigned) (e : Assigned) (table : List ℕ) → Locates es table
+    → entry_of es e.literal.atom ≡ None
+    → Locates (es ++ e ∷ []) (set table e.literal.atom (length es + 1))
+Locates-push es e table h none a within =
+    let place : a < length table = omega (arith, length-set table e.literal.atom (length es + 1)) in
+    elim (cases_eq e.literal.atom a) [
+      | inl same ↦
+          let last : IsPlace (es ++ e ∷ []) (length es + 1) (Some e) = (
+            omega arith,
+            omega (arith, length_push es e),
+            ap (slice_get (es ++ e ∷ [])) (omega arith) ∙ get_last es e,
+          ) in
+          rw (← same) (rw (
+            get_or-set_same table e.literal.atom (length es + 1) 0 (rw (← same) at place),
+            entry_of-push_same es e none,
+          ) last)
+      | inr other ↦
+          rw (
+            get_or-set_other table e.literal.atom a (length es + 1) 0 (λ same. other (sym same)),
+            entry_of-push_other es e a other,
+          ) (place_more es e (get_or table a 0) (entry_of es a) (h a place))
+    ]
+
+Locates-pop : (es : List Assigned) (e : Assigned) (table : List ℕ) → Locates (es ++ e ∷ []) table
+    → entry_of es e.literal.atom ≡ None → Locates es (set table e.literal.atom 0)
+Locates-pop es e table h none a within =
+    let place : a < length table = omega (arith, length-set table e.literal.atom 0) in
+    elim (cases_eq e.literal.atom a) [
+      | inl same ↦
+          rw (← same) (rw (get_or-set_same table e.literal.atom 0 0 (rw (← same) at place), none) refl)
+      | inr other ↦
+          rw (get_or-set_other table e.literal.atom a 0 0 (λ same. other (sym same)))
+          (place_less es e (get_or table a 0) (entry_of es a) (λ is. other (entry_atom es a e is))
+          (rw (entry_of-push_other es e a other) at (h a place)))
+    ]
+
+Locates-grow : (es : List Assigned) (table : List ℕ) (n : ℕ) → Locates es table
+    → ((a : ℕ) → length table ≤ a → entry_of es a ≡ None) → length table ≤ n
+    → Locates es (take n table ++ replicate (n - length table) 0)
+Locates-grow es table n h none more a within =
+    rw (take_all n table more) (elim (cases_lt a (length table)) [
+      | inl old ↦ rw (get_or_append_left table (replicate (n - length table) 0) 0 a old) (h a old)
+      | inr new ↦
+          let place : a - length table < n - length table = omega (arith, length-grown table n 0 more) in
+          rw (none a new) (get_or-append_right table (replicate (n - length table) 0) (length table) a 0 refl new
+          ∙ get_or-replicate (n - length table) (a - length table) 0 0 place)
+    ])
+
+-- how many atoms have no value when one gets or loses it
+abbrev vacant : List ℕ → ℕ
+vacant table = count_by (λ n. eqb n 0) table
+
+count-set : (table : List ℕ) (a n : ℕ) → a < length table
+    → vacant (set table a n) + cond (eqb (get_or table a 0) 0) 1 0 ≡ vacant table + cond (eqb n 0) 1 0
+count-set table a n place = sum_by-set (λ x. cond (eqb x 0) 1 0) table a n 0 place
+
+pub AreTables-push : {es : List Assigned} {room : ℕ} {values : List (Option Bool)} {places : List ℕ}
+    → AreTables es room values places → (e : Assigned) (more : ℕ) → room ≤ more → e.literal.atom < length places
     → entry_of es e.literal.atom ≡ None → e.level ≡ level_behind (current_level es) e.reason
     → AreTables (es ++ e ∷ []) more (set values e.literal.atom (Some e.literal.positive))
-    (set by_atom e.literal.atom (Some e))
-AreTables-push {es} {room} {values} {by_atom} h e more wide place none level = record {
+    (set places e.literal.atom (length es + 1))
+AreTables-push {es} {room} {values} {places} h e more wide place none level = record {
   trail = record {
     distinct = AreDistinct-push es e h.trail.distinct none;
     reserved = λ a past.
-        let old : length by_atom ≤ a = omega (arith, length-set by_atom e.literal.atom (Some e)) in
+        let old : length places ≤ a = omega (arith, length-set places e.literal.atom (length es + 1)) in
         entry_of-push_other es e a (λ same. omega (arith, same)) ∙ h.trail.reserved a old;
     levelled = AreLevelled-push 0 es e h.trail.levelled level;
   };
   values_agree = Tabulates-push (λ entry. entry.literal.positive) es e values h.values_agree none;
-  entries_agree = Tabulates-push (λ entry. entry) es e by_atom h.entries_agree none;
+  located = Locates-push es e places h.located none;
   covered = omega (
     arith,
     h.covered,
     length-set values e.literal.atom (Some e.literal.positive),
-    length-set by_atom e.literal.atom (Some e),
+    length-set places e.literal.atom (length es + 1),
   );
   counted =
-      let empty : get_or by_atom e.literal.atom None ≡ None = h.entries_agree e.literal.atom place
-      ∙ ap (option_map (λ (entry : Assigned). entry)) none in
-      let count = count-set by_atom e.literal.atom (Some e) place in
-      omega (arith, h.counted, rw empty at count, length_push es e, length-set by_atom e.literal.atom (Some e));
-  fits = omega (arith, h.fits, length-set by_atom e.literal.atom (Some e));
+      let empty : get_or places e.literal.atom 0 ≡ 0 = rw none at (h.located e.literal.atom place) in
+      let count = count-set places e.literal.atom (length es + 1) place in
+      omega (
+        arith,
+        h.counted,
+        rw (empty, ne_eqb (length es + 1) 0 (λ e. omega (arith, e))) at count,
+        length_push es e,
+        length-set places e.literal.atom (length es + 1),
+      );
+  fits = omega (arith, h.fits, length-set places e.literal.atom (length es + 1));
+  small = omega (arith, h.small, length-set places e.literal.atom (length es + 1));
 }
+
+-- where an atom has no value there are fewer entries than atoms
+pub room_left : {es : List Assigned} {room : ℕ} {values : List (Option Bool)} {places : List ℕ}
+    → AreTables es room values places → (a : ℕ) → a < length places → entry_of es a ≡ None
+    → length es < length places
+room_left {es} {room} {values} {places} h a place none =
+    let empty : get_or places a 0 ≡ 0 = rw none at (h.located a place) in
+    omega (arith, h.counted, rw empty at (count-set places a 0 place), rw empty at (count-set places a 1 place))
 
 -- an atom that has an entry has a place
 pub atom_within : (es : List Assigned) (e : Assigned) {room : ℕ} {values : List (Option Bool)}
-    {by_atom : List (Option Assigned)} → AreTables (es ++ e ∷ []) room values by_atom → e.literal.atom < length by_atom
-atom_within es e {room} {values} {by_atom} h =
-    elim (cases_lt e.literal.atom (length by_atom)) [
+    {places : List ℕ} → AreTables (es ++ e ∷ []) room values places → e.literal.atom < length places
+atom_within es e {room} {values} {places} h =
+    elim (cases_lt e.literal.atom (length places)) [
       | inl place ↦ place
       | inr past ↦ absurd ((entry_of-push_none es e e.literal.atom (h.trail.reserved e.literal.atom past)).1 refl)
     ]
 
 pub AreTables-pop : (es : List Assigned) (e : Assigned) {room : ℕ} {values : List (Option Bool)}
-    {by_atom : List (Option Assigned)} → AreTables (es ++ e ∷ []) room values by_atom
-    → AreTables es room (set values e.literal.atom None) (set by_atom e.literal.atom None)
-AreTables-pop es e {room} {values} {by_atom} h =
+    {places : List ℕ} → AreTables (es ++ e ∷ []) room values places
+    → AreTables es room (set values e.literal.atom None) (set places e.literal.atom 0)
+AreTables-pop es e {room} {values} {places} h =
     let parts = AreDistinct-pop es e h.trail.distinct in
-    let place : e.literal.atom < length by_atom = atom_within es e h in
+    let place : e.literal.atom < length places = atom_within es e h in
     record {
       trail = record {
         distinct = parts.0;
         reserved = λ a past.
-            let old : length by_atom ≤ a = omega (arith, length-set by_atom e.literal.atom None) in
+            let old : length places ≤ a = omega (arith, length-set places e.literal.atom 0) in
             (entry_of-push_none es e a (h.trail.reserved a old)).0;
         levelled = AreLevelled-pop 0 es e h.trail.levelled;
       };
       values_agree = Tabulates-pop (λ entry. entry.literal.positive) es e values h.values_agree parts.1;
-      entries_agree = Tabulates-pop (λ entry. entry) es e by_atom h.entries_agree parts.1;
-      covered = omega (arith, h.covered, length-set values e.literal.atom None, length-set by_atom e.literal.atom None);
+      located = Locates-pop es e places h.located parts.1;
+      covered = omega (arith, h.covered, length-set values e.literal.atom None, length-set places e.literal.atom 0);
       counted =
-          let full : get_or by_atom e.literal.atom None ≡ Some e = h.entries_agree e.literal.atom place
-          ∙ ap (option_map (λ (entry : Assigned). entry)) (entry_of-push_same es e parts.1) in
-          let count = count-set by_atom e.literal.atom None place in
-          omega (arith, h.counted, rw full at count, length_push es e, length-set by_atom e.literal.atom None);
-      fits = omega (arith, h.fits, length-set by_atom e.literal.atom None);
+          let full = rw (entry_of-push_same es e parts.1) at (h.located e.literal.atom place) in
+          let some : get_or places e.literal.atom 0 ≢ 0 = λ is. omega (arith, is, full.0) in
+          let count = count-set places e.literal.atom 0 place in
+          omega (
+            arith,
+            h.counted,
+            rw (ne_eqb (get_or places e.literal.atom 0) 0 some) at count,
+            length_push es e,
+            length-set places e.literal.atom 0,
+          );
+      fits = omega (arith, h.fits, length-set places e.literal.atom 0);
+      small = omega (arith, h.small, length-set places e.literal.atom 0);
     }
 
-pub AreTables-grow : {es : List Assigned} {room : ℕ} {values : List (Option Bool)} {by_atom : List (Option Assigned)}
-    → AreTables es room values by_atom → (n m more : ℕ) → length by_atom ≤ n → length values ≤ m → n ≤ m → n ≤ more
+pub AreTables-grow : {es : List Assigned} {room : ℕ} {values : List (Option Bool)} {places : List ℕ}
+    → AreTables es room values places → (n m more : ℕ) → length places ≤ n → length values ≤ m → n ≤ m → n ≤ more
+    → n < 2 ^ 32
     → AreTables es more (take m values ++ replicate (m - length values) None)
-    (take n by_atom ++ replicate (n - length by_atom) None)
-AreTables-grow {es} {room} {values} {by_atom} h n m more up upper covered wide = record {
+    (take n places ++ replicate (n - length places) 0)
+AreTables-grow {es} {room} {values} {places} h n m more up upper covered wide fitting = record {
   trail = record {
     distinct = h.trail.distinct;
-    reserved = λ a past. h.trail.reserved a (omega (arith, length-grown by_atom n None up));
+    reserved = λ a past. h.trail.reserved a (omega (arith, length-grown places n 0 up));
     levelled = h.trail.levelled;
   };
   values_agree = Tabulates-grow (λ entry. entry.literal.positive) es values m h.values_agree
       (λ a past. h.trail.reserved a (omega (arith, h.covered))) upper;
-  entries_agree = Tabulates-grow (λ entry. entry) es by_atom n h.entries_agree h.trail.reserved up;
-  covered = omega (arith, length-grown by_atom n None up, length-grown values m None upper);
+  located = Locates-grow es places n h.located h.trail.reserved up;
+  covered = omega (arith, length-grown places n 0 up, length-grown values m None upper);
   counted =
-      let whole = sum_by-append (λ (x : Option Assigned). cond (is_none x) 1 0) (take n by_atom)
-      (replicate (n - length by_atom) None) in
-      let front = ap (count_by is_none) (take_all n by_atom up) in
-      let back = sum_by-replicate (λ (x : Option Assigned). cond (is_none x) 1 0) (n - length by_atom) None in
-      omega (arith, h.counted, whole, front, back, length-grown by_atom n None up);
-  fits = omega (arith, length-grown by_atom n None up);
+      let whole = sum_by-append (λ x. cond (eqb x 0) 1 0) (take n places)
+      (replicate (n - length places) 0) in
+      let front = ap vacant (take_all n places up) in
+      let back = sum_by-replicate (λ x. cond (eqb x 0) 1 0) (n - length places) 0 in
+      omega (arith, h.counted, whole, front, back, length-grown places n 0 up);
+  fits = omega (arith, length-grown places n 0 up);
+  small = omega (arith, length-grown places n 0 up, fitting);
 }
 
 -- the same where the entries are known to end in one
 pub popped_within : {es : List Assigned} (new : List Assigned) (e : Assigned) {room : ℕ} {values : List (Option Bool)}
-    {by_atom : List (Option Assigned)} → es ≡ new ++ e ∷ [] → AreTables es room values by_atom
-    → e.literal.atom < length by_atom
+    {places : List ℕ} → es ≡ new ++ e ∷ [] → AreTables es room values places
+    → e.literal.atom < length places
 popped_within new e split h = atom_within new e (rw split at h)
 
 pub AreTables-popped : {es : List Assigned} (new : List Assigned) (e : Assigned) {room : ℕ}
-    {values : List (Option Bool)} {by_atom : List (Option Assigned)} → es ≡ new ++ e ∷ []
-    → AreTables es room values by_atom
-    → AreTables new room (set values e.literal.atom None) (set by_atom e.literal.atom None)
+    {values : List (Option Bool)} {places : List ℕ} → es ≡ new ++ e ∷ []
+    → AreTables es room values places
+    → AreTables new room (set values e.literal.atom None) (set places e.literal.atom 0)
 AreTables-popped new e split h = AreTables-pop new e (rw split at h)

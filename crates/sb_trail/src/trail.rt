@@ -1,15 +1,19 @@
 //! The trail.
 
-ghost use Rattle.std.specs.Prelude.{◌≡◌, ◌+◌, ◌<◌, ◌≤◌, [], ◌∷◌, ◌++◌, length, max, Some, None, is_none, IsOk, OnOk, OnErr, MatchBool, MatchOption};
+ghost use Rattle.std.specs.Prelude.{◌≡◌, Option, ◌+◌, ◌-◌, ◌^◌, ◌<◌, ◌≤◌, [], ◌∷◌, ◌++◌, length, max, Some, None, is_none, IsOk, OnOk, OnErr, MatchBool, MatchOption};
 ghost use Rattle.std.specs.Vec.{vec_capacity};
 ghost use Rattle.sb_lit.specs.Clauses.{value_under};
 ghost use Rattle.sb_trail.specs.Assignments.{held, IsConsistent, AreDistinct, value_of, level_of, reason_of, entry_of, current_level, level_behind, up_to, IsTrail};
-ghost use Rattle.sb_trail.specs.declared.assigned.Assigned.{Assigned};
+ghost use Rattle.sb_trail.specs.Tables.{IsPlace};
+ghost use Rattle.sb_trail.specs.declared.assigned.Assigned.{Assigned, Assigned as TheAssigned};
 
 use crate::assigned::Assigned;
 use sb_lit::{ClauseId, Lit};
 use std::alloc::{AllocError, Global};
 use std::marker::Model;
+
+/// So many atoms may have a place.
+const PLACES: usize = (1 << 32) - 1;
 
 /// The literals that are true, oldest first, with their levels and reasons.
 #[derive(Debug, Drop)]
@@ -17,7 +21,8 @@ pub struct Trail {
     entries: Vec<Assigned>,
     /// The value of each atom, apart from the rest since it is read most.
     values: Vec<Option<bool>>,
-    by_atom: Vec<Option<Assigned>>,
+    /// By atom one more than the place of its entry, and 0 where it has none.
+    places: Vec<u32>,
 }
 
 impl Model for Trail {
@@ -28,10 +33,10 @@ impl Model for Trail {
 
     ghost Value = { Assignments };
 
-    ghost view = { λ trail. record { reserved = length trail.by_atom.items; literals = trail.entries.items } };
+    ghost view = { λ trail. record { reserved = length trail.places.items; literals = trail.entries.items } };
 
     ghost invariant = { λ trail. AreTables trail.entries.items (vec_capacity trail.entries) trail.values.items
-        trail.by_atom.items };
+        trail.places.items };
 }
 
 impl Trail {
@@ -42,24 +47,28 @@ impl Trail {
         Trail {
             entries: Vec::new(alloc),
             values: Vec::new(alloc),
-            by_atom: Vec::new(alloc),
+            places: Vec::new(alloc),
         }
     }
 
     /// Gives each atom below `atoms` a place: from then on its literals may be added, and that takes no
-    /// memory. Places are never taken back. Linear in the number of new places, over many calls too.
+    /// memory. Places are never taken back. Linear in the number of new places, over many calls too. 2 ^ 32 atoms or
+    /// more are an error.
     pub fn reserve(&mut self, atoms: usize) -> Result<(), AllocError>
         ensures ok { OnOk result (self.new ≡ record self.old { reserved = max self.old.reserved atoms }) }
         ensures enough { atoms ≤ self.old.reserved → IsOk result }
         ensures err { OnErr result (self.new ≡ self.old) }
     {
-        if atoms <= self.by_atom.len() {
+        if atoms <= self.places.len() {
             return Ok(());
+        }
+        if atoms > PLACES {
+            return Err(AllocError);
         }
         self.entries.reserve(atoms - self.entries.len())?;
         let wider = atoms.max(self.values.len());
         self.values.resize(wider, None)?;
-        self.by_atom.resize(atoms, None)
+        self.places.resize(atoms, 0)
     }
 
     /// Adds a literal that the clause forces, on the current level. Takes no memory; constant time.
@@ -151,7 +160,8 @@ impl Trail {
     fn entry(&self, atom: u64) -> Option<Assigned>
         ensures { result ≡ entry_of self.now.literals atom }
     {
-        self.by_atom.get(atom as usize).copied().flatten()
+        let number = *self.places.get(atom as usize)?;
+        entry_at(&self.entries, number)
     }
 
     /// The number of decisions on the trail.
@@ -182,7 +192,7 @@ impl Trail {
     pub fn reserved(&self) -> usize
         ensures { result ≡ self.now.reserved }
     {
-        self.by_atom.len()
+        self.places.len()
     }
 
     /// Adds a literal, on the current level or by a decision on the next one.
@@ -208,7 +218,7 @@ impl Trail {
         };
         let atom = literal.atom as usize;
         self.values[atom] = Some(literal.positive);
-        self.by_atom[atom] = Some(entry);
+        self.places[atom] = behind(self.entries.len());
         if self.entries.push(entry).is_err() {
             unreachable!();
         }
@@ -238,7 +248,7 @@ impl Trail {
         };
         let atom = entry.literal.atom as usize;
         self.values[atom] = None;
-        self.by_atom[atom] = None;
+        self.places[atom] = 0;
         true
     }
 }
@@ -259,6 +269,24 @@ fn level_behind(newest: usize, reason: Option<ClauseId>) -> usize
     ensures { result ≡ level_behind newest reason }
 {
     if reason.is_none() { newest + 1 } else { newest }
+}
+
+/// The entry at one less than this place, none where that is 0.
+fn entry_at(entries: &[Assigned], number: u32) -> Option<Assigned>
+    ensures { (entry : Option TheAssigned) → IsPlace entries.now number entry → result ≡ entry }
+{
+    if number == 0 {
+        return None;
+    }
+    entries.get(number as usize - 1).copied()
+}
+
+/// One more than this place.
+fn behind(place: usize) -> u32
+    requires { place < 2 ^ 32 - 1 }
+    ensures { result ≡ place + 1 }
+{
+    place as u32 + 1
 }
 
 /// Takes the newest entry off, if there is one.

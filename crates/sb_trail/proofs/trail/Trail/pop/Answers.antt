@@ -18,7 +18,7 @@ index_mut-requires-2 c =
       arith,
       popped_within c.pop_entry.new.entries.items c.in-Some.entry c.in-Some.ensures.cases
           c.self.invariant,
-      c.self.inside.by_atom.ok.0,
+      c.self.inside.places.ok.0,
     )
 
 pub invariant_of-self-2 : goal.invariant_of-self-2

@@ -1,4 +1,4 @@
-use Rattle.std.proofs.Common.{◌≡◌, ◌<◌, ◌∷◌, [], ◌++◌, length, None, refl, ap, ◌∙◌, arith}
+use Rattle.std.proofs.Common.{◌≡◌, ◌+◌, ◌<◌, ◌∷◌, [], ◌++◌, length, None, refl, ap, ◌∙◌, arith}
 use Rattle.std.specs.Vec.{vec_capacity}
 use Rattle.sb_trail.specs.declared.assigned.Assigned.{Assigned}
 use Rattle.sb_trail.specs.Assignments.{Assignments, entry_of, value_of, AreLevelled}
@@ -18,9 +18,11 @@ invariant_of-self c =
     let unassigned : entry_of c.self.inside.entries.items c.args.literal.atom ≡ None =
     map_none (λ (e : Assigned). e.literal.positive) (entry_of c.self.inside.entries.items c.args.literal.atom)
     (ap (λ (t : Assignments). value_of t.literals c.args.literal.atom) c.self.view_is ∙ c.requires.unassigned) in
-    let place : c.args.literal.atom < length c.self.inside.by_atom.items =
+    let place : c.args.literal.atom < length c.self.inside.places.items =
     omega (arith, ap (λ (t : Assignments). t.reserved) c.self.view_is, c.requires.reserved) in
     let added : c.push.new.self.items ≡ c.self.inside.entries.items ++ entry ∷ [] =
     rw (c.is_err.ensures.negation, c.if-is_err.false) at c.push.ensures.items in
-    rw added (AreTables-push c.self.invariant entry (vec_capacity c.push.new.self) c.push.ensures.capacity place
+    let behind : c.behind.result ≡ length c.self.inside.entries.items + 1 =
+    omega (arith, c.behind.ensures, c.len.ensures, c.self.inside.entries.ok.0) in
+    rw (added, behind) (AreTables-push c.self.invariant entry (vec_capacity c.push.new.self) c.push.ensures.capacity place
     unassigned (rw (c.level_behind-level.ensures, c.newest_level.ensures, c.deref.ensures.value) refl))
