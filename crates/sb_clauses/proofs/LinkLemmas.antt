@@ -50,3 +50,14 @@ either_way (Err e) P old new more ok err before after = rw err before
 pub on_ok : {X E : Type 0} (r : Result X E) (A B : Type 0) → (A → B) → OnOk r A → OnOk r B
 on_ok (Ok x) A B step h = step h
 on_ok (Err e) A B step h = tt
+
+-- places without a number behind the others change nothing
+pub padded : (os : List (Option ℕ)) (k at : ℕ) → get_or (os ++ replicate k None) at None ≡ get_or os at None
+padded [] k at = none_there k at
+  where
+    none_there : (k at : ℕ) → get_or (replicate {A = Option ℕ} k None) at None ≡ None
+    none_there zero at = refl
+    none_there (suc k) zero = refl
+    none_there (suc k) (suc at) = none_there k at
+padded (o ∷ os) k zero = refl
+padded (o ∷ os) k (suc at) = padded os k at

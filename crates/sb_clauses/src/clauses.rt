@@ -40,7 +40,7 @@ impl Model for Clauses {
     ghost view = { λ clauses. kept_of clauses.records.items };
 
     ghost invariant = { λ clauses. AreScoped (kept_of clauses.records.items) (heap_items clauses.scoped)
-        × AreFound (kept_of clauses.records.items) clauses.occurrences.heads.items clauses.occurrences.nodes.items };
+        × AreFound (kept_of clauses.records.items) clauses.occurrences.heads clauses.occurrences.nodes.items };
 }
 
 impl Clauses {
@@ -180,10 +180,10 @@ fn drop_records_above(
     level: u64,
 )
     requires scoped { AreScoped (kept_of records.old) (heap_items scoped.old) }
-    requires found { AreFound (kept_of records.old) occurrences.old.heads.items occurrences.old.nodes.items }
+    requires found { AreFound (kept_of records.old) occurrences.old.heads occurrences.old.nodes.items }
     ensures dropped { kept_of records.new ≡ kept_up_to level (kept_of records.old) }
     ensures scoped { AreScoped (kept_of records.new) (heap_items scoped.new) }
-    ensures found { AreFound (kept_of records.new) occurrences.new.heads.items occurrences.new.nodes.items }
+    ensures found { AreFound (kept_of records.new) occurrences.new.heads occurrences.new.nodes.items }
 {
     while drop_highest(records, scoped, occurrences, level) {}
 }
@@ -196,8 +196,8 @@ fn drop_highest(
     level: u64,
 ) -> bool
     requires scoped { AreScoped (kept_of records.old) (heap_items scoped.old) }
-    requires found { AreFound (kept_of records.old) occurrences.old.heads.items occurrences.old.nodes.items }
-    ensures found { AreFound (kept_of records.new) occurrences.new.heads.items occurrences.new.nodes.items }
+    requires found { AreFound (kept_of records.old) occurrences.old.heads occurrences.old.nodes.items }
+    ensures found { AreFound (kept_of records.new) occurrences.new.heads occurrences.new.nodes.items }
     ensures turn { MatchBool result
         (IsScopedTurn level (kept_of records.old) (kept_of records.new) (heap_items scoped.old) (heap_items scoped.new))
         ((kept_up_to level (kept_of records.old) ≡ kept_of records.old)
@@ -232,9 +232,9 @@ fn drop_record(
     number: usize,
     level: u64,
 )
-    requires { AreFound (kept_of records.old) occurrences.old.heads.items occurrences.old.nodes.items }
+    requires { AreFound (kept_of records.old) occurrences.old.heads occurrences.old.nodes.items }
     ensures dropped { kept_of records.new ≡ without_above level number (kept_of records.old) }
-    ensures found { AreFound (kept_of records.new) occurrences.new.heads.items occurrences.new.nodes.items }
+    ensures found { AreFound (kept_of records.new) occurrences.new.heads occurrences.new.nodes.items }
 {
     if number >= records.len() {
         return;

@@ -1,6 +1,6 @@
 //! Each kept clause stands in a list, under one of its literals.
 
-ghost use Rattle.std.specs.Prelude.{◌≡◌, ◌⊎◌, ℕ, List, Option, ◌+◌, ◌<◌, ◌≤◌, [], length, map, true, false, slice_index_or, Some, None, IfOk, OnOk, IfSome, MatchOption};
+ghost use Rattle.std.specs.Prelude.{◌≡◌, ◌⊎◌, ℕ, List, Option, ◌+◌, ◌-◌, ◌^◌, ◌<◌, ◌≤◌, [], length, map, true, false, slice_index_or, Some, None, IfOk, OnOk, IfSome, MatchOption};
 ghost use Rattle.std.specs.List.{list_all};
 ghost use Rattle.std.specs.HashSet.{contains};
 ghost use Rattle.sb_lit.specs.declared.clause.Lit.{Lit as TheLit};
@@ -13,6 +13,7 @@ ghost use Rattle.sb_clauses.specs.Propagation.{IsConflict, HasNoneFalse};
 ghost use Rattle.sb_clauses.specs.Occurring.{are_equal, node_at, head_at, IsHome, AreFound, AreSame, IsLed, IsPut, IsWider, are_false_by, is_false_place, HasNoneIn};
 ghost use Rattle.std.specs.Option.{option_map};
 
+use crate::links::{Links, NUMBERS};
 use crate::record::Record;
 use crate::watches::{SHORT, list_among, list_of};
 use sb_lit::{ClauseId, Lit};
@@ -22,38 +23,42 @@ use std::collections::HashSet;
 /// Where the number of a clause stands.
 #[derive(Clone, Copy, Debug)]
 pub struct Node {
-    pub list: usize,
+    pub list: u32,
     /// The number that came to the list before it.
-    pub before: Option<usize>,
+    pub before: Option<u32>,
     /// The number that came to the list behind it. It is only asked whether it leads here.
-    pub behind: Option<usize>,
+    pub behind: Option<u32>,
 }
 
 /// The lists, by literal: the newest number of each, and where each number stands.
 #[derive(Debug, Drop)]
 pub struct Occurrences {
-    pub heads: Vec<Option<usize>>,
+    pub heads: Links,
     pub nodes: Vec<Node>,
 }
 
 impl Occurrences {
     /// No lists. Takes no memory.
     pub fn new(alloc: Global) -> Occurrences
-        ensures heads { result.heads.items ≡ [] }
+        ensures heads { result.heads ≡ [] }
         ensures nodes { result.nodes.items ≡ [] }
     {
         Occurrences {
-            heads: Vec::new(alloc),
+            heads: Links::new(alloc),
             nodes: Vec::new(alloc),
         }
     }
 
-    /// Makes room for the numbers below `numbers`, and for so many lists.
+    /// Makes room for the numbers below `numbers`, and for so many lists; 2 ^ 32 or more of either are an error.
     pub fn make_room(&mut self, numbers: usize, lists: usize) -> Result<(), AllocError>
-        ensures wider { IsWider self.old.heads.items self.old.nodes.items self.new.heads.items self.new.nodes.items }
+        ensures wider { IsWider self.old.heads self.old.nodes.items self.new.heads self.new.nodes.items }
         ensures nodes { OnOk result (numbers ≤ length self.new.nodes.items) }
-        ensures heads { OnOk result (lists ≤ length self.new.heads.items) }
+        ensures heads { OnOk result (lists ≤ length self.new.heads) }
+        ensures small { OnOk result ((numbers < 2 ^ 32) × (lists < 2 ^ 32)) }
     {
+        if numbers > NUMBERS || lists > NUMBERS {
+            return Err(AllocError);
+        }
         grow_heads(&mut self.heads, lists)?;
         grow_nodes(&mut self.nodes, numbers)
     }
@@ -61,25 +66,26 @@ impl Occurrences {
     /// Puts a number in front of a list. Takes no memory; constant time.
     pub fn put(&mut self, number: usize, list: usize)
         requires number { number < length self.old.nodes.items }
-        requires list { list < length self.old.heads.items }
-        ensures { IsPut self.old.heads.items self.old.nodes.items self.new.heads.items self.new.nodes.items number
+        requires list { list < length self.old.heads }
+        requires small { (number < 2 ^ 32 - 1) × (list < 2 ^ 32) }
+        ensures { IsPut self.old.heads self.old.nodes.items self.new.heads self.new.nodes.items number
             list }
     {
-        let before = self.heads[list];
-        set_behind(&mut self.nodes, before, Some(number));
+        let before = narrow(self.heads.get(list));
+        set_behind(&mut self.nodes, before, Some(number as u32));
         self.nodes[number] = Node {
-            list,
+            list: list as u32,
             before,
             behind: None,
         };
-        self.heads[list] = Some(number);
+        self.heads.set(list, Some(number));
     }
 
     /// Takes the number of a clause that is dropped off its list. Takes no memory; constant time.
     pub fn remove(&mut self, number: usize)
         ensures { (kept : Kept) → kept_at kept number ≡ None → number < length kept
-            → AreFound kept self.old.heads.items self.old.nodes.items
-            → AreFound kept self.new.heads.items self.new.nodes.items }
+            → AreFound kept self.old.heads self.old.nodes.items
+            → AreFound kept self.new.heads self.new.nodes.items }
     {
         if number >= self.nodes.len() {
             return;
@@ -91,20 +97,38 @@ impl Occurrences {
         } = self.nodes[number];
         set_behind(&mut self.nodes, before, behind);
         if !pass_over(&mut self.nodes, behind, number, before) {
-            begin_behind(&mut self.heads, list, number, before);
+            begin_behind(&mut self.heads, list as usize, number, widen(before));
         }
     }
 }
 
 /// Fills up with empty lists.
-fn grow_heads(heads: &mut Vec<Option<usize>>, lists: usize) -> Result<(), AllocError>
-    ensures same { (list : ℕ) → head_at heads.new.items list ≡ head_at heads.old.items list }
-    ensures room { OnOk result (lists ≤ length heads.new.items) }
+fn grow_heads(heads: &mut Links, lists: usize) -> Result<(), AllocError>
+    ensures same { (list : ℕ) → head_at heads.new list ≡ head_at heads.old list }
+    ensures room { OnOk result (lists ≤ length heads.new) }
 {
-    if lists > heads.len() {
-        heads.resize(lists, None)?;
+    heads.grow(lists)
+}
+
+/// A number that fits, in 32 bits.
+fn narrow(number: Option<usize>) -> Option<u32>
+    requires { IfSome number (λ number. number < 2 ^ 32 - 1) }
+    ensures { result ≡ number }
+{
+    match number {
+        Some(number) => Some(number as u32),
+        None => None,
     }
-    Ok(())
+}
+
+/// A number of 32 bits.
+fn widen(number: Option<u32>) -> Option<usize>
+    ensures { result ≡ number }
+{
+    match number {
+        Some(number) => Some(number as usize),
+        None => None,
+    }
 }
 
 /// Fills up with places of numbers.
@@ -125,10 +149,10 @@ fn grow_nodes(nodes: &mut Vec<Node>, numbers: usize) -> Result<(), AllocError>
 }
 
 /// Says of a number which one is behind it.
-fn set_behind(nodes: &mut Vec<Node>, at: Option<usize>, behind: Option<usize>)
+fn set_behind(nodes: &mut Vec<Node>, at: Option<u32>, behind: Option<u32>)
     ensures { AreSame nodes.old.items nodes.new.items }
 {
-    let Some(number) = at else {
+    let Some(number) = widen(at) else {
         return;
     };
     if number < nodes.len() {
@@ -137,18 +161,13 @@ fn set_behind(nodes: &mut Vec<Node>, at: Option<usize>, behind: Option<usize>)
 }
 
 /// Leads from the number behind this one to the one before it, where it led to this one, and says whether it did.
-fn pass_over(
-    nodes: &mut Vec<Node>,
-    behind: Option<usize>,
-    number: usize,
-    before: Option<usize>,
-) -> bool
+fn pass_over(nodes: &mut Vec<Node>, behind: Option<u32>, number: usize, before: Option<u32>) -> bool
     requires before { (node_at nodes.old.items number).before ≡ before }
     ensures same { result ≡ false → nodes.new.items ≡ nodes.old.items }
     ensures found { (kept : Kept) → kept_at kept number ≡ None → number < length kept → (heads : List (Option ℕ))
         → AreFound kept heads nodes.old.items → AreFound kept heads nodes.new.items }
 {
-    let Some(newer) = behind else {
+    let Some(newer) = widen(behind) else {
         return false;
     };
     if !is_led(nodes, newer, number) {
@@ -166,13 +185,13 @@ fn is_led(nodes: &[Node], newer: usize, number: usize) -> bool
         return false;
     }
     match nodes[newer].before {
-        Some(before) => before == number,
+        Some(before) => before as usize == number,
         None => false,
     }
 }
 
 /// Leads from a number to another one.
-fn lead(nodes: &mut Vec<Node>, at: usize, before: Option<usize>)
+fn lead(nodes: &mut Vec<Node>, at: usize, before: Option<u32>)
     requires { at < length nodes.old.items }
     ensures { IsLed nodes.old.items nodes.new.items at before }
 {
@@ -180,23 +199,31 @@ fn lead(nodes: &mut Vec<Node>, at: usize, before: Option<usize>)
 }
 
 /// Begins the list with the number before this one, where it began with this one.
-fn begin_behind(heads: &mut Vec<Option<usize>>, list: usize, number: usize, before: Option<usize>)
+fn begin_behind(heads: &mut Links, list: usize, number: usize, before: Option<usize>)
     ensures { (kept : Kept) → kept_at kept number ≡ None → number < length kept → (nodes : List TheNode)
         → (node_at nodes number).before ≡ before → (node_at nodes number).list ≡ list
-        → AreFound kept heads.old.items nodes → AreFound kept heads.new.items nodes }
+        → AreFound kept heads.old nodes → AreFound kept heads.new nodes }
 {
-    if list >= heads.len() {
+    if list >= heads.len() || !fits(before) {
         return;
     }
-    if let Some(newest) = heads[list] {
-        if newest == number {
-            heads[list] = before;
-        }
+    if heads.get(list) == Some(number) {
+        heads.set(list, before);
+    }
+}
+
+/// Whether a table of numbers may have it.
+fn fits(number: Option<usize>) -> bool
+    ensures { result ≡ true → IfSome number (λ number. number < 2 ^ 32 - 1) }
+{
+    match number {
+        Some(number) => number < NUMBERS,
+        None => true,
     }
 }
 
 /// The list for a clause: of the literal whose list was put a number to the longest ago.
-pub fn home_for(heads: &[Option<usize>], clause: &[Lit]) -> usize
+pub fn home_for(heads: &Links, clause: &[Lit]) -> usize
     requires { list_all is_small clause.now ≡ true }
     ensures { IsHome clause.now result }
 {
@@ -208,7 +235,7 @@ pub fn home_for(heads: &[Option<usize>], clause: &[Lit]) -> usize
 }
 
 /// Of two lists the one that was put a number to longer ago.
-fn older(heads: &[Option<usize>], list: usize, other: Option<usize>) -> usize
+fn older(heads: &Links, list: usize, other: Option<usize>) -> usize
     ensures { (result ≡ list) ⊎ (other ≡ Some result) }
 {
     match other {
@@ -224,7 +251,7 @@ fn older(heads: &[Option<usize>], list: usize, other: Option<usize>) -> usize
 }
 
 /// Whether a list was put a number to longer ago than another one.
-fn is_older(heads: &[Option<usize>], list: usize, other: usize) -> bool {
+fn is_older(heads: &Links, list: usize, other: usize) -> bool {
     match (head(heads, list), head(heads, other)) {
         (Some(newest), Some(than)) => newest < than,
         (None, _) => true,
@@ -233,11 +260,11 @@ fn is_older(heads: &[Option<usize>], list: usize, other: usize) -> bool {
 }
 
 /// The newest number of a list.
-fn head(heads: &[Option<usize>], list: usize) -> Option<usize>
+fn head(heads: &Links, list: usize) -> Option<usize>
     ensures { result ≡ head_at heads.now list }
 {
     if list < heads.len() {
-        heads[list]
+        heads.get(list)
     } else {
         None
     }
@@ -276,7 +303,7 @@ fn are_false(literals: &[Lit], all: &HashSet<Lit>) -> bool
 /// The newest clause of a list that is false where the literals of the set are true.
 fn false_in(
     records: &[Option<Record>],
-    heads: &[Option<usize>],
+    heads: &Links,
     nodes: &[Node],
     all: &HashSet<Lit>,
     list: usize,
@@ -290,7 +317,7 @@ fn false_in(
         if is_false_place(&records[number], all) {
             return Some(number);
         }
-        next = nodes[number].before;
+        next = widen(nodes[number].before);
     }
     None
 }
@@ -298,7 +325,7 @@ fn false_in(
 /// A clause of the literal's list that is false where the literals of the set are true.
 fn false_of(
     records: &[Option<Record>],
-    heads: &[Option<usize>],
+    heads: &Links,
     nodes: &[Node],
     all: &HashSet<Lit>,
     literal: Lit,
@@ -317,7 +344,7 @@ fn false_of(
 /// A clause of the lists of the literals' negations that is false where the literals of the set are true.
 fn false_of_any(
     records: &[Option<Record>],
-    heads: &[Option<usize>],
+    heads: &Links,
     nodes: &[Node],
     all: &HashSet<Lit>,
     literals: &[Lit],
@@ -341,7 +368,7 @@ fn false_of_any(
 pub fn false_where(
     alloc: Global,
     records: &[Option<Record>],
-    heads: &[Option<usize>],
+    heads: &Links,
     nodes: &[Node],
     literals: &[Lit],
 ) -> Result<Option<ClauseId>, AllocError>

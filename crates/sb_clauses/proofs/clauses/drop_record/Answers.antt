@@ -21,7 +21,7 @@ pub returns-then-is_above-clause-found : goal.returns-then-is_above-clause-found
 returns-then-is_above-clause-found c =
     c.remove.ensures _ (none_there c.args.records.now c.args.number)
     (still_inside c.args.records.now c.args.number c.if-number-records.false)
-    (found_emptied c.args.records.now c.args.number c.args.occurrences.now.heads.items
+    (found_emptied c.args.records.now c.args.number c.args.occurrences.now.heads
     c.args.occurrences.now.nodes.items c.requires)
 
 pub returns-else-is_above-clause-dropped : goal.returns-else-is_above-clause-dropped

@@ -9,7 +9,7 @@ use Rattle.sb_clauses.proofs.clauses.drop_records_above.Given as goal
 abbrev pub invariant-loop : goal.invariant-loop
 invariant-loop l = AreScoped (kept_of l.records) (heap_items l.scoped)
     × (kept_up_to l.level (kept_of l.records) ≡ kept_up_to l.level (kept_of l.initial.records))
-    × AreFound (kept_of l.records) l.occurrences.heads.items l.occurrences.nodes.items
+    × AreFound (kept_of l.records) l.occurrences.heads l.occurrences.nodes.items
 
 abbrev pub decreases-loop : goal.decreases-loop
 decreases-loop l = length (heap_items l.scoped)

@@ -23,9 +23,9 @@ loop-next-preserved c =
     (kept_at_place records number c.index-records-number.result below c.index-records-number.is)
     ∙ sym c.is_false_place.ensures ∙ c.if-is_false_place.false in
     record {
-      inside = in_next c.args.nodes.now (length kept) c.args.list number inside (c.requires.leads number inside.0);
-      older = walk_next kept c.args.heads.now c.args.nodes.now has c.requires c.args.list number inside.0 inside.1
-          (rw c.in-Some.is at c.loop-next.invariant.older) fails;
+      inside = rw c.widen-next.ensures (in_next c.args.nodes.now (length kept) c.args.list number inside (c.requires.leads number inside.0));
+      older = rw c.widen-next.ensures (walk_next kept c.args.heads.now c.args.nodes.now has c.requires c.args.list number inside.0 inside.1
+          (rw c.in-Some.is at c.loop-next.invariant.older) fails);
     }
 
 pub returns : goal.returns

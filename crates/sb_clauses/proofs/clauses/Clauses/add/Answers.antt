@@ -25,6 +25,12 @@ pub put-requires-clause-list : goal.put-requires-clause-list
 put-requires-clause-list c =
     omega (arith, home_inside _ _ _ c.in-Some.ensures c.home_for-home.ensures, c.in_ok-make_room.ensures.heads)
 
+pub put-requires-clause-small : goal.put-requires-clause-small
+put-requires-clause-small c = (
+  omega (arith, c.in_ok-make_room.ensures.small.0),
+  omega (arith, home_inside _ _ _ c.in-Some.ensures c.home_for-home.ensures, c.in_ok-make_room.ensures.small.1),
+)
+
 pub invariant_of-self-2 : goal.invariant_of-self-2
 invariant_of-self-2 c =
     rw c.in_ok-push.ensures.items (
