@@ -18,8 +18,9 @@ use Rattle.sb_term.specs.declared.term.Serial.{Serial}
 use Rattle.sb_stack.specs.Stacked.{Stacked, state_of, live_serials, values_at, are_words}
 use Rattle.sb_stack.proofs.CallerLemmas.{live_laid}
 use Rattle.sb_models.specs.Knowing.{is_true_under, IsTruthBy, assertions_of, word_at}
-use Rattle.sb_models.specs.Tried.{word_of, words_of, put_first, word_given, AreAllTrue}
+use Rattle.sb_models.specs.Tried.{word_of, words_of, put_first, word_given, AreAllTrue, AreTrueWords}
 use Rattle.sb_models.proofs.WordFacts.{same_next, none_next, some_none}
+use Rattle.sb_models.proofs.ValueFacts.{words_long}
 
 -- words of the constants with these serials, one of each, as values
 abbrev paired : List ℕ → List (List ℕ) → Valuation
@@ -199,26 +200,26 @@ paired_given (c ∷ constants) (w ∷ words) n = by (c.0 == n) (paired_given con
 
 -- What a check of values finds, where these are the live constants.
 
-pub no_words : (stack : Stacked) (xs : List Value) (o : Option (List (List ℕ))) → HasFit stack → o ≡ words_of xs
-    → o ≡ None → false ≡ are_model_of (question_in (state_of stack) []) xs
-no_words stack xs o fit is none =
-    sym (model_is stack xs o fit is ∙ ap (tried (length (live_serials stack)) (are_true_by stack)) none)
-
 as_many : (stack : Stacked) (constants : List Serial) → map (λ c. c.0) constants ≡ live_serials stack
     → length (live_serials stack) ≡ length constants
 as_many stack constants live = ap length (sym live) ∙ length-map constants (λ c. c.0)
 
-pub other_number : (stack : Stacked) (xs : List Value) (ws : List (List ℕ)) (constants : List Serial) → HasFit stack
-    → map (λ c. c.0) constants ≡ live_serials stack → Some ws ≡ words_of xs
-    → (length ws ≡ length constants → ⊥) → false ≡ are_model_of (question_in (state_of stack) []) xs
-other_number stack xs ws constants fit live is other =
-    let many = as_many stack constants live in
-    let differ : (length ws == length (live_serials stack)) ≡ false =
-    rw many (not_equal (length ws) (length constants) other) in
-    sym (model_is stack xs (Some ws) fit is ∙ ap (λ b. b && are_true_by stack ws) differ)
+tried_other : (n : ℕ) (test : List (List ℕ) → Bool) (xs : List Value) (o : Option (List (List ℕ))) → o ≡ words_of xs
+    → (length xs ≡ n → ⊥) → tried n test o ≡ false
+tried_other n test xs None is other = refl
+tried_other n test xs (Some ws) is other =
+    ap (λ b. b && test ws) (not_equal (length ws) n (λ same. other (sym (words_long xs ws is) ∙ same)))
   where
     not_equal : (a b : ℕ) → (a ≡ b → ⊥) → (a == b) ≡ false
     not_equal a b other = grind (arith, nat_tests, other)
+
+pub other_number : (stack : Stacked) (xs : List Value) (constants : List Serial) → HasFit stack
+    → map (λ c. c.0) constants ≡ live_serials stack → (length xs ≡ length constants → ⊥)
+    → false ≡ are_model_of (question_in (state_of stack) []) xs
+other_number stack xs constants fit live other =
+    sym (model_is stack xs (words_of xs) fit refl
+    ∙ tried_other (length (live_serials stack)) (are_true_by stack) xs (words_of xs) refl
+    (λ same. other (same ∙ as_many stack constants live)))
 
 pub truth_of : (stack : Stacked) (xs : List Value) (ws : List (List ℕ)) (constants : List Serial) (b : Bool)
     → HasFit stack → map (λ c. c.0) constants ≡ live_serials stack → Some ws ≡ words_of xs
@@ -231,16 +232,20 @@ truth_of stack xs ws constants b fit live is long truth =
     (λ n. ap (λ ns. value_in (paired ns ws) n text) (sym live) ∙ paired_given constants ws n)
     ∙ sym (model_is stack xs (Some ws) fit is ∙ ap (λ b. b && are_true_by stack ws) same)
 
-pub model_of : {E : Type 0} (r : Result Bool E) (stack : Stacked) (xs : List Value) (ws : List (List ℕ))
-    (constants : List Serial) → HasFit stack → map (λ c. c.0) constants ≡ live_serials stack → Some ws ≡ words_of xs
-    → length ws ≡ length constants → IfOk r (AreAllTrue constants ws (assertions_of stack))
-    → IfOk r (λ model. model ≡ are_model_of (question_in (state_of stack) []) xs)
-model_of (Ok b) stack xs ws constants fit live is long truth = truth_of stack xs ws constants b fit live is long truth
-model_of (Err e) stack xs ws constants fit live is long truth = truth
+model_by : (o : Option (List (List ℕ))) (stack : Stacked) (xs : List Value) (constants : List Serial) (b : Bool)
+    → o ≡ words_of xs → HasFit stack → map (λ c. c.0) constants ≡ live_serials stack
+    → length xs ≡ length constants → AreTrueWords constants o (assertions_of stack) b
+    → b ≡ are_model_of (question_in (state_of stack) []) xs
+model_by None stack xs constants b is fit live long truth = truth ∙ sym (model_is stack xs None fit is)
+model_by (Some ws) stack xs constants b is fit live long truth =
+    truth_of stack xs ws constants b fit live is (words_long xs ws is ∙ long) truth
 
-pub truth_through : (ws us : List (List ℕ)) (assertions : List Assertion) (b d : Bool) → us ≡ ws → b ≡ d
-    → IsTruthBy us assertions b → IsTruthBy ws assertions d
-truth_through ws us assertions b d p q h v gives = sym q ∙ h v (λ serial. rw p (gives serial))
+pub model_of : {E : Type 0} (r : Result Bool E) (stack : Stacked) (xs : List Value) (constants : List Serial)
+    → HasFit stack → map (λ c. c.0) constants ≡ live_serials stack → length xs ≡ length constants
+    → IfOk r (AreTrueWords constants (words_of xs) (assertions_of stack))
+    → IfOk r (λ model. model ≡ are_model_of (question_in (state_of stack) []) xs)
+model_of (Ok b) stack xs constants fit live long truth = model_by (words_of xs) stack xs constants b refl fit live long truth
+model_of (Err e) stack xs constants fit live long truth = truth
 
 -- words by serial give constants theirs
 pub truth_given : (constants : List Serial) (given words us : List (List ℕ)) (assertions : List Assertion) (b d : Bool)
@@ -248,3 +253,19 @@ pub truth_given : (constants : List Serial) (given words us : List (List ℕ)) (
     → IsTruthBy us assertions b → AreAllTrue constants given assertions d
 truth_given constants given words us assertions b d p is q h v gives =
     sym q ∙ h v (λ serial. gives serial ∙ (ap Text (sym (is serial)) ∙ ap (λ ws. Text (word_at ws serial)) (sym p)))
+
+-- values that are no words, and such that are
+pub no_true_words : (constants : List Serial) (o : Option (List (List ℕ))) (assertions : List Assertion) → o ≡ None
+    → AreTrueWords constants o assertions false
+no_true_words constants o assertions is = rw is refl
+
+pub true_words : (constants : List Serial) (o : Option (List (List ℕ))) (given words us : List (List ℕ))
+    (assertions : List Assertion) (b d : Bool) → o ≡ Some given → us ≡ words
+    → ((serial : ℕ) → word_at words serial ≡ word_given constants given serial []) → b ≡ d
+    → IsTruthBy us assertions b → AreTrueWords constants o assertions d
+true_words constants o given words us assertions b d some p is q h =
+    rw some (truth_given constants given words us assertions b d p is q h)
+
+pub truth_through : (ws us : List (List ℕ)) (assertions : List Assertion) (b d : Bool) → us ≡ ws → b ≡ d
+    → IsTruthBy us assertions b → IsTruthBy ws assertions d
+truth_through ws us assertions b d p q h v gives = sym q ∙ h v (λ serial. rw p (gives serial))

@@ -1,17 +1,88 @@
 -- Values as words, one after the other.
-use Rattle.std.proofs.Common.{◌≡◌, ℕ, zero, suc, ◌<◌, Bool, true, false, ◌&&◌, List, [], ◌∷◌, ◌++◌, length, get_or, refl, sym, ap, ◌∙◌, arith, append_assoc, Option, Some, None, option_map, slice_get}
+use Rattle.std.proofs.Common.{◌≡◌, ℕ, zero, suc, ◌+◌, ◌<◌, ◌≤◌, Bool, true, false, ◌&&◌, List, [], ◌∷◌, length, map, drop, get_or, refl, sym, ap, ◌∙◌, arith, Option, Some, None, slice_get}
+use Rattle.std.specs.List.{list_all}
+use Rattle.std.proofs.lemmas.Bool.{and_parts, and_from, false≢true}
 use Rattle.std.proofs.lemmas.Bool.Decides.{nat_tests}
+use Rattle.std.proofs.lemmas.List.{drop_more, nil_from_length}
 use Rattle.sb_word.specs.Words.{is_character, are_characters}
-use Rattle.sb_models.specs.Tried.{word_in, put_first}
+use Rattle.sb_meaning.specs.Values.{Value, Text, Int, Truth}
+use Rattle.sb_proof.specs.declared.line.Value as code
+use Rattle.sb_proof.specs.Lines.{value_in as read}
+use Rattle.sb_models.specs.Knowing.{word_at}
+use Rattle.sb_models.specs.Tried.{word_in, word_of, words_of, put_first, is_word, text_in, texts_in, IsWordOf}
 
--- behind what was read, the words of the rest
-abbrev pub behind : List (List ℕ) → Option (List (List ℕ)) → Option (List (List ℕ))
-behind done rest = option_map (λ ws. done ++ ws) rest
+-- all values are words
+pub all_words : (xs : List Value) → list_all is_word xs ≡ true → words_of xs ≡ Some (map text_in xs)
+all_words [] h = refl
+all_words (x ∷ xs) h =
+    let parts = and_parts (is_word x) (list_all is_word xs) h in
+    rw (one x parts.0, all_words xs parts.1) refl
+  where
+    one : (x : Value) → is_word x ≡ true → word_of x ≡ Some (text_in x)
+    one (Text w) e = rw e refl
+    one (Int n) e = absurd (false≢true e)
+    one (Truth b) e = absurd (false≢true e)
 
-pub behind_more : (done : List (List ℕ)) (w : List ℕ) (o : Option (List (List ℕ)))
-    → behind done (put_first (Some w) o) ≡ behind (done ++ w ∷ []) o
-behind_more done w None = refl
-behind_more done w (Some ws) = ap Some (sym (append_assoc done (w ∷ []) ws))
+-- one of them is none
+pub not_all_words : (xs : List Value) → list_all is_word xs ≡ false → words_of xs ≡ None
+not_all_words [] h = absurd (false≢true (sym h))
+not_all_words (x ∷ xs) h = by (is_word x) refl h (not_all_words xs)
+  where
+    none : (x : Value) → is_word x ≡ false → word_of x ≡ None
+    none (Text w) e = rw e refl
+    none (Int n) e = refl
+    none (Truth b) e = refl
+
+    nothing : (o : Option (List ℕ)) → put_first o None ≡ None
+    nothing None = refl
+    nothing (Some w) = refl
+
+    by : (b : Bool) → is_word x ≡ b → (b && list_all is_word xs) ≡ false
+        → (list_all is_word xs ≡ false → words_of xs ≡ None) → put_first (word_of x) (words_of xs) ≡ None
+    by true e k rest = rw (rest k) (nothing (word_of x))
+    by false e k rest = rw (none x e) refl
+
+-- there are as many words as values
+pub words_long : (xs : List Value) (ws : List (List ℕ)) → Some ws ≡ words_of xs → length ws ≡ length xs
+words_long [] ws h = let same : ws ≡ [] = cc in ap length same
+words_long (x ∷ xs) ws h = by (word_of x) (words_of xs) refl h (words_long xs)
+  where
+    by : (o : Option (List ℕ)) (p : Option (List (List ℕ))) → p ≡ words_of xs → Some ws ≡ put_first o p
+        → ((us : List (List ℕ)) → Some us ≡ words_of xs → length us ≡ length xs)
+        → length ws ≡ suc (length xs)
+    by None p e k rest = absurd (let both : Some ws ≡ None = k in cc)
+    by (Some w) None e k rest = absurd (let both : Some ws ≡ None = k in cc)
+    by (Some w) (Some us) e k rest =
+        let same : ws ≡ w ∷ us = cc in
+        ap length same ∙ ap suc (rest us e)
+
+-- Values from a place on.
+
+pub texts_are : (values : List code.Value) → texts_in values ≡ map text_in (map read values)
+texts_are [] = refl
+texts_are (v ∷ values) = ap (λ ws. text_in (read v) ∷ ws) (texts_are values)
+
+abbrev pub AreWordsFrom : List code.Value → ℕ → Type 0
+AreWordsFrom values place = list_all is_word (map read (drop place values)) ≡ true
+
+pub words_next : (values : List code.Value) (place : ℕ) (x : code.Value) → place < length values
+    → x ≡ get_or values place x → is_word (read x) ≡ true → AreWordsFrom values (place + 1)
+    → AreWordsFrom values place
+words_next values place x low is here rest =
+    ap (λ vs. list_all is_word (map read vs)) (drop_more values place x low ∙ ap (λ v. v ∷ drop (place + 1) values) (sym is))
+    ∙ and_from (is_word (read x)) _ here rest
+
+pub word_fails : (values : List code.Value) (place : ℕ) (x : code.Value) → place < length values
+    → x ≡ get_or values place x → is_word (read x) ≡ false → list_all is_word (map read values) ≡ false
+word_fails [] place x low is h = absurd (omega arith)
+word_fails (v ∷ values) zero x low is h =
+    ap (λ b. b && list_all is_word (map read values)) (ap (λ u. is_word (read u)) (sym is) ∙ h)
+word_fails (v ∷ values) (suc place) x low is h =
+    ap (λ b. is_word (read v) && b) (word_fails values place x (omega arith) is h) ∙ and_false (is_word (read v))
+  where
+    and_false : (b : Bool) → (b && false) ≡ false
+    and_false true = refl
+    and_false false = refl
 
 -- Numbers, one after the other.
 
@@ -45,3 +116,15 @@ outside_fails (m ∷ numbers) (suc place) n h k =
 pub no_word_in : (numbers codes : List ℕ) → codes ≡ numbers → are_characters codes ≡ false → None ≡ word_in numbers
 no_word_in numbers codes is none = let fails : are_characters numbers ≡ false = ap are_characters (sym is) ∙ none in
     rw fails refl
+
+-- where no word is, the empty one is
+pub empty_past : (words : List (List ℕ)) (place : ℕ) (numbers : List ℕ) → length words ≤ place
+    → length numbers ≡ 0 → IsWordOf (word_at words place) numbers
+empty_past words place numbers past none =
+    let empty : numbers ≡ [] = nil_from_length numbers none in
+    (none_past words place past ∙ sym empty, ap are_characters empty)
+  where
+    none_past : (words : List (List ℕ)) (place : ℕ) → length words ≤ place → word_at words place ≡ []
+    none_past [] place l = refl
+    none_past (w ∷ words) zero l = absurd (omega arith)
+    none_past (w ∷ words) (suc place) l = none_past words place (omega arith)

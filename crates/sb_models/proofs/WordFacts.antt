@@ -1,14 +1,14 @@
 -- Words that are put in the place of others.
-use Rattle.std.proofs.Common.{◌≡◌, ◌==◌, ℕ, zero, suc, ◌+◌, ◌<◌, ◌≤◌, Bool, true, false, ◌||◌, if◌then◌else◌, List, [], ◌∷◌, ◌++◌, length, take, drop, set, get_or, length-append, refl, sym, ap, ap₂, ◌∙◌, arith, Some, slice_get, vec_len}
+use Rattle.std.proofs.Common.{◌≡◌, ◌==◌, ℕ, zero, suc, ◌+◌, ◌<◌, ◌≤◌, Bool, true, false, ◌||◌, if◌then◌else◌, List, [], ◌∷◌, ◌++◌, length, take, drop, set, get_or, length-append, refl, sym, ap, ap₂, ◌∙◌, arith, Some, slice_get}
 use Rattle.std.proofs.lemmas.Bool.{eqb-true, false≢true}
 use Rattle.std.proofs.lemmas.Bool.Decides.{nat_tests}
 use Rattle.std.proofs.lemmas.Option.{get_or_from_slice_get, slice_get_within}
-use Rattle.std.proofs.lemmas.List.{take_more, drop_more, drop_all, nil_from_length}
-use Rattle.std.specs.declared.vec.Vec.{Vec}
-use Rattle.std.specs.declared.alloc.Global.{Global}
+use Rattle.std.proofs.lemmas.List.{take_more, drop_more, drop_all, length-take-le, length-map}
 use Rattle.sb_term.specs.declared.term.Serial.{Serial}
+use Rattle.sb_proof.specs.declared.line.Value as code
+use Rattle.sb_proof.specs.Lines.{value_in as read}
 use Rattle.sb_models.specs.Knowing.{word_at, is_serial_of, AreEmptyBut}
-use Rattle.sb_models.specs.Tried.{word_given, also_marked, AreSame, Changes, IsPut}
+use Rattle.sb_models.specs.Tried.{text_in, texts_in, word_given, also_marked, AreSame, Changes, IsPut}
 
 pub same_next : (a b : ℕ) → (suc a == suc b) ≡ (a == b)
 same_next a b = grind (arith, nat_tests)
@@ -161,11 +161,11 @@ abbrev pub AreRest : List Serial → List (List ℕ) → List (List ℕ) → Lis
 AreRest constants all at_first left now = (serial : ℕ) → word_given constants left serial (word_at now serial)
     ≡ word_given constants all serial (word_at at_first serial)
 
-pub fewer : (left left' : List (List ℕ)) (w : List ℕ) (n : ℕ) → left ≡ left' ++ w ∷ [] → length left ≤ n
+fewer : (left left' : List (List ℕ)) (w : List ℕ) (n : ℕ) → left ≡ left' ++ w ∷ [] → length left ≤ n
     → length left' < n
 fewer left left' w n is few = omega (arith, few, ap length is, length-append left' (w ∷ []))
 
-pub rest_more : (constants : List Serial) (all at_first left left' old new : List (List ℕ)) (w : List ℕ) (n : ℕ)
+rest_more : (constants : List Serial) (all at_first left left' old new : List (List ℕ)) (w : List ℕ) (n : ℕ)
     (d : Serial) → left ≡ left' ++ w ∷ [] → length left ≤ length constants → n ≡ length left'
     → IsPut (get_or constants n d).0 w old new → AreRest constants all at_first left old
     → AreRest constants all at_first left' new
@@ -176,8 +176,35 @@ rest_more constants all at_first left left' old new w n d last few is put rest s
     ∙ (sym (given_last constants left' w d serial (word_at old serial) (fewer left left' w (length constants) last few))
     ∙ (ap (λ ws. word_given constants ws serial (word_at old serial)) (sym last) ∙ rest serial)))
 
-pub no_items : {X : Type 0} (v : Vec X Global) → vec_len v ≡ 0 → v.items ≡ []
-no_items v h = nil_from_length v.items (omega (arith, v.ok.0, h))
+text_at : (values : List code.Value) (place : ℕ) (d : code.Value) → place < length values
+    → get_or (texts_in values) place (text_in (read d)) ≡ text_in (read (get_or values place d))
+text_at [] place d low = absurd (omega arith)
+text_at (v ∷ values) zero d low = refl
+text_at (v ∷ values) (suc place) d low = text_at values place d (omega arith)
+
+-- the word of the value at a place is put, behind those of the values behind it
+pub rest_next : (constants : List Serial) (values : List code.Value) (at_first old new : List (List ℕ)) (place : ℕ)
+    (d : Serial) (x : code.Value) → length values ≡ length constants → place < length values
+    → x ≡ get_or values place x → IsPut (get_or constants place d).0 (text_in (read x)) old new
+    → AreRest constants (texts_in values) at_first (take (place + 1) (texts_in values)) old
+    → AreRest constants (texts_in values) at_first (take place (texts_in values)) new
+rest_next constants values at_first old new place d x long low is put rest =
+    rest_more constants (texts_in values) at_first (take (place + 1) (texts_in values)) (take place (texts_in values))
+    old new (text_in (read x)) place d
+    (take_more (texts_in values) place (text_in (read x)) there
+    ∙ ap (λ w. take place (texts_in values) ++ w ∷ [])
+    (text_at values place x low ∙ ap (λ v. text_in (read v)) (sym is)))
+    (omega (arith, long, low, length-take-le (place + 1) (texts_in values) (omega (arith, there))))
+    (sym (length-take-le place (texts_in values) (omega (arith, there)))) put rest
+  where
+    there : place < length (texts_in values)
+    there = omega (arith, low, length-map values (λ x. text_in (read x)))
+
+pub none_taken : (place : ℕ) (words : List (List ℕ)) → place ≡ 0 → take place words ≡ []
+none_taken place words is = ap (λ n. take n words) is
+
+pub texts_long : (values : List code.Value) → length (texts_in values) ≡ length values
+texts_long values = length-map values (λ x. text_in (read x))
 
 pub rest_none : (constants : List Serial) (all at_first left now : List (List ℕ)) → left ≡ []
     → AreRest constants all at_first left now → (serial : ℕ)

@@ -1,5 +1,5 @@
 -- Private: values as words, and what of the last model holds under others.
-use Rattle.std.specs.Prelude.{◌≡◌, ◌==◌, ℕ, ◌<◌, Bool, true, false, if◌then◌else◌, List, [], ◌∷◌, length, slice_get, Option, Some, None, option_map}
+use Rattle.std.specs.Prelude.{◌≡◌, ◌==◌, ℕ, ◌<◌, Bool, true, false, if◌then◌else◌, List, [], ◌∷◌, length, map, slice_get, Option, Some, None, option_map}
 use Rattle.std.specs.HashSet.{HashSet, contains}
 use Rattle.std.specs.List.{list_all}
 use Rattle.sb_word.specs.Words.{are_characters}
@@ -10,6 +10,8 @@ use Rattle.sb_script.specs.State.{Assertion, asserted}
 use Rattle.sb_fragment.specs.Memberships.{in_re}
 use Rattle.sb_eval.specs.Given.{GivesWords}
 use Rattle.sb_term.specs.declared.term.Serial.{Serial}
+use Rattle.sb_proof.specs.declared.line.Value as code
+use Rattle.sb_proof.specs.Lines.{value_in as read}
 use Rattle.sb_models.specs.Knowing.{word_at, is_true_under}
 
 -- the numbers, or one of them is no character
@@ -34,6 +36,24 @@ abbrev pub words_of : List Value → Option (List (List ℕ))
 words_of [] = Some []
 words_of (x ∷ xs) = put_first (word_of x) (words_of xs)
 
+abbrev pub is_word : Value → Bool
+is_word (Text w) = are_characters w
+is_word (Int n) = false
+is_word (Truth b) = false
+
+-- the numbers of a value, none where it is no text
+abbrev pub text_in : Value → List ℕ
+text_in (Text w) = w
+text_in (Int n) = []
+text_in (Truth b) = []
+
+abbrev pub texts_in : List code.Value → List (List ℕ)
+texts_in values = map (λ v. text_in (read v)) values
+
+-- the word is that of these numbers
+abbrev pub IsWordOf : List ℕ → List ℕ → Type 0
+IsWordOf word numbers = (word ≡ numbers) × (are_characters numbers ≡ true)
+
 abbrev pub IsConstantAt : List Serial → ℕ → Serial → Type 0
 IsConstantAt constants place c = slice_get constants place ≡ Some c
 
@@ -52,6 +72,11 @@ GivesConstants constants words v = (serial : ℕ) → value_in v serial text ≡
 abbrev pub AreAllTrue : List Serial → List (List ℕ) → List Assertion → Bool → Type 0
 AreAllTrue constants words assertions truth =
     (v : Valuation) → GivesConstants constants words v → truth ≡ list_all (is_true_under v) assertions
+
+-- the test is that of whether the values are these words, and all of them are true where constants have these
+abbrev pub AreTrueWords : List Serial → Option (List (List ℕ)) → List Assertion → Bool → Type 0
+AreTrueWords constants None assertions truth = truth ≡ false
+AreTrueWords constants (Some words) assertions truth = AreAllTrue constants words assertions truth
 
 -- the serials that the set has
 abbrev pub marks_of : {S : Type 0} → HashSet ℕ S → ℕ → Bool

@@ -1,10 +1,14 @@
 //! The words of the live constants, put in the place of those of the last model.
 
-ghost use Rattle.std.specs.Prelude.{◌≡◌, ℕ, true, [], length, take, IfOk, OnOk};
+ghost use Rattle.std.specs.Prelude.{◌≡◌, ℕ, true, None, Some, [], length, map, take, IfOk, OnOk, IfNone, IfSome};
+ghost use Rattle.std.specs.List.{list_all};
+ghost use Rattle.sb_word.specs.Words.{are_characters};
+ghost use Rattle.sb_proof.specs.Lines.{value_in};
 ghost use Rattle.sb_models.specs.Knowing.{word_at, AreEmptyBut};
-ghost use Rattle.sb_models.specs.Tried.{word_given, marks_of, also_marked, AreSame, Changes, IsPut, HasWordAt, IsConstantAt};
+ghost use Rattle.sb_models.specs.Tried.{words_of, is_word, text_in, texts_in, word_given, marks_of, also_marked, AreSame, Changes, IsPut, HasWordAt, IsConstantAt};
 
-use crate::words::is_at;
+use crate::words::{is_at, word_in};
+use sb_proof::Value;
 use sb_term::Serial;
 use sb_word::Word;
 use std::alloc::{AllocError, Global};
@@ -36,8 +40,8 @@ fn mark(changed: &mut HashSet<u64>, serial: u64) -> Result<(), AllocError>
     Ok(())
 }
 
-/// Puts the word of a constant at its serial, and marks the serial, unless this word stands there.
-fn put(
+/// Puts the word of a constant at its serial, and marks the serial.
+fn put_word(
     alloc: Global,
     words: &mut Vec<Word>,
     changed: &mut HashSet<u64>,
@@ -49,13 +53,55 @@ fn put(
         (Changes words.old.items (marks_of changed.old) words.new.items (marks_of changed.new)) }
 {
     let place = constant.0 as usize;
-    if is_at(words, place, &word) {
-        return Ok(());
-    }
     make_room(alloc, words, place)?;
     mark(changed, constant.0)?;
     words[place] = word;
     Ok(())
+}
+
+/// Sees that the word of these numbers stands at the serial of a constant, and marks the serial where another one
+/// stood there. Says whether they are a word.
+fn put(
+    alloc: Global,
+    words: &mut Vec<Word>,
+    changed: &mut HashSet<u64>,
+    constant: Serial,
+    numbers: &[u64],
+) -> Result<bool, AllocError>
+    ensures word { IfOk result (λ known. known ≡ are_characters numbers.now) }
+    ensures put { IfOk result
+        (λ known. known ≡ true → IsPut constant.0 numbers.now words.old.items words.new.items) }
+    ensures changes { IfOk result (λ known. known ≡ true
+        → Changes words.old.items (marks_of changed.old) words.new.items (marks_of changed.new)) }
+{
+    if is_at(words, constant.0 as usize, numbers) {
+        return Ok(true);
+    }
+    let Some(word) = word_in(alloc, numbers)? else {
+        return Ok(false);
+    };
+    put_word(alloc, words, changed, constant, word)?;
+    Ok(true)
+}
+
+/// The same of the word that a value is. Says whether it is one.
+fn put_value(
+    alloc: Global,
+    words: &mut Vec<Word>,
+    changed: &mut HashSet<u64>,
+    constant: Serial,
+    value: &Value,
+) -> Result<bool, AllocError>
+    ensures word { IfOk result (λ known. known ≡ is_word (value_in value.now)) }
+    ensures put { IfOk result (λ known. known ≡ true
+        → IsPut constant.0 (text_in (value_in value.now)) words.old.items words.new.items) }
+    ensures changes { IfOk result (λ known. known ≡ true
+        → Changes words.old.items (marks_of changed.old) words.new.items (marks_of changed.new)) }
+{
+    match value {
+        Value::Text(numbers) => put(alloc, words, changed, constant, numbers.as_slice()),
+        Value::Int(_) | Value::Truth(_) => Ok(false),
+    }
 }
 
 /// Whether the constant stands at the place.
@@ -94,50 +140,63 @@ fn clear_behind(
         (Changes words.old.items (marks_of changed.old) words.new.items (marks_of changed.new)) }
 {
     for place in count..constants.len() {
-        put(alloc, words, changed, constants[place], empty_word(alloc)?)?;
+        put(alloc, words, changed, constants[place], &[])?;
     }
     Ok(())
 }
 
-/// Gives the constants their words, one to each, the first of a serial last.
+/// Gives the constants the words that values are, one to each, the first of a serial last. Says whether all of them
+/// are words.
 fn put_all(
     alloc: Global,
     words: &mut Vec<Word>,
     changed: &mut HashSet<u64>,
     constants: &[Serial],
-    mut given: Vec<Word>,
-) -> Result<(), AllocError>
-    requires { length given.items ≡ length constants.now }
-    ensures words { OnOk result ((serial : ℕ) → word_at words.new.items serial
-        ≡ word_given constants.now given.items serial (word_at words.old.items serial)) }
-    ensures changes { OnOk result
-        (Changes words.old.items (marks_of changed.old) words.new.items (marks_of changed.new)) }
+    values: &[Value],
+) -> Result<bool, AllocError>
+    requires { length values.now ≡ length constants.now }
+    ensures known { IfOk result (λ known. known ≡ list_all is_word (map value_in values.now)) }
+    ensures words { IfOk result (λ known. known ≡ true → (serial : ℕ) → word_at words.new.items serial
+        ≡ word_given constants.now (texts_in values.now) serial (word_at words.old.items serial)) }
+    ensures changes { IfOk result (λ known. known ≡ true
+        → Changes words.old.items (marks_of changed.old) words.new.items (marks_of changed.new)) }
 {
-    while let Some(word) = given.pop() {
-        put(alloc, words, changed, constants[given.len()], word)?;
+    let mut place = values.len();
+    while place > 0 {
+        place -= 1;
+        if !put_value(alloc, words, changed, constants[place], &values[place])? {
+            return Ok(false);
+        }
     }
-    Ok(())
+    Ok(true)
 }
 
-/// Gives the live constants these words, one to each, and the empty word to those of before that are gone. Answers the
-/// serials whose word is another one now. Linear in the constants of both, and in the words that change. After want of
-/// memory the words may be any.
+/// Gives the live constants the words that values are, one to each, and the empty word to those of before that are
+/// gone. Answers the serials whose word is another one now, or none where a value is no word. Linear in the constants
+/// of both, and in the values; a word is made of each one that changes. Without an answer, and after want of memory,
+/// the words may be any.
 pub(crate) fn change(
     alloc: Global,
     words: &mut Vec<Word>,
     before: &[Serial],
     live: &[Serial],
-    given: Vec<Word>,
-) -> Result<HashSet<u64>, AllocError>
+    values: &[Value],
+) -> Result<Option<HashSet<u64>>, AllocError>
     requires empty { AreEmptyBut before.now words.old.items }
-    requires long { length given.items ≡ length live.now }
-    ensures words { OnOk result ((serial : ℕ) → word_at words.new.items serial
-        ≡ word_given live.now given.items serial []) }
-    ensures same { IfOk result (λ changed. AreSame words.old.items words.new.items (marks_of changed)) }
+    requires long { length values.now ≡ length live.now }
+    ensures none { IfOk result (λ found. IfNone found (words_of (map value_in values.now) ≡ None)) }
+    ensures some { IfOk result
+        (λ found. IfSome found (λ _. words_of (map value_in values.now) ≡ Some (texts_in values.now))) }
+    ensures words { IfOk result (λ found. IfSome found (λ _. (serial : ℕ) → word_at words.new.items serial
+        ≡ word_given live.now (texts_in values.now) serial [])) }
+    ensures same { IfOk result (λ found. IfSome found
+        (λ changed. AreSame words.old.items words.new.items (marks_of changed))) }
 {
     let mut changed = HashSet::new(alloc);
     let count = same_front(before, live);
     clear_behind(alloc, words, &mut changed, before, count)?;
-    put_all(alloc, words, &mut changed, live, given)?;
-    Ok(changed)
+    if !put_all(alloc, words, &mut changed, live, values)? {
+        return Ok(None);
+    }
+    Ok(Some(changed))
 }

@@ -13,12 +13,11 @@ ghost use Rattle.sb_fragment.specs.Rules.{is_decided};
 ghost use Rattle.sb_proof.specs.Lines.{value_in};
 ghost use Rattle.sb_stack.specs.Stacked.{Stacked, state_of};
 ghost use Rattle.sb_models.specs.Knowing.{Knows, IsTruthBy, assertions_of};
-ghost use Rattle.sb_models.specs.Tried.{marks_of, MayPass, AreAllTrue};
+ghost use Rattle.sb_models.specs.Tried.{words_of, marks_of, MayPass, AreTrueWords};
 ghost use Rattle.sb_models.specs.Laws.{AreTakenBack};
 
 use crate::changes::change;
 use crate::trying::{all_hold, fits};
-use crate::words::words_of;
 use sb_fragment::{Measures, fragment_is_of_each};
 use sb_plain::Plain;
 use sb_problem::Normals;
@@ -93,7 +92,8 @@ impl Models {
     /// Where each constant has the word that it had in the last model, and each one declared since has the empty word,
     /// only the assertions behind those that were true there are looked at. Else all are, and one that was true there
     /// and whose constant has the word that it had there is passed over in constant time. For each other one the cost
-    /// is that of [`sb_eval::eval`]. Linear in the values besides, and in the constants of the last model that are gone.
+    /// is that of [`sb_eval::eval`]. Linear in the values besides, and in the constants of the last model that are gone;
+    /// no memory is taken for a value that is the word of its constant in the last model.
     /// After values that are none of a model, and after want of memory, the next call looks at all assertions.
     /// `AllocError` only for want of memory.
     pub fn is_model(
@@ -119,17 +119,14 @@ impl Models {
         fragment_is_of_each();
         let _declared = stack.declared();
         let constants = stack.constants()?;
-        let Some(words) = words_of(alloc, values)? else {
-            return Ok(false);
-        };
-        if words.len() != constants.len() {
+        if values.len() != constants.len() {
             return Ok(false);
         }
-        self.hold_under(alloc, plain, normals, arena, stack, constants, words)
+        self.hold_under(alloc, plain, normals, arena, stack, constants, values)
     }
 
-    /// Whether all live assertions are true where the live constants have these words, one each. Where they are, the
-    /// words are kept.
+    /// Whether the values are words, and all live assertions are true where the live constants have them, one each.
+    /// Where they are, the words are kept.
     fn hold_under(
         &mut self,
         alloc: Global,
@@ -138,14 +135,15 @@ impl Models {
         arena: &mut Arena,
         stack: &Stack,
         constants: Vec<Serial>,
-        given: Vec<Word>,
+        values: &[Value],
     ) -> Result<bool, AllocError>
         requires knows { Knows self.old stack.now }
         requires decided { list_all is_decided (assertions_of stack.now) ≡ true }
-        requires long { length given.items ≡ length constants.items }
+        requires long { length values.now ≡ length constants.items }
         requires normals { AreNormals stack.now.table arena.old normals.old }
         requires right { IsRight arena.old plain.old }
-        ensures ok { IfOk result (AreAllTrue constants.items given.items (assertions_of stack.now)) }
+        ensures ok { IfOk result
+            (AreTrueWords constants.items (words_of (map value_in values.now)) (assertions_of stack.now)) }
         ensures knows { Knows self.new stack.now }
         ensures extends { Extends arena.old arena.new }
         ensures normals { AreNormals stack.now.table arena.new normals.new }
@@ -154,7 +152,9 @@ impl Models {
         let held = mem::replace(&mut self.held, 0);
         let before = mem::replace(&mut self.constants, Vec::new(alloc));
         let mut words = mem::replace(&mut self.words, Vec::new(alloc));
-        let changed = change(alloc, &mut words, &before, &constants, given)?;
+        let Some(changed) = change(alloc, &mut words, &before, &constants, values)? else {
+            return Ok(false);
+        };
         if !are_true(plain, normals, arena, stack, &words, &changed, held)? {
             return Ok(false);
         }

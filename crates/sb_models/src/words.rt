@@ -1,19 +1,18 @@
-//! Values as words.
+//! Numbers of values as words.
 
-ghost use Rattle.std.specs.Prelude.{◌≡◌, true, map, option_map, IfOk};
-ghost use Rattle.sb_proof.specs.Lines.{value_in};
+ghost use Rattle.std.specs.Prelude.{◌≡◌, true, option_map, IfOk};
 ghost use Rattle.sb_models.specs.Knowing.{word_at};
-ghost use Rattle.sb_models.specs.Tried.{word_of, words_of, word_in, are_codes};
+ghost use Rattle.sb_models.specs.Tried.{word_in, are_codes, IsWordOf};
 
-use sb_proof::Value;
 use sb_word::{CodesError, Word};
+use smallvec::SmallVec;
 use std::alloc::{AllocError, Global};
 
-/// The numbers, none where one of them is too large for a character.
-fn codes_in(alloc: Global, numbers: &[u64]) -> Result<Option<Vec<u32>>, AllocError>
+/// The numbers, none where one of them is too large for a character. Up to eight take no memory.
+fn codes_in(alloc: Global, numbers: &[u64]) -> Result<Option<SmallVec<u32, 8>>, AllocError>
     ensures { IfOk result (λ found. are_codes numbers.now (option_map (λ codes. codes.items) found)) }
 {
-    let mut codes = Vec::with_capacity(alloc, numbers.len())?;
+    let mut codes = SmallVec::new(alloc);
     for number in numbers {
         let Ok(code) = u32::try_from(*number) else {
             return Ok(None);
@@ -24,56 +23,47 @@ fn codes_in(alloc: Global, numbers: &[u64]) -> Result<Option<Vec<u32>>, AllocErr
 }
 
 /// The word of these numbers, none where one of them is no character.
-fn word_in(alloc: Global, numbers: &[u64]) -> Result<Option<Word>, AllocError>
+pub(crate) fn word_in(alloc: Global, numbers: &[u64]) -> Result<Option<Word>, AllocError>
     ensures { IfOk result (λ found. found ≡ word_in numbers.now) }
 {
     let Some(codes) = codes_in(alloc, numbers)? else {
         return Ok(None);
     };
-    match Word::from_codes(alloc, &codes) {
+    match Word::from_codes(alloc, codes.as_slice()) {
         Ok(word) => Ok(Some(word)),
         Err(CodesError::NotACharacter(_)) => Ok(None),
         Err(CodesError::NoMemory) => Err(AllocError),
     }
 }
 
-/// The word that a value is, if it is one.
-fn word_of(alloc: Global, value: &Value) -> Result<Option<Word>, AllocError>
-    ensures { IfOk result (λ found. found ≡ word_of (value_in value.now)) }
+/// Whether the characters are these numbers.
+fn are_equal(codes: &[u32], numbers: &[u64]) -> bool
+    ensures { result ≡ true → codes.now ≡ numbers.now }
 {
-    match value {
-        Value::Text(numbers) => word_in(alloc, numbers.as_slice()),
-        Value::Int(_) | Value::Truth(_) => Ok(None),
+    if codes.len() != numbers.len() {
+        return false;
     }
-}
-
-/// The words that values are, none where one of them is no word.
-pub(crate) fn words_of(alloc: Global, values: &[Value]) -> Result<Option<Vec<Word>>, AllocError>
-    ensures { IfOk result
-        (λ found. option_map (λ words. words.items) found ≡ words_of (map value_in values.now)) }
-{
-    let mut words = Vec::with_capacity(alloc, values.len())?;
-    for value in values {
-        let Some(word) = word_of(alloc, value)? else {
-            return Ok(None);
-        };
-        words.push(word)?;
+    for (place, code) in codes.iter().enumerate() {
+        if u64::from(*code) != numbers[place] {
+            return false;
+        }
     }
-    Ok(Some(words))
+    true
 }
 
-fn are_equal(one: &Word, other: &Word) -> bool
-    ensures { result ≡ true → one.now ≡ other.now }
+/// Whether the word is that of these numbers.
+fn is_word_of(word: &Word, numbers: &[u64]) -> bool
+    ensures { result ≡ true → IsWordOf word.now numbers.now }
 {
-    one.codes() == other.codes()
+    are_equal(word.codes(), numbers)
 }
 
-/// Whether the word is the one at the place, the empty one past the last.
-pub(crate) fn is_at(words: &[Word], place: usize, word: &Word) -> bool
-    ensures { result ≡ true → word_at words.now place ≡ word.now }
+/// Whether the word at the place, the empty one past the last, is that of these numbers.
+pub(crate) fn is_at(words: &[Word], place: usize, numbers: &[u64]) -> bool
+    ensures { result ≡ true → IsWordOf (word_at words.now place) numbers.now }
 {
     match words.get(place) {
-        Some(other) => are_equal(other, word),
-        None => word.codes().is_empty(),
+        Some(word) => is_word_of(word, numbers),
+        None => numbers.is_empty(),
     }
 }

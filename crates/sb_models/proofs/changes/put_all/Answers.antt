@@ -1,25 +1,39 @@
-use Rattle.std.proofs.Common.{◌≡◌, ◌<◌, length, arith}
-use Rattle.sb_models.specs.Tried.{marks_of}
-use Rattle.sb_models.proofs.WordFacts.{fewer, rest_more, no_items, rest_none, changes_both}
+use Rattle.std.proofs.Common.{◌≡◌, ◌<◌, ◌+◌, ◌-◌, length, take, sym, subst, ◌∙◌, arith}
+use Rattle.sb_models.specs.Tried.{marks_of, texts_in}
+use Rattle.sb_models.proofs.ValueFacts.{word_fails, words_next, AreWordsFrom}
+use Rattle.sb_models.proofs.WordFacts.{AreRest, rest_next, rest_none, changes_both, none_taken}
 use Rattle.sb_models.proofs.changes.put_all.Goals as goal
 
-pub loop-word-preserved : goal.loop-word-preserved
-loop-word-preserved c =
-    let less : length c.pop.new.self.items < length c.args.constants.now =
-    fewer c.loop-word.given.items c.pop.new.self.items c.in-Some.word (length c.args.constants.now)
-    c.in-Some.ensures.items c.loop-word.invariant.0 in
-    let place : c.len.result ≡ length c.pop.new.self.items = omega (arith, c.len.ensures, c.pop.new.self.ok.0) in (
-      omega (arith, less),
-      rest_more c.args.constants.now c.args.given.items c.args.words.now.items c.loop-word.given.items
-          c.pop.new.self.items c.loop-word.words.items c.put.new.words.items c.in-Some.word c.len.result _
-          c.in-Some.ensures.items c.loop-word.invariant.0 place c.in_ok-put.ensures.put
-          c.loop-word.invariant.1,
-      changes_both c.args.words.now.items c.loop-word.words.items c.put.new.words.items
-          (marks_of c.args.changed.now) (marks_of c.loop-word.changed) (marks_of c.put.new.changed)
-          c.loop-word.invariant.2 c.in_ok-put.ensures.changes,
+pub returns-then-not-branch-clause-known : goal.returns-then-not-branch-clause-known
+returns-then-not-branch-clause-known c =
+    sym (word_fails c.args.values.now (c.loop-place.place - 1) c.index-values-place.result
+    (omega (arith, c.loop-place-test.true, c.loop-place.invariant.0)) c.index-values-place.is
+    (sym c.in_ok-put_value.ensures.word ∙ c.if-not-branch.true))
+
+pub loop-place-preserved : goal.loop-place-preserved
+loop-place-preserved c =
+    let low : c.loop-place.place - 1 < length c.args.values.now =
+    omega (arith, c.loop-place-test.true, c.loop-place.invariant.0) in
+    let place : c.loop-place.place ≡ (c.loop-place.place - 1) + 1 = omega (arith, c.loop-place-test.true) in (
+      omega (arith, low),
+      words_next c.args.values.now (c.loop-place.place - 1) c.index-values-place.result low c.index-values-place.is
+          (sym c.in_ok-put_value.ensures.word ∙ c.if-not-branch.false)
+          (subst (AreWordsFrom c.args.values.now) place c.loop-place.invariant.1),
+      rest_next c.args.constants.now c.args.values.now c.args.words.now.items c.loop-place.words.items
+          c.put_value.new.words.items (c.loop-place.place - 1) _ c.index-values-place.result c.requires low
+          c.index-values-place.is
+          (c.in_ok-put_value.ensures.put c.if-not-branch.false)
+          (subst
+          (λ n. AreRest c.args.constants.now (texts_in c.args.values.now) c.args.words.now.items
+          (take n (texts_in c.args.values.now)) c.loop-place.words.items) place c.loop-place.invariant.2),
+      changes_both c.args.words.now.items c.loop-place.words.items c.put_value.new.words.items
+          (marks_of c.args.changed.now) (marks_of c.loop-place.changed) (marks_of c.put_value.new.changed)
+          c.loop-place.invariant.3 (c.in_ok-put_value.ensures.changes c.if-not-branch.false),
     )
 
 pub returns-clause-words : goal.returns-clause-words
-returns-clause-words c =
-    rest_none c.args.constants.now c.args.given.items c.args.words.now.items c.loop-word.given.items
-    c.loop-word.words.items (no_items c.loop-word.given c.in_default.ensures.cases.0) c.loop-word.invariant.1
+returns-clause-words c = λ _.
+    rest_none c.args.constants.now (texts_in c.args.values.now) c.args.words.now.items
+    (take c.loop-place.place (texts_in c.args.values.now)) c.loop-place.words.items
+    (none_taken c.loop-place.place (texts_in c.args.values.now) (omega (arith, c.loop-place-test.false)))
+    c.loop-place.invariant.2

@@ -1,24 +1,25 @@
-use Rattle.std.proofs.Common.{arith, map, None, refl, sym, ap, ◌∙◌}
+use Rattle.std.proofs.Common.{arith, map, sym, ap, ◌∙◌}
+use Rattle.std.proofs.lemmas.List.{length-map}
 use Rattle.std.specs.List.{list_all}
 use Rattle.sb_fragment.specs.Rules.{is_decided}
 use Rattle.sb_proof.specs.Lines.{value_in}
 use Rattle.sb_stack.specs.Stacked.{state_of}
 use Rattle.sb_stack.proofs.CallerLemmas.{live_laid}
-use Rattle.sb_models.proofs.Judging.{no_words, other_number, model_of}
+use Rattle.sb_models.proofs.Judging.{other_number, model_of}
 use Rattle.sb_models.proofs.models.Models.is_model.Goals as goal
 
-pub returns-in_default-clause-ok : goal.returns-in_default-clause-ok
-returns-in_default-clause-ok c =
-    no_words c.args.stack.now (map value_in c.args.values.now) None c.declared-declared.ensures.fit
-    (rw c.in_default.is at c.in_ok-words.ensures) refl
-
-pub returns-then-len-clause-ok : goal.returns-then-len-clause-ok
-returns-then-len-clause-ok c =
-    other_number c.args.stack.now (map value_in c.args.values.now) c.in-Some.words.items
-    c.in_ok-constants.constants.items c.declared-declared.ensures.fit c.in_ok-constants.ensures
-    (rw c.in-Some.is at c.in_ok-words.ensures)
-    (λ same. c.if-len.true
-    (omega (arith, c.len.ensures, c.len-2.ensures, same, c.in-Some.words.ok.0, c.in_ok-constants.constants.ok.0)))
+pub returns-then-values-len-clause-ok : goal.returns-then-values-len-clause-ok
+returns-then-values-len-clause-ok c =
+    other_number c.args.stack.now (map value_in c.args.values.now) c.in_ok-constants.constants.items
+    c.declared-declared.ensures.fit c.in_ok-constants.ensures
+    (λ same. c.if-values-len.true
+    (omega (
+      arith,
+      c.len.ensures,
+      same,
+      length-map c.args.values.now value_in,
+      c.in_ok-constants.constants.ok.0,
+    )))
 
 pub hold_under-requires-clause-decided : goal.hold_under-requires-clause-decided
 hold_under-requires-clause-decided c =
@@ -27,25 +28,16 @@ hold_under-requires-clause-decided c =
 
 pub hold_under-requires-clause-long : goal.hold_under-requires-clause-long
 hold_under-requires-clause-long c =
-    omega (
-      arith,
-      c.len.ensures,
-      c.len-2.ensures,
-      c.if-len.false,
-      c.in-Some.words.ok.0,
-      c.in_ok-constants.constants.ok.0,
-    )
+    omega (arith, c.len.ensures, c.if-values-len.false, c.in_ok-constants.constants.ok.0)
 
 pub returns-clause-ok : goal.returns-clause-ok
 returns-clause-ok c =
-    model_of c.hold_under.result c.args.stack.now (map value_in c.args.values.now) c.in-Some.words.items
-    c.in_ok-constants.constants.items c.declared-declared.ensures.fit c.in_ok-constants.ensures
-    (rw c.in-Some.is at c.in_ok-words.ensures)
+    model_of c.hold_under.result c.args.stack.now (map value_in c.args.values.now) c.in_ok-constants.constants.items
+    c.declared-declared.ensures.fit c.in_ok-constants.ensures
     (omega (
       arith,
       c.len.ensures,
-      c.len-2.ensures,
-      c.if-len.false,
-      c.in-Some.words.ok.0,
+      c.if-values-len.false,
+      length-map c.args.values.now value_in,
       c.in_ok-constants.constants.ok.0,
     )) c.hold_under.ensures.ok

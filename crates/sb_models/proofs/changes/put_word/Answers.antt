@@ -1,6 +1,6 @@
 use Rattle.sb_models.specs.Tried.{marks_of}
 use Rattle.sb_models.proofs.WordFacts.{put_in, changes_one}
-use Rattle.sb_models.proofs.changes.put.Goals as goal
+use Rattle.sb_models.proofs.changes.put_word.Goals as goal
 
 pub returns-clause-changes : goal.returns-clause-changes
 returns-clause-changes c =
