@@ -1,6 +1,6 @@
 //! Words and their literals.
 
-use sb_word::{CodesError, Word, print_literal};
+use sb_word::{CodesError, LiteralError, Word, print_literal, read_character, read_literal};
 use std::alloc::Global;
 use std::process::Abort;
 use std::test::Fail;
@@ -42,4 +42,74 @@ fn numbers_above_the_last_character_give_no_word(rt: HostRuntime) {
     assert_eq!(rt; alone, Some(CodesError::NotACharacter(0)));
     let third = Word::from_codes(rt.alloc(), &[97, 0x2ffff, 0x30000, 0x40000]).err();
     assert_eq!(rt; third, Some(CodesError::NotACharacter(2)));
+}
+
+/// Bytes between the quotes of a literal, and the characters of its word.
+const READ: [(&'static [u8], &'static [u32]); 16] = [
+    (b"", &[]),
+    (b"~ a", &[0x7e, 32, 97]),
+    (b"a\"\"b\"\"", &[97, 34, 98, 34]),
+    (b"\\u{61}\\u0062", &[97, 98]),
+    (b"\\uABcd\\u{a}", &[0xabcd, 10]),
+    (b"\\u{2fFfF}", &[0x2ffff]),
+    (b"\\u{00000}", &[0]),
+    (b"\\u{30000}", &[92, 117, 123, 51, 48, 48, 48, 48, 125]),
+    (b"\\u{}", &[92, 117, 123, 125]),
+    (b"\\u{000061}", &[92, 117, 123, 48, 48, 48, 48, 54, 49, 125]),
+    (b"\\u{12", &[92, 117, 123, 49, 50]),
+    (b"\\u{6g}", &[92, 117, 123, 54, 103, 125]),
+    (b"\\u006", &[92, 117, 48, 48, 54]),
+    (b"\\u{\\u{61}", &[92, 117, 123, 97]),
+    (b"\\\\u0061", &[92, 97]),
+    (b"\\n\\", &[92, 110, 92]),
+];
+
+/// Bytes that are no literal, and the place of the first one that no literal holds.
+const BAD: [(&'static [u8], usize); 8] = [
+    (b"\n", 0),
+    (b"a\x7f\x80", 1),
+    (b"\"", 0),
+    (b"\"\"\"", 2),
+    (b"ab\"c\"", 2),
+    (b"\\u0061\x1f", 6),
+    (b"\\u{61\n}", 5),
+    (b"\\u00\xff", 4),
+];
+
+/// Expects the bytes to be the literal of the word of these characters.
+fn expect_word(
+    rt: &impl Abort,
+    alloc: Global,
+    bytes: &[u8],
+    codes: &[u32],
+) -> Result<(), LiteralError> {
+    let word = read_literal(alloc, bytes)?;
+    assert_eq!(rt; word.codes(), codes);
+    Ok(())
+}
+
+#[test]
+fn literals_are_read(rt: HostRuntime) -> Result<(), Fail> {
+    for (bytes, codes) in READ {
+        expect_word(&rt, rt.alloc(), bytes, codes)?;
+    }
+    Ok(())
+}
+
+#[test]
+fn bytes_that_no_literal_holds_are_named(rt: HostRuntime) {
+    for (bytes, place) in BAD {
+        let error = read_literal(rt.alloc(), bytes).err();
+        assert_eq!(rt; error, Some(LiteralError::BadByte(place)));
+    }
+}
+
+#[test]
+fn a_character_has_one_to_five_digits(rt: HostRuntime) {
+    assert_eq!(rt; read_character(b"2ffff"), Some(0x2ffff));
+    assert_eq!(rt; read_character(b"0000A"), Some(10));
+    assert_eq!(rt; read_character(b"30000"), None);
+    assert_eq!(rt; read_character(b""), None);
+    assert_eq!(rt; read_character(b"000061"), None);
+    assert_eq!(rt; read_character(b"g"), None);
 }
