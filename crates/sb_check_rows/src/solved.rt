@@ -107,6 +107,25 @@ const LEVELS: [Case; 6] = [
     ),
 ];
 
+/// Scripts with escapes and characters by their numbers.
+const LITERALS: [Case; 3] = [
+    (
+        b"(declare-const x String)(assert (str.in_re x (str.to_re \"\\u{61}\\u0062\\u{30000}\")))(check-sat)\
+          (assert (str.in_re x (re.+ (re.range \"a\" \"\\\"))))(check-sat)",
+        b"check 1: sat\ncheck 2: unsat\naccepted\n",
+    ),
+    (
+        b"(declare-const x String)(assert (str.in_re x (re.range \"\\u{2ffff}\" \"\\u{2ffff}\")))(check-sat)\
+          (assert (str.in_re x (re.* (re.range (_ char #x0) (_ char #x2fffe)))))(check-sat)",
+        b"check 1: sat\ncheck 2: unsat\naccepted\n",
+    ),
+    (
+        b"(declare-const char String)(assert (str.in_re char (str.to_re (_ char #x61))))\
+          (assert (str.in_re char (str.to_re \"\\u{62}\")))(check-sat)",
+        b"check 1: sat\naccepted\n",
+    ),
+];
+
 /// Scripts that end within a form are checked up to there.
 const UNFINISHED: [Case; 2] = [
     (b"(check-sat)(check-sat", b"check 1: sat\naccepted\n"),
@@ -152,6 +171,9 @@ fn proofs_that_the_solver_wrote_are_accepted(rt: HostRuntime) -> Result<(), Fail
         expect_case(&rt, rt.alloc(), case, SolveStatus::Done)?;
     }
     for case in LEVELS {
+        expect_case(&rt, rt.alloc(), case, SolveStatus::Done)?;
+    }
+    for case in LITERALS {
         expect_case(&rt, rt.alloc(), case, SolveStatus::Done)?;
     }
     for case in UNFINISHED {

@@ -7,7 +7,7 @@ use std::alloc::{AllocError, Global};
 use std::process::Abort;
 use std::test::Fail;
 
-const CASES: [Case; 18] = [
+const CASES: [Case; 17] = [
     // nothing
     (b"", b""),
     // success is printed, and the logic may be QF_S
@@ -102,12 +102,6 @@ const CASES: [Case; 18] = [
         b"(set-option :print-success false)(set-logic QF_SLIA)(declare-const n Int)(assert n)(declare-const n String)\
           (check-sat)",
         b"unsupported\nunsupported\n(error \"already declared n\")\nunsupported\n",
-    ),
-    // a literal that may have an escape is left out
-    (
-        b"(set-option :print-success false)(set-logic QF_SLIA)(declare-const x String)\
-          (assert (str.in_re x (re.range \"\\u{61}\" \"b\")))(check-sat)",
-        b"unsupported\nunsupported\n",
     ),
     // the membership of a word, and a constant within a range, are outside
     (

@@ -16,6 +16,8 @@ mod errors;
 #[cfg(test)]
 mod faults;
 #[cfg(test)]
+mod literals;
+#[cfg(test)]
 mod pieces;
 #[cfg(test)]
 mod proofs;

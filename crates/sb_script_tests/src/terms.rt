@@ -13,7 +13,7 @@ use std::test::Fail;
 /// Forms, and what they are read as into an empty table, where x, y and let are constants and m is marked: the table's
 /// terms in the order of their numbers, `#` before a serial and `'` before a word, and the number of the form's term;
 /// or a fault behind `!`.
-const FORMS: [(&[u8], &str); 56] = [
+const FORMS: [(&[u8], &str); 63] = [
     (
         b"(str.in_re x (re.+ (re.range \"a\" \"b\")))",
         "#0; 'a; 'b; (range 1 2); (plus 3); (in 0 4); 5",
@@ -67,8 +67,14 @@ const FORMS: [(&[u8], &str); 56] = [
     (b"(_ x 2)", "!index"),
     (b"(_ re.+ 2)", "!index"),
     (b"((_ re.+ 2) w)", "!index"),
-    (b"(_ char #x61)", "!unsupported"),
-    (b"(_ |char| #x61)", "!unsupported"),
+    (b"(_ char #x61)", "'a; 0"),
+    (b"(_ |char| #x00062)", "'b; 0"),
+    (b"(_ char #x30000)", "!index"),
+    (b"(_ char #x000061)", "!index"),
+    (b"(_ char 61)", "!index"),
+    (b"(_ char #x61 #x62)", "!index"),
+    (b"((_ char #x61) x)", "!count"),
+    (b"char", "!unknown char"),
     (b"(_ w #x61)", "!unknown w"),
     (b"(_ let 1)", "!malformed"),
     (b"(_ x)", "!malformed"),
@@ -79,7 +85,8 @@ const FORMS: [(&[u8], &str); 56] = [
     (b":named", "!malformed"),
     (b"12", "!unsupported"),
     (b"\"x\"\"y\"", "'x\"y; 0"),
-    (b"(re.range \"\\u{61}\" \"b\")", "!unsupported"),
+    (b"(re.range \"\\u{61}\" \"b\")", "'a; 'b; (range 0 1); 2"),
+    (b"\"\\u0062\\u{30000}\"", "'b\\u{30000}; 0"),
     (b"\"\\\x80\"", "!literal"),
     (b"(\"a\" x)", "!malformed"),
 ];
