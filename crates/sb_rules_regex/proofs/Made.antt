@@ -4,7 +4,7 @@ use Rattle.std.proofs.lemmas.List.Elements.{All-cons, All-nil}
 use Rattle.std.proofs.lemmas.Bool.{true≢false}
 use Rattle.sb_lang.specs.Regex.{Regex, cat, alt, and, neg, star, rep, path, regexes}
 use Rattle.sb_lang.specs.OrderLaws.{OrderTellsApart}
-use Rattle.sb_lang.specs.Constructors.{mkcat, mkalt, mkand, mknot, mkstar}
+use Rattle.sb_lang.specs.Constructors.{mkcat, mkalt, mkand, mknot, mkstar, mkrep}
 use Rattle.sb_lang.specs.NormalForm.{is_normal}
 use Rattle.sb_regex.specs.Numbered.{regex_at, regexes_at, AllNumbers, AreDistinct, Extends, Names}
 use Rattle.sb_regex.specs.Nodes.{node_regex, PartsBelow}
@@ -17,12 +17,12 @@ use Rattle.sb_rulebook.specs.Brought.{is_brought_node}
 use Rattle.sb_proof.specs.Lines.{node_in}
 use Rattle.sb_proof.specs.declared.line.Node as lines
 use Rattle.sb_proof.specs.declared.line.Node.TheVariants as line
-use Rattle.sb_rules_regex.specs.Making.{is_cat_node, is_cat_of, is_alt_of, is_and_of, is_not_of, is_star_of, AreSeveral, IsMade, early_refusal}
+use Rattle.sb_rules_regex.specs.Making.{is_cat_node, is_cat_of, is_alt_of, is_and_of, is_not_of, is_star_of, is_rep_of, AreSeveral, IsMade, early_refusal}
 use Rattle.sb_rules_regex.specs.declared.fault.Fault.{Fault}
 use Rattle.sb_rules_regex.specs.declared.fault.Fault.TheVariants as fault
 use Rattle.sb_rules_regex.proofs.CallerLemmas.{known_number}
 use Rattle.sb_rules_regex.proofs.Judged.{named-at, several-at}
-use Rattle.sb_rules_regex.proofs.Shapes.{node-is-alt, node-is-and, node-is-cat, node-is-not, node-is-star, alt-of-node, and-of-node, cat-of-node, not-of-node, star-of-node, cat-node, cat-of-cat, cat-differs, not-differs, star-differs, alt-differs, and-differs}
+use Rattle.sb_rules_regex.proofs.Shapes.{node-is-alt, node-is-and, node-is-cat, node-is-not, node-is-star, node-is-rep, alt-of-node, and-of-node, cat-of-node, not-of-node, star-of-node, rep-of-node, cat-node, cat-of-cat, cat-differs, not-differs, star-differs, rep-differs, alt-differs, and-differs}
 
 -- the first part is a concatenation
 pub cat-first-cat : (rs : List Regex) (a b : ℕ) (d : Node) → OrderTellsApart → node_regex rs d ≡ regex_at rs a
@@ -74,6 +74,21 @@ module _ (old new : List Regex) (id : ℕ) (d : Node) (apart : OrderTellsApart) 
         star-differs apart (regex_at old a)
         (λ e. true≢false (sym (node-is-star new id once (names_below new id _ is) a d (number_kept old new a grew la)
         low (value ∙ names_at new id _ is ∙ e ∙ sym (ap star (at_kept old new a grew la)))) ∙ h))
+
+    module _ (n m : ℕ) where
+      pub rep-some : Names new id (mkrep (regex_at old a) n m) → is_rep_of a n m d ≡ true
+          → Names new id (rep (regex_at old a) n m)
+      rep-some is h =
+          names_from new id _ (names_below new id _ is)
+          (sym value ∙ rep-of-node new a n m d h ∙ ap (λ r. rep r n m) (at_kept old new a grew la))
+
+      pub rep-none : Names new id (mkrep (regex_at old a) n m) → is_rep_of a n m d ≡ false
+          → is_normal (rep (regex_at old a) n m) ≡ false
+      rep-none is h =
+          rep-differs apart (regex_at old a) n m
+          (λ e. true≢false (sym (node-is-rep new id once (names_below new id _ is) a n m d
+          (number_kept old new a grew la) low
+          (value ∙ names_at new id _ is ∙ e ∙ sym (ap (λ r. rep r n m) (at_kept old new a grew la)))) ∙ h))
 
   module _ (ids : List ℕ) (all : AllNumbers old ids) where
     pub alt-some : Names new id (mkalt (regexes_at old ids)) → is_alt_of ids d ≡ true
@@ -166,11 +181,6 @@ module _ (rs : List Regex) (order : List ℕ) where
   module _ (d : lines.Node) (result : Result (Option ℕ) Fault) where
     abbrev Refused : lines.Node → Type 0
     Refused n = IsMade rs (is_brought_node (node_in n)) (regex_of_node (regexes_at rs order) (node_in n)) result
-
-    pub rep-refused : (a n m : ℕ) → d ≡ line.Rep a n m
-        → ((ss : List Regex) (make : Regex → Regex) → IsMade ss false (of_one (regexes_at ss order) make a) result)
-        → Refused d
-    rep-refused a n m is h = subst Refused (sym is) (h rs (λ r. rep r n m))
 
     pub path-refused : (a b : ℕ) → d ≡ line.Path a b
         → ((ss : List Regex) (make : Regex → Regex → Regex)

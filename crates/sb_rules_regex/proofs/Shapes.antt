@@ -8,7 +8,7 @@ use Rattle.sb_class.specs.Ranges.{Range, rises_from}
 use Rattle.sb_lang.specs.Regex.{Regex, none, eps, set, cat, alt, and, neg, star, rep, path, regexes, parts}
 use Rattle.sb_lang.specs.Order.{code, regex_eq}
 use Rattle.sb_lang.specs.OrderLaws.{OrderTellsApart}
-use Rattle.sb_lang.specs.Constructors.{mkset, mkcat, mkalt, mkand, mknot, mkstar}
+use Rattle.sb_lang.specs.Constructors.{mkset, mkcat, mkalt, mkand, mknot, mkstar, mkrep}
 use Rattle.sb_lang.specs.NormalForm.{is_normal, all_normal}
 use Rattle.sb_lang.proofs.CallerLemmas.{parts-regexes, alt_parts, and_parts_of}
 use Rattle.sb_regex.specs.Numbered.{regex_at, regexes_at, AllNumbers, AreDistinct}
@@ -16,7 +16,7 @@ use Rattle.sb_regex.specs.Nodes.{node_regex, PartsBelow}
 use Rattle.sb_regex.specs.declared.node.Node.{Node}
 use Rattle.sb_regex.specs.declared.node.Node.TheVariants as node
 use Rattle.sb_rulebook.proofs.CallerLemmas.{same_regex}
-use Rattle.sb_rules_regex.specs.Making.{is_cat_node, is_cat_of, is_alt_of, is_and_of, is_not_of, is_star_of}
+use Rattle.sb_rules_regex.specs.Making.{is_cat_node, is_cat_of, is_alt_of, is_and_of, is_not_of, is_star_of, is_rep_of}
 
 -- Tests that fail.
 
@@ -103,6 +103,15 @@ neg-part a b h = cc
 star-part : (a b : Regex) → star a ≡ star b → a ≡ b
 star-part a b h = cc
 
+rep-part : (a b : Regex) (k l n m : ℕ) → rep a k l ≡ rep b n m → a ≡ b
+rep-part a b k l n m h = cc
+
+rep-least : (a b : Regex) (k l n m : ℕ) → rep a k l ≡ rep b n m → k ≡ n
+rep-least a b k l n m h = cc
+
+rep-most : (a b : Regex) (k l n m : ℕ) → rep a k l ≡ rep b n m → l ≡ m
+rep-most a b k l n m h = cc
+
 -- A node whose regex is a union has the numbers of its members, and so on.
 
 module _ (rs : List Regex) (id : ℕ) (once : AreDistinct rs) (below : id < length rs) where
@@ -119,6 +128,7 @@ module _ (rs : List Regex) (id : ℕ) (once : AreDistinct rs) (below : id < leng
   node-is-alt ids (node.And ps) all low h = absurd (cc)
   node-is-alt ids (node.Not a) all low h = absurd (cc)
   node-is-alt ids (node.Star a) all low h = absurd (cc)
+  node-is-alt ids (node.Rep a n m) all low h = absurd (cc)
 
   pub node-is-and : (ids : List ℕ) (d : Node) → AllNumbers rs ids → PartsBelow id d
       → node_regex rs d ≡ and (regexes (regexes_at rs ids)) → is_and_of ids d ≡ true
@@ -133,6 +143,7 @@ module _ (rs : List Regex) (id : ℕ) (once : AreDistinct rs) (below : id < leng
   node-is-and ids (node.Alt ps) all low h = absurd (cc)
   node-is-and ids (node.Not a) all low h = absurd (cc)
   node-is-and ids (node.Star a) all low h = absurd (cc)
+  node-is-and ids (node.Rep a n m) all low h = absurd (cc)
 
   pub node-is-cat : (a b : ℕ) (d : Node) → a < length rs → b < length rs → PartsBelow id d
       → node_regex rs d ≡ cat (regex_at rs a) (regex_at rs b) → is_cat_of a b d ≡ true
@@ -147,6 +158,7 @@ module _ (rs : List Regex) (id : ℕ) (once : AreDistinct rs) (below : id < leng
   node-is-cat a b (node.And ps) p q low h = absurd (cc)
   node-is-cat a b (node.Not c) p q low h = absurd (cc)
   node-is-cat a b (node.Star c) p q low h = absurd (cc)
+  node-is-cat a b (node.Rep c n m) p q low h = absurd (cc)
 
   pub node-is-not : (a : ℕ) (d : Node) → a < length rs → PartsBelow id d
       → node_regex rs d ≡ neg (regex_at rs a) → is_not_of a d ≡ true
@@ -160,6 +172,7 @@ module _ (rs : List Regex) (id : ℕ) (once : AreDistinct rs) (below : id < leng
   node-is-not a (node.Alt ps) p low h = absurd (cc)
   node-is-not a (node.And ps) p low h = absurd (cc)
   node-is-not a (node.Star b) p low h = absurd (cc)
+  node-is-not a (node.Rep b n m) p low h = absurd (cc)
 
   pub node-is-star : (a : ℕ) (d : Node) → a < length rs → PartsBelow id d
       → node_regex rs d ≡ star (regex_at rs a) → is_star_of a d ≡ true
@@ -173,6 +186,22 @@ module _ (rs : List Regex) (id : ℕ) (once : AreDistinct rs) (below : id < leng
   node-is-star a (node.Alt ps) p low h = absurd (cc)
   node-is-star a (node.And ps) p low h = absurd (cc)
   node-is-star a (node.Not b) p low h = absurd (cc)
+  node-is-star a (node.Rep b n m) p low h = absurd (cc)
+
+  pub node-is-rep : (a n m : ℕ) (d : Node) → a < length rs → PartsBelow id d
+      → node_regex rs d ≡ rep (regex_at rs a) n m → is_rep_of a n m d ≡ true
+  node-is-rep a n m (node.Rep x k l) p low h =
+      let all = parts-numbers rs id (x ∷ []) below low in
+      ap₂ ◌&&◌ (same-nat x a (once x a (all 0 0 (omega arith)) p (rep-part _ _ k l n m h)))
+      (ap₂ ◌&&◌ (same-nat k n (rep-least _ _ k l n m h)) (same-nat l m (rep-most _ _ k l n m h)))
+  node-is-rep a n m node.None p low h = absurd (cc)
+  node-is-rep a n m node.Eps p low h = absurd (cc)
+  node-is-rep a n m (node.Set ranges) p low h = absurd (cc)
+  node-is-rep a n m (node.Cat b c) p low h = absurd (cc)
+  node-is-rep a n m (node.Alt ps) p low h = absurd (cc)
+  node-is-rep a n m (node.And ps) p low h = absurd (cc)
+  node-is-rep a n m (node.Not b) p low h = absurd (cc)
+  node-is-rep a n m (node.Star b) p low h = absurd (cc)
 
 -- And the other way round.
 
@@ -186,6 +215,7 @@ alt-of-node rs ids (node.Cat a b) h = absurd (false≢true h)
 alt-of-node rs ids (node.And ps) h = absurd (false≢true h)
 alt-of-node rs ids (node.Not a) h = absurd (false≢true h)
 alt-of-node rs ids (node.Star a) h = absurd (false≢true h)
+alt-of-node rs ids (node.Rep a n m) h = absurd (false≢true h)
 
 pub and-of-node : (rs : List Regex) (ids : List ℕ) (d : Node) → is_and_of ids d ≡ true
     → node_regex rs d ≡ and (regexes (regexes_at rs ids))
@@ -197,6 +227,7 @@ and-of-node rs ids (node.Cat a b) h = absurd (false≢true h)
 and-of-node rs ids (node.Alt ps) h = absurd (false≢true h)
 and-of-node rs ids (node.Not a) h = absurd (false≢true h)
 and-of-node rs ids (node.Star a) h = absurd (false≢true h)
+and-of-node rs ids (node.Rep a n m) h = absurd (false≢true h)
 
 pub cat-of-node : (rs : List Regex) (a b : ℕ) (d : Node) → is_cat_of a b d ≡ true
     → node_regex rs d ≡ cat (regex_at rs a) (regex_at rs b)
@@ -210,6 +241,7 @@ cat-of-node rs a b (node.Alt ps) h = absurd (false≢true h)
 cat-of-node rs a b (node.And ps) h = absurd (false≢true h)
 cat-of-node rs a b (node.Not c) h = absurd (false≢true h)
 cat-of-node rs a b (node.Star c) h = absurd (false≢true h)
+cat-of-node rs a b (node.Rep c n m) h = absurd (false≢true h)
 
 pub not-of-node : (rs : List Regex) (a : ℕ) (d : Node) → is_not_of a d ≡ true → node_regex rs d ≡ neg (regex_at rs a)
 not-of-node rs a (node.Not x) h = ap (λ i. neg (regex_at rs i)) (nat-same x a h)
@@ -220,6 +252,7 @@ not-of-node rs a (node.Cat b c) h = absurd (false≢true h)
 not-of-node rs a (node.Alt ps) h = absurd (false≢true h)
 not-of-node rs a (node.And ps) h = absurd (false≢true h)
 not-of-node rs a (node.Star b) h = absurd (false≢true h)
+not-of-node rs a (node.Rep b n m) h = absurd (false≢true h)
 
 pub star-of-node : (rs : List Regex) (a : ℕ) (d : Node) → is_star_of a d ≡ true
     → node_regex rs d ≡ star (regex_at rs a)
@@ -231,6 +264,23 @@ star-of-node rs a (node.Cat b c) h = absurd (false≢true h)
 star-of-node rs a (node.Alt ps) h = absurd (false≢true h)
 star-of-node rs a (node.And ps) h = absurd (false≢true h)
 star-of-node rs a (node.Not b) h = absurd (false≢true h)
+star-of-node rs a (node.Rep b n m) h = absurd (false≢true h)
+
+pub rep-of-node : (rs : List Regex) (a n m : ℕ) (d : Node) → is_rep_of a n m d ≡ true
+    → node_regex rs d ≡ rep (regex_at rs a) n m
+rep-of-node rs a n m (node.Rep x k l) h =
+    let p = and_parts (nat_eq x a) (nat_eq k n && nat_eq l m) h in
+    let q = and_parts (nat_eq k n) (nat_eq l m) p.1 in
+    ap₂ (λ i j. rep (regex_at rs i) j l) (nat-same x a p.0) (nat-same k n q.0)
+    ∙ ap (rep (regex_at rs a) n) (nat-same l m q.1)
+rep-of-node rs a n m node.None h = absurd (false≢true h)
+rep-of-node rs a n m node.Eps h = absurd (false≢true h)
+rep-of-node rs a n m (node.Set ranges) h = absurd (false≢true h)
+rep-of-node rs a n m (node.Cat b c) h = absurd (false≢true h)
+rep-of-node rs a n m (node.Alt ps) h = absurd (false≢true h)
+rep-of-node rs a n m (node.And ps) h = absurd (false≢true h)
+rep-of-node rs a n m (node.Not b) h = absurd (false≢true h)
+rep-of-node rs a n m (node.Star b) h = absurd (false≢true h)
 
 -- a node that is none of a concatenation
 pub cat-node : (rs : List Regex) (d : Node) → is_cat_node d ≡ true
@@ -243,6 +293,7 @@ cat-node rs (node.Alt ps) h = absurd (false≢true h)
 cat-node rs (node.And ps) h = absurd (false≢true h)
 cat-node rs (node.Not b) h = absurd (false≢true h)
 cat-node rs (node.Star b) h = absurd (false≢true h)
+cat-node rs (node.Rep b n m) h = absurd (false≢true h)
 
 -- Not normal.
 
@@ -284,6 +335,10 @@ module _ (apart : OrderTellsApart) where
   pub star-differs : (a : Regex) → (mkstar a ≡ star a → ⊥) → is_normal (star a) ≡ false
   unfolding is_normal
   star-differs a h = and-false (is_normal a) (regex_eq (mkstar a) (star a)) (other-regex apart _ _ h)
+
+  pub rep-differs : (a : Regex) (n m : ℕ) → (mkrep a n m ≡ rep a n m → ⊥) → is_normal (rep a n m) ≡ false
+  unfolding is_normal
+  rep-differs a n m h = and-false (is_normal a) (regex_eq (mkrep a n m) (rep a n m)) (other-regex apart _ _ h)
 
   pub alt-differs : (rs : List Regex) → (mkalt rs ≡ alt (regexes rs) → ⊥) → is_normal (alt (regexes rs)) ≡ false
   unfolding is_normal

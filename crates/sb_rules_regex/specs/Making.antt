@@ -36,6 +36,7 @@ is_cat_node (node.Alt ps) = false
 is_cat_node (node.And ps) = false
 is_cat_node (node.Not a) = false
 is_cat_node (node.Star a) = false
+is_cat_node (node.Rep r n m) = false
 
 abbrev pub is_cat_of : ℕ → ℕ → Node → Bool
 is_cat_of a b (node.Cat first second) = nat_eq first a && nat_eq second b
@@ -46,6 +47,7 @@ is_cat_of a b (node.Alt ps) = false
 is_cat_of a b (node.And ps) = false
 is_cat_of a b (node.Not c) = false
 is_cat_of a b (node.Star c) = false
+is_cat_of a b (node.Rep r n m) = false
 
 abbrev pub is_alt_of : List ℕ → Node → Bool
 is_alt_of ids (node.Alt ps) = pointwise nat_eq ps.items ids
@@ -56,6 +58,7 @@ is_alt_of ids (node.Cat a b) = false
 is_alt_of ids (node.And ps) = false
 is_alt_of ids (node.Not a) = false
 is_alt_of ids (node.Star a) = false
+is_alt_of ids (node.Rep r n m) = false
 
 abbrev pub is_and_of : List ℕ → Node → Bool
 is_and_of ids (node.And ps) = pointwise nat_eq ps.items ids
@@ -66,6 +69,7 @@ is_and_of ids (node.Cat a b) = false
 is_and_of ids (node.Alt ps) = false
 is_and_of ids (node.Not a) = false
 is_and_of ids (node.Star a) = false
+is_and_of ids (node.Rep r n m) = false
 
 abbrev pub is_not_of : ℕ → Node → Bool
 is_not_of a (node.Not part) = nat_eq part a
@@ -76,6 +80,7 @@ is_not_of a (node.Cat b c) = false
 is_not_of a (node.Alt ps) = false
 is_not_of a (node.And ps) = false
 is_not_of a (node.Star b) = false
+is_not_of a (node.Rep r n m) = false
 
 abbrev pub is_star_of : ℕ → Node → Bool
 is_star_of a (node.Star part) = nat_eq part a
@@ -86,6 +91,18 @@ is_star_of a (node.Cat b c) = false
 is_star_of a (node.Alt ps) = false
 is_star_of a (node.And ps) = false
 is_star_of a (node.Not b) = false
+is_star_of a (node.Rep r n m) = false
+
+abbrev pub is_rep_of : ℕ → ℕ → ℕ → Node → Bool
+is_rep_of a n m (node.Rep part least most) = nat_eq part a && (nat_eq least n && nat_eq most m)
+is_rep_of a n m node.None = false
+is_rep_of a n m node.Eps = false
+is_rep_of a n m (node.Set ranges) = false
+is_rep_of a n m (node.Cat b c) = false
+is_rep_of a n m (node.Alt ps) = false
+is_rep_of a n m (node.And ps) = false
+is_rep_of a n m (node.Not b) = false
+is_rep_of a n m (node.Star b) = false
 
 -- what is found of a number of the proof
 abbrev pub IsOne : Option ℕ → Result ℕ Fault → Type 0

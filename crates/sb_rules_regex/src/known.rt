@@ -6,9 +6,9 @@ ghost use Rattle.sb_lang.specs.Regex.{Regex};
 ghost use Rattle.sb_rulebook.specs.Parts.{together};
 ghost use Rattle.sb_regex.specs.Numbered.{regex_at, regexes_at, AllNumbers, Extends};
 ghost use Rattle.sb_rulebook.specs.Kept.{AllKept, Asked, marked, targets_in};
-ghost use Rattle.sb_rulebook.specs.Lines.{regex_line, dead_line, set_node, cat_node, alt_node, and_node, not_node, star_node};
+ghost use Rattle.sb_rulebook.specs.Lines.{regex_line, dead_line, set_node, cat_node, alt_node, and_node, not_node, star_node, rep_node};
 ghost use Rattle.sb_rulebook.specs.Brought.{is_brought_node};
-ghost use Rattle.sb_rulebook.specs.RegexRules.{of_one, of_two, regex_of_node};
+ghost use Rattle.sb_rulebook.specs.RegexRules.{of_two, regex_of_node};
 ghost use Rattle.sb_rulebook.specs.Follows.{follows};
 ghost use Rattle.sb_rulebook.specs.Splits.{is_dead_regex};
 ghost use Rattle.sb_proof.specs.Lines.{node_in};
@@ -18,7 +18,7 @@ ghost use Rattle.sb_rules_regex.specs.Burying.{AreMembers, has_dead, is_dead_by,
 ghost use Rattle.sb_rules_regex.specs.Making.{IsOne, AreSeveral, IsMade, IsAdded};
 
 use crate::fault::{Fault, Refusal};
-use crate::normal::{alt, and, cat, not, set, star};
+use crate::normal::{alt, and, cat, not, rep, set, star};
 use indexmap::IndexSet;
 use sb_lang::order::order_tells_apart;
 use sb_proof::Node;
@@ -301,7 +301,7 @@ impl KnownRegexes {
             Node::And(numbers) => self.made_and(arena, numbers),
             Node::Not(a) => self.made_not(arena, *a),
             Node::Star(a) => self.made_star(arena, *a),
-            Node::Rep(a, _, _) => self.refused_one(*a),
+            Node::Rep(a, least, most) => self.made_rep(arena, *a, *least, *most),
             Node::Path(a, b) => self.refused_two(*a, *b),
         }
     }
@@ -372,16 +372,24 @@ impl KnownRegexes {
         Ok(star(arena, id)?)
     }
 
-    /// Why a node of one part is refused that is of no kind of regexes in proofs so far.
-    fn refused_one(&self, a: u64) -> Result<Option<RegexId>, Fault>
-        ensures { (rs : List Regex) (make : Regex → Regex)
-            → IsMade rs false (of_one (regexes_at rs self.now.order) make a) result }
+    /// The number in the arena of a repetition, if it is normal.
+    fn made_rep(
+        &self,
+        arena: &mut Arena,
+        a: u64,
+        least: u64,
+        most: u64,
+    ) -> Result<Option<RegexId>, Fault>
+        requires known { AllNumbers arena.old self.now.order }
+        ensures made { IsMade arena.new true
+            (regex_of_node (regexes_at arena.old self.now.order) (rep_node a least most)) result }
+        ensures extends { Extends arena.old arena.new }
     {
-        self.one(a)?;
-        Err(Fault::Refused(Refusal::RuleBroken))
+        let id = self.one(a)?;
+        Ok(rep(arena, id, least, most)?)
     }
 
-    /// The same of a node of two parts.
+    /// Why a node of two parts is refused that is of no kind of regexes in proofs so far.
     fn refused_two(&self, a: u64, b: u64) -> Result<Option<RegexId>, Fault>
         ensures { (rs : List Regex) (make : Regex → Regex → Regex)
             → IsMade rs false (of_two (regexes_at rs self.now.order) make a b) result }

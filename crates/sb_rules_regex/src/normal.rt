@@ -1,9 +1,9 @@
 //! Regexes that lines define, made in an arena where they are normal: where the constructor gives the node itself.
 
 ghost use Rattle.std.specs.Prelude.{◌≡◌, ◌<◌, length, IfOk};
-ghost use Rattle.sb_lang.specs.Regex.{set, cat, alt, and, neg, star, regexes};
+ghost use Rattle.sb_lang.specs.Regex.{set, cat, alt, and, neg, star, rep, regexes};
 ghost use Rattle.sb_regex.specs.Numbered.{regex_at, regexes_at, AllNumbers, Extends};
-ghost use Rattle.sb_rules_regex.specs.Making.{IsNormalAs, AreNarrowed, is_cat_of, is_alt_of, is_and_of, is_not_of, is_star_of, is_cat_node};
+ghost use Rattle.sb_rules_regex.specs.Making.{IsNormalAs, AreNarrowed, is_cat_of, is_alt_of, is_and_of, is_not_of, is_star_of, is_rep_of, is_cat_node};
 
 use sb_class::{Class, LAST_CHARACTER};
 use sb_lang::order::order_tells_apart;
@@ -135,13 +135,34 @@ pub(crate) fn star(arena: &mut Arena, a: RegexId) -> Result<Option<RegexId>, All
     Ok(None)
 }
 
+/// The repetition of a regex, from one number of times to another. Constant time.
+pub(crate) fn rep(
+    arena: &mut Arena,
+    a: RegexId,
+    least: u64,
+    most: u64,
+) -> Result<Option<RegexId>, AllocError>
+    requires { a < length arena.old }
+    ensures normal { IfOk result
+        (λ found. IsNormalAs arena.new (rep (regex_at arena.old a) least most) found) }
+    ensures extends { Extends arena.old arena.new }
+{
+    order_tells_apart();
+    let id = arena.rep(a, least, most)?;
+    arena.normal_regexes_each_once();
+    if is_rep_of(arena.node(id), a, least, most) {
+        return Ok(Some(id));
+    }
+    Ok(None)
+}
+
 fn is_cat(node: &Node) -> bool
     ensures { result ≡ is_cat_node node.now }
 {
     match node {
         Node::Cat(..) => true,
         Node::None | Node::Eps | Node::Set(_) => false,
-        Node::Alt(_) | Node::And(_) | Node::Not(_) | Node::Star(_) => false,
+        Node::Alt(_) | Node::And(_) | Node::Not(_) | Node::Star(_) | Node::Rep(..) => false,
     }
 }
 
@@ -151,7 +172,7 @@ fn is_cat_of(node: &Node, a: RegexId, b: RegexId) -> bool
     match node {
         Node::Cat(first, second) => *first == a && *second == b,
         Node::None | Node::Eps | Node::Set(_) => false,
-        Node::Alt(_) | Node::And(_) | Node::Not(_) | Node::Star(_) => false,
+        Node::Alt(_) | Node::And(_) | Node::Not(_) | Node::Star(_) | Node::Rep(..) => false,
     }
 }
 
@@ -161,7 +182,7 @@ fn is_alt_of(node: &Node, ids: &[RegexId]) -> bool
     match node {
         Node::Alt(parts) => parts.as_slice() == ids,
         Node::None | Node::Eps | Node::Set(_) => false,
-        Node::Cat(..) | Node::And(_) | Node::Not(_) | Node::Star(_) => false,
+        Node::Cat(..) | Node::And(_) | Node::Not(_) | Node::Star(_) | Node::Rep(..) => false,
     }
 }
 
@@ -171,7 +192,7 @@ fn is_and_of(node: &Node, ids: &[RegexId]) -> bool
     match node {
         Node::And(parts) => parts.as_slice() == ids,
         Node::None | Node::Eps | Node::Set(_) => false,
-        Node::Cat(..) | Node::Alt(_) | Node::Not(_) | Node::Star(_) => false,
+        Node::Cat(..) | Node::Alt(_) | Node::Not(_) | Node::Star(_) | Node::Rep(..) => false,
     }
 }
 
@@ -181,7 +202,7 @@ fn is_not_of(node: &Node, a: RegexId) -> bool
     match node {
         Node::Not(part) => *part == a,
         Node::None | Node::Eps | Node::Set(_) => false,
-        Node::Cat(..) | Node::Alt(_) | Node::And(_) | Node::Star(_) => false,
+        Node::Cat(..) | Node::Alt(_) | Node::And(_) | Node::Star(_) | Node::Rep(..) => false,
     }
 }
 
@@ -191,6 +212,18 @@ fn is_star_of(node: &Node, a: RegexId) -> bool
     match node {
         Node::Star(part) => *part == a,
         Node::None | Node::Eps | Node::Set(_) => false,
-        Node::Cat(..) | Node::Alt(_) | Node::And(_) | Node::Not(_) => false,
+        Node::Cat(..) | Node::Alt(_) | Node::And(_) | Node::Not(_) | Node::Rep(..) => false,
+    }
+}
+
+fn is_rep_of(node: &Node, a: RegexId, least: u64, most: u64) -> bool
+    ensures { result ≡ is_rep_of a least most node.now }
+{
+    match node {
+        Node::Rep(part, fewest, greatest) => {
+            *part == a && (*fewest == least && *greatest == most)
+        }
+        Node::None | Node::Eps | Node::Set(_) => false,
+        Node::Cat(..) | Node::Alt(_) | Node::And(_) | Node::Not(_) | Node::Star(_) => false,
     }
 }
