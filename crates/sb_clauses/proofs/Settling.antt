@@ -13,7 +13,7 @@ use Rattle.sb_clauses.specs.WatchLists.{WatchLists}
 use Rattle.sb_clauses.specs.Looking.{IsHeld}
 use Rattle.sb_clauses.specs.Examining.{IsIdle}
 use Rattle.sb_clauses.specs.Propagation.{GrowsBy, IsSettled}
-use Rattle.sb_clauses.specs.Watching.{list_of, no_literal, literal_at, is_short, home, IsPlaced, HasClause, watched_at, IsSide, AreWatched, stands}
+use Rattle.sb_clauses.specs.Watching.{list_of, no_literal, is_short, home, IsPlaced, HasClause, watched_at, IsSide, AreWatched, stands}
 use Rattle.sb_clauses.specs.Walking.{IsMoved, Advances, AreHeld}
 use Rattle.sb_clauses.specs.Settling.{Grown, IsFine, IsFineSide, AreFine, Settles, IsFalseAt}
 use Rattle.sb_lit.proofs.CallerLemmas.{is_same_literal-true, is_same_literal-self, negation_twice}

@@ -57,7 +57,7 @@ impl Clauses {
 
     /// Keeps a clause at a level, under the next number. Linear in the number of its literals, and above level 0
     /// logarithmic in the number of clauses there; takes memory for each atom up to the greatest one, and is an error
-    /// where that cannot be had, as for an atom of 2 ^ 30.
+    /// where that cannot be had, as for an atom of 2 ^ 30, and where 2 ^ 32 - 1 numbers were given.
     pub fn add(&mut self, clause: &Clause, level: u64) -> Result<ClauseId, AllocError>
         ensures number { IfOk result (λ id. id.0 ≡ length self.old) }
         ensures ok { IfOk result

@@ -72,7 +72,8 @@ impl Engine {
     }
 
     /// Gives each atom below `atoms` a place on the trail: from then on its literals may be added, and that takes no
-    /// memory. Places are never taken back. Linear in the number of new places, over many calls too.
+    /// memory. Places are never taken back. Linear in the number of new places, over many calls too. 2 ^ 32 atoms or
+    /// more are an error.
     pub fn reserve(&mut self, atoms: usize) -> Result<(), AllocError>
         ensures ok { OnOk result
             (self.new
@@ -88,7 +89,7 @@ impl Engine {
 
     /// Keeps a clause at a level, under the next number. Linear in the number of its literals, and above level 0
     /// logarithmic in the number of clauses there; takes memory for each atom up to the greatest one, and is an error
-    /// where that cannot be had, as for an atom of 2 ^ 30.
+    /// where that cannot be had, as for an atom of 2 ^ 30, and where 2 ^ 32 - 1 numbers were given.
     pub fn add(&mut self, clause: &Clause, level: u64) -> Result<ClauseId, AllocError>
         ensures number { IfOk result (λ id. id.0 ≡ length self.old.kept) }
         ensures ok { IfOk result

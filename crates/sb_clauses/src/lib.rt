@@ -8,7 +8,8 @@
 //! Each clause has two watched literals, and propagation looks only at clauses of which a watched literal has
 //! become false: the other one is then true, or another literal is watched in its place. It goes over what is new on
 //! the trail. Going back on the trail leaves the watch lists as they are. A new clause comes to its watch lists in the
-//! next propagation.
+//! next propagation. The watched literals stand in tables of their own, so a clause of which the other one is true is
+//! passed over without a look at its literals.
 //!
 //! Names. The propagation queue is the trail; its head is `queue.head`, and `queue.marks` are the levels at whose end
 //! all clauses were fine, since going back on the trail takes the head back to one of them. `WatchLists` are the watch

@@ -1,4 +1,4 @@
-use Rattle.std.proofs.Common.{◌≡◌, ℕ, ◌-◌, length, List, Option, None, replicate, refl, arith}
+use Rattle.std.proofs.Common.{◌≡◌, ℕ, ◌-◌, length, Option, None, replicate, refl, arith}
 use Rattle.std.proofs.lemmas.List.{length-append, length-replicate}
 use Rattle.sb_clauses.specs.Occurring.{head_at}
 use Rattle.sb_clauses.proofs.LinkLemmas.{either_way, on_ok, padded}

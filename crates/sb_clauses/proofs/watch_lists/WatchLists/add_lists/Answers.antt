@@ -1,4 +1,3 @@
-use Rattle.std.proofs.Common.{ℕ, ◌+◌, ◌^◌, ◌<◌, List, length, Option}
 use Rattle.sb_clauses.specs.WatchLists.{lists_from, AreListsOf}
 use Rattle.sb_clauses.proofs.LinkLemmas.{either_way, on_ok}
 use Rattle.sb_clauses.proofs.ListLemmas.{keeps, gives, more_lists, nodes_shown}

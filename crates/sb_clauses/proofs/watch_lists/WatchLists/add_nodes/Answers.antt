@@ -1,4 +1,4 @@
-use Rattle.std.proofs.Common.{◌≡◌, ℕ, ◌+◌, ◌-◌, ◌++◌, ◌^◌, ◌<◌, List, length, max, replicate, Option, None, arith}
+use Rattle.std.proofs.Common.{◌≡◌, ℕ, ◌-◌, ◌++◌, ◌^◌, ◌<◌, length, max, replicate, Option, None, arith}
 use Rattle.std.proofs.lemmas.List.{length-append, length-replicate}
 use Rattle.sb_clauses.specs.WatchLists.{lists_from, AreListsOf}
 use Rattle.sb_clauses.proofs.LinkLemmas.{either_way, on_ok}

@@ -1,4 +1,4 @@
-use Rattle.std.proofs.Common.{◌∙◌, sym, ap, arith}
+use Rattle.std.proofs.Common.{◌∙◌, sym, ap}
 use Rattle.std.specs.List.{slice_get}
 use Rattle.sb_clauses.proofs.ListLemmas.{keeps, gives, lists_are, popped, popped_free, list_splits, list_ends, nodes_shown}
 use Rattle.sb_clauses.proofs.watch_lists.WatchLists.pop.Goals as goal
