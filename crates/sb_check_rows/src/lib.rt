@@ -6,6 +6,8 @@
 #![tactic(auto)]
 
 #[cfg(test)]
+mod complements;
+#[cfg(test)]
 mod faults;
 #[cfg(test)]
 mod hostile;

@@ -9,7 +9,7 @@ use std::process::Abort;
 use std::test::Fail;
 
 /// A script, and what is answered of its proof.
-type Case = (&'static [u8], &'static [u8]);
+pub type Case = (&'static [u8], &'static [u8]);
 
 const CASES: [Case; 10] = [
     (b"", b"accepted\n"),
@@ -150,10 +150,11 @@ fn proof_of(
     Vec::from_slice(alloc, world.written(OutPort::Proof))
 }
 
-fn expect_case(
+/// The proof that the solver writes of the script is accepted, with these answers.
+pub fn expect_case(
     rt: &impl Abort,
     alloc: Global,
-    case: Case,
+    case: (&[u8], &[u8]),
     wanted: SolveStatus,
 ) -> Result<(), AllocError> {
     let (script, answers) = case;

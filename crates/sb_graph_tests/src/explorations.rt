@@ -5,7 +5,7 @@ ghost use Rattle.sb_graph.specs.Findings.{IsGraph};
 
 use sb_graph::{Explored, Graph};
 use sb_regex::{Arena, Node, RegexId};
-use sb_regex_tests::terms::{alt, regex, word};
+use sb_regex_tests::terms::{alt, and, range, regex, rep, word};
 use std::alloc::{AllocError, Global};
 use std::process::Abort;
 use std::test::Fail;
@@ -81,14 +81,17 @@ fn expect_dead(
 }
 
 /// Regexes and their shortest and least words: of unions, of words that have two words in them, of words of even and of
-/// odd length.
-const FOUND: [(&[u8], &[u32]); 6] = [
+/// odd length, of repetitions.
+const FOUND: [(&[u8], &[u32]); 9] = [
     (b"aa.b.z|", &[0x7a]),
     (b"ac.ab.|", &[0x61, 0x62]),
     (b"E*ba..E*.E*ab..E*.&", &[0x61, 0x62, 0x61]),
     (b"E*ZE*..", &[]),
     (b"aaa.*.aa.a.*&", &[0x61, 0x61, 0x61]),
     (b"E", &[0]),
+    (b"a0", &[]),
+    (b"a2", &[0x61, 0x61]),
+    (b"aZ|2E*b.|E*b.&", &[0x62]),
 ];
 
 fn all_find(
@@ -165,7 +168,23 @@ fn matches(arena: &Arena, r: RegexId, word: &[u32], depth: u32) -> bool {
             }
             word.is_empty()
         }
+        Node::Rep(a, least, most) => repeats(arena, *a, (*least, *most), word, depth),
     }
+}
+
+/// Whether a word is made of words of a regex, of at least and of at most so many.
+fn repeats(arena: &Arena, r: RegexId, bounds: (u64, u64), word: &[u32], depth: u32) -> bool {
+    if depth == 0 || bounds.1 == 0 {
+        return bounds.0 == 0 && word.is_empty();
+    }
+    let depth = depth - 1;
+    let rest = (bounds.0.saturating_sub(1), bounds.1 - 1);
+    for i in 0..=word.len() {
+        if matches(arena, r, &word[..i], depth) && repeats(arena, r, rest, &word[i..], depth) {
+            return true;
+        }
+    }
+    bounds.0 == 0 && word.is_empty()
 }
 
 /// Whether the word is one character in the ranges.
@@ -201,7 +220,7 @@ fn first_place(alloc: Global, arena: &Arena, r: RegexId) -> Result<u32, AllocErr
     Ok(WORDS)
 }
 
-const TEXTS: [&[u8]; 14] = [
+const TEXTS: [&[u8]; 20] = [
     b"a*", // a*
     b"aa.b.cb.|ca.|", // aab | cb | ca
     b"x*b.x*.ab.*&", // x*bx* & (ab)*
@@ -216,6 +235,12 @@ const TEXTS: [&[u8]; 14] = [
     b"xx*.x|ac.|ca.&", // (xx* | x | ac) & ca
     b"aa.*aaa.*.&", // (aa)* & a(aa)*
     b"a*E*b.E*.&", // a* & .*b.*
+    b"a0b2.", // a{0,3}b{2,3}
+    b"aZ|2b.E*a.&", // (a|){2,3}b & .*a
+    b"ab|2E*b.b.&", // (a|b){2,3} & .*bb
+    b"a2*aa.a.a.a.&", // (a{2,3})* & aaaaa
+    b"x3bx*.&E*c.&", // x{3} & bx* & .*c
+    b"a02b.E*c.&", // (a{0,3}){2,3}b & .*c
 ];
 
 /// The word that is found is the first of all that match, and it is the answer.
@@ -304,12 +329,37 @@ fn share(
     Ok(())
 }
 
+/// The words of two letters, both 50 and 51 of them: there is none.
+fn apart(alloc: Global, arena: &mut Arena) -> Result<RegexId, AllocError> {
+    let letter = range(alloc, arena, 0x61, 0x62)?;
+    let fewer = rep(arena, letter, 50, 50)?;
+    let more = rep(arena, letter, 51, 51)?;
+    and(arena, &[fewer, more])
+}
+
+/// Explores a regex without a word, and so many regexes on the way.
+fn expands(
+    rt: &impl Abort,
+    graph: &mut Graph,
+    arena: &mut Arena,
+    root: RegexId,
+    count: usize,
+) -> Result<(), AllocError>
+    requires { IsGraph arena.old graph.old }
+{
+    expect_dead(rt, graph, arena, root)?;
+    assert_eq!(rt; graph.expanded().len(), count);
+    Ok(())
+}
+
 fn stays(rt: &impl Abort, alloc: Global, arena: &mut Arena) -> Result<(), AllocError> {
     all_are_marked(rt, alloc, arena, &DEAD)?;
     let rest = regex(alloc, arena, b"x*b.c.")?;
     let first = regex(alloc, arena, b"ax*b.c..")?;
     let second = regex(alloc, arena, b"cx*b.c..")?;
-    share(rt, &mut new_graph(alloc, arena), arena, first, second, rest)
+    share(rt, &mut new_graph(alloc, arena), arena, first, second, rest)?;
+    let both = apart(alloc, arena)?;
+    expands(rt, &mut new_graph(alloc, arena), arena, both, 52)
 }
 
 #[test]

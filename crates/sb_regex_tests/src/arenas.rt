@@ -1,6 +1,6 @@
 //! Regexes are interned in their normal form.
 
-use crate::terms::{alt, and, cat, nullable, regex, word};
+use crate::terms::{alt, and, cat, nullable, regex, rep, word};
 use sb_regex::{Arena, Node, RegexId};
 use std::alloc::{AllocError, Global};
 use std::cmp::Ordering;
@@ -8,8 +8,9 @@ use std::process::Abort;
 use std::test::Fail;
 
 /// Texts of one regex: a union drops none and joins sets, an intersection of sets has what they have in common,
-/// concatenations lean to the right, and stars of the empty word, of stars and of every character.
-const SAME: [(&[u8], &[u8]); 9] = [
+/// concatenations lean to the right, stars of the empty word, of stars and of every character, and repetitions of the
+/// empty word, of no word, and with bounds out of order.
+const SAME: [(&[u8], &[u8]); 14] = [
     (b"aN|b|", b"ba|"),
     (b"ab&", b"N"),
     (b"xb&", b"b"),
@@ -19,6 +20,11 @@ const SAME: [(&[u8], &[u8]); 9] = [
     (b"a**", b"a*"),
     (b"aE*|", b"E*"),
     (b"a*E*&", b"a*"),
+    (b"Z0", b"Z"),
+    (b"Z2", b"Z"),
+    (b"N0", b"Z"),
+    (b"N2", b"N"),
+    (b"a4", b"N"),
 ];
 
 fn are_same(
@@ -34,7 +40,7 @@ fn are_same(
 }
 
 /// Regexes, whether they have the empty word, and for a length whether a word of it may be one, and each must.
-const ROWS: [(&[u8], bool, usize, (bool, bool)); 10] = [
+const ROWS: [(&[u8], bool, usize, (bool, bool)); 19] = [
     (b"N", false, 0, (false, false)),
     (b"Z", true, 0, (true, true)),
     (b"a", false, 1, (true, false)),
@@ -45,6 +51,15 @@ const ROWS: [(&[u8], bool, usize, (bool, bool)); 10] = [
     (b"a*aa.|", true, 2, (true, false)),
     (b"EE.*", true, 62, (true, true)),
     (b"EE.*ZEE.E.|&", true, 3, (false, false)),
+    (b"a0", true, 3, (true, false)),
+    (b"a0", true, 4, (false, false)),
+    (b"a2", false, 1, (false, false)),
+    (b"aZ|2", true, 1, (true, false)),
+    (b"E2", false, 3, (true, true)),
+    (b"E2", false, 4, (false, false)),
+    (b"a23", false, 6, (true, false)),
+    (b"a23", false, 5, (false, false)),
+    (b"E2*", true, 62, (true, true)),
 ];
 
 /// Whether a word of the length may be in the regex, and each must.
@@ -108,6 +123,24 @@ fn joins(rt: &impl Abort, alloc: Global, arena: &mut Arena) -> Result<(), AllocE
     Ok(())
 }
 
+/// No time, once, and any number of times up to the greatest; a repetition comes after a star, and by its bounds.
+fn repeats(rt: &impl Abort, alloc: Global, arena: &mut Arena) -> Result<(), AllocError> {
+    let a = regex(alloc, arena, b"a")?;
+    assert_eq!(rt; rep(arena, a, 0, 0)?, regex(alloc, arena, b"Z")?);
+    assert_eq!(rt; rep(arena, a, 1, 1)?, a);
+    assert_eq!(rt; rep(arena, a, 1, 0)?, regex(alloc, arena, b"N")?);
+    let any = rep(arena, a, 0, u64::MAX)?;
+    assert!(rt; nullable(arena, any));
+    assert!(rt; at_length(arena, any, 63) == (true, false));
+    let all = rep(arena, a, u64::MAX, u64::MAX)?;
+    assert!(rt; !nullable(arena, all));
+    assert!(rt; at_length(arena, all, 63) == (false, false));
+    assert!(rt; precedes(arena, any, all));
+    let star = regex(alloc, arena, b"a*")?;
+    assert!(rt; precedes(arena, star, any));
+    Ok(())
+}
+
 /// The members of a union stand in their order, each once.
 fn stand_in_order(rt: &impl Abort, alloc: Global, arena: &mut Arena) -> Result<(), AllocError> {
     let repeated = regex(alloc, arena, b"a*")?;
@@ -127,7 +160,8 @@ fn are_normal(rt: &impl Abort, alloc: Global, arena: &mut Arena) -> Result<(), A
     are_same(rt, alloc, arena, &SAME)?;
     have_lengths(rt, alloc, arena, &ROWS)?;
     joins(rt, alloc, arena)?;
-    stand_in_order(rt, alloc, arena)
+    stand_in_order(rt, alloc, arena)?;
+    repeats(rt, alloc, arena)
 }
 
 #[test]

@@ -3,8 +3,8 @@
 ghost use Rattle.sb_deriv.specs.Faithful.{IsFaithful};
 
 use crate::arenas::long;
-use crate::kinds::{TEXTS, derive, derive_all, regexes, target};
-use crate::terms::{alt, cat, join, nullable, range, regex, star, word};
+use crate::kinds::{REPETITIONS, TEXTS, derive, derive_all, regexes, target};
+use crate::terms::{alt, cat, join, nullable, range, regex, rep, star, word};
 use sb_class::Class;
 use sb_deriv::Deriver;
 use sb_regex::{Arena, Node, RegexId};
@@ -21,6 +21,7 @@ enum Shape {
     /// The sign by which the parts are joined, and how many there are.
     Joined(u8, usize),
     Star(RegexId),
+    Rep(RegexId, u64, u64),
     Same,
 }
 
@@ -42,6 +43,7 @@ fn shape_of(arena: &Arena, r: RegexId, c: u32) -> Shape {
         Node::And(parts) => Shape::Joined(b'&', parts.len()),
         Node::Not(_) => Shape::Same,
         Node::Star(a) => Shape::Star(*a),
+        Node::Rep(a, least, most) => Shape::Rep(*a, *least, *most),
     }
 }
 
@@ -88,6 +90,11 @@ fn slow(arena: &mut Arena, r: RegexId, c: u32, depth: u32) -> Result<RegexId, Al
         Shape::Star(a) => {
             let first = slow(arena, a, c, depth - 1)?;
             cat(arena, first, r)
+        }
+        Shape::Rep(a, least, most) => {
+            let first = slow(arena, a, c, depth - 1)?;
+            let rest = rep(arena, a, least.saturating_sub(1), most.saturating_sub(1))?;
+            cat(arena, first, rest)
         }
         Shape::Same => Ok(r),
     }
@@ -147,6 +154,8 @@ fn derivatives_are_those_by_each_character(rt: HostRuntime) -> Result<(), Fail> 
     let alloc = rt.alloc();
     let arena = &mut Arena::new(alloc);
     let rs = regexes(alloc, arena, &TEXTS)?;
+    texts_agree(&rt, arena, &mut Deriver::new(alloc), &rs)?;
+    let rs = regexes(alloc, arena, &REPETITIONS)?;
     Ok(texts_agree(&rt, arena, &mut Deriver::new(alloc), &rs)?)
 }
 
@@ -264,6 +273,32 @@ fn lead_together(
     Ok(())
 }
 
+/// The targets of up to three times `a`: up to two times by `a`, and none by the other characters.
+fn lead_on(
+    rt: &impl Abort,
+    alloc: Global,
+    arena: &mut Arena,
+    targets: &[(Class, RegexId)],
+) -> Result<(), AllocError> {
+    assert_eq!(rt; targets.len(), 2);
+    let none = arena.none()?;
+    assert!(rt; is_at(targets, 0, &[(0, 0x60), (0x62, 0x2ffff)], none));
+    let a = regex(alloc, arena, b"a")?;
+    let rest = rep(arena, a, 0, 2)?;
+    assert!(rt; is_at(targets, 1, &[(0x61, 0x61)], rest));
+    Ok(())
+}
+
+/// The greatest number of times has one less behind a character.
+fn greatest(rt: &impl Abort, alloc: Global, arena: &mut Arena) -> Result<(), AllocError> {
+    let a = regex(alloc, arena, b"a")?;
+    let most = rep(arena, a, u64::MAX, u64::MAX)?;
+    let rest = rep(arena, a, u64::MAX - 1, u64::MAX - 1)?;
+    let leads = targets(alloc, arena, &mut Deriver::new(alloc), most)?;
+    assert!(rt; is_at(&leads, 1, &[(0x61, 0x61)], rest));
+    Ok(())
+}
+
 /// The targets of a regex.
 fn targets(
     alloc: Global,
@@ -286,7 +321,11 @@ fn all_lead(rt: &impl Abort, alloc: Global, arena: &mut Arena) -> Result<(), All
     lead_apart(rt, alloc, arena, &apart)?;
     let ends = ends(alloc, arena)?;
     let together = targets(alloc, arena, &mut Deriver::new(alloc), ends)?;
-    lead_together(rt, alloc, arena, &together)
+    lead_together(rt, alloc, arena, &together)?;
+    let some = regex(alloc, arena, b"a0")?;
+    let on = targets(alloc, arena, &mut Deriver::new(alloc), some)?;
+    lead_on(rt, alloc, arena, &on)?;
+    greatest(rt, alloc, arena)
 }
 
 #[test]

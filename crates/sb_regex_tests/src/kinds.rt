@@ -27,6 +27,20 @@ pub const TEXTS: [&[u8]; 14] = [
     b"ab.bc.|cd.|L|F*bc..|*F*bc..E*ab..&.ab.bc.|cd.|L|F*bc..|*|F*bc..E*ab..&|E*ab..|",
 ];
 
+/// Repetitions: of none and more times, of a body with the empty word, of a star, of a repetition, and among others.
+pub const REPETITIONS: [&[u8]; 10] = [
+    b"a0",
+    b"a2",
+    b"ab.0",
+    b"aZ|2",
+    b"a*2",
+    b"a23",
+    b"a0b.",
+    b"x2ab.2c..",
+    b"F2E*ab..&",
+    b"x0ab.1|*c.",
+];
+
 /// The regexes of texts.
 pub fn regexes(
     alloc: Global,

@@ -71,12 +71,20 @@ pub fn star(arena: &mut Arena, a: RegexId) -> Result<RegexId, AllocError> {
     }
 }
 
+pub fn rep(arena: &mut Arena, a: RegexId, least: u64, most: u64) -> Result<RegexId, AllocError> {
+    if a.number() < arena.len() {
+        arena.rep(a, least, most)
+    } else {
+        arena.none()
+    }
+}
+
 pub fn nullable(arena: &Arena, a: RegexId) -> bool {
     a.number() < arena.len() && arena.nullable(a)
 }
 
 /// The regex of a text: atoms, and behind their parts `.` for a concatenation, `|` for a union, `&` for an intersection
-/// and `*` for a star.
+/// and `*` for a star; `0` to `4` for a repetition from so many times up to three.
 pub fn regex(alloc: Global, arena: &mut Arena, text: &[u8]) -> Result<RegexId, AllocError> {
     let mut parts = Vec::new(alloc);
     for sign in text {
@@ -91,6 +99,11 @@ fn read(
     parts: &mut Vec<RegexId>,
     sign: u8,
 ) -> Result<(), AllocError> {
+    if let Some(least) = least_of(sign) {
+        let part = rep(arena, last(parts), least, 3)?;
+        parts.push(part)?;
+        return Ok(());
+    }
     let part = match sign {
         b'*' => star(arena, last(parts))?,
         b'.' | b'|' | b'&' => {
@@ -101,6 +114,18 @@ fn read(
     };
     parts.push(part)?;
     Ok(())
+}
+
+/// The least number of times that a sign stands for.
+fn least_of(sign: u8) -> Option<u64> {
+    match sign {
+        b'0' => Some(0),
+        b'1' => Some(1),
+        b'2' => Some(2),
+        b'3' => Some(3),
+        b'4' => Some(4),
+        _ => None,
+    }
 }
 
 fn last(parts: &mut Vec<RegexId>) -> RegexId {

@@ -12,6 +12,8 @@ mod asked;
 #[cfg(test)]
 mod checks;
 #[cfg(test)]
+mod complements;
+#[cfg(test)]
 mod errors;
 #[cfg(test)]
 mod faults;

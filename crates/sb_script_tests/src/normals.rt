@@ -13,7 +13,7 @@ use std::process::Abort;
 use std::test::Fail;
 
 /// Two forms of one language each.
-const SAME: [(&[u8], &[u8]); 4] = [
+const SAME: [(&[u8], &[u8]); 13] = [
     (
         b"(re.++ (str.to_re \"a\") (str.to_re \"b\"))",
         b"(str.to_re \"ab\")",
@@ -27,11 +27,37 @@ const SAME: [(&[u8], &[u8]); 4] = [
         b"(re.++ (str.to_re \"a\") (re.* (str.to_re \"a\")))",
     ),
     (b"(re.range \"b\" \"a\")", b"(re.range \"ab\" \"c\")"),
+    (b"re.none", b"(re.range \"b\" \"a\")"),
+    (b"re.all", b"(re.* re.allchar)"),
+    (b"(re.comp re.none)", b"re.all"),
+    (
+        b"(re.comp (re.comp (str.to_re \"a\")))",
+        b"(str.to_re \"a\")",
+    ),
+    (
+        b"(re.opt (str.to_re \"a\"))",
+        b"(re.union (str.to_re \"\") (str.to_re \"a\"))",
+    ),
+    (
+        b"(re.diff (re.+ re.allchar) (str.to_re \"a\"))",
+        b"(re.inter (re.comp (str.to_re \"a\")) (re.+ re.allchar))",
+    ),
+    (
+        b"(re.diff (str.to_re \"a\") (str.to_re \"b\") (str.to_re \"c\") (str.to_re \"d\"))",
+        b"(re.diff (re.diff (str.to_re \"a\") (str.to_re \"b\") (str.to_re \"c\")) (str.to_re \"d\"))",
+    ),
+    (
+        b"(re.inter (re.range \"a\" \"d\") (re.* re.allchar) (re.range \"c\" \"f\"))",
+        b"(re.range \"c\" \"d\")",
+    ),
+    (b"(re.inter (str.to_re \"a\"))", b"(str.to_re \"a\")"),
 ];
 
 /// Forms of no regular expression over literals.
-const NONE: [&[u8]; 3] = [
+const NONE: [&[u8]; 5] = [
     b"(re.union (str.to_re \"a\") (str.to_re x))",
+    b"(re.comp (str.to_re x))",
+    b"(re.diff re.all re.none (str.to_re x))",
     b"(str.in_re x (str.to_re \"a\"))",
     b"\"a\"",
 ];

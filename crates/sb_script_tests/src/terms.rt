@@ -13,7 +13,7 @@ use std::test::Fail;
 /// Forms, and what they are read as into an empty table, where x, y and let are constants and m is marked: the table's
 /// terms in the order of their numbers, `#` before a serial and `'` before a word, and the number of the form's term;
 /// or a fault behind `!`.
-const FORMS: [(&[u8], &str); 63] = [
+const FORMS: [(&[u8], &str); 71] = [
     (
         b"(str.in_re x (re.+ (re.range \"a\" \"b\")))",
         "#0; 'a; 'b; (range 1 2); (plus 3); (in 0 4); 5",
@@ -30,6 +30,20 @@ const FORMS: [(&[u8], &str); 63] = [
         b"(re.++ (str.to_re \"a\") (re.* (str.to_re \"a\")) (str.to_re \"a\"))",
         "'a; (word 0); (star 1); (concat 1 2 1); 3",
     ),
+    (
+        b"(re.diff (re.comp re.none) (re.opt re.allchar) re.all)",
+        "(none); (comp 0); (allchar); (opt 2); (all); (diff 1 3 4); 5",
+    ),
+    (
+        b"(re.inter re.all (re.inter re.none))",
+        "(all); (none); (inter 0 1); 2",
+    ),
+    (b"(re.diff re.all)", "!count"),
+    (b"(re.comp re.all re.all)", "!count"),
+    (b"(re.none)", "!malformed"),
+    (b"(re.all x)", "!count"),
+    (b"(re.opt \"a\")", "!sort"),
+    (b"(re.inter re.all x)", "!sort"),
     (b"(re.++ (str.to_re \"a\") x w)", "!unknown w"),
     (b"(re.++ (str.to_re \"a\") x)", "!sort"),
     (b"(re.union x)", "!sort"),
@@ -100,6 +114,13 @@ fn name_of(symbol: Symbol) -> &'static str {
         Symbol::ReUnion => "(union",
         Symbol::ReStar => "(star",
         Symbol::RePlus => "(plus",
+        Symbol::ReNone => "(none",
+        Symbol::ReAll => "(all",
+        Symbol::ReAllChar => "(allchar",
+        Symbol::ReInter => "(inter",
+        Symbol::ReDiff => "(diff",
+        Symbol::ReOpt => "(opt",
+        Symbol::ReComp => "(comp",
         _ => "(another",
     }
 }
