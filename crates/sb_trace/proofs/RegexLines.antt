@@ -7,7 +7,7 @@ use Rattle.std.proofs.lemmas.List.Elements.{All-append, All-cons, All-nil}
 use Rattle.std.proofs.lemmas.List.Sums.{AllPass-from_list_all}
 use Rattle.std.proofs.lemmas.Option.{slice_get-map, slice_get_within, unwrap_or-slice_get}
 use Rattle.sb_class.specs.Ranges.{Range, fits_from, rises_from}
-use Rattle.sb_lang.specs.Regex.{Regex, none, set, cat, alt, and, neg, star, no_more, regexes, parts}
+use Rattle.sb_lang.specs.Regex.{Regex, none, set, cat, alt, and, neg, star, rep, no_more, regexes, parts}
 use Rattle.sb_lang.specs.Order.{code, regex_eq}
 use Rattle.sb_lang.specs.OrderLaws.{OrderTellsApart}
 use Rattle.sb_lang.specs.Constructors.{mkset, mkalt, mkand, alternatives, conjuncts, ranges_of, is_set, union_of, join_sets, meet_of, meet_sets, sorted, alt_of, and_of}
@@ -78,6 +78,9 @@ node-named rs order (node.Not a) n h =
     ap (regex_of_node (regexes_at rs order)) h.2 ∙ ap (option_map neg) (named rs order a h.0 h.1)
 node-named rs order (node.Star a) n h =
     ap (regex_of_node (regexes_at rs order)) h.2 ∙ ap (option_map star) (named rs order a h.0 h.1)
+node-named rs order (node.Rep a least most) n h =
+    ap (regex_of_node (regexes_at rs order)) h.4
+    ∙ ap (option_map (λ r. rep r least most)) (named rs order a h.0 h.1)
 
 node-brought : (order : List ℕ) (d : Node) (n : lines.Node) → IsNodeIn order d n → is_brought_node n ≡ true
 node-brought order node.None n h = ap is_brought_node h
@@ -88,6 +91,7 @@ node-brought order (node.Alt ps) n h = ap is_brought_node h.2
 node-brought order (node.And ps) n h = ap is_brought_node h.2
 node-brought order (node.Not a) n h = ap is_brought_node h.2
 node-brought order (node.Star a) n h = ap is_brought_node h.2
+node-brought order (node.Rep a least most) n h = ap is_brought_node h.4
 
 -- A regex without a number is not kept.
 
@@ -217,6 +221,9 @@ node-has-text rs order (node.And ps) n l normal h =
     ap node_has_text h.2 ∙ some-small order ps.items h.0 l h.1 (some-conjuncts rs ps.items normal)
 node-has-text rs order (node.Not a) n l normal h = ap node_has_text h.2 ∙ small order a h.0 l h.1
 node-has-text rs order (node.Star a) n l normal h = ap node_has_text h.2 ∙ small order a h.0 l h.1
+node-has-text rs order (node.Rep a least most) n l normal h =
+    ap node_has_text h.4
+    ∙ ap₂ ◌&&◌ (small order a h.0 l h.1) (ap₂ ◌&&◌ (lt-ltb least (2 ^ 64) h.2) (lt-ltb most (2 ^ 64) h.3))
 
 -- What is kept behind it.
 

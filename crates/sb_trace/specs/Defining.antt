@@ -1,5 +1,5 @@
 -- Private: the parts of a node, and the classes of an expansion.
-use Rattle.std.specs.Prelude.{◌≡◌, ℕ, ◌-◌, ◌<◌, Bool, true, not, List, [], ◌∷◌, ◌++◌, length, map, take, drop, Some, is_some}
+use Rattle.std.specs.Prelude.{◌≡◌, ℕ, ◌-◌, ◌^◌, ◌<◌, Bool, true, not, List, [], ◌∷◌, ◌++◌, length, map, take, drop, Some, is_some}
 use Rattle.sb_lang.specs.Regex.{Regex}
 use Rattle.sb_regex.specs.declared.node.Node.{Node}
 use Rattle.sb_regex.specs.declared.node.Node.TheVariants as node
@@ -32,6 +32,8 @@ IsNodeIn order (node.And parts) n =
     (is : List ℕ) × (map (number_in order) parts.items ≡ map Some is) × (n ≡ lines.and_node is)
 IsNodeIn order (node.Not a) n = (i : ℕ) × (number_in order a ≡ Some i) × (n ≡ lines.not_node i)
 IsNodeIn order (node.Star a) n = (i : ℕ) × (number_in order a ≡ Some i) × (n ≡ lines.star_node i)
+IsNodeIn order (node.Rep a least most) n =
+    (i : ℕ) × (number_in order a ≡ Some i) × (least < 2 ^ 64) × (most < 2 ^ 64) × (n ≡ lines.rep_node i least most)
 
 -- the node is the one of the regex at a number
 pub record IsNodeAt (rs : List Regex) (n : ℕ) (node : Node) : Type 0 where

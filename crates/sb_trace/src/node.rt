@@ -2,6 +2,7 @@
 
 ghost use Rattle.std.specs.Prelude.{◌≡◌, Some, length, map, slice_get, is_some, All, IfOk};
 ghost use Rattle.sb_regex.specs.Nodes.{node_parts};
+ghost use Rattle.sb_regex.specs.declared.node.Node.TheVariants.{Rep};
 ghost use Rattle.sb_proof.specs.Lines.{node_in};
 ghost use Rattle.sb_trace.specs.Tracking.{number_in};
 ghost use Rattle.sb_trace.specs.Defining.{IsNumbered, IsNodeIn};
@@ -23,7 +24,7 @@ pub(crate) fn part_at(node: &Node, place: usize) -> Option<RegexId>
             _ => None,
         },
         Node::Alt(parts) | Node::And(parts) => parts.as_slice().get(place).copied(),
-        Node::Not(part) | Node::Star(part) => match place {
+        Node::Not(part) | Node::Star(part) | Node::Rep(part, _, _) => match place {
             0 => Some(*part),
             _ => None,
         },
@@ -38,7 +39,7 @@ pub(crate) fn part_count(node: &Node) -> usize
         Node::None | Node::Eps | Node::Set(_) => 0,
         Node::Cat(..) => 2,
         Node::Alt(parts) | Node::And(parts) => parts.len(),
-        Node::Not(_) | Node::Star(_) => 1,
+        Node::Not(_) | Node::Star(_) | Node::Rep(..) => 1,
     }
 }
 
@@ -84,6 +85,14 @@ fn wide(alloc: Global, ranges: &[(u32, u32)]) -> Result<Vec<(u64, u64)>, AllocEr
     Ok(all)
 }
 
+/// The node of a repetition.
+fn proof_rep(order: &IndexSet<RegexId>, part: RegexId, least: u64, most: u64) -> ProofNode
+    requires { IsNumbered order.now.keys part }
+    ensures { IsNodeIn order.now.keys (Rep part least most) (node_in result) }
+{
+    ProofNode::Rep(number_of(order, part), least, most)
+}
+
 /// The node with the numbers that its parts have in the proof. Each of them has one.
 pub(crate) fn proof_node(
     alloc: Global,
@@ -104,5 +113,6 @@ pub(crate) fn proof_node(
         Node::And(parts) => ProofNode::And(numbers_of(alloc, order, parts)?),
         Node::Not(part) => ProofNode::Not(number_of(order, *part)),
         Node::Star(part) => ProofNode::Star(number_of(order, *part)),
+        Node::Rep(part, least, most) => proof_rep(order, *part, *least, *most),
     })
 }
