@@ -1,7 +1,7 @@
 -- Each term that is read is simple where it is a truth value, a String constant or a word where it is a text, and over
 -- literals or with a constant in it where it is a regular expression.
 use Rattle.std.proofs.Common.{◌≡◌, ℕ, Bool, true, false, not, ◌&&◌, ◌||◌, ◌==◌, nat_le, if◌then◌else◌, List, [], ◌∷◌, map, length, codes, Option, Some, None, Result, Ok, Err, refl, sym, ap, ◌∙◌, subst}
-use Rattle.std.specs.Prelude.{filter, is_some}
+use Rattle.std.specs.Prelude.{filter, is_some, is_none}
 use Rattle.std.specs.List.{list_all}
 use Rattle.std.proofs.lemmas.Bool.{and_parts, and_from, false≢true}
 use Rattle.sb_word.specs.LiteralWords.{character_of, word_of_literal, first_bad}
@@ -13,10 +13,10 @@ use Rattle.sb_script.specs.Names.{Name, is_name, is_reserved, begins_term}
 use Rattle.sb_script.specs.Brought.{is_brought_symbol, is_regex, are_regexes}
 use Rattle.sb_script.specs.Pieces.{is_ground, are_ground}
 use Rattle.sb_script.specs.Scopes.{Named, Naming, a_constant, a_definition, a_marked_name, a_term, named}
-use Rattle.sb_script.specs.Symbols.{found_in, symbols_of_theories, is_brought_row, symbol_named, is_left_out}
-use Rattle.sb_script.specs.Faults.{Fault, unknown_symbol, wrong_count, wrong_sort, unsupported, malformed, bad_index, bad_literal}
+use Rattle.sb_script.specs.Symbols.{found_in, symbols_of_theories, is_brought_row, symbol_named, is_indexed, is_left_out}
+use Rattle.sb_script.specs.Faults.{Fault, unknown_symbol, wrong_count, wrong_sort, unsupported, malformed, bad_index, numeral_too_large, bad_literal}
 use Rattle.sb_script.specs.Texts.{read_text}
-use Rattle.sb_script.specs.Heads.{Head, head_constant, head_symbol, head_definition, head_term, head_of, head_of_theory, hexadecimal_digits, character_word, without_indices, judged, joined, made, unless, read_head, applied_to, read_indexed}
+use Rattle.sb_script.specs.Heads.{Head, head_constant, head_symbol, head_definition, head_term, head_of, head_of_theory, hexadecimal_digits, character_word, indices_of, are_small_indices, with_indices, without_indices, judged, joined, made, unless, read_head, applied_to, read_indexed}
 use Rattle.sb_script.specs.Reading.{◌>>=◌, read_name, read_index_list, read_reserved, read, read_list, read_all, read_list_head}
 use Rattle.sb_script.specs.ReadingLaws.{if_read}
 use Rattle.sb_script.proofs.CallerLemmas.{same_sort}
@@ -225,6 +225,12 @@ made_shallow symbol.re_opt ts h all taken =
 made_shallow symbol.re_comp ts h all taken =
     by_one reglan (λ terms. is_plain_regex (apply symbol.re_comp terms)) of_one ts all
     (taken_sorts (1 == length (map sort_of ts)) (are_sorts (reglan ∷ []) (map sort_of ts)) false taken)
+made_shallow (symbol.re_power n) ts h all taken =
+    by_one reglan (λ terms. is_plain_regex (apply (symbol.re_power n) terms)) of_one ts all
+    (taken_sorts (1 == length (map sort_of ts)) (are_sorts (reglan ∷ []) (map sort_of ts)) false taken)
+made_shallow (symbol.re_loop n m) ts h all taken =
+    by_one reglan (λ terms. is_plain_regex (apply (symbol.re_loop n m) terms)) of_one ts all
+    (taken_sorts (1 == length (map sort_of ts)) (are_sorts (reglan ∷ []) (map sort_of ts)) false taken)
 made_shallow symbol.re_star ts h all taken =
     by_one reglan (λ terms. is_plain_regex (apply symbol.re_star terms)) of_one ts all
     (taken_sorts (1 == length (map sort_of ts)) (are_sorts (reglan ∷ []) (map sort_of ts)) false taken)
@@ -289,10 +295,15 @@ theory_head name = step (symbol_named name) (symbol_makes name)
     step : (o : Option symbol.Symbol) → if_some is_brought_symbol o ≡ true → if_read head_shallow
         (elim o as (λ _. Result Head Fault) [
           | Some s ↦ Ok (head_symbol s)
-          | None ↦ if is_left_out name then Err unsupported else Err (unknown_symbol name)
+          | None ↦ if is_indexed name then Err bad_index
+              else if is_left_out name then Err unsupported
+              else Err (unknown_symbol name)
         ]) ≡ true
     step (Some s) h = h
-    step None h = by_test head_shallow (is_left_out name) (Err unsupported) (Err (unknown_symbol name)) refl refl
+    step None h =
+        by_test head_shallow (is_indexed name) (Err bad_index)
+        (if is_left_out name then Err unsupported else Err (unknown_symbol name)) refl
+        (by_test head_shallow (is_left_out name) (Err unsupported) (Err (unknown_symbol name)) refl refl)
 
 named_passes : (names : List Naming) (name : Name) → list_all is_simple_naming names ≡ true
     → if_some is_simple_named (named names name) ≡ true
@@ -320,6 +331,32 @@ no_indices name indices (Err (unknown_symbol unknown)) =
     (character_shallow indices) refl
 no_indices name indices (Err _) = refl
 
+-- a symbol with its indices
+symbol_shallow : (b c : Bool) (s : symbol.Symbol) → is_brought_symbol s ≡ true → if_read head_shallow
+    (elim (if b then Some s else None) as (λ _. Result Head Fault) [
+      | Some t ↦ if c then Ok (head_symbol t) else Err numeral_too_large
+      | None ↦ Err bad_index
+    ]) ≡ true
+symbol_shallow true true s h = h
+symbol_shallow true false s h = refl
+symbol_shallow false c s h = refl
+
+with_indices_shallow : (name : Name) (o : Option (List ℕ)) → if_read head_shallow (with_indices name o) ≡ true
+with_indices_shallow name None = refl
+with_indices_shallow name (Some []) = refl
+with_indices_shallow name (Some (n ∷ [])) =
+    symbol_shallow (is_name name (codes "re.^")) (are_small_indices (n ∷ [])) (symbol.re_power n) refl
+with_indices_shallow name (Some (n ∷ m ∷ [])) =
+    symbol_shallow (is_name name (codes "re.loop")) (are_small_indices (n ∷ m ∷ [])) (symbol.re_loop n m) refl
+with_indices_shallow name (Some (n ∷ m ∷ k ∷ ns)) = refl
+
+indexed_shallow : (names : List Naming) (name : Name) (indices : Forms)
+    → if_read head_shallow (read_indexed names name indices) ≡ true
+indexed_shallow names name indices =
+    by_test head_shallow (is_indexed name && is_none (named names name)) (with_indices name (indices_of indices))
+    (without_indices name indices (read_head names name)) (with_indices_shallow name (indices_of indices))
+    (no_indices name indices (read_head names name))
+
 -- Reading, where these names are in force.
 
 module _ (names : List Naming) (fit : list_all is_simple_naming names ≡ true) where
@@ -334,9 +371,8 @@ module _ (names : List Naming) (fit : list_all is_simple_naming names ≡ true) 
   index_list_read : (forms : Forms) → if_read head_shallow (read_index_list names forms) ≡ true
   index_list_read (more (Symbol name) (more index indices)) =
       by_test head_shallow (is_reserved name) (Err malformed) (read_indexed names name (more index indices)) refl
-      (no_indices name (more index indices) (read_head names name))
-  index_list_read (more (QuotedSymbol name) (more index indices)) =
-      no_indices name (more index indices) (read_head names name)
+      (indexed_shallow names name (more index indices))
+  index_list_read (more (QuotedSymbol name) (more index indices)) = indexed_shallow names name (more index indices)
   index_list_read _ = refl
 
   list_head_read : (forms : Forms) → if_read head_shallow (read_list_head names forms) ≡ true

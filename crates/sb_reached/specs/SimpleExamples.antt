@@ -88,7 +88,7 @@ two_words = refl
 another_constant : is_simple (of_x (or_b (literal (constant 1 text)))) ≡ true
 another_constant = refl
 
--- in the complement of a word, in that of a constant, and in a union with the complement of a word; not in a power
+-- in the complement of a word, in that of a constant, and in a union with the complement of a word; in a power
 a_complement : is_simple (of_x (apply symbol.re_comp (with_term (literal (word [])) no_terms))) ≡ true
 a_complement = refl
 
@@ -98,7 +98,7 @@ of_a_constant = refl
 with_a_complement : is_simple (of_x (or_b (apply symbol.re_comp (with_term (literal (word [])) no_terms)))) ≡ true
 with_a_complement = refl
 
-a_power : is_simple (of_x (or_b (apply (symbol.re_power 2) (with_term (literal (word [])) no_terms)))) ≡ false
+a_power : is_simple (of_x (or_b (apply (symbol.re_power 2) (with_term (literal (word [])) no_terms)))) ≡ true
 a_power = refl
 
 -- the membership of a word in a complement

@@ -49,6 +49,8 @@ is_brought_symbol symbol.re_star = true
 is_brought_symbol symbol.re_plus = true
 is_brought_symbol symbol.re_opt = true
 is_brought_symbol symbol.re_comp = true
+is_brought_symbol (symbol.re_power n) = true
+is_brought_symbol (symbol.re_loop n m) = true
 is_brought_symbol _ = false
 
 abbrev pub is_brought_sort : Sort → Bool
@@ -56,7 +58,7 @@ is_brought_sort text = true
 is_brought_sort _ = false
 
 -- The term is a regular expression over literals: a word, a range, no word, every word, every character, or made of such
--- by concatenation, union, intersection, difference, complement, option and repetition.
+-- by concatenation, union, intersection, difference, complement, option, repetition, powers and loops.
 abbrev mutual
   pub is_regex : Term → Bool
   is_regex (apply symbol.str_to_re (with_term (word s) no_terms)) = true
@@ -72,6 +74,8 @@ abbrev mutual
   is_regex (apply symbol.re_plus (with_term R no_terms)) = is_regex R
   is_regex (apply symbol.re_opt (with_term R no_terms)) = is_regex R
   is_regex (apply symbol.re_comp (with_term R no_terms)) = is_regex R
+  is_regex (apply (symbol.re_power n) (with_term R no_terms)) = is_regex R
+  is_regex (apply (symbol.re_loop n m) (with_term R no_terms)) = is_regex R
   is_regex _ = false
 
   pub are_regexes : Terms → Bool

@@ -47,7 +47,7 @@ three s t u v = apply s (terms_of (t ∷ u ∷ v ∷ []))
 abbrev joined : Term
 joined = three symbol.str_concat x a y
 
--- Regular expressions by each symbol that is brought without indices; a constant within, and arguments too many or none.
+-- Regular expressions by each symbol that is brought; a constant within, and arguments too many or none.
 abbrev of_a : Term
 of_a = one symbol.str_to_re a
 
@@ -59,7 +59,7 @@ over_literals =
     apply symbol.re_none no_terms ∷ all_words ∷ apply symbol.re_allchar no_terms ∷ two symbol.re_range a a
     ∷ two symbol.re_concat of_a of_a ∷ three symbol.re_union of_a of_a of_a ∷ three symbol.re_inter of_a of_a of_a
     ∷ three symbol.re_diff of_a of_a of_a ∷ one symbol.re_star of_a ∷ one symbol.re_plus of_a ∷ one symbol.re_opt of_a
-    ∷ one symbol.re_comp of_a ∷ []
+    ∷ one symbol.re_comp of_a ∷ one (symbol.re_power 2) of_a ∷ one (symbol.re_loop 3 2) of_a ∷ []
 
 each_is_over_literals : list_all is_regex over_literals ≡ true
 each_is_over_literals = refl
@@ -68,7 +68,8 @@ abbrev not_over_literals : List Term
 not_over_literals =
     one symbol.re_comp of_y ∷ one symbol.re_opt of_y ∷ two symbol.re_inter of_a of_y ∷ two symbol.re_diff of_a of_y
     ∷ one symbol.re_none of_a ∷ one symbol.re_all of_a ∷ one symbol.re_allchar of_a ∷ two symbol.re_opt of_a of_a
-    ∷ two symbol.re_comp of_a of_a ∷ apply symbol.re_inter no_terms ∷ apply symbol.re_diff no_terms ∷ []
+    ∷ two symbol.re_comp of_a of_a ∷ one (symbol.re_power 2) of_y ∷ two (symbol.re_loop 0 1) of_a of_a
+    ∷ apply symbol.re_inter no_terms ∷ apply symbol.re_diff no_terms ∷ []
 
 none_is_over_literals : list_any is_regex not_over_literals ≡ false
 none_is_over_literals = refl

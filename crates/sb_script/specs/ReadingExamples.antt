@@ -6,7 +6,7 @@ use Rattle.sb_script.specs.Names.{name_text, name_in_text}
 use Rattle.sb_meaning.specs.Terms.{Term, text, constant, word, apply, no_terms, with_term}
 use Rattle.sb_meaning.specs.Terms as symbol
 use Rattle.sb_script.specs.Scopes.{Naming, a_constant, a_marked_name}
-use Rattle.sb_script.specs.Faults.{unknown_symbol, wrong_sort, wrong_count, bad_index, unsupported, bad_literal, malformed}
+use Rattle.sb_script.specs.Faults.{unknown_symbol, wrong_sort, wrong_count, bad_index, unsupported, numeral_too_large, bad_literal, malformed}
 use Rattle.sb_script.specs.Reading.{read}
 
 abbrev pub forms : List Form → Forms
@@ -146,10 +146,37 @@ a_let_is_left_out = refl
 reserved_in_a_term : read names (Symbol (codes "let")) ≡ Err malformed
 reserved_in_a_term = refl
 
--- ((_ re.^ 2) x) and (_ x 2)
-power_is_left_out : read names
-    (group (group (Symbol (codes "_") ∷ Symbol (codes "re.^") ∷ Numeral (codes "2") ∷ []) ∷ x ∷ [])) ≡ Err unsupported
-power_is_left_out = refl
+-- ((_ re.^ 2) R), ((_ re.loop 3 2) R), and ((_ re.^ 2) x) of a constant of another sort
+abbrev power_of_two : Form
+power_of_two = group (Symbol (codes "_") ∷ Symbol (codes "re.^") ∷ Numeral (codes "2") ∷ [])
+
+a_power : read names (group (power_of_two ∷ range a b ∷ [])) ≡ Ok (apply (symbol.re_power 2) (with_term a_range no_terms))
+a_power = refl
+
+a_loop : read names
+    (group (group (Symbol (codes "_") ∷ Symbol (codes "re.loop") ∷ Numeral (codes "3") ∷ Numeral (codes "2") ∷ [])
+    ∷ range a b ∷ [])) ≡ Ok (apply (symbol.re_loop 3 2) (with_term a_range no_terms))
+a_loop = refl
+
+power_of_a_word : read names (group (power_of_two ∷ x ∷ [])) ≡ Err wrong_sort
+power_of_a_word = refl
+
+power_of_two_arguments : read names (group (power_of_two ∷ range a b ∷ range a b ∷ [])) ≡ Err wrong_count
+power_of_two_arguments = refl
+
+-- re.^ and re.loop without indices, with too few or other ones, and (_ x 2)
+power_alone : read names (group (Symbol (codes "re.^") ∷ range a b ∷ [])) ≡ Err bad_index
+power_alone = refl
+
+loop_of_one_index : read names
+    (group (group (Symbol (codes "_") ∷ Symbol (codes "re.loop") ∷ Numeral (codes "3") ∷ []) ∷ range a b ∷ []))
+    ≡ Err bad_index
+loop_of_one_index = refl
+
+index_too_large : read names
+    (group (group (Symbol (codes "_") ∷ Symbol (codes "re.^") ∷ Numeral (codes "65536") ∷ []) ∷ range a b ∷ []))
+    ≡ Err numeral_too_large
+index_too_large = refl
 
 index_of_a_constant : read names (group (Symbol (codes "_") ∷ x ∷ Numeral (codes "2") ∷ [])) ≡ Err bad_index
 index_of_a_constant = refl
