@@ -28,6 +28,8 @@ mutual
   no_variables (apply symbol.re_diff (with_term R Rs)) h = joined R Rs h (no_variables R) (no_variables_in_each Rs)
   no_variables (apply symbol.re_opt (with_term R no_terms)) h = ap (λ xs. xs ++ []) (no_variables R h)
   no_variables (apply symbol.re_comp (with_term R no_terms)) h = ap (λ xs. xs ++ []) (no_variables R h)
+  no_variables (apply (symbol.re_power n) (with_term R no_terms)) h = ap (λ xs. xs ++ []) (no_variables R h)
+  no_variables (apply (symbol.re_loop n m) (with_term R no_terms)) h = ap (λ xs. xs ++ []) (no_variables R h)
   no_variables (apply symbol.re_star (with_term R no_terms)) h = ap (λ xs. xs ++ []) (no_variables R h)
   no_variables (apply symbol.re_plus (with_term R no_terms)) h = ap (λ xs. xs ++ []) (no_variables R h)
   no_variables R h = absurd (false≢true h)

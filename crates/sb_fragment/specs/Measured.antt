@@ -22,6 +22,8 @@ is_regex_by symbol.re_star n words regexes = (n == 1) && regexes
 is_regex_by symbol.re_plus n words regexes = (n == 1) && regexes
 is_regex_by symbol.re_opt n words regexes = (n == 1) && regexes
 is_regex_by symbol.re_comp n words regexes = (n == 1) && regexes
+is_regex_by (symbol.re_power k) n words regexes = (n == 1) && regexes
+is_regex_by (symbol.re_loop k l) n words regexes = (n == 1) && regexes
 is_regex_by _ n words regexes = false
 
 abbrev pub is_short_by : Symbol → Bool → ℕ → Bool

@@ -16,7 +16,7 @@ pub struct Measure {
     pub is_word: bool,
     /// No constant stands in the term.
     pub is_ground: bool,
-    /// The term is a regular expression over literals: made by every symbol that takes no index, with words as strings.
+    /// The term is a regular expression over literals: made by every symbol of that sort, with words as strings.
     pub is_regex: bool,
     /// No String term within, as a word, has more than 65,535 characters.
     pub is_short: bool,
@@ -95,6 +95,7 @@ fn makes_regex(symbol: Symbol, count: usize, words: bool, regexes: bool) -> bool
             count != 0 && regexes
         }
         Symbol::ReStar | Symbol::RePlus | Symbol::ReOpt | Symbol::ReComp => count == 1 && regexes,
+        Symbol::RePower(_) | Symbol::ReLoop(..) => count == 1 && regexes,
         _ => false,
     }
 }

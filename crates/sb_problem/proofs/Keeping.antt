@@ -24,7 +24,7 @@ use Rattle.sb_problem.specs.declared.normals.Known.{Known}
 use Rattle.sb_problem.specs.declared.normals.Known.TheVariants as known
 use Rattle.sb_problem.specs.Known.{IsKnown, IsConcatenation, AreNormals, AreTold, known_from, is_other}
 use Rattle.sb_problem.specs.Laws.{NormalsStay}
-use Rattle.sb_problem.specs.Shapes.{IsNumbered, IsFound, AreRegexesOf, made, joined_right, either, both, or_none, regex_of, regexes_of}
+use Rattle.sb_problem.specs.Shapes.{IsNumbered, IsFound, AreRegexesOf, made, joins, joined_right, either, both, or_none, regex_of, regexes_of}
 use Rattle.sb_problem.proofs.Meanings.{are_all, regexes_all}
 
 pub normals_new : (ts : List Term) (rs : List Regex) (ks : List Known) → length ks ≡ 0 → AreNormals ts rs ks
@@ -118,20 +118,6 @@ regexes_further rs new ts ids i x found found' id all e l there one is = rw is (
     further = ap (λ xs. map regex_of (terms_at ts xs)) (take_more ids i x l ∙ ap (λ y. take i ids ++ y ∷ []) (sym there))
         ∙ ap (map regex_of) (map-append (term_at ts) (take i ids) (x ∷ []))
 
--- the symbols of which the arguments' regexes are asked for
-abbrev pub joins : Symbol → Bool
-joins symbol.ReUnion = true
-joins symbol.ReInter = true
-joins symbol.ReDiff = true
-joins symbol.ReStar = true
-joins symbol.RePlus = true
-joins symbol.ReOpt = true
-joins symbol.ReComp = true
-joins symbol.ReNone = true
-joins symbol.ReAll = true
-joins symbol.ReAllChar = true
-joins _ = false
-
 pub is_joining : (s : Symbol)
     → (s ≡ symbol.ReUnion) ⊎ ((s ≡ symbol.ReInter) ⊎ ((s ≡ symbol.ReDiff) ⊎ ((s ≡ symbol.ReStar)
     ⊎ ((s ≡ symbol.RePlus) ⊎ ((s ≡ symbol.ReOpt) ⊎ ((s ≡ symbol.ReComp) ⊎ ((s ≡ symbol.ReNone)
@@ -175,6 +161,12 @@ other_one symbol.ReOpt (with_term t (with_term u ts)) h k = refl
 other_one symbol.ReComp no_terms h k = refl
 other_one symbol.ReComp (with_term t no_terms) h k = alone_false (is_regex t) k
 other_one symbol.ReComp (with_term t (with_term u ts)) h k = refl
+other_one (symbol.RePower n) no_terms h k = refl
+other_one (symbol.RePower n) (with_term t no_terms) h k = alone_false (is_regex t) k
+other_one (symbol.RePower n) (with_term t (with_term u ts)) h k = refl
+other_one (symbol.ReLoop n m) no_terms h k = refl
+other_one (symbol.ReLoop n m) (with_term t no_terms) h k = alone_false (is_regex t) k
+other_one (symbol.ReLoop n m) (with_term t (with_term u ts)) h k = refl
 other_one symbol.ReNone no_terms h k = absurd (false≢true (sym k))
 other_one symbol.ReNone (with_term t ts) h k = refl
 other_one symbol.ReAll no_terms h k = absurd (false≢true (sym k))
@@ -226,6 +218,14 @@ some_one symbol.ReComp t no_terms h k None e = cc
 some_one symbol.ReComp t no_terms h k (Some r) e = (alone_true (is_regex t) k, ap or_none e)
 some_one symbol.ReComp t (with_term u ts) h k None e = refl
 some_one symbol.ReComp t (with_term u ts) h k (Some r) e = cc
+some_one (symbol.RePower n) t no_terms h k None e = cc
+some_one (symbol.RePower n) t no_terms h k (Some r) e = (alone_true (is_regex t) k, ap or_none e)
+some_one (symbol.RePower n) t (with_term u ts) h k None e = refl
+some_one (symbol.RePower n) t (with_term u ts) h k (Some r) e = cc
+some_one (symbol.ReLoop n m) t no_terms h k None e = cc
+some_one (symbol.ReLoop n m) t no_terms h k (Some r) e = (alone_true (is_regex t) k, ap or_none e)
+some_one (symbol.ReLoop n m) t (with_term u ts) h k None e = refl
+some_one (symbol.ReLoop n m) t (with_term u ts) h k (Some r) e = cc
 some_one symbol.ReNone t ts h k None e = refl
 some_one symbol.ReNone t ts h k (Some r) e = cc
 some_one symbol.ReAll t ts h k None e = refl
@@ -246,6 +246,8 @@ empty_one symbol.ReStar h = refl
 empty_one symbol.RePlus h = refl
 empty_one symbol.ReOpt h = refl
 empty_one symbol.ReComp h = refl
+empty_one (symbol.RePower n) h = refl
+empty_one (symbol.ReLoop n m) h = refl
 empty_one symbol.ReNone h = (refl, refl)
 empty_one symbol.ReAll h = (refl, refl)
 empty_one symbol.ReAllChar h = (refl, refl)

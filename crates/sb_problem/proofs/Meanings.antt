@@ -8,13 +8,13 @@ use Rattle.sb_lang.specs.RegLan.{RegLan}
 use Rattle.sb_lang.specs.Regex.{Regex, none}
 use Rattle.sb_lang.specs.Constructors.{anything, any_character, mkcat, mknot, mkstar}
 use Rattle.sb_lang.specs.Normal.{normal, word_regex, range_regex}
-use Rattle.sb_meaning.specs.Terms.{Term, Terms, word, apply, no_terms, with_term, terms_of, str_to_re, re_none, re_all, re_allchar, re_range, re_concat, re_union, re_inter, re_diff, re_star, re_plus, re_opt, re_comp}
+use Rattle.sb_meaning.specs.Terms.{Term, Terms, word, apply, no_terms, with_term, terms_of, str_to_re, re_none, re_all, re_allchar, re_range, re_concat, re_union, re_inter, re_diff, re_star, re_plus, re_opt, re_comp, re_power, re_loop}
 use Rattle.sb_meaning.specs.Values.{Valuation}
 use Rattle.sb_meaning.specs.Truth.{Meaning, meaning_of, meanings_of, means_reglan, reglan_in}
 use Rattle.sb_meaning.specs.Truth as truth
 use Rattle.sb_script.specs.Brought.{is_regex, are_regexes}
 use Rattle.sb_problem.specs.Normals.{IsNumberOf}
-use Rattle.sb_problem.specs.Shapes.{IsNumbered, joined_right, joined_from, joined_left, either, both, without, repeated, optional, or_none, regex_of, regexes_of}
+use Rattle.sb_problem.specs.Shapes.{IsNumbered, joined_right, joined_from, joined_left, either, both, without, repeated, optional, times, or_none, regex_of, regexes_of}
 
 pub record IsMeant (t : Term) : Type 0 where
   pub reglan : RegLan
@@ -81,6 +81,14 @@ normal_opt R = refl
 normal_comp : (R : RegLan) → normal (reglan.re_comp R) ≡ mknot (normal R)
 unfolding normal
 normal_comp R = refl
+
+normal_power : (n : ℕ) (R : RegLan) → normal (reglan.re_power R n) ≡ times n n (normal R)
+unfolding normal
+normal_power n R = refl
+
+normal_loop : (n m : ℕ) (R : RegLan) → normal (reglan.re_loop R n m) ≡ times n m (normal R)
+unfolding normal
+normal_loop n m R = refl
 
 all_normal : (join : RegLan → RegLan → RegLan) (make : Regex → Regex → Regex)
     → ((R S : RegLan) → normal (join R S) ≡ make (normal R) (normal S)) → (R : RegLan) (Rs : List RegLan)
@@ -205,6 +213,20 @@ mutual
         reglan = reglan.re_comp one.reglan;
         means = λ v. one_means reglan.re_comp v t one.reglan (one.means v);
         normal = normal_comp one.reglan ∙ ap mknot one.normal;
+      }
+  regex_means (apply (re_power n) (with_term t no_terms)) h =
+      let one = regex_means t h in
+      record {
+        reglan = reglan.re_power one.reglan n;
+        means = λ v. one_means (λ R. reglan.re_power R n) v t one.reglan (one.means v);
+        normal = normal_power n one.reglan ∙ ap (times n n) one.normal;
+      }
+  regex_means (apply (re_loop n m) (with_term t no_terms)) h =
+      let one = regex_means t h in
+      record {
+        reglan = reglan.re_loop one.reglan n m;
+        means = λ v. one_means (λ R. reglan.re_loop R n m) v t one.reglan (one.means v);
+        normal = normal_loop n m one.reglan ∙ ap (times n m) one.normal;
       }
   regex_means t h = absurd (false≢true h)
 

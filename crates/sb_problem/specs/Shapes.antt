@@ -1,13 +1,13 @@
 -- The normal regex of a term, and what the parts of a term give.
-use Rattle.std.specs.Prelude.{◌≡◌, ℕ, true, false, List, [], ◌∷◌, Option, Some, None, option_map, unwrap_or, map, slice_get}
+use Rattle.std.specs.Prelude.{◌≡◌, ℕ, Bool, true, false, List, [], ◌∷◌, Option, Some, None, option_map, unwrap_or, map, slice_get}
 use Rattle.std.specs.List.{list_all}
 use Rattle.sb_term.specs.declared.sort.Symbol.{Symbol}
 use Rattle.sb_term.specs.declared.sort.Symbol.TheVariants as symbol
 use Rattle.sb_lang.specs.Regex.{Regex, none, eps}
-use Rattle.sb_lang.specs.Constructors.{anything, any_character, mkcat, mkalt, mkand, mknot, mkstar}
+use Rattle.sb_lang.specs.Constructors.{anything, any_character, mkcat, mkalt, mkand, mknot, mkstar, mkrep}
 use Rattle.sb_lang.specs.Normal.{word_regex, range_regex}
 use Rattle.sb_regex.specs.Numbered.{regexes_at, AllNumbers, Names}
-use Rattle.sb_meaning.specs.Terms.{Term, Terms, word, apply, no_terms, with_term, str_to_re, re_none, re_all, re_allchar, re_range, re_concat, re_union, re_inter, re_diff, re_star, re_plus, re_opt, re_comp}
+use Rattle.sb_meaning.specs.Terms.{Term, Terms, word, apply, no_terms, with_term, str_to_re, re_none, re_all, re_allchar, re_range, re_concat, re_union, re_inter, re_diff, re_star, re_plus, re_opt, re_comp, re_power, re_loop}
 use Rattle.sb_script.specs.Brought.{is_regex}
 
 -- one or more, joined from the right
@@ -51,6 +51,10 @@ optional r = mkalt (r ∷ eps ∷ [])
 abbrev pub repeated : Regex → Regex
 repeated r = mkcat r (mkstar r)
 
+-- so many times at least, and so many at most
+abbrev pub times : ℕ → ℕ → Regex → Regex
+times least most r = mkrep r least most
+
 -- what a symbol makes of regexes, but for concatenations
 abbrev pub made : Symbol → List Regex → Option Regex
 made symbol.ReNone rs = of_nothing none rs
@@ -63,6 +67,8 @@ made symbol.ReStar rs = of_one mkstar rs
 made symbol.RePlus rs = of_one repeated rs
 made symbol.ReOpt rs = of_one optional rs
 made symbol.ReComp rs = of_one mknot rs
+made (symbol.RePower n) rs = of_one (times n n) rs
+made (symbol.ReLoop n m) rs = of_one (times n m) rs
 made _ rs = None
 
 abbrev pub or_none : Option Regex → Regex
@@ -84,6 +90,8 @@ abbrev mutual
   regex_of (apply re_plus ts) = or_none (of_one repeated (regexes_of ts))
   regex_of (apply re_opt ts) = or_none (of_one optional (regexes_of ts))
   regex_of (apply re_comp ts) = or_none (of_one mknot (regexes_of ts))
+  regex_of (apply (re_power n) ts) = or_none (of_one (times n n) (regexes_of ts))
+  regex_of (apply (re_loop n m) ts) = or_none (of_one (times n m) (regexes_of ts))
   regex_of _ = none
 
   pub regexes_of : Terms → List Regex
@@ -109,3 +117,19 @@ pub record AreRegexesOf (rs : List Regex) (ts : List Term) (ids : List ℕ) : Ty
 abbrev pub arguments_in : Term → Terms
 arguments_in (apply s ts) = ts
 arguments_in _ = no_terms
+
+-- the symbols of which the arguments' regexes are asked for
+abbrev pub joins : Symbol → Bool
+joins symbol.ReUnion = true
+joins symbol.ReInter = true
+joins symbol.ReDiff = true
+joins symbol.ReStar = true
+joins symbol.RePlus = true
+joins symbol.ReOpt = true
+joins symbol.ReComp = true
+joins symbol.ReNone = true
+joins symbol.ReAll = true
+joins symbol.ReAllChar = true
+joins (symbol.RePower n) = true
+joins (symbol.ReLoop n m) = true
+joins _ = false

@@ -5,7 +5,7 @@ ghost use Rattle.sb_lang.specs.Regex.{none};
 ghost use Rattle.sb_lang.specs.Constructors.{anything, any_character, mknot, mkstar};
 ghost use Rattle.sb_regex.specs.Numbered.{AllNumbers, Extends, regexes_at};
 ghost use Rattle.sb_problem.specs.Shapes.{IsFound, joined_right, joined_left, of_nothing, of_one};
-ghost use Rattle.sb_problem.specs.Shapes.{either, both, without, repeated, optional, made};
+ghost use Rattle.sb_problem.specs.Shapes.{either, both, without, repeated, optional, times, made};
 
 use crate::literals::of_characters;
 use sb_lang::fold::{intersection_of_members, intersection_of_more, union_of_more, union_of_one};
@@ -36,6 +36,8 @@ pub(crate) fn joined(
         Symbol::RePlus => plus(arena, ids),
         Symbol::ReOpt => option(arena, ids),
         Symbol::ReComp => complement(arena, ids),
+        Symbol::RePower(count) => repetition(arena, count, count, ids),
+        Symbol::ReLoop(least, most) => repetition(arena, least, most, ids),
         _ => Ok(None),
     }
 }
@@ -205,4 +207,22 @@ fn complement(arena: &mut Arena, ids: &[RegexId]) -> Result<Option<RegexId>, All
         return Ok(None);
     };
     Ok(Some(arena.not(*body)?))
+}
+
+/// One, so many times at least and so many at most.
+fn repetition(
+    arena: &mut Arena,
+    least: u32,
+    most: u32,
+    ids: &[RegexId],
+) -> Result<Option<RegexId>, AllocError>
+    requires { AllNumbers arena.old ids.now }
+    ensures ok { IfOk result
+        (λ found. IsFound arena.new found (of_one (times least most) (regexes_at arena.old ids.now))) }
+    ensures extends { Extends arena.old arena.new }
+{
+    let [body] = ids else {
+        return Ok(None);
+    };
+    Ok(Some(arena.rep(*body, least as u64, most as u64)?))
 }

@@ -10,7 +10,8 @@ ghost use Rattle.sb_script.specs.Brought.{is_regex};
 ghost use Rattle.sb_term.specs.Numbered.{term_at, terms_at};
 ghost use Rattle.sb_problem.specs.Known.{IsKnown, AreNormals, AreTold, known_from};
 ghost use Rattle.sb_problem.specs.Normals.{IsNumberOf};
-ghost use Rattle.sb_problem.specs.Shapes.{IsNumbered, AreRegexesOf, arguments_in, regex_of};
+ghost use Rattle.sb_problem.specs.Shapes.{IsNumbered, AreRegexesOf, arguments_in, joins, regex_of};
+ghost use Rattle.sb_term.specs.Symbols.{symbol_in};
 
 use crate::join::joined;
 use crate::literals::{of_range, of_word};
@@ -43,7 +44,7 @@ impl Known {
 }
 
 /// What is known of the terms of a table, those below some number, as regular expressions over literals: those that
-/// are made of words, ranges and the constants of that sort by every symbol that takes no index.
+/// are made of words, ranges and the constants of that sort.
 #[derive(Drop)]
 pub struct Normals {
     known: Vec<Known>,
@@ -126,11 +127,33 @@ impl Normals {
             | Symbol::ReComp
             | Symbol::ReNone
             | Symbol::ReAll
-            | Symbol::ReAllChar => match self.regexes(table, arena, arguments)? {
-                Some(ids) => Ok(Known::made(joined(self.allocator(), arena, *symbol, &ids)?)),
-                None => Ok(Known::Other),
-            },
+            | Symbol::ReAllChar => self.join(table, arena, *symbol, arguments),
+            Symbol::RePower(_) => self.join(table, arena, *symbol, arguments),
+            Symbol::ReLoop(..) => self.join(table, arena, *symbol, arguments),
             _ => Ok(Known::Other),
+        }
+    }
+
+    /// What a symbol makes of regexes, those of these terms.
+    fn join(
+        &mut self,
+        table: &Table,
+        arena: &mut Arena,
+        symbol: Symbol,
+        ids: &[TermId],
+    ) -> Result<Known, AllocError>
+        requires joins { joins symbol ≡ true }
+        requires known { All (λ i. i < length self.old) ids.now }
+        requires normals { AreNormals table.now arena.old self.old }
+        ensures is { IfOk result
+            (λ found. IsKnown arena.new (apply (symbol_in symbol) (terms_of (terms_at table.now ids.now))) found) }
+        ensures extends { Extends arena.old arena.new }
+        ensures normals { AreNormals table.now arena.new self.new }
+        ensures long { length self.new ≡ length self.old }
+    {
+        match self.regexes(table, arena, ids)? {
+            Some(regexes) => Ok(Known::made(joined(self.allocator(), arena, symbol, &regexes)?)),
+            None => Ok(Known::Other),
         }
     }
 

@@ -1,4 +1,6 @@
 pub mod Kept
+pub mod Numbers
+pub mod Indices
 pub mod Applying
 pub mod Shapes
 pub mod Reading

@@ -32,6 +32,7 @@ faults_first reading f (fault.UnknownSymbol name) h = ap (λ r. r >>= f) h
 faults_first reading f fault.WrongSort h = ap (λ r. r >>= f) h
 faults_first reading f fault.WrongCount h = ap (λ r. r >>= f) h
 faults_first reading f fault.BadIndex h = ap (λ r. r >>= f) h
+faults_first reading f fault.NumeralTooLarge h = ap (λ r. r >>= f) h
 faults_first reading f fault.Unsupported h = ap (λ r. r >>= f) h
 faults_first reading f fault.BadLiteral h = ap (λ r. r >>= f) h
 faults_first reading f fault.Malformed h = ap (λ r. r >>= f) h

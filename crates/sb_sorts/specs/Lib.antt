@@ -1,4 +1,5 @@
 pub mod Characters
+pub mod Indices
 pub mod Scopes
 pub mod Reads
 pub mod Growth

@@ -3,7 +3,7 @@ use Rattle.std.specs.Prelude.{◌≡◌, ℕ, ◌<◌, List, length, Result, Ok,
 use Rattle.sb_sorts.specs.declared.read.ReadFault.{ReadFault}
 use Rattle.sb_sorts.specs.declared.read.ReadFault.TheVariants as fault
 use Rattle.sb_meaning.specs.Terms.{Term}
-use Rattle.sb_script.specs.Faults.{Fault, unknown_symbol, wrong_sort, wrong_count, bad_index, unsupported, bad_literal, malformed}
+use Rattle.sb_script.specs.Faults.{Fault, unknown_symbol, wrong_sort, wrong_count, bad_index, unsupported, numeral_too_large, bad_literal, malformed}
 use Rattle.sb_term.specs.Numbered.{term_at}
 
 -- Reading gives this fault. Want of memory says nothing.
@@ -12,6 +12,7 @@ Faults reading (fault.UnknownSymbol name) = reading ≡ Err (unknown_symbol name
 Faults reading fault.WrongSort = reading ≡ Err wrong_sort
 Faults reading fault.WrongCount = reading ≡ Err wrong_count
 Faults reading fault.BadIndex = reading ≡ Err bad_index
+Faults reading fault.NumeralTooLarge = reading ≡ Err numeral_too_large
 Faults reading fault.Unsupported = reading ≡ Err unsupported
 Faults reading fault.BadLiteral = reading ≡ Err bad_literal
 Faults reading fault.Malformed = reading ≡ Err malformed

@@ -1,6 +1,9 @@
 //! The heads of terms: names, names with indices, and what a list begins with.
 
-ghost use Rattle.std.specs.Prelude.{◌≡◌, ℕ, true, Result, Err, IfOk, option_map};
+ghost use Rattle.std.specs.Prelude.{◌≡◌, ℕ, true, ◌&&◌, codes, Result, Err, Some, IfOk, option_map, is_none};
+ghost use Rattle.sb_script.specs.Symbols as theory_names;
+ghost use Rattle.sb_script.specs.Scopes.{named};
+ghost use Rattle.sb_sorts.specs.Indices.{numeral_in, by_loop};
 ghost use Rattle.sb_reader.specs.Forms.{shape_of, shapes_in};
 ghost use Rattle.sb_script.specs.Reading as meaning;
 ghost use Rattle.sb_script.specs.Heads as theory;
@@ -10,7 +13,8 @@ ghost use Rattle.sb_sorts.specs.Heads.{head_in, head_below, beginning_in, beginn
 ghost use Rattle.sb_sorts.specs.Reads.{Faults};
 
 use crate::character::{Character, character_of};
-use crate::names::{begins_term, is_left_out, is_reserved, symbol_named};
+use crate::names::{begins_term, is_indexed, is_left_out, is_reserved, symbol_named};
+use crate::numeral::number_up_to;
 use crate::read::ReadFault;
 use crate::scope::{Named, Scope};
 use sb_reader::{Shape, Shapes};
@@ -24,6 +28,9 @@ pub(crate) enum Head {
     Character(Character),
     Symbol(Symbol),
 }
+
+/// The largest index.
+const LAST_INDEX: usize = 65_535;
 
 /// What a list begins with.
 #[derive(Clone, Copy)]
@@ -53,6 +60,7 @@ fn read_symbol(alloc: Global, name: &[u8]) -> Result<Head, ReadFault>
 {
     match symbol_named(name) {
         Some(symbol) => Ok(Head::Symbol(symbol)),
+        None if is_indexed(name) => Err(ReadFault::BadIndex),
         None if is_left_out(name) => Err(ReadFault::Unsupported),
         None => Err(ReadFault::UnknownSymbol(name.to_vec(alloc)?)),
     }
@@ -72,8 +80,82 @@ fn read_char(indices: Shapes<'_>) -> Result<Head, ReadFault>
     }
 }
 
-/// What a name with indices is as a head: of those that are read `char` alone takes one, where it stands for nothing
-/// else.
+/// The digits of a form that is a numeral.
+fn digits_of(form: Shape<'_>) -> Option<&[u8]>
+    ensures { option_map (λ digits. digits.now) result ≡ numeral_in (shape_of form.entry) }
+{
+    match form {
+        Shape::Numeral(digits) => Some(digits),
+        _ => None,
+    }
+}
+
+/// What `(_ re.^ n)` is as a head, by its indices.
+fn read_power(indices: Shapes<'_>) -> Result<Head, ReadFault>
+    ensures reads { Gives head_in (theory.with_indices (codes "re.^") (theory.indices_of (shapes_in indices.entry)))
+        result }
+    ensures declared { IfOk result (λ head. (n : ℕ) → head_below n head ≡ true) }
+{
+    let Some(index) = indices.only() else {
+        return Err(ReadFault::BadIndex);
+    };
+    let Some(digits) = digits_of(index) else {
+        return Err(ReadFault::BadIndex);
+    };
+    match number_up_to(digits, LAST_INDEX) {
+        Some(count) => Ok(Head::Symbol(Symbol::RePower(count as u32))),
+        None => Err(ReadFault::NumeralTooLarge),
+    }
+}
+
+/// What `(_ re.loop n m)` is as a head, by its indices.
+fn read_loop(indices: Shapes<'_>) -> Result<Head, ReadFault>
+    ensures reads { Gives head_in (theory.with_indices (codes "re.loop") (theory.indices_of (shapes_in indices.entry)))
+        result }
+    ensures declared { IfOk result (λ head. (n : ℕ) → head_below n head ≡ true) }
+{
+    let Some((first, second)) = indices.pair() else {
+        return Err(ReadFault::BadIndex);
+    };
+    let Some(first) = digits_of(first) else {
+        return Err(ReadFault::BadIndex);
+    };
+    match digits_of(second) {
+        Some(second) => loop_of(first, second),
+        None => Err(ReadFault::BadIndex),
+    }
+}
+
+/// What `(_ re.loop n m)` is as a head, by the digits of n and m.
+fn loop_of(first: &[u8], second: &[u8]) -> Result<Head, ReadFault>
+    ensures reads { Gives head_in (by_loop (Some first.now) (Some second.now)) result }
+    ensures declared { IfOk result (λ head. (n : ℕ) → head_below n head ≡ true) }
+{
+    let Some(least) = number_up_to(first, LAST_INDEX) else {
+        return Err(ReadFault::NumeralTooLarge);
+    };
+    match number_up_to(second, LAST_INDEX) {
+        Some(most) => Ok(Head::Symbol(Symbol::ReLoop(least as u32, most as u32))),
+        None => Err(ReadFault::NumeralTooLarge),
+    }
+}
+
+/// What a symbol that takes indices is as a head, by its name and them.
+fn read_with_indices(name: &[u8], indices: Shapes<'_>) -> Result<Head, ReadFault>
+    ensures reads { Gives head_in (theory.with_indices name.now (theory.indices_of (shapes_in indices.entry))) result }
+    ensures declared { IfOk result (λ head. (n : ℕ) → head_below n head ≡ true) }
+{
+    if name == b"re.^".as_slice() {
+        read_power(indices)
+    } else if name == b"re.loop".as_slice() {
+        read_loop(indices)
+    } else {
+        Err(ReadFault::BadIndex)
+    }
+}
+
+/// What a name with indices is as a head: `re.^` and `re.loop` take some, and `char` takes one, where they stand for
+/// nothing else.
 fn read_indexed(
     alloc: Global,
     scope: &Scope,
@@ -81,6 +163,31 @@ fn read_indexed(
     indices: Shapes<'_>,
 ) -> Result<Head, ReadFault>
     ensures reads { Gives head_in (theory.read_indexed (names_in scope.now) name.now (shapes_in indices.entry)) result }
+    ensures declared { IfOk result (λ head. head_below scope.now.declared head ≡ true) }
+{
+    if takes_indices(scope, name) {
+        read_with_indices(name, indices)
+    } else {
+        read_without_indices(alloc, scope, name, indices)
+    }
+}
+
+/// Whether the name is of a symbol that takes indices, and stands for nothing else.
+fn takes_indices(scope: &Scope, name: &[u8]) -> bool
+    ensures { result ≡ theory_names.is_indexed name.now && is_none (named (names_in scope.now) name.now) }
+{
+    is_indexed(name) && scope.look_up(name).is_none()
+}
+
+/// What a name with indices is as a head that is of no symbol which takes them.
+fn read_without_indices(
+    alloc: Global,
+    scope: &Scope,
+    name: &[u8],
+    indices: Shapes<'_>,
+) -> Result<Head, ReadFault>
+    ensures reads { Gives head_in (theory.without_indices name.now (shapes_in indices.entry)
+        (theory.read_head (names_in scope.now) name.now)) result }
     ensures declared { IfOk result (λ head. head_below scope.now.declared head ≡ true) }
 {
     match read_head(alloc, scope, name) {

@@ -54,7 +54,7 @@ const WORDS_OF_SCRIPTS: [&[u8]; 38] = [
 ];
 
 /// The names of the theories that are not read.
-const LEFT_OUT: [&[u8]; 44] = [
+const LEFT_OUT: [&[u8]; 42] = [
     b"true",
     b"false",
     b"not",
@@ -77,8 +77,6 @@ const LEFT_OUT: [&[u8]; 44] = [
     b"str.prefixof",
     b"str.suffixof",
     b"str.contains",
-    b"re.^",
-    b"re.loop",
     b"div",
     b"mod",
     b"abs",
@@ -159,6 +157,17 @@ pub(crate) fn symbol_named(name: &[u8]) -> Option<Symbol>
     }
 }
 
+/// Whether the name is of a symbol that takes indices.
+pub(crate) fn is_indexed(name: &[u8]) -> bool
+    ensures { result ≡ theory.is_indexed name.now }
+{
+    if name == b"re.^".as_slice() {
+        true
+    } else {
+        name == b"re.loop".as_slice()
+    }
+}
+
 /// Whether the name is one of the theories that is not read.
 pub(crate) fn is_left_out(name: &[u8]) -> bool
     ensures { result ≡ theory.is_left_out name.now }
@@ -170,7 +179,7 @@ pub(crate) fn is_left_out(name: &[u8]) -> bool
 pub fn is_theory_name(name: &[u8]) -> bool
     ensures { result ≡ theory.is_theory_name name.now }
 {
-    symbol_named(name).is_some() || is_left_out(name)
+    symbol_named(name).is_some() || is_indexed(name) || is_left_out(name)
 }
 
 /// The sort of this name, where constants may have it. Takes no memory.

@@ -32,9 +32,12 @@ pub enum ReadFault {
     WrongSort,
     #[error("wrong number of arguments")]
     WrongCount,
-    /// An index behind a symbol that takes none.
+    /// An index behind a symbol that takes none, indices of another number or kind than the symbol takes, or none.
     #[error("bad index")]
     BadIndex,
+    /// An index above 65,535.
+    #[error("numeral too large")]
+    NumeralTooLarge,
     /// A term that is left out, or uses a marked name.
     #[error("unsupported")]
     Unsupported,

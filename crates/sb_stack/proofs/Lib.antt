@@ -3,7 +3,6 @@ pub mod Live
 pub mod ReadLive
 pub mod Lefts
 pub mod ByWords
-pub mod Numbers
 pub mod Shapes
 pub mod Items
 pub mod Printing

@@ -1,6 +1,6 @@
 //! Levels that are opened and left, and the ways back to the start (SMT-LIB 2.6, sections 4.1.4 and 4.2.1).
 
-ghost use Rattle.std.specs.Prelude.{◌≡◌, ℕ, ◌+◌, ◌-◌, ◌*◌, ◌<◌, ◌≤◌, ◌++◌, [], length, reverse, replicate, true, false, nat_le, IfOk, OnOk, OnErr, MatchOption};
+ghost use Rattle.std.specs.Prelude.{◌≡◌, ℕ, ◌+◌, ◌<◌, ◌++◌, [], length, reverse, replicate, true, false, nat_le, IfOk, OnOk, OnErr, MatchOption};
 ghost use Rattle.sb_script.specs.State.{pushed, popped, without_assertions};
 ghost use Rattle.sb_script.specs.Replies as meaning;
 ghost use Rattle.sb_script.specs.Texts.{number_of};
@@ -12,6 +12,7 @@ ghost use Rattle.sb_stack.specs.Taking.{IsAnswered, at_start};
 use crate::level::Level;
 use crate::reply::{error_line, success_line};
 use crate::stack::{Mode, Stack, Step};
+use sb_sorts::number_up_to;
 use std::alloc::{AllocError, Global};
 
 /// How many levels may be open.
@@ -166,28 +167,4 @@ fn push_levels(levels: &mut Vec<Level>, count: usize, level: Level) -> Result<()
         }
     }
     Ok(())
-}
-
-/// The number that the digits spell, where it is at most the limit. Linear in the digits.
-fn number_up_to(digits: &[u8], limit: usize) -> Option<usize>
-    ensures { MatchOption result (limit < number_of digits.now) (λ n. (number_of digits.now ≡ n) × (n ≤ limit)) }
-{
-    let mut number = 0;
-    for digit in digits {
-        let Some(next) = with_digit(number, *digit, limit) else {
-            return None;
-        };
-        number = next;
-    }
-    Some(number)
-}
-
-/// A number with one more digit, where it is at most the limit.
-fn with_digit(number: usize, digit: u8, limit: usize) -> Option<usize>
-    ensures { MatchOption result (limit < 10 * number + (digit - 48))
-        (λ n. (n ≡ 10 * number + (digit - 48)) × (n ≤ limit)) }
-{
-    let tens = number.checked_mul(10)?;
-    let more = tens.checked_add(usize::from(digit.saturating_sub(b'0')))?;
-    if more <= limit { Some(more) } else { None }
 }

@@ -446,6 +446,7 @@ impl Stack {
             ReadFault::WrongSort => Ok(error_line(self.alloc, b"wrong sort")?),
             ReadFault::WrongCount => Ok(error_line(self.alloc, b"wrong number of arguments")?),
             ReadFault::BadIndex => Ok(error_line(self.alloc, b"bad index")?),
+            ReadFault::NumeralTooLarge => Ok(error_line(self.alloc, b"numeral too large")?),
             ReadFault::Unsupported => self.leave_mark(),
             ReadFault::BadLiteral => Ok(error_line(self.alloc, b"bad token")?),
             ReadFault::Malformed => Ok(error_line(self.alloc, b"malformed command")?),

@@ -1,5 +1,5 @@
-use Rattle.sb_stack.proofs.Numbers.{digit_too_large}
-use Rattle.sb_stack.proofs.leaving.number_up_to.Goals as goal
+use Rattle.sb_sorts.proofs.Numbers.{digit_too_large}
+use Rattle.sb_sorts.proofs.numeral.number_up_to.Goals as goal
 
 pub returns-in_default : goal.returns-in_default
 returns-in_default c =

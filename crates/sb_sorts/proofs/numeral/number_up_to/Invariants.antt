@@ -1,6 +1,6 @@
 use Rattle.std.proofs.Common.{◌≡◌, ◌≤◌, drop}
 use Rattle.sb_script.specs.Texts.{number_of, number_from}
-use Rattle.sb_stack.proofs.leaving.number_up_to.Given as goal
+use Rattle.sb_sorts.proofs.numeral.number_up_to.Given as goal
 
 abbrev pub invariant-loop-digit : goal.invariant-loop-digit
 invariant-loop-digit l =
