@@ -7,7 +7,7 @@ use std::process::Abort;
 use std::test::Fail;
 
 /// Two regular expressions of one language each.
-const SAME: [(&[u8], &[u8]); 12] = [
+const SAME: [(&[u8], &[u8]); 18] = [
     // the complement of a union, and of an intersection
     (
         b"(re.comp (re.union (re.+ (str.to_re \"ab\")) (re.* (str.to_re \"b\"))))",
@@ -54,6 +54,26 @@ const SAME: [(&[u8], &[u8]); 12] = [
     (
         b"(re.+ (re.union (str.to_re \"a\") (str.to_re \"\")))",
         b"(re.* (str.to_re \"a\"))",
+    ),
+    // loops and powers
+    (
+        b"((_ re.loop 2 5) (str.to_re \"a\"))",
+        b"(re.union ((_ re.^ 2) (str.to_re \"a\")) ((_ re.^ 3) (str.to_re \"a\")) ((_ re.^ 4) (str.to_re \"a\"))\
+          ((_ re.^ 5) (str.to_re \"a\")))",
+    ),
+    (b"((_ re.loop 3 2) re.all)", b"re.none"),
+    (b"((_ re.^ 0) re.none)", b"(str.to_re \"\")"),
+    (
+        b"((_ re.^ 3) (re.opt (str.to_re \"ab\")))",
+        b"((_ re.loop 0 3) (str.to_re \"ab\"))",
+    ),
+    (
+        b"(re.++ ((_ re.loop 1 2) (re.range \"a\" \"b\")) ((_ re.^ 2) (re.range \"a\" \"b\")))",
+        b"((_ re.loop 3 4) (re.range \"a\" \"b\"))",
+    ),
+    (
+        b"(re.comp ((_ re.loop 0 3) re.allchar))",
+        b"(re.++ ((_ re.^ 4) re.allchar) re.all)",
     ),
 ];
 

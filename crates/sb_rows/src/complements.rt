@@ -1,10 +1,10 @@
-//! Scripts with complements, intersections and differences, and what is said of wrong uses.
+//! Scripts with complements, intersections, differences, powers and loops, and what is said of wrong uses.
 
 use crate::runs::{Case, expect_all};
 use std::test::Fail;
 
 /// Words that are left where others are taken out: the shortest, and the least of those.
-const WORDS: [Case; 8] = [
+const WORDS: [Case; 10] = [
     (
         b"(set-option :print-success false)(set-option :produce-models true)(declare-const x String)\
           (assert (str.in_re x (re.comp (re.* re.allchar))))(check-sat)(get-value (x))",
@@ -63,10 +63,26 @@ const WORDS: [Case; 8] = [
           (assert (str.in_re x (re.comp (re.++ re.all (str.to_re \"00\") re.all))))(check-sat)(get-value (x))",
         b"sat\n((x \"010a\"))\n",
     ),
+    // a loop whose bounds fall has no word, and what is taken no times is the empty word
+    (
+        b"(set-option :print-success false)(set-option :produce-models true)(declare-const x String)\
+          (declare-const y String)(push)(assert (str.in_re x ((_ re.loop 3 2) re.all)))(check-sat)(pop)\
+          (assert (str.in_re x ((_ re.^ 0) re.none)))(assert (str.in_re y ((_ re.loop 2 3) (re.range \"a\" \"b\"))))\
+          (assert (str.in_re y (re.comp (re.++ (str.to_re \"a\") re.all))))(check-sat)(get-value (x y))\
+          (assert (str.in_re y ((_ re.^ 3) (re.opt (str.to_re \"b\")))))(check-sat)(get-value (y))",
+        b"unsat\nsat\n((x \"\") (y \"ba\"))\nsat\n((y \"bb\"))\n",
+    ),
+    // fifty letters, and fifty-one
+    (
+        b"(set-option :print-success false)(declare-const x String)\
+          (assert (str.in_re x ((_ re.^ 50) (re.range \"a\" \"b\"))))(check-sat)\
+          (assert (str.in_re x ((_ re.^ 51) (re.range \"a\" \"b\"))))(check-sat)",
+        b"sat\nunsat\n",
+    ),
 ];
 
 /// Wrong numbers of arguments, wrong sorts, and no shapes.
-const FAULTS: [Case; 3] = [
+const FAULTS: [Case; 4] = [
     (
         b"(set-option :print-success false)(declare-const x String)(assert (str.in_re x (re.diff re.all)))\
           (assert (str.in_re x (re.comp re.all re.none)))(assert (str.in_re x re.opt))(assert (str.in_re x re.inter))\
@@ -90,6 +106,20 @@ const FAULTS: [Case; 3] = [
         b"(error \"malformed command\")\n(error \"malformed command\")\n(error \"bad index\")\n\
           (error \"unknown symbol y\")\n(error \"already declared re.comp\")\n(error \"already declared re.none\")\n\
           unsupported\n",
+    ),
+    // their number and kind are judged before their sizes
+    (
+        b"(set-option :print-success false)(declare-const x String)(assert (str.in_re x (re.^ re.all)))\
+          (assert (str.in_re x ((_ re.loop 1) re.all)))(assert (str.in_re x ((_ re.^ 1 2) re.all)))\
+          (assert (str.in_re x ((_ re.loop 65536 y) re.all)))(assert (str.in_re x ((_ re.^ #x1) re.all)))\
+          (assert (str.in_re x ((_ re.^ 65536) re.all)))(assert (str.in_re x ((_ re.loop 0 99999999999999999999) re.all)))\
+          (assert (str.in_re x ((_ re.^ 2) re.all re.all)))(assert (str.in_re x (_ re.^ 2)))\
+          (assert (str.in_re x ((_ re.^ 2) x)))(declare-const re.^ String)(assert (str.in_re x ((_ re.^) re.all)))\
+          (assert (str.in_re x (re.comp ((_ re.loop 65535 65535) re.allchar))))(check-sat)",
+        b"(error \"bad index\")\n(error \"bad index\")\n(error \"bad index\")\n(error \"bad index\")\n\
+          (error \"bad index\")\n(error \"numeral too large\")\n(error \"numeral too large\")\n\
+          (error \"wrong number of arguments\")\n(error \"wrong number of arguments\")\n(error \"wrong sort\")\n\
+          (error \"already declared re.^\")\n(error \"malformed command\")\nsat\n",
     ),
 ];
 

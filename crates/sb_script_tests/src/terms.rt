@@ -13,7 +13,7 @@ use std::test::Fail;
 /// Forms, and what they are read as into an empty table, where x, y and let are constants and m is marked: the table's
 /// terms in the order of their numbers, `#` before a serial and `'` before a word, and the number of the form's term;
 /// or a fault behind `!`.
-const FORMS: [(&[u8], &str); 71] = [
+const FORMS: [(&[u8], &str); 73] = [
     (
         b"(str.in_re x (re.+ (re.range \"a\" \"b\")))",
         "#0; 'a; 'b; (range 1 2); (plus 3); (in 0 4); 5",
@@ -77,7 +77,9 @@ const FORMS: [(&[u8], &str); 71] = [
     (b"forall", "!unsupported"),
     (b"(forall ((x Int)) true)", "!unsupported"),
     (b"(assert x)", "!malformed"),
-    (b"((_ re.^ 2) x)", "!unsupported"),
+    (b"((_ re.^ 2) x)", "!sort"),
+    (b"((_ re.loop 2) re.all)", "!index"),
+    (b"((_ re.^ 65536) re.all)", "!large"),
     (b"(_ x 2)", "!index"),
     (b"(_ re.+ 2)", "!index"),
     (b"((_ re.+ 2) w)", "!index"),
@@ -186,6 +188,7 @@ fn push_fault(out: &mut String, fault: &ReadFault) -> Result<(), AllocError> {
         ReadFault::WrongSort => out.push_str("!sort"),
         ReadFault::WrongCount => out.push_str("!count"),
         ReadFault::BadIndex => out.push_str("!index"),
+        ReadFault::NumeralTooLarge => out.push_str("!large"),
         ReadFault::Unsupported => out.push_str("!unsupported"),
         ReadFault::BadLiteral => out.push_str("!literal"),
         ReadFault::Malformed => out.push_str("!malformed"),
