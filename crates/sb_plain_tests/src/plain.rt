@@ -197,6 +197,99 @@ fn words_match_as_said(rt: HostRuntime) -> Result<(), Fail> {
     Ok(rows_match(&rt, rt.alloc(), &mut Arena::new(rt.alloc()), &words)?)
 }
 
+/// A body with its bounds, a word, and whether the repetition has it: too few and too many times, bodies with the empty
+/// word, of several letters, of every word and of none, and bounds out of order.
+const REPETITIONS: [(&[u8], u64, u64, &[u8], bool); 22] = [
+    (b"a", 0, 3, b"", true),
+    (b"a", 0, 3, b"aaa", true),
+    (b"a", 0, 3, b"aaaa", false),
+    (b"a", 0, 3, b"aba", false),
+    (b"a", 2, 3, b"a", false),
+    (b"a", 2, 3, b"aa", true),
+    (b"a", 3, 2, b"", false),
+    (b"a", 0, 0, b"", true),
+    (b"a", 0, 0, b"a", false),
+    (b"aZ|", 2, 3, b"", true),
+    (b"aZ|", 2, 3, b"aaa", true),
+    (b"aZ|", 2, 3, b"aaaa", false),
+    (b"a*b|", 2, 2, b"aab", true),
+    (b"a*b|", 2, 2, b"abab", false),
+    (b"ab.", 2, 2, b"ab", false),
+    (b"ab.", 2, 2, b"abab", true),
+    (b"ab.", 2, 2, b"ababab", false),
+    (b"ab.a|", 2, 2, b"aab", true),
+    (b"E*", 7, 9, b"abc", true),
+    (b"x", 1, 18446744073709551615, b"abcabc", true),
+    (b"N", 0, 5, b"", true),
+    (b"N", 1, 5, b"", false),
+];
+
+/// Bounds of the times of a letter, how often a word has it, and whether that is between them.
+const RUNS: [(u64, u64, usize, bool); 5] = [
+    (0, 300, 300, true),
+    (0, 300, 301, false),
+    (300, 300, 300, true),
+    (300, 300, 299, false),
+    (200, 18446744073709551615, 250, true),
+];
+
+fn rep(arena: &mut Arena, body: RegexId, least: u64, most: u64) -> Result<RegexId, AllocError> {
+    if body.number() < arena.len() {
+        arena.rep(body, least, most)
+    } else {
+        Ok(body)
+    }
+}
+
+fn letters(alloc: Global, text: &[u8]) -> Result<Word, AllocError> {
+    let mut codes = Vec::new(alloc);
+    for letter in text {
+        codes.push(*letter as u32)?;
+    }
+    word_of(alloc, &codes)
+}
+
+/// The word of so many letters `a`.
+fn run(alloc: Global, count: usize) -> Result<Word, AllocError> {
+    let mut codes = Vec::new(alloc);
+    for _letter in 0..count {
+        codes.push(0x61)?;
+    }
+    word_of(alloc, &codes)
+}
+
+/// Whether a repetition has a word.
+fn repeats(
+    alloc: Global,
+    arena: &mut Arena,
+    body: &[u8],
+    bounds: (u64, u64),
+    word: &Word,
+) -> Result<bool, AllocError> {
+    let body = regex(alloc, arena, body)?;
+    let r = rep(arena, body, bounds.0, bounds.1)?;
+    matches_anew(alloc, arena, word, r)
+}
+
+fn repetitions_match(rt: &impl Abort, alloc: Global, arena: &mut Arena) -> Result<(), AllocError> {
+    for (body, least, most, text, wanted) in &REPETITIONS {
+        let word = letters(alloc, text)?;
+        let found = repeats(alloc, arena, body, (*least, *most), &word)?;
+        assert!(rt; found == *wanted);
+    }
+    for (least, most, count, wanted) in &RUNS {
+        let word = run(alloc, *count)?;
+        let found = repeats(alloc, arena, b"a", (*least, *most), &word)?;
+        assert!(rt; found == *wanted);
+    }
+    Ok(())
+}
+
+#[test]
+fn repetitions_have_words_between_their_bounds(rt: HostRuntime) -> Result<(), Fail> {
+    Ok(repetitions_match(&rt, rt.alloc(), &mut Arena::new(rt.alloc()))?)
+}
+
 /// Regexes of a word with every word behind it, of one with letters of a set behind it, and others.
 const FRONTS: [&[u8]; 15] = [
     b"E*",

@@ -38,8 +38,16 @@ const LINES: &[(&str, Option<Refusal>)] = &[
     ("r alt 1 0", Some(Refusal::NotNormal)),
     ("r alt 0 2", Some(Refusal::NotNormal)),
     ("r alt 0 1 7", Some(Refusal::NotNormal)),
-    ("r rep 0 0 3", Some(Refusal::RuleBroken)),
+    ("r rep 0 0 3", None),
+    ("r rep 0 0 3", Some(Refusal::Repeated)),
+    ("r rep 9 2 2", None),
+    ("r rep 1 0 18446744073709551615", None),
+    ("r rep 0 3 2", Some(Refusal::NotNormal)),
+    ("r rep 0 0 0", Some(Refusal::NotNormal)),
+    ("r rep 0 1 1", Some(Refusal::NotNormal)),
+    ("r rep 6 0 3", Some(Refusal::NotNormal)),
     ("r rep 77 0 3", Some(Refusal::UnknownId)),
+    ("r rep 77 3 2", Some(Refusal::UnknownId)),
     ("r path 0 77", Some(Refusal::UnknownId)),
     ("r path 77 0", Some(Refusal::UnknownId)),
     ("r path 0 0", Some(Refusal::RuleBroken)),
@@ -135,7 +143,7 @@ fn all_is_judged(rt: &impl Abort, alloc: Global) -> Result<(), AllocError> {
     let mut arena = Arena::new(alloc);
     let mut regexes = KnownRegexes::new(alloc);
     all_are_judged(rt, alloc, &mut regexes, &mut arena)?;
-    assert!(rt; regexes.len() == 9);
+    assert!(rt; regexes.len() == 12);
     let buried = is_buried_once(alloc, &mut regexes, &arena, 6)?;
     assert!(rt; buried);
     Ok(())
