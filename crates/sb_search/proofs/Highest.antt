@@ -1,0 +1,100 @@
+-- The literals of the highest levels of a clause.
+use Rattle.std.proofs.Common.{◌≡◌, ℕ, ◌<◌, ◌≤◌, true, false, ◌||◌, ◌+◌, leb, length, take, get_or, List, [], ◌∷◌, ◌++◌, Option, Some, None, ◌∙◌, inl, inr, arith}
+use Rattle.std.specs.List.{list_all}
+use Rattle.std.proofs.lemmas.Bool.{cases_Bool, or_left, or_right, or_cases, leb-true, leb-false, le-leb}
+use Rattle.std.proofs.lemmas.List.{take_more}
+use Rattle.sb_lit.specs.declared.clause.Lit.{Lit}
+use Rattle.sb_lit.specs.Clauses.{is_same_literal, is_among}
+use Rattle.sb_lit.proofs.CallerLemmas.{among_push, among_push_same, all_among}
+use Rattle.sb_trail.specs.declared.assigned.Assigned.{Assigned}
+use Rattle.sb_analyze.specs.Reasons.{level_in}
+use Rattle.sb_search.specs.Searching.{higher, is_but, IsHighest, IsHighUpTo}
+use Rattle.sb_search.proofs.Truths.{all_weaker, all_push}
+
+among_front : (ls : List Lit) (m l : Lit) → is_among ls l ≡ true → is_among (ls ++ m ∷ []) l ≡ true
+among_front ls m l h = among_push ls m l ∙ or_left (is_among ls l) (is_same_literal m l || false) h
+
+below_best : (entries : List Assigned) (but : Option Lit) (old new : ℕ) → old ≤ new → (l : Lit)
+    → (is_but but l || leb (level_in entries l) old) ≡ true → (is_but but l || leb (level_in entries l) new) ≡ true
+below_best entries but old new le l h =
+    elim (or_cases (is_but but l) (leb (level_in entries l) old) h) [
+      | inl is ↦ or_left (is_but but l) (leb (level_in entries l) new) is
+      | inr low ↦ or_right (is_but but l) (leb (level_in entries l) new)
+          (le-leb (level_in entries l) new (omega (arith, leb-true (level_in entries l) old low, le)))
+    ]
+
+-- the first one of a list
+first_highest : (entries : List Assigned) (but : Option Lit) (ls : List Lit) (l : Lit) → is_but but l ≡ false
+    → list_all (is_but but) ls ≡ true → IsHighest entries (ls ++ l ∷ []) but (Some l)
+first_highest entries but ls l other h = (
+  among_push_same ls l,
+  other,
+  all_push (λ m. is_but but m || leb (level_in entries m) (level_in entries l)) ls l
+      (all_weaker (is_but but) (λ m. is_but but m || leb (level_in entries m) (level_in entries l))
+      (λ m is. or_left (is_but but m) (leb (level_in entries m) (level_in entries l)) is) ls h)
+      (or_right (is_but but l) (leb (level_in entries l) (level_in entries l))
+      (le-leb (level_in entries l) (level_in entries l) (omega arith))),
+)
+
+-- one more literal
+pub highest_more : (entries : List Assigned) (but best : Option Lit) (ls : List Lit) (l : Lit)
+    → IsHighest entries ls but best → IsHighest entries (ls ++ l ∷ []) but (higher entries but best l)
+highest_more entries but None ls l h =
+    elim (cases_Bool (is_but but l)) [
+      | inl is ↦ rw is (all_push (is_but but) ls l h is)
+      | inr other ↦ rw other (first_highest entries but ls l other h)
+    ]
+highest_more entries but (Some m) ls l h =
+    elim (cases_Bool (is_but but l)) [
+      | inl is ↦ rw is (
+        among_front ls l m h.0,
+        h.1,
+        all_push (λ x. is_but but x || leb (level_in entries x) (level_in entries m)) ls l h.2
+            (or_left (is_but but l) (leb (level_in entries l) (level_in entries m)) is),
+      )
+      | inr other ↦ rw other (elim (cases_Bool (leb (level_in entries l) (level_in entries m))) [
+        | inl low ↦ rw low (
+          among_front ls l m h.0,
+          h.1,
+          all_push (λ x. is_but but x || leb (level_in entries x) (level_in entries m)) ls l h.2
+              (or_right (is_but but l) (leb (level_in entries l) (level_in entries m)) low),
+        )
+        | inr high ↦ rw high (
+          among_push_same ls l,
+          other,
+          all_push (λ x. is_but but x || leb (level_in entries x) (level_in entries l)) ls l
+              (all_weaker (λ x. is_but but x || leb (level_in entries x) (level_in entries m))
+              (λ x. is_but but x || leb (level_in entries x) (level_in entries l))
+              (below_best entries but (level_in entries m) (level_in entries l)
+              (omega (arith, leb-false (level_in entries l) (level_in entries m) high))) ls h.2)
+              (or_right (is_but but l) (leb (level_in entries l) (level_in entries l))
+              (le-leb (level_in entries l) (level_in entries l) (omega arith))),
+        )
+      ])
+    ]
+
+-- the level of the second one
+pub high_up_to : (entries : List Assigned) (clause : List Lit) (one other : Lit)
+    → IsHighest entries clause None (Some one) → IsHighest entries clause (Some one) (Some other)
+    → IsHighUpTo entries clause (level_in entries other)
+high_up_to entries clause one other h k = λ n low. record {
+  one = other;
+  other = one;
+  one_there = k.0;
+  other_there = h.0;
+  differ = k.1;
+  one_above = low;
+  other_above = omega (
+    arith,
+    low,
+    leb-true (level_in entries other) (level_in entries one)
+        (all_among (λ l. false || leb (level_in entries l) (level_in entries one)) clause other h.2 k.0),
+  );
+}
+
+-- a turn of the loop over the clause
+pub highest_turn : (entries : List Assigned) (but best new : Option Lit) (ls : List Lit) (i : ℕ) (d : Lit)
+    → i < length ls → IsHighest entries (take i ls) but best → new ≡ higher entries but best (get_or ls i d)
+    → IsHighest entries (take (i + 1) ls) but new
+highest_turn entries but best new ls i d within h e =
+    rw (take_more ls i d within, e) (highest_more entries but best (take i ls) (get_or ls i d) h)

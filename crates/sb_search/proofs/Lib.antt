@@ -1,0 +1,4 @@
+mod Truths
+mod Places
+mod Turns
+mod Highest

@@ -1,0 +1,81 @@
+-- Literals that stay true where a trail grows, and decisions that are assumptions.
+use Rattle.std.proofs.Common.{◌≡◌, ℕ, Bool, true, ◌||◌, leb, List, [], ◌∷◌, ◌++◌, refl, sym, ◌∙◌, inl, inr}
+use Rattle.std.specs.List.{list_all}
+use Rattle.std.proofs.lemmas.Bool.{false≢true, cases_Bool, and_parts, and_from, or_left, or_right, or_cases}
+use Rattle.sb_lit.specs.declared.clause.Lit.{Lit}
+use Rattle.sb_lit.specs.Clauses.{is_same_literal, is_among, is_true_under}
+use Rattle.sb_lit.specs.Kept.{Kept}
+use Rattle.sb_trail.specs.declared.assigned.Assigned.{Assigned}
+use Rattle.sb_trail.specs.Assignments.{held, up_to}
+use Rattle.sb_clauses.specs.Propagation.{AreForced}
+use Rattle.sb_analyze.specs.Cores.{AreAssumed}
+use Rattle.sb_search.specs.Found.{are_true}
+
+-- a test that is weaker
+pub all_weaker : {X : Type 0} (p q : X → Bool) → ((x : X) → p x ≡ true → q x ≡ true) → (xs : List X)
+    → list_all p xs ≡ true → list_all q xs ≡ true
+all_weaker p q f [] h = refl
+all_weaker p q f (x ∷ xs) h =
+    let parts = and_parts (p x) (list_all p xs) h in
+    and_from (q x) (list_all q xs) (f x parts.0) (all_weaker p q f xs parts.1)
+
+-- one more element
+pub all_push : {X : Type 0} (p : X → Bool) (xs : List X) (x : X) → list_all p xs ≡ true → p x ≡ true
+    → list_all p (xs ++ x ∷ []) ≡ true
+all_push p [] x h k = and_from (p x) true k refl
+all_push p (y ∷ ys) x h k =
+    let parts = and_parts (p y) (list_all p ys) h in
+    and_from (p y) (list_all p (ys ++ x ∷ [])) parts.0 (all_push p ys x parts.1 k)
+
+-- what is true on a front of a trail
+pub true_front : (xs ys : List Assigned) (l : Lit) → is_true_under (held xs) l ≡ true
+    → is_true_under (held (xs ++ ys)) l ≡ true
+true_front [] ys l h = absurd (false≢true h)
+true_front (x ∷ xs) ys l h =
+    elim (or_cases (is_same_literal x.literal l) (is_among (held xs) l) h) [
+      | inl here ↦ or_left (is_same_literal x.literal l) (is_among (held (xs ++ ys)) l) here
+      | inr later ↦ or_right (is_same_literal x.literal l) (is_among (held (xs ++ ys)) l) (true_front xs ys l later)
+    ]
+
+-- what is true up to a level
+pub true_up_to : (level : ℕ) (es : List Assigned) (l : Lit) → is_true_under (held (up_to level es)) l ≡ true
+    → is_true_under (held es) l ≡ true
+true_up_to level [] l h = absurd (false≢true h)
+true_up_to level (e ∷ es) l h =
+    elim (cases_Bool (leb e.level level)) [
+      | inl low ↦
+          let there : (is_same_literal e.literal l || is_among (held (up_to level es)) l) ≡ true = rw low at h in
+          elim (or_cases (is_same_literal e.literal l) (is_among (held (up_to level es)) l) there) [
+            | inl here ↦ or_left (is_same_literal e.literal l) (is_among (held es) l) here
+            | inr later ↦ or_right (is_same_literal e.literal l) (is_among (held es) l) (true_up_to level es l later)
+          ]
+      | inr high ↦
+          let there : is_among (held (up_to level es)) l ≡ true = rw high at h in
+          or_right (is_same_literal e.literal l) (is_among (held es) l) (true_up_to level es l there)
+    ]
+
+pub all_true : (old new : List Lit) (ls : List Lit)
+    → ((l : Lit) → is_true_under old l ≡ true → is_true_under new l ≡ true)
+    → are_true old ls ≡ true → are_true new ls ≡ true
+all_true old new ls f h = all_weaker (is_true_under old) (is_true_under new) f ls h
+
+-- decisions that are assumptions
+pub assumed_append : (assumptions : List Lit) (xs ys : List Assigned) → AreAssumed assumptions xs
+    → AreAssumed assumptions ys → AreAssumed assumptions (xs ++ ys)
+assumed_append assumptions [] ys h k = k
+assumed_append assumptions (x ∷ xs) ys h k = (h.0, assumed_append assumptions xs ys h.1 k)
+
+pub assumed_up_to : (assumptions : List Lit) (level : ℕ) (es : List Assigned) → AreAssumed assumptions es
+    → AreAssumed assumptions (up_to level es)
+assumed_up_to assumptions level [] h = tt
+assumed_up_to assumptions level (e ∷ es) h =
+    elim (cases_Bool (leb e.level level)) [
+      | inl low ↦ rw low (h.0, assumed_up_to assumptions level es h.1)
+      | inr high ↦ rw high (assumed_up_to assumptions level es h.1)
+    ]
+
+pub assumed_forced : (assumptions : List Lit) (kept : Kept) (before xs : List Assigned) → AreForced kept before xs
+    → AreAssumed assumptions xs
+assumed_forced assumptions kept before [] h = tt
+assumed_forced assumptions kept before (x ∷ xs) h =
+    (λ none. absurd (Prim.cc (sym none ∙ h.0.reason)), assumed_forced assumptions kept (before ++ x ∷ []) xs h.1)

@@ -1,0 +1,370 @@
+-- What the moves of a search keep.
+use Rattle.std.proofs.Common.{◌≡◌, ℕ, zero, suc, ◌+◌, ◌&&◌, ◌||◌, ◌<◌, ◌≤◌, ◌⊎◌, true, false, leb, ltb, take, List, [], ◌∷◌, ◌++◌, Some, None, refl, sym, ◌∙◌, ap, subst, inl, inr, arith, append_assoc}
+use Rattle.std.specs.List.{list_all}
+use Rattle.std.proofs.lemmas.Bool.{false≢true, cases_Bool, lt-leb, leb-true, ltb-true, ltb-false, and_parts, false_from_ne_true}
+use Rattle.std.proofs.lemmas.Option.{same_Some}
+use Rattle.std.proofs.lemmas.List.{append-nil}
+use Rattle.std.proofs.lemmas.List.Elements.{filter-append}
+use Rattle.sb_lit.specs.declared.clause.Lit.{Lit}
+use Rattle.sb_lit.specs.Clauses.{is_same_literal, is_among, is_false_under, is_open_under, is_false_clause, leaves_only, negation}
+use Rattle.sb_lit.specs.Kept.{Kept, KeptClause, kept_at}
+use Rattle.sb_lit.proofs.CallerLemmas.{all_among, is_same_literal-true, is_same_literal-of}
+use Rattle.sb_trail.specs.declared.assigned.Assigned.{Assigned}
+use Rattle.sb_trail.specs.Assignments.{IsTrail, AreDistinct, held, current_level, level_after, level_behind, AreLevelled, up_to}
+use Rattle.sb_trail.proofs.CallerLemmas.{level_after-push, up_to-all, up_to-up_to}
+use Rattle.sb_clauses.specs.Propagation.{State, AreForced, GrowsBy, IsSettled, has_room_for, are_reserved}
+use Rattle.sb_analyze.specs.Reasons.{AreReasoned, level_in}
+use Rattle.sb_analyze.specs.Learning.{IsSettledBelow}
+use Rattle.sb_analyze.specs.Cores.{AreAssumed}
+use Rattle.sb_analyze.proofs.Lessons.{true_up_to_low}
+use Rattle.sb_analyze.proofs.CallerLemmas.{reasoned_grown, reasoned_decided, reasoned_up_to, reasoned_more, below_grown, below_decided, below_up_to}
+use Rattle.sb_search.specs.Asking.{decided}
+use Rattle.sb_search.specs.Found.{are_true}
+use Rattle.sb_search.specs.Searching.{have_places, IsSearching, IsHighUpTo}
+use Rattle.sb_search.proofs.Truths.{true_front, all_true, assumed_append, assumed_up_to, assumed_forced}
+use Rattle.sb_search.proofs.Places.{more_places, more_reserved, more_room}
+
+-- what is forced stays on the current level
+level_grown : (kept : Kept) (before xs : List Assigned) → AreForced kept before xs
+    → current_level (before ++ xs) ≡ current_level before
+level_grown kept before [] h = ap current_level (append-nil before)
+level_grown kept before (x ∷ xs) h =
+    ap current_level (sym (append_assoc before (x ∷ []) xs)) ∙ level_grown kept (before ++ x ∷ []) xs h.1
+    ∙ level_after-push 0 before x ∙ h.0.level
+
+-- propagation
+pub searching_grown : (wanted : List ℕ) (assumptions : List Lit) (levels next : ℕ) (old new : State)
+    → IsSearching wanted assumptions levels next old → new.kept ≡ old.kept → GrowsBy old.kept old.trail new.trail
+    → IsSearching wanted assumptions levels next new
+searching_grown wanted assumptions levels next old new h kept grows =
+    let same : current_level new.trail.literals ≡ current_level old.trail.literals =
+    ap current_level grows.literals ∙ level_grown old.kept old.trail.literals grows.added grows.forced in
+    let front : up_to levels new.trail.literals ≡ up_to levels old.trail.literals ++ up_to levels grows.added =
+    ap (up_to levels) grows.literals ∙ filter-append (λ x. leb x.level levels) old.trail.literals grows.added in
+    record {
+      reasoned = subst (λ (k : Kept). AreReasoned k [] new.trail.literals) (sym kept)
+          (reasoned_grown old.kept old.trail new.trail h.reasoned grows);
+      below = subst (λ (k : Kept). IsSettledBelow k new.trail.literals) (sym kept)
+          (below_grown old.kept old.trail new.trail h.below grows);
+      room = subst (λ (r : ℕ). has_room_for r new.kept ≡ true) (sym grows.reserved)
+          (subst (λ (k : Kept). has_room_for old.trail.reserved k ≡ true) (sym kept) h.room);
+      places = subst (λ (r : ℕ). have_places r wanted ≡ true) (sym grows.reserved) h.places;
+      assumption_places = subst (λ (r : ℕ). are_reserved r assumptions ≡ true) (sym grows.reserved)
+          h.assumption_places;
+      assumed = subst (λ (es : List Assigned). AreAssumed assumptions es) (sym front)
+          (assumed_append assumptions (up_to levels old.trail.literals) (up_to levels grows.added) h.assumed
+          (assumed_up_to assumptions levels grows.added
+          (assumed_forced assumptions old.kept old.trail.literals grows.added grows.forced)));
+      given = λ low. subst (λ (es : List Assigned). are_true (held es) assumptions ≡ true) (sym front)
+          (all_true (held (up_to levels old.trail.literals))
+          (held (up_to levels old.trail.literals ++ up_to levels grows.added)) assumptions
+          (true_front (up_to levels old.trail.literals) (up_to levels grows.added))
+          (h.given (omega (arith, low, same))));
+      first = λ high. subst (λ (es : List Assigned). are_true (held es) (take next assumptions) ≡ true)
+          (sym grows.literals)
+          (all_true (held old.trail.literals) (held (old.trail.literals ++ grows.added)) (take next assumptions)
+          (true_front old.trail.literals grows.added) (h.first (omega (arith, high, same))));
+    }
+
+level_decided : (es : List Assigned) (l : Lit) → current_level (decided es l) ≡ current_level es + 1
+level_decided es l = level_after-push 0 es (record { literal = l; level = current_level es + 1; reason = None })
+
+-- an assumption is decided
+pub searching_assumed : (wanted : List ℕ) (assumptions : List Lit) (levels next now : ℕ) (old : State) (l : Lit)
+    → IsTrail old.trail → IsSettled old.kept (held old.trail.literals) → now ≡ current_level (decided old.trail.literals l)
+    → IsSearching wanted assumptions levels next old → is_among assumptions l ≡ true
+    → current_level old.trail.literals ≤ levels
+    → IsSearching wanted assumptions now next
+    (record old { trail = record old.trail { literals = decided old.trail.literals l } })
+searching_assumed wanted assumptions levels next now old l is_trail settled is_now h among le =
+    let e : Assigned = record { literal = l; level = current_level old.trail.literals + 1; reason = None } in
+    let whole : AreAssumed assumptions old.trail.literals =
+    subst (λ (es : List Assigned). AreAssumed assumptions es)
+    (up_to-all levels 0 old.trail.literals is_trail.levelled le) h.assumed in
+    record {
+      reasoned = reasoned_decided old.kept old.trail.literals e h.reasoned refl;
+      below = below_decided old.kept old.trail (decided old.trail.literals l) e is_trail h.below settled refl refl;
+      room = h.room;
+      places = h.places;
+      assumption_places = h.assumption_places;
+      assumed = assumed_up_to assumptions now (decided old.trail.literals l)
+          (assumed_append assumptions old.trail.literals (e ∷ []) whole ((λ _. among), tt));
+      given = λ low. absurd (omega (arith, low, is_now));
+      first = λ _. all_true (held old.trail.literals) (held (decided old.trail.literals l)) (take next assumptions)
+          (true_front old.trail.literals (e ∷ [])) (h.first le);
+    }
+
+-- another literal is decided
+pub searching_free : (wanted : List ℕ) (assumptions : List Lit) (levels next now : ℕ) (old : State) (l : Lit)
+    → IsTrail old.trail → IsSettled old.kept (held old.trail.literals) → now ≤ levels
+    → now ≤ current_level old.trail.literals → (now < current_level old.trail.literals → now ≡ levels)
+    → IsSearching wanted assumptions levels next old → are_true (held old.trail.literals) assumptions ≡ true
+    → IsSearching wanted assumptions now next
+    (record old { trail = record old.trail { literals = decided old.trail.literals l } })
+searching_free wanted assumptions levels next now old l is_trail settled low at is_same h given =
+    let e : Assigned = record { literal = l; level = current_level old.trail.literals + 1; reason = None } in
+    let none : up_to now (e ∷ []) ≡ [] = rw (lt-leb e.level now (omega (arith, at))) refl in
+    let front : up_to now (decided old.trail.literals l) ≡ up_to now old.trail.literals =
+    filter-append (λ x. leb x.level now) old.trail.literals (e ∷ [])
+    ∙ ap (λ (es : List Assigned). up_to now old.trail.literals ++ es) none
+    ∙ append-nil (up_to now old.trail.literals) in
+    let lower : AreAssumed assumptions (up_to now old.trail.literals) =
+    subst (λ (es : List Assigned). AreAssumed assumptions es) (up_to-up_to now levels old.trail.literals low)
+    (assumed_up_to assumptions now (up_to levels old.trail.literals) h.assumed) in
+    record {
+      reasoned = reasoned_decided old.kept old.trail.literals e h.reasoned refl;
+      below = below_decided old.kept old.trail (decided old.trail.literals l) e is_trail h.below settled refl refl;
+      room = h.room;
+      places = h.places;
+      assumption_places = h.assumption_places;
+      assumed = subst (λ (es : List Assigned). AreAssumed assumptions es) (sym front) lower;
+      given = λ _. subst (λ (es : List Assigned). are_true (held es) assumptions ≡ true) (sym front)
+          (elim (cases_Bool (ltb now (current_level old.trail.literals))) [
+            | inl below ↦
+                let under = ltb-true now (current_level old.trail.literals) below in
+                let same = is_same under in
+                subst (λ (n : ℕ). are_true (held (up_to n old.trail.literals)) assumptions ≡ true) (sym same)
+                (h.given (omega (arith, under, same)))
+            | inr top ↦
+                subst (λ (es : List Assigned). are_true (held es) assumptions ≡ true)
+                (sym (up_to-all now 0 old.trail.literals is_trail.levelled
+                (omega (arith, ltb-false now (current_level old.trail.literals) top)))) given
+          ]);
+      first = λ high. absurd (omega (arith, high, level_decided old.trail.literals l, at));
+    }
+
+level_up_to : (level m : ℕ) (es : List Assigned) → m ≤ level → level_after m (up_to level es) ≤ level
+level_up_to level m [] h = h
+level_up_to level m (e ∷ es) h =
+    elim (cases_Bool (leb e.level level)) [
+      | inl low ↦ rw low (level_up_to level e.level es (leb-true e.level level low))
+      | inr high ↦ rw high (level_up_to level m es h)
+    ]
+
+assumed_back : (assumptions : List Lit) (levels level : ℕ) (es : List Assigned)
+    → AreAssumed assumptions (up_to levels es) → AreAssumed assumptions (up_to levels (up_to level es))
+assumed_back assumptions levels level es h =
+    elim (cases_Bool (ltb level levels)) [
+      | inl below ↦
+          let le : level ≤ levels = omega (arith, ltb-true level levels below) in
+          assumed_up_to assumptions levels (up_to level es)
+          (subst (λ (xs : List Assigned). AreAssumed assumptions xs) (up_to-up_to level levels es le)
+          (assumed_up_to assumptions level (up_to levels es) h))
+      | inr above ↦
+          subst (λ (xs : List Assigned). AreAssumed assumptions xs)
+          (sym (up_to-up_to levels level es (omega (arith, ltb-false level levels above)))) h
+    ]
+
+-- levels are taken back
+pub searching_back : (wanted : List ℕ) (assumptions : List Lit) (levels next level : ℕ) (old : State)
+    → IsTrail old.trail → IsSearching wanted assumptions levels next old
+    → IsSearching wanted assumptions levels 0
+    (record old { trail = record old.trail { literals = up_to level old.trail.literals } })
+searching_back wanted assumptions levels next level old is_trail h =
+    let es = old.trail.literals in
+    record {
+      reasoned = reasoned_up_to old.kept [] old.trail.literals level 0 h.reasoned is_trail.levelled;
+      below = elim (cases_Bool (ltb level (current_level old.trail.literals))) [
+        | inl under ↦ below_up_to old.kept old.trail.literals level h.below
+            (ltb-true level (current_level old.trail.literals) under)
+        | inr top ↦ subst (λ (xs : List Assigned). IsSettledBelow old.kept xs)
+            (sym (up_to-all level 0 old.trail.literals is_trail.levelled
+            (omega (arith, ltb-false level (current_level old.trail.literals) top)))) h.below
+      ];
+      room = h.room;
+      places = h.places;
+      assumption_places = h.assumption_places;
+      assumed = assumed_back assumptions levels level old.trail.literals h.assumed;
+      given = λ low.
+          let high : levels < level = omega (arith, low, level_up_to level 0 old.trail.literals (omega arith)) in
+          subst (λ (xs : List Assigned). are_true (held xs) assumptions ≡ true)
+          (sym (up_to-up_to levels level old.trail.literals (omega (arith, high))))
+          (h.given (elim (cases_Bool (ltb level (current_level old.trail.literals))) [
+            | inl under ↦ omega (arith, high, ltb-true level (current_level old.trail.literals) under)
+            | inr top ↦ subst (λ (xs : List Assigned). levels < current_level xs)
+                (up_to-all level 0 old.trail.literals is_trail.levelled
+                (omega (arith, ltb-false level (current_level old.trail.literals) top))) low
+          ]));
+      first = λ _. refl;
+    }
+
+-- a clause is kept, and atoms get places
+pub searching_kept : (wanted : List ℕ) (assumptions : List Lit) (levels next : ℕ) (old new : State)
+    (clause : KeptClause) → new.kept ≡ old.kept ++ Some clause ∷ []
+    → new.trail.literals ≡ old.trail.literals → old.trail.reserved ≤ new.trail.reserved
+    → has_room_for new.trail.reserved new.kept ≡ true
+    → IsSettledBelow (old.kept ++ Some clause ∷ []) old.trail.literals
+    → IsSearching wanted assumptions levels next old → IsSearching wanted assumptions levels next new
+searching_kept wanted assumptions levels next old new clause kept same more room below h = record {
+  reasoned = subst (λ (k : Kept). AreReasoned k [] new.trail.literals) (sym kept)
+      (subst (λ (es : List Assigned). AreReasoned (old.kept ++ Some clause ∷ []) [] es) (sym same)
+      (reasoned_more old.kept (Some clause) [] old.trail.literals h.reasoned));
+  below = subst (λ (k : Kept). IsSettledBelow k new.trail.literals) (sym kept)
+      (subst (λ (es : List Assigned). IsSettledBelow (old.kept ++ Some clause ∷ []) es) (sym same) below);
+  room = room;
+  places = more_places old.trail.reserved new.trail.reserved wanted more h.places;
+  assumption_places = more_reserved old.trail.reserved new.trail.reserved assumptions more h.assumption_places;
+  assumed = subst (λ (es : List Assigned). AreAssumed assumptions (up_to levels es)) (sym same) h.assumed;
+  given = subst (λ (es : List Assigned). levels < current_level es
+      → are_true (held (up_to levels es)) assumptions ≡ true) (sym same) h.given;
+  first = subst (λ (es : List Assigned). current_level es ≤ levels
+      → are_true (held es) (take next assumptions) ≡ true) (sym same) h.first;
+}
+
+-- atoms get places
+pub searching_placed : (wanted : List ℕ) (assumptions : List Lit) (levels next : ℕ) (old new : State)
+    → new.kept ≡ old.kept → new.trail.literals ≡ old.trail.literals → old.trail.reserved ≤ new.trail.reserved
+    → IsSearching wanted assumptions levels next old → IsSearching wanted assumptions levels next new
+searching_placed wanted assumptions levels next old new kept same more h = record {
+  reasoned = subst (λ (k : Kept). AreReasoned k [] new.trail.literals) (sym kept)
+      (subst (λ (es : List Assigned). AreReasoned old.kept [] es) (sym same) h.reasoned);
+  below = subst (λ (k : Kept). IsSettledBelow k new.trail.literals) (sym kept)
+      (subst (λ (es : List Assigned). IsSettledBelow old.kept es) (sym same) h.below);
+  room = subst (λ (k : Kept). has_room_for new.trail.reserved k ≡ true) (sym kept)
+      (more_room old.trail.reserved new.trail.reserved old.kept more h.room);
+  places = more_places old.trail.reserved new.trail.reserved wanted more h.places;
+  assumption_places = more_reserved old.trail.reserved new.trail.reserved assumptions more h.assumption_places;
+  assumed = subst (λ (es : List Assigned). AreAssumed assumptions (up_to levels es)) (sym same) h.assumed;
+  given = subst (λ (es : List Assigned). levels < current_level es
+      → are_true (held (up_to levels es)) assumptions ≡ true) (sym same) h.given;
+  first = subst (λ (es : List Assigned). current_level es ≤ levels
+      → are_true (held es) (take next assumptions) ≡ true) (sym same) h.first;
+}
+
+-- a literal above a level is not false up to it
+not_false_low : (n : ℕ) (es : List Assigned) (a : Lit) → AreDistinct es → n < level_in es a
+    → is_false_under (held (up_to n es)) a ≡ false
+not_false_low n es a distinct above =
+    false_from_ne_true (is_false_under (held (up_to n es)) a) (λ is_false.
+    absurd (omega (arith, true_up_to_low n es (negation a) a distinct is_false refl, above)))
+
+-- a clause with two such literals is not false there, and leaves none
+two_not_false : (literals clause : List Lit) (a : Lit) → is_among clause a ≡ true
+    → is_false_under literals a ≡ false → is_false_clause literals clause ≡ false
+two_not_false literals clause a among stays =
+    false_from_ne_true (is_false_clause literals clause) (λ all.
+    false≢true (sym stays ∙ all_among (is_false_under literals) clause a all among))
+
+left_is : (literals clause : List Lit) (a l : Lit) → is_among clause a ≡ true → is_false_under literals a ≡ false
+    → leaves_only literals clause l ≡ true → a ≡ l
+left_is literals clause a l among stays leaves =
+    let others = (and_parts (is_among clause l && is_open_under literals l)
+    (list_all (λ m. is_same_literal m l || is_false_under literals m) clause) leaves).1 in
+    let at : (is_same_literal a l || is_false_under literals a) ≡ true =
+    all_among (λ m. is_same_literal m l || is_false_under literals m) clause a others among in
+    elim (cases_Bool (is_same_literal a l)) [
+      | inl same ↦ is_same_literal-true a l same
+      | inr other ↦ absurd (false≢true (sym (rw (other, stays) refl) ∙ at))
+    ]
+
+leaves_none : (literals clause : List Lit) (a b l : Lit) → is_among clause a ≡ true → is_among clause b ≡ true
+    → is_same_literal a b ≡ false → is_false_under literals a ≡ false → is_false_under literals b ≡ false
+    → leaves_only literals clause l ≡ false
+leaves_none literals clause a b l here there differ a_stays b_stays =
+    false_from_ne_true (leaves_only literals clause l) (λ leaves.
+    false≢true (sym differ ∙ is_same_literal-of a b
+    (left_is literals clause a l here a_stays leaves ∙ sym (left_is literals clause b l there b_stays leaves))))
+
+added_at : (kept : Kept) (k clause : KeptClause) (id : ℕ) → kept_at (kept ++ Some k ∷ []) id ≡ Some clause
+    → (kept_at kept id ≡ Some clause) ⊎ (k ≡ clause)
+added_at [] k clause zero h = inr (same_Some k clause h)
+added_at [] k clause (suc id) h = absurd (Prim.cc (h))
+added_at (x ∷ xs) k clause zero h = inl h
+added_at (x ∷ xs) k clause (suc id) h = added_at xs k clause id h
+
+settled_more : (kept : Kept) (k : KeptClause) (literals : List Lit) → IsSettled kept literals
+    → is_false_clause literals k.literals ≡ false → ((l : Lit) → leaves_only literals k.literals l ≡ false)
+    → IsSettled (kept ++ Some k ∷ []) literals
+settled_more kept k literals h none_false none_forces = record {
+  none_false = λ id clause there. elim (added_at kept k clause id there) [
+    | inl old ↦ h.none_false id clause old
+    | inr new ↦ subst (λ (c : KeptClause). is_false_clause literals c.literals ≡ false) new none_false
+  ];
+  none_forces = λ id clause there l. elim (added_at kept k clause id there) [
+    | inl old ↦ h.none_forces id clause old l
+    | inr new ↦ subst (λ (c : KeptClause). leaves_only literals c.literals l ≡ false) new (none_forces l)
+  ];
+}
+
+-- a lemma is kept where two of its literals are above each level below
+pub below_lemma : (kept : Kept) (k : KeptClause) (es : List Assigned) (level : ℕ) → AreDistinct es
+    → IsHighUpTo es k.literals level → IsSettledBelow kept (up_to level es)
+    → IsSettledBelow (kept ++ Some k ∷ []) (up_to level es)
+below_lemma kept k es level distinct high h = λ n low.
+    let under : n < level = omega (arith, low, level_up_to level 0 es (omega arith)) in
+    let two = high n under in
+    let same : up_to n (up_to level es) ≡ up_to n es = up_to-up_to n level es (omega (arith, under)) in
+    let one_stays = not_false_low n es two.one distinct two.one_above in
+    let other_stays = not_false_low n es two.other distinct two.other_above in
+    subst (λ (xs : List Assigned). IsSettled (kept ++ Some k ∷ []) (held xs)) (sym same)
+    (settled_more kept k (held (up_to n es))
+    (subst (λ (xs : List Assigned). IsSettled kept (held xs)) same (h n low))
+    (two_not_false (held (up_to n es)) k.literals two.one two.one_there one_stays)
+    (λ l. leaves_none (held (up_to n es)) k.literals two.one two.other l two.one_there two.other_there two.differ
+    one_stays other_stays))
+
+-- levels are taken back, and a clause is kept there
+pub searching_after : (wanted wanted_now : List ℕ) (assumptions : List Lit) (levels next levels_now next_now level : ℕ)
+    (old middle new : State) (k : KeptClause) → IsTrail old.trail
+    → middle ≡ record old { trail = record old.trail { literals = up_to level old.trail.literals } }
+    → wanted_now ≡ wanted → levels_now ≡ levels → next_now ≡ 0 → new.kept ≡ middle.kept ++ Some k ∷ []
+    → new.trail.literals ≡ middle.trail.literals → middle.trail.reserved ≤ new.trail.reserved
+    → has_room_for new.trail.reserved new.kept ≡ true
+    → IsSettledBelow (old.kept ++ Some k ∷ []) (up_to level old.trail.literals)
+    → IsSearching wanted assumptions levels next old → IsSearching wanted_now assumptions levels_now next_now new
+searching_after wanted wanted_now assumptions levels next levels_now next_now level old middle new k is_trail is_middle
+    same_wanted same_levels none kept same more room below h =
+    subst (λ (w : List ℕ). IsSearching w assumptions levels_now next_now new) (sym same_wanted)
+    (subst (λ (n : ℕ). IsSearching wanted assumptions n next_now new) (sym same_levels)
+    (subst (λ (n : ℕ). IsSearching wanted assumptions levels n new) (sym none)
+    (searching_kept wanted assumptions levels 0
+    (record old { trail = record old.trail { literals = up_to level old.trail.literals } }) new k
+    (kept ∙ ap (λ (s : State). s.kept ++ Some k ∷ []) is_middle) (same ∙ ap (λ (s : State). s.trail.literals) is_middle)
+    (omega (arith, more, ap (λ (s : State). s.trail.reserved) is_middle)) room below
+    (searching_back wanted assumptions levels next level old is_trail h))))
+
+pub below_back : (kept : Kept) (es : List Assigned) (level : ℕ) → AreLevelled 0 es → IsSettledBelow kept es
+    → IsSettledBelow kept (up_to level es)
+below_back kept es level levelled h =
+    elim (cases_Bool (ltb level (current_level es))) [
+      | inl under ↦ below_up_to kept es level h (ltb-true level (current_level es) under)
+      | inr top ↦ subst (λ (xs : List Assigned). IsSettledBelow kept xs)
+          (sym (up_to-all level 0 es levelled (omega (arith, ltb-false level (current_level es) top)))) h
+    ]
+
+assumed_base : (assumptions : List Lit) (n : ℕ) (es : List Assigned) → AreLevelled n es
+    → AreAssumed assumptions (up_to 0 es)
+assumed_base assumptions n [] h = tt
+assumed_base assumptions n (e ∷ es) h =
+    elim (cases_Bool (leb e.level 0)) [
+      | inl low ↦ rw low (
+        λ none. absurd (omega (arith, leb-true e.level 0 low, h.0 ∙ ap (level_behind n) none)),
+        assumed_base assumptions e.level es h.1,
+      )
+      | inr high ↦ rw high (assumed_base assumptions e.level es h.1)
+    ]
+
+-- where a search begins
+pub searching_begun : (wanted : List ℕ) (assumptions : List Lit) (levels : ℕ) (old new : State) → IsTrail old.trail
+    → AreReasoned old.kept [] old.trail.literals → new.kept ≡ old.kept
+    → new.trail.literals ≡ up_to 0 old.trail.literals → has_room_for new.trail.reserved new.kept ≡ true
+    → have_places new.trail.reserved wanted ≡ true → are_reserved new.trail.reserved assumptions ≡ true
+    → IsSearching wanted assumptions levels 0 new
+searching_begun wanted assumptions levels old new is_trail reasoned kept same room places more =
+    let flat : current_level new.trail.literals ≤ 0 =
+    subst (λ (es : List Assigned). current_level es ≤ 0) (sym same)
+    (level_up_to 0 0 old.trail.literals (omega arith)) in
+    record {
+      reasoned = subst (λ (k : Kept). AreReasoned k [] new.trail.literals) (sym kept)
+          (subst (λ (es : List Assigned). AreReasoned old.kept [] es) (sym same)
+          (reasoned_up_to old.kept [] old.trail.literals 0 0 reasoned is_trail.levelled));
+      below = λ n low. absurd (omega (arith, low, flat));
+      room = room;
+      places = places;
+      assumption_places = more;
+      assumed = subst (λ (es : List Assigned). AreAssumed assumptions (up_to levels es)) (sym same)
+          (assumed_up_to assumptions levels (up_to 0 old.trail.literals)
+          (assumed_base assumptions 0 old.trail.literals is_trail.levelled));
+      given = λ low. absurd (omega (arith, low, flat));
+      first = λ _. refl;
+    }

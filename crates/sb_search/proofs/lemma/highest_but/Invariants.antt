@@ -1,0 +1,6 @@
+use Rattle.std.proofs.Common.{take}
+use Rattle.sb_search.specs.Searching.{IsHighest}
+use Rattle.sb_search.proofs.lemma.highest_but.Given as goal
+
+abbrev pub invariant-loop-literal : goal.invariant-loop-literal
+invariant-loop-literal l = IsHighest l.trail.literals (take l.literal-index l.clause) l.but l.best

@@ -1,0 +1,13 @@
+use Rattle.std.proofs.Common.{◌∙◌, arith}
+use Rattle.sb_search.proofs.Places.{reserved_turn}
+use Rattle.sb_search.proofs.rounds.place_all.Goals as goal
+
+pub loop-literal-preserved : goal.loop-literal-preserved
+loop-literal-preserved c =
+    let made = c.in_ok-make_place.ensures in (
+      made.kept ∙ c.loop-literal.invariant.0,
+      made.literals ∙ c.loop-literal.invariant.1,
+      omega (arith, made.reserved, c.loop-literal.invariant.2),
+      reserved_turn c.loop-literal.engine.trail.reserved c.make_place.new.engine.trail.reserved c.args.literals.now
+          c.loop-literal.literal-index _ c.loop-literal-test.true made.reserved c.loop-literal.invariant.3 made.place,
+    )

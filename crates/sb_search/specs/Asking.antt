@@ -1,0 +1,49 @@
+-- What a search asks of a theory, and what an answer says.
+use Rattle.std.specs.Prelude.{◌≡◌, ℕ, ◌+◌, ◌<◌, ◌≤◌, Bool, true, List, [], ◌∷◌, ◌++◌, Some, None, Result, Ok, Err}
+use Rattle.std.specs.List.{list_all}
+use Rattle.sb_lit.specs.declared.clause.Lit.{Lit}
+use Rattle.sb_lit.specs.Clauses.{is_false_clause}
+use Rattle.sb_lit.specs.Kept.{Kept}
+use Rattle.sb_trail.specs.declared.assigned.Assigned.{Assigned}
+use Rattle.sb_trail.specs.Assignments.{held, value_of, current_level, up_to}
+use Rattle.sb_proof.specs.declared.tape.TapeFault.{TapeFault}
+use Rattle.sb_proof.specs.declared.tape.TapeFault.TheVariants as fault
+use Rattle.sb_proof.specs.Tapes.{Rose}
+use Rattle.sb_search.specs.declared.theory.Checked.{Checked}
+use Rattle.sb_search.specs.declared.theory.Checked.TheVariants as checked
+
+-- a number that is to fall, of what is kept and what is true
+abbrev pub Measure : Type 0
+Measure = Kept → List Assigned → ℕ
+
+-- the trail behind a decision
+abbrev pub decided : List Assigned → Lit → List Assigned
+decided entries l = entries ++ record { literal = l; level = current_level entries + 1; reason = None } ∷ []
+
+-- what is kept with a lemma
+abbrev pub with_lemma : Kept → List Lit → Kept
+with_lemma kept clause = kept ++ Some (record { literals = clause; level = 0 }) ∷ []
+
+-- A lemma is false on the trail, and the atom of a wish has no value; their atoms pass the test.
+abbrev pub IsFair : (ℕ → Bool) → List Assigned → Checked → Type 0
+IsFair passes entries checked.Fine = Unit {0}
+IsFair passes entries (checked.Lemma clause) = (is_false_clause (held entries) clause ≡ true)
+    × (list_all (λ l. passes l.atom) clause ≡ true)
+IsFair passes entries (checked.Ask l) = (value_of entries l.atom ≡ None) × (passes l.atom ≡ true)
+IsFair passes entries checked.Spent = Unit {0}
+
+-- The measure falls over a lemma with the levels that are taken back for it, however many, and over the decision of a
+-- literal that is asked for; it does not rise else.
+abbrev pub Falls : Measure → Measure → Kept → List Assigned → Checked → Type 0
+Falls old new kept entries checked.Fine = new kept entries ≤ old kept entries
+Falls old new kept entries (checked.Lemma clause) = (level : ℕ)
+    → new (with_lemma kept clause) (up_to level entries) < old kept entries
+Falls old new kept entries (checked.Ask l) = (new kept entries ≤ old kept entries)
+    × (new kept (decided entries l) < old kept entries)
+Falls old new kept entries checked.Spent = Unit {0}
+
+-- only a fault of the tape raises its count of faults, and a fault does
+abbrev pub CountsFaults : {A : Type 0} → Result A TapeFault → ℕ → ℕ → Type 0
+CountsFaults (Ok x) old new = new ≡ old
+CountsFaults (Err fault.Fault) old new = Rose old new
+CountsFaults (Err fault.NoMemory) old new = new ≡ old

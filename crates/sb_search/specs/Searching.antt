@@ -1,0 +1,96 @@
+-- Private: what holds between the turns of a search.
+use Rattle.std.specs.Prelude.{◌≡◌, ℕ, ◌<◌, ◌≤◌, Bool, true, false, nat_lt, nat_le, ◌||◌, if◌then◌else◌, List, [], take, Option, Some, None}
+use Rattle.std.specs.List.{list_all, slice_get}
+use Rattle.sb_lit.specs.declared.clause.Lit.{Lit}
+use Rattle.sb_lit.specs.Budgets.{Spending}
+use Rattle.sb_lit.specs.Clauses.{is_among, is_same_literal, is_true_under, is_false_under}
+use Rattle.sb_trail.specs.declared.assigned.Assigned.{Assigned}
+use Rattle.sb_trail.specs.Assignments.{held, value_of, current_level, up_to}
+use Rattle.sb_clauses.specs.Propagation.{State, has_room_for, are_reserved}
+use Rattle.sb_analyze.specs.Reasons.{AreReasoned, level_in}
+use Rattle.sb_analyze.specs.Learning.{IsSettledBelow}
+use Rattle.sb_analyze.specs.Cores.{AreAssumed}
+use Rattle.sb_search.specs.Found.{has_value, are_true}
+use Rattle.sb_search.specs.declared.stage.Next.{Next}
+use Rattle.sb_search.specs.declared.stage.Next.TheVariants as next
+
+-- each of the atoms has a place
+abbrev pub have_places : ℕ → List ℕ → Bool
+have_places reserved atoms = list_all (λ atom. nat_lt atom reserved) atoms
+
+-- Each literal was decided or has its reason, and propagation came to its end on each level below the current one. The
+-- decisions of the first levels are assumptions; where there are more levels all assumptions are true on those first
+-- ones, and else the first assumptions of the list are true.
+pub record IsSearching (wanted : List ℕ) (assumptions : List Lit) (levels next : ℕ) (search : State) : Type 0 where
+  pub reasoned : AreReasoned search.kept [] search.trail.literals
+  pub below : IsSettledBelow search.kept search.trail.literals
+  pub room : has_room_for search.trail.reserved search.kept ≡ true
+  pub places : have_places search.trail.reserved wanted ≡ true
+  pub assumption_places : are_reserved search.trail.reserved assumptions ≡ true
+  pub assumed : AreAssumed assumptions (up_to levels search.trail.literals)
+  pub given : levels < current_level search.trail.literals
+      → are_true (held (up_to levels search.trail.literals)) assumptions ≡ true
+  pub first : current_level search.trail.literals ≤ levels
+      → are_true (held search.trail.literals) (take next assumptions) ≡ true
+
+-- an assumption that is not true, or none is left
+abbrev pub IsNextAssumption : List Lit → List Lit → Option Lit → Type 0
+IsNextAssumption held assumptions None = are_true held assumptions ≡ true
+IsNextAssumption held assumptions (Some l) = (is_among assumptions l ≡ true) × (is_true_under held l ≡ false)
+
+-- an atom that is wanted and has no value, or none is left
+abbrev pub IsNextWanted : List ℕ → List Assigned → Option ℕ → Type 0
+IsNextWanted wanted entries None = list_all (has_value entries) wanted ≡ true
+IsNextWanted wanted entries (Some atom) = (value_of entries atom ≡ None) × ((at : ℕ) × (slice_get wanted at ≡ Some atom))
+
+-- what is next
+abbrev pub IsNext : List ℕ → List Lit → ℕ → State → Next → Type 0
+IsNext wanted assumptions levels search (next.Assume l) = (current_level search.trail.literals ≤ levels)
+    × (is_among assumptions l ≡ true) × (value_of search.trail.literals l.atom ≡ None)
+    × (l.atom < search.trail.reserved)
+IsNext wanted assumptions levels search (next.Refuted l) = (current_level search.trail.literals ≤ levels)
+    × (is_among assumptions l ≡ true) × (is_false_under (held search.trail.literals) l ≡ true)
+IsNext wanted assumptions levels search (next.Free atom) = (value_of search.trail.literals atom ≡ None)
+    × (atom < search.trail.reserved) × (are_true (held search.trail.literals) assumptions ≡ true)
+IsNext wanted assumptions levels search next.Full = (list_all (has_value search.trail.literals) wanted ≡ true)
+    × (are_true (held search.trail.literals) assumptions ≡ true)
+
+-- two different literals of the clause are above the level
+pub record HasTwoAbove (entries : List Assigned) (clause : List Lit) (level : ℕ) : Type 0 where
+  pub one : Lit
+  pub other : Lit
+  pub one_there : is_among clause one ≡ true
+  pub other_there : is_among clause other ≡ true
+  pub differ : is_same_literal one other ≡ false
+  pub one_above : level < level_in entries one
+  pub other_above : level < level_in entries other
+
+-- a budget of which more is spent, within its limit
+pub record IsSpentOn (old new : Spending) : Type 0 where
+  pub limit : new.limit ≡ old.limit
+  pub spent : old.spent ≤ new.spent
+  pub within : new.spent ≤ new.limit
+
+-- the clause is not false, and leaves no literal, on the levels below this one
+abbrev pub IsHighUpTo : List Assigned → List Lit → ℕ → Type 0
+IsHighUpTo entries clause level = (n : ℕ) → n < level → HasTwoAbove entries clause n
+
+-- the literal is this one
+abbrev pub is_but : Option Lit → Lit → Bool
+is_but None l = false
+is_but (Some m) l = is_same_literal l m
+
+-- of the best literal so far and the next one, the one of the higher level, but for this one
+abbrev pub higher : List Assigned → Option Lit → Option Lit → Lit → Option Lit
+higher entries but best l =
+    if is_but but l then best
+    else elim best [
+      | None ↦ Some l
+      | Some m ↦ if nat_le (level_in entries l) (level_in entries m) then Some m else Some l
+    ]
+
+-- a literal of the highest level among those that are not this one, none where there is no other
+abbrev pub IsHighest : List Assigned → List Lit → Option Lit → Option Lit → Type 0
+IsHighest entries clause but None = list_all (is_but but) clause ≡ true
+IsHighest entries clause but (Some best) = (is_among clause best ≡ true) × (is_but but best ≡ false)
+    × (list_all (λ l. is_but but l || nat_le (level_in entries l) (level_in entries best)) clause ≡ true)

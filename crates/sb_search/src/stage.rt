@@ -1,0 +1,133 @@
+//! What is decided next.
+
+ghost use Rattle.std.specs.Prelude.{◌≡◌, ℕ, true, false, ◌≤◌, List, take, drop, Some, None, MatchOption};
+ghost use Rattle.std.specs.List.{slice_get, list_all};
+ghost use Rattle.sb_lit.specs.declared.clause.Lit.{Lit as TheLit};
+ghost use Rattle.sb_lit.specs.Clauses.{is_among, is_true_under};
+ghost use Rattle.sb_trail.specs.Assignments.{held, value_of, current_level};
+ghost use Rattle.sb_clauses.specs.Propagation.{State, are_reserved};
+ghost use Rattle.sb_search.specs.Found.{has_value, are_true};
+ghost use Rattle.sb_search.specs.Searching.{have_places, IsNextAssumption, IsNextWanted, IsSearching, IsNext};
+
+use crate::theory::Theory;
+use sb_clauses::Engine;
+use sb_lit::Lit;
+use sb_trail::Trail;
+
+/// How far a search is with its assumptions and the atoms that are wanted.
+#[derive(Clone, Copy, Debug)]
+pub(crate) struct Stage {
+    /// The decisions up to this level are assumptions.
+    pub levels: usize,
+    /// The assumptions before this place are true, where no other decision was made.
+    pub next: usize,
+    /// The place of the wanted atom that was decided last. Those before it have values, but where levels were taken
+    /// back.
+    pub at: u64,
+}
+
+/// What is decided next.
+#[derive(Clone, Copy, Debug)]
+pub(crate) enum Next {
+    /// This assumption, which has no value.
+    Assume(Lit),
+    /// Nothing: this assumption is false.
+    Refuted(Lit),
+    /// This atom, which is wanted and has no value.
+    Free(u64),
+    /// Nothing: all assumptions are true, and all atoms that are wanted have values.
+    Full,
+}
+
+impl Stage {
+    /// What is decided next.
+    pub fn next<T: Theory>(&mut self, theory: &T, engine: &Engine, assumptions: &[Lit]) -> Next
+        requires { IsSearching (T.wanted theory.now) assumptions.now self.old.levels self.old.next engine.now }
+        ensures levels { self.new.levels ≡ self.old.levels }
+        ensures searching { IsSearching (T.wanted theory.now) assumptions.now self.new.levels self.new.next engine.now }
+        ensures next { IsNext (T.wanted theory.now) assumptions.now self.new.levels engine.now result }
+    {
+        let trail = engine.trail();
+        if trail.current_level() > self.levels {
+            return free(theory, trail, &mut self.at);
+        }
+        match next_assumption(trail, assumptions, &mut self.next) {
+            Some(literal) => given(trail, literal),
+            None => free(theory, trail, &mut self.at),
+        }
+    }
+}
+
+/// An assumption that is not true: it has no value, or is false.
+fn given(trail: &Trail, literal: Lit) -> Next
+    requires { is_true_under (held trail.now.literals) literal ≡ false }
+    ensures { (wanted : List ℕ) (assumptions : List TheLit) (levels : ℕ) (search : State) → search.trail ≡ trail.now
+        → current_level trail.now.literals ≤ levels → is_among assumptions literal ≡ true
+        → are_reserved trail.now.reserved assumptions ≡ true → IsNext wanted assumptions levels search result }
+{
+    if trail.literal_value(literal).is_none() {
+        Next::Assume(literal)
+    } else {
+        Next::Refuted(literal)
+    }
+}
+
+/// A wanted atom without a value, where all assumptions are true.
+fn free<T: Theory>(theory: &T, trail: &Trail, at: &mut u64) -> Next
+    ensures { (assumptions : List TheLit) (levels : ℕ) (search : State) → search.trail ≡ trail.now
+        → are_true (held trail.now.literals) assumptions ≡ true
+        → have_places trail.now.reserved (T.wanted theory.now) ≡ true
+        → IsNext (T.wanted theory.now) assumptions levels search result }
+{
+    match next_wanted(theory, trail, at) {
+        Some(atom) => Next::Free(atom),
+        None => Next::Full,
+    }
+}
+
+/// The first assumption from the place on that is not true. The place becomes its own.
+fn next_assumption(trail: &Trail, assumptions: &[Lit], next: &mut usize) -> Option<Lit>
+    requires { are_true (held trail.now.literals) (take next.old assumptions.now) ≡ true }
+    ensures first { are_true (held trail.now.literals) (take next.new assumptions.now) ≡ true }
+    ensures next { IsNextAssumption (held trail.now.literals) assumptions.now result }
+{
+    while *next < assumptions.len() {
+        let literal = assumptions[*next];
+        if trail.literal_value(literal) != Some(true) {
+            return Some(literal);
+        }
+        *next += 1;
+    }
+    None
+}
+
+/// A wanted atom without a value: the first from the place on, or else the first of all. The place becomes its own.
+fn next_wanted<T: Theory>(theory: &T, trail: &Trail, at: &mut u64) -> Option<u64>
+    ensures { IsNextWanted (T.wanted theory.now) trail.now.literals result }
+{
+    if let Some((place, atom)) = open_from(theory, trail, *at) {
+        *at = place;
+        return Some(atom);
+    }
+    let (place, atom) = open_from(theory, trail, 0)?;
+    *at = place;
+    Some(atom)
+}
+
+/// The first place from this one on whose atom has no value, with that atom.
+#[tactic(auto, using(crate::proofs::Places::open_turn, crate::proofs::Places::open_end))]
+fn open_from<T: Theory>(theory: &T, trail: &Trail, from: u64) -> Option<(u64, u64)>
+    ensures { MatchOption result
+        (list_all (has_value trail.now.literals) (drop from (T.wanted theory.now)) ≡ true)
+        (λ found. (value_of trail.now.literals found.1 ≡ None)
+        × (slice_get (T.wanted theory.now) found.0 ≡ Some found.1)) }
+{
+    let mut at = from;
+    while let Some(atom) = theory.wanted_at(at) {
+        if trail.value(atom).is_none() {
+            return Some((at, atom));
+        }
+        at += 1;
+    }
+    None
+}

@@ -1,0 +1,91 @@
+//! What a search asks of a theory.
+
+ghost use Rattle.std.specs.Prelude.{◌≡◌, ℕ, ◌+◌, ◌^◌, ◌<◌, ◌≤◌, Bool, true, List, [], ◌∷◌, ◌++◌, length, Some, IfOk, OnOk};
+ghost use Rattle.std.specs.List.{slice_get};
+ghost use Rattle.sb_lit.specs.Kept.{Kept};
+ghost use Rattle.sb_trail.specs.declared.assigned.Assigned.{Assigned};
+ghost use Rattle.sb_trail.specs.Assignments.{held, up_to};
+ghost use Rattle.sb_clauses.specs.Propagation.{HasNoneFalse};
+ghost use Rattle.sb_search.specs.Asking.{IsFair, Falls, CountsFaults};
+ghost use Rattle.sb_search.specs.declared.theory.Checked.TheVariants.{Fine, Spent};
+
+use sb_clauses::Clauses;
+use sb_lit::{Budget, Clause, Lit};
+use sb_proof::{Tape, TapeFault};
+use sb_trail::Trail;
+
+/// What a theory says of a trail.
+#[derive(Debug, Drop)]
+pub enum Checked {
+    /// Nothing is wrong. Where the trail was the last one, the theory has values that agree with it.
+    Fine,
+    /// A clause that is valid and false on the trail. Its line has just been put.
+    Lemma(Clause),
+    /// This literal is to be decided; it has no value.
+    Ask(Lit),
+    /// The budget is spent.
+    Spent,
+}
+
+/// A theory about the atoms of a trail.
+pub trait Theory {
+    /// The atoms that are to have values in the end.
+    ghost wanted: { Self → List ℕ };
+
+    /// The test of atoms that those of lemmas and wishes pass.
+    ghost passes: { Self → ℕ → Bool };
+
+    /// A number that falls wherever no step of the budget is spent and the trail does not just grow.
+    ghost measure: { Self → Kept → List Assigned → ℕ };
+
+    /// What the theory took in of a trail stands on this one.
+    ghost stands: { Self → List Assigned → Type 0 };
+
+    /// The values that the theory has agree with each literal of a wanted atom on the trail.
+    ghost agrees: { Self → List Assigned → Type 0 };
+
+    /// Looks at the trail, on which no kept clause is false. `last` says that all wanted atoms have values and all
+    /// assumptions are true: `Fine` then stands for values that agree. Puts the lines of what it finds, and spends a step
+    /// for each that is counted.
+    fn check<L: Tape>(
+        &mut self,
+        trail: &Trail,
+        clauses: &Clauses,
+        last: bool,
+        tape: &mut L,
+        budget: &mut Budget,
+    ) -> Result<Checked, TapeFault>
+        requires none_false { HasNoneFalse clauses.now (held trail.now.literals) }
+        requires stands { stands self.old trail.now.literals }
+        ensures stands { OnOk result (stands self.new trail.now.literals) }
+        ensures wanted { wanted self.new ≡ wanted self.old }
+        ensures passes { passes self.new ≡ passes self.old }
+        ensures limit { budget.new.limit ≡ budget.old.limit }
+        ensures spends { budget.old.spent ≤ budget.new.spent }
+        ensures within { budget.new.spent ≤ budget.new.limit }
+        ensures fair { IfOk result (IsFair (passes self.old) trail.now.literals) }
+        ensures agrees { IfOk result (λ answer. last ≡ true → answer ≡ Fine → agrees self.new trail.now.literals) }
+        ensures spent { IfOk result (λ answer. answer ≡ Spent → budget.new.spent ≡ budget.new.limit) }
+        ensures falls { IfOk result (λ answer. budget.new.spent ≡ budget.old.spent
+            → Falls (measure self.old) (measure self.new) clauses.now trail.now.literals answer) }
+        ensures counts { CountsFaults result (L.Tape.faults tape.old) (L.Tape.faults tape.new) };
+
+    /// The levels above this one are taken back. Takes no memory.
+    fn undo(&mut self, level: usize)
+        ensures stands { (entries : List Assigned) → stands self.old entries → stands self.new (up_to level entries) }
+        ensures wanted { wanted self.new ≡ wanted self.old }
+        ensures passes { passes self.new ≡ passes self.old }
+        ensures falls { (kept : Kept) (entries : List Assigned) → measure self.new kept entries ≤ measure self.old kept entries };
+
+    /// The wanted atom at this place, `None` exactly past the last one. Takes no memory.
+    fn wanted_at(&self, at: u64) -> Option<u64>
+        ensures atom { result ≡ slice_get (wanted self.now) at }
+        ensures small { length (wanted self.now) < 2 ^ 63 };
+
+    /// A trail that grew leaves standing what stood,
+    ghost stands_longer: { (x : Self) (entries more : List Assigned) → stands x entries → stands x (entries ++ more) };
+
+    /// and the measure does not rise there.
+    ghost measure_longer: { (x : Self) (kept : Kept) (entries more : List Assigned)
+        → measure x kept (entries ++ more) ≤ measure x kept entries };
+}
