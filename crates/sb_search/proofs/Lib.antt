@@ -2,3 +2,4 @@ mod Truths
 mod Places
 mod Turns
 mod Highest
+mod Refuting

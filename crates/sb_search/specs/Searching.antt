@@ -1,5 +1,5 @@
 -- Private: what holds between the turns of a search.
-use Rattle.std.specs.Prelude.{◌≡◌, ℕ, ◌<◌, ◌≤◌, Bool, true, false, nat_lt, nat_le, ◌||◌, if◌then◌else◌, List, [], take, Option, Some, None}
+use Rattle.std.specs.Prelude.{◌≡◌, ℕ, ◌<◌, ◌≤◌, ◌-◌, ◌⊎◌, Bool, true, false, nat_lt, nat_le, ◌||◌, if◌then◌else◌, List, [], take, length, Option, Some, None}
 use Rattle.std.specs.List.{list_all, slice_get}
 use Rattle.sb_lit.specs.declared.clause.Lit.{Lit}
 use Rattle.sb_lit.specs.Budgets.{Spending}
@@ -10,9 +10,11 @@ use Rattle.sb_clauses.specs.Propagation.{State, has_room_for, are_reserved}
 use Rattle.sb_analyze.specs.Reasons.{AreReasoned, level_in}
 use Rattle.sb_analyze.specs.Learning.{IsSettledBelow}
 use Rattle.sb_analyze.specs.Cores.{AreAssumed}
-use Rattle.sb_search.specs.Found.{has_value, are_true}
+use Rattle.sb_search.specs.Found.{has_value, are_true, IsFound, GrowsTo}
 use Rattle.sb_search.specs.declared.stage.Next.{Next}
 use Rattle.sb_search.specs.declared.stage.Next.TheVariants as next
+use Rattle.sb_search.specs.declared.turn.Turn.{Turn}
+use Rattle.sb_search.specs.declared.turn.Turn.TheVariants as turn
 
 -- each of the atoms has a place
 abbrev pub have_places : ℕ → List ℕ → Bool
@@ -70,6 +72,31 @@ pub record IsSpentOn (old new : Spending) : Type 0 where
   pub limit : new.limit ≡ old.limit
   pub spent : old.spent ≤ new.spent
   pub within : new.spent ≤ new.limit
+
+-- more was spent, or as much and the measure did not rise
+abbrev pub IsNoWorse : Spending → Spending → ℕ → ℕ → Type 0
+IsNoWorse before after old new = (before.spent < after.spent) ⊎ ((after.spent ≡ before.spent) × (new ≤ old))
+
+-- more was spent, or as much and the measure fell
+abbrev pub IsBetter : Spending → Spending → ℕ → ℕ → Type 0
+IsBetter before after old new = (before.spent < after.spent) ⊎ ((after.spent ≡ before.spent) × (new < old))
+
+-- how a turn ends: with an answer, with a longer trail on which nothing is worse, or with something better
+abbrev pub GoesOn : List ℕ → List Lit → ℕ → ℕ → State → State → Spending → Spending → ℕ → ℕ → Turn → Type 0
+GoesOn wanted assumptions levels next old new before after most now (turn.Ends found) =
+    IsFound wanted assumptions new after found × AreReasoned new.kept [] new.trail.literals
+GoesOn wanted assumptions levels next old new before after most now turn.Decides =
+    IsSearching wanted assumptions levels next new × IsNoWorse before after most now
+    × (new.trail.reserved - length new.trail.literals < old.trail.reserved - length old.trail.literals)
+GoesOn wanted assumptions levels next old new before after most now turn.Moves =
+    IsSearching wanted assumptions levels next new × IsBetter before after most now
+
+-- what a turn makes of the search
+pub record IsTurned (wanted : List ℕ) (assumptions : List Lit) (levels next : ℕ) (old new : State)
+    (before after : Spending) (most now : ℕ) (turn : Turn) : Type 0 where
+  pub grows : GrowsTo old.kept new.kept
+  pub spends : IsSpentOn before after
+  pub goes_on : GoesOn wanted assumptions levels next old new before after most now turn
 
 -- the clause is not false, and leaves no literal, on the levels below this one
 abbrev pub IsHighUpTo : List Assigned → List Lit → ℕ → Type 0

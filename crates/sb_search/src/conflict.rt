@@ -1,21 +1,71 @@
-//! What a clause that is false on the trail teaches.
+//! Clauses that are false on the trail.
 
-ghost use Rattle.std.specs.Prelude.{◌≡◌, ◌<◌, [], List, IfOk, OnOk};
+ghost use Rattle.std.specs.Prelude.{◌≡◌, ◌≢◌, ℕ, ◌<◌, ◌≤◌, [], ◌∷◌, List, true, false, IfOk, OnOk};
 ghost use Rattle.sb_lit.specs.declared.clause.Lit.{Lit as TheLit};
+ghost use Rattle.sb_lit.specs.Budgets.{Spending};
 ghost use Rattle.sb_trail.specs.Assignments.{held, current_level};
 ghost use Rattle.sb_clauses.specs.Propagation.{IsConflict};
 ghost use Rattle.sb_analyze.specs.Reasons.{AreReasoned};
 ghost use Rattle.sb_analyze.specs.Learning.{IsAsserting, IsSettledBelow};
-ghost use Rattle.sb_search.specs.Found.{GrowsTo};
-ghost use Rattle.sb_search.specs.Searching.{IsSearching};
+ghost use Rattle.sb_analyze.specs.Cores.{AreAssumed, IsFinal, IsBothCore, IsNewCore};
+ghost use Rattle.sb_search.specs.Asking.{CountsFaults};
+ghost use Rattle.sb_search.specs.Found.{GrowsTo, IsFound};
+ghost use Rattle.sb_search.specs.Searching.{IsSearching, IsTurned, IsSpentOn};
+ghost use Rattle.sb_search.specs.declared.found.Found.TheVariants.{Sat};
+ghost use Rattle.sb_search.specs.declared.turn.Turn.TheVariants.{Ends};
 
+use crate::found::Found;
 use crate::lemma::{go_back, keep};
+use crate::lines::{put_both, put_learned};
 use crate::stage::Stage;
 use crate::theory::Theory;
-use sb_analyze::{Learned, learn};
+use crate::turn::Turn;
+use sb_analyze::{Core, Learned, final_core, learn};
 use sb_clauses::Engine;
-use sb_lit::ClauseId;
+use sb_lit::{Budget, Clause, ClauseId, Lit};
+use sb_proof::{Tape, TapeFault};
 use std::alloc::{AllocError, Global};
+
+/// Learns from a false clause, and goes back to where what was learned leaves one literal; where all decisions are
+/// assumptions they are refuted.
+pub(crate) fn resolve<T: Theory, L: Tape>(
+    alloc: Global,
+    theory: &mut T,
+    engine: &mut Engine,
+    stage: &mut Stage,
+    assumptions: &[Lit],
+    conflict: ClauseId,
+    tape: &mut L,
+    budget: &mut Budget,
+) -> Result<Turn, TapeFault>
+    requires searching { IsSearching (T.wanted theory.old) assumptions.now stage.old.levels stage.old.next engine.old }
+    requires conflict { IsConflict engine.old.kept (held engine.old.trail.literals) conflict.0 }
+    requires stands { T.stands theory.old engine.old.trail.literals }
+    requires within { budget.old.spent ≤ budget.old.limit }
+    ensures turned { IfOk result (IsTurned (T.wanted theory.new) assumptions.now stage.new.levels stage.new.next
+        engine.old engine.new budget.old budget.new
+        (T.measure theory.old engine.old.kept engine.old.trail.literals)
+        (T.measure theory.new engine.new.kept engine.new.trail.literals)) }
+    ensures not_sat { IfOk result (λ turn. turn ≢ Ends Sat) }
+    ensures stands { OnOk result (T.stands theory.new engine.new.trail.literals) }
+    ensures wanted { T.wanted theory.new ≡ T.wanted theory.old }
+    ensures passes { T.passes theory.new ≡ T.passes theory.old }
+    ensures counts { CountsFaults result (L.Tape.faults tape.old) (L.Tape.faults tape.new) }
+{
+    let trail = engine.trail();
+    let _before = trail.literals();
+    if trail.current_level() <= stage.levels {
+        let found = refute(alloc, engine, assumptions, Some(conflict), tape, budget)?;
+        return Ok(Turn::Ends(found));
+    }
+    if budget.tick().is_err() {
+        return Ok(Turn::Ends(Found::Spent));
+    }
+    let lesson = explain(alloc, engine, conflict)?;
+    put_learned(alloc, &lesson, tape)?;
+    take_lesson(theory, engine, stage, &lesson)?;
+    Ok(Turn::Moves)
+}
 
 /// What a false clause teaches.
 fn explain(alloc: Global, engine: &Engine, conflict: ClauseId) -> Result<Learned, AllocError>
@@ -55,4 +105,108 @@ fn take_lesson<T: Theory>(
     go_back(theory, engine, stage, lesson.backjump_level);
     keep(engine, &lesson.clause, lesson.level)?;
     Ok(())
+}
+
+/// A kept clause of negated assumptions: one that is there, or that two assumptions are not both true, or one that is
+/// learned.
+pub(crate) fn refute<L: Tape>(
+    alloc: Global,
+    engine: &mut Engine,
+    assumptions: &[Lit],
+    conflict: Option<ClauseId>,
+    tape: &mut L,
+    budget: &mut Budget,
+) -> Result<Found, TapeFault>
+    requires reasoned { AreReasoned engine.old.kept [] engine.old.trail.literals }
+    requires assumed { AreAssumed assumptions.now engine.old.trail.literals }
+    requires conflict { IsFinal engine.old.kept engine.old.trail.literals assumptions.now conflict }
+    requires within { budget.old.spent ≤ budget.old.limit }
+    ensures found { IfOk result (λ found. (wanted : List ℕ)
+        → IsFound wanted assumptions.now engine.new budget.new found) }
+    ensures not_sat { IfOk result (λ found. found ≢ Sat) }
+    ensures reasoned { OnOk result (AreReasoned engine.new.kept [] engine.new.trail.literals) }
+    ensures literals { OnOk result (engine.new.trail.literals ≡ engine.old.trail.literals) }
+    ensures grows { OnOk result (GrowsTo engine.old.kept engine.new.kept) }
+    ensures spends { OnOk result (IsSpentOn budget.old budget.new) }
+    ensures counts { CountsFaults result (L.Tape.faults tape.old) (L.Tape.faults tape.new) }
+{
+    let core = final_core(
+        alloc,
+        engine.trail(),
+        engine.clauses(),
+        conflict,
+        assumptions,
+    )?;
+    match core {
+        Core::Kept(id) => Ok(Found::Unsat(id)),
+        Core::Both(literal) => keep_both(alloc, engine, literal, tape),
+        Core::New(lesson) => keep_core(alloc, engine, &lesson, tape, budget),
+    }
+}
+
+/// Keeps the clause that a literal or its negation is true, at level 0.
+fn keep_both<L: Tape>(
+    alloc: Global,
+    engine: &mut Engine,
+    literal: Lit,
+    tape: &mut L,
+) -> Result<Found, TapeFault>
+    requires reasoned { AreReasoned engine.old.kept [] engine.old.trail.literals }
+    ensures found { IfOk result (λ found. (wanted : List ℕ) (assumptions : List TheLit) (budget : Spending)
+        → IsBothCore engine.old.kept assumptions literal → IsFound wanted assumptions engine.new budget found) }
+    ensures not_sat { IfOk result (λ found. found ≢ Sat) }
+    ensures reasoned { OnOk result (AreReasoned engine.new.kept [] engine.new.trail.literals) }
+    ensures literals { OnOk result (engine.new.trail.literals ≡ engine.old.trail.literals) }
+    ensures grows { OnOk result (GrowsTo engine.old.kept engine.new.kept) }
+    ensures counts { CountsFaults result (L.Tape.faults tape.old) (L.Tape.faults tape.new) }
+{
+    put_both(both(alloc, literal.atom)?, tape)?;
+    let clause = Clause::from_literals(both(alloc, literal.atom)?);
+    let id = keep(engine, &clause, 0)?;
+    Ok(Found::Unsat(id))
+}
+
+/// The two literals of an atom.
+fn both(alloc: Global, atom: u64) -> Result<Vec<Lit>, AllocError>
+    ensures { IfOk result (λ literals. literals.items
+        ≡ record { atom = atom; positive = true } ∷ record { atom = atom; positive = false } ∷ []) }
+{
+    let literals = [
+        Lit {
+            atom,
+            positive: true,
+        },
+        Lit {
+            atom,
+            positive: false,
+        },
+    ];
+    Vec::from_slice(alloc, &literals)
+}
+
+/// Keeps a clause of negated assumptions, which was learned.
+fn keep_core<L: Tape>(
+    alloc: Global,
+    engine: &mut Engine,
+    lesson: &Learned,
+    tape: &mut L,
+    budget: &mut Budget,
+) -> Result<Found, TapeFault>
+    requires reasoned { AreReasoned engine.old.kept [] engine.old.trail.literals }
+    requires within { budget.old.spent ≤ budget.old.limit }
+    ensures found { IfOk result (λ found. (wanted : List ℕ) (assumptions : List TheLit)
+        → IsNewCore engine.old.kept assumptions lesson.now → IsFound wanted assumptions engine.new budget.new found) }
+    ensures not_sat { IfOk result (λ found. found ≢ Sat) }
+    ensures reasoned { OnOk result (AreReasoned engine.new.kept [] engine.new.trail.literals) }
+    ensures literals { OnOk result (engine.new.trail.literals ≡ engine.old.trail.literals) }
+    ensures grows { OnOk result (GrowsTo engine.old.kept engine.new.kept) }
+    ensures spends { OnOk result (IsSpentOn budget.old budget.new) }
+    ensures counts { CountsFaults result (L.Tape.faults tape.old) (L.Tape.faults tape.new) }
+{
+    if budget.tick().is_err() {
+        return Ok(Found::Spent);
+    }
+    put_learned(alloc, lesson, tape)?;
+    let id = keep(engine, &lesson.clause, lesson.level)?;
+    Ok(Found::Unsat(id))
 }

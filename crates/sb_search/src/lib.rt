@@ -7,8 +7,8 @@
 //! first levels are assumptions. The layer above implements the trait.
 //!
 //! The moves: places for all atoms, propagation, the question, a decision of an assumption or of another literal, a
-//! lemma or a learned clause that is kept where it leaves one literal, and the lines of what was learned. The loop over
-//! them is still to come.
+//! lemma that is kept where it leaves one literal, and a false clause, from which is learned, or by which the assumptions
+//! are refuted, with the lines of what was learned. The loop over them is still to come.
 #![tactic(auto)]
 
 mod conflict;

@@ -10,6 +10,7 @@ ghost use Rattle.sb_search.specs.Found.{are_true};
 ghost use Rattle.sb_search.specs.Searching.{IsSearching, IsSpentOn};
 ghost use Rattle.sb_search.specs.declared.theory.Checked.TheVariants.{Fine, Spent};
 
+use crate::found::Found;
 use crate::lemma::make_place;
 use crate::stage::Stage;
 use crate::theory::{Checked, Theory};
@@ -17,6 +18,17 @@ use sb_clauses::{Engine, Propagated};
 use sb_lit::{Budget, ClauseId, Lit};
 use sb_proof::{Tape, TapeFault};
 use std::alloc::{AllocError, Global};
+
+/// How a turn ends.
+#[derive(Clone, Copy, Debug)]
+pub(crate) enum Turn {
+    /// The search ends.
+    Ends(Found),
+    /// The next literal was decided.
+    Decides,
+    /// A clause was learned, or the theory gave a lemma or asked for a literal.
+    Moves,
+}
 
 /// Propagates, and says which clause is false.
 fn settle<T: Theory>(theory: &T, engine: &mut Engine) -> Option<ClauseId>

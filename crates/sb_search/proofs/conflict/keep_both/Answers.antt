@@ -1,0 +1,14 @@
+use Rattle.std.proofs.Common.{◌∙◌}
+use Rattle.sb_search.proofs.Refuting.{both_core, reasoned_kept}
+use Rattle.sb_search.proofs.conflict.keep_both.Goals as goal
+
+pub returns-clause-found : goal.returns-clause-found
+returns-clause-found g c = λ wanted assumptions budget h.
+    both_core c.args.engine.now.kept c.keep.new.engine.kept assumptions c.args.literal c.from_literals-clause.result
+    c.in_ok-id.id.0 (c.from_literals-clause.ensures ∙ c.in_ok-both-2.ensures) c.in_ok-id.ensures.kept
+    c.in_ok-id.ensures.number h
+
+pub returns-clause-reasoned : goal.returns-clause-reasoned
+returns-clause-reasoned g c =
+    reasoned_kept c.args.engine.now c.keep.new.engine (record { literals = c.from_literals-clause.result; level = 0 }) c.in_ok-id.ensures.kept c.in_ok-id.ensures.literals
+    c.requires.reasoned
