@@ -1,6 +1,7 @@
 //! The moves of a search: it propagates, asks the theory, and decides.
 
-ghost use Rattle.std.specs.Prelude.{◌≡◌, ℕ, ◌<◌, ◌≤◌, ◌-◌, [], ◌∷◌, ◌++◌, List, true, length, Some, None, IfOk, OnOk, MatchOption};
+ghost use Rattle.std.specs.Prelude.{◌≡◌, ℕ, ◌<◌, ◌≤◌, ◌-◌, [], ◌∷◌, ◌++◌};
+ghost use Rattle.std.specs.Prelude.{List, true, length, Some, None, IfOk, OnOk, MatchOption};
 ghost use Rattle.sb_lit.specs.declared.clause.Lit.{Lit as TheLit};
 ghost use Rattle.sb_lit.specs.Clauses.{is_among};
 ghost use Rattle.sb_trail.specs.Assignments.{held, value_of, current_level};
