@@ -113,6 +113,16 @@ assumed assumptions (x ∷ xs) h e there is =
       | inr later ↦ assumed assumptions xs h.1 e later.1 is
     ]
 
+-- a literal that was decided, and whose negation is an assumption
+pub decided_false : (assumptions : List Lit) (es : List Assigned) (l : Lit) → AreDistinct es → AreAssumed assumptions es
+    → is_false_under (held es) l ≡ true → reason_of es l.atom ≡ None → is_among assumptions (negation l) ≡ true
+decided_false assumptions es l distinct h is_false none =
+    let found = entry_of_true es (negation l) distinct is_false in
+    let at : entry_of es l.atom ≡ Some found.entry =
+    ap (λ (m : Lit). entry_of es m.atom) (sym found.literal) ∙ found.stands in
+    ap (is_among assumptions) (sym found.literal) ∙ assumed assumptions es h found.entry found.stands
+    (sym (ap (option_and_then (λ (e : Assigned). e.reason)) at) ∙ none)
+
 -- the place of an entry
 place_of : (es : List Assigned) (e : Assigned) → Stands es e → (n : ℕ) × (n < length es) × (get_or es n e ≡ e)
 place_of [] e there = absurd (Prim.cc (there))

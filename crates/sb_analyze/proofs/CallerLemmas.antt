@@ -15,9 +15,10 @@ use Rattle.sb_clauses.specs.Propagation.{AreForced, GrowsBy, IsSettled, IsConfli
 use Rattle.sb_analyze.specs.Reasons.{AreReasoned, highest}
 use Rattle.sb_analyze.specs.Learning.{HasTwoOf, IsTeaching, IsAsserting, IsSettledBelow}
 use Rattle.sb_analyze.specs.declared.learned.Learned.{Learned}
-use Rattle.sb_analyze.proofs.Lessons.{true_up_to_low}
+pub use Rattle.sb_analyze.proofs.Lessons.{true_up_to_low}
 use Rattle.sb_analyze.proofs.Teaching.{has_two_of}
 pub use Rattle.sb_analyze.proofs.Teaching.{is_highest}
+pub use Rattle.sb_analyze.proofs.Assumptions.{decided_false}
 use Rattle.sb_lit.proofs.CallerLemmas.{is_same_literal-true, all_among}
 use Rattle.sb_analyze.specs.Cores.{AreAssumed}
 use Rattle.sb_trail.proofs.CallerLemmas.{level_behind-above, level_after-push, up_to-all, up_to-up_to}
@@ -56,7 +57,7 @@ pub reasoned_decided : (kept : Kept) (es : List Assigned) (e : Assigned) → Are
 reasoned_decided kept es e h is = reasoned_append kept [] es (e ∷ []) h (inl is, tt)
 
 -- what is forced stays on the current level
-level_forced : (kept : Kept) (before xs : List Assigned) → AreForced kept before xs
+pub level_forced : (kept : Kept) (before xs : List Assigned) → AreForced kept before xs
     → current_level (before ++ xs) ≡ current_level before
 level_forced kept before [] h = ap current_level (append-nil before)
 level_forced kept before (x ∷ xs) h =
@@ -215,7 +216,7 @@ below_decided kept old new e is_trail h settled level pushed = λ n low.
           subst (λ (es : List Assigned). IsSettled kept (held es)) (sym whole) settled
     ])
 
-level_up_to : (level m : ℕ) (es : List Assigned) → m ≤ level → level_after m (up_to level es) ≤ level
+pub level_up_to : (level m : ℕ) (es : List Assigned) → m ≤ level → level_after m (up_to level es) ≤ level
 level_up_to level m [] h = h
 level_up_to level m (e ∷ es) h =
     elim (cases_Bool (leb e.level level)) [
@@ -238,7 +239,7 @@ added_at [] k clause (suc id) h = absurd (Prim.cc (h))
 added_at (x ∷ xs) k clause zero h = inl h
 added_at (x ∷ xs) k clause (suc id) h = added_at xs k clause id h
 
-settled_more : (kept : Kept) (k : KeptClause) (literals : List Lit) → IsSettled kept literals
+pub settled_more : (kept : Kept) (k : KeptClause) (literals : List Lit) → IsSettled kept literals
     → is_false_clause literals k.literals ≡ false → ((l : Lit) → leaves_only literals k.literals l ≡ false)
     → IsSettled (kept ++ Some k ∷ []) literals
 settled_more kept k literals h none_false none_forces = record {
@@ -253,7 +254,7 @@ settled_more kept k literals h none_false none_forces = record {
 }
 
 -- a clause with a literal that is not false is not false, and leaves no other literal
-not_false_with : (literals clause : List Lit) (a : Lit) → is_among clause a ≡ true
+pub not_false_with : (literals clause : List Lit) (a : Lit) → is_among clause a ≡ true
     → is_false_under literals a ≡ false → is_false_clause literals clause ≡ false
 not_false_with literals clause a among stays =
     false_from_ne_true (is_false_clause literals clause) (λ all.

@@ -3,3 +3,4 @@ mod Places
 mod Turns
 mod Highest
 mod Refuting
+mod Outcomes

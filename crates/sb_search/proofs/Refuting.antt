@@ -1,15 +1,17 @@
 -- Clauses of negated assumptions, where they are kept.
-use Rattle.std.proofs.Common.{◌≡◌, ℕ, true, false, Bool, length, map, List, [], ◌∷◌, ◌++◌, Some, Option, refl, sym, ◌∙◌, subst}
+use Rattle.std.proofs.Common.{◌≡◌, ℕ, true, false, Bool, length, map, List, [], ◌∷◌, ◌++◌, Some, None, Option, refl, sym, ◌∙◌, subst, inr}
 use Rattle.std.proofs.lemmas.Bool.{and_from}
 use Rattle.sb_lit.specs.declared.clause.Lit.{Lit}
-use Rattle.sb_lit.specs.Clauses.{negation, is_among, are_among}
+use Rattle.sb_lit.specs.declared.clause.ClauseId.{ClauseId}
+use Rattle.sb_lit.specs.Clauses.{negation, is_among, are_among, is_false_under}
 use Rattle.sb_lit.specs.Kept.{Kept, KeptClause, kept_at}
 use Rattle.sb_lit.proofs.CallerLemmas.{among_negated}
 use Rattle.sb_trail.specs.declared.assigned.Assigned.{Assigned}
+use Rattle.sb_trail.specs.Assignments.{held, reason_of, AreDistinct}
 use Rattle.sb_clauses.specs.Propagation.{State}
 use Rattle.sb_analyze.specs.Reasons.{AreReasoned}
-use Rattle.sb_analyze.proofs.CallerLemmas.{reasoned_more}
-use Rattle.sb_analyze.specs.Cores.{are_negated, IsKeptCore, IsBothCore, IsNewCore}
+use Rattle.sb_analyze.proofs.CallerLemmas.{reasoned_more, decided_false}
+use Rattle.sb_analyze.specs.Cores.{are_negated, AreAssumed, IsFinal, IsKeptCore, IsBothCore, IsNewCore}
 use Rattle.sb_analyze.specs.declared.learned.Learned.{Learned}
 
 kept_last : (kept : Kept) (k : Option KeptClause) → kept_at (kept ++ k ∷ []) (length kept) ≡ k
@@ -63,3 +65,15 @@ reasoned_kept old new k kept same h =
     subst (λ (ks : Kept). AreReasoned ks [] new.trail.literals) (sym kept)
     (subst (λ (es : List Assigned). AreReasoned (old.kept ++ Some k ∷ []) [] es) (sym same)
     (reasoned_more old.kept (Some k) [] old.trail.literals h))
+
+-- an assumption that is false, by its reason or by another assumption
+pub final_reason : (kept : Kept) (es : List Assigned) (assumptions : List Lit) (l : Lit) (reason : Option ClauseId)
+    → reason ≡ reason_of es l.atom → AreDistinct es → AreAssumed assumptions es → is_among assumptions l ≡ true
+    → is_false_under (held es) l ≡ true → IsFinal kept es assumptions reason
+final_reason kept es assumptions l None is distinct assumed given is_false = record {
+  literal = l;
+  one = given;
+  other = decided_false assumptions es l distinct assumed is_false (sym is);
+}
+final_reason kept es assumptions l (Some id) is distinct assumed given is_false =
+    inr (record { assumption = l; given = given; is_false = is_false; reason = sym is })

@@ -1,36 +1,26 @@
 -- What the moves of a search keep.
-use Rattle.std.proofs.Common.{◌≡◌, ℕ, zero, suc, ◌+◌, ◌&&◌, ◌||◌, ◌<◌, ◌≤◌, ◌⊎◌, true, false, leb, ltb, take, List, [], ◌∷◌, ◌++◌, Some, None, refl, sym, ◌∙◌, ap, subst, inl, inr, arith, append_assoc}
+use Rattle.std.proofs.Common.{◌≡◌, ℕ, ◌+◌, ◌&&◌, ◌||◌, ◌<◌, ◌≤◌, true, false, leb, ltb, take, List, [], ◌∷◌, ◌++◌, Some, None, refl, sym, ◌∙◌, ap, subst, inl, inr, arith}
 use Rattle.std.specs.List.{list_all}
 use Rattle.std.proofs.lemmas.Bool.{false≢true, cases_Bool, lt-leb, leb-true, ltb-true, ltb-false, and_parts, false_from_ne_true}
-use Rattle.std.proofs.lemmas.Option.{same_Some}
 use Rattle.std.proofs.lemmas.List.{append-nil}
 use Rattle.std.proofs.lemmas.List.Elements.{filter-append}
 use Rattle.sb_lit.specs.declared.clause.Lit.{Lit}
-use Rattle.sb_lit.specs.Clauses.{is_same_literal, is_among, is_false_under, is_open_under, is_false_clause, leaves_only, negation}
-use Rattle.sb_lit.specs.Kept.{Kept, KeptClause, kept_at}
+use Rattle.sb_lit.specs.Clauses.{is_same_literal, is_among, is_false_under, is_open_under, leaves_only, negation}
+use Rattle.sb_lit.specs.Kept.{Kept, KeptClause}
 use Rattle.sb_lit.proofs.CallerLemmas.{all_among, is_same_literal-true, is_same_literal-of}
 use Rattle.sb_trail.specs.declared.assigned.Assigned.{Assigned}
-use Rattle.sb_trail.specs.Assignments.{IsTrail, AreDistinct, held, current_level, level_after, level_behind, AreLevelled, up_to}
+use Rattle.sb_trail.specs.Assignments.{IsTrail, AreDistinct, held, current_level, level_behind, AreLevelled, up_to}
 use Rattle.sb_trail.proofs.CallerLemmas.{level_after-push, up_to-all, up_to-up_to}
-use Rattle.sb_clauses.specs.Propagation.{State, AreForced, GrowsBy, IsSettled, has_room_for, are_reserved}
+use Rattle.sb_clauses.specs.Propagation.{State, GrowsBy, IsSettled, has_room_for, are_reserved}
 use Rattle.sb_analyze.specs.Reasons.{AreReasoned, level_in}
 use Rattle.sb_analyze.specs.Learning.{IsSettledBelow}
 use Rattle.sb_analyze.specs.Cores.{AreAssumed}
-use Rattle.sb_analyze.proofs.Lessons.{true_up_to_low}
-use Rattle.sb_analyze.proofs.CallerLemmas.{reasoned_grown, reasoned_decided, reasoned_up_to, reasoned_more, below_grown, below_decided, below_up_to}
+use Rattle.sb_analyze.proofs.CallerLemmas.{true_up_to_low, level_forced, level_up_to, settled_more, not_false_with, reasoned_grown, reasoned_decided, reasoned_up_to, reasoned_more, below_grown, below_decided, below_up_to}
 use Rattle.sb_search.specs.Asking.{decided}
 use Rattle.sb_search.specs.Found.{are_true}
 use Rattle.sb_search.specs.Searching.{have_places, IsSearching, IsHighUpTo}
 use Rattle.sb_search.proofs.Truths.{true_front, all_true, assumed_append, assumed_up_to, assumed_forced}
 use Rattle.sb_search.proofs.Places.{more_places, more_reserved, more_room}
-
--- what is forced stays on the current level
-level_grown : (kept : Kept) (before xs : List Assigned) → AreForced kept before xs
-    → current_level (before ++ xs) ≡ current_level before
-level_grown kept before [] h = ap current_level (append-nil before)
-level_grown kept before (x ∷ xs) h =
-    ap current_level (sym (append_assoc before (x ∷ []) xs)) ∙ level_grown kept (before ++ x ∷ []) xs h.1
-    ∙ level_after-push 0 before x ∙ h.0.level
 
 -- propagation
 pub searching_grown : (wanted : List ℕ) (assumptions : List Lit) (levels next : ℕ) (old new : State)
@@ -38,7 +28,7 @@ pub searching_grown : (wanted : List ℕ) (assumptions : List Lit) (levels next 
     → IsSearching wanted assumptions levels next new
 searching_grown wanted assumptions levels next old new h kept grows =
     let same : current_level new.trail.literals ≡ current_level old.trail.literals =
-    ap current_level grows.literals ∙ level_grown old.kept old.trail.literals grows.added grows.forced in
+    ap current_level grows.literals ∙ level_forced old.kept old.trail.literals grows.added grows.forced in
     let front : up_to levels new.trail.literals ≡ up_to levels old.trail.literals ++ up_to levels grows.added =
     ap (up_to levels) grows.literals ∙ filter-append (λ x. leb x.level levels) old.trail.literals grows.added in
     record {
@@ -132,14 +122,6 @@ searching_free wanted assumptions levels next now old l is_trail settled low at 
           ]);
       first = λ high. absurd (omega (arith, high, level_decided old.trail.literals l, at));
     }
-
-level_up_to : (level m : ℕ) (es : List Assigned) → m ≤ level → level_after m (up_to level es) ≤ level
-level_up_to level m [] h = h
-level_up_to level m (e ∷ es) h =
-    elim (cases_Bool (leb e.level level)) [
-      | inl low ↦ rw low (level_up_to level e.level es (leb-true e.level level low))
-      | inr high ↦ rw high (level_up_to level m es h)
-    ]
 
 assumed_back : (assumptions : List Lit) (levels level : ℕ) (es : List Assigned)
     → AreAssumed assumptions (up_to levels es) → AreAssumed assumptions (up_to levels (up_to level es))
@@ -238,13 +220,7 @@ not_false_low n es a distinct above =
     false_from_ne_true (is_false_under (held (up_to n es)) a) (λ is_false.
     absurd (omega (arith, true_up_to_low n es (negation a) a distinct is_false refl, above)))
 
--- a clause with two such literals is not false there, and leaves none
-two_not_false : (literals clause : List Lit) (a : Lit) → is_among clause a ≡ true
-    → is_false_under literals a ≡ false → is_false_clause literals clause ≡ false
-two_not_false literals clause a among stays =
-    false_from_ne_true (is_false_clause literals clause) (λ all.
-    false≢true (sym stays ∙ all_among (is_false_under literals) clause a all among))
-
+-- a literal that is not false is the one that a clause leaves, so a clause with two of them leaves none
 left_is : (literals clause : List Lit) (a l : Lit) → is_among clause a ≡ true → is_false_under literals a ≡ false
     → leaves_only literals clause l ≡ true → a ≡ l
 left_is literals clause a l among stays leaves =
@@ -265,27 +241,6 @@ leaves_none literals clause a b l here there differ a_stays b_stays =
     false≢true (sym differ ∙ is_same_literal-of a b
     (left_is literals clause a l here a_stays leaves ∙ sym (left_is literals clause b l there b_stays leaves))))
 
-added_at : (kept : Kept) (k clause : KeptClause) (id : ℕ) → kept_at (kept ++ Some k ∷ []) id ≡ Some clause
-    → (kept_at kept id ≡ Some clause) ⊎ (k ≡ clause)
-added_at [] k clause zero h = inr (same_Some k clause h)
-added_at [] k clause (suc id) h = absurd (Prim.cc (h))
-added_at (x ∷ xs) k clause zero h = inl h
-added_at (x ∷ xs) k clause (suc id) h = added_at xs k clause id h
-
-settled_more : (kept : Kept) (k : KeptClause) (literals : List Lit) → IsSettled kept literals
-    → is_false_clause literals k.literals ≡ false → ((l : Lit) → leaves_only literals k.literals l ≡ false)
-    → IsSettled (kept ++ Some k ∷ []) literals
-settled_more kept k literals h none_false none_forces = record {
-  none_false = λ id clause there. elim (added_at kept k clause id there) [
-    | inl old ↦ h.none_false id clause old
-    | inr new ↦ subst (λ (c : KeptClause). is_false_clause literals c.literals ≡ false) new none_false
-  ];
-  none_forces = λ id clause there l. elim (added_at kept k clause id there) [
-    | inl old ↦ h.none_forces id clause old l
-    | inr new ↦ subst (λ (c : KeptClause). leaves_only literals c.literals l ≡ false) new (none_forces l)
-  ];
-}
-
 -- a lemma is kept where two of its literals are above each level below
 pub below_lemma : (kept : Kept) (k : KeptClause) (es : List Assigned) (level : ℕ) → AreDistinct es
     → IsHighUpTo es k.literals level → IsSettledBelow kept (up_to level es)
@@ -299,7 +254,7 @@ below_lemma kept k es level distinct high h = λ n low.
     subst (λ (xs : List Assigned). IsSettled (kept ++ Some k ∷ []) (held xs)) (sym same)
     (settled_more kept k (held (up_to n es))
     (subst (λ (xs : List Assigned). IsSettled kept (held xs)) same (h n low))
-    (two_not_false (held (up_to n es)) k.literals two.one two.one_there one_stays)
+    (not_false_with (held (up_to n es)) k.literals two.one two.one_there one_stays)
     (λ l. leaves_none (held (up_to n es)) k.literals two.one two.other l two.one_there two.other_there two.differ
     one_stays other_stays))
 

@@ -13,6 +13,7 @@ use Rattle.sb_analyze.specs.Cores.{AreAssumed}
 use Rattle.sb_search.specs.Found.{has_value, are_true, IsFound, GrowsTo}
 use Rattle.sb_search.specs.declared.stage.Next.{Next}
 use Rattle.sb_search.specs.declared.stage.Next.TheVariants as next
+use Rattle.sb_search.specs.declared.found.Found.{Found}
 use Rattle.sb_search.specs.declared.turn.Turn.{Turn}
 use Rattle.sb_search.specs.declared.turn.Turn.TheVariants as turn
 
@@ -67,11 +68,11 @@ pub record HasTwoAbove (entries : List Assigned) (clause : List Lit) (level : �
   pub one_above : level < level_in entries one
   pub other_above : level < level_in entries other
 
--- a budget of which more is spent, within its limit
+-- a budget of which as much is spent, or more, and that within its limit
 pub record IsSpentOn (old new : Spending) : Type 0 where
   pub limit : new.limit ≡ old.limit
   pub spent : old.spent ≤ new.spent
-  pub within : new.spent ≤ new.limit
+  pub within : old.spent < new.spent → new.spent ≤ new.limit
 
 -- more was spent, or as much and the measure did not rise
 abbrev pub IsNoWorse : Spending → Spending → ℕ → ℕ → Type 0
@@ -121,3 +122,15 @@ abbrev pub IsHighest : List Assigned → List Lit → Option Lit → Option Lit 
 IsHighest entries clause but None = list_all (is_but but) clause ≡ true
 IsHighest entries clause but (Some best) = (is_among clause best ≡ true) × (is_but but best ≡ false)
     × (list_all (λ l. is_but but l || nat_le (level_in entries l) (level_in entries best)) clause ≡ true)
+
+-- what some turns make of the search: an answer, or a place from which it goes on
+abbrev pub Continues : List ℕ → List Lit → ℕ → ℕ → State → Spending → Option Found → Type 0
+Continues wanted assumptions levels next new after None = IsSearching wanted assumptions levels next new
+Continues wanted assumptions levels next new after (Some found) =
+    IsFound wanted assumptions new after found × AreReasoned new.kept [] new.trail.literals
+
+pub record IsRound (wanted : List ℕ) (assumptions : List Lit) (levels next : ℕ) (old new : State)
+    (before after : Spending) (found : Option Found) : Type 0 where
+  pub grows : GrowsTo old.kept new.kept
+  pub spends : IsSpentOn before after
+  pub continues : Continues wanted assumptions levels next new after found

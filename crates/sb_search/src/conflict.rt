@@ -41,7 +41,6 @@ pub(crate) fn resolve<T: Theory, L: Tape>(
     requires searching { IsSearching (T.wanted theory.old) assumptions.now stage.old.levels stage.old.next engine.old }
     requires conflict { IsConflict engine.old.kept (held engine.old.trail.literals) conflict.0 }
     requires stands { T.stands theory.old engine.old.trail.literals }
-    requires within { budget.old.spent ≤ budget.old.limit }
     ensures turned { IfOk result (IsTurned (T.wanted theory.new) assumptions.now stage.new.levels stage.new.next
         engine.old engine.new budget.old budget.new
         (T.measure theory.old engine.old.kept engine.old.trail.literals)
@@ -120,7 +119,6 @@ pub(crate) fn refute<L: Tape>(
     requires reasoned { AreReasoned engine.old.kept [] engine.old.trail.literals }
     requires assumed { AreAssumed assumptions.now engine.old.trail.literals }
     requires conflict { IsFinal engine.old.kept engine.old.trail.literals assumptions.now conflict }
-    requires within { budget.old.spent ≤ budget.old.limit }
     ensures found { IfOk result (λ found. (wanted : List ℕ)
         → IsFound wanted assumptions.now engine.new budget.new found) }
     ensures not_sat { IfOk result (λ found. found ≢ Sat) }
@@ -193,7 +191,6 @@ fn keep_core<L: Tape>(
     budget: &mut Budget,
 ) -> Result<Found, TapeFault>
     requires reasoned { AreReasoned engine.old.kept [] engine.old.trail.literals }
-    requires within { budget.old.spent ≤ budget.old.limit }
     ensures found { IfOk result (λ found. (wanted : List ℕ) (assumptions : List TheLit)
         → IsNewCore engine.old.kept assumptions lesson.now → IsFound wanted assumptions engine.new budget.new found) }
     ensures not_sat { IfOk result (λ found. found ≢ Sat) }

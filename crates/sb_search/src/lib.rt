@@ -1,14 +1,14 @@
-//! The search over any theory: what it asks of one, and its moves.
+//! The search: a loop that decides, propagates, asks a theory, learns from conflicts and goes back, until a trail is
+//! full, or the assumptions are refuted, or a budget is spent.
 //!
-//! A search decides, propagates, asks a [`Theory`], learns from conflicts and goes back, until a trail is full, or the
-//! assumptions are refuted, or a budget is spent ([`Found`]). Nothing of a theory is known here but the laws that stand
-//! at the trait. The one idea is that each move keeps one record of what holds between the turns of a search: each
-//! literal was decided or has its reason, propagation came to its end on each lower level, and the decisions of the
-//! first levels are assumptions. The layer above implements the trait.
+//! It is generic over a [`Theory`], which says which atoms are wanted, and answers lemmas about what is true so far.
+//! Nothing of a theory is known here but the laws that stand at the trait. What the crate gives is [`search`]; the
+//! layer above implements the trait, keeps the clauses of its assertions, and reads the trail or the clause that was
+//! found.
 //!
-//! The moves: places for all atoms, propagation, the question, a decision of an assumption or of another literal, a
-//! lemma that is kept where it leaves one literal, and a false clause, from which is learned, or by which the assumptions
-//! are refuted, with the lines of what was learned. The loop over them is still to come.
+//! The turns of a search end by the budget and the theory's measure: each conflict that is learned from spends a step,
+//! each lemma and each literal that is asked for spends one or lets the measure fall, and each other turn makes the
+//! trail longer.
 #![tactic(auto)]
 
 mod conflict;
@@ -21,4 +21,5 @@ mod theory;
 mod turn;
 
 pub use found::Found;
+pub use rounds::search;
 pub use theory::{Checked, Theory};

@@ -1,16 +1,74 @@
-//! Where a search begins.
+//! The whole search.
 
-ghost use Rattle.std.specs.Prelude.{◌≡◌, ◌≤◌, [], true, OnOk};
+ghost use Rattle.std.specs.Prelude.{◌≡◌, ◌<◌, ◌≤◌, [], true, Some, None, IfOk, OnOk};
 ghost use Rattle.sb_clauses.specs.Propagation.{are_reserved};
 ghost use Rattle.sb_analyze.specs.Reasons.{AreReasoned};
-ghost use Rattle.sb_search.specs.Searching.{have_places, IsSearching};
+ghost use Rattle.sb_search.specs.Asking.{CountsFaults};
+ghost use Rattle.sb_search.specs.Found.{GrowsTo, IsFound};
+ghost use Rattle.sb_search.specs.Searching.{have_places, IsSearching, IsBetter, IsRound};
+ghost use Rattle.sb_search.specs.declared.found.Found.TheVariants.{Sat};
 
+use crate::found::Found;
 use crate::lemma::{go_back, make_place, make_room};
 use crate::stage::Stage;
 use crate::theory::Theory;
+use crate::turn::{Turn, take_turn};
 use sb_clauses::Engine;
-use sb_lit::Lit;
-use std::alloc::AllocError;
+use sb_lit::{Budget, Lit};
+use sb_proof::{Tape, TapeFault};
+use std::alloc::{AllocError, Global};
+
+/// Searches for a trail on which all wanted atoms have values, no kept clause is false, all assumptions are true, and
+/// with which the theory agrees; or for a kept clause of negated assumptions alone.
+///
+/// Assumptions are decided first, in their order, and then atoms that are wanted. Behind each propagation that comes to
+/// its end without a false clause the theory is asked, but where an assumption is false. A literal that it asks for is
+/// decided next, once all assumptions are. Each conflict that is learned from spends a step of the budget, before its
+/// line is put. `Spent` comes only where the budget is spent.
+///
+/// What stands on the trail stays there, but for what the search takes back of it at its beginning: all above level 0.
+/// After an error the search is at some place between, and the kept clauses stay. `NoMemory` only for want of memory.
+pub fn search<T: Theory, L: Tape>(
+    alloc: Global,
+    theory: &mut T,
+    engine: &mut Engine,
+    tape: &mut L,
+    assumptions: &[Lit],
+    budget: &mut Budget,
+) -> Result<Found, TapeFault>
+    requires reasoned { AreReasoned engine.old.kept [] engine.old.trail.literals }
+    requires stands { T.stands theory.old engine.old.trail.literals }
+    ensures found { IfOk result (IsFound (T.wanted theory.new) assumptions.now engine.new budget.new) }
+    ensures agrees { IfOk result (λ found. found ≡ Sat → T.agrees theory.new engine.new.trail.literals) }
+    ensures kept { OnOk result (GrowsTo engine.old.kept engine.new.kept) }
+    ensures reasoned { OnOk result (AreReasoned engine.new.kept [] engine.new.trail.literals) }
+    ensures stands { OnOk result (T.stands theory.new engine.new.trail.literals) }
+    ensures limit { OnOk result (budget.new.limit ≡ budget.old.limit) }
+    ensures spends { OnOk result (budget.old.spent ≤ budget.new.spent) }
+    ensures wanted { T.wanted theory.new ≡ T.wanted theory.old }
+    ensures passes { T.passes theory.new ≡ T.passes theory.old }
+    ensures counts { CountsFaults result (L.Tape.faults tape.old) (L.Tape.faults tape.new) }
+{
+    let mut stage = Stage {
+        levels: 0,
+        next: 0,
+        at: 0,
+    };
+    begin(theory, engine, &mut stage, assumptions)?;
+    loop {
+        if let Some(found) = spend_one(
+            alloc,
+            theory,
+            engine,
+            &mut stage,
+            assumptions,
+            tape,
+            budget,
+        )? {
+            return Ok(found);
+        }
+    }
+}
 
 /// Goes back to level 0, and makes places for all atoms.
 fn begin<T: Theory>(
@@ -63,4 +121,68 @@ fn place_all(engine: &mut Engine, literals: &[Lit]) -> Result<(), AllocError>
         make_place(engine, literal.atom)?;
     }
     Ok(())
+}
+
+/// Turns until a step was spent, or the search ends.
+fn spend_one<T: Theory, L: Tape>(
+    alloc: Global,
+    theory: &mut T,
+    engine: &mut Engine,
+    stage: &mut Stage,
+    assumptions: &[Lit],
+    tape: &mut L,
+    budget: &mut Budget,
+) -> Result<Option<Found>, TapeFault>
+    requires searching { IsSearching (T.wanted theory.old) assumptions.now stage.old.levels stage.old.next engine.old }
+    requires stands { T.stands theory.old engine.old.trail.literals }
+    ensures round { IfOk result (IsRound (T.wanted theory.new) assumptions.now stage.new.levels stage.new.next
+        engine.old engine.new budget.old budget.new) }
+    ensures spends { IfOk result (λ found. found ≡ None → budget.old.spent < budget.new.spent) }
+    ensures agrees { IfOk result (λ found. found ≡ Some Sat → T.agrees theory.new engine.new.trail.literals) }
+    ensures stands { OnOk result (T.stands theory.new engine.new.trail.literals) }
+    ensures wanted { T.wanted theory.new ≡ T.wanted theory.old }
+    ensures passes { T.passes theory.new ≡ T.passes theory.old }
+    ensures counts { CountsFaults result (L.Tape.faults tape.old) (L.Tape.faults tape.new) }
+{
+    let start = budget.spent();
+    loop {
+        if let Some(found) = move_on(alloc, theory, engine, stage, assumptions, tape, budget)? {
+            return Ok(Some(found));
+        }
+        if budget.spent() > start {
+            return Ok(None);
+        }
+    }
+}
+
+/// Turns until something moved, or the search ends.
+fn move_on<T: Theory, L: Tape>(
+    alloc: Global,
+    theory: &mut T,
+    engine: &mut Engine,
+    stage: &mut Stage,
+    assumptions: &[Lit],
+    tape: &mut L,
+    budget: &mut Budget,
+) -> Result<Option<Found>, TapeFault>
+    requires searching { IsSearching (T.wanted theory.old) assumptions.now stage.old.levels stage.old.next engine.old }
+    requires stands { T.stands theory.old engine.old.trail.literals }
+    ensures round { IfOk result (IsRound (T.wanted theory.new) assumptions.now stage.new.levels stage.new.next
+        engine.old engine.new budget.old budget.new) }
+    ensures better { IfOk result (λ found. found ≡ None → IsBetter budget.old budget.new
+        (T.measure theory.old engine.old.kept engine.old.trail.literals)
+        (T.measure theory.new engine.new.kept engine.new.trail.literals)) }
+    ensures agrees { IfOk result (λ found. found ≡ Some Sat → T.agrees theory.new engine.new.trail.literals) }
+    ensures stands { OnOk result (T.stands theory.new engine.new.trail.literals) }
+    ensures wanted { T.wanted theory.new ≡ T.wanted theory.old }
+    ensures passes { T.passes theory.new ≡ T.passes theory.old }
+    ensures counts { CountsFaults result (L.Tape.faults tape.old) (L.Tape.faults tape.new) }
+{
+    loop {
+        match take_turn(alloc, theory, engine, stage, assumptions, tape, budget)? {
+            Turn::Ends(found) => return Ok(Some(found)),
+            Turn::Moves => return Ok(None),
+            Turn::Decides => {}
+        }
+    }
 }

@@ -1,19 +1,25 @@
-//! The moves of a search: it propagates, asks the theory, and decides.
+//! One turn of a search.
 
-ghost use Rattle.std.specs.Prelude.{◌≡◌, ℕ, ◌<◌, ◌≤◌, ◌-◌, [], ◌∷◌, ◌++◌};
+ghost use Rattle.std.specs.Prelude.{◌≡◌, ◌≢◌, ℕ, ◌<◌, ◌≤◌, ◌-◌, [], ◌∷◌, ◌++◌};
 ghost use Rattle.std.specs.Prelude.{List, true, length, Some, None, IfOk, OnOk, MatchOption};
 ghost use Rattle.sb_lit.specs.declared.clause.Lit.{Lit as TheLit};
-ghost use Rattle.sb_lit.specs.Clauses.{is_among};
+ghost use Rattle.sb_lit.specs.Clauses.{is_among, is_false_under};
 ghost use Rattle.sb_trail.specs.Assignments.{held, value_of, current_level};
 ghost use Rattle.sb_clauses.specs.Propagation.{IsSettled, IsConflict, has_room_for};
+ghost use Rattle.sb_analyze.specs.Reasons.{AreReasoned};
+ghost use Rattle.sb_analyze.specs.Cores.{AreAssumed};
 ghost use Rattle.sb_search.specs.Asking.{CountsFaults, IsFair, Falls, decided};
 ghost use Rattle.sb_search.specs.Found.{are_true};
-ghost use Rattle.sb_search.specs.Searching.{IsSearching, IsSpentOn};
+ghost use Rattle.sb_search.specs.Searching.{IsSearching, IsTurned, IsSpentOn, IsNext};
+ghost use Rattle.sb_search.specs.declared.stage.Next.TheVariants as next;
 ghost use Rattle.sb_search.specs.declared.theory.Checked.TheVariants.{Fine, Spent};
+ghost use Rattle.sb_search.specs.declared.found.Found.TheVariants.{Sat};
+ghost use Rattle.sb_search.specs.declared.turn.Turn.TheVariants.{Ends};
 
+use crate::conflict::{refute, resolve};
 use crate::found::Found;
-use crate::lemma::make_place;
-use crate::stage::Stage;
+use crate::lemma::{make_place, take_lemma};
+use crate::stage::{Next, Stage};
 use crate::theory::{Checked, Theory};
 use sb_clauses::{Engine, Propagated};
 use sb_lit::{Budget, ClauseId, Lit};
@@ -29,6 +35,43 @@ pub(crate) enum Turn {
     Decides,
     /// A clause was learned, or the theory gave a lemma or asked for a literal.
     Moves,
+}
+
+/// Propagates, asks the theory, and decides the next literal; or learns from the clause that is false.
+pub(crate) fn take_turn<T: Theory, L: Tape>(
+    alloc: Global,
+    theory: &mut T,
+    engine: &mut Engine,
+    stage: &mut Stage,
+    assumptions: &[Lit],
+    tape: &mut L,
+    budget: &mut Budget,
+) -> Result<Turn, TapeFault>
+    requires searching { IsSearching (T.wanted theory.old) assumptions.now stage.old.levels stage.old.next engine.old }
+    requires stands { T.stands theory.old engine.old.trail.literals }
+    ensures turned { IfOk result (IsTurned (T.wanted theory.new) assumptions.now stage.new.levels stage.new.next
+        engine.old engine.new budget.old budget.new
+        (T.measure theory.old engine.old.kept engine.old.trail.literals)
+        (T.measure theory.new engine.new.kept engine.new.trail.literals)) }
+    ensures agrees { IfOk result (λ turn. turn ≡ Ends Sat → T.agrees theory.new engine.new.trail.literals) }
+    ensures stands { OnOk result (T.stands theory.new engine.new.trail.literals) }
+    ensures wanted { T.wanted theory.new ≡ T.wanted theory.old }
+    ensures passes { T.passes theory.new ≡ T.passes theory.old }
+    ensures counts { CountsFaults result (L.Tape.faults tape.old) (L.Tape.faults tape.new) }
+{
+    match settle(theory, engine) {
+        Some(conflict) => resolve(
+            alloc,
+            theory,
+            engine,
+            stage,
+            assumptions,
+            conflict,
+            tape,
+            budget,
+        ),
+        None => examine(alloc, theory, engine, stage, assumptions, tape, budget),
+    }
 }
 
 /// Propagates, and says which clause is false.
@@ -49,6 +92,184 @@ fn settle<T: Theory>(theory: &T, engine: &mut Engine) -> Option<ClauseId>
     match engine.propagate() {
         Propagated::Done => None,
         Propagated::Conflict(id) => Some(id),
+    }
+}
+
+/// Asks the theory, and decides the next literal.
+fn examine<T: Theory, L: Tape>(
+    alloc: Global,
+    theory: &mut T,
+    engine: &mut Engine,
+    stage: &mut Stage,
+    assumptions: &[Lit],
+    tape: &mut L,
+    budget: &mut Budget,
+) -> Result<Turn, TapeFault>
+    requires searching { IsSearching (T.wanted theory.old) assumptions.now stage.old.levels stage.old.next engine.old }
+    requires settled { IsSettled engine.old.kept (held engine.old.trail.literals) }
+    requires stands { T.stands theory.old engine.old.trail.literals }
+    ensures turned { IfOk result (IsTurned (T.wanted theory.new) assumptions.now stage.new.levels stage.new.next
+        engine.old engine.new budget.old budget.new
+        (T.measure theory.old engine.old.kept engine.old.trail.literals)
+        (T.measure theory.new engine.new.kept engine.new.trail.literals)) }
+    ensures agrees { IfOk result (λ turn. turn ≡ Ends Sat → T.agrees theory.new engine.new.trail.literals) }
+    ensures stands { OnOk result (T.stands theory.new engine.new.trail.literals) }
+    ensures wanted { T.wanted theory.new ≡ T.wanted theory.old }
+    ensures passes { T.passes theory.new ≡ T.passes theory.old }
+    ensures counts { CountsFaults result (L.Tape.faults tape.old) (L.Tape.faults tape.new) }
+{
+    let trail = engine.trail();
+    let _before = trail.literals();
+    match stage.next(theory, engine, assumptions) {
+        Next::Refuted(literal) => contradict(alloc, engine, assumptions, literal, tape, budget),
+        Next::Assume(literal) => assume(theory, engine, stage, assumptions, literal, tape, budget),
+        Next::Free(atom) => choose(theory, engine, stage, assumptions, atom, tape, budget),
+        Next::Full => finish(theory, engine, stage, assumptions, tape, budget),
+    }
+}
+
+/// An assumption is false.
+fn contradict<L: Tape>(
+    alloc: Global,
+    engine: &mut Engine,
+    assumptions: &[Lit],
+    literal: Lit,
+    tape: &mut L,
+    budget: &mut Budget,
+) -> Result<Turn, TapeFault>
+    requires reasoned { AreReasoned engine.old.kept [] engine.old.trail.literals }
+    requires assumed { AreAssumed assumptions.now engine.old.trail.literals }
+    requires given { is_among assumptions.now literal ≡ true }
+    requires is_false { is_false_under (held engine.old.trail.literals) literal ≡ true }
+    ensures turned { IfOk result (λ turn. (wanted : List ℕ) (levels next most now : ℕ)
+        → IsTurned wanted assumptions.now levels next engine.old engine.new budget.old budget.new most now turn) }
+    ensures not_sat { IfOk result (λ turn. turn ≢ Ends Sat) }
+    ensures literals { OnOk result (engine.new.trail.literals ≡ engine.old.trail.literals) }
+    ensures counts { CountsFaults result (L.Tape.faults tape.old) (L.Tape.faults tape.new) }
+{
+    let trail = engine.trail();
+    let _before = trail.literals();
+    let reason = trail.reason(literal.atom);
+    let found = refute(alloc, engine, assumptions, reason, tape, budget)?;
+    Ok(Turn::Ends(found))
+}
+
+/// Asks the theory, and decides an assumption.
+fn assume<T: Theory, L: Tape>(
+    theory: &mut T,
+    engine: &mut Engine,
+    stage: &mut Stage,
+    assumptions: &[Lit],
+    literal: Lit,
+    tape: &mut L,
+    budget: &mut Budget,
+) -> Result<Turn, TapeFault>
+    requires searching { IsSearching (T.wanted theory.old) assumptions.now stage.old.levels stage.old.next engine.old }
+    requires settled { IsSettled engine.old.kept (held engine.old.trail.literals) }
+    requires stands { T.stands theory.old engine.old.trail.literals }
+    requires next { IsNext (T.wanted theory.old) assumptions.now stage.old.levels engine.old (next.Assume literal) }
+    ensures turned { IfOk result (IsTurned (T.wanted theory.new) assumptions.now stage.new.levels stage.new.next
+        engine.old engine.new budget.old budget.new
+        (T.measure theory.old engine.old.kept engine.old.trail.literals)
+        (T.measure theory.new engine.new.kept engine.new.trail.literals)) }
+    ensures not_sat { IfOk result (λ turn. turn ≢ Ends Sat) }
+    ensures stands { OnOk result (T.stands theory.new engine.new.trail.literals) }
+    ensures wanted { T.wanted theory.new ≡ T.wanted theory.old }
+    ensures passes { T.passes theory.new ≡ T.passes theory.old }
+    ensures counts { CountsFaults result (L.Tape.faults tape.old) (L.Tape.faults tape.new) }
+{
+    match ask(theory, engine, false, tape, budget)? {
+        Checked::Spent => Ok(Turn::Ends(Found::Spent)),
+        Checked::Lemma(clause) => {
+            take_lemma(theory, engine, stage, &clause)?;
+            Ok(Turn::Moves)
+        }
+        Checked::Ask(_) => {
+            decide_assumption(engine, stage, literal);
+            Ok(Turn::Decides)
+        }
+        Checked::Fine => {
+            decide_assumption(engine, stage, literal);
+            Ok(Turn::Decides)
+        }
+    }
+}
+
+/// Asks the theory, and decides an atom that is wanted.
+fn choose<T: Theory, L: Tape>(
+    theory: &mut T,
+    engine: &mut Engine,
+    stage: &mut Stage,
+    assumptions: &[Lit],
+    atom: u64,
+    tape: &mut L,
+    budget: &mut Budget,
+) -> Result<Turn, TapeFault>
+    requires searching { IsSearching (T.wanted theory.old) assumptions.now stage.old.levels stage.old.next engine.old }
+    requires settled { IsSettled engine.old.kept (held engine.old.trail.literals) }
+    requires stands { T.stands theory.old engine.old.trail.literals }
+    requires next { IsNext (T.wanted theory.old) assumptions.now stage.old.levels engine.old (next.Free atom) }
+    ensures turned { IfOk result (IsTurned (T.wanted theory.new) assumptions.now stage.new.levels stage.new.next
+        engine.old engine.new budget.old budget.new
+        (T.measure theory.old engine.old.kept engine.old.trail.literals)
+        (T.measure theory.new engine.new.kept engine.new.trail.literals)) }
+    ensures not_sat { IfOk result (λ turn. turn ≢ Ends Sat) }
+    ensures stands { OnOk result (T.stands theory.new engine.new.trail.literals) }
+    ensures wanted { T.wanted theory.new ≡ T.wanted theory.old }
+    ensures passes { T.passes theory.new ≡ T.passes theory.old }
+    ensures counts { CountsFaults result (L.Tape.faults tape.old) (L.Tape.faults tape.new) }
+{
+    match ask(theory, engine, false, tape, budget)? {
+        Checked::Spent => Ok(Turn::Ends(Found::Spent)),
+        Checked::Lemma(clause) => {
+            take_lemma(theory, engine, stage, &clause)?;
+            Ok(Turn::Moves)
+        }
+        Checked::Ask(literal) => {
+            grant(engine, stage, literal)?;
+            Ok(Turn::Moves)
+        }
+        Checked::Fine => {
+            decide_free(engine, stage, falsely(atom));
+            Ok(Turn::Decides)
+        }
+    }
+}
+
+/// Asks the theory for the last time.
+fn finish<T: Theory, L: Tape>(
+    theory: &mut T,
+    engine: &mut Engine,
+    stage: &mut Stage,
+    assumptions: &[Lit],
+    tape: &mut L,
+    budget: &mut Budget,
+) -> Result<Turn, TapeFault>
+    requires searching { IsSearching (T.wanted theory.old) assumptions.now stage.old.levels stage.old.next engine.old }
+    requires settled { IsSettled engine.old.kept (held engine.old.trail.literals) }
+    requires stands { T.stands theory.old engine.old.trail.literals }
+    requires next { IsNext (T.wanted theory.old) assumptions.now stage.old.levels engine.old next.Full }
+    ensures turned { IfOk result (IsTurned (T.wanted theory.new) assumptions.now stage.new.levels stage.new.next
+        engine.old engine.new budget.old budget.new
+        (T.measure theory.old engine.old.kept engine.old.trail.literals)
+        (T.measure theory.new engine.new.kept engine.new.trail.literals)) }
+    ensures agrees { IfOk result (λ turn. turn ≡ Ends Sat → T.agrees theory.new engine.new.trail.literals) }
+    ensures stands { OnOk result (T.stands theory.new engine.new.trail.literals) }
+    ensures wanted { T.wanted theory.new ≡ T.wanted theory.old }
+    ensures passes { T.passes theory.new ≡ T.passes theory.old }
+    ensures counts { CountsFaults result (L.Tape.faults tape.old) (L.Tape.faults tape.new) }
+{
+    match ask(theory, engine, true, tape, budget)? {
+        Checked::Spent => Ok(Turn::Ends(Found::Spent)),
+        Checked::Lemma(clause) => {
+            take_lemma(theory, engine, stage, &clause)?;
+            Ok(Turn::Moves)
+        }
+        Checked::Ask(literal) => {
+            grant(engine, stage, literal)?;
+            Ok(Turn::Moves)
+        }
+        Checked::Fine => Ok(Turn::Ends(Found::Sat)),
     }
 }
 
@@ -75,6 +296,16 @@ fn ask<T: Theory, L: Tape>(
     ensures counts { CountsFaults result (L.Tape.faults tape.old) (L.Tape.faults tape.new) }
 {
     theory.check(engine.trail(), engine.clauses(), last, tape, budget)
+}
+
+/// The negative literal of an atom.
+fn falsely(atom: u64) -> Lit
+    ensures { result.atom ≡ atom }
+{
+    Lit {
+        atom,
+        positive: false,
+    }
 }
 
 /// Decides an assumption.

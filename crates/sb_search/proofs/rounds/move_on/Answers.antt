@@ -1,0 +1,113 @@
+use Rattle.std.proofs.Common.{refl, ◌∙◌, inr, arith}
+use Rattle.std.proofs.lemmas.Result.{err_from_is_err_and}
+use Rattle.sb_search.proofs.Outcomes.{no_round, round_ends, round_moves, round_decides, better_on, no_worse_on, fewer_left, counts_on}
+use Rattle.sb_search.proofs.rounds.move_on.Goals as goal
+
+pub loop-found-init : goal.loop-found-init
+loop-found-init g c = (
+  no_round (g.T.Theory.wanted c.args.theory.now) c.args.assumptions.now c.args.stage.now.levels
+      c.args.stage.now.next c.args.engine.now c.args.engine.now c.args.budget.now refl
+      c.requires.searching,
+  inr (refl, omega arith),
+  c.requires.stands,
+  refl,
+  refl,
+  refl,
+)
+
+pub take_turn-requires-clause-searching : goal.take_turn-requires-clause-searching
+take_turn-requires-clause-searching g c = c.loop-found.invariant.0.continues
+
+pub take_turn-requires-clause-stands : goal.take_turn-requires-clause-stands
+take_turn-requires-clause-stands g c = c.loop-found.invariant.2
+
+pub returns-in_err-found-clause-wanted : goal.returns-in_err-found-clause-wanted
+returns-in_err-found-clause-wanted g c = c.take_turn.ensures.wanted ∙ c.loop-found.invariant.3
+
+pub returns-in_err-found-clause-passes : goal.returns-in_err-found-clause-passes
+returns-in_err-found-clause-passes g c = c.take_turn.ensures.passes ∙ c.loop-found.invariant.4
+
+pub returns-in_err-found-clause-counts : goal.returns-in_err-found-clause-counts
+returns-in_err-found-clause-counts g c =
+    let p = err_from_is_err_and c.from_residual.result c.from_residual.ensures.1 in
+    counts_on c.take_turn.result c.from_residual.result c.in_err-found.field-0.0 p.0
+    (g.L.Tape.faults c.args.tape.now) (g.L.Tape.faults c.loop-found.tape) (g.L.Tape.faults c.take_turn.new.tape)
+    c.in_err-found.was p.1 p.2 c.loop-found.invariant.5 c.take_turn.ensures.counts
+
+pub returns-in-Ends-clause-round : goal.returns-in-Ends-clause-round
+returns-in-Ends-clause-round g c =
+    round_ends (g.T.Theory.wanted c.loop-found.theory) (g.T.Theory.wanted c.take_turn.new.theory)
+    c.args.assumptions.now c.loop-found.stage.levels c.loop-found.stage.next c.take_turn.new.stage.levels
+    c.take_turn.new.stage.next c.args.engine.now c.loop-found.engine c.take_turn.new.engine c.args.budget.now
+    c.loop-found.budget c.take_turn.new.budget
+    (g.T.Theory.measure c.loop-found.theory c.loop-found.engine.kept c.loop-found.engine.trail.literals)
+    (g.T.Theory.measure c.take_turn.new.theory c.take_turn.new.engine.kept c.take_turn.new.engine.trail.literals)
+    c.in_ok-found.field-0 c.in-Ends.found c.loop-found.invariant.0 c.in_ok-found.ensures.turned c.in-Ends.is
+
+pub returns-in-Ends-clause-wanted : goal.returns-in-Ends-clause-wanted
+returns-in-Ends-clause-wanted g c = c.take_turn.ensures.wanted ∙ c.loop-found.invariant.3
+
+pub returns-in-Ends-clause-passes : goal.returns-in-Ends-clause-passes
+returns-in-Ends-clause-passes g c = c.take_turn.ensures.passes ∙ c.loop-found.invariant.4
+
+pub returns-in-Ends-clause-counts : goal.returns-in-Ends-clause-counts
+returns-in-Ends-clause-counts g c = c.in_ok-found.ensures.counts ∙ c.loop-found.invariant.5
+
+pub returns-in-Moves-clause-round : goal.returns-in-Moves-clause-round
+returns-in-Moves-clause-round g c =
+    round_moves (g.T.Theory.wanted c.loop-found.theory) (g.T.Theory.wanted c.take_turn.new.theory)
+    c.args.assumptions.now c.loop-found.stage.levels c.loop-found.stage.next c.take_turn.new.stage.levels
+    c.take_turn.new.stage.next c.args.engine.now c.loop-found.engine c.take_turn.new.engine c.args.budget.now
+    c.loop-found.budget c.take_turn.new.budget
+    (g.T.Theory.measure c.loop-found.theory c.loop-found.engine.kept c.loop-found.engine.trail.literals)
+    (g.T.Theory.measure c.take_turn.new.theory c.take_turn.new.engine.kept c.take_turn.new.engine.trail.literals)
+    c.in_ok-found.field-0 c.loop-found.invariant.0 c.in_ok-found.ensures.turned c.in-Moves.is
+
+pub returns-in-Moves-clause-better : goal.returns-in-Moves-clause-better
+returns-in-Moves-clause-better g c = λ _.
+    better_on (g.T.Theory.wanted c.take_turn.new.theory) c.args.assumptions.now c.take_turn.new.stage.levels
+    c.take_turn.new.stage.next c.loop-found.engine c.take_turn.new.engine c.args.budget.now c.loop-found.budget
+    c.take_turn.new.budget
+    (g.T.Theory.measure c.args.theory.now c.args.engine.now.kept c.args.engine.now.trail.literals)
+    (g.T.Theory.measure c.loop-found.theory c.loop-found.engine.kept c.loop-found.engine.trail.literals)
+    (g.T.Theory.measure c.take_turn.new.theory c.take_turn.new.engine.kept c.take_turn.new.engine.trail.literals)
+    c.in_ok-found.field-0 c.loop-found.invariant.1 c.in_ok-found.ensures.turned c.in-Moves.is
+
+pub returns-in-Moves-clause-wanted : goal.returns-in-Moves-clause-wanted
+returns-in-Moves-clause-wanted g c = c.take_turn.ensures.wanted ∙ c.loop-found.invariant.3
+
+pub returns-in-Moves-clause-passes : goal.returns-in-Moves-clause-passes
+returns-in-Moves-clause-passes g c = c.take_turn.ensures.passes ∙ c.loop-found.invariant.4
+
+pub returns-in-Moves-clause-counts : goal.returns-in-Moves-clause-counts
+returns-in-Moves-clause-counts g c = c.in_ok-found.ensures.counts ∙ c.loop-found.invariant.5
+
+pub loop-found-smaller : goal.loop-found-smaller
+loop-found-smaller g c =
+    fewer_left (g.T.Theory.wanted c.take_turn.new.theory) c.args.assumptions.now c.take_turn.new.stage.levels
+    c.take_turn.new.stage.next c.loop-found.engine c.take_turn.new.engine c.loop-found.budget c.take_turn.new.budget
+    (g.T.Theory.measure c.loop-found.theory c.loop-found.engine.kept c.loop-found.engine.trail.literals)
+    (g.T.Theory.measure c.take_turn.new.theory c.take_turn.new.engine.kept c.take_turn.new.engine.trail.literals)
+    c.in_ok-found.field-0 c.in_ok-found.ensures.turned c.in-Decides.is
+
+pub loop-found-preserved : goal.loop-found-preserved
+loop-found-preserved g c = (
+  round_decides (g.T.Theory.wanted c.loop-found.theory) (g.T.Theory.wanted c.take_turn.new.theory)
+      c.args.assumptions.now c.loop-found.stage.levels c.loop-found.stage.next c.take_turn.new.stage.levels
+      c.take_turn.new.stage.next c.args.engine.now c.loop-found.engine c.take_turn.new.engine c.args.budget.now
+      c.loop-found.budget c.take_turn.new.budget
+      (g.T.Theory.measure c.loop-found.theory c.loop-found.engine.kept c.loop-found.engine.trail.literals)
+      (g.T.Theory.measure c.take_turn.new.theory c.take_turn.new.engine.kept c.take_turn.new.engine.trail.literals)
+      c.in_ok-found.field-0 c.loop-found.invariant.0 c.in_ok-found.ensures.turned c.in-Decides.is,
+  no_worse_on (g.T.Theory.wanted c.take_turn.new.theory) c.args.assumptions.now c.take_turn.new.stage.levels
+      c.take_turn.new.stage.next c.loop-found.engine c.take_turn.new.engine c.args.budget.now c.loop-found.budget
+      c.take_turn.new.budget
+      (g.T.Theory.measure c.args.theory.now c.args.engine.now.kept c.args.engine.now.trail.literals)
+      (g.T.Theory.measure c.loop-found.theory c.loop-found.engine.kept c.loop-found.engine.trail.literals)
+      (g.T.Theory.measure c.take_turn.new.theory c.take_turn.new.engine.kept c.take_turn.new.engine.trail.literals)
+      c.in_ok-found.field-0 c.loop-found.invariant.1 c.in_ok-found.ensures.turned c.in-Decides.is,
+  c.in_ok-found.ensures.stands,
+  c.take_turn.ensures.wanted ∙ c.loop-found.invariant.3,
+  c.take_turn.ensures.passes ∙ c.loop-found.invariant.4,
+  c.in_ok-found.ensures.counts ∙ c.loop-found.invariant.5,
+)

@@ -1,0 +1,15 @@
+use Rattle.std.proofs.Common.{◌≡◌, None}
+use Rattle.sb_search.specs.Searching.{IsRound}
+use Rattle.sb_search.proofs.rounds.spend_one.Given as goal
+
+abbrev pub invariant-loop-found : goal.invariant-loop-found
+invariant-loop-found g l = IsRound (g.T.Theory.wanted l.theory) l.assumptions l.stage.levels l.stage.next l.fn.engine
+    l.engine l.fn.budget l.budget None
+    × (l.budget.spent ≡ l.fn.budget.spent)
+    × g.T.Theory.stands l.theory l.engine.trail.literals
+    × (g.T.Theory.wanted l.theory ≡ g.T.Theory.wanted l.fn.theory)
+    × (g.T.Theory.passes l.theory ≡ g.T.Theory.passes l.fn.theory)
+    × (g.L.Tape.faults l.tape ≡ g.L.Tape.faults l.fn.tape)
+
+abbrev pub decreases-loop-found : goal.decreases-loop-found
+decreases-loop-found g l = g.T.Theory.measure l.theory l.engine.kept l.engine.trail.literals

@@ -1,0 +1,13 @@
+use Rattle.std.proofs.Common.{List, subst}
+use Rattle.sb_trail.specs.declared.assigned.Assigned.{Assigned}
+use Rattle.sb_trail.specs.Assignments.{Assignments, IsTrail}
+use Rattle.sb_trail.proofs.CallerLemmas.{up_to-all}
+use Rattle.sb_analyze.specs.Cores.{AreAssumed}
+use Rattle.sb_search.proofs.turn.examine.Goals as goal
+
+pub contradict-requires-clause-assumed : goal.contradict-requires-clause-assumed
+contradict-requires-clause-assumed g c =
+    let is_trail = subst (λ (t : Assignments). IsTrail t) c.trail-trail.ensures c.literals-before.ensures.trail in
+    subst (λ (es : List Assigned). AreAssumed c.args.assumptions.now es)
+    (up_to-all c.next.new.self.levels 0 c.args.engine.now.trail.literals is_trail.levelled
+    c.in-Refuted.ensures.next.0) c.in-Refuted.ensures.searching.assumed
