@@ -62,7 +62,7 @@ pub trait Theory {
         ensures passes { passes self.new ≡ passes self.old }
         ensures limit { budget.new.limit ≡ budget.old.limit }
         ensures spends { budget.old.spent ≤ budget.new.spent }
-        ensures within { budget.new.spent ≤ budget.new.limit }
+        ensures within { budget.old.spent < budget.new.spent → budget.new.spent ≤ budget.new.limit }
         ensures fair { IfOk result (IsFair (passes self.old) trail.now.literals) }
         ensures agrees { IfOk result (λ answer. last ≡ true → answer ≡ Fine → agrees self.new trail.now.literals) }
         ensures spent { IfOk result (λ answer. answer ≡ Spent → budget.new.spent ≡ budget.new.limit) }
