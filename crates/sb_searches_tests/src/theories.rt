@@ -1,0 +1,194 @@
+//! Theories of which all is known.
+
+ghost use Rattle.std.specs.Prelude.{◌≡◌, ◌≢◌, ℕ, ◌+◌, ◌^◌, ◌<◌, ◌≤◌, List, true, length, IfOk, IfSome};
+ghost use Rattle.std.specs.List.{slice_get};
+ghost use Rattle.std.proofs.Common.{rules};
+ghost use Rattle.sb_lit.specs.Clauses.{is_false_clause};
+ghost use Rattle.sb_lit.specs.Kept.{Kept};
+ghost use Rattle.sb_trail.specs.declared.assigned.Assigned.{Assigned};
+ghost use Rattle.sb_trail.specs.Assignments.{held};
+ghost use Rattle.sb_search.specs.Asking.{Measure, IsFair, Falls};
+ghost use Rattle.sb_search.specs.declared.theory.Checked.TheVariants.{Spent};
+
+use sb_clauses::Clauses;
+use sb_lit::{Budget, Clause, Lit};
+use sb_proof::{Tape, TapeFault};
+use sb_search::{Checked, Theory};
+use sb_trail::Trail;
+use std::alloc::{AllocError, Global};
+
+/// How often a theory was asked, and how often for the last time.
+#[derive(Clone, Copy, Debug, PartialEq, Eq)]
+pub struct Asked {
+    pub all: u64,
+    pub last: u64,
+}
+
+impl Asked {
+    /// One more question.
+    fn more(self, last: bool) -> Asked {
+        Asked {
+            all: self.all.wrapping_add(1),
+            last: self.last.wrapping_add(u64::from(last)),
+        }
+    }
+}
+
+/// Nothing was asked.
+pub const NOTHING: Asked = Asked { all: 0, last: 0 };
+
+/// A theory that finds nothing wrong.
+#[derive(Drop)]
+pub struct Plain {
+    pub atoms: Vec<u64>,
+    pub asked: Asked,
+}
+
+impl Theory for Plain {
+    ghost wanted = { λ theory. theory.atoms.items };
+
+    ghost passes = { λ _ _. true };
+
+    ghost measure = { λ _ _ _. 0 };
+
+    ghost stands = { λ _ _. Unit {0} };
+
+    ghost agrees = { λ _ _. Unit {0} };
+
+    fn check<L: Tape>(
+        &mut self,
+        _trail: &Trail,
+        _clauses: &Clauses,
+        last: bool,
+        _tape: &mut L,
+        _budget: &mut Budget,
+    ) -> Result<Checked, TapeFault> {
+        self.asked = self.asked.more(last);
+        Ok(Checked::Fine)
+    }
+
+    fn undo(&mut self, _level: usize) {}
+
+    fn wanted_at(&self, at: u64) -> Option<u64> {
+        atom_at(&self.atoms, at)
+    }
+
+    ghost stands_longer = { λ _ _ _ _. tt };
+
+    ghost measure_longer = { Prim.search rules };
+}
+
+/// The atom at a place.
+fn atom_at(atoms: &Vec<u64>, at: u64) -> Option<u64>
+    ensures atom { result ≡ slice_get atoms.now.items at }
+    ensures small { length atoms.now.items < 2 ^ 63 }
+{
+    let _atoms = atoms.len();
+    atoms.get(at as usize).copied()
+}
+
+/// A theory that gives a lemma where it is false, and asks for literals one after the other, from the last.
+#[derive(Drop)]
+pub struct Given {
+    pub alloc: Global,
+    pub atoms: Vec<u64>,
+    pub lemmas: Vec<Clause>,
+    pub wishes: Vec<Lit>,
+    pub asked: Asked,
+}
+
+/// A lemma costs a step, and a wish is there once.
+impl Theory for Given {
+    ghost wanted = { λ theory. theory.atoms.items };
+
+    ghost passes = { λ _ _. true };
+
+    ghost measure = { λ theory _ _. length theory.wishes.items };
+
+    ghost stands = { λ _ _. Unit {0} };
+
+    ghost agrees = { λ _ _. Unit {0} };
+
+    fn check<L: Tape>(
+        &mut self,
+        trail: &Trail,
+        _clauses: &Clauses,
+        last: bool,
+        _tape: &mut L,
+        budget: &mut Budget,
+    ) -> Result<Checked, TapeFault> {
+        self.asked = self.asked.more(last);
+        if let Some(lemma) = false_one(self.alloc, trail, &self.lemmas)? {
+            return Ok(paid(lemma, budget));
+        }
+        Ok(wish(trail, &mut self.wishes))
+    }
+
+    fn undo(&mut self, _level: usize) {}
+
+    fn wanted_at(&self, at: u64) -> Option<u64> {
+        atom_at(&self.atoms, at)
+    }
+
+    ghost stands_longer = { λ _ _ _ _. tt };
+
+    ghost measure_longer = { Prim.search rules };
+}
+
+/// The first lemma that is false.
+fn false_one(alloc: Global, trail: &Trail, lemmas: &[Clause]) -> Result<Option<Clause>, AllocError>
+    ensures { IfOk result (λ found. IfSome found (λ lemma. is_false_clause (held trail.now.literals) lemma ≡ true)) }
+{
+    for lemma in lemmas {
+        if is_false(trail, lemma.literals()) {
+            let literals = Vec::from_slice(alloc, lemma.literals())?;
+            return Ok(Some(Clause::from_literals(literals)));
+        }
+    }
+    Ok(None)
+}
+
+/// Whether all literals are false.
+fn is_false(trail: &Trail, literals: &[Lit]) -> bool
+    ensures { result ≡ true → is_false_clause (held trail.now.literals) literals.now ≡ true }
+{
+    for literal in literals {
+        if trail.literal_value(*literal) != Some(false) {
+            return false;
+        }
+    }
+    true
+}
+
+/// A lemma for a step.
+fn paid(lemma: Clause, budget: &mut Budget) -> Checked
+    ensures limit { budget.new.limit ≡ budget.old.limit }
+    ensures spends { budget.old.spent ≤ budget.new.spent }
+    ensures within { budget.old.spent < budget.new.spent → budget.new.spent ≤ budget.new.limit }
+    ensures fair { (entries : List Assigned) → is_false_clause (held entries) lemma ≡ true
+        → IsFair (λ _. true) entries result }
+    ensures spent { result ≡ Spent → budget.new.spent ≡ budget.new.limit }
+    ensures falls { (old new : Measure) (kept : Kept) (entries : List Assigned)
+        → budget.new.spent ≡ budget.old.spent → Falls old new kept entries result }
+{
+    if budget.tick().is_err() {
+        return Checked::Spent;
+    }
+    Checked::Lemma(lemma)
+}
+
+/// The next literal that is asked for, where it has no value.
+fn wish(trail: &Trail, wishes: &mut Vec<Lit>) -> Checked
+    ensures fair { IsFair (λ _. true) trail.now.literals result }
+    ensures falls { (kept : Kept) → Falls (λ _ _. length wishes.old.items) (λ _ _. length wishes.new.items) kept
+        trail.now.literals result }
+    ensures not_spent { result ≢ Spent }
+{
+    let Some(literal) = wishes.pop() else {
+        return Checked::Fine;
+    };
+    if trail.value(literal.atom).is_some() {
+        return Checked::Fine;
+    }
+    Checked::Ask(literal)
+}
