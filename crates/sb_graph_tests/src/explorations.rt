@@ -126,6 +126,7 @@ fn the_word_is_the_shortest_and_the_least_of_those(rt: HostRuntime) -> Result<()
 }
 
 /// Whether a word is in the language of a regex, by its node and the cuts of the word.
+#[cycle(matches)]
 fn matches(arena: &Arena, r: RegexId, word: &[u32], depth: u32) -> bool {
     if depth == 0 || r.number() >= arena.len() {
         return false;
@@ -173,6 +174,7 @@ fn matches(arena: &Arena, r: RegexId, word: &[u32], depth: u32) -> bool {
 }
 
 /// Whether a word is made of words of a regex, of at least and of at most so many.
+#[cycle(matches)]
 fn repeats(arena: &Arena, r: RegexId, bounds: (u64, u64), word: &[u32], depth: u32) -> bool {
     if depth == 0 || bounds.1 == 0 {
         return bounds.0 == 0 && word.is_empty();
