@@ -8,6 +8,17 @@ the intersection has as many derivatives as the product of the lengths, which is
 `ends`: one constant in all fronts `w ALL` and all ends `ALL w` of the word of so many letters a to z in turn.
 `runs`: the same of a word of so many times one letter.
 
+Of all symbols, where LETTER is `[a-z]`:
+`powers`: one constant in `[ab]{n}` and in `[ab]{n+1}`.
+`loops`: one constant in `a{0,n}`, in `a{n,2n}`, and not in `a{n}`.
+`trie`: one constant in a union of so many words, and not in the tree of their first characters.
+`letters-short`, `letters`: one constant with each of so many letters, shorter than that, or 8 to so many more than 8 long.
+`policies`: so many patterns that allow and so many that deny, written in two ways, and what is in one of them alone.
+`unicode`: one constant in so many repeated unions of 40 ranges, and in none of the complements of others.
+`same-place`: one constant with an a, and with a b, so many characters before its end.
+`filters`: one constant that holds texts of some of five kinds, mail addresses, addresses of pages, IPv4, dates and UUIDs,
+and none of the others: the first ten sizes are the twos, the next ten the threes.
+
 And scripts of so many checks, each behind a new assertion:
 `checked-classes`: one constant in one more range of characters each time.
 `checked-constants`: one more constant each time, in a range of characters.
@@ -19,6 +30,7 @@ And scripts of levels:
 each.
 `pairs`: so many levels that are opened and left at once.
 """
+import itertools
 import random
 import sys
 
@@ -137,7 +149,139 @@ def runs(size):
     return fronts_and_ends("a" * size)
 
 
+ALL, ONE = "re.all", "re.allchar"
+
+
+def comp(regex):
+    return f"(re.comp {regex})"
+
+
+def power(regex, count):
+    return f"((_ re.^ {count}) {regex})"
+
+
+def loop(regex, least, most):
+    return f"((_ re.loop {least} {most}) {regex})"
+
+
+def concat(*parts):
+    return "(re.++ " + " ".join(parts) + ")"
+
+
+def either(*parts):
+    return "(re.union " + " ".join(parts) + ")"
+
+
+def span(low, high):
+    return f'(re.range "{low}" "{high}")'
+
+
+def powers(size):
+    letter = span("a", "b")
+    return in_re(power(letter, size)) + in_re(power(letter, size + 1))
+
+
+def loops(size):
+    a = to_re("a")
+    return in_re(loop(a, 0, size)) + in_re(loop(a, size, 2 * size)) + in_re(comp(power(a, size)))
+
+
+def tree(words):
+    """The words, by their first characters."""
+    parts = []
+    for letter in sorted({w[0] for w in words if w}):
+        behind = [w[1:] for w in words if w and w[0] == letter]
+        parts.append(to_re(letter) if behind == [""] else concat(to_re(letter), tree(behind)))
+    if "" in words:
+        parts.append(to_re(""))
+    return parts[0] if len(parts) == 1 else either(*parts)
+
+
+def trie(size):
+    order = random.Random(size).sample(range(26 ** 4), size)
+    words = sorted(word("abcdefghijklmnopqrstuvwxyz", number, 5) for number in order)
+    return in_re(union(words)) + in_re(comp(tree(words)))
+
+
+def has(count):
+    return "".join(in_re(concat(ALL, to_re("abcdefghijklmnopqrstuvwxyz"[i]), ALL)) for i in range(count))
+
+
+def letters_short(size):
+    return has(size) + in_re(loop(ONE, 0, size - 1))
+
+
+def letters_long(size):
+    return has(size) + in_re(loop(ONE, 8, 8 + size))
+
+
+def patterns(size, start):
+    """So many patterns of an action and a resource, `service:verb*` and `path/*/name`, in two ways."""
+    verbs = ["get", "put", "list", "delete", "create", "update"]
+    plain, other = [], []
+    for number in range(start, start + size):
+        service, verb = word("abcdef", number, 3), verbs[number % len(verbs)]
+        path, name = word("ghijkl", number, 3), word("mnop", number, 2)
+        some = f'(re.* {span("a", "z")})'
+        plain.append(concat(to_re(f"{service}:{verb}"), some, to_re(f" {path}/"), some, to_re(f"/{name}")))
+        letters = f'(re.union (str.to_re "") (re.+ {span("a", "z")}))'
+        front = concat(to_re(service), to_re(":"), to_re(verb), letters)
+        other.append(concat(front, concat(to_re(" "), to_re(path + "/")), letters, to_re("/" + name)))
+    return either(*plain, "re.none"), either(*reversed(other), "re.none")
+
+
+def policies(size):
+    allow, other_allow = patterns(size, 0)
+    deny, other_deny = patterns(size, size // 2)
+    first = f"(re.diff {allow} {deny})"
+    second = f"(re.inter {comp(other_deny)} {other_allow})"
+    return in_re(either(f"(re.diff {first} {second})", f"(re.diff {second} {first})"))
+
+
+def characters(seed):
+    order = sorted(random.Random(seed).sample(range(0x80, 0x2ffff), 80))
+    ranges = [span(f"\\u{{{order[2 * i]:x}}}", f"\\u{{{order[2 * i + 1]:x}}}") for i in range(40)]
+    return either(*ranges)
+
+
+def unicode(size):
+    text = "".join(in_re(f"(re.+ {characters(number)})") for number in range(size))
+    return text + "".join(in_re(comp(f"(re.++ {characters(1000 + number)} {characters(number)})")) for number in range(size))
+
+
+def same_place(size):
+    return "".join(in_re(concat(ALL, to_re(letter), power(ONE, size))) for letter in "ab")
+
+
+def filters(size):
+    low, digit, hexa = span("a", "z"), span("0", "9"), either(span("0", "9"), span("a", "f"))
+    name = f"(re.+ {either(low, digit, to_re('-'))})"
+    host = concat(name, f"(re.+ {concat(to_re('.'), name)})")
+    mail = concat(name, f"(re.* {concat(to_re('.'), name)})", to_re("@"), host)
+    address = concat(either(to_re("http"), to_re("https")), to_re("://"), host, f"(re.* {concat(to_re('/'), name)})")
+    octet = either(loop(digit, 1, 2), concat(to_re("1"), power(digit, 2)), concat(to_re("2"), span("0", "4"), digit),
+                   concat(to_re("25"), span("0", "5")))
+    network = concat(octet, power(concat(to_re("."), octet), 3))
+    date = concat(power(digit, 4), to_re("-"), either(concat(to_re("0"), span("1", "9")), concat(to_re("1"), span("0", "2"))),
+                  to_re("-"), either(concat(span("0", "2"), digit), concat(to_re("3"), span("0", "1"))))
+    number = concat(power(hexa, 8), power(concat(to_re("-"), power(hexa, 4)), 3), to_re("-"), power(hexa, 12))
+    every = [mail, address, network, date, number]
+    chosen = list(itertools.chain(itertools.combinations(range(5), 2), itertools.combinations(range(5), 3)))[size - 1]
+    text = "".join(in_re(concat(ALL, every[i], ALL)) for i in chosen)
+    text += "".join(in_re(comp(concat(ALL, every[i], ALL))) for i in range(5) if i not in chosen)
+    return text + in_re(comp(either(*[every[i] for i in chosen]))) + in_re(loop(ONE, 0, 100))
+
+
 FAMILIES = {
+    "powers": powers,
+    "loops": loops,
+    "trie": trie,
+    "letters-short": letters_short,
+    "letters": letters_long,
+    "policies": policies,
+    "unicode": unicode,
+    "same-place": same_place,
+    "filters": filters,
     "coprime": coprime,
     "dictionaries": dictionaries,
     "ranges": ranges,
