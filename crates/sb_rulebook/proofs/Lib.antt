@@ -17,3 +17,4 @@ mod TableReached
 mod TakenArguments
 mod FittingTerms
 mod TranslatedTerms
+mod AskedTranslation

@@ -1,5 +1,6 @@
 pub mod CallerLemmas
 mod ReadingFacts
+mod AskedTerms
 mod SortedTerms
 mod SortedSteps
 mod OrderedSums

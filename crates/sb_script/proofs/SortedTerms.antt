@@ -9,7 +9,7 @@ use Rattle.sb_meaning.specs.Terms.{Sort, boolean, integer, text, reglan, Term, T
 use Rattle.sb_meaning.specs.Terms as symbol
 use Rattle.sb_meaning.specs.Sorts.{sort_of, is_same_sort, are_sorts, is_of_one}
 use Rattle.sb_script.specs.Scopes.{Naming}
-use Rattle.sb_script.specs.Faults.{unsupported, bad_literal, numeral_too_large, wrong_count, wrong_sort}
+use Rattle.sb_script.specs.Faults.{bad_literal, numeral_too_large, wrong_count, wrong_sort}
 use Rattle.sb_script.specs.Texts.{read_text, number_of}
 use Rattle.sb_script.specs.Heads.{judged, joined, made, with_arguments, each_with_arguments, judged_definition}
 use Rattle.sb_script.specs.Reading.{read}

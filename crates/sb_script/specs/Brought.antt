@@ -1,12 +1,14 @@
 -- What is read and decided so far. All else is answered `unsupported`, as what is left out for good is. Which is which
 -- stands here alone.
-use Rattle.std.specs.Prelude.{Bool, true, false, ◌&&◌, List, [], ◌∷◌, codes}
+use Rattle.std.specs.Prelude.{ℕ, Bool, true, false, ◌&&◌, List, [], ◌∷◌, codes, Option, Some, None}
 use Rattle.sb_meaning.specs.Terms.{Sort, Symbol, Term, Terms, text, constant, word, apply, no_terms, with_term}
 use Rattle.sb_meaning.specs.Terms as symbol
 use Rattle.sb_script.specs.Names.{Name, is_among}
 
 pub data Feature : Type 0 where
   a_symbol : Symbol → Feature
+  -- a symbol with arguments of these sorts
+  a_use_of : Symbol → List Sort → Feature
   -- a sort that constants may have
   a_sort : Sort → Feature
   a_command : Name → Feature
@@ -35,6 +37,7 @@ brought_options =
     ∷ codes ":produce-unsat-assumptions" ∷ codes ":global-declarations" ∷ []
 
 abbrev pub is_brought_symbol : Symbol → Bool
+is_brought_symbol symbol.core_equal = true
 is_brought_symbol symbol.str_in_re = true
 is_brought_symbol symbol.str_to_re = true
 is_brought_symbol symbol.re_none = true
@@ -52,6 +55,12 @@ is_brought_symbol symbol.re_comp = true
 is_brought_symbol (symbol.re_power n) = true
 is_brought_symbol (symbol.re_loop n m) = true
 is_brought_symbol _ = false
+
+-- of terms that are compared two of sort String
+abbrev pub is_brought_use : Symbol → List Sort → Bool
+is_brought_use symbol.core_equal (text ∷ text ∷ []) = true
+is_brought_use symbol.core_equal sorts = false
+is_brought_use s sorts = true
 
 abbrev pub is_brought_sort : Sort → Bool
 is_brought_sort text = true
@@ -82,13 +91,27 @@ abbrev mutual
   are_regexes no_terms = true
   are_regexes (with_term R Rs) = is_regex R && are_regexes Rs
 
--- the term is the membership of a constant in such a regular expression
+-- the membership of a constant in a regular expression
+abbrev pub membership_of : ℕ → Term → Term
+membership_of serial R = apply symbol.str_in_re (with_term (constant serial text) (with_term R no_terms))
+
+-- What a term asks of the word of one constant, where it asks this alone: the constant's serial, and the regular
+-- expression that the word is to be in. An equality with a literal asks for the literal's word.
+abbrev pub asked : Term → Option (ℕ × Term)
+asked (apply symbol.str_in_re (with_term (constant serial text) (with_term R no_terms))) = Some (serial, R)
+asked (apply symbol.core_equal (with_term (constant serial text) (with_term (word w) no_terms))) =
+    Some (serial, apply symbol.str_to_re (with_term (word w) no_terms))
+asked (apply symbol.core_equal (with_term (word w) (with_term (constant serial text) no_terms))) =
+    Some (serial, apply symbol.str_to_re (with_term (word w) no_terms))
+asked _ = None
+
+-- the term is the membership of a constant in such a regular expression, or its equality with a literal
 abbrev pub is_membership : Term → Bool
-is_membership (apply symbol.str_in_re (with_term (constant serial text) (with_term R no_terms))) = is_regex R
-is_membership _ = false
+is_membership t = elim (asked t) [ Some p ↦ is_regex p.1 | None ↦ false ]
 
 abbrev pub is_brought : Feature → Bool
 is_brought (a_symbol s) = is_brought_symbol s
+is_brought (a_use_of s sorts) = is_brought_use s sorts
 is_brought (a_sort sort) = is_brought_sort sort
 is_brought (a_command name) = is_among brought_commands name
 is_brought (an_option name) = is_among brought_options name

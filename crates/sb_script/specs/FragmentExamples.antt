@@ -1,11 +1,11 @@
 -- Computed examples of what is decided: of what is brought so far, and of the whole fragment.
-use Rattle.std.specs.Prelude.{◌≡◌, pos, Bool, true, false, List, [], ◌∷◌, map, codes, refl}
+use Rattle.std.specs.Prelude.{◌≡◌, pos, Bool, true, false, List, [], ◌∷◌, map, codes, Some, refl}
 use Rattle.std.specs.List.{list_all, list_any}
 use Rattle.sb_meaning.specs.Terms.{Term, boolean, integer, text, constant, word, numeral, apply, no_terms, terms_of}
 use Rattle.sb_meaning.specs.Terms as symbol
 use Rattle.sb_meaning.specs.Values.{Int, Truth}
 use Rattle.sb_meaning.specs.Examples.{one, two, x, as_and_more}
-use Rattle.sb_script.specs.Brought.{is_regex, is_membership}
+use Rattle.sb_script.specs.Brought.{is_regex, asked, is_membership}
 use Rattle.sb_script.specs.Fragment.{fits, are_in_fragment}
 use Rattle.sb_script.specs.State.{Assertion, asserted, a_mark, assumed}
 use Rattle.sb_script.specs.Models.{is_plain_term, are_defaults, about}
@@ -23,6 +23,27 @@ no_constant_within = refl
 
 no_word_in_front : is_membership (two symbol.str_in_re (word (codes "a")) as_and_more) ≡ false
 no_word_in_front = refl
+
+-- an equality with a literal, on either side
+equal_to_a_literal : is_membership (two symbol.core_equal x (word (codes "a"))) ≡ true
+equal_to_a_literal = refl
+
+a_literal_is_equal : is_membership (two symbol.core_equal (word []) x) ≡ true
+a_literal_is_equal = refl
+
+-- of two constants, of two literals, of more than two
+of_two_constants : is_membership (two symbol.core_equal x x) ≡ false
+of_two_constants = refl
+
+of_two_literals : is_membership (two symbol.core_equal (word []) (word [])) ≡ false
+of_two_literals = refl
+
+of_three : is_membership (apply symbol.core_equal (terms_of (x ∷ word [] ∷ word [] ∷ []))) ≡ false
+of_three = refl
+
+what_is_asked : asked (two symbol.core_equal (word (codes "a")) x)
+    ≡ Some (0, one symbol.str_to_re (word (codes "a")))
+what_is_asked = refl
 
 -- One assertion.
 

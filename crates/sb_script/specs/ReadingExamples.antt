@@ -73,6 +73,29 @@ three_in_a_union = refl
 one_in_a_union : read names (group (Symbol (codes "re.union") ∷ range a b ∷ [])) ≡ Ok a_range
 one_in_a_union = refl
 
+-- (= x "a"): of two Strings; of three, or of truth values, it is not read yet, which is judged behind the sorts
+abbrev equals : List Form → Form
+equals fs = group (Symbol (codes "=") ∷ fs)
+
+an_equality : read names (equals (x ∷ a ∷ []))
+    ≡ Ok (apply symbol.core_equal (with_term (constant 0 text) (with_term (word (97 ∷ [])) no_terms)))
+an_equality = refl
+
+an_equality_of_three : read names (equals (x ∷ a ∷ b ∷ [])) ≡ Err unsupported
+an_equality_of_three = refl
+
+an_equality_of_one : read names (equals (x ∷ [])) ≡ Err wrong_count
+an_equality_of_one = refl
+
+an_equality_of_two_sorts : read names (equals (x ∷ range a b ∷ [])) ≡ Err wrong_sort
+an_equality_of_two_sorts = refl
+
+an_equality_of_expressions : read names (equals (range a b ∷ range a b ∷ [])) ≡ Err unsupported
+an_equality_of_expressions = refl
+
+an_equality_of_truth_values : read names (equals (equals (x ∷ a ∷ []) ∷ equals (x ∷ b ∷ []) ∷ [])) ≡ Err unsupported
+an_equality_of_truth_values = refl
+
 -- (re.diff (re.comp re.none) (re.opt re.allchar) re.all), from the left as it stands
 abbrev no_word : Form
 no_word = Symbol (codes "re.none")
