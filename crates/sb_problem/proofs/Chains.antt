@@ -152,6 +152,7 @@ concatenates : (rs : List Regex) (t : Term) (k : Known) → IsKnown rs t k → i
 concatenates rs t known.Other h kind none_made = absurd (false≢true (sym h ∙ kind))
 concatenates rs t known.Concatenation h kind none_made = h
 concatenates rs t (known.Made id) h kind none_made = absurd (none_made id refl)
+concatenates rs t (known.Spelled id) h kind none_made = absurd (false≢true (sym h.0 ∙ kind))
 
 parts_joined : ConcatenationGroups → (ts : Terms) (xs : List Term) (w : Regex) → is_regex (apply re_concat ts) ≡ true
     → terms_of xs ≡ ts → chain (map regex_of xs) w ≡ mkcat (regex_of (apply re_concat ts)) w

@@ -11,7 +11,7 @@ use Rattle.sb_lang.specs.Regex.{Regex, none, eps}
 use Rattle.sb_lang.specs.Constructors.{anything, mkcat, mkalt, mkand, mknot, mkstar}
 use Rattle.sb_lang.specs.NormalForm.{is_normal, IsNormal}
 use Rattle.sb_lang.specs.NormalFormLaws.{ConstructorsGiveNormal}
-use Rattle.sb_lang.specs.FoldLaws.{UnionOfOne, UnionOfMore, IntersectionOfMore, IntersectionOfMembers, AllNormal, SameMembers}
+use Rattle.sb_lang.specs.FoldLaws.{UnionOfOne, UnionOfMore, IntersectionOfMore, IntersectionOfMembers, AllNormal}
 use Rattle.sb_lang.specs.Order.{regex_eq}
 use Rattle.sb_lang.specs.SortedLaws.{is_member}
 use Rattle.sb_regex.specs.Numbered.{regex_at, regexes_at, Names, AllNumbers, Extends}

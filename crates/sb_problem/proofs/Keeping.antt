@@ -18,12 +18,13 @@ use Rattle.sb_term.proofs.CallerLemmas as table_facts
 use Rattle.sb_lang.specs.Regex.{Regex}
 use Rattle.sb_regex.specs.Numbered.{regex_at, regexes_at, Extends}
 use Rattle.sb_regex.proofs.CallerLemmas.{names_kept, names_at, names_below, one_number, numbers_kept, ats_kept}
-use Rattle.sb_meaning.specs.Terms.{Term, Terms, apply, terms_of, no_terms, with_term, re_concat}
+use Rattle.sb_meaning.specs.Terms.{Term, Terms, constant, word, numeral, parameter, apply, terms_of, no_terms, with_term, re_concat}
 use Rattle.sb_script.specs.Brought.{is_regex, are_regexes}
 use Rattle.sb_problem.specs.declared.normals.Known.{Known}
 use Rattle.sb_problem.specs.declared.normals.Known.TheVariants as known
 use Rattle.sb_problem.specs.Known.{IsKnown, IsConcatenation, AreNormals, AreTold, known_from, is_other}
 use Rattle.sb_problem.specs.Laws.{NormalsStay}
+use Rattle.sb_problem.specs.Patterns.{literal_of}
 use Rattle.sb_problem.specs.Shapes.{IsNumbered, IsFound, AreRegexesOf, made, joins, joined_right, either, both, or_none, regex_of, regexes_of}
 use Rattle.sb_problem.proofs.Meanings.{are_all, regexes_all}
 
@@ -35,6 +36,7 @@ pub known_kept : (rs new : List Regex) (t : Term) (k : Known) → Extends rs new
 known_kept rs new t known.Other e h = h
 known_kept rs new t known.Concatenation e h = h
 known_kept rs new t (known.Made id) e h = (h.0, names_kept rs new id (regex_of t) e h.1)
+known_kept rs new t (known.Spelled id) e h = (h.0, (h.1.0, names_kept rs new id (regex_of (literal_of t)) e h.1.1))
 
 pub normals_stay : NormalsStay
 normals_stay ts more rs new ks e f n = record {
@@ -70,6 +72,7 @@ told_known : (rs : List Regex) (t : Term) (k : Known) → IsKnown rs t k → is_
 told_known rs t known.Other h = h
 told_known rs t known.Concatenation h = h.kind
 told_known rs t (known.Made id) h = h.0
+told_known rs t (known.Spelled id) h = h.0
 
 pub told : (ts : List Term) (rs : List Regex) (ks : List Known) → AreNormals ts rs ks → AreTold ts ks
 told ts rs ks n i l = told_known rs (term_at ts i) (get_or ks i known.Other) (n.each i l)
@@ -300,13 +303,18 @@ known_at ts rs ks items number id k n view same l is =
     rw (← here) (n.each id l)
 
 pub told_at : (ts : List Term) (ks items : List Known) (number id : ℕ) (k : Known)
-    → AreTold ts ks → items ≡ ks → number ≡ id → id < length ks → k ≡ get_or items number k → k ≡ known.Other →
+    → AreTold ts ks → items ≡ ks → number ≡ id → id < length ks → k ≡ get_or items number k → is_other k ≡ true →
     is_regex (term_at ts id) ≡ false
 told_at ts ks items number id k t view same l is other =
-    let here : get_or ks id known.Other ≡ known.Other =
+    let here : get_or ks id known.Other ≡ k =
     get_or_default ks id known.Other k l ∙ (sym (ap (λ xs. get_or xs id k) view)
-    ∙ (sym (ap (λ i. get_or items i k) same) ∙ (sym is ∙ other))) in
-    t id l ∙ ap (λ x. not (is_other x)) here
+    ∙ (sym (ap (λ i. get_or items i k) same) ∙ sym is)) in
+    t id l ∙ (ap (λ x. not (is_other x)) here ∙ ap not other)
+
+-- what is none, whether or not it is the word of a literal
+pub other_or_spelled : (k : Known) → (k ≡ known.Other) ⊎ ((id : _) × (k ≡ known.Spelled id)) → is_other k ≡ true
+other_or_spelled k (inl is) = ap is_other is
+other_or_spelled k (inr is) = ap is_other is.1
 
 pub item_below : (n : ℕ) (ids : List ℕ) (i x : ℕ) → All (λ k. k < n) ids → i < length ids → x ≡ get_or ids i x → x < n
 item_below n ids i x h l is = rw is (h i x l)
@@ -331,23 +339,31 @@ concat_known ts ids i h l some =
     by_ids [] h some = absurd (some refl)
     by_ids (x ∷ ids) h some = ap (λ b. is_regex (term_at ts x) && b) (are_all (terms_at ts ids)) ∙ h
 
-pub normals_set : (ts : List Term) (rs new : List Regex) (ks items : List Known) (number id regex : ℕ)
+pub normals_set : (ts : List Term) (rs new : List Regex) (ks items : List Known) (number id : ℕ) (k : Known)
     → AreNormals ts rs ks → Extends rs new → items ≡ ks → number ≡ id → id < length ks →
-    IsNumbered new (term_at ts id) (Some regex) → AreNormals ts new (set items number (known.Made regex))
-normals_set ts rs new ks items number id regex n e view same l h = rw (view, same) (record {
-  short = omega (arith, n.short, length-set ks id (known.Made regex));
-  each = λ i m. step i (omega (arith, m, length-set ks id (known.Made regex))) (nat_eq i id) refl;
+    IsKnown new (term_at ts id) k → AreNormals ts new (set items number k)
+normals_set ts rs new ks items number id k n e view same l h = rw (view, same) (record {
+  short = omega (arith, n.short, length-set ks id k);
+  each = λ i m. step i (omega (arith, m, length-set ks id k)) (nat_eq i id) refl;
 })
   where
     step : (i : ℕ) → i < length ks → (b : Bool) → nat_eq i id ≡ b
-        → IsKnown new (term_at ts i) (get_or (set ks id (known.Made regex)) i known.Other)
+        → IsKnown new (term_at ts i) (get_or (set ks id k) i known.Other)
     step i m true is =
         let z : i ≡ id = grind (arith, nat_tests) in
-        rw z (rw (get_or-set_same ks id (known.Made regex) known.Other l) h)
+        rw z (rw (get_or-set_same ks id k known.Other l) h)
     step i m false is =
         let z : i ≢ id = grind (arith, nat_tests) in
-        rw (get_or-set_other ks id i (known.Made regex) known.Other z)
+        rw (get_or-set_other ks id i k known.Other z)
         (known_kept rs new (term_at ts i) (get_or ks i known.Other) e (n.each i m))
+
+-- what has the regular expression of a literal is a word, and none itself
+pub literal_is_none : (t : Term) → is_regex (literal_of t) ≡ true → is_regex t ≡ false
+literal_is_none (word w) h = refl
+literal_is_none (constant n s) h = absurd (false≢true h)
+literal_is_none (numeral n) h = absurd (false≢true h)
+literal_is_none (apply s ts) h = absurd (false≢true h)
+literal_is_none (parameter n s) h = absurd (false≢true h)
 
 pub normals_pushed : (ts : List Term) (rs : List Regex) (ks items items' : List Known) (k : Known) (n : ℕ)
     → AreNormals ts rs ks → items ≡ ks → items' ≡ items ++ k ∷ [] → n ≡ length ks → n < length ts →

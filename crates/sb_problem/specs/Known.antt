@@ -6,6 +6,7 @@ use Rattle.sb_lang.specs.Regex.{Regex}
 use Rattle.sb_meaning.specs.Terms.{Term, Terms, apply, re_concat}
 use Rattle.sb_script.specs.Brought.{is_regex}
 use Rattle.sb_term.specs.Numbered.{term_at}
+use Rattle.sb_problem.specs.Patterns.{literal_of}
 use Rattle.sb_problem.specs.Shapes.{IsNumbered}
 
 -- The term is a regular expression over literals that concatenates others.
@@ -18,6 +19,7 @@ abbrev pub IsKnown : List Regex → Term → Known → Type 0
 IsKnown rs t known.Other = is_regex t ≡ false
 IsKnown rs t known.Concatenation = IsConcatenation t
 IsKnown rs t (known.Made id) = IsNumbered rs t (Some id)
+IsKnown rs t (known.Spelled id) = (is_regex t ≡ false) × IsNumbered rs (literal_of t) (Some id)
 
 abbrev pub known_from : Option ℕ → Known
 known_from (Some id) = known.Made id
@@ -27,6 +29,7 @@ abbrev pub is_other : Known → Bool
 is_other known.Other = true
 is_other known.Concatenation = false
 is_other (known.Made id) = false
+is_other (known.Spelled id) = true
 
 -- what is known of the terms in front
 pub record AreNormals (ts : List Term) (rs : List Regex) (ks : List Known) : Type 0 where

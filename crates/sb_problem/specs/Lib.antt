@@ -2,3 +2,4 @@ pub mod Normals
 pub mod Shapes
 pub mod Known
 pub mod Laws
+pub mod Patterns

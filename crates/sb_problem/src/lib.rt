@@ -3,15 +3,18 @@
 //! [`Normals`] goes over the terms of a table in the order of their numbers, in which arguments come first, and keeps
 //! by number what each is as a regular expression: its regex is made by the constructor of its symbol, once, in an
 //! arena in which equal regexes have one number. The layer above asks for the regexes of a constant's memberships, and
-//! explores what they have in common.
+//! explores what they have in common. A literal to which a constant is to be equal has a regex too, as the pattern that
+//! has its word alone.
 #![tactic(auto)]
 
 mod join;
 mod laws;
 mod literals;
 mod normals;
+mod pattern;
 mod pieces;
 
 pub use laws::normals_stay;
 pub use normals::Normals;
+pub use pattern::Pattern;
 pub use pieces::constant_of;

@@ -10,11 +10,13 @@ ghost use Rattle.sb_script.specs.Brought.{is_regex};
 ghost use Rattle.sb_term.specs.Numbered.{term_at, terms_at};
 ghost use Rattle.sb_problem.specs.Known.{IsKnown, AreNormals, AreTold, known_from};
 ghost use Rattle.sb_problem.specs.Normals.{IsNumberOf};
+ghost use Rattle.sb_problem.specs.Patterns.{literal_of, number_of, pattern_in};
 ghost use Rattle.sb_problem.specs.Shapes.{IsNumbered, AreRegexesOf, arguments_in, joins, regex_of};
 ghost use Rattle.sb_term.specs.Symbols.{symbol_in};
 
 use crate::join::joined;
 use crate::literals::{of_range, of_word};
+use crate::pattern::Pattern;
 use sb_lang::fold::concatenation_groups;
 use sb_regex::{Arena, RegexId};
 use sb_term::{Symbol, Table, Term, TermId};
@@ -30,6 +32,8 @@ pub(crate) enum Known {
     Concatenation,
     /// It has this normal regex.
     Made(RegexId),
+    /// It is none, but the word of a literal, which has this normal regex.
+    Spelled(RegexId),
 }
 
 impl Known {
@@ -87,12 +91,72 @@ impl Normals {
         ensures extends { Extends arena.old arena.new }
         ensures normals { AreNormals table.now arena.new self.new }
     {
+        self.reach(table, arena, id)?;
+        self.regex(table, arena, id)
+    }
+
+    /// The number of the normal regex of a pattern, `None` exactly where the pattern is no regular expression over
+    /// literals and no literal. Its cost and its error are those of [`Normals::normal`]; a word is made a regex when it is
+    /// asked for first, which is linear in it.
+    pub fn pattern(
+        &mut self,
+        table: &Table,
+        arena: &mut Arena,
+        pattern: Pattern,
+    ) -> Result<Option<RegexId>, AllocError>
+        requires known { number_of pattern < length table.now }
+        requires normals { AreNormals table.now arena.old self.old }
+        ensures number { IfOk result (λ found. IsNumberOf arena.new (pattern_in table.now pattern) found) }
+        ensures extends { Extends arena.old arena.new }
+        ensures normals { AreNormals table.now arena.new self.new }
+    {
+        match pattern {
+            Pattern::Expression(id) => self.normal(table, arena, id),
+            Pattern::Word(id) => {
+                self.reach(table, arena, id)?;
+                let found = self.spelled(table, arena, id)?;
+                Ok(found)
+            }
+        }
+    }
+
+    /// Goes over the terms up to a number.
+    fn reach(&mut self, table: &Table, arena: &mut Arena, id: TermId) -> Result<(), AllocError>
+        requires known { id < length table.now }
+        requires normals { AreNormals table.now arena.old self.old }
+        ensures reached { IfOk result (λ _. id < length self.new) }
+        ensures extends { Extends arena.old arena.new }
+        ensures normals { AreNormals table.now arena.new self.new }
+    {
         while self.known.len() <= id.number() {
             let next = TermId::new(self.known.len())?;
             let known = self.learn(table, arena, next)?;
             self.known.push(known)?;
         }
-        self.regex(table, arena, id)
+        Ok(())
+    }
+
+    /// The number of the normal regex of a literal's word, made where it was not asked for before.
+    fn spelled(
+        &mut self,
+        table: &Table,
+        arena: &mut Arena,
+        id: TermId,
+    ) -> Result<Option<RegexId>, AllocError>
+        requires known { id < length self.old }
+        requires normals { AreNormals table.now arena.old self.old }
+        ensures number { IfOk result (λ found. IsNumbered arena.new (literal_of (term_at table.now id)) found) }
+        ensures extends { Extends arena.old arena.new }
+        ensures normals { AreNormals table.now arena.new self.new }
+    {
+        if let Known::Spelled(regex) = self.known[id.number()] {
+            return Ok(Some(regex));
+        }
+        let Some(regex) = of_word(table, arena, &[id])? else {
+            return Ok(None);
+        };
+        self.known[id.number()] = Known::Spelled(regex);
+        Ok(Some(regex))
     }
 
     /// What the term of a number is, where those of all smaller numbers are known.
@@ -172,7 +236,7 @@ impl Normals {
             return Known::Other;
         }
         for id in ids {
-            if let Known::Other = self.known[id.number()] {
+            if let Known::Other | Known::Spelled(_) = self.known[id.number()] {
                 return Known::Other;
             }
         }
@@ -219,7 +283,7 @@ impl Normals {
         ensures long { length self.new ≡ length self.old }
     {
         match self.known[id.number()] {
-            Known::Other => Ok(None),
+            Known::Other | Known::Spelled(_) => Ok(None),
             Known::Made(regex) => Ok(Some(regex)),
             Known::Concatenation => {
                 let regex = self.concatenation(table, arena, id)?;

@@ -1,4 +1,4 @@
-use Rattle.sb_problem.proofs.Keeping.{told, normals_grown, applied_at, concat_is, made_known, none_given, is_joining}
+use Rattle.sb_problem.proofs.Keeping.{told, normals_grown, applied_at, concat_is}
 use Rattle.sb_problem.proofs.normals.Normals.learn.Goals as goal
 
 pub concatenated-requires-clause-told : goal.concatenated-requires-clause-told

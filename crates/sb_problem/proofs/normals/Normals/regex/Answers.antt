@@ -1,3 +1,4 @@
+use Rattle.sb_problem.specs.declared.normals.Known.TheVariants as known
 use Rattle.sb_problem.proofs.Keeping.{known_at, normals_grown, normals_set}
 use Rattle.sb_problem.proofs.normals.Normals.regex.Goals as goal
 
@@ -29,6 +30,6 @@ returns-in_ok-regex-in-Concatenation-clause-normals c =
     let k = known_at c.args.table.now c.args.arena.now c.args.self.now c.self.inside.known.items c.number.result
     c.args.id c.index.result.now c.requires.normals c.self.view_is c.number.ensures c.requires.known c.index.ensures in
     normals_set c.args.table.now c.args.arena.now c.concatenation.new.arena c.args.self.now c.self.inside.known.items
-    c.number-in-Concatenation.result c.args.id c.in_ok-regex-in-Concatenation.regex c.requires.normals
+    c.number-in-Concatenation.result c.args.id (known.Made c.in_ok-regex-in-Concatenation.regex) c.requires.normals
     c.in_ok-regex-in-Concatenation.ensures.extends c.self.view_is c.number-in-Concatenation.ensures c.requires.known
     ((rw c.in-Concatenation.is at k).kind, c.in_ok-regex-in-Concatenation.ensures.names)

@@ -1,0 +1,10 @@
+use Rattle.sb_term.specs.Numbered.{term_at}
+use Rattle.sb_problem.specs.Patterns.{literal_of}
+use Rattle.sb_problem.proofs.Meanings.{number_of}
+use Rattle.sb_problem.proofs.normals.Normals.pattern.Goals as goal
+
+pub returns-in_ok-found-in-Word-clause-number : goal.returns-in_ok-found-in-Word-clause-number
+returns-in_ok-found-in-Word-clause-number c =
+    rw c.in-Word.is
+    (number_of c.spelled.new.arena (literal_of (term_at c.args.table.now c.in-Word.id)) c.in_ok-found-in-Word.found
+    c.in_ok-found-in-Word.ensures.number)

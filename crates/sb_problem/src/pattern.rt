@@ -1,0 +1,12 @@
+//! What a constant's word is asked to be in.
+
+use sb_term::TermId;
+
+/// What a constant's word is asked to be in, by the number of its term.
+#[derive(Clone, Copy, Debug, PartialEq, Eq)]
+pub enum Pattern {
+    /// A regular expression.
+    Expression(TermId),
+    /// The word of a literal, and no other.
+    Word(TermId),
+}
