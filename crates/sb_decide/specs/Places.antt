@@ -1,19 +1,22 @@
--- The places of a constant's memberships among live assertions, and that no word is in all of their regexes.
-use Rattle.std.specs.Prelude.{◌≡◌, ℕ, ◌+◌, Bool, true, false, if◌then◌else◌, List, [], ◌∷◌, slice_get, Some}
+-- The places of the assertions that ask something of a constant's word, and that no word is in all of their regexes.
+use Rattle.std.specs.Prelude.{◌≡◌, ℕ, ◌+◌, Bool, true, false, ◌==◌, if◌then◌else◌, List, [], ◌∷◌, slice_get, Some, None}
 use Rattle.std.specs.List.{list_all}
 use Rattle.sb_word.specs.Words.{IsWord}
 use Rattle.sb_lang.specs.Regex.{Regex}
 use Rattle.sb_lang.specs.Language.{language}
 use Rattle.sb_regex.specs.Numbered.{regexes_at}
-use Rattle.sb_meaning.specs.Terms.{Term, text, constant}
-use Rattle.sb_script.specs.Models.{is_of}
+use Rattle.sb_meaning.specs.Terms.{Term}
+use Rattle.sb_script.specs.Brought.{asked}
 use Rattle.sb_script.specs.State.{Assertion, asserted, a_mark}
-use Rattle.sb_fragment.specs.Memberships.{in_re, IsMemberRegex}
+use Rattle.sb_fragment.specs.Memberships.{IsMemberRegex}
 use Rattle.sb_fragment.specs.Rules.{is_decided}
 
--- the assertion is a membership of the constant
+-- the term asks something of the constant's word alone: it is a membership of the constant, or equal to a literal
+abbrev pub asks_of : ℕ → Term → Bool
+asks_of serial t = elim (asked t) [ Some p ↦ serial == p.0 | None ↦ false ]
+
 abbrev pub is_membership_of : ℕ → Assertion → Bool
-is_membership_of serial (asserted t) = is_of serial t
+is_membership_of serial (asserted t) = asks_of serial t
 is_membership_of serial a_mark = false
 
 -- the places of the memberships of the constant, where the first of these assertions is at the first place
@@ -23,11 +26,13 @@ places_from place serial (a ∷ rest) =
     if is_membership_of serial a then place ∷ places_from (place + 1) serial rest
     else places_from (place + 1) serial rest
 
--- The assertion at the place is a membership of the constant, and it is a decided one.
+-- The assertion at the place asks something of the constant's word alone, and it is a decided one.
 pub record IsPlaceOf (live : List Assertion) (serial place : ℕ) : Type 0 where
+  pub term : Term
   pub regex : Term
-  pub there : slice_get live place ≡ Some (asserted (in_re (constant serial text) regex))
-  pub decided : is_decided (asserted (in_re (constant serial text) regex)) ≡ true
+  pub there : slice_get live place ≡ Some (asserted term)
+  pub asks : asked term ≡ Some (serial, regex)
+  pub decided : is_decided (asserted term) ≡ true
 
 -- The number is of the normal regex of the membership at the place.
 pub record IsRegexAt (rs : List Regex) (live : List Assertion) (place id : ℕ) : Type 0 where

@@ -1,4 +1,4 @@
--- What a caller cites of measures, in a table that grows.
+-- What a caller cites of measures, in a table that grows, and of terms that ask something of one constant's word.
 use Rattle.std.proofs.Common.{◌≡◌, ℕ, Some, List, [], slice_get, arith}
 use Rattle.std.proofs.lemmas.Option.{slice_get_within}
 use Rattle.sb_meaning.specs.Terms.{Term}
@@ -6,6 +6,7 @@ use Rattle.sb_term.specs.Numbered.{term_at, Extends}
 use Rattle.sb_term.proofs.CallerLemmas.{at_kept, long_kept}
 use Rattle.sb_fragment.specs.declared.measure.Measure.{Measure}
 use Rattle.sb_fragment.specs.Measures.{IsMeasure, AreMeasures}
+pub use Rattle.sb_fragment.proofs.AskedFacts.{asked_membership, asked_decided}
 
 pub measures_kept : (old new : List Term) (ms : List Measure) → Extends old new → AreMeasures old ms
     → AreMeasures new ms

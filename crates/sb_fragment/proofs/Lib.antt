@@ -1,5 +1,6 @@
 pub mod MeasureFacts
 pub mod ShapeFacts
 pub mod RuleFacts
+pub mod AskedFacts
 pub mod CallerLemmas
 pub mod WholeFacts

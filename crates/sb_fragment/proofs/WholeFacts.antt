@@ -1,13 +1,14 @@
 -- A check is decided exactly where each of its live assertions is: memberships ask for no bounds.
-use Rattle.std.proofs.Common.{◌≡◌, Bool, true, false, ◌&&◌, List, [], ◌∷◌, ◌++◌, refl, sym, ap, ap₂, ◌∙◌}
+use Rattle.std.proofs.Common.{◌≡◌, ℕ, Bool, true, false, ◌&&◌, List, [], ◌∷◌, ◌++◌, refl, sym, ap, ap₂, ◌∙◌}
 use Rattle.std.specs.List.{list_all, flat_map}
 use Rattle.std.proofs.lemmas.Bool.{and_parts, false≢true}
 use Rattle.sb_meaning.specs.Terms.{Term, Terms, text, constant, word, apply, no_terms, with_term}
 use Rattle.sb_meaning.specs.Terms as symbol
 use Rattle.sb_script.specs.Brought.{is_regex, are_regexes, is_membership}
-use Rattle.sb_script.specs.Fragment.{variables_in, variables_in_each, are_bounded, is_unmarked, fits, is_inside}
+use Rattle.sb_script.specs.Fragment.{variables_in, variables_in_each, are_bounded, is_unmarked, fits}
 use Rattle.sb_script.specs.Fragment.{are_inside, are_in_fragment}
 use Rattle.sb_script.specs.State.{Assertion, asserted, a_mark, live, terms_in as asserted_terms}
+use Rattle.sb_script.proofs.CallerLemmas.{IsAsking, a_membership, a_word_behind, a_word_in_front, asked_looks, membership_asks}
 use Rattle.sb_fragment.specs.Rules.{is_decided, FragmentIsOfEach}
 
 joined : (R : Term) (Rs : Terms) → (is_regex R && are_regexes Rs) ≡ true → (is_regex R ≡ true → variables_in R ≡ [])
@@ -39,9 +40,12 @@ mutual
   no_variables_in_each (with_term R Rs) h = joined R Rs h (no_variables R) (no_variables_in_each Rs)
 
 of_membership : (t : Term) → is_membership t ≡ true → variables_in t ≡ []
-of_membership (apply symbol.str_in_re (with_term (constant serial text) (with_term R no_terms))) h =
-    ap (λ xs. xs ++ []) (no_variables R h)
-of_membership t h = absurd (false≢true h)
+of_membership t h = membership_asks t h (λ serial R is kind. step serial R kind (asked_looks t serial R is))
+  where
+    step : (serial : ℕ) (R : Term) → is_regex R ≡ true → IsAsking serial t R → variables_in t ≡ []
+    step serial R kind (a_membership e) = ap variables_in e ∙ ap (λ xs. xs ++ []) (no_variables R kind)
+    step serial R kind (a_word_behind w e S) = ap variables_in e
+    step serial R kind (a_word_in_front w e S) = ap variables_in e
 
 of_memberships : (all : List Assertion) → are_inside all ≡ true → flat_map variables_in (asserted_terms all) ≡ []
 of_memberships [] h = refl

@@ -3,7 +3,8 @@
 //!
 //! A rule asks of a term what is known of it by its arguments, so [`Measures`] keep that by the term's number: a term
 //! that is shared is measured once, and there is no recursion on a tree. The layers above ask [`fragment`] of all live
-//! assertions, [`Measures::fits`] of one, and take a membership apart by [`membership`].
+//! assertions, [`Measures::fits`] of one, and take an assertion about one constant
+//! apart by [`membership`].
 #![tactic(auto)]
 
 mod measure;

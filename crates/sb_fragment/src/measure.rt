@@ -1,10 +1,11 @@
 //! What is known of a term by its arguments.
 
-ghost use Rattle.std.specs.Prelude.{◌≡◌, ◌<◌, ◌+◌, length, All};
+ghost use Rattle.std.specs.Prelude.{◌≡◌, ◌<◌, ◌+◌, ◌&&◌, length, All};
+ghost use Rattle.sb_meaning.specs.Terms.{str_to_re};
 ghost use Rattle.sb_term.specs.Symbols.{symbol_in};
 ghost use Rattle.sb_term.specs.Nodes.{ArgumentsBelow};
 ghost use Rattle.sb_fragment.specs.Measures.{within_limit};
-ghost use Rattle.sb_fragment.specs.Measured.{is_regex_by, is_short_by, size_by, joined, total, within, node_measure};
+ghost use Rattle.sb_fragment.specs.Measured.{is_regex_by, is_short_by, size_by, joined, no_measure, total, within, node_measure};
 ghost use Rattle.sb_fragment.specs.Measured.{applied_measure};
 
 use sb_term::{Symbol, Term, TermId};
@@ -26,6 +27,15 @@ pub struct Measure {
 
 /// The largest size within the limit.
 const SIZE_LIMIT: u32 = 1_000_000;
+
+/// What is known of no terms together.
+const NOTHING: Measure = Measure {
+    is_word: true,
+    is_ground: true,
+    is_regex: true,
+    is_short: true,
+    size: 0,
+};
 
 /// The size up to the least one past the limit.
 fn capped(size: usize) -> u32
@@ -69,13 +79,7 @@ fn total_of(measures: &[Measure], arguments: &[TermId]) -> Measure
     ensures { result ≡ total measures.now arguments.now }
 {
     let mut left = arguments.len();
-    let mut all = Measure {
-        is_word: true,
-        is_ground: true,
-        is_regex: true,
-        is_short: true,
-        size: 0,
-    };
+    let mut all = NOTHING;
     while left > 0 {
         left -= 1;
         all = join(measures[arguments[left].number()], all);
@@ -133,6 +137,13 @@ fn applied(symbol: Symbol, count: usize, all: Measure) -> Measure
     }
 }
 
+/// What is known of the regular expression of a literal, where what is known of the literal is this.
+pub(crate) fn literal_of(measure: Measure) -> Measure
+    ensures { result ≡ applied_measure str_to_re 1 (joined measure no_measure) }
+{
+    applied(Symbol::StrToRe, 1, join(measure, NOTHING))
+}
+
 /// What is known of a term, where the measures of its arguments are there.
 pub(crate) fn measure_of(node: &Term, measures: &[Measure]) -> Measure
     requires { ArgumentsBelow (length measures.now) node.now }
@@ -171,4 +182,11 @@ pub(crate) fn is_within(measure: Measure) -> bool
     ensures { result ≡ within measure }
 {
     measure.is_ground && measure.is_short && measure.size <= SIZE_LIMIT
+}
+
+/// Whether the term is a regular expression over literals, without constants and within the limits on sizes.
+pub(crate) fn is_decided(measure: Measure) -> bool
+    ensures { result ≡ measure.is_regex && within measure }
+{
+    measure.is_regex && is_within(measure)
 }

@@ -5,11 +5,13 @@ ghost use Rattle.sb_script.specs.Fragment.{is_inside};
 ghost use Rattle.sb_script.specs.Sizes.{is_regular};
 ghost use Rattle.sb_script.specs.State.{asserted};
 ghost use Rattle.sb_term.specs.Numbered.{term_at};
+ghost use Rattle.sb_problem.specs.Patterns.{number_of, pattern_in};
 ghost use Rattle.sb_fragment.specs.Measures.{IsMeasure, AreMeasures};
-ghost use Rattle.sb_fragment.specs.Rules.{is_decided};
+ghost use Rattle.sb_fragment.specs.Rules as rules;
 
-use crate::measure::{Measure, is_within, measure_of};
+use crate::measure::{Measure, is_decided, is_within, literal_of, measure_of};
 use crate::shape::membership;
+use sb_problem::Pattern;
 use sb_term::{Table, TermId};
 use std::alloc::{AllocError, Global};
 use std::marker::Model;
@@ -66,20 +68,37 @@ impl Measures {
         Ok(self.measures[id.number()])
     }
 
-    /// Whether a term is a RegLan term without constants and within the limits on sizes. Its cost and its error are
-    /// those of [`Measures::measure`].
-    pub fn is_regular(&mut self, table: &Table, id: TermId) -> Result<bool, AllocError>
-        requires number { id < length table.now }
+    /// The measure of a pattern, as a regular expression: that of a literal has one node and its word. Its cost and its
+    /// error are those of [`Measures::measure`].
+    pub fn pattern(&mut self, table: &Table, pattern: Pattern) -> Result<Measure, AllocError>
+        requires number { number_of pattern < length table.now }
         requires right { AreMeasures table.now self.old }
-        ensures ok { IfOk result (λ regular. regular ≡ is_regular (term_at table.now id)) }
+        ensures ok { IfOk result (λ measure. IsMeasure (pattern_in table.now pattern) measure) }
         ensures right { AreMeasures table.now self.new }
     {
-        let measure = self.measure(table, id)?;
+        match pattern {
+            Pattern::Expression(id) => self.measure(table, id),
+            Pattern::Word(id) => {
+                let measure = self.measure(table, id)?;
+                Ok(literal_of(measure))
+            }
+        }
+    }
+
+    /// Whether a pattern has no constants and is within the limits on sizes. Its cost and its error are those of
+    /// [`Measures::measure`].
+    pub fn is_regular(&mut self, table: &Table, pattern: Pattern) -> Result<bool, AllocError>
+        requires number { number_of pattern < length table.now }
+        requires right { AreMeasures table.now self.old }
+        ensures ok { IfOk result (λ regular. regular ≡ is_regular (pattern_in table.now pattern)) }
+        ensures right { AreMeasures table.now self.new }
+    {
+        let measure = self.pattern(table, pattern)?;
         Ok(is_within(measure))
     }
 
-    /// Whether a term is the membership of one String constant in a regular expression over literals, whatever its size.
-    /// Its cost and its error are those of [`Measures::measure`].
+    /// Whether a term is the membership of one String constant in a regular expression over literals, or its equality
+    /// with a literal, whatever its size. Its cost and its error are those of [`Measures::measure`].
     pub(crate) fn is_brought(&mut self, table: &Table, id: TermId) -> Result<bool, AllocError>
         requires number { id < length table.now }
         requires right { AreMeasures table.now self.old }
@@ -87,24 +106,24 @@ impl Measures {
         ensures right { AreMeasures table.now self.new }
     {
         match membership(table, id) {
-            Some((_, regex)) => Ok(self.measure(table, regex)?.is_regex),
+            Some((_, pattern)) => Ok(self.pattern(table, pattern)?.is_regex),
             None => Ok(false),
         }
     }
 
     /// Whether a term is decided as an assertion: so far, whether it is the membership of one String constant in a
-    /// regular expression over literals within the limits on sizes. Its cost and its error are those of
-    /// [`Measures::measure`].
+    /// regular expression over literals, or its equality with a literal, within the limits on sizes. Its cost and its
+    /// error are those of [`Measures::measure`].
     pub fn fits(&mut self, table: &Table, id: TermId) -> Result<bool, AllocError>
         requires number { id < length table.now }
         requires right { AreMeasures table.now self.old }
-        ensures ok { IfOk result (λ fits. fits ≡ is_decided (asserted (term_at table.now id))) }
+        ensures ok { IfOk result (λ fits. fits ≡ rules.is_decided (asserted (term_at table.now id))) }
         ensures right { AreMeasures table.now self.new }
     {
         match membership(table, id) {
-            Some((_, regex)) => {
-                let measure = self.measure(table, regex)?;
-                Ok(measure.is_regex && is_within(measure))
+            Some((_, pattern)) => {
+                let measure = self.pattern(table, pattern)?;
+                Ok(is_decided(measure))
             }
             None => Ok(false),
         }

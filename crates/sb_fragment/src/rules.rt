@@ -19,14 +19,14 @@ pub enum Reason {
     /// A constant stands in the regular expression of a membership.
     NotGround,
     /// The assertion is of another form than those that are decided so far: the membership of one String constant in a
-    /// regular expression over literals.
+    /// regular expression over literals, and the equality of one with a literal.
     NotBrought,
     /// The assertion is of that form, but a word or the regular expression is past the limits on sizes.
     TooLarge,
 }
 
-/// What live assertions that are inside the fragment ask: so far nothing but that the script is plain, so that each of
-/// them is a membership of one constant.
+/// What live assertions that are inside the fragment ask: so far nothing but that each of them is a membership of one
+/// constant, or its equality with a literal.
 #[derive(Clone, Copy, Debug, PartialEq, Eq)]
 pub struct Problem;
 
