@@ -1,6 +1,7 @@
 -- The literal of a term over a table.
 use Rattle.std.proofs.Common.{◌≡◌, ℕ, zero, suc, ◌+◌, Bool, true, false, ◌⊎◌, inl, inr, nat_eq, cond, Some, List, []}
 use Rattle.std.proofs.Common.{◌∷◌, length, map, slice_get, refl, sym, ap, ap₂, ◌∙◌, arith}
+use Rattle.std.proofs.Common.{◌<◌, if◌then◌else◌}
 use Rattle.std.specs.List.{position_from}
 use Rattle.std.specs.Prelude.{ℤ, Option, None, option_map}
 use Rattle.std.proofs.lemmas.Bool.{false≢true}
@@ -10,6 +11,18 @@ use Rattle.std.proofs.lemmas.Option.{slice_get_within, slice_get-map}
 use Rattle.sb_lit.specs.declared.clause.Lit.{Lit}
 use Rattle.sb_lang.specs.Regex.{Regex}
 use Rattle.sb_lang.specs.OrderLaws.{OrderTellsApart}
+use Rattle.sb_lang.specs.Normal.{normal}
+use Rattle.sb_meaning.specs.Truth.{meaning_of}
+use Rattle.sb_meaning.specs.Terms.{text, constant}
+use Rattle.sb_script.specs.Brought.{asked, is_membership}
+use Rattle.sb_script.specs.Pieces.{constant_piece}
+use Rattle.sb_script.specs.Sizes.{is_regular}
+use Rattle.sb_rulebook.specs.Parts.{regex_meant, regex_of}
+use Rattle.sb_rulebook.specs.Translation.{translation, membership, positive}
+use Rattle.sb_rulebook.proofs.CallerLemmas.{asked_translation}
+use Rattle.sb_problem.specs.Normals.{IsRegexOf}
+use Rattle.sb_fragment.proofs.CallerLemmas.{asked_membership}
+use Rattle.sb_regex.proofs.CallerLemmas.{names_at, names_below}
 use Rattle.sb_regex.specs.Numbered.{regex_at}
 use Rattle.sb_regex.specs.Numbered as regex
 use Rattle.sb_rulebook.specs.Atoms.{Atom, AtomOver, bool_atom, in_atom, le_atom, sum_atom, and_atom, iff_atom}
@@ -180,3 +193,41 @@ pub all_below : (rs : List Regex) (t : Term) (d : code.Atom) (old new : List (At
     → HaveRegexesBelow (length rs) new
 all_below rs t d old new found below some h grows =
     let its = rw some at h in below_more (length rs) old new d below its.0 grows
+
+-- The atom of a term that asks something of one constant's word.
+
+abbrev taken : Bool → Option Lit → Option Lit
+taken b o = if b then o else None
+
+pub none_past : (t : Term) (serial : ℕ) (R : Term) (b : Bool) → asked t ≡ Some (serial, R) → b ≡ is_regular R
+    → b ≡ false → (atoms : List Atom) → brought_translation atoms t ≡ None
+none_past t serial R b h is past atoms =
+    ap (taken (is_membership t)) (asked_translation t serial R h atoms ∙ past_limits (is_regular R) (sym is ∙ past))
+    ∙ nothing_taken (is_membership t)
+  where
+    nothing_taken : (m : Bool) → taken m None ≡ None
+    nothing_taken true = refl
+    nothing_taken false = refl
+
+    past_limits : (m : Bool) → m ≡ false
+        → membership atoms (constant serial text) (if m then regex_meant (meaning_of [] R) else None) ≡ None
+    past_limits true e = absurd (false≢true (sym e))
+    past_limits false e = refl
+
+pub atom_is : (rs : List Regex) (t : Term) (serial id : ℕ) (R : Term) (b : Bool) → asked t ≡ Some (serial, R)
+    → b ≡ is_regular R → b ≡ true → IsRegexOf rs R id → (id < length rs)
+    × ((atoms : List Atom) → brought_translation atoms t
+    ≡ positive atoms (in_atom (constant_piece serial ∷ []) (regex_at rs id)))
+atom_is rs t serial id R b h is within r = (names_below rs id _ r.names, literal)
+  where
+    regex : regex_of R ≡ Some (regex_at rs id)
+    regex = ap (λ (m : Bool). if m then regex_meant (meaning_of [] R) else None) (sym is ∙ within)
+        ∙ ap regex_meant (r.means [])
+        ∙ ap Some (sym (names_at rs id (normal r.reglan) r.names))
+
+    literal : (atoms : List Atom) → brought_translation atoms t
+        ≡ positive atoms (in_atom (constant_piece serial ∷ []) (regex_at rs id))
+    literal atoms =
+        ap (λ m. taken m (translation atoms t)) (asked_membership t serial R h ∙ r.kind)
+        ∙ asked_translation t serial R h atoms
+        ∙ ap (membership atoms (constant serial text)) regex

@@ -18,8 +18,8 @@ use sb_regex::Arena;
 use sb_term::{Table, TermId};
 use std::alloc::AllocError;
 
-/// The atom that the literal of a term speaks of, if it has one. Of a regular expression past the limits on sizes no
-/// normal regex is asked for.
+/// The atom that the literal of a term speaks of, if it has one. Of a regular expression or a literal past the limits on
+/// sizes no normal regex is asked for.
 fn atom_of(
     measures: &mut Measures,
     normals: &mut Normals,
@@ -35,13 +35,13 @@ fn atom_of(
     ensures normals { AreNormals table.now arena.new normals.new }
     ensures arena { regex.Extends arena.old arena.new }
 {
-    let Some((serial, expression)) = membership(table, id) else {
+    let Some((serial, pattern)) = membership(table, id) else {
         return Ok(None);
     };
-    if !measures.is_regular(table, expression)? {
+    if !measures.is_regular(table, pattern)? {
         return Ok(None);
     }
-    match normals.normal(table, arena, expression)? {
+    match normals.pattern(table, arena, pattern)? {
         Some(regex) => Ok(Some(Atom::In(serial, regex))),
         None => Ok(None),
     }
@@ -59,11 +59,11 @@ fn positive(id: AtomId) -> Lit
 
 impl Atoms {
     /// The literal of an assertion's term, of which the atom is added where it is missing. So far terms are translated
-    /// that are inside the fragment: the memberships of one String constant. There is none of others, and none of a
-    /// membership that is past the limits on sizes.
+    /// that are inside the fragment: the memberships of one String constant, and its equalities with a literal. There is
+    /// none of others, and none of one that is past the limits on sizes.
     ///
-    /// Constant time, by hash, but that the regular expression is measured, and its normal regex made, where they were
-    /// not yet. `AllocError` only for want of memory; the arena may hold more regexes then, and the table the atom.
+    /// Constant time, by hash, but that the regular expression, or the literal, is measured, and its normal regex made,
+    /// where they were not yet. `AllocError` only for want of memory; the arena may hold more regexes then, and the table the atom.
     pub fn translate(
         &mut self,
         measures: &mut Measures,

@@ -22,7 +22,7 @@ use sb_term::{Table, TermId};
 use sb_word::Word;
 use std::alloc::AllocError;
 
-/// Whether an assertion is true, where `regex` is the number of the normal regex of its regular expression.
+/// Whether an assertion is true, where `regex` is the number of the normal regex of what it asks for.
 fn is_true_by(
     plain: &mut Plain,
     arena: &mut Arena,
@@ -57,8 +57,8 @@ fn is_true_by(
 /// Whether an assertion that is inside the fragment is true, where each String constant has the word at its serial, the
 /// empty word past the last one. Only words are values so far.
 ///
-/// Its cost is that of [`Plain::matches`], and that of [`Normals::normal`] where the regular expression was not asked
-/// for yet. `AllocError` only for want of memory; the arena may hold more regexes then.
+/// Its cost is that of [`Plain::matches`], and that of [`Normals::pattern`] where the regular expression, or the literal,
+/// was not asked for yet. `AllocError` only for want of memory; the arena may hold more regexes then.
 pub fn eval(
     plain: &mut Plain,
     normals: &mut Normals,
@@ -79,10 +79,10 @@ pub fn eval(
 {
     right_stays();
     normals_stay();
-    let Some((_, expression)) = membership(table, id) else {
+    let Some((_, pattern)) = membership(table, id) else {
         return Ok(false);
     };
-    let Some(regex) = normals.normal(table, arena, expression)? else {
+    let Some(regex) = normals.pattern(table, arena, pattern)? else {
         return Ok(false);
     };
     is_true_by(plain, arena, table, id, regex, values)
