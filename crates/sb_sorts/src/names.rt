@@ -54,7 +54,7 @@ const WORDS_OF_SCRIPTS: [&[u8]; 38] = [
 ];
 
 /// The names of the theories that are not read.
-const LEFT_OUT: [&[u8]; 42] = [
+const LEFT_OUT: [&[u8]; 41] = [
     b"true",
     b"false",
     b"not",
@@ -63,7 +63,6 @@ const LEFT_OUT: [&[u8]; 42] = [
     b"=>",
     b"xor",
     b"ite",
-    b"=",
     b"distinct",
     b"<=",
     b"<",
@@ -124,7 +123,9 @@ pub fn is_reserved(name: &[u8]) -> bool
 pub(crate) fn symbol_named(name: &[u8]) -> Option<Symbol>
     ensures { option_map symbol_in result ≡ theory.symbol_named name.now }
 {
-    if name == b"str.in_re".as_slice() {
+    if name == b"=".as_slice() {
+        Some(Symbol::Equal)
+    } else if name == b"str.in_re".as_slice() {
         Some(Symbol::StrInRe)
     } else if name == b"str.to_re".as_slice() {
         Some(Symbol::StrToRe)
