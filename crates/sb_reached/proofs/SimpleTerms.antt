@@ -10,17 +10,17 @@ use Rattle.sb_meaning.specs.Terms.{Sort, boolean, integer, text, reglan, Term, T
 use Rattle.sb_meaning.specs.Terms as symbol
 use Rattle.sb_meaning.specs.Sorts.{sort_of, is_same_sort, are_sorts}
 use Rattle.sb_script.specs.Names.{Name, is_name, is_reserved, begins_term}
-use Rattle.sb_script.specs.Brought.{is_brought_symbol, is_regex, are_regexes}
+use Rattle.sb_script.specs.Brought.{a_use_of, is_brought, is_brought_symbol, is_brought_use, is_regex, are_regexes}
 use Rattle.sb_script.specs.Pieces.{is_ground, are_ground}
 use Rattle.sb_script.specs.Scopes.{Named, Naming, a_constant, a_definition, a_marked_name, a_term, named}
 use Rattle.sb_script.specs.Symbols.{found_in, symbols_of_theories, is_brought_row, symbol_named, is_indexed, is_left_out}
 use Rattle.sb_script.specs.Faults.{Fault, unknown_symbol, wrong_count, wrong_sort, unsupported, malformed, bad_index, numeral_too_large, bad_literal}
 use Rattle.sb_script.specs.Texts.{read_text}
-use Rattle.sb_script.specs.Heads.{Head, head_constant, head_symbol, head_definition, head_term, head_of, head_of_theory, hexadecimal_digits, character_word, indices_of, are_small_indices, with_indices, without_indices, judged, joined, made, unless, read_head, applied_to, read_indexed}
+use Rattle.sb_script.specs.Heads.{Head, head_constant, head_symbol, head_definition, head_term, head_of, head_of_theory, hexadecimal_digits, character_word, indices_of, are_small_indices, with_indices, without_indices, judged, joined, made, unless, if_used, read_head, applied_to, read_indexed}
 use Rattle.sb_script.specs.Reading.{◌>>=◌, read_name, read_index_list, read_reserved, read, read_list, read_all, read_list_head}
 use Rattle.sb_script.specs.ReadingLaws.{if_read}
 use Rattle.sb_script.proofs.CallerLemmas.{same_sort}
-use Rattle.sb_reached.specs.SimpleStates.{is_simple, is_simple_named, is_simple_naming}
+use Rattle.sb_reached.specs.SimpleStates.{is_plain_text, is_simple, is_simple_named, is_simple_naming}
 
 -- Tables.
 
@@ -42,12 +42,6 @@ found_passes p (row ∷ rows) all name =
     some_by p (is_name name row.0) (Some row.1) (found_in rows name) parts.0 (found_passes p rows parts.1 name)
 
 -- Terms that may be read.
-
--- a String constant or a word
-abbrev is_plain_text : Term → Bool
-is_plain_text (constant serial text) = true
-is_plain_text (word w) = true
-is_plain_text _ = false
 
 -- over literals, or with a constant in it
 abbrev is_plain_regex : Term → Bool
@@ -118,6 +112,14 @@ simple_of_text (word w) R h k = refl
 simple_of_text (numeral n) R h k = absurd (false≢true h)
 simple_of_text (apply s terms) R h k = absurd (false≢true h)
 simple_of_text (parameter place sort) R h k = absurd (false≢true h)
+
+-- Equalities.
+
+-- the sorts of what is compared
+of_two_texts : (sorts : List Sort) → is_brought_use symbol.core_equal sorts ≡ true
+    → are_sorts (text ∷ text ∷ []) sorts ≡ true
+of_two_texts (text ∷ text ∷ []) h = refl
+of_two_texts _ h = absurd (false≢true h)
 
 -- Regular expressions.
 
@@ -199,49 +201,53 @@ difference (t ∷ ts) all taken =
 
 -- Applications.
 
-made_shallow : (s : symbol.Symbol) (ts : List Term) → is_brought_symbol s ≡ true → list_all is_shallow ts ≡ true
+made_shallow : (s : symbol.Symbol) (ts : List Term) → is_brought_symbol s ≡ true
+    → is_brought_use s (map sort_of ts) ≡ true → list_all is_shallow ts ≡ true
     → judged s (map sort_of ts) ≡ None → is_shallow (made s ts) ≡ true
-made_shallow symbol.str_in_re ts h all taken =
+made_shallow symbol.core_equal ts h used all taken =
+    by_two text text (λ terms. is_simple (apply symbol.core_equal terms))
+    (λ t u k l. and_from (is_plain_text t) (is_plain_text u) k l) ts all (of_two_texts (map sort_of ts) used)
+made_shallow symbol.str_in_re ts h used all taken =
     by_two text reglan (λ terms. is_simple (apply symbol.str_in_re terms)) simple_of_text ts all
     (taken_sorts (2 == length (map sort_of ts)) (are_sorts (text ∷ reglan ∷ []) (map sort_of ts)) false taken)
-made_shallow symbol.str_to_re ts h all taken =
+made_shallow symbol.str_to_re ts h used all taken =
     by_one text (λ terms. is_plain_regex (apply symbol.str_to_re terms)) literal_plain ts all
     (taken_sorts (1 == length (map sort_of ts)) (are_sorts (text ∷ []) (map sort_of ts)) false taken)
-made_shallow symbol.re_range ts h all taken =
+made_shallow symbol.re_range ts h used all taken =
     by_two text text (λ terms. is_plain_regex (apply symbol.re_range terms)) range_plain ts all
     (taken_sorts (2 == length (map sort_of ts)) (are_sorts (text ∷ text ∷ []) (map sort_of ts)) false taken)
-made_shallow symbol.re_none ts h all taken =
+made_shallow symbol.re_none ts h used all taken =
     by_none (λ terms. is_plain_regex (apply symbol.re_none terms)) refl ts
     (taken_sorts (0 == length (map sort_of ts)) (are_sorts [] (map sort_of ts)) false taken)
-made_shallow symbol.re_all ts h all taken =
+made_shallow symbol.re_all ts h used all taken =
     by_none (λ terms. is_plain_regex (apply symbol.re_all terms)) refl ts
     (taken_sorts (0 == length (map sort_of ts)) (are_sorts [] (map sort_of ts)) false taken)
-made_shallow symbol.re_allchar ts h all taken =
+made_shallow symbol.re_allchar ts h used all taken =
     by_none (λ terms. is_plain_regex (apply symbol.re_allchar terms)) refl ts
     (taken_sorts (0 == length (map sort_of ts)) (are_sorts [] (map sort_of ts)) false taken)
-made_shallow symbol.re_opt ts h all taken =
+made_shallow symbol.re_opt ts h used all taken =
     by_one reglan (λ terms. is_plain_regex (apply symbol.re_opt terms)) of_one ts all
     (taken_sorts (1 == length (map sort_of ts)) (are_sorts (reglan ∷ []) (map sort_of ts)) false taken)
-made_shallow symbol.re_comp ts h all taken =
+made_shallow symbol.re_comp ts h used all taken =
     by_one reglan (λ terms. is_plain_regex (apply symbol.re_comp terms)) of_one ts all
     (taken_sorts (1 == length (map sort_of ts)) (are_sorts (reglan ∷ []) (map sort_of ts)) false taken)
-made_shallow (symbol.re_power n) ts h all taken =
+made_shallow (symbol.re_power n) ts h used all taken =
     by_one reglan (λ terms. is_plain_regex (apply (symbol.re_power n) terms)) of_one ts all
     (taken_sorts (1 == length (map sort_of ts)) (are_sorts (reglan ∷ []) (map sort_of ts)) false taken)
-made_shallow (symbol.re_loop n m) ts h all taken =
+made_shallow (symbol.re_loop n m) ts h used all taken =
     by_one reglan (λ terms. is_plain_regex (apply (symbol.re_loop n m) terms)) of_one ts all
     (taken_sorts (1 == length (map sort_of ts)) (are_sorts (reglan ∷ []) (map sort_of ts)) false taken)
-made_shallow symbol.re_star ts h all taken =
+made_shallow symbol.re_star ts h used all taken =
     by_one reglan (λ terms. is_plain_regex (apply symbol.re_star terms)) of_one ts all
     (taken_sorts (1 == length (map sort_of ts)) (are_sorts (reglan ∷ []) (map sort_of ts)) false taken)
-made_shallow symbol.re_plus ts h all taken =
+made_shallow symbol.re_plus ts h used all taken =
     by_one reglan (λ terms. is_plain_regex (apply symbol.re_plus terms)) of_one ts all
     (taken_sorts (1 == length (map sort_of ts)) (are_sorts (reglan ∷ []) (map sort_of ts)) false taken)
-made_shallow symbol.re_concat ts h all taken = one_or_more symbol.re_concat (λ t terms k. k) ts all taken
-made_shallow symbol.re_union ts h all taken = one_or_more symbol.re_union (λ t terms k. k) ts all taken
-made_shallow symbol.re_inter ts h all taken = one_or_more symbol.re_inter (λ t terms k. k) ts all taken
-made_shallow symbol.re_diff ts h all taken = difference ts all taken
-made_shallow _ ts h all taken = absurd (false≢true h)
+made_shallow symbol.re_concat ts h used all taken = one_or_more symbol.re_concat (λ t terms k. k) ts all taken
+made_shallow symbol.re_union ts h used all taken = one_or_more symbol.re_union (λ t terms k. k) ts all taken
+made_shallow symbol.re_inter ts h used all taken = one_or_more symbol.re_inter (λ t terms k. k) ts all taken
+made_shallow symbol.re_diff ts h used all taken = difference ts all taken
+made_shallow _ ts h used all taken = absurd (false≢true h)
 
 -- the symbols of names are brought
 symbol_makes : (name : Name) → if_some is_brought_symbol (symbol_named name) ≡ true
@@ -270,12 +276,19 @@ unless_shallow : (o : Option Fault) (t : Term) → (o ≡ None → is_shallow t 
 unless_shallow None t h = h refl
 unless_shallow (Some fault) t h = refl
 
+used_shallow : (b : Bool) (r : Result Term Fault) → (b ≡ true → if_read is_shallow r ≡ true)
+    → if_read is_shallow (if_used b r) ≡ true
+used_shallow true r h = h refl
+used_shallow false (Ok t) h = refl
+used_shallow false (Err fault) h = refl
+
 applied_shallow : (head : Head) (ts : List Term) → head_shallow head ≡ true → list_all is_shallow ts ≡ true
     → if_read is_shallow (applied_to head ts) ≡ true
 applied_shallow (head_constant serial sort) [] h all = h
 applied_shallow (head_constant serial sort) (t ∷ ts) h all = refl
 applied_shallow (head_symbol s) ts h all =
-    unless_shallow (judged s (map sort_of ts)) (made s ts) (made_shallow s ts h all)
+    used_shallow (is_brought (a_use_of s (map sort_of ts))) (unless (judged s (map sort_of ts)) (made s ts))
+    (λ used. unless_shallow (judged s (map sort_of ts)) (made s ts) (made_shallow s ts h used all))
 applied_shallow (head_definition own body) ts h all = absurd (false≢true h)
 applied_shallow (head_term t) [] h all = h
 applied_shallow (head_term t) (u ∷ us) h all = refl

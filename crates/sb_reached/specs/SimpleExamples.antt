@@ -33,12 +33,19 @@ abbrev member : Form → Form
 member subject =
     group (Symbol (codes "str.in_re") ∷ subject ∷ range (Words (codes "a")) (Words (codes "b")) ∷ [])
 
--- a String constant x, its membership and that of a word, and a constant and an assertion that leave marks
+-- (= one other)
+abbrev equal : Form → Form → Form
+equal one other = group (Symbol (codes "=") ∷ one ∷ other ∷ [])
+
+-- a String constant x, its membership and that of a word, its equality with a word, and a constant and assertions that
+-- leave marks
 abbrev reached : State
 reached = behind
     (declare (codes "x") (codes "String")
     ∷ assert (member (Symbol (codes "x")))
     ∷ assert (member (Words (codes "a")))
+    ∷ assert (equal (Words (codes "a")) (Symbol (codes "x")))
+    ∷ assert (equal (member (Symbol (codes "x"))) (member (Words (codes "a"))))
     ∷ declare (codes "p") (codes "Bool")
     ∷ assert (Symbol (codes "p")) ∷ []) start
 
@@ -48,10 +55,11 @@ a_range = apply symbol.re_range (with_term (word (codes "a")) (with_term (word (
 reached_is_simple : is_simple_state reached ≡ true
 reached_is_simple = refl
 
-both_are_live : live_terms reached
+all_are_live : live_terms reached
     ≡ apply symbol.str_in_re (with_term (constant 0 text) (with_term a_range no_terms))
-    ∷ apply symbol.str_in_re (with_term (word (codes "a")) (with_term a_range no_terms)) ∷ []
-both_are_live = refl
+    ∷ apply symbol.str_in_re (with_term (word (codes "a")) (with_term a_range no_terms))
+    ∷ apply symbol.core_equal (with_term (word (codes "a")) (with_term (constant 0 text) no_terms)) ∷ []
+all_are_live = refl
 
 a_mark_more : is_simple_state (with_assertion a_mark reached) ≡ true
 a_mark_more = refl
@@ -116,3 +124,37 @@ a_joined_word : is_simple (apply symbol.str_in_re
     (with_term (apply symbol.str_concat (with_term (word []) (with_term (word []) no_terms)))
     (with_term a_range no_terms))) ≡ false
 a_joined_word = refl
+
+-- Equalities.
+
+abbrev equality : Term → Term → Term
+equality t u = apply symbol.core_equal (with_term t (with_term u no_terms))
+
+of_a_constant_and_a_word : is_simple (equality (constant 0 text) (word (codes "a"))) ≡ true
+of_a_constant_and_a_word = refl
+
+of_a_word_and_a_constant : is_simple (equality (word (codes "a")) (constant 0 text)) ≡ true
+of_a_word_and_a_constant = refl
+
+of_two_constants : is_simple (equality (constant 0 text) (constant 1 text)) ≡ true
+of_two_constants = refl
+
+of_two_words : is_simple (equality (word []) (word (codes "a"))) ≡ true
+of_two_words = refl
+
+-- of what is neither a constant nor a word, of truth values, and of three
+of_a_joined_word : is_simple (equality (constant 0 text)
+    (apply symbol.str_concat (with_term (word []) (with_term (word []) no_terms)))) ≡ false
+of_a_joined_word = refl
+
+of_truth_values : is_simple (equality (of_x a_range) (of_x a_range)) ≡ false
+of_truth_values = refl
+
+of_three : is_simple (apply symbol.core_equal
+    (with_term (constant 0 text) (with_term (word []) (with_term (word []) no_terms)))) ≡ false
+of_three = refl
+
+-- the membership of an equality
+of_an_equality : is_simple (apply symbol.str_in_re
+    (with_term (equality (word []) (word [])) (with_term a_range no_terms))) ≡ false
+of_an_equality = refl

@@ -1,5 +1,5 @@
--- States whose live assertions are memberships of String constants or of words: each state that a script leads to is
--- one, while no more is brought than `Brought` says.
+-- States whose live assertions are memberships of String constants or of words, or equalities of two of these: each
+-- state that a script leads to is one, while no more is brought than `Brought` says.
 use Rattle.std.specs.Prelude.{◌≡◌, Bool, true, false, not, ◌&&◌, ◌||◌, List}
 use Rattle.std.specs.List.{list_all}
 use Rattle.sb_reader.specs.Entries.{Entry}
@@ -12,12 +12,19 @@ use Rattle.sb_script.specs.State.{State, Level, terms_in, live_terms, start_behi
 use Rattle.sb_script.specs.Steps.{Step, answers, leaves, checks, exits}
 use Rattle.sb_script.specs.Replies.{step_of}
 
+-- a String constant or a word
+abbrev pub is_plain_text : Term → Bool
+is_plain_text (constant serial text) = true
+is_plain_text (word w) = true
+is_plain_text _ = false
+
 -- the membership of a String constant in a regular expression over literals, or in one in which constants stand, or the
--- membership of a word, in whatever
+-- membership of a word, in whatever, or the equality of two that are each a String constant or a word
 abbrev pub is_simple : Term → Bool
 is_simple (apply symbol.str_in_re (with_term (constant serial text) (with_term R no_terms))) =
     is_regex R || not (is_ground R)
 is_simple (apply symbol.str_in_re (with_term (word w) (with_term R no_terms))) = true
+is_simple (apply symbol.core_equal (with_term t (with_term u no_terms))) = is_plain_text t && is_plain_text u
 is_simple _ = false
 
 -- a String constant, or a mark

@@ -12,7 +12,8 @@ pub fn entries_stay_simple()
     ensures { EntriesStaySimple }
 {}
 
-/// Where everything in a state is simple its live terms are memberships of String constants or of words.
+/// Where everything in a state is simple its live terms are memberships of String constants or of words, or equalities
+/// of two of these.
 pub fn live_are_simple()
     ensures { LiveAreSimple }
 {}
