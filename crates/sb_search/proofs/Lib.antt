@@ -4,3 +4,5 @@ mod Turns
 mod Highest
 mod Refuting
 mod Outcomes
+mod Hints
+mod Following

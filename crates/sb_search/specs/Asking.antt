@@ -24,13 +24,14 @@ decided entries l = entries ++ record { literal = l; level = current_level entri
 abbrev pub with_lemma : Kept → List Lit → Kept
 with_lemma kept clause = kept ++ Some (record { literals = clause; level = 0 }) ∷ []
 
--- A lemma is false on the trail, and the atom of a wish has no value; their atoms pass the test.
-abbrev pub IsFair : (ℕ → Bool) → List Assigned → Checked → Type 0
-IsFair passes entries checked.Fine = Unit {0}
-IsFair passes entries (checked.Lemma clause) = (is_false_clause (held entries) clause ≡ true)
-    × (list_all (λ l. passes l.atom) clause ≡ true)
-IsFair passes entries (checked.Ask l) = (value_of entries l.atom ≡ None) × (passes l.atom ≡ true)
-IsFair passes entries checked.Spent = Unit {0}
+-- A lemma is a clause that is taught and is false on the trail, and the atom of a wish has no value; their atoms pass
+-- the test.
+abbrev pub IsFair : (ℕ → Bool) → (List Lit → Type 0) → List Assigned → Checked → Type 0
+IsFair passes teaches entries checked.Fine = Unit {0}
+IsFair passes teaches entries (checked.Lemma clause) = (is_false_clause (held entries) clause ≡ true)
+    × (list_all (λ l. passes l.atom) clause ≡ true) × teaches clause
+IsFair passes teaches entries (checked.Ask l) = (value_of entries l.atom ≡ None) × (passes l.atom ≡ true)
+IsFair passes teaches entries checked.Spent = Unit {0}
 
 -- The measure falls over a lemma with the levels that are taken back for it, however many, and over the decision of a
 -- literal that is asked for; it does not rise else.

@@ -1,3 +1,4 @@
 pub mod Asking
+pub mod Following
 pub mod Found
 pub mod Searching

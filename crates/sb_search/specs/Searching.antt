@@ -10,6 +10,8 @@ use Rattle.sb_clauses.specs.Propagation.{State, has_room_for, are_reserved}
 use Rattle.sb_analyze.specs.Reasons.{AreReasoned, level_in}
 use Rattle.sb_analyze.specs.Learning.{IsSettledBelow}
 use Rattle.sb_analyze.specs.Cores.{AreAssumed}
+use Rattle.sb_lit.specs.Kept.{Kept, kept_up_to}
+use Rattle.sb_search.specs.Following.{all_hold}
 use Rattle.sb_search.specs.Found.{has_value, are_true, IsFound, GrowsTo}
 use Rattle.sb_search.specs.declared.stage.Next.{Next}
 use Rattle.sb_search.specs.declared.stage.Next.TheVariants as next
@@ -98,6 +100,11 @@ pub record IsTurned (wanted : List ℕ) (assumptions : List Lit) (levels next : 
   pub grows : GrowsTo old.kept new.kept
   pub spends : IsSpentOn before after
   pub goes_on : GoesOn wanted assumptions levels next old new before after most now turn
+
+-- the new clauses are true wherever the old ones are, up to each level
+abbrev pub Entails : Kept → Kept → Type 0
+Entails old new = (values : ℕ → Bool) (level : ℕ) → all_hold values (kept_up_to level old) ≡ true
+    → all_hold values (kept_up_to level new) ≡ true
 
 -- the clause is not false, and leaves no literal, on the levels below this one
 abbrev pub IsHighUpTo : List Assigned → List Lit → ℕ → Type 0

@@ -6,11 +6,11 @@ ghost use Rattle.sb_lit.specs.Budgets.{Spending};
 ghost use Rattle.sb_trail.specs.Assignments.{held, current_level};
 ghost use Rattle.sb_clauses.specs.Propagation.{IsConflict};
 ghost use Rattle.sb_analyze.specs.Reasons.{AreReasoned};
-ghost use Rattle.sb_analyze.specs.Learning.{IsAsserting, IsSettledBelow};
+ghost use Rattle.sb_analyze.specs.Learning.{IsLesson, IsAsserting, IsSettledBelow};
 ghost use Rattle.sb_analyze.specs.Cores.{AreAssumed, IsFinal, IsBothCore, IsNewCore};
 ghost use Rattle.sb_search.specs.Asking.{CountsFaults};
 ghost use Rattle.sb_search.specs.Found.{GrowsTo, IsFound};
-ghost use Rattle.sb_search.specs.Searching.{IsSearching, IsTurned, IsSpentOn};
+ghost use Rattle.sb_search.specs.Searching.{IsSearching, IsTurned, IsSpentOn, Entails};
 ghost use Rattle.sb_search.specs.declared.found.Found.TheVariants.{Sat};
 ghost use Rattle.sb_search.specs.declared.turn.Turn.TheVariants.{Ends};
 
@@ -45,10 +45,12 @@ pub(crate) fn resolve<T: Theory, L: Tape>(
         engine.old engine.new budget.old budget.new
         (T.measure theory.old engine.old.kept engine.old.trail.literals)
         (T.measure theory.new engine.new.kept engine.new.trail.literals)) }
+    ensures follows { OnOk result (Entails engine.old.kept engine.new.kept) }
     ensures not_sat { IfOk result (λ turn. turn ≢ Ends Sat) }
     ensures stands { OnOk result (T.stands theory.new engine.new.trail.literals) }
     ensures wanted { T.wanted theory.new ≡ T.wanted theory.old }
     ensures passes { T.passes theory.new ≡ T.passes theory.old }
+    ensures teaches { (clause : List TheLit) → T.teaches theory.old clause → T.teaches theory.new clause }
     ensures counts { CountsFaults result (L.Tape.faults tape.old) (L.Tape.faults tape.new) }
 {
     let trail = engine.trail();
@@ -94,10 +96,12 @@ fn take_lesson<T: Theory>(
         → IsSearching (T.wanted theory.old) assumptions stage.old.levels stage.old.next engine.old
         → IsSearching (T.wanted theory.new) assumptions stage.new.levels stage.new.next engine.new) }
     ensures grows { OnOk result (GrowsTo engine.old.kept engine.new.kept) }
+    ensures follows { OnOk result (Entails engine.old.kept engine.new.kept) }
     ensures stands { OnOk result (T.stands theory.old engine.old.trail.literals
         → T.stands theory.new engine.new.trail.literals) }
     ensures wanted { T.wanted theory.new ≡ T.wanted theory.old }
     ensures passes { T.passes theory.new ≡ T.passes theory.old }
+    ensures teaches { (clause : List TheLit) → T.teaches theory.old clause → T.teaches theory.new clause }
 {
     let trail = engine.trail();
     let _before = trail.literals();
@@ -125,6 +129,7 @@ pub(crate) fn refute<L: Tape>(
     ensures reasoned { OnOk result (AreReasoned engine.new.kept [] engine.new.trail.literals) }
     ensures literals { OnOk result (engine.new.trail.literals ≡ engine.old.trail.literals) }
     ensures grows { OnOk result (GrowsTo engine.old.kept engine.new.kept) }
+    ensures follows { OnOk result (Entails engine.old.kept engine.new.kept) }
     ensures spends { OnOk result (IsSpentOn budget.old budget.new) }
     ensures counts { CountsFaults result (L.Tape.faults tape.old) (L.Tape.faults tape.new) }
 {
@@ -156,6 +161,7 @@ fn keep_both<L: Tape>(
     ensures reasoned { OnOk result (AreReasoned engine.new.kept [] engine.new.trail.literals) }
     ensures literals { OnOk result (engine.new.trail.literals ≡ engine.old.trail.literals) }
     ensures grows { OnOk result (GrowsTo engine.old.kept engine.new.kept) }
+    ensures follows { OnOk result (Entails engine.old.kept engine.new.kept) }
     ensures counts { CountsFaults result (L.Tape.faults tape.old) (L.Tape.faults tape.new) }
 {
     put_both(both(alloc, literal.atom)?, tape)?;
@@ -191,12 +197,14 @@ fn keep_core<L: Tape>(
     budget: &mut Budget,
 ) -> Result<Found, TapeFault>
     requires reasoned { AreReasoned engine.old.kept [] engine.old.trail.literals }
+    requires is_lesson { IsLesson engine.old.kept lesson.now.clause lesson.now.hints lesson.now.level }
     ensures found { IfOk result (λ found. (wanted : List ℕ) (assumptions : List TheLit)
         → IsNewCore engine.old.kept assumptions lesson.now → IsFound wanted assumptions engine.new budget.new found) }
     ensures not_sat { IfOk result (λ found. found ≢ Sat) }
     ensures reasoned { OnOk result (AreReasoned engine.new.kept [] engine.new.trail.literals) }
     ensures literals { OnOk result (engine.new.trail.literals ≡ engine.old.trail.literals) }
     ensures grows { OnOk result (GrowsTo engine.old.kept engine.new.kept) }
+    ensures follows { OnOk result (Entails engine.old.kept engine.new.kept) }
     ensures spends { OnOk result (IsSpentOn budget.old budget.new) }
     ensures counts { CountsFaults result (L.Tape.faults tape.old) (L.Tape.faults tape.new) }
 {

@@ -37,6 +37,7 @@ pub(crate) fn take_lemma<T: Theory>(
         → T.measure theory.new engine.new.kept engine.new.trail.literals < most) }
     ensures wanted { T.wanted theory.new ≡ T.wanted theory.old }
     ensures passes { T.passes theory.new ≡ T.passes theory.old }
+    ensures teaches { (clause : List TheLit) → T.teaches theory.old clause → T.teaches theory.new clause }
 {
     let trail = engine.trail();
     let _before = trail.literals();
@@ -60,6 +61,7 @@ pub(crate) fn go_back<T: Theory>(
     ensures stands { (entries : List Assigned) → T.stands theory.old entries → T.stands theory.new (up_to level entries) }
     ensures wanted { T.wanted theory.new ≡ T.wanted theory.old }
     ensures passes { T.passes theory.new ≡ T.passes theory.old }
+    ensures teaches { (clause : List TheLit) → T.teaches theory.old clause → T.teaches theory.new clause }
     ensures falls { (kept : Kept) (entries : List Assigned)
         → T.measure theory.new kept entries ≤ T.measure theory.old kept entries }
 {

@@ -1,12 +1,15 @@
 //! The whole search.
 
-ghost use Rattle.std.specs.Prelude.{◌≡◌, ◌<◌, ◌≤◌, [], true, Some, None, IfOk, OnOk};
+ghost use Rattle.std.specs.Prelude.{◌≡◌, ◌<◌, ◌≤◌, List, [], true, Some, None, IfOk, OnOk};
+ghost use Rattle.sb_lit.specs.declared.clause.Lit.{Lit as TheLit};
+ghost use Rattle.sb_lit.specs.declared.clause.ClauseId.{ClauseId as TheId};
 ghost use Rattle.sb_clauses.specs.Propagation.{are_reserved};
 ghost use Rattle.sb_analyze.specs.Reasons.{AreReasoned};
 ghost use Rattle.sb_search.specs.Asking.{CountsFaults};
+ghost use Rattle.sb_search.specs.Following.{Follows, FollowsByLevel, AreRefuted};
 ghost use Rattle.sb_search.specs.Found.{GrowsTo, IsFound};
 ghost use Rattle.sb_search.specs.Searching.{have_places, IsSearching, IsBetter, IsRound};
-ghost use Rattle.sb_search.specs.declared.found.Found.TheVariants.{Sat};
+ghost use Rattle.sb_search.specs.declared.found.Found.TheVariants.{Sat, Unsat};
 
 use crate::found::Found;
 use crate::lemma::{go_back, make_place, make_room};
@@ -27,7 +30,10 @@ use std::alloc::{AllocError, Global};
 /// line is put. `Spent` comes only where the budget is spent.
 ///
 /// What stands on the trail stays there, but for what the search takes back of it at its beginning: all above level 0.
-/// After an error the search is at some place between, and the kept clauses stay. `NoMemory` only for want of memory.
+/// What is kept behind the clauses that were there follows from them and from what the theory teaches, level by level.
+/// So the clause of an `Unsat` refutes the assumptions.
+///
+/// After an error nothing is said of the clauses and the trail. `NoMemory` only for want of memory.
 pub fn search<T: Theory, L: Tape>(
     alloc: Global,
     theory: &mut T,
@@ -41,12 +47,18 @@ pub fn search<T: Theory, L: Tape>(
     ensures found { IfOk result (IsFound (T.wanted theory.new) assumptions.now engine.new budget.new) }
     ensures agrees { IfOk result (λ found. found ≡ Sat → T.agrees theory.new engine.new.trail.literals) }
     ensures kept { OnOk result (GrowsTo engine.old.kept engine.new.kept) }
+    ensures follows { OnOk result (Follows (T.teaches theory.new) engine.old.kept engine.new.kept) }
+    ensures follows_by_level { OnOk result
+        (FollowsByLevel (T.teaches theory.new) engine.old.kept engine.new.kept) }
+    ensures refuted { IfOk result (λ found. (id : TheId) → found ≡ Unsat id
+        → AreRefuted (T.teaches theory.new) engine.old.kept assumptions.now) }
     ensures reasoned { OnOk result (AreReasoned engine.new.kept [] engine.new.trail.literals) }
     ensures stands { OnOk result (T.stands theory.new engine.new.trail.literals) }
     ensures limit { OnOk result (budget.new.limit ≡ budget.old.limit) }
     ensures spends { OnOk result (budget.old.spent ≤ budget.new.spent) }
     ensures wanted { T.wanted theory.new ≡ T.wanted theory.old }
     ensures passes { T.passes theory.new ≡ T.passes theory.old }
+    ensures teaches { (clause : List TheLit) → T.teaches theory.old clause → T.teaches theory.new clause }
     ensures counts { CountsFaults result (L.Tape.faults tape.old) (L.Tape.faults tape.new) }
 {
     let mut stage = Stage {
@@ -85,6 +97,7 @@ fn begin<T: Theory>(
         → T.stands theory.new engine.new.trail.literals) }
     ensures wanted { T.wanted theory.new ≡ T.wanted theory.old }
     ensures passes { T.passes theory.new ≡ T.passes theory.old }
+    ensures teaches { (clause : List TheLit) → T.teaches theory.old clause → T.teaches theory.new clause }
 {
     let trail = engine.trail();
     let _before = trail.literals();
@@ -138,10 +151,12 @@ fn spend_one<T: Theory, L: Tape>(
     ensures round { IfOk result (IsRound (T.wanted theory.new) assumptions.now stage.new.levels stage.new.next
         engine.old engine.new budget.old budget.new) }
     ensures spends { IfOk result (λ found. found ≡ None → budget.old.spent < budget.new.spent) }
+    ensures follows { OnOk result (FollowsByLevel (T.teaches theory.new) engine.old.kept engine.new.kept) }
     ensures agrees { IfOk result (λ found. found ≡ Some Sat → T.agrees theory.new engine.new.trail.literals) }
     ensures stands { OnOk result (T.stands theory.new engine.new.trail.literals) }
     ensures wanted { T.wanted theory.new ≡ T.wanted theory.old }
     ensures passes { T.passes theory.new ≡ T.passes theory.old }
+    ensures teaches { (clause : List TheLit) → T.teaches theory.old clause → T.teaches theory.new clause }
     ensures counts { CountsFaults result (L.Tape.faults tape.old) (L.Tape.faults tape.new) }
 {
     let start = budget.spent();
@@ -172,10 +187,12 @@ fn move_on<T: Theory, L: Tape>(
     ensures better { IfOk result (λ found. found ≡ None → IsBetter budget.old budget.new
         (T.measure theory.old engine.old.kept engine.old.trail.literals)
         (T.measure theory.new engine.new.kept engine.new.trail.literals)) }
+    ensures follows { OnOk result (FollowsByLevel (T.teaches theory.new) engine.old.kept engine.new.kept) }
     ensures agrees { IfOk result (λ found. found ≡ Some Sat → T.agrees theory.new engine.new.trail.literals) }
     ensures stands { OnOk result (T.stands theory.new engine.new.trail.literals) }
     ensures wanted { T.wanted theory.new ≡ T.wanted theory.old }
     ensures passes { T.passes theory.new ≡ T.passes theory.old }
+    ensures teaches { (clause : List TheLit) → T.teaches theory.old clause → T.teaches theory.new clause }
     ensures counts { CountsFaults result (L.Tape.faults tape.old) (L.Tape.faults tape.new) }
 {
     loop {

@@ -2,6 +2,7 @@
 
 ghost use Rattle.std.specs.Prelude.{◌≡◌, ℕ, ◌+◌, ◌^◌, ◌<◌, ◌≤◌, Bool, true, List, [], ◌∷◌, ◌++◌, length, Some, IfOk, OnOk};
 ghost use Rattle.std.specs.List.{slice_get};
+ghost use Rattle.sb_lit.specs.declared.clause.Lit.{Lit as TheLit};
 ghost use Rattle.sb_lit.specs.Kept.{Kept};
 ghost use Rattle.sb_trail.specs.declared.assigned.Assigned.{Assigned};
 ghost use Rattle.sb_trail.specs.Assignments.{held, up_to};
@@ -19,7 +20,7 @@ use sb_trail::Trail;
 pub enum Checked {
     /// Nothing is wrong. Where the trail was the last one, the theory has values that agree with it.
     Fine,
-    /// A clause that is valid and false on the trail. Its line has just been put.
+    /// A clause that the theory teaches and that is false on the trail. Its line has just been put.
     Lemma(Clause),
     /// This literal is to be decided; it has no value.
     Ask(Lit),
@@ -34,6 +35,9 @@ pub trait Theory {
 
     /// The test of atoms that those of lemmas and wishes pass.
     ghost passes: { Self → ℕ → Bool };
+
+    /// The clauses that lemmas may be: those that are true by the theory alone. What it teaches it goes on to teach.
+    ghost teaches: { Self → List TheLit → Type 0 };
 
     /// A number that falls wherever no step of the budget is spent and the trail does not just grow.
     ghost measure: { Self → Kept → List Assigned → ℕ };
@@ -60,10 +64,11 @@ pub trait Theory {
         ensures stands { OnOk result (stands self.new trail.now.literals) }
         ensures wanted { wanted self.new ≡ wanted self.old }
         ensures passes { passes self.new ≡ passes self.old }
+        ensures teaches { (clause : List TheLit) → teaches self.old clause → teaches self.new clause }
         ensures limit { budget.new.limit ≡ budget.old.limit }
         ensures spends { budget.old.spent ≤ budget.new.spent }
         ensures within { budget.old.spent < budget.new.spent → budget.new.spent ≤ budget.new.limit }
-        ensures fair { IfOk result (IsFair (passes self.old) trail.now.literals) }
+        ensures fair { IfOk result (IsFair (passes self.old) (teaches self.new) trail.now.literals) }
         ensures agrees { IfOk result (λ answer. last ≡ true → answer ≡ Fine → agrees self.new trail.now.literals) }
         ensures spent { IfOk result (λ answer. answer ≡ Spent → budget.new.spent ≡ budget.new.limit) }
         ensures falls { IfOk result (λ answer. budget.new.spent ≡ budget.old.spent
@@ -75,6 +80,7 @@ pub trait Theory {
         ensures stands { (entries : List Assigned) → stands self.old entries → stands self.new (up_to level entries) }
         ensures wanted { wanted self.new ≡ wanted self.old }
         ensures passes { passes self.new ≡ passes self.old }
+        ensures teaches { (clause : List TheLit) → teaches self.old clause → teaches self.new clause }
         ensures falls { (kept : Kept) (entries : List Assigned) → measure self.new kept entries ≤ measure self.old kept entries };
 
     /// The wanted atom at this place, `None` exactly past the last one. Takes no memory.

@@ -9,8 +9,9 @@ ghost use Rattle.sb_clauses.specs.Propagation.{IsSettled, IsConflict, has_room_f
 ghost use Rattle.sb_analyze.specs.Reasons.{AreReasoned};
 ghost use Rattle.sb_analyze.specs.Cores.{AreAssumed};
 ghost use Rattle.sb_search.specs.Asking.{CountsFaults, IsFair, Falls, decided};
+ghost use Rattle.sb_search.specs.Following.{FollowsByLevel};
 ghost use Rattle.sb_search.specs.Found.{are_true};
-ghost use Rattle.sb_search.specs.Searching.{IsSearching, IsTurned, IsSpentOn, IsNext};
+ghost use Rattle.sb_search.specs.Searching.{IsSearching, IsTurned, IsSpentOn, IsNext, Entails};
 ghost use Rattle.sb_search.specs.declared.stage.Next.TheVariants as next;
 ghost use Rattle.sb_search.specs.declared.theory.Checked.TheVariants.{Fine, Spent};
 ghost use Rattle.sb_search.specs.declared.found.Found.TheVariants.{Sat};
@@ -54,9 +55,11 @@ pub(crate) fn take_turn<T: Theory, L: Tape>(
         (T.measure theory.old engine.old.kept engine.old.trail.literals)
         (T.measure theory.new engine.new.kept engine.new.trail.literals)) }
     ensures agrees { IfOk result (λ turn. turn ≡ Ends Sat → T.agrees theory.new engine.new.trail.literals) }
+    ensures follows { OnOk result (FollowsByLevel (T.teaches theory.new) engine.old.kept engine.new.kept) }
     ensures stands { OnOk result (T.stands theory.new engine.new.trail.literals) }
     ensures wanted { T.wanted theory.new ≡ T.wanted theory.old }
     ensures passes { T.passes theory.new ≡ T.passes theory.old }
+    ensures teaches { (clause : List TheLit) → T.teaches theory.old clause → T.teaches theory.new clause }
     ensures counts { CountsFaults result (L.Tape.faults tape.old) (L.Tape.faults tape.new) }
 {
     match settle(theory, engine) {
@@ -113,9 +116,11 @@ fn examine<T: Theory, L: Tape>(
         (T.measure theory.old engine.old.kept engine.old.trail.literals)
         (T.measure theory.new engine.new.kept engine.new.trail.literals)) }
     ensures agrees { IfOk result (λ turn. turn ≡ Ends Sat → T.agrees theory.new engine.new.trail.literals) }
+    ensures follows { OnOk result (FollowsByLevel (T.teaches theory.new) engine.old.kept engine.new.kept) }
     ensures stands { OnOk result (T.stands theory.new engine.new.trail.literals) }
     ensures wanted { T.wanted theory.new ≡ T.wanted theory.old }
     ensures passes { T.passes theory.new ≡ T.passes theory.old }
+    ensures teaches { (clause : List TheLit) → T.teaches theory.old clause → T.teaches theory.new clause }
     ensures counts { CountsFaults result (L.Tape.faults tape.old) (L.Tape.faults tape.new) }
 {
     let trail = engine.trail();
@@ -144,6 +149,7 @@ fn contradict<L: Tape>(
     ensures turned { IfOk result (λ turn. (wanted : List ℕ) (levels next most now : ℕ)
         → IsTurned wanted assumptions.now levels next engine.old engine.new budget.old budget.new most now turn) }
     ensures not_sat { IfOk result (λ turn. turn ≢ Ends Sat) }
+    ensures follows { OnOk result (Entails engine.old.kept engine.new.kept) }
     ensures literals { OnOk result (engine.new.trail.literals ≡ engine.old.trail.literals) }
     ensures counts { CountsFaults result (L.Tape.faults tape.old) (L.Tape.faults tape.new) }
 {
@@ -173,9 +179,11 @@ fn assume<T: Theory, L: Tape>(
         (T.measure theory.old engine.old.kept engine.old.trail.literals)
         (T.measure theory.new engine.new.kept engine.new.trail.literals)) }
     ensures not_sat { IfOk result (λ turn. turn ≢ Ends Sat) }
+    ensures follows { OnOk result (FollowsByLevel (T.teaches theory.new) engine.old.kept engine.new.kept) }
     ensures stands { OnOk result (T.stands theory.new engine.new.trail.literals) }
     ensures wanted { T.wanted theory.new ≡ T.wanted theory.old }
     ensures passes { T.passes theory.new ≡ T.passes theory.old }
+    ensures teaches { (clause : List TheLit) → T.teaches theory.old clause → T.teaches theory.new clause }
     ensures counts { CountsFaults result (L.Tape.faults tape.old) (L.Tape.faults tape.new) }
 {
     match ask(theory, engine, false, tape, budget)? {
@@ -214,9 +222,11 @@ fn choose<T: Theory, L: Tape>(
         (T.measure theory.old engine.old.kept engine.old.trail.literals)
         (T.measure theory.new engine.new.kept engine.new.trail.literals)) }
     ensures not_sat { IfOk result (λ turn. turn ≢ Ends Sat) }
+    ensures follows { OnOk result (FollowsByLevel (T.teaches theory.new) engine.old.kept engine.new.kept) }
     ensures stands { OnOk result (T.stands theory.new engine.new.trail.literals) }
     ensures wanted { T.wanted theory.new ≡ T.wanted theory.old }
     ensures passes { T.passes theory.new ≡ T.passes theory.old }
+    ensures teaches { (clause : List TheLit) → T.teaches theory.old clause → T.teaches theory.new clause }
     ensures counts { CountsFaults result (L.Tape.faults tape.old) (L.Tape.faults tape.new) }
 {
     match ask(theory, engine, false, tape, budget)? {
@@ -254,9 +264,11 @@ fn finish<T: Theory, L: Tape>(
         (T.measure theory.old engine.old.kept engine.old.trail.literals)
         (T.measure theory.new engine.new.kept engine.new.trail.literals)) }
     ensures agrees { IfOk result (λ turn. turn ≡ Ends Sat → T.agrees theory.new engine.new.trail.literals) }
+    ensures follows { OnOk result (FollowsByLevel (T.teaches theory.new) engine.old.kept engine.new.kept) }
     ensures stands { OnOk result (T.stands theory.new engine.new.trail.literals) }
     ensures wanted { T.wanted theory.new ≡ T.wanted theory.old }
     ensures passes { T.passes theory.new ≡ T.passes theory.old }
+    ensures teaches { (clause : List TheLit) → T.teaches theory.old clause → T.teaches theory.new clause }
     ensures counts { CountsFaults result (L.Tape.faults tape.old) (L.Tape.faults tape.new) }
 {
     match ask(theory, engine, true, tape, budget)? {
@@ -286,8 +298,9 @@ fn ask<T: Theory, L: Tape>(
     ensures stands { OnOk result (T.stands theory.new engine.now.trail.literals) }
     ensures wanted { T.wanted theory.new ≡ T.wanted theory.old }
     ensures passes { T.passes theory.new ≡ T.passes theory.old }
+    ensures teaches { (clause : List TheLit) → T.teaches theory.old clause → T.teaches theory.new clause }
     ensures spends { IsSpentOn budget.old budget.new }
-    ensures fair { IfOk result (IsFair (T.passes theory.old) engine.now.trail.literals) }
+    ensures fair { IfOk result (IsFair (T.passes theory.old) (T.teaches theory.new) engine.now.trail.literals) }
     ensures agrees { IfOk result
         (λ answer. last ≡ true → answer ≡ Fine → T.agrees theory.new engine.now.trail.literals) }
     ensures spent { IfOk result (λ answer. answer ≡ Spent → budget.new.spent ≡ budget.new.limit) }

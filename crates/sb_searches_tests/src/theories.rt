@@ -4,11 +4,13 @@ ghost use Rattle.std.specs.Prelude.{◌≡◌, ◌≢◌, ℕ, ◌+◌, ◌^◌,
 ghost use Rattle.std.specs.List.{slice_get};
 ghost use Rattle.std.proofs.Common.{rules};
 ghost use Rattle.sb_lit.specs.Clauses.{is_false_clause};
+ghost use Rattle.sb_lit.specs.declared.clause.Lit.{Lit as TheLit};
 ghost use Rattle.sb_lit.specs.Kept.{Kept};
 ghost use Rattle.sb_trail.specs.declared.assigned.Assigned.{Assigned};
 ghost use Rattle.sb_trail.specs.Assignments.{held};
 ghost use Rattle.sb_search.specs.Asking.{Measure, IsFair, Falls};
 ghost use Rattle.sb_search.specs.declared.theory.Checked.TheVariants.{Spent};
+ghost use Rattle.sb_searches_tests.specs.Given.{IsOneOf};
 
 use sb_clauses::Clauses;
 use sb_lit::{Budget, Clause, Lit};
@@ -48,6 +50,8 @@ impl Theory for Plain {
     ghost wanted = { λ theory. theory.atoms.items };
 
     ghost passes = { λ _ _. true };
+
+    ghost teaches = { λ _ _. ⊥ };
 
     ghost measure = { λ _ _ _. 0 };
 
@@ -103,6 +107,8 @@ impl Theory for Given {
 
     ghost passes = { λ _ _. true };
 
+    ghost teaches = { λ theory clause. IsOneOf theory.lemmas.items clause };
+
     ghost measure = { λ theory _ _. length theory.wishes.items };
 
     ghost stands = { λ _ _. Unit {0} };
@@ -137,7 +143,8 @@ impl Theory for Given {
 
 /// The first lemma that is false.
 fn false_one(alloc: Global, trail: &Trail, lemmas: &[Clause]) -> Result<Option<Clause>, AllocError>
-    ensures { IfOk result (λ found. IfSome found (λ lemma. is_false_clause (held trail.now.literals) lemma ≡ true)) }
+    ensures { IfOk result (λ found. IfSome found (λ lemma. (is_false_clause (held trail.now.literals) lemma ≡ true)
+        × IsOneOf lemmas.now lemma)) }
 {
     for lemma in lemmas {
         if is_false(trail, lemma.literals()) {
@@ -165,8 +172,8 @@ fn paid(lemma: Clause, budget: &mut Budget) -> Checked
     ensures limit { budget.new.limit ≡ budget.old.limit }
     ensures spends { budget.old.spent ≤ budget.new.spent }
     ensures within { budget.old.spent < budget.new.spent → budget.new.spent ≤ budget.new.limit }
-    ensures fair { (entries : List Assigned) → is_false_clause (held entries) lemma ≡ true
-        → IsFair (λ _. true) entries result }
+    ensures fair { (entries : List Assigned) (lemmas : List (List TheLit)) → is_false_clause (held entries) lemma ≡ true
+        → IsOneOf lemmas lemma → IsFair (λ _. true) (IsOneOf lemmas) entries result }
     ensures spent { result ≡ Spent → budget.new.spent ≡ budget.new.limit }
     ensures falls { (old new : Measure) (kept : Kept) (entries : List Assigned)
         → budget.new.spent ≡ budget.old.spent → Falls old new kept entries result }
@@ -179,7 +186,7 @@ fn paid(lemma: Clause, budget: &mut Budget) -> Checked
 
 /// The next literal that is asked for, where it has no value.
 fn wish(trail: &Trail, wishes: &mut Vec<Lit>) -> Checked
-    ensures fair { IsFair (λ _. true) trail.now.literals result }
+    ensures fair { (lemmas : List (List TheLit)) → IsFair (λ _. true) (IsOneOf lemmas) trail.now.literals result }
     ensures falls { (kept : Kept) → Falls (λ _ _. length wishes.old.items) (λ _ _. length wishes.new.items) kept
         trail.now.literals result }
     ensures not_spent { result ≢ Spent }

@@ -1,5 +1,6 @@
 use Rattle.std.proofs.Common.{◌∙◌}
 use Rattle.sb_search.proofs.Refuting.{both_core, reasoned_kept}
+use Rattle.sb_search.proofs.Following.{entails_both}
 use Rattle.sb_search.proofs.conflict.keep_both.Goals as goal
 
 pub returns-clause-found : goal.returns-clause-found
@@ -12,3 +13,8 @@ pub returns-clause-reasoned : goal.returns-clause-reasoned
 returns-clause-reasoned g c =
     reasoned_kept c.args.engine.now c.keep.new.engine (record { literals = c.from_literals-clause.result; level = 0 }) c.in_ok-id.ensures.kept c.in_ok-id.ensures.literals
     c.requires.reasoned
+
+pub returns-clause-follows : goal.returns-clause-follows
+returns-clause-follows g c =
+    entails_both c.args.engine.now.kept c.keep.new.engine.kept c.from_literals-clause.result c.args.literal.atom
+    (c.from_literals-clause.ensures ∙ c.in_ok-both-2.ensures) c.in_ok-id.ensures.kept

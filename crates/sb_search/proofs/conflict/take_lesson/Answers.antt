@@ -1,7 +1,9 @@
-use Rattle.std.proofs.Common.{subst}
+use Rattle.std.proofs.Common.{[], ◌∷◌, ◌++◌, ◌∙◌, Some, ap, subst}
+use Rattle.sb_clauses.specs.Propagation.{State}
 use Rattle.sb_trail.specs.Assignments.{Assignments, IsTrail, current_level}
 use Rattle.sb_analyze.proofs.CallerLemmas.{below_learned, below_up_to}
 use Rattle.sb_search.proofs.Turns.{searching_after}
+use Rattle.sb_search.proofs.Following.{entails_learned}
 use Rattle.sb_search.proofs.conflict.take_lesson.Goals as goal
 
 pub returns-clause-searching : goal.returns-clause-searching
@@ -17,3 +19,10 @@ returns-clause-searching g c = λ assumptions h.
     (current_level c.args.engine.now.trail.literals) c.args.lesson.now is_trail.distinct c.requires
     (below_up_to c.args.engine.now.kept c.args.engine.now.trail.literals c.args.lesson.now.backjump_level h.below
     c.requires.below)) h
+
+pub returns-clause-follows : goal.returns-clause-follows
+returns-clause-follows g c =
+    entails_learned c.args.engine.now.kept c.keep.new.engine.kept c.args.lesson.now.clause c.args.lesson.now.hints
+    c.args.lesson.now.level (c.in_ok-keep.ensures.kept ∙ ap (λ (s : State).
+    s.kept ++ Some (record { literals = c.args.lesson.now.clause; level = c.args.lesson.now.level }) ∷ [])
+    c.go_back.ensures.engine) c.requires.is_lesson.accepted

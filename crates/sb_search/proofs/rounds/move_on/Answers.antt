@@ -1,6 +1,7 @@
 use Rattle.std.proofs.Common.{refl, ◌∙◌, inr, arith}
 use Rattle.std.proofs.lemmas.Result.{err_from_is_err_and}
 use Rattle.sb_search.proofs.Outcomes.{no_round, round_ends, round_moves, round_decides, better_on, no_worse_on, fewer_left, counts_on}
+use Rattle.sb_search.proofs.Following.{follows_same, follows_on}
 use Rattle.sb_search.proofs.rounds.move_on.Goals as goal
 
 pub loop-found-init : goal.loop-found-init
@@ -13,6 +14,8 @@ loop-found-init g c = (
   refl,
   refl,
   refl,
+  λ _ taught. taught,
+  follows_same (g.T.Theory.teaches c.args.theory.now) c.args.engine.now.kept c.args.engine.now.kept refl,
 )
 
 pub take_turn-requires-clause-searching : goal.take_turn-requires-clause-searching
@@ -110,4 +113,33 @@ loop-found-preserved g c = (
   c.take_turn.ensures.wanted ∙ c.loop-found.invariant.3,
   c.take_turn.ensures.passes ∙ c.loop-found.invariant.4,
   c.in_ok-found.ensures.counts ∙ c.loop-found.invariant.5,
+  λ clause taught.
+      c.take_turn.ensures.teaches clause (c.loop-found.invariant.6 clause taught),
+  follows_on (g.T.Theory.teaches c.loop-found.theory) (g.T.Theory.teaches c.take_turn.new.theory) c.args.engine.now.kept
+      c.loop-found.engine.kept c.take_turn.new.engine.kept c.take_turn.ensures.teaches c.loop-found.invariant.7
+      c.in_ok-found.ensures.follows,
 )
+
+pub returns-in_err-found-clause-teaches : goal.returns-in_err-found-clause-teaches
+returns-in_err-found-clause-teaches g c = λ clause taught.
+    c.take_turn.ensures.teaches clause (c.loop-found.invariant.6 clause taught)
+
+pub returns-in-Ends-clause-teaches : goal.returns-in-Ends-clause-teaches
+returns-in-Ends-clause-teaches g c = λ clause taught.
+    c.take_turn.ensures.teaches clause (c.loop-found.invariant.6 clause taught)
+
+pub returns-in-Ends-clause-follows : goal.returns-in-Ends-clause-follows
+returns-in-Ends-clause-follows g c =
+    follows_on (g.T.Theory.teaches c.loop-found.theory) (g.T.Theory.teaches c.take_turn.new.theory) c.args.engine.now.kept
+    c.loop-found.engine.kept c.take_turn.new.engine.kept c.take_turn.ensures.teaches c.loop-found.invariant.7
+    c.in_ok-found.ensures.follows
+
+pub returns-in-Moves-clause-teaches : goal.returns-in-Moves-clause-teaches
+returns-in-Moves-clause-teaches g c = λ clause taught.
+    c.take_turn.ensures.teaches clause (c.loop-found.invariant.6 clause taught)
+
+pub returns-in-Moves-clause-follows : goal.returns-in-Moves-clause-follows
+returns-in-Moves-clause-follows g c =
+    follows_on (g.T.Theory.teaches c.loop-found.theory) (g.T.Theory.teaches c.take_turn.new.theory) c.args.engine.now.kept
+    c.loop-found.engine.kept c.take_turn.new.engine.kept c.take_turn.ensures.teaches c.loop-found.invariant.7
+    c.in_ok-found.ensures.follows

@@ -1,6 +1,7 @@
 use Rattle.std.proofs.Common.{None, refl, ◌∙◌, arith}
 use Rattle.std.proofs.lemmas.Result.{err_from_is_err_and}
 use Rattle.sb_search.proofs.Outcomes.{no_round, rounds_on, grows_both, counts_on}
+use Rattle.sb_search.proofs.Following.{follows_same, follows_on, follows_in_all, refuted, core_found}
 use Rattle.sb_search.proofs.rounds.search.Goals as goal
 
 pub loop-found-init : goal.loop-found-init
@@ -12,6 +13,9 @@ loop-found-init g c = (
   c.begin.ensures.wanted,
   c.begin.ensures.passes,
   refl,
+  c.begin.ensures.teaches,
+  follows_same (g.T.Theory.teaches c.begin.new.theory) c.args.engine.now.kept c.begin.new.engine.kept
+      c.in_ok-begin.ensures.kept,
 )
 
 pub spend_one-requires-clause-searching : goal.spend_one-requires-clause-searching
@@ -74,4 +78,41 @@ loop-found-preserved g c = (
   c.spend_one.ensures.wanted ∙ c.loop-found.invariant.2,
   c.spend_one.ensures.passes ∙ c.loop-found.invariant.3,
   c.in_ok-found.ensures.counts ∙ c.loop-found.invariant.4,
+  λ clause taught.
+      c.spend_one.ensures.teaches clause (c.loop-found.invariant.5 clause taught),
+  follows_on (g.T.Theory.teaches c.loop-found.theory) (g.T.Theory.teaches c.spend_one.new.theory) c.args.engine.now.kept
+      c.loop-found.engine.kept c.spend_one.new.engine.kept c.spend_one.ensures.teaches c.loop-found.invariant.6
+      c.in_ok-found.ensures.follows,
 )
+
+pub returns-in_err-found-clause-teaches : goal.returns-in_err-found-clause-teaches
+returns-in_err-found-clause-teaches g c = λ clause taught.
+    c.spend_one.ensures.teaches clause (c.loop-found.invariant.5 clause taught)
+
+pub returns-in-Some-clause-teaches : goal.returns-in-Some-clause-teaches
+returns-in-Some-clause-teaches g c = λ clause taught.
+    c.spend_one.ensures.teaches clause (c.loop-found.invariant.5 clause taught)
+
+pub returns-in-Some-clause-follows_by_level : goal.returns-in-Some-clause-follows_by_level
+returns-in-Some-clause-follows_by_level g c =
+    follows_on (g.T.Theory.teaches c.loop-found.theory) (g.T.Theory.teaches c.spend_one.new.theory) c.args.engine.now.kept
+    c.loop-found.engine.kept c.spend_one.new.engine.kept c.spend_one.ensures.teaches c.loop-found.invariant.6
+    c.in_ok-found.ensures.follows
+
+pub returns-in-Some-clause-follows : goal.returns-in-Some-clause-follows
+returns-in-Some-clause-follows g c =
+    follows_in_all (g.T.Theory.teaches c.spend_one.new.theory) c.args.engine.now.kept c.spend_one.new.engine.kept
+    (follows_on (g.T.Theory.teaches c.loop-found.theory) (g.T.Theory.teaches c.spend_one.new.theory) c.args.engine.now.kept
+    c.loop-found.engine.kept c.spend_one.new.engine.kept c.spend_one.ensures.teaches c.loop-found.invariant.6
+    c.in_ok-found.ensures.follows)
+
+pub returns-in-Some-clause-refuted : goal.returns-in-Some-clause-refuted
+returns-in-Some-clause-refuted g c = λ id is.
+    refuted (g.T.Theory.teaches c.spend_one.new.theory) c.args.engine.now.kept c.spend_one.new.engine.kept
+    c.args.assumptions.now id.0
+    (follows_on (g.T.Theory.teaches c.loop-found.theory) (g.T.Theory.teaches c.spend_one.new.theory) c.args.engine.now.kept
+    c.loop-found.engine.kept c.spend_one.new.engine.kept c.spend_one.ensures.teaches c.loop-found.invariant.6
+    c.in_ok-found.ensures.follows)
+    (core_found (g.T.Theory.wanted c.spend_one.new.theory) c.args.assumptions.now c.spend_one.new.stage.levels
+    c.spend_one.new.stage.next c.spend_one.new.engine c.spend_one.new.budget c.in_ok-found.field-0 c.in-Some.found id
+    c.in_ok-found.ensures.round.continues c.in-Some.is is)

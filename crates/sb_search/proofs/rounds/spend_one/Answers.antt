@@ -1,6 +1,7 @@
 use Rattle.std.proofs.Common.{Some, None, refl, ◌∙◌, arith}
 use Rattle.std.proofs.lemmas.Result.{err_from_is_err_and}
 use Rattle.sb_search.proofs.Outcomes.{no_round, rounds_on, fell, counts_on}
+use Rattle.sb_search.proofs.Following.{follows_same, follows_on}
 use Rattle.sb_search.proofs.rounds.spend_one.Goals as goal
 
 pub loop-found-init : goal.loop-found-init
@@ -13,6 +14,8 @@ loop-found-init g c = (
   refl,
   refl,
   refl,
+  λ _ taught. taught,
+  follows_same (g.T.Theory.teaches c.args.theory.now) c.args.engine.now.kept c.args.engine.now.kept refl,
 )
 
 pub move_on-requires-clause-searching : goal.move_on-requires-clause-searching
@@ -101,4 +104,33 @@ loop-found-preserved g c = (
   c.move_on.ensures.wanted ∙ c.loop-found.invariant.3,
   c.move_on.ensures.passes ∙ c.loop-found.invariant.4,
   c.in_ok-found.ensures.counts ∙ c.loop-found.invariant.5,
+  λ clause taught.
+      c.move_on.ensures.teaches clause (c.loop-found.invariant.6 clause taught),
+  follows_on (g.T.Theory.teaches c.loop-found.theory) (g.T.Theory.teaches c.move_on.new.theory) c.args.engine.now.kept
+      c.loop-found.engine.kept c.move_on.new.engine.kept c.move_on.ensures.teaches c.loop-found.invariant.7
+      c.in_ok-found.ensures.follows,
 )
+
+pub returns-in_err-found-clause-teaches : goal.returns-in_err-found-clause-teaches
+returns-in_err-found-clause-teaches g c = λ clause taught.
+    c.move_on.ensures.teaches clause (c.loop-found.invariant.6 clause taught)
+
+pub returns-in-Some-clause-teaches : goal.returns-in-Some-clause-teaches
+returns-in-Some-clause-teaches g c = λ clause taught.
+    c.move_on.ensures.teaches clause (c.loop-found.invariant.6 clause taught)
+
+pub returns-in-Some-clause-follows : goal.returns-in-Some-clause-follows
+returns-in-Some-clause-follows g c =
+    follows_on (g.T.Theory.teaches c.loop-found.theory) (g.T.Theory.teaches c.move_on.new.theory) c.args.engine.now.kept
+    c.loop-found.engine.kept c.move_on.new.engine.kept c.move_on.ensures.teaches c.loop-found.invariant.7
+    c.in_ok-found.ensures.follows
+
+pub returns-then-spent-start-clause-teaches : goal.returns-then-spent-start-clause-teaches
+returns-then-spent-start-clause-teaches g c = λ clause taught.
+    c.move_on.ensures.teaches clause (c.loop-found.invariant.6 clause taught)
+
+pub returns-then-spent-start-clause-follows : goal.returns-then-spent-start-clause-follows
+returns-then-spent-start-clause-follows g c =
+    follows_on (g.T.Theory.teaches c.loop-found.theory) (g.T.Theory.teaches c.move_on.new.theory) c.args.engine.now.kept
+    c.loop-found.engine.kept c.move_on.new.engine.kept c.move_on.ensures.teaches c.loop-found.invariant.7
+    c.in_ok-found.ensures.follows

@@ -1,4 +1,6 @@
-use Rattle.std.proofs.Common.{◌≡◌, None}
+use Rattle.std.proofs.Common.{◌≡◌, None, List}
+use Rattle.sb_lit.specs.declared.clause.Lit.{Lit}
+use Rattle.sb_search.specs.Following.{FollowsByLevel}
 use Rattle.sb_search.specs.Searching.{IsRound}
 use Rattle.sb_search.proofs.rounds.spend_one.Given as goal
 
@@ -10,6 +12,8 @@ invariant-loop-found g l = IsRound (g.T.Theory.wanted l.theory) l.assumptions l.
     × (g.T.Theory.wanted l.theory ≡ g.T.Theory.wanted l.fn.theory)
     × (g.T.Theory.passes l.theory ≡ g.T.Theory.passes l.fn.theory)
     × (g.L.Tape.faults l.tape ≡ g.L.Tape.faults l.fn.tape)
+    × ((clause : List Lit) → g.T.Theory.teaches l.fn.theory clause → g.T.Theory.teaches l.theory clause)
+    × FollowsByLevel (g.T.Theory.teaches l.theory) l.fn.engine.kept l.engine.kept
 
 abbrev pub decreases-loop-found : goal.decreases-loop-found
 decreases-loop-found g l = g.T.Theory.measure l.theory l.engine.kept l.engine.trail.literals

@@ -1,8 +1,10 @@
-use Rattle.std.proofs.Common.{List, subst}
+use Rattle.std.proofs.Common.{List, refl, subst}
+use Rattle.std.proofs.lemmas.Result.{on_ok_weaker}
 use Rattle.sb_trail.specs.declared.assigned.Assigned.{Assigned}
 use Rattle.sb_trail.specs.Assignments.{Assignments, IsTrail}
 use Rattle.sb_trail.proofs.CallerLemmas.{up_to-all}
 use Rattle.sb_analyze.specs.Cores.{AreAssumed}
+use Rattle.sb_search.proofs.Following.{follows_alone}
 use Rattle.sb_search.proofs.turn.examine.Goals as goal
 
 pub contradict-requires-clause-assumed : goal.contradict-requires-clause-assumed
@@ -11,3 +13,9 @@ contradict-requires-clause-assumed g c =
     subst (λ (es : List Assigned). AreAssumed c.args.assumptions.now es)
     (up_to-all c.next.new.self.levels 0 c.args.engine.now.trail.literals is_trail.levelled
     c.in-Refuted.ensures.next.0) c.in-Refuted.ensures.searching.assumed
+
+pub returns-in-Refuted-clause-follows : goal.returns-in-Refuted-clause-follows
+returns-in-Refuted-clause-follows g c =
+    on_ok_weaker c.contradict.result
+    (follows_alone (g.T.Theory.teaches c.args.theory.now) c.args.engine.now.kept c.args.engine.now.kept
+    c.contradict.new.engine.kept refl) c.contradict.ensures.follows
