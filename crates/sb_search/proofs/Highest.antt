@@ -1,14 +1,14 @@
 -- The literals of the highest levels of a clause.
-use Rattle.std.proofs.Common.{◌≡◌, ℕ, ◌<◌, ◌≤◌, true, false, ◌||◌, ◌+◌, leb, length, take, get_or, List, [], ◌∷◌, ◌++◌, Option, Some, None, ◌∙◌, inl, inr, arith}
+use Rattle.std.proofs.Common.{◌≡◌, ℕ, ◌<◌, ◌≤◌, true, false, ◌||◌, ◌+◌, leb, length, take, get_or, List, [], ◌∷◌, ◌++◌, Option, Some, None, sym, ◌∙◌, inl, inr, arith}
 use Rattle.std.specs.List.{list_all}
-use Rattle.std.proofs.lemmas.Bool.{cases_Bool, or_left, or_right, or_cases, leb-true, leb-false, le-leb}
+use Rattle.std.proofs.lemmas.Bool.{false≢true, cases_Bool, or_left, or_right, or_cases, leb-true, leb-false, le-leb}
 use Rattle.std.proofs.lemmas.List.{take_more}
 use Rattle.sb_lit.specs.declared.clause.Lit.{Lit}
 use Rattle.sb_lit.specs.Clauses.{is_same_literal, is_among}
-use Rattle.sb_lit.proofs.CallerLemmas.{among_push, among_push_same, all_among}
+use Rattle.sb_lit.proofs.CallerLemmas.{among_push, among_push_same, all_among, is_same_literal-true, is_same_literal-of}
 use Rattle.sb_trail.specs.declared.assigned.Assigned.{Assigned}
 use Rattle.sb_analyze.specs.Reasons.{level_in}
-use Rattle.sb_search.specs.Searching.{higher, is_but, IsHighest, IsHighUpTo}
+use Rattle.sb_search.specs.Searching.{higher, is_but, IsHighest, IsHighUpTo, HasTwoAbove, IsLowest}
 use Rattle.sb_search.proofs.Truths.{all_weaker, all_push}
 
 among_front : (ls : List Lit) (m l : Lit) → is_among ls l ≡ true → is_among (ls ++ m ∷ []) l ≡ true
@@ -74,7 +74,7 @@ highest_more entries but (Some m) ls l h =
     ]
 
 -- the level of the second one
-pub high_up_to : (entries : List Assigned) (clause : List Lit) (one other : Lit)
+high_up_to : (entries : List Assigned) (clause : List Lit) (one other : Lit)
     → IsHighest entries clause None (Some one) → IsHighest entries clause (Some one) (Some other)
     → IsHighUpTo entries clause (level_in entries other)
 high_up_to entries clause one other h k = λ n low. record {
@@ -91,6 +91,50 @@ high_up_to entries clause one other h k = λ n low. record {
         (all_among (λ l. false || leb (level_in entries l) (level_in entries one)) clause other h.2 k.0),
   );
 }
+
+-- all but one are not above
+not_two_above : (entries : List Assigned) (clause : List Lit) (top : Lit) (level : ℕ)
+    → list_all (λ l. is_same_literal l top || leb (level_in entries l) level) clause ≡ true
+    → HasTwoAbove entries clause level → ⊥
+not_two_above entries clause top level all h =
+    false≢true (sym h.differ
+    ∙ is_same_literal-of h.one h.other
+    (is_top h.one h.one_there h.one_above ∙ sym (is_top h.other h.other_there h.other_above)))
+  where
+    is_top : (l : Lit) → is_among clause l ≡ true → level < level_in entries l → l ≡ top
+    is_top l there above =
+        elim (or_cases (is_same_literal l top) (leb (level_in entries l) level)
+        (all_among (λ m. is_same_literal m top || leb (level_in entries m) level) clause l all there)) [
+          | inl same ↦ is_same_literal-true l top same
+          | inr low ↦ absurd (omega (arith, leb-true (level_in entries l) level low, above))
+        ]
+
+pub lowest_two : (entries : List Assigned) (clause : List Lit) (one other : Lit)
+    → IsHighest entries clause None (Some one) → IsHighest entries clause (Some one) (Some other)
+    → IsLowest entries clause (level_in entries other)
+lowest_two entries clause one other h k = record {
+  two_below = high_up_to entries clause one other h k;
+  not_two = not_two_above entries clause one (level_in entries other) k.2;
+}
+
+-- where there is no other literal
+pub lowest_one : (entries : List Assigned) (clause : List Lit) (one : Lit)
+    → IsHighest entries clause (Some one) None → IsLowest entries clause 0
+lowest_one entries clause one h = record {
+  two_below = λ n low. absurd (omega (arith, low));
+  not_two = not_two_above entries clause one 0
+      (all_weaker (λ l. is_same_literal l one) (λ l. is_same_literal l one || leb (level_in entries l) 0)
+      (λ l is. or_left (is_same_literal l one) (leb (level_in entries l) 0) is) clause h);
+}
+
+-- or none at all
+pub lowest_none : (entries : List Assigned) (clause : List Lit) → IsHighest entries clause None None
+    → IsLowest entries clause 0
+lowest_none entries [] h = record {
+  two_below = λ n low. absurd (omega (arith, low));
+  not_two = λ two. false≢true two.one_there;
+}
+lowest_none entries (l ∷ ls) h = absurd (false≢true h)
 
 -- a turn of the loop over the clause
 pub highest_turn : (entries : List Assigned) (but best new : Option Lit) (ls : List Lit) (i : ℕ) (d : Lit)

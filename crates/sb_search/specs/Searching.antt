@@ -110,6 +110,12 @@ Entails old new = (values : ℕ → Bool) (level : ℕ) → all_hold values (kep
 abbrev pub IsHighUpTo : List Assigned → List Lit → ℕ → Type 0
 IsHighUpTo entries clause level = (n : ℕ) → n < level → HasTwoAbove entries clause n
 
+-- The lowest level at which the clause, where it is false in the end, is false or leaves one literal: there at most one
+-- of its literals is above.
+pub record IsLowest (entries : List Assigned) (clause : List Lit) (level : ℕ) : Type 0 where
+  pub two_below : IsHighUpTo entries clause level
+  pub not_two : HasTwoAbove entries clause level → ⊥
+
 -- the literal is this one
 abbrev pub is_but : Option Lit → Lit → Bool
 is_but None l = false

@@ -8,7 +8,7 @@ ghost use Rattle.sb_trail.specs.Assignments.{up_to};
 ghost use Rattle.sb_clauses.specs.Propagation.{has_room_for};
 ghost use Rattle.sb_analyze.specs.Reasons.{level_in};
 ghost use Rattle.sb_search.specs.Asking.{with_lemma};
-ghost use Rattle.sb_search.specs.Searching.{IsHighUpTo, IsHighest, IsSearching, higher, is_but};
+ghost use Rattle.sb_search.specs.Searching.{IsLowest, IsHighest, IsSearching, higher, is_but};
 
 use crate::stage::Stage;
 use crate::theory::Theory;
@@ -17,8 +17,8 @@ use sb_lit::{Clause, ClauseId, Lit};
 use sb_trail::Trail;
 use std::alloc::AllocError;
 
-/// Keeps a lemma that is false, and goes back to the highest level at which it is false or leaves one literal: where
-/// one literal alone is of its highest level, that is the highest level of the others.
+/// Keeps a lemma that is false, and goes back to the lowest level at which it is false or leaves one literal: where one
+/// literal alone is of its highest level, that is the highest level of the others.
 pub(crate) fn take_lemma<T: Theory>(
     theory: &mut T,
     engine: &mut Engine,
@@ -29,6 +29,8 @@ pub(crate) fn take_lemma<T: Theory>(
         → IsSearching (T.wanted theory.old) assumptions stage.old.levels stage.old.next engine.old
         → IsSearching (T.wanted theory.new) assumptions stage.new.levels stage.new.next engine.new) }
     ensures kept { OnOk result (engine.new.kept ≡ with_lemma engine.old.kept clause.now) }
+    ensures back { OnOk result ((level : ℕ) × IsLowest engine.old.trail.literals clause.now level
+        × (engine.new.trail.literals ≡ up_to level engine.old.trail.literals)) }
     ensures stands { OnOk result (T.stands theory.old engine.old.trail.literals
         → T.stands theory.new engine.new.trail.literals) }
     ensures falls { OnOk result ((most : ℕ)
@@ -112,9 +114,9 @@ pub(crate) fn make_place(engine: &mut Engine, atom: u64) -> Result<(), AllocErro
 
 /// The highest level but that of the one literal that is of the highest level, where that one is alone: 0 where the
 /// clause has fewer than two literals.
-#[tactic(auto, using(crate::proofs::Highest::high_up_to))]
+#[tactic(auto, using(crate::proofs::Highest::lowest_two))]
 fn second_level(trail: &Trail, clause: &[Lit]) -> usize
-    ensures { IsHighUpTo trail.now.literals clause.now result }
+    ensures { IsLowest trail.now.literals clause.now result }
 {
     let Some(first) = highest_but(trail, clause, None) else {
         return 0;

@@ -1,4 +1,5 @@
-use Rattle.std.proofs.Common.{subst}
+use Rattle.std.proofs.Common.{◌∙◌, ap, subst}
+use Rattle.sb_clauses.specs.Propagation.{State}
 use Rattle.sb_trail.specs.Assignments.{Assignments, IsTrail}
 use Rattle.sb_search.proofs.Turns.{searching_after, below_lemma, below_back}
 use Rattle.sb_search.proofs.lemma.take_lemma.Goals as goal
@@ -14,6 +15,13 @@ returns-clause-searching g c = λ assumptions h.
     c.in_ok-keep.ensures.reserved c.in_ok-keep.ensures.room
     (below_lemma c.args.engine.now.kept (record { literals = c.args.clause.now; level = 0 })
     c.args.engine.now.trail.literals c.second_level-level.result is_trail.distinct
-    (rw (c.trail-trail.ensures, c.literals.ensures) at c.second_level-level.ensures)
+    (rw (c.trail-trail.ensures, c.literals.ensures) at c.second_level-level.ensures).two_below
     (below_back c.args.engine.now.kept c.args.engine.now.trail.literals c.second_level-level.result is_trail.levelled
     h.below)) h
+
+pub returns-clause-back : goal.returns-clause-back
+returns-clause-back g c = (
+  c.second_level-level.result,
+  rw (c.trail-trail.ensures, c.literals.ensures) at c.second_level-level.ensures,
+  c.in_ok-keep.ensures.literals ∙ ap (λ (s : State). s.trail.literals) c.go_back.ensures.engine,
+)

@@ -1,0 +1,8 @@
+use Rattle.sb_search.proofs.Highest.{lowest_one, lowest_none}
+use Rattle.sb_search.proofs.lemma.second_level.Goals as goal
+
+pub returns-in_default : goal.returns-in_default
+returns-in_default c = lowest_none c.args.trail.now.literals c.args.clause.now c.in_default.ensures
+
+pub returns-in-None : goal.returns-in-None
+returns-in-None c = lowest_one c.args.trail.now.literals c.args.clause.now c.in-Some.first c.in-None.ensures
