@@ -8,6 +8,8 @@
 #[cfg(test)]
 mod complements;
 #[cfg(test)]
+mod equalities;
+#[cfg(test)]
 mod faults;
 #[cfg(test)]
 mod hostile;

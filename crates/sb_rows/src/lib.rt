@@ -14,6 +14,8 @@ mod checks;
 #[cfg(test)]
 mod complements;
 #[cfg(test)]
+mod equalities;
+#[cfg(test)]
 mod errors;
 #[cfg(test)]
 mod faults;

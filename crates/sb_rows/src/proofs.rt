@@ -32,7 +32,7 @@ const ROWS: [Row; 4] = [
     (
         b"(set-option :print-success false)(declare-const x String)(declare-const y String)\
           (assert (str.in_re y (str.to_re \"bc\")))(check-sat)(assert (= x x))(check-sat)",
-        b"sat\nunsupported\nunsupported\n",
+        b"sat\nunsupported\n",
         b"strproof 1\nv sat w w62.63\nv unsupported\nend\n",
     ),
     APART,
