@@ -10,6 +10,7 @@ ghost use Rattle.sb_graph.specs.Findings.{is_marked, is_settled, KeepsMarks, IsG
 ghost use Rattle.sb_graph.specs.Witness.{IsFinding, MarksDead, ComesBefore, GoesOn, IsReachedBy, IfFound};
 ghost use Rattle.sb_graph.specs.Search.{IsSearched, HasCome, IsSearchEnd, IsVisited, AreMarked};
 ghost use Rattle.sb_witness.specs.Queue.{regex_of};
+ghost use Rattle.sb_witness.specs.Witness.{IsOutcome};
 
 use crate::search::{is_marked, mark, visit};
 use indexmap::IndexMap;
@@ -167,6 +168,61 @@ impl Graph {
             return self.finish(arena, &mut queue, root, place);
         }
         self.explore(arena, root)
+    }
+
+    /// The least of the shortest words of a regex's language, or that there is none: what `answer` finds. Where there is
+    /// no word, and the exploration has not come to its end within 2,000 regexes, a walk over members that comes to its
+    /// end within 8,000 states is believed: then no regex is marked, and a later call walks again. Else the cost is that of
+    /// `answer`, and of one such walk.
+    pub fn least_word(&mut self, arena: &mut Arena, root: RegexId) -> Result<Explored, AllocError>
+        requires known { root < length arena.old }
+        requires graph { IsGraph arena.old self.old }
+        ensures found { IfOk result (λ explored. IsFinding (language (regex_at arena.old root)) explored) }
+        ensures extends { Extends arena.old arena.new }
+        ensures graph { IsGraph arena.new self.new }
+        ensures marks_stay { KeepsMarks self.old.dead self.new.dead }
+        ensures derivatives_stay { KeepsEntries self.old.memo self.new.memo }
+    {
+        match self.answer_within(arena, root, FIRST)? {
+            Within::Found(explored) => Ok(explored),
+            Within::Limit => self.word_by_members(arena, root),
+        }
+    }
+
+    /// What `least_word` finds, by a walk over members, or else by `answer`.
+    fn word_by_members(&mut self, arena: &mut Arena, root: RegexId) -> Result<Explored, AllocError>
+        requires known { root < length arena.old }
+        requires graph { IsGraph arena.old self.old }
+        ensures found { IfOk result (λ explored. IsFinding (language (regex_at arena.old root)) explored) }
+        ensures extends { Extends arena.old arena.new }
+        ensures graph { IsGraph arena.new self.new }
+        ensures marks_stay { KeepsMarks self.old.dead self.new.dead }
+        ensures derivatives_stay { KeepsEntries self.old.memo self.new.memo }
+    {
+        let outcome = self.outcome_by_members(arena, root)?;
+        if let Outcome::Empty = outcome {
+            return Ok(Explored::Dead);
+        }
+        self.answer(arena, root)
+    }
+
+    /// What a walk over members finds.
+    fn outcome_by_members(
+        &mut self,
+        arena: &mut Arena,
+        root: RegexId,
+    ) -> Result<Outcome, AllocError>
+        requires known { root < length arena.old }
+        requires graph { IsGraph arena.old self.old }
+        ensures found { IfOk result (λ outcome. IsOutcome (language (regex_at arena.old root)) outcome) }
+        ensures extends { Extends arena.old arena.new }
+        ensures graph { IsGraph arena.new self.new }
+        ensures marks { self.new.dead ≡ self.old.dead }
+        ensures derivatives_stay { KeepsEntries self.old.memo self.new.memo }
+    {
+        let alloc = *self.dead.allocator();
+        let outcome = find_word(alloc, arena, &mut self.deriver, root, 4 * FIRST)?;
+        Ok(outcome)
     }
 
     /// What `answer` finds, as long as the exploration has not gone through so many regexes with more of them left. The
