@@ -87,7 +87,7 @@ const FUNCTIONS: [(&[u8], &str); 2] = [
 ];
 
 /// Scripts with assertions, and their answers, where each check finds unsat.
-const ASSERTIONS: [(&[u8], &str); 3] = [
+const ASSERTIONS: [(&[u8], &str); 5] = [
     (
         b"(declare-const x String) (assert (str.in_re x (re.range \"a\" \"b\"))) (assert (str.in_re y (re.range \"a\" \"b\"))) (assert x) (assert (re.+ x)) (assert let) (assert (re.+)) (assert) (check-sat) (exit)",
         "success success (error \"unknown symbol y\") (error \"wrong sort\") (error \"wrong sort\") (error \"malformed command\") (error \"malformed command\") (error \"malformed command\") unsat success",
@@ -95,6 +95,14 @@ const ASSERTIONS: [(&[u8], &str); 3] = [
     (
         b"(declare-const n Int) (assert (str.in_re n (re.range \"a\" \"b\"))) (declare-const n String) (assert (not true))",
         "unsupported unsupported (error \"already declared n\") unsupported",
+    ),
+    (
+        b"(declare-const x String) (declare-const y String) (assert (= x \"a\")) (assert (= \"a\" x)) (assert (= x y)) (assert (= \"a\" \"b\")) (check-sat)",
+        "success success success success success success unsat",
+    ),
+    (
+        b"(declare-const = String) (declare-fun |=| () String) (declare-const x String) (assert (= x)) (assert (= x re.all)) (assert (= x \"a\" \"b\")) (assert (= (str.in_re x re.all) (= x \"a\"))) (assert (= re.all re.all)) (assert =)",
+        "(error \"already declared =\") (error \"already declared =\") success (error \"wrong number of arguments\") (error \"wrong sort\") unsupported unsupported unsupported (error \"wrong number of arguments\")",
     ),
     (
         b"(get-model) (set-option :produce-models true) (get-model) (check-sat) (get-model)",

@@ -107,8 +107,33 @@ const FORMS: [(&[u8], &str); 73] = [
     (b"(\"a\" x)", "!malformed"),
 ];
 
+/// Equalities, and what they are read as.
+const EQUALITIES: [(&[u8], &str); 17] = [
+    (b"(= x \"a\")", "#0; 'a; (equal 0 1); 2"),
+    (b"(= \"a\" x)", "'a; #0; (equal 0 1); 2"),
+    (b"(|=| x |y z|)", "#0; #1; (equal 0 1); 2"),
+    (b"(= x x)", "#0; (equal 0 0); 1"),
+    (b"(= \"\" \"a\")", "'; 'a; (equal 0 1); 2"),
+    (b"(= x \"a\" \"b\")", "!unsupported"),
+    (
+        b"(= (str.in_re x re.all) (str.in_re |y z| re.all))",
+        "!unsupported",
+    ),
+    (b"(= re.all re.all)", "!unsupported"),
+    (b"(= x)", "!count"),
+    (b"=", "!count"),
+    (b"(= re.all)", "!count"),
+    (b"(= x re.all)", "!sort"),
+    (b"(= x \"a\" re.all)", "!sort"),
+    (b"(= x (= x \"a\"))", "!sort"),
+    (b"(= x \"a\" w)", "!unknown w"),
+    (b"(_ = 2)", "!index"),
+    (b"(distinct x \"a\")", "!unsupported"),
+];
+
 fn name_of(symbol: Symbol) -> &'static str {
     match symbol {
+        Symbol::Equal => "(equal",
         Symbol::StrInRe => "(in",
         Symbol::StrToRe => "(word",
         Symbol::ReRange => "(range",
@@ -286,6 +311,15 @@ fn reads_terms_or_their_first_faults(rt: HostRuntime) -> Result<(), Fail> {
     Ok(())
 }
 
+#[test]
+fn reads_equalities_of_two_words(rt: HostRuntime) -> Result<(), Fail> {
+    let scope = scope_of_tests(rt.alloc())?;
+    for (form, wanted) in EQUALITIES {
+        expect_answer(&rt, rt.alloc(), &scope, form, wanted)?;
+    }
+    Ok(())
+}
+
 /// A text as often as is said.
 fn push_often(form: &mut Vec<u8>, text: &[u8], times: usize) -> Result<(), AllocError> {
     for _ in 0..times {
@@ -390,6 +424,7 @@ fn declares_each_name_once(rt: HostRuntime) -> Result<(), Fail> {
     expect_declared(&rt, &mut scope, b"x", Err(DeclareError::AlreadyDeclared));
     expect_declared(&rt, &mut scope, b"m", Err(DeclareError::AlreadyDeclared));
     expect_declared(&rt, &mut scope, b"re.+", Err(DeclareError::AlreadyDeclared));
+    expect_declared(&rt, &mut scope, b"=", Err(DeclareError::AlreadyDeclared));
     expect_declared(
         &rt,
         &mut scope,
