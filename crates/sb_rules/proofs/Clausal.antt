@@ -8,12 +8,13 @@ use Rattle.std.proofs.lemmas.List.{length-map}
 use Rattle.sb_term.specs.Numbered.{term_at}
 use Rattle.sb_term.specs.declared.assertion.Assertion.{Assertion}
 use Rattle.sb_lang.specs.Regex.{Regex}
+use Rattle.sb_lang.specs.Normal.{word_regex}
 use Rattle.sb_lit.specs.declared.clause.Lit.{Lit}
 use Rattle.sb_lit.specs.Clauses.{is_same_literal}
 use Rattle.sb_meaning.specs.Terms.{Term, Terms, text, integer, boolean, reglan, constant, word, numeral, apply, parameter, no_terms, with_term}
 use Rattle.sb_meaning.specs.Terms as symbol
 use Rattle.sb_script.specs.Brought.{is_regex}
-use Rattle.sb_script.specs.Pieces.{Piece, constant_piece, word_piece, is_ground, single_pieces, are_single}
+use Rattle.sb_script.specs.Pieces.{Piece, constant_piece, word_piece, is_ground, single_pieces, are_single, ground_word}
 use Rattle.sb_rulebook.specs.Refusals.{Refusal, unknown_id, rule_broken}
 use Rattle.sb_rulebook.specs.Atoms.{AtomOver, bool_atom, in_atom, le_atom, sum_atom, and_atom, iff_atom, is_same_atom}
 use Rattle.sb_rulebook.specs.AtomRules.{is_known}
@@ -22,16 +23,16 @@ use Rattle.sb_rulebook.specs.ClauseRules.{is_translation, asserted}
 use Rattle.sb_rulebook.specs.Kept.{AllKept, Asked, with_clause}
 use Rattle.sb_rulebook.specs.Lines.{assertion_line}
 use Rattle.sb_rulebook.specs.Follows.{follows}
-use Rattle.sb_rulebook.specs.Parts.{regex_of}
-use Rattle.sb_rulebook.specs.Translation.{translation, membership, positive}
+use Rattle.sb_rulebook.specs.Parts.{together, regex_of}
+use Rattle.sb_rulebook.specs.Translation.{translation, membership, conjunction, positive}
 use Rattle.sb_atoms.specs.Numbered.{over, atoms_in}
 use Rattle.sb_atoms.specs.Translated.{brought_translation}
 use Rattle.sb_rules.specs.declared.kept.Kept.{Kept}
-use Rattle.sb_reached.specs.SimpleStates.{is_simple}
+use Rattle.sb_reached.specs.SimpleStates.{is_plain_text, is_simple}
 use Rattle.sb_rules.specs.Refuting.{IsFound}
 use Rattle.sb_rules.specs.Kept.{kept_in, live_in}
 
--- The translation of a term that may be asserted, over memberships of one constant.
+-- The translation of a term that may be asserted, over a table of memberships of one constant.
 
 abbrev starts_with_constant : List Piece → Bool
 starts_with_constant (constant_piece x ∷ ps) = true
@@ -87,6 +88,44 @@ word_pieces (c ∷ w) ps h = step (nat_le (length (c ∷ w)) 65535) h
 irregular : (R : Term) → is_ground R ≡ false → regex_of R ≡ None
 irregular R h = rw h refl
 
+-- the equality of two words is the membership of a word
+equal_words : (rs : List Regex) (atoms : List (AtomOver ℕ)) (v w : List ℕ) → list_all is_brought_atom atoms ≡ true
+    → translation (atoms_in rs atoms) (apply symbol.core_equal (with_term (word v) (with_term (word w) no_terms)))
+    ≡ None
+equal_words rs atoms v w b =
+    ap (λ o. option_and_then (conjunction (atoms_in rs atoms)) (together (o ∷ []))) (step (ground_word (word w)))
+  where
+    step : (o : Option (List ℕ))
+        → (elim o as (λ _. Option Lit) [
+          | Some u ↦ membership (atoms_in rs atoms) (word v) (Some (word_regex u))
+          | None ↦ membership (atoms_in rs atoms) (word w) (option_map word_regex (ground_word (word v)))
+        ]) ≡ None
+    step (Some u) = no_member rs atoms (single_pieces (word v)) (word_pieces v) b (Some (word_regex u))
+    step None =
+        no_member rs atoms (single_pieces (word w)) (word_pieces w) b (option_map word_regex (ground_word (word v)))
+
+-- of two constants there is no literal, and of a constant and a word the one that is brought
+equal_texts : (rs : List Regex) (atoms : List (AtomOver ℕ)) (t u : Term) → list_all is_brought_atom atoms ≡ true
+    → is_plain_text t ≡ true → is_plain_text u ≡ true
+    → translation (atoms_in rs atoms) (apply symbol.core_equal (with_term t (with_term u no_terms)))
+    ≡ brought_translation (atoms_in rs atoms) (apply symbol.core_equal (with_term t (with_term u no_terms)))
+equal_texts rs atoms (constant serial text) (constant other text) b h k = refl
+equal_texts rs atoms (constant serial text) (word w) b h k = refl
+equal_texts rs atoms (word v) (constant serial text) b h k = refl
+equal_texts rs atoms (word v) (word w) b h k = equal_words rs atoms v w b
+equal_texts rs atoms (constant _ boolean) u b h k = absurd (false≢true h)
+equal_texts rs atoms (constant _ integer) u b h k = absurd (false≢true h)
+equal_texts rs atoms (constant _ reglan) u b h k = absurd (false≢true h)
+equal_texts rs atoms (numeral _) u b h k = absurd (false≢true h)
+equal_texts rs atoms (apply _ _) u b h k = absurd (false≢true h)
+equal_texts rs atoms (parameter _ _) u b h k = absurd (false≢true h)
+equal_texts rs atoms t (constant _ boolean) b h k = absurd (false≢true k)
+equal_texts rs atoms t (constant _ integer) b h k = absurd (false≢true k)
+equal_texts rs atoms t (constant _ reglan) b h k = absurd (false≢true k)
+equal_texts rs atoms t (numeral _) b h k = absurd (false≢true k)
+equal_texts rs atoms t (apply _ _) b h k = absurd (false≢true k)
+equal_texts rs atoms t (parameter _ _) b h k = absurd (false≢true k)
+
 -- a term that may be asserted has no other translation than the one that is brought
 pub simple_translation : (rs : List Regex) (atoms : List (AtomOver ℕ)) (t : Term)
     → list_all is_brought_atom atoms ≡ true → is_simple t ≡ true
@@ -113,7 +152,13 @@ simple_translation rs atoms (apply symbol.core_or _) b h = absurd (false≢true 
 simple_translation rs atoms (apply symbol.core_implies _) b h = absurd (false≢true h)
 simple_translation rs atoms (apply symbol.core_xor _) b h = absurd (false≢true h)
 simple_translation rs atoms (apply symbol.core_ite _) b h = absurd (false≢true h)
-simple_translation rs atoms (apply symbol.core_equal _) b h = absurd (false≢true h)
+simple_translation rs atoms (apply symbol.core_equal no_terms) b h = absurd (false≢true h)
+simple_translation rs atoms (apply symbol.core_equal (with_term t no_terms)) b h = absurd (false≢true h)
+simple_translation rs atoms (apply symbol.core_equal (with_term t (with_term u no_terms))) b h =
+    let parts = and_parts (is_plain_text t) (is_plain_text u) h in
+    equal_texts rs atoms t u b parts.0 parts.1
+simple_translation rs atoms (apply symbol.core_equal (with_term t (with_term u (with_term _ _)))) b h =
+    absurd (false≢true h)
 simple_translation rs atoms (apply symbol.core_distinct _) b h = absurd (false≢true h)
 simple_translation rs atoms (apply symbol.at_most _) b h = absurd (false≢true h)
 simple_translation rs atoms (apply symbol.less _) b h = absurd (false≢true h)
