@@ -25,6 +25,9 @@ use std::marker::Model;
 /// How many states a walk over members and an exploration may expand in their first turns.
 const FIRST: usize = 2000;
 
+/// How many regexes an exploration may go through before a walk over members is believed that there is no word.
+const NEAR: usize = 100;
+
 /// From so many on there are no more turns.
 const LAST: usize = 1 << 40;
 
@@ -171,8 +174,8 @@ impl Graph {
     }
 
     /// The least of the shortest words of a regex's language, or that there is none: what `answer` finds. Where there is
-    /// no word, and the exploration has not come to its end within 2,000 regexes, a walk over members that comes to its
-    /// end within 8,000 states is believed: then no regex is marked, and a later call walks again. Else the cost is that of
+    /// no word, and the exploration has not come to its end within 100 regexes, a walk over members that comes to its end
+    /// within 8,000 states is believed: then no regex is marked, and a later call walks again. Else the cost is that of
     /// `answer`, and of one such walk.
     pub fn least_word(&mut self, arena: &mut Arena, root: RegexId) -> Result<Explored, AllocError>
         requires known { root < length arena.old }
@@ -183,7 +186,7 @@ impl Graph {
         ensures marks_stay { KeepsMarks self.old.dead self.new.dead }
         ensures derivatives_stay { KeepsEntries self.old.memo self.new.memo }
     {
-        match self.answer_within(arena, root, FIRST)? {
+        match self.answer_within(arena, root, NEAR)? {
             Within::Found(explored) => Ok(explored),
             Within::Limit => self.word_by_members(arena, root),
         }

@@ -37,6 +37,20 @@ pub fn answer(alloc: Global, arena: &mut Arena, root: RegexId) -> Result<Explore
     }
 }
 
+/// The least word by a graph that knows nothing, and how many regexes it expanded.
+pub fn least_word(
+    alloc: Global,
+    arena: &mut Arena,
+    root: RegexId,
+) -> Result<(Explored, usize), AllocError> {
+    if root.number() >= arena.len() {
+        return Err(AllocError);
+    }
+    let mut graph = new_graph(alloc, arena);
+    let explored = graph.least_word(arena, root)?;
+    Ok((explored, graph.expanded().len()))
+}
+
 fn is_word(explored: &Explored, codes: &[u32]) -> bool {
     match explored {
         Explored::Alive(word) => word.codes() == codes,

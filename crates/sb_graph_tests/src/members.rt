@@ -1,6 +1,6 @@
 //! Words that a walk over the members of unions finds, where the derivatives are many.
 
-use crate::explorations::answer;
+use crate::explorations::{answer, least_word};
 use sb_deriv::Deriver;
 use sb_graph::Explored;
 use sb_regex::{Arena, RegexId};
@@ -114,4 +114,55 @@ fn all_walk(
 #[test]
 fn a_walk_finds_the_word_or_none_or_meets_its_bound(rt: HostRuntime) -> Result<(), Fail> {
     Ok(all_walk(&rt, rt.alloc(), &ROWS)?)
+}
+
+/// `E*a E^n` and `E*b E^n`, with an a and a b in one place, or with b one place farther from the end.
+fn places(alloc: Global, arena: &mut Arena, n: u32, farther: bool) -> Result<RegexId, AllocError> {
+    let every = range(alloc, arena, 0, 0x2ffff)?;
+    let mut rest = arena.eps()?;
+    for _ in 0..n {
+        rest = cat(arena, every, rest)?;
+    }
+    let a = range(alloc, arena, 0x61, 0x61)?;
+    let one = cat(arena, a, rest)?;
+    if farther {
+        rest = cat(arena, every, rest)?;
+    }
+    let b = range(alloc, arena, 0x62, 0x62)?;
+    let other = cat(arena, b, rest)?;
+    let front = star(arena, every)?;
+    let one = cat(arena, front, one)?;
+    let other = cat(arena, front, other)?;
+    and(arena, &[one, other])
+}
+
+/// The length of the word that is found, a million for none.
+fn length_in(explored: &Explored) -> usize {
+    match explored {
+        Explored::Alive(word) => word.codes().len(),
+        Explored::Dead => 1000000,
+    }
+}
+
+fn expect_length(
+    rt: &impl Abort,
+    alloc: Global,
+    n: u32,
+    farther: bool,
+    length: usize,
+) -> Result<(), AllocError> {
+    let mut arena = Arena::new(alloc);
+    let root = places(alloc, &mut arena, n, farther)?;
+    let (explored, expanded) = least_word(alloc, &mut arena, root)?;
+    assert!(rt; length_in(&explored) == length);
+    assert!(rt; expanded <= 100);
+    Ok(())
+}
+
+#[test]
+fn that_there_is_no_word_is_seen_behind_many_derivatives(rt: HostRuntime) -> Result<(), Fail> {
+    expect_length(&rt, rt.alloc(), 2, false, 1000000)?;
+    expect_length(&rt, rt.alloc(), 20, false, 1000000)?;
+    expect_length(&rt, rt.alloc(), 20, true, 22)?;
+    Ok(())
 }
