@@ -7,11 +7,12 @@ use Rattle.sb_meaning.specs.Terms.{Term, Terms, constant, word, numeral, apply, 
 use Rattle.sb_meaning.specs.Values.{Valuation, Text, value_in}
 use Rattle.sb_meaning.specs.Truth.{Meaning, meaning_of, meanings_of, meaning_of_value, applied, holds, all_true, truth_in}
 use Rattle.sb_script.specs.Pieces.{is_ground, are_ground}
-use Rattle.sb_script.specs.Brought.{is_regex}
+use Rattle.sb_script.specs.Brought.{asked, membership_of, is_regex}
 use Rattle.sb_script.specs.Sizes.{is_regular}
 use Rattle.sb_script.specs.State.{Assertion, asserted}
-use Rattle.sb_fragment.specs.Memberships.{in_re}
+use Rattle.sb_script.proofs.CallerLemmas.{asked_holds}
 use Rattle.sb_fragment.specs.Rules.{is_decided}
+use Rattle.sb_fragment.proofs.CallerLemmas.{asked_decided}
 use Rattle.sb_eval.specs.Given.{GivesWords}
 use Rattle.sb_models.specs.Knowing.{is_true_under, IsTruthBy, word_at}
 use Rattle.sb_models.specs.Tried.{AreSame, MayPass}
@@ -47,16 +48,24 @@ mutual
 
 member_same : (v w : Valuation) (serial : ℕ) (R : Term) → is_ground R ≡ true
     → value_in v serial text ≡ value_in w serial text
-    → holds (in_re (constant serial text) R) v ≡ holds (in_re (constant serial text) R) w
+    → holds (membership_of serial R) v ≡ holds (membership_of serial R) w
 member_same v w serial R ground same =
     ap (λ (ms : List Meaning). all_true (truth_in (applied str_in_re ms)))
     (ap₂ (λ (m n : Meaning). m ∷ n ∷ []) (ap meaning_of_value same) (ground_same v w R ground))
 
-ground_in : (serial : ℕ) (R : Term) → is_decided (asserted (in_re (constant serial text) R)) ≡ true
+ground_in : (t : Term) (serial : ℕ) (R : Term) → asked t ≡ Some (serial, R) → is_decided (asserted t) ≡ true
     → is_ground R ≡ true
-ground_in serial R h =
-    let regular = (and_parts (is_regex R) (is_regular R) h).1 in
+ground_in t serial R is h =
+    let regular = (and_parts (is_regex R) (is_regular R) (sym (asked_decided t serial R is) ∙ h)).1 in
     (and_parts (is_ground R) _ regular).0
+
+-- a decided term that asks something of one constant's word says the same under values that give it the same word
+asked_same : (v w : Valuation) (t : Term) (serial : ℕ) (R : Term) → asked t ≡ Some (serial, R)
+    → is_decided (asserted t) ≡ true → value_in v serial text ≡ value_in w serial text → holds t v ≡ holds t w
+asked_same v w t serial R is decided same =
+    asked_holds t serial R is v
+    ∙ member_same v w serial R (ground_in t serial R is decided) same
+    ∙ sym (asked_holds t serial R is w)
 
 pub all_at : (test : Assertion → Bool) (xs : List Assertion) (place : ℕ) (x : Assertion) → list_all test xs ≡ true
     → slice_get xs place ≡ Some x → test x ≡ true
@@ -80,13 +89,9 @@ may_pass old new marks held assertions true_before decided words place t low at 
     all_at (is_true_under (values_from 0 old)) (take held assertions) place (asserted t)
     (sym (true_before (values_from 0 old) (words_given old))) (get_take assertions held place low ∙ at) in
     let one : is_decided (asserted t) ≡ true = all_at is_decided assertions place (asserted t) decided at in
-    let is : is_decided (asserted (in_re (constant m.serial text) m.regex)) ≡ true =
-    ap (λ u. is_decided (asserted u)) (sym m.is) ∙ one in
     let value : value_in v m.serial text ≡ value_in (values_from 0 old) m.serial text =
     gives m.serial ∙ (ap Text (sym (words m.serial m.same)) ∙ sym (words_given old m.serial)) in
-    ap (λ u. holds u v) m.is
-    ∙ (member_same v (values_from 0 old) m.serial m.regex (ground_in m.serial m.regex is) value
-    ∙ (ap (λ u. holds u (values_from 0 old)) (sym m.is) ∙ before))
+    asked_same v (values_from 0 old) t m.serial m.regex m.is one value ∙ before
 
 -- the same, of words and a number that are read out of where they are kept
 pub may_pass_of : (old o new n : List (List ℕ)) (marks : ℕ → Bool) (held h : ℕ) (assertions : List Assertion)

@@ -3,11 +3,11 @@ use Rattle.std.specs.Prelude.{◌≡◌, ◌==◌, ℕ, ◌<◌, Bool, true, fal
 use Rattle.std.specs.HashSet.{HashSet, contains}
 use Rattle.std.specs.List.{list_all}
 use Rattle.sb_word.specs.Words.{are_characters}
-use Rattle.sb_meaning.specs.Terms.{Term, text, constant}
+use Rattle.sb_meaning.specs.Terms.{Term, text}
 use Rattle.sb_meaning.specs.Values.{Value, Valuation, Text, Int, Truth, value_in}
 use Rattle.sb_meaning.specs.Truth.{holds}
+use Rattle.sb_script.specs.Brought.{asked}
 use Rattle.sb_script.specs.State.{Assertion, asserted}
-use Rattle.sb_fragment.specs.Memberships.{in_re}
 use Rattle.sb_eval.specs.Given.{GivesWords}
 use Rattle.sb_term.specs.declared.term.Serial.{Serial}
 use Rattle.sb_proof.specs.declared.line.Value as code
@@ -102,11 +102,11 @@ IsPut place w old new = (serial : ℕ) → word_at new serial ≡ (if place == s
 abbrev pub HasWordAt : ℕ → List (List ℕ) → List (List ℕ) → Type 0
 HasWordAt place old new = (place < length new) × ((serial : ℕ) → word_at new serial ≡ word_at old serial)
 
--- the term is the membership of a constant whose serial is not marked
+-- the term asks something of the word of one constant alone, whose serial is not marked
 pub record IsOfSame (marks : ℕ → Bool) (t : Term) : Type 0 where
   pub serial : ℕ
   pub regex : Term
-  pub is : t ≡ in_re (constant serial text) regex
+  pub is : asked t ≡ Some (serial, regex)
   pub same : marks serial ≡ false
 
 -- what stands at such a place, and is of a constant with the same word, is true where the constants have these words

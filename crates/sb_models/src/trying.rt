@@ -40,7 +40,7 @@ pub(crate) fn fits(
     }
 }
 
-/// Whether the term is the membership of a constant whose word is not said to be another one.
+/// Whether the term asks something of the word of one constant alone, whose word is not said to be another one.
 fn is_of_same(table: &Table, id: TermId, changed: &HashSet<u64>) -> bool
     requires { id < length table.now }
     ensures { result ≡ true → IsOfSame (marks_of changed.now) (term_at table.now id) }
