@@ -1,6 +1,6 @@
 //! Worked searches.
 
-use crate::runs::{End, Outcome, Question, given, plain};
+use crate::runs::{End, Outcome, Question, again, given, plain};
 use crate::theories::Asked;
 use sb_proof::{MemTape, TapeFault};
 use std::alloc::Global;
@@ -154,7 +154,7 @@ const ROWS: [Row; 14] = [
         &[],
         9,
         (End::Unsat, 6, 7, 4, 0),
-        b"c learn +1 : 0 1\nc learn : 2 3 4\n",
+        b"c step +1 +2\nc step +1 -2\nc learn +1 : 0 1\nc step -1 +2\nc step -1 -2\nc learn : 2 3 4\n",
     ),
     (
         With::Given,
@@ -165,7 +165,7 @@ const ROWS: [Row; 14] = [
         &[],
         9,
         (End::Sat, 1, 4, 1, 0),
-        b"",
+        b"c step -2\n",
     ),
     (
         With::Given,
@@ -225,6 +225,7 @@ fn is_wanted(
         spent,
         asked: Asked { all, last },
         literals,
+        replayed: true,
     };
     assert_eq!(rt; outcome, wanted);
     assert!(rt; tape.bytes() == lines);
@@ -267,9 +268,24 @@ fn is_spent_at_each(rt: &impl Abort, alloc: Global) -> Result<(), TapeFault> {
     Ok(())
 }
 
+/// Expects that a core rests on a clause of level 1, goes with it, and that the next search has values then.
+fn goes_with_its_level(rt: &impl Abort, alloc: Global) -> Result<(), TapeFault> {
+    let question = Question {
+        atoms: 3,
+        clauses: &[[-1, 2, 0]],
+        lemmas: &[[-2, 3, 0]],
+        wishes: &[],
+        assumptions: &[1, -3],
+    };
+    let ends = again(alloc, &question, 9)?;
+    assert!(rt; ends == Some((End::Unsat, End::Sat, true)));
+    Ok(())
+}
+
 #[test]
 fn searches_come_to_what_is_wanted(rt: HostRuntime) -> Result<(), Fail> {
     all_are_wanted(&rt, rt.alloc())?;
     is_spent_at_each(&rt, rt.alloc())?;
+    goes_with_its_level(&rt, rt.alloc())?;
     Ok(())
 }

@@ -3,8 +3,10 @@
 ghost use Rattle.std.specs.Prelude.{◌≡◌, []};
 ghost use Rattle.sb_analyze.specs.Reasons.{AreReasoned};
 
+use crate::replayed::{copy, replays};
 use crate::theories::{Asked, Given, NOTHING, Plain};
 use sb_clauses::Engine;
+use sb_hints::KeptClauses;
 use sb_lit::{Budget, Clause, Lit};
 use sb_proof::{MemTape, TapeFault};
 use sb_search::{Found, Theory, search};
@@ -29,14 +31,15 @@ pub struct Question<'a> {
     pub assumptions: &'a [i8],
 }
 
-/// What a search came to: how it ended, how many steps it took, what it asked, and how long the clause is that was
-/// found.
+/// What a search came to: how it ended, how many steps it took, what it asked, how long the clause is that was found,
+/// and whether its lines are those of the clauses that were kept, each of which follows.
 #[derive(Clone, Copy, Debug, PartialEq, Eq)]
 pub struct Outcome {
     pub end: End,
     pub spent: u64,
     pub asked: Asked,
     pub literals: usize,
+    pub replayed: bool,
 }
 
 /// The literal of a number as DIMACS writes it: 1 is the atom 1, and -1 its negation.
@@ -73,13 +76,13 @@ fn clause(alloc: Global, numbers: &[i8]) -> Result<Clause, AllocError> {
     Ok(Clause::from_literals(literals(alloc, numbers)?))
 }
 
-/// Keeps a clause for each row.
-fn fill(alloc: Global, engine: &mut Engine, rows: &[[i8; 3]]) -> Result<(), AllocError>
+/// Keeps a clause for each row, at the level.
+fn fill(alloc: Global, engine: &mut Engine, rows: &[[i8; 3]], level: u64) -> Result<(), AllocError>
     requires { engine.old.trail.literals ≡ [] }
     ensures { engine.new.trail.literals ≡ [] }
 {
     for row in rows {
-        engine.add(&clause(alloc, row)?, 0)?;
+        engine.add(&clause(alloc, row)?, level)?;
     }
     Ok(())
 }
@@ -114,28 +117,33 @@ fn atoms(alloc: Global, most: u64) -> Result<Vec<u64>, AllocError> {
     Ok(atoms)
 }
 
-/// Searches, and says how it ended, how many steps it took, and how long the clause is.
+/// Searches, and says how it ended, how many steps it took, how long the clause is, and whether its lines are those of
+/// the clauses that were kept.
 fn finds<T: Theory>(
     alloc: Global,
     theory: &mut T,
     engine: &mut Engine,
+    kept: &mut KeptClauses,
     tape: &mut MemTape,
     assumptions: &[Lit],
     budget: &mut Budget,
-) -> Result<(End, u64, usize), TapeFault>
+) -> Result<(End, u64, usize, bool), TapeFault>
     requires reasoned { AreReasoned engine.old.kept [] engine.old.trail.literals }
     requires stands { T.stands theory.old engine.old.trail.literals }
 {
+    copy(engine.clauses(), kept)?;
     let found = search(alloc, theory, engine, tape, assumptions, budget)?;
     let spent = budget.spent();
+    let replayed = replays(alloc, kept, tape.bytes(), engine.clauses())?;
     match found {
-        Found::Sat => Ok((End::Sat, spent, 0)),
+        Found::Sat => Ok((End::Sat, spent, 0, replayed)),
         Found::Unsat(id) => Ok((
             End::Unsat,
             spent,
             engine.clauses().literals(id).map_or(0, |all| all.len()),
+            replayed,
         )),
-        Found::Spent => Ok((End::Spent, spent, 0)),
+        Found::Spent => Ok((End::Spent, spent, 0, replayed)),
     }
 }
 
@@ -144,22 +152,92 @@ fn finds_plain(
     alloc: Global,
     engine: &mut Engine,
     theory: &mut Plain,
+    kept: &mut KeptClauses,
     tape: &mut MemTape,
     question: &Question,
     budget: &mut Budget,
 ) -> Result<Outcome, TapeFault>
     requires { engine.old.trail.literals ≡ [] }
 {
-    fill(alloc, engine, question.clauses)?;
-    fill(alloc, engine, question.lemmas)?;
+    fill(alloc, engine, question.clauses, 0)?;
+    fill(alloc, engine, question.lemmas, 0)?;
     let assumptions = literals(alloc, question.assumptions)?;
-    let (end, spent, literals) = finds(alloc, theory, engine, tape, &assumptions, budget)?;
+    let (end, spent, literals, replayed) = finds(
+        alloc,
+        theory,
+        engine,
+        kept,
+        tape,
+        &assumptions,
+        budget,
+    )?;
     Ok(Outcome {
         end,
         spent,
         asked: theory.asked,
         literals,
+        replayed,
     })
+}
+
+/// Searches, and once more without the clauses above level 0, where nothing is true at level 0 any more. Says how the
+/// searches ended, and whether their lines are those of the clauses that were kept.
+fn finds_again(
+    alloc: Global,
+    engine: &mut Engine,
+    theory: &mut Plain,
+    kept: &mut KeptClauses,
+    kept_again: &mut KeptClauses,
+    tape: &mut MemTape,
+    tape_again: &mut MemTape,
+    question: &Question,
+    budget: &mut Budget,
+) -> Result<Option<(End, End, bool)>, TapeFault>
+    requires { engine.old.trail.literals ≡ [] }
+{
+    fill(alloc, engine, question.clauses, 0)?;
+    fill(alloc, engine, question.lemmas, 1)?;
+    let assumptions = literals(alloc, question.assumptions)?;
+    let (begun, _, _, is_same) = finds(alloc, theory, engine, kept, tape, &assumptions, budget)?;
+    engine.backtrack(0);
+    if !engine.trail().literals().is_empty() {
+        return Ok(None);
+    }
+    engine.drop_above(0);
+    let (ended, _, _, is_same_again) = finds(
+        alloc,
+        theory,
+        engine,
+        kept_again,
+        tape_again,
+        &assumptions,
+        budget,
+    )?;
+    Ok(Some((begun, ended, is_same && is_same_again)))
+}
+
+/// What two searches come to, of which the first one has the lemmas as clauses of level 1, and the second one does not
+/// have them.
+pub fn again(
+    alloc: Global,
+    question: &Question,
+    limit: u64,
+) -> Result<Option<(End, End, bool)>, TapeFault> {
+    let mut theory = Plain {
+        atoms: atoms(alloc, question.atoms)?,
+        asked: NOTHING,
+    };
+    finds_again(
+        alloc,
+        &mut Engine::new(alloc),
+        &mut theory,
+        &mut KeptClauses::new(alloc),
+        &mut KeptClauses::new(alloc),
+        &mut MemTape::new(alloc),
+        &mut MemTape::new(alloc),
+        question,
+        &mut Budget::new(limit),
+    )
 }
 
 /// What a search comes to that has the lemmas as clauses, and nobody to ask for literals.
@@ -177,6 +255,7 @@ pub fn plain(
         alloc,
         &mut Engine::new(alloc),
         &mut theory,
+        &mut KeptClauses::new(alloc),
         tape,
         question,
         &mut Budget::new(limit),
@@ -188,20 +267,30 @@ fn finds_given(
     alloc: Global,
     engine: &mut Engine,
     theory: &mut Given,
+    kept: &mut KeptClauses,
     tape: &mut MemTape,
     question: &Question,
     budget: &mut Budget,
 ) -> Result<Outcome, TapeFault>
     requires { engine.old.trail.literals ≡ [] }
 {
-    fill(alloc, engine, question.clauses)?;
+    fill(alloc, engine, question.clauses, 0)?;
     let assumptions = literals(alloc, question.assumptions)?;
-    let (end, spent, literals) = finds(alloc, theory, engine, tape, &assumptions, budget)?;
+    let (end, spent, literals, replayed) = finds(
+        alloc,
+        theory,
+        engine,
+        kept,
+        tape,
+        &assumptions,
+        budget,
+    )?;
     Ok(Outcome {
         end,
         spent,
         asked: theory.asked,
         literals,
+        replayed,
     })
 }
 
@@ -223,6 +312,7 @@ pub fn given(
         alloc,
         &mut Engine::new(alloc),
         &mut theory,
+        &mut KeptClauses::new(alloc),
         tape,
         question,
         &mut Budget::new(limit),

@@ -8,13 +8,13 @@ ghost use Rattle.sb_lit.specs.declared.clause.Lit.{Lit as TheLit};
 ghost use Rattle.sb_lit.specs.Kept.{Kept};
 ghost use Rattle.sb_trail.specs.declared.assigned.Assigned.{Assigned};
 ghost use Rattle.sb_trail.specs.Assignments.{held};
-ghost use Rattle.sb_search.specs.Asking.{Measure, IsFair, Falls};
-ghost use Rattle.sb_search.specs.declared.theory.Checked.TheVariants.{Spent};
+ghost use Rattle.sb_search.specs.Asking.{Measure, IsFair, Falls, CountsFaults};
+ghost use Rattle.sb_search.specs.declared.theory.Checked.TheVariants.{Fine, Spent};
 ghost use Rattle.sb_searches_tests.specs.Given.{IsOneOf};
 
 use sb_clauses::Clauses;
 use sb_lit::{Budget, Clause, Lit};
-use sb_proof::{Tape, TapeFault};
+use sb_proof::{Line, Rule, Tape, TapeFault};
 use sb_search::{Checked, Theory};
 use sb_trail::Trail;
 use std::alloc::{AllocError, Global};
@@ -120,12 +120,12 @@ impl Theory for Given {
         trail: &Trail,
         _clauses: &Clauses,
         last: bool,
-        _tape: &mut L,
+        tape: &mut L,
         budget: &mut Budget,
     ) -> Result<Checked, TapeFault> {
         self.asked = self.asked.more(last);
         if let Some(lemma) = false_one(self.alloc, trail, &self.lemmas)? {
-            return Ok(paid(lemma, budget));
+            return paid(self.alloc, lemma, tape, budget);
         }
         Ok(wish(trail, &mut self.wishes))
     }
@@ -167,21 +167,38 @@ fn is_false(trail: &Trail, literals: &[Lit]) -> bool
     true
 }
 
-/// A lemma for a step.
-fn paid(lemma: Clause, budget: &mut Budget) -> Checked
+/// A lemma for a step, with its line.
+fn paid<L: Tape>(
+    alloc: Global,
+    lemma: Clause,
+    tape: &mut L,
+    budget: &mut Budget,
+) -> Result<Checked, TapeFault>
     ensures limit { budget.new.limit ≡ budget.old.limit }
     ensures spends { budget.old.spent ≤ budget.new.spent }
     ensures within { budget.old.spent < budget.new.spent → budget.new.spent ≤ budget.new.limit }
-    ensures fair { (entries : List Assigned) (lemmas : List (List TheLit)) → is_false_clause (held entries) lemma ≡ true
-        → IsOneOf lemmas lemma → IsFair (λ _. true) (IsOneOf lemmas) entries result }
-    ensures spent { result ≡ Spent → budget.new.spent ≡ budget.new.limit }
-    ensures falls { (old new : Measure) (kept : Kept) (entries : List Assigned)
-        → budget.new.spent ≡ budget.old.spent → Falls old new kept entries result }
+    ensures fair { IfOk result (λ answer. (entries : List Assigned) (lemmas : List (List TheLit))
+        → is_false_clause (held entries) lemma ≡ true → IsOneOf lemmas lemma
+        → IsFair (λ _. true) (IsOneOf lemmas) entries answer) }
+    ensures not_fine { IfOk result (λ answer. answer ≢ Fine) }
+    ensures spent { IfOk result (λ answer. answer ≡ Spent → budget.new.spent ≡ budget.new.limit) }
+    ensures falls { IfOk result (λ answer. (old new : Measure) (kept : Kept) (entries : List Assigned)
+        → budget.new.spent ≡ budget.old.spent → Falls old new kept entries answer) }
+    ensures counts { CountsFaults result (L.Tape.faults tape.old) (L.Tape.faults tape.new) }
 {
     if budget.tick().is_err() {
-        return Checked::Spent;
+        return Ok(Checked::Spent);
     }
-    Checked::Lemma(lemma)
+    put_lemma(alloc, &lemma, tape)?;
+    Ok(Checked::Lemma(lemma))
+}
+
+/// Puts the line of a lemma.
+fn put_lemma<L: Tape>(alloc: Global, lemma: &Clause, tape: &mut L) -> Result<(), TapeFault>
+    ensures counts { CountsFaults result (L.Tape.faults tape.old) (L.Tape.faults tape.new) }
+{
+    let literals = Vec::from_slice(alloc, lemma.literals())?;
+    tape.put(&Line::Rule(Rule::Step, literals))
 }
 
 /// The next literal that is asked for, where it has no value.
