@@ -83,7 +83,8 @@ module _ (values : ℕ → Bool) where
   hints_hold kept bound (id ∷ ids) hints all h low =
       step (λ others rest low. hints_hold kept bound ids others all rest low) (kept_at kept id) refl h
     where
-      by : OthersHold kept bound ids → (first : KeptClause) (o : Option (List KeptClause)) → kept_at kept id ≡ Some first → hinted kept ids ≡ o
+      by : OthersHold kept bound ids → (first : KeptClause) (o : Option (List KeptClause))
+          → kept_at kept id ≡ Some first → hinted kept ids ≡ o
           → option_map (λ clauses. first ∷ clauses) o ≡ Some hints
           → list_all (λ (c : KeptClause). clause_holds values c.literals) hints ≡ true
       by again first None there rest h = absurd (Prim.cc (h))
