@@ -4,30 +4,23 @@ use Rattle.std.proofs.lemmas.Bool.{and_parts, and_from, or_parts, false≢true, 
 use Rattle.std.specs.List.{list_any}
 use Rattle.sb_lang.specs.Languages.{Language}
 use Rattle.sb_lang.specs.Least.{IsShortestLeast}
-use Rattle.sb_meaning.specs.Terms.{Term, Sort, boolean, integer, text, reglan, constant, apply, no_terms, with_term, str_in_re, core_not}
+use Rattle.sb_meaning.specs.Terms.{Term, Sort, boolean, integer, text, reglan}
 use Rattle.sb_meaning.specs.Values.{Value, Text, value_in, is_of as has_sort}
 use Rattle.sb_meaning.specs.Truth.{all_hold}
 use Rattle.sb_script.specs.Scopes.{Constant}
 use Rattle.sb_script.specs.State.{fits}
-use Rattle.sb_script.specs.Models.{occurs, is_default, is_default_or_occurs, are_defaults, is_of, is_about, about, words_for}
+use Rattle.sb_script.specs.Models.{occurs, is_default, is_default_or_occurs, are_defaults}
 use Rattle.sb_stack.specs.Stacked.{values_at}
-use Rattle.sb_decide.specs.Deciding.{word_at}
+use Rattle.sb_decide.specs.Deciding.{asking, words_asked, word_at}
+use Rattle.sb_decide.proofs.AskingTerms.{occurs_not}
 
-not_of : (n : ℕ) (t : Term) → occurs n t ≡ false → is_of n t ≡ false
-not_of n (apply str_in_re (with_term (constant other sort) (with_term R no_terms))) h = (or_parts (n == other) _ h).0
-not_of n t h = refl
+asking_none : (n : ℕ) (ts : List Term) → list_any (occurs n) ts ≡ false → asking n ts ≡ []
+asking_none n [] h = refl
+asking_none n (t ∷ ts) h = let parts = or_parts (occurs n t) (list_any (occurs n) ts) h in
+    rw (occurs_not n t parts.0) (asking_none n ts parts.1)
 
-not_about : (n : ℕ) (t : Term) → occurs n t ≡ false → is_about n t ≡ false
-not_about n (apply core_not (with_term t no_terms)) h = not_of n t (or_parts (occurs n t) false h).0
-not_about n t h = not_of n t h
-
-about_none : (n : ℕ) (ts : List Term) → list_any (occurs n) ts ≡ false → about n ts ≡ []
-about_none n [] h = refl
-about_none n (t ∷ ts) h = let parts = or_parts (occurs n t) (list_any (occurs n) ts) h in
-    rw (not_about n t parts.0) (about_none n ts parts.1)
-
-words_all : (n : ℕ) (ts : List Term) → list_any (occurs n) ts ≡ false → (w : List ℕ) → words_for n ts w ≡ true
-words_all n ts h w = ap (λ (us : List Term). all_hold us ((n, Text w) ∷ [])) (about_none n ts h)
+words_all : (n : ℕ) (ts : List Term) → list_any (occurs n) ts ≡ false → (w : List ℕ) → words_asked n ts w ≡ true
+words_all n ts h w = ap (λ (us : List Term). all_hold us ((n, Text w) ∷ [])) (asking_none n ts h)
 
 empty_least : (language : Language) (w : List ℕ) → ((v : List ℕ) → language v ≡ true) → IsShortestLeast language w
     → w ≡ []
@@ -49,14 +42,14 @@ value_empty (m ∷ serials) words n h = by_test (m == n) refl (value_empty seria
     by_test false k later = later
 
 one_default : (ts : List Term) (serials : List ℕ) (words : List (List ℕ)) (c : Constant)
-    → ((n : ℕ) → IsShortestLeast (words_for n ts) (word_at words n)) → c.sort ≡ text
+    → ((n : ℕ) → IsShortestLeast (words_asked n ts) (word_at words n)) → c.sort ≡ text
     → is_default_or_occurs ts (values_at serials words) c ≡ true
 one_default ts serials words c least kind =
     let stands = list_any (occurs c.serial) ts in
     ap (λ (sort : Sort). stands || is_default (value_in (values_at serials words) c.serial sort)) kind
     ∙ default_or stands (value_in (values_at serials words) c.serial text)
     (λ none. value_empty serials words c.serial
-    (empty_least (words_for c.serial ts) (word_at words c.serial) (words_all c.serial ts none) (least c.serial)))
+    (empty_least (words_asked c.serial ts) (word_at words c.serial) (words_all c.serial ts none) (least c.serial)))
 
 is_text : (sort : Sort) (w : List ℕ) → has_sort sort (Text w) ≡ true → sort ≡ text
 is_text text w h = refl
@@ -66,7 +59,7 @@ is_text reglan w h = absurd (false≢true h)
 
 -- values that fit, of the constants of some of these serials
 pub default_values : (cs : List Constant) (ts : List Term) (serials some : List ℕ) (words : List (List ℕ))
-    → ((n : ℕ) → IsShortestLeast (words_for n ts) (word_at words n)) → fits cs (values_at some words) ≡ true
+    → ((n : ℕ) → IsShortestLeast (words_asked n ts) (word_at words n)) → fits cs (values_at some words) ≡ true
     → are_defaults cs ts (values_at serials words) ≡ true
 default_values [] ts serials some words least h = refl
 default_values (c ∷ cs) ts serials [] words least h = absurd (false≢true h)

@@ -1,6 +1,6 @@
 -- What is known of the assertions so far, as more of it becomes known.
 use Rattle.std.proofs.Common.{◌≡◌, ◌≢◌, ℕ, zero, suc, ◌<◌, ◌≤◌, Bool, true, false, ◌&&◌, ◌==◌, nat_lt, List, [], ◌∷◌, ◌++◌, length, get_or, map, take, refl, sym, ap, ◌∙◌, arith, Option, Some, None, IfSome, length-append, if◌then◌else◌, subst, vec_len}
-use Rattle.std.proofs.lemmas.Bool.{and_parts, eqb-false}
+use Rattle.std.proofs.lemmas.Bool.{eqb-false}
 use Rattle.std.proofs.lemmas.Bool.Decides.{nat_tests}
 use Rattle.std.proofs.lemmas.List.{get_or_append_left, nil_from_length}
 use Rattle.std.proofs.lemmas.List.Elements.{All-push, All-nil}
@@ -27,20 +27,21 @@ use Rattle.sb_term.specs.Serials.{has_serials_below, all_below}
 use Rattle.sb_term.proofs.CallerLemmas as table_facts
 use Rattle.sb_script.specs.State.{Assertion, asserted, a_mark}
 use Rattle.sb_script.specs.Fragment.{fits}
-use Rattle.sb_script.specs.Brought.{is_regex, is_membership}
+use Rattle.sb_script.specs.Brought.{asked, is_regex}
 use Rattle.sb_script.specs.Sizes.{is_regular}
 use Rattle.sb_fragment.specs.declared.measure.Measure.{Measure}
 use Rattle.sb_fragment.specs.Measures.{AreMeasures}
 use Rattle.sb_fragment.specs.Rules.{is_decided}
-use Rattle.sb_fragment.proofs.CallerLemmas.{measures_kept, no_measures}
+use Rattle.sb_fragment.proofs.CallerLemmas.{measures_kept, no_measures, asked_decided}
 use Rattle.sb_stack.specs.Stacked.{Stacked, assertion_in, assertion_of, HasNumberBelow, IsLonger}
 use Rattle.sb_decide.specs.declared.conjuncts.Member.{Member}
 use Rattle.sb_decide.specs.declared.decide.Decider.{Decider}
 use Rattle.sb_decide.specs.Conjoined.{Conjoined, conjoined_at, without_last, OthersSettled, HasRoom, IsChangedAt}
-use Rattle.sb_decide.specs.Deciding.{in_each, word_at, membership_of}
+use Rattle.sb_decide.specs.Deciding.{in_each, word_at}
 use Rattle.sb_decide.specs.Knowing.{IsTaken, AreKept, Knows, places_of}
 use Rattle.sb_decide.specs.Members.{IsMember, AreMembers, AreRooted, IsEmptyAt, ids_in, places_in, words_in}
 use Rattle.sb_decide.specs.Taking.{StayKept, other_dead}
+use Rattle.sb_decide.proofs.AskingTerms.{asks_nothing, asking_below}
 use Rattle.sb_decide.proofs.Conjunctions.{same_least, least_of_all}
 use Rattle.sb_decide.proofs.Constants.{other_than, places_put, places_back}
 use Rattle.sb_decide.proofs.MemberFacts.{members_grown, members_told, members_longer, members_left, members_pushed, members_popped, ids_other, words_grown, words_same, empty_grown, empty_pushed, empty_popped}
@@ -272,22 +273,22 @@ pub mark_outside : (ts : List Term) (xs : List code.Assertion) (i : ℕ) (x : co
 mark_outside ts xs i x low is none =
     one_outside ts xs i x low is (ap (λ o. is_decided (assertion_of ts o)) none)
 
--- the assertion is no membership
+-- the assertion asks nothing of one constant's word alone
 pub other_outside : (ts : List Term) (xs : List code.Assertion) (i id : ℕ) (x : code.Assertion) → i < length xs
-    → x ≡ get_or xs i x → x.term ≡ Some id → is_membership (term_at ts id) ≡ false →
+    → x ≡ get_or xs i x → x.term ≡ Some id → asked (term_at ts id) ≡ None →
     list_all is_decided (map (assertion_in ts) xs) ≡ false
 other_outside ts xs i id x low is there none =
     one_outside ts xs i x low is (ap (λ o. is_decided (assertion_of ts o)) there
-    ∙ ap (λ b. b && fits (term_at ts id)) none)
+    ∙ ap (λ b. b && fits (term_at ts id)) (asks_nothing (term_at ts id) none))
 
 decided_of : (ts : List Term) (x : code.Assertion) (id serial : ℕ) (R : Term) → x.term ≡ Some id
-    → term_at ts id ≡ membership_of serial R → is_decided (assertion_in ts x) ≡ (is_regex R && is_regular R)
-decided_of ts x id serial R there is =
-    ap (λ o. is_decided (assertion_of ts o)) there ∙ ap (λ t. is_decided (asserted t)) is
+    → asked (term_at ts id) ≡ Some (serial, R) → is_decided (assertion_in ts x) ≡ (is_regex R && is_regular R)
+decided_of ts x id serial R there asks =
+    ap (λ o. is_decided (assertion_of ts o)) there ∙ asked_decided (term_at ts id) serial R asks
 
 -- the regular expression is no regular one within the limits
 pub size_outside : (ts : List Term) (xs : List code.Assertion) (i id serial : ℕ) (R : Term) (x : code.Assertion)
-    → i < length xs → x ≡ get_or xs i x → x.term ≡ Some id → term_at ts id ≡ membership_of serial R →
+    → i < length xs → x ≡ get_or xs i x → x.term ≡ Some id → asked (term_at ts id) ≡ Some (serial, R) →
     is_regular R ≡ false → list_all is_decided (map (assertion_in ts) xs) ≡ false
 size_outside ts xs i id serial R x low is there member none =
     one_outside ts xs i x low is (decided_of ts x id serial R there member
@@ -299,19 +300,21 @@ size_outside ts xs i id serial R x low is there member none =
 
 -- the regular expression is none over literals
 pub regex_outside : (ts : List Term) (xs : List code.Assertion) (i id serial : ℕ) (R : Term) (x : code.Assertion)
-    → i < length xs → x ≡ get_or xs i x → x.term ≡ Some id → term_at ts id ≡ membership_of serial R →
+    → i < length xs → x ≡ get_or xs i x → x.term ≡ Some id → asked (term_at ts id) ≡ Some (serial, R) →
     is_regex R ≡ false → list_all is_decided (map (assertion_in ts) xs) ≡ false
 regex_outside ts xs i id serial R x low is there member none =
     one_outside ts xs i x low is (decided_of ts x id serial R there member ∙ ap (λ b. b && is_regular R) none)
 
 pub is_member : (rs : List Regex) (ts : List Term) (xs : List code.Assertion) (i : ℕ) (x : code.Assertion)
-    (m : Member) (id term : ℕ) → All (HasNumberBelow (length ts)) xs → i < length xs → x ≡ get_or xs i x →
-    x.term ≡ Some id → term_at ts id ≡ membership_of m.serial.0 (term_at ts term) →
-    is_regular (term_at ts term) ≡ true → IsRegexOf rs (term_at ts term) m.regex → IsMember rs ts m x
-is_member rs ts xs i x m id term numbers low at there is regular regex = record {
-  term = term_at ts term;
+    (m : Member) (id : ℕ) (R : Term) → All (HasNumberBelow (length ts)) xs → i < length xs → x ≡ get_or xs i x →
+    x.term ≡ Some id → asked (term_at ts id) ≡ Some (m.serial.0, R) → is_regular R ≡ true →
+    IsRegexOf rs R m.regex → IsMember rs ts m x
+is_member rs ts xs i x m id R numbers low at there asks regular regex = record {
+  term = term_at ts id;
+  wanted = R;
   number = rw at (numbers i x low);
-  is = ap (assertion_of ts) there ∙ ap asserted is;
+  is = ap (assertion_of ts) there;
+  asks = asks;
   regular = regular;
   regex = regex;
 }
@@ -331,13 +334,12 @@ below_in n ts a (Some id) h l is t e =
     same_term t u e = cc
 
 pub serial_within : (n : ℕ) (ts : List Term) (xs : List code.Assertion) (i : ℕ) (x : code.Assertion)
-    (id serial term : ℕ) → all_below n ts ≡ true → All (HasNumberBelow (length ts)) xs → i < length xs →
-    x ≡ get_or xs i x → x.term ≡ Some id → term_at ts id ≡ membership_of serial (term_at ts term) → serial < n
-serial_within n ts xs i x id serial term h numbers l is there holds =
+    (id serial : ℕ) (R : Term) → all_below n ts ≡ true → All (HasNumberBelow (length ts)) xs → i < length xs →
+    x ≡ get_or xs i x → x.term ≡ Some id → asked (term_at ts id) ≡ Some (serial, R) → serial < n
+serial_within n ts xs i x id serial R h numbers l is there asks =
     let low : HasNumberBelow (length ts) x = rw is (numbers i x l) in
-    let below = below_in n ts (assertion_in ts x) x.term h low refl (membership_of serial (term_at ts term))
-    (ap (assertion_of ts) there ∙ ap asserted holds) in
-    let first : nat_lt serial n ≡ true = (and_parts (nat_lt serial n) _ below).0 in
+    let below = below_in n ts (assertion_in ts x) x.term h low refl (term_at ts id) (ap (assertion_of ts) there) in
+    let first : nat_lt serial n ≡ true = asking_below n (term_at ts id) serial R asks below in
     grind (arith, nat_tests)
 
 -- nothing is known yet

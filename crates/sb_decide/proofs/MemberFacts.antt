@@ -19,7 +19,8 @@ use Rattle.sb_stack.specs.Stacked.{assertion_in, assertion_of}
 use Rattle.sb_decide.specs.declared.conjuncts.Member.{Member}
 use Rattle.sb_decide.specs.Deciding.{in_each}
 use Rattle.sb_decide.specs.Members.{IsMember, AreMembers, IsEmptyAt, ids_in, places_in, words_in}
-use Rattle.sb_decide.specs.Places.{places_from}
+use Rattle.sb_decide.specs.Places.{asks_of, places_from}
+use Rattle.sb_decide.proofs.AskingTerms.{asks_same}
 use Rattle.sb_decide.proofs.Conjunctions.{in_each-append, in_each_kept}
 
 -- the arena grows
@@ -39,10 +40,12 @@ members_grown old new ts (m ∷ ms) [] e h = absurd h
 members_grown old new ts (m ∷ ms) (x ∷ xs) e h = (
   record {
     term = h.0.term;
+    wanted = h.0.wanted;
     number = h.0.number;
     is = h.0.is;
+    asks = h.0.asks;
     regular = h.0.regular;
-    regex = regex_grown old new h.0.term m.regex e h.0.regex;
+    regex = regex_grown old new h.0.wanted m.regex e h.0.regex;
   },
   members_grown old new ts ms xs e h.1,
 )
@@ -64,8 +67,10 @@ members_told rs old new (m ∷ ms) [] e h = absurd h
 members_told rs old new (m ∷ ms) (x ∷ xs) e h = (
   record {
     term = h.0.term;
+    wanted = h.0.wanted;
     number = number_more (length old) (length new) (table_facts.long_kept old new e) x.term h.0.number;
     is = same_assertion old new e x.term h.0.number ∙ h.0.is;
+    asks = h.0.asks;
     regular = h.0.regular;
     regex = h.0.regex;
   },
@@ -169,6 +174,10 @@ places_other n ms m e =
     places_pushed 0 n ms m (length ms) (omega arith)
     ∙ (ap (λ b. places_in 0 n ms ++ (if b then length ms ∷ [] else [])) other ∙ append-nil (places_in 0 n ms))
 
+same_first : (k : ℕ) (b d : Bool) (all some : List ℕ) → b ≡ d → all ≡ some
+    → (if b then k ∷ all else all) ≡ (if d then k ∷ some else some)
+same_first k b d all some e rest = rw (e, rest) refl
+
 pub same_places : (rs : List Regex) (ts : List Term) (k n : ℕ) (ms : List Member) (xs : List Assertion)
     → AreMembers rs ts ms xs
     → places_from k n (map (assertion_in ts) (take (length ms) xs)) ≡ places_in k n ms
@@ -176,7 +185,9 @@ same_places rs ts k n [] xs h = refl
 same_places rs ts k n (m ∷ ms) [] h = absurd h
 same_places rs ts k n (m ∷ ms) (x ∷ xs) h =
     ap (λ a. places_from k n (a ∷ map (assertion_in ts) (take (length ms) xs))) h.0.is
-    ∙ ap (λ ps. if n == m.serial.0 then k ∷ ps else ps) (same_places rs ts (k + 1) n ms xs h.1)
+    ∙ same_first k (asks_of n h.0.term) (n == m.serial.0)
+    (places_from (k + 1) n (map (assertion_in ts) (take (length ms) xs))) (places_in (k + 1) n ms)
+    (asks_same n h.0.term m.serial.0 h.0.wanted h.0.asks) (same_places rs ts (k + 1) n ms xs h.1)
 
 -- the words of a constant
 pub words_grown : (old new : List Regex) (ms : List Member) (n : ℕ) (w : List ℕ) → Extends old new

@@ -1,5 +1,5 @@
--- One more membership.
-use Rattle.std.proofs.Common.{◌≡◌, ◌≢◌, ℕ, ◌<◌, Bool, true, false, ◌&&◌, ◌||◌, ◌==◌, if◌then◌else◌, List, [], ◌∷◌, ◌++◌, length, map, take, refl, sym, ap, ap₂, subst, ◌∙◌, arith}
+-- One more term that asks something of a constant's word.
+use Rattle.std.proofs.Common.{◌≡◌, ◌≢◌, ℕ, ◌<◌, Bool, true, false, ◌&&◌, ◌||◌, ◌==◌, if◌then◌else◌, List, [], ◌∷◌, ◌++◌, length, map, take, refl, sym, ap, ap₂, subst, ◌∙◌, arith, Some}
 use Rattle.std.proofs.lemmas.Bool.{and_parts, and_from, false≢true, eq-eqb, eqb-true, eqb-false}
 use Rattle.std.proofs.Math.Bool.{and-true, and_assoc}
 use Rattle.std.proofs.lemmas.Bool.Decides.{nat_tests}
@@ -16,25 +16,34 @@ use Rattle.sb_meaning.specs.Terms.{Term, text, constant}
 use Rattle.sb_meaning.specs.Values.{Valuation, Text, value_in}
 use Rattle.sb_meaning.specs.Truth.{means_reglan, meaning_of, holds, all_hold}
 use Rattle.sb_script.specs.State.{Assertion, asserted, terms_in}
-use Rattle.sb_script.specs.Brought.{is_regex}
+use Rattle.sb_script.specs.Brought.{asked, membership_of, is_regex}
 use Rattle.sb_script.specs.Sizes.{is_regular}
-use Rattle.sb_script.specs.Models.{about, is_about, words_for}
+use Rattle.sb_script.proofs.CallerLemmas.{asked_holds}
 use Rattle.std.specs.List.{list_all}
 use Rattle.sb_term.specs.declared.assertion.Assertion as code
 use Rattle.sb_fragment.specs.Rules.{is_decided}
+use Rattle.sb_fragment.proofs.CallerLemmas.{asked_decided}
 use Rattle.sb_problem.specs.Normals.{IsRegexOf}
 use Rattle.sb_stack.specs.Speaking.{speaks_of}
 use Rattle.sb_stack.specs.Stacked.{values_at, assertion_in}
 use Rattle.sb_decide.specs.declared.conjuncts.Member.{Member}
-use Rattle.sb_decide.specs.Deciding.{IsSofar, in_each, membership_of, word_at}
+use Rattle.sb_decide.specs.Deciding.{IsSofar, in_each, asking, words_asked, word_at}
 use Rattle.sb_decide.specs.Members.{AreMembers, ids_in}
+use Rattle.sb_decide.specs.Places.{asks_of}
+use Rattle.sb_decide.proofs.AskingTerms.{asks_same, asking_speaks}
 use Rattle.sb_regex.proofs.CallerLemmas.{names_at, names_below}
 
--- a membership is true where the constant's word is in the regular expression
-pub membership_holds : (v : Valuation) (serial : ℕ) (R : Term) (reglan : RegLan) (w : List ℕ)
+membership_holds : (v : Valuation) (serial : ℕ) (R : Term) (reglan : RegLan) (w : List ℕ)
     → meaning_of v R ≡ means_reglan reglan → value_in v serial text ≡ Text w
     → holds (membership_of serial R) v ≡ in_re reglan w
 membership_holds v serial R reglan w means value = rw (means, value) (and-true (in_re reglan w))
+
+-- a term is true where the constant's word is in the regular expression that the term asks for
+pub asking_holds : (v : Valuation) (t : Term) (serial : ℕ) (R : Term) (reglan : RegLan) (w : List ℕ)
+    → asked t ≡ Some (serial, R) → meaning_of v R ≡ means_reglan reglan → value_in v serial text ≡ Text w
+    → holds t v ≡ in_re reglan w
+asking_holds v t serial R reglan w asks means value =
+    asked_holds t serial R asks v ∙ membership_holds v serial R reglan w means value
 
 -- the word at a serial is the value of its constant, where that one is among these
 pub value_at : (serials : List ℕ) (words : List (List ℕ)) (n : ℕ) → speaks_of serials (constant n text) ≡ true
@@ -62,67 +71,66 @@ by_first : (b : Bool) (t : Term) (ts us all : List Term) → all ≡ ts ++ us
 by_first true t ts us all e = ap (λ rest. t ∷ rest) e
 by_first false t ts us all e = e
 
-about-append : (n : ℕ) (ts us : List Term) → about n (ts ++ us) ≡ about n ts ++ about n us
-about-append n [] us = refl
-about-append n (t ∷ ts) us =
-    by_first (is_about n t) t (about n ts) (about n us) (about n (ts ++ us)) (about-append n ts us)
+asking-append : (n : ℕ) (ts us : List Term) → asking n (ts ++ us) ≡ asking n ts ++ asking n us
+asking-append n [] us = refl
+asking-append n (t ∷ ts) us =
+    by_first (asks_of n t) t (asking n ts) (asking n us) (asking n (ts ++ us)) (asking-append n ts us)
 
 pub words-append : (n : ℕ) (ts us : List Term) (w : List ℕ)
-    → words_for n (ts ++ us) w ≡ (words_for n ts w && words_for n us w)
-words-append n ts us w = ap (λ all. all_hold all ((n, Text w) ∷ [])) (about-append n ts us)
-    ∙ all_hold-append (about n ts) (about n us) ((n, Text w) ∷ [])
+    → words_asked n (ts ++ us) w ≡ (words_asked n ts w && words_asked n us w)
+words-append n ts us w = ap (λ all. all_hold all ((n, Text w) ∷ [])) (asking-append n ts us)
+    ∙ all_hold-append (asking n ts) (asking n us) ((n, Text w) ∷ [])
 
--- the words that one membership allows: those of its regular expression for its constant, and all for another
-pub one_same : (n serial : ℕ) (R : Term) (reglan : RegLan) (w : List ℕ)
+-- the words that one term allows: of its constant those of the regular expression that it asks for, and all of another
+pub one_same : (n : ℕ) (t : Term) (serial : ℕ) (R : Term) (reglan : RegLan) (w : List ℕ) → asked t ≡ Some (serial, R)
     → ((v : Valuation) → meaning_of v R ≡ means_reglan reglan) → n ≡ serial
-    → words_for n (membership_of serial R ∷ []) w ≡ in_re reglan w
-one_same n serial R reglan w means e =
-    let same : (n == serial) ≡ true = eq-eqb n serial e in
+    → words_asked n (t ∷ []) w ≡ in_re reglan w
+one_same n t serial R reglan w asks means e =
     let value : value_in ((n, Text w) ∷ []) serial text ≡ Text w = rw (← e) (alone_value n w) in
-    by_test (n == serial) same (membership_holds ((n, Text w) ∷ []) serial R reglan w (means ((n, Text w) ∷ [])) value)
+    by_test (asks_of n t) (asks_same n t serial R asks ∙ eq-eqb n serial e)
+    (asking_holds ((n, Text w) ∷ []) t serial R reglan w asks (means ((n, Text w) ∷ [])) value)
   where
-    by_test : (b : Bool) → b ≡ true → holds (membership_of serial R) ((n, Text w) ∷ []) ≡ in_re reglan w
-        → all_hold (if b then membership_of serial R ∷ [] else []) ((n, Text w) ∷ []) ≡ in_re reglan w
-    by_test true h k = and-true (holds (membership_of serial R) ((n, Text w) ∷ [])) ∙ k
+    by_test : (b : Bool) → b ≡ true → holds t ((n, Text w) ∷ []) ≡ in_re reglan w
+        → all_hold (if b then t ∷ [] else []) ((n, Text w) ∷ []) ≡ in_re reglan w
+    by_test true h k = and-true (holds t ((n, Text w) ∷ [])) ∙ k
     by_test false h k = absurd (false≢true h)
 
-pub one_other : (n serial : ℕ) (R : Term) (w : List ℕ) → n ≢ serial → words_for n (membership_of serial R ∷ []) w ≡ true
-one_other n serial R w e = let other : (n == serial) ≡ false = grind (arith, nat_tests) in by_test (n == serial) other
+pub one_other : (n : ℕ) (t : Term) (serial : ℕ) (R : Term) (w : List ℕ) → asked t ≡ Some (serial, R) → n ≢ serial
+    → words_asked n (t ∷ []) w ≡ true
+one_other n t serial R w asks e =
+    let other : (n == serial) ≡ false = grind (arith, nat_tests) in
+    by_test (asks_of n t) (asks_same n t serial R asks ∙ other)
   where
-    by_test : (b : Bool) → b ≡ false
-        → all_hold (if b then membership_of serial R ∷ [] else []) ((n, Text w) ∷ []) ≡ true
+    by_test : (b : Bool) → b ≡ false → all_hold (if b then t ∷ [] else []) ((n, Text w) ∷ []) ≡ true
     by_test true h = absurd (false≢true (sym h))
     by_test false h = refl
 
--- the regex of the membership has its words
+-- the regex of the regular expression has its words
 pub member_language : NormalHasTermsWords → (rs : List Regex) (R : Term) (id : ℕ) (r : IsRegexOf rs R id) (w : List ℕ)
     → IsWord w → language (regex_at rs id) w ≡ in_re r.reglan w
 member_language law rs R id r w c = ap (λ x. language x w) (names_at rs id (normal r.reglan) r.names) ∙ law r.reglan w c
 
-first_decided : (rs : List Regex) (done : List Assertion) (R : Term) (serial id : ℕ) → IsRegexOf rs R id
-    → is_regular R ≡ true → list_all is_decided done ≡ true
-    → list_all is_decided (asserted (membership_of serial R) ∷ done) ≡ true
-first_decided rs done R serial id r regular decided =
-    and_from (is_regex R && is_regular R) (list_all is_decided done)
-    (and_from (is_regex R) (is_regular R) r.kind regular) decided
+first_decided : (rs : List Regex) (done : List Assertion) (t R : Term) (serial id : ℕ) → asked t ≡ Some (serial, R)
+    → IsRegexOf rs R id → is_regular R ≡ true → list_all is_decided done ≡ true
+    → list_all is_decided (asserted t ∷ done) ≡ true
+first_decided rs done t R serial id asks r regular decided =
+    and_from (is_decided (asserted t)) (list_all is_decided done)
+    (asked_decided t serial R asks ∙ and_from (is_regex R) (is_regular R) r.kind regular) decided
 
--- the words of each constant with a membership in front
-first_words : NormalHasTermsWords → (rs : List Regex) (ts : List Term) (R : Term) (m : Member) (ms : List Member)
-    → IsRegexOf rs R m.regex
-    → ((n : ℕ) (w : List ℕ) → IsWord w → words_for n ts w ≡ in_each rs (ids_in ms n) w)
+-- the words of each constant with such a term in front
+first_words : NormalHasTermsWords → (rs : List Regex) (ts : List Term) (t R : Term) (m : Member) (ms : List Member)
+    → asked t ≡ Some (m.serial.0, R) → IsRegexOf rs R m.regex
+    → ((n : ℕ) (w : List ℕ) → IsWord w → words_asked n ts w ≡ in_each rs (ids_in ms n) w)
     → (n : ℕ) (w : List ℕ) → IsWord w
-    → words_for n (membership_of m.serial.0 R ∷ ts) w ≡ in_each rs (ids_in (m ∷ ms) n) w
-first_words law rs ts R m ms r words n w c = words-append n (first ∷ []) ts w ∙ by_test (n == m.serial.0) refl
+    → words_asked n (t ∷ ts) w ≡ in_each rs (ids_in (m ∷ ms) n) w
+first_words law rs ts t R m ms asks r words n w c = words-append n (t ∷ []) ts w ∙ by_test (n == m.serial.0) refl
   where
-    first : Term
-    first = membership_of m.serial.0 R
-
-    by_test : (b : Bool) → (n == m.serial.0) ≡ b → (words_for n (first ∷ []) w && words_for n ts w)
+    by_test : (b : Bool) → (n == m.serial.0) ≡ b → (words_asked n (t ∷ []) w && words_asked n ts w)
         ≡ in_each rs (if b then m.regex ∷ ids_in ms n else ids_in ms n) w
     by_test true h =
-        ap₂ ◌&&◌ (one_same n m.serial.0 R r.reglan w r.means (eqb-true n m.serial.0 h)
+        ap₂ ◌&&◌ (one_same n t m.serial.0 R r.reglan w asks r.means (eqb-true n m.serial.0 h)
         ∙ sym (member_language law rs R m.regex r w c)) (words n w c)
-    by_test false h = ap₂ ◌&&◌ (one_other n m.serial.0 R w (eqb-false n m.serial.0 h)) (words n w c)
+    by_test false h = ap₂ ◌&&◌ (one_other n t m.serial.0 R w asks (eqb-false n m.serial.0 h)) (words n w c)
 
 first_known : (rs : List Regex) (m : Member) (ms : List Member) → m.regex < length rs
     → ((n : ℕ) → AllNumbers rs (ids_in ms n)) → (n : ℕ) → AllNumbers rs (ids_in (m ∷ ms) n)
@@ -132,57 +140,55 @@ first_known rs m ms low known n = by_test (n == m.serial.0)
     by_test true = All-cons (λ i. i < length rs) m.regex (ids_in ms n) low (known n)
     by_test false = known n
 
-first_apart : (rs : List Regex) (ts : List Term) (serial : ℕ) (R : Term) (id : ℕ) → IsRegexOf rs R id
+first_apart : (rs : List Regex) (ts : List Term) (t : Term) (serial : ℕ) (R : Term) (id : ℕ)
+    → asked t ≡ Some (serial, R) → IsRegexOf rs R id
     → ((v : Valuation) (n : ℕ) (w : List ℕ) → value_in v n text ≡ Text w → all_hold ts v ≡ true
-    → words_for n ts w ≡ true)
+    → words_asked n ts w ≡ true)
     → (v : Valuation) (n : ℕ) (w : List ℕ) → value_in v n text ≡ Text w
-    → all_hold (membership_of serial R ∷ ts) v ≡ true → words_for n (membership_of serial R ∷ ts) w ≡ true
-first_apart rs ts serial R id r apart v n w value h = words-append n (membership_of serial R ∷ []) ts w
-    ∙ and_from (words_for n (membership_of serial R ∷ []) w) (words_for n ts w) (by_test (n == serial) refl)
-    (apart v n w value (and_parts (holds (membership_of serial R) v) (all_hold ts v) h).1)
+    → all_hold (t ∷ ts) v ≡ true → words_asked n (t ∷ ts) w ≡ true
+first_apart rs ts t serial R id asks r apart v n w value h = words-append n (t ∷ []) ts w
+    ∙ and_from (words_asked n (t ∷ []) w) (words_asked n ts w) (by_test (n == serial) refl)
+    (apart v n w value (and_parts (holds t v) (all_hold ts v) h).1)
   where
-    by_test : (b : Bool) → (n == serial) ≡ b → words_for n (membership_of serial R ∷ []) w ≡ true
+    by_test : (b : Bool) → (n == serial) ≡ b → words_asked n (t ∷ []) w ≡ true
     by_test true k =
         let e : n ≡ serial = eqb-true n serial k in
-        one_same n serial R r.reglan w r.means e
-        ∙ (sym (membership_holds v serial R r.reglan w (r.means v) (ap (λ m. value_in v m text) (sym e) ∙ value))
-        ∙ (and_parts (holds (membership_of serial R) v) (all_hold ts v) h).0)
-    by_test false k = one_other n serial R w (eqb-false n serial k)
+        one_same n t serial R r.reglan w asks r.means e
+        ∙ (sym (asking_holds v t serial R r.reglan w asks (r.means v) (ap (λ m. value_in v m text) (sym e) ∙ value))
+        ∙ (and_parts (holds t v) (all_hold ts v) h).0)
+    by_test false k = one_other n t serial R w asks (eqb-false n serial k)
 
-first_together : (rs : List Regex) (ts : List Term) (serial : ℕ) (R : Term) (id : ℕ) → IsRegexOf rs R id
+first_together : (rs : List Regex) (ts : List Term) (t : Term) (serial : ℕ) (R : Term) (id : ℕ)
+    → asked t ≡ Some (serial, R) → IsRegexOf rs R id
     → ((serials : List ℕ) (words : List (List ℕ)) → list_all (speaks_of serials) ts ≡ true
-    → ((n : ℕ) → words_for n ts (word_at words n) ≡ true) → all_hold ts (values_at serials words) ≡ true)
+    → ((n : ℕ) → words_asked n ts (word_at words n) ≡ true) → all_hold ts (values_at serials words) ≡ true)
     → (serials : List ℕ) (words : List (List ℕ))
-    → list_all (speaks_of serials) (membership_of serial R ∷ ts) ≡ true
-    → ((n : ℕ) → words_for n (membership_of serial R ∷ ts) (word_at words n) ≡ true)
-    → all_hold (membership_of serial R ∷ ts) (values_at serials words) ≡ true
-first_together rs ts serial R id r together serials words named h =
-    and_from (holds (membership_of serial R) (values_at serials words)) (all_hold ts (values_at serials words))
-    (membership_holds (values_at serials words) serial R r.reglan (word_at words serial)
-    (r.means (values_at serials words)) (value_at serials words serial among)
-    ∙ (sym (one_same serial serial R r.reglan (word_at words serial) r.means refl)
+    → list_all (speaks_of serials) (t ∷ ts) ≡ true
+    → ((n : ℕ) → words_asked n (t ∷ ts) (word_at words n) ≡ true)
+    → all_hold (t ∷ ts) (values_at serials words) ≡ true
+first_together rs ts t serial R id asks r together serials words named h =
+    and_from (holds t (values_at serials words)) (all_hold ts (values_at serials words))
+    (asking_holds (values_at serials words) t serial R r.reglan (word_at words serial) asks
+    (r.means (values_at serials words)) (value_at serials words serial (asking_speaks serials t serial R asks both.0))
+    ∙ (sym (one_same serial t serial R r.reglan (word_at words serial) asks r.means refl)
     ∙ (and_parts _ _ (parts serial)).0))
     (together serials words both.1 (λ n. (and_parts _ _ (parts n)).1))
   where
-    both : (speaks_of serials (membership_of serial R) ≡ true) × (list_all (speaks_of serials) ts ≡ true)
-    both = and_parts (speaks_of serials (membership_of serial R)) (list_all (speaks_of serials) ts) named
+    both : (speaks_of serials t ≡ true) × (list_all (speaks_of serials) ts ≡ true)
+    both = and_parts (speaks_of serials t) (list_all (speaks_of serials) ts) named
 
-    among : speaks_of serials (constant serial text) ≡ true
-    among = (and_parts (speaks_of serials (constant serial text)) (speaks_of serials R && true) both.0).0
+    parts : (n : ℕ) → (words_asked n (t ∷ []) (word_at words n) && words_asked n ts (word_at words n)) ≡ true
+    parts n = sym (words-append n (t ∷ []) ts (word_at words n)) ∙ h n
 
-    parts : (n : ℕ) → (words_for n (membership_of serial R ∷ []) (word_at words n) && words_for n ts (word_at words n))
-        ≡ true
-    parts n = sym (words-append n (membership_of serial R ∷ []) ts (word_at words n)) ∙ h n
-
-sofar_first : NormalHasTermsWords → (rs : List Regex) (done : List Assertion) (R : Term) (m : Member)
-    (ms : List Member) → IsRegexOf rs R m.regex → is_regular R ≡ true → IsSofar rs done (ids_in ms)
-    → IsSofar rs (asserted (membership_of m.serial.0 R) ∷ done) (ids_in (m ∷ ms))
-sofar_first law rs done R m ms r regular s = record {
-  decided = first_decided rs done R m.serial.0 m.regex r regular s.decided;
+sofar_first : NormalHasTermsWords → (rs : List Regex) (done : List Assertion) (t R : Term) (m : Member)
+    (ms : List Member) → asked t ≡ Some (m.serial.0, R) → IsRegexOf rs R m.regex → is_regular R ≡ true
+    → IsSofar rs done (ids_in ms) → IsSofar rs (asserted t ∷ done) (ids_in (m ∷ ms))
+sofar_first law rs done t R m ms asks r regular s = record {
+  decided = first_decided rs done t R m.serial.0 m.regex asks r regular s.decided;
   known = first_known rs m ms (names_below rs m.regex (normal r.reglan) r.names) s.known;
-  words = first_words law rs (terms_in done) R m ms r s.words;
-  apart = first_apart rs (terms_in done) m.serial.0 R m.regex r s.apart;
-  together = first_together rs (terms_in done) m.serial.0 R m.regex r s.together;
+  words = first_words law rs (terms_in done) t R m ms asks r s.words;
+  apart = first_apart rs (terms_in done) t m.serial.0 R m.regex asks r s.apart;
+  together = first_together rs (terms_in done) t m.serial.0 R m.regex asks r s.together;
 }
 
 -- what is known of the assertions that were taken in
@@ -198,8 +204,8 @@ sofar_of law rs ts [] xs h = record {
 sofar_of law rs ts (m ∷ ms) [] h = absurd h
 sofar_of law rs ts (m ∷ ms) (x ∷ xs) h =
     subst (λ a. IsSofar rs (a ∷ map (assertion_in ts) (take (length ms) xs)) (ids_in (m ∷ ms))) (sym h.0.is)
-    (sofar_first law rs (map (assertion_in ts) (take (length ms) xs)) h.0.term m ms h.0.regex h.0.regular
-    (sofar_of law rs ts ms xs h.1))
+    (sofar_first law rs (map (assertion_in ts) (take (length ms) xs)) h.0.term h.0.wanted m ms h.0.asks h.0.regex
+    h.0.regular (sofar_of law rs ts ms xs h.1))
 
 -- each of them is decided
 pub members_decided : (rs : List Regex) (ts : List Term) (ms : List Member) (xs : List code.Assertion)
@@ -208,5 +214,5 @@ members_decided rs ts [] xs h = refl
 members_decided rs ts (m ∷ ms) [] h = absurd h
 members_decided rs ts (m ∷ ms) (x ∷ xs) h =
     ap (λ a. list_all is_decided (a ∷ map (assertion_in ts) (take (length ms) xs))) h.0.is
-    ∙ first_decided rs (map (assertion_in ts) (take (length ms) xs)) h.0.term m.serial.0 m.regex h.0.regex h.0.regular
-    (members_decided rs ts ms xs h.1)
+    ∙ first_decided rs (map (assertion_in ts) (take (length ms) xs)) h.0.term h.0.wanted m.serial.0 m.regex h.0.asks
+    h.0.regex h.0.regular (members_decided rs ts ms xs h.1)

@@ -1,5 +1,5 @@
--- The places of a constant's memberships among assertions.
-use Rattle.std.proofs.Common.{◌≡◌, ℕ, zero, suc, ◌+◌, Bool, true, false, ◌&&◌, ◌==◌, if◌then◌else◌, List, [], ◌∷◌, refl, sym, ap, ap₂, ◌∙◌, arith, Some, slice_get, map, take, subst}
+-- The places of the assertions that ask something of a constant's word.
+use Rattle.std.proofs.Common.{◌≡◌, ℕ, zero, suc, ◌+◌, Bool, true, false, ◌&&◌, if◌then◌else◌, List, [], ◌∷◌, refl, sym, ap, ap₂, ◌∙◌, arith, Option, Some, slice_get, map, take, subst}
 use Rattle.std.proofs.lemmas.Bool.{and_parts, false≢true, eqb-true, eqb-false}
 use Rattle.std.proofs.lemmas.List.Elements.{All-nil}
 use Rattle.std.specs.List.{All, list_all}
@@ -8,30 +8,29 @@ use Rattle.sb_lang.specs.Regex.{Regex}
 use Rattle.sb_lang.specs.Language.{language}
 use Rattle.sb_lang.specs.NormalLaws.{NormalHasTermsWords}
 use Rattle.sb_regex.specs.Numbered.{regexes_at}
-use Rattle.sb_meaning.specs.Terms.{Term, text, constant, apply, no_terms, with_term, str_in_re}
+use Rattle.sb_meaning.specs.Terms.{Term}
 use Rattle.sb_problem.specs.Normals.{IsRegexOf}
-use Rattle.sb_script.specs.Brought.{is_membership}
+use Rattle.sb_script.specs.Brought.{asked, is_membership}
 use Rattle.sb_script.specs.Fragment.{fits}
-use Rattle.sb_script.specs.Models.{words_for}
+use Rattle.sb_script.proofs.CallerLemmas.{membership_asks}
 use Rattle.sb_script.specs.State.{Assertion, asserted, a_mark, terms_in}
 use Rattle.sb_term.specs.declared.assertion.Assertion as code
-use Rattle.sb_fragment.specs.Memberships.{IsMemberRegex}
+use Rattle.sb_fragment.specs.Memberships.{IsMemberRegex, IsNumberAsked}
 use Rattle.sb_fragment.specs.Rules.{is_decided}
 use Rattle.sb_stack.specs.Stacked.{assertion_in}
-use Rattle.sb_decide.specs.Deciding.{membership_of}
-use Rattle.sb_decide.specs.Places.{places_from, IsPlaceOf, IsRegexAt, AreRegexesAt}
+use Rattle.sb_decide.specs.Deciding.{words_asked}
+use Rattle.sb_decide.specs.Places.{asks_of, places_from, IsPlaceOf, IsRegexAt, AreRegexesAt}
+use Rattle.sb_decide.proofs.AskingTerms.{asks_same}
 use Rattle.sb_decide.proofs.OneMembership.{words-append, one_same, one_other, member_language}
 
--- what a decided assertion is
+-- what a decided assertion asks for
 pub record IsShaped (t : Term) : Type 0 where
   pub serial : ℕ
   pub regex : Term
-  pub is : t ≡ membership_of serial regex
+  pub asks : asked t ≡ Some (serial, regex)
 
 shape_of : (t : Term) → is_membership t ≡ true → IsShaped t
-shape_of (apply str_in_re (with_term (constant serial text) (with_term R no_terms))) h =
-    record { serial = serial; regex = R; is = refl }
-shape_of t h = absurd (false≢true h)
+shape_of t h = membership_asks t h (λ serial R asks _. record { serial = serial; regex = R; asks = asks })
 
 -- these assertions stand in the whole list, from this place on
 abbrev pub StandFrom : ℕ → List Assertion → List Assertion → Type 0
@@ -45,16 +44,16 @@ all_more : (P : ℕ → Type 0) (n : ℕ) (ns : List ℕ) → P n → All P ns �
 all_more P n ns p h zero d l = p
 all_more P n ns p h (suc i) d l = h i d (omega (arith, l))
 
-places_with : (k n serial : ℕ) (R : Term) (whole : List Assertion) (places : List ℕ)
-    → slice_get whole k ≡ Some (asserted (membership_of serial R))
-    → is_decided (asserted (membership_of serial R)) ≡ true
-    → All (IsPlaceOf whole n) places → All (IsPlaceOf whole n) (if n == serial then k ∷ places else places)
-places_with k n serial R whole places there decided h = by_test (n == serial) refl
+places_with : (k n : ℕ) (t : Term) (serial : ℕ) (R : Term) (whole : List Assertion) (places : List ℕ)
+    → asked t ≡ Some (serial, R) → slice_get whole k ≡ Some (asserted t) → is_decided (asserted t) ≡ true
+    → All (IsPlaceOf whole n) places → All (IsPlaceOf whole n) (if asks_of n t then k ∷ places else places)
+places_with k n t serial R whole places asks there decided h = by_test (asks_of n t) refl
   where
-    by_test : (b : Bool) → (n == serial) ≡ b → All (IsPlaceOf whole n) (if b then k ∷ places else places)
+    by_test : (b : Bool) → asks_of n t ≡ b → All (IsPlaceOf whole n) (if b then k ∷ places else places)
     by_test true e =
-        let same : n ≡ serial = eqb-true n serial e in
-        all_more (IsPlaceOf whole n) k places (record { regex = R; there = rw same there; decided = decided }) h
+        let same : n ≡ serial = eqb-true n serial (sym (asks_same n t serial R asks) ∙ e) in
+        all_more (IsPlaceOf whole n) k places
+        (record { term = t; regex = R; there = there; asks = rw same asks; decided = decided }) h
     by_test false e = h
 
 pub are_places : (k n : ℕ) (whole rest : List Assertion) → list_all is_decided rest ≡ true → StandFrom k whole rest
@@ -64,64 +63,62 @@ are_places k n whole (a_mark ∷ rest) h stand = absurd (false≢true h)
 are_places k n whole (asserted t ∷ rest) h stand =
     let parts = and_parts (is_decided (asserted t)) (list_all is_decided rest) h in
     let shaped = shape_of t (and_parts (is_membership t) (fits t) parts.0).0 in
-    subst (λ u. All (IsPlaceOf whole n) (places_from k n (asserted u ∷ rest))) (sym shaped.is)
-    (places_with k n shaped.serial shaped.regex whole (places_from (k + 1) n rest)
-    (stand 0 k (asserted t) (omega arith) refl ∙ ap (λ u. Some (asserted u)) shaped.is)
-    (sym (ap (λ u. is_decided (asserted u)) shaped.is) ∙ parts.0)
-    (are_places (k + 1) n whole rest parts.1 (stand_behind k whole rest (asserted t) stand)))
+    places_with k n t shaped.serial shaped.regex whole (places_from (k + 1) n rest) shaped.asks
+    (stand 0 k (asserted t) (omega arith) refl) parts.0
+    (are_places (k + 1) n whole rest parts.1 (stand_behind k whole rest (asserted t) stand))
 
 -- the words that the regexes of these places have in common
 same_term : (t u : Term) → Some (asserted t) ≡ Some (asserted u) → t ≡ u
 same_term t u e = cc
 
-regex_there : (rs : List Regex) (whole : List Assertion) (k serial id : ℕ) (R : Term)
-    → slice_get whole k ≡ Some (asserted (membership_of serial R)) → IsRegexAt rs whole k id → IsRegexOf rs R id
-regex_there rs whole k serial id R there at_place =
-    subst (λ t. IsMemberRegex rs t (Some id))
-    (same_term at_place.term (membership_of serial R) (sym at_place.there ∙ there)) at_place.regex
+regex_there : (rs : List Regex) (whole : List Assertion) (k : ℕ) (t : Term) (serial : ℕ) (R : Term) (id : ℕ)
+    → asked t ≡ Some (serial, R) → slice_get whole k ≡ Some (asserted t) → IsRegexAt rs whole k id → IsRegexOf rs R id
+regex_there rs whole k t serial R id asks there at_place =
+    subst (λ (o : Option (ℕ × Term)). IsNumberAsked rs o (Some id)) asks
+    (subst (λ u. IsMemberRegex rs u (Some id)) (same_term at_place.term t (sym at_place.there ∙ there)) at_place.regex)
 
-words_with : NormalHasTermsWords → (rs : List Regex) (k n serial : ℕ) (R : Term) (whole : List Assertion)
-    (places ids : List ℕ) (ts : List Term) (w : List ℕ) → IsWord w
-    → slice_get whole k ≡ Some (asserted (membership_of serial R))
+words_with : NormalHasTermsWords → (rs : List Regex) (k n : ℕ) (t : Term) (serial : ℕ) (R : Term)
+    (whole : List Assertion) (places ids : List ℕ) (ts : List Term) (w : List ℕ) → IsWord w
+    → asked t ≡ Some (serial, R) → slice_get whole k ≡ Some (asserted t)
     → ((others : List ℕ) → AreRegexesAt rs whole places others
-    → list_all (λ r. language r w) (regexes_at rs others) ≡ words_for n ts w)
-    → AreRegexesAt rs whole (if n == serial then k ∷ places else places) ids
-    → list_all (λ r. language r w) (regexes_at rs ids) ≡ words_for n (membership_of serial R ∷ ts) w
-words_with law rs k n serial R whole places ids ts w c there rest = by_test (n == serial) refl ids
+    → list_all (λ r. language r w) (regexes_at rs others) ≡ words_asked n ts w)
+    → AreRegexesAt rs whole (if asks_of n t then k ∷ places else places) ids
+    → list_all (λ r. language r w) (regexes_at rs ids) ≡ words_asked n (t ∷ ts) w
+words_with law rs k n t serial R whole places ids ts w c asks there rest = by_test (asks_of n t) refl ids
   where
-    whole_words : words_for n (membership_of serial R ∷ ts) w
-        ≡ (words_for n (membership_of serial R ∷ []) w && words_for n ts w)
-    whole_words = words-append n (membership_of serial R ∷ []) ts w
+    whole_words : words_asked n (t ∷ ts) w ≡ (words_asked n (t ∷ []) w && words_asked n ts w)
+    whole_words = words-append n (t ∷ []) ts w
 
-    by_test : (b : Bool) → (n == serial) ≡ b → (ids : List ℕ)
+    by_test : (b : Bool) → asks_of n t ≡ b → (ids : List ℕ)
         → AreRegexesAt rs whole (if b then k ∷ places else places) ids
-        → list_all (λ r. language r w) (regexes_at rs ids) ≡ words_for n (membership_of serial R ∷ ts) w
+        → list_all (λ r. language r w) (regexes_at rs ids) ≡ words_asked n (t ∷ ts) w
     by_test true e [] h = absurd h
     by_test true e (id ∷ ids) h =
-        let r = regex_there rs whole k serial id R there h.0 in
+        let r = regex_there rs whole k t serial R id asks there h.0 in
         ap₂ ◌&&◌ (member_language law rs R id r w c
-        ∙ sym (one_same n serial R r.reglan w r.means (eqb-true n serial e))) (rest ids h.1)
+        ∙ sym (one_same n t serial R r.reglan w asks r.means
+        (eqb-true n serial (sym (asks_same n t serial R asks) ∙ e)))) (rest ids h.1)
         ∙ sym whole_words
     by_test false e ids h =
         rest ids h
-        ∙ (ap (λ b. b && words_for n ts w) (sym (one_other n serial R w (eqb-false n serial e))) ∙ sym whole_words)
+        ∙ (ap (λ b. b && words_asked n ts w)
+        (sym (one_other n t serial R w asks (eqb-false n serial (sym (asks_same n t serial R asks) ∙ e))))
+        ∙ sym whole_words)
 
 pub words_at_places : NormalHasTermsWords → (rs : List Regex) (k n : ℕ) (whole rest : List Assertion) (ids : List ℕ)
     (w : List ℕ) → IsWord w → list_all is_decided rest ≡ true → StandFrom k whole rest
     → AreRegexesAt rs whole (places_from k n rest) ids
-    → list_all (λ r. language r w) (regexes_at rs ids) ≡ words_for n (terms_in rest) w
+    → list_all (λ r. language r w) (regexes_at rs ids) ≡ words_asked n (terms_in rest) w
 words_at_places law rs k n whole [] [] w c h stand regexes = refl
 words_at_places law rs k n whole [] (id ∷ ids) w c h stand regexes = absurd regexes
 words_at_places law rs k n whole (a_mark ∷ rest) ids w c h stand regexes = absurd (false≢true h)
 words_at_places law rs k n whole (asserted t ∷ rest) ids w c h stand regexes =
     let parts = and_parts (is_decided (asserted t)) (list_all is_decided rest) h in
     let shaped = shape_of t (and_parts (is_membership t) (fits t) parts.0).0 in
-    words_with law rs k n shaped.serial shaped.regex whole (places_from (k + 1) n rest) ids (terms_in rest) w c
-    (stand 0 k (asserted t) (omega arith) refl ∙ ap (λ u. Some (asserted u)) shaped.is)
+    words_with law rs k n t shaped.serial shaped.regex whole (places_from (k + 1) n rest) ids (terms_in rest) w c
+    shaped.asks (stand 0 k (asserted t) (omega arith) refl)
     (λ others r. words_at_places law rs (k + 1) n whole rest others w c parts.1
-    (stand_behind k whole rest (asserted t) stand) r)
-    (subst (λ u. AreRegexesAt rs whole (places_from k n (asserted u ∷ rest)) ids) shaped.is regexes)
-    ∙ ap (λ u. words_for n (u ∷ terms_in rest) w) (sym shaped.is)
+    (stand_behind k whole rest (asserted t) stand) r) regexes
 
 -- the assertions that were taken in stand in front
 pub front_stands : (ts : List Term) (i : ℕ) (xs : List code.Assertion)

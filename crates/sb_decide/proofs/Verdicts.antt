@@ -1,5 +1,5 @@
 -- From the words of constants to the verdict.
-use Rattle.std.proofs.Common.{◌≡◌, ℕ, Bool, true, false, ◌&&◌, ◌==◌, if◌then◌else◌, List, [], ◌∷◌, refl, sym, ◌∙◌}
+use Rattle.std.proofs.Common.{◌≡◌, ℕ, Bool, true, false, ◌&&◌, ◌==◌, if◌then◌else◌, List, [], ◌∷◌, refl, sym, ap, ◌∙◌}
 use Rattle.std.specs.List.{list_all}
 use Rattle.std.proofs.lemmas.Bool.{and_parts, and_from, false≢true}
 use Rattle.sb_word.specs.Words.{IsWord}
@@ -13,10 +13,11 @@ use Rattle.sb_script.specs.Scopes.{Constant}
 use Rattle.sb_script.specs.State.{State, live, live_terms, constants_of, fits, Satisfiable}
 use Rattle.sb_meaning.specs.Truth.{all_hold}
 use Rattle.sb_fragment.specs.Rules.{FragmentIsOfEach}
-use Rattle.sb_decide.specs.Deciding.{IsSofar, in_each, word_at}
+use Rattle.sb_decide.specs.Deciding.{IsSofar, in_each, words_asked, word_at}
+use Rattle.sb_decide.proofs.AskingTerms.{about_is}
 use Rattle.sb_decide.proofs.Conjunctions.{same_least}
 use Rattle.sb_decide.proofs.DefaultValues.{default_values}
-use Rattle.sb_script.specs.Models.{words_for, AreShortestLeast}
+use Rattle.sb_script.specs.Models.{is_plain, words_for, AreShortestLeast}
 use Rattle.sb_script.specs.Verdicts.{IsVerdict, is_sat, is_unsat}
 
 all_shortest : (ts : List Term) (words : List (List ℕ)) (serials : List ℕ)
@@ -36,12 +37,19 @@ sat_given law rs s serials found words f named fitting least = (
         (all_hold (live_terms s) (values_at serials words)) fitting
         (f.together serials words named (λ n. (shortest n).member));
     defaults = default_values (constants_of s) (live_terms s) serials serials words shortest fitting;
-    least = λ _. all_shortest (live_terms s) words serials shortest;
+    least = λ plain. all_shortest (live_terms s) words serials (λ n. shortest_about n plain);
   },
 )
   where
-    shortest : (n : ℕ) → IsShortestLeast (words_for n (live_terms s)) (word_at words n)
-    shortest n = same_least (in_each rs (found n)) (words_for n (live_terms s)) (word_at words n) (f.words n) (least n)
+    shortest : (n : ℕ) → IsShortestLeast (words_asked n (live_terms s)) (word_at words n)
+    shortest n =
+        same_least (in_each rs (found n)) (words_asked n (live_terms s)) (word_at words n) (f.words n) (least n)
+
+    shortest_about : (n : ℕ) → is_plain s ≡ true → IsShortestLeast (words_for n (live_terms s)) (word_at words n)
+    shortest_about n plain =
+        same_least (words_asked n (live_terms s)) (words_for n (live_terms s)) (word_at words n)
+        (λ w _. ap (λ (ts : List Term). all_hold ts ((n, Text w) ∷ [])) (about_is n (live s) f.decided plain))
+        (shortest n)
 
 -- where an empty word fits, each value that fits is a word
 text_value : (sort : Sort) (value : Value) → is_of sort (Text []) ≡ true → is_of sort value ≡ true

@@ -1,23 +1,28 @@
--- What a check finds on the way: for each constant the regexes of its memberships, and its word.
-use Rattle.std.specs.Prelude.{◌≡◌, ℕ, true, List, [], length, get_or}
+-- What a check finds on the way: for each constant the regexes of what is asked of its word, and its word.
+use Rattle.std.specs.Prelude.{◌≡◌, ℕ, true, if◌then◌else◌, List, [], ◌∷◌, length, get_or}
 use Rattle.std.specs.List.{list_all}
 use Rattle.sb_word.specs.Words.{IsWord}
 use Rattle.sb_lang.specs.Languages.{Language}
 use Rattle.sb_lang.specs.Language.{language}
 use Rattle.sb_lang.specs.Regex.{Regex}
 use Rattle.sb_regex.specs.Numbered.{regex_at, AllNumbers}
-use Rattle.sb_meaning.specs.Terms.{Term, text, constant, apply, no_terms, with_term, str_in_re}
+use Rattle.sb_meaning.specs.Terms.{Term, text}
 use Rattle.sb_meaning.specs.Values.{Valuation, Text, value_in}
 use Rattle.sb_meaning.specs.Truth.{all_hold}
 use Rattle.sb_script.specs.State.{Assertion, terms_in}
 use Rattle.sb_fragment.specs.Rules.{is_decided}
 use Rattle.sb_stack.specs.Speaking.{speaks_of}
 use Rattle.sb_stack.specs.Stacked.{values_at, are_words}
-use Rattle.sb_script.specs.Models.{words_for}
+use Rattle.sb_decide.specs.Places.{asks_of}
 
--- the membership of the constant in the regular expression
-abbrev pub membership_of : ℕ → Term → Term
-membership_of serial regex = apply str_in_re (with_term (constant serial text) (with_term regex no_terms))
+-- the terms that ask something of the constant's word: its memberships, and its equalities with literals
+abbrev pub asking : ℕ → List Term → List Term
+asking serial [] = []
+asking serial (t ∷ ts) = if asks_of serial t then t ∷ asking serial ts else asking serial ts
+
+-- the words that make all of them true
+abbrev pub words_asked : ℕ → List Term → Language
+words_asked serial ts w = all_hold (asking serial ts) ((serial, Text w) ∷ [])
 
 -- the words that all the regexes have
 abbrev pub in_each : List Regex → List ℕ → Language
@@ -26,17 +31,17 @@ in_each rs ids w = list_all (λ id. language (regex_at rs id) w) ids
 abbrev pub word_at : List (List ℕ) → ℕ → List ℕ
 word_at words n = get_or words n []
 
--- What is known after these assertions: each is a membership that is decided, each constant's words are those of its
--- regexes, and values make all the assertions true exactly where each word is in its constant's memberships. A constant
--- that they don't speak of may have any word.
+-- What is known after these assertions: each is decided, so it asks something of one constant's word; the words that a
+-- constant is asked for are those of its regexes; and values make all the assertions true exactly where each constant's
+-- word is one that it is asked for. A constant that they don't speak of may have any word.
 pub record IsSofar (rs : List Regex) (assertions : List Assertion) (found : ℕ → List ℕ) : Type 0 where
   pub decided : list_all is_decided assertions ≡ true
   pub known : (n : ℕ) → AllNumbers rs (found n)
-  pub words : (n : ℕ) (w : List ℕ) → IsWord w → words_for n (terms_in assertions) w ≡ in_each rs (found n) w
+  pub words : (n : ℕ) (w : List ℕ) → IsWord w → words_asked n (terms_in assertions) w ≡ in_each rs (found n) w
   pub apart : (v : Valuation) (n : ℕ) (w : List ℕ) → value_in v n text ≡ Text w
-      → all_hold (terms_in assertions) v ≡ true → words_for n (terms_in assertions) w ≡ true
+      → all_hold (terms_in assertions) v ≡ true → words_asked n (terms_in assertions) w ≡ true
   pub together : (serials : List ℕ) (words : List (List ℕ)) → list_all (speaks_of serials) (terms_in assertions) ≡ true
-      → ((n : ℕ) → words_for n (terms_in assertions) (word_at words n) ≡ true)
+      → ((n : ℕ) → words_asked n (terms_in assertions) (word_at words n) ≡ true)
       → all_hold (terms_in assertions) (values_at serials words) ≡ true
 
 -- so many words, of which those that are new are empty

@@ -10,7 +10,8 @@ use sb_term::Serial;
 use std::alloc::{AllocError, Global};
 use std::marker::Model;
 
-/// A membership: the constant, whose word is to be in the regex.
+/// A membership: the constant, whose word is to be in the regex. Of an equality with a literal it is the regex that has
+/// the literal's word alone.
 #[derive(Clone, Copy, Drop)]
 pub struct Member {
     pub serial: Serial,

@@ -1,8 +1,9 @@
 //! Deciding a check: what the regexes of each constant's memberships have in common, explored.
 //!
 //! A constant's memberships are true of one word exactly where the intersection of their regexes has a word, and the
-//! word that exploring the intersection finds is the one that a model gives. What is known of the assertions so far
-//! is kept, so that a check takes in those that are new, and finds words of the constants that they speak of.
+//! word that exploring the intersection finds is the one that a model gives. An equality of a constant with a literal
+//! is a membership too, in the regex that has the literal's word alone. What is known of the assertions so far is kept,
+//! so that a check takes in those that are new, and finds words of the constants that they speak of.
 
 ghost use Rattle.std.specs.Prelude.{◌≡◌, ℕ, ◌+◌, ◌<◌, ◌≤◌, [], ◌∷◌, ◌++◌, List, length, map, true, false, All};
 ghost use Rattle.std.specs.Prelude.{IfOk, OnOk, IfSome, MatchOption};
@@ -47,7 +48,7 @@ pub struct Decider {
     pub graph: Graph,
     pub normals: Normals,
     pub measures: Measures,
-    /// The memberships that the first assertions are, which are taken in.
+    /// The memberships that the first assertions are, which are taken in; equalities with a literal count as such.
     pub members: Vec<Member>,
     /// By place the intersection of the constant's memberships up to this one, where a check made it.
     pub roots: Vec<Option<RegexId>>,
@@ -172,7 +173,8 @@ impl Decider {
         self.dead
     }
 
-    /// The places of a constant's memberships among the assertions that were taken in, ascending. Constant time.
+    /// The places of a constant's memberships, and of its equalities with literals, among the assertions that were
+    /// taken in, ascending. Constant time.
     pub fn places(&self, serial: Serial) -> &[usize]
         ensures value { result.now ≡ places_of self.now serial.0 }
         ensures are { (stack : Stacked) → Knows self.now stack
@@ -234,7 +236,7 @@ impl Decider {
         if !self.measures.is_regular(table, member.1)? {
             return Ok(false);
         }
-        let Some(id) = self.normals.normal(table, &mut self.arena, member.1)? else {
+        let Some(id) = self.normals.pattern(table, &mut self.arena, member.1)? else {
             return Ok(false);
         };
         self.members.push(Member {

@@ -1,10 +1,11 @@
 //! Deciding checks: which verdict the live assertions of a script have.
 //!
 //! A [`Decider`] keeps what is known of the assertions of a script from one check to the next: the regexes of each
-//! constant's memberships, and what exploring them found. The one idea is that each constant has a word for itself, so
-//! a check asks for the words of those constants that new assertions speak of. The layer above answers checks by
-//! [`Decider::decide`]; and after an `Unsat` it asks for the constant that has no word, and for the places of its
-//! memberships among the live assertions. Where assertions go it says so by [`Decider::take_back`].
+//! constant's memberships, and what exploring them found. An assertion that a constant is equal to a literal counts as
+//! a membership everywhere here: its regex has the literal's word alone. The one idea is that each constant has a word
+//! for itself, so a check asks for the words of those constants that new assertions speak of. The layer above answers
+//! checks by [`Decider::decide`]; and after an `Unsat` it asks for the constant that has no word, and for the places of
+//! its memberships among the live assertions. Where assertions go it says so by [`Decider::take_back`].
 #![tactic(auto)]
 
 mod conjuncts;

@@ -1,6 +1,6 @@
 use Rattle.std.proofs.Common.{◌≡◌, length, refl, sym, arith}
 use Rattle.std.specs.Vec.{with_items}
-use Rattle.sb_term.specs.Numbered.{term_at}
+use Rattle.sb_problem.specs.Patterns.{pattern_in}
 use Rattle.sb_regex.proofs.CallerLemmas.{extends_same}
 use Rattle.sb_decide.specs.declared.conjuncts.Member.{Member}
 use Rattle.sb_decide.proofs.Knowledge.{at_place, mark_outside, other_outside, size_outside, regex_outside, is_member}
@@ -31,7 +31,7 @@ returns-then-not-branch-clause-taken c =
 pub returns-then-not-branch-clause-outside : goal.returns-then-not-branch-clause-outside
 returns-then-not-branch-clause-outside c = λ _.
     size_outside c.args.table.now c.args.assertions.now _ c.in-Some.term
-    c.in-Some-membership.member.0.0 (term_at c.args.table.now c.in-Some-membership.member.1)
+    c.in-Some-membership.member.0.0 (pattern_in c.args.table.now c.in-Some-membership.member.1)
     c.index-assertions-place.result
     c.requires.more
     (at_place c.args.self.now.members c.args.assertions.now _ c.index-assertions-place.result c.len-place.ensures
@@ -40,7 +40,7 @@ returns-then-not-branch-clause-outside c = λ _.
 
 pub returns-in_default-2-clause-taken : goal.returns-in_default-2-clause-taken
 returns-in_default-2-clause-taken c =
-    taken_grown c.graph_stays.ensures c.args.self.now c.normal.new.arena c.normal.new.self c.is_regular.new.self
+    taken_grown c.graph_stays.ensures c.args.self.now c.pattern.new.arena c.pattern.new.self c.is_regular.new.self
     c.args.table.now c.args.assertions.now c.in_ok-id.ensures.extends c.in_ok-id.ensures.normals
     c.in_ok-is_regular.ensures.right c.requires.taken
 
@@ -48,8 +48,8 @@ pub returns-in_default-2-clause-words : goal.returns-in_default-2-clause-words
 returns-in_default-2-clause-words c =
     stay_grown c.args.self.now
     (record c.args.self.now {
-      arena = c.normal.new.arena;
-      normals = c.normal.new.self;
+      arena = c.pattern.new.arena;
+      normals = c.pattern.new.self;
       measures = c.is_regular.new.self;
     })
     c.args.table.now c.args.assertions.now c.in_ok-id.ensures.extends refl refl c.requires.taken
@@ -57,7 +57,7 @@ returns-in_default-2-clause-words c =
 pub returns-in_default-2-clause-outside : goal.returns-in_default-2-clause-outside
 returns-in_default-2-clause-outside c = λ _.
     regex_outside c.args.table.now c.args.assertions.now _ c.in-Some.term
-    c.in-Some-membership.member.0.0 (term_at c.args.table.now c.in-Some-membership.member.1)
+    c.in-Some-membership.member.0.0 (pattern_in c.args.table.now c.in-Some-membership.member.1)
     c.index-assertions-place.result
     c.requires.more
     (at_place c.args.self.now.members c.args.assertions.now _ c.index-assertions-place.result c.len-place.ensures
@@ -68,7 +68,8 @@ pub put-requires-clause-within : goal.put-requires-clause-within
 put-requires-clause-within c =
     rw c.deref_mut.ensures.value
     (serial_within _ c.args.table.now c.args.assertions.now _ c.index-assertions-place.result
-    c.in-Some.term c.in-Some-membership.member.0.0 c.in-Some-membership.member.1 c.requires.serials c.requires.numbers
+    c.in-Some.term c.in-Some-membership.member.0.0 (pattern_in c.args.table.now c.in-Some-membership.member.1)
+    c.requires.serials c.requires.numbers
     c.requires.more
     (at_place c.args.self.now.members c.args.assertions.now _ c.index-assertions-place.result c.len-place.ensures
     c.index-assertions-place.is) c.in-Some.is
@@ -84,11 +85,13 @@ returns-clause-taken c =
     omega (arith, c.len-place.ensures, c.args.self.now.members.ok.0) in
     taken_more c.graph_stays.ensures c.args.self.now _ c.args.table.now c.args.assertions.now
     c.index-assertions-place.result member c.requires.taken c.requires.more there
-    (is_member c.normal.new.arena c.args.table.now c.args.assertions.now _ c.index-assertions-place.result member
-    c.in-Some.term c.in-Some-membership.member.1 c.requires.numbers c.requires.more there c.in-Some.is
+    (is_member c.pattern.new.arena c.args.table.now c.args.assertions.now _ c.index-assertions-place.result member
+    c.in-Some.term (pattern_in c.args.table.now c.in-Some-membership.member.1) c.requires.numbers c.requires.more there
+    c.in-Some.is
     c.in-Some-membership.ensures.parts regular (rw c.in-Some-2.is at c.in_ok-id.ensures.number))
     (serial_within _ c.args.table.now c.args.assertions.now _ c.index-assertions-place.result
-    c.in-Some.term c.in-Some-membership.member.0.0 c.in-Some-membership.member.1 c.requires.serials c.requires.numbers
+    c.in-Some.term c.in-Some-membership.member.0.0 (pattern_in c.args.table.now c.in-Some-membership.member.1)
+    c.requires.serials c.requires.numbers
     c.requires.more there c.in-Some.is c.in-Some-membership.ensures.parts)
     c.in_ok-id.ensures.extends c.in_ok-id.ensures.normals c.in_ok-is_regular.ensures.right
     c.in_ok-push.ensures.items c.in_ok-push-2.ensures.items
@@ -104,8 +107,8 @@ returns-clause-words c =
     let member : Member = record { serial = c.in-Some-membership.member.0; regex = c.in-Some-2.id } in
     stay_put c.args.self.now
     (record c.args.self.now {
-      arena = c.normal.new.arena;
-      normals = c.normal.new.self;
+      arena = c.pattern.new.arena;
+      normals = c.pattern.new.self;
       measures = c.is_regular.new.self;
       members = c.push.new.self;
       roots = c.push-2.new.self;
