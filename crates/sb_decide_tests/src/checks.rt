@@ -27,6 +27,8 @@ const ONE: &[u8] = b"(declare-const x String) (assert (str.in_re x (re.+ (str.to
 const TWO: &[u8] =
     b"(declare-const x String) (declare-const y String) (assert (str.in_re y (re.+ (str.to_re \"b\"))))";
 
+const EQUAL: &[u8] = b"(declare-const x String) (declare-const y String) (assert (= x \"ab\"))";
+
 /// One more level, on which another constant is declared, and the first one has no word.
 const REFUTED: &[u8] =
     b"(push 1) (declare-const y String) (assert (str.in_re y (str.to_re \"bb\"))) (assert (str.in_re x (re.+ (str.to_re \"b\"))))";
@@ -51,6 +53,21 @@ const SCRIPTS: &[&[Check]] = &[
         (b"(assert (str.in_re x (str.to_re \"abc\")))", SAT, &[3, 1]),
         (b"(assert (str.in_re y (str.to_re \"c\")))", UNSAT, &[]),
     ],
+    &[
+        (EQUAL, SAT, &[2, 0]),
+        (
+            b"(assert (str.in_re x (re.++ (str.to_re \"a\") re.all)))",
+            SAT,
+            &[2, 0],
+        ),
+        (b"(assert (= \"c\" y))", SAT, &[2, 1]),
+        (
+            b"(assert (str.in_re x (re.+ (str.to_re \"a\"))))",
+            UNSAT,
+            &[],
+        ),
+    ],
+    &[(EQUAL, SAT, &[2, 0]), (b"(assert (= \"b\" x))", UNSAT, &[])],
     &[
         (b"(declare-const x String)", SAT, &[0]),
         (b"(assert (not true))", OUTSIDE, &[]),
