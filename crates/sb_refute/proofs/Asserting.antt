@@ -10,13 +10,14 @@ use Rattle.sb_lit.specs.declared.clause.Lit.{Lit}
 use Rattle.sb_lang.specs.Regex.{Regex}
 use Rattle.sb_lang.specs.Order.{regex_eq}
 use Rattle.sb_lang.specs.OrderLaws.{OrderTellsApart}
-use Rattle.sb_meaning.specs.Terms.{Sort, Term, text, constant, apply, no_terms, with_term}
-use Rattle.sb_meaning.specs.Terms as symbol
+use Rattle.sb_meaning.specs.Terms.{Sort, Term, text, constant}
 use Rattle.sb_regex.specs.Numbered.{regex_at}
 use Rattle.sb_regex.specs.Numbered as regex
 use Rattle.sb_deriv.specs.Faithful.{Memo}
 use Rattle.sb_script.specs.Steps.{line}
 use Rattle.sb_script.specs.Brought.{is_membership}
+use Rattle.sb_script.specs.Brought as brought
+use Rattle.sb_script.proofs.CallerLemmas.{membership_asks}
 use Rattle.sb_script.specs.Pieces.{constant_piece}
 use Rattle.sb_rulebook.specs.Atoms.{Atom, AtomOver, bool_atom, in_atom, le_atom, sum_atom, and_atom, iff_atom, is_same_piece, is_same_atom, number_of}
 use Rattle.sb_rulebook.specs.AtomRules.{is_declared, is_declared_piece, has_its_parts}
@@ -24,8 +25,7 @@ use Rattle.sb_rulebook.specs.Kept.{AllKept, Asked}
 use Rattle.sb_rulebook.specs.Lines.{atom_line, text_of}
 use Rattle.sb_rulebook.specs.Parts.{regex_of}
 use Rattle.sb_rulebook.specs.Translation.{translation, membership}
-use Rattle.sb_rulebook.proofs.CallerLemmas.{same_pieces}
-use Rattle.sb_fragment.specs.Memberships.{in_re}
+use Rattle.sb_rulebook.proofs.CallerLemmas.{same_pieces, asked_translation}
 use Rattle.sb_proof.specs.Tapes.{with_bytes}
 use Rattle.sb_atoms.specs.Numbered.{Names, IsWith, AreDistinct, Extends, over, atoms_in, HaveRegexesBelow}
 use Rattle.sb_atoms.specs.Translated.{brought_translation, IsAdded}
@@ -38,17 +38,15 @@ use Rattle.sb_refute.specs.Lines.{BringsAtom, IsAssertion, placed}
 use Rattle.sb_refute.proofs.AtomLines.{alone}
 use Rattle.sb_refute.proofs.LinesPut.{atom-put}
 
--- The term is a membership of a constant, so its literal's atom names that constant alone.
+-- The term asks something of one constant's word alone, so its literal's atom names that constant alone.
 
 record IsMember (t : Term) : Type 0 where
   serial : ℕ
   expression : Term
-  is : t ≡ apply symbol.str_in_re (with_term (constant serial text) (with_term expression no_terms))
+  is : brought.asked t ≡ Some (serial, expression)
 
 is-member : (t : Term) → is_membership t ≡ true → IsMember t
-is-member (apply symbol.str_in_re (with_term (constant serial text) (with_term R no_terms))) h =
-    record { serial = serial; expression = R; is = refl }
-is-member _ h = absurd (false≢true h)
+is-member t h = membership_asks t h (λ serial R is kind. record { serial = serial; expression = R; is = is })
 
 none-some : {X : Type 0} (x : X) → None ≡ Some x → ⊥
 none-some x h = cc
@@ -94,15 +92,15 @@ brought-is atoms t l h = step (is_membership t) refl h
     step false is h = absurd (none-some l (sym h))
 
 atom-parts : (sorts : List Sort) (rs : List Regex) (old new : List (AtomOver ℕ)) (t : Term) (l : Lit) (a : AtomOver ℕ)
-    → ((serial : ℕ) (expression : Term) → t ≡ in_re (constant serial text) expression
+    → ((serial : ℕ) (expression : Term) → brought.asked t ≡ Some (serial, expression)
     → is_declared sorts text serial ≡ true) → Some l ≡ brought_translation (atoms_in rs new) t → Names new l.atom a
     → has_its_parts sorts (atoms_in rs old) a ≡ true
 atom-parts sorts rs old new t l a declared literal names =
-    let brought = brought-is (atoms_in rs new) t l literal in
-    let m = is-member t brought.0 in
+    let known = brought-is (atoms_in rs new) t l literal in
+    let m = is-member t known.0 in
     let R = m.expression in
     let found = member-literal (atoms_in rs new) m.serial (regex_of R) l
-    (ap (translation (atoms_in rs new)) (sym m.is) ∙ brought.1) in
+    (sym (asked_translation t m.serial R m.is (atoms_in rs new)) ∙ known.1) in
     same-parts sorts (atoms_in rs old) rs m.serial found.0 a
     (number-same (atoms_in rs new) (in_atom (constant_piece m.serial ∷ []) found.0) (over rs a) l.atom found.1
     (slice_get-map (over rs) new l.atom ∙ ap (option_map (over rs)) names))

@@ -4,12 +4,12 @@ use Rattle.sb_lang.specs.Regex.{Regex}
 use Rattle.sb_lit.specs.Budgets.{Spending}
 use Rattle.sb_lit.specs.declared.clause.Lit.{Lit}
 use Rattle.sb_lit.specs.Kept.{Kept, KeptClause, kept_at}
-use Rattle.sb_meaning.specs.Terms.{Term, text, constant}
+use Rattle.sb_meaning.specs.Terms.{Term, text}
+use Rattle.sb_script.specs.Brought as brought
 use Rattle.sb_deriv.specs.Faithful.{Memo}
 use Rattle.sb_rulebook.specs.Atoms.{AtomOver}
 use Rattle.sb_rulebook.specs.Kept.{AllKept, Asked}
 use Rattle.sb_rulebook.specs.AtomRules.{is_declared}
-use Rattle.sb_fragment.specs.Memberships.{in_re}
 use Rattle.sb_atoms.specs.Numbered.{atoms_in}
 use Rattle.sb_trace.specs.Putting.{Puts, IsCounted}
 use Rattle.sb_trace.specs.Tracking.{Traced, Tracks}
@@ -84,11 +84,11 @@ pub record EvidencesUncounted (asked : Asked) (before : AllKept) (rs : List Rege
     pub backs : Backs rs memo e after
     pub counted : after.counted ≡ before.counted
 
--- The term is the live assertion of the place, on this level, and where it is a membership of a constant, that one is
--- declared.
+-- The term is the live assertion of the place, on this level, and where it asks something of one constant's word alone,
+-- that constant is declared.
 pub record IsLive (asked : Asked) (place : ℕ) (t : Term) (level : ℕ) : Type 0 where
   pub live : slice_get asked.live place ≡ Some (Some t, level)
-  pub declared : (serial : ℕ) (expression : Term) → t ≡ in_re (constant serial text) expression
+  pub declared : (serial : ℕ) (expression : Term) → brought.asked t ≡ Some (serial, expression)
       → is_declared asked.sorts text serial ≡ true
 
 -- the clauses of assertions stay

@@ -1,4 +1,5 @@
--- Live assertions that are memberships of one constant with no word in common, and what a refutation of them answers.
+-- Live assertions whose atoms are memberships of one constant with no word in common, and what a refutation of them
+-- answers.
 use Rattle.std.specs.Prelude.{◌≡◌, ℕ, false, List, [], ◌∷◌, map, slice_get, Option, Some, None, option_map, option_and_then}
 use Rattle.std.specs.List.{list_all}
 use Rattle.sb_word.specs.Words.{IsWord}
@@ -18,13 +19,13 @@ abbrev pub membership_of : AtomOver ℕ → Option (ℕ × ℕ)
 membership_of (in_atom (constant_piece x ∷ []) r) = Some (x, r)
 membership_of _ = None
 
--- the same of the assertion at a place
+-- the same of the atom of the assertion at a place
 abbrev pub membership_at : Backing → ℕ → Option (ℕ × ℕ)
 membership_at e place =
     option_and_then (λ a. option_and_then membership_of (slice_get e.atoms a.literal.atom))
     (asserted_at e.asserted place)
 
--- The places are of memberships of one constant, and no word is in all of their regexes.
+-- The assertions' atoms are memberships of one constant, and no word is in all of their regexes.
 pub record AreDisjoint (rs : List Regex) (e : Backing) (places : List ℕ) : Type 0 where
   pub constant : ℕ
   pub regexes : List ℕ

@@ -50,12 +50,13 @@ struct Reasons {
 }
 
 impl Evidence {
-    /// The empty clause, from live assertions that are memberships of one constant with no word in common, given by
-    /// their places. Their clauses stand in the proof. The lines that are lacking are put: where no denial of some of
-    /// these memberships stands there, those that show the intersection dead, and the clause that says that not all of
-    /// them are true; then the empty clause, of the greatest level of the assertions that are denied together. The
-    /// budget is asked before each line that counts; where it is spent, the lines that were put stay, and a later call
-    /// goes on from there. Once the empty clause is there it is the answer, whatever the members.
+    /// The empty clause, from live assertions whose atoms are memberships of one constant with no word in common, given
+    /// by their places. Their clauses stand in the proof; several may be of one atom. The lines that are lacking are
+    /// put: where no denial of some of these memberships stands there, those that show the intersection dead, and the
+    /// clause that says that not all of them are true; then the empty clause, of the greatest level of the assertions
+    /// that are denied together. The budget is asked before each line that counts; where it is spent, the lines that
+    /// were put stay, and a later call goes on from there. Once the empty clause is there it is the answer, whatever the
+    /// members.
     ///
     /// Its cost is that of the exploration, and log-linear in the members, with a look at each denial that is listed
     /// under one of their atoms. After an error the tape may have a line of which nothing is known here, so nothing
