@@ -1,5 +1,5 @@
--- The clauses of the memberships of one constant.
-use Rattle.std.proofs.Common.{◌≡◌, ◌≢◌, ℕ, zero, suc, Bool, true, false, nat_eq, List, [], ◌∷◌, ◌++◌, map, get_or, slice_get, Option, Some, None, refl, ap, ap₂, subst, ◌∙◌, arith}
+-- The clauses of the assertions about one constant.
+use Rattle.std.proofs.Common.{◌≡◌, ◌≢◌, ℕ, zero, suc, Bool, true, false, nat_eq, List, [], ◌∷◌, ◌++◌, map, get_or, slice_get, Option, Some, None, refl, sym, ap, ap₂, subst, ◌∙◌, arith}
 use Rattle.std.specs.Prelude.{option_and_then}
 use Rattle.std.specs.List.{All}
 use Rattle.std.proofs.lemmas.Bool.Decides.{nat_tests}
@@ -11,10 +11,10 @@ use Rattle.sb_lang.specs.Regex.{Regex}
 use Rattle.sb_regex.specs.Numbered.{Extends}
 use Rattle.sb_regex.proofs.CallerLemmas.{names_kept, extends_same, extends_more}
 use Rattle.sb_deriv.specs.Faithful.{Memo}
-use Rattle.sb_meaning.specs.Terms.{Term, text, constant}
+use Rattle.sb_meaning.specs.Terms.{Term}
 use Rattle.sb_script.specs.State.{Assertion}
 use Rattle.sb_problem.specs.Normals.{IsRegexOf}
-use Rattle.sb_fragment.specs.Memberships.{in_re}
+use Rattle.sb_fragment.specs.Memberships.{IsNumberAsked}
 use Rattle.sb_rulebook.specs.Atoms.{AtomOver}
 use Rattle.sb_rulebook.specs.Kept.{AllKept, Asked}
 use Rattle.sb_atoms.specs.Numbered as numbered
@@ -77,10 +77,12 @@ claimed-kept : (assertions : List Assertion) (serial place : ℕ) (rs more : Lis
     → asserted_at f.asserted place ≡ asserted_at e.asserted place → IsClaimed assertions serial rs e place
     → IsClaimed assertions serial more f place
 claimed-kept assertions serial place rs more e f grows atoms stays h = record {
+  term = h.term;
   expression = h.expression;
   number = h.number;
   there = membership-kept e f place (serial, h.number) atoms stays h.there;
   stands = h.stands;
+  asks = h.asks;
   is = regex-kept rs more h.expression h.number grows h.is;
 }
 
@@ -158,7 +160,7 @@ claimed-more asked assertions serial place rs mid more e f g old told new places
         let apart : other ≢ place = grind (arith, nat_tests) in
         claimed-kept assertions serial other mid more f g c.extends c.atoms (c.others other apart) was
 
--- The memberships have no word in common.
+-- No word is in all that is asked for.
 
 record HaveNumbers (assertions : List Assertion) (serial : ℕ) (rs : List Regex) (e : Backing) (places : List ℕ) : Type 0
   where
@@ -169,7 +171,11 @@ record HaveNumbers (assertions : List Assertion) (serial : ℕ) (rs : List Regex
 regex-there : (assertions : List Assertion) (serial place : ℕ) (rs : List Regex) (e : Backing)
     → (h : IsClaimed assertions serial rs e place) → IsRegexAt rs assertions place h.number
 regex-there assertions serial place rs e h =
-    record { term = in_re (constant serial text) h.expression; there = h.stands; regex = h.is }
+    record {
+      term = h.term;
+      there = h.stands;
+      regex = subst (λ (o : Option (ℕ × Term)). IsNumberAsked rs o (Some h.number)) (sym h.asks) h.is;
+    }
 
 numbers-of : (assertions : List Assertion) (serial : ℕ) (rs : List Regex) (e : Backing) (places : List ℕ)
     → All (IsClaimed assertions serial rs e) places → HaveNumbers assertions serial rs e places

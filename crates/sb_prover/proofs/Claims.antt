@@ -1,5 +1,5 @@
--- The clause of one membership, and the literal in it.
-use Rattle.std.proofs.Common.{◌≡◌, ◌≢◌, ℕ, zero, suc, ◌<◌, Bool, true, false, nat_lt, nat_eq, List, [], ◌∷◌, length, map, get_or, slice_get, Option, Some, None, option_map, refl, sym, ap, ap₂, subst, ◌∙◌, arith}
+-- The clause of one assertion about one constant, and the literal in it.
+use Rattle.std.proofs.Common.{◌≡◌, ◌≢◌, ℕ, zero, suc, ◌<◌, Bool, true, false, if◌then◌else◌, nat_lt, nat_eq, List, [], ◌∷◌, length, map, get_or, slice_get, Option, Some, None, option_map, refl, sym, ap, ap₂, subst, ◌∙◌, arith}
 use Rattle.std.specs.Prelude.{option_and_then, MatchOption, is_some, IfSome}
 use Rattle.std.specs.List.{All, list_all, position_from}
 use Rattle.std.proofs.lemmas.Bool.{and_parts, false≢true}
@@ -15,7 +15,7 @@ use Rattle.sb_lang.specs.OrderLaws.{OrderTellsApart}
 use Rattle.sb_regex.specs.Numbered.{regex_at, Extends}
 use Rattle.sb_regex.proofs.CallerLemmas.{names_from, extends_more}
 use Rattle.sb_deriv.specs.Faithful.{Memo}
-use Rattle.sb_meaning.specs.Terms.{Term, text, constant, no_terms, with_term}
+use Rattle.sb_meaning.specs.Terms.{Term, text, constant, word, no_terms, with_term}
 use Rattle.sb_meaning.specs.Values.{Valuation}
 use Rattle.sb_meaning.specs.Truth.{meaning_of, means_reglan}
 use Rattle.sb_term.specs.Serials.{has_serials_below, have_serials_below, all_below}
@@ -23,18 +23,21 @@ use Rattle.sb_term.specs.Numbered.{term_at}
 use Rattle.sb_term.specs.declared.assertion.Assertion as code
 use Rattle.sb_stack.specs.Stacked.{Stacked, state_of, assertion_of, assertion_in, have_levels, HasNumberBelow}
 use Rattle.sb_sorts.specs.Scopes.{texts}
-use Rattle.sb_script.specs.Brought.{is_regex, is_membership}
+use Rattle.sb_script.specs.Brought.{is_regex}
+use Rattle.sb_script.specs.Brought as brought
+use Rattle.sb_script.proofs.CallerLemmas.{IsAsking, a_membership, a_word_behind, a_word_in_front, asked_looks}
 use Rattle.sb_script.specs.Pieces.{Piece, constant_piece}
 use Rattle.sb_script.specs.Sizes.{is_regular}
 use Rattle.sb_script.specs.State.{Assertion, asserted, a_mark, live}
 use Rattle.sb_problem.specs.Normals.{IsNumberOf}
-use Rattle.sb_fragment.specs.Memberships.{in_re}
+use Rattle.sb_fragment.proofs.CallerLemmas.{asked_membership, asked_decided}
 use Rattle.sb_fragment.specs.Rules.{is_decided}
 use Rattle.sb_rulebook.specs.AtomRules.{is_declared}
 use Rattle.sb_rulebook.specs.Atoms.{Atom, AtomOver, bool_atom, in_atom, le_atom, sum_atom, and_atom, iff_atom, is_same_atom, number_of}
 use Rattle.sb_rulebook.specs.Kept.{AllKept, Asked}
-use Rattle.sb_rulebook.specs.Translation.{positive}
-use Rattle.sb_rulebook.proofs.CallerLemmas.{same_atom, atom_itself}
+use Rattle.sb_rulebook.specs.Parts.{regex_of}
+use Rattle.sb_rulebook.specs.Translation.{translation, membership, positive}
+use Rattle.sb_rulebook.proofs.CallerLemmas.{same_atom, atom_itself, asked_translation}
 use Rattle.sb_atoms.specs.Numbered as numbered
 use Rattle.sb_atoms.specs.Numbered.{Names, over, atoms_in, HaveRegexesBelow}
 use Rattle.sb_atoms.specs.Translated.{brought_translation, HasNoLiteral}
@@ -56,42 +59,59 @@ some-none x h = cc
 same-term : (t u : Term) → asserted t ≡ asserted u → t ≡ u
 same-term t u h = cc
 
-same-expression : (s z : ℕ) (R Q : Term) → in_re (constant s text) R ≡ in_re (constant z text) Q → R ≡ Q
-same-expression s z R Q h = cc
+same-expression : (o : Option (ℕ × Term)) (s z : ℕ) (R Q : Term) → o ≡ Some (s, R) → o ≡ Some (z, Q) → R ≡ Q
+same-expression o s z R Q h k = ap (λ (p : ℕ × Term). p.1) (same-some (s, R) (z, Q) (sym h ∙ k))
 
 -- What stands at a place.
 
--- the term is that of the membership
+-- there is one term
 pub the-term : (assertions : List Assertion) (place : ℕ) (t u : Term) → slice_get assertions place ≡ Some (asserted t)
     → slice_get assertions place ≡ Some (asserted u) → t ≡ u
 the-term assertions place t u h k = same-term t u (same-some (asserted t) (asserted u) (sym h ∙ k))
+
+-- which asks for this, and is decided
+pub its-asking : (assertions : List Assertion) (serial place : ℕ) (t : Term) → (p : IsPlaceOf assertions serial place)
+    → slice_get assertions place ≡ Some (asserted t) → brought.asked t ≡ Some (serial, p.regex)
+its-asking assertions serial place t p stands =
+    ap brought.asked (the-term assertions place t p.term stands p.there) ∙ p.asks
+
+its-decision : (assertions : List Assertion) (serial place : ℕ) (t : Term) → IsPlaceOf assertions serial place
+    → slice_get assertions place ≡ Some (asserted t) → is_decided (asserted t) ≡ true
+its-decision assertions serial place t p stands =
+    ap (λ u. is_decided (asserted u)) (the-term assertions place t p.term stands p.there) ∙ p.decided
 
 sort-there : (n serial : ℕ) → serial < n → slice_get (texts n) serial ≡ Some text
 sort-there zero serial l = absurd (omega (arith, l))
 sort-there (suc n) zero l = refl
 sort-there (suc n) (suc serial) l = sort-there n serial (omega (arith, l))
 
--- its constant is declared
+-- the constant that it speaks of is declared
+serial-below : (n : ℕ) (t : Term) → has_serials_below n t ≡ true → (serial : ℕ) (R : Term) → IsAsking serial t R
+    → nat_lt serial n ≡ true
+serial-below n t h serial R (a_membership is) =
+    (and_parts (nat_lt serial n) (have_serials_below n (with_term R no_terms))
+    (ap (has_serials_below n) (sym is) ∙ h)).0
+serial-below n t h serial R (a_word_behind w is S) =
+    (and_parts (nat_lt serial n) (have_serials_below n (with_term (word w) no_terms))
+    (ap (has_serials_below n) (sym is) ∙ h)).0
+serial-below n t h serial R (a_word_in_front w is S) =
+    (and_parts (nat_lt serial n) true (ap (has_serials_below n) (sym is) ∙ h)).0
+
 pub declared-there : (n : ℕ) (t : Term) → has_serials_below n t ≡ true → (serial : ℕ) (R : Term)
-    → t ≡ in_re (constant serial text) R → is_declared (texts n) text serial ≡ true
-declared-there n t h serial R is =
-    let parts = and_parts (nat_lt serial n) (have_serials_below n (with_term R no_terms))
-    (ap (has_serials_below n) (sym is) ∙ h) in
-    let below : nat_lt serial n ≡ true = parts.0 in
+    → brought.asked t ≡ Some (serial, R) → is_declared (texts n) text serial ≡ true
+declared-there n t h serial R asks =
+    let below : nat_lt serial n ≡ true = serial-below n t h serial R (asked_looks t serial R asks) in
     let l : serial < n = grind (arith, nat_tests) in
     rw (sort-there n serial l, is_declared) refl
 
--- What a decided membership is.
+-- What a decided assertion about one constant is.
 
-pub decided-parts : (serial : ℕ) (R : Term) → is_decided (asserted (in_re (constant serial text) R)) ≡ true
-    → (is_regex R ≡ true) × (is_regular R ≡ true)
-decided-parts serial R h = and_parts (is_regex R) (is_regular R) h
+decided-parts : (t : Term) (serial : ℕ) (R : Term) → brought.asked t ≡ Some (serial, R)
+    → is_decided (asserted t) ≡ true → (is_regex R ≡ true) × (is_regular R ≡ true)
+decided-parts t serial R asks h =
+    and_parts (is_regex R) (is_regular R) (sym (asked_decided t serial R asks) ∙ h)
 
-pub is-member : (t : Term) (serial : ℕ) (R : Term) → t ≡ in_re (constant serial text) R
-    → is_decided (asserted (in_re (constant serial text) R)) ≡ true → is_membership t ≡ true
-is-member t serial R is h = ap is_membership is ∙ (decided-parts serial R h).0
-
--- under every valuation its regular expression means one
+-- under every valuation the regular expression that it asks for means one
 record IsMeant (R : Term) : Type 0 where
   reglan : RegLan
   means : (v : Valuation) → meaning_of v R ≡ means_reglan reglan
@@ -102,26 +122,33 @@ meant rs R (Some id) kind h = record { reglan = h.reglan; means = h.means }
 
 -- Its literal.
 
-literal-of : (atoms : List Atom) (serial : ℕ) (R : Term) (reglan : RegLan) → is_regex R ≡ true → is_regular R ≡ true
+of-membership : (atoms : List Atom) (serial : ℕ) (R : Term) (reglan : RegLan) → is_regular R ≡ true
     → meaning_of [] R ≡ means_reglan reglan
-    → brought_translation atoms (in_re (constant serial text) R)
+    → membership atoms (constant serial text) (regex_of R)
     ≡ positive atoms (in_atom (constant_piece serial ∷ []) (normal reglan))
-literal-of atoms serial R reglan kind regular means = rw (kind, regular, means) refl
+of-membership atoms serial R reglan regular means = rw (regular, means) refl
+
+literal-of : (atoms : List Atom) (t : Term) (serial : ℕ) (R : Term) (reglan : RegLan)
+    → brought.asked t ≡ Some (serial, R) → is_regex R ≡ true → is_regular R ≡ true
+    → meaning_of [] R ≡ means_reglan reglan
+    → brought_translation atoms t ≡ positive atoms (in_atom (constant_piece serial ∷ []) (normal reglan))
+literal-of atoms t serial R reglan asks kind regular means =
+    ap (λ (b : Bool). if b then translation atoms t else None) (asked_membership t serial R asks ∙ kind)
+    ∙ asked_translation t serial R asks atoms
+    ∙ of-membership atoms serial R reglan regular means
 
 first-there : (test : Atom → Bool) (a : Atom) → test a ≡ true → position_from test 0 (a ∷ []) ≡ Some 0
 first-there test a h = rw h refl
 
 -- there is one over some table
 pub has-literal : OrderTellsApart → (rs : List Regex) (t : Term) (serial : ℕ) (R : Term) (found : Option ℕ)
-    → t ≡ in_re (constant serial text) R → is_decided (asserted (in_re (constant serial text) R)) ≡ true
-    → IsNumberOf rs R found → HasNoLiteral t → ⊥
-has-literal apart rs t serial R found is decided number none =
-    let parts = decided-parts serial R decided in
+    → brought.asked t ≡ Some (serial, R) → is_decided (asserted t) ≡ true → IsNumberOf rs R found → HasNoLiteral t → ⊥
+has-literal apart rs t serial R found asks decided number none =
+    let parts = decided-parts t serial R asks decided in
     let m = meant rs R found parts.0 number in
     let only : Atom = in_atom (constant_piece serial ∷ []) (normal m.reglan) in
     some-none (record { atom = 0; positive = true })
-    (sym (ap (brought_translation (only ∷ [])) is
-    ∙ literal-of (only ∷ []) serial R m.reglan parts.0 parts.1 (m.means [])
+    (sym (literal-of (only ∷ []) t serial R m.reglan asks parts.0 parts.1 (m.means [])
     ∙ ap (option_map (λ (n : ℕ). record { atom = n; positive = true }))
     (first-there (is_same_atom only) only (atom_itself apart only)))
     ∙ none (only ∷ []))
@@ -172,21 +199,23 @@ alone rs serial r (iff_atom l m) h = absurd (other h)
     other : iff_atom l m ≡ in_atom (constant_piece serial ∷ []) r → ⊥
     other e = cc
 
--- the literal that the code found is that of the membership
-pub is-claimed : OrderTellsApart → (assertions : List Assertion) (serial place : ℕ) (R : Term) (reglan : RegLan)
-    (rs : List Regex) (e : Backing) (a : Asserted) → is_regex R ≡ true → is_regular R ≡ true
-    → ((v : Valuation) → meaning_of v R ≡ means_reglan reglan)
-    → slice_get assertions place ≡ Some (asserted (in_re (constant serial text) R))
+-- the literal that the code found is that of the membership in what is asked for
+pub is-claimed : OrderTellsApart → (assertions : List Assertion) (serial place : ℕ) (t R : Term) (reglan : RegLan)
+    (rs : List Regex) (e : Backing) (a : Asserted) → brought.asked t ≡ Some (serial, R) → is_regex R ≡ true
+    → is_regular R ≡ true → ((v : Valuation) → meaning_of v R ≡ means_reglan reglan)
+    → slice_get assertions place ≡ Some (asserted t)
     → HaveRegexesBelow (length rs) e.atoms → asserted_at e.asserted place ≡ Some a
-    → Some a.literal ≡ brought_translation (atoms_in rs e.atoms) (in_re (constant serial text) R)
+    → Some a.literal ≡ brought_translation (atoms_in rs e.atoms) t
     → IsClaimed assertions serial rs e place
-is-claimed apart assertions serial place R reglan rs e a kind regular means stands below there literal = record {
+is-claimed apart assertions serial place t R reglan rs e a asks kind regular means stands below there literal = record {
+  term = t;
   expression = R;
   number = it.number;
   there = ap (option_and_then (λ (b : Asserted). option_and_then membership_of (slice_get e.atoms b.literal.atom)))
       there
       ∙ ap (option_and_then membership_of) names;
   stands = stands;
+  asks = asks;
   is = record {
     kind = kind;
     reglan = reglan;
@@ -204,7 +233,7 @@ is-claimed apart assertions serial place R reglan rs e a kind regular means stan
 
     number : number_of atoms atom ≡ Some a.literal.atom
     number = literal-number (number_of atoms atom) a.literal
-        (sym (literal ∙ literal-of atoms serial R reglan kind regular (means [])))
+        (sym (literal ∙ literal-of atoms t serial R reglan asks kind regular (means [])))
 
     found : (a.literal.atom < length atoms) × (is_same_atom atom (get_or atoms a.literal.atom atom) ≡ true)
         × ((k : ℕ) → k < a.literal.atom → is_same_atom atom (get_or atoms k atom) ≡ false)
@@ -243,7 +272,7 @@ levels-more live place e f a there level others h other b found = step (nat_eq o
 pub claims : OrderTellsApart → (asked : Asked) (assertions : List Assertion) (serial z place : ℕ) (t R : Term)
     (n : ℕ) (found : Option ℕ) (rs mid more : List Regex) (e f : Backing) (o : Option Asserted) (a : Asserted)
     (old new : Option (List ℕ)) → IsPlaceOf assertions serial place → slice_get assertions place ≡ Some (asserted t)
-    → t ≡ in_re (constant z text) R → IsNumberOf mid R found → Extends rs mid → Extends mid more
+    → brought.asked t ≡ Some (z, R) → IsNumberOf mid R found → Extends rs mid → Extends mid more
     → HaveRegexesBelow (length rs) e.atoms → HaveRegexesBelow (length more) f.atoms
     → ((memo : Memo) (before : AllKept) → Backs mid memo e before → EvidencesUncounted asked before more memo f old new)
     → numbered.Extends e.atoms f.atoms
@@ -252,17 +281,15 @@ pub claims : OrderTellsApart → (asked : Asked) (assertions : List Assertion) (
     → option_map (λ (b : Asserted). b.literal) o ≡ brought_translation (atoms_in more f.atoms) t
     → IfSome o (λ (b : Asserted). b.level ≡ n) → level_at asked.live place ≡ Some n
     → Claims asked assertions serial place rs more e f old new
-claims apart asked assertions serial z place t R n found rs mid more e f o a old new p stands is number first second
+claims apart asked assertions serial z place t R n found rs mid more e f o a old new p stands asks number first second
     below above puts atoms others answer some literal level at = record {
       puts = λ memo before b.
           puts memo before (backs-grown rs mid memo memo e before first (λ n pieces h. h) below b);
       extends = extends_more rs mid more first second;
       atoms = atoms;
       others = others;
-      claimed = is-claimed apart assertions serial place p.regex m.reglan more f a parts.0 parts.1 m.means
-          p.there above there
-          (ap (option_map (λ (b : Asserted). b.literal)) (sym some) ∙ literal
-          ∙ ap (brought_translation (atoms_in more f.atoms)) same);
+      claimed = is-claimed apart assertions serial place t p.regex m.reglan more f a is parts.0 parts.1 m.means
+          stands above there (ap (option_map (λ (b : Asserted). b.literal)) (sym some) ∙ literal);
       levels = levels-more asked.live place e f a there (at ∙ ap Some (sym low)) others;
     }
   where
@@ -272,42 +299,36 @@ claims apart asked assertions serial z place t R n found rs mid more e f o a old
     there : asserted_at f.asserted place ≡ Some a
     there = sym answer ∙ some
 
-    same : t ≡ in_re (constant serial text) p.regex
-    same = the-term assertions place t (in_re (constant serial text) p.regex) stands p.there
+    is : brought.asked t ≡ Some (serial, p.regex)
+    is = its-asking assertions serial place t p stands
 
     parts : (is_regex p.regex ≡ true) × (is_regular p.regex ≡ true)
-    parts = decided-parts serial p.regex p.decided
+    parts = decided-parts p.term serial p.regex p.asks p.decided
 
     m : IsMeant p.regex
     m = meant mid p.regex found parts.0
-        (subst (λ Q. IsNumberOf mid Q found) (same-expression z serial R p.regex (sym is ∙ same)) number)
+        (subst (λ Q. IsNumberOf mid Q found) (same-expression (brought.asked t) z serial R p.regex asks is) number)
 
 -- Some clause is put.
 pub never-none : OrderTellsApart → (assertions : List Assertion) (serial z place : ℕ) (t R : Term) (found : Option ℕ)
     (rs : List Regex) → IsPlaceOf assertions serial place → slice_get assertions place ≡ Some (asserted t)
-    → t ≡ in_re (constant z text) R → IsNumberOf rs R found → HasNoLiteral t → ⊥
-never-none apart assertions serial z place t R found rs p stands is number none =
-    let same = the-term assertions place t (in_re (constant serial text) p.regex) stands p.there in
-    has-literal apart rs t serial p.regex found same p.decided
-    (subst (λ Q. IsNumberOf rs Q found) (same-expression z serial R p.regex (sym is ∙ same)) number) none
-
-pub a-member : (assertions : List Assertion) (serial place : ℕ) (t : Term) → IsPlaceOf assertions serial place
-    → slice_get assertions place ≡ Some (asserted t) → is_membership t ≡ true
-a-member assertions serial place t p stands =
-    is-member t serial p.regex (the-term assertions place t (in_re (constant serial text) p.regex) stands p.there)
-    p.decided
+    → brought.asked t ≡ Some (z, R) → IsNumberOf rs R found → HasNoLiteral t → ⊥
+never-none apart assertions serial z place t R found rs p stands asks number none =
+    let is = its-asking assertions serial place t p stands in
+    has-literal apart rs t serial p.regex found is (its-decision assertions serial place t p stands)
+    (subst (λ Q. IsNumberOf rs Q found) (same-expression (brought.asked t) z serial R p.regex asks is) number) none
 
 pub is-live : (asked : Asked) (n place : ℕ) (t : Term) (level : ℕ) → asked.sorts ≡ texts n
     → slice_get asked.live place ≡ Some (Some t, level) → has_serials_below n t ≡ true → IsLive asked place t level
 is-live asked n place t level sorts there below = record {
   live = there;
-  declared = λ serial R is. ap (λ ss. is_declared ss text serial) sorts ∙ declared-there n t below serial R is;
+  declared = λ serial R asks. ap (λ ss. is_declared ss text serial) sorts ∙ declared-there n t below serial R asks;
 }
 
-pub some-pair : {X : Type 0} (o : Option X) (b : Bool) (Q : X → Type 0) → MatchOption o (b ≡ false) Q → b ≡ true
-    → is_some o ≡ true
-some-pair None b Q h is = absurd (false≢true (sym h ∙ is))
-some-pair (Some x) b Q h is = refl
+pub some-pair : {X Y : Type 0} (o : Option X) (a : Option Y) (y : Y) (Q : X → Type 0) → MatchOption o (a ≡ None) Q
+    → a ≡ Some y → is_some o ≡ true
+some-pair None a y Q h is = absurd (some-none y (sym is ∙ h))
+some-pair (Some x) a y Q h is = refl
 
 -- the assertion of a row of the table
 pub row-there : (ts : List Term) (rows : List code.Assertion) (assertions : List Assertion) (place : ℕ) (t : Term)

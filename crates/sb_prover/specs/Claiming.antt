@@ -1,16 +1,16 @@
--- Private: the clauses of one constant's memberships, as they are put on the way to a refutation.
+-- Private: the clauses of the assertions about one constant, as they are put on the way to a refutation.
 use Rattle.std.specs.Prelude.{◌≡◌, ◌≢◌, ℕ, ◌<◌, true, List, length, slice_get, Option, Some}
 use Rattle.std.specs.List.{All}
 use Rattle.sb_lang.specs.Regex.{Regex}
 use Rattle.sb_regex.specs.Numbered.{Extends}
 use Rattle.sb_deriv.specs.Faithful.{Memo}
-use Rattle.sb_meaning.specs.Terms.{Term, text, constant}
+use Rattle.sb_meaning.specs.Terms.{Term}
 use Rattle.sb_problem.specs.Normals.{IsRegexOf}
+use Rattle.sb_script.specs.Brought as brought
 use Rattle.sb_script.specs.State.{Assertion, asserted, live}
 use Rattle.sb_stack.specs.Stacked.{Stacked, state_of}
 use Rattle.sb_term.specs.Numbered.{term_at}
 use Rattle.sb_term.specs.Serials.{has_serials_below}
-use Rattle.sb_fragment.specs.Memberships.{in_re}
 use Rattle.sb_rulebook.specs.Accepted.{asked_in}
 use Rattle.sb_rulebook.specs.Kept.{AllKept, Asked}
 use Rattle.sb_atoms.specs.Numbered as numbered
@@ -19,11 +19,11 @@ use Rattle.sb_refute.specs.Refuting.{membership_at}
 use Rattle.sb_decide.specs.Places.{IsPlaceOf}
 use Rattle.sb_prover.specs.Proving.{HaveLevels}
 
--- the assertion at the place is a membership of some constant, and a decided one
+-- the assertion at the place asks something of some constant's word alone, and is a decided one
 abbrev pub IsMember : List Assertion → ℕ → Type 0
 IsMember assertions place = (serial : ℕ) × IsPlaceOf assertions serial place
 
--- all these places are of memberships of one constant
+-- all these places are of assertions about one constant
 abbrev pub AreMembers : List Assertion → List ℕ → Type 0
 AreMembers assertions places = (serial : ℕ) × All (IsPlaceOf assertions serial) places
 
@@ -34,13 +34,16 @@ pub record Stands (s : Stacked) (place id level : ℕ) : Type 0 where
   pub there : slice_get (asked_in (state_of s)).live place ≡ Some (Some (term_at s.table id), level)
   pub declared : has_serials_below s.scope.declared (term_at s.table id) ≡ true
 
--- The assertion at the place is a membership of the constant, and its atom in the proof is that of its normal regex.
+-- The assertion at the place asks for a word of the constant in a regular expression, and its atom in the proof is the
+-- membership in the normal regex of that.
 pub record IsClaimed (assertions : List Assertion) (serial : ℕ) (rs : List Regex) (e : Backing) (place : ℕ) : Type 0
   where
+    pub term : Term
     pub expression : Term
     pub number : ℕ
     pub there : membership_at e place ≡ Some (serial, number)
-    pub stands : slice_get assertions place ≡ Some (asserted (in_re (constant serial text) expression))
+    pub stands : slice_get assertions place ≡ Some (asserted term)
+    pub asks : brought.asked term ≡ Some (serial, expression)
     pub is : IsRegexOf rs expression number
 
 -- The clause of the assertion at one place stands in the proof, with the lines that it lacked.

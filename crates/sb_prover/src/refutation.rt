@@ -78,8 +78,8 @@ pub(crate) fn refute<L: Tape>(
     )
 }
 
-/// Puts the clauses of the live assertions at these places, which are memberships of one constant, with the lines that
-/// they lack.
+/// Puts the clauses of the live assertions at these places, which are all about one constant, with the lines that they
+/// lack.
 fn claim_all<L: Tape>(
     evidence: &mut Evidence,
     measures: &mut Measures,
@@ -107,7 +107,8 @@ fn claim_all<L: Tape>(
     Ok(())
 }
 
-/// Puts the clause of the live assertion at a place, which is a membership of a constant, with the lines that it lacks.
+/// Puts the clause of the live assertion at a place, which asks something of one constant's word alone, with the lines
+/// that it lacks.
 fn claim<L: Tape>(
     evidence: &mut Evidence,
     measures: &mut Measures,
@@ -132,15 +133,16 @@ fn claim<L: Tape>(
     order_tells_apart();
     let table = stack.table();
     let (term, level) = member_at(stack, place);
-    let (_, expression) = membership(table, term).unwrap();
-    normals.normal(table, arena, expression)?;
+    let (_, pattern) = membership(table, term).unwrap();
+    normals.pattern(table, arena, pattern)?;
     match evidence.assertion(measures, normals, table, arena, place, term, level, tape)? {
         Some(_) => Ok(()),
         None => unreachable!(),
     }
 }
 
-/// The term of the live assertion at a place, which is a membership of a constant, and the assertion's level.
+/// The term of the live assertion at a place, which asks something of one constant's word alone, and the assertion's
+/// level.
 fn member_at(stack: &Stack, place: usize) -> (TermId, u64)
     requires { IsMember (live (state_of stack.now)) place }
     ensures { Stands stack.now place result.0 result.1 }
