@@ -33,6 +33,9 @@ const ONE: &[u8] = b"(declare-const x String) (assert (str.in_re x (re.+ (str.to
 const TWO: &[u8] =
     b"(declare-const x String) (declare-const y String) (assert (str.in_re x (re.+ (re.range \"a\" \"c\")))) (assert (str.in_re y (re.* (str.to_re \"b\"))))";
 
+const EQUAL: &[u8] =
+    b"(declare-const x String) (declare-const y String) (assert (= x \"ab\")) (assert (= \"\" y))";
+
 /// Scripts with their checks.
 const SCRIPTS: &[&[Check]] = &[
     &[
@@ -104,6 +107,36 @@ const SCRIPTS: &[&[Check]] = &[
         ),
         (b"(reset-assertions)", &[Given::Text(b"a")], Some(false)),
         (b"", &[], Some(true)),
+    ],
+    &[
+        (EQUAL, &[Given::Text(b"ab"), Given::Text(b"")], Some(true)),
+        (b"", &[Given::Text(b"a"), Given::Text(b"")], Some(false)),
+        (b"", &[Given::Text(b"ab"), Given::Text(b"b")], Some(false)),
+        (
+            b"(assert (str.in_re y (re.* (str.to_re \"c\"))))",
+            &[Given::Text(b"ab"), Given::Text(b"")],
+            Some(true),
+        ),
+        (
+            b"(push 1) (assert (= x \"ba\"))",
+            &[Given::Text(b"ab"), Given::Text(b"")],
+            Some(false),
+        ),
+        (
+            b"(pop 1) (push 1) (assert (= x y))",
+            &[Given::Text(b"ab"), Given::Text(b"ab")],
+            None,
+        ),
+        (
+            b"(pop 1) (push 1) (assert (= \"a\" \"a\"))",
+            &[Given::Text(b"ab"), Given::Text(b"")],
+            None,
+        ),
+        (
+            b"(pop 1)",
+            &[Given::Text(b"ab"), Given::Text(b"")],
+            Some(true),
+        ),
     ],
 ];
 
