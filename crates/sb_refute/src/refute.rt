@@ -55,8 +55,8 @@ impl Evidence {
     /// put: where no denial of some of these memberships stands there, those that show the intersection dead, and the
     /// clause that says that not all of them are true; then the empty clause, of the greatest level of the assertions
     /// that are denied together. The budget is asked before each line that counts; where it is spent, the lines that
-    /// were put stay, and a later call goes on from there. Once the empty clause is there it is the answer, whatever the
-    /// members.
+    /// were put stay, and a later call goes on from there. Once the empty clause is there it is the answer, whatever
+    /// the members.
     ///
     /// Its cost is that of the exploration, and log-linear in the members, with a look at each denial that is listed
     /// under one of their atoms. After an error the tape may have a line of which nothing is known here, so nothing
