@@ -397,7 +397,7 @@ fn least_word(
     let ids = conjuncts_at(alloc, members, roots, places)?;
     let root = arena.and(&ids)?;
     keep_root(roots, places, root);
-    match graph.answer(arena, root)? {
+    match graph.least_word(arena, root)? {
         Explored::Alive(word) => Ok(Some(word)),
         Explored::Dead => Ok(None),
     }

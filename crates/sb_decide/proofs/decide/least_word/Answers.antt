@@ -28,13 +28,13 @@ keep_root-requires c =
     (places_within c.args.serial.0 c.args.members.now) in
     record { within = λ k d l. let low = all k d l in omega (arith, low, c.requires.rooted.abreast) }
 
-pub answer-requires-clause-known : goal.answer-requires-clause-known
-answer-requires-clause-known c =
+pub least_word-requires-clause-known : goal.least_word-requires-clause-known
+least_word-requires-clause-known c =
     names_below c.and.new.self c.in_ok-root.root (mkand (regexes_at c.args.arena.now c.deref-2.result.now))
     c.in_ok-root.ensures.ok
 
-pub answer-requires-clause-graph : goal.answer-requires-clause-graph
-answer-requires-clause-graph c =
+pub least_word-requires-clause-graph : goal.least_word-requires-clause-graph
+least_word-requires-clause-graph c =
     c.graph_stays.ensures c.args.arena.now c.and.new.self c.args.graph.now c.and.ensures.extends c.requires.graph
 
 pub returns-in-Alive-clause-found : goal.returns-in-Alive-clause-found
@@ -45,8 +45,8 @@ returns-in-Alive-clause-found c =
     c.requires.places c.requires.rooted c.in_ok-ids.ensures c.and.ensures.extends c.in_ok-root.ensures.ok in
     let rooted = rooted_grown c.args.arena.now c.and.new.self c.args.members.now c.args.roots.now.items
     c.and.ensures.extends c.requires.rooted in
-    word_found c.and.new.self c.answer.new.arena c.args.members.now c.args.serial.0 c.in_ok-root.root c.in-Alive.word
-    root c.answer.ensures.extends rooted.numbers (rw c.in-Alive.is at c.in_ok-word.ensures.found)
+    word_found c.and.new.self c.least_word.new.arena c.args.members.now c.args.serial.0 c.in_ok-root.root c.in-Alive.word
+    root c.least_word.ensures.extends rooted.numbers (rw c.in-Alive.is at c.in_ok-word.ensures.found)
 
 pub returns-in-Alive-clause-rooted : goal.returns-in-Alive-clause-rooted
 returns-in-Alive-clause-rooted c =
@@ -56,8 +56,8 @@ returns-in-Alive-clause-rooted c =
     c.requires.places c.requires.rooted c.in_ok-ids.ensures c.and.ensures.extends c.in_ok-root.ensures.ok in
     let rooted = rooted_grown c.args.arena.now c.and.new.self c.args.members.now c.args.roots.now.items
     c.and.ensures.extends c.requires.rooted in
-    rooted_grown c.and.new.self c.answer.new.arena c.args.members.now c.keep_root.new.roots.items
-    c.answer.ensures.extends
+    rooted_grown c.and.new.self c.least_word.new.arena c.args.members.now c.keep_root.new.roots.items
+    c.least_word.ensures.extends
     (c.keep_root.ensures c.and.new.self c.args.members.now c.args.serial.0 c.requires.places root rooted)
 
 pub returns-clause-found : goal.returns-clause-found
@@ -68,8 +68,8 @@ returns-clause-found c =
     c.requires.places c.requires.rooted c.in_ok-ids.ensures c.and.ensures.extends c.in_ok-root.ensures.ok in
     let rooted = rooted_grown c.args.arena.now c.and.new.self c.args.members.now c.args.roots.now.items
     c.and.ensures.extends c.requires.rooted in
-    none_found c.and.new.self c.answer.new.arena c.args.members.now c.args.serial.0 c.in_ok-root.root root
-    c.answer.ensures.extends rooted.numbers (rw c.in-Dead.is at c.in_ok-word.ensures.found)
+    none_found c.and.new.self c.least_word.new.arena c.args.members.now c.args.serial.0 c.in_ok-root.root root
+    c.least_word.ensures.extends rooted.numbers (rw c.in-Dead.is at c.in_ok-word.ensures.found)
 
 pub returns-clause-rooted : goal.returns-clause-rooted
 returns-clause-rooted c =
@@ -79,6 +79,6 @@ returns-clause-rooted c =
     c.requires.places c.requires.rooted c.in_ok-ids.ensures c.and.ensures.extends c.in_ok-root.ensures.ok in
     let rooted = rooted_grown c.args.arena.now c.and.new.self c.args.members.now c.args.roots.now.items
     c.and.ensures.extends c.requires.rooted in
-    rooted_grown c.and.new.self c.answer.new.arena c.args.members.now c.keep_root.new.roots.items
-    c.answer.ensures.extends
+    rooted_grown c.and.new.self c.least_word.new.arena c.args.members.now c.keep_root.new.roots.items
+    c.least_word.ensures.extends
     (c.keep_root.ensures c.and.new.self c.args.members.now c.args.serial.0 c.requires.places root rooted)
