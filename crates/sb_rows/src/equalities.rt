@@ -97,7 +97,12 @@ fn script_of(alloc: Global, letters: usize) -> Result<Vec<u8>, AllocError> {
     Ok(script)
 }
 
-fn expect_long(rt: &impl Abort, alloc: Global, letters: usize, verdict: &[u8]) -> Result<(), AllocError> {
+fn expect_long(
+    rt: &impl Abort,
+    alloc: Global,
+    letters: usize,
+    verdict: &[u8],
+) -> Result<(), AllocError> {
     let script = script_of(alloc, letters)?;
     let mut answers = Vec::from_slice(alloc, b"success\nsuccess\n")?;
     answers.extend_from_slice(verdict)?;

@@ -1,4 +1,4 @@
--- What a theory of the tests teaches.
+-- Private: What a theory of the tests teaches.
 use Rattle.std.specs.Prelude.{◌≡◌, ℕ, List, slice_get, Some}
 use Rattle.sb_lit.specs.declared.clause.Lit.{Lit}
 
