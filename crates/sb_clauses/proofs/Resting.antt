@@ -1,5 +1,5 @@
 -- What is kept beside the clauses from one call to the next.
-use Rattle.std.proofs.Common.{◌≡◌, ℕ, ◌+◌, ◌<◌, ◌≤◌, List, [], ◌∷◌, ◌++◌, length, get_or, take, Option, Some, refl, sym, ◌∙◌, ap, subst, inl, inr, arith}
+use Rattle.std.proofs.Common.{◌≡◌, ℕ, ◌+◌, ◌<◌, ◌≤◌, List, [], ◌∷◌, ◌++◌, length, get_or, take, Option, Some, None, refl, sym, ◌∙◌, ap, subst, inl, inr, arith}
 use Rattle.std.specs.Option.{IfSome}
 use Rattle.std.proofs.lemmas.Bool.{cases_lt}
 use Rattle.std.proofs.lemmas.List.{length-map, length-append, length_push, take_all, take-append-le, map-append, get_or_append_left}
@@ -262,3 +262,20 @@ stored_back kept firsts first seconds second entries now level old marks before 
       room = h.room;
       within = h.within;
     }
+
+-- all literals have gone from the trail
+pub stored_cleared : (kept : Kept) (firsts : List ℕ) (first : WatchLists) (seconds : List ℕ) (second : WatchLists)
+    (entries : List Assigned) (old : List ℕ) (before : Option ℕ) (listed : ℕ)
+    → AreStored kept firsts first seconds second entries old before listed
+    → AreStored kept firsts first seconds second [] [] None listed
+stored_cleared kept firsts first seconds second entries old before listed h = record {
+  ready = record {
+    watched = h.ready.watched;
+    ascending = λ i j le within. absurd (omega (arith, within));
+    below = λ i within. absurd (omega (arith, within));
+    marked = λ i within. absurd (omega (arith, within));
+  };
+  begins = tt;
+  room = h.room;
+  within = h.within;
+}

@@ -180,6 +180,16 @@ impl Engine {
         self.queue.head = end_of_marks(&self.queue.marks, self.trail.literals());
     }
 
+    /// Takes all literals off the trail, those of level 0 too, so that clauses which forced them may be dropped; the next
+    /// propagation begins as on a new trail. Takes no memory; linear in the number of literals.
+    pub fn clear(&mut self)
+        ensures { self.new ≡ record self.old { trail = record self.old.trail { literals = [] } } }
+    {
+        self.trail.clear();
+        self.queue.marks.clear();
+        self.queue.head = None;
+    }
+
     /// Whether the trail has a place for each atom of a kept clause. Takes no memory; constant time where it has as
     /// many places as [`Engine::atoms`], else linear in the number of all literals.
     pub fn has_room(&self) -> bool

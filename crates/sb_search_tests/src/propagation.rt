@@ -27,6 +27,8 @@ enum Step {
     Drops(u64),
     /// Goes back to the level.
     GoesBack(usize),
+    /// Takes all literals off the trail.
+    Clears,
     /// The level of the clause.
     HasLevel(u64, Option<u64>),
     /// So many numbers were given.
@@ -77,14 +79,21 @@ const CONFLICTS: [Step; 13] = [
     Step::Conflicts(true),
 ];
 
-/// A clause of one literal, and then one of its negation.
-const UNITS: [Step; 6] = [
+/// A clause of one literal, and then one of its negation. Without literals on the trail both are found again, and the
+/// second one alone where the first was dropped.
+const UNITS: [Step; 12] = [
     Step::Reserves(2),
-    Step::Keeps([1, 0, 0], 0),
+    Step::Keeps([1, 0, 0], 1),
     Step::Propagates(None, 1),
     Step::Says(1, Some(true), Some(0)),
     Step::Keeps([-1, 0, 0], 0),
     Step::Propagates(Some(1), 1),
+    Step::Clears,
+    Step::Conflicts(true),
+    Step::Clears,
+    Step::Drops(0),
+    Step::Propagates(None, 1),
+    Step::Says(1, Some(false), Some(1)),
 ];
 
 fn keeps(
@@ -152,6 +161,7 @@ fn steps_on(rt: &impl Abort, search: &mut Engine, step: Step) {
         Step::Says(atom, value, reason) => says(rt, search.trail(), atom, value, reason),
         Step::Drops(level) => search.drop_above(level),
         Step::GoesBack(level) => search.backtrack(level),
+        Step::Clears => search.clear(),
         Step::HasLevel(id, level) => has_level(rt, search.clauses(), id, level),
         Step::Counts(len) => counts(rt, search.clauses(), len),
         _ => {}
