@@ -268,17 +268,65 @@ fn is_spent_at_each(rt: &impl Abort, alloc: Global) -> Result<(), TapeFault> {
     Ok(())
 }
 
-/// Expects that a core rests on a clause of level 1, goes with it, and that the next search has values then.
-fn goes_with_its_level(rt: &impl Abort, alloc: Global) -> Result<(), TapeFault> {
+/// Two searches: the clauses of both, those of the first one alone, and the assumptions. How they end.
+type Pair = (
+    &'static [[i8; 3]],
+    &'static [[i8; 3]],
+    &'static [i8],
+    (End, End),
+);
+
+/// A core that rests on a clause of level 1; literals at level 0 of the trail whose reasons go, so that a clause that was
+/// false is not, and their negations may be assumed; units and the empty clause that stay, and are found again.
+const PAIRS: [Pair; 7] = [
+    (
+        &[[-1, 2, 0]],
+        &[[-2, 3, 0]],
+        &[1, -3],
+        (End::Unsat, End::Sat),
+    ),
+    (
+        &[[-1, 2, 0]],
+        &[[1, 0, 0], [-2, 0, 0]],
+        &[],
+        (End::Unsat, End::Sat),
+    ),
+    (&[[-1, 2, 0]], &[[1, 0, 0]], &[-1], (End::Unsat, End::Sat)),
+    (&[[-1, 2, 0]], &[[1, 0, 0]], &[-2], (End::Unsat, End::Sat)),
+    (
+        &[[1, 0, 0], [-1, 2, 0]],
+        &[[-2, 0, 0]],
+        &[],
+        (End::Unsat, End::Sat),
+    ),
+    (
+        &[[1, 0, 0], [-1, 2, 0]],
+        &[[3, 0, 0]],
+        &[-2],
+        (End::Unsat, End::Unsat),
+    ),
+    (&FOUR, &[[3, 0, 0]], &[], (End::Unsat, End::Unsat)),
+];
+
+/// Expects that what rests on the clauses of level 1 goes with them, and nothing else.
+fn goes_with_its_level(rt: &impl Abort, alloc: Global, pair: &Pair) -> Result<(), TapeFault> {
+    let (clauses, lemmas, assumptions, wanted) = *pair;
     let question = Question {
         atoms: 3,
-        clauses: &[[-1, 2, 0]],
-        lemmas: &[[-2, 3, 0]],
+        clauses,
+        lemmas,
         wishes: &[],
-        assumptions: &[1, -3],
+        assumptions,
     };
-    let ends = again(alloc, &question, 9)?;
-    assert!(rt; ends == Some((End::Unsat, End::Sat, true)));
+    let (begun, ended, replayed) = again(alloc, &question, 9)?;
+    assert!(rt; (begun, ended) == wanted && replayed);
+    Ok(())
+}
+
+fn all_go_with_their_level(rt: &impl Abort, alloc: Global) -> Result<(), TapeFault> {
+    for pair in &PAIRS {
+        goes_with_its_level(rt, alloc, pair)?;
+    }
     Ok(())
 }
 
@@ -286,6 +334,6 @@ fn goes_with_its_level(rt: &impl Abort, alloc: Global) -> Result<(), TapeFault> 
 fn searches_come_to_what_is_wanted(rt: HostRuntime) -> Result<(), Fail> {
     all_are_wanted(&rt, rt.alloc())?;
     is_spent_at_each(&rt, rt.alloc())?;
-    goes_with_its_level(&rt, rt.alloc())?;
+    all_go_with_their_level(&rt, rt.alloc())?;
     Ok(())
 }

@@ -180,8 +180,8 @@ fn finds_plain(
     })
 }
 
-/// Searches, and once more without the clauses above level 0, where nothing is true at level 0 any more. Says how the
-/// searches ended, and whether their lines are those of the clauses that were kept.
+/// Searches, and once more on a trail without literals and without the clauses above level 0. Says how the searches
+/// ended, and whether their lines are those of the clauses that were kept.
 fn finds_again(
     alloc: Global,
     engine: &mut Engine,
@@ -192,17 +192,14 @@ fn finds_again(
     tape_again: &mut MemTape,
     question: &Question,
     budget: &mut Budget,
-) -> Result<Option<(End, End, bool)>, TapeFault>
+) -> Result<(End, End, bool), TapeFault>
     requires { engine.old.trail.literals ≡ [] }
 {
     fill(alloc, engine, question.clauses, 0)?;
     fill(alloc, engine, question.lemmas, 1)?;
     let assumptions = literals(alloc, question.assumptions)?;
     let (begun, _, _, is_same) = finds(alloc, theory, engine, kept, tape, &assumptions, budget)?;
-    engine.backtrack(0);
-    if !engine.trail().literals().is_empty() {
-        return Ok(None);
-    }
+    engine.clear();
     engine.drop_above(0);
     let (ended, _, _, is_same_again) = finds(
         alloc,
@@ -213,7 +210,7 @@ fn finds_again(
         &assumptions,
         budget,
     )?;
-    Ok(Some((begun, ended, is_same && is_same_again)))
+    Ok((begun, ended, is_same && is_same_again))
 }
 
 /// What two searches come to, of which the first one has the lemmas as clauses of level 1, and the second one does not
@@ -222,7 +219,7 @@ pub fn again(
     alloc: Global,
     question: &Question,
     limit: u64,
-) -> Result<Option<(End, End, bool)>, TapeFault> {
+) -> Result<(End, End, bool), TapeFault> {
     let mut theory = Plain {
         atoms: atoms(alloc, question.atoms)?,
         asked: NOTHING,
