@@ -1,11 +1,12 @@
 //! Lines of proofs of each kind, one behind the other.
 
-ghost use Rattle.sb_rules.specs.Kept.{IsOver};
+ghost use Rattle.std.specs.Prelude.{length, All};
+ghost use Rattle.sb_rules.specs.Kept.{IsOver, HasNumberBelow, IsSimple};
 
 use sb_proof::{Line, read_line};
 use sb_rules::Kept;
 use sb_rules_regex::{Fault, Refusal};
-use sb_term::Table;
+use sb_term::{Assertion, Table};
 use std::alloc::{AllocError, Global};
 use std::process::Abort;
 use std::test::Fail;
@@ -66,34 +67,40 @@ const LINES: &[(&str, u64, Option<Refusal>)] = &[
     ("c learn : 0", 0, Some(Refusal::HintIdle)),
 ];
 
-/// Whether the text is a line that is answered so.
-fn is_answered(
+/// Whether the text is a line that is answered so, where these assertions are live.
+pub fn is_answered(
     alloc: Global,
     kept: &mut Kept,
     table: &Table,
+    live: &[Assertion],
     row: &(&str, u64, Option<Refusal>),
 ) -> Result<bool, AllocError>
-    requires { IsOver table.now kept.old }
+    requires over { IsOver table.now kept.old }
+    requires numbers { All (HasNumberBelow (length table.now)) live.now }
+    requires simple { All (IsSimple table.now) live.now }
     ensures { IsOver table.now kept.new }
 {
     let Ok(line) = read_line(alloc, row.0.as_bytes(), true)? else {
         return Ok(false);
     };
-    is_judged(kept, table, row.1, &line, row.2)
+    is_judged(kept, table, live, row.1, &line, row.2)
 }
 
 /// Whether a line is answered so.
 fn is_judged(
     kept: &mut Kept,
     table: &Table,
+    live: &[Assertion],
     limit: u64,
     line: &Line,
     wanted: Option<Refusal>,
 ) -> Result<bool, AllocError>
-    requires { IsOver table.now kept.old }
+    requires over { IsOver table.now kept.old }
+    requires numbers { All (HasNumberBelow (length table.now)) live.now }
+    requires simple { All (IsSimple table.now) live.now }
     ensures { IsOver table.now kept.new }
 {
-    match kept.follows(table, &[], 1, limit, line) {
+    match kept.follows(table, live, 1, limit, line) {
         Ok(()) => Ok(wanted.is_none()),
         Err(Fault::Refused(refusal)) => Ok(wanted == Some(refusal)),
         Err(Fault::NoMemory) => Err(AllocError),
@@ -110,7 +117,7 @@ fn all_are_judged(
     requires { IsOver table.now kept.old }
 {
     for row in LINES {
-        let same = is_answered(alloc, kept, table, row)?;
+        let same = is_answered(alloc, kept, table, &[], row)?;
         assert!(rt; same, "{}", row.0);
     }
     Ok(())
