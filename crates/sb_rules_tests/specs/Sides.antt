@@ -1,4 +1,4 @@
--- What may be compared: nodes that are a String constant or a word.
+-- Private: What may be compared: nodes that are a String constant or a word.
 use Rattle.std.specs.Prelude.{◌≡◌, Bool, true, false}
 use Rattle.sb_term.specs.declared.sort.Sort.TheVariants as sort
 use Rattle.sb_term.specs.declared.term.Term as code
