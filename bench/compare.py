@@ -27,6 +27,7 @@ SIZES = {
     "unicode": [5, 10, 20, 40],
     "same-place": [4, 6, 8, 10, 12],
     "filters": list(range(1, 21)),
+    "equalities": [12500, 25000, 50000, 100000],
     "checked-classes": [1250, 2500, 5000, 10000, 20000],
     "checked-constants": [1250, 2500, 5000, 10000, 20000],
     "checked-addresses": [1250, 2500, 5000, 10000, 20000],

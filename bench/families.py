@@ -18,6 +18,7 @@ Of all symbols, where LETTER is `[a-z]`:
 `same-place`: one constant with an a, and with a b, so many characters before its end.
 `filters`: one constant that holds texts of some of five kinds, mail addresses, addresses of pages, IPv4, dates and UUIDs,
 and none of the others: the first ten sizes are the twos, the next ten the threes.
+`equalities`: so many constants, each equal to a literal of its own.
 
 And scripts of so many checks, each behind a new assertion:
 `checked-classes`: one constant in one more range of characters each time.
@@ -253,6 +254,11 @@ def same_place(size):
     return "".join(in_re(concat(ALL, to_re(letter), power(ONE, size))) for letter in "ab")
 
 
+def equalities(size):
+    """Constants, each equal to a literal of its own."""
+    return "".join(f'(declare-const y{i} String)(assert (= y{i} "word{i}"))\n' for i in range(size))
+
+
 def filters(size):
     low, digit, hexa = span("a", "z"), span("0", "9"), either(span("0", "9"), span("a", "f"))
     name = f"(re.+ {either(low, digit, to_re('-'))})"
@@ -282,6 +288,7 @@ FAMILIES = {
     "unicode": unicode,
     "same-place": same_place,
     "filters": filters,
+    "equalities": equalities,
     "coprime": coprime,
     "dictionaries": dictionaries,
     "ranges": ranges,
