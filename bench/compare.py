@@ -1,7 +1,8 @@
 """Runs the program, and z3 and cvc5 where they are installed, over the families of scripts, and prints a table: processor
 seconds, peak memory in MB (at least some 10 MB, which is the start of a process from here), and the ratio to the better of
 the other two. Then the program with its proof written to a file: processor seconds, how many times those without a proof
-that is, the proof's MB, and how many of them come in a second. Then the checker on that script and proof: processor seconds, how many times those of the run
+that is, the proof's MB, how many of them come in a second, how many regexes it expands, and the bytes of memory for
+each of them, where they are 1,000 at least. Then the checker on that script and proof: processor seconds, how many times those of the run
 that wrote it that is, and peak memory in MB. A run has 20 seconds."""
 import os
 import resource
@@ -11,6 +12,8 @@ import sys
 import tempfile
 
 LIMIT = 20
+# the MB of the start of a process from here
+START = 10
 SIZES = {
     "coprime": [30, 210, 2310, 30030, 510510],
     "dictionaries": [625, 1250, 2500, 5000, 40000],
@@ -75,15 +78,18 @@ def columns(seconds, others):
 def prove(path, without):
     """The columns of a run that writes its proof, beside the seconds of one that does not, and of one that checks it."""
     with tempfile.NamedTemporaryFile(suffix=".proof") as proof:
-        seconds, _, _ = run([program, "--proof", proof.name], path)
+        seconds, used, _ = run([program, "--proof", proof.name], path)
         size = os.path.getsize(proof.name) / 1e6
+        with open(proof.name, "rb") as lines:
+            expanded = sum(line.startswith(b"x ") for line in lines)
         checked, memory = check(path, proof.name)
     rate = format(size / seconds, ".1f") if seconds else "-"
-    return columns(seconds, without) + f"{size:>9.1f}{rate:>8}" + columns(checked, seconds) + f"{memory:>9.1f}"
+    each = format((used - START) * 1e6 / expanded, ".0f") if expanded >= 1000 else "-"
+    return columns(seconds, without) + f"{size:>9.1f}{rate:>8}{expanded:>9}{each:>7}" + columns(checked, seconds) + f"{memory:>9.1f}"
 
 
 families = sys.argv[1:] or list(SIZES)
-print(f"{'family':<18}{'size':>7}" + "".join(f"{name:>12} s{'MB':>8}" for name in solvers) + f"{'ratio':>9}{'proof s':>11}{'times':>8}{'MB':>9}{'MB/s':>8}{'check s':>11}{'times':>8}{'MB':>9}  answer")
+print(f"{'family':<18}{'size':>7}" + "".join(f"{name:>12} s{'MB':>8}" for name in solvers) + f"{'ratio':>9}{'proof s':>11}{'times':>8}{'MB':>9}{'MB/s':>8}{'expanded':>9}{'bytes':>7}{'check s':>11}{'times':>8}{'MB':>9}  answer")
 for family in families:
     for size in SIZES[family]:
         with tempfile.NamedTemporaryFile(suffix=".smt2") as script:
