@@ -18,6 +18,11 @@ const ROWS: &[(&[u8], Standing)] = &[
     (b"bawe", Standing::Outside(Reason::NotBrought)),
     (b"iawe", Standing::Outside(Reason::NotBrought)),
     (b"xawe!", Standing::Outside(Reason::NotBrought)),
+    (b"xa=", Standing::Inside(Problem)),
+    (b"ax=", Standing::Inside(Problem)),
+    (b"xy=", Standing::Outside(Reason::NotBrought)),
+    (b"ab=", Standing::Outside(Reason::NotBrought)),
+    (b"xW=", Standing::Outside(Reason::TooLarge)),
     (b"x", Standing::Outside(Reason::NotBrought)),
     (b"", Standing::Outside(Reason::Marked)),
 ];

@@ -2,6 +2,7 @@
 
 use crate::terms::read;
 use sb_fragment::{Measure, Measures, membership};
+use sb_problem::Pattern;
 use sb_term::{Serial, Table, TermId};
 use std::alloc::{AllocError, Global};
 use std::process::Abort;
@@ -50,7 +51,10 @@ fn expect_measure(
     let mut measures = Measures::new(alloc);
     let found = measures.measure(table, id)?;
     assert_eq!(rt; found, wanted);
-    assert_eq!(rt; measures.is_regular(table, id)?, regular);
+    assert_eq!(rt;
+        measures.is_regular(table, Pattern::Expression(id))?,
+        regular
+    );
     Ok(())
 }
 
@@ -83,12 +87,23 @@ const MEMBERSHIPS: &[(&[u8], Option<(u64, &[u8])>)] = &[
     (b"x", None),
 ];
 
-/// The parts of the term of a text, none where it is no membership.
+/// Terms, and of an equality of a constant with a literal its constant and its word.
+const EQUALITIES: &[(&[u8], Option<(u64, &[u8])>)] = &[
+    (b"xa=", Some((0, b"a"))),
+    (b"ay=", Some((2, b"a"))),
+    (b"xV=", Some((0, b"V"))),
+    (b"xy=", None),
+    (b"ab=", None),
+    (b"ia=", None),
+    (b"xaw=", None),
+];
+
+/// The parts of the term of a text, none where it asks nothing of one constant's word alone.
 fn parts_of(
     alloc: Global,
     table: &mut Table,
     text: &[u8],
-) -> Result<Option<(Serial, TermId)>, AllocError> {
+) -> Result<Option<(Serial, Pattern)>, AllocError> {
     let id = read(alloc, table, text)?;
     if id.number() < table.len() {
         Ok(membership(table, id))
@@ -107,7 +122,25 @@ fn memberships_have_parts(
         match wanted {
             Some((serial, regex)) => {
                 let regex = read(alloc, table, regex)?;
-                assert!(rt; found == Some((Serial(*serial), regex)));
+                assert!(rt; found == Some((Serial(*serial), Pattern::Expression(regex))));
+            }
+            None => assert!(rt; found.is_none()),
+        }
+    }
+    Ok(())
+}
+
+fn equalities_have_parts(
+    rt: &impl Abort,
+    alloc: Global,
+    table: &mut Table,
+) -> Result<(), AllocError> {
+    for (text, wanted) in EQUALITIES {
+        let found = parts_of(alloc, table, text)?;
+        match wanted {
+            Some((serial, word)) => {
+                let word = read(alloc, table, word)?;
+                assert!(rt; found == Some((Serial(*serial), Pattern::Word(word))));
             }
             None => assert!(rt; found.is_none()),
         }
@@ -117,5 +150,7 @@ fn memberships_have_parts(
 
 #[test]
 fn memberships_are_taken_apart(rt: HostRuntime) -> Result<(), Fail> {
-    Ok(memberships_have_parts(&rt, rt.alloc(), &mut Table::new(rt.alloc()))?)
+    memberships_have_parts(&rt, rt.alloc(), &mut Table::new(rt.alloc()))?;
+    equalities_have_parts(&rt, rt.alloc(), &mut Table::new(rt.alloc()))?;
+    Ok(())
 }

@@ -17,6 +17,7 @@ fn symbol_of(sign: u8) -> Option<(Symbol, usize)> {
         b'*' => Some((Symbol::ReStar, 1)),
         b'+' => Some((Symbol::RePlus, 1)),
         b'e' => Some((Symbol::StrInRe, 2)),
+        b'=' => Some((Symbol::Equal, 2)),
         b'!' => Some((Symbol::Not, 1)),
         _ => None,
     }
