@@ -6,3 +6,4 @@ mod Refuting
 mod Outcomes
 mod Hints
 mod Following
+mod Writes

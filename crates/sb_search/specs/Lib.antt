@@ -2,3 +2,4 @@ pub mod Asking
 pub mod Following
 pub mod Found
 pub mod Searching
+pub mod Writing

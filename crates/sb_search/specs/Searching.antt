@@ -8,11 +8,14 @@ use Rattle.sb_trail.specs.declared.assigned.Assigned.{Assigned}
 use Rattle.sb_trail.specs.Assignments.{held, value_of, current_level, up_to}
 use Rattle.sb_clauses.specs.Propagation.{State, has_room_for, are_reserved}
 use Rattle.sb_analyze.specs.Reasons.{AreReasoned, level_in}
-use Rattle.sb_analyze.specs.Learning.{IsSettledBelow}
+use Rattle.sb_analyze.specs.Learning.{IsSettledBelow, IsLesson}
 use Rattle.sb_analyze.specs.Cores.{AreAssumed}
 use Rattle.sb_lit.specs.Kept.{Kept, kept_up_to}
+use Rattle.sb_rulebook.specs.Lines.{learned_line, rule_line, gate}
+use Rattle.sb_rulebook.specs.LineLaws.{has_text}
 use Rattle.sb_search.specs.Following.{all_hold}
 use Rattle.sb_search.specs.Found.{has_value, are_true, IsFound, GrowsTo}
+use Rattle.sb_search.specs.Writing.{Written, with_learned, with_gate, true_or_false}
 use Rattle.sb_search.specs.declared.stage.Next.{Next}
 use Rattle.sb_search.specs.declared.stage.Next.TheVariants as next
 use Rattle.sb_search.specs.declared.found.Found.{Found}
@@ -147,3 +150,13 @@ pub record IsRound (wanted : List ℕ) (assumptions : List Lit) (levels next : �
   pub grows : GrowsTo old.kept new.kept
   pub spends : IsSpentOn before after
   pub continues : Continues wanted assumptions levels next new after found
+
+-- what the search writes itself: nothing, a clause that is learned where a step was left, or that the atom of an
+-- assumption is true or false
+pub data IsWritten (assumptions : List Lit) (before after : Written) : Type 0 where
+  nothing : after ≡ before → IsWritten assumptions before after
+  learns : (clause : List Lit) (hints : List ℕ) (level : ℕ) → IsLesson before.kept clause hints level
+      → has_text (learned_line clause hints) ≡ true → before.budget.spent < before.budget.limit
+      → after ≡ with_learned clause hints level before → IsWritten assumptions before after
+  divides : (l : Lit) → is_among assumptions l ≡ true → has_text (rule_line gate (true_or_false l.atom)) ≡ true
+      → after ≡ with_gate l.atom before → IsWritten assumptions before after

@@ -1,16 +1,20 @@
 //! Clauses that are false on the trail.
 
-ghost use Rattle.std.specs.Prelude.{◌≡◌, ◌≢◌, ℕ, ◌<◌, ◌≤◌, [], ◌∷◌, List, true, false, IfOk, OnOk};
+ghost use Rattle.std.specs.Prelude.{◌≡◌, ◌≢◌, ℕ, ◌<◌, ◌≤◌, [], ◌∷◌, ◌++◌, List, true, Some, IfOk, OnOk};
 ghost use Rattle.sb_lit.specs.declared.clause.Lit.{Lit as TheLit};
 ghost use Rattle.sb_lit.specs.Budgets.{Spending};
+ghost use Rattle.sb_lit.specs.Clauses.{is_among};
 ghost use Rattle.sb_trail.specs.Assignments.{held, current_level};
 ghost use Rattle.sb_clauses.specs.Propagation.{IsConflict};
 ghost use Rattle.sb_analyze.specs.Reasons.{AreReasoned};
 ghost use Rattle.sb_analyze.specs.Learning.{IsLesson, IsAsserting, IsSettledBelow};
 ghost use Rattle.sb_analyze.specs.Cores.{AreAssumed, IsFinal, IsBothCore, IsNewCore};
+ghost use Rattle.sb_rulebook.specs.Lines.{rule_line, gate};
+ghost use Rattle.sb_rulebook.specs.LineLaws.{has_text};
 ghost use Rattle.sb_search.specs.Asking.{CountsFaults};
 ghost use Rattle.sb_search.specs.Found.{GrowsTo, IsFound};
-ghost use Rattle.sb_search.specs.Searching.{IsSearching, IsTurned, IsSpentOn, Entails};
+ghost use Rattle.sb_search.specs.Searching.{IsSearching, IsTurned, IsSpentOn, IsWritten, Entails};
+ghost use Rattle.sb_search.specs.Writing.{Written, written, true_or_false, AreKnown};
 ghost use Rattle.sb_search.specs.declared.found.Found.TheVariants.{Sat};
 ghost use Rattle.sb_search.specs.declared.turn.Turn.TheVariants.{Ends};
 
@@ -48,6 +52,9 @@ pub(crate) fn resolve<T: Theory, L: Tape>(
     ensures follows { OnOk result (Entails engine.old.kept engine.new.kept) }
     ensures not_sat { IfOk result (λ turn. turn ≢ Ends Sat) }
     ensures stands { OnOk result (T.stands theory.new engine.new.trail.literals) }
+    ensures puts { OnOk result (AreKnown (T.knows theory.old) assumptions.now → T.puts theory.old theory.new
+        (written engine.old.kept budget.old (L.Tape.told tape.old))
+        (written engine.new.kept budget.new (L.Tape.told tape.new))) }
     ensures wanted { T.wanted theory.new ≡ T.wanted theory.old }
     ensures passes { T.passes theory.new ≡ T.passes theory.old }
     ensures teaches { (clause : List TheLit) → T.teaches theory.old clause → T.teaches theory.new clause }
@@ -96,9 +103,12 @@ fn take_lesson<T: Theory>(
         → IsSearching (T.wanted theory.old) assumptions stage.old.levels stage.old.next engine.old
         → IsSearching (T.wanted theory.new) assumptions stage.new.levels stage.new.next engine.new) }
     ensures grows { OnOk result (GrowsTo engine.old.kept engine.new.kept) }
+    ensures kept { OnOk result (engine.new.kept ≡ engine.old.kept
+        ++ Some (record { literals = lesson.now.clause; level = lesson.now.level }) ∷ []) }
     ensures follows { OnOk result (Entails engine.old.kept engine.new.kept) }
     ensures stands { OnOk result (T.stands theory.old engine.old.trail.literals
         → T.stands theory.new engine.new.trail.literals) }
+    ensures puts { (proof : Written) → T.puts theory.old theory.new proof proof }
     ensures wanted { T.wanted theory.new ≡ T.wanted theory.old }
     ensures passes { T.passes theory.new ≡ T.passes theory.old }
     ensures teaches { (clause : List TheLit) → T.teaches theory.old clause → T.teaches theory.new clause }
@@ -130,6 +140,9 @@ pub(crate) fn refute<L: Tape>(
     ensures literals { OnOk result (engine.new.trail.literals ≡ engine.old.trail.literals) }
     ensures grows { OnOk result (GrowsTo engine.old.kept engine.new.kept) }
     ensures follows { OnOk result (Entails engine.old.kept engine.new.kept) }
+    ensures writes { OnOk result (IsWritten assumptions.now
+        (written engine.old.kept budget.old (L.Tape.told tape.old))
+        (written engine.new.kept budget.new (L.Tape.told tape.new))) }
     ensures spends { OnOk result (IsSpentOn budget.old budget.new) }
     ensures counts { CountsFaults result (L.Tape.faults tape.old) (L.Tape.faults tape.new) }
 {
@@ -162,6 +175,10 @@ fn keep_both<L: Tape>(
     ensures literals { OnOk result (engine.new.trail.literals ≡ engine.old.trail.literals) }
     ensures grows { OnOk result (GrowsTo engine.old.kept engine.new.kept) }
     ensures follows { OnOk result (Entails engine.old.kept engine.new.kept) }
+    ensures writes { OnOk result ((assumptions : List TheLit) (budget : Spending)
+        → is_among assumptions literal ≡ true → IsWritten assumptions
+        (written engine.old.kept budget (L.Tape.told tape.old))
+        (written engine.new.kept budget (L.Tape.told tape.new))) }
     ensures counts { CountsFaults result (L.Tape.faults tape.old) (L.Tape.faults tape.new) }
 {
     put_both(both(alloc, literal.atom)?, tape)?;
@@ -172,8 +189,8 @@ fn keep_both<L: Tape>(
 
 /// The two literals of an atom.
 fn both(alloc: Global, atom: u64) -> Result<Vec<Lit>, AllocError>
-    ensures { IfOk result (λ literals. literals.items
-        ≡ record { atom = atom; positive = true } ∷ record { atom = atom; positive = false } ∷ []) }
+    ensures both { IfOk result (λ literals. literals.items ≡ true_or_false atom) }
+    ensures has_text { has_text (rule_line gate (true_or_false atom)) ≡ true }
 {
     let literals = [
         Lit {
@@ -205,6 +222,9 @@ fn keep_core<L: Tape>(
     ensures literals { OnOk result (engine.new.trail.literals ≡ engine.old.trail.literals) }
     ensures grows { OnOk result (GrowsTo engine.old.kept engine.new.kept) }
     ensures follows { OnOk result (Entails engine.old.kept engine.new.kept) }
+    ensures writes { OnOk result ((assumptions : List TheLit) → IsWritten assumptions
+        (written engine.old.kept budget.old (L.Tape.told tape.old))
+        (written engine.new.kept budget.new (L.Tape.told tape.new))) }
     ensures spends { OnOk result (IsSpentOn budget.old budget.new) }
     ensures counts { CountsFaults result (L.Tape.faults tape.old) (L.Tape.faults tape.new) }
 {

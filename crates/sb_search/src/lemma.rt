@@ -9,6 +9,7 @@ ghost use Rattle.sb_clauses.specs.Propagation.{has_room_for};
 ghost use Rattle.sb_analyze.specs.Reasons.{level_in};
 ghost use Rattle.sb_search.specs.Asking.{with_lemma};
 ghost use Rattle.sb_search.specs.Searching.{IsLowest, IsHighest, IsSearching, higher, is_but};
+ghost use Rattle.sb_search.specs.Writing.{Written};
 
 use crate::stage::Stage;
 use crate::theory::Theory;
@@ -37,6 +38,7 @@ pub(crate) fn take_lemma<T: Theory>(
         → ((level : ℕ) → T.measure theory.old (with_lemma engine.old.kept clause.now)
         (up_to level engine.old.trail.literals) < most)
         → T.measure theory.new engine.new.kept engine.new.trail.literals < most) }
+    ensures puts { (proof : Written) → T.puts theory.old theory.new proof proof }
     ensures wanted { T.wanted theory.new ≡ T.wanted theory.old }
     ensures passes { T.passes theory.new ≡ T.passes theory.old }
     ensures teaches { (clause : List TheLit) → T.teaches theory.old clause → T.teaches theory.new clause }
@@ -61,6 +63,7 @@ pub(crate) fn go_back<T: Theory>(
     ensures levels { stage.new.levels ≡ stage.old.levels }
     ensures next { stage.new.next ≡ 0 }
     ensures stands { (entries : List Assigned) → T.stands theory.old entries → T.stands theory.new (up_to level entries) }
+    ensures puts { (proof : Written) → T.puts theory.old theory.new proof proof }
     ensures wanted { T.wanted theory.new ≡ T.wanted theory.old }
     ensures passes { T.passes theory.new ≡ T.passes theory.old }
     ensures teaches { (clause : List TheLit) → T.teaches theory.old clause → T.teaches theory.new clause }

@@ -9,6 +9,7 @@ ghost use Rattle.sb_search.specs.Asking.{CountsFaults};
 ghost use Rattle.sb_search.specs.Following.{Follows, FollowsByLevel, AreRefuted};
 ghost use Rattle.sb_search.specs.Found.{GrowsTo, IsFound};
 ghost use Rattle.sb_search.specs.Searching.{have_places, IsSearching, IsBetter, IsRound};
+ghost use Rattle.sb_search.specs.Writing.{Written, written, AreKnown};
 ghost use Rattle.sb_search.specs.declared.found.Found.TheVariants.{Sat, Unsat};
 
 use crate::found::Found;
@@ -56,6 +57,9 @@ pub fn search<T: Theory, L: Tape>(
     ensures stands { OnOk result (T.stands theory.new engine.new.trail.literals) }
     ensures limit { OnOk result (budget.new.limit ≡ budget.old.limit) }
     ensures spends { OnOk result (budget.old.spent ≤ budget.new.spent) }
+    ensures puts { OnOk result (AreKnown (T.knows theory.old) assumptions.now → T.puts theory.old theory.new
+        (written engine.old.kept budget.old (L.Tape.told tape.old))
+        (written engine.new.kept budget.new (L.Tape.told tape.new))) }
     ensures wanted { T.wanted theory.new ≡ T.wanted theory.old }
     ensures passes { T.passes theory.new ≡ T.passes theory.old }
     ensures teaches { (clause : List TheLit) → T.teaches theory.old clause → T.teaches theory.new clause }
@@ -95,6 +99,7 @@ fn begin<T: Theory>(
     ensures kept { OnOk result (engine.new.kept ≡ engine.old.kept) }
     ensures stands { OnOk result (T.stands theory.old engine.old.trail.literals
         → T.stands theory.new engine.new.trail.literals) }
+    ensures puts { (proof : Written) → T.puts theory.old theory.new proof proof }
     ensures wanted { T.wanted theory.new ≡ T.wanted theory.old }
     ensures passes { T.passes theory.new ≡ T.passes theory.old }
     ensures teaches { (clause : List TheLit) → T.teaches theory.old clause → T.teaches theory.new clause }
@@ -154,6 +159,9 @@ fn spend_one<T: Theory, L: Tape>(
     ensures follows { OnOk result (FollowsByLevel (T.teaches theory.new) engine.old.kept engine.new.kept) }
     ensures agrees { IfOk result (λ found. found ≡ Some Sat → T.agrees theory.new engine.new.trail.literals) }
     ensures stands { OnOk result (T.stands theory.new engine.new.trail.literals) }
+    ensures puts { OnOk result (AreKnown (T.knows theory.old) assumptions.now → T.puts theory.old theory.new
+        (written engine.old.kept budget.old (L.Tape.told tape.old))
+        (written engine.new.kept budget.new (L.Tape.told tape.new))) }
     ensures wanted { T.wanted theory.new ≡ T.wanted theory.old }
     ensures passes { T.passes theory.new ≡ T.passes theory.old }
     ensures teaches { (clause : List TheLit) → T.teaches theory.old clause → T.teaches theory.new clause }
@@ -190,6 +198,9 @@ fn move_on<T: Theory, L: Tape>(
     ensures follows { OnOk result (FollowsByLevel (T.teaches theory.new) engine.old.kept engine.new.kept) }
     ensures agrees { IfOk result (λ found. found ≡ Some Sat → T.agrees theory.new engine.new.trail.literals) }
     ensures stands { OnOk result (T.stands theory.new engine.new.trail.literals) }
+    ensures puts { OnOk result (AreKnown (T.knows theory.old) assumptions.now → T.puts theory.old theory.new
+        (written engine.old.kept budget.old (L.Tape.told tape.old))
+        (written engine.new.kept budget.new (L.Tape.told tape.new))) }
     ensures wanted { T.wanted theory.new ≡ T.wanted theory.old }
     ensures passes { T.passes theory.new ≡ T.passes theory.old }
     ensures teaches { (clause : List TheLit) → T.teaches theory.old clause → T.teaches theory.new clause }

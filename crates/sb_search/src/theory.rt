@@ -7,7 +7,11 @@ ghost use Rattle.sb_lit.specs.Kept.{Kept};
 ghost use Rattle.sb_trail.specs.declared.assigned.Assigned.{Assigned};
 ghost use Rattle.sb_trail.specs.Assignments.{held, up_to};
 ghost use Rattle.sb_clauses.specs.Propagation.{HasNoneFalse};
+ghost use Rattle.sb_analyze.specs.Learning.{IsLesson};
+ghost use Rattle.sb_rulebook.specs.Lines.{learned_line, rule_line, gate};
+ghost use Rattle.sb_rulebook.specs.LineLaws.{has_text};
 ghost use Rattle.sb_search.specs.Asking.{IsFair, Falls, CountsFaults};
+ghost use Rattle.sb_search.specs.Writing.{Written, written, kept_behind, with_learned, with_gate, true_or_false};
 ghost use Rattle.sb_search.specs.declared.theory.Checked.TheVariants.{Fine, Spent};
 
 use sb_clauses::Clauses;
@@ -20,7 +24,8 @@ use sb_trail::Trail;
 pub enum Checked {
     /// Nothing is wrong. Where the trail was the last one, the theory has values that agree with it.
     Fine,
-    /// A clause that the theory teaches and that is false on the trail. Its line has just been put.
+    /// A clause that the theory teaches and that is false on the trail. Its line has just been put, and the search
+    /// keeps it.
     Lemma(Clause),
     /// This literal is to be decided; it has no value.
     Ask(Lit),
@@ -48,6 +53,13 @@ pub trait Theory {
     /// The values that the theory has agree with each literal of a wanted atom on the trail.
     ghost agrees: { Self → List Assigned → Type 0 };
 
+    /// The atoms that the reader of the lines knows.
+    ghost knows: { Self → ℕ → Type 0 };
+
+    /// Lines were put that follow one after the other by the rules that the theory goes by. They take the one proof, of
+    /// which the first theory knows, to the other one, of which the second theory knows.
+    ghost puts: { Self → Self → Written → Written → Type 0 };
+
     /// Looks at the trail, on which no kept clause is false. `last` says that all wanted atoms have values and all
     /// assumptions are true: `Fine` then stands for values that agree. Puts the lines of what it finds, and spends a step
     /// for each that is counted.
@@ -73,6 +85,9 @@ pub trait Theory {
         ensures spent { IfOk result (λ answer. answer ≡ Spent → budget.new.spent ≡ budget.new.limit) }
         ensures falls { IfOk result (λ answer. budget.new.spent ≡ budget.old.spent
             → Falls (measure self.old) (measure self.new) clauses.now trail.now.literals answer) }
+        ensures puts { IfOk result (λ answer. puts self.old self.new
+            (written clauses.now budget.old (L.Tape.told tape.old))
+            (written (kept_behind clauses.now answer) budget.new (L.Tape.told tape.new))) }
         ensures counts { CountsFaults result (L.Tape.faults tape.old) (L.Tape.faults tape.new) };
 
     /// The levels above this one are taken back. Takes no memory.
@@ -81,7 +96,8 @@ pub trait Theory {
         ensures wanted { wanted self.new ≡ wanted self.old }
         ensures passes { passes self.new ≡ passes self.old }
         ensures teaches { (clause : List TheLit) → teaches self.old clause → teaches self.new clause }
-        ensures falls { (kept : Kept) (entries : List Assigned) → measure self.new kept entries ≤ measure self.old kept entries };
+        ensures falls { (kept : Kept) (entries : List Assigned) → measure self.new kept entries ≤ measure self.old kept entries }
+        ensures puts { (proof : Written) → puts self.old self.new proof proof };
 
     /// The wanted atom at this place, `None` exactly past the last one. Takes no memory.
     fn wanted_at(&self, at: u64) -> Option<u64>
@@ -94,4 +110,24 @@ pub trait Theory {
     /// and the measure does not rise there.
     ghost measure_longer: { (x : Self) (kept : Kept) (entries more : List Assigned)
         → measure x kept (entries ++ more) ≤ measure x kept entries };
+
+    /// No line takes a proof to itself,
+    ghost puts_none: { (x : Self) (proof : Written) → puts x x proof proof };
+
+    /// lines may follow lines,
+    ghost puts_both: { (x y z : Self) (before between after : Written) → puts x y before between
+        → puts y z between after → puts x z before after };
+
+    /// and an atom that is known stays so.
+    ghost stays_known: { (x y : Self) (before after : Written) → puts x y before after
+        → (atom : ℕ) → knows x atom → knows y atom };
+
+    /// The search puts the line of a clause that is learned, where a step is left,
+    ghost puts_learned: { (x : Self) (proof : Written) (clause : List TheLit) (hints : List ℕ) (level : ℕ)
+        → IsLesson proof.kept clause hints level → has_text (learned_line clause hints) ≡ true
+        → proof.budget.spent < proof.budget.limit → puts x x proof (with_learned clause hints level proof) };
+
+    /// and the line of the clause that a known atom is true or false.
+    ghost puts_gate: { (x : Self) (proof : Written) (atom : ℕ) → knows x atom
+        → has_text (rule_line gate (true_or_false atom)) ≡ true → puts x x proof (with_gate atom proof) };
 }

@@ -11,7 +11,8 @@ ghost use Rattle.sb_analyze.specs.Cores.{AreAssumed};
 ghost use Rattle.sb_search.specs.Asking.{CountsFaults, IsFair, Falls, decided};
 ghost use Rattle.sb_search.specs.Following.{FollowsByLevel};
 ghost use Rattle.sb_search.specs.Found.{are_true};
-ghost use Rattle.sb_search.specs.Searching.{IsSearching, IsTurned, IsSpentOn, IsNext, Entails};
+ghost use Rattle.sb_search.specs.Searching.{IsSearching, IsTurned, IsSpentOn, IsNext, IsWritten, Entails};
+ghost use Rattle.sb_search.specs.Writing.{written, kept_behind, AreKnown};
 ghost use Rattle.sb_search.specs.declared.stage.Next.TheVariants as next;
 ghost use Rattle.sb_search.specs.declared.theory.Checked.TheVariants.{Fine, Spent};
 ghost use Rattle.sb_search.specs.declared.found.Found.TheVariants.{Sat};
@@ -57,6 +58,9 @@ pub(crate) fn take_turn<T: Theory, L: Tape>(
     ensures agrees { IfOk result (λ turn. turn ≡ Ends Sat → T.agrees theory.new engine.new.trail.literals) }
     ensures follows { OnOk result (FollowsByLevel (T.teaches theory.new) engine.old.kept engine.new.kept) }
     ensures stands { OnOk result (T.stands theory.new engine.new.trail.literals) }
+    ensures puts { OnOk result (AreKnown (T.knows theory.old) assumptions.now → T.puts theory.old theory.new
+        (written engine.old.kept budget.old (L.Tape.told tape.old))
+        (written engine.new.kept budget.new (L.Tape.told tape.new))) }
     ensures wanted { T.wanted theory.new ≡ T.wanted theory.old }
     ensures passes { T.passes theory.new ≡ T.passes theory.old }
     ensures teaches { (clause : List TheLit) → T.teaches theory.old clause → T.teaches theory.new clause }
@@ -118,6 +122,9 @@ fn examine<T: Theory, L: Tape>(
     ensures agrees { IfOk result (λ turn. turn ≡ Ends Sat → T.agrees theory.new engine.new.trail.literals) }
     ensures follows { OnOk result (FollowsByLevel (T.teaches theory.new) engine.old.kept engine.new.kept) }
     ensures stands { OnOk result (T.stands theory.new engine.new.trail.literals) }
+    ensures puts { OnOk result (AreKnown (T.knows theory.old) assumptions.now → T.puts theory.old theory.new
+        (written engine.old.kept budget.old (L.Tape.told tape.old))
+        (written engine.new.kept budget.new (L.Tape.told tape.new))) }
     ensures wanted { T.wanted theory.new ≡ T.wanted theory.old }
     ensures passes { T.passes theory.new ≡ T.passes theory.old }
     ensures teaches { (clause : List TheLit) → T.teaches theory.old clause → T.teaches theory.new clause }
@@ -150,6 +157,9 @@ fn contradict<L: Tape>(
         → IsTurned wanted assumptions.now levels next engine.old engine.new budget.old budget.new most now turn) }
     ensures not_sat { IfOk result (λ turn. turn ≢ Ends Sat) }
     ensures follows { OnOk result (Entails engine.old.kept engine.new.kept) }
+    ensures writes { OnOk result (IsWritten assumptions.now
+        (written engine.old.kept budget.old (L.Tape.told tape.old))
+        (written engine.new.kept budget.new (L.Tape.told tape.new))) }
     ensures literals { OnOk result (engine.new.trail.literals ≡ engine.old.trail.literals) }
     ensures counts { CountsFaults result (L.Tape.faults tape.old) (L.Tape.faults tape.new) }
 {
@@ -181,6 +191,9 @@ fn assume<T: Theory, L: Tape>(
     ensures not_sat { IfOk result (λ turn. turn ≢ Ends Sat) }
     ensures follows { OnOk result (FollowsByLevel (T.teaches theory.new) engine.old.kept engine.new.kept) }
     ensures stands { OnOk result (T.stands theory.new engine.new.trail.literals) }
+    ensures puts { OnOk result (T.puts theory.old theory.new
+        (written engine.old.kept budget.old (L.Tape.told tape.old))
+        (written engine.new.kept budget.new (L.Tape.told tape.new))) }
     ensures wanted { T.wanted theory.new ≡ T.wanted theory.old }
     ensures passes { T.passes theory.new ≡ T.passes theory.old }
     ensures teaches { (clause : List TheLit) → T.teaches theory.old clause → T.teaches theory.new clause }
@@ -224,6 +237,9 @@ fn choose<T: Theory, L: Tape>(
     ensures not_sat { IfOk result (λ turn. turn ≢ Ends Sat) }
     ensures follows { OnOk result (FollowsByLevel (T.teaches theory.new) engine.old.kept engine.new.kept) }
     ensures stands { OnOk result (T.stands theory.new engine.new.trail.literals) }
+    ensures puts { OnOk result (T.puts theory.old theory.new
+        (written engine.old.kept budget.old (L.Tape.told tape.old))
+        (written engine.new.kept budget.new (L.Tape.told tape.new))) }
     ensures wanted { T.wanted theory.new ≡ T.wanted theory.old }
     ensures passes { T.passes theory.new ≡ T.passes theory.old }
     ensures teaches { (clause : List TheLit) → T.teaches theory.old clause → T.teaches theory.new clause }
@@ -266,6 +282,9 @@ fn finish<T: Theory, L: Tape>(
     ensures agrees { IfOk result (λ turn. turn ≡ Ends Sat → T.agrees theory.new engine.new.trail.literals) }
     ensures follows { OnOk result (FollowsByLevel (T.teaches theory.new) engine.old.kept engine.new.kept) }
     ensures stands { OnOk result (T.stands theory.new engine.new.trail.literals) }
+    ensures puts { OnOk result (T.puts theory.old theory.new
+        (written engine.old.kept budget.old (L.Tape.told tape.old))
+        (written engine.new.kept budget.new (L.Tape.told tape.new))) }
     ensures wanted { T.wanted theory.new ≡ T.wanted theory.old }
     ensures passes { T.passes theory.new ≡ T.passes theory.old }
     ensures teaches { (clause : List TheLit) → T.teaches theory.old clause → T.teaches theory.new clause }
@@ -306,6 +325,9 @@ fn ask<T: Theory, L: Tape>(
     ensures spent { IfOk result (λ answer. answer ≡ Spent → budget.new.spent ≡ budget.new.limit) }
     ensures falls { IfOk result (λ answer. budget.new.spent ≡ budget.old.spent
         → Falls (T.measure theory.old) (T.measure theory.new) engine.now.kept engine.now.trail.literals answer) }
+    ensures puts { IfOk result (λ answer. T.puts theory.old theory.new
+        (written engine.now.kept budget.old (L.Tape.told tape.old))
+        (written (kept_behind engine.now.kept answer) budget.new (L.Tape.told tape.new))) }
     ensures counts { CountsFaults result (L.Tape.faults tape.old) (L.Tape.faults tape.new) }
 {
     theory.check(engine.trail(), engine.clauses(), last, tape, budget)

@@ -1,6 +1,6 @@
 //! Theories of which all is known.
 
-ghost use Rattle.std.specs.Prelude.{◌≡◌, ◌≢◌, ℕ, ◌+◌, ◌^◌, ◌<◌, ◌≤◌, List, true, length, IfOk, IfSome};
+ghost use Rattle.std.specs.Prelude.{◌≡◌, ◌≢◌, ℕ, ◌+◌, ◌^◌, ◌<◌, ◌≤◌, List, [], ◌∷◌, true, length, refl, IfOk, OnOk, IfSome};
 ghost use Rattle.std.specs.List.{slice_get};
 ghost use Rattle.std.proofs.Common.{rules};
 ghost use Rattle.sb_lit.specs.Clauses.{is_false_clause};
@@ -8,9 +8,14 @@ ghost use Rattle.sb_lit.specs.declared.clause.Lit.{Lit as TheLit};
 ghost use Rattle.sb_lit.specs.Kept.{Kept};
 ghost use Rattle.sb_trail.specs.declared.assigned.Assigned.{Assigned};
 ghost use Rattle.sb_trail.specs.Assignments.{held};
+ghost use Rattle.sb_script.specs.Steps.{line as ended};
+ghost use Rattle.sb_rulebook.specs.Lines.{rule_line, step, text_of};
+ghost use Rattle.sb_proof.specs.Tapes.{with_bytes};
 ghost use Rattle.sb_search.specs.Asking.{Measure, IsFair, Falls, CountsFaults};
+ghost use Rattle.sb_search.specs.Writing.{written, kept_behind};
 ghost use Rattle.sb_search.specs.declared.theory.Checked.TheVariants.{Fine, Spent};
 ghost use Rattle.sb_searches_tests.specs.Given.{IsOneOf};
+ghost use Rattle.sb_searches_tests.specs.Putting.{Leads, learns, divides, leads_both, leads_on};
 
 use sb_clauses::Clauses;
 use sb_lit::{Budget, Clause, Lit};
@@ -59,6 +64,10 @@ impl Theory for Plain {
 
     ghost agrees = { λ _ _. Unit {0} };
 
+    ghost knows = { λ _ _. Unit {0} };
+
+    ghost puts = { λ _ _ before after. Leads [] before after };
+
     fn check<L: Tape>(
         &mut self,
         _trail: &Trail,
@@ -80,6 +89,17 @@ impl Theory for Plain {
     ghost stands_longer = { λ _ _ _ _. tt };
 
     ghost measure_longer = { Prim.search rules };
+
+    ghost puts_none = { λ _ _. ([], refl) };
+
+    ghost puts_both = { λ _ _ _ before between after. leads_both [] before between after };
+
+    ghost stays_known = { λ _ _ _ _ _ _ _. tt };
+
+    ghost puts_learned = { λ _ _ clause hints level lesson _ room.
+        (learns clause hints level ∷ [], ((lesson, room), refl)) };
+
+    ghost puts_gate = { λ _ _ atom _ _. (divides atom ∷ [], (tt, refl)) };
 }
 
 /// The atom at a place.
@@ -115,6 +135,10 @@ impl Theory for Given {
 
     ghost agrees = { λ _ _. Unit {0} };
 
+    ghost knows = { λ _ _. Unit {0} };
+
+    ghost puts = { λ x y before after. (y.lemmas.items ≡ x.lemmas.items) × Leads x.lemmas.items before after };
+
     fn check<L: Tape>(
         &mut self,
         trail: &Trail,
@@ -139,6 +163,18 @@ impl Theory for Given {
     ghost stands_longer = { λ _ _ _ _. tt };
 
     ghost measure_longer = { Prim.search rules };
+
+    ghost puts_none = { λ _ _. (refl, ([], refl)) };
+
+    ghost puts_both = { λ x y z before between after.
+        leads_on x.lemmas.items y.lemmas.items z.lemmas.items before between after };
+
+    ghost stays_known = { λ _ _ _ _ _ _ _. tt };
+
+    ghost puts_learned = { λ _ _ clause hints level lesson _ room.
+        (refl, (learns clause hints level ∷ [], ((lesson, room), refl))) };
+
+    ghost puts_gate = { λ _ _ atom _ _. (refl, (divides atom ∷ [], (tt, refl))) };
 }
 
 /// The first lemma that is false.
@@ -184,6 +220,9 @@ fn paid<L: Tape>(
     ensures spent { IfOk result (λ answer. answer ≡ Spent → budget.new.spent ≡ budget.new.limit) }
     ensures falls { IfOk result (λ answer. (old new : Measure) (kept : Kept) (entries : List Assigned)
         → budget.new.spent ≡ budget.old.spent → Falls old new kept entries answer) }
+    ensures leads { IfOk result (λ answer. (kept : Kept) (lemmas : List (List TheLit)) → IsOneOf lemmas lemma
+        → Leads lemmas (written kept budget.old (L.Tape.told tape.old))
+        (written (kept_behind kept answer) budget.new (L.Tape.told tape.new))) }
     ensures counts { CountsFaults result (L.Tape.faults tape.old) (L.Tape.faults tape.new) }
 {
     if budget.tick().is_err() {
@@ -195,6 +234,8 @@ fn paid<L: Tape>(
 
 /// Puts the line of a lemma.
 fn put_lemma<L: Tape>(alloc: Global, lemma: &Clause, tape: &mut L) -> Result<(), TapeFault>
+    ensures told { OnOk result (L.Tape.told tape.new
+        ≡ with_bytes (ended (text_of (rule_line step lemma.now))) (L.Tape.told tape.old)) }
     ensures counts { CountsFaults result (L.Tape.faults tape.old) (L.Tape.faults tape.new) }
 {
     let literals = Vec::from_slice(alloc, lemma.literals())?;
@@ -206,6 +247,7 @@ fn wish(trail: &Trail, wishes: &mut Vec<Lit>) -> Checked
     ensures fair { (lemmas : List (List TheLit)) → IsFair (λ _. true) (IsOneOf lemmas) trail.now.literals result }
     ensures falls { (kept : Kept) → Falls (λ _ _. length wishes.old.items) (λ _ _. length wishes.new.items) kept
         trail.now.literals result }
+    ensures no_lemma { (kept : Kept) → kept_behind kept result ≡ kept }
     ensures not_spent { result ≢ Spent }
 {
     let Some(literal) = wishes.pop() else {

@@ -26,3 +26,9 @@ returns-clause-follows g c =
     c.args.lesson.now.level (c.in_ok-keep.ensures.kept ∙ ap (λ (s : State).
     s.kept ++ Some (record { literals = c.args.lesson.now.clause; level = c.args.lesson.now.level }) ∷ [])
     c.go_back.ensures.engine) c.requires.is_lesson.accepted
+
+pub returns-clause-kept : goal.returns-clause-kept
+returns-clause-kept g c =
+    c.in_ok-keep.ensures.kept ∙ ap (λ (s : State).
+    s.kept ++ Some (record { literals = c.args.lesson.now.clause; level = c.args.lesson.now.level }) ∷ [])
+    c.go_back.ensures.engine

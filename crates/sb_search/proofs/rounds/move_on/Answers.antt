@@ -2,6 +2,8 @@ use Rattle.std.proofs.Common.{refl, ◌∙◌, inr, arith}
 use Rattle.std.proofs.lemmas.Result.{err_from_is_err_and}
 use Rattle.sb_search.proofs.Outcomes.{no_round, round_ends, round_moves, round_decides, better_on, no_worse_on, fewer_left, counts_on}
 use Rattle.sb_search.proofs.Following.{follows_same, follows_on}
+use Rattle.sb_search.specs.Writing.{written}
+use Rattle.sb_search.proofs.Writes.{puts_on}
 use Rattle.sb_search.proofs.rounds.move_on.Goals as goal
 
 pub loop-found-init : goal.loop-found-init
@@ -16,6 +18,9 @@ loop-found-init g c = (
   refl,
   λ _ taught. taught,
   follows_same (g.T.Theory.teaches c.args.theory.now) c.args.engine.now.kept c.args.engine.now.kept refl,
+  λ _.
+      g.met.T.Theory.puts_none c.args.theory.now
+      (written c.args.engine.now.kept c.args.budget.now (g.L.Tape.told c.args.tape.now)),
 )
 
 pub take_turn-requires-clause-searching : goal.take_turn-requires-clause-searching
@@ -118,6 +123,12 @@ loop-found-preserved g c = (
   follows_on (g.T.Theory.teaches c.loop-found.theory) (g.T.Theory.teaches c.take_turn.new.theory) c.args.engine.now.kept
       c.loop-found.engine.kept c.take_turn.new.engine.kept c.take_turn.ensures.teaches c.loop-found.invariant.7
       c.in_ok-found.ensures.follows,
+  puts_on g.T.Theory.knows g.T.Theory.puts g.met.T.Theory.puts_both g.met.T.Theory.stays_known
+      c.args.assumptions.now c.args.theory.now c.loop-found.theory c.take_turn.new.theory
+      (written c.args.engine.now.kept c.args.budget.now (g.L.Tape.told c.args.tape.now))
+      (written c.loop-found.engine.kept c.loop-found.budget (g.L.Tape.told c.loop-found.tape))
+      (written c.take_turn.new.engine.kept c.take_turn.new.budget (g.L.Tape.told c.take_turn.new.tape))
+      c.loop-found.invariant.8 c.in_ok-found.ensures.puts,
 )
 
 pub returns-in_err-found-clause-teaches : goal.returns-in_err-found-clause-teaches
@@ -143,3 +154,21 @@ returns-in-Moves-clause-follows g c =
     follows_on (g.T.Theory.teaches c.loop-found.theory) (g.T.Theory.teaches c.take_turn.new.theory) c.args.engine.now.kept
     c.loop-found.engine.kept c.take_turn.new.engine.kept c.take_turn.ensures.teaches c.loop-found.invariant.7
     c.in_ok-found.ensures.follows
+
+pub returns-in-Ends-clause-puts : goal.returns-in-Ends-clause-puts
+returns-in-Ends-clause-puts g c =
+    puts_on g.T.Theory.knows g.T.Theory.puts g.met.T.Theory.puts_both g.met.T.Theory.stays_known
+    c.args.assumptions.now c.args.theory.now c.loop-found.theory c.take_turn.new.theory
+    (written c.args.engine.now.kept c.args.budget.now (g.L.Tape.told c.args.tape.now))
+    (written c.loop-found.engine.kept c.loop-found.budget (g.L.Tape.told c.loop-found.tape))
+    (written c.take_turn.new.engine.kept c.take_turn.new.budget (g.L.Tape.told c.take_turn.new.tape))
+    c.loop-found.invariant.8 c.in_ok-found.ensures.puts
+
+pub returns-in-Moves-clause-puts : goal.returns-in-Moves-clause-puts
+returns-in-Moves-clause-puts g c =
+    puts_on g.T.Theory.knows g.T.Theory.puts g.met.T.Theory.puts_both g.met.T.Theory.stays_known
+    c.args.assumptions.now c.args.theory.now c.loop-found.theory c.take_turn.new.theory
+    (written c.args.engine.now.kept c.args.budget.now (g.L.Tape.told c.args.tape.now))
+    (written c.loop-found.engine.kept c.loop-found.budget (g.L.Tape.told c.loop-found.tape))
+    (written c.take_turn.new.engine.kept c.take_turn.new.budget (g.L.Tape.told c.take_turn.new.tape))
+    c.loop-found.invariant.8 c.in_ok-found.ensures.puts

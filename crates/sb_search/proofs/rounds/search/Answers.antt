@@ -1,7 +1,10 @@
-use Rattle.std.proofs.Common.{None, refl, ◌∙◌, arith}
+use Rattle.std.proofs.Common.{None, refl, sym, subst, ◌∙◌, arith}
 use Rattle.std.proofs.lemmas.Result.{err_from_is_err_and}
 use Rattle.sb_search.proofs.Outcomes.{no_round, rounds_on, grows_both, counts_on}
 use Rattle.sb_search.proofs.Following.{follows_same, follows_on, follows_in_all, refuted, core_found}
+use Rattle.sb_lit.specs.Kept.{Kept}
+use Rattle.sb_search.specs.Writing.{written}
+use Rattle.sb_search.proofs.Writes.{puts_on}
 use Rattle.sb_search.proofs.rounds.search.Goals as goal
 
 pub loop-found-init : goal.loop-found-init
@@ -16,6 +19,11 @@ loop-found-init g c = (
   c.begin.ensures.teaches,
   follows_same (g.T.Theory.teaches c.begin.new.theory) c.args.engine.now.kept c.begin.new.engine.kept
       c.in_ok-begin.ensures.kept,
+  λ _.
+      subst (λ (k : Kept). g.T.Theory.puts c.args.theory.now c.begin.new.theory
+      (written c.args.engine.now.kept c.args.budget.now (g.L.Tape.told c.args.tape.now))
+      (written k c.args.budget.now (g.L.Tape.told c.args.tape.now))) (sym c.in_ok-begin.ensures.kept)
+      (c.begin.ensures.puts (written c.args.engine.now.kept c.args.budget.now (g.L.Tape.told c.args.tape.now))),
 )
 
 pub spend_one-requires-clause-searching : goal.spend_one-requires-clause-searching
@@ -83,6 +91,12 @@ loop-found-preserved g c = (
   follows_on (g.T.Theory.teaches c.loop-found.theory) (g.T.Theory.teaches c.spend_one.new.theory) c.args.engine.now.kept
       c.loop-found.engine.kept c.spend_one.new.engine.kept c.spend_one.ensures.teaches c.loop-found.invariant.6
       c.in_ok-found.ensures.follows,
+  puts_on g.T.Theory.knows g.T.Theory.puts g.met.T.Theory.puts_both g.met.T.Theory.stays_known
+      c.args.assumptions.now c.args.theory.now c.loop-found.theory c.spend_one.new.theory
+      (written c.args.engine.now.kept c.args.budget.now (g.L.Tape.told c.args.tape.now))
+      (written c.loop-found.engine.kept c.loop-found.budget (g.L.Tape.told c.loop-found.tape))
+      (written c.spend_one.new.engine.kept c.spend_one.new.budget (g.L.Tape.told c.spend_one.new.tape))
+      c.loop-found.invariant.7 c.in_ok-found.ensures.puts,
 )
 
 pub returns-in_err-found-clause-teaches : goal.returns-in_err-found-clause-teaches
@@ -116,3 +130,12 @@ returns-in-Some-clause-refuted g c = λ id is.
     (core_found (g.T.Theory.wanted c.spend_one.new.theory) c.args.assumptions.now c.spend_one.new.stage.levels
     c.spend_one.new.stage.next c.spend_one.new.engine c.spend_one.new.budget c.in_ok-found.field-0 c.in-Some.found id
     c.in_ok-found.ensures.round.continues c.in-Some.is is)
+
+pub returns-in-Some-clause-puts : goal.returns-in-Some-clause-puts
+returns-in-Some-clause-puts g c =
+    puts_on g.T.Theory.knows g.T.Theory.puts g.met.T.Theory.puts_both g.met.T.Theory.stays_known
+    c.args.assumptions.now c.args.theory.now c.loop-found.theory c.spend_one.new.theory
+    (written c.args.engine.now.kept c.args.budget.now (g.L.Tape.told c.args.tape.now))
+    (written c.loop-found.engine.kept c.loop-found.budget (g.L.Tape.told c.loop-found.tape))
+    (written c.spend_one.new.engine.kept c.spend_one.new.budget (g.L.Tape.told c.spend_one.new.tape))
+    c.loop-found.invariant.7 c.in_ok-found.ensures.puts

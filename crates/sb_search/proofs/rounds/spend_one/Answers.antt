@@ -2,6 +2,8 @@ use Rattle.std.proofs.Common.{Some, None, refl, ◌∙◌, arith}
 use Rattle.std.proofs.lemmas.Result.{err_from_is_err_and}
 use Rattle.sb_search.proofs.Outcomes.{no_round, rounds_on, fell, counts_on}
 use Rattle.sb_search.proofs.Following.{follows_same, follows_on}
+use Rattle.sb_search.specs.Writing.{written}
+use Rattle.sb_search.proofs.Writes.{puts_on}
 use Rattle.sb_search.proofs.rounds.spend_one.Goals as goal
 
 pub loop-found-init : goal.loop-found-init
@@ -16,6 +18,9 @@ loop-found-init g c = (
   refl,
   λ _ taught. taught,
   follows_same (g.T.Theory.teaches c.args.theory.now) c.args.engine.now.kept c.args.engine.now.kept refl,
+  λ _.
+      g.met.T.Theory.puts_none c.args.theory.now
+      (written c.args.engine.now.kept c.args.budget.now (g.L.Tape.told c.args.tape.now)),
 )
 
 pub move_on-requires-clause-searching : goal.move_on-requires-clause-searching
@@ -109,6 +114,12 @@ loop-found-preserved g c = (
   follows_on (g.T.Theory.teaches c.loop-found.theory) (g.T.Theory.teaches c.move_on.new.theory) c.args.engine.now.kept
       c.loop-found.engine.kept c.move_on.new.engine.kept c.move_on.ensures.teaches c.loop-found.invariant.7
       c.in_ok-found.ensures.follows,
+  puts_on g.T.Theory.knows g.T.Theory.puts g.met.T.Theory.puts_both g.met.T.Theory.stays_known
+      c.args.assumptions.now c.args.theory.now c.loop-found.theory c.move_on.new.theory
+      (written c.args.engine.now.kept c.args.budget.now (g.L.Tape.told c.args.tape.now))
+      (written c.loop-found.engine.kept c.loop-found.budget (g.L.Tape.told c.loop-found.tape))
+      (written c.move_on.new.engine.kept c.move_on.new.budget (g.L.Tape.told c.move_on.new.tape))
+      c.loop-found.invariant.8 c.in_ok-found.ensures.puts,
 )
 
 pub returns-in_err-found-clause-teaches : goal.returns-in_err-found-clause-teaches
@@ -134,3 +145,21 @@ returns-then-spent-start-clause-follows g c =
     follows_on (g.T.Theory.teaches c.loop-found.theory) (g.T.Theory.teaches c.move_on.new.theory) c.args.engine.now.kept
     c.loop-found.engine.kept c.move_on.new.engine.kept c.move_on.ensures.teaches c.loop-found.invariant.7
     c.in_ok-found.ensures.follows
+
+pub returns-in-Some-clause-puts : goal.returns-in-Some-clause-puts
+returns-in-Some-clause-puts g c =
+    puts_on g.T.Theory.knows g.T.Theory.puts g.met.T.Theory.puts_both g.met.T.Theory.stays_known
+    c.args.assumptions.now c.args.theory.now c.loop-found.theory c.move_on.new.theory
+    (written c.args.engine.now.kept c.args.budget.now (g.L.Tape.told c.args.tape.now))
+    (written c.loop-found.engine.kept c.loop-found.budget (g.L.Tape.told c.loop-found.tape))
+    (written c.move_on.new.engine.kept c.move_on.new.budget (g.L.Tape.told c.move_on.new.tape))
+    c.loop-found.invariant.8 c.in_ok-found.ensures.puts
+
+pub returns-then-spent-start-clause-puts : goal.returns-then-spent-start-clause-puts
+returns-then-spent-start-clause-puts g c =
+    puts_on g.T.Theory.knows g.T.Theory.puts g.met.T.Theory.puts_both g.met.T.Theory.stays_known
+    c.args.assumptions.now c.args.theory.now c.loop-found.theory c.move_on.new.theory
+    (written c.args.engine.now.kept c.args.budget.now (g.L.Tape.told c.args.tape.now))
+    (written c.loop-found.engine.kept c.loop-found.budget (g.L.Tape.told c.loop-found.tape))
+    (written c.move_on.new.engine.kept c.move_on.new.budget (g.L.Tape.told c.move_on.new.tape))
+    c.loop-found.invariant.8 c.in_ok-found.ensures.puts

@@ -2,6 +2,7 @@ use Rattle.std.proofs.Common.{◌≡◌, None, List}
 use Rattle.sb_lit.specs.declared.clause.Lit.{Lit}
 use Rattle.sb_search.specs.Following.{FollowsByLevel}
 use Rattle.sb_search.specs.Searching.{IsRound}
+use Rattle.sb_search.specs.Writing.{written, AreKnown}
 use Rattle.sb_search.proofs.rounds.spend_one.Given as goal
 
 abbrev pub invariant-loop-found : goal.invariant-loop-found
@@ -14,6 +15,9 @@ invariant-loop-found g l = IsRound (g.T.Theory.wanted l.theory) l.assumptions l.
     × (g.L.Tape.faults l.tape ≡ g.L.Tape.faults l.fn.tape)
     × ((clause : List Lit) → g.T.Theory.teaches l.fn.theory clause → g.T.Theory.teaches l.theory clause)
     × FollowsByLevel (g.T.Theory.teaches l.theory) l.fn.engine.kept l.engine.kept
+    × (AreKnown (g.T.Theory.knows l.fn.theory) l.assumptions → g.T.Theory.puts l.fn.theory l.theory
+    (written l.fn.engine.kept l.fn.budget (g.L.Tape.told l.fn.tape))
+    (written l.engine.kept l.budget (g.L.Tape.told l.tape)))
 
 abbrev pub decreases-loop-found : goal.decreases-loop-found
 decreases-loop-found g l = g.T.Theory.measure l.theory l.engine.kept l.engine.trail.literals

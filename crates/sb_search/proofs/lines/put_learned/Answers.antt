@@ -1,0 +1,14 @@
+use Rattle.std.proofs.Common.{◌≡◌, ℕ, true, List, subst}
+use Rattle.std.specs.List.{list_all}
+use Rattle.std.proofs.lemmas.Bool.{and_from}
+use Rattle.std.proofs.lemmas.Result.{on_ok_weaker}
+use Rattle.sb_lit.specs.declared.clause.Lit.{Lit}
+use Rattle.sb_rulebook.specs.LineLaws.{are_small, is_small_literal}
+use Rattle.sb_search.proofs.lines.put_learned.Goals as goal
+
+pub returns-clause-has_text : goal.returns-clause-has_text
+returns-clause-has_text g c =
+    on_ok_weaker c.put.result
+    (λ _. and_from (list_all is_small_literal c.args.lesson.now.clause) (are_small c.args.lesson.now.hints)
+    (subst (λ (ls : List Lit). list_all is_small_literal ls ≡ true) c.literals.ensures c.in_ok-literals.ensures.small)
+    (subst (λ (ns : List ℕ). are_small ns ≡ true) c.ids.ensures c.in_ok-hints.ensures.small)) c.put.ensures.ok
