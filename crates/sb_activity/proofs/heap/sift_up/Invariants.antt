@@ -1,0 +1,10 @@
+use Rattle.std.proofs.Common.{◌≡◌, ℕ, ◌<◌, ◌≤◌, length}
+use Rattle.sb_activity.specs.Places.{AreInverse, are_first}
+use Rattle.sb_activity.proofs.heap.sift_up.Given as goal
+
+abbrev pub invariant-loop-at : goal.invariant-loop-at
+invariant-loop-at l = (AreInverse l.heap l.places) × (length l.heap ≡ length l.fn.heap) × (l.at ≤ l.from)
+    × ((count : ℕ) → l.from < count → are_first count l.places ≡ are_first count l.fn.places)
+
+abbrev pub decreases-loop-at : goal.decreases-loop-at
+decreases-loop-at l = l.at
