@@ -116,3 +116,12 @@ free_open trail wanted atom there assumptions levels search same given places =
       ltb-true atom trail.reserved (found_at (λ a. ltb a trail.reserved) wanted there.1.0 atom there.1.1 places),
       given,
     )
+
+pub waiting_open : (trail : Assignments) (wanted : List ℕ) (atom : ℕ)
+    → (value_of trail.literals atom ≡ None) × (atom < trail.reserved)
+    → (assumptions : List Lit) (levels : ℕ) (search : State) → search.trail ≡ trail
+    → are_true (held trail.literals) assumptions ≡ true → have_places trail.reserved wanted ≡ true
+    → IsNext wanted assumptions levels search (next.Free atom)
+waiting_open trail wanted atom there assumptions levels search same given places =
+    subst (λ (t : Assignments). (value_of t.literals atom ≡ None) × (atom < t.reserved)
+    × (are_true (held t.literals) assumptions ≡ true)) (sym same) (there.0, there.1, given)

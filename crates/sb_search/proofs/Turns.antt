@@ -1,5 +1,5 @@
 -- What the moves of a search keep.
-use Rattle.std.proofs.Common.{◌≡◌, ℕ, ◌+◌, ◌&&◌, ◌||◌, ◌<◌, ◌≤◌, true, false, leb, ltb, take, List, [], ◌∷◌, ◌++◌, Some, None, refl, sym, ◌∙◌, ap, subst, inl, inr, arith}
+use Rattle.std.proofs.Common.{◌≡◌, ◌⊎◌, ℕ, ◌+◌, ◌&&◌, ◌||◌, ◌<◌, ◌≤◌, true, false, leb, ltb, take, List, [], ◌∷◌, ◌++◌, Some, None, refl, sym, ◌∙◌, ap, subst, inl, inr, arith}
 use Rattle.std.specs.List.{list_all}
 use Rattle.std.proofs.lemmas.Bool.{false≢true, cases_Bool, lt-leb, leb-true, ltb-true, ltb-false, and_parts, false_from_ne_true}
 use Rattle.std.proofs.lemmas.List.{append-nil}
@@ -323,3 +323,12 @@ searching_begun wanted assumptions levels old new is_trail reasoned kept same ro
       given = λ low. absurd (omega (arith, low, flat));
       first = λ _. refl;
     }
+
+-- on a level of which this is known, or on level 0
+pub below_at : (kept : Kept) (es : List Assigned) (level back : ℕ) → (level ≡ back) ⊎ (level ≡ 0)
+    → IsSettledBelow kept (up_to back es) → IsSettledBelow kept (up_to level es)
+below_at kept es level back cases h =
+    elim cases [
+      | inl same ↦ subst (λ n. IsSettledBelow kept (up_to n es)) (sym same) h
+      | inr zero ↦ λ n low. absurd (omega (arith, low, zero, level_up_to level 0 es (omega arith)))
+    ]

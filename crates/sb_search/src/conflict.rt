@@ -70,6 +70,7 @@ pub(crate) fn resolve<T: Theory, L: Tape>(
         return Ok(Turn::Ends(Found::Spent));
     }
     let lesson = explain(alloc, engine, conflict)?;
+    stage.choices.learn(engine.clauses(), &lesson);
     put_learned(alloc, &lesson, tape)?;
     take_lesson(theory, engine, stage, &lesson)?;
     Ok(Turn::Moves)
@@ -90,7 +91,7 @@ fn explain(alloc: Global, engine: &Engine, conflict: ClauseId) -> Result<Learned
     Ok(lesson)
 }
 
-/// Goes back to where what was learned leaves one literal, and keeps it.
+/// Goes back to where what was learned leaves one literal, or to the beginning, and keeps it.
 fn take_lesson<T: Theory>(
     theory: &mut T,
     engine: &mut Engine,
@@ -115,7 +116,8 @@ fn take_lesson<T: Theory>(
 {
     let trail = engine.trail();
     let _before = trail.literals();
-    go_back(theory, engine, stage, lesson.backjump_level);
+    let level = stage.restarts.level(lesson.backjump_level);
+    go_back(theory, engine, stage, level);
     keep(engine, &lesson.clause, lesson.level)?;
     Ok(())
 }

@@ -70,6 +70,7 @@ pub(crate) fn go_back<T: Theory>(
     ensures falls { (kept : Kept) (entries : List Assigned)
         → T.measure theory.new kept entries ≤ T.measure theory.old kept entries }
 {
+    stage.choices.take_back(engine.trail().literals(), level);
     engine.backtrack(level);
     theory.undo(level);
     stage.next = 0;

@@ -11,10 +11,12 @@
 //! trail longer.
 #![tactic(auto)]
 
+mod choices;
 mod conflict;
 mod found;
 mod lemma;
 mod lines;
+mod restarts;
 mod rounds;
 mod stage;
 mod theory;

@@ -12,8 +12,10 @@ ghost use Rattle.sb_search.specs.Searching.{have_places, IsSearching, IsBetter, 
 ghost use Rattle.sb_search.specs.Writing.{Written, written, AreKnown};
 ghost use Rattle.sb_search.specs.declared.found.Found.TheVariants.{Sat, Unsat};
 
+use crate::choices::Choices;
 use crate::found::Found;
 use crate::lemma::{go_back, make_place, make_room};
+use crate::restarts::Restarts;
 use crate::stage::Stage;
 use crate::theory::Theory;
 use crate::turn::{Turn, take_turn};
@@ -25,10 +27,11 @@ use std::alloc::{AllocError, Global};
 /// Searches for a trail on which all wanted atoms have values, no kept clause is false, all assumptions are true, and
 /// with which the theory agrees; or for a kept clause of negated assumptions alone.
 ///
-/// Assumptions are decided first, in their order, and then atoms that are wanted. Behind each propagation that comes to
-/// its end without a false clause the theory is asked, but where an assumption is false. A literal that it asks for is
-/// decided next, once all assumptions are. Each conflict that is learned from spends a step of the budget, before its
-/// line is put. `Spent` comes only where the budget is spent.
+/// Assumptions are decided first, in their order, and then atoms that are wanted: that which was met most in conflicts
+/// of late, as it was last, and false at first. At some conflicts the search begins again at level 0. Behind each
+/// propagation that comes to its end without a false clause the theory is asked, but where an assumption is false. A
+/// literal that it asks for is decided next, once all assumptions are. Each conflict that is learned from spends a step
+/// of the budget, before its line is put. `Spent` comes only where the budget is spent.
 ///
 /// What stands on the trail stays there, but for what the search takes back of it at its beginning: all above level 0.
 /// What is kept behind the clauses that were there follows from them and from what the theory teaches, level by level.
@@ -69,6 +72,8 @@ pub fn search<T: Theory, L: Tape>(
         levels: 0,
         next: 0,
         at: 0,
+        choices: Choices::new(alloc),
+        restarts: Restarts::new(),
     };
     begin(theory, engine, &mut stage, assumptions)?;
     loop {
@@ -108,13 +113,17 @@ fn begin<T: Theory>(
     let _before = trail.literals();
     go_back(theory, engine, stage, 0);
     make_room(engine)?;
-    place_wanted(theory, engine)?;
+    place_wanted(theory, engine, &mut stage.choices)?;
     place_all(engine, assumptions)?;
     Ok(())
 }
 
-/// Makes places for the wanted atoms.
-fn place_wanted<T: Theory>(theory: &T, engine: &mut Engine) -> Result<(), AllocError>
+/// Makes places for the wanted atoms, which wait then.
+fn place_wanted<T: Theory>(
+    theory: &T,
+    engine: &mut Engine,
+    choices: &mut Choices,
+) -> Result<(), AllocError>
     ensures kept { OnOk result (engine.new.kept ≡ engine.old.kept) }
     ensures literals { OnOk result (engine.new.trail.literals ≡ engine.old.trail.literals) }
     ensures reserved { OnOk result (engine.old.trail.reserved ≤ engine.new.trail.reserved) }
@@ -123,6 +132,7 @@ fn place_wanted<T: Theory>(theory: &T, engine: &mut Engine) -> Result<(), AllocE
     let mut at: u64 = 0;
     while let Some(atom) = theory.wanted_at(at) {
         make_place(engine, atom)?;
+        choices.want(atom)?;
         at += 1;
     }
     Ok(())

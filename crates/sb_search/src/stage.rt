@@ -9,21 +9,25 @@ ghost use Rattle.sb_clauses.specs.Propagation.{State, are_reserved};
 ghost use Rattle.sb_search.specs.Found.{has_value, are_true};
 ghost use Rattle.sb_search.specs.Searching.{have_places, IsNextAssumption, IsNextWanted, IsSearching, IsNext};
 
+use crate::choices::Choices;
+use crate::restarts::Restarts;
 use crate::theory::Theory;
 use sb_clauses::Engine;
 use sb_lit::Lit;
 use sb_trail::Trail;
 
 /// How far a search is with its assumptions and the atoms that are wanted.
-#[derive(Clone, Copy, Debug)]
+#[derive(Debug, Drop)]
 pub(crate) struct Stage {
     /// The decisions up to this level are assumptions.
     pub levels: usize,
     /// The assumptions before this place are true, where no other decision was made.
     pub next: usize,
-    /// The place of the wanted atom that was decided last. Those before it have values, but where levels were taken
-    /// back.
+    /// The place of the wanted atom that was found last where none waited. Those before it have values, but where levels
+    /// were taken back.
     pub at: u64,
+    pub choices: Choices,
+    pub restarts: Restarts,
 }
 
 /// What is decided next.
@@ -49,11 +53,11 @@ impl Stage {
     {
         let trail = engine.trail();
         if trail.current_level() > self.levels {
-            return free(theory, trail, &mut self.at);
+            return free(theory, trail, &mut self.choices, &mut self.at);
         }
         match next_assumption(trail, assumptions, &mut self.next) {
             Some(literal) => given(trail, literal),
-            None => free(theory, trail, &mut self.at),
+            None => free(theory, trail, &mut self.choices, &mut self.at),
         }
     }
 }
@@ -72,13 +76,16 @@ fn given(trail: &Trail, literal: Lit) -> Next
     }
 }
 
-/// A wanted atom without a value, where all assumptions are true.
-fn free<T: Theory>(theory: &T, trail: &Trail, at: &mut u64) -> Next
+/// A wanted atom without a value, where all assumptions are true: one that waits, or else one that is looked for.
+fn free<T: Theory>(theory: &T, trail: &Trail, choices: &mut Choices, at: &mut u64) -> Next
     ensures { (assumptions : List TheLit) (levels : ℕ) (search : State) → search.trail ≡ trail.now
         → are_true (held trail.now.literals) assumptions ≡ true
         → have_places trail.now.reserved (T.wanted theory.now) ≡ true
         → IsNext (T.wanted theory.now) assumptions levels search result }
 {
+    if let Some(atom) = choices.next(trail) {
+        return Next::Free(atom);
+    }
     match next_wanted(theory, trail, at) {
         Some(atom) => Next::Free(atom),
         None => Next::Full,

@@ -256,7 +256,8 @@ fn choose<T: Theory, L: Tape>(
             Ok(Turn::Moves)
         }
         Checked::Fine => {
-            decide_free(engine, stage, falsely(atom));
+            let literal = stage.choices.literal(atom);
+            decide_free(engine, stage, literal);
             Ok(Turn::Decides)
         }
     }
@@ -331,16 +332,6 @@ fn ask<T: Theory, L: Tape>(
     ensures counts { CountsFaults result (L.Tape.faults tape.old) (L.Tape.faults tape.new) }
 {
     theory.check(engine.trail(), engine.clauses(), last, tape, budget)
-}
-
-/// The negative literal of an atom.
-fn falsely(atom: u64) -> Lit
-    ensures { result.atom ≡ atom }
-{
-    Lit {
-        atom,
-        positive: false,
-    }
 }
 
 /// Decides an assumption.

@@ -154,7 +154,7 @@ const ROWS: [Row; 14] = [
         &[],
         9,
         (End::Unsat, 6, 7, 4, 0),
-        b"c step +1 +2\nc step +1 -2\nc learn +1 : 0 1\nc step -1 +2\nc step -1 -2\nc learn : 2 3 4\n",
+        b"c step +1 +2\nc step +1 -2\nc learn +1 : 0 1\nc step -1 -2\nc step -1 +2\nc learn : 2 3 4\n",
     ),
     (
         With::Given,

@@ -10,6 +10,8 @@ mod cases;
 #[cfg(test)]
 mod drawn;
 #[cfg(test)]
+mod orders;
+#[cfg(test)]
 mod replayed;
 #[cfg(test)]
 mod runs;

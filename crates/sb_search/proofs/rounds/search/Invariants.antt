@@ -5,8 +5,8 @@ use Rattle.sb_search.specs.Searching.{IsRound}
 use Rattle.sb_search.specs.Writing.{written, AreKnown}
 use Rattle.sb_search.proofs.rounds.search.Given as goal
 
-abbrev pub invariant-loop-found : goal.invariant-loop-found
-invariant-loop-found g l = IsRound (g.T.Theory.wanted l.theory) l.assumptions l.stage.levels l.stage.next l.fn.engine
+abbrev pub invariant-loop-stage : goal.invariant-loop-stage
+invariant-loop-stage g l = IsRound (g.T.Theory.wanted l.theory) l.assumptions l.stage.levels l.stage.next l.fn.engine
     l.engine l.fn.budget l.budget None
     × g.T.Theory.stands l.theory l.engine.trail.literals
     × (g.T.Theory.wanted l.theory ≡ g.T.Theory.wanted l.fn.theory)
@@ -18,5 +18,5 @@ invariant-loop-found g l = IsRound (g.T.Theory.wanted l.theory) l.assumptions l.
     (written l.fn.engine.kept l.fn.budget (g.L.Tape.told l.fn.tape))
     (written l.engine.kept l.budget (g.L.Tape.told l.tape)))
 
-abbrev pub decreases-loop-found : goal.decreases-loop-found
-decreases-loop-found g l = l.budget.limit - l.budget.spent
+abbrev pub decreases-loop-stage : goal.decreases-loop-stage
+decreases-loop-stage g l = l.budget.limit - l.budget.spent

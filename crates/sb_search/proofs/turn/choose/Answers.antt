@@ -26,7 +26,7 @@ pub returns-in-Fine-clause-turned : goal.returns-in-Fine-clause-turned
 returns-in-Fine-clause-turned g c =
     went_on (g.T.Theory.wanted c.ask.new.theory) c.args.assumptions.now c.decide_free.new.stage.levels
     c.decide_free.new.stage.next c.args.engine.now c.decide_free.new.engine c.args.budget.now c.ask.new.budget
-    (g.T.Theory.measure c.args.theory.now) (g.T.Theory.measure c.ask.new.theory) c.falsely.result
+    (g.T.Theory.measure c.args.theory.now) (g.T.Theory.measure c.ask.new.theory) c.literal-literal.result
     (c.decide_free.ensures.searching (g.T.Theory.wanted c.ask.new.theory) c.args.assumptions.now
     (subst (λ (w : List ℕ). IsSearching w c.args.assumptions.now c.args.stage.now.levels c.args.stage.now.next
     c.args.engine.now) (sym c.ask.ensures.wanted) c.requires.searching) c.requires.next.2)
