@@ -1,4 +1,4 @@
-"""Writes a family of clauses in DIMACS: `cnf.py free|forcing|binary|units|random|pigeons SIZE`."""
+"""Writes a family of clauses in DIMACS: `cnf.py free|forcing|chain|binary|units|random|threes|pigeons SIZE [SEED]`."""
 import random
 import sys
 
@@ -19,6 +19,11 @@ def forcing(size):
     ]
 
 
+def chain(size):
+    """So many atoms, each of which forces the next one where it is false."""
+    return size, [[atom, -atom - 1] for atom in range(1, size)]
+
+
 def binary(size):
     """So many random clauses of two literals over 5/4 as many atoms."""
     atoms = size // 4 * 5
@@ -33,11 +38,16 @@ def units(size):
     return size + 2000, [[atom] for atom in range(1, size + 1)] + wrong
 
 
-def random3(size):
+def random3(size, each=46):
     """Random clauses of three literals over so many atoms, 4.6 for each atom."""
     return size, [
-        [sign(atom) for atom in random.sample(range(1, size + 1), 3)] for _ in range(size * 46 // 10)
+        [sign(atom) for atom in random.sample(range(1, size + 1), 3)] for _ in range(size * each // 10)
     ]
+
+
+def threes(size):
+    """Random clauses of three literals over so many atoms, 4.2 for each atom: about half of them have values."""
+    return random3(size, 42)
 
 
 def pigeons(size):
@@ -56,14 +66,17 @@ def pigeons(size):
 
 
 def main():
-    random.seed(7)
-    family, size = sys.argv[1], int(sys.argv[2])
+    family, size, *seed = sys.argv[1:]
+    size = int(size)
+    random.seed(int(seed[0]) if seed else 7)
     families = {
         "free": free,
         "forcing": forcing,
+        "chain": chain,
         "binary": binary,
         "units": units,
         "random": random3,
+        "threes": threes,
         "pigeons": pigeons,
     }
     atoms, clauses = families[family](size)

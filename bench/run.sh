@@ -2,8 +2,9 @@
 # Times the reader alone over 50 MB in pieces of several lengths, and the program over scripts of 1 to 50 MB, read
 # from a file: processor seconds, megabytes a second and peak memory in KB. Then the families of memberships, with z3 and
 # cvc5 beside the program where they are installed, and the checker on the proofs; a run has 20 seconds, so this takes
-# some minutes. At the end a search over clauses alone, which times the engine of clauses; where there is a C++ compiler
-# with a small solver with array watches beside it, and with minisat where it is installed.
+# some minutes. Then the search over clauses alone, with minisat beside it where it is installed. At the end a plain
+# search that times the engine of clauses; where there is a C++ compiler with a small solver with array watches beside it,
+# and with minisat.
 set -eu
 cd "$(dirname "$0")/.."
 build() { # the program, and what it is run on
@@ -34,6 +35,9 @@ done
 
 echo
 python3 bench/compare.py
+
+echo
+python3 bench/clauses.py
 
 echo
 clauses() { # a row: its name, the file, what is run, and its words

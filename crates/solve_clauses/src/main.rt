@@ -1,23 +1,27 @@
 //! `solve_clauses`: reads clauses in DIMACS from standard input, and says whether some values make all of them true. It
-//! times the engine of clauses, by a plain search that learns: every learned clause is kept, and there are no restarts.
+//! times the search, and the engine of clauses: every learned clause is kept, and there are no restarts.
 //!
-//! `solve_clauses order` decides the atoms in their order, and `solve_clauses active` the one that was met most of
-//! late; each is made false first. It prints `SATISFIABLE` or `UNSATISFIABLE`, and how many conflicts there were.
+//! `solve_clauses search` searches as the solver does, over a theory that finds nothing wrong. `solve_clauses order`
+//! times the engine alone, by a plain search that decides the atoms in their order, and `solve_clauses active` by one
+//! that decides the atom that was met most of late; each is made false first. It prints `SATISFIABLE` or
+//! `UNSATISFIABLE`, and how many conflicts there were.
 //! `solve_clauses rounds N` reads nothing: so often ten clauses are kept, propagated and dropped. The exit status is 1
 //! where input, output or memory failed, and 2 where the words are wrong.
 #![tactic(auto)]
 
-ghost use Rattle.std.specs.Prelude.{◌≡◌, []};
+ghost use Rattle.std.specs.Prelude.{◌≡◌, [], OnOk};
 
 mod dimacs;
 mod failure;
 mod order;
+mod plain;
 mod rounds;
 mod search;
 
 use crate::dimacs::read;
 use crate::failure::Failure;
 use crate::order::Order;
+use crate::plain::search_plain;
 use crate::rounds::rounds;
 use crate::search::{Verdict, search};
 use sb_clauses::Engine;
@@ -28,8 +32,10 @@ use std::process::ExitCode;
 /// What is asked for.
 #[derive(Clone, Copy)]
 enum Task {
-    /// To search, by activity or by the order of the atoms.
-    Search { active: bool },
+    /// To search as the solver does.
+    Search,
+    /// To search by the engine alone, by activity or by the order of the atoms.
+    Decide { active: bool },
     /// So many rounds of clauses that come and go.
     Rounds(u64),
 }
@@ -48,8 +54,9 @@ fn main(rt: HostRuntime) -> ExitCode {
 fn wanted(rt: HostRuntime) -> Option<Task> {
     let words: Vec<String> = env::args(&rt).ok()?.collect(rt.alloc()).ok()?;
     match words.as_slice() {
-        [_, word] if word.as_str() == "active" => Some(Task::Search { active: true }),
-        [_, word] if word.as_str() == "order" => Some(Task::Search { active: false }),
+        [_, word] if word.as_str() == "search" => Some(Task::Search),
+        [_, word] if word.as_str() == "active" => Some(Task::Decide { active: true }),
+        [_, word] if word.as_str() == "order" => Some(Task::Decide { active: false }),
         [_, word, count] if word.as_str() == "rounds" => {
             Some(Task::Rounds(count.parse::<u64>().ok()?))
         }
@@ -60,7 +67,15 @@ fn wanted(rt: HostRuntime) -> Option<Task> {
 fn run(rt: HostRuntime, task: Task) -> Result<(), Failure> {
     let mut engine = Engine::new(rt.alloc());
     match task {
-        Task::Search { active } => decide(rt, &mut engine, active),
+        Task::Search => {
+            read_all(rt, &mut engine)?;
+            let (verdict, conflicts) = search_plain(rt.alloc(), &mut engine)?;
+            print(rt, name(verdict), conflicts)
+        }
+        Task::Decide { active } => {
+            read_all(rt, &mut engine)?;
+            decide(rt, &mut engine, active)
+        }
         Task::Rounds(count) => {
             rounds(rt.alloc(), &mut engine, count)?;
             print(rt, "DONE", count)
@@ -68,9 +83,10 @@ fn run(rt: HostRuntime, task: Task) -> Result<(), Failure> {
     }
 }
 
-/// Reads clauses, and searches.
-fn decide(rt: HostRuntime, engine: &mut Engine, active: bool) -> Result<(), Failure>
+/// Reads all clauses.
+fn read_all(rt: HostRuntime, engine: &mut Engine) -> Result<(), Failure>
     requires { engine.old.trail.literals ≡ [] }
+    ensures { OnOk result (engine.new.trail.literals ≡ []) }
 {
     let mut script = Vec::new(rt.alloc());
     match rt.stdin().read_to_end(&mut script) {
@@ -78,14 +94,26 @@ fn decide(rt: HostRuntime, engine: &mut Engine, active: bool) -> Result<(), Fail
         Err(_) => return Err(Failure::Outside),
     }
     read(rt.alloc(), &script, engine)?;
+    Ok(())
+}
+
+/// Searches by the engine alone.
+fn decide(rt: HostRuntime, engine: &mut Engine, active: bool) -> Result<(), Failure>
+    requires { engine.old.trail.literals ≡ [] }
+{
     let atoms = engine.atoms();
     engine.reserve(atoms)?;
     let mut order = Order::new(rt.alloc(), atoms, active)?;
-    let word = match search(rt.alloc(), engine, &mut order)? {
+    let verdict = search(rt.alloc(), engine, &mut order)?;
+    print(rt, name(verdict), order.conflicts())
+}
+
+/// The word for a verdict.
+fn name(verdict: Verdict) -> &'static str {
+    match verdict {
         Verdict::Satisfiable => "SATISFIABLE",
         Verdict::Unsatisfiable => "UNSATISFIABLE",
-    };
-    print(rt, word, order.conflicts())
+    }
 }
 
 /// Prints a word and a number.
