@@ -6,7 +6,7 @@ ghost use Rattle.sb_analyze.specs.Reasons.{AreReasoned, highest};
 ghost use Rattle.sb_analyze.specs.Learning.{IsTeaching, IsAsserting};
 
 use crate::analysis::Analysis;
-use crate::explain::{highest, lesson};
+use crate::explain::{highest, highest_kept, lesson};
 use crate::learned::Learned;
 use sb_clauses::Clauses;
 use sb_lit::ClauseId;
@@ -34,7 +34,7 @@ pub fn learn(
         unreachable!();
     };
     let entries = trail.literals();
-    let mut analysis = Analysis::new(alloc, highest(trail, literals));
+    let mut analysis = Analysis::new(alloc, highest_kept(trail, literals));
     analysis.resolve(trail, clauses, conflict)?;
     let uip = analysis.resolve_to_first_uip(trail, clauses, entries)?;
     analysis.minimise(alloc, trail, clauses)?;

@@ -12,7 +12,7 @@ use crate::analysis::Analysis;
 use crate::learned::{Hints, Learned};
 use sb_clauses::Clauses;
 use sb_lit::{Clause, ClauseId, Lit};
-use sb_trail::{Assigned, Trail};
+use sb_trail::{Assigned, CompactLit, Entry, Trail};
 use std::alloc::{AllocError, Global};
 use std::collections::HashSet;
 
@@ -47,11 +47,11 @@ impl Analysis {
     }
 
     /// Meets those of the literals that are false.
-    fn meet_all(&mut self, trail: &Trail, literals: &[Lit]) -> Result<(), AllocError>
+    fn meet_all(&mut self, trail: &Trail, literals: &[CompactLit]) -> Result<(), AllocError>
         ensures { OnOk result (shown self.new ≡ with_literals trail.now.literals (shown self.old) literals.now) }
     {
         for literal in literals {
-            self.meet(trail, *literal)?;
+            self.meet(trail, literal.literal())?;
         }
         Ok(())
     }
@@ -78,7 +78,7 @@ impl Analysis {
         &mut self,
         trail: &Trail,
         clauses: &Clauses,
-        entries: &[Assigned],
+        entries: &[Entry],
     ) -> Result<Lit, AllocError>
         requires whole { entries.now ≡ trail.now.literals }
         requires trail { IsTrail trail.now }
@@ -87,7 +87,7 @@ impl Analysis {
         ensures { IfOk result (IsFirstUip clauses.now trail.now.literals self.old.level (shown self.new)) }
     {
         for place in (0..entries.len()).rev() {
-            let entry = entries[place];
+            let entry = entries[place].assigned();
             if !self.is_pending(entry) {
                 continue;
             }
@@ -107,7 +107,7 @@ impl Analysis {
     /// explains the others.
     pub(crate) fn keep_forced(
         &mut self,
-        entries: &[Assigned],
+        entries: &[Entry],
         id: ClauseId,
     ) -> Result<usize, AllocError>
         ensures kept { OnOk result
@@ -117,7 +117,7 @@ impl Analysis {
         let Some(place) = place_forced(entries, id) else {
             return Ok(entries.len());
         };
-        self.clause.push(entries[place].literal)?;
+        self.clause.push(entries[place].literal())?;
         Ok(place)
     }
 
@@ -126,7 +126,7 @@ impl Analysis {
         &mut self,
         trail: &Trail,
         clauses: &Clauses,
-        entries: &[Assigned],
+        entries: &[Entry],
         end: usize,
     ) -> Result<(), AllocError>
         requires whole { entries.now ≡ trail.now.literals }
@@ -141,7 +141,7 @@ impl Analysis {
             if self.pending == 0 {
                 return Ok(());
             }
-            let entry = entries[place];
+            let entry = entries[place].assigned();
             if self.is_pending(entry) {
                 self.trace(trail, clauses, entry)?;
                 self.pending -= 1;
@@ -179,7 +179,7 @@ impl Analysis {
 }
 
 /// The place of the first entry that the clause forced.
-fn place_forced(entries: &[Assigned], id: ClauseId) -> Option<usize>
+fn place_forced(entries: &[Entry], id: ClauseId) -> Option<usize>
     ensures { result ≡ position (is_forced_by id) entries.now }
 {
     entries.iter().position(|entry| is_forced_by(entry, id))
@@ -199,10 +199,10 @@ fn see(seen: &mut HashSet<u64>, atom: u64) -> Result<(), AllocError>
 }
 
 /// Whether the clause forced the entry's literal.
-fn is_forced_by(entry: &Assigned, id: ClauseId) -> bool
+fn is_forced_by(entry: &Entry, id: ClauseId) -> bool
     ensures { result ≡ is_forced_by id entry.now }
 {
-    match entry.reason {
+    match entry.reason() {
         Some(reason) => reason == id,
         None => false,
     }
@@ -246,6 +246,17 @@ pub(crate) fn highest(trail: &Trail, literals: &[Lit]) -> usize
     let mut level = 0;
     for literal in literals {
         level = level.max(trail.level(literal.atom).unwrap_or(0));
+    }
+    level
+}
+
+/// The greatest level of the literals of a kept clause, 0 where there are none.
+pub(crate) fn highest_kept(trail: &Trail, literals: &[CompactLit]) -> usize
+    ensures { result ≡ highest trail.now.literals literals.now }
+{
+    let mut level = 0;
+    for literal in literals {
+        level = level.max(trail.level(literal.literal().atom).unwrap_or(0));
     }
     level
 }

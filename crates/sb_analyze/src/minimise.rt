@@ -16,7 +16,7 @@ use crate::analysis::Analysis;
 use crate::assumed::set_of;
 use sb_clauses::Clauses;
 use sb_lit::{ClauseId, Lit};
-use sb_trail::Trail;
+use sb_trail::{CompactLit, Trail};
 use std::alloc::{AllocError, Global};
 use std::collections::HashSet;
 
@@ -106,7 +106,7 @@ fn is_implied_by(clauses: &Clauses, standing: &HashSet<Lit>, literal: Lit, reaso
 }
 
 /// Whether the literal stands, and the clause forces its negation where the others that stand are false.
-fn is_implied(standing: &HashSet<Lit>, literal: Lit, reason: &[Lit]) -> bool
+fn is_implied(standing: &HashSet<Lit>, literal: Lit, reason: &[CompactLit]) -> bool
     ensures { result ≡ is_implied (contains are_equal standing.now) literal reason.now }
 {
     standing.contains(&literal)
@@ -115,19 +115,19 @@ fn is_implied(standing: &HashSet<Lit>, literal: Lit, reason: &[Lit]) -> bool
 }
 
 /// Whether the literal is one of these.
-fn has(literals: &[Lit], literal: Lit) -> bool
+fn has(literals: &[CompactLit], literal: Lit) -> bool
     ensures { result ≡ is_among literals.now literal }
 {
-    literals.iter().any(|other| *other == literal)
+    literals.iter().any(|other| other.literal() == literal)
 }
 
 /// Whether each literal of the reason is the negation of this one, or another one that stands.
-fn are_others(standing: &HashSet<Lit>, literal: Lit, reason: &[Lit]) -> bool
+fn are_others(standing: &HashSet<Lit>, literal: Lit, reason: &[CompactLit]) -> bool
     ensures { result ≡ list_all (is_other (contains are_equal standing.now) literal) reason.now }
 {
     reason
         .iter()
-        .all(|other| is_other(standing, literal, *other))
+        .all(|other| is_other(standing, literal, other.literal()))
 }
 
 /// Whether a literal is the negation of this one, or another one that stands.

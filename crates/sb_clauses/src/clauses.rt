@@ -1,7 +1,7 @@
 //! The kept clauses.
 
 ghost use Rattle.std.specs.Prelude.{◌≡◌, [], ◌∷◌, ◌++◌, ◌<◌, length, true, Some, IfOk, OnOk, OnErr, MatchBool, MatchOption};
-ghost use Rattle.std.specs.List.{list_any};
+ghost use Rattle.std.specs.List.{list_all, list_any};
 ghost use Rattle.std.specs.BinaryHeap.{IsHeap, heap_items};
 ghost use Rattle.std.specs.Option.{option_map, option_copied};
 ghost use Rattle.sb_lit.specs.Kept.{Kept, kept_at, kept_up_to, is_above};
@@ -9,12 +9,14 @@ ghost use Rattle.sb_clauses.specs.Records.{clause_of, kept_of};
 ghost use Rattle.sb_clauses.specs.Propagation.{are_reserved, is_reserved, has_room_for, HasNoneFalse, IsConflict};
 ghost use Rattle.sb_clauses.specs.Scoped.{scope_order, is_pair, AreScoped, PopsAbove, without_above, IsScopedTurn};
 ghost use Rattle.sb_clauses.specs.Occurring.{AreFound};
+ghost use Rattle.sb_clauses.specs.Watching.{is_small};
 
 use crate::occurrences::{Occurrences, false_where, home_for};
 use crate::record::Record;
 use crate::watches::lists_for;
 use sb_lit::{Clause, ClauseId, Lit};
-use sb_trail::Trail;
+use sb_trail::{CompactLit, Trail};
+use smallvec::SmallVec;
 use std::alloc::{AllocError, Global};
 use std::collections::BinaryHeap;
 use std::marker::Model;
@@ -71,7 +73,7 @@ impl Clauses {
         let alloc = *self.records.allocator();
         let number = self.records.len();
         self.occurrences.make_room(number + 1, lists)?;
-        let literals = Vec::from_slice(alloc, given)?;
+        let literals = compact(alloc, given)?;
         scope(&mut self.scoped, level, number)?;
         self.records.push(Some(Record { literals, level }))?;
         let home = home_for(&self.occurrences.heads, given);
@@ -88,7 +90,7 @@ impl Clauses {
 
     /// The literals of the clause, `None` exactly where the number is not given or its clause was dropped.
     /// Constant time.
-    pub fn literals(&self, id: ClauseId) -> Option<&[Lit]>
+    pub fn literals(&self, id: ClauseId) -> Option<&[CompactLit]>
         ensures { option_copied result ≡ option_map (λ clause. clause.literals) (kept_at self.now id.0) }
     {
         match self.records.get(id.0 as usize) {
@@ -158,6 +160,18 @@ impl Clauses {
         }
         true
     }
+}
+
+/// The literals, to be kept.
+fn compact(alloc: Global, literals: &[Lit]) -> Result<SmallVec<CompactLit, 4>, AllocError>
+    requires { list_all is_small literals.now ≡ true }
+    ensures { IfOk result (λ kept. kept.items ≡ literals.now) }
+{
+    let mut kept = SmallVec::with_capacity(alloc, literals.len())?;
+    for literal in literals {
+        kept.push(CompactLit::new(*literal))?;
+    }
+    Ok(kept)
 }
 
 /// Puts a level above 0 into the heap, with a number.
@@ -260,16 +274,16 @@ fn is_reserved(place: &Option<Record>, reserved: usize) -> bool
     ensures { result ≡ is_reserved reserved (option_map clause_of place.now) }
 {
     match place {
-        Some(record) => are_reserved(&record.literals, reserved),
+        Some(record) => are_reserved(record.literals.as_slice(), reserved),
         None => true,
     }
 }
 
 /// Whether each atom has a place.
-fn are_reserved(literals: &[Lit], reserved: usize) -> bool
+fn are_reserved(literals: &[CompactLit], reserved: usize) -> bool
     ensures { result ≡ are_reserved reserved literals.now }
 {
     literals
         .iter()
-        .all(|literal| literal.atom < reserved as u64)
+        .all(|literal| literal.literal().atom < reserved as u64)
 }

@@ -72,7 +72,7 @@ impl Engine {
     }
 
     /// Gives each atom below `atoms` a place on the trail: from then on its literals may be added, and that takes no
-    /// memory. Places are never taken back. Linear in the number of new places, over many calls too. 2 ^ 32 atoms or
+    /// memory. Places are never taken back. Linear in the number of new places, over many calls too. 2 ^ 31 atoms or
     /// more are an error.
     pub fn reserve(&mut self, atoms: usize) -> Result<(), AllocError>
         ensures ok { OnOk result

@@ -9,6 +9,46 @@ use std::marker::Model;
 /// So many numbers fit.
 pub const NUMBERS: usize = (1 << 32) - 1;
 
+/// A number or none, in 32 bits.
+#[derive(Clone, Copy, Debug)]
+pub struct Link {
+    /// 0 is none, and each number stands as the one above it.
+    code: u32,
+}
+
+impl Model for Link {
+    ghost use Rattle.std.specs.Prelude.{ℕ, Option};
+    ghost use Rattle.std.proofs.Common.{ap};
+    ghost use Rattle.sb_clauses.specs.Links.{link, code_of_link, code_of_link_of};
+
+    ghost Value = { Option ℕ };
+
+    ghost view = { λ l. link l.code };
+
+    ghost inverse = { λ number. record { code = code_of_link number } };
+
+    ghost inverse_ok = { λ l _. ap (λ code. record { code = code }) (code_of_link_of l.code) };
+}
+
+impl Link {
+    /// The number or none, to be kept.
+    pub fn new(number: Option<usize>) -> Link
+        requires { IfSome number (λ number. number < 2 ^ 32 - 1) }
+        ensures { result ≡ number }
+    {
+        Link {
+            code: code_of(number),
+        }
+    }
+
+    /// The number, if there is one.
+    pub fn number(self) -> Option<usize>
+        ensures { result ≡ self }
+    {
+        number_of(self.code)
+    }
+}
+
 /// By place a number or none, in 32 bits: 0 is none, and each number stands as the one above it.
 #[derive(Debug, Drop)]
 pub struct Links {

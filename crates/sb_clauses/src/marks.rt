@@ -4,7 +4,7 @@ ghost use Rattle.std.specs.Prelude.{◌≡◌, ℕ, ◌+◌, ◌<◌, ◌≤◌,
 ghost use Rattle.sb_trail.specs.Assignments.{up_to, AreLevelled};
 ghost use Rattle.sb_clauses.specs.Marking.{mark_at, AreAscending, AreBelow, IsFront, AreNoted, IsEndOf};
 
-use sb_trail::Assigned;
+use sb_trail::Entry;
 
 /// Where propagation goes on.
 #[derive(Debug, Drop)]
@@ -67,7 +67,7 @@ pub fn mark(marks: &mut Vec<usize>, level: usize)
 }
 
 /// How many literals stand on the levels up to the last mark. Linear in the literals above it.
-pub fn end_of_marks(marks: &[usize], entries: &[Assigned]) -> Option<usize>
+pub fn end_of_marks(marks: &[usize], entries: &[Entry]) -> Option<usize>
     requires { AreLevelled 0 entries.now }
     ensures { IfSome result (IsEndOf marks.now entries.now) }
 {
@@ -76,13 +76,13 @@ pub fn end_of_marks(marks: &[usize], entries: &[Assigned]) -> Option<usize>
 }
 
 /// How many literals stand on the levels up to this one. Linear in the literals above it.
-pub fn end_of(entries: &[Assigned], level: usize) -> usize
+pub fn end_of(entries: &[Entry], level: usize) -> usize
     requires { AreLevelled 0 entries.now }
     ensures within { result ≤ length entries.now }
     ensures end { take result entries.now ≡ up_to level entries.now }
 {
     let mut count = entries.len();
-    while count > 0 && entries[count - 1].level > level {
+    while count > 0 && entries[count - 1].level() > level {
         count -= 1;
     }
     count

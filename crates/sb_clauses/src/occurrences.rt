@@ -13,10 +13,11 @@ ghost use Rattle.sb_clauses.specs.Propagation.{IsConflict, HasNoneFalse};
 ghost use Rattle.sb_clauses.specs.Occurring.{are_equal, node_at, head_at, IsHome, AreFound, AreSame, IsLed, IsPut, IsWider, are_false_by, is_false_place, HasNoneIn};
 ghost use Rattle.std.specs.Option.{option_map};
 
-use crate::links::{Links, NUMBERS};
+use crate::links::{Link, Links, NUMBERS};
 use crate::record::Record;
 use crate::watches::{SHORT, list_among, list_of};
 use sb_lit::{ClauseId, Lit};
+use sb_trail::CompactLit;
 use std::alloc::{AllocError, Global};
 use std::collections::HashSet;
 
@@ -25,9 +26,9 @@ use std::collections::HashSet;
 pub struct Node {
     pub list: u32,
     /// The number that came to the list before it.
-    pub before: Option<u32>,
+    pub before: Link,
     /// The number that came to the list behind it. It is only asked whether it leads here.
-    pub behind: Option<u32>,
+    pub behind: Link,
 }
 
 /// The lists, by literal: the newest number of each, and where each number stands.
@@ -71,12 +72,12 @@ impl Occurrences {
         ensures { IsPut self.old.heads self.old.nodes.items self.new.heads self.new.nodes.items number
             list }
     {
-        let before = narrow(self.heads.get(list));
-        set_behind(&mut self.nodes, before, Some(number as u32));
+        let before = Link::new(self.heads.get(list));
+        set_behind(&mut self.nodes, before, Link::new(Some(number)));
         self.nodes[number] = Node {
             list: list as u32,
             before,
-            behind: None,
+            behind: Link::new(None),
         };
         self.heads.set(list, Some(number));
     }
@@ -97,7 +98,7 @@ impl Occurrences {
         } = self.nodes[number];
         set_behind(&mut self.nodes, before, behind);
         if !pass_over(&mut self.nodes, behind, number, before) {
-            begin_behind(&mut self.heads, list as usize, number, widen(before));
+            begin_behind(&mut self.heads, list as usize, number, before.number());
         }
     }
 }
@@ -110,27 +111,6 @@ fn grow_heads(heads: &mut Links, lists: usize) -> Result<(), AllocError>
     heads.grow(lists)
 }
 
-/// A number that fits, in 32 bits.
-fn narrow(number: Option<usize>) -> Option<u32>
-    requires { IfSome number (λ number. number < 2 ^ 32 - 1) }
-    ensures { result ≡ number }
-{
-    match number {
-        Some(number) => Some(number as u32),
-        None => None,
-    }
-}
-
-/// A number of 32 bits.
-fn widen(number: Option<u32>) -> Option<usize>
-    ensures { result ≡ number }
-{
-    match number {
-        Some(number) => Some(number as usize),
-        None => None,
-    }
-}
-
 /// Fills up with places of numbers.
 fn grow_nodes(nodes: &mut Vec<Node>, numbers: usize) -> Result<(), AllocError>
     ensures more { length nodes.old.items ≤ length nodes.new.items }
@@ -140,8 +120,8 @@ fn grow_nodes(nodes: &mut Vec<Node>, numbers: usize) -> Result<(), AllocError>
     if numbers > nodes.len() {
         let empty = Node {
             list: 0,
-            before: None,
-            behind: None,
+            before: Link::new(None),
+            behind: Link::new(None),
         };
         nodes.resize(numbers, empty)?;
     }
@@ -149,10 +129,10 @@ fn grow_nodes(nodes: &mut Vec<Node>, numbers: usize) -> Result<(), AllocError>
 }
 
 /// Says of a number which one is behind it.
-fn set_behind(nodes: &mut Vec<Node>, at: Option<u32>, behind: Option<u32>)
+fn set_behind(nodes: &mut Vec<Node>, at: Link, behind: Link)
     ensures { AreSame nodes.old.items nodes.new.items }
 {
-    let Some(number) = widen(at) else {
+    let Some(number) = at.number() else {
         return;
     };
     if number < nodes.len() {
@@ -161,13 +141,13 @@ fn set_behind(nodes: &mut Vec<Node>, at: Option<u32>, behind: Option<u32>)
 }
 
 /// Leads from the number behind this one to the one before it, where it led to this one, and says whether it did.
-fn pass_over(nodes: &mut Vec<Node>, behind: Option<u32>, number: usize, before: Option<u32>) -> bool
+fn pass_over(nodes: &mut Vec<Node>, behind: Link, number: usize, before: Link) -> bool
     requires before { (node_at nodes.old.items number).before ≡ before }
     ensures same { result ≡ false → nodes.new.items ≡ nodes.old.items }
     ensures found { (kept : Kept) → kept_at kept number ≡ None → number < length kept → (heads : List (Option ℕ))
         → AreFound kept heads nodes.old.items → AreFound kept heads nodes.new.items }
 {
-    let Some(newer) = widen(behind) else {
+    let Some(newer) = behind.number() else {
         return false;
     };
     if !is_led(nodes, newer, number) {
@@ -184,14 +164,14 @@ fn is_led(nodes: &[Node], newer: usize, number: usize) -> bool
     if newer >= nodes.len() {
         return false;
     }
-    match nodes[newer].before {
-        Some(before) => before as usize == number,
+    match nodes[newer].before.number() {
+        Some(before) => before == number,
         None => false,
     }
 }
 
 /// Leads from a number to another one.
-fn lead(nodes: &mut Vec<Node>, at: usize, before: Option<u32>)
+fn lead(nodes: &mut Vec<Node>, at: usize, before: Link)
     requires { at < length nodes.old.items }
     ensures { IsLed nodes.old.items nodes.new.items at before }
 {
@@ -286,18 +266,18 @@ fn is_false_place(place: &Option<Record>, all: &HashSet<Lit>) -> bool
     ensures { result ≡ is_false_place (contains are_equal all.now) (option_map clause_of place.now) }
 {
     match place {
-        Some(record) => are_false(&record.literals, all),
+        Some(record) => are_false(record.literals.as_slice(), all),
         None => false,
     }
 }
 
 /// Whether the literals are all false where those of the set are true.
-fn are_false(literals: &[Lit], all: &HashSet<Lit>) -> bool
+fn are_false(literals: &[CompactLit], all: &HashSet<Lit>) -> bool
     ensures { result ≡ are_false_by (contains are_equal all.now) literals.now }
 {
     literals
         .iter()
-        .all(|literal| all.contains(&literal.negated()))
+        .all(|literal| all.contains(&literal.literal().negated()))
 }
 
 /// The newest clause of a list that is false where the literals of the set are true.
@@ -317,7 +297,7 @@ fn false_in(
         if is_false_place(&records[number], all) {
             return Some(number);
         }
-        next = widen(nodes[number].before);
+        next = nodes[number].before.number();
     }
     None
 }

@@ -10,7 +10,7 @@ ghost use Rattle.sb_clauses.specs.Waiting.{is_the, IsOther, IsBest, AreWatchable
 use crate::marks::forget_from;
 use crate::watch::is_or_false;
 use sb_lit::Lit;
-use sb_trail::Trail;
+use sb_trail::{CompactLit, Trail};
 
 /// What a new clause comes to.
 #[derive(Clone, Copy, Debug, PartialEq, Eq)]
@@ -31,27 +31,27 @@ const NO_LITERAL: Lit = Lit {
 
 /// Two literals of a clause to watch, that are not false, or else became false last. The same one twice where the
 /// clause has no two different literals. Linear in its length.
-pub fn watched_literals(trail: &Trail, clause: &[Lit]) -> (Lit, Lit)
+pub fn watched_literals(trail: &Trail, clause: &[CompactLit]) -> (Lit, Lit)
     ensures watchable { AreWatchable clause.now result.0 result.1 }
     ensures best { AreBest (held trail.now.literals) clause.now result.0 result.1 }
 {
     let Some(first) = best_place(trail, clause, None) else {
         return (NO_LITERAL, NO_LITERAL);
     };
-    let own = clause[first];
+    let own = clause[first].literal();
     match best_place(trail, clause, Some(own)) {
-        Some(second) => (own, clause[second]),
+        Some(second) => (own, clause[second].literal()),
         None => (own, own),
     }
 }
 
 /// The place of a literal other than this one that is not false, or else became false last.
-fn best_place(trail: &Trail, clause: &[Lit], avoided: Option<Lit>) -> Option<usize>
+fn best_place(trail: &Trail, clause: &[CompactLit], avoided: Option<Lit>) -> Option<usize>
     ensures { MatchOption result (list_all (is_the avoided) clause.now ≡ true)
         (IsBest (held trail.now.literals) clause.now avoided) }
 {
     for (place, literal) in clause.iter().enumerate() {
-        if !is_the_or_false(trail, avoided, *literal) {
+        if !is_the_or_false(trail, avoided, literal.literal()) {
             return Some(place);
         }
     }
@@ -59,16 +59,16 @@ fn best_place(trail: &Trail, clause: &[Lit], avoided: Option<Lit>) -> Option<usi
 }
 
 /// The place of a literal other than this one that became false last.
-fn latest(trail: &Trail, clause: &[Lit], avoided: Option<Lit>) -> Option<usize>
+fn latest(trail: &Trail, clause: &[CompactLit], avoided: Option<Lit>) -> Option<usize>
     ensures { MatchOption result (list_all (is_the avoided) clause.now ≡ true) (IsOther clause.now avoided) }
 {
     let mut best = None;
     let mut best_rank = 0;
     for (place, literal) in clause.iter().enumerate() {
-        if is_the(avoided, *literal) {
+        if is_the(avoided, literal.literal()) {
             continue;
         }
-        let rank = rank(trail, *literal);
+        let rank = rank(trail, literal.literal());
         if best.is_none() || rank > best_rank {
             best = Some(place);
             best_rank = rank;
@@ -125,7 +125,7 @@ pub fn forget_late(marks: &mut Vec<usize>, trail: &Trail, own: Lit, other: Lit)
 }
 
 /// What a new clause comes to that watches these literals.
-pub fn arrive(trail: &Trail, clause: &[Lit], own: Lit, other: Lit) -> Arrival
+pub fn arrive(trail: &Trail, clause: &[CompactLit], own: Lit, other: Lit) -> Arrival
     requires watchable { AreWatchable clause.now own other }
     requires best { AreBest (held trail.now.literals) clause.now own other }
     ensures { IsArrival trail.now.literals clause.now own other result }

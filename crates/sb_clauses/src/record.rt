@@ -1,10 +1,11 @@
 //! How a clause is kept.
 
-use sb_lit::Lit;
+use sb_trail::CompactLit;
+use smallvec::SmallVec;
 
-/// A kept clause.
+/// A kept clause. Up to four literals stand in the record itself.
 #[derive(Debug, Drop)]
 pub struct Record {
-    pub literals: Vec<Lit>,
+    pub literals: SmallVec<CompactLit, 4>,
     pub level: u64,
 }

@@ -225,7 +225,7 @@ fn false_literal(trail: &Trail, at: usize) -> Option<Lit>
 {
     let entries = trail.literals();
     if at < trail.len() {
-        Some(entries[at].literal.negated())
+        Some(entries[at].literal().negated())
     } else {
         None
     }

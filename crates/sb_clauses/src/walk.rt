@@ -70,7 +70,8 @@ fn take_turn(
     let Some(record) = &records[number] else {
         return Turn::Goes;
     };
-    match look(trail, &record.literals, literal_of(other[number])) {
+    let literals = record.literals.as_slice();
+    match look(trail, literals, literal_of(other[number])) {
         Seen::Holds => {
             own.lists.push(SCRATCH, number);
             Turn::Goes
@@ -81,7 +82,7 @@ fn take_turn(
             Turn::Goes
         }
         Seen::Moves(place) => {
-            let literal = record.literals[place];
+            let literal = literals[place].literal();
             own.watched[number] = code_of(literal);
             own.lists.push(list_of(literal), number);
             Turn::Goes

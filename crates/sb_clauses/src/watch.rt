@@ -7,7 +7,7 @@ ghost use Rattle.sb_trail.specs.Assignments.{held};
 ghost use Rattle.sb_clauses.specs.Looking.{is_or_false, IsReplacement, IsSeen};
 
 use sb_lit::Lit;
-use sb_trail::Trail;
+use sb_trail::{CompactLit, Trail};
 
 /// What a clause comes to, seen from one of its two watched literals.
 #[derive(Clone, Copy, Debug, PartialEq, Eq)]
@@ -24,7 +24,7 @@ pub enum Seen {
 
 /// Looks at a clause from one of its two watched literals; `partner` is the other one. Where that is true the literals
 /// of the clause are not read; linear in their number otherwise.
-pub fn look(trail: &Trail, literals: &[Lit], partner: Lit) -> Seen
+pub fn look(trail: &Trail, literals: &[CompactLit], partner: Lit) -> Seen
     requires { 0 < length literals.now → is_among literals.now partner ≡ true }
     ensures { IsSeen trail.now.literals literals.now partner result }
 {
@@ -45,12 +45,12 @@ pub fn look(trail: &Trail, literals: &[Lit], partner: Lit) -> Seen
 }
 
 /// The place of a literal that is not false, and not the other watched one.
-fn replacement(trail: &Trail, literals: &[Lit], partner: Lit) -> Option<usize>
+fn replacement(trail: &Trail, literals: &[CompactLit], partner: Lit) -> Option<usize>
     ensures { MatchOption result (list_all (is_or_false (held trail.now.literals) partner) literals.now ≡ true)
         (λ place. IsReplacement (held trail.now.literals) literals.now partner place) }
 {
     for (place, literal) in literals.iter().enumerate() {
-        if !is_or_false(trail, partner, *literal) {
+        if !is_or_false(trail, partner, literal.literal()) {
             return Some(place);
         }
     }

@@ -12,7 +12,7 @@ use crate::search::{keep, literal, literals};
 use sb_analyze::{Core, Hints, Learned, final_core, learn};
 use sb_clauses::{Clauses, Engine, Propagated};
 use sb_lit::{Clause, ClauseId, Lit};
-use sb_trail::{Assigned, Trail};
+use sb_trail::{Assigned, CompactLit, Entry, Trail};
 use std::alloc::{AllocError, Global};
 use std::process::Abort;
 use std::test::Fail;
@@ -70,23 +70,23 @@ fn chooses(rt: &impl Abort, search: &mut Engine, number: i8)
 }
 
 /// The greatest level of the literals.
-pub(crate) fn highest(trail: &Trail, literals: &[Lit]) -> usize
+pub(crate) fn highest(trail: &Trail, literals: &[CompactLit]) -> usize
     ensures { result ≡ highest trail.now.literals literals.now }
 {
     let mut level = 0;
     for literal in literals {
-        level = level.max(trail.level(literal.atom).unwrap_or(0));
+        level = level.max(trail.level(literal.literal().atom).unwrap_or(0));
     }
     level
 }
 
 /// The first literal of the level.
-fn one_of(trail: &Trail, literals: &[Lit], level: usize) -> Option<Lit>
+fn one_of(trail: &Trail, literals: &[CompactLit], level: usize) -> Option<Lit>
     ensures { IfSome result (λ l. (is_among literals.now l ≡ true) × (level_in trail.now.literals l ≡ level)) }
 {
     for literal in literals {
-        if trail.level(literal.atom).unwrap_or(0) == level {
-            return Some(*literal);
+        if trail.level(literal.literal().atom).unwrap_or(0) == level {
+            return Some(literal.literal());
         }
     }
     None
@@ -110,20 +110,20 @@ fn is_other_of(trail: &Trail, one: Lit, literal: Lit, level: usize) -> bool
 }
 
 /// The first literal of the level that is not this one.
-fn another_of(trail: &Trail, literals: &[Lit], level: usize, one: Lit) -> Option<Lit>
+fn another_of(trail: &Trail, literals: &[CompactLit], level: usize, one: Lit) -> Option<Lit>
     ensures { IfSome result (λ l. (is_among literals.now l ≡ true) × (is_same_literal one l ≡ false)
         × (level_in trail.now.literals l ≡ level)) }
 {
     for literal in literals {
-        if is_other_of(trail, one, *literal, level) {
-            return Some(*literal);
+        if is_other_of(trail, one, literal.literal(), level) {
+            return Some(literal.literal());
         }
     }
     None
 }
 
 /// Whether two literals are of the level.
-pub(crate) fn has_two(trail: &Trail, literals: &[Lit], level: usize) -> bool
+pub(crate) fn has_two(trail: &Trail, literals: &[CompactLit], level: usize) -> bool
     ensures { result ≡ true → HasTwoOf trail.now.literals literals.now level }
 {
     let Some(one) = one_of(trail, literals, level) else {
@@ -208,12 +208,13 @@ fn has_hints(rt: &impl Abort, hints: &Hints, numbers: &[u64]) {
 }
 
 /// The literal that is left when all others are false; none where it is false too.
-fn left(rt: &impl Abort, trail: &Trail, literals: &[Lit]) -> Option<Lit> {
+fn left(rt: &impl Abort, trail: &Trail, literals: &[CompactLit]) -> Option<Lit> {
     let mut left = None;
-    for literal in literals {
-        if trail.literal_value(*literal) != Some(false) {
+    for kept in literals {
+        let literal = kept.literal();
+        if trail.literal_value(literal) != Some(false) {
             assert!(rt; left.is_none());
-            left = Some(*literal);
+            left = Some(literal);
         }
     }
     left
@@ -301,11 +302,11 @@ fn is_assumed(entry: Assigned, assumptions: &[Lit]) -> bool
 }
 
 /// Whether each decision is one of the assumptions.
-fn are_assumed(entries: &[Assigned], assumptions: &[Lit]) -> bool
+fn are_assumed(entries: &[Entry], assumptions: &[Lit]) -> bool
     ensures { result ≡ true → AreAssumed assumptions.now entries.now }
 {
     for entry in entries {
-        if !is_assumed(*entry, assumptions) {
+        if !is_assumed(entry.assigned(), assumptions) {
             return false;
         }
     }

@@ -9,7 +9,7 @@ use crate::learning::{decide, fill, has_two, highest, settle};
 use sb_analyze::{Learned, learn};
 use sb_clauses::{Clauses, Engine};
 use sb_lit::{ClauseId, Lit};
-use sb_trail::Trail;
+use sb_trail::{CompactLit, Trail};
 use std::alloc::{AllocError, Global};
 use std::process::Abort;
 use std::test::Fail;
@@ -186,10 +186,8 @@ fn begins(
 }
 
 /// Whether a literal of the clause is true.
-fn holds(trail: &Trail, literals: &[Lit]) -> bool {
-    literals
-        .iter()
-        .any(|literal| trail.literal_value(*literal) == Some(true))
+fn holds(trail: &Trail, literals: &[CompactLit]) -> bool {
+    literals.iter().any(|literal| trail.literal_value(literal.literal()) == Some(true))
 }
 
 /// Expects that each clause has a true literal.

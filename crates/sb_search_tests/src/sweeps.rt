@@ -4,7 +4,7 @@ ghost use Rattle.std.specs.Prelude.{◌<◌, max};
 
 use sb_clauses::{Clauses, Engine, Propagated};
 use sb_lit::{Clause, ClauseId, Lit};
-use sb_trail::Trail;
+use sb_trail::{CompactLit, Trail};
 use std::alloc::{AllocError, Global};
 use std::process::Abort;
 use std::test::Fail;
@@ -16,17 +16,18 @@ enum Finding {
     Idle,
 }
 
-fn examine(trail: &Trail, literals: &[Lit]) -> Finding {
+fn examine(trail: &Trail, literals: &[CompactLit]) -> Finding {
     let mut unset = None;
-    for literal in literals {
-        match trail.literal_value(*literal) {
+    for kept in literals {
+        let literal = kept.literal();
+        match trail.literal_value(literal) {
             Some(true) => return Finding::Idle,
             Some(false) => {}
             None => {
-                if is_another(unset, *literal) {
+                if is_another(unset, literal) {
                     return Finding::Idle;
                 }
-                unset = Some(*literal);
+                unset = Some(literal);
             }
         }
     }

@@ -4,30 +4,72 @@ use sb_clauses::Clauses;
 use sb_hints::{KeptClauses, NotLearned};
 use sb_lit::{ClauseId, Lit};
 use sb_proof::{Line, Rule, read_line};
+use sb_trail::CompactLit;
 use std::alloc::{AllocError, Global};
 
+/// The literals.
+fn plain(alloc: Global, kept: &[CompactLit]) -> Result<Vec<Lit>, AllocError> {
+    let mut literals = Vec::new(alloc);
+    for literal in kept {
+        put(&mut literals, literal.literal())?;
+    }
+    Ok(literals)
+}
+
+fn put(literals: &mut Vec<Lit>, literal: Lit) -> Result<(), AllocError> {
+    literals.push(literal)?;
+    Ok(())
+}
+
 /// Keeps the clause of the number, or leaves its place empty.
-fn copy_one(clauses: &Clauses, kept: &mut KeptClauses, id: ClauseId) -> Result<(), AllocError> {
+fn copy_one(
+    alloc: Global,
+    clauses: &Clauses,
+    kept: &mut KeptClauses,
+    id: ClauseId,
+) -> Result<(), AllocError> {
     let Some(literals) = clauses.literals(id) else {
         return kept.add(&[], u64::MAX);
     };
-    kept.add(literals, clauses.level(id).unwrap_or(0))
+    let literals = plain(alloc, literals)?;
+    kept.add(&literals, clauses.level(id).unwrap_or(0))
 }
 
 /// Keeps the clauses, under their numbers.
-pub fn copy(clauses: &Clauses, kept: &mut KeptClauses) -> Result<(), AllocError> {
+pub fn copy(alloc: Global, clauses: &Clauses, kept: &mut KeptClauses) -> Result<(), AllocError> {
     for number in 0..clauses.len() {
-        copy_one(clauses, kept, ClauseId(number as u64))?;
+        copy_one(alloc, clauses, kept, ClauseId(number as u64))?;
     }
     kept.drop_above(u64::MAX - 1);
     Ok(())
+}
+
+/// Whether these are the same literals, or both are none.
+fn are_same(kept: Option<&[CompactLit]>, literals: Option<&[Lit]>) -> bool {
+    match (kept, literals) {
+        (Some(kept), Some(literals)) => are_equal(kept, literals),
+        (None, None) => true,
+        _ => false,
+    }
+}
+
+fn are_equal(kept: &[CompactLit], literals: &[Lit]) -> bool {
+    if kept.len() != literals.len() {
+        return false;
+    }
+    for (one, other) in kept.iter().zip(literals.iter()) {
+        if one.literal() != *other {
+            return false;
+        }
+    }
+    true
 }
 
 /// Whether both keep the same clauses, under the same numbers and at the same levels.
 fn is_same(clauses: &Clauses, kept: &KeptClauses) -> bool {
     for number in 0..clauses.len() {
         let id = number as u64;
-        if clauses.literals(ClauseId(id)) != kept.clause(id)
+        if !are_same(clauses.literals(ClauseId(id)), kept.clause(id))
             || clauses.level(ClauseId(id)) != kept.level(id)
         {
             return false;

@@ -131,7 +131,7 @@ fn finds<T: Theory>(
     requires reasoned { AreReasoned engine.old.kept [] engine.old.trail.literals }
     requires stands { T.stands theory.old engine.old.trail.literals }
 {
-    copy(engine.clauses(), kept)?;
+    copy(alloc, engine.clauses(), kept)?;
     let found = search(alloc, theory, engine, tape, assumptions, budget)?;
     let spent = budget.spent();
     let replayed = replays(alloc, kept, tape.bytes(), engine.clauses())?;

@@ -92,7 +92,7 @@ pub AreLevelled-pop : (n : ℕ) (es : List Assigned) (e : Assigned) → AreLevel
 AreLevelled-pop n [] e h = tt
 AreLevelled-pop n (x ∷ xs) e h = (h.0, AreLevelled-pop x.level xs e h.1)
 
-level_behind-bounds : (n : ℕ) (reason : Option ClauseId) → (n ≤ level_behind n reason) × (level_behind n reason ≤ n + 1)
+pub level_behind-bounds : (n : ℕ) (reason : Option ClauseId) → (n ≤ level_behind n reason) × (level_behind n reason ≤ n + 1)
 level_behind-bounds n None = (omega arith, omega arith)
 level_behind-bounds n (Some _) = (omega arith, omega arith)
 

@@ -242,7 +242,7 @@ AreTables-pop es e {room} {values} {places} h =
 
 pub AreTables-grow : {es : List Assigned} {room : ℕ} {values : List (Option Bool)} {places : List ℕ}
     → AreTables es room values places → (n m more : ℕ) → length places ≤ n → length values ≤ m → n ≤ m → n ≤ more
-    → n < 2 ^ 32
+    → n < 2 ^ 31
     → AreTables es more (take m values ++ replicate (m - length values) None)
     (take n places ++ replicate (n - length places) 0)
 AreTables-grow {es} {room} {values} {places} h n m more up upper covered wide fitting = record {

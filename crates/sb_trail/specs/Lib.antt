@@ -1,2 +1,3 @@
 pub mod Assignments
+pub mod Compact
 pub mod Tables

@@ -28,4 +28,4 @@ pub record AreTables (entries : List Assigned) (room : ℕ) (values : List (Opti
   pub covered : length places ≤ length values
   pub counted : length entries + count_by (λ number. number == 0) places ≡ length places
   pub fits : length places ≤ room
-  pub small : length places < 2 ^ 32
+  pub small : length places < 2 ^ 31

@@ -7,7 +7,11 @@
 #![tactic(auto)]
 
 mod assigned;
+mod compact;
+mod entry;
 mod trail;
 
 pub use assigned::Assigned;
+pub use compact::CompactLit;
+pub use entry::Entry;
 pub use trail::Trail;

@@ -8,17 +8,18 @@ ghost use Rattle.sb_trail.specs.Tables.{IsPlace};
 ghost use Rattle.sb_trail.specs.declared.assigned.Assigned.{Assigned, Assigned as TheAssigned};
 
 use crate::assigned::Assigned;
+use crate::entry::Entry;
 use sb_lit::{ClauseId, Lit};
 use std::alloc::{AllocError, Global};
 use std::marker::Model;
 
 /// So many atoms may have a place.
-const PLACES: usize = (1 << 32) - 1;
+const PLACES: usize = (1 << 31) - 1;
 
 /// The literals that are true, oldest first, with their levels and reasons.
 #[derive(Debug, Drop)]
 pub struct Trail {
-    entries: Vec<Assigned>,
+    entries: Vec<Entry>,
     /// The value of each atom, apart from the rest since it is read most.
     values: Vec<Option<bool>>,
     /// By atom one more than the place of its entry, and 0 where it has none.
@@ -52,7 +53,7 @@ impl Trail {
     }
 
     /// Gives each atom below `atoms` a place: from then on its literals may be added, and that takes no
-    /// memory. Places are never taken back. Linear in the number of new places, over many calls too. 2 ^ 32 atoms or
+    /// memory. Places are never taken back. Linear in the number of new places, over many calls too. 2 ^ 31 atoms or
     /// more are an error.
     pub fn reserve(&mut self, atoms: usize) -> Result<(), AllocError>
         ensures ok { OnOk result (self.new ≡ record self.old { reserved = max self.old.reserved atoms }) }
@@ -172,7 +173,7 @@ impl Trail {
     }
 
     /// The literals that are true, oldest first. Takes no memory.
-    pub fn literals(&self) -> &[Assigned]
+    pub fn literals(&self) -> &[Entry]
         ensures value { result.now ≡ self.now.literals }
         ensures trail { IsTrail self.now }
         ensures consistent { IsConsistent (held self.now.literals) }
@@ -211,11 +212,11 @@ impl Trail {
         } }
     {
         let level = level_behind(newest_level(&self.entries), reason);
-        let entry = Assigned {
+        let entry = Entry::new(Assigned {
             literal,
             level,
             reason,
-        };
+        });
         let atom = literal.atom as usize;
         self.values[atom] = Some(literal.positive);
         self.places[atom] = behind(self.entries.len());
@@ -246,7 +247,7 @@ impl Trail {
         let Some(entry) = pop_entry(&mut self.entries) else {
             return false;
         };
-        let atom = entry.literal.atom as usize;
+        let atom = entry.literal().atom as usize;
         self.values[atom] = None;
         self.places[atom] = 0;
         true
@@ -254,11 +255,11 @@ impl Trail {
 }
 
 /// The level of the newest entry, 0 where there is none.
-fn newest_level(entries: &[Assigned]) -> usize
+fn newest_level(entries: &[Entry]) -> usize
     ensures { result ≡ current_level entries.now }
 {
     match entries.last() {
-        Some(newest) => newest.level,
+        Some(newest) => newest.level(),
         None => 0,
     }
 }
@@ -272,25 +273,26 @@ fn level_behind(newest: usize, reason: Option<ClauseId>) -> usize
 }
 
 /// The entry at one less than this place, none where that is 0.
-fn entry_at(entries: &[Assigned], number: u32) -> Option<Assigned>
+fn entry_at(entries: &[Entry], number: u32) -> Option<Assigned>
     ensures { (entry : Option TheAssigned) → IsPlace entries.now number entry → result ≡ entry }
 {
     if number == 0 {
         return None;
     }
-    entries.get(number as usize - 1).copied()
+    let entry = entries.get(number as usize - 1)?;
+    Some(entry.assigned())
 }
 
 /// One more than this place.
 fn behind(place: usize) -> u32
-    requires { place < 2 ^ 32 - 1 }
+    requires { place < 2 ^ 31 }
     ensures { result ≡ place + 1 }
 {
     place as u32 + 1
 }
 
 /// Takes the newest entry off, if there is one.
-fn pop_entry(entries: &mut Vec<Assigned>) -> Option<Assigned>
+fn pop_entry(entries: &mut Vec<Entry>) -> Option<Entry>
     ensures capacity { vec_capacity entries.new ≡ vec_capacity entries.old }
     ensures cases { MatchOption result ((entries.new.items ≡ entries.old.items) × (entries.old.items ≡ []))
         (λ entry. entries.old.items ≡ entries.new.items ++ entry ∷ []) }

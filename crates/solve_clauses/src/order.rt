@@ -4,8 +4,8 @@ ghost use Rattle.std.specs.Prelude.{◌≡◌, ◌<◌, None, IfSome};
 ghost use Rattle.sb_trail.specs.Assignments.{value_of};
 
 use sb_clauses::Clauses;
-use sb_lit::{ClauseId, Lit};
-use sb_trail::Trail;
+use sb_lit::ClauseId;
+use sb_trail::{CompactLit, Trail};
 use std::alloc::{AllocError, Global};
 
 /// What a meeting counts at most.
@@ -80,8 +80,9 @@ impl Order {
     }
 
     /// The atoms of a clause are met.
-    fn meet_all(&mut self, trail: &Trail, literals: &[Lit]) {
-        for literal in literals {
+    fn meet_all(&mut self, trail: &Trail, literals: &[CompactLit]) {
+        for kept in literals {
+            let literal = kept.literal();
             if trail.level(literal.atom) == Some(0) {
                 continue;
             }

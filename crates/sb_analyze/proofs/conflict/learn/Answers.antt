@@ -13,8 +13,8 @@ use Rattle.sb_analyze.proofs.conflict.learn.Goals as goal
 pub resolve_to_first_uip-requires-clause-walked : goal.resolve_to_first_uip-requires-clause-walked
 resolve_to_first_uip-requires-clause-walked c =
     let walked = walked_begin c.args.clauses.now c.args.trail.now c.literals-entries.ensures.trail c.args.conflict.0
-    c.requires.conflict.0 c.requires.conflict.1 c.in-Some.literals.now c.highest.result
-    (shown c.new-analysis.result) (shown c.resolve.new.self) c.in-Some.ensures c.highest.ensures
+    c.requires.conflict.0 c.requires.conflict.1 c.in-Some.literals.now c.highest_kept.result
+    (shown c.new-analysis.result) (shown c.resolve.new.self) c.in-Some.ensures c.highest_kept.ensures
     c.new-analysis.ensures c.in_ok-resolve.ensures in
     subst (λ (n : ℕ). IsWalked c.args.clauses.now c.args.trail.now.literals n c.args.trail.now.literals
     (shown c.resolve.new.self)) (sym walked.here) walked
@@ -25,8 +25,8 @@ returns c = λ clause there.
     k) (same_clause c.args.clauses.now c.args.conflict.0 c.requires.conflict.0 clause c.requires.conflict.1.there
     there) c.requires.conflict.1 in
     let walked = walked_begin c.args.clauses.now c.args.trail.now c.literals-entries.ensures.trail c.args.conflict.0
-    clause teaching c.in-Some.literals.now c.highest.result
-    (shown c.new-analysis.result) (shown c.resolve.new.self) c.in-Some.ensures c.highest.ensures
+    clause teaching c.in-Some.literals.now c.highest_kept.result
+    (shown c.new-analysis.result) (shown c.resolve.new.self) c.in-Some.ensures c.highest_kept.ensures
     c.new-analysis.ensures c.in_ok-resolve.ensures in
     let before = subst (λ (n : ℕ). IsFirstUip c.args.clauses.now c.args.trail.now.literals n
     (shown c.resolve_to_first_uip.new.self) c.in_ok-uip.uip) walked.here c.in_ok-uip.ensures in

@@ -16,21 +16,21 @@ pub watch-requires-clause-home : goal.watch-requires-clause-home
 watch-requires-clause-home c =
     first_home c.args.records.now c.args.number c.index-records-number.result _ _ _ _ c.requires.inside
     c.index-records-number.is c.requires.room c.in-Some.record c.as_slice-clause.result.now c.in-Some.is
-    c.as_slice-clause.ensures.value c.watched_literals.result.0 c.watched_literals.result.1
+    c.as_slice-clause.ensures c.watched_literals.result.0 c.watched_literals.result.1
     c.watched_literals.ensures.watchable
 
 pub watch-requires-2-clause-home : goal.watch-requires-2-clause-home
 watch-requires-2-clause-home c =
     second_home c.args.records.now c.args.number c.index-records-number.result _ _ _ _ c.requires.inside
     c.index-records-number.is c.requires.room c.in-Some.record c.as_slice-clause.result.now c.in-Some.is
-    c.as_slice-clause.ensures.value c.watched_literals.result.0 c.watched_literals.result.1
+    c.as_slice-clause.ensures c.watched_literals.result.0 c.watched_literals.result.1
     c.watched_literals.ensures.watchable
 
 pub assign-requires-clause-reserved : goal.assign-requires-clause-reserved
 assign-requires-clause-reserved c =
     forced_place c.args.records.now c.args.number c.index-records-number.result _ _ _ _ c.requires.inside
     c.index-records-number.is c.requires.room c.in-Some.record c.as_slice-clause.result.now c.in-Some.is
-    c.as_slice-clause.ensures.value c.watched_literals.result.0 c.watched_literals.result.1
+    c.as_slice-clause.ensures c.watched_literals.result.0 c.watched_literals.result.1
     c.watched_literals.ensures.watchable c.args.trail.now c.in-Forces.literal c.requires.reserved
     c.in-Forces.ensures
 
@@ -39,7 +39,7 @@ returns-in-Stays-clause-ready c =
     rw (c.watch.ensures.watched, c.watch.ensures.lists, c.watch-2.ensures.watched, c.watch-2.ensures.lists)
     (next_some c.args.records.now c.args.number c.index-records-number.result _ _ _ _ c.requires.inside
     c.index-records-number.is c.requires.room c.in-Some.record c.as_slice-clause.result.now c.in-Some.is
-    c.as_slice-clause.ensures.value c.watched_literals.result.0 c.watched_literals.result.1
+    c.as_slice-clause.ensures c.watched_literals.result.0 c.watched_literals.result.1
     c.watched_literals.ensures.watchable _ _ _ _ c.forget_late.ensures.late c.forget_late.ensures.front
     c.requires.ready)
 
@@ -48,7 +48,7 @@ returns-in-False-clause-ready c =
     rw (c.watch.ensures.watched, c.watch.ensures.lists, c.watch-2.ensures.watched, c.watch-2.ensures.lists)
     (next_some c.args.records.now c.args.number c.index-records-number.result _ _ _ _ c.requires.inside
     c.index-records-number.is c.requires.room c.in-Some.record c.as_slice-clause.result.now c.in-Some.is
-    c.as_slice-clause.ensures.value c.watched_literals.result.0 c.watched_literals.result.1
+    c.as_slice-clause.ensures c.watched_literals.result.0 c.watched_literals.result.1
     c.watched_literals.ensures.watchable _ _ _ _ c.forget_late.ensures.late c.forget_late.ensures.front
     c.requires.ready)
 
@@ -57,7 +57,7 @@ returns-in-Stays-clause-room c =
     rw (c.watch.ensures.watched, c.watch.ensures.lists, c.watch-2.ensures.watched, c.watch-2.ensures.lists)
     (next_room c.args.records.now c.args.number c.index-records-number.result _ _ _ _ c.requires.inside
     c.index-records-number.is c.requires.room c.in-Some.record c.as_slice-clause.result.now c.in-Some.is
-    c.as_slice-clause.ensures.value c.watched_literals.result.0 c.watched_literals.result.1
+    c.as_slice-clause.ensures c.watched_literals.result.0 c.watched_literals.result.1
     c.watched_literals.ensures.watchable)
 
 pub returns-in-Forces-clause-room : goal.returns-in-Forces-clause-room
@@ -65,7 +65,7 @@ returns-in-Forces-clause-room c =
     rw (c.watch.ensures.watched, c.watch.ensures.lists, c.watch-2.ensures.watched, c.watch-2.ensures.lists)
     (next_room c.args.records.now c.args.number c.index-records-number.result _ _ _ _ c.requires.inside
     c.index-records-number.is c.requires.room c.in-Some.record c.as_slice-clause.result.now c.in-Some.is
-    c.as_slice-clause.ensures.value c.watched_literals.result.0 c.watched_literals.result.1
+    c.as_slice-clause.ensures c.watched_literals.result.0 c.watched_literals.result.1
     c.watched_literals.ensures.watchable)
 
 pub returns-in-False-clause-room : goal.returns-in-False-clause-room
@@ -73,7 +73,7 @@ returns-in-False-clause-room c =
     rw (c.watch.ensures.watched, c.watch.ensures.lists, c.watch-2.ensures.watched, c.watch-2.ensures.lists)
     (next_room c.args.records.now c.args.number c.index-records-number.result _ _ _ _ c.requires.inside
     c.index-records-number.is c.requires.room c.in-Some.record c.as_slice-clause.result.now c.in-Some.is
-    c.as_slice-clause.ensures.value c.watched_literals.result.0 c.watched_literals.result.1
+    c.as_slice-clause.ensures c.watched_literals.result.0 c.watched_literals.result.1
     c.watched_literals.ensures.watchable)
 
 pub returns-in-Stays-clause-fine : goal.returns-in-Stays-clause-fine
@@ -81,7 +81,7 @@ returns-in-Stays-clause-fine c =
     rw (c.watch.ensures.watched, c.watch-2.ensures.watched)
     (head_stays c.args.records.now c.args.number c.index-records-number.result _ _ _ _ c.requires.inside
     c.index-records-number.is c.requires.room c.in-Some.record c.as_slice-clause.result.now c.in-Some.is
-    c.as_slice-clause.ensures.value c.watched_literals.result.0 c.watched_literals.result.1
+    c.as_slice-clause.ensures c.watched_literals.result.0 c.watched_literals.result.1
     c.watched_literals.ensures.watchable _ c.in-Stays.ensures)
 
 pub returns-in-Forces-clause-ready : goal.returns-in-Forces-clause-ready
@@ -95,7 +95,7 @@ returns-in-Forces-clause-ready c =
     )
     (forced_ready c.args.records.now c.args.number c.index-records-number.result _ _ _ _ c.requires.inside
     c.index-records-number.is c.requires.room c.in-Some.record c.as_slice-clause.result.now c.in-Some.is
-    c.as_slice-clause.ensures.value c.watched_literals.result.0 c.watched_literals.result.1
+    c.as_slice-clause.ensures c.watched_literals.result.0 c.watched_literals.result.1
     c.watched_literals.ensures.watchable c.args.trail.now.literals _ _ _ refl c.forget_late.ensures.late
     c.forget_late.ensures.front c.requires.ready)
 
@@ -104,7 +104,7 @@ returns-in-Forces-clause-grows c =
     rw c.assign.ensures
     (forced_grows c.args.records.now c.args.number c.index-records-number.result _ _ _ _ c.requires.inside
     c.index-records-number.is c.requires.room c.in-Some.record c.as_slice-clause.result.now c.in-Some.is
-    c.as_slice-clause.ensures.value c.watched_literals.result.0 c.watched_literals.result.1
+    c.as_slice-clause.ensures c.watched_literals.result.0 c.watched_literals.result.1
     c.watched_literals.ensures.watchable c.args.trail.now _ c.in-Forces.literal refl
     c.in-Forces.ensures)
 
@@ -113,14 +113,14 @@ returns-in-Forces-clause-fine c =
     rw (c.watch.ensures.watched, c.watch-2.ensures.watched, c.assign.ensures)
     (head_forced c.args.records.now c.args.number c.index-records-number.result _ _ _ _ c.requires.inside
     c.index-records-number.is c.requires.room c.in-Some.record c.as_slice-clause.result.now c.in-Some.is
-    c.as_slice-clause.ensures.value c.watched_literals.result.0 c.watched_literals.result.1
+    c.as_slice-clause.ensures c.watched_literals.result.0 c.watched_literals.result.1
     c.watched_literals.ensures.watchable c.args.trail.now.literals _ c.in-Forces.ensures)
 
 pub returns-in-False-clause-answer : goal.returns-in-False-clause-answer
 returns-in-False-clause-answer c =
     false_here c.args.records.now c.args.number c.index-records-number.result _ _ _ _ c.requires.inside
     c.index-records-number.is c.requires.room c.in-Some.record c.as_slice-clause.result.now c.in-Some.is
-    c.as_slice-clause.ensures.value c.watched_literals.result.0 c.watched_literals.result.1
+    c.as_slice-clause.ensures c.watched_literals.result.0 c.watched_literals.result.1
     c.watched_literals.ensures.watchable _ _ refl c.in-False.ensures
 
 pub watch-requires-clause-small : goal.watch-requires-clause-small
@@ -128,7 +128,7 @@ watch-requires-clause-small c =
     first_small
     c.args.records.now c.args.number c.index-records-number.result _ _ _ _ c.requires.inside
     c.index-records-number.is c.requires.room c.in-Some.record c.as_slice-clause.result.now c.in-Some.is
-    c.as_slice-clause.ensures.value c.watched_literals.result.0 c.watched_literals.result.1
+    c.as_slice-clause.ensures c.watched_literals.result.0 c.watched_literals.result.1
     c.watched_literals.ensures.watchable
 
 pub watch-requires-2-clause-small : goal.watch-requires-2-clause-small
@@ -136,5 +136,5 @@ watch-requires-2-clause-small c =
     second_small
     c.args.records.now c.args.number c.index-records-number.result _ _ _ _ c.requires.inside
     c.index-records-number.is c.requires.room c.in-Some.record c.as_slice-clause.result.now c.in-Some.is
-    c.as_slice-clause.ensures.value c.watched_literals.result.0 c.watched_literals.result.1
+    c.as_slice-clause.ensures c.watched_literals.result.0 c.watched_literals.result.1
     c.watched_literals.ensures.watchable

@@ -1,10 +1,10 @@
-use Rattle.std.proofs.Common.{◌≡◌, ◌<◌, length, false, ap, ◌∙◌, sym, Some, arith}
+use Rattle.std.proofs.Common.{◌≡◌, ◌<◌, length, get_or, false, ap, ◌∙◌, sym, Some, arith}
 use Rattle.std.specs.HashSet.{contains}
 use Rattle.std.specs.Option.{option_map}
-use Rattle.std.proofs.lemmas.List.{length-map}
+use Rattle.std.proofs.lemmas.List.{length-map, get_or_read}
 use Rattle.sb_lit.specs.Kept.{kept_at}
 use Rattle.sb_clauses.specs.Records.{kept_of, clause_of}
-use Rattle.sb_clauses.specs.Occurring.{are_equal, IsIn, is_false_place}
+use Rattle.sb_clauses.specs.Occurring.{are_equal, IsIn, is_false_place, node_at, no_node}
 use Rattle.sb_clauses.proofs.Growing.{kept_at_place}
 use Rattle.sb_clauses.proofs.OccurrenceLemmas.{in_next, walk_next, walk_end}
 use Rattle.sb_clauses.proofs.occurrences.false_in.Goals as goal
@@ -18,13 +18,16 @@ loop-next-preserved c =
     let inside : IsIn c.args.nodes.now (length kept) c.args.list (Some number) =
     rw c.in-Some.is at c.loop-next.invariant.inside in
     let below : number < length records = omega (arith, inside.0, length-map records (option_map clause_of)) in
+    let node : get_or c.args.nodes.now number c.index-nodes-number.result ≡ node_at c.args.nodes.now number =
+    sym c.index-nodes-number.is ∙ get_or_read c.args.nodes.now number c.index-nodes-number.result
+    (omega (arith, inside.0, c.requires.enough)) c.index-nodes-number.is no_node in
     let fails : is_false_place has (kept_at kept number) ≡ false =
     ap (is_false_place has)
     (kept_at_place records number c.index-records-number.result below c.index-records-number.is)
     ∙ sym c.is_false_place.ensures ∙ c.if-is_false_place.false in
     record {
-      inside = rw c.widen-next.ensures (in_next c.args.nodes.now (length kept) c.args.list number inside (c.requires.leads number inside.0));
-      older = rw c.widen-next.ensures (walk_next kept c.args.heads.now c.args.nodes.now has c.requires c.args.list number inside.0 inside.1
+      inside = rw (c.number-next.ensures, node) (in_next c.args.nodes.now (length kept) c.args.list number inside (c.requires.leads number inside.0));
+      older = rw (c.number-next.ensures, node) (walk_next kept c.args.heads.now c.args.nodes.now has c.requires c.args.list number inside.0 inside.1
           (rw c.in-Some.is at c.loop-next.invariant.older) fails);
     }
 

@@ -1,4 +1,7 @@
+use Rattle.std.proofs.Common.{◌≡◌, refl, ◌∙◌}
 use Rattle.sb_trail.specs.Assignments.{held}
+use Rattle.sb_clauses.specs.Watching.{literal_at}
+use Rattle.sb_clauses.proofs.Growing.{literal_read}
 use Rattle.sb_clauses.proofs.Waiting.{no_places, no_best, one_best}
 use Rattle.sb_clauses.proofs.place.watched_literals.Goals as goal
 
@@ -10,4 +13,9 @@ returns-in_default-clause-best c = no_best (held c.args.trail.now.literals) c.ar
 
 pub returns-in-None-clause-best : goal.returns-in-None-clause-best
 returns-in-None-clause-best c =
-    one_best (held c.args.trail.now.literals) c.args.clause.now c.in-Some.first c.in-Some.ensures c.in-None.ensures
+    let read : c.literal-own.result ≡ literal_at c.args.clause.now c.in-Some.first =
+    c.literal-own.ensures
+    ∙ literal_read c.args.clause.now c.args.clause.now c.in-Some.first c.index-clause-first.result refl
+    c.in-Some.ensures.other.inside c.index-clause-first.is in
+    rw read (one_best (held c.args.trail.now.literals) c.args.clause.now c.in-Some.first c.in-Some.ensures
+    (rw read at c.in-None.ensures))

@@ -1,4 +1,4 @@
-use Rattle.std.proofs.Common.{◌≡◌, drop, sym, ◌∙◌, arith}
+use Rattle.std.proofs.Common.{◌≡◌, drop, refl, sym, ◌∙◌, arith}
 use Rattle.std.proofs.lemmas.List.{length-set}
 use Rattle.sb_clauses.specs.Watching.{literal_at}
 use Rattle.sb_clauses.proofs.Growing.{clause_at, no_clause_at, literal_read}
@@ -26,27 +26,27 @@ look-requires c =
     let first = sym c.in-Some.is ∙ c.pop.ensures.first in
     let below = number_below c.args.list _ c.requires c.in-Some.number first in
     let has = clause_at c.args.records.now c.in-Some.number c.index-records-number.result c.in-Some-records.record
-    c.deref.result.now below c.index-records-number.is c.in-Some-records.is c.deref.ensures.value in
-    rw c.literal_of.ensures (λ some. ((c.requires.placed c.in-Some.number c.deref.result.now has).inside some).1)
+    c.as_slice-literals.result.now below c.index-records-number.is c.in-Some-records.is c.as_slice-literals.ensures in
+    rw c.literal_of.ensures (λ some. ((c.requires.placed c.in-Some.number c.as_slice-literals.result.now has).inside some).1)
 
 pub assign-requires-clause-reserved : goal.assign-requires-clause-reserved
 assign-requires-clause-reserved c =
     let first = sym c.in-Some.is ∙ c.pop.ensures.first in
     let below = number_below c.args.list _ c.requires c.in-Some.number first in
     let has = clause_at c.args.records.now c.in-Some.number c.index-records-number.result c.in-Some-records.record
-    c.deref.result.now below c.index-records-number.is c.in-Some-records.is c.deref.ensures.value in
+    c.as_slice-literals.result.now below c.index-records-number.is c.in-Some-records.is c.as_slice-literals.ensures in
     turn_place c.args.list _ c.requires c.in-Some.number first (rw c.pop.ensures.rest at c.in-Some.ensures.nowhere.1)
-    c.deref.result.now has c.in-Forces.literal (rw c.literal_of.ensures at c.in-Forces.ensures)
+    c.as_slice-literals.result.now has c.in-Forces.literal (rw c.literal_of.ensures at c.in-Forces.ensures)
 
 pub returns-in-Holds : goal.returns-in-Holds
 returns-in-Holds c =
     let first = sym c.in-Some.is ∙ c.pop.ensures.first in
     let below = number_below c.args.list _ c.requires c.in-Some.number first in
     let has = clause_at c.args.records.now c.in-Some.number c.index-records-number.result c.in-Some-records.record
-    c.deref.result.now below c.index-records-number.is c.in-Some-records.is c.deref.ensures.value in
+    c.as_slice-literals.result.now below c.index-records-number.is c.in-Some-records.is c.as_slice-literals.ensures in
     rw (c.push.ensures, c.pop.ensures.rest)
     (turn_holds c.args.list _ c.requires c.in-Some.number first
-    (rw c.pop.ensures.rest at c.in-Some.ensures.nowhere.1) c.deref.result.now has (rw c.literal_of.ensures at c.in-Holds.ensures))
+    (rw c.pop.ensures.rest at c.in-Some.ensures.nowhere.1) c.as_slice-literals.result.now has (rw c.literal_of.ensures at c.in-Holds.ensures))
 
 pub index_mut-requires : goal.index_mut-requires
 index_mut-requires c =
@@ -59,14 +59,15 @@ list_of-requires c =
     let first = sym c.in-Some.is ∙ c.pop.ensures.first in
     let below = number_below c.args.list _ c.requires c.in-Some.number first in
     let has = clause_at c.args.records.now c.in-Some.number c.index-records-number.result c.in-Some-records.record
-    c.deref.result.now below c.index-records-number.is c.in-Some-records.is c.deref.ensures.value in
-    let read : c.index-literal.result.now ≡ literal_at c.deref.result.now c.in-Moves.place =
-    literal_read c.deref.result.now c.in-Some-records.record.literals.items c.in-Moves.place c.index-literal.result.now
-    c.deref.ensures.value c.in-Moves.ensures.replacement.inside c.index-literal.ensures in
+    c.as_slice-literals.result.now below c.index-records-number.is c.in-Some-records.is c.as_slice-literals.ensures in
+    let read : c.literal-literal.result ≡ literal_at c.as_slice-literals.result.now c.in-Moves.place =
+    c.literal-literal.ensures
+    ∙ literal_read c.as_slice-literals.result.now c.as_slice-literals.result.now c.in-Moves.place
+    c.index-literals-place.result refl c.in-Moves.ensures.replacement.inside c.index-literals-place.is in
     rw read (omega (
       arith,
       move_small c.args.list _ c.requires c.in-Some.number first
-          (rw c.pop.ensures.rest at c.in-Some.ensures.nowhere.1) c.deref.result.now has c.in-Moves.place
+          (rw c.pop.ensures.rest at c.in-Some.ensures.nowhere.1) c.as_slice-literals.result.now has c.in-Moves.place
           (rw c.literal_of.ensures at c.in-Moves.ensures),
     ))
 
@@ -75,13 +76,14 @@ code_of-requires c =
     let first = sym c.in-Some.is ∙ c.pop.ensures.first in
     let below = number_below c.args.list _ c.requires c.in-Some.number first in
     let has = clause_at c.args.records.now c.in-Some.number c.index-records-number.result c.in-Some-records.record
-    c.deref.result.now below c.index-records-number.is c.in-Some-records.is c.deref.ensures.value in
-    let read : c.index-literal.result.now ≡ literal_at c.deref.result.now c.in-Moves.place =
-    literal_read c.deref.result.now c.in-Some-records.record.literals.items c.in-Moves.place c.index-literal.result.now
-    c.deref.ensures.value c.in-Moves.ensures.replacement.inside c.index-literal.ensures in
+    c.as_slice-literals.result.now below c.index-records-number.is c.in-Some-records.is c.as_slice-literals.ensures in
+    let read : c.literal-literal.result ≡ literal_at c.as_slice-literals.result.now c.in-Moves.place =
+    c.literal-literal.ensures
+    ∙ literal_read c.as_slice-literals.result.now c.as_slice-literals.result.now c.in-Moves.place
+    c.index-literals-place.result refl c.in-Moves.ensures.replacement.inside c.index-literals-place.is in
     rw read (
     move_small c.args.list _ c.requires c.in-Some.number first
-    (rw c.pop.ensures.rest at c.in-Some.ensures.nowhere.1) c.deref.result.now has c.in-Moves.place
+    (rw c.pop.ensures.rest at c.in-Some.ensures.nowhere.1) c.as_slice-literals.result.now has c.in-Moves.place
     (rw c.literal_of.ensures at c.in-Moves.ensures))
 
 pub push-requires-in-Moves-clause-list : goal.push-requires-in-Moves-clause-list
@@ -89,10 +91,11 @@ push-requires-in-Moves-clause-list c =
     let first = sym c.in-Some.is ∙ c.pop.ensures.first in
     let below = number_below c.args.list _ c.requires c.in-Some.number first in
     let has = clause_at c.args.records.now c.in-Some.number c.index-records-number.result c.in-Some-records.record
-    c.deref.result.now below c.index-records-number.is c.in-Some-records.is c.deref.ensures.value in
-    let read : c.index-literal.result.now ≡ literal_at c.deref.result.now c.in-Moves.place =
-    literal_read c.deref.result.now c.in-Some-records.record.literals.items c.in-Moves.place c.index-literal.result.now
-    c.deref.ensures.value c.in-Moves.ensures.replacement.inside c.index-literal.ensures in
+    c.as_slice-literals.result.now below c.index-records-number.is c.in-Some-records.is c.as_slice-literals.ensures in
+    let read : c.literal-literal.result ≡ literal_at c.as_slice-literals.result.now c.in-Moves.place =
+    c.literal-literal.ensures
+    ∙ literal_read c.as_slice-literals.result.now c.as_slice-literals.result.now c.in-Moves.place
+    c.index-literals-place.result refl c.in-Moves.ensures.replacement.inside c.index-literals-place.is in
     rw (
       c.list_of.ensures,
       read,
@@ -100,7 +103,7 @@ push-requires-in-Moves-clause-list c =
       length-set c.args.own.now.lists.lists c.args.list (drop 1 (list_at c.args.own.now.lists.lists c.args.list)),
     )
     (move_inside c.args.list _ c.requires c.in-Some.number first
-    (rw c.pop.ensures.rest at c.in-Some.ensures.nowhere.1) c.deref.result.now has c.in-Moves.place
+    (rw c.pop.ensures.rest at c.in-Some.ensures.nowhere.1) c.as_slice-literals.result.now has c.in-Moves.place
     (rw c.literal_of.ensures at c.in-Moves.ensures))
 
 pub returns-in-Forces : goal.returns-in-Forces
@@ -108,10 +111,10 @@ returns-in-Forces c =
     let first = sym c.in-Some.is ∙ c.pop.ensures.first in
     let below = number_below c.args.list _ c.requires c.in-Some.number first in
     let has = clause_at c.args.records.now c.in-Some.number c.index-records-number.result c.in-Some-records.record
-    c.deref.result.now below c.index-records-number.is c.in-Some-records.is c.deref.ensures.value in
+    c.as_slice-literals.result.now below c.index-records-number.is c.in-Some-records.is c.as_slice-literals.ensures in
     rw (c.push-in-Forces.ensures, c.pop.ensures.rest, c.assign.ensures)
     (turn_forces c.args.list _ c.requires c.in-Some.number first
-    (rw c.pop.ensures.rest at c.in-Some.ensures.nowhere.1) c.deref.result.now has c.in-Forces.literal
+    (rw c.pop.ensures.rest at c.in-Some.ensures.nowhere.1) c.as_slice-literals.result.now has c.in-Forces.literal
     (rw c.literal_of.ensures at c.in-Forces.ensures))
 
 pub returns-in-Moves : goal.returns-in-Moves
@@ -119,13 +122,14 @@ returns-in-Moves c =
     let first = sym c.in-Some.is ∙ c.pop.ensures.first in
     let below = number_below c.args.list _ c.requires c.in-Some.number first in
     let has = clause_at c.args.records.now c.in-Some.number c.index-records-number.result c.in-Some-records.record
-    c.deref.result.now below c.index-records-number.is c.in-Some-records.is c.deref.ensures.value in
-    let read : c.index-literal.result.now ≡ literal_at c.deref.result.now c.in-Moves.place =
-    literal_read c.deref.result.now c.in-Some-records.record.literals.items c.in-Moves.place c.index-literal.result.now
-    c.deref.ensures.value c.in-Moves.ensures.replacement.inside c.index-literal.ensures in
+    c.as_slice-literals.result.now below c.index-records-number.is c.in-Some-records.is c.as_slice-literals.ensures in
+    let read : c.literal-literal.result ≡ literal_at c.as_slice-literals.result.now c.in-Moves.place =
+    c.literal-literal.ensures
+    ∙ literal_read c.as_slice-literals.result.now c.as_slice-literals.result.now c.in-Moves.place
+    c.index-literals-place.result refl c.in-Moves.ensures.replacement.inside c.index-literals-place.is in
     rw (c.push-in-Moves.ensures, c.pop.ensures.rest, c.list_of.ensures, c.code_of.ensures, read)
     (turn_moves c.args.list _ c.requires c.in-Some.number first
-    (rw c.pop.ensures.rest at c.in-Some.ensures.nowhere.1) c.deref.result.now has c.in-Moves.place
+    (rw c.pop.ensures.rest at c.in-Some.ensures.nowhere.1) c.as_slice-literals.result.now has c.in-Moves.place
     (rw c.literal_of.ensures at c.in-Moves.ensures))
 
 pub returns-in-False : goal.returns-in-False
@@ -133,7 +137,7 @@ returns-in-False c =
     let first = sym c.in-Some.is ∙ c.pop.ensures.first in
     let below = number_below c.args.list _ c.requires c.in-Some.number first in
     let has = clause_at c.args.records.now c.in-Some.number c.index-records-number.result c.in-Some-records.record
-    c.deref.result.now below c.index-records-number.is c.in-Some-records.is c.deref.ensures.value in
+    c.as_slice-literals.result.now below c.index-records-number.is c.in-Some-records.is c.as_slice-literals.ensures in
     rw (c.push-in-False.ensures, c.pop.ensures.rest)
     (turn_stops c.args.list _ c.requires c.in-Some.number first
-    (rw c.pop.ensures.rest at c.in-Some.ensures.nowhere.1) c.deref.result.now has c.in-False.ensures)
+    (rw c.pop.ensures.rest at c.in-Some.ensures.nowhere.1) c.as_slice-literals.result.now has c.in-False.ensures)

@@ -41,7 +41,7 @@ invariant_of-self-2 c =
           (found_wider _ _ _ _ _ c.self.invariant.1 c.make_room.ensures.wider)
           (omega (arith, c.len-number.ensures, c.self.inside.records.ok.0))
           (omega (arith, c.in_ok-make_room.ensures.nodes))
-          (rw c.in_ok-literals.ensures.items c.home_for-home.ensures)
+          (rw c.in_ok-literals.ensures c.home_for-home.ensures)
           (omega (arith, home_inside _ _ _ c.in-Some.ensures c.home_for-home.ensures, c.in_ok-make_room.ensures.heads))
           c.put.ensures,
     )

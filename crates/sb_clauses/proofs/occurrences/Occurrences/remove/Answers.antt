@@ -16,7 +16,7 @@ returns-then-not-pass_over c = λ kept gone inside h.
     (found_same kept heads c.args.self.now.nodes.items c.set_behind.new.nodes.items h c.set_behind.ensures) in
     c.begin_behind.ensures kept gone inside c.pass_over.new.nodes.items
     (ap (λ (ns : List Node). (node_at ns c.args.number).before) same
-    ∙ c.set_behind.ensures.befores c.args.number ∙ ap (λ (n : Node). n.before) at ∙ sym c.widen.ensures)
+    ∙ c.set_behind.ensures.befores c.args.number ∙ ap (λ (n : Node). n.before) at ∙ sym c.number.ensures)
     (ap (λ (ns : List Node). (node_at ns c.args.number).list) same
     ∙ c.set_behind.ensures.lists c.args.number ∙ ap (λ (n : Node). n.list) at) led
 
