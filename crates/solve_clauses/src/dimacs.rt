@@ -6,18 +6,36 @@ use crate::failure::Failure;
 use sb_clauses::Engine;
 use sb_lit::{Clause, Lit};
 use std::alloc::{AllocError, Global};
+use std::io::BufRead;
 use std::mem;
 
+/// How many lines are read at most.
+const MOST_LINES: u64 = 0x1_0000_0000;
+
 /// Keeps the clauses that stand there, but in lines that begin with a `c` or a `p`. The atom 1 is the atom 0 here.
-pub fn read(alloc: Global, script: &[u8], engine: &mut Engine) -> Result<(), Failure>
+/// Reads a line at a time, and keeps no other one.
+pub fn read<R: BufRead>(alloc: Global, input: &mut R, engine: &mut Engine) -> Result<(), Failure>
     requires { engine.old.trail.literals ≡ [] }
     ensures { engine.new.trail.literals ≡ [] }
 {
+    let mut line = Vec::new(alloc);
     let mut literals = Vec::new(alloc);
-    for line in script.split(|byte| *byte == b'\n') {
-        read_line(alloc, line, &mut literals, engine)?;
+    for _ in 0..MOST_LINES {
+        if !next_line(input, &mut line)? {
+            return Ok(());
+        }
+        read_line(alloc, &line, &mut literals, engine)?;
     }
-    Ok(())
+    Err(Failure::Input)
+}
+
+/// Reads the next line in place of this one, and says whether there was one.
+fn next_line<R: BufRead>(input: &mut R, line: &mut Vec<u8>) -> Result<bool, Failure> {
+    line.clear();
+    match input.read_until(b'\n', line) {
+        Ok(count) => Ok(count > 0),
+        Err(_) => Err(Failure::Outside),
+    }
 }
 
 /// Reads a line.
@@ -32,7 +50,7 @@ fn read_line(
     if is_comment(line) {
         return Ok(());
     }
-    for word in line.split(|byte| *byte == b' ') {
+    for word in line.split(|byte| *byte == b' ' || *byte == b'\n') {
         read_word(alloc, word, literals, engine)?;
     }
     Ok(())

@@ -26,7 +26,7 @@ use crate::rounds::rounds;
 use crate::search::{Verdict, search};
 use sb_clauses::Engine;
 use std::env;
-use std::io::{Read, Write};
+use std::io::{BufReader, Write};
 use std::process::ExitCode;
 
 /// What is asked for.
@@ -83,20 +83,6 @@ fn run(rt: HostRuntime, task: Task) -> Result<(), Failure> {
     }
 }
 
-/// Reads all clauses.
-fn read_all(rt: HostRuntime, engine: &mut Engine) -> Result<(), Failure>
-    requires { engine.old.trail.literals ≡ [] }
-    ensures { OnOk result (engine.new.trail.literals ≡ []) }
-{
-    let mut script = Vec::new(rt.alloc());
-    match rt.stdin().read_to_end(&mut script) {
-        Ok(_) => {}
-        Err(_) => return Err(Failure::Outside),
-    }
-    read(rt.alloc(), &script, engine)?;
-    Ok(())
-}
-
 /// Searches by the engine alone.
 fn decide(rt: HostRuntime, engine: &mut Engine, active: bool) -> Result<(), Failure>
     requires { engine.old.trail.literals ≡ [] }
@@ -113,6 +99,17 @@ fn name(verdict: Verdict) -> &'static str {
     match verdict {
         Verdict::Satisfiable => "SATISFIABLE",
         Verdict::Unsatisfiable => "UNSATISFIABLE",
+    }
+}
+
+/// Reads the clauses of standard input.
+fn read_all(rt: HostRuntime, engine: &mut Engine) -> Result<(), Failure>
+    requires { engine.old.trail.literals ≡ [] }
+    ensures { engine.new.trail.literals ≡ [] }
+{
+    match BufReader::new(rt.alloc(), rt.reader()) {
+        Ok(mut input) => read(rt.alloc(), &mut input, engine),
+        Err(_) => Err(Failure::NoMemory),
     }
 }
 

@@ -30,11 +30,12 @@ pub struct Order {
 }
 
 impl Order {
-    /// No atom was met.
+    /// No atom was met. Takes memory for the atoms only where they are counted.
     pub fn new(alloc: Global, atoms: usize, active: bool) -> Result<Order, AllocError> {
+        let counted = if active { atoms } else { 0 };
         Ok(Order {
-            scores: vec![in alloc; 0u64; atoms]?,
-            met: vec![in alloc; 0u64; atoms]?,
+            scores: vec![in alloc; 0u64; counted]?,
+            met: vec![in alloc; 0u64; counted]?,
             bump: 1 << 20,
             conflicts: 0,
             next: 0,
