@@ -1,8 +1,10 @@
 -- What is read and decided so far. All else is answered `unsupported`, as what is left out for good is. Which is which
 -- stands here alone.
 use Rattle.std.specs.Prelude.{ℕ, Bool, true, false, ◌&&◌, List, [], ◌∷◌, codes, Option, Some, None}
-use Rattle.sb_meaning.specs.Terms.{Sort, Symbol, Term, Terms, text, constant, word, apply, no_terms, with_term}
+use Rattle.sb_meaning.specs.Terms.{Sort, Symbol, Term, Terms, boolean, integer, text, reglan, constant, word, apply, no_terms, with_term, terms_in}
 use Rattle.sb_meaning.specs.Terms as symbol
+use Rattle.sb_meaning.specs.Sorts.{sort_of}
+use Rattle.sb_meaning.specs.Truth.{is_chain, are_pairs}
 use Rattle.sb_script.specs.Names.{Name, is_among}
 
 pub data Feature : Type 0 where
@@ -108,6 +110,45 @@ asked _ = None
 -- the term is the membership of a constant in such a regular expression, or its equality with a literal
 abbrev pub is_membership : Term → Bool
 is_membership t = elim (asked t) [ Some p ↦ is_regex p.1 | None ↦ false ]
+
+-- Boolean structure over such terms, and over Bool constants: what is to be decided of it, whatever the sizes are. Of
+-- String terms that are compared each two that count are a constant and the word of a literal.
+abbrev pub is_pair : Term → Term → Bool
+is_pair t u = is_membership (apply symbol.core_equal (with_term t (with_term u no_terms)))
+
+-- terms that are compared, by the sort of the first; each_is says that each of them is Boolean structure
+abbrev pub is_comparison : ((Term → Term → Bool) → List Term → Bool) → List Term → Bool → Bool
+is_comparison each_two [] each_is = each_is
+is_comparison each_two (t ∷ ts) each_is = elim (sort_of t) [
+  | boolean ↦ each_is
+  | integer ↦ false
+  | text ↦ each_two is_pair (t ∷ ts)
+  | reglan ↦ false
+]
+
+abbrev pub is_structure_by : Symbol → List Term → Bool → Bool
+is_structure_by symbol.core_true ts each_is = each_is
+is_structure_by symbol.core_false ts each_is = each_is
+is_structure_by symbol.core_not ts each_is = each_is
+is_structure_by symbol.core_and ts each_is = each_is
+is_structure_by symbol.core_or ts each_is = each_is
+is_structure_by symbol.core_implies ts each_is = each_is
+is_structure_by symbol.core_xor ts each_is = each_is
+is_structure_by symbol.core_ite ts each_is = each_is
+is_structure_by symbol.core_equal ts each_is = is_comparison is_chain ts each_is
+is_structure_by symbol.core_distinct ts each_is = is_comparison are_pairs ts each_is
+is_structure_by _ ts each_is = false
+
+abbrev mutual
+  pub is_structure : Term → Bool
+  is_structure (constant serial boolean) = true
+  is_structure (apply symbol.str_in_re terms) = is_membership (apply symbol.str_in_re terms)
+  is_structure (apply s terms) = is_structure_by s (terms_in terms) (are_structure terms)
+  is_structure _ = false
+
+  pub are_structure : Terms → Bool
+  are_structure no_terms = true
+  are_structure (with_term term terms) = is_structure term && are_structure terms
 
 abbrev pub is_brought : Feature → Bool
 is_brought (a_symbol s) = is_brought_symbol s

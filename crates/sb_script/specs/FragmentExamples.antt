@@ -5,7 +5,7 @@ use Rattle.sb_meaning.specs.Terms.{Term, boolean, integer, text, constant, word,
 use Rattle.sb_meaning.specs.Terms as symbol
 use Rattle.sb_meaning.specs.Values.{Int, Truth}
 use Rattle.sb_meaning.specs.Examples.{one, two, x, as_and_more}
-use Rattle.sb_script.specs.Brought.{is_regex, asked, is_membership}
+use Rattle.sb_script.specs.Brought.{is_regex, asked, is_membership, is_structure}
 use Rattle.sb_script.specs.Fragment.{fits, are_in_fragment}
 use Rattle.sb_script.specs.State.{Assertion, asserted, a_mark, assumed}
 use Rattle.sb_script.specs.Models.{is_plain_term, are_defaults, about}
@@ -107,6 +107,33 @@ a_constant_in_the_expression = refl
 
 of_a_word : fits (two symbol.str_in_re (two symbol.str_concat a a) all_words) ≡ true
 of_a_word = refl
+
+-- Boolean structure over memberships of one constant and its equalities with literals, and over Bool constants.
+abbrev of_x : Term
+of_x = two symbol.str_in_re x all_words
+
+abbrev structures : List Term
+structures =
+    p ∷ of_x ∷ two symbol.core_equal a x ∷ apply symbol.core_true no_terms ∷ apply symbol.core_false no_terms
+    ∷ one symbol.core_not of_x ∷ two symbol.core_and p of_x ∷ one symbol.core_or (one symbol.core_not p)
+    ∷ three symbol.core_implies p of_x p ∷ two symbol.core_xor p (two symbol.core_equal x a)
+    ∷ three symbol.core_ite p of_x (one symbol.core_not of_x) ∷ three symbol.core_equal p of_x p
+    ∷ three symbol.core_distinct p of_x p ∷ three symbol.core_equal x a x ∷ two symbol.core_distinct a y ∷ []
+
+each_is_structure : list_all is_structure structures ≡ true
+each_is_structure = refl
+
+-- of a concatenation, and of a word; of two constants, and of two words, one after the other and of all pairs; under a
+-- symbol; of what is no Bool term
+abbrev no_structures : List Term
+no_structures =
+    two symbol.str_in_re joined all_words ∷ two symbol.str_in_re a all_words ∷ two symbol.core_equal x y
+    ∷ three symbol.core_equal x a a ∷ three symbol.core_distinct x a y ∷ two symbol.core_distinct a a
+    ∷ one symbol.core_not (two symbol.core_equal x y) ∷ two symbol.core_and p (two symbol.core_equal n n)
+    ∷ two symbol.at_most n n ∷ x ∷ a ∷ all_words ∷ one symbol.core_not x ∷ []
+
+none_is_structure : list_any is_structure no_structures ≡ false
+none_is_structure = refl
 
 -- Sizes: a node of sort RegLan counts one, and a character of a word one; String terms are words and no nodes.
 sizes : map size_of
