@@ -1,11 +1,10 @@
 -- What of proofs is brought so far. A line of a kind, atom or rule that is not, or of such a form of one, is refused by
 -- rule. Which is which stands here alone.
-use Rattle.std.specs.Prelude.{ℕ, Bool, true, false, not, nat_le, List, [], ◌∷◌}
-use Rattle.std.specs.List.{list_all}
+use Rattle.std.specs.Prelude.{ℕ, Bool, true, false, nat_le, List, [], ◌∷◌}
 use Rattle.sb_lit.specs.declared.clause.Lit.{Lit}
 use Rattle.sb_script.specs.Pieces.{constant_piece}
-use Rattle.sb_rulebook.specs.Atoms.{AtomOver, in_atom}
-use Rattle.sb_rulebook.specs.Lines.{Line, regex_line, atom_line, rule_line, Node, none_node, eps_node, set_node, cat_node, alt_node, and_node, not_node, star_node, rep_node, Rule, empty}
+use Rattle.sb_rulebook.specs.Atoms.{AtomOver, bool_atom, in_atom, and_atom, iff_atom}
+use Rattle.sb_rulebook.specs.Lines.{Line, regex_line, atom_line, rule_line, Node, none_node, eps_node, set_node, cat_node, alt_node, and_node, not_node, star_node, rep_node, Rule, gate, empty}
 
 -- formats are numbered from 1
 abbrev pub newest_format : ℕ
@@ -27,14 +26,18 @@ is_brought_node (star_node a) = true
 is_brought_node (rep_node a n m) = true
 is_brought_node _ = false
 
--- memberships of one constant
+-- Bool constants, memberships of one constant, and what is made of literals
 abbrev pub is_brought_atom : AtomOver ℕ → Bool
+is_brought_atom (bool_atom serial) = true
 is_brought_atom (in_atom (constant_piece serial ∷ []) r) = true
+is_brought_atom (and_atom ls) = true
+is_brought_atom (iff_atom l m) = true
 is_brought_atom _ = false
 
--- by rule empty, of negative literals
+-- by rules gate and empty
 abbrev pub is_brought_rule : Rule → List Lit → Bool
-is_brought_rule empty clause = list_all (λ l. not l.positive) clause
+is_brought_rule gate clause = true
+is_brought_rule empty clause = true
 is_brought_rule _ clause = false
 
 abbrev pub is_brought : Line → Bool

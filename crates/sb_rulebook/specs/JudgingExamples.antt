@@ -4,7 +4,7 @@ use Rattle.std.specs.Prelude.{◌≡◌, ℕ, true, List, [], ◌∷◌, ◌++�
 use Rattle.std.specs.List.{repeat}
 use Rattle.sb_script.specs.State as state
 use Rattle.sb_script.specs.Steps.{leaves, above, all}
-use Rattle.sb_rulebook.specs.Refusals.{bad_word, misplaced, unknown_id, repeated, not_normal, rule_broken, wrong_verdict}
+use Rattle.sb_rulebook.specs.Refusals.{bad_word, misplaced, unknown_id, repeated, not_normal, hint_idle, rule_broken, wrong_verdict}
 use Rattle.sb_rulebook.specs.Lines.{said_unsat, said_unknown}
 use Rattle.sb_rulebook.specs.Verdicts.{Question}
 use Rattle.sb_rulebook.specs.Reading.{LineText, texts_of}
@@ -167,6 +167,83 @@ once : judged_lines (changed 3 (codes "r rep 0 1 1")) ≡ refused [] 3 not_norma
 unfolding computing
 once = refl
 
+-- Conjunctions and equivalences of literals are atoms like others, and the clauses of their gates are taken.
+
+-- the proof with more lines before its clauses, the last one of a clause
+abbrev with_lines : List (List ℕ) → List (List ℕ)
+with_lines lines =
+    take 13 proof ++ (lines ++ codes "c assert 0 +0"
+    ∷ codes "c assert 1 +1"
+    ∷ codes "c empty -0 -1"
+    ∷ codes "c learn : 1 2 3"
+    ∷ codes "v unsat 4"
+    ∷ codes "end" ∷ [])
+
+a_conjunction : judged_lines (with_lines (codes "a and +0 -1" ∷ codes "c gate -0 +1 +2" ∷ []))
+    ≡ accepted (said_unsat 4 None ∷ [])
+unfolding computing
+a_conjunction = refl
+
+an_equivalence : judged_lines (with_lines (codes "a iff +0 -1" ∷ codes "c gate -0 -1 -2" ∷ []))
+    ≡ accepted (said_unsat 4 None ∷ [])
+unfolding computing
+an_equivalence = refl
+
+both_signs : judged_lines (changed 14 (codes "c gate +0 -0")) ≡ refused [] 17 hint_idle
+unfolding computing
+both_signs = refl
+
+another_sign : judged_lines (with_lines (codes "a iff +0 -1" ∷ codes "c gate -0 +1 -2" ∷ []))
+    ≡ refused [] 15 rule_broken
+unfolding computing
+another_sign = refl
+
+a_literal_of_no_atom : judged_lines (with_lines (codes "a and +0 +2" ∷ [])) ≡ refused [] 14 unknown_id
+unfolding computing
+a_literal_of_no_atom = refl
+
+a_conjunction_twice : judged_lines (with_lines (codes "a and" ∷ codes "a and" ∷ [])) ≡ refused [] 15 repeated
+unfolding computing
+a_conjunction_twice = refl
+
+a_conjunction_of_one : judged_lines (with_lines (codes "a and +0" ∷ [])) ≡ refused [] 14 not_normal
+unfolding computing
+a_conjunction_of_one = refl
+
+an_equivalence_out_of_order : judged_lines (with_lines (codes "a iff +1 +0" ∷ [])) ≡ refused [] 14 not_normal
+unfolding computing
+an_equivalence_out_of_order = refl
+
+a_constant_of_another_sort : judged_lines (changed 9 (codes "a bool 0")) ≡ refused [] 9 unknown_id
+unfolding computing
+a_constant_of_another_sort = refl
+
+-- A positive literal stands for the complement of its regex: x is in a*, or it is not.
+
+abbrev with_complement : List ℕ → List (List ℕ)
+with_complement clause =
+    with_lines (codes "r not 1"
+    ∷ codes "r and 7 1"
+    ∷ codes "x 8 0-60,62-2ffff>6 61-61>8"
+    ∷ codes "d 8"
+    ∷ clause ∷ [])
+
+a_positive_literal : judged_lines (with_complement (codes "c empty +0 -0")) ≡ accepted (said_unsat 4 None ∷ [])
+unfolding computing
+a_positive_literal = refl
+
+with_a_word_in_common : judged_lines (with_complement (codes "c empty +0 -1")) ≡ refused [] 18 rule_broken
+unfolding computing
+with_a_word_in_common = refl
+
+no_membership : judged_lines (with_lines (codes "a and" ∷ codes "c empty +2" ∷ [])) ≡ refused [] 15 rule_broken
+unfolding computing
+no_membership = refl
+
+a_positive_literal_of_no_atom : judged_lines (changed 16 (codes "c empty +2 -1")) ≡ refused [] 16 unknown_id
+unfolding computing
+a_positive_literal_of_no_atom = refl
+
 -- What is not brought is refused by rule, unless a number names nothing.
 
 a_kind : judged_lines (changed 3 (codes "r path 0 0")) ≡ refused [] 3 rule_broken
@@ -197,21 +274,17 @@ many_pieces_in_no_regex : judged_lines (changed 9 (codes "a in v0 w61 : 7")) ≡
 unfolding computing
 many_pieces_in_no_regex = refl
 
-a_rule : judged_lines (changed 14 (codes "c gate +0 -0")) ≡ refused [] 14 rule_broken
+a_rule : judged_lines (changed 14 (codes "c order +0 -0")) ≡ refused [] 14 rule_broken
 unfolding computing
 a_rule = refl
 
-a_rule_over_no_atom : judged_lines (changed 14 (codes "c gate +2 -2")) ≡ refused [] 14 unknown_id
+another_rule : judged_lines (changed 14 (codes "c step +0 -0")) ≡ refused [] 14 rule_broken
+unfolding computing
+another_rule = refl
+
+a_rule_over_no_atom : judged_lines (changed 14 (codes "c linear +2 -2")) ≡ refused [] 14 unknown_id
 unfolding computing
 a_rule_over_no_atom = refl
-
-a_positive_literal : judged_lines (changed 16 (codes "c empty +0 -1")) ≡ refused [] 16 rule_broken
-unfolding computing
-a_positive_literal = refl
-
-a_positive_literal_of_no_atom : judged_lines (changed 16 (codes "c empty +2 -1")) ≡ refused [] 16 unknown_id
-unfolding computing
-a_positive_literal_of_no_atom = refl
 
 another_format : judged_lines (changed 1 (codes "strproof 2")) ≡ refused [] 1 misplaced
 unfolding computing
