@@ -4,12 +4,16 @@ use Rattle.std.proofs.Common.{cond, Some, List, [], ◌∷◌, ◌++◌, length,
 use Rattle.std.proofs.Common.{arith, length-append}
 use Rattle.std.specs.List.{list_any, position}
 use Rattle.std.specs.Prelude.{Option, None, is_some, option_map}
+use Rattle.std.specs.Cmp.Lexicographic.{pointwise_decides}
 use Rattle.std.proofs.lemmas.Bool.{and_parts, false≢true}
 use Rattle.std.proofs.lemmas.Bool.Decides.{nat_tests}
 use Rattle.std.proofs.lemmas.List.{get_or_append_left, get_or_push}
 use Rattle.std.proofs.lemmas.List.Quantifiers.{position-Some}
 use Rattle.std.proofs.lemmas.Option.{get_or_from_slice_get, slice_get_within, slice_get-get_or, slice_get-map}
-use Rattle.sb_rulebook.specs.Atoms.{AtomOver, in_atom}
+use Rattle.sb_lit.specs.declared.clause.Lit.{Lit}
+use Rattle.sb_lit.specs.contracts.clause.LitPartialEq.TheImpl as of_literal
+use Rattle.sb_lit.proofs.CallerLemmas.{is_same_literal-beq, is_same_literal-true, is_same_literal-of}
+use Rattle.sb_rulebook.specs.Atoms.{AtomOver, bool_atom, in_atom, le_atom, sum_atom, and_atom, iff_atom}
 use Rattle.sb_script.specs.Pieces.{constant_piece}
 use Rattle.sb_atoms.specs.declared.atom.Atom as code
 use Rattle.sb_atoms.specs.declared.atom.Atom.TheVariants as atom
@@ -28,17 +32,63 @@ same_nat x y h = grind (arith, nat_tests)
 both : (a b : Bool) → a ≡ true → b ≡ true → (a && b) ≡ true
 both a b h k = rw (h, k) refl
 
-pub same_gives : (d e : code.Atom) → same d e ≡ true → atom_in d ≡ atom_in e
-same_gives (atom.In s r) (atom.In t q) h =
-    let p = and_parts (nat_eq s.0 t.0) _ h in
-    ap₂ (λ n m. in_atom (constant_piece n ∷ []) m) (nat_same s.0 t.0 p.0) (nat_same r q p.1)
+-- Atoms of other kinds, and the parts of equal ones.
+
+abbrev kind : {R : Type 0} → AtomOver R → ℕ
+kind (bool_atom serial) = 0
+kind (in_atom ps r) = 1
+kind (le_atom x k) = 2
+kind (sum_atom k ss) = 3
+kind (and_atom ls) = 4
+kind (iff_atom l m) = 5
+
+pub other_kinds : {R : Type 0} (a b : AtomOver R) → nat_eq (kind a) (kind b) ≡ false → a ≡ b → ⊥
+other_kinds a b h e = false≢true (sym h ∙ same_nat (kind a) (kind b) (ap kind e))
+
+pub bool_part : {R : Type 0} (s t : ℕ) → ◌≡◌ {A = AtomOver R} (bool_atom s) (bool_atom t) → s ≡ t
+bool_part s t e = cc
+
+pub and_part : {R : Type 0} (ls ms : List Lit) → ◌≡◌ {A = AtomOver R} (and_atom ls) (and_atom ms) → ls ≡ ms
+and_part ls ms e = cc
+
+pub iff_parts : {R : Type 0} (l m k n : Lit) → ◌≡◌ {A = AtomOver R} (iff_atom l m) (iff_atom k n)
+    → (l ≡ k) × (m ≡ n)
+iff_parts l m k n e = (cc, cc)
 
 in_parts : (n m r q : ℕ) → in_atom (constant_piece n ∷ []) r ≡ in_atom (constant_piece m ∷ []) q → (n ≡ m) × (r ≡ q)
 in_parts n m r q e = (cc, cc)
 
+-- The derived tests.
+
+abbrev same_literal : Lit → Lit → Bool
+same_literal = of_literal.ghosts.eq
+
+literal_decides : (l m : Lit) → (same_literal l m ≡ true → l ≡ m) × (l ≡ m → same_literal l m ≡ true)
+literal_decides l m = (
+  λ h. is_same_literal-true l m (sym (is_same_literal-beq l m) ∙ h),
+  λ e. is_same_literal-beq l m ∙ is_same_literal-of l m e,
+)
+
+pub same_gives : (d e : code.Atom) → same d e ≡ true → atom_in d ≡ atom_in e
+same_gives (atom.Bool s) (atom.Bool t) h = ap bool_atom (nat_same s.0 t.0 h)
+same_gives (atom.In s r) (atom.In t q) h =
+    let p = and_parts (nat_eq s.0 t.0) _ h in
+    ap₂ (λ n m. in_atom (constant_piece n ∷ []) m) (nat_same s.0 t.0 p.0) (nat_same r q p.1)
+same_gives (atom.And ls) (atom.And ms) h = ap and_atom ((pointwise_decides literal_decides ls.items ms.items).0 h)
+same_gives (atom.Iff l m) (atom.Iff k n) h =
+    let p = and_parts (same_literal l k) _ h in
+    ap₂ iff_atom ((literal_decides l k).0 p.0) ((literal_decides m n).0 p.1)
+same_gives _ _ h = absurd (false≢true h)
+
 pub gives_same : (d e : code.Atom) → atom_in d ≡ atom_in e → same d e ≡ true
+gives_same (atom.Bool s) (atom.Bool t) h = same_nat s.0 t.0 (bool_part s.0 t.0 h)
 gives_same (atom.In s r) (atom.In t q) h =
     let p = in_parts s.0 t.0 r q h in both _ _ (same_nat s.0 t.0 p.0) (same_nat r q p.1)
+gives_same (atom.And ls) (atom.And ms) h =
+    (pointwise_decides literal_decides ls.items ms.items).1 (and_part ls.items ms.items h)
+gives_same (atom.Iff l m) (atom.Iff k n) h =
+    let p = iff_parts l m k n h in both _ _ ((literal_decides l k).1 p.0) ((literal_decides m n).1 p.1)
+gives_same d e h = absurd (other_kinds (atom_in d) (atom_in e) refl h)
 
 -- where the one more element is
 pub get_push : {X : Type 0} (xs : List X) (y x : X) (i : ℕ) → slice_get (xs ++ y ∷ []) i ≡ Some x

@@ -1,11 +1,10 @@
 -- The literal of a term over a table.
-use Rattle.std.proofs.Common.{◌≡◌, ℕ, zero, suc, ◌+◌, Bool, true, false, ◌⊎◌, inl, inr, nat_eq, cond, Some, List, []}
+use Rattle.std.proofs.Common.{◌≡◌, ℕ, zero, suc, ◌+◌, Bool, true, false, ◌⊎◌, inl, inr, cond, Some, List, []}
 use Rattle.std.proofs.Common.{◌∷◌, length, map, slice_get, refl, sym, ap, ap₂, ◌∙◌, arith}
 use Rattle.std.proofs.Common.{◌<◌, if◌then◌else◌}
 use Rattle.std.specs.List.{position_from}
 use Rattle.std.specs.Prelude.{ℤ, Option, None, option_map}
 use Rattle.std.proofs.lemmas.Bool.{false≢true}
-use Rattle.std.proofs.lemmas.Bool.Decides.{nat_tests}
 use Rattle.std.proofs.lemmas.List.{append-nil}
 use Rattle.std.proofs.lemmas.Option.{slice_get_within, slice_get-map}
 use Rattle.sb_lit.specs.declared.clause.Lit.{Lit}
@@ -33,28 +32,11 @@ use Rattle.sb_script.specs.Sums.{Variable, Summand}
 use Rattle.sb_meaning.specs.Terms.{Term}
 use Rattle.sb_atoms.specs.declared.atom.Atom as code
 use Rattle.sb_atoms.specs.Translated.{brought_translation, IsAtomOf}
-use Rattle.sb_atoms.proofs.TableFacts.{get_push}
+use Rattle.sb_atoms.proofs.TableFacts.{get_push, other_kinds, bool_part, and_part, iff_parts}
 use Rattle.sb_atoms.specs.Numbered.{atom_in, Names, IsNumberIn, IsWith, Extends, AreDistinct, over, atoms_in}
 use Rattle.sb_atoms.specs.Numbered.{HasRegexBelow, HaveRegexesBelow}
 
 -- Equal atoms over an arena are one.
-
-abbrev kind : Atom → ℕ
-kind (bool_atom serial) = 0
-kind (in_atom ps r) = 1
-kind (le_atom x k) = 2
-kind (sum_atom k ss) = 3
-kind (and_atom ls) = 4
-kind (iff_atom l m) = 5
-
-same_nat : (x y : ℕ) → x ≡ y → nat_eq x y ≡ true
-same_nat x y h = grind (arith, nat_tests)
-
-other_kinds : (a b : Atom) → nat_eq (kind a) (kind b) ≡ false → a ≡ b → ⊥
-other_kinds a b h e = false≢true (sym h ∙ same_nat (kind a) (kind b) (ap kind e))
-
-bool_part : (s t : ℕ) → ◌≡◌ {A = Atom} (bool_atom s) (bool_atom t) → s ≡ t
-bool_part s t e = cc
 
 in_parts : (ps qs : List Piece) (r q : Regex) → in_atom ps r ≡ in_atom qs q → (ps ≡ qs) × (r ≡ q)
 in_parts ps qs r q e = (cc, cc)
@@ -64,12 +46,6 @@ le_parts x y k j e = (cc, cc)
 
 sum_parts : (k j : ℤ) (ss ts : List Summand) → ◌≡◌ {A = Atom} (sum_atom k ss) (sum_atom j ts) → (k ≡ j) × (ss ≡ ts)
 sum_parts k j ss ts e = (cc, cc)
-
-and_part : (ls ms : List Lit) → ◌≡◌ {A = Atom} (and_atom ls) (and_atom ms) → ls ≡ ms
-and_part ls ms e = cc
-
-iff_parts : (l m k n : Lit) → ◌≡◌ {A = Atom} (iff_atom l m) (iff_atom k n) → (l ≡ k) × (m ≡ n)
-iff_parts l m k n e = (cc, cc)
 
 pub over_one : (rs : List Regex) (a b : AtomOver ℕ) → regex.AreDistinct rs → HasRegexBelow (length rs) a
     → HasRegexBelow (length rs) b → over rs a ≡ over rs b → a ≡ b

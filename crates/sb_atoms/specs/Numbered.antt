@@ -9,7 +9,10 @@ use Rattle.sb_atoms.specs.declared.atom.Atom.TheVariants as atom
 
 -- the atom that one of the code stands for, over the numbers of regexes
 abbrev pub atom_in : code.Atom → AtomOver ℕ
+atom_in (atom.Bool serial) = bool_atom serial.0
 atom_in (atom.In serial regex) = in_atom (constant_piece serial.0 ∷ []) regex
+atom_in (atom.And literals) = and_atom literals.items
+atom_in (atom.Iff one other) = iff_atom one other
 
 abbrev pub numbered_atoms : List code.Atom → List (AtomOver ℕ)
 numbered_atoms ds = map atom_in ds

@@ -12,7 +12,7 @@ use std::marker::Model;
 
 /// A literal of propositional logic: an atom by its number, or its negation. Literals are ordered by atom,
 /// the positive one first.
-#[derive(Clone, Copy, Debug, PartialEq, Eq, Hash)]
+#[derive(Clone, Copy, Debug, Default, PartialEq, Eq, Hash)]
 pub struct Lit {
     pub atom: u64,
     pub positive: bool,

@@ -11,8 +11,8 @@ returns-in-Some-find-clause-ok c =
     c.in-Some-find.id c.positive.result c.in_ok-atom.field-0 c.normal_regexes_each_once.ensures.distinct
     c.atoms_each_once.ensures below c.in-Some.is c.in_ok-atom.ensures.ok c.in-Some-find.ensures c.positive.ensures
 
-pub returns-in-None-clause-ok : goal.returns-in-None-clause-ok
-returns-in-None-clause-ok c =
+pub returns-clause-ok : goal.returns-clause-ok
+returns-clause-ok c =
     let rs = c.atom_of.new.arena in
     let below = regexes_kept c.args.arena.now rs c.args.self.now c.in_ok-atom.ensures.arena c.requires.regexes in
     literal_missing c.order_tells_apart.ensures rs (term_at c.args.table.now c.args.id) c.in-Some.atom c.args.self.now
@@ -31,6 +31,6 @@ pub returns-in-Some-find-clause-regexes : goal.returns-in-Some-find-clause-regex
 returns-in-Some-find-clause-regexes c =
     regexes_kept c.args.arena.now c.atom_of.new.arena c.args.self.now c.in_ok-atom.ensures.arena c.requires.regexes
 
-pub returns-in-None-clause-regexes : goal.returns-in-None-clause-regexes
-returns-in-None-clause-regexes c =
+pub returns-clause-regexes : goal.returns-clause-regexes
+returns-clause-regexes c =
     regexes_kept c.args.arena.now c.atom_of.new.arena c.args.self.now c.in_ok-atom.ensures.arena c.requires.regexes
