@@ -1,3 +1,4 @@
+pub mod Sets
 pub mod Storing
 pub mod Listing
 pub mod Dropping

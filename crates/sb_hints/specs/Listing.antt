@@ -2,15 +2,11 @@
 use Rattle.std.specs.Prelude.{◌≡◌, ◌==◌, ℕ, ◌<◌, zero, suc, Bool, true, false, ◌&&◌, ◌||◌, List, length, Option, Some, None, slice_index_or, if◌then◌else◌}
 use Rattle.std.specs.List.{list_all}
 use Rattle.std.specs.HashMap.{HashMap, get}
-use mathlib.Core.Bool.{beq}
 use Rattle.sb_lit.specs.declared.clause.Lit.{Lit}
 use Rattle.sb_lit.specs.Clauses.{is_among}
 use Rattle.sb_lit.specs.Kept.{KeptClause, Kept, kept_at}
+pub use Rattle.sb_hints.specs.Sets.{are_equal}
 use Rattle.sb_hints.specs.declared.lists.Listed.{Listed}
-
--- the literals are one, as `==` finds out
-abbrev pub are_equal : Lit → Lit → Bool
-are_equal l m = (l.atom == m.atom) && beq l.positive m.positive
 
 abbrev pub newest_in : Option Listed → Option ℕ
 newest_in None = None

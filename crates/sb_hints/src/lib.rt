@@ -16,3 +16,4 @@ mod sets;
 
 pub use clauses::KeptClauses;
 pub use judge::{NotLearned, are_ascending};
+pub use sets::{has_all, set_of};
