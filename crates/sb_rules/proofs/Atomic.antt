@@ -1,25 +1,26 @@
--- The line of an atom.
-use Rattle.std.proofs.Common.{◌≡◌, ℕ, zero, suc, ◌<◌, Bool, true, false, ◌&&◌, ◌||◌, inl, inr, nat_lt, if◌then◌else◌, List, [], ◌∷◌, ◌++◌, length, Option, Some, None, is_some, option_map, slice_get, Result, Ok, Err, refl, ap, sym, subst, ◌∙◌}
+-- Atoms of the table, and what is made of one more.
+use Rattle.std.proofs.Common.{◌≡◌, ℕ, zero, suc, Bool, true, false, not, ◌&&◌, ◌||◌, ◌==◌, inl, inr, if◌then◌else◌, List, [], ◌∷◌, ◌++◌, length, Option, Some, None, Ok, Err, refl, ap, ap₂, sym, subst, ◌∙◌}
 use Rattle.std.specs.List.{list_all, list_any}
 use Rattle.std.proofs.lemmas.Bool.{and_parts, and_from}
-use Rattle.std.proofs.lemmas.Option.{slice_get-map}
+use Rattle.std.proofs.lemmas.Bool.Decides.{nat_tests}
+use Rattle.std.proofs.Common.{arith}
 use Rattle.sb_lang.specs.Regex.{Regex}
 use Rattle.sb_lang.specs.OrderLaws.{OrderTellsApart}
-use Rattle.sb_regex.specs.Numbered.{regex_at}
 use Rattle.sb_regex.specs.Numbered as regex
-use Rattle.sb_script.specs.Pieces.{constant_piece}
-use Rattle.sb_atoms.specs.Numbered.{Names, IsWith, over, atoms_in, HasRegexBelow, HaveRegexesBelow}
+use Rattle.sb_lit.specs.declared.clause.Lit.{Lit}
+use Rattle.sb_lit.specs.Clauses.{are_ascending}
+use Rattle.sb_atoms.specs.declared.atom.Atom as code
+use Rattle.sb_atoms.specs.declared.atom.Atom.TheVariants as atom
+use Rattle.sb_atoms.specs.Numbered.{atom_in, Names, IsWith, over, atoms_in, HasRegexBelow, HaveRegexesBelow}
 use Rattle.sb_atoms.proofs.CallerLemmas.{over_one, atoms_more}
-use Rattle.sb_rulebook.specs.Refusals.{Refusal, unknown_id, repeated, rule_broken}
-use Rattle.sb_rulebook.specs.Atoms.{Atom, AtomOver, in_atom, is_same_atom}
-use Rattle.sb_rulebook.specs.AtomRules.{has_its_parts, defined}
+use Rattle.sb_rulebook.specs.Refusals.{repeated, not_normal}
+use Rattle.sb_rulebook.specs.Atoms.{AtomOver, bool_atom, in_atom, le_atom, sum_atom, and_atom, iff_atom, is_same_atom, is_conjunction, is_well_formed}
+use Rattle.sb_rulebook.specs.AtomRules.{defined}
 use Rattle.sb_rulebook.specs.Brought.{is_brought_atom}
-use Rattle.sb_rulebook.specs.Kept.{AllKept, Asked}
-use Rattle.sb_rulebook.specs.Lines.{atom_line}
-use Rattle.sb_rulebook.specs.Follows.{follows, not_brought}
+use Rattle.sb_rulebook.specs.Kept.{AllKept}
 use Rattle.sb_rulebook.proofs.CallerLemmas.{same_atom, atom_itself}
 use Rattle.sb_rules.specs.declared.kept.Kept.{Kept}
-use Rattle.sb_rules.specs.Kept.{kept_in, AreDeclared}
+use Rattle.sb_rules.specs.Kept.{kept_in}
 
 -- An atom is among those of the table exactly where it has a number.
 
@@ -54,52 +55,6 @@ unlisted_over apart rs (b ∷ atoms) a once here all none =
         absurd (none 0 (ap Some (sym one)))
     unlike false h = h
 
--- The membership of one constant.
-
-abbrev pub member : ℕ → ℕ → AtomOver ℕ
-member serial r = in_atom (constant_piece serial ∷ []) r
-
--- with its parts, the line is judged by whether the atom is kept
-pub by_membership : (asked : Asked) (k : Kept) (others : AllKept) (declared serial number r : ℕ)
-    → AreDeclared declared asked.sorts → nat_lt serial declared ≡ true
-    → slice_get k.regexes.order number ≡ Some r
-    → follows asked (kept_in k others) (atom_line (member serial number))
-    ≡ (if list_any (is_same_atom (over k.arena (member serial r))) (atoms_in k.arena k.atoms) then Err repeated
-    else Ok (record (kept_in k others) {
-      atoms = atoms_in k.arena k.atoms ++ over k.arena (member serial r) ∷ [];
-    }))
-by_membership asked k others declared serial number r d s h =
-    ap (λ o. elim (option_map {T = Regex} (in_atom (constant_piece serial ∷ [])) o) as (λ _. Result AllKept Refusal) [
-      | None ↦ Err unknown_id
-      | Some atom ↦ if has_its_parts asked.sorts (kept_in k others).atoms (member serial number)
-          then defined (kept_in k others) atom else Err unknown_id
-    ]) (slice_get-map (regex_at k.arena) k.regexes.order number ∙ ap (option_map (regex_at k.arena)) h)
-    ∙ ap (λ b. if b && true then defined (kept_in k others) (over k.arena (member serial r)) else Err unknown_id)
-    (d.texts serial ∙ s)
-
-pub by_no_regex : (asked : Asked) (k : Kept) (others : AllKept) (serial number : ℕ)
-    → slice_get k.regexes.order number ≡ None
-    → follows asked (kept_in k others) (atom_line (member serial number)) ≡ Err unknown_id
-by_no_regex asked k others serial number h =
-    ap (λ o. elim (option_map {T = Regex} (in_atom (constant_piece serial ∷ [])) o) as (λ _. Result AllKept Refusal) [
-      | None ↦ Err unknown_id
-      | Some atom ↦ if has_its_parts asked.sorts (kept_in k others).atoms (member serial number)
-          then defined (kept_in k others) atom else Err unknown_id
-    ]) (slice_get-map (regex_at k.arena) k.regexes.order number ∙ ap (option_map (regex_at k.arena)) h)
-
-pub by_no_constant : (asked : Asked) (k : Kept) (others : AllKept) (declared serial number r : ℕ)
-    → AreDeclared declared asked.sorts → nat_lt serial declared ≡ false
-    → slice_get k.regexes.order number ≡ Some r
-    → follows asked (kept_in k others) (atom_line (member serial number)) ≡ Err unknown_id
-by_no_constant asked k others declared serial number r d s h =
-    ap (λ o. elim (option_map {T = Regex} (in_atom (constant_piece serial ∷ [])) o) as (λ _. Result AllKept Refusal) [
-      | None ↦ Err unknown_id
-      | Some atom ↦ if has_its_parts asked.sorts (kept_in k others).atoms (member serial number)
-          then defined (kept_in k others) atom else Err unknown_id
-    ]) (slice_get-map (regex_at k.arena) k.regexes.order number ∙ ap (option_map (regex_at k.arena)) h)
-    ∙ ap (λ b. if b && true then defined (kept_in k others) (over k.arena (member serial r)) else Err unknown_id)
-    (d.texts serial ∙ s)
-
 pub more_below : (n : ℕ) (atoms : List (AtomOver ℕ)) (a : AtomOver ℕ) → HaveRegexesBelow n atoms → HasRegexBelow n a
     → HaveRegexesBelow n (atoms ++ a ∷ [])
 more_below n [] a h g zero b e = subst (HasRegexBelow n) (some_is a b e) g
@@ -131,43 +86,47 @@ whole_with n old new a (inl same) all brought here is = rw same (all, brought)
 whole_with n old new a (inr more) all brought here is =
     rw more (more_below n old a all here, more_brought old a brought is)
 
-pub membership_added : OrderTellsApart → (asked : Asked) (k : Kept) (others : AllKept)
-    (declared serial number r : ℕ) (atoms : List (AtomOver ℕ)) → regex.AreDistinct k.arena → r < length k.arena
-    → HaveRegexesBelow (length k.arena) k.atoms → ((i : ℕ) → Names k.atoms i (member serial r) → ⊥)
-    → atoms ≡ k.atoms ++ member serial r ∷ [] → AreDeclared declared asked.sorts → nat_lt serial declared ≡ true
-    → slice_get k.regexes.order number ≡ Some r
-    → follows asked (kept_in k others) (atom_line (member serial number))
-    ≡ Ok (record (kept_in k others) { atoms = atoms_in k.arena atoms })
-membership_added apart asked k others declared serial number r atoms once here all none e d s h =
-    by_membership asked k others declared serial number r d s h
-    ∙ (ap (λ b. if b then Err repeated else Ok (record (kept_in k others) {
-      atoms = atoms_in k.arena k.atoms ++ over k.arena (member serial r) ∷ [];
-    })) (unlisted_over apart k.arena k.atoms (member serial r) once here all none)
-    ∙ ap (λ xs. Ok (record (kept_in k others) { atoms = xs }))
-    (sym (ap (atoms_in k.arena) e ∙ atoms_more k.arena k.atoms (member serial r ∷ []))))
+-- Each atom of the code is brought, and is as well formed as the atom with the regex itself.
 
-pub membership_repeated : OrderTellsApart → (asked : Asked) (k : Kept) (others : AllKept)
-    (declared serial number r id : ℕ) → Names k.atoms id (member serial r) → AreDeclared declared asked.sorts
-    → nat_lt serial declared ≡ true → slice_get k.regexes.order number ≡ Some r
-    → follows asked (kept_in k others) (atom_line (member serial number)) ≡ Err repeated
-membership_repeated apart asked k others declared serial number r id named d s h =
-    by_membership asked k others declared serial number r d s h
-    ∙ ap (λ b. if b then Err repeated else Ok (record (kept_in k others) {
-      atoms = atoms_in k.arena k.atoms ++ over k.arena (member serial r) ∷ [];
-    })) (listed_over apart k.arena k.atoms (member serial r) id named)
+pub all_brought : (d : code.Atom) → is_brought_atom (atom_in d) ≡ true
+all_brought (atom.Bool serial) = refl
+all_brought (atom.In serial regex) = refl
+all_brought (atom.And literals) = refl
+all_brought (atom.Iff one other) = refl
 
--- Another atom is refused, for a part that is not there, or by rule.
+formed_over : (rs : List Regex) (a : AtomOver ℕ) → is_well_formed (over rs a) ≡ is_well_formed a
+formed_over rs (bool_atom serial) = refl
+formed_over rs (in_atom ps r) = refl
+formed_over rs (le_atom x k) = refl
+formed_over rs (sum_atom k ss) = refl
+formed_over rs (and_atom ls) = refl
+formed_over rs (iff_atom l m) = refl
 
-pub not_brought_yet : (o : Option Atom) (b : Bool) (r : Atom → Result AllKept Refusal)
-    → ((a : Atom) → r a ≡ Err unknown_id → ⊥)
-    → not_brought (elim o as (λ _. Result AllKept Refusal)
-    [ None ↦ Err unknown_id | Some atom ↦ if b then r atom else Err unknown_id ])
-    ≡ (if is_some o && b then Err rule_broken else Err unknown_id)
-not_brought_yet None b r h = refl
-not_brought_yet (Some a) false r h = refl
-not_brought_yet (Some a) true r h = other (r a) (h a)
-  where
-    other : (x : Result AllKept Refusal) → (x ≡ Err unknown_id → ⊥) → not_brought x ≡ Err rule_broken
-    other (Ok after) h = refl
-    other (Err unknown_id) h = absurd (h refl)
-    other (Err _) h = refl
+not_one : (n : ℕ) → (suc (suc n) == 1) ≡ false
+not_one n = grind (arith, nat_tests)
+
+pub conjunction_by_length : (ls : List Lit) → (not (length ls == 1) && are_ascending ls) ≡ is_conjunction ls
+conjunction_by_length [] = refl
+conjunction_by_length (l ∷ []) = refl
+conjunction_by_length (l ∷ m ∷ ls) = ap (λ b. not b && are_ascending (l ∷ m ∷ ls)) (not_one (length ls))
+
+-- What is made of an atom whose parts are there.
+
+pub kept_before : OrderTellsApart → (k : Kept) (others : AllKept) (a : AtomOver ℕ) (id : ℕ) → Names k.atoms id a
+    → defined (kept_in k others) (over k.arena a) ≡ Err repeated
+kept_before apart k others a id named =
+    ap (λ b. if b then Err repeated else if is_well_formed (over k.arena a) then Ok (record (kept_in k others) {
+      atoms = atoms_in k.arena k.atoms ++ over k.arena a ∷ [];
+    }) else Err not_normal) (listed_over apart k.arena k.atoms a id named)
+
+pub kept_by_form : OrderTellsApart → (k : Kept) (others : AllKept) (a : AtomOver ℕ) (b : Bool)
+    → regex.AreDistinct k.arena → HasRegexBelow (length k.arena) a → HaveRegexesBelow (length k.arena) k.atoms
+    → ((i : ℕ) → Names k.atoms i a → ⊥) → b ≡ is_well_formed a
+    → defined (kept_in k others) (over k.arena a)
+    ≡ (if b then Ok (record (kept_in k others) { atoms = atoms_in k.arena (k.atoms ++ a ∷ []) }) else Err not_normal)
+kept_by_form apart k others a b once here all none is =
+    ap (λ t. if t then Err repeated else if is_well_formed (over k.arena a) then Ok (record (kept_in k others) {
+      atoms = atoms_in k.arena k.atoms ++ over k.arena a ∷ [];
+    }) else Err not_normal) (unlisted_over apart k.arena k.atoms a once here all none)
+    ∙ ap₂ (λ t xs. if t then Ok (record (kept_in k others) { atoms = xs }) else Err not_normal)
+    (formed_over k.arena a ∙ sym is) (sym (atoms_more k.arena k.atoms (a ∷ [])))

@@ -32,7 +32,7 @@ use Rattle.sb_reached.specs.SimpleStates.{is_plain_text, is_simple}
 use Rattle.sb_rules.specs.Refuting.{IsFound}
 use Rattle.sb_rules.specs.Kept.{kept_in, live_in}
 
--- The translation of a term that may be asserted, over a table of memberships of one constant.
+-- The translation of a term that may be asserted, over a table of atoms that are brought.
 
 abbrev starts_with_constant : List Piece → Bool
 starts_with_constant (constant_piece x ∷ ps) = true
@@ -46,11 +46,11 @@ unlike rs (constant_piece y ∷ ps) r a h b = absurd (false≢true (sym h))
 unlike rs ps r (in_atom [] s) h b = absurd (false≢true b)
 unlike rs ps r (in_atom (word_piece w ∷ qs) s) h b = absurd (false≢true b)
 unlike rs ps r (in_atom (constant_piece x ∷ q ∷ qs) s) h b = absurd (false≢true b)
-unlike rs ps r (bool_atom serial) h b = absurd (false≢true b)
+unlike rs ps r (bool_atom serial) h b = refl
 unlike rs ps r (le_atom x k) h b = absurd (false≢true b)
 unlike rs ps r (sum_atom k ss) h b = absurd (false≢true b)
-unlike rs ps r (and_atom ls) h b = absurd (false≢true b)
-unlike rs ps r (iff_atom l m) h b = absurd (false≢true b)
+unlike rs ps r (and_atom ls) h b = refl
+unlike rs ps r (iff_atom l m) h b = refl
 
 unnumbered : (rs : List Regex) (atoms : List (AtomOver ℕ)) (n : ℕ) (ps : List Piece) (r : Regex)
     → starts_with_constant ps ≡ false → list_all is_brought_atom atoms ≡ true

@@ -1,23 +1,24 @@
 -- The clauses of memberships with no word in common.
-use Rattle.std.proofs.Common.{◌≡◌, ℕ, zero, suc, Bool, true, false, ◌&&◌, ◌==◌, not, nat_lt, if◌then◌else◌, List, [], ◌∷◌, map, length, Option, Some, None, option_map, slice_get, Err, refl, ap, ap₂, sym, ◌∙◌}
+use Rattle.std.proofs.Common.{◌≡◌, ℕ, ◌<◌, Bool, true, false, ◌&&◌, ◌==◌, not, nat_lt, if◌then◌else◌, List, [], ◌∷◌, ◌++◌, map, length, Option, Some, None, is_some, option_map, slice_get, Err, refl, ap, ap₂, sym, subst, ◌∙◌}
 use Rattle.std.specs.List.{list_all}
 use Rattle.std.proofs.lemmas.Bool.{and_parts, false≢true}
 use Rattle.std.proofs.lemmas.Bool.Decides.{nat_tests}
 use Rattle.std.proofs.Common.{arith}
 use Rattle.std.proofs.lemmas.Option.{slice_get-map}
-use Rattle.std.proofs.lemmas.List.{length-map}
+use Rattle.std.proofs.lemmas.List.{length-map, map-append}
+use Rattle.std.proofs.lemmas.List.Elements.{All-append, All-cons, All-nil}
 use Rattle.sb_lang.specs.Regex.{Regex}
-use Rattle.sb_lang.specs.Constructors.{mkand}
-use Rattle.sb_regex.specs.Numbered.{regex_at, regexes_at}
+use Rattle.sb_lang.specs.Constructors.{mkand, mknot}
+use Rattle.sb_regex.specs.Numbered.{regex_at, Extends}
+use Rattle.sb_regex.proofs.CallerLemmas.{at_kept, ats_kept, numbers_kept, extends_same, extends_more}
 use Rattle.sb_lit.specs.declared.clause.Lit.{Lit}
 use Rattle.sb_lit.specs.Clauses.{are_ascending}
 use Rattle.sb_lit.specs.Hints.{is_repeated}
 use Rattle.sb_script.specs.Pieces.{constant_piece, word_piece}
-use Rattle.sb_atoms.specs.Numbered.{over, atoms_in}
+use Rattle.sb_atoms.specs.Numbered.{over, atoms_in, HaveRegexesBelow}
 use Rattle.sb_rulebook.specs.Atoms.{AtomOver, bool_atom, in_atom, le_atom, sum_atom, and_atom, iff_atom}
-use Rattle.sb_rulebook.specs.Brought.{is_brought_atom}
 use Rattle.sb_rulebook.specs.Gates.{atom_of}
-use Rattle.sb_rulebook.specs.Follows.{follows, by_rule, not_brought}
+use Rattle.sb_rulebook.specs.Follows.{follows}
 use Rattle.sb_rulebook.specs.Kept.{AllKept, Asked, counting, with_clause}
 use Rattle.sb_rulebook.specs.Lines.{rule_line, empty}
 use Rattle.sb_rulebook.specs.Refusals.{unknown_id, repeated, rule_broken}
@@ -25,145 +26,239 @@ use Rattle.sb_rulebook.specs.Parts.{together}
 use Rattle.sb_rulebook.specs.Splits.{denied, have_no_word, is_empty, is_dead_regex}
 use Rattle.sb_rules.specs.declared.kept.Kept.{Kept}
 use Rattle.sb_rules.specs.Kept.{kept_in}
-use Rattle.sb_rules.specs.Refuting.{member_in, member_at}
+use Rattle.sb_rules.specs.Refuting.{member_in, member_at, is_of, denied_regex, denied_at, AreDenied}
 
-abbrev is_one : Option (AtomOver ℕ) → Bool
-is_one None = false
-is_one (Some a) = is_brought_atom a
+-- A literal's membership, and the regex in which the constant's word is where the literal is false.
 
-one_at : (atoms : List (AtomOver ℕ)) (n : ℕ) → list_all is_brought_atom atoms ≡ true
-    → nat_lt n (length atoms) ≡ true → is_one (slice_get atoms n) ≡ true
-one_at [] n b l = absurd (below_none n l)
-  where
-    below_none : (n : ℕ) → nat_lt n 0 ≡ true → ⊥
-    below_none n l = grind (arith, nat_tests)
-one_at (a ∷ atoms) zero b l = (and_parts (is_brought_atom a) (list_all is_brought_atom atoms) b).0
-one_at (a ∷ atoms) (suc n) b l =
-    one_at atoms n (and_parts (is_brought_atom a) (list_all is_brought_atom atoms) b).1 (below n (length atoms) l)
-  where
-    below : (n m : ℕ) → nat_lt (suc n) (suc m) ≡ true → nat_lt n m ≡ true
-    below n m l = grind (arith, nat_tests)
+abbrev denial : List Regex → Bool → Option (ℕ × ℕ) → Option (ℕ × Regex)
+denial rs positive o = option_map (λ m. (m.0, denied_regex rs positive (Some m))) o
 
-denied_one : (rs : List Regex) (o : Option (AtomOver ℕ)) → is_one o ≡ true
-    → denied false (option_map (over rs) o) ≡ Some ((member_in o).0, regex_at rs (member_in o).1)
-denied_one rs None h = absurd (false≢true h)
-denied_one rs (Some (in_atom (constant_piece x ∷ []) r)) h = refl
-denied_one rs (Some (in_atom [] r)) h = absurd (false≢true h)
-denied_one rs (Some (in_atom (word_piece w ∷ ps) r)) h = absurd (false≢true h)
-denied_one rs (Some (in_atom (constant_piece x ∷ p ∷ ps) r)) h = absurd (false≢true h)
-denied_one rs (Some (bool_atom serial)) h = absurd (false≢true h)
-denied_one rs (Some (le_atom x k)) h = absurd (false≢true h)
-denied_one rs (Some (sum_atom k ss)) h = absurd (false≢true h)
-denied_one rs (Some (and_atom ls)) h = absurd (false≢true h)
-denied_one rs (Some (iff_atom l m)) h = absurd (false≢true h)
+denied_one : (rs : List Regex) (p : Bool) (o : Option (AtomOver ℕ))
+    → denied p (option_map (over rs) o) ≡ denial rs p (member_in o)
+denied_one rs true None = refl
+denied_one rs true (Some (in_atom (constant_piece x ∷ []) r)) = refl
+denied_one rs true (Some (in_atom [] r)) = refl
+denied_one rs true (Some (in_atom (word_piece w ∷ ps) r)) = refl
+denied_one rs true (Some (in_atom (constant_piece x ∷ p ∷ ps) r)) = refl
+denied_one rs true (Some (bool_atom serial)) = refl
+denied_one rs true (Some (le_atom x k)) = refl
+denied_one rs true (Some (sum_atom k ss)) = refl
+denied_one rs true (Some (and_atom ls)) = refl
+denied_one rs true (Some (iff_atom l m)) = refl
+denied_one rs false None = refl
+denied_one rs false (Some (in_atom (constant_piece x ∷ []) r)) = refl
+denied_one rs false (Some (in_atom [] r)) = refl
+denied_one rs false (Some (in_atom (word_piece w ∷ ps) r)) = refl
+denied_one rs false (Some (in_atom (constant_piece x ∷ p ∷ ps) r)) = refl
+denied_one rs false (Some (bool_atom serial)) = refl
+denied_one rs false (Some (le_atom x k)) = refl
+denied_one rs false (Some (sum_atom k ss)) = refl
+denied_one rs false (Some (and_atom ls)) = refl
+denied_one rs false (Some (iff_atom l m)) = refl
 
--- the memberships of the literals, with the regexes themselves
-abbrev members : List Regex → List (AtomOver ℕ) → List Lit → List (ℕ × Regex)
-members rs atoms ls = map (λ l. ((member_at atoms l).0, regex_at rs (member_at atoms l).1)) ls
+-- the same of all literals
+abbrev denials : List Regex → List (AtomOver ℕ) → List Lit → List (Option (ℕ × Regex))
+denials rs atoms ls = map (λ l. denial rs l.positive (member_at atoms l)) ls
 
-denied_all : (rs : List Regex) (atoms : List (AtomOver ℕ)) (ls : List Lit) → list_all is_brought_atom atoms ≡ true
-    → list_all (λ l. nat_lt l.atom (length atoms)) ls ≡ true → list_all (λ l. not l.positive) ls ≡ true
-    → together (map (λ l. denied l.positive (atom_of (atoms_in rs atoms) l)) ls) ≡ Some (members rs atoms ls)
-denied_all rs atoms [] b k n = refl
-denied_all rs atoms (l ∷ ls) b k n =
-    let known = and_parts (nat_lt l.atom (length atoms)) (list_all (λ m. nat_lt m.atom (length atoms)) ls) k in
-    let signs = and_parts (not l.positive) (list_all (λ m. not m.positive) ls) n in
-    ap (λ o. together (o ∷ map (λ m. denied m.positive (atom_of (atoms_in rs atoms) m)) ls))
-    (ap₂ denied (negative l.positive signs.0) (slice_get-map (over rs) atoms l.atom)
-    ∙ denied_one rs (slice_get atoms l.atom) (one_at atoms l.atom b known.0))
-    ∙ ap (option_map (λ others. ((member_at atoms l).0, regex_at rs (member_at atoms l).1) ∷ others))
-    (denied_all rs atoms ls b known.1 signs.1)
-  where
-    negative : (p : Bool) → not p ≡ true → p ≡ false
-    negative true h = absurd (false≢true h)
-    negative false h = refl
+denied_all : (rs : List Regex) (atoms : List (AtomOver ℕ)) (ls : List Lit)
+    → map (λ l. denied l.positive (atom_of (atoms_in rs atoms) l)) ls ≡ denials rs atoms ls
+denied_all rs atoms [] = refl
+denied_all rs atoms (l ∷ ls) =
+    ap₂ ◌∷◌ (ap (denied l.positive) (slice_get-map (over rs) atoms l.atom)
+    ∙ denied_one rs l.positive (slice_get atoms l.atom)) (denied_all rs atoms ls)
 
-same_constants : (rs : List Regex) (atoms : List (AtomOver ℕ)) (x : ℕ) (ls : List Lit)
-    → list_all (λ n. n.0 == x) (members rs atoms ls) ≡ list_all (λ l. (member_at atoms l).0 == x) ls
-same_constants rs atoms x [] = refl
-same_constants rs atoms x (l ∷ ls) = ap (λ b. ((member_at atoms l).0 == x) && b) (same_constants rs atoms x ls)
-
-same_regexes : (rs : List Regex) (atoms : List (AtomOver ℕ)) (ls : List Lit)
-    → map (λ n. n.1) (members rs atoms ls) ≡ regexes_at rs (map (λ l. (member_at atoms l).1) ls)
-same_regexes rs atoms [] = refl
-same_regexes rs atoms (l ∷ ls) = ap (λ xs. regex_at rs (member_at atoms l).1 ∷ xs) (same_regexes rs atoms ls)
+some_is : {X : Type 0} (x y : X) → Some x ≡ Some y → x ≡ y
+some_is x y e = cc
 
 itself : (n : ℕ) → (n == n) ≡ true
 itself n = grind (arith, nat_tests)
 
--- what rule empty asks of negative literals of memberships
-pub by_members : (k : Kept) (others : AllKept) (l : Lit) (ls : List Lit) → list_all is_brought_atom k.atoms ≡ true
-    → list_all (λ m. nat_lt m.atom (length k.atoms)) (l ∷ ls) ≡ true
-    → list_all (λ m. not m.positive) (l ∷ ls) ≡ true
-    → is_empty (kept_in k others) (l ∷ ls)
-    ≡ (list_all (λ m. (member_at k.atoms m).0 == (member_at k.atoms l).0) (l ∷ ls)
-    && is_dead_regex (kept_in k others) (mkand (regexes_at k.arena (map (λ m. (member_at k.atoms m).1) (l ∷ ls)))))
-by_members k others l ls b known signs =
-    ap (λ o. elim o as (λ _. Bool) [ None ↦ false | Some ms ↦ have_no_word (kept_in k others) ms ])
-    (denied_all k.arena k.atoms (l ∷ ls) b known signs)
-    ∙ ap₂ (λ s t. s && t) (same_constants k.arena k.atoms (member_at k.atoms l).0 ls
-    ∙ ap (λ t. t && list_all (λ m. (member_at k.atoms m).0 == (member_at k.atoms l).0) ls)
-    (sym (itself (member_at k.atoms l).0)))
-    (ap (λ xs. is_dead_regex (kept_in k others) (mkand xs)) (same_regexes k.arena k.atoms (l ∷ ls)))
+same_number : (n m : ℕ) → (n == m) ≡ true → n ≡ m
+same_number n m h = grind (arith, nat_tests)
 
--- the same where the first literal was looked up
-pub by_first : (k : Kept) (others : AllKept) (l : Lit) (ls : List Lit) → slice_get ls 0 ≡ Some l
-    → list_all is_brought_atom k.atoms ≡ true
-    → list_all (λ m. nat_lt m.atom (length k.atoms)) ls ≡ true
-    → list_all (λ m. not m.positive) ls ≡ true
-    → is_empty (kept_in k others) ls
-    ≡ (list_all (λ m. (member_at k.atoms m).0 == (member_at k.atoms l).0) ls
-    && is_dead_regex (kept_in k others) (mkand (regexes_at k.arena (map (λ m. (member_at k.atoms m).1) ls))))
-by_first k others l [] e b known signs = absurd (Prim.cc (e))
-by_first k others l (m ∷ ls) e b known signs =
-    by_members k others m ls b known signs
-    ∙ ap (λ y. list_all (λ n. (member_at k.atoms n).0 == y) (m ∷ ls)
-    && is_dead_regex (kept_in k others) (mkand (regexes_at k.arena (map (λ n. (member_at k.atoms n).1) (m ∷ ls)))))
-    (ap (λ n. (member_at k.atoms n).0) (some_is m l e))
+module _ (rs : List Regex) (atoms : List (AtomOver ℕ)) (x : ℕ) where
+  abbrev pub are_of : List Lit → Bool
+  are_of ls = list_all (λ l. is_of x (member_at atoms l)) ls
+
+  -- where all are memberships of the constant
+  all_there : (ls : List Lit) → are_of ls ≡ true
+      → together (denials rs atoms ls) ≡ Some (map (λ l. (x, denied_at rs atoms l)) ls)
+  all_there [] h = refl
+  all_there (l ∷ ls) h =
+      let parts = and_parts (is_of x (member_at atoms l)) (are_of ls) h in
+      first (member_at atoms l) refl parts.0
+      ∙ ap (option_map (λ others. (x, denied_at rs atoms l) ∷ others)) (all_there ls parts.1)
+    where
+      first : (o : Option (ℕ × ℕ)) → member_at atoms l ≡ o → is_of x o ≡ true
+          → together (denial rs l.positive o ∷ denials rs atoms ls)
+          ≡ option_map (λ others. (x, denied_regex rs l.positive o) ∷ others) (together (denials rs atoms ls))
+      first None e h = absurd (false≢true h)
+      first (Some m) e h =
+          ap (λ n. option_map (λ others. (n, denied_regex rs l.positive (Some m)) ∷ others)
+          (together (denials rs atoms ls))) (same_number m.0 x h)
+
+  -- where one is not
+  not_all_there : (ls : List Lit) → are_of ls ≡ false → (ms : List (ℕ × Regex))
+      → together (denials rs atoms ls) ≡ Some ms → list_all (λ n. n.0 == x) ms ≡ false
+  not_all_there [] h ms e = absurd (false≢true (sym h))
+  not_all_there (l ∷ ls) h ms e =
+      first (λ f others is. not_all_there ls f others is) (member_at atoms l) h e
+    where
+      first : (are_of ls ≡ false → (others : List (ℕ × Regex)) → together (denials rs atoms ls) ≡ Some others
+          → list_all (λ n. n.0 == x) others ≡ false) → (o : Option (ℕ × ℕ)) → (is_of x o && are_of ls) ≡ false
+          → together (denial rs l.positive o ∷ denials rs atoms ls) ≡ Some ms → list_all (λ n. n.0 == x) ms ≡ false
+      first again None h e = absurd (Prim.cc (e))
+      first again (Some m) h e = rest (together (denials rs atoms ls)) refl e
+        where
+          rest : (o : Option (List (ℕ × Regex))) → together (denials rs atoms ls) ≡ o
+              → option_map (λ others. (m.0, denied_regex rs l.positive (Some m)) ∷ others) o ≡ Some ms
+              → list_all (λ n. n.0 == x) ms ≡ false
+          rest None is e = absurd (Prim.cc (e))
+          rest (Some others) is e =
+              ap (list_all (λ n. n.0 == x)) (sym (some_is _ ms e)) ∙ last (m.0 == x) (are_of ls) refl h
+            where
+              last : (s t : Bool) → are_of ls ≡ t → (s && t) ≡ false
+                  → (s && list_all (λ n. n.0 == x) others) ≡ false
+              last false t f h = refl
+              last true true f h = absurd (false≢true (sym h))
+              last true false f h = again f others is
+
+  same_constants : (ls : List Lit)
+      → list_all (λ (n : ℕ × Regex). n.0 == x) (map (λ l. (x, denied_at rs atoms l)) ls) ≡ true
+  same_constants [] = refl
+  same_constants (l ∷ ls) = ap₂ ◌&&◌ (itself x) (same_constants ls)
+
+  same_regexes : (ls : List Lit)
+      → map (λ (n : ℕ × Regex). n.1) (map (λ l. (x, denied_at rs atoms l)) ls) ≡ map (denied_at rs atoms) ls
+  same_regexes [] = refl
+  same_regexes (l ∷ ls) = ap (λ qs. denied_at rs atoms l ∷ qs) (same_regexes ls)
+
+-- What rule empty asks.
+
+abbrev asks : AllKept → Option (List (ℕ × Regex)) → Bool
+asks kept o = elim o as (λ _. Bool) [ None ↦ false | Some ms ↦ have_no_word kept ms ]
+
+by_denials : (k : Kept) (others : AllKept) (ls : List Lit)
+    → is_empty (kept_in k others) ls ≡ asks (kept_in k others) (together (denials k.arena k.atoms ls))
+by_denials k others ls = ap (λ os. asks (kept_in k others) (together os)) (denied_all k.arena k.atoms ls)
+
+-- the first literal is no membership of one constant
+pub not_member : (k : Kept) (others : AllKept) (l : Lit) (ls : List Lit) → slice_get ls 0 ≡ Some l
+    → None ≡ member_at k.atoms l → false ≡ is_empty (kept_in k others) ls
+not_member k others l [] e h = absurd (Prim.cc (e))
+not_member k others l (m ∷ ls) e h =
+    sym (by_denials k others (m ∷ ls)
+    ∙ ap (λ o. asks (kept_in k others) (together (denial k.arena m.positive o ∷ denials k.arena k.atoms ls)))
+    (ap (member_at k.atoms) (some_is m l e) ∙ sym h))
+
+-- it is of a constant, and some literal is not
+pub not_constants : (k : Kept) (others : AllKept) (l : Lit) (ls : List Lit) (x r : ℕ) → slice_get ls 0 ≡ Some l
+    → Some (x, r) ≡ member_at k.atoms l → are_of k.arena k.atoms x ls ≡ false
+    → false ≡ is_empty (kept_in k others) ls
+not_constants k others l [] x r e h f = absurd (Prim.cc (e))
+not_constants k others l (m ∷ ls) x r e h f =
+    sym (by_denials k others (m ∷ ls) ∙ step (together (denials k.arena k.atoms (m ∷ ls))) refl)
   where
-    some_is : (x y : Lit) → Some x ≡ Some y → x ≡ y
-    some_is x y e = cc
+    its : member_at k.atoms m ≡ Some (x, r)
+    its = ap (member_at k.atoms) (some_is m l e) ∙ sym h
 
--- where the test of the constants and the one of the regex were made
-pub not_constants : (k : Kept) (others : AllKept) (l : Lit) (ls : List Lit) (x : ℕ) (s : Bool)
-    → slice_get ls 0 ≡ Some l → list_all is_brought_atom k.atoms ≡ true
-    → list_all (λ m. nat_lt m.atom (length k.atoms)) ls ≡ true
-    → list_all (λ m. not m.positive) ls ≡ true
-    → (member_at k.atoms l).0 ≡ x → s ≡ list_all (λ m. (member_at k.atoms m).0 == x) ls
-    → s ≡ false → false ≡ is_empty (kept_in k others) ls
-not_constants k others l ls x s e b known signs m t f =
-    sym (by_first k others l ls e b known signs
-    ∙ ap (λ y. list_all (λ m. (member_at k.atoms m).0 == y) ls
-    && is_dead_regex (kept_in k others) (mkand (regexes_at k.arena (map (λ m. (member_at k.atoms m).1) ls)))) m
-    ∙ ap (λ u. u && is_dead_regex (kept_in k others)
-    (mkand (regexes_at k.arena (map (λ m. (member_at k.atoms m).1) ls)))) (sym t ∙ f))
+    step : (o : Option (List (ℕ × Regex))) → together (denials k.arena k.atoms (m ∷ ls)) ≡ o
+        → asks (kept_in k others) o ≡ false
+    step None is = refl
+    step (Some ms) is = last (together (denials k.arena k.atoms ls))
+        (sym is ∙ ap (λ q. together (denial k.arena m.positive q ∷ denials k.arena k.atoms ls)) its)
+      where
+        last : (o : Option (List (ℕ × Regex)))
+            → Some ms ≡ option_map (λ os. (x, denied_regex k.arena m.positive (Some (x, r))) ∷ os) o
+            → have_no_word (kept_in k others) ms ≡ false
+        last None g = absurd (Prim.cc (g))
+        last (Some os) g =
+            let front : ms ≡ (x, denied_regex k.arena m.positive (Some (x, r))) ∷ os = some_is _ _ g in
+            let all : list_all (λ n. n.0 == x) ms ≡ false =
+            not_all_there k.arena k.atoms x (m ∷ ls) f ms is in
+            let others_not : list_all (λ n. n.0 == x) os ≡ false =
+            sym (ap (λ b. b && list_all (λ n. n.0 == x) os) (itself x))
+            ∙ sym (ap (list_all (λ n. n.0 == x)) front) ∙ all in
+            ap (have_no_word (kept_in k others)) front
+            ∙ ap (λ b. b && is_dead_regex (kept_in k others) (mkand (denied_regex k.arena m.positive (Some (x, r))
+            ∷ map (λ n. n.1) os))) others_not
 
-pub by_regex : (k : Kept) (others : AllKept) (l : Lit) (ls : List Lit) (x : ℕ) (s d : Bool) (r : Regex) (ids : List ℕ)
-    → slice_get ls 0 ≡ Some l → list_all is_brought_atom k.atoms ≡ true
-    → list_all (λ m. nat_lt m.atom (length k.atoms)) ls ≡ true
-    → list_all (λ m. not m.positive) ls ≡ true
-    → (member_at k.atoms l).0 ≡ x → s ≡ list_all (λ m. (member_at k.atoms m).0 == x) ls → s ≡ true
-    → ids ≡ map (λ m. (member_at k.atoms m).1) ls → r ≡ mkand (regexes_at k.arena ids)
+-- all are of the constant
+pub by_regex : (k : Kept) (others : AllKept) (l : Lit) (ls : List Lit) (x : ℕ) (d : Bool) (r : Regex)
+    (qs : List Regex) → slice_get ls 0 ≡ Some l → are_of k.arena k.atoms x ls ≡ true
+    → qs ≡ map (denied_at k.arena k.atoms) ls → r ≡ mkand qs
     → d ≡ is_dead_regex (kept_in k others) r → d ≡ is_empty (kept_in k others) ls
-by_regex k others l ls x s d r ids e b known signs m t f i n h =
-    h ∙ ap (λ q. is_dead_regex (kept_in k others) q) (n ∙ ap (λ js. mkand (regexes_at k.arena js)) i)
-    ∙ sym (by_first k others l ls e b known signs
-    ∙ ap (λ y. list_all (λ m. (member_at k.atoms m).0 == y) ls
-    && is_dead_regex (kept_in k others) (mkand (regexes_at k.arena (map (λ m. (member_at k.atoms m).1) ls)))) m
-    ∙ ap (λ u. u && is_dead_regex (kept_in k others)
-    (mkand (regexes_at k.arena (map (λ m. (member_at k.atoms m).1) ls)))) (sym t ∙ f))
+by_regex k others l [] x d r qs e f i n h = absurd (Prim.cc (e))
+by_regex k others l (m ∷ ls) x d r qs e f i n h =
+    h ∙ ap (λ q. is_dead_regex (kept_in k others) q) (n ∙ ap mkand i)
+    ∙ sym (by_denials k others (m ∷ ls)
+    ∙ ap (asks (kept_in k others)) (all_there k.arena k.atoms x (m ∷ ls) f)
+    ∙ ap₂ (λ s ps. s && is_dead_regex (kept_in k others) (mkand (denied_at k.arena k.atoms m ∷ ps)))
+    (same_constants k.arena k.atoms x ls) (same_regexes k.arena k.atoms x ls))
 
--- what is made of a line by rule empty with negative literals, of known atoms, that ascend and are new
+-- Lists of literals that are tested one by one.
+
+pub all_members : (atoms : List (AtomOver ℕ)) (x : ℕ) (ls : List Lit)
+    → list_all (λ l. is_of x (member_at atoms l)) ls ≡ true → list_all (λ l. is_some (member_at atoms l)) ls ≡ true
+all_members atoms x [] h = refl
+all_members atoms x (l ∷ ls) h =
+    let parts = and_parts (is_of x (member_at atoms l)) (list_all (λ m. is_of x (member_at atoms m)) ls) h in
+    ap₂ ◌&&◌ (one (member_at atoms l) parts.0) (all_members atoms x ls parts.1)
+  where
+    one : (o : Option (ℕ × ℕ)) → is_of x o ≡ true → is_some o ≡ true
+    one None h = h
+    one (Some m) h = refl
+
+-- a membership's regex is one of the arena
+pub member_below : (n : ℕ) (atoms : List (AtomOver ℕ)) (i x r : ℕ) → HaveRegexesBelow n atoms
+    → Some (x, r) ≡ member_in (slice_get atoms i) → r < n
+member_below n atoms i x r below e = step (slice_get atoms i) refl e
+  where
+    step : (o : Option (AtomOver ℕ)) → slice_get atoms i ≡ o → Some (x, r) ≡ member_in o → r < n
+    step (Some (in_atom (constant_piece y ∷ []) q)) is e =
+        subst (λ (p : ℕ × ℕ). p.1 < n) (sym (some_is (x, r) (y, q) e)) (below i (in_atom (constant_piece y ∷ []) q) is)
+    step None is e = absurd (Prim.cc (e))
+    step (Some (in_atom [] q)) is e = absurd (Prim.cc (e))
+    step (Some (in_atom (word_piece w ∷ ps) q)) is e = absurd (Prim.cc (e))
+    step (Some (in_atom (constant_piece y ∷ p ∷ ps) q)) is e = absurd (Prim.cc (e))
+    step (Some (bool_atom serial)) is e = absurd (Prim.cc (e))
+    step (Some (le_atom y k)) is e = absurd (Prim.cc (e))
+    step (Some (sum_atom k ss)) is e = absurd (Prim.cc (e))
+    step (Some (and_atom ls)) is e = absurd (Prim.cc (e))
+    step (Some (iff_atom l m)) is e = absurd (Prim.cc (e))
+
+-- one regex more
+pub none_denied : (rs : List Regex) (atoms : List (AtomOver ℕ)) → AreDenied rs atoms rs [] []
+none_denied rs atoms = record { regexes = refl; known = All-nil _; extends = extends_same rs }
+
+pub one_denied : (old mid new : List Regex) (atoms : List (AtomOver ℕ)) (ids : List ℕ) (ls : List Lit) (l : Lit)
+    (x r id : ℕ) → HaveRegexesBelow (length old) atoms → AreDenied old atoms mid ids ls
+    → Some (x, r) ≡ member_at atoms l
+    → regex_at new id ≡ (if l.positive then mknot (regex_at mid r) else regex_at mid r) → id < length new
+    → Extends mid new → AreDenied old atoms new (ids ++ id ∷ []) (ls ++ l ∷ [])
+one_denied old mid new atoms ids ls l x r id below so is regex low grows = record {
+  regexes = map-append (regex_at new) ids (id ∷ [])
+      ∙ ap₂ (λ ps q. ps ++ q ∷ []) (ats_kept mid new ids grows so.known ∙ so.regexes) its
+      ∙ sym (map-append (denied_at old atoms) ls (l ∷ []));
+  known = All-append (λ i. i < length new) ids (id ∷ []) (numbers_kept mid new ids grows so.known)
+      (All-cons (λ i. i < length new) id [] low (All-nil _));
+  extends = extends_more old mid new so.extends grows;
+}
+  where
+    its : regex_at new id ≡ denied_at old atoms l
+    its = regex
+        ∙ ap (λ q. if l.positive then mknot q else q)
+        (at_kept old mid r so.extends (member_below (length old) atoms l.atom x r below is))
+        ∙ ap (denied_regex old l.positive) is
+
+-- what is made of a line by rule empty, of literals of known atoms that ascend and are new
 pub by_rule_empty : (asked : Asked) (k : Kept) (others : AllKept) (ls : List Lit) (b : Bool)
     → list_all (λ m. nat_lt m.atom (length k.atoms)) ls ≡ true
-    → list_all (λ m. not m.positive) ls ≡ true
     → is_repeated k.clauses ls ≡ false → are_ascending ls ≡ true → b ≡ is_empty (kept_in k others) ls
     → follows asked (kept_in k others) (rule_line empty ls)
     ≡ (if not b then Err rule_broken else counting asked (with_clause (kept_in k others) ls 0 []))
-by_rule_empty asked k others ls b known signs new ascend is =
-    ap (λ s. if s then by_rule asked (kept_in k others) (rule_line empty ls)
-    else not_brought (by_rule asked (kept_in k others) (rule_line empty ls))) signs
-    ∙ (ap (λ t. if not t then Err unknown_id
+by_rule_empty asked k others ls b known new ascend is =
+    ap (λ t. if not t then Err unknown_id
     else if is_repeated k.clauses ls then Err repeated
     else if not (are_ascending ls && is_empty (kept_in k others) ls) then Err rule_broken
     else counting asked (with_clause (kept_in k others) ls 0 []))
@@ -173,4 +268,4 @@ by_rule_empty asked k others ls b known signs new ascend is =
     else counting asked (with_clause (kept_in k others) ls 0 [])) new
     ∙ (ap (λ t. if not (t && is_empty (kept_in k others) ls) then Err rule_broken
     else counting asked (with_clause (kept_in k others) ls 0 [])) ascend
-    ∙ ap (λ t. if not t then Err rule_broken else counting asked (with_clause (kept_in k others) ls 0 [])) (sym is))))
+    ∙ ap (λ t. if not t then Err rule_broken else counting asked (with_clause (kept_in k others) ls 0 [])) (sym is)))

@@ -4,4 +4,5 @@ mod Atomic
 mod Clausal
 mod Emptied
 mod Overs
-mod Unbrought
+mod AtomLines
+mod Gated

@@ -3,3 +3,4 @@ pub mod Judged
 pub mod Expanding
 pub mod Defining
 pub mod Refuting
+pub mod Gating

@@ -1,29 +1,28 @@
 //! Lines that define atoms.
 
-ghost use Rattle.std.specs.Prelude.{◌≡◌, ◌<◌, ◌&&◌, ◌∷◌, [], ℕ, List, true, false, nat_lt, map, is_some, slice_get, length, IfOk};
+ghost use Rattle.std.specs.Prelude.{◌≡◌, ◌&&◌, ℕ, List, true, false, nat_lt, map, None, length, IfOk};
 ghost use Rattle.std.specs.List.{list_all};
-ghost use Rattle.sb_script.specs.Pieces.{constant_piece};
-ghost use Rattle.sb_rulebook.specs.Atoms.{in_atom};
-ghost use Rattle.sb_rulebook.specs.AtomRules.{with_regex, has_its_parts};
-ghost use Rattle.sb_rulebook.specs.Brought.{is_brought_atom};
+ghost use Rattle.sb_rulebook.specs.Atoms.{in_atom, is_conjunction, is_well_formed};
+ghost use Rattle.sb_rulebook.specs.AtomRules.{defined};
 ghost use Rattle.sb_rulebook.specs.Kept.{AllKept, Asked};
 ghost use Rattle.sb_rulebook.specs.Lines.{atom_line};
-ghost use Rattle.sb_rulebook.specs.Follows.{follows};
-ghost use Rattle.sb_meaning.specs.Terms.{Sort};
+ghost use Rattle.sb_atoms.specs.Numbered.{HasRegexBelow, IsNumberIn, over};
+ghost use Rattle.sb_atoms.specs.Numbered as numbered;
 ghost use Rattle.sb_proof.specs.Lines.{atom_in, piece_in, variable_in};
-ghost use Rattle.sb_rules_regex.specs.Answers.{refusal_in};
 ghost use Rattle.sb_rules.specs.Kept.{IsWhole, KeepsTerms, AreDeclared, kept_in};
-ghost use Rattle.sb_rules.specs.Judged.{Judges};
-ghost use Rattle.sb_rules.specs.Defining.{IsMembershipIn, IsConstantIn, is_piece_below, is_variable_below, have_parts};
+ghost use Rattle.sb_rules.specs.Judged.{Judges, Meets};
+ghost use Rattle.sb_rules.specs.Defining.{IsBroughtAs, IsConstantIn, is_piece_below, is_variable_below, have_parts};
 
 use crate::kept::Kept;
-use sb_atoms::Atom as Membership;
+use sb_atoms::Atom as KeptAtom;
+use sb_hints::are_ascending;
 use sb_lang::order::order_tells_apart;
 use sb_lit::Lit;
 use sb_proof::{Atom, Piece, Variable};
-use sb_regex::RegexId;
 use sb_rules_regex::{Fault, Refusal};
 use sb_term::Serial;
+use smallvec::SmallVec;
+use std::alloc::AllocError;
 
 impl Kept {
     /// Judges the line that defines the next atom, where so many constants are declared, and keeps it where it follows.
@@ -34,51 +33,73 @@ impl Kept {
         ensures whole { IsWhole self.new }
         ensures terms { KeepsTerms self.old self.new }
     {
-        let Some((serial, number)) = membership_in(atom) else {
-            return Err(Fault::Refused(self.not_brought(declared, atom)));
-        };
-        let Some(regex) = self.regexes.regex(number) else {
-            return Err(Fault::Refused(Refusal::UnknownId));
-        };
-        if serial >= declared as u64 {
+        if !self.has_parts(declared, atom) {
             return Err(Fault::Refused(Refusal::UnknownId));
         }
-        self.add_membership(Serial(serial), regex)
+        match self.brought(atom)? {
+            Some(atom) => self.add_atom(atom),
+            None => Err(Fault::Refused(Refusal::RuleBroken)),
+        }
     }
 
-    /// Keeps the membership of a constant, unless it is kept.
-    fn add_membership(&mut self, serial: Serial, regex: RegexId) -> Result<(), Fault>
+    /// Keeps an atom, unless it is kept or not well formed.
+    fn add_atom(&mut self, atom: KeptAtom) -> Result<(), Fault>
         requires whole { IsWhole self.old }
-        requires regex { regex < length self.old.arena }
-        ensures judges { (asked : Asked) (number declared : ℕ) → AreDeclared declared asked.sorts
-            → nat_lt serial.0 declared ≡ true → slice_get self.old.regexes.order number ≡ Some regex
-            → Judges result asked self.old self.new (atom_line (in_atom (constant_piece serial.0 ∷ []) number)) }
+        requires regex { HasRegexBelow (length self.old.arena) (numbered.atom_in atom) }
+        ensures defines { (others : AllKept) → Meets result
+            (defined (kept_in self.old others) (over self.old.arena (numbered.atom_in atom))) self.old self.new others }
+        ensures whole { IsWhole self.new }
+        ensures terms { KeepsTerms self.old self.new }
+    {
+        order_tells_apart();
+        match self.atoms.find(&atom) {
+            Some(_) => Err(Fault::Refused(Refusal::Repeated)),
+            None => self.add_new(atom),
+        }
+    }
+
+    /// Keeps an atom that is not kept, unless it is not well formed.
+    fn add_new(&mut self, atom: KeptAtom) -> Result<(), Fault>
+        requires whole { IsWhole self.old }
+        requires regex { HasRegexBelow (length self.old.arena) (numbered.atom_in atom) }
+        requires is_new { IsNumberIn self.old.atoms (numbered.atom_in atom) None }
+        ensures defines { (others : AllKept) → Meets result
+            (defined (kept_in self.old others) (over self.old.arena (numbered.atom_in atom))) self.old self.new others }
         ensures whole { IsWhole self.new }
         ensures terms { KeepsTerms self.old self.new }
     {
         order_tells_apart();
         self.arena.normal_regexes_each_once();
-        let atom = Membership::In(serial, regex);
-        match self.atoms.find(&atom) {
-            Some(_) => Err(Fault::Refused(Refusal::Repeated)),
-            None => {
-                self.atoms.add(atom)?;
-                Ok(())
+        if !is_well_formed(&atom) {
+            return Err(Fault::Refused(Refusal::NotNormal));
+        }
+        self.atoms.add(atom)?;
+        Ok(())
+    }
+
+    /// The atom by the number of its regex in the arena; none where atoms of its form are not brought.
+    fn brought(&self, atom: &Atom) -> Result<Option<KeptAtom>, AllocError>
+        ensures { IfOk result (λ found. IsBroughtAs self.now.regexes.order (atom_in atom.now) found) }
+    {
+        match atom {
+            Atom::Bool(serial) => Ok(Some(KeptAtom::Bool(Serial(*serial)))),
+            Atom::In(pieces, number) => Ok(self.membership(pieces, *number)),
+            Atom::And(literals) => {
+                let literals = SmallVec::from_slice(self.alloc, literals)?;
+                Ok(Some(KeptAtom::And(literals)))
             }
+            Atom::Iff(one, other) => Ok(Some(KeptAtom::Iff(*one, *other))),
+            Atom::Le(..) | Atom::Sum(..) => Ok(None),
         }
     }
 
-    /// Why an atom is refused that is no membership of one constant.
-    fn not_brought(&self, declared: usize, atom: &Atom) -> Refusal
-        ensures { (asked : Asked) (others : AllKept) → AreDeclared declared asked.sorts
-            → is_brought_atom (atom_in atom.now) ≡ false
-            → follows asked (kept_in self.now others) (atom_line (atom_in atom.now)) ≡ Err (refusal_in result) }
+    /// The membership of one constant, by the number of its regex in the arena.
+    fn membership(&self, pieces: &[Piece], number: u64) -> Option<KeptAtom>
+        ensures { IsBroughtAs self.now.regexes.order (in_atom (map piece_in pieces.now) number) result }
     {
-        if self.has_parts(declared, atom) {
-            Refusal::RuleBroken
-        } else {
-            Refusal::UnknownId
-        }
+        let serial = constant_in(pieces)?;
+        let regex = self.regexes.regex(number)?;
+        Some(KeptAtom::In(Serial(serial), regex))
     }
 
     /// Whether the constants, the regex and the atoms are there that an atom names.
@@ -86,6 +107,7 @@ impl Kept {
         ensures { result ≡ have_parts declared self.now.regexes.order (length self.now.atoms) (atom_in atom.now) }
     {
         match atom {
+            // So far no Bool constant can be declared.
             Atom::Bool(_) => false,
             Atom::In(pieces, number) => {
                 self.regexes.regex(*number).is_some() && are_declared(declared, pieces)
@@ -112,17 +134,22 @@ impl Kept {
     }
 }
 
-/// The constant and the number of the regex, of a membership of one constant.
-fn membership_in(atom: &Atom) -> Option<(u64, u64)>
-    ensures { IsMembershipIn (atom_in atom.now) result }
+/// Whether an atom is well formed.
+fn is_well_formed(atom: &KeptAtom) -> bool
+    ensures { result ≡ is_well_formed (numbered.atom_in atom.now) }
 {
-    let Atom::In(pieces, number) = atom else {
-        return None;
-    };
-    match constant_in(pieces) {
-        Some(serial) => Some((serial, *number)),
-        None => None,
+    match atom {
+        KeptAtom::Bool(_) | KeptAtom::In(..) => true,
+        KeptAtom::And(literals) => is_conjunction(literals),
+        KeptAtom::Iff(one, other) => !one.cmp(other).is_gt(),
     }
+}
+
+/// Whether the literals ascend, and are not a single one.
+fn is_conjunction(literals: &[Lit]) -> bool
+    ensures { result ≡ is_conjunction literals.now }
+{
+    literals.len() != 1 && are_ascending(literals)
 }
 
 /// The constant of a concatenation that is one constant.

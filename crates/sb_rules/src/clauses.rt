@@ -1,31 +1,26 @@
 //! Lines that give clauses.
 
-ghost use Rattle.std.specs.Prelude.{◌≡◌, ◌<◌, ◌∷◌, ◌==◌, [], ℕ, List, not, map, slice_get, nat_lt, true, Some, length, All, IfOk};
+ghost use Rattle.std.specs.Prelude.{◌≡◌, ◌<◌, ℕ, List, map, nat_lt, true, Some, length, All, IfOk};
 ghost use Rattle.std.specs.List.{list_all};
-ghost use Rattle.sb_rulebook.specs.Atoms.{in_atom};
 ghost use Rattle.sb_rulebook.specs.Kept.{AllKept, Asked, counting, with_clause};
 ghost use Rattle.sb_rulebook.specs.Lines.{assertion_line, rule_line, learned_line, empty};
 ghost use Rattle.sb_rulebook.specs.ClauseRules.{is_translation};
 ghost use Rattle.sb_rulebook.specs.Splits.{is_empty};
-ghost use Rattle.sb_script.specs.Pieces.{constant_piece};
 ghost use Rattle.sb_proof.specs.Lines.{rule_in};
 ghost use Rattle.sb_term.specs.Numbered.{term_at};
-ghost use Rattle.sb_regex.specs.Numbered.{AllNumbers, Extends};
-ghost use Rattle.sb_atoms.specs.Numbered.{atom_in, Names};
 ghost use Rattle.sb_reached.specs.SimpleStates.{is_simple};
 ghost use Rattle.sb_rules.specs.Kept.{IsWhole, IsOver, KeepsTerms, HasNumberBelow, IsSimple, kept_in, live_in};
 ghost use Rattle.sb_rules.specs.Judged.{Judges, Meets};
-ghost use Rattle.sb_rules.specs.Refuting.{IsLearned, IsFound, member_at};
+ghost use Rattle.sb_rules.specs.Refuting.{IsLearned, IsFound};
 
 use crate::kept::{Kept, counted};
-use sb_atoms::{Atom, AtomId};
+use crate::members::{are_of, denied, member};
 use sb_hints::{NotLearned, are_ascending};
 use sb_lit::Lit;
 use sb_plain::right_stays;
 use sb_proof::Rule;
-use sb_regex::RegexId;
 use sb_rules_regex::{Fault, Refusal};
-use sb_term::{Assertion, Serial, Table, TermId};
+use sb_term::{Assertion, Table, TermId};
 use std::alloc::AllocError;
 
 impl Kept {
@@ -99,23 +94,16 @@ impl Kept {
             return Err(Fault::Refused(Refusal::UnknownId));
         }
         match rule {
-            Rule::Empty => {
-                if !are_negative(literals) {
-                    return Err(Fault::Refused(Refusal::RuleBroken));
-                }
-                self.add_empty(limit, literals)
-            }
-            Rule::Gate | Rule::Order | Rule::Linear | Rule::Step => {
-                Err(Fault::Refused(Refusal::RuleBroken))
-            }
+            Rule::Gate => self.add_gate(literals),
+            Rule::Empty => self.add_empty(limit, literals),
+            Rule::Order | Rule::Linear | Rule::Step => Err(Fault::Refused(Refusal::RuleBroken)),
         }
     }
 
-    /// Keeps the clause of memberships of one constant that have no word in common, where it is that and new.
+    /// Keeps the clause of memberships of one constant that are not all false, where it is that and new.
     fn add_empty(&mut self, limit: u64, literals: &[Lit]) -> Result<(), Fault>
         requires whole { IsWhole self.old }
         requires known { list_all (λ l. nat_lt l.atom (length self.old.atoms)) literals.now ≡ true }
-        requires negative { list_all (λ l. not l.positive) literals.now ≡ true }
         ensures judges { (asked : Asked) → asked.limit ≡ limit
             → Judges result asked self.old self.new (rule_line empty literals.now) }
         ensures whole { IsWhole self.new }
@@ -148,11 +136,11 @@ impl Kept {
         Ok(())
     }
 
-    /// Whether the literals are of memberships of one constant whose intersection is a dead regex.
+    /// Whether the literals are of memberships of one constant, and where all are false, its word is in regexes whose
+    /// intersection is dead.
     fn have_no_word(&mut self, literals: &[Lit]) -> Result<bool, AllocError>
         requires whole { IsWhole self.old }
         requires known { list_all (λ l. nat_lt l.atom (length self.old.atoms)) literals.now ≡ true }
-        requires negative { list_all (λ l. not l.positive) literals.now ≡ true }
         ensures ok { IfOk result
             (λ b. (others : AllKept) → b ≡ is_empty (kept_in self.old others) literals.now) }
         ensures kept { (others : AllKept) → kept_in self.new others ≡ kept_in self.old others }
@@ -163,54 +151,15 @@ impl Kept {
         let Some(first) = literals.first() else {
             return Ok(false);
         };
-        let (serial, _) = self.member(*first);
-        if !self.are_of(serial, literals) {
+        let Some((serial, _)) = member(&self.atoms, *first) else {
+            return Ok(false);
+        };
+        if !are_of(&self.atoms, serial, literals) {
             return Ok(false);
         }
-        let ids = self.regexes_of(literals)?;
+        let ids = denied(self.alloc, &self.atoms, &mut self.arena, literals)?;
         let id = self.arena.and(&ids)?;
         Ok(self.regexes.is_dead_regex(&self.arena, id))
-    }
-
-    /// Whether the literals' memberships are of this constant.
-    fn are_of(&self, serial: Serial, literals: &[Lit]) -> bool
-        requires whole { IsWhole self.now }
-        requires known { list_all (λ l. nat_lt l.atom (length self.now.atoms)) literals.now ≡ true }
-        ensures { result ≡ list_all (λ l. (member_at self.now.atoms l).0 == serial.0) literals.now }
-    {
-        for literal in literals {
-            let (other, _) = self.member(*literal);
-            if other != serial {
-                return false;
-            }
-        }
-        true
-    }
-
-    /// The regexes of the literals' memberships.
-    fn regexes_of(&self, literals: &[Lit]) -> Result<Vec<RegexId>, AllocError>
-        requires whole { IsWhole self.now }
-        requires known { list_all (λ l. nat_lt l.atom (length self.now.atoms)) literals.now ≡ true }
-        ensures ids { IfOk result (λ ids. ids.items ≡ map (λ l. (member_at self.now.atoms l).1) literals.now) }
-        ensures known { IfOk result (λ ids. AllNumbers self.now.arena ids.items) }
-    {
-        let mut ids = Vec::with_capacity(self.alloc, literals.len())?;
-        for literal in literals {
-            let (_, regex) = self.member(*literal);
-            ids.push(regex)?;
-        }
-        Ok(ids)
-    }
-
-    /// The constant and the regex of a literal's membership.
-    fn member(&self, literal: Lit) -> (Serial, RegexId)
-        requires whole { IsWhole self.now }
-        requires known { literal.atom < length self.now.atoms }
-        ensures names { Names self.now.atoms literal.atom (in_atom (constant_piece result.0.0 ∷ []) result.1) }
-        ensures is { member_at self.now.atoms literal ≡ (result.0.0, result.1) }
-        ensures known { result.1 < length self.now.arena }
-    {
-        parts_of(*self.atoms.describe(AtomId::of(literal)))
     }
 
     /// Judges the line of a learned clause, and keeps the clause where it follows.
@@ -243,15 +192,6 @@ impl Kept {
     }
 }
 
-/// The constant and the regex of an atom.
-fn parts_of(atom: Atom) -> (Serial, RegexId)
-    ensures { atom_in atom ≡ in_atom (constant_piece result.0.0 ∷ []) result.1 }
-{
-    match atom {
-        Atom::In(serial, regex) => (serial, regex),
-    }
-}
-
 /// Whether the literal was found.
 fn is_literal(found: Option<Lit>, literal: Lit) -> bool
     ensures { IsFound literal found result }
@@ -260,11 +200,4 @@ fn is_literal(found: Option<Lit>, literal: Lit) -> bool
         Some(other) => literal.atom == other.atom && literal.positive == other.positive,
         None => false,
     }
-}
-
-/// Whether all literals are negative.
-fn are_negative(literals: &[Lit]) -> bool
-    ensures { result ≡ list_all (λ l. not l.positive) literals.now }
-{
-    literals.iter().all(|literal| !literal.positive)
 }

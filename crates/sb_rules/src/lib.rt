@@ -10,6 +10,8 @@ mod atoms;
 mod clauses;
 mod expansions;
 mod follows;
+mod gates;
 mod kept;
+mod members;
 
 pub use kept::Kept;

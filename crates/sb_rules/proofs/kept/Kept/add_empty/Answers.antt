@@ -11,7 +11,7 @@ use Rattle.sb_rules.proofs.kept.Kept.add_empty.Goals as goal
 pub returns-then-not-branch-clause-judges : goal.returns-then-not-branch-clause-judges
 returns-then-not-branch-clause-judges c = λ asked limit others. (
   by_rule_empty asked c.args.self.now others c.args.literals.now c.in_ok-have_no_word.field-0 c.requires.known
-      c.requires.negative (sym c.in_ok-is_repeated.ensures ∙ c.if-branch.false)
+      (sym c.in_ok-is_repeated.ensures ∙ c.if-branch.false)
       (sym c.are_ascending.ensures ∙ c.if-not-are_ascending.false) (c.in_ok-have_no_word.ensures.ok others)
       ∙ ap (λ b. if not b then Err rule_broken
       else counting asked (with_clause (kept_in c.args.self.now others) c.args.literals.now 0 [])) c.if-not-branch.true,
@@ -24,7 +24,7 @@ returns-clause-judges c = λ asked limit others.
     (counting asked (with_clause (kept_in c.have_no_word.new.self others) c.args.literals.now 0 []))
     c.args.self.now c.have_no_word.new.self c.add_counted.new.self others
     (by_rule_empty asked c.args.self.now others c.args.literals.now c.in_ok-have_no_word.field-0 c.requires.known
-    c.requires.negative (sym c.in_ok-is_repeated.ensures ∙ c.if-branch.false)
+    (sym c.in_ok-is_repeated.ensures ∙ c.if-branch.false)
     (sym c.are_ascending.ensures ∙ c.if-not-are_ascending.false) (c.in_ok-have_no_word.ensures.ok others)
     ∙ (ap (λ b. if not b then Err rule_broken
     else counting asked (with_clause (kept_in c.args.self.now others) c.args.literals.now 0 [])) c.if-not-branch.false

@@ -1,34 +1,46 @@
-use Rattle.std.proofs.Common.{◌≡◌, true, nat_lt, Err, length, refl, sym, subst, arith}
-use Rattle.std.proofs.lemmas.Bool.Decides.{nat_tests}
-use Rattle.sb_rulebook.specs.Refusals.{unknown_id}
-use Rattle.sb_rulebook.specs.Lines.{atom_line}
+use Rattle.std.proofs.Common.{length, refl, sym, subst, ◌∙◌}
+use Rattle.sb_atoms.specs.Numbered as numbered
+use Rattle.sb_atoms.specs.Numbered.{over}
+use Rattle.sb_proof.specs.Lines.{atom_in}
+use Rattle.sb_rulebook.specs.AtomRules.{defined}
 use Rattle.sb_rulebook.specs.Follows.{follows}
+use Rattle.sb_rulebook.specs.Lines.{atom_line}
 use Rattle.sb_rules.specs.Kept.{kept_in}
-use Rattle.sb_rules.specs.Judged.{Meets}
-use Rattle.sb_rules.proofs.Atomic.{by_no_regex}
-use Rattle.sb_rules.proofs.Unbrought.{found_one}
+use Rattle.sb_rules.specs.Defining.{IsBroughtAs}
+use Rattle.sb_rules.proofs.Staying.{judged_by}
+use Rattle.sb_rules.proofs.AtomLines.{by_no_parts, by_unbrought, by_brought, has_number, number_below}
 use Rattle.sb_rules.proofs.kept.Kept.define_atom.Goals as goal
 
-pub returns-in_default-clause-judges : goal.returns-in_default-clause-judges
-returns-in_default-clause-judges c = λ asked d others.
-    (c.not_brought.ensures asked others d c.in_default.ensures, refl)
-
-pub returns-in_default-regex-clause-judges : goal.returns-in_default-regex-clause-judges
-returns-in_default-regex-clause-judges c = λ asked d others. (
-  subst (λ a. follows asked (kept_in c.args.self.now others) (atom_line a) ≡ Err unknown_id)
-      (sym c.in-Some.ensures)
-      (by_no_regex asked c.args.self.now others c.in-Some.serial c.in-Some.number (sym c.in_default-regex.ensures)),
+pub returns-then-not-has_parts-clause-judges : goal.returns-then-not-has_parts-clause-judges
+returns-then-not-has_parts-clause-judges c = λ asked d others. (
+  by_no_parts c.args.declared asked c.args.self.now others (atom_in c.args.atom.now) d
+      (sym c.has_parts.ensures ∙ c.if-not-has_parts.true),
   refl,
 )
 
-pub add_membership-requires-clause-regex : goal.add_membership-requires-clause-regex
-add_membership-requires-clause-regex c =
-    found_one (length c.args.self.now.arena) c.args.self.now.regexes.order c.in-Some.number c.in-Some-regex.regex
-    c.requires.regexes (sym c.in-Some-regex.ensures)
+pub add_atom-requires-clause-regex : goal.add_atom-requires-clause-regex
+add_atom-requires-clause-regex c =
+    number_below (length c.args.self.now.arena) c.args.self.now.regexes.order (atom_in c.args.atom.now)
+    (numbered.atom_in c.in-Some.atom) c.requires.regexes
+    (subst (IsBroughtAs c.args.self.now.regexes.order (atom_in c.args.atom.now)) c.in-Some.is c.in_ok-atom.ensures).1
 
-pub returns-clause-judges : goal.returns-clause-judges
-returns-clause-judges c = λ asked d others.
-    let low : nat_lt c.in-Some.serial c.args.declared ≡ true = grind (arith, nat_tests, c.if-serial-declared.false) in
-    subst (λ a. Meets c.add_membership.result (follows asked (kept_in c.args.self.now others) (atom_line a))
-    c.args.self.now c.add_membership.new.self others) (sym c.in-Some.ensures)
-    (c.add_membership.ensures.judges asked c.in-Some.number c.args.declared d low (sym c.in-Some-regex.ensures) others)
+pub returns-in-None-clause-judges : goal.returns-in-None-clause-judges
+returns-in-None-clause-judges c = λ asked d others.
+    let k = c.args.self.now in
+    let a = atom_in c.args.atom.now in
+    let there = sym c.has_parts.ensures ∙ c.if-not-has_parts.false in (
+      by_unbrought c.args.declared asked k others a d
+          (subst (IsBroughtAs k.regexes.order a) c.in-None.is c.in_ok-atom.ensures
+          (has_number c.args.declared (length k.atoms) k.regexes.order a there)) there,
+      refl,
+    )
+
+pub returns-in-Some-clause-judges : goal.returns-in-Some-clause-judges
+returns-in-Some-clause-judges c = λ asked d others.
+    let k = c.args.self.now in
+    let a = atom_in c.args.atom.now in
+    let b = subst (IsBroughtAs k.regexes.order a) c.in-Some.is c.in_ok-atom.ensures in
+    judged_by c.add_atom.result (follows asked (kept_in k others) (atom_line a))
+    (defined (kept_in k others) (over k.arena (numbered.atom_in c.in-Some.atom))) k k c.add_atom.new.self others
+    (by_brought c.args.declared asked k others a (numbered.atom_in c.in-Some.atom) d b.0
+    (sym c.has_parts.ensures ∙ c.if-not-has_parts.false) b.1) refl (c.add_atom.ensures.defines others)

@@ -3,7 +3,7 @@ use Rattle.std.specs.List.{list_all}
 use Rattle.sb_proof.specs.Lines.{atom_in, piece_in, variable_in, summand_in}
 use Rattle.sb_script.specs.Sums.{Summand}
 use Rattle.sb_rules.specs.Defining.{is_piece_below, is_variable_below, have_parts}
-use Rattle.sb_rules.proofs.Unbrought.{all_mapped}
+use Rattle.sb_rules.proofs.AtomLines.{all_mapped}
 use Rattle.sb_rules.proofs.kept.Kept.has_parts.Goals as goal
 
 pub returns-then-is_some : goal.returns-then-is_some

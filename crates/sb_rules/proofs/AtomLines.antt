@@ -1,0 +1,218 @@
+-- The line of an atom.
+use Rattle.std.proofs.Common.{◌≡◌, ℕ, ◌<◌, Bool, true, false, ◌&&◌, nat_lt, if◌then◌else◌, List, [], ◌∷◌, ◌++◌, map, length, Option, Some, None, is_some, option_map, slice_get, Result, Ok, Err, refl, ap, ap₂, sym, subst, ◌∙◌}
+use Rattle.std.specs.List.{All, list_all, list_any}
+use Rattle.std.proofs.lemmas.Bool.{and_parts, false≢true}
+use Rattle.std.proofs.lemmas.List.{length-map}
+use Rattle.std.proofs.lemmas.Option.{slice_get-map, get_or_from_slice_get, slice_get_within}
+use Rattle.sb_lang.specs.Regex.{Regex}
+use Rattle.sb_regex.specs.Numbered.{regex_at, regexes_at}
+use Rattle.sb_meaning.specs.Terms.{Sort}
+use Rattle.sb_script.specs.Pieces.{Piece, constant_piece, word_piece}
+use Rattle.sb_script.specs.Sums.{Variable, Summand, int_constant, length_of}
+use Rattle.sb_atoms.specs.Numbered.{over, atoms_in, HasRegexBelow}
+use Rattle.sb_rulebook.specs.Refusals.{Refusal, unknown_id, repeated, rule_broken, not_normal}
+use Rattle.sb_rulebook.specs.Atoms.{Atom, AtomOver, bool_atom, in_atom, le_atom, sum_atom, and_atom, iff_atom, is_same_atom, is_well_formed}
+use Rattle.sb_rulebook.specs.AtomRules.{with_regex, has_its_parts, defined, follows_atom, is_known, is_declared_piece, is_declared_variable}
+use Rattle.sb_rulebook.specs.Brought.{is_brought_atom}
+use Rattle.sb_rulebook.specs.Kept.{AllKept, Asked}
+use Rattle.sb_rulebook.specs.Lines.{atom_line}
+use Rattle.sb_rulebook.specs.Follows.{follows, not_brought}
+use Rattle.sb_rules.specs.declared.kept.Kept.{Kept}
+use Rattle.sb_rules.specs.Kept.{kept_in, AreDeclared}
+use Rattle.sb_rules.specs.Defining.{is_piece_below, is_variable_below, have_parts, numbered}
+
+-- Tests of all in a list.
+
+pub all_mapped : {A B : Type 0} (p : B → Bool) (f : A → B) (xs : List A)
+    → list_all p (map f xs) ≡ list_all (λ x. p (f x)) xs
+all_mapped p f [] = refl
+all_mapped p f (x ∷ xs) = ap (λ b. p (f x) && b) (all_mapped p f xs)
+
+pub all_same : {A : Type 0} (p q : A → Bool) (xs : List A) → ((x : A) → p x ≡ q x) → list_all p xs ≡ list_all q xs
+all_same p q [] h = refl
+all_same p q (x ∷ xs) h = ap₂ (λ a b. a && b) (h x) (all_same p q xs h)
+
+and_true : (b : Bool) → (b && true) ≡ b
+and_true true = refl
+and_true false = refl
+
+-- The parts of an atom are there by the rules where they are by numbers.
+
+piece_same : (n : ℕ) (sorts : List Sort) → AreDeclared n sorts → (p : Piece)
+    → is_declared_piece sorts p ≡ is_piece_below n p
+piece_same n sorts d (constant_piece serial) = d.texts serial
+piece_same n sorts d (word_piece w) = refl
+
+variable_same : (n : ℕ) (sorts : List Sort) → AreDeclared n sorts → (x : Variable)
+    → is_declared_variable sorts x ≡ is_variable_below n x
+variable_same n sorts d (int_constant serial) = d.integers serial
+variable_same n sorts d (length_of serial) = d.texts serial
+
+is_found : (rs : List Regex) (ps : List Piece) (o : Option ℕ)
+    → is_some (option_map {T = Regex} (in_atom ps) (option_map (regex_at rs) o)) ≡ is_some o
+is_found rs ps None = refl
+is_found rs ps (Some id) = refl
+
+parts_same : (n : ℕ) (asked : Asked) (k : Kept) (others : AllKept) (a : AtomOver ℕ) → AreDeclared n asked.sorts
+    → (is_some (with_regex (kept_in k others).regexes a)
+    && has_its_parts asked.sorts (kept_in k others).atoms a)
+    ≡ have_parts n k.regexes.order (length k.atoms) a
+parts_same n asked k others (bool_atom serial) d = d.booleans serial
+parts_same n asked k others (in_atom ps r) d =
+    ap₂ (λ a b. a && b)
+    (ap (λ o. is_some (option_map {T = Regex} (in_atom ps) o)) (slice_get-map (regex_at k.arena) k.regexes.order r)
+    ∙ is_found k.arena ps (slice_get k.regexes.order r))
+    (all_same (is_declared_piece asked.sorts) (is_piece_below n) ps (piece_same n asked.sorts d))
+parts_same n asked k others (le_atom x m) d = variable_same n asked.sorts d x
+parts_same n asked k others (sum_atom m ss) d =
+    all_same (λ (s : Summand). is_declared_variable asked.sorts s.1) (λ s. is_variable_below n s.1) ss
+    (λ s. variable_same n asked.sorts d s.1)
+parts_same n asked k others (and_atom ls) d =
+    all_same (is_known (atoms_in k.arena k.atoms)) (λ l. nat_lt l.atom (length k.atoms)) ls
+    (λ l. ap (nat_lt l.atom) (length-map k.atoms (over k.arena)))
+parts_same n asked k others (iff_atom l m) d =
+    ap₂ (λ a b. a && b) (ap (nat_lt l.atom) (length-map k.atoms (over k.arena)))
+    (ap (λ j. nat_lt m.atom j && true) (length-map k.atoms (over k.arena)) ∙ and_true (nat_lt m.atom (length k.atoms)))
+
+-- An atom is refused whose parts are not there.
+
+lacks : (o : Option Atom) (b : Bool) (r : Atom → Result AllKept Refusal) → (is_some o && b) ≡ false
+    → (elim o as (λ _. Result AllKept Refusal)
+    [ None ↦ Err unknown_id | Some atom ↦ if b then r atom else Err unknown_id ]) ≡ Err unknown_id
+lacks None b r h = refl
+lacks (Some a) true r h = absurd (false≢true (sym h))
+lacks (Some a) false r h = refl
+
+pub by_no_parts : (n : ℕ) (asked : Asked) (k : Kept) (others : AllKept) (a : AtomOver ℕ) → AreDeclared n asked.sorts
+    → have_parts n k.regexes.order (length k.atoms) a ≡ false
+    → follows asked (kept_in k others) (atom_line a) ≡ Err unknown_id
+by_no_parts n asked k others a d h =
+    step (is_brought_atom a) (lacks (with_regex (kept_in k others).regexes a)
+    (has_its_parts asked.sorts (kept_in k others).atoms a) (defined (kept_in k others))
+    (parts_same n asked k others a d ∙ h))
+  where
+    step : (b : Bool) → follows_atom asked (kept_in k others) a ≡ Err unknown_id
+        → (if b then follows_atom asked (kept_in k others) a
+        else not_brought (follows_atom asked (kept_in k others) a)) ≡ Err unknown_id
+    step true e = e
+    step false e = ap not_brought e
+
+-- One that is not brought is refused by rule: to define an atom never names what is not there.
+
+abbrev made : AllKept → Atom → Bool → Bool → Result AllKept Refusal
+made kept a b c =
+    if b then Err repeated else if c then Ok (record kept { atoms = kept.atoms ++ a ∷ [] }) else Err not_normal
+
+never_made : (kept : AllKept) (a : Atom) (b c : Bool) → made kept a b c ≡ Err unknown_id → ⊥
+never_made kept a true c e = Prim.cc (e)
+never_made kept a false true e = Prim.cc (e)
+never_made kept a false false e = Prim.cc (e)
+
+never : (kept : AllKept) (a : Atom) → defined kept a ≡ Err unknown_id → ⊥
+never kept a e = never_made kept a (list_any (is_same_atom a) kept.atoms) (is_well_formed a) e
+
+not_brought_yet : (o : Option Atom) (b : Bool) (r : Atom → Result AllKept Refusal)
+    → ((a : Atom) → r a ≡ Err unknown_id → ⊥) → (is_some o && b) ≡ true
+    → not_brought (elim o as (λ _. Result AllKept Refusal)
+    [ None ↦ Err unknown_id | Some atom ↦ if b then r atom else Err unknown_id ]) ≡ Err rule_broken
+not_brought_yet None b r h there = absurd (false≢true there)
+not_brought_yet (Some a) false r h there = absurd (false≢true there)
+not_brought_yet (Some a) true r h there = other (r a) (h a)
+  where
+    other : (x : Result AllKept Refusal) → (x ≡ Err unknown_id → ⊥) → not_brought x ≡ Err rule_broken
+    other (Ok after) h = refl
+    other (Err unknown_id) h = absurd (h refl)
+    other (Err _) h = refl
+
+pub by_unbrought : (n : ℕ) (asked : Asked) (k : Kept) (others : AllKept) (a : AtomOver ℕ) → AreDeclared n asked.sorts
+    → is_brought_atom a ≡ false → have_parts n k.regexes.order (length k.atoms) a ≡ true
+    → follows asked (kept_in k others) (atom_line a) ≡ Err rule_broken
+by_unbrought n asked k others a d is there =
+    ap (λ (b : Bool). if b then follows_atom asked (kept_in k others) a
+    else not_brought (follows_atom asked (kept_in k others) a)) is
+    ∙ not_brought_yet (with_regex (kept_in k others).regexes a)
+    (has_its_parts asked.sorts (kept_in k others).atoms a) (defined (kept_in k others)) (never (kept_in k others))
+    (parts_same n asked k others a d ∙ there)
+
+-- One that is brought is judged by what is defined.
+
+named : (rs : List Regex) (order : List ℕ) (a : AtomOver ℕ)
+    → with_regex (regexes_at rs order) a ≡ option_map (over rs) (numbered order a)
+named rs order (bool_atom serial) = refl
+named rs order (in_atom ps r) =
+    ap (option_map (in_atom ps)) (slice_get-map (regex_at rs) order r) ∙ fused (slice_get order r)
+  where
+    fused : (o : Option ℕ)
+        → option_map (in_atom ps) (option_map (regex_at rs) o) ≡ option_map (over rs) (option_map (in_atom ps) o)
+    fused None = refl
+    fused (Some i) = refl
+named rs order (le_atom x k) = refl
+named rs order (sum_atom k ss) = refl
+named rs order (and_atom ls) = refl
+named rs order (iff_atom l m) = refl
+
+pub by_brought : (n : ℕ) (asked : Asked) (k : Kept) (others : AllKept) (a b : AtomOver ℕ) → AreDeclared n asked.sorts
+    → is_brought_atom a ≡ true → have_parts n k.regexes.order (length k.atoms) a ≡ true
+    → numbered k.regexes.order a ≡ Some b
+    → follows asked (kept_in k others) (atom_line a) ≡ defined (kept_in k others) (over k.arena b)
+by_brought n asked k others a b d is there found =
+    let parts = and_parts (is_some (with_regex (kept_in k others).regexes a))
+    (has_its_parts asked.sorts (kept_in k others).atoms a) (parts_same n asked k others a d ∙ there) in
+    ap (λ (t : Bool). if t then follows_atom asked (kept_in k others) a
+    else not_brought (follows_atom asked (kept_in k others) a)) is
+    ∙ ap (λ o. elim o as (λ _. Result AllKept Refusal) [
+      | None ↦ Err unknown_id
+      | Some atom ↦ if has_its_parts asked.sorts (kept_in k others).atoms a
+          then defined (kept_in k others) atom else Err unknown_id
+    ]) (named k.arena k.regexes.order a ∙ ap (option_map (over k.arena)) found)
+    ∙ ap (λ t. if t then defined (kept_in k others) (over k.arena b) else Err unknown_id) parts.1
+
+-- the membership of one constant, by what was looked up
+pub no_number : (order : List ℕ) (ps : List Piece) (r : ℕ) → slice_get order r ≡ None
+    → is_some (numbered order (in_atom ps r)) ≡ true → is_brought_atom (in_atom ps r) ≡ false
+no_number order ps r h e = absurd (false≢true (sym (ap (λ o. is_some (option_map {T = ℕ} (in_atom ps) o)) h) ∙ e))
+
+pub one_constant : (order : List ℕ) (ps : List Piece) (serial r i : ℕ) → ps ≡ constant_piece serial ∷ []
+    → slice_get order r ≡ Some i
+    → (is_brought_atom (in_atom ps r) ≡ true)
+    × (numbered order (in_atom ps r) ≡ Some (in_atom (constant_piece serial ∷ []) i))
+one_constant order ps serial r i e h = (
+  ap (λ qs. is_brought_atom (in_atom qs r)) e,
+  ap (option_map (in_atom ps)) h ∙ ap (λ qs. Some (in_atom qs i)) e,
+)
+
+-- where the parts are there, the regex is
+pub has_number : (n count : ℕ) (order : List ℕ) (a : AtomOver ℕ) → have_parts n order count a ≡ true
+    → is_some (numbered order a) ≡ true
+has_number n count order (bool_atom serial) h = refl
+has_number n count order (in_atom ps r) h =
+    found (slice_get order r) (and_parts (is_some (slice_get order r)) (list_all (is_piece_below n) ps) h).0
+  where
+    found : (o : Option ℕ) → is_some o ≡ true → is_some (option_map {T = ℕ} (in_atom ps) o) ≡ true
+    found None e = e
+    found (Some i) e = refl
+has_number n count order (le_atom x k) h = refl
+has_number n count order (sum_atom k ss) h = refl
+has_number n count order (and_atom ls) h = refl
+has_number n count order (iff_atom l m) h = refl
+
+-- a number of the order is one of the arena
+pub found_one : (n : ℕ) (order : List ℕ) (m i : ℕ) → All (λ j. j < n) order → slice_get order m ≡ Some i → i < n
+found_one n order m i all h =
+    subst (λ j. j < n) (get_or_from_slice_get order m i 0 h) (all m 0 (slice_get_within order m i h))
+
+some_is : {X : Type 0} (x y : X) → Some x ≡ Some y → x ≡ y
+some_is x y e = cc
+
+pub number_below : (n : ℕ) (order : List ℕ) (a b : AtomOver ℕ) → All (λ j. j < n) order → numbered order a ≡ Some b
+    → HasRegexBelow n b
+number_below n order (bool_atom serial) b all h = subst (HasRegexBelow n) (some_is _ b h) tt
+number_below n order (in_atom ps r) b all h = step (slice_get order r) refl h
+  where
+    step : (o : Option ℕ) → slice_get order r ≡ o → option_map (in_atom ps) o ≡ Some b → HasRegexBelow n b
+    step None e h = absurd (Prim.cc (h))
+    step (Some i) e h = subst (HasRegexBelow n) (some_is _ b h) (found_one n order r i all e)
+number_below n order (le_atom x k) b all h = subst (HasRegexBelow n) (some_is _ b h) tt
+number_below n order (sum_atom k ss) b all h = subst (HasRegexBelow n) (some_is _ b h) tt
+number_below n order (and_atom ls) b all h = subst (HasRegexBelow n) (some_is _ b h) tt
+number_below n order (iff_atom l m) b all h = subst (HasRegexBelow n) (some_is _ b h) tt

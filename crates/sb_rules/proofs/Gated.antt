@@ -1,0 +1,123 @@
+-- The clauses of gates.
+use Rattle.std.proofs.Common.{◌≡◌, ℕ, ◌+◌, Bool, true, false, not, ◌&&◌, ◌||◌, nat_lt, if◌then◌else◌, List, [], ◌∷◌, length, Some, option_map, Ok, Err, refl, ap, ap₂, sym, ◌∙◌}
+use Rattle.std.specs.List.{list_all, list_any}
+use Rattle.std.proofs.lemmas.List.{length-map}
+use Rattle.std.proofs.lemmas.Option.{slice_get-map}
+use Rattle.sb_lang.specs.Regex.{Regex}
+use Rattle.sb_lit.specs.declared.clause.Lit.{Lit}
+use Rattle.sb_lit.specs.Clauses.{is_among, are_among, are_ascending}
+use Rattle.sb_lit.specs.Hints.{is_repeated}
+use Rattle.sb_lit.proofs.CallerLemmas.{is_same_literal-beq}
+use Rattle.sb_hints.specs.Sets.{are_equal}
+use Rattle.sb_atoms.specs.Numbered.{Names, over, atoms_in}
+use Rattle.sb_rulebook.specs.Atoms.{AtomOver}
+use Rattle.sb_rulebook.specs.Gates.{atom_of, is_set_of, is_gate_of, is_gate}
+use Rattle.sb_rulebook.specs.Brought.{is_brought_rule}
+use Rattle.sb_rulebook.specs.ClauseRules.{holds_by, is_counted, follows_rule}
+use Rattle.sb_rulebook.specs.Kept.{AllKept, Asked, counting, most_counted, with_clause}
+use Rattle.sb_rulebook.specs.Lines.{Rule, rule_line, gate}
+use Rattle.sb_rulebook.specs.Refusals.{unknown_id, repeated, rule_broken, wrong_verdict}
+use Rattle.sb_rulebook.specs.Follows.{follows, not_brought}
+use Rattle.sb_rules.specs.declared.kept.Kept.{Kept}
+use Rattle.sb_rules.specs.Kept.{kept_in}
+use Rattle.sb_rules.specs.Gating.{HasLiterals}
+use Rattle.sb_rules.proofs.AtomLines.{all_same}
+
+-- Sets of literals.
+
+any_same : {A : Type 0} (p q : A → Bool) (xs : List A) → ((x : A) → p x ≡ q x) → list_any p xs ≡ list_any q xs
+any_same p q [] h = refl
+any_same p q (x ∷ xs) h = ap₂ (λ a b. a || b) (h x) (any_same p q xs h)
+
+-- each is among the few, as `==` finds out
+among_few : (ls few : List Lit) → list_all (λ l. list_any (λ m. are_equal m l) few) ls ≡ are_among ls few
+among_few ls few =
+    all_same (λ l. list_any (λ m. are_equal m l) few) (is_among few) ls (λ l.
+    any_same (λ m. are_equal m l) _ few (λ m. is_same_literal-beq m l))
+
+pub are_these : (clause ls : List Lit) (has : Lit → Bool) → HasLiterals clause has
+    → list_all has ls ≡ are_among ls clause
+are_these clause ls has set = all_same has (is_among clause) ls set
+
+pub is_few : (clause few : List Lit) (has : Lit → Bool) → HasLiterals clause has
+    → (list_all (λ l. list_any (λ m. are_equal m l) few) clause && list_all has few) ≡ is_set_of clause few
+is_few clause few has set = ap₂ ◌&&◌ (among_few clause few) (are_these clause few has set)
+
+both_ways : (a b : Bool) → (a && b) ≡ (b && a)
+both_ways true true = refl
+both_ways true false = refl
+both_ways false true = refl
+both_ways false false = refl
+
+-- the other way round, each of the two by a set
+pub is_many : (clause ls : List Lit) (has its : Lit → Bool) → HasLiterals clause has → HasLiterals ls its
+    → (list_all has ls && list_all its clause) ≡ is_set_of clause ls
+is_many clause ls has its set other =
+    both_ways (list_all has ls) (list_all its clause)
+    ∙ ap₂ ◌&&◌ (are_these ls clause its other) (are_these clause ls has set)
+
+pub not_many : (clause ls : List Lit) (has : Lit → Bool) → HasLiterals clause has → list_all has ls ≡ false
+    → false ≡ is_set_of clause ls
+not_many clause ls has set h =
+    sym (both_ways (are_among clause ls) (are_among ls clause)
+    ∙ ap (λ b. b && are_among clause ls) (sym (are_these clause ls has set) ∙ h))
+
+pub many : (clause ls : List Lit) (has its : Lit → Bool) (b : Bool) → HasLiterals clause has → HasLiterals ls its
+    → list_all has ls ≡ true → b ≡ list_all its clause → b ≡ is_set_of clause ls
+many clause ls has its b set other h is =
+    is ∙ (ap (λ t. t && list_all its clause) (sym h) ∙ is_many clause ls has its set other)
+
+-- the atom of a literal, as it was found in the table
+pub gate_at : (rs : List Regex) (atoms : List (AtomOver ℕ)) (clause : List Lit) (l : Lit) (a : AtomOver ℕ)
+    → Names atoms l.atom a
+    → is_gate_of (atoms_in rs atoms) clause l (atom_of (atoms_in rs atoms) l)
+    ≡ is_gate_of (atoms_in rs atoms) clause l (Some (over rs a))
+gate_at rs atoms clause l a h =
+    ap (is_gate_of (atoms_in rs atoms) clause l) (slice_get-map (over rs) atoms l.atom ∙ ap (option_map (over rs)) h)
+
+-- what is made of a line by rule gate, of known atoms that ascend
+pub by_rule_gate : (asked : Asked) (k : Kept) (others : AllKept) (ls : List Lit) (b : Bool)
+    → list_all (λ m. nat_lt m.atom (length k.atoms)) ls ≡ true → are_ascending ls ≡ true
+    → b ≡ is_gate (atoms_in k.arena k.atoms) ls
+    → follows asked (kept_in k others) (rule_line gate ls)
+    ≡ (if not b then Err rule_broken else Ok (with_clause (kept_in k others) ls 0 []))
+by_rule_gate asked k others ls b known ascend is =
+    ap (λ t. if not t then Err unknown_id
+    else if not (are_ascending ls && is_gate (atoms_in k.arena k.atoms) ls) then Err rule_broken
+    else Ok (with_clause (kept_in k others) ls 0 []))
+    (ap (λ n. list_all (λ m. nat_lt m.atom n) ls) (length-map k.atoms (over k.arena)) ∙ known)
+    ∙ (ap (λ t. if not (t && is_gate (atoms_in k.arena k.atoms) ls) then Err rule_broken
+    else Ok (with_clause (kept_in k others) ls 0 [])) ascend
+    ∙ ap (λ t. if not t then Err rule_broken else Ok (with_clause (kept_in k others) ls 0 [])) (sym is))
+
+-- A clause by a rule that is not brought is refused by rule.
+
+no_other : (asked : Asked) (kept after : AllKept) (a b c : Bool)
+    → not_brought (if a then Err repeated else if b then Err rule_broken
+    else if c then counting asked after else Ok after) ≡ Err rule_broken
+no_other asked kept after true b c = refl
+no_other asked kept after false true c = refl
+no_other asked kept after false false false = refl
+no_other asked kept after false false true = counted (nat_lt after.counted (most_counted asked))
+  where
+    counted : (t : Bool)
+        → not_brought (if t then Ok (record after { counted = after.counted + 1 }) else Err wrong_verdict)
+        ≡ Err rule_broken
+    counted true = refl
+    counted false = refl
+
+pub by_other_rule : (asked : Asked) (k : Kept) (others : AllKept) (ls : List Lit) (rule : Rule)
+    → list_all (λ m. nat_lt m.atom (length k.atoms)) ls ≡ true → is_brought_rule rule ls ≡ false
+    → follows asked (kept_in k others) (rule_line rule ls) ≡ Err rule_broken
+by_other_rule asked k others ls rule known is =
+    ap (λ (t : Bool). if t then follows_rule asked (kept_in k others) rule ls
+    else not_brought (follows_rule asked (kept_in k others) rule ls)) is
+    ∙ (ap (λ t. not_brought (if not t then Err unknown_id
+    else if is_counted rule && is_repeated k.clauses ls then Err repeated
+    else if not (are_ascending ls && holds_by (kept_in k others) rule ls) then Err rule_broken
+    else if is_counted rule then counting asked (with_clause (kept_in k others) ls 0 [])
+    else Ok (with_clause (kept_in k others) ls 0 [])))
+    (ap (λ n. list_all (λ m. nat_lt m.atom n) ls) (length-map k.atoms (over k.arena)) ∙ known)
+    ∙ no_other asked (kept_in k others) (with_clause (kept_in k others) ls 0 [])
+    (is_counted rule && is_repeated k.clauses ls) (not (are_ascending ls && holds_by (kept_in k others) rule ls))
+    (is_counted rule))

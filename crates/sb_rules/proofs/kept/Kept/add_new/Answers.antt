@@ -1,0 +1,47 @@
+use Rattle.std.proofs.Common.{[], ◌∷◌, ◌++◌, length, if◌then◌else◌, Ok, Err, refl, ap, sym, ◌∙◌}
+use Rattle.sb_atoms.specs.Numbered as numbered
+use Rattle.sb_atoms.specs.Numbered.{atoms_in}
+use Rattle.sb_rulebook.specs.Refusals.{not_normal}
+use Rattle.sb_rules.specs.Kept.{kept_in}
+use Rattle.sb_rules.proofs.Atomic.{all_brought, added_new, whole_with, kept_by_form}
+use Rattle.sb_rules.proofs.kept.Kept.add_new.Goals as goal
+
+pub returns-then-not-is_well_formed-clause-defines : goal.returns-then-not-is_well_formed-clause-defines
+returns-then-not-is_well_formed-clause-defines c = λ others.
+    let k = c.args.self.now in
+    let a = numbered.atom_in c.args.atom in (
+      kept_by_form c.order_tells_apart.ensures k others a c.is_well_formed.result
+          c.normal_regexes_each_once.ensures.distinct c.requires.regex c.requires.whole.atoms c.requires.is_new
+          c.is_well_formed.ensures
+          ∙ ap (λ b. if b then Ok (record (kept_in k others) { atoms = atoms_in k.arena (k.atoms ++ a ∷ []) })
+          else Err not_normal) c.if-not-is_well_formed.true,
+      refl,
+    )
+
+pub returns-in_err-add-clause-whole : goal.returns-in_err-add-clause-whole
+returns-in_err-add-clause-whole c =
+    let w = whole_with (length c.args.self.now.arena) c.args.self.now.atoms c.add.new.self
+    (numbered.atom_in c.args.atom) c.add.ensures.grows c.requires.whole.atoms c.requires.whole.brought
+    c.requires.regex (all_brought c.args.atom) in
+    record { regexes = c.requires.whole.regexes; plain = c.requires.whole.plain; atoms = w.0; brought = w.1 }
+
+pub returns-clause-whole : goal.returns-clause-whole
+returns-clause-whole c =
+    let w = whole_with (length c.args.self.now.arena) c.args.self.now.atoms c.add.new.self
+    (numbered.atom_in c.args.atom) c.add.ensures.grows c.requires.whole.atoms c.requires.whole.brought
+    c.requires.regex (all_brought c.args.atom) in
+    record { regexes = c.requires.whole.regexes; plain = c.requires.whole.plain; atoms = w.0; brought = w.1 }
+
+pub returns-clause-defines : goal.returns-clause-defines
+returns-clause-defines c = λ others.
+    let k = c.args.self.now in
+    let a = numbered.atom_in c.args.atom in (
+      others.rests,
+      kept_by_form c.order_tells_apart.ensures k others a c.is_well_formed.result
+          c.normal_regexes_each_once.ensures.distinct c.requires.regex c.requires.whole.atoms c.requires.is_new
+          c.is_well_formed.ensures
+          ∙ (ap (λ b. if b then Ok (record (kept_in k others) { atoms = atoms_in k.arena (k.atoms ++ a ∷ []) })
+          else Err not_normal) c.if-not-is_well_formed.false
+          ∙ ap (λ xs. Ok (record (kept_in k others) { atoms = atoms_in k.arena xs }))
+          (sym (added_new k.atoms c.add.new.self a _ c.add.ensures.grows c.in_ok-add.ensures.ok c.requires.is_new))),
+    )

@@ -1,0 +1,192 @@
+//! Clauses of gates.
+
+ghost use Rattle.std.specs.Prelude.{◌≡◌, ◌∷◌, ◌||◌, [], not, map, nat_lt, true, length, if◌then◌else◌, IfOk};
+ghost use Rattle.std.specs.List.{list_all, list_any};
+ghost use Rattle.std.specs.HashSet.{contains};
+ghost use Rattle.sb_lit.specs.declared.clause.Lit.{Lit};
+ghost use Rattle.sb_lit.specs.Clauses.{negation, is_among, are_among};
+ghost use Rattle.sb_hints.specs.Sets.{are_equal};
+ghost use Rattle.sb_rulebook.specs.Gates.{atom_of, has_both_signs, is_set_of, is_gate_of, is_gate};
+ghost use Rattle.sb_rulebook.specs.Kept.{Asked};
+ghost use Rattle.sb_rulebook.specs.Lines.{rule_line, gate};
+ghost use Rattle.sb_atoms.specs.Numbered.{atoms_in};
+ghost use Rattle.sb_rules.specs.Kept.{IsWhole, KeepsTerms};
+ghost use Rattle.sb_rules.specs.Judged.{Judges};
+ghost use Rattle.sb_rules.specs.Gating.{HasLiterals};
+
+use crate::kept::Kept;
+use sb_atoms::{Atom, AtomId};
+use sb_hints::{are_ascending, has_all, set_of};
+use sb_lit::Lit;
+use sb_rules_regex::{Fault, Refusal};
+use std::alloc::{AllocError, Global};
+use std::collections::HashSet;
+
+impl Kept {
+    /// Keeps a clause of known atoms, where it is one of a gate.
+    pub(crate) fn add_gate(&mut self, literals: &[Lit]) -> Result<(), Fault>
+        requires whole { IsWhole self.old }
+        requires known { list_all (λ l. nat_lt l.atom (length self.old.atoms)) literals.now ≡ true }
+        ensures judges { (asked : Asked) → Judges result asked self.old self.new (rule_line gate literals.now) }
+        ensures whole { IsWhole self.new }
+        ensures terms { KeepsTerms self.old self.new }
+    {
+        if !are_ascending(literals) {
+            return Err(Fault::Refused(Refusal::RuleBroken));
+        }
+        if !self.is_gate(literals)? {
+            return Err(Fault::Refused(Refusal::RuleBroken));
+        }
+        self.clauses.add(literals, 0)?;
+        Ok(())
+    }
+
+    /// Whether a clause has a literal and its negation, or is one of a gate of one of its atoms. Where its literals
+    /// ascend, linear in them and in those of these gates.
+    fn is_gate(&self, literals: &[Lit]) -> Result<bool, AllocError>
+        requires known { list_all (λ l. nat_lt l.atom (length self.now.atoms)) literals.now ≡ true }
+        ensures { IfOk result (λ b. b ≡ is_gate (atoms_in self.now.arena self.now.atoms) literals.now) }
+    {
+        let all = set_of(self.alloc, literals)?;
+        if has_both_signs(&all, literals) {
+            return Ok(true);
+        }
+        for literal in literals {
+            if self.is_gate_of(literals, &all, *literal)? {
+                return Ok(true);
+            }
+        }
+        Ok(false)
+    }
+
+    /// Whether a clause is one of the gate of a literal's atom.
+    fn is_gate_of(
+        &self,
+        clause: &[Lit],
+        all: &HashSet<Lit>,
+        literal: Lit,
+    ) -> Result<bool, AllocError>
+        requires known { nat_lt literal.atom (length self.now.atoms) ≡ true }
+        requires all { HasLiterals clause.now (contains are_equal all.now) }
+        ensures { IfOk result (λ b. b ≡ is_gate_of (atoms_in self.now.arena self.now.atoms) clause.now literal
+            (atom_of (atoms_in self.now.arena self.now.atoms) literal)) }
+    {
+        match self.atoms.describe(AtomId::of(literal)) {
+            Atom::And(conjuncts) => {
+                is_of_conjunction(self.alloc, clause, all, literal, conjuncts)
+            }
+            Atom::Iff(one, other) => Ok(is_of_equivalence(clause, all, literal, *one, *other)),
+            Atom::Bool(_) | Atom::In(..) => Ok(false),
+        }
+    }
+}
+
+/// Whether the clause has a literal and its negation.
+fn has_both_signs(all: &HashSet<Lit>, clause: &[Lit]) -> bool
+    requires { HasLiterals clause.now (contains are_equal all.now) }
+    ensures { result ≡ has_both_signs clause.now }
+{
+    for literal in clause {
+        if all.contains(&literal.negated()) {
+            return true;
+        }
+    }
+    false
+}
+
+/// Whether the clause is one of the gate of a conjunction, whose literal this is.
+fn is_of_conjunction(
+    alloc: Global,
+    clause: &[Lit],
+    all: &HashSet<Lit>,
+    literal: Lit,
+    conjuncts: &[Lit],
+) -> Result<bool, AllocError>
+    requires { HasLiterals clause.now (contains are_equal all.now) }
+    ensures { IfOk result (λ b. b ≡ (if literal.positive
+        then is_set_of clause.now (literal ∷ map negation conjuncts.now)
+        else list_any (λ m. is_set_of clause.now (literal ∷ m ∷ [])) conjuncts.now)) }
+{
+    if literal.positive {
+        has_each_denied(alloc, clause, all, literal, conjuncts)
+    } else {
+        Ok(has_one(clause, all, literal, conjuncts))
+    }
+}
+
+/// Whether the clause is the literal with the negations of all conjuncts.
+fn has_each_denied(
+    alloc: Global,
+    clause: &[Lit],
+    all: &HashSet<Lit>,
+    literal: Lit,
+    conjuncts: &[Lit],
+) -> Result<bool, AllocError>
+    requires { HasLiterals clause.now (contains are_equal all.now) }
+    ensures { IfOk result (λ b. b ≡ is_set_of clause.now (literal ∷ map negation conjuncts.now)) }
+{
+    let gate = with_denials(alloc, literal, conjuncts)?;
+    if !has_all(all, &gate) {
+        return Ok(false);
+    }
+    let gate = set_of(alloc, &gate)?;
+    Ok(has_all(&gate, clause))
+}
+
+/// The literal, and the negations of all conjuncts.
+fn with_denials(alloc: Global, literal: Lit, conjuncts: &[Lit]) -> Result<Vec<Lit>, AllocError>
+    ensures { IfOk result (λ gate. gate.items ≡ literal ∷ map negation conjuncts.now) }
+{
+    let mut gate = Vec::new(alloc);
+    gate.push(literal)?;
+    for conjunct in conjuncts {
+        gate.push(conjunct.negated())?;
+    }
+    Ok(gate)
+}
+
+/// Whether the clause is the literal with one of the conjuncts.
+fn has_one(clause: &[Lit], all: &HashSet<Lit>, literal: Lit, conjuncts: &[Lit]) -> bool
+    requires { HasLiterals clause.now (contains are_equal all.now) }
+    ensures { result ≡ list_any (λ m. is_set_of clause.now (literal ∷ m ∷ [])) conjuncts.now }
+{
+    for conjunct in conjuncts {
+        if is_set_of(clause, all, &[literal, *conjunct]) {
+            return true;
+        }
+    }
+    false
+}
+
+/// Whether the clause is one of the gate of an equivalence, whose literal this is.
+fn is_of_equivalence(clause: &[Lit], all: &HashSet<Lit>, literal: Lit, one: Lit, other: Lit) -> bool
+    requires { HasLiterals clause.now (contains are_equal all.now) }
+    ensures { result ≡ (if literal.positive
+        then is_set_of clause.now (literal ∷ one ∷ other ∷ [])
+        || is_set_of clause.now (literal ∷ negation one ∷ negation other ∷ [])
+        else is_set_of clause.now (literal ∷ negation one ∷ other ∷ [])
+        || is_set_of clause.now (literal ∷ one ∷ negation other ∷ [])) }
+{
+    if literal.positive {
+        is_set_of(clause, all, &[literal, one, other])
+            || is_set_of(clause, all, &[literal, one.negated(), other.negated()])
+    } else {
+        is_set_of(clause, all, &[literal, one.negated(), other])
+            || is_set_of(clause, all, &[literal, one, other.negated()])
+    }
+}
+
+/// Whether the clause has these few literals, and no others.
+fn is_set_of(clause: &[Lit], all: &HashSet<Lit>, few: &[Lit]) -> bool
+    requires { HasLiterals clause.now (contains are_equal all.now) }
+    ensures { result ≡ is_set_of clause.now few.now }
+{
+    are_among(clause, few) && has_all(all, few)
+}
+
+/// Whether each literal is one of the few.
+fn are_among(literals: &[Lit], few: &[Lit]) -> bool
+    ensures { result ≡ list_all (λ l. list_any (λ m. are_equal m l) few.now) literals.now }
+{
+    literals.iter().all(|literal| few.contains(literal))
+}
