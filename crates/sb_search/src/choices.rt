@@ -7,7 +7,7 @@ use sb_activity::{Order, Phases};
 use sb_analyze::Learned;
 use sb_clauses::Clauses;
 use sb_lit::Lit;
-use sb_trail::{Assigned, Trail};
+use sb_trail::{CompactLit, Entry, Trail};
 use std::alloc::{AllocError, Global};
 
 /// Which atom is decided next, and how: of the wanted atoms without a value the one that was met most in conflicts of
@@ -72,12 +72,12 @@ impl Choices {
     }
 
     /// The levels above this one are taken back: their atoms wait again. Takes no memory.
-    pub fn take_back(&mut self, entries: &[Assigned], level: usize) {
+    pub fn take_back(&mut self, entries: &[Entry], level: usize) {
         for entry in entries.iter().rev() {
-            if entry.level <= level {
+            if entry.level() <= level {
                 return;
             }
-            self.open(entry.literal);
+            self.open(entry.literal());
         }
     }
 
@@ -100,9 +100,9 @@ impl Choices {
     }
 
     /// The atoms of a clause were met.
-    fn meet(&mut self, literals: &[Lit]) {
+    fn meet(&mut self, literals: &[CompactLit]) {
         for literal in literals {
-            self.order.bump(literal.atom);
+            self.order.bump(literal.literal().atom);
         }
     }
 }
