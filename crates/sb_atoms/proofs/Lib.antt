@@ -1,3 +1,10 @@
 pub mod TableFacts
 pub mod Translating
 pub mod CallerLemmas
+pub mod Growth
+pub mod Ordered
+pub mod ComparedPairs
+pub mod Connected
+pub mod Structured
+pub mod Found
+pub mod Arguments

@@ -1,27 +1,15 @@
--- The literal of a term over a table.
-use Rattle.std.proofs.Common.{◌≡◌, ℕ, zero, suc, ◌+◌, Bool, true, false, ◌⊎◌, inl, inr, cond, Some, List, []}
+-- The literal of an atom over a table.
+use Rattle.std.proofs.Common.{◌≡◌, ℕ, zero, suc, ◌+◌, Bool, true, false, ◌⊎◌, inl, inr, nat_eq, cond, Some, List, []}
 use Rattle.std.proofs.Common.{◌∷◌, length, map, slice_get, refl, sym, ap, ap₂, ◌∙◌, arith}
 use Rattle.std.proofs.Common.{◌<◌, if◌then◌else◌}
 use Rattle.std.specs.List.{position_from}
 use Rattle.std.specs.Prelude.{ℤ, Option, None, option_map}
 use Rattle.std.proofs.lemmas.Bool.{false≢true}
-use Rattle.std.proofs.lemmas.List.{append-nil}
+use Rattle.std.proofs.lemmas.Bool.Decides.{nat_tests}
 use Rattle.std.proofs.lemmas.Option.{slice_get_within, slice_get-map}
 use Rattle.sb_lit.specs.declared.clause.Lit.{Lit}
 use Rattle.sb_lang.specs.Regex.{Regex}
 use Rattle.sb_lang.specs.OrderLaws.{OrderTellsApart}
-use Rattle.sb_lang.specs.Normal.{normal}
-use Rattle.sb_meaning.specs.Truth.{meaning_of}
-use Rattle.sb_meaning.specs.Terms.{text, constant}
-use Rattle.sb_script.specs.Brought.{asked, is_membership}
-use Rattle.sb_script.specs.Pieces.{constant_piece}
-use Rattle.sb_script.specs.Sizes.{is_regular}
-use Rattle.sb_rulebook.specs.Parts.{regex_meant, regex_of}
-use Rattle.sb_rulebook.specs.Translation.{translation, membership, positive}
-use Rattle.sb_rulebook.proofs.CallerLemmas.{asked_translation}
-use Rattle.sb_problem.specs.Normals.{IsRegexOf}
-use Rattle.sb_fragment.proofs.CallerLemmas.{asked_membership}
-use Rattle.sb_regex.proofs.CallerLemmas.{names_at, names_below}
 use Rattle.sb_regex.specs.Numbered.{regex_at}
 use Rattle.sb_regex.specs.Numbered as regex
 use Rattle.sb_rulebook.specs.Atoms.{Atom, AtomOver, bool_atom, in_atom, le_atom, sum_atom, and_atom, iff_atom}
@@ -29,10 +17,9 @@ use Rattle.sb_rulebook.specs.Atoms.{is_same_atom, number_of}
 use Rattle.sb_rulebook.proofs.CallerLemmas.{same_atom, atom_itself}
 use Rattle.sb_script.specs.Pieces.{Piece}
 use Rattle.sb_script.specs.Sums.{Variable, Summand}
-use Rattle.sb_meaning.specs.Terms.{Term}
 use Rattle.sb_atoms.specs.declared.atom.Atom as code
-use Rattle.sb_atoms.specs.Translated.{brought_translation, IsAtomOf}
-use Rattle.sb_atoms.proofs.TableFacts.{get_push, other_kinds, bool_part, and_part, iff_parts}
+use Rattle.sb_atoms.specs.Growing.{IsApart, IsLiteralOf, GrownByOne}
+use Rattle.sb_atoms.proofs.TableFacts.{other_kinds, bool_part, and_part, iff_parts}
 use Rattle.sb_atoms.specs.Numbered.{atom_in, Names, IsNumberIn, IsWith, Extends, AreDistinct, over, atoms_in}
 use Rattle.sb_atoms.specs.Numbered.{HasRegexBelow, HaveRegexesBelow}
 
@@ -107,103 +94,95 @@ mapped f [] k y h = absurd (nothing y k h)
 mapped f (x ∷ xs) zero y h = (x, refl, some_is (f x) y h)
 mapped f (x ∷ xs) (suc k) y h = mapped f xs k y h
 
-module _ (apart : OrderTellsApart) (rs : List Regex) (once : regex.AreDistinct rs) (atoms : List (AtomOver ℕ))
-    (below : HaveRegexesBelow (length rs) atoms) (a : AtomOver ℕ) (its : HasRegexBelow (length rs) a) where
+-- Which atoms are told apart by what they are over the regexes.
+
+pub apart_in : (rs : List Regex) (atoms : List (AtomOver ℕ)) (a : AtomOver ℕ) → regex.AreDistinct rs
+    → HaveRegexesBelow (length rs) atoms → HasRegexBelow (length rs) a → IsApart rs atoms a
+apart_in rs atoms a once below its = λ i b h e. over_one rs b a once (below i b h) its e
+
+over_bool : (rs : List Regex) (s : ℕ) (b : AtomOver ℕ) → over rs b ≡ bool_atom s → b ≡ bool_atom s
+over_bool rs s (bool_atom t) e = ap bool_atom (bool_part t s e)
+over_bool rs s (in_atom ps r) e = absurd (other_kinds _ _ refl e)
+over_bool rs s (le_atom x k) e = absurd (other_kinds _ _ refl e)
+over_bool rs s (sum_atom k ss) e = absurd (other_kinds _ _ refl e)
+over_bool rs s (and_atom ls) e = absurd (other_kinds _ _ refl e)
+over_bool rs s (iff_atom l m) e = absurd (other_kinds _ _ refl e)
+
+over_and : (rs : List Regex) (ls : List Lit) (b : AtomOver ℕ) → over rs b ≡ and_atom ls → b ≡ and_atom ls
+over_and rs ls (bool_atom t) e = absurd (other_kinds _ _ refl e)
+over_and rs ls (in_atom ps r) e = absurd (other_kinds _ _ refl e)
+over_and rs ls (le_atom x k) e = absurd (other_kinds _ _ refl e)
+over_and rs ls (sum_atom k ss) e = absurd (other_kinds _ _ refl e)
+over_and rs ls (and_atom ms) e = ap and_atom (and_part ms ls e)
+over_and rs ls (iff_atom l m) e = absurd (other_kinds _ _ refl e)
+
+over_iff : (rs : List Regex) (l m : Lit) (b : AtomOver ℕ) → over rs b ≡ iff_atom l m → b ≡ iff_atom l m
+over_iff rs l m (bool_atom t) e = absurd (other_kinds _ _ refl e)
+over_iff rs l m (in_atom ps r) e = absurd (other_kinds _ _ refl e)
+over_iff rs l m (le_atom x k) e = absurd (other_kinds _ _ refl e)
+over_iff rs l m (sum_atom k ss) e = absurd (other_kinds _ _ refl e)
+over_iff rs l m (and_atom ms) e = absurd (other_kinds _ _ refl e)
+over_iff rs l m (iff_atom k n) e = let p = iff_parts k n l m e in ap₂ iff_atom p.0 p.1
+
+pub apart_bool : (rs : List Regex) (atoms : List (AtomOver ℕ)) (s : ℕ) → IsApart rs atoms (bool_atom s)
+apart_bool rs atoms s = λ i b h e. over_bool rs s b e
+
+pub apart_and : (rs : List Regex) (atoms : List (AtomOver ℕ)) (ls : List Lit) → IsApart rs atoms (and_atom ls)
+apart_and rs atoms ls = λ i b h e. over_and rs ls b e
+
+pub apart_iff : (rs : List Regex) (atoms : List (AtomOver ℕ)) (l m : Lit) → IsApart rs atoms (iff_atom l m)
+apart_iff rs atoms l m = λ i b h e. over_iff rs l m b e
+
+module _ (order : OrderTellsApart) (rs : List Regex) (atoms : List (AtomOver ℕ)) (a : AtomOver ℕ)
+    (apart : IsApart rs atoms a) where
   same_one : (k : ℕ) (y : Atom) → slice_get (atoms_in rs atoms) k ≡ Some y → is_same_atom (over rs a) y ≡ true
       → Names atoms k a
   same_one k y h t =
       let at = mapped (over rs) atoms k y h in
-      at.1
-      ∙ ap Some (sym (over_one rs a at.0 once its (below k at.0 at.1)
-      (same_atom apart (over rs a) y t ∙ sym at.2)))
+      at.1 ∙ ap Some (apart k at.0 at.1 (at.2 ∙ sym (same_atom order (over rs a) y t)))
 
-  pub number_there : (n : ℕ) → AreDistinct atoms → Names atoms n a → number_of (atoms_in rs atoms) (over rs a) ≡ Some n
+  number_there : (n : ℕ) → AreDistinct atoms → Names atoms n a → number_of (atoms_in rs atoms) (over rs a) ≡ Some n
   number_there n distinct h =
       position_there (is_same_atom (over rs a)) (atoms_in rs atoms) 0 n (over rs a)
-      (slice_get-map (over rs) atoms n ∙ ap (option_map (over rs)) h) (atom_itself apart (over rs a))
+      (slice_get-map (over rs) atoms n ∙ ap (option_map (over rs)) h) (atom_itself order (over rs a))
       (λ k y g t. distinct k n a (same_one k y g t) h)
       ∙ ap Some (omega arith)
 
-  pub number_missing : ((i : ℕ) → Names atoms i a → ⊥) → number_of (atoms_in rs atoms) (over rs a) ≡ None
+  number_missing : ((i : ℕ) → Names atoms i a → ⊥) → number_of (atoms_in rs atoms) (over rs a) ≡ None
   number_missing none =
       position_none (is_same_atom (over rs a)) (atoms_in rs atoms) 0 (λ k y g t. none k (same_one k y g t))
 
 -- The literal of the atom.
 
-pub literal_there : (apart : OrderTellsApart) (rs : List Regex) (t : Term) (d : code.Atom) (atoms : List (AtomOver ℕ))
-    (id : ℕ) (l : Lit) (found : Option code.Atom) → regex.AreDistinct rs → AreDistinct atoms
-    → HaveRegexesBelow (length rs) atoms → found ≡ Some d → IsAtomOf rs t found → Names atoms id (atom_in d)
-    → l ≡ record { atom = id; positive = true } → Some l ≡ brought_translation (atoms_in rs atoms) t
-literal_there apart rs t d atoms id l found once distinct below some h names e =
-    let its = rw some at h in
-    ap Some e
-    ∙ sym (its.1 (atoms_in rs atoms)
-    ∙ ap (option_map (λ k. record { atom = k; positive = true }))
-    (number_there apart rs once atoms below (atom_in d) its.0 id distinct names))
+some_none : {X : Type 0} (x : X) → Some x ≡ None → ⊥
+some_none x e = cc
 
-pub literal_missing : (apart : OrderTellsApart) (rs : List Regex) (t : Term) (d : code.Atom) (atoms : List (AtomOver ℕ))
-    (found : Option code.Atom) → regex.AreDistinct rs → HaveRegexesBelow (length rs) atoms → found ≡ Some d
-    → IsAtomOf rs t found → IsNumberIn atoms (atom_in d) None → None ≡ brought_translation (atoms_in rs atoms) t
-literal_missing apart rs t d atoms found once below some h none =
-    let its = rw some at h in
-    sym (its.1 (atoms_in rs atoms)
-    ∙ ap (option_map (λ k. record { atom = k; positive = true }))
-    (number_missing apart rs once atoms below (atom_in d) its.0 none))
+pub literal_there : (order : OrderTellsApart) (adds : Bool) (atoms : List (AtomOver ℕ)) (a : AtomOver ℕ) (id : ℕ) (l : Lit)
+    → AreDistinct atoms → Names atoms id a → l ≡ record { atom = id; positive = true }
+    → IsLiteralOf adds atoms a (Some l)
+literal_there order adds atoms a id l distinct names e = record {
+  is = λ rs apart.
+      ap Some e
+      ∙ sym (ap (option_map (λ k. record { atom = k; positive = true }))
+      (number_there order rs atoms a apart id distinct names));
+  sure = λ on none. some_none l none;
+  names = λ k h.
+      let same = some_is l k h in
+      (ap (λ (m : Lit). slice_get atoms m.atom) (sym same ∙ e) ∙ names, ap (λ (m : Lit). m.positive) (sym same ∙ e));
+}
 
--- the atoms that were added name regexes of the arena too
-pub below_more : (n : ℕ) (old new : List (AtomOver ℕ)) (d : code.Atom) → HaveRegexesBelow n old
-    → HasRegexBelow n (atom_in d) → IsWith old new (atom_in d) → HaveRegexesBelow n new
-below_more n old new d h p (inl e) = rw e h
-below_more n old new d h p (inr e) = rw e (λ i a g. step i a (get_push old (atom_in d) a i g))
-  where
-    step : (i : ℕ) (a : AtomOver ℕ) → (Names old i a) ⊎ ((i ≡ length old) × (a ≡ atom_in d)) → HasRegexBelow n a
-    step i a (inl g) = h i a g
-    step i a (inr g) = rw g.1 p
+pub literal_missing : (order : OrderTellsApart) (adds : Bool) (atoms : List (AtomOver ℕ)) (a : AtomOver ℕ)
+    → adds ≡ false → IsNumberIn atoms a None → IsLiteralOf adds atoms a None
+literal_missing order adds atoms a off none = record {
+  is = λ rs apart.
+      sym (ap (option_map (λ k. record { atom = k; positive = true })) (number_missing order rs atoms a apart none));
+  sure = λ on _. false≢true (sym off ∙ on);
+  names = λ l h. absurd (some_none l (sym h));
+}
 
-pub longer : (old new : List (AtomOver ℕ)) (a : AtomOver ℕ) → IsWith old new a → Extends old new
-longer old new a (inl e) = record { more = []; is = e ∙ sym (append-nil old) }
-longer old new a (inr e) = record { more = a ∷ []; is = e }
+pub added_one : (adds : Bool) (old new : List (AtomOver ℕ)) (a : AtomOver ℕ) → adds ≡ true → IsWith old new a
+    → GrownByOne adds old new a
+added_one adds old new a on one = record { one = one; still = λ off. absurd (false≢true (sym off ∙ on)) }
 
-pub all_below : (rs : List Regex) (t : Term) (d : code.Atom) (old new : List (AtomOver ℕ)) (found : Option code.Atom)
-    → HaveRegexesBelow (length rs) old → found ≡ Some d → IsAtomOf rs t found → IsWith old new (atom_in d)
-    → HaveRegexesBelow (length rs) new
-all_below rs t d old new found below some h grows =
-    let its = rw some at h in below_more (length rs) old new d below its.0 grows
-
--- The atom of a term that asks something of one constant's word.
-
-abbrev taken : Bool → Option Lit → Option Lit
-taken b o = if b then o else None
-
-pub none_past : (t : Term) (serial : ℕ) (R : Term) (b : Bool) → asked t ≡ Some (serial, R) → b ≡ is_regular R
-    → b ≡ false → (atoms : List Atom) → brought_translation atoms t ≡ None
-none_past t serial R b h is past atoms =
-    ap (taken (is_membership t)) (asked_translation t serial R h atoms ∙ past_limits (is_regular R) (sym is ∙ past))
-    ∙ nothing_taken (is_membership t)
-  where
-    nothing_taken : (m : Bool) → taken m None ≡ None
-    nothing_taken true = refl
-    nothing_taken false = refl
-
-    past_limits : (m : Bool) → m ≡ false
-        → membership atoms (constant serial text) (if m then regex_meant (meaning_of [] R) else None) ≡ None
-    past_limits true e = absurd (false≢true (sym e))
-    past_limits false e = refl
-
-pub atom_is : (rs : List Regex) (t : Term) (serial id : ℕ) (R : Term) (b : Bool) → asked t ≡ Some (serial, R)
-    → b ≡ is_regular R → b ≡ true → IsRegexOf rs R id → (id < length rs)
-    × ((atoms : List Atom) → brought_translation atoms t
-    ≡ positive atoms (in_atom (constant_piece serial ∷ []) (regex_at rs id)))
-atom_is rs t serial id R b h is within r = (names_below rs id _ r.names, literal)
-  where
-    regex : regex_of R ≡ Some (regex_at rs id)
-    regex = ap (λ (m : Bool). if m then regex_meant (meaning_of [] R) else None) (sym is ∙ within)
-        ∙ ap regex_meant (r.means [])
-        ∙ ap Some (sym (names_at rs id (normal r.reglan) r.names))
-
-    literal : (atoms : List Atom) → brought_translation atoms t
-        ≡ positive atoms (in_atom (constant_piece serial ∷ []) (regex_at rs id))
-    literal atoms =
-        ap (λ m. taken m (translation atoms t)) (asked_membership t serial R h ∙ r.kind)
-        ∙ asked_translation t serial R h atoms
-        ∙ ap (membership atoms (constant serial text)) regex
+pub added_none : (adds : Bool) (old : List (AtomOver ℕ)) (a : AtomOver ℕ) → GrownByOne adds old old a
+added_none adds old a = record { one = inl refl; still = λ off. refl }

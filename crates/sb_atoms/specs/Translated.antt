@@ -1,29 +1,59 @@
--- The literal of an assertion that is decided so far, and the atom that it speaks of.
-use Rattle.std.specs.Prelude.{◌≡◌, ℕ, true, if◌then◌else◌, List, length, Option, Some, None}
+-- The literal of a term that is decided so far, and the atoms that are added for it.
+use Rattle.std.specs.Prelude.{◌≡◌, ◌≤◌, ℕ, Bool, true, false, ◌&&◌, if◌then◌else◌, List, [], ◌∷◌, length, Option, Some, None}
+use Rattle.std.specs.List.{list_all}
 use Rattle.sb_lit.specs.declared.clause.Lit.{Lit}
-use Rattle.sb_lang.specs.Regex.{Regex}
-use Rattle.sb_meaning.specs.Terms.{Term}
-use Rattle.sb_rulebook.specs.Atoms.{Atom, AtomOver}
-use Rattle.sb_rulebook.specs.Translation.{translation, positive}
-use Rattle.sb_script.specs.Brought.{is_membership}
-use Rattle.sb_atoms.specs.declared.atom.Atom as code
-use Rattle.sb_atoms.specs.Numbered.{atom_in, Names, IsWith, over, HasRegexBelow}
+use Rattle.sb_meaning.specs.Terms.{Sort, Term, Terms, constant, apply, no_terms, with_term}
+use Rattle.sb_rulebook.specs.Atoms.{Atom, AtomOver, in_atom, is_well_formed}
+use Rattle.sb_rulebook.specs.AtomRules.{is_declared, has_its_parts}
+use Rattle.sb_rulebook.specs.Translation.{translation}
+use Rattle.sb_script.specs.Brought.{is_membership, is_structure}
+use Rattle.sb_script.specs.Pieces.{constant_piece}
+use Rattle.sb_atoms.specs.Numbered.{Names, IsWith}
 
--- The literal of a term that may be asserted so far; of another there is none.
+-- The literal of a term of Boolean structure; of another there is none.
 abbrev pub brought_translation : List Atom → Term → Option Lit
-brought_translation atoms t = if is_membership t then translation atoms t else None
+brought_translation atoms t = if is_structure t then translation atoms t else None
 
 -- the term has no literal, whatever the table is
 abbrev pub HasNoLiteral : Term → Type 0
 HasNoLiteral t = (atoms : List Atom) → brought_translation atoms t ≡ None
 
--- the one atom that the term's literal speaks of; none where the term has no literal, whatever the table is
-abbrev pub IsAtomOf : List Regex → Term → Option code.Atom → Type 0
-IsAtomOf rs t None = HasNoLiteral t
-IsAtomOf rs t (Some atom) = HasRegexBelow (length rs) (atom_in atom)
-    × ((atoms : List Atom) → brought_translation atoms t ≡ positive atoms (over rs (atom_in atom)))
+-- The literal of a term that asks something of one constant's word alone; of another there is none.
+abbrev pub member_translation : List Atom → Term → Option Lit
+member_translation atoms t = if is_membership t then translation atoms t else None
 
--- the literal's atom is added where it is missing, and nothing else is; where there is no literal, nothing is
+abbrev pub HasNoMemberLiteral : Term → Type 0
+HasNoMemberLiteral t = (atoms : List Atom) → member_translation atoms t ≡ None
+
+-- the literal's atom, of a constant's word, is added where it is missing, and nothing else is; where there is no
+-- literal, nothing is
 abbrev pub IsAdded : List (AtomOver ℕ) → List (AtomOver ℕ) → Option Lit → Type 0
 IsAdded old new None = new ≡ old
-IsAdded old new (Some l) = (atom : AtomOver ℕ) × IsWith old new atom × Names new l.atom atom × (l.positive ≡ true)
+IsAdded old new (Some l) = (serial regex : ℕ) × IsWith old new (in_atom (constant_piece serial ∷ []) regex)
+    × Names new l.atom (in_atom (constant_piece serial ∷ []) regex) × (l.positive ≡ true)
+
+-- the atom is the membership of a constant
+abbrev pub is_member : AtomOver ℕ → Bool
+is_member (in_atom (constant_piece serial ∷ []) regex) = true
+is_member _ = false
+
+abbrev pub are_members : List (AtomOver ℕ) → Bool
+are_members atoms = list_all is_member atoms
+
+-- each constant in the term is declared, with its sort
+abbrev mutual
+  pub has_declared : List Sort → Term → Bool
+  has_declared sorts (constant serial sort) = is_declared sorts sort serial
+  has_declared sorts (apply s terms) = have_declared sorts terms
+  has_declared sorts _ = true
+
+  pub have_declared : List Sort → Terms → Bool
+  have_declared sorts no_terms = true
+  have_declared sorts (with_term term terms) = has_declared sorts term && have_declared sorts terms
+
+-- Each atom behind the old ones is well formed, and names no literal but of the atoms before it, and no constant that
+-- the term does not have.
+abbrev pub AreDefined : List (AtomOver ℕ) → List (AtomOver ℕ) → Term → Type 0
+AreDefined old new t = (i : ℕ) (atom : AtomOver ℕ) → length old ≤ i → Names new i atom
+    → (is_well_formed atom ≡ true) × ((sorts : List Sort) (before : List Atom) → has_declared sorts t ≡ true
+    → length before ≡ i → has_its_parts sorts before atom ≡ true)

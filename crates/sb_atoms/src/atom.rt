@@ -46,7 +46,7 @@ impl AtomId {
     }
 }
 
-/// An atom, whose regex is a number.
+/// An atom, whose regex is a number, over the literals of the atoms before it.
 #[derive(Debug, PartialEq, Eq, Hash, Drop)]
 pub enum Atom {
     /// The Bool constant is true.

@@ -1,10 +1,13 @@
 //! The table of atoms.
 
-ghost use Rattle.std.specs.Prelude.{◌≡◌, ◌<◌, length, [], IfOk};
+ghost use Rattle.std.specs.Prelude.{◌≡◌, ◌<◌, true, Some, length, [], IfOk};
 ghost use Rattle.sb_atoms.specs.Numbered.{atom_in, Names, IsWith, IsNumberIn, AreDistinct};
+ghost use Rattle.sb_atoms.specs.Growing.{IsLiteralOf, GrownByOne};
 
 use crate::atom::{Atom, AtomId};
 use indexmap::IndexSet;
+use sb_lang::order::order_tells_apart;
+use sb_lit::Lit;
 use std::alloc::{AllocError, Global};
 use std::marker::Model;
 
@@ -77,5 +80,47 @@ impl Atoms {
             Some(number) => Some(AtomId::new(number)),
             None => None,
         }
+    }
+
+    /// The allocator of the table.
+    pub(crate) fn allocator(&self) -> Global {
+        *self.atoms.allocator()
+    }
+
+    /// The literal that an atom is true in. An atom that is missing is added, or has none.
+    pub(crate) fn literal(&mut self, adds: bool, atom: Atom) -> Result<Option<Lit>, AllocError>
+        ensures ok { IfOk result (λ found. IsLiteralOf adds self.new (atom_in atom) found) }
+        ensures grows { GrownByOne adds self.old self.new (atom_in atom) }
+    {
+        if adds {
+            return Ok(Some(self.added(atom)?));
+        }
+        order_tells_apart();
+        self.atoms_each_once();
+        match self.find(&atom) {
+            Some(id) => Ok(Some(positive(id))),
+            None => Ok(None),
+        }
+    }
+
+    /// The literal that an atom is true in, which is added where it is missing.
+    fn added(&mut self, atom: Atom) -> Result<Lit, AllocError>
+        ensures ok { IfOk result (λ literal. IsLiteralOf true self.new (atom_in atom) (Some literal)) }
+        ensures grows { IsWith self.old self.new (atom_in atom) }
+    {
+        order_tells_apart();
+        let id = self.add(atom)?;
+        self.atoms_each_once();
+        Ok(positive(id))
+    }
+}
+
+/// The literal that the atom of a number is true in.
+fn positive(id: AtomId) -> Lit
+    ensures { result ≡ record { atom = id; positive = true } }
+{
+    Lit {
+        atom: id.number() as u64,
+        positive: true,
     }
 }

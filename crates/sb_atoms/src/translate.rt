@@ -1,43 +1,55 @@
-//! The literals of assertions.
+//! The literals of terms.
 
-ghost use Rattle.std.specs.Prelude.{◌≡◌, ◌<◌, true, List, length, IfOk};
+ghost use Rattle.std.specs.Prelude.{◌≡◌, ◌<◌, ◌&&◌, true, List, length, map, Option, Some, None, option_map, IfOk, IfSome};
+ghost use Rattle.std.specs.List.{list_all};
+ghost use Rattle.sb_meaning.specs.Terms.{Term, text};
 ghost use Rattle.sb_regex.specs.Numbered as regex;
 ghost use Rattle.sb_term.specs.Numbered.{term_at};
+ghost use Rattle.sb_script.specs.Brought.{asked, is_pair, is_regex, is_structure};
 ghost use Rattle.sb_problem.specs.Known.{AreNormals};
+ghost use Rattle.sb_problem.specs.Patterns.{number_of, pattern_in};
 ghost use Rattle.sb_fragment.specs.Measures.{AreMeasures};
+ghost use Rattle.sb_rulebook.specs.AtomRules.{is_declared};
+ghost use Rattle.sb_rulebook.specs.Translation as rules;
 ghost use Rattle.sb_atoms.specs.Numbered.{atom_in, atoms_in, HaveRegexesBelow, Extends};
-ghost use Rattle.sb_atoms.specs.Translated.{brought_translation, IsAtomOf, IsAdded, HasNoLiteral};
+ghost use Rattle.sb_atoms.specs.Translated.{brought_translation, member_translation, are_members, has_declared, IsAdded, AreDefined, HasNoLiteral, HasNoMemberLiteral};
+ghost use Rattle.sb_atoms.specs.Growing.{is_below, are_below, Finds, AreReady, Moves};
+ghost use Rattle.sb_atoms.specs.Shapes.{IsAtomOf, are_numbers, are_word_pairs, connected_literal, have_declared_pairs, literals_of, parts_of, terms_of_pairs, word_literals, words_literal};
 
-use crate::atom::{Atom, AtomId};
+use crate::atom::Atom;
+use crate::connect::signed;
+use crate::pairs::compared;
+use crate::shape::{Connective, Shape, arguments_of, pair_of, shape_of};
+use crate::structure::{is_regex, is_structure};
 use crate::table::Atoms;
 use sb_fragment::{Measures, membership};
-use sb_lang::order::order_tells_apart;
 use sb_lit::Lit;
-use sb_problem::Normals;
+use sb_problem::{Normals, Pattern};
 use sb_regex::Arena;
-use sb_term::{Table, TermId};
+use sb_rulebook::laws::translation_stays;
+use sb_term::{Serial, Table, TermId};
 use std::alloc::AllocError;
 
-/// The atom that the literal of a term speaks of, if it has one. Of a regular expression or a literal past the limits on
-/// sizes no normal regex is asked for.
+/// The atom that a constant's word is in a pattern, if the pattern is within the limits on sizes. Of another one no
+/// normal regex is asked for.
 fn atom_of(
     measures: &mut Measures,
     normals: &mut Normals,
     table: &Table,
     arena: &mut Arena,
-    id: TermId,
+    serial: Serial,
+    pattern: Pattern,
 ) -> Result<Option<Atom>, AllocError>
-    requires number { id < length table.now }
+    requires number { number_of pattern < length table.now }
+    requires kind { is_regex (pattern_in table.now pattern) ≡ true }
     requires right { AreMeasures table.now measures.old }
     requires normals { AreNormals table.now arena.old normals.old }
-    ensures ok { IfOk result (λ found. IsAtomOf arena.new (term_at table.now id) found) }
+    ensures ok { IfOk result (λ found. IsAtomOf arena.new serial.0 (pattern_in table.now pattern)
+        (option_map atom_in found)) }
     ensures right { AreMeasures table.now measures.new }
     ensures normals { AreNormals table.now arena.new normals.new }
     ensures arena { regex.Extends arena.old arena.new }
 {
-    let Some((serial, pattern)) = membership(table, id) else {
-        return Ok(None);
-    };
     if !measures.is_regular(table, pattern)? {
         return Ok(None);
     }
@@ -47,23 +59,248 @@ fn atom_of(
     }
 }
 
-/// The literal that an atom is true in.
-fn positive(id: AtomId) -> Lit
-    ensures { result ≡ record { atom = id; positive = true } }
-{
-    Lit {
-        atom: id.number() as u64,
-        positive: true,
-    }
-}
-
 impl Atoms {
-    /// The literal of an assertion's term, of which the atom is added where it is missing. So far terms are translated
-    /// that are inside the fragment: the memberships of one String constant, and its equalities with a literal. There is
-    /// none of others, and none of one that is past the limits on sizes.
+    /// The literal of what a term asks of one constant's word.
+    fn member(
+        &mut self,
+        adds: bool,
+        measures: &mut Measures,
+        normals: &mut Normals,
+        table: &Table,
+        arena: &mut Arena,
+        serial: Serial,
+        pattern: Pattern,
+    ) -> Result<Option<Lit>, AllocError>
+        requires number { number_of pattern < length table.now }
+        requires kind { is_regex (pattern_in table.now pattern) ≡ true }
+        requires ready { AreReady table.now measures.old normals.old arena.old self.old }
+        ensures ok { IfOk result (λ found. (t : Term) → asked t ≡ Some (serial.0, pattern_in table.now pattern)
+            → Finds is_below adds arena.new self.new (λ atoms. rules.translation atoms t) found) }
+        ensures added { IfOk result (λ found. adds ≡ true → IsAdded self.old self.new found) }
+        ensures members { are_members self.old ≡ true → are_members self.new ≡ true }
+        ensures moves { Moves adds (λ sorts. is_declared sorts text serial.0) arena.old arena.new self.old self.new }
+        ensures ready { AreReady table.now measures.new normals.new arena.new self.new }
+    {
+        let Some(atom) = atom_of(measures, normals, table, arena, serial, pattern)? else {
+            return Ok(None);
+        };
+        arena.normal_regexes_each_once();
+        self.literal(adds, atom)
+    }
+
+    /// The literal of an equality of a String constant and a literal.
+    fn word_equality(
+        &mut self,
+        adds: bool,
+        measures: &mut Measures,
+        normals: &mut Normals,
+        table: &Table,
+        arena: &mut Arena,
+        one: TermId,
+        other: TermId,
+    ) -> Result<Option<Lit>, AllocError>
+        requires one { one < length table.now }
+        requires other { other < length table.now }
+        requires pair { is_pair (term_at table.now one) (term_at table.now other) ≡ true }
+        requires ready { AreReady table.now measures.old normals.old arena.old self.old }
+        ensures ok { IfOk result (λ found. Finds is_below adds arena.new self.new
+            (λ atoms. rules.word_equality atoms (term_at table.now one) (term_at table.now other)) found) }
+        ensures moves { Moves adds
+            (λ sorts. has_declared sorts (term_at table.now one) && has_declared sorts (term_at table.now other))
+            arena.old arena.new self.old self.new }
+        ensures ready { AreReady table.now measures.new normals.new arena.new self.new }
+    {
+        let (serial, word) = pair_of(table, one, other).unwrap();
+        let pattern = Pattern::Word(word);
+        self.member(adds, measures, normals, table, arena, serial, pattern)
+    }
+
+    /// The literals of equalities of String constants and literals, or of their negations.
+    fn word_literals(
+        &mut self,
+        adds: bool,
+        measures: &mut Measures,
+        normals: &mut Normals,
+        table: &Table,
+        arena: &mut Arena,
+        distinct: bool,
+        pairs: &[(TermId, TermId)],
+    ) -> Result<Option<Vec<Lit>>, AllocError>
+        requires numbers { are_numbers (length table.now) pairs.now ≡ true }
+        requires pairs { list_all (λ p. is_pair p.0 p.1) (terms_of_pairs table.now pairs.now) ≡ true }
+        requires ready { AreReady table.now measures.old normals.old arena.old self.old }
+        ensures ok { IfOk result (λ found. Finds are_below adds arena.new self.new
+            (λ atoms. word_literals atoms distinct (terms_of_pairs table.now pairs.now)) (option_map (λ v. v.items) found)) }
+        ensures moves { Moves adds (λ sorts. have_declared_pairs sorts (terms_of_pairs table.now pairs.now))
+            arena.old arena.new self.old self.new }
+        ensures ready { AreReady table.now measures.new normals.new arena.new self.new }
+    {
+        let mut literals = Vec::new(self.allocator());
+        for (one, other) in pairs {
+            let found = self.word_equality(adds, measures, normals, table, arena, *one, *other)?;
+            let Some(literal) = found else {
+                return Ok(None);
+            };
+            literals.push(signed(distinct, literal))?;
+        }
+        Ok(Some(literals))
+    }
+
+    /// The literal of a comparison of String constants with literals.
+    fn words(
+        &mut self,
+        adds: bool,
+        measures: &mut Measures,
+        normals: &mut Normals,
+        table: &Table,
+        arena: &mut Arena,
+        distinct: bool,
+        id: TermId,
+    ) -> Result<Option<Lit>, AllocError>
+        requires number { id < length table.now }
+        requires pairs { are_word_pairs distinct (parts_of (term_at table.now id)) ≡ true }
+        requires ready { AreReady table.now measures.old normals.old arena.old self.old }
+        ensures ok { IfOk result (λ found. Finds is_below adds arena.new self.new
+            (λ atoms. words_literal atoms distinct (parts_of (term_at table.now id))) found) }
+        ensures moves { Moves adds (λ sorts. has_declared sorts (term_at table.now id))
+            arena.old arena.new self.old self.new }
+        ensures ready { AreReady table.now measures.new normals.new arena.new self.new }
+    {
+        let pairs = compared(self.allocator(), distinct, arguments_of(table, id))?;
+        match self.word_literals(adds, measures, normals, table, arena, distinct, &pairs)? {
+            Some(literals) => self.conjunction(adds, literals),
+            None => Ok(None),
+        }
+    }
+
+    /// The literal of a term of Boolean structure.
+    #[cycle(structure)]
+    fn structure(
+        &mut self,
+        adds: bool,
+        measures: &mut Measures,
+        normals: &mut Normals,
+        table: &Table,
+        arena: &mut Arena,
+        id: TermId,
+    ) -> Result<Option<Lit>, AllocError>
+        requires number { id < length table.now }
+        requires structure { is_structure (term_at table.now id) ≡ true }
+        requires ready { AreReady table.now measures.old normals.old arena.old self.old }
+        ensures ok { IfOk result (λ found. Finds is_below adds arena.new self.new
+            (λ atoms. rules.translation atoms (term_at table.now id)) found) }
+        ensures moves { Moves adds (λ sorts. has_declared sorts (term_at table.now id))
+            arena.old arena.new self.old self.new }
+        ensures ready { AreReady table.now measures.new normals.new arena.new self.new }
+    {
+        if let Some((serial, pattern)) = membership(table, id) {
+            return self.member(adds, measures, normals, table, arena, serial, pattern);
+        }
+        match shape_of(table, id) {
+            Shape::Constant(serial) => self.literal(adds, Atom::Bool(serial)),
+            Shape::Always(truth) => self.always(adds, truth),
+            Shape::Connected(connective) => {
+                self.connection(adds, measures, normals, table, arena, connective, id)
+            }
+            Shape::Words(distinct) => {
+                self.words(adds, measures, normals, table, arena, distinct, id)
+            }
+            Shape::Other => unreachable!(),
+        }
+    }
+
+    /// The literal of a connective of a term's arguments.
+    #[cycle(structure)]
+    fn connection(
+        &mut self,
+        adds: bool,
+        measures: &mut Measures,
+        normals: &mut Normals,
+        table: &Table,
+        arena: &mut Arena,
+        connective: Connective,
+        id: TermId,
+    ) -> Result<Option<Lit>, AllocError>
+        requires number { id < length table.now }
+        requires structure { list_all is_structure (parts_of (term_at table.now id)) ≡ true }
+        requires ready { AreReady table.now measures.old normals.old arena.old self.old }
+        ensures ok { IfOk result (λ found. Finds is_below adds arena.new self.new
+            (λ atoms. connected_literal atoms connective (parts_of (term_at table.now id))) found) }
+        ensures moves { Moves adds (λ sorts. has_declared sorts (term_at table.now id))
+            arena.old arena.new self.old self.new }
+        ensures ready { AreReady table.now measures.new normals.new arena.new self.new }
+    {
+        match self.literals(adds, measures, normals, table, arena, id)? {
+            Some(literals) => self.connected(adds, connective, literals),
+            None => Ok(None),
+        }
+    }
+
+    /// The literals of a term's arguments.
+    #[cycle(structure)]
+    fn literals(
+        &mut self,
+        adds: bool,
+        measures: &mut Measures,
+        normals: &mut Normals,
+        table: &Table,
+        arena: &mut Arena,
+        id: TermId,
+    ) -> Result<Option<Vec<Lit>>, AllocError>
+        requires number { id < length table.now }
+        requires structure { list_all is_structure (parts_of (term_at table.now id)) ≡ true }
+        requires ready { AreReady table.now measures.old normals.old arena.old self.old }
+        ensures ok { IfOk result (λ found. Finds are_below adds arena.new self.new
+            (λ atoms. literals_of atoms (parts_of (term_at table.now id))) (option_map (λ v. v.items) found)) }
+        ensures moves { Moves adds (λ sorts. has_declared sorts (term_at table.now id))
+            arena.old arena.new self.old self.new }
+        ensures ready { AreReady table.now measures.new normals.new arena.new self.new }
+    {
+        let mut literals = Vec::new(self.allocator());
+        for argument in arguments_of(table, id) {
+            let found = self.structure(adds, measures, normals, table, arena, *argument)?;
+            let Some(literal) = found else {
+                return Ok(None);
+            };
+            literals.push(literal)?;
+        }
+        Ok(Some(literals))
+    }
+
+    /// The literal of a term, if it has one.
+    fn find_or_add(
+        &mut self,
+        adds: bool,
+        measures: &mut Measures,
+        normals: &mut Normals,
+        table: &Table,
+        arena: &mut Arena,
+        id: TermId,
+    ) -> Result<Option<Lit>, AllocError>
+        requires number { id < length table.now }
+        requires ready { AreReady table.now measures.old normals.old arena.old self.old }
+        ensures ok { IfOk result (λ found. Finds is_below adds arena.new self.new
+            (λ atoms. brought_translation atoms (term_at table.now id)) found) }
+        ensures moves { Moves adds (λ sorts. has_declared sorts (term_at table.now id))
+            arena.old arena.new self.old self.new }
+        ensures ready { AreReady table.now measures.new normals.new arena.new self.new }
+    {
+        if is_structure(self.allocator(), measures, table, id)? {
+            self.structure(adds, measures, normals, table, arena, id)
+        } else {
+            Ok(None)
+        }
+    }
+
+    /// The literal of a term, of which the atoms are added where they are missing. Terms are translated that are Boolean
+    /// structure over Bool constants, memberships of one String constant, and comparisons of such constants with
+    /// literals. There is no literal of others, and none of one in which a regular expression or a literal is past the
+    /// limits on sizes; some of its atoms may be added then.
     ///
-    /// Constant time, by hash, but that the regular expression, or the literal, is measured, and its normal regex made,
-    /// where they were not yet. `AllocError` only for want of memory; the arena may hold more regexes then, and the table the atom.
+    /// Linear in the term's tree, each atom by hash, but that the literals of a connective are sorted, that each two of
+    /// what is distinct are compared, and that a regular expression, or a literal, is measured, and its normal regex
+    /// made, where they were not yet. `AllocError` only for want of memory; the arena may hold more regexes then, and the
+    /// table more atoms.
     pub fn translate(
         &mut self,
         measures: &mut Measures,
@@ -78,29 +315,23 @@ impl Atoms {
         requires regexes { HaveRegexesBelow (length arena.old) self.old }
         ensures ok { IfOk result
             (λ found. found ≡ brought_translation (atoms_in arena.new self.new) (term_at table.now id)) }
-        ensures adds { IfOk result (λ found. IsAdded self.old self.new found) }
+        ensures known { IfOk result (λ found. IfSome found (λ l. l.atom < length self.new)) }
         ensures none { IfOk result (λ found. found ≡ None → HasNoLiteral (term_at table.now id)) }
         ensures extends { Extends self.old self.new }
+        ensures defined { AreDefined self.old self.new (term_at table.now id) }
         ensures regexes { HaveRegexesBelow (length arena.new) self.new }
         ensures right { AreMeasures table.now measures.new }
         ensures normals { AreNormals table.now arena.new normals.new }
         ensures arena { regex.Extends arena.old arena.new }
     {
-        let Some(atom) = atom_of(measures, normals, table, arena, id)? else {
-            return Ok(None);
-        };
-        let id = self.add(atom)?;
-        self.atoms_each_once();
-        arena.normal_regexes_each_once();
-        order_tells_apart();
-        Ok(Some(positive(id)))
+        self.find_or_add(true, measures, normals, table, arena, id)
     }
 
-    /// The literal of an assertion's term, as [`Atoms::translate`] gives it, where the atom that it needs is there;
-    /// none where it is missing. Adds no atom; the arena may hold more regexes. Its cost and its error are those of
+    /// The literal of a term, as [`Atoms::translate`] gives it, where the atoms that it needs are there; none where one
+    /// is missing. Adds no atom; the arena may hold more regexes. Its cost and its error are those of
     /// [`Atoms::translate`].
     pub fn find_translation(
-        &self,
+        &mut self,
         measures: &mut Measures,
         normals: &mut Normals,
         table: &Table,
@@ -110,23 +341,53 @@ impl Atoms {
         requires number { id < length table.now }
         requires right { AreMeasures table.now measures.old }
         requires normals { AreNormals table.now arena.old normals.old }
-        requires regexes { HaveRegexesBelow (length arena.old) self.now }
+        requires regexes { HaveRegexesBelow (length arena.old) self.old }
         ensures ok { IfOk result
-            (λ found. found ≡ brought_translation (atoms_in arena.new self.now) (term_at table.now id)) }
-        ensures regexes { HaveRegexesBelow (length arena.new) self.now }
+            (λ found. found ≡ brought_translation (atoms_in arena.new self.new) (term_at table.now id)) }
+        ensures stays { self.new ≡ self.old }
+        ensures regexes { HaveRegexesBelow (length arena.new) self.new }
         ensures right { AreMeasures table.now measures.new }
         ensures normals { AreNormals table.now arena.new normals.new }
         ensures arena { regex.Extends arena.old arena.new }
     {
-        let Some(atom) = atom_of(measures, normals, table, arena, id)? else {
+        self.find_or_add(false, measures, normals, table, arena, id)
+    }
+
+    /// The literal of a term that asks something of one constant's word alone, of which the atom is added where it is
+    /// missing: of the membership of one String constant, and of its equality with a literal. There is none of others,
+    /// and none of one that is past the limits on sizes.
+    ///
+    /// Constant time, by hash, but that the regular expression, or the literal, is measured, and its normal regex made,
+    /// where they were not yet. `AllocError` only for want of memory; the arena may hold more regexes then, and the table the atom.
+    pub fn translate_member(
+        &mut self,
+        measures: &mut Measures,
+        normals: &mut Normals,
+        table: &Table,
+        arena: &mut Arena,
+        id: TermId,
+    ) -> Result<Option<Lit>, AllocError>
+        requires number { id < length table.now }
+        requires right { AreMeasures table.now measures.old }
+        requires normals { AreNormals table.now arena.old normals.old }
+        requires regexes { HaveRegexesBelow (length arena.old) self.old }
+        ensures ok { IfOk result
+            (λ found. found ≡ member_translation (atoms_in arena.new self.new) (term_at table.now id)) }
+        ensures adds { IfOk result (λ found. IsAdded self.old self.new found) }
+        ensures none { IfOk result (λ found. found ≡ None → HasNoMemberLiteral (term_at table.now id)) }
+        ensures members { are_members self.old ≡ true → are_members self.new ≡ true }
+        ensures extends { Extends self.old self.new }
+        ensures regexes { HaveRegexesBelow (length arena.new) self.new }
+        ensures right { AreMeasures table.now measures.new }
+        ensures normals { AreNormals table.now arena.new normals.new }
+        ensures arena { regex.Extends arena.old arena.new }
+    {
+        let Some((serial, pattern)) = membership(table, id) else {
             return Ok(None);
         };
-        self.atoms_each_once();
-        arena.normal_regexes_each_once();
-        order_tells_apart();
-        match self.find(&atom) {
-            Some(id) => Ok(Some(positive(id))),
-            None => Ok(None),
+        if !is_regex(measures, table, pattern)? {
+            return Ok(None);
         }
+        self.member(true, measures, normals, table, arena, serial, pattern)
     }
 }

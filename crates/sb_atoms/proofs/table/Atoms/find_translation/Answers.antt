@@ -1,36 +1,27 @@
+use Rattle.std.proofs.Common.{◌≡◌, ◌<◌, length, true, false, None, IfSome, refl}
 use Rattle.sb_term.specs.Numbered.{term_at}
-use Rattle.sb_atoms.proofs.CallerLemmas.{regexes_kept}
-use Rattle.sb_atoms.proofs.Translating.{literal_there, literal_missing}
+use Rattle.sb_atoms.specs.Numbered.{atoms_in}
+use Rattle.sb_atoms.specs.Translated.{brought_translation, has_declared, HasNoLiteral}
+use Rattle.sb_atoms.specs.Growing.{is_below, Finds}
+use Rattle.sb_atoms.proofs.Arguments.{ok_map}
+use Rattle.sb_atoms.proofs.Growth.{grown_defined, grown_extends, grown_still}
+use Rattle.sb_atoms.proofs.Found.{finds_known}
 use Rattle.sb_atoms.proofs.table.Atoms.find_translation.Goals as goal
 
-pub returns-in-Some-find-clause-ok : goal.returns-in-Some-find-clause-ok
-returns-in-Some-find-clause-ok c =
-    let rs = c.atom_of.new.arena in
-    let below = regexes_kept c.args.arena.now rs c.args.self.now c.in_ok-atom.ensures.arena c.requires.regexes in
-    literal_there c.order_tells_apart.ensures rs (term_at c.args.table.now c.args.id) c.in-Some.atom c.args.self.now
-    c.in-Some-find.id c.positive.result c.in_ok-atom.field-0 c.normal_regexes_each_once.ensures.distinct
-    c.atoms_each_once.ensures below c.in-Some.is c.in_ok-atom.ensures.ok c.in-Some-find.ensures c.positive.ensures
+pub find_or_add-requires-clause-ready : goal.find_or_add-requires-clause-ready
+find_or_add-requires-clause-ready c =
+    record { right = c.requires.right; normals = c.requires.normals; regexes = c.requires.regexes }
 
 pub returns-clause-ok : goal.returns-clause-ok
 returns-clause-ok c =
-    let rs = c.atom_of.new.arena in
-    let below = regexes_kept c.args.arena.now rs c.args.self.now c.in_ok-atom.ensures.arena c.requires.regexes in
-    literal_missing c.order_tells_apart.ensures rs (term_at c.args.table.now c.args.id) c.in-Some.atom c.args.self.now
-    c.in_ok-atom.field-0 c.normal_regexes_each_once.ensures.distinct below c.in-Some.is c.in_ok-atom.ensures.ok
-    c.in-None.ensures
+    let t = term_at c.args.table.now c.args.id in
+    ok_map
+    (λ found. Finds is_below false c.find_or_add.new.arena c.find_or_add.new.self
+    (λ atoms. brought_translation atoms t) found)
+    (λ found. found ≡ brought_translation (atoms_in c.find_or_add.new.arena c.find_or_add.new.self) t)
+    c.find_or_add.result (λ found h. h.is) c.find_or_add.ensures.ok
 
-pub returns-in_err-atom-clause-regexes : goal.returns-in_err-atom-clause-regexes
-returns-in_err-atom-clause-regexes c =
-    regexes_kept c.args.arena.now c.atom_of.new.arena c.args.self.now c.in_err-atom.ensures.arena c.requires.regexes
-
-pub returns-in_default-clause-regexes : goal.returns-in_default-clause-regexes
-returns-in_default-clause-regexes c =
-    regexes_kept c.args.arena.now c.atom_of.new.arena c.args.self.now c.in_ok-atom.ensures.arena c.requires.regexes
-
-pub returns-in-Some-find-clause-regexes : goal.returns-in-Some-find-clause-regexes
-returns-in-Some-find-clause-regexes c =
-    regexes_kept c.args.arena.now c.atom_of.new.arena c.args.self.now c.in_ok-atom.ensures.arena c.requires.regexes
-
-pub returns-clause-regexes : goal.returns-clause-regexes
-returns-clause-regexes c =
-    regexes_kept c.args.arena.now c.atom_of.new.arena c.args.self.now c.in_ok-atom.ensures.arena c.requires.regexes
+pub returns-clause-stays : goal.returns-clause-stays
+returns-clause-stays c =
+    grown_still (length c.find_or_add.new.arena) (λ sorts. has_declared sorts (term_at c.args.table.now c.args.id))
+    c.args.self.now c.find_or_add.new.self c.find_or_add.ensures.moves.atoms

@@ -1,48 +1,49 @@
-use Rattle.std.proofs.Common.{slice_get, ap, ◌∙◌}
+use Rattle.std.proofs.Common.{◌≡◌, ◌<◌, length, true, false, None, IfSome, refl}
 use Rattle.sb_term.specs.Numbered.{term_at}
-use Rattle.sb_atoms.specs.Numbered.{atom_in}
-use Rattle.sb_atoms.proofs.CallerLemmas.{regexes_kept}
-use Rattle.sb_atoms.proofs.Translating.{literal_there, all_below}
+use Rattle.sb_atoms.specs.Numbered.{atoms_in}
+use Rattle.sb_atoms.specs.Translated.{brought_translation, has_declared, HasNoLiteral}
+use Rattle.sb_atoms.specs.Growing.{is_below, Finds}
+use Rattle.sb_atoms.proofs.Arguments.{ok_map}
+use Rattle.sb_atoms.proofs.Growth.{grown_defined, grown_extends, grown_still}
+use Rattle.sb_atoms.proofs.Found.{finds_known}
 use Rattle.sb_atoms.proofs.table.Atoms.translate.Goals as goal
+
+pub find_or_add-requires-clause-ready : goal.find_or_add-requires-clause-ready
+find_or_add-requires-clause-ready c =
+    record { right = c.requires.right; normals = c.requires.normals; regexes = c.requires.regexes }
 
 pub returns-clause-ok : goal.returns-clause-ok
 returns-clause-ok c =
-    let rs = c.atom_of.new.arena in
     let t = term_at c.args.table.now c.args.id in
-    let h = c.in_ok-atom.ensures.ok in
-    let below = regexes_kept c.args.arena.now rs c.args.self.now c.in_ok-atom.ensures.arena c.requires.regexes in
-    literal_there c.order_tells_apart.ensures rs t c.in-Some.atom c.add.new.self c.in_ok-id.id c.positive.result
-    c.in_ok-atom.field-0 c.normal_regexes_each_once.ensures.distinct c.atoms_each_once.ensures
-    (all_below rs t c.in-Some.atom c.args.self.now c.add.new.self c.in_ok-atom.field-0 below c.in-Some.is h
-    c.in_ok-id.ensures.grows)
-    c.in-Some.is h c.in_ok-id.ensures.ok c.positive.ensures
+    ok_map
+    (λ found. Finds is_below true c.find_or_add.new.arena c.find_or_add.new.self
+    (λ atoms. brought_translation atoms t) found)
+    (λ found. found ≡ brought_translation (atoms_in c.find_or_add.new.arena c.find_or_add.new.self) t)
+    c.find_or_add.result (λ found h. h.is) c.find_or_add.ensures.ok
 
-pub returns-clause-regexes : goal.returns-clause-regexes
-returns-clause-regexes c =
-    let rs = c.atom_of.new.arena in
-    let below = regexes_kept c.args.arena.now rs c.args.self.now c.in_ok-atom.ensures.arena c.requires.regexes in
-    all_below rs (term_at c.args.table.now c.args.id) c.in-Some.atom c.args.self.now c.add.new.self
-    c.in_ok-atom.field-0 below c.in-Some.is c.in_ok-atom.ensures.ok c.in_ok-id.ensures.grows
+pub returns-clause-known : goal.returns-clause-known
+returns-clause-known c =
+    let t = term_at c.args.table.now c.args.id in
+    ok_map
+    (λ found. Finds is_below true c.find_or_add.new.arena c.find_or_add.new.self
+    (λ atoms. brought_translation atoms t) found)
+    (λ found. IfSome found (λ l. l.atom < length c.find_or_add.new.self))
+    c.find_or_add.result
+    (λ found h. finds_known true c.find_or_add.new.arena c.find_or_add.new.self
+    (λ atoms. brought_translation atoms t) found h) c.find_or_add.ensures.ok
 
-pub returns-in_err-atom-clause-regexes : goal.returns-in_err-atom-clause-regexes
-returns-in_err-atom-clause-regexes c =
-    regexes_kept c.args.arena.now c.atom_of.new.arena c.args.self.now c.in_err-atom.ensures.arena c.requires.regexes
+pub returns-clause-none : goal.returns-clause-none
+returns-clause-none c =
+    let t = term_at c.args.table.now c.args.id in
+    ok_map
+    (λ found. Finds is_below true c.find_or_add.new.arena c.find_or_add.new.self
+    (λ atoms. brought_translation atoms t) found)
+    (λ found. found ≡ None → HasNoLiteral t) c.find_or_add.result (λ found h. h.none refl) c.find_or_add.ensures.ok
 
-pub returns-in_default-clause-regexes : goal.returns-in_default-clause-regexes
-returns-in_default-clause-regexes c =
-    regexes_kept c.args.arena.now c.atom_of.new.arena c.args.self.now c.in_ok-atom.ensures.arena c.requires.regexes
+pub returns-clause-extends : goal.returns-clause-extends
+returns-clause-extends c = grown_extends c.args.self.now c.find_or_add.new.self c.find_or_add.ensures.moves.atoms
 
-pub returns-in_err-id-clause-regexes : goal.returns-in_err-id-clause-regexes
-returns-in_err-id-clause-regexes c =
-    let rs = c.atom_of.new.arena in
-    let below = regexes_kept c.args.arena.now rs c.args.self.now c.in_ok-atom.ensures.arena c.requires.regexes in
-    all_below rs (term_at c.args.table.now c.args.id) c.in-Some.atom c.args.self.now c.add.new.self
-    c.in_ok-atom.field-0 below c.in-Some.is c.in_ok-atom.ensures.ok c.in_err-id.ensures.grows
-
-pub returns-clause-adds : goal.returns-clause-adds
-returns-clause-adds c = (
-  atom_in c.in-Some.atom,
-  c.in_ok-id.ensures.grows,
-  ap (λ l. slice_get c.add.new.self l.atom) c.positive.ensures ∙ c.in_ok-id.ensures.ok,
-  ap (λ l. l.positive) c.positive.ensures,
-)
+pub returns-clause-defined : goal.returns-clause-defined
+returns-clause-defined c =
+    grown_defined (length c.find_or_add.new.arena) (term_at c.args.table.now c.args.id) c.args.self.now
+    c.find_or_add.new.self c.find_or_add.ensures.moves.atoms

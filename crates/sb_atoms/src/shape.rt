@@ -1,0 +1,143 @@
+//! The shapes of terms of Boolean structure.
+
+ghost use Rattle.std.specs.Prelude.{◌≡◌, ◌<◌, false, None, length, All, MatchOption};
+ghost use Rattle.sb_meaning.specs.Terms.{apply, terms_of};
+ghost use Rattle.sb_meaning.specs.Terms as meaning;
+ghost use Rattle.sb_script.specs.Brought.{asked, is_pair};
+ghost use Rattle.sb_term.specs.Numbered.{term_at, terms_at, AllNumbers};
+ghost use Rattle.sb_term.specs.Symbols.{sort_in, symbol_in};
+ghost use Rattle.sb_fragment.specs.Measures as measures;
+ghost use Rattle.sb_atoms.specs.Shapes.{IsShape, IsPair, comparison_of, parts_of};
+
+use sb_problem::constant_of;
+use sb_term::{Serial, Sort, Symbol, Table, Term, TermId};
+
+/// A symbol that makes a truth value of truth values.
+#[derive(Clone, Copy)]
+pub(crate) enum Connective {
+    Not,
+    And,
+    Or,
+    Implies,
+    Xor,
+    Ite,
+    /// All are equal, or where they are to be distinct, each two differ.
+    Compare(bool),
+}
+
+/// What a Bool term is by its symbol, but that it asks nothing of one constant's word alone.
+#[derive(Clone, Copy)]
+pub(crate) enum Shape {
+    /// A Bool constant.
+    Constant(Serial),
+    /// It is true, or false, whatever its arguments are.
+    Always(bool),
+    /// A connective of its arguments.
+    Connected(Connective),
+    /// Its arguments, of sort String, are all equal, or where they are to be distinct, each two differ.
+    Words(bool),
+    /// None of these.
+    Other,
+}
+
+/// The shape of a term. Takes constant time and no memory.
+pub(crate) fn shape_of(table: &Table, id: TermId) -> Shape
+    requires number { id < length table.now }
+    requires other { asked (term_at table.now id) ≡ None }
+    ensures { IsShape (term_at table.now id) result }
+{
+    match table.term(id) {
+        Term::Constant(serial, sort) => constant(*serial, *sort),
+        Term::Apply(symbol, arguments) => applied(table, *symbol, arguments.as_slice()),
+        _ => Shape::Other,
+    }
+}
+
+/// The shape of a constant.
+fn constant(serial: Serial, sort: Sort) -> Shape
+    ensures { IsShape (meaning.constant serial.0 (sort_in sort)) result }
+{
+    match sort {
+        Sort::Bool => Shape::Constant(serial),
+        Sort::Int | Sort::String | Sort::RegLan => Shape::Other,
+    }
+}
+
+/// The shape of a symbol with its arguments.
+fn applied(table: &Table, symbol: Symbol, arguments: &[TermId]) -> Shape
+    requires numbers { AllNumbers table.now arguments.now }
+    requires other { asked (apply (symbol_in symbol) (terms_of (terms_at table.now arguments.now))) ≡ None }
+    ensures { IsShape (apply (symbol_in symbol) (terms_of (terms_at table.now arguments.now))) result }
+{
+    match symbol {
+        Symbol::True => Shape::Always(true),
+        Symbol::False => Shape::Always(false),
+        Symbol::Not => Shape::Connected(Connective::Not),
+        Symbol::And => Shape::Connected(Connective::And),
+        Symbol::Or => Shape::Connected(Connective::Or),
+        Symbol::Implies => Shape::Connected(Connective::Implies),
+        Symbol::Xor => Shape::Connected(Connective::Xor),
+        Symbol::Ite => Shape::Connected(Connective::Ite),
+        Symbol::Equal => comparison(table, false, arguments),
+        Symbol::Distinct => comparison(table, true, arguments),
+        _ => Shape::Other,
+    }
+}
+
+/// The shape of a comparison, by the sort of what is compared. One term alone is not compared, and none neither.
+fn comparison(table: &Table, distinct: bool, arguments: &[TermId]) -> Shape
+    requires { AllNumbers table.now arguments.now }
+    ensures { IsShape (apply (comparison_of distinct) (terms_of (terms_at table.now arguments.now))) result }
+{
+    let [first, others @ ..] = arguments else {
+        return Shape::Always(true);
+    };
+    match table.sort(*first) {
+        Sort::Bool if others.is_empty() => Shape::Always(true),
+        Sort::Bool => Shape::Connected(Connective::Compare(distinct)),
+        Sort::String => Shape::Words(distinct),
+        Sort::Int | Sort::RegLan => Shape::Other,
+    }
+}
+
+/// The arguments of a term, none where it is no symbol with arguments.
+pub(crate) fn arguments_of(table: &Table, id: TermId) -> &[TermId]
+    requires { id < length table.now }
+    ensures terms { terms_at table.now result.now ≡ parts_of (term_at table.now id) }
+    ensures below { All (λ i. i < id) result.now }
+{
+    match table.term(id) {
+        Term::Apply(_, arguments) => arguments.as_slice(),
+        _ => &[],
+    }
+}
+
+/// Whether a term is the word of a literal.
+fn is_literal(table: &Table, id: TermId) -> bool
+    requires { id < length table.now }
+    ensures { result ≡ measures.is_literal (term_at table.now id) }
+{
+    matches!(table.term(id), Term::Word(_))
+}
+
+/// The constant and the literal of an equality of the two, in either order.
+pub(crate) fn pair_of(table: &Table, one: TermId, other: TermId) -> Option<(Serial, TermId)>
+    requires one { one < length table.now }
+    requires other { other < length table.now }
+    ensures parts { MatchOption result (is_pair (term_at table.now one) (term_at table.now other) ≡ false)
+        (λ p. IsPair table.now one other p.0.0 p.1) }
+{
+    if let Some(serial) = constant_of(table, one) {
+        return if is_literal(table, other) {
+            Some((serial, other))
+        } else {
+            None
+        };
+    }
+    let serial = constant_of(table, other)?;
+    if is_literal(table, one) {
+        Some((serial, one))
+    } else {
+        None
+    }
+}
