@@ -28,7 +28,7 @@ use Rattle.sb_rulebook.specs.Translation.{translation, membership}
 use Rattle.sb_rulebook.proofs.CallerLemmas.{same_pieces, asked_translation}
 use Rattle.sb_proof.specs.Tapes.{with_bytes}
 use Rattle.sb_atoms.specs.Numbered.{Names, IsWith, AreDistinct, Extends, over, atoms_in, HaveRegexesBelow}
-use Rattle.sb_atoms.specs.Translated.{brought_translation, IsAdded}
+use Rattle.sb_atoms.specs.Translated.{member_translation, IsAdded}
 use Rattle.sb_trace.specs.Tracking.{Traced, TracesUncounted}
 use Rattle.sb_trace.proofs.CallerLemmas.{puts_none, puts_both}
 use Rattle.sb_refute.specs.Backing.{Backing, Backs, EvidencesUncounted, IsLive}
@@ -82,7 +82,7 @@ same-parts sorts atoms rs x r (sum_atom k ss) h declared = absurd (false≢true 
 same-parts sorts atoms rs x r (and_atom ls) h declared = absurd (false≢true h)
 same-parts sorts atoms rs x r (iff_atom l m) h declared = absurd (false≢true h)
 
-brought-is : (atoms : List Atom) (t : Term) (l : Lit) → Some l ≡ brought_translation atoms t
+brought-is : (atoms : List Atom) (t : Term) (l : Lit) → Some l ≡ member_translation atoms t
     → (is_membership t ≡ true) × (translation atoms t ≡ Some l)
 brought-is atoms t l h = step (is_membership t) refl h
   where
@@ -93,7 +93,7 @@ brought-is atoms t l h = step (is_membership t) refl h
 
 atom-parts : (sorts : List Sort) (rs : List Regex) (old new : List (AtomOver ℕ)) (t : Term) (l : Lit) (a : AtomOver ℕ)
     → ((serial : ℕ) (expression : Term) → brought.asked t ≡ Some (serial, expression)
-    → is_declared sorts text serial ≡ true) → Some l ≡ brought_translation (atoms_in rs new) t → Names new l.atom a
+    → is_declared sorts text serial ≡ true) → Some l ≡ member_translation (atoms_in rs new) t → Names new l.atom a
     → has_its_parts sorts (atoms_in rs old) a ≡ true
 atom-parts sorts rs old new t l a declared literal names =
     let known = brought-is (atoms_in rs new) t l literal in
@@ -107,17 +107,17 @@ atom-parts sorts rs old new t l a declared literal names =
     (declared m.serial R m.is)
 
 pub brings-atom : (asked : Asked) (rs : List Regex) (old new : List (AtomOver ℕ)) (place : ℕ) (t : Term) (l : Lit)
-    (level : ℕ) → IsLive asked place t level → Some l ≡ brought_translation (atoms_in rs new) t → IsAdded old new (Some l)
+    (level : ℕ) → IsLive asked place t level → Some l ≡ member_translation (atoms_in rs new) t → IsAdded old new (Some l)
     → BringsAtom asked rs old new l
 brings-atom asked rs old new place t l level live literal added = record {
-  atom = added.0;
-  names = added.2;
-  is = added.1;
-  parts = atom-parts asked.sorts rs old new t l added.0 live.declared literal added.2;
+  atom = alone added.0 added.1;
+  names = added.3;
+  is = added.2;
+  parts = atom-parts asked.sorts rs old new t l (alone added.0 added.1) live.declared literal added.3;
 }
 
 pub is-assertion : (asked : Asked) (rs : List Regex) (memo : Memo) (e : Backing) (kept : AllKept) (place : ℕ) (t : Term)
-    (l : Lit) (level : ℕ) → IsLive asked place t level → Some l ≡ brought_translation (atoms_in rs e.atoms) t
+    (l : Lit) (level : ℕ) → IsLive asked place t level → Some l ≡ member_translation (atoms_in rs e.atoms) t
     → Backs rs memo e kept → IsAssertion asked kept place l level
 is-assertion asked rs memo e kept place t l level live literal b = record {
   term = t;

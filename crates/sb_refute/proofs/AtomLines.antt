@@ -1,9 +1,10 @@
 -- The line of an atom follows.
-use Rattle.std.proofs.Common.{◌≡◌, ℕ, suc, ◌<◌, Bool, true, false, ◌&&◌, ◌||◌, if◌then◌else◌, List, [], ◌∷◌, ◌++◌, length, slice_get, Some, None, option_map, Result, Ok, Err, refl, sym, ap, ap₂, ◌∙◌}
+use Rattle.std.proofs.Common.{◌≡◌, ℕ, zero, suc, ◌<◌, Bool, true, false, ◌&&◌, ◌||◌, if◌then◌else◌, List, [], ◌∷◌, ◌++◌, length, slice_get, Some, None, option_map, Result, Ok, Err, refl, sym, ap, ap₂, ◌∙◌, arith}
 use Rattle.std.specs.List.{list_any}
 use Rattle.std.specs.Cmp.Lexicographic.{pointwise}
 use Rattle.std.proofs.lemmas.Bool.{and_parts, false≢true}
 use Rattle.std.proofs.lemmas.List.{map-append}
+use Rattle.std.proofs.lemmas.Option.{slice_get_within}
 use Rattle.sb_lang.specs.Regex.{Regex}
 use Rattle.sb_lang.specs.Order.{regex_eq}
 use Rattle.sb_lang.specs.OrderLaws.{OrderTellsApart}
@@ -18,7 +19,21 @@ use Rattle.sb_rulebook.specs.Lines.{atom_line}
 use Rattle.sb_rulebook.specs.Follows.{follows}
 use Rattle.sb_rulebook.proofs.CallerLemmas.{same_pieces, same_regex}
 use Rattle.sb_script.specs.Pieces.{constant_piece}
+use Rattle.sb_atoms.specs.Translated.{is_member, are_members}
 use Rattle.sb_atoms.specs.Numbered.{Names, over, atoms_in, HasRegexBelow, HaveRegexesBelow}
+
+-- an atom of memberships is one
+pub member-at : (atoms : List (AtomOver ℕ)) (i : ℕ) (a : AtomOver ℕ) → are_members atoms ≡ true → Names atoms i a
+    → is_member a ≡ true
+member-at [] i a h names = absurd (nothing i a names)
+  where
+    nothing : (i : ℕ) (a : AtomOver ℕ) → Names [] i a → ⊥
+    nothing i a names = omega (arith, slice_get_within [] i a names)
+member-at (b ∷ atoms) zero a h names = ap is_member (same b a names) ∙ (and_parts (is_member b) (are_members atoms) h).0
+  where
+    same : (x y : AtomOver ℕ) → Some x ≡ Some y → y ≡ x
+    same x y e = cc
+member-at (b ∷ atoms) (suc i) a h names = member-at atoms i a (and_parts (is_member b) (are_members atoms) h).1 names
 
 -- the membership of a constant
 abbrev pub alone : ℕ → ℕ → AtomOver ℕ

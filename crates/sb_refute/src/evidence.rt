@@ -12,7 +12,7 @@ ghost use Rattle.sb_fragment.specs.Measures.{AreMeasures};
 ghost use Rattle.sb_rulebook.specs.Atoms.{AtomOver, in_atom};
 ghost use Rattle.sb_rulebook.specs.Kept.{AllKept, Asked, nothing_kept, dropped_above, all_dropped};
 ghost use Rattle.sb_atoms.specs.Numbered.{atom_in, atoms_in, HaveRegexesBelow, Extends};
-ghost use Rattle.sb_atoms.specs.Translated.{brought_translation, HasNoLiteral};
+ghost use Rattle.sb_atoms.specs.Translated.{member_translation, is_member, are_members, HasNoMemberLiteral};
 ghost use Rattle.sb_trace.specs.Putting.{CountsTapeFault};
 ghost use Rattle.sb_trace.specs.Tracking.{StaysNumbered};
 ghost use Rattle.sb_refute.specs.Backing.{Backs, EvidencesUncounted, IsLive, KeepsAsserted, AreUpTo, asserted_at, retracted, refuted_up_to, cleared};
@@ -64,6 +64,8 @@ pub struct Evidence {
 
 impl Model for Evidence {
     ghost use Rattle.sb_refute.specs.Backing.{Backing};
+    ghost use Rattle.std.specs.Prelude.{◌≡◌, true};
+    ghost use Rattle.sb_atoms.specs.Translated.{are_members};
     ghost use Rattle.sb_refute.specs.Units.{AreOfAtoms};
 
     ghost Value = { Backing };
@@ -77,7 +79,8 @@ impl Model for Evidence {
       refuted = evidence.refuted;
     } };
 
-    ghost invariant = { λ evidence. AreOfAtoms evidence.atoms evidence.asserted.items };
+    ghost invariant = { λ evidence. AreOfAtoms evidence.atoms evidence.asserted.items
+        × (are_members evidence.atoms ≡ true) };
 }
 
 impl Evidence {
@@ -178,11 +181,11 @@ impl Evidence {
             → EvidencesUncounted asked before arena.new memo self.new (L.Tape.told tape.old) (L.Tape.told tape.new)) }
         ensures asserted { IfOk result (λ found. found ≡ asserted_at self.new.asserted place) }
         ensures literal { IfOk result (λ found. option_map (λ a. a.literal) found
-            ≡ brought_translation (atoms_in arena.new self.new.atoms) (term_at table.now term)) }
+            ≡ member_translation (atoms_in arena.new self.new.atoms) (term_at table.now term)) }
         ensures level { IfOk result (λ found. IfSome found (λ a. a.level ≡ level)) }
-        ensures none { IfOk result (λ found. found ≡ None → HasNoLiteral (term_at table.now term)) }
+        ensures none { IfOk result (λ found. found ≡ None → HasNoMemberLiteral (term_at table.now term)) }
         ensures stays { OnOk result (IfSome (asserted_at self.old.asserted place) (λ a. (a.level ≡ level)
-            × (Some a.literal ≡ brought_translation (atoms_in arena.new self.new.atoms) (term_at table.now term)))
+            × (Some a.literal ≡ member_translation (atoms_in arena.new self.new.atoms) (term_at table.now term)))
             → KeepsAsserted self.old self.new) }
         ensures others { OnOk result ((other : ℕ) → other ≢ place
             → asserted_at self.new.asserted other ≡ asserted_at self.old.asserted other) }
@@ -195,7 +198,10 @@ impl Evidence {
         ensures counts { CountsTapeFault result (L.Tape.faults tape.old) (L.Tape.faults tape.new) }
     {
         let known = self.atoms.len();
-        let Some(literal) = self.atoms.translate(measures, normals, table, arena, term)? else {
+        let Some(literal) = self
+            .atoms
+            .translate_member(measures, normals, table, arena, term)?
+        else {
             self.keep(place, None)?;
             return Ok(None);
         };
@@ -227,6 +233,7 @@ impl Evidence {
         tape: &mut L,
     ) -> Result<(), TapeFault>
         requires atom { literal.atom < length self.old.atoms }
+        requires members { are_members self.old.atoms ≡ true }
         requires regexes { HaveRegexesBelow (length arena.now) self.old.atoms }
         ensures puts { OnOk result ((asked : Asked) (memo : Memo) (before : AllKept) (atoms : List (AtomOver ℕ))
             → BringsAtom asked arena.now atoms self.old.atoms literal → length atoms ≡ known
@@ -242,7 +249,7 @@ impl Evidence {
         self.atoms.atoms_each_once();
         arena.normal_regexes_each_once();
         order_tells_apart();
-        let (serial, regex) = membership_of(*self.atoms.describe(AtomId::of(literal)));
+        let (serial, regex) = membership_of(self.atoms.describe(AtomId::of(literal)));
         let number = self.trace.number(arena, regex, tape)?;
         let pieces = constant(self.alloc, serial)?;
         tape.put(&Line::Atom(ProofAtom::In(pieces, number)))?;
@@ -332,9 +339,12 @@ fn constant(alloc: Global, serial: Serial) -> Result<Vec<Piece>, AllocError>
 }
 
 /// The constant and the regex of an atom.
-pub(crate) fn membership_of(atom: Atom) -> (Serial, RegexId)
-    ensures { atom_in atom ≡ in_atom (constant_piece result.0.0 ∷ []) result.1 }
+pub(crate) fn membership_of(atom: &Atom) -> (Serial, RegexId)
+    requires { is_member (atom_in atom.now) ≡ true }
+    ensures { atom_in atom.now ≡ in_atom (constant_piece result.0.0 ∷ []) result.1 }
 {
-    let Atom::In(serial, regex) = atom;
-    (serial, regex)
+    let Atom::In(serial, regex) = atom else {
+        unreachable!();
+    };
+    (*serial, *regex)
 }

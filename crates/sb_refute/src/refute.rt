@@ -12,6 +12,7 @@ ghost use Rattle.sb_graph.specs.Findings.{IsGraph, KeepsMarks};
 ghost use Rattle.sb_rulebook.specs.Kept.{AllKept, Asked};
 ghost use Rattle.sb_rulebook.specs.LineLaws.{are_small, is_small_literal};
 ghost use Rattle.sb_atoms.specs.Numbered.{HaveRegexesBelow};
+ghost use Rattle.sb_atoms.specs.Translated.{are_members};
 ghost use Rattle.sb_trace.specs.Putting.{IsCounted, CountsTapeFault};
 ghost use Rattle.sb_trace.specs.Tracking.{StaysNumbered, Tracks, Traces, is_dead_in};
 ghost use Rattle.sb_refute.specs.Backing.{Backs, Evidences};
@@ -271,7 +272,8 @@ impl Evidence {
 
     /// The literals of assertions are positive, of atoms of the table.
     fn literals_are_of_atoms(&self)
-        ensures { AreOfAtoms self.now.atoms self.now.asserted }
+        ensures of { AreOfAtoms self.now.atoms self.now.asserted }
+        ensures members { are_members self.now.atoms ≡ true }
     {
         let _atoms = &self.atoms;
     }
@@ -324,7 +326,8 @@ fn show_dead<L: Tape>(
 
 /// The regexes of the atoms.
 fn regexes_of(alloc: Global, atoms: &Atoms, units: &Units) -> Result<Vec<RegexId>, AllocError>
-    requires { All (λ u. u.0 < length atoms.now) (numbered units.now.entries) }
+    requires below { All (λ u. u.0 < length atoms.now) (numbered units.now.entries) }
+    requires members { are_members atoms.now ≡ true }
     ensures rise { OnOk result (Rise (numbered units.now.entries)) }
     ensures regexes { IfOk result (λ regexes. AreRegexesOf atoms.now (numbered units.now.entries) regexes.items) }
 {
@@ -337,10 +340,11 @@ fn regexes_of(alloc: Global, atoms: &Atoms, units: &Units) -> Result<Vec<RegexId
 
 /// The regex of an atom.
 fn regex_of(atoms: &Atoms, atom: u64) -> RegexId
-    requires { atom < length atoms.now }
+    requires below { atom < length atoms.now }
+    requires members { are_members atoms.now ≡ true }
     ensures { IsOfRegex atoms.now atom result }
 {
-    let (_, regex) = membership_of(*atoms.describe(AtomId::of(literal(atom, true))));
+    let (_, regex) = membership_of(atoms.describe(AtomId::of(literal(atom, true))));
     regex
 }
 

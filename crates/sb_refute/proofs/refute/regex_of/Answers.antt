@@ -1,6 +1,10 @@
 use Rattle.std.proofs.Common.{Some, ap, sym, ◌∙◌, slice_get}
 use Rattle.sb_lit.specs.declared.clause.Lit.{Lit}
+use Rattle.sb_refute.proofs.AtomLines.{member-at}
 use Rattle.sb_refute.proofs.refute.regex_of.Goals as goal
+
+pub membership_of-regex-requires : goal.membership_of-regex-requires
+membership_of-regex-requires c = member-at c.args.atoms.now c.of.result _ c.requires.members c.describe.ensures
 
 pub returns : goal.returns
 returns c = (

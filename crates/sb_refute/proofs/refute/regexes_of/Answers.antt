@@ -10,10 +10,10 @@ loop-atom-init c =
     collects-none c.args.atoms.now c.args.units.now.entries c.into_iter-atom-iterator.result
     c.in_ok-regexes.regexes.items
     (c.into_iter-atom-iterator.ensures.into_iter_gives ∙ c.keys-atom-items.ensures.rest) c.in_ok-regexes.ensures.items
-    c.requires
+    c.requires.below
 
-pub regex_of-requires : goal.regex_of-requires
-regex_of-requires c =
+pub regex_of-requires-clause-below : goal.regex_of-requires-clause-below
+regex_of-requires-clause-below c =
     collects-below c.args.atoms.now (numbered c.args.units.now.entries) c.loop-atom.atom-iterator
     c.loop-atom.regexes.items c.in-Some.atom.now c.next.new.self
     (rest_more deref c.loop-atom.atom-iterator c.next.new.self c.next.result c.in-Some.atom c.in-Some.is

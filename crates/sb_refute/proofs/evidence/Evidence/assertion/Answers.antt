@@ -2,9 +2,10 @@ use Rattle.std.proofs.Common.{◌≡◌, ◌<◌, length, Some, None, sym, ap, s
 use Rattle.std.proofs.lemmas.Option.{slice_get_within}
 use Rattle.sb_term.specs.Numbered.{term_at}
 use Rattle.sb_atoms.specs.Numbered.{atoms_in}
-use Rattle.sb_atoms.specs.Translated.{brought_translation, IsAdded}
+use Rattle.sb_atoms.specs.Translated.{member_translation, IsAdded}
 use Rattle.sb_refute.specs.Backing.{Backing, Backs, EvidencesUncounted, asserted_at}
 use Rattle.sb_refute.specs.Lines.{IsStanding, placed}
+use Rattle.sb_refute.proofs.AtomLines.{alone}
 use Rattle.sb_refute.proofs.Backs.{backs-more}
 use Rattle.sb_refute.proofs.Places.{placed-there, placed-others}
 use Rattle.sb_refute.proofs.Asserting.{brings-atom, is-assertion, both-put}
@@ -14,8 +15,8 @@ use Rattle.sb_refute.proofs.evidence.Evidence.assertion.Goals as goal
 pub returns-in_default-clause-puts : goal.returns-in_default-clause-puts
 returns-in_default-clause-puts g c = λ asked memo before b live.
     let e = c.args.self.now in
-    let more = c.translate.new.arena in
-    let atoms = c.translate.new.self in
+    let more = c.translate_member.new.arena in
+    let atoms = c.translate_member.new.self in
     let place = c.args.place in
     let told = g.L.Tape.told c.args.tape.now in
     let same = subst (IsAdded c.self.inside.atoms atoms) c.in_default.is c.in_ok-literal.ensures.adds
@@ -37,7 +38,7 @@ returns-in_default-clause-stays g c =
     stays-without c.args.self.now.asserted c.keep.new.self.asserted c.args.place c.args.level None _
     (ap (λ (f : Backing). f.asserted) c.in_ok-keep.ensures.ok
     ∙ ap (λ (f : Backing). placed f.asserted c.args.place None) c.self.view_is)
-    (ap (λ (f : Backing). brought_translation (atoms_in c.translate.new.arena f.atoms)
+    (ap (λ (f : Backing). member_translation (atoms_in c.translate_member.new.arena f.atoms)
     (term_at c.args.table.now c.args.term)) c.in_ok-keep.ensures.ok
     ∙ (sym c.in_ok-literal.ensures.ok ∙ c.in_default.is))
 
@@ -49,18 +50,18 @@ returns-in_default-clause-others g c = λ other apart.
 
 pub define-requires-clause-atom : goal.define-requires-clause-atom
 define-requires-clause-atom g c =
-    let added = subst (IsAdded c.self.inside.atoms c.translate.new.self) c.in-Some.is c.in_ok-literal.ensures.adds in
-    slice_get_within c.translate.new.self c.in-Some.literal.atom added.0 added.2
+    let added = subst (IsAdded c.self.inside.atoms c.translate_member.new.self) c.in-Some.is c.in_ok-literal.ensures.adds in
+    slice_get_within c.translate_member.new.self c.in-Some.literal.atom (alone added.0 added.1) added.3
 
 pub returns-in-Some-standing-clause-puts : goal.returns-in-Some-standing-clause-puts
 returns-in-Some-standing-clause-puts g c = λ asked memo before b live.
     let t = term_at c.args.table.now c.args.term in
-    let more = c.translate.new.arena in
+    let more = c.translate_member.new.arena in
     let old = c.self.inside.atoms in
-    let atoms = c.translate.new.self in
+    let atoms = c.translate_member.new.self in
     let l = c.in-Some.literal in
     let translated = c.in_ok-literal.ensures in
-    let literal : Some l ≡ brought_translation (atoms_in more atoms) t = sym c.in-Some.is ∙ translated.ok in
+    let literal : Some l ≡ member_translation (atoms_in more atoms) t = sym c.in-Some.is ∙ translated.ok in
     c.in_ok-define.ensures.puts asked memo before old
     (brings-atom asked more old atoms c.args.place t l c.args.level live literal
     (subst (IsAdded old atoms) c.in-Some.is translated.adds))
@@ -70,9 +71,9 @@ returns-in-Some-standing-clause-puts g c = λ asked memo before b live.
 
 pub claim-requires-clause-known : goal.claim-requires-clause-known
 claim-requires-clause-known g c =
-    let added = subst (IsAdded c.self.inside.atoms c.translate.new.self) c.in-Some.is c.in_ok-literal.ensures.adds in
+    let added = subst (IsAdded c.self.inside.atoms c.translate_member.new.self) c.in-Some.is c.in_ok-literal.ensures.adds in
     subst (λ (f : Backing). c.in-Some.literal.atom < length f.atoms) (sym c.in_ok-define.ensures.others)
-    (slice_get_within c.translate.new.self c.in-Some.literal.atom added.0 added.2)
+    (slice_get_within c.translate_member.new.self c.in-Some.literal.atom (alone added.0 added.1) added.3)
 
 pub returns-clause-asserted : goal.returns-clause-asserted
 returns-clause-asserted g c =
@@ -82,13 +83,13 @@ returns-clause-asserted g c =
 pub returns-clause-puts : goal.returns-clause-puts
 returns-clause-puts g c = λ asked memo before b live.
     let t = term_at c.args.table.now c.args.term in
-    let more = c.translate.new.arena in
+    let more = c.translate_member.new.arena in
     let old = c.self.inside.atoms in
-    let atoms = c.translate.new.self in
+    let atoms = c.translate_member.new.self in
     let l = c.in-Some.literal in
     let mid = c.define.new.self in
     let translated = c.in_ok-literal.ensures in
-    let literal : Some l ≡ brought_translation (atoms_in more atoms) t = sym c.in-Some.is ∙ translated.ok in
+    let literal : Some l ≡ member_translation (atoms_in more atoms) t = sym c.in-Some.is ∙ translated.ok in
     both-put asked before more memo mid c.claim.new.self (g.L.Tape.told c.args.tape.now)
     (g.L.Tape.told c.define.new.tape) (g.L.Tape.told c.claim.new.tape)
     (c.in_ok-define.ensures.puts asked memo before old
@@ -99,17 +100,17 @@ returns-clause-puts g c = λ asked memo before b live.
     (backs-more c.args.arena.now more memo c.args.self.now before translated.arena c.requires.regexes b)))
     (λ after then. c.in_ok-claim.ensures.puts asked more memo after then
     (is-assertion asked more memo mid after c.args.place t l c.args.level live
-    (subst (λ (f : Backing). Some l ≡ brought_translation (atoms_in more f.atoms) t)
+    (subst (λ (f : Backing). Some l ≡ member_translation (atoms_in more f.atoms) t)
     (sym c.in_ok-define.ensures.others) literal) then))
 
 pub returns-clause-stays : goal.returns-clause-stays
 returns-clause-stays g c =
     let t = term_at c.args.table.now c.args.term in
-    let more = c.translate.new.arena in
+    let more = c.translate_member.new.arena in
     let place = c.args.place in
     let l = c.in-Some.literal in
     let one = c.in_ok-claim.field-0 in
-    let literal : Some l ≡ brought_translation (atoms_in more c.translate.new.self) t =
+    let literal : Some l ≡ member_translation (atoms_in more c.translate_member.new.self) t =
     sym c.in-Some.is ∙ c.in_ok-literal.ensures.ok in
     stays-claimed c.args.self.now.asserted c.claim.new.self.asserted place l c.args.level (Some one) _
     (c.in_ok-claim.ensures.asserted
@@ -120,7 +121,7 @@ returns-clause-stays g c =
     c.in_ok-define.ensures.others
     (subst (IsStanding (asserted_at c.define.new.self.asserted place) l c.args.level) c.in_default-standing.is
     c.standing.ensures)))
-    (subst (λ xs. Some l ≡ brought_translation (atoms_in more xs) t)
+    (subst (λ xs. Some l ≡ member_translation (atoms_in more xs) t)
     (sym (c.in_ok-claim.ensures.atoms ∙ ap (λ (f : Backing). f.atoms) c.in_ok-define.ensures.others)) literal)
 
 pub returns-clause-others : goal.returns-clause-others
@@ -129,3 +130,6 @@ returns-clause-others g c = λ other apart.
     ∙ (placed-others c.define.new.self.asserted c.args.place (Some c.in_ok-claim.field-0) other apart
     ∙ (ap (λ (f : Backing). asserted_at f.asserted other) c.in_ok-define.ensures.others
     ∙ ap (λ (f : Backing). asserted_at f.asserted other) c.self.view_is))
+
+pub define-requires-clause-members : goal.define-requires-clause-members
+define-requires-clause-members g c = c.in_ok-literal.ensures.members c.self.invariant.1

@@ -1,4 +1,4 @@
-use Rattle.std.proofs.Common.{length, sym, ap, subst, ◌∙◌, arith}
+use Rattle.std.proofs.Common.{◌≡◌, length, true, sym, ap, subst, ◌∙◌, arith}
 use Rattle.sb_script.specs.Steps.{line}
 use Rattle.sb_rulebook.specs.Atoms.{in_atom}
 use Rattle.sb_rulebook.specs.Lines.{atom_line, text_of}
@@ -6,9 +6,15 @@ use Rattle.sb_proof.specs.Tapes.{with_bytes}
 use Rattle.sb_atoms.specs.Numbered.{AreDistinct}
 use Rattle.sb_trace.specs.Tracking.{Tracks}
 use Rattle.sb_refute.specs.Backing.{Backing, EvidencesUncounted}
-use Rattle.sb_refute.proofs.AtomLines.{alone}
+use Rattle.sb_atoms.specs.Translated.{are_members}
+use Rattle.sb_refute.proofs.AtomLines.{alone, member-at}
 use Rattle.sb_refute.proofs.Asserting.{named-here, atom-defined}
 use Rattle.sb_refute.proofs.evidence.Evidence.define.Goals as goal
+
+pub membership_of-regex-requires : goal.membership_of-regex-requires
+membership_of-regex-requires g c =
+    member-at c.self.inside.atoms c.of.result _
+    (subst (λ (e : Backing). are_members e.atoms ≡ true) (sym c.self.view_is) c.requires.members) c.describe.ensures
 
 pub number-requires : goal.number-requires
 number-requires g c =

@@ -1,22 +1,27 @@
-use Rattle.std.proofs.Common.{◌≡◌, ◌≢◌, ℕ, ◌<◌, false, None, length, All, [], sym, ap, subst, ◌∙◌}
+use Rattle.std.proofs.Common.{◌≡◌, ◌≢◌, ℕ, ◌<◌, true, false, None, length, All, [], sym, ap, subst, ◌∙◌}
 use Rattle.std.proofs.lemmas.Result.{on_ok_weaker}
 use Rattle.sb_lang.specs.Constructors.{mkand}
 use Rattle.sb_lit.specs.Hints.{is_repeated}
 use Rattle.sb_regex.specs.Numbered.{regexes_at}
 use Rattle.sb_regex.proofs.CallerLemmas.{extends_more, names_below}
 use Rattle.sb_atoms.specs.Numbered.{HaveRegexesBelow}
+use Rattle.sb_atoms.specs.Translated.{are_members}
 use Rattle.sb_refute.specs.Backing.{Backing, Backs}
 use Rattle.sb_refute.specs.Units.{Member, AreOfAtoms, HaveNoWord, AreRegexesOf, numbered}
 use Rattle.sb_refute.proofs.Backs.{backs-more}
 use Rattle.sb_refute.proofs.Memberships.{units-below, some-units, regexes-known, no-word, explored-put, denied-all}
 use Rattle.sb_refute.proofs.evidence.Evidence.deny.Goals as goal
 
-pub regexes_of-requires : goal.regexes_of-requires
-regexes_of-requires g c =
+pub regexes_of-requires-clause-below : goal.regexes_of-requires-clause-below
+regexes_of-requires-clause-below g c =
     let us = numbered c.args.units.now.entries in
     subst (λ (v : Backing). All (λ (u : Member). u.0 < length v.atoms) us) (sym c.self.view_is)
-    (units-below c.args.self.now c.requires.members.places us c.literals_are_of_atoms.ensures
+    (units-below c.args.self.now c.requires.members.places us c.literals_are_of_atoms.ensures.of
     c.requires.members.units)
+
+pub regexes_of-requires-clause-members : goal.regexes_of-requires-clause-members
+regexes_of-requires-clause-members g c =
+    subst (λ (v : Backing). are_members v.atoms ≡ true) (sym c.self.view_is) c.literals_are_of_atoms.ensures.members
 
 pub and-requires : goal.and-requires
 and-requires g c =

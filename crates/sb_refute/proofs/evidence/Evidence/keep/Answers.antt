@@ -4,9 +4,11 @@ use Rattle.sb_refute.proofs.Standing.{of-placed}
 use Rattle.sb_refute.proofs.evidence.Evidence.keep.Goals as goal
 
 pub invariant_of-self : goal.invariant_of-self
-invariant_of-self c =
-    of-placed c.put_at.result c.self.inside.atoms c.self.inside.asserted.items c.put_at.new.all.items c.args.place
-    c.args.asserted c.put_at.ensures.ok c.put_at.ensures.err
-    (subst (λ (v : Backing). IfSome c.args.asserted
-    (λ a. (a.literal.positive ≡ true) × (a.literal.atom < length v.atoms))) (sym c.self.view_is) c.requires)
-    c.self.invariant
+invariant_of-self c = (
+  of-placed c.put_at.result c.self.inside.atoms c.self.inside.asserted.items c.put_at.new.all.items c.args.place
+      c.args.asserted c.put_at.ensures.ok c.put_at.ensures.err
+      (subst (λ (v : Backing). IfSome c.args.asserted
+      (λ a. (a.literal.positive ≡ true) × (a.literal.atom < length v.atoms))) (sym c.self.view_is) c.requires)
+      c.self.invariant.0,
+  c.self.invariant.1,
+)

@@ -21,7 +21,7 @@ returns-clause-leads c = λ rs memo kept b.
     let part = c.requires.part in
     reasons-lead rs memo c.args.self.now kept c.requires.units.places (numbered c.args.units.now.entries) c.args.place
     c.level_of-level.result part c.literals.result.now c.in_ok-picked.picked.items c.number.result.0
-    c.in_ok-hints.hints.items c.literals_are_of_atoms.ensures
+    c.in_ok-hints.hints.items c.literals_are_of_atoms.ensures.of
     (subst (λ (v : Backing). AreDenials v.denials) c.self.view_is c.are_denials.ensures) c.requires.units.units
     (c.literals.ensures part.clause
     (ap (λ (v : Backing). kept_at v.denials.clauses c.args.place) c.self.view_is ∙ part.there))
