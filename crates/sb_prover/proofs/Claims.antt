@@ -40,7 +40,7 @@ use Rattle.sb_rulebook.specs.Translation.{translation, membership, positive}
 use Rattle.sb_rulebook.proofs.CallerLemmas.{same_atom, atom_itself, asked_translation}
 use Rattle.sb_atoms.specs.Numbered as numbered
 use Rattle.sb_atoms.specs.Numbered.{Names, over, atoms_in, HaveRegexesBelow}
-use Rattle.sb_atoms.specs.Translated.{brought_translation, HasNoLiteral}
+use Rattle.sb_atoms.specs.Translated.{member_translation, HasNoMemberLiteral}
 use Rattle.sb_decide.specs.Places.{IsPlaceOf}
 use Rattle.sb_refute.specs.declared.evidence.Asserted.{Asserted}
 use Rattle.sb_refute.specs.Backing.{Backing, Backs, EvidencesUncounted, IsLive, asserted_at}
@@ -131,7 +131,7 @@ of-membership atoms serial R reglan regular means = rw (regular, means) refl
 literal-of : (atoms : List Atom) (t : Term) (serial : ℕ) (R : Term) (reglan : RegLan)
     → brought.asked t ≡ Some (serial, R) → is_regex R ≡ true → is_regular R ≡ true
     → meaning_of [] R ≡ means_reglan reglan
-    → brought_translation atoms t ≡ positive atoms (in_atom (constant_piece serial ∷ []) (normal reglan))
+    → member_translation atoms t ≡ positive atoms (in_atom (constant_piece serial ∷ []) (normal reglan))
 literal-of atoms t serial R reglan asks kind regular means =
     ap (λ (b : Bool). if b then translation atoms t else None) (asked_membership t serial R asks ∙ kind)
     ∙ asked_translation t serial R asks atoms
@@ -142,7 +142,7 @@ first-there test a h = rw h refl
 
 -- there is one over some table
 pub has-literal : OrderTellsApart → (rs : List Regex) (t : Term) (serial : ℕ) (R : Term) (found : Option ℕ)
-    → brought.asked t ≡ Some (serial, R) → is_decided (asserted t) ≡ true → IsNumberOf rs R found → HasNoLiteral t → ⊥
+    → brought.asked t ≡ Some (serial, R) → is_decided (asserted t) ≡ true → IsNumberOf rs R found → HasNoMemberLiteral t → ⊥
 has-literal apart rs t serial R found asks decided number none =
     let parts = decided-parts t serial R asks decided in
     let m = meant rs R found parts.0 number in
@@ -205,7 +205,7 @@ pub is-claimed : OrderTellsApart → (assertions : List Assertion) (serial place
     → is_regular R ≡ true → ((v : Valuation) → meaning_of v R ≡ means_reglan reglan)
     → slice_get assertions place ≡ Some (asserted t)
     → HaveRegexesBelow (length rs) e.atoms → asserted_at e.asserted place ≡ Some a
-    → Some a.literal ≡ brought_translation (atoms_in rs e.atoms) t
+    → Some a.literal ≡ member_translation (atoms_in rs e.atoms) t
     → IsClaimed assertions serial rs e place
 is-claimed apart assertions serial place t R reglan rs e a asks kind regular means stands below there literal = record {
   term = t;
@@ -278,7 +278,7 @@ pub claims : OrderTellsApart → (asked : Asked) (assertions : List Assertion) (
     → numbered.Extends e.atoms f.atoms
     → ((other : ℕ) → other ≢ place → asserted_at f.asserted other ≡ asserted_at e.asserted other)
     → o ≡ asserted_at f.asserted place → o ≡ Some a
-    → option_map (λ (b : Asserted). b.literal) o ≡ brought_translation (atoms_in more f.atoms) t
+    → option_map (λ (b : Asserted). b.literal) o ≡ member_translation (atoms_in more f.atoms) t
     → IfSome o (λ (b : Asserted). b.level ≡ n) → level_at asked.live place ≡ Some n
     → Claims asked assertions serial place rs more e f old new
 claims apart asked assertions serial z place t R n found rs mid more e f o a old new p stands asks number first second
@@ -312,7 +312,7 @@ claims apart asked assertions serial z place t R n found rs mid more e f o a old
 -- Some clause is put.
 pub never-none : OrderTellsApart → (assertions : List Assertion) (serial z place : ℕ) (t R : Term) (found : Option ℕ)
     (rs : List Regex) → IsPlaceOf assertions serial place → slice_get assertions place ≡ Some (asserted t)
-    → brought.asked t ≡ Some (z, R) → IsNumberOf rs R found → HasNoLiteral t → ⊥
+    → brought.asked t ≡ Some (z, R) → IsNumberOf rs R found → HasNoMemberLiteral t → ⊥
 never-none apart assertions serial z place t R found rs p stands asks number none =
     let is = its-asking assertions serial place t p stands in
     has-literal apart rs t serial p.regex found is (its-decision assertions serial place t p stands)

@@ -7,7 +7,7 @@ use Rattle.sb_term.specs.Numbered.{term_at}
 use Rattle.sb_problem.specs.Normals.{IsNumberOf}
 use Rattle.sb_problem.specs.Patterns.{number_of, pattern_in}
 use Rattle.sb_rulebook.specs.Accepted.{asked_in}
-use Rattle.sb_atoms.specs.Translated.{HasNoLiteral, brought_translation}
+use Rattle.sb_atoms.specs.Translated.{HasNoMemberLiteral, member_translation}
 use Rattle.sb_atoms.specs.Numbered.{atoms_in}
 use Rattle.sb_refute.specs.declared.evidence.Asserted.{Asserted}
 use Rattle.sb_atoms.proofs.CallerLemmas.{regexes_kept}
@@ -54,7 +54,7 @@ unreachable-requires g c =
     c.requires.member.1 c.member_at-term.ensures.stands asks
     (subst (λ us. IsNumberOf c.pattern.new.arena (pattern_in us q) c.in_ok-pattern.field-0) same
     c.in_ok-pattern.ensures.number)
-    (subst (λ us. HasNoLiteral (term_at us id)) same (c.in_ok-assertion.ensures.none c.in-None.is)))
+    (subst (λ us. HasNoMemberLiteral (term_at us id)) same (c.in_ok-assertion.ensures.none c.in-None.is)))
 
 pub returns-clause-claims : goal.returns-clause-claims
 returns-clause-claims g c = λ serial p.
@@ -87,6 +87,6 @@ returns-clause-claims g c = λ serial p.
     c.in_ok-assertion.ensures.extends c.in_ok-assertion.ensures.others
     c.in_ok-assertion.ensures.asserted c.in-Some.is
     (subst (λ us. option_map (λ (b : Asserted). b.literal) c.in_ok-assertion.field-0
-    ≡ brought_translation (atoms_in c.assertion.new.arena c.assertion.new.self.atoms) (term_at us id)) same
+    ≡ member_translation (atoms_in c.assertion.new.arena c.assertion.new.self.atoms) (term_at us id)) same
     c.in_ok-assertion.ensures.literal)
     c.in_ok-assertion.ensures.level (ap (option_map (λ (x : Option Term × ℕ). x.1)) placed.live)
