@@ -1,6 +1,5 @@
 -- The lines of clauses follow.
-use Rattle.std.proofs.Common.{◌≡◌, ◌≢◌, ℕ, ◌+◌, ◌<◌, inl, inr, true, false, not, if◌then◌else◌, List, [], ◌∷◌, length, slice_get, Some, Ok, refl, sym, ap, subst, ◌∙◌, Contains}
-use Rattle.std.specs.List.{list_all}
+use Rattle.std.proofs.Common.{◌≡◌, ◌≢◌, ℕ, ◌+◌, ◌<◌, inl, inr, true, false, List, [], ◌∷◌, length, slice_get, Some, Ok, refl, sym, ap, subst, ◌∙◌, Contains}
 use Rattle.std.proofs.lemmas.Bool.{true≢false}
 use Rattle.std.proofs.lemmas.Option.{slice_get_within}
 use Rattle.sb_lit.specs.declared.clause.Lit.{Lit}
@@ -11,7 +10,7 @@ use Rattle.sb_meaning.specs.Terms.{Term}
 use Rattle.sb_rulebook.specs.Atoms.{Atom}
 use Rattle.sb_rulebook.specs.Lines.{rule_line, assertion_line, learned_line, empty}
 use Rattle.sb_rulebook.specs.Kept.{AllKept, Asked, most_counted, with_clause, rests_of_any}
-use Rattle.sb_rulebook.specs.Follows.{not_brought, by_rule, follows}
+use Rattle.sb_rulebook.specs.Follows.{follows}
 use Rattle.sb_rulebook.specs.Translation.{translation}
 use Rattle.sb_sound.specs.HintLaws.{Ascend, HasNoSubset, by_atom}
 use Rattle.sb_sound.specs.MembershipLaws.{AreDeniedIn}
@@ -24,10 +23,6 @@ abbrev pub pushed : AllKept → List Lit → ℕ → List ℕ → ℕ → AllKep
 pushed kept clause level rests counted = record (with_clause kept clause level rests) { counted = counted }
 
 -- The denial of memberships.
-
-all-negative : (us : List Member) → list_all (λ l. not l.positive) (denials_of us) ≡ true
-all-negative [] = refl
-all-negative (u ∷ us) = all-negative us
 
 pub denial-negative : (us : List Member) (l : Lit) → Contains (denials_of us) l → l.positive ≡ false
 denial-negative [] l h = absurd (not-in-nil l h)
@@ -63,9 +58,7 @@ pub denial-follows : RuleLinesAreExact → (asked : Asked) (kept : AllKept) (x :
     → HasNoSubset kept.clauses (denials_of us) → kept.counted < most_counted asked
     → follows asked kept (rule_line empty (denials_of us)) ≡ Ok (pushed kept (denials_of us) 0 [] (kept.counted + 1))
 denial-follows exact asked kept x us ss place some rise denied defined dead new room =
-    ap (λ b. if b then by_rule asked kept (rule_line empty (denials_of us))
-    else not_brought (by_rule asked kept (rule_line empty (denials_of us)))) (all-negative us)
-    ∙ (exact asked kept (pushed kept (denials_of us) 0 [] (kept.counted + 1)) empty (denials_of us)).1 (record {
+    (exact asked kept (pushed kept (denials_of us) 0 [] (kept.counted + 1)) empty (denials_of us)).1 (record {
       defined = denied-known kept.atoms x (denials_of us) ss denied;
       ascend = denials-ascend us rise;
       form = record {

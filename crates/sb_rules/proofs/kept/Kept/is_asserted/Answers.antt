@@ -1,6 +1,11 @@
-use Rattle.std.proofs.Common.{refl}
+use Rattle.std.proofs.Common.{refl, ap, ◌∙◌, List, ℕ}
+use Rattle.std.specs.List.{list_all}
 use Rattle.sb_term.specs.Numbered.{term_at}
 use Rattle.sb_regex.proofs.CallerLemmas.{numbers_kept}
+use Rattle.sb_rulebook.specs.Atoms.{AtomOver}
+use Rattle.sb_rulebook.specs.Brought.{is_brought_atom}
+use Rattle.sb_atoms.specs.Numbered.{atoms_in}
+use Rattle.sb_atoms.specs.Translated.{brought_translation}
 use Rattle.sb_atoms.proofs.CallerLemmas.{atoms_kept}
 use Rattle.sb_rules.proofs.Staying.{same_kept}
 use Rattle.sb_rules.proofs.Clausal.{translated}
@@ -12,7 +17,8 @@ returns-in_err-found-clause-kept c = λ others.
       arena = c.find_translation.new.arena;
       normals = c.find_translation.new.normals;
       measures = c.find_translation.new.measures;
-    }) others c.requires.over.whole c.find_translation.ensures.arena refl refl refl refl
+      atoms = c.find_translation.new.self;
+    }) others c.requires.over.whole c.find_translation.ensures.arena refl c.find_translation.ensures.stays refl refl
 
 pub returns-clause-kept : goal.returns-clause-kept
 returns-clause-kept c = λ others.
@@ -20,14 +26,17 @@ returns-clause-kept c = λ others.
       arena = c.find_translation.new.arena;
       normals = c.find_translation.new.normals;
       measures = c.find_translation.new.measures;
-    }) others c.requires.over.whole c.find_translation.ensures.arena refl refl refl refl
+      atoms = c.find_translation.new.self;
+    }) others c.requires.over.whole c.find_translation.ensures.arena refl c.find_translation.ensures.stays refl refl
 
 pub returns-clause-ok : goal.returns-clause-ok
 returns-clause-ok c = λ others.
     translated c.args.self.now.arena c.find_translation.new.arena c.args.self.now.atoms
     (term_at c.args.table.now c.args.term) c.args.literal c.in_ok-found.found c.is_literal.result
     c.requires.over.whole.brought c.requires.simple
-    (atoms_kept _ _ _ c.find_translation.ensures.arena c.requires.over.whole.atoms) c.in_ok-found.ensures.ok
+    (atoms_kept _ _ _ c.find_translation.ensures.arena c.requires.over.whole.atoms) (c.in_ok-found.ensures.ok
+    ∙ ap (λ (atoms : List (AtomOver ℕ)). brought_translation (atoms_in c.find_translation.new.arena atoms)
+    (term_at c.args.table.now c.args.term)) c.find_translation.ensures.stays)
     c.is_literal.ensures
 
 pub returns-in_err-found-clause-over : goal.returns-in_err-found-clause-over
@@ -37,7 +46,7 @@ returns-in_err-found-clause-over c = record {
         regexes = numbers_kept _ _ _ c.find_translation.ensures.arena c.requires.over.whole.regexes;
         plain = c.right_stays.ensures _ _ _ c.find_translation.ensures.arena c.requires.over.whole.plain;
         atoms = c.find_translation.ensures.regexes;
-        brought = c.requires.over.whole.brought;
+        brought = ap (list_all is_brought_atom) c.find_translation.ensures.stays ∙ c.requires.over.whole.brought;
       };
   normals = c.find_translation.ensures.normals;
   measures = c.find_translation.ensures.right;
@@ -50,7 +59,7 @@ returns-clause-over c = record {
         regexes = numbers_kept _ _ _ c.find_translation.ensures.arena c.requires.over.whole.regexes;
         plain = c.right_stays.ensures _ _ _ c.find_translation.ensures.arena c.requires.over.whole.plain;
         atoms = c.find_translation.ensures.regexes;
-        brought = c.requires.over.whole.brought;
+        brought = ap (list_all is_brought_atom) c.find_translation.ensures.stays ∙ c.requires.over.whole.brought;
       };
   normals = c.find_translation.ensures.normals;
   measures = c.find_translation.ensures.right;
