@@ -16,14 +16,15 @@ fn atoms_have_numbers(
     let none = arena.none()?;
     let eps = arena.eps()?;
     let rows = [
-        (Atom::In(Serial(0), none), 0),
-        (Atom::In(Serial(0), eps), 1),
-        (Atom::In(Serial(1), none), 2),
-        (Atom::In(Serial(0), none), 0),
-        (Atom::In(Serial(1), none), 2),
+        (Serial(0), none, 0),
+        (Serial(0), eps, 1),
+        (Serial(1), none, 2),
+        (Serial(0), none, 0),
+        (Serial(1), none, 2),
     ];
-    for (atom, number) in rows {
-        let id = atoms.add(atom)?;
+    for (serial, regex, number) in rows {
+        let atom = Atom::In(serial, regex);
+        let id = atoms.add(Atom::In(serial, regex))?;
         assert_eq!(rt; id.number(), number);
         assert!(rt; *atoms.describe(id) == atom);
         assert!(rt; atoms.find(&atom) == Some(id));

@@ -17,8 +17,19 @@ fn symbol_of(sign: u8) -> Option<(Symbol, usize)> {
         b'*' => Some((Symbol::ReStar, 1)),
         b'+' => Some((Symbol::RePlus, 1)),
         b'e' => Some((Symbol::StrInRe, 2)),
-        b'=' => Some((Symbol::Equal, 2)),
+        b'T' => Some((Symbol::True, 0)),
+        b'F' => Some((Symbol::False, 0)),
         b'!' => Some((Symbol::Not, 1)),
+        b'&' => Some((Symbol::And, 2)),
+        b'/' => Some((Symbol::Or, 2)),
+        b'>' => Some((Symbol::Implies, 2)),
+        b'^' => Some((Symbol::Xor, 2)),
+        b'=' => Some((Symbol::Equal, 2)),
+        b'#' => Some((Symbol::Distinct, 2)),
+        b'A' => Some((Symbol::And, 3)),
+        b'?' => Some((Symbol::Ite, 3)),
+        b'~' => Some((Symbol::Equal, 3)),
+        b'D' => Some((Symbol::Distinct, 3)),
         _ => None,
     }
 }
@@ -38,6 +49,9 @@ fn leaf(alloc: Global, table: &mut Table, sign: u8) -> Result<TermId, AllocError
         b'x' => table.add(Term::Constant(Serial(0), Sort::String)),
         b'i' => table.add(Term::Constant(Serial(1), Sort::Int)),
         b'y' => table.add(Term::Constant(Serial(2), Sort::String)),
+        b'P' => table.add(Term::Constant(Serial(3), Sort::Bool)),
+        b'Q' => table.add(Term::Constant(Serial(4), Sort::Bool)),
+        b'R' => table.add(Term::Constant(Serial(5), Sort::Bool)),
         b'V' => long_word(alloc, table, 65_535),
         b'W' => long_word(alloc, table, 65_536),
         _ => {
@@ -79,6 +93,37 @@ fn last(parts: &mut Vec<TermId>) -> TermId {
     parts.pop().unwrap_or_default()
 }
 
+/// The number of a symbol with the last parts, so many of them.
+fn applied(
+    alloc: Global,
+    table: &mut Table,
+    parts: &mut Vec<TermId>,
+    symbol: Symbol,
+    count: usize,
+) -> Result<TermId, AllocError> {
+    let third = if count > 2 {
+        last(parts)
+    } else {
+        TermId::default()
+    };
+    let second = if count > 1 {
+        last(parts)
+    } else {
+        TermId::default()
+    };
+    let first = if count > 0 {
+        last(parts)
+    } else {
+        TermId::default()
+    };
+    match count {
+        0 => application(alloc, table, symbol, &[]),
+        1 => application(alloc, table, symbol, &[first]),
+        2 => application(alloc, table, symbol, &[first, second]),
+        _ => application(alloc, table, symbol, &[first, second, third]),
+    }
+}
+
 /// Eight times the same regular expression beside itself.
 fn octupled(alloc: Global, table: &mut Table, part: TermId) -> Result<TermId, AllocError> {
     application(alloc, table, Symbol::ReUnion, &[part; 8])
@@ -91,11 +136,7 @@ fn read_sign(
     sign: u8,
 ) -> Result<(), AllocError> {
     let part = match symbol_of(sign) {
-        Some((symbol, 1)) => application(alloc, table, symbol, &[last(parts)])?,
-        Some((symbol, _)) => {
-            let right = last(parts);
-            application(alloc, table, symbol, &[last(parts), right])?
-        }
+        Some((symbol, count)) => applied(alloc, table, parts, symbol, count)?,
         None if sign == b'8' => octupled(alloc, table, last(parts))?,
         None => leaf(alloc, table, sign)?,
     };
@@ -103,7 +144,8 @@ fn read_sign(
     Ok(())
 }
 
-/// The term of a text in postfix: `x` and `y` are String constants, `i` an Int constant, `V` a word of as many letters
+/// The term of a text in postfix: `x` and `y` are String constants, `i` an Int constant, `P`, `Q` and `R` Bool
+/// constants, `V` a word of as many letters
 /// as there may be, `W` one of a letter more, another letter a word of it, `8` the union of eight times the same, a sign
 /// its symbol.
 pub fn read(alloc: Global, table: &mut Table, text: &[u8]) -> Result<TermId, AllocError> {

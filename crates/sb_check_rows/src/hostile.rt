@@ -1,13 +1,10 @@
 //! Proofs that were changed: each is refused at its line, and for its reason.
 
-use crate::runs::{ACCEPTED, PROOF, SCRIPT, changed, expect};
+use crate::runs::{ACCEPTED, Change, PROOF, SCRIPT, changed, expect, status_of};
 use sb_check::CheckStatus;
 use std::alloc::{AllocError, Global};
 use std::process::Abort;
 use std::test::Fail;
-
-/// The number of a line, what stands in its place, and what is answered.
-type Change = (usize, &'static [u8], &'static [u8]);
 
 /// Changes in front of the verdict.
 const BEFORE: [Change; 31] = [
@@ -124,14 +121,6 @@ const BEHIND: [Change; 13] = [
         b"check 1: unsat\nrefused at line 20: bad word\n",
     ),
 ];
-
-fn status_of(answers: &[u8]) -> CheckStatus {
-    if answers == ACCEPTED {
-        CheckStatus::Accepted
-    } else {
-        CheckStatus::Refused
-    }
-}
 
 fn expect_change(
     rt: &impl Abort,

@@ -18,4 +18,6 @@ mod runs;
 #[cfg(test)]
 mod solved;
 #[cfg(test)]
+mod structure;
+#[cfg(test)]
 mod usage;

@@ -37,6 +37,18 @@ pub const PROOF: [&[u8]; 19] = [
 
 pub const ACCEPTED: &[u8] = b"check 1: unsat\naccepted\n";
 
+/// The number of a line, what stands in its place, and what is answered.
+pub type Change = (usize, &'static [u8], &'static [u8]);
+
+/// The status of a run with these answers.
+pub fn status_of(answers: &[u8]) -> CheckStatus {
+    if answers == ACCEPTED {
+        CheckStatus::Accepted
+    } else {
+        CheckStatus::Refused
+    }
+}
+
 /// All lines of a proof, with this text in place of the line of this number, from 1; with 0 none is changed.
 pub fn changed(
     alloc: Global,

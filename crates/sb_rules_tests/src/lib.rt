@@ -9,3 +9,5 @@ mod expansions;
 mod lines;
 #[cfg(test)]
 mod regexes;
+#[cfg(test)]
+mod structure;

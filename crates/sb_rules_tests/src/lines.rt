@@ -11,9 +11,11 @@ use std::alloc::{AllocError, Global};
 use std::process::Abort;
 use std::test::Fail;
 
-/// Lines where one String constant is declared and nothing is asserted, each with a limit, and why each is refused, if
-/// it is.
-const LINES: &[(&str, u64, Option<Refusal>)] = &[
+/// A line, a limit, and why the line is refused, if it is.
+pub type Row = (&'static str, u64, Option<Refusal>);
+
+/// Lines where one String constant is declared and nothing is asserted.
+const LINES: &[Row] = &[
     ("strproof 1", 0, Some(Refusal::Misplaced)),
     ("v sat", 0, Some(Refusal::Misplaced)),
     ("end", 0, Some(Refusal::Misplaced)),
@@ -34,9 +36,9 @@ const LINES: &[(&str, u64, Option<Refusal>)] = &[
     ("a in v0 v1 : 4", 0, Some(Refusal::UnknownId)),
     ("a le i0 5", 0, Some(Refusal::UnknownId)),
     ("a le l0 5", 0, Some(Refusal::RuleBroken)),
-    ("a and +0 -1", 0, Some(Refusal::RuleBroken)),
     ("a and +0 -2", 0, Some(Refusal::UnknownId)),
-    ("a iff +0 +1", 0, Some(Refusal::RuleBroken)),
+    ("a and +0", 0, Some(Refusal::NotNormal)),
+    ("a iff +1 +0", 0, Some(Refusal::NotNormal)),
     ("a sum 0 2 l0 3 l1", 0, Some(Refusal::UnknownId)),
     ("c empty -0 -1", 0, Some(Refusal::RuleBroken)),
     ("x 7 0-2ffff>6", 0, Some(Refusal::UnknownId)),
@@ -55,8 +57,11 @@ const LINES: &[(&str, u64, Option<Refusal>)] = &[
     ("c empty -1 -0", 0, Some(Refusal::RuleBroken)),
     ("c empty -0", 0, Some(Refusal::RuleBroken)),
     ("c empty +0 -1", 0, Some(Refusal::RuleBroken)),
-    ("c gate +0 -0", 0, Some(Refusal::RuleBroken)),
+    ("c gate +0 -1", 0, Some(Refusal::RuleBroken)),
     ("c gate +0 -7", 0, Some(Refusal::UnknownId)),
+    ("c order +0 -0", 0, Some(Refusal::RuleBroken)),
+    ("c linear +0 -7", 0, Some(Refusal::UnknownId)),
+    ("c step +0 -0", 0, Some(Refusal::RuleBroken)),
     ("c empty -0 -1", 2, Some(Refusal::WrongVerdict)),
     ("c empty -0 -1", 3, None),
     ("c empty -0 -1", 0, Some(Refusal::Repeated)),
@@ -108,15 +113,16 @@ fn is_judged(
 }
 
 /// Judges all lines in their order.
-fn all_are_judged(
+pub fn all_are_judged(
     rt: &impl Abort,
     alloc: Global,
     kept: &mut Kept,
     table: &Table,
+    rows: &[Row],
 ) -> Result<(), AllocError>
     requires { IsOver table.now kept.old }
 {
-    for row in LINES {
+    for row in rows {
         let same = is_answered(alloc, kept, table, &[], row)?;
         assert!(rt; same, "{}", row.0);
     }
@@ -126,6 +132,6 @@ fn all_are_judged(
 #[test]
 fn lines_of_each_kind_are_judged(rt: HostRuntime) -> Result<(), Fail> {
     let mut kept = Kept::new(rt.alloc());
-    all_are_judged(&rt, rt.alloc(), &mut kept, &Table::new(rt.alloc()))?;
+    all_are_judged(&rt, rt.alloc(), &mut kept, &Table::new(rt.alloc()), LINES)?;
     Ok(())
 }

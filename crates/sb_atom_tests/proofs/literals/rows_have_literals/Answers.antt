@@ -7,5 +7,5 @@ pub expect_all-requires : goal.expect_all-requires
 expect_all-requires g c = record {
   measures = rw c.new.ensures (no_measures _);
   normals = c.new-2.ensures _ _;
-  regexes = rw c.new-4.ensures (no_atoms _);
+  regexes = rw c.requires (no_atoms _);
 }
