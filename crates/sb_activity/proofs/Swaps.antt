@@ -3,7 +3,8 @@ use Rattle.std.proofs.Common.{◌≡◌, ◌≢◌, ℕ, ◌+◌, ◌-◌, ◌<�
 use Rattle.std.specs.List.{list_all}
 use Rattle.std.proofs.lemmas.Bool.{cases_eq, cases_lt, lt-ltb, le-ltb}
 use Rattle.std.proofs.lemmas.List.{length-set, length-map, length_push, get_or-set_same, get_or-set_other, get_or-map, get_or_append_left, get_or_push, same_lists, map-append, append_assoc, replicate-append-replicate, set-get_or, take_at}
-use Rattle.sb_activity.specs.Places.{Undoes, AreInverse, are_first, heap_swapped, places_swapped}
+use Rattle.sb_activity.specs.Places.{Undoes, AreInverse, heap_swapped, places_swapped}
+use Rattle.sb_activity.specs.Waiting.{are_first}
 
 -- a table with two numbers written,
 abbrev twice : List ℕ → ℕ → ℕ → ℕ → ℕ → List ℕ

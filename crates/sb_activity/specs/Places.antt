@@ -1,5 +1,5 @@
 -- Private: a heap of atoms, and the place of each.
-use Rattle.std.specs.Prelude.{◌≡◌, ℕ, ◌<◌, ◌≤◌, ◌^◌, Bool, nat_lt, List, length, map, slice_index_or, slice_set}
+use Rattle.std.specs.Prelude.{◌≡◌, ℕ, ◌<◌, ◌≤◌, ◌^◌, List, length, slice_index_or, slice_set}
 
 -- the table has, at each number that stands in the list, its place
 abbrev pub Undoes : List ℕ → List ℕ → Type 0
@@ -12,10 +12,6 @@ pub record AreInverse (heap places : List ℕ) : Type 0 where
   pub found : Undoes places heap
   pub even : length heap ≡ length places
   pub small : length places < 2 ^ 32
-
--- by atom whether it is among the first of the heap, so many
-abbrev pub are_first : ℕ → List ℕ → List Bool
-are_first count places = map (λ place. nat_lt place count) places
 
 -- the heap with two places changed for each other,
 abbrev pub heap_swapped : List ℕ → ℕ → ℕ → List ℕ

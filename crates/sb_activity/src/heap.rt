@@ -1,7 +1,8 @@
 //! A binary heap of atoms by activity, with the place of each atom.
 
 ghost use Rattle.std.specs.Prelude.{◌≡◌, ℕ, ◌/◌, ◌<◌, ◌≤◌, length};
-ghost use Rattle.sb_activity.specs.Places.{AreInverse, are_first, places_swapped};
+ghost use Rattle.sb_activity.specs.Places.{AreInverse, places_swapped};
+ghost use Rattle.sb_activity.specs.Waiting.{are_first};
 
 /// Moves the atom at a place up, until the one above it is as active.
 pub(crate) fn sift_up(heap: &mut [u32], places: &mut [u32], activities: &[f64], from: usize)

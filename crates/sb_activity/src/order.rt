@@ -4,7 +4,8 @@ ghost use Rattle.std.specs.Prelude.{◌≡◌, ℕ, ◌-◌, ◌^◌, ◌<◌, �
 ghost use Rattle.std.specs.Prelude.{slice_index_or, slice_set, OnOk, OnErr, MatchOption};
 ghost use Rattle.std.specs.List.{list_all};
 ghost use Rattle.std.specs.Vec.{vec_capacity};
-ghost use Rattle.sb_activity.specs.Places.{AreInverse, are_first};
+ghost use Rattle.sb_activity.specs.Places.{AreInverse};
+ghost use Rattle.sb_activity.specs.Waiting.{are_first};
 
 use crate::heap::{sift_down, sift_up, swap};
 use std::alloc::{AllocError, Global};
@@ -43,7 +44,8 @@ pub struct Order {
 
 impl Model for Order {
     ghost use Rattle.std.specs.Prelude.{Bool, List};
-    ghost use Rattle.sb_activity.specs.Places.{IsOrder, are_first};
+    ghost use Rattle.sb_activity.specs.Places.{IsOrder};
+    ghost use Rattle.sb_activity.specs.Waiting.{are_first};
 
     ghost Value = { List Bool };
 

@@ -1,5 +1,5 @@
 use Rattle.std.proofs.Common.{◌∙◌, ap, arith}
-use Rattle.sb_activity.specs.Places.{are_first}
+use Rattle.sb_activity.specs.Waiting.{are_first}
 use Rattle.sb_activity.proofs.Swaps.{first_swapped}
 use Rattle.sb_activity.proofs.heap.sift_down.Goals as goal
 

@@ -1,5 +1,6 @@
 use Rattle.std.proofs.Common.{◌≡◌, ℕ, ◌<◌, ◌≤◌, length}
-use Rattle.sb_activity.specs.Places.{AreInverse, are_first}
+use Rattle.sb_activity.specs.Places.{AreInverse}
+use Rattle.sb_activity.specs.Waiting.{are_first}
 use Rattle.sb_activity.proofs.heap.sift_up.Given as goal
 
 abbrev pub invariant-loop-at : goal.invariant-loop-at

@@ -1,6 +1,7 @@
 use Rattle.std.proofs.Common.{◌≡◌, ℕ, ◌-◌, ◌≤◌, ◌++◌, false, length, replicate}
 use Rattle.std.specs.Vec.{vec_capacity}
-use Rattle.sb_activity.specs.Places.{AreInverse, are_first}
+use Rattle.sb_activity.specs.Places.{AreInverse}
+use Rattle.sb_activity.specs.Waiting.{are_first}
 use Rattle.sb_activity.proofs.order.grow.Given as goal
 
 abbrev pub invariant-loop-atom : goal.invariant-loop-atom

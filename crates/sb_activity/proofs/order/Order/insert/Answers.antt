@@ -1,7 +1,8 @@
 use Rattle.std.proofs.Common.{◌≡◌, ◌+◌, ◌<◌, ℕ, true, List, Bool, length, get_or, set, ◌∙◌, ap, sym, arith}
 use Rattle.std.specs.Vec.{with_items}
 use Rattle.std.proofs.lemmas.List.{with_items_is}
-use Rattle.sb_activity.specs.Places.{are_first, places_swapped}
+use Rattle.sb_activity.specs.Places.{places_swapped}
+use Rattle.sb_activity.specs.Waiting.{are_first}
 use Rattle.sb_activity.proofs.Swaps.{first_already, inserted, lent, length_swapped}
 use Rattle.sb_activity.proofs.order.Order.insert.Goals as goal
 
