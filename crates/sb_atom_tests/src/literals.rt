@@ -217,19 +217,21 @@ fn is_of_kind(atom: &Atom, kind: Kind) -> bool {
     }
 }
 
+fn expect_atom(rt: &impl Abort, atoms: &Atoms, number: u64, kind: Kind) {
+    let id = AtomId::of(Lit {
+        atom: number,
+        positive: true,
+    });
+    if id.number() < atoms.len() {
+        assert!(rt; is_of_kind(atoms.describe(id), kind));
+    }
+}
+
 /// The table has these atoms by number, and no other.
 fn expect_atoms(rt: &impl Abort, atoms: &Atoms, wanted: &[Kind]) {
     assert_eq!(rt; atoms.len(), wanted.len());
-    let mut number = 0;
-    for kind in wanted {
-        let atom = Lit {
-            atom: number,
-            positive: true,
-        };
-        if AtomId::of(atom).number() < atoms.len() {
-            assert!(rt; is_of_kind(atoms.describe(AtomId::of(atom)), *kind));
-        }
-        number += 1;
+    for (number, kind) in wanted.iter().enumerate() {
+        expect_atom(rt, atoms, number as u64, *kind);
     }
 }
 
