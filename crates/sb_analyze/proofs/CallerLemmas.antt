@@ -19,6 +19,7 @@ pub use Rattle.sb_analyze.proofs.Lessons.{true_up_to_low}
 use Rattle.sb_analyze.proofs.Teaching.{has_two_of}
 pub use Rattle.sb_analyze.proofs.Teaching.{is_highest}
 pub use Rattle.sb_analyze.proofs.Assumptions.{decided_false}
+pub use Rattle.sb_analyze.proofs.Orders.{ascending_from_sort}
 use Rattle.sb_lit.proofs.CallerLemmas.{is_same_literal-true, all_among}
 use Rattle.sb_analyze.specs.Cores.{AreAssumed}
 use Rattle.sb_trail.proofs.CallerLemmas.{level_behind-above, level_after-push, up_to-all, up_to-up_to}

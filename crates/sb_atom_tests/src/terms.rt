@@ -30,6 +30,11 @@ fn symbol_of(sign: u8) -> Option<(Symbol, usize)> {
         b'?' => Some((Symbol::Ite, 3)),
         b'~' => Some((Symbol::Equal, 3)),
         b'D' => Some((Symbol::Distinct, 3)),
+        b'X' => Some((Symbol::Xor, 3)),
+        b'I' => Some((Symbol::Implies, 3)),
+        b'O' => Some((Symbol::Equal, 1)),
+        b'E' => Some((Symbol::Equal, 4)),
+        b'G' => Some((Symbol::Distinct, 4)),
         _ => None,
     }
 }
@@ -101,27 +106,10 @@ fn applied(
     symbol: Symbol,
     count: usize,
 ) -> Result<TermId, AllocError> {
-    let third = if count > 2 {
-        last(parts)
-    } else {
-        TermId::default()
-    };
-    let second = if count > 1 {
-        last(parts)
-    } else {
-        TermId::default()
-    };
-    let first = if count > 0 {
-        last(parts)
-    } else {
-        TermId::default()
-    };
-    match count {
-        0 => application(alloc, table, symbol, &[]),
-        1 => application(alloc, table, symbol, &[first]),
-        2 => application(alloc, table, symbol, &[first, second]),
-        _ => application(alloc, table, symbol, &[first, second, third]),
-    }
+    let start = parts.len().saturating_sub(count);
+    let id = application(alloc, table, symbol, &parts[start..])?;
+    parts.truncate(start);
+    Ok(id)
 }
 
 /// Eight times the same regular expression beside itself.

@@ -1,4 +1,4 @@
--- What a caller cites of atoms by their numbers, in a table and an arena that grow.
+-- What a caller cites of atoms by their numbers, in a table and an arena that grow, and of literals in order.
 use Rattle.std.proofs.Common.{◌≡◌, ℕ, suc, ◌≤◌, List, [], ◌∷◌, ◌++◌, length, refl, ap, ap₂, arith}
 use Rattle.std.proofs.lemmas.Option.{slice_get_within}
 use Rattle.sb_lang.specs.Regex.{Regex}
@@ -8,6 +8,8 @@ use Rattle.sb_rulebook.specs.Atoms.{AtomOver, bool_atom, in_atom, le_atom, sum_a
 use Rattle.sb_atoms.specs.Numbered.{Names, over, atoms_in, HasRegexBelow, HaveRegexesBelow}
 -- atoms over an arena are one where their numbers are
 pub use Rattle.sb_atoms.proofs.Translating.{over_one}
+-- literals in order ascend
+pub use Rattle.sb_atoms.proofs.Ordered.{order_ascends}
 
 pub no_atoms : (n : ℕ) → HaveRegexesBelow n []
 no_atoms n i a h = absurd (nothing i a h)

@@ -1,73 +1,8 @@
--- What is compared two by two.
-use Rattle.std.proofs.Common.{◌≡◌, ℕ, ◌<◌, ◌≤◌, Bool, true, false, ◌&&◌, List, [], ◌∷◌, ◌++◌, length, map, Option, Some, None, refl, sym, ap, ap₂, ◌∙◌, arith}
-use Rattle.std.specs.List.{list_all}
-use Rattle.std.proofs.lemmas.Bool.{and_parts, and_from}
-use Rattle.std.proofs.lemmas.List.{append-nil, map-append}
+-- Relations of what is compared two by two.
+use Rattle.std.proofs.Common.{◌≡◌, List, [], ◌∷◌, ◌++◌, map, Option, refl, ap}
 use Rattle.sb_lit.specs.declared.clause.Lit.{Lit}
-use Rattle.sb_meaning.specs.Truth.{is_chain, are_pairs}
 use Rattle.sb_rulebook.specs.Translation.{of_neighbours, of_pairs}
-use Rattle.sb_atoms.specs.Connecting.{neighbours, pairs, compared}
-
--- A test of all is one of all pairs.
-
-neighbours_all : {X : Type 0} (test : X → Bool) (xs : List X) → list_all test xs ≡ true
-    → list_all (λ p. test p.0 && test p.1) (neighbours xs) ≡ true
-neighbours_all test [] h = refl
-neighbours_all test (x ∷ []) h = refl
-neighbours_all test (x ∷ y ∷ xs) h =
-    let p = and_parts (test x) (list_all test (y ∷ xs)) h in
-    let q = and_parts (test y) (list_all test xs) p.1 in
-    and_from (test x && test y) (list_all (λ p. test p.0 && test p.1) (neighbours (y ∷ xs)))
-    (and_from (test x) (test y) p.0 q.0) (neighbours_all test (y ∷ xs) p.1)
-
-with_each_all : {X : Type 0} (test : X → Bool) (x : X) (xs : List X) (ps : List (X × X)) → test x ≡ true
-    → list_all test xs ≡ true → list_all (λ p. test p.0 && test p.1) ps ≡ true
-    → list_all (λ p. test p.0 && test p.1) (map (λ y. (x, y)) xs ++ ps) ≡ true
-with_each_all test x [] ps p q r = r
-with_each_all test x (y ∷ xs) ps p q r =
-    let s = and_parts (test y) (list_all test xs) q in
-    and_from (test x && test y) (list_all (λ p. test p.0 && test p.1) (map (λ z. (x, z)) xs ++ ps))
-    (and_from (test x) (test y) p s.0) (with_each_all test x xs ps p s.1 r)
-
-pairs_all : {X : Type 0} (test : X → Bool) (xs : List X) → list_all test xs ≡ true
-    → list_all (λ p. test p.0 && test p.1) (pairs xs) ≡ true
-pairs_all test [] h = refl
-pairs_all test (x ∷ xs) h =
-    let p = and_parts (test x) (list_all test xs) h in
-    with_each_all test x xs (pairs xs) p.0 p.1 (pairs_all test xs p.1)
-
-pub compared_all : {X : Type 0} (test : X → Bool) (distinct : Bool) (xs : List X) → list_all test xs ≡ true
-    → list_all (λ p. test p.0 && test p.1) (compared distinct xs) ≡ true
-compared_all test true xs h = pairs_all test xs h
-compared_all test false xs h = neighbours_all test xs h
-
--- Chains and pairs.
-
-pub chain_all : {X : Type 0} (test : X → X → Bool) (xs : List X)
-    → is_chain test xs ≡ list_all (λ p. test p.0 p.1) (neighbours xs)
-chain_all test [] = refl
-chain_all test (x ∷ []) = refl
-chain_all test (x ∷ y ∷ xs) = ap (λ b. test x y && b) (chain_all test (y ∷ xs))
-
-with_each_test : {X : Type 0} (test : X → X → Bool) (x : X) (xs : List X) (ps : List (X × X)) (b : Bool)
-    → b ≡ list_all (λ p. test p.0 p.1) ps
-    → (list_all (test x) xs && b) ≡ list_all (λ p. test p.0 p.1) (map (λ y. (x, y)) xs ++ ps)
-with_each_test test x [] ps b h = h
-with_each_test test x (y ∷ xs) ps b h = step (test x y) (with_each_test test x xs ps b h)
-  where
-    step : (c : Bool)
-        → (list_all (test x) xs && b) ≡ list_all (λ p. test p.0 p.1) (map (λ z. (x, z)) xs ++ ps)
-        → ((c && list_all (test x) xs) && b)
-        ≡ (c && list_all (λ p. test p.0 p.1) (map (λ z. (x, z)) xs ++ ps))
-    step true rest = rest
-    step false rest = refl
-
-pub pairs_all_test : {X : Type 0} (test : X → X → Bool) (xs : List X)
-    → are_pairs test xs ≡ list_all (λ p. test p.0 p.1) (pairs xs)
-pairs_all_test test [] = refl
-pairs_all_test test (x ∷ xs) = with_each_test test x xs (pairs xs) (are_pairs test xs) (pairs_all_test test xs)
-
--- Relations.
+use Rattle.sb_fragment.specs.Compared.{neighbours, pairs}
 
 pub neighbours_of : {X A : Type 0} (relation : A → A → Option Lit) (g : X → A) (xs : List X)
     → of_neighbours relation (map g xs) ≡ map (λ p. relation (g p.0) (g p.1)) (neighbours xs)
@@ -88,50 +23,3 @@ pub pairs_of : {X A : Type 0} (relation : A → A → Option Lit) (g : X → A) 
 pairs_of relation g [] = refl
 pairs_of relation g (x ∷ xs) =
     with_each_of relation g x xs (pairs xs) (of_pairs relation (map g xs)) (pairs_of relation g xs)
-
-pub map-map : {X Y Z : Type 0} (g : Y → Z) (f : X → Y) (xs : List X) → map g (map f xs) ≡ map (λ x. g (f x)) xs
-map-map g f [] = refl
-map-map g f (x ∷ xs) = ap (λ ys. g (f x) ∷ ys) (map-map g f xs)
-
-pub map_same : {X Y : Type 0} (test : X → Bool) (f g : X → Y) (xs : List X) → list_all test xs ≡ true
-    → ((x : X) → test x ≡ true → f x ≡ g x) → map f xs ≡ map g xs
-map_same test f g [] h same = refl
-map_same test f g (x ∷ xs) h same =
-    let p = and_parts (test x) (list_all test xs) h in
-    ap₂ (λ y ys. y ∷ ys) (same x p.0) (map_same test f g xs p.1 same)
-
--- Pairs of what a function makes.
-
-neighbours_map : {X Y : Type 0} (g : X → Y) (xs : List X)
-    → neighbours (map g xs) ≡ map (λ p. (g p.0, g p.1)) (neighbours xs)
-neighbours_map g [] = refl
-neighbours_map g (x ∷ []) = refl
-neighbours_map g (x ∷ y ∷ xs) = ap (λ ps. (g x, g y) ∷ ps) (neighbours_map g (y ∷ xs))
-
-with_each_map : {X Y : Type 0} (g : X → Y) (x : X) (xs : List X) (ps : List (X × X)) (qs : List (Y × Y))
-    → qs ≡ map (λ p. (g p.0, g p.1)) ps
-    → map (λ y. (g x, y)) (map g xs) ++ qs ≡ map (λ p. (g p.0, g p.1)) (map (λ y. (x, y)) xs ++ ps)
-with_each_map g x [] ps qs h = h
-with_each_map g x (y ∷ xs) ps qs h = ap (λ all. (g x, g y) ∷ all) (with_each_map g x xs ps qs h)
-
-pairs_map : {X Y : Type 0} (g : X → Y) (xs : List X) → pairs (map g xs) ≡ map (λ p. (g p.0, g p.1)) (pairs xs)
-pairs_map g [] = refl
-pairs_map g (x ∷ xs) = with_each_map g x xs (pairs xs) (pairs (map g xs)) (pairs_map g xs)
-
-pub compared_map : {X Y : Type 0} (g : X → Y) (distinct : Bool) (xs : List X)
-    → compared distinct (map g xs) ≡ map (λ p. (g p.0, g p.1)) (compared distinct xs)
-compared_map g true xs = pairs_map g xs
-compared_map g false xs = neighbours_map g xs
-
--- What is left of a list.
-
-pub neighbours_end : {X : Type 0} (found all : List (X × X)) (left : List X) → found ++ neighbours left ≡ all
-    → length left < 2 → found ≡ all
-neighbours_end found all [] h short = sym (append-nil found) ∙ h
-neighbours_end found all (x ∷ []) h short = sym (append-nil found) ∙ h
-neighbours_end found all (x ∷ y ∷ left) h short = absurd (omega (arith, short))
-
-pub pairs_end : {X : Type 0} (found all : List (X × X)) (left : List X) → found ++ pairs left ≡ all
-    → length left < 1 → found ≡ all
-pairs_end found all [] h short = sym (append-nil found) ∙ h
-pairs_end found all (x ∷ left) h short = absurd (omega (arith, short))

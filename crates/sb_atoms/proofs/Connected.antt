@@ -1,6 +1,5 @@
 -- What connectives make of literals, over a table of atoms that grows.
-use Rattle.std.proofs.Common.{◌≡◌, ℕ, zero, suc, ◌+◌, ◌-◌, ◌<◌, ◌≤◌, ◌==◌, Bool, true, false, not, ◌&&◌, nat_lt, if◌then◌else◌, List, [], ◌∷◌, ◌++◌, length, map, take, drop, get_or, slice_get, Option, Some, None, option_map, option_and_then, refl, sym, ap, ap₂, subst, ◌∙◌, arith, take-append-drop}
-use Rattle.std.specs.List.{list_all}
+use Rattle.std.proofs.Common.{◌≡◌, ℕ, zero, suc, ◌+◌, ◌-◌, ◌<◌, ◌≤◌, ◌==◌, Bool, true, false, not, ◌&&◌, if◌then◌else◌, List, [], ◌∷◌, ◌++◌, length, map, take, drop, get_or, Option, Some, None, option_map, option_and_then, refl, sym, ap, ap₂, subst, ◌∙◌, arith, take-append-drop}
 use Rattle.std.specs.declared.cmp.Ordering.{Ordering}
 use Rattle.std.specs.declared.cmp.Ordering.TheVariants.{Less, Equal, Greater}
 use Rattle.std.specs.Ordering.{is_gt}
@@ -11,20 +10,20 @@ use Rattle.std.proofs.lemmas.Option.{slice_get_within}
 use Rattle.sb_lang.specs.Regex.{Regex}
 use Rattle.sb_lit.specs.declared.clause.Lit.{Lit}
 use Rattle.sb_lit.specs.Clauses.{negation, literal_order, are_ascending}
-use Rattle.sb_meaning.specs.Terms.{Sort}
-use Rattle.sb_rulebook.specs.Atoms.{Atom, AtomOver, bool_atom, and_atom, iff_atom, is_conjunction, is_well_formed}
-use Rattle.sb_rulebook.specs.AtomRules.{has_its_parts, are_known}
+use Rattle.sb_rulebook.specs.Atoms.{Atom, AtomOver, and_atom, iff_atom, is_conjunction, is_well_formed}
+use Rattle.sb_rulebook.specs.AtomRules.{are_known}
 use Rattle.sb_rulebook.specs.Parts.{together}
-use Rattle.sb_rulebook.specs.Translation.{positive, negated, in_order, conjunction_of, conjunction, disjunction, implication, equivalence, implications, exclusive_from, exclusive, choice, only_one}
+use Rattle.sb_rulebook.specs.Translation.{positive, negated, in_order, conjunction_of, conjunction, implication, equivalence, implications, exclusive_from, exclusive, choice, only_one}
 use Rattle.sb_rulebook.proofs.CallerLemmas.{Stays, AllStay, none_stay, one_stays, negated_stays, implication_stays, equivalence_stays, implications_stay, exclusive_from_stays}
-use Rattle.sb_atoms.specs.declared.shape.Connective.TheVariants as connective
+use Rattle.sb_fragment.specs.declared.shape.Connective.TheVariants as connective
 use Rattle.sb_atoms.specs.Numbered.{Names, over, atoms_in}
-use Rattle.sb_atoms.specs.Connecting.{compared, signed, with_sign, equivalences, connected}
+use Rattle.sb_fragment.specs.Compared.{compared}
+use Rattle.sb_atoms.specs.Connecting.{signed, with_sign, equivalences, connected}
 use Rattle.sb_atoms.specs.Growing.{is_below, are_below, are_pairs_below, GrownByGates, GrownByOne, Gives, GivesLike, IsLiteralOf}
-use Rattle.sb_atoms.proofs.ComparedPairs.{compared_all}
+use Rattle.sb_fragment.proofs.CallerLemmas.{compared_all}
 use Rattle.sb_atoms.proofs.Growth.{grown_one, carried, gates_none, gates_longer, gates_both}
 use Rattle.sb_atoms.proofs.Ordered.{below_in_order, order_ascends, not_greater}
-use Rattle.sb_atoms.proofs.Translating.{apart_and, apart_iff, apart_bool}
+use Rattle.sb_atoms.proofs.Translating.{apart_and, apart_iff}
 
 some_none : {X : Type 0} (x : X) → Some x ≡ None → ⊥
 some_none x e = cc

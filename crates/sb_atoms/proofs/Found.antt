@@ -1,7 +1,7 @@
 -- What is found of terms, over an arena and a table of atoms that grow.
-use Rattle.std.proofs.Common.{◌≡◌, ℕ, zero, suc, ◌+◌, ◌<◌, ◌≤◌, Bool, true, false, ◌&&◌, nat_lt, if◌then◌else◌, List, [], ◌∷◌, ◌++◌, ◌⊎◌, inl, inr, length, map, take, get_or, Option, Some, None, IfSome, option_map, option_and_then, refl, sym, ap, ap₂, ◌∙◌, arith}
+use Rattle.std.proofs.Common.{◌≡◌, ℕ, zero, suc, ◌+◌, ◌<◌, ◌≤◌, Bool, true, false, ◌&&◌, if◌then◌else◌, List, [], ◌∷◌, ◌++◌, ◌⊎◌, inl, inr, length, map, take, get_or, Option, Some, None, IfSome, option_map, option_and_then, refl, sym, ap, ◌∙◌, arith}
 use Rattle.std.specs.List.{list_all}
-use Rattle.std.proofs.lemmas.Bool.{and_parts, and_from, false≢true}
+use Rattle.std.proofs.lemmas.Bool.{and_parts, and_from}
 use Rattle.std.proofs.lemmas.Bool.Decides.{nat_tests}
 use Rattle.std.proofs.lemmas.List.{take_all}
 use Rattle.std.proofs.lemmas.List.Folds.{list_all-append}
@@ -9,35 +9,40 @@ use Rattle.std.proofs.lemmas.Option.{slice_get_within}
 use Rattle.sb_lang.specs.Regex.{Regex}
 use Rattle.sb_lang.specs.Normal.{normal}
 use Rattle.sb_lit.specs.declared.clause.Lit.{Lit}
-use Rattle.sb_meaning.specs.Terms.{Sort, boolean, text, Symbol, Term, Terms, constant, word, numeral, apply, parameter, no_terms, with_term, terms_in}
+use Rattle.sb_meaning.specs.Terms.{Sort, boolean, text, Term, Terms, constant, word, numeral, apply, parameter, no_terms, with_term, terms_in}
 use Rattle.sb_meaning.specs.Truth.{meaning_of}
 use Rattle.sb_regex.specs.Numbered.{regex_at}
 use Rattle.sb_regex.specs.Numbered as regex
 use Rattle.sb_regex.proofs.CallerLemmas.{names_at, names_below, long_kept}
-use Rattle.sb_script.specs.Brought.{asked, membership_of, is_pair, is_structure}
+use Rattle.sb_script.specs.Brought.{asked, is_pair, is_structure}
 use Rattle.sb_script.specs.Pieces.{constant_piece}
 use Rattle.sb_script.specs.Sizes.{is_regular}
 use Rattle.sb_script.proofs.CallerLemmas.{IsAsking, a_membership, a_word_behind, a_word_in_front, asked_looks}
 use Rattle.sb_rulebook.specs.Atoms.{Atom, AtomOver, bool_atom, in_atom}
-use Rattle.sb_rulebook.specs.AtomRules.{is_declared, has_its_parts}
+use Rattle.sb_rulebook.specs.AtomRules.{is_declared}
 use Rattle.sb_rulebook.specs.Parts.{together, regex_meant, regex_of}
-use Rattle.sb_rulebook.specs.Translation.{translation, membership, positive, negated, conjunction, word_equality}
-use Rattle.sb_rulebook.proofs.CallerLemmas.{Stays, AllStay, asked_translation, negated_stays, term_stays, word_equality_stays, argument}
+use Rattle.sb_rulebook.specs.Translation.{translation, membership, positive, negated, word_equality}
+use Rattle.sb_rulebook.proofs.CallerLemmas.{Stays, asked_translation, negated_stays, term_stays, word_equality_stays}
 use Rattle.sb_problem.specs.Normals.{IsRegexOf}
 use Rattle.sb_problem.specs.Known.{AreNormals}
 use Rattle.sb_problem.specs.declared.normals.Known.{Known}
 use Rattle.sb_fragment.specs.declared.measure.Measure.{Measure}
 use Rattle.sb_fragment.specs.Measures.{AreMeasures}
 use Rattle.sb_atoms.specs.Numbered.{Names, over, atoms_in, HasRegexBelow, HaveRegexesBelow}
-use Rattle.sb_atoms.specs.Translated.{brought_translation, member_translation, is_member, are_members, has_declared, have_declared, IsAdded}
-use Rattle.sb_atoms.specs.Connecting.{compared, signed, with_sign}
+use Rattle.sb_atoms.specs.Translated.{brought_translation, is_member, are_members, has_declared, have_declared, IsAdded}
+use Rattle.sb_fragment.specs.Compared.{compared}
+use Rattle.sb_atoms.specs.Connecting.{signed, with_sign}
 use Rattle.sb_atoms.specs.Growing.{is_below, are_below, Grown, GrownByGates, GrownByOne, Gives, GivesLike, IsLiteralOf, Finds, AreReady, Moves}
-use Rattle.sb_atoms.specs.Shapes.{IsAtomOf, equality_of, parts_of, literals_of, word_literals, words_literal, have_declared_pairs}
+use Rattle.sb_fragment.specs.Memberships.{equality}
+use Rattle.sb_fragment.specs.Shapes.{parts_of}
+use Rattle.sb_atoms.specs.Shapes.{IsAtomOf, have_declared_pairs}
 use Rattle.sb_atoms.proofs.CallerLemmas.{atoms_more}
-use Rattle.sb_atoms.proofs.ComparedPairs.{compared_all}
-use Rattle.sb_atoms.proofs.Growth.{grown_one, grown_none, grown_longer, gates_longer, moves_both, moves_given, moves_gates, moves_none, moves_arena, moved, grown_regexes}
-use Rattle.sb_atoms.proofs.Connected.{gives_like, all_push, all_stop, all_stay, all_below_more, below_push}
-use Rattle.sb_atoms.proofs.Structured.{equality_of_sort, pair_sort, of_one}
+pub use Rattle.sb_fragment.proofs.CallerLemmas.{all_at}
+use Rattle.sb_fragment.proofs.CallerLemmas.{compared_all}
+use Rattle.sb_atoms.proofs.Growth.{grown_one, grown_longer, moves_both, moves_given, moves_none, moved, grown_regexes}
+use Rattle.sb_atoms.proofs.Connected.{all_push, all_stop, all_stay, all_below_more, below_push}
+use Rattle.sb_fragment.proofs.CallerLemmas.{pair_sort}
+use Rattle.sb_atoms.proofs.Structured.{equality_of_sort, of_one}
 use Rattle.sb_atoms.proofs.Translating.{apart_in, apart_bool}
 
 some_none : {X : Type 0} (x : X) → Some x ≡ None → ⊥
@@ -212,13 +217,6 @@ declared_parts sorts (apply s terms) h = each terms h
         and_from (has_declared sorts u) (list_all (has_declared sorts) (terms_in us)) p.0 (each us p.1)
 declared_parts sorts (parameter place sort) h = refl
 
-pub all_at : {X : Type 0} (test : X → Bool) (xs : List X) (i : ℕ) (x : X) → list_all test xs ≡ true → i < length xs
-    → x ≡ get_or xs i x → test x ≡ true
-all_at test [] i x h within e = absurd (omega (arith, within))
-all_at test (y ∷ xs) zero x h within e = ap test e ∙ (and_parts (test y) (list_all test xs) h).0
-all_at test (y ∷ xs) (suc i) x h within e =
-    all_at test xs i x (and_parts (test y) (list_all test xs) h).1 (omega (arith, within)) e
-
 pub declared_compared : (sorts : List Sort) (distinct : Bool) (t : Term) → has_declared sorts t ≡ true
     → have_declared_pairs sorts (compared distinct (parts_of t)) ≡ true
 declared_compared sorts distinct t h =
@@ -227,16 +225,16 @@ declared_compared sorts distinct t h =
 -- An equality of a String constant and a literal.
 
 pub pair_equality : (t u : Term) → is_pair t u ≡ true → (atoms : List Atom)
-    → translation atoms (equality_of t u) ≡ word_equality atoms t u
+    → translation atoms (equality t u) ≡ word_equality atoms t u
 pair_equality t u h atoms =
     of_one atoms _ ∙ equality_of_sort atoms t u text (pair_sort t u h)
 
 pub declared_pair : (sorts : List Sort) (t u : Term) (serial : ℕ) (R : Term)
-    → asked (equality_of t u) ≡ Some (serial, R) → (has_declared sorts t && has_declared sorts u) ≡ true
+    → asked (equality t u) ≡ Some (serial, R) → (has_declared sorts t && has_declared sorts u) ≡ true
     → is_declared sorts text serial ≡ true
 declared_pair sorts t u serial R h d =
     let p = and_parts (has_declared sorts t) (has_declared sorts u) d in
-    declared_asked sorts (equality_of t u) serial R h
+    declared_asked sorts (equality t u) serial R h
     (and_from (has_declared sorts t) (has_declared sorts u && true) p.0
     (and_from (has_declared sorts u) true p.1 refl))
 

@@ -7,4 +7,3 @@ pub mod ComparedPairs
 pub mod Connected
 pub mod Structured
 pub mod Found
-pub mod Arguments

@@ -1,27 +1,13 @@
 -- Private: what connectives make of literals.
-use Rattle.std.specs.Prelude.{◌≡◌, ℕ, Bool, if◌then◌else◌, List, [], ◌∷◌, ◌++◌, map, Option}
+use Rattle.std.specs.Prelude.{Bool, if◌then◌else◌, List, map, Option}
 use Rattle.sb_lit.specs.declared.clause.Lit.{Lit}
 use Rattle.sb_lit.specs.Clauses.{negation}
 use Rattle.sb_rulebook.specs.Atoms.{Atom}
 use Rattle.sb_rulebook.specs.Parts.{together}
 use Rattle.sb_rulebook.specs.Translation.{negated, conjunction, disjunction, equivalence, implications, exclusive, choice, all_true, only_one}
-use Rattle.sb_atoms.specs.declared.shape.Connective.{Connective}
-use Rattle.sb_atoms.specs.declared.shape.Connective.TheVariants as connective
-
--- each two neighbours
-abbrev pub neighbours : {A : Type 0} → List A → List (A × A)
-neighbours [] = []
-neighbours (a ∷ []) = []
-neighbours (a ∷ b ∷ rest) = (a, b) ∷ neighbours (b ∷ rest)
-
--- each two
-abbrev pub pairs : {A : Type 0} → List A → List (A × A)
-pairs [] = []
-pairs (a ∷ rest) = map (λ b. (a, b)) rest ++ pairs rest
-
--- those that are compared: each two, or each two neighbours
-abbrev pub compared : {A : Type 0} → Bool → List A → List (A × A)
-compared distinct xs = if distinct then pairs xs else neighbours xs
+use Rattle.sb_fragment.specs.declared.shape.Connective.{Connective}
+use Rattle.sb_fragment.specs.declared.shape.Connective.TheVariants as connective
+use Rattle.sb_fragment.specs.Compared.{compared}
 
 abbrev pub with_sign : Bool → Lit → Lit
 with_sign distinct l = if distinct then negation l else l

@@ -7,14 +7,13 @@ ghost use Rattle.sb_rulebook.specs.Atoms.{iff_atom};
 ghost use Rattle.sb_rulebook.specs.Translation as rules;
 ghost use Rattle.sb_atoms.specs.Connecting as connecting;
 ghost use Rattle.sb_atoms.specs.Numbered.{atom_in};
-ghost use Rattle.sb_atoms.specs.declared.shape.Connective.TheVariants as connective;
+ghost use Rattle.sb_fragment.specs.declared.shape.Connective.TheVariants as connective;
 ghost use Rattle.sb_atoms.specs.Growing.{is_below, are_below, are_pairs_below, GrownByGates, Gives, GivesLike};
 
 use crate::atom::Atom;
 use crate::order::in_order;
-use crate::pairs::compared;
-use crate::shape::Connective;
 use crate::table::Atoms;
+use sb_fragment::{Connective, compared};
 use sb_lit::Lit;
 use std::alloc::{AllocError, Global};
 

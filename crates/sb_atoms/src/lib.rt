@@ -8,11 +8,9 @@
 mod atom;
 mod connect;
 mod order;
-mod pairs;
-mod shape;
-mod structure;
 mod table;
 mod translate;
 
 pub use atom::{Atom, AtomId};
+pub use order::in_order;
 pub use table::Atoms;

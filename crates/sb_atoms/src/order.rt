@@ -31,7 +31,7 @@ fn listed(alloc: Global, set: &BTreeSet<Lit>) -> Result<SmallVec<Lit, 4>, AllocE
 }
 
 /// The literals in order, each once. In n steps of log n.
-pub(crate) fn in_order(alloc: Global, literals: Vec<Lit>) -> Result<SmallVec<Lit, 4>, AllocError>
+pub fn in_order(alloc: Global, literals: Vec<Lit>) -> Result<SmallVec<Lit, 4>, AllocError>
     ensures { IfOk result (λ ordered. ordered.items ≡ in_order literals.items) }
 {
     listed(alloc, &set_of(alloc, literals)?)

@@ -9,20 +9,21 @@ ghost use Rattle.sb_script.specs.Brought.{asked, is_pair, is_regex, is_structure
 ghost use Rattle.sb_problem.specs.Known.{AreNormals};
 ghost use Rattle.sb_problem.specs.Patterns.{number_of, pattern_in};
 ghost use Rattle.sb_fragment.specs.Measures.{AreMeasures};
+ghost use Rattle.sb_fragment.specs.Shapes.{are_numbers, are_word_pairs, parts_of, terms_of_pairs};
 ghost use Rattle.sb_rulebook.specs.AtomRules.{is_declared};
 ghost use Rattle.sb_rulebook.specs.Translation as rules;
 ghost use Rattle.sb_atoms.specs.Numbered.{atom_in, atoms_in, HaveRegexesBelow, Extends};
 ghost use Rattle.sb_atoms.specs.Translated.{brought_translation, member_translation, are_members, has_declared, IsAdded, AreDefined, HasNoLiteral, HasNoMemberLiteral};
 ghost use Rattle.sb_atoms.specs.Growing.{is_below, are_below, Finds, AreReady, Moves};
-ghost use Rattle.sb_atoms.specs.Shapes.{IsAtomOf, are_numbers, are_word_pairs, connected_literal, have_declared_pairs, literals_of, parts_of, terms_of_pairs, word_literals, words_literal};
+ghost use Rattle.sb_atoms.specs.Shapes.{IsAtomOf, connected_literal, have_declared_pairs, literals_of, word_literals, words_literal};
 
 use crate::atom::Atom;
 use crate::connect::signed;
-use crate::pairs::compared;
-use crate::shape::{Connective, Shape, arguments_of, pair_of, shape_of};
-use crate::structure::{is_regex, is_structure};
 use crate::table::Atoms;
-use sb_fragment::{Measures, membership};
+use sb_fragment::{
+    Connective, Measures, Shape, arguments_of, compared, is_structure, membership, pair_of,
+    shape_of,
+};
 use sb_lit::Lit;
 use sb_problem::{Normals, Pattern};
 use sb_regex::Arena;
@@ -199,6 +200,7 @@ impl Atoms {
         match shape_of(table, id) {
             Shape::Constant(serial) => self.literal(adds, Atom::Bool(serial)),
             Shape::Always(truth) => self.always(adds, truth),
+            Shape::Alone => self.always(adds, true),
             Shape::Connected(connective) => {
                 self.connection(adds, measures, normals, table, arena, connective, id)
             }
@@ -385,7 +387,7 @@ impl Atoms {
         let Some((serial, pattern)) = membership(table, id) else {
             return Ok(None);
         };
-        if !is_regex(measures, table, pattern)? {
+        if !measures.pattern(table, pattern)?.is_regex {
             return Ok(None);
         }
         self.member(true, measures, normals, table, arena, serial, pattern)

@@ -11,7 +11,7 @@ use std::test::Fail;
 /// A script, and what is answered of its proof.
 pub type Case = (&'static [u8], &'static [u8]);
 
-const CASES: [Case; 10] = [
+const CASES: [Case; 11] = [
     (b"", b"accepted\n"),
     (
         b"(set-logic QF_S)(check-sat)(exit)(check-sat)",
@@ -49,6 +49,11 @@ const CASES: [Case; 10] = [
     (
         b"(declare-const p Bool)(assert p)(check-sat)",
         b"check 1: unsupported\naccepted\n",
+    ),
+    (
+        b"(declare-const b Bool)(declare-const x String)(assert (= x \"a\"))(check-sat)(declare-const c Bool)\
+          (check-sat)(push)(assert (or b (not c)))(check-sat)(pop)(assert (= x \"b\"))(check-sat)",
+        b"check 1: sat\ncheck 2: sat\ncheck 3: unsupported\ncheck 4: unsat\naccepted\n",
     ),
     (b"; nothing but a comment", b"accepted\n"),
 ];

@@ -1,7 +1,7 @@
 -- Watched literals, each kept by the number of its list.
-use Rattle.std.proofs.Common.{◌≡◌, ◌≢◌, ℕ, ◌+◌, ◌-◌, ◌*◌, ◌/◌, ◌%◌, ◌^◌, ◌<◌, ◌==◌, Bool, true, false, eqb, cond, List, [], ◌∷◌, length, set, refl, ◌∙◌, ap, arith}
+use Rattle.std.proofs.Common.{◌≡◌, ◌≢◌, ℕ, ◌+◌, ◌-◌, ◌*◌, ◌/◌, ◌%◌, ◌^◌, ◌<◌, ◌==◌, Bool, true, false, eqb, cond, List, [], ◌∷◌, length, set, refl, ◌∙◌, ap, inl, inr, arith}
 use Rattle.std.specs.List.{list_all}
-use Rattle.std.proofs.lemmas.Bool.{eq-eqb, ne_eqb, ltb-true}
+use Rattle.std.proofs.lemmas.Bool.{cases_eq, eq-eqb, ne_eqb, ltb-true}
 use Rattle.std.proofs.lemmas.List.{get_or-set_same, get_or-set_other}
 use Rattle.sb_lit.specs.declared.clause.Lit.{Lit}
 use Rattle.sb_lit.proofs.CallerLemmas.{all_among}
@@ -27,6 +27,12 @@ literal_of-list_of l = literal_of-plain (list_of l) ∙ go l.atom l.positive
         (eq-eqb ((2 * a + 3) % 2) 1 (omega arith))
     go a false = literal_of_parts ((2 * a + 2 - 2) / 2) a (eqb ((2 * a + 2) % 2) 1) false (omega arith)
         (ne_eqb ((2 * a + 2) % 2) 1 (λ e. omega (arith, e)))
+
+pub list_of-literal_of : (code : ℕ) → 1 < code → list_of (literal_of code) ≡ code
+list_of-literal_of code begun = ap list_of (literal_of-plain code) ∙ elim (cases_eq (code % 2) 1) [
+  | inl odd ↦ rw (eq-eqb (code % 2) 1 odd) (omega (arith, odd, begun))
+  | inr even ↦ rw (ne_eqb (code % 2) 1 even) (omega (arith, even, begun))
+]
 
 pub watched-set_same : (codes : List ℕ) (n : ℕ) (l : Lit) → n < length codes
     → watched_at (set codes n (list_of l)) n ≡ l

@@ -28,7 +28,7 @@ kept_before level [] id found h = h
 kept_before level (x ∷ xs) zero found h = stays_there level x found h
 kept_before level (x ∷ xs) (suc id) found h = kept_before level xs id found h
 
-has_before : (level : ℕ) (kept : Kept) (id : ℕ) (clause : List Lit) → HasClause (kept_up_to level kept) id clause
+pub has_before : (level : ℕ) (kept : Kept) (id : ℕ) (clause : List Lit) → HasClause (kept_up_to level kept) id clause
     → HasClause kept id clause
 has_before level kept id clause h =
     record { found = h.found; there = kept_before level kept id h.found h.there; literals = h.literals }

@@ -5,6 +5,7 @@ pub mod ListLemmas
 pub mod Adding
 pub mod Moving
 pub mod Codes
+pub mod Sparing
 pub mod Walking
 pub mod Walked
 pub mod Settling
@@ -12,6 +13,7 @@ pub mod Marked
 pub mod Dropped
 pub mod Scoping
 pub mod OccurrenceLemmas
+pub mod AllDropped
 pub mod Room
 pub mod Waiting
 pub mod NextClause

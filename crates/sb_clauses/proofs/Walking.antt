@@ -1,34 +1,28 @@
 -- One turn of a walk over the clauses that watch a literal.
-use Rattle.std.proofs.Common.{◌≡◌, ◌≢◌, ℕ, ◌+◌, ◌^◌, ◌<◌, ◌≤◌, Bool, true, false, ◌||◌, ltb, List, [], ◌∷◌, ◌++◌, length, set, drop, Some, None, refl, sym, ◌∙◌, ap, subst, inl, inr, arith}
-use Rattle.std.specs.List.{slice_get, list_all}
-use Rattle.std.proofs.lemmas.Bool.{cases_eq, cases_lt, cases_Bool, eq-eqb, ne_eqb, false≢true, or_parts, or_left, false_from_ne_true, true_from_ne_false, ltb-true}
+use Rattle.std.proofs.Common.{◌≡◌, ◌≢◌, ℕ, ◌+◌, ◌^◌, ◌<◌, ◌≤◌, Bool, true, false, ◌||◌, ltb, List, [], ◌∷◌, ◌++◌, length, set, drop, Option, Some, None, refl, sym, ◌∙◌, ap, subst, inl, inr, arith}
+use Rattle.std.specs.List.{slice_get}
+use Rattle.std.proofs.lemmas.Bool.{cases_eq, cases_lt, cases_Bool, eq-eqb, ne_eqb, false≢true, or_parts, or_left, false_from_ne_true, ltb-true}
 use Rattle.std.proofs.lemmas.Option.{same_Some, none-some}
-use Rattle.std.proofs.lemmas.List.{length-set, map-append}
-use Rattle.std.proofs.lemmas.List.Folds.{list_all_at, list_any-append}
+use Rattle.std.proofs.lemmas.List.{length-set, get_or-set_other, map-append}
+use Rattle.std.proofs.lemmas.List.Folds.{list_any-append}
 use Rattle.sb_lit.specs.declared.clause.Lit.{Lit}
 use Rattle.sb_lit.specs.Clauses.{negation, is_same_literal, is_among, is_true_under, is_false_under, is_false_clause}
 use Rattle.sb_lit.specs.Kept.{Kept, KeptClause, kept_at}
 use Rattle.sb_trail.specs.declared.assigned.Assigned.{Assigned}
-use Rattle.sb_trail.specs.Assignments.{Assignments, held, current_level}
+use Rattle.sb_trail.specs.Assignments.{Assignments, held, current_level, IsConsistent}
 use Rattle.sb_clauses.specs.WatchLists.{times_in, times}
 use Rattle.sb_clauses.specs.Propagation.{GrowsBy, IsForced}
 use Rattle.sb_clauses.specs.Looking.{IsMove, IsLeft, IsHeld}
-use Rattle.sb_clauses.specs.Watching.{list_of, no_literal, literal_at, is_short, home, stands, is_small, IsPlaced, HasClause, watched_at}
+use Rattle.sb_clauses.specs.Watching.{list_of, literal_of, no_literal, literal_at, is_short, home, stands, is_small, IsPlaced, HasClause, code_at, watched_at}
+use Rattle.sb_clauses.specs.Sparing.{AreSpared, IsFree}
 use Rattle.sb_clauses.specs.Walking.{Walk, IsWalking, IsTurn}
 use Rattle.sb_clauses.specs.Settling.{Grown}
 use Rattle.sb_clauses.specs.declared.walk.Turn.TheVariants.{Goes, Ends, Stops}
-use Rattle.sb_lit.proofs.CallerLemmas.{is_same_literal-self}
+use Rattle.sb_lit.proofs.CallerLemmas.{is_same_literal-self, all_among}
 use Rattle.sb_clauses.proofs.Growing.{GrowsBy-none, GrowsBy-push, place_of_forced}
-use Rattle.sb_clauses.proofs.Literals.{among_at}
-use Rattle.sb_clauses.proofs.Codes.{watched-set_same, watched-set_other}
+use Rattle.sb_clauses.proofs.Literals.{among_at, some_among}
+use Rattle.sb_clauses.proofs.Codes.{list_of-literal_of, watched-set_same, watched-set_other}
 use Rattle.sb_clauses.proofs.Moving.{list_at, pushed, popped, part_le, stood, popped_other, popped_shorter, popped_times, pushed_other, pushed_self, pushed_off, pushed_times, ends_empty}
-
--- what holds of each literal of a clause holds of one of its places
-pub all_at : (p : Lit → Bool) (clause : List Lit) (i : ℕ) → i < length clause → list_all p clause ≡ true
-    → p (literal_at clause i) ≡ true
-all_at p clause i within h =
-    true_from_ne_false (p (literal_at clause i))
-    (λ fails. false≢true (sym (list_all_at p clause i no_literal within fails) ∙ h))
 
 pub grown_by : (kept : Kept) (old now : Assignments) → GrowsBy kept old now
     → Grown (held old.literals) (held now.literals)
@@ -134,6 +128,56 @@ module _ (list : ℕ) (w : Walk) (h : IsWalking list w) (n : ℕ) (first : Some 
           };
           advances = record { grows = GrowsBy-none w.kept w.trail; len = refl; moved = λ id c has. inl refl };
           out = popped_shorter w.all.lists list n h.inside first;
+        }
+
+    -- where no clause is kept at the number, it may come to any other list
+    pub turn_idles : times n rest ≡ 0 → kept_at w.kept n ≡ None → (own : List ℕ) → length own ≡ length w.own
+        → ((id : ℕ) → id ≢ n → watched_at own id ≡ watched_at w.own id) → (to : ℕ) → to < length w.all.lists
+        → list ≢ to → IsTurn list w (record w { own = own; all = record w.all { lists = pushed rest to n } }) Goes
+    turn_idles nowhere none own len same to inside off =
+        let to_rest : to < length rest = omega (arith, same_len, inside) in
+        let whole_len : length (pushed rest to n) ≡ length w.all.lists = length-set rest to (n ∷ list_at rest to)
+        ∙ same_len in
+        let apart : (id : ℕ) (c : List Lit) → HasClause w.kept id c → id ≢ n =
+        λ id c has is. none-some has.found (sym none ∙ ap (kept_at w.kept) (sym is) ∙ has.there) in
+        let other : (id : ℕ) → id ≢ n → (l : ℕ)
+        → times_in id (list_at (pushed rest to n) l) ≡ times_in id (list_at w.all.lists l) = λ id a l.
+        pushed_other rest to n to_rest id a l ∙ popped_other w.all.lists list n h.inside first id a l in
+        record {
+          walking = record {
+            begun = h.begun;
+            inside = omega (arith, h.inside, whole_len);
+            own_places = omega (arith, h.own_places, len);
+            other_places = h.other_places;
+            nodes = h.nodes;
+            placed = λ id d k. rw (whole_len, same id (apart id d k)) (h.placed id d k);
+            elsewhere = λ id d k l a b.
+                rw (same id (apart id d k)) (other id (apart id d k) l ∙ h.elsewhere id d k l a b);
+            here = λ id d k. rw (
+              same id (apart id d k),
+              other id (apart id d k) 0,
+              other id (apart id d k) list,
+            ) (h.here id d k);
+            holds = λ id d k many. h.holds id d k (rw (other id (apart id d k) 0) at many);
+            fresh = λ id past.
+                let past_n : n ≢ id = λ e. omega (arith, number_below, e) in
+                omega (
+                  arith,
+                  pushed_times rest to n to_rest id,
+                  popped_times w.all.lists list n h.inside first id,
+                  h.fresh id past,
+                  rw (ne_eqb n id past_n) at (pushed_times rest to n to_rest id),
+                  rw (ne_eqb n id past_n) at (popped_times w.all.lists list n h.inside first id),
+                );
+            are_false = h.are_false;
+            room = h.room;
+          };
+          advances = record {
+            grows = GrowsBy-none w.kept w.trail;
+            len = len;
+            moved = λ id d k. inl (same id (apart id d k));
+          };
+          out = rw (pushed_off rest to n to_rest list off) (popped_shorter w.all.lists list n h.inside first);
         }
 
     module _ (nowhere : times n rest ≡ 0) (c : List Lit) (has : HasClause w.kept n c) where
@@ -280,20 +324,17 @@ module _ (list : ℕ) (w : Walk) (h : IsWalking list w) (n : ℕ) (first : Some 
             out = record { clause = has.found; there = has.there; is_false = rw has.literals seen };
           }
 
-      module _ (place : ℕ) (seen : IsMove (held w.trail.literals) c (watched_at w.other n) place) where
-        apart_parts : (is_same_literal (literal_at c place) (watched_at w.other n) ≡ false)
-            × (is_false_under (held w.trail.literals) (literal_at c place) ≡ false)
-        apart_parts = or_parts (is_same_literal (literal_at c place) (watched_at w.other n))
-            (is_false_under (held w.trail.literals) (literal_at c place)) seen.replacement.is_new
-
+      -- another literal of the clause is watched
+      module _ (l : Lit) (among : is_among c l ≡ true) (apart : is_same_literal l (watched_at w.other n) ≡ false)
+          (not_false : is_false_under (held w.trail.literals) l ≡ false)
+          (consistent : IsConsistent (held w.trail.literals)) where
         placed : IsPlaced (length w.all.lists) c (watched_at w.own n) (watched_at w.other n)
         placed = h.placed n c has
 
         old_long : is_short (watched_at w.own n) (watched_at w.other n) ≡ false
         old_long = false_from_ne_true (is_short (watched_at w.own n) (watched_at w.other n)) (λ short.
-            false≢true (sym apart_parts.0
-            ∙ all_at (λ l. is_same_literal l (watched_at w.other n)) c place seen.replacement.inside
-            (placed.short short)))
+            false≢true (sym apart
+            ∙ all_among (λ m. is_same_literal m (watched_at w.other n)) c l (placed.short short) among))
 
         own_list : list_of (watched_at w.own n) ≡ list
         own_list = rw old_long at home_is
@@ -301,62 +342,149 @@ module _ (list : ℕ) (w : Walk) (h : IsWalking list w) (n : ℕ) (first : Some 
         own_false : is_false_under (held w.trail.literals) (watched_at w.own n) ≡ true
         own_false = h.are_false (watched_at w.own n) own_list
 
-        pub move_small : (literal_at c place).atom < 2 ^ 30
-        move_small = ltb-true (literal_at c place).atom (2 ^ 30)
-            (all_at is_small c place seen.replacement.inside placed.small)
+        pub to_small : l.atom < 2 ^ 30
+        to_small = ltb-true l.atom (2 ^ 30) (all_among is_small c l placed.small among)
 
-        pub move_inside : list_of (literal_at c place) < length w.all.lists
-        move_inside = ltb-true (list_of (literal_at c place)) (length w.all.lists)
-            (all_at (λ l. ltb (list_of l) (length w.all.lists)) c place seen.replacement.inside placed.listed)
+        pub to_inside : list_of l < length w.all.lists
+        to_inside = ltb-true (list_of l) (length w.all.lists)
+            (all_among (λ m. ltb (list_of m) (length w.all.lists)) c l placed.listed among)
 
-        elsewhere : list_of (literal_at c place) ≢ list
-        elsewhere e = false≢true (sym apart_parts.1 ∙ h.are_false (literal_at c place) e)
+        elsewhere : list_of l ≢ list
+        elsewhere e = false≢true (sym not_false ∙ h.are_false l e)
 
-        pub turn_moves : IsTurn list w (pushed_state (set w.own n (list_of (literal_at c place))) w.trail (list_of (literal_at c place))) Goes
-        turn_moves =
+        pub turn_to : IsTurn list w (pushed_state (set w.own n (list_of l)) w.trail (list_of l)) Goes
+        turn_to =
             let inside : n < length w.own = omega (arith, number_below, h.own_places) in
-            let at_n : watched_at (set w.own n (list_of (literal_at c place))) n ≡ literal_at c place =
-            watched-set_same w.own n (literal_at c place) inside in
-            let other : (id : ℕ) → id ≢ n → watched_at (set w.own n (list_of (literal_at c place))) id ≡ watched_at w.own id =
-            λ id apart. watched-set_other w.own n id (literal_at c place) apart in
-            let new_home : home (watched_at (set w.own n (list_of (literal_at c place))) n) (watched_at w.other n) ≡ list_of (literal_at c place) =
-            rw at_n (rw apart_parts.0 refl) in
-            let some : 0 < length c = omega (arith, seen.replacement.inside) in
+            let at_n : watched_at (set w.own n (list_of l)) n ≡ l = watched-set_same w.own n l inside in
+            let other : (id : ℕ) → id ≢ n → watched_at (set w.own n (list_of l)) id ≡ watched_at w.own id =
+            λ id off. watched-set_other w.own n id l off in
+            let new_home : home (watched_at (set w.own n (list_of l)) n) (watched_at w.other n) ≡ list_of l =
+            rw at_n (rw apart refl) in
+            let some : 0 < length c = some_among c l among in
             record {
-              walking = turn_pushes (set w.own n (list_of (literal_at c place))) w.trail (list_of (literal_at c place)) move_inside
-                  (length-set w.own n (list_of (literal_at c place))) other
+              walking = turn_pushes (set w.own n (list_of l)) w.trail (list_of l) to_inside
+                  (length-set w.own n (list_of l)) other
                   (record {
-                    inside = λ _. (rw at_n (among_at c c place no_literal seen.replacement.inside), (placed.inside some).1);
+                    inside = λ _. (rw at_n among, (placed.inside some).1);
                     bare = λ none. absurd (omega (arith, ap length none, some));
-                    short = λ short. absurd (false≢true (sym apart_parts.0 ∙ rw at_n at short));
+                    short = λ short. absurd (false≢true (sym apart ∙ rw at_n at short));
                     small = placed.small;
                     listed = placed.listed;
                     begun = placed.begun;
                   })
-                  refl (λ l among. among)
-                  (λ l a b. rw new_home refl)
+                  refl (λ m is_true. is_true)
+                  (λ m a b. rw new_home refl)
                   (rw new_home (omega (
                     arith,
-                    stands_other (list_of (literal_at c place)) 0
-                        (λ e. omega (arith, list_of-positive (literal_at c place), e)),
+                    stands_other (list_of l) 0 (λ e. omega (arith, list_of-positive l, e)),
                   )))
-                  (λ e. absurd (omega (arith, list_of-positive (literal_at c place), e)));
+                  (λ e. absurd (omega (arith, list_of-positive l, e)));
               advances = record {
                 grows = GrowsBy-none w.kept w.trail;
-                len = length-set w.own n (list_of (literal_at c place));
+                len = length-set w.own n (list_of l);
                 moved = λ id d k. elim (cases_eq id n) [
                   | inl here ↦
                       rw (here, at_n) (inr (record {
                         left = false_from_ne_true
                             (is_true_under (held w.trail.literals) (watched_at w.own n))
-                            (λ is. false≢true (sym (seen.consistent (watched_at w.own n) is) ∙ own_false));
-                        came = apart_parts.1;
+                            (λ is. false≢true (sym (consistent (watched_at w.own n) is) ∙ own_false));
+                        came = not_false;
                         old_long = old_long;
-                        now_long = apart_parts.0;
+                        now_long = apart;
                       }))
-                  | inr apart ↦ inl (other id apart)
+                  | inr off ↦ inl (other id off)
                 ];
               };
-              out = rw (pushed_off rest (list_of (literal_at c place)) n (omega (arith, move_inside, same_len)) list
+              out = rw (pushed_off rest (list_of l) n (omega (arith, to_inside, same_len)) list
                   (λ e. elsewhere (sym e))) (popped_shorter w.all.lists list n h.inside first);
             }
+
+      -- the one at a place of the clause
+      module _ (place : ℕ) (seen : IsMove (held w.trail.literals) c (watched_at w.other n) place) where
+        apart_parts : (is_same_literal (literal_at c place) (watched_at w.other n) ≡ false)
+            × (is_false_under (held w.trail.literals) (literal_at c place) ≡ false)
+        apart_parts = or_parts (is_same_literal (literal_at c place) (watched_at w.other n))
+            (is_false_under (held w.trail.literals) (literal_at c place)) seen.replacement.is_new
+
+        at_place : is_among c (literal_at c place) ≡ true
+        at_place = among_at c c place no_literal seen.replacement.inside
+
+        pub move_small : (literal_at c place).atom < 2 ^ 30
+        move_small = to_small (literal_at c place) at_place apart_parts.0 apart_parts.1 seen.consistent
+
+        pub move_inside : list_of (literal_at c place) < length w.all.lists
+        move_inside = to_inside (literal_at c place) at_place apart_parts.0 apart_parts.1 seen.consistent
+
+        pub turn_moves : IsTurn list w
+            (pushed_state (set w.own n (list_of (literal_at c place))) w.trail (list_of (literal_at c place))) Goes
+        turn_moves = turn_to (literal_at c place) at_place apart_parts.0 apart_parts.1 seen.consistent
+
+        -- the literal that was watched is one of the clause
+        pub move_among : (d : List Lit) → HasClause w.kept n d → is_among d (watched_at w.own n) ≡ true
+        move_among d k =
+            let is_c : d ≡ c = only_clause w.kept n c d has k in
+            rw is_c ((h.placed n c has).inside (some_among c (literal_at c place) at_place)).0
+
+    -- a clause without literals stands among the short ones
+    some_here : times n rest ≡ 0 → 1 < list → (c : List Lit) → HasClause w.kept n c → 0 < length c
+    some_here nowhere long [] has =
+        let bare = (h.placed n [] has).bare refl in
+        let short : home (watched_at w.own n) (watched_at w.other n) ≡ 1 = rw (bare.0, bare.1) refl in
+        absurd (omega (arith, long, home_is nowhere [] has, short))
+    some_here nowhere long (x ∷ xs) has = omega arith
+
+    -- where the other literal is true, whether or not a clause is kept at the number
+    pub turn_true : times n rest ≡ 0 → 1 < list
+        → is_true_under (held w.trail.literals) (watched_at w.other n) ≡ true
+        → IsTurn list w (record w { all = record w.all { lists = pushed rest 0 n } }) Goes
+    turn_true nowhere long is_true = go (kept_at w.kept n) refl
+      where
+        go : (o : Option KeptClause) → kept_at w.kept n ≡ o
+            → IsTurn list w (record w { all = record w.all { lists = pushed rest 0 n } }) Goes
+        go None is =
+            turn_idles nowhere is w.own refl (λ id apart. refl) 0 (omega (arith, h.inside))
+            (λ e. omega (arith, h.begun, e))
+        go (Some k) is =
+            let has : HasClause w.kept n k.literals = record { found = k; there = is; literals = refl } in
+            turn_holds nowhere k.literals has
+            (record {
+              inside = ((h.placed n k.literals has).inside (some_here nowhere long k.literals has)).1;
+              holds = is_true;
+            })
+
+    -- where the spare literal is watched, whether or not a clause is kept at the number
+    module _ (nowhere : times n rest ≡ 0) (spares : List ℕ) (code : ℕ) (spared : AreSpared w.kept spares)
+        (free : IsFree (held w.trail.literals) spares n (code_at w.other n) (length w.all.lists) code) where
+      free_parts : (is_same_literal (literal_of code) (watched_at w.other n) ≡ false)
+          × (is_false_under (held w.trail.literals) (literal_of code) ≡ false)
+      free_parts = or_parts (is_same_literal (literal_of code) (watched_at w.other n))
+          (is_false_under (held w.trail.literals) (literal_of code)) free.is_new
+
+      its_list : list_of (literal_of code) ≡ code
+      its_list = list_of-literal_of code free.begun
+
+      is_spare : (c : List Lit) → HasClause w.kept n c → is_among c (literal_of code) ≡ true
+      is_spare c has = ap (λ m. is_among c (literal_of m)) free.there
+          ∙ spared.among n c has (subst (λ m. 1 < m) free.there free.begun)
+
+      -- the literal that was watched is one of the clause
+      pub spare_among : (c : List Lit) → HasClause w.kept n c → is_among c (watched_at w.own n) ≡ true
+      spare_among c has = ((h.placed n c has).inside (some_among c (literal_of code) (is_spare c has))).0
+
+      pub turn_spare : IsTurn list w
+          (record w { own = set w.own n code; all = record w.all { lists = pushed rest code n } }) Goes
+      turn_spare = go (kept_at w.kept n) refl
+        where
+          go : (o : Option KeptClause) → kept_at w.kept n ≡ o
+              → IsTurn list w
+              (record w { own = set w.own n code; all = record w.all { lists = pushed rest code n } }) Goes
+          go None is =
+              turn_idles nowhere is (set w.own n code) (length-set w.own n code)
+              (λ id apart. ap literal_of (get_or-set_other w.own n id code 0 apart)) code free.inside
+              (λ e. false≢true (sym free_parts.1 ∙ h.are_false (literal_of code) (its_list ∙ sym e)))
+          go (Some k) is =
+              let has : HasClause w.kept n k.literals = record { found = k; there = is; literals = refl } in
+              subst (λ m. IsTurn list w
+              (record w { own = set w.own n m; all = record w.all { lists = pushed rest m n } }) Goes) its_list
+              (turn_to nowhere k.literals has (literal_of code) (is_spare k.literals has) free_parts.0 free_parts.1
+              free.consistent)

@@ -5,6 +5,7 @@ pub mod Links
 pub mod WatchLists
 pub mod Watching
 pub mod Looking
+pub mod Sparing
 pub mod Walking
 pub mod Settling
 pub mod Adding

@@ -1,5 +1,5 @@
 -- Unit propagation of kept clauses on a trail.
-use Rattle.std.specs.Prelude.{◌≡◌, ℕ, Bool, true, false, nat_lt, List, [], ◌∷◌, ◌++◌, Option, Some, None}
+use Rattle.std.specs.Prelude.{◌≡◌, ℕ, Bool, true, false, nat_lt, List, [], ◌∷◌, ◌++◌, map, Option, Some, None}
 use Rattle.std.specs.List.{list_all}
 use Rattle.sb_lit.specs.declared.clause.Lit.{Lit}
 use Rattle.sb_lit.specs.declared.clause.ClauseId.{ClauseId}
@@ -14,6 +14,10 @@ use Rattle.sb_clauses.specs.declared.propagated.Propagated.TheVariants.{Done, Co
 pub record State : Type 0 where
   pub kept : Kept
   pub trail : Assignments
+
+-- no clause stays; the numbers stay as they are
+abbrev pub all_dropped : Kept → Kept
+all_dropped kept = map (λ clause. None) kept
 
 -- each atom of the literals has a place
 abbrev pub are_reserved : ℕ → List Lit → Bool

@@ -1,5 +1,5 @@
 -- Private: the kept clauses above level 0, in a heap that has the one of the highest level first.
-use Rattle.std.specs.Prelude.{◌≡◌, ℕ, ◌<◌, Bool, true, ◌&&◌, ◌==◌, if◌then◌else◌, nat_le, List, ◌∷◌, length, slice_set, Option, Some, None}
+use Rattle.std.specs.Prelude.{◌≡◌, ℕ, ◌<◌, ◌≤◌, Bool, true, ◌&&◌, ◌==◌, if◌then◌else◌, nat_le, List, ◌∷◌, length, slice_set, Option, Some, None}
 use Rattle.std.specs.List.{list_all, list_any}
 use Rattle.std.specs.List.Sorted.{IsPermutation}
 use Rattle.std.specs.declared.cmp.Ordering.{Ordering}
@@ -20,6 +20,11 @@ pub record AreScoped (kept : Kept) (scoped : List (ℕ × ℕ)) : Type 0 where
   pub ordered : IsHeap scope_order scoped
   pub all : (id : ℕ) (clause : KeptClause) → kept_at kept id ≡ Some clause → 0 < clause.level
       → list_any (is_pair clause.level id) scoped ≡ true
+
+-- the places before this one are there, and empty
+pub record AreEmptyBefore (place : ℕ) (kept : Kept) : Type 0 where
+  pub inside : place ≤ length kept
+  pub empty : (id : ℕ) → id < place → kept_at kept id ≡ None
 
 -- the pair of the highest level went, which is above this one, or none is
 pub record IsPopped (level : ℕ) (old new : List (ℕ × ℕ)) (number : ℕ) : Type 0 where

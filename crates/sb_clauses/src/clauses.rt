@@ -1,13 +1,13 @@
 //! The kept clauses.
 
-ghost use Rattle.std.specs.Prelude.{◌≡◌, [], ◌∷◌, ◌++◌, ◌<◌, length, true, Some, IfOk, OnOk, OnErr, MatchBool, MatchOption};
+ghost use Rattle.std.specs.Prelude.{◌≡◌, ℕ, [], ◌∷◌, ◌++◌, ◌<◌, ◌≤◌, length, slice_set, true, Some, None, IfOk, OnOk, OnErr, MatchBool, MatchOption};
 ghost use Rattle.std.specs.List.{list_all, list_any};
 ghost use Rattle.std.specs.BinaryHeap.{IsHeap, heap_items};
 ghost use Rattle.std.specs.Option.{option_map, option_copied};
 ghost use Rattle.sb_lit.specs.Kept.{Kept, kept_at, kept_up_to, is_above};
 ghost use Rattle.sb_clauses.specs.Records.{clause_of, kept_of};
-ghost use Rattle.sb_clauses.specs.Propagation.{are_reserved, is_reserved, has_room_for, HasNoneFalse, IsConflict};
-ghost use Rattle.sb_clauses.specs.Scoped.{scope_order, is_pair, AreScoped, PopsAbove, without_above, IsScopedTurn};
+ghost use Rattle.sb_clauses.specs.Propagation.{all_dropped, are_reserved, is_reserved, has_room_for, HasNoneFalse, IsConflict};
+ghost use Rattle.sb_clauses.specs.Scoped.{scope_order, is_pair, AreScoped, AreEmptyBefore, PopsAbove, without_above, IsScopedTurn};
 ghost use Rattle.sb_clauses.specs.Occurring.{AreFound};
 ghost use Rattle.sb_clauses.specs.Watching.{is_small};
 
@@ -28,13 +28,15 @@ pub struct Clauses {
     /// The levels above 0 with the numbers of their clauses, the highest level first.
     scoped: BinaryHeap<(u64, usize)>,
     occurrences: Occurrences,
+    /// The places before this one are empty.
+    emptied: usize,
 }
 
 impl Model for Clauses {
     ghost use Rattle.sb_lit.specs.Kept.{Kept};
     ghost use Rattle.std.specs.BinaryHeap.{heap_items};
     ghost use Rattle.sb_clauses.specs.Records.{kept_of};
-    ghost use Rattle.sb_clauses.specs.Scoped.{AreScoped};
+    ghost use Rattle.sb_clauses.specs.Scoped.{AreScoped, AreEmptyBefore};
     ghost use Rattle.sb_clauses.specs.Occurring.{AreFound};
 
     ghost Value = { Kept };
@@ -42,7 +44,8 @@ impl Model for Clauses {
     ghost view = { λ clauses. kept_of clauses.records.items };
 
     ghost invariant = { λ clauses. AreScoped (kept_of clauses.records.items) (heap_items clauses.scoped)
-        × AreFound (kept_of clauses.records.items) clauses.occurrences.heads clauses.occurrences.nodes.items };
+        × AreFound (kept_of clauses.records.items) clauses.occurrences.heads clauses.occurrences.nodes.items
+        × AreEmptyBefore clauses.emptied (kept_of clauses.records.items) };
 }
 
 impl Clauses {
@@ -54,6 +57,7 @@ impl Clauses {
             records: Vec::new(alloc),
             scoped: BinaryHeap::new(alloc),
             occurrences: Occurrences::new(alloc),
+            emptied: 0,
         }
     }
 
@@ -147,6 +151,16 @@ impl Clauses {
         );
     }
 
+    /// Drops all clauses, those of level 0 too; their numbers are not given again. Takes no memory; linear in the numbers
+    /// that were given since all clauses were dropped before.
+    pub fn drop_all(&mut self)
+        ensures { self.new ≡ all_dropped self.old }
+    {
+        drop_records_from(&mut self.records, &mut self.occurrences, self.emptied);
+        self.scoped.clear();
+        self.emptied = self.records.len();
+    }
+
     /// Whether the trail has a place for each atom of a kept clause. Takes no memory; linear in the number of
     /// all literals.
     pub fn have_room_on(&self, trail: &Trail) -> bool
@@ -186,6 +200,31 @@ fn scope(scoped: &mut BinaryHeap<(u64, usize)>, level: u64, number: usize) -> Re
     Ok(())
 }
 
+/// Empties the places from this one on.
+fn drop_records_from(records: &mut Vec<Option<Record>>, occurrences: &mut Occurrences, from: usize)
+    requires empty { AreEmptyBefore from (kept_of records.old.items) }
+    requires found { AreFound (kept_of records.old.items) occurrences.old.heads occurrences.old.nodes.items }
+    ensures dropped { kept_of records.new.items ≡ all_dropped (kept_of records.old.items) }
+    ensures found { AreFound (kept_of records.new.items) occurrences.new.heads occurrences.new.nodes.items }
+{
+    let mut number = from;
+    while number < records.len() {
+        empty(records, occurrences, number);
+        number += 1;
+    }
+}
+
+/// Empties the place of the number, and takes it off its list.
+fn empty(records: &mut Vec<Option<Record>>, occurrences: &mut Occurrences, number: usize)
+    requires inside { number < length records.old.items }
+    requires found { AreFound (kept_of records.old.items) occurrences.old.heads occurrences.old.nodes.items }
+    ensures emptied { kept_of records.new.items ≡ slice_set (kept_of records.old.items) number None }
+    ensures found { AreFound (kept_of records.new.items) occurrences.new.heads occurrences.new.nodes.items }
+{
+    records[number] = None;
+    occurrences.remove(number);
+}
+
 /// Empties the places of the clauses above the level.
 fn drop_records_above(
     records: &mut [Option<Record>],
@@ -196,6 +235,7 @@ fn drop_records_above(
     requires scoped { AreScoped (kept_of records.old) (heap_items scoped.old) }
     requires found { AreFound (kept_of records.old) occurrences.old.heads occurrences.old.nodes.items }
     ensures dropped { kept_of records.new ≡ kept_up_to level (kept_of records.old) }
+    ensures empty { (place : ℕ) → AreEmptyBefore place (kept_of records.old) → AreEmptyBefore place (kept_of records.new) }
     ensures scoped { AreScoped (kept_of records.new) (heap_items scoped.new) }
     ensures found { AreFound (kept_of records.new) occurrences.new.heads occurrences.new.nodes.items }
 {

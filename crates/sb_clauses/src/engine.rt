@@ -3,12 +3,13 @@
 ghost use Rattle.std.specs.Prelude.{◌≡◌, ℕ, ◌+◌, ◌<◌, ◌≤◌, [], ◌∷◌, ◌++◌, length, max, true, Some, None, IsOk, IfOk, OnOk, OnErr};
 ghost use Rattle.sb_lit.specs.Kept.{kept_up_to};
 ghost use Rattle.sb_trail.specs.Assignments.{held, value_of, current_level, up_to};
-ghost use Rattle.sb_clauses.specs.Propagation.{has_room_for, GrowsBy, AnswersOf};
+ghost use Rattle.sb_clauses.specs.Propagation.{all_dropped, has_room_for, GrowsBy, AnswersOf};
 
 use crate::clauses::Clauses;
 use crate::marks::{Queue, end_of, end_of_marks, forget_above, forget_from};
 use crate::propagated::Propagated;
 use crate::settle::settle_on;
+use crate::spare::{Spares, grow_spares};
 use crate::watches::{Watches, lists_for};
 use sb_lit::{Clause, ClauseId, Lit};
 use sb_trail::Trail;
@@ -23,12 +24,14 @@ pub struct Engine {
     trail: Trail,
     first: Watches,
     second: Watches,
+    spares: Spares,
     queue: Queue,
 }
 
 impl Model for Engine {
     ghost use Rattle.sb_clauses.specs.Propagation.{State};
     ghost use Rattle.sb_clauses.specs.Waiting.{AreStored};
+    ghost use Rattle.sb_clauses.specs.Sparing.{AreSpared};
 
     ghost Value = { State };
 
@@ -36,7 +39,7 @@ impl Model for Engine {
 
     ghost invariant = { λ engine. AreStored engine.clauses engine.first.watched.items engine.first.lists
         engine.second.watched.items engine.second.lists engine.trail.literals engine.queue.marks.items
-        engine.queue.head engine.queue.listed };
+        engine.queue.head engine.queue.listed × AreSpared engine.clauses engine.spares.literals.items };
 }
 
 impl Engine {
@@ -49,6 +52,7 @@ impl Engine {
             trail: Trail::new(alloc),
             first: Watches::new(alloc),
             second: Watches::new(alloc),
+            spares: Spares::new(alloc),
             queue: Queue {
                 marks: Vec::new(alloc),
                 head: None,
@@ -106,6 +110,7 @@ impl Engine {
         let numbers = self.clauses.len() + 1;
         self.first.make_room(numbers, lists)?;
         self.second.make_room(numbers, lists)?;
+        grow_spares(&mut self.spares, numbers)?;
         self.clauses.add(clause, level)
     }
 
@@ -114,7 +119,16 @@ impl Engine {
     pub fn drop_above(&mut self, level: u64)
         ensures { self.new ≡ record self.old { kept = kept_up_to level self.old.kept } }
     {
+        self.spares.gone = true;
         self.clauses.drop_above(level);
+    }
+
+    /// Drops all clauses, those of level 0 too; their numbers are not given again. Takes no memory; linear in the numbers
+    /// that were given since all clauses were dropped before.
+    pub fn drop_all(&mut self)
+        ensures { self.new ≡ record self.old { kept = all_dropped self.old.kept } }
+    {
+        self.clauses.drop_all();
     }
 
     /// Opens the next level of the trail with a literal that no clause forces. Takes no memory; constant time.
@@ -224,6 +238,7 @@ impl Engine {
             &self.clauses,
             &mut self.first,
             &mut self.second,
+            &mut self.spares,
             &mut self.queue,
             &mut self.trail,
         );

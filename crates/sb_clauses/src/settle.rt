@@ -7,6 +7,7 @@ ghost use Rattle.sb_trail.specs.Assignments.{held, IsConsistent};
 ghost use Rattle.sb_clauses.specs.Records.{kept_of};
 ghost use Rattle.sb_clauses.specs.Propagation.{has_room_for, GrowsBy, IsConflict, IsSettled};
 ghost use Rattle.sb_clauses.specs.Watching.{list_of, IsSide, AreWatched};
+ghost use Rattle.sb_clauses.specs.Sparing.{AreSpared};
 ghost use Rattle.sb_clauses.specs.Walking.{AreHeld, Advances};
 ghost use Rattle.sb_clauses.specs.Waiting.{AreStored};
 ghost use Rattle.sb_clauses.specs.Settling.{Grown, AreFine, Settles, IsFalseAt};
@@ -15,6 +16,7 @@ use crate::clauses::Clauses;
 use crate::listing::list_new;
 use crate::marks::{Queue, end_of_marks, forget_from, mark};
 use crate::record::Record;
+use crate::spare::Spares;
 use crate::walk::walk;
 use crate::watches::{SHORT, Watches, list_among};
 use sb_lit::{ClauseId, Lit};
@@ -26,14 +28,17 @@ pub fn settle_on(
     clauses: &Clauses,
     first: &mut Watches,
     second: &mut Watches,
+    spares: &mut Spares,
     queue: &mut Queue,
     trail: &mut Trail,
 ) -> Option<ClauseId>
     requires stored { AreStored clauses.now first.old.watched.items first.old.lists second.old.watched.items
         second.old.lists trail.old.literals queue.old.marks.items queue.old.head queue.old.listed }
     requires room { has_room_for trail.old.reserved clauses.now ≡ true }
+    requires spared { AreSpared clauses.now spares.old.literals.items }
     ensures stored { AreStored clauses.now first.new.watched.items first.new.lists second.new.watched.items
         second.new.lists trail.new.literals queue.new.marks.items queue.new.head queue.new.listed }
+    ensures spared { AreSpared clauses.now spares.new.literals.items }
     ensures grows { GrowsBy clauses.now trail.old trail.new }
     ensures answer { MatchOption result (IsSettled clauses.now (held trail.new.literals))
         (λ id. IsConflict clauses.now (held trail.new.literals) id.0) }
@@ -45,7 +50,7 @@ pub fn settle_on(
         queue.head = end_of_marks(&queue.marks, trail.literals());
         return conflict;
     }
-    let conflict = settle(records, first, second, trail, queue.head);
+    let conflict = settle(records, first, second, spares, trail, queue.head);
     if conflict.is_some() {
         return conflict;
     }
@@ -59,17 +64,20 @@ fn settle(
     records: &[Option<Record>],
     first: &mut Watches,
     second: &mut Watches,
+    spares: &mut Spares,
     trail: &mut Trail,
     head: Option<usize>,
 ) -> Option<ClauseId>
     requires watched { AreWatched (kept_of records.now) first.old.watched.items first.old.lists second.old.watched.items
         second.old.lists }
     requires room { has_room_for trail.old.reserved (kept_of records.now) ≡ true }
+    requires spared { AreSpared (kept_of records.now) spares.old.literals.items }
     requires fine { IfSome head
         (λ start. AreFine (kept_of records.now) (take start (held trail.old.literals)) (held trail.old.literals)
         first.old.watched.items second.old.watched.items) }
     ensures watched { AreWatched (kept_of records.now) first.new.watched.items first.new.lists second.new.watched.items
         second.new.lists }
+    ensures spared { AreSpared (kept_of records.now) spares.new.literals.items }
     ensures settles { Settles (kept_of records.now) first.old.watched.items second.old.watched.items
         first.new.watched.items second.new.watched.items trail.old trail.new }
     ensures answer { MatchOption result
@@ -77,8 +85,8 @@ fn settle(
         second.new.watched.items) (λ id. IsConflict (kept_of records.now) (held trail.new.literals) id.0) }
 {
     match head {
-        Some(start) => settle_from(records, first, second, trail, start),
-        None => settle_all(records, first, second, trail),
+        Some(start) => settle_from(records, first, second, spares, trail, start),
+        None => settle_all(records, first, second, spares, trail),
     }
 }
 
@@ -87,24 +95,27 @@ fn settle_all(
     records: &[Option<Record>],
     first: &mut Watches,
     second: &mut Watches,
+    spares: &mut Spares,
     trail: &mut Trail,
 ) -> Option<ClauseId>
     requires watched { AreWatched (kept_of records.now) first.old.watched.items first.old.lists second.old.watched.items
         second.old.lists }
     requires room { has_room_for trail.old.reserved (kept_of records.now) ≡ true }
+    requires spared { AreSpared (kept_of records.now) spares.old.literals.items }
     ensures watched { AreWatched (kept_of records.now) first.new.watched.items first.new.lists second.new.watched.items
         second.new.lists }
+    ensures spared { AreSpared (kept_of records.now) spares.new.literals.items }
     ensures settles { Settles (kept_of records.now) first.old.watched.items second.old.watched.items
         first.new.watched.items second.new.watched.items trail.old trail.new }
     ensures answer { MatchOption result
         (AreFine (kept_of records.now) (held trail.new.literals) (held trail.new.literals) first.new.watched.items
         second.new.watched.items) (λ id. IsConflict (kept_of records.now) (held trail.new.literals) id.0) }
 {
-    let short = walk(records, first, &second.watched, trail, SHORT);
+    let short = walk(records, first, &second.watched, spares, trail, SHORT);
     if short.is_some() {
         return short;
     }
-    settle_from(records, first, second, trail, 0)
+    settle_from(records, first, second, spares, trail, 0)
 }
 
 /// Goes over the literals of the trail from a place on, also those that are assigned on the way.
@@ -112,16 +123,19 @@ fn settle_from(
     records: &[Option<Record>],
     first: &mut Watches,
     second: &mut Watches,
+    spares: &mut Spares,
     trail: &mut Trail,
     start: usize,
 ) -> Option<ClauseId>
     requires watched { AreWatched (kept_of records.now) first.old.watched.items first.old.lists second.old.watched.items
         second.old.lists }
     requires room { has_room_for trail.old.reserved (kept_of records.now) ≡ true }
+    requires spared { AreSpared (kept_of records.now) spares.old.literals.items }
     requires fine { AreFine (kept_of records.now) (take start (held trail.old.literals)) (held trail.old.literals)
         first.old.watched.items second.old.watched.items }
     ensures watched { AreWatched (kept_of records.now) first.new.watched.items first.new.lists second.new.watched.items
         second.new.lists }
+    ensures spared { AreSpared (kept_of records.now) spares.new.literals.items }
     ensures settles { Settles (kept_of records.now) first.old.watched.items second.old.watched.items
         first.new.watched.items second.new.watched.items trail.old trail.new }
     ensures answer { MatchOption result
@@ -130,7 +144,7 @@ fn settle_from(
 {
     let mut head = start;
     while let Some(literal) = false_literal(trail, head) {
-        let conflict = walk_both(records, first, second, trail, literal);
+        let conflict = walk_both(records, first, second, spares, trail, literal);
         if conflict.is_some() {
             return conflict;
         }
@@ -144,15 +158,18 @@ fn walk_both(
     records: &[Option<Record>],
     first: &mut Watches,
     second: &mut Watches,
+    spares: &mut Spares,
     trail: &mut Trail,
     literal: Lit,
 ) -> Option<ClauseId>
     requires watched { AreWatched (kept_of records.now) first.old.watched.items first.old.lists second.old.watched.items
         second.old.lists }
     requires room { has_room_for trail.old.reserved (kept_of records.now) ≡ true }
+    requires spared { AreSpared (kept_of records.now) spares.old.literals.items }
     requires is_false { is_false_under (held trail.old.literals) literal ≡ true }
     ensures watched { AreWatched (kept_of records.now) first.new.watched.items first.new.lists second.new.watched.items
         second.new.lists }
+    ensures spared { AreSpared (kept_of records.now) spares.new.literals.items }
     ensures settles { Settles (kept_of records.now) first.old.watched.items second.old.watched.items
         first.new.watched.items second.new.watched.items trail.old trail.new }
     ensures fine { IfNone result ((walked : List TheLit) → Grown walked (held trail.old.literals)
@@ -162,11 +179,11 @@ fn walk_both(
     ensures conflict { MatchOption result (Unit {0})
         (λ id. IsConflict (kept_of records.now) (held trail.new.literals) id.0) }
 {
-    let conflict = walk_watching(records, first, &second.watched, trail, literal);
+    let conflict = walk_watching(records, first, &second.watched, spares, trail, literal);
     if conflict.is_some() {
         return conflict;
     }
-    walk_watching(records, second, &first.watched, trail, literal)
+    walk_watching(records, second, &first.watched, spares, trail, literal)
 }
 
 /// Looks at each clause of which one of these watches is the literal.
@@ -174,13 +191,16 @@ fn walk_watching(
     records: &[Option<Record>],
     own: &mut Watches,
     other: &[u32],
+    spares: &mut Spares,
     trail: &mut Trail,
     literal: Lit,
 ) -> Option<ClauseId>
     requires side { IsSide (kept_of records.now) own.old.watched.items other.now own.old.lists }
     requires room { has_room_for trail.old.reserved (kept_of records.now) ≡ true }
+    requires spared { AreSpared (kept_of records.now) spares.old.literals.items }
     requires is_false { is_false_under (held trail.old.literals) literal ≡ true }
     ensures side { IsSide (kept_of records.now) own.new.watched.items other.now own.new.lists }
+    ensures spared { AreSpared (kept_of records.now) spares.new.literals.items }
     ensures advances { Advances
         (record {
           kept = kept_of records.now;
@@ -210,7 +230,7 @@ fn walk_watching(
         })) (λ id. IsConflict (kept_of records.now) (held trail.new.literals) id.0) }
 {
     match list_among(literal, own.lists.len()) {
-        Some(list) => walk(records, own, other, trail, list),
+        Some(list) => walk(records, own, other, spares, trail, list),
         None => None,
     }
 }

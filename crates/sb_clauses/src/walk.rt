@@ -2,16 +2,19 @@
 
 ghost use Rattle.std.specs.Prelude.{◌≡◌, ◌<◌, [], true, slice_index_or, MatchOption};
 ghost use Rattle.sb_lit.specs.Kept.{Kept};
+ghost use Rattle.sb_lit.specs.Clauses.{is_true_under};
 ghost use Rattle.sb_trail.specs.Assignments.{held};
 ghost use Rattle.sb_clauses.specs.Records.{kept_of};
 ghost use Rattle.sb_clauses.specs.Propagation.{has_room_for, IsConflict};
-ghost use Rattle.sb_clauses.specs.Watching.{IsSide};
+ghost use Rattle.sb_clauses.specs.Watching.{IsSide, literal_of};
+ghost use Rattle.sb_clauses.specs.Sparing.{AreSpared};
 ghost use Rattle.sb_clauses.specs.Walking.{AreFalseOf, AreHeld, IsWalking, Advances, IsTurn};
 
 use crate::record::Record;
+use crate::spare::{Spares, change_watch, free_spare, is_gone};
 use crate::watch::{Seen, look};
 use crate::watch_lists::pour;
-use crate::watches::{Watches, code_of, list_of, literal_of};
+use crate::watches::{SHORT, Watches, code_of, literal_of};
 use sb_lit::{ClauseId, Lit};
 use sb_trail::Trail;
 
@@ -29,15 +32,30 @@ pub enum Turn {
     Stops(ClauseId),
 }
 
-/// Takes the first clause off the list, and puts it where it belongs.
+/// Whether a number of the list stays there whatever is kept at it: its other watched literal is true, and no clause
+/// without literals stands in the list.
+fn is_passed(list: usize, other: u32, trail: &Trail) -> bool
+    ensures { result ≡ true → (1 < list) × (is_true_under (held trail.now.literals) (literal_of other) ≡ true) }
+{
+    if list <= SHORT {
+        return false;
+    }
+    match trail.literal_value(literal_of(other)) {
+        Some(true) => true,
+        _ => false,
+    }
+}
+
+/// Takes the first number off the list, and puts it where it belongs.
 fn take_turn(
     records: &[Option<Record>],
     own: &mut Watches,
     other: &[u32],
+    spares: &mut Spares,
     trail: &mut Trail,
     list: usize,
 ) -> Turn
-    requires { IsWalking list
+    requires walking { IsWalking list
         (record {
           kept = kept_of records.now;
           own = own.old.watched.items;
@@ -46,7 +64,8 @@ fn take_turn(
               own.old.lists;
           trail = trail.old;
         }) }
-    ensures { IsTurn list
+    requires spared { AreSpared (kept_of records.now) spares.old.literals.items }
+    ensures turn { IsTurn list
         (record {
           kept = kept_of records.now;
           own = own.old.watched.items;
@@ -63,10 +82,22 @@ fn take_turn(
               own.new.lists;
           trail = trail.new;
         }) result }
+    ensures spared { AreSpared (kept_of records.now) spares.new.literals.items }
 {
     let Some(number) = own.lists.pop(list) else {
         return Turn::Ends;
     };
+    if is_gone(records, number, spares) {
+        return Turn::Goes;
+    }
+    if is_passed(list, other[number], trail) {
+        own.lists.push(SCRATCH, number);
+        return Turn::Goes;
+    }
+    if let Some(code) = free_spare(spares, number, other[number], own.lists.len(), trail) {
+        change_watch(own, spares, number, code);
+        return Turn::Goes;
+    }
     let Some(record) = &records[number] else {
         return Turn::Goes;
     };
@@ -82,9 +113,8 @@ fn take_turn(
             Turn::Goes
         }
         Seen::Moves(place) => {
-            let literal = literals[place].literal();
-            own.watched[number] = code_of(literal);
-            own.lists.push(list_of(literal), number);
+            let code = code_of(literals[place].literal());
+            change_watch(own, spares, number, code);
             Turn::Goes
         }
         Seen::False => {
@@ -99,10 +129,11 @@ fn take_turns(
     records: &[Option<Record>],
     own: &mut Watches,
     other: &[u32],
+    spares: &mut Spares,
     trail: &mut Trail,
     list: usize,
 ) -> Option<ClauseId>
-    requires { IsWalking list
+    requires walking { IsWalking list
         (record {
           kept = kept_of records.now;
           own = own.old.watched.items;
@@ -111,6 +142,7 @@ fn take_turns(
               own.old.lists;
           trail = trail.old;
         }) }
+    requires spared { AreSpared (kept_of records.now) spares.old.literals.items }
     ensures walking { IsWalking list
         (record {
           kept = kept_of records.now;
@@ -120,6 +152,7 @@ fn take_turns(
               own.new.lists;
           trail = trail.new;
         }) }
+    ensures spared { AreSpared (kept_of records.now) spares.new.literals.items }
     ensures advances { Advances
         (record {
           kept = kept_of records.now;
@@ -141,7 +174,7 @@ fn take_turns(
         (λ id. IsConflict (kept_of records.now) (held trail.new.literals) id.0) }
 {
     loop {
-        match take_turn(records, own, other, trail, list) {
+        match take_turn(records, own, other, spares, trail, list) {
             Turn::Goes => {}
             Turn::Ends => return None,
             Turn::Stops(id) => return Some(id),
@@ -151,11 +184,13 @@ fn take_turns(
 
 /// Looks at each clause of a list of false literals. A clause whose other literal is true stays, one that
 /// leaves its other literal has it assigned and stays, and one with a further literal that is not false moves
-/// to that one's list. Answers a clause that is false, and stops there. Takes no memory.
+/// to that one's list; the spare literal comes first, and then the clause is not read. Answers a clause that is
+/// false, and stops there. Takes no memory.
 pub fn walk(
     records: &[Option<Record>],
     own: &mut Watches,
     other: &[u32],
+    spares: &mut Spares,
     trail: &mut Trail,
     list: usize,
 ) -> Option<ClauseId>
@@ -163,7 +198,9 @@ pub fn walk(
     requires room { has_room_for trail.old.reserved (kept_of records.now) ≡ true }
     requires are_false { AreFalseOf list (held trail.old.literals) }
     requires begun { 0 < list }
+    requires spared { AreSpared (kept_of records.now) spares.old.literals.items }
     ensures side { IsSide (kept_of records.now) own.new.watched.items other.now own.new.lists }
+    ensures spared { AreSpared (kept_of records.now) spares.new.literals.items }
     ensures advances { Advances
         (record {
           kept = kept_of records.now;
@@ -195,7 +232,7 @@ pub fn walk(
     if list >= own.lists.len() {
         return None;
     }
-    let conflict = take_turns(records, own, other, trail, list);
+    let conflict = take_turns(records, own, other, spares, trail, list);
     pour(&mut own.lists, list, SCRATCH);
     own.lists.put(SCRATCH, list);
     conflict

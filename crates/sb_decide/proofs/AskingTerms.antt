@@ -1,8 +1,8 @@
 -- Terms that ask something of one constant's word: which constant they are of, and that they speak of no other.
 use Rattle.std.proofs.Common.{◌≡◌, ℕ, Bool, true, false, ◌&&◌, ◌||◌, ◌==◌, nat_lt, Option, Some, None, List, [], ◌∷◌, if◌then◌else◌, refl, sym, ap, ◌∙◌}
-use Rattle.std.proofs.lemmas.Bool.{and_parts, or_parts, false≢true}
+use Rattle.std.proofs.lemmas.Bool.{and_parts, or_parts, eqb-true, false≢true}
 use Rattle.std.specs.List.{list_all}
-use Rattle.sb_meaning.specs.Terms.{Term, text, constant}
+use Rattle.sb_meaning.specs.Terms.{Sort, Term, text, constant}
 use Rattle.sb_term.specs.Serials.{has_serials_below}
 use Rattle.sb_script.specs.Brought.{asked, is_regex, is_membership}
 use Rattle.sb_script.specs.Fragment.{fits}
@@ -11,7 +11,9 @@ use Rattle.sb_script.specs.State.{Assertion, asserted, a_mark, terms_in}
 use Rattle.sb_script.proofs.CallerLemmas.{IsAsking, a_membership, a_word_behind, a_word_in_front, asked_looks, asked_occurs, membership_asks}
 use Rattle.sb_fragment.specs.Rules.{is_decided}
 use Rattle.sb_stack.specs.Speaking.{speaks_of}
-use Rattle.sb_decide.specs.Deciding.{asking}
+use Rattle.sb_meaning.specs.Values.{Text}
+use Rattle.sb_meaning.specs.Truth.{all_hold}
+use Rattle.sb_decide.specs.Deciding.{asking, words_asked}
 use Rattle.sb_decide.specs.Places.{asks_of}
 
 -- it asks something of this constant alone
@@ -23,7 +25,7 @@ pub asks_nothing : (t : Term) → asked t ≡ None → is_membership t ≡ false
 asks_nothing t h = ap (λ (o : Option (ℕ × Term)). elim o as (λ _. Bool) [ Some p ↦ is_regex p.1 | None ↦ false ]) h
 
 -- it speaks of the constant
-pub asking_speaks : (ns : List ℕ) (t : Term) (serial : ℕ) (R : Term) → asked t ≡ Some (serial, R)
+pub asking_speaks : (ns : List (ℕ × Sort)) (t : Term) (serial : ℕ) (R : Term) → asked t ≡ Some (serial, R)
     → speaks_of ns t ≡ true → speaks_of ns (constant serial text) ≡ true
 asking_speaks ns t serial R h named = step (asked_looks t serial R h)
   where
@@ -35,6 +37,33 @@ asking_speaks ns t serial R h named = step (asked_looks t serial R h)
         (and_parts (speaks_of ns (constant serial text)) true (sym (ap (speaks_of ns) is) ∙ named)).0
     step (a_word_in_front w is S) =
         (and_parts (speaks_of ns (constant serial text)) true (sym (ap (speaks_of ns) is) ∙ named)).0
+
+-- a constant of whose word something is asked is one of those that are spoken of
+pub asked_speaks : (ns : List (ℕ × Sort)) (n : ℕ) (ts : List Term) (w : List ℕ) → list_all (speaks_of ns) ts ≡ true
+    → words_asked n ts w ≡ false → speaks_of ns (constant n text) ≡ true
+asked_speaks ns n [] w named h = absurd (false≢true (sym h))
+asked_speaks ns n (t ∷ ts) w named h =
+    step (asked t) refl (asked_speaks ns n ts w (and_parts (speaks_of ns t) (list_all (speaks_of ns) ts) named).1)
+  where
+    here : speaks_of ns t ≡ true
+    here = (and_parts (speaks_of ns t) (list_all (speaks_of ns) ts) named).0
+
+    none : (o : Option (ℕ × Term)) → asked t ≡ o → elim o as (λ _. Bool) [ Some p ↦ n == p.0 | None ↦ false ] ≡ false
+        → words_asked n ts w ≡ false
+    none o is other =
+        sym (ap (λ (b : Bool). all_hold (if b then t ∷ asking n ts else asking n ts) ((n, Text w) ∷ []))
+        (ap (λ (x : Option (ℕ × Term)). elim x as (λ _. Bool) [ Some p ↦ n == p.0 | None ↦ false ]) is ∙ other)) ∙ h
+
+    same : (serial : ℕ) (R : Term) (b : Bool) → (n == serial) ≡ b → asked t ≡ Some (serial, R)
+        → (words_asked n ts w ≡ false → speaks_of ns (constant n text) ≡ true) → speaks_of ns (constant n text) ≡ true
+    same serial R true is asks later =
+        ap (λ m. speaks_of ns (constant m text)) (eqb-true n serial is) ∙ asking_speaks ns t serial R asks here
+    same serial R false is asks later = later (none (Some (serial, R)) asks is)
+
+    step : (o : Option (ℕ × Term)) → asked t ≡ o
+        → (words_asked n ts w ≡ false → speaks_of ns (constant n text) ≡ true) → speaks_of ns (constant n text) ≡ true
+    step None is later = later (none None is refl)
+    step (Some p) is later = same p.0 p.1 (n == p.0) refl is later
 
 pub asking_below : (n : ℕ) (t : Term) (serial : ℕ) (R : Term) → asked t ≡ Some (serial, R)
     → has_serials_below n t ≡ true → nat_lt serial n ≡ true

@@ -377,7 +377,7 @@ knows_none kept stack members roots constants changed dead graph normals measure
 
 -- another table and other assertions
 knows_told : NormalsStay → (kept : Decider) (old new : Stacked) → table.Extends old.table new.table
-    → new.words ≡ old.words → old.scope.declared ≤ new.scope.declared
+    → new.words ≡ old.words → length old.scope.sorts ≤ length new.scope.sorts
     → AreMembers kept.arena new.table kept.members.items new.assertions → Knows kept old → Knows kept new
 knows_told stays kept old new e words constants members k =
     let t = k.taken in record {
@@ -399,7 +399,7 @@ knows_told stays kept old new e words constants members k =
 
 -- the table and the assertions grow
 pub knows_stays : NormalsStay → (kept : Decider) (old new : Stacked) → table.Extends old.table new.table
-    → IsLonger old.assertions new.assertions → new.words ≡ old.words → old.scope.declared ≤ new.scope.declared →
+    → IsLonger old.assertions new.assertions → new.words ≡ old.words → length old.scope.sorts ≤ length new.scope.sorts →
     Knows kept old → Knows kept new
 knows_stays stays kept old new e longer words constants k =
     knows_told stays kept old new e words constants
@@ -409,7 +409,7 @@ knows_stays stays kept old new e longer words constants k =
 -- the table grows, and assertions go that were not taken in
 pub knows_left : NormalsStay → (kept : Decider) (old new : Stacked) → table.Extends old.table new.table
     → IsLonger new.assertions old.assertions → length kept.members.items ≤ length new.assertions
-    → new.words ≡ old.words → old.scope.declared ≤ new.scope.declared → Knows kept old → Knows kept new
+    → new.words ≡ old.words → length old.scope.sorts ≤ length new.scope.sorts → Knows kept old → Knows kept new
 knows_left stays kept old new e longer few words constants k =
     knows_told stays kept old new e words constants
     (members_left kept.arena new.table kept.members.items new.assertions longer.0 few

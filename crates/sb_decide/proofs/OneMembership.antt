@@ -1,5 +1,5 @@
 -- One more term that asks something of a constant's word.
-use Rattle.std.proofs.Common.{◌≡◌, ◌≢◌, ℕ, ◌<◌, Bool, true, false, ◌&&◌, ◌||◌, ◌==◌, if◌then◌else◌, List, [], ◌∷◌, ◌++◌, length, map, take, refl, sym, ap, ap₂, subst, ◌∙◌, arith, Some}
+use Rattle.std.proofs.Common.{◌≡◌, ◌≢◌, ℕ, ◌<◌, Bool, true, false, ◌&&◌, ◌==◌, if◌then◌else◌, List, [], ◌∷◌, ◌++◌, length, map, take, refl, sym, ap, ap₂, subst, ◌∙◌, arith, Some}
 use Rattle.std.proofs.lemmas.Bool.{and_parts, and_from, false≢true, eq-eqb, eqb-true, eqb-false}
 use Rattle.std.proofs.Math.Bool.{and-true, and_assoc}
 use Rattle.std.proofs.lemmas.Bool.Decides.{nat_tests}
@@ -12,7 +12,7 @@ use Rattle.sb_lang.specs.Language.{language}
 use Rattle.sb_lang.specs.Normal.{normal}
 use Rattle.sb_lang.specs.NormalLaws.{NormalHasTermsWords}
 use Rattle.sb_regex.specs.Numbered.{regex_at, AllNumbers}
-use Rattle.sb_meaning.specs.Terms.{Term, text, constant}
+use Rattle.sb_meaning.specs.Terms.{Sort, Term, text}
 use Rattle.sb_meaning.specs.Values.{Valuation, Text, value_in}
 use Rattle.sb_meaning.specs.Truth.{means_reglan, meaning_of, holds, all_hold}
 use Rattle.sb_script.specs.State.{Assertion, asserted, terms_in}
@@ -26,6 +26,7 @@ use Rattle.sb_fragment.proofs.CallerLemmas.{asked_decided}
 use Rattle.sb_problem.specs.Normals.{IsRegexOf}
 use Rattle.sb_stack.specs.Speaking.{speaks_of}
 use Rattle.sb_stack.specs.Stacked.{values_at, assertion_in}
+use Rattle.sb_stack.proofs.CallerLemmas.{value_there}
 use Rattle.sb_decide.specs.declared.conjuncts.Member.{Member}
 use Rattle.sb_decide.specs.Deciding.{IsSofar, in_each, asking, words_asked, word_at}
 use Rattle.sb_decide.specs.Members.{AreMembers, ids_in}
@@ -44,19 +45,6 @@ pub asking_holds : (v : Valuation) (t : Term) (serial : ℕ) (R : Term) (reglan 
     → holds t v ≡ in_re reglan w
 asking_holds v t serial R reglan w asks means value =
     asked_holds t serial R asks v ∙ membership_holds v serial R reglan w means value
-
--- the word at a serial is the value of its constant, where that one is among these
-pub value_at : (serials : List ℕ) (words : List (List ℕ)) (n : ℕ) → speaks_of serials (constant n text) ≡ true
-    → value_in (values_at serials words) n text ≡ Text (word_at words n)
-value_at [] words n h = absurd (false≢true h)
-value_at (m ∷ serials) words n h = by_test (m == n) refl h (value_at serials words n)
-  where
-    by_test : (b : Bool) → (m == n) ≡ b → (b || speaks_of serials (constant n text)) ≡ true
-        → (speaks_of serials (constant n text) ≡ true
-        → value_in (values_at serials words) n text ≡ Text (word_at words n))
-        → (if b then Text (word_at words m) else value_in (values_at serials words) n text) ≡ Text (word_at words n)
-    by_test true k among later = ap (λ i. Text (word_at words i)) (eqb-true m n k)
-    by_test false k among later = later among
 
 alone_value : (n : ℕ) (w : List ℕ) → value_in ((n, Text w) ∷ []) n text ≡ Text w
 alone_value n w = let same : (n == n) ≡ true = eq-eqb n n refl in rw same refl
@@ -160,22 +148,23 @@ first_apart rs ts t serial R id asks r apart v n w value h = words-append n (t �
 
 first_together : (rs : List Regex) (ts : List Term) (t : Term) (serial : ℕ) (R : Term) (id : ℕ)
     → asked t ≡ Some (serial, R) → IsRegexOf rs R id
-    → ((serials : List ℕ) (words : List (List ℕ)) → list_all (speaks_of serials) ts ≡ true
-    → ((n : ℕ) → words_asked n ts (word_at words n) ≡ true) → all_hold ts (values_at serials words) ≡ true)
-    → (serials : List ℕ) (words : List (List ℕ))
-    → list_all (speaks_of serials) (t ∷ ts) ≡ true
+    → ((cs : List (ℕ × Sort)) (words : List (List ℕ)) (truths : List Bool) → list_all (speaks_of cs) ts ≡ true
+    → ((n : ℕ) → words_asked n ts (word_at words n) ≡ true) → all_hold ts (values_at cs words truths) ≡ true)
+    → (cs : List (ℕ × Sort)) (words : List (List ℕ)) (truths : List Bool)
+    → list_all (speaks_of cs) (t ∷ ts) ≡ true
     → ((n : ℕ) → words_asked n (t ∷ ts) (word_at words n) ≡ true)
-    → all_hold (t ∷ ts) (values_at serials words) ≡ true
-first_together rs ts t serial R id asks r together serials words named h =
-    and_from (holds t (values_at serials words)) (all_hold ts (values_at serials words))
-    (asking_holds (values_at serials words) t serial R r.reglan (word_at words serial) asks
-    (r.means (values_at serials words)) (value_at serials words serial (asking_speaks serials t serial R asks both.0))
+    → all_hold (t ∷ ts) (values_at cs words truths) ≡ true
+first_together rs ts t serial R id asks r together cs words truths named h =
+    and_from (holds t (values_at cs words truths)) (all_hold ts (values_at cs words truths))
+    (asking_holds (values_at cs words truths) t serial R r.reglan (word_at words serial) asks
+    (r.means (values_at cs words truths))
+    (value_there cs words truths serial text (asking_speaks cs t serial R asks both.0))
     ∙ (sym (one_same serial t serial R r.reglan (word_at words serial) asks r.means refl)
     ∙ (and_parts _ _ (parts serial)).0))
-    (together serials words both.1 (λ n. (and_parts _ _ (parts n)).1))
+    (together cs words truths both.1 (λ n. (and_parts _ _ (parts n)).1))
   where
-    both : (speaks_of serials t ≡ true) × (list_all (speaks_of serials) ts ≡ true)
-    both = and_parts (speaks_of serials t) (list_all (speaks_of serials) ts) named
+    both : (speaks_of cs t ≡ true) × (list_all (speaks_of cs) ts ≡ true)
+    both = and_parts (speaks_of cs t) (list_all (speaks_of cs) ts) named
 
     parts : (n : ℕ) → (words_asked n (t ∷ []) (word_at words n) && words_asked n ts (word_at words n)) ≡ true
     parts n = sym (words-append n (t ∷ []) ts (word_at words n)) ∙ h n
@@ -199,7 +188,7 @@ sofar_of law rs ts [] xs h = record {
   known = λ n. All-nil (λ i. i < length rs);
   words = λ n w c. refl;
   apart = λ v n w value h. refl;
-  together = λ serials words named h. refl;
+  together = λ cs words truths named h. refl;
 }
 sofar_of law rs ts (m ∷ ms) [] h = absurd h
 sofar_of law rs ts (m ∷ ms) (x ∷ xs) h =

@@ -23,7 +23,7 @@ use Rattle.sb_term.specs.declared.term.Serial.{Serial}
 use Rattle.sb_script.specs.State.{live, live_terms, constants_of, fits}
 use Rattle.sb_script.specs.Verdicts.{IsVerdict, is_sat, is_unsat}
 use Rattle.sb_stack.specs.Speaking.{speaks_of}
-use Rattle.sb_stack.specs.Stacked.{Stacked, state_of, live_serials, assertion_in, are_words, values_at}
+use Rattle.sb_stack.specs.Stacked.{Stacked, state_of, live_constants, assertion_in, are_words, values_at}
 use Rattle.sb_stack.proofs.CallerLemmas.{live_laid}
 use Rattle.sb_stack.specs.declared.stack.Mode.{Mode}
 use Rattle.sb_fragment.specs.Rules.{FragmentIsOfEach}
@@ -160,21 +160,25 @@ all_sofar law kept stack k all =
 
 -- words fit the live constants
 abbrev pub Fit : Stacked → Type 0
-Fit stack = (words : List (List ℕ)) → are_words words ≡ true
-    → fits (constants_of (state_of stack)) (values_at (live_serials stack) words) ≡ true
+Fit stack = (words : List (List ℕ)) (truths : List Bool) → are_words words ≡ true
+    → fits (constants_of (state_of stack)) (values_at (live_constants stack) words truths) ≡ true
+
+-- the live terms speak of live constants alone
+abbrev pub Named : Stacked → Type 0
+Named stack = list_all (speaks_of (live_constants stack)) (live_terms (state_of stack)) ≡ true
 
 pub dead_given : FragmentIsOfEach → NormalHasTermsWords → (kept : Decider) (stack : Stacked) → Knows kept stack
-    → HasAll kept stack → is_some kept.dead ≡ true → Fit stack
+    → HasAll kept stack → is_some kept.dead ≡ true → Named stack → Fit stack
     → IsVerdict (state_of stack) [] (is_unsat [])
-dead_given law words kept stack k all dead fit = by_cases kept.dead dead k.taken.dead
+dead_given law words kept stack k all dead named fit = by_cases kept.dead dead k.taken.dead
   where
     by_cases : (found : Option Serial) → is_some found ≡ true
         → IfSome found (λ serial. IsEmptyAt kept.arena kept.members.items serial.0)
         → IsVerdict (state_of stack) [] (is_unsat [])
     by_cases None some h = absurd (false≢true some)
     by_cases (Some serial) some h =
-        unsat_given law kept.arena (state_of stack) (live_serials stack) (ids_in kept.members.items) serial.0
-        (all_sofar words kept stack k all) (fit [] refl) h
+        unsat_given law kept.arena (state_of stack) (live_constants stack) (ids_in kept.members.items) serial.0
+        (all_sofar words kept stack k all) named (fit [] [] refl) h
 
 -- the arena and the graph grow on the way
 searched : NormalsStay → (kept : Decider) (rs : List Regex) (g : Findings) (roots : Vec (Option ℕ) Global)
@@ -190,32 +194,31 @@ searched stays kept rs g roots stack k e graph rooted = record {
 pub unsat_found : FragmentIsOfEach → NormalHasTermsWords → NormalsStay → (kept : Decider) (rs : List Regex)
     (g : Findings) (roots : Vec (Option ℕ) Global) (stack : Stacked) (n : ℕ) → Knows kept stack → HasAll kept stack →
     Extends kept.arena rs → IsGraph rs g → AreRooted rs kept.members.items roots.items →
-    IsEmptyAt rs kept.members.items n → Fit stack → IsVerdict (state_of stack) [] (is_unsat [])
-unsat_found law words stays kept rs g roots stack n k all e graph rooted empty fit =
-    unsat_given law rs (state_of stack) (live_serials stack) (ids_in kept.members.items) n
+    IsEmptyAt rs kept.members.items n → Named stack → Fit stack → IsVerdict (state_of stack) [] (is_unsat [])
+unsat_found law words stays kept rs g roots stack n k all e graph rooted empty named fit =
+    unsat_given law rs (state_of stack) (live_constants stack) (ids_in kept.members.items) n
     (all_sofar words (record kept { arena = rs; graph = g; roots = roots }) stack
-    (searched stays kept rs g roots stack k e graph rooted) all) (fit [] refl) empty
+    (searched stays kept rs g roots stack k e graph rooted) all) named (fit [] [] refl) empty
 
 pub sat_found : FragmentIsOfEach → NormalHasTermsWords → NormalsStay → (kept : Decider) (rs : List Regex)
     (g : Findings) (roots : Vec (Option ℕ) Global) (stack : Stacked) (new : List Conjoined) (words : List (List ℕ)) →
     Knows kept stack → HasAll kept stack → Extends kept.arena rs → IsGraph rs g →
     AreRooted rs kept.members.items roots.items →
     IsTakingOver rs kept.members.items kept.constants.items new words [] →
-    list_all (speaks_of (live_serials stack)) (live_terms (state_of stack)) ≡ true → Fit stack →
-    IsVerdict (state_of stack) [] (is_sat (values_at (live_serials stack) words))
+    Named stack → Fit stack → IsVerdict (state_of stack) [] (is_sat (values_at (live_constants stack) words []))
 sat_found law terms stays kept rs g roots stack new words k all e graph rooted over named fit =
-    sat_given law rs (state_of stack) (live_serials stack) (ids_in kept.members.items) words
+    sat_given law rs (state_of stack) (live_constants stack) (ids_in kept.members.items) words
     (all_sofar terms (record kept { arena = rs; graph = g; roots = roots }) stack
-    (searched stays kept rs g roots stack k e graph rooted) all) named (fit words over.characters)
+    (searched stays kept rs g roots stack k e graph rooted) all) named (fit words [] over.characters)
     (least_over rs kept.members.items kept.constants.items new words over)
 
-pub knows_over : NormalsStay → (kept new : Decider) (stack : Stacked) (words : List (List ℕ)) (m : Mode)
+pub knows_over : NormalsStay → (kept new : Decider) (stack : Stacked) (words : List (List ℕ)) (truths : List Bool) (m : Mode)
     → Knows kept stack → Extends kept.arena new.arena → IsGraph new.arena new.graph →
     AreRooted new.arena kept.members.items new.roots.items →
     IsTakingOver new.arena kept.members.items kept.constants.items new.constants.items words [] →
     new.members ≡ kept.members → new.normals ≡ kept.normals → new.measures ≡ kept.measures →
-    length new.changed.items ≡ 0 → new.dead ≡ kept.dead → Knows new (record stack { mode = m; words = words })
-knows_over stays kept new stack words m k e graph rooted over members normals measures changed dead =
+    length new.changed.items ≡ 0 → new.dead ≡ kept.dead → Knows new (record stack { mode = m; words = words; truths = truths })
+knows_over stays kept new stack words truths m k e graph rooted over members normals measures changed dead =
     let t = taken_searched stays kept new.arena new.graph new.roots stack.table stack.assertions e graph rooted k.taken
     in record {
       taken = record {
@@ -355,7 +358,7 @@ pub over_of : (kept : Decider) (rs : List Regex) (stack : Stacked) (fs : List Fo
     (given filled : List (List ℕ)) (cs new : List Conjoined) (before after : List (List ℕ)) → Knows kept stack →
     HasAll kept stack → Extends kept.arena rs →
     AreFound rs kept.members.items kept.constants.items kept.changed.items fs →
-    given ≡ stack.words → count ≡ stack.scope.declared → AreFilled count given filled → cs ≡ kept.constants.items →
+    given ≡ stack.words → count ≡ length stack.scope.sorts → AreFilled count given filled → cs ≡ kept.constants.items →
     before ≡ filled →
     ((ts : List Regex) (ms : List Member) → IsTakingOver ts ms cs cs before fs → IsTakingOver ts ms cs new after []) →
     IsTakingOver rs kept.members.items kept.constants.items new after []

@@ -1,12 +1,12 @@
 -- What a check finds on the way: for each constant the regexes of what is asked of its word, and its word.
-use Rattle.std.specs.Prelude.{◌≡◌, ℕ, true, if◌then◌else◌, List, [], ◌∷◌, length, get_or}
+use Rattle.std.specs.Prelude.{◌≡◌, ℕ, Bool, true, if◌then◌else◌, List, [], ◌∷◌, length, get_or}
 use Rattle.std.specs.List.{list_all}
 use Rattle.sb_word.specs.Words.{IsWord}
 use Rattle.sb_lang.specs.Languages.{Language}
 use Rattle.sb_lang.specs.Language.{language}
 use Rattle.sb_lang.specs.Regex.{Regex}
 use Rattle.sb_regex.specs.Numbered.{regex_at, AllNumbers}
-use Rattle.sb_meaning.specs.Terms.{Term, text}
+use Rattle.sb_meaning.specs.Terms.{Sort, Term, text}
 use Rattle.sb_meaning.specs.Values.{Valuation, Text, value_in}
 use Rattle.sb_meaning.specs.Truth.{all_hold}
 use Rattle.sb_script.specs.State.{Assertion, terms_in}
@@ -40,9 +40,10 @@ pub record IsSofar (rs : List Regex) (assertions : List Assertion) (found : ℕ 
   pub words : (n : ℕ) (w : List ℕ) → IsWord w → words_asked n (terms_in assertions) w ≡ in_each rs (found n) w
   pub apart : (v : Valuation) (n : ℕ) (w : List ℕ) → value_in v n text ≡ Text w
       → all_hold (terms_in assertions) v ≡ true → words_asked n (terms_in assertions) w ≡ true
-  pub together : (serials : List ℕ) (words : List (List ℕ)) → list_all (speaks_of serials) (terms_in assertions) ≡ true
+  pub together : (constants : List (ℕ × Sort)) (words : List (List ℕ)) (truths : List Bool)
+      → list_all (speaks_of constants) (terms_in assertions) ≡ true
       → ((n : ℕ) → words_asked n (terms_in assertions) (word_at words n) ≡ true)
-      → all_hold (terms_in assertions) (values_at serials words) ≡ true
+      → all_hold (terms_in assertions) (values_at constants words truths) ≡ true
 
 -- so many words, of which those that are new are empty
 pub record AreFilled (count : ℕ) (old new : List (List ℕ)) : Type 0 where

@@ -44,11 +44,11 @@ pub record AreKept (rs : List Regex) (ms : List Member) (cs : List Conjoined) (w
 pub record Knows (kept : Decider) (stack : Stacked) : Type 0 where
   pub taken : IsTaken kept stack.table stack.assertions
   pub words : AreKept kept.arena kept.members.items kept.constants.items stack.words
-  pub declared : length kept.constants.items ≤ stack.scope.declared
+  pub declared : length kept.constants.items ≤ length stack.scope.sorts
 
 -- The check is decided, or outside; where there are no values, a constant without a word is known.
 abbrev pub IsDecision : Verdict → Decider → Type 0
-IsDecision (verdict.Sat words) kept = Unit {0}
+IsDecision (verdict.Sat words truths) kept = Unit {0}
 IsDecision verdict.Unsat kept = IsSome kept.dead
 IsDecision verdict.Unknown kept = ⊥
 IsDecision verdict.Outside kept = Unit {0}

@@ -15,14 +15,14 @@ use Rattle.sb_decide.specs.Knowing.{Knows}
 -- terms keep their numbers and assertions their places, and the words stay
 abbrev pub KnowsStays : Type 0
 KnowsStays = (kept : Decider) (old new : Stacked) → table.Extends old.table new.table
-    → IsLonger old.assertions new.assertions → new.words ≡ old.words → old.scope.declared ≤ new.scope.declared →
+    → IsLonger old.assertions new.assertions → new.words ≡ old.words → length old.scope.sorts ≤ length new.scope.sorts →
     Knows kept old → Knows kept new
 
 -- as they do, but that assertions are taken back from the end, and so many stay
 abbrev pub KnowsBack : ℕ → Decider → Decider → Type 0
 KnowsBack count kept kept' = (old new : Stacked) → table.Extends old.table new.table
     → IsLonger new.assertions old.assertions → count ≤ length new.assertions → new.words ≡ old.words
-    → old.scope.declared ≤ new.scope.declared → Knows kept old → Knows kept' new
+    → length old.scope.sorts ≤ length new.scope.sorts → Knows kept old → Knows kept' new
 
 -- more regexes, and more known of them and of terms
 abbrev pub KnowsGrown : Type 0

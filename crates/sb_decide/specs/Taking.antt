@@ -24,7 +24,7 @@ StayKept old new = (words : List (List ℕ)) → AreKept old.arena old.members.i
 -- all assertions are taken in, and there is room for all constants
 abbrev pub HasAll : Decider → Stacked → Type 0
 HasAll kept stack =
-    (length kept.members.items ≡ length stack.assertions) × (length kept.constants.items ≡ stack.scope.declared)
+    (length kept.members.items ≡ length stack.assertions) × (length kept.constants.items ≡ length stack.scope.sorts)
 
 -- the constant without a word, where it is not this one
 abbrev pub other_dead : Option Serial → ℕ → Option Serial

@@ -3,7 +3,8 @@
 //! A constant's memberships are true of one word exactly where the intersection of their regexes has a word, and the
 //! word that exploring the intersection finds is the one that a model gives. An equality of a constant with a literal
 //! is a membership too, in the regex that has the literal's word alone. What is known of the assertions so far is kept,
-//! so that a check takes in those that are new, and finds words of the constants that they speak of.
+//! so that a check takes in those that are new, and finds words of the constants that they speak of. They speak of no
+//! constant of sort Bool, so each of these is false.
 
 ghost use Rattle.std.specs.Prelude.{◌≡◌, ℕ, ◌+◌, ◌<◌, ◌≤◌, [], ◌∷◌, ◌++◌, List, length, map, true, false, All};
 ghost use Rattle.std.specs.Prelude.{IfOk, OnOk, IfSome, MatchOption};
@@ -16,7 +17,7 @@ ghost use Rattle.sb_graph.specs.Findings.{IsGraph};
 ghost use Rattle.sb_script.specs.State.{live, live_terms};
 ghost use Rattle.sb_script.specs.Verdicts.{IsVerdict, settled};
 ghost use Rattle.sb_fragment.specs.Rules.{is_decided};
-ghost use Rattle.sb_stack.specs.Stacked.{Stacked, state_of, live_serials, without_words, assertion_in, HasNumberBelow};
+ghost use Rattle.sb_stack.specs.Stacked.{Stacked, state_of, live_constants, without_words, assertion_in, HasNumberBelow};
 ghost use Rattle.sb_stack.specs.Speaking.{speaks_of};
 ghost use Rattle.sb_stack.specs.Steps.{verdict_in, found};
 ghost use Rattle.sb_term.specs.Serials.{all_below};
@@ -102,11 +103,11 @@ impl Decider {
     pub fn decide(&mut self, alloc: Global, stack: &mut Stack) -> Result<Verdict, AllocError>
         requires { Knows self.old stack.old }
         ensures verdict { IfOk result
-            (λ verdict. IsVerdict (state_of stack.old) [] (verdict_in (live_serials stack.old) verdict)) }
+            (λ verdict. IsVerdict (state_of stack.old) [] (verdict_in (live_constants stack.old) verdict)) }
         ensures knows { IfOk result (λ verdict. Knows self.new (found verdict stack.new)) }
         ensures state { IfOk result
-            (λ verdict. settled (verdict_in (live_serials stack.old) verdict) (state_of stack.new)
-            ≡ settled (verdict_in (live_serials stack.old) verdict) (state_of stack.old)) }
+            (λ verdict. settled (verdict_in (live_constants stack.old) verdict) (state_of stack.new)
+            ≡ settled (verdict_in (live_constants stack.old) verdict) (state_of stack.old)) }
         ensures rest { without_words stack.new ≡ without_words stack.old }
         ensures decided { IfOk result (λ verdict. IsDecision verdict self.new) }
         ensures extends { OnOk result (Extends self.old.arena self.new.arena) }
@@ -140,7 +141,10 @@ impl Decider {
                 fill(alloc, &mut words, declared)?;
                 take_over(&mut self.constants, &mut words, found);
                 self.changed.clear();
-                Ok(Verdict::Sat(words))
+                Ok(Verdict::Sat {
+                    words,
+                    truths: Vec::new(alloc),
+                })
             }
         }
     }
@@ -193,7 +197,7 @@ impl Decider {
         ensures knows { OnOk result (Knows self.new stack.now) }
         ensures all { IfOk result (λ all. all ≡ true → HasAll self.new stack.now) }
         ensures named { OnOk result
-            (list_all (speaks_of (live_serials stack.now)) (live_terms (state_of stack.now)) ≡ true) }
+            (list_all (speaks_of (live_constants stack.now)) (live_terms (state_of stack.now)) ≡ true) }
         ensures extends { OnOk result (Extends self.old.arena self.new.arena) }
         ensures graph { OnOk result (self.new.graph ≡ self.old.graph) }
         ensures outside { IfOk result (λ all. all ≡ false → list_all is_decided (live (state_of stack.now)) ≡ false) }

@@ -22,7 +22,7 @@ MovesBy step old new = IsMoved {E = AllocError} (Ok step) old.assertions new.ass
 
 pub knows_by : KnowsStays → (step : Step) (kept : Decider) (old new : Stacked)
     → ((text : Vec ℕ Global) (level : Option ℕ) → step ≡ code.Left text level → ⊥) → MovesBy step old new
-    → Extends old.table new.table → new.words ≡ old.words → old.scope.declared ≤ new.scope.declared
+    → Extends old.table new.table → new.words ≡ old.words → length old.scope.sorts ≤ length new.scope.sorts
     → Knows kept old → Knows kept new
 knows_by stays (code.Answer text) kept old new none moves e words more k = stays kept old new e moves words more k
 knows_by stays (code.Left text level) kept old new none moves e words more k = absurd (none text level refl)
@@ -32,7 +32,7 @@ knows_by stays (code.Exit text) kept old new none moves e words more k = stays k
 pub knows_left : {E : Type 0} (result : Result (Unit {0}) E) (xs : List Assertion) (kept kept' : Decider)
     (old new : Stacked) → OnOk result (KnowsBack (length xs) kept kept') → xs ≡ new.assertions
     → IsLonger new.assertions old.assertions → Extends old.table new.table → new.words ≡ old.words
-    → old.scope.declared ≤ new.scope.declared → Knows kept old → OnOk result (Knows kept' new)
+    → length old.scope.sorts ≤ length new.scope.sorts → Knows kept old → OnOk result (Knows kept' new)
 knows_left result xs kept kept' old new back is shorter e words more k =
     on_ok_weaker result (λ b. b old new e shorter (omega (arith, ap length is)) words more k) back
 

@@ -33,6 +33,9 @@ const EQUAL: &[u8] = b"(declare-const x String) (declare-const y String) (assert
 const REFUTED: &[u8] =
     b"(push 1) (declare-const y String) (assert (str.in_re y (str.to_re \"bb\"))) (assert (str.in_re x (re.+ (str.to_re \"b\"))))";
 
+const TRUTHS: &[u8] =
+    b"(declare-const b Bool) (declare-const x String) (assert (str.in_re x (re.+ (str.to_re \"a\"))))";
+
 /// Scripts with their checks.
 const SCRIPTS: &[&[Check]] = &[
     &[
@@ -71,6 +74,14 @@ const SCRIPTS: &[&[Check]] = &[
     &[
         (b"(declare-const x String)", SAT, &[0]),
         (b"(assert (not true))", OUTSIDE, &[]),
+    ],
+    &[
+        (TRUTHS, SAT, &[0, 1]),
+        (b"(push 1) (assert (or b (not b)))", OUTSIDE, &[]),
+        (b"(pop 1) (declare-const c Bool)", SAT, &[0, 1, 0]),
+        (b"(assert (= x \"aa\"))", SAT, &[0, 2, 0]),
+        (b"(push 1) (assert c)", OUTSIDE, &[]),
+        (b"(pop 1) (assert (= x \"a\"))", UNSAT, &[]),
     ],
     &[
         (ONE, SAT, &[1]),
@@ -149,11 +160,11 @@ fn length_at(words: &[Word], serial: Serial) -> usize {
 /// The lengths of the words of the live constants, of which there are none without a model.
 fn lengths(alloc: Global, stack: &Stack, verdict: &Verdict) -> Result<Vec<usize>, AllocError> {
     let mut lengths = Vec::new(alloc);
-    let Verdict::Sat(words) = verdict else {
+    let Verdict::Sat { words, .. } = verdict else {
         return Ok(lengths);
     };
-    for serial in &stack.constants()? {
-        put(&mut lengths, length_at(words, *serial))?;
+    for constant in &stack.constants()? {
+        put(&mut lengths, length_at(words, constant.serial))?;
     }
     Ok(lengths)
 }

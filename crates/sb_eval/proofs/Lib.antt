@@ -1,1 +1,5 @@
 pub mod TruthFacts
+pub mod Meanings
+pub mod Connecting
+pub mod Walking
+pub mod CallerLemmas

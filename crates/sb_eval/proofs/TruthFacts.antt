@@ -15,10 +15,10 @@ use Rattle.sb_meaning.specs.Terms.{Term, text}
 use Rattle.sb_meaning.specs.Values.{Valuation, Text, value_in}
 use Rattle.sb_meaning.specs.Truth.{means_reglan, meaning_of, holds}
 use Rattle.sb_script.specs.Brought.{asked, membership_of}
-use Rattle.sb_script.proofs.CallerLemmas.{asked_holds}
+use Rattle.sb_script.proofs.CallerLemmas.{IsAsking, a_membership, a_word_behind, a_word_in_front, asked_looks, asked_holds}
 use Rattle.sb_problem.specs.Normals.{IsRegexOf}
-use Rattle.sb_fragment.specs.Memberships.{IsNumberAsked, IsMemberRegex}
-use Rattle.sb_eval.specs.Given.{GivesWords}
+use Rattle.sb_eval.specs.Given.{GivesValues}
+use Rattle.sb_eval.specs.Truths.{IsTruthUnder}
 
 -- a membership is true where the constant's word is in the regular expression
 membership_holds : (v : Valuation) (serial : ℕ) (R : Term) (reglan : RegLan) (w : List ℕ)
@@ -26,35 +26,39 @@ membership_holds : (v : Valuation) (serial : ℕ) (R : Term) (reglan : RegLan) (
     → holds (membership_of serial R) v ≡ in_re reglan w
 membership_holds v serial R reglan w means value = rw (means, value) (and-true (in_re reglan w))
 
-asked_regex : (rs : List Regex) (t : Term) (serial id : ℕ) (R : Term) → asked t ≡ Some (serial, R)
-    → IsMemberRegex rs t (Some id) → IsRegexOf rs R id
-asked_regex rs t serial id R h is = subst (λ o. IsNumberAsked rs o (Some id)) h is
-
 pub truth_of_word : NormalHasTermsWords → (rs : List Regex) (t : Term) (serial id : ℕ) (R : Term)
-    → asked t ≡ Some (serial, R) → IsMemberRegex rs t (Some id) → (v : Valuation) (w : List ℕ) → IsWord w
+    → asked t ≡ Some (serial, R) → IsRegexOf rs R id → (v : Valuation) (w : List ℕ) → IsWord w
     → value_in v serial text ≡ Text w → language (regex_at rs id) w ≡ holds t v
-truth_of_word law rs t serial id R h is v w word value =
-    let r = asked_regex rs t serial id R h is in
+truth_of_word law rs t serial id R h r v w word value =
     ap (λ x. language x w) (names_at rs id (normal r.reglan) r.names)
     ∙ law r.reglan w word
     ∙ sym (membership_holds v serial R r.reglan w (r.means v) value)
     ∙ sym (asked_holds t serial R h v)
 
+asked_value : (t : Term) (serial : ℕ) (R : Term) → asked t ≡ Some (serial, R) → (ws : List (List ℕ)) (bs : List Bool)
+    (v : Valuation) → GivesValues ws bs v t → value_in v serial text ≡ Text (unwrap_or (slice_get ws serial) [])
+asked_value t serial R h ws bs v gives = step (asked_looks t serial R h)
+  where
+    step : IsAsking serial t R → value_in v serial text ≡ Text (unwrap_or (slice_get ws serial) [])
+    step (a_membership is) = (subst (GivesValues ws bs v) is gives).0
+    step (a_word_behind w is S) = (subst (GivesValues ws bs v) is gives).0
+    step (a_word_in_front w is S) = (subst (GivesValues ws bs v) is gives).1.0
+
 -- by a word at the constant's serial
-pub truth_found : {E : Type 0} → NormalHasTermsWords → (rs : List Regex) (t : Term) (serial id : ℕ) (R : Term)
-    → asked t ≡ Some (serial, R) → IsMemberRegex rs t (Some id) → (ws : List (List ℕ)) (w : List ℕ) → IsWord w
-    → slice_get ws serial ≡ Some w → (result : Result Bool E) → IfOk result (λ b. b ≡ language (regex_at rs id) w)
-    → IfOk result (λ truth. (v : Valuation) → GivesWords ws v → truth ≡ holds t v)
-truth_found law rs t serial id R h is ws w word at (Ok b) ok = λ v gives.
+pub truth_found : {E : Type 0} → NormalHasTermsWords → (rs : List Regex) (serial id : ℕ) (ws : List (List ℕ))
+    (w : List ℕ) → IsWord w → slice_get ws serial ≡ Some w → (result : Result Bool E)
+    → IfOk result (λ b. b ≡ language (regex_at rs id) w)
+    → IfOk result (λ truth. (t R : Term) → asked t ≡ Some (serial, R) → IsRegexOf rs R id → IsTruthUnder ws t truth)
+truth_found law rs serial id ws w word at (Ok b) ok = λ t R h is v bs gives.
     ok
     ∙ truth_of_word law rs t serial id R h is v w word
-    (gives serial ∙ ap (λ (o : Option (List ℕ)). Text (unwrap_or o [])) at)
-truth_found law rs t serial id R h is ws w word at (Err e) ok = tt
+    (asked_value t serial R h ws bs v gives ∙ ap (λ (o : Option (List ℕ)). Text (unwrap_or o [])) at)
+truth_found law rs serial id ws w word at (Err e) ok = tt
 
 -- by the empty word, where none is there
 pub truth_missing : NormalHasTermsWords → (rs : List Regex) (t : Term) (serial id : ℕ) (R : Term)
-    → asked t ≡ Some (serial, R) → IsMemberRegex rs t (Some id) → (ws : List (List ℕ)) → slice_get ws serial ≡ None
-    → (v : Valuation) → GivesWords ws v → language (regex_at rs id) [] ≡ holds t v
-truth_missing law rs t serial id R h is ws at v gives =
+    → asked t ≡ Some (serial, R) → IsRegexOf rs R id → (ws : List (List ℕ)) → slice_get ws serial ≡ None
+    → IsTruthUnder ws t (language (regex_at rs id) [])
+truth_missing law rs t serial id R h is ws at = λ v bs gives.
     truth_of_word law rs t serial id R h is v [] refl
-    (gives serial ∙ ap (λ (o : Option (List ℕ)). Text (unwrap_or o [])) at)
+    (asked_value t serial R h ws bs v gives ∙ ap (λ (o : Option (List ℕ)). Text (unwrap_or o [])) at)

@@ -21,7 +21,10 @@ pub asked_decided : (t : Term) (serial : ℕ) (R : Term) → asked t ≡ Some (s
 asked_decided t serial R h = ap₂ ◌&&◌ (asked_membership t serial R h) (asked_regular t serial R h)
 
 -- by its measure
+pub measured_regular : (R : Term) (m : Measure) → IsMeasure R m
+    → (m.is_regex && within m) ≡ (is_regex R && is_regular R)
+measured_regular R m is = ap₂ ◌&&◌ is.regex (regular_is R m is)
+
 pub measured_decided : (t : Term) (serial : ℕ) (R : Term) (m : Measure) → asked t ≡ Some (serial, R) → IsMeasure R m
     → (m.is_regex && within m) ≡ is_decided (asserted t)
-measured_decided t serial R m h is =
-    ap₂ ◌&&◌ is.regex (regular_is R m is) ∙ sym (asked_decided t serial R h)
+measured_decided t serial R m h is = measured_regular R m is ∙ sym (asked_decided t serial R h)

@@ -1,6 +1,10 @@
 pub mod MeasureFacts
-pub mod ShapeFacts
+pub mod MembershipFacts
 pub mod RuleFacts
 pub mod AskedFacts
+pub mod ComparedPairs
+pub mod Arguments
+pub mod Structured
+pub mod FittingFacts
 pub mod CallerLemmas
 pub mod WholeFacts

@@ -1,7 +1,8 @@
 //! The measures of terms by number.
 
-ghost use Rattle.std.specs.Prelude.{◌≡◌, ◌<◌, length, [], IfOk};
-ghost use Rattle.sb_script.specs.Fragment.{is_inside};
+ghost use Rattle.std.specs.Prelude.{◌≡◌, ◌<◌, ◌&&◌, length, [], IfOk};
+ghost use Rattle.sb_script.specs.Brought.{is_structure};
+ghost use Rattle.sb_script.specs.Fragment.{fits, is_inside};
 ghost use Rattle.sb_script.specs.Sizes.{is_regular};
 ghost use Rattle.sb_script.specs.State.{asserted};
 ghost use Rattle.sb_term.specs.Numbered.{term_at};
@@ -9,8 +10,9 @@ ghost use Rattle.sb_problem.specs.Patterns.{number_of, pattern_in};
 ghost use Rattle.sb_fragment.specs.Measures.{IsMeasure, AreMeasures};
 ghost use Rattle.sb_fragment.specs.Rules as rules;
 
+use crate::fitting::structure_fits;
 use crate::measure::{Measure, is_decided, is_within, literal_of, measure_of};
-use crate::shape::membership;
+use crate::memberships::membership;
 use sb_problem::Pattern;
 use sb_term::{Table, TermId};
 use std::alloc::{AllocError, Global};
@@ -127,5 +129,17 @@ impl Measures {
             }
             None => Ok(false),
         }
+    }
+    /// Whether a term is Boolean structure over such assertions and over Bool constants, within the limits on sizes. Of
+    /// more than two Strings that are to be distinct none are. Linear in the term's tree, but for measures that were not
+    /// taken yet. `AllocError` only for want of memory.
+    pub fn fits_structure(&mut self, table: &Table, id: TermId) -> Result<bool, AllocError>
+        requires number { id < length table.now }
+        requires right { AreMeasures table.now self.old }
+        ensures ok { IfOk result (λ fit. fit ≡ (is_structure (term_at table.now id) && fits (term_at table.now id))) }
+        ensures right { AreMeasures table.now self.new }
+    {
+        let alloc = *self.measures.allocator();
+        structure_fits(alloc, self, table, id)
     }
 }

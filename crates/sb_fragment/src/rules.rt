@@ -7,7 +7,7 @@ ghost use Rattle.sb_fragment.specs.Measures.{AreMeasures};
 ghost use Rattle.sb_fragment.specs.Rules.{assertion_in, HasNumberBelow, IsStanding, IsBrokenBy, is_broken, is_decided, FragmentIsOfEach};
 
 use crate::measures::Measures;
-use crate::shape::arguments_of;
+use crate::memberships::term_and_regex;
 use sb_term::{Assertion, Table, TermId};
 use std::alloc::AllocError;
 
@@ -49,7 +49,7 @@ fn rule_of(measures: &mut Measures, table: &Table, id: TermId) -> Result<Reason,
     if measures.is_brought(table, id)? {
         return Ok(Reason::TooLarge);
     }
-    let Some((_, regex)) = arguments_of(table, id) else {
+    let Some((_, regex)) = term_and_regex(table, id) else {
         return Ok(Reason::NotBrought);
     };
     if measures.measure(table, regex)?.is_ground {

@@ -1,92 +1,140 @@
-//! Assertions about one constant taken apart.
+//! The shapes of terms of Boolean structure.
 
-ghost use Rattle.std.specs.Prelude.{◌≡◌, ◌<◌, false, length, None, Some, MatchOption, IfSome};
-ghost use Rattle.sb_script.specs.Brought.{asked};
-ghost use Rattle.sb_term.specs.Numbered.{term_at};
-ghost use Rattle.sb_problem.specs.Patterns.{number_of, pattern_in};
-ghost use Rattle.sb_fragment.specs.Memberships.{equality, in_re, is_equality, is_in_re, are_sides, IsSides};
-ghost use Rattle.sb_fragment.specs.Measures as meaning;
+ghost use Rattle.std.specs.Prelude.{◌≡◌, ◌<◌, false, None, length, All, MatchOption};
+ghost use Rattle.sb_meaning.specs.Terms.{apply, terms_of};
+ghost use Rattle.sb_meaning.specs.Terms as meaning;
+ghost use Rattle.sb_script.specs.Brought.{asked, is_pair};
+ghost use Rattle.sb_term.specs.Numbered.{term_at, terms_at, AllNumbers};
+ghost use Rattle.sb_term.specs.Symbols.{sort_in, symbol_in};
+ghost use Rattle.sb_fragment.specs.Shapes.{IsShape, IsPair, comparison_of, parts_of};
 
-use sb_problem::{Pattern, constant_of};
-use sb_term::{Serial, Symbol, Table, Term, TermId};
+use crate::memberships::is_literal;
+use sb_problem::constant_of;
+use sb_term::{Serial, Sort, Symbol, Table, Term, TermId};
 
-/// The two arguments of a term that is `str.in_re` of them.
-pub(crate) fn arguments_of(table: &Table, id: TermId) -> Option<(TermId, TermId)>
-    requires { id < length table.now }
-    ensures parts { MatchOption result (is_in_re (term_at table.now id) ≡ false)
-        (λ p. term_at table.now id ≡ in_re (term_at table.now p.0) (term_at table.now p.1)) }
-    ensures smaller { IfSome result (λ p. (p.0 < id) × (p.1 < id)) }
-{
-    let Term::Apply(symbol, arguments) = table.term(id) else {
-        return None;
-    };
-    let Symbol::StrInRe = symbol else {
-        return None;
-    };
-    let [term, regex] = arguments.as_slice() else {
-        return None;
-    };
-    Some((*term, *regex))
+/// A symbol that makes a truth value of truth values.
+#[derive(Clone, Copy, Debug, PartialEq, Eq)]
+pub enum Connective {
+    Not,
+    And,
+    Or,
+    Implies,
+    Xor,
+    Ite,
+    /// All are equal, or where they are to be distinct, each two differ.
+    Compare(bool),
 }
 
-/// The two arguments of a term that is `=` of them.
-fn sides_of(table: &Table, id: TermId) -> Option<(TermId, TermId)>
-    requires { id < length table.now }
-    ensures parts { MatchOption result (is_equality (term_at table.now id) ≡ false)
-        (λ p. term_at table.now id ≡ equality (term_at table.now p.0) (term_at table.now p.1)) }
-    ensures smaller { IfSome result (λ p. (p.0 < id) × (p.1 < id)) }
-{
-    let Term::Apply(symbol, arguments) = table.term(id) else {
-        return None;
-    };
-    let Symbol::Equal = symbol else {
-        return None;
-    };
-    let [one, other] = arguments.as_slice() else {
-        return None;
-    };
-    Some((*one, *other))
+/// What a Bool term is by its symbol, where it asks nothing of one constant's word alone.
+#[derive(Clone, Copy, Debug, PartialEq, Eq)]
+pub enum Shape {
+    /// A Bool constant.
+    Constant(Serial),
+    /// It is true, or false, whatever its arguments are.
+    Always(bool),
+    /// A comparison of one term alone, which is of sort Bool, or of none: it is true.
+    Alone,
+    /// A connective of its arguments. What is compared are two terms or more, of which the first is of sort Bool.
+    Connected(Connective),
+    /// Its arguments, of which the first is of sort String, are all equal, or where they are to be distinct, each two
+    /// differ.
+    Words(bool),
+    /// None of these.
+    Other,
 }
 
-/// Whether a term is the word of a literal.
-fn is_literal(table: &Table, id: TermId) -> bool
-    requires { id < length table.now }
-    ensures { result ≡ meaning.is_literal (term_at table.now id) }
+/// The shape of a term. A term of which [`membership`](crate::membership) finds what it asks for has none. Takes
+/// constant time and no memory.
+pub fn shape_of(table: &Table, id: TermId) -> Shape
+    requires number { id < length table.now }
+    requires other { asked (term_at table.now id) ≡ None }
+    ensures { IsShape (term_at table.now id) result }
 {
-    matches!(table.term(id), Term::Word(_))
+    match table.term(id) {
+        Term::Constant(serial, sort) => constant(*serial, *sort),
+        Term::Apply(symbol, arguments) => applied(table, *symbol, arguments.as_slice()),
+        _ => Shape::Other,
+    }
 }
 
-/// The constant and the word of an equality of the two, in this order.
-fn constant_and_word(table: &Table, one: TermId, other: TermId) -> Option<(Serial, Pattern)>
+/// The shape of a constant.
+fn constant(serial: Serial, sort: Sort) -> Shape
+    ensures { IsShape (meaning.constant serial.0 (sort_in sort)) result }
+{
+    match sort {
+        Sort::Bool => Shape::Constant(serial),
+        Sort::Int | Sort::String | Sort::RegLan => Shape::Other,
+    }
+}
+
+/// The shape of a symbol with its arguments.
+fn applied(table: &Table, symbol: Symbol, arguments: &[TermId]) -> Shape
+    requires numbers { AllNumbers table.now arguments.now }
+    requires other { asked (apply (symbol_in symbol) (terms_of (terms_at table.now arguments.now))) ≡ None }
+    ensures { IsShape (apply (symbol_in symbol) (terms_of (terms_at table.now arguments.now))) result }
+{
+    match symbol {
+        Symbol::True => Shape::Always(true),
+        Symbol::False => Shape::Always(false),
+        Symbol::Not => Shape::Connected(Connective::Not),
+        Symbol::And => Shape::Connected(Connective::And),
+        Symbol::Or => Shape::Connected(Connective::Or),
+        Symbol::Implies => Shape::Connected(Connective::Implies),
+        Symbol::Xor => Shape::Connected(Connective::Xor),
+        Symbol::Ite => Shape::Connected(Connective::Ite),
+        Symbol::Equal => comparison(table, false, arguments),
+        Symbol::Distinct => comparison(table, true, arguments),
+        _ => Shape::Other,
+    }
+}
+
+/// The shape of a comparison, by the sort of what is compared. One term alone is not compared, and none neither.
+fn comparison(table: &Table, distinct: bool, arguments: &[TermId]) -> Shape
+    requires { AllNumbers table.now arguments.now }
+    ensures { IsShape (apply (comparison_of distinct) (terms_of (terms_at table.now arguments.now))) result }
+{
+    let [first, others @ ..] = arguments else {
+        return Shape::Alone;
+    };
+    match table.sort(*first) {
+        Sort::Bool if others.is_empty() => Shape::Alone,
+        Sort::Bool => Shape::Connected(Connective::Compare(distinct)),
+        Sort::String => Shape::Words(distinct),
+        Sort::Int | Sort::RegLan => Shape::Other,
+    }
+}
+
+/// The arguments of a term, none where it is no symbol with arguments. Takes constant time and no memory.
+pub fn arguments_of(table: &Table, id: TermId) -> &[TermId]
+    requires { id < length table.now }
+    ensures terms { terms_at table.now result.now ≡ parts_of (term_at table.now id) }
+    ensures below { All (λ i. i < id) result.now }
+{
+    match table.term(id) {
+        Term::Apply(_, arguments) => arguments.as_slice(),
+        _ => &[],
+    }
+}
+
+/// The constant and the literal of an equality of the two, in either order; none where one is no String constant, or the
+/// other one no literal. Takes constant time and no memory.
+pub fn pair_of(table: &Table, one: TermId, other: TermId) -> Option<(Serial, TermId)>
     requires one { one < length table.now }
     requires other { other < length table.now }
-    ensures parts { MatchOption result (are_sides (term_at table.now one) (term_at table.now other) ≡ false)
-        (λ p. IsSides table.now one other p.0.0 p.1) }
+    ensures parts { MatchOption result (is_pair (term_at table.now one) (term_at table.now other) ≡ false)
+        (λ p. IsPair table.now one other p.0.0 p.1) }
 {
-    let serial = constant_of(table, one)?;
-    if is_literal(table, other) {
-        Some((serial, Pattern::Word(other)))
+    if let Some(serial) = constant_of(table, one) {
+        return if is_literal(table, other) {
+            Some((serial, other))
+        } else {
+            None
+        };
+    }
+    let serial = constant_of(table, other)?;
+    if is_literal(table, one) {
+        Some((serial, one))
     } else {
         None
     }
-}
-
-/// The constant of a term that asks something of its word alone, and what it asks the word to be in: of the membership
-/// of a String constant its regular expression, whatever that is, and of the equality of one with a literal the
-/// literal's word. Takes constant time and no memory.
-pub fn membership(table: &Table, id: TermId) -> Option<(Serial, Pattern)>
-    requires { id < length table.now }
-    ensures parts { MatchOption result (asked (term_at table.now id) ≡ None)
-        (λ p. asked (term_at table.now id) ≡ Some (p.0.0, pattern_in table.now p.1)) }
-    ensures smaller { IfSome result (λ p. number_of p.1 < id) }
-{
-    if let Some((term, regex)) = arguments_of(table, id) {
-        let serial = constant_of(table, term)?;
-        return Some((serial, Pattern::Expression(regex)));
-    }
-    let (one, other) = sides_of(table, id)?;
-    if let Some(found) = constant_and_word(table, one, other) {
-        return Some(found);
-    }
-    constant_and_word(table, other, one)
 }

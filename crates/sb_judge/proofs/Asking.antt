@@ -1,18 +1,17 @@
 -- What a check of the state asks of a line, over the table of its terms.
-use Rattle.std.proofs.Common.{◌≡◌, ◌==◌, ℕ, zero, suc, ◌+◌, true, false, nat_lt, List, [], ◌∷◌, ◌++◌, map, length, take, drop, Option, Some, None, option_map, refl, ap, ap₂, sym, ◌∙◌, subst, add-one, arith}
+use Rattle.std.proofs.Common.{◌≡◌, ◌==◌, ℕ, suc, ◌+◌, true, List, [], ◌∷◌, ◌++◌, map, length, take, drop, Option, Some, None, option_map, refl, ap, ap₂, sym, ◌∙◌, subst, add-one}
 use Rattle.std.specs.List.{All, list_all}
 use Rattle.std.proofs.lemmas.Bool.{and_parts, eqb-true}
-use Rattle.std.proofs.lemmas.Bool.Decides.{nat_tests}
 use Rattle.std.proofs.lemmas.List.{take-map, drop-map, map-append, take-append-drop}
 use Rattle.std.proofs.lemmas.List.Elements.{All-nil, All-cons}
-use Rattle.sb_meaning.specs.Terms.{Term, boolean, integer, text}
+use Rattle.sb_meaning.specs.Terms.{Term}
 use Rattle.sb_script.specs.State as meaning
-use Rattle.sb_rulebook.specs.AtomRules.{is_declared}
 use Rattle.sb_script.specs.Scopes.{Naming}
 use Rattle.sb_rulebook.specs.Accepted.{at_level, live_by_level, asked_in, term_of}
 use Rattle.sb_term.specs.Numbered.{term_at}
 use Rattle.sb_term.specs.declared.assertion.Assertion.{Assertion}
-use Rattle.sb_sorts.specs.Scopes.{texts, names_in}
+use Rattle.sb_term.specs.declared.sort.Sort.{Sort}
+use Rattle.sb_sorts.specs.Scopes.{names_in}
 use Rattle.sb_stack.specs.declared.level.Level.{Level}
 use Rattle.sb_stack.specs.Stacked.{Stacked, state_of, assertion_in, assertion_of, first_level, levels_above, have_levels}
 use Rattle.sb_stack.proofs.CallerLemmas.{live_laid}
@@ -54,39 +53,11 @@ live_as ts (l ∷ ls) names xs h =
     ∙ (sym (map-append (live_in ts) (take l.assertions xs) (drop l.assertions xs))
     ∙ ap (map (live_in ts)) (take-append-drop l.assertions xs))
 
-texts_there : (n serial : ℕ) → is_declared (texts n) text serial ≡ nat_lt serial n
-texts_there zero serial = sym (none serial)
-  where
-    none : (m : ℕ) → nat_lt m 0 ≡ false
-    none m = grind (arith, nat_tests)
-texts_there (suc n) zero = sym (first n)
-  where
-    first : (m : ℕ) → nat_lt 0 (suc m) ≡ true
-    first m = grind (arith, nat_tests)
-texts_there (suc n) (suc serial) = texts_there n serial ∙ next serial n
-  where
-    next : (k m : ℕ) → nat_lt k m ≡ nat_lt (suc k) (suc m)
-    next k m = grind (arith, nat_tests)
-
-booleans_there : (n serial : ℕ) → is_declared (texts n) boolean serial ≡ false
-booleans_there zero serial = refl
-booleans_there (suc n) zero = refl
-booleans_there (suc n) (suc serial) = booleans_there n serial
-
-integers_there : (n serial : ℕ) → is_declared (texts n) integer serial ≡ false
-integers_there zero serial = refl
-integers_there (suc n) zero = refl
-integers_there (suc n) (suc serial) = integers_there n serial
-
 pub asked_of : (stack : Stacked) → have_levels stack.levels stack.assertions ≡ true
-    → IsAsked stack.table stack.assertions stack.scope.declared 0 (asked_in (state_of stack))
+    → IsAsked stack.table stack.assertions stack.scope.sorts 0 (asked_in (state_of stack))
 asked_of stack levels = record {
   live = live_as stack.table stack.levels (names_in stack.scope) stack.assertions levels;
-  declared = record {
-    texts = texts_there stack.scope.declared;
-    booleans = booleans_there stack.scope.declared;
-    integers = integers_there stack.scope.declared;
-  };
+  declared = refl;
   limit = refl;
 }
 
@@ -105,12 +76,12 @@ simple_of ts (a ∷ rest) h = step a.term refl h (simple_of ts rest)
         (list_all is_simple (meaning.terms_in (map (assertion_in ts) rest))) h in
         All-cons (IsSimple ts) a rest (rw is parts.0) (again parts.1)
 
-pub asked_over : (stack : Stacked) (ts : List Term) (assertions : List Assertion) (n : ℕ) → ts ≡ stack.table
-    → assertions ≡ stack.assertions → n ≡ stack.scope.declared → have_levels stack.levels stack.assertions ≡ true
-    → IsAsked ts assertions n 0 (asked_in (state_of stack))
-asked_over stack ts assertions n t a d levels =
-    subst (λ x. IsAsked x assertions n 0 (asked_in (state_of stack))) (sym t)
-    (subst (λ x. IsAsked stack.table x n 0 (asked_in (state_of stack))) (sym a)
+pub asked_over : (stack : Stacked) (ts : List Term) (assertions : List Assertion) (sorts : List Sort) → ts ≡ stack.table
+    → assertions ≡ stack.assertions → sorts ≡ stack.scope.sorts → have_levels stack.levels stack.assertions ≡ true
+    → IsAsked ts assertions sorts 0 (asked_in (state_of stack))
+asked_over stack ts assertions sorts t a d levels =
+    subst (λ x. IsAsked x assertions sorts 0 (asked_in (state_of stack))) (sym t)
+    (subst (λ x. IsAsked stack.table x sorts 0 (asked_in (state_of stack))) (sym a)
     (subst (λ x. IsAsked stack.table stack.assertions x 0 (asked_in (state_of stack))) (sym d) (asked_of stack levels)))
 
 pub simple_over : (stack : Stacked) (ts : List Term) (assertions : List Assertion) → ts ≡ stack.table

@@ -237,11 +237,10 @@ impl Judge {
         ensures standing { IsStanding self.new }
     {
         live_are_simple();
-        let declared = self.stack.declared();
         match self.kept.follows(
             self.stack.table(),
             self.stack.assertions(),
-            declared,
+            self.stack.sorts(),
             0,
             line,
         ) {

@@ -1,135 +1,24 @@
--- Values are a model where they are words, as many as there are live constants, under which all is true.
-use Rattle.std.proofs.Common.{◌≡◌, ◌==◌, ℕ, suc, ◌+◌, Bool, true, false, ◌&&◌, if◌then◌else◌, List, [], ◌∷◌, length, get_or, map, refl, sym, ap, ap₂, ◌∙◌, Option, Some, None, option_map, Result, Ok, Err, IfOk}
+-- Values are a model where they are of the kinds that the live constants have, and words where these are Strings, under
+-- which all is true.
+use Rattle.std.proofs.Common.{◌≡◌, ◌==◌, ℕ, ◌+◌, Bool, true, false, ◌&&◌, if◌then◌else◌, List, [], ◌∷◌, length, suc, map, refl, sym, ap, ap₂, subst, ◌∙◌, Option, Some, None, Result, Ok, Err, IfOk}
 use Rattle.std.specs.List.{list_all}
-use Rattle.std.proofs.lemmas.Bool.{and_parts, false≢true, eq-eqb, eqb-true}
-use Rattle.std.proofs.lemmas.Bool.Decides.{nat_tests}
 use Rattle.std.proofs.Math.Bool.{and-true}
 use Rattle.std.proofs.lemmas.List.{length-map}
 use Rattle.std.proofs.lemmas.List.Folds.{list_all-append}
-use Rattle.std.proofs.Common.{arith}
-use Rattle.sb_word.specs.Words.{are_characters}
-use Rattle.sb_meaning.specs.Terms.{Term, Sort, boolean, integer, text, reglan}
-use Rattle.sb_meaning.specs.Values.{Value, Valuation, Text, Int, Truth, value_in, is_of}
-use Rattle.sb_script.specs.Scopes.{Constant}
-use Rattle.sb_script.specs.State.{Level, Assertion, fits, over_levels, constants_of}
+use Rattle.sb_meaning.specs.Terms.{Term, Sort, text}
+use Rattle.sb_meaning.specs.Values.{Value, Valuation, Text, value_in}
+use Rattle.sb_script.specs.State.{Level, Assertion, fits, over_levels, constants_of, live_terms, terms_in}
+use Rattle.sb_fragment.specs.Rules.{is_decided}
 use Rattle.sb_rulebook.specs.Accepted.{at_level, live_by_level, question_in}
 use Rattle.sb_rulebook.specs.Verdicts.{valued, are_model_of, assertion_holds}
-use Rattle.sb_term.specs.declared.term.Serial.{Serial}
-use Rattle.sb_stack.specs.Stacked.{Stacked, state_of, live_serials, values_at, are_words}
+use Rattle.sb_stack.specs.declared.constant.LiveConstant.{LiveConstant}
+use Rattle.sb_stack.specs.Speaking.{speaks_of}
+use Rattle.sb_stack.specs.Stacked.{Stacked, state_of, live_constants, live_in, values_at, are_words}
 use Rattle.sb_stack.proofs.CallerLemmas.{live_laid}
 use Rattle.sb_models.specs.Knowing.{is_true_under, IsTruthBy, assertions_of, word_at}
-use Rattle.sb_models.specs.Tried.{word_of, words_of, put_first, word_given, AreAllTrue, AreTrueWords}
-use Rattle.sb_models.proofs.WordFacts.{same_next, none_next, some_none}
-use Rattle.sb_models.proofs.ValueFacts.{words_long}
-
--- words of the constants with these serials, one of each, as values
-abbrev paired : List ℕ → List (List ℕ) → Valuation
-paired [] words = []
-paired (n ∷ serials) [] = []
-paired (n ∷ serials) (w ∷ words) = (n, Text w) ∷ paired serials words
-
--- what is made of values for constants, and of words
-abbrev made : List Constant → (Valuation → Bool) → Option Valuation → Bool
-made cs test None = false
-made cs test (Some v) = fits cs v && test v
-
-abbrev pub tried : ℕ → (List (List ℕ) → Bool) → Option (List (List ℕ)) → Bool
-tried n test None = false
-tried n test (Some ws) = (length ws == n) && test ws
-
-made_more : (c : Constant) (cs : List Constant) (x : Value) (test : Valuation → Bool) (o : Option Valuation)
-    → is_of c.sort x ≡ true → made (c ∷ cs) test (option_map (λ v. (c.serial, x) ∷ v) o)
-    ≡ made cs (λ v. test ((c.serial, x) ∷ v)) o
-made_more c cs x test None h = refl
-made_more c cs x test (Some v) h = let same : (c.serial == c.serial) ≡ true = eq-eqb c.serial c.serial refl in
-    rw (same, h) refl
-
-made_none : (c : Constant) (cs : List Constant) (x : Value) (test : Valuation → Bool) (o : Option Valuation)
-    → is_of c.sort x ≡ false → made (c ∷ cs) test (option_map (λ v. (c.serial, x) ∷ v) o) ≡ false
-made_none c cs x test None h = refl
-made_none c cs x test (Some v) h = let same : (c.serial == c.serial) ≡ true = eq-eqb c.serial c.serial refl in
-    rw (same, h) refl
-
-tried_more : (n : ℕ) (w : List ℕ) (test : List (List ℕ) → Bool) (o : Option (List (List ℕ)))
-    → tried (suc n) test (put_first (Some w) o) ≡ tried n (λ ws. test (w ∷ ws)) o
-tried_more n w test None = refl
-tried_more n w test (Some ws) = ap (λ b. b && test (w ∷ ws)) (same_next (length ws) n)
-
-tried_none : (test : List (List ℕ) → Bool) (o : Option (List ℕ)) (p : Option (List (List ℕ)))
-    → tried 0 test (put_first o p) ≡ false
-tried_none test None p = refl
-tried_none test (Some w) None = refl
-tried_none test (Some w) (Some ws) = ap (λ b. b && test (w ∷ ws)) (some_none (length ws))
-
-is_text : (sort : Sort) (w : List ℕ) → is_of sort (Text w) ≡ true → sort ≡ text
-is_text text w h = refl
-is_text boolean w h = absurd (false≢true h)
-is_text integer w h = absurd (false≢true h)
-is_text reglan w h = absurd (false≢true h)
-
-no_word : (x : Value) → word_of x ≡ None → is_of text x ≡ false
-no_word (Text w) h = by (are_characters w) refl
-  where
-    by : (b : Bool) → are_characters w ≡ b → are_characters w ≡ false
-    by false e = e
-    by true e = let some : word_of (Text w) ≡ Some w = rw e refl in
-        absurd (let both : None ≡ Some w = sym h ∙ some in cc)
-no_word (Int n) h = refl
-no_word (Truth b) h = refl
-
--- a value that is a word
-record IsText (x : Value) (w : List ℕ) : Type 0 where
-  is : x ≡ Text w
-  characters : is_of text x ≡ true
-
-a_word : (x : Value) (w : List ℕ) → word_of x ≡ Some w → IsText x w
-a_word (Text u) w h = by (are_characters u) refl
-  where
-    by : (b : Bool) → are_characters u ≡ b → IsText (Text u) w
-    by false e = let none : word_of (Text u) ≡ None = rw e refl in
-        absurd (let both : None ≡ Some w = sym none ∙ h in cc)
-    by true e = let some : word_of (Text u) ≡ Some u = rw e refl in
-        let both : Some u ≡ Some w = sym some ∙ h in
-        let same : u ≡ w = cc in
-        record { is = ap Text same; characters = e }
-a_word (Int n) w h = absurd (let both : None ≡ Some w = h in cc)
-a_word (Truth b) w h = absurd (let both : None ≡ Some w = h in cc)
-
-one_value : (c : Constant) (cs : List Constant) (n : ℕ) (serials : List ℕ) (x : Value) (xs : List Value)
-    (test : Valuation → Bool) (o : Option (List ℕ)) → c.serial ≡ n → c.sort ≡ text → word_of x ≡ o →
-    ((t : Valuation → Bool) → made cs t (valued cs xs)
-    ≡ tried (length serials) (λ ws. t (paired serials ws)) (words_of xs)) →
-    made (c ∷ cs) test (valued (c ∷ cs) (x ∷ xs))
-    ≡ tried (suc (length serials)) (λ ws. test (paired (n ∷ serials) ws)) (words_of (x ∷ xs))
-one_value c cs n serials x xs test None serial sort e more =
-    made_none c cs x test (valued cs xs) (rw sort (no_word x e))
-    ∙ sym (ap (λ o. tried (suc (length serials)) (λ ws. test (paired (n ∷ serials) ws)) (put_first o (words_of xs))) e)
-one_value c cs n serials x xs test (Some w) serial sort e more =
-    let word = a_word x w e in
-    made_more c cs x test (valued cs xs) (rw sort word.characters)
-    ∙ (more (λ v. test ((c.serial, x) ∷ v))
-    ∙ (ap (λ m. tried (length serials) (λ ws. test ((m, x) ∷ paired serials ws)) (words_of xs)) serial
-    ∙ (ap (λ y. tried (length serials) (λ ws. test ((n, y) ∷ paired serials ws)) (words_of xs)) word.is
-    ∙ (sym (tried_more (length serials) w (λ ws. test (paired (n ∷ serials) ws)) (words_of xs))
-    ∙ sym (ap (λ o. tried (suc (length serials)) (λ ws. test (paired (n ∷ serials) ws)) (put_first o (words_of xs)))
-    e)))))
-
-values_tried : (cs : List Constant) (serials : List ℕ) (any : List (List ℕ)) (xs : List Value)
-    (test : Valuation → Bool) → fits cs (values_at serials any) ≡ true
-    → made cs test (valued cs xs) ≡ tried (length serials) (λ ws. test (paired serials ws)) (words_of xs)
-values_tried [] [] any [] test h = refl
-values_tried [] [] any (x ∷ xs) test h =
-    sym (tried_none (λ ws. test (paired [] ws)) (word_of x) (words_of xs))
-values_tried [] (n ∷ serials) any xs test h = absurd (false≢true h)
-values_tried (c ∷ cs) [] any xs test h = absurd (false≢true h)
-values_tried (c ∷ cs) (n ∷ serials) any [] test h =
-    sym (ap (λ b. b && test (paired (n ∷ serials) [])) (none_next (length serials)))
-values_tried (c ∷ cs) (n ∷ serials) any (x ∷ xs) test h =
-    let w = get_or any n [] in
-    let parts = and_parts ((c.serial == n) && is_of c.sort (Text w)) (fits cs (values_at serials any)) h in
-    let here = and_parts (c.serial == n) (is_of c.sort (Text w)) parts.0 in
-    one_value c cs n serials x xs test (word_of x) (eqb-true c.serial n here.0) (is_text c.sort w here.1) refl
-    (λ t. values_tried cs serials any xs t parts.1)
+use Rattle.sb_models.specs.Tried.{is_kind, are_kinds, is_word, text_in, words_of, word_given, AreAllTrue, AreTrueWords}
+use Rattle.sb_models.proofs.KindFacts.{given, made, values_made, paired, same_truth}
+use Rattle.sb_models.proofs.ValueFacts.{all_words, not_all_words}
 
 one_level : (v : Valuation) (level : ℕ) (assertions : List Assertion)
     → list_all (λ (a : Option Term × ℕ). assertion_holds v a.0) (at_level level assertions)
@@ -146,10 +35,6 @@ levels_hold v first (level ∷ levels) =
     (at_level (length levels + 1) level.assertions)
     ∙ (ap₂ (λ a b. a && b) (levels_hold v first levels) (one_level v (length levels + 1) level.assertions)
     ∙ sym (list_all-append (is_true_under v) (over_levels (λ l. l.assertions) first levels) level.assertions))
-
--- the live assertions are true where the live constants have these words
-abbrev pub are_true_by : Stacked → List (List ℕ) → Bool
-are_true_by stack ws = list_all (is_true_under (paired (live_serials stack) ws)) (assertions_of stack)
 
 model_made : (stack : Stacked) (xs : List Value) → are_model_of (question_in (state_of stack) []) xs
     ≡ made (constants_of (state_of stack)) (λ v. list_all (is_true_under v) (assertions_of stack))
@@ -173,93 +58,122 @@ model_made stack xs = by (valued (constants_of (state_of stack)) xs)
 
 -- what a caller is told of the constants
 abbrev pub HasFit : Stacked → Type 0
-HasFit stack = (words : List (List ℕ)) → are_words words ≡ true
-    → fits (constants_of (state_of stack)) (values_at (live_serials stack) words) ≡ true
+HasFit stack = (words : List (List ℕ)) (truths : List Bool) → are_words words ≡ true
+    → fits (constants_of (state_of stack)) (values_at (live_constants stack) words truths) ≡ true
 
-pub model_is : (stack : Stacked) (xs : List Value) (o : Option (List (List ℕ))) → HasFit stack
-    → o ≡ words_of xs
-    → are_model_of (question_in (state_of stack) []) xs ≡ tried (length (live_serials stack)) (are_true_by stack) o
-model_is stack xs o fit is =
-    model_made stack xs
-    ∙ (values_tried (constants_of (state_of stack)) (live_serials stack) [] xs
-    (λ v. list_all (is_true_under v) (assertions_of stack)) (fit [] refl)
-    ∙ ap (tried (length (live_serials stack)) (are_true_by stack)) (sym is))
+-- the values are of the kinds, and words, and make the live assertions true
+abbrev are_tried : Stacked → List Value → Bool
+are_tried stack xs = are_kinds (live_constants stack) xs
+    && (list_all is_word xs && list_all (is_true_under (given (live_constants stack) xs)) (assertions_of stack))
 
-paired_given : (constants : List Serial) (words : List (List ℕ)) (n : ℕ)
-    → value_in (paired (map (λ c. c.0) constants) words) n text ≡ Text (word_given constants words n [])
+model_is : (stack : Stacked) (xs : List Value) → HasFit stack
+    → are_model_of (question_in (state_of stack) []) xs ≡ are_tried stack xs
+model_is stack xs fit = model_made stack xs
+    ∙ values_made (constants_of (state_of stack)) (live_constants stack) xs
+    (λ v. list_all (is_true_under v) (assertions_of stack)) (fit [] [] refl)
+
+paired_given : (constants : List LiveConstant) (words : List (List ℕ)) (n : ℕ)
+    → value_in (paired (map live_in constants) words) n text ≡ Text (word_given constants words n [])
 paired_given [] words n = refl
 paired_given (c ∷ constants) [] n = refl
-paired_given (c ∷ constants) (w ∷ words) n = by (c.0 == n) (paired_given constants words n)
+paired_given (c ∷ constants) (w ∷ words) n = by (c.serial.0 == n) (paired_given constants words n)
   where
     by : (b : Bool)
-        → value_in (paired (map (λ c. c.0) constants) words) n text ≡ Text (word_given constants words n [])
-        → (if b then Text w else value_in (paired (map (λ c. c.0) constants) words) n text)
+        → value_in (paired (map live_in constants) words) n text ≡ Text (word_given constants words n [])
+        → (if b then Text w else value_in (paired (map live_in constants) words) n text)
         ≡ Text (if b then w else word_given constants words n [])
     by true again = refl
     by false again = again
 
 -- What a check of values finds, where these are the live constants.
 
-as_many : (stack : Stacked) (constants : List Serial) → map (λ c. c.0) constants ≡ live_serials stack
-    → length (live_serials stack) ≡ length constants
-as_many stack constants live = ap length (sym live) ∙ length-map constants (λ c. c.0)
-
-tried_other : (n : ℕ) (test : List (List ℕ) → Bool) (xs : List Value) (o : Option (List (List ℕ))) → o ≡ words_of xs
-    → (length xs ≡ n → ⊥) → tried n test o ≡ false
-tried_other n test xs None is other = refl
-tried_other n test xs (Some ws) is other =
-    ap (λ b. b && test ws) (not_equal (length ws) n (λ same. other (sym (words_long xs ws is) ∙ same)))
+other_length : (ds : List (ℕ × Sort)) (xs : List Value) → (length xs ≡ length ds → ⊥) → are_kinds ds xs ≡ false
+other_length [] [] other = absurd (other refl)
+other_length [] (x ∷ xs) other = refl
+other_length (d ∷ ds) [] other = refl
+other_length (d ∷ ds) (x ∷ xs) other =
+    ap (λ b. is_kind d.1 x && b) (other_length ds xs (λ same. other (ap (λ n. suc n) same))) ∙ and_false (is_kind d.1 x)
   where
-    not_equal : (a b : ℕ) → (a ≡ b → ⊥) → (a == b) ≡ false
-    not_equal a b other = grind (arith, nat_tests, other)
+    and_false : (b : Bool) → (b && false) ≡ false
+    and_false true = refl
+    and_false false = refl
 
-pub other_number : (stack : Stacked) (xs : List Value) (constants : List Serial) → HasFit stack
-    → map (λ c. c.0) constants ≡ live_serials stack → (length xs ≡ length constants → ⊥)
+pub other_kinds : (stack : Stacked) (xs : List Value) → HasFit stack → are_kinds (live_constants stack) xs ≡ false
+    → false ≡ are_model_of (question_in (state_of stack) []) xs
+other_kinds stack xs fit other =
+    sym (model_is stack xs fit ∙ ap (λ b. b && (list_all is_word xs
+    && list_all (is_true_under (given (live_constants stack) xs)) (assertions_of stack))) other)
+
+pub other_number : (stack : Stacked) (xs : List Value) (constants : List LiveConstant) → HasFit stack
+    → map live_in constants ≡ live_constants stack → (length xs ≡ length constants → ⊥)
     → false ≡ are_model_of (question_in (state_of stack) []) xs
 other_number stack xs constants fit live other =
-    sym (model_is stack xs (words_of xs) fit refl
-    ∙ tried_other (length (live_serials stack)) (are_true_by stack) xs (words_of xs) refl
-    (λ same. other (same ∙ as_many stack constants live)))
+    other_kinds stack xs fit
+    (other_length (live_constants stack) xs
+    (λ same. other (same ∙ ap length (sym live) ∙ length-map constants live_in)))
 
-pub truth_of : (stack : Stacked) (xs : List Value) (ws : List (List ℕ)) (constants : List Serial) (b : Bool)
-    → HasFit stack → map (λ c. c.0) constants ≡ live_serials stack → Some ws ≡ words_of xs
-    → length ws ≡ length constants → AreAllTrue constants ws (assertions_of stack) b
+-- what a caller is told of the live assertions
+abbrev pub AreNamed : Stacked → Type 0
+AreNamed stack = list_all (speaks_of (live_constants stack)) (live_terms (state_of stack)) ≡ true
+
+truth_of : (stack : Stacked) (xs : List Value) (constants : List LiveConstant) (b : Bool) → HasFit stack
+    → AreNamed stack → list_all is_decided (assertions_of stack) ≡ true
+    → map live_in constants ≡ live_constants stack → are_kinds (live_constants stack) xs ≡ true
+    → list_all is_word xs ≡ true → AreAllTrue constants (map text_in xs) (assertions_of stack) b
     → b ≡ are_model_of (question_in (state_of stack) []) xs
-truth_of stack xs ws constants b fit live is long truth =
-    let same : (length ws == length (live_serials stack)) ≡ true =
-    eq-eqb (length ws) (length (live_serials stack)) (long ∙ sym (as_many stack constants live)) in
-    truth (paired (live_serials stack) ws)
-    (λ n. ap (λ ns. value_in (paired ns ws) n text) (sym live) ∙ paired_given constants ws n)
-    ∙ sym (model_is stack xs (Some ws) fit is ∙ ap (λ b. b && are_true_by stack ws) same)
+truth_of stack xs constants b fit named decided live kinds words truth =
+    truth (paired (live_constants stack) (map text_in xs))
+    (λ n. ap (λ ds. value_in (paired ds (map text_in xs)) n text) (sym live) ∙ paired_given constants (map text_in xs) n)
+    ∙ same_truth (live_constants stack) xs (assertions_of stack) kinds decided
+    (ap (λ bs. list_all (speaks_of (live_constants stack)) (terms_in bs)) (sym (live_laid stack)) ∙ named)
+    ∙ sym (model_is stack xs fit
+    ∙ ap₂ (λ k w. k && (w && list_all (is_true_under (given (live_constants stack) xs)) (assertions_of stack))) kinds
+    words)
 
-model_by : (o : Option (List (List ℕ))) (stack : Stacked) (xs : List Value) (constants : List Serial) (b : Bool)
-    → o ≡ words_of xs → HasFit stack → map (λ c. c.0) constants ≡ live_serials stack
-    → length xs ≡ length constants → AreTrueWords constants o (assertions_of stack) b
-    → b ≡ are_model_of (question_in (state_of stack) []) xs
-model_by None stack xs constants b is fit live long truth = truth ∙ sym (model_is stack xs None fit is)
-model_by (Some ws) stack xs constants b is fit live long truth =
-    truth_of stack xs ws constants b fit live is (words_long xs ws is ∙ long) truth
+model_by : (o : Option (List (List ℕ))) (stack : Stacked) (xs : List Value) (constants : List LiveConstant) (b : Bool)
+    → o ≡ words_of xs → HasFit stack → AreNamed stack → list_all is_decided (assertions_of stack) ≡ true
+    → map live_in constants ≡ live_constants stack → are_kinds (live_constants stack) xs ≡ true
+    → AreTrueWords constants o (assertions_of stack) b → b ≡ are_model_of (question_in (state_of stack) []) xs
+model_by None stack xs constants b is fit named decided live kinds truth =
+    truth ∙ sym (model_is stack xs fit
+    ∙ ap₂ (λ k w. k && (w && list_all (is_true_under (given (live_constants stack) xs)) (assertions_of stack))) kinds
+    (step (list_all is_word xs) refl))
+  where
+    step : (w : Bool) → list_all is_word xs ≡ w → list_all is_word xs ≡ false
+    step false e = e
+    step true e = absurd (let both : None ≡ Some (map text_in xs) = is ∙ all_words xs e in cc)
+model_by (Some ws) stack xs constants b is fit named decided live kinds truth = step (list_all is_word xs) refl
+  where
+    step : (w : Bool) → list_all is_word xs ≡ w → b ≡ are_model_of (question_in (state_of stack) []) xs
+    step false e = absurd (let both : Some ws ≡ None = is ∙ not_all_words xs e in cc)
+    step true e =
+        let both : Some ws ≡ Some (map text_in xs) = is ∙ all_words xs e in
+        let same : ws ≡ map text_in xs = cc both in
+        truth_of stack xs constants b fit named decided live kinds e
+        (subst (λ us. AreAllTrue constants us (assertions_of stack) b) same truth)
 
-pub model_of : {E : Type 0} (r : Result Bool E) (stack : Stacked) (xs : List Value) (constants : List Serial)
-    → HasFit stack → map (λ c. c.0) constants ≡ live_serials stack → length xs ≡ length constants
+pub model_of : {E : Type 0} (r : Result Bool E) (stack : Stacked) (xs : List Value) (constants : List LiveConstant)
+    → HasFit stack → AreNamed stack → list_all is_decided (assertions_of stack) ≡ true
+    → map live_in constants ≡ live_constants stack → are_kinds (live_constants stack) xs ≡ true
     → IfOk r (AreTrueWords constants (words_of xs) (assertions_of stack))
     → IfOk r (λ model. model ≡ are_model_of (question_in (state_of stack) []) xs)
-model_of (Ok b) stack xs constants fit live long truth = model_by (words_of xs) stack xs constants b refl fit live long truth
-model_of (Err e) stack xs constants fit live long truth = truth
+model_of (Ok b) stack xs constants fit named decided live kinds truth =
+    model_by (words_of xs) stack xs constants b refl fit named decided live kinds truth
+model_of (Err e) stack xs constants fit named decided live kinds truth = truth
 
 -- words by serial give constants theirs
-pub truth_given : (constants : List Serial) (given words us : List (List ℕ)) (assertions : List Assertion) (b d : Bool)
+pub truth_given : (constants : List LiveConstant) (given words us : List (List ℕ)) (assertions : List Assertion) (b d : Bool)
     → us ≡ words → ((serial : ℕ) → word_at words serial ≡ word_given constants given serial []) → b ≡ d
     → IsTruthBy us assertions b → AreAllTrue constants given assertions d
 truth_given constants given words us assertions b d p is q h v gives =
     sym q ∙ h v (λ serial. gives serial ∙ (ap Text (sym (is serial)) ∙ ap (λ ws. Text (word_at ws serial)) (sym p)))
 
 -- values that are no words, and such that are
-pub no_true_words : (constants : List Serial) (o : Option (List (List ℕ))) (assertions : List Assertion) → o ≡ None
+pub no_true_words : (constants : List LiveConstant) (o : Option (List (List ℕ))) (assertions : List Assertion) → o ≡ None
     → AreTrueWords constants o assertions false
 no_true_words constants o assertions is = rw is refl
 
-pub true_words : (constants : List Serial) (o : Option (List (List ℕ))) (given words us : List (List ℕ))
+pub true_words : (constants : List LiveConstant) (o : Option (List (List ℕ))) (given words us : List (List ℕ))
     (assertions : List Assertion) (b d : Bool) → o ≡ Some given → us ≡ words
     → ((serial : ℕ) → word_at words serial ≡ word_given constants given serial []) → b ≡ d
     → IsTruthBy us assertions b → AreTrueWords constants o assertions d

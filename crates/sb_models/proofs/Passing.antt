@@ -60,7 +60,7 @@ ground_in t serial R is h =
     (and_parts (is_ground R) _ regular).0
 
 -- a decided term that asks something of one constant's word says the same under values that give it the same word
-asked_same : (v w : Valuation) (t : Term) (serial : ℕ) (R : Term) → asked t ≡ Some (serial, R)
+pub asked_same : (v w : Valuation) (t : Term) (serial : ℕ) (R : Term) → asked t ≡ Some (serial, R)
     → is_decided (asserted t) ≡ true → value_in v serial text ≡ value_in w serial text → holds t v ≡ holds t w
 asked_same v w t serial R is decided same =
     asked_holds t serial R is v

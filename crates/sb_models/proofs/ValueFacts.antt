@@ -5,7 +5,7 @@ use Rattle.std.proofs.lemmas.Bool.{and_parts, and_from, false≢true}
 use Rattle.std.proofs.lemmas.Bool.Decides.{nat_tests}
 use Rattle.std.proofs.lemmas.List.{drop_more, nil_from_length}
 use Rattle.sb_word.specs.Words.{is_character, are_characters}
-use Rattle.sb_meaning.specs.Values.{Value, Text, Int, Truth}
+use Rattle.sb_meaning.specs.Values.{Value}
 use Rattle.sb_proof.specs.declared.line.Value as code
 use Rattle.sb_proof.specs.Lines.{value_in as read}
 use Rattle.sb_models.specs.Knowing.{word_at}
@@ -19,9 +19,7 @@ all_words (x ∷ xs) h =
     rw (one x parts.0, all_words xs parts.1) refl
   where
     one : (x : Value) → is_word x ≡ true → word_of x ≡ Some (text_in x)
-    one (Text w) e = rw e refl
-    one (Int n) e = absurd (false≢true e)
-    one (Truth b) e = absurd (false≢true e)
+    one x e = rw e refl
 
 -- one of them is none
 pub not_all_words : (xs : List Value) → list_all is_word xs ≡ false → words_of xs ≡ None
@@ -29,9 +27,7 @@ not_all_words [] h = absurd (false≢true (sym h))
 not_all_words (x ∷ xs) h = by (is_word x) refl h (not_all_words xs)
   where
     none : (x : Value) → is_word x ≡ false → word_of x ≡ None
-    none (Text w) e = rw e refl
-    none (Int n) e = refl
-    none (Truth b) e = refl
+    none x e = rw e refl
 
     nothing : (o : Option (List ℕ)) → put_first o None ≡ None
     nothing None = refl

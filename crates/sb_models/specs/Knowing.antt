@@ -7,7 +7,7 @@ use Rattle.sb_rulebook.specs.Accepted.{term_of}
 use Rattle.sb_rulebook.specs.Verdicts.{assertion_holds}
 use Rattle.sb_fragment.specs.Rules.{is_decided}
 use Rattle.sb_eval.specs.Given.{GivesWords}
-use Rattle.sb_term.specs.declared.term.Serial.{Serial}
+use Rattle.sb_stack.specs.declared.constant.LiveConstant.{LiveConstant}
 use Rattle.sb_stack.specs.Stacked.{Stacked, assertion_in, HasNumberBelow}
 use Rattle.sb_models.specs.declared.models.Models.{Models}
 
@@ -28,11 +28,11 @@ assertions_of stack = map (assertion_in stack.table) stack.assertions
 abbrev pub word_at : List (List ℕ) → ℕ → List ℕ
 word_at words serial = unwrap_or (slice_get words serial) []
 
-abbrev pub is_serial_of : List Serial → ℕ → Bool
-is_serial_of constants serial = list_any (λ c. c.0 == serial) constants
+abbrev pub is_serial_of : List LiveConstant → ℕ → Bool
+is_serial_of constants serial = list_any (λ c. c.serial.0 == serial) constants
 
 -- what is no serial of these constants has the empty word
-abbrev pub AreEmptyBut : List Serial → List (List ℕ) → Type 0
+abbrev pub AreEmptyBut : List LiveConstant → List (List ℕ) → Type 0
 AreEmptyBut constants words = (serial : ℕ) → is_serial_of constants serial ≡ false → word_at words serial ≡ []
 
 -- So many assertions, from the first on, are decided ones, and so many are true under the words.

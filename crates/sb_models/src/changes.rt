@@ -1,4 +1,5 @@
-//! The words of the live constants, put in the place of those of the last model.
+//! The words of the live constants, put in the place of those of the last model. A constant of another sort than String
+//! has the empty word.
 
 ghost use Rattle.std.specs.Prelude.{◌≡◌, ℕ, true, None, Some, [], length, map, take, IfOk, OnOk, IfNone, IfSome};
 ghost use Rattle.std.specs.List.{list_all};
@@ -9,7 +10,7 @@ ghost use Rattle.sb_models.specs.Tried.{words_of, is_word, text_in, texts_in, wo
 
 use crate::words::{is_at, word_in};
 use sb_proof::Value;
-use sb_term::Serial;
+use sb_stack::LiveConstant;
 use sb_word::Word;
 use std::alloc::{AllocError, Global};
 use std::collections::HashSet;
@@ -45,16 +46,16 @@ fn put_word(
     alloc: Global,
     words: &mut Vec<Word>,
     changed: &mut HashSet<u64>,
-    constant: Serial,
+    constant: LiveConstant,
     word: Word,
 ) -> Result<(), AllocError>
-    ensures put { OnOk result (IsPut constant.0 word words.old.items words.new.items) }
+    ensures put { OnOk result (IsPut constant.serial.0 word words.old.items words.new.items) }
     ensures changes { OnOk result
         (Changes words.old.items (marks_of changed.old) words.new.items (marks_of changed.new)) }
 {
-    let place = constant.0 as usize;
+    let place = constant.serial.0 as usize;
     make_room(alloc, words, place)?;
-    mark(changed, constant.0)?;
+    mark(changed, constant.serial.0)?;
     words[place] = word;
     Ok(())
 }
@@ -65,16 +66,16 @@ fn put(
     alloc: Global,
     words: &mut Vec<Word>,
     changed: &mut HashSet<u64>,
-    constant: Serial,
+    constant: LiveConstant,
     numbers: &[u64],
 ) -> Result<bool, AllocError>
     ensures word { IfOk result (λ known. known ≡ are_characters numbers.now) }
     ensures put { IfOk result
-        (λ known. known ≡ true → IsPut constant.0 numbers.now words.old.items words.new.items) }
+        (λ known. known ≡ true → IsPut constant.serial.0 numbers.now words.old.items words.new.items) }
     ensures changes { IfOk result (λ known. known ≡ true
         → Changes words.old.items (marks_of changed.old) words.new.items (marks_of changed.new)) }
 {
-    if is_at(words, constant.0 as usize, numbers) {
+    if is_at(words, constant.serial.0 as usize, numbers) {
         return Ok(true);
     }
     let Some(word) = word_in(alloc, numbers)? else {
@@ -84,38 +85,38 @@ fn put(
     Ok(true)
 }
 
-/// The same of the word that a value is. Says whether it is one.
+/// The same of the word of a value, which is the empty one where the value is no text. Says whether it is one.
 fn put_value(
     alloc: Global,
     words: &mut Vec<Word>,
     changed: &mut HashSet<u64>,
-    constant: Serial,
+    constant: LiveConstant,
     value: &Value,
 ) -> Result<bool, AllocError>
     ensures word { IfOk result (λ known. known ≡ is_word (value_in value.now)) }
     ensures put { IfOk result (λ known. known ≡ true
-        → IsPut constant.0 (text_in (value_in value.now)) words.old.items words.new.items) }
+        → IsPut constant.serial.0 (text_in (value_in value.now)) words.old.items words.new.items) }
     ensures changes { IfOk result (λ known. known ≡ true
         → Changes words.old.items (marks_of changed.old) words.new.items (marks_of changed.new)) }
 {
     match value {
         Value::Text(numbers) => put(alloc, words, changed, constant, numbers.as_slice()),
-        Value::Int(_) | Value::Truth(_) => Ok(false),
+        Value::Int(_) | Value::Truth(_) => put(alloc, words, changed, constant, &[]),
     }
 }
 
 /// Whether the constant stands at the place.
-fn is_constant_at(constants: &[Serial], place: usize, constant: Serial) -> bool
+fn is_constant_at(constants: &[LiveConstant], place: usize, constant: LiveConstant) -> bool
     ensures { result ≡ true → IsConstantAt constants.now place constant }
 {
     match constants.get(place) {
-        Some(other) => other.0 == constant.0,
+        Some(other) => *other == constant,
         None => false,
     }
 }
 
 /// How many constants both have in front.
-fn same_front(one: &[Serial], other: &[Serial]) -> usize
+fn same_front(one: &[LiveConstant], other: &[LiveConstant]) -> usize
     ensures { take result one.now ≡ take result other.now }
 {
     for (place, constant) in one.iter().enumerate() {
@@ -131,7 +132,7 @@ fn clear_behind(
     alloc: Global,
     words: &mut Vec<Word>,
     changed: &mut HashSet<u64>,
-    constants: &[Serial],
+    constants: &[LiveConstant],
     count: usize,
 ) -> Result<(), AllocError>
     requires { AreEmptyBut constants.now words.old.items }
@@ -151,7 +152,7 @@ fn put_all(
     alloc: Global,
     words: &mut Vec<Word>,
     changed: &mut HashSet<u64>,
-    constants: &[Serial],
+    constants: &[LiveConstant],
     values: &[Value],
 ) -> Result<bool, AllocError>
     requires { length values.now ≡ length constants.now }
@@ -178,8 +179,8 @@ fn put_all(
 pub(crate) fn change(
     alloc: Global,
     words: &mut Vec<Word>,
-    before: &[Serial],
-    live: &[Serial],
+    before: &[LiveConstant],
+    live: &[LiveConstant],
     values: &[Value],
 ) -> Result<Option<HashSet<u64>>, AllocError>
     requires empty { AreEmptyBut before.now words.old.items }

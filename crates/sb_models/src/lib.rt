@@ -8,6 +8,7 @@
 #![tactic(auto)]
 
 mod changes;
+mod kinds;
 mod laws;
 mod models;
 mod trying;

@@ -17,14 +17,14 @@ ghost use Rattle.sb_models.specs.Tried.{words_of, marks_of, MayPass, AreTrueWord
 ghost use Rattle.sb_models.specs.Laws.{AreTakenBack};
 
 use crate::changes::change;
+use crate::kinds::are_kinds;
 use crate::trying::{all_hold, fits};
 use sb_fragment::{Measures, fragment_is_of_each};
 use sb_plain::Plain;
 use sb_problem::Normals;
 use sb_proof::Value;
 use sb_regex::Arena;
-use sb_stack::Stack;
-use sb_term::Serial;
+use sb_stack::{LiveConstant, Stack};
 use sb_word::Word;
 use std::alloc::{AllocError, Global};
 use std::collections::HashSet;
@@ -40,7 +40,7 @@ pub struct Models {
     /// These words, the one of each constant at its serial, and the empty one at any other.
     pub words: Vec<Word>,
     /// The constants that were live there.
-    pub constants: Vec<Serial>,
+    pub constants: Vec<LiveConstant>,
 }
 
 impl Models {
@@ -87,7 +87,8 @@ impl Models {
     }
 
     /// Whether the values, in the order of the live constants, are a model of the live assertions, which are decided
-    /// ones: there is a word for each constant, and the words make each assertion true. Where they are, they are kept.
+    /// ones: there is a value of its sort for each constant, and the words make each assertion true, which speaks of
+    /// constants of sort String alone. Where they are, the words are kept.
     ///
     /// Where each constant has the word that it had in the last model, and each one declared since has the empty word,
     /// only the assertions behind those that were true there are looked at. Else all are, and one that was true there
@@ -118,14 +119,19 @@ impl Models {
     {
         fragment_is_of_each();
         let _declared = stack.declared();
+        let _assertions = stack.assertions();
         let constants = stack.constants()?;
         if values.len() != constants.len() {
+            return Ok(false);
+        }
+        if !are_kinds(&constants, values) {
             return Ok(false);
         }
         self.hold_under(alloc, plain, normals, arena, stack, constants, values)
     }
 
-    /// Whether the values are words, and all live assertions are true where the live constants have them, one each.
+    /// Whether the words of the values are words, and all live assertions are true where the live constants have them, one
+    /// each.
     /// Where they are, the words are kept.
     fn hold_under(
         &mut self,
@@ -134,7 +140,7 @@ impl Models {
         normals: &mut Normals,
         arena: &mut Arena,
         stack: &Stack,
-        constants: Vec<Serial>,
+        constants: Vec<LiveConstant>,
         values: &[Value],
     ) -> Result<bool, AllocError>
         requires knows { Knows self.old stack.now }

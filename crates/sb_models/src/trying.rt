@@ -91,7 +91,7 @@ pub(crate) fn all_hold(
         if may_pass(table, id, place, changed, held) {
             continue;
         }
-        if !eval(plain, normals, arena, table, id, words)? {
+        if !eval(plain, normals, arena, table, id, words, &[])? {
             return Ok(false);
         }
     }

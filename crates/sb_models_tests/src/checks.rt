@@ -36,6 +36,9 @@ const TWO: &[u8] =
 const EQUAL: &[u8] =
     b"(declare-const x String) (declare-const y String) (assert (= x \"ab\")) (assert (= \"\" y))";
 
+const TRUTHS: &[u8] =
+    b"(declare-const b Bool) (declare-const x String) (assert (str.in_re x (re.+ (str.to_re \"a\"))))";
+
 /// Scripts with their checks.
 const SCRIPTS: &[&[Check]] = &[
     &[
@@ -83,6 +86,26 @@ const SCRIPTS: &[&[Check]] = &[
     &[
         (b"", &[], Some(true)),
         (b"", &[Given::Text(b"")], Some(false)),
+    ],
+    &[
+        (TRUTHS, &[Given::Truth, Given::Text(b"a")], Some(true)),
+        (b"", &[Given::Text(b"a"), Given::Text(b"a")], Some(false)),
+        (b"", &[Given::Text(b""), Given::Text(b"a")], Some(false)),
+        (b"", &[Given::Int, Given::Text(b"a")], Some(false)),
+        (b"", &[Given::Truth, Given::Truth], Some(false)),
+        (b"", &[Given::Truth, Given::Text(b"")], Some(false)),
+        (b"", &[Given::Truth], Some(false)),
+        (b"", &[Given::Truth, Given::Text(b"aa")], Some(true)),
+        (
+            b"(push 1) (assert (not b))",
+            &[Given::Truth, Given::Text(b"a")],
+            None,
+        ),
+        (
+            b"(pop 1) (declare-const c Bool)",
+            &[Given::Truth, Given::Text(b"a"), Given::Truth],
+            Some(true),
+        ),
     ],
     &[
         (ONE, &[Given::Text(b"a")], Some(true)),

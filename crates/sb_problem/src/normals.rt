@@ -221,7 +221,8 @@ impl Normals {
         }
     }
 
-    fn allocator(&self) -> Global {
+    /// The allocator of what is known.
+    pub fn allocator(&self) -> Global {
         *self.known.allocator()
     }
 

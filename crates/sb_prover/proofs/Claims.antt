@@ -1,5 +1,5 @@
 -- The clause of one assertion about one constant, and the literal in it.
-use Rattle.std.proofs.Common.{◌≡◌, ◌≢◌, ℕ, zero, suc, ◌<◌, Bool, true, false, if◌then◌else◌, nat_lt, nat_eq, List, [], ◌∷◌, length, map, get_or, slice_get, Option, Some, None, option_map, refl, sym, ap, ap₂, subst, ◌∙◌, arith}
+use Rattle.std.proofs.Common.{◌≡◌, ◌≢◌, ℕ, zero, suc, ◌<◌, Bool, true, false, if◌then◌else◌, nat_eq, List, [], ◌∷◌, length, map, get_or, slice_get, Option, Some, None, option_map, refl, sym, ap, ap₂, subst, ◌∙◌, arith}
 use Rattle.std.specs.Prelude.{option_and_then, MatchOption, is_some, IfSome}
 use Rattle.std.specs.List.{All, list_all, position_from}
 use Rattle.std.proofs.lemmas.Bool.{and_parts, false≢true}
@@ -15,20 +15,22 @@ use Rattle.sb_lang.specs.OrderLaws.{OrderTellsApart}
 use Rattle.sb_regex.specs.Numbered.{regex_at, Extends}
 use Rattle.sb_regex.proofs.CallerLemmas.{names_from, extends_more}
 use Rattle.sb_deriv.specs.Faithful.{Memo}
-use Rattle.sb_meaning.specs.Terms.{Term, text, constant, word, no_terms, with_term}
+use Rattle.sb_meaning.specs.Terms.{Sort, Term, text, constant, word, no_terms, with_term}
 use Rattle.sb_meaning.specs.Values.{Valuation}
 use Rattle.sb_meaning.specs.Truth.{meaning_of, means_reglan}
-use Rattle.sb_term.specs.Serials.{has_serials_below, have_serials_below, all_below}
+use Rattle.sb_meaning.specs.Sorts.{is_same_sort}
 use Rattle.sb_term.specs.Numbered.{term_at}
 use Rattle.sb_term.specs.declared.assertion.Assertion as code
-use Rattle.sb_stack.specs.Stacked.{Stacked, state_of, assertion_of, assertion_in, have_levels, HasNumberBelow}
-use Rattle.sb_sorts.specs.Scopes.{texts}
+use Rattle.sb_stack.specs.Stacked.{Stacked, state_of, live_constants, assertion_of, assertion_in, have_levels, HasNumberBelow}
+use Rattle.sb_sorts.specs.Scopes.{has_sort, are_sorted}
+use Rattle.sb_stack.specs.Speaking.{is_one_of, speaks_of, speak_of}
+use Rattle.sb_stack.proofs.CallerLemmas.{same_sort}
 use Rattle.sb_script.specs.Brought.{is_regex}
 use Rattle.sb_script.specs.Brought as brought
 use Rattle.sb_script.proofs.CallerLemmas.{IsAsking, a_membership, a_word_behind, a_word_in_front, asked_looks}
 use Rattle.sb_script.specs.Pieces.{Piece, constant_piece}
 use Rattle.sb_script.specs.Sizes.{is_regular}
-use Rattle.sb_script.specs.State.{Assertion, asserted, a_mark, live}
+use Rattle.sb_script.specs.State.{Assertion, asserted, a_mark, terms_in, live, live_terms}
 use Rattle.sb_problem.specs.Normals.{IsNumberOf}
 use Rattle.sb_fragment.proofs.CallerLemmas.{asked_membership, asked_decided}
 use Rattle.sb_fragment.specs.Rules.{is_decided}
@@ -59,6 +61,9 @@ some-none x h = cc
 same-term : (t u : Term) → asserted t ≡ asserted u → t ≡ u
 same-term t u h = cc
 
+same-number : (m n : ℕ) → nat_eq m n ≡ true → m ≡ n
+same-number m n h = grind (arith, nat_tests, h)
+
 same-expression : (o : Option (ℕ × Term)) (s z : ℕ) (R Q : Term) → o ≡ Some (s, R) → o ≡ Some (z, Q) → R ≡ Q
 same-expression o s z R Q h k = ap (λ (p : ℕ × Term). p.1) (same-some (s, R) (z, Q) (sym h ∙ k))
 
@@ -80,29 +85,51 @@ its-decision : (assertions : List Assertion) (serial place : ℕ) (t : Term) →
 its-decision assertions serial place t p stands =
     ap (λ u. is_decided (asserted u)) (the-term assertions place t p.term stands p.there) ∙ p.decided
 
-sort-there : (n serial : ℕ) → serial < n → slice_get (texts n) serial ≡ Some text
-sort-there zero serial l = absurd (omega (arith, l))
-sort-there (suc n) zero l = refl
-sort-there (suc n) (suc serial) l = sort-there n serial (omega (arith, l))
-
 -- the constant that it speaks of is declared
-serial-below : (n : ℕ) (t : Term) → has_serials_below n t ≡ true → (serial : ℕ) (R : Term) → IsAsking serial t R
-    → nat_lt serial n ≡ true
-serial-below n t h serial R (a_membership is) =
-    (and_parts (nat_lt serial n) (have_serials_below n (with_term R no_terms))
-    (ap (has_serials_below n) (sym is) ∙ h)).0
-serial-below n t h serial R (a_word_behind w is S) =
-    (and_parts (nat_lt serial n) (have_serials_below n (with_term (word w) no_terms))
-    (ap (has_serials_below n) (sym is) ∙ h)).0
-serial-below n t h serial R (a_word_in_front w is S) =
-    (and_parts (nat_lt serial n) true (ap (has_serials_below n) (sym is) ∙ h)).0
+its-constant : (cs : List (ℕ × Sort)) (t : Term) → speaks_of cs t ≡ true → (serial : ℕ) (R : Term)
+    → IsAsking serial t R → is_one_of cs serial text ≡ true
+its-constant cs t h serial R (a_membership is) =
+    (and_parts (is_one_of cs serial text) (speak_of cs (with_term R no_terms)) (ap (speaks_of cs) (sym is) ∙ h)).0
+its-constant cs t h serial R (a_word_behind w is S) =
+    (and_parts (is_one_of cs serial text) (speak_of cs (with_term (word w) no_terms))
+    (ap (speaks_of cs) (sym is) ∙ h)).0
+its-constant cs t h serial R (a_word_in_front w is S) =
+    (and_parts (is_one_of cs serial text) true (ap (speaks_of cs) (sym is) ∙ h)).0
 
-pub declared-there : (n : ℕ) (t : Term) → has_serials_below n t ≡ true → (serial : ℕ) (R : Term)
-    → brought.asked t ≡ Some (serial, R) → is_declared (texts n) text serial ≡ true
-declared-there n t h serial R asks =
-    let below : nat_lt serial n ≡ true = serial-below n t h serial R (asked_looks t serial R asks) in
-    let l : serial < n = grind (arith, nat_tests) in
-    rw (sort-there n serial l, is_declared) refl
+sorted-there : (sorts : List Sort) (cs : List (ℕ × Sort)) (serial : ℕ) (sort : Sort) → are_sorted sorts cs ≡ true
+    → is_one_of cs serial sort ≡ true → is_declared sorts sort serial ≡ true
+sorted-there sorts [] serial sort h one = absurd (false≢true one)
+sorted-there sorts (c ∷ cs) serial sort h one =
+    step (nat_eq c.0 serial) refl one (sorted-there sorts cs serial sort parts.1)
+  where
+    parts : (has_sort sorts c ≡ true) × (are_sorted sorts cs ≡ true)
+    parts = and_parts (has_sort sorts c) (are_sorted sorts cs) h
+
+    step : (b : Bool) → nat_eq c.0 serial ≡ b → (if b then is_same_sort c.1 sort else is_one_of cs serial sort) ≡ true
+        → (is_one_of cs serial sort ≡ true → is_declared sorts sort serial ≡ true)
+        → is_declared sorts sort serial ≡ true
+    step true is same later =
+        ap₂ (is_declared sorts) (sym (same_sort c.1 sort same)) (sym (same-number c.0 serial is)) ∙ parts.0
+    step false is one later = later one
+
+pub declared-there : (sorts : List Sort) (cs : List (ℕ × Sort)) (t : Term) → are_sorted sorts cs ≡ true
+    → speaks_of cs t ≡ true → (serial : ℕ) (R : Term) → brought.asked t ≡ Some (serial, R)
+    → is_declared sorts text serial ≡ true
+declared-there sorts cs t sorted h serial R asks =
+    sorted-there sorts cs serial text sorted (its-constant cs t h serial R (asked_looks t serial R asks))
+
+-- a live term speaks of live constants
+term-speaks : (cs : List (ℕ × Sort)) (assertions : List Assertion) (place : ℕ) (t : Term)
+    → list_all (speaks_of cs) (terms_in assertions) ≡ true → slice_get assertions place ≡ Some (asserted t)
+    → speaks_of cs t ≡ true
+term-speaks cs [] place t h there = absurd (omega (arith, slice_get_within [] place (asserted t) there))
+term-speaks cs (asserted u ∷ rest) zero t h there =
+    ap (speaks_of cs) (sym (same-term u t (same-some (asserted u) (asserted t) there)))
+    ∙ (and_parts (speaks_of cs u) (list_all (speaks_of cs) (terms_in rest)) h).0
+term-speaks cs (asserted u ∷ rest) (suc place) t h there =
+    term-speaks cs rest place t (and_parts (speaks_of cs u) (list_all (speaks_of cs) (terms_in rest)) h).1 there
+term-speaks cs (a_mark ∷ rest) zero t h there = absurd (cc (there))
+term-speaks cs (a_mark ∷ rest) (suc place) t h there = term-speaks cs rest place t h there
 
 -- What a decided assertion about one constant is.
 
@@ -318,12 +345,10 @@ never-none apart assertions serial z place t R found rs p stands asks number non
     has-literal apart rs t serial p.regex found is (its-decision assertions serial place t p stands)
     (subst (λ Q. IsNumberOf rs Q found) (same-expression (brought.asked t) z serial R p.regex asks is) number) none
 
-pub is-live : (asked : Asked) (n place : ℕ) (t : Term) (level : ℕ) → asked.sorts ≡ texts n
-    → slice_get asked.live place ≡ Some (Some t, level) → has_serials_below n t ≡ true → IsLive asked place t level
-is-live asked n place t level sorts there below = record {
-  live = there;
-  declared = λ serial R asks. ap (λ ss. is_declared ss text serial) sorts ∙ declared-there n t below serial R asks;
-}
+pub is-live : (asked : Asked) (place : ℕ) (t : Term) (level : ℕ) → slice_get asked.live place ≡ Some (Some t, level)
+    → ((serial : ℕ) (R : Term) → brought.asked t ≡ Some (serial, R) → is_declared asked.sorts text serial ≡ true)
+    → IsLive asked place t level
+is-live asked place t level there declared = record { live = there; declared = declared }
 
 pub some-pair : {X Y : Type 0} (o : Option X) (a : Option Y) (y : Y) (Q : X → Type 0) → MatchOption o (a ≡ None) Q
     → a ≡ Some y → is_some o ≡ true
@@ -358,19 +383,13 @@ pub no-mark : (ts : List Term) (rows : List code.Assertion) (assertions : List A
 no-mark ts rows assertions place t d same h none =
     mark-asserted t (sym (ap (assertion_of ts) none) ∙ row-at ts rows assertions place t d same h)
 
-all-at : (test : Term → Bool) (ts : List Term) (id : ℕ) → id < length ts → list_all test ts ≡ true
-    → test (term_at ts id) ≡ true
-all-at test [] id l h = absurd (omega (arith, l))
-all-at test (t ∷ ts) zero l h = (and_parts (test t) (list_all test ts) h).0
-all-at test (t ∷ ts) (suc id) l h =
-    all-at test ts id (omega (arith, l)) (and_parts (test t) (list_all test ts) h).1
-
 pub stands-there : (s : Stacked) (place id : ℕ) (rows : List code.Assertion) (t : Term) (d : code.Assertion)
     → rows ≡ s.assertions → map (assertion_in s.table) rows ≡ live (state_of s)
-    → All (HasNumberBelow (length s.table)) s.assertions → all_below s.scope.declared s.table ≡ true
+    → All (HasNumberBelow (length s.table)) s.assertions → list_all (speaks_of (live_constants s)) (live_terms (state_of s)) ≡ true
+    → are_sorted (state_of s).sorts (live_constants s) ≡ true
     → have_levels s.levels s.assertions ≡ true → slice_get (live (state_of s)) place ≡ Some (asserted t)
     → (get_or rows place d).term ≡ Some id → Stands s place id (get_or rows place d).level
-stands-there s place id rows t d value same numbers below levels there some =
+stands-there s place id rows t d value same numbers named sorted levels there some =
     record {
       known = known;
       stands = stands;
@@ -378,7 +397,8 @@ stands-there s place id rows t d value same numbers below levels there some =
           ∙ ap (option_map (row_of s.table)) (slice_get-get_or s.assertions place d within)
           ∙ ap₂ (λ o n. Some (option_map (term_at s.table) o, n)) its
           (ap (λ (xs : List code.Assertion). (get_or xs place d).level) (sym value));
-      declared = all-at (has_serials_below s.scope.declared) s.table id known below;
+      declared = declared-there (state_of s).sorts (live_constants s) (term_at s.table id) sorted
+          (term-speaks (live_constants s) (live (state_of s)) place (term_at s.table id) named stands);
     }
   where
     within : place < length s.assertions

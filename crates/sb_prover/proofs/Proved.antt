@@ -15,7 +15,7 @@ use Rattle.sb_rulebook.specs.Verdicts.{Question, refusal_of}
 use Rattle.sb_rulebook.specs.Judging.{Progress}
 use Rattle.sb_rulebook.specs.Accepted.{question_in, asked_in}
 use Rattle.sb_proof.specs.Tapes.{with_bytes}
-use Rattle.sb_stack.specs.Stacked.{Stacked, state_of, live_serials, values_at}
+use Rattle.sb_stack.specs.Stacked.{Stacked, state_of, live_constants, values_at}
 use Rattle.sb_atoms.specs.Numbered.{HaveRegexesBelow}
 use Rattle.sb_trace.specs.Tracking.{Traced, Tracks}
 use Rattle.sb_trace.specs.Putting.{Puts}
@@ -25,7 +25,7 @@ use Rattle.sb_refute.specs.Backing.{Backing, Backs}
 use Rattle.sb_refute.specs.declared.refute.Refuted.TheVariants as refuted
 use Rattle.sb_script.specs.Fragment.{in_fragment}
 use Rattle.sb_prover.specs.Proving.{Proving, IsAbreast, IsProved}
-use Rattle.sb_prover.specs.Saying.{first_lines, value_at, Tells, IsSaid, IsRefuted}
+use Rattle.sb_prover.specs.Saying.{first_lines, said_value, Tells, IsSaid, IsRefuted}
 use Rattle.sb_prover.proofs.LinesTaken.{verdict-said, tells-both, tells-one}
 use Rattle.sb_prover.proofs.Sayings.{unsat-right, unknown-right, unsupported-right}
 use Rattle.sb_prover.proofs.Formats.{format-stays}
@@ -51,9 +51,6 @@ backs-again rs memo e kept h = record {
   atoms = h.atoms;
   clauses = h.clauses;
   asserted = h.asserted;
-  denied = h.denied;
-  refuted = h.refuted;
-  known = h.known;
 }
 
 pub said-proved : (q : Question) (v : Verdict) (before : Progress) (reached : AllKept) (rs : List Regex) (memo : Memo)
@@ -90,18 +87,19 @@ alone law one many q said v before rs memo p old begun new h told spelled right 
     right says told-last)
     h.backs h.format h.regexes
 
-pub sat-proved : TextIsRead → TextIsOneLine → TextsAreLines → (s : Stacked) (words : List (List ℕ)) (said : Said)
+pub sat-proved : TextIsRead → TextIsOneLine → TextsAreLines → (s : Stacked) (words : List (List ℕ)) (truths : List Bool)
+    (said : Said)
     (before : Progress) (rs : List Regex) (memo : Memo) (p : Proving) (old begun new : Option (List ℕ))
-    → IsVerdict (state_of s) [] (is_sat (values_at (live_serials s) words))
-    → said ≡ said_sat (map (value_at words) (live_serials s))
+    → IsVerdict (state_of s) [] (is_sat (values_at (live_constants s) words truths))
+    → said ≡ said_sat (map (said_value words truths) (live_constants s))
     → IsAbreast rs memo p before → Tells (first_lines p.begun) old begun
     → new ≡ with_bytes (line (text_of (verdict_line said))) begun
-    → IsProved (question_in (state_of s) []) (is_sat (values_at (live_serials s) words)) before rs memo
+    → IsProved (question_in (state_of s) []) (is_sat (values_at (live_constants s) words truths)) before rs memo
     (record p { begun = true }) old new
-sat-proved law one many s words said before rs memo p old begun new verdict is h told told-last =
-    let right = sat-said s words verdict.0 verdict.1.model in
-    let values = values_at (live_serials s) words in
-    alone law one many (question_in (state_of s) []) (said_sat (map (value_at words) (live_serials s))) (is_sat values)
+sat-proved law one many s words truths said before rs memo p old begun new verdict is h told told-last =
+    let right = sat-said s words truths verdict.0 verdict.1.model in
+    let values = values_at (live_constants s) words truths in
+    alone law one many (question_in (state_of s) []) (said_sat (map (said_value words truths) (live_constants s))) (is_sat values)
     before rs memo p old begun new h told right.small (right.right before.kept) (values, right.valued_as, refl)
     (told-last ∙ ap (λ said. with_bytes (line (text_of (verdict_line said))) begun) is)
 

@@ -1,5 +1,5 @@
 -- What became of a refutation, and what the lines that were put for it say.
-use Rattle.std.proofs.Common.{◌≡◌, ℕ, ◌^◌, ◌-◌, List, Option, Some, None, option_map, refl, sym, ap, ◌∙◌}
+use Rattle.std.proofs.Common.{◌≡◌, ℕ, ◌^◌, ◌-◌, List, Option, Some, refl, sym, ap, ◌∙◌}
 use Rattle.sb_lang.specs.Regex.{Regex}
 use Rattle.sb_lit.specs.Budgets.{Spending}
 use Rattle.sb_lit.specs.declared.clause.ClauseId.{ClauseId}
@@ -9,50 +9,36 @@ use Rattle.sb_rulebook.specs.Accepted.{asked_in}
 use Rattle.sb_stack.specs.Stacked.{Stacked, state_of}
 use Rattle.sb_trace.specs.Putting.{IsCounted}
 use Rattle.sb_trace.proofs.CallerLemmas.{puts_none}
-use Rattle.sb_lit.specs.Kept.{kept_at}
+use Rattle.sb_lit.specs.Kept.{Kept, kept_at}
 use Rattle.sb_refute.specs.declared.evidence.EmptyClause.{EmptyClause}
-use Rattle.sb_refute.specs.Backing.{Backing, Backs, Evidences}
-use Rattle.sb_refute.specs.Refuting.{IsRefutation}
+use Rattle.sb_refute.specs.Backing.{Backing, Backs, Evidences, empty_at}
+use Rattle.sb_refute.specs.Refuting.{IsEmptyAt, IsRefutation}
 use Rattle.sb_refute.specs.declared.refute.Refuted.{Refuted}
 use Rattle.sb_refute.specs.declared.refute.Refuted.TheVariants as refuted
 use Rattle.sb_prover.specs.Saying.{IsRefuted, SaysRefuted}
 
 -- the empty clause is kept
 says-kept : (asked : Asked) (kept : AllKept) (rs : List Regex) (memo : Memo) (e : Backing) (id : ClauseId)
-    → Backs rs memo e kept → option_map (λ (c : EmptyClause). c.clause) e.refuted ≡ Some id
-    → SaysRefuted asked kept (refuted.Clause id)
-says-kept asked kept rs memo e id backs is = step e.refuted refl is
-  where
-    same-some : (c d : ClauseId) → Some c ≡ Some d → c ≡ d
-    same-some c d h = cc
-
-    none-some : (c : ClauseId) → None ≡ Some c → ⊥
-    none-some c h = cc
-
-    step : (o : Option EmptyClause) → e.refuted ≡ o → option_map (λ (c : EmptyClause). c.clause) o ≡ Some id
-        → SaysRefuted asked kept (refuted.Clause id)
-    step None at h = absurd (none-some id h)
-    step (Some c) at h = (
-      c.level,
-      ap (λ (i : ClauseId). kept_at kept.clauses i.0) (sym (same-some c.clause id h)) ∙ backs.refuted c at,
-    )
+    → Backs rs memo e kept → IsEmptyAt e.kept id.0 → SaysRefuted asked kept (refuted.Clause id)
+says-kept asked kept rs memo e id backs is =
+    (is.0, ap (λ (clauses : Kept). kept_at clauses id.0) backs.clauses ∙ is.1)
 
 -- The empty clause is kept already: no line is put.
 pub refuted-again : (s : Stacked) (before : AllKept) (rs : List Regex) (memo : Memo) (e : Backing) (c : EmptyClause)
-    (told : Option (List ℕ)) → Backs rs memo e before → e.refuted ≡ Some c
+    (told : Option (List ℕ)) → Backs rs memo e before → kept_at e.kept c.clause.0 ≡ Some (empty_at c)
     → IsRefuted (asked_in (state_of s)) before rs memo e (refuted.Clause c.clause) told told
 refuted-again s before rs memo e c told backs is = record {
   after = before;
   puts = puts_none (asked_in (state_of s)) before told;
   backs = backs;
-  says = (c.level, backs.refuted c is);
+  says = says-kept (asked_in (state_of s)) before rs memo e c.clause backs (c.level, is);
 }
 
 says-refuted : (asked : Asked) (after : AllKept) (rs : List Regex) (memo : Memo) (e : Backing) (budget : Spending)
     (r : Refuted) → most_counted asked ≡ 2 ^ 64 - 1 → Backs rs memo e after → IsCounted asked after budget
     → IsRefutation e budget r → SaysRefuted asked after r
 says-refuted asked after rs memo e budget (refuted.Clause id) limit backs counts is =
-    says-kept asked after rs memo e id backs is
+    says-kept asked after rs memo e id backs is.1
 says-refuted asked after rs memo e budget refuted.Spent limit backs counts is =
     (limit, counts.spent ∙ is ∙ sym counts.limit ∙ limit)
 

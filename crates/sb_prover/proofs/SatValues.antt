@@ -17,25 +17,26 @@ use Rattle.sb_rulebook.specs.LineLaws.{is_small, are_small, is_small_value, said
 use Rattle.sb_rulebook.specs.Kept.{AllKept}
 use Rattle.sb_rulebook.specs.Verdicts.{Question, valued, assertion_holds, is_model_of, refusal_of, unless_wrong}
 use Rattle.sb_rulebook.specs.Accepted.{term_of, asked_in, question_in}
-use Rattle.sb_stack.specs.Stacked.{Stacked, live_serials, values_at, state_of}
-use Rattle.sb_prover.specs.Saying.{value_at}
+use Rattle.sb_stack.specs.Stacked.{Stacked, live_constants, value_at, values_at, state_of}
+use Rattle.sb_prover.specs.Saying.{said_value}
 use Rattle.sb_prover.proofs.LiveLevels.{Row, terms-by-level}
 
 same-number : (m n : ℕ) → (m == n) ≡ true → m ≡ n
 same-number m n h = grind (arith, nat_tests, h)
 
 -- values that fit the constants are theirs, in order
-valued-words : (cs : List Constant) (serials : List ℕ) (words : List (List ℕ))
-    → fits cs (values_at serials words) ≡ true
-    → valued cs (map (value_at words) serials) ≡ Some (values_at serials words)
-valued-words [] [] words h = refl
-valued-words [] (n ∷ ns) words h = absurd (false≢true h)
-valued-words (c ∷ cs) [] words h = absurd (false≢true h)
-valued-words (c ∷ cs) (n ∷ ns) words h =
-    let parts = and_parts ((c.serial == n) && is_of c.sort (value_at words n)) (fits cs (values_at ns words)) h in
-    ap (option_map (λ v. (c.serial, value_at words n) ∷ v)) (valued-words cs ns words parts.1)
-    ∙ ap (λ serial. Some ((serial, value_at words n) ∷ values_at ns words))
-    (same-number c.serial n (and_parts (c.serial == n) (is_of c.sort (value_at words n)) parts.0).0)
+valued-given : (cs : List Constant) (ds : List (ℕ × Sort)) (words : List (List ℕ)) (truths : List Bool)
+    → fits cs (values_at ds words truths) ≡ true
+    → valued cs (map (said_value words truths) ds) ≡ Some (values_at ds words truths)
+valued-given [] [] words truths h = refl
+valued-given [] (d ∷ ds) words truths h = absurd (false≢true h)
+valued-given (c ∷ cs) [] words truths h = absurd (false≢true h)
+valued-given (c ∷ cs) (d ∷ ds) words truths h =
+    let value = said_value words truths d in
+    let parts = and_parts ((c.serial == d.0) && is_of c.sort value) (fits cs (values_at ds words truths)) h in
+    ap (option_map (λ v. (c.serial, value) ∷ v)) (valued-given cs ds words truths parts.1)
+    ∙ ap (λ serial. Some ((serial, value) ∷ values_at ds words truths))
+    (same-number c.serial d.0 (and_parts (c.serial == d.0) (is_of c.sort value) parts.0).0)
 
 -- their characters have a text
 small-character : (c : ℕ) → is_character c ≡ true → is_small c ≡ true
@@ -53,17 +54,25 @@ small-text integer w h = absurd (false≢true h)
 small-text boolean w h = absurd (false≢true h)
 small-text reglan w h = absurd (false≢true h)
 
-small-values : (cs : List Constant) (serials : List ℕ) (words : List (List ℕ))
-    → fits cs (values_at serials words) ≡ true → list_all is_small_value (map (value_at words) serials) ≡ true
-small-values [] [] words h = refl
-small-values [] (n ∷ ns) words h = absurd (false≢true h)
-small-values (c ∷ cs) [] words h = absurd (false≢true h)
-small-values (c ∷ cs) (n ∷ ns) words h =
-    let word = get_or words n [] in
-    let parts = and_parts ((c.serial == n) && is_of c.sort (Text word)) (fits cs (values_at ns words)) h in
-    and_from (are_small word) (list_all is_small_value (map (value_at words) ns))
-    (small-text c.sort word (and_parts (c.serial == n) (is_of c.sort (Text word)) parts.0).1)
-    (small-values cs ns words parts.1)
+small-value : (sort : Sort) (words : List (List ℕ)) (truths : List Bool) (n : ℕ) (kind : Sort)
+    → is_of sort (value_at words truths n kind) ≡ true → is_small_value (value_at words truths n kind) ≡ true
+small-value sort words truths n boolean h = refl
+small-value sort words truths n integer h = refl
+small-value sort words truths n text h = small-text sort (get_or words n []) h
+small-value sort words truths n reglan h = small-text sort (get_or words n []) h
+
+small-values : (cs : List Constant) (ds : List (ℕ × Sort)) (words : List (List ℕ)) (truths : List Bool)
+    → fits cs (values_at ds words truths) ≡ true
+    → list_all is_small_value (map (said_value words truths) ds) ≡ true
+small-values [] [] words truths h = refl
+small-values [] (d ∷ ds) words truths h = absurd (false≢true h)
+small-values (c ∷ cs) [] words truths h = absurd (false≢true h)
+small-values (c ∷ cs) (d ∷ ds) words truths h =
+    let value = said_value words truths d in
+    let parts = and_parts ((c.serial == d.0) && is_of c.sort value) (fits cs (values_at ds words truths)) h in
+    and_from (is_small_value value) (list_all is_small_value (map (said_value words truths) ds))
+    (small-value c.sort words truths d.0 d.1 (and_parts (c.serial == d.0) (is_of c.sort value) parts.0).1)
+    (small-values cs ds words truths parts.1)
 
 -- assertions without marks are true where their terms are
 assertions-hold : (v : Valuation) (ts : List Assertion) → are_inside ts ≡ true → all_hold (terms_in ts) v ≡ true
@@ -86,35 +95,37 @@ inside-parts : (s : State) → in_fragment s ≡ true → are_inside (live s) �
 inside-parts s h = (and_parts (not (is_brought proofs) || are_in_fragment (live s)) (are_inside (live s)) h).1
 
 -- What makes a model's values right, and their text.
-pub record AreSaid (stack : Stacked) (words : List (List ℕ)) : Type 0 where
-  pub valued_as : valued (constants_of (state_of stack)) (map (value_at words) (live_serials stack))
-      ≡ Some (values_at (live_serials stack) words)
-  pub small : said_has_text (said_sat (map (value_at words) (live_serials stack))) ≡ true
+pub record AreSaid (stack : Stacked) (words : List (List ℕ)) (truths : List Bool) : Type 0 where
+  pub valued_as : valued (constants_of (state_of stack)) (map (said_value words truths) (live_constants stack))
+      ≡ Some (values_at (live_constants stack) words truths)
+  pub small : said_has_text (said_sat (map (said_value words truths) (live_constants stack))) ≡ true
   pub right : (kept : AllKept)
-      → refusal_of (question_in (state_of stack) []) kept (said_sat (map (value_at words) (live_serials stack))) ≡ None
+      → refusal_of (question_in (state_of stack) []) kept
+      (said_sat (map (said_value words truths) (live_constants stack))) ≡ None
 
-pub sat-said : (stack : Stacked) (words : List (List ℕ)) → in_fragment (state_of stack) ≡ true
-    → is_model (state_of stack) [] (values_at (live_serials stack) words) ≡ true → AreSaid stack words
-sat-said stack words inside model = record {
-  valued_as = valued-words (constants_of s) serials words parts.0;
-  small = small-values (constants_of s) serials words parts.0;
+pub sat-said : (stack : Stacked) (words : List (List ℕ)) (truths : List Bool) → in_fragment (state_of stack) ≡ true
+    → is_model (state_of stack) [] (values_at (live_constants stack) words truths) ≡ true
+    → AreSaid stack words truths
+sat-said stack words truths inside model = record {
+  valued_as = valued-given (constants_of s) ds words truths parts.0;
+  small = small-values (constants_of s) ds words truths parts.0;
   right = λ kept. ap₂ (λ b c. unless_wrong (b && c)) inside
       (ap (λ o. elim o as (λ _. Bool) [ None ↦ false | Some v ↦ is_model_of q v ])
-      (valued-words (constants_of s) serials words parts.0)
-      ∙ and_from (fits (constants_of s) (values_at serials words)) _ parts.0
-      (and_from _ true (live-hold (values_at serials words) s (inside-parts s inside) parts.1) refl));
+      (valued-given (constants_of s) ds words truths parts.0)
+      ∙ and_from (fits (constants_of s) (values_at ds words truths)) _ parts.0
+      (and_from _ true (live-hold (values_at ds words truths) s (inside-parts s inside) parts.1) refl));
 }
   where
     s : State
     s = state_of stack
 
-    serials : List ℕ
-    serials = live_serials stack
+    ds : List (ℕ × Sort)
+    ds = live_constants stack
 
     q : Question
     q = question_in s []
 
-    parts : (fits (constants_of s) (values_at serials words) ≡ true)
-        × (all_hold (terms_in (live s)) (values_at serials words) ≡ true)
-    parts = and_parts (fits (constants_of s) (values_at serials words))
-        (all_hold (terms_in (live s)) (values_at serials words)) model
+    parts : (fits (constants_of s) (values_at ds words truths) ≡ true)
+        × (all_hold (terms_in (live s)) (values_at ds words truths) ≡ true)
+    parts = and_parts (fits (constants_of s) (values_at ds words truths))
+        (all_hold (terms_in (live s)) (values_at ds words truths)) model

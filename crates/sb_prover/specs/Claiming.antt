@@ -4,13 +4,13 @@ use Rattle.std.specs.List.{All}
 use Rattle.sb_lang.specs.Regex.{Regex}
 use Rattle.sb_regex.specs.Numbered.{Extends}
 use Rattle.sb_deriv.specs.Faithful.{Memo}
-use Rattle.sb_meaning.specs.Terms.{Term}
+use Rattle.sb_meaning.specs.Terms.{Term, text}
 use Rattle.sb_problem.specs.Normals.{IsRegexOf}
 use Rattle.sb_script.specs.Brought as brought
 use Rattle.sb_script.specs.State.{Assertion, asserted, live}
 use Rattle.sb_stack.specs.Stacked.{Stacked, state_of}
 use Rattle.sb_term.specs.Numbered.{term_at}
-use Rattle.sb_term.specs.Serials.{has_serials_below}
+use Rattle.sb_rulebook.specs.AtomRules.{is_declared}
 use Rattle.sb_rulebook.specs.Accepted.{asked_in}
 use Rattle.sb_rulebook.specs.Kept.{AllKept, Asked}
 use Rattle.sb_atoms.specs.Numbered as numbered
@@ -27,12 +27,14 @@ IsMember assertions place = (serial : ℕ) × IsPlaceOf assertions serial place
 abbrev pub AreMembers : List Assertion → List ℕ → Type 0
 AreMembers assertions places = (serial : ℕ) × All (IsPlaceOf assertions serial) places
 
--- The number is of the term that is asserted at the place, on this level, and whose constants are declared.
+-- The number is of the term that is asserted at the place, on this level; the constant of whose word it asks something
+-- is declared.
 pub record Stands (s : Stacked) (place id level : ℕ) : Type 0 where
   pub known : id < length s.table
   pub stands : slice_get (live (state_of s)) place ≡ Some (asserted (term_at s.table id))
   pub there : slice_get (asked_in (state_of s)).live place ≡ Some (Some (term_at s.table id), level)
-  pub declared : has_serials_below s.scope.declared (term_at s.table id) ≡ true
+  pub declared : (serial : ℕ) (R : Term) → brought.asked (term_at s.table id) ≡ Some (serial, R)
+      → is_declared (state_of s).sorts text serial ≡ true
 
 -- The assertion at the place asks for a word of the constant in a regular expression, and its atom in the proof is the
 -- membership in the normal regex of that.

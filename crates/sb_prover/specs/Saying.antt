@@ -1,6 +1,8 @@
 -- Private: the lines that a verdict has, and what they prove.
-use Rattle.std.specs.Prelude.{◌≡◌, ℕ, ◌^◌, ◌-◌, Some, Bool, true, if◌then◌else◌, List, [], ◌∷◌, map, get_or, Option}
-use Rattle.sb_meaning.specs.Values.{Value, Text}
+use Rattle.std.specs.Prelude.{◌≡◌, ℕ, ◌^◌, ◌-◌, Some, Bool, true, if◌then◌else◌, List, [], ◌∷◌, map, Option}
+use Rattle.sb_meaning.specs.Terms.{Sort}
+use Rattle.sb_meaning.specs.Values.{Value}
+use Rattle.sb_stack.specs.Stacked.{value_at}
 use Rattle.sb_script.specs.Verdicts.{Verdict}
 use Rattle.sb_rulebook.specs.Brought.{newest_format}
 use Rattle.sb_rulebook.specs.Lines.{Line, header_line, text_of}
@@ -26,9 +28,9 @@ first_lines begun = if begun then [] else header_line newest_format ∷ []
 abbrev pub Tells : List Line → Option (List ℕ) → Option (List ℕ) → Type 0
 Tells ls old new = new ≡ with_bytes (bytes_of (map text_of ls)) old
 
--- the value of the constant of a serial: the word that stands there, past the last one the empty word
-abbrev pub value_at : List (List ℕ) → ℕ → Value
-value_at words n = Text (get_or words n [])
+-- the value of a constant, by its serial and sort
+abbrev pub said_value : List (List ℕ) → List Bool → ℕ × Sort → Value
+said_value words truths c = value_at words truths c.0 c.1
 
 -- Lines were put that prove a verdict, and their reader keeps this behind them.
 pub record IsSaid (q : Question) (v : Verdict) (before : Progress) (reached : AllKept) (old new : Option (List ℕ)) :

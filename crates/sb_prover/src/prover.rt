@@ -12,7 +12,7 @@ ghost use Rattle.sb_rulebook.specs.LineLaws.{bytes_of};
 ghost use Rattle.sb_rulebook.specs.Lines.{text_of};
 ghost use Rattle.sb_certified.specs.Certified.{last_lines};
 ghost use Rattle.sb_proof.specs.Tapes.{with_bytes};
-ghost use Rattle.sb_stack.specs.Stacked.{Stacked, state_of, live_serials, values_at};
+ghost use Rattle.sb_stack.specs.Stacked.{Stacked, state_of, live_constants, values_at};
 ghost use Rattle.sb_stack.specs.Steps.{verdict_in, found};
 ghost use Rattle.sb_stack.specs.declared.verdict.Verdict.TheVariants as verdicts;
 ghost use Rattle.sb_trace.specs.Putting.{CountsTapeFault};
@@ -80,15 +80,15 @@ impl Prover {
         tape: &mut L,
     ) -> Result<Verdict, TapeFault>
         requires knows { Knows decider.old (found verdict stack.now) }
-        requires verdict { IsVerdict (state_of stack.now) [] (verdict_in (live_serials stack.now) verdict) }
+        requires verdict { IsVerdict (state_of stack.now) [] (verdict_in (live_constants stack.now) verdict) }
         requires decided { IsDecision verdict decider.old }
         requires regexes { HaveRegexesBelow (length decider.old.arena) self.old.evidence.atoms }
         ensures proves { IfOk result (λ v. (before : Progress)
             → IsAbreast decider.old.arena decider.old.graph.memo self.old before
-            → IsProved (question_in (state_of stack.now) []) (verdict_in (live_serials stack.now) v) before
+            → IsProved (question_in (state_of stack.now) []) (verdict_in (live_constants stack.now) v) before
             decider.new.arena decider.new.graph.memo self.new (L.Tape.told tape.old) (L.Tape.told tape.new)) }
         ensures verdict { IfOk result
-            (λ v. IsVerdict (state_of stack.now) [] (verdict_in (live_serials stack.now) v)) }
+            (λ v. IsVerdict (state_of stack.now) [] (verdict_in (live_constants stack.now) v)) }
         ensures regexes { OnOk result (HaveRegexesBelow (length decider.new.arena) self.new.evidence.atoms) }
         ensures knows { IfOk result (λ v. Knows decider.new (found v stack.now)) }
         ensures levels { OnOk result (HaveLevels (asked_in (state_of stack.now)).live self.old.evidence
@@ -96,9 +96,9 @@ impl Prover {
         ensures counts { CountsTapeFault result (L.Tape.faults tape.old) (L.Tape.faults tape.new) }
     {
         match verdict {
-            Verdict::Sat(words) => {
-                self.prove_sat(stack, &words, tape)?;
-                Ok(Verdict::Sat(words))
+            Verdict::Sat { words, truths } => {
+                self.prove_sat(stack, &words, &truths, tape)?;
+                Ok(Verdict::Sat { words, truths })
             }
             Verdict::Unsat => self.prove_unsat(decider, stack, tape),
             Verdict::Unknown => unreachable!(),
@@ -152,19 +152,20 @@ impl Prover {
         Ok(())
     }
 
-    /// Puts the lines of a check whose live assertions are true for these words, the one of each live constant at its
-    /// serial.
+    /// Puts the lines of a check whose live assertions are true for these words and truth values, the one of each live
+    /// constant at its serial.
     fn prove_sat<L: Tape>(
         &mut self,
         stack: &Stack,
         words: &[Word],
+        truths: &[bool],
         tape: &mut L,
     ) -> Result<(), TapeFault>
         ensures proves { OnOk result ((rs : List Regex) (memo : Memo) (before : Progress)
-            → IsVerdict (state_of stack.now) [] (is_sat (values_at (live_serials stack.now) words.now))
+            → IsVerdict (state_of stack.now) [] (is_sat (values_at (live_constants stack.now) words.now truths.now))
             → IsAbreast rs memo self.old before
-            → IsProved (question_in (state_of stack.now) []) (is_sat (values_at (live_serials stack.now) words.now))
-            before rs memo self.new (L.Tape.told tape.old) (L.Tape.told tape.new)) }
+            → IsProved (question_in (state_of stack.now) [])
+            (is_sat (values_at (live_constants stack.now) words.now truths.now)) before rs memo self.new (L.Tape.told tape.old) (L.Tape.told tape.new)) }
         ensures evidence { OnOk result (self.new.evidence ≡ self.old.evidence) }
         ensures counts { CountsTapeFault result (L.Tape.faults tape.old) (L.Tape.faults tape.new) }
     {
@@ -172,8 +173,8 @@ impl Prover {
         text_is_one_line();
         texts_are_lines();
         self.begin(tape)?;
-        let serials = stack.constants()?;
-        let values = values_of(self.alloc, &serials, words)?;
+        let constants = stack.constants()?;
+        let values = values_of(self.alloc, &constants, words, truths)?;
         say(Said::Sat(values), tape)?;
         Ok(())
     }
@@ -208,10 +209,10 @@ impl Prover {
         requires regexes { HaveRegexesBelow (length decider.old.arena) self.old.evidence.atoms }
         ensures proves { IfOk result (λ v. (before : Progress)
             → IsAbreast decider.old.arena decider.old.graph.memo self.old before
-            → IsProved (question_in (state_of stack.now) []) (verdict_in (live_serials stack.now) v) before
+            → IsProved (question_in (state_of stack.now) []) (verdict_in (live_constants stack.now) v) before
             decider.new.arena decider.new.graph.memo self.new (L.Tape.told tape.old) (L.Tape.told tape.new)) }
         ensures verdict { IfOk result
-            (λ v. IsVerdict (state_of stack.now) [] (verdict_in (live_serials stack.now) v)) }
+            (λ v. IsVerdict (state_of stack.now) [] (verdict_in (live_constants stack.now) v)) }
         ensures regexes { OnOk result (HaveRegexesBelow (length decider.new.arena) self.new.evidence.atoms) }
         ensures knows { IfOk result (λ v. Knows decider.new (found v stack.now)) }
         ensures levels { OnOk result (HaveLevels (asked_in (state_of stack.now)).live self.old.evidence

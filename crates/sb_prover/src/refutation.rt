@@ -147,6 +147,7 @@ fn member_at(stack: &Stack, place: usize) -> (TermId, u64)
     requires { IsMember (live (state_of stack.now)) place }
     ensures { Stands stack.now place result.0 result.1 }
 {
+    let _sorts = stack.sorts();
     let assertions = stack.assertions();
     let assertion = &assertions[place];
     let Some(id) = assertion.term else {

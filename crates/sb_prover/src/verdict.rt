@@ -1,16 +1,18 @@
 //! The line of a verdict.
 
-ghost use Rattle.std.specs.Prelude.{◌≡◌, ◌<◌, ◌^◌, map, IfOk, OnOk};
+ghost use Rattle.std.specs.Prelude.{◌≡◌, ◌<◌, ◌^◌, [], false, map, get_or, IfOk, OnOk};
 ghost use Rattle.sb_script.specs.Steps.{line};
 ghost use Rattle.sb_rulebook.specs.Lines.{text_of, verdict_line};
 ghost use Rattle.sb_proof.specs.Lines.{value_in, said_in};
 ghost use Rattle.sb_proof.specs.Tapes.{with_bytes};
 ghost use Rattle.sb_trace.specs.Putting.{CountsTapeFault};
-ghost use Rattle.sb_prover.specs.Saying.{value_at};
+ghost use Rattle.sb_stack.specs.Stacked.{live_in};
+ghost use Rattle.sb_prover.specs.Saying.{said_value};
 
 use sb_lit::ClauseId;
 use sb_proof::{Line, Said, Tape, TapeFault, Value};
-use sb_term::Serial;
+use sb_stack::LiveConstant;
+use sb_term::Sort;
 use sb_word::Word;
 use smallvec::SmallVec;
 use std::alloc::{AllocError, Global};
@@ -33,32 +35,63 @@ pub(crate) fn number_of(id: ClauseId) -> u64
     id.0
 }
 
-/// The values of the constants of these serials, in order, of which each has the word at its serial. Linear in them
-/// and their characters.
+/// The values of these constants, in order: by its sort each has the word or the truth value at its serial. Linear in
+/// them and their characters.
 pub(crate) fn values_of(
     alloc: Global,
-    serials: &[Serial],
+    constants: &[LiveConstant],
     words: &[Word],
+    truths: &[bool],
 ) -> Result<Vec<Value>, AllocError>
     ensures { IfOk result (λ values. map value_in values.items
-        ≡ map (value_at words.now) (map (λ serial. serial.0) serials.now)) }
+        ≡ map (said_value words.now truths.now) (map live_in constants.now)) }
 {
-    let mut values = Vec::with_capacity(alloc, serials.len())?;
-    for serial in serials {
-        values.push(value_of(alloc, words, *serial)?)?;
+    let mut values = Vec::with_capacity(alloc, constants.len())?;
+    for constant in constants {
+        values.push(value_of(alloc, words, truths, *constant)?)?;
     }
     Ok(values)
 }
 
-/// The value of the constant of a serial: the word that stands there, or the empty one past the last.
-fn value_of(alloc: Global, words: &[Word], serial: Serial) -> Result<Value, AllocError>
-    ensures { IfOk result (λ value. value_in value ≡ value_at words.now serial.0) }
+/// The value of a constant.
+fn value_of(
+    alloc: Global,
+    words: &[Word],
+    truths: &[bool],
+    constant: LiveConstant,
+) -> Result<Value, AllocError>
+    ensures { IfOk result (λ value. value_in value ≡ said_value words.now truths.now (live_in constant)) }
 {
-    let characters = match words.get(serial.0 as usize) {
-        Some(word) => characters_of(alloc, word)?,
-        None => SmallVec::new(alloc),
-    };
-    Ok(Value::Text(characters))
+    let place = constant.serial.0 as usize;
+    match constant.sort {
+        Sort::Bool => Ok(Value::Truth(truth_at(truths, place))),
+        Sort::Int => Ok(Value::Int(0)),
+        Sort::String | Sort::RegLan => Ok(Value::Text(characters_at(alloc, words, place)?)),
+    }
+}
+
+/// The truth value at a place, false past the last.
+fn truth_at(truths: &[bool], place: usize) -> bool
+    ensures { result ≡ get_or truths.now place false }
+{
+    match truths.get(place) {
+        Some(truth) => *truth,
+        None => false,
+    }
+}
+
+/// The characters of the word at a place, none past the last.
+fn characters_at(
+    alloc: Global,
+    words: &[Word],
+    place: usize,
+) -> Result<SmallVec<u64, 4>, AllocError>
+    ensures { IfOk result (λ characters. characters.items ≡ get_or words.now place []) }
+{
+    match words.get(place) {
+        Some(word) => characters_of(alloc, word),
+        None => Ok(SmallVec::new(alloc)),
+    }
 }
 
 /// The characters of a word.

@@ -199,12 +199,12 @@ info_got key s h =
 
 -- Declarations.
 
-sort_is_text : (sort : Sort) → is_brought_sort sort ≡ true → (serial : ℕ)
+sort_is_simple : (sort : Sort) → is_brought_sort sort ≡ true → (serial : ℕ)
     → is_simple_named (a_constant serial sort) ≡ true
-sort_is_text text h serial = refl
-sort_is_text boolean h serial = absurd (false≢true h)
-sort_is_text integer h serial = absurd (false≢true h)
-sort_is_text reglan h serial = absurd (false≢true h)
+sort_is_simple text h serial = refl
+sort_is_simple boolean h serial = refl
+sort_is_simple integer h serial = absurd (false≢true h)
+sort_is_simple reglan h serial = absurd (false≢true h)
 
 sort_is_brought : (sort : Form) → if_some is_brought_sort (sort_of_form sort) ≡ true
 sort_is_brought sort = step (symbol_in sort)
@@ -225,7 +225,7 @@ constant_declared name sort s h =
         [ Some sort ↦ succeeds (declared name sort s) | None ↦ is_unsupported (marked name s) ]) ≡ true
     step (Some k) fine =
         named_simple name (a_constant (length s.sorts) k) (record s { sorts = s.sorts ++ k ∷ [] }) h
-        (sort_is_text k fine (length s.sorts))
+        (sort_is_simple k fine (length s.sorts))
     step None fine = named_simple name a_marked_name s h refl
 
 function_declared : (name : Name) (s : State) → is_simple_state s ≡ true

@@ -6,21 +6,21 @@ use Rattle.std.specs.List.{list_all}
 use Rattle.std.proofs.lemmas.Bool.{and_parts, and_from, false≢true}
 use Rattle.sb_word.specs.LiteralWords.{character_of, word_of_literal, first_bad}
 use Rattle.sb_reader.specs.Forms.{Form, Forms, Symbol, QuotedSymbol, Keyword, Numeral, OtherNumber, Words, Group, none, more}
-use Rattle.sb_meaning.specs.Terms.{Sort, boolean, integer, text, reglan, Term, Terms, constant, word, numeral, apply, parameter, no_terms, with_term, terms_of}
+use Rattle.sb_meaning.specs.Terms.{Sort, boolean, integer, text, reglan, Term, Terms, constant, word, numeral, apply, parameter, no_terms, with_term, terms_in, terms_of}
 use Rattle.sb_meaning.specs.Terms as symbol
 use Rattle.sb_meaning.specs.Sorts.{sort_of, is_same_sort, are_sorts}
 use Rattle.sb_script.specs.Names.{Name, is_name, is_reserved, begins_term}
-use Rattle.sb_script.specs.Brought.{a_use_of, is_brought, is_brought_symbol, is_brought_use, is_regex, are_regexes}
+use Rattle.sb_script.specs.Brought.{is_brought_symbol, is_regex, are_regexes}
 use Rattle.sb_script.specs.Pieces.{is_ground, are_ground}
 use Rattle.sb_script.specs.Scopes.{Named, Naming, a_constant, a_definition, a_marked_name, a_term, named}
 use Rattle.sb_script.specs.Symbols.{found_in, symbols_of_theories, is_brought_row, symbol_named, is_indexed, is_left_out}
 use Rattle.sb_script.specs.Faults.{Fault, unknown_symbol, wrong_count, wrong_sort, unsupported, malformed, bad_index, numeral_too_large, bad_literal}
 use Rattle.sb_script.specs.Texts.{read_text}
-use Rattle.sb_script.specs.Heads.{Head, head_constant, head_symbol, head_definition, head_term, head_of, head_of_theory, hexadecimal_digits, character_word, indices_of, are_small_indices, with_indices, without_indices, judged, joined, made, unless, if_used, read_head, applied_to, read_indexed}
+use Rattle.sb_script.specs.Heads.{Head, head_constant, head_symbol, head_definition, head_term, head_of, head_of_theory, hexadecimal_digits, character_word, indices_of, are_small_indices, with_indices, without_indices, judged, joined, made, unless, read_head, applied_to, read_indexed}
 use Rattle.sb_script.specs.Reading.{◌>>=◌, read_name, read_index_list, read_reserved, read, read_list, read_all, read_list_head}
 use Rattle.sb_script.specs.ReadingLaws.{if_read}
-use Rattle.sb_script.proofs.CallerLemmas.{same_sort}
-use Rattle.sb_reached.specs.SimpleStates.{is_plain_text, is_simple, is_simple_named, is_simple_naming}
+use Rattle.sb_script.proofs.CallerLemmas.{same_sort, same_sort_itself, terms_in_of}
+use Rattle.sb_reached.specs.SimpleStates.{is_plain_text, are_alike, is_simple, are_simple, is_simple_named, is_simple_naming}
 
 -- Tables.
 
@@ -100,6 +100,130 @@ by_two k l p f (t ∷ ts) all taken =
     let same = and_parts (is_same_sort k (sort_of t)) (are_sorts (l ∷ []) (map sort_of ts)) taken in
     by_one l (λ terms. p (with_term t terms)) (λ u h. f t u (shallow_of k t here.0 same.0) h) ts here.1 same.1
 
+-- Boolean structure.
+
+each_simple : (ts : List Term) → list_all is_shallow ts ≡ true
+    → list_all (is_same_sort boolean) (map sort_of ts) ≡ true → are_simple (terms_of ts) ≡ true
+each_simple [] all taken = refl
+each_simple (t ∷ ts) all taken =
+    let here = and_parts (is_shallow t) (list_all is_shallow ts) all in
+    let same = and_parts (is_same_sort boolean (sort_of t)) (list_all (is_same_sort boolean) (map sort_of ts)) taken in
+    and_from (is_simple t) (are_simple (terms_of ts)) (shallow_of boolean t here.0 same.0)
+    (each_simple ts here.1 same.1)
+
+-- so many or more of sort Bool
+simple_of_many : (least : ℕ) (p : Terms → Bool) → ((terms : Terms) → are_simple terms ≡ true → p terms ≡ true)
+    → (ts : List Term) → list_all is_shallow ts ≡ true
+    → (if not (nat_le least (length (map sort_of ts))) then Some wrong_count
+    else if not (list_all (is_same_sort boolean) (map sort_of ts)) then Some wrong_sort
+    else if false then Some unsupported
+    else None) ≡ None → p (terms_of ts) ≡ true
+simple_of_many least p f ts all taken =
+    f (terms_of ts) (each_simple ts all
+    (taken_sorts (nat_le least (length (map sort_of ts))) (list_all (is_same_sort boolean) (map sort_of ts)) false taken))
+
+-- of one argument the argument, and of more all of them
+simple_joined : (s : symbol.Symbol) → ((terms : Terms) → are_simple terms ≡ true → is_shallow (apply s terms) ≡ true)
+    → (ts : List Term) → list_all is_shallow ts ≡ true → judged symbol.core_and (map sort_of ts) ≡ None
+    → is_shallow (joined s ts) ≡ true
+simple_joined s f [] all taken = absurd (Prim.cc (taken))
+simple_joined s f (t ∷ []) all taken = (and_parts (is_shallow t) true all).0
+simple_joined s f (t ∷ u ∷ ts) all taken =
+    simple_of_many 1 (λ terms. is_shallow (apply s terms)) f (t ∷ u ∷ ts) all taken
+
+-- a choice of two Bool terms by a third
+choice_simple : (ts : List Term) → list_all is_shallow ts ≡ true → judged symbol.core_ite (map sort_of ts) ≡ None
+    → is_simple (apply symbol.core_ite (terms_of ts)) ≡ true
+choice_simple [] all taken = absurd (Prim.cc (taken))
+choice_simple (c ∷ []) all taken = absurd (Prim.cc (taken))
+choice_simple (c ∷ t ∷ []) all taken = absurd (Prim.cc (taken))
+choice_simple (c ∷ t ∷ u ∷ []) all taken =
+    step (is_same_sort boolean (sort_of c)) refl (is_same_sort (sort_of t) (sort_of u)) refl
+    (is_same_sort boolean (sort_of t)) refl taken
+  where
+    step : (a : Bool) → is_same_sort boolean (sort_of c) ≡ a → (b : Bool) → is_same_sort (sort_of t) (sort_of u) ≡ b
+        → (d : Bool) → is_same_sort boolean (sort_of t) ≡ d
+        → (if not (a && b) then Some wrong_sort else if not d then Some unsupported else None) ≡ None
+        → is_simple (apply symbol.core_ite (terms_of (c ∷ t ∷ u ∷ []))) ≡ true
+    step true e true f true g k =
+        each_simple (c ∷ t ∷ u ∷ []) all
+        (and_from (is_same_sort boolean (sort_of c)) (is_same_sort boolean (sort_of t)
+        && (is_same_sort boolean (sort_of u) && true)) e
+        (and_from (is_same_sort boolean (sort_of t)) (is_same_sort boolean (sort_of u) && true) g
+        (and_from (is_same_sort boolean (sort_of u)) true
+        (subst (λ (k : Sort). is_same_sort k (sort_of u) ≡ true) (same_sort boolean (sort_of t) g) f) refl)))
+    step true e true f false g k = absurd (Prim.cc (k))
+    step true e false f d g k = absurd (Prim.cc (k))
+    step false e b f d g k = absurd (Prim.cc (k))
+choice_simple (c ∷ t ∷ u ∷ v ∷ ts) all taken = step (length (map sort_of (c ∷ t ∷ u ∷ v ∷ ts)) == 3) taken
+  where
+    step : (count : Bool)
+        → (if not count then Some wrong_count else Some wrong_sort) ≡ None
+        → is_simple (apply symbol.core_ite (terms_of (c ∷ t ∷ u ∷ v ∷ ts))) ≡ true
+    step true k = absurd (Prim.cc (k))
+    step false k = absurd (Prim.cc (k))
+
+-- Comparisons.
+
+each_text : (ts : List Term) → list_all is_shallow ts ≡ true → list_all (is_same_sort text) (map sort_of ts) ≡ true
+    → list_all is_plain_text ts ≡ true
+each_text [] all taken = refl
+each_text (t ∷ ts) all taken =
+    let here = and_parts (is_shallow t) (list_all is_shallow ts) all in
+    let same = and_parts (is_same_sort text (sort_of t)) (list_all (is_same_sort text) (map sort_of ts)) taken in
+    and_from (is_plain_text t) (list_all is_plain_text ts) (shallow_of text t here.0 same.0) (each_text ts here.1 same.1)
+
+-- two terms or more that are compared
+alike : (ts : List Term) → list_all is_shallow ts ≡ true → judged symbol.core_equal (map sort_of ts) ≡ None
+    → are_alike ts (are_simple (terms_of ts)) ≡ true
+alike [] all taken = absurd (Prim.cc (taken))
+alike (t ∷ []) all taken = absurd (Prim.cc (taken))
+alike (t ∷ u ∷ ts) all taken =
+    step (sort_of t) refl (list_all (is_same_sort (sort_of t)) (map sort_of (u ∷ ts))) refl
+    (counted (nat_le 2 (length (map sort_of (t ∷ u ∷ ts))))
+    (if not (list_all (is_same_sort (sort_of t)) (map sort_of (u ∷ ts))) then Some wrong_sort
+    else if is_same_sort reglan (sort_of t) then Some unsupported
+    else None) taken)
+  where
+    counted : (count : Bool) (o : Option Fault) → (if not count then Some wrong_count else o) ≡ None → o ≡ None
+    counted true o h = h
+    counted false o h = absurd (Prim.cc (h))
+
+    first_same : (k : Sort) → is_same_sort k k ≡ true
+    first_same = same_sort_itself
+
+    of_all : (k : Sort) → sort_of t ≡ k → list_all (is_same_sort (sort_of t)) (map sort_of (u ∷ ts)) ≡ true
+        → list_all (is_same_sort k) (map sort_of (t ∷ u ∷ ts)) ≡ true
+    of_all k e f =
+        and_from (is_same_sort k (sort_of t)) (list_all (is_same_sort k) (map sort_of (u ∷ ts)))
+        (ap (is_same_sort k) e ∙ first_same k)
+        (ap (λ (s : Sort). list_all (is_same_sort s) (map sort_of (u ∷ ts))) (sym e) ∙ f)
+
+    step : (k : Sort) → sort_of t ≡ k → (b : Bool)
+        → list_all (is_same_sort (sort_of t)) (map sort_of (u ∷ ts)) ≡ b
+        → (if not b then Some wrong_sort else if is_same_sort reglan (sort_of t) then Some unsupported else None) ≡ None
+        → (elim (sort_of t) as (λ _. Bool) [
+          | boolean ↦ are_simple (terms_of (t ∷ u ∷ ts))
+          | integer ↦ false
+          | text ↦ list_all is_plain_text (t ∷ u ∷ ts)
+          | reglan ↦ false
+        ]) ≡ true
+    step boolean e true f k = rw e (each_simple (t ∷ u ∷ ts) all (of_all boolean e f))
+    step text e true f k = rw e (each_text (t ∷ u ∷ ts) all (of_all text e f))
+    step integer e true f k =
+        absurd (false≢true (subst (λ (s : Sort). is_shallow_of s t ≡ true) e
+        (and_parts (is_shallow t) (list_all is_shallow (u ∷ ts)) all).0))
+    step reglan e true f k =
+        absurd (Prim.cc (ap (λ (s : Sort). if is_same_sort reglan s then Some unsupported else None) (sym e) ∙ k))
+    step k e false f h = absurd (Prim.cc (h))
+
+compared_simple : (s : symbol.Symbol)
+    → ((terms : Terms) → is_simple (apply s terms) ≡ are_alike (terms_in terms) (are_simple terms))
+    → (ts : List Term) → list_all is_shallow ts ≡ true → judged symbol.core_equal (map sort_of ts) ≡ None
+    → is_simple (apply s (terms_of ts)) ≡ true
+compared_simple s f ts all taken =
+    f (terms_of ts) ∙ ap (λ us. are_alike us (are_simple (terms_of ts))) (terms_in_of ts) ∙ alike ts all taken
+
 -- Memberships.
 
 simple_of_text : (t R : Term) → is_plain_text t ≡ true → is_plain_regex R ≡ true
@@ -112,14 +236,6 @@ simple_of_text (word w) R h k = refl
 simple_of_text (numeral n) R h k = absurd (false≢true h)
 simple_of_text (apply s terms) R h k = absurd (false≢true h)
 simple_of_text (parameter place sort) R h k = absurd (false≢true h)
-
--- Equalities.
-
--- the sorts of what is compared
-of_two_texts : (sorts : List Sort) → is_brought_use symbol.core_equal sorts ≡ true
-    → are_sorts (text ∷ text ∷ []) sorts ≡ true
-of_two_texts (text ∷ text ∷ []) h = refl
-of_two_texts _ h = absurd (false≢true h)
 
 -- Regular expressions.
 
@@ -201,53 +317,67 @@ difference (t ∷ ts) all taken =
 
 -- Applications.
 
-made_shallow : (s : symbol.Symbol) (ts : List Term) → is_brought_symbol s ≡ true
-    → is_brought_use s (map sort_of ts) ≡ true → list_all is_shallow ts ≡ true
+made_shallow : (s : symbol.Symbol) (ts : List Term) → is_brought_symbol s ≡ true → list_all is_shallow ts ≡ true
     → judged s (map sort_of ts) ≡ None → is_shallow (made s ts) ≡ true
-made_shallow symbol.core_equal ts h used all taken =
-    by_two text text (λ terms. is_simple (apply symbol.core_equal terms))
-    (λ t u k l. and_from (is_plain_text t) (is_plain_text u) k l) ts all (of_two_texts (map sort_of ts) used)
-made_shallow symbol.str_in_re ts h used all taken =
+made_shallow symbol.core_true ts h all taken =
+    by_none (λ terms. is_simple (apply symbol.core_true terms)) refl ts
+    (taken_sorts (0 == length (map sort_of ts)) (are_sorts [] (map sort_of ts)) false taken)
+made_shallow symbol.core_false ts h all taken =
+    by_none (λ terms. is_simple (apply symbol.core_false terms)) refl ts
+    (taken_sorts (0 == length (map sort_of ts)) (are_sorts [] (map sort_of ts)) false taken)
+made_shallow symbol.core_not ts h all taken =
+    by_one boolean (λ terms. is_simple (apply symbol.core_not terms)) (λ t k. and_from (is_simple t) true k refl) ts all
+    (taken_sorts (1 == length (map sort_of ts)) (are_sorts (boolean ∷ []) (map sort_of ts)) false taken)
+made_shallow symbol.core_and ts h all taken = simple_joined symbol.core_and (λ terms k. k) ts all taken
+made_shallow symbol.core_or ts h all taken = simple_joined symbol.core_or (λ terms k. k) ts all taken
+made_shallow symbol.core_implies ts h all taken =
+    simple_of_many 2 (λ terms. is_simple (apply symbol.core_implies terms)) (λ terms k. k) ts all taken
+made_shallow symbol.core_xor ts h all taken =
+    simple_of_many 2 (λ terms. is_simple (apply symbol.core_xor terms)) (λ terms k. k) ts all taken
+made_shallow symbol.core_ite ts h all taken = choice_simple ts all taken
+made_shallow symbol.core_equal ts h all taken = compared_simple symbol.core_equal (λ terms. refl) ts all taken
+made_shallow symbol.core_distinct ts h all taken = compared_simple symbol.core_distinct (λ terms. refl) ts all taken
+made_shallow symbol.str_in_re ts h all taken =
     by_two text reglan (λ terms. is_simple (apply symbol.str_in_re terms)) simple_of_text ts all
     (taken_sorts (2 == length (map sort_of ts)) (are_sorts (text ∷ reglan ∷ []) (map sort_of ts)) false taken)
-made_shallow symbol.str_to_re ts h used all taken =
+made_shallow symbol.str_to_re ts h all taken =
     by_one text (λ terms. is_plain_regex (apply symbol.str_to_re terms)) literal_plain ts all
     (taken_sorts (1 == length (map sort_of ts)) (are_sorts (text ∷ []) (map sort_of ts)) false taken)
-made_shallow symbol.re_range ts h used all taken =
+made_shallow symbol.re_range ts h all taken =
     by_two text text (λ terms. is_plain_regex (apply symbol.re_range terms)) range_plain ts all
     (taken_sorts (2 == length (map sort_of ts)) (are_sorts (text ∷ text ∷ []) (map sort_of ts)) false taken)
-made_shallow symbol.re_none ts h used all taken =
+made_shallow symbol.re_none ts h all taken =
     by_none (λ terms. is_plain_regex (apply symbol.re_none terms)) refl ts
     (taken_sorts (0 == length (map sort_of ts)) (are_sorts [] (map sort_of ts)) false taken)
-made_shallow symbol.re_all ts h used all taken =
+made_shallow symbol.re_all ts h all taken =
     by_none (λ terms. is_plain_regex (apply symbol.re_all terms)) refl ts
     (taken_sorts (0 == length (map sort_of ts)) (are_sorts [] (map sort_of ts)) false taken)
-made_shallow symbol.re_allchar ts h used all taken =
+made_shallow symbol.re_allchar ts h all taken =
     by_none (λ terms. is_plain_regex (apply symbol.re_allchar terms)) refl ts
     (taken_sorts (0 == length (map sort_of ts)) (are_sorts [] (map sort_of ts)) false taken)
-made_shallow symbol.re_opt ts h used all taken =
+made_shallow symbol.re_opt ts h all taken =
     by_one reglan (λ terms. is_plain_regex (apply symbol.re_opt terms)) of_one ts all
     (taken_sorts (1 == length (map sort_of ts)) (are_sorts (reglan ∷ []) (map sort_of ts)) false taken)
-made_shallow symbol.re_comp ts h used all taken =
+made_shallow symbol.re_comp ts h all taken =
     by_one reglan (λ terms. is_plain_regex (apply symbol.re_comp terms)) of_one ts all
     (taken_sorts (1 == length (map sort_of ts)) (are_sorts (reglan ∷ []) (map sort_of ts)) false taken)
-made_shallow (symbol.re_power n) ts h used all taken =
+made_shallow (symbol.re_power n) ts h all taken =
     by_one reglan (λ terms. is_plain_regex (apply (symbol.re_power n) terms)) of_one ts all
     (taken_sorts (1 == length (map sort_of ts)) (are_sorts (reglan ∷ []) (map sort_of ts)) false taken)
-made_shallow (symbol.re_loop n m) ts h used all taken =
+made_shallow (symbol.re_loop n m) ts h all taken =
     by_one reglan (λ terms. is_plain_regex (apply (symbol.re_loop n m) terms)) of_one ts all
     (taken_sorts (1 == length (map sort_of ts)) (are_sorts (reglan ∷ []) (map sort_of ts)) false taken)
-made_shallow symbol.re_star ts h used all taken =
+made_shallow symbol.re_star ts h all taken =
     by_one reglan (λ terms. is_plain_regex (apply symbol.re_star terms)) of_one ts all
     (taken_sorts (1 == length (map sort_of ts)) (are_sorts (reglan ∷ []) (map sort_of ts)) false taken)
-made_shallow symbol.re_plus ts h used all taken =
+made_shallow symbol.re_plus ts h all taken =
     by_one reglan (λ terms. is_plain_regex (apply symbol.re_plus terms)) of_one ts all
     (taken_sorts (1 == length (map sort_of ts)) (are_sorts (reglan ∷ []) (map sort_of ts)) false taken)
-made_shallow symbol.re_concat ts h used all taken = one_or_more symbol.re_concat (λ t terms k. k) ts all taken
-made_shallow symbol.re_union ts h used all taken = one_or_more symbol.re_union (λ t terms k. k) ts all taken
-made_shallow symbol.re_inter ts h used all taken = one_or_more symbol.re_inter (λ t terms k. k) ts all taken
-made_shallow symbol.re_diff ts h used all taken = difference ts all taken
-made_shallow _ ts h used all taken = absurd (false≢true h)
+made_shallow symbol.re_concat ts h all taken = one_or_more symbol.re_concat (λ t terms k. k) ts all taken
+made_shallow symbol.re_union ts h all taken = one_or_more symbol.re_union (λ t terms k. k) ts all taken
+made_shallow symbol.re_inter ts h all taken = one_or_more symbol.re_inter (λ t terms k. k) ts all taken
+made_shallow symbol.re_diff ts h all taken = difference ts all taken
+made_shallow _ ts h all taken = absurd (false≢true h)
 
 -- the symbols of names are brought
 symbol_makes : (name : Name) → if_some is_brought_symbol (symbol_named name) ≡ true
@@ -276,26 +406,19 @@ unless_shallow : (o : Option Fault) (t : Term) → (o ≡ None → is_shallow t 
 unless_shallow None t h = h refl
 unless_shallow (Some fault) t h = refl
 
-used_shallow : (b : Bool) (r : Result Term Fault) → (b ≡ true → if_read is_shallow r ≡ true)
-    → if_read is_shallow (if_used b r) ≡ true
-used_shallow true r h = h refl
-used_shallow false (Ok t) h = refl
-used_shallow false (Err fault) h = refl
-
 applied_shallow : (head : Head) (ts : List Term) → head_shallow head ≡ true → list_all is_shallow ts ≡ true
     → if_read is_shallow (applied_to head ts) ≡ true
 applied_shallow (head_constant serial sort) [] h all = h
 applied_shallow (head_constant serial sort) (t ∷ ts) h all = refl
 applied_shallow (head_symbol s) ts h all =
-    used_shallow (is_brought (a_use_of s (map sort_of ts))) (unless (judged s (map sort_of ts)) (made s ts))
-    (λ used. unless_shallow (judged s (map sort_of ts)) (made s ts) (made_shallow s ts h used all))
+    unless_shallow (judged s (map sort_of ts)) (made s ts) (made_shallow s ts h all)
 applied_shallow (head_definition own body) ts h all = absurd (false≢true h)
 applied_shallow (head_term t) [] h all = h
 applied_shallow (head_term t) (u ∷ us) h all = refl
 
 named_head : (kind : Named) → is_simple_named kind ≡ true → if_read head_shallow (head_of kind) ≡ true
 named_head (a_constant serial text) h = refl
-named_head (a_constant serial boolean) h = absurd (false≢true h)
+named_head (a_constant serial boolean) h = refl
 named_head (a_constant serial integer) h = absurd (false≢true h)
 named_head (a_constant serial reglan) h = absurd (false≢true h)
 named_head (a_definition own body) h = absurd (false≢true h)

@@ -2,7 +2,7 @@
 use Rattle.std.specs.Prelude.{◌≡◌, ℕ, true, false, List, [], ◌∷◌, codes, refl}
 use Rattle.sb_reader.specs.Forms.{Form, Symbol, Words}
 use Rattle.sb_reader.specs.Entries.{Entry, Command}
-use Rattle.sb_meaning.specs.Terms.{Term, boolean, text, constant, word, apply, no_terms, with_term}
+use Rattle.sb_meaning.specs.Terms.{Term, boolean, integer, text, constant, word, numeral, apply, no_terms, with_term}
 use Rattle.sb_meaning.specs.Terms as symbol
 use Rattle.sb_script.specs.State.{State, start, asserted, a_mark, declared, defined, live_terms, with_assertion}
 use Rattle.sb_script.specs.Steps.{answers, leaves, checks, exits}
@@ -37,8 +37,8 @@ member subject =
 abbrev equal : Form → Form → Form
 equal one other = group (Symbol (codes "=") ∷ one ∷ other ∷ [])
 
--- a String constant x, its membership and that of a word, its equality with a word, and a constant and assertions that
--- leave marks
+-- a String constant x, its membership and that of a word, its equality with a word, an equality of truth values, a Bool
+-- constant that is asserted, and an Int constant and an assertion that leave marks
 abbrev reached : State
 reached = behind
     (declare (codes "x") (codes "String")
@@ -47,7 +47,9 @@ reached = behind
     ∷ assert (equal (Words (codes "a")) (Symbol (codes "x")))
     ∷ assert (equal (member (Symbol (codes "x"))) (member (Words (codes "a"))))
     ∷ declare (codes "p") (codes "Bool")
-    ∷ assert (Symbol (codes "p")) ∷ []) start
+    ∷ assert (Symbol (codes "p"))
+    ∷ declare (codes "n") (codes "Int")
+    ∷ assert (Symbol (codes "n")) ∷ []) start
 
 abbrev a_range : Term
 a_range = apply symbol.re_range (with_term (word (codes "a")) (with_term (word (codes "b")) no_terms))
@@ -55,23 +57,38 @@ a_range = apply symbol.re_range (with_term (word (codes "a")) (with_term (word (
 reached_is_simple : is_simple_state reached ≡ true
 reached_is_simple = refl
 
+abbrev in_range : Term → Term
+in_range t = apply symbol.str_in_re (with_term t (with_term a_range no_terms))
+
 all_are_live : live_terms reached
-    ≡ apply symbol.str_in_re (with_term (constant 0 text) (with_term a_range no_terms))
-    ∷ apply symbol.str_in_re (with_term (word (codes "a")) (with_term a_range no_terms))
-    ∷ apply symbol.core_equal (with_term (word (codes "a")) (with_term (constant 0 text) no_terms)) ∷ []
+    ≡ in_range (constant 0 text)
+    ∷ in_range (word (codes "a"))
+    ∷ apply symbol.core_equal (with_term (word (codes "a")) (with_term (constant 0 text) no_terms))
+    ∷ apply symbol.core_equal (with_term (in_range (constant 0 text)) (with_term (in_range (word (codes "a"))) no_terms))
+    ∷ constant 1 boolean ∷ []
 all_are_live = refl
 
 a_mark_more : is_simple_state (with_assertion a_mark reached) ≡ true
 a_mark_more = refl
 
 -- a Bool constant, as a term, among the assertions, and among the names
-a_bool : is_simple (constant 0 boolean) ≡ false
+a_bool : is_simple (constant 0 boolean) ≡ true
 a_bool = refl
 
-another_assertion : is_simple_state (with_assertion (asserted (constant 0 boolean)) reached) ≡ false
+a_bool_asserted : is_simple_state (with_assertion (asserted (constant 0 boolean)) reached) ≡ true
+a_bool_asserted = refl
+
+a_bool_declared : is_simple_state (declared (codes "p") boolean start) ≡ true
+a_bool_declared = refl
+
+-- a numeral, as a term and among the assertions, and an Int constant
+a_numeral : is_simple (numeral 1) ≡ false
+a_numeral = refl
+
+another_assertion : is_simple_state (with_assertion (asserted (numeral 1)) reached) ≡ false
 another_assertion = refl
 
-another_sort : is_simple_state (declared (codes "p") boolean start) ≡ false
+another_sort : is_simple_state (declared (codes "p") integer start) ≡ false
 another_sort = refl
 
 a_definition : is_simple_state (defined (codes "f") [] (word []) start) ≡ false
@@ -114,10 +131,21 @@ of_a_word : is_simple (apply symbol.str_in_re
     (with_term (word []) (with_term (apply symbol.re_comp (with_term a_range no_terms)) no_terms))) ≡ true
 of_a_word = refl
 
--- the negation of a membership
-a_negation : is_simple (apply symbol.core_not
-    (with_term (apply symbol.str_in_re (with_term (word []) (with_term a_range no_terms))) no_terms)) ≡ false
+-- the negation of a membership, and a choice
+a_negation : is_simple (apply symbol.core_not (with_term (in_range (word [])) no_terms)) ≡ true
 a_negation = refl
+
+a_choice : is_simple (apply symbol.core_ite
+    (with_term (constant 0 boolean)
+    (with_term (in_range (constant 1 text)) (with_term (apply symbol.core_true no_terms) no_terms)))) ≡ true
+a_choice = refl
+
+-- a truth value with an argument, and a comparison of one
+a_truth_of_one : is_simple (apply symbol.core_true (with_term (constant 0 boolean) no_terms)) ≡ false
+a_truth_of_one = refl
+
+an_equality_of_one : is_simple (apply symbol.core_equal (with_term (constant 0 boolean) no_terms)) ≡ false
+an_equality_of_one = refl
 
 -- the membership of what is neither a constant nor a word
 a_joined_word : is_simple (apply symbol.str_in_re
@@ -142,16 +170,20 @@ of_two_constants = refl
 of_two_words : is_simple (equality (word []) (word (codes "a"))) ≡ true
 of_two_words = refl
 
--- of what is neither a constant nor a word, of truth values, and of three
+-- of what is neither a constant nor a word, of truth values, of two sorts, and of three
 of_a_joined_word : is_simple (equality (constant 0 text)
     (apply symbol.str_concat (with_term (word []) (with_term (word []) no_terms)))) ≡ false
 of_a_joined_word = refl
 
-of_truth_values : is_simple (equality (of_x a_range) (of_x a_range)) ≡ false
+of_truth_values : is_simple (equality (of_x a_range) (constant 1 boolean)) ≡ true
 of_truth_values = refl
 
-of_three : is_simple (apply symbol.core_equal
-    (with_term (constant 0 text) (with_term (word []) (with_term (word []) no_terms)))) ≡ false
+-- a text and a truth value
+of_two_sorts : is_simple (equality (constant 0 text) (constant 1 boolean)) ≡ false
+of_two_sorts = refl
+
+of_three : is_simple (apply symbol.core_distinct
+    (with_term (constant 0 text) (with_term (word []) (with_term (constant 1 text) no_terms)))) ≡ true
 of_three = refl
 
 -- the membership of an equality

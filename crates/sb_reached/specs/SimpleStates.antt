@@ -1,14 +1,15 @@
--- States whose live assertions are memberships of String constants or of words, or equalities of two of these: each
--- state that a script leads to is one, while no more is brought than `Brought` says.
-use Rattle.std.specs.Prelude.{◌≡◌, Bool, true, false, not, ◌&&◌, ◌||◌, List}
+-- States whose live assertions are Boolean structure over Bool constants, over memberships of String constants or of words,
+-- and over comparisons of these: each state that a script leads to is one, while no more is brought than `Brought` says.
+use Rattle.std.specs.Prelude.{◌≡◌, Bool, true, false, not, ◌&&◌, ◌||◌, List, [], ◌∷◌}
 use Rattle.std.specs.List.{list_all}
 use Rattle.sb_reader.specs.Entries.{Entry}
-use Rattle.sb_meaning.specs.Terms.{Sort, Term, text, constant, word, apply, no_terms, with_term}
+use Rattle.sb_meaning.specs.Terms.{Sort, Symbol, Term, Terms, boolean, integer, text, reglan, constant, word, apply, no_terms, with_term, terms_in}
 use Rattle.sb_meaning.specs.Terms as symbol
+use Rattle.sb_meaning.specs.Sorts.{sort_of}
 use Rattle.sb_script.specs.Brought.{is_regex}
 use Rattle.sb_script.specs.Pieces.{is_ground}
 use Rattle.sb_script.specs.Scopes.{Named, Naming, a_constant, a_marked_name}
-use Rattle.sb_script.specs.State.{State, Level, terms_in, live_terms, start_behind}
+use Rattle.sb_script.specs.State.{State, Level, terms_in as asserted_terms, live_terms, start_behind}
 use Rattle.sb_script.specs.Steps.{Step, answers, leaves, checks, exits}
 use Rattle.sb_script.specs.Replies.{step_of}
 
@@ -18,17 +19,59 @@ is_plain_text (constant serial text) = true
 is_plain_text (word w) = true
 is_plain_text _ = false
 
--- the membership of a String constant in a regular expression over literals, or in one in which constants stand, or the
--- membership of a word, in whatever, or the equality of two that are each a String constant or a word
-abbrev pub is_simple : Term → Bool
-is_simple (apply symbol.str_in_re (with_term (constant serial text) (with_term R no_terms))) =
-    is_regex R || not (is_ground R)
-is_simple (apply symbol.str_in_re (with_term (word w) (with_term R no_terms))) = true
-is_simple (apply symbol.core_equal (with_term t (with_term u no_terms))) = is_plain_text t && is_plain_text u
-is_simple _ = false
+-- Two terms or more that are compared: Bool terms that are simple, as each_is says, or texts that are each a String
+-- constant or a word.
+abbrev pub are_alike : List Term → Bool → Bool
+are_alike [] each_is = false
+are_alike (t ∷ []) each_is = false
+are_alike (t ∷ u ∷ ts) each_is = elim (sort_of t) [
+  | boolean ↦ each_is
+  | integer ↦ false
+  | text ↦ list_all is_plain_text (t ∷ u ∷ ts)
+  | reglan ↦ false
+]
 
--- a String constant, or a mark
+abbrev pub are_none : List Term → Bool
+are_none [] = true
+are_none (t ∷ ts) = false
+
+-- the membership of a String constant in a regular expression over literals, or in one in which constants stand, or the
+-- membership of a word, in whatever
+abbrev pub is_simple_member : List Term → Bool
+is_simple_member (constant serial text ∷ R ∷ []) = is_regex R || not (is_ground R)
+is_simple_member (word w ∷ R ∷ []) = true
+is_simple_member _ = false
+
+-- a symbol that makes a Bool term, with arguments; each_is says that each of them is simple
+abbrev pub is_simple_by : Symbol → List Term → Bool → Bool
+is_simple_by symbol.core_true ts each_is = are_none ts
+is_simple_by symbol.core_false ts each_is = are_none ts
+is_simple_by symbol.core_not ts each_is = each_is
+is_simple_by symbol.core_and ts each_is = each_is
+is_simple_by symbol.core_or ts each_is = each_is
+is_simple_by symbol.core_implies ts each_is = each_is
+is_simple_by symbol.core_xor ts each_is = each_is
+is_simple_by symbol.core_ite ts each_is = each_is
+is_simple_by symbol.core_equal ts each_is = are_alike ts each_is
+is_simple_by symbol.core_distinct ts each_is = are_alike ts each_is
+is_simple_by symbol.str_in_re ts each_is = is_simple_member ts
+is_simple_by _ ts each_is = false
+
+-- Boolean structure over Bool constants, such memberships, and comparisons of texts that are each a String constant or a
+-- word
+abbrev mutual
+  pub is_simple : Term → Bool
+  is_simple (constant serial boolean) = true
+  is_simple (apply s terms) = is_simple_by s (terms_in terms) (are_simple terms)
+  is_simple _ = false
+
+  pub are_simple : Terms → Bool
+  are_simple no_terms = true
+  are_simple (with_term term terms) = is_simple term && are_simple terms
+
+-- a constant of sort Bool or String, or a mark
 abbrev pub is_simple_named : Named → Bool
+is_simple_named (a_constant serial boolean) = true
 is_simple_named (a_constant serial text) = true
 is_simple_named a_marked_name = true
 is_simple_named _ = false
@@ -38,7 +81,7 @@ is_simple_naming n = is_simple_named n.1
 
 -- what its names stand for is simple, and so are its assertions but for marks
 abbrev pub is_simple_level : Level → Bool
-is_simple_level l = list_all is_simple_naming l.names && list_all is_simple (terms_in l.assertions)
+is_simple_level l = list_all is_simple_naming l.names && list_all is_simple (asserted_terms l.assertions)
 
 abbrev pub is_simple_state : State → Bool
 is_simple_state s = is_simple_level s.first && list_all is_simple_level s.above

@@ -12,8 +12,8 @@ pub fn entries_stay_simple()
     ensures { EntriesStaySimple }
 {}
 
-/// Where everything in a state is simple its live terms are memberships of String constants or of words, or equalities
-/// of two of these.
+/// Where everything in a state is simple its live terms are Boolean structure over Bool constants, over memberships of
+/// String constants or of words, and over comparisons of these.
 pub fn live_are_simple()
     ensures { LiveAreSimple }
 {}

@@ -31,9 +31,8 @@ use Rattle.sb_atoms.specs.Numbered.{Names, IsWith, AreDistinct, Extends, over, a
 use Rattle.sb_atoms.specs.Translated.{member_translation, IsAdded}
 use Rattle.sb_trace.specs.Tracking.{Traced, TracesUncounted}
 use Rattle.sb_trace.proofs.CallerLemmas.{puts_none, puts_both}
-use Rattle.sb_refute.specs.Backing.{Backing, Backs, EvidencesUncounted, IsLive}
+use Rattle.sb_refute.specs.Backing.{Backing, Backs, EvidencesUncounted, IsLive, unit_at}
 use Rattle.sb_refute.specs.declared.evidence.Asserted.{Asserted}
-use Rattle.sb_refute.specs.Units.{AreOfAtoms}
 use Rattle.sb_refute.specs.Lines.{BringsAtom, IsAssertion, placed}
 use Rattle.sb_refute.proofs.AtomLines.{alone}
 use Rattle.sb_refute.proofs.LinesPut.{atom-put}
@@ -126,20 +125,18 @@ is-assertion asked rs memo e kept place t l level live literal b = record {
       ∙ (brought-is (atoms_in rs e.atoms) t l literal).1;
 }
 
--- the literals of assertions stay of atoms of the table
-pub of-more-atoms : (old new : List (AtomOver ℕ)) (asserted : List (Option Asserted)) → Extends old new
-    → AreOfAtoms old asserted → AreOfAtoms new asserted
-of-more-atoms old new asserted extends of = λ place a h.
-    let known = of place a h in
-    (known.0, omega (arith, known.1, ap length extends.is, length-append old extends.more))
-
--- the clause is counted, and the assertion is kept
-pub counted-and-kept : (e next kept : Backing) (place : ℕ) (a : Option Asserted)
-    → kept ≡ record next { asserted = placed next.asserted place a }
-    → next ≡ record e { clauses = e.clauses + 1 }
-    → kept ≡ record e { clauses = e.clauses + 1; asserted = placed e.asserted place a }
-counted-and-kept e next kept place a keeps counts =
-    keeps ∙ ap (λ (f : Backing). record f { asserted = placed f.asserted place a }) counts
+-- the clause is kept, and the assertion with it
+pub counted-and-kept : (e next new : Backing) (place : ℕ) (a : Asserted) (ls : List Lit)
+    → new ≡ record next { asserted = placed next.asserted place (Some a) }
+    → next ≡ record e { kept = e.kept ++ Some (record { literals = ls; level = a.level }) ∷ [] }
+    → ls ≡ a.literal ∷ []
+    → new ≡ record e { kept = e.kept ++ Some (unit_at a) ∷ []; asserted = placed e.asserted place (Some a) }
+counted-and-kept e next new place a ls keeps adds are =
+    keeps ∙ ap (λ (f : Backing). record f { asserted = placed f.asserted place (Some a) }) adds
+    ∙ ap (λ (ms : List Lit). record e {
+      kept = e.kept ++ Some (record { literals = ms; level = a.level }) ∷ [];
+      asserted = placed e.asserted place (Some a);
+    }) are
 
 -- Lines that are put one behind another.
 

@@ -24,13 +24,6 @@ pushed kept clause level rests counted = record (with_clause kept clause level r
 
 -- The denial of memberships.
 
-pub denial-negative : (us : List Member) (l : Lit) → Contains (denials_of us) l → l.positive ≡ false
-denial-negative [] l h = absurd (not-in-nil l h)
-denial-negative (u ∷ us) l h = elim (cons-cases (record { atom = u.0; positive = false }) (denials_of us) l h) [
-  | inl e ↦ sym (ap (λ m. m.positive) e)
-  | inr more ↦ denial-negative us l more
-]
-
 denials-ascend : (us : List Member) → Rise us → Ascend (denials_of us)
 denials-ascend [] rise = tt
 denials-ascend (u ∷ []) rise = tt

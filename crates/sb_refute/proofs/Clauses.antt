@@ -1,5 +1,5 @@
 -- Clauses that are kept, with one behind them.
-use Rattle.std.proofs.Common.{◌≡◌, ℕ, zero, suc, ◌≤◌, ◌⊎◌, inl, inr, Bool, true, false, nat_lt, if◌then◌else◌, List, [], ◌∷◌, ◌++◌, length, map, get_or, ◌<◌, subst, Option, Some, None, refl, ap, ◌∙◌, sym, arith}
+use Rattle.std.proofs.Common.{◌≡◌, ℕ, zero, suc, ◌≤◌, ◌⊎◌, inl, inr, Bool, true, false, nat_lt, if◌then◌else◌, List, [], ◌∷◌, ◌++◌, length, map, subst, Option, Some, None, refl, ap, ◌∙◌, sym, arith}
 use Rattle.std.proofs.lemmas.Bool.Decides.{nat_tests}
 use Rattle.sb_lit.specs.Kept.{Kept, KeptClause, kept_at, is_above, stays_up_to, kept_up_to}
 
@@ -32,23 +32,6 @@ kept-cases (k ∷ ks) d (suc id) c h = elim (kept-cases ks d id c h) [
   | inl before ↦ inl before
   | inr last ↦ inr (ap suc last.0, last.1)
 ]
-
--- numbers beside them, with one more
-pub number-last : (ns : List ℕ) (n id : ℕ) → id ≡ length ns → get_or (ns ++ n ∷ []) id 0 ≡ n
-number-last [] n zero h = refl
-number-last [] n (suc id) h = absurd (omega (arith, h))
-number-last (m ∷ ns) n zero h = absurd (omega (arith, h))
-number-last (m ∷ ns) n (suc id) h = number-last ns n id (omega (arith, h))
-
-pub number-stays : (ns : List ℕ) (n id : ℕ) → id < length ns → get_or (ns ++ n ∷ []) id 0 ≡ get_or ns id 0
-number-stays [] n id h = absurd (omega (arith, h))
-number-stays (m ∷ ns) n zero h = refl
-number-stays (m ∷ ns) n (suc id) h = number-stays ns n id (omega (arith, h))
-
-pub kept-within : (kept : Kept) (id : ℕ) (c : KeptClause) → kept_at kept id ≡ Some c → id < length kept
-kept-within [] id c h = absurd (none-kept id c h)
-kept-within (k ∷ ks) zero c h = omega arith
-kept-within (k ∷ ks) (suc id) c h = let rest = kept-within ks id c h in omega (arith, rest)
 
 -- Clauses that are dropped.
 

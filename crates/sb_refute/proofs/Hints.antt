@@ -5,7 +5,6 @@ use Rattle.sb_lit.specs.declared.clause.Lit.{Lit}
 use Rattle.sb_lit.specs.Clauses.{negation}
 use Rattle.sb_lit.specs.Kept.{Kept, KeptClause, kept_at}
 use Rattle.sb_sound.specs.HintLaws.{AreNamed, LeavesOpen, Refutes, IsGreatestLevel}
-use Rattle.sb_refute.specs.Denying.{at_the_bottom}
 use Rattle.sb_refute.specs.Units.{Member, Rise, AreKept, IsTop, LeadsNowhere, denials_of, unit_of}
 
 -- Elements of lists.
@@ -72,22 +71,23 @@ next-under held u v us low under = λ l h. step l (cons-cases (record { atom = u
     step l (inl e) = (sym (ap (λ m. m.positive) e), subst (λ n. n < v.0) (ap (λ m. m.atom) e) low)
     step l (inr h) = let p = under l h in let q = p.1 in (p.0, omega (arith, low, q))
 
-pub refuted-by : (us : List Member) (held ls : List Lit) → Rise us → IsUnder held us → IsDenied held us ls
-    → Refutes held (map unit_of us ++ at_the_bottom ls ∷ [])
-refuted-by [] held ls rise under denied = λ l h. elim (denied l h) [
+pub refuted-by : (us : List Member) (held : List Lit) (last : KeptClause) → Rise us → IsUnder held us
+    → IsDenied held us last.literals → Refutes held (map unit_of us ++ last ∷ [])
+refuted-by [] held last rise under denied = λ l h. elim (denied l h) [
   | inl there ↦ there
   | inr none ↦ absurd (not-in-nil l none)
 ]
-refuted-by (u ∷ []) held ls rise under denied = (
+refuted-by (u ∷ []) held last rise under denied = (
   record { atom = u.0; positive = true },
   opens held u [] under,
-  refuted-by [] ((record { atom = u.0; positive = true }) ∷ held) ls tt tt (next-denied held u [] ls denied),
+  refuted-by [] ((record { atom = u.0; positive = true }) ∷ held) last tt tt
+      (next-denied held u [] last.literals denied),
 )
-refuted-by (u ∷ v ∷ us) held ls rise under denied = (
+refuted-by (u ∷ v ∷ us) held last rise under denied = (
   record { atom = u.0; positive = true },
   opens held u (v ∷ us) under,
-  refuted-by (v ∷ us) ((record { atom = u.0; positive = true }) ∷ held) ls rise.1
-      (next-under held u v us rise.0 under) (next-denied held u (v ∷ us) ls denied),
+  refuted-by (v ∷ us) ((record { atom = u.0; positive = true }) ∷ held) last rise.1
+      (next-under held u v us rise.0 under) (next-denied held u (v ∷ us) last.literals denied),
 )
 
 -- The hints name the clauses.
@@ -99,26 +99,20 @@ all-named kept [] denial last units h = (h, tt)
 all-named kept (u ∷ us) denial last units h =
     (units u (here u us), all-named kept us denial last (λ v among. units v (later u us v among)) h)
 
--- Their greatest level is that of the units, or 0.
+-- Their greatest level.
 
-none-above : (us : List Member) (ls : List Lit) (top : ℕ)
+none-above : (us : List Member) (last : KeptClause) (top : ℕ) → last.level ≤ top
     → ((n : ℕ) → Contains (map (λ (u : Member). u.2) us) n → n ≤ top) → (c : KeptClause)
-    → Contains (map unit_of us ++ at_the_bottom ls ∷ []) c → c.level ≤ top
-none-above [] ls top below c h = elim (cons-cases (at_the_bottom ls) [] c h) [
-  | inl e ↦ low (sym (ap (λ d. d.level) e))
+    → Contains (map unit_of us ++ last ∷ []) c → c.level ≤ top
+none-above [] last top low below c h = elim (cons-cases last [] c h) [
+  | inl e ↦ subst (λ (d : KeptClause). d.level ≤ top) e low
   | inr none ↦ absurd (not-in-nil c none)
 ]
-  where
-    low : c.level ≡ 0 → c.level ≤ top
-    low e = omega (arith, e)
-none-above (u ∷ us) ls top below c h = elim (cons-cases (unit_of u) (map unit_of us ++ at_the_bottom ls ∷ []) c h) [
-  | inl e ↦ low (sym (ap (λ d. d.level) e))
-  | inr more ↦ none-above us ls top
+none-above (u ∷ us) last top low below c h = elim (cons-cases (unit_of u) (map unit_of us ++ last ∷ []) c h) [
+  | inl e ↦ subst (λ (d : KeptClause). d.level ≤ top) e (below u.2 (here u.2 (map (λ (v : Member). v.2) us)))
+  | inr more ↦ none-above us last top low
       (λ n among. below n (later u.2 (map (λ (v : Member). v.2) us) n among)) c more
 ]
-  where
-    low : c.level ≡ u.2 → c.level ≤ top
-    low e = let first = below u.2 (here u.2 (map (λ (v : Member). v.2) us)) in omega (arith, e, first)
 
 -- a clause of one of the units' levels
 record OfLevel (clauses : List KeptClause) (level : ℕ) : Type 0 where
@@ -140,41 +134,37 @@ of-unit (u ∷ us) more n h = elim (cons-cases u.2 (map (λ (v : Member). v.2) u
       }
 ]
 
-of-last : (us : List Member) (ls : List Lit) (n : ℕ) → n ≡ 0 → OfLevel (map unit_of us ++ at_the_bottom ls ∷ []) n
-of-last [] ls n h = record { clause = at_the_bottom ls; among = here (at_the_bottom ls) []; is = sym h }
-of-last (u ∷ us) ls n h =
-    let found = of-last us ls n h in
-    record {
-      clause = found.clause;
-      among = later (unit_of u) (map unit_of us ++ at_the_bottom ls ∷ []) found.clause found.among;
-      is = found.is;
-    }
+at-end : (cs : List KeptClause) (last : KeptClause) → Contains (cs ++ last ∷ []) last
+at-end [] last = here last []
+at-end (c ∷ cs) last = later c (cs ++ last ∷ []) last (at-end cs last)
 
-greatest : (us : List Member) (ls : List Lit) (top : ℕ) → IsTop (map (λ (u : Member). u.2) us) top
-    → IsGreatestLevel (map unit_of us ++ at_the_bottom ls ∷ []) top
-greatest us ls top h = step (elim h.is [
-  | inl low ↦ of-last us ls top low
-  | inr among ↦ of-unit us (at_the_bottom ls ∷ []) top among
+greatest : (us : List Member) (last : KeptClause) (top : ℕ)
+    → IsTop (last.level ∷ map (λ (u : Member). u.2) us) top → IsGreatestLevel (map unit_of us ++ last ∷ []) top
+greatest us last top h = step (elim (cons-cases last.level (map (λ (u : Member). u.2) us) top h.is) [
+  | inl e ↦ record { clause = last; among = at-end (map unit_of us) last; is = e }
+  | inr among ↦ of-unit us (last ∷ []) top among
 ])
   where
-    step : OfLevel (map unit_of us ++ at_the_bottom ls ∷ []) top
-        → IsGreatestLevel (map unit_of us ++ at_the_bottom ls ∷ []) top
+    step : OfLevel (map unit_of us ++ last ∷ []) top → IsGreatestLevel (map unit_of us ++ last ∷ []) top
     step found = record {
       hint = found.clause;
       among = found.among;
       is = found.is;
-      none_above = λ other among. none-above us ls top h.none_above other among;
+      none_above = λ other among. none-above us last top
+          (h.none_above last.level (here last.level (map (λ (u : Member). u.2) us)))
+          (λ n there. h.none_above n (later last.level (map (λ (u : Member). u.2) us) n there)) other among;
     }
 
--- units and their denial can't all be true
-pub leads-nowhere : (kept : Kept) (us : List Member) (denial top : ℕ) → Rise us → AreKept us kept
-    → kept_at kept denial ≡ Some (at_the_bottom (denials_of us)) → IsTop (map (λ (u : Member). u.2) us) top
-    → LeadsNowhere kept (map (λ (u : Member). u.1) us ++ denial ∷ []) top
-leads-nowhere kept us denial top rise units h is = record {
-  clauses = map unit_of us ++ at_the_bottom (denials_of us) ∷ [];
-  named = all-named kept us denial (at_the_bottom (denials_of us)) units h;
-  refutes = refuted-by us [] (denials_of us) rise (nothing us) (λ l among. inr among);
-  greatest = greatest us (denials_of us) top is;
+-- units can't all be true beside a clause that has only negations of them
+pub leads-nowhere : (kept : Kept) (us : List Member) (last : KeptClause) (id top : ℕ) → Rise us → AreKept us kept
+    → kept_at kept id ≡ Some last → ((l : Lit) → Contains last.literals l → Contains (denials_of us) l)
+    → IsTop (last.level ∷ map (λ (u : Member). u.2) us) top
+    → LeadsNowhere kept (map (λ (u : Member). u.1) us ++ id ∷ []) top
+leads-nowhere kept us last id top rise units h among is = record {
+  clauses = map unit_of us ++ last ∷ [];
+  named = all-named kept us id last units h;
+  refutes = refuted-by us [] last rise (nothing us) (λ l there. inr (among l there));
+  greatest = greatest us last top is;
 }
   where
     nothing : (vs : List Member) → IsUnder [] vs

@@ -5,6 +5,7 @@ pub mod Places
 pub mod ClauseLines
 pub mod AtomLines
 pub mod Backs
+pub mod Holding
 pub mod LinesPut
 pub mod Asserting
 pub mod Standing

@@ -5,8 +5,7 @@ use Rattle.std.proofs.lemmas.Bool.{and_from, false≢true, true≢false, lt-ltb}
 use Rattle.std.proofs.lemmas.Option.{slice_get-map}
 use Rattle.sb_lit.specs.Budgets.{Spending}
 use Rattle.sb_lit.specs.declared.clause.Lit.{Lit}
-use Rattle.sb_lit.specs.Kept.{KeptClause, kept_at}
-use Rattle.sb_lit.specs.Hints.{is_repeated}
+use Rattle.sb_lit.specs.Kept.{Kept, KeptClause, kept_at}
 use Rattle.sb_lang.specs.Regex.{Regex}
 use Rattle.sb_lang.specs.Constructors.{mkand}
 use Rattle.sb_lang.specs.OrderLaws.{OrderTellsApart}
@@ -21,6 +20,7 @@ use Rattle.sb_rulebook.specs.Kept.{AllKept, Asked, rests_of_any}
 use Rattle.sb_rulebook.specs.Lines.{atom_line, assertion_line, rule_line, learned_line, empty, text_of}
 use Rattle.sb_rulebook.specs.LineLaws.{is_small, are_small, is_small_literal}
 use Rattle.sb_sound.specs.MembershipLaws.{AreDeniedIn}
+use Rattle.sb_sound.specs.HintLaws.{HasNoSubset}
 use Rattle.sb_sound.specs.ClauseLaws.{RuleLinesAreExact, LearnedLinesAreExact, AssertionLinesAreExact}
 use Rattle.sb_proof.specs.Tapes.{with_bytes}
 use Rattle.sb_atoms.specs.Numbered.{Names, atoms_in, HaveRegexesBelow}
@@ -29,14 +29,11 @@ use Rattle.sb_trace.specs.Tracking.{Traced, TracesUncounted, Traces, is_dead_in,
 use Rattle.sb_trace.proofs.CallerLemmas.{puts_one, puts_both, number-there}
 use Rattle.sb_refute.specs.declared.evidence.Asserted.{Asserted}
 use Rattle.sb_refute.specs.declared.evidence.EmptyClause.{EmptyClause}
-use Rattle.sb_refute.specs.Denying.{Denied, with_denial}
-use Rattle.sb_refute.specs.Backing.{Backing, Backs, Evidences, EvidencesUncounted, IsKnown, is_positive, is_denial, is_empty}
+use Rattle.sb_refute.specs.Backing.{Backing, Backs, Evidences, EvidencesUncounted, unit_at, empty_at}
 use Rattle.sb_refute.specs.Lines.{IsAssertion, placed}
-use Rattle.sb_refute.specs.Units.{Member, Rise, AreDenials, CanBeDenied, LeadsNowhere, denials_of}
+use Rattle.sb_refute.specs.Units.{Member, Rise, CanBeDenied, LeadsNowhere, denials_of}
 use Rattle.sb_refute.proofs.AtomLines.{alone, atom-follows}
-use Rattle.sb_refute.proofs.ClauseLines.{pushed, some-denials, denial-negative, denial-follows, learned-follows, assertion-follows}
-use Rattle.sb_refute.proofs.Hints.{not-in-nil}
-use Rattle.sb_refute.proofs.Parts.{is-repeated}
+use Rattle.sb_refute.proofs.ClauseLines.{pushed, denial-follows, learned-follows, assertion-follows}
 use Rattle.sb_refute.proofs.Backs.{backs-traced, backs-atoms, backs-assertion, backs-denial, backs-empty}
 
 small : (n : ℕ) → n < 2 ^ 64 → is_small n ≡ true
@@ -71,66 +68,40 @@ atom-put apart asked before rs memo e t x r n old mid new once known below lacks
 -- The clause of an assertion.
 pub assertion-put : AssertionLinesAreExact → (asked : Asked) (before : AllKept) (rs : List Regex) (memo : Memo)
     (e : Backing) (place : ℕ) (a : Asserted) (old new : Option (List ℕ)) → a.literal.atom < length before.atoms
-    → a.literal.positive ≡ true → a.clause.0 ≡ e.clauses → place < 2 ^ 64 → a.literal.atom < 2 ^ 64
+    → a.clause.0 ≡ length e.kept → place < 2 ^ 64 → a.literal.atom < 2 ^ 64
     → Backs rs memo e before → IsAssertion asked before place a.literal a.level
     → new ≡ with_bytes (line (text_of (assertion_line place a.literal))) old
     → EvidencesUncounted asked before rs memo
-    (record e { clauses = e.clauses + 1; asserted = placed e.asserted place (Some a) }) old new
-assertion-put exact asked before rs memo e place a old new known positive number sp sa b is told = record {
+    (record e { kept = e.kept ++ Some (unit_at a) ∷ []; asserted = placed e.asserted place (Some a) }) old new
+assertion-put exact asked before rs memo e place a old new known number sp sa b is told = record {
   after = pushed before (a.literal ∷ []) a.level (place ∷ []) before.counted;
   puts = puts_one asked before (pushed before (a.literal ∷ []) a.level (place ∷ []) before.counted)
       (assertion_line place a.literal) old new
       (assertion-follows exact asked before place a.literal is.term a.level is.live known is.literal)
       (and_from (is_small place) (is_small_literal a.literal) (small place sp) (small a.literal.atom sa)) told;
-  backs = backs-assertion rs memo e before place a (place ∷ []) before.counted b number positive;
+  backs = backs-assertion rs memo e before place a (place ∷ []) before.counted b number;
   counted = refl;
 }
-
--- Why a clause is new.
-
-none-some : {X : Type 0} (x : X) → None ≡ Some x → ⊥
-none-some x h = cc
-
-nonempty : {X : Type 0} (x : X) (xs : List X) → x ∷ xs ≡ [] → ⊥
-nonempty x xs h = cc
-
--- a clause that is known has literals, unless it is the empty one
-some-literal : (d : Denied) (r : Option EmptyClause) (c : KeptClause) → AreDenials d → r ≡ None → IsKnown d r c
-    → c.literals ≢ []
-some-literal d r c are unset (is_positive h) = λ nil. not-in-nil h.0 (subst (λ ls. Contains ls h.0) nil h.1)
-some-literal d r c are unset (is_denial i h) = λ nil.
-    let it = are.each i c h in
-    some-denials it.units it.some (sym (ap (λ (k : KeptClause). k.literals) it.is) ∙ nil)
-some-literal d r c are unset (is_empty found is h) = absurd (none-some found (sym unset ∙ is))
-
--- a denial of which no kept denial has some literals alone is new
-no-part : (d : Denied) (r : Option EmptyClause) (us : List Member) (c : KeptClause)
-    → is_repeated d.clauses (denials_of us) ≡ false → r ≡ None → IsKnown d r c
-    → ((l : Lit) → Contains c.literals l → Contains (denials_of us) l) → ⊥
-no-part d r us c new unset (is_positive h) among =
-    true≢false (sym h.2 ∙ denial-negative us h.0 (among h.0 h.1))
-no-part d r us c new unset (is_denial i h) among =
-    true≢false (sym (is-repeated d.clauses (denials_of us) i c h among) ∙ new)
-no-part d r us c new unset (is_empty found is h) among = none-some found (sym unset ∙ is)
 
 -- The empty clause.
 pub empty-put : LearnedLinesAreExact → (asked : Asked) (before : AllKept) (rs : List Regex) (memo : Memo)
     (e : Backing) (ids : List ℕ) (c : EmptyClause) (budget : Spending) (old new : Option (List ℕ))
-    → LeadsNowhere before.clauses ids c.level → c.clause.0 ≡ e.clauses → AreDenials e.denials
-    → e.refuted ≡ None → budget.spent < budget.limit → are_small ids ≡ true → Backs rs memo e before
+    → LeadsNowhere before.clauses ids c.level
+    → ((id : ℕ) (other : KeptClause) → kept_at e.kept id ≡ Some other → other.literals ≢ [])
+    → budget.spent < budget.limit → are_small ids ≡ true → Backs rs memo e before
     → IsCounted asked before budget → new ≡ with_bytes (line (text_of (learned_line [] ids))) old
-    → Evidences asked before rs memo (record e { clauses = e.clauses + 1; refuted = Some c })
+    → Evidences asked before rs memo (record e { kept = e.kept ++ Some (empty_at c) ∷ []; refuted = Some c })
     (record budget { spent = budget.spent + 1 }) old new
-empty-put exact asked before rs memo e ids c budget old new leads number are unset room smalls b counts told =
+empty-put exact asked before rs memo e ids c budget old new leads some room smalls b counts told =
     let after = pushed before [] c.level (rests_of_any before ids) (before.counted + 1) in
     record {
       after = after;
       puts = puts_one asked before after (learned_line [] ids) old new
           (learned-follows exact asked before ids c.level leads
-          (λ id d h. some-literal e.denials e.refuted d are unset (b.known id d h))
+          (λ id d h. some id d (ap (λ (k : Kept). kept_at k id) (sym b.clauses) ∙ h))
           (omega (arith, room, counts.spent, counts.limit)))
           smalls told;
-      backs = backs-empty rs memo e before c (rests_of_any before ids) (before.counted + 1) number unset b;
+      backs = backs-empty rs memo e before c (rests_of_any before ids) (before.counted + 1) b;
       counts = record { spent = ap (λ n. n + 1) counts.spent; limit = counts.limit };
     }
 
@@ -159,13 +130,13 @@ dead-at t root h = step (number_in t.order root) refl h
 
 pub denial-put : RuleLinesAreExact → (asked : Asked) (before : AllKept) (rs : List Regex) (memo : Memo)
     (e : Backing) (us : List Member) (budget : Spending) (old new : Option (List ℕ)) → CanBeDenied rs e us → us ≢ []
-    → Rise us → is_repeated e.denials.clauses (denials_of us) ≡ false → AreDenials e.denials → e.refuted ≡ None
-    → budget.spent < budget.limit → list_all is_small_literal (denials_of us) ≡ true → Backs rs memo e before
+    → Rise us → HasNoSubset e.kept (denials_of us) → budget.spent < budget.limit
+    → list_all is_small_literal (denials_of us) ≡ true → Backs rs memo e before
     → IsCounted asked before budget → new ≡ with_bytes (line (text_of (rule_line empty (denials_of us)))) old
     → Evidences asked before rs memo
-    (record e { clauses = e.clauses + 1; denials = with_denial e.denials (denials_of us) e.clauses })
+    (record e { kept = e.kept ++ Some (record { literals = denials_of us; level = 0 }) ∷ [] })
     (record budget { spent = budget.spent + 1 }) old new
-denial-put exact asked before rs memo e us budget old new h some rise fresh are unset room smalls b counts told =
+denial-put exact asked before rs memo e us budget old new h some rise fresh room smalls b counts told =
     let at = dead-at e.trace h.meet h.dead in
     let after = pushed before (denials_of us) 0 [] (before.counted + 1) in
     record {
@@ -177,9 +148,9 @@ denial-put exact asked before rs memo e us budget old new h some rise fresh are 
           ∙ slice_get-map (regex_at rs) e.trace.order at.number ∙ ap (option_map (regex_at rs)) at.there
           ∙ ap Some h.meets)
           (dead-there before.dead at.number (b.tracks.dead at.number ∙ at.marked))
-          (λ id c there among. no-part e.denials e.refuted us c fresh unset (b.known id c there) among)
+          (λ id c there among. fresh id c (ap (λ (k : Kept). kept_at k id) (sym b.clauses) ∙ there) among)
           (omega (arith, room, counts.spent, counts.limit)))
           smalls told;
-      backs = backs-denial rs memo e before (denials_of us) [] (before.counted + 1) are b;
+      backs = backs-denial rs memo e before (denials_of us) [] (before.counted + 1) b;
       counts = record { spent = ap (λ n. n + 1) counts.spent; limit = counts.limit };
     }

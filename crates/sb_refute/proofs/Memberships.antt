@@ -1,5 +1,5 @@
 -- Memberships that are denied together, and what is put of that.
-use Rattle.std.proofs.Common.{◌≡◌, ◌≢◌, ℕ, suc, ◌+◌, ◌^◌, ◌<◌, ◌⊎◌, inl, inr, true, false, Bool, List, [], ◌∷◌, ◌++◌, length, get_or, map, Option, Some, None, is_some, IsSome, Result, Ok, Err, All, refl, sym, ap, ap₂, subst, ◌∙◌, Contains, arith}
+use Rattle.std.proofs.Common.{◌≡◌, ◌≢◌, ℕ, suc, ◌+◌, ◌^◌, ◌<◌, ◌⊎◌, inl, inr, true, false, Bool, nat_lt, List, [], ◌∷◌, ◌++◌, length, get_or, map, Option, Some, None, is_some, IsSome, Result, Ok, Err, All, refl, sym, ap, ap₂, subst, ◌∙◌, Contains, arith}
 use Rattle.std.specs.List.{list_all}
 use Rattle.std.specs.Result.{is_err, OnOk, OnErr}
 use Rattle.std.specs.Ordering.{nat_cmp}
@@ -15,9 +15,8 @@ use Rattle.sb_lang.specs.Constructors.{mkand}
 use Rattle.sb_lang.specs.ConstructorLaws.{MkandKeepsLanguage}
 use Rattle.sb_lit.specs.declared.clause.Lit.{Lit}
 use Rattle.sb_lit.specs.Budgets.{Spending}
-use Rattle.sb_lit.specs.Clauses.{are_among}
-use Rattle.sb_lit.specs.Hints.{is_repeated}
-use Rattle.sb_lit.specs.Kept.{KeptClause, kept_at}
+use Rattle.sb_lit.specs.Kept.{Kept, KeptClause, kept_at}
+use Rattle.sb_clauses.specs.Propagation.{are_reserved}
 use Rattle.sb_regex.specs.Numbered.{Names, Extends, regex_at, regexes_at}
 use Rattle.sb_regex.proofs.CallerLemmas.{at_kept, names_at, names_below, extends_more}
 use Rattle.sb_deriv.specs.Faithful.{Memo}
@@ -27,6 +26,7 @@ use Rattle.sb_rulebook.specs.Kept.{AllKept, Asked}
 use Rattle.sb_rulebook.specs.LineLaws.{is_small, are_small, is_small_literal}
 use Rattle.sb_rulebook.specs.Lines.{rule_line, learned_line, empty, text_of}
 use Rattle.sb_proof.specs.Tapes.{with_bytes}
+use Rattle.sb_sound.specs.HintLaws.{HasNoSubset}
 use Rattle.sb_sound.specs.MembershipLaws.{AreDeniedIn}
 use Rattle.sb_sound.specs.ClauseLaws.{RuleLinesAreExact, LearnedLinesAreExact}
 use Rattle.sb_atoms.specs.Numbered.{HaveRegexesBelow}
@@ -36,16 +36,14 @@ use Rattle.sb_trace.specs.Putting.{IsCounted}
 use Rattle.sb_trace.specs.Tracking.{Traced, Traces, is_dead_in}
 use Rattle.sb_refute.specs.declared.evidence.Asserted.{Asserted}
 use Rattle.sb_refute.specs.declared.evidence.EmptyClause.{EmptyClause}
-use Rattle.sb_refute.specs.Denying.{Denied, with_denial, at_the_bottom}
-use Rattle.sb_refute.specs.Backing.{Backing, Backs, Evidences, asserted_at}
+use Rattle.sb_refute.specs.Backing.{Backing, Backs, Evidences, asserted_at, empty_at}
 use Rattle.sb_refute.specs.Refuting.{AreDisjoint, membership_at}
-use Rattle.sb_refute.specs.Units.{Member, AreOfAtoms, AreUnits, HaveNoWord, AreKept, CanBeDenied, IsDenial, AreDenials, HasPart, ArePicked, IsTop, LeadsNowhere, AreRegexesOf, Rise, numbered, denials_of, hints_of}
+use Rattle.sb_refute.specs.Units.{Member, AreOfAtoms, AreUnits, HaveNoWord, AreKept, CanBeDenied, HasPart, ArePicked, IsTop, LeadsNowhere, AreRegexesOf, Rise, numbered, denials_of, hints_of}
 use Rattle.sb_refute.proofs.AtomLines.{alone}
 use Rattle.sb_refute.proofs.Meets.{never-alive}
 use Rattle.sb_refute.proofs.Backs.{backs-traced}
 use Rattle.sb_refute.proofs.Disjoint.{membership-parts, units-denied}
 use Rattle.sb_refute.proofs.Clauses.{kept-last}
-use Rattle.sb_refute.proofs.Parts.{themselves-among}
 use Rattle.sb_refute.proofs.Hints.{leads-nowhere, here, later, cons-cases, not-in-nil}
 use Rattle.sb_refute.proofs.LinesPut.{denial-put, empty-put}
 use Rattle.sb_refute.proofs.UnitFacts.{inserted-unit, atom-there, atoms-stay}
@@ -128,20 +126,6 @@ first-same x y xs ys h = cc
 others-same : {X : Type 0} (x y : X) (xs ys : List X) → x ∷ xs ≡ y ∷ ys → xs ≡ ys
 others-same x y xs ys h = cc
 
--- The atoms of some literals in order.
-
-rise-same : (us vs : List Member) → denials_of us ≡ denials_of vs → Rise us → Rise vs
-rise-same [] [] h rise = tt
-rise-same [] (v ∷ vs) h rise = absurd (cc)
-rise-same (u ∷ us) [] h rise = tt
-rise-same (u ∷ us) (v ∷ []) h rise = tt
-rise-same (u ∷ []) (v ∷ w ∷ vs) h rise = absurd (cc)
-rise-same (u ∷ x ∷ us) (v ∷ w ∷ vs) h rise =
-    let first = ap (λ (l : Lit). l.atom) (first-same _ _ _ _ h) in
-    let more = others-same _ _ _ _ h in
-    let second = ap (λ (l : Lit). l.atom) (first-same _ _ _ _ more) in
-    (omega (arith, first, second, rise.0), rise-same (x ∷ us) (w ∷ vs) more rise.1)
-
 -- the same where the clauses of assertions are
 pub units-same : (e f : Backing) (places : List ℕ) (us : List Member) → f.asserted ≡ e.asserted
     → AreUnits e places us → AreUnits f places us
@@ -172,11 +156,18 @@ units-below e places us of units = all-from (λ u. u.0 < length e.atoms) us (λ 
     let unit = units.from u among in
     subst (λ n. n < length e.atoms) unit.atom (of unit.place unit.asserted unit.there).1)
 
+-- so their negations are of atoms of the table
+pub denials-known : (n : ℕ) (us : List Member) → All (λ u. u.0 < n) us → are_reserved n (denials_of us) ≡ true
+denials-known n [] h = refl
+denials-known n (u ∷ us) h =
+    and_from (nat_lt u.0 n) (are_reserved n (denials_of us)) (lt-ltb u.0 n (h 0 (0, 0, 0) (omega arith)))
+    (denials-known n us (λ k d l. h (suc k) d (omega (arith, l))))
+
 units-kept : (e : Backing) (places : List ℕ) (us : List Member) (rs : List Regex) (memo : Memo) (kept : AllKept)
     → AreOfAtoms e.atoms e.asserted → AreUnits e places us → Backs rs memo e kept → AreKept us kept.clauses
 units-kept e places us rs memo kept of units b u among =
     let unit = units.from u among in
-    ap (kept_at kept.clauses) (sym unit.clause) ∙ b.asserted unit.place unit.asserted unit.there
+    ap₂ (λ (k : Kept) n. kept_at k n) b.clauses (sym unit.clause) ∙ b.asserted unit.place unit.asserted unit.there
     ∙ ap₂ (λ (l : Lit) n. Some (record { literals = l ∷ []; level = n }))
     (ap₂ (λ n p. record { atom = n; positive = p }) unit.atom (of unit.place unit.asserted unit.there).0) unit.level
 
@@ -313,63 +304,54 @@ denied-all asked before rs mid more memo memos e f t us ids root budget left old
 
 pub denied-put : RuleLinesAreExact → (asked : Asked) (before : AllKept) (rs : List Regex) (memo : Memo) (e f : Backing)
     (us : List Member) (ls : List Lit) (budget left : Spending) (old new : Option (List ℕ)) → CanBeDenied rs e us
-    → us ≢ [] → Rise us → ls ≡ denials_of us → is_repeated e.denials.clauses ls ≡ false → AreDenials e.denials
-    → e.refuted ≡ None → budget.spent < budget.limit → left ≡ record budget { spent = budget.spent + 1 }
-    → list_all is_small_literal ls ≡ true
-    → f ≡ record e { clauses = e.clauses + 1; denials = with_denial e.denials ls e.clauses } → Backs rs memo e before
+    → us ≢ [] → Rise us → ls ≡ denials_of us → HasNoSubset e.kept ls → budget.spent < budget.limit
+    → left ≡ record budget { spent = budget.spent + 1 } → list_all is_small_literal ls ≡ true
+    → f ≡ record e { kept = e.kept ++ Some (record { literals = ls; level = 0 }) ∷ [] } → Backs rs memo e before
     → IsCounted asked before budget → new ≡ with_bytes (line (text_of (rule_line empty ls))) old
     → Evidences asked before rs memo f left old new
-denied-put exact asked before rs memo e f us ls budget left old new h some rise literals fresh are unset room spends
-    smalls is b counts told =
+denied-put exact asked before rs memo e f us ls budget left old new h some rise literals fresh room spends smalls is b
+    counts told =
     subst (λ g. Evidences asked before rs memo g left old new)
-    (sym (is ∙ ap (λ (all : List Lit). record e { clauses = e.clauses + 1; denials = with_denial e.denials all e.clauses })
+    (sym (is ∙ ap (λ (all : List Lit). record e { kept = e.kept ++ Some (record { literals = all; level = 0 }) ∷ [] })
     literals))
     (subst (λ l. Evidences asked before rs memo
-    (record e { clauses = e.clauses + 1; denials = with_denial e.denials (denials_of us) e.clauses }) l old new)
+    (record e { kept = e.kept ++ Some (record { literals = denials_of us; level = 0 }) ∷ [] }) l old new)
     (sym spends)
     (denial-put exact asked before rs memo e us budget old new h some rise
-    (ap (is_repeated e.denials.clauses) (sym literals) ∙ fresh) are unset room
+    (subst (λ (all : List Lit). HasNoSubset e.kept all) literals fresh) room
     (ap (list_all is_small_literal) (sym literals) ∙ smalls) b counts
     (told ∙ ap (λ (all : List Lit). with_bytes (line (text_of (rule_line empty all))) old) literals)))
 
 -- the new denial is of the literals
-pub new-part : (d : Denied) (ls all : List Lit) (number place : ℕ) → ls ≡ all → place ≡ length d.clauses
-    → HasPart (with_denial d ls number) all place
-new-part d ls all number place is at = record {
-  clause = at_the_bottom ls;
-  there = ap (kept_at (d.clauses ++ Some (at_the_bottom ls) ∷ [])) at
-      ∙ kept-last d.clauses (Some (at_the_bottom ls));
-  among = ap (are_among ls) (sym is) ∙ themselves-among ls;
+pub new-part : (kept new : Kept) (ls all : List Lit) (id : ℕ)
+    → new ≡ kept ++ Some (record { literals = ls; level = 0 }) ∷ [] → ls ≡ all → id ≡ length kept → HasPart new all id
+new-part kept new ls all id more is at = record {
+  clause = record { literals = ls; level = 0 };
+  there = ap₂ (λ (k : Kept) n. kept_at k n) more at ∙ kept-last kept (Some (record { literals = ls; level = 0 }));
+  among = λ l h. subst (λ (ms : List Lit). Contains ms l) is h;
 }
 
--- The clauses that a denial denies.
+-- The clauses that a clause denies.
 
 -- the hints of the empty clause
-pub reasons-lead : (rs : List Regex) (memo : Memo) (e : Backing) (kept : AllKept) (places : List ℕ) (us : List Member)
-    (place top : ℕ) (part : HasPart e.denials (denials_of us) place) (ls : List Lit) (picked : List Asserted)
-    (number : ℕ) (ids : List ℕ) → AreOfAtoms e.atoms e.asserted → AreDenials e.denials → AreUnits e places us
-    → ls ≡ part.clause.literals → ArePicked us ls picked → IsTop (map (λ (a : Asserted). a.level) picked) top
-    → number ≡ get_or e.denials.numbers place 0 → ids ≡ hints_of picked number → Backs rs memo e kept
+pub reasons-lead : (rs : List Regex) (memo : Memo) (e : Backing) (kept : AllKept) (places : List ℕ)
+    (us vs : List Member) (id top : ℕ) (part : HasPart e.kept (denials_of us) id) (ls : List Lit)
+    (listed : List Asserted) (level : ℕ) (ids : List ℕ) → AreOfAtoms e.atoms e.asserted → AreUnits e places us
+    → ls ≡ part.clause.literals → level ≡ part.clause.level → ArePicked us ls vs → Rise vs
+    → map (λ (v : Member). v.1) vs ≡ map (λ (a : Asserted). a.clause.0) listed
+    → map (λ (v : Member). v.2) vs ≡ map (λ (a : Asserted). a.level) listed
+    → IsTop (level ∷ map (λ (a : Asserted). a.level) listed) top → ids ≡ hints_of listed id → Backs rs memo e kept
     → LeadsNowhere kept.clauses ids top
-reasons-lead rs memo e kept places us place top part ls picked number ids of are units literals p is at hints b =
+reasons-lead rs memo e kept places us vs id top part ls listed level ids of units literals at p rise numbers levels is
+    hints b =
     subst (λ ns. LeadsNowhere kept.clauses ns top)
-    (sym (hints ∙ ap₂ (λ (ns : List ℕ) (n : ℕ). ns ++ n ∷ []) (sym p.clauses) at))
-    (leads-nowhere kept.clauses p.units (get_or e.denials.numbers place 0) top rise
-    (λ u among. units-kept e places us rs memo kept of units b u (p.from u among))
-    (b.denied place part.clause part.there ∙ ap Some bottom)
-    (subst (λ ns. IsTop ns top) (sym p.levels) is))
-  where
-    it : IsDenial part.clause
-    it = are.each place part.clause part.there
-
-    same : denials_of p.units ≡ denials_of it.units
-    same = p.are ∙ literals ∙ ap (λ (c : KeptClause). c.literals) it.is
-
-    rise : Rise p.units
-    rise = rise-same it.units p.units (sym same) it.rise
-
-    bottom : part.clause ≡ at_the_bottom (denials_of p.units)
-    bottom = it.is ∙ ap at_the_bottom (sym same)
+    (sym (hints ∙ ap (λ (ns : List ℕ). ns ++ id ∷ []) (sym numbers)))
+    (leads-nowhere kept.clauses vs part.clause id top rise
+    (λ v among. units-kept e places us rs memo kept of units b v (p.from v among))
+    (ap (λ (k : Kept). kept_at k id) b.clauses ∙ part.there)
+    (λ l among. p.has l (subst (λ (ms : List Lit). Contains ms l) (sym literals) among))
+    (subst (λ ns. IsTop (part.clause.level ∷ ns) top) (sym levels)
+    (subst (λ n. IsTop (n ∷ map (λ (a : Asserted). a.level) listed) top) at is)))
 
 -- numbers of 64 bits
 pub numbers-small : (ns : List ℕ) → ((i : ℕ) → get_or ns i 0 < 2 ^ 64) → are_small ns ≡ true
@@ -379,18 +361,19 @@ numbers-small (n ∷ ns) h =
 
 pub learned-put : LearnedLinesAreExact → (asked : Asked) (before : AllKept) (rs : List Regex) (memo : Memo)
     (e f : Backing) (ids : List ℕ) (c : EmptyClause) (budget left : Spending) (old new : Option (List ℕ))
-    → LeadsNowhere before.clauses ids c.level → c.clause.0 ≡ e.clauses → AreDenials e.denials
-    → e.refuted ≡ None → are_small ids ≡ true → budget.spent < budget.limit
+    → LeadsNowhere before.clauses ids c.level
+    → ((id : ℕ) (other : KeptClause) → kept_at e.kept id ≡ Some other → other.literals ≢ [])
+    → are_small ids ≡ true → budget.spent < budget.limit
     → left ≡ record budget { spent = budget.spent + 1 }
-    → f ≡ record e { clauses = e.clauses + 1; refuted = Some c } → Backs rs memo e before
+    → f ≡ record e { kept = e.kept ++ Some (empty_at c) ∷ []; refuted = Some c } → Backs rs memo e before
     → IsCounted asked before budget → new ≡ with_bytes (line (text_of (learned_line [] ids))) old
     → Evidences asked before rs memo f left old new
-learned-put exact asked before rs memo e f ids c budget left old new leads number are unset smalls room spends is b
-    counts told =
+learned-put exact asked before rs memo e f ids c budget left old new leads some smalls room spends is b counts told =
     subst (λ g. Evidences asked before rs memo g left old new) (sym is)
-    (subst (λ l. Evidences asked before rs memo (record e { clauses = e.clauses + 1; refuted = Some c }) l old new)
+    (subst (λ l. Evidences asked before rs memo (record e { kept = e.kept ++ Some (empty_at c) ∷ []; refuted = Some c })
+    l old new)
     (sym spends)
-    (empty-put exact asked before rs memo e ids c budget old new leads number are unset room smalls b counts told))
+    (empty-put exact asked before rs memo e ids c budget old new leads some room smalls b counts told))
 
 -- What a result says.
 

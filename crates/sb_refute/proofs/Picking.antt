@@ -2,9 +2,10 @@
 use Rattle.std.proofs.Common.{◌≡◌, ℕ, ◌≤◌, max, nat_le, ◌⊎◌, inl, inr, Bool, true, false, cond, List, [], ◌∷◌, ◌++◌, map, Option, Some, None, IsSome, is_some, refl, sym, ap, ap₂, subst, ◌∙◌, arith, Contains}
 use Rattle.std.proofs.Common.{Bor}
 use Rattle.std.specs.Option.{option_copied}
-use Rattle.std.specs.Map.{lookup}
-use Rattle.std.specs.BTreeMap.{is_at}
+use Rattle.std.specs.Map.{lookup, values_of}
+use Rattle.std.specs.BTreeMap.{insert_entry, is_at}
 use Rattle.std.specs.Ordering.{nat_cmp, is_eq}
+use Rattle.std.specs.declared.cmp.Ordering.TheVariants.{Equal}
 use Rattle.std.proofs.lemmas.Bool.{false≢true}
 use Rattle.std.proofs.lemmas.Bool.Decides.{nat_tests}
 use Rattle.std.proofs.lemmas.List.{map_push}
@@ -13,6 +14,7 @@ use Rattle.sb_refute.specs.declared.evidence.Asserted.{Asserted}
 use Rattle.sb_refute.specs.Units.{Member, ArePicked, IsTop, numbered, denials_of}
 use Rattle.sb_refute.proofs.Hints.{here, later, cons-cases, not-in-nil}
 use Rattle.sb_refute.proofs.Memberships.{push-last, push-keeps, push-cases}
+use Rattle.sb_refute.proofs.UnitFacts.{inserted-unit, atom-there, atoms-stay}
 
 none-some : {X : Type 0} (x : X) → None ≡ Some x → ⊥
 none-some x h = cc
@@ -69,60 +71,93 @@ some-copied (Some a) x same h = refl
 
 -- One more.
 
-pub picked-none : (us : List Member) (ls : List Lit) (picked : List Asserted) → ls ≡ [] → picked ≡ []
-    → ArePicked us ls picked
-picked-none us ls picked none nothing = record {
-  units = [];
-  from = λ u among. absurd (not-in-nil u among);
-  are = sym none;
-  clauses = ap (map (λ (a : Asserted). a.clause.0)) (sym nothing);
-  levels = ap (map (λ (a : Asserted). a.level)) (sym nothing);
-}
+pub picked-none : (us : List Member) (ls : List Lit) (es : List (ℕ × Asserted)) → ls ≡ [] → es ≡ []
+    → ArePicked us ls (numbered es)
+picked-none us ls es none nothing =
+    subst (λ (fs : List (ℕ × Asserted)). ArePicked us ls (numbered fs)) (sym nothing)
+    (record {
+      from = λ u among. absurd (not-in-nil u among);
+      has = λ l among. absurd (not-in-nil l (subst (λ (ms : List Lit). Contains ms l) none among));
+    })
 
-pub picked-one : (us : List Member) (ls more : List Lit) (picked next : List Asserted) (l : Lit) (a : Asserted)
-    → more ≡ ls ++ l ∷ [] → next ≡ picked ++ a ∷ [] → l.positive ≡ false
-    → Contains us (l.atom, a.clause.0, a.level) → ArePicked us ls picked → ArePicked us more next
-picked-one us ls more picked next l a is now negative among p = record {
-  units = p.units ++ unit ∷ [];
-  from = λ u h. elim (push-cases p.units unit u h) [
-    | inl before ↦ p.from u before
-    | inr last ↦ subst (Contains us) last among
+-- the atom is denied
+denies : (us : List Member) (l : Lit) → l.positive ≡ false → Contains (map (λ (u : Member). u.0) us) l.atom
+    → Contains (denials_of us) l
+denies [] l negative h = absurd (not-in-nil l.atom h)
+denies (u ∷ us) l negative h = elim (cons-cases u.0 (map (λ (v : Member). v.0) us) l.atom h) [
+  | inl one ↦ subst (Contains (denials_of (u ∷ us)))
+      (ap₂ (λ (n : ℕ) (b : Bool). record { atom = n; positive = b }) one (sym negative))
+      (here (record { atom = u.0; positive = false }) (denials_of us))
+  | inr more ↦ later (record { atom = u.0; positive = false }) (denials_of us) l (denies us l negative more)
+]
+
+denied-atom : (us : List Member) (l : Lit) → Contains (denials_of us) l
+    → (l.positive ≡ false) × Contains (map (λ (u : Member). u.0) us) l.atom
+denied-atom [] l h = absurd (not-in-nil l h)
+denied-atom (u ∷ us) l h = elim (cons-cases (record { atom = u.0; positive = false }) (denials_of us) l h) [
+  | inl e ↦ (
+    sym (ap (λ (m : Lit). m.positive) e),
+    subst (Contains (map (λ (v : Member). v.0) (u ∷ us))) (ap (λ (m : Lit). m.atom) e)
+        (here u.0 (map (λ (v : Member). v.0) us)),
+  )
+  | inr more ↦
+      let rest = denied-atom us l more in
+      (rest.0, later u.0 (map (λ (v : Member). v.0) us) l.atom rest.1)
+]
+
+equal : (n m : ℕ) → nat_cmp n m ≡ Equal → n ≡ m
+equal n m h = grind (arith, nat_tests)
+
+pub picked-one : (us : List Member) (ls more : List Lit) (es : List (ℕ × Asserted)) (l : Lit) (a : Asserted)
+    → more ≡ ls ++ l ∷ [] → Contains (denials_of us) l → Contains us (l.atom, a.clause.0, a.level)
+    → ArePicked us ls (numbered es) → ArePicked us more (numbered (insert_entry nat_cmp es l.atom a))
+picked-one us ls more es l a is denied among p = record {
+  from = λ u h. elim (inserted-unit l.atom a equal es u h) [
+    | inl one ↦ subst (Contains us) one among
+    | inr old ↦ p.from u old
   ];
-  are = map_push (λ (u : Member). record { atom = u.0; positive = false }) p.units unit
-      ∙ ap₂ (λ (ms : List Lit) (b : Bool). ms ++ (record { atom = l.atom; positive = b }) ∷ []) p.are (sym negative)
-      ∙ sym is;
-  clauses = map_push (λ (u : Member). u.1) p.units unit
-      ∙ ap (λ (ns : List ℕ). ns ++ a.clause.0 ∷ []) p.clauses
-      ∙ sym (map_push (λ (b : Asserted). b.clause.0) picked a)
-      ∙ ap (map (λ (b : Asserted). b.clause.0)) (sym now);
-  levels = map_push (λ (u : Member). u.2) p.units unit
-      ∙ ap (λ (ns : List ℕ). ns ++ a.level ∷ []) p.levels
-      ∙ sym (map_push (λ (b : Asserted). b.level) picked a)
-      ∙ ap (map (λ (b : Asserted). b.level)) (sym now);
+  has = λ m h. elim (push-cases ls l m (subst (λ (ms : List Lit). Contains ms m) is h)) [
+    | inl before ↦
+        let it = denied-atom (numbered es) m (p.has m before) in
+        denies now m it.0 (atoms-stay l.atom a es m.atom it.1)
+    | inr last ↦ subst (Contains (denials_of now)) last
+        (denies now l (denied-atom us l denied).0 (atom-there l.atom a equal es))
+  ];
 }
   where
-    unit : Member
-    unit = (l.atom, a.clause.0, a.level)
+    now : List Member
+    now = numbered (insert_entry nat_cmp es l.atom a)
 
--- the literals of a denial are negative
-pub negative : (us : List Member) (l : Lit) → Contains (denials_of us) l → l.positive ≡ false
-negative [] l h = absurd (not-in-nil l h)
-negative (u ∷ us) l h = elim (cons-cases (record { atom = u.0; positive = false }) (denials_of us) l h) [
-  | inl e ↦ sym (ap (λ (m : Lit). m.positive) e)
-  | inr more ↦ negative us l more
-]
+-- the clauses in order
+pub numbers-listed : (es : List (ℕ × Asserted))
+    → map (λ (u : Member). u.1) (numbered es) ≡ map (λ (a : Asserted). a.clause.0) (values_of es)
+numbers-listed [] = refl
+numbers-listed (e ∷ es) = ap (λ (ns : List ℕ). e.1.clause.0 ∷ ns) (numbers-listed es)
+
+pub levels-listed : (es : List (ℕ × Asserted))
+    → map (λ (u : Member). u.2) (numbered es) ≡ map (λ (a : Asserted). a.level) (values_of es)
+levels-listed [] = refl
+levels-listed (e ∷ es) = ap (λ (ns : List ℕ). e.1.level ∷ ns) (levels-listed es)
 
 -- The greatest level.
 
-pub top-none : (ns : List ℕ) → ns ≡ [] → IsTop ns 0
-top-none ns none =
-    subst (λ ms. IsTop ms 0) (sym none)
-    (record { none_above = λ n among. absurd (not-in-nil n among); is = inl refl })
+pub top-none : (first : ℕ) (picked : List Asserted) → picked ≡ []
+    → IsTop (first ∷ map (λ (a : Asserted). a.level) picked) first
+top-none first picked none =
+    subst (λ (xs : List Asserted). IsTop (first ∷ map (λ (a : Asserted). a.level) xs) first) (sym none)
+    (record {
+      none_above = λ n among. elim (cons-cases first [] n among) [
+        | inl e ↦ omega (arith, e)
+        | inr none ↦ absurd (not-in-nil n none)
+      ];
+      is = here first [];
+    })
 
-pub top-one : (old more : List Asserted) (a : Asserted) (top now : ℕ) → more ≡ old ++ a ∷ [] → now ≡ max a.level top
-    → IsTop (map (λ (b : Asserted). b.level) old) top → IsTop (map (λ (b : Asserted). b.level) more) now
-top-one old more a top now is next h =
-    subst (λ ms. IsTop ms now)
+pub top-one : (first : ℕ) (old more : List Asserted) (a : Asserted) (top now : ℕ) → more ≡ old ++ a ∷ []
+    → now ≡ max a.level top → IsTop (first ∷ map (λ (b : Asserted). b.level) old) top
+    → IsTop (first ∷ map (λ (b : Asserted). b.level) more) now
+top-one first old more a top now is next h =
+    subst (λ ms. IsTop (first ∷ ms) now)
     (sym (ap (map (λ (b : Asserted). b.level)) is ∙ map_push (λ (b : Asserted). b.level) old a))
     (record {
       none_above = λ n among. elim (push-cases ns a.level n among) [
@@ -133,16 +168,12 @@ top-one old more a top now is next h =
     })
   where
     ns : List ℕ
-    ns = map (λ (b : Asserted). b.level) old
+    ns = first ∷ map (λ (b : Asserted). b.level) old
 
-    kept : now ≡ top → (top ≡ 0) ⊎ Contains ns top → (now ≡ 0) ⊎ Contains (ns ++ a.level ∷ []) now
-    kept same (inl zero) = inl (same ∙ zero)
-    kept same (inr among) = inr (subst (Contains (ns ++ a.level ∷ [])) (sym same) (push-keeps ns a.level top among))
-
-    step : (b : Bool) → nat_le top a.level ≡ b → (now ≡ 0) ⊎ Contains (ns ++ a.level ∷ []) now
+    step : (b : Bool) → nat_le top a.level ≡ b → Contains (ns ++ a.level ∷ []) now
     step true le =
         let same : now ≡ a.level = grind (arith, nat_tests, next) in
-        inr (subst (Contains (ns ++ a.level ∷ [])) (sym same) (push-last ns a.level))
+        subst (Contains (ns ++ a.level ∷ [])) (sym same) (push-last ns a.level)
     step false le =
         let same : now ≡ top = grind (arith, nat_tests, next) in
-        kept same h.is
+        subst (Contains (ns ++ a.level ∷ [])) (sym same) (push-keeps ns a.level top h.is)

@@ -1,6 +1,5 @@
 -- The clause of an assertion that stands in the proof, and one that takes its place.
-use Rattle.std.proofs.Common.{◌≡◌, ◌≢◌, ℕ, Bool, true, false, nat_eq, List, Option, Some, None, IfSome, Result, Ok, Err, ◌<◌, length, inl, inr, refl, sym, ap, subst, ◌∙◌, arith}
-use Rattle.std.specs.Result.{OnOk, OnErr}
+use Rattle.std.proofs.Common.{◌≡◌, ◌≢◌, ℕ, Bool, true, false, nat_eq, List, Option, Some, None, IfSome, refl, sym, ap, subst, ◌∙◌, arith}
 use Rattle.std.proofs.lemmas.Bool.Decides.{nat_tests}
 use Rattle.sb_lit.specs.declared.clause.Lit.{Lit}
 use Rattle.sb_lang.specs.Regex.{Regex}
@@ -9,11 +8,9 @@ use Rattle.sb_rulebook.specs.Kept.{AllKept, Asked}
 use Rattle.sb_refute.specs.declared.evidence.Asserted.{Asserted}
 use Rattle.sb_refute.specs.Backing.{Backing, Backs, EvidencesUncounted, asserted_at}
 use Rattle.sb_refute.specs.Lines.{IsStanding, placed}
-use Rattle.sb_rulebook.specs.Atoms.{AtomOver}
-use Rattle.sb_refute.specs.Units.{AreOfAtoms}
 use Rattle.sb_refute.proofs.Backs.{backs-without}
 use Rattle.sb_refute.proofs.Asserting.{nothing-put}
-use Rattle.sb_refute.proofs.Places.{placed-others, placed-cases}
+use Rattle.sb_refute.proofs.Places.{placed-others}
 
 some-none : {X : Type 0} (x : X) → Some x ≡ None → ⊥
 some-none x h = cc
@@ -69,17 +66,3 @@ pub without-put : (asked : Asked) (kept : AllKept) (rs : List Regex) (memo : Mem
 without-put asked kept rs memo e place told b =
     nothing-put asked kept rs memo (record e { asserted = placed e.asserted place None }) told
     (backs-without rs memo e kept place b)
-
--- the literals of assertions stay of atoms of the table
-pub of-placed : {T E : Type 0} (r : Result T E) (atoms : List (AtomOver ℕ)) (old new : List (Option Asserted))
-    (place : ℕ) (x : Option Asserted) → OnOk r (new ≡ placed old place x) → OnErr r (new ≡ old)
-    → IfSome x (λ a. (a.literal.positive ≡ true) × (a.literal.atom < length atoms)) → AreOfAtoms atoms old
-    → AreOfAtoms atoms new
-of-placed (Err e) atoms old new place x ok err known of = subst (AreOfAtoms atoms) (sym err) of
-of-placed (Ok t) atoms old new place x ok err known of =
-    subst (AreOfAtoms atoms) (sym ok)
-    (λ q a h. elim (placed-cases old place q x a h) [
-      | inl same ↦ subst (λ (y : Option Asserted). IfSome y
-          (λ a. (a.literal.positive ≡ true) × (a.literal.atom < length atoms))) same known
-      | inr before ↦ of q a before
-    ])

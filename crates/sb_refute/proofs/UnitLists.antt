@@ -1,5 +1,5 @@
 -- The lists that are made of the clauses of memberships, along their atoms or their numbers.
-use Rattle.std.proofs.Common.{◌≡◌, ℕ, ◌<◌, zero, suc, false, List, [], ◌∷◌, ◌++◌, map, length, slice_index_or, All, refl, sym, ap, subst, ◌∙◌, arith, append_assoc, append-nil}
+use Rattle.std.proofs.Common.{◌≡◌, ℕ, ◌<◌, zero, suc, true, false, List, [], ◌∷◌, ◌++◌, map, length, slice_index_or, All, refl, sym, ap, subst, ◌∙◌, arith, append_assoc, append-nil}
 use Rattle.std.proofs.lemmas.Bool.Decides.{nat_tests}
 use Rattle.std.specs.declared.cmp.Ordering.TheVariants.{Less}
 use Rattle.std.specs.Ordering.{nat_cmp}
@@ -10,12 +10,18 @@ use Rattle.sb_refute.specs.declared.evidence.Asserted.{Asserted}
 use Rattle.sb_script.specs.Pieces.{constant_piece}
 use Rattle.sb_rulebook.specs.Atoms.{AtomOver, in_atom}
 use Rattle.sb_atoms.specs.Numbered.{Names}
-use Rattle.sb_refute.specs.Units.{Member, Rise, IsOfRegex, AreRegexesOf, numbered, denials_of}
+use Rattle.sb_refute.specs.Units.{Member, Rise, IsOfRegex, AreRegexesOf, numbered, denials_of, affirmations_of}
 
 pub denials-by_atoms : (es : List (ℕ × Asserted))
     → map (λ (k : ℕ). record { atom = k; positive = false }) (keys_of es) ≡ denials_of (numbered es)
 denials-by_atoms [] = refl
 denials-by_atoms (e ∷ es) = ap (λ (ls : List Lit). (record { atom = e.0; positive = false }) ∷ ls) (denials-by_atoms es)
+
+pub affirmations-by_atoms : (es : List (ℕ × Asserted))
+    → map (λ (k : ℕ). record { atom = k; positive = true }) (keys_of es) ≡ affirmations_of (numbered es)
+affirmations-by_atoms [] = refl
+affirmations-by_atoms (e ∷ es) =
+    ap (λ (ls : List Lit). (record { atom = e.0; positive = true }) ∷ ls) (affirmations-by_atoms es)
 
 less : (n m : ℕ) → nat_cmp n m ≡ Less → n < m
 less n m h = grind (arith, nat_tests)

@@ -1,9 +1,8 @@
 -- What the evidence of an unsat knows of a proof, and what a reader of the proof keeps.
-use Rattle.std.specs.Prelude.{◌≡◌, ℕ, ◌<◌, ◌≤◌, true, List, [], ◌∷◌, length, take, slice_get, slice_index_or, Option, Some, None, unwrap_or, nat_lt, if◌then◌else◌, Contains}
+use Rattle.std.specs.Prelude.{◌≡◌, ℕ, ◌<◌, ◌≤◌, true, List, [], ◌∷◌, map, take, slice_get, Option, Some, None, unwrap_or, nat_lt, if◌then◌else◌}
 use Rattle.sb_lang.specs.Regex.{Regex}
 use Rattle.sb_lit.specs.Budgets.{Spending}
-use Rattle.sb_lit.specs.declared.clause.Lit.{Lit}
-use Rattle.sb_lit.specs.Kept.{Kept, KeptClause, kept_at}
+use Rattle.sb_lit.specs.Kept.{Kept, KeptClause, kept_at, kept_up_to}
 use Rattle.sb_meaning.specs.Terms.{Term, text}
 use Rattle.sb_script.specs.Brought as brought
 use Rattle.sb_deriv.specs.Faithful.{Memo}
@@ -13,7 +12,6 @@ use Rattle.sb_rulebook.specs.AtomRules.{is_declared}
 use Rattle.sb_atoms.specs.Numbered.{atoms_in}
 use Rattle.sb_trace.specs.Putting.{Puts, IsCounted}
 use Rattle.sb_trace.specs.Tracking.{Traced, Tracks}
-use Rattle.sb_refute.specs.Denying.{Denied, none_denied}
 use Rattle.sb_refute.specs.declared.evidence.Asserted.{Asserted}
 use Rattle.sb_refute.specs.declared.evidence.EmptyClause.{EmptyClause}
 
@@ -22,11 +20,10 @@ pub record Backing : Type 0 where
   pub trace : Traced
   -- by number, with the numbers of their regexes in the arena
   pub atoms : List (AtomOver ℕ)
-  -- how many clauses
-  pub clauses : ℕ
+  -- by number
+  pub kept : Kept
   -- by the places of live assertions
   pub asserted : List (Option Asserted)
-  pub denials : Denied
   -- the empty clause
   pub refuted : Option EmptyClause
 
@@ -41,30 +38,14 @@ unit_at a = record { literals = a.literal ∷ []; level = a.level }
 abbrev pub empty_at : EmptyClause → KeptClause
 empty_at empty = record { literals = []; level = empty.level }
 
--- some literal of the clause is positive
-abbrev pub HasPositive : KeptClause → Type 0
-HasPositive clause = (l : Lit) × Contains clause.literals l × (l.positive ≡ true)
-
--- a clause that may be kept: one with a positive literal, as those of assertions, a denial, or the empty clause
-pub data IsKnown (denials : Denied) (refuted : Option EmptyClause) (clause : KeptClause) : Type 0 where
-  is_positive : HasPositive clause → IsKnown denials refuted clause
-  is_denial : (d : ℕ) → kept_at denials.clauses d ≡ Some clause → IsKnown denials refuted clause
-  is_empty : (empty : EmptyClause) → refuted ≡ Some empty → clause ≡ empty_at empty → IsKnown denials refuted clause
-
--- The reader keeps the regexes and the atoms of the evidence, of each assertion that was put the clause, each denial,
--- and the empty clause. Other clauses than these, and such as have a positive literal, it keeps none.
+-- The reader keeps the regexes, the atoms and the clauses of the evidence, among them that of each assertion that was
+-- put.
 pub record Backs (rs : List Regex) (memo : Memo) (e : Backing) (kept : AllKept) : Type 0 where
   pub tracks : Tracks rs memo e.trace kept
   pub atoms : kept.atoms ≡ atoms_in rs e.atoms
-  pub clauses : length kept.clauses ≡ e.clauses
+  pub clauses : kept.clauses ≡ e.kept
   pub asserted : (place : ℕ) (a : Asserted) → asserted_at e.asserted place ≡ Some a
-      → kept_at kept.clauses a.clause.0 ≡ Some (unit_at a)
-  pub denied : (d : ℕ) (clause : KeptClause) → kept_at e.denials.clauses d ≡ Some clause
-      → kept_at kept.clauses (slice_index_or e.denials.numbers d 0) ≡ Some clause
-  pub refuted : (empty : EmptyClause) → e.refuted ≡ Some empty
-      → kept_at kept.clauses empty.clause.0 ≡ Some (empty_at empty)
-  pub known : (id : ℕ) (clause : KeptClause) → kept_at kept.clauses id ≡ Some clause
-      → IsKnown e.denials e.refuted clause
+      → kept_at e.kept a.clause.0 ≡ Some (unit_at a)
 
 -- Lines were put that follow, and the reader keeps what the evidence knows behind them.
 pub record Evidences (asked : Asked) (before : AllKept) (rs : List Regex) (memo : Memo) (e : Backing)
@@ -108,13 +89,14 @@ abbrev pub refuted_up_to : ℕ → Option EmptyClause → Option EmptyClause
 refuted_up_to level None = None
 refuted_up_to level (Some empty) = if nat_lt level empty.level then None else Some empty
 
--- the assertions before the place stay, and the empty clause unless it is above the level
+-- the clauses up to the level stay, and the assertions before the place; the empty clause unless it is above the level
 abbrev pub retracted : ℕ → ℕ → Backing → Backing
 retracted level count e = record e {
+  kept = kept_up_to level e.kept;
   asserted = take count e.asserted;
   refuted = refuted_up_to level e.refuted;
 }
 
 -- no clause stays
 abbrev pub cleared : Backing → Backing
-cleared e = record e { asserted = []; denials = none_denied; refuted = None }
+cleared e = record e { kept = map (λ clause. None) e.kept; asserted = []; refuted = None }

@@ -1,4 +1,3 @@
-pub mod Denying
 pub mod Backing
 pub mod Refuting
 pub mod Units

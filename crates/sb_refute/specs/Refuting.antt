@@ -6,6 +6,7 @@ use Rattle.sb_word.specs.Words.{IsWord}
 use Rattle.sb_lang.specs.Regex.{Regex}
 use Rattle.sb_lang.specs.Language.{language}
 use Rattle.sb_lit.specs.Budgets.{Spending}
+use Rattle.sb_lit.specs.Kept.{Kept, kept_at}
 use Rattle.sb_regex.specs.Numbered.{regexes_at}
 use Rattle.sb_rulebook.specs.Atoms.{AtomOver, in_atom}
 use Rattle.sb_script.specs.Pieces.{constant_piece}
@@ -32,7 +33,12 @@ pub record AreDisjoint (rs : List Regex) (e : Backing) (places : List ℕ) : Typ
   pub are : map (membership_at e) places ≡ map (λ r. Some (constant, r)) regexes
   pub no_word : (w : List ℕ) → IsWord w → list_all (λ r. language r w) (regexes_at rs regexes) ≡ false
 
--- the number is that of the empty clause, or the budget is spent
+-- the empty clause is kept at the number
+abbrev pub IsEmptyAt : Kept → ℕ → Type 0
+IsEmptyAt kept id = (level : ℕ) × (kept_at kept id ≡ Some (record { literals = []; level = level }))
+
+-- the number is that of the empty clause, which is kept, or the budget is spent
 abbrev pub IsRefutation : Backing → Spending → Refuted → Type 0
-IsRefutation e budget (refuted.Clause id) = option_map (λ empty. empty.clause) e.refuted ≡ Some id
+IsRefutation e budget (refuted.Clause id) =
+    (option_map (λ empty. empty.clause) e.refuted ≡ Some id) × IsEmptyAt e.kept id.0
 IsRefutation e budget refuted.Spent = budget.spent ≡ budget.limit

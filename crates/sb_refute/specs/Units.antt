@@ -1,23 +1,24 @@
 -- Private: the clauses of memberships, by their atoms, and the denials of these.
-use Rattle.std.specs.Prelude.{◌≡◌, ◌≢◌, ℕ, ◌<◌, ◌≤◌, true, false, ◌⊎◌, List, [], ◌∷◌, ◌++◌, map, length, Option, Some, None, Contains, IsSome}
+use Rattle.std.specs.Prelude.{◌≡◌, ℕ, ◌<◌, ◌≤◌, true, false, List, [], ◌∷◌, ◌++◌, map, length, Option, Some, None, Contains, IsSome}
 use Rattle.sb_lang.specs.Regex.{Regex}
 use Rattle.sb_lang.specs.Constructors.{mkand}
 use Rattle.sb_regex.specs.Numbered.{regex_at}
-use Rattle.sb_lit.specs.Clauses.{are_among}
-use Rattle.sb_lit.specs.Hints.{is_repeated}
 use Rattle.sb_lit.specs.Kept.{Kept, KeptClause, kept_at}
 use Rattle.sb_lit.specs.declared.clause.Lit.{Lit}
+use Rattle.sb_lit.specs.declared.clause.ClauseId.{ClauseId}
+use Rattle.sb_clauses.specs.Propagation.{has_room_for}
 use Rattle.sb_atoms.specs.Numbered.{Names, atoms_in}
 use Rattle.sb_rulebook.specs.Atoms.{AtomOver, in_atom}
 use Rattle.sb_rulebook.specs.Kept.{AllKept}
 use Rattle.sb_sound.specs.MembershipLaws.{AreDeniedIn}
-use Rattle.sb_sound.specs.HintLaws.{AreNamed, Refutes, IsGreatestLevel}
+use Rattle.sb_sound.specs.HintLaws.{AreNamed, HasNoSubset, Refutes, IsGreatestLevel}
 use Rattle.sb_trace.specs.Tracking.{is_dead_in}
 use Rattle.sb_script.specs.Pieces.{constant_piece}
-use Rattle.sb_refute.specs.Denying.{Denied, at_the_bottom}
-use Rattle.sb_refute.specs.Backing.{Backing, asserted_at}
+use Rattle.sb_atoms.specs.Translated.{are_members}
+use Rattle.sb_refute.specs.Backing.{Backing, asserted_at, empty_at}
 use Rattle.sb_refute.specs.Refuting.{AreDisjoint}
 use Rattle.sb_refute.specs.declared.evidence.Asserted.{Asserted}
+use Rattle.sb_refute.specs.declared.evidence.EmptyClause.{EmptyClause}
 
 -- an atom, the number of the clause that it is true, and the level of that
 abbrev pub Member : Type 0
@@ -83,41 +84,41 @@ pub record HaveUnits (e : Backing) (us : List Member) : Type 0 where
 abbrev pub denials_of : List Member → List Lit
 denials_of units = map (λ u. record { atom = u.0; positive = false }) units
 
--- The clause denies some atoms, each once, and holds in the whole script.
-pub record IsDenial (clause : KeptClause) : Type 0 where
-  pub units : List Member
-  pub some : units ≢ []
-  pub rise : Rise units
-  pub is : clause ≡ at_the_bottom (denials_of units)
+abbrev pub affirmations_of : List Member → List Lit
+affirmations_of units = map (λ u. record { atom = u.0; positive = true }) units
 
--- each clause has its number, and is a denial
-pub record AreDenials (d : Denied) : Type 0 where
-  pub long : length d.numbers ≡ length d.clauses
-  pub each : (i : ℕ) (clause : KeptClause) → kept_at d.clauses i ≡ Some clause → IsDenial clause
-
--- a denial of some of these literals
-pub record HasPart (d : Denied) (literals : List Lit) (i : ℕ) : Type 0 where
+-- the clause at the number has only literals of these
+pub record HasPart (kept : Kept) (literals : List Lit) (id : ℕ) : Type 0 where
   pub clause : KeptClause
-  pub there : kept_at d.clauses i ≡ Some clause
-  pub among : are_among clause.literals literals ≡ true
+  pub there : kept_at kept id ≡ Some clause
+  pub among : (l : Lit) → Contains clause.literals l → Contains literals l
 
--- a denial of some of these literals, none only where there is none
-abbrev pub IsPartIn : Denied → List Lit → Option ℕ → Type 0
-IsPartIn d literals None = is_repeated d.clauses literals ≡ false
-IsPartIn d literals (Some i) = HasPart d literals i
+-- a clause that has only literals of these, none only where there is none
+abbrev pub IsPartIn : Kept → List Lit → Option ClauseId → Type 0
+IsPartIn kept literals None = HasNoSubset kept literals
+IsPartIn kept literals (Some id) = HasPart kept literals id.0
 
--- These are the clauses of the literals' atoms, in order, and each stands among these.
-pub record ArePicked (us : List Member) (literals : List Lit) (picked : List Asserted) : Type 0 where
-  pub units : List Member
-  pub from : (u : Member) → Contains units u → Contains us u
-  pub are : denials_of units ≡ literals
-  pub clauses : map (λ u. u.1) units ≡ map (λ a. a.clause.0) picked
-  pub levels : map (λ u. u.2) units ≡ map (λ a. a.level) picked
+-- Each of them stands among these, and each of the literals is of one of them.
+pub record ArePicked (us : List Member) (literals : List Lit) (picked : List Member) : Type 0 where
+  pub from : (u : Member) → Contains picked u → Contains us u
+  pub has : (l : Lit) → Contains literals l → Contains (denials_of picked) l
 
--- none of the numbers is greater, and it is one of them, or 0
+-- it is one of the numbers, and none is greater
 pub record IsTop (ns : List ℕ) (top : ℕ) : Type 0 where
   pub none_above : (n : ℕ) → Contains ns n → n ≤ top
-  pub is : (top ≡ 0) ⊎ Contains ns top
+  pub is : Contains ns top
+
+-- What is known of the atoms, the clauses, the assertions and the empty clause that stand in a proof: the atoms are
+-- memberships, those of all literals are in the table, and only the empty clause has no literals.
+pub record Stand (atoms : List (AtomOver ℕ)) (kept : Kept) (asserted : List (Option Asserted))
+    (found : Option EmptyClause) : Type 0
+  where
+    pub of_atoms : AreOfAtoms atoms asserted
+    pub members : are_members atoms ≡ true
+    pub known : has_room_for (length atoms) kept ≡ true
+    pub refuted : (empty : EmptyClause) → found ≡ Some empty → kept_at kept empty.clause.0 ≡ Some (empty_at empty)
+    pub alone : (id : ℕ) (clause : KeptClause) → kept_at kept id ≡ Some clause → clause.literals ≡ []
+        → (empty : EmptyClause) × (found ≡ Some empty) × (clause ≡ empty_at empty)
 
 -- the clause that an atom is true
 abbrev pub unit_of : Member → KeptClause
@@ -143,5 +144,6 @@ pub record LeadsNowhere (kept : Kept) (ids : List ℕ) (level : ℕ) : Type 0 wh
   pub refutes : Refutes [] clauses
   pub greatest : IsGreatestLevel clauses level
 
+-- the numbers of the clauses, and that of the one that they refute
 abbrev pub hints_of : List Asserted → ℕ → List ℕ
 hints_of picked denial = map (λ a. a.clause.0) picked ++ denial ∷ []

@@ -1,8 +1,10 @@
 //! What stands in a proof of the live assertions.
 
-ghost use Rattle.std.specs.Prelude.{◌≡◌, ◌≢◌, ◌<◌, ◌+◌, ◌∷◌, ℕ, [], true, map, List, Some, None, length, option_map, OnOk, OnErr, IfOk, IfSome};
+ghost use Rattle.std.specs.Prelude.{◌≡◌, ◌≢◌, ◌<◌, ◌∷◌, ◌++◌, ℕ, [], true, map, List, Some, None, length, option_map, OnOk, OnErr, IfOk, IfSome};
 ghost use Rattle.sb_script.specs.Pieces.{constant_piece};
 ghost use Rattle.sb_proof.specs.Lines.{piece_in};
+ghost use Rattle.sb_lit.specs.Kept.{kept_at};
+ghost use Rattle.sb_clauses.specs.Propagation.{are_reserved};
 ghost use Rattle.sb_lang.specs.Regex.{Regex};
 ghost use Rattle.sb_regex.specs.Numbered as regex;
 ghost use Rattle.sb_deriv.specs.Faithful.{Memo};
@@ -15,14 +17,15 @@ ghost use Rattle.sb_atoms.specs.Numbered.{atom_in, atoms_in, HaveRegexesBelow, E
 ghost use Rattle.sb_atoms.specs.Translated.{member_translation, is_member, are_members, HasNoMemberLiteral};
 ghost use Rattle.sb_trace.specs.Putting.{CountsTapeFault};
 ghost use Rattle.sb_trace.specs.Tracking.{StaysNumbered};
-ghost use Rattle.sb_refute.specs.Backing.{Backs, EvidencesUncounted, IsLive, KeepsAsserted, AreUpTo, asserted_at, retracted, refuted_up_to, cleared};
+ghost use Rattle.sb_refute.specs.Backing.{Backs, EvidencesUncounted, IsLive, KeepsAsserted, AreUpTo, asserted_at, empty_at, retracted, refuted_up_to, cleared};
 ghost use Rattle.sb_refute.specs.Lines.{BringsAtom, IsAssertion, IsStanding, placed};
+ghost use Rattle.sb_refute.specs.Units.{Stand};
 
-use crate::denials::Denials;
 use sb_atoms::{Atom, AtomId, Atoms};
+use sb_clauses::Engine;
 use sb_fragment::Measures;
 use sb_lang::order::order_tells_apart;
-use sb_lit::{ClauseId, Lit};
+use sb_lit::{Clause, ClauseId, Lit};
 use sb_problem::Normals;
 use sb_proof::{Atom as ProofAtom, Line, Piece, Tape, TapeFault};
 use sb_regex::{Arena, RegexId};
@@ -54,33 +57,30 @@ pub struct Evidence {
     pub(crate) trace: Trace,
     /// An atom has the same number in the proof.
     pub(crate) atoms: Atoms,
-    /// How many clauses stand in the proof.
-    clauses: u64,
+    /// The clauses that stand in the proof, each under the number that it has there. No literals stand on the trail.
+    pub(crate) engine: Engine,
     /// By the places of live assertions.
     asserted: Vec<Option<Asserted>>,
-    pub(crate) denials: Denials,
     pub(crate) refuted: Option<EmptyClause>,
 }
 
 impl Model for Evidence {
     ghost use Rattle.sb_refute.specs.Backing.{Backing};
-    ghost use Rattle.std.specs.Prelude.{◌≡◌, true};
-    ghost use Rattle.sb_atoms.specs.Translated.{are_members};
-    ghost use Rattle.sb_refute.specs.Units.{AreOfAtoms};
+    ghost use Rattle.std.specs.Prelude.{◌≡◌, []};
+    ghost use Rattle.sb_refute.specs.Units.{Stand};
 
     ghost Value = { Backing };
 
     ghost view = { λ evidence. record {
       trace = evidence.trace;
       atoms = evidence.atoms;
-      clauses = evidence.clauses;
+      kept = evidence.engine.kept;
       asserted = evidence.asserted.items;
-      denials = evidence.denials;
       refuted = evidence.refuted;
     } };
 
-    ghost invariant = { λ evidence. AreOfAtoms evidence.atoms evidence.asserted.items
-        × (are_members evidence.atoms ≡ true) };
+    ghost invariant = { λ evidence. Stand evidence.atoms evidence.engine.kept evidence.asserted.items evidence.refuted
+        × (evidence.engine.trail.literals ≡ []) };
 }
 
 impl Evidence {
@@ -93,9 +93,8 @@ impl Evidence {
             alloc,
             trace: Trace::new(alloc),
             atoms: Atoms::new(alloc),
-            clauses: 0,
+            engine: Engine::new(alloc),
             asserted: Vec::new(alloc),
-            denials: Denials::new(alloc),
             refuted: None,
         }
     }
@@ -112,22 +111,24 @@ impl Evidence {
 
     /// The empty clause, if it stands in the proof: it refutes each check until its level is left. Constant time.
     pub fn refuted(&self) -> Option<EmptyClause>
-        ensures { result ≡ self.now.refuted }
+        ensures known { result ≡ self.now.refuted }
+        ensures kept { IfSome result (λ empty. kept_at self.now.kept empty.clause.0 ≡ Some (empty_at empty)) }
     {
         self.refuted
     }
 
     /// Forgets what a reader drops where the levels above this one are left, and so many assertions stay: the clauses
-    /// of the others, and the empty clause unless it is of a level that stays. Denials stay. Takes no memory, and time
-    /// linear in the places that are left.
+    /// above the level, and of which assertions there are clauses at the other places. Takes no memory, and time linear
+    /// in the places that are left, and in the clauses that go with a logarithm of those above level 0.
     pub fn retract(&mut self, level: u64, count: usize)
         ensures retracted { self.new ≡ retracted level count self.old }
         ensures backs { (rs : List Regex) (memo : Memo) (kept : AllKept) → Backs rs memo self.old kept
             → AreUpTo level count self.old.asserted → Backs rs memo self.new (dropped_above level kept) }
     {
-        self.denials.are_denials();
+        let empty = self.empty_up_to(level);
+        self.engine.drop_above(level);
         self.asserted.truncate(count);
-        self.refuted = self.empty_up_to(level);
+        self.refuted = empty;
     }
 
     /// The empty clause, unless it is above the level.
@@ -143,14 +144,15 @@ impl Evidence {
     }
 
     /// Forgets each clause, as a reader does where all assertions go. Regexes and atoms stay, and so do the numbers of
-    /// the clauses. Linear in what is forgotten.
+    /// the clauses. Takes no memory; linear in the numbers of clauses that were given since this was done before, and in
+    /// the places.
     pub fn clear(&mut self)
         ensures cleared { self.new ≡ cleared self.old }
         ensures backs { (rs : List Regex) (memo : Memo) (kept : AllKept) → Backs rs memo self.old kept
             → Backs rs memo self.new (all_dropped kept) }
     {
+        self.engine.drop_all();
         self.asserted.clear();
-        self.denials = Denials::new(self.alloc);
         self.refuted = None;
     }
 
@@ -278,7 +280,7 @@ impl Evidence {
     {
         assertion_lines_are_exact();
         tape.put(&Line::Assertion(place as u64, literal))?;
-        let clause = self.next_clause()?;
+        let clause = self.add(&[literal], level)?;
         let asserted = Asserted {
             clause,
             literal,
@@ -297,15 +299,44 @@ impl Evidence {
         put_at(&mut self.asserted, place, asserted)
     }
 
-    /// The number of a clause whose line was put. `AllocError` where 2^64 - 1 stand there.
-    pub(crate) fn next_clause(&mut self) -> Result<ClauseId, AllocError>
-        ensures number { IfOk result (λ id. id.0 ≡ self.old.clauses) }
-        ensures ok { OnOk result (self.new ≡ record self.old { clauses = self.old.clauses + 1 }) }
+    /// Keeps a clause, whose line is put in the same step, and answers its number. `AllocError` also for an atom of
+    /// 2 ^ 30, and where 2 ^ 32 - 1 numbers were given.
+    pub(crate) fn add(&mut self, literals: &[Lit], level: u64) -> Result<ClauseId, AllocError>
+        requires known { are_reserved (length self.old.atoms) literals.now ≡ true }
+        requires some { literals.now ≢ [] }
+        ensures number { IfOk result (λ id. id.0 ≡ length self.old.kept) }
+        ensures ok { OnOk result (self.new ≡ record self.old {
+          kept = self.old.kept ++ Some (record { literals = literals.now; level = level }) ∷ [];
+        }) }
         ensures err { OnErr result (self.new ≡ self.old) }
     {
-        let id = self.clauses;
-        self.clauses = id.checked_add(1).ok_or(AllocError)?;
-        Ok(ClauseId(id))
+        let clause = Clause::from_literals(Vec::from_slice(self.alloc, literals)?);
+        self.engine.add(&clause, level)
+    }
+
+    /// Keeps the empty clause, whose line is put in the same step.
+    pub(crate) fn add_empty(&mut self, level: u64) -> Result<EmptyClause, AllocError>
+        requires unset { self.old.refuted ≡ None }
+        ensures number { IfOk result (λ empty. empty.clause.0 ≡ length self.old.kept) }
+        ensures level { IfOk result (λ empty. empty.level ≡ level) }
+        ensures ok { IfOk result (λ empty. self.new ≡ record self.old {
+          kept = self.old.kept ++ Some (empty_at empty) ∷ [];
+          refuted = Some empty;
+        }) }
+        ensures err { OnErr result (self.new ≡ self.old) }
+    {
+        let none = Clause::from_literals(Vec::new(self.alloc));
+        let clause = self.engine.add(&none, level)?;
+        let empty = EmptyClause { clause, level };
+        self.refuted = Some(empty);
+        Ok(empty)
+    }
+
+    /// What is known of all that stands in the proof.
+    pub(crate) fn stands(&self)
+        ensures { Stand self.now.atoms self.now.kept self.now.asserted self.now.refuted }
+    {
+        let _engine = &self.engine;
     }
 }
 

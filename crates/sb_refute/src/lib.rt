@@ -8,7 +8,6 @@
 //! budget cut off are gone on with later. The layer above asks for the clause, and puts the verdict.
 #![tactic(auto)]
 
-mod denials;
 mod evidence;
 mod refute;
 

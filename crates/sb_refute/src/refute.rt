@@ -1,11 +1,13 @@
 //! Memberships of one constant that have no word in common.
 
-ghost use Rattle.std.specs.Prelude.{◌≡◌, ◌≢◌, ◌<◌, ℕ, true, false, List, [], None, length, map, Contains, IfOk, IfSome, OnOk, All};
+ghost use Rattle.std.specs.Prelude.{◌≡◌, ◌≢◌, ◌<◌, ◌∷◌, ℕ, true, false, List, [], None, length, map, Contains, IfOk, IfSome, OnOk, All};
 ghost use Rattle.std.specs.List.{list_all};
 ghost use Rattle.sb_lang.specs.Regex.{Regex};
 ghost use Rattle.sb_lang.specs.Language.{language};
 ghost use Rattle.sb_lang.specs.Least.{HasNoWord};
-ghost use Rattle.sb_lit.specs.Hints.{is_repeated};
+ghost use Rattle.std.specs.Map.{values_of};
+ghost use Rattle.sb_clauses.specs.Propagation.{are_reserved};
+ghost use Rattle.sb_sound.specs.HintLaws.{HasNoSubset};
 ghost use Rattle.sb_regex.specs.Numbered.{Extends, regex_at};
 ghost use Rattle.sb_deriv.specs.Faithful.{Memo, KeepsEntries};
 ghost use Rattle.sb_graph.specs.Findings.{IsGraph, KeepsMarks};
@@ -17,9 +19,9 @@ ghost use Rattle.sb_trace.specs.Putting.{IsCounted, CountsTapeFault};
 ghost use Rattle.sb_trace.specs.Tracking.{StaysNumbered, Tracks, Traces, is_dead_in};
 ghost use Rattle.sb_refute.specs.Backing.{Backs, Evidences};
 ghost use Rattle.sb_refute.specs.Refuting.{AreDisjoint, IsRefutation};
-ghost use Rattle.sb_refute.specs.Units.{AreUnits, HaveUnits, HaveNoWord, AreOfAtoms, CanBeDenied, IsAsserted, IsOfRegex, Rise, AreRegexesOf, HasPart, ArePicked, IsTop, LeadsNowhere, numbered, denials_of, hints_of as hints_in};
+ghost use Rattle.sb_refute.specs.Units.{AreUnits, HaveUnits, HaveNoWord, CanBeDenied, IsAsserted, IsOfRegex, Rise, AreRegexesOf, HasPart, IsPartIn, ArePicked, IsTop, LeadsNowhere, numbered, denials_of, affirmations_of, hints_of as hints_in};
 
-use crate::evidence::{Asserted, EmptyClause, Evidence, membership_of};
+use crate::evidence::{Asserted, Evidence, membership_of};
 use sb_atoms::{AtomId, Atoms};
 use sb_graph::{Graph, graph_stays};
 use sb_lang::constructors::mkand_keeps_language;
@@ -28,6 +30,7 @@ use sb_proof::{Line, Rule, Tape, TapeFault};
 use sb_regex::{Arena, RegexId};
 use sb_sound::clauses::{learned_lines_are_exact, rule_lines_are_exact};
 use sb_trace::{Explore, Trace};
+use sb_trail::CompactLit;
 use std::alloc::{AllocError, Global};
 use std::collections::BTreeMap;
 
@@ -53,14 +56,14 @@ struct Reasons {
 impl Evidence {
     /// The empty clause, from live assertions whose atoms are memberships of one constant with no word in common, given
     /// by their places. Their clauses stand in the proof; several may be of one atom. The lines that are lacking are
-    /// put: where no denial of some of these memberships stands there, those that show the intersection dead, and the
-    /// clause that says that not all of them are true; then the empty clause, of the greatest level of the assertions
-    /// that are denied together. The budget is asked before each line that counts; where it is spent, the lines that
+    /// put: where no clause that says that not all of them are true stands there, those that show the intersection dead,
+    /// and such a clause; then the empty clause, of the greatest level of that clause and of the assertions that it
+    /// denies. The budget is asked before each line that counts; where it is spent, the lines that
     /// were put stay, and a later call goes on from there. Once the empty clause is there it is the answer, whatever
     /// the members.
     ///
-    /// Its cost is that of the exploration, and log-linear in the members, with a look at each denial that is listed
-    /// under one of their atoms. After an error the tape may have a line of which nothing is known here, so nothing
+    /// Its cost is that of the exploration, and log-linear in the members, with a look at each clause that is listed
+    /// under one of their negations. After an error the tape may have a line of which nothing is known here, so nothing
     /// more may be put.
     pub fn refute<L: Tape>(
         &mut self,
@@ -91,14 +94,14 @@ impl Evidence {
             return Ok(Refuted::Clause(empty.clause));
         }
         let units = self.units(members)?;
-        let Some(place) = self.denial(arena, graph, &units, tape, budget)? else {
+        let Some(id) = self.denial(arena, graph, &units, tape, budget)? else {
             return Ok(Refuted::Spent);
         };
-        self.learn(&units, place, tape, budget)
+        self.learn(&units, id, tape, budget)
     }
 
-    /// The place of a denial of some of the memberships: one that stands in the proof, or else a new one. None where the
-    /// budget did not suffice.
+    /// The number of a clause that denies some of the memberships and nothing else: one that stands in the proof, or
+    /// else a new one. None where the budget did not suffice.
     fn denial<L: Tape>(
         &mut self,
         arena: &mut Arena,
@@ -106,7 +109,7 @@ impl Evidence {
         units: &Units,
         tape: &mut L,
         budget: &mut Budget,
-    ) -> Result<Option<usize>, TapeFault>
+    ) -> Result<Option<ClauseId>, TapeFault>
         requires graph { IsGraph arena.old graph.old }
         requires regexes { HaveRegexesBelow (length arena.old) self.old.atoms }
         requires members { HaveNoWord arena.old self.old (numbered units.now.entries) }
@@ -116,7 +119,7 @@ impl Evidence {
             → Evidences asked before arena.new graph.new.memo self.new budget.new (L.Tape.told tape.old)
             (L.Tape.told tape.new)) }
         ensures part { IfOk result (λ found.
-            IfSome found (HasPart self.new.denials (denials_of (numbered units.now.entries)))) }
+            IfSome found (λ id. HasPart self.new.kept (denials_of (numbered units.now.entries)) id.0)) }
         ensures spent { IfOk result (λ found. found ≡ None → budget.new.spent ≡ budget.new.limit) }
         ensures refuted { self.new.refuted ≡ None }
         ensures asserted { self.new.asserted ≡ self.old.asserted }
@@ -128,16 +131,25 @@ impl Evidence {
         ensures derivatives_stay { KeepsEntries graph.old.memo graph.new.memo }
         ensures counts { CountsTapeFault result (L.Tape.faults tape.old) (L.Tape.faults tape.new) }
     {
-        let literals = negations(self.alloc, units)?;
-        let known = self.denials.part_of(&literals)?;
+        let known = self.known(units)?;
         if known.is_some() {
             return Ok(known);
         }
+        let literals = negations(self.alloc, units)?;
         self.deny(arena, graph, units, literals, tape, budget)
     }
 
+    /// The number of a clause that stands in the proof and denies some of the memberships and nothing else. Looks at
+    /// the clauses alone that are listed under one of their negations.
+    fn known(&self, units: &Units) -> Result<Option<ClauseId>, AllocError>
+        ensures { IfOk result (IsPartIn self.now.kept (denials_of (numbered units.now.entries))) }
+    {
+        let literals = affirmations(self.alloc, units)?;
+        self.engine.clauses().false_where(&literals)
+    }
+
     /// Puts the clause that says that not all of the memberships are true, whose literals these are, behind the lines
-    /// that show their intersection dead, and answers its place. None where the budget did not suffice.
+    /// that show their intersection dead, and answers its number. None where the budget did not suffice.
     fn deny<L: Tape>(
         &mut self,
         arena: &mut Arena,
@@ -146,20 +158,20 @@ impl Evidence {
         literals: Vec<Lit>,
         tape: &mut L,
         budget: &mut Budget,
-    ) -> Result<Option<usize>, TapeFault>
+    ) -> Result<Option<ClauseId>, TapeFault>
         requires graph { IsGraph arena.old graph.old }
         requires regexes { HaveRegexesBelow (length arena.old) self.old.atoms }
         requires members { HaveNoWord arena.old self.old (numbered units.now.entries) }
         requires literals { literals.items ≡ denials_of (numbered units.now.entries) }
         requires small { list_all is_small_literal literals.items ≡ true }
-        requires new { is_repeated self.old.denials.clauses literals.items ≡ false }
+        requires new { HasNoSubset self.old.kept literals.items }
         requires refuted { self.old.refuted ≡ None }
         ensures puts { OnOk result ((asked : Asked) (before : AllKept)
             → Backs arena.old graph.old.memo self.old before → IsCounted asked before budget.old
             → Evidences asked before arena.new graph.new.memo self.new budget.new (L.Tape.told tape.old)
             (L.Tape.told tape.new)) }
         ensures part { IfOk result (λ found.
-            IfSome found (HasPart self.new.denials (denials_of (numbered units.now.entries)))) }
+            IfSome found (λ id. HasPart self.new.kept (denials_of (numbered units.now.entries)) id.0)) }
         ensures spent { IfOk result (λ found. found ≡ None → budget.new.spent ≡ budget.new.limit) }
         ensures refuted { self.new.refuted ≡ None }
         ensures asserted { self.new.asserted ≡ self.old.asserted }
@@ -171,7 +183,7 @@ impl Evidence {
         ensures derivatives_stay { KeepsEntries graph.old.memo graph.new.memo }
         ensures counts { CountsTapeFault result (L.Tape.faults tape.old) (L.Tape.faults tape.new) }
     {
-        self.literals_are_of_atoms();
+        self.stands();
         mkand_keeps_language();
         graph_stays();
         let regexes = regexes_of(self.alloc, &self.atoms, units)?;
@@ -183,26 +195,27 @@ impl Evidence {
     }
 
     /// Puts the clause that says that not all of the memberships are true, whose literals these are and whose
-    /// intersection is dead in the proof, and answers its place. None where the budget did not suffice.
+    /// intersection is dead in the proof, and answers its number. None where the budget did not suffice.
     fn put_denial<L: Tape>(
         &mut self,
         units: &Units,
         literals: Vec<Lit>,
         tape: &mut L,
         budget: &mut Budget,
-    ) -> Result<Option<usize>, TapeFault>
+    ) -> Result<Option<ClauseId>, TapeFault>
         requires some { numbered units.now.entries ≢ [] }
         requires rise { Rise (numbered units.now.entries) }
         requires literals { literals.items ≡ denials_of (numbered units.now.entries) }
         requires small { list_all is_small_literal literals.items ≡ true }
-        requires new { is_repeated self.old.denials.clauses literals.items ≡ false }
+        requires known { are_reserved (length self.old.atoms) literals.items ≡ true }
+        requires new { HasNoSubset self.old.kept literals.items }
         requires refuted { self.old.refuted ≡ None }
         ensures puts { OnOk result ((asked : Asked) (rs : List Regex) (memo : Memo) (before : AllKept)
             → CanBeDenied rs self.old (numbered units.now.entries) → Backs rs memo self.old before
             → IsCounted asked before budget.old
             → Evidences asked before rs memo self.new budget.new (L.Tape.told tape.old) (L.Tape.told tape.new)) }
         ensures part { IfOk result (λ found.
-            IfSome found (HasPart self.new.denials (denials_of (numbered units.now.entries)))) }
+            IfSome found (λ id. HasPart self.new.kept (denials_of (numbered units.now.entries)) id.0)) }
         ensures spent { IfOk result (λ found. found ≡ None → budget.new.spent ≡ budget.new.limit) }
         ensures refuted { self.new.refuted ≡ None }
         ensures asserted { self.new.asserted ≡ self.old.asserted }
@@ -211,26 +224,24 @@ impl Evidence {
         ensures counts { CountsTapeFault result (L.Tape.faults tape.old) (L.Tape.faults tape.new) }
     {
         rule_lines_are_exact();
-        self.denials.are_denials();
         if budget.tick().is_err() {
             return Ok(None);
         }
-        let number = self.next_clause()?;
-        let place = self.denials.add(&literals, number)?;
+        let id = self.add(&literals, 0)?;
         tape.put(&Line::Rule(Rule::Empty, literals))?;
-        Ok(Some(place))
+        Ok(Some(id))
     }
 
-    /// Puts the empty clause, by the denial at a place and the clauses of the memberships that it denies.
+    /// Puts the empty clause, by the clause of a number and the clauses of the memberships that it denies.
     fn learn<L: Tape>(
         &mut self,
         units: &Units,
-        place: usize,
+        id: ClauseId,
         tape: &mut L,
         budget: &mut Budget,
     ) -> Result<Refuted, TapeFault>
         requires units { HaveUnits self.old (numbered units.now.entries) }
-        requires part { HasPart self.old.denials (denials_of (numbered units.now.entries)) place }
+        requires part { HasPart self.old.kept (denials_of (numbered units.now.entries)) id.0 }
         requires refuted { self.old.refuted ≡ None }
         ensures puts { OnOk result ((asked : Asked) (rs : List Regex) (memo : Memo) (before : AllKept)
             → Backs rs memo self.old before → IsCounted asked before budget.old
@@ -245,37 +256,29 @@ impl Evidence {
             return Ok(Refuted::Spent);
         }
         learned_lines_are_exact();
-        self.denials.are_denials();
-        let Reasons { hints, level } = self.reasons(units, place)?;
+        self.stands();
+        let Reasons { hints, level } = self.reasons(units, id)?;
         tape.put(&Line::Learned(Vec::new(self.alloc), hints))?;
-        let clause = self.next_clause()?;
-        self.refuted = Some(EmptyClause { clause, level });
-        Ok(Refuted::Clause(clause))
+        let empty = self.add_empty(level)?;
+        Ok(Refuted::Clause(empty.clause))
     }
 
-    /// The clauses of the memberships that the denial at a place denies, and the denial behind them.
-    fn reasons(&self, units: &Units, place: usize) -> Result<Reasons, AllocError>
+    /// The clauses of the memberships that the clause of a number denies, and that clause behind them.
+    fn reasons(&self, units: &Units, id: ClauseId) -> Result<Reasons, AllocError>
         requires units { HaveUnits self.now (numbered units.now.entries) }
-        requires part { HasPart self.now.denials (denials_of (numbered units.now.entries)) place }
+        requires part { HasPart self.now.kept (denials_of (numbered units.now.entries)) id.0 }
         ensures leads { IfOk result (λ r. (rs : List Regex) (memo : Memo) (kept : AllKept) → Backs rs memo self.now kept
             → LeadsNowhere kept.clauses r.hints.items r.level) }
         ensures small { IfOk result (λ r. are_small r.hints.items ≡ true) }
     {
-        self.literals_are_of_atoms();
-        self.denials.are_denials();
-        let picked = pick(self.alloc, units, self.denials.literals(place))?;
-        let hints = hints_of(self.alloc, &picked, self.denials.number(place))?;
+        self.stands();
+        let clauses = self.engine.clauses();
+        let picked = pick(self.alloc, units, clauses.literals(id).unwrap())?;
+        let listed = listed(self.alloc, &picked)?;
+        let hints = hints_of(self.alloc, &listed, id)?;
         numbers_are_small(&hints);
-        let level = level_of(&picked);
+        let level = level_of(&listed, clauses.level(id).unwrap());
         Ok(Reasons { hints, level })
-    }
-
-    /// The literals of assertions are positive, of atoms of the table.
-    fn literals_are_of_atoms(&self)
-        ensures of { AreOfAtoms self.now.atoms self.now.asserted }
-        ensures members { are_members self.now.atoms ≡ true }
-    {
-        let _atoms = &self.atoms;
     }
 
     /// The clauses of the assertions at these places, one for each atom.
@@ -360,39 +363,64 @@ fn negations(alloc: Global, units: &Units) -> Result<Vec<Lit>, AllocError>
     Ok(literals)
 }
 
-/// The clauses of the memberships that these literals deny, in order. Logarithmic in all memberships for each.
-fn pick(alloc: Global, units: &Units, literals: &[Lit]) -> Result<Vec<Asserted>, AllocError>
-    requires { All (Contains (denials_of (numbered units.now.entries))) literals.now }
-    ensures { IfOk result (λ picked. ArePicked (numbered units.now.entries) literals.now picked.items) }
+/// The literals that the atoms are true in.
+fn affirmations(alloc: Global, units: &Units) -> Result<Vec<Lit>, AllocError>
+    ensures { IfOk result (λ literals. literals.items ≡ affirmations_of (numbered units.now.entries)) }
 {
-    let mut picked = Vec::with_capacity(alloc, literals.len())?;
+    let mut literals = Vec::with_capacity(alloc, units.len())?;
+    for atom in units.keys() {
+        literals.push(literal(*atom, true))?;
+    }
+    Ok(literals)
+}
+
+/// The clauses of the memberships that these literals deny. Logarithmic in all memberships for each literal.
+fn pick(alloc: Global, units: &Units, literals: &[CompactLit]) -> Result<Units, AllocError>
+    requires { All (Contains (denials_of (numbered units.now.entries))) literals.now }
+    ensures { IfOk result (λ picked.
+        ArePicked (numbered units.now.entries) literals.now (numbered picked.entries)) }
+{
+    let mut picked = BTreeMap::new(alloc);
     for literal in literals {
-        picked.push(*units.get(&literal.atom).unwrap())?;
+        let atom = literal.literal().atom;
+        picked.insert(atom, *units.get(&atom).unwrap())?;
     }
     Ok(picked)
 }
 
-/// The numbers of clauses, and behind them that of the one that denies them together.
-fn hints_of(alloc: Global, picked: &[Asserted], denial: ClauseId) -> Result<Vec<u64>, AllocError>
-    ensures { IfOk result (λ hints. hints.items ≡ hints_in picked.now denial.0) }
+/// The clauses, by their atoms in order.
+fn listed(alloc: Global, units: &Units) -> Result<Vec<Asserted>, AllocError>
+    ensures rise { OnOk result (Rise (numbered units.now.entries)) }
+    ensures are { IfOk result (λ all. all.items ≡ values_of units.now.entries) }
 {
-    let mut hints = Vec::with_capacity(alloc, picked.len())?;
-    for asserted in picked {
+    let mut all = Vec::with_capacity(alloc, units.len())?;
+    for asserted in units.values() {
+        all.push(*asserted)?;
+    }
+    Ok(all)
+}
+
+/// The numbers of clauses, and behind them that of the one that denies them together.
+fn hints_of(alloc: Global, listed: &[Asserted], id: ClauseId) -> Result<Vec<u64>, AllocError>
+    ensures { IfOk result (λ hints. hints.items ≡ hints_in listed.now id.0) }
+{
+    let mut hints = Vec::with_capacity(alloc, listed.len())?;
+    for asserted in listed {
         hints.push(asserted.clause.0)?;
     }
-    hints.push(denial.0)?;
+    hints.push(id.0)?;
     Ok(hints)
 }
 
-/// The greatest level of the clauses.
-fn level_of(picked: &[Asserted]) -> u64
-    ensures { IsTop (map (λ a. a.level) picked.now) result }
+/// The greatest level of the clauses, and of one more of this level.
+fn level_of(listed: &[Asserted], level: u64) -> u64
+    ensures { IsTop (level ∷ map (λ a. a.level) listed.now) result }
 {
-    let mut level = 0;
-    for asserted in picked {
-        level = asserted.level.max(level);
+    let mut top = level;
+    for asserted in listed {
+        top = asserted.level.max(top);
     }
-    level
+    top
 }
 
 /// The text of each number can be read again.

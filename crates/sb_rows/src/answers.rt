@@ -7,7 +7,7 @@ use std::alloc::{AllocError, Global};
 use std::process::Abort;
 use std::test::Fail;
 
-const CASES: [Case; 17] = [
+const CASES: [Case; 18] = [
     // nothing
     (b"", b""),
     // success is printed, and the logic may be QF_S
@@ -82,11 +82,21 @@ const CASES: [Case; 17] = [
     ),
     // what is left out is answered so, and leaves its mark
     (
-        b"(set-option :print-success false)(set-logic QF_SLIA)(declare-const x String)(declare-sort A 0)(assert (not true))\
+        b"(set-option :print-success false)(set-logic QF_SLIA)(declare-const x String)(declare-sort A 0)(assert (str.< x x))\
           (check-sat)(declare-const n Int)(declare-fun f (Int) Int)(define-fun g ((a String)) Bool true)\
           (get-option :random-seed)(get-info :all-statistics)(check-sat-assuming ())",
         b"unsupported\nunsupported\nunsupported\nunsupported\nunsupported\nunsupported\nunsupported\nunsupported\n\
           unsupported\n",
+    ),
+    // constants of sort Bool are false where a check is decided, and Boolean structure is read and not decided
+    (
+        b"(set-option :produce-models true)(declare-const b Bool)(declare-const x String)\
+          (assert (str.in_re x (re.+ (str.to_re \"a\"))))(check-sat)(get-model)(get-value (x b))(declare-const b Bool)\
+          (push)(assert (or b (= x \"a\")))(check-sat)(pop)(check-sat)(get-value (b))(assert (ite b x \"a\"))\
+          (assert (and b x))(assert (ite b (str.in_re x re.all) b))(check-sat)",
+        b"success\nsuccess\nsuccess\nsuccess\nsat\n((define-fun b () Bool false) (define-fun x () String \"a\"))\n\
+          ((x \"a\") (b false))\n(error \"already declared b\")\nsuccess\nsuccess\nunsupported\nsuccess\nsat\n\
+          ((b false))\nunsupported\n(error \"wrong sort\")\nsuccess\nunsupported\n",
     ),
     // a script as benchmarks are written
     (

@@ -22,7 +22,7 @@ const APART: Row = (
       v unsat 3\nv unsat 3\nend\n",
 );
 
-const ROWS: [Row; 4] = [
+const ROWS: [Row; 5] = [
     (b"", b"", b"strproof 1\nend\n"),
     (
         b"(set-logic QF_S)(check-sat)(exit)(check-sat)",
@@ -34,6 +34,12 @@ const ROWS: [Row; 4] = [
           (assert (str.in_re y (str.to_re \"bc\")))(check-sat)(assert (= x x))(check-sat)",
         b"sat\nunsupported\n",
         b"strproof 1\nv sat w w62.63\nv unsupported\nend\n",
+    ),
+    (
+        b"(set-option :print-success false)(declare-const b Bool)(declare-const x String)(declare-const c Bool)\
+          (assert (= x \"bc\"))(check-sat)(assert (not b))(check-sat)",
+        b"sat\nunsupported\n",
+        b"strproof 1\nv sat f w62.63 f\nv unsupported\nend\n",
     ),
     APART,
 ];

@@ -7,19 +7,18 @@ use Rattle.std.proofs.lemmas.Option.{slice_get-map, get_or_from_slice_get, slice
 use Rattle.sb_lang.specs.Regex.{Regex}
 use Rattle.sb_regex.specs.Numbered.{regex_at, regexes_at}
 use Rattle.sb_meaning.specs.Terms.{Sort}
-use Rattle.sb_script.specs.Pieces.{Piece, constant_piece, word_piece}
-use Rattle.sb_script.specs.Sums.{Variable, Summand, int_constant, length_of}
+use Rattle.sb_script.specs.Pieces.{Piece, constant_piece}
 use Rattle.sb_atoms.specs.Numbered.{over, atoms_in, HasRegexBelow}
 use Rattle.sb_rulebook.specs.Refusals.{Refusal, unknown_id, repeated, rule_broken, not_normal}
 use Rattle.sb_rulebook.specs.Atoms.{Atom, AtomOver, bool_atom, in_atom, le_atom, sum_atom, and_atom, iff_atom, is_same_atom, is_well_formed}
-use Rattle.sb_rulebook.specs.AtomRules.{with_regex, has_its_parts, defined, follows_atom, is_known, is_declared_piece, is_declared_variable}
+use Rattle.sb_rulebook.specs.AtomRules.{with_regex, has_its_parts, defined, follows_atom, is_known, is_declared_piece}
 use Rattle.sb_rulebook.specs.Brought.{is_brought_atom}
 use Rattle.sb_rulebook.specs.Kept.{AllKept, Asked}
 use Rattle.sb_rulebook.specs.Lines.{atom_line}
 use Rattle.sb_rulebook.specs.Follows.{follows, not_brought}
 use Rattle.sb_rules.specs.declared.kept.Kept.{Kept}
-use Rattle.sb_rules.specs.Kept.{kept_in, AreDeclared}
-use Rattle.sb_rules.specs.Defining.{is_piece_below, is_variable_below, have_parts, numbered}
+use Rattle.sb_rules.specs.Kept.{kept_in}
+use Rattle.sb_rules.specs.Defining.{have_parts, numbered}
 
 -- Tests of all in a list.
 
@@ -38,41 +37,37 @@ and_true false = refl
 
 -- The parts of an atom are there by the rules where they are by numbers.
 
-piece_same : (n : ℕ) (sorts : List Sort) → AreDeclared n sorts → (p : Piece)
-    → is_declared_piece sorts p ≡ is_piece_below n p
-piece_same n sorts d (constant_piece serial) = d.texts serial
-piece_same n sorts d (word_piece w) = refl
-
-variable_same : (n : ℕ) (sorts : List Sort) → AreDeclared n sorts → (x : Variable)
-    → is_declared_variable sorts x ≡ is_variable_below n x
-variable_same n sorts d (int_constant serial) = d.integers serial
-variable_same n sorts d (length_of serial) = d.texts serial
-
 is_found : (rs : List Regex) (ps : List Piece) (o : Option ℕ)
     → is_some (option_map {T = Regex} (in_atom ps) (option_map (regex_at rs) o)) ≡ is_some o
 is_found rs ps None = refl
 is_found rs ps (Some id) = refl
 
-parts_same : (n : ℕ) (asked : Asked) (k : Kept) (others : AllKept) (a : AtomOver ℕ) → AreDeclared n asked.sorts
+parts_by : (sorts : List Sort) (k : Kept) (others : AllKept) (a : AtomOver ℕ)
     → (is_some (with_regex (kept_in k others).regexes a)
-    && has_its_parts asked.sorts (kept_in k others).atoms a)
-    ≡ have_parts n k.regexes.order (length k.atoms) a
-parts_same n asked k others (bool_atom serial) d = d.booleans serial
-parts_same n asked k others (in_atom ps r) d =
-    ap₂ (λ a b. a && b)
+    && has_its_parts sorts (kept_in k others).atoms a)
+    ≡ have_parts sorts k.regexes.order (length k.atoms) a
+parts_by sorts k others (bool_atom serial) = refl
+parts_by sorts k others (in_atom ps r) =
+    ap (λ b. b && list_all (is_declared_piece sorts) ps)
     (ap (λ o. is_some (option_map {T = Regex} (in_atom ps) o)) (slice_get-map (regex_at k.arena) k.regexes.order r)
     ∙ is_found k.arena ps (slice_get k.regexes.order r))
-    (all_same (is_declared_piece asked.sorts) (is_piece_below n) ps (piece_same n asked.sorts d))
-parts_same n asked k others (le_atom x m) d = variable_same n asked.sorts d x
-parts_same n asked k others (sum_atom m ss) d =
-    all_same (λ (s : Summand). is_declared_variable asked.sorts s.1) (λ s. is_variable_below n s.1) ss
-    (λ s. variable_same n asked.sorts d s.1)
-parts_same n asked k others (and_atom ls) d =
+parts_by sorts k others (le_atom x m) = refl
+parts_by sorts k others (sum_atom m ss) = refl
+parts_by sorts k others (and_atom ls) =
     all_same (is_known (atoms_in k.arena k.atoms)) (λ l. nat_lt l.atom (length k.atoms)) ls
     (λ l. ap (nat_lt l.atom) (length-map k.atoms (over k.arena)))
-parts_same n asked k others (iff_atom l m) d =
+parts_by sorts k others (iff_atom l m) =
     ap₂ (λ a b. a && b) (ap (nat_lt l.atom) (length-map k.atoms (over k.arena)))
     (ap (λ j. nat_lt m.atom j && true) (length-map k.atoms (over k.arena)) ∙ and_true (nat_lt m.atom (length k.atoms)))
+
+parts_same : (sorts : List Sort) (asked : Asked) (k : Kept) (others : AllKept) (a : AtomOver ℕ)
+    → asked.sorts ≡ sorts
+    → (is_some (with_regex (kept_in k others).regexes a)
+    && has_its_parts asked.sorts (kept_in k others).atoms a)
+    ≡ have_parts sorts k.regexes.order (length k.atoms) a
+parts_same sorts asked k others a d =
+    ap (λ ks. is_some (with_regex (kept_in k others).regexes a) && has_its_parts ks (kept_in k others).atoms a) d
+    ∙ parts_by sorts k others a
 
 -- An atom is refused whose parts are not there.
 
@@ -83,13 +78,14 @@ lacks None b r h = refl
 lacks (Some a) true r h = absurd (false≢true (sym h))
 lacks (Some a) false r h = refl
 
-pub by_no_parts : (n : ℕ) (asked : Asked) (k : Kept) (others : AllKept) (a : AtomOver ℕ) → AreDeclared n asked.sorts
-    → have_parts n k.regexes.order (length k.atoms) a ≡ false
+pub by_no_parts : (sorts : List Sort) (asked : Asked) (k : Kept) (others : AllKept) (a : AtomOver ℕ)
+    → asked.sorts ≡ sorts
+    → have_parts sorts k.regexes.order (length k.atoms) a ≡ false
     → follows asked (kept_in k others) (atom_line a) ≡ Err unknown_id
-by_no_parts n asked k others a d h =
+by_no_parts sorts asked k others a d h =
     step (is_brought_atom a) (lacks (with_regex (kept_in k others).regexes a)
     (has_its_parts asked.sorts (kept_in k others).atoms a) (defined (kept_in k others))
-    (parts_same n asked k others a d ∙ h))
+    (parts_same sorts asked k others a d ∙ h))
   where
     step : (b : Bool) → follows_atom asked (kept_in k others) a ≡ Err unknown_id
         → (if b then follows_atom asked (kept_in k others) a
@@ -124,15 +120,16 @@ not_brought_yet (Some a) true r h there = other (r a) (h a)
     other (Err unknown_id) h = absurd (h refl)
     other (Err _) h = refl
 
-pub by_unbrought : (n : ℕ) (asked : Asked) (k : Kept) (others : AllKept) (a : AtomOver ℕ) → AreDeclared n asked.sorts
-    → is_brought_atom a ≡ false → have_parts n k.regexes.order (length k.atoms) a ≡ true
+pub by_unbrought : (sorts : List Sort) (asked : Asked) (k : Kept) (others : AllKept) (a : AtomOver ℕ)
+    → asked.sorts ≡ sorts
+    → is_brought_atom a ≡ false → have_parts sorts k.regexes.order (length k.atoms) a ≡ true
     → follows asked (kept_in k others) (atom_line a) ≡ Err rule_broken
-by_unbrought n asked k others a d is there =
+by_unbrought sorts asked k others a d is there =
     ap (λ (b : Bool). if b then follows_atom asked (kept_in k others) a
     else not_brought (follows_atom asked (kept_in k others) a)) is
     ∙ not_brought_yet (with_regex (kept_in k others).regexes a)
     (has_its_parts asked.sorts (kept_in k others).atoms a) (defined (kept_in k others)) (never (kept_in k others))
-    (parts_same n asked k others a d ∙ there)
+    (parts_same sorts asked k others a d ∙ there)
 
 -- One that is brought is judged by what is defined.
 
@@ -151,13 +148,14 @@ named rs order (sum_atom k ss) = refl
 named rs order (and_atom ls) = refl
 named rs order (iff_atom l m) = refl
 
-pub by_brought : (n : ℕ) (asked : Asked) (k : Kept) (others : AllKept) (a b : AtomOver ℕ) → AreDeclared n asked.sorts
-    → is_brought_atom a ≡ true → have_parts n k.regexes.order (length k.atoms) a ≡ true
+pub by_brought : (sorts : List Sort) (asked : Asked) (k : Kept) (others : AllKept) (a b : AtomOver ℕ)
+    → asked.sorts ≡ sorts
+    → is_brought_atom a ≡ true → have_parts sorts k.regexes.order (length k.atoms) a ≡ true
     → numbered k.regexes.order a ≡ Some b
     → follows asked (kept_in k others) (atom_line a) ≡ defined (kept_in k others) (over k.arena b)
-by_brought n asked k others a b d is there found =
+by_brought sorts asked k others a b d is there found =
     let parts = and_parts (is_some (with_regex (kept_in k others).regexes a))
-    (has_its_parts asked.sorts (kept_in k others).atoms a) (parts_same n asked k others a d ∙ there) in
+    (has_its_parts asked.sorts (kept_in k others).atoms a) (parts_same sorts asked k others a d ∙ there) in
     ap (λ (t : Bool). if t then follows_atom asked (kept_in k others) a
     else not_brought (follows_atom asked (kept_in k others) a)) is
     ∙ ap (λ o. elim o as (λ _. Result AllKept Refusal) [
@@ -182,19 +180,19 @@ one_constant order ps serial r i e h = (
 )
 
 -- where the parts are there, the regex is
-pub has_number : (n count : ℕ) (order : List ℕ) (a : AtomOver ℕ) → have_parts n order count a ≡ true
+pub has_number : (sorts : List Sort) (count : ℕ) (order : List ℕ) (a : AtomOver ℕ) → have_parts sorts order count a ≡ true
     → is_some (numbered order a) ≡ true
-has_number n count order (bool_atom serial) h = refl
-has_number n count order (in_atom ps r) h =
-    found (slice_get order r) (and_parts (is_some (slice_get order r)) (list_all (is_piece_below n) ps) h).0
+has_number sorts count order (bool_atom serial) h = refl
+has_number sorts count order (in_atom ps r) h =
+    found (slice_get order r) (and_parts (is_some (slice_get order r)) (list_all (is_declared_piece sorts) ps) h).0
   where
     found : (o : Option ℕ) → is_some o ≡ true → is_some (option_map {T = ℕ} (in_atom ps) o) ≡ true
     found None e = e
     found (Some i) e = refl
-has_number n count order (le_atom x k) h = refl
-has_number n count order (sum_atom k ss) h = refl
-has_number n count order (and_atom ls) h = refl
-has_number n count order (iff_atom l m) h = refl
+has_number sorts count order (le_atom x k) h = refl
+has_number sorts count order (sum_atom k ss) h = refl
+has_number sorts count order (and_atom ls) h = refl
+has_number sorts count order (iff_atom l m) h = refl
 
 -- a number of the order is one of the arena
 pub found_one : (n : ℕ) (order : List ℕ) (m i : ℕ) → All (λ j. j < n) order → slice_get order m ≡ Some i → i < n

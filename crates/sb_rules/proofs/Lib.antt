@@ -1,6 +1,7 @@
 mod Staying
 mod Expanded
 mod Atomic
+mod Asserted
 mod Clausal
 mod Emptied
 mod Overs

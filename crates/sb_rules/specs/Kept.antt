@@ -1,17 +1,18 @@
 -- What the code keeps of a proof, as the rules of proofs have it.
 use Rattle.std.specs.Prelude.{◌≡◌, ℕ, ◌<◌, true, false, nat_lt, List, map, length, Option, Some, None, option_map, IfSome}
 use Rattle.std.specs.List.{list_all}
-use Rattle.sb_meaning.specs.Terms.{Sort, boolean, integer, text, Term}
+use Rattle.sb_meaning.specs.Terms.{Term}
 use Rattle.sb_regex.specs.Numbered.{regexes_at, AllNumbers, Extends}
 use Rattle.sb_plain.specs.Memory as plain
 use Rattle.sb_problem.specs.Known.{AreNormals}
 use Rattle.sb_fragment.specs.Measures.{AreMeasures}
 use Rattle.sb_atoms.specs.Numbered.{atoms_in, HaveRegexesBelow}
 use Rattle.sb_term.specs.Numbered.{term_at}
+use Rattle.sb_term.specs.Symbols.{sort_in}
+use Rattle.sb_term.specs.declared.sort.Sort as code
 use Rattle.sb_term.specs.declared.assertion.Assertion.{Assertion}
 use Rattle.sb_reached.specs.SimpleStates.{is_simple}
 use Rattle.sb_rulebook.specs.Brought.{is_brought_atom}
-use Rattle.sb_rulebook.specs.AtomRules.{is_declared}
 use Rattle.sb_rulebook.specs.Kept.{AllKept, Asked, dropped_above, all_dropped}
 use Rattle.sb_rules.specs.declared.kept.Kept.{Kept}
 
@@ -51,20 +52,15 @@ abbrev pub left_in : Option ℕ → AllKept → AllKept
 left_in (Some level) kept = dropped_above level kept
 left_in None kept = all_dropped kept
 
--- So many String constants are declared, and no others.
-pub record AreDeclared (declared : ℕ) (sorts : List Sort) : Type 0 where
-  pub texts : (serial : ℕ) → is_declared sorts text serial ≡ nat_lt serial declared
-  pub booleans : (serial : ℕ) → is_declared sorts boolean serial ≡ false
-  pub integers : (serial : ℕ) → is_declared sorts integer serial ≡ false
-
 -- a live assertion, with its level
 abbrev pub live_in : List Term → Assertion → Option Term × ℕ
 live_in ts a = (option_map (term_at ts) a.term, a.level)
 
--- What a check asks: of these assertions over a table.
-pub record IsAsked (ts : List Term) (assertions : List Assertion) (count most : ℕ) (asked : Asked) : Type 0 where
+-- What a check asks: of these assertions over a table, where constants of these sorts are declared.
+pub record IsAsked (ts : List Term) (assertions : List Assertion) (sorts : List code.Sort) (most : ℕ) (asked : Asked)
+    : Type 0 where
   pub live : asked.live ≡ map (live_in ts) assertions
-  pub declared : AreDeclared count asked.sorts
+  pub declared : asked.sorts ≡ map sort_in sorts
   pub limit : asked.limit ≡ most
 
 -- the number of the assertion's term, where it is no mark, is below this

@@ -3,15 +3,17 @@
 ghost use Rattle.std.specs.Prelude.{◌≡◌, ◌&&◌, ℕ, List, true, false, nat_lt, map, None, length, IfOk};
 ghost use Rattle.std.specs.List.{list_all};
 ghost use Rattle.sb_rulebook.specs.Atoms.{in_atom, is_conjunction, is_well_formed};
-ghost use Rattle.sb_rulebook.specs.AtomRules.{defined};
+ghost use Rattle.sb_meaning.specs.Sorts.{is_same_sort};
+ghost use Rattle.sb_rulebook.specs.AtomRules.{defined, is_declared, is_declared_piece, is_declared_variable};
 ghost use Rattle.sb_rulebook.specs.Kept.{AllKept, Asked};
 ghost use Rattle.sb_rulebook.specs.Lines.{atom_line};
 ghost use Rattle.sb_atoms.specs.Numbered.{HasRegexBelow, IsNumberIn, over};
 ghost use Rattle.sb_atoms.specs.Numbered as numbered;
+ghost use Rattle.sb_term.specs.Symbols.{sort_in};
 ghost use Rattle.sb_proof.specs.Lines.{atom_in, piece_in, variable_in};
-ghost use Rattle.sb_rules.specs.Kept.{IsWhole, KeepsTerms, AreDeclared, kept_in};
+ghost use Rattle.sb_rules.specs.Kept.{IsWhole, KeepsTerms, kept_in};
 ghost use Rattle.sb_rules.specs.Judged.{Judges, Meets};
-ghost use Rattle.sb_rules.specs.Defining.{IsBroughtAs, IsConstantIn, is_piece_below, is_variable_below, have_parts};
+ghost use Rattle.sb_rules.specs.Defining.{IsBroughtAs, IsConstantIn, have_parts};
 
 use crate::kept::Kept;
 use sb_atoms::Atom as KeptAtom;
@@ -20,20 +22,21 @@ use sb_lang::order::order_tells_apart;
 use sb_lit::Lit;
 use sb_proof::{Atom, Piece, Variable};
 use sb_rules_regex::{Fault, Refusal};
-use sb_term::Serial;
+use sb_term::{Serial, Sort};
 use smallvec::SmallVec;
 use std::alloc::AllocError;
 
 impl Kept {
-    /// Judges the line that defines the next atom, where so many constants are declared, and keeps it where it follows.
-    pub(crate) fn define_atom(&mut self, declared: usize, atom: &Atom) -> Result<(), Fault>
+    /// Judges the line that defines the next atom, where constants of these sorts are declared, and keeps it where it
+    /// follows.
+    pub(crate) fn define_atom(&mut self, sorts: &[Sort], atom: &Atom) -> Result<(), Fault>
         requires { IsWhole self.old }
-        ensures judges { (asked : Asked) → AreDeclared declared asked.sorts
+        ensures judges { (asked : Asked) → asked.sorts ≡ map sort_in sorts.now
             → Judges result asked self.old self.new (atom_line (atom_in atom.now)) }
         ensures whole { IsWhole self.new }
         ensures terms { KeepsTerms self.old self.new }
     {
-        if !self.has_parts(declared, atom) {
+        if !self.has_parts(sorts, atom) {
             return Err(Fault::Refused(Refusal::UnknownId));
         }
         match self.brought(atom)? {
@@ -103,17 +106,17 @@ impl Kept {
     }
 
     /// Whether the constants, the regex and the atoms are there that an atom names.
-    fn has_parts(&self, declared: usize, atom: &Atom) -> bool
-        ensures { result ≡ have_parts declared self.now.regexes.order (length self.now.atoms) (atom_in atom.now) }
+    fn has_parts(&self, sorts: &[Sort], atom: &Atom) -> bool
+        ensures { result
+            ≡ have_parts (map sort_in sorts.now) self.now.regexes.order (length self.now.atoms) (atom_in atom.now) }
     {
         match atom {
-            // So far no Bool constant can be declared.
-            Atom::Bool(_) => false,
+            Atom::Bool(serial) => is_declared(sorts, Sort::Bool, *serial),
             Atom::In(pieces, number) => {
-                self.regexes.regex(*number).is_some() && are_declared(declared, pieces)
+                self.regexes.regex(*number).is_some() && are_declared(sorts, pieces)
             }
-            Atom::Le(variable, _) => is_declared(declared, *variable),
-            Atom::Sum(_, summands) => are_declared_summands(declared, summands),
+            Atom::Le(variable, _) => is_declared_variable(sorts, *variable),
+            Atom::Sum(_, summands) => are_declared_summands(sorts, summands),
             Atom::And(literals) => self.are_known(literals),
             Atom::Iff(first, second) => self.is_known(*first) && self.is_known(*second),
         }
@@ -166,39 +169,54 @@ fn constant_in(pieces: &[Piece]) -> Option<u64>
 }
 
 /// Whether the constants in a concatenation are declared.
-fn are_declared(declared: usize, pieces: &[Piece]) -> bool
-    ensures { result ≡ list_all (λ p. is_piece_below declared (piece_in p)) pieces.now }
+fn are_declared(sorts: &[Sort], pieces: &[Piece]) -> bool
+    ensures { result ≡ list_all (λ p. is_declared_piece (map sort_in sorts.now) (piece_in p)) pieces.now }
 {
-    pieces
-        .iter()
-        .all(|piece| is_declared_piece(declared, piece))
+    pieces.iter().all(|piece| is_declared_piece(sorts, piece))
 }
 
 /// Whether the constants of a sum are declared.
-fn are_declared_summands(declared: usize, summands: &[(i128, Variable)]) -> bool
-    ensures { result ≡ list_all (λ s. is_variable_below declared (variable_in s.1)) summands.now }
+fn are_declared_summands(sorts: &[Sort], summands: &[(i128, Variable)]) -> bool
+    ensures { result
+        ≡ list_all (λ s. is_declared_variable (map sort_in sorts.now) (variable_in s.1)) summands.now }
 {
     summands
         .iter()
-        .all(|summand| is_declared(declared, summand.1))
+        .all(|summand| is_declared_variable(sorts, summand.1))
 }
 
-/// Whether a piece is a word, or a constant that is declared.
-fn is_declared_piece(declared: usize, piece: &Piece) -> bool
-    ensures { result ≡ is_piece_below declared (piece_in piece.now) }
+/// Whether a piece is a word, or a String constant that is declared.
+fn is_declared_piece(sorts: &[Sort], piece: &Piece) -> bool
+    ensures { result ≡ is_declared_piece (map sort_in sorts.now) (piece_in piece.now) }
 {
     match piece {
-        Piece::Constant(serial) => *serial < declared as u64,
+        Piece::Constant(serial) => is_declared(sorts, Sort::String, *serial),
         Piece::Word(_) => true,
     }
 }
 
-/// Whether a bound speaks of a constant that is declared.
-fn is_declared(declared: usize, variable: Variable) -> bool
-    ensures { result ≡ is_variable_below declared (variable_in variable) }
+/// Whether a bound speaks of a constant that is declared: of an Int constant, or of the length of a String constant.
+fn is_declared_variable(sorts: &[Sort], variable: Variable) -> bool
+    ensures { result ≡ is_declared_variable (map sort_in sorts.now) (variable_in variable) }
 {
     match variable {
-        Variable::Int(_) => false,
-        Variable::Length(serial) => serial < declared as u64,
+        Variable::Int(serial) => is_declared(sorts, Sort::Int, serial),
+        Variable::Length(serial) => is_declared(sorts, Sort::String, serial),
     }
+}
+
+/// Whether a constant of the sort has the serial, where the constants of these sorts are declared.
+fn is_declared(sorts: &[Sort], sort: Sort, serial: u64) -> bool
+    ensures { result ≡ is_declared (map sort_in sorts.now) (sort_in sort) serial }
+{
+    match sorts.get(serial as usize) {
+        Some(other) => is_same_sort(sort, *other),
+        None => false,
+    }
+}
+
+fn is_same_sort(sort: Sort, other: Sort) -> bool
+    ensures { result ≡ is_same_sort (sort_in sort) (sort_in other) }
+{
+    sort == other
 }

@@ -10,12 +10,12 @@ use crate::kept::Kept;
 use sb_problem::normals_stay;
 use sb_proof::Line;
 use sb_rules_regex::{Fault, Refusal};
-use sb_term::{Assertion, Table};
+use sb_term::{Assertion, Sort, Table};
 
 impl Kept {
-    /// Judges a line of the proof, where these assertions are live, so many constants are declared, and this is the limit
-    /// in force, and keeps what the line says where it follows. A line that is first or last of a proof, or a verdict,
-    /// is misplaced here.
+    /// Judges a line of the proof, where these assertions are live, constants of these sorts are declared (by serial), and
+    /// this is the limit in force, and keeps what the line says where it follows. A line that is first or last of a proof,
+    /// or a verdict, is misplaced here.
     ///
     /// A line costs what it holds, and what its rule must look at: the normal form of the regex that it defines or of
     /// the intersection that its clause speaks of; the derivatives by the characters between which an expansion changes;
@@ -25,21 +25,21 @@ impl Kept {
         &mut self,
         table: &Table,
         live: &[Assertion],
-        declared: usize,
+        sorts: &[Sort],
         limit: u64,
         line: &Line,
     ) -> Result<(), Fault>
         requires over { IsOver table.now self.old }
         requires numbers { All (HasNumberBelow (length table.now)) live.now }
         requires simple { All (IsSimple table.now) live.now }
-        ensures judges { (asked : Asked) → IsAsked table.now live.now declared limit asked
+        ensures judges { (asked : Asked) → IsAsked table.now live.now sorts.now limit asked
             → Judges result asked self.old self.new (line_in line.now) }
         ensures over { IsOver table.now self.new }
     {
         normals_stay();
         match line {
             Line::Regex(node) => self.define(node),
-            Line::Atom(atom) => self.define_atom(declared, atom),
+            Line::Atom(atom) => self.define_atom(sorts, atom),
             Line::Expansion(number, classes) => self.expand(limit, *number, classes),
             Line::Dead(numbers) => self.bury(numbers),
             Line::Assertion(place, literal) => self.assert(table, live, *place, *literal),

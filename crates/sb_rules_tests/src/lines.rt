@@ -6,7 +6,7 @@ ghost use Rattle.sb_rules.specs.Kept.{IsOver, HasNumberBelow, IsSimple};
 use sb_proof::{Line, read_line};
 use sb_rules::Kept;
 use sb_rules_regex::{Fault, Refusal};
-use sb_term::{Assertion, Table};
+use sb_term::{Assertion, Sort, Table};
 use std::alloc::{AllocError, Global};
 use std::process::Abort;
 use std::test::Fail;
@@ -14,7 +14,10 @@ use std::test::Fail;
 /// A line, a limit, and why the line is refused, if it is.
 pub type Row = (&'static str, u64, Option<Refusal>);
 
-/// Lines where one String constant is declared and nothing is asserted.
+/// The sorts of the constants that are declared.
+const SORTS: [Sort; 2] = [Sort::String, Sort::Bool];
+
+/// Lines where a String constant and a Bool constant are declared and nothing is asserted.
 const LINES: &[Row] = &[
     ("strproof 1", 0, Some(Refusal::Misplaced)),
     ("v sat", 0, Some(Refusal::Misplaced)),
@@ -70,6 +73,11 @@ const LINES: &[Row] = &[
     ("c learn -0 : 1", 0, Some(Refusal::UnknownId)),
     ("c learn -7 : 0", 0, Some(Refusal::UnknownId)),
     ("c learn : 0", 0, Some(Refusal::HintIdle)),
+    ("a bool 2", 0, Some(Refusal::UnknownId)),
+    ("a bool 1", 0, None),
+    ("a bool 1", 0, Some(Refusal::Repeated)),
+    ("a le l1 5", 0, Some(Refusal::UnknownId)),
+    ("a and +0 -2", 0, None),
 ];
 
 /// Whether the text is a line that is answered so, where these assertions are live.
@@ -105,7 +113,7 @@ fn is_judged(
     requires simple { All (IsSimple table.now) live.now }
     ensures { IsOver table.now kept.new }
 {
-    match kept.follows(table, live, 1, limit, line) {
+    match kept.follows(table, live, &SORTS, limit, line) {
         Ok(()) => Ok(wanted.is_none()),
         Err(Fault::Refused(refusal)) => Ok(wanted == Some(refusal)),
         Err(Fault::NoMemory) => Err(AllocError),

@@ -57,6 +57,10 @@ const GATES: &[Row] = &[
     ("c gate +0 +1 +5", 0, Some(Refusal::RuleBroken)),
     ("c gate -2 -6", 0, None),
     ("c gate +2 -5 +6", 0, None),
+    ("a bool 1", 0, None),
+    ("a iff +6 +7", 0, None),
+    ("c gate +6 -7 -8", 0, None),
+    ("c gate -6 -7 -8", 0, Some(Refusal::RuleBroken)),
 ];
 
 /// Empty clauses of two memberships and a conjunction. The first regex has no word, and the second one has all.

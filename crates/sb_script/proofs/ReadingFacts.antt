@@ -8,13 +8,13 @@ use Rattle.sb_meaning.specs.Terms.{Sort, Term, word}
 use Rattle.sb_meaning.specs.Terms as symbol
 use Rattle.sb_meaning.specs.Sorts.{sort_of}
 use Rattle.sb_script.specs.Names.{Name, is_name, is_reserved, begins_term}
-use Rattle.sb_script.specs.Brought.{a_use_of, numerals, lets, is_brought}
+use Rattle.sb_script.specs.Brought.{numerals, lets, is_brought}
 use Rattle.sb_script.specs.Scopes.{Named, Naming, a_constant, a_definition, a_marked_name, a_term, named}
 use Rattle.sb_script.specs.Symbols.{symbol_named, is_indexed, is_left_out}
 use Rattle.sb_script.specs.Faults.{Fault, unknown_symbol, bad_index, unsupported, numeral_too_large, malformed, already_bound}
 use Rattle.sb_word.specs.LiteralWords.{character_of}
 use Rattle.sb_script.specs.Texts.{read_numeral}
-use Rattle.sb_script.specs.Heads.{Head, head_constant, head_symbol, head_definition, head_term, head_of, head_of_theory, indices_of, are_small_indices, symbol_with, if_small_indices, with_indices, hexadecimal_digits, character_word, without_indices, judged, made, with_arguments, unless, if_used, judged_definition, read_head, applied_to, read_indexed}
+use Rattle.sb_script.specs.Heads.{Head, head_constant, head_symbol, head_definition, head_term, head_of, head_of_theory, indices_of, are_small_indices, symbol_with, if_small_indices, with_indices, hexadecimal_digits, character_word, without_indices, judged, made, with_arguments, unless, judged_definition, read_head, applied_to, read_indexed}
 use Rattle.sb_script.specs.Reading.{◌>>=◌, read_name, read_index_list, read_reserved, is_let, first_again, names_in, once, read, read_list, read_all, read_list_head, read_let, read_bindings}
 use Rattle.sb_script.specs.ReadingLaws.{if_read, IsKept, passes}
 
@@ -58,18 +58,12 @@ module _ (test : List Sort → Term → Bool) (is_declared : ℕ → Sort → Bo
   unless_fine None t h = h refl
   unless_fine (Some fault) t h = refl
 
-  used_fine : (b : Bool) (r : Result Term Fault) → if_read fine r ≡ true → if_read fine (if_used b r) ≡ true
-  used_fine true r h = h
-  used_fine false (Ok t) h = refl
-  used_fine false (Err fault) h = refl
-
   applied_fine : (head : Head) (ts : List Term) → head_fine head ≡ true → list_all fine ts ≡ true
       → if_read fine (applied_to head ts) ≡ true
   applied_fine (head_constant serial sort) [] h all = kept.constants parameters serial sort h
   applied_fine (head_constant serial sort) (t ∷ ts) h all = refl
   applied_fine (head_symbol s) ts h all =
-      used_fine (is_brought (a_use_of s (map sort_of ts))) (unless (judged s (map sort_of ts)) (made s ts))
-      (unless_fine (judged s (map sort_of ts)) (made s ts) (kept.applications parameters s ts all))
+      unless_fine (judged s (map sort_of ts)) (made s ts) (kept.applications parameters s ts all)
   applied_fine (head_definition own body) ts h all =
       unless_fine (judged_definition own (map sort_of ts)) (with_arguments ts body)
       (kept.definitions parameters own body ts h all)

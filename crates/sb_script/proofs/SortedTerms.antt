@@ -48,7 +48,7 @@ same_sort_itself reglan = refl
 abbrev are_taken : symbol.Symbol → List Term → Bool
 are_taken s ts = is_none (judged s (map sort_of ts))
 
-terms_in_of : (ts : List Term) → terms_in (terms_of ts) ≡ ts
+pub terms_in_of : (ts : List Term) → terms_in (terms_of ts) ≡ ts
 terms_in_of [] = refl
 terms_in_of (t ∷ ts) = ap (λ us. t ∷ us) (terms_in_of ts)
 

@@ -9,8 +9,6 @@ use Rattle.sb_script.specs.Names.{Name, is_among}
 
 pub data Feature : Type 0 where
   a_symbol : Symbol → Feature
-  -- a symbol with arguments of these sorts
-  a_use_of : Symbol → List Sort → Feature
   -- a sort that constants may have
   a_sort : Sort → Feature
   a_command : Name → Feature
@@ -39,7 +37,16 @@ brought_options =
     ∷ codes ":produce-unsat-assumptions" ∷ codes ":global-declarations" ∷ []
 
 abbrev pub is_brought_symbol : Symbol → Bool
+is_brought_symbol symbol.core_true = true
+is_brought_symbol symbol.core_false = true
+is_brought_symbol symbol.core_not = true
+is_brought_symbol symbol.core_and = true
+is_brought_symbol symbol.core_or = true
+is_brought_symbol symbol.core_implies = true
+is_brought_symbol symbol.core_xor = true
+is_brought_symbol symbol.core_ite = true
 is_brought_symbol symbol.core_equal = true
+is_brought_symbol symbol.core_distinct = true
 is_brought_symbol symbol.str_in_re = true
 is_brought_symbol symbol.str_to_re = true
 is_brought_symbol symbol.re_none = true
@@ -58,13 +65,8 @@ is_brought_symbol (symbol.re_power n) = true
 is_brought_symbol (symbol.re_loop n m) = true
 is_brought_symbol _ = false
 
--- of terms that are compared two of sort String
-abbrev pub is_brought_use : Symbol → List Sort → Bool
-is_brought_use symbol.core_equal (text ∷ text ∷ []) = true
-is_brought_use symbol.core_equal sorts = false
-is_brought_use s sorts = true
-
 abbrev pub is_brought_sort : Sort → Bool
+is_brought_sort boolean = true
 is_brought_sort text = true
 is_brought_sort _ = false
 
@@ -152,7 +154,6 @@ abbrev mutual
 
 abbrev pub is_brought : Feature → Bool
 is_brought (a_symbol s) = is_brought_symbol s
-is_brought (a_use_of s sorts) = is_brought_use s sorts
 is_brought (a_sort sort) = is_brought_sort sort
 is_brought (a_command name) = is_among brought_commands name
 is_brought (an_option name) = is_among brought_options name

@@ -6,7 +6,6 @@ use Rattle.sb_reader.specs.Forms.{Forms, Numeral, OtherNumber, none, more}
 use Rattle.sb_meaning.specs.Terms.{Sort, Term, Terms, constant, word, numeral, apply, parameter, no_terms, with_term, terms_of}
 use Rattle.sb_meaning.specs.Terms as symbol
 use Rattle.sb_meaning.specs.Sorts.{arity_of, is_of_one, sort_of, are_sorts, is_count, takes_sorts, is_left_out_use}
-use Rattle.sb_script.specs.Brought.{a_use_of, is_brought}
 use Rattle.sb_script.specs.Names.{Name, is_name}
 use Rattle.sb_script.specs.Symbols.{symbol_named, is_indexed, is_left_out}
 use Rattle.sb_script.specs.Scopes.{Naming, Named, a_constant, a_definition, a_marked_name, a_term, named}
@@ -130,12 +129,6 @@ abbrev pub unless : Option Fault → Term → Result Term Fault
 unless None t = Ok t
 unless (Some fault) t = Err fault
 
--- what is not read yet is judged behind all else
-abbrev pub if_used : Bool → Result Term Fault → Result Term Fault
-if_used true reading = reading
-if_used false (Ok t) = Err unsupported
-if_used false (Err fault) = Err fault
-
 -- the fault of a definition with arguments of these sorts
 abbrev pub judged_definition : List Sort → List Sort → Option Fault
 judged_definition parameters sorts =
@@ -147,8 +140,7 @@ judged_definition parameters sorts =
 abbrev pub applied_to : Head → List Term → Result Term Fault
 applied_to (head_constant serial sort) [] = Ok (constant serial sort)
 applied_to (head_constant serial sort) (t ∷ ts) = Err wrong_count
-applied_to (head_symbol s) ts =
-    if_used (is_brought (a_use_of s (map sort_of ts))) (unless (judged s (map sort_of ts)) (made s ts))
+applied_to (head_symbol s) ts = unless (judged s (map sort_of ts)) (made s ts)
 applied_to (head_definition sorts body) ts = unless (judged_definition sorts (map sort_of ts)) (with_arguments ts body)
 applied_to (head_term t) [] = Ok t
 applied_to (head_term t) (u ∷ us) = Err wrong_count

@@ -1,9 +1,9 @@
 -- Computed examples of how terms are read, and of names.
-use Rattle.std.specs.Prelude.{◌≡◌, List, [], ◌∷◌, codes, Ok, Err, refl}
+use Rattle.std.specs.Prelude.{◌≡◌, ℕ, List, [], ◌∷◌, codes, Ok, Err, refl}
 use Rattle.sb_reader.specs.Forms.{Form, Forms, Symbol, QuotedSymbol, Keyword, Numeral, OtherNumber, Words, Group, none, more}
 use Rattle.sb_word.specs.Literals.{hex_value, hex_number_from}
 use Rattle.sb_script.specs.Names.{name_text, name_in_text}
-use Rattle.sb_meaning.specs.Terms.{Term, text, constant, word, apply, no_terms, with_term}
+use Rattle.sb_meaning.specs.Terms.{Term, boolean, text, constant, word, apply, no_terms, with_term}
 use Rattle.sb_meaning.specs.Terms as symbol
 use Rattle.sb_script.specs.Scopes.{Naming, a_constant, a_marked_name}
 use Rattle.sb_script.specs.Faults.{unknown_symbol, wrong_sort, wrong_count, bad_index, unsupported, numeral_too_large, bad_literal, malformed}
@@ -73,7 +73,8 @@ three_in_a_union = refl
 one_in_a_union : read names (group (Symbol (codes "re.union") ∷ range a b ∷ [])) ≡ Ok a_range
 one_in_a_union = refl
 
--- (= x "a"): of two Strings; of three, or of truth values, it is not read yet, which is judged behind the sorts
+-- (= x "a"), of Strings or of truth values, two or more; of regular expressions it is left out, which is judged behind
+-- the sorts
 abbrev equals : List Form → Form
 equals fs = group (Symbol (codes "=") ∷ fs)
 
@@ -81,7 +82,9 @@ an_equality : read names (equals (x ∷ a ∷ []))
     ≡ Ok (apply symbol.core_equal (with_term (constant 0 text) (with_term (word (97 ∷ [])) no_terms)))
 an_equality = refl
 
-an_equality_of_three : read names (equals (x ∷ a ∷ b ∷ [])) ≡ Err unsupported
+an_equality_of_three : read names (equals (x ∷ a ∷ b ∷ []))
+    ≡ Ok (apply symbol.core_equal
+    (with_term (constant 0 text) (with_term (word (97 ∷ [])) (with_term (word (98 ∷ [])) no_terms))))
 an_equality_of_three = refl
 
 an_equality_of_one : read names (equals (x ∷ [])) ≡ Err wrong_count
@@ -93,8 +96,74 @@ an_equality_of_two_sorts = refl
 an_equality_of_expressions : read names (equals (range a b ∷ range a b ∷ [])) ≡ Err unsupported
 an_equality_of_expressions = refl
 
-an_equality_of_truth_values : read names (equals (equals (x ∷ a ∷ []) ∷ equals (x ∷ b ∷ []) ∷ [])) ≡ Err unsupported
+-- the equality of x with a character, and (= (= x "a") (= x "b"))
+abbrev x_is : ℕ → Term
+x_is c = apply symbol.core_equal (with_term (constant 0 text) (with_term (word (c ∷ [])) no_terms))
+
+an_equality_of_truth_values : read names (equals (equals (x ∷ a ∷ []) ∷ equals (x ∷ b ∷ []) ∷ []))
+    ≡ Ok (apply symbol.core_equal (with_term (x_is 97) (with_term (x_is 98) no_terms)))
 an_equality_of_truth_values = refl
+
+-- Boolean structure, with a Bool constant p beside x.
+abbrev names_with_p : List Naming
+names_with_p = (codes "p", a_constant 1 boolean) ∷ names
+
+abbrev p : Form
+p = Symbol (codes "p")
+
+abbrev the_p : Term
+the_p = constant 1 boolean
+
+-- a list with this head
+abbrev of : List ℕ → List Form → Form
+of name fs = group (Symbol name ∷ fs)
+
+-- true, and (or p (not (= x "a")) false)
+a_truth : read names_with_p (Symbol (codes "true")) ≡ Ok (apply symbol.core_true no_terms)
+a_truth = refl
+
+a_disjunction :
+    read names_with_p
+    (of (codes "or") (p ∷ of (codes "not") (equals (x ∷ a ∷ []) ∷ []) ∷ Symbol (codes "false") ∷ []))
+    ≡ Ok (apply symbol.core_or
+    (with_term the_p
+    (with_term (apply symbol.core_not (with_term (x_is 97) no_terms))
+    (with_term (apply symbol.core_false no_terms) no_terms))))
+a_disjunction = refl
+
+-- (and p) is p, and (xor p) and (=> p) have too few arguments
+one_in_a_conjunction : read names_with_p (of (codes "and") (p ∷ [])) ≡ Ok the_p
+one_in_a_conjunction = refl
+
+one_in_an_implication : read names_with_p (of (codes "=>") (p ∷ [])) ≡ Err wrong_count
+one_in_an_implication = refl
+
+one_that_is_exclusive : read names_with_p (of (codes "xor") (p ∷ [])) ≡ Err wrong_count
+one_that_is_exclusive = refl
+
+-- (ite p p (= x "b")); a choice of words is left out, and one between words by a word is of the wrong sort
+a_choice : read names_with_p (of (codes "ite") (p ∷ p ∷ equals (x ∷ b ∷ []) ∷ []))
+    ≡ Ok (apply symbol.core_ite (with_term the_p (with_term the_p (with_term (x_is 98) no_terms))))
+a_choice = refl
+
+a_choice_of_words : read names_with_p (of (codes "ite") (p ∷ x ∷ a ∷ [])) ≡ Err unsupported
+a_choice_of_words = refl
+
+a_choice_by_a_word : read names_with_p (of (codes "ite") (x ∷ p ∷ p ∷ [])) ≡ Err wrong_sort
+a_choice_by_a_word = refl
+
+-- (distinct x "a" "b"), and of two sorts
+distinct_words : read names_with_p (of (codes "distinct") (x ∷ a ∷ b ∷ []))
+    ≡ Ok (apply symbol.core_distinct
+    (with_term (constant 0 text) (with_term (word (97 ∷ [])) (with_term (word (98 ∷ [])) no_terms))))
+distinct_words = refl
+
+distinct_of_two_sorts : read names_with_p (of (codes "distinct") (p ∷ x ∷ [])) ≡ Err wrong_sort
+distinct_of_two_sorts = refl
+
+-- (and p x)
+a_word_as_a_truth_value : read names_with_p (of (codes "and") (p ∷ x ∷ [])) ≡ Err wrong_sort
+a_word_as_a_truth_value = refl
 
 -- (re.diff (re.comp re.none) (re.opt re.allchar) re.all), from the left as it stands
 abbrev no_word : Form

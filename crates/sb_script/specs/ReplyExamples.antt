@@ -73,7 +73,7 @@ errors_in_order = refl
 
 -- an assertion that is left out leaves a mark
 leaves_a_mark : state.live
-    (run (command (Symbol (codes "assert") ∷ group (Symbol (codes "not") ∷ Symbol (codes "p") ∷ []) ∷ []) ∷ []) start).1
+    (run (command (Symbol (codes "assert") ∷ group (Symbol (codes "str.replace") ∷ Symbol (codes "p") ∷ []) ∷ []) ∷ []) start).1
     ≡ a_mark ∷ []
 leaves_a_mark = refl
 

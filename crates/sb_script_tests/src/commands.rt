@@ -87,14 +87,14 @@ const FUNCTIONS: [(&[u8], &str); 2] = [
 ];
 
 /// Scripts with assertions, and their answers, where each check finds unsat.
-const ASSERTIONS: [(&[u8], &str); 5] = [
+const ASSERTIONS: [(&[u8], &str); 6] = [
     (
         b"(declare-const x String) (assert (str.in_re x (re.range \"a\" \"b\"))) (assert (str.in_re y (re.range \"a\" \"b\"))) (assert x) (assert (re.+ x)) (assert let) (assert (re.+)) (assert) (check-sat) (exit)",
         "success success (error \"unknown symbol y\") (error \"wrong sort\") (error \"wrong sort\") (error \"malformed command\") (error \"malformed command\") (error \"malformed command\") unsat success",
     ),
     (
         b"(declare-const n Int) (assert (str.in_re n (re.range \"a\" \"b\"))) (declare-const n String) (assert (not true))",
-        "unsupported unsupported (error \"already declared n\") unsupported",
+        "unsupported unsupported (error \"already declared n\") success",
     ),
     (
         b"(declare-const x String) (declare-const y String) (assert (= x \"a\")) (assert (= \"a\" x)) (assert (= x y)) (assert (= \"a\" \"b\")) (check-sat)",
@@ -102,7 +102,11 @@ const ASSERTIONS: [(&[u8], &str); 5] = [
     ),
     (
         b"(declare-const = String) (declare-fun |=| () String) (declare-const x String) (assert (= x)) (assert (= x re.all)) (assert (= x \"a\" \"b\")) (assert (= (str.in_re x re.all) (= x \"a\"))) (assert (= re.all re.all)) (assert =)",
-        "(error \"already declared =\") (error \"already declared =\") success (error \"wrong number of arguments\") (error \"wrong sort\") unsupported unsupported unsupported (error \"wrong number of arguments\")",
+        "(error \"already declared =\") (error \"already declared =\") success (error \"wrong number of arguments\") (error \"wrong sort\") success success unsupported (error \"wrong number of arguments\")",
+    ),
+    (
+        b"(declare-const b Bool) (declare-const b Bool) (declare-fun c () Bool) (declare-const |not| Bool) (assert b) (assert (or b (not c))) (assert (and b \"a\")) (assert (ite b \"a\" \"b\")) (assert (ite b c (= \"a\" \"b\"))) (assert (str.in_re b re.all)) (check-sat)",
+        "success (error \"already declared b\") success (error \"already declared not\") success success (error \"wrong sort\") unsupported success (error \"wrong sort\") unsat",
     ),
     (
         b"(get-model) (set-option :produce-models true) (get-model) (check-sat) (get-model)",
@@ -110,30 +114,54 @@ const ASSERTIONS: [(&[u8], &str); 5] = [
     ),
 ];
 
-/// Scripts that ask for values, and their answers, where each check finds these words.
-const VALUES: [(&[&[u32]], &[u8], &str); 5] = [
+/// What a check finds: words and truth values, by serial.
+#[derive(Clone, Copy)]
+struct Given {
+    words: &'static [&'static [u32]],
+    truths: &'static [bool],
+}
+
+/// Scripts that ask for values, and their answers, where each check finds these words and truth values.
+const VALUES: [(&[&[u32]], &[bool], &[u8], &str); 7] = [
     (
         &[&[97], &[34, 0x41, 0x100]],
+        &[],
         b"(set-option :produce-models true) (declare-const x String) (declare-const n Int) (declare-const |y z| String) (check-sat) (get-model) (get-value (|y z| |x|)) (get-value (x x))",
         "success success unsupported success sat ((define-fun x () String \"a\") (define-fun |y z| () String \"\"\"A\\u{100}\")) ((|y z| \"\"\"A\\u{100}\") (x \"a\")) ((x \"a\") (x \"a\"))",
     ),
     (
         &[&[97]],
+        &[],
         b"(set-option :produce-models true) (declare-const x String) (declare-const n Int) (check-sat) (get-value (x y)) (get-value (x (str.++ x x))) (get-value ()) (get-value (y let)) (get-value (x forall)) (get-value (n)) (get-value (true 1)) (get-value x)",
         "success success unsupported sat (error \"unknown symbol y\") unsupported (error \"malformed command\") (error \"malformed command\") unsupported unsupported unsupported (error \"malformed command\")",
     ),
     (
+        &[&[97]],
+        &[false, true],
+        b"(set-option :produce-models true) (declare-const x String) (declare-const b Bool) (declare-const |c d| Bool) (check-sat) (get-model) (get-value (|c d| b x)) (get-value (b (not b))) (get-value (b true)) (get-value (b c))",
+        "success success success success sat ((define-fun x () String \"a\") (define-fun b () Bool true) (define-fun |c d| () Bool false)) ((|c d| false) (b true) (x \"a\")) unsupported unsupported (error \"unknown symbol c\")",
+    ),
+    (
+        &[&[98], &[97]],
+        &[true],
+        b"(set-option :produce-models true) (push) (declare-const b Bool) (check-sat) (get-model) (pop) (declare-const b String) (check-sat) (get-model) (reset-assertions) (declare-const b Bool) (check-sat) (get-model)",
+        "success success success sat ((define-fun b () Bool true)) success success sat ((define-fun b () String \"a\")) success success sat ((define-fun b () Bool false))",
+    ),
+    (
+        &[],
         &[],
         b"(set-option :produce-models true) (check-sat) (get-model) (declare-fun x () String) (get-model) (check-sat) (get-value (x))",
         "success sat () success (error \"no model\") sat ((x \"\"))",
     ),
     (
         &[&[97]],
+        &[],
         b"(declare-const x String) (check-sat) (get-value (y)) (get-value (x)) (get-model) (set-option :produce-models true) (get-value (x))",
         "success sat (error \"unknown symbol y\") (error \"models not enabled\") (error \"models not enabled\") success ((x \"a\"))",
     ),
     (
         &[&[97]],
+        &[],
         b"(set-option :produce-models true) (declare-const x String) (check-sat) (declare-const x String) (get-value (x)) (assert (str.in_re x (re.range \"a\" \"b\"))) (get-value (x))",
         "success success sat (error \"already declared x\") ((x \"a\")) success (error \"no model\")",
     ),
@@ -143,11 +171,7 @@ const VALUES: [(&[&[u32]], &[u8], &str); 5] = [
 const REASONS: &[u8] =
     b"(get-info :reason-unknown) (declare-const x String) (get-info :reason-unknown)";
 
-/// The verdict of a check: sat with these words, or unsat.
-fn verdict_of(alloc: Global, found: Option<&[&[u32]]>) -> Result<Verdict, AllocError> {
-    let Some(all) = found else {
-        return Ok(Verdict::Unsat);
-    };
+fn words_of(alloc: Global, all: &[&[u32]]) -> Result<Vec<Word>, AllocError> {
     let mut words = Vec::new(alloc);
     for codes in all {
         let Ok(word) = Word::from_codes(alloc, codes) else {
@@ -155,7 +179,17 @@ fn verdict_of(alloc: Global, found: Option<&[&[u32]]>) -> Result<Verdict, AllocE
         };
         words.push(word)?;
     }
-    Ok(Verdict::Sat(words))
+    Ok(words)
+}
+
+/// The verdict of a check: sat with these values, or unsat.
+fn verdict_of(alloc: Global, found: Option<Given>) -> Result<Verdict, AllocError> {
+    let Some(given) = found else {
+        return Ok(Verdict::Unsat);
+    };
+    let words = words_of(alloc, given.words)?;
+    let truths = Vec::from_slice(alloc, given.truths)?;
+    Ok(Verdict::Sat { words, truths })
 }
 
 /// Appends an answer, with a space in the place of its line feed.
@@ -172,7 +206,7 @@ fn push_check(
     alloc: Global,
     out: &mut String,
     stack: &mut Stack,
-    found: Option<&[&[u32]]>,
+    found: Option<Given>,
 ) -> Result<(), AllocError> {
     let verdict = verdict_of(alloc, found)?;
     push_answer(out, stack.settle(verdict))
@@ -184,7 +218,7 @@ fn push_step(
     out: &mut String,
     stack: &mut Stack,
     step: &Step,
-    found: Option<&[&[u32]]>,
+    found: Option<Given>,
 ) -> Result<bool, AllocError> {
     match step {
         Step::Answer(text) | Step::Left(text, _) => push_answer(out, text)?,
@@ -203,7 +237,7 @@ fn answer_next(
     out: &mut String,
     feed: &mut Feed,
     stack: &mut Stack,
-    found: Option<&[&[u32]]>,
+    found: Option<Given>,
 ) -> Result<bool, AllocError> {
     let next = feed.next()?;
     if let Next::NotYet | Next::Ended(_) = next {
@@ -213,14 +247,14 @@ fn answer_next(
     push_step(alloc, out, stack, &step, found)
 }
 
-/// Answers a script, where each check finds these words, or none.
+/// Answers a script, where each check finds these values, or none.
 fn answer_all(
     alloc: Global,
     out: &mut String,
     feed: &mut Feed,
     stack: &mut Stack,
     script: &[u8],
-    found: Option<&[&[u32]]>,
+    found: Option<Given>,
 ) -> Result<(), AllocError>
     requires { feed.old.1 ≡ false }
 {
@@ -238,7 +272,7 @@ fn expect_answers(
     rt: &impl Abort,
     alloc: Global,
     script: &[u8],
-    found: Option<&[&[u32]]>,
+    found: Option<Given>,
     wanted: &str,
 ) -> Result<(), AllocError> {
     let mut out = String::new(alloc);
@@ -250,7 +284,11 @@ fn expect_answers(
 
 /// The words of a model are given once.
 fn expect_words_once(rt: &impl Abort, alloc: Global, stack: &mut Stack) -> Result<(), AllocError> {
-    let verdict = verdict_of(alloc, Some(&[&[0x61]]))?;
+    let given = Given {
+        words: &[&[0x61]],
+        truths: &[],
+    };
+    let verdict = verdict_of(alloc, Some(given))?;
     let reply = stack.settle(verdict);
     assert_eq!(rt; reply, b"sat\n".as_slice());
     let reply = stack.settle(Verdict::Unsat);
@@ -321,8 +359,14 @@ fn answers_assertions(rt: HostRuntime) -> Result<(), Fail> {
 
 #[test]
 fn answers_questions_for_values(rt: HostRuntime) -> Result<(), Fail> {
-    for (words, script, wanted) in VALUES {
-        expect_answers(&rt, rt.alloc(), script, Some(words), wanted)?;
+    for (words, truths, script, wanted) in VALUES {
+        expect_answers(
+            &rt,
+            rt.alloc(),
+            script,
+            Some(Given { words, truths }),
+            wanted,
+        )?;
     }
     Ok(())
 }

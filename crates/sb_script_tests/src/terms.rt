@@ -10,8 +10,9 @@ use std::alloc::{AllocError, Global};
 use std::process::Abort;
 use std::test::Fail;
 
-/// Forms, and what they are read as into an empty table, where x, y and let are constants and m is marked: the table's
-/// terms in the order of their numbers, `#` before a serial and `'` before a word, and the number of the form's term;
+/// Forms, and what they are read as into an empty table, where x, y z and let are constants, p is one of sort Bool, and m
+/// is marked: the table's terms in the order of their numbers, `#` before a serial, `%` before one of sort Bool and `'`
+/// before a word, and the number of the form's term;
 /// or a fault behind `!`.
 const FORMS: [(&[u8], &str); 73] = [
     (
@@ -114,10 +115,10 @@ const EQUALITIES: [(&[u8], &str); 17] = [
     (b"(|=| x |y z|)", "#0; #1; (equal 0 1); 2"),
     (b"(= x x)", "#0; (equal 0 0); 1"),
     (b"(= \"\" \"a\")", "'; 'a; (equal 0 1); 2"),
-    (b"(= x \"a\" \"b\")", "!unsupported"),
+    (b"(= x \"a\" \"b\")", "#0; 'a; 'b; (equal 0 1 2); 3"),
     (
         b"(= (str.in_re x re.all) (str.in_re |y z| re.all))",
-        "!unsupported",
+        "#0; (all); (in 0 1); #1; (in 3 1); (equal 2 4); 5",
     ),
     (b"(= re.all re.all)", "!unsupported"),
     (b"(= x)", "!count"),
@@ -128,12 +129,67 @@ const EQUALITIES: [(&[u8], &str); 17] = [
     (b"(= x (= x \"a\"))", "!sort"),
     (b"(= x \"a\" w)", "!unknown w"),
     (b"(_ = 2)", "!index"),
-    (b"(distinct x \"a\")", "!unsupported"),
+    (b"(distinct x \"a\")", "#0; 'a; (distinct 0 1); 2"),
+];
+
+/// Boolean structure, and what it is read as.
+const STRUCTURE: [(&[u8], &str); 33] = [
+    (b"true", "(true); 0"),
+    (b"|false|", "(false); 0"),
+    (b"p", "%3; 0"),
+    (
+        b"(or p (not (= x \"a\")) false)",
+        "%3; #0; 'a; (equal 1 2); (not 3); (false); (or 0 4 5); 6",
+    ),
+    (b"(and p)", "%3; 0"),
+    (b"(or p)", "%3; 0"),
+    (b"(and p true)", "%3; (true); (and 0 1); 2"),
+    (b"(=> p p p)", "%3; (implies 0 0 0); 1"),
+    (b"(xor p true)", "%3; (true); (xor 0 1); 2"),
+    (b"(ite p p true)", "%3; (true); (ite 0 0 1); 2"),
+    (
+        b"(= p (= x \"a\") true)",
+        "%3; #0; 'a; (equal 1 2); (true); (equal 0 3 4); 5",
+    ),
+    (b"(distinct p true)", "%3; (true); (distinct 0 1); 2"),
+    (
+        b"(distinct x \"a\" \"b\")",
+        "#0; 'a; 'b; (distinct 0 1 2); 3",
+    ),
+    (b"(=> p)", "!count"),
+    (b"(xor p)", "!count"),
+    (b"(and)", "!malformed"),
+    (b"(true)", "!malformed"),
+    (b"(true p)", "!count"),
+    (b"not", "!count"),
+    (b"(not p p)", "!count"),
+    (b"(ite p p)", "!count"),
+    (b"(distinct p)", "!count"),
+    (b"(p p)", "!count"),
+    (b"(not x)", "!sort"),
+    (b"(and p x)", "!sort"),
+    (b"(ite x p p)", "!sort"),
+    (b"(ite p p x)", "!sort"),
+    (b"(distinct p x)", "!sort"),
+    (b"(str.in_re p re.all)", "!sort"),
+    (b"(ite p x \"a\")", "!unsupported"),
+    (b"(distinct re.all re.all)", "!unsupported"),
+    (b"(not w)", "!unknown w"),
+    (b"(_ true 1)", "!index"),
 ];
 
 fn name_of(symbol: Symbol) -> &'static str {
     match symbol {
+        Symbol::True => "(true",
+        Symbol::False => "(false",
+        Symbol::Not => "(not",
+        Symbol::And => "(and",
+        Symbol::Or => "(or",
+        Symbol::Implies => "(implies",
+        Symbol::Xor => "(xor",
+        Symbol::Ite => "(ite",
         Symbol::Equal => "(equal",
+        Symbol::Distinct => "(distinct",
         Symbol::StrInRe => "(in",
         Symbol::StrToRe => "(word",
         Symbol::ReRange => "(range",
@@ -179,6 +235,10 @@ fn push_term(out: &mut String, term: &Term) -> Result<(), AllocError> {
     match term {
         Term::Constant(serial, Sort::String) => {
             out.push('#')?;
+            push_number(out, serial.0)?;
+        }
+        Term::Constant(serial, Sort::Bool) => {
+            out.push('%')?;
             push_number(out, serial.0)?;
         }
         Term::Word(codes) => {
@@ -280,13 +340,14 @@ fn answer(alloc: Global, scope: &Scope, form: &[u8]) -> Result<String, AllocErro
     Ok(out)
 }
 
-/// Where x, y z and let are constants and m is marked.
+/// Where x, y z and let are constants of sort String, p is one of sort Bool, and m is marked.
 pub fn scope_of_tests(alloc: Global) -> Result<Scope, DeclareError> {
     let mut scope = Scope::new(alloc);
-    scope.declare(b"x")?;
+    scope.declare(b"x", Sort::String)?;
     scope.mark(b"m")?;
-    scope.declare(b"y z")?;
-    scope.declare(b"let")?;
+    scope.declare(b"y z", Sort::String)?;
+    scope.declare(b"let", Sort::String)?;
+    scope.declare(b"p", Sort::Bool)?;
     Ok(scope)
 }
 
@@ -312,9 +373,18 @@ fn reads_terms_or_their_first_faults(rt: HostRuntime) -> Result<(), Fail> {
 }
 
 #[test]
-fn reads_equalities_of_two_words(rt: HostRuntime) -> Result<(), Fail> {
+fn reads_equalities(rt: HostRuntime) -> Result<(), Fail> {
     let scope = scope_of_tests(rt.alloc())?;
     for (form, wanted) in EQUALITIES {
+        expect_answer(&rt, rt.alloc(), &scope, form, wanted)?;
+    }
+    Ok(())
+}
+
+#[test]
+fn reads_boolean_structure(rt: HostRuntime) -> Result<(), Fail> {
+    let scope = scope_of_tests(rt.alloc())?;
+    for (form, wanted) in STRUCTURE {
         expect_answer(&rt, rt.alloc(), &scope, form, wanted)?;
     }
     Ok(())
@@ -414,7 +484,7 @@ fn expect_declared(
     name: &[u8],
     wanted: Result<(), DeclareError>,
 ) {
-    let declared = scope.declare(name);
+    let declared = scope.declare(name, Sort::Bool);
     assert_eq!(rt; declared, wanted);
 }
 
@@ -433,9 +503,25 @@ fn declares_each_name_once(rt: HostRuntime) -> Result<(), Fail> {
     );
     expect_declared(&rt, &mut scope, b"re.plus", Ok(()));
     let named = scope.named(b"re.plus");
-    assert_eq!(rt; named, Some(Named::Constant(Serial(3))));
-    let last = scope.at(4);
-    assert!(rt; matches!(last, Some((b"re.plus", Named::Constant(Serial(3))))));
-    assert_eq!(rt; (scope.declared(), scope.len()), (4, 5));
+    assert_eq!(rt; named, Some(Named::Constant(Serial(4), Sort::Bool)));
+    let last = scope.at(5);
+    assert!(rt;
+        matches!(
+            last,
+            Some((b"re.plus", Named::Constant(Serial(4), Sort::Bool)))
+        )
+    );
+    assert_eq!(rt;
+        scope.sorts(),
+        [
+            Sort::String,
+            Sort::String,
+            Sort::String,
+            Sort::Bool,
+            Sort::Bool
+        ]
+        .as_slice()
+    );
+    assert_eq!(rt; (scope.declared(), scope.len()), (5, 6));
     Ok(())
 }

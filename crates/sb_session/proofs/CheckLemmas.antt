@@ -15,7 +15,7 @@ use Rattle.sb_script.specs.Verdicts.{Verdict, is_sat, is_unsat, is_unknown, is_o
 use Rattle.sb_rulebook.specs.Brought.{newest_format}
 use Rattle.sb_rulebook.specs.Lines.{text_of, header_line, end_line}
 use Rattle.sb_rulebook.specs.LineLaws.{bytes_of}
-use Rattle.sb_meaning.specs.Terms.{Term}
+use Rattle.sb_meaning.specs.Terms.{Sort, Term}
 use Rattle.sb_rulebook.specs.Accepted.{question_in, asked_in}
 use Rattle.sb_rulebook.specs.Judging.{Progress}
 use Rattle.sb_certified.specs.Certified.{Proves, last_lines}
@@ -143,15 +143,15 @@ check_cut s v p rs memo proving empty told bytes old new start same is h cut = r
       (same ∙ told_behind empty told h.lines start h.told) cut);
 }
 
-decides : (ns : List ℕ) (v : code.Verdict) (s : State) (kept : Decider) → IsDecision v kept
+decides : (ns : List (ℕ × Sort)) (v : code.Verdict) (s : State) (kept : Decider) → IsDecision v kept
     → IsVerdict s [] (verdict_in ns v) → FindsUnproved s [] [] (verdict_in ns v)
-decides ns (verdict.Sat words) s kept is h = (refl, h)
+decides ns (verdict.Sat words truths) s kept is h = (refl, h)
 decides ns verdict.Unsat s kept is h = (refl, h)
 decides ns verdict.Unknown s kept is h = absurd is
 decides ns verdict.Outside s kept is h = (refl, h)
 
 -- without a proof
-pub check_unproved : (s : State) (ns : List ℕ) (v : code.Verdict) (kept : Decider) (p : Progress)
+pub check_unproved : (s : State) (ns : List (ℕ × Sort)) (v : code.Verdict) (kept : Decider) (p : Progress)
     (proof : Option Proving) (after : SessionState) (old : Outside) → proof ≡ None → after.proof ≡ proof
     → IsDecision v kept → IsVerdict s [] (verdict_in ns v)
     → ProvesCheck s (verdict_in ns v) p (is_some proof) after old old
@@ -312,7 +312,7 @@ levels_of_found v old new (Some proving) e h =
   where
     of : (v : code.Verdict) → HaveLevels (asked_in (state_of old)).live proving.evidence
         → HaveLevels (asked_in (state_of (found v old))).live proving.evidence
-    of (verdict.Sat words) h = h
+    of (verdict.Sat words truths) h = h
     of verdict.Unsat h = h
     of verdict.Unknown h = h
     of verdict.Outside h = h

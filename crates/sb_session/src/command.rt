@@ -11,7 +11,7 @@ ghost use Rattle.sb_atoms.specs.Numbered.{HaveRegexesBelow};
 ghost use Rattle.sb_prover.specs.Proving.{IsAbreast, HaveLevels};
 ghost use Rattle.sb_rulebook.specs.Accepted.{asked_in};
 ghost use Rattle.sb_rulebook.specs.Judging.{Progress, beginning};
-ghost use Rattle.sb_stack.specs.Stacked.{state_of, live_serials};
+ghost use Rattle.sb_stack.specs.Stacked.{state_of, live_constants};
 ghost use Rattle.sb_stack.specs.Steps.{IsEntry, entry_of, verdict_in, found};
 ghost use Rattle.sb_decide.specs.Knowing.{Knows, IsDecision};
 ghost use Rattle.sb_decide.specs.Laws.{KnowsBack};
@@ -348,7 +348,7 @@ fn prove_check<W: World>(
     world: &mut W,
 ) -> Result<Verdict, WorldError>
     requires knows { Knows decider.old (found verdict stack.now) }
-    requires verdict { IsVerdict (state_of stack.now) [] (verdict_in (live_serials stack.now) verdict) }
+    requires verdict { IsVerdict (state_of stack.now) [] (verdict_in (live_constants stack.now) verdict) }
     requires decided { IsDecision verdict decider.old }
     requires regexes { HasRegexes decider.old.arena prover.old }
     ensures knows { IfOk result (λ v. Knows decider.new (found v stack.now)) }
@@ -356,7 +356,7 @@ fn prove_check<W: World>(
     ensures levels { OnOk result (HasLevels (state_of stack.now) prover.old
         → HasLevels (state_of stack.now) prover.new) }
     ensures ok { IfOk result (λ v. (p : Progress) → IsTracked (session_of stack.now decider.old prover.old) p
-        → ProvesCheck (state_of stack.now) (verdict_in (live_serials stack.now) v) p (is_some prover.old)
+        → ProvesCheck (state_of stack.now) (verdict_in (live_constants stack.now) v) p (is_some prover.old)
         (session_of stack.now decider.new prover.new) (W.outside world.old) (W.outside world.new)) }
     ensures err { OnErr result ((p : Progress) → IsTracked (session_of stack.now decider.old prover.old) p
         → (W.outside world.new ≡ W.outside world.old)
@@ -380,7 +380,7 @@ fn prove<W: World>(
     world: &mut W,
 ) -> Result<Verdict, WorldError>
     requires knows { Knows decider.old (found verdict stack.now) }
-    requires verdict { IsVerdict (state_of stack.now) [] (verdict_in (live_serials stack.now) verdict) }
+    requires verdict { IsVerdict (state_of stack.now) [] (verdict_in (live_constants stack.now) verdict) }
     requires decided { IsDecision verdict decider.old }
     requires regexes { HaveRegexesBelow (length decider.old.arena) prover.old.evidence.atoms }
     ensures knows { IfOk result (λ v. Knows decider.new (found v stack.now)) }
@@ -388,7 +388,7 @@ fn prove<W: World>(
     ensures levels { OnOk result (HaveLevels (asked_in (state_of stack.now)).live prover.old.evidence
         → HaveLevels (asked_in (state_of stack.now)).live prover.new.evidence) }
     ensures ok { IfOk result (λ v. (p : Progress) → IsTracked (session_of stack.now decider.old (Some prover.old)) p
-        → ProvesCheck (state_of stack.now) (verdict_in (live_serials stack.now) v) p true (session_of stack.now decider.new (Some prover.new))
+        → ProvesCheck (state_of stack.now) (verdict_in (live_constants stack.now) v) p true (session_of stack.now decider.new (Some prover.new))
         (W.outside world.old) (W.outside world.new)) }
     ensures err { OnErr result ((p : Progress) → IsTracked (session_of stack.now decider.old (Some prover.old)) p
         → (W.outside world.new ≡ W.outside world.old)

@@ -1,13 +1,9 @@
--- Sorts of arguments, as the tests go over them, and the fault of an application whose use is not read.
-use Rattle.std.proofs.Common.{◌≡◌, ℕ, ◌+◌, ◌<◌, Bool, true, false, ◌&&◌, List, [], ◌∷◌, ◌++◌, length, map, take, get_or, Err, refl, sym, ap, ap₂, ◌∙◌, arith}
+-- Sorts of arguments, as the tests go over them.
+use Rattle.std.proofs.Common.{◌≡◌, ℕ, ◌+◌, ◌<◌, Bool, true, ◌&&◌, List, [], ◌∷◌, ◌++◌, length, map, take, get_or, refl, sym, ap, ap₂, ◌∙◌, arith}
 use Rattle.std.proofs.lemmas.List.{map-append, take_more, length-map}
 use Rattle.std.specs.List.{list_all, zip}
 use Rattle.sb_meaning.specs.Terms as meaning
-use Rattle.sb_meaning.specs.Terms.{boolean, integer, text, reglan}
 use Rattle.sb_meaning.specs.Sorts.{Arity, is_same_sort, are_sorts, is_count, sort_of}
-use Rattle.sb_script.specs.Brought.{is_brought_use}
-use Rattle.sb_script.specs.Faults.{Fault}
-use Rattle.sb_script.specs.Heads.{if_used}
 use Rattle.sb_term.specs.Numbered.{term_at, terms_at}
 use Rattle.sb_term.specs.declared.sort.Sort.{Sort}
 use Rattle.sb_term.specs.Symbols.{sort_in}
@@ -57,19 +53,3 @@ pub counted_sorts : (arity : Arity) (b : Bool) (n : ℕ) (ts : List meaning.Term
     → is_count arity (length sorts) ≡ true
 counted_sorts arity b n ts ids sorts test taken long is =
     ap (is_count arity) (as_many ts ids sorts is ∙ sym long) ∙ sym test ∙ taken
-
--- two words are compared, and no other two
-pub two_words : (k s : meaning.Sort) → (is_same_sort text k && is_same_sort text s)
-    ≡ is_brought_use meaning.core_equal (k ∷ s ∷ [])
-two_words text text = refl
-two_words text boolean = refl
-two_words text integer = refl
-two_words text reglan = refl
-two_words boolean s = refl
-two_words integer s = refl
-two_words reglan s = refl
-
--- a fault stays, whether the use is read or not
-pub used_fault : (b : Bool) (fault : Fault) → if_used b (Err fault) ≡ Err fault
-used_fault true fault = refl
-used_fault false fault = refl

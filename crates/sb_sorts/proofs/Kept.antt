@@ -1,8 +1,9 @@
 -- The names of a scope: what a look-up finds, and the serials of its constants.
-use Rattle.std.proofs.Common.{◌≡◌, ℕ, zero, suc, ◌+◌, ◌≤◌, Bool, true, false, cond, ◌||◌, nat_eq, nat_le, nat_lt, List, [], ◌∷◌, ◌++◌, take, drop, Option, Some, None, option_map, is_some, IfSome, sym, refl, ap, subst, ◌∙◌, arith}
-use Rattle.std.proofs.lemmas.Bool.{and_parts, and_from}
+use Rattle.std.proofs.Common.{◌≡◌, ℕ, zero, suc, ◌+◌, ◌≤◌, Bool, true, false, cond, ◌||◌, nat_eq, nat_le, nat_lt, List, [], ◌∷◌, ◌++◌, take, drop, map, length, length-append, Option, Some, None, option_map, is_some, IfSome, sym, refl, ap, ap₂, subst, ◌∙◌, arith}
+use Rattle.std.proofs.lemmas.Bool.{and_parts, and_from, false≢true}
 use Rattle.std.proofs.lemmas.Bool.Decides.{nat_tests}
-use Rattle.std.proofs.lemmas.List.{take-append-drop}
+use Rattle.std.proofs.lemmas.List.{take-append-drop, map-append}
+use Rattle.std.proofs.lemmas.List.Folds.{list_all-append}
 use Rattle.std.specs.Cmp.Lexicographic.{pointwise}
 use Rattle.std.specs.List.{list_all}
 use Rattle.std.specs.Map.{lookup}
@@ -14,8 +15,12 @@ use Rattle.sb_script.specs.Scopes as meaning
 use Rattle.sb_script.specs.Symbols.{is_taken, is_theory_name}
 use Rattle.sb_sorts.specs.declared.scope.Named.{Named}
 use Rattle.sb_sorts.specs.declared.scope.Named.TheVariants as code
-use Rattle.sb_sorts.specs.Scopes.{named_in, serials_in, ascend_below}
-use Rattle.sb_sorts.specs.NameTable.{kept_in, namings_in, named_below}
+use Rattle.sb_term.specs.declared.sort.Sort.{Sort}
+use Rattle.sb_term.specs.Symbols.{sort_in}
+use Rattle.sb_meaning.specs.Terms as terms
+use Rattle.sb_meaning.specs.Sorts.{is_same_sort}
+use Rattle.sb_sorts.specs.Scopes.{named_in, constants_among, serials_in, ascend_below, has_sort, are_sorted}
+use Rattle.sb_sorts.specs.NameTable.{kept_in, namings_in, named_below, HasSerials}
 
 abbrev is_key : Name → Vec ℕ Global → Bool
 is_key name key = pointwise nat_eq name key.items
@@ -63,9 +68,15 @@ pub untaken_none : (names : List meaning.Naming) (name : Name) → is_taken name
 untaken_none names name h = none_from (meaning.named names name) (is_theory_name name) h
 
 -- serials ascend
+constants_append : (ns ms : List (Name × Named)) → constants_among (ns ++ ms) ≡ constants_among ns ++ constants_among ms
+constants_append [] ms = refl
+constants_append ((name, code.Constant serial sort) ∷ ns) ms =
+    ap (λ cs. (serial.0, sort_in sort) ∷ cs) (constants_append ns ms)
+constants_append ((name, code.Marked) ∷ ns) ms = constants_append ns ms
+
 serials_append : (ns ms : List (Name × Named)) → serials_in (ns ++ ms) ≡ serials_in ns ++ serials_in ms
 serials_append [] ms = refl
-serials_append ((name, code.Constant serial) ∷ ns) ms = ap (λ s. serial.0 ∷ s) (serials_append ns ms)
+serials_append ((name, code.Constant serial sort) ∷ ns) ms = ap (λ s. serial.0 ∷ s) (serials_append ns ms)
 serials_append ((name, code.Marked) ∷ ns) ms = serials_append ns ms
 
 -- one more serial, the bound itself
@@ -79,19 +90,61 @@ ascend_more from bound (n ∷ ns) least h =
     let next : n + 1 ≤ bound = grind (arith, nat_tests, more.0) in
     and_from _ _ parts.0 (and_from _ _ below (ascend_more (n + 1) bound ns next more.1))
 
-pub one_more : (ns : List (Name × Named)) (name : Name) (d : ℕ) → ascend_below 0 d (serials_in ns) ≡ true
-    → ascend_below 0 (d + 1) (serials_in (ns ++ (name, code.Constant (record { 0 = d })) ∷ [])) ≡ true
-one_more ns name d h =
-    let least : 0 ≤ d = omega arith in
-    ap (ascend_below 0 (d + 1)) (serials_append ns _) ∙ ascend_more 0 d (serials_in ns) least h
+-- each constant keeps its sort where there are more sorts, and the next one has its own
+sort_grown : (ss more : List terms.Sort) (n : ℕ) (k : terms.Sort) → has_sort ss (n, k) ≡ true
+    → has_sort (ss ++ more) (n, k) ≡ true
+sort_grown [] more n k h = absurd (false≢true h)
+sort_grown (s ∷ ss) more zero k h = h
+sort_grown (s ∷ ss) more (suc n) k h = sort_grown ss more n k h
 
-append_none : (xs : List ℕ) → xs ++ [] ≡ xs
+sorts_grown : (ss more : List terms.Sort) (cs : List (ℕ × terms.Sort)) → are_sorted ss cs ≡ true
+    → are_sorted (ss ++ more) cs ≡ true
+sorts_grown ss more [] h = refl
+sorts_grown ss more (c ∷ cs) h =
+    let parts = and_parts (has_sort ss c) (are_sorted ss cs) h in
+    and_from (has_sort (ss ++ more) c) (are_sorted (ss ++ more) cs) (sort_grown ss more c.0 c.1 parts.0)
+    (sorts_grown ss more cs parts.1)
+
+same_itself : (k : terms.Sort) → is_same_sort k k ≡ true
+same_itself terms.boolean = refl
+same_itself terms.integer = refl
+same_itself terms.text = refl
+same_itself terms.reglan = refl
+
+next_sort : (ss : List Sort) (sort : Sort)
+    → has_sort (map sort_in ss ++ sort_in sort ∷ []) (length ss, sort_in sort) ≡ true
+next_sort [] sort = same_itself (sort_in sort)
+next_sort (s ∷ ss) sort = next_sort ss sort
+
+-- one more constant
+pub one_more : (ns : List (Name × Named)) (name : Name) (sort : Sort) (ss more : List Sort) (n : ℕ)
+    → n ≡ length ss → more ≡ ss ++ sort ∷ [] → HasSerials ns ss
+    → HasSerials (ns ++ (name, code.Constant (record { 0 = n }) sort) ∷ []) more
+one_more ns name sort ss more n is all h =
+    let least : 0 ≤ length ss = omega arith in
+    let count : length (ss ++ sort ∷ []) ≡ length ss + 1 = length-append ss (sort ∷ []) in
+    subst (λ m. HasSerials (ns ++ (name, code.Constant (record { 0 = m }) sort) ∷ []) more) (sym is)
+    (subst (HasSerials (ns ++ (name, code.Constant (record { 0 = length ss }) sort) ∷ [])) (sym all) (record {
+      ascend = ap (λ bound. ascend_below 0 bound
+          (serials_in (ns ++ (name, code.Constant (record { 0 = length ss }) sort) ∷ []))) count
+          ∙ ap (ascend_below 0 (length ss + 1)) (serials_append ns _)
+          ∙ ascend_more 0 (length ss) (serials_in ns) least h.ascend;
+      sorted = ap₂ are_sorted (map-append sort_in ss (sort ∷ [])) (constants_append ns _)
+          ∙ list_all-append (has_sort (map sort_in ss ++ sort_in sort ∷ [])) (constants_among ns) _
+          ∙ and_from _ _ (sorts_grown (map sort_in ss) (sort_in sort ∷ []) (constants_among ns) h.sorted)
+          (and_from _ true (next_sort ss sort) refl);
+    }))
+
+append_none : {A : Type 0} (xs : List A) → xs ++ [] ≡ xs
 append_none [] = refl
 append_none (x ∷ xs) = ap (λ s. x ∷ s) (append_none xs)
 
-pub one_mark : (ns : List (Name × Named)) (name : Name) (d : ℕ) → ascend_below 0 d (serials_in ns) ≡ true
-    → ascend_below 0 d (serials_in (ns ++ (name, code.Marked) ∷ [])) ≡ true
-one_mark ns name d h = ap (ascend_below 0 d) (serials_append ns _ ∙ append_none (serials_in ns)) ∙ h
+pub one_mark : (ns : List (Name × Named)) (name : Name) (ss : List Sort) → HasSerials ns ss
+    → HasSerials (ns ++ (name, code.Marked) ∷ []) ss
+one_mark ns name ss h = record {
+  ascend = ap (ascend_below 0 (length ss)) (serials_append ns _ ∙ append_none (serials_in ns)) ∙ h.ascend;
+  sorted = ap (are_sorted (map sort_in ss)) (constants_append ns _ ∙ append_none (constants_among ns)) ∙ h.sorted;
+}
 
 -- the first names, so many
 ascend_front : (from bound : ℕ) (front others : List ℕ) → ascend_below from bound (front ++ others) ≡ true
@@ -107,17 +160,23 @@ kept_taken zero es = refl
 kept_taken (suc n) [] = refl
 kept_taken (suc n) (e ∷ es) = ap (λ ns. (e.0.items, e.1) ∷ ns) (kept_taken n es)
 
-pub fewer_names : (count bound : ℕ) (es fewer : List (Vec ℕ Global × Named)) → fewer ≡ take count es
-    → ascend_below 0 bound (serials_in (kept_in es)) ≡ true
-    → ascend_below 0 bound (serials_in (kept_in fewer)) ≡ true
-fewer_names count bound es fewer is h =
+front_serials : (front others : List (Name × Named)) (ss : List Sort) → HasSerials (front ++ others) ss
+    → HasSerials front ss
+front_serials front others ss h = record {
+  ascend = ascend_front 0 (length ss) (serials_in front) (serials_in others)
+      (ap (ascend_below 0 (length ss)) (sym (serials_append front others)) ∙ h.ascend);
+  sorted = (and_parts (are_sorted (map sort_in ss) (constants_among front)) _
+      (sym (list_all-append (has_sort (map sort_in ss)) (constants_among front) (constants_among others))
+      ∙ ap (are_sorted (map sort_in ss)) (sym (constants_append front others)) ∙ h.sorted)).0;
+}
+
+pub fewer_names : (count : ℕ) (ss : List Sort) (es fewer : List (Vec ℕ Global × Named)) → fewer ≡ take count es
+    → HasSerials (kept_in es) ss → HasSerials (kept_in fewer) ss
+fewer_names count ss es fewer is h =
     let ns = kept_in es in
-    let both : serials_in ns ≡ serials_in (take count ns) ++ serials_in (drop count ns) =
-    ap serials_in (sym (take-append-drop count ns)) ∙ serials_append (take count ns) (drop count ns) in
-    ap (λ es. ascend_below 0 bound (serials_in (kept_in es))) is
-    ∙ ap (λ ns. ascend_below 0 bound (serials_in ns)) (kept_taken count es)
-    ∙ ascend_front 0 bound (serials_in (take count ns)) (serials_in (drop count ns))
-    (ap (ascend_below 0 bound) (sym both) ∙ h)
+    subst (λ ms. HasSerials ms ss) (sym (ap kept_in is ∙ kept_taken count es))
+    (front_serials (take count ns) (drop count ns) ss
+    (subst (λ ms. HasSerials ms ss) (sym (take-append-drop count ns)) h))
 
 pub names_taken : (count : ℕ) (es fewer : List (Vec ℕ Global × Named)) → fewer ≡ take count es
     → kept_in fewer ≡ take count (kept_in es)
@@ -141,7 +200,7 @@ found_below : (n : ℕ) (test : Vec ℕ Global → Bool) (es : List (Vec ℕ Glo
     → list_all (λ s. nat_lt s n) (serials_in (kept_in es)) ≡ true
     → IfSome (lookup test es) (λ v. named_below n v ≡ true)
 found_below n test [] all = tt
-found_below n test ((key, code.Constant serial) ∷ es) all = let parts = and_parts _ _ all in
+found_below n test ((key, code.Constant serial sort) ∷ es) all = let parts = and_parts _ _ all in
     found_step n (test key) _ _ parts.0 (found_below n test es parts.1)
 found_below n test ((key, code.Marked) ∷ es) all = found_step n (test key) _ _ refl (found_below n test es all)
 

@@ -11,7 +11,7 @@ use Rattle.sb_sorts.specs.declared.apply.Arity.TheVariants as arity
 use Rattle.sb_script.specs.Names.{Name, is_name, is_reserved}
 use Rattle.sb_meaning.specs.Sorts as theory
 use Rattle.sb_script.specs.Scopes.{Naming}
-use Rattle.sb_meaning.specs.Terms.{text, word}
+use Rattle.sb_meaning.specs.Terms.{word}
 use Rattle.sb_script.specs.Heads as meaning
 use Rattle.sb_script.specs.Faults.{Fault, malformed}
 use Rattle.sb_script.specs.Heads.{head_constant, head_symbol, head_term, read_head}
@@ -20,7 +20,7 @@ use Rattle.sb_term.specs.Symbols.{sort_in, symbol_in}
 use Rattle.sb_sorts.specs.Reads.{Faults}
 
 abbrev pub head_in : Head → meaning.Head
-head_in (head.Constant serial) = head_constant serial.0 text
+head_in (head.Constant serial sort) = head_constant serial.0 (sort_in sort)
 head_in (head.Character c) = head_term (word (c.code ∷ []))
 head_in (head.Symbol s) = head_symbol (symbol_in s)
 
@@ -32,7 +32,7 @@ arity_in arity.Choice = theory.choice
 
 -- a constant that is the head has a serial below this
 abbrev pub head_below : ℕ → Head → Bool
-head_below n (head.Constant serial) = nat_lt serial.0 n
+head_below n (head.Constant serial sort) = nat_lt serial.0 n
 head_below n (head.Character c) = true
 head_below n (head.Symbol s) = true
 

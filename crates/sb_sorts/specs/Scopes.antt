@@ -1,18 +1,22 @@
--- What a scope keeps, as the definitions have it. Constants are of sort String.
-use Rattle.std.specs.Prelude.{ℕ, ◌+◌, zero, suc, Bool, true, ◌&&◌, nat_le, nat_lt, List, [], ◌∷◌, ◌++◌, map}
+-- What a scope keeps, as the definitions have it.
+use Rattle.std.specs.Prelude.{ℕ, ◌+◌, Bool, true, false, ◌&&◌, nat_le, nat_lt, List, [], ◌∷◌, ◌++◌, map, length, slice_get, Some, None}
+use Rattle.std.specs.List.{list_all}
 use Rattle.sb_sorts.specs.declared.scope.Named.{Named}
 use Rattle.sb_sorts.specs.declared.scope.Named.TheVariants as code
+use Rattle.sb_term.specs.declared.sort.Sort.{Sort}
+use Rattle.sb_term.specs.Symbols.{sort_in}
 use Rattle.sb_script.specs.Names.{Name}
-use Rattle.sb_meaning.specs.Terms.{Sort, text}
+use Rattle.sb_meaning.specs.Terms as terms
+use Rattle.sb_meaning.specs.Sorts.{is_same_sort}
 use Rattle.sb_script.specs.Scopes as meaning
 
--- the names in force, in the order of declaration, and how many constants were declared so far
+-- the names in force, in the order of declaration, and the sorts of all constants declared so far, by serial
 pub record ScopeNames : Type 0 where
   pub names : List (Name × Named)
-  pub declared : ℕ
+  pub sorts : List Sort
 
 abbrev pub named_in : Named → meaning.Named
-named_in (code.Constant serial) = meaning.a_constant serial.0 text
+named_in (code.Constant serial sort) = meaning.a_constant serial.0 (sort_in sort)
 named_in code.Marked = meaning.a_marked_name
 
 abbrev pub naming_in : Name × Named → meaning.Naming
@@ -21,30 +25,34 @@ naming_in n = (n.0, named_in n.1)
 abbrev pub names_in : ScopeNames → List meaning.Naming
 names_in kept = map naming_in kept.names
 
--- the sorts of so many constants
-abbrev pub texts : ℕ → List Sort
-texts zero = []
-texts (suc n) = text ∷ texts n
+-- the constants among names, in order: their serials and sorts
+abbrev pub constants_among : List (Name × Named) → List (ℕ × terms.Sort)
+constants_among [] = []
+constants_among ((name, code.Constant serial sort) ∷ ns) = (serial.0, sort_in sort) ∷ constants_among ns
+constants_among ((name, code.Marked) ∷ ns) = constants_among ns
 
--- the serials of the constants among names, in order
+-- their serials
 abbrev pub serials_in : List (Name × Named) → List ℕ
-serials_in [] = []
-serials_in ((name, code.Constant serial) ∷ ns) = serial.0 ∷ serials_in ns
-serials_in ((name, code.Marked) ∷ ns) = serials_in ns
+serials_in ns = map (λ c. c.0) (constants_among ns)
 
 -- the numbers ascend, from this one on, and are below the bound
 abbrev pub ascend_below : ℕ → ℕ → List ℕ → Bool
 ascend_below from bound [] = true
 ascend_below from bound (n ∷ ns) = nat_le from n && (nat_lt n bound && ascend_below (n + 1) bound ns)
 
+-- the constant has the sort that stands at its serial
+abbrev pub has_sort : List terms.Sort → ℕ × terms.Sort → Bool
+has_sort sorts c = elim (slice_get sorts c.0) [ None ↦ false | Some sort ↦ is_same_sort c.1 sort ]
+
+abbrev pub are_sorted : List terms.Sort → List (ℕ × terms.Sort) → Bool
+are_sorted sorts cs = list_all (has_sort sorts) cs
+
 -- the scope with one more constant, and with one more marked name
-abbrev pub with_constant : Name → ScopeNames → ScopeNames
-with_constant name kept =
-    record {
-      names = kept.names ++ (name, code.Constant (record { 0 = kept.declared })) ∷ [];
-      declared =
-          kept.declared + 1;
-    }
+abbrev pub with_constant : Name → Sort → ScopeNames → ScopeNames
+with_constant name sort kept = record {
+  names = kept.names ++ (name, code.Constant (record { 0 = length kept.sorts }) sort) ∷ [];
+  sorts = kept.sorts ++ sort ∷ [];
+}
 
 abbrev pub with_mark : Name → ScopeNames → ScopeNames
 with_mark name kept = record kept { names = kept.names ++ (name, code.Marked) ∷ [] }

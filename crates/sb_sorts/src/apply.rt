@@ -2,10 +2,9 @@
 
 ghost use Rattle.std.specs.Prelude.{◌≡◌, ℕ, ◌<◌, true, [], ◌∷◌, map, length, IfOk};
 ghost use Rattle.std.specs.List.{list_all};
-ghost use Rattle.sb_script.specs.Brought as brought;
 ghost use Rattle.sb_script.specs.Heads as meaning;
 ghost use Rattle.sb_meaning.specs.Sorts as theory;
-ghost use Rattle.sb_meaning.specs.Terms.{constant, core_equal, text, word};
+ghost use Rattle.sb_meaning.specs.Terms.{constant, word};
 ghost use Rattle.sb_term.specs.Numbered.{term_at, terms_at, AllNumbers};
 ghost use Rattle.sb_term.specs.Symbols.{sort_in, symbol_in};
 ghost use Rattle.sb_sorts.specs.Growth.{Grows};
@@ -165,28 +164,6 @@ fn is_left_out_use(arity: Arity, sorts: &[Sort]) -> bool
     }
 }
 
-/// Whether the sorts are those of two words.
-fn are_two_words(sorts: &[Sort]) -> bool
-    ensures { result ≡ brought.is_brought_use core_equal (map sort_in sorts.now) }
-{
-    match sorts {
-        [first, second] => {
-            is_same_sort(Sort::String, *first) && is_same_sort(Sort::String, *second)
-        }
-        _ => false,
-    }
-}
-
-/// Whether the symbol is read in front of arguments of these sorts: `=` of two words alone.
-fn is_brought_use(symbol: Symbol, sorts: &[Sort]) -> bool
-    ensures { result ≡ brought.is_brought_use (symbol_in symbol) (map sort_in sorts.now) }
-{
-    match symbol {
-        Symbol::Equal => are_two_words(sorts),
-        _ => true,
-    }
-}
-
 /// Whether the symbol makes of one argument the argument itself.
 fn is_of_one(symbol: Symbol) -> bool
     ensures { result ≡ theory.is_of_one (symbol_in symbol) }
@@ -231,13 +208,13 @@ fn made(table: &mut Table, symbol: Symbol, ids: SmallVec<TermId, 4>) -> Result<T
     }
 }
 
-/// The term of a constant of sort String.
-fn constant(table: &mut Table, serial: Serial) -> Result<TermId, AllocError>
-    ensures value { IfOk result (λ id. term_at table.new id ≡ constant serial.0 text) }
+/// The term of a constant.
+fn constant(table: &mut Table, serial: Serial, sort: Sort) -> Result<TermId, AllocError>
+    ensures value { IfOk result (λ id. term_at table.new id ≡ constant serial.0 (sort_in sort)) }
     ensures number { IfOk result (λ id. id < length table.new) }
     ensures grows { (n : ℕ) → serial.0 < n → Grows n table.old table.new }
 {
-    table.add(Term::Constant(serial, Sort::String))
+    table.add(Term::Constant(serial, sort))
 }
 
 /// The word of a character.
@@ -249,7 +226,7 @@ fn character(alloc: Global, table: &mut Table, character: Character) -> Result<T
     table.add(Term::Word(vec![in alloc; character.code]?))
 }
 
-/// A symbol with arguments. The number is judged before the sorts, and what is not read yet behind both.
+/// A symbol with arguments. The number is judged before the sorts, and what is left out behind both.
 fn symbol_applied(
     alloc: Global,
     table: &mut Table,
@@ -268,7 +245,7 @@ fn symbol_applied(
     let sorts = sorts_of(alloc, table, &ids)?;
     if !takes_sorts(arity, &sorts) {
         Err(ReadFault::WrongSort)
-    } else if is_left_out_use(arity, &sorts) || !is_brought_use(symbol, &sorts) {
+    } else if is_left_out_use(arity, &sorts) {
         Err(ReadFault::Unsupported)
     } else {
         Ok(made(table, symbol, ids)?)
@@ -287,9 +264,9 @@ pub(crate) fn applied_to(
     ensures grows { (n : ℕ) → head_below n head ≡ true → Grows n table.old table.new }
 {
     match head {
-        Head::Constant(serial) if ids.is_empty() => Ok(constant(table, serial)?),
+        Head::Constant(serial, sort) if ids.is_empty() => Ok(constant(table, serial, sort)?),
         Head::Character(code) if ids.is_empty() => Ok(character(alloc, table, code)?),
-        Head::Constant(_) | Head::Character(_) => Err(ReadFault::WrongCount),
+        Head::Constant(..) | Head::Character(_) => Err(ReadFault::WrongCount),
         Head::Symbol(symbol) => symbol_applied(alloc, table, symbol, ids),
     }
 }

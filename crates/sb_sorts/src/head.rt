@@ -1,6 +1,6 @@
 //! The heads of terms: names, names with indices, and what a list begins with.
 
-ghost use Rattle.std.specs.Prelude.{◌≡◌, ℕ, true, ◌&&◌, codes, Result, Err, Some, IfOk, option_map, is_none};
+ghost use Rattle.std.specs.Prelude.{◌≡◌, ℕ, true, ◌&&◌, length, codes, Result, Err, Some, IfOk, option_map, is_none};
 ghost use Rattle.sb_script.specs.Symbols as theory_names;
 ghost use Rattle.sb_script.specs.Scopes.{named};
 ghost use Rattle.sb_sorts.specs.Indices.{numeral_in, by_loop};
@@ -18,13 +18,13 @@ use crate::numeral::number_up_to;
 use crate::read::ReadFault;
 use crate::scope::{Named, Scope};
 use sb_reader::{Shape, Shapes};
-use sb_term::{Serial, Symbol};
+use sb_term::{Serial, Sort, Symbol};
 use std::alloc::Global;
 
 /// A head: a constant or the word of a character, which take no arguments, or a symbol of the theories.
 #[derive(Clone, Copy)]
 pub(crate) enum Head {
-    Constant(Serial),
+    Constant(Serial, Sort),
     Character(Character),
     Symbol(Symbol),
 }
@@ -44,10 +44,10 @@ pub(crate) enum Front {
 /// What a name is as a head.
 pub(crate) fn read_head(alloc: Global, scope: &Scope, name: &[u8]) -> Result<Head, ReadFault>
     ensures reads { Gives head_in (theory.read_head (names_in scope.now) name.now) result }
-    ensures declared { IfOk result (λ head. head_below scope.now.declared head ≡ true) }
+    ensures declared { IfOk result (λ head. head_below (length scope.now.sorts) head ≡ true) }
 {
     match scope.look_up(name) {
-        Some(Named::Constant(serial)) => Ok(Head::Constant(serial)),
+        Some(Named::Constant(serial, sort)) => Ok(Head::Constant(serial, sort)),
         Some(Named::Marked) => Err(ReadFault::Unsupported),
         None => read_symbol(alloc, name),
     }
@@ -163,7 +163,7 @@ fn read_indexed(
     indices: Shapes<'_>,
 ) -> Result<Head, ReadFault>
     ensures reads { Gives head_in (theory.read_indexed (names_in scope.now) name.now (shapes_in indices.entry)) result }
-    ensures declared { IfOk result (λ head. head_below scope.now.declared head ≡ true) }
+    ensures declared { IfOk result (λ head. head_below (length scope.now.sorts) head ≡ true) }
 {
     if takes_indices(scope, name) {
         read_with_indices(name, indices)
@@ -188,7 +188,7 @@ fn read_without_indices(
 ) -> Result<Head, ReadFault>
     ensures reads { Gives head_in (theory.without_indices name.now (shapes_in indices.entry)
         (theory.read_head (names_in scope.now) name.now)) result }
-    ensures declared { IfOk result (λ head. head_below scope.now.declared head ≡ true) }
+    ensures declared { IfOk result (λ head. head_below (length scope.now.sorts) head ≡ true) }
 {
     match read_head(alloc, scope, name) {
         Ok(_) => Err(ReadFault::BadIndex),
@@ -211,7 +211,7 @@ fn name_of(form: Shape<'_>) -> Option<&[u8]>
 /// What `(_ name index ..)` is as a head, without the underscore.
 fn read_index_list(alloc: Global, scope: &Scope, forms: Shapes<'_>) -> Result<Head, ReadFault>
     ensures reads { Gives head_in (meaning.read_index_list (names_in scope.now) (shapes_in forms.entry)) result }
-    ensures declared { IfOk result (λ head. head_below scope.now.declared head ≡ true) }
+    ensures declared { IfOk result (λ head. head_below (length scope.now.sorts) head ≡ true) }
 {
     let Some((first, indices)) = forms.split_first() else {
         return Err(ReadFault::Malformed);
@@ -228,7 +228,7 @@ fn read_index_list(alloc: Global, scope: &Scope, forms: Shapes<'_>) -> Result<He
 /// What a list is as the head of a list.
 fn read_list_head(alloc: Global, scope: &Scope, forms: Shapes<'_>) -> Result<Head, ReadFault>
     ensures reads { Gives head_in (meaning.read_list_head (names_in scope.now) (shapes_in forms.entry)) result }
-    ensures declared { IfOk result (λ head. head_below scope.now.declared head ≡ true) }
+    ensures declared { IfOk result (λ head. head_below (length scope.now.sorts) head ≡ true) }
 {
     let Some((first, rest)) = forms.split_first() else {
         return Err(ReadFault::Malformed);
@@ -321,7 +321,7 @@ fn read_symbol_front(
     others: Shapes<'_>,
 ) -> Result<Front, ReadFault>
     ensures reads { Gives beginning_in (symbol_beginning (names_in scope.now) name.now (shapes_in others.entry)) result }
-    ensures declared { IfOk result (λ front. beginning_below scope.now.declared front ≡ true) }
+    ensures declared { IfOk result (λ front. beginning_below (length scope.now.sorts) front ≡ true) }
 {
     if name == b"_".as_slice() {
         Ok(Front::Whole(read_index_list(alloc, scope, others)?))
@@ -341,7 +341,7 @@ fn read_some_front(
 ) -> Result<Front, ReadFault>
     ensures reads { Gives beginning_in (some_beginning (names_in scope.now) (shape_of first.entry) (shapes_in others.entry))
         result }
-    ensures declared { IfOk result (λ front. beginning_below scope.now.declared front ≡ true) }
+    ensures declared { IfOk result (λ front. beginning_below (length scope.now.sorts) front ≡ true) }
 {
     match first {
         Shape::Symbol(name) => read_symbol_front(alloc, scope, name, others),
@@ -360,7 +360,7 @@ pub(crate) fn read_front(
 ) -> Result<Front, ReadFault>
     ensures reads { Gives beginning_in (beginning_of (names_in scope.now) (shape_of first.entry) (shapes_in others.entry))
         result }
-    ensures declared { IfOk result (λ front. beginning_below scope.now.declared front ≡ true) }
+    ensures declared { IfOk result (λ front. beginning_below (length scope.now.sorts) front ≡ true) }
 {
     if others.is_empty() {
         return Err(ReadFault::Malformed);

@@ -1,7 +1,8 @@
 //! The names of the theories and the reserved words.
 
-ghost use Rattle.std.specs.Prelude.{◌≡◌, option_map};
+ghost use Rattle.std.specs.Prelude.{◌≡◌, true, option_map, IfSome};
 ghost use Rattle.std.specs.List.{list_any};
+ghost use Rattle.sb_script.specs.Brought.{is_brought_sort};
 ghost use Rattle.sb_script.specs.Names as meaning;
 ghost use Rattle.sb_script.specs.Symbols as theory;
 ghost use Rattle.sb_term.specs.Symbols.{symbol_in, sort_in};
@@ -54,16 +55,7 @@ const WORDS_OF_SCRIPTS: [&[u8]; 38] = [
 ];
 
 /// The names of the theories that are not read.
-const LEFT_OUT: [&[u8]; 41] = [
-    b"true",
-    b"false",
-    b"not",
-    b"and",
-    b"or",
-    b"=>",
-    b"xor",
-    b"ite",
-    b"distinct",
+const LEFT_OUT: [&[u8]; 32] = [
     b"<=",
     b"<",
     b">=",
@@ -123,8 +115,26 @@ pub fn is_reserved(name: &[u8]) -> bool
 pub(crate) fn symbol_named(name: &[u8]) -> Option<Symbol>
     ensures { option_map symbol_in result ≡ theory.symbol_named name.now }
 {
-    if name == b"=".as_slice() {
+    if name == b"true".as_slice() {
+        Some(Symbol::True)
+    } else if name == b"false".as_slice() {
+        Some(Symbol::False)
+    } else if name == b"not".as_slice() {
+        Some(Symbol::Not)
+    } else if name == b"and".as_slice() {
+        Some(Symbol::And)
+    } else if name == b"or".as_slice() {
+        Some(Symbol::Or)
+    } else if name == b"=>".as_slice() {
+        Some(Symbol::Implies)
+    } else if name == b"xor".as_slice() {
+        Some(Symbol::Xor)
+    } else if name == b"ite".as_slice() {
+        Some(Symbol::Ite)
+    } else if name == b"=".as_slice() {
         Some(Symbol::Equal)
+    } else if name == b"distinct".as_slice() {
+        Some(Symbol::Distinct)
     } else if name == b"str.in_re".as_slice() {
         Some(Symbol::StrInRe)
     } else if name == b"str.to_re".as_slice() {
@@ -185,9 +195,12 @@ pub fn is_theory_name(name: &[u8]) -> bool
 
 /// The sort of this name, where constants may have it. Takes no memory.
 pub fn sort_named(name: &[u8]) -> Option<Sort>
-    ensures { option_map sort_in result ≡ theory.sort_named name.now }
+    ensures value { option_map sort_in result ≡ theory.sort_named name.now }
+    ensures read { IfSome result (λ sort. is_brought_sort (sort_in sort) ≡ true) }
 {
-    if name == b"String".as_slice() {
+    if name == b"Bool".as_slice() {
+        Some(Sort::Bool)
+    } else if name == b"String".as_slice() {
         Some(Sort::String)
     } else {
         None

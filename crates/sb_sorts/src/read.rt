@@ -82,7 +82,7 @@ pub fn read_term(
 ) -> Result<TermId, ReadFault>
     ensures reads { ReadsAs table.new (read (names_in scope.now) (shape_of form.entry)) result }
     ensures extends { Extends table.old table.new }
-    ensures declared { all_below scope.now.declared table.old ≡ true → all_below scope.now.declared table.new ≡ true }
+    ensures declared { all_below (length scope.now.sorts) table.old ≡ true → all_below (length scope.now.sorts) table.new ≡ true }
 {
     read_form(alloc, table, scope, form)
 }
@@ -96,7 +96,7 @@ fn read_form(
     form: Shape<'_>,
 ) -> Result<TermId, ReadFault>
     ensures reads { ReadsAs table.new (read (names_in scope.now) (shape_of form.entry)) result }
-    ensures grows { Grows scope.now.declared table.old table.new }
+    ensures grows { Grows (length scope.now.sorts) table.old table.new }
 {
     match form {
         Shape::Symbol(name) => read_bare_name(alloc, table, scope, name),
@@ -117,7 +117,7 @@ fn read_list(
     forms: Shapes<'_>,
 ) -> Result<TermId, ReadFault>
     ensures reads { ReadsAs table.new (meaning.read_list (names_in scope.now) (shapes_in forms.entry)) result }
-    ensures grows { Grows scope.now.declared table.old table.new }
+    ensures grows { Grows (length scope.now.sorts) table.old table.new }
 {
     let Some((first, others)) = forms.split_first() else {
         return Err(ReadFault::Malformed);
@@ -142,7 +142,7 @@ fn read_all(
     ensures reads { MatchResult result
         (λ ids. AreRead table.new (meaning.read_all (names_in scope.now) (shapes_in forms.entry)) ids.items)
         (λ fault. Faults (meaning.read_all (names_in scope.now) (shapes_in forms.entry)) fault) }
-    ensures grows { Grows scope.now.declared table.old table.new }
+    ensures grows { Grows (length scope.now.sorts) table.old table.new }
 {
     let mut ids = SmallVec::new(alloc);
     let mut left = forms;
@@ -161,7 +161,7 @@ fn read_name(
     name: &[u8],
 ) -> Result<TermId, ReadFault>
     ensures reads { ReadsAs table.new (meaning.read_name (names_in scope.now) name.now) result }
-    ensures grows { Grows scope.now.declared table.old table.new }
+    ensures grows { Grows (length scope.now.sorts) table.old table.new }
 {
     let head = read_head(alloc, scope, name)?;
     applied_to(alloc, table, head, SmallVec::new(alloc))
@@ -175,7 +175,7 @@ fn read_bare_name(
     name: &[u8],
 ) -> Result<TermId, ReadFault>
     ensures reads { ReadsAs table.new (meaning.read (names_in scope.now) (Symbol name.now)) result }
-    ensures grows { Grows scope.now.declared table.old table.new }
+    ensures grows { Grows (length scope.now.sorts) table.old table.new }
 {
     if begins_term(name) {
         Err(ReadFault::Unsupported)

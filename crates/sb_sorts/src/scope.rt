@@ -4,21 +4,22 @@ ghost use Rattle.std.specs.Prelude.{◌≡◌, [], ◌∷◌, ◌++◌, None, So
 ghost use Rattle.sb_script.specs.Scopes as meaning;
 ghost use Rattle.sb_script.specs.Symbols.{is_taken};
 ghost use Rattle.sb_sorts.specs.declared.scope.DeclareError.TheVariants.{AlreadyDeclared, NoMemory};
-ghost use Rattle.sb_sorts.specs.Scopes.{named_in, names_in, serials_in, ascend_below, with_constant, with_mark};
+ghost use Rattle.sb_sorts.specs.Scopes.{named_in, names_in, constants_among, serials_in, ascend_below, are_sorted, with_constant, with_mark};
+ghost use Rattle.sb_term.specs.Symbols.{sort_in};
 ghost use Rattle.sb_sorts.specs.NameTable.{kept_in, namings_in, named_below};
 
 use crate::names::is_theory_name;
 use indexmap::IndexMap;
-use sb_term::Serial;
-use std::alloc::{AllocError, Global};
+use sb_term::{Serial, Sort};
+use std::alloc::{AllocError, AllocFailed, Global};
 use std::marker::Model;
 use thiserror::Error;
 
 /// What a name stands for.
 #[derive(Clone, Copy, Debug, PartialEq, Eq)]
 pub enum Named {
-    /// A declared constant. Constants are of sort String.
-    Constant(Serial),
+    /// A declared constant, with its serial and its sort.
+    Constant(Serial, Sort),
     /// A name whose declaration or definition is left out.
     Marked,
 }
@@ -27,30 +28,31 @@ pub enum Named {
 #[derive(Drop)]
 pub struct Scope {
     names: IndexMap<Vec<u8>, Named>,
-    /// How many constants were declared so far, those too whose names were taken back.
-    declared: usize,
+    /// The sorts of all constants declared so far, by serial, those too whose names were taken back.
+    sorts: Vec<Sort>,
     alloc: Global,
 }
 
 impl Model for Scope {
-    ghost use Rattle.std.specs.Prelude.{◌≡◌, map, true};
-    ghost use Rattle.sb_sorts.specs.Scopes.{ScopeNames, serials_in, ascend_below};
+    ghost use Rattle.std.specs.Prelude.{map};
+    ghost use Rattle.sb_sorts.specs.Scopes.{ScopeNames};
+    ghost use Rattle.sb_sorts.specs.NameTable.{HasSerials};
 
     ghost Value = { ScopeNames };
 
-    ghost view = { λ s. record { names = map (λ e. (e.0.items, e.1)) s.names.entries; declared = s.declared } };
+    ghost view = { λ s. record { names = map (λ e. (e.0.items, e.1)) s.names.entries; sorts = s.sorts.items } };
 
-    ghost invariant = { λ s. ascend_below 0 s.declared (serials_in (map (λ e. (e.0.items, e.1)) s.names.entries)) ≡ true };
+    ghost invariant = { λ s. HasSerials (map (λ e. (e.0.items, e.1)) s.names.entries) s.sorts.items };
 }
 
 impl Scope {
     /// A scope without names. It takes no memory.
     pub fn new(alloc: Global) -> Scope
-        ensures { result ≡ record { names = []; declared = 0 } }
+        ensures { result ≡ record { names = []; sorts = [] } }
     {
         Scope {
             names: IndexMap::new(alloc),
-            declared: 0,
+            sorts: Vec::new(alloc),
             alloc,
         }
     }
@@ -65,7 +67,7 @@ impl Scope {
     /// What the name stands for. A constant's serial is below their number.
     pub(crate) fn look_up(&self, name: &[u8]) -> Option<Named>
         ensures value { option_map named_in result ≡ meaning.named (names_in self.now) name.now }
-        ensures serial { IfSome result (λ n. named_below self.now.declared n ≡ true) }
+        ensures serial { IfSome result (λ n. named_below (length self.now.sorts) n ≡ true) }
     {
         self.names.get(name).copied()
     }
@@ -88,27 +90,39 @@ impl Scope {
     /// How many constants were declared so far, those too whose names were taken back. The serials of the constants
     /// that are left ascend, and are below. Takes no memory.
     pub fn declared(&self) -> usize
-        ensures value { result ≡ self.now.declared }
+        ensures value { result ≡ length self.now.sorts }
         ensures serials { ascend_below 0 result (serials_in self.now.names) ≡ true }
     {
-        self.declared
+        self.sorts.len()
     }
 
-    /// Declares a constant of sort String, with the next serial. `AlreadyDeclared` exactly where the name is live,
-    /// marked or of the theories. By hash, and keeps a copy of the name.
-    pub fn declare(&mut self, name: &[u8]) -> Result<(), DeclareError>
-        ensures ok { OnOk result ((self.new ≡ with_constant name.now self.old)
+    /// The sorts of all constants declared so far, by serial, those too whose names were taken back. Each constant that
+    /// is left has the sort that stands at its serial. Takes no memory.
+    pub fn sorts(&self) -> &[Sort]
+        ensures value { result.now ≡ self.now.sorts }
+        ensures sorted { are_sorted (map sort_in result.now) (constants_among self.now.names) ≡ true }
+    {
+        self.sorts.as_slice()
+    }
+
+    /// Declares a constant of this sort, with the next serial. `AlreadyDeclared` exactly where the name is live, marked
+    /// or of the theories. By hash, and keeps a copy of the name.
+    pub fn declare(&mut self, name: &[u8], sort: Sort) -> Result<(), DeclareError>
+        ensures ok { OnOk result ((self.new ≡ with_constant name.now sort self.old)
             × (is_taken (names_in self.old) name.now ≡ false)) }
         ensures err { OnErr result (self.new ≡ self.old) }
         ensures taken { IfErr result (λ e. e ≡ AlreadyDeclared → is_taken (names_in self.old) name.now ≡ true) }
     {
         self.refuse_taken(name)?;
-        let Some(next) = self.declared.checked_add(1) else {
-            return Err(DeclareError::NoMemory);
-        };
-        let serial = Serial(self.declared as u64);
-        push_name(&mut self.names, self.alloc, name, Named::Constant(serial))?;
-        self.declared = next;
+        self.sorts.reserve(1)?;
+        let serial = Serial(self.sorts.len() as u64);
+        push_name(
+            &mut self.names,
+            self.alloc,
+            name,
+            Named::Constant(serial, sort),
+        )?;
+        self.sorts.push(sort)?;
         Ok(())
     }
 
@@ -178,6 +192,16 @@ impl From<AllocError> for DeclareError {
     ghost from_gives = { λ _ error. error ≡ NoMemory };
 
     fn from(_error: AllocError) -> DeclareError {
+        DeclareError::NoMemory
+    }
+}
+
+impl From<AllocFailed<Sort>> for DeclareError {
+    ghost use Rattle.sb_sorts.specs.declared.scope.DeclareError.TheVariants.{NoMemory};
+
+    ghost from_gives = { λ _ error. error ≡ NoMemory };
+
+    fn from(_failed: AllocFailed<Sort>) -> DeclareError {
         DeclareError::NoMemory
     }
 }

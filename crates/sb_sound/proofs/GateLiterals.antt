@@ -76,7 +76,7 @@ then_parts Equal y h = (refl, h)
 then_parts Less y h = absurd (Prim.cc (h))
 then_parts Greater y h = absurd (Prim.cc (h))
 
-same_literal : (l m : Lit) → literal_order l m ≡ Equal → l ≡ m
+pub same_literal : (l m : Lit) → literal_order l m ≡ Equal → l ≡ m
 same_literal l m h =
     let parts = then_parts (nat_cmp l.atom m.atom) (bool_cmp m.positive l.positive) h in
     literal_of_parts l.atom m.atom l.positive m.positive (same_place l.atom m.atom parts.0)

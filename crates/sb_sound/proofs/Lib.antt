@@ -1,3 +1,4 @@
+pub mod CallerLemmas
 mod SameParts
 mod TableFacts
 mod LinearFacts

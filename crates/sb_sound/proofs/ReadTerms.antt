@@ -12,14 +12,14 @@ use Rattle.sb_meaning.specs.Terms.{Sort, Term, Terms, constant, word, numeral, a
 use Rattle.sb_meaning.specs.Terms as symbol
 use Rattle.sb_meaning.specs.Sorts.{is_of_one, sort_of, are_sorts}
 use Rattle.sb_script.specs.Names.{Name, is_name, is_reserved, begins_term}
-use Rattle.sb_script.specs.Brought.{a_use_of, numerals, lets, is_brought}
+use Rattle.sb_script.specs.Brought.{numerals, lets, is_brought}
 use Rattle.sb_script.specs.Scopes.{Named, Naming, a_constant, a_definition, a_marked_name, a_term, named}
 use Rattle.sb_script.specs.Symbols.{symbol_named, is_indexed, is_left_out}
 use Rattle.sb_script.specs.Reading.{◌>>=◌, read_name, read_index_list, read_reserved, is_let, first_again, names_in, once, read, read_list, read_all, read_list_head, read_let, read_bindings}
 use Rattle.sb_rulebook.specs.AtomRules.{is_declared}
 use Rattle.sb_sound.specs.TermLaws.{fits_sorts, all_fit}
 use Rattle.sb_script.specs.Faults.{Fault, unknown_symbol, wrong_sort, wrong_count, bad_index, unsupported, numeral_too_large, bad_literal, malformed, already_bound}
-use Rattle.sb_script.specs.Heads.{Head, head_constant, head_symbol, head_definition, head_term, head_of, head_of_theory, indices_of, are_small_indices, symbol_with, if_small_indices, with_indices, hexadecimal_digits, character_word, without_indices, judged, joined, made, with_arguments, each_with_arguments, unless, if_used, judged_definition, read_head, applied_to, read_indexed}
+use Rattle.sb_script.specs.Heads.{Head, head_constant, head_symbol, head_definition, head_term, head_of, head_of_theory, indices_of, are_small_indices, symbol_with, if_small_indices, with_indices, hexadecimal_digits, character_word, without_indices, judged, joined, made, with_arguments, each_with_arguments, unless, judged_definition, read_head, applied_to, read_indexed}
 use Rattle.sb_script.specs.Texts.{read_text, number_of, read_numeral}
 use Rattle.sb_sound.proofs.PassFacts.{all_append}
 use Rattle.sb_sound.proofs.ReadTexts.{character_spelled}
@@ -155,12 +155,6 @@ module _ (sorts : List Sort) (n : ℕ) where
   unless_fits None t h = h
   unless_fits (Some fault) t h = refl
 
-  used_fits : (b : Bool) (r : Result Term Fault) → if_read (fits_in sorts n) r ≡ true
-      → if_read (fits_in sorts n) (if_used b r) ≡ true
-  used_fits true r h = h
-  used_fits false (Ok t) h = refl
-  used_fits false (Err fault) h = refl
-
   definition_fits : (kinds : List Sort) (body : Term) (ts : List Term) → fits_in sorts (length kinds) body ≡ true
       → list_all (fits_in sorts n) ts ≡ true
       → if_read (fits_in sorts n) (unless (judged_definition kinds (map sort_of ts)) (with_arguments ts body)) ≡ true
@@ -187,8 +181,7 @@ module _ (sorts : List Sort) (n : ℕ) where
   applied_fits (head_constant serial sort) [] h all = h
   applied_fits (head_constant serial sort) (t ∷ ts) h all = refl
   applied_fits (head_symbol s) ts h all =
-      used_fits (is_brought (a_use_of s (map sort_of ts))) (unless (judged s (map sort_of ts)) (made s ts))
-      (unless_fits (judged s (map sort_of ts)) (made s ts) (made_fits s ts all))
+      unless_fits (judged s (map sort_of ts)) (made s ts) (made_fits s ts all)
   applied_fits (head_definition kinds body) ts h all = definition_fits kinds body ts h all
   applied_fits (head_term t) [] h all = h
   applied_fits (head_term t) (u ∷ us) h all = refl

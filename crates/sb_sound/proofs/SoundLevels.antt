@@ -28,7 +28,7 @@ stays-parts level (Some c) clause h = step (nat_lt level c.level) refl h
         let same : c ≡ clause = Prim.cc (h) in
         (h, subst (λ (k : KeptClause). k.level ≤ level) same (ltb-false level c.level above))
 
-kept_at-up_to : (level : ℕ) (kept : Kept) (id : ℕ) (clause : KeptClause)
+pub kept_at-up_to : (level : ℕ) (kept : Kept) (id : ℕ) (clause : KeptClause)
     → kept_at (kept_up_to level kept) id ≡ Some clause → (kept_at kept id ≡ Some clause) × (clause.level ≤ level)
 kept_at-up_to level [] id clause h = absurd (Prim.cc (h))
 kept_at-up_to level (place ∷ kept) zero clause h = stays-parts level place clause h

@@ -23,12 +23,12 @@ length-truths_from v truths (a ∷ atoms) =
     let b = atom_holds v truths a in
     length-truths_from v (truths ++ b ∷ []) atoms ∙ omega (arith, length-append truths (b ∷ []))
 
-truths_from-append : (v : Valuation) (truths : List Bool) (atoms more : List Atom)
+pub truths_from-append : (v : Valuation) (truths : List Bool) (atoms more : List Atom)
     → truths_from v truths (atoms ++ more) ≡ truths_from v (truths_from v truths atoms) more
 truths_from-append v truths [] more = refl
 truths_from-append v truths (a ∷ atoms) more = truths_from-append v (truths ++ atom_holds v truths a ∷ []) atoms more
 
-length-truths_of : (v : Valuation) (atoms : List Atom) → length (truths_of v atoms) ≡ length atoms
+pub length-truths_of : (v : Valuation) (atoms : List Atom) → length (truths_of v atoms) ≡ length atoms
 length-truths_of v atoms = length-truths_from v [] atoms ∙ omega arith
 
 -- Known literals.
@@ -39,7 +39,7 @@ literal_holds-front truths more l below =
     ap (λ (o : Option Bool). let b = unwrap_or o false in if l.positive then b else not b)
     (slice_get-front truths more l.atom below)
 
-any_holds-front : (truths more : List Bool) (ls : List Lit) → list_all (λ l. nat_lt l.atom (length truths)) ls ≡ true
+pub any_holds-front : (truths more : List Bool) (ls : List Lit) → list_all (λ l. nat_lt l.atom (length truths)) ls ≡ true
     → list_any (literal_holds (truths ++ more)) ls ≡ list_any (literal_holds truths) ls
 any_holds-front truths more [] low = refl
 any_holds-front truths more (l ∷ ls) low =

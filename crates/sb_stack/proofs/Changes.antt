@@ -1,13 +1,17 @@
 -- What the commands change, as the definitions have it, and what they keep.
-use Rattle.std.proofs.Common.{◌≡◌, ℕ, ◌+◌, ◌<◌, ◌≤◌, Bool, true, false, if◌then◌else◌, nat_eq, List, [], ◌∷◌, ◌++◌, map, take, drop, replicate, length, get_or, zero, suc, codes, Option, Some, None, IfSome, Result, Ok, Err, IfOk, refl, ap, ap₂, sym, subst, ◌∙◌, arith, add-one, append_assoc, length-append}
+use Rattle.std.proofs.Common.{◌≡◌, ℕ, ◌<◌, ◌≤◌, Bool, true, false, if◌then◌else◌, nat_eq, List, [], ◌∷◌, ◌++◌, map, take, drop, replicate, length, get_or, zero, suc, codes, Option, Some, None, IfSome, Result, Ok, Err, IfOk, refl, ap, ap₂, sym, subst, ◌∙◌, arith, append_assoc, length-append}
 use Rattle.std.specs.List.{All, list_all}
-use Rattle.std.proofs.lemmas.Bool.{and_parts}
+use Rattle.std.proofs.lemmas.Bool.{and_parts, and_from}
 use Rattle.std.proofs.lemmas.List.{map-append, append-nil, length-map, take-map, take-append-drop}
 use Rattle.std.proofs.lemmas.List.Elements.{All-take}
+use Rattle.std.proofs.lemmas.List.Folds.{list_all-append}
 use Rattle.std.specs.declared.vec.Vec.{Vec}
 use Rattle.std.specs.declared.alloc.Global.{Global}
 use Rattle.sb_script.specs.Names.{Name, name_in_text}
-use Rattle.sb_meaning.specs.Terms.{Term, Sort, text}
+use Rattle.sb_meaning.specs.Terms.{Term, Sort}
+use Rattle.sb_script.specs.Brought.{is_brought_sort}
+use Rattle.sb_term.specs.declared.sort.Sort as code
+use Rattle.sb_term.specs.Symbols.{sort_in}
 use Rattle.sb_script.specs.Symbols.{is_taken}
 use Rattle.sb_script.specs.Scopes.{Naming, constants_in, a_constant, a_marked_name}
 use Rattle.sb_script.specs.State as state
@@ -21,7 +25,7 @@ use Rattle.sb_term.specs.Serials.{all_below}
 use Rattle.sb_term.proofs.CallerLemmas.{extends_more, long_kept, at_kept, all_below_more}
 use Rattle.sb_sorts.specs.declared.scope.Named.{Named}
 use Rattle.sb_sorts.specs.Scopes as scopes
-use Rattle.sb_sorts.specs.Scopes.{naming_in, names_in, serials_in, texts, with_constant, with_mark}
+use Rattle.sb_sorts.specs.Scopes.{naming_in, names_in, constants_among, with_constant, with_mark}
 use Rattle.sb_stack.specs.declared.level.Level.{Level}
 use Rattle.sb_stack.specs.declared.stack.Mode.TheVariants as mode
 use Rattle.sb_stack.specs.declared.stack.Step.TheVariants as step
@@ -89,11 +93,12 @@ assertions_kept old new (x ∷ xs) extends below =
 
 pub kept_read : (scope : scopes.ScopeNames) (old new : List Term) (xs : List Assertion) (ls : List Level)
     → IsKept scope old xs ls → Extends old new
-    → (all_below scope.declared old ≡ true → all_below scope.declared new ≡ true) → IsKept scope new xs ls
+    → (all_below (length scope.sorts) old ≡ true → all_below (length scope.sorts) new ≡ true) → IsKept scope new xs ls
 kept_read scope old new xs ls kept extends below = record {
   numbers = λ k d l. number_more (length old) (length new) (get_or xs k d).term (long_kept old new extends)
       (kept.numbers k d l);
   below = below kept.below;
+  brought = kept.brought;
   nested = kept.nested;
   levelled = kept.levelled;
   theirs = ap (speak_of_theirs ls scope.names) (assertions_kept old new xs extends kept.numbers) ∙ kept.theirs;
@@ -101,14 +106,15 @@ kept_read scope old new xs ls kept extends below = record {
 
 -- one more name
 kept_name : (scope next : scopes.ScopeNames) (x : Name × Named) (table : List Term) (xs : List Assertion)
-    (ls : List Level) → next.names ≡ scope.names ++ x ∷ [] → all_below next.declared table ≡ true
-    → IsKept scope table xs ls → IsKept next table xs ls
-kept_name scope next x table xs ls is below kept =
+    (ls : List Level) → next.names ≡ scope.names ++ x ∷ [] → all_below (length next.sorts) table ≡ true
+    → list_all (λ sort. is_brought_sort (sort_in sort)) next.sorts ≡ true → IsKept scope table xs ls → IsKept next table xs ls
+kept_name scope next x table xs ls is below brought kept =
     let more : length scope.names ≤ length next.names =
     omega (arith, ap length is, length-append scope.names (x ∷ [])) in
     record {
       numbers = kept.numbers;
       below = below;
+      brought = brought;
       nested = nested_more ls (length scope.names) (length xs) (length next.names) (length xs) more (omega arith)
           kept.nested;
       levelled = kept.levelled;
@@ -117,28 +123,34 @@ kept_name scope next x table xs ls is below kept =
           (nested_assertions ls scope.names table xs kept.nested) kept.theirs;
     }
 
-pub kept_declared : (scope next : scopes.ScopeNames) (name : Name) (table : List Term) (xs : List Assertion)
-    (ls : List Level) → next ≡ with_constant name scope → IsKept scope table xs ls → IsKept next table xs ls
-kept_declared scope next name table xs ls is kept =
+pub kept_declared : (scope next : scopes.ScopeNames) (name : Name) (sort : code.Sort) (table : List Term)
+    (xs : List Assertion) (ls : List Level) → is_brought_sort (sort_in sort) ≡ true
+    → next ≡ with_constant name sort scope → IsKept scope table xs ls → IsKept next table xs ls
+kept_declared scope next name sort table xs ls read is kept =
     subst (λ (s : scopes.ScopeNames). IsKept s table xs ls) (sym is)
-    (kept_name scope (with_constant name scope) _ table xs ls refl (all_below_more scope.declared table kept.below) kept)
+    (kept_name scope (with_constant name sort scope) _ table xs ls refl
+    (ap (λ n. all_below n table) (length-append scope.sorts (sort ∷ []))
+    ∙ all_below_more (length scope.sorts) table kept.below)
+    (list_all-append (λ s. is_brought_sort (sort_in s)) scope.sorts (sort ∷ [])
+    ∙ and_from _ _ kept.brought (and_from (is_brought_sort (sort_in sort)) true read refl)) kept)
 
 pub kept_marked : (scope next : scopes.ScopeNames) (name : Name) (table : List Term) (xs : List Assertion)
     (ls : List Level) → next ≡ with_mark name scope → IsKept scope table xs ls → IsKept next table xs ls
 kept_marked scope next name table xs ls is kept =
     subst (λ (s : scopes.ScopeNames). IsKept s table xs ls) (sym is)
-    (kept_name scope (with_mark name scope) _ table xs ls refl kept.below kept)
+    (kept_name scope (with_mark name scope) _ table xs ls refl kept.below kept.brought kept)
 
 -- one more assertion
 pub kept_push : (scope : scopes.ScopeNames) (table : List Term) (xs new : List Assertion) (ls : List Level)
     (a : Assertion) → new ≡ xs ++ a ∷ [] → IsKept scope table xs ls → HasNumberBelow (length table) a
-    → a.level ≡ length ls → asserts_of (serials_in scope.names) (assertion_in table a) ≡ true
+    → a.level ≡ length ls → asserts_of (constants_among scope.names) (assertion_in table a) ≡ true
     → IsKept scope table new ls
 kept_push scope table xs new ls a is kept here level speaks =
     let more : length xs ≤ length (xs ++ a ∷ []) = omega (arith, length-append xs (a ∷ [])) in
     subst (λ bs. IsKept scope table bs ls) (sym is) (record {
       numbers = numbers_push (length table) xs a kept.numbers here;
       below = kept.below;
+      brought = kept.brought;
       nested = nested_more ls (length scope.names) (length xs) (length scope.names) (length (xs ++ a ∷ []))
           (omega arith) more kept.nested;
       levelled = levelled_push ls (length scope.names) xs a kept.nested level kept.levelled;
@@ -155,6 +167,7 @@ kept_opened scope table xs ls new n l names assertions is kept =
     subst (λ levels. IsKept scope table xs levels) (sym is) (record {
       numbers = kept.numbers;
       below = kept.below;
+      brought = kept.brought;
       nested = ap₂ (are_nested (replicate n l ++ ls)) (sym names) (sym assertions)
           ∙ nested_pushed n l ls (ap₂ (are_nested ls) names assertions ∙ kept.nested);
       levelled = levelled_pushed n l ls xs assertions kept.levelled;
@@ -171,6 +184,7 @@ kept_left scope table xs ls all l is given =
     record {
       numbers = All-take (HasNumberBelow (length table)) l.assertions xs kept.numbers;
       below = kept.below;
+      brought = kept.brought;
       nested = nested_left l ls scope.names xs kept.nested;
       levelled = left_levelled l ls xs kept.levelled;
       theirs = ap (speak_of_theirs ls (take l.names scope.names)) (sym (take-map (assertion_in table) l.assertions xs))
@@ -183,10 +197,16 @@ kept_left scope table xs ls all l is given =
         (and_parts (list_all (λ a. nat_eq a.level (suc (length ls))) (drop l.assertions xs))
         (have_levels ls (take l.assertions xs)) h).1
 
-pub kept_cleared : (scope : scopes.ScopeNames) (table : List Term) → all_below scope.declared table ≡ true
-    → IsKept scope table [] []
-kept_cleared scope table below =
-    record { numbers = λ k d l. absurd (omega (arith, l)); below = below; nested = refl; levelled = refl; theirs = refl }
+pub kept_cleared : (scope : scopes.ScopeNames) (table : List Term) → all_below (length scope.sorts) table ≡ true
+    → list_all (λ sort. is_brought_sort (sort_in sort)) scope.sorts ≡ true → IsKept scope table [] []
+kept_cleared scope table below brought = record {
+  numbers = λ k d l. absurd (omega (arith, l));
+  below = below;
+  brought = brought;
+  nested = refl;
+  levelled = refl;
+  theirs = refl;
+}
 
 pub state_kept : (k : Stacked) (new : List Term) → IsKept k.scope k.table k.assertions k.levels → Extends k.table new
     → state_of (record k { table = new }) ≡ state_of k
@@ -197,8 +217,8 @@ state_kept k new kept extends =
       logic_set = k.logic_set;
       begun = k.begun;
       options = options_of k.print_success k.produce_models k.produce_unsat_assumptions;
-      sorts = texts k.scope.declared;
-      mode = mode_in (serials_in k.scope.names) k.words k.mode;
+      sorts = map sort_in k.scope.sorts;
+      mode = mode_in (constants_among k.scope.names) k.words k.truths k.mode;
       first = first_level k.levels (names_in k.scope) (same j);
       above = levels_above k.levels (names_in k.scope) (same j);
     })
@@ -208,7 +228,7 @@ pub longer_same : (xs : List Assertion) → IsLonger xs xs
 longer_same xs = ([], sym (append-nil xs))
 
 pub keeps_parts : (old new : Stacked) → new.table ≡ old.table → new.assertions ≡ old.assertions
-    → new.words ≡ old.words → old.scope.declared ≤ new.scope.declared → Keeps old new
+    → new.words ≡ old.words → length old.scope.sorts ≤ length new.scope.sorts → Keeps old new
 keeps_parts old new table assertions words constants = record {
   extends = record { more = []; is = table ∙ sym (append-nil old.table) };
   grows = ([], assertions ∙ sym (append-nil old.assertions));
@@ -245,14 +265,6 @@ keeps_more a b c p q = record {
   constants = omega (arith, p.constants, q.constants);
 }
 
-texts_more : (n : ℕ) → texts (n + 1) ≡ texts n ++ text ∷ []
-texts_more zero = refl
-texts_more (suc n) = ap texts (add-one (suc n)) ∙ ap (λ ts. text ∷ ts) (ap texts (sym (add-one n)) ∙ texts_more n)
-
-length-texts : (n : ℕ) → length (texts n) ≡ n
-length-texts zero = refl
-length-texts (suc n) = ap suc (length-texts n)
-
 -- a state in which something was said, with these sorts and levels
 abbrev said_with : Stacked → List Sort → state.Level × List state.Level → State
 said_with k sorts levels = record {
@@ -269,18 +281,19 @@ abbrev levels_with : Stacked → List Naming → List state.Assertion → state.
 levels_with k names assertions = (first_level k.levels names assertions, levels_above k.levels names assertions)
 
 -- a constant more
-pub declared_is : (k : Stacked) (name : Name) → IsKept k.scope k.table k.assertions k.levels
-    → state_of (record k { begun = true; scope = with_constant name k.scope; mode = mode.Plain })
-    ≡ declared name text (state_of k)
-declared_is k name kept =
-    let n : ℕ = k.scope.declared in
+pub declared_is : (k : Stacked) (name : Name) (sort : code.Sort) → IsKept k.scope k.table k.assertions k.levels
+    → state_of (record k { begun = true; scope = with_constant name sort k.scope; mode = mode.Plain })
+    ≡ declared name (sort_in sort) (state_of k)
+declared_is k name sort kept =
+    let sorts : List Sort = map sort_in k.scope.sorts in
     let bs : List state.Assertion = map (assertion_in k.table) k.assertions in
-    let names : names_in (with_constant name k.scope) ≡ names_in k.scope
-    ++ (name, a_constant (length (texts n)) text) ∷ [] = map-append naming_in k.scope.names _
-    ∙ ap (λ m. names_in k.scope ++ (name, a_constant m text) ∷ []) (sym (length-texts n)) in
-    ap₂ (said_with k) (texts_more n) (ap (λ ns. levels_with k ns bs) names)
-    ∙ ap (said_with k (texts n ++ text ∷ []))
-    (one_name k.levels (names_in k.scope) bs (name, a_constant (length (texts n)) text) (nested_both k kept.nested))
+    let names : names_in (with_constant name sort k.scope) ≡ names_in k.scope
+    ++ (name, a_constant (length sorts) (sort_in sort)) ∷ [] = map-append naming_in k.scope.names _
+    ∙ ap (λ m. names_in k.scope ++ (name, a_constant m (sort_in sort)) ∷ []) (sym (length-map k.scope.sorts sort_in)) in
+    ap₂ (said_with k) (map-append sort_in k.scope.sorts (sort ∷ [])) (ap (λ ns. levels_with k ns bs) names)
+    ∙ ap (said_with k (sorts ++ sort_in sort ∷ []))
+    (one_name k.levels (names_in k.scope) bs (name, a_constant (length sorts) (sort_in sort))
+    (nested_both k kept.nested))
 
 -- a marked name more
 pub marked_is : (k : Stacked) (name : Name) → IsKept k.scope k.table k.assertions k.levels
@@ -288,8 +301,8 @@ pub marked_is : (k : Stacked) (name : Name) → IsKept k.scope k.table k.asserti
     ≡ marked name (state_of k)
 marked_is k name kept =
     let bs : List state.Assertion = map (assertion_in k.table) k.assertions in
-    ap (λ ns. said_with k (texts k.scope.declared) (levels_with k ns bs)) (map-append naming_in k.scope.names _)
-    ∙ ap (said_with k (texts k.scope.declared))
+    ap (λ ns. said_with k (map sort_in k.scope.sorts) (levels_with k ns bs)) (map-append naming_in k.scope.names _)
+    ∙ ap (said_with k (map sort_in k.scope.sorts))
     (one_name k.levels (names_in k.scope) bs (name, a_marked_name) (nested_both k kept.nested))
 
 -- an assertion more
@@ -298,9 +311,9 @@ pub asserted_is : (k : Stacked) (a : Assertion) → IsKept k.scope k.table k.ass
     ≡ with_assertion (assertion_in k.table a) (state_of k)
 asserted_is k a kept =
     let bs : List state.Assertion = map (assertion_in k.table) k.assertions in
-    ap (λ more. said_with k (texts k.scope.declared) (levels_with k (names_in k.scope) more))
+    ap (λ more. said_with k (map sort_in k.scope.sorts) (levels_with k (names_in k.scope) more))
     (map-append (assertion_in k.table) k.assertions (a ∷ []))
-    ∙ ap (said_with k (texts k.scope.declared))
+    ∙ ap (said_with k (map sort_in k.scope.sorts))
     (one_assertion k.levels (names_in k.scope) bs (assertion_in k.table a) (nested_both k kept.nested))
 
 -- some more levels
@@ -371,24 +384,24 @@ pub reset_is : (k : Stacked) (s : State) → state_of k ≡ without_assertions s
 reset_is k s is =
     ap (λ (t : State). record t { logic_set = false; begun = false; options = state.first_options }) is
 
-pub declare_step : (k : Stacked) (name : Name) (scope : scopes.ScopeNames) (answer : Vec ℕ Global)
+pub declare_step : (k : Stacked) (name : Name) (sort : code.Sort) (scope : scopes.ScopeNames) (answer : Vec ℕ Global)
     → IsKept k.scope k.table k.assertions k.levels
-    → is_taken (names_in k.scope) name ≡ false → scope ≡ with_constant name k.scope
+    → is_taken (names_in k.scope) name ≡ false → scope ≡ with_constant name sort k.scope
     → answer.items ≡ (if k.print_success then meaning.line (codes "success") else [])
-    → IsAnswered (declares name (state_of k)) answer (state_of k)
+    → IsAnswered (declares name (sort_in sort) (state_of k)) answer (state_of k)
     (state_of (record k { begun = true; scope = scope; mode = mode.Plain }))
-declare_step k name scope answer kept free is said =
+declare_step k name sort scope answer kept free is said =
     let free_there : is_taken (names_of (state_of k)) name ≡ false =
     ap (λ names. is_taken names name) (names_live k) ∙ free in
-    let taken : declares name (state_of k)
+    let taken : declares name (sort_in sort) (state_of k)
     ≡ meaning.answers (if k.print_success then meaning.line (codes "success") else [])
-    (declared name text (state_of k)) =
+    (declared name (sort_in sort) (state_of k)) =
     ap (λ (b : Bool). if b then meaning.fails_by (error.already_declared name) (state_of k)
-    else meaning.succeeds (declared name text (state_of k))) free_there in
+    else meaning.succeeds (declared name (sort_in sort) (state_of k))) free_there in
     rw taken (
       said,
       ap (λ (c : scopes.ScopeNames). state_of (record k { begun = true; scope = c; mode = mode.Plain })) is
-          ∙ declared_is k name kept,
+          ∙ declared_is k name sort kept,
     )
 
 pub mark_step : (k : Stacked) (name : Name) (scope : scopes.ScopeNames) (answer : Vec ℕ Global)
@@ -456,14 +469,14 @@ taken_there : (k : Stacked) (name : Name) → is_taken (names_in k.scope) name �
     → is_taken (names_of (state_of k)) name ≡ true
 taken_there k name taken = ap (λ names. is_taken names name) (names_live k) ∙ taken
 
-pub taken_constant : (k : Stacked) (name : Name) (scope : scopes.ScopeNames) (answer : Vec ℕ Global)
+pub taken_constant : (k : Stacked) (name : Name) (sort : code.Sort) (scope : scopes.ScopeNames) (answer : Vec ℕ Global)
     → is_taken (names_in k.scope) name ≡ true → scope ≡ k.scope
     → answer.items ≡ meaning.error_line (codes "already declared " ++ name_in_text name)
-    → IsAnswered (declares name (state_of k)) answer (state_of k) (state_of (record k { scope = scope }))
-taken_constant k name scope answer taken is said =
-    let fails : declares name (state_of k) ≡ meaning.fails_by (error.already_declared name) (state_of k) =
+    → IsAnswered (declares name (sort_in sort) (state_of k)) answer (state_of k) (state_of (record k { scope = scope }))
+taken_constant k name sort scope answer taken is said =
+    let fails : declares name (sort_in sort) (state_of k) ≡ meaning.fails_by (error.already_declared name) (state_of k) =
     ap (λ (b : Bool). if b then meaning.fails_by (error.already_declared name) (state_of k)
-    else meaning.succeeds (declared name text (state_of k))) (taken_there k name taken) in
+    else meaning.succeeds (declared name (sort_in sort) (state_of k))) (taken_there k name taken) in
     rw fails (said, ap (λ (c : scopes.ScopeNames). state_of (record k { scope = c })) is)
 
 pub taken_function : (k : Stacked) (name : Name) (scope : scopes.ScopeNames) (answer : Vec ℕ Global)

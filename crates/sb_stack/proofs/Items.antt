@@ -7,9 +7,11 @@ use Rattle.sb_script.specs.Scopes.{Naming, a_constant, a_definition, a_marked_na
 use Rattle.sb_script.specs.Replies.{all_constants}
 use Rattle.sb_sorts.specs.declared.scope.Named.{Named}
 use Rattle.sb_sorts.specs.declared.scope.Named.TheVariants as named
-use Rattle.sb_term.specs.declared.term.Serial.{Serial}
-use Rattle.sb_sorts.specs.Scopes.{naming_in, serials_in}
-use Rattle.sb_stack.proofs.Live.{serials_append}
+use Rattle.sb_meaning.specs.Terms.{Sort}
+use Rattle.sb_sorts.specs.Scopes.{naming_in, constants_among}
+use Rattle.sb_stack.proofs.Live.{constants_append}
+use Rattle.sb_stack.specs.declared.constant.LiveConstant.{LiveConstant}
+use Rattle.sb_stack.specs.Stacked.{live_in}
 use Rattle.sb_stack.specs.declared.value.Constant as value
 use Rattle.sb_stack.specs.declared.value.Item.{Item}
 use Rattle.sb_stack.specs.declared.value.Item.TheVariants as code
@@ -36,13 +38,13 @@ constants_step xs i d c old new within is pushed before =
     ∙ ap (λ cs. with_front cs (all_constants (map item_in rest)))
     (sym (ap (map asked_in) pushed ∙ map-append asked_in old (c ∷ [])))
 
-constants_append : (ns ms : List Naming) → constants_in (ns ++ ms) ≡ constants_in ns ++ constants_in ms
-constants_append [] ms = refl
-constants_append ((name, a_constant serial sort) ∷ ns) ms =
-    ap (λ cs. record { name = name; serial = serial; sort = sort } ∷ cs) (constants_append ns ms)
-constants_append ((name, a_definition sorts body) ∷ ns) ms = constants_append ns ms
-constants_append ((name, a_marked_name) ∷ ns) ms = constants_append ns ms
-constants_append ((name, a_term t) ∷ ns) ms = constants_append ns ms
+namings_append : (ns ms : List Naming) → constants_in (ns ++ ms) ≡ constants_in ns ++ constants_in ms
+namings_append [] ms = refl
+namings_append ((name, a_constant serial sort) ∷ ns) ms =
+    ap (λ cs. record { name = name; serial = serial; sort = sort } ∷ cs) (namings_append ns ms)
+namings_append ((name, a_definition sorts body) ∷ ns) ms = namings_append ns ms
+namings_append ((name, a_marked_name) ∷ ns) ms = namings_append ns ms
+namings_append ((name, a_term t) ∷ ns) ms = namings_append ns ms
 
 -- the constants of one more name
 names_step : (ns : List (Name × Named)) (i : ℕ) (n : Name × Named) → Some n ≡ slice_get ns i
@@ -53,10 +55,10 @@ names_step ns i n is =
     let one : take (i + 1) ns ≡ take i ns ++ n ∷ [] =
     take_more ns i n within ∙ ap (λ x. take i ns ++ x ∷ []) (get_or_from_slice_get ns i n n (sym is)) in
     ap (λ ys. constants_in (map naming_in ys)) one ∙ ap constants_in (map-append naming_in (take i ns) (n ∷ []))
-    ∙ constants_append (map naming_in (take i ns)) (naming_in n ∷ [])
+    ∙ namings_append (map naming_in (take i ns)) (naming_in n ∷ [])
 
 pub constant_step : (ns : List (Name × Named)) (i : ℕ) (c : value.Constant) (k : Named) (old new : List value.Constant)
-    → Some (c.name.now, k) ≡ slice_get ns i → k ≡ named.Constant c.serial → new ≡ old ++ c ∷ []
+    → Some (c.name.now, k) ≡ slice_get ns i → k ≡ named.Constant c.serial c.sort → new ≡ old ++ c ∷ []
     → map constant_in old ≡ constants_in (map naming_in (take i ns))
     → map constant_in new ≡ constants_in (map naming_in (take (i + 1) ns))
 constant_step ns i c k old new is here pushed before =
@@ -65,31 +67,33 @@ constant_step ns i c k old new is here pushed before =
     ∙ sym (names_step ns i (c.name.now, k) is)
 
 pub mark_step : (ns : List (Name × Named)) (i : ℕ) (name : Name) (k : Named) (old : List Constant)
-    → Some (name, k) ≡ slice_get ns i → ((serial : _) → k ≡ named.Constant serial → ⊥)
+    → Some (name, k) ≡ slice_get ns i → ((serial : _) (sort : _) → k ≡ named.Constant serial sort → ⊥)
     → old ≡ constants_in (map naming_in (take i ns)) → old ≡ constants_in (map naming_in (take (i + 1) ns))
-mark_step ns i name (named.Constant serial) old is other before = absurd (other serial refl)
+mark_step ns i name (named.Constant serial sort) old is other before = absurd (other serial sort refl)
 mark_step ns i name named.Marked old is other before =
     before ∙ sym (append-nil _) ∙ sym (names_step ns i (name, named.Marked) is)
 
--- the serials of one more name
-serials_step : (ns : List (Name × Named)) (i : ℕ) (n : Name × Named) → Some n ≡ slice_get ns i
-    → serials_in (take (i + 1) ns) ≡ serials_in (take i ns) ++ serials_in (n ∷ [])
-serials_step ns i n is =
+-- the constants of one more name, without their names
+live_names_step : (ns : List (Name × Named)) (i : ℕ) (n : Name × Named) → Some n ≡ slice_get ns i
+    → constants_among (take (i + 1) ns) ≡ constants_among (take i ns) ++ constants_among (n ∷ [])
+live_names_step ns i n is =
     let within : i < length ns = slice_get_within ns i n (sym is) in
     let one : take (i + 1) ns ≡ take i ns ++ n ∷ [] =
     take_more ns i n within ∙ ap (λ x. take i ns ++ x ∷ []) (get_or_from_slice_get ns i n n (sym is)) in
-    ap serials_in one ∙ serials_append (take i ns) (n ∷ [])
+    ap constants_among one ∙ constants_append (take i ns) (n ∷ [])
 
-pub serial_step : (ns : List (Name × Named)) (i : ℕ) (name : Name) (serial : Serial) (k : Named) (old new : List Serial)
-    → Some (name, k) ≡ slice_get ns i → k ≡ named.Constant serial → new ≡ old ++ serial ∷ []
-    → map (λ s. s.0) old ≡ serials_in (take i ns) → map (λ s. s.0) new ≡ serials_in (take (i + 1) ns)
-serial_step ns i name serial k old new is here pushed before =
-    ap (map (λ s. s.0)) pushed ∙ map-append (λ s. s.0) old (serial ∷ []) ∙ ap (λ xs. xs ++ serial.0 ∷ []) before
-    ∙ ap (λ j. serials_in (take i ns) ++ serials_in ((name, j) ∷ [])) (sym here) ∙ sym (serials_step ns i (name, k) is)
+pub live_step : (ns : List (Name × Named)) (i : ℕ) (name : Name) (c : LiveConstant) (k : Named)
+    (old new : List LiveConstant) → Some (name, k) ≡ slice_get ns i → k ≡ named.Constant c.serial c.sort
+    → new ≡ old ++ c ∷ [] → map live_in old ≡ constants_among (take i ns)
+    → map live_in new ≡ constants_among (take (i + 1) ns)
+live_step ns i name c k old new is here pushed before =
+    ap (map live_in) pushed ∙ map-append live_in old (c ∷ []) ∙ ap (λ cs. cs ++ live_in c ∷ []) before
+    ∙ ap (λ j. constants_among (take i ns) ++ constants_among ((name, j) ∷ [])) (sym here)
+    ∙ sym (live_names_step ns i (name, k) is)
 
-pub no_serial_step : (ns : List (Name × Named)) (i : ℕ) (name : Name) (k : Named) (old : List ℕ)
-    → Some (name, k) ≡ slice_get ns i → ((serial : _) → k ≡ named.Constant serial → ⊥)
-    → old ≡ serials_in (take i ns) → old ≡ serials_in (take (i + 1) ns)
-no_serial_step ns i name (named.Constant serial) old is other before = absurd (other serial refl)
-no_serial_step ns i name named.Marked old is other before =
-    before ∙ sym (append-nil _) ∙ sym (serials_step ns i (name, named.Marked) is)
+pub no_live_step : (ns : List (Name × Named)) (i : ℕ) (name : Name) (k : Named) (old : List (ℕ × Sort))
+    → Some (name, k) ≡ slice_get ns i → ((serial : _) (sort : _) → k ≡ named.Constant serial sort → ⊥)
+    → old ≡ constants_among (take i ns) → old ≡ constants_among (take (i + 1) ns)
+no_live_step ns i name (named.Constant serial sort) old is other before = absurd (other serial sort refl)
+no_live_step ns i name named.Marked old is other before =
+    before ∙ sym (append-nil _) ∙ sym (live_names_step ns i (name, named.Marked) is)

@@ -16,7 +16,7 @@ use Rattle.sb_script.specs.Replies as reply
 use Rattle.sb_term.specs.declared.assertion.Assertion.{Assertion}
 use Rattle.sb_term.proofs.CallerLemmas.{extends_more}
 use Rattle.sb_sorts.specs.Scopes as scopes
-use Rattle.sb_sorts.specs.Scopes.{names_in, serials_in}
+use Rattle.sb_sorts.specs.Scopes.{names_in, constants_among}
 use Rattle.sb_stack.specs.declared.level.Level.{Level}
 use Rattle.sb_stack.specs.declared.stack.Mode.TheVariants as mode
 use Rattle.sb_stack.specs.declared.stack.Step.TheVariants as step
@@ -29,7 +29,7 @@ use Rattle.sb_stack.proofs.Changes.{longer_both, kept_left, left_is}
 -- Levels that are left one after the other.
 
 pub leaves_same : (k new : Stacked) → new.table ≡ k.table → new.assertions ≡ k.assertions → new.words ≡ k.words
-    → k.scope.declared ≤ new.scope.declared → Leaves k new
+    → length k.scope.sorts ≤ length new.scope.sorts → Leaves k new
 leaves_same k new table assertions words constants = record {
   extends = record { more = []; is = table ∙ sym (append-nil k.table) };
   front = ([], sym assertions ∙ sym (append-nil new.assertions));
@@ -38,7 +38,7 @@ leaves_same k new table assertions words constants = record {
 }
 
 pub leaves_front : (k new : Stacked) (n : ℕ) → new.table ≡ k.table → new.assertions ≡ take n k.assertions
-    → new.words ≡ k.words → k.scope.declared ≤ new.scope.declared → Leaves k new
+    → new.words ≡ k.words → length k.scope.sorts ≤ length new.scope.sorts → Leaves k new
 leaves_front k new n table assertions words constants = record {
   extends = record { more = []; is = table ∙ sym (append-nil k.table) };
   front = (
@@ -75,7 +75,7 @@ stands_number k (Some id) h = h.0
 stands_number k None h = tt
 
 pub stands_speaks : (k : Stacked) (o : Option ℕ) → StandsFor k o
-    → asserts_of (serials_in k.scope.names) (assertion_of k.table o) ≡ true
+    → asserts_of (constants_among k.scope.names) (assertion_of k.table o) ≡ true
 stands_speaks k (Some id) h = h.1
 stands_speaks k None h = refl
 

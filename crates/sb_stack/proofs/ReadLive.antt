@@ -1,8 +1,8 @@
 -- A term that is read over the names of a scope speaks of its constants alone.
-use Rattle.std.proofs.Common.{◌≡◌, ℕ, zero, suc, ◌<◌, Bool, true, false, not, ◌||◌, ◌==◌, if◌then◌else◌, nat_le, List, [], ◌∷◌, map, length, slice_get, unwrap_or, Result, Ok, Err, IfOk, refl}
+use Rattle.std.proofs.Common.{◌≡◌, ℕ, zero, suc, ◌+◌, ◌<◌, Bool, true, false, if◌then◌else◌, nat_le, List, [], ◌∷◌, map, length, slice_get, unwrap_or, Result, Ok, Err, IfOk, refl}
 use Rattle.std.specs.Prelude.{is_some}
 use Rattle.std.specs.List.{list_all}
-use Rattle.std.proofs.lemmas.Bool.{and_parts, and_from, eq-eqb}
+use Rattle.std.proofs.lemmas.Bool.{and_parts, and_from}
 use Rattle.sb_word.specs.LiteralWords.{word_of_literal, first_bad}
 use Rattle.sb_reader.specs.Forms.{Form}
 use Rattle.sb_meaning.specs.Terms.{Sort, Symbol, Term, Terms, constant, word, numeral, apply, parameter, no_terms, with_term, terms_of}
@@ -17,13 +17,14 @@ use Rattle.sb_sorts.specs.declared.scope.Named.{Named}
 use Rattle.sb_sorts.specs.declared.scope.Named.TheVariants as code
 use Rattle.sb_sorts.specs.declared.read.ReadFault.{ReadFault}
 use Rattle.sb_sorts.specs.Reads.{ReadsAs}
-use Rattle.sb_sorts.specs.Scopes.{ScopeNames, naming_in, names_in, serials_in}
+use Rattle.sb_sorts.specs.Scopes.{ScopeNames, naming_in, names_in, constants_among, serials_in, ascend_below}
 use Rattle.sb_term.specs.Numbered.{term_at}
-use Rattle.sb_stack.specs.Speaking.{speaks_of, speak_of}
-use Rattle.sb_stack.proofs.Live.{among}
+use Rattle.sb_term.specs.Symbols.{sort_in}
+use Rattle.sb_stack.specs.Speaking.{is_one_of, speaks_of, speak_of}
+use Rattle.sb_stack.proofs.Live.{one_first, one_later, rest_ascends}
 
 -- a test of terms that looks at no parameters
-abbrev over_any : List ℕ → List Sort → Term → Bool
+abbrev over_any : List (ℕ × Sort) → List Sort → Term → Bool
 over_any ns sorts t = speaks_of ns t
 
 by_test : {A : Type 0} (p : A → Bool) (b : Bool) (x y : Result A Fault) → if_read p x ≡ true → if_read p y ≡ true
@@ -31,23 +32,23 @@ by_test : {A : Type 0} (p : A → Bool) (b : Bool) (x y : Result A Fault) → if
 by_test p true x y h k = h
 by_test p false x y h k = k
 
-texts_speak : (ns : List ℕ) (bytes : List ℕ) → if_read (speaks_of ns) (read_text bytes) ≡ true
+texts_speak : (ns : List (ℕ × Sort)) (bytes : List ℕ) → if_read (speaks_of ns) (read_text bytes) ≡ true
 texts_speak ns bytes =
     by_test (speaks_of ns) (is_some (first_bad bytes)) (Err bad_literal) (Ok (word (word_of_literal bytes))) refl refl
 
-list_speaks : (ns : List ℕ) (ts : List Term) → list_all (speaks_of ns) ts ≡ true → speak_of ns (terms_of ts) ≡ true
+list_speaks : (ns : List (ℕ × Sort)) (ts : List Term) → list_all (speaks_of ns) ts ≡ true → speak_of ns (terms_of ts) ≡ true
 list_speaks ns [] h = refl
 list_speaks ns (t ∷ ts) h =
     let parts = and_parts (speaks_of ns t) (list_all (speaks_of ns) ts) h in
     and_from (speaks_of ns t) (speak_of ns (terms_of ts)) parts.0 (list_speaks ns ts parts.1)
 
-joined_speaks : (ns : List ℕ) (s : Symbol) (ts : List Term) → list_all (speaks_of ns) ts ≡ true
+joined_speaks : (ns : List (ℕ × Sort)) (s : Symbol) (ts : List Term) → list_all (speaks_of ns) ts ≡ true
     → speaks_of ns (joined s ts) ≡ true
 joined_speaks ns s [] h = refl
 joined_speaks ns s (t ∷ []) h = (and_parts (speaks_of ns t) true h).0
 joined_speaks ns s (t ∷ u ∷ ts) h = list_speaks ns (t ∷ u ∷ ts) h
 
-made_speaks : (ns : List ℕ) (s : Symbol) (ts : List Term) → list_all (speaks_of ns) ts ≡ true
+made_speaks : (ns : List (ℕ × Sort)) (s : Symbol) (ts : List Term) → list_all (speaks_of ns) ts ≡ true
     → speaks_of ns (made s ts) ≡ true
 made_speaks ns s ts h = step (is_of_one s)
   where
@@ -55,7 +56,7 @@ made_speaks ns s ts h = step (is_of_one s)
     step true = joined_speaks ns s ts h
     step false = list_speaks ns ts h
 
-argument_speaks : (ns : List ℕ) (ts : List Term) (place : ℕ) (other : Term) → list_all (speaks_of ns) ts ≡ true
+argument_speaks : (ns : List (ℕ × Sort)) (ts : List Term) (place : ℕ) (other : Term) → list_all (speaks_of ns) ts ≡ true
     → speaks_of ns other ≡ true → speaks_of ns (unwrap_or (slice_get ts place) other) ≡ true
 argument_speaks ns [] place other h k = k
 argument_speaks ns (t ∷ ts) zero other h k = (and_parts (speaks_of ns t) (list_all (speaks_of ns) ts) h).0
@@ -63,7 +64,7 @@ argument_speaks ns (t ∷ ts) (suc place) other h k =
     argument_speaks ns ts place other (and_parts (speaks_of ns t) (list_all (speaks_of ns) ts) h).1 k
 
 mutual
-  body_speaks : (ns : List ℕ) (ts : List Term) → list_all (speaks_of ns) ts ≡ true → (body : Term)
+  body_speaks : (ns : List (ℕ × Sort)) (ts : List Term) → list_all (speaks_of ns) ts ≡ true → (body : Term)
       → speaks_of ns body ≡ true → speaks_of ns (with_arguments ts body) ≡ true
   body_speaks ns ts all (constant serial sort) h = h
   body_speaks ns ts all (word w) h = refl
@@ -71,7 +72,7 @@ mutual
   body_speaks ns ts all (apply s terms) h = each_speaks ns ts all terms h
   body_speaks ns ts all (parameter place sort) h = argument_speaks ns ts place (parameter place sort) all refl
 
-  each_speaks : (ns : List ℕ) (ts : List Term) → list_all (speaks_of ns) ts ≡ true → (terms : Terms)
+  each_speaks : (ns : List (ℕ × Sort)) (ts : List Term) → list_all (speaks_of ns) ts ≡ true → (terms : Terms)
       → speak_of ns terms ≡ true → speak_of ns (each_with_arguments ts terms) ≡ true
   each_speaks ns ts all no_terms h = refl
   each_speaks ns ts all (with_term t terms) h =
@@ -79,7 +80,7 @@ mutual
       and_from (speaks_of ns (with_arguments ts t)) (speak_of ns (each_with_arguments ts terms))
       (body_speaks ns ts all t parts.0) (each_speaks ns ts all terms parts.1)
 
-speaking_is_kept : (ns : List ℕ) → IsKept (over_any ns) (λ serial sort. among ns serial)
+speaking_is_kept : (ns : List (ℕ × Sort)) → IsKept (over_any ns) (is_one_of ns)
 speaking_is_kept ns = record {
   constants = λ parameters serial sort h. h;
   texts = λ parameters bytes. texts_speak ns bytes;
@@ -92,38 +93,30 @@ speaking_is_kept ns = record {
 }
 
 -- the names of a scope stand for its constants, beside others
-all_pass : (ns : List (Name × Named)) (serials : List ℕ)
-    → ((n : ℕ) → among (serials_in ns) n ≡ true → among serials n ≡ true)
-    → list_all (λ n. passes (over_any serials) (λ serial sort. among serials serial) [] n.1) (map naming_in ns) ≡ true
-all_pass [] serials more = refl
-all_pass ((name, code.Constant serial) ∷ ns) serials more =
-    and_from (among serials serial.0) _ (more serial.0 (first serial.0 (serials_in ns)))
-    (all_pass ns serials (λ n h. more n (later serial.0 n h)))
-  where
-    first : (n : ℕ) (ms : List ℕ) → among (n ∷ ms) n ≡ true
-    first n ms = step (n == n) (eq-eqb n n refl)
-      where
-        step : (b : Bool) → b ≡ true → (b || among ms n) ≡ true
-        step true h = refl
-        step false h = absurd (cc h)
+all_pass : (from bound : ℕ) (ns : List (Name × Named)) (cs : List (ℕ × Sort))
+    → ascend_below from bound (serials_in ns) ≡ true
+    → ((n : ℕ) (sort : Sort) → is_one_of (constants_among ns) n sort ≡ true → is_one_of cs n sort ≡ true)
+    → list_all (λ n. passes (over_any cs) (is_one_of cs) [] n.1) (map naming_in ns) ≡ true
+all_pass from bound [] cs h more = refl
+all_pass from bound ((name, code.Constant serial sort) ∷ ns) cs h more =
+    and_from (is_one_of cs serial.0 (sort_in sort)) _
+    (more serial.0 (sort_in sort) (one_first serial.0 (sort_in sort) (constants_among ns)))
+    (all_pass (serial.0 + 1) bound ns cs (rest_ascends from bound serial.0 (serials_in ns) h)
+    (λ n k one. more n k (one_later from bound serial.0 (sort_in sort) (constants_among ns) n k h one)))
+all_pass from bound ((name, code.Marked) ∷ ns) cs h more = all_pass from bound ns cs h more
 
-    later : (m n : ℕ) → among (serials_in ns) n ≡ true → among (m ∷ serials_in ns) n ≡ true
-    later m n h = step (m == n)
-      where
-        step : (b : Bool) → (b || among (serials_in ns) n) ≡ true
-        step true = refl
-        step false = h
-all_pass ((name, code.Marked) ∷ ns) serials more = all_pass ns serials more
-
-pub read_speaks : ReadingKeeps → (ns : List (Name × Named)) (form : Form) (t : Term)
-    → read (map naming_in ns) form ≡ Ok t → speaks_of (serials_in ns) t ≡ true
-read_speaks keeps ns form t is =
-    keeps (over_any (serials_in ns)) (λ serial sort. among (serials_in ns) serial) (speaking_is_kept (serials_in ns)) []
-    (map naming_in ns) (all_pass ns (serials_in ns) (λ n h. h)) form t is
+pub read_speaks : ReadingKeeps → (bound : ℕ) (ns : List (Name × Named)) (form : Form) (t : Term)
+    → ascend_below 0 bound (serials_in ns) ≡ true → read (map naming_in ns) form ≡ Ok t
+    → speaks_of (constants_among ns) t ≡ true
+read_speaks keeps bound ns form t h is =
+    keeps (over_any (constants_among ns)) (is_one_of (constants_among ns)) (speaking_is_kept (constants_among ns)) []
+    (map naming_in ns) (all_pass 0 bound ns (constants_among ns) h (λ n sort one. one)) form t is
 
 -- the number of a term that was read stands for one that speaks of live constants
-pub read_stands : ReadingKeeps → (scope : ScopeNames) (table : List Term) (form : Form) (r : Result ℕ ReadFault)
+pub read_stands : ReadingKeeps → (bound : ℕ) (scope : ScopeNames) (table : List Term) (form : Form)
+    (r : Result ℕ ReadFault) → ascend_below 0 bound (serials_in scope.names) ≡ true
     → ReadsAs table (read (names_in scope) form) r
-    → IfOk r (λ id. (id < length table) × (speaks_of (serials_in scope.names) (term_at table id) ≡ true))
-read_stands keeps scope table form (Ok id) h = (h.1, read_speaks keeps scope.names form (term_at table id) h.0)
-read_stands keeps scope table form (Err fault) h = tt
+    → IfOk r (λ id. (id < length table) × (speaks_of (constants_among scope.names) (term_at table id) ≡ true))
+read_stands keeps bound scope table form (Ok id) ascend h =
+    (h.1, read_speaks keeps bound scope.names form (term_at table id) ascend h.0)
+read_stands keeps bound scope table form (Err fault) ascend h = tt

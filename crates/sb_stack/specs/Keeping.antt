@@ -1,13 +1,15 @@
 -- Private: what holds between two entries, and what an entry keeps.
 use Rattle.std.specs.Prelude.{◌≡◌, ℕ, ◌<◌, ◌≤◌, Bool, true, ◌&&◌, nat_le, List, [], ◌∷◌, map, take, drop, length, Option, Some, None, Result}
 use Rattle.std.specs.List.{list_all, All}
-use Rattle.sb_meaning.specs.Terms.{Term}
+use Rattle.sb_meaning.specs.Terms.{Sort, Term}
+use Rattle.sb_script.specs.Brought.{is_brought_sort}
+use Rattle.sb_term.specs.Symbols.{sort_in}
 use Rattle.sb_script.specs.Names.{Name}
 use Rattle.sb_script.specs.State as meaning
 use Rattle.sb_term.specs.declared.assertion.Assertion.{Assertion}
 use Rattle.sb_term.specs.Numbered.{term_at, Extends}
 use Rattle.sb_term.specs.Serials.{all_below}
-use Rattle.sb_sorts.specs.Scopes.{ScopeNames, serials_in}
+use Rattle.sb_sorts.specs.Scopes.{ScopeNames, constants_among}
 use Rattle.sb_sorts.specs.declared.scope.Named.{Named}
 use Rattle.sb_stack.specs.declared.level.Level.{Level}
 use Rattle.sb_stack.specs.declared.stack.Step.{Step}
@@ -22,23 +24,24 @@ are_nested (l ∷ ls) names assertions =
     (nat_le l.names names && nat_le l.assertions assertions) && are_nested ls l.names l.assertions
 
 -- the assertion, where it is no mark, speaks of these constants alone
-abbrev pub asserts_of : List ℕ → meaning.Assertion → Bool
-asserts_of ns (meaning.asserted t) = speaks_of ns t
-asserts_of ns meaning.a_mark = true
+abbrev pub asserts_of : List (ℕ × Sort) → meaning.Assertion → Bool
+asserts_of cs (meaning.asserted t) = speaks_of cs t
+asserts_of cs meaning.a_mark = true
 
 -- each assertion speaks of the constants of its level and of those below alone
 abbrev pub speak_of_theirs : List Level → List (Name × Named) → List meaning.Assertion → Bool
-speak_of_theirs [] names assertions = list_all (asserts_of (serials_in names)) assertions
+speak_of_theirs [] names assertions = list_all (asserts_of (constants_among names)) assertions
 speak_of_theirs (l ∷ ls) names assertions =
-    list_all (asserts_of (serials_in names)) (drop l.assertions assertions)
+    list_all (asserts_of (constants_among names)) (drop l.assertions assertions)
     && speak_of_theirs ls (take l.names names) (take l.assertions assertions)
 
--- assertions have numbers of the table, whose terms speak of declared constants; they stand on their levels, and speak of
--- what was declared there
+-- Assertions have numbers of the table, whose terms speak of declared constants; they stand on their levels, and speak of
+-- what was declared there. The sorts of constants are read.
 pub record IsKept (scope : ScopeNames) (table : List Term) (assertions : List Assertion)
     (levels : List Level) : Type 0 where
   pub numbers : All (HasNumberBelow (length table)) assertions
-  pub below : all_below scope.declared table ≡ true
+  pub below : all_below (length scope.sorts) table ≡ true
+  pub brought : list_all (λ sort. is_brought_sort (sort_in sort)) scope.sorts ≡ true
   pub nested : are_nested levels (length scope.names) (length assertions) ≡ true
   pub levelled : have_levels levels assertions ≡ true
   pub theirs : speak_of_theirs levels scope.names (map (assertion_in table) assertions) ≡ true
@@ -48,19 +51,19 @@ pub record Keeps (old new : Stacked) : Type 0 where
   pub extends : Extends old.table new.table
   pub grows : IsLonger old.assertions new.assertions
   pub words : new.words ≡ old.words
-  pub constants : old.scope.declared ≤ new.scope.declared
+  pub constants : length old.scope.sorts ≤ length new.scope.sorts
 
 -- and so does what is known by the place of an assertion that is left, where levels are left
 pub record KeepsBy {E : Type 0} (result : Result Step E) (old new : Stacked) : Type 0 where
   pub extends : Extends old.table new.table
   pub moved : IsMoved result old.assertions new.assertions
   pub words : new.words ≡ old.words
-  pub constants : old.scope.declared ≤ new.scope.declared
+  pub constants : length old.scope.sorts ≤ length new.scope.sorts
 
 -- the number, where there is one, is of a term of the table that speaks of live constants alone
 abbrev pub StandsFor : Stacked → Option ℕ → Type 0
 StandsFor kept (Some id) =
-    (id < length kept.table) × (speaks_of (serials_in kept.scope.names) (term_at kept.table id) ≡ true)
+    (id < length kept.table) × (speaks_of (constants_among kept.scope.names) (term_at kept.table id) ≡ true)
 StandsFor kept None = Unit {0}
 
 -- where levels are left: what is known by number stays, and what is known by the place of an assertion that is left
@@ -68,4 +71,4 @@ pub record Leaves (old new : Stacked) : Type 0 where
   pub extends : Extends old.table new.table
   pub front : IsLonger new.assertions old.assertions
   pub words : new.words ≡ old.words
-  pub constants : old.scope.declared ≤ new.scope.declared
+  pub constants : length old.scope.sorts ≤ length new.scope.sorts

@@ -1,17 +1,22 @@
 -- Which constants a term speaks of.
-use Rattle.std.specs.Prelude.{ℕ, Bool, true, ◌&&◌, ◌==◌, List}
-use Rattle.std.specs.List.{list_any}
-use Rattle.sb_meaning.specs.Terms.{Term, Terms, constant, word, numeral, apply, parameter, no_terms, with_term}
+use Rattle.std.specs.Prelude.{ℕ, Bool, true, false, ◌&&◌, ◌==◌, if◌then◌else◌, List, [], ◌∷◌}
+use Rattle.sb_meaning.specs.Sorts.{is_same_sort}
+use Rattle.sb_meaning.specs.Terms.{Sort, Term, Terms, constant, word, numeral, apply, parameter, no_terms, with_term}
 
--- the term speaks of these constants alone, by serial
+-- the constant is one of these, by serial and sort; the first of a serial counts
+abbrev pub is_one_of : List (ℕ × Sort) → ℕ → Sort → Bool
+is_one_of [] serial sort = false
+is_one_of (c ∷ cs) serial sort = if c.0 == serial then is_same_sort c.1 sort else is_one_of cs serial sort
+
+-- the term speaks of these constants alone
 abbrev mutual
-  pub speaks_of : List ℕ → Term → Bool
-  speaks_of ns (constant serial sort) = list_any (λ n. n == serial) ns
-  speaks_of ns (word w) = true
-  speaks_of ns (numeral m) = true
-  speaks_of ns (apply s terms) = speak_of ns terms
-  speaks_of ns (parameter place sort) = true
+  pub speaks_of : List (ℕ × Sort) → Term → Bool
+  speaks_of cs (constant serial sort) = is_one_of cs serial sort
+  speaks_of cs (word w) = true
+  speaks_of cs (numeral m) = true
+  speaks_of cs (apply s terms) = speak_of cs terms
+  speaks_of cs (parameter place sort) = true
 
-  pub speak_of : List ℕ → Terms → Bool
-  speak_of ns no_terms = true
-  speak_of ns (with_term term terms) = speaks_of ns term && speak_of ns terms
+  pub speak_of : List (ℕ × Sort) → Terms → Bool
+  speak_of cs no_terms = true
+  speak_of cs (with_term term terms) = speaks_of cs term && speak_of cs terms

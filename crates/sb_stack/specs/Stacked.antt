@@ -2,14 +2,16 @@
 use Rattle.std.specs.Prelude.{◌≡◌, ℕ, suc, ◌<◌, Bool, true, false, ◌&&◌, ◌==◌, List, [], ◌∷◌, ◌++◌, map, take, drop, length, get_or, Option, Some, None, IfSome}
 use Rattle.std.specs.List.{list_all}
 use Rattle.sb_word.specs.Words.{are_characters}
-use Rattle.sb_meaning.specs.Terms.{Term}
-use Rattle.sb_meaning.specs.Values.{Valuation, Text}
+use Rattle.sb_meaning.specs.Terms.{Sort, Term, boolean, integer, text, reglan}
+use Rattle.sb_meaning.specs.Values.{Value, Valuation, Text, Truth, default_of}
 use Rattle.sb_script.specs.State as meaning
 use Rattle.sb_term.specs.declared.assertion.Assertion.{Assertion}
 use Rattle.sb_term.specs.Numbered.{term_at}
+use Rattle.sb_term.specs.Symbols.{sort_in}
 use Rattle.sb_sorts.specs.Scopes as scopes
-use Rattle.sb_sorts.specs.Scopes.{names_in, serials_in, texts}
+use Rattle.sb_sorts.specs.Scopes.{names_in, constants_among}
 use Rattle.sb_script.specs.Scopes.{Naming}
+use Rattle.sb_stack.specs.declared.constant.LiveConstant.{LiveConstant}
 use Rattle.sb_stack.specs.declared.level.Level.{Level}
 use Rattle.sb_stack.specs.declared.stack.Mode.{Mode}
 use Rattle.sb_stack.specs.declared.stack.Mode.TheVariants as mode
@@ -22,32 +24,46 @@ pub record Stacked : Type 0 where
   pub produce_unsat_assumptions : Bool
   pub scope : scopes.ScopeNames
   pub mode : Mode
-  -- the words of the last check that found some, unless they were taken; they count where the mode says so
+  -- the words and the truth values of the last check that found some, the words unless they were taken; they count where
+  -- the mode says so
   pub words : List (List ℕ)
+  pub truths : List Bool
   -- the terms by number, and the live assertions, in order
   pub table : List Term
   pub assertions : List Assertion
   -- where the levels above the first one began, the innermost first
   pub levels : List Level
 
--- words, the one of each constant at its serial, as the values of these constants; past the last word is the empty one
-abbrev pub values_at : List ℕ → List (List ℕ) → Valuation
-values_at serials words = map (λ n. (n, Text (get_or words n []))) serials
+-- the value of the constant of a serial, by its sort: the word or the truth value that stands there, past the last the
+-- empty word and false
+abbrev pub value_at : List (List ℕ) → List Bool → ℕ → Sort → Value
+value_at words truths serial boolean = Truth (get_or truths serial false)
+value_at words truths serial text = Text (get_or words serial [])
+value_at words truths serial integer = default_of integer
+value_at words truths serial reglan = Text (get_or words serial [])
 
--- the serials of the live constants, in the order of declaration
-abbrev pub live_serials : Stacked → List ℕ
-live_serials kept = serials_in kept.scope.names
+-- the values of these constants, by serial and sort
+abbrev pub values_at : List (ℕ × Sort) → List (List ℕ) → List Bool → Valuation
+values_at constants words truths = map (λ c. (c.0, value_at words truths c.0 c.1)) constants
+
+-- the live constants, in the order of declaration: their serials and sorts
+abbrev pub live_constants : Stacked → List (ℕ × Sort)
+live_constants kept = constants_among kept.scope.names
+
+-- a live constant, as it is given out
+abbrev pub live_in : LiveConstant → ℕ × Sort
+live_in c = (c.serial.0, sort_in c.sort)
 
 abbrev pub are_words : List (List ℕ) → Bool
 are_words [] = true
 are_words (w ∷ ws) = are_characters w && are_words ws
 
--- the values are of the constants of these serials
-abbrev pub mode_in : List ℕ → List (List ℕ) → Mode → meaning.Mode
-mode_in serials words mode.Plain = meaning.plain
-mode_in serials words mode.Sat = meaning.satisfied (values_at serials words)
-mode_in serials words mode.Unsat = meaning.refuted []
-mode_in serials words mode.Unknown = meaning.undecided
+-- the values are of these constants
+abbrev pub mode_in : List (ℕ × Sort) → List (List ℕ) → List Bool → Mode → meaning.Mode
+mode_in constants words truths mode.Plain = meaning.plain
+mode_in constants words truths mode.Sat = meaning.satisfied (values_at constants words truths)
+mode_in constants words truths mode.Unsat = meaning.refuted []
+mode_in constants words truths mode.Unknown = meaning.undecided
 
 abbrev pub assertion_of : List Term → Option ℕ → meaning.Assertion
 assertion_of ts (Some id) = meaning.asserted (term_at ts id)
@@ -90,8 +106,8 @@ state_of kept = record {
   logic_set = kept.logic_set;
   begun = kept.begun;
   options = options_of kept.print_success kept.produce_models kept.produce_unsat_assumptions;
-  sorts = texts kept.scope.declared;
-  mode = mode_in (live_serials kept) kept.words kept.mode;
+  sorts = map sort_in kept.scope.sorts;
+  mode = mode_in (live_constants kept) kept.words kept.truths kept.mode;
   first = first_level kept.levels (names_in kept.scope) (map (assertion_in kept.table) kept.assertions);
   above = levels_above kept.levels (names_in kept.scope) (map (assertion_in kept.table) kept.assertions);
 }

@@ -5,6 +5,7 @@ use Rattle.sb_reader.specs.declared.feed.Next.TheVariants as next
 use Rattle.sb_reader.specs.declared.feed.Refusal.TheVariants.{BareToken}
 use Rattle.sb_reader.specs.Forms.{form_of}
 use Rattle.sb_reader.specs.Entries as entries
+use Rattle.sb_meaning.specs.Terms.{Sort}
 use Rattle.sb_script.specs.State.{State}
 use Rattle.sb_term.specs.declared.assertion.Assertion.{Assertion}
 use Rattle.sb_script.specs.Steps as meaning
@@ -30,16 +31,17 @@ entry_of (next.Refused refusal) = entries.Refused refusal
 entry_of next.NotYet = entries.Refused BareToken
 entry_of (next.Ended ending) = entries.Refused BareToken
 
--- the verdict, where the live constants have these serials
-abbrev pub verdict_in : List ℕ → Verdict → finding.Verdict
-verdict_in serials (verdict.Sat words) = finding.is_sat (values_at serials words.items)
-verdict_in serials verdict.Unsat = finding.is_unsat []
-verdict_in serials verdict.Unknown = finding.is_unknown
-verdict_in serials verdict.Outside = finding.is_outside
+-- the verdict, where these are the live constants
+abbrev pub verdict_in : List (ℕ × Sort) → Verdict → finding.Verdict
+verdict_in constants (verdict.Sat words truths) = finding.is_sat (values_at constants words.items truths.items)
+verdict_in constants verdict.Unsat = finding.is_unsat []
+verdict_in constants verdict.Unknown = finding.is_unknown
+verdict_in constants verdict.Outside = finding.is_outside
 
--- what is kept after a verdict: the words of the last one that had some
+-- what is kept after a verdict: the words and truth values of the last one that had some
 abbrev pub found : Verdict → Stacked → Stacked
-found (verdict.Sat words) kept = record kept { mode = mode.Sat; words = words.items }
+found (verdict.Sat words truths) kept =
+    record kept { mode = mode.Sat; words = words.items; truths = truths.items }
 found verdict.Unsat kept = record kept { mode = mode.Unsat }
 found verdict.Unknown kept = record kept { mode = mode.Unknown }
 found verdict.Outside kept = record kept { mode = mode.Plain }

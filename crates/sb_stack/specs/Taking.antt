@@ -3,7 +3,7 @@ use Rattle.std.specs.Prelude.{ℕ, Bool, true, false, if◌then◌else◌, List,
 use Rattle.std.specs.declared.vec.Vec.{Vec}
 use Rattle.std.specs.declared.alloc.Global.{Global}
 use Rattle.sb_script.specs.Names.{Name}
-use Rattle.sb_meaning.specs.Terms.{Term, boolean, text}
+use Rattle.sb_meaning.specs.Terms.{Sort, Term, boolean}
 use Rattle.sb_script.specs.Symbols.{is_taken}
 use Rattle.sb_script.specs.Faults.{Fault}
 use Rattle.sb_meaning.specs.Sorts.{sort_of, is_same_sort}
@@ -28,10 +28,10 @@ with_produce_models s b = record s { options = record s.options { produce_models
 abbrev pub with_produce_assumptions : State → Bool → State
 with_produce_assumptions s b = record s { options = record s.options { produce_unsat_assumptions = b } }
 
--- a constant of sort String is declared
-abbrev pub declares : Name → State → Step
-declares name s = if is_taken (names_of s) name then fails_by (error.already_declared name) s
-    else succeeds (declared name text s)
+-- a constant of this sort is declared
+abbrev pub declares : Name → Sort → State → Step
+declares name sort s = if is_taken (names_of s) name then fails_by (error.already_declared name) s
+    else succeeds (declared name sort s)
 
 -- what a form that was read is answered, where it is asserted
 abbrev pub asserts : Result Term Fault → State → Step

@@ -7,9 +7,8 @@ ghost use Rattle.sb_script.specs.State.{State};
 ghost use Rattle.sb_script.specs.Replies as meaning;
 ghost use Rattle.sb_script.specs.Steps as steps;
 ghost use Rattle.sb_script.specs.Options as options;
-ghost use Rattle.sb_sorts.specs.Scopes.{serials_in};
 ghost use Rattle.sb_stack.specs.Commands.{forms_in};
-ghost use Rattle.sb_stack.specs.Stacked.{state_of, values_at};
+ghost use Rattle.sb_stack.specs.Stacked.{state_of, live_constants, values_at};
 ghost use Rattle.sb_stack.specs.Taking.{IsAnswered, asks};
 ghost use Rattle.sb_stack.specs.Values.{item_in, is_live_item, answers_by};
 
@@ -73,11 +72,11 @@ impl Stack {
         }
     }
 
-    /// The words of the last check, or why there are none.
-    fn model(&self) -> Result<&[Word], &'static [u8]>
-        ensures { MatchResult result (λ words. (answer : Valuation → steps.Step)
+    /// The words and truth values of the last check, or why there are none.
+    fn model(&self) -> Result<(&[Word], &[bool]), &'static [u8]>
+        ensures { MatchResult result (λ values. (answer : Valuation → steps.Step)
             → meaning.with_values (state_of self.now) answer
-            ≡ answer (values_at (serials_in self.now.scope.names) words.now))
+            ≡ answer (values_at (live_constants self.now) values.0.now values.1.now))
             (λ message. (answer : Valuation → steps.Step)
             → meaning.with_values (state_of self.now) answer ≡ steps.fails message.now (state_of self.now)) }
     {
@@ -85,7 +84,7 @@ impl Stack {
             return Err(b"models not enabled");
         }
         match self.mode {
-            Mode::Sat => Ok(&self.words),
+            Mode::Sat => Ok((&self.words, &self.truths)),
             Mode::Plain | Mode::Unsat | Mode::Unknown => Err(b"no model"),
         }
     }
@@ -94,10 +93,11 @@ impl Stack {
         ensures { IfOk result
             (λ text. IsAnswered (meaning.get_model (state_of self.now)) text (state_of self.now) (state_of self.now)) }
     {
+        let _declared = self.scope.declared();
         match self.model() {
-            Ok(words) => {
+            Ok(values) => {
                 let constants = constants(self.alloc, &self.scope)?;
-                Ok(model_line(self.alloc, words, &constants)?)
+                Ok(model_line(self.alloc, values.0, values.1, &constants)?)
             }
             Err(message) => Ok(error_line(self.alloc, message)?),
         }
@@ -108,12 +108,13 @@ impl Stack {
             (λ text. IsAnswered (meaning.get_value (forms_in forms.entry) (state_of self.now)) text (state_of self.now)
             (state_of self.now)) }
     {
+        let _declared = self.scope.declared();
         let items = items(self.alloc, &self.scope, forms)?;
         self.answer_items(&items)
     }
 
     fn answer_items(&self, items: &[Item]) -> Result<Vec<u8>, AllocError>
-        requires { list_all (is_live_item (serials_in self.now.scope.names)) (map item_in items.now) ≡ true }
+        requires { list_all (is_live_item (live_constants self.now)) (map item_in items.now) ≡ true }
         ensures { IfOk result
             (λ text. IsAnswered (asks (map item_in items.now) (state_of self.now)) text (state_of self.now)
             (state_of self.now)) }
@@ -132,25 +133,30 @@ impl Stack {
 
     /// Answers a question for items that all stand for something.
     fn values_of(&self, items: &[Item]) -> Result<Vec<u8>, AllocError>
-        requires { list_all (is_live_item (serials_in self.now.scope.names)) (map item_in items.now) ≡ true }
+        requires { list_all (is_live_item (live_constants self.now)) (map item_in items.now) ≡ true }
         ensures { IfOk result
             (λ text. IsAnswered (meaning.values_of (map item_in items.now) (state_of self.now)) text (state_of self.now)
             (state_of self.now)) }
     {
         match self.model() {
-            Ok(words) => answer_values(self.alloc, words, items),
+            Ok(values) => answer_values(self.alloc, values.0, values.1, items),
             Err(message) => Ok(error_line(self.alloc, message)?),
         }
     }
 }
 
 /// Answers with the values of items, where all are constants.
-fn answer_values(alloc: Global, words: &[Word], items: &[Item]) -> Result<Vec<u8>, AllocError>
+fn answer_values(
+    alloc: Global,
+    words: &[Word],
+    truths: &[bool],
+    items: &[Item],
+) -> Result<Vec<u8>, AllocError>
     ensures { IfOk result (λ text. (s : State)
-        → IsAnswered (answers_by words.now (map item_in items.now) s) text s s) }
+        → IsAnswered (answers_by words.now truths.now (map item_in items.now) s) text s s) }
 {
     match all_constants(alloc, items)? {
-        Some(constants) => Ok(values_line(alloc, words, &constants)?),
+        Some(constants) => Ok(values_line(alloc, words, truths, &constants)?),
         None => Ok(unsupported_line(alloc)?),
     }
 }

@@ -9,6 +9,7 @@
 
 mod asking;
 mod command;
+mod constant;
 mod leaving;
 mod level;
 mod name;
@@ -18,5 +19,6 @@ mod stack;
 mod value;
 mod verdict;
 
+pub use constant::LiveConstant;
 pub use stack::{Stack, Step};
 pub use verdict::Verdict;

@@ -1,7 +1,8 @@
 //! What the arguments of commands name: logics, truth values, sorts, and what the solver says of itself.
 
-ghost use Rattle.std.specs.Prelude.{◌≡◌, option_map, option_copied};
+ghost use Rattle.std.specs.Prelude.{◌≡◌, true, option_map, option_copied, IfSome};
 ghost use Rattle.sb_reader.specs.Forms.{shape_of};
+ghost use Rattle.sb_script.specs.Brought.{is_brought_sort};
 ghost use Rattle.sb_script.specs.Options as meaning;
 ghost use Rattle.sb_script.specs.Steps.{line};
 ghost use Rattle.sb_script.specs.Symbols.{found_in};
@@ -58,7 +59,8 @@ pub(crate) fn info_line(key: &[u8]) -> Option<&'static [u8]>
 
 /// The sort that a form names, where constants may have it.
 pub(crate) fn sort_of(sort: Shape<'_>) -> Option<Sort>
-    ensures { option_map sort_in result ≡ sort_of_form (shape_of sort.entry) }
+    ensures value { option_map sort_in result ≡ sort_of_form (shape_of sort.entry) }
+    ensures read { IfSome result (λ sort. is_brought_sort (sort_in sort) ≡ true) }
 {
     sort_named(symbol_in(sort)?)
 }

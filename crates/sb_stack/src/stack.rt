@@ -1,6 +1,6 @@
 //! The stack.
 
-ghost use Rattle.std.specs.Prelude.{◌≡◌, ℕ, ◌≤◌, List, [], true, map, length, Result, IfOk, OnOk, OnErr};
+ghost use Rattle.std.specs.Prelude.{◌≡◌, ℕ, ◌≤◌, Bool, List, [], true, map, length, Result, IfOk, OnOk, OnErr};
 ghost use Rattle.std.specs.List.{All, list_all};
 ghost use Rattle.sb_reader.specs.Entries as entries;
 ghost use Rattle.sb_reader.specs.Forms.{form_of, shape_of};
@@ -15,28 +15,31 @@ ghost use Rattle.sb_script.specs.Options as options;
 ghost use Rattle.sb_script.specs.Replies.{step_of};
 ghost use Rattle.sb_script.specs.Verdicts.{verdict_text, settled};
 ghost use Rattle.sb_sorts.specs.Reads.{ReadsAs, Faults};
-ghost use Rattle.sb_sorts.specs.Scopes.{names_in, ascend_below};
+ghost use Rattle.sb_sorts.specs.Scopes.{names_in, serials_in, ascend_below, are_sorted};
+ghost use Rattle.sb_term.specs.Symbols.{sort_in};
+ghost use Rattle.sb_script.specs.Brought.{is_brought_sort};
 ghost use Rattle.sb_term.specs.Numbered.{term_at, Extends};
 ghost use Rattle.sb_term.specs.Serials.{all_below};
 ghost use Rattle.sb_stack.specs.Commands.{command_in};
 ghost use Rattle.sb_stack.specs.Keeping.{Keeps, KeepsBy, StandsFor};
 ghost use Rattle.sb_stack.specs.Speaking.{speaks_of};
-ghost use Rattle.sb_stack.specs.Stacked.{state_of, assertion_of, assertion_in, values_at, live_serials, are_words, have_levels, HasNumberBelow, without_words};
+ghost use Rattle.sb_stack.specs.Stacked.{state_of, assertion_of, assertion_in, values_at, live_constants, live_in, are_words, have_levels, HasNumberBelow, without_words};
 ghost use Rattle.sb_stack.specs.Steps.{verdict_in, found, IsStep, IsMoved, IsEntry, entry_of};
 ghost use Rattle.sb_stack.specs.Taking.{IsAnswered, with_print_success, with_produce_models, with_produce_assumptions, declares, asserts};
 
 use crate::command::{Command, command_of};
+use crate::constant::LiveConstant;
 use crate::level::Level;
 use crate::option::{is_logic, sort_of, truth_in};
 use crate::reply::{
     error_line, error_line_with_name, quoted_line, refusal_text, success_line, unsupported_line,
 };
-use crate::value::serials;
+use crate::value::live_constants;
 use crate::verdict::Verdict;
 use sb_reader::{Next, Sexpr, Shape};
 use sb_script::laws::reading_keeps;
 use sb_sorts::{DeclareError, ReadFault, Scope, read_term};
-use sb_term::{Assertion, Serial, Sort, Table, TermId};
+use sb_term::{Assertion, Sort, Table, TermId};
 use sb_word::Word;
 use std::alloc::{AllocError, Global};
 use std::marker::Model;
@@ -46,7 +49,7 @@ use std::mem;
 #[derive(Clone, Copy, Debug)]
 pub(crate) enum Mode {
     Plain,
-    /// The last words are a model.
+    /// The last words and truth values are a model.
     Sat,
     Unsat,
     Unknown,
@@ -78,8 +81,10 @@ pub struct Stack {
     pub(crate) produce_unsat_assumptions: bool,
     pub(crate) scope: Scope,
     pub(crate) mode: Mode,
-    /// The word of each constant at its serial, as the last check that found some had it.
+    /// The word of each constant of sort String at its serial, as the last check that found some had it.
     pub(crate) words: Vec<Word>,
+    /// The truth value of each constant of sort Bool at its serial, as that check had it.
+    pub(crate) truths: Vec<bool>,
     pub(crate) table: Table,
     pub(crate) assertions: Vec<Assertion>,
     /// The levels above the first one, the outermost first.
@@ -106,6 +111,7 @@ impl Model for Stack {
       scope = s.scope;
       mode = s.mode;
       words = s.words.items;
+      truths = s.truths.items;
       table = s.table;
       assertions = s.assertions.items;
       levels = reverse s.levels.items;
@@ -121,6 +127,7 @@ impl Stack {
         ensures state { state_of result ≡ start }
         ensures assertions { result.assertions ≡ [] }
         ensures words { result.words ≡ [] }
+        ensures truths { result.truths ≡ [] }
         ensures table { result.table ≡ [] }
         ensures levels { result.levels ≡ [] }
     {
@@ -134,6 +141,7 @@ impl Stack {
             scope: Scope::new(alloc),
             mode: Mode::Plain,
             words: Vec::new(alloc),
+            truths: Vec::new(alloc),
             table: Table::new(alloc),
             assertions: Vec::new(alloc),
             levels: Vec::new(alloc),
@@ -152,7 +160,7 @@ impl Stack {
         ensures extends { Extends self.old.table self.new.table }
         ensures grows { IsMoved result self.old.assertions self.new.assertions }
         ensures words { self.new.words ≡ self.old.words }
-        ensures constants { self.old.scope.declared ≤ self.new.scope.declared }
+        ensures constants { length self.old.scope.sorts ≤ length self.new.scope.sorts }
     {
         self.answer(entry)
     }
@@ -342,20 +350,22 @@ impl Stack {
         ensures keeps { Keeps self.old self.new }
     {
         match sort_of(sort) {
-            Some(_) => self.declare(name),
+            Some(sort) => self.declare(name, sort),
             None => self.declare_function(name),
         }
     }
 
-    /// Declares a constant of sort String.
-    fn declare(&mut self, name: &[u8]) -> Result<Vec<u8>, AllocError>
+    /// Declares a constant of a sort that is read.
+    fn declare(&mut self, name: &[u8], sort: Sort) -> Result<Vec<u8>, AllocError>
+        requires { is_brought_sort (sort_in sort) ≡ true }
         ensures ok { IfOk result
-            (λ text. IsAnswered (declares name.now (state_of self.old)) text (state_of self.old) (state_of self.new)) }
+            (λ text. IsAnswered (declares name.now (sort_in sort) (state_of self.old)) text (state_of self.old)
+            (state_of self.new)) }
         ensures err { OnErr result (state_of self.new ≡ state_of self.old) }
         ensures keeps { Keeps self.old self.new }
     {
         let answer = success_line(self.alloc, self.print_success)?;
-        match self.scope.declare(name) {
+        match self.scope.declare(name, sort) {
             Ok(()) => {
                 self.begun = true;
                 self.mode = Mode::Plain;
@@ -411,6 +421,7 @@ impl Stack {
         ensures keeps { Keeps self.old self.new }
     {
         reading_keeps();
+        let _declared = self.scope.declared();
         read_term(self.alloc, &mut self.table, &self.scope, form)
     }
 
@@ -502,38 +513,51 @@ impl Stack {
         ensures value { result.now ≡ self.now.assertions }
         ensures live { map (assertion_in self.now.table) result.now ≡ live (state_of self.now) }
         ensures numbers { All (HasNumberBelow (length self.now.table)) self.now.assertions }
-        ensures declared { all_below self.now.scope.declared self.now.table ≡ true }
+        ensures declared { all_below (length self.now.scope.sorts) self.now.table ≡ true }
         ensures levels { have_levels self.now.levels self.now.assertions ≡ true }
-        ensures named { list_all (speaks_of (live_serials self.now)) (live_terms (state_of self.now)) ≡ true }
+        ensures named { list_all (speaks_of (live_constants self.now)) (live_terms (state_of self.now)) ≡ true }
     {
         self.assertions.as_slice()
     }
 
-    /// The names in force, in the order of declaration: those of the live constants with their serials. Takes no
-    /// memory.
+    /// The names in force, in the order of declaration: those of the live constants with their serials and sorts. Takes
+    /// no memory.
     pub fn scope(&self) -> &Scope
         ensures { result.now ≡ self.now.scope }
     {
         &self.scope
     }
 
-    /// The serials of the live constants, ascending. Linear in the live names. `AllocError` only for want of memory.
-    pub fn constants(&self) -> Result<Vec<Serial>, AllocError>
-        ensures { IfOk result (λ found. map (λ serial. serial.0) found.items ≡ live_serials self.now) }
+    /// The live constants, with ascending serials. Linear in the live names. `AllocError` only for want of memory.
+    pub fn constants(&self) -> Result<Vec<LiveConstant>, AllocError>
+        ensures { IfOk result (λ found. map live_in found.items ≡ live_constants self.now) }
     {
-        serials(self.alloc, &self.scope)
+        live_constants(self.alloc, &self.scope)
     }
 
     /// How many constants were declared, those too that went with their levels: all serials are below. The serials of
-    /// the live constants ascend, and words, the one of each at its serial, fit the state. Takes no memory.
+    /// the live constants ascend, and words and truth values, the one of each at its serial, fit the state. Takes no
+    /// memory.
     pub fn declared(&self) -> usize
-        ensures value { result ≡ self.now.scope.declared }
-        ensures serials { ascend_below 0 result (live_serials self.now) ≡ true }
+        ensures value { result ≡ length self.now.scope.sorts }
+        ensures serials { ascend_below 0 result (serials_in self.now.scope.names) ≡ true }
         ensures constants { constants_of (state_of self.now) ≡ constants_in (names_in self.now.scope) }
-        ensures fit { (words : List (List ℕ)) → are_words words ≡ true
-            → fits (constants_of (state_of self.now)) (values_at (live_serials self.now) words) ≡ true }
+        ensures fit { (words : List (List ℕ)) (truths : List Bool) → are_words words ≡ true
+            → fits (constants_of (state_of self.now)) (values_at (live_constants self.now) words truths) ≡ true }
     {
+        let _sorts = self.scope.sorts();
         self.scope.declared()
+    }
+
+    /// The sorts of all constants that were declared, by serial, those too that went with their levels. They are read,
+    /// and each live constant has the one that stands at its serial. Takes no memory.
+    pub fn sorts(&self) -> &[Sort]
+        ensures value { result.now ≡ self.now.scope.sorts }
+        ensures state { map sort_in result.now ≡ (state_of self.now).sorts }
+        ensures read { list_all (λ sort. is_brought_sort (sort_in sort)) result.now ≡ true }
+        ensures live { are_sorted (map sort_in result.now) (live_constants self.now) ≡ true }
+    {
+        self.scope.sorts()
     }
 
     /// Takes the words of the last `Sat` verdict out, the one of each constant at its serial: a check changes those
@@ -547,17 +571,18 @@ impl Stack {
         mem::replace(&mut self.words, Vec::new(self.alloc))
     }
 
-    /// Answers a check by what it found, and keeps it for the questions after it. The words of an earlier `Sat` stay
+    /// Answers a check by what it found, and keeps it for the questions after it. The values of an earlier `Sat` stay
     /// where this verdict has none. Takes no memory.
     pub fn settle(&mut self, verdict: Verdict) -> &'static [u8]
-        ensures reply { result.now ≡ verdict_text (verdict_in (live_serials self.old) verdict) }
+        ensures reply { result.now ≡ verdict_text (verdict_in (live_constants self.old) verdict) }
         ensures state { state_of self.new
-            ≡ settled (verdict_in (live_serials self.old) verdict) (state_of self.old) }
+            ≡ settled (verdict_in (live_constants self.old) verdict) (state_of self.old) }
         ensures kept { self.new ≡ found verdict self.old }
     {
         match verdict {
-            Verdict::Sat(words) => {
+            Verdict::Sat { words, truths } => {
                 self.words = words;
+                self.truths = truths;
                 self.mode = Mode::Sat;
                 b"sat\n"
             }

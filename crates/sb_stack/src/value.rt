@@ -1,19 +1,25 @@
 //! Constants with their values, and what is asked for (SMT-LIB 2.6, section 4.2.6).
 
-ghost use Rattle.std.specs.Prelude.{◌≡◌, ◌++◌, [], map, option_map, option_copied, get_or, IfOk, OnOk};
+ghost use Rattle.std.specs.Prelude.{◌≡◌, ◌++◌, pos, [], false, map, option_map, option_copied, get_or, IfOk, OnOk};
 ghost use Rattle.sb_reader.specs.Forms.{shape_of, Symbol};
 ghost use Rattle.sb_word.specs.Literals.{literal_text};
 ghost use Rattle.sb_script.specs.Scopes.{constants_in};
 ghost use Rattle.sb_script.specs.Replies as meaning;
 ghost use Rattle.sb_script.specs.Steps.{line, list_text};
-ghost use Rattle.sb_sorts.specs.Scopes.{names_in, serials_in};
+ghost use Rattle.sb_sorts.specs.Scopes.{names_in, constants_among};
+ghost use Rattle.sb_meaning.specs.Printed.{printed};
+ghost use Rattle.sb_meaning.specs.Terms as terms;
+ghost use Rattle.sb_meaning.specs.Values.{Int, Truth};
+ghost use Rattle.sb_term.specs.Symbols.{sort_in};
+ghost use Rattle.sb_stack.specs.Stacked.{live_in};
 ghost use Rattle.sb_stack.specs.Commands.{forms_in};
-ghost use Rattle.sb_stack.specs.Values.{constant_in, asked_in, item_in, with_names, gap_at, value_literal, definition_by, value_by};
+ghost use Rattle.sb_stack.specs.Values.{constant_in, asked_in, item_in, with_names, gap_at, value_printed, definition_by, value_by};
 
+use crate::constant::LiveConstant;
 use crate::name::push_name;
 use sb_reader::{Shape, Shapes};
 use sb_sorts::{Named, Scope, begins_term, is_reserved, is_theory_name};
-use sb_term::Serial;
+use sb_term::{Serial, Sort};
 use sb_word::{Word, print_literal};
 use std::alloc::{AllocError, Global};
 
@@ -22,6 +28,7 @@ use std::alloc::{AllocError, Global};
 pub(crate) struct Constant<'a> {
     pub(crate) name: &'a [u8],
     pub(crate) serial: Serial,
+    pub(crate) sort: Sort,
 }
 
 /// What an item of a list of asked values is.
@@ -45,24 +52,24 @@ pub(crate) fn constants(alloc: Global, scope: &Scope) -> Result<Vec<Constant<'_>
         let Some((name, named)) = scope.at(place) else {
             unreachable!();
         };
-        if let Named::Constant(serial) = named {
-            found.push(Constant { name, serial })?;
+        if let Named::Constant(serial, sort) = named {
+            found.push(Constant { name, serial, sort })?;
         }
     }
     Ok(found)
 }
 
-/// The serials of the constants of a scope, in the order of declaration. Linear in the names.
-pub(crate) fn serials(alloc: Global, scope: &Scope) -> Result<Vec<Serial>, AllocError>
-    ensures { IfOk result (λ found. map (λ serial. serial.0) found.items ≡ serials_in scope.now.names) }
+/// The constants of a scope without their names, in the order of declaration. Linear in the names.
+pub(crate) fn live_constants(alloc: Global, scope: &Scope) -> Result<Vec<LiveConstant>, AllocError>
+    ensures { IfOk result (λ found. map live_in found.items ≡ constants_among scope.now.names) }
 {
     let mut found = Vec::new(alloc);
     for place in 0..scope.len() {
         let Some((_, named)) = scope.at(place) else {
             unreachable!();
         };
-        if let Named::Constant(serial) = named {
-            found.push(serial)?;
+        if let Named::Constant(serial, sort) = named {
+            found.push(LiveConstant { serial, sort })?;
         }
     }
     Ok(found)
@@ -73,7 +80,7 @@ fn item_named<'a>(scope: &Scope, name: &'a [u8]) -> Item<'a>
     ensures { item_in result ≡ meaning.item_named (with_names (names_in scope.now)) name.now }
 {
     match scope.named(name) {
-        Some(Named::Constant(serial)) => Item::Constant(Constant { name, serial }),
+        Some(Named::Constant(serial, sort)) => Item::Constant(Constant { name, serial, sort }),
         Some(Named::Marked) => Item::Other,
         None if is_theory_name(name) => Item::Other,
         None => Item::Unknown(name),
@@ -186,19 +193,75 @@ fn push_literal_at(
     }
 }
 
-/// Appends the value of a constant, as a literal between quotes. A constant without a word has the empty one.
+/// Appends a word as a literal between quotes: the one at a place, which is the empty one where there is none.
+fn push_word(
+    alloc: Global,
+    text: &mut Vec<u8>,
+    words: &[Word],
+    place: usize,
+) -> Result<(), AllocError>
+    ensures { OnOk result (text.new.items ≡ text.old.items ++ value_printed words.now [] place terms.text) }
+{
+    text.push(b'"')?;
+    push_literal_at(alloc, text, words, place)?;
+    text.push(b'"')?;
+    Ok(())
+}
+
+/// The truth value at a place, which is false where there is none.
+fn truth_at(truths: &[bool], place: usize) -> bool
+    ensures { result ≡ get_or truths.now place false }
+{
+    match truths.get(place) {
+        Some(truth) => *truth,
+        None => false,
+    }
+}
+
+/// The name of a truth value.
+fn truth_name(truth: bool) -> &'static [u8]
+    ensures { result.now ≡ printed (Truth truth) }
+{
+    if truth { b"true" } else { b"false" }
+}
+
+/// The number that a constant of sort Int has, of which none is declared.
+fn zero_text() -> &'static [u8]
+    ensures { result.now ≡ printed (Int (pos 0)) }
+{
+    b"0"
+}
+
+/// Appends the value of a constant by its sort. A constant without a word has the empty one, and one without a truth
+/// value is false.
 fn push_value(
     alloc: Global,
     text: &mut Vec<u8>,
     words: &[Word],
-    serial: Serial,
+    truths: &[bool],
+    constant: &Constant,
 ) -> Result<(), AllocError>
-    ensures { OnOk result (text.new.items ≡ text.old.items ++ value_literal words.now serial.0) }
+    ensures { OnOk result (text.new.items ≡ text.old.items
+        ++ value_printed words.now truths.now constant.now.serial.0 (sort_in constant.now.sort)) }
 {
-    text.push(b'"')?;
-    push_literal_at(alloc, text, words, serial.0 as usize)?;
-    text.push(b'"')?;
-    Ok(())
+    let place = constant.serial.0 as usize;
+    match constant.sort {
+        Sort::Bool => text.extend_from_slice(truth_name(truth_at(truths, place))),
+        Sort::String | Sort::RegLan => push_word(alloc, text, words, place),
+        Sort::Int => text.extend_from_slice(zero_text()),
+    }
+}
+
+/// The name of a sort.
+fn sort_name(sort: Sort) -> &'static [u8]
+    ensures { result.now ≡ meaning.sort_text (sort_in sort) }
+{
+    match sort {
+        Sort::Bool => b"Bool",
+        Sort::Int => b"Int",
+        Sort::String => b"String",
+        Sort::RegLan => b"RegLan",
+    }
 }
 
 /// Appends `(define-fun c () String "word")`.
@@ -206,15 +269,18 @@ fn push_definition(
     alloc: Global,
     text: &mut Vec<u8>,
     words: &[Word],
+    truths: &[bool],
     constant: &Constant,
 ) -> Result<(), AllocError>
     ensures { OnOk result
-        (text.new.items ≡ text.old.items ++ definition_by words.now (constant_in constant.now)) }
+        (text.new.items ≡ text.old.items ++ definition_by words.now truths.now (constant_in constant.now)) }
 {
     text.extend_from_slice(b"(define-fun ")?;
     push_name(text, constant.name)?;
-    text.extend_from_slice(b" () String ")?;
-    push_value(alloc, text, words, constant.serial)?;
+    text.extend_from_slice(b" () ")?;
+    text.extend_from_slice(sort_name(constant.sort))?;
+    text.push(b' ')?;
+    push_value(alloc, text, words, truths, constant)?;
     text.push(b')')?;
     Ok(())
 }
@@ -224,15 +290,16 @@ fn push_answer(
     alloc: Global,
     text: &mut Vec<u8>,
     words: &[Word],
+    truths: &[bool],
     constant: &Constant,
 ) -> Result<(), AllocError>
     ensures { OnOk result
-        (text.new.items ≡ text.old.items ++ value_by words.now (asked_in constant.now)) }
+        (text.new.items ≡ text.old.items ++ value_by words.now truths.now (asked_in constant.now)) }
 {
     text.push(b'(')?;
     push_name(text, constant.name)?;
     text.push(b' ')?;
-    push_value(alloc, text, words, constant.serial)?;
+    push_value(alloc, text, words, truths, constant)?;
     text.push(b')')?;
     Ok(())
 }
@@ -251,17 +318,18 @@ fn push_gap(text: &mut Vec<u8>, place: usize) -> Result<(), AllocError>
 pub(crate) fn model_line(
     alloc: Global,
     words: &[Word],
+    truths: &[bool],
     constants: &[Constant],
 ) -> Result<Vec<u8>, AllocError>
     ensures { IfOk result
         (λ text. text.items
         ≡ line
-        (list_text (map (definition_by words.now) (map constant_in constants.now)))) }
+        (list_text (map (definition_by words.now truths.now) (map constant_in constants.now)))) }
 {
     let mut text = Vec::from_slice(alloc, b"(")?;
     for (place, constant) in constants.iter().enumerate() {
         push_gap(&mut text, place)?;
-        push_definition(alloc, &mut text, words, constant)?;
+        push_definition(alloc, &mut text, words, truths, constant)?;
     }
     text.extend_from_slice(b")\n")?;
     Ok(text)
@@ -271,17 +339,18 @@ pub(crate) fn model_line(
 pub(crate) fn values_line(
     alloc: Global,
     words: &[Word],
+    truths: &[bool],
     constants: &[Constant],
 ) -> Result<Vec<u8>, AllocError>
     ensures { IfOk result
         (λ text. text.items
         ≡ line
-        (list_text (map (value_by words.now) (map asked_in constants.now)))) }
+        (list_text (map (value_by words.now truths.now) (map asked_in constants.now)))) }
 {
     let mut text = Vec::from_slice(alloc, b"(")?;
     for (place, constant) in constants.iter().enumerate() {
         push_gap(&mut text, place)?;
-        push_answer(alloc, &mut text, words, constant)?;
+        push_answer(alloc, &mut text, words, truths, constant)?;
     }
     text.extend_from_slice(b")\n")?;
     Ok(text)

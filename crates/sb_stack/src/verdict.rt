@@ -5,8 +5,9 @@ use sb_word::Word;
 /// What a check finds.
 #[derive(Debug, Drop)]
 pub enum Verdict {
-    /// The live assertions are true for these words, the one of each constant at its serial.
-    Sat(Vec<Word>),
+    /// The live assertions are true for these values: the word of each constant of sort String at its serial, and the
+    /// truth value of each one of sort Bool.
+    Sat { words: Vec<Word>, truths: Vec<bool> },
     /// No values make the live assertions true.
     Unsat,
     /// As many lines of the proof were counted as may be.

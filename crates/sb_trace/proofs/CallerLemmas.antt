@@ -1,4 +1,6 @@
--- What a caller cites of lines that are put, of a trace that grows, and of the numbers of regexes in an order.
+-- What a caller cites of lines that are put, of a trace that grows, of the numbers of regexes in an order, and of what
+-- is spent.
 pub use Rattle.sb_trace.proofs.Puts.{puts_none, puts_one, puts_both, stays_both}
 pub use Rattle.sb_trace.proofs.Growing.{tracks_grow, stays_same}
 pub use Rattle.sb_trace.proofs.Positions.{number-there}
+pub use Rattle.sb_trace.proofs.Spent.{spent_none, spent_same, spent_one, spent_both}

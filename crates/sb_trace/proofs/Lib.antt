@@ -15,4 +15,5 @@ pub mod Marks
 pub mod Closures
 pub mod Reached
 pub mod Counts
+pub mod Spent
 pub mod CallerLemmas

@@ -1,5 +1,5 @@
 -- Lines of a proof that are put on a tape, each of which follows from what is kept before it.
-use Rattle.std.specs.Prelude.{◌≡◌, ℕ, Bool, true, false, List, [], ◌∷◌, map, Option, Result, Ok, Err}
+use Rattle.std.specs.Prelude.{◌≡◌, ℕ, ◌<◌, ◌≤◌, Bool, true, false, List, [], ◌∷◌, map, Option, Result, Ok, Err}
 use Rattle.std.specs.List.{list_all}
 use Rattle.sb_lit.specs.Budgets.{Spending}
 use Rattle.sb_rulebook.specs.Refusals.{Refusal}
@@ -33,6 +33,12 @@ defines_regex _ = false
 pub record IsCounted (asked : Asked) (kept : AllKept) (budget : Spending) : Type 0 where
   pub spent : kept.counted ≡ budget.spent
   pub limit : most_counted asked ≡ budget.limit
+
+-- A budget of which as much is spent, or more, and that within its limit.
+pub record SpendsWithin (old new : Spending) : Type 0 where
+  pub limit : new.limit ≡ old.limit
+  pub spent : old.spent ≤ new.spent
+  pub within : old.spent < new.spent → new.spent ≤ new.limit
 
 -- nothing but regexes, expansions, dead marks and the count is other than before
 pub record KeepsClauses (before after : AllKept) : Type 0 where

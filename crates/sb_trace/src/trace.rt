@@ -12,7 +12,7 @@ ghost use Rattle.sb_trace.specs.Defining.{first_of};
 ghost use Rattle.sb_graph.specs.Findings.{IsGraph, AreBarren, KeepsMarks, is_marked};
 ghost use Rattle.sb_graph.specs.Witness.{IsFinding, MarksDead};
 ghost use Rattle.sb_rulebook.specs.Kept.{AllKept, Asked, nothing_kept};
-ghost use Rattle.sb_trace.specs.Putting.{IsCounted, CountsTapeFault};
+ghost use Rattle.sb_trace.specs.Putting.{IsCounted, CountsTapeFault, SpendsWithin};
 ghost use Rattle.sb_trace.specs.Tracking.{Tracks, Traces, TracesUncounted, StaysNumbered, IsExpandedIn, is_dead_in, is_expanded_in, is_put, Spends, IsExploring, IfAlive, number_in};
 ghost use Rattle.sb_trace.specs.Defining.{IsNumbered, AreClassesOf};
 ghost use Rattle.sb_trace.specs.Closing.{is_unburied, is_settled_in, IsClosedIn, AreClosedUpTo, GrewTo, GoesOn};
@@ -136,6 +136,7 @@ impl Trace {
         ensures graph { IsGraph arena.new graph.new }
         ensures marks { graph.new.dead ≡ graph.old.dead }
         ensures derivatives_stay { KeepsEntries graph.old.memo graph.new.memo }
+        ensures steps { SpendsWithin budget.old budget.new }
         ensures counts { CountsTapeFault result (L.Tape.faults tape.old) (L.Tape.faults tape.new) }
     {
         self.marks_have_numbers();
@@ -169,6 +170,7 @@ impl Trace {
         ensures stays { StaysNumbered self.old self.new }
         ensures dead { (n : ℕ) → is_marked self.new.dead n ≡ is_marked self.old.dead n }
         ensures marks { (n : ℕ) → is_marked self.old.expanded n ≡ true → is_marked self.new.expanded n ≡ true }
+        ensures steps { SpendsWithin budget.old budget.new }
         ensures counts { CountsTapeFault result (L.Tape.faults tape.old) (L.Tape.faults tape.new) }
     {
         self.marks_have_numbers();
@@ -214,6 +216,7 @@ impl Trace {
         ensures order { self.new.order ≡ self.old.order }
         ensures marks { (n : ℕ) → is_marked self.old.expanded n ≡ true → is_marked self.new.expanded n ≡ true }
         ensures dead { self.new.dead ≡ self.old.dead }
+        ensures steps { SpendsWithin budget.old budget.new }
         ensures counts { CountsTapeFault result (L.Tape.faults tape.old) (L.Tape.faults tape.new) }
     {
         test_decides_expansion();
@@ -317,6 +320,7 @@ impl Trace {
         ensures graph { IsGraph arena.new graph.new }
         ensures marks_stay { KeepsMarks graph.old.dead graph.new.dead }
         ensures derivatives_stay { KeepsEntries graph.old.memo graph.new.memo }
+        ensures steps { SpendsWithin budget.old budget.new }
         ensures counts { CountsTapeFault result (L.Tape.faults tape.old) (L.Tape.faults tape.new) }
     {
         let left = budget.limit().saturating_sub(budget.spent());
@@ -354,6 +358,7 @@ impl Trace {
         ensures graph { IsGraph arena.new graph.new }
         ensures marks { graph.new.dead ≡ graph.old.dead }
         ensures derivatives_stay { KeepsEntries graph.old.memo graph.new.memo }
+        ensures steps { SpendsWithin budget.old budget.new }
         ensures counts { CountsTapeFault result (L.Tape.faults tape.old) (L.Tape.faults tape.new) }
     {
         match explored {
@@ -394,6 +399,7 @@ impl Trace {
         ensures graph { IsGraph arena.new graph.new }
         ensures marks_stay { KeepsMarks graph.old.dead graph.new.dead }
         ensures derivatives_stay { KeepsEntries graph.old.memo graph.new.memo }
+        ensures steps { SpendsWithin budget.old budget.new }
         ensures counts { CountsTapeFault result (L.Tape.faults tape.old) (L.Tape.faults tape.new) }
     {
         let left = budget.limit().saturating_sub(budget.spent());
@@ -430,6 +436,7 @@ impl Trace {
         ensures graph { IsGraph arena.new graph.new }
         ensures marks { graph.new.dead ≡ graph.old.dead }
         ensures derivatives_stay { KeepsEntries graph.old.memo graph.new.memo }
+        ensures steps { SpendsWithin budget.old budget.new }
         ensures counts { CountsTapeFault result (L.Tape.faults tape.old) (L.Tape.faults tape.new) }
     {
         if self.is_dead(root) {

@@ -8,7 +8,7 @@ ghost use Rattle.sb_deriv.specs.Faithful.{KeepsEntries};
 ghost use Rattle.sb_deriv.specs.Pieces.{targets_of};
 ghost use Rattle.sb_graph.specs.Findings.{IsGraph, is_marked};
 ghost use Rattle.sb_rulebook.specs.Kept.{AllKept, Asked};
-ghost use Rattle.sb_trace.specs.Putting.{IsCounted, CountsTapeFault};
+ghost use Rattle.sb_trace.specs.Putting.{IsCounted, CountsTapeFault, SpendsWithin};
 ghost use Rattle.sb_trace.specs.Tracking.{Tracks, Traces, StaysNumbered, is_dead_in, is_expanded_in};
 ghost use Rattle.sb_trace.specs.Reaching.{is_member, is_unexpanded, IsClosed, IfClosed, IsReached, AreReached};
 ghost use Rattle.sb_trace.specs.Closing.{is_met, is_unburied, IsLed, AreLedUpTo, HasSpent, GrewTo, GoesOn};
@@ -116,6 +116,7 @@ impl Trace {
             → list_all (is_unburied graph.new.dead self.new) members.new.keys ≡ true) }
         ensures grew { OnOk result (GrewTo members.old.keys members.new.keys) }
         ensures goes { GoesOn arena.old arena.new graph.old graph.new self.old self.new }
+        ensures steps { SpendsWithin budget.old budget.new }
         ensures counts { CountsTapeFault result (L.Tape.faults tape.old) (L.Tape.faults tape.new) }
     {
         let left = budget.limit().saturating_sub(budget.spent());
@@ -292,6 +293,7 @@ impl Trace {
         ensures spent { IfOk result (λ done. done ≡ false → budget.new.spent ≡ budget.new.limit) }
         ensures limit { budget.new.limit ≡ budget.old.limit }
         ensures goes { GoesOn arena.old arena.new graph.old graph.new self.old self.new }
+        ensures steps { SpendsWithin budget.old budget.new }
         ensures counts { CountsTapeFault result (L.Tape.faults tape.old) (L.Tape.faults tape.new) }
     {
         for regex in regexes {

@@ -12,6 +12,7 @@ returns-then-is_some-clause-settles c =
 pub loop-literal-preserved : goal.loop-literal-preserved
 loop-literal-preserved c = record {
   watched = c.walk_both-conflict.ensures.watched;
+  spared = c.walk_both-conflict.ensures.spared;
   settles = settles_then _ _ _ _ _ _ _ _ _ _ c.loop-literal.invariant.settles c.walk_both-conflict.ensures.settles;
   fine =
       rw (← front_more _ c.loop-literal.trail c.walk_both-conflict.new.trail c.loop-literal.head c.in-Some.literal

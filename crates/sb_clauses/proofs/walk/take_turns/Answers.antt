@@ -3,14 +3,15 @@ use Rattle.sb_clauses.proofs.walk.take_turns.Goals as goal
 
 pub loop-id-preserved : goal.loop-id-preserved
 loop-id-preserved c = record {
-  walking = c.take_turn.ensures.walking;
-  advances = advances_then _ _ _ _ _ _ _ _ _ _ _ c.loop-id.invariant.advances c.take_turn.ensures.advances;
+  spared = c.take_turn.ensures.spared;
+  walking = c.take_turn.ensures.turn.walking;
+  advances = advances_then _ _ _ _ _ _ _ _ _ _ _ c.loop-id.invariant.advances c.take_turn.ensures.turn.advances;
 }
 
 pub returns-in-Ends-clause-advances : goal.returns-in-Ends-clause-advances
 returns-in-Ends-clause-advances c =
-    advances_then _ _ _ _ _ _ _ _ _ _ _ c.loop-id.invariant.advances c.take_turn.ensures.advances
+    advances_then _ _ _ _ _ _ _ _ _ _ _ c.loop-id.invariant.advances c.take_turn.ensures.turn.advances
 
 pub returns-in-Stops-clause-advances : goal.returns-in-Stops-clause-advances
 returns-in-Stops-clause-advances c =
-    advances_then _ _ _ _ _ _ _ _ _ _ _ c.loop-id.invariant.advances c.take_turn.ensures.advances
+    advances_then _ _ _ _ _ _ _ _ _ _ _ c.loop-id.invariant.advances c.take_turn.ensures.turn.advances

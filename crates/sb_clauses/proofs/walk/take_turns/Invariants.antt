@@ -1,11 +1,13 @@
 use Rattle.std.proofs.Common.{length}
 use Rattle.sb_clauses.specs.Records.{kept_of}
+use Rattle.sb_clauses.specs.Sparing.{AreSpared}
 use Rattle.sb_clauses.specs.Walking.{IsWalking, Advances}
 use Rattle.sb_clauses.proofs.Moving.{list_at}
 use Rattle.sb_clauses.proofs.walk.take_turns.Given as goal
 
 abbrev pub invariant-loop-id : goal.invariant-loop-id
 invariant-loop-id l = record {
+  spared : AreSpared (kept_of l.records) l.spares.literals.items;
   walking : IsWalking l.list
       (record {
         kept = kept_of l.records;

@@ -4,8 +4,8 @@ use Rattle.sb_clauses.specs.Walking.{Walk}
 use Rattle.sb_clauses.proofs.Walked.{walk_begins, walk_holds, walk_past, walk_ends, match_weaker}
 use Rattle.sb_clauses.proofs.walk.walk.Goals as goal
 
-pub take_turns-conflict-requires : goal.take_turns-conflict-requires
-take_turns-conflict-requires c =
+pub take_turns-conflict-requires-clause-walking : goal.take_turns-conflict-requires-clause-walking
+take_turns-conflict-requires-clause-walking c =
     walk_begins c.args.list _ c.requires.side c.requires.room c.requires.are_false c.requires.begun
     (omega (arith, c.if-list-len.false, c.len.ensures))
 

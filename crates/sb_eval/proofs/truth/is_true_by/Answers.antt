@@ -1,25 +1,20 @@
 use Rattle.std.proofs.Common.{◌∙◌, refl}
 use Rattle.std.proofs.lemmas.Option.{slice_get_past, slice_get_read}
-use Rattle.sb_term.specs.Numbered.{term_at}
 use Rattle.sb_regex.specs.Numbered.{regex_at}
-use Rattle.sb_problem.specs.Patterns.{pattern_in}
 use Rattle.sb_eval.proofs.TruthFacts.{truth_found, truth_missing}
 use Rattle.sb_eval.proofs.truth.is_true_by.Goals as goal
 
-pub returns-in-Some-get-clause-ok : goal.returns-in-Some-get-clause-ok
-returns-in-Some-get-clause-ok c =
-    truth_found c.normal_has_terms_words.ensures c.args.arena.now (term_at c.args.table.now c.args.id)
-    c.in-Some.serial.0 c.args.regex (pattern_in c.args.table.now c.in-Some.field-0-1) c.in-Some.ensures.parts
-    c.requires.regex c.args.values.now c.in-Some-get.word.now c.codes-codes.ensures.word
-    (slice_get_read c.args.values.now _ c.in-Some.serial.0 c.in-Some-get.word.now refl
-    c.in-Some-get.ensures.lookup.3.0 c.in-Some-get.ensures.lookup.1)
+pub returns-in-Some-clause-ok : goal.returns-in-Some-clause-ok
+returns-in-Some-clause-ok c =
+    truth_found c.normal_has_terms_words.ensures c.args.arena.now c.args.serial.0 c.args.regex c.args.values.now
+    c.in-Some.word.now c.codes-codes.ensures.word
+    (slice_get_read c.args.values.now _ c.args.serial.0 c.in-Some.word.now refl c.in-Some.ensures.lookup.3.0
+    c.in-Some.ensures.lookup.1)
     c.matches.result c.matches.ensures.ok
 
 pub returns-in-None-clause-ok : goal.returns-in-None-clause-ok
-returns-in-None-clause-ok c = λ v gives.
+returns-in-None-clause-ok c = λ t R h is v bs gives.
     c.nullable.ensures
     ∙ (c.nullable_has_empty_word.ensures (regex_at c.args.arena.now c.args.regex)
-    ∙ truth_missing c.normal_has_terms_words.ensures c.args.arena.now (term_at c.args.table.now c.args.id)
-    c.in-Some.serial.0 c.args.regex (pattern_in c.args.table.now c.in-Some.field-0-1) c.in-Some.ensures.parts
-    c.requires.regex c.args.values.now
-    (slice_get_past c.args.values.now c.in-Some.serial.0 c.in-None.ensures.lookup.3) v gives)
+    ∙ truth_missing c.normal_has_terms_words.ensures c.args.arena.now t c.args.serial.0 c.args.regex R h is
+    c.args.values.now (slice_get_past c.args.values.now c.args.serial.0 c.in-None.ensures.lookup.3) v bs gives)

@@ -1,15 +1,12 @@
-use Rattle.std.proofs.Common.{arith}
-use Rattle.sb_term.specs.Numbered.{term_at}
-use Rattle.sb_fragment.proofs.ShapeFacts.{not_two}
+use Rattle.std.proofs.Common.{sym, ap, ◌∙◌}
+use Rattle.sb_term.specs.Numbered.{terms_at}
+use Rattle.sb_term.specs.Nodes.{node_term}
+use Rattle.sb_fragment.specs.Shapes.{parts_of}
+use Rattle.sb_fragment.proofs.Structured.{terms_in_of}
 use Rattle.sb_fragment.proofs.shape.arguments_of.Goals as goal
-use Rattle.sb_fragment.proofs.shape.arguments_of.Goals.{in_default-as_slice-via-then-as_slice-lt2}
-use Rattle.sb_fragment.proofs.shape.arguments_of.Goals.{in_default-as_slice-via-else-as_slice-lt2+else-this-lt3}
 
-pub returns-in_default-as_slice-clause-parts : goal.returns-in_default-as_slice-clause-parts
-returns-in_default-as_slice-clause-parts c =
-    not_two c.args.table.now c.term.result.now c.in-Apply.symbol c.in-Apply.arguments
-    (term_at c.args.table.now c.args.id) c.in-Apply.is c.in-StrInRe.is c.term.ensures.value
-    (λ two. elim c.in_default-as_slice.branch [
-      | in_default-as_slice-via-then-as_slice-lt2 w ↦ grind arith
-      | in_default-as_slice-via-else-as_slice-lt2+else-this-lt3 w ↦ grind arith
-    ])
+pub returns-in-Apply-clause-terms : goal.returns-in-Apply-clause-terms
+returns-in-Apply-clause-terms c =
+    ap (terms_at c.args.table.now) c.as_slice.ensures
+    ∙ sym (terms_in_of (terms_at c.args.table.now c.in-Apply.arguments.items))
+    ∙ ap parts_of (sym (ap (node_term c.args.table.now) c.in-Apply.is) ∙ c.term.ensures.value)

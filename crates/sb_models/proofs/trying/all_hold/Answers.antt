@@ -1,7 +1,12 @@
-use Rattle.std.proofs.Common.{◌≡◌, ◌≤◌, true, length, subst, sym, ap, ◌∙◌, arith, rules}
+use Rattle.std.proofs.Common.{◌≡◌, ◌≤◌, true, [], length, subst, sym, ap, ◌∙◌, arith, rules}
 use Rattle.sb_meaning.specs.Truth.{holds}
-use Rattle.sb_script.specs.Brought.{is_membership}
+use Rattle.sb_script.specs.Brought.{is_structure}
 use Rattle.sb_term.specs.Numbered.{term_at}
+use Rattle.sb_fragment.proofs.CallerLemmas.{membership_structure}
+use Rattle.sb_regex.proofs.CallerLemmas.{extends_more}
+use Rattle.sb_problem.specs.Known.{AreNormals}
+use Rattle.sb_eval.specs.Given.{GivesValues}
+use Rattle.sb_eval.proofs.CallerLemmas.{membership_given}
 use Rattle.sb_models.specs.Tried.{IsOfSame, marks_of}
 use Rattle.sb_models.proofs.Knowledge.{no_mark, inside_at, true_first, true_more, false_at, passed, true_all}
 use Rattle.sb_models.proofs.trying.all_hold.Goals as goal
@@ -36,20 +41,47 @@ loop-place-preserved-then-may_pass c =
           c.requires.pass) c.loop-place.invariant.3,
     )
 
-pub eval-requires-clause-inside : goal.eval-requires-clause-inside
-eval-requires-clause-inside c =
-    subst (λ ts. is_membership (term_at ts c.in-Some.id) ≡ true) (sym c.table-table.ensures)
+pub eval-requires-clause-structure : goal.eval-requires-clause-structure
+eval-requires-clause-structure c =
+    subst (λ ts. is_structure (term_at ts c.in-Some.id) ≡ true) (sym c.table-table.ensures)
+    (membership_structure (term_at c.args.stack.now.table c.in-Some.id)
     (inside_at c.args.stack.now.table c.args.stack.now.assertions c.loop-place.place c.index-assertions-place.result
     c.in-Some.id (rw c.assertions-assertions.ensures.value at c.loop-place-test.true)
-    (rw c.assertions-assertions.ensures.value at c.index-assertions-place.is) c.in-Some.is c.requires.decided)
+    (rw c.assertions-assertions.ensures.value at c.index-assertions-place.is) c.in-Some.is c.requires.decided))
+
+pub loop-place-preserved : goal.loop-place-preserved
+loop-place-preserved c =
+    let ts = c.args.stack.now.table in
+    let low = rw c.assertions-assertions.ensures.value at c.loop-place-test.true in
+    let is = rw c.assertions-assertions.ensures.value at c.index-assertions-place.is in
+    let member = inside_at ts c.args.stack.now.assertions c.loop-place.place c.index-assertions-place.result c.in-Some.id
+    low is c.in-Some.is c.requires.decided in (
+      extends_more c.args.arena.now c.loop-place.arena c.eval.new.arena c.loop-place.invariant.0
+          c.in_ok-eval.ensures.extends,
+      subst (λ us. AreNormals us c.eval.new.arena c.eval.new.normals) c.table-table.ensures c.in_ok-eval.ensures.normals,
+      c.in_ok-eval.ensures.right,
+      true_more c.args.words.now ts c.args.stack.now.assertions c.loop-place.place c.index-assertions-place.result
+          c.in-Some.id low is c.in-Some.is
+          (λ v gives. sym c.if-not-branch.false ∙ (c.in_ok-eval.ensures.ok v
+          (subst (λ us. GivesValues c.args.words.now [] v (term_at us c.in-Some.id)) (sym c.table-table.ensures)
+          (membership_given c.args.words.now [] v (term_at ts c.in-Some.id) member gives))
+          ∙ ap (λ us. holds (term_at us c.in-Some.id) v) c.table-table.ensures))
+          c.loop-place.invariant.3,
+    )
 
 pub returns-then-not-branch-clause-ok : goal.returns-then-not-branch-clause-ok
 returns-then-not-branch-clause-ok c =
-    false_at c.args.words.now c.args.stack.now.table c.args.stack.now.assertions c.loop-place.place
-    c.index-assertions-place.result c.in-Some.id (rw c.assertions-assertions.ensures.value at c.loop-place-test.true)
-    (rw c.assertions-assertions.ensures.value at c.index-assertions-place.is) c.in-Some.is
-    (λ v gives. sym c.if-not-branch.true ∙ (c.in_ok-eval.ensures.ok v gives
-    ∙ ap (λ ts. holds (term_at ts c.in-Some.id) v) c.table-table.ensures))
+    let ts = c.args.stack.now.table in
+    let low = rw c.assertions-assertions.ensures.value at c.loop-place-test.true in
+    let is = rw c.assertions-assertions.ensures.value at c.index-assertions-place.is in
+    let member = inside_at ts c.args.stack.now.assertions c.loop-place.place c.index-assertions-place.result c.in-Some.id
+    low is c.in-Some.is c.requires.decided in
+    false_at c.args.words.now ts c.args.stack.now.assertions c.loop-place.place c.index-assertions-place.result
+    c.in-Some.id low is c.in-Some.is
+    (λ v gives. sym c.if-not-branch.true ∙ (c.in_ok-eval.ensures.ok v
+    (subst (λ us. GivesValues c.args.words.now [] v (term_at us c.in-Some.id)) (sym c.table-table.ensures)
+    (membership_given c.args.words.now [] v (term_at ts c.in-Some.id) member gives))
+    ∙ ap (λ us. holds (term_at us c.in-Some.id) v) c.table-table.ensures))
 
 pub returns-clause-ok : goal.returns-clause-ok
 returns-clause-ok c =

@@ -1,4 +1,4 @@
-use Rattle.std.proofs.Common.{◌≡◌, ◌<◌, length, refl, sym, ap, subst, arith, Option, Some, None, option_map}
+use Rattle.std.proofs.Common.{◌≡◌, ◌<◌, length, sym, ap, subst, arith, Option, Some, None, option_map}
 use Rattle.std.specs.Prelude.{IfSome, MatchOption, ℕ}
 use Rattle.sb_meaning.specs.Terms.{Term}
 use Rattle.sb_script.specs.Brought as brought
@@ -71,7 +71,7 @@ returns-clause-claims g c = λ serial p.
     let level = c.member_at-term.result.1 in
     let placed : IsLive (asked_in s) c.args.place (term_at c.table-table.result.now id) level =
     subst (λ us. IsLive (asked_in s) c.args.place (term_at us id) level) (sym same)
-    (is-live (asked_in s) c.args.stack.now.scope.declared c.args.place (term_at ts id) level refl
+    (is-live (asked_in s) c.args.place (term_at ts id) level
     c.member_at-term.ensures.there c.member_at-term.ensures.declared) in
     claims c.order_tells_apart.ensures (asked_in s) (live s) serial z c.args.place (term_at ts id) (pattern_in ts q)
     level c.in_ok-pattern.field-0

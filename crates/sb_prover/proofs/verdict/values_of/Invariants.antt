@@ -1,9 +1,10 @@
 use Rattle.std.proofs.Common.{◌≡◌, map, take}
 use Rattle.sb_proof.specs.Lines.{value_in}
-use Rattle.sb_prover.specs.Saying.{value_at}
+use Rattle.sb_stack.specs.Stacked.{live_in}
+use Rattle.sb_prover.specs.Saying.{said_value}
 use Rattle.sb_prover.proofs.verdict.values_of.Given as goal
 
-abbrev pub invariant-loop-serial : goal.invariant-loop-serial
-invariant-loop-serial l =
+abbrev pub invariant-loop-constant : goal.invariant-loop-constant
+invariant-loop-constant l =
     map value_in l.values.items
-    ≡ map (value_at l.words) (map (λ serial. serial.0) (take l.serial-index l.serials))
+    ≡ map (said_value l.words l.truths) (map live_in (take l.constant-index l.constants))

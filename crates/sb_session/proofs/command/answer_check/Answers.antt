@@ -3,7 +3,8 @@ use Rattle.sb_world.specs.Outside.{write_at}
 use Rattle.sb_world.specs.declared.OutPort.TheVariants.{Answers}
 use Rattle.std.proofs.lemmas.Result.{err_from_is_err_and}
 use Rattle.sb_script.specs.Verdicts.{IsVerdict}
-use Rattle.sb_stack.specs.Stacked.{Stacked, state_of, live_serials}
+use Rattle.sb_stack.specs.Stacked.{Stacked, state_of, live_constants}
+use Rattle.sb_meaning.specs.Terms.{Sort}
 use Rattle.sb_stack.specs.Steps.{verdict_in}
 use Rattle.sb_session.specs.Checking.{session_of}
 use Rattle.sb_session.proofs.CheckLemmas.{on_ok, on_err, regexes_stay, same_verdict, levels_of_rest, levels_of_found, tracked_stays, check_answered, answer_cut, proof_cut}
@@ -16,7 +17,7 @@ returns-in_err-verdict-clause-err g c =
     let between = session_of c.decide.new.stack c.decide.new.self c.args.prover.now in
     rw p.1
     (λ q tracked.
-    proof_cut (verdict_in (live_serials c.args.stack.now) c.in_ok-decided.decided) q session between c.in_ok-decided.ensures.state refl
+    proof_cut (verdict_in (live_constants c.args.stack.now) c.in_ok-decided.decided) q session between c.in_ok-decided.ensures.state refl
     (g.W.World.outside c.args.world.now) (g.W.World.outside c.prove_check.new.world)
     (c.in_err-verdict.ensures.err q
     (tracked_stays c.abreast_stays.ensures session between q refl c.in_ok-decided.ensures.extends
@@ -30,7 +31,7 @@ returns-clause-ok g c =
     let after = session_of c.settle.new.self c.prove_check.new.decider c.prove_check.new.prover in
     on_ok c.write_all.result
     (λ written q tracked.
-    check_answered (verdict_in (live_serials c.args.stack.now) c.in_ok-decided.decided) q session between proven after (verdict_in (live_serials c.decide.new.stack) c.in_ok-verdict.verdict)
+    check_answered (verdict_in (live_constants c.args.stack.now) c.in_ok-decided.decided) q session between proven after (verdict_in (live_constants c.decide.new.stack) c.in_ok-verdict.verdict)
     c.in_ok-decided.ensures.state refl (g.W.World.outside c.args.world.now)
     (g.W.World.outside c.prove_check.new.world) (g.W.World.outside c.write_all.new.world) (λ r h. h)
     (c.in_ok-verdict.ensures.ok q
@@ -49,8 +50,8 @@ returns-clause-err g c =
     let after = session_of c.settle.new.self c.prove_check.new.decider c.prove_check.new.prover in
     on_err c.write_all.result
     (λ cut q tracked.
-    inr (answer_cut (verdict_in (live_serials c.args.stack.now) c.in_ok-decided.decided) q session between proven after
-    (verdict_in (live_serials c.decide.new.stack) c.in_ok-verdict.verdict)
+    inr (answer_cut (verdict_in (live_constants c.args.stack.now) c.in_ok-decided.decided) q session between proven after
+    (verdict_in (live_constants c.decide.new.stack) c.in_ok-verdict.verdict)
     c.in_ok-decided.ensures.state refl (g.W.World.outside c.args.world.now)
     (g.W.World.outside c.prove_check.new.world) (g.W.World.outside c.write_all.new.world)
     (c.in_ok-verdict.ensures.ok q
@@ -69,9 +70,9 @@ prove_check-requires-clause-regexes g c =
 pub prove_check-requires-clause-verdict : goal.prove_check-requires-clause-verdict
 prove_check-requires-clause-verdict g c =
     let decided = c.in_ok-decided.decided in
-    subst (λ (ns : List ℕ). IsVerdict (state_of c.decide.new.stack) [] (verdict_in ns decided))
-    (sym (ap (λ (s : Stacked). live_serials s) c.decide.ensures.rest))
-    (same_verdict (verdict_in (live_serials c.args.stack.now) decided) (state_of c.decide.new.stack)
+    subst (λ (ns : List (ℕ × Sort)). IsVerdict (state_of c.decide.new.stack) [] (verdict_in ns decided))
+    (sym (ap (λ (s : Stacked). live_constants s) c.decide.ensures.rest))
+    (same_verdict (verdict_in (live_constants c.args.stack.now) decided) (state_of c.decide.new.stack)
     (state_of c.args.stack.now) c.in_ok-decided.ensures.state c.in_ok-decided.ensures.verdict)
 
 pub returns-clause-levels : goal.returns-clause-levels

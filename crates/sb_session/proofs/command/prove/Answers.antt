@@ -1,6 +1,6 @@
 use Rattle.std.proofs.Common.{refl, inr}
 use Rattle.std.proofs.lemmas.Result.{err_from_is_err_and}
-use Rattle.sb_stack.specs.Stacked.{state_of, live_serials}
+use Rattle.sb_stack.specs.Stacked.{state_of, live_constants}
 use Rattle.sb_stack.specs.Steps.{verdict_in}
 use Rattle.sb_session.specs.Checking.{session_of}
 use Rattle.sb_session.proofs.CheckLemmas.{check_proved, check_cut}
@@ -9,7 +9,7 @@ use Rattle.sb_session.proofs.command.prove.Goals as goal
 
 pub returns-clause-ok : goal.returns-clause-ok
 returns-clause-ok g c p tracked =
-    check_proved (state_of c.args.stack.now) (verdict_in (live_serials c.args.stack.now) c.in-Ok.verdict) p
+    check_proved (state_of c.args.stack.now) (verdict_in (live_constants c.args.stack.now) c.in-Ok.verdict) p
     (session_of c.args.stack.now c.prove.new.decider (Some c.prove.new.self)) c.prove.new.self
     c.new-tape.result c.prove.new.tape c.bytes.result.now (g.W.World.outside c.args.world.now)
     (g.W.World.outside c.write_all.new.world) refl c.new-tape.ensures c.bytes.ensures c.in-Ok.ensures.verdict
@@ -20,7 +20,7 @@ returns-in_err-write_all-clause-err g c =
     let e = err_from_is_err_and c.from_residual.result c.from_residual.ensures.1 in
     rw e.1
     (λ p tracked.
-    inr (check_cut (state_of c.args.stack.now) (verdict_in (live_serials c.args.stack.now) c.in-Ok.verdict) p c.prove.new.decider.arena
+    inr (check_cut (state_of c.args.stack.now) (verdict_in (live_constants c.args.stack.now) c.in-Ok.verdict) p c.prove.new.decider.arena
     c.prove.new.decider.graph.memo c.prove.new.self c.new-tape.result c.prove.new.tape c.bytes.result.now
     (g.W.World.outside c.args.world.now) (g.W.World.outside c.write_all.new.world) c.new-tape.ensures c.bytes.ensures
     c.in-Ok.ensures.verdict (c.in-Ok.ensures.proves p tracked) c.in_err-write_all.ensures.err))

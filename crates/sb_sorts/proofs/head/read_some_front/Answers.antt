@@ -1,4 +1,4 @@
-use Rattle.std.proofs.Common.{sym, ap, subst}
+use Rattle.std.proofs.Common.{length, sym, ap, subst}
 use Rattle.sb_reader.specs.Forms.{shape_of, shapes_in}
 use Rattle.sb_script.specs.Heads.{read_head}
 use Rattle.sb_script.specs.Reading.{read_list_head}
@@ -25,4 +25,4 @@ returns-in-List-clause-reads c =
 
 pub returns-in-List-clause-declared : goal.returns-in-List-clause-declared
 returns-in-List-clause-declared c =
-    c.takes_arguments-in-List.ensures.declared c.args.scope.now.declared c.read_list_head.ensures.declared
+    c.takes_arguments-in-List.ensures.declared (length c.args.scope.now.sorts) c.read_list_head.ensures.declared

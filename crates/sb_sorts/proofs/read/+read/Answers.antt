@@ -1,4 +1,4 @@
-use Rattle.std.proofs.Common.{Ok, ap, subst, ◌∙◌, arith}
+use Rattle.std.proofs.Common.{Ok, length, ap, subst, ◌∙◌, arith}
 use Rattle.std.proofs.lemmas.Result.{err_from_is_err_and}
 use Rattle.sb_reader.specs.Forms.{shape_of, shapes_in}
 use Rattle.sb_script.specs.Reading.{read_list}
@@ -18,7 +18,7 @@ read_form-read_list-requires t c = (
 )
 
 pub read_form-returns-in-Text-clause-grows : goal.read_form-returns-in-Text-clause-grows
-read_form-returns-in-Text-clause-grows t c = c.read_text.ensures.grows c.args.scope.now.declared
+read_form-returns-in-Text-clause-grows t c = c.read_text.ensures.grows (length c.args.scope.now.sorts)
 
 pub read_list-read_all-requires : goal.read_list-read_all-requires
 read_list-read_all-requires t c = (
@@ -88,7 +88,7 @@ read_all-loop-form-smaller t c =
 
 pub read_all-loop-form-preserved : goal.read_all-loop-form-preserved
 read_all-loop-form-preserved t c =
-    reads_one (names_in c.args.scope.now) c.args.scope.now.declared c.args.table.now (shapes_in c.args.forms)
+    reads_one (names_in c.args.scope.now) (length c.args.scope.now.sorts) c.args.table.now (shapes_in c.args.forms)
     c.loop-form.table c.loop-form.ids.items (shapes_in c.loop-form.left) (shapes_in c.in-Some.behind)
     (shape_of c.in-Some.form) c.loop-form.invariant c.in-Some.ensures c.read_form.new.table
     c.in_ok-read_form.field-0 c.push.new.self.items c.in_ok-read_form.ensures.reads

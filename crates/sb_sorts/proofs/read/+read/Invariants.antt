@@ -1,4 +1,4 @@
-use Rattle.std.proofs.Common.{◌+◌, ◌*◌}
+use Rattle.std.proofs.Common.{◌+◌, ◌*◌, length}
 use Rattle.sb_reader.specs.Forms.{shape_of, shapes_in}
 use Rattle.sb_sorts.specs.Scopes.{names_in}
 use Rattle.sb_sorts.proofs.Reading.{HasRead}
@@ -7,7 +7,7 @@ use Rattle.sb_sorts.proofs.read.+read.Given as goal
 
 abbrev pub invariant-read_all-loop-form : goal.invariant-read_all-loop-form
 invariant-read_all-loop-form l =
-    HasRead (names_in l.scope) l.scope.declared l.fn.table (shapes_in l.forms) l.table l.ids.items (shapes_in l.left)
+    HasRead (names_in l.scope) (length l.scope.sorts) l.fn.table (shapes_in l.forms) l.table l.ids.items (shapes_in l.left)
 
 abbrev pub decreases-read_all-loop-form : goal.decreases-read_all-loop-form
 decreases-read_all-loop-form l = size_of_all (shapes_in l.left)

@@ -10,7 +10,11 @@ loop-place-preserved c =
     let place = c.loop-place.place in
     elim c.match-named.branch [
       | in-Constant+in_ok-push w ↦ ap (λ found. map constant_in found.items) w.found-is
-          ∙ constant_step names place (record { name = c.in-Some.name; serial = w.in-Constant.serial }) c.in-Some.named
+          ∙ constant_step names place (record {
+            name = c.in-Some.name;
+            serial = w.in-Constant.serial;
+            sort = w.in-Constant.sort;
+          }) c.in-Some.named
           c.loop-place.found.items _ c.in-Some.ensures w.in-Constant.is w.in_ok-push.ensures.items
           c.loop-place.invariant
       | in_default-named w ↦ ap (λ found. map constant_in found.items) w.found-is

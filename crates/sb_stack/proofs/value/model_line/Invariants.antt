@@ -6,4 +6,4 @@ use Rattle.sb_stack.proofs.value.model_line.Given as goal
 abbrev pub invariant-loop-place : goal.invariant-loop-place
 invariant-loop-place l =
     l.text.items
-    ≡ 40 ∷ spaced (map (definition_by l.words) (map constant_in (take l.place l.constants)))
+    ≡ 40 ∷ spaced (map (definition_by l.words l.truths) (map constant_in (take l.place l.constants)))

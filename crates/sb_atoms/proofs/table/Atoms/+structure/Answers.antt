@@ -1,4 +1,4 @@
-use Rattle.std.proofs.Common.{◌≡◌, [], Some, None, true, if◌then◌else◌, option_map, refl, sym, ap, subst, ◌∙◌, arith}
+use Rattle.std.proofs.Common.{◌≡◌, [], Some, None, true, if◌then◌else◌, refl, sym, ap, subst, ◌∙◌, arith}
 use Rattle.std.specs.List.{list_all}
 use Rattle.sb_meaning.specs.Terms.{Term, text}
 use Rattle.sb_regex.proofs.CallerLemmas.{extends_same}
@@ -11,11 +11,13 @@ use Rattle.sb_rulebook.specs.Translation.{translation, conjunction, negated}
 use Rattle.sb_atoms.specs.Translated.{has_declared}
 use Rattle.sb_atoms.specs.Connecting.{connected}
 use Rattle.sb_atoms.specs.Growing.{is_below, are_below, Gives, GivesLike, Finds, IsLiteralOf}
-use Rattle.sb_atoms.specs.Shapes.{connected_literal, literals_of, parts_of, words_literal}
-use Rattle.sb_atoms.proofs.Arguments.{ok_map, items_some, term_within, term_read, terms_done}
+use Rattle.sb_fragment.specs.Shapes.{parts_of}
+use Rattle.sb_atoms.specs.Shapes.{connected_literal, literals_of, words_literal}
+use Rattle.sb_fragment.proofs.CallerLemmas.{ok_map, items_some, term_within, term_read, terms_done}
 use Rattle.sb_atoms.proofs.Growth.{moves_both, moves_given, moves_gates}
-use Rattle.sb_atoms.proofs.Structured.{asked_structure}
-use Rattle.sb_atoms.proofs.Found.{all_at, collected_start, collected_step, collected_stop, collected_end, constant_finds, constant_moves, declared_asked, declared_parts, finds_other, finds_given, part_stays, ready_moved, then_made, then_none}
+use Rattle.sb_fragment.proofs.CallerLemmas.{asked_structure, connected_structure, words_structure}
+use Rattle.sb_atoms.proofs.Structured.{always_translated, alone_translated, connected_translated, words_translated}
+use Rattle.sb_atoms.proofs.Found.{all_at, collected_start, collected_step, collected_stop, collected_end, constant_finds, constant_moves, declared_asked, declared_parts, finds_other, finds_given, part_stays, ready_moved, then_made}
 use Rattle.sb_atoms.proofs.table.Atoms.+structure.Goals as goal
 
 pub structure-member-requires-clause-kind : goal.structure-member-requires-clause-kind
@@ -75,7 +77,7 @@ structure-returns-in-Always-clause-ok m c =
     c.always.result
     (λ found h. finds_other c.args.adds c.args.arena.now c.always.new.self
     (λ atoms. if c.in-Always.truth then conjunction atoms [] else negated (conjunction atoms []))
-    (λ atoms. translation atoms t) found (λ atoms. sym (shape.1 atoms))
+    (λ atoms. translation atoms t) found (λ atoms. sym (always_translated t c.in-Always.truth shape atoms))
     (finds_given c.args.adds c.args.arena.now c.always.new.self _ found h)) c.always.ensures.ok
 
 pub structure-returns-in-Always-clause-moves : goal.structure-returns-in-Always-clause-moves
@@ -90,6 +92,37 @@ structure-returns-in-Always-clause-ready m c =
     c.args.self.now c.always.new.self r.right r.normals r.regexes
     (moves_gates c.args.adds (λ sorts. true) c.args.arena.now c.args.self.now c.always.new.self c.always.ensures.grows)
 
+pub structure-returns-in-Alone-clause-ok : goal.structure-returns-in-Alone-clause-ok
+structure-returns-in-Alone-clause-ok m c =
+    let t = term_at c.args.table.now c.args.id in
+    let shape = rw c.in-Alone.is at c.shape_of.ensures in
+    ok_map (λ found. Gives is_below c.args.adds c.always-in-Alone.new.self (λ atoms. conjunction atoms []) found)
+    (λ found. Finds is_below c.args.adds c.args.arena.now c.always-in-Alone.new.self (λ atoms. translation atoms t) found)
+    c.always-in-Alone.result
+    (λ found h. finds_other c.args.adds c.args.arena.now c.always-in-Alone.new.self (λ atoms. conjunction atoms [])
+    (λ atoms. translation atoms t) found (λ atoms. sym (alone_translated t shape atoms))
+    (finds_given c.args.adds c.args.arena.now c.always-in-Alone.new.self _ found h)) c.always-in-Alone.ensures.ok
+
+pub structure-returns-in-Alone-clause-moves : goal.structure-returns-in-Alone-clause-moves
+structure-returns-in-Alone-clause-moves m c =
+    moves_gates c.args.adds (λ sorts. has_declared sorts (term_at c.args.table.now c.args.id)) c.args.arena.now
+    c.args.self.now c.always-in-Alone.new.self c.always-in-Alone.ensures.grows
+
+pub structure-returns-in-Alone-clause-ready : goal.structure-returns-in-Alone-clause-ready
+structure-returns-in-Alone-clause-ready m c =
+    let r = c.requires.ready in
+    ready_moved c.args.table.now c.args.measures.now c.args.normals.now c.args.arena.now c.args.arena.now
+    c.args.self.now c.always-in-Alone.new.self r.right r.normals r.regexes
+    (moves_gates c.args.adds (λ sorts. true) c.args.arena.now c.args.self.now c.always-in-Alone.new.self
+    c.always-in-Alone.ensures.grows)
+
+pub structure-connection-requires : goal.structure-connection-requires
+structure-connection-requires m c =
+    let shape = rw c.in-Connected.is at c.shape_of.ensures in
+    let structure = sym (connected_structure (term_at c.args.table.now c.args.id) c.in-Connected.connective shape)
+    ∙ c.requires.structure in
+    (omega (arith, c.decreases), (c.requires.number, (structure, c.requires.ready)))
+
 pub structure-returns-in-Connected-clause-ok : goal.structure-returns-in-Connected-clause-ok
 structure-returns-in-Connected-clause-ok m c =
     let t = term_at c.args.table.now c.args.id in
@@ -100,11 +133,13 @@ structure-returns-in-Connected-clause-ok m c =
     c.connection.result
     (λ found h. finds_other c.args.adds c.connection.new.arena c.connection.new.self
     (λ atoms. connected_literal atoms c.in-Connected.connective (parts_of t)) (λ atoms. translation atoms t) found
-    (λ atoms. sym (shape.1 (sym shape.0 ∙ c.requires.structure) atoms)) h) c.connection.ensures.ok
+    (λ atoms. sym (connected_translated t c.in-Connected.connective shape
+    (sym (connected_structure t c.in-Connected.connective shape) ∙ c.requires.structure) atoms)) h) c.connection.ensures.ok
 
 pub structure-words-requires-clause-pairs : goal.structure-words-requires-clause-pairs
 structure-words-requires-clause-pairs m c =
-    let shape = rw c.in-Words.is at c.shape_of.ensures in sym shape.0 ∙ c.requires.structure
+    let shape = rw c.in-Words.is at c.shape_of.ensures in
+    sym (words_structure (term_at c.args.table.now c.args.id) c.in-Words.distinct shape) ∙ c.requires.structure
 
 pub structure-returns-in-Words-clause-ok : goal.structure-returns-in-Words-clause-ok
 structure-returns-in-Words-clause-ok m c =
@@ -116,7 +151,8 @@ structure-returns-in-Words-clause-ok m c =
     c.words.result
     (λ found h. finds_other c.args.adds c.words.new.arena c.words.new.self
     (λ atoms. words_literal atoms c.in-Words.distinct (parts_of t)) (λ atoms. translation atoms t) found
-    (λ atoms. sym (shape.1 (sym shape.0 ∙ c.requires.structure) atoms)) h) c.words.ensures.ok
+    (λ atoms. sym (words_translated t c.in-Words.distinct shape
+    (sym (words_structure t c.in-Words.distinct shape) ∙ c.requires.structure) atoms)) h) c.words.ensures.ok
 
 pub connection-connected-requires : goal.connection-connected-requires
 connection-connected-requires m c =

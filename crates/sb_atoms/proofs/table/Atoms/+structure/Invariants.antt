@@ -1,4 +1,4 @@
-use Rattle.std.proofs.Common.{◌≡◌, ◌+◌, ◌*◌, true, take}
+use Rattle.std.proofs.Common.{◌+◌, ◌*◌, take}
 use Rattle.sb_rulebook.specs.Translation.{translation}
 use Rattle.sb_term.specs.Numbered.{term_at, terms_at}
 use Rattle.sb_atoms.specs.Translated.{has_declared}

@@ -4,7 +4,7 @@ use Rattle.sb_lit.specs.declared.clause.Lit.{Lit}
 use Rattle.sb_lit.specs.Clauses.{negation}
 use Rattle.sb_rulebook.specs.Translation.{choice, conjunction, implication}
 use Rattle.sb_atoms.specs.Growing.{is_below, Gives, GivesLike}
-use Rattle.sb_atoms.proofs.Arguments.{ok_map}
+use Rattle.sb_fragment.proofs.CallerLemmas.{ok_map}
 use Rattle.sb_atoms.proofs.Growth.{gates_both, gates_longer}
 use Rattle.sb_atoms.proofs.Connected.{below_more, all_below_more, below_at, two_below, gives_same, gives_nothing, not_three, three_of, choice_first_missing, choice_second_missing, choice_both}
 use Rattle.sb_atoms.proofs.table.Atoms.choice.Goals as goal

@@ -1,10 +1,10 @@
-use Rattle.std.proofs.Common.{length, option_map, refl, sym, ap, ◌∙◌}
+use Rattle.std.proofs.Common.{length, option_map, ap, ◌∙◌}
 use Rattle.std.specs.Prelude.{vec_items}
 use Rattle.sb_rulebook.specs.Translation.{conjunction}
-use Rattle.sb_atoms.specs.declared.shape.Connective.TheVariants as connective
+use Rattle.sb_fragment.specs.declared.shape.Connective.TheVariants as connective
 use Rattle.sb_atoms.specs.Connecting.{connected}
 use Rattle.sb_atoms.specs.Growing.{is_below, are_pairs_below, Gives, GivesLike}
-use Rattle.sb_atoms.proofs.Arguments.{ok_map, items_some}
+use Rattle.sb_fragment.proofs.CallerLemmas.{ok_map, items_some}
 use Rattle.sb_atoms.proofs.Growth.{gates_both}
 use Rattle.sb_atoms.proofs.Connected.{compared_below, comparison_made, comparison_missing}
 use Rattle.sb_atoms.proofs.table.Atoms.comparison.Goals as goal

@@ -3,7 +3,7 @@ use Rattle.sb_lit.specs.declared.clause.Lit.{Lit}
 use Rattle.sb_rulebook.specs.Translation.{conjunction}
 use Rattle.sb_rulebook.specs.Atoms.{and_atom}
 use Rattle.sb_atoms.specs.Growing.{is_below, Gives, IsLiteralOf}
-use Rattle.sb_atoms.proofs.Arguments.{ok_map}
+use Rattle.sb_fragment.proofs.CallerLemmas.{ok_map}
 use Rattle.sb_atoms.proofs.Connected.{gives_first, gives_conjunction, grown_conjunction}
 use Rattle.sb_atoms.proofs.table.Atoms.conjunction.Goals as goal
 use Rattle.sb_atoms.proofs.table.Atoms.conjunction.Goals.{then-as_slice-lt1, else-as_slice-lt1+else-this-lt2}

@@ -1,9 +1,8 @@
-use Rattle.std.proofs.Common.{refl, sym, ap, ◌∙◌}
 use Rattle.sb_rulebook.specs.Translation.{conjunction, disjunction, implications, exclusive, choice}
-use Rattle.sb_atoms.specs.declared.shape.Connective.TheVariants as connective
+use Rattle.sb_fragment.specs.declared.shape.Connective.TheVariants as connective
 use Rattle.sb_atoms.specs.Connecting.{connected}
 use Rattle.sb_atoms.specs.Growing.{is_below, Gives, GivesLike}
-use Rattle.sb_atoms.proofs.Arguments.{ok_map}
+use Rattle.sb_fragment.proofs.CallerLemmas.{ok_map}
 use Rattle.sb_atoms.proofs.Connected.{gives_denied, gives_like, like_items}
 use Rattle.sb_atoms.proofs.table.Atoms.connected.Goals as goal
 

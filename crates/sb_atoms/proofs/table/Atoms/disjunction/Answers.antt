@@ -1,7 +1,7 @@
 use Rattle.std.proofs.Common.{length, refl, ap, ◌∙◌}
 use Rattle.sb_rulebook.specs.Translation.{conjunction, disjunction, negated}
 use Rattle.sb_atoms.specs.Growing.{is_below, are_below, Gives}
-use Rattle.sb_atoms.proofs.Arguments.{ok_map}
+use Rattle.sb_fragment.proofs.CallerLemmas.{ok_map}
 use Rattle.sb_atoms.proofs.Ordered.{below_negations}
 use Rattle.sb_atoms.proofs.Connected.{gives_same}
 use Rattle.sb_atoms.proofs.table.Atoms.disjunction.Goals as goal

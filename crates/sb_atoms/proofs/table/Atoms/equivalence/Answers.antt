@@ -1,7 +1,7 @@
 use Rattle.sb_rulebook.specs.Translation.{equivalence}
 use Rattle.sb_atoms.specs.Numbered.{atom_in}
 use Rattle.sb_atoms.specs.Growing.{is_below, Gives, IsLiteralOf}
-use Rattle.sb_atoms.proofs.Arguments.{ok_map}
+use Rattle.sb_fragment.proofs.CallerLemmas.{ok_map}
 use Rattle.sb_atoms.proofs.Connected.{gives_equivalence, grown_equivalence}
 use Rattle.sb_atoms.proofs.table.Atoms.equivalence.Goals as goal
 

@@ -3,7 +3,7 @@ use Rattle.sb_term.specs.Numbered.{term_at}
 use Rattle.sb_rulebook.specs.Translation.{translation}
 use Rattle.sb_atoms.specs.Translated.{brought_translation}
 use Rattle.sb_atoms.specs.Growing.{is_below, Finds}
-use Rattle.sb_atoms.proofs.Arguments.{ok_map}
+use Rattle.sb_fragment.proofs.CallerLemmas.{ok_map}
 use Rattle.sb_atoms.proofs.Found.{brought_is, brought_none, finds_none, finds_other}
 use Rattle.sb_atoms.proofs.table.Atoms.find_or_add.Goals as goal
 

@@ -1,11 +1,10 @@
-use Rattle.std.proofs.Common.{◌≡◌, ◌<◌, length, true, false, None, IfSome, refl}
+use Rattle.std.proofs.Common.{◌≡◌, length, false}
 use Rattle.sb_term.specs.Numbered.{term_at}
 use Rattle.sb_atoms.specs.Numbered.{atoms_in}
-use Rattle.sb_atoms.specs.Translated.{brought_translation, has_declared, HasNoLiteral}
+use Rattle.sb_atoms.specs.Translated.{brought_translation, has_declared}
 use Rattle.sb_atoms.specs.Growing.{is_below, Finds}
-use Rattle.sb_atoms.proofs.Arguments.{ok_map}
-use Rattle.sb_atoms.proofs.Growth.{grown_defined, grown_extends, grown_still}
-use Rattle.sb_atoms.proofs.Found.{finds_known}
+use Rattle.sb_fragment.proofs.CallerLemmas.{ok_map}
+use Rattle.sb_atoms.proofs.Growth.{grown_still}
 use Rattle.sb_atoms.proofs.table.Atoms.find_translation.Goals as goal
 
 pub find_or_add-requires-clause-ready : goal.find_or_add-requires-clause-ready

@@ -1,7 +1,7 @@
 use Rattle.std.proofs.Common.{length, [], ◌∷◌, refl, ap, ◌∙◌}
 use Rattle.sb_rulebook.specs.Translation.{conjunction, implication, negated}
 use Rattle.sb_atoms.specs.Growing.{is_below, Gives}
-use Rattle.sb_atoms.proofs.Arguments.{ok_map}
+use Rattle.sb_fragment.proofs.CallerLemmas.{ok_map}
 use Rattle.sb_atoms.proofs.Connected.{gives_same, pair_below}
 use Rattle.sb_atoms.proofs.table.Atoms.implication.Goals as goal
 

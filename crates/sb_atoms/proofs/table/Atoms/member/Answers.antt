@@ -7,10 +7,10 @@ use Rattle.sb_rulebook.specs.Translation.{translation}
 use Rattle.sb_atoms.specs.Numbered.{atom_in}
 use Rattle.sb_atoms.specs.Translated.{IsAdded}
 use Rattle.sb_atoms.specs.Growing.{is_below, Finds, IsLiteralOf}
-use Rattle.sb_atoms.proofs.Arguments.{ok_map}
+use Rattle.sb_fragment.proofs.CallerLemmas.{ok_map}
 use Rattle.sb_atoms.proofs.CallerLemmas.{regexes_kept}
 use Rattle.sb_atoms.proofs.Growth.{grown_regexes}
-use Rattle.sb_atoms.proofs.Found.{member_none, member_finds, member_moves, member_added, members_added, ready_moved}
+use Rattle.sb_atoms.proofs.Found.{member_finds, member_moves, member_added, members_added, ready_moved}
 use Rattle.sb_atoms.proofs.table.Atoms.member.Goals as goal
 
 pub returns-in_err-atom-clause-ready : goal.returns-in_err-atom-clause-ready

@@ -7,8 +7,8 @@ use Rattle.sb_rulebook.specs.AtomRules.{is_declared}
 use Rattle.sb_rulebook.specs.Translation.{translation, word_equality}
 use Rattle.sb_atoms.specs.Translated.{has_declared}
 use Rattle.sb_atoms.specs.Growing.{is_below, Finds}
-use Rattle.sb_atoms.specs.Shapes.{IsPair, equality_of}
-use Rattle.sb_atoms.proofs.Arguments.{ok_map, some_pair}
+use Rattle.sb_fragment.specs.Memberships.{equality}
+use Rattle.sb_fragment.proofs.CallerLemmas.{ok_map, some_pair}
 use Rattle.sb_atoms.proofs.Growth.{moves_given}
 use Rattle.sb_atoms.proofs.Found.{finds_other, pair_equality, declared_pair}
 use Rattle.sb_atoms.proofs.table.Atoms.word_equality.Goals as goal
@@ -24,8 +24,8 @@ returns-clause-ok c =
     (λ found. Finds is_below c.args.adds c.member.new.arena c.member.new.self (λ atoms. word_equality atoms t u) found)
     c.member.result
     (λ found h. finds_other c.args.adds c.member.new.arena c.member.new.self
-    (λ atoms. translation atoms (equality_of t u)) (λ atoms. word_equality atoms t u) found
-    (pair_equality t u c.requires.pair) (h (equality_of t u) p.asks))
+    (λ atoms. translation atoms (equality t u)) (λ atoms. word_equality atoms t u) found
+    (pair_equality t u c.requires.pair) (h (equality t u) p.asks))
     c.member.ensures.ok
 
 pub returns-clause-moves : goal.returns-clause-moves

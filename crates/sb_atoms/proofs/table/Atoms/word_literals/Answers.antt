@@ -4,8 +4,9 @@ use Rattle.sb_term.specs.Numbered.{term_at}
 use Rattle.sb_rulebook.specs.Translation.{word_equality}
 use Rattle.sb_atoms.specs.Translated.{has_declared}
 use Rattle.sb_atoms.specs.Connecting.{signed, with_sign}
-use Rattle.sb_atoms.specs.Shapes.{have_declared_pairs, terms_of_pairs}
-use Rattle.sb_atoms.proofs.Arguments.{number_at, words_at, pair_at, pair_within, pair_read, pairs_done}
+use Rattle.sb_fragment.specs.Shapes.{terms_of_pairs}
+use Rattle.sb_atoms.specs.Shapes.{have_declared_pairs}
+use Rattle.sb_fragment.proofs.CallerLemmas.{number_at, words_at, pair_at, pair_within, pair_read, pairs_done}
 use Rattle.sb_atoms.proofs.Growth.{moves_both, moves_given}
 use Rattle.sb_atoms.proofs.Found.{all_at, collected_start, collected_step, collected_stop, collected_end, finds_signed, signed_is, signed_nothing, word_stays}
 use Rattle.sb_atoms.proofs.table.Atoms.word_literals.Goals as goal

@@ -1,8 +1,9 @@
-use Rattle.std.proofs.Common.{◌≡◌, take}
+use Rattle.std.proofs.Common.{take}
 use Rattle.sb_rulebook.specs.Translation.{word_equality}
 use Rattle.sb_atoms.specs.Connecting.{signed}
 use Rattle.sb_atoms.specs.Growing.{AreReady}
-use Rattle.sb_atoms.specs.Shapes.{terms_of_pairs, have_declared_pairs}
+use Rattle.sb_fragment.specs.Shapes.{terms_of_pairs}
+use Rattle.sb_atoms.specs.Shapes.{have_declared_pairs}
 use Rattle.sb_atoms.proofs.Found.{Collected}
 use Rattle.sb_atoms.proofs.table.Atoms.word_literals.Given as goal
 

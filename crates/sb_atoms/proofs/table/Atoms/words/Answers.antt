@@ -5,10 +5,12 @@ use Rattle.sb_term.specs.Numbered.{term_at}
 use Rattle.sb_script.specs.Brought.{is_pair}
 use Rattle.sb_rulebook.specs.Translation.{conjunction, word_equality}
 use Rattle.sb_atoms.specs.Translated.{has_declared}
-use Rattle.sb_atoms.specs.Connecting.{compared, signed}
+use Rattle.sb_fragment.specs.Compared.{compared}
+use Rattle.sb_atoms.specs.Connecting.{signed}
 use Rattle.sb_atoms.specs.Growing.{is_below, are_below, Gives, Finds}
-use Rattle.sb_atoms.specs.Shapes.{are_numbers, have_declared_pairs, parts_of, terms_of_pairs, word_literals, words_literal}
-use Rattle.sb_atoms.proofs.Arguments.{ok_map, items_some, numbers_compared, terms_compared}
+use Rattle.sb_fragment.specs.Shapes.{are_numbers, parts_of, terms_of_pairs}
+use Rattle.sb_atoms.specs.Shapes.{have_declared_pairs, word_literals, words_literal}
+use Rattle.sb_fragment.proofs.CallerLemmas.{ok_map, items_some, numbers_compared, terms_compared}
 use Rattle.sb_atoms.proofs.Growth.{moves_both, moves_given, moves_gates}
 use Rattle.sb_atoms.proofs.Connected.{gives_like}
 use Rattle.sb_atoms.proofs.Found.{declared_compared, ready_moved, then_made, then_none, word_stays}

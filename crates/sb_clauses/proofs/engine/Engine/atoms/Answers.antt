@@ -7,4 +7,4 @@ pub returns : goal.returns
 returns c = λ reserved wide.
     ap (λ (s : State). has_room_for reserved s.kept) (sym c.self.view_is)
     ∙ all_fit (length c.self.inside.first.lists.lists) reserved c.self.inside.clauses
-    (omega (arith, wide, c.saturating_sub.ensures, c.len.ensures)) c.self.invariant.room.first_lists
+    (omega (arith, wide, c.saturating_sub.ensures, c.len.ensures)) c.self.invariant.0.room.first_lists

@@ -2,7 +2,7 @@ use Rattle.std.proofs.Common.{length, [], refl, sym, ap, ◌∙◌, subst}
 use Rattle.std.proofs.lemmas.List.{with_items_is}
 use Rattle.std.specs.Vec.{with_items}
 use Rattle.sb_script.specs.Verdicts.{IsVerdict, is_sat}
-use Rattle.sb_stack.specs.Stacked.{Stacked, state_of, live_serials, values_at}
+use Rattle.sb_stack.specs.Stacked.{Stacked, state_of, live_constants, values_at}
 use Rattle.sb_stack.specs.declared.stack.Mode.TheVariants as mode
 use Rattle.sb_regex.proofs.CallerLemmas.{extends_more}
 use Rattle.sb_decide.specs.Knowing.{Knows}
@@ -20,7 +20,7 @@ pub returns-then-is_some-clause-verdict : goal.returns-then-is_some-clause-verdi
 returns-then-is_some-clause-verdict c =
     dead_given c.fragment_is_of_each.ensures c.normal_has_terms_words.ensures c.take_in.new.self c.args.stack.now
     c.in_ok-take_in.ensures.knows (c.in_ok-take_in.ensures.all c.if-not-branch.false)
-    (sym c.is_some.ensures ∙ c.if-is_some.true)
+    (sym c.is_some.ensures ∙ c.if-is_some.true) c.in_ok-take_in.ensures.named
     c.declared-declared.ensures.fit
 
 pub returns-in-Dead-clause-verdict : goal.returns-in-Dead-clause-verdict
@@ -31,7 +31,7 @@ returns-in-Dead-clause-verdict c =
     (c.in_ok-take_in.ensures.all c.if-not-branch.false) c.in_ok-serial.ensures.extends
     c.in_ok-serial.ensures.graph (rw c.deref.ensures.value at c.in_ok-serial.ensures.rooted)
     (rw (c.in-Dead.is, c.deref.ensures.value) at c.in_ok-serial.ensures.words)
-    c.declared-declared.ensures.fit
+    c.in_ok-take_in.ensures.named c.declared-declared.ensures.fit
 
 pub returns-in-Dead-clause-knows : goal.returns-in-Dead-clause-knows
 returns-in-Dead-clause-knows c =
@@ -53,7 +53,10 @@ returns-in_ok-fill-in-Found-clause-verdict c =
     at c.in_ok-serial.ensures.words)
     c.take_words-words.ensures.words c.declared-declared.ensures.value c.in_ok-fill-in-Found.ensures
     c.deref_mut.ensures.value c.deref_mut-in-Found.ensures.value c.take_over.ensures in
-    subst (λ ws. IsVerdict (state_of c.args.stack.now) [] (is_sat (values_at (live_serials c.args.stack.now) ws)))
+    subst (λ ts. IsVerdict (state_of c.args.stack.now) []
+    (is_sat (values_at (live_constants c.args.stack.now) (with_items c.fill.new.words c.take_over.new.words).items ts)))
+    (sym c.new.ensures.items)
+    (subst (λ ws. IsVerdict (state_of c.args.stack.now) [] (is_sat (values_at (live_constants c.args.stack.now) ws [])))
     (sym (with_items_is c.fill.new.words c.take_over.new.words
     (words_long c.least_words.new.arena c.take_in.new.self.members.items
     c.take_in.new.self.constants.items c.take_over.new.constants
@@ -63,7 +66,7 @@ returns-in_ok-fill-in-Found-clause-verdict c =
     c.take_in.new.self c.least_words.new.arena c.least_words.new.graph c.least_words.new.roots c.args.stack.now
     c.take_over.new.constants c.take_over.new.words c.in_ok-take_in.ensures.knows all c.in_ok-serial.ensures.extends
     c.in_ok-serial.ensures.graph (rw c.deref.ensures.value at c.in_ok-serial.ensures.rooted) over
-    c.in_ok-take_in.ensures.named c.declared-declared.ensures.fit)
+    c.in_ok-take_in.ensures.named c.declared-declared.ensures.fit))
 
 pub returns-in_ok-fill-in-Found-clause-knows : goal.returns-in_ok-fill-in-Found-clause-knows
 returns-in_ok-fill-in-Found-clause-knows c =
@@ -94,10 +97,10 @@ returns-in_ok-fill-in-Found-clause-knows c =
     } in
     subst
     (λ (s : Stacked). Knows after
-    (record s { mode = mode.Sat; words = (with_items c.fill.new.words c.take_over.new.words).items }))
+    (record s { mode = mode.Sat; words = (with_items c.fill.new.words c.take_over.new.words).items; truths = c.new.result.items }))
     (sym c.take_words-words.ensures.rest)
     (knows_over c.normals_stay.ensures c.take_in.new.self after c.args.stack.now
-    (with_items c.fill.new.words c.take_over.new.words).items mode.Sat c.in_ok-take_in.ensures.knows
+    (with_items c.fill.new.words c.take_over.new.words).items c.new.result.items mode.Sat c.in_ok-take_in.ensures.knows
     c.in_ok-serial.ensures.extends c.in_ok-serial.ensures.graph
     (rw c.deref.ensures.value at c.in_ok-serial.ensures.rooted)
     (subst (λ cs. IsTakingOver c.least_words.new.arena c.take_in.new.self.members.items

@@ -7,7 +7,7 @@ use Rattle.sb_decide.proofs.decide.Decider.take_in.Goals as goal
 pub loop-assertions-init : goal.loop-assertions-init
 loop-assertions-init c =
     let room = c.in_ok-make_room.ensures in
-    let count : c.declared.result ≡ c.args.stack.now.scope.declared = c.declared.ensures.value in
+    let count : c.declared.result ≡ length c.args.stack.now.scope.sorts = c.declared.ensures.value in
     let more : length c.args.self.now.constants.items ≤ c.declared.result = omega (arith, count, c.requires.declared)
     in (
       record {

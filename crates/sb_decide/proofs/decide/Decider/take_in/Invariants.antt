@@ -4,7 +4,7 @@ use Rattle.sb_decide.specs.Knowing.{Knows}
 use Rattle.sb_decide.proofs.decide.Decider.take_in.Given as goal
 
 abbrev pub invariant-loop-assertions : goal.invariant-loop-assertions
-invariant-loop-assertions l = Knows l.self l.fn.stack × (length l.self.constants.items ≡ l.fn.stack.scope.declared)
+invariant-loop-assertions l = Knows l.self l.fn.stack × (length l.self.constants.items ≡ length l.fn.stack.scope.sorts)
     × Extends l.fn.self.arena l.self.arena
     × (l.self.graph ≡ l.fn.self.graph)
 

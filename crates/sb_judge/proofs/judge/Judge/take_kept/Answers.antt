@@ -21,7 +21,7 @@ returns-in-Ok-clause-ok c p a =
     kept_taken (waiting_in (state_of stack)) c.args.self.now c.follows.new.self (asked_in (state_of stack))
     (line_in c.args.line.now) p a
     (c.in-Ok.ensures.judges (asked_in (state_of stack)) (asked_over stack c.table.result.now c.assertions.result.now
-    c.declared-declared.result c.table.ensures c.assertions.ensures.value c.declared-declared.ensures.value
+    c.sorts.result.now c.table.ensures c.assertions.ensures.value c.sorts.ensures.value
     c.assertions.ensures.levels))
 
 pub returns-in-Err-Refused-clause-err : goal.returns-in-Err-Refused-clause-err
@@ -31,7 +31,7 @@ returns-in-Err-Refused-clause-err c p a =
     let judged = subst (λ r. Judges r asked c.args.self.now.kept c.follows.new.self (line_in c.args.line.now))
     (c.in-Err-Refused.is ∙ ap Err c.in-Err-Refused.field-0-is)
     (c.follows.ensures.judges asked (asked_over stack c.table.result.now c.assertions.result.now
-    c.declared-declared.result c.table.ensures c.assertions.ensures.value c.declared-declared.ensures.value
+    c.sorts.result.now c.table.ensures c.assertions.ensures.value c.sorts.ensures.value
     c.assertions.ensures.levels)) in
     kept_refused (waiting_in (state_of stack)) c.args.self.now asked (line_in c.args.line.now) p
     (refusal_in c.in-Err-Refused.refusal) c.of_refusal.result a (λ others. (judged others).0) c.of_refusal.ensures

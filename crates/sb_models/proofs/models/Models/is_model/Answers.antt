@@ -1,11 +1,12 @@
-use Rattle.std.proofs.Common.{arith, map, sym, ap, ◌∙◌}
+use Rattle.std.proofs.Common.{arith, length, map, sym, ap, ◌∙◌}
 use Rattle.std.proofs.lemmas.List.{length-map}
 use Rattle.std.specs.List.{list_all}
 use Rattle.sb_fragment.specs.Rules.{is_decided}
 use Rattle.sb_proof.specs.Lines.{value_in}
-use Rattle.sb_stack.specs.Stacked.{state_of}
+use Rattle.sb_stack.specs.Stacked.{state_of, live_in}
+use Rattle.sb_models.specs.Tried.{are_kinds}
 use Rattle.sb_stack.proofs.CallerLemmas.{live_laid}
-use Rattle.sb_models.proofs.Judging.{other_number, model_of}
+use Rattle.sb_models.proofs.Judging.{other_kinds, other_number, model_of}
 use Rattle.sb_models.proofs.models.Models.is_model.Goals as goal
 
 pub returns-then-values-len-clause-ok : goal.returns-then-values-len-clause-ok
@@ -21,6 +22,23 @@ returns-then-values-len-clause-ok c =
       c.in_ok-constants.constants.ok.0,
     )))
 
+pub are_kinds-requires : goal.are_kinds-requires
+are_kinds-requires c =
+    omega (
+      arith,
+      c.len.ensures,
+      c.if-values-len.false,
+      c.in_ok-constants.constants.ok.0,
+      ap length c.deref.ensures.value,
+    )
+
+pub returns-then-not-are_kinds-clause-ok : goal.returns-then-not-are_kinds-clause-ok
+returns-then-not-are_kinds-clause-ok c =
+    other_kinds c.args.stack.now (map value_in c.args.values.now) c.declared-declared.ensures.fit
+    (ap (λ ds. are_kinds ds (map value_in c.args.values.now))
+    (sym (ap (map live_in) c.deref.ensures.value ∙ c.in_ok-constants.ensures))
+    ∙ (sym c.are_kinds.ensures ∙ c.if-not-are_kinds.true))
+
 pub hold_under-requires-clause-decided : goal.hold_under-requires-clause-decided
 hold_under-requires-clause-decided c =
     sym (c.fragment_is_of_each.ensures (state_of c.args.stack.now)
@@ -33,11 +51,9 @@ hold_under-requires-clause-long c =
 pub returns-clause-ok : goal.returns-clause-ok
 returns-clause-ok c =
     model_of c.hold_under.result c.args.stack.now (map value_in c.args.values.now) c.in_ok-constants.constants.items
-    c.declared-declared.ensures.fit c.in_ok-constants.ensures
-    (omega (
-      arith,
-      c.len.ensures,
-      c.if-values-len.false,
-      length-map c.args.values.now value_in,
-      c.in_ok-constants.constants.ok.0,
-    )) c.hold_under.ensures.ok
+    c.declared-declared.ensures.fit c.assertions-assertions.ensures.named
+    (sym (c.fragment_is_of_each.ensures (state_of c.args.stack.now)
+    ∙ ap (list_all is_decided) (live_laid c.args.stack.now)) ∙ c.requires.inside) c.in_ok-constants.ensures
+    (ap (λ ds. are_kinds ds (map value_in c.args.values.now))
+    (sym (ap (map live_in) c.deref.ensures.value ∙ c.in_ok-constants.ensures))
+    ∙ (sym c.are_kinds.ensures ∙ c.if-not-are_kinds.false)) c.hold_under.ensures.ok

@@ -1,8 +1,10 @@
-use Rattle.std.proofs.Common.{ap, sym, subst, ◌∙◌}
+use Rattle.std.proofs.Common.{◌≡◌, Option, Some, IfSome, ap, sym, subst, ◌∙◌}
+use Rattle.sb_lit.specs.Kept.{kept_at}
 use Rattle.sb_lit.specs.Budgets.{Spending}
 use Rattle.sb_rulebook.specs.Accepted.{asked_in}
 use Rattle.sb_stack.specs.Stacked.{state_of}
-use Rattle.sb_refute.specs.Backing.{Backs}
+use Rattle.sb_refute.specs.Backing.{Backs, empty_at}
+use Rattle.sb_refute.specs.declared.evidence.EmptyClause.{EmptyClause}
 use Rattle.sb_prover.specs.Proving.{Proving, HaveLevels}
 use Rattle.sb_prover.proofs.Refutations.{refuted-again, refuted-now}
 use Rattle.sb_prover.proofs.prover.Prover.refutation.Goals as goal
@@ -11,7 +13,9 @@ pub returns-in-Some-clause-refuted : goal.returns-in-Some-clause-refuted
 returns-in-Some-clause-refuted g c = λ before backs counted.
     refuted-again c.args.stack.now before c.args.decider.now.arena c.args.decider.now.graph.memo
     c.args.self.now.evidence c.in-Some.empty (g.L.Tape.told c.args.tape.now) backs
-    (ap (λ (p : Proving). p.evidence.refuted) (sym c.self.view_is) ∙ sym c.refuted.ensures ∙ c.in-Some.is)
+    (ap (λ (p : Proving). kept_at p.evidence.kept c.in-Some.empty.clause.0) (sym c.self.view_is)
+    ∙ subst (λ (o : Option EmptyClause). IfSome o
+    (λ e. kept_at c.self.inside.evidence.kept e.clause.0 ≡ Some (empty_at e))) c.in-Some.is c.refuted.ensures.kept)
 
 pub returns-clause-refuted : goal.returns-clause-refuted
 returns-clause-refuted g c = λ before backs counted.

@@ -7,10 +7,27 @@ use Rattle.sb_refute.specs.Backing.{Backing, Backs, EvidencesUncounted, asserted
 use Rattle.sb_refute.specs.Lines.{IsStanding, placed}
 use Rattle.sb_refute.proofs.AtomLines.{alone}
 use Rattle.sb_refute.proofs.Backs.{backs-more}
+use Rattle.sb_refute.proofs.Holding.{stand-atoms}
 use Rattle.sb_refute.proofs.Places.{placed-there, placed-others}
 use Rattle.sb_refute.proofs.Asserting.{brings-atom, is-assertion, both-put}
 use Rattle.sb_refute.proofs.Standing.{stays-claimed, stays-without, without-put}
 use Rattle.sb_refute.proofs.evidence.Evidence.assertion.Goals as goal
+
+pub invariant_of-self : goal.invariant_of-self
+invariant_of-self g c =
+    let i = c.self.inside in (
+      stand-atoms i.atoms c.translate_member.new.self i.engine.kept i.asserted.items i.refuted
+          c.translate_member.ensures.extends c.translate_member.ensures.members c.self.invariant.0,
+      c.self.invariant.1,
+    )
+
+pub invariant_of-self-in-Some-1 : goal.invariant_of-self-in-Some-1
+invariant_of-self-in-Some-1 g c =
+    let i = c.self.inside in (
+      stand-atoms i.atoms c.translate_member.new.self i.engine.kept i.asserted.items i.refuted
+          c.translate_member.ensures.extends c.translate_member.ensures.members c.self.invariant.0,
+      c.self.invariant.1,
+    )
 
 pub returns-in_default-clause-puts : goal.returns-in_default-clause-puts
 returns-in_default-clause-puts g c = λ asked memo before b live.
@@ -132,4 +149,4 @@ returns-clause-others g c = λ other apart.
     ∙ ap (λ (f : Backing). asserted_at f.asserted other) c.self.view_is))
 
 pub define-requires-clause-members : goal.define-requires-clause-members
-define-requires-clause-members g c = c.in_ok-literal.ensures.members c.self.invariant.1
+define-requires-clause-members g c = c.in_ok-literal.ensures.members c.self.invariant.0.members

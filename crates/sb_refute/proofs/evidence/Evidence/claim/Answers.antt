@@ -1,4 +1,5 @@
-use Rattle.std.proofs.Common.{◌<◌, length, Some, sym, ap, subst, ◌∙◌, arith}
+use Rattle.std.proofs.Common.{◌≡◌, ◌<◌, ◌∷◌, [], true, length, refl, sym, ap, subst, ◌∙◌, arith}
+use Rattle.std.proofs.lemmas.Bool.{and_from, lt-ltb}
 use Rattle.std.proofs.lemmas.List.{length-map}
 use Rattle.sb_atoms.specs.Numbered.{over}
 use Rattle.sb_refute.specs.declared.evidence.Asserted.{Asserted}
@@ -16,8 +17,8 @@ returns-clause-puts g c = λ asked rs memo before b is.
     omega (arith, ap length b.atoms, length-map e.atoms (over rs), c.requires.known) in
     subst (λ (f : Backing). EvidencesUncounted asked before rs memo f (g.L.Tape.told c.args.tape.now)
     (g.L.Tape.told c.put.new.self))
-    (sym (counted-and-kept e c.next_clause.new.self c.keep.new.self c.args.place (Some one) c.in_ok-keep.ensures.ok
-    c.in_ok-clause.ensures.ok))
+    (sym (counted-and-kept e c.add.new.self c.keep.new.self c.args.place one (c.args.literal ∷ [])
+    c.in_ok-keep.ensures.ok c.in_ok-clause.ensures.ok refl))
     (assertion-put c.assertion_lines_are_exact.ensures asked before rs memo e c.args.place one
-    (g.L.Tape.told c.args.tape.now) (g.L.Tape.told c.put.new.self) known c.requires.positive
-    c.in_ok-clause.ensures.number (omega arith) (omega arith) b is c.in_ok-put.ensures.ok)
+    (g.L.Tape.told c.args.tape.now) (g.L.Tape.told c.put.new.self) known c.in_ok-clause.ensures.number
+    (omega arith) (omega arith) b is c.in_ok-put.ensures.ok)

@@ -1,7 +1,8 @@
-use Rattle.std.proofs.Common.{◌≡◌, ◌≢◌, ℕ, ◌<◌, true, false, None, length, All, [], sym, ap, subst, ◌∙◌}
+use Rattle.std.proofs.Common.{◌≡◌, ℕ, ◌<◌, true, List, length, All, sym, ap, subst, ◌∙◌}
 use Rattle.std.proofs.lemmas.Result.{on_ok_weaker}
 use Rattle.sb_lang.specs.Constructors.{mkand}
-use Rattle.sb_lit.specs.Hints.{is_repeated}
+use Rattle.sb_lit.specs.declared.clause.Lit.{Lit}
+use Rattle.sb_clauses.specs.Propagation.{are_reserved}
 use Rattle.sb_regex.specs.Numbered.{regexes_at}
 use Rattle.sb_regex.proofs.CallerLemmas.{extends_more, names_below}
 use Rattle.sb_atoms.specs.Numbered.{HaveRegexesBelow}
@@ -9,19 +10,19 @@ use Rattle.sb_atoms.specs.Translated.{are_members}
 use Rattle.sb_refute.specs.Backing.{Backing, Backs}
 use Rattle.sb_refute.specs.Units.{Member, AreOfAtoms, HaveNoWord, AreRegexesOf, numbered}
 use Rattle.sb_refute.proofs.Backs.{backs-more}
-use Rattle.sb_refute.proofs.Memberships.{units-below, some-units, regexes-known, no-word, explored-put, denied-all}
+use Rattle.sb_refute.proofs.Memberships.{units-below, denials-known, some-units, regexes-known, no-word, explored-put, denied-all}
 use Rattle.sb_refute.proofs.evidence.Evidence.deny.Goals as goal
 
 pub regexes_of-requires-clause-below : goal.regexes_of-requires-clause-below
 regexes_of-requires-clause-below g c =
     let us = numbered c.args.units.now.entries in
     subst (λ (v : Backing). All (λ (u : Member). u.0 < length v.atoms) us) (sym c.self.view_is)
-    (units-below c.args.self.now c.requires.members.places us c.literals_are_of_atoms.ensures.of
+    (units-below c.args.self.now c.requires.members.places us c.stands.ensures.of_atoms
     c.requires.members.units)
 
 pub regexes_of-requires-clause-members : goal.regexes_of-requires-clause-members
 regexes_of-requires-clause-members g c =
-    subst (λ (v : Backing). are_members v.atoms ≡ true) (sym c.self.view_is) c.literals_are_of_atoms.ensures.members
+    subst (λ (v : Backing). are_members v.atoms ≡ true) (sym c.self.view_is) c.stands.ensures.members
 
 pub and-requires : goal.and-requires
 and-requires g c =
@@ -63,9 +64,8 @@ returns-then-not-branch-clause-puts g c =
     let v : Backing = record {
       trace = i.trace;
       atoms = i.atoms;
-      clauses = i.clauses;
+      kept = i.engine.kept;
       asserted = i.asserted.items;
-      denials = i.denials;
       refuted = i.refuted;
     }
     in
@@ -88,6 +88,14 @@ put_denial-requires-clause-some g c =
     some-units c.args.arena.now c.args.self.now c.requires.members.places (numbered c.args.units.now.entries)
     c.requires.members.disjoint c.requires.members.units
 
+pub put_denial-requires-clause-known : goal.put_denial-requires-clause-known
+put_denial-requires-clause-known g c =
+    let us = numbered c.args.units.now.entries in
+    subst (λ (ls : List Lit). are_reserved (length c.self.inside.atoms) ls ≡ true) (sym c.requires.literals)
+    (denials-known (length c.self.inside.atoms) us
+    (subst (λ (v : Backing). All (λ (u : Member). u.0 < length v.atoms) us) (sym c.self.view_is)
+    (units-below c.args.self.now c.requires.members.places us c.stands.ensures.of_atoms c.requires.members.units)))
+
 pub returns-clause-puts : goal.returns-clause-puts
 returns-clause-puts g c =
     let rs = c.args.arena.now in
@@ -100,9 +108,8 @@ returns-clause-puts g c =
     let v : Backing = record {
       trace = i.trace;
       atoms = i.atoms;
-      clauses = i.clauses;
+      kept = i.engine.kept;
       asserted = i.asserted.items;
-      denials = i.denials;
       refuted = i.refuted;
     }
     in

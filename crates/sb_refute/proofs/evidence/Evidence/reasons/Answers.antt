@@ -1,32 +1,61 @@
-use Rattle.std.proofs.Common.{ℕ, List, map, get_or, All, Contains, sym, ap, subst, ◌∙◌}
-use Rattle.sb_lit.specs.Kept.{kept_at}
+use Rattle.std.proofs.Common.{◌≡◌, ◌∷◌, ℕ, List, Option, Some, is_some, map, option_map, All, Contains, refl, sym, ap, ap₂, subst, ◌∙◌}
+use Rattle.std.specs.Option.{option_copied}
+use Rattle.std.specs.Map.{values_of}
+use Rattle.sb_lit.specs.declared.clause.Lit.{Lit}
+use Rattle.sb_lit.specs.Kept.{Kept, KeptClause, kept_at}
 use Rattle.sb_refute.specs.declared.evidence.Asserted.{Asserted}
 use Rattle.sb_refute.specs.Backing.{Backing}
-use Rattle.sb_refute.specs.Units.{AreDenials, IsTop, numbered, denials_of, hints_of}
-use Rattle.sb_refute.proofs.Parts.{all-among}
+use Rattle.sb_refute.specs.Units.{ArePicked, IsTop, Rise, numbered, denials_of, hints_of}
+use Rattle.sb_refute.proofs.Parts.{all-among, copied-there, copied-is, some-is}
+use Rattle.sb_refute.proofs.Picking.{numbers-listed, levels-listed}
 use Rattle.sb_refute.proofs.Memberships.{reasons-lead}
 use Rattle.sb_refute.proofs.evidence.Evidence.reasons.Goals as goal
+
+pub unwrap-requires : goal.unwrap-requires
+unwrap-requires c =
+    let part = c.requires.part in
+    copied-there c.literals.result c.clauses-clauses.result.now c.args.id.0 part.clause c.literals.ensures
+    (ap (λ (kept : Kept). kept_at kept c.args.id.0)
+    (c.clauses-clauses.ensures ∙ ap (λ (v : Backing). v.kept) c.self.view_is) ∙ part.there)
 
 pub pick-requires : goal.pick-requires
 pick-requires c =
     let part = c.requires.part in
     let all = denials_of (numbered c.args.units.now.entries) in
     subst (All (Contains all))
-    (sym (c.literals.ensures part.clause
-    (ap (λ (v : Backing). kept_at v.denials.clauses c.args.place) c.self.view_is ∙ part.there)))
+    (sym (copied-is c.literals.result c.unwrap.result c.clauses-clauses.result.now c.args.id.0 part.clause
+    c.unwrap.ensures c.literals.ensures
+    (ap (λ (kept : Kept). kept_at kept c.args.id.0)
+    (c.clauses-clauses.ensures ∙ ap (λ (v : Backing). v.kept) c.self.view_is) ∙ part.there)))
     (all-among part.clause.literals all part.among)
+
+pub unwrap-requires-2 : goal.unwrap-requires-2
+unwrap-requires-2 c =
+    let part = c.requires.part in
+    ap is_some (c.level.ensures
+    ∙ ap (λ (kept : Kept). option_map (λ (k : KeptClause). k.level) (kept_at kept c.args.id.0))
+    (c.clauses-clauses.ensures ∙ ap (λ (v : Backing). v.kept) c.self.view_is)
+    ∙ ap (option_map (λ (k : KeptClause). k.level)) part.there)
 
 pub returns-clause-leads : goal.returns-clause-leads
 returns-clause-leads c = λ rs memo kept b.
+    let e = c.args.self.now in
+    let id = c.args.id.0 in
     let part = c.requires.part in
-    reasons-lead rs memo c.args.self.now kept c.requires.units.places (numbered c.args.units.now.entries) c.args.place
-    c.level_of-level.result part c.literals.result.now c.in_ok-picked.picked.items c.number.result.0
-    c.in_ok-hints.hints.items c.literals_are_of_atoms.ensures.of
-    (subst (λ (v : Backing). AreDenials v.denials) c.self.view_is c.are_denials.ensures) c.requires.units.units
-    (c.literals.ensures part.clause
-    (ap (λ (v : Backing). kept_at v.denials.clauses c.args.place) c.self.view_is ∙ part.there))
-    c.in_ok-picked.ensures
-    (subst (λ (xs : List Asserted). IsTop (map (λ (a : Asserted). a.level) xs) c.level_of-level.result)
-    c.deref-3.ensures.value c.level_of-level.ensures)
-    (c.number.ensures ∙ ap (λ (v : Backing). get_or v.denials.numbers c.args.place 0) c.self.view_is)
-    (c.in_ok-hints.ensures ∙ ap (λ (xs : List Asserted). hints_of xs c.number.result.0) c.deref.ensures.value) b
+    let us = numbered c.args.units.now.entries in
+    let es = c.in_ok-picked.picked.entries in
+    let is = c.in_ok-listed.ensures.are in
+    let there : kept_at c.clauses-clauses.result.now id ≡ Some part.clause =
+    ap (λ (k : Kept). kept_at k id) (c.clauses-clauses.ensures ∙ ap (λ (v : Backing). v.kept) c.self.view_is)
+    ∙ part.there in
+    reasons-lead rs memo e kept c.requires.units.places us (numbered es) id c.level_of-level.result part
+    c.unwrap.result.now (values_of es) c.unwrap-2.result c.in_ok-hints.hints.items c.stands.ensures.of_atoms
+    c.requires.units.units
+    (copied-is c.literals.result c.unwrap.result c.clauses-clauses.result.now id part.clause c.unwrap.ensures
+    c.literals.ensures there)
+    (some-is c.unwrap-2.result part.clause.level
+    (sym c.unwrap-2.ensures ∙ c.level.ensures ∙ ap (option_map (λ (k : KeptClause). k.level)) there))
+    c.in_ok-picked.ensures c.in_ok-listed.ensures.rise (numbers-listed es) (levels-listed es)
+    (subst (λ (xs : List Asserted). IsTop (c.unwrap-2.result ∷ map (λ (a : Asserted). a.level) xs) c.level_of-level.result)
+    (c.deref-3.ensures.value ∙ is) c.level_of-level.ensures)
+    (c.in_ok-hints.ensures ∙ ap (λ (xs : List Asserted). hints_of xs id) (c.deref.ensures.value ∙ is)) b

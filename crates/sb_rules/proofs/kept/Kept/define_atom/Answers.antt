@@ -1,6 +1,7 @@
-use Rattle.std.proofs.Common.{length, refl, sym, subst, ◌∙◌}
+use Rattle.std.proofs.Common.{map, length, refl, sym, subst, ◌∙◌}
 use Rattle.sb_atoms.specs.Numbered as numbered
 use Rattle.sb_atoms.specs.Numbered.{over}
+use Rattle.sb_term.specs.Symbols.{sort_in}
 use Rattle.sb_proof.specs.Lines.{atom_in}
 use Rattle.sb_rulebook.specs.AtomRules.{defined}
 use Rattle.sb_rulebook.specs.Follows.{follows}
@@ -13,7 +14,7 @@ use Rattle.sb_rules.proofs.kept.Kept.define_atom.Goals as goal
 
 pub returns-then-not-has_parts-clause-judges : goal.returns-then-not-has_parts-clause-judges
 returns-then-not-has_parts-clause-judges c = λ asked d others. (
-  by_no_parts c.args.declared asked c.args.self.now others (atom_in c.args.atom.now) d
+  by_no_parts (map sort_in c.args.sorts.now) asked c.args.self.now others (atom_in c.args.atom.now) d
       (sym c.has_parts.ensures ∙ c.if-not-has_parts.true),
   refl,
 )
@@ -29,9 +30,9 @@ returns-in-None-clause-judges c = λ asked d others.
     let k = c.args.self.now in
     let a = atom_in c.args.atom.now in
     let there = sym c.has_parts.ensures ∙ c.if-not-has_parts.false in (
-      by_unbrought c.args.declared asked k others a d
+      by_unbrought (map sort_in c.args.sorts.now) asked k others a d
           (subst (IsBroughtAs k.regexes.order a) c.in-None.is c.in_ok-atom.ensures
-          (has_number c.args.declared (length k.atoms) k.regexes.order a there)) there,
+          (has_number (map sort_in c.args.sorts.now) (length k.atoms) k.regexes.order a there)) there,
       refl,
     )
 
@@ -42,5 +43,5 @@ returns-in-Some-clause-judges c = λ asked d others.
     let b = subst (IsBroughtAs k.regexes.order a) c.in-Some.is c.in_ok-atom.ensures in
     judged_by c.add_atom.result (follows asked (kept_in k others) (atom_line a))
     (defined (kept_in k others) (over k.arena (numbered.atom_in c.in-Some.atom))) k k c.add_atom.new.self others
-    (by_brought c.args.declared asked k others a (numbered.atom_in c.in-Some.atom) d b.0
+    (by_brought (map sort_in c.args.sorts.now) asked k others a (numbered.atom_in c.in-Some.atom) d b.0
     (sym c.has_parts.ensures ∙ c.if-not-has_parts.false) b.1) refl (c.add_atom.ensures.defines others)

@@ -1,4 +1,4 @@
-use Rattle.std.proofs.Common.{option_map, ap, ◌∙◌}
+use Rattle.std.proofs.Common.{option_map, length, ap, ◌∙◌}
 use Rattle.sb_script.specs.Scopes as meaning
 use Rattle.sb_sorts.specs.Scopes.{named_in, names_in}
 use Rattle.sb_sorts.proofs.Kept.{lookup_named, lookup_below}
@@ -12,5 +12,6 @@ returns-clause-value c =
 
 pub returns-clause-serial : goal.returns-clause-serial
 returns-clause-serial c =
-    lookup_below c.self.inside.declared _ c.self.inside.names.entries c.copied.result c.args.self.now.declared
-    (c.copied.ensures ∙ c.get.ensures.value) (ap (λ kept. kept.declared) c.self.view_is) c.self.invariant
+    lookup_below (length c.self.inside.sorts.items) _ c.self.inside.names.entries c.copied.result
+    (length c.args.self.now.sorts) (c.copied.ensures ∙ c.get.ensures.value) (ap (λ kept. length kept.sorts) c.self.view_is)
+    c.self.invariant.ascend

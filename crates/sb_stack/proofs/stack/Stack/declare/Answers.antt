@@ -5,8 +5,8 @@ use Rattle.sb_stack.proofs.stack.Stack.declare.Goals as goal
 
 pub invariant_of-self : goal.invariant_of-self
 invariant_of-self c =
-    kept_declared c.self.inside.scope c.declare.new.self c.args.name.now c.self.inside.table
-    c.self.inside.assertions.items (reverse c.self.inside.levels.items) c.in-Ok.ensures.ok.0 c.self.invariant
+    kept_declared c.self.inside.scope c.declare.new.self c.args.name.now c.args.sort c.self.inside.table
+    c.self.inside.assertions.items (reverse c.self.inside.levels.items) c.requires c.in-Ok.ensures.ok.0 c.self.invariant
 
 pub returns-in-Ok-clause-ok : goal.returns-in-Ok-clause-ok
 returns-in-Ok-clause-ok c =
@@ -19,12 +19,13 @@ returns-in-Ok-clause-ok c =
       scope = c.self.inside.scope;
       mode = c.self.inside.mode;
       words = c.self.inside.words.items;
+      truths = c.self.inside.truths.items;
       table = c.self.inside.table;
       assertions = c.self.inside.assertions.items;
       levels = reverse c.self.inside.levels.items;
     } in
     rw (← c.self.view_is)
-    (declare_step kept c.args.name.now c.declare.new.self c.in_ok-answer.answer c.self.invariant c.in-Ok.ensures.ok.1
+    (declare_step kept c.args.name.now c.args.sort c.declare.new.self c.in_ok-answer.answer c.self.invariant c.in-Ok.ensures.ok.1
     c.in-Ok.ensures.ok.0 c.in_ok-answer.ensures)
 
 pub returns-in-Err-AlreadyDeclared-clause-ok : goal.returns-in-Err-AlreadyDeclared-clause-ok
@@ -38,12 +39,13 @@ returns-in-Err-AlreadyDeclared-clause-ok c =
       scope = c.self.inside.scope;
       mode = c.self.inside.mode;
       words = c.self.inside.words.items;
+      truths = c.self.inside.truths.items;
       table = c.self.inside.table;
       assertions = c.self.inside.assertions.items;
       levels = reverse c.self.inside.levels.items;
     } in
     rw (← c.self.view_is)
-    (taken_constant kept c.args.name.now c.declare.new.self c.in_ok-error_line_with_name-in-Err-AlreadyDeclared.field-0
+    (taken_constant kept c.args.name.now c.args.sort c.declare.new.self c.in_ok-error_line_with_name-in-Err-AlreadyDeclared.field-0
     (c.in-Err-AlreadyDeclared.ensures.taken c.in-Err-AlreadyDeclared.field-0-is) c.in-Err-AlreadyDeclared.ensures.err
     c.in_ok-error_line_with_name-in-Err-AlreadyDeclared.ensures)
 
@@ -58,6 +60,7 @@ returns-in-Err-AlreadyDeclared-clause-keeps c =
       scope = c.self.inside.scope;
       mode = c.self.inside.mode;
       words = c.self.inside.words.items;
+      truths = c.self.inside.truths.items;
       table = c.self.inside.table;
       assertions = c.self.inside.assertions.items;
       levels = reverse c.self.inside.levels.items;

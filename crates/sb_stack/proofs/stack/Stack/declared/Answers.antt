@@ -1,4 +1,6 @@
-use Rattle.std.proofs.Common.{reverse}
+use Rattle.std.proofs.Common.{reverse, map, ap, sym, ◌∙◌}
+use Rattle.sb_term.specs.Symbols.{sort_in}
+use Rattle.sb_sorts.specs.Scopes.{constants_among, are_sorted}
 use Rattle.sb_stack.specs.Stacked.{Stacked}
 use Rattle.sb_stack.proofs.Changes.{constants_live}
 use Rattle.sb_stack.proofs.Live.{fitting}
@@ -15,6 +17,7 @@ returns-clause-constants c =
       scope = c.self.inside.scope;
       mode = c.self.inside.mode;
       words = c.self.inside.words.items;
+      truths = c.self.inside.truths.items;
       table = c.self.inside.table;
       assertions = c.self.inside.assertions.items;
       levels = reverse c.self.inside.levels.items;
@@ -32,9 +35,13 @@ returns-clause-fit c =
       scope = c.self.inside.scope;
       mode = c.self.inside.mode;
       words = c.self.inside.words.items;
+      truths = c.self.inside.truths.items;
       table = c.self.inside.table;
       assertions = c.self.inside.assertions.items;
       levels = reverse c.self.inside.levels.items;
     } in
     rw (← c.self.view_is)
-    (λ words w. rw (constants_live kept) (fitting c.self.inside.scope.names words w))
+    (λ words truths w. rw (constants_live kept)
+    (fitting c.self.inside.scope.sorts c.self.inside.scope.names words truths c.self.invariant.brought
+    (ap (λ ss. are_sorted (map sort_in ss) (constants_among c.self.inside.scope.names)) (sym c.sorts-sorts.ensures.value)
+    ∙ c.sorts-sorts.ensures.sorted) w))

@@ -3,7 +3,7 @@ use Rattle.sb_script.specs.Scopes.{constants_in}
 use Rattle.sb_script.specs.State.{constants_of}
 use Rattle.sb_script.specs.Steps.{answers, line, list_text}
 use Rattle.sb_script.specs.Replies.{definition_text}
-use Rattle.sb_sorts.specs.Scopes.{names_in, serials_in}
+use Rattle.sb_sorts.specs.Scopes.{names_in, constants_among, serials_in, ascend_below}
 use Rattle.sb_stack.specs.Stacked.{Stacked, state_of, values_at}
 use Rattle.sb_stack.specs.Values.{constant_in, definition_by}
 use Rattle.sb_stack.proofs.Changes.{constants_live}
@@ -14,10 +14,14 @@ pub returns-in_ok-model_line-in-Ok : goal.returns-in_ok-model_line-in-Ok
 returns-in_ok-model_line-in-Ok c =
     let k = c.args.self.now in
     let s = state_of k in
-    let words = c.in-Ok.words.now in
+    let words = c.in-Ok.values.0.now in
+    let truths = c.in-Ok.values.1.now in
     let model = c.in-Ok.ensures (λ v. answers (line (list_text (map (definition_text v) (constants_of s)))) s) in
     let constants = ap (map constant_in) c.deref.ensures.value ∙ c.in_ok-constants-in-Ok.ensures
     ∙ ap (λ (k : Stacked). constants_in (names_in k.scope)) c.self.view_is in
-    let texts = ap (map (definition_text (values_at (serials_in k.scope.names) words))) (constants_live k)
-    ∙ definitions words k.scope.names ∙ ap (map (definition_by words)) (sym constants) in
+    let texts = ap (map (definition_text (values_at (constants_among k.scope.names) words truths))) (constants_live k)
+    ∙ definitions c.declared-declared.result words truths k.scope.names
+    (ap (λ (k : Stacked). ascend_below 0 c.declared-declared.result (serials_in k.scope.names)) (sym c.self.view_is)
+    ∙ c.declared-declared.ensures.serials)
+    ∙ ap (map (definition_by words truths)) (sym constants) in
     rw (model ∙ ap (λ ts. answers (line (list_text ts)) s) texts) (c.in_ok-model_line-in-Ok.ensures, refl)

@@ -3,7 +3,7 @@ use Rattle.sb_stack.specs.Stacked.{Stacked, state_of}
 use Rattle.sb_stack.specs.Commands.{forms_in}
 use Rattle.sb_stack.specs.Taking.{asks}
 use Rattle.std.specs.List.{list_all}
-use Rattle.sb_sorts.specs.Scopes.{serials_in}
+use Rattle.sb_sorts.specs.Scopes.{constants_among}
 use Rattle.sb_stack.specs.Values.{item_in, with_names, is_live_item}
 use Rattle.sb_stack.proofs.ByWords.{forms_live}
 use Rattle.sb_stack.proofs.Changes.{same_step, names_live}
@@ -22,6 +22,7 @@ returns c =
       scope = c.self.inside.scope;
       mode = c.self.inside.mode;
       words = c.self.inside.words.items;
+      truths = c.self.inside.truths.items;
       table = c.self.inside.table;
       assertions = c.self.inside.assertions.items;
       levels = reverse c.self.inside.levels.items;
@@ -35,7 +36,7 @@ returns c =
 pub answer_items-requires : goal.answer_items-requires
 answer_items-requires c =
     let names = c.self.inside.scope.names in
-    subst (λ (k : Stacked). list_all (is_live_item (serials_in k.scope.names)) (map item_in c.deref.result.now) ≡ true)
+    subst (λ (k : Stacked). list_all (is_live_item (constants_among k.scope.names)) (map item_in c.deref.result.now) ≡ true)
     c.self.view_is
-    (ap (list_all (is_live_item (serials_in names))) (ap (map item_in) c.deref.ensures.value ∙ c.in_ok-items.ensures)
-    ∙ forms_live names (forms_in c.args.forms))
+    (ap (list_all (is_live_item (constants_among names))) (ap (map item_in) c.deref.ensures.value ∙ c.in_ok-items.ensures)
+    ∙ forms_live c.declared-declared.result names (forms_in c.args.forms) c.declared-declared.ensures.serials)

@@ -1,4 +1,4 @@
-use Rattle.std.proofs.Common.{reverse, refl, ap, subst, arith}
+use Rattle.std.proofs.Common.{length, reverse, refl, ap, subst, arith}
 use Rattle.sb_sorts.specs.Scopes.{ScopeNames}
 use Rattle.sb_stack.specs.declared.stack.Mode.TheVariants as mode
 use Rattle.sb_stack.specs.Stacked.{Stacked}
@@ -23,6 +23,7 @@ returns-in-Some-clause-state c =
       scope = c.self.inside.scope;
       mode = c.self.inside.mode;
       words = c.self.inside.words.items;
+      truths = c.self.inside.truths.items;
       table = c.self.inside.table;
       assertions = c.self.inside.assertions.items;
       levels = reverse c.self.inside.levels.items;
@@ -42,6 +43,7 @@ returns-in-Some-clause-leaves c =
       scope = c.self.inside.scope;
       mode = c.self.inside.mode;
       words = c.self.inside.words.items;
+      truths = c.self.inside.truths.items;
       table = c.self.inside.table;
       assertions = c.self.inside.assertions.items;
       levels = reverse c.self.inside.levels.items;
@@ -52,6 +54,6 @@ returns-in-Some-clause-leaves c =
       assertions = c.truncate.new.self.items;
       levels = reverse c.pop.new.self.items;
     } in
-    let same = ap (λ (s : ScopeNames). s.declared) c.retract.ensures in
+    let same = ap (λ (s : ScopeNames). length s.sorts) c.retract.ensures in
     subst (λ (k : Stacked). Leaves k new) c.self.view_is
     (leaves_front kept new c.in-Some.level.assertions refl c.truncate.ensures.items refl (omega (arith, same)))

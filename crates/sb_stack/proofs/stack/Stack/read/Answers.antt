@@ -25,6 +25,7 @@ returns-clause-reads c =
       scope = c.self.inside.scope;
       mode = c.self.inside.mode;
       words = c.self.inside.words.items;
+      truths = c.self.inside.truths.items;
       table = c.self.inside.table;
       assertions = c.self.inside.assertions.items;
       levels = reverse c.self.inside.levels.items;
@@ -34,8 +35,8 @@ returns-clause-reads c =
 
 pub returns-clause-stands : goal.returns-clause-stands
 returns-clause-stands c =
-    read_stands c.reading_keeps.ensures c.self.inside.scope c.read_term.new.table (shape_of c.args.form)
-    c.read_term.result c.read_term.ensures.reads
+    read_stands c.reading_keeps.ensures c.declared-declared.result c.self.inside.scope c.read_term.new.table
+    (shape_of c.args.form) c.read_term.result c.declared-declared.ensures.serials c.read_term.ensures.reads
 
 pub returns-clause-state : goal.returns-clause-state
 returns-clause-state c =
@@ -48,6 +49,7 @@ returns-clause-state c =
       scope = c.self.inside.scope;
       mode = c.self.inside.mode;
       words = c.self.inside.words.items;
+      truths = c.self.inside.truths.items;
       table = c.self.inside.table;
       assertions = c.self.inside.assertions.items;
       levels = reverse c.self.inside.levels.items;
@@ -65,6 +67,7 @@ returns-clause-keeps c =
       scope = c.self.inside.scope;
       mode = c.self.inside.mode;
       words = c.self.inside.words.items;
+      truths = c.self.inside.truths.items;
       table = c.self.inside.table;
       assertions = c.self.inside.assertions.items;
       levels = reverse c.self.inside.levels.items;

@@ -1,6 +1,7 @@
 use Rattle.std.proofs.Common.{refl, sym, ◌∙◌}
 use Rattle.sb_trace.proofs.Growing.{traces_both, traces_uncounted}
 use Rattle.sb_trace.proofs.Closures.{closed_in, closed_numbered, members_expanded, numbers_alone, unburied_alone, first_dead}
+use Rattle.sb_trace.proofs.Spent.{spent_none}
 use Rattle.sb_trace.proofs.trace.Trace.bury.Goals as goal
 
 pub close-requires-clause-known : goal.close-requires-clause-known
@@ -44,3 +45,9 @@ pub returns-clause-dead : goal.returns-clause-dead
 returns-clause-dead g c = λ done.
     first_dead c.put_dead.new.self c.args.root c.in_ok-members.members.keys c.close.new.members.keys
     c.in_ok-members.ensures c.in_ok-close.ensures.grew c.in_ok-put_dead.ensures.dead
+
+pub returns-then-is_dead-clause-steps : goal.returns-then-is_dead-clause-steps
+returns-then-is_dead-clause-steps g c = spent_none c.args.budget.now
+
+pub returns-in_err-members-clause-steps : goal.returns-in_err-members-clause-steps
+returns-in_err-members-clause-steps g c = spent_none c.args.budget.now

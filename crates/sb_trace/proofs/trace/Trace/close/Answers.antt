@@ -8,6 +8,7 @@ use Rattle.sb_trace.proofs.Growing.{traces_grown, goes_both}
 use Rattle.sb_trace.proofs.Closures.{led_later, unburied_stay}
 use Rattle.sb_trace.proofs.Counts.{spent_out}
 use Rattle.sb_trace.proofs.Reached.{reached_grows}
+use Rattle.sb_trace.proofs.Spent.{spent_none}
 use Rattle.sb_trace.proofs.trace.Trace.close.Goals as goal
 
 pub expand_each-requires-clause-known : goal.expand_each-requires-clause-known
@@ -110,3 +111,6 @@ returns-clause-unburied g c = λ skips all.
     let h = c.in_ok-done.ensures.goes in
     unburied_stay c.gather.new.graph.dead c.expand_each.new.graph.dead c.args.self.now c.expand_each.new.self
     c.gather.new.members.keys h.marks h.buried (c.in_ok-closed.ensures.unburied skips all)
+
+pub returns-in_err-closed-clause-steps : goal.returns-in_err-closed-clause-steps
+returns-in_err-closed-clause-steps g c = spent_none c.args.budget.now

@@ -3,6 +3,7 @@ use Rattle.std.specs.Option.{option_copied}
 use Rattle.sb_deriv.specs.Faithful.{entry_of}
 use Rattle.sb_trace.proofs.Growing.{tracks_grow, dead_in_stays, expanded_in_stays}
 use Rattle.sb_trace.proofs.Exits.{on_ok_more}
+use Rattle.sb_trace.proofs.Spent.{spent_none}
 use Rattle.sb_trace.proofs.trace.Trace.expand.Goals as goal
 
 pub expand_by-requires-clause-targets : goal.expand_by-requires-clause-targets
@@ -31,3 +32,6 @@ returns-clause-buried g c =
 pub returns-clause-expanded_stay : goal.returns-clause-expanded_stay
 returns-clause-expanded_stay g c =
     expanded_in_stays c.args.self.now c.expand_by.new.self c.expand_by.ensures.stays c.expand_by.ensures.marks
+
+pub returns-in_err-derive-clause-steps : goal.returns-in_err-derive-clause-steps
+returns-in_err-derive-clause-steps g c = spent_none c.args.budget.now

@@ -8,6 +8,7 @@ use Rattle.sb_trace.proofs.Growing.{number_kept, traces_uncounted, expanded_befo
 use Rattle.sb_trace.proofs.Exits.{on_ok_more, if_ok_more}
 use Rattle.sb_trace.proofs.Views.{within_expanded, expanded_read}
 use Rattle.sb_trace.proofs.Expanding.{puts_expansion, not_expanded, anew_is_not_already}
+use Rattle.sb_trace.proofs.Spent.{spent_none}
 use Rattle.sb_trace.proofs.trace.Trace.expand_by.Goals as goal
 
 pub index-requires : goal.index-requires
@@ -134,3 +135,12 @@ returns-clause-only g c =
     ∙ ap (λ b. is_put e c.args.regex n || b)
     (expanded_same c.args.self.now c.classes.new.self stays (λ m. k.expanded_stay m ∙ h.expanded_stay m)
     c.marks_have_numbers.ensures.expanded n)) c.put_expansion.ensures.only
+
+pub returns-in_err-number-clause-steps : goal.returns-in_err-number-clause-steps
+returns-in_err-number-clause-steps g c = spent_none c.args.budget.now
+
+pub returns-in_err-classes-clause-steps : goal.returns-in_err-classes-clause-steps
+returns-in_err-classes-clause-steps g c = spent_none c.args.budget.now
+
+pub returns-then-index-clause-steps : goal.returns-then-index-clause-steps
+returns-then-index-clause-steps g c = spent_none c.args.budget.now

@@ -6,6 +6,7 @@ use Rattle.sb_trace.specs.Reaching.{is_unexpanded}
 use Rattle.sb_trace.specs.Closing.{GoesOn}
 use Rattle.sb_trace.proofs.Growing.{traces_none, traces_both, goes_same, goes_both}
 use Rattle.sb_trace.proofs.Counts.{expanded_next, spends_next, member_front, expanded_all, spent_all}
+use Rattle.sb_trace.proofs.Spent.{spent_none, spent_both}
 use Rattle.sb_trace.proofs.trace.Trace.expand_each.Goals as goal
 
 pub loop-regex-init : goal.loop-regex-init
@@ -14,6 +15,7 @@ loop-regex-init g c = record {
   known = c.requires.known;
   expanded = λ n. refl;
   spends = record { spent = omega arith; limit = refl; room = λ some. absurd (omega (arith, some)) };
+  steps = spent_none c.args.budget.now;
   faults = refl;
   puts = λ asked before tracks counts.
       traces_none asked before c.args.arena.now c.args.graph.now.memo c.args.self.now c.args.budget.now
@@ -46,6 +48,7 @@ loop-regex-preserved g c =
       spends = spends_next c.args.regexes.now c.loop-regex.regex-index c.regex-item.result c.loop-regex-test.true
           c.regex-item.is c.requires.once c.args.self.now c.loop-regex.self c.expand.new.self before.expanded e
           not_spent h.already c.args.budget.now c.loop-regex.budget c.expand.new.budget before.spends h.spends;
+      steps = spent_both c.args.budget.now c.loop-regex.budget c.expand.new.budget before.steps h.steps;
       faults = h.counts ∙ before.faults;
       puts = λ asked kept tracks counts.
           traces_both asked kept c.loop-regex.arena c.expand.new.arena c.loop-regex.graph.memo
@@ -126,3 +129,16 @@ returns-clause-spends g c = λ done.
 
 pub returns-clause-limit : goal.returns-clause-limit
 returns-clause-limit g c = c.loop-regex.invariant.spends.limit
+
+pub returns-in_err-expand-clause-steps : goal.returns-in_err-expand-clause-steps
+returns-in_err-expand-clause-steps g c =
+    spent_both c.args.budget.now c.loop-regex.budget c.expand.new.budget c.loop-regex.invariant.steps
+    c.in_err-expand.ensures.steps
+
+pub returns-in-Spent-clause-steps : goal.returns-in-Spent-clause-steps
+returns-in-Spent-clause-steps g c =
+    spent_both c.args.budget.now c.loop-regex.budget c.expand.new.budget c.loop-regex.invariant.steps
+    c.in_ok-expand.ensures.steps
+
+pub returns-clause-steps : goal.returns-clause-steps
+returns-clause-steps g c = c.loop-regex.invariant.steps

@@ -6,6 +6,7 @@ use Rattle.sb_graph.specs.Witness.{IsFinding, IfFound}
 use Rattle.sb_trace.specs.Tracking.{IsExploring}
 use Rattle.sb_trace.proofs.Growing.{traces_grown}
 use Rattle.sb_trace.proofs.Exits.{on_ok_more}
+use Rattle.sb_trace.proofs.Spent.{spent_none}
 use Rattle.sb_trace.proofs.trace.Trace.explore.Goals as goal
 
 pub show-requires-clause-known : goal.show-requires-clause-known
@@ -57,3 +58,6 @@ returns-in-Limit-clause-puts g c =
     c.args.budget.now c.explore_front.new.budget (g.L.Tape.told c.args.tape.now)
     (g.L.Tape.told c.explore_front.new.tape) h.extends h.derivatives_stay)
     c.explore_front.ensures.puts
+
+pub returns-in_err-explored-clause-steps : goal.returns-in_err-explored-clause-steps
+returns-in_err-explored-clause-steps g c = spent_none c.args.budget.now

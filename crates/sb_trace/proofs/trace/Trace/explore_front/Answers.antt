@@ -11,6 +11,7 @@ use Rattle.sb_trace.proofs.Growing.{traces_grown}
 use Rattle.sb_trace.proofs.Exits.{on_ok_more}
 use Rattle.sb_trace.proofs.Closures.{numbers_alone}
 use Rattle.sb_trace.proofs.Counts.{spent_out}
+use Rattle.sb_trace.proofs.Spent.{spent_none}
 use Rattle.sb_trace.proofs.trace.Trace.explore_front.Goals as goal
 
 pub gather-requires-clause-known : goal.gather-requires-clause-known
@@ -87,3 +88,12 @@ pub returns-then-branch-clause-derivatives_stay : goal.returns-then-branch-claus
 returns-then-branch-clause-derivatives_stay g c = λ n pieces h.
     c.show.ensures.derivatives_stay n pieces
     (c.in_ok-explored.ensures.derivatives_stay n pieces (c.in_ok-gather.ensures.goes.derivatives n pieces h))
+
+pub returns-in_err-members-clause-steps : goal.returns-in_err-members-clause-steps
+returns-in_err-members-clause-steps g c = spent_none c.args.budget.now
+
+pub returns-in_err-gather-clause-steps : goal.returns-in_err-gather-clause-steps
+returns-in_err-gather-clause-steps g c = spent_none c.args.budget.now
+
+pub returns-in_err-explored-clause-steps : goal.returns-in_err-explored-clause-steps
+returns-in_err-explored-clause-steps g c = spent_none c.args.budget.now

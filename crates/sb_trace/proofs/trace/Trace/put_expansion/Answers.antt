@@ -4,6 +4,7 @@ use Rattle.sb_trace.specs.Tracking.{Traced}
 use Rattle.sb_trace.proofs.Exits.{told_ok, told_err}
 use Rattle.sb_trace.proofs.ExpansionLines.{expansion_traced_at}
 use Rattle.sb_trace.proofs.Views.{within_expanded, expanded_after, expanded_set}
+use Rattle.sb_trace.proofs.Spent.{spent_same, spent_one}
 use Rattle.sb_trace.proofs.trace.Trace.put_expansion.Goals as goal
 
 pub returns-clause-puts : goal.returns-clause-puts
@@ -58,3 +59,18 @@ returns-clause-only g c =
     let u : Traced = record { order = s.order.keys; expanded = s.expanded.items; dead = s.dead.items } in
     let within = within_expanded c.args.self.now u c.self.view_is c.args.number c.self.invariant.0 c.requires in
     λ n. expanded_set c.args.self.now u c.self.view_is c.args.number n within
+
+pub returns-then-is_err-clause-steps : goal.returns-then-is_err-clause-steps
+returns-then-is_err-clause-steps g c =
+    spent_same c.args.budget.now c.tick.new.self
+    (told_err c.tick.result _ (sym c.is_err.ensures.value ∙ c.if-is_err.true) c.tick.ensures.same)
+
+pub returns-in_err-put-clause-steps : goal.returns-in_err-put-clause-steps
+returns-in_err-put-clause-steps g c =
+    spent_one c.args.budget.now c.tick.new.self
+    (told_ok c.tick.result _ (sym c.is_err.ensures.value ∙ c.if-is_err.false) c.tick.ensures.ok) c.tick.ensures.within
+
+pub returns-clause-steps : goal.returns-clause-steps
+returns-clause-steps g c =
+    spent_one c.args.budget.now c.tick.new.self
+    (told_ok c.tick.result _ (sym c.is_err.ensures.value ∙ c.if-is_err.false) c.tick.ensures.ok) c.tick.ensures.within

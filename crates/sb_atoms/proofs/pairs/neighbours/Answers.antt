@@ -1,5 +1,0 @@
-use Rattle.sb_atoms.proofs.ComparedPairs.{neighbours_end}
-use Rattle.sb_atoms.proofs.pairs.neighbours.Goals as goal
-
-pub returns : goal.returns
-returns g c = neighbours_end c.loop-left.found.items _ c.loop-left.left.now c.loop-left.invariant c.in_default.len_below

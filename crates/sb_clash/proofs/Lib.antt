@@ -1,0 +1,4 @@
+pub mod AskedFacts
+pub mod FewerFacts
+pub mod DenialFacts
+pub mod CallerLemmas

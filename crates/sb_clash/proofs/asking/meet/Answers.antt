@@ -1,0 +1,38 @@
+use Rattle.std.proofs.Common.{◌+◌, take, subst, sym, arith}
+use Rattle.sb_lang.specs.Constructors.{mkand}
+use Rattle.sb_regex.specs.Numbered.{Names, regexes_at}
+use Rattle.sb_regex.proofs.CallerLemmas.{extends_more}
+use Rattle.sb_atoms.proofs.CallerLemmas.{regexes_kept}
+use Rattle.sb_clash.specs.Literals.{asked_by_all}
+use Rattle.sb_clash.proofs.AskedFacts.{IsAskedSofar, asked_more, asked_met, if_ok_map}
+use Rattle.sb_clash.proofs.asking.meet.Goals as goal
+
+pub returns-in_err-push-clause-extends : goal.returns-in_err-push-clause-extends
+returns-in_err-push-clause-extends c =
+    extends_more c.args.arena.now c.loop-literal.arena c.asked_by.new.arena c.loop-literal.invariant.0
+    c.in_ok-id.ensures.extends
+
+pub loop-literal-preserved : goal.loop-literal-preserved
+loop-literal-preserved c = (
+  extends_more c.args.arena.now c.loop-literal.arena c.asked_by.new.arena c.loop-literal.invariant.0
+      c.in_ok-id.ensures.extends,
+  regexes_kept c.loop-literal.arena c.asked_by.new.arena c.args.atoms.now c.in_ok-id.ensures.extends
+      c.loop-literal.invariant.1,
+  subst (IsAskedSofar c.asked_by.new.arena c.args.atoms.now
+      (take (c.loop-literal.literal-index + 1) c.args.literals.now)) (sym c.in_ok-push.ensures.items)
+      (asked_more c.loop-literal.arena c.asked_by.new.arena c.args.atoms.now c.args.serial.0 c.args.literals.now
+      c.loop-literal.literal-index _ c.loop-literal.ids.items c.in_ok-id.id c.in_ok-id.ensures.extends
+      c.loop-literal.invariant.1 c.requires.about c.loop-literal-test.true c.loop-literal.invariant.2
+      c.in_ok-id.ensures.ok),
+)
+
+pub returns-clause-ok : goal.returns-clause-ok
+returns-clause-ok c =
+    if_ok_map c.and.result
+    (λ id. Names c.and.new.self id (mkand (regexes_at c.loop-literal.arena c.deref.result.now)))
+    (λ id. Names c.and.new.self id (asked_by_all c.and.new.self c.args.atoms.now c.args.literals.now))
+    (λ id names. asked_met c.loop-literal.arena c.and.new.self c.args.atoms.now c.args.serial.0 c.args.literals.now
+    c.loop-literal.literal-index c.loop-literal.ids.items id (omega (arith, c.loop-literal-test.false))
+    c.and.ensures.extends c.loop-literal.invariant.1 c.requires.about c.loop-literal.invariant.2
+    (subst (λ is. Names c.and.new.self id (mkand (regexes_at c.loop-literal.arena is))) c.deref.ensures.value names))
+    c.and.ensures.ok

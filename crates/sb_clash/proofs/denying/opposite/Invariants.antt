@@ -1,0 +1,6 @@
+use Rattle.std.proofs.Common.{◌≡◌, take, map}
+use Rattle.sb_lit.specs.Clauses.{negation}
+use Rattle.sb_clash.proofs.denying.opposite.Given as goal
+
+abbrev pub invariant-loop-literal : goal.invariant-loop-literal
+invariant-loop-literal l = l.negations.items ≡ map negation (take l.literal-index l.literals)

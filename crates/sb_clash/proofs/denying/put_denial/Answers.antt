@@ -1,0 +1,99 @@
+use Rattle.std.proofs.Common.{◌∙◌, ap, subst, sym, map, false, arith}
+use Rattle.sb_lit.specs.Clauses.{negation}
+use Rattle.sb_lang.specs.Language.{language}
+use Rattle.sb_regex.specs.Numbered.{Names, regex_at}
+use Rattle.sb_regex.proofs.CallerLemmas.{names_at, names_below, extends_more}
+use Rattle.sb_trace.specs.Tracking.{IsExploring}
+use Rattle.sb_trace.proofs.CallerLemmas.{tracks_grow}
+use Rattle.sb_clash.specs.Literals.{AreAbout, asked_by_all}
+use Rattle.sb_clash.proofs.AskedFacts.{if_ok_map}
+use Rattle.sb_clash.proofs.DenialFacts.{about_opposite, behind_traces, denial_waits, never_alive, can_be_denied}
+use Rattle.sb_trace.proofs.CallerLemmas.{spent_none, spent_both}
+use Rattle.sb_clash.proofs.denying.put_denial.Goals as goal
+
+pub meet-requires-clause-about : goal.meet-requires-clause-about
+meet-requires-clause-about g c =
+    subst (AreAbout c.args.atoms.now c.args.serial.0)
+    (sym (c.deref.ensures.value ∙ c.in_ok-literals.ensures ∙ ap (map negation) c.literals.ensures))
+    (about_opposite c.args.atoms.now c.args.serial.0 c.args.clause.now c.requires.about)
+
+pub returns-in_err-root-clause-graph : goal.returns-in_err-root-clause-graph
+returns-in_err-root-clause-graph g c =
+    c.graph_stays.ensures c.args.arena.now c.meet.new.arena c.args.graph.now c.in_err-root.ensures.extends
+    c.requires.graph
+
+pub explore-requires-clause-known : goal.explore-requires-clause-known
+explore-requires-clause-known g c =
+    names_below c.meet.new.arena c.in_ok-root.root
+    (asked_by_all c.meet.new.arena c.args.atoms.now c.deref.result.now) c.in_ok-root.ensures.ok
+
+pub explore-requires-clause-graph : goal.explore-requires-clause-graph
+explore-requires-clause-graph g c =
+    c.graph_stays.ensures c.args.arena.now c.meet.new.arena c.args.graph.now c.in_ok-root.ensures.extends
+    c.requires.graph
+
+pub returns-in-Dead-clause-puts : goal.returns-in-Dead-clause-puts
+returns-in-Dead-clause-puts g c =
+    if_ok_map c.put_line.result _ _
+    (λ done line. λ asked before tracks is fresh counts.
+    behind_traces asked before c.args.arena.now c.explore.new.arena c.explore.new.graph.memo c.explore.new.self
+    c.args.atoms.now c.args.clause.now done c.explore.new.budget c.put_line.new.budget (g.L.Tape.told c.args.tape.now)
+    (g.L.Tape.told c.explore.new.tape) (g.L.Tape.told c.put_line.new.tape)
+    (extends_more c.args.arena.now c.meet.new.arena c.explore.new.arena c.in_ok-root.ensures.extends
+    c.in_ok-explore.ensures.extends)
+    c.requires.regexes is fresh
+    (c.in_ok-explore.ensures.puts asked before
+    (tracks_grow c.args.arena.now c.meet.new.arena c.args.graph.now.memo c.args.graph.now.memo c.args.trace.now before
+    c.in_ok-root.ensures.extends (λ n pieces h. h) tracks) counts)
+    (λ between follows known new spent. line asked between c.explore.new.arena c.explore.new.graph.memo
+    c.explore.new.self c.args.atoms.now
+    (can_be_denied c.args.arena.now c.meet.new.arena c.explore.new.arena c.explore.new.self c.args.atoms.now
+    c.args.serial.0 c.in_ok-root.root c.args.clause.now c.in_ok-root.ensures.extends c.in_ok-explore.ensures.extends
+    c.requires.regexes c.requires.about
+    (subst (λ ls. Names c.meet.new.arena c.in_ok-root.root (asked_by_all c.meet.new.arena c.args.atoms.now ls))
+    (c.deref.ensures.value ∙ c.in_ok-literals.ensures ∙ ap (map negation) c.literals.ensures) c.in_ok-root.ensures.ok)
+    (c.in_ok-explore.ensures.dead c.in-Dead.is))
+    follows known new spent))
+    c.put_line.ensures.puts
+
+pub returns-in-Spent-clause-puts : goal.returns-in-Spent-clause-puts
+returns-in-Spent-clause-puts g c = λ asked before tracks is fresh counts.
+    behind_traces asked before c.args.arena.now c.explore.new.arena c.explore.new.graph.memo c.explore.new.self
+    c.args.atoms.now c.args.clause.now false c.explore.new.budget c.explore.new.budget
+    (g.L.Tape.told c.args.tape.now) (g.L.Tape.told c.explore.new.tape) (g.L.Tape.told c.explore.new.tape)
+    (extends_more c.args.arena.now c.meet.new.arena c.explore.new.arena c.in_ok-root.ensures.extends
+    c.in_ok-explore.ensures.extends)
+    c.requires.regexes is fresh
+    (c.in_ok-explore.ensures.puts asked before
+    (tracks_grow c.args.arena.now c.meet.new.arena c.args.graph.now.memo c.args.graph.now.memo c.args.trace.now before
+    c.in_ok-root.ensures.extends (λ n pieces h. h) tracks) counts)
+    (λ between follows known new spent. denial_waits asked between c.explore.new.arena c.explore.new.graph.memo
+    c.explore.new.self c.args.atoms.now c.args.clause.now c.explore.new.budget (g.L.Tape.told c.explore.new.tape)
+    follows known spent)
+
+pub unreachable-requires : goal.unreachable-requires
+unreachable-requires g c =
+    never_alive c.args.arena.now c.meet.new.arena c.args.atoms.now c.args.serial.0 c.in_ok-root.root
+    (map negation c.args.clause.now) c.in-Alive.field-0 c.in_ok-root.ensures.extends c.requires.regexes
+    (about_opposite c.args.atoms.now c.args.serial.0 c.args.clause.now c.requires.about) c.requires.clash
+    (names_at c.meet.new.arena c.in_ok-root.root _ c.in_ok-root.ensures.ok
+    ∙ ap (asked_by_all c.meet.new.arena c.args.atoms.now)
+    (c.deref.ensures.value ∙ c.in_ok-literals.ensures ∙ ap (map negation) c.literals.ensures))
+    (subst (IsExploring (language (regex_at c.meet.new.arena c.in_ok-root.root))) c.in-Alive.is
+    c.in_ok-explore.ensures.found)
+
+pub returns-in_err-literals-clause-steps : goal.returns-in_err-literals-clause-steps
+returns-in_err-literals-clause-steps g c = spent_none c.args.budget.now
+
+pub returns-in_err-root-clause-steps : goal.returns-in_err-root-clause-steps
+returns-in_err-root-clause-steps g c = spent_none c.args.budget.now
+
+pub returns-in-Dead-clause-steps : goal.returns-in-Dead-clause-steps
+returns-in-Dead-clause-steps g c =
+    spent_both c.args.budget.now c.explore.new.budget c.put_line.new.budget c.in_ok-explore.ensures.steps
+    c.put_line.ensures.steps
+
+pub returns-in-Dead-clause-ticks : goal.returns-in-Dead-clause-ticks
+returns-in-Dead-clause-ticks g c =
+    if_ok_map c.put_line.result _ _ (λ done ticks is. let less = c.in_ok-explore.ensures.steps.spent in
+    omega (arith, less, ticks is)) c.put_line.ensures.ticks

@@ -1,0 +1,9 @@
+use Rattle.std.proofs.Common.{sym, ◌∙◌}
+use Rattle.sb_clauses.proofs.AllDropped.{empty_fewer}
+use Rattle.sb_clauses.specs.Records.{kept_of}
+use Rattle.sb_clauses.proofs.clauses.drop_records_above.Goals as goal
+
+pub returns-clause-empty : goal.returns-clause-empty
+returns-clause-empty c = λ place h.
+    let turn = c.loop-test.ensures.turn in
+    empty_fewer place c.args.level (kept_of c.args.records.now) _ (turn.1 ∙ (sym turn.0 ∙ c.loop.invariant.1)) h

@@ -1,0 +1,245 @@
+-- Terms of Boolean structure by their shapes.
+use Rattle.std.proofs.Common.{◌≡◌, ℕ, suc, ◌-◌, ◌<◌, ◌≤◌, ◌==◌, Bool, true, false, ◌&&◌, if◌then◌else◌, List, [], ◌∷◌, length, take, drop, get_or, Some, refl, sym, ap, ◌∙◌, arith}
+use Rattle.std.specs.List.{list_all}
+use Rattle.std.proofs.lemmas.Bool.{false≢true}
+use Rattle.std.proofs.lemmas.Bool.Decides.{nat_tests}
+use Rattle.std.proofs.lemmas.List.{take_all}
+use Rattle.std.proofs.Math.Bool.{and-true}
+use Rattle.sb_meaning.specs.Terms.{Sort, boolean, integer, text, reglan, Symbol, Term, Terms, constant, word, numeral, apply, parameter, no_terms, with_term, terms_in, terms_of}
+use Rattle.sb_meaning.specs.Terms as symbol
+use Rattle.sb_meaning.specs.Sorts.{sort_of}
+use Rattle.sb_meaning.specs.Truth.{is_chain, are_pairs}
+use Rattle.sb_script.specs.Brought.{asked, is_regex, is_membership, is_pair, is_structure, are_structure}
+use Rattle.sb_script.specs.Fragment.{sort_of_first}
+use Rattle.sb_script.proofs.CallerLemmas.{IsAsking, a_membership, a_word_behind, a_word_in_front, asked_looks, membership_asks}
+use Rattle.sb_term.specs.Numbered.{term_at, terms_at}
+use Rattle.sb_fragment.specs.declared.shape.Connective.{Connective}
+use Rattle.sb_fragment.specs.declared.shape.Connective.TheVariants as connective
+use Rattle.sb_fragment.specs.declared.shape.Shape.TheVariants as shape
+use Rattle.sb_fragment.specs.Shapes.{IsApplied, IsComparison, IsConnected, IsShape, parts_of, truth_of, comparison_of, are_word_pairs}
+use Rattle.sb_fragment.proofs.AskedFacts.{asked_membership}
+use Rattle.sb_fragment.proofs.ComparedPairs.{chain_all, pairs_all_test}
+
+pub terms_in_of : (ts : List Term) → terms_in (terms_of ts) ≡ ts
+terms_in_of [] = refl
+terms_in_of (t ∷ ts) = ap (λ us. t ∷ us) (terms_in_of ts)
+
+pub structure_of_all : (terms : Terms) → are_structure terms ≡ list_all is_structure (terms_in terms)
+structure_of_all no_terms = refl
+structure_of_all (with_term t terms) = ap (λ b. is_structure t && b) (structure_of_all terms)
+
+pub applied_with : (s : Symbol) (terms : Terms) → IsApplied (apply s terms) s
+applied_with s terms = record { terms = terms; is = refl }
+
+-- Comparisons.
+
+abbrev pub each_two : Bool → (Term → Term → Bool) → List Term → Bool
+each_two distinct test ts = if distinct then are_pairs test ts else is_chain test ts
+
+each_two_all : (distinct : Bool) (ts : List Term) → each_two distinct is_pair ts ≡ are_word_pairs distinct ts
+each_two_all true ts = pairs_all_test is_pair ts
+each_two_all false ts = chain_all is_pair ts
+
+-- by the sort of the first
+abbrev by_sort : Sort → Bool → List Term → Bool → Bool
+by_sort k distinct ts each_is = elim k [
+  | boolean ↦ each_is
+  | integer ↦ false
+  | text ↦ each_two distinct is_pair ts
+  | reglan ↦ false
+]
+
+structure_by : (distinct : Bool) (terms : Terms) (k : Sort) → sort_of_first (terms_in terms) ≡ k
+    → is_structure (apply (comparison_of distinct) terms) ≡ by_sort k distinct (terms_in terms) (are_structure terms)
+structure_by true no_terms k e = ap (λ s. by_sort s true [] true) e
+structure_by false no_terms k e = ap (λ s. by_sort s false [] true) e
+structure_by true (with_term t terms) k e =
+    ap (λ s. by_sort s true (t ∷ terms_in terms) (are_structure (with_term t terms))) e
+structure_by false (with_term t terms) k e =
+    ap (λ s. by_sort s false (t ∷ terms_in terms) (are_structure (with_term t terms))) e
+
+compared_structure : (t : Term) (distinct : Bool) → IsComparison t distinct boolean
+    → is_structure t ≡ list_all is_structure (parts_of t)
+compared_structure t true h = rw h.is (structure_by true h.terms boolean h.first ∙ structure_of_all h.terms)
+compared_structure t false h = rw h.is (structure_by false h.terms boolean h.first ∙ structure_of_all h.terms)
+
+-- By shapes.
+
+pub always_structure : (t : Term) (truth : Bool) → IsApplied t (truth_of truth)
+    → is_structure t ≡ list_all is_structure (parts_of t)
+always_structure t true h = rw h.is (structure_of_all h.terms)
+always_structure t false h = rw h.is (structure_of_all h.terms)
+
+pub alone_structure : (t : Term) → IsShape t shape.Alone → is_structure t ≡ list_all is_structure (parts_of t)
+alone_structure t h = compared_structure t h.0 h.1
+
+pub connected_structure : (t : Term) (c : Connective) → IsConnected t c
+    → is_structure t ≡ list_all is_structure (parts_of t)
+connected_structure t connective.Not h = rw h.is (structure_of_all h.terms)
+connected_structure t connective.And h = rw h.is (structure_of_all h.terms)
+connected_structure t connective.Or h = rw h.is (structure_of_all h.terms)
+connected_structure t connective.Implies h = rw h.is (structure_of_all h.terms)
+connected_structure t connective.Xor h = rw h.is (structure_of_all h.terms)
+connected_structure t connective.Ite h = rw h.is (structure_of_all h.terms)
+connected_structure t (connective.Compare distinct) h = compared_structure t distinct h.0
+
+pub words_structure : (t : Term) (distinct : Bool) → IsComparison t distinct text
+    → is_structure t ≡ are_word_pairs distinct (parts_of t)
+words_structure t true h = rw h.is (structure_by true h.terms text h.first ∙ each_two_all true (terms_in h.terms))
+words_structure t false h = rw h.is (structure_by false h.terms text h.first ∙ each_two_all false (terms_in h.terms))
+
+-- Comparisons of terms by number.
+
+pub first_sort : (distinct : Bool) (k : Sort) (ts : List Term) → sort_of_first ts ≡ k
+    → IsComparison (apply (comparison_of distinct) (terms_of ts)) distinct k
+first_sort distinct k ts e =
+    record { terms = terms_of ts; is = refl; first = ap sort_of_first (terms_in_of ts) ∙ e }
+
+numbered_first : (ts : List Term) (is : List ℕ) (first : ℕ) (k : Sort) → 1 ≤ length is → first ≡ get_or is 0 first
+    → sort_of (term_at ts first) ≡ k → sort_of_first (terms_at ts is) ≡ k
+numbered_first ts [] first k le e sort = absurd (omega (arith, le))
+numbered_first ts (i ∷ is) first k le e sort = ap (λ j. sort_of (term_at ts j)) (sym e) ∙ sort
+
+length_at : (ts : List Term) (is : List ℕ) → length (terms_in (terms_of (terms_at ts is))) ≡ length is
+length_at ts [] = refl
+length_at ts (i ∷ is) = ap suc (length_at ts is)
+
+pub none_alone : (distinct : Bool) (ts : List Term) (is : List ℕ) → length is < 1
+    → IsShape (apply (comparison_of distinct) (terms_of (terms_at ts is))) shape.Alone
+none_alone distinct ts [] few = (distinct, first_sort distinct boolean [] refl, omega arith)
+none_alone distinct ts (i ∷ is) few = absurd (omega (arith, few))
+
+one_up : (is : List ℕ) → 1 ≤ length is → true ≡ (length (take (length is - 1) (drop 1 is)) == 0) → length is < 2
+one_up [] one e = absurd (omega (arith, one))
+one_up (i ∷ []) one e = omega arith
+one_up (i ∷ j ∷ is) one e =
+    let all = take_all (length (i ∷ j ∷ is) - 1) (j ∷ is) (omega arith) in
+    let none : true ≡ (length (j ∷ is) == 0) = e ∙ ap (λ js. length js == 0) all in
+    absurd (grind (arith, nat_tests, none))
+
+two_up : (is : List ℕ) → 1 ≤ length is → false ≡ (length (take (length is - 1) (drop 1 is)) == 0) → 2 ≤ length is
+two_up [] one e = absurd (omega (arith, one))
+two_up (i ∷ []) one e = absurd (false≢true e)
+two_up (i ∷ j ∷ is) one e = omega arith
+
+pub one_alone : (distinct : Bool) (ts : List Term) (is : List ℕ) (first : ℕ) → 1 ≤ length is
+    → first ≡ get_or is 0 first → sort_of (term_at ts first) ≡ boolean
+    → true ≡ (length (take (length is - 1) (drop 1 is)) == 0)
+    → IsShape (apply (comparison_of distinct) (terms_of (terms_at ts is))) shape.Alone
+one_alone distinct ts is first le e sort few =
+    let l = length_at ts is in
+    let m = one_up is le few in (
+      distinct,
+      first_sort distinct boolean (terms_at ts is) (numbered_first ts is first boolean le e sort),
+      omega (arith, l, m),
+    )
+
+pub some_compared : (distinct : Bool) (ts : List Term) (is : List ℕ) (first : ℕ) → 1 ≤ length is
+    → first ≡ get_or is 0 first → sort_of (term_at ts first) ≡ boolean
+    → false ≡ (length (take (length is - 1) (drop 1 is)) == 0)
+    → IsShape (apply (comparison_of distinct) (terms_of (terms_at ts is)))
+    (shape.Connected (connective.Compare distinct))
+some_compared distinct ts is first le e sort more =
+    let l = length_at ts is in
+    let m = two_up is le more in
+    (first_sort distinct boolean (terms_at ts is) (numbered_first ts is first boolean le e sort), omega (arith, l, m))
+
+pub words_compared : (distinct : Bool) (ts : List Term) (is : List ℕ) (first : ℕ) → 1 ≤ length is
+    → first ≡ get_or is 0 first → sort_of (term_at ts first) ≡ text
+    → IsShape (apply (comparison_of distinct) (terms_of (terms_at ts is))) (shape.Words distinct)
+words_compared distinct ts is first le e sort =
+    first_sort distinct text (terms_at ts is) (numbered_first ts is first text le e sort)
+
+pub others_compared : (distinct : Bool) (ts : List Term) (is : List ℕ) (first : ℕ) (k : Sort) → 1 ≤ length is
+    → first ≡ get_or is 0 first → sort_of (term_at ts first) ≡ k
+    → ((each_is : Bool) → by_sort k distinct (terms_in (terms_of (terms_at ts is))) each_is ≡ false)
+    → is_structure (apply (comparison_of distinct) (terms_of (terms_at ts is))) ≡ false
+others_compared distinct ts is first k le e sort h =
+    structure_by distinct (terms_of (terms_at ts is)) k
+    (ap sort_of_first (terms_in_of (terms_at ts is)) ∙ numbered_first ts is first k le e sort)
+    ∙ h (are_structure (terms_of (terms_at ts is)))
+
+-- Sorts of Boolean structure, and of what is compared in it.
+
+pub structure_sort : (t : Term) → is_structure t ≡ true → sort_of t ≡ boolean
+structure_sort (constant serial boolean) h = refl
+structure_sort (constant serial integer) h = absurd (false≢true h)
+structure_sort (constant serial text) h = absurd (false≢true h)
+structure_sort (constant serial reglan) h = absurd (false≢true h)
+structure_sort (word w) h = absurd (false≢true h)
+structure_sort (numeral n) h = absurd (false≢true h)
+structure_sort (parameter place sort) h = absurd (false≢true h)
+structure_sort (apply symbol.core_true terms) h = refl
+structure_sort (apply symbol.core_false terms) h = refl
+structure_sort (apply symbol.core_not terms) h = refl
+structure_sort (apply symbol.core_and terms) h = refl
+structure_sort (apply symbol.core_or terms) h = refl
+structure_sort (apply symbol.core_implies terms) h = refl
+structure_sort (apply symbol.core_xor terms) h = refl
+structure_sort (apply symbol.core_ite terms) h = refl
+structure_sort (apply symbol.core_equal terms) h = refl
+structure_sort (apply symbol.core_distinct terms) h = refl
+structure_sort (apply symbol.str_in_re terms) h = refl
+structure_sort (apply _ terms) h = absurd (false≢true h)
+
+pub pair_sort : (t u : Term) → is_pair t u ≡ true → sort_of t ≡ text
+pair_sort (constant n text) (word w) h = refl
+pair_sort (word w) (constant n text) h = refl
+pair_sort _ _ h = absurd (false≢true h)
+
+-- of three terms each two are not a constant and a literal
+never_three : (t u w : Term) → (is_pair t u && (is_pair t w && is_pair u w)) ≡ false
+never_three (constant n text) (word v) (word w) = refl
+never_three (constant n text) (word v) (constant m sort) = refl
+never_three (constant n text) (word v) (apply s terms) = refl
+never_three (word v) (constant n text) (constant m text) = refl
+never_three (word v) (constant n text) (word w) = refl
+never_three (word v) (constant n text) (apply s terms) = refl
+never_three _ _ _ = refl
+
+and_none : (e : Bool) → (e && false) ≡ false
+and_none true = refl
+and_none false = refl
+
+three_apart : (t u w : Term) (b c d : Bool)
+    → ((is_pair t u && (is_pair t w && b)) && ((is_pair u w && c) && d)) ≡ false
+three_apart t u w b c d =
+    step (is_pair t u) (is_pair t w) (is_pair u w) (never_three t u w)
+  where
+    step : (p q r : Bool) → (p && (q && r)) ≡ false → ((p && (q && b)) && ((r && c) && d)) ≡ false
+    step false q r h = refl
+    step true false r h = refl
+    step true true false h = and_none b
+    step true true true h = absurd (false≢true (sym h))
+
+pub too_many : (distinct : Bool) (ts us : List Term) (is : List ℕ) → distinct ≡ true → terms_at ts is ≡ us
+    → 2 < length is → false ≡ are_word_pairs distinct us
+too_many distinct ts us is on same many = rw on (sym (step is many) ∙ ap (are_word_pairs true) same)
+  where
+    step : (js : List ℕ) → 2 < length js → are_word_pairs true (terms_at ts js) ≡ false
+    step [] l = absurd (omega (arith, l))
+    step (i ∷ []) l = absurd (omega (arith, l))
+    step (i ∷ j ∷ []) l = absurd (omega (arith, l))
+    step (i ∷ j ∷ k ∷ js) l =
+        sym (pairs_all_test is_pair (terms_at ts (i ∷ j ∷ k ∷ js)))
+        ∙ three_apart (term_at ts i) (term_at ts j) (term_at ts k) _ _ _
+
+-- What asks something of one constant's word.
+
+pub asked_structure : (t : Term) (serial : ℕ) (R : Term) → asked t ≡ Some (serial, R) → is_structure t ≡ is_regex R
+asked_structure t serial R h = step (asked_looks t serial R h) ∙ asked_membership t serial R h
+  where
+    step : IsAsking serial t R → is_structure t ≡ is_membership t
+    step (a_membership is) = ap is_structure is ∙ sym (ap is_membership is)
+    step (a_word_behind w is S) =
+        ap is_structure is
+        ∙ and-true (is_pair (constant serial text) (word w))
+        ∙ sym (ap is_membership is)
+    step (a_word_in_front w is S) =
+        ap is_structure is
+        ∙ and-true (is_pair (word w) (constant serial text))
+        ∙ sym (ap is_membership is)
+
+pub membership_structure : (t : Term) → is_membership t ≡ true → is_structure t ≡ true
+membership_structure t h =
+    membership_asks t h (λ serial R is kind. asked_structure t serial R is ∙ kind)

@@ -1,0 +1,50 @@
+-- Computed examples of Boolean structure within the limits on sizes.
+use Rattle.std.specs.Prelude.{◌≡◌, ℕ, Bool, true, false, ◌&&◌, [], ◌∷◌, codes, refl}
+use Rattle.sb_meaning.specs.Terms.{Term, boolean, text, constant, word, apply, no_terms, terms_of}
+use Rattle.sb_meaning.specs.Terms as symbol
+use Rattle.sb_meaning.specs.Examples.{one, two, x}
+use Rattle.sb_script.specs.Brought.{is_structure}
+use Rattle.sb_script.specs.Fragment.{fits}
+use Rattle.sb_fragment.specs.Compared.{compared}
+
+abbrev is_fit : Term → Bool
+is_fit t = is_structure t && fits t
+
+-- the String constant y, and the Bool constants p and q
+abbrev y : Term
+y = constant 1 text
+
+abbrev p : Term
+p = constant 3 boolean
+
+abbrev q : Term
+q = constant 4 boolean
+
+abbrev a : Term
+a = word (codes "a")
+
+a_choice : is_fit (apply symbol.core_ite (terms_of (p ∷ two symbol.core_equal x a ∷ one symbol.core_not q ∷ []))) ≡ true
+a_choice = refl
+
+a_chain : is_fit (apply symbol.core_equal (terms_of (x ∷ a ∷ y ∷ word (codes "b") ∷ []))) ≡ true
+a_chain = refl
+
+bools_apart : is_fit (apply symbol.core_distinct (terms_of (p ∷ q ∷ p ∷ []))) ≡ true
+bools_apart = refl
+
+two_apart : is_fit (two symbol.core_distinct a x) ≡ true
+two_apart = refl
+
+-- of three Strings each two are not a constant and a literal
+three_apart : is_fit (apply symbol.core_distinct (terms_of (x ∷ a ∷ y ∷ []))) ≡ false
+three_apart = refl
+
+-- two constants fit, and are no structure so far
+two_constants : is_fit (two symbol.core_or p (two symbol.core_equal x y)) ≡ false
+two_constants = refl
+
+what_is_a_chain : compared {A = ℕ} false (1 ∷ 2 ∷ 3 ∷ []) ≡ (1, 2) ∷ (2, 3) ∷ []
+what_is_a_chain = refl
+
+what_is_apart : compared {A = ℕ} true (1 ∷ 2 ∷ 3 ∷ []) ≡ (1, 2) ∷ (1, 3) ∷ (2, 3) ∷ []
+what_is_apart = refl

@@ -1,0 +1,9 @@
+use Rattle.std.proofs.Common.{◌≡◌, nat_eq, drop}
+use Rattle.indexmap.specs.IndexSet.{insert_all}
+use Rattle.sb_solve.specs.Wanted.{atoms_of}
+use Rattle.sb_solve.proofs.gather.add_all.Given as goal
+
+abbrev pub invariant-loop-literal : goal.invariant-loop-literal
+invariant-loop-literal l =
+    insert_all nat_eq l.found.keys (atoms_of (drop l.literal-index l.literals))
+    ≡ insert_all nat_eq l.fn.found.keys (atoms_of l.literals)

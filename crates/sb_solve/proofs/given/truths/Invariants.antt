@@ -1,0 +1,7 @@
+use Rattle.std.proofs.Common.{◌≡◌, ℕ, take}
+use Rattle.sb_solve.specs.Values.{truth_in, truth_by}
+use Rattle.sb_solve.proofs.given.truths.Given as goal
+
+abbrev pub invariant-loop-atom : goal.invariant-loop-atom
+invariant-loop-atom l = (serial : ℕ) → truth_in l.truths.items serial
+    ≡ truth_by l.atoms l.trail.literals (take l.atom-index l.wanted) serial

@@ -1,0 +1,80 @@
+-- What a search's trail says where all atoms that are wanted have values: each value is the atom's truth.
+use Rattle.std.specs.Prelude.{◌≡◌, ℕ, true, false, List, [], ◌∷◌, get_or, Option, Some}
+use Rattle.std.specs.List.{list_all}
+use Rattle.sb_lit.specs.declared.clause.Lit.{Lit}
+use Rattle.sb_lit.specs.Clauses.{is_true_under}
+use Rattle.sb_lit.specs.Kept.{Kept, KeptClause, kept_at}
+use Rattle.sb_lang.specs.Regex.{Regex}
+use Rattle.sb_trail.specs.declared.assigned.Assigned.{Assigned}
+use Rattle.sb_trail.specs.Assignments.{held, value_of, IsConsistent}
+use Rattle.sb_clauses.specs.Propagation.{HasNoneFalse}
+use Rattle.sb_meaning.specs.Terms.{Sort, Term}
+use Rattle.sb_meaning.specs.Values.{Valuation}
+use Rattle.sb_meaning.specs.Truth.{holds}
+use Rattle.sb_script.specs.Pieces.{constant_piece}
+use Rattle.sb_rulebook.specs.Atoms.{AtomOver, bool_atom, in_atom, truth_at, truths_of, literal_holds}
+use Rattle.sb_rulebook.specs.Atoms as rulebook
+use Rattle.sb_rulebook.specs.Translation.{translation}
+use Rattle.sb_sound.specs.Tables.{is_table}
+use Rattle.sb_sound.specs.TermLaws.{HasSorts, fits_sorts}
+use Rattle.sb_atoms.specs.Numbered.{Names, AreDistinct, atoms_in}
+use Rattle.sb_gates.specs.Clauses.{atom_at, clauses_of}
+use Rattle.sb_search.specs.Found.{has_value}
+use Rattle.sb_theory.specs.Memberships.{word_at, is_true_by, is_atom}
+use Rattle.sb_solve.specs.Wanted.{is_in, are_closed}
+use Rattle.sb_solve.specs.Values.{truth_by}
+
+-- the clause is kept
+abbrev pub IsKept : Kept → List Lit → Type 0
+IsKept kept clause = (id : ℕ) × (k : KeptClause) × (kept_at kept id ≡ Some k) × (k.literals ≡ clause)
+
+-- each of them is
+abbrev pub AreKept : Kept → List (List Lit) → Type 0
+AreKept kept [] = Unit {0}
+AreKept kept (clause ∷ clauses) = IsKept kept clause × AreKept kept clauses
+
+-- Each atom that is wanted has a value, with the atoms that it speaks of, no kept clause is false, and what an atom
+-- says of literals is kept.
+pub record IsDecided (rs : List Regex) (atoms : List (AtomOver ℕ)) (wanted : List ℕ) (kept : Kept)
+    (entries : List Assigned) : Type 0
+  where
+    pub table : is_table (atoms_in rs atoms) ≡ true
+    pub distinct : AreDistinct atoms
+    pub known : list_all (is_atom atoms) wanted ≡ true
+    pub closed : are_closed atoms wanted ≡ true
+    pub full : list_all (has_value entries) wanted ≡ true
+    pub none_false : HasNoneFalse kept (held entries)
+    pub gates : (i : ℕ) → is_in wanted i ≡ true → AreKept kept (clauses_of i (atom_at atoms i))
+
+-- The memberships on the trail are true of the words; the valuation gives these words, and the truths of the trail, to
+-- the constants of atoms that are wanted.
+pub record IsGiven (rs : List Regex) (atoms : List (AtomOver ℕ)) (wanted : List ℕ) (entries : List Assigned)
+    (words : List (Option (List ℕ))) (v : Valuation) : Type 0
+  where
+    pub agrees : list_all (is_true_by rs atoms words) (held entries) ≡ true
+    pub gives_words : (i serial r : ℕ) → is_in wanted i ≡ true → Names atoms i (in_atom (constant_piece serial ∷ []) r)
+        → rulebook.word_at v serial ≡ word_at words serial
+    pub gives_truths : (i serial : ℕ) → is_in wanted i ≡ true → Names atoms i (bool_atom serial)
+        → truth_at v serial ≡ truth_by atoms entries wanted serial
+
+-- each atom that is wanted has its truth as its value
+abbrev pub ValuesAreTruths : Type 0
+ValuesAreTruths = (rs : List Regex) (atoms : List (AtomOver ℕ)) (wanted : List ℕ) (kept : Kept)
+    (entries : List Assigned) (words : List (Option (List ℕ))) (v : Valuation) → IsDecided rs atoms wanted kept entries
+    → IsGiven rs atoms wanted entries words v → (i : ℕ) → is_in wanted i ≡ true
+    → value_of entries i ≡ Some (get_or (truths_of v (atoms_in rs atoms)) i false)
+
+-- so the literals of the trail are true whose atoms are wanted,
+abbrev pub LiteralsAreTrue : Type 0
+LiteralsAreTrue = (rs : List Regex) (atoms : List (AtomOver ℕ)) (wanted : List ℕ) (kept : Kept)
+    (entries : List Assigned) (words : List (Option (List ℕ))) (v : Valuation) → IsDecided rs atoms wanted kept entries
+    → IsGiven rs atoms wanted entries words v → IsConsistent (held entries) → (l : Lit) → is_in wanted l.atom ≡ true
+    → is_true_under (held entries) l ≡ true → literal_holds (truths_of v (atoms_in rs atoms)) l ≡ true
+
+-- and a term holds whose literal is a kept clause
+abbrev pub TermsAreTrue : Type 0
+TermsAreTrue = (rs : List Regex) (atoms : List (AtomOver ℕ)) (wanted : List ℕ) (kept : Kept)
+    (entries : List Assigned) (words : List (Option (List ℕ))) (v : Valuation) → IsDecided rs atoms wanted kept entries
+    → IsGiven rs atoms wanted entries words v → (sorts : List Sort) (t : Term) (l : Lit) → HasSorts v sorts
+    → fits_sorts sorts t ≡ true → translation (atoms_in rs atoms) t ≡ Some l → is_in wanted l.atom ≡ true
+    → IsKept kept (l ∷ []) → holds t v ≡ true

@@ -1,0 +1,83 @@
+-- Computed examples of atoms that are wanted, and of values.
+use Rattle.std.specs.Prelude.{◌≡◌, ℕ, true, false, List, [], ◌∷◌, None, refl}
+use Rattle.sb_lit.specs.declared.clause.Lit.{Lit}
+use Rattle.sb_trail.specs.declared.assigned.Assigned.{Assigned}
+use Rattle.sb_script.specs.Pieces.{constant_piece}
+use Rattle.sb_rulebook.specs.Atoms.{AtomOver, bool_atom, in_atom, and_atom, iff_atom}
+use Rattle.sb_solve.specs.Wanted.{atoms_of, parts_at, is_simple_at, are_closed}
+use Rattle.sb_solve.specs.Values.{is_true, truth_by, truth_in, word_in}
+
+abbrev plus : ℕ → Lit
+plus atom = record { atom = atom; positive = true }
+
+abbrev minus : ℕ → Lit
+minus atom = record { atom = atom; positive = false }
+
+-- 0: the Bool constant 5. 1: the constant 3 is in a language. 2: 0 is true and 1 is not. 3: the Bool constant 7. 4: 2
+-- is true exactly where 3 is
+abbrev five : List (AtomOver ℕ)
+five = bool_atom 5 ∷ in_atom (constant_piece 3 ∷ []) 1 ∷ and_atom (plus 0 ∷ minus 1 ∷ []) ∷ bool_atom 7
+    ∷ iff_atom (plus 2) (plus 3) ∷ []
+
+of_a_conjunction : parts_at five 2 ≡ 0 ∷ 1 ∷ []
+of_a_conjunction = refl
+
+of_an_equivalence : parts_at five 4 ≡ 2 ∷ 3 ∷ []
+of_an_equivalence = refl
+
+of_a_constant : parts_at five 0 ≡ []
+of_a_constant = refl
+
+past_the_table : parts_at five 5 ≡ []
+past_the_table = refl
+
+simple : is_simple_at five 1 ≡ true
+simple = refl
+
+of_two_constants : is_simple_at (in_atom (constant_piece 3 ∷ constant_piece 4 ∷ []) 1 ∷ []) 0 ≡ false
+of_two_constants = refl
+
+their_atoms : atoms_of (minus 2 ∷ plus 3 ∷ []) ≡ 2 ∷ 3 ∷ []
+their_atoms = refl
+
+with_all_parts : are_closed five (2 ∷ 0 ∷ 1 ∷ []) ≡ true
+with_all_parts = refl
+
+without_a_part : are_closed five (2 ∷ 0 ∷ []) ≡ false
+without_a_part = refl
+
+part_of_a_part : are_closed five (4 ∷ 2 ∷ 3 ∷ []) ≡ false
+part_of_a_part = refl
+
+-- 0 and 3 have values
+abbrev entries : List Assigned
+entries = record { literal = plus 0; level = 1; reason = None } ∷ record { literal = minus 3; level = 2; reason = None }
+    ∷ []
+
+true_on_the_trail : is_true entries 0 ≡ true
+true_on_the_trail = refl
+
+false_on_the_trail : is_true entries 3 ≡ false
+false_on_the_trail = refl
+
+not_on_the_trail : is_true entries 1 ≡ false
+not_on_the_trail = refl
+
+made_true : truth_by five entries (0 ∷ 3 ∷ []) 5 ≡ true
+made_true = refl
+
+made_false : truth_by five entries (0 ∷ 3 ∷ []) 7 ≡ false
+made_false = refl
+
+-- of an atom that is not wanted nothing is taken
+not_wanted : truth_by five entries (3 ∷ []) 5 ≡ false
+not_wanted = refl
+
+of_no_atom : truth_by five entries (0 ∷ 3 ∷ []) 0 ≡ false
+of_no_atom = refl
+
+past_the_last : truth_in (true ∷ []) 1 ≡ false
+past_the_last = refl
+
+past_the_last_word : word_in ((97 ∷ []) ∷ []) 1 ≡ []
+past_the_last_word = refl

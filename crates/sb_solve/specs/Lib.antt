@@ -1,0 +1,6 @@
+pub mod Wanted
+pub mod Gathering
+pub mod Values
+pub mod Decided
+pub mod Entailed
+pub mod Examples

@@ -1,0 +1,39 @@
+-- The values that a trail gives constants, by serial.
+use Rattle.std.specs.Prelude.{ℕ, Bool, false, ◌&&◌, ◌==◌, List, [], get_or, slice_get, Option, Some, None, unwrap_or}
+use Rattle.std.specs.List.{list_any}
+use Rattle.sb_trail.specs.declared.assigned.Assigned.{Assigned}
+use Rattle.sb_trail.specs.Assignments.{value_of}
+use Rattle.sb_rulebook.specs.Atoms.{AtomOver, bool_atom}
+
+-- the atom is true on the trail
+abbrev pub is_true : List Assigned → ℕ → Bool
+is_true entries atom = unwrap_or (value_of entries atom) false
+
+-- the atom is that of the Bool constant
+abbrev pub constant_is : ℕ → AtomOver ℕ → Bool
+constant_is serial (bool_atom s) = s == serial
+constant_is serial _ = false
+
+abbrev pub is_constant : ℕ → Option (AtomOver ℕ) → Bool
+is_constant serial None = false
+is_constant serial (Some atom) = constant_is serial atom
+
+-- the atom makes the Bool constant true
+abbrev pub makes_true : List (AtomOver ℕ) → List Assigned → ℕ → ℕ → Bool
+makes_true atoms entries serial i = is_constant serial (slice_get atoms i) && is_true entries i
+
+-- a Bool constant is true where one of these atoms makes it true
+abbrev pub truth_by : List (AtomOver ℕ) → List Assigned → List ℕ → ℕ → Bool
+truth_by atoms entries wanted serial = list_any (makes_true atoms entries serial) wanted
+
+-- past the last one it is false
+abbrev pub truth_in : List Bool → ℕ → Bool
+truth_in truths serial = get_or truths serial false
+
+-- the empty word where there is none
+abbrev pub word_or_empty : Option (List ℕ) → List ℕ
+word_or_empty word = unwrap_or word []
+
+-- past the last one the word is empty
+abbrev pub word_in : List (List ℕ) → ℕ → List ℕ
+word_in words serial = get_or words serial []

@@ -1,0 +1,83 @@
+//! The atoms that a search is to decide.
+
+ghost use Rattle.std.specs.Prelude.{◌≡◌, ◌<◌, ℕ, true, nat_eq, List, length, IfOk, OnOk};
+ghost use Rattle.std.specs.List.{list_all};
+ghost use Rattle.indexmap.specs.IndexSet.{insert_all};
+ghost use Rattle.sb_lang.specs.Regex.{Regex};
+ghost use Rattle.sb_sound.specs.Tables.{is_table};
+ghost use Rattle.sb_atoms.specs.Numbered.{atom_in, atoms_in};
+ghost use Rattle.sb_theory.specs.Memberships.{are_atoms, is_atom};
+ghost use Rattle.sb_solve.specs.Wanted.{atoms_of, parts_of, parts_at, is_simple, is_simple_at, AreWanted};
+ghost use Rattle.sb_solve.specs.Gathering.{Closes};
+
+use indexmap::IndexSet;
+use sb_atoms::{Atom, AtomId, Atoms};
+use sb_lit::Lit;
+use std::alloc::{AllocError, Global};
+
+/// The atoms of the literals, with those that they speak of, and so on to the end, each once. No others are among them,
+/// whatever stands in the table. Each is an atom of the table where the literals' atoms are and the table is one.
+///
+/// Linear in these atoms and the literals that they speak of. `AllocError` only for want of memory.
+pub fn wanted(alloc: Global, atoms: &Atoms, literals: &[Lit]) -> Result<Vec<u64>, AllocError>
+    ensures wanted { IfOk result (λ found. AreWanted atoms.now literals.now found.items) }
+    ensures known { IfOk result (λ found. (rs : List Regex) → is_table (atoms_in rs atoms.now) ≡ true
+        → are_atoms atoms.now literals.now ≡ true → list_all (is_atom atoms.now) found.items ≡ true) }
+{
+    let mut found = IndexSet::new(alloc);
+    add_all(&mut found, literals)?;
+    close(atoms, &mut found)?;
+    let listed = Vec::from_slice(alloc, found.as_slice())?;
+    Ok(listed)
+}
+
+/// Adds the atoms of literals that are not there.
+fn add_all(found: &mut IndexSet<u64>, literals: &[Lit]) -> Result<(), AllocError>
+    ensures { OnOk result (found.new.keys ≡ insert_all nat_eq found.old.keys (atoms_of literals.now)) }
+{
+    for literal in literals {
+        found.insert(literal.atom)?;
+    }
+    Ok(())
+}
+
+/// Adds the atoms that these speak of, and so on to the end.
+fn close(atoms: &Atoms, found: &mut IndexSet<u64>) -> Result<(), AllocError>
+    ensures { OnOk result (Closes atoms.now found.old.keys found.new.keys) }
+{
+    let mut place = 0;
+    while place < found.len() {
+        let atom = found[place];
+        add_parts(atoms, found, atom)?;
+        place += 1;
+    }
+    Ok(())
+}
+
+/// Adds the atoms that an atom speaks of.
+fn add_parts(atoms: &Atoms, found: &mut IndexSet<u64>, atom: u64) -> Result<(), AllocError>
+    ensures parts { OnOk result (found.new.keys ≡ insert_all nat_eq found.old.keys (parts_at atoms.now atom)) }
+    ensures simple { is_simple_at atoms.now atom ≡ true }
+{
+    let id = AtomId::of(Lit {
+        atom,
+        positive: true,
+    });
+    if id.number() >= atoms.len() {
+        return Ok(());
+    }
+    add_described(found, atoms.describe(id))
+}
+
+/// Adds the atoms of the literals that an atom speaks of.
+fn add_described(found: &mut IndexSet<u64>, described: &Atom) -> Result<(), AllocError>
+    ensures parts { OnOk result
+        (found.new.keys ≡ insert_all nat_eq found.old.keys (parts_of (atom_in described.now))) }
+    ensures simple { is_simple (atom_in described.now) ≡ true }
+{
+    match described {
+        Atom::And(literals) => add_all(found, literals.as_slice()),
+        Atom::Iff(one, other) => add_all(found, &[*one, *other]),
+        Atom::Bool(_) | Atom::In(..) => Ok(()),
+    }
+}

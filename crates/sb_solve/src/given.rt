@@ -1,0 +1,123 @@
+//! The values that a search's end gives constants.
+
+ghost use Rattle.std.specs.Prelude.{◌≡◌, ℕ, List, [], false, ◌||◌, ◌==◌, map, slice_get, IfOk, OnOk, IfSome, IfNone};
+ghost use Rattle.sb_rulebook.specs.Atoms.{bool_atom};
+ghost use Rattle.sb_atoms.specs.Numbered.{Names, atom_in};
+ghost use Rattle.sb_theory.specs.Memberships.{word_at};
+ghost use Rattle.sb_solve.specs.Values.{is_constant, constant_is, makes_true, truth_by, truth_in, word_in, word_or_empty};
+
+use sb_atoms::{Atom, AtomId, Atoms};
+use sb_lit::Lit;
+use sb_term::Serial;
+use sb_trail::Trail;
+use sb_word::Word;
+use std::alloc::{AllocError, Global};
+
+/// The words of the constants by serial, the empty one where there is none.
+pub fn words(alloc: Global, words: Vec<Option<Word>>) -> Result<Vec<Word>, AllocError>
+    ensures exact { IfOk result (λ found. found.items ≡ map word_or_empty words.items) }
+    ensures by_serial { IfOk result
+        (λ found. (serial : ℕ) → word_in found.items serial ≡ word_at words.items serial) }
+{
+    let mut found = Vec::with_capacity(alloc, words.len())?;
+    for word in words {
+        found.push(or_empty(alloc, word)?)?;
+    }
+    Ok(found)
+}
+
+/// The word, or the empty one.
+fn or_empty(alloc: Global, word: Option<Word>) -> Result<Word, AllocError>
+    ensures { IfOk result (λ found. found ≡ word_or_empty word) }
+{
+    match word {
+        Some(word) => Ok(word),
+        None => empty_word(alloc),
+    }
+}
+
+fn empty_word(alloc: Global) -> Result<Word, AllocError>
+    ensures { IfOk result (λ word. word ≡ []) }
+{
+    match Word::from_codes(alloc, &[]) {
+        Ok(word) => Ok(word),
+        Err(_) => Err(AllocError),
+    }
+}
+
+/// The truth values of the Bool constants by serial: what the trail says of their atoms that are wanted. Another
+/// constant is false.
+pub fn truths(
+    alloc: Global,
+    atoms: &Atoms,
+    wanted: &[u64],
+    trail: &Trail,
+) -> Result<Vec<bool>, AllocError>
+    ensures { IfOk result (λ truths. (serial : ℕ) → truth_in truths.items serial
+        ≡ truth_by atoms.now trail.now.literals wanted.now serial) }
+{
+    let mut truths = Vec::new(alloc);
+    for atom in wanted {
+        put_truth(&mut truths, atoms, trail, *atom)?;
+    }
+    Ok(truths)
+}
+
+/// Where an atom of a Bool constant is true, the constant is.
+fn put_truth(
+    truths: &mut Vec<bool>,
+    atoms: &Atoms,
+    trail: &Trail,
+    atom: u64,
+) -> Result<(), AllocError>
+    ensures { OnOk result ((serial : ℕ) → truth_in truths.new.items serial
+        ≡ (truth_in truths.old.items serial || makes_true atoms.now trail.now.literals serial atom)) }
+{
+    let value = trail.value(atom).unwrap_or(false);
+    if !value {
+        return Ok(());
+    }
+    match constant_at(atoms, atom) {
+        Some(serial) => mark(truths, serial),
+        None => Ok(()),
+    }
+}
+
+/// The Bool constant that an atom is of.
+fn constant_at(atoms: &Atoms, atom: u64) -> Option<Serial>
+    ensures some { IfSome result (λ found. Names atoms.now atom (bool_atom found.0)) }
+    ensures none { IfNone result ((serial : ℕ) → is_constant serial (slice_get atoms.now atom) ≡ false) }
+{
+    let id = AtomId::of(Lit {
+        atom,
+        positive: true,
+    });
+    if id.number() >= atoms.len() {
+        return None;
+    }
+    constant_in(atoms.describe(id))
+}
+
+/// The Bool constant that an atom is of.
+fn constant_in(described: &Atom) -> Option<Serial>
+    ensures some { IfSome result (λ found. atom_in described.now ≡ bool_atom found.0) }
+    ensures none { IfNone result ((serial : ℕ) → constant_is serial (atom_in described.now) ≡ false) }
+{
+    match described {
+        Atom::Bool(serial) => Some(*serial),
+        Atom::In(..) | Atom::And(_) | Atom::Iff(..) => None,
+    }
+}
+
+/// Makes a constant true.
+fn mark(truths: &mut Vec<bool>, serial: Serial) -> Result<(), AllocError>
+    ensures { OnOk result ((other : ℕ) → truth_in truths.new.items other
+        ≡ (truth_in truths.old.items other || (serial.0 == other))) }
+{
+    let place = serial.0 as usize;
+    while truths.len() <= place {
+        truths.push(false)?;
+    }
+    truths[place] = true;
+    Ok(())
+}

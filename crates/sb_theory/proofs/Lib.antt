@@ -1,0 +1,5 @@
+pub mod Standing
+pub mod Fitting
+pub mod Denied
+pub mod Placed
+pub mod Answering

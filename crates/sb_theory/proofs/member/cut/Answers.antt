@@ -1,0 +1,24 @@
+use Rattle.std.proofs.Common.{List, sym, ap, subst, ◌∙◌}
+use Rattle.sb_lit.specs.declared.clause.Lit.{Lit}
+use Rattle.sb_trail.specs.Assignments.{held}
+use Rattle.sb_theory.specs.Memberships.{AreMembers}
+use Rattle.sb_theory.specs.Places.{is_above}
+use Rattle.sb_theory.proofs.Placed.{cut_step, cut_end, held_push}
+use Rattle.sb_theory.proofs.member.cut.Goals as goal
+
+pub loop-taken-preserved-in-Some : goal.loop-taken-preserved-in-Some
+loop-taken-preserved-in-Some c = (
+  cut_step c.args.level c.args.taken.now.items c.loop-taken.taken.items c.pop.new.self.items c.in-Some.entry
+      (ap (is_above c.args.level) (sym c.deref.ensures.value) ∙ sym c.is_above.ensures ∙ c.loop-taken-test.true)
+      c.in-Some.ensures.items c.loop-taken.invariant.0,
+  λ h. c.forget.ensures (held c.pop.new.self.items)
+      (subst (λ (ls : List Lit). AreMembers c.args.atoms.now c.loop-taken.rows.items ls)
+      (held_push c.pop.new.self.items c.loop-taken.taken.items c.in-Some.entry c.literal.result
+      c.in-Some.ensures.items c.literal.ensures) (c.loop-taken.invariant.1 h)),
+)
+
+pub returns-clause-taken : goal.returns-clause-taken
+returns-clause-taken c = λ levelled.
+    cut_end c.args.level c.args.taken.now.items c.loop-taken.taken.items
+    (ap (is_above c.args.level) (sym c.deref.ensures.value) ∙ sym c.is_above.ensures ∙ c.loop-taken-test.false)
+    levelled c.loop-taken.invariant.0

@@ -1,0 +1,266 @@
+-- Lines that the search puts over the theory, and lines behind lines.
+use Rattle.std.proofs.Common.{◌≡◌, ◌⊎◌, ℕ, zero, suc, ◌+◌, ◌<◌, Bool, true, false, not, ◌&&◌, nat_lt, if◌then◌else◌, List, [], ◌∷◌, ◌++◌, length, Option, Some, None, Result, Ok, Err, refl, sym, ap, subst, ◌∙◌, inl, inr, arith, append_assoc}
+use Rattle.std.specs.List.{list_all}
+use Rattle.std.proofs.lemmas.Bool.{false≢true, and_parts, and_from, or_left, or_right, or_cases, le-ltb, eq-eqb, lt-ltb}
+use Rattle.std.proofs.lemmas.List.{length-map}
+use Rattle.std.proofs.lemmas.Option.{same_Some}
+use Rattle.sb_lit.specs.declared.clause.Lit.{Lit}
+use Rattle.sb_lit.specs.Clauses.{is_among, is_same_literal, are_ascending}
+use Rattle.sb_lit.specs.Kept.{Kept, KeptClause, kept_at}
+use Rattle.sb_lit.specs.Hints.{Unlearned, learned}
+use Rattle.sb_lit.proofs.CallerLemmas.{is_same_literal-self, all_among}
+use Rattle.sb_lang.specs.Regex.{Regex}
+use Rattle.sb_trail.specs.declared.assigned.Assigned.{Assigned}
+use Rattle.sb_analyze.specs.Learning.{IsLesson, literals_at, is_named}
+use Rattle.sb_deriv.specs.Faithful.{Memo, KeepsEntries}
+use Rattle.sb_regex.specs.Numbered.{Extends}
+use Rattle.sb_regex.proofs.CallerLemmas.{extends_same, extends_more}
+use Rattle.sb_graph.specs.Findings.{Findings}
+use Rattle.sb_rulebook.specs.Atoms.{Atom, AtomOver}
+use Rattle.sb_rulebook.specs.AtomRules.{are_known}
+use Rattle.sb_rulebook.specs.ClauseRules.{Refusal, refusal_of, unknown_id}
+use Rattle.sb_rulebook.specs.Gates.{is_gate, has_both_signs}
+use Rattle.sb_rulebook.specs.Kept.{AllKept, Asked, most_counted, counting, with_clause, rests_of_any}
+use Rattle.sb_rulebook.specs.Follows.{follows}
+use Rattle.sb_rulebook.specs.Lines.{learned_line, rule_line, gate}
+use Rattle.sb_rulebook.specs.LineLaws.{has_text}
+use Rattle.sb_atoms.specs.Numbered.{over, atoms_in, HaveRegexesBelow}
+use Rattle.sb_atoms.proofs.CallerLemmas.{atoms_kept}
+use Rattle.sb_trace.specs.Tracking.{Traced, Tracks}
+use Rattle.sb_trace.proofs.CallerLemmas.{puts_none, puts_one, puts_both, tracks_grow}
+use Rattle.sb_search.specs.Writing.{Written, with_learned, with_gate, true_or_false}
+use Rattle.sb_theory.specs.declared.strings.Strings.{Strings}
+use Rattle.sb_theory.specs.Memberships.{is_atom, are_atoms, HaveAtoms}
+use Rattle.sb_theory.specs.Strings.{Stands, Writes}
+
+pub stands_longer : (x : Strings) (entries more : List Assigned) → Stands x entries → Stands x (entries ++ more)
+stands_longer x entries more h = record {
+  holds = h.holds;
+  levelled = h.levelled;
+  rest = h.rest ++ more;
+  is = ap (λ es. es ++ more) h.is ∙ append_assoc x.taken.items h.rest more;
+}
+
+pub writes_none : (x : Strings) (proof : Written) → Writes x x proof proof
+writes_none x proof = record {
+  atoms = refl;
+  proves = refl;
+  extends = extends_same x.arena;
+  lines = λ on asked kept backs. (kept, puts_none asked kept proof.told, backs);
+}
+
+pub writes_both : (x y z : Strings) (before between after : Written) → Writes x y before between
+    → Writes y z between after → Writes x z before after
+writes_both x y z before between after p q = record {
+  atoms = q.atoms ∙ p.atoms;
+  proves = q.proves ∙ p.proves;
+  extends = extends_more x.arena y.arena z.arena p.extends q.extends;
+  lines = λ on asked kept backs.
+      let first = p.lines on asked kept backs in
+      let second = q.lines (p.proves ∙ on) asked first.0 first.2 in (
+        second.0,
+        puts_both asked kept first.0 second.0 before.told between.told after.told first.1 second.1,
+        second.2,
+      );
+}
+
+pub known_later : (x y : Strings) (before after : Written) → Writes x y before after → (atom : ℕ)
+    → is_atom x.atoms atom ≡ true → is_atom y.atoms atom ≡ true
+known_later x y before after h atom k = ap (λ (ts : List (AtomOver ℕ)). is_atom ts atom) h.atoms ∙ k
+
+-- where the arena and what is known of derivatives grow
+pub writes_grown : (x y : Strings) (proof : Written) → y.atoms ≡ x.atoms → y.proves ≡ x.proves → y.trace ≡ x.trace
+    → HaveRegexesBelow (length x.arena) x.atoms → Extends x.arena y.arena → KeepsEntries x.graph.memo y.graph.memo
+    → Writes x y proof proof
+writes_grown x y proof atoms proves trace below e keeps = record {
+  atoms = atoms;
+  proves = proves;
+  extends = e;
+  lines = λ on asked kept b. (
+    kept,
+    puts_none asked kept proof.told,
+    record {
+      tracks = subst (λ (t : Traced). Tracks y.arena y.graph.memo t kept) (sym trace)
+          (tracks_grow x.arena y.arena x.graph.memo y.graph.memo x.trace kept e keeps b.tracks);
+      atoms = b.atoms ∙ sym (atoms_kept x.arena y.arena x.atoms e below) ∙ ap (atoms_in y.arena) (sym atoms);
+      clauses = b.clauses;
+      known = subst (λ (ts : List (AtomOver ℕ)). HaveAtoms ts proof.kept) (sym atoms) b.known;
+      counted = b.counted;
+    },
+  );
+}
+
+-- where nothing of this changes
+pub writes_same : (x y : Strings) (proof : Written) → y.atoms ≡ x.atoms → y.proves ≡ x.proves → y.trace ≡ x.trace
+    → y.arena ≡ x.arena → y.graph ≡ x.graph → Writes x y proof proof
+writes_same x y proof atoms proves trace arena graph = record {
+  atoms = atoms;
+  proves = proves;
+  extends = subst (λ (rs : List Regex). Extends x.arena rs) (sym arena) (extends_same x.arena);
+  lines = λ on asked kept b. (
+    kept,
+    puts_none asked kept proof.told,
+    record {
+      tracks = subst (λ (r : List Regex). Tracks r y.graph.memo y.trace kept) (sym arena)
+          (subst (λ (g : Findings). Tracks x.arena g.memo y.trace kept) (sym graph)
+          (subst (λ (t : Traced). Tracks x.arena x.graph.memo t kept) (sym trace) b.tracks));
+      atoms = b.atoms ∙ ap (λ (r : List Regex). atoms_in r x.atoms) (sym arena) ∙ ap (atoms_in y.arena) (sym atoms);
+      clauses = b.clauses;
+      known = subst (λ (ts : List (AtomOver ℕ)). HaveAtoms ts proof.kept) (sym atoms) b.known;
+      counted = b.counted;
+    },
+  );
+}
+
+-- Atoms of clauses that are kept.
+
+added_at : (kept : Kept) (k clause : KeptClause) (id : ℕ) → kept_at (kept ++ Some k ∷ []) id ≡ Some clause
+    → (kept_at kept id ≡ Some clause) ⊎ (k ≡ clause)
+added_at [] k clause zero h = inr (same_Some k clause h)
+added_at [] k clause (suc id) h = absurd (Prim.cc (h))
+added_at (x ∷ xs) k clause zero h = inl h
+added_at (x ∷ xs) k clause (suc id) h = added_at xs k clause id h
+
+pub have_more : (atoms : List (AtomOver ℕ)) (kept : Kept) (clause : List Lit) (level : ℕ) → HaveAtoms atoms kept
+    → are_atoms atoms clause ≡ true
+    → HaveAtoms atoms (kept ++ Some (record { literals = clause; level = level }) ∷ [])
+have_more atoms kept clause level h new = λ id c there.
+    elim (added_at kept (record { literals = clause; level = level }) c id there) [
+      | inl old ↦ h id c old
+      | inr is ↦ subst (λ (k : KeptClause). are_atoms atoms k.literals ≡ true) is new
+    ]
+
+one_named : (atoms : List (AtomOver ℕ)) (kept : Kept) (hints : List ℕ) (l : Lit) → HaveAtoms atoms kept
+    → is_named kept hints l ≡ true → is_atom atoms l.atom ≡ true
+one_named atoms kept [] l h named = absurd (false≢true named)
+one_named atoms kept (id ∷ ids) l h named =
+    elim (or_cases (is_among (literals_at kept id) l) (is_named kept ids l) named) [
+      | inl here ↦ step (kept_at kept id) refl here
+      | inr later ↦ one_named atoms kept ids l h later
+    ]
+  where
+    step : (o : Option KeptClause) → kept_at kept id ≡ o
+        → is_among (elim o as (λ _. List Lit) [ None ↦ [] | Some clause ↦ clause.literals ]) l ≡ true
+        → is_atom atoms l.atom ≡ true
+    step None is among = absurd (false≢true among)
+    step (Some clause) is among = all_among (λ m. is_atom atoms m.atom) clause.literals l (h id clause is) among
+
+named_atoms : (atoms : List (AtomOver ℕ)) (kept : Kept) (hints : List ℕ) (clause : List Lit) → HaveAtoms atoms kept
+    → list_all (is_named kept hints) clause ≡ true → are_atoms atoms clause ≡ true
+named_atoms atoms kept hints [] h named = refl
+named_atoms atoms kept hints (l ∷ ls) h named =
+    let p = and_parts (is_named kept hints l) (list_all (is_named kept hints) ls) named in
+    and_from (is_atom atoms l.atom) (are_atoms atoms ls) (one_named atoms kept hints l h p.0)
+    (named_atoms atoms kept hints ls h p.1)
+
+pub are_known_in : (rs : List Regex) (atoms : List (AtomOver ℕ)) (table : List Atom) (clause : List Lit)
+    → table ≡ atoms_in rs atoms → are_atoms atoms clause ≡ true → are_known table clause ≡ true
+are_known_in rs atoms table clause is h =
+    ap (λ n. list_all (λ (l : Lit). nat_lt l.atom n) clause) (ap length is ∙ length-map atoms (over rs)) ∙ h
+
+-- The line of a clause that is learned.
+
+counting_on : (asked : Asked) (kept : AllKept) → kept.counted < most_counted asked
+    → counting asked kept ≡ Ok (record kept { counted = kept.counted + 1 })
+counting_on asked kept room = rw (lt-ltb kept.counted (most_counted asked) room) refl
+
+learned_as : Asked → AllKept → List Lit → List ℕ → Result ℕ Unlearned → Result AllKept Refusal
+learned_as asked kept clause ids r = elim r [
+  | Err unlearned ↦ Err (refusal_of unlearned)
+  | Ok level ↦ counting asked (with_clause kept clause level (rests_of_any kept ids))
+]
+
+learned_follows : (asked : Asked) (kept : AllKept) (clause : List Lit) (ids : List ℕ) (level : ℕ)
+    → are_known kept.atoms clause ≡ true → learned kept.clauses clause ids ≡ Ok level
+    → kept.counted < most_counted asked
+    → follows asked kept (learned_line clause ids)
+    ≡ Ok (record (with_clause kept clause level (rests_of_any kept ids)) { counted = kept.counted + 1 })
+unfolding learned_as
+learned_follows asked kept clause ids level known accepted room =
+    ap (λ b. if not b then Err unknown_id else learned_as asked kept clause ids (learned kept.clauses clause ids)) known
+    ∙ ap (learned_as asked kept clause ids) accepted
+    ∙ counting_on asked (with_clause kept clause level (rests_of_any kept ids)) room
+
+tracks_kept : (rs : List Regex) (memo : Memo) (t : Traced) (kept : AllKept) (clauses : Kept) (rests : List (List ℕ))
+    (counted : ℕ) → Tracks rs memo t kept
+    → Tracks rs memo t (record kept { clauses = clauses; rests = rests; counted = counted })
+tracks_kept rs memo t kept clauses rests counted h = record {
+  numbers = h.numbers;
+  regexes = h.regexes;
+  expansions_long = h.expansions_long;
+  dead_long = h.dead_long;
+  expanded = h.expanded;
+  dead = h.dead;
+  targets = h.targets;
+}
+
+pub writes_learned : (x : Strings) (proof : Written) (clause : List Lit) (hints : List ℕ) (level : ℕ)
+    → IsLesson proof.kept clause hints level → has_text (learned_line clause hints) ≡ true
+    → proof.budget.spent < proof.budget.limit → Writes x x proof (with_learned clause hints level proof)
+writes_learned x proof clause hints level lesson text room = record {
+  atoms = refl;
+  proves = refl;
+  extends = extends_same x.arena;
+  lines = λ on asked kept b.
+      let new = named_atoms x.atoms proof.kept hints clause b.known lesson.named in
+      let known = are_known_in x.arena x.atoms kept.atoms clause b.atoms new in
+      let accepted = ap (λ (ks : Kept). learned ks clause hints) b.clauses ∙ lesson.accepted in
+      let after : AllKept = record (with_clause kept clause level (rests_of_any kept hints)) {
+        counted = kept.counted + 1;
+      } in (
+        after,
+        puts_one asked kept after (learned_line clause hints) proof.told (with_learned clause hints level proof).told
+            (learned_follows asked kept clause hints level known accepted
+            (omega (arith, room, b.counted.spent, b.counted.limit))) text refl,
+        record {
+          tracks = tracks_kept x.arena x.graph.memo x.trace kept after.clauses after.rests after.counted b.tracks;
+          atoms = b.atoms;
+          clauses = ap (λ (ks : Kept). ks ++ Some (record { literals = clause; level = level }) ∷ []) b.clauses;
+          known = have_more x.atoms proof.kept clause level b.known new;
+          counted = record { spent = ap (λ n. n + 1) b.counted.spent; limit = b.counted.limit };
+        },
+      );
+}
+
+-- The line of the clause that an atom is true or false.
+
+both_ascend : (atom : ℕ) → are_ascending (true_or_false atom) ≡ true
+both_ascend atom = rw (le-ltb atom atom (omega arith), eq-eqb atom atom refl) refl
+
+abbrev one : ℕ → Bool → Lit
+one atom positive = record { atom = atom; positive = positive }
+
+both_gate : (atoms : List Atom) (atom : ℕ) → is_gate atoms (true_or_false atom) ≡ true
+both_gate atoms atom =
+    or_left (has_both_signs (true_or_false atom)) _
+    (or_left (is_among (true_or_false atom) (one atom false)) _
+    (or_right (is_same_literal (one atom true) (one atom false)) _
+    (or_left (is_same_literal (one atom false) (one atom false)) false (is_same_literal-self (one atom false)))))
+
+gate_follows : (asked : Asked) (kept : AllKept) (atom : ℕ) → are_known kept.atoms (true_or_false atom) ≡ true
+    → follows asked kept (rule_line gate (true_or_false atom)) ≡ Ok (with_clause kept (true_or_false atom) 0 [])
+gate_follows asked kept atom known = rw (known, both_ascend atom, both_gate kept.atoms atom) refl
+
+pub writes_gate : (x : Strings) (proof : Written) (atom : ℕ) → is_atom x.atoms atom ≡ true
+    → has_text (rule_line gate (true_or_false atom)) ≡ true → Writes x x proof (with_gate atom proof)
+writes_gate x proof atom there text = record {
+  atoms = refl;
+  proves = refl;
+  extends = extends_same x.arena;
+  lines = λ on asked kept b.
+      let new = and_from (is_atom x.atoms atom) (is_atom x.atoms atom && true) there
+      (and_from (is_atom x.atoms atom) true there refl) in
+      let known = are_known_in x.arena x.atoms kept.atoms (true_or_false atom) b.atoms new in
+      let after : AllKept = with_clause kept (true_or_false atom) 0 [] in (
+        after,
+        puts_one asked kept after (rule_line gate (true_or_false atom)) proof.told (with_gate atom proof).told
+            (gate_follows asked kept atom known) text refl,
+        record {
+          tracks = tracks_kept x.arena x.graph.memo x.trace kept after.clauses after.rests kept.counted b.tracks;
+          atoms = b.atoms;
+          clauses = ap (λ (ks : Kept). ks ++ Some (record { literals = true_or_false atom; level = 0 }) ∷ []) b.clauses;
+          known = have_more x.atoms proof.kept (true_or_false atom) 0 b.known new;
+          counted = record { spent = b.counted.spent; limit = b.counted.limit };
+        },
+      );
+}

@@ -1,0 +1,5 @@
+pub mod Memberships
+pub mod Strings
+pub mod Examples
+pub mod Places
+pub mod Laws

@@ -1,0 +1,110 @@
+-- What the theory has taken in of a trail, and what its lines make of a proof.
+use Rattle.std.specs.Prelude.{◌≡◌, ◌≢◌, ℕ, ◌+◌, ◌<◌, true, List, [], ◌∷◌, ◌++◌, map, length, Option, Some, None}
+use Rattle.std.specs.List.{list_all}
+use Rattle.sb_lit.specs.declared.clause.Lit.{Lit}
+use Rattle.sb_lit.specs.Budgets.{Spending}
+use Rattle.sb_lit.specs.Clauses.{negation, is_false_clause}
+use Rattle.sb_lit.specs.Kept.{Kept}
+use Rattle.sb_lang.specs.Regex.{Regex}
+use Rattle.sb_trail.specs.declared.assigned.Assigned.{Assigned}
+use Rattle.sb_trail.specs.Assignments.{held, AreLevelled}
+use Rattle.sb_clauses.specs.Propagation.{HasNoneFalse}
+use Rattle.sb_regex.specs.Numbered.{Extends}
+use Rattle.sb_graph.specs.Findings.{IsGraph}
+use Rattle.sb_plain.specs.Memory.{IsRight}
+use Rattle.sb_rulebook.specs.Atoms.{AtomOver}
+use Rattle.sb_rulebook.specs.Kept.{AllKept, Asked}
+use Rattle.sb_sound.specs.HintLaws.{Ascend}
+use Rattle.sb_atoms.specs.Numbered.{atoms_in, HaveRegexesBelow}
+use Rattle.sb_trace.specs.Putting.{Puts, IsCounted}
+use Rattle.sb_trace.specs.Tracking.{Tracks}
+use Rattle.sb_clash.specs.Literals.{AreAbout, AreClashing}
+use Rattle.sb_search.specs.Asking.{IsFair}
+use Rattle.sb_search.specs.Writing.{Written, written, kept_behind}
+use Rattle.sb_search.specs.declared.theory.Checked.{Checked}
+use Rattle.sb_search.specs.declared.theory.Checked.TheVariants.{Fine, Lemma, Ask, Spent}
+use Rattle.sb_theory.specs.declared.strings.Strings.{Strings}
+use Rattle.sb_theory.specs.Memberships.{AreMembers, is_true_by, is_atom, HaveAtoms, IsValid}
+
+-- What holds of the theory: its tables are right, the rows are those of what was taken in, and each literal that was
+-- taken in is true of the words.
+pub record Holds (x : Strings) : Type 0 where
+  pub graph : IsGraph x.arena x.graph
+  pub plain : IsRight x.arena x.plain
+  pub regexes : HaveRegexesBelow (length x.arena) x.atoms
+  pub members : AreMembers x.atoms x.members.items (held x.taken.items)
+  pub fit : list_all (is_true_by x.arena x.atoms x.words.items) (held x.taken.items) ≡ true
+
+-- What was taken in is the front of the trail.
+pub record Stands (x : Strings) (entries : List Assigned) : Type 0 where
+  pub holds : Holds x
+  pub levelled : AreLevelled 0 x.taken.items
+  pub rest : List Assigned
+  pub is : entries ≡ x.taken.items ++ rest
+
+-- the entry is the first that was not taken in
+pub record IsNext (x : Strings) (entries : List Assigned) (entry : Assigned) : Type 0 where
+  pub rest : List Assigned
+  pub is : entries ≡ x.taken.items ++ entry ∷ rest
+
+-- each literal on the trail is true of the words
+abbrev pub Agrees : Strings → List Assigned → Type 0
+Agrees x entries = list_all (is_true_by x.arena x.atoms x.words.items) (held entries) ≡ true
+
+-- Regexes may be added, and nothing else that others know changes.
+pub record Grows (x y : Strings) : Type 0 where
+  pub atoms : y.atoms ≡ x.atoms
+  pub wanted : y.wanted ≡ x.wanted
+  pub proves : y.proves ≡ x.proves
+  pub below : HaveRegexesBelow (length x.arena) x.atoms
+  pub extends : Extends x.arena y.arena
+
+-- The reader of the proof keeps what the theory knows of regexes and atoms, and these clauses, whose atoms it knows.
+pub record Backs (asked : Asked) (x : Strings) (kept : AllKept) (proof : Written) : Type 0 where
+  pub tracks : Tracks x.arena x.graph.memo x.trace kept
+  pub atoms : kept.atoms ≡ atoms_in x.arena x.atoms
+  pub clauses : kept.clauses ≡ proof.kept
+  pub known : HaveAtoms x.atoms proof.kept
+  pub counted : IsCounted asked kept proof.budget
+
+-- Where lines are put, those between the one proof and the other follow. Atoms stay, and so do regexes.
+pub record Writes (x y : Strings) (before after : Written) : Type 0 where
+  pub atoms : y.atoms ≡ x.atoms
+  pub proves : y.proves ≡ x.proves
+  pub extends : Extends x.arena y.arena
+  pub lines : x.proves ≡ true → (asked : Asked) (kept : AllKept) → Backs asked x kept before
+      → (more : AllKept) × Puts asked kept more before.told after.told × Backs asked y more after
+
+-- The clause is of memberships of one constant, no word makes it false, and it is false on the trail.
+pub record IsDenied (rs : List Regex) (atoms : List (AtomOver ℕ)) (entries : List Assigned) (x : ℕ) (clause : List Lit) :
+    Type 0
+  where
+    pub about : AreAbout atoms x clause
+    pub clash : AreClashing rs atoms (map negation clause)
+    pub some : clause ≢ []
+    pub ascend : Ascend clause
+    pub is_false : is_false_clause (held entries) clause ≡ true
+
+-- a lemma spends a step, and all is spent where that is the answer
+abbrev pub IsPaid : Spending → Spending → Checked → Type 0
+IsPaid before after Fine = Unit {0}
+IsPaid before after (Lemma clause) = before.spent < after.spent
+IsPaid before after (Ask l) = ⊥
+IsPaid before after Spent = after.spent ≡ after.limit
+
+-- What an answer says on a trail.
+pub record Answers (x y : Strings) (entries : List Assigned) (before after : Spending) (old new : Option (List ℕ))
+    (answer : Checked) : Type 0
+  where
+    pub fair : IsFair (is_atom x.atoms) (IsValid y.arena y.atoms) entries answer
+    pub paid : IsPaid before after answer
+    pub writes : (kept : Kept) → HasNoneFalse kept (held entries)
+        → Writes x y (written kept before old) (written (kept_behind kept answer) after new)
+
+-- A step over the next literal of the trail: it is taken in, or the answer is the end, where something is wrong.
+abbrev pub IsStep : Strings → Strings → List Assigned → Spending → Spending → Option (List ℕ) → Option (List ℕ)
+    → Option Checked → Type 0
+IsStep x y entries before after old new None =
+    Answers x y entries before after old new Fine × (length y.taken.items ≡ length x.taken.items + 1)
+IsStep x y entries before after old new (Some answer) =
+    Answers x y entries before after old new answer × (answer ≢ Fine)

@@ -1,0 +1,97 @@
+//! What literals are about, and what was taken in of them.
+
+ghost use Rattle.std.specs.Prelude.{◌≡◌, ◌∷◌, ◌++◌, [], List, None, OnOk, IfSome, IfNone};
+ghost use Rattle.sb_lit.specs.declared.clause.Lit.{Lit as TheLit};
+ghost use Rattle.sb_script.specs.Pieces.{constant_piece};
+ghost use Rattle.sb_rulebook.specs.Atoms.{in_atom};
+ghost use Rattle.sb_trail.specs.Assignments.{held, AreLevelled};
+ghost use Rattle.sb_atoms.specs.Numbered.{Names, atom_in};
+ghost use Rattle.sb_theory.specs.Places.{IsCut};
+ghost use Rattle.sb_theory.specs.Memberships.{constant_of, subject_of, AreMembers};
+
+use crate::place::{add, is_above};
+use crate::row::{Row, drop_member, put_member};
+use sb_atoms::{Atom, AtomId, Atoms};
+use sb_lit::Lit;
+use sb_regex::RegexId;
+use sb_term::Serial;
+use sb_trail::Entry;
+use std::alloc::{AllocError, Global};
+
+/// That a constant's word is in the language of a regex.
+#[derive(Clone, Copy, Debug)]
+pub(crate) struct Member {
+    pub serial: Serial,
+    pub regex: RegexId,
+}
+
+/// What a literal's atom says, where it is a membership of one constant.
+pub(crate) fn membership(atoms: &Atoms, literal: Lit) -> Option<Member>
+    ensures some { IfSome result
+        (λ found. Names atoms.now literal.atom (in_atom (constant_piece found.serial.0 ∷ []) found.regex)) }
+    ensures none { IfNone result (subject_of atoms.now literal ≡ None) }
+{
+    let id = AtomId::of(literal);
+    if id.number() >= atoms.len() {
+        return None;
+    }
+    member_in(atoms.describe(id))
+}
+
+/// What an atom says, where it is a membership.
+fn member_in(atom: &Atom) -> Option<Member>
+    ensures some { IfSome result
+        (λ found. atom_in atom.now ≡ in_atom (constant_piece found.serial.0 ∷ []) found.regex) }
+    ensures none { IfNone result (constant_of (atom_in atom.now) ≡ None) }
+{
+    match atom {
+        Atom::In(serial, regex) => Some(Member {
+            serial: *serial,
+            regex: *regex,
+        }),
+        Atom::Bool(_) | Atom::And(_) | Atom::Iff(..) => None,
+    }
+}
+
+/// Adds an entry to those that were taken in, and its literal to the row of its constant.
+pub(crate) fn keep(
+    alloc: Global,
+    atoms: &Atoms,
+    taken: &mut Vec<Entry>,
+    rows: &mut Vec<Row>,
+    entry: Entry,
+) -> Result<(), AllocError>
+    ensures taken { OnOk result (taken.new.items ≡ taken.old.items ++ entry ∷ []) }
+    ensures members { OnOk result (AreMembers atoms.now rows.old.items (held taken.old.items)
+        → AreMembers atoms.now rows.new.items (held taken.new.items)) }
+{
+    let literal = entry.literal();
+    let Some(member) = membership(atoms, literal) else {
+        return add(taken, entry);
+    };
+    put_member(alloc, rows, member.serial, literal)?;
+    add(taken, entry)
+}
+
+/// Takes the last literal that was taken in off the row of its constant. Takes no memory.
+pub(crate) fn forget(atoms: &Atoms, rows: &mut Vec<Row>, literal: Lit)
+    ensures { (ls : List TheLit) → AreMembers atoms.now rows.old.items (ls ++ literal ∷ [])
+        → AreMembers atoms.now rows.new.items ls }
+{
+    if let Some(member) = membership(atoms, literal) {
+        drop_member(rows, member.serial);
+    }
+}
+
+/// Takes the entries off whose level is above this one, and their literals off the rows. Takes no memory.
+pub(crate) fn cut(atoms: &Atoms, taken: &mut Vec<Entry>, rows: &mut Vec<Row>, level: usize)
+    ensures taken { AreLevelled 0 taken.old.items → IsCut level taken.old.items taken.new.items }
+    ensures members { AreMembers atoms.now rows.old.items (held taken.old.items)
+        → AreMembers atoms.now rows.new.items (held taken.new.items) }
+{
+    while is_above(taken, level) {
+        if let Some(entry) = taken.pop() {
+            forget(atoms, rows, entry.literal());
+        }
+    }
+}

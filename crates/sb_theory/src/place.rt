@@ -1,0 +1,71 @@
+//! Words by the serials of their constants.
+
+ghost use Rattle.std.specs.Prelude.{◌≡◌, ◌<◌, ◌∷◌, ◌++◌, [], length, IfOk, OnOk};
+ghost use Rattle.sb_lang.specs.Language.{language};
+ghost use Rattle.sb_regex.specs.Numbered.{regex_at, Extends};
+ghost use Rattle.sb_plain.specs.Memory.{IsRight};
+ghost use Rattle.sb_theory.specs.Memberships.{word_at, IsPut};
+ghost use Rattle.sb_theory.specs.Places.{is_above};
+
+use sb_lang::derivative::nullable_has_empty_word;
+use sb_plain::Plain;
+use sb_regex::{Arena, RegexId};
+use sb_term::Serial;
+use sb_trail::Entry;
+use sb_word::Word;
+use std::alloc::AllocError;
+
+/// Whether the word that a constant has is in the language of a regex.
+pub(crate) fn contains(
+    arena: &mut Arena,
+    plain: &mut Plain,
+    words: &[Option<Word>],
+    serial: Serial,
+    regex: RegexId,
+) -> Result<bool, AllocError>
+    requires known { regex < length arena.old }
+    requires right { IsRight arena.old plain.old }
+    ensures ok { IfOk result (λ b. b ≡ language (regex_at arena.old regex) (word_at words.now serial.0)) }
+    ensures extends { Extends arena.old arena.new }
+    ensures right { IsRight arena.new plain.new }
+{
+    nullable_has_empty_word();
+    match words.get(serial.0 as usize) {
+        Some(Some(word)) => plain.matches(arena, word, regex),
+        Some(None) | None => Ok(arena.nullable(regex)),
+    }
+}
+
+/// Puts the word of a constant.
+pub(crate) fn put_word(
+    words: &mut Vec<Option<Word>>,
+    serial: Serial,
+    word: Word,
+) -> Result<(), AllocError>
+    ensures { OnOk result (IsPut words.old.items words.new.items serial.0 word) }
+{
+    let place = serial.0 as usize;
+    while words.len() <= place {
+        words.push(None)?;
+    }
+    words[place] = Some(word);
+    Ok(())
+}
+
+/// Adds an entry.
+pub(crate) fn add(entries: &mut Vec<Entry>, entry: Entry) -> Result<(), AllocError>
+    ensures { OnOk result (entries.new.items ≡ entries.old.items ++ entry ∷ []) }
+{
+    entries.push(entry)?;
+    Ok(())
+}
+
+/// Whether the last entry's level is above this one.
+pub(crate) fn is_above(entries: &[Entry], level: usize) -> bool
+    ensures { result ≡ is_above level entries.now }
+{
+    match entries.last() {
+        Some(entry) => entry.level() > level,
+        None => false,
+    }
+}

@@ -1,0 +1,102 @@
+//! Literals of memberships by the serials of their constants.
+
+ghost use Rattle.std.specs.Prelude.{◌≡◌, ◌∷◌, ◌++◌, [], List, IfOk, OnOk};
+ghost use Rattle.sb_lit.specs.declared.clause.Lit.{Lit as TheLit};
+ghost use Rattle.sb_theory.specs.Memberships.{row_at};
+ghost use Rattle.sb_theory.specs.Places.{IsAdded, IsDropped};
+
+use sb_lit::Lit;
+use sb_term::Serial;
+use std::alloc::{AllocError, Global};
+use std::marker::Model;
+
+/// Literals of one constant, oldest first.
+#[derive(Debug, Drop)]
+pub(crate) struct Row {
+    literals: Vec<Lit>,
+}
+
+impl Model for Row {
+    ghost use Rattle.std.specs.Prelude.{List};
+    ghost use Rattle.sb_lit.specs.declared.clause.Lit.{Lit};
+
+    ghost Value = { List Lit };
+
+    ghost view = { λ row. row.literals.items };
+}
+
+impl Row {
+    /// No literals. Takes no memory.
+    fn new(alloc: Global) -> Row
+        ensures { result ≡ [] }
+    {
+        Row {
+            literals: Vec::new(alloc),
+        }
+    }
+
+    /// Adds a literal.
+    fn push(&mut self, literal: Lit) -> Result<(), AllocError>
+        ensures { OnOk result (self.new ≡ self.old ++ literal ∷ []) }
+    {
+        self.literals.push(literal)?;
+        Ok(())
+    }
+
+    /// Takes the last literal off. Takes no memory.
+    fn pop(&mut self)
+        ensures { (ls : List TheLit) (l : TheLit) → self.old ≡ ls ++ l ∷ [] → self.new ≡ ls }
+    {
+        self.literals.pop();
+    }
+
+    /// The literals.
+    fn literals(&self) -> &[Lit]
+        ensures { result.now ≡ self.now }
+    {
+        self.literals.as_slice()
+    }
+}
+
+/// Adds a literal to the row of a constant.
+pub(crate) fn put_member(
+    alloc: Global,
+    rows: &mut Vec<Row>,
+    serial: Serial,
+    literal: Lit,
+) -> Result<(), AllocError>
+    ensures { OnOk result (IsAdded rows.old.items rows.new.items serial.0 literal) }
+{
+    let place = serial.0 as usize;
+    while rows.len() <= place {
+        rows.push(Row::new(alloc))?;
+    }
+    rows[place].push(literal)
+}
+
+/// Takes the last literal off the row of a constant. Takes no memory.
+pub(crate) fn drop_member(rows: &mut Vec<Row>, serial: Serial)
+    ensures { IsDropped rows.old.items rows.new.items serial.0 }
+{
+    let place = serial.0 as usize;
+    if place < rows.len() {
+        rows[place].pop();
+    }
+}
+
+/// The literals in the row of a constant, and one more.
+pub(crate) fn members_with(
+    alloc: Global,
+    rows: &[Row],
+    serial: Serial,
+    literal: Lit,
+) -> Result<Vec<Lit>, AllocError>
+    ensures { IfOk result (λ found. found.items ≡ row_at rows.now serial.0 ++ literal ∷ []) }
+{
+    let Some(row) = rows.get(serial.0 as usize) else {
+        return Vec::from_slice(alloc, &[literal]);
+    };
+    let mut found = Vec::from_slice(alloc, row.literals())?;
+    found.push(literal)?;
+    Ok(found)
+}
