@@ -8,10 +8,12 @@ use std::process::Abort;
 use std::test::Fail;
 
 /// What is in front of the assertion.
-const NAMES: &[u8] = b"(declare-const x String)(declare-const p Bool)(declare-const q Bool)(assert ";
+const NAMES: &[u8] =
+    b"(declare-const x String)(declare-const p Bool)(declare-const q Bool)(assert ";
 
 /// Atom 0 is that x is "a", 1 that it is "b", and 2 and 3 are p and q. They stand in lines 4 to 7.
-const ATOMS: &[u8] = b"strproof 1\nr set 61-61\nr set 62-62\na in v0 : 0\na in v0 : 1\na bool 1\na bool 2\n";
+const ATOMS: &[u8] =
+    b"strproof 1\nr set 61-61\nr set 62-62\na in v0 : 0\na in v0 : 1\na bool 1\na bool 2\n";
 
 const FINE: &[u8] = b"check 1: unsupported\naccepted\n";
 
@@ -22,7 +24,11 @@ const ROWS: [Row; 18] = [
     (b"p", b"c assert 0 +2\n", FINE),
     (b"(not p)", b"c assert 0 -2\n", FINE),
     (b"(not (= \"b\" x))", b"c assert 0 -1\n", FINE),
-    (b"(not (str.in_re x (str.to_re \"a\")))", b"c assert 0 -0\n", FINE),
+    (
+        b"(not (str.in_re x (str.to_re \"a\")))",
+        b"c assert 0 -0\n",
+        FINE,
+    ),
     (b"true", b"a and\nc assert 0 +4\n", FINE),
     (b"false", b"a and\nc assert 0 -4\n", FINE),
     (b"(and p q)", b"a and +2 +3\nc assert 0 +4\n", FINE),
@@ -52,22 +58,66 @@ const ROWS: [Row; 18] = [
 ];
 
 const WRONG: [Row; 14] = [
-    (b"p", b"c assert 0 -2\n", b"refused at line 8: rule broken\n"),
-    (b"p", b"c assert 0 +3\n", b"refused at line 8: rule broken\n"),
-    (b"(not p)", b"c assert 0 +2\n", b"refused at line 8: rule broken\n"),
-    (b"(and p q)", b"c assert 0 +2\n", b"refused at line 8: rule broken\n"),
-    (b"(or p q)", b"a and -2 -3\nc assert 0 +4\n", b"refused at line 9: rule broken\n"),
-    (b"(or p q)", b"a and +2 +3\nc assert 0 +4\n", b"refused at line 9: rule broken\n"),
-    (b"(=> p q)", b"a and -2 +3\nc assert 0 -4\n", b"refused at line 9: rule broken\n"),
-    (b"(xor p q)", b"a iff +2 +3\nc assert 0 +4\n", b"refused at line 9: rule broken\n"),
-    (b"(= p q)", b"a iff +2 -3\nc assert 0 +4\n", b"refused at line 9: rule broken\n"),
+    (
+        b"p",
+        b"c assert 0 -2\n",
+        b"refused at line 8: rule broken\n",
+    ),
+    (
+        b"p",
+        b"c assert 0 +3\n",
+        b"refused at line 8: rule broken\n",
+    ),
+    (
+        b"(not p)",
+        b"c assert 0 +2\n",
+        b"refused at line 8: rule broken\n",
+    ),
+    (
+        b"(and p q)",
+        b"c assert 0 +2\n",
+        b"refused at line 8: rule broken\n",
+    ),
+    (
+        b"(or p q)",
+        b"a and -2 -3\nc assert 0 +4\n",
+        b"refused at line 9: rule broken\n",
+    ),
+    (
+        b"(or p q)",
+        b"a and +2 +3\nc assert 0 +4\n",
+        b"refused at line 9: rule broken\n",
+    ),
+    (
+        b"(=> p q)",
+        b"a and -2 +3\nc assert 0 -4\n",
+        b"refused at line 9: rule broken\n",
+    ),
+    (
+        b"(xor p q)",
+        b"a iff +2 +3\nc assert 0 +4\n",
+        b"refused at line 9: rule broken\n",
+    ),
+    (
+        b"(= p q)",
+        b"a iff +2 -3\nc assert 0 +4\n",
+        b"refused at line 9: rule broken\n",
+    ),
     (
         b"(ite p (= x \"a\") q)",
         b"a and +2 -3\na and -0 -2\na and -4 -5\nc assert 0 +6\n",
         b"refused at line 11: rule broken\n",
     ),
-    (b"(= x x)", b"c assert 0 +0\n", b"refused at line 8: rule broken\n"),
-    (b"(distinct x \"a\" \"b\")", b"a and -0 -1\nc assert 0 +4\n", b"refused at line 9: rule broken\n"),
+    (
+        b"(= x x)",
+        b"c assert 0 +0\n",
+        b"refused at line 8: rule broken\n",
+    ),
+    (
+        b"(distinct x \"a\" \"b\")",
+        b"a and -0 -1\nc assert 0 +4\n",
+        b"refused at line 9: rule broken\n",
+    ),
     (b"p", b"a bool 0\n", b"refused at line 8: unknown id\n"),
     (b"p", b"a in v1 : 0\n", b"refused at line 8: unknown id\n"),
 ];
@@ -81,7 +131,12 @@ fn joined(alloc: Global, texts: &[&[u8]]) -> Result<Vec<u8>, AllocError> {
     Ok(all)
 }
 
-fn expect_row(rt: &impl Abort, alloc: Global, row: &Row, wanted: CheckStatus) -> Result<(), AllocError> {
+fn expect_row(
+    rt: &impl Abort,
+    alloc: Global,
+    row: &Row,
+    wanted: CheckStatus,
+) -> Result<(), AllocError> {
     let script = joined(alloc, &[NAMES, row.0, b")(check-sat)"])?;
     let proof = joined(alloc, &[ATOMS, row.1, b"v unsupported\nend\n"])?;
     expect(rt, alloc, &script, &proof, 4096, row.2, wanted)

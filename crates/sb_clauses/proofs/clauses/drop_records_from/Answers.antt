@@ -12,8 +12,7 @@ loop-number-init c = (c.requires.empty, refl, c.requires.found)
 pub loop-number-preserved : goal.loop-number-preserved
 loop-number-preserved c =
     let rows = c.loop-number.records in
-    let n = c.loop-number.number in
-    (
+    let n = c.loop-number.number in (
       empty_one n (kept_of rows.items) _
           (omega (arith, c.loop-number-test.true, c.len.ensures, rows.ok.0, length-map rows.items (option_map clause_of)))
           c.empty.ensures.emptied c.loop-number.invariant.0,

@@ -7,8 +7,7 @@ use Rattle.sb_clauses.proofs.clauses.Clauses.drop_all.Goals as goal
 
 pub invariant_of-self : goal.invariant_of-self
 invariant_of-self c =
-    let rows = c.drop_records_from.new.records in
-    (
+    let rows = c.drop_records_from.new.records in (
       scoped_none (kept_of c.self.inside.records.items) (kept_of rows.items) _ c.clear.ensures.heap_order
           c.drop_records_from.ensures.dropped,
       c.drop_records_from.ensures.found,
