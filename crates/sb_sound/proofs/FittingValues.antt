@@ -13,8 +13,7 @@ use Rattle.sb_rulebook.specs.Atoms.{word_at}
 use Rattle.sb_rulebook.specs.AtomRules.{is_declared}
 use Rattle.sb_sound.specs.Tables.{HasWords}
 use Rattle.sb_sound.specs.TermLaws.{HasSorts}
-use Rattle.sb_sound.proofs.ReadTerms.{naming_fits}
-use Rattle.sb_sound.proofs.ScriptHistory.{has_default}
+use Rattle.sb_sound.specs.ScriptLaws.{naming_fits, has_default}
 
 all_at : {X : Type 0} → (p : X → Bool) (xs : List X) (k : ℕ) (x : X) → list_all p xs ≡ true
     → slice_get xs k ≡ Some x → p x ≡ true

@@ -1,10 +1,10 @@
 -- A term that is read fits the sorts, where the names in force do.
-use Rattle.std.proofs.Common.{◌≡◌, ℕ, zero, suc, ◌<◌, Bool, true, false, not, ◌&&◌, if◌then◌else◌, nat_lt, nat_le, eqb, List, [], ◌∷◌, ◌++◌, length, map, codes, slice_get, Option, Some, None, unwrap_or, Result, Ok, Err, refl, subst, ◌∙◌, arith}
+use Rattle.std.proofs.Common.{◌≡◌, ℕ, zero, suc, ◌<◌, Bool, true, false, not, ◌&&◌, if◌then◌else◌, nat_le, eqb, List, [], ◌∷◌, ◌++◌, length, map, codes, slice_get, Option, Some, None, unwrap_or, Result, Ok, Err, refl, subst, ◌∙◌, arith}
 use Rattle.std.specs.Prelude.{is_none, is_some}
 use Rattle.std.specs.List.{list_all}
 use Rattle.std.proofs.lemmas.List.{length-map}
 use Rattle.std.proofs.lemmas.Bool.{and_parts, and_from, ltb-true, eqb-true}
-use Rattle.sb_word.specs.Words.{is_character, are_characters}
+use Rattle.sb_word.specs.Words.{is_character}
 use Rattle.sb_word.specs.LiteralWords.{character_of, word_of_literal, first_bad}
 use Rattle.sb_word.proofs.CallerLemmas.{text_is_word}
 use Rattle.sb_reader.specs.Forms.{Form, Forms, Symbol, QuotedSymbol, Keyword, Numeral, OtherNumber, Words, Group, none, more}
@@ -18,25 +18,12 @@ use Rattle.sb_script.specs.Symbols.{symbol_named, is_indexed, is_left_out}
 use Rattle.sb_script.specs.Reading.{◌>>=◌, read_name, read_index_list, read_reserved, is_let, first_again, names_in, once, read, read_list, read_all, read_list_head, read_let, read_bindings}
 use Rattle.sb_rulebook.specs.AtomRules.{is_declared}
 use Rattle.sb_sound.specs.TermLaws.{fits_sorts, all_fit}
+use Rattle.sb_sound.specs.ScriptLaws.{fits_in, all_in, kind_fits, naming_fits}
 use Rattle.sb_script.specs.Faults.{Fault, unknown_symbol, wrong_sort, wrong_count, bad_index, unsupported, numeral_too_large, bad_literal, malformed, already_bound}
 use Rattle.sb_script.specs.Heads.{Head, head_constant, head_symbol, head_definition, head_term, head_of, head_of_theory, indices_of, are_small_indices, symbol_with, if_small_indices, with_indices, hexadecimal_digits, character_word, without_indices, judged, joined, made, with_arguments, each_with_arguments, unless, judged_definition, read_head, applied_to, read_indexed}
 use Rattle.sb_script.specs.Texts.{read_text, number_of, read_numeral}
 use Rattle.sb_sound.proofs.PassFacts.{all_append}
 use Rattle.sb_sound.proofs.ReadTexts.{character_spelled}
-
--- the constants of the term are declared with their sorts, its words are of characters, and its parameters are among
--- the first so many
-abbrev mutual
-  pub fits_in : List Sort → ℕ → Term → Bool
-  fits_in sorts n (constant serial sort) = is_declared sorts sort serial
-  fits_in sorts n (word w) = are_characters w
-  fits_in sorts n (numeral k) = true
-  fits_in sorts n (apply s terms) = all_in sorts n terms
-  fits_in sorts n (parameter place sort) = nat_lt place n
-
-  pub all_in : List Sort → ℕ → Terms → Bool
-  all_in sorts n no_terms = true
-  all_in sorts n (with_term t ts) = fits_in sorts n t && all_in sorts n ts
 
 -- without parameters
 mutual
@@ -53,16 +40,6 @@ mutual
   all_without sorts (with_term t ts) h =
       let parts = and_parts (fits_in sorts 0 t) (all_in sorts 0 ts) h in
       and_from (fits_sorts sorts t) (all_fit sorts ts) (fits_without sorts t parts.0) (all_without sorts ts parts.1)
-
--- what a name stands for fits the sorts
-abbrev pub kind_fits : List Sort → ℕ → Named → Bool
-kind_fits sorts n (a_constant serial sort) = is_declared sorts sort serial
-kind_fits sorts n (a_definition kinds body) = fits_in sorts (length kinds) body
-kind_fits sorts n a_marked_name = true
-kind_fits sorts n (a_term t) = fits_in sorts n t
-
-abbrev pub naming_fits : List Sort → ℕ → Naming → Bool
-naming_fits sorts n naming = kind_fits sorts n naming.1
 
 abbrev head_fits : List Sort → ℕ → Head → Bool
 head_fits sorts n (head_constant serial sort) = is_declared sorts sort serial

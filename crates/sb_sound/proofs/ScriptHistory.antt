@@ -9,7 +9,7 @@ use Rattle.sb_reader.specs.Forms.{Form, Symbol, QuotedSymbol, Numeral, Group, no
 use Rattle.sb_script.specs.Texts.{number_of}
 use Rattle.sb_reader.specs.Entries.{Entry, Command, Refused}
 use Rattle.sb_meaning.specs.Terms.{Sort, Term, Terms, boolean, constant, word, numeral, apply, parameter, no_terms, with_term}
-use Rattle.sb_meaning.specs.Values.{Valuation, default_of, is_of}
+use Rattle.sb_meaning.specs.Values.{Valuation}
 use Rattle.sb_meaning.specs.Sorts.{sort_of, is_same_sort}
 use Rattle.sb_script.specs.Names.{Name, is_name, begins_term}
 use Rattle.sb_script.specs.Scopes.{Named, a_constant, a_definition, a_marked_name, a_term, named}
@@ -33,11 +33,12 @@ use Rattle.sb_rulebook.specs.Kept.{Asked}
 use Rattle.sb_rulebook.specs.Judging.{Event}
 use Rattle.sb_rulebook.specs.Accepted.{term_of, at_level, live_by_level, asked_in, events_of, state_behind, events}
 use Rattle.sb_sound.specs.TermLaws.{fits_sorts}
-use Rattle.sb_sound.specs.SoundLaws.{AreTerms, KeepsSorts, Continues, GoesOn}
+use Rattle.sb_sound.specs.SoundLaws.{KeepsSorts, Continues, GoesOn}
 use Rattle.sb_sound.specs.AcceptedLaws.{IsHistory, ScriptIsHistory}
 use Rattle.sb_sound.proofs.Accepting.{slice_get-more, Contains-slice_get}
 use Rattle.sb_sound.proofs.PassFacts.{all_weaker, all_append, all_push}
-use Rattle.sb_sound.proofs.ReadTerms.{found_fits, named_fits, fits_in, all_in, fits_without, kind_fits, naming_fits, if_read, term_read}
+use Rattle.sb_sound.specs.ScriptLaws.{fits_in, all_in, kind_fits, naming_fits, assertion_fits, Fits, AllFit, has_default, IsFit, StartIsFit, FitMeansTerms, LeadsOn, EntriesLeadOn}
+use Rattle.sb_sound.proofs.ReadTerms.{found_fits, named_fits, fits_without, if_read, term_read}
 
 -- Sorts grow at the end.
 
@@ -76,29 +77,10 @@ kind_more xs ys n m low (a_term t) h = fits_more xs ys n m low t h
 
 -- The names in force and the live terms fit the sorts of the constants.
 
-abbrev pub assertion_fits : List Sort → Assertion → Bool
-assertion_fits sorts (asserted term) = fits_in sorts 0 term
-assertion_fits sorts a_mark = true
-
 assertion_more : (xs ys : List Sort) (a : Assertion) → assertion_fits xs a ≡ true
     → assertion_fits (xs ++ ys) a ≡ true
 assertion_more xs ys (asserted term) h = fits_more xs ys 0 0 (omega arith) term h
 assertion_more xs ys a_mark h = refl
-
-pub record Fits (sorts : List Sort) (level : Level) : Type 0 where
-  pub names : list_all (naming_fits sorts 0) level.names ≡ true
-  pub assertions : list_all (assertion_fits sorts) level.assertions ≡ true
-
-abbrev pub AllFit : List Sort → Level → List Level → Type 0
-AllFit sorts first [] = Fits sorts first
-AllFit sorts first (level ∷ levels) = AllFit sorts first levels × Fits sorts level
-
--- the sort's default is of the sort: all sorts of constants are such
-abbrev pub has_default : Sort → Bool
-has_default sort = is_of sort (default_of sort)
-
-abbrev pub IsFit : State → Type 0
-IsFit s = AllFit s.sorts s.first s.above × (list_all has_default s.sorts ≡ true)
 
 empty_fits : (sorts : List Sort) → Fits sorts empty_level
 empty_fits sorts = record { names = refl; assertions = refl }
@@ -142,7 +124,7 @@ live_terms_fit sorts first (level ∷ levels) h =
     All-append (IsTerm sorts) (live_by_level first levels) (at_level (length levels + 1) level.assertions)
     (live_terms_fit sorts first levels h.0) (level_terms sorts (length levels + 1) level.assertions h.1.assertions)
 
-are_terms : (s : State) → IsFit s → AreTerms (asked_in s)
+pub are_terms : FitMeansTerms
 are_terms s fit a t among is =
     All-contains (IsTerm s.sorts) (live_by_level s.first s.above) a
     (live_terms_fit s.sorts s.first s.above fit.0) among t is
@@ -757,8 +739,18 @@ history [] s fit before goes = tt
 history (entry ∷ entries) s fit before goes =
     history_by s fit before goes entries (step_of entry s) (history entries) (entry_keeps s fit entry)
 
-pub start_fits : IsFit start
+pub start_fits : StartIsFit
 start_fits = (empty_fits [], refl)
 
 pub script_history : ScriptIsHistory
 script_history entries = history entries start start_fits (asked_in start) (goes_on_same (asked_in start))
+
+goes_on : (s : State) (x : Step) → IsKept s x → LeadsOn s x
+goes_on s (answers bytes now) on = (goes_further (asked_in s) s now (goes_on_same (asked_in s)) on, on.fit)
+goes_on s (leaves (above level) bytes now) left = left
+goes_on s (leaves all bytes now) left = left
+goes_on s (checks given) kept = tt
+goes_on s (exits bytes) kept = tt
+
+pub entries_lead_on : EntriesLeadOn
+entries_lead_on entry s fit = goes_on s (step_of entry s) (entry_keeps s fit entry)

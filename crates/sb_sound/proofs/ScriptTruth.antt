@@ -2,7 +2,7 @@
 use Rattle.std.proofs.Common.{◌≡◌, ℕ, Bool, true, List, [], ◌∷◌, ◌++◌, map, Option, Some, None, refl, sym, subst, ◌∙◌}
 use Rattle.std.specs.List.{list_all, list_any}
 use Rattle.std.specs.Prelude.{slice_get}
-use Rattle.std.proofs.lemmas.Bool.{and_parts, and_from}
+use Rattle.std.proofs.lemmas.Bool.{true≢false, and_parts, and_from}
 use Rattle.sb_reader.specs.Entries.{Entry}
 use Rattle.sb_meaning.specs.Terms.{Term}
 use Rattle.sb_meaning.specs.Values.{Value, Valuation}
@@ -22,7 +22,8 @@ use Rattle.sb_sound.specs.SoundLaws.{LevelsHold, AreContradicted, AreContradicte
 use Rattle.sb_sound.specs.VerdictLaws.{IsModel}
 use Rattle.sb_sound.specs.AcceptedLaws.{AllMeanSo, questions, counted_among, AcceptedScriptMeansSo}
 use Rattle.sb_sound.specs.TruthLaws.{terms_at, AreContradictory, IsTrueUnsat, IsTrueSat, IsTrueOf, AreTrueBehind, AreTrue, AcceptedScriptIsTrue}
-use Rattle.sb_sound.proofs.ScriptHistory.{IsFit, IsKept, names_fit, assumption_fits, start_fits, entry_keeps}
+use Rattle.sb_sound.specs.ScriptLaws.{IsFit, EmptyClauseRefutes}
+use Rattle.sb_sound.proofs.ScriptHistory.{IsKept, names_fit, assumption_fits, start_fits, entry_keeps}
 use Rattle.sb_sound.proofs.FittingValues.{has_sorts, has_words}
 use Rattle.sb_sound.proofs.AssumedTerms.{hold_both, given_hold, unless_mark, live_hold, asserted_hold, places_hold}
 use Rattle.sb_sound.proofs.PassFacts.{all_filter, all_contained}
@@ -147,3 +148,11 @@ true_along (entry ∷ entries) s fit came verdicts h =
 pub script_true : AcceptedScriptMeansSo → AcceptedScriptIsTrue
 script_true means entries bytes verdicts h =
     true_along entries state.start start_fits (texts_of bytes) verdicts (means entries bytes verdicts h)
+
+-- The empty clause is true under no valuation.
+pub empty_clause : EmptyClauseRefutes
+empty_clause s kept id level fit sound there model =
+    let v = model.0 in
+    let parts = and_parts (fits (constants_of s) v) (all_hold (live_terms s) v) model.1 in
+    absurd (true≢false (sym (sound.clauses id (record { literals = []; level = level }) there v
+    (has_words (constants_of s) v parts.0) (sorts_of s fit v parts.0) (levels_hold s fit v parts.1 level))))

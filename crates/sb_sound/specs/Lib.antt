@@ -10,6 +10,7 @@ pub mod VerdictLaws
 pub mod TermLaws
 pub mod TranslationLaws
 pub mod SoundLaws
+pub mod ScriptLaws
 pub mod AcceptedLaws
 pub mod LimitLaws
 pub mod CountLaws

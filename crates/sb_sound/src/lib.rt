@@ -22,6 +22,7 @@ pub mod memberships;
 pub mod proofs;
 pub mod regexes;
 pub mod relevant;
+pub mod scripts;
 pub mod steps;
 pub mod terms;
 pub mod translations;
