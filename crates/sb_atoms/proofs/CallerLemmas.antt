@@ -1,15 +1,18 @@
 -- What a caller cites of atoms by their numbers, in a table and an arena that grow, and of literals in order.
-use Rattle.std.proofs.Common.{◌≡◌, ℕ, suc, ◌≤◌, List, [], ◌∷◌, ◌++◌, length, refl, ap, ap₂, arith}
+use Rattle.std.proofs.Common.{◌≡◌, ℕ, zero, suc, ◌+◌, ◌<◌, ◌≤◌, Bool, true, false, nat_lt, List, [], ◌∷◌, ◌++◌, length, refl, ap, ap₂, subst, ◌∙◌, arith}
+use Rattle.std.proofs.lemmas.Bool.{and_from, ltb-true}
+use Rattle.std.proofs.lemmas.Bool.Decides.{nat_tests}
 use Rattle.std.proofs.lemmas.Option.{slice_get_within}
 use Rattle.sb_lang.specs.Regex.{Regex}
 use Rattle.sb_regex.specs.Numbered as regex
 use Rattle.sb_regex.proofs.CallerLemmas.{at_kept, long_kept}
 use Rattle.sb_rulebook.specs.Atoms.{AtomOver, bool_atom, in_atom, le_atom, sum_atom, and_atom, iff_atom}
-use Rattle.sb_atoms.specs.Numbered.{Names, over, atoms_in, HasRegexBelow, HaveRegexesBelow}
+use Rattle.sb_rulebook.specs.Tables.{names_below, is_table_from, is_table}
+use Rattle.sb_atoms.specs.Numbered.{Names, Extends, over, atoms_in, HasRegexBelow, HaveRegexesBelow, NameEarlier}
 -- atoms over an arena are one where their numbers are
 pub use Rattle.sb_atoms.proofs.Translating.{over_one}
--- literals in order ascend
-pub use Rattle.sb_atoms.proofs.Ordered.{order_ascends}
+-- literals in order ascend, and are of atoms below a number where all are, as their negations
+pub use Rattle.sb_atoms.proofs.Ordered.{order_ascends, below_in_order, below_negations}
 
 pub no_atoms : (n : ℕ) → HaveRegexesBelow n []
 no_atoms n i a h = absurd (nothing i a h)
@@ -50,3 +53,53 @@ pub atoms_more : (rs : List Regex) (old more : List (AtomOver ℕ)) → atoms_in
     ≡ atoms_in rs old ++ atoms_in rs more
 atoms_more rs [] more = refl
 atoms_more rs (a ∷ old) more = ap (λ bs. over rs a ∷ bs) (atoms_more rs old more)
+
+-- an old atom has its number in the smaller table
+pub named_before : (old more : List (AtomOver ℕ)) (i : ℕ) (a : AtomOver ℕ) → i < length old → Names (old ++ more) i a
+    → Names old i a
+named_before [] more i a low h = absurd (omega (arith, low))
+named_before (x ∷ xs) more zero a low h = h
+named_before (x ∷ xs) more (suc i) a low h = named_before xs more i a (omega (arith, low)) h
+
+-- Atoms that name no literal but of those before them.
+
+pub earlier_none : (atoms : List (AtomOver ℕ)) → NameEarlier (length atoms) atoms
+earlier_none atoms i a from h = absurd (early (slice_get_within atoms i a h))
+  where
+    early : i < length atoms → ⊥
+    early low = omega (arith, from, low)
+
+pub earlier_more : (from : ℕ) (old new : List (AtomOver ℕ)) → Extends old new → NameEarlier from old
+    → NameEarlier (length old) new → NameEarlier from new
+earlier_more from old new e p q = λ i a low h rs. step i a low h rs (nat_lt i (length old)) refl
+  where
+    step : (i : ℕ) (a : AtomOver ℕ) → from ≤ i → Names new i a → (rs : List Regex) → (b : Bool)
+        → nat_lt i (length old) ≡ b → names_below i (over rs a) ≡ true
+    step i a low h rs true is =
+        p i a low
+        (named_before old e.more i a (ltb-true i (length old) is)
+        (subst (λ (atoms : List (AtomOver ℕ)). Names atoms i a) e.is h)) rs
+    step i a low h rs false is = q i a (grind (arith, nat_tests)) h rs
+
+table_from : (rs : List Regex) (n : ℕ) (atoms : List (AtomOver ℕ))
+    → ((i : ℕ) (a : AtomOver ℕ) → Names atoms i a → names_below (n + i) (over rs a) ≡ true)
+    → is_table_from n (atoms_in rs atoms) ≡ true
+table_from rs n [] h = refl
+table_from rs n (a ∷ atoms) h =
+    let first : n ≡ n + 0 = omega arith in
+    and_from (names_below n (over rs a)) (is_table_from (suc n) (atoms_in rs atoms))
+    (ap (λ m. names_below m (over rs a)) first ∙ h 0 a refl)
+    (table_from rs (suc n) atoms (later n h))
+  where
+    later : (n : ℕ) → ((i : ℕ) (b : AtomOver ℕ) → Names (a ∷ atoms) i b → names_below (n + i) (over rs b) ≡ true)
+        → (i : ℕ) (b : AtomOver ℕ) → Names atoms i b → names_below (suc n + i) (over rs b) ≡ true
+    later n h i b k =
+        let at : suc n + i ≡ n + suc i = omega arith in
+        ap (λ m. names_below m (over rs b)) at ∙ h (suc i) b k
+
+-- they are a table, over whatever regexes
+pub earlier_table : (rs : List Regex) (atoms : List (AtomOver ℕ)) → NameEarlier 0 atoms
+    → is_table (atoms_in rs atoms) ≡ true
+earlier_table rs atoms h =
+    table_from rs 0 atoms (λ i a k.
+    let at : 0 + i ≡ i = omega arith in ap (λ n. names_below n (over rs a)) at ∙ h i a (omega arith) k rs)

@@ -151,6 +151,7 @@ pub grown_conjunction : (adds : Bool) (old new : List (AtomOver ℕ)) (ls ordere
 grown_conjunction adds old new ls ordered e other below g = λ regexes given.
     grown_one adds regexes given old new (and_atom ordered) g tt
     (formed_many ordered other (ap are_ascending e ∙ order_ascends ls))
+    (λ rs. ap (are_below (length old)) e ∙ below_in_order (length old) ls below)
     (λ sorts is before l. known_below (length old) ordered before l
     (ap (are_below (length old)) e ∙ below_in_order (length old) ls below))
 
@@ -212,6 +213,7 @@ grown_iff : (adds : Bool) (old new : List (AtomOver ℕ)) (l m : Lit) → is_wel
     → GrownByGates adds old new
 grown_iff adds old new l m formed p q g = λ regexes given.
     grown_one adds regexes given old new (iff_atom l m) g tt formed
+    (λ rs. and_from (is_below (length old) l) (is_below (length old) m) p q)
     (λ sorts is before e. known_below (length old) (l ∷ m ∷ []) before e
     (and_from (is_below (length old) l) (is_below (length old) m && true) p
     (and_from (is_below (length old) m) true q refl)))

@@ -164,7 +164,7 @@ pub member_moves : (adds : Bool) (rs more : List Regex) (old new : List (AtomOve
 member_moves adds rs more old new serial R a e of g = record {
   arena = e;
   atoms = grown_one adds (length more) (λ sorts. is_declared sorts text serial) old new a g
-      (its_regex more serial R a of) (rw of.1 refl)
+      (its_regex more serial R a of) (rw of.1 refl) (λ rs. rw of.1 refl)
       (λ sorts is before l. rw of.1 (and_from (is_declared sorts text serial) true is refl));
 }
 
@@ -362,6 +362,7 @@ pub constant_moves : (adds : Bool) (rs : List Regex) (old new : List (AtomOver �
 constant_moves adds rs old new t serial a is e g same = record {
   arena = same;
   atoms = grown_one adds (length rs) (λ sorts. has_declared sorts t) old new a g (rw e tt) (rw e refl)
+      (λ rs. rw e refl)
       (λ sorts d before l. rw e (ap (has_declared sorts) (sym is) ∙ d));
 }
 

@@ -8,8 +8,9 @@ use Rattle.sb_regex.specs.Numbered as regex
 use Rattle.sb_regex.proofs.CallerLemmas.{extends_same, extends_more, long_kept}
 use Rattle.sb_rulebook.specs.Atoms.{Atom, AtomOver, is_well_formed}
 use Rattle.sb_rulebook.specs.AtomRules.{has_its_parts}
+use Rattle.sb_rulebook.specs.Tables.{names_below}
 use Rattle.sb_rulebook.proofs.CallerLemmas.{Stays}
-use Rattle.sb_atoms.specs.Numbered.{Names, Extends, atoms_in, HasRegexBelow, HaveRegexesBelow}
+use Rattle.sb_atoms.specs.Numbered.{Names, Extends, over, atoms_in, HasRegexBelow, HaveRegexesBelow, NameEarlier}
 use Rattle.sb_atoms.specs.Translated.{has_declared, AreDefined}
 use Rattle.sb_atoms.specs.Growing.{Grown, GrownByGates, GrownByOne, Moves}
 use Rattle.sb_atoms.proofs.CallerLemmas.{regex_kept, atoms_kept, atoms_more}
@@ -43,6 +44,7 @@ grown_none adds regexes given old = record {
   still = λ e. refl;
   regex = λ i a h. absurd (nothing a i h);
   formed = λ i a h. absurd (nothing a i h);
+  earlier = λ i a h. absurd (nothing a i h);
   parts = λ sorts g i a h before l. absurd (nothing a i h);
 }
 
@@ -59,9 +61,10 @@ longer_by_one old a e = omega (arith, ap length e, length-append old (a ∷ []))
 
 pub grown_one : (adds : Bool) (regexes : ℕ) (given : List Sort → Bool) (old new : List (AtomOver ℕ)) (a : AtomOver ℕ)
     → GrownByOne adds old new a → HasRegexBelow regexes a → is_well_formed a ≡ true
+    → ((rs : List Regex) → names_below (length old) (over rs a) ≡ true)
     → ((sorts : List Sort) → given sorts ≡ true → (before : List Atom) → length before ≡ length old
     → has_its_parts sorts before a ≡ true) → Grown adds regexes given old new
-grown_one adds regexes given old new a g below formed parts = step g.one
+grown_one adds regexes given old new a g below formed earlier parts = step g.one
   where
     step : (new ≡ old) ⊎ (new ≡ old ++ a ∷ []) → Grown adds regexes given old new
     step (inl e) = grown_same adds regexes given old new e
@@ -71,6 +74,10 @@ grown_one adds regexes given old new a g below formed parts = step g.one
       still = λ off. absurd (longer_by_one old a (sym e ∙ g.still off));
       regex = λ i b h. let p = one_only a b i h in rw (← p.1) below;
       formed = λ i b h. let p = one_only a b i h in rw (← p.1) formed;
+      earlier = λ i b h rs.
+          let p = one_only a b i h in
+          let at : length old + i ≡ length old = omega (arith, p.0) in
+          rw (← p.1) (ap (λ n. names_below n (over rs a)) at ∙ earlier rs);
       parts = λ sorts is i b h before l.
           let p = one_only a b i h in
           rw (← p.1) (parts sorts is before (omega (arith, l, p.0)));
@@ -85,6 +92,7 @@ grown_given adds regexes given wider old new f g = record {
   still = g.still;
   regex = g.regex;
   formed = g.formed;
+  earlier = g.earlier;
   parts = λ sorts is. g.parts sorts (f sorts is);
 }
 
@@ -99,6 +107,13 @@ grown_both adds n m given old mid new le p q = record {
     | inr t ↦ q.regex t.0 a t.2
   ];
   formed = λ i a h. elim (split p.more q.more i a h) [ inl k ↦ p.formed i a k | inr t ↦ q.formed t.0 a t.2 ];
+  earlier = λ i a h rs. elim (split p.more q.more i a h) [
+    | inl k ↦ p.earlier i a k rs
+    | inr t ↦
+        let at : length old + i ≡ length mid + t.0 =
+        omega (arith, t.1, ap length p.is, length-append old p.more) in
+        ap (λ n. names_below n (over rs a)) at ∙ q.earlier t.0 a t.2 rs
+  ];
   parts = λ sorts is i a h before l. elim (split p.more q.more i a h) [
     | inl k ↦ p.parts sorts is i a k before l
     | inr t ↦ q.parts sorts is t.0 a t.2 before
@@ -141,6 +156,16 @@ pub grown_defined : {adds : Bool} (regexes : ℕ) (t : Term) (old new : List (At
 grown_defined regexes t old new g = rw g.is (λ i a from h. elim (split old g.more i a h) [
   | inl k ↦ absurd (early i a from k)
   | inr p ↦ (g.formed p.0 a p.2, λ sorts before is l. g.parts sorts is p.0 a p.2 before (l ∙ p.1))
+])
+  where
+    early : (i : ℕ) (a : AtomOver ℕ) → length old ≤ i → Names old i a → ⊥
+    early i a from k = omega (arith, from, slice_get_within old i a k)
+
+pub grown_earlier : {adds : Bool} {regexes : ℕ} {given : List Sort → Bool} (old new : List (AtomOver ℕ))
+    → Grown adds regexes given old new → NameEarlier (length old) new
+grown_earlier old new g = rw g.is (λ i a from h rs. elim (split old g.more i a h) [
+  | inl k ↦ absurd (early i a from k)
+  | inr p ↦ ap (λ n. names_below n (over rs a)) p.1 ∙ g.earlier p.0 a p.2 rs
 ])
   where
     early : (i : ℕ) (a : AtomOver ℕ) → length old ≤ i → Names old i a → ⊥

@@ -7,6 +7,7 @@ use Rattle.sb_meaning.specs.Terms.{Sort, Term}
 use Rattle.sb_regex.specs.Numbered as regex
 use Rattle.sb_rulebook.specs.Atoms.{Atom, AtomOver, is_well_formed}
 use Rattle.sb_rulebook.specs.AtomRules.{has_its_parts}
+use Rattle.sb_rulebook.specs.Tables.{names_below}
 use Rattle.sb_rulebook.specs.Translation.{positive}
 use Rattle.sb_fragment.specs.declared.measure.Measure.{Measure}
 use Rattle.sb_fragment.specs.Measures.{AreMeasures}
@@ -20,14 +21,16 @@ is_below n l = nat_lt l.atom n
 abbrev pub are_below : ℕ → List Lit → Bool
 are_below n ls = list_all (is_below n) ls
 
--- The table has more atoms, or where none is to be added the same. Each of them is right where it stands, given what is
--- said of the sorts of constants.
+-- The table has more atoms, or where none is to be added the same. Each of them names no literal but of the atoms before
+-- it, and is right where it stands, given what is said of the sorts of constants.
 pub record Grown (adds : Bool) (regexes : ℕ) (given : List Sort → Bool) (old new : List (AtomOver ℕ)) : Type 0 where
   pub more : List (AtomOver ℕ)
   pub is : new ≡ old ++ more
   pub still : adds ≡ false → more ≡ []
   pub regex : (i : ℕ) (a : AtomOver ℕ) → Names more i a → HasRegexBelow regexes a
   pub formed : (i : ℕ) (a : AtomOver ℕ) → Names more i a → is_well_formed a ≡ true
+  pub earlier : (i : ℕ) (a : AtomOver ℕ) → Names more i a → (rs : List Regex)
+      → names_below (length old + i) (over rs a) ≡ true
   pub parts : (sorts : List Sort) → given sorts ≡ true → (i : ℕ) (a : AtomOver ℕ) → Names more i a
       → (before : List Atom) → length before ≡ length old + i → has_its_parts sorts before a ≡ true
 

@@ -1,8 +1,9 @@
 -- Atoms by their numbers in a list.
-use Rattle.std.specs.Prelude.{◌≡◌, ◌⊎◌, ℕ, ◌<◌, List, [], ◌∷◌, ◌++◌, map, slice_get, Option, Some, None}
+use Rattle.std.specs.Prelude.{◌≡◌, ◌⊎◌, ℕ, ◌<◌, ◌≤◌, true, List, [], ◌∷◌, ◌++◌, map, slice_get, Option, Some, None}
 use Rattle.sb_lang.specs.Regex.{Regex}
 use Rattle.sb_regex.specs.Numbered.{regex_at}
 use Rattle.sb_rulebook.specs.Atoms.{Atom, AtomOver, bool_atom, in_atom, le_atom, sum_atom, and_atom, iff_atom}
+use Rattle.sb_rulebook.specs.Tables.{names_below}
 use Rattle.sb_script.specs.Pieces.{constant_piece}
 use Rattle.sb_atoms.specs.declared.atom.Atom as code
 use Rattle.sb_atoms.specs.declared.atom.Atom.TheVariants as atom
@@ -60,3 +61,8 @@ HasRegexBelow n _ = Unit {0}
 
 abbrev pub HaveRegexesBelow : ℕ → List (AtomOver ℕ) → Type 0
 HaveRegexesBelow n atoms = (i : ℕ) (atom : AtomOver ℕ) → Names atoms i atom → HasRegexBelow n atom
+
+-- each atom from this number on names no literal but of the atoms before it
+abbrev pub NameEarlier : ℕ → List (AtomOver ℕ) → Type 0
+NameEarlier from atoms = (i : ℕ) (atom : AtomOver ℕ) → from ≤ i → Names atoms i atom → (rs : List Regex)
+    → names_below i (over rs atom) ≡ true

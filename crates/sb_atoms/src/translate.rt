@@ -12,7 +12,7 @@ ghost use Rattle.sb_fragment.specs.Measures.{AreMeasures};
 ghost use Rattle.sb_fragment.specs.Shapes.{are_numbers, are_word_pairs, parts_of, terms_of_pairs};
 ghost use Rattle.sb_rulebook.specs.AtomRules.{is_declared};
 ghost use Rattle.sb_rulebook.specs.Translation as rules;
-ghost use Rattle.sb_atoms.specs.Numbered.{atom_in, atoms_in, HaveRegexesBelow, Extends};
+ghost use Rattle.sb_atoms.specs.Numbered.{atom_in, atoms_in, HaveRegexesBelow, Extends, NameEarlier};
 ghost use Rattle.sb_atoms.specs.Translated.{brought_translation, member_translation, are_members, has_declared, IsAdded, AreDefined, HasNoLiteral, HasNoMemberLiteral};
 ghost use Rattle.sb_atoms.specs.Growing.{is_below, are_below, Finds, AreReady, Moves};
 ghost use Rattle.sb_atoms.specs.Shapes.{IsAtomOf, connected_literal, have_declared_pairs, literals_of, word_literals, words_literal};
@@ -321,6 +321,7 @@ impl Atoms {
         ensures none { IfOk result (λ found. found ≡ None → HasNoLiteral (term_at table.now id)) }
         ensures extends { Extends self.old self.new }
         ensures defined { AreDefined self.old self.new (term_at table.now id) }
+        ensures earlier { NameEarlier (length self.old) self.new }
         ensures regexes { HaveRegexesBelow (length arena.new) self.new }
         ensures right { AreMeasures table.now measures.new }
         ensures normals { AreNormals table.now arena.new normals.new }
@@ -378,6 +379,7 @@ impl Atoms {
         ensures adds { IfOk result (λ found. IsAdded self.old self.new found) }
         ensures none { IfOk result (λ found. found ≡ None → HasNoMemberLiteral (term_at table.now id)) }
         ensures members { are_members self.old ≡ true → are_members self.new ≡ true }
+        ensures earlier { NameEarlier (length self.old) self.new }
         ensures extends { Extends self.old self.new }
         ensures regexes { HaveRegexesBelow (length arena.new) self.new }
         ensures right { AreMeasures table.now measures.new }

@@ -1,15 +1,16 @@
 use Rattle.std.proofs.Common.{◌≡◌, length, Some, true}
-use Rattle.sb_meaning.specs.Terms.{Term}
+use Rattle.sb_meaning.specs.Terms.{Term, text}
 use Rattle.sb_regex.proofs.CallerLemmas.{long_kept}
 use Rattle.sb_script.specs.Brought.{asked}
 use Rattle.sb_problem.specs.Patterns.{pattern_in}
 use Rattle.sb_rulebook.specs.Translation.{translation}
+use Rattle.sb_rulebook.specs.AtomRules.{is_declared}
 use Rattle.sb_atoms.specs.Numbered.{atom_in}
 use Rattle.sb_atoms.specs.Translated.{IsAdded}
 use Rattle.sb_atoms.specs.Growing.{is_below, Finds, IsLiteralOf}
 use Rattle.sb_fragment.proofs.CallerLemmas.{ok_map}
 use Rattle.sb_atoms.proofs.CallerLemmas.{regexes_kept}
-use Rattle.sb_atoms.proofs.Growth.{grown_regexes}
+use Rattle.sb_atoms.proofs.Growth.{grown_regexes, moves_arena}
 use Rattle.sb_atoms.proofs.Found.{member_finds, member_moves, member_added, members_added, ready_moved}
 use Rattle.sb_atoms.proofs.table.Atoms.member.Goals as goal
 
@@ -28,6 +29,16 @@ returns-in_default-clause-ready c = record {
   regexes = regexes_kept c.args.arena.now c.atom_of.new.arena c.args.self.now c.in_ok-atom.ensures.arena
       c.requires.ready.regexes;
 }
+
+pub returns-in_err-atom-clause-moves : goal.returns-in_err-atom-clause-moves
+returns-in_err-atom-clause-moves c =
+    moves_arena c.args.adds (λ sorts. is_declared sorts text c.args.serial.0) c.args.arena.now c.atom_of.new.arena
+    c.args.self.now c.in_err-atom.ensures.arena
+
+pub returns-in_default-clause-moves : goal.returns-in_default-clause-moves
+returns-in_default-clause-moves c =
+    moves_arena c.args.adds (λ sorts. is_declared sorts text c.args.serial.0) c.args.arena.now c.atom_of.new.arena
+    c.args.self.now c.in_ok-atom.ensures.arena
 
 pub returns-clause-ok : goal.returns-clause-ok
 returns-clause-ok c =
