@@ -1,5 +1,5 @@
 -- The clauses of the assertions about one constant.
-use Rattle.std.proofs.Common.{◌≡◌, ◌≢◌, ℕ, zero, suc, Bool, true, false, nat_eq, List, [], ◌∷◌, ◌++◌, map, get_or, slice_get, Option, Some, None, refl, sym, ap, ap₂, subst, ◌∙◌, arith}
+use Rattle.std.proofs.Common.{◌≡◌, ◌≢◌, ℕ, zero, suc, Bool, true, false, if◌then◌else◌, nat_eq, List, [], ◌∷◌, ◌++◌, map, get_or, slice_get, Option, Some, None, refl, sym, ap, ap₂, subst, ◌∙◌, arith}
 use Rattle.std.specs.Prelude.{option_and_then}
 use Rattle.std.specs.List.{All}
 use Rattle.std.proofs.lemmas.Bool.Decides.{nat_tests}
@@ -65,12 +65,20 @@ membership-kept : (e f : Backing) (place : ℕ) (m : ℕ × ℕ) → numbered.Ex
 membership-kept e f place m grows stays h = step (asserted_at e.asserted place) refl h
   where
     at : List (AtomOver ℕ) → Option Asserted → Option (ℕ × ℕ)
-    at atoms o = option_and_then (λ (a : Asserted). option_and_then membership_of (slice_get atoms a.literal.atom)) o
+    at atoms o =
+        option_and_then (λ (a : Asserted).
+        if a.literal.positive then option_and_then membership_of (slice_get atoms a.literal.atom) else None) o
+
+    signed : (a : Asserted) (b : Bool)
+        → (if b then option_and_then membership_of (slice_get e.atoms a.literal.atom) else None) ≡ Some m
+        → (if b then option_and_then membership_of (slice_get f.atoms a.literal.atom) else None) ≡ Some m
+    signed a true k = atom-kept e.atoms f.atoms a.literal.atom m grows k
+    signed a false k = absurd (none-some m k)
 
     step : (o : Option Asserted) → asserted_at e.asserted place ≡ o → at e.atoms o ≡ Some m
         → at f.atoms (asserted_at f.asserted place) ≡ Some m
     step None is k = absurd (none-some m k)
-    step (Some a) is k = ap (at f.atoms) (stays ∙ is) ∙ atom-kept e.atoms f.atoms a.literal.atom m grows k
+    step (Some a) is k = ap (at f.atoms) (stays ∙ is) ∙ signed a a.literal.positive k
 
 claimed-kept : (assertions : List Assertion) (serial place : ℕ) (rs more : List Regex) (e f : Backing)
     → Extends rs more → numbered.Extends e.atoms f.atoms
@@ -97,8 +105,8 @@ uncounted-both : (asked : Asked) (before : AllKept) (mid more : List Regex) (mem
     (old told new : Option (List ℕ)) → EvidencesUncounted asked before mid memo f old told
     → ((after : AllKept) → Backs mid memo f after → EvidencesUncounted asked after more memo g told new)
     → EvidencesUncounted asked before more memo g old new
-uncounted-both asked before mid more memo f g old told new p then =
-    let q = then p.after p.backs in
+uncounted-both asked before mid more memo f g old told new p further =
+    let q = further p.after p.backs in
     record {
       after = q.after;
       puts = puts_both asked before p.after q.after old told new p.puts q.puts;
@@ -117,8 +125,8 @@ pub lines-both : (asked : Asked) (before : AllKept) (mid more : List Regex) (mem
     → ((after : AllKept) → Backs mid memo f after → IsCounted asked after budget
     → Evidences asked after more memos g left told new)
     → Evidences asked before more memos g left old new
-lines-both asked before mid more memo memos f g budget left old told new p counts then =
-    let q = then p.after p.backs (counted-behind asked before p.after budget p.counted counts) in
+lines-both asked before mid more memo memos f g budget left old told new p counts further =
+    let q = further p.after p.backs (counted-behind asked before p.after budget p.counted counts) in
     record {
       after = q.after;
       puts = puts_both asked before p.after q.after old told new p.puts q.puts;
@@ -144,7 +152,7 @@ pub claimed-more : (asked : Asked) (assertions : List Assertion) (serial place :
     → AreClaimed asked assertions serial rs more e g old new (places ++ place ∷ [])
 claimed-more asked assertions serial place rs mid more e f g old told new places h c = record {
   puts = λ memo before b. uncounted-both asked before mid more memo f g old told new (h.puts memo before b)
-      (λ after then. c.puts memo after then);
+      (λ after further. c.puts memo after further);
   extends = extends_more rs mid more h.extends c.extends;
   all = All-push (IsClaimed assertions serial more g) places place
       (λ i d l. step (get_or places i d) (h.all i d l) (nat_eq (get_or places i d) place) refl) c.claimed;

@@ -185,6 +185,12 @@ literal-number : (o : Option ℕ) (l : Lit)
 literal-number None l h = absurd (some-none l (sym h))
 literal-number (Some n) l h = ap (option_map (λ (m : Lit). m.atom)) h
 
+literal-positive : (o : Option ℕ) (l : Lit)
+    → option_map {T = ℕ} (λ n. (record { atom = n; positive = true })) o ≡ Some l → l.positive ≡ true
+literal-positive None l h = absurd (some-none l (sym h))
+literal-positive (Some n) l h =
+    ap (λ (m : Lit). m.positive) (sym (same-some (record { atom = n; positive = true }) l h))
+
 mapped : {A B : Type 0} (f : A → B) (xs : List A) (k : ℕ) (y : B) → slice_get (map f xs) k ≡ Some y
     → (x : A) × (slice_get xs k ≡ Some x) × (f x ≡ y)
 mapped f [] k y h = absurd (omega (arith, slice_get_within [] k y h))
@@ -238,8 +244,10 @@ is-claimed apart assertions serial place t R reglan rs e a asks kind regular mea
   term = t;
   expression = R;
   number = it.number;
-  there = ap (option_and_then (λ (b : Asserted). option_and_then membership_of (slice_get e.atoms b.literal.atom)))
-      there
+  there = ap (option_and_then (λ (b : Asserted). if b.literal.positive
+      then option_and_then membership_of (slice_get e.atoms b.literal.atom)
+      else None)) there
+      ∙ ap (λ (p : Bool). if p then option_and_then membership_of (slice_get e.atoms a.literal.atom) else None) sign
       ∙ ap (option_and_then membership_of) names;
   stands = stands;
   asks = asks;
@@ -260,6 +268,10 @@ is-claimed apart assertions serial place t R reglan rs e a asks kind regular mea
 
     number : number_of atoms atom ≡ Some a.literal.atom
     number = literal-number (number_of atoms atom) a.literal
+        (sym (literal ∙ literal-of atoms t serial R reglan asks kind regular (means [])))
+
+    sign : a.literal.positive ≡ true
+    sign = literal-positive (number_of atoms atom) a.literal
         (sym (literal ∙ literal-of atoms t serial R reglan asks kind regular (means [])))
 
     found : (a.literal.atom < length atoms) × (is_same_atom atom (get_or atoms a.literal.atom atom) ≡ true)

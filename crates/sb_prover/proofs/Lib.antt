@@ -10,3 +10,5 @@ mod Refutations
 mod ClaimedPlaces
 mod Claims
 mod Leaving
+mod TrueEvidence
+mod FitSteps

@@ -44,7 +44,7 @@ tracks-again rs memo t kept h = record {
   targets = h.targets;
 }
 
-backs-again : (rs : List Regex) (memo : Memo) (e : Backing) (kept : AllKept) → Backs rs memo e kept
+pub backs-again : (rs : List Regex) (memo : Memo) (e : Backing) (kept : AllKept) → Backs rs memo e kept
     → Backs rs memo e (count_again kept)
 backs-again rs memo e kept h = record {
   tracks = tracks-again rs memo e.trace kept h.tracks;

@@ -9,7 +9,7 @@ use Rattle.sb_script.specs.Replies.{step_of}
 use Rattle.sb_script.specs.Verdicts.{Verdict}
 use Rattle.sb_rulebook.specs.Accepted.{asked_in}
 use Rattle.sb_rulebook.specs.Atoms.{AtomOver}
-use Rattle.sb_rulebook.specs.Kept.{nothing_kept}
+use Rattle.sb_rulebook.specs.Kept.{AllKept, Asked, nothing_kept}
 use Rattle.sb_rulebook.specs.Brought.{newest_format}
 use Rattle.sb_rulebook.specs.Verdicts.{Question}
 use Rattle.sb_rulebook.specs.Judging.{Event, leaves_above, leaves_all, at_rest, Progress}
@@ -22,6 +22,8 @@ use Rattle.sb_stack.specs.declared.stack.Step.TheVariants as code
 use Rattle.sb_stack.specs.Steps.{IsStep}
 use Rattle.sb_refute.specs.declared.evidence.Asserted.{Asserted}
 use Rattle.sb_refute.specs.Backing.{Backing, Backs, asserted_at}
+use Rattle.sb_sound.specs.SoundLaws.{IsSound, Continues, GoesOn}
+use Rattle.sb_sound.specs.ScriptLaws.{IsFit}
 
 pub record Proving : Type 0 where
   pub evidence : Backing
@@ -74,7 +76,41 @@ abbrev pub EntriesMoveLive : Type 0
 EntriesMoveLive = (entry : Entry) (old new : State) (step : Step) → IsStep (step_of entry old) step old new
     → MovesLive step old new
 
--- It stays so where more regexes and more derivatives become known.
+-- What is true of the evidence.
+
+-- A reader that keeps what the evidence knows keeps nothing but what is true of what is asked. No line is counted.
+pub record IsTrue (asked : Asked) (rs : List Regex) (memo : Memo) (e : Backing) : Type 0 where
+  pub kept : AllKept
+  pub backs : Backs rs memo e kept
+  pub sound : IsSound asked kept
+  pub counted : kept.counted ≡ 0
+
+-- The evidence stays true where the script goes on, and loses no assertion.
+abbrev pub TrueGoesOn : Type 0
+TrueGoesOn = (before now : Asked) (rs : List Regex) (memo : Memo) (e : Backing) → Continues before now
+    → IsTrue before rs memo e → IsTrue now rs memo e
+
+-- And where more regexes and more derivatives become known.
+abbrev pub TrueGrown : Type 0
+TrueGrown = (asked : Asked) (rs more : List Regex) (memo new : Memo) (e : Backing) → Extends rs more
+    → KeepsEntries memo new → HaveRegexesBelow (length rs) e.atoms → IsTrue asked rs memo e → IsTrue asked more new e
+
+-- the script goes on where levels are left: those above this one, or with all assertions
+abbrev pub GoesDown : Option ℕ → Asked → Asked → Type 0
+GoesDown (Some level) before now = GoesOn level before now
+GoesDown None before now = Unit {0}
+
+-- what a step makes of what is asked
+abbrev pub LeadsTo : Step → State → State → Type 0
+LeadsTo (code.Left text level) old new = GoesDown level (asked_in old) (asked_in new)
+LeadsTo _ old new = Continues (asked_in old) (asked_in new)
+
+-- Behind each entry of a script the terms fit the sorts of the constants, where they did before, and the script goes on.
+abbrev pub EntriesStayFit : Type 0
+EntriesStayFit = (entry : Entry) (old new : State) (step : Step) → IsStep (step_of entry old) step old new
+    → IsFit old → IsFit new × LeadsTo step old new
+
+-- A proof that has come so far stays so where more regexes and more derivatives become known.
 abbrev pub AbreastStays : Type 0
 AbreastStays = (rs more : List Regex) (memo new : Memo) (proving : Proving) (p : Progress) → Extends rs more
     → KeepsEntries memo new → IsAbreast rs memo proving p → IsAbreast more new proving p

@@ -10,4 +10,7 @@ mod prover;
 mod refutation;
 mod verdict;
 
-pub use prover::{Prover, abreast_stays, entries_move_live, levels_stay, regexes_stay_below};
+pub use prover::{
+    Prover, abreast_stays, entries_move_live, entries_stay_fit, levels_stay, regexes_stay_below,
+    true_stays,
+};

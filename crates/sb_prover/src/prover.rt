@@ -7,10 +7,11 @@ ghost use Rattle.sb_script.specs.Verdicts.{IsVerdict, is_sat, is_unsat, is_outsi
 ghost use Rattle.sb_rulebook.specs.Accepted.{question_in, asked_in};
 ghost use Rattle.sb_rulebook.specs.Judging.{Progress, beginning, met};
 ghost use Rattle.sb_meaning.specs.Terms.{Term};
-ghost use Rattle.sb_rulebook.specs.Kept.{AllKept};
+ghost use Rattle.sb_rulebook.specs.Kept.{AllKept, Asked};
 ghost use Rattle.sb_rulebook.specs.LineLaws.{bytes_of};
 ghost use Rattle.sb_rulebook.specs.Lines.{text_of};
 ghost use Rattle.sb_certified.specs.Certified.{last_lines};
+ghost use Rattle.sb_sound.specs.SoundLaws.{AreTerms};
 ghost use Rattle.sb_proof.specs.Tapes.{with_bytes};
 ghost use Rattle.sb_stack.specs.Stacked.{Stacked, state_of, live_constants, values_at};
 ghost use Rattle.sb_stack.specs.Steps.{verdict_in, found};
@@ -19,7 +20,7 @@ ghost use Rattle.sb_trace.specs.Putting.{CountsTapeFault};
 ghost use Rattle.sb_atoms.specs.Numbered.{HaveRegexesBelow};
 ghost use Rattle.sb_refute.specs.Backing.{Backs};
 ghost use Rattle.sb_decide.specs.Knowing.{Knows, IsDecision};
-ghost use Rattle.sb_prover.specs.Proving.{IsAbreast, IsProved, HaveLevels, AreLow, leaving, AbreastStays, RegexesStayBelow, LevelsStay, EntriesMoveLive};
+ghost use Rattle.sb_prover.specs.Proving.{IsAbreast, IsProved, HaveLevels, AreLow, leaving, IsTrue, GoesDown, AbreastStays, TrueGoesOn, TrueGrown, RegexesStayBelow, LevelsStay, EntriesMoveLive, EntriesStayFit};
 ghost use Rattle.sb_prover.specs.Saying.{first_lines, IsRefuted, Tells};
 
 use crate::refutation::refute;
@@ -29,6 +30,11 @@ use sb_lit::Budget;
 use sb_proof::{Line, Said, Tape, TapeFault};
 use sb_refute::{Evidence, Refuted};
 use sb_rulebook::laws::{text_is_one_line, text_is_read, texts_are_lines};
+use sb_sound::scripts::entries_lead_on;
+use sb_sound::steps::{
+    all_dropped_is_sound, continued_stays_sound, counted_again_stays_sound, dropped_stays_sound,
+    follows_by_rule, line_stays_sound, nothing_is_sound,
+};
 use sb_stack::{Stack, Verdict};
 use sb_word::Word;
 use std::alloc::Global;
@@ -60,7 +66,9 @@ impl Prover {
         ensures abreast { (rs : List Regex) (memo : Memo) → IsAbreast rs memo result beginning }
         ensures regexes { (n : ℕ) → HaveRegexesBelow n result.evidence.atoms }
         ensures levels { (live : List (Option Term × ℕ)) → HaveLevels live result.evidence }
+        ensures sound { (asked : Asked) (rs : List Regex) (memo : Memo) → IsTrue asked rs memo result.evidence }
     {
+        nothing_is_sound();
         Prover {
             alloc,
             evidence: Evidence::new(alloc),
@@ -93,6 +101,9 @@ impl Prover {
         ensures knows { IfOk result (λ v. Knows decider.new (found v stack.now)) }
         ensures levels { OnOk result (HaveLevels (asked_in (state_of stack.now)).live self.old.evidence
             → HaveLevels (asked_in (state_of stack.now)).live self.new.evidence) }
+        ensures sound { OnOk result (AreTerms (asked_in (state_of stack.now))
+            → IsTrue (asked_in (state_of stack.now)) decider.old.arena decider.old.graph.memo self.old.evidence
+            → IsTrue (asked_in (state_of stack.now)) decider.new.arena decider.new.graph.memo self.new.evidence) }
         ensures counts { CountsTapeFault result (L.Tape.faults tape.old) (L.Tape.faults tape.new) }
     {
         match verdict {
@@ -119,7 +130,12 @@ impl Prover {
         ensures levels { (live : List (Option Term × ℕ)) → HaveLevels live self.old.evidence
             → HaveLevels (take count live) self.new.evidence }
         ensures atoms { self.new.evidence.atoms ≡ self.old.evidence.atoms }
+        ensures sound { (rs : List Regex) (memo : Memo) (before now : Asked) → GoesDown level before now
+            → HaveLevels before.live self.old.evidence → IfSome level (λ n. AreLow n (take count before.live))
+            → IsTrue before rs memo self.old.evidence → IsTrue now rs memo self.new.evidence }
     {
+        dropped_stays_sound();
+        all_dropped_is_sound();
         match level {
             Some(level) => self.evidence.retract(level, count),
             None => self.evidence.clear(),
@@ -217,11 +233,17 @@ impl Prover {
         ensures knows { IfOk result (λ v. Knows decider.new (found v stack.now)) }
         ensures levels { OnOk result (HaveLevels (asked_in (state_of stack.now)).live self.old.evidence
             → HaveLevels (asked_in (state_of stack.now)).live self.new.evidence) }
+        ensures sound { OnOk result (AreTerms (asked_in (state_of stack.now))
+            → IsTrue (asked_in (state_of stack.now)) decider.old.arena decider.old.graph.memo self.old.evidence
+            → IsTrue (asked_in (state_of stack.now)) decider.new.arena decider.new.graph.memo self.new.evidence) }
         ensures counts { CountsTapeFault result (L.Tape.faults tape.old) (L.Tape.faults tape.new) }
     {
         text_is_read();
         text_is_one_line();
         texts_are_lines();
+        follows_by_rule();
+        line_stays_sound();
+        counted_again_stays_sound();
         self.begin(tape)?;
         match self.refutation(decider, stack, tape)? {
             Refuted::Clause(id) => {
@@ -270,6 +292,15 @@ pub fn abreast_stays()
     ensures { AbreastStays }
 {}
 
+/// What the evidence knows stays true where the script goes on, and where more regexes and more derivatives become
+/// known.
+pub fn true_stays()
+    ensures goes_on { TrueGoesOn }
+    ensures grown { TrueGrown }
+{
+    continued_stays_sound();
+}
+
 /// Atoms whose regexes are below a number have them below a greater one, so also where the arena grew.
 pub fn regexes_stay_below()
     ensures { RegexesStayBelow }
@@ -285,3 +316,11 @@ pub fn levels_stay()
 pub fn entries_move_live()
     ensures { EntriesMoveLive }
 {}
+
+/// Behind each entry of a script its terms fit the sorts of the constants, where they did before, and the script goes
+/// on: where levels are left with the assertions of the levels that stay, else with all.
+pub fn entries_stay_fit()
+    ensures { EntriesStayFit }
+{
+    entries_lead_on();
+}

@@ -1,5 +1,5 @@
 -- The literal of an assertion: its atom, and what is put of it.
-use Rattle.std.proofs.Common.{◌≡◌, ℕ, zero, suc, ◌+◌, ◌^◌, ◌<◌, inl, inr, nat_eq, Bool, true, false, if◌then◌else◌, List, [], ◌∷◌, ◌++◌, length, slice_get, Option, Some, None, option_map, refl, sym, ap, ap₂, subst, ◌∙◌, arith, length-append}
+use Rattle.std.proofs.Common.{◌≡◌, ℕ, ◌<◌, ◌≤◌, inl, inr, Bool, true, false, if◌then◌else◌, List, [], ◌∷◌, ◌++◌, length, take, slice_get, Option, Some, None, option_map, IfSome, refl, sym, ap, ap₂, subst, ◌∙◌, arith, length-append}
 use Rattle.std.specs.List.{list_all}
 use Rattle.std.specs.Cmp.Lexicographic.{pointwise}
 use Rattle.std.proofs.lemmas.Bool.{and_parts, and_from, false≢true}
@@ -9,33 +9,27 @@ use Rattle.std.proofs.lemmas.Option.{get_or_from_slice_get, slice_get_within, sl
 use Rattle.sb_lit.specs.declared.clause.Lit.{Lit}
 use Rattle.sb_lang.specs.Regex.{Regex}
 use Rattle.sb_lang.specs.Order.{regex_eq}
-use Rattle.sb_lang.specs.OrderLaws.{OrderTellsApart}
 use Rattle.sb_meaning.specs.Terms.{Sort, Term, text, constant}
 use Rattle.sb_regex.specs.Numbered.{regex_at}
-use Rattle.sb_regex.specs.Numbered as regex
 use Rattle.sb_deriv.specs.Faithful.{Memo}
-use Rattle.sb_script.specs.Steps.{line}
-use Rattle.sb_script.specs.Brought.{is_membership}
+use Rattle.sb_script.specs.Brought.{is_membership, is_structure}
 use Rattle.sb_script.specs.Brought as brought
 use Rattle.sb_script.proofs.CallerLemmas.{membership_asks}
 use Rattle.sb_script.specs.Pieces.{constant_piece}
-use Rattle.sb_rulebook.specs.Atoms.{Atom, AtomOver, bool_atom, in_atom, le_atom, sum_atom, and_atom, iff_atom, is_same_piece, is_same_atom, number_of}
+use Rattle.sb_rulebook.specs.Atoms.{Atom, AtomOver, bool_atom, in_atom, le_atom, sum_atom, and_atom, iff_atom, is_same_piece, is_same_atom, is_well_formed, number_of}
 use Rattle.sb_rulebook.specs.AtomRules.{is_declared, is_declared_piece, has_its_parts}
 use Rattle.sb_rulebook.specs.Kept.{AllKept, Asked}
-use Rattle.sb_rulebook.specs.Lines.{atom_line, text_of}
 use Rattle.sb_rulebook.specs.Parts.{regex_of}
 use Rattle.sb_rulebook.specs.Translation.{translation, membership}
 use Rattle.sb_rulebook.proofs.CallerLemmas.{same_pieces, asked_translation}
-use Rattle.sb_proof.specs.Tapes.{with_bytes}
-use Rattle.sb_atoms.specs.Numbered.{Names, IsWith, AreDistinct, Extends, over, atoms_in, HaveRegexesBelow}
-use Rattle.sb_atoms.specs.Translated.{member_translation, IsAdded}
-use Rattle.sb_trace.specs.Tracking.{Traced, TracesUncounted}
+use Rattle.sb_atoms.specs.Numbered.{Names, IsWith, Extends, over, atoms_in}
+use Rattle.sb_atoms.specs.Translated.{member_translation, brought_translation, IsAdded, AreDefined}
 use Rattle.sb_trace.proofs.CallerLemmas.{puts_none, puts_both}
-use Rattle.sb_refute.specs.Backing.{Backing, Backs, EvidencesUncounted, IsLive, unit_at}
+use Rattle.sb_refute.specs.Backing.{Backing, Backs, EvidencesUncounted, IsLive, IsStatement, unit_at}
 use Rattle.sb_refute.specs.declared.evidence.Asserted.{Asserted}
-use Rattle.sb_refute.specs.Lines.{BringsAtom, IsAssertion, placed}
+use Rattle.sb_refute.specs.Lines.{AreDue, IsAssertion, placed}
 use Rattle.sb_refute.proofs.AtomLines.{alone}
-use Rattle.sb_refute.proofs.LinesPut.{atom-put}
+use Rattle.sb_refute.proofs.DefinedAtoms.{front-of}
 
 -- The term asks something of one constant's word alone, so its literal's atom names that constant alone.
 
@@ -105,25 +99,97 @@ atom-parts sorts rs old new t l a declared literal names =
     (slice_get-map (over rs) new l.atom ∙ ap (option_map (over rs)) names))
     (declared m.serial R m.is)
 
-pub brings-atom : (asked : Asked) (rs : List Regex) (old new : List (AtomOver ℕ)) (place : ℕ) (t : Term) (l : Lit)
-    (level : ℕ) → IsLive asked place t level → Some l ≡ member_translation (atoms_in rs new) t → IsAdded old new (Some l)
-    → BringsAtom asked rs old new l
-brings-atom asked rs old new place t l level live literal added = record {
-  atom = alone added.0 added.1;
-  names = added.3;
-  is = added.2;
-  parts = atom-parts asked.sorts rs old new t l (alone added.0 added.1) live.declared literal added.3;
+named-last : (old : List (AtomOver ℕ)) (a : AtomOver ℕ) → Names (old ++ a ∷ []) (length old) a
+named-last [] a = refl
+named-last (x ∷ xs) a = named-last xs a
+
+same-atom : (a b : AtomOver ℕ) → Some a ≡ Some b → a ≡ b
+same-atom a b h = cc
+
+-- the atom of a constant's word is due where it is new
+due-one : (asked : Asked) (old new : List (AtomOver ℕ)) (x r known : ℕ) → known ≡ length old
+    → ((before : List Atom) → has_its_parts asked.sorts before (alone x r) ≡ true) → IsWith old new (alone x r)
+    → AreDue asked known new
+due-one asked old new x r known is parts (inl e) = λ i a low names.
+    let inside = slice_get_within new i a names in
+    absurd (omega (arith, inside, low, is, ap length e))
+due-one asked old new x r known is parts (inr e) = λ i a low names.
+    let inside = slice_get_within new i a names in
+    let at : i ≡ length old = omega (arith, inside, low, is, ap length e, length-append old (alone x r ∷ [])) in
+    let one : a ≡ alone x r =
+    same-atom a (alone x r)
+    (sym names ∙ ap₂ (λ xs n. slice_get xs n) e at ∙ named-last old (alone x r)) in
+    subst (λ (b : AtomOver ℕ). (is_well_formed b ≡ true)
+    × ((before : List Atom) → length before ≡ i → has_its_parts asked.sorts before b ≡ true)) (sym one)
+    (refl, λ before long. parts before)
+
+pub due-added : (asked : Asked) (rs : List Regex) (old new : List (AtomOver ℕ)) (found : Option Lit)
+    (known place level : ℕ) (t : Term) → IsLive asked place t level → found ≡ member_translation (atoms_in rs new) t
+    → IsAdded old new found → known ≡ length old → AreDue asked known new
+due-added asked rs old new None known place level t live literal added is = λ i a low names.
+    let inside = slice_get_within new i a names in
+    absurd (omega (arith, inside, low, is, ap length added))
+due-added asked rs old new (Some l) known place level t live literal added is =
+    due-one asked old new added.0 added.1 known is
+    (λ atoms. atom-parts asked.sorts rs old new t l (alone added.0 added.1) live.declared literal added.3) added.2
+
+-- so are all that a term adds
+pub due-stated : (asked : Asked) (old new : List (AtomOver ℕ)) (known place level : ℕ) (t : Term)
+    → IsStatement asked place t level → AreDefined old new t → known ≡ length old → AreDue asked known new
+due-stated asked old new known place level t stated defined is = λ i a low names.
+    let it = defined i a (omega (arith, is, low)) names in
+    (it.0, λ before long. it.1 asked.sorts before stated.declared long)
+
+pub added-known : (old new : List (AtomOver ℕ)) (found : Option Lit) → IsAdded old new found
+    → IfSome found (λ l. l.atom < length new)
+added-known old new None added = tt
+added-known old new (Some l) added = slice_get_within new l.atom (alone added.0 added.1) added.3
+
+-- the lines of new atoms, where these are due
+pub added-defined : (asked : Asked) (before : AllKept) (rs : List Regex) (memo : Memo) (w f : Backing)
+    (old new : List (AtomOver ℕ)) (known : ℕ) (told mid : Option (List ℕ)) → AreDue asked known new → Extends old new
+    → known ≡ length old → Backs rs memo (record w { atoms = old }) before
+    → (AreDue asked known new → known ≤ length new → Backs rs memo (record w { atoms = take known new }) before
+    → EvidencesUncounted asked before rs memo f told mid)
+    → EvidencesUncounted asked before rs memo f told mid
+added-defined asked before rs memo w f old new known told mid due extends is b put =
+    put due (omega (arith, is, ap length extends.is, length-append old extends.more))
+    (subst (λ (xs : List (AtomOver ℕ)). Backs rs memo (record w { atoms = xs }) before)
+    (sym (front-of old new known extends is)) b)
+
+asserted-if : (asked : Asked) (rs : List Regex) (memo : Memo) (e : Backing) (kept : AllKept) (place : ℕ) (t : Term)
+    (found : Option Lit) (level : ℕ) → slice_get asked.live place ≡ Some (Some t, level)
+    → ((l : Lit) → found ≡ Some l → translation (atoms_in rs e.atoms) t ≡ Some l) → Backs rs memo e kept
+    → IfSome found (λ l. IsAssertion asked kept place l level)
+asserted-if asked rs memo e kept place t None level live literal b = tt
+asserted-if asked rs memo e kept place t (Some l) level live literal b = record {
+  term = t;
+  live = live;
+  literal = ap (λ (atoms : List Atom). translation atoms t) b.atoms ∙ literal l refl;
 }
 
 pub is-assertion : (asked : Asked) (rs : List Regex) (memo : Memo) (e : Backing) (kept : AllKept) (place : ℕ) (t : Term)
-    (l : Lit) (level : ℕ) → IsLive asked place t level → Some l ≡ member_translation (atoms_in rs e.atoms) t
-    → Backs rs memo e kept → IsAssertion asked kept place l level
-is-assertion asked rs memo e kept place t l level live literal b = record {
-  term = t;
-  live = live.live;
-  literal = ap (λ (atoms : List Atom). translation atoms t) b.atoms
-      ∙ (brought-is (atoms_in rs e.atoms) t l literal).1;
-}
+    (found : Option Lit) (level : ℕ) → IsLive asked place t level → found ≡ member_translation (atoms_in rs e.atoms) t
+    → Backs rs memo e kept → IfSome found (λ l. IsAssertion asked kept place l level)
+is-assertion asked rs memo e kept place t found level live literal b =
+    asserted-if asked rs memo e kept place t found level live.live
+    (λ l is. (brought-is (atoms_in rs e.atoms) t l (sym is ∙ literal)).1) b
+
+structure-is : (atoms : List Atom) (t : Term) (l : Lit) → Some l ≡ brought_translation atoms t
+    → translation atoms t ≡ Some l
+structure-is atoms t l h = step (is_structure t) h
+  where
+    step : (b : Bool) → Some l ≡ (if b then translation atoms t else None) → translation atoms t ≡ Some l
+    step true h = sym h
+    step false h = absurd (none-some l (sym h))
+
+pub is-statement : (asked : Asked) (rs : List Regex) (memo : Memo) (e : Backing) (kept : AllKept) (place : ℕ) (t : Term)
+    (found : Option Lit) (level : ℕ) → IsStatement asked place t level
+    → found ≡ brought_translation (atoms_in rs e.atoms) t → Backs rs memo e kept
+    → IfSome found (λ l. IsAssertion asked kept place l level)
+is-statement asked rs memo e kept place t found level stated literal b =
+    asserted-if asked rs memo e kept place t found level stated.live
+    (λ l is. structure-is (atoms_in rs e.atoms) t l (sym is ∙ literal)) b
 
 -- the clause is kept, and the assertion with it
 pub counted-and-kept : (e next new : Backing) (place : ℕ) (a : Asserted) (ls : List Lit)
@@ -157,77 +223,3 @@ both-put asked before rs memo e f x y z p next =
       backs = q.backs;
       counted = q.counted ∙ p.counted;
     }
-
--- The atom, where so many were known before.
-
-with-one : (old new : List (AtomOver ℕ)) (a : AtomOver ℕ) (known : ℕ) → length old ≡ known → new ≡ old ++ a ∷ []
-    → length new ≡ known + 1
-with-one old new a known count e = ap length e ∙ omega (arith, count, length-append old (a ∷ []))
-
-pub known-before : (old new : List (AtomOver ℕ)) (a : AtomOver ℕ) (known : ℕ) → length old ≡ known → length new ≡ known
-    → IsWith old new a → new ≡ old
-known-before old new a known count same (inl e) = e
-known-before old new a known count same (inr e) =
-    absurd (omega (arith, same, with-one old new a known count e))
-
-new-behind : (old new : List (AtomOver ℕ)) (a : AtomOver ℕ) (known : ℕ) → length old ≡ known
-    → (length new ≡ known → ⊥) → IsWith old new a → new ≡ old ++ a ∷ []
-new-behind old new a known count other (inl e) = absurd (other (ap length e ∙ count))
-new-behind old new a known count other (inr e) = e
-
-pub atom-known : (asked : Asked) (before : AllKept) (rs : List Regex) (memo : Memo) (e : Backing)
-    (old : List (AtomOver ℕ)) (l : Lit) (known : ℕ) (told : Option (List ℕ)) → BringsAtom asked rs old e.atoms l
-    → length old ≡ known → length e.atoms ≡ known → Backs rs memo (record e { atoms = old }) before
-    → EvidencesUncounted asked before rs memo e told told
-atom-known asked before rs memo e old l known told brings count same b =
-    nothing-put asked before rs memo e told
-    (subst (λ (atoms : List (AtomOver ℕ)). Backs rs memo (record e { atoms = atoms }) before)
-    (sym (known-before old e.atoms brings.atom known count same brings.is)) b)
-
-named-before : (old : List (AtomOver ℕ)) (a b : AtomOver ℕ) (k : ℕ) → Names old k b → Names (old ++ a ∷ []) k b
-named-before old a b k h = stays old k h
-  where
-    stays : (xs : List (AtomOver ℕ)) (k : ℕ) → Names xs k b → Names (xs ++ a ∷ []) k b
-    stays [] k h = absurd (omega (arith, slice_get_within [] k b h))
-    stays (x ∷ xs) zero h = h
-    stays (x ∷ xs) (suc k) h = stays xs k h
-
-named-last : (old : List (AtomOver ℕ)) (a : AtomOver ℕ) → Names (old ++ a ∷ []) (length old) a
-named-last [] a = refl
-named-last (x ∷ xs) a = named-last xs a
-
-lacks : (old : List (AtomOver ℕ)) (a : AtomOver ℕ) → AreDistinct (old ++ a ∷ []) → (k : ℕ) → Names old k a → ⊥
-lacks old a once k h =
-    let e = once k (length old) a (named-before old a a k h) (named-last old a) in
-    let low = slice_get_within old k a h in omega (arith, e, low)
-
-one-name : (new : List (AtomOver ℕ)) (i : ℕ) (a b : AtomOver ℕ) → Names new i a → Names new i b → a ≡ b
-one-name new i a b h k = let e : Some a ≡ Some b = sym h ∙ k in cc
-
--- the atom of a table's number
-pub named-here : (inside atoms : List (AtomOver ℕ)) (i k : ℕ) (a b : AtomOver ℕ) → inside ≡ atoms → i ≡ k
-    → Names inside i a → a ≡ b → Names atoms k b
-named-here inside atoms i k a b same number names is =
-    ap₂ (λ xs n. slice_get xs n) (sym same) (sym number) ∙ names ∙ ap Some is
-
-pub atom-defined : OrderTellsApart → (asked : Asked) (before : AllKept) (rs : List Regex) (memo : Memo) (e : Backing)
-    (t : Traced) (old : List (AtomOver ℕ)) (l : Lit) (x r n known : ℕ) (told mid new : Option (List ℕ))
-    → regex.AreDistinct rs → AreDistinct e.atoms → HaveRegexesBelow (length rs) e.atoms
-    → Names e.atoms l.atom (alone x r) → BringsAtom asked rs old e.atoms l → length old ≡ known
-    → (length e.atoms ≡ known → ⊥) → slice_get t.order n ≡ Some r → x < 2 ^ 64 → n < 2 ^ 64
-    → Backs rs memo (record e { atoms = old }) before → TracesUncounted asked before rs memo t told mid
-    → new ≡ with_bytes (line (text_of (atom_line (alone x n)))) mid
-    → EvidencesUncounted asked before rs memo (record e { trace = t }) told new
-atom-defined apart asked before rs memo e t old l x r n known told mid new once distinct below names brings count other
-    number sx sn b traced put =
-    let same : brings.atom ≡ alone x r = one-name e.atoms l.atom brings.atom (alone x r) brings.names names in
-    let is : e.atoms ≡ old ++ alone x r ∷ [] =
-    new-behind old e.atoms brings.atom known count other brings.is ∙ ap (λ a. old ++ a ∷ []) same in
-    let declared = and_parts (is_declared asked.sorts text x) true
-    (ap (has_its_parts asked.sorts (atoms_in rs old)) (sym same) ∙ brings.parts) in
-    subst (λ (atoms : List (AtomOver ℕ)). EvidencesUncounted asked before rs memo
-    (record e { trace = t; atoms = atoms }) told new) (sym is)
-    (atom-put apart asked before rs memo (record e { atoms = old }) t x r n told mid new once
-    (below l.atom (alone x r) names)
-    (λ k a h. below k a (subst (λ atoms. Names atoms k a) (sym is) (named-before old (alone x r) a k h)))
-    (lacks old (alone x r) (subst AreDistinct is distinct)) number declared.0 sx sn b traced put)

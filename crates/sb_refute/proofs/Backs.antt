@@ -1,11 +1,10 @@
 -- What is kept behind a line backs the evidence, and so does what is kept where levels are left.
-use Rattle.std.proofs.Common.{◌≡◌, ℕ, inl, inr, List, [], ◌∷◌, ◌++◌, length, map, Option, Some, None, refl, sym, ap, subst, ◌∙◌}
+use Rattle.std.proofs.Common.{◌≡◌, ℕ, inl, inr, List, [], ◌∷◌, ◌++◌, length, map, Option, Some, None, sym, ap, subst, ◌∙◌}
 use Rattle.sb_lit.specs.declared.clause.Lit.{Lit}
 use Rattle.sb_lit.specs.Kept.{Kept, KeptClause, kept_at, kept_up_to}
 use Rattle.sb_lang.specs.Regex.{Regex}
 use Rattle.sb_regex.specs.Numbered as regex
 use Rattle.sb_deriv.specs.Faithful.{Memo, KeepsEntries}
-use Rattle.sb_rulebook.specs.Atoms.{AtomOver}
 use Rattle.sb_rulebook.specs.Kept.{AllKept, dropped_above, all_dropped}
 use Rattle.sb_atoms.specs.Numbered.{atoms_in, HaveRegexesBelow}
 use Rattle.sb_atoms.proofs.CallerLemmas.{atoms_kept}
@@ -143,25 +142,6 @@ backs-grown rs more memo new e kept grows keeps below b = record {
 pub backs-more : (rs more : List Regex) (memo : Memo) (e : Backing) (kept : AllKept) → regex.Extends rs more
     → HaveRegexesBelow (length rs) e.atoms → Backs rs memo e kept → Backs more memo e kept
 backs-more rs more memo e kept grows below b = backs-grown rs more memo memo e kept grows (λ n pieces h. h) below b
-
--- with the line of an atom
-pub backs-atoms : (rs : List Regex) (memo : Memo) (e : Backing) (kept : AllKept) (atoms : List (AtomOver ℕ))
-    → Backs rs memo e kept
-    → Backs rs memo (record e { atoms = atoms }) (record kept { atoms = atoms_in rs atoms })
-backs-atoms rs memo e kept atoms b = record {
-  tracks = record {
-    numbers = b.tracks.numbers;
-    regexes = b.tracks.regexes;
-    expansions_long = b.tracks.expansions_long;
-    dead_long = b.tracks.dead_long;
-    expanded = b.tracks.expanded;
-    dead = b.tracks.dead;
-    targets = b.tracks.targets;
-  };
-  atoms = refl;
-  clauses = b.clauses;
-  asserted = b.asserted;
-}
 
 -- Where levels are left.
 

@@ -1,7 +1,7 @@
 -- Clauses that are kept, with one behind them.
-use Rattle.std.proofs.Common.{◌≡◌, ℕ, zero, suc, ◌≤◌, ◌⊎◌, inl, inr, Bool, true, false, nat_lt, if◌then◌else◌, List, [], ◌∷◌, ◌++◌, length, map, subst, Option, Some, None, refl, ap, ◌∙◌, sym, arith}
+use Rattle.std.proofs.Common.{◌≡◌, ℕ, zero, suc, ◌≤◌, ◌⊎◌, inl, inr, Bool, true, false, nat_lt, if◌then◌else◌, [], ◌∷◌, ◌++◌, length, map, subst, Option, Some, None, refl, ap, ◌∙◌, arith}
 use Rattle.std.proofs.lemmas.Bool.Decides.{nat_tests}
-use Rattle.sb_lit.specs.Kept.{Kept, KeptClause, kept_at, is_above, stays_up_to, kept_up_to}
+use Rattle.sb_lit.specs.Kept.{Kept, KeptClause, kept_at, stays_up_to, kept_up_to}
 
 pub none-kept : (id : ℕ) (c : KeptClause) → kept_at [] id ≡ Some c → ⊥
 none-kept zero c h = cc

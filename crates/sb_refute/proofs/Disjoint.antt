@@ -1,5 +1,5 @@
 -- Memberships of one constant, by the regexes of their atoms.
-use Rattle.std.proofs.Common.{◌≡◌, ℕ, inl, inr, true, List, [], ◌∷◌, map, slice_get, Option, Some, None, option_map, option_and_then, refl, sym, ap, subst, ◌∙◌, Contains}
+use Rattle.std.proofs.Common.{◌≡◌, ℕ, inl, inr, Bool, true, false, if◌then◌else◌, List, [], ◌∷◌, map, slice_get, Option, Some, None, option_map, option_and_then, refl, sym, ap, subst, ◌∙◌, Contains}
 use Rattle.std.specs.List.{list_all}
 use Rattle.std.proofs.lemmas.Bool.{and_parts, and_from}
 use Rattle.std.proofs.lemmas.Option.{slice_get-map}
@@ -12,15 +12,16 @@ use Rattle.sb_sound.specs.MembershipLaws.{AreDeniedIn}
 use Rattle.sb_atoms.specs.Numbered.{Names, over, atoms_in}
 use Rattle.sb_refute.specs.declared.evidence.Asserted.{Asserted}
 use Rattle.sb_refute.specs.Backing.{Backing, asserted_at}
-use Rattle.sb_refute.specs.Refuting.{membership_of, membership_at}
-use Rattle.sb_refute.specs.Units.{Member, IsUnitOf, AreRegexesOf, denials_of}
+use Rattle.sb_refute.specs.Refuting.{AreDisjoint, membership_of, membership_at}
+use Rattle.sb_refute.specs.Units.{Member, IsUnitOf, IsMemberAt, AreRegexesOf, denials_of}
 use Rattle.sb_refute.proofs.AtomLines.{alone}
 use Rattle.sb_refute.proofs.Hints.{here, later, cons-cases, not-in-nil}
 
--- the assertion at a place, whose atom is the membership
+-- the assertion at a place, which is the membership
 pub record IsMembershipAt (e : Backing) (place c r : ℕ) : Type 0 where
   pub asserted : Asserted
   pub there : asserted_at e.asserted place ≡ Some asserted
+  pub positive : asserted.literal.positive ≡ true
   pub names : Names e.atoms asserted.literal.atom (alone c r)
 
 of-atom : (a : AtomOver ℕ) (c r : ℕ) → membership_of a ≡ Some (c, r) → a ≡ alone c r
@@ -42,18 +43,28 @@ pub membership-parts : (e : Backing) (place c r : ℕ) → membership_at e place
     → IsMembershipAt e place c r
 membership-parts e place c r h = first (asserted_at e.asserted place) refl h
   where
-    second : (a : Asserted) → asserted_at e.asserted place ≡ Some a → (o : Option (AtomOver ℕ))
-        → slice_get e.atoms a.literal.atom ≡ o → option_and_then membership_of o ≡ Some (c, r)
+    third : (a : Asserted) → asserted_at e.asserted place ≡ Some a → a.literal.positive ≡ true
+        → (o : Option (AtomOver ℕ)) → slice_get e.atoms a.literal.atom ≡ o
+        → option_and_then membership_of o ≡ Some (c, r) → IsMembershipAt e place c r
+    third a there positive None is h = absurd (cc)
+    third a there positive (Some atom) is h = record {
+      asserted = a;
+      there = there;
+      positive = positive;
+      names = is ∙ ap Some (of-atom atom c r h);
+    }
+
+    second : (a : Asserted) → asserted_at e.asserted place ≡ Some a → (b : Bool) → a.literal.positive ≡ b
+        → (if b then option_and_then membership_of (slice_get e.atoms a.literal.atom) else None) ≡ Some (c, r)
         → IsMembershipAt e place c r
-    second a there None is h = absurd (cc)
-    second a there (Some atom) is h =
-        record { asserted = a; there = there; names = is ∙ ap Some (of-atom atom c r h) }
+    second a there false is h = absurd (cc)
+    second a there true is h = third a there is (slice_get e.atoms a.literal.atom) refl h
 
     first : (o : Option Asserted) → asserted_at e.asserted place ≡ o
-        → option_and_then (λ a. option_and_then membership_of (slice_get e.atoms a.literal.atom)) o ≡ Some (c, r)
-        → IsMembershipAt e place c r
+        → option_and_then (λ a. if a.literal.positive then option_and_then membership_of (slice_get e.atoms a.literal.atom)
+        else None) o ≡ Some (c, r) → IsMembershipAt e place c r
     first None is h = absurd (cc)
-    first (Some a) is h = second a is (slice_get e.atoms a.literal.atom) refl h
+    first (Some a) is h = second a is a.literal.positive refl h
 
 one-atom : (atoms : List (AtomOver ℕ)) (q x c r s : ℕ) → Names atoms q (alone x r) → Names atoms q (alone c s)
     → (x ≡ c) × (r ≡ s)
@@ -120,6 +131,24 @@ place-in e c (p ∷ places) (r ∷ regexes) h place among = elim (cons-cases p p
         → map (membership_at e) places ≡ map (λ r. Some (c, r)) regexes
     tail-same h = cc
 
+same-asserted : (a b : Asserted) → Some a ≡ Some b → a ≡ b
+same-asserted a b e = cc
+
+-- the atom of an assertion at one of the places is a membership of the constant
+unit-names : (e : Backing) (c : ℕ) (places regexes : List ℕ)
+    → map (membership_at e) places ≡ map (λ r. Some (c, r)) regexes → (u : Member) → IsUnitOf e places u
+    → (r : ℕ) × Names e.atoms u.0 (alone c r)
+unit-names e c places regexes h u unit =
+    let at = place-in e c places regexes h unit.place unit.among in
+    let m = membership-parts e unit.place c at.0 at.1 in
+    let one = same-asserted m.asserted unit.asserted (sym m.there ∙ unit.there) in
+    (at.0, ap (slice_get e.atoms) (sym unit.atom ∙ ap (λ a. a.literal.atom) (sym one)) ∙ m.names)
+
+pub unit-member : (rs : List Regex) (e : Backing) (places : List ℕ) → AreDisjoint rs e places → (u : Member)
+    → IsUnitOf e places u → IsMemberAt e.atoms u.0
+unit-member rs e places apart u unit =
+    let it = unit-names e apart.constant places apart.regexes apart.are u unit in (it.0, (apart.constant, it.1))
+
 -- the denials are of memberships of the constant, in these regexes
 pub units-denied : (rs : List Regex) (e : Backing) (c : ℕ) (places regexes : List ℕ)
     → map (membership_at e) places ≡ map (λ r. Some (c, r)) regexes → (us : List Member) (ids : List ℕ)
@@ -137,16 +166,7 @@ units-denied rs e c places regexes h (u ∷ us) (i ∷ ids) are from = (
   units-denied rs e c places regexes h us ids are.2 (λ v among. from v (later u us v among)),
 )
   where
-    same-asserted : (a b : Asserted) → Some a ≡ Some b → a ≡ b
-    same-asserted a b e = cc
-
     named : IsUnitOf e places u → Names e.atoms u.0 (alone c i)
     named unit =
-        let at = place-in e c places regexes h unit.place unit.among in
-        let m = membership-parts e unit.place c at.0 at.1 in
-        let one = same-asserted m.asserted unit.asserted (sym m.there ∙ unit.there) in
-        let names : Names e.atoms u.0 (alone c at.0) =
-        ap (slice_get e.atoms) (sym unit.atom ∙ ap (λ a. a.literal.atom) (sym one)) ∙ m.names
-        in
-        are.1
-        ∙ ap (λ x. Some (alone x i)) (one-atom e.atoms u.0 are.0 c i at.0 are.1 names).0
+        let at = unit-names e c places regexes h u unit in
+        are.1 ∙ ap (λ x. Some (alone x i)) (one-atom e.atoms u.0 are.0 c i at.0 are.1 at.1).0

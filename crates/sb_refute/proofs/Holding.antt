@@ -1,6 +1,5 @@
 -- What is known of all that stands in a proof stays so where clauses are added and dropped.
-use Rattle.std.proofs.Common.{◌≡◌, ◌≢◌, ℕ, suc, zero, ◌+◌, ◌<◌, ◌≤◌, inl, inr, Bool, true, false, nat_lt, if◌then◌else◌, List, [], ◌∷◌, ◌++◌, length, map, take, Option, Some, None, Result, Ok, Err, IfSome, refl, sym, ap, subst, ◌∙◌, arith, length-append}
-use Rattle.std.specs.List.{list_all}
+use Rattle.std.proofs.Common.{◌≡◌, ◌≢◌, ℕ, ◌+◌, ◌<◌, ◌≤◌, inl, inr, Bool, true, false, nat_lt, if◌then◌else◌, List, [], ◌∷◌, ◌++◌, length, map, take, Option, Some, None, Result, Ok, Err, IfSome, refl, sym, ap, subst, ◌∙◌, arith, length-append}
 use Rattle.std.specs.Result.{OnOk, OnErr, IfOk}
 use Rattle.std.proofs.lemmas.Bool.{and_parts, and_from, ltb-true, lt-ltb}
 use Rattle.std.proofs.lemmas.Bool.Decides.{nat_tests}
@@ -10,13 +9,14 @@ use Rattle.sb_lit.specs.declared.clause.ClauseId.{ClauseId}
 use Rattle.sb_lit.specs.Kept.{Kept, KeptClause, kept_at, is_above, stays_up_to, kept_up_to}
 use Rattle.sb_clauses.specs.Propagation.{State, are_reserved, is_reserved, has_room_for}
 use Rattle.sb_rulebook.specs.Atoms.{AtomOver}
-use Rattle.sb_atoms.specs.Numbered.{Extends}
-use Rattle.sb_atoms.specs.Translated.{are_members}
+use Rattle.sb_gates.specs.Clauses.{clauses_of}
+use Rattle.sb_atoms.specs.Numbered.{Names, Extends, NameEarlier}
+use Rattle.sb_atoms.proofs.CallerLemmas.{earlier_none, earlier_more, named_before}
 use Rattle.sb_refute.specs.declared.evidence.Asserted.{Asserted}
 use Rattle.sb_refute.specs.declared.evidence.EmptyClause.{EmptyClause}
-use Rattle.sb_refute.specs.Backing.{asserted_at, empty_at, refuted_up_to}
+use Rattle.sb_refute.specs.Backing.{HasGates, HasGatesOf, asserted_at, empty_at, refuted_up_to}
 use Rattle.sb_refute.specs.Lines.{placed}
-use Rattle.sb_refute.specs.Units.{AreOfAtoms, Stand}
+use Rattle.sb_refute.specs.Standing.{AreOfAtoms, Stand}
 use Rattle.sb_refute.proofs.Clauses.{none-kept, kept-stays, kept-last, kept-cases, stayed, stays, none-stays}
 use Rattle.sb_refute.proofs.Places.{none-at, placed-cases, front}
 
@@ -26,14 +26,16 @@ none-some x h = cc
 same-some : {X : Type 0} (x y : X) → Some x ≡ Some y → x ≡ y
 same-some x y h = cc
 
-pub stand-none : (asserted : List (Option Asserted)) → asserted ≡ [] → Stand [] [] asserted None
+pub stand-none : (asserted : List (Option Asserted)) → asserted ≡ [] → Stand [] [] asserted None 0
 stand-none asserted none = record {
   of_atoms = λ place a h.
       absurd (none-some a (sym (ap (λ xs. asserted_at xs place) none ∙ none-at place) ∙ h));
-  members = refl;
+  earlier = earlier_none [];
   known = refl;
   refuted = λ empty h. absurd (none-some empty h);
   alone = λ id clause h. absurd (none-kept id clause h);
+  gates_known = omega arith;
+  gated = λ i low. absurd (omega (arith, low));
 }
 
 -- With one clause more.
@@ -45,26 +47,36 @@ known-more n kept clause h new =
     ∙ and_from (has_room_for n kept) (has_room_for n (Some clause ∷ [])) h
     (and_from (are_reserved n clause.literals) true new refl)
 
+-- the clauses of gates stay
+pub gates-more : (gates : ℕ) (atoms : List (AtomOver ℕ)) (kept : Kept) (x : Option KeptClause) → HasGates gates atoms kept
+    → HasGates gates atoms (kept ++ x ∷ [])
+gates-more gates atoms kept x h = λ i low a clause named among.
+    let it = h i low a clause named among in (it.0, kept-stays kept x it.0 (record { literals = clause; level = 0 }) it.1)
+
 pub stand-clause : (atoms : List (AtomOver ℕ)) (kept : Kept) (asserted : List (Option Asserted))
-    (r : Option EmptyClause) (clause : KeptClause) → are_reserved (length atoms) clause.literals ≡ true
-    → clause.literals ≢ [] → Stand atoms kept asserted r → Stand atoms (kept ++ Some clause ∷ []) asserted r
-stand-clause atoms kept asserted r clause new some h = record {
+    (r : Option EmptyClause) (gates : ℕ) (clause : KeptClause) → are_reserved (length atoms) clause.literals ≡ true
+    → clause.literals ≢ [] → Stand atoms kept asserted r gates
+    → Stand atoms (kept ++ Some clause ∷ []) asserted r gates
+stand-clause atoms kept asserted r gates clause new some h = record {
   of_atoms = h.of_atoms;
-  members = h.members;
+  earlier = h.earlier;
   known = known-more (length atoms) kept clause h.known new;
   refuted = λ empty is. kept-stays kept (Some clause) empty.clause.0 (empty_at empty) (h.refuted empty is);
   alone = λ id c there bare. elim (kept-cases kept clause id c there) [
     | inl before ↦ h.alone id c before bare
     | inr last ↦ absurd (some (ap (λ (k : KeptClause). k.literals) last.1 ∙ bare))
   ];
+  gates_known = h.gates_known;
+  gated = gates-more gates atoms kept (Some clause) h.gated;
 }
 
 pub stand-empty : (atoms : List (AtomOver ℕ)) (kept : Kept) (asserted : List (Option Asserted))
-    (r : Option EmptyClause) (empty : EmptyClause) → empty.clause.0 ≡ length kept → r ≡ None
-    → Stand atoms kept asserted r → Stand atoms (kept ++ Some (empty_at empty) ∷ []) asserted (Some empty)
-stand-empty atoms kept asserted r empty number unset h = record {
+    (r : Option EmptyClause) (gates : ℕ) (empty : EmptyClause) → empty.clause.0 ≡ length kept → r ≡ None
+    → Stand atoms kept asserted r gates
+    → Stand atoms (kept ++ Some (empty_at empty) ∷ []) asserted (Some empty) gates
+stand-empty atoms kept asserted r gates empty number unset h = record {
   of_atoms = h.of_atoms;
-  members = h.members;
+  earlier = h.earlier;
   known = known-more (length atoms) kept (empty_at empty) h.known refl;
   refuted = λ found is.
       subst (λ (x : EmptyClause). kept_at (kept ++ Some (empty_at empty) ∷ []) x.clause.0 ≡ Some (empty_at x))
@@ -73,45 +85,73 @@ stand-empty atoms kept asserted r empty number unset h = record {
   alone = λ id c there bare. elim (kept-cases kept (empty_at empty) id c there) [
     | inl before ↦
         let it = h.alone id c before bare in absurd (none-some it.0 (sym unset ∙ it.1))
-    | inr last ↦ (empty, refl, sym last.1)
+    | inr last ↦
+        let level : empty.level ≡ c.level = ap (λ (k : KeptClause). k.level) last.1 in
+        (empty, refl, omega (arith, level))
   ];
+  gates_known = h.gates_known;
+  gated = gates-more gates atoms kept (Some (empty_at empty)) h.gated;
 }
 
 -- where the empty clause is not there, no clause is empty
 pub none-bare : (atoms : List (AtomOver ℕ)) (kept : Kept) (asserted : List (Option Asserted))
-    (r : Option EmptyClause) → Stand atoms kept asserted r → r ≡ None → (id : ℕ) (c : KeptClause)
+    (r : Option EmptyClause) (gates : ℕ) → Stand atoms kept asserted r gates → r ≡ None → (id : ℕ) (c : KeptClause)
     → kept_at kept id ≡ Some c → c.literals ≢ []
-none-bare atoms kept asserted r h unset id c there = λ bare.
+none-bare atoms kept asserted r gates h unset id c there = λ bare.
     let it = h.alone id c there bare in none-some it.0 (sym unset ∙ it.1)
+
+-- With the gates of one atom more.
+
+pub stand-gates : (atoms : List (AtomOver ℕ)) (kept : Kept) (asserted : List (Option Asserted))
+    (r : Option EmptyClause) (gates : ℕ) → gates < length atoms → HasGatesOf gates atoms kept
+    → Stand atoms kept asserted r gates → Stand atoms kept asserted r (gates + 1)
+stand-gates atoms kept asserted r gates lacking has h = record {
+  of_atoms = h.of_atoms;
+  earlier = h.earlier;
+  known = h.known;
+  refuted = h.refuted;
+  alone = h.alone;
+  gates_known = omega (arith, lacking);
+  gated = λ i low. step i low (nat_lt i gates) refl;
+}
+  where
+    step : (i : ℕ) → i < gates + 1 → (b : Bool) → nat_lt i gates ≡ b → HasGatesOf i atoms kept
+    step i low true is = h.gated i (ltb-true i gates is)
+    step i low false is =
+        let same : gates ≡ i = grind (arith, nat_tests, low) in
+        subst (λ n. HasGatesOf n atoms kept) same has
 
 -- With other assertions, and more atoms.
 
 of-placed : (atoms : List (AtomOver ℕ)) (old new : List (Option Asserted)) (place : ℕ) (x : Option Asserted)
-    → new ≡ placed old place x → IfSome x (λ a. (a.literal.positive ≡ true) × (a.literal.atom < length atoms))
+    → new ≡ placed old place x → IfSome x (λ a. a.literal.atom < length atoms)
     → AreOfAtoms atoms old → AreOfAtoms atoms new
 of-placed atoms old new place x is known of =
     subst (AreOfAtoms atoms) (sym is)
     (λ q a h. elim (placed-cases old place q x a h) [
       | inl same ↦ subst (λ (y : Option Asserted). IfSome y
-          (λ a. (a.literal.positive ≡ true) × (a.literal.atom < length atoms))) same known
+          (λ a. a.literal.atom < length atoms)) same known
       | inr before ↦ of q a before
     ])
 
 pub stand-placed : {T E : Type 0} (result : Result T E) (atoms : List (AtomOver ℕ)) (kept : Kept)
-    (old new : List (Option Asserted)) (r : Option EmptyClause) (place : ℕ) (x : Option Asserted)
+    (old new : List (Option Asserted)) (r : Option EmptyClause) (gates place : ℕ) (x : Option Asserted)
     → OnOk result (new ≡ placed old place x) → OnErr result (new ≡ old)
-    → IfSome x (λ a. (a.literal.positive ≡ true) × (a.literal.atom < length atoms)) → Stand atoms kept old r
-    → Stand atoms kept new r
-stand-placed (Err e) atoms kept old new r place x ok err known h = subst (λ xs. Stand atoms kept xs r) (sym err) h
-stand-placed (Ok t) atoms kept old new r place x ok err known h = record {
+    → IfSome x (λ a. a.literal.atom < length atoms) → Stand atoms kept old r gates
+    → Stand atoms kept new r gates
+stand-placed (Err e) atoms kept old new r gates place x ok err known h =
+    subst (λ xs. Stand atoms kept xs r gates) (sym err) h
+stand-placed (Ok t) atoms kept old new r gates place x ok err known h = record {
   of_atoms = of-placed atoms old new place x ok known h.of_atoms;
-  members = h.members;
+  earlier = h.earlier;
   known = h.known;
   refuted = h.refuted;
   alone = h.alone;
+  gates_known = h.gates_known;
+  gated = h.gated;
 }
 
-literals-grown : (n m : ℕ) (ls : List Lit) → n ≤ m → are_reserved n ls ≡ true → are_reserved m ls ≡ true
+pub literals-grown : (n m : ℕ) (ls : List Lit) → n ≤ m → are_reserved n ls ≡ true → are_reserved m ls ≡ true
 literals-grown n m [] more h = refl
 literals-grown n m (l ∷ ls) more h =
     let parts = and_parts (nat_lt l.atom n) (are_reserved n ls) h in
@@ -129,18 +169,22 @@ room-grown n m (x ∷ xs) more h =
     and_from (is_reserved m x) (has_room_for m xs) (place-grown n m x more parts.0) (room-grown n m xs more parts.1)
 
 pub stand-atoms : (old new : List (AtomOver ℕ)) (kept : Kept) (asserted : List (Option Asserted))
-    (r : Option EmptyClause) → Extends old new → (are_members old ≡ true → are_members new ≡ true)
-    → Stand old kept asserted r → Stand new kept asserted r
-stand-atoms old new kept asserted r extends members h =
+    (r : Option EmptyClause) (gates : ℕ) → Extends old new → NameEarlier (length old) new
+    → Stand old kept asserted r gates → Stand new kept asserted r gates
+stand-atoms old new kept asserted r gates extends fresh h =
     let more : length old ≤ length new = omega (arith, ap length extends.is, length-append old extends.more) in
     record {
       of_atoms = λ place a there.
-          let it = h.of_atoms place a there in
-          (it.0, omega (arith, it.1, more));
-      members = members h.members;
+          let it = h.of_atoms place a there in omega (arith, it, more);
+      earlier = earlier_more 0 old new extends h.earlier fresh;
       known = room-grown (length old) (length new) kept more h.known;
       refuted = h.refuted;
       alone = h.alone;
+      gates_known = omega (arith, h.gates_known, more);
+      gated = λ i low a clause named.
+          h.gated i low a clause
+          (named_before old extends.more i a (omega (arith, low, h.gates_known))
+          (subst (λ (atoms : List (AtomOver ℕ)). Names atoms i a) extends.is named));
     }
 
 -- Where levels are left.
@@ -182,28 +226,32 @@ room-left n level (x ∷ xs) h =
     (place-left n level x parts.0) (room-left n level xs parts.1)
 
 pub stand-left : (atoms : List (AtomOver ℕ)) (kept new : Kept) (asserted left : List (Option Asserted))
-    (r now : Option EmptyClause) (level count : ℕ) → new ≡ kept_up_to level kept → left ≡ take count asserted
-    → now ≡ refuted_up_to level r → Stand atoms kept asserted r → Stand atoms new left now
-stand-left atoms kept new asserted left r now level count is front-is now-is h =
-    subst (λ k. Stand atoms k left now) (sym is)
-    (subst (λ xs. Stand atoms (kept_up_to level kept) xs now) (sym front-is)
-    (subst (Stand atoms (kept_up_to level kept) (take count asserted)) (sym now-is)
+    (r now : Option EmptyClause) (gates level count : ℕ) → new ≡ kept_up_to level kept → left ≡ take count asserted
+    → now ≡ refuted_up_to level r → Stand atoms kept asserted r gates → Stand atoms new left now gates
+stand-left atoms kept new asserted left r now gates level count is front-is now-is h =
+    subst (λ k. Stand atoms k left now gates) (sym is)
+    (subst (λ xs. Stand atoms (kept_up_to level kept) xs now gates) (sym front-is)
+    (subst (λ found. Stand atoms (kept_up_to level kept) (take count asserted) found gates) (sym now-is)
     (record {
       of_atoms = λ place a there. h.of_atoms place a (front asserted count place a there).1;
-      members = h.members;
+      earlier = h.earlier;
       known = room-left (length atoms) level kept h.known;
       refuted = λ empty there.
           let it = empty-stayed level r empty there in
           stays level kept empty.clause.0 (empty_at empty) (h.refuted empty it.0) it.1;
       alone = λ id c there bare.
           let before = stayed level kept id c there in
-          let it = h.alone id c before.0 bare in (
+          let it = h.alone id c before.0 bare in
+          let low : c.level ≤ level = before.1 in
+          let lower : it.0.level ≤ c.level = it.2 in (
             it.0,
-            ap (refuted_up_to level) it.1
-                ∙ empty-stays level it.0
-                (subst (λ (k : KeptClause). k.level ≤ level) it.2 before.1),
-            it.2,
+            ap (refuted_up_to level) it.1 ∙ empty-stays level it.0 (omega (arith, low, lower)),
+            lower,
           );
+      gates_known = h.gates_known;
+      gated = λ i low a clause named among.
+          let it = h.gated i low a clause named among in
+          (it.0, stays level kept it.0 (record { literals = clause; level = 0 }) it.1 (omega arith));
     })))
 
 room-none : (n : ℕ) (kept : Kept) → has_room_for n (map (λ clause. None) kept) ≡ true
@@ -211,57 +259,59 @@ room-none n [] = refl
 room-none n (x ∷ xs) = room-none n xs
 
 pub stand-cleared : (atoms : List (AtomOver ℕ)) (kept new : Kept) (asserted left : List (Option Asserted))
-    (r : Option EmptyClause) → new ≡ map (λ clause. None) kept → left ≡ [] → Stand atoms kept asserted r
-    → Stand atoms new left None
-stand-cleared atoms kept new asserted left r is none h =
-    subst (λ k. Stand atoms k left None) (sym is)
-    (subst (λ xs. Stand atoms (map (λ clause. None) kept) xs None) (sym none)
+    (r : Option EmptyClause) (gates : ℕ) → new ≡ map (λ clause. None) kept → left ≡ []
+    → Stand atoms kept asserted r gates → Stand atoms new left None 0
+stand-cleared atoms kept new asserted left r gates is none h =
+    subst (λ k. Stand atoms k left None 0) (sym is)
+    (subst (λ xs. Stand atoms (map (λ clause. None) kept) xs None 0) (sym none)
     (record {
       of_atoms = λ place a there. absurd (none-some a (sym (none-at place) ∙ there));
-      members = h.members;
+      earlier = h.earlier;
       known = room-none (length atoms) kept;
       refuted = λ empty there. absurd (none-some empty there);
       alone = λ id c there. absurd (none-stays kept id c there);
+      gates_known = omega arith;
+      gated = λ i low. absurd (omega (arith, low));
     }))
 
 -- With what a call that may fail made of the clauses.
 
 pub stand-added : {E : Type 0} (result : Result ClauseId E) (atoms : List (AtomOver ℕ)) (old new : State)
-    (asserted : List (Option Asserted)) (r : Option EmptyClause) (ls given : List Lit) (level : ℕ)
+    (asserted : List (Option Asserted)) (r : Option EmptyClause) (gates : ℕ) (ls given : List Lit) (level : ℕ)
     → IfOk result (λ _. new ≡ record old { kept = old.kept ++ Some (record { literals = given; level = level }) ∷ [] })
     → OnErr result (new ≡ old) → given ≡ ls → are_reserved (length atoms) ls ≡ true → ls ≢ []
-    → Stand atoms old.kept asserted r → old.trail.literals ≡ []
-    → Stand atoms new.kept asserted r × (new.trail.literals ≡ [])
-stand-added (Ok id) atoms old new asserted r ls given level ok err same known some h none = (
-  subst (λ (s : State). Stand atoms s.kept asserted r) (sym ok)
-      (stand-clause atoms old.kept asserted r (record { literals = given; level = level })
+    → Stand atoms old.kept asserted r gates → old.trail.literals ≡ []
+    → Stand atoms new.kept asserted r gates × (new.trail.literals ≡ [])
+stand-added (Ok id) atoms old new asserted r gates ls given level ok err same known some h none = (
+  subst (λ (s : State). Stand atoms s.kept asserted r gates) (sym ok)
+      (stand-clause atoms old.kept asserted r gates (record { literals = given; level = level })
       (subst (λ ms. are_reserved (length atoms) ms ≡ true) (sym same) known) (λ bare. some (sym same ∙ bare)) h),
   ap (λ (s : State). s.trail.literals) ok ∙ none,
 )
-stand-added (Err e) atoms old new asserted r ls given level ok err same known some h none = (
-  subst (λ (s : State). Stand atoms s.kept asserted r) (sym err) h,
+stand-added (Err e) atoms old new asserted r gates ls given level ok err same known some h none = (
+  subst (λ (s : State). Stand atoms s.kept asserted r gates) (sym err) h,
   ap (λ (s : State). s.trail.literals) err ∙ none,
 )
 
 pub stand-with-empty : (atoms : List (AtomOver ℕ)) (old new : State) (asserted : List (Option Asserted))
-    (r : Option EmptyClause) (empty : EmptyClause) (given : List Lit)
+    (r : Option EmptyClause) (gates : ℕ) (empty : EmptyClause) (given : List Lit)
     → new ≡ record old { kept = old.kept ++ Some (record { literals = given; level = empty.level }) ∷ [] }
-    → given ≡ [] → empty.clause.0 ≡ length old.kept → r ≡ None → Stand atoms old.kept asserted r
-    → old.trail.literals ≡ [] → Stand atoms new.kept asserted (Some empty) × (new.trail.literals ≡ [])
-stand-with-empty atoms old new asserted r empty given is bare number unset h none = (
-  subst (λ (s : State). Stand atoms s.kept asserted (Some empty))
+    → given ≡ [] → empty.clause.0 ≡ length old.kept → r ≡ None → Stand atoms old.kept asserted r gates
+    → old.trail.literals ≡ [] → Stand atoms new.kept asserted (Some empty) gates × (new.trail.literals ≡ [])
+stand-with-empty atoms old new asserted r gates empty given is bare number unset h none = (
+  subst (λ (s : State). Stand atoms s.kept asserted (Some empty) gates)
       (sym (is ∙ ap (λ (ls : List Lit). record old {
         kept = old.kept ++ Some (record { literals = ls; level = empty.level }) ∷ [];
       }) bare))
-      (stand-empty atoms old.kept asserted r empty number unset h),
+      (stand-empty atoms old.kept asserted r gates empty number unset h),
   ap (λ (s : State). s.trail.literals) is ∙ none,
 )
 
 pub stand-same : (atoms : List (AtomOver ℕ)) (old new : State) (asserted : List (Option Asserted))
-    (r : Option EmptyClause) → new ≡ old → Stand atoms old.kept asserted r → old.trail.literals ≡ []
-    → Stand atoms new.kept asserted r × (new.trail.literals ≡ [])
-stand-same atoms old new asserted r is h none =
-    subst (λ (s : State). Stand atoms s.kept asserted r × (s.trail.literals ≡ [])) (sym is) (h, none)
+    (r : Option EmptyClause) (gates : ℕ) → new ≡ old → Stand atoms old.kept asserted r gates → old.trail.literals ≡ []
+    → Stand atoms new.kept asserted r gates × (new.trail.literals ≡ [])
+stand-same atoms old new asserted r gates is h none =
+    subst (λ (s : State). Stand atoms s.kept asserted r gates × (s.trail.literals ≡ [])) (sym is) (h, none)
 
 pub ok-then : {T E P Q : Type 0} (result : Result T E) → (P → Q) → IfOk result (λ _. P) → OnOk result Q
 ok-then (Ok x) leads h = leads h

@@ -1,69 +1,35 @@
 -- Lines that are put, behind which the reader keeps what the evidence knows.
-use Rattle.std.proofs.Common.{◌≡◌, ◌≢◌, ℕ, ◌+◌, ◌^◌, ◌<◌, Bool, true, false, ◌&&◌, nat_eq, List, [], ◌∷◌, ◌++◌, length, slice_get, Option, Some, None, option_map, unwrap_or, refl, sym, ap, subst, ◌∙◌, Contains, arith}
+use Rattle.std.proofs.Common.{◌≡◌, ◌≢◌, ℕ, ◌+◌, ◌^◌, ◌<◌, Bool, true, false, List, [], ◌∷◌, ◌++◌, length, slice_get, Option, Some, None, option_map, unwrap_or, refl, sym, ap, subst, ◌∙◌, arith}
 use Rattle.std.specs.List.{list_all}
-use Rattle.std.proofs.lemmas.Bool.{and_from, false≢true, true≢false, lt-ltb}
+use Rattle.std.proofs.lemmas.Bool.{and_from, false≢true, lt-ltb}
 use Rattle.std.proofs.lemmas.Option.{slice_get-map}
 use Rattle.sb_lit.specs.Budgets.{Spending}
-use Rattle.sb_lit.specs.declared.clause.Lit.{Lit}
 use Rattle.sb_lit.specs.Kept.{Kept, KeptClause, kept_at}
 use Rattle.sb_lang.specs.Regex.{Regex}
-use Rattle.sb_lang.specs.Constructors.{mkand}
-use Rattle.sb_lang.specs.OrderLaws.{OrderTellsApart}
 use Rattle.sb_regex.specs.Numbered.{regex_at}
-use Rattle.sb_regex.specs.Numbered as regex
 use Rattle.sb_deriv.specs.Faithful.{Memo}
 use Rattle.sb_graph.specs.Findings.{is_marked}
-use Rattle.sb_meaning.specs.Terms.{text}
 use Rattle.sb_script.specs.Steps.{line}
-use Rattle.sb_rulebook.specs.AtomRules.{is_declared}
 use Rattle.sb_rulebook.specs.Kept.{AllKept, Asked, rests_of_any}
-use Rattle.sb_rulebook.specs.Lines.{atom_line, assertion_line, rule_line, learned_line, empty, text_of}
+use Rattle.sb_rulebook.specs.Lines.{assertion_line, rule_line, learned_line, empty, text_of}
 use Rattle.sb_rulebook.specs.LineLaws.{is_small, are_small, is_small_literal}
 use Rattle.sb_sound.specs.MembershipLaws.{AreDeniedIn}
 use Rattle.sb_sound.specs.HintLaws.{HasNoSubset}
 use Rattle.sb_sound.specs.ClauseLaws.{RuleLinesAreExact, LearnedLinesAreExact, AssertionLinesAreExact}
 use Rattle.sb_proof.specs.Tapes.{with_bytes}
-use Rattle.sb_atoms.specs.Numbered.{Names, atoms_in, HaveRegexesBelow}
 use Rattle.sb_trace.specs.Putting.{IsCounted}
-use Rattle.sb_trace.specs.Tracking.{Traced, TracesUncounted, Traces, is_dead_in, number_in}
-use Rattle.sb_trace.proofs.CallerLemmas.{puts_one, puts_both, number-there}
+use Rattle.sb_trace.specs.Tracking.{Traced, is_dead_in, number_in}
+use Rattle.sb_trace.proofs.CallerLemmas.{puts_one, number-there}
 use Rattle.sb_refute.specs.declared.evidence.Asserted.{Asserted}
 use Rattle.sb_refute.specs.declared.evidence.EmptyClause.{EmptyClause}
 use Rattle.sb_refute.specs.Backing.{Backing, Backs, Evidences, EvidencesUncounted, unit_at, empty_at}
 use Rattle.sb_refute.specs.Lines.{IsAssertion, placed}
 use Rattle.sb_refute.specs.Units.{Member, Rise, CanBeDenied, LeadsNowhere, denials_of}
-use Rattle.sb_refute.proofs.AtomLines.{alone, atom-follows}
 use Rattle.sb_refute.proofs.ClauseLines.{pushed, denial-follows, learned-follows, assertion-follows}
-use Rattle.sb_refute.proofs.Backs.{backs-traced, backs-atoms, backs-assertion, backs-denial, backs-empty}
+use Rattle.sb_refute.proofs.Backs.{backs-assertion, backs-denial, backs-empty}
 
 small : (n : ℕ) → n < 2 ^ 64 → is_small n ≡ true
 small n l = lt-ltb n (2 ^ 64) l
-
--- An atom, behind the lines of its regex.
-pub atom-put : OrderTellsApart → (asked : Asked) (before : AllKept) (rs : List Regex) (memo : Memo) (e : Backing)
-    (t : Traced) (x r n : ℕ) (old mid new : Option (List ℕ)) → regex.AreDistinct rs → r < length rs
-    → HaveRegexesBelow (length rs) e.atoms → ((k : ℕ) → Names e.atoms k (alone x r) → ⊥)
-    → slice_get t.order n ≡ Some r → is_declared asked.sorts text x ≡ true → x < 2 ^ 64 → n < 2 ^ 64
-    → Backs rs memo e before → TracesUncounted asked before rs memo t old mid
-    → new ≡ with_bytes (line (text_of (atom_line (alone x n)))) mid
-    → EvidencesUncounted asked before rs memo (record e { trace = t; atoms = e.atoms ++ alone x r ∷ [] }) old new
-atom-put apart asked before rs memo e t x r n old mid new once known below lacks number declared sx sn b traced told =
-    record {
-      after = record traced.0 { atoms = atoms_in rs (e.atoms ++ alone x r ∷ []) };
-      puts = puts_both asked before traced.0 (record traced.0 { atoms = atoms_in rs (e.atoms ++ alone x r ∷ []) }) old
-          mid new traced.1
-          (puts_one asked traced.0 (record traced.0 { atoms = atoms_in rs (e.atoms ++ alone x r ∷ []) })
-          (atom_line (alone x n)) mid new
-          (atom-follows apart rs once x r known asked traced.0 e.atoms n below (traced.3.atoms ∙ b.atoms) lacks
-          (ap (λ known. slice_get known n) traced.2.regexes ∙ slice_get-map (regex_at rs) t.order n
-          ∙ ap (option_map (regex_at rs)) number)
-          declared)
-          (and_from (is_small x && true) (is_small n) (and_from (is_small x) true (small x sx) refl) (small n sn))
-          told);
-      backs = backs-atoms rs memo (record e { trace = t }) traced.0 (e.atoms ++ alone x r ∷ [])
-          (backs-traced rs rs memo memo e t before traced.0 b traced.2 traced.3 refl);
-      counted = traced.4;
-    }
 
 -- The clause of an assertion.
 pub assertion-put : AssertionLinesAreExact → (asked : Asked) (before : AllKept) (rs : List Regex) (memo : Memo)

@@ -1,11 +1,11 @@
 -- Memberships that are denied together, and what is put of that.
-use Rattle.std.proofs.Common.{◌≡◌, ◌≢◌, ℕ, suc, ◌+◌, ◌^◌, ◌<◌, ◌⊎◌, inl, inr, true, false, Bool, nat_lt, List, [], ◌∷◌, ◌++◌, length, get_or, map, Option, Some, None, is_some, IsSome, Result, Ok, Err, All, refl, sym, ap, ap₂, subst, ◌∙◌, Contains, arith}
+use Rattle.std.proofs.Common.{◌≡◌, ◌≢◌, ℕ, suc, ◌+◌, ◌^◌, ◌<◌, ◌⊎◌, inl, inr, true, false, Bool, nat_lt, List, [], ◌∷◌, ◌++◌, length, get_or, map, Option, Some, Result, Ok, Err, All, refl, sym, ap, ap₂, subst, ◌∙◌, Contains, arith}
 use Rattle.std.specs.List.{list_all}
 use Rattle.std.specs.Result.{is_err, OnOk, OnErr}
 use Rattle.std.specs.Ordering.{nat_cmp}
 use Rattle.std.specs.declared.cmp.Ordering.TheVariants.{Equal}
 use Rattle.std.specs.BTreeMap.{insert_entry}
-use Rattle.std.proofs.lemmas.Bool.{and_from, and_parts, true≢false, lt-ltb}
+use Rattle.std.proofs.lemmas.Bool.{and_from, true≢false, lt-ltb}
 use Rattle.std.proofs.lemmas.Bool.Decides.{nat_tests}
 use Rattle.std.proofs.lemmas.List.Elements.{All-nil, All-cons}
 use Rattle.sb_word.specs.Words.{IsWord}
@@ -38,11 +38,12 @@ use Rattle.sb_refute.specs.declared.evidence.Asserted.{Asserted}
 use Rattle.sb_refute.specs.declared.evidence.EmptyClause.{EmptyClause}
 use Rattle.sb_refute.specs.Backing.{Backing, Backs, Evidences, asserted_at, empty_at}
 use Rattle.sb_refute.specs.Refuting.{AreDisjoint, membership_at}
-use Rattle.sb_refute.specs.Units.{Member, AreOfAtoms, AreUnits, HaveNoWord, AreKept, CanBeDenied, HasPart, ArePicked, IsTop, LeadsNowhere, AreRegexesOf, Rise, numbered, denials_of, hints_of}
+use Rattle.sb_refute.specs.Standing.{AreOfAtoms}
+use Rattle.sb_refute.specs.Units.{Member, AreUnits, IsAffirmed, IsMemberAt, HaveNoWord, AreKept, CanBeDenied, HasPart, ArePicked, IsTop, LeadsNowhere, AreRegexesOf, Rise, numbered, denials_of, hints_of}
 use Rattle.sb_refute.proofs.AtomLines.{alone}
 use Rattle.sb_refute.proofs.Meets.{never-alive}
 use Rattle.sb_refute.proofs.Backs.{backs-traced}
-use Rattle.sb_refute.proofs.Disjoint.{membership-parts, units-denied}
+use Rattle.sb_refute.proofs.Disjoint.{membership-parts, unit-member, units-denied}
 use Rattle.sb_refute.proofs.Clauses.{kept-last}
 use Rattle.sb_refute.proofs.Hints.{leads-nowhere, here, later, cons-cases, not-in-nil}
 use Rattle.sb_refute.proofs.LinesPut.{denial-put, empty-put}
@@ -83,15 +84,17 @@ same-asserted : (a b : Asserted) → Some a ≡ Some b → a ≡ b
 same-asserted a b h = cc
 
 pub units-one : (e : Backing) (places more : List ℕ) (place : ℕ) (a : Asserted) (es : List (ℕ × Asserted))
-    → more ≡ places ++ place ∷ [] → asserted_at e.asserted place ≡ Some a → AreUnits e places (numbered es)
+    → more ≡ places ++ place ∷ [] → asserted_at e.asserted place ≡ Some a → a.literal.positive ≡ true
+    → AreUnits e places (numbered es)
     → AreUnits e more (numbered (insert_entry nat_cmp es a.literal.atom a))
-units-one e places more place a es is there h = subst (λ ps. AreUnits e ps now) (sym is) (record {
+units-one e places more place a es is there positive h = subst (λ ps. AreUnits e ps now) (sym is) (record {
   from = λ unit among. elim (inserted-unit a.literal.atom a equal es unit among) [
     | inl one ↦ record {
       place = place;
       among = push-last places place;
       asserted = a;
       there = there;
+      positive = positive;
       atom = ap (λ (p : Member). p.0) one;
       clause = ap (λ (p : Member). p.1) one;
       level = ap (λ (p : Member). p.2) one;
@@ -103,6 +106,7 @@ units-one e places more place a es is there h = subst (λ ps. AreUnits e ps now)
           among = push-keeps places place u.place u.among;
           asserted = u.asserted;
           there = u.there;
+          positive = u.positive;
           atom = u.atom;
           clause = u.clause;
           level = u.level;
@@ -137,6 +141,7 @@ units-same e f places us same h = record {
         among = u.among;
         asserted = u.asserted;
         there = ap (λ xs. asserted_at xs u.place) same ∙ u.there;
+        positive = u.positive;
         atom = u.atom;
         clause = u.clause;
         level = u.level;
@@ -154,7 +159,13 @@ pub units-below : (e : Backing) (places : List ℕ) (us : List Member) → AreOf
     → AreUnits e places us → All (λ u. u.0 < length e.atoms) us
 units-below e places us of units = all-from (λ u. u.0 < length e.atoms) us (λ u among.
     let unit = units.from u among in
-    subst (λ n. n < length e.atoms) unit.atom (of unit.place unit.asserted unit.there).1)
+    subst (λ n. n < length e.atoms) unit.atom (of unit.place unit.asserted unit.there))
+
+pub units-members : (rs : List Regex) (e : Backing) (us : List Member) → HaveNoWord rs e us
+    → All (λ u. IsMemberAt e.atoms u.0) us
+units-members rs e us h =
+    all-from (λ u. IsMemberAt e.atoms u.0) us (λ u among.
+    unit-member rs e h.places h.disjoint u (h.units.from u among))
 
 -- so their negations are of atoms of the table
 pub denials-known : (n : ℕ) (us : List Member) → All (λ u. u.0 < n) us → are_reserved n (denials_of us) ≡ true
@@ -164,12 +175,12 @@ denials-known n (u ∷ us) h =
     (denials-known n us (λ k d l. h (suc k) d (omega (arith, l))))
 
 units-kept : (e : Backing) (places : List ℕ) (us : List Member) (rs : List Regex) (memo : Memo) (kept : AllKept)
-    → AreOfAtoms e.atoms e.asserted → AreUnits e places us → Backs rs memo e kept → AreKept us kept.clauses
-units-kept e places us rs memo kept of units b u among =
+    → AreUnits e places us → Backs rs memo e kept → AreKept us kept.clauses
+units-kept e places us rs memo kept units b u among =
     let unit = units.from u among in
     ap₂ (λ (k : Kept) n. kept_at k n) b.clauses (sym unit.clause) ∙ b.asserted unit.place unit.asserted unit.there
     ∙ ap₂ (λ (l : Lit) n. Some (record { literals = l ∷ []; level = n }))
-    (ap₂ (λ n p. record { atom = n; positive = p }) unit.atom (of unit.place unit.asserted unit.there).0) unit.level
+    (ap₂ (λ n p. record { atom = n; positive = p }) unit.atom unit.positive) unit.level
 
 pub some-units : (rs : List Regex) (e : Backing) (places : List ℕ) (us : List Member) → AreDisjoint rs e places
     → AreUnits e places us → us ≢ []
@@ -192,23 +203,28 @@ some-units rs e places us apart units none = step places apart.regexes apart.are
         (has p m.asserted (here p ps) m.there))
 
 -- the assertions stand in the proof
-pub places-asserted : (rs : List Regex) (e : Backing) (places : List ℕ) → AreDisjoint rs e places
-    → All (λ place. IsSome (asserted_at e.asserted place)) places
-places-asserted rs e places apart = step places apart.regexes apart.are
+pub places-affirmed : (rs : List Regex) (e : Backing) (places : List ℕ) → AreDisjoint rs e places
+    → All (IsAffirmed e) places
+places-affirmed rs e places apart = step places apart.regexes apart.are
   where
-    some : (place r : ℕ) → membership_at e place ≡ Some (apart.constant, r) → IsSome (asserted_at e.asserted place)
-    some place r h = ap is_some (membership-parts e place apart.constant r h).there
+    some : (place r : ℕ) → membership_at e place ≡ Some (apart.constant, r) → IsAffirmed e place
+    some place r h =
+        let m = membership-parts e place apart.constant r h in (m.asserted, m.there, m.positive)
 
     step : (ps regexes : List ℕ) → map (membership_at e) ps ≡ map (λ r. Some (apart.constant, r)) regexes
-        → All (λ place. IsSome (asserted_at e.asserted place)) ps
+        → All (IsAffirmed e) ps
     step [] regexes h = λ k d l. absurd (omega (arith, l))
     step (p ∷ ps) [] h = absurd (cc)
     step (p ∷ ps) (r ∷ regexes) h =
-        All-cons (λ place. IsSome (asserted_at e.asserted place)) p ps
+        All-cons (IsAffirmed e) p ps
         (some p r (first-same (membership_at e p) (Some (apart.constant, r)) (map (membership_at e) ps)
         (map (λ r. Some (apart.constant, r)) regexes) h))
         (step ps regexes (others-same (membership_at e p) (Some (apart.constant, r)) (map (membership_at e) ps)
         (map (λ r. Some (apart.constant, r)) regexes) h))
+
+pub affirmed-is : (e : Backing) (place : ℕ) (a : Asserted) → asserted_at e.asserted place ≡ Some a → IsAffirmed e place
+    → a.literal.positive ≡ true
+affirmed-is e place a there h = ap (λ (b : Asserted). b.literal.positive) (same-asserted a h.0 (sym there ∙ h.1)) ∙ h.2
 
 -- the regexes of their atoms are in the arena
 pub regexes-known : (n : ℕ) (atoms : List (AtomOver ℕ)) (us : List Member) (ids : List ℕ) → AreRegexesOf atoms us ids
@@ -336,18 +352,18 @@ new-part kept new ls all id more is at = record {
 -- the hints of the empty clause
 pub reasons-lead : (rs : List Regex) (memo : Memo) (e : Backing) (kept : AllKept) (places : List ℕ)
     (us vs : List Member) (id top : ℕ) (part : HasPart e.kept (denials_of us) id) (ls : List Lit)
-    (listed : List Asserted) (level : ℕ) (ids : List ℕ) → AreOfAtoms e.atoms e.asserted → AreUnits e places us
+    (listed : List Asserted) (level : ℕ) (ids : List ℕ) → AreUnits e places us
     → ls ≡ part.clause.literals → level ≡ part.clause.level → ArePicked us ls vs → Rise vs
     → map (λ (v : Member). v.1) vs ≡ map (λ (a : Asserted). a.clause.0) listed
     → map (λ (v : Member). v.2) vs ≡ map (λ (a : Asserted). a.level) listed
     → IsTop (level ∷ map (λ (a : Asserted). a.level) listed) top → ids ≡ hints_of listed id → Backs rs memo e kept
     → LeadsNowhere kept.clauses ids top
-reasons-lead rs memo e kept places us vs id top part ls listed level ids of units literals at p rise numbers levels is
+reasons-lead rs memo e kept places us vs id top part ls listed level ids units literals at p rise numbers levels is
     hints b =
     subst (λ ns. LeadsNowhere kept.clauses ns top)
     (sym (hints ∙ ap (λ (ns : List ℕ). ns ++ id ∷ []) (sym numbers)))
     (leads-nowhere kept.clauses vs part.clause id top rise
-    (λ v among. units-kept e places us rs memo kept of units b v (p.from v among))
+    (λ v among. units-kept e places us rs memo kept units b v (p.from v among))
     (ap (λ (k : Kept). kept_at k id) b.clauses ∙ part.there)
     (λ l among. p.has l (subst (λ (ms : List Lit). Contains ms l) (sym literals) among))
     (subst (λ ns. IsTop (part.clause.level ∷ ns) top) (sym levels)

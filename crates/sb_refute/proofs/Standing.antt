@@ -59,6 +59,16 @@ stays-without old new place level x o is none own =
     (λ b h.
     let it = own-at old place level o b own h in some-none b.literal (it.1 ∙ none))
 
+-- behind other work, which leaves the assertions
+pub stays-after : (old mid new : List (Option Asserted)) (place level : ℕ) (found o : Option Lit) → mid ≡ old
+    → found ≡ o
+    → (IsOwn mid place level found → (q : ℕ) (b : Asserted) → asserted_at mid q ≡ Some b → asserted_at new q ≡ Some b)
+    → IsOwn old place level o → (q : ℕ) (b : Asserted) → asserted_at old q ≡ Some b → asserted_at new q ≡ Some b
+stays-after old mid new place level found o same literal keep own q b h =
+    keep
+    (subst (IsOwn mid place level) (sym literal) (subst (λ xs. IsOwn xs place level o) (sym same) own)) q b
+    (ap (λ xs. asserted_at xs q) same ∙ h)
+
 -- no line is put, and an assertion has no clause
 pub without-put : (asked : Asked) (kept : AllKept) (rs : List Regex) (memo : Memo) (e : Backing) (place : ℕ)
     (told : Option (List ℕ)) → Backs rs memo e kept

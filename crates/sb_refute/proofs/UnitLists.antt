@@ -10,7 +10,7 @@ use Rattle.sb_refute.specs.declared.evidence.Asserted.{Asserted}
 use Rattle.sb_script.specs.Pieces.{constant_piece}
 use Rattle.sb_rulebook.specs.Atoms.{AtomOver, in_atom}
 use Rattle.sb_atoms.specs.Numbered.{Names}
-use Rattle.sb_refute.specs.Units.{Member, Rise, IsOfRegex, AreRegexesOf, numbered, denials_of, affirmations_of}
+use Rattle.sb_refute.specs.Units.{Member, Rise, IsOfRegex, IsMemberAt, AreRegexesOf, numbered, denials_of, affirmations_of}
 
 pub denials-by_atoms : (es : List (ℕ × Asserted))
     → map (λ (k : ℕ). record { atom = k; positive = false }) (keys_of es) ≡ denials_of (numbered es)
@@ -39,9 +39,9 @@ AreRegexesAt atoms (k ∷ ks) (r ∷ rs) =
     (x : ℕ) × Names atoms k (in_atom (constant_piece x ∷ []) r) × AreRegexesAt atoms ks rs
 AreRegexesAt atoms _ _ = ⊥
 
--- The atoms that are left are of the table, and behind the regexes so far theirs make those of all.
+-- The atoms that are left are memberships, and behind the regexes so far theirs make those of all.
 pub record Collects (atoms : List (AtomOver ℕ)) (us : List Member) (left seen : List ℕ) : Type 0 where
-  pub below : All (λ k. k < length atoms) left
+  pub members : All (IsMemberAt atoms) left
   pub all : (rest : List ℕ) → AreRegexesAt atoms left rest → AreRegexesOf atoms us (seen ++ rest)
 
 regexes-by_atoms : (atoms : List (AtomOver ℕ)) (es : List (ℕ × Asserted)) (rs : List ℕ)
@@ -51,26 +51,25 @@ regexes-by_atoms atoms [] (r ∷ rs) h = absurd h
 regexes-by_atoms atoms (e ∷ es) [] h = absurd h
 regexes-by_atoms atoms (e ∷ es) (r ∷ rs) h = (h.0, h.1, regexes-by_atoms atoms es rs h.2)
 
-keys-below : (n : ℕ) (es : List (ℕ × Asserted)) → All (λ u. u.0 < n) (numbered es) → All (λ k. k < n) (keys_of es)
-keys-below n [] h = λ k d l. absurd (omega (arith, l))
-keys-below n (e ∷ es) h = step (keys-below n es (λ k d l. h (suc k) d (omega (arith, l))))
+keys-all : (P : ℕ → Type 0) (es : List (ℕ × Asserted)) → All (λ u. P u.0) (numbered es) → All P (keys_of es)
+keys-all P [] h = λ k d l. absurd (omega (arith, l))
+keys-all P (e ∷ es) h = step (keys-all P es (λ k d l. h (suc k) d (omega (arith, l))))
   where
-    step : All (λ k. k < n) (keys_of es) → (k d : ℕ) → k < length (keys_of (e ∷ es))
-        → slice_index_or (keys_of (e ∷ es)) k d < n
+    step : All P (keys_of es) → (k d : ℕ) → k < length (keys_of (e ∷ es)) → P (slice_index_or (keys_of (e ∷ es)) k d)
     step rest zero d l = h zero (0, 0, 0) (omega arith)
     step rest (suc k) d l = rest k d (omega (arith, l))
 
 pub collects-none : (atoms : List (AtomOver ℕ)) (es : List (ℕ × Asserted)) (left seen : List ℕ) → left ≡ keys_of es
-    → seen ≡ [] → All (λ u. u.0 < length atoms) (numbered es) → Collects atoms (numbered es) left seen
-collects-none atoms es left seen is none below =
+    → seen ≡ [] → All (λ u. IsMemberAt atoms u.0) (numbered es) → Collects atoms (numbered es) left seen
+collects-none atoms es left seen is none members =
     subst (λ ks. Collects atoms (numbered es) ks seen) (sym is)
     (subst (Collects atoms (numbered es) (keys_of es)) (sym none)
-    (record { below = keys-below (length atoms) es below; all = λ rest. regexes-by_atoms atoms es rest }))
+    (record { members = keys-all (IsMemberAt atoms) es members; all = λ rest. regexes-by_atoms atoms es rest }))
 
-pub collects-below : (atoms : List (AtomOver ℕ)) (us : List Member) (left seen : List ℕ) (k : ℕ) (ks : List ℕ)
-    → left ≡ k ∷ ks → Collects atoms us left seen → k < length atoms
-collects-below atoms us left seen k ks is h =
-    subst (λ all. All (λ k. k < length atoms) all) is h.below 0 0 (omega arith)
+pub collects-first : (atoms : List (AtomOver ℕ)) (us : List Member) (left seen : List ℕ) (k : ℕ) (ks : List ℕ)
+    → left ≡ k ∷ ks → Collects atoms us left seen → IsMemberAt atoms k
+collects-first atoms us left seen k ks is h =
+    subst (λ all. All (IsMemberAt atoms) all) is h.members 0 0 (omega arith)
 
 pub collects-one : (atoms : List (AtomOver ℕ)) (us : List Member) (left seen more : List ℕ) (k : ℕ) (ks : List ℕ)
     (r : ℕ) → left ≡ k ∷ ks → more ≡ seen ++ r ∷ [] → IsOfRegex atoms k r → Collects atoms us left seen
@@ -78,7 +77,7 @@ pub collects-one : (atoms : List (AtomOver ℕ)) (us : List Member) (left seen m
 collects-one atoms us left seen more k ks r is now of h =
     let g = subst (λ all. Collects atoms us all seen) is h in
     record {
-      below = λ i d l. g.below (suc i) d (omega (arith, l));
+      members = λ i d l. g.members (suc i) d (omega (arith, l));
       all = λ rest are. subst (AreRegexesOf atoms us)
           (sym (append_assoc seen (r ∷ []) rest) ∙ ap (λ (all : List ℕ). all ++ rest) (sym now))
           (g.all (r ∷ rest) (of.0, of.1, are));

@@ -1,19 +1,23 @@
 -- What the evidence of an unsat knows of a proof, and what a reader of the proof keeps.
-use Rattle.std.specs.Prelude.{◌≡◌, ℕ, ◌<◌, ◌≤◌, true, List, [], ◌∷◌, map, take, slice_get, Option, Some, None, unwrap_or, nat_lt, if◌then◌else◌}
+use Rattle.std.specs.Prelude.{◌≡◌, ◌≢◌, ℕ, ◌<◌, ◌≤◌, true, List, [], ◌∷◌, map, take, slice_get, Option, Some, None, unwrap_or, nat_lt, if◌then◌else◌, Contains}
 use Rattle.sb_lang.specs.Regex.{Regex}
 use Rattle.sb_lit.specs.Budgets.{Spending}
 use Rattle.sb_lit.specs.Kept.{Kept, KeptClause, kept_at, kept_up_to}
+use Rattle.sb_lit.specs.declared.clause.Lit.{Lit}
 use Rattle.sb_meaning.specs.Terms.{Term, text}
 use Rattle.sb_script.specs.Brought as brought
 use Rattle.sb_deriv.specs.Faithful.{Memo}
 use Rattle.sb_rulebook.specs.Atoms.{AtomOver}
 use Rattle.sb_rulebook.specs.Kept.{AllKept, Asked}
 use Rattle.sb_rulebook.specs.AtomRules.{is_declared}
-use Rattle.sb_atoms.specs.Numbered.{atoms_in}
+use Rattle.sb_atoms.specs.Numbered.{Names, atoms_in}
+use Rattle.sb_atoms.specs.Translated.{has_declared}
+use Rattle.sb_gates.specs.Clauses.{clauses_of}
 use Rattle.sb_trace.specs.Putting.{Puts, IsCounted}
 use Rattle.sb_trace.specs.Tracking.{Traced, Tracks}
 use Rattle.sb_refute.specs.declared.evidence.Asserted.{Asserted}
 use Rattle.sb_refute.specs.declared.evidence.EmptyClause.{EmptyClause}
+use Rattle.sb_refute.specs.declared.evidence.Parts.{Parts}
 
 -- what of regexes, atoms and clauses stands in a proof
 pub record Backing : Type 0 where
@@ -26,6 +30,19 @@ pub record Backing : Type 0 where
   pub asserted : List (Option Asserted)
   -- the empty clause
   pub refuted : Option EmptyClause
+  -- of so many atoms, the first ones, the clauses of their gates are kept
+  pub gates : ℕ
+
+-- what the parts of an evidence are together
+abbrev pub backing_of : Parts → Backing
+backing_of parts = record {
+  trace = parts.trace;
+  atoms = parts.atoms;
+  kept = parts.engine.kept;
+  asserted = parts.asserted.items;
+  refuted = parts.refuted;
+  gates = parts.gates;
+}
 
 -- the clause of the assertion at a place, none where it has none
 abbrev pub asserted_at : List (Option Asserted) → ℕ → Option Asserted
@@ -37,6 +54,22 @@ unit_at a = record { literals = a.literal ∷ []; level = a.level }
 
 abbrev pub empty_at : EmptyClause → KeptClause
 empty_at empty = record { literals = []; level = empty.level }
+
+-- each clause of the gates of the atom is kept, at level 0
+abbrev pub HasGatesOf : ℕ → List (AtomOver ℕ) → Kept → Type 0
+HasGatesOf i atoms kept = (a : AtomOver ℕ) (clause : List Lit) → Names atoms i a → Contains (clauses_of i a) clause
+    → (id : ℕ) × (kept_at kept id ≡ Some (record { literals = clause; level = 0 }))
+
+-- the same of the atoms below the number
+abbrev pub HasGates : ℕ → List (AtomOver ℕ) → Kept → Type 0
+HasGates gates atoms kept = (i : ℕ) → i < gates → HasGatesOf i atoms kept
+
+-- it is a kept clause without literals of the lowest level; none only where each kept clause has some
+abbrev pub IsLowestEmpty : Kept → Option EmptyClause → Type 0
+IsLowestEmpty kept None = (id : ℕ) (clause : KeptClause) → kept_at kept id ≡ Some clause → clause.literals ≢ []
+IsLowestEmpty kept (Some empty) = (kept_at kept empty.clause.0 ≡ Some (empty_at empty))
+    × ((id : ℕ) (clause : KeptClause) → kept_at kept id ≡ Some clause → clause.literals ≡ []
+    → empty.level ≤ clause.level)
 
 -- The reader keeps the regexes, the atoms and the clauses of the evidence, among them that of each assertion that was
 -- put.
@@ -72,6 +105,11 @@ pub record IsLive (asked : Asked) (place : ℕ) (t : Term) (level : ℕ) : Type 
   pub declared : (serial : ℕ) (expression : Term) → brought.asked t ≡ Some (serial, expression)
       → is_declared asked.sorts text serial ≡ true
 
+-- The term is the live assertion of the place, on this level, and the constants in it are declared.
+pub record IsStatement (asked : Asked) (place : ℕ) (t : Term) (level : ℕ) : Type 0 where
+  pub live : slice_get asked.live place ≡ Some (Some t, level)
+  pub declared : has_declared asked.sorts t ≡ true
+
 -- the clauses of assertions stay
 abbrev pub KeepsAsserted : Backing → Backing → Type 0
 KeepsAsserted old new = (place : ℕ) (a : Asserted) → asserted_at old.asserted place ≡ Some a
@@ -99,4 +137,4 @@ retracted level count e = record e {
 
 -- no clause stays
 abbrev pub cleared : Backing → Backing
-cleared e = record e { kept = map (λ clause. None) e.kept; asserted = []; refuted = None }
+cleared e = record e { kept = map (λ clause. None) e.kept; asserted = []; refuted = None; gates = 0 }

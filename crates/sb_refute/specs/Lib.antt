@@ -1,4 +1,5 @@
 pub mod Backing
 pub mod Refuting
+pub mod Standing
 pub mod Units
 pub mod Lines

@@ -1,6 +1,6 @@
 -- Live assertions whose atoms are memberships of one constant with no word in common, and what a refutation of them
 -- answers.
-use Rattle.std.specs.Prelude.{◌≡◌, ℕ, false, List, [], ◌∷◌, map, slice_get, Option, Some, None, option_map, option_and_then}
+use Rattle.std.specs.Prelude.{◌≡◌, ℕ, false, if◌then◌else◌, List, [], ◌∷◌, map, slice_get, Option, Some, None, option_map, option_and_then}
 use Rattle.std.specs.List.{list_all}
 use Rattle.sb_word.specs.Words.{IsWord}
 use Rattle.sb_lang.specs.Regex.{Regex}
@@ -10,7 +10,6 @@ use Rattle.sb_lit.specs.Kept.{Kept, kept_at}
 use Rattle.sb_regex.specs.Numbered.{regexes_at}
 use Rattle.sb_rulebook.specs.Atoms.{AtomOver, in_atom}
 use Rattle.sb_script.specs.Pieces.{constant_piece}
-use Rattle.sb_refute.specs.declared.evidence.EmptyClause.{EmptyClause}
 use Rattle.sb_refute.specs.Backing.{Backing, asserted_at}
 use Rattle.sb_refute.specs.declared.refute.Refuted.{Refuted}
 use Rattle.sb_refute.specs.declared.refute.Refuted.TheVariants as refuted
@@ -20,13 +19,13 @@ abbrev pub membership_of : AtomOver ℕ → Option (ℕ × ℕ)
 membership_of (in_atom (constant_piece x ∷ []) r) = Some (x, r)
 membership_of _ = None
 
--- the same of the atom of the assertion at a place
+-- the same of the atom of the assertion at a place, none where that is denied
 abbrev pub membership_at : Backing → ℕ → Option (ℕ × ℕ)
 membership_at e place =
-    option_and_then (λ a. option_and_then membership_of (slice_get e.atoms a.literal.atom))
-    (asserted_at e.asserted place)
+    option_and_then (λ a. if a.literal.positive then option_and_then membership_of (slice_get e.atoms a.literal.atom)
+    else None) (asserted_at e.asserted place)
 
--- The assertions' atoms are memberships of one constant, and no word is in all of their regexes.
+-- The assertions are memberships of one constant, and no word is in all of their regexes.
 pub record AreDisjoint (rs : List Regex) (e : Backing) (places : List ℕ) : Type 0 where
   pub constant : ℕ
   pub regexes : List ℕ

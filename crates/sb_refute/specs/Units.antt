@@ -1,40 +1,32 @@
 -- Private: the clauses of memberships, by their atoms, and the denials of these.
-use Rattle.std.specs.Prelude.{◌≡◌, ℕ, ◌<◌, ◌≤◌, true, false, List, [], ◌∷◌, ◌++◌, map, length, Option, Some, None, Contains, IsSome}
+use Rattle.std.specs.Prelude.{◌≡◌, ℕ, ◌<◌, ◌≤◌, true, false, List, [], ◌∷◌, ◌++◌, map, Option, Some, None, Contains}
 use Rattle.sb_lang.specs.Regex.{Regex}
 use Rattle.sb_lang.specs.Constructors.{mkand}
 use Rattle.sb_regex.specs.Numbered.{regex_at}
 use Rattle.sb_lit.specs.Kept.{Kept, KeptClause, kept_at}
 use Rattle.sb_lit.specs.declared.clause.Lit.{Lit}
 use Rattle.sb_lit.specs.declared.clause.ClauseId.{ClauseId}
-use Rattle.sb_clauses.specs.Propagation.{has_room_for}
 use Rattle.sb_atoms.specs.Numbered.{Names, atoms_in}
 use Rattle.sb_rulebook.specs.Atoms.{AtomOver, in_atom}
-use Rattle.sb_rulebook.specs.Kept.{AllKept}
 use Rattle.sb_sound.specs.MembershipLaws.{AreDeniedIn}
 use Rattle.sb_sound.specs.HintLaws.{AreNamed, HasNoSubset, Refutes, IsGreatestLevel}
 use Rattle.sb_trace.specs.Tracking.{is_dead_in}
 use Rattle.sb_script.specs.Pieces.{constant_piece}
-use Rattle.sb_atoms.specs.Translated.{are_members}
-use Rattle.sb_refute.specs.Backing.{Backing, asserted_at, empty_at}
+use Rattle.sb_refute.specs.Backing.{Backing, asserted_at}
 use Rattle.sb_refute.specs.Refuting.{AreDisjoint}
 use Rattle.sb_refute.specs.declared.evidence.Asserted.{Asserted}
-use Rattle.sb_refute.specs.declared.evidence.EmptyClause.{EmptyClause}
 
 -- an atom, the number of the clause that it is true, and the level of that
 abbrev pub Member : Type 0
 Member = ℕ × ℕ × ℕ
 
--- the literals of assertions are positive, of atoms of the table
-abbrev pub AreOfAtoms : List (AtomOver ℕ) → List (Option Asserted) → Type 0
-AreOfAtoms atoms asserted = (place : ℕ) (a : Asserted) → asserted_at asserted place ≡ Some a
-    → (a.literal.positive ≡ true) × (a.literal.atom < length atoms)
-
--- an assertion at one of the places has this literal's atom and this clause
+-- an assertion at one of the places says that this atom is true, by this clause
 pub record IsUnitOf (e : Backing) (places : List ℕ) (unit : Member) : Type 0 where
   pub place : ℕ
   pub among : Contains places place
   pub asserted : Asserted
   pub there : asserted_at e.asserted place ≡ Some asserted
+  pub positive : asserted.literal.positive ≡ true
   pub atom : asserted.literal.atom ≡ unit.0
   pub clause : asserted.clause.0 ≡ unit.1
   pub level : asserted.level ≡ unit.2
@@ -55,13 +47,17 @@ Rise (u ∷ v ∷ us) = (u.0 < v.0) × Rise (v ∷ us)
 abbrev pub numbered : List (ℕ × Asserted) → List Member
 numbered entries = map (λ u. (u.0, u.1.clause.0, u.1.level)) entries
 
--- the assertion at the place stands in the proof
-abbrev pub IsAsserted : Backing → ℕ → Type 0
-IsAsserted e place = IsSome (asserted_at e.asserted place)
+-- the assertion at the place stands in the proof, and says that an atom is true
+abbrev pub IsAffirmed : Backing → ℕ → Type 0
+IsAffirmed e place = (a : Asserted) × (asserted_at e.asserted place ≡ Some a) × (a.literal.positive ≡ true)
 
 -- the atom is a membership of a constant in the regex
 abbrev pub IsOfRegex : List (AtomOver ℕ) → ℕ → ℕ → Type 0
 IsOfRegex atoms k r = (x : ℕ) × Names atoms k (in_atom (constant_piece x ∷ []) r)
+
+-- the atom is a membership of a constant
+abbrev pub IsMemberAt : List (AtomOver ℕ) → ℕ → Type 0
+IsMemberAt atoms k = (r : ℕ) × IsOfRegex atoms k r
 
 -- each atom is a membership of one of the regexes, in order
 abbrev pub AreRegexesOf : List (AtomOver ℕ) → List Member → List ℕ → Type 0
@@ -107,18 +103,6 @@ pub record ArePicked (us : List Member) (literals : List Lit) (picked : List Mem
 pub record IsTop (ns : List ℕ) (top : ℕ) : Type 0 where
   pub none_above : (n : ℕ) → Contains ns n → n ≤ top
   pub is : Contains ns top
-
--- What is known of the atoms, the clauses, the assertions and the empty clause that stand in a proof: the atoms are
--- memberships, those of all literals are in the table, and only the empty clause has no literals.
-pub record Stand (atoms : List (AtomOver ℕ)) (kept : Kept) (asserted : List (Option Asserted))
-    (found : Option EmptyClause) : Type 0
-  where
-    pub of_atoms : AreOfAtoms atoms asserted
-    pub members : are_members atoms ≡ true
-    pub known : has_room_for (length atoms) kept ≡ true
-    pub refuted : (empty : EmptyClause) → found ≡ Some empty → kept_at kept empty.clause.0 ≡ Some (empty_at empty)
-    pub alone : (id : ℕ) (clause : KeptClause) → kept_at kept id ≡ Some clause → clause.literals ≡ []
-        → (empty : EmptyClause) × (found ≡ Some empty) × (clause ≡ empty_at empty)
 
 -- the clause that an atom is true
 abbrev pub unit_of : Member → KeptClause

@@ -1,10 +1,9 @@
 //! What stands in a proof of the live assertions.
 
-ghost use Rattle.std.specs.Prelude.{◌≡◌, ◌≢◌, ◌<◌, ◌∷◌, ◌++◌, ℕ, [], true, map, List, Some, None, length, option_map, OnOk, OnErr, IfOk, IfSome};
+ghost use Rattle.std.specs.Prelude.{◌≡◌, ◌≢◌, ◌<◌, ◌≤◌, ◌∷◌, ◌++◌, ℕ, [], take, true, map, List, Some, None, length, option_map, OnOk, OnErr, IfOk, IfSome};
 ghost use Rattle.sb_script.specs.Pieces.{constant_piece};
-ghost use Rattle.sb_proof.specs.Lines.{piece_in};
 ghost use Rattle.sb_lit.specs.Kept.{kept_at};
-ghost use Rattle.sb_clauses.specs.Propagation.{are_reserved};
+ghost use Rattle.sb_clauses.specs.Propagation.{are_reserved, has_room_for};
 ghost use Rattle.sb_lang.specs.Regex.{Regex};
 ghost use Rattle.sb_regex.specs.Numbered as regex;
 ghost use Rattle.sb_deriv.specs.Faithful.{Memo};
@@ -14,20 +13,20 @@ ghost use Rattle.sb_fragment.specs.Measures.{AreMeasures};
 ghost use Rattle.sb_rulebook.specs.Atoms.{AtomOver, in_atom};
 ghost use Rattle.sb_rulebook.specs.Kept.{AllKept, Asked, nothing_kept, dropped_above, all_dropped};
 ghost use Rattle.sb_atoms.specs.Numbered.{atom_in, atoms_in, HaveRegexesBelow, Extends};
-ghost use Rattle.sb_atoms.specs.Translated.{member_translation, is_member, are_members, HasNoMemberLiteral};
+ghost use Rattle.sb_atoms.specs.Translated.{member_translation, brought_translation, is_member, HasNoMemberLiteral, HasNoLiteral};
 ghost use Rattle.sb_trace.specs.Putting.{CountsTapeFault};
 ghost use Rattle.sb_trace.specs.Tracking.{StaysNumbered};
-ghost use Rattle.sb_refute.specs.Backing.{Backs, EvidencesUncounted, IsLive, KeepsAsserted, AreUpTo, asserted_at, empty_at, retracted, refuted_up_to, cleared};
-ghost use Rattle.sb_refute.specs.Lines.{BringsAtom, IsAssertion, IsStanding, placed};
-ghost use Rattle.sb_refute.specs.Units.{Stand};
+ghost use Rattle.sb_refute.specs.Backing.{backing_of, IsLowestEmpty, HasGates, Backs, EvidencesUncounted, IsLive, IsStatement, KeepsAsserted, AreUpTo, asserted_at, unit_at, empty_at, retracted, refuted_up_to, cleared};
+ghost use Rattle.sb_refute.specs.Lines.{AreDue, IsAssertion, IsStanding, placed, IsLowestBefore, IsEmptyOf, lower_of};
+ghost use Rattle.sb_refute.specs.Standing.{Stand};
 
-use sb_atoms::{Atom, AtomId, Atoms};
-use sb_clauses::Engine;
+use crate::defining::define_atoms;
+use sb_atoms::{Atom, Atoms};
+use sb_clauses::{Clauses, Engine};
 use sb_fragment::Measures;
-use sb_lang::order::order_tells_apart;
 use sb_lit::{Clause, ClauseId, Lit};
 use sb_problem::Normals;
-use sb_proof::{Atom as ProofAtom, Line, Piece, Tape, TapeFault};
+use sb_proof::{Line, Tape, TapeFault};
 use sb_regex::{Arena, RegexId};
 use sb_sound::clauses::assertion_lines_are_exact;
 use sb_term::{Serial, Table, TermId};
@@ -62,12 +61,25 @@ pub struct Evidence {
     /// By the places of live assertions.
     asserted: Vec<Option<Asserted>>,
     pub(crate) refuted: Option<EmptyClause>,
+    /// Of so many atoms, the first ones, the clauses of their gates stand in the proof.
+    pub(crate) gates: usize,
+}
+
+/// An evidence taken apart, for a search that goes on with its tables.
+#[derive(Drop)]
+pub struct Parts {
+    pub trace: Trace,
+    pub atoms: Atoms,
+    pub engine: Engine,
+    pub asserted: Vec<Option<Asserted>>,
+    pub refuted: Option<EmptyClause>,
+    pub gates: usize,
 }
 
 impl Model for Evidence {
     ghost use Rattle.sb_refute.specs.Backing.{Backing};
     ghost use Rattle.std.specs.Prelude.{◌≡◌, []};
-    ghost use Rattle.sb_refute.specs.Units.{Stand};
+    ghost use Rattle.sb_refute.specs.Standing.{Stand};
 
     ghost Value = { Backing };
 
@@ -77,10 +89,11 @@ impl Model for Evidence {
       kept = evidence.engine.kept;
       asserted = evidence.asserted.items;
       refuted = evidence.refuted;
+      gates = evidence.gates;
     } };
 
     ghost invariant = { λ evidence. Stand evidence.atoms evidence.engine.kept evidence.asserted.items evidence.refuted
-        × (evidence.engine.trail.literals ≡ []) };
+        evidence.gates × (evidence.engine.trail.literals ≡ []) };
 }
 
 impl Evidence {
@@ -96,6 +109,63 @@ impl Evidence {
             engine: Engine::new(alloc),
             asserted: Vec::new(alloc),
             refuted: None,
+            gates: 0,
+        }
+    }
+
+    /// Its parts. Takes no memory.
+    pub fn into_parts(self) -> Parts
+        ensures backing { backing_of result ≡ self }
+        ensures stands { Stand result.atoms result.engine.kept result.asserted.items result.refuted result.gates }
+        ensures trail { result.engine.trail.literals ≡ [] }
+    {
+        let Evidence {
+            alloc: _,
+            trace,
+            atoms,
+            engine,
+            asserted,
+            refuted,
+            gates,
+        } = self;
+        Parts {
+            trace,
+            atoms,
+            engine,
+            asserted,
+            refuted,
+            gates,
+        }
+    }
+
+    /// The evidence of these parts, where what is known of all that stands in a proof holds of the first clauses, so many
+    /// as `before`, and others may follow these. The empty clause is then that of the lowest level. Takes the literals off
+    /// the trail. Takes no memory; linear in these literals and in the clauses behind the first ones.
+    pub fn from_parts(parts: Parts, before: usize) -> Evidence
+        requires known { has_room_for (length parts.atoms) parts.engine.kept ≡ true }
+        requires stands { Stand parts.atoms (take before parts.engine.kept) parts.asserted.items parts.refuted
+            parts.gates }
+        ensures backing { result ≡ record (backing_of parts) { refuted = result.refuted } }
+        ensures lowest { IsLowestEmpty parts.engine.kept result.refuted }
+    {
+        let Parts {
+            trace,
+            atoms,
+            mut engine,
+            asserted,
+            refuted,
+            gates,
+        } = parts;
+        engine.clear();
+        let refuted = lowest_empty(engine.clauses(), before, refuted);
+        Evidence {
+            alloc: *asserted.allocator(),
+            trace,
+            atoms,
+            engine,
+            asserted,
+            refuted,
+            gates,
         }
     }
 
@@ -154,6 +224,7 @@ impl Evidence {
         self.engine.drop_all();
         self.asserted.clear();
         self.refuted = None;
+        self.gates = 0;
     }
 
     /// The clause of the live assertion at a place, whose term and level these are. The lines that it lacks are put:
@@ -200,14 +271,96 @@ impl Evidence {
         ensures counts { CountsTapeFault result (L.Tape.faults tape.old) (L.Tape.faults tape.new) }
     {
         let known = self.atoms.len();
-        let Some(literal) = self
+        let found = self
             .atoms
-            .translate_member(measures, normals, table, arena, term)?
-        else {
+            .translate_member(measures, normals, table, arena, term)?;
+        self.define(arena, known, tape)?;
+        self.stated(place, found, level, tape)
+    }
+
+    /// The clause of the live assertion at a place, whose term and level these are. The lines that it lacks are put:
+    /// those of the atoms that are new, each behind those of its regex, those of the gates of all atoms that lack them,
+    /// and its own, unless it stands in the proof. None where the term has no literal; its atoms may be put then, with
+    /// their gates.
+    ///
+    /// Linear in the term's tree and in the lines that are put, but that the literals of a connective are sorted, that
+    /// each two of what is distinct are compared, and that a regular expression is measured, and its normal regex made,
+    /// where they were not yet; a place behind those that have clauses costs time in how far it is behind. After an
+    /// error the tape may have a line of which nothing is known here, so nothing more may be put.
+    pub fn statement<L: Tape>(
+        &mut self,
+        measures: &mut Measures,
+        normals: &mut Normals,
+        table: &Table,
+        arena: &mut Arena,
+        place: usize,
+        term: TermId,
+        level: u64,
+        tape: &mut L,
+    ) -> Result<Option<Asserted>, TapeFault>
+        requires number { term < length table.now }
+        requires right { AreMeasures table.now measures.old }
+        requires normals { AreNormals table.now arena.old normals.old }
+        requires regexes { HaveRegexesBelow (length arena.old) self.old.atoms }
+        ensures puts { OnOk result ((asked : Asked) (memo : Memo) (before : AllKept)
+            → Backs arena.old memo self.old before → IsStatement asked place (term_at table.now term) level
+            → EvidencesUncounted asked before arena.new memo self.new (L.Tape.told tape.old) (L.Tape.told tape.new)) }
+        ensures asserted { IfOk result (λ found. found ≡ asserted_at self.new.asserted place) }
+        ensures literal { IfOk result (λ found. option_map (λ a. a.literal) found
+            ≡ brought_translation (atoms_in arena.new self.new.atoms) (term_at table.now term)) }
+        ensures level { IfOk result (λ found. IfSome found (λ a. a.level ≡ level)) }
+        ensures none { IfOk result (λ found. found ≡ None → HasNoLiteral (term_at table.now term)) }
+        ensures gates { OnOk result (HasGates (length self.new.atoms) self.new.atoms self.new.kept) }
+        ensures stays { OnOk result (IfSome (asserted_at self.old.asserted place) (λ a. (a.level ≡ level)
+            × (Some a.literal ≡ brought_translation (atoms_in arena.new self.new.atoms) (term_at table.now term)))
+            → KeepsAsserted self.old self.new) }
+        ensures others { OnOk result ((other : ℕ) → other ≢ place
+            → asserted_at self.new.asserted other ≡ asserted_at self.old.asserted other) }
+        ensures numbers_stay { StaysNumbered self.old.trace self.new.trace }
+        ensures extends { Extends self.old.atoms self.new.atoms }
+        ensures regexes { HaveRegexesBelow (length arena.new) self.new.atoms }
+        ensures right { AreMeasures table.now measures.new }
+        ensures normals { AreNormals table.now arena.new normals.new }
+        ensures arena { regex.Extends arena.old arena.new }
+        ensures counts { CountsTapeFault result (L.Tape.faults tape.old) (L.Tape.faults tape.new) }
+    {
+        let known = self.atoms.len();
+        let found = self.atoms.translate(measures, normals, table, arena, term)?;
+        self.define(arena, known, tape)?;
+        self.put_gates(tape)?;
+        self.stated(place, found, level, tape)
+    }
+
+    /// The clause of the assertion at a place, whose literal and level these are, and its line where it lacks that. An
+    /// assertion without a literal has none.
+    fn stated<L: Tape>(
+        &mut self,
+        place: usize,
+        literal: Option<Lit>,
+        level: u64,
+        tape: &mut L,
+    ) -> Result<Option<Asserted>, TapeFault>
+        requires { IfSome literal (λ l. l.atom < length self.old.atoms) }
+        ensures puts { OnOk result ((asked : Asked) (rs : List Regex) (memo : Memo) (before : AllKept)
+            → Backs rs memo self.old before → IfSome literal (λ l. IsAssertion asked before place l level)
+            → EvidencesUncounted asked before rs memo self.new (L.Tape.told tape.old) (L.Tape.told tape.new)) }
+        ensures asserted { IfOk result (λ found. found ≡ asserted_at self.new.asserted place) }
+        ensures literal { IfOk result (λ found. option_map (λ a. a.literal) found ≡ literal) }
+        ensures level { IfOk result (λ found. IfSome found (λ a. a.level ≡ level)) }
+        ensures stays { OnOk result (IfSome (asserted_at self.old.asserted place)
+            (λ a. (a.level ≡ level) × (Some a.literal ≡ literal)) → KeepsAsserted self.old self.new) }
+        ensures others { OnOk result ((other : ℕ) → other ≢ place
+            → asserted_at self.new.asserted other ≡ asserted_at self.old.asserted other) }
+        ensures gates { OnOk result (HasGates self.old.gates self.new.atoms self.new.kept) }
+        ensures atoms { self.new.atoms ≡ self.old.atoms }
+        ensures trace { self.new.trace ≡ self.old.trace }
+        ensures counts { CountsTapeFault result (L.Tape.faults tape.old) (L.Tape.faults tape.new) }
+    {
+        self.stands();
+        let Some(literal) = literal else {
             self.keep(place, None)?;
             return Ok(None);
         };
-        self.define(arena, known, literal, tape)?;
         if let Some(asserted) = self.standing(place, literal, level) {
             return Ok(Some(asserted));
         }
@@ -226,36 +379,23 @@ impl Evidence {
         }
     }
 
-    /// Puts the line of a literal's atom, with those of its regex, where so many atoms were known before and it is new.
+    /// Puts the lines of the atoms from this number on, with those of their regexes.
     fn define<L: Tape>(
         &mut self,
         arena: &Arena,
         known: usize,
-        literal: Lit,
         tape: &mut L,
     ) -> Result<(), TapeFault>
-        requires atom { literal.atom < length self.old.atoms }
-        requires members { are_members self.old.atoms ≡ true }
         requires regexes { HaveRegexesBelow (length arena.now) self.old.atoms }
-        ensures puts { OnOk result ((asked : Asked) (memo : Memo) (before : AllKept) (atoms : List (AtomOver ℕ))
-            → BringsAtom asked arena.now atoms self.old.atoms literal → length atoms ≡ known
-            → Backs arena.now memo (record self.old { atoms = atoms }) before
+        ensures puts { OnOk result ((asked : Asked) (memo : Memo) (before : AllKept)
+            → AreDue asked known self.old.atoms → known ≤ length self.old.atoms
+            → Backs arena.now memo (record self.old { atoms = take known self.old.atoms }) before
             → EvidencesUncounted asked before arena.now memo self.new (L.Tape.told tape.old) (L.Tape.told tape.new)) }
         ensures numbers_stay { StaysNumbered self.old.trace self.new.trace }
         ensures others { self.new ≡ record self.old { trace = self.new.trace } }
         ensures counts { CountsTapeFault result (L.Tape.faults tape.old) (L.Tape.faults tape.new) }
     {
-        if self.atoms.len() == known {
-            return Ok(());
-        }
-        self.atoms.atoms_each_once();
-        arena.normal_regexes_each_once();
-        order_tells_apart();
-        let (serial, regex) = membership_of(self.atoms.describe(AtomId::of(literal)));
-        let number = self.trace.number(arena, regex, tape)?;
-        let pieces = constant(self.alloc, serial)?;
-        tape.put(&Line::Atom(ProofAtom::In(pieces, number)))?;
-        Ok(())
+        define_atoms(self.alloc, &mut self.trace, arena, &self.atoms, known, tape)
     }
 
     /// Puts the clause of the assertion at a place, whose literal and level these are.
@@ -266,14 +406,14 @@ impl Evidence {
         level: u64,
         tape: &mut L,
     ) -> Result<Asserted, TapeFault>
-        requires known { literal.atom < length self.old.atoms }
-        requires positive { literal.positive ≡ true }
+        requires { literal.atom < length self.old.atoms }
         ensures puts { OnOk result ((asked : Asked) (rs : List Regex) (memo : Memo) (before : AllKept)
             → Backs rs memo self.old before → IsAssertion asked before place literal level
             → EvidencesUncounted asked before rs memo self.new (L.Tape.told tape.old) (L.Tape.told tape.new)) }
         ensures literal { IfOk result (λ a. a.literal ≡ literal) }
         ensures level { IfOk result (λ a. a.level ≡ level) }
         ensures asserted { IfOk result (λ a. self.new.asserted ≡ placed self.old.asserted place (Some a)) }
+        ensures kept { IfOk result (λ a. self.new.kept ≡ self.old.kept ++ Some (unit_at a) ∷ []) }
         ensures atoms { self.new.atoms ≡ self.old.atoms }
         ensures trace { self.new.trace ≡ self.old.trace }
         ensures counts { CountsTapeFault result (L.Tape.faults tape.old) (L.Tape.faults tape.new) }
@@ -292,7 +432,7 @@ impl Evidence {
 
     /// Keeps the clause of the assertion at a place, or that it has none.
     fn keep(&mut self, place: usize, asserted: Option<Asserted>) -> Result<(), AllocError>
-        requires { IfSome asserted (λ a. (a.literal.positive ≡ true) × (a.literal.atom < length self.old.atoms)) }
+        requires { IfSome asserted (λ a. a.literal.atom < length self.old.atoms) }
         ensures ok { OnOk result (self.new ≡ record self.old { asserted = placed self.old.asserted place asserted }) }
         ensures err { OnErr result (self.new ≡ self.old) }
     {
@@ -334,9 +474,52 @@ impl Evidence {
 
     /// What is known of all that stands in the proof.
     pub(crate) fn stands(&self)
-        ensures { Stand self.now.atoms self.now.kept self.now.asserted self.now.refuted }
+        ensures { Stand self.now.atoms self.now.kept self.now.asserted self.now.refuted self.now.gates }
     {
         let _engine = &self.engine;
+    }
+}
+
+/// The empty clause of the lowest level, of this one and of those from a number on.
+fn lowest_empty(clauses: &Clauses, before: usize, found: Option<EmptyClause>) -> Option<EmptyClause>
+    requires { IsLowestBefore before clauses.now found }
+    ensures { IsLowestEmpty clauses.now result }
+{
+    let mut lowest = found;
+    let mut number = before;
+    while number < clauses.len() {
+        lowest = lower(lowest, empty_clause(clauses, number));
+        number += 1;
+    }
+    lowest
+}
+
+/// The clause of a number, if it has no literals.
+fn empty_clause(clauses: &Clauses, number: usize) -> Option<EmptyClause>
+    ensures { IsEmptyOf clauses.now number result }
+{
+    let clause = ClauseId(number as u64);
+    if !clauses.literals(clause)?.is_empty() {
+        return None;
+    }
+    let level = clauses.level(clause)?;
+    Some(EmptyClause { clause, level })
+}
+
+/// The one of the lower level.
+fn lower(one: Option<EmptyClause>, other: Option<EmptyClause>) -> Option<EmptyClause>
+    ensures { result ≡ lower_of one other }
+{
+    let Some(first) = one else {
+        return other;
+    };
+    let Some(second) = other else {
+        return one;
+    };
+    if second.level < first.level {
+        other
+    } else {
+        one
     }
 }
 
@@ -358,15 +541,6 @@ fn put_at(
     all.resize(place, None)?;
     all.push(asserted)?;
     Ok(())
-}
-
-/// The pieces of a constant alone.
-fn constant(alloc: Global, serial: Serial) -> Result<Vec<Piece>, AllocError>
-    ensures { IfOk result (λ pieces. map piece_in pieces.items ≡ constant_piece serial.0 ∷ []) }
-{
-    let mut pieces = Vec::new(alloc);
-    pieces.push(Piece::Constant(serial.0))?;
-    Ok(pieces)
 }
 
 /// The constant and the regex of an atom.

@@ -14,12 +14,11 @@ ghost use Rattle.sb_graph.specs.Findings.{IsGraph, KeepsMarks};
 ghost use Rattle.sb_rulebook.specs.Kept.{AllKept, Asked};
 ghost use Rattle.sb_rulebook.specs.LineLaws.{are_small, is_small_literal};
 ghost use Rattle.sb_atoms.specs.Numbered.{HaveRegexesBelow};
-ghost use Rattle.sb_atoms.specs.Translated.{are_members};
 ghost use Rattle.sb_trace.specs.Putting.{IsCounted, CountsTapeFault};
 ghost use Rattle.sb_trace.specs.Tracking.{StaysNumbered, Tracks, Traces, is_dead_in};
 ghost use Rattle.sb_refute.specs.Backing.{Backs, Evidences};
 ghost use Rattle.sb_refute.specs.Refuting.{AreDisjoint, IsRefutation};
-ghost use Rattle.sb_refute.specs.Units.{AreUnits, HaveUnits, HaveNoWord, CanBeDenied, IsAsserted, IsOfRegex, Rise, AreRegexesOf, HasPart, IsPartIn, ArePicked, IsTop, LeadsNowhere, numbered, denials_of, affirmations_of, hints_of as hints_in};
+ghost use Rattle.sb_refute.specs.Units.{AreUnits, HaveUnits, HaveNoWord, CanBeDenied, IsAffirmed, IsMemberAt, IsOfRegex, Rise, AreRegexesOf, HasPart, IsPartIn, ArePicked, IsTop, LeadsNowhere, numbered, denials_of, affirmations_of, hints_of as hints_in};
 
 use crate::evidence::{Asserted, Evidence, membership_of};
 use sb_atoms::{AtomId, Atoms};
@@ -271,7 +270,6 @@ impl Evidence {
             → LeadsNowhere kept.clauses r.hints.items r.level) }
         ensures small { IfOk result (λ r. are_small r.hints.items ≡ true) }
     {
-        self.stands();
         let clauses = self.engine.clauses();
         let picked = pick(self.alloc, units, clauses.literals(id).unwrap())?;
         let listed = listed(self.alloc, &picked)?;
@@ -283,7 +281,7 @@ impl Evidence {
 
     /// The clauses of the assertions at these places, one for each atom.
     fn units(&self, members: &[usize]) -> Result<Units, AllocError>
-        requires { All (IsAsserted self.now) members.now }
+        requires { All (IsAffirmed self.now) members.now }
         ensures { IfOk result (λ units. AreUnits self.now members.now (numbered units.entries)) }
     {
         let mut units = BTreeMap::new(self.alloc);
@@ -329,8 +327,7 @@ fn show_dead<L: Tape>(
 
 /// The regexes of the atoms.
 fn regexes_of(alloc: Global, atoms: &Atoms, units: &Units) -> Result<Vec<RegexId>, AllocError>
-    requires below { All (λ u. u.0 < length atoms.now) (numbered units.now.entries) }
-    requires members { are_members atoms.now ≡ true }
+    requires { All (λ u. IsMemberAt atoms.now u.0) (numbered units.now.entries) }
     ensures rise { OnOk result (Rise (numbered units.now.entries)) }
     ensures regexes { IfOk result (λ regexes. AreRegexesOf atoms.now (numbered units.now.entries) regexes.items) }
 {
@@ -343,8 +340,7 @@ fn regexes_of(alloc: Global, atoms: &Atoms, units: &Units) -> Result<Vec<RegexId
 
 /// The regex of an atom.
 fn regex_of(atoms: &Atoms, atom: u64) -> RegexId
-    requires below { atom < length atoms.now }
-    requires members { are_members atoms.now ≡ true }
+    requires { IsMemberAt atoms.now atom }
     ensures { IsOfRegex atoms.now atom result }
 {
     let (_, regex) = membership_of(atoms.describe(AtomId::of(literal(atom, true))));

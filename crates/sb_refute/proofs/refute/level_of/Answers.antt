@@ -1,8 +1,8 @@
-use Rattle.std.proofs.Common.{ℕ, ◌+◌, List, ◌∷◌, map, take, subst, arith}
+use Rattle.std.proofs.Common.{◌+◌, List, ◌∷◌, map, take, subst, arith}
 use Rattle.std.proofs.lemmas.List.{take_more, take_all}
 use Rattle.sb_refute.specs.declared.evidence.Asserted.{Asserted}
 use Rattle.sb_refute.specs.Units.{IsTop}
-use Rattle.sb_refute.proofs.Picking.{top-none, top-one}
+use Rattle.sb_refute.proofs.Picking.{top-one}
 use Rattle.sb_refute.proofs.refute.level_of.Goals as goal
 
 pub loop-asserted-preserved : goal.loop-asserted-preserved

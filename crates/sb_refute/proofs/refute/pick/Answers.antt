@@ -4,7 +4,7 @@ use Rattle.std.proofs.lemmas.List.{take_more}
 use Rattle.sb_lit.specs.declared.clause.Lit.{Lit}
 use Rattle.sb_refute.specs.declared.evidence.Asserted.{Asserted}
 use Rattle.sb_refute.specs.Units.{ArePicked, numbered, denials_of}
-use Rattle.sb_refute.proofs.Picking.{looked-up, found-there, picked-none, picked-one, some-copied}
+use Rattle.sb_refute.proofs.Picking.{looked-up, found-there, picked-one, some-copied}
 use Rattle.sb_refute.proofs.refute.pick.Goals as goal
 
 pub unwrap-requires : goal.unwrap-requires

@@ -2,7 +2,7 @@ use Rattle.std.proofs.Common.{◌∙◌}
 use Rattle.std.specs.Map.Iter.{deref}
 use Rattle.std.proofs.lemmas.Map.Iter.{rest_more, rest_all}
 use Rattle.sb_refute.specs.Units.{numbered}
-use Rattle.sb_refute.proofs.UnitLists.{rise-sorted, collects-none, collects-below, collects-one, collects-all}
+use Rattle.sb_refute.proofs.UnitLists.{rise-sorted, collects-none, collects-first, collects-one, collects-all}
 use Rattle.sb_refute.proofs.refute.regexes_of.Goals as goal
 
 pub loop-atom-init : goal.loop-atom-init
@@ -10,11 +10,11 @@ loop-atom-init c =
     collects-none c.args.atoms.now c.args.units.now.entries c.into_iter-atom-iterator.result
     c.in_ok-regexes.regexes.items
     (c.into_iter-atom-iterator.ensures.into_iter_gives ∙ c.keys-atom-items.ensures.rest) c.in_ok-regexes.ensures.items
-    c.requires.below
+    c.requires
 
-pub regex_of-requires-clause-below : goal.regex_of-requires-clause-below
-regex_of-requires-clause-below c =
-    collects-below c.args.atoms.now (numbered c.args.units.now.entries) c.loop-atom.atom-iterator
+pub regex_of-requires : goal.regex_of-requires
+regex_of-requires c =
+    collects-first c.args.atoms.now (numbered c.args.units.now.entries) c.loop-atom.atom-iterator
     c.loop-atom.regexes.items c.in-Some.atom.now c.next.new.self
     (rest_more deref c.loop-atom.atom-iterator c.next.new.self c.next.result c.in-Some.atom c.in-Some.is
     c.next.ensures.steps)

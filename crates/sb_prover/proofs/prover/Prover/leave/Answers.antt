@@ -1,7 +1,8 @@
 use Rattle.std.proofs.Common.{IfSome, take, sym, ap, subst}
 use Rattle.sb_rulebook.specs.Judging.{met}
 use Rattle.sb_refute.specs.Backing.{Backing}
-use Rattle.sb_prover.specs.Proving.{Proving, IsAbreast, HaveLevels, AreLow, leaving}
+use Rattle.sb_prover.specs.Proving.{Proving, IsAbreast, HaveLevels, AreLow, leaving, IsTrue, GoesDown}
+use Rattle.sb_prover.proofs.TrueEvidence.{true-above, true-cleared}
 use Rattle.sb_prover.proofs.Leaving.{levels-up-to, levels-retracted, levels-cleared, left-above, left-all}
 use Rattle.sb_prover.proofs.prover.Prover.leave.Goals as goal
 
@@ -36,3 +37,22 @@ pub returns-in-None-clause-levels : goal.returns-in-None-clause-levels
 returns-in-None-clause-levels c = λ live levels.
     subst (HaveLevels (take c.args.count live)) (sym c.clear.ensures.cleared)
     (levels-cleared (take c.args.count live) c.self.inside.evidence)
+
+pub returns-in-Some-clause-sound : goal.returns-in-Some-clause-sound
+returns-in-Some-clause-sound c = λ rs memo before now goes levels low h.
+    let n = c.in-Some.level in
+    let e = c.self.inside.evidence in
+    let count = c.args.count in
+    let t = subst (λ (w : Proving). IsTrue before rs memo w.evidence) (sym c.self.view_is) h in
+    true-above c.dropped_stays_sound.ensures rs memo before now n e c.retract.new.self
+    (subst (λ o. GoesDown o before now) c.in-Some.is goes) t
+    (c.retract.ensures.backs rs memo t.kept t.backs
+    (levels-up-to before.live n count e
+    (subst (λ (w : Proving). HaveLevels before.live w.evidence) (sym c.self.view_is) levels)
+    (subst (λ o. IfSome o (λ m. AreLow m (take count before.live))) c.in-Some.is low)))
+
+pub returns-in-None-clause-sound : goal.returns-in-None-clause-sound
+returns-in-None-clause-sound c = λ rs memo before now goes levels low h.
+    let t = subst (λ (w : Proving). IsTrue before rs memo w.evidence) (sym c.self.view_is) h in
+    true-cleared c.all_dropped_is_sound.ensures rs memo before now c.self.inside.evidence c.clear.new.self t
+    (c.clear.ensures.backs rs memo t.kept t.backs)

@@ -1,4 +1,5 @@
 use Rattle.std.proofs.Common.{[], length, refl, sym, ap, ◌∙◌}
+use Rattle.sb_rulebook.specs.Kept.{nothing_kept}
 use Rattle.sb_refute.specs.Backing.{asserted_at}
 use Rattle.sb_prover.proofs.Growing.{none-below}
 use Rattle.sb_prover.proofs.Leaving.{none-there}
@@ -21,3 +22,11 @@ returns-clause-regexes c = λ n. none-below [] n c.new.result.atoms (c.new.ensur
 pub returns-clause-levels : goal.returns-clause-levels
 returns-clause-levels c = λ live place a there.
     absurd (none-there place a (ap (λ xs. asserted_at xs place) (sym c.new.ensures.nothing) ∙ there))
+
+pub returns-clause-sound : goal.returns-clause-sound
+returns-clause-sound c = λ asked rs memo. record {
+  kept = nothing_kept 1;
+  backs = c.new.ensures.backs rs memo 1;
+  sound = c.nothing_is_sound.ensures asked 1;
+  counted = refl;
+}

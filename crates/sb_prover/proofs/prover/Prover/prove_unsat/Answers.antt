@@ -6,6 +6,7 @@ use Rattle.sb_refute.specs.Backing.{Backs}
 use Rattle.sb_prover.specs.Proving.{Proving, IsProved, HaveLevels}
 use Rattle.sb_prover.specs.Saying.{IsRefuted}
 use Rattle.sb_prover.proofs.Proved.{unsat-proved, unknown-proved}
+use Rattle.sb_prover.proofs.TrueEvidence.{true-behind}
 use Rattle.sb_prover.proofs.prover.Prover.prove_unsat.Goals as goal
 
 pub returns-in_ok-say-in-Clause-clause-proves : goal.returns-in_ok-say-in-Clause-clause-proves
@@ -60,3 +61,27 @@ returns-in_ok-say-in-Spent-clause-levels g c = λ h.
     c.in_ok-id.ensures.levels
     (subst (λ (p : Proving). HaveLevels (asked_in (state_of c.args.stack.now)).live p.evidence)
     (sym c.in_ok-begin.ensures.begun) h)
+
+pub returns-in_ok-say-in-Clause-clause-sound : goal.returns-in_ok-say-in-Clause-clause-sound
+returns-in_ok-say-in-Clause-clause-sound g c = λ terms h.
+    let old = c.args.decider.now in
+    let new = c.refutation.new.decider in
+    let first = c.in_ok-begin.ensures.begun in
+    let r = c.in_ok-id.ensures.refuted h.kept
+    (subst (λ p. Backs old.arena old.graph.memo p.evidence h.kept) (sym first) h.backs) h.counted in
+    true-behind c.follows_by_rule.ensures c.line_stays_sound.ensures c.counted_again_stays_sound.ensures
+    (asked_in (state_of c.args.stack.now)) old.arena new.arena old.graph.memo new.graph.memo c.args.self.now.evidence
+    c.refutation.new.self.evidence terms h r.after (g.L.Tape.told c.begin.new.tape)
+    (g.L.Tape.told c.refutation.new.tape) r.puts r.backs
+
+pub returns-in_ok-say-in-Spent-clause-sound : goal.returns-in_ok-say-in-Spent-clause-sound
+returns-in_ok-say-in-Spent-clause-sound g c = λ terms h.
+    let old = c.args.decider.now in
+    let new = c.refutation.new.decider in
+    let first = c.in_ok-begin.ensures.begun in
+    let r = c.in_ok-id.ensures.refuted h.kept
+    (subst (λ p. Backs old.arena old.graph.memo p.evidence h.kept) (sym first) h.backs) h.counted in
+    true-behind c.follows_by_rule.ensures c.line_stays_sound.ensures c.counted_again_stays_sound.ensures
+    (asked_in (state_of c.args.stack.now)) old.arena new.arena old.graph.memo new.graph.memo c.args.self.now.evidence
+    c.refutation.new.self.evidence terms h r.after (g.L.Tape.told c.begin.new.tape)
+    (g.L.Tape.told c.refutation.new.tape) r.puts r.backs

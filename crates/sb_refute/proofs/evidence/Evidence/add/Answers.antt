@@ -1,4 +1,4 @@
-use Rattle.std.proofs.Common.{◌≡◌, ◌++◌, ◌∷◌, [], List, Some, length, sym, ap, ◌∙◌}
+use Rattle.std.proofs.Common.{◌++◌, ◌∷◌, [], List, Some, length, ap, ◌∙◌}
 use Rattle.sb_lit.specs.declared.clause.Lit.{Lit}
 use Rattle.sb_clauses.specs.Propagation.{State, are_reserved}
 use Rattle.sb_refute.specs.Backing.{Backing}
@@ -8,7 +8,7 @@ use Rattle.sb_refute.proofs.evidence.Evidence.add.Goals as goal
 pub invariant_of-self : goal.invariant_of-self
 invariant_of-self c =
     let i = c.self.inside in
-    stand-added c.add.result i.atoms i.engine c.add.new.self i.asserted.items i.refuted c.args.literals.now
+    stand-added c.add.result i.atoms i.engine c.add.new.self i.asserted.items i.refuted i.gates c.args.literals.now
     c.from_literals-clause.result c.args.level c.add.ensures.ok c.add.ensures.err
     (c.from_literals-clause.ensures ∙ c.in_ok-from_slice.ensures.items)
     (ap (λ (v : Backing). are_reserved (length v.atoms) c.args.literals.now) c.self.view_is ∙ c.requires.known)
@@ -30,6 +30,7 @@ returns-clause-ok c =
       kept = s.kept;
       asserted = i.asserted.items;
       refuted = i.refuted;
+      gates = i.gates;
     }) added
     ∙ (ap (λ (ls : List Lit). record {
       trace = i.trace;
@@ -37,6 +38,7 @@ returns-clause-ok c =
       kept = i.engine.kept ++ Some (record { literals = ls; level = c.args.level }) ∷ [];
       asserted = i.asserted.items;
       refuted = i.refuted;
+      gates = i.gates;
     }) (c.from_literals-clause.ensures ∙ c.in_ok-from_slice.ensures.items)
     ∙ ap (λ (v : Backing). record v {
       kept = v.kept ++ Some (record { literals = c.args.literals.now; level = c.args.level }) ∷ [];
@@ -54,6 +56,7 @@ returns-clause-err c =
       kept = s.kept;
       asserted = i.asserted.items;
       refuted = i.refuted;
+      gates = i.gates;
     }) same
     ∙ c.self.view_is)
     c.add.ensures.err

@@ -1,4 +1,4 @@
-use Rattle.std.proofs.Common.{◌≡◌, ◌++◌, ◌∷◌, [], List, Some, None, sym, ap, ◌∙◌}
+use Rattle.std.proofs.Common.{◌++◌, ◌∷◌, [], List, Some, ap, ◌∙◌}
 use Rattle.sb_lit.specs.declared.clause.Lit.{Lit}
 use Rattle.sb_clauses.specs.Propagation.{State}
 use Rattle.sb_refute.specs.declared.evidence.EmptyClause.{EmptyClause}
@@ -9,13 +9,13 @@ use Rattle.sb_refute.proofs.evidence.Evidence.add_empty.Goals as goal
 pub invariant_of-self : goal.invariant_of-self
 invariant_of-self c =
     let i = c.self.inside in
-    stand-same i.atoms i.engine c.add.new.self i.asserted.items i.refuted c.in_err-clause.ensures.err
+    stand-same i.atoms i.engine c.add.new.self i.asserted.items i.refuted i.gates c.in_err-clause.ensures.err
     c.self.invariant.0 c.self.invariant.1
 
 pub invariant_of-self-2 : goal.invariant_of-self-2
 invariant_of-self-2 c =
     let i = c.self.inside in
-    stand-with-empty i.atoms i.engine c.add.new.self i.asserted.items i.refuted
+    stand-with-empty i.atoms i.engine c.add.new.self i.asserted.items i.refuted i.gates
     (record { clause = c.in_ok-clause.clause; level = c.args.level }) c.from_literals-none.result
     c.in_ok-clause.ensures.ok (c.from_literals-none.ensures ∙ c.new.ensures.items) c.in_ok-clause.ensures.number
     (ap (λ (v : Backing). v.refuted) c.self.view_is ∙ c.requires.unset) c.self.invariant.0 c.self.invariant.1
@@ -30,6 +30,7 @@ returns-clause-ok c =
       kept = s.kept;
       asserted = i.asserted.items;
       refuted = Some one;
+      gates = i.gates;
     }) c.in_ok-clause.ensures.ok
     ∙ (ap (λ (ls : List Lit). record {
       trace = i.trace;
@@ -37,5 +38,6 @@ returns-clause-ok c =
       kept = i.engine.kept ++ Some (record { literals = ls; level = c.args.level }) ∷ [];
       asserted = i.asserted.items;
       refuted = Some one;
+      gates = i.gates;
     }) (c.from_literals-none.ensures ∙ c.new.ensures.items)
     ∙ ap (λ (v : Backing). record v { kept = v.kept ++ Some (empty_at one) ∷ []; refuted = Some one }) c.self.view_is)

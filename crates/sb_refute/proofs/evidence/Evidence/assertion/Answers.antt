@@ -1,152 +1,104 @@
-use Rattle.std.proofs.Common.{◌≡◌, ◌<◌, length, Some, None, sym, ap, subst, ◌∙◌}
-use Rattle.std.proofs.lemmas.Option.{slice_get_within}
+use Rattle.std.proofs.Common.{◌≡◌, ◌≢◌, ◌<◌, ℕ, length, None, IfSome, Option, option_map, sym, ap, subst, ◌∙◌}
+use Rattle.std.proofs.lemmas.Result.{on_ok_weaker}
 use Rattle.sb_term.specs.Numbered.{term_at}
+use Rattle.sb_fragment.proofs.CallerLemmas.{ok_map}
 use Rattle.sb_atoms.specs.Numbered.{atoms_in}
-use Rattle.sb_atoms.specs.Translated.{member_translation, IsAdded}
-use Rattle.sb_refute.specs.Backing.{Backing, Backs, EvidencesUncounted, asserted_at}
-use Rattle.sb_refute.specs.Lines.{IsStanding, placed}
-use Rattle.sb_refute.proofs.AtomLines.{alone}
+use Rattle.sb_atoms.specs.Translated.{member_translation, HasNoMemberLiteral}
+use Rattle.sb_refute.specs.declared.evidence.Asserted.{Asserted}
+use Rattle.sb_refute.specs.Backing.{Backing, Backs, asserted_at}
 use Rattle.sb_refute.proofs.Backs.{backs-more}
 use Rattle.sb_refute.proofs.Holding.{stand-atoms}
-use Rattle.sb_refute.proofs.Places.{placed-there, placed-others}
-use Rattle.sb_refute.proofs.Asserting.{brings-atom, is-assertion, both-put}
-use Rattle.sb_refute.proofs.Standing.{stays-claimed, stays-without, without-put}
+use Rattle.sb_refute.proofs.Asserting.{due-added, added-defined, added-known, is-assertion, both-put}
+use Rattle.sb_refute.proofs.Standing.{stays-after}
 use Rattle.sb_refute.proofs.evidence.Evidence.assertion.Goals as goal
 
 pub invariant_of-self : goal.invariant_of-self
 invariant_of-self g c =
     let i = c.self.inside in (
-      stand-atoms i.atoms c.translate_member.new.self i.engine.kept i.asserted.items i.refuted
-          c.translate_member.ensures.extends c.translate_member.ensures.members c.self.invariant.0,
+      stand-atoms i.atoms c.translate_member.new.self i.engine.kept i.asserted.items i.refuted i.gates
+          c.translate_member.ensures.extends c.translate_member.ensures.earlier c.self.invariant.0,
       c.self.invariant.1,
     )
 
-pub invariant_of-self-in-Some-1 : goal.invariant_of-self-in-Some-1
-invariant_of-self-in-Some-1 g c =
+pub invariant_of-self-2 : goal.invariant_of-self-2
+invariant_of-self-2 g c =
     let i = c.self.inside in (
-      stand-atoms i.atoms c.translate_member.new.self i.engine.kept i.asserted.items i.refuted
-          c.translate_member.ensures.extends c.translate_member.ensures.members c.self.invariant.0,
+      stand-atoms i.atoms c.translate_member.new.self i.engine.kept i.asserted.items i.refuted i.gates
+          c.translate_member.ensures.extends c.translate_member.ensures.earlier c.self.invariant.0,
       c.self.invariant.1,
     )
 
-pub returns-in_default-clause-puts : goal.returns-in_default-clause-puts
-returns-in_default-clause-puts g c = λ asked memo before b live.
-    let e = c.args.self.now in
-    let more = c.translate_member.new.arena in
-    let atoms = c.translate_member.new.self in
-    let place = c.args.place in
-    let told = g.L.Tape.told c.args.tape.now in
-    let same = subst (IsAdded c.self.inside.atoms atoms) c.in_default.is c.in_ok-literal.ensures.adds
-    ∙ ap (λ (f : Backing). f.atoms) c.self.view_is in
-    subst (λ (f : Backing). EvidencesUncounted asked before more memo f told told)
-    (sym (c.in_ok-keep.ensures.ok
-    ∙ (ap (λ (f : Backing). record f { atoms = atoms; asserted = placed f.asserted place None }) c.self.view_is
-    ∙ ap (λ xs. record e { atoms = xs; asserted = placed e.asserted place None }) same)))
-    (without-put asked before more memo e place told
-    (backs-more c.args.arena.now more memo e before c.in_ok-literal.ensures.arena c.requires.regexes b))
-
-pub returns-in_default-clause-asserted : goal.returns-in_default-clause-asserted
-returns-in_default-clause-asserted g c =
-    sym (ap (λ (f : Backing). asserted_at f.asserted c.args.place) c.in_ok-keep.ensures.ok
-    ∙ placed-there c.self.inside.asserted.items c.args.place None)
-
-pub returns-in_default-clause-stays : goal.returns-in_default-clause-stays
-returns-in_default-clause-stays g c =
-    stays-without c.args.self.now.asserted c.keep.new.self.asserted c.args.place c.args.level None _
-    (ap (λ (f : Backing). f.asserted) c.in_ok-keep.ensures.ok
-    ∙ ap (λ (f : Backing). placed f.asserted c.args.place None) c.self.view_is)
-    (ap (λ (f : Backing). member_translation (atoms_in c.translate_member.new.arena f.atoms)
-    (term_at c.args.table.now c.args.term)) c.in_ok-keep.ensures.ok
-    ∙ (sym c.in_ok-literal.ensures.ok ∙ c.in_default.is))
-
-pub returns-in_default-clause-others : goal.returns-in_default-clause-others
-returns-in_default-clause-others g c = λ other apart.
-    ap (λ (f : Backing). asserted_at f.asserted other) c.in_ok-keep.ensures.ok
-    ∙ (placed-others c.self.inside.asserted.items c.args.place None other apart
-    ∙ ap (λ (f : Backing). asserted_at f.asserted other) c.self.view_is)
-
-pub define-requires-clause-atom : goal.define-requires-clause-atom
-define-requires-clause-atom g c =
-    let added = subst (IsAdded c.self.inside.atoms c.translate_member.new.self) c.in-Some.is c.in_ok-literal.ensures.adds in
-    slice_get_within c.translate_member.new.self c.in-Some.literal.atom (alone added.0 added.1) added.3
-
-pub returns-in-Some-standing-clause-puts : goal.returns-in-Some-standing-clause-puts
-returns-in-Some-standing-clause-puts g c = λ asked memo before b live.
-    let t = term_at c.args.table.now c.args.term in
-    let more = c.translate_member.new.arena in
-    let old = c.self.inside.atoms in
-    let atoms = c.translate_member.new.self in
-    let l = c.in-Some.literal in
-    let translated = c.in_ok-literal.ensures in
-    let literal : Some l ≡ member_translation (atoms_in more atoms) t = sym c.in-Some.is ∙ translated.ok in
-    c.in_ok-define.ensures.puts asked memo before old
-    (brings-atom asked more old atoms c.args.place t l c.args.level live literal
-    (subst (IsAdded old atoms) c.in-Some.is translated.adds))
-    (sym c.len-known.ensures)
-    (subst (λ (f : Backing). Backs more memo f before) (sym c.self.view_is)
-    (backs-more c.args.arena.now more memo c.args.self.now before translated.arena c.requires.regexes b))
-
-pub claim-requires-clause-known : goal.claim-requires-clause-known
-claim-requires-clause-known g c =
-    let added = subst (IsAdded c.self.inside.atoms c.translate_member.new.self) c.in-Some.is c.in_ok-literal.ensures.adds in
-    subst (λ (f : Backing). c.in-Some.literal.atom < length f.atoms) (sym c.in_ok-define.ensures.others)
-    (slice_get_within c.translate_member.new.self c.in-Some.literal.atom (alone added.0 added.1) added.3)
-
-pub returns-clause-asserted : goal.returns-clause-asserted
-returns-clause-asserted g c =
-    sym (ap (λ xs. asserted_at xs c.args.place) c.in_ok-claim.ensures.asserted
-    ∙ placed-there c.define.new.self.asserted c.args.place (Some c.in_ok-claim.field-0))
+pub stated-requires : goal.stated-requires
+stated-requires g c =
+    subst (λ atoms. IfSome c.in_ok-found.found (λ l. l.atom < length atoms)) (sym (ap (λ (f : Backing). f.atoms) c.in_ok-define.ensures.others))
+    (added-known c.self.inside.atoms c.translate_member.new.self c.in_ok-found.found c.in_ok-found.ensures.adds)
 
 pub returns-clause-puts : goal.returns-clause-puts
-returns-clause-puts g c = λ asked memo before b live.
+returns-clause-puts g c =
+    let i = c.self.inside in
     let t = term_at c.args.table.now c.args.term in
     let more = c.translate_member.new.arena in
-    let old = c.self.inside.atoms in
     let atoms = c.translate_member.new.self in
-    let l = c.in-Some.literal in
     let mid = c.define.new.self in
-    let translated = c.in_ok-literal.ensures in
-    let literal : Some l ≡ member_translation (atoms_in more atoms) t = sym c.in-Some.is ∙ translated.ok in
-    both-put asked before more memo mid c.claim.new.self (g.L.Tape.told c.args.tape.now)
-    (g.L.Tape.told c.define.new.tape) (g.L.Tape.told c.claim.new.tape)
-    (c.in_ok-define.ensures.puts asked memo before old
-    (brings-atom asked more old atoms c.args.place t l c.args.level live literal
-    (subst (IsAdded old atoms) c.in-Some.is translated.adds))
-    (sym c.len-known.ensures)
+    let translated = c.in_ok-found.ensures in
+    let w : Backing = record {
+      trace = i.trace;
+      atoms = i.atoms;
+      kept = i.engine.kept;
+      asserted = i.asserted.items;
+      refuted = i.refuted;
+      gates = i.gates;
+    }
+    in
+    on_ok_weaker c.stated.result
+    (λ put asked memo before b live.
+    both-put asked before more memo c.define.new.self c.stated.new.self (g.L.Tape.told c.args.tape.now)
+    (g.L.Tape.told c.define.new.tape) (g.L.Tape.told c.stated.new.tape)
+    (added-defined asked before more memo w mid i.atoms atoms c.len-known.result (g.L.Tape.told c.args.tape.now)
+    (g.L.Tape.told c.define.new.tape)
+    (due-added asked more i.atoms atoms c.in_ok-found.found c.len-known.result c.args.place c.args.level t live
+    translated.ok translated.adds c.len-known.ensures)
+    translated.extends c.len-known.ensures
     (subst (λ (f : Backing). Backs more memo f before) (sym c.self.view_is)
-    (backs-more c.args.arena.now more memo c.args.self.now before translated.arena c.requires.regexes b)))
-    (λ after then. c.in_ok-claim.ensures.puts asked more memo after then
-    (is-assertion asked more memo mid after c.args.place t l c.args.level live
-    (subst (λ (f : Backing). Some l ≡ member_translation (atoms_in more f.atoms) t)
-    (sym c.in_ok-define.ensures.others) literal) then))
+    (backs-more c.args.arena.now more memo c.args.self.now before translated.arena c.requires.regexes b))
+    (c.in_ok-define.ensures.puts asked memo before))
+    (λ after next. put asked more memo after next
+    (is-assertion asked more memo c.define.new.self after c.args.place t c.in_ok-found.found c.args.level live
+    (translated.ok ∙ ap (λ atoms. member_translation (atoms_in more atoms) t) (sym (ap (λ (f : Backing). f.atoms) c.in_ok-define.ensures.others))) next)))
+    c.stated.ensures.puts
+
+pub returns-clause-literal : goal.returns-clause-literal
+returns-clause-literal g c =
+    let t = term_at c.args.table.now c.args.term in
+    let more = c.translate_member.new.arena in
+    ok_map (λ (found : Option Asserted). option_map (λ (a : Asserted). a.literal) found ≡ c.in_ok-found.found)
+    (λ (found : Option Asserted). option_map (λ (a : Asserted). a.literal) found
+    ≡ member_translation (atoms_in more c.stated.new.self.atoms) t) c.stated.result
+    (λ found h. h ∙ c.in_ok-found.ensures.ok
+    ∙ ap (λ atoms. member_translation (atoms_in more atoms) t) (sym (c.stated.ensures.atoms ∙ (ap (λ (f : Backing). f.atoms) c.in_ok-define.ensures.others))))
+    c.stated.ensures.literal
+
+pub returns-clause-none : goal.returns-clause-none
+returns-clause-none g c =
+    ok_map (λ (found : Option Asserted). option_map (λ (a : Asserted). a.literal) found ≡ c.in_ok-found.found)
+    (λ (found : Option Asserted). found ≡ None → HasNoMemberLiteral (term_at c.args.table.now c.args.term)) c.stated.result
+    (λ found h none. c.in_ok-found.ensures.none (sym h ∙ ap (option_map (λ (a : Asserted). a.literal)) none))
+    c.stated.ensures.literal
 
 pub returns-clause-stays : goal.returns-clause-stays
 returns-clause-stays g c =
     let t = term_at c.args.table.now c.args.term in
     let more = c.translate_member.new.arena in
-    let place = c.args.place in
-    let l = c.in-Some.literal in
-    let one = c.in_ok-claim.field-0 in
-    let literal : Some l ≡ member_translation (atoms_in more c.translate_member.new.self) t =
-    sym c.in-Some.is ∙ c.in_ok-literal.ensures.ok in
-    stays-claimed c.args.self.now.asserted c.claim.new.self.asserted place l c.args.level (Some one) _
-    (c.in_ok-claim.ensures.asserted
-    ∙ (ap (λ (f : Backing). placed f.asserted place (Some one)) c.in_ok-define.ensures.others
-    ∙ ap (λ (f : Backing). placed f.asserted place (Some one)) c.self.view_is))
-    (subst (λ (f : Backing). IsStanding (asserted_at f.asserted place) l c.args.level None) c.self.view_is
-    (subst (λ (f : Backing). IsStanding (asserted_at f.asserted place) l c.args.level None)
-    c.in_ok-define.ensures.others
-    (subst (IsStanding (asserted_at c.define.new.self.asserted place) l c.args.level) c.in_default-standing.is
-    c.standing.ensures)))
-    (subst (λ xs. Some l ≡ member_translation (atoms_in more xs) t)
-    (sym (c.in_ok-claim.ensures.atoms ∙ ap (λ (f : Backing). f.atoms) c.in_ok-define.ensures.others)) literal)
+    on_ok_weaker c.stated.result
+    (λ keep. stays-after c.args.self.now.asserted c.define.new.self.asserted c.stated.new.self.asserted c.args.place
+    c.args.level c.in_ok-found.found (member_translation (atoms_in more c.stated.new.self.atoms) t)
+    (ap (λ (f : Backing). f.asserted) c.in_ok-define.ensures.others ∙ ap (λ (f : Backing). f.asserted) c.self.view_is)
+    (c.in_ok-found.ensures.ok
+    ∙ ap (λ atoms. member_translation (atoms_in more atoms) t) (sym (c.stated.ensures.atoms ∙ (ap (λ (f : Backing). f.atoms) c.in_ok-define.ensures.others)))) keep)
+    c.stated.ensures.stays
 
 pub returns-clause-others : goal.returns-clause-others
-returns-clause-others g c = λ other apart.
-    ap (λ xs. asserted_at xs other) c.in_ok-claim.ensures.asserted
-    ∙ (placed-others c.define.new.self.asserted c.args.place (Some c.in_ok-claim.field-0) other apart
-    ∙ (ap (λ (f : Backing). asserted_at f.asserted other) c.in_ok-define.ensures.others
-    ∙ ap (λ (f : Backing). asserted_at f.asserted other) c.self.view_is))
-
-pub define-requires-clause-members : goal.define-requires-clause-members
-define-requires-clause-members g c = c.in_ok-literal.ensures.members c.self.invariant.0.members
+returns-clause-others g c =
+    on_ok_weaker c.stated.result
+    (λ stay other apart. stay other apart ∙ ap (λ xs. asserted_at xs other) (ap (λ (f : Backing). f.asserted) c.in_ok-define.ensures.others ∙ ap (λ (f : Backing). f.asserted) c.self.view_is))
+    c.stated.ensures.others

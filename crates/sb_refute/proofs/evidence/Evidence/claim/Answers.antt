@@ -1,5 +1,4 @@
-use Rattle.std.proofs.Common.{◌≡◌, ◌<◌, ◌∷◌, [], true, length, refl, sym, ap, subst, ◌∙◌, arith}
-use Rattle.std.proofs.lemmas.Bool.{and_from, lt-ltb}
+use Rattle.std.proofs.Common.{◌<◌, ◌∷◌, [], length, refl, sym, ap, subst, arith}
 use Rattle.std.proofs.lemmas.List.{length-map}
 use Rattle.sb_atoms.specs.Numbered.{over}
 use Rattle.sb_refute.specs.declared.evidence.Asserted.{Asserted}
@@ -14,7 +13,7 @@ returns-clause-puts g c = λ asked rs memo before b is.
     let one : Asserted =
     record { clause = c.in_ok-clause.clause; literal = c.args.literal; level = c.args.level } in
     let known : c.args.literal.atom < length before.atoms =
-    omega (arith, ap length b.atoms, length-map e.atoms (over rs), c.requires.known) in
+    omega (arith, ap length b.atoms, length-map e.atoms (over rs), c.requires) in
     subst (λ (f : Backing). EvidencesUncounted asked before rs memo f (g.L.Tape.told c.args.tape.now)
     (g.L.Tape.told c.put.new.self))
     (sym (counted-and-kept e c.add.new.self c.keep.new.self c.args.place one (c.args.literal ∷ [])

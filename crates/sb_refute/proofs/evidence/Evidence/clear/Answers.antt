@@ -10,7 +10,7 @@ use Rattle.sb_refute.proofs.evidence.Evidence.clear.Goals as goal
 pub invariant_of-self : goal.invariant_of-self
 invariant_of-self c =
     let i = c.self.inside in (
-      stand-cleared i.atoms i.engine.kept c.drop_all.new.self.kept i.asserted.items c.clear.new.self.items i.refuted
+      stand-cleared i.atoms i.engine.kept c.drop_all.new.self.kept i.asserted.items c.clear.new.self.items i.refuted i.gates
           (ap (λ (s : State). s.kept) c.drop_all.ensures) c.clear.ensures.items c.self.invariant.0,
       ap (λ (s : State). s.trail.literals) c.drop_all.ensures ∙ c.self.invariant.1,
     )
@@ -24,6 +24,7 @@ returns-clause-cleared c =
       kept = s.kept;
       asserted = xs;
       refuted = None;
+      gates = 0;
     }) c.clear.ensures.items c.drop_all.ensures
     ∙ ap cleared c.self.view_is
 

@@ -1,9 +1,9 @@
-use Rattle.std.proofs.Common.{◌≡◌, List, Option, None, sym, subst, ◌∙◌}
+use Rattle.std.proofs.Common.{List, Option, sym, subst, ◌∙◌}
 use Rattle.sb_lit.specs.declared.clause.Lit.{Lit}
 use Rattle.sb_lit.specs.declared.clause.ClauseId.{ClauseId}
 use Rattle.sb_sound.specs.HintLaws.{HasNoSubset}
 use Rattle.sb_refute.specs.Units.{IsPartIn, numbered, denials_of}
-use Rattle.sb_refute.proofs.Parts.{not-some}
+use Rattle.sb_refute.proofs.ClauseParts.{not-some}
 use Rattle.sb_refute.proofs.evidence.Evidence.denial.Goals as goal
 
 pub deny-requires-clause-new : goal.deny-requires-clause-new

@@ -1,4 +1,4 @@
-use Rattle.std.proofs.Common.{◌≡◌, ℕ, ◌<◌, true, List, length, All, sym, ap, subst, ◌∙◌}
+use Rattle.std.proofs.Common.{◌≡◌, ◌<◌, true, List, length, All, sym, subst}
 use Rattle.std.proofs.lemmas.Result.{on_ok_weaker}
 use Rattle.sb_lang.specs.Constructors.{mkand}
 use Rattle.sb_lit.specs.declared.clause.Lit.{Lit}
@@ -6,23 +6,17 @@ use Rattle.sb_clauses.specs.Propagation.{are_reserved}
 use Rattle.sb_regex.specs.Numbered.{regexes_at}
 use Rattle.sb_regex.proofs.CallerLemmas.{extends_more, names_below}
 use Rattle.sb_atoms.specs.Numbered.{HaveRegexesBelow}
-use Rattle.sb_atoms.specs.Translated.{are_members}
 use Rattle.sb_refute.specs.Backing.{Backing, Backs}
-use Rattle.sb_refute.specs.Units.{Member, AreOfAtoms, HaveNoWord, AreRegexesOf, numbered}
+use Rattle.sb_refute.specs.Units.{Member, IsMemberAt, HaveNoWord, AreRegexesOf, numbered}
 use Rattle.sb_refute.proofs.Backs.{backs-more}
-use Rattle.sb_refute.proofs.Memberships.{units-below, denials-known, some-units, regexes-known, no-word, explored-put, denied-all}
+use Rattle.sb_refute.proofs.Memberships.{units-below, units-members, denials-known, some-units, regexes-known, no-word, explored-put, denied-all}
 use Rattle.sb_refute.proofs.evidence.Evidence.deny.Goals as goal
 
-pub regexes_of-requires-clause-below : goal.regexes_of-requires-clause-below
-regexes_of-requires-clause-below g c =
+pub regexes_of-requires : goal.regexes_of-requires
+regexes_of-requires g c =
     let us = numbered c.args.units.now.entries in
-    subst (λ (v : Backing). All (λ (u : Member). u.0 < length v.atoms) us) (sym c.self.view_is)
-    (units-below c.args.self.now c.requires.members.places us c.stands.ensures.of_atoms
-    c.requires.members.units)
-
-pub regexes_of-requires-clause-members : goal.regexes_of-requires-clause-members
-regexes_of-requires-clause-members g c =
-    subst (λ (v : Backing). are_members v.atoms ≡ true) (sym c.self.view_is) c.stands.ensures.members
+    subst (λ (v : Backing). All (λ (u : Member). IsMemberAt v.atoms u.0) us) (sym c.self.view_is)
+    (units-members c.args.arena.now c.args.self.now us c.requires.members)
 
 pub and-requires : goal.and-requires
 and-requires g c =
@@ -67,6 +61,7 @@ returns-then-not-branch-clause-puts g c =
       kept = i.engine.kept;
       asserted = i.asserted.items;
       refuted = i.refuted;
+      gates = i.gates;
     }
     in
     let is : c.args.self.now ≡ v = sym c.self.view_is in
@@ -111,6 +106,7 @@ returns-clause-puts g c =
       kept = i.engine.kept;
       asserted = i.asserted.items;
       refuted = i.refuted;
+      gates = i.gates;
     }
     in
     let is : c.args.self.now ≡ v = sym c.self.view_is in

@@ -5,7 +5,7 @@ use Rattle.sb_lit.specs.Kept.{Kept}
 use Rattle.sb_clauses.specs.Propagation.{HasNoneFalse, IsConflict}
 use Rattle.sb_refute.specs.Backing.{Backing}
 use Rattle.sb_refute.specs.Units.{numbered}
-use Rattle.sb_refute.proofs.Parts.{found-then}
+use Rattle.sb_refute.proofs.ClauseParts.{found-then}
 use Rattle.sb_refute.proofs.evidence.Evidence.known.Goals as goal
 
 pub returns : goal.returns

@@ -1,4 +1,4 @@
-use Rattle.std.proofs.Common.{◌≡◌, ◌++◌, ◌∷◌, [], ℕ, List, Some, option_map, sym, ap, ap₂, subst, ◌∙◌}
+use Rattle.std.proofs.Common.{List, Some, option_map, sym, ap, ap₂, subst, ◌∙◌}
 use Rattle.sb_lit.specs.declared.clause.Lit.{Lit}
 use Rattle.sb_lit.specs.Kept.{Kept, kept_at}
 use Rattle.sb_script.specs.Steps.{line}
@@ -25,7 +25,7 @@ returns-clause-puts g c =
     told (g.L.Tape.told c.put.new.self)
     (subst (λ n. LeadsNowhere before.clauses ids n) (sym c.in_ok-empty.ensures.level)
     (c.in_ok-hints.ensures.leads rs memo before b))
-    (none-bare e.atoms e.kept e.asserted e.refuted c.stands.ensures c.requires.refuted)
+    (none-bare e.atoms e.kept e.asserted e.refuted e.gates c.stands.ensures c.requires.refuted)
     c.in_ok-hints.ensures.small (on-ok c.tick.result _ no c.tick.ensures.room)
     (on-ok c.tick.result _ no c.tick.ensures.ok) c.in_ok-empty.ensures.ok b counts
     (c.in_ok-put.ensures.ok

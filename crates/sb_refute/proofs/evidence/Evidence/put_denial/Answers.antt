@@ -1,9 +1,8 @@
-use Rattle.std.proofs.Common.{◌≡◌, ◌++◌, ◌∷◌, [], ℕ, true, List, Some, length, sym, ap, ap₂, subst, ◌∙◌}
+use Rattle.std.proofs.Common.{◌≡◌, ◌++◌, ◌∷◌, [], List, Some, length, sym, ap, ◌∙◌}
 use Rattle.sb_lit.specs.declared.clause.Lit.{Lit}
-use Rattle.sb_lit.specs.Kept.{Kept}
 use Rattle.sb_clauses.specs.Propagation.{are_reserved}
 use Rattle.sb_refute.specs.Backing.{Backing}
-use Rattle.sb_refute.specs.Units.{HasPart, numbered, denials_of}
+use Rattle.sb_refute.specs.Units.{numbered, denials_of}
 use Rattle.sb_refute.proofs.ClauseLines.{some-denials}
 use Rattle.sb_refute.proofs.Memberships.{denied-put, new-part, on-ok}
 use Rattle.sb_refute.proofs.evidence.Evidence.put_denial.Goals as goal

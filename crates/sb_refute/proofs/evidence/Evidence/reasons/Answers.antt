@@ -1,12 +1,10 @@
-use Rattle.std.proofs.Common.{◌≡◌, ◌∷◌, ℕ, List, Option, Some, is_some, map, option_map, All, Contains, refl, sym, ap, ap₂, subst, ◌∙◌}
-use Rattle.std.specs.Option.{option_copied}
+use Rattle.std.proofs.Common.{◌≡◌, ◌∷◌, List, Some, is_some, map, option_map, All, Contains, sym, ap, subst, ◌∙◌}
 use Rattle.std.specs.Map.{values_of}
-use Rattle.sb_lit.specs.declared.clause.Lit.{Lit}
 use Rattle.sb_lit.specs.Kept.{Kept, KeptClause, kept_at}
 use Rattle.sb_refute.specs.declared.evidence.Asserted.{Asserted}
 use Rattle.sb_refute.specs.Backing.{Backing}
-use Rattle.sb_refute.specs.Units.{ArePicked, IsTop, Rise, numbered, denials_of, hints_of}
-use Rattle.sb_refute.proofs.Parts.{all-among, copied-there, copied-is, some-is}
+use Rattle.sb_refute.specs.Units.{IsTop, numbered, denials_of, hints_of}
+use Rattle.sb_refute.proofs.ClauseParts.{all-among, copied-there, copied-is, some-is}
 use Rattle.sb_refute.proofs.Picking.{numbers-listed, levels-listed}
 use Rattle.sb_refute.proofs.Memberships.{reasons-lead}
 use Rattle.sb_refute.proofs.evidence.Evidence.reasons.Goals as goal
@@ -49,7 +47,7 @@ returns-clause-leads c = λ rs memo kept b.
     ap (λ (k : Kept). kept_at k id) (c.clauses-clauses.ensures ∙ ap (λ (v : Backing). v.kept) c.self.view_is)
     ∙ part.there in
     reasons-lead rs memo e kept c.requires.units.places us (numbered es) id c.level_of-level.result part
-    c.unwrap.result.now (values_of es) c.unwrap-2.result c.in_ok-hints.hints.items c.stands.ensures.of_atoms
+    c.unwrap.result.now (values_of es) c.unwrap-2.result c.in_ok-hints.hints.items
     c.requires.units.units
     (copied-is c.literals.result c.unwrap.result c.clauses-clauses.result.now id part.clause c.unwrap.ensures
     c.literals.ensures there)

@@ -4,7 +4,7 @@ use Rattle.sb_refute.specs.declared.evidence.EmptyClause.{EmptyClause}
 use Rattle.sb_refute.specs.Backing.{Backing}
 use Rattle.std.proofs.lemmas.Result.{on_ok_weaker}
 use Rattle.sb_refute.specs.Units.{numbered}
-use Rattle.sb_refute.proofs.Memberships.{places-asserted, units-same, evidences-both}
+use Rattle.sb_refute.proofs.Memberships.{places-affirmed, units-same, evidences-both}
 use Rattle.sb_refute.proofs.evidence.Evidence.refute.Goals as goal
 
 pub returns-in-Some-clause-refuted : goal.returns-in-Some-clause-refuted
@@ -21,7 +21,7 @@ returns-in-Some-clause-refuted g c =
     )
 
 pub units-requires : goal.units-requires
-units-requires g c = places-asserted c.args.arena.now c.args.self.now c.args.members.now c.requires.members
+units-requires g c = places-affirmed c.args.arena.now c.args.self.now c.args.members.now c.requires.members
 
 pub learn-requires-clause-units : goal.learn-requires-clause-units
 learn-requires-clause-units g c = record {

@@ -1,6 +1,5 @@
 use Rattle.std.proofs.Common.{sym, ap, ap₂, subst, ◌∙◌, List, Option}
 use Rattle.sb_clauses.specs.Propagation.{State}
-use Rattle.sb_lit.specs.Kept.{kept_up_to}
 use Rattle.sb_rulebook.specs.Kept.{dropped_above}
 use Rattle.sb_refute.specs.declared.evidence.Asserted.{Asserted}
 use Rattle.sb_refute.specs.declared.evidence.EmptyClause.{EmptyClause}
@@ -13,7 +12,7 @@ pub invariant_of-self : goal.invariant_of-self
 invariant_of-self c =
     let i = c.self.inside in (
       stand-left i.atoms i.engine.kept c.drop_above.new.self.kept i.asserted.items c.truncate.new.self.items i.refuted
-          c.empty_up_to-empty.result c.args.level c.args.count (ap (λ (s : State). s.kept) c.drop_above.ensures)
+          c.empty_up_to-empty.result i.gates c.args.level c.args.count (ap (λ (s : State). s.kept) c.drop_above.ensures)
           c.truncate.ensures.items
           (c.empty_up_to-empty.ensures
           ∙ ap (λ (v : Backing). refuted_up_to c.args.level v.refuted) (sym c.self.view_is))
@@ -30,6 +29,7 @@ returns-clause-retracted c =
       kept = s.kept;
       asserted = xs;
       refuted = c.empty_up_to-empty.result;
+      gates = i.gates;
     }) c.truncate.ensures.items c.drop_above.ensures
     ∙ (ap (λ (v : Backing). record (retracted c.args.level c.args.count v) { refuted = c.empty_up_to-empty.result })
     c.self.view_is

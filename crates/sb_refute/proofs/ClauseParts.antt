@@ -1,6 +1,5 @@
 -- Clauses that have only negations of some literals.
-use Rattle.std.proofs.Common.{◌≡◌, ℕ, inl, inr, true, false, List, [], ◌∷◌, map, Option, Some, None, Result, Ok, Err, Bor, IsSome, is_some, option_map, refl, sym, ap, subst, ◌∙◌, All, Contains}
-use Rattle.std.specs.List.{list_all}
+use Rattle.std.proofs.Common.{◌≡◌, ℕ, inl, inr, true, false, List, [], ◌∷◌, Option, Some, None, Result, Ok, Err, Bor, IsSome, is_some, option_map, refl, sym, ap, subst, ◌∙◌, All, Contains}
 use Rattle.std.specs.Option.{MatchOption, option_copied}
 use Rattle.std.specs.Result.{IfOk}
 use Rattle.std.proofs.lemmas.Bool.{and_from, and_parts, or_left, or_right, or_cases, false≢true, true≢false}
@@ -11,8 +10,7 @@ use Rattle.sb_lit.specs.Clauses.{negation, is_same_literal, is_among, is_false_u
 use Rattle.sb_lit.specs.Kept.{Kept, KeptClause, kept_at}
 use Rattle.sb_lit.proofs.CallerLemmas.{is_same_literal-true, is_same_literal-self, negation_twice}
 use Rattle.sb_clauses.specs.Propagation.{HasNoneFalse, IsConflict}
-use Rattle.sb_sound.specs.HintLaws.{HasNoSubset}
-use Rattle.sb_refute.specs.Units.{Member, HasPart, IsPartIn, denials_of, affirmations_of}
+use Rattle.sb_refute.specs.Units.{Member, IsPartIn, denials_of, affirmations_of}
 use Rattle.sb_refute.proofs.Hints.{here, later, cons-cases, not-in-nil}
 
 none-some : {X : Type 0} (x : X) → None ≡ Some x → ⊥

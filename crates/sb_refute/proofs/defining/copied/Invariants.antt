@@ -1,0 +1,8 @@
+use Rattle.std.proofs.Common.{◌≡◌, true, take}
+use Rattle.std.specs.List.{list_all}
+use Rattle.sb_rulebook.specs.LineLaws.{is_small_literal}
+use Rattle.sb_refute.proofs.defining.copied.Given as goal
+
+abbrev pub invariant-loop-literal : goal.invariant-loop-literal
+invariant-loop-literal l = (l.all.items ≡ take l.literal-index l.literals)
+    × (list_all is_small_literal (take l.literal-index l.literals) ≡ true)

@@ -1,0 +1,20 @@
+use Rattle.std.proofs.Common.{arith, subst}
+use Rattle.sb_atoms.specs.Numbered.{Names, atom_in}
+use Rattle.sb_proof.specs.Lines.{atom_in as line_atom}
+use Rattle.sb_refute.proofs.DefinedAtoms.{defines-one}
+use Rattle.sb_refute.proofs.defining.define_atom.Goals as goal
+
+pub describe-requires : goal.describe-requires
+describe-requires g c = omega (arith, c.of-id.ensures, c.requires.inside)
+
+pub line_of-requires : goal.line_of-requires
+line_of-requires g c = c.requires.regexes c.of-id.result _ c.describe.ensures
+
+pub returns-clause-puts : goal.returns-clause-puts
+returns-clause-puts g c = λ asked memo before due tracks known.
+    defines-one c.order_tells_apart.ensures asked before c.args.arena.now memo c.line_of.new.trace c.args.atoms.now
+    c.args.number (atom_in c.describe.result.now) (line_atom c.in_ok-line.line) (g.L.Tape.told c.args.tape.now)
+    (g.L.Tape.told c.line_of.new.tape) (g.L.Tape.told c.put.new.self) c.normal_regexes_each_once.ensures.distinct
+    c.atoms_each_once.ensures c.requires.regexes
+    (subst (λ n. Names c.args.atoms.now n (atom_in c.describe.result.now)) c.of-id.ensures c.describe.ensures) due known
+    (c.in_ok-line.ensures.puts asked memo before tracks) c.in_ok-line.ensures.text c.in_ok-put.ensures.ok

@@ -1,0 +1,39 @@
+use Rattle.std.proofs.Common.{ℕ, length, refl, sym, ap, subst, ◌∙◌}
+use Rattle.sb_proof.specs.Lines.{atom_in as line_atom}
+use Rattle.sb_rulebook.specs.Atoms.{AtomOver, bool_atom, and_atom, iff_atom}
+use Rattle.std.specs.Result.{IfOk}
+use Rattle.sb_deriv.specs.Faithful.{Memo}
+use Rattle.sb_rulebook.specs.Kept.{AllKept, Asked}
+use Rattle.sb_trace.specs.Tracking.{Tracks}
+use Rattle.sb_atoms.specs.Numbered.{atom_in, HasRegexBelow}
+use Rattle.sb_refute.specs.Lines.{IsLineOf}
+use Rattle.sb_refute.proofs.DefinedAtoms.{plain-line}
+use Rattle.sb_refute.proofs.defining.line_of.Goals as goal
+
+pub returns-in-Bool-clause-puts : goal.returns-in-Bool-clause-puts
+returns-in-Bool-clause-puts g c = λ asked memo before tracks.
+    plain-line asked before c.args.arena.now memo c.args.trace.now _ _ (bool_atom c.in-Bool.serial.0)
+    (g.L.Tape.told c.args.tape.now) (ap atom_in c.in-Bool.is) c.constant_line.ensures.is refl (λ known. refl) tracks
+
+pub member_line-requires : goal.member_line-requires
+member_line-requires g c =
+    subst (HasRegexBelow (length c.args.arena.now)) (ap atom_in c.in-In.is) c.requires
+
+pub returns-in-In-clause-puts : goal.returns-in-In-clause-puts
+returns-in-In-clause-puts g c =
+    subst (λ (a : AtomOver ℕ). IfOk c.member_line.result
+    (λ line. (asked : Asked) (memo : Memo) (before : AllKept) → Tracks c.args.arena.now memo c.args.trace.now before
+    → IsLineOf asked before c.args.arena.now memo c.member_line.new.trace a (line_atom line)
+    (g.L.Tape.told c.args.tape.now) (g.L.Tape.told c.member_line.new.tape)))
+    (sym (ap atom_in c.in-In.is)) c.member_line.ensures.puts
+
+pub returns-in_ok-conjunction_line-in-And-clause-puts : goal.returns-in_ok-conjunction_line-in-And-clause-puts
+returns-in_ok-conjunction_line-in-And-clause-puts g c = λ asked memo before tracks.
+    plain-line asked before c.args.arena.now memo c.args.trace.now _ _ (and_atom c.in-And.literals.items)
+    (g.L.Tape.told c.args.tape.now) (ap atom_in c.in-And.is)
+    (c.in_ok-conjunction_line-in-And.ensures.is ∙ ap and_atom c.as_slice.ensures) refl (λ known. refl) tracks
+
+pub returns-in-Iff-clause-puts : goal.returns-in-Iff-clause-puts
+returns-in-Iff-clause-puts g c = λ asked memo before tracks.
+    plain-line asked before c.args.arena.now memo c.args.trace.now _ _ (iff_atom c.in-Iff.one c.in-Iff.other)
+    (g.L.Tape.told c.args.tape.now) (ap atom_in c.in-Iff.is) c.equivalence_line.ensures.is refl (λ known. refl) tracks

@@ -1,0 +1,73 @@
+use Rattle.std.proofs.Common.{◌≡◌, ◌<◌, ◌+◌, ◌++◌, ◌∷◌, [], ℕ, List, All, length, map, take, refl, sym, ap, ap₂, subst, ◌∙◌, arith, append-nil}
+use Rattle.std.proofs.lemmas.List.{take_more, take_all}
+use Rattle.sb_lit.specs.declared.clause.Lit.{Lit}
+use Rattle.sb_rulebook.specs.Atoms.{AtomOver}
+use Rattle.sb_gates.specs.Clauses.{clauses_of, atom_at}
+use Rattle.sb_refute.specs.Backing.{Backing, EvidencesUncounted}
+use Rattle.sb_refute.specs.Lines.{IsOfGates}
+use Rattle.sb_refute.proofs.Asserting.{nothing-put, both-put}
+use Rattle.sb_refute.proofs.GateLines.{at_bottom, kept-more, has-gates, gates-passed}
+use Rattle.sb_refute.proofs.evidence.Evidence.put_next.Goals as goal
+
+pub loop-clause-init : goal.loop-clause-init
+loop-clause-init g c = record {
+  kept = sym (append-nil c.args.self.now.kept);
+  gates = refl;
+  atoms = refl;
+  asserted = refl;
+  trace = refl;
+  faults = refl;
+  puts = λ asked rs memo before b.
+      nothing-put asked before rs memo c.args.self.now (g.L.Tape.told c.args.tape.now) b;
+}
+
+pub put_gate-requires : goal.put_gate-requires
+put_gate-requires g c =
+    let i = c.loop-clause.clause-index in
+    let all = subst (λ (cs : List (List Lit)). All (IsOfGates c.args.self.now.atoms) cs)
+    (sym c.deref-clause-items.ensures.value) c.in_ok-clauses.ensures.gates in
+    subst (λ (atoms : List (AtomOver ℕ)). IsOfGates atoms c.clause-item.result) (sym c.loop-clause.invariant.atoms)
+    (subst (IsOfGates c.args.self.now.atoms) (sym c.clause-item.is) (all i c.clause-item.result c.loop-clause-test.true))
+
+pub loop-clause-preserved : goal.loop-clause-preserved
+loop-clause-preserved g c =
+    let h = c.loop-clause.invariant in
+    let i = c.loop-clause.clause-index in
+    let cs = c.deref-clause-items.result.now in
+    record {
+      kept = kept-more c.args.self.now.kept c.loop-clause.self.kept c.put_gate.new.self.kept cs i c.clause-item.result
+          (take_more cs i c.clause-item.result c.loop-clause-test.true
+          ∙ ap (λ (x : List Lit). take i cs ++ x ∷ []) (sym c.clause-item.is)) h.kept c.in_ok-put_gate.ensures.kept;
+      gates = c.put_gate.ensures.gates ∙ h.gates;
+      atoms = c.put_gate.ensures.atoms ∙ h.atoms;
+      asserted = c.put_gate.ensures.asserted ∙ h.asserted;
+      trace = c.put_gate.ensures.trace ∙ h.trace;
+      faults = c.in_ok-put_gate.ensures.counts ∙ h.faults;
+      puts = λ asked rs memo before b.
+          both-put asked before rs memo c.loop-clause.self c.put_gate.new.self (g.L.Tape.told c.args.tape.now)
+          (g.L.Tape.told c.loop-clause.tape) (g.L.Tape.told c.put_gate.new.tape) (h.puts asked rs memo before b)
+          (λ after next. c.in_ok-put_gate.ensures.puts asked rs memo after next);
+    }
+
+pub pass_gates-requires-clause-lacking : goal.pass_gates-requires-clause-lacking
+pass_gates-requires-clause-lacking g c =
+    let h = c.loop-clause.invariant in
+    omega (arith, c.requires, h.gates, ap length h.atoms)
+
+pub pass_gates-requires-clause-kept : goal.pass_gates-requires-clause-kept
+pass_gates-requires-clause-kept g c =
+    let h = c.loop-clause.invariant in
+    let e = c.args.self.now in
+    let cs = c.deref-clause-items.result.now in
+    has-gates c.loop-clause.self.atoms c.loop-clause.self.gates e.kept c.loop-clause.self.kept cs
+    (c.deref-clause-items.ensures.value ∙ c.in_ok-clauses.ensures.exact
+    ∙ ap₂ (λ n (atoms : List (AtomOver ℕ)). clauses_of n (atom_at atoms n)) (sym h.gates) (sym h.atoms))
+    (subst (λ ds. c.loop-clause.self.kept ≡ e.kept ++ map at_bottom ds)
+    (take_all c.loop-clause.clause-index cs (omega (arith, c.loop-clause-test.false))) h.kept)
+
+pub returns-clause-puts : goal.returns-clause-puts
+returns-clause-puts g c = λ asked rs memo before b.
+    subst (λ (f : Backing). EvidencesUncounted asked before rs memo f (g.L.Tape.told c.args.tape.now)
+    (g.L.Tape.told c.loop-clause.tape)) (sym c.pass_gates.ensures)
+    (gates-passed asked before rs memo c.loop-clause.self (c.loop-clause.self.gates + 1) (g.L.Tape.told c.args.tape.now)
+    (g.L.Tape.told c.loop-clause.tape) (c.loop-clause.invariant.puts asked rs memo before b))

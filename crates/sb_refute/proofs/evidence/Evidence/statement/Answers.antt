@@ -1,0 +1,114 @@
+use Rattle.std.proofs.Common.{◌≡◌, ◌≢◌, ◌<◌, ℕ, length, None, IfSome, Option, option_map, sym, ap, subst, ◌∙◌}
+use Rattle.std.proofs.lemmas.Result.{on_ok_weaker}
+use Rattle.sb_term.specs.Numbered.{term_at}
+use Rattle.sb_fragment.proofs.CallerLemmas.{ok_map}
+use Rattle.sb_atoms.specs.Numbered.{atoms_in}
+use Rattle.sb_atoms.specs.Translated.{brought_translation, HasNoLiteral}
+use Rattle.sb_refute.specs.declared.evidence.Asserted.{Asserted}
+use Rattle.sb_refute.specs.Backing.{Backing, Backs, HasGates, asserted_at}
+use Rattle.sb_refute.proofs.Backs.{backs-more}
+use Rattle.sb_refute.proofs.Holding.{stand-atoms}
+use Rattle.sb_refute.proofs.Asserting.{due-stated, added-defined, is-statement, both-put}
+use Rattle.sb_refute.proofs.Standing.{stays-after}
+use Rattle.sb_refute.proofs.evidence.Evidence.statement.Goals as goal
+
+pub invariant_of-self : goal.invariant_of-self
+invariant_of-self g c =
+    let i = c.self.inside in (
+      stand-atoms i.atoms c.translate.new.self i.engine.kept i.asserted.items i.refuted i.gates
+          c.translate.ensures.extends c.translate.ensures.earlier c.self.invariant.0,
+      c.self.invariant.1,
+    )
+
+pub invariant_of-self-2 : goal.invariant_of-self-2
+invariant_of-self-2 g c =
+    let i = c.self.inside in (
+      stand-atoms i.atoms c.translate.new.self i.engine.kept i.asserted.items i.refuted i.gates
+          c.translate.ensures.extends c.translate.ensures.earlier c.self.invariant.0,
+      c.self.invariant.1,
+    )
+
+pub stated-requires : goal.stated-requires
+stated-requires g c =
+    subst (λ atoms. IfSome c.in_ok-found.found (λ l. l.atom < length atoms)) (sym (c.put_gates.ensures.atoms ∙ ap (λ (f : Backing). f.atoms) c.in_ok-define.ensures.others))
+    (c.in_ok-found.ensures.known)
+
+pub returns-clause-puts : goal.returns-clause-puts
+returns-clause-puts g c =
+    let i = c.self.inside in
+    let t = term_at c.args.table.now c.args.term in
+    let more = c.translate.new.arena in
+    let atoms = c.translate.new.self in
+    let mid = c.define.new.self in
+    let translated = c.in_ok-found.ensures in
+    let w : Backing = record {
+      trace = i.trace;
+      atoms = i.atoms;
+      kept = i.engine.kept;
+      asserted = i.asserted.items;
+      refuted = i.refuted;
+      gates = i.gates;
+    }
+    in
+    on_ok_weaker c.stated.result
+    (λ put asked memo before b live.
+    both-put asked before more memo c.put_gates.new.self c.stated.new.self (g.L.Tape.told c.args.tape.now)
+    (g.L.Tape.told c.put_gates.new.tape) (g.L.Tape.told c.stated.new.tape)
+    (both-put asked before more memo mid c.put_gates.new.self (g.L.Tape.told c.args.tape.now)
+    (g.L.Tape.told c.define.new.tape) (g.L.Tape.told c.put_gates.new.tape)
+    (added-defined asked before more memo w mid i.atoms atoms c.len-known.result (g.L.Tape.told c.args.tape.now)
+    (g.L.Tape.told c.define.new.tape)
+    (due-stated asked i.atoms atoms c.len-known.result c.args.place c.args.level t live translated.defined
+    c.len-known.ensures)
+    translated.extends c.len-known.ensures
+    (subst (λ (f : Backing). Backs more memo f before) (sym c.self.view_is)
+    (backs-more c.args.arena.now more memo c.args.self.now before translated.arena c.requires.regexes b))
+    (c.in_ok-define.ensures.puts asked memo before))
+    (λ after next. c.in_ok-put_gates.ensures.puts asked more memo after next))
+    (λ after next. put asked more memo after next
+    (is-statement asked more memo c.put_gates.new.self after c.args.place t c.in_ok-found.found c.args.level live
+    (translated.ok ∙ ap (λ atoms. brought_translation (atoms_in more atoms) t) (sym (c.put_gates.ensures.atoms ∙ ap (λ (f : Backing). f.atoms) c.in_ok-define.ensures.others))) next)))
+    c.stated.ensures.puts
+
+pub returns-clause-literal : goal.returns-clause-literal
+returns-clause-literal g c =
+    let t = term_at c.args.table.now c.args.term in
+    let more = c.translate.new.arena in
+    ok_map (λ (found : Option Asserted). option_map (λ (a : Asserted). a.literal) found ≡ c.in_ok-found.found)
+    (λ (found : Option Asserted). option_map (λ (a : Asserted). a.literal) found
+    ≡ brought_translation (atoms_in more c.stated.new.self.atoms) t) c.stated.result
+    (λ found h. h ∙ c.in_ok-found.ensures.ok
+    ∙ ap (λ atoms. brought_translation (atoms_in more atoms) t) (sym (c.stated.ensures.atoms ∙ (c.put_gates.ensures.atoms ∙ ap (λ (f : Backing). f.atoms) c.in_ok-define.ensures.others))))
+    c.stated.ensures.literal
+
+pub returns-clause-none : goal.returns-clause-none
+returns-clause-none g c =
+    ok_map (λ (found : Option Asserted). option_map (λ (a : Asserted). a.literal) found ≡ c.in_ok-found.found)
+    (λ (found : Option Asserted). found ≡ None → HasNoLiteral (term_at c.args.table.now c.args.term)) c.stated.result
+    (λ found h none. c.in_ok-found.ensures.none (sym h ∙ ap (option_map (λ (a : Asserted). a.literal)) none))
+    c.stated.ensures.literal
+
+pub returns-clause-stays : goal.returns-clause-stays
+returns-clause-stays g c =
+    let t = term_at c.args.table.now c.args.term in
+    let more = c.translate.new.arena in
+    on_ok_weaker c.stated.result
+    (λ keep. stays-after c.args.self.now.asserted c.put_gates.new.self.asserted c.stated.new.self.asserted c.args.place
+    c.args.level c.in_ok-found.found (brought_translation (atoms_in more c.stated.new.self.atoms) t)
+    (c.put_gates.ensures.asserted ∙ ap (λ (f : Backing). f.asserted) c.in_ok-define.ensures.others ∙ ap (λ (f : Backing). f.asserted) c.self.view_is)
+    (c.in_ok-found.ensures.ok
+    ∙ ap (λ atoms. brought_translation (atoms_in more atoms) t) (sym (c.stated.ensures.atoms ∙ (c.put_gates.ensures.atoms ∙ ap (λ (f : Backing). f.atoms) c.in_ok-define.ensures.others)))) keep)
+    c.stated.ensures.stays
+
+pub returns-clause-others : goal.returns-clause-others
+returns-clause-others g c =
+    on_ok_weaker c.stated.result
+    (λ stay other apart. stay other apart ∙ ap (λ xs. asserted_at xs other) (c.put_gates.ensures.asserted ∙ ap (λ (f : Backing). f.asserted) c.in_ok-define.ensures.others ∙ ap (λ (f : Backing). f.asserted) c.self.view_is))
+    c.stated.ensures.others
+
+pub returns-clause-gates : goal.returns-clause-gates
+returns-clause-gates g c =
+    on_ok_weaker c.stated.result
+    (λ has. subst (λ n. HasGates n c.stated.new.self.atoms c.stated.new.self.kept)
+    (c.in_ok-put_gates.ensures.all ∙ ap length (sym c.stated.ensures.atoms)) has)
+    c.stated.ensures.gates

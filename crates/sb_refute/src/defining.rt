@@ -1,0 +1,180 @@
+//! The lines of atoms.
+
+ghost use Rattle.std.specs.Prelude.{◌≡◌, ◌<◌, ◌≤◌, ◌+◌, ◌∷◌, ℕ, [], true, length, take, map, IfOk, OnOk};
+ghost use Rattle.std.specs.List.{list_all};
+ghost use Rattle.sb_script.specs.Pieces.{constant_piece};
+ghost use Rattle.sb_proof.specs.Lines.{piece_in, atom_in as line_atom};
+ghost use Rattle.sb_deriv.specs.Faithful.{Memo};
+ghost use Rattle.sb_rulebook.specs.Atoms.{bool_atom, in_atom, and_atom, iff_atom};
+ghost use Rattle.sb_rulebook.specs.Kept.{AllKept, Asked};
+ghost use Rattle.sb_rulebook.specs.LineLaws.{atom_has_text, is_small_literal};
+ghost use Rattle.sb_atoms.specs.Numbered.{atom_in, atoms_in, HasRegexBelow, HaveRegexesBelow};
+ghost use Rattle.sb_trace.specs.Putting.{CountsTapeFault};
+ghost use Rattle.sb_trace.specs.Tracking.{StaysNumbered, Tracks};
+ghost use Rattle.sb_refute.specs.Lines.{AreDue, IsLineOf, Defines};
+
+use sb_atoms::{Atom, AtomId, Atoms};
+use sb_lang::order::order_tells_apart;
+use sb_lit::Lit;
+use sb_proof::{Atom as ProofAtom, Line, Piece, Tape, TapeFault};
+use sb_regex::{Arena, RegexId};
+use sb_term::Serial;
+use sb_trace::Trace;
+use std::alloc::{AllocError, Global};
+
+/// Puts the lines of the atoms from this number on, each behind those of its regex.
+pub(crate) fn define_atoms<L: Tape>(
+    alloc: Global,
+    trace: &mut Trace,
+    arena: &Arena,
+    atoms: &Atoms,
+    known: usize,
+    tape: &mut L,
+) -> Result<(), TapeFault>
+    requires regexes { HaveRegexesBelow (length arena.now) atoms.now }
+    ensures puts { OnOk result ((asked : Asked) (memo : Memo) (before : AllKept) → AreDue asked known atoms.now
+        → known ≤ length atoms.now → Tracks arena.now memo trace.old before
+        → before.atoms ≡ atoms_in arena.now (take known atoms.now)
+        → Defines asked before arena.now memo trace.new atoms.now (L.Tape.told tape.old) (L.Tape.told tape.new)) }
+    ensures numbers_stay { StaysNumbered trace.old trace.new }
+    ensures counts { CountsTapeFault result (L.Tape.faults tape.old) (L.Tape.faults tape.new) }
+{
+    let mut number = known;
+    while number < atoms.len() {
+        define_atom(alloc, trace, arena, atoms, number, tape)?;
+        number += 1;
+    }
+    Ok(())
+}
+
+/// Puts the line of the atom of a number, behind those of its regex.
+fn define_atom<L: Tape>(
+    alloc: Global,
+    trace: &mut Trace,
+    arena: &Arena,
+    atoms: &Atoms,
+    number: usize,
+    tape: &mut L,
+) -> Result<(), TapeFault>
+    requires inside { number < length atoms.now }
+    requires regexes { HaveRegexesBelow (length arena.now) atoms.now }
+    ensures puts { OnOk result ((asked : Asked) (memo : Memo) (before : AllKept) → AreDue asked number atoms.now
+        → Tracks arena.now memo trace.old before → before.atoms ≡ atoms_in arena.now (take number atoms.now)
+        → Defines asked before arena.now memo trace.new (take (number + 1) atoms.now) (L.Tape.told tape.old)
+        (L.Tape.told tape.new)) }
+    ensures numbers_stay { StaysNumbered trace.old trace.new }
+    ensures counts { CountsTapeFault result (L.Tape.faults tape.old) (L.Tape.faults tape.new) }
+{
+    order_tells_apart();
+    arena.normal_regexes_each_once();
+    atoms.atoms_each_once();
+    let id = AtomId::of(Lit {
+        atom: number as u64,
+        positive: true,
+    });
+    let line = line_of(alloc, trace, arena, atoms.describe(id), tape)?;
+    tape.put(&Line::Atom(line))?;
+    Ok(())
+}
+
+/// An atom as its line has it, behind the lines of its regex.
+fn line_of<L: Tape>(
+    alloc: Global,
+    trace: &mut Trace,
+    arena: &Arena,
+    atom: &Atom,
+    tape: &mut L,
+) -> Result<ProofAtom, TapeFault>
+    requires { HasRegexBelow (length arena.now) (atom_in atom.now) }
+    ensures puts { IfOk result (λ line. (asked : Asked) (memo : Memo) (before : AllKept)
+        → Tracks arena.now memo trace.old before
+        → IsLineOf asked before arena.now memo trace.new (atom_in atom.now) (line_atom line)
+        (L.Tape.told tape.old) (L.Tape.told tape.new)) }
+    ensures text { IfOk result (λ line. atom_has_text (line_atom line) ≡ true) }
+    ensures numbers_stay { StaysNumbered trace.old trace.new }
+    ensures counts { CountsTapeFault result (L.Tape.faults tape.old) (L.Tape.faults tape.new) }
+{
+    match atom {
+        Atom::Bool(serial) => Ok(constant_line(*serial)),
+        Atom::In(serial, regex) => member_line(alloc, trace, arena, *serial, *regex, tape),
+        Atom::And(literals) => Ok(conjunction_line(alloc, literals.as_slice())?),
+        Atom::Iff(one, other) => Ok(equivalence_line(*one, *other)),
+    }
+}
+
+/// The membership of a constant, behind the lines of its regex.
+fn member_line<L: Tape>(
+    alloc: Global,
+    trace: &mut Trace,
+    arena: &Arena,
+    serial: Serial,
+    regex: RegexId,
+    tape: &mut L,
+) -> Result<ProofAtom, TapeFault>
+    requires { regex < length arena.now }
+    ensures puts { IfOk result (λ line. (asked : Asked) (memo : Memo) (before : AllKept)
+        → Tracks arena.now memo trace.old before
+        → IsLineOf asked before arena.now memo trace.new (in_atom (constant_piece serial.0 ∷ []) regex)
+        (line_atom line) (L.Tape.told tape.old) (L.Tape.told tape.new)) }
+    ensures text { IfOk result (λ line. atom_has_text (line_atom line) ≡ true) }
+    ensures numbers_stay { StaysNumbered trace.old trace.new }
+    ensures counts { CountsTapeFault result (L.Tape.faults tape.old) (L.Tape.faults tape.new) }
+{
+    let number = trace.number(arena, regex, tape)?;
+    let pieces = constant(alloc, serial)?;
+    Ok(ProofAtom::In(pieces, number))
+}
+
+/// The pieces of a constant alone.
+fn constant(alloc: Global, serial: Serial) -> Result<Vec<Piece>, AllocError>
+    ensures { IfOk result (λ pieces. map piece_in pieces.items ≡ constant_piece serial.0 ∷ []) }
+{
+    let mut pieces = Vec::new(alloc);
+    pieces.push(Piece::Constant(serial.0))?;
+    Ok(pieces)
+}
+
+/// That a constant is true.
+fn constant_line(serial: Serial) -> ProofAtom
+    ensures is { line_atom result ≡ bool_atom serial.0 }
+    ensures text { atom_has_text (line_atom result) ≡ true }
+{
+    ProofAtom::Bool(serial.0)
+}
+
+/// That two literals are both true or both false.
+fn equivalence_line(one: Lit, other: Lit) -> ProofAtom
+    ensures is { line_atom result ≡ iff_atom one other }
+    ensures text { atom_has_text (line_atom result) ≡ true }
+{
+    ProofAtom::Iff(one, other)
+}
+
+/// The conjunction of literals.
+fn conjunction_line(alloc: Global, literals: &[Lit]) -> Result<ProofAtom, AllocError>
+    ensures is { IfOk result (λ line. line_atom line ≡ and_atom literals.now) }
+    ensures text { IfOk result (λ line. atom_has_text (line_atom line) ≡ true) }
+{
+    let all = copied(alloc, literals)?;
+    Ok(ProofAtom::And(all))
+}
+
+/// The literals, of which each has a text.
+pub(crate) fn copied(alloc: Global, literals: &[Lit]) -> Result<Vec<Lit>, AllocError>
+    ensures same { IfOk result (λ all. all.items ≡ literals.now) }
+    ensures small { OnOk result (list_all is_small_literal literals.now ≡ true) }
+{
+    let mut all = Vec::with_capacity(alloc, literals.len())?;
+    for literal in literals {
+        all.push(with_text(*literal))?;
+    }
+    Ok(all)
+}
+
+/// The literal, which has a text.
+fn with_text(literal: Lit) -> Lit
+    ensures same { result ≡ literal }
+    ensures small { is_small_literal literal ≡ true }
+{
+    literal
+}

@@ -1,0 +1,113 @@
+//! The clauses of gates.
+
+ghost use Rattle.std.specs.Prelude.{◌≡◌, ◌<◌, ◌+◌, ◌++◌, ◌∷◌, [], true, false, List, Some, length, All, IfOk, OnOk};
+ghost use Rattle.sb_lang.specs.Regex.{Regex};
+ghost use Rattle.sb_deriv.specs.Faithful.{Memo};
+ghost use Rattle.sb_rulebook.specs.Kept.{AllKept, Asked};
+ghost use Rattle.sb_gates.specs.Clauses.{clauses_of, atom_at};
+ghost use Rattle.sb_trace.specs.Putting.{CountsTapeFault};
+ghost use Rattle.sb_refute.specs.Backing.{HasGatesOf, Backs, EvidencesUncounted};
+ghost use Rattle.sb_refute.specs.Lines.{IsOfGates};
+
+use crate::defining::copied;
+use crate::evidence::Evidence;
+use sb_atoms::AtomId;
+use sb_gates::gate_clauses;
+use sb_lit::{Clause, Lit};
+use sb_proof::{Line, Rule, Tape, TapeFault};
+use sb_sound::clauses::rule_lines_are_exact;
+use sb_sound::gates::gates_are_exact;
+use std::alloc::AllocError;
+
+impl Evidence {
+    /// Puts the lines of the gates of all atoms that lack them, and keeps their clauses.
+    pub(crate) fn put_gates<L: Tape>(&mut self, tape: &mut L) -> Result<(), TapeFault>
+        ensures puts { OnOk result ((asked : Asked) (rs : List Regex) (memo : Memo) (before : AllKept)
+            → Backs rs memo self.old before
+            → EvidencesUncounted asked before rs memo self.new (L.Tape.told tape.old) (L.Tape.told tape.new)) }
+        ensures all { OnOk result (self.new.gates ≡ length self.new.atoms) }
+        ensures asserted { self.new.asserted ≡ self.old.asserted }
+        ensures atoms { self.new.atoms ≡ self.old.atoms }
+        ensures trace { self.new.trace ≡ self.old.trace }
+        ensures counts { CountsTapeFault result (L.Tape.faults tape.old) (L.Tape.faults tape.new) }
+    {
+        while self.lacks_gates() {
+            self.put_next(tape)?;
+        }
+        Ok(())
+    }
+
+    /// Whether there is an atom that lacks the clauses of its gates.
+    fn lacks_gates(&self) -> bool
+        ensures lacking { result ≡ true → self.now.gates < length self.now.atoms }
+        ensures all { result ≡ false → self.now.gates ≡ length self.now.atoms }
+    {
+        self.gates < self.atoms.len()
+    }
+
+    /// Puts the lines of the gates of the first atom that lacks them, and keeps their clauses.
+    fn put_next<L: Tape>(&mut self, tape: &mut L) -> Result<(), TapeFault>
+        requires { self.old.gates < length self.old.atoms }
+        ensures puts { OnOk result ((asked : Asked) (rs : List Regex) (memo : Memo) (before : AllKept)
+            → Backs rs memo self.old before
+            → EvidencesUncounted asked before rs memo self.new (L.Tape.told tape.old) (L.Tape.told tape.new)) }
+        ensures next { OnOk result (self.new.gates ≡ self.old.gates + 1) }
+        ensures asserted { self.new.asserted ≡ self.old.asserted }
+        ensures atoms { self.new.atoms ≡ self.old.atoms }
+        ensures trace { self.new.trace ≡ self.old.trace }
+        ensures counts { CountsTapeFault result (L.Tape.faults tape.old) (L.Tape.faults tape.new) }
+    {
+        let clauses = self.next_clauses()?;
+        for clause in &clauses {
+            self.put_gate(clause, tape)?;
+        }
+        self.pass_gates();
+        Ok(())
+    }
+
+    /// The clauses of the gates of the first atom that lacks them.
+    fn next_clauses(&self) -> Result<Vec<Clause>, AllocError>
+        requires { self.now.gates < length self.now.atoms }
+        ensures exact { IfOk result (λ found. found.items
+            ≡ clauses_of self.now.gates (atom_at self.now.atoms self.now.gates)) }
+        ensures gates { IfOk result (λ found. All (IsOfGates self.now.atoms) found.items) }
+    {
+        let id = AtomId::of(Lit {
+            atom: self.gates as u64,
+            positive: true,
+        });
+        gate_clauses(self.alloc, &self.atoms, id)
+    }
+
+    /// Keeps a clause of gates, and puts its line.
+    fn put_gate<L: Tape>(&mut self, clause: &Clause, tape: &mut L) -> Result<(), TapeFault>
+        requires { IsOfGates self.old.atoms clause.now }
+        ensures puts { OnOk result ((asked : Asked) (rs : List Regex) (memo : Memo) (before : AllKept)
+            → Backs rs memo self.old before
+            → EvidencesUncounted asked before rs memo self.new (L.Tape.told tape.old) (L.Tape.told tape.new)) }
+        ensures kept { OnOk result
+            (self.new.kept ≡ self.old.kept ++ Some (record { literals = clause.now; level = 0 }) ∷ []) }
+        ensures gates { self.new.gates ≡ self.old.gates }
+        ensures asserted { self.new.asserted ≡ self.old.asserted }
+        ensures atoms { self.new.atoms ≡ self.old.atoms }
+        ensures trace { self.new.trace ≡ self.old.trace }
+        ensures counts { CountsTapeFault result (L.Tape.faults tape.old) (L.Tape.faults tape.new) }
+    {
+        rule_lines_are_exact();
+        gates_are_exact();
+        let literals = copied(self.alloc, clause.literals())?;
+        self.add(clause.literals(), 0)?;
+        tape.put(&Line::Rule(Rule::Gate, literals))?;
+        Ok(())
+    }
+
+    /// The first atom that lacked the clauses of its gates has them.
+    fn pass_gates(&mut self)
+        requires lacking { self.old.gates < length self.old.atoms }
+        requires kept { HasGatesOf self.old.gates self.old.atoms self.old.kept }
+        ensures { self.new ≡ record self.old { gates = self.old.gates + 1 } }
+    {
+        let _count = self.atoms.len();
+        self.gates += 1;
+    }
+}
