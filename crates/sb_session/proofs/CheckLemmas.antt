@@ -1,9 +1,8 @@
 -- A check is answered with its proof, or without one.
-use Rattle.std.proofs.Common.{◌≡◌, ◌⊎◌, ℕ, ◌<◌, Bool, true, false, if◌then◌else◌, List, [], ◌∷◌, ◌++◌, map, length, take, drop, codes, Option, Some, None, is_some, Result, Ok, Err, OnOk, OnErr, IfOk, IfSome, refl, sym, ap, ◌∙◌, subst, inl, inr}
+use Rattle.std.proofs.Common.{◌≡◌, ◌⊎◌, ℕ, ◌<◌, Bool, true, false, if◌then◌else◌, List, [], ◌∷◌, ◌++◌, map, length, take, drop, codes, Option, Some, None, is_some, Result, Ok, Err, OnOk, OnErr, IfOk, refl, sym, ap, ◌∙◌, subst, inl, inr}
 use Rattle.sb_lang.specs.Regex.{Regex}
 use Rattle.sb_regex.specs.Numbered.{Extends}
 use Rattle.sb_deriv.specs.Faithful.{Memo, KeepsEntries}
-use Rattle.sb_atoms.specs.Numbered.{HaveRegexesBelow}
 use Rattle.sb_decide.specs.Knowing.{IsDecision}
 use Rattle.sb_decide.specs.declared.decide.Decider.{Decider}
 use Rattle.sb_world.specs.Outside.{Outside, write_at}
@@ -16,18 +15,20 @@ use Rattle.sb_rulebook.specs.Brought.{newest_format}
 use Rattle.sb_rulebook.specs.Lines.{text_of, header_line, end_line}
 use Rattle.sb_rulebook.specs.LineLaws.{bytes_of}
 use Rattle.sb_meaning.specs.Terms.{Sort, Term}
+use Rattle.sb_rulebook.specs.Kept.{Asked}
 use Rattle.sb_rulebook.specs.Accepted.{question_in, asked_in}
+use Rattle.sb_sound.specs.ScriptLaws.{IsFit}
 use Rattle.sb_rulebook.specs.Judging.{Progress}
 use Rattle.sb_certified.specs.Certified.{Proves, last_lines}
 use Rattle.sb_proof.specs.Tapes.{with_bytes}
-use Rattle.sb_prover.specs.Proving.{Proving, RegexesStayBelow, IsAbreast, IsProved, AbreastStays, HaveLevels}
+use Rattle.sb_prover.specs.Proving.{Proving, IsAbreast, IsProved, AbreastStays, HaveLevels, IsTrue}
 use Rattle.sb_stack.specs.Stacked.{Stacked, state_of, without_words}
 use Rattle.sb_stack.specs.declared.verdict.Verdict as code
 use Rattle.sb_stack.specs.declared.verdict.Verdict.TheVariants as verdict
 use Rattle.sb_stack.specs.Steps.{verdict_in, found}
-use Rattle.sb_session.specs.Commanding.{SessionState, is_proved, IsTracked, CutOf, with_lines}
+use Rattle.sb_session.specs.Commanding.{SessionState, proof_of, is_proved, IsTracked, CutOf, with_lines}
 use Rattle.sb_session.specs.Reading.{end_writes}
-use Rattle.sb_session.specs.Checking.{HasRegexes, HasLevels, Finds, ProvesCheck, CutProof, AnswersCheck, CutCheck}
+use Rattle.sb_session.specs.Checking.{HasLevels, HasTrue, Finds, ProvesCheck, CutProof, AnswersCheck, CutCheck}
 use Rattle.sb_session.proofs.WritingLemmas.{one_written, one_cut, none_cut, lines_written, lines_cut, behind_lines, cut_in_lines, cut_behind_lines}
 
 abreast_of : (s : SessionState) (proving : Proving) (p : Progress) → s.proof ≡ Some proving → IsTracked s p
@@ -50,10 +51,16 @@ pub on_err : {T E A B : Type 0} (r : Result T E) → (A → B) → OnErr r A →
 on_err (Ok x) f h = tt
 on_err (Err e) f h = f h
 
-pub tracked_if : (s : SessionState) (proof : Option Proving) (p : Progress) → s.proof ≡ proof
-    → IfSome proof (λ proving. IsAbreast s.arena s.memo proving p) → IsTracked s p
-tracked_if s None p e h = subst (λ (o : Option Proving). IsTracked (record s { proof = o }) p) (sym e) tt
-tracked_if s (Some proving) p e h = tracked_by s proving p e h
+-- a proof is written, or none
+pub is_kind : (proved : Bool) (proving : Proving) → is_some (proof_of proved proving) ≡ proved
+is_kind true proving = refl
+is_kind false proving = refl
+
+-- where a proof is written, it has come so far
+pub tracked_if : (s : SessionState) (proved : Bool) (proving : Proving) (p : Progress)
+    → s.proof ≡ proof_of proved proving → IsAbreast s.arena s.memo proving p → IsTracked s p
+tracked_if s false proving p e h = subst (λ (o : Option Proving). IsTracked (record s { proof = o }) p) (sym e) tt
+tracked_if s true proving p e h = tracked_by s proving p e h
 
 -- The end of the proof.
 
@@ -67,6 +74,12 @@ last_lines_begin p = by_begun p.begun
         ≡ b ∷ bytes)
     by_begun true = (101, codes "nd\n", refl)
     by_begun false = (115, drop 1 (bytes_of (map text_of (header_line newest_format ∷ end_line ∷ []))), refl)
+
+-- without a proof nothing is written
+pub end_untold : (s : SessionState) (proving : Proving) (p : Progress) (o : Outside) → s.proof ≡ proof_of false proving
+    → o ≡ moved_by (writing_all (end_writes (is_proved s) p)) o
+end_untold s proving p o e =
+    subst (λ (b : Bool). o ≡ moved_by (writing_all (end_writes b p)) o) (sym (ap is_some e)) (sym (moved_by-nothing o))
 
 pub end_none : (s : SessionState) (proving : Proving) (p : Progress) (old new : Outside) → s.proof ≡ Some proving
     → new ≡ old → CutOf (end_writes (is_proved s) p) old new
@@ -163,12 +176,6 @@ check_unproved s ns v kept p proof after old e same is h =
       tracked = subst (λ (o : Option Proving). IsTracked (record after { proof = o }) p) (sym (same ∙ e)) tt;
       outside = sym (moved_by-nothing old);
     })
-
--- the atoms of the proof speak of regexes that are there, also where more are
-pub regexes_stay : RegexesStayBelow → (rs more : List Regex) (proof : Option Proving) → Extends rs more
-    → HasRegexes rs proof → HasRegexes more proof
-regexes_stay stays rs more None grows h = tt
-regexes_stay stays rs more (Some proving) grows h = stays rs more proving.evidence.atoms grows h
 
 -- The states before and behind a decision differ in their mode alone.
 
@@ -296,23 +303,57 @@ proof_cut decided p session between state kind old new (inr h) =
 -- The live assertions with their levels are the same whatever a check finds.
 
 -- the states differ in their mode and words alone
-pub levels_of_rest : (old new : Stacked) (proof : Option Proving) → without_words new ≡ without_words old
-    → HasLevels (state_of old) proof → HasLevels (state_of new) proof
-levels_of_rest old new None e h = tt
-levels_of_rest old new (Some proving) e h =
+pub levels_of_rest : (old new : Stacked) (proving : Proving) → without_words new ≡ without_words old
+    → HasLevels (state_of old) proving → HasLevels (state_of new) proving
+levels_of_rest old new proving e h =
     subst (λ (live : List (Option Term × ℕ)). HaveLevels live proving.evidence)
     (ap (λ (s : Stacked). (asked_in (state_of s)).live) (sym e)) h
 
 -- a verdict is found
-pub levels_of_found : (v : code.Verdict) (old new : Stacked) (proof : Option Proving) → new ≡ found v old
-    → HasLevels (state_of old) proof → HasLevels (state_of new) proof
-levels_of_found v old new None e h = tt
-levels_of_found v old new (Some proving) e h =
-    subst (λ (s : Stacked). HaveLevels (asked_in (state_of s)).live proving.evidence) (sym e) (of v h)
+pub levels_of_found : (v : code.Verdict) (old new : Stacked) (proving : Proving) → new ≡ found v old
+    → HasLevels (state_of old) proving → HasLevels (state_of new) proving
+levels_of_found v old new proving e h =
+    subst (λ (s : Stacked). HaveLevels (asked_in (state_of s)).live proving.evidence) (sym e) (of v)
   where
-    of : (v : code.Verdict) → HaveLevels (asked_in (state_of old)).live proving.evidence
-        → HaveLevels (asked_in (state_of (found v old))).live proving.evidence
-    of (verdict.Sat words truths) h = h
-    of verdict.Unsat h = h
-    of verdict.Unknown h = h
-    of verdict.Outside h = h
+    of : (v : code.Verdict) → HaveLevels (asked_in (state_of (found v old))).live proving.evidence
+    of (verdict.Sat words truths) = h
+    of verdict.Unsat = h
+    of verdict.Unknown = h
+    of verdict.Outside = h
+
+-- What is asked is the same too, and what was true of it is.
+
+asked_of_rest : (old new : Stacked) → without_words new ≡ without_words old
+    → asked_in (state_of new) ≡ asked_in (state_of old)
+asked_of_rest old new e = ap (λ (s : Stacked). asked_in (state_of s)) e
+
+pub fit_of_rest : (old new : Stacked) → without_words new ≡ without_words old → IsFit (state_of old)
+    → IsFit (state_of new)
+fit_of_rest old new e h = subst (λ (s : Stacked). IsFit (state_of s)) (sym e) h
+
+pub true_of_rest : (old new : Stacked) (kept : Decider) (proving : Proving) → without_words new ≡ without_words old
+    → HasTrue (state_of old) kept proving → HasTrue (state_of new) kept proving
+true_of_rest old new kept proving e h =
+    subst (λ (asked : Asked). IsTrue asked kept.arena kept.graph.memo proving.evidence) (sym (asked_of_rest old new e))
+    h
+
+pub fit_of_found : (v : code.Verdict) (old new : Stacked) → new ≡ found v old → IsFit (state_of old)
+    → IsFit (state_of new)
+fit_of_found v old new e h = subst (λ (s : Stacked). IsFit (state_of s)) (sym e) (of v)
+  where
+    of : (v : code.Verdict) → IsFit (state_of (found v old))
+    of (verdict.Sat words truths) = h
+    of verdict.Unsat = h
+    of verdict.Unknown = h
+    of verdict.Outside = h
+
+pub true_of_found : (v : code.Verdict) (old new : Stacked) (kept : Decider) (proving : Proving) → new ≡ found v old
+    → HasTrue (state_of old) kept proving → HasTrue (state_of new) kept proving
+true_of_found v old new kept proving e h =
+    subst (λ (s : Stacked). HasTrue (state_of s) kept proving) (sym e) (of v)
+  where
+    of : (v : code.Verdict) → HasTrue (state_of (found v old)) kept proving
+    of (verdict.Sat words truths) = h
+    of verdict.Unsat = h
+    of verdict.Unknown = h
+    of verdict.Outside = h

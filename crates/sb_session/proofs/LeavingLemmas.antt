@@ -9,18 +9,17 @@ use Rattle.sb_script.specs.State.{State, live}
 use Rattle.sb_rulebook.specs.Accepted.{asked_in}
 use Rattle.sb_rulebook.specs.Judging.{Event, Phase, at_rest, at_check, at_end, behind_end, stopped, Progress, met, meets}
 use Rattle.sb_certified.specs.Certified.{behind}
-use Rattle.sb_prover.specs.Proving.{Proving, IsAbreast, HaveLevels, AreLow, leaving, LevelsStay}
+use Rattle.sb_prover.specs.Proving.{Proving, IsAbreast, HaveLevels, AreLow, leaving, IsTrue, GoesDown, LevelsStay}
 use Rattle.sb_stack.specs.Stacked.{Stacked, state_of, assertion_in}
 use Rattle.sb_stack.proofs.CallerLemmas.{live_laid}
-use Rattle.sb_session.specs.Commanding.{SessionState, is_proved, IsTracked}
-use Rattle.sb_session.specs.Checking.{HasRegexes, HasLevels, LeavesProof, GoesAlong, progress_by}
+use Rattle.sb_session.specs.Commanding.{SessionState, proof_of, is_proved, IsTracked}
+use Rattle.sb_session.specs.Checking.{HasRegexes, HasLevels, LeavesProof, progress_by}
 
 -- more assertions are live
-pub levels_grow : LevelsStay → (old new : State) (proof : Option Proving)
+pub levels_grow : LevelsStay → (old new : State) (proving : Proving)
     → (more : List (Option Term × ℕ)) × ((asked_in new).live ≡ (asked_in old).live ++ more)
-    → HasLevels old proof → HasLevels new proof
-levels_grow stays old new None grows h = tt
-levels_grow stays old new (Some proving) grows h =
+    → HasLevels old proving → HasLevels new proving
+levels_grow stays old new proving grows h =
     subst (λ (live : List (Option Term × ℕ)). HaveLevels live proving.evidence) (sym grows.1)
     (stays (asked_in old).live grows.0 proving.evidence h)
 
@@ -46,19 +45,25 @@ module _ (level : Option ℕ) (count : ℕ) (old new : State)
   same_front : take count (asked_in old).live ≡ (asked_in new).live
   same_front = ap (λ (n : ℕ). take n (asked_in old).live) here ∙ sym front
 
-  pub levels_left : (before after : Option Proving) → GoesAlong level count before after → HasLevels old before
+  pub levels_left : (before after : Proving) → LeavesProof level count before after → HasLevels old before
       → HasLevels new after
-  levels_left None None along h = tt
-  levels_left None (Some proving) along h = absurd along
-  levels_left (Some proving) None along h = absurd along
-  levels_left (Some proving) (Some left) along h =
-      subst (λ (live : List (Option Term × ℕ)). HaveLevels live left.evidence) same_front
+  levels_left before after along h =
+      subst (λ (live : List (Option Term × ℕ)). HaveLevels live after.evidence) same_front
       (along.levels (asked_in old).live h)
 
   low_front : (o : Option ℕ) → IfSome o (λ n. AreLow n (asked_in new).live)
       → IfSome o (λ n. AreLow n (take count (asked_in old).live))
   low_front None h = tt
   low_front (Some n) h = subst (AreLow n) (sym same_front) h
+
+  -- what the evidence knows is true of what stays
+  pub sound_left : (rs more : List Regex) (memo memos : Memo) (before after : Proving) → more ≡ rs → memos ≡ memo
+      → LeavesProof level count before after → GoesDown level (asked_in old) (asked_in new) → HasLevels old before
+      → IsTrue (asked_in old) rs memo before.evidence → IsTrue (asked_in new) more memos after.evidence
+  sound_left rs more memo memos before after same_rs same_memo along goes levels sound =
+      subst (λ (x : List Regex). IsTrue (asked_in new) x memos after.evidence) (sym same_rs)
+      (subst (λ (x : Memo). IsTrue (asked_in new) rs x after.evidence) (sym same_memo)
+      (along.sound rs memo (asked_in old) (asked_in new) goes levels (low_front level low) sound))
 
   pub abreast_left : (rs : List Regex) (memo : Memo) (before after : Proving) → LeavesProof level count before after
       → HaveLevels (asked_in old).live before.evidence → (p : Progress) → IsAbreast rs memo before p
@@ -67,42 +72,33 @@ module _ (level : Option ℕ) (count : ℕ) (old new : State)
       subst (IsAbreast rs memo after) (sym (met_at_rest level p.phase p refl abreast.rests))
       (along.left rs memo (asked_in old).live p abreast h (low_front level low))
 
--- the atoms of the proof stay
-pub regexes_left : (level : Option ℕ) (count : ℕ) (rs more : List Regex) (before after : Option Proving)
-    → more ≡ rs → GoesAlong level count before after → HasRegexes rs before → HasRegexes more after
-regexes_left level count rs more None None same along h = tt
-regexes_left level count rs more None (Some proving) same along h = absurd along
-regexes_left level count rs more (Some proving) None same along h = absurd along
-regexes_left level count rs more (Some proving) (Some left) same along h =
-    subst (λ (xs : List Regex). HaveRegexesBelow (length xs) left.evidence.atoms) (sym same)
+-- the atoms of the evidence stay
+pub regexes_left : (level : Option ℕ) (count : ℕ) (rs more : List Regex) (before after : Proving)
+    → more ≡ rs → LeavesProof level count before after → HasRegexes rs before → HasRegexes more after
+regexes_left level count rs more before after same along h =
+    subst (λ (xs : List Regex). HaveRegexesBelow (length xs) after.evidence.atoms) (sym same)
     (rw along.atoms h)
 
 -- the proof has come so far as is known of it
-pub tracked_left : (level : Option ℕ) (count : ℕ) (session after : SessionState)
+pub tracked_left : (level : Option ℕ) (count : ℕ) (session after : SessionState) (proved : Bool) (before left : Proving)
+    → session.proof ≡ proof_of proved before → after.proof ≡ proof_of proved left
     → (asked_in (state_of after.stack)).live
     ≡ take (length (live (state_of after.stack))) (asked_in (state_of session.stack)).live
     → IfSome level (λ n. AreLow n (asked_in (state_of after.stack)).live)
     → count ≡ length (live (state_of after.stack)) → after.arena ≡ session.arena → after.memo ≡ session.memo
-    → GoesAlong level count session.proof after.proof → HasLevels (state_of session.stack) session.proof
+    → LeavesProof level count before left → HasLevels (state_of session.stack) before
     → (p : Progress) → IsTracked session p
     → IsTracked after (progress_by (is_proved session) (leaving level ∷ []) p)
-tracked_left level count session after front low here regexes memos along h p tracked =
-    by_proof session.proof after.proof refl refl along h tracked
-  where
-    by_proof : (before left : Option Proving) → session.proof ≡ before → after.proof ≡ left
-        → GoesAlong level count before left → HasLevels (state_of session.stack) before
-        → IsTracked (record session { proof = before }) p
-        → IsTracked after (progress_by (is_proved session) (leaving level ∷ []) p)
-    by_proof None None is now along h tracked =
-        subst (λ (o : Option Proving). IsTracked (record after { proof = o })
-        (progress_by (is_proved session) (leaving level ∷ []) p)) (sym now) tt
-    by_proof None (Some proving) is now along h tracked = absurd along
-    by_proof (Some proving) None is now along h tracked = absurd along
-    by_proof (Some proving) (Some left) is now along h tracked =
-        let goes : Progress = behind (leaving level ∷ []) p in
-        let abreast = abreast_left level count (state_of session.stack) (state_of after.stack) front low here
-        session.arena session.memo proving left along h p tracked in
-        subst (λ (b : Bool). IsTracked after (progress_by b (leaving level ∷ []) p)) (sym (ap is_some is))
-        (subst (λ (o : Option Proving). IsTracked (record after { proof = o }) goes) (sym now)
-        (subst (λ (rs : List Regex). IsAbreast rs after.memo left goes) (sym regexes)
-        (subst (λ (memo : Memo). IsAbreast session.arena memo left goes) (sym memos) abreast)))
+tracked_left level count session after false before left is now front low here regexes memos along h p tracked =
+    subst (λ (o : Option Proving). IsTracked (record after { proof = o })
+    (progress_by (is_proved session) (leaving level ∷ []) p)) (sym now) tt
+tracked_left level count session after true before left is now front low here regexes memos along h p tracked =
+    let goes : Progress = behind (leaving level ∷ []) p in
+    let was : IsAbreast session.arena session.memo before p =
+    subst (λ (o : Option Proving). IsTracked (record session { proof = o }) p) is tracked in
+    let abreast = abreast_left level count (state_of session.stack) (state_of after.stack) front low here
+    session.arena session.memo before left along h p was in
+    subst (λ (b : Bool). IsTracked after (progress_by b (leaving level ∷ []) p)) (sym (ap is_some is))
+    (subst (λ (o : Option Proving). IsTracked (record after { proof = o }) goes) (sym now)
+    (subst (λ (rs : List Regex). IsAbreast rs after.memo left goes) (sym regexes)
+    (subst (λ (memo : Memo). IsAbreast session.arena memo left goes) (sym memos) abreast)))

@@ -9,9 +9,10 @@ use Rattle.sb_script.specs.State.{State}
 use Rattle.sb_script.specs.Verdicts.{Verdict, FindsUnproved, verdict_text, settled}
 use Rattle.sb_meaning.specs.Terms.{Term}
 use Rattle.sb_rulebook.specs.Accepted.{asked_in}
+use Rattle.sb_rulebook.specs.Kept.{Asked}
 use Rattle.sb_rulebook.specs.Judging.{Event, Progress, met}
 use Rattle.sb_certified.specs.Certified.{behind, FindsProved}
-use Rattle.sb_prover.specs.Proving.{Proving, IsAbreast, HaveLevels, AreLow, leaving}
+use Rattle.sb_prover.specs.Proving.{Proving, IsAbreast, HaveLevels, AreLow, leaving, IsTrue, GoesDown}
 use Rattle.sb_stack.specs.Stacked.{Stacked, state_of}
 use Rattle.sb_decide.specs.declared.decide.Decider.{Decider}
 use Rattle.sb_atoms.specs.Numbered.{HaveRegexesBelow}
@@ -22,15 +23,19 @@ abbrev pub session_of : Stacked → Decider → Option Proving → SessionState
 session_of stack decider proof =
     record { stack = stack; arena = decider.arena; memo = decider.graph.memo; proof = proof; ended = false }
 
--- the atoms of the proof speak of regexes that are there
-abbrev pub HasRegexes : List Regex → Option Proving → Type 0
-HasRegexes rs proof = IfSome proof (λ proving. HaveRegexesBelow (length rs) proving.evidence.atoms)
+-- the atoms of the evidence speak of regexes that are there
+abbrev pub HasRegexes : List Regex → Proving → Type 0
+HasRegexes rs proving = HaveRegexesBelow (length rs) proving.evidence.atoms
 
--- each clause of an assertion that stands in the proof is of the level of the live assertion at its place
-abbrev pub HasLevels : State → Option Proving → Type 0
-HasLevels s proof = IfSome proof (λ proving. HaveLevels (asked_in s).live proving.evidence)
+-- each clause of an assertion in the evidence is of the level of the live assertion at its place
+abbrev pub HasLevels : State → Proving → Type 0
+HasLevels s proving = HaveLevels (asked_in s).live proving.evidence
 
--- Where levels are left and so many assertions stay, what is known of the proof goes along.
+-- what the evidence knows is true of the live assertions
+abbrev pub HasTrue : State → Decider → Proving → Type 0
+HasTrue s decider proving = IsTrue (asked_in s) decider.arena decider.graph.memo proving.evidence
+
+-- Where levels are left and so many assertions stay, what the prover knows goes along.
 pub record LeavesProof (level : Option ℕ) (count : ℕ) (old new : Proving) : Type 0 where
   pub left : (rs : List Regex) (memo : Memo) (live : List (Option Term × ℕ)) (p : Progress) → IsAbreast rs memo old p
       → HaveLevels live old.evidence → IfSome level (λ n. AreLow n (take count live))
@@ -38,12 +43,9 @@ pub record LeavesProof (level : Option ℕ) (count : ℕ) (old new : Proving) : 
   pub levels : (live : List (Option Term × ℕ)) → HaveLevels live old.evidence
       → HaveLevels (take count live) new.evidence
   pub atoms : new.evidence.atoms ≡ old.evidence.atoms
-
--- a proof goes along, where one is written
-abbrev pub GoesAlong : Option ℕ → ℕ → Option Proving → Option Proving → Type 0
-GoesAlong level count None None = Unit {0}
-GoesAlong level count (Some old) (Some new) = LeavesProof level count old new
-GoesAlong level count _ _ = ⊥
+  pub sound : (rs : List Regex) (memo : Memo) (before now : Asked) → GoesDown level before now
+      → HaveLevels before.live old.evidence → IfSome level (λ n. AreLow n (take count before.live))
+      → IsTrue before rs memo old.evidence → IsTrue now rs memo new.evidence
 
 -- how far the proof comes behind the events of an entry that is no check, where one is written
 abbrev pub progress_by : Bool → List Event → Progress → Progress

@@ -35,6 +35,11 @@ pub record SessionState : Type 0 where
 abbrev pub Stage : Type 0
 Stage = State × Progress
 
+-- what is known of the proof, where one is written
+abbrev pub proof_of : Bool → Proving → Option Proving
+proof_of true proving = Some proving
+proof_of false proving = None
+
 -- whether a proof is written
 abbrev pub is_proved : SessionState → Bool
 is_proved s = is_some s.proof

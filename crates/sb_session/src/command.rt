@@ -1,28 +1,31 @@
 //! The session, entry by entry.
 
-ghost use Rattle.std.specs.Prelude.{◌≡◌, ◌⊎◌, [], List, length, true, false, is_some, Some, IfSome, IfOk, IfErr, OnOk, OnErr};
+ghost use Rattle.std.specs.Prelude.{◌≡◌, ◌⊎◌, [], length, true, false, is_some, Some, IfOk, IfErr, OnOk, OnErr};
 ghost use Rattle.sb_world.specs.Outside.{CountsFault};
 ghost use Rattle.sb_world.specs.Moved.{moved_by, writing_all};
-ghost use Rattle.sb_script.specs.State.{State, start};
+ghost use Rattle.sb_script.specs.State.{start};
 ghost use Rattle.sb_script.specs.Verdicts.{IsVerdict};
-ghost use Rattle.sb_lang.specs.Regex.{Regex};
-ghost use Rattle.sb_deriv.specs.Faithful.{Memo};
 ghost use Rattle.sb_atoms.specs.Numbered.{HaveRegexesBelow};
-ghost use Rattle.sb_prover.specs.Proving.{IsAbreast, HaveLevels};
+ghost use Rattle.sb_prover.specs.Proving.{HaveLevels};
 ghost use Rattle.sb_rulebook.specs.Accepted.{asked_in};
 ghost use Rattle.sb_rulebook.specs.Judging.{Progress, beginning};
 ghost use Rattle.sb_stack.specs.Stacked.{state_of, live_constants};
 ghost use Rattle.sb_stack.specs.Steps.{IsEntry, entry_of, verdict_in, found};
 ghost use Rattle.sb_decide.specs.Knowing.{Knows, IsDecision};
 ghost use Rattle.sb_decide.specs.Laws.{KnowsBack};
-ghost use Rattle.sb_session.specs.Commanding.{SessionState, Goes, Fails, AnswersEntry, CutOrNot, CutOf, IsTracked, is_proved, is_exited, went_of, CountsSessionFault};
-ghost use Rattle.sb_session.specs.Checking.{session_of, HasRegexes, HasLevels, GoesAlong, ProvesCheck, CutProof, AnswersCheck, CutCheck};
+ghost use Rattle.sb_session.specs.Commanding.{SessionState, Goes, Fails, AnswersEntry, CutOrNot, CutOf, IsTracked, proof_of, is_proved, is_exited, went_of, CountsSessionFault};
+ghost use Rattle.sb_sound.specs.ScriptLaws.{IsFit};
+ghost use Rattle.sb_session.specs.Checking.{session_of, HasRegexes, HasLevels, HasTrue, LeavesProof, ProvesCheck, CutProof, AnswersCheck, CutCheck};
 ghost use Rattle.sb_session.specs.Reading.{end_writes};
 
 use sb_decide::{Decider, knows_stays};
 use sb_proof::MemTape;
-use sb_prover::{Prover, abreast_stays, entries_move_live, levels_stay, regexes_stay_below};
+use sb_prover::{
+    Prover, abreast_stays, entries_move_live, entries_stay_fit, levels_stay, regexes_stay_below,
+    true_stays,
+};
 use sb_reader::Next;
+use sb_sound::scripts::entries_lead_on;
 use sb_stack::{Stack, Step, Verdict};
 use sb_world::{OutPort, World, WorldError, write_all};
 use std::alloc::{AllocError, Global};
@@ -80,16 +83,18 @@ pub struct Session {
     alloc: Global,
     stack: Stack,
     decider: Decider,
-    /// Where a proof is written.
-    prover: Option<Prover>,
+    prover: Prover,
+    /// A proof is written.
+    proved: bool,
     ended: bool,
 }
 
 impl Model for Session {
     ghost use Rattle.std.specs.Prelude.{◌≡◌, false};
-    ghost use Rattle.sb_session.specs.Checking.{HasRegexes, HasLevels};
+    ghost use Rattle.sb_session.specs.Checking.{HasRegexes, HasLevels, HasTrue};
+    ghost use Rattle.sb_sound.specs.ScriptLaws.{IsFit};
     ghost use Rattle.sb_stack.specs.Stacked.{state_of};
-    ghost use Rattle.sb_session.specs.Commanding.{SessionState};
+    ghost use Rattle.sb_session.specs.Commanding.{SessionState, proof_of};
     ghost use Rattle.sb_decide.specs.Knowing.{Knows};
     ghost use Rattle.sb_lang.proofs.CallerLemmas.{coded_regex};
     ghost use Rattle.sb_meaning.proofs.CallerLemmas.{coded_term};
@@ -103,12 +108,13 @@ impl Model for Session {
       stack = s.stack;
       arena = s.decider.arena;
       memo = s.decider.graph.memo;
-      proof = s.prover;
+      proof = proof_of s.proved s.prover;
       ended = s.ended;
     } };
 
     ghost invariant = { λ s. s.ended ≡ false → Knows s.decider s.stack × HasRegexes s.decider.arena s.prover
-        × HasLevels (state_of s.stack) s.prover };
+        × HasLevels (state_of s.stack) s.prover × IsFit (state_of s.stack)
+        × HasTrue (state_of s.stack) s.decider s.prover };
 }
 
 impl Session {
@@ -119,11 +125,13 @@ impl Session {
         ensures kind { is_proved result ≡ proved }
         ensures tracked { IsTracked result beginning }
     {
+        entries_lead_on();
         Session {
             alloc,
             stack: Stack::new(alloc),
             decider: Decider::new(alloc),
-            prover: prover_for(alloc, proved),
+            prover: Prover::new(alloc),
+            proved,
             ended: false,
         }
     }
@@ -150,6 +158,7 @@ impl Session {
             &mut self.stack,
             &mut self.decider,
             &mut self.prover,
+            self.proved,
             entry,
             world,
         )?;
@@ -167,22 +176,8 @@ impl Session {
         ensures faults { CountsSessionFault result (W.faults world.old) (W.faults world.new) }
     {
         self.ended = true;
-        finish_proof(self.alloc, &mut self.prover, world)?;
+        finish_proof(self.alloc, &mut self.prover, self.proved, world)?;
         Ok(())
-    }
-}
-
-/// A prover at the start of a script, where a proof is written.
-fn prover_for(alloc: Global, proved: bool) -> Option<Prover>
-    ensures kind { is_some result ≡ proved }
-    ensures tracked { (rs : List Regex) (memo : Memo) → IfSome result (λ p. IsAbreast rs memo p beginning) }
-    ensures regexes { (rs : List Regex) → HasRegexes rs result }
-    ensures levels { (s : State) → HasLevels s result }
-{
-    if proved {
-        Some(Prover::new(alloc))
-    } else {
-        None
     }
 }
 
@@ -199,25 +194,24 @@ fn exits(went: Went) -> bool
 /// Writes the last lines of the proof, where one is written.
 fn finish_proof<W: World>(
     alloc: Global,
-    prover: &mut Option<Prover>,
+    prover: &mut Prover,
+    proved: bool,
     world: &mut W,
 ) -> Result<(), WorldError>
-    ensures ok { OnOk result ((s : SessionState) (p : Progress) → s.proof ≡ prover.old → IsTracked s p
+    ensures ok { OnOk result ((s : SessionState) (p : Progress) → s.proof ≡ proof_of proved prover.old → IsTracked s p
         → W.outside world.new ≡ moved_by (writing_all (end_writes (is_proved s) p)) (W.outside world.old)) }
-    ensures err { OnErr result ((s : SessionState) (p : Progress) → s.proof ≡ prover.old → IsTracked s p
+    ensures err { OnErr result ((s : SessionState) (p : Progress) → s.proof ≡ proof_of proved prover.old → IsTracked s p
         → CutOf (end_writes (is_proved s) p) (W.outside world.old) (W.outside world.new)) }
     ensures faults { CountsFault result (W.faults world.old) (W.faults world.new) }
 {
-    match prover {
-        None => Ok(()),
-        Some(prover) => {
-            let mut tape = MemTape::new(alloc);
-            let Ok(()) = prover.finish(&mut tape) else {
-                return Err(WorldError::NoMemory);
-            };
-            write_all(world, OutPort::Proof, tape.bytes())
-        }
+    if !proved {
+        return Ok(());
     }
+    let mut tape = MemTape::new(alloc);
+    let Ok(()) = prover.finish(&mut tape) else {
+        return Err(WorldError::NoMemory);
+    };
+    write_all(world, OutPort::Proof, tape.bytes())
 }
 
 /// Answers an entry.
@@ -225,7 +219,8 @@ fn answer_entry<W: World>(
     alloc: Global,
     stack: &mut Stack,
     decider: &mut Decider,
-    prover: &mut Option<Prover>,
+    prover: &mut Prover,
+    proved: bool,
     entry: &Next,
     world: &mut W,
 ) -> Result<Went, WorldError>
@@ -233,27 +228,32 @@ fn answer_entry<W: World>(
     requires knows { Knows decider.old stack.old }
     requires regexes { HasRegexes decider.old.arena prover.old }
     requires levels { HasLevels (state_of stack.old) prover.old }
+    requires fit { IsFit (state_of stack.old) }
+    requires sound { HasTrue (state_of stack.old) decider.old prover.old }
     ensures knows { OnOk result (Knows decider.new stack.new) }
     ensures regexes { OnOk result (HasRegexes decider.new.arena prover.new) }
     ensures levels { OnOk result (HasLevels (state_of stack.new) prover.new) }
+    ensures fit { OnOk result (IsFit (state_of stack.new)) }
+    ensures sound { OnOk result (HasTrue (state_of stack.new) decider.new prover.new) }
     ensures ok { IfOk result (λ went. (went ≡ went_of (entry_of entry.now))
-        × AnswersEntry (entry_of entry.now) (session_of stack.old decider.old prover.old)
-        (session_of stack.new decider.new prover.new) (W.outside world.old) (W.outside world.new)) }
-    ensures err { OnErr result (CutOrNot (entry_of entry.now) (session_of stack.old decider.old prover.old)
-        (W.outside world.old) (W.outside world.new)) }
-    ensures kind { is_some prover.new ≡ is_some prover.old }
+        × AnswersEntry (entry_of entry.now) (session_of stack.old decider.old (proof_of proved prover.old))
+        (session_of stack.new decider.new (proof_of proved prover.new)) (W.outside world.old) (W.outside world.new)) }
+    ensures err { OnErr result (CutOrNot (entry_of entry.now)
+        (session_of stack.old decider.old (proof_of proved prover.old)) (W.outside world.old) (W.outside world.new)) }
     ensures faults { CountsFault result (W.faults world.old) (W.faults world.new) }
 {
     knows_stays();
     levels_stay();
     entries_move_live();
+    entries_stay_fit();
+    true_stays();
     match stack.apply(entry)? {
         Step::Answer(text) => {
             write_all(world, OutPort::Answers, &text)?;
             Ok(Went::Go)
         }
         Step::Check => {
-            answer_check(alloc, stack, decider, prover, world)?;
+            answer_check(alloc, stack, decider, prover, proved, world)?;
             Ok(Went::Go)
         }
         Step::Left(text, level) => {
@@ -268,34 +268,23 @@ fn answer_entry<W: World>(
     }
 }
 
-/// Goes along where levels are left: what is known of the assertions that went is taken back, and what the proof had of
-/// them is forgotten.
+/// Goes along where levels are left: what is known of the assertions that went is taken back, and what the prover had
+/// of them is forgotten.
 fn leave(
     stack: &Stack,
     decider: &mut Decider,
-    prover: &mut Option<Prover>,
+    prover: &mut Prover,
     level: Option<usize>,
 ) -> Result<(), AllocError>
     ensures knows { OnOk result (KnowsBack (length stack.now.assertions) decider.old decider.new) }
     ensures arena { decider.new.arena ≡ decider.old.arena }
     ensures graph { decider.new.graph ≡ decider.old.graph }
-    ensures proof { OnOk result (GoesAlong level (length stack.now.assertions) prover.old prover.new) }
-    ensures kind { is_some prover.new ≡ is_some prover.old }
+    ensures proof { OnOk result (LeavesProof level (length stack.now.assertions) prover.old prover.new) }
 {
     let count = stack.assertions().len();
     decider.take_back(count)?;
-    leave_proof(prover, level, count);
+    prover.leave(level_of(level), count);
     Ok(())
-}
-
-/// Goes along with the proof, where one is written.
-fn leave_proof(prover: &mut Option<Prover>, level: Option<usize>, count: usize)
-    ensures along { GoesAlong level count prover.old prover.new }
-    ensures kind { is_some prover.new ≡ is_some prover.old }
-{
-    if let Some(prover) = prover {
-        prover.leave(level_of(level), count);
-    }
 }
 
 /// The level, as proofs number levels.
@@ -313,28 +302,36 @@ fn answer_check<W: World>(
     alloc: Global,
     stack: &mut Stack,
     decider: &mut Decider,
-    prover: &mut Option<Prover>,
+    prover: &mut Prover,
+    proved: bool,
     world: &mut W,
 ) -> Result<(), WorldError>
     requires knows { Knows decider.old stack.old }
     requires regexes { HasRegexes decider.old.arena prover.old }
     requires levels { HasLevels (state_of stack.old) prover.old }
+    requires fit { IsFit (state_of stack.old) }
+    requires sound { HasTrue (state_of stack.old) decider.old prover.old }
     ensures knows { OnOk result (Knows decider.new stack.new) }
     ensures regexes { OnOk result (HasRegexes decider.new.arena prover.new) }
     ensures levels { OnOk result (HasLevels (state_of stack.new) prover.new) }
-    ensures ok { OnOk result ((p : Progress) → IsTracked (session_of stack.old decider.old prover.old) p
-        → AnswersCheck p (session_of stack.old decider.old prover.old) (session_of stack.new decider.new prover.new)
-        (W.outside world.old) (W.outside world.new)) }
-    ensures err { OnErr result ((p : Progress) → IsTracked (session_of stack.old decider.old prover.old) p
+    ensures fit { OnOk result (IsFit (state_of stack.new)) }
+    ensures sound { OnOk result (HasTrue (state_of stack.new) decider.new prover.new) }
+    ensures ok { OnOk result
+        ((p : Progress) → IsTracked (session_of stack.old decider.old (proof_of proved prover.old)) p
+        → AnswersCheck p (session_of stack.old decider.old (proof_of proved prover.old))
+        (session_of stack.new decider.new (proof_of proved prover.new)) (W.outside world.old) (W.outside world.new)) }
+    ensures err { OnErr result
+        ((p : Progress) → IsTracked (session_of stack.old decider.old (proof_of proved prover.old)) p
         → (W.outside world.new ≡ W.outside world.old)
-        ⊎ CutCheck p (session_of stack.old decider.old prover.old) (W.outside world.old) (W.outside world.new)) }
-    ensures kind { is_some prover.new ≡ is_some prover.old }
+        ⊎ CutCheck p (session_of stack.old decider.old (proof_of proved prover.old)) (W.outside world.old)
+        (W.outside world.new)) }
     ensures faults { CountsFault result (W.faults world.old) (W.faults world.new) }
 {
     abreast_stays();
     regexes_stay_below();
+    true_stays();
     let decided = decider.decide(alloc, stack)?;
-    let verdict = prove_check(alloc, stack, decider, prover, decided, world)?;
+    let verdict = prove_check(alloc, stack, decider, prover, proved, decided, world)?;
     write_all(world, OutPort::Answers, stack.settle(verdict))
 }
 
@@ -343,7 +340,8 @@ fn prove_check<W: World>(
     alloc: Global,
     stack: &Stack,
     decider: &mut Decider,
-    prover: &mut Option<Prover>,
+    prover: &mut Prover,
+    proved: bool,
     verdict: Verdict,
     world: &mut W,
 ) -> Result<Verdict, WorldError>
@@ -351,22 +349,29 @@ fn prove_check<W: World>(
     requires verdict { IsVerdict (state_of stack.now) [] (verdict_in (live_constants stack.now) verdict) }
     requires decided { IsDecision verdict decider.old }
     requires regexes { HasRegexes decider.old.arena prover.old }
+    requires fit { IsFit (state_of stack.now) }
+    requires sound { HasTrue (state_of stack.now) decider.old prover.old }
     ensures knows { IfOk result (λ v. Knows decider.new (found v stack.now)) }
     ensures regexes { OnOk result (HasRegexes decider.new.arena prover.new) }
     ensures levels { OnOk result (HasLevels (state_of stack.now) prover.old
         → HasLevels (state_of stack.now) prover.new) }
-    ensures ok { IfOk result (λ v. (p : Progress) → IsTracked (session_of stack.now decider.old prover.old) p
-        → ProvesCheck (state_of stack.now) (verdict_in (live_constants stack.now) v) p (is_some prover.old)
-        (session_of stack.now decider.new prover.new) (W.outside world.old) (W.outside world.new)) }
-    ensures err { OnErr result ((p : Progress) → IsTracked (session_of stack.now decider.old prover.old) p
+    ensures sound { OnOk result (HasTrue (state_of stack.now) decider.new prover.new) }
+    ensures ok { IfOk result
+        (λ v. (p : Progress) → IsTracked (session_of stack.now decider.old (proof_of proved prover.old)) p
+        → ProvesCheck (state_of stack.now) (verdict_in (live_constants stack.now) v) p
+        (is_some (proof_of proved prover.old)) (session_of stack.now decider.new (proof_of proved prover.new))
+        (W.outside world.old) (W.outside world.new)) }
+    ensures err { OnErr result
+        ((p : Progress) → IsTracked (session_of stack.now decider.old (proof_of proved prover.old)) p
         → (W.outside world.new ≡ W.outside world.old)
-        ⊎ CutProof (state_of stack.now) p (is_some prover.old) (W.outside world.old) (W.outside world.new)) }
-    ensures kind { is_some prover.new ≡ is_some prover.old }
+        ⊎ CutProof (state_of stack.now) p (is_some (proof_of proved prover.old)) (W.outside world.old)
+        (W.outside world.new)) }
     ensures faults { CountsFault result (W.faults world.old) (W.faults world.new) }
 {
-    match prover {
-        None => Ok(verdict),
-        Some(prover) => prove(alloc, stack, decider, prover, verdict, world),
+    if proved {
+        prove(alloc, stack, decider, prover, verdict, world)
+    } else {
+        Ok(verdict)
     }
 }
 
@@ -383,18 +388,22 @@ fn prove<W: World>(
     requires verdict { IsVerdict (state_of stack.now) [] (verdict_in (live_constants stack.now) verdict) }
     requires decided { IsDecision verdict decider.old }
     requires regexes { HaveRegexesBelow (length decider.old.arena) prover.old.evidence.atoms }
+    requires fit { IsFit (state_of stack.now) }
+    requires sound { HasTrue (state_of stack.now) decider.old prover.old }
     ensures knows { IfOk result (λ v. Knows decider.new (found v stack.now)) }
     ensures regexes { OnOk result (HaveRegexesBelow (length decider.new.arena) prover.new.evidence.atoms) }
     ensures levels { OnOk result (HaveLevels (asked_in (state_of stack.now)).live prover.old.evidence
         → HaveLevels (asked_in (state_of stack.now)).live prover.new.evidence) }
+    ensures sound { OnOk result (HasTrue (state_of stack.now) decider.new prover.new) }
     ensures ok { IfOk result (λ v. (p : Progress) → IsTracked (session_of stack.now decider.old (Some prover.old)) p
-        → ProvesCheck (state_of stack.now) (verdict_in (live_constants stack.now) v) p true (session_of stack.now decider.new (Some prover.new))
-        (W.outside world.old) (W.outside world.new)) }
+        → ProvesCheck (state_of stack.now) (verdict_in (live_constants stack.now) v) p true
+        (session_of stack.now decider.new (Some prover.new)) (W.outside world.old) (W.outside world.new)) }
     ensures err { OnErr result ((p : Progress) → IsTracked (session_of stack.now decider.old (Some prover.old)) p
         → (W.outside world.new ≡ W.outside world.old)
         ⊎ CutProof (state_of stack.now) p true (W.outside world.old) (W.outside world.new)) }
     ensures faults { CountsFault result (W.faults world.old) (W.faults world.new) }
 {
+    entries_lead_on();
     let mut tape = MemTape::new(alloc);
     let Ok(verdict) = prover.prove(decider, stack, verdict, &mut tape) else {
         return Err(WorldError::NoMemory);

@@ -3,18 +3,20 @@ use Rattle.sb_world.specs.Outside.{write_at}
 use Rattle.sb_world.specs.declared.OutPort.TheVariants.{Answers}
 use Rattle.std.proofs.lemmas.Result.{err_from_is_err_and}
 use Rattle.sb_script.specs.Verdicts.{IsVerdict}
+use Rattle.sb_rulebook.specs.Accepted.{asked_in}
 use Rattle.sb_stack.specs.Stacked.{Stacked, state_of, live_constants}
 use Rattle.sb_meaning.specs.Terms.{Sort}
 use Rattle.sb_stack.specs.Steps.{verdict_in}
+use Rattle.sb_session.specs.Commanding.{proof_of}
 use Rattle.sb_session.specs.Checking.{session_of}
-use Rattle.sb_session.proofs.CheckLemmas.{on_ok, on_err, regexes_stay, same_verdict, levels_of_rest, levels_of_found, tracked_stays, check_answered, answer_cut, proof_cut}
+use Rattle.sb_session.proofs.CheckLemmas.{on_ok, on_err, same_verdict, levels_of_rest, levels_of_found, fit_of_rest, fit_of_found, true_of_rest, true_of_found, tracked_stays, check_answered, answer_cut, proof_cut}
 use Rattle.sb_session.proofs.command.answer_check.Goals as goal
 
 pub returns-in_err-verdict-clause-err : goal.returns-in_err-verdict-clause-err
 returns-in_err-verdict-clause-err g c =
     let p = err_from_is_err_and c.from_residual-in_err-verdict.result c.from_residual-in_err-verdict.ensures.1 in
-    let session = session_of c.args.stack.now c.args.decider.now c.args.prover.now in
-    let between = session_of c.decide.new.stack c.decide.new.self c.args.prover.now in
+    let session = session_of c.args.stack.now c.args.decider.now (proof_of c.args.proved c.args.prover.now) in
+    let between = session_of c.decide.new.stack c.decide.new.self (proof_of c.args.proved c.args.prover.now) in
     rw p.1
     (λ q tracked.
     proof_cut (verdict_in (live_constants c.args.stack.now) c.in_ok-decided.decided) q session between c.in_ok-decided.ensures.state refl
@@ -25,10 +27,10 @@ returns-in_err-verdict-clause-err g c =
 
 pub returns-clause-ok : goal.returns-clause-ok
 returns-clause-ok g c =
-    let session = session_of c.args.stack.now c.args.decider.now c.args.prover.now in
-    let between = session_of c.decide.new.stack c.decide.new.self c.args.prover.now in
-    let proven = session_of c.decide.new.stack c.prove_check.new.decider c.prove_check.new.prover in
-    let after = session_of c.settle.new.self c.prove_check.new.decider c.prove_check.new.prover in
+    let session = session_of c.args.stack.now c.args.decider.now (proof_of c.args.proved c.args.prover.now) in
+    let between = session_of c.decide.new.stack c.decide.new.self (proof_of c.args.proved c.args.prover.now) in
+    let proven = session_of c.decide.new.stack c.prove_check.new.decider (proof_of c.args.proved c.prove_check.new.prover) in
+    let after = session_of c.settle.new.self c.prove_check.new.decider (proof_of c.args.proved c.prove_check.new.prover) in
     on_ok c.write_all.result
     (λ written q tracked.
     check_answered (verdict_in (live_constants c.args.stack.now) c.in_ok-decided.decided) q session between proven after (verdict_in (live_constants c.decide.new.stack) c.in_ok-verdict.verdict)
@@ -44,10 +46,10 @@ returns-clause-ok g c =
 
 pub returns-clause-err : goal.returns-clause-err
 returns-clause-err g c =
-    let session = session_of c.args.stack.now c.args.decider.now c.args.prover.now in
-    let between = session_of c.decide.new.stack c.decide.new.self c.args.prover.now in
-    let proven = session_of c.decide.new.stack c.prove_check.new.decider c.prove_check.new.prover in
-    let after = session_of c.settle.new.self c.prove_check.new.decider c.prove_check.new.prover in
+    let session = session_of c.args.stack.now c.args.decider.now (proof_of c.args.proved c.args.prover.now) in
+    let between = session_of c.decide.new.stack c.decide.new.self (proof_of c.args.proved c.args.prover.now) in
+    let proven = session_of c.decide.new.stack c.prove_check.new.decider (proof_of c.args.proved c.prove_check.new.prover) in
+    let after = session_of c.settle.new.self c.prove_check.new.decider (proof_of c.args.proved c.prove_check.new.prover) in
     on_err c.write_all.result
     (λ cut q tracked.
     inr (answer_cut (verdict_in (live_constants c.args.stack.now) c.in_ok-decided.decided) q session between proven after
@@ -64,7 +66,7 @@ returns-clause-err g c =
 
 pub prove_check-requires-clause-regexes : goal.prove_check-requires-clause-regexes
 prove_check-requires-clause-regexes g c =
-    regexes_stay c.regexes_stay_below.ensures c.args.decider.now.arena c.decide.new.self.arena c.args.prover.now
+    c.regexes_stay_below.ensures c.args.decider.now.arena c.decide.new.self.arena c.args.prover.now.evidence.atoms
     c.in_ok-decided.ensures.extends c.requires.regexes
 
 pub prove_check-requires-clause-verdict : goal.prove_check-requires-clause-verdict
@@ -82,4 +84,31 @@ returns-clause-levels g c =
     c.settle.ensures.kept
     (c.in_ok-verdict.ensures.levels
     (levels_of_rest c.args.stack.now c.decide.new.stack c.args.prover.now c.decide.ensures.rest c.requires.levels)))
+    c.write_all.ensures.ok
+
+-- what is true of the evidence
+
+pub prove_check-requires-clause-fit : goal.prove_check-requires-clause-fit
+prove_check-requires-clause-fit g c =
+    fit_of_rest c.args.stack.now c.decide.new.stack c.decide.ensures.rest c.requires.fit
+
+pub prove_check-requires-clause-sound : goal.prove_check-requires-clause-sound
+prove_check-requires-clause-sound g c =
+    true_of_rest c.args.stack.now c.decide.new.stack c.decide.new.self c.args.prover.now c.decide.ensures.rest
+    (c.true_stays.ensures.grown (asked_in (state_of c.args.stack.now)) c.args.decider.now.arena c.decide.new.self.arena
+    c.args.decider.now.graph.memo c.decide.new.self.graph.memo c.args.prover.now.evidence c.in_ok-decided.ensures.extends
+    c.in_ok-decided.ensures.derivatives_stay c.requires.regexes c.requires.sound)
+
+pub returns-clause-fit : goal.returns-clause-fit
+returns-clause-fit g c =
+    on_ok c.write_all.result
+    (λ written. fit_of_found c.in_ok-verdict.verdict c.decide.new.stack c.settle.new.self c.settle.ensures.kept
+    (fit_of_rest c.args.stack.now c.decide.new.stack c.decide.ensures.rest c.requires.fit))
+    c.write_all.ensures.ok
+
+pub returns-clause-sound : goal.returns-clause-sound
+returns-clause-sound g c =
+    on_ok c.write_all.result
+    (λ written. true_of_found c.in_ok-verdict.verdict c.decide.new.stack c.settle.new.self c.prove_check.new.decider
+    c.prove_check.new.prover c.settle.ensures.kept c.in_ok-verdict.ensures.sound)
     c.write_all.ensures.ok

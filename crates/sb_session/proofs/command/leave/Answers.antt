@@ -1,6 +1,6 @@
-use Rattle.std.proofs.Common.{ℕ, length, ap, subst}
+use Rattle.std.proofs.Common.{ℕ, Option, length, ap, subst}
 use Rattle.sb_decide.specs.Laws.{KnowsBack}
-use Rattle.sb_session.specs.Checking.{GoesAlong}
+use Rattle.sb_session.specs.Checking.{LeavesProof}
 use Rattle.sb_session.proofs.command.leave.Goals as goal
 
 pub returns-clause-knows : goal.returns-clause-knows
@@ -10,5 +10,13 @@ returns-clause-knows c =
 
 pub returns-clause-proof : goal.returns-clause-proof
 returns-clause-proof c =
-    subst (λ (n : ℕ). GoesAlong c.args.level n c.args.prover.now c.leave_proof.new.prover)
-    (ap length c.assertions-count.ensures.value) c.leave_proof.ensures.along
+    subst (λ (n : ℕ). LeavesProof c.args.level n c.args.prover.now c.leave.new.self)
+    (ap length c.assertions-count.ensures.value)
+    (subst (λ (level : Option ℕ). LeavesProof level (length c.assertions-count.result.now) c.args.prover.now
+    c.leave.new.self) c.level_of.ensures
+    (record {
+      left = c.leave.ensures.left;
+      levels = c.leave.ensures.levels;
+      atoms = c.leave.ensures.atoms;
+      sound = c.leave.ensures.sound;
+    }))

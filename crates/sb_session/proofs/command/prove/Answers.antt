@@ -24,3 +24,7 @@ returns-in_err-write_all-clause-err g c =
     c.prove.new.decider.graph.memo c.prove.new.self c.new-tape.result c.prove.new.tape c.bytes.result.now
     (g.W.World.outside c.args.world.now) (g.W.World.outside c.write_all.new.world) c.new-tape.ensures c.bytes.ensures
     c.in-Ok.ensures.verdict (c.in-Ok.ensures.proves p tracked) c.in_err-write_all.ensures.err))
+
+pub returns-clause-sound : goal.returns-clause-sound
+returns-clause-sound g c =
+    c.in-Ok.ensures.sound (c.entries_lead_on.ensures.terms (state_of c.args.stack.now) c.requires.fit) c.requires.sound

@@ -1,5 +1,8 @@
 use Rattle.sb_stack.specs.Steps.{entry_of}
+use Rattle.std.proofs.Common.{sym, ◌∙◌}
+use Rattle.sb_session.specs.Commanding.{proof_of}
 use Rattle.sb_session.specs.Checking.{session_of}
+use Rattle.sb_session.proofs.CheckLemmas.{is_kind}
 use Rattle.sb_session.proofs.CommandLemmas.{answers_regardless}
 use Rattle.sb_session.proofs.command.Session.command.Goals as goal
 
@@ -8,9 +11,11 @@ returns-clause-ok g c = rw (← c.self.view_is) (record {
   went_is = c.in_ok-went.ensures.ok.0;
   had_not_ended = c.if-self.false;
   ends = c.exits-self-inside.ensures;
-  same_kind = c.in_ok-went.ensures.kind;
+  same_kind = is_kind c.self.inside.proved c.answer_entry.new.prover
+      ∙ sym (is_kind c.self.inside.proved c.self.inside.prover);
   answers = answers_regardless (entry_of c.args.entry.now)
-      (session_of c.self.inside.stack c.self.inside.decider c.self.inside.prover)
-      (session_of c.answer_entry.new.stack c.answer_entry.new.decider c.answer_entry.new.prover) _ _
+      (session_of c.self.inside.stack c.self.inside.decider (proof_of c.self.inside.proved c.self.inside.prover))
+      (session_of c.answer_entry.new.stack c.answer_entry.new.decider
+      (proof_of c.self.inside.proved c.answer_entry.new.prover)) _ _
       (g.W.World.outside c.args.world.now) (g.W.World.outside c.answer_entry.new.world) c.in_ok-went.ensures.ok.1;
 })

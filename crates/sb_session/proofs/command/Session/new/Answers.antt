@@ -1,6 +1,10 @@
-use Rattle.std.proofs.Common.{false, refl}
-use Rattle.sb_session.proofs.CheckLemmas.{tracked_if}
+use Rattle.std.proofs.Common.{false, length, refl, sym, subst}
+use Rattle.sb_session.proofs.CheckLemmas.{is_kind, tracked_if}
+use Rattle.sb_rulebook.specs.Accepted.{asked_in}
 use Rattle.sb_rulebook.specs.Judging.{beginning}
+use Rattle.sb_sound.specs.ScriptLaws.{IsFit}
+use Rattle.sb_stack.specs.Stacked.{state_of}
+use Rattle.sb_session.specs.Commanding.{proof_of}
 use Rattle.sb_session.proofs.command.Session.new.Goals as goal
 
 pub returns-clause-tracked : goal.returns-clause-tracked
@@ -9,7 +13,19 @@ returns-clause-tracked c =
       stack = c.new.result;
       arena = c.new-2.result.arena;
       memo = c.new-2.result.graph.memo;
-      proof = c.prover_for.result;
+      proof = proof_of c.args.proved c.new-3.result;
       ended = false;
-    }) c.prover_for.result beginning refl
-    (c.prover_for.ensures.tracked c.new-2.result.arena c.new-2.result.graph.memo)
+    }) c.args.proved c.new-3.result beginning refl
+    (c.new-3.ensures.abreast c.new-2.result.arena c.new-2.result.graph.memo)
+
+pub returns-clause-kind : goal.returns-clause-kind
+returns-clause-kind c = is_kind c.args.proved c.new-3.result
+
+pub invariant_of-result : goal.invariant_of-result
+invariant_of-result c = λ goes. (
+  c.new-2.ensures c.new.result c.new.ensures.words,
+  c.new-3.ensures.regexes (length c.new-2.result.arena),
+  c.new-3.ensures.levels (asked_in (state_of c.new.result)).live,
+  subst IsFit (sym c.new.ensures.state) c.entries_lead_on.ensures.start,
+  c.new-3.ensures.sound (asked_in (state_of c.new.result)) c.new-2.result.arena c.new-2.result.graph.memo,
+)
