@@ -55,7 +55,7 @@ all_in test (x ∷ xs) n h there =
       | inr later ↦ all_in test xs n p.1 later
     ]
 
-any_in : (test : ℕ → Bool) (xs : List ℕ) (n : ℕ) → is_in xs n ≡ true → test n ≡ true → list_any test xs ≡ true
+pub any_in : (test : ℕ → Bool) (xs : List ℕ) (n : ℕ) → is_in xs n ≡ true → test n ≡ true → list_any test xs ≡ true
 any_in test [] n there h = absurd (false≢true there)
 any_in test (x ∷ xs) n there h = elim (or_cases (nat_eq n x) (is_in xs n) there) [
   | inl here ↦ or_left (test x) (list_any test xs) (ap test (sym (same_number n x here)) ∙ h)
@@ -155,7 +155,7 @@ module _ (p : Lit → Bool) where
       step Equal q rest = t
       step Greater q rest = and_from (p m) (list_all p (with_literal l ms)) q.0 (rest q.1)
 
-  all_ordered : (ls : List Lit) → list_all p ls ≡ true → list_all p (in_order ls) ≡ true
+  pub all_ordered : (ls : List Lit) → list_all p ls ≡ true → list_all p (in_order ls) ≡ true
   all_ordered [] h = refl
   all_ordered (l ∷ ls) h =
       let q = and_parts (p l) (list_all p ls) h in

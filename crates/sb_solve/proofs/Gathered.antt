@@ -17,7 +17,7 @@ use Rattle.sb_theory.specs.Memberships.{is_atom, are_atoms}
 use Rattle.sb_solve.specs.Wanted.{is_in, atoms_of, parts_of, parts_at, is_simple_at, is_closed, AreLeast, AreWanted}
 use Rattle.sb_solve.specs.Gathering.{Follow, Closes}
 
-same_nat : (n : ℕ) → nat_eq n n ≡ true
+pub same_nat : (n : ℕ) → nat_eq n n ≡ true
 same_nat n = grind (arith, nat_tests)
 
 -- Numbers that are added where they are not there.

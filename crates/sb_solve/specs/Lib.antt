@@ -4,3 +4,5 @@ pub mod Values
 pub mod Decided
 pub mod Entailed
 pub mod Examples
+pub mod Answered
+pub mod Modelled

@@ -1,10 +1,10 @@
 //! The values that a search's end gives constants.
 
-ghost use Rattle.std.specs.Prelude.{◌≡◌, ℕ, List, [], false, ◌||◌, ◌==◌, map, slice_get, IfOk, OnOk, IfSome, IfNone};
+ghost use Rattle.std.specs.Prelude.{◌≡◌, ℕ, List, [], true, false, ◌||◌, ◌==◌, slice_get, IfOk, OnOk, IfSome, IfNone};
+ghost use Rattle.sb_word.specs.Words.{are_characters};
 ghost use Rattle.sb_rulebook.specs.Atoms.{bool_atom};
 ghost use Rattle.sb_atoms.specs.Numbered.{Names, atom_in};
-ghost use Rattle.sb_theory.specs.Memberships.{word_at};
-ghost use Rattle.sb_solve.specs.Values.{is_constant, constant_is, makes_true, truth_by, truth_in, word_in, word_or_empty};
+ghost use Rattle.sb_solve.specs.Values.{is_constant, constant_is, makes_true, truth_by, truth_in, word_or_empty};
 
 use sb_atoms::{Atom, AtomId, Atoms};
 use sb_lit::Lit;
@@ -13,30 +13,27 @@ use sb_trail::Trail;
 use sb_word::Word;
 use std::alloc::{AllocError, Global};
 
-/// The words of the constants by serial, the empty one where there is none.
-pub fn words(alloc: Global, words: Vec<Option<Word>>) -> Result<Vec<Word>, AllocError>
-    ensures exact { IfOk result (λ found. found.items ≡ map word_or_empty words.items) }
-    ensures by_serial { IfOk result
-        (λ found. (serial : ℕ) → word_in found.items serial ≡ word_at words.items serial) }
-{
-    let mut found = Vec::with_capacity(alloc, words.len())?;
-    for word in words {
-        found.push(or_empty(alloc, word)?)?;
-    }
-    Ok(found)
-}
-
 /// The word, or the empty one.
-fn or_empty(alloc: Global, word: Option<Word>) -> Result<Word, AllocError>
-    ensures { IfOk result (λ found. found ≡ word_or_empty word) }
+pub(crate) fn or_empty(alloc: Global, word: Option<Word>) -> Result<Word, AllocError>
+    ensures exact { IfOk result (λ found. found ≡ word_or_empty word) }
+    ensures word { IfOk result (λ found. are_characters found ≡ true) }
 {
     match word {
-        Some(word) => Ok(word),
+        Some(word) => Ok(with_characters(word)),
         None => empty_word(alloc),
     }
 }
 
-fn empty_word(alloc: Global) -> Result<Word, AllocError>
+/// The word, which is one of characters.
+fn with_characters(word: Word) -> Word
+    ensures same { result ≡ word }
+    ensures word { are_characters result ≡ true }
+{
+    let _codes = word.codes();
+    word
+}
+
+pub(crate) fn empty_word(alloc: Global) -> Result<Word, AllocError>
     ensures { IfOk result (λ word. word ≡ []) }
 {
     match Word::from_codes(alloc, &[]) {
@@ -47,7 +44,7 @@ fn empty_word(alloc: Global) -> Result<Word, AllocError>
 
 /// The truth values of the Bool constants by serial: what the trail says of their atoms that are wanted. Another
 /// constant is false.
-pub fn truths(
+pub(crate) fn truths(
     alloc: Global,
     atoms: &Atoms,
     wanted: &[u64],
@@ -110,7 +107,7 @@ fn constant_in(described: &Atom) -> Option<Serial>
 }
 
 /// Makes a constant true.
-fn mark(truths: &mut Vec<bool>, serial: Serial) -> Result<(), AllocError>
+pub(crate) fn mark(truths: &mut Vec<bool>, serial: Serial) -> Result<(), AllocError>
     ensures { OnOk result ((other : ℕ) → truth_in truths.new.items other
         ≡ (truth_in truths.old.items other || (serial.0 == other))) }
 {

@@ -22,6 +22,7 @@ use Rattle.sb_trail.specs.declared.assigned.Assigned.{Assigned}
 use Rattle.sb_trail.specs.Assignments.{held, entry_of, AreDistinct}
 use Rattle.sb_trail.proofs.CallerLemmas.{cond_none}
 use Rattle.sb_clauses.specs.Propagation.{HasNoneFalse}
+use Rattle.sb_deriv.specs.Faithful.{KeepsEntries}
 use Rattle.sb_regex.specs.Numbered.{Extends}
 use Rattle.sb_rulebook.specs.Atoms.{Atom, AtomOver, clause_holds}
 use Rattle.sb_rulebook.specs.Kept.{AllKept, Asked, nothing_kept}
@@ -149,6 +150,10 @@ both_pass : (p : Lit → Bool) (ls : List Lit) (l : Lit) → list_all p ls ≡ t
     → list_all p (ls ++ l ∷ []) ≡ true
 both_pass p ls l h k =
     list_all-append p ls (l ∷ []) ∙ and_from (list_all p ls) (list_all p (l ∷ [])) h (and_from (p l) true k refl)
+
+-- the literals of a row are about its constant
+pub row_about : (atoms : List (AtomOver ℕ)) (x : ℕ) (ls : List Lit) → AreAbout atoms x (literals_about atoms x ls)
+row_about atoms x ls = all_about atoms x (literals_about atoms x ls) (filter_passes (is_about atoms x) ls)
 
 pub members_about : (atoms : List (AtomOver ℕ)) (x : ℕ) (ls : List Lit) (l : Lit) → IsAbout atoms x l
     → AreAbout atoms x (literals_about atoms x ls ++ l ∷ [])
@@ -369,17 +374,26 @@ have_answer : (atoms : List (AtomOver ℕ)) (kept : Kept) (clause : List Lit) (d
 have_answer atoms kept clause true h new = have_more atoms kept clause 0 h new
 have_answer atoms kept clause false h new = h
 
+have_behind : (x y : Strings) (kept : Kept) (clause : List Lit) (done : Bool) → y.atoms ≡ x.atoms
+    → are_atoms x.atoms clause ≡ true → HaveAtoms x.atoms kept
+    → HaveAtoms y.atoms (kept_behind kept (answer_of done clause))
+have_behind x y kept clause done atoms known h =
+    subst (λ (ts : List (AtomOver ℕ)). HaveAtoms ts (kept_behind kept (answer_of done clause))) (sym atoms)
+    (subst (HaveAtoms x.atoms) (sym (kept_answer kept clause done)) (have_answer x.atoms kept clause done h known))
+
 writes_answer : (x y : Strings) (kept : Kept) (clause : List Lit) (done : Bool) (before after : Spending)
     (old new : Option (List ℕ)) → y.atoms ≡ x.atoms → y.proves ≡ x.proves → Extends x.arena y.arena
-    → are_atoms x.atoms clause ≡ true → HasNoSubset kept clause
+    → KeepsEntries x.graph.memo y.graph.memo → are_atoms x.atoms clause ≡ true → HasNoSubset kept clause
     → (x.proves ≡ true → (asked : Asked) (k : AllKept) → Tracks x.arena x.graph.memo x.trace k
     → k.atoms ≡ atoms_in x.arena x.atoms → HasNoSubset k.clauses clause → IsCounted asked k before
     → Denies asked k y.arena y.graph.memo y.trace x.atoms clause done after old new)
     → Writes x y (written kept before old) (written (kept_behind kept (answer_of done clause)) after new)
-writes_answer x y kept clause done before after old new atoms proves e known fresh puts = record {
+writes_answer x y kept clause done before after old new atoms proves e keeps known fresh puts = record {
   atoms = atoms;
   proves = proves;
   extends = e;
+  derivatives = keeps;
+  known = have_behind x y kept clause done atoms known;
   lines = λ on asked k b.
       let d = puts on asked k b.tracks b.atoms (subst (λ (ks : Kept). HasNoSubset ks clause) (sym b.clauses) fresh)
       b.counted in (
@@ -390,9 +404,7 @@ writes_answer x y kept clause done before after old new atoms proves e known fre
           atoms = d.atoms_stay ∙ ap (atoms_in y.arena) (sym atoms);
           clauses = d.clauses ∙ ap (λ (ks : Kept). if done then with_denial ks clause else ks) b.clauses
               ∙ sym (kept_answer kept clause done);
-          known = subst (λ (ts : List (AtomOver ℕ)). HaveAtoms ts (kept_behind kept (answer_of done clause))) (sym atoms)
-              (subst (HaveAtoms x.atoms) (sym (kept_answer kept clause done))
-              (have_answer x.atoms kept clause done b.known known));
+          known = have_behind x y kept clause done atoms known b.known;
           counted = d.counts;
         },
       );
@@ -400,20 +412,20 @@ writes_answer x y kept clause done before after old new atoms proves e known fre
 
 pub answers_denied : EmptyHolds → EmptyIsExact → (x y : Strings) (entries : List Assigned) (constant : ℕ)
     (clause : List Lit) (done : Bool) (before after : Spending) (old new : Option (List ℕ)) → y.atoms ≡ x.atoms
-    → y.proves ≡ x.proves → Extends x.arena y.arena → HaveRegexesBelow (length x.arena) x.atoms
-    → IsDenied x.arena x.atoms entries constant clause
+    → y.proves ≡ x.proves → Extends x.arena y.arena → KeepsEntries x.graph.memo y.graph.memo
+    → HaveRegexesBelow (length x.arena) x.atoms → IsDenied x.arena x.atoms entries constant clause
     → (done ≡ true → before.spent < after.spent) → (done ≡ false → after.spent ≡ after.limit)
     → (x.proves ≡ true → (asked : Asked) (k : AllKept) → Tracks x.arena x.graph.memo x.trace k
     → k.atoms ≡ atoms_in x.arena x.atoms → HasNoSubset k.clauses clause → IsCounted asked k before
     → Denies asked k y.arena y.graph.memo y.trace x.atoms clause done after old new)
     → Answers x y entries before after old new (answer_of done clause)
-answers_denied holds exact x y entries constant clause done before after old new atoms proves e below d ticks spent puts =
+answers_denied holds exact x y entries constant clause done before after old new atoms proves e keeps below d ticks spent puts =
     record {
       fair = fair_answer x.atoms y.atoms x.arena y.arena entries constant clause done atoms e below d
           (is_valid holds exact x.arena x.atoms entries constant clause d);
       paid = paid_answer before after clause done ticks spent;
       writes = λ kept none_false.
-          writes_answer x y kept clause done before after old new atoms proves e
+          writes_answer x y kept clause done before after old new atoms proves e keeps
           (about_atoms x.atoms constant clause d.about)
           (no_subset kept (held entries) clause none_false d.is_false) puts;
     }

@@ -3,3 +3,4 @@ pub mod Fitting
 pub mod Denied
 pub mod Placed
 pub mod Answering
+pub mod CallerLemmas

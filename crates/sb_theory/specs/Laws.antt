@@ -46,6 +46,8 @@ writes_none x proof = record {
   atoms = refl;
   proves = refl;
   extends = extends_same x.arena;
+  derivatives = λ n pieces h. h;
+  known = λ h. h;
   lines = λ on asked kept backs. (kept, puts_none asked kept proof.told, backs);
 }
 
@@ -55,6 +57,8 @@ writes_both x y z before between after p q = record {
   atoms = q.atoms ∙ p.atoms;
   proves = q.proves ∙ p.proves;
   extends = extends_more x.arena y.arena z.arena p.extends q.extends;
+  derivatives = λ n pieces h. q.derivatives n pieces (p.derivatives n pieces h);
+  known = λ h. q.known (p.known h);
   lines = λ on asked kept backs.
       let first = p.lines on asked kept backs in
       let second = q.lines (p.proves ∙ on) asked first.0 first.2 in (
@@ -76,6 +80,8 @@ writes_grown x y proof atoms proves trace below e keeps = record {
   atoms = atoms;
   proves = proves;
   extends = e;
+  derivatives = keeps;
+  known = λ h. subst (λ (ts : List (AtomOver ℕ)). HaveAtoms ts proof.kept) (sym atoms) h;
   lines = λ on asked kept b. (
     kept,
     puts_none asked kept proof.told,
@@ -97,6 +103,8 @@ writes_same x y proof atoms proves trace arena graph = record {
   atoms = atoms;
   proves = proves;
   extends = subst (λ (rs : List Regex). Extends x.arena rs) (sym arena) (extends_same x.arena);
+  derivatives = subst (λ (g : Findings). KeepsEntries x.graph.memo g.memo) (sym graph) (λ n pieces h. h);
+  known = λ h. subst (λ (ts : List (AtomOver ℕ)). HaveAtoms ts proof.kept) (sym atoms) h;
   lines = λ on asked kept b. (
     kept,
     puts_none asked kept proof.told,
@@ -201,6 +209,8 @@ writes_learned x proof clause hints level lesson text room = record {
   atoms = refl;
   proves = refl;
   extends = extends_same x.arena;
+  derivatives = λ n pieces h. h;
+  known = λ h. have_more x.atoms proof.kept clause level h (named_atoms x.atoms proof.kept hints clause h lesson.named);
   lines = λ on asked kept b.
       let new = named_atoms x.atoms proof.kept hints clause b.known lesson.named in
       let known = are_known_in x.arena x.atoms kept.atoms clause b.atoms new in
@@ -241,15 +251,21 @@ gate_follows : (asked : Asked) (kept : AllKept) (atom : ℕ) → are_known kept.
     → follows asked kept (rule_line gate (true_or_false atom)) ≡ Ok (with_clause kept (true_or_false atom) 0 [])
 gate_follows asked kept atom known = rw (known, both_ascend atom, both_gate kept.atoms atom) refl
 
+both_known : (atoms : List (AtomOver ℕ)) (atom : ℕ) → is_atom atoms atom ≡ true
+    → are_atoms atoms (true_or_false atom) ≡ true
+both_known atoms atom there =
+    and_from (is_atom atoms atom) (is_atom atoms atom && true) there (and_from (is_atom atoms atom) true there refl)
+
 pub writes_gate : (x : Strings) (proof : Written) (atom : ℕ) → is_atom x.atoms atom ≡ true
     → has_text (rule_line gate (true_or_false atom)) ≡ true → Writes x x proof (with_gate atom proof)
 writes_gate x proof atom there text = record {
   atoms = refl;
   proves = refl;
   extends = extends_same x.arena;
+  derivatives = λ n pieces h. h;
+  known = λ h. have_more x.atoms proof.kept (true_or_false atom) 0 h (both_known x.atoms atom there);
   lines = λ on asked kept b.
-      let new = and_from (is_atom x.atoms atom) (is_atom x.atoms atom && true) there
-      (and_from (is_atom x.atoms atom) true there refl) in
+      let new = both_known x.atoms atom there in
       let known = are_known_in x.arena x.atoms kept.atoms (true_or_false atom) b.atoms new in
       let after : AllKept = with_clause kept (true_or_false atom) 0 [] in (
         after,

@@ -9,6 +9,7 @@ use Rattle.sb_lang.specs.Regex.{Regex}
 use Rattle.sb_trail.specs.declared.assigned.Assigned.{Assigned}
 use Rattle.sb_trail.specs.Assignments.{held, AreLevelled}
 use Rattle.sb_clauses.specs.Propagation.{HasNoneFalse}
+use Rattle.sb_deriv.specs.Faithful.{KeepsEntries}
 use Rattle.sb_regex.specs.Numbered.{Extends}
 use Rattle.sb_graph.specs.Findings.{IsGraph}
 use Rattle.sb_plain.specs.Memory.{IsRight}
@@ -67,11 +68,14 @@ pub record Backs (asked : Asked) (x : Strings) (kept : AllKept) (proof : Written
   pub known : HaveAtoms x.atoms proof.kept
   pub counted : IsCounted asked kept proof.budget
 
--- Where lines are put, those between the one proof and the other follow. Atoms stay, and so do regexes.
+-- Where lines are put, those between the one proof and the other follow. Atoms stay, and so do regexes and derivatives.
+-- New clauses have known atoms.
 pub record Writes (x y : Strings) (before after : Written) : Type 0 where
   pub atoms : y.atoms ≡ x.atoms
   pub proves : y.proves ≡ x.proves
   pub extends : Extends x.arena y.arena
+  pub derivatives : KeepsEntries x.graph.memo y.graph.memo
+  pub known : HaveAtoms x.atoms before.kept → HaveAtoms y.atoms after.kept
   pub lines : x.proves ≡ true → (asked : Asked) (kept : AllKept) → Backs asked x kept before
       → (more : AllKept) × Puts asked kept more before.told after.told × Backs asked y more after
 

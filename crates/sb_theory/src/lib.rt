@@ -5,7 +5,7 @@
 //! each new membership on the word that its constant has: nothing is explored while it fits. Where it does not, another
 //! word is looked for, and where there is none, a few of the constant's memberships that clash are the lemma. A word
 //! stays when literals are taken back, since it goes on to make those true that are left. What is found of regexes
-//! stays too.
+//! stays too. [`rows_of`] groups literals by their constants.
 #![tactic(auto)]
 
 mod member;
@@ -13,4 +13,6 @@ mod place;
 mod row;
 mod strings;
 
+pub use member::{Member, membership, rows_of};
+pub use row::{Row, row_of};
 pub use strings::Strings;

@@ -12,7 +12,7 @@ use std::marker::Model;
 
 /// Literals of one constant, oldest first.
 #[derive(Debug, Drop)]
-pub(crate) struct Row {
+pub struct Row {
     literals: Vec<Lit>,
 }
 
@@ -50,8 +50,8 @@ impl Row {
         self.literals.pop();
     }
 
-    /// The literals.
-    fn literals(&self) -> &[Lit]
+    /// The literals. Takes no memory.
+    pub fn literals(&self) -> &[Lit]
         ensures { result.now ≡ self.now }
     {
         self.literals.as_slice()
@@ -72,6 +72,16 @@ pub(crate) fn put_member(
         rows.push(Row::new(alloc))?;
     }
     rows[place].push(literal)
+}
+
+/// The literals in the row of a constant, none past the last row. Takes constant time and no memory.
+pub fn row_of(rows: &[Row], serial: Serial) -> &[Lit]
+    ensures { result.now ≡ row_at rows.now serial.0 }
+{
+    match rows.get(serial.0 as usize) {
+        Some(row) => row.literals(),
+        None => &[],
+    }
 }
 
 /// Takes the last literal off the row of a constant. Takes no memory.

@@ -18,7 +18,7 @@ returns-clause-step g c = (
       (answers_denied c.empty_holds.ensures c.empty_is_exact.ensures c.args.self.now _ c.args.trail.now.literals
       c.args.serial.0 c.args.clause c.in_ok-done.done c.args.budget.now c.put_denial.new.budget
       (g.L.Tape.told c.args.tape.now) (g.L.Tape.told c.put_denial.new.tape) refl refl c.in_ok-done.ensures.extends
-      c.requires.stands.holds.regexes c.requires.denied c.in_ok-done.ensures.ticks c.in_ok-done.ensures.spent
+      c.in_ok-done.ensures.derivatives_stay c.requires.stands.holds.regexes c.requires.denied c.in_ok-done.ensures.ticks c.in_ok-done.ensures.spent
       (λ on. c.in_ok-done.ensures.puts)),
   never_fine c.args.clause c.in_ok-done.done c.answered-2.result c.answered-2.ensures,
 )
@@ -30,7 +30,7 @@ returns-then-not-self-clause-step g c = (
       (answers_denied c.empty_holds.ensures c.empty_is_exact.ensures c.args.self.now c.args.self.now
       c.args.trail.now.literals c.args.serial.0 c.args.clause c.is_ok-done.result c.args.budget.now c.tick.new.self
       (g.L.Tape.told c.args.tape.now) (g.L.Tape.told c.args.tape.now) refl refl (extends_same c.args.self.now.arena)
-      c.requires.stands.holds.regexes c.requires.denied
+      (λ n pieces h. h) c.requires.stands.holds.regexes c.requires.denied
       (λ is. ticked c.tick.result c.args.budget.now c.tick.new.self (sym c.is_ok-done.ensures.value ∙ is)
       c.tick.ensures.ok)
       (λ is. unticked c.tick.result c.args.budget.now c.tick.new.self (sym c.is_ok-done.ensures.value ∙ is)
