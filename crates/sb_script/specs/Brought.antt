@@ -118,13 +118,18 @@ is_membership t = elim (asked t) [ Some p ↦ is_regex p.1 | None ↦ false ]
 abbrev pub is_pair : Term → Term → Bool
 is_pair t u = is_membership (apply symbol.core_equal (with_term t (with_term u no_terms)))
 
--- terms that are compared, by the sort of the first; each_is says that each of them is Boolean structure
+abbrev pub are_several : List Term → Bool
+are_several (t ∷ u ∷ ts) = true
+are_several _ = false
+
+-- terms that are compared, by the sort of the first; each_is says that each of them is Boolean structure. No String is
+-- compared alone.
 abbrev pub is_comparison : ((Term → Term → Bool) → List Term → Bool) → List Term → Bool → Bool
 is_comparison each_two [] each_is = each_is
 is_comparison each_two (t ∷ ts) each_is = elim (sort_of t) [
   | boolean ↦ each_is
   | integer ↦ false
-  | text ↦ each_two is_pair (t ∷ ts)
+  | text ↦ are_several (t ∷ ts) && each_two is_pair (t ∷ ts)
   | reglan ↦ false
 ]
 
@@ -161,5 +166,5 @@ is_brought numerals = false
 is_brought lets = false
 is_brought functions = true
 is_brought definitions = false
-is_brought (a_check_of t) = is_membership t
+is_brought (a_check_of t) = is_structure t
 is_brought proofs = true

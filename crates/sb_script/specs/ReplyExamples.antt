@@ -103,9 +103,27 @@ empty_word_is_none = refl
 no_value_is_none : state.is_model asked [] [] ≡ false
 no_value_is_none = refl
 
--- a mark leaves the fragment
-is_not_decided : in_fragment (run (command (Symbol (codes "assert") ∷ Symbol (codes "true") ∷ []) ∷ []) asked).1 ≡ false
+-- the state after one more assertion
+abbrev and_asserted : Form → State
+and_asserted form = (run (command (Symbol (codes "assert") ∷ form ∷ []) ∷ []) asked).1
+
+-- with (not (= x "a")), or with true
+structure_is_decided : in_fragment
+    (and_asserted (group (Symbol (codes "not") ∷ group
+    (Symbol (codes "=") ∷ Symbol (codes "x") ∷ Words (codes "a") ∷ []) ∷ []))) ≡ true
+structure_is_decided = refl
+
+a_truth_value_is_decided : in_fragment (and_asserted (Symbol (codes "true"))) ≡ true
+a_truth_value_is_decided = refl
+
+-- (= x x) leaves the fragment, and so does a mark
+is_not_decided : in_fragment
+    (and_asserted (group (Symbol (codes "=") ∷ Symbol (codes "x") ∷ Symbol (codes "x") ∷ []))) ≡ false
 is_not_decided = refl
+
+a_mark_is_not_decided : in_fragment
+    (and_asserted (group (Symbol (codes "str.replace") ∷ Symbol (codes "x") ∷ []))) ≡ false
+a_mark_is_not_decided = refl
 
 -- a constant that is declared as a function, twice; a function with arguments, whose name is then taken
 abbrev declare_function : List ℕ → List Form → Entry
