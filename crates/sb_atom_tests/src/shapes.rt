@@ -27,6 +27,7 @@ const SIZES: &[(&[u8], bool, bool)] = &[
     (b"xyD", false, false),
     (b"xayD", false, false),
     (b"xab.e", false, false),
+    (b"xO", false, false),
     (b"xy=P&", false, false),
     (b"i", false, false),
 ];
@@ -49,6 +50,7 @@ const SHAPES: &[(&[u8], Shape, usize)] = &[
     (b"xa#", Shape::Words(true), 2),
     (b"xy=", Shape::Words(false), 2),
     (b"ix=", Shape::Other, 2),
+    (b"xO", Shape::Other, 1),
     (b"x", Shape::Other, 0),
     (b"a", Shape::Other, 0),
 ];

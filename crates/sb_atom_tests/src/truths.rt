@@ -47,6 +47,7 @@ const MEMBERS: &[Row] = &[
     (b"i", &[b"a"], &[], None),
     (b"Px=", &[b"a"], &[], None),
     (b"xayD", &[b"a"], &[], None),
+    (b"xO", &[b"a"], &[], None),
 ];
 
 /// Connectives of Bool constants.

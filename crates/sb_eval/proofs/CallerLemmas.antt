@@ -1,10 +1,10 @@
 -- What a caller cites: words give the values of a term that asks something of one constant's word.
-use Rattle.std.proofs.Common.{◌≡◌, ℕ, Bool, true, List, sym, subst}
+use Rattle.std.proofs.Common.{◌≡◌, ℕ, Bool, true, List, [], Some, slice_get, unwrap_or, sym, subst}
 use Rattle.std.proofs.lemmas.Bool.{and_parts, false≢true}
-use Rattle.sb_meaning.specs.Terms.{Term, Terms, word, apply, no_terms, with_term}
+use Rattle.sb_meaning.specs.Terms.{Term, Terms, text, word, apply, no_terms, with_term}
 use Rattle.sb_meaning.specs.Terms as symbol
-use Rattle.sb_meaning.specs.Values.{Valuation}
-use Rattle.sb_script.specs.Brought.{is_regex, are_regexes, is_membership}
+use Rattle.sb_meaning.specs.Values.{Valuation, Text, value_in}
+use Rattle.sb_script.specs.Brought.{asked, is_regex, are_regexes, is_membership}
 use Rattle.sb_script.proofs.CallerLemmas.{IsAsking, a_membership, a_word_behind, a_word_in_front, asked_looks, membership_asks}
 use Rattle.sb_eval.specs.Given.{GivesWords, GivesValues, GivesEach}
 
@@ -35,14 +35,30 @@ mutual
   regexes_given ws bs v (with_term R Rs) h = let parts = and_parts (is_regex R) (are_regexes Rs) h in
       (regex_given ws bs v R parts.0, regexes_given ws bs v Rs parts.1)
 
+-- the word of its constant is all that matters to a term that asks something of one constant's word
+pub asked_given : (ws : List (List ℕ)) (bs : List Bool) (v : Valuation) (t : Term) (serial : ℕ) (R : Term)
+    → asked t ≡ Some (serial, R) → is_regex R ≡ true
+    → value_in v serial text ≡ Text (unwrap_or (slice_get ws serial) []) → GivesValues ws bs v t
+asked_given ws bs v t serial R asks kind gives = step (asked_looks t serial R asks)
+  where
+    step : IsAsking serial t R → GivesValues ws bs v t
+    step (a_membership is) =
+        subst (GivesValues ws bs v) (sym is) (gives, (regex_given ws bs v R kind, tt))
+    step (a_word_behind w is S) = subst (GivesValues ws bs v) (sym is) (gives, (tt, tt))
+    step (a_word_in_front w is S) = subst (GivesValues ws bs v) (sym is) (tt, (gives, tt))
+
+pub asked_value : (ws : List (List ℕ)) (bs : List Bool) (v : Valuation) (t : Term) (serial : ℕ) (R : Term)
+    → asked t ≡ Some (serial, R) → GivesValues ws bs v t
+    → value_in v serial text ≡ Text (unwrap_or (slice_get ws serial) [])
+asked_value ws bs v t serial R asks gives = step (asked_looks t serial R asks)
+  where
+    step : IsAsking serial t R → value_in v serial text ≡ Text (unwrap_or (slice_get ws serial) [])
+    step (a_membership is) = (subst (GivesValues ws bs v) is gives).0
+    step (a_word_behind w is S) = (subst (GivesValues ws bs v) is gives).0
+    step (a_word_in_front w is S) = (subst (GivesValues ws bs v) is gives).1.0
+
 -- the truths are of no matter to a membership
 pub membership_given : (ws : List (List ℕ)) (bs : List Bool) (v : Valuation) (t : Term) → is_membership t ≡ true
     → GivesWords ws v → GivesValues ws bs v t
 membership_given ws bs v t h gives =
-    membership_asks t h (λ serial R is kind. step serial R kind (asked_looks t serial R is))
-  where
-    step : (serial : ℕ) (R : Term) → is_regex R ≡ true → IsAsking serial t R → GivesValues ws bs v t
-    step serial R kind (a_membership is) =
-        subst (GivesValues ws bs v) (sym is) (gives serial, (regex_given ws bs v R kind, tt))
-    step serial R kind (a_word_behind w is S) = subst (GivesValues ws bs v) (sym is) (gives serial, (tt, tt))
-    step serial R kind (a_word_in_front w is S) = subst (GivesValues ws bs v) (sym is) (tt, (gives serial, tt))
+    membership_asks t h (λ serial R is kind. asked_given ws bs v t serial R is kind (gives serial))

@@ -1,14 +1,11 @@
--- What is decided of a term that asks something of one constant's word: by what it asks for.
-use Rattle.std.proofs.Common.{◌≡◌, ℕ, Bool, false, ◌&&◌, Option, Some, None, sym, ap, ap₂, ◌∙◌}
+-- A term that asks something of one constant's word: by what it asks for.
+use Rattle.std.proofs.Common.{◌≡◌, ℕ, Bool, false, ◌&&◌, Option, Some, None, ap, ap₂}
 use Rattle.sb_meaning.specs.Terms.{Term}
 use Rattle.sb_script.specs.Brought.{asked, is_regex, is_membership}
 use Rattle.sb_script.specs.Sizes.{is_regular}
-use Rattle.sb_script.specs.State.{asserted}
-use Rattle.sb_script.proofs.CallerLemmas.{asked_regular}
 use Rattle.sb_fragment.specs.declared.measure.Measure.{Measure}
 use Rattle.sb_fragment.specs.Measures.{IsMeasure}
 use Rattle.sb_fragment.specs.Measured.{within}
-use Rattle.sb_fragment.specs.Rules.{is_decided}
 use Rattle.sb_fragment.proofs.MeasureFacts.{regular_is}
 
 pub asked_membership : (t : Term) (serial : ℕ) (R : Term) → asked t ≡ Some (serial, R)
@@ -16,15 +13,7 @@ pub asked_membership : (t : Term) (serial : ℕ) (R : Term) → asked t ≡ Some
 asked_membership t serial R h =
     ap (λ (o : Option (ℕ × Term)). elim o as (λ _. Bool) [ Some p ↦ is_regex p.1 | None ↦ false ]) h
 
-pub asked_decided : (t : Term) (serial : ℕ) (R : Term) → asked t ≡ Some (serial, R)
-    → is_decided (asserted t) ≡ (is_regex R && is_regular R)
-asked_decided t serial R h = ap₂ ◌&&◌ (asked_membership t serial R h) (asked_regular t serial R h)
-
 -- by its measure
 pub measured_regular : (R : Term) (m : Measure) → IsMeasure R m
     → (m.is_regex && within m) ≡ (is_regex R && is_regular R)
 measured_regular R m is = ap₂ ◌&&◌ is.regex (regular_is R m is)
-
-pub measured_decided : (t : Term) (serial : ℕ) (R : Term) (m : Measure) → asked t ≡ Some (serial, R) → IsMeasure R m
-    → (m.is_regex && within m) ≡ is_decided (asserted t)
-measured_decided t serial R m h is = measured_regular R m is ∙ sym (asked_decided t serial R h)

@@ -6,6 +6,7 @@ use Rattle.sb_meaning.specs.Terms.{Sort, boolean, integer, text, reglan, Term, T
 use Rattle.sb_script.specs.Brought.{asked, is_pair, is_regex, is_structure}
 use Rattle.sb_script.specs.Fragment.{fits, each_fits, is_word_pair, is_linear_pair, sort_of_first}
 use Rattle.sb_script.specs.Sizes.{is_regular}
+use Rattle.sb_script.specs.State.{asserted}
 use Rattle.sb_script.proofs.CallerLemmas.{asked_regular}
 use Rattle.sb_fragment.specs.declared.shape.Connective.{Connective}
 use Rattle.sb_fragment.specs.declared.shape.Connective.TheVariants as connective
@@ -13,6 +14,7 @@ use Rattle.sb_fragment.specs.declared.shape.Shape.TheVariants as shape
 use Rattle.sb_fragment.specs.Memberships.{equality}
 use Rattle.sb_fragment.specs.Shapes.{IsApplied, IsComparison, IsConnected, IsShape, parts_of, truth_of, comparison_of, are_word_pairs}
 use Rattle.sb_fragment.specs.Fitting.{have_short_words}
+use Rattle.sb_fragment.specs.Rules.{is_decided}
 use Rattle.sb_fragment.proofs.AskedFacts.{asked_membership}
 use Rattle.sb_fragment.proofs.ComparedPairs.{chain_all, pairs_all_test}
 use Rattle.sb_fragment.proofs.Structured.{each_two, asked_structure, alone_structure, connected_structure, words_structure, pair_sort}
@@ -74,13 +76,17 @@ pub connected_decided : (t : Term) (c : Connective) → IsConnected t c
     → (list_all is_structure (parts_of t) && list_all fits (parts_of t)) ≡ (is_structure t && fits t)
 connected_decided t c h = sym (ap₂ ◌&&◌ (connected_structure t c h) (connected_fits t c h))
 
-pub words_decided : (t : Term) (distinct : Bool) → IsComparison t distinct text
+pub words_decided : (t : Term) (distinct : Bool) → IsShape t (shape.Words distinct)
     → (are_word_pairs distinct (parts_of t) && have_short_words distinct (parts_of t)) ≡ (is_structure t && fits t)
-words_decided t distinct h = sym (ap₂ ◌&&◌ (words_structure t distinct h) (words_fit t distinct h))
+words_decided t distinct h = sym (ap₂ ◌&&◌ (words_structure t distinct h) (words_fit t distinct h.0))
 
 pub asked_fitting : (t : Term) (serial : ℕ) (R : Term) → asked t ≡ Some (serial, R)
     → (is_regex R && is_regular R) ≡ (is_structure t && fits t)
 asked_fitting t serial R h = sym (ap₂ ◌&&◌ (asked_structure t serial R h) (asked_regular t serial R h))
+
+pub asked_decided : (t : Term) (serial : ℕ) (R : Term) → asked t ≡ Some (serial, R)
+    → is_decided (asserted t) ≡ (is_regex R && is_regular R)
+asked_decided t serial R h = sym (asked_fitting t serial R h)
 
 pub constant_decided : (t : Term) (serial : ℕ) → t ≡ constant serial boolean → true ≡ (is_structure t && fits t)
 constant_decided t serial h = rw h refl

@@ -9,7 +9,7 @@ use Rattle.sb_meaning.specs.Terms.{Sort, boolean, integer, text, reglan, Symbol,
 use Rattle.sb_meaning.specs.Terms as symbol
 use Rattle.sb_meaning.specs.Sorts.{sort_of}
 use Rattle.sb_meaning.specs.Truth.{is_chain, are_pairs}
-use Rattle.sb_script.specs.Brought.{asked, is_regex, is_membership, is_pair, is_structure, are_structure}
+use Rattle.sb_script.specs.Brought.{asked, is_regex, is_membership, is_pair, are_several, is_structure, are_structure}
 use Rattle.sb_script.specs.Fragment.{sort_of_first}
 use Rattle.sb_script.proofs.CallerLemmas.{IsAsking, a_membership, a_word_behind, a_word_in_front, asked_looks, membership_asks}
 use Rattle.sb_term.specs.Numbered.{term_at, terms_at}
@@ -45,7 +45,7 @@ abbrev by_sort : Sort → Bool → List Term → Bool → Bool
 by_sort k distinct ts each_is = elim k [
   | boolean ↦ each_is
   | integer ↦ false
-  | text ↦ each_two distinct is_pair ts
+  | text ↦ are_several ts && each_two distinct is_pair ts
   | reglan ↦ false
 ]
 
@@ -83,10 +83,23 @@ connected_structure t connective.Xor h = rw h.is (structure_of_all h.terms)
 connected_structure t connective.Ite h = rw h.is (structure_of_all h.terms)
 connected_structure t (connective.Compare distinct) h = compared_structure t distinct h.0
 
-pub words_structure : (t : Term) (distinct : Bool) → IsComparison t distinct text
+several : (ts : List Term) → 2 ≤ length ts → are_several ts ≡ true
+several [] h = absurd (omega (arith, h))
+several (t ∷ []) h = absurd (omega (arith, h))
+several (t ∷ u ∷ ts) h = refl
+
+words_by : (distinct : Bool) (terms : Terms) → sort_of_first (terms_in terms) ≡ text → 2 ≤ length (terms_in terms)
+    → is_structure (apply (comparison_of distinct) terms) ≡ are_word_pairs distinct (terms_in terms)
+words_by distinct terms first more =
+    structure_by distinct terms text first
+    ∙ ap (λ b. b && each_two distinct is_pair (terms_in terms)) (several (terms_in terms) more)
+    ∙ each_two_all distinct (terms_in terms)
+
+pub words_structure : (t : Term) (distinct : Bool) → IsShape t (shape.Words distinct)
     → is_structure t ≡ are_word_pairs distinct (parts_of t)
-words_structure t true h = rw h.is (structure_by true h.terms text h.first ∙ each_two_all true (terms_in h.terms))
-words_structure t false h = rw h.is (structure_by false h.terms text h.first ∙ each_two_all false (terms_in h.terms))
+words_structure t distinct h =
+    let c = h.0 in
+    rw c.is (words_by distinct c.terms c.first (rw c.is at h.1))
 
 -- Comparisons of terms by number.
 
@@ -146,9 +159,30 @@ some_compared distinct ts is first le e sort more =
 
 pub words_compared : (distinct : Bool) (ts : List Term) (is : List ℕ) (first : ℕ) → 1 ≤ length is
     → first ≡ get_or is 0 first → sort_of (term_at ts first) ≡ text
+    → false ≡ (length (take (length is - 1) (drop 1 is)) == 0)
     → IsShape (apply (comparison_of distinct) (terms_of (terms_at ts is))) (shape.Words distinct)
-words_compared distinct ts is first le e sort =
-    first_sort distinct text (terms_at ts is) (numbered_first ts is first text le e sort)
+words_compared distinct ts is first le e sort more =
+    let l = length_at ts is in
+    let m = two_up is le more in
+    (first_sort distinct text (terms_at ts is) (numbered_first ts is first text le e sort), omega (arith, l, m))
+
+few_alone : (ts : List Term) → length ts < 2 → are_several ts ≡ false
+few_alone [] h = refl
+few_alone (t ∷ []) h = refl
+few_alone (t ∷ u ∷ ts) h = absurd (omega (arith, h))
+
+-- one String alone
+pub word_alone : (distinct : Bool) (ts : List Term) (is : List ℕ) (first : ℕ) → 1 ≤ length is
+    → first ≡ get_or is 0 first → sort_of (term_at ts first) ≡ text
+    → true ≡ (length (take (length is - 1) (drop 1 is)) == 0)
+    → is_structure (apply (comparison_of distinct) (terms_of (terms_at ts is))) ≡ false
+word_alone distinct ts is first le e sort few =
+    let l = length_at ts is in
+    let m = one_up is le few in
+    let us = terms_in (terms_of (terms_at ts is)) in
+    structure_by distinct (terms_of (terms_at ts is)) text
+    (ap sort_of_first (terms_in_of (terms_at ts is)) ∙ numbered_first ts is first text le e sort)
+    ∙ ap (λ b. b && each_two distinct is_pair us) (few_alone us (omega (arith, l, m)))
 
 pub others_compared : (distinct : Bool) (ts : List Term) (is : List ℕ) (first : ℕ) (k : Sort) → 1 ≤ length is
     → first ≡ get_or is 0 first → sort_of (term_at ts first) ≡ k

@@ -39,6 +39,10 @@ two_apart = refl
 three_apart : is_fit (apply symbol.core_distinct (terms_of (x ∷ a ∷ y ∷ []))) ≡ false
 three_apart = refl
 
+-- one String alone is not compared
+one_alone : is_fit (apply symbol.core_equal (terms_of (x ∷ []))) ≡ false
+one_alone = refl
+
 -- two constants fit, and are no structure so far
 two_constants : is_fit (two symbol.core_or p (two symbol.core_equal x y)) ≡ false
 two_constants = refl

@@ -3,7 +3,7 @@ use Rattle.std.specs.Prelude.{◌≡◌, ℕ, ◌<◌, Bool, true, false, not, �
 use Rattle.std.specs.List.{list_all, list_any}
 use Rattle.sb_meaning.specs.Terms.{Term, apply, no_terms, with_term}
 use Rattle.sb_meaning.specs.Terms as symbol
-use Rattle.sb_script.specs.Brought.{is_membership}
+use Rattle.sb_script.specs.Brought.{is_structure}
 use Rattle.sb_script.specs.Fragment.{fits, in_fragment, is_inside, is_unmarked}
 use Rattle.sb_script.specs.Pieces.{is_ground}
 use Rattle.sb_script.specs.State.{State, Assertion, asserted, a_mark, live}
@@ -21,7 +21,7 @@ assertion_in ts a = elim a.term [ Some id ↦ asserted (term_at ts id) | None �
 abbrev pub HasNumberBelow : ℕ → code.Assertion → Type 0
 HasNumberBelow n a = IfSome a.term (λ id. id < n)
 
--- the assertion is of a form that is decided, within the limits on sizes
+-- the assertion is Boolean structure, within the limits on sizes
 abbrev pub is_decided : Assertion → Bool
 is_decided (asserted t) = is_inside (asserted t) && fits t
 is_decided a_mark = false
@@ -39,8 +39,8 @@ is_over_constants _ = false
 abbrev pub is_broken : Reason → Assertion → Bool
 is_broken Marked a = not (is_unmarked a)
 is_broken NotGround (asserted t) = is_over_constants t
-is_broken NotBrought (asserted t) = not (is_membership t) && not (is_over_constants t)
-is_broken TooLarge (asserted t) = is_membership t && not (fits t)
+is_broken NotBrought (asserted t) = not (is_structure t) && not (is_over_constants t)
+is_broken TooLarge (asserted t) = is_structure t && not (fits t)
 is_broken _ a_mark = false
 
 -- the rule that an assertion breaks, and none where it is decided

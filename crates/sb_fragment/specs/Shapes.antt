@@ -52,7 +52,7 @@ IsShape t (shape.Constant serial) = t ≡ constant serial.0 boolean
 IsShape t (shape.Always truth) = IsApplied t (truth_of truth)
 IsShape t shape.Alone = (distinct : Bool) × IsComparison t distinct boolean × (length (parts_of t) < 2)
 IsShape t (shape.Connected c) = IsConnected t c
-IsShape t (shape.Words distinct) = IsComparison t distinct text
+IsShape t (shape.Words distinct) = IsComparison t distinct text × (2 ≤ length (parts_of t))
 IsShape t shape.Other = is_structure t ≡ false
 
 -- the equality of the two terms asks for the word of this literal

@@ -3,8 +3,8 @@
 //!
 //! A rule asks of a term what is known of it by its arguments, so [`Measures`] keep that by the term's number: a term
 //! that is shared is measured once, and there is no recursion on the tree of a regular expression. The layers above ask
-//! [`fragment`] of all live assertions, and [`Measures::fits`] of one. They take an assertion about one constant apart by
-//! [`membership`], and Boolean structure over such assertions by [`shape_of`].
+//! [`fragment`] of all live assertions, and [`Measures::fits_structure`] of one. They take an assertion about one
+//! constant apart by [`membership`], and Boolean structure over such assertions by [`shape_of`].
 #![tactic(auto)]
 
 mod fitting;

@@ -1,18 +1,17 @@
 //! The measures of terms by number.
 
-ghost use Rattle.std.specs.Prelude.{◌≡◌, ◌<◌, ◌&&◌, length, [], IfOk};
+ghost use Rattle.std.specs.Prelude.{◌≡◌, ◌<◌, length, [], IfOk};
 ghost use Rattle.sb_script.specs.Brought.{is_structure};
-ghost use Rattle.sb_script.specs.Fragment.{fits, is_inside};
 ghost use Rattle.sb_script.specs.Sizes.{is_regular};
 ghost use Rattle.sb_script.specs.State.{asserted};
 ghost use Rattle.sb_term.specs.Numbered.{term_at};
 ghost use Rattle.sb_problem.specs.Patterns.{number_of, pattern_in};
 ghost use Rattle.sb_fragment.specs.Measures.{IsMeasure, AreMeasures};
-ghost use Rattle.sb_fragment.specs.Rules as rules;
+ghost use Rattle.sb_fragment.specs.Rules.{is_decided};
 
 use crate::fitting::structure_fits;
-use crate::measure::{Measure, is_decided, is_within, literal_of, measure_of};
-use crate::memberships::membership;
+use crate::measure::{Measure, is_within, literal_of, measure_of};
+use crate::structure::is_structure;
 use sb_problem::Pattern;
 use sb_term::{Table, TermId};
 use std::alloc::{AllocError, Global};
@@ -99,44 +98,26 @@ impl Measures {
         Ok(is_within(measure))
     }
 
-    /// Whether a term is the membership of one String constant in a regular expression over literals, or its equality
-    /// with a literal, whatever its size. Its cost and its error are those of [`Measures::measure`].
-    pub(crate) fn is_brought(&mut self, table: &Table, id: TermId) -> Result<bool, AllocError>
+    /// Whether a term is Boolean structure, whatever the sizes are. Its cost and its error are those of
+    /// [`is_structure`](crate::is_structure).
+    pub(crate) fn is_structure(&mut self, table: &Table, id: TermId) -> Result<bool, AllocError>
         requires number { id < length table.now }
         requires right { AreMeasures table.now self.old }
-        ensures ok { IfOk result (λ brought. brought ≡ is_inside (asserted (term_at table.now id))) }
+        ensures ok { IfOk result (λ structure. structure ≡ is_structure (term_at table.now id)) }
         ensures right { AreMeasures table.now self.new }
     {
-        match membership(table, id) {
-            Some((_, pattern)) => Ok(self.pattern(table, pattern)?.is_regex),
-            None => Ok(false),
-        }
+        let alloc = *self.measures.allocator();
+        is_structure(alloc, self, table, id)
     }
 
-    /// Whether a term is decided as an assertion: so far, whether it is the membership of one String constant in a
-    /// regular expression over literals, or its equality with a literal, within the limits on sizes. Its cost and its
-    /// error are those of [`Measures::measure`].
-    pub fn fits(&mut self, table: &Table, id: TermId) -> Result<bool, AllocError>
-        requires number { id < length table.now }
-        requires right { AreMeasures table.now self.old }
-        ensures ok { IfOk result (λ fits. fits ≡ rules.is_decided (asserted (term_at table.now id))) }
-        ensures right { AreMeasures table.now self.new }
-    {
-        match membership(table, id) {
-            Some((_, pattern)) => {
-                let measure = self.pattern(table, pattern)?;
-                Ok(is_decided(measure))
-            }
-            None => Ok(false),
-        }
-    }
-    /// Whether a term is Boolean structure over such assertions and over Bool constants, within the limits on sizes. Of
-    /// more than two Strings that are to be distinct none are. Linear in the term's tree, but for measures that were not
-    /// taken yet. `AllocError` only for want of memory.
+    /// Whether a term is decided as an assertion: whether it is Boolean structure over memberships of one String constant
+    /// in a regular expression over literals, over equalities of one with a literal, and over Bool constants, within the
+    /// limits on sizes. Of more than two Strings that are to be distinct none are. Linear in the term's tree, but for
+    /// measures that were not taken yet. `AllocError` only for want of memory.
     pub fn fits_structure(&mut self, table: &Table, id: TermId) -> Result<bool, AllocError>
         requires number { id < length table.now }
         requires right { AreMeasures table.now self.old }
-        ensures ok { IfOk result (λ fit. fit ≡ (is_structure (term_at table.now id) && fits (term_at table.now id))) }
+        ensures ok { IfOk result (λ fit. fit ≡ is_decided (asserted (term_at table.now id))) }
         ensures right { AreMeasures table.now self.new }
     {
         let alloc = *self.measures.allocator();

@@ -16,17 +16,16 @@ use std::alloc::AllocError;
 pub enum Reason {
     /// An assertion was left out.
     Marked,
-    /// A constant stands in the regular expression of a membership.
+    /// The assertion is a membership in whose regular expression a constant stands.
     NotGround,
-    /// The assertion is of another form than those that are decided so far: the membership of one String constant in a
-    /// regular expression over literals, and the equality of one with a literal.
+    /// The assertion is of another form than those that are decided so far: Boolean structure over memberships of one
+    /// String constant in a regular expression over literals, equalities of one with a literal, and Bool constants.
     NotBrought,
-    /// The assertion is of that form, but a word or the regular expression is past the limits on sizes.
+    /// The assertion is of that form, but a word or a regular expression in it is past the limits on sizes.
     TooLarge,
 }
 
-/// What live assertions that are inside the fragment ask: so far nothing but that each of them is a membership of one
-/// constant, or its equality with a literal.
+/// What live assertions that are inside the fragment ask: so far nothing but that each of them is Boolean structure.
 #[derive(Clone, Copy, Debug, PartialEq, Eq)]
 pub struct Problem;
 
@@ -46,7 +45,7 @@ fn rule_of(measures: &mut Measures, table: &Table, id: TermId) -> Result<Reason,
     ensures ok { IfOk result (λ reason. is_broken reason (asserted (term_at table.now id)) ≡ true) }
     ensures right { AreMeasures table.now measures.new }
 {
-    if measures.is_brought(table, id)? {
+    if measures.is_structure(table, id)? {
         return Ok(Reason::TooLarge);
     }
     let Some((_, regex)) = term_and_regex(table, id) else {
@@ -73,7 +72,7 @@ fn broken(
     let Some(id) = assertion.term else {
         return Ok(Some(Reason::Marked));
     };
-    if measures.fits(table, id)? {
+    if measures.fits_structure(table, id)? {
         Ok(None)
     } else {
         Ok(Some(rule_of(measures, table, id)?))
@@ -81,8 +80,8 @@ fn broken(
 }
 
 /// Whether live assertions are inside the fragment, and where not, which rule the first of them outside breaks. Linear
-/// in the assertions up to that one, but that terms are measured which were not yet. `AllocError` only for want of
-/// memory.
+/// in the trees of the assertions up to that one, but that terms are measured which were not yet. `AllocError` only for
+/// want of memory.
 pub fn fragment(
     measures: &mut Measures,
     table: &Table,

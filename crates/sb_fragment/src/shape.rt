@@ -36,8 +36,8 @@ pub enum Shape {
     Alone,
     /// A connective of its arguments. What is compared are two terms or more, of which the first is of sort Bool.
     Connected(Connective),
-    /// Its arguments, of which the first is of sort String, are all equal, or where they are to be distinct, each two
-    /// differ.
+    /// Its arguments, two or more of which the first is of sort String, are all equal, or where they are to be distinct,
+    /// each two differ.
     Words(bool),
     /// None of these.
     Other,
@@ -88,7 +88,8 @@ fn applied(table: &Table, symbol: Symbol, arguments: &[TermId]) -> Shape
     }
 }
 
-/// The shape of a comparison, by the sort of what is compared. One term alone is not compared, and none neither.
+/// The shape of a comparison, by the sort of what is compared. One term alone is not compared, and none neither; where
+/// it is no Bool, that is no shape.
 fn comparison(table: &Table, distinct: bool, arguments: &[TermId]) -> Shape
     requires { AllNumbers table.now arguments.now }
     ensures { IsShape (apply (comparison_of distinct) (terms_of (terms_at table.now arguments.now))) result }
@@ -99,6 +100,7 @@ fn comparison(table: &Table, distinct: bool, arguments: &[TermId]) -> Shape
     match table.sort(*first) {
         Sort::Bool if others.is_empty() => Shape::Alone,
         Sort::Bool => Shape::Connected(Connective::Compare(distinct)),
+        Sort::String if others.is_empty() => Shape::Other,
         Sort::String => Shape::Words(distinct),
         Sort::Int | Sort::RegLan => Shape::Other,
     }

@@ -76,7 +76,7 @@ structure-returns-in-Words-clause-ok m c =
     (λ truth. IsTruthOf c.args.values.now c.args.truths.now t truth) c.words.result
     (λ truth h v gives. h v c.args.truths.now (compared_given c.args.values.now c.args.truths.now v c.in-Words.distinct
     (parts_of t) (parts_given c.args.values.now c.args.truths.now v t gives))
-    ∙ words_hold t c.in-Words.distinct shape v) c.words.ensures.ok
+    ∙ words_hold t c.in-Words.distinct shape.0 v) c.words.ensures.ok
 
 pub parts-loop-argument-init : goal.parts-loop-argument-init
 parts-loop-argument-init m c =

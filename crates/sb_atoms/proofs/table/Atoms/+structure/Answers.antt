@@ -151,7 +151,7 @@ structure-returns-in-Words-clause-ok m c =
     c.words.result
     (λ found h. finds_other c.args.adds c.words.new.arena c.words.new.self
     (λ atoms. words_literal atoms c.in-Words.distinct (parts_of t)) (λ atoms. translation atoms t) found
-    (λ atoms. sym (words_translated t c.in-Words.distinct shape
+    (λ atoms. sym (words_translated t c.in-Words.distinct shape.0
     (sym (words_structure t c.in-Words.distinct shape) ∙ c.requires.structure) atoms)) h) c.words.ensures.ok
 
 pub connection-connected-requires : goal.connection-connected-requires
