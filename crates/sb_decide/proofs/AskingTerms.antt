@@ -4,25 +4,21 @@ use Rattle.std.proofs.lemmas.Bool.{and_parts, or_parts, eqb-true, false≢true}
 use Rattle.std.specs.List.{list_all}
 use Rattle.sb_meaning.specs.Terms.{Sort, Term, text, constant}
 use Rattle.sb_term.specs.Serials.{has_serials_below}
-use Rattle.sb_script.specs.Brought.{asked, is_regex, is_membership}
+use Rattle.sb_script.specs.Brought.{asked, is_membership}
 use Rattle.sb_script.specs.Fragment.{fits}
 use Rattle.sb_script.specs.Models.{occurs, is_about, about, is_plain_term, is_plain_assertion}
 use Rattle.sb_script.specs.State.{Assertion, asserted, a_mark, terms_in}
 use Rattle.sb_script.proofs.CallerLemmas.{IsAsking, a_membership, a_word_behind, a_word_in_front, asked_looks, asked_occurs, membership_asks}
-use Rattle.sb_fragment.specs.Rules.{is_decided}
 use Rattle.sb_stack.specs.Speaking.{speaks_of}
 use Rattle.sb_meaning.specs.Values.{Text}
 use Rattle.sb_meaning.specs.Truth.{all_hold}
 use Rattle.sb_decide.specs.Deciding.{asking, words_asked}
-use Rattle.sb_decide.specs.Places.{asks_of}
+use Rattle.sb_decide.specs.Places.{asks_of, is_member}
 
 -- it asks something of this constant alone
 pub asks_same : (n : ℕ) (t : Term) (serial : ℕ) (R : Term) → asked t ≡ Some (serial, R) → asks_of n t ≡ (n == serial)
 asks_same n t serial R h =
     ap (λ (o : Option (ℕ × Term)). elim o as (λ _. Bool) [ Some p ↦ n == p.0 | None ↦ false ]) h
-
-pub asks_nothing : (t : Term) → asked t ≡ None → is_membership t ≡ false
-asks_nothing t h = ap (λ (o : Option (ℕ × Term)). elim o as (λ _. Bool) [ Some p ↦ is_regex p.1 | None ↦ false ]) h
 
 -- it speaks of the constant
 pub asking_speaks : (ns : List (ℕ × Sort)) (t : Term) (serial : ℕ) (R : Term) → asked t ≡ Some (serial, R)
@@ -96,12 +92,12 @@ same_first : (b d : Bool) (t : Term) (ts us : List Term) → b ≡ d → ts ≡ 
     → (if b then t ∷ ts else ts) ≡ (if d then t ∷ us else us)
 same_first b d t ts us e rest = rw (e, rest) refl
 
-pub about_is : (n : ℕ) (all : List Assertion) → list_all is_decided all ≡ true
+pub about_is : (n : ℕ) (all : List Assertion) → list_all is_member all ≡ true
     → list_all is_plain_assertion all ≡ true → about n (terms_in all) ≡ asking n (terms_in all)
 about_is n [] h plain = refl
 about_is n (a_mark ∷ all) h plain = absurd (false≢true h)
 about_is n (asserted t ∷ all) h plain =
-    let decided = and_parts (is_decided (asserted t)) (list_all is_decided all) h in
+    let decided = and_parts (is_member (asserted t)) (list_all is_member all) h in
     let parts = and_parts (is_plain_term t) (list_all is_plain_assertion all) plain in
     same_first (is_about n t) (asks_of n t) t (about n (terms_in all)) (asking n (terms_in all))
     (one_about n t (and_parts (is_membership t) (fits t) decided.0).0 parts.0) (about_is n all decided.1 parts.1)

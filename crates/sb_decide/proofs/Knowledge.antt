@@ -14,6 +14,7 @@ use Rattle.sb_regex.specs.Numbered.{Extends}
 use Rattle.sb_regex.proofs.CallerLemmas.{extends_same, names_below}
 use Rattle.sb_graph.specs.Findings.{Findings, IsGraph}
 use Rattle.sb_graph.specs.Laws.{GraphStays}
+use Rattle.sb_plain.specs.Memory.{Memory, IsRight, RightStays}
 use Rattle.sb_problem.specs.declared.normals.Known.{Known}
 use Rattle.sb_problem.specs.Known.{AreNormals}
 use Rattle.sb_problem.specs.Normals.{IsRegexOf}
@@ -26,25 +27,25 @@ use Rattle.sb_term.specs.Numbered as table
 use Rattle.sb_term.specs.Serials.{has_serials_below, all_below}
 use Rattle.sb_term.proofs.CallerLemmas as table_facts
 use Rattle.sb_script.specs.State.{Assertion, asserted, a_mark}
-use Rattle.sb_script.specs.Fragment.{fits}
-use Rattle.sb_script.specs.Brought.{asked, is_regex}
+use Rattle.sb_script.specs.Brought.{asked}
 use Rattle.sb_script.specs.Sizes.{is_regular}
 use Rattle.sb_fragment.specs.declared.measure.Measure.{Measure}
 use Rattle.sb_fragment.specs.Measures.{AreMeasures}
 use Rattle.sb_fragment.specs.Rules.{is_decided}
-use Rattle.sb_fragment.proofs.CallerLemmas.{measures_kept, no_measures, asked_decided}
+use Rattle.sb_fragment.proofs.CallerLemmas.{measures_kept, no_measures}
 use Rattle.sb_stack.specs.Stacked.{Stacked, assertion_in, assertion_of, HasNumberBelow, IsLonger}
 use Rattle.sb_decide.specs.declared.conjuncts.Member.{Member}
 use Rattle.sb_decide.specs.declared.decide.Decider.{Decider}
 use Rattle.sb_decide.specs.Conjoined.{Conjoined, conjoined_at, without_last, OthersSettled, HasRoom, IsChangedAt}
 use Rattle.sb_decide.specs.Deciding.{in_each, word_at}
 use Rattle.sb_decide.specs.Knowing.{IsTaken, AreKept, Knows, places_of}
-use Rattle.sb_decide.specs.Members.{IsMember, AreMembers, AreRooted, IsEmptyAt, ids_in, places_in, words_in}
+use Rattle.sb_decide.specs.Members.{IsMember, AreMembers, AreInside, AreRooted, IsEmptyAt, ids_in, places_in, words_in}
 use Rattle.sb_decide.specs.Taking.{StayKept, other_dead}
-use Rattle.sb_decide.proofs.AskingTerms.{asks_nothing, asking_below}
+use Rattle.sb_decide.proofs.AskingTerms.{asking_below}
 use Rattle.sb_decide.proofs.Conjunctions.{same_least, least_of_all}
 use Rattle.sb_decide.proofs.Constants.{other_than, places_put, places_back}
 use Rattle.sb_decide.proofs.MemberFacts.{members_grown, members_told, members_longer, members_left, members_pushed, members_popped, ids_other, words_grown, words_same, empty_grown, empty_pushed, empty_popped}
+use Rattle.sb_decide.proofs.InsideFacts.{inside_told, inside_longer, inside_left}
 use Rattle.sb_decide.proofs.RootFacts.{rooted_grown, rooted_pushed, rooted_popped}
 
 -- of a constant, if there is one
@@ -60,13 +61,15 @@ dead_kept old new ms dead e known h = some_more (IsEmptyAt old ms) (IsEmptyAt ne
     (λ n. empty_grown old new ms n e known) dead h
 
 -- the arena grows, and with it what is known of terms
-pub taken_grown : GraphStays → (kept : Decider) (rs : List Regex) (ks : List Known) (ms : List Measure)
+pub taken_grown : GraphStays → RightStays → (kept : Decider) (rs : List Regex) (ks : List Known) (ms : List Measure)
     (ts : List Term) (xs : List code.Assertion) → Extends kept.arena rs → AreNormals ts rs ks → AreMeasures ts ms →
     IsTaken kept ts xs → IsTaken (record kept { arena = rs; normals = ks; measures = ms }) ts xs
-taken_grown stays kept rs ks ms ts xs e normals measures t = record {
+taken_grown stays right kept rs ks ms ts xs e normals measures t = record {
   graph = stays kept.arena rs kept.graph e t.graph;
   normals = normals;
   measures = measures;
+  plain = right kept.arena rs kept.plain e t.plain;
+  inside = t.inside;
   members = members_grown kept.arena rs ts kept.members.items xs e t.members;
   rooted = rooted_grown kept.arena rs kept.members.items kept.roots.items e t.rooted;
   within = t.within;
@@ -83,6 +86,8 @@ taken_measured kept ms ts xs measures t = record {
   graph = t.graph;
   normals = t.normals;
   measures = measures;
+  plain = t.plain;
+  inside = t.inside;
   members = t.members;
   rooted = t.rooted;
   within = t.within;
@@ -100,6 +105,8 @@ taken_roomy kept constants count ts xs room l t = record {
   graph = t.graph;
   normals = t.normals;
   measures = t.measures;
+  plain = t.plain;
+  inside = t.inside;
   members = t.members;
   rooted = t.rooted;
   within = λ k d m. let low = t.within k d m in omega (arith, room.long, l, low);
@@ -158,7 +165,7 @@ stay_put old new ts xs m places e members p t words k = (
 )
 
 -- one more membership is taken in
-pub taken_more : GraphStays → (kept new : Decider) (ts : List Term) (xs : List code.Assertion)
+pub taken_more : GraphStays → RightStays → (kept new : Decider) (ts : List Term) (xs : List code.Assertion)
     (x : code.Assertion) (m : Member) → IsTaken kept ts xs → length kept.members.items < length xs →
     x ≡ get_or xs (length kept.members.items) x → IsMember new.arena ts m x →
     m.serial.0 < length kept.constants.items →
@@ -168,12 +175,14 @@ pub taken_more : GraphStays → (kept new : Decider) (ts : List Term) (xs : List
     (places_of kept m.serial.0 ++ length kept.members.items ∷ []) →
     OthersSettled new.changed.items new.constants.items →
     All (λ other. other.0 < length kept.constants.items) new.changed.items → new.graph ≡ kept.graph →
-    new.dead ≡ kept.dead → IsTaken new ts xs
-taken_more stays kept new ts xs x m t low is member within e normals measures members roots put settled listed graph
-    dead = record {
+    new.plain ≡ kept.plain → new.inside ≡ kept.inside → new.dead ≡ kept.dead → IsTaken new ts xs
+taken_more stays right kept new ts xs x m t low is member within e normals measures members roots put settled listed
+    graph plain inside dead = record {
       graph = rw graph (stays kept.arena new.arena kept.graph e t.graph);
       normals = normals;
       measures = measures;
+      plain = rw plain (right kept.arena new.arena kept.plain e t.plain);
+      inside = rw inside t.inside;
       members = rw members (members_pushed new.arena ts kept.members.items xs m x low is member
           (members_grown kept.arena new.arena ts kept.members.items xs e t.members));
       rooted = rw (members, roots) (rooted_pushed new.arena kept.members.items m kept.roots.items
@@ -207,35 +216,38 @@ pub knows_back : (kept new : Decider) (m : Member) (ms : List Member) (stack : S
     → kept.members.items ≡ ms ++ m ∷ []
     → new.members.items ≡ ms → new.roots.items ≡ take (length ms) kept.roots.items
     → new.dead ≡ other_dead kept.dead m.serial.0 → new.arena ≡ kept.arena → new.graph ≡ kept.graph
-    → new.normals ≡ kept.normals → new.measures ≡ kept.measures
-    → IsChangedAt kept.constants.items new.constants.items m.serial.0
+    → new.normals ≡ kept.normals → new.measures ≡ kept.measures → new.plain ≡ kept.plain
+    → new.inside ≡ kept.inside → IsChangedAt kept.constants.items new.constants.items m.serial.0
     (without_last (conjoined_at kept.constants.items m.serial.0).places)
     → (OthersSettled kept.changed.items kept.constants.items → OthersSettled new.changed.items new.constants.items)
     → (All (λ other. other.0 < length kept.constants.items) kept.changed.items
     → All (λ other. other.0 < length kept.constants.items) new.changed.items)
     → Knows kept stack → Knows new stack
-knows_back kept new m ms stack was members roots dead arena graph normals measures put settled listed k = record {
-  taken = record {
-    graph = rw (arena, graph) t.graph;
-    normals = rw (arena, normals) t.normals;
-    measures = rw measures t.measures;
-    members = rw (arena, members)
-        (members_popped kept.arena stack.table ms stack.assertions m (rw was at t.members));
-    rooted = rw (arena, members, roots) (rooted_popped kept.arena ms m kept.roots.items (rw was at t.rooted));
-    within = rw (members, put.same_length) (λ i d l.
-        subst (λ x. x.serial.0 < length kept.constants.items) (get_or_append_left ms (m ∷ []) d i l)
-        (within i d (omega (arith, l, length-append ms (m ∷ [])))));
-    places = λ n. places_back kept.constants.items new.constants.items ms m n places put
-        ∙ ap (places_in 0 n) (sym members);
-    settled = settled t.settled;
-    listed = rw put.same_length (listed t.listed);
-    dead = rw (dead, arena, members) (dead_back kept.arena ms m kept.dead (rw was at t.dead));
-  };
-  words = rw (arena, members)
-      (kept_changed kept.arena (ms ++ m ∷ []) ms kept.constants.items new.constants.items m.serial.0 _ stack.words
-      put (λ n other. sym (ids_other ms m n other)) (rw was at k.words));
-  declared = omega (arith, k.declared, put.same_length);
-}
+knows_back kept new m ms stack was members roots dead arena graph normals measures plain inside put settled listed k
+    = record {
+      taken = record {
+        graph = rw (arena, graph) t.graph;
+        normals = rw (arena, normals) t.normals;
+        measures = rw measures t.measures;
+        plain = rw (arena, plain) t.plain;
+        inside = rw inside t.inside;
+        members = rw (arena, members)
+            (members_popped kept.arena stack.table ms stack.assertions m (rw was at t.members));
+        rooted = rw (arena, members, roots) (rooted_popped kept.arena ms m kept.roots.items (rw was at t.rooted));
+        within = rw (members, put.same_length) (λ i d l.
+            subst (λ x. x.serial.0 < length kept.constants.items) (get_or_append_left ms (m ∷ []) d i l)
+            (within i d (omega (arith, l, length-append ms (m ∷ [])))));
+        places = λ n. places_back kept.constants.items new.constants.items ms m n places put
+            ∙ ap (places_in 0 n) (sym members);
+        settled = settled t.settled;
+        listed = rw put.same_length (listed t.listed);
+        dead = rw (dead, arena, members) (dead_back kept.arena ms m kept.dead (rw was at t.dead));
+      };
+      words = rw (arena, members)
+          (kept_changed kept.arena (ms ++ m ∷ []) ms kept.constants.items new.constants.items m.serial.0 _ stack.words
+          put (λ n other. sym (ids_other ms m n other)) (rw was at k.words));
+      declared = omega (arith, k.declared, put.same_length);
+    }
   where
     t : IsTaken kept stack.table stack.assertions
     t = k.taken
@@ -267,44 +279,7 @@ one_outside ts (y ∷ xs) (suc i) x low is h =
     and_false true = refl
     and_false false = refl
 
--- the assertion is a mark
-pub mark_outside : (ts : List Term) (xs : List code.Assertion) (i : ℕ) (x : code.Assertion) → i < length xs
-    → x ≡ get_or xs i x → x.term ≡ None → list_all is_decided (map (assertion_in ts) xs) ≡ false
-mark_outside ts xs i x low is none =
-    one_outside ts xs i x low is (ap (λ o. is_decided (assertion_of ts o)) none)
-
--- the assertion asks nothing of one constant's word alone
-pub other_outside : (ts : List Term) (xs : List code.Assertion) (i id : ℕ) (x : code.Assertion) → i < length xs
-    → x ≡ get_or xs i x → x.term ≡ Some id → asked (term_at ts id) ≡ None →
-    list_all is_decided (map (assertion_in ts) xs) ≡ false
-other_outside ts xs i id x low is there none =
-    one_outside ts xs i x low is (ap (λ o. is_decided (assertion_of ts o)) there
-    ∙ ap (λ b. b && fits (term_at ts id)) (asks_nothing (term_at ts id) none))
-
-decided_of : (ts : List Term) (x : code.Assertion) (id serial : ℕ) (R : Term) → x.term ≡ Some id
-    → asked (term_at ts id) ≡ Some (serial, R) → is_decided (assertion_in ts x) ≡ (is_regex R && is_regular R)
-decided_of ts x id serial R there asks =
-    ap (λ o. is_decided (assertion_of ts o)) there ∙ asked_decided (term_at ts id) serial R asks
-
--- the regular expression is no regular one within the limits
-pub size_outside : (ts : List Term) (xs : List code.Assertion) (i id serial : ℕ) (R : Term) (x : code.Assertion)
-    → i < length xs → x ≡ get_or xs i x → x.term ≡ Some id → asked (term_at ts id) ≡ Some (serial, R) →
-    is_regular R ≡ false → list_all is_decided (map (assertion_in ts) xs) ≡ false
-size_outside ts xs i id serial R x low is there member none =
-    one_outside ts xs i x low is (decided_of ts x id serial R there member
-    ∙ last_fails (is_regex R) (is_regular R) none)
-  where
-    last_fails : (b d : Bool) → d ≡ false → (b && d) ≡ false
-    last_fails true d h = h
-    last_fails false d h = refl
-
--- the regular expression is none over literals
-pub regex_outside : (ts : List Term) (xs : List code.Assertion) (i id serial : ℕ) (R : Term) (x : code.Assertion)
-    → i < length xs → x ≡ get_or xs i x → x.term ≡ Some id → asked (term_at ts id) ≡ Some (serial, R) →
-    is_regex R ≡ false → list_all is_decided (map (assertion_in ts) xs) ≡ false
-regex_outside ts xs i id serial R x low is there member none =
-    one_outside ts xs i x low is (decided_of ts x id serial R there member ∙ ap (λ b. b && is_regular R) none)
-
+-- the next assertion is a membership
 pub is_member : (rs : List Regex) (ts : List Term) (xs : List code.Assertion) (i : ℕ) (x : code.Assertion)
     (m : Member) (id : ℕ) (R : Term) → All (HasNumberBelow (length ts)) xs → i < length xs → x ≡ get_or xs i x →
     x.term ≡ Some id → asked (term_at ts id) ≡ Some (m.serial.0, R) → is_regular R ≡ true →
@@ -345,9 +320,10 @@ serial_within n ts xs i x id serial R h numbers l is there asks =
 -- nothing is known yet
 pub knows_none : (kept : Decider) (stack : Stacked) → length kept.members.items ≡ 0 → length kept.roots.items ≡ 0 →
     length kept.constants.items ≡ 0
-    → length kept.changed.items ≡ 0 → kept.dead ≡ None → IsGraph kept.arena kept.graph →
-    AreNormals stack.table kept.arena kept.normals → kept.measures ≡ [] → stack.words ≡ [] → Knows kept stack
-knows_none kept stack members roots constants changed dead graph normals measures words =
+    → length kept.changed.items ≡ 0 → kept.dead ≡ None → kept.inside ≡ 0 → IsGraph kept.arena kept.graph →
+    AreNormals stack.table kept.arena kept.normals → kept.measures ≡ [] → IsRight kept.arena kept.plain →
+    stack.words ≡ [] → Knows kept stack
+knows_none kept stack members roots constants changed dead inside graph normals measures plain words =
     let none : kept.constants.items ≡ [] = nil_from_length kept.constants.items constants in
     let nothing : kept.members.items ≡ [] = nil_from_length kept.members.items members in
     record {
@@ -355,6 +331,8 @@ knows_none kept stack members roots constants changed dead graph normals measure
         graph = graph;
         normals = normals;
         measures = rw measures (no_measures stack.table);
+        plain = plain;
+        inside = rw inside tt;
         members = rw nothing tt;
         rooted = record {
           numbers = rw nothing (All-nil (λ (m : Member). m.regex < length kept.arena));
@@ -378,13 +356,16 @@ knows_none kept stack members roots constants changed dead graph normals measure
 -- another table and other assertions
 knows_told : NormalsStay → (kept : Decider) (old new : Stacked) → table.Extends old.table new.table
     → new.words ≡ old.words → length old.scope.sorts ≤ length new.scope.sorts
-    → AreMembers kept.arena new.table kept.members.items new.assertions → Knows kept old → Knows kept new
-knows_told stays kept old new e words constants members k =
+    → AreMembers kept.arena new.table kept.members.items new.assertions
+    → AreInside new.table kept.inside new.assertions → Knows kept old → Knows kept new
+knows_told stays kept old new e words constants members inside k =
     let t = k.taken in record {
       taken = record {
         graph = t.graph;
         normals = stays old.table new.table kept.arena kept.arena kept.normals e (extends_same kept.arena) t.normals;
         measures = measures_kept old.table new.table kept.measures e t.measures;
+        plain = t.plain;
+        inside = inside;
         members = members;
         rooted = t.rooted;
         within = t.within;
@@ -404,17 +385,23 @@ pub knows_stays : NormalsStay → (kept : Decider) (old new : Stacked) → table
 knows_stays stays kept old new e longer words constants k =
     knows_told stays kept old new e words constants
     (rw longer.1 (members_longer kept.arena new.table kept.members.items old.assertions longer.0
-    (members_told kept.arena old.table new.table kept.members.items old.assertions e k.taken.members))) k
+    (members_told kept.arena old.table new.table kept.members.items old.assertions e k.taken.members)))
+    (rw longer.1 (inside_longer new.table kept.inside old.assertions longer.0
+    (inside_told old.table new.table kept.inside old.assertions e k.taken.inside))) k
 
 -- the table grows, and assertions go that were not taken in
 pub knows_left : NormalsStay → (kept : Decider) (old new : Stacked) → table.Extends old.table new.table
     → IsLonger new.assertions old.assertions → length kept.members.items ≤ length new.assertions
+    → kept.inside ≤ length new.assertions
     → new.words ≡ old.words → length old.scope.sorts ≤ length new.scope.sorts → Knows kept old → Knows kept new
-knows_left stays kept old new e longer few words constants k =
+knows_left stays kept old new e longer few low words constants k =
     knows_told stays kept old new e words constants
     (members_left kept.arena new.table kept.members.items new.assertions longer.0 few
     (subst (AreMembers kept.arena new.table kept.members.items) longer.1
-    (members_told kept.arena old.table new.table kept.members.items old.assertions e k.taken.members))) k
+    (members_told kept.arena old.table new.table kept.members.items old.assertions e k.taken.members)))
+    (inside_left new.table kept.inside new.assertions longer.0 low
+    (subst (AreInside new.table kept.inside) longer.1
+    (inside_told old.table new.table kept.inside old.assertions e k.taken.inside))) k
 
 -- another mode
 pub knows_mode : (kept : Decider) (stack : Stacked) (mode : _) → Knows kept stack
@@ -422,15 +409,17 @@ pub knows_mode : (kept : Decider) (stack : Stacked) (mode : _) → Knows kept st
 knows_mode kept stack mode k = record { taken = k.taken; words = k.words; declared = k.declared }
 
 -- the graph and the arena grow, and intersections are known
-pub taken_searched : NormalsStay → (kept : Decider) (rs : List Regex) (g : Findings)
+pub taken_searched : NormalsStay → RightStays → (kept : Decider) (rs : List Regex) (g : Findings)
     (roots : Vec (Option ℕ) Global) (ts : List Term)
     (xs : List code.Assertion) → Extends kept.arena rs → IsGraph rs g →
     AreRooted rs kept.members.items roots.items → IsTaken kept ts xs →
     IsTaken (record kept { arena = rs; graph = g; roots = roots }) ts xs
-taken_searched stays kept rs g roots ts xs e graph rooted t = record {
+taken_searched stays right kept rs g roots ts xs e graph rooted t = record {
   graph = graph;
   normals = stays ts ts kept.arena rs kept.normals (table_facts.extends_same ts) e t.normals;
   measures = t.measures;
+  plain = right kept.arena rs kept.plain e t.plain;
+  inside = t.inside;
   members = members_grown kept.arena rs ts kept.members.items xs e t.members;
   rooted = rooted;
   within = t.within;
@@ -441,17 +430,19 @@ taken_searched stays kept rs g roots ts xs e graph rooted t = record {
 }
 
 -- a constant has no word
-pub knows_dead : NormalsStay → (kept : Decider) (rs : List Regex) (g : Findings) (roots : Vec (Option ℕ) Global)
+pub knows_dead : NormalsStay → RightStays → (kept : Decider) (rs : List Regex) (g : Findings) (roots : Vec (Option ℕ) Global)
     (stack : Stacked) (serial : Serial)
     → Extends kept.arena rs → IsGraph rs g → AreRooted rs kept.members.items roots.items →
     IsEmptyAt rs kept.members.items serial.0 → Knows kept stack →
     Knows (record kept { arena = rs; graph = g; roots = roots; dead = Some serial }) stack
-knows_dead stays kept rs g roots stack serial e graph rooted empty k =
-    let t = taken_searched stays kept rs g roots stack.table stack.assertions e graph rooted k.taken in record {
+knows_dead stays right kept rs g roots stack serial e graph rooted empty k =
+    let t = taken_searched stays right kept rs g roots stack.table stack.assertions e graph rooted k.taken in record {
       taken = record {
         graph = t.graph;
         normals = t.normals;
         measures = t.measures;
+        plain = t.plain;
+        inside = t.inside;
         members = t.members;
         rooted = t.rooted;
         within = t.within;
@@ -466,25 +457,33 @@ knows_dead stays kept rs g roots stack serial e graph rooted empty k =
     }
 
 -- all of it grows
-pub knows_grown : GraphStays → (kept : Decider) (rs : List Regex) (g : Findings) (ks : List Known) (ms : List Measure)
-    (stack : Stacked) → Extends kept.arena rs → IsGraph rs g → AreNormals stack.table rs ks →
-    AreMeasures stack.table ms → Knows kept stack →
-    Knows (record kept { arena = rs; graph = g; normals = ks; measures = ms }) stack
-knows_grown stays kept rs g ks ms stack e graph normals measures k =
-    let t = taken_grown stays kept rs ks ms stack.table stack.assertions e normals measures k.taken in record {
-      taken = record {
-        graph = graph;
-        normals = t.normals;
-        measures = t.measures;
-        members = t.members;
-        rooted = t.rooted;
-        within = t.within;
-        places = t.places;
-        settled = t.settled;
-        listed = t.listed;
-        dead = t.dead;
-      };
-      words = kept_grown kept.arena rs kept.members.items kept.constants.items stack.words e k.taken.rooted.numbers
-          k.words;
-      declared = k.declared;
+pub taken_all : GraphStays → RightStays → (kept : Decider) (rs : List Regex) (g : Findings) (ks : List Known)
+    (ms : List Measure) (p : Memory) (ts : List Term) (xs : List code.Assertion) → Extends kept.arena rs → IsGraph rs g →
+    AreNormals ts rs ks → AreMeasures ts ms → IsRight rs p → IsTaken kept ts xs →
+    IsTaken (record kept { arena = rs; graph = g; normals = ks; measures = ms; plain = p }) ts xs
+taken_all stays right kept rs g ks ms p ts xs e graph normals measures plain k =
+    let t = taken_grown stays right kept rs ks ms ts xs e normals measures k in record {
+      graph = graph;
+      normals = t.normals;
+      measures = t.measures;
+      plain = plain;
+      inside = t.inside;
+      members = t.members;
+      rooted = t.rooted;
+      within = t.within;
+      places = t.places;
+      settled = t.settled;
+      listed = t.listed;
+      dead = t.dead;
     }
+
+pub knows_grown : GraphStays → RightStays → (kept : Decider) (rs : List Regex) (g : Findings) (ks : List Known)
+    (ms : List Measure) (p : Memory) (stack : Stacked) → Extends kept.arena rs → IsGraph rs g →
+    AreNormals stack.table rs ks → AreMeasures stack.table ms → IsRight rs p → Knows kept stack →
+    Knows (record kept { arena = rs; graph = g; normals = ks; measures = ms; plain = p }) stack
+knows_grown stays right kept rs g ks ms p stack e graph normals measures plain k = record {
+  taken = taken_all stays right kept rs g ks ms p stack.table stack.assertions e graph normals measures plain k.taken;
+  words = kept_grown kept.arena rs kept.members.items kept.constants.items stack.words e k.taken.rooted.numbers
+      k.words;
+  declared = k.declared;
+}

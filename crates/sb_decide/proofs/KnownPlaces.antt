@@ -44,7 +44,7 @@ dead_known law kept stack k =
     some_more (IsEmptyAt kept.arena kept.members.items)
     (λ n. HasNoWordAt (live (state_of stack)) (places_of kept n))
     (λ n empty rs ids regexes w c. words_at_places law rs 0 n (live (state_of stack))
-    (map (assertion_in stack.table) (take (length kept.members.items) stack.assertions)) ids w c sofar.decided
+    (map (assertion_in stack.table) (take (length kept.members.items) stack.assertions)) ids w c sofar.members
     (front_live stack (length kept.members.items))
     (rw (places_are kept n stack k) at regexes)
     ∙ (sofar.words n w c ∙ empty w c)) kept.dead k.taken.dead

@@ -2,6 +2,8 @@ pub mod Conjunctions
 pub mod AskingTerms
 pub mod OneMembership
 pub mod MemberFacts
+pub mod InsideFacts
+pub mod LeftOpen
 pub mod RootFacts
 pub mod DefaultValues
 pub mod Verdicts

@@ -51,11 +51,11 @@ members_grown old new ts (m ∷ ms) (x ∷ xs) e h = (
 )
 
 -- the table grows
-number_more : (m n : ℕ) → m ≤ n → (o : Option ℕ) → IfSome o (λ id. id < m) → IfSome o (λ id. id < n)
+pub number_more : (m n : ℕ) → m ≤ n → (o : Option ℕ) → IfSome o (λ id. id < m) → IfSome o (λ id. id < n)
 number_more m n l None h = tt
 number_more m n l (Some id) h = omega (arith, l, h)
 
-same_assertion : (old new : List Term) → table.Extends old new → (o : Option ℕ) → IfSome o (λ id. id < length old)
+pub same_assertion : (old new : List Term) → table.Extends old new → (o : Option ℕ) → IfSome o (λ id. id < length old)
     → assertion_of new o ≡ assertion_of old o
 same_assertion old new e None l = refl
 same_assertion old new e (Some id) l = ap asserted (table_facts.at_kept old new id e l)

@@ -15,22 +15,23 @@ use Rattle.sb_regex.specs.Numbered.{regex_at, AllNumbers}
 use Rattle.sb_meaning.specs.Terms.{Sort, Term, text}
 use Rattle.sb_meaning.specs.Values.{Valuation, Text, value_in}
 use Rattle.sb_meaning.specs.Truth.{means_reglan, meaning_of, holds, all_hold}
-use Rattle.sb_script.specs.State.{Assertion, asserted, terms_in}
-use Rattle.sb_script.specs.Brought.{asked, membership_of, is_regex}
+use Rattle.sb_script.specs.State.{Assertion, asserted, a_mark, terms_in}
+use Rattle.sb_script.specs.Brought.{asked, membership_of, is_regex, is_membership, is_structure}
 use Rattle.sb_script.specs.Sizes.{is_regular}
-use Rattle.sb_script.proofs.CallerLemmas.{asked_holds}
+use Rattle.sb_script.specs.Fragment.{fits}
+use Rattle.sb_script.proofs.CallerLemmas.{asked_holds, asked_regular}
 use Rattle.std.specs.List.{list_all}
 use Rattle.sb_term.specs.declared.assertion.Assertion as code
 use Rattle.sb_fragment.specs.Rules.{is_decided}
-use Rattle.sb_fragment.proofs.CallerLemmas.{asked_decided}
+use Rattle.sb_fragment.proofs.CallerLemmas.{asked_membership, asked_decided, membership_structure}
 use Rattle.sb_problem.specs.Normals.{IsRegexOf}
 use Rattle.sb_stack.specs.Speaking.{speaks_of}
 use Rattle.sb_stack.specs.Stacked.{values_at, assertion_in}
 use Rattle.sb_stack.proofs.CallerLemmas.{value_there}
 use Rattle.sb_decide.specs.declared.conjuncts.Member.{Member}
 use Rattle.sb_decide.specs.Deciding.{IsSofar, in_each, asking, words_asked, word_at}
-use Rattle.sb_decide.specs.Members.{AreMembers, ids_in}
-use Rattle.sb_decide.specs.Places.{asks_of}
+use Rattle.sb_decide.specs.Members.{AreMembers, AreInside, ids_in}
+use Rattle.sb_decide.specs.Places.{asks_of, is_member}
 use Rattle.sb_decide.proofs.AskingTerms.{asks_same, asking_speaks}
 use Rattle.sb_regex.proofs.CallerLemmas.{names_at, names_below}
 
@@ -99,11 +100,12 @@ pub member_language : NormalHasTermsWords → (rs : List Regex) (R : Term) (id :
 member_language law rs R id r w c = ap (λ x. language x w) (names_at rs id (normal r.reglan) r.names) ∙ law r.reglan w c
 
 first_decided : (rs : List Regex) (done : List Assertion) (t R : Term) (serial id : ℕ) → asked t ≡ Some (serial, R)
-    → IsRegexOf rs R id → is_regular R ≡ true → list_all is_decided done ≡ true
-    → list_all is_decided (asserted t ∷ done) ≡ true
+    → IsRegexOf rs R id → is_regular R ≡ true → list_all is_member done ≡ true
+    → list_all is_member (asserted t ∷ done) ≡ true
 first_decided rs done t R serial id asks r regular decided =
-    and_from (is_decided (asserted t)) (list_all is_decided done)
-    (asked_decided t serial R asks ∙ and_from (is_regex R) (is_regular R) r.kind regular) decided
+    and_from (is_member (asserted t)) (list_all is_member done)
+    (and_from (is_membership t) (fits t) (asked_membership t serial R asks ∙ r.kind)
+    (asked_regular t serial R asks ∙ regular)) decided
 
 -- the words of each constant with such a term in front
 first_words : NormalHasTermsWords → (rs : List Regex) (ts : List Term) (t R : Term) (m : Member) (ms : List Member)
@@ -173,7 +175,7 @@ sofar_first : NormalHasTermsWords → (rs : List Regex) (done : List Assertion) 
     (ms : List Member) → asked t ≡ Some (m.serial.0, R) → IsRegexOf rs R m.regex → is_regular R ≡ true
     → IsSofar rs done (ids_in ms) → IsSofar rs (asserted t ∷ done) (ids_in (m ∷ ms))
 sofar_first law rs done t R m ms asks r regular s = record {
-  decided = first_decided rs done t R m.serial.0 m.regex asks r regular s.decided;
+  members = first_decided rs done t R m.serial.0 m.regex asks r regular s.members;
   known = first_known rs m ms (names_below rs m.regex (normal r.reglan) r.names) s.known;
   words = first_words law rs (terms_in done) t R m ms asks r s.words;
   apart = first_apart rs (terms_in done) t m.serial.0 R m.regex asks r s.apart;
@@ -184,7 +186,7 @@ sofar_first law rs done t R m ms asks r regular s = record {
 pub sofar_of : NormalHasTermsWords → (rs : List Regex) (ts : List Term) (ms : List Member) (xs : List code.Assertion)
     → AreMembers rs ts ms xs → IsSofar rs (map (assertion_in ts) (take (length ms) xs)) (ids_in ms)
 sofar_of law rs ts [] xs h = record {
-  decided = refl;
+  members = refl;
   known = λ n. All-nil (λ i. i < length rs);
   words = λ n w c. refl;
   apart = λ v n w value h. refl;
@@ -196,12 +198,38 @@ sofar_of law rs ts (m ∷ ms) (x ∷ xs) h =
     (sofar_first law rs (map (assertion_in ts) (take (length ms) xs)) h.0.term h.0.wanted m ms h.0.asks h.0.regex
     h.0.regular (sofar_of law rs ts ms xs h.1))
 
--- each of them is decided
+-- each of them asks something of one constant's word, and is decided
 pub members_decided : (rs : List Regex) (ts : List Term) (ms : List Member) (xs : List code.Assertion)
-    → AreMembers rs ts ms xs → list_all is_decided (map (assertion_in ts) (take (length ms) xs)) ≡ true
+    → AreMembers rs ts ms xs → list_all is_member (map (assertion_in ts) (take (length ms) xs)) ≡ true
 members_decided rs ts [] xs h = refl
 members_decided rs ts (m ∷ ms) [] h = absurd h
 members_decided rs ts (m ∷ ms) (x ∷ xs) h =
-    ap (λ a. list_all is_decided (a ∷ map (assertion_in ts) (take (length ms) xs))) h.0.is
+    ap (λ a. list_all is_member (a ∷ map (assertion_in ts) (take (length ms) xs))) h.0.is
     ∙ first_decided rs (map (assertion_in ts) (take (length ms) xs)) h.0.term h.0.wanted m.serial.0 m.regex h.0.asks
     h.0.regex h.0.regular (members_decided rs ts ms xs h.1)
+
+pub member_decided : (a : Assertion) → is_member a ≡ true → is_decided a ≡ true
+member_decided (asserted t) h =
+    let parts = and_parts (is_membership t) (fits t) h in
+    and_from (is_structure t) (fits t) (membership_structure t parts.0) parts.1
+member_decided a_mark h = absurd (false≢true h)
+
+pub all_decided : (all : List Assertion) → list_all is_member all ≡ true → list_all is_decided all ≡ true
+all_decided [] h = refl
+all_decided (a ∷ all) h =
+    let parts = and_parts (is_member a) (list_all is_member all) h in
+    and_from (is_decided a) (list_all is_decided all) (member_decided a parts.0) (all_decided all parts.1)
+
+-- as they stand in the table
+pub members_inside : (rs : List Regex) (ts : List Term) (ms : List Member) (xs : List code.Assertion)
+    → AreMembers rs ts ms xs → AreInside ts (length ms) xs
+members_inside rs ts [] xs h = tt
+members_inside rs ts (m ∷ ms) [] h = absurd h
+members_inside rs ts (m ∷ ms) (x ∷ xs) h = (
+  record {
+    number = h.0.number;
+    decided = ap is_decided h.0.is ∙ asked_decided h.0.term m.serial.0 h.0.wanted h.0.asks
+        ∙ and_from (is_regex h.0.wanted) (is_regular h.0.wanted) h.0.regex.kind h.0.regular;
+  },
+  members_inside rs ts ms xs h.1,
+)

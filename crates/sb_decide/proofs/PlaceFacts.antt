@@ -19,11 +19,11 @@ use Rattle.sb_fragment.specs.Memberships.{IsMemberRegex, IsNumberAsked}
 use Rattle.sb_fragment.specs.Rules.{is_decided}
 use Rattle.sb_stack.specs.Stacked.{assertion_in}
 use Rattle.sb_decide.specs.Deciding.{words_asked}
-use Rattle.sb_decide.specs.Places.{asks_of, places_from, IsPlaceOf, IsRegexAt, AreRegexesAt}
+use Rattle.sb_decide.specs.Places.{asks_of, is_member, places_from, IsPlaceOf, IsRegexAt, AreRegexesAt}
 use Rattle.sb_decide.proofs.AskingTerms.{asks_same}
-use Rattle.sb_decide.proofs.OneMembership.{words-append, one_same, one_other, member_language}
+use Rattle.sb_decide.proofs.OneMembership.{words-append, one_same, one_other, member_language, member_decided}
 
--- what a decided assertion asks for
+-- what a membership asks for
 pub record IsShaped (t : Term) : Type 0 where
   pub serial : ℕ
   pub regex : Term
@@ -56,15 +56,15 @@ places_with k n t serial R whole places asks there decided h = by_test (asks_of 
         (record { term = t; regex = R; there = there; asks = rw same asks; decided = decided }) h
     by_test false e = h
 
-pub are_places : (k n : ℕ) (whole rest : List Assertion) → list_all is_decided rest ≡ true → StandFrom k whole rest
+pub are_places : (k n : ℕ) (whole rest : List Assertion) → list_all is_member rest ≡ true → StandFrom k whole rest
     → All (IsPlaceOf whole n) (places_from k n rest)
 are_places k n whole [] h stand = All-nil (IsPlaceOf whole n)
 are_places k n whole (a_mark ∷ rest) h stand = absurd (false≢true h)
 are_places k n whole (asserted t ∷ rest) h stand =
-    let parts = and_parts (is_decided (asserted t)) (list_all is_decided rest) h in
+    let parts = and_parts (is_member (asserted t)) (list_all is_member rest) h in
     let shaped = shape_of t (and_parts (is_membership t) (fits t) parts.0).0 in
     places_with k n t shaped.serial shaped.regex whole (places_from (k + 1) n rest) shaped.asks
-    (stand 0 k (asserted t) (omega arith) refl) parts.0
+    (stand 0 k (asserted t) (omega arith) refl) (member_decided (asserted t) parts.0)
     (are_places (k + 1) n whole rest parts.1 (stand_behind k whole rest (asserted t) stand))
 
 -- the words that the regexes of these places have in common
@@ -106,14 +106,14 @@ words_with law rs k n t serial R whole places ids ts w c asks there rest = by_te
         ∙ sym whole_words)
 
 pub words_at_places : NormalHasTermsWords → (rs : List Regex) (k n : ℕ) (whole rest : List Assertion) (ids : List ℕ)
-    (w : List ℕ) → IsWord w → list_all is_decided rest ≡ true → StandFrom k whole rest
+    (w : List ℕ) → IsWord w → list_all is_member rest ≡ true → StandFrom k whole rest
     → AreRegexesAt rs whole (places_from k n rest) ids
     → list_all (λ r. language r w) (regexes_at rs ids) ≡ words_asked n (terms_in rest) w
 words_at_places law rs k n whole [] [] w c h stand regexes = refl
 words_at_places law rs k n whole [] (id ∷ ids) w c h stand regexes = absurd regexes
 words_at_places law rs k n whole (a_mark ∷ rest) ids w c h stand regexes = absurd (false≢true h)
 words_at_places law rs k n whole (asserted t ∷ rest) ids w c h stand regexes =
-    let parts = and_parts (is_decided (asserted t)) (list_all is_decided rest) h in
+    let parts = and_parts (is_member (asserted t)) (list_all is_member rest) h in
     let shaped = shape_of t (and_parts (is_membership t) (fits t) parts.0).0 in
     words_with law rs k n t shaped.serial shaped.regex whole (places_from (k + 1) n rest) ids (terms_in rest) w c
     shaped.asks (stand 0 k (asserted t) (omega arith) refl)

@@ -18,6 +18,7 @@ use Rattle.sb_regex.specs.Numbered.{Extends, Names, regex_at, regexes_at}
 use Rattle.sb_regex.proofs.CallerLemmas.{names_below}
 use Rattle.sb_deriv.specs.Faithful.{KeepsEntries, entry_of}
 use Rattle.sb_graph.specs.Findings.{Findings, IsGraph}
+use Rattle.sb_plain.specs.Memory.{RightStays}
 use Rattle.sb_problem.specs.Laws.{NormalsStay}
 use Rattle.sb_term.specs.declared.term.Serial.{Serial}
 use Rattle.sb_script.specs.State.{live, live_terms, constants_of, fits}
@@ -181,50 +182,53 @@ dead_given law words kept stack k all dead named fit = by_cases kept.dead dead k
         (all_sofar words kept stack k all) named (fit [] [] refl) h
 
 -- the arena and the graph grow on the way
-searched : NormalsStay → (kept : Decider) (rs : List Regex) (g : Findings) (roots : Vec (Option ℕ) Global)
+searched : NormalsStay → RightStays → (kept : Decider) (rs : List Regex) (g : Findings) (roots : Vec (Option ℕ) Global)
     (stack : Stacked) → Knows kept stack → Extends kept.arena rs → IsGraph rs g →
     AreRooted rs kept.members.items roots.items →
     Knows (record kept { arena = rs; graph = g; roots = roots }) stack
-searched stays kept rs g roots stack k e graph rooted = record {
-  taken = taken_searched stays kept rs g roots stack.table stack.assertions e graph rooted k.taken;
+searched stays right kept rs g roots stack k e graph rooted = record {
+  taken = taken_searched stays right kept rs g roots stack.table stack.assertions e graph rooted k.taken;
   words = kept_grown kept.arena rs kept.members.items kept.constants.items stack.words e k.taken.rooted.numbers k.words;
   declared = k.declared;
 }
 
-pub unsat_found : FragmentIsOfEach → NormalHasTermsWords → NormalsStay → (kept : Decider) (rs : List Regex)
+pub unsat_found : FragmentIsOfEach → NormalHasTermsWords → NormalsStay → RightStays → (kept : Decider) (rs : List Regex)
     (g : Findings) (roots : Vec (Option ℕ) Global) (stack : Stacked) (n : ℕ) → Knows kept stack → HasAll kept stack →
     Extends kept.arena rs → IsGraph rs g → AreRooted rs kept.members.items roots.items →
     IsEmptyAt rs kept.members.items n → Named stack → Fit stack → IsVerdict (state_of stack) [] (is_unsat [])
-unsat_found law words stays kept rs g roots stack n k all e graph rooted empty named fit =
+unsat_found law words stays right kept rs g roots stack n k all e graph rooted empty named fit =
     unsat_given law rs (state_of stack) (live_constants stack) (ids_in kept.members.items) n
     (all_sofar words (record kept { arena = rs; graph = g; roots = roots }) stack
-    (searched stays kept rs g roots stack k e graph rooted) all) named (fit [] [] refl) empty
+    (searched stays right kept rs g roots stack k e graph rooted) all) named (fit [] [] refl) empty
 
-pub sat_found : FragmentIsOfEach → NormalHasTermsWords → NormalsStay → (kept : Decider) (rs : List Regex)
+pub sat_found : FragmentIsOfEach → NormalHasTermsWords → NormalsStay → RightStays → (kept : Decider) (rs : List Regex)
     (g : Findings) (roots : Vec (Option ℕ) Global) (stack : Stacked) (new : List Conjoined) (words : List (List ℕ)) →
     Knows kept stack → HasAll kept stack → Extends kept.arena rs → IsGraph rs g →
     AreRooted rs kept.members.items roots.items →
     IsTakingOver rs kept.members.items kept.constants.items new words [] →
     Named stack → Fit stack → IsVerdict (state_of stack) [] (is_sat (values_at (live_constants stack) words []))
-sat_found law terms stays kept rs g roots stack new words k all e graph rooted over named fit =
+sat_found law terms stays right kept rs g roots stack new words k all e graph rooted over named fit =
     sat_given law rs (state_of stack) (live_constants stack) (ids_in kept.members.items) words
     (all_sofar terms (record kept { arena = rs; graph = g; roots = roots }) stack
-    (searched stays kept rs g roots stack k e graph rooted) all) named (fit words [] over.characters)
+    (searched stays right kept rs g roots stack k e graph rooted) all) named (fit words [] over.characters)
     (least_over rs kept.members.items kept.constants.items new words over)
 
-pub knows_over : NormalsStay → (kept new : Decider) (stack : Stacked) (words : List (List ℕ)) (truths : List Bool) (m : Mode)
+pub knows_over : NormalsStay → RightStays → (kept new : Decider) (stack : Stacked) (words : List (List ℕ)) (truths : List Bool) (m : Mode)
     → Knows kept stack → Extends kept.arena new.arena → IsGraph new.arena new.graph →
     AreRooted new.arena kept.members.items new.roots.items →
     IsTakingOver new.arena kept.members.items kept.constants.items new.constants.items words [] →
     new.members ≡ kept.members → new.normals ≡ kept.normals → new.measures ≡ kept.measures →
-    length new.changed.items ≡ 0 → new.dead ≡ kept.dead → Knows new (record stack { mode = m; words = words; truths = truths })
-knows_over stays kept new stack words truths m k e graph rooted over members normals measures changed dead =
-    let t = taken_searched stays kept new.arena new.graph new.roots stack.table stack.assertions e graph rooted k.taken
+    new.plain ≡ kept.plain → new.inside ≡ kept.inside → length new.changed.items ≡ 0 → new.dead ≡ kept.dead → Knows new (record stack { mode = m; words = words; truths = truths })
+knows_over stays right kept new stack words truths m k e graph rooted over members normals measures plain inside changed
+    dead =
+    let t = taken_searched stays right kept new.arena new.graph new.roots stack.table stack.assertions e graph rooted k.taken
     in record {
       taken = record {
         graph = graph;
         normals = rw normals t.normals;
         measures = rw measures t.measures;
+        plain = rw plain t.plain;
+        inside = rw inside t.inside;
         members = rw members t.members;
         rooted = rw members rooted;
         within = rw (members, over.same_length) t.within;

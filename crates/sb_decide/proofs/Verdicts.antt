@@ -19,6 +19,7 @@ use Rattle.sb_decide.specs.Deciding.{IsSofar, in_each, words_asked, word_at}
 use Rattle.sb_decide.proofs.AskingTerms.{about_is, asked_speaks}
 use Rattle.sb_decide.proofs.Conjunctions.{same_least}
 use Rattle.sb_decide.proofs.DefaultValues.{default_values}
+use Rattle.sb_decide.proofs.OneMembership.{all_decided}
 use Rattle.sb_script.specs.Models.{is_plain, words_for, AreShortestLeast}
 use Rattle.sb_script.specs.Verdicts.{IsVerdict, is_sat, is_unsat}
 
@@ -36,7 +37,7 @@ pub sat_given : FragmentIsOfEach → (rs : List Regex) (s : State) (cs : List (�
     → ((n : ℕ) → IsShortestLeast (in_each rs (found n)) (word_at words n))
     → IsVerdict s [] (is_sat (values_at cs words []))
 sat_given law rs s cs found words f named fitting least = (
-  law s ∙ f.decided,
+  law s ∙ all_decided (live s) f.members,
   record {
     model = and_from (fits (constants_of s) (values_at cs words []))
         (all_hold (live_terms s) (values_at cs words [])) fitting
@@ -53,7 +54,7 @@ sat_given law rs s cs found words f named fitting least = (
     shortest_about : (n : ℕ) → is_plain s ≡ true → IsShortestLeast (words_for n (live_terms s)) (word_at words n)
     shortest_about n plain =
         same_least (words_asked n (live_terms s)) (words_for n (live_terms s)) (word_at words n)
-        (λ w _. ap (λ (ts : List Term). all_hold ts ((n, Text w) ∷ [])) (about_is n (live s) f.decided plain))
+        (λ w _. ap (λ (ts : List Term). all_hold ts ((n, Text w) ∷ [])) (about_is n (live s) f.members plain))
         (shortest n)
 
 -- where an empty word fits, each value that fits is a word
@@ -106,7 +107,7 @@ pub unsat_given : FragmentIsOfEach → (rs : List Regex) (s : State) (cs : List 
     → fits (constants_of s) (values_at cs [] []) ≡ true
     → HasNoWord (in_each rs (found n)) → IsVerdict s [] (is_unsat [])
 unsat_given law rs s cs found n f named fit e =
-    (law s ∙ f.decided, refuted, record { some = refl; contradicted = refuted })
+    (law s ∙ all_decided (live s) f.members, refuted, record { some = refl; contradicted = refuted })
   where
     known : is_one_of cs n text ≡ true
     known = asked_speaks cs n (live_terms s) [] named (f.words n [] refl ∙ e [] refl)

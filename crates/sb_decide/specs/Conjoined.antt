@@ -1,5 +1,5 @@
 -- A constant's memberships by their places, and which constants have words that are to be found anew.
-use Rattle.std.specs.Prelude.{◌≡◌, ◌≢◌, ℕ, ◌-◌, ◌==◌, Bool, true, false, List, [], length, take, slice_index_or}
+use Rattle.std.specs.Prelude.{◌≡◌, ◌≢◌, ℕ, ◌<◌, ◌-◌, ◌==◌, Bool, true, false, List, [], length, take, slice_index_or}
 use Rattle.std.specs.List.{list_any}
 use Rattle.sb_term.specs.declared.term.Serial.{Serial}
 
@@ -25,6 +25,12 @@ is_listed changed n = list_any (λ serial. serial.0 == n) changed
 -- constants out of the list have their words
 abbrev pub OthersSettled : List Serial → List Conjoined → Type 0
 OthersSettled changed cs = (n : ℕ) → is_listed changed n ≡ false → (conjoined_at cs n).changed ≡ false
+
+-- each constant's word is to be found anew, and its memberships are what they were
+pub record AreAllChanged (old new : List Conjoined) : Type 0 where
+  pub same_length : length new ≡ length old
+  pub places : (n : ℕ) → (conjoined_at new n).places ≡ (conjoined_at old n).places
+  pub changed : (n : ℕ) → n < length new → (conjoined_at new n).changed ≡ true
 
 -- so many constants, of which those that are new have no memberships
 pub record HasRoom (count : ℕ) (old new : List Conjoined) : Type 0 where

@@ -10,10 +10,9 @@ use Rattle.sb_meaning.specs.Terms.{Sort, Term, text}
 use Rattle.sb_meaning.specs.Values.{Valuation, Text, value_in}
 use Rattle.sb_meaning.specs.Truth.{all_hold}
 use Rattle.sb_script.specs.State.{Assertion, terms_in}
-use Rattle.sb_fragment.specs.Rules.{is_decided}
 use Rattle.sb_stack.specs.Speaking.{speaks_of}
 use Rattle.sb_stack.specs.Stacked.{values_at, are_words}
-use Rattle.sb_decide.specs.Places.{asks_of}
+use Rattle.sb_decide.specs.Places.{asks_of, is_member}
 
 -- the terms that ask something of the constant's word: its memberships, and its equalities with literals
 abbrev pub asking : ℕ → List Term → List Term
@@ -31,11 +30,11 @@ in_each rs ids w = list_all (λ id. language (regex_at rs id) w) ids
 abbrev pub word_at : List (List ℕ) → ℕ → List ℕ
 word_at words n = get_or words n []
 
--- What is known after these assertions: each is decided, so it asks something of one constant's word; the words that a
+-- What is known after these assertions: each asks something of one constant's word, and is decided; the words that a
 -- constant is asked for are those of its regexes; and values make all the assertions true exactly where each constant's
 -- word is one that it is asked for. A constant that they don't speak of may have any word.
 pub record IsSofar (rs : List Regex) (assertions : List Assertion) (found : ℕ → List ℕ) : Type 0 where
-  pub decided : list_all is_decided assertions ≡ true
+  pub members : list_all is_member assertions ≡ true
   pub known : (n : ℕ) → AllNumbers rs (found n)
   pub words : (n : ℕ) (w : List ℕ) → IsWord w → words_asked n (terms_in assertions) w ≡ in_each rs (found n) w
   pub apart : (v : Valuation) (n : ℕ) (w : List ℕ) → value_in v n text ≡ Text w

@@ -1,20 +1,25 @@
 -- What is known of a script's assertions so far.
 use Rattle.std.specs.Prelude.{◌≡◌, ℕ, ◌≤◌, ◌<◌, true, false, List, length, IfSome, IsSome}
-use Rattle.std.specs.List.{All}
+use Rattle.std.specs.List.{All, list_all}
 use Rattle.sb_lang.specs.Regex.{Regex}
 use Rattle.sb_lang.specs.Least.{IsShortestLeast}
 use Rattle.sb_graph.specs.Findings.{IsGraph}
+use Rattle.sb_plain.specs.Memory.{IsRight}
 use Rattle.sb_problem.specs.Known.{AreNormals}
 use Rattle.sb_meaning.specs.Terms.{Term}
+use Rattle.sb_script.specs.State.{live, live_terms}
 use Rattle.sb_term.specs.declared.assertion.Assertion.{Assertion}
 use Rattle.sb_fragment.specs.Measures.{AreMeasures}
-use Rattle.sb_stack.specs.Stacked.{Stacked, are_words}
+use Rattle.sb_fragment.specs.Rules.{is_decided}
+use Rattle.sb_stack.specs.Speaking.{speaks_of}
+use Rattle.sb_stack.specs.Stacked.{Stacked, state_of, live_constants, are_words}
+use Rattle.sb_stack.specs.Steps.{found}
 use Rattle.sb_stack.specs.declared.verdict.Verdict.{Verdict}
 use Rattle.sb_stack.specs.declared.verdict.Verdict.TheVariants as verdict
 use Rattle.sb_decide.specs.declared.decide.Decider.{Decider}
 use Rattle.sb_decide.specs.Conjoined.{Conjoined, conjoined_at, OthersSettled}
 use Rattle.sb_decide.specs.Deciding.{word_at}
-use Rattle.sb_decide.specs.Members.{AreMembers, AreRooted, IsEmptyAt, words_in, places_in}
+use Rattle.sb_decide.specs.Members.{AreMembers, AreInside, AreRooted, IsEmptyAt, words_in, places_in}
 use Rattle.sb_decide.specs.declared.conjuncts.Member.{Member}
 
 -- the places of a constant's memberships
@@ -26,6 +31,9 @@ pub record IsTaken (kept : Decider) (ts : List Term) (assertions : List Assertio
   pub graph : IsGraph kept.arena kept.graph
   pub normals : AreNormals ts kept.arena kept.normals
   pub measures : AreMeasures ts kept.measures
+  pub plain : IsRight kept.arena kept.plain
+  -- so many of them are known to be decided ones, memberships or not
+  pub inside : AreInside ts kept.inside assertions
   pub members : AreMembers kept.arena ts kept.members.items assertions
   pub rooted : AreRooted kept.arena kept.members.items kept.roots.items
   pub within : All (λ m. m.serial.0 < length kept.constants.items) kept.members.items
@@ -52,3 +60,16 @@ IsDecision (verdict.Sat words truths) kept = Unit {0}
 IsDecision verdict.Unsat kept = IsSome kept.dead
 IsDecision verdict.Unknown kept = ⊥
 IsDecision verdict.Outside kept = Unit {0}
+
+-- The words of a verdict are one for each constant that was declared.
+abbrev pub MayBeKept : Verdict → Stacked → Type 0
+MayBeKept (verdict.Sat words truths) stack =
+    (are_words words.items ≡ true) × (length words.items ≡ length stack.scope.sorts)
+MayBeKept _ stack = Unit {0}
+
+-- The check is left open: each assertion is a decided one, and whatever verdict is found may be kept.
+pub record IsLeftOpen (kept : Decider) (stack : Stacked) : Type 0 where
+  pub decided : list_all is_decided (live (state_of stack)) ≡ true
+  pub named : list_all (speaks_of (live_constants stack)) (live_terms (state_of stack)) ≡ true
+  pub taken : IsTaken kept stack.table stack.assertions
+  pub keeps : (v : Verdict) → MayBeKept v stack → Knows kept (found v stack)

@@ -3,6 +3,7 @@ use Rattle.std.specs.Prelude.{◌≡◌, ℕ, ◌≤◌, List, length}
 use Rattle.sb_lang.specs.Regex.{Regex}
 use Rattle.sb_regex.specs.Numbered.{Extends}
 use Rattle.sb_graph.specs.Findings.{Findings, IsGraph}
+use Rattle.sb_plain.specs.Memory.{Memory, IsRight}
 use Rattle.sb_problem.specs.declared.normals.Known.{Known}
 use Rattle.sb_problem.specs.Known.{AreNormals}
 use Rattle.sb_term.specs.Numbered as table
@@ -10,7 +11,7 @@ use Rattle.sb_fragment.specs.declared.measure.Measure.{Measure}
 use Rattle.sb_fragment.specs.Measures.{AreMeasures}
 use Rattle.sb_stack.specs.Stacked.{Stacked, IsLonger}
 use Rattle.sb_decide.specs.declared.decide.Decider.{Decider}
-use Rattle.sb_decide.specs.Knowing.{Knows}
+use Rattle.sb_decide.specs.Knowing.{Knows, IsLeftOpen}
 
 -- terms keep their numbers and assertions their places, and the words stay
 abbrev pub KnowsStays : Type 0
@@ -26,6 +27,14 @@ KnowsBack count kept kept' = (old new : Stacked) → table.Extends old.table new
 
 -- more regexes, and more known of them and of terms
 abbrev pub KnowsGrown : Type 0
-KnowsGrown = (kept : Decider) (rs : List Regex) (g : Findings) (ks : List Known) (ms : List Measure) (stack : Stacked)
-    → Extends kept.arena rs → IsGraph rs g → AreNormals stack.table rs ks → AreMeasures stack.table ms →
-    Knows kept stack → Knows (record kept { arena = rs; graph = g; normals = ks; measures = ms }) stack
+KnowsGrown = (kept : Decider) (rs : List Regex) (g : Findings) (ks : List Known) (ms : List Measure) (p : Memory)
+    (stack : Stacked) → Extends kept.arena rs → IsGraph rs g → AreNormals stack.table rs ks →
+    AreMeasures stack.table ms → IsRight rs p → Knows kept stack →
+    Knows (record kept { arena = rs; graph = g; normals = ks; measures = ms; plain = p }) stack
+
+-- and a check that is left open is left open
+abbrev pub LeftOpenGrown : Type 0
+LeftOpenGrown = (kept : Decider) (rs : List Regex) (g : Findings) (ks : List Known) (ms : List Measure) (p : Memory)
+    (stack : Stacked) → Extends kept.arena rs → IsGraph rs g → AreNormals stack.table rs ks →
+    AreMeasures stack.table ms → IsRight rs p → IsLeftOpen kept stack →
+    IsLeftOpen (record kept { arena = rs; graph = g; normals = ks; measures = ms; plain = p }) stack

@@ -1,6 +1,6 @@
 -- What was taken in, one for each of the first assertions, and what is known of it. What an assertion asks of a
 -- constant's word counts as a membership of the constant here, also where the assertion is an equality with a literal.
-use Rattle.std.specs.Prelude.{◌≡◌, ℕ, ◌+◌, ◌<◌, ◌==◌, true, if◌then◌else◌, List, [], ◌∷◌, length, take, Option, Some, None, slice_index_or, slice_get}
+use Rattle.std.specs.Prelude.{◌≡◌, ℕ, zero, suc, ◌+◌, ◌<◌, ◌==◌, true, if◌then◌else◌, List, [], ◌∷◌, length, take, Option, Some, None, slice_index_or, slice_get}
 use Rattle.std.specs.List.{All}
 use Rattle.sb_lang.specs.Languages.{Language}
 use Rattle.sb_lang.specs.Least.{HasNoWord}
@@ -13,6 +13,7 @@ use Rattle.sb_script.specs.State.{asserted}
 use Rattle.sb_script.specs.Sizes.{is_regular}
 use Rattle.sb_problem.specs.Normals.{IsRegexOf}
 use Rattle.sb_term.specs.declared.assertion.Assertion.{Assertion}
+use Rattle.sb_fragment.specs.Rules.{is_decided}
 use Rattle.sb_stack.specs.Stacked.{assertion_in, HasNumberBelow}
 use Rattle.sb_decide.specs.declared.conjuncts.Member.{Member}
 use Rattle.sb_decide.specs.Deciding.{in_each}
@@ -33,6 +34,17 @@ abbrev pub AreMembers : List Regex → List Term → List Member → List Assert
 AreMembers rs ts [] assertions = Unit {0}
 AreMembers rs ts (m ∷ ms) [] = ⊥
 AreMembers rs ts (m ∷ ms) (a ∷ assertions) = IsMember rs ts m a × AreMembers rs ts ms assertions
+
+-- the assertion is a decided one, a membership or not
+pub record IsInside (ts : List Term) (a : Assertion) : Type 0 where
+  pub number : HasNumberBelow (length ts) a
+  pub decided : is_decided (assertion_in ts a) ≡ true
+
+-- so many of the first assertions are
+abbrev pub AreInside : List Term → ℕ → List Assertion → Type 0
+AreInside ts zero assertions = Unit {0}
+AreInside ts (suc n) [] = ⊥
+AreInside ts (suc n) (a ∷ assertions) = IsInside ts a × AreInside ts n assertions
 
 -- the regexes of a constant
 abbrev pub ids_in : List Member → ℕ → List ℕ

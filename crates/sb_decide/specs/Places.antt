@@ -1,12 +1,13 @@
 -- The places of the assertions that ask something of a constant's word, and that no word is in all of their regexes.
-use Rattle.std.specs.Prelude.{◌≡◌, ℕ, ◌+◌, Bool, true, false, ◌==◌, if◌then◌else◌, List, [], ◌∷◌, slice_get, Some, None}
+use Rattle.std.specs.Prelude.{◌≡◌, ℕ, ◌+◌, Bool, true, false, ◌&&◌, ◌==◌, if◌then◌else◌, List, [], ◌∷◌, slice_get, Some, None}
 use Rattle.std.specs.List.{list_all}
 use Rattle.sb_word.specs.Words.{IsWord}
 use Rattle.sb_lang.specs.Regex.{Regex}
 use Rattle.sb_lang.specs.Language.{language}
 use Rattle.sb_regex.specs.Numbered.{regexes_at}
 use Rattle.sb_meaning.specs.Terms.{Term}
-use Rattle.sb_script.specs.Brought.{asked}
+use Rattle.sb_script.specs.Brought.{asked, is_membership}
+use Rattle.sb_script.specs.Fragment.{fits}
 use Rattle.sb_script.specs.State.{Assertion, asserted, a_mark}
 use Rattle.sb_fragment.specs.Memberships.{IsMemberRegex}
 use Rattle.sb_fragment.specs.Rules.{is_decided}
@@ -14,6 +15,11 @@ use Rattle.sb_fragment.specs.Rules.{is_decided}
 -- the term asks something of the constant's word alone: it is a membership of the constant, or equal to a literal
 abbrev pub asks_of : ℕ → Term → Bool
 asks_of serial t = elim (asked t) [ Some p ↦ serial == p.0 | None ↦ false ]
+
+-- the assertion asks something of one constant's word alone, and it is a decided one
+abbrev pub is_member : Assertion → Bool
+is_member (asserted t) = is_membership t && fits t
+is_member a_mark = false
 
 abbrev pub is_membership_of : ℕ → Assertion → Bool
 is_membership_of serial (asserted t) = asks_of serial t

@@ -64,7 +64,7 @@ impl Conjuncts {
         self.places.pop();
     }
 
-    /// Whether memberships came or went since its word was found. Constant time.
+    /// Whether its word is to be found anew: memberships came or went, or a check was left open. Constant time.
     pub fn is_changed(&self) -> bool
         ensures { result ≡ self.now.changed }
     {
@@ -76,6 +76,13 @@ impl Conjuncts {
         ensures { result.now ≡ self.now.places }
     {
         self.places.as_slice()
+    }
+
+    /// Its word is to be found anew. Takes no memory.
+    pub fn change(&mut self)
+        ensures { self.new ≡ changed_with self.old.places }
+    {
+        self.changed = true;
     }
 
     /// Its word is found. Takes no memory.

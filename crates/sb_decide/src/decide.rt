@@ -4,10 +4,11 @@
 //! word that exploring the intersection finds is the one that a model gives. An equality of a constant with a literal
 //! is a membership too, in the regex that has the literal's word alone. What is known of the assertions so far is kept,
 //! so that a check takes in those that are new, and finds words of the constants that they speak of. They speak of no
-//! constant of sort Bool, so each of these is false.
+//! constant of sort Bool, so each of these is false. Memberships are taken in up to the first assertion that is none;
+//! from there on it is only seen whether each assertion is a decided one, and then the check is left open.
 
-ghost use Rattle.std.specs.Prelude.{◌≡◌, ℕ, ◌+◌, ◌<◌, ◌≤◌, [], ◌∷◌, ◌++◌, List, length, map, true, false, All};
-ghost use Rattle.std.specs.Prelude.{IfOk, OnOk, IfSome, MatchOption};
+ghost use Rattle.std.specs.Prelude.{◌≡◌, ◌≢◌, ℕ, ◌+◌, ◌<◌, ◌≤◌, [], ◌∷◌, ◌++◌, List, length, map, true, false, All};
+ghost use Rattle.std.specs.Prelude.{IfOk, OnOk, IfSome, IfNone, MatchOption};
 ghost use Rattle.std.specs.List.{list_all};
 ghost use Rattle.sb_lang.specs.Least.{IsShortestLeast};
 ghost use Rattle.sb_lang.specs.Regex.{Regex};
@@ -16,16 +17,17 @@ ghost use Rattle.sb_deriv.specs.Faithful.{KeepsEntries};
 ghost use Rattle.sb_graph.specs.Findings.{IsGraph};
 ghost use Rattle.sb_script.specs.State.{live, live_terms};
 ghost use Rattle.sb_script.specs.Verdicts.{IsVerdict, settled};
+ghost use Rattle.sb_fragment.specs.Measures.{AreMeasures};
 ghost use Rattle.sb_fragment.specs.Rules.{is_decided};
 ghost use Rattle.sb_stack.specs.Stacked.{Stacked, state_of, live_constants, without_words, assertion_in, HasNumberBelow};
 ghost use Rattle.sb_stack.specs.Speaking.{speaks_of};
 ghost use Rattle.sb_stack.specs.Steps.{verdict_in, found};
 ghost use Rattle.sb_term.specs.Serials.{all_below};
-ghost use Rattle.sb_decide.specs.Conjoined.{conjoined_at, OthersSettled, HasRoom, IsChangedAt, without_last};
+ghost use Rattle.sb_decide.specs.Conjoined.{conjoined_at, OthersSettled, AreAllChanged, HasRoom, IsChangedAt, without_last};
 ghost use Rattle.sb_decide.specs.Deciding.{AreFilled};
-ghost use Rattle.sb_decide.specs.Knowing.{IsTaken, Knows, IsDecision, places_of};
+ghost use Rattle.sb_decide.specs.Knowing.{IsTaken, Knows, IsDecision, IsLeftOpen, places_of};
 ghost use Rattle.sb_decide.specs.Laws.{KnowsBack};
-ghost use Rattle.sb_decide.specs.Members.{AreRooted, IsEmptyAt, IsRootOf, places_in, words_in};
+ghost use Rattle.sb_decide.specs.Members.{AreInside, AreRooted, IsEmptyAt, IsRootOf, places_in, words_in};
 ghost use Rattle.sb_decide.specs.Places.{HasNoWordAt, IsPlaceOf};
 ghost use Rattle.sb_decide.specs.Taking.{StayKept, HasAll, AreWords, IsTakingOver, other_dead};
 
@@ -34,6 +36,7 @@ use sb_fragment::{Measures, fragment_is_of_each, membership};
 use sb_graph::{Explored, Graph, graph_stays};
 use sb_lang::constructors::{intersection_is_of_each, mkand_keeps_language};
 use sb_lang::normal::normal_has_terms_words;
+use sb_plain::{Plain, right_stays};
 use sb_problem::{Normals, normals_stay};
 use sb_regex::{Arena, RegexId};
 use sb_stack::{Stack, Verdict};
@@ -49,16 +52,21 @@ pub struct Decider {
     pub graph: Graph,
     pub normals: Normals,
     pub measures: Measures,
+    /// What is remembered of walks along words, for checks that are left open.
+    pub plain: Plain,
     /// The memberships that the first assertions are, which are taken in; equalities with a literal count as such.
     pub members: Vec<Member>,
     /// By place the intersection of the constant's memberships up to this one, where a check made it.
     pub roots: Vec<Option<RegexId>>,
     /// By serial the memberships of each constant.
     pub constants: Vec<Conjuncts>,
-    /// The constants with memberships that came or went since the last check with a model.
+    /// The constants with memberships that came or went since the last check with a model that was decided here, and
+    /// all of them where a check was left open since.
     pub changed: Vec<Serial>,
     /// A constant that is known to have no word.
     pub dead: Option<Serial>,
+    /// So many of the assertions, from the first on, are known to be decided ones, memberships or not.
+    pub inside: usize,
 }
 
 /// What a check finds of a constant: the word that a model gives.
@@ -87,21 +95,65 @@ impl Decider {
             graph: Graph::new(alloc),
             normals: Normals::new(alloc),
             measures: Measures::new(alloc),
+            plain: Plain::new(alloc),
             members: Vec::new(alloc),
             roots: Vec::new(alloc),
             constants: Vec::new(alloc),
             changed: Vec::new(alloc),
             dead: None,
+            inside: 0,
         }
     }
 
-    /// What a check of the live assertions finds. Linear in the assertions and constants that are new since the last
-    /// check with a model, the constants that the new ones, and those that were taken back, speak of, and what is
-    /// explored; a regex that was explored before is not expanded again. Where it finds `Unsat`, [`Decider::dead`] is a
-    /// constant without a word. Of the script's state it changes the mode and the kept words alone. `AllocError` only
-    /// for want of memory.
-    pub fn decide(&mut self, alloc: Global, stack: &mut Stack) -> Result<Verdict, AllocError>
+    /// What a check of the live assertions finds; `None` where it is left open, since all assertions are decided ones,
+    /// but not all of them are memberships. Then whatever verdict is found may be kept.
+    ///
+    /// Linear in the assertions and constants that are new since the last check with a model, the constants that the new
+    /// ones, and those that were taken back, speak of, and what is explored; a regex that was explored before is not
+    /// expanded again. A check that is left open, and the next one that is not, are linear in all constants besides; an
+    /// assertion that is no membership is looked at once, in the time of [`Measures::fits_structure`]. Where it finds
+    /// `Unsat`, [`Decider::dead`] is a constant without a word. Of the script's state it changes the mode and the kept
+    /// words alone. `AllocError` only for want of memory.
+    pub fn decide(
+        &mut self,
+        alloc: Global,
+        stack: &mut Stack,
+    ) -> Result<Option<Verdict>, AllocError>
         requires { Knows self.old stack.old }
+        ensures verdict { IfOk result (λ answer. IfSome answer
+            (λ verdict. IsVerdict (state_of stack.old) [] (verdict_in (live_constants stack.old) verdict))) }
+        ensures knows { IfOk result (λ answer. IfSome answer (λ verdict. Knows self.new (found verdict stack.new))) }
+        ensures state { IfOk result (λ answer. IfSome answer
+            (λ verdict. settled (verdict_in (live_constants stack.old) verdict) (state_of stack.new)
+            ≡ settled (verdict_in (live_constants stack.old) verdict) (state_of stack.old))) }
+        ensures decided { IfOk result (λ answer. IfSome answer (λ verdict. IsDecision verdict self.new)) }
+        ensures open { IfOk result (λ answer. IfNone answer (IsLeftOpen self.new stack.new)) }
+        ensures same { IfOk result (λ answer. IfNone answer (stack.new ≡ stack.old)) }
+        ensures rest { without_words stack.new ≡ without_words stack.old }
+        ensures extends { OnOk result (Extends self.old.arena self.new.arena) }
+        ensures derivatives_stay { OnOk result (KeepsEntries self.old.graph.memo self.new.graph.memo) }
+    {
+        fragment_is_of_each();
+        if self.take_in(alloc, stack)? {
+            let verdict = self.decide_memberships(alloc, stack)?;
+            return Ok(Some(verdict));
+        }
+        if self.is_left_open(stack)? {
+            Ok(None)
+        } else {
+            Ok(Some(Verdict::Outside))
+        }
+    }
+
+    /// What a check finds where all live assertions are taken in.
+    fn decide_memberships(
+        &mut self,
+        alloc: Global,
+        stack: &mut Stack,
+    ) -> Result<Verdict, AllocError>
+        requires knows { Knows self.old stack.old }
+        requires all { HasAll self.old stack.old }
+        requires named { list_all (speaks_of (live_constants stack.old)) (live_terms (state_of stack.old)) ≡ true }
         ensures verdict { IfOk result
             (λ verdict. IsVerdict (state_of stack.old) [] (verdict_in (live_constants stack.old) verdict)) }
         ensures knows { IfOk result (λ verdict. Knows self.new (found verdict stack.new)) }
@@ -114,12 +166,10 @@ impl Decider {
         ensures derivatives_stay { OnOk result (KeepsEntries self.old.graph.memo self.new.graph.memo) }
     {
         normals_stay();
+        right_stays();
         normal_has_terms_words();
         fragment_is_of_each();
         let declared = stack.declared();
-        if !self.take_in(alloc, stack)? {
-            return Ok(Verdict::Outside);
-        }
         if self.dead.is_some() {
             return Ok(Verdict::Unsat);
         }
@@ -149,6 +199,27 @@ impl Decider {
         }
     }
 
+    /// Whether all live assertions are decided ones; then all constants are to have other words.
+    fn is_left_open(&mut self, stack: &Stack) -> Result<bool, AllocError>
+        requires knows { Knows self.old stack.now }
+        requires room { length self.old.constants.items ≡ length stack.now.scope.sorts }
+        ensures open { IfOk result (λ left. left ≡ true → IsLeftOpen self.new stack.now) }
+        ensures outside { IfOk result (λ left. left ≡ false → list_all is_decided (live (state_of stack.now)) ≡ false) }
+        ensures knows { OnOk result (Knows self.new stack.now) }
+        ensures arena { OnOk result (self.new.arena ≡ self.old.arena) }
+        ensures graph { OnOk result (self.new.graph ≡ self.old.graph) }
+    {
+        let table = stack.table();
+        let assertions = stack.assertions();
+        let known = self.inside.max(self.members.len());
+        self.inside = decided_ones(&mut self.measures, table, assertions, known)?;
+        if self.inside < assertions.len() {
+            return Ok(false);
+        }
+        change_all(&mut self.constants, &mut self.changed)?;
+        Ok(true)
+    }
+
     /// Takes assertions back from the end: the first `count` stay, and what is known of them, as what is known of terms
     /// and regexes does. Linear in the assertions that were taken in and are taken back. `AllocError` only for want of
     /// memory.
@@ -158,8 +229,10 @@ impl Decider {
         ensures graph { self.new.graph ≡ self.old.graph }
         ensures normals { self.new.normals ≡ self.old.normals }
         ensures measures { self.new.measures ≡ self.old.measures }
+        ensures plain { self.new.plain ≡ self.old.plain }
     {
         normals_stay();
+        self.inside = self.inside.min(count);
         while self.members.len() > count {
             self.take_last_back()?;
         }
@@ -190,17 +263,17 @@ impl Decider {
         }
     }
 
-    /// Takes in the assertions that are new, and answers whether all of them are decided ones. Linear in them, and in
-    /// the constants that are new.
+    /// Takes in the assertions that are new, up to one that is no membership or too large, and answers whether that are
+    /// all of them. Linear in them, and in the constants that are new.
     fn take_in(&mut self, alloc: Global, stack: &Stack) -> Result<bool, AllocError>
         requires { Knows self.old stack.now }
         ensures knows { OnOk result (Knows self.new stack.now) }
         ensures all { IfOk result (λ all. all ≡ true → HasAll self.new stack.now) }
+        ensures room { OnOk result (length self.new.constants.items ≡ length stack.now.scope.sorts) }
         ensures named { OnOk result
             (list_all (speaks_of (live_constants stack.now)) (live_terms (state_of stack.now)) ≡ true) }
         ensures extends { OnOk result (Extends self.old.arena self.new.arena) }
         ensures graph { OnOk result (self.new.graph ≡ self.old.graph) }
-        ensures outside { IfOk result (λ all. all ≡ false → list_all is_decided (live (state_of stack.now)) ≡ false) }
     {
         let assertions = stack.assertions();
         let table = stack.table();
@@ -213,7 +286,7 @@ impl Decider {
         Ok(true)
     }
 
-    /// Takes in the next assertion, and answers whether it is a decided one; if not, it is not taken in.
+    /// Takes in the next assertion, and answers whether it is a membership that is decided; if not, it is not taken in.
     fn take_one(&mut self, table: &Table, assertions: &[Assertion]) -> Result<bool, AllocError>
         requires more { length self.old.members.items < length assertions.now }
         requires numbers { All (HasNumberBelow (length table.now)) assertions.now }
@@ -225,10 +298,9 @@ impl Decider {
         ensures graph { OnOk result (self.new.graph ≡ self.old.graph) }
         ensures further { IfOk result
             (λ all. all ≡ true → length self.new.members.items ≡ length self.old.members.items + 1) }
-        ensures outside { IfOk result
-            (λ all. all ≡ false → list_all is_decided (map (assertion_in table.now) assertions.now) ≡ false) }
     {
         graph_stays();
+        right_stays();
         let place = self.members.len();
         let assertion = &assertions[place];
         let Some(term) = assertion.term else {
@@ -261,6 +333,8 @@ impl Decider {
         ensures graph { self.new.graph ≡ self.old.graph }
         ensures normals { self.new.normals ≡ self.old.normals }
         ensures measures { self.new.measures ≡ self.old.measures }
+        ensures plain { self.new.plain ≡ self.old.plain }
+        ensures inside { self.new.inside ≡ self.old.inside }
     {
         let Some(member) = self.members.pop() else {
             return Ok(());
@@ -273,6 +347,82 @@ impl Decider {
         put_back(&mut self.constants, &mut self.changed, member.serial)?;
         Ok(())
     }
+}
+
+/// Whether an assertion is a decided one.
+fn is_decided(
+    measures: &mut Measures,
+    table: &Table,
+    assertion: Assertion,
+) -> Result<bool, AllocError>
+    requires number { HasNumberBelow (length table.now) assertion }
+    requires right { AreMeasures table.now measures.old }
+    ensures ok { IfOk result (λ decided. decided ≡ is_decided (assertion_in table.now assertion)) }
+    ensures right { AreMeasures table.now measures.new }
+{
+    match assertion.term {
+        Some(id) => measures.fits_structure(table, id),
+        None => Ok(false),
+    }
+}
+
+/// How many of the assertions, from the first on, are decided ones, where so many are known to be.
+fn decided_ones(
+    measures: &mut Measures,
+    table: &Table,
+    assertions: &[Assertion],
+    known: usize,
+) -> Result<usize, AllocError>
+    requires numbers { All (HasNumberBelow (length table.now)) assertions.now }
+    requires right { AreMeasures table.now measures.old }
+    requires known { AreInside table.now known assertions.now }
+    ensures inside { IfOk result (λ inside. AreInside table.now inside assertions.now) }
+    ensures outside { IfOk result (λ inside. inside < length assertions.now
+        → list_all is_decided (map (assertion_in table.now) assertions.now) ≡ false) }
+    ensures right { AreMeasures table.now measures.new }
+{
+    for place in known..assertions.len() {
+        if !is_decided(measures, table, assertions[place])? {
+            return Ok(place);
+        }
+    }
+    Ok(assertions.len())
+}
+
+/// Says of each constant that its word is to be found anew.
+fn change_all(constants: &mut [Conjuncts], changed: &mut Vec<Serial>) -> Result<(), AllocError>
+    requires settled { OthersSettled changed.old.items constants.old }
+    requires listed { All (λ other. other.0 < length constants.old) changed.old.items }
+    ensures all { OnOk result (AreAllChanged constants.old constants.new) }
+    ensures settled { OnOk result (OthersSettled changed.new.items constants.new) }
+    ensures listed { OnOk result (All (λ other. other.0 < length constants.old) changed.new.items) }
+{
+    for place in 0..constants.len() {
+        change(constants, changed, place)?;
+    }
+    Ok(())
+}
+
+/// Says of the constant at a place that its word is to be found anew.
+fn change(
+    constants: &mut [Conjuncts],
+    changed: &mut Vec<Serial>,
+    place: usize,
+) -> Result<(), AllocError>
+    requires within { place < length constants.old }
+    requires settled { OthersSettled changed.old.items constants.old }
+    requires listed { All (λ other. other.0 < length constants.old) changed.old.items }
+    ensures put { OnOk result
+        (IsChangedAt constants.old constants.new place (conjoined_at constants.old place).places) }
+    ensures settled { OnOk result (OthersSettled changed.new.items constants.new) }
+    ensures listed { OnOk result (All (λ other. other.0 < length constants.old) changed.new.items) }
+{
+    let conjuncts = &mut constants[place];
+    if !conjuncts.is_changed() {
+        changed.push(Serial(place as u64))?;
+    }
+    conjuncts.change();
+    Ok(())
 }
 
 /// The constant without a word, where it is not this one.

@@ -1,8 +1,9 @@
 //! Laws of what is known of a script's assertions.
 
-ghost use Rattle.sb_decide.specs.Laws.{KnowsStays, KnowsGrown};
+ghost use Rattle.sb_decide.specs.Laws.{KnowsStays, KnowsGrown, LeftOpenGrown};
 
 use sb_graph::graph_stays;
+use sb_plain::right_stays;
 use sb_problem::normals_stay;
 
 /// What is known stays true from command to command: as terms keep their numbers and assertions their places.
@@ -17,4 +18,13 @@ pub fn knows_grown()
     ensures { KnowsGrown }
 {
     graph_stays();
+    right_stays();
+}
+
+/// A check that is left open stays so as the arena and what is known of its regexes and of terms grow.
+pub fn left_open_grown()
+    ensures { LeftOpenGrown }
+{
+    graph_stays();
+    right_stays();
 }

@@ -1,7 +1,7 @@
 //! Checks, one behind the other.
 
-ghost use Rattle.std.specs.Prelude.{◌≡◌, false, OnOk};
-ghost use Rattle.sb_stack.specs.Steps.{IsEntry};
+ghost use Rattle.std.specs.Prelude.{◌≡◌, false, IfOk, OnOk};
+ghost use Rattle.sb_stack.specs.Steps.{IsEntry, found};
 ghost use Rattle.sb_decide.specs.Knowing.{Knows};
 
 use sb_decide::{Decider, knows_stays};
@@ -21,6 +21,9 @@ const SAT: &[u8] = b"sat\n";
 const UNSAT: &[u8] = b"unsat\n";
 
 const OUTSIDE: &[u8] = b"unsupported\n";
+
+/// A check that is left open is taken as one whose steps were not enough.
+const OPEN: &[u8] = b"unknown\n";
 
 const ONE: &[u8] = b"(declare-const x String) (assert (str.in_re x (re.+ (str.to_re \"a\"))))";
 
@@ -73,15 +76,24 @@ const SCRIPTS: &[&[Check]] = &[
     &[(EQUAL, SAT, &[2, 0]), (b"(assert (= \"b\" x))", UNSAT, &[])],
     &[
         (b"(declare-const x String)", SAT, &[0]),
-        (b"(assert (not true))", OUTSIDE, &[]),
+        (b"(push 1) (assert (not true))", OPEN, &[]),
+        (b"(assert (not (= x x)))", OUTSIDE, &[]),
+        (b"(pop 1) (assert (str.< x \"a\"))", OUTSIDE, &[]),
     ],
     &[
         (TRUTHS, SAT, &[0, 1]),
-        (b"(push 1) (assert (or b (not b)))", OUTSIDE, &[]),
+        (b"(push 1) (assert (or b (not b)))", OPEN, &[]),
         (b"(pop 1) (declare-const c Bool)", SAT, &[0, 1, 0]),
         (b"(assert (= x \"aa\"))", SAT, &[0, 2, 0]),
-        (b"(push 1) (assert c)", OUTSIDE, &[]),
+        (b"(push 1) (assert c)", OPEN, &[]),
+        (b"(assert (= x \"b\"))", OPEN, &[]),
         (b"(pop 1) (assert (= x \"a\"))", UNSAT, &[]),
+    ],
+    &[
+        (ONE, SAT, &[1]),
+        (b"(push 1) (assert (or (= x \"b\") (= x \"c\")))", OPEN, &[]),
+        (b"(pop 1) (push 1) (assert (= x x))", OUTSIDE, &[]),
+        (b"(pop 1) (assert (= x \"aa\"))", SAT, &[2]),
     ],
     &[
         (ONE, SAT, &[1]),
@@ -93,7 +105,7 @@ const SCRIPTS: &[&[Check]] = &[
             &[1, 3],
         ),
         (b"(pop 1)", SAT, &[1, 0]),
-        (b"(push 1) (assert (not true))", OUTSIDE, &[]),
+        (b"(push 1) (assert (not true))", OPEN, &[]),
         (b"(pop 2)", SAT, &[1, 0]),
         (b"(reset-assertions)", SAT, &[]),
         (ONE, SAT, &[1]),
@@ -177,6 +189,21 @@ fn is_refuted(decider: &Decider) -> bool {
     }
 }
 
+/// The verdict of a check; of one that is left open, that its steps were not enough.
+fn verdict_of(
+    alloc: Global,
+    stack: &mut Stack,
+    decider: &mut Decider,
+) -> Result<Verdict, AllocError>
+    requires { Knows decider.old stack.old }
+    ensures { IfOk result (λ verdict. Knows decider.new (found verdict stack.new)) }
+{
+    match decider.decide(alloc, stack)? {
+        Some(verdict) => Ok(verdict),
+        None => Ok(Verdict::Unknown),
+    }
+}
+
 /// Whether a check is replied to so, and finds words of these lengths.
 fn finds(
     alloc: Global,
@@ -188,7 +215,7 @@ fn finds(
     requires { Knows decider.old stack.old }
     ensures { OnOk result (Knows decider.new stack.new) }
 {
-    let verdict = decider.decide(alloc, stack)?;
+    let verdict = verdict_of(alloc, stack, decider)?;
     let found = lengths(alloc, stack, &verdict)?;
     let told = stack.settle(verdict);
     Ok(told == reply && found.as_slice() == wanted && is_refuted(decider) == (reply == UNSAT))

@@ -1,10 +1,22 @@
-use Rattle.std.proofs.Common.{arith}
+use Rattle.std.proofs.Common.{refl, arith}
 use Rattle.std.proofs.lemmas.Bool.Decides.{nat_tests}
 use Rattle.sb_decide.proofs.Knowledge.{knows_left}
+use Rattle.sb_decide.proofs.LeftOpen.{knows_fewer}
 use Rattle.sb_decide.proofs.decide.Decider.take_back.Goals as goal
+
+pub loop-self-init : goal.loop-self-init
+loop-self-init c = (
+  λ stack k. knows_fewer c.args.self.now _ stack (omega (arith, c.min-self.ensures)) k,
+  refl,
+  refl,
+  refl,
+  refl,
+  refl,
+  omega (arith, c.min-self.ensures),
+)
 
 pub returns-clause-knows : goal.returns-clause-knows
 returns-clause-knows c = λ old new e longer few words declared k.
     knows_left c.normals_stay.ensures c.loop-self.self old new e longer
-    (grind (arith, nat_tests, few, c.loop-self-test.false, c.len.ensures, c.loop-self.self.members.ok.0)) words declared
-    (c.loop-self.invariant.0 old k)
+    (grind (arith, nat_tests, few, c.loop-self-test.false, c.len.ensures, c.loop-self.self.members.ok.0))
+    (omega (arith, few, c.loop-self.invariant.6)) words declared (c.loop-self.invariant.0 old k)

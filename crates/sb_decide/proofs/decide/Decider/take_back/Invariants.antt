@@ -1,4 +1,4 @@
-use Rattle.std.proofs.Common.{◌≡◌, length}
+use Rattle.std.proofs.Common.{◌≡◌, ◌≤◌, length}
 use Rattle.sb_stack.specs.Stacked.{Stacked}
 use Rattle.sb_decide.specs.Knowing.{Knows}
 use Rattle.sb_decide.proofs.decide.Decider.take_back.Given as goal
@@ -10,6 +10,8 @@ invariant-loop-self l =
     × (l.self.graph ≡ l.fn.self.graph)
     × (l.self.normals ≡ l.fn.self.normals)
     × (l.self.measures ≡ l.fn.self.measures)
+    × (l.self.plain ≡ l.fn.self.plain)
+    × (l.self.inside ≤ l.fn.count)
 
 abbrev pub decreases-loop-self : goal.decreases-loop-self
 decreases-loop-self l = length l.self.members.items

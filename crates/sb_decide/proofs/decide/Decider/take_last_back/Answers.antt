@@ -15,7 +15,7 @@ returns-clause-knows c = λ stack k.
     ) in
     knows_back c.args.self.now _ c.in-Some.member c.pop.new.self.items stack c.in-Some.ensures.items refl
     (c.pop-2.ensures.rest ∙ ap (λ n. take n c.args.self.now.roots.items) few) c.other_dead-self.ensures
-    refl refl refl refl
+    refl refl refl refl refl refl
     (back_here c.args.self.now.constants c.deref_mut.result.now c.put_back.new.constants c.in-Some.member.serial.0
     c.deref_mut.ensures.value c.in_ok-put_back.ensures.put)
     (λ h. settled_through c.args.self.now.constants c.deref_mut.result.now c.put_back.new.constants

@@ -3,44 +3,19 @@ use Rattle.std.specs.Vec.{with_items}
 use Rattle.sb_problem.specs.Patterns.{pattern_in}
 use Rattle.sb_regex.proofs.CallerLemmas.{extends_same}
 use Rattle.sb_decide.specs.declared.conjuncts.Member.{Member}
-use Rattle.sb_decide.proofs.Knowledge.{at_place, mark_outside, other_outside, size_outside, regex_outside, is_member}
+use Rattle.sb_decide.proofs.Knowledge.{at_place, is_member}
 use Rattle.sb_decide.proofs.Knowledge.{serial_within, taken_grown, taken_measured, stay_grown, stay_put, taken_more}
 use Rattle.sb_decide.proofs.TakingOver.{put_here, put_through, settled_through}
 use Rattle.sb_decide.proofs.decide.Decider.take_one.Goals as goal
-
-pub returns-in_default-clause-outside : goal.returns-in_default-clause-outside
-returns-in_default-clause-outside c = λ _.
-    mark_outside c.args.table.now c.args.assertions.now _ c.index-assertions-place.result
-    c.requires.more
-    (at_place c.args.self.now.members c.args.assertions.now _ c.index-assertions-place.result c.len-place.ensures
-    c.index-assertions-place.is) c.in_default.is
-
-pub returns-in_default-membership-clause-outside : goal.returns-in_default-membership-clause-outside
-returns-in_default-membership-clause-outside c = λ _.
-    other_outside c.args.table.now c.args.assertions.now _ c.in-Some.term
-    c.index-assertions-place.result c.requires.more
-    (at_place c.args.self.now.members c.args.assertions.now _ c.index-assertions-place.result c.len-place.ensures
-    c.index-assertions-place.is) c.in-Some.is
-    c.in_default-membership.ensures.parts
 
 pub returns-then-not-branch-clause-taken : goal.returns-then-not-branch-clause-taken
 returns-then-not-branch-clause-taken c =
     taken_measured c.args.self.now c.is_regular.new.self c.args.table.now c.args.assertions.now
     c.in_ok-is_regular.ensures.right c.requires.taken
 
-pub returns-then-not-branch-clause-outside : goal.returns-then-not-branch-clause-outside
-returns-then-not-branch-clause-outside c = λ _.
-    size_outside c.args.table.now c.args.assertions.now _ c.in-Some.term
-    c.in-Some-membership.member.0.0 (pattern_in c.args.table.now c.in-Some-membership.member.1)
-    c.index-assertions-place.result
-    c.requires.more
-    (at_place c.args.self.now.members c.args.assertions.now _ c.index-assertions-place.result c.len-place.ensures
-    c.index-assertions-place.is) c.in-Some.is c.in-Some-membership.ensures.parts
-    (sym (rw c.if-not-branch.true at c.in_ok-is_regular.ensures.ok))
-
 pub returns-in_default-2-clause-taken : goal.returns-in_default-2-clause-taken
 returns-in_default-2-clause-taken c =
-    taken_grown c.graph_stays.ensures c.args.self.now c.pattern.new.arena c.pattern.new.self c.is_regular.new.self
+    taken_grown c.graph_stays.ensures c.right_stays.ensures c.args.self.now c.pattern.new.arena c.pattern.new.self c.is_regular.new.self
     c.args.table.now c.args.assertions.now c.in_ok-id.ensures.extends c.in_ok-id.ensures.normals
     c.in_ok-is_regular.ensures.right c.requires.taken
 
@@ -53,16 +28,6 @@ returns-in_default-2-clause-words c =
       measures = c.is_regular.new.self;
     })
     c.args.table.now c.args.assertions.now c.in_ok-id.ensures.extends refl refl c.requires.taken
-
-pub returns-in_default-2-clause-outside : goal.returns-in_default-2-clause-outside
-returns-in_default-2-clause-outside c = λ _.
-    regex_outside c.args.table.now c.args.assertions.now _ c.in-Some.term
-    c.in-Some-membership.member.0.0 (pattern_in c.args.table.now c.in-Some-membership.member.1)
-    c.index-assertions-place.result
-    c.requires.more
-    (at_place c.args.self.now.members c.args.assertions.now _ c.index-assertions-place.result c.len-place.ensures
-    c.index-assertions-place.is) c.in-Some.is c.in-Some-membership.ensures.parts
-    (rw c.in_default-2.is at c.in_ok-id.ensures.number)
 
 pub put-requires-clause-within : goal.put-requires-clause-within
 put-requires-clause-within c =
@@ -83,7 +48,7 @@ returns-clause-taken c =
     let member : Member = record { serial = c.in-Some-membership.member.0; regex = c.in-Some-2.id } in
     let place : c.len-place.result ≡ length c.args.self.now.members.items =
     omega (arith, c.len-place.ensures, c.args.self.now.members.ok.0) in
-    taken_more c.graph_stays.ensures c.args.self.now _ c.args.table.now c.args.assertions.now
+    taken_more c.graph_stays.ensures c.right_stays.ensures c.args.self.now _ c.args.table.now c.args.assertions.now
     c.index-assertions-place.result member c.requires.taken c.requires.more there
     (is_member c.pattern.new.arena c.args.table.now c.args.assertions.now _ c.index-assertions-place.result member
     c.in-Some.term (pattern_in c.args.table.now c.in-Some-membership.member.1) c.requires.numbers c.requires.more there
@@ -100,7 +65,7 @@ returns-clause-taken c =
     (settled_through c.args.self.now.constants c.deref_mut.result.now c.put.new.constants
     c.in-Some-membership.member.0.0 _ c.put.new.changed.items c.deref_mut.ensures.value c.in_ok-put.ensures.put
     c.in_ok-put.ensures.settled)
-    (rw c.deref_mut.ensures.value at c.in_ok-put.ensures.listed) refl refl
+    (rw c.deref_mut.ensures.value at c.in_ok-put.ensures.listed) refl refl refl refl
 
 pub returns-clause-words : goal.returns-clause-words
 returns-clause-words c =

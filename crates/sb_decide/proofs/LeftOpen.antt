@@ -1,0 +1,271 @@
+-- A check that is left open: all constants are to have other words, so whatever words are found may be kept.
+use Rattle.std.proofs.Common.{◌≡◌, ℕ, zero, suc, ◌+◌, ◌<◌, ◌≤◌, Bool, true, false, nat_lt, nat_le, ◌==◌, if◌then◌else◌, List, [], ◌∷◌, length, get_or, map, refl, sym, ap, subst, ◌∙◌, arith, vec_len}
+use Rattle.std.proofs.lemmas.Bool.{false≢true}
+use Rattle.std.proofs.lemmas.Bool.Decides.{nat_tests}
+use Rattle.std.specs.List.{All, list_all}
+use Rattle.std.proofs.lemmas.List.Elements.{All-head, All-tail}
+use Rattle.std.specs.declared.vec.Vec.{Vec}
+use Rattle.std.specs.Vec.{with_items}
+use Rattle.std.proofs.lemmas.List.{with_items_is}
+use Rattle.std.specs.declared.alloc.Global.{Global}
+use Rattle.sb_lang.specs.Least.{IsShortestLeast}
+use Rattle.sb_lang.specs.Regex.{Regex}
+use Rattle.sb_regex.specs.Numbered.{Extends}
+use Rattle.sb_graph.specs.Findings.{Findings, IsGraph}
+use Rattle.sb_graph.specs.Laws.{GraphStays}
+use Rattle.sb_plain.specs.Memory.{Memory, IsRight, RightStays}
+use Rattle.sb_problem.specs.declared.normals.Known.{Known}
+use Rattle.sb_problem.specs.Known.{AreNormals}
+use Rattle.sb_meaning.specs.Terms.{Term}
+use Rattle.sb_term.specs.declared.assertion.Assertion as code
+use Rattle.sb_term.specs.declared.term.Serial.{Serial}
+use Rattle.sb_script.specs.State.{Assertion, live, live_terms}
+use Rattle.sb_fragment.specs.declared.measure.Measure.{Measure}
+use Rattle.sb_fragment.specs.Measures.{AreMeasures}
+use Rattle.sb_fragment.specs.Rules.{is_decided}
+use Rattle.sb_stack.specs.Speaking.{speaks_of}
+use Rattle.sb_stack.specs.Stacked.{Stacked, state_of, live_constants, are_words, assertion_in}
+use Rattle.sb_stack.specs.Steps.{found}
+use Rattle.sb_stack.specs.declared.verdict.Verdict.{Verdict}
+use Rattle.sb_stack.specs.declared.verdict.Verdict.TheVariants as verdict
+use Rattle.sb_stack.proofs.CallerLemmas.{live_laid}
+use Rattle.sb_decide.specs.declared.conjuncts.Member.{Member}
+use Rattle.sb_decide.specs.declared.decide.Decider.{Decider}
+use Rattle.sb_decide.specs.Conjoined.{Conjoined, conjoined_at, OthersSettled, AreAllChanged, IsChangedAt}
+use Rattle.sb_decide.specs.Deciding.{in_each, word_at}
+use Rattle.sb_decide.specs.Knowing.{IsTaken, AreKept, Knows, MayBeKept, IsLeftOpen}
+use Rattle.sb_decide.specs.Members.{AreInside, ids_in, words_in}
+use Rattle.sb_decide.proofs.Conjunctions.{least_of_all}
+use Rattle.sb_decide.proofs.InsideFacts.{inside_fewer, inside_all}
+use Rattle.sb_decide.proofs.Knowledge.{taken_all, knows_grown}
+use Rattle.sb_decide.proofs.OneMembership.{members_inside}
+
+-- other assertions are known to be decided ones
+pub knows_looked : (kept : Decider) (ms : List Measure) (n : ℕ) (stack : Stacked) → AreMeasures stack.table ms
+    → AreInside stack.table n stack.assertions → Knows kept stack
+    → Knows (record kept { measures = ms; inside = n }) stack
+knows_looked kept ms n stack measures inside k = let t = k.taken in record {
+  taken = record {
+    graph = t.graph;
+    normals = t.normals;
+    measures = measures;
+    plain = t.plain;
+    inside = inside;
+    members = t.members;
+    rooted = t.rooted;
+    within = t.within;
+    places = t.places;
+    settled = t.settled;
+    listed = t.listed;
+    dead = t.dead;
+  };
+  words = k.words;
+  declared = k.declared;
+}
+
+pub knows_fewer : (kept : Decider) (n : ℕ) (stack : Stacked) → n ≤ kept.inside → Knows kept stack
+    → Knows (record kept { inside = n }) stack
+knows_fewer kept n stack l k =
+    knows_looked kept kept.measures n stack k.taken.measures
+    (inside_fewer stack.table n kept.inside stack.assertions l k.taken.inside) k
+
+-- the assertions that were looked at, or those that were taken in, whichever are more
+pub known_inside : (kept : Decider) (stack : Stacked) (ts : List Term) (xs : List code.Assertion) (m n : ℕ)
+    → ts ≡ stack.table → xs ≡ stack.assertions → n ≡ vec_len kept.members → (kept.inside ≤ n → m ≡ n)
+    → (n ≤ kept.inside → m ≡ kept.inside) → Knows kept stack → AreInside ts m xs
+known_inside kept stack ts xs m n table assertions count right left k =
+    rw (table, assertions) (step (nat_le kept.inside n) refl)
+  where
+    same : n ≡ length kept.members.items
+    same = omega (arith, count, kept.members.ok.0)
+
+    step : (b : Bool) → nat_le kept.inside n ≡ b → AreInside stack.table m stack.assertions
+    step true e =
+        rw (right (grind (arith, nat_tests, e)) ∙ same)
+        (members_inside kept.arena stack.table kept.members.items stack.assertions k.taken.members)
+    step false e = rw (left (grind (arith, nat_tests, e))) k.taken.inside
+
+pub live_outside : (ts : List Term) (xs : List code.Assertion) (live_now : List Assertion) → map (assertion_in ts) xs ≡ live_now
+    → list_all is_decided (map (assertion_in ts) xs) ≡ false → list_all is_decided live_now ≡ false
+live_outside ts xs live_now is h = ap (list_all is_decided) (sym is) ∙ h
+
+-- Constants one by one.
+
+-- the first so many are changed
+pub record AreChangedTo (count : ℕ) (old new : List Conjoined) : Type 0 where
+  pub same_length : length new ≡ length old
+  pub places : (n : ℕ) → (conjoined_at new n).places ≡ (conjoined_at old n).places
+  pub changed : (n : ℕ) → n < count → (conjoined_at new n).changed ≡ true
+
+pub none_changed : (cs : List Conjoined) → AreChangedTo 0 cs cs
+none_changed cs = record { same_length = refl; places = λ n. refl; changed = λ n l. absurd (omega (arith, l)) }
+
+pub one_changed : (count : ℕ) (old new new' : List Conjoined) → AreChangedTo count old new
+    → IsChangedAt new new' count (conjoined_at new count).places → AreChangedTo (count + 1) old new'
+one_changed count old new new' h p = record {
+  same_length = p.same_length ∙ h.same_length;
+  places = λ n. places_at n (n == count) refl;
+  changed = λ n l. changed_at n l (n == count) refl;
+}
+  where
+    places_at : (n : ℕ) (b : Bool) → (n == count) ≡ b → (conjoined_at new' n).places ≡ (conjoined_at old n).places
+    places_at n true e =
+        let same : n ≡ count = grind (arith, nat_tests, e) in
+        ap (λ m. (conjoined_at new' m).places) same
+        ∙ ap (λ (c : Conjoined). c.places) p.there
+        ∙ ap (λ m. (conjoined_at new m).places) (sym same)
+        ∙ h.places n
+    places_at n false e =
+        let other : n ≡ count → ⊥ = λ same. grind (arith, nat_tests, e, same) in
+        ap (λ (c : Conjoined). c.places) (p.others n other) ∙ h.places n
+
+    changed_at : (n : ℕ) → n < count + 1 → (b : Bool) → (n == count) ≡ b → (conjoined_at new' n).changed ≡ true
+    changed_at n l true e =
+        let same : n ≡ count = grind (arith, nat_tests, e) in
+        ap (λ m. (conjoined_at new' m).changed) same ∙ ap (λ (c : Conjoined). c.changed) p.there
+    changed_at n l false e =
+        let other : n ≡ count → ⊥ = λ same. grind (arith, nat_tests, e, same) in
+        ap (λ (c : Conjoined). c.changed) (p.others n other) ∙ h.changed n (omega (arith, l, other))
+
+pub all_changed : (count : ℕ) (old new : List Conjoined) → length old ≤ count → AreChangedTo count old new
+    → AreAllChanged old new
+all_changed count old new l h = record {
+  same_length = h.same_length;
+  places = h.places;
+  changed = λ n k. h.changed n (omega (arith, l, k, h.same_length));
+}
+
+-- All of them.
+
+pub taken_changed : (kept : Decider) (cs : Vec Conjoined Global) (ss : Vec Serial Global) (ts : List Term)
+    (xs : List code.Assertion) → AreAllChanged kept.constants.items cs.items → OthersSettled ss.items cs.items →
+    All (λ other. other.0 < length kept.constants.items) ss.items → IsTaken kept ts xs →
+    IsTaken (record kept { constants = cs; changed = ss }) ts xs
+taken_changed kept cs ss ts xs all settled listed t = record {
+  graph = t.graph;
+  normals = t.normals;
+  measures = t.measures;
+  plain = t.plain;
+  inside = t.inside;
+  members = t.members;
+  rooted = t.rooted;
+  within = rw all.same_length t.within;
+  places = λ n. all.places n ∙ t.places n;
+  settled = settled;
+  listed = rw all.same_length listed;
+  dead = t.dead;
+}
+
+ids_none : (ms : List Member) (k n : ℕ) → All (λ m. m.serial.0 < k) ms → k ≤ n → ids_in ms n ≡ []
+ids_none [] k n h l = refl
+ids_none (m ∷ ms) k n h l =
+    let low = All-head (λ m. m.serial.0 < k) m ms h in
+    let other : (n == m.serial.0) ≡ false = grind (arith, nat_tests, low, l) in
+    ap (λ b. if b then m.regex ∷ ids_in ms n else ids_in ms n) other
+    ∙ ids_none ms k n (All-tail (λ m. m.serial.0 < k) m ms h) l
+
+word_past : (words : List (List ℕ)) (n : ℕ) → length words ≤ n → word_at words n ≡ []
+word_past [] n l = refl
+word_past (w ∷ words) zero l = absurd (omega (arith, l))
+word_past (w ∷ words) (suc n) l = word_past words n (omega (arith, l))
+
+-- whatever words are kept
+pub any_words : (rs : List Regex) (ms : List Member) (cs : List Conjoined) (words : List (List ℕ))
+    → ((n : ℕ) → n < length cs → (conjoined_at cs n).changed ≡ true) → All (λ m. m.serial.0 < length cs) ms
+    → are_words words ≡ true → length words ≤ length cs → AreKept rs ms cs words
+any_words rs ms cs words changed within characters few = record {
+  characters = characters;
+  few = few;
+  least = λ n h. least_at n h (nat_lt n (length cs)) refl;
+}
+  where
+    least_at : (n : ℕ) → (conjoined_at cs n).changed ≡ false → (b : Bool) → nat_lt n (length cs) ≡ b
+        → IsShortestLeast (words_in rs ms n) (word_at words n)
+    least_at n h true e = absurd (false≢true (sym h ∙ changed n (grind (arith, nat_tests, e))))
+    least_at n h false e =
+        let past : length cs ≤ n = grind (arith, nat_tests, e) in
+        rw (word_past words n (omega (arith, few, past)), ids_none ms (length cs) n within past)
+        (least_of_all (in_each rs []) (λ w. refl))
+
+knows_any : (kept : Decider) (stack : Stacked) (v : Verdict) → IsTaken kept stack.table stack.assertions
+    → ((words : List (List ℕ)) → are_words words ≡ true → length words ≤ length kept.constants.items →
+    AreKept kept.arena kept.members.items kept.constants.items words) →
+    length kept.constants.items ≡ length stack.scope.sorts → are_words stack.words ≡ true →
+    length stack.words ≤ length kept.constants.items → MayBeKept v stack → Knows kept (found v stack)
+knows_any kept stack (verdict.Sat words truths) t any room characters few may = record {
+  taken = t;
+  words = any words.items may.0 (omega (arith, may.1, room));
+  declared = omega (arith, room);
+}
+knows_any kept stack verdict.Unsat t any room characters few may =
+    record { taken = t; words = any stack.words characters few; declared = omega (arith, room) }
+knows_any kept stack verdict.Unknown t any room characters few may =
+    record { taken = t; words = any stack.words characters few; declared = omega (arith, room) }
+knows_any kept stack verdict.Outside t any room characters few may =
+    record { taken = t; words = any stack.words characters few; declared = omega (arith, room) }
+
+pub left_open : (kept : Decider) (cs : Vec Conjoined Global) (ss : Vec Serial Global) (stack : Stacked)
+    → Knows kept stack → length stack.assertions ≤ kept.inside → length kept.constants.items ≡ length stack.scope.sorts
+    → list_all (speaks_of (live_constants stack)) (live_terms (state_of stack)) ≡ true
+    → AreAllChanged kept.constants.items cs.items → OthersSettled ss.items cs.items
+    → All (λ other. other.0 < length kept.constants.items) ss.items
+    → IsLeftOpen (record kept { constants = cs; changed = ss }) stack
+left_open kept cs ss stack k looked room named all settled listed =
+    let t = taken_changed kept cs ss stack.table stack.assertions all settled listed k.taken in record {
+      decided = ap (list_all is_decided) (live_laid stack)
+          ∙ inside_all stack.table kept.inside stack.assertions looked k.taken.inside;
+      named = named;
+      taken = t;
+      keeps = λ v may. knows_any (record kept { constants = cs; changed = ss }) stack v t
+          (λ words characters few. any_words kept.arena kept.members.items cs.items words all.changed t.within characters
+          few) (all.same_length ∙ room) k.words.characters (omega (arith, k.words.few, all.same_length)) may;
+    }
+
+-- where constants were written over
+pub left_open_through : (kept : Decider) (now new : List Conjoined) (ss : Vec Serial Global) (stack : Stacked)
+    → Knows kept stack → length stack.assertions ≤ kept.inside → length kept.constants.items ≡ length stack.scope.sorts
+    → list_all (speaks_of (live_constants stack)) (live_terms (state_of stack)) ≡ true → now ≡ kept.constants.items
+    → AreAllChanged now new → OthersSettled ss.items new → All (λ other. other.0 < length now) ss.items
+    → IsLeftOpen (record kept { constants = with_items kept.constants new; changed = ss }) stack
+left_open_through kept now new ss stack k looked room named value all settled listed =
+    let changed : AreAllChanged kept.constants.items new = rw value at all in
+    let same = with_items_is kept.constants new (omega (arith, changed.same_length, kept.constants.ok.0)) in
+    left_open kept (with_items kept.constants new) ss stack k looked room named
+    (subst (AreAllChanged kept.constants.items) (sym same) changed)
+    (subst (OthersSettled ss.items) (sym same) settled) (rw value at listed)
+
+-- it still knows the state as it is
+pub knows_changed : (kept : Decider) (cs : Vec Conjoined Global) (ss : Vec Serial Global) (stack : Stacked)
+    → Knows kept stack → AreAllChanged kept.constants.items cs.items → OthersSettled ss.items cs.items
+    → All (λ other. other.0 < length kept.constants.items) ss.items
+    → Knows (record kept { constants = cs; changed = ss }) stack
+knows_changed kept cs ss stack k all settled listed =
+    let t = taken_changed kept cs ss stack.table stack.assertions all settled listed k.taken in record {
+      taken = t;
+      words = any_words kept.arena kept.members.items cs.items stack.words all.changed t.within k.words.characters
+          (omega (arith, k.words.few, all.same_length));
+      declared = omega (arith, k.declared, all.same_length);
+    }
+
+-- all of it grows
+pub left_open_grown : GraphStays → RightStays → (kept : Decider) (rs : List Regex) (g : Findings) (ks : List Known)
+    (ms : List Measure) (p : Memory) (stack : Stacked) → Extends kept.arena rs → IsGraph rs g →
+    AreNormals stack.table rs ks → AreMeasures stack.table ms → IsRight rs p → IsLeftOpen kept stack →
+    IsLeftOpen (record kept { arena = rs; graph = g; normals = ks; measures = ms; plain = p }) stack
+left_open_grown stays right kept rs g ks ms p stack e graph normals measures plain o = record {
+  decided = o.decided;
+  named = o.named;
+  taken = taken_all stays right kept rs g ks ms p stack.table stack.assertions e graph normals measures plain o.taken;
+  keeps = λ v may. grown v (o.keeps v may);
+}
+  where
+    grown : (v : Verdict) → Knows kept (found v stack)
+        → Knows (record kept { arena = rs; graph = g; normals = ks; measures = ms; plain = p }) (found v stack)
+    grown (verdict.Sat words truths) k =
+        knows_grown stays right kept rs g ks ms p (found (verdict.Sat words truths) stack) e graph normals measures plain k
+    grown verdict.Unsat k =
+        knows_grown stays right kept rs g ks ms p (found verdict.Unsat stack) e graph normals measures plain k
+    grown verdict.Unknown k =
+        knows_grown stays right kept rs g ks ms p (found verdict.Unknown stack) e graph normals measures plain k
+    grown verdict.Outside k =
+        knows_grown stays right kept rs g ks ms p (found verdict.Outside stack) e graph normals measures plain k

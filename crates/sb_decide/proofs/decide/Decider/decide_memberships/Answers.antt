@@ -1,0 +1,111 @@
+use Rattle.std.proofs.Common.{length, [], refl, sym, ap, ◌∙◌, subst}
+use Rattle.std.proofs.lemmas.List.{with_items_is}
+use Rattle.std.specs.Vec.{with_items}
+use Rattle.sb_script.specs.Verdicts.{IsVerdict, is_sat}
+use Rattle.sb_stack.specs.Stacked.{Stacked, state_of, live_constants, values_at}
+use Rattle.sb_stack.specs.declared.stack.Mode.TheVariants as mode
+use Rattle.sb_decide.specs.Knowing.{Knows}
+use Rattle.sb_decide.specs.Taking.{IsTakingOver}
+use Rattle.sb_decide.proofs.Knowledge.{knows_mode, knows_dead}
+use Rattle.sb_decide.proofs.TakingOver.{dead_given, unsat_found, sat_found, knows_over, over_of, words_long, constants_long}
+use Rattle.sb_decide.proofs.decide.Decider.decide_memberships.Goals as goal
+
+pub returns-then-is_some-clause-verdict : goal.returns-then-is_some-clause-verdict
+returns-then-is_some-clause-verdict c =
+    dead_given c.fragment_is_of_each.ensures c.normal_has_terms_words.ensures c.args.self.now c.args.stack.now
+    c.requires.knows c.requires.all
+    (sym c.is_some.ensures ∙ c.if-is_some.true) c.requires.named
+    c.declared-declared.ensures.fit
+
+pub returns-in-Dead-clause-verdict : goal.returns-in-Dead-clause-verdict
+returns-in-Dead-clause-verdict c =
+    unsat_found c.fragment_is_of_each.ensures c.normal_has_terms_words.ensures c.normals_stay.ensures c.right_stays.ensures
+    c.args.self.now c.least_words.new.arena c.least_words.new.graph c.least_words.new.roots c.args.stack.now
+    c.in-Dead.serial.0 c.requires.knows
+    c.requires.all c.in_ok-serial.ensures.extends
+    c.in_ok-serial.ensures.graph (rw c.deref.ensures.value at c.in_ok-serial.ensures.rooted)
+    (rw (c.in-Dead.is, c.deref.ensures.value) at c.in_ok-serial.ensures.words)
+    c.requires.named c.declared-declared.ensures.fit
+
+pub returns-in-Dead-clause-knows : goal.returns-in-Dead-clause-knows
+returns-in-Dead-clause-knows c =
+    knows_dead c.normals_stay.ensures c.right_stays.ensures c.args.self.now c.least_words.new.arena c.least_words.new.graph
+    c.least_words.new.roots (record c.args.stack.now { mode = mode.Unsat }) c.in-Dead.serial
+    c.in_ok-serial.ensures.extends c.in_ok-serial.ensures.graph
+    (rw c.deref.ensures.value at c.in_ok-serial.ensures.rooted)
+    (rw (c.in-Dead.is, c.deref.ensures.value) at c.in_ok-serial.ensures.words)
+    (knows_mode c.args.self.now c.args.stack.now mode.Unsat c.requires.knows)
+
+pub returns-in_ok-fill-in-Found-clause-verdict : goal.returns-in_ok-fill-in-Found-clause-verdict
+returns-in_ok-fill-in-Found-clause-verdict c =
+    let all = c.requires.all in
+    let over = over_of c.args.self.now c.least_words.new.arena c.args.stack.now c.in-Found.found.items
+    c.declared-declared.result c.take_words-words.result.items c.fill.new.words.items c.deref_mut.result.now
+    c.take_over.new.constants c.deref_mut-in-Found.result.now c.take_over.new.words c.requires.knows all
+    c.in_ok-serial.ensures.extends
+    (rw (c.in-Found.is, c.deref.ensures.value, c.deref-2.ensures.value, c.deref-3.ensures.value)
+    at c.in_ok-serial.ensures.words)
+    c.take_words-words.ensures.words c.declared-declared.ensures.value c.in_ok-fill-in-Found.ensures
+    c.deref_mut.ensures.value c.deref_mut-in-Found.ensures.value c.take_over.ensures in
+    subst (λ ts. IsVerdict (state_of c.args.stack.now) []
+    (is_sat (values_at (live_constants c.args.stack.now) (with_items c.fill.new.words c.take_over.new.words).items ts)))
+    (sym c.new.ensures.items)
+    (subst (λ ws. IsVerdict (state_of c.args.stack.now) [] (is_sat (values_at (live_constants c.args.stack.now) ws [])))
+    (sym (with_items_is c.fill.new.words c.take_over.new.words
+    (words_long c.least_words.new.arena c.args.self.now.members.items
+    c.args.self.now.constants.items c.take_over.new.constants
+    c.take_over.new.words c.fill.new.words c.declared-declared.result c.take_words-words.result.items over
+    (c.declared-declared.ensures.value ∙ sym all.1) c.in_ok-fill-in-Found.ensures)))
+    (sat_found c.fragment_is_of_each.ensures c.normal_has_terms_words.ensures c.normals_stay.ensures c.right_stays.ensures
+    c.args.self.now c.least_words.new.arena c.least_words.new.graph c.least_words.new.roots c.args.stack.now
+    c.take_over.new.constants c.take_over.new.words c.requires.knows all c.in_ok-serial.ensures.extends
+    c.in_ok-serial.ensures.graph (rw c.deref.ensures.value at c.in_ok-serial.ensures.rooted) over
+    c.requires.named c.declared-declared.ensures.fit))
+
+pub returns-in_ok-fill-in-Found-clause-knows : goal.returns-in_ok-fill-in-Found-clause-knows
+returns-in_ok-fill-in-Found-clause-knows c =
+    let all = c.requires.all in
+    let over = over_of c.args.self.now c.least_words.new.arena c.args.stack.now c.in-Found.found.items
+    c.declared-declared.result c.take_words-words.result.items c.fill.new.words.items c.deref_mut.result.now
+    c.take_over.new.constants c.deref_mut-in-Found.result.now c.take_over.new.words c.requires.knows all
+    c.in_ok-serial.ensures.extends
+    (rw (c.in-Found.is, c.deref.ensures.value, c.deref-2.ensures.value, c.deref-3.ensures.value)
+    at c.in_ok-serial.ensures.words)
+    c.take_words-words.ensures.words c.declared-declared.ensures.value c.in_ok-fill-in-Found.ensures
+    c.deref_mut.ensures.value c.deref_mut-in-Found.ensures.value c.take_over.ensures in
+    let words = with_items_is c.fill.new.words c.take_over.new.words
+    (words_long c.least_words.new.arena c.args.self.now.members.items
+    c.args.self.now.constants.items c.take_over.new.constants
+    c.take_over.new.words c.fill.new.words c.declared-declared.result c.take_words-words.result.items over
+    (c.declared-declared.ensures.value ∙ sym all.1) c.in_ok-fill-in-Found.ensures) in
+    let constants = with_items_is c.args.self.now.constants c.take_over.new.constants
+    (constants_long c.least_words.new.arena c.args.self.now.members.items c.args.self.now.constants
+    c.take_over.new.constants
+    c.take_over.new.words over) in
+    let after = record c.args.self.now {
+      arena = c.least_words.new.arena;
+      graph = c.least_words.new.graph;
+      roots = c.least_words.new.roots;
+      constants = with_items c.args.self.now.constants c.take_over.new.constants;
+      changed = c.clear.new.self;
+    } in
+    subst
+    (λ (s : Stacked). Knows after
+    (record s { mode = mode.Sat; words = (with_items c.fill.new.words c.take_over.new.words).items; truths = c.new.result.items }))
+    (sym c.take_words-words.ensures.rest)
+    (knows_over c.normals_stay.ensures c.right_stays.ensures c.args.self.now after c.args.stack.now
+    (with_items c.fill.new.words c.take_over.new.words).items c.new.result.items mode.Sat c.requires.knows
+    c.in_ok-serial.ensures.extends c.in_ok-serial.ensures.graph
+    (rw c.deref.ensures.value at c.in_ok-serial.ensures.rooted)
+    (subst (λ cs. IsTakingOver c.least_words.new.arena c.args.self.now.members.items
+    c.args.self.now.constants.items cs (with_items c.fill.new.words c.take_over.new.words).items [])
+    (sym constants)
+    (subst (λ ws. IsTakingOver c.least_words.new.arena c.args.self.now.members.items
+    c.args.self.now.constants.items c.take_over.new.constants ws []) (sym words) over))
+    refl refl refl refl refl (ap length c.clear.ensures.items) refl)
+
+pub returns-then-is_some-clause-decided : goal.returns-then-is_some-clause-decided
+returns-then-is_some-clause-decided c = sym c.is_some.ensures ∙ c.if-is_some.true
+
+pub returns-then-is_some-clause-derivatives_stay : goal.returns-then-is_some-clause-derivatives_stay
+returns-then-is_some-clause-derivatives_stay c = λ n pieces h. h

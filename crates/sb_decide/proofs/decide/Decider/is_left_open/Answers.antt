@@ -1,0 +1,22 @@
+use Rattle.std.proofs.Common.{ap, length, ◌∙◌, arith, subst}
+use Rattle.sb_fragment.specs.Measures.{AreMeasures}
+use Rattle.sb_decide.proofs.LeftOpen.{known_inside, live_outside, knows_looked, knows_changed, left_open_through}
+use Rattle.sb_decide.proofs.decide.Decider.is_left_open.Goals as goal
+
+pub decided_ones-requires-clause-known : goal.decided_ones-requires-clause-known
+decided_ones-requires-clause-known c =
+    known_inside c.args.self.now c.args.stack.now c.table-table.result.now c.assertions-assertions.result.now
+    c.max-known.result c.len.result c.table-table.ensures c.assertions-assertions.ensures.value c.len.ensures
+    (λ l. omega (arith, c.max-known.ensures, l)) (λ l. omega (arith, c.max-known.ensures, l)) c.requires.knows
+
+pub returns-clause-open : goal.returns-clause-open
+returns-clause-open c = λ _.
+    left_open_through
+    (record c.args.self.now { measures = c.decided_ones.new.measures; inside = c.in_ok-self.field-0 })
+    c.deref_mut.result.now c.change_all.new.constants c.change_all.new.changed c.args.stack.now
+    (knows_looked c.args.self.now c.decided_ones.new.measures c.in_ok-self.field-0 c.args.stack.now
+    (subst (λ us. AreMeasures us c.decided_ones.new.measures) c.table-table.ensures c.in_ok-self.ensures.right)
+    (rw (c.table-table.ensures, c.assertions-assertions.ensures.value) at c.in_ok-self.ensures.inside) c.requires.knows)
+    (omega (arith, c.if-self-assertions.false, ap length c.assertions-assertions.ensures.value)) c.requires.room
+    c.assertions-assertions.ensures.named c.deref_mut.ensures.value c.in_ok-change_all.ensures.all
+    c.in_ok-change_all.ensures.settled c.in_ok-change_all.ensures.listed
