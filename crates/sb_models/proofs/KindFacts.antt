@@ -3,24 +3,20 @@ use Rattle.std.proofs.Common.{◌≡◌, ℕ, ◌+◌, ◌<◌, Bool, true, fals
 use Rattle.std.specs.List.{list_all}
 use Rattle.std.proofs.lemmas.Bool.{and_parts, eq-eqb, eqb-true, false≢true}
 use Rattle.std.proofs.lemmas.List.{drop_more}
-use Rattle.sb_meaning.specs.Terms.{Term, Sort, boolean, integer, text, reglan, word, no_terms, with_term}
+use Rattle.sb_meaning.specs.Terms.{Term, Terms, Sort, boolean, integer, text, reglan, constant, word, numeral, apply, parameter, no_terms, with_term}
 use Rattle.sb_meaning.specs.Sorts.{is_same_sort}
 use Rattle.sb_meaning.specs.Values.{Value, Valuation, Text, Int, Truth, value_in, is_of}
-use Rattle.sb_script.specs.Brought.{asked, is_regex}
-use Rattle.sb_script.specs.Fragment.{fits as fits_sizes}
 use Rattle.sb_script.specs.Scopes.{Constant}
 use Rattle.sb_script.specs.State.{Assertion, asserted, a_mark, terms_in, fits}
-use Rattle.sb_script.proofs.CallerLemmas.{IsAsking, a_membership, a_word_behind, a_word_in_front, asked_looks}
-use Rattle.sb_fragment.specs.Rules.{is_decided}
+use Rattle.sb_eval.specs.Given.{GivesValues, GivesEach}
 use Rattle.sb_proof.specs.declared.line.Value as code
 use Rattle.sb_proof.specs.Lines.{value_in as read}
 use Rattle.sb_rulebook.specs.Verdicts.{valued}
 use Rattle.sb_stack.specs.declared.constant.LiveConstant.{LiveConstant}
 use Rattle.sb_stack.specs.Speaking.{is_one_of, speaks_of, speak_of}
 use Rattle.sb_stack.specs.Stacked.{value_at, values_at, live_in}
-use Rattle.sb_models.specs.Knowing.{is_true_under}
-use Rattle.sb_models.specs.Tried.{is_kind, are_kinds, is_word, text_in}
-use Rattle.sb_models.proofs.Passing.{asked_same}
+use Rattle.sb_models.specs.Knowing.{GiveAll, word_at, truth_at}
+use Rattle.sb_models.specs.Tried.{is_kind, are_kinds, is_word, text_in, texts_in, truth_in, truths_in, one_given, word_given, given}
 
 -- One value after the other.
 
@@ -55,12 +51,6 @@ kind_fails constants values place d x low long there here before =
     ∙ ap (λ b. b && are_kinds (map live_in (drop (place + 1) constants)) (map read (drop (place + 1) values))) here
 
 -- What is made of values for constants.
-
--- the values of constants, by serial
-abbrev pub given : List (ℕ × Sort) → List Value → Valuation
-given [] xs = []
-given (d ∷ ds) [] = []
-given (d ∷ ds) (x ∷ xs) = (d.0, x) ∷ given ds xs
 
 abbrev pub made : List Constant → (Valuation → Bool) → Option Valuation → Bool
 made cs test None = false
@@ -156,13 +146,7 @@ values_made (c ∷ cs) (d ∷ ds) (x ∷ xs) test h =
         ∙ one_false (is_kind d.1 x) (is_word x) (are_kinds ds xs) (list_all is_word xs)
         (test ((d.0, x) ∷ given ds xs)) (sym kind ∙ e)
 
--- Their words, as values.
-
--- words of the constants, one of each
-abbrev pub paired : List (ℕ × Sort) → List (List ℕ) → Valuation
-paired [] words = []
-paired (d ∷ ds) [] = []
-paired (d ∷ ds) (w ∷ words) = (d.0, Text w) ∷ paired ds words
+-- The words and truth values that they give.
 
 text_kind : (sort : Sort) (x : Value) → is_same_sort sort text ≡ true → is_kind sort x ≡ true → x ≡ Text (text_in x)
 text_kind text (Text w) h k = refl
@@ -172,58 +156,84 @@ text_kind boolean x h k = absurd (false≢true h)
 text_kind integer x h k = absurd (false≢true h)
 text_kind reglan x h k = absurd (false≢true h)
 
--- constants of sort String have the same values
-value_same : (ds : List (ℕ × Sort)) (xs : List Value) (n : ℕ) → are_kinds ds xs ≡ true → is_one_of ds n text ≡ true
-    → value_in (given ds xs) n text ≡ value_in (paired ds (map text_in xs)) n text
-value_same [] xs n kinds one = absurd (false≢true one)
-value_same (d ∷ ds) [] n kinds one = absurd (false≢true kinds)
-value_same (d ∷ ds) (x ∷ xs) n kinds one = by (d.0 == n) one (value_same ds xs n parts.1)
-  where
-    parts : (is_kind d.1 x ≡ true) × (are_kinds ds xs ≡ true)
-    parts = and_parts (is_kind d.1 x) (are_kinds ds xs) kinds
+truth_kind : (sort : Sort) (x : Value) → is_same_sort sort boolean ≡ true → is_kind sort x ≡ true
+    → x ≡ Truth (truth_in x)
+truth_kind boolean (Truth b) h k = refl
+truth_kind boolean (Int n) h k = absurd (false≢true k)
+truth_kind boolean (Text w) h k = absurd (false≢true k)
+truth_kind text x h k = absurd (false≢true h)
+truth_kind integer x h k = absurd (false≢true h)
+truth_kind reglan x h k = absurd (false≢true h)
 
-    by : (b : Bool) → (if b then is_same_sort d.1 text else is_one_of ds n text) ≡ true
-        → (is_one_of ds n text ≡ true
-        → value_in (given ds xs) n text ≡ value_in (paired ds (map text_in xs)) n text)
-        → (if b then x else value_in (given ds xs) n text)
-        ≡ (if b then Text (text_in x) else value_in (paired ds (map text_in xs)) n text)
-    by true h again = text_kind d.1 x h parts.0
+-- a constant of the sort has the value that is made of what it is given
+constant_given : {X : Type 0} (sort : Sort) (f : code.Value → X) (make : X → Value) (other : X)
+    → ((kind : Sort) (x : code.Value) → is_same_sort kind sort ≡ true → is_kind kind (read x) ≡ true
+    → read x ≡ make (f x))
+    → (constants : List LiveConstant) (xs : List code.Value) (n : ℕ)
+    → are_kinds (map live_in constants) (map read xs) ≡ true → is_one_of (map live_in constants) n sort ≡ true
+    → value_in (given (map live_in constants) (map read xs)) n sort ≡ make (one_given constants (map f xs) n other)
+constant_given sort f make other kind [] xs n kinds one = absurd (false≢true one)
+constant_given sort f make other kind (c ∷ constants) [] n kinds one = absurd (false≢true kinds)
+constant_given sort f make other kind (c ∷ constants) (x ∷ xs) n kinds one =
+    by (c.serial.0 == n) one (constant_given sort f make other kind constants xs n parts.1)
+  where
+    parts : (is_kind (live_in c).1 (read x) ≡ true) × (are_kinds (map live_in constants) (map read xs) ≡ true)
+    parts = and_parts (is_kind (live_in c).1 (read x)) (are_kinds (map live_in constants) (map read xs)) kinds
+
+    by : (b : Bool)
+        → (if b then is_same_sort (live_in c).1 sort else is_one_of (map live_in constants) n sort) ≡ true
+        → (is_one_of (map live_in constants) n sort ≡ true
+        → value_in (given (map live_in constants) (map read xs)) n sort
+        ≡ make (one_given constants (map f xs) n other))
+        → (if b then read x else value_in (given (map live_in constants) (map read xs)) n sort)
+        ≡ make (if b then f x else one_given constants (map f xs) n other)
+    by true h again = kind (live_in c).1 x h parts.0
     by false h again = again h
 
-its_constant : (cs : List (ℕ × Sort)) (t : Term) → speaks_of cs t ≡ true → (serial : ℕ) (R : Term)
-    → IsAsking serial t R → is_one_of cs serial text ≡ true
-its_constant cs t h serial R (a_membership is) =
-    (and_parts (is_one_of cs serial text) (speak_of cs (with_term R no_terms)) (ap (speaks_of cs) (sym is) ∙ h)).0
-its_constant cs t h serial R (a_word_behind w is S) =
-    (and_parts (is_one_of cs serial text) (speak_of cs (with_term (word w) no_terms))
-    (ap (speaks_of cs) (sym is) ∙ h)).0
-its_constant cs t h serial R (a_word_in_front w is S) =
-    (and_parts (is_one_of cs serial text) true (ap (speaks_of cs) (sym is) ∙ h)).0
+mutual
+  gives_term : (ds : List (ℕ × Sort)) (v : Valuation) (ws : List (List ℕ)) (bs : List Bool)
+      → ((n : ℕ) → is_one_of ds n text ≡ true → value_in v n text ≡ Text (word_at ws n))
+      → ((n : ℕ) → is_one_of ds n boolean ≡ true → value_in v n boolean ≡ Truth (truth_at bs n))
+      → (t : Term) → speaks_of ds t ≡ true → GivesValues ws bs v t
+  gives_term ds v ws bs texts truths (constant n text) h = texts n h
+  gives_term ds v ws bs texts truths (constant n boolean) h = truths n h
+  gives_term ds v ws bs texts truths (constant n integer) h = tt
+  gives_term ds v ws bs texts truths (constant n reglan) h = tt
+  gives_term ds v ws bs texts truths (word w) h = tt
+  gives_term ds v ws bs texts truths (numeral n) h = tt
+  gives_term ds v ws bs texts truths (parameter place sort) h = tt
+  gives_term ds v ws bs texts truths (apply s terms) h = gives_terms ds v ws bs texts truths terms h
 
--- so decided assertions that speak of the constants are true where they are under the words
-pub same_truth : (ds : List (ℕ × Sort)) (xs : List Value) (assertions : List Assertion) → are_kinds ds xs ≡ true
-    → list_all is_decided assertions ≡ true → list_all (speaks_of ds) (terms_in assertions) ≡ true
-    → list_all (is_true_under (paired ds (map text_in xs))) assertions
-    ≡ list_all (is_true_under (given ds xs)) assertions
-same_truth ds xs [] kinds decided named = refl
-same_truth ds xs (a_mark ∷ rest) kinds decided named = absurd (false≢true decided)
-same_truth ds xs (asserted t ∷ rest) kinds decided named =
-    ap₂ (λ b c. b && c) (here (asked t) refl) (same_truth ds xs rest kinds both.1 names.1)
-  where
-    both : (is_decided (asserted t) ≡ true) × (list_all is_decided rest ≡ true)
-    both = and_parts (is_decided (asserted t)) (list_all is_decided rest) decided
+  gives_terms : (ds : List (ℕ × Sort)) (v : Valuation) (ws : List (List ℕ)) (bs : List Bool)
+      → ((n : ℕ) → is_one_of ds n text ≡ true → value_in v n text ≡ Text (word_at ws n))
+      → ((n : ℕ) → is_one_of ds n boolean ≡ true → value_in v n boolean ≡ Truth (truth_at bs n))
+      → (ts : Terms) → speak_of ds ts ≡ true → GivesEach ws bs v ts
+  gives_terms ds v ws bs texts truths no_terms h = tt
+  gives_terms ds v ws bs texts truths (with_term t ts) h =
+      let parts = and_parts (speaks_of ds t) (speak_of ds ts) h in
+      (gives_term ds v ws bs texts truths t parts.0, gives_terms ds v ws bs texts truths ts parts.1)
 
-    names : (speaks_of ds t ≡ true) × (list_all (speaks_of ds) (terms_in rest) ≡ true)
-    names = and_parts (speaks_of ds t) (list_all (speaks_of ds) (terms_in rest)) named
+gives_all : (ds : List (ℕ × Sort)) (v : Valuation) (ws : List (List ℕ)) (bs : List Bool)
+    → ((n : ℕ) → is_one_of ds n text ≡ true → value_in v n text ≡ Text (word_at ws n))
+    → ((n : ℕ) → is_one_of ds n boolean ≡ true → value_in v n boolean ≡ Truth (truth_at bs n))
+    → (assertions : List Assertion) → list_all (speaks_of ds) (terms_in assertions) ≡ true
+    → GiveAll ws bs v assertions
+gives_all ds v ws bs texts truths [] h = tt
+gives_all ds v ws bs texts truths (a_mark ∷ rest) h = gives_all ds v ws bs texts truths rest h
+gives_all ds v ws bs texts truths (asserted t ∷ rest) h =
+    let parts = and_parts (speaks_of ds t) (list_all (speaks_of ds) (terms_in rest)) h in
+    (gives_term ds v ws bs texts truths t parts.0, gives_all ds v ws bs texts truths rest parts.1)
 
-    none : asked t ≡ None → is_decided (asserted t) ≡ false
-    none is =
-        ap (λ (b : Bool). b && fits_sizes t)
-        (ap (λ (o : Option (ℕ × Term)). elim o as (λ _. Bool) [ Some p ↦ is_regex p.1 | None ↦ false ]) is)
-
-    here : (o : Option (ℕ × Term)) → asked t ≡ o
-        → is_true_under (paired ds (map text_in xs)) (asserted t) ≡ is_true_under (given ds xs) (asserted t)
-    here None is = absurd (false≢true (sym (none is) ∙ both.0))
-    here (Some p) is =
-        asked_same (paired ds (map text_in xs)) (given ds xs) t p.0 p.1 is both.0
-        (sym (value_same ds xs p.0 kinds (its_constant ds t names.0 p.0 p.1 (asked_looks t p.0 p.1 is))))
+-- the values give all constants of assertions that speak of these the words and truth values that are read out of them
+pub values_given : (constants : List LiveConstant) (values : List code.Value) (ws : List (List ℕ)) (bs : List Bool)
+    (assertions : List Assertion) → are_kinds (map live_in constants) (map read values) ≡ true
+    → list_all (speaks_of (map live_in constants)) (terms_in assertions) ≡ true
+    → ((n : ℕ) → word_at ws n ≡ word_given constants (texts_in values) n [])
+    → ((n : ℕ) → truth_at bs n ≡ one_given constants (truths_in values) n false)
+    → GiveAll ws bs (given (map live_in constants) (map read values)) assertions
+values_given constants values ws bs assertions kinds named words truths =
+    gives_all (map live_in constants) (given (map live_in constants) (map read values)) ws bs
+    (λ n one. constant_given text (λ x. text_in (read x)) Text [] (λ kind x. text_kind kind (read x)) constants values n
+    kinds one ∙ ap Text (sym (words n)))
+    (λ n one. constant_given boolean (λ x. truth_in (read x)) Truth false (λ kind x. truth_kind kind (read x)) constants
+    values n kinds one ∙ ap Truth (sym (truths n))) assertions named

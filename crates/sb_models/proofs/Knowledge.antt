@@ -8,17 +8,18 @@ use Rattle.std.proofs.lemmas.List.Folds.{list_all-append}
 use Rattle.sb_meaning.specs.Terms.{Term}
 use Rattle.sb_meaning.specs.Values.{Valuation}
 use Rattle.sb_meaning.specs.Truth.{holds}
-use Rattle.sb_script.specs.State.{Assertion, asserted}
-use Rattle.sb_script.specs.Fragment.{in_fragment, is_inside, fits}
+use Rattle.sb_script.specs.State.{Assertion, asserted, a_mark}
+use Rattle.sb_script.specs.Brought.{is_structure}
+use Rattle.sb_script.specs.Fragment.{in_fragment, fits}
 use Rattle.sb_term.specs.declared.assertion.Assertion as code
 use Rattle.sb_term.specs.Numbered.{term_at, Extends}
 use Rattle.sb_term.proofs.CallerLemmas.{at_kept, long_kept}
 use Rattle.sb_fragment.specs.Rules.{is_decided, FragmentIsOfEach}
-use Rattle.sb_eval.specs.Given.{GivesWords}
+use Rattle.sb_eval.specs.Given.{GivesValues}
 use Rattle.sb_stack.specs.Stacked.{Stacked, state_of, assertion_in, assertion_of, HasNumberBelow, IsLonger}
 use Rattle.sb_models.specs.declared.models.Models.{Models}
 use Rattle.sb_stack.proofs.CallerLemmas.{live_laid}
-use Rattle.sb_models.specs.Knowing.{Knows, IsTruthBy, is_true_under, assertions_of, word_at, AreEmptyBut}
+use Rattle.sb_models.specs.Knowing.{Knows, GiveAll, AreTrueBy, is_true_under, assertions_of, word_at, AreEmptyBut}
 use Rattle.sb_models.specs.Tried.{IsOfSame, MayPass}
 use Rattle.sb_models.proofs.Passing.{all_at}
 
@@ -69,7 +70,7 @@ knows_none m stack inside held words = record {
   numbers = rw inside (All-nil (HasNumberBelow (length stack.table)));
   decided = rw inside refl;
   held_front = omega (arith, inside, held);
-  held = rw held (λ v g. refl);
+  held = rw held tt;
   empty = λ serial h. ap (λ ws. word_at ws serial) words;
 }
 
@@ -81,7 +82,7 @@ knows_untried m m' stack k inside held words = record {
   numbers = rw inside k.numbers;
   decided = rw inside k.decided;
   held_front = omega (arith, held);
-  held = rw held (λ v g. refl);
+  held = rw held tt;
   empty = λ serial h. ap (λ ws. word_at ws serial) words;
 }
 
@@ -116,7 +117,7 @@ all_inside m stack k long =
 pub knows_model : (m : Models) (stack : Stacked) → m.inside ≡ length stack.assertions → m.held ≡ m.inside
     → All (HasNumberBelow (length stack.table)) stack.assertions
     → list_all is_decided (assertions_of stack) ≡ true
-    → IsTruthBy m.words.items (assertions_of stack) true → AreEmptyBut m.constants.items m.words.items
+    → AreTrueBy m.words.items m.truths.items (assertions_of stack) → AreEmptyBut m.constants.items m.words.items
     → Knows m stack
 knows_model m stack inside held numbers decided true_by empty =
     let whole : take m.inside (assertions_of stack) ≡ assertions_of stack =
@@ -197,6 +198,15 @@ all_in_front test (x ∷ xs) (suc n) (suc held) l h =
     let parts = and_parts (test x) (list_all test (take n xs)) h in
     and_from (test x) _ parts.0 (all_in_front test xs n held (omega arith) parts.1)
 
+true_in_front : (words : List (List ℕ)) (truths : List Bool) (xs : List Assertion) (n held : ℕ) → held ≤ n
+    → AreTrueBy words truths (take n xs) → AreTrueBy words truths (take held xs)
+true_in_front words truths xs n zero l h = tt
+true_in_front words truths xs zero (suc held) l h = absurd (omega arith)
+true_in_front words truths [] (suc n) (suc held) l h = tt
+true_in_front words truths (asserted t ∷ xs) (suc n) (suc held) l h =
+    (h.0, true_in_front words truths xs n held (omega arith) h.1)
+true_in_front words truths (a_mark ∷ xs) (suc n) (suc held) l h = absurd h
+
 -- the first so many of those that are there are what they were
 front_there : (old new : Stacked) (n held : ℕ) → Extends old.table new.table → IsLonger new.assertions old.assertions
     → All (HasNumberBelow (length old.table)) (take n old.assertions) → held ≤ n → held ≤ length new.assertions
@@ -214,8 +224,8 @@ front_there old new n held e longer numbers few there =
 pub knows_front : (m m' : Models) (old new : Stacked) → Extends old.table new.table
     → IsLonger new.assertions old.assertions → Knows m old → m'.inside ≤ m.inside
     → m'.inside ≤ length new.assertions → m'.held ≤ m.held → m'.held ≤ m'.inside → m'.words ≡ m.words
-    → m'.constants ≡ m.constants → Knows m' new
-knows_front m m' old new e longer k inside there held front words constants = record {
+    → m'.truths ≡ m.truths → m'.constants ≡ m.constants → Knows m' new
+knows_front m m' old new e longer k inside there held front words truths constants = record {
   front = there;
   numbers = subst (All (HasNumberBelow (length new.table))) same
       (λ i d l. number_more (length old.table) (length new.table) (long_kept old.table new.table e)
@@ -223,12 +233,11 @@ knows_front m m' old new e longer k inside there held front words constants = re
   decided = ap (list_all is_decided) (front_there old new m.inside m'.inside e longer k.numbers inside there)
       ∙ all_in_front is_decided (assertions_of old) m.inside m'.inside inside k.decided;
   held_front = front;
-  held = λ v gives.
-      let before = k.held v (subst (λ ws. GivesWords ws.items v) words gives) in
-      sym (ap (list_all (is_true_under v))
-      (front_there old new m.inside m'.held e longer k.numbers (omega (arith, front, inside))
-      (omega (arith, front, there)))
-      ∙ all_in_front (is_true_under v) (assertions_of old) m.held m'.held held (sym before));
+  held = rw (words, truths)
+      (subst (AreTrueBy m.words.items m.truths.items)
+      (sym (front_there old new m.inside m'.held e longer k.numbers (omega (arith, front, inside))
+      (omega (arith, front, there))))
+      (true_in_front m.words.items m.truths.items (assertions_of old) m.held m'.held held k.held));
   empty = rw (words, constants) k.empty;
 }
   where
@@ -272,44 +281,82 @@ decided_at ts xs i x id low is some decided =
     ap (λ o. is_decided (assertion_of ts o)) (sym some)
     ∙ all_at is_decided (map (assertion_in ts) xs) i (assertion_in ts x) decided (there ts xs i x low is)
 
-pub inside_at : (ts : List Term) (xs : List code.Assertion) (i : ℕ) (x : code.Assertion) (id : ℕ) → i < length xs
+pub structure_at : (ts : List Term) (xs : List code.Assertion) (i : ℕ) (x : code.Assertion) (id : ℕ) → i < length xs
     → x ≡ get_or xs i x → x.term ≡ Some id → list_all is_decided (map (assertion_in ts) xs) ≡ true →
-    is_inside (asserted (term_at ts id)) ≡ true
-inside_at ts xs i x id low is some decided =
-    (and_parts (is_inside (asserted (term_at ts id))) (fits (term_at ts id))
+    is_structure (term_at ts id) ≡ true
+structure_at ts xs i x id low is some decided =
+    (and_parts (is_structure (term_at ts id)) (fits (term_at ts id))
     (decided_at ts xs i x id low is some decided)).0
 
-pub true_first : (words : List (List ℕ)) (ts : List Term) (xs : List code.Assertion) (i : ℕ)
-    → IsTruthBy words (take i (map (assertion_in ts) xs)) true
-    → IsTruthBy words (map (assertion_in ts) (take i xs)) true
-true_first words ts xs i h v gives = h v gives ∙ ap (list_all (is_true_under v)) (take-map (assertion_in ts) i xs)
+pub true_first : (words : List (List ℕ)) (truths : List Bool) (ts : List Term) (xs : List code.Assertion) (i : ℕ)
+    → AreTrueBy words truths (take i (map (assertion_in ts) xs))
+    → AreTrueBy words truths (map (assertion_in ts) (take i xs))
+true_first words truths ts xs i h = subst (AreTrueBy words truths) (take-map (assertion_in ts) i xs) h
 
-pub true_more : (words : List (List ℕ)) (ts : List Term) (xs : List code.Assertion) (i : ℕ) (x : code.Assertion)
-    (id : ℕ) → i < length xs → x ≡ get_or xs i x → x.term ≡ Some id →
-    ((v : Valuation) → GivesWords words v → true ≡ holds (term_at ts id) v) →
-    IsTruthBy words (map (assertion_in ts) (take i xs)) true →
-    IsTruthBy words (map (assertion_in ts) (take (i + 1) xs)) true
-true_more words ts xs i x id low is some here before v gives =
-    sym (one_more (is_true_under v) ts xs i x low is (sym (before v gives))
-    (ap (λ o. is_true_under v (assertion_of ts o)) some ∙ sym (here v gives)))
+true_pushed : (words : List (List ℕ)) (truths : List Bool) (xs : List Assertion) (a : Assertion)
+    → AreTrueBy words truths xs → AreTrueBy words truths (a ∷ []) → AreTrueBy words truths (xs ++ a ∷ [])
+true_pushed words truths [] a h one = one
+true_pushed words truths (asserted t ∷ xs) a h one = (h.0, true_pushed words truths xs a h.1 one)
+true_pushed words truths (a_mark ∷ xs) a h one = absurd h
 
-pub false_at : (words : List (List ℕ)) (ts : List Term) (xs : List code.Assertion) (i : ℕ) (x : code.Assertion)
-    (id : ℕ) → i < length xs → x ≡ get_or xs i x → x.term ≡ Some id →
-    ((v : Valuation) → GivesWords words v → false ≡ holds (term_at ts id) v) →
-    IsTruthBy words (map (assertion_in ts) xs) false
-false_at words ts xs i x id low is some here v gives =
-    sym (one_fails (is_true_under v) ts xs i x low is
-    (ap (λ o. is_true_under v (assertion_of ts o)) some ∙ sym (here v gives)))
+one_true : (words : List (List ℕ)) (truths : List Bool) (a : Assertion) (t : Term) → a ≡ asserted t
+    → ((v : Valuation) → GivesValues words truths v t → true ≡ holds t v) → AreTrueBy words truths (a ∷ [])
+one_true words truths a t is h = rw is (λ v gives. sym (h v gives), tt)
+
+pub true_more : (words : List (List ℕ)) (truths : List Bool) (ts : List Term) (xs : List code.Assertion) (i : ℕ)
+    (x : code.Assertion) (id : ℕ) → i < length xs → x ≡ get_or xs i x → x.term ≡ Some id →
+    ((v : Valuation) → GivesValues words truths v (term_at ts id) → true ≡ holds (term_at ts id) v) →
+    AreTrueBy words truths (map (assertion_in ts) (take i xs)) →
+    AreTrueBy words truths (map (assertion_in ts) (take (i + 1) xs))
+true_more words truths ts xs i x id low is some here before =
+    subst (AreTrueBy words truths)
+    (sym (ap (map (assertion_in ts)) (take_more xs i x low ∙ ap (λ y. take i xs ++ y ∷ []) (sym is))
+    ∙ map-append (assertion_in ts) (take i xs) (x ∷ [])))
+    (true_pushed words truths (map (assertion_in ts) (take i xs)) (assertion_in ts x) before
+    (one_true words truths (assertion_in ts x) (term_at ts id) (ap (assertion_of ts) some) here))
+
+-- what values give all assertions, and each of them
+rest_given : (words : List (List ℕ)) (truths : List Bool) (v : Valuation) (a : Assertion) (rest : List Assertion)
+    → GiveAll words truths v (a ∷ rest) → GiveAll words truths v rest
+rest_given words truths v (asserted t) rest h = h.1
+rest_given words truths v a_mark rest h = h
+
+first_given : (words : List (List ℕ)) (truths : List Bool) (v : Valuation) (a : Assertion) (rest : List Assertion)
+    (t : Term) → a ≡ asserted t → GiveAll words truths v (a ∷ rest) → GivesValues words truths v t
+first_given words truths v a rest t is h = (rw is at h).0
+
+given_at : (words : List (List ℕ)) (truths : List Bool) (v : Valuation) (ts : List Term) (xs : List code.Assertion)
+    (i : ℕ) (x : code.Assertion) (id : ℕ) → i < length xs → x ≡ get_or xs i x → x.term ≡ Some id →
+    GiveAll words truths v (map (assertion_in ts) xs) → GivesValues words truths v (term_at ts id)
+given_at words truths v ts [] i x id low is some h = absurd (omega arith)
+given_at words truths v ts (y ∷ xs) zero x id low is some h =
+    first_given words truths v (assertion_in ts y) (map (assertion_in ts) xs) (term_at ts id)
+    (ap (λ z. assertion_in ts z) (sym is) ∙ ap (assertion_of ts) some) h
+given_at words truths v ts (y ∷ xs) (suc i) x id low is some h =
+    given_at words truths v ts xs i x id (omega arith) is some
+    (rest_given words truths v (assertion_in ts y) (map (assertion_in ts) xs) h)
+
+pub false_at : (words : List (List ℕ)) (truths : List Bool) (ts : List Term) (xs : List code.Assertion) (i : ℕ)
+    (x : code.Assertion) (id : ℕ) → i < length xs → x ≡ get_or xs i x → x.term ≡ Some id →
+    ((v : Valuation) → GivesValues words truths v (term_at ts id) → false ≡ holds (term_at ts id) v) →
+    (v : Valuation) → GiveAll words truths v (map (assertion_in ts) xs)
+    → list_all (is_true_under v) (map (assertion_in ts) xs) ≡ false
+false_at words truths ts xs i x id low is some here v gives =
+    one_fails (is_true_under v) ts xs i x low is
+    (ap (λ o. is_true_under v (assertion_of ts o)) some
+    ∙ sym (here v (given_at words truths v ts xs i x id low is some gives)))
 
 -- what is passed over is true
-pub passed : (words : List (List ℕ)) (marks : ℕ → Bool) (held : ℕ) (ts : List Term) (xs : List code.Assertion)
-    (i : ℕ) (x : code.Assertion) (id : ℕ) → i < length xs → x ≡ get_or xs i x → x.term ≡ Some id → i < held →
-    IsOfSame marks (term_at ts id) → MayPass words marks held (map (assertion_in ts) xs) →
-    (v : Valuation) → GivesWords words v → true ≡ holds (term_at ts id) v
-passed words marks held ts xs i x id low is some few member pass v gives =
+pub passed : (words : List (List ℕ)) (truths : List Bool) (marks : ℕ → Bool) (held : ℕ) (ts : List Term)
+    (xs : List code.Assertion) (i : ℕ) (x : code.Assertion) (id : ℕ) → i < length xs → x ≡ get_or xs i x →
+    x.term ≡ Some id → i < held → IsOfSame marks (term_at ts id) →
+    MayPass words truths marks held (map (assertion_in ts) xs) →
+    (v : Valuation) → GivesValues words truths v (term_at ts id) → true ≡ holds (term_at ts id) v
+passed words truths marks held ts xs i x id low is some few member pass v gives =
     sym (pass i (term_at ts id) few (there ts xs i x low is ∙ ap (λ o. Some (assertion_of ts o)) some) member v gives)
 
-pub true_all : (words : List (List ℕ)) (ts : List Term) (xs : List code.Assertion) (i : ℕ) → length xs ≤ i
-    → IsTruthBy words (map (assertion_in ts) (take i xs)) true → IsTruthBy words (map (assertion_in ts) xs) true
-true_all words ts xs i long h v gives =
-    h v gives ∙ ap (λ ys. list_all (is_true_under v) (map (assertion_in ts) ys)) (take_all i xs long)
+pub true_all : (words : List (List ℕ)) (truths : List Bool) (ts : List Term) (xs : List code.Assertion) (i : ℕ)
+    → length xs ≤ i → AreTrueBy words truths (map (assertion_in ts) (take i xs))
+    → AreTrueBy words truths (map (assertion_in ts) xs)
+true_all words truths ts xs i long h =
+    subst (λ ys. AreTrueBy words truths (map (assertion_in ts) ys)) (take_all i xs long) h

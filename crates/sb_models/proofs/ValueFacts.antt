@@ -9,54 +9,9 @@ use Rattle.sb_meaning.specs.Values.{Value}
 use Rattle.sb_proof.specs.declared.line.Value as code
 use Rattle.sb_proof.specs.Lines.{value_in as read}
 use Rattle.sb_models.specs.Knowing.{word_at}
-use Rattle.sb_models.specs.Tried.{word_in, word_of, words_of, put_first, is_word, text_in, texts_in, IsWordOf}
-
--- all values are words
-pub all_words : (xs : List Value) → list_all is_word xs ≡ true → words_of xs ≡ Some (map text_in xs)
-all_words [] h = refl
-all_words (x ∷ xs) h =
-    let parts = and_parts (is_word x) (list_all is_word xs) h in
-    rw (one x parts.0, all_words xs parts.1) refl
-  where
-    one : (x : Value) → is_word x ≡ true → word_of x ≡ Some (text_in x)
-    one x e = rw e refl
-
--- one of them is none
-pub not_all_words : (xs : List Value) → list_all is_word xs ≡ false → words_of xs ≡ None
-not_all_words [] h = absurd (false≢true (sym h))
-not_all_words (x ∷ xs) h = by (is_word x) refl h (not_all_words xs)
-  where
-    none : (x : Value) → is_word x ≡ false → word_of x ≡ None
-    none x e = rw e refl
-
-    nothing : (o : Option (List ℕ)) → put_first o None ≡ None
-    nothing None = refl
-    nothing (Some w) = refl
-
-    by : (b : Bool) → is_word x ≡ b → (b && list_all is_word xs) ≡ false
-        → (list_all is_word xs ≡ false → words_of xs ≡ None) → put_first (word_of x) (words_of xs) ≡ None
-    by true e k rest = rw (rest k) (nothing (word_of x))
-    by false e k rest = rw (none x e) refl
-
--- there are as many words as values
-pub words_long : (xs : List Value) (ws : List (List ℕ)) → Some ws ≡ words_of xs → length ws ≡ length xs
-words_long [] ws h = let same : ws ≡ [] = cc in ap length same
-words_long (x ∷ xs) ws h = by (word_of x) (words_of xs) refl h (words_long xs)
-  where
-    by : (o : Option (List ℕ)) (p : Option (List (List ℕ))) → p ≡ words_of xs → Some ws ≡ put_first o p
-        → ((us : List (List ℕ)) → Some us ≡ words_of xs → length us ≡ length xs)
-        → length ws ≡ suc (length xs)
-    by None p e k rest = absurd (let both : Some ws ≡ None = k in cc)
-    by (Some w) None e k rest = absurd (let both : Some ws ≡ None = k in cc)
-    by (Some w) (Some us) e k rest =
-        let same : ws ≡ w ∷ us = cc in
-        ap length same ∙ ap suc (rest us e)
+use Rattle.sb_models.specs.Tried.{word_in, is_word, IsWordOf}
 
 -- Values from a place on.
-
-pub texts_are : (values : List code.Value) → texts_in values ≡ map text_in (map read values)
-texts_are [] = refl
-texts_are (v ∷ values) = ap (λ ws. text_in (read v) ∷ ws) (texts_are values)
 
 abbrev pub AreWordsFrom : List code.Value → ℕ → Type 0
 AreWordsFrom values place = list_all is_word (map read (drop place values)) ≡ true

@@ -1,5 +1,5 @@
--- Words that are put in the place of others.
-use Rattle.std.proofs.Common.{◌≡◌, ◌==◌, ℕ, zero, suc, ◌+◌, ◌<◌, ◌≤◌, Bool, true, false, ◌||◌, if◌then◌else◌, List, [], ◌∷◌, ◌++◌, length, take, drop, set, get_or, length-append, refl, sym, ap, ap₂, ◌∙◌, arith, Some, slice_get}
+-- Words and truth values that are put in the place of others.
+use Rattle.std.proofs.Common.{◌≡◌, ◌==◌, ℕ, zero, suc, ◌+◌, ◌<◌, ◌≤◌, Bool, true, false, ◌||◌, if◌then◌else◌, List, [], ◌∷◌, ◌++◌, length, take, drop, set, get_or, length-append, refl, sym, ap, ap₂, ◌∙◌, arith, Some, slice_get, unwrap_or, map}
 use Rattle.std.proofs.lemmas.Bool.{eqb-true, false≢true}
 use Rattle.std.proofs.lemmas.Bool.Decides.{nat_tests}
 use Rattle.std.proofs.lemmas.Option.{get_or_from_slice_get, slice_get_within}
@@ -8,7 +8,7 @@ use Rattle.sb_stack.specs.declared.constant.LiveConstant.{LiveConstant}
 use Rattle.sb_proof.specs.declared.line.Value as code
 use Rattle.sb_proof.specs.Lines.{value_in as read}
 use Rattle.sb_models.specs.Knowing.{word_at, is_serial_of, AreEmptyBut}
-use Rattle.sb_models.specs.Tried.{text_in, texts_in, word_given, also_marked, AreSame, Changes, IsPut}
+use Rattle.sb_models.specs.Tried.{texts_in, text_in, one_given, word_given, also_marked, AreSame, Changes, IsPut, IsPutAt}
 
 pub same_next : (a b : ℕ) → (suc a == suc b) ≡ (a == b)
 same_next a b = grind (arith, nat_tests)
@@ -32,25 +32,40 @@ put_there words place w is serial = by (place == serial) refl
     by true e = ap (word_at words) (sym (eqb-true place serial e)) ∙ is
     by false e = refl
 
-set_word : (words : List (List ℕ)) (place : ℕ) (w : List ℕ) → place < length words
-    → IsPut place w words (set words place w)
-set_word [] place w l serial = absurd (omega arith)
-set_word (x ∷ words) zero w l zero = refl
-set_word (x ∷ words) zero w l (suc serial) = rw (none_next serial) refl
-set_word (x ∷ words) (suc place) w l zero = rw (some_none place) refl
-set_word (x ∷ words) (suc place) w l (suc serial) =
-    rw (same_next place serial) (set_word words place w (omega arith) serial)
+-- what stands at a serial, past the last one this
+abbrev pub at : {X : Type 0} → X → List X → ℕ → X
+at other xs serial = unwrap_or (slice_get xs serial) other
 
-pub put_in : (old middle : List (List ℕ)) (place : ℕ) (w : List ℕ) → place < length middle
-    → ((serial : ℕ) → word_at middle serial ≡ word_at old serial) → IsPut place w old (set middle place w)
-put_in old middle place w l same serial = set_word middle place w l serial
-    ∙ ap (λ v. if place == serial then w else v) (same serial)
+set_at : {X : Type 0} (other : X) (xs : List X) (place : ℕ) (x : X) → place < length xs
+    → IsPutAt place x (at other xs) (at other (set xs place x))
+set_at other [] place x l serial = absurd (omega arith)
+set_at other (y ∷ xs) zero x l zero = refl
+set_at other (y ∷ xs) zero x l (suc serial) = rw (none_next serial) refl
+set_at other (y ∷ xs) (suc place) x l zero = rw (some_none place) refl
+set_at other (y ∷ xs) (suc place) x l (suc serial) =
+    rw (same_next place serial) (set_at other xs place x (omega arith) serial)
+
+pub put_in : {X : Type 0} (other : X) (old middle : List X) (place : ℕ) (x : X) → place < length middle
+    → ((serial : ℕ) → at other middle serial ≡ at other old serial)
+    → IsPutAt place x (at other old) (at other (set middle place x))
+put_in other old middle place x l same serial = set_at other middle place x l serial
+    ∙ ap (λ v. if place == serial then x else v) (same serial)
+
+pub pushed_other : {X : Type 0} (other : X) (xs : List X) (serial : ℕ)
+    → at other (xs ++ other ∷ []) serial ≡ at other xs serial
+pushed_other other [] zero = refl
+pushed_other other [] (suc serial) = refl
+pushed_other other (x ∷ xs) zero = refl
+pushed_other other (x ∷ xs) (suc serial) = pushed_other other xs serial
 
 pub pushed_empty : (words : List (List ℕ)) (serial : ℕ) → word_at (words ++ [] ∷ []) serial ≡ word_at words serial
-pushed_empty [] zero = refl
-pushed_empty [] (suc serial) = refl
-pushed_empty (w ∷ words) zero = refl
-pushed_empty (w ∷ words) (suc serial) = pushed_empty words serial
+pushed_empty words serial = pushed_other [] words serial
+
+-- past the last one
+pub past_last : {X : Type 0} (other : X) (xs : List X) (place : ℕ) → length xs ≤ place → at other xs place ≡ other
+past_last other [] place l = refl
+past_last other (x ∷ xs) zero l = absurd (omega (arith, l))
+past_last other (x ∷ xs) (suc place) l = past_last other xs place (omega (arith, l))
 
 -- Marks.
 
@@ -140,78 +155,83 @@ pub empty_at_last : (constants : List LiveConstant) (count place : ℕ) (words :
 empty_at_last constants count place words long empty serial h =
     empty serial h (ap (λ cs. is_serial_of cs serial) (drop_all place constants long))
 
--- Words of live constants, from the last one on.
+-- What live constants are given, from the last one on.
 
-no_word_given : (constants : List LiveConstant) (serial : ℕ) (other : List ℕ) → word_given constants [] serial other ≡ other
-no_word_given [] serial other = refl
-no_word_given (c ∷ constants) serial other = refl
+nothing_given : {X : Type 0} (constants : List LiveConstant) (serial : ℕ) (other : X)
+    → one_given constants [] serial other ≡ other
+nothing_given [] serial other = refl
+nothing_given (c ∷ constants) serial other = refl
 
-given_last : (constants : List LiveConstant) (words : List (List ℕ)) (w : List ℕ) (d : LiveConstant) (serial : ℕ)
-    (other : List ℕ) → length words < length constants
-    → word_given constants (words ++ w ∷ []) serial other
-    ≡ word_given constants words serial (if (get_or constants (length words) d).serial.0 == serial then w else other)
-given_last [] words w d serial other low = absurd (omega arith)
-given_last (c ∷ constants) [] w d serial other low =
-    ap (λ v. if c.serial.0 == serial then w else v) (no_word_given constants serial other)
-given_last (c ∷ constants) (v ∷ words) w d serial other low =
-    ap (λ u. if c.serial.0 == serial then v else u) (given_last constants words w d serial other (omega arith))
+given_last : {X : Type 0} (constants : List LiveConstant) (xs : List X) (x : X) (d : LiveConstant) (serial : ℕ)
+    (other : X) → length xs < length constants
+    → one_given constants (xs ++ x ∷ []) serial other
+    ≡ one_given constants xs serial (if (get_or constants (length xs) d).serial.0 == serial then x else other)
+given_last [] xs x d serial other low = absurd (omega arith)
+given_last (c ∷ constants) [] x d serial other low =
+    ap (λ v. if c.serial.0 == serial then x else v) (nothing_given constants serial other)
+given_last (c ∷ constants) (y ∷ xs) x d serial other low =
+    ap (λ u. if c.serial.0 == serial then y else u) (given_last constants xs x d serial other (omega arith))
 
 -- what is there, or what is still to be put, is the whole
-abbrev pub AreRest : List LiveConstant → List (List ℕ) → List (List ℕ) → List (List ℕ) → List (List ℕ) → Type 0
-AreRest constants all at_first left now = (serial : ℕ) → word_given constants left serial (word_at now serial)
-    ≡ word_given constants all serial (word_at at_first serial)
+abbrev pub AreRest : {X : Type 0} → List LiveConstant → List X → (ℕ → X) → List X → (ℕ → X) → Type 0
+AreRest constants all at_first left now = (serial : ℕ) → one_given constants left serial (now serial)
+    ≡ one_given constants all serial (at_first serial)
 
-fewer : (left left' : List (List ℕ)) (w : List ℕ) (n : ℕ) → left ≡ left' ++ w ∷ [] → length left ≤ n
+fewer : {X : Type 0} (left left' : List X) (x : X) (n : ℕ) → left ≡ left' ++ x ∷ [] → length left ≤ n
     → length left' < n
-fewer left left' w n is few = omega (arith, few, ap length is, length-append left' (w ∷ []))
+fewer left left' x n is few = omega (arith, few, ap length is, length-append left' (x ∷ []))
 
-rest_more : (constants : List LiveConstant) (all at_first left left' old new : List (List ℕ)) (w : List ℕ) (n : ℕ)
-    (d : LiveConstant) → left ≡ left' ++ w ∷ [] → length left ≤ length constants → n ≡ length left'
-    → IsPut (get_or constants n d).serial.0 w old new → AreRest constants all at_first left old
+rest_more : {X : Type 0} (constants : List LiveConstant) (all left left' : List X) (at_first old new : ℕ → X) (x : X)
+    (n : ℕ) (d : LiveConstant) → left ≡ left' ++ x ∷ [] → length left ≤ length constants → n ≡ length left'
+    → IsPutAt (get_or constants n d).serial.0 x old new → AreRest constants all at_first left old
     → AreRest constants all at_first left' new
-rest_more constants all at_first left left' old new w n d last few is put rest serial =
-    ap (word_given constants left' serial) (put serial)
-    ∙ (ap (λ m. word_given constants left' serial (if (get_or constants m d).serial.0 == serial then w else word_at old serial))
+rest_more constants all left left' at_first old new x n d last few is put rest serial =
+    ap (one_given constants left' serial) (put serial)
+    ∙ (ap (λ m. one_given constants left' serial (if (get_or constants m d).serial.0 == serial then x else old serial))
     is
-    ∙ (sym (given_last constants left' w d serial (word_at old serial) (fewer left left' w (length constants) last few))
-    ∙ (ap (λ ws. word_given constants ws serial (word_at old serial)) (sym last) ∙ rest serial)))
+    ∙ (sym (given_last constants left' x d serial (old serial) (fewer left left' x (length constants) last few))
+    ∙ (ap (λ ys. one_given constants ys serial (old serial)) (sym last) ∙ rest serial)))
 
-text_at : (values : List code.Value) (place : ℕ) (d : code.Value) → place < length values
-    → get_or (texts_in values) place (text_in (read d)) ≡ text_in (read (get_or values place d))
-text_at [] place d low = absurd (omega arith)
-text_at (v ∷ values) zero d low = refl
-text_at (v ∷ values) (suc place) d low = text_at values place d (omega arith)
+mapped_at : {X : Type 0} (f : code.Value → X) (values : List code.Value) (place : ℕ) (d : code.Value)
+    → place < length values → get_or (map f values) place (f d) ≡ f (get_or values place d)
+mapped_at f [] place d low = absurd (omega arith)
+mapped_at f (v ∷ values) zero d low = refl
+mapped_at f (v ∷ values) (suc place) d low = mapped_at f values place d (omega arith)
 
--- the word of the value at a place is put, behind those of the values behind it
-pub rest_next : (constants : List LiveConstant) (values : List code.Value) (at_first old new : List (List ℕ)) (place : ℕ)
-    (d : LiveConstant) (x : code.Value) → length values ≡ length constants → place < length values
-    → x ≡ get_or values place x → IsPut (get_or constants place d).serial.0 (text_in (read x)) old new
-    → AreRest constants (texts_in values) at_first (take (place + 1) (texts_in values)) old
-    → AreRest constants (texts_in values) at_first (take place (texts_in values)) new
-rest_next constants values at_first old new place d x long low is put rest =
-    rest_more constants (texts_in values) at_first (take (place + 1) (texts_in values)) (take place (texts_in values))
-    old new (text_in (read x)) place d
-    (take_more (texts_in values) place (text_in (read x)) there
-    ∙ ap (λ w. take place (texts_in values) ++ w ∷ [])
-    (text_at values place x low ∙ ap (λ v. text_in (read v)) (sym is)))
-    (omega (arith, long, low, length-take-le (place + 1) (texts_in values) (omega (arith, there))))
-    (sym (length-take-le place (texts_in values) (omega (arith, there)))) put rest
+-- what is made of the value at a place is put, behind that of the values behind it
+pub rest_next : {X : Type 0} (f : code.Value → X) (constants : List LiveConstant) (values : List code.Value)
+    (at_first old new : ℕ → X) (place : ℕ) (d : LiveConstant) (x : code.Value) → length values ≡ length constants
+    → place < length values → x ≡ get_or values place x → IsPutAt (get_or constants place d).serial.0 (f x) old new
+    → AreRest constants (map f values) at_first (take (place + 1) (map f values)) old
+    → AreRest constants (map f values) at_first (take place (map f values)) new
+rest_next f constants values at_first old new place d x long low is put rest =
+    rest_more constants (map f values) (take (place + 1) (map f values)) (take place (map f values))
+    at_first old new (f x) place d
+    (take_more (map f values) place (f x) there
+    ∙ ap (λ w. take place (map f values) ++ w ∷ []) (mapped_at f values place x low ∙ ap f (sym is)))
+    (omega (arith, long, low, length-take-le (place + 1) (map f values) (omega (arith, there))))
+    (sym (length-take-le place (map f values) (omega (arith, there)))) put rest
   where
-    there : place < length (texts_in values)
-    there = omega (arith, low, length-map values (λ x. text_in (read x)))
+    there : place < length (map f values)
+    there = omega (arith, low, length-map values f)
 
-pub none_taken : (place : ℕ) (words : List (List ℕ)) → place ≡ 0 → take place words ≡ []
-none_taken place words is = ap (λ n. take n words) is
+pub none_taken : {X : Type 0} (place : ℕ) (xs : List X) → place ≡ 0 → take place xs ≡ []
+none_taken place xs is = ap (λ n. take n xs) is
+
+-- at first, all is still to be put
+pub rest_first : {X : Type 0} (constants : List LiveConstant) (all left : List X) (at_first : ℕ → X) → left ≡ all
+    → AreRest constants all at_first left at_first
+rest_first constants all left at_first is serial = ap (λ xs. one_given constants xs serial (at_first serial)) is
 
 pub texts_long : (values : List code.Value) → length (texts_in values) ≡ length values
 texts_long values = length-map values (λ x. text_in (read x))
 
-pub rest_none : (constants : List LiveConstant) (all at_first left now : List (List ℕ)) → left ≡ []
+pub rest_none : {X : Type 0} (constants : List LiveConstant) (all left : List X) (at_first now : ℕ → X) → left ≡ []
     → AreRest constants all at_first left now → (serial : ℕ)
-    → word_at now serial ≡ word_given constants all serial (word_at at_first serial)
-rest_none constants all at_first left now none rest serial =
-    sym (no_word_given constants serial (word_at now serial))
-    ∙ (ap (λ ws. word_given constants ws serial (word_at now serial)) (sym none) ∙ rest serial)
+    → now serial ≡ one_given constants all serial (at_first serial)
+rest_none constants all left at_first now none rest serial =
+    sym (nothing_given constants serial (now serial))
+    ∙ (ap (λ xs. one_given constants xs serial (now serial)) (sym none) ∙ rest serial)
 
 others_empty : (constants : List LiveConstant) (words : List (List ℕ)) (serial : ℕ) (other : List ℕ)
     → length words ≡ length constants → (is_serial_of constants serial ≡ false → other ≡ [])

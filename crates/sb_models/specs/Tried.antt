@@ -1,4 +1,4 @@
--- Private: values as words, and what of the last model holds under others.
+-- Private: values as words and truth values, and what of the last model holds under others.
 use Rattle.std.specs.Prelude.{◌≡◌, ◌&&◌, ◌==◌, ℕ, ◌<◌, Bool, true, false, if◌then◌else◌, List, [], ◌∷◌, length, map, slice_get, Option, Some, None, option_map}
 use Rattle.std.specs.HashSet.{HashSet, contains}
 use Rattle.std.specs.List.{list_all}
@@ -8,11 +8,11 @@ use Rattle.sb_meaning.specs.Values.{Value, Valuation, Text, Int, Truth, value_in
 use Rattle.sb_meaning.specs.Truth.{holds}
 use Rattle.sb_script.specs.Brought.{asked}
 use Rattle.sb_script.specs.State.{Assertion, asserted}
-use Rattle.sb_eval.specs.Given.{GivesWords}
+use Rattle.sb_eval.specs.Given.{GivesValues}
 use Rattle.sb_stack.specs.declared.constant.LiveConstant.{LiveConstant}
 use Rattle.sb_proof.specs.declared.line.Value as code
 use Rattle.sb_proof.specs.Lines.{value_in as read}
-use Rattle.sb_models.specs.Knowing.{word_at, is_true_under}
+use Rattle.sb_models.specs.Knowing.{word_at, truth_at, is_true_under}
 
 -- the numbers, or one of them is no character
 abbrev pub are_codes : List ℕ → Option (List ℕ) → Type 0
@@ -28,18 +28,13 @@ text_in (Text w) = w
 text_in (Int n) = []
 text_in (Truth b) = []
 
--- the word of a value, and those of values; a value that is no text has the empty one
-abbrev pub word_of : Value → Option (List ℕ)
-word_of x = word_in (text_in x)
+-- the truth value of a value, false where it is none
+abbrev pub truth_in : Value → Bool
+truth_in (Truth b) = b
+truth_in (Int n) = false
+truth_in (Text w) = false
 
-abbrev pub put_first : Option (List ℕ) → Option (List (List ℕ)) → Option (List (List ℕ))
-put_first None words = None
-put_first (Some w) words = option_map (λ ws. w ∷ ws) words
-
-abbrev pub words_of : List Value → Option (List (List ℕ))
-words_of [] = Some []
-words_of (x ∷ xs) = put_first (word_of x) (words_of xs)
-
+-- the value is a word; one that is no text has the empty one
 abbrev pub is_word : Value → Bool
 is_word x = are_characters (text_in x)
 
@@ -60,6 +55,9 @@ are_kinds _ _ = false
 abbrev pub texts_in : List code.Value → List (List ℕ)
 texts_in values = map (λ v. text_in (read v)) values
 
+abbrev pub truths_in : List code.Value → List Bool
+truths_in values = map (λ v. truth_in (read v)) values
+
 -- the word is that of these numbers
 abbrev pub IsWordOf : List ℕ → List ℕ → Type 0
 IsWordOf word numbers = (word ≡ numbers) × (are_characters numbers ≡ true)
@@ -67,26 +65,25 @@ IsWordOf word numbers = (word ≡ numbers) × (are_characters numbers ≡ true)
 abbrev pub IsConstantAt : List LiveConstant → ℕ → LiveConstant → Type 0
 IsConstantAt constants place c = slice_get constants place ≡ Some c
 
--- The words of constants, one of each in order. The first of a serial counts, and another serial has this word.
+-- What constants are given, one of each in order. The first of a serial counts, and another serial has this.
+abbrev pub one_given : {X : Type 0} → List LiveConstant → List X → ℕ → X → X
+one_given [] xs serial other = other
+one_given (c ∷ constants) [] serial other = other
+one_given (c ∷ constants) (x ∷ xs) serial other =
+    if c.serial.0 == serial then x else one_given constants xs serial other
+
 abbrev pub word_given : List LiveConstant → List (List ℕ) → ℕ → List ℕ → List ℕ
-word_given [] words serial other = other
-word_given (c ∷ constants) [] serial other = other
-word_given (c ∷ constants) (w ∷ words) serial other =
-    if c.serial.0 == serial then w else word_given constants words serial other
+word_given constants words serial other = one_given constants words serial other
 
--- the values are those of constants with these words, the empty one for others
-abbrev pub GivesConstants : List LiveConstant → List (List ℕ) → Valuation → Type 0
-GivesConstants constants words v = (serial : ℕ) → value_in v serial text ≡ Text (word_given constants words serial [])
+-- the values of constants, by serial
+abbrev pub given : List (ℕ × Sort) → List Value → Valuation
+given [] xs = []
+given (d ∷ ds) [] = []
+given (d ∷ ds) (x ∷ xs) = (d.0, x) ∷ given ds xs
 
--- the test is that of whether all of them are true where constants have these words
-abbrev pub AreAllTrue : List LiveConstant → List (List ℕ) → List Assertion → Bool → Type 0
-AreAllTrue constants words assertions truth =
-    (v : Valuation) → GivesConstants constants words v → truth ≡ list_all (is_true_under v) assertions
-
--- the test is that of whether the values are these words, and all of them are true where constants have these
-abbrev pub AreTrueWords : List LiveConstant → Option (List (List ℕ)) → List Assertion → Bool → Type 0
-AreTrueWords constants None assertions truth = truth ≡ false
-AreTrueWords constants (Some words) assertions truth = AreAllTrue constants words assertions truth
+-- the values are words where they are texts, and make the assertions true
+abbrev pub are_tried : List (ℕ × Sort) → List Value → List Assertion → Bool
+are_tried ds xs assertions = list_all is_word xs && list_all (is_true_under (given ds xs)) assertions
 
 -- the serials that the set has
 abbrev pub marks_of : {S : Type 0} → HashSet ℕ S → ℕ → Bool
@@ -104,13 +101,23 @@ abbrev pub Changes : List (List ℕ) → (ℕ → Bool) → List (List ℕ) → 
 Changes old marks new marks' = (serial : ℕ) → marks' serial ≡ false
     → (marks serial ≡ false) × (word_at old serial ≡ word_at new serial)
 
--- the word stands at the serial, and others stay
+-- it stands at the serial, and others stay
+abbrev pub IsPutAt : {X : Type 0} → ℕ → X → (ℕ → X) → (ℕ → X) → Type 0
+IsPutAt place x old new = (serial : ℕ) → new serial ≡ (if place == serial then x else old serial)
+
 abbrev pub IsPut : ℕ → List ℕ → List (List ℕ) → List (List ℕ) → Type 0
-IsPut place w old new = (serial : ℕ) → word_at new serial ≡ (if place == serial then w else word_at old serial)
+IsPut place w old new = IsPutAt place w (word_at old) (word_at new)
+
+abbrev pub IsTruthPut : ℕ → Bool → List Bool → List Bool → Type 0
+IsTruthPut place b old new = IsPutAt place b (truth_at old) (truth_at new)
 
 -- all words stay, and there is one at the place
 abbrev pub HasWordAt : ℕ → List (List ℕ) → List (List ℕ) → Type 0
 HasWordAt place old new = (place < length new) × ((serial : ℕ) → word_at new serial ≡ word_at old serial)
+
+-- all truth values stay, and there is one at the place
+abbrev pub HasTruthAt : ℕ → List Bool → List Bool → Type 0
+HasTruthAt place old new = (place < length new) × ((serial : ℕ) → truth_at new serial ≡ truth_at old serial)
 
 -- the term asks something of the word of one constant alone, whose serial is not marked
 pub record IsOfSame (marks : ℕ → Bool) (t : Term) : Type 0 where
@@ -120,7 +127,7 @@ pub record IsOfSame (marks : ℕ → Bool) (t : Term) : Type 0 where
   pub same : marks serial ≡ false
 
 -- what stands at such a place, and is of a constant with the same word, is true where the constants have these words
-abbrev pub MayPass : List (List ℕ) → (ℕ → Bool) → ℕ → List Assertion → Type 0
-MayPass words marks held assertions = (place : ℕ) (t : Term) → place < held
-    → slice_get assertions place ≡ Some (asserted t) → IsOfSame marks t → (v : Valuation) → GivesWords words v
-    → holds t v ≡ true
+abbrev pub MayPass : List (List ℕ) → List Bool → (ℕ → Bool) → ℕ → List Assertion → Type 0
+MayPass words truths marks held assertions = (place : ℕ) (t : Term) → place < held
+    → slice_get assertions place ≡ Some (asserted t) → IsOfSame marks t → (v : Valuation)
+    → GivesValues words truths v t → holds t v ≡ true

@@ -1,12 +1,12 @@
 //! The words of the live constants, put in the place of those of the last model. A constant of another sort than String
 //! has the empty word.
 
-ghost use Rattle.std.specs.Prelude.{◌≡◌, ℕ, true, None, Some, [], length, map, take, IfOk, OnOk, IfNone, IfSome};
+ghost use Rattle.std.specs.Prelude.{◌≡◌, ℕ, true, false, [], length, map, take, IfOk, OnOk, IfNone, IfSome};
 ghost use Rattle.std.specs.List.{list_all};
 ghost use Rattle.sb_word.specs.Words.{are_characters};
 ghost use Rattle.sb_proof.specs.Lines.{value_in};
 ghost use Rattle.sb_models.specs.Knowing.{word_at, AreEmptyBut};
-ghost use Rattle.sb_models.specs.Tried.{words_of, is_word, text_in, texts_in, word_given, marks_of, also_marked, AreSame, Changes, IsPut, HasWordAt, IsConstantAt};
+ghost use Rattle.sb_models.specs.Tried.{is_word, text_in, texts_in, word_given, marks_of, also_marked, AreSame, Changes, IsPut, HasWordAt, IsConstantAt};
 
 use crate::words::{is_at, word_in};
 use sb_proof::Value;
@@ -185,9 +185,8 @@ pub(crate) fn change(
 ) -> Result<Option<HashSet<u64>>, AllocError>
     requires empty { AreEmptyBut before.now words.old.items }
     requires long { length values.now ≡ length live.now }
-    ensures none { IfOk result (λ found. IfNone found (words_of (map value_in values.now) ≡ None)) }
-    ensures some { IfOk result
-        (λ found. IfSome found (λ _. words_of (map value_in values.now) ≡ Some (texts_in values.now))) }
+    ensures none { IfOk result (λ found. IfNone found (list_all is_word (map value_in values.now) ≡ false)) }
+    ensures some { IfOk result (λ found. IfSome found (λ _. list_all is_word (map value_in values.now) ≡ true)) }
     ensures words { IfOk result (λ found. IfSome found (λ _. (serial : ℕ) → word_at words.new.items serial
         ≡ word_given live.now (texts_in values.now) serial [])) }
     ensures same { IfOk result (λ found. IfSome found

@@ -6,18 +6,21 @@ ghost use Rattle.sb_regex.specs.Numbered.{Extends};
 ghost use Rattle.sb_problem.specs.Known.{AreNormals};
 ghost use Rattle.sb_plain.specs.Memory.{IsRight};
 ghost use Rattle.sb_script.specs.Fragment.{in_fragment};
+ghost use Rattle.sb_script.specs.State.{terms_in};
 ghost use Rattle.sb_rulebook.specs.Accepted.{question_in};
 ghost use Rattle.sb_rulebook.specs.Verdicts.{are_model_of};
 ghost use Rattle.sb_fragment.specs.Measures.{AreMeasures};
 ghost use Rattle.sb_fragment.specs.Rules.{is_decided};
 ghost use Rattle.sb_proof.specs.Lines.{value_in};
-ghost use Rattle.sb_stack.specs.Stacked.{Stacked, state_of};
-ghost use Rattle.sb_models.specs.Knowing.{Knows, IsTruthBy, assertions_of};
-ghost use Rattle.sb_models.specs.Tried.{words_of, marks_of, MayPass, AreTrueWords};
+ghost use Rattle.sb_stack.specs.Speaking.{speaks_of};
+ghost use Rattle.sb_stack.specs.Stacked.{Stacked, state_of, live_in};
+ghost use Rattle.sb_models.specs.Knowing.{Knows, AreTrueBy, IsTruthBy, assertions_of};
+ghost use Rattle.sb_models.specs.Tried.{are_kinds, are_tried, marks_of, MayPass};
 ghost use Rattle.sb_models.specs.Laws.{AreTakenBack};
 
 use crate::changes::change;
 use crate::kinds::are_kinds;
+use crate::truths::{are_same, truths_of};
 use crate::trying::{all_hold, fits};
 use sb_fragment::{Measures, fragment_is_of_each};
 use sb_plain::Plain;
@@ -35,10 +38,12 @@ use std::mem;
 pub struct Models {
     /// So many of them, from the first on, are known to be decided ones.
     pub inside: usize,
-    /// So many are known to be true under the words of the last model.
+    /// So many are known to be true under the words and truth values of the last model.
     pub held: usize,
     /// These words, the one of each constant at its serial, and the empty one at any other.
     pub words: Vec<Word>,
+    /// These truth values, by serial, false past the last one.
+    pub truths: Vec<bool>,
     /// The constants that were live there.
     pub constants: Vec<LiveConstant>,
 }
@@ -52,6 +57,7 @@ impl Models {
             inside: 0,
             held: 0,
             words: Vec::new(alloc),
+            truths: Vec::new(alloc),
             constants: Vec::new(alloc),
         }
     }
@@ -65,8 +71,8 @@ impl Models {
         self.held = self.held.min(count);
     }
 
-    /// Whether all live assertions are decided ones. Linear in those that are new since the last call, but that terms
-    /// are measured which were not yet. `AllocError` only for want of memory.
+    /// Whether all live assertions are decided ones. Linear in the trees of those that are new since the last call, but
+    /// that terms are measured which were not yet. `AllocError` only for want of memory.
     pub fn is_inside(&mut self, measures: &mut Measures, stack: &Stack) -> Result<bool, AllocError>
         requires knows { Knows self.old stack.now }
         requires measures { AreMeasures stack.now.table measures.old }
@@ -87,14 +93,16 @@ impl Models {
     }
 
     /// Whether the values, in the order of the live constants, are a model of the live assertions, which are decided
-    /// ones: there is a value of its sort for each constant, and the words make each assertion true, which speaks of
-    /// constants of sort String alone. Where they are, the words are kept.
+    /// ones: there is a value of its sort for each constant, and the words and truth values make each assertion true.
+    /// Where they are, they are kept.
     ///
-    /// Where each constant has the word that it had in the last model, and each one declared since has the empty word,
-    /// only the assertions behind those that were true there are looked at. Else all are, and one that was true there
-    /// and whose constant has the word that it had there is passed over in constant time. For each other one the cost
-    /// is that of [`sb_eval::eval`]. Linear in the values besides, and in the constants of the last model that are gone;
-    /// no memory is taken for a value that is the word of its constant in the last model.
+    /// Where each constant has the word and the truth value that it had in the last model, and each one declared since
+    /// has the empty word, or false, only the assertions behind those that were true there are looked at. Else all are,
+    /// and one that was true there and asks something of the word of one constant alone, which has the word that it had
+    /// there, is passed over in constant time. For each other one the cost is that of [`sb_eval::eval`]. Linear in the
+    /// values besides, and in the constants of the last model that are gone; no memory is taken for a value that is the
+    /// word of its constant in the last model. Where a Bool constant is true, linear in the constants declared before it
+    /// too.
     /// After values that are none of a model, and after want of memory, the next call looks at all assertions.
     /// `AllocError` only for want of memory.
     pub fn is_model(
@@ -130,9 +138,8 @@ impl Models {
         self.hold_under(alloc, plain, normals, arena, stack, constants, values)
     }
 
-    /// Whether the words of the values are words, and all live assertions are true where the live constants have them, one
-    /// each.
-    /// Where they are, the words are kept.
+    /// Whether the words of the values are words, and all live assertions are true where the live constants have these
+    /// values, one each. Where they are, they are kept.
     fn hold_under(
         &mut self,
         alloc: Global,
@@ -145,11 +152,13 @@ impl Models {
     ) -> Result<bool, AllocError>
         requires knows { Knows self.old stack.now }
         requires decided { list_all is_decided (assertions_of stack.now) ≡ true }
+        requires named { list_all (speaks_of (map live_in constants.items)) (terms_in (assertions_of stack.now)) ≡ true }
+        requires kinds { are_kinds (map live_in constants.items) (map value_in values.now) ≡ true }
         requires long { length values.now ≡ length constants.items }
         requires normals { AreNormals stack.now.table arena.old normals.old }
         requires right { IsRight arena.old plain.old }
-        ensures ok { IfOk result
-            (AreTrueWords constants.items (words_of (map value_in values.now)) (assertions_of stack.now)) }
+        ensures ok { IfOk result (λ truth. truth
+            ≡ are_tried (map live_in constants.items) (map value_in values.now) (assertions_of stack.now)) }
         ensures knows { Knows self.new stack.now }
         ensures extends { Extends arena.old arena.new }
         ensures normals { AreNormals stack.now.table arena.new normals.new }
@@ -158,44 +167,57 @@ impl Models {
         let held = mem::replace(&mut self.held, 0);
         let before = mem::replace(&mut self.constants, Vec::new(alloc));
         let mut words = mem::replace(&mut self.words, Vec::new(alloc));
+        let last = mem::replace(&mut self.truths, Vec::new(alloc));
         let Some(changed) = change(alloc, &mut words, &before, &constants, values)? else {
             return Ok(false);
         };
-        if !are_true(plain, normals, arena, stack, &words, &changed, held)? {
+        let truths = truths_of(alloc, &constants, values)?;
+        let same = are_same(&last, &truths);
+        if !are_true(
+            plain, normals, arena, stack, &words, &truths, &changed, same, held,
+        )? {
             return Ok(false);
         }
         self.inside = stack.assertions().len();
         self.held = self.inside;
         self.words = words;
+        self.truths = truths;
         self.constants = constants;
         Ok(true)
     }
 }
 
-/// Whether all live assertions are true under words, where the first so many are but for those whose constant has
-/// another word than before.
+/// Whether all live assertions are true under words and truth values. Of the first so many those are that ask something
+/// of the word of one constant alone, but where it has another word than before; and all are where no word is another
+/// one, and the truth values are the same.
 fn are_true(
     plain: &mut Plain,
     normals: &mut Normals,
     arena: &mut Arena,
     stack: &Stack,
     words: &[Word],
+    truths: &[bool],
     changed: &HashSet<u64>,
+    same: bool,
     held: usize,
 ) -> Result<bool, AllocError>
     requires decided { list_all is_decided (assertions_of stack.now) ≡ true }
-    requires pass { MayPass words.now (marks_of changed.now) held (assertions_of stack.now) }
-    requires before { ((serial : ℕ) → marks_of changed.now serial ≡ false)
-        → IsTruthBy words.now (take held (assertions_of stack.now)) true }
+    requires pass { MayPass words.now truths.now (marks_of changed.now) held (assertions_of stack.now) }
+    requires before { same ≡ true → ((serial : ℕ) → marks_of changed.now serial ≡ false)
+        → AreTrueBy words.now truths.now (take held (assertions_of stack.now)) }
     requires normals { AreNormals stack.now.table arena.old normals.old }
     requires right { IsRight arena.old plain.old }
-    ensures ok { IfOk result (IsTruthBy words.now (assertions_of stack.now)) }
+    ensures ok { IfOk result (IsTruthBy words.now truths.now (assertions_of stack.now)) }
     ensures extends { Extends arena.old arena.new }
     ensures normals { AreNormals stack.now.table arena.new normals.new }
     ensures right { IsRight arena.new plain.new }
 {
-    if changed.is_empty() {
-        return all_hold(plain, normals, arena, stack, words, changed, 0, held);
+    if same && changed.is_empty() {
+        return all_hold(
+            plain, normals, arena, stack, words, truths, changed, 0, held,
+        );
     }
-    all_hold(plain, normals, arena, stack, words, changed, held, 0)
+    all_hold(
+        plain, normals, arena, stack, words, truths, changed, held, 0,
+    )
 }

@@ -1,4 +1,4 @@
-//! Assertions under words.
+//! Assertions under words and truth values.
 
 ghost use Rattle.std.specs.Prelude.{◌≡◌, ◌<◌, true, length, take, IfOk};
 ghost use Rattle.std.specs.List.{list_all};
@@ -9,7 +9,7 @@ ghost use Rattle.sb_plain.specs.Memory.{IsRight};
 ghost use Rattle.sb_fragment.specs.Rules.{is_decided};
 ghost use Rattle.sb_fragment.specs.Measures.{AreMeasures};
 ghost use Rattle.sb_stack.specs.Stacked.{assertion_in, HasNumberBelow};
-ghost use Rattle.sb_models.specs.Knowing.{IsTruthBy, assertions_of};
+ghost use Rattle.sb_models.specs.Knowing.{AreTrueBy, IsTruthBy, assertions_of};
 ghost use Rattle.sb_models.specs.Tried.{marks_of, IsOfSame, MayPass};
 
 use sb_eval::eval;
@@ -35,7 +35,7 @@ pub(crate) fn fits(
     ensures right { AreMeasures table.now measures.new }
 {
     match assertion.term {
-        Some(id) => measures.fits(table, id),
+        Some(id) => measures.fits_structure(table, id),
         None => Ok(false),
     }
 }
@@ -59,24 +59,25 @@ fn may_pass(table: &Table, id: TermId, place: usize, changed: &HashSet<u64>, hel
     place < held && is_of_same(table, id, changed)
 }
 
-/// Whether all live assertions are true under words, where those before a place are, and where those of the first so
-/// many are whose constant has no other word than before.
+/// Whether all live assertions are true under words and truth values, where those before a place are, and where those of
+/// the first so many are that ask something of the word of one constant alone, which is no other one than before.
 pub(crate) fn all_hold(
     plain: &mut Plain,
     normals: &mut Normals,
     arena: &mut Arena,
     stack: &Stack,
     words: &[Word],
+    truths: &[bool],
     changed: &HashSet<u64>,
     held: usize,
     from: usize,
 ) -> Result<bool, AllocError>
     requires decided { list_all is_decided (assertions_of stack.now) ≡ true }
-    requires pass { MayPass words.now (marks_of changed.now) held (assertions_of stack.now) }
-    requires before { IsTruthBy words.now (take from (assertions_of stack.now)) true }
+    requires pass { MayPass words.now truths.now (marks_of changed.now) held (assertions_of stack.now) }
+    requires before { AreTrueBy words.now truths.now (take from (assertions_of stack.now)) }
     requires normals { AreNormals stack.now.table arena.old normals.old }
     requires right { IsRight arena.old plain.old }
-    ensures ok { IfOk result (IsTruthBy words.now (assertions_of stack.now)) }
+    ensures ok { IfOk result (IsTruthBy words.now truths.now (assertions_of stack.now)) }
     ensures extends { Extends arena.old arena.new }
     ensures normals { AreNormals stack.now.table arena.new normals.new }
     ensures right { IsRight arena.new plain.new }
@@ -91,7 +92,7 @@ pub(crate) fn all_hold(
         if may_pass(table, id, place, changed, held) {
             continue;
         }
-        if !eval(plain, normals, arena, table, id, words, &[])? {
+        if !eval(plain, normals, arena, table, id, words, truths)? {
             return Ok(false);
         }
     }

@@ -22,7 +22,7 @@ enum Given {
     /// A text of one number.
     Number(u64),
     Int,
-    Truth,
+    Truth(bool),
 }
 
 /// More of a script, the values of a check, and whether they are a model; none where the check is outside.
@@ -47,7 +47,7 @@ const SCRIPTS: &[&[Check]] = &[
         (b"", &[], Some(false)),
         (b"", &[Given::Text(b"a"), Given::Text(b"a")], Some(false)),
         (b"", &[Given::Int], Some(false)),
-        (b"", &[Given::Truth], Some(false)),
+        (b"", &[Given::Truth(true)], Some(false)),
         (b"", &[Given::Text(b"ab")], Some(false)),
         (b"", &[Given::Text(b"aaa")], Some(true)),
     ],
@@ -80,30 +80,67 @@ const SCRIPTS: &[&[Check]] = &[
     ],
     &[
         (ONE, &[Given::Text(b"a")], Some(true)),
-        (b"(assert (not true))", &[Given::Text(b"a")], None),
-        (b"", &[Given::Text(b"a")], None),
+        (
+            b"(push 1) (assert (not true))",
+            &[Given::Text(b"a")],
+            Some(false),
+        ),
+        (b"", &[Given::Text(b"a")], Some(false)),
+        (b"(pop 1)", &[Given::Text(b"a")], Some(true)),
     ],
     &[
         (b"", &[], Some(true)),
         (b"", &[Given::Text(b"")], Some(false)),
     ],
     &[
-        (TRUTHS, &[Given::Truth, Given::Text(b"a")], Some(true)),
+        (TRUTHS, &[Given::Truth(true), Given::Text(b"a")], Some(true)),
         (b"", &[Given::Text(b"a"), Given::Text(b"a")], Some(false)),
         (b"", &[Given::Text(b""), Given::Text(b"a")], Some(false)),
         (b"", &[Given::Int, Given::Text(b"a")], Some(false)),
-        (b"", &[Given::Truth, Given::Truth], Some(false)),
-        (b"", &[Given::Truth, Given::Text(b"")], Some(false)),
-        (b"", &[Given::Truth], Some(false)),
-        (b"", &[Given::Truth, Given::Text(b"aa")], Some(true)),
+        (b"", &[Given::Truth(true), Given::Truth(true)], Some(false)),
+        (b"", &[Given::Truth(true), Given::Text(b"")], Some(false)),
+        (b"", &[Given::Truth(true)], Some(false)),
+        (b"", &[Given::Truth(true), Given::Text(b"aa")], Some(true)),
         (
             b"(push 1) (assert (not b))",
-            &[Given::Truth, Given::Text(b"a")],
-            None,
+            &[Given::Truth(true), Given::Text(b"a")],
+            Some(false),
         ),
+        (b"", &[Given::Truth(false), Given::Text(b"a")], Some(true)),
+        (b"", &[Given::Truth(true), Given::Text(b"a")], Some(false)),
         (
             b"(pop 1) (declare-const c Bool)",
-            &[Given::Truth, Given::Text(b"a"), Given::Truth],
+            &[Given::Truth(true), Given::Text(b"a"), Given::Truth(true)],
+            Some(true),
+        ),
+        (
+            b"(assert (or c (not (= x \"a\"))))",
+            &[Given::Truth(true), Given::Text(b"a"), Given::Truth(true)],
+            Some(true),
+        ),
+        (
+            b"",
+            &[Given::Truth(true), Given::Text(b"a"), Given::Truth(false)],
+            Some(false),
+        ),
+        (
+            b"",
+            &[Given::Truth(true), Given::Text(b"aa"), Given::Truth(false)],
+            Some(true),
+        ),
+        (
+            b"(assert (distinct b c))",
+            &[Given::Truth(true), Given::Text(b"aa"), Given::Truth(false)],
+            Some(true),
+        ),
+        (
+            b"",
+            &[Given::Truth(false), Given::Text(b"aa"), Given::Truth(false)],
+            Some(false),
+        ),
+        (
+            b"",
+            &[Given::Truth(false), Given::Text(b"a"), Given::Truth(true)],
             Some(true),
         ),
     ],
@@ -176,7 +213,7 @@ fn value_of(alloc: Global, given: Given) -> Result<Value, AllocError> {
         Given::Text(letters) => text_of(alloc, letters),
         Given::Number(number) => Ok(Value::Text(SmallVec::from_slice(alloc, &[number])?)),
         Given::Int => Ok(Value::Int(0)),
-        Given::Truth => Ok(Value::Truth(true)),
+        Given::Truth(truth) => Ok(Value::Truth(truth)),
     }
 }
 

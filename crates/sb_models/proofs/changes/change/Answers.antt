@@ -1,18 +1,13 @@
-use Rattle.std.proofs.Common.{map, sym, ap, ◌∙◌, Some}
-use Rattle.sb_proof.specs.Lines.{value_in}
+use Rattle.std.proofs.Common.{sym, ◌∙◌}
 use Rattle.sb_models.specs.Tried.{texts_in}
-use Rattle.sb_models.proofs.ValueFacts.{all_words, not_all_words, texts_are}
 use Rattle.sb_models.proofs.WordFacts.{all_given, texts_long}
 use Rattle.sb_models.proofs.changes.change.Goals as goal
 
 pub returns-then-not-branch-clause-none : goal.returns-then-not-branch-clause-none
-returns-then-not-branch-clause-none c =
-    not_all_words (map value_in c.args.values.now) (sym c.in_ok-put_all.ensures.known ∙ c.if-not-branch.true)
+returns-then-not-branch-clause-none c = sym c.in_ok-put_all.ensures.known ∙ c.if-not-branch.true
 
 pub returns-clause-some : goal.returns-clause-some
-returns-clause-some c =
-    all_words (map value_in c.args.values.now) (sym c.in_ok-put_all.ensures.known ∙ c.if-not-branch.false)
-    ∙ ap Some (sym (texts_are c.args.values.now))
+returns-clause-some c = sym c.in_ok-put_all.ensures.known ∙ c.if-not-branch.false
 
 pub returns-clause-words : goal.returns-clause-words
 returns-clause-words c =

@@ -1,14 +1,12 @@
-use Rattle.std.proofs.Common.{◌≡◌, ◌≤◌, true, [], length, subst, sym, ap, ◌∙◌, arith, rules}
+use Rattle.std.proofs.Common.{◌≡◌, ◌≤◌, true, length, subst, sym, ap, ◌∙◌, arith, rules}
 use Rattle.sb_meaning.specs.Truth.{holds}
 use Rattle.sb_script.specs.Brought.{is_structure}
 use Rattle.sb_term.specs.Numbered.{term_at}
-use Rattle.sb_fragment.proofs.CallerLemmas.{membership_structure}
 use Rattle.sb_regex.proofs.CallerLemmas.{extends_more}
 use Rattle.sb_problem.specs.Known.{AreNormals}
 use Rattle.sb_eval.specs.Given.{GivesValues}
-use Rattle.sb_eval.proofs.CallerLemmas.{membership_given}
 use Rattle.sb_models.specs.Tried.{IsOfSame, marks_of}
-use Rattle.sb_models.proofs.Knowledge.{no_mark, inside_at, true_first, true_more, false_at, passed, true_all}
+use Rattle.sb_models.proofs.Knowledge.{no_mark, structure_at, true_first, true_more, false_at, passed, true_all}
 use Rattle.sb_models.proofs.trying.all_hold.Goals as goal
 
 pub returns-in_default-clause-ok : goal.returns-in_default-clause-ok
@@ -22,7 +20,8 @@ loop-place-init c = (
   search rules,
   c.requires.normals,
   c.requires.right,
-  true_first c.args.words.now c.args.stack.now.table c.args.stack.now.assertions c.args.from c.requires.before,
+  true_first c.args.words.now c.args.truths.now c.args.stack.now.table c.args.stack.now.assertions c.args.from
+      c.requires.before,
 )
 
 pub loop-place-preserved-then-may_pass : goal.loop-place-preserved-then-may_pass
@@ -33,10 +32,11 @@ loop-place-preserved-then-may_pass c =
       c.loop-place.invariant.0,
       c.loop-place.invariant.1,
       c.loop-place.invariant.2,
-      true_more c.args.words.now c.args.stack.now.table c.args.stack.now.assertions c.loop-place.place
+      true_more c.args.words.now c.args.truths.now c.args.stack.now.table c.args.stack.now.assertions c.loop-place.place
           c.index-assertions-place.result c.in-Some.id low is c.in-Some.is
-          (passed c.args.words.now (marks_of c.args.changed.now) c.args.held c.args.stack.now.table c.args.stack.now.assertions
-          c.loop-place.place c.index-assertions-place.result c.in-Some.id low is c.in-Some.is known.0
+          (passed c.args.words.now c.args.truths.now (marks_of c.args.changed.now) c.args.held c.args.stack.now.table
+          c.args.stack.now.assertions c.loop-place.place c.index-assertions-place.result c.in-Some.id low is c.in-Some.is
+          known.0
           (subst (λ ts. IsOfSame (marks_of c.args.changed.now) (term_at ts c.in-Some.id)) c.table-table.ensures known.1)
           c.requires.pass) c.loop-place.invariant.3,
     )
@@ -44,27 +44,24 @@ loop-place-preserved-then-may_pass c =
 pub eval-requires-clause-structure : goal.eval-requires-clause-structure
 eval-requires-clause-structure c =
     subst (λ ts. is_structure (term_at ts c.in-Some.id) ≡ true) (sym c.table-table.ensures)
-    (membership_structure (term_at c.args.stack.now.table c.in-Some.id)
-    (inside_at c.args.stack.now.table c.args.stack.now.assertions c.loop-place.place c.index-assertions-place.result
+    (structure_at c.args.stack.now.table c.args.stack.now.assertions c.loop-place.place c.index-assertions-place.result
     c.in-Some.id (rw c.assertions-assertions.ensures.value at c.loop-place-test.true)
-    (rw c.assertions-assertions.ensures.value at c.index-assertions-place.is) c.in-Some.is c.requires.decided))
+    (rw c.assertions-assertions.ensures.value at c.index-assertions-place.is) c.in-Some.is c.requires.decided)
 
 pub loop-place-preserved : goal.loop-place-preserved
 loop-place-preserved c =
     let ts = c.args.stack.now.table in
     let low = rw c.assertions-assertions.ensures.value at c.loop-place-test.true in
-    let is = rw c.assertions-assertions.ensures.value at c.index-assertions-place.is in
-    let member = inside_at ts c.args.stack.now.assertions c.loop-place.place c.index-assertions-place.result c.in-Some.id
-    low is c.in-Some.is c.requires.decided in (
+    let is = rw c.assertions-assertions.ensures.value at c.index-assertions-place.is in (
       extends_more c.args.arena.now c.loop-place.arena c.eval.new.arena c.loop-place.invariant.0
           c.in_ok-eval.ensures.extends,
       subst (λ us. AreNormals us c.eval.new.arena c.eval.new.normals) c.table-table.ensures c.in_ok-eval.ensures.normals,
       c.in_ok-eval.ensures.right,
-      true_more c.args.words.now ts c.args.stack.now.assertions c.loop-place.place c.index-assertions-place.result
-          c.in-Some.id low is c.in-Some.is
+      true_more c.args.words.now c.args.truths.now ts c.args.stack.now.assertions c.loop-place.place
+          c.index-assertions-place.result c.in-Some.id low is c.in-Some.is
           (λ v gives. sym c.if-not-branch.false ∙ (c.in_ok-eval.ensures.ok v
-          (subst (λ us. GivesValues c.args.words.now [] v (term_at us c.in-Some.id)) (sym c.table-table.ensures)
-          (membership_given c.args.words.now [] v (term_at ts c.in-Some.id) member gives))
+          (subst (λ us. GivesValues c.args.words.now c.args.truths.now v (term_at us c.in-Some.id))
+          (sym c.table-table.ensures) gives)
           ∙ ap (λ us. holds (term_at us c.in-Some.id) v) c.table-table.ensures))
           c.loop-place.invariant.3,
     )
@@ -74,18 +71,16 @@ returns-then-not-branch-clause-ok c =
     let ts = c.args.stack.now.table in
     let low = rw c.assertions-assertions.ensures.value at c.loop-place-test.true in
     let is = rw c.assertions-assertions.ensures.value at c.index-assertions-place.is in
-    let member = inside_at ts c.args.stack.now.assertions c.loop-place.place c.index-assertions-place.result c.in-Some.id
-    low is c.in-Some.is c.requires.decided in
-    false_at c.args.words.now ts c.args.stack.now.assertions c.loop-place.place c.index-assertions-place.result
-    c.in-Some.id low is c.in-Some.is
+    false_at c.args.words.now c.args.truths.now ts c.args.stack.now.assertions c.loop-place.place
+    c.index-assertions-place.result c.in-Some.id low is c.in-Some.is
     (λ v gives. sym c.if-not-branch.true ∙ (c.in_ok-eval.ensures.ok v
-    (subst (λ us. GivesValues c.args.words.now [] v (term_at us c.in-Some.id)) (sym c.table-table.ensures)
-    (membership_given c.args.words.now [] v (term_at ts c.in-Some.id) member gives))
+    (subst (λ us. GivesValues c.args.words.now c.args.truths.now v (term_at us c.in-Some.id))
+    (sym c.table-table.ensures) gives)
     ∙ ap (λ us. holds (term_at us c.in-Some.id) v) c.table-table.ensures))
 
 pub returns-clause-ok : goal.returns-clause-ok
 returns-clause-ok c =
     let long : length c.args.stack.now.assertions ≤ c.loop-place.place =
     omega (arith, c.loop-place-test.false, ap length c.assertions-assertions.ensures.value) in
-    true_all c.args.words.now c.args.stack.now.table c.args.stack.now.assertions c.loop-place.place long
+    true_all c.args.words.now c.args.truths.now c.args.stack.now.table c.args.stack.now.assertions c.loop-place.place long
     c.loop-place.invariant.3
