@@ -6,3 +6,7 @@ pub mod PickedWords
 pub mod PlainTerms
 pub mod Modelling
 pub mod PlainModels
+pub mod LiveRows
+pub mod Stated
+pub mod Ended
+pub mod Answering

@@ -1,10 +1,9 @@
 -- The values of the end of a search are a model of the live assertions.
-use Rattle.std.proofs.Common.{◌≡◌, ℕ, zero, suc, ◌+◌, ◌<◌, ◌⊎◌, Bool, true, false, not, ◌&&◌, ◌||◌, ◌==◌, nat_eq, if◌then◌else◌, List, [], ◌∷◌, ◌++◌, map, length, get_or, slice_get, Option, Some, None, option_and_then, refl, sym, ap, ap₂, subst, ◌∙◌, arith}
+use Rattle.std.proofs.Common.{◌≡◌, ℕ, zero, suc, ◌+◌, ◌<◌, Bool, true, false, not, ◌&&◌, ◌||◌, ◌==◌, nat_eq, if◌then◌else◌, List, [], ◌∷◌, ◌++◌, map, length, slice_get, Option, Some, None, option_and_then, refl, sym, ap, ap₂, subst, ◌∙◌, arith}
 use Rattle.std.specs.List.{list_all, list_any, Contains}
 use Rattle.std.proofs.lemmas.Bool.{false≢true, and_parts, and_from, or_left, or_right, eqb-true, eq-eqb}
 use Rattle.std.proofs.lemmas.List.Folds.{list_all-append}
 use Rattle.std.proofs.lemmas.List.Elements.{Contains-append_left, Contains-append_right}
-use Rattle.sb_word.specs.Words.{IsWord, are_characters}
 use Rattle.sb_lit.specs.declared.clause.Lit.{Lit}
 use Rattle.sb_lit.specs.Kept.{Kept}
 use Rattle.sb_lang.specs.Regex.{Regex}
@@ -17,10 +16,9 @@ use Rattle.sb_script.specs.Brought.{is_brought_sort}
 use Rattle.sb_script.specs.Models.{occurs, occurs_in_some, is_default, is_default_or_occurs, are_defaults, is_plain, AreShortestLeast, IsGiven}
 use Rattle.sb_script.specs.Pieces.{constant_piece, word_piece}
 use Rattle.sb_script.specs.Scopes.{Constant}
-use Rattle.sb_script.specs.State.{State, Level, Assertion, asserted, a_mark, terms_in, over_levels, live, live_terms, constants_of, fits}
-use Rattle.sb_rulebook.specs.Accepted.{term_of, at_level, live_by_level, asked_in}
-use Rattle.sb_rulebook.specs.Atoms.{AtomOver, bool_atom, in_atom, le_atom, sum_atom, and_atom, iff_atom, truth_at}
-use Rattle.sb_rulebook.specs.Atoms as rulebook
+use Rattle.sb_script.specs.State.{State, Level, Assertion, asserted, a_mark, terms_in, over_levels, live_terms, constants_of, fits}
+use Rattle.sb_rulebook.specs.Accepted.{at_level, live_by_level, asked_in}
+use Rattle.sb_rulebook.specs.Atoms.{AtomOver, bool_atom, in_atom, le_atom, sum_atom, and_atom, iff_atom}
 use Rattle.sb_sound.specs.SoundLaws.{AreTerms}
 use Rattle.sb_sound.specs.TermLaws.{HasSorts, fits_sorts}
 use Rattle.sb_sound.specs.TranslationLaws.{TranslationHolds}
@@ -32,7 +30,7 @@ use Rattle.sb_stack.specs.Speaking.{is_one_of, speaks_of, speak_of}
 use Rattle.sb_stack.specs.Stacked.{Stacked, state_of, live_constants, value_at, values_at, are_words}
 use Rattle.sb_stack.proofs.CallerLemmas.{value_there, same_sort}
 use Rattle.sb_atoms.specs.Numbered.{atoms_in}
-use Rattle.sb_theory.specs.Memberships.{constant_of, word_at}
+use Rattle.sb_theory.specs.Memberships.{constant_of}
 use Rattle.sb_solve.specs.Wanted.{is_in, atoms_of}
 use Rattle.sb_solve.specs.Values.{is_true, is_constant, makes_true, truth_by, truth_in, word_in}
 use Rattle.sb_solve.specs.Decided as deciding
@@ -41,7 +39,7 @@ use Rattle.sb_solve.specs.Modelled.{is_serial, asks_word, is_asked, AreSpoken, H
 use Rattle.sb_solve.proofs.Gathered.{same_nat}
 use Rattle.sb_solve.proofs.Deciding.{all_in, any_in, term_right}
 use Rattle.sb_solve.proofs.PickedWords.{word_of_words}
-use Rattle.sb_solve.proofs.Spoken.{Test, all_are, each_is, piece_is, is_fine, Passing, passing_there, wanted_pass}
+use Rattle.sb_solve.proofs.Spoken.{Test, all_are, each_is, is_fine, Passing, passing_there, wanted_pass}
 
 -- Terms that speak of live constants, and the sorts that they fit.
 

@@ -1,21 +1,19 @@
 -- The words of constants that are marked, and the shortest words of rows of literals.
-use Rattle.std.proofs.Common.{◌≡◌, ℕ, zero, suc, ◌+◌, ◌-◌, ◌<◌, ◌≤◌, Bool, true, false, ◌&&◌, ◌==◌, if◌then◌else◌, List, [], ◌∷◌, ◌++◌, map, length, take, get_or, filter, Option, Some, None, unwrap_or, refl, sym, ap, ap₂, subst, ◌∙◌, arith, append_assoc, length-append, inl, inr}
+use Rattle.std.proofs.Common.{◌≡◌, ℕ, zero, suc, ◌+◌, ◌<◌, ◌≤◌, Bool, true, false, ◌==◌, if◌then◌else◌, List, [], ◌∷◌, ◌++◌, map, length, take, get_or, Option, None, refl, sym, ap, ap₂, subst, ◌∙◌, arith, append_assoc, length-append, inl, inr}
 use Rattle.std.specs.Prelude.{Result, Ok, Err, IfOk}
-use Rattle.std.specs.List.{list_all, All}
 use Rattle.std.specs.Ordering.{nat_cmp}
 use Rattle.std.specs.Cmp.Lexicographic.{slice_cmp}
-use Rattle.std.specs.declared.cmp.Ordering.TheVariants.{Less, Equal}
+use Rattle.std.specs.declared.cmp.Ordering.TheVariants.{Less}
 use Rattle.std.proofs.lemmas.Bool.{and_parts, and_from, cases_lt, eqb-true}
 use Rattle.std.proofs.lemmas.List.{append-nil}
 use Rattle.sb_word.specs.Words.{IsWord, are_characters}
 use Rattle.sb_lit.specs.declared.clause.Lit.{Lit}
 use Rattle.sb_lang.specs.Regex.{Regex}
 use Rattle.sb_lang.specs.Language.{language}
-use Rattle.sb_lang.specs.Languages.{Language}
 use Rattle.sb_lang.specs.Least.{IsShortestLeast}
 use Rattle.sb_lang.specs.Constructors.{mkand, mknot}
 use Rattle.sb_lang.specs.ConstructorLaws.{MkandKeepsLanguage}
-use Rattle.sb_regex.specs.Numbered.{regex_at, Extends}
+use Rattle.sb_regex.specs.Numbered.{Extends}
 use Rattle.sb_regex.proofs.CallerLemmas.{at_kept}
 use Rattle.sb_rulebook.specs.Atoms.{AtomOver, bool_atom}
 use Rattle.sb_stack.specs.Stacked.{are_words}

@@ -1,6 +1,6 @@
 -- Where each live assertion is a membership of one constant, or the negation of one, each constant has the shortest word
 -- that makes its memberships true.
-use Rattle.std.proofs.Common.{◌≡◌, ℕ, zero, suc, ◌+◌, ◌<◌, ◌≤◌, Bool, true, false, not, ◌&&◌, ◌||◌, ◌==◌, cond, nat_eq, if◌then◌else◌, List, [], ◌∷◌, ◌++◌, map, length, take, get_or, slice_get, filter, flat_map, Option, Some, None, option_map, option_and_then, unwrap_or, refl, sym, ap, ap₂, subst, ◌∙◌, arith, inl, inr}
+use Rattle.std.proofs.Common.{◌≡◌, ℕ, zero, suc, ◌<◌, ◌≤◌, Bool, true, false, not, ◌&&◌, ◌||◌, ◌==◌, cond, nat_eq, if◌then◌else◌, List, [], ◌∷◌, map, length, get_or, slice_get, Option, Some, None, option_map, option_and_then, refl, sym, ap, ap₂, subst, ◌∙◌, arith, inl, inr}
 use Rattle.std.specs.List.{list_all, list_any}
 use Rattle.std.proofs.lemmas.Bool.{false≢true, and_parts, and_from, or_parts, eqb-true, eq-eqb, cases_lt}
 use Rattle.std.proofs.lemmas.Bool.Decides.{nat_tests}
@@ -22,11 +22,11 @@ use Rattle.sb_trail.specs.declared.assigned.Assigned.{Assigned}
 use Rattle.sb_meaning.specs.Terms.{Sort, boolean, integer, text, reglan, Term, Terms, constant, apply, no_terms, with_term}
 use Rattle.sb_meaning.specs.Terms as symbol
 use Rattle.sb_meaning.specs.Sorts.{is_same_sort}
-use Rattle.sb_meaning.specs.Values.{Value, Valuation, Text, Int, Truth, is_of, default_of, value_in}
+use Rattle.sb_meaning.specs.Values.{Value, Valuation, Text, Int, Truth, is_of, default_of}
 use Rattle.sb_meaning.specs.Truth.{holds, all_hold}
 use Rattle.sb_script.specs.Brought.{is_brought_sort, membership_of}
 use Rattle.sb_script.specs.Models.{occurs, is_of_constant, is_plain_term, is_plain_assertion, is_plain, is_about, about, words_for, AreShortestLeast, IsGiven}
-use Rattle.sb_script.specs.Pieces.{Piece, constant_piece, word_piece, single_pieces}
+use Rattle.sb_script.specs.Pieces.{constant_piece, single_pieces}
 use Rattle.sb_script.specs.State.{Assertion, asserted, a_mark, terms_in, live, live_terms}
 use Rattle.sb_rulebook.specs.Atoms.{Atom, AtomOver, bool_atom, in_atom, le_atom, sum_atom, and_atom, iff_atom, is_same_atom, is_same_piece, number_of, literal_holds, truths_of, word_of_piece}
 use Rattle.sb_rulebook.specs.Atoms as rulebook
@@ -53,8 +53,8 @@ use Rattle.sb_solve.specs.Values.{truth_by, truth_in, word_in}
 use Rattle.sb_solve.specs.Answered.{AreLiterals, IsAnswered}
 use Rattle.sb_solve.specs.Modelled.{AreSpoken, AreLeastOf, negation_of, HasLive}
 use Rattle.sb_solve.proofs.PickedWords.{word_of_words}
-use Rattle.sb_solve.proofs.Spoken.{StandsAt, found}
-use Rattle.sb_solve.proofs.Modelling.{brought_at, default_of_sort, have_sorts, sort_below, is_given, Cs, Ts, Count, not_true, live_below, fit_all, all_true}
+use Rattle.sb_solve.proofs.Spoken.{found}
+use Rattle.sb_solve.proofs.Modelling.{brought_at, default_of_sort, have_sorts, sort_below, is_given, not_true, live_below, fit_all, all_true}
 
 -- What such a term looks like.
 

@@ -5,7 +5,6 @@ use Rattle.std.specs.List.{list_all, position_from}
 use Rattle.std.specs.Ordering.{is_gt}
 use Rattle.std.specs.Cmp.Lexicographic.{pointwise}
 use Rattle.std.proofs.lemmas.Bool.{false≢true, and_parts, and_from, eqb-true, ltb-true}
-use Rattle.std.proofs.lemmas.List.Folds.{list_all-append}
 use Rattle.std.proofs.lemmas.Option.{option_and_then_some, slice_get-map}
 use Rattle.sb_lit.specs.declared.clause.Lit.{Lit}
 use Rattle.sb_lit.specs.Clauses.{negation, literal_order, is_same_literal}
@@ -26,10 +25,9 @@ use Rattle.sb_rulebook.proofs.CallerLemmas.{same_pieces, same_lists}
 use Rattle.sb_sound.specs.Tables.{is_table, names_below}
 use Rattle.sb_sound.proofs.CallerLemmas.{names_from}
 use Rattle.sb_atoms.specs.Numbered.{over, atoms_in}
-use Rattle.sb_solve.specs.Wanted.{atoms_of, parts_of, parts_at, AreLeast}
+use Rattle.sb_solve.specs.Wanted.{atoms_of, parts_of, AreLeast}
 use Rattle.sb_solve.specs.Answered.{AreLiterals}
 use Rattle.sb_solve.proofs.Deciding.{all_ordered}
-use Rattle.sb_solve.proofs.Gathered.{names_before}
 
 -- Constants of a term, by serial and sort.
 

@@ -3,6 +3,11 @@ pub mod Gathering
 pub mod Values
 pub mod Decided
 pub mod Entailed
-pub mod Examples
 pub mod Answered
 pub mod Modelled
+pub mod Solved
+pub mod Stating
+pub mod Searched
+pub mod Begun
+pub mod Concluding
+pub mod Examples

@@ -5,7 +5,7 @@ use Rattle.sb_regex.proofs.CallerLemmas.{extends_more}
 use Rattle.sb_atoms.proofs.CallerLemmas.{regexes_kept}
 use Rattle.sb_clash.specs.Literals.{AreAbout}
 use Rattle.sb_theory.specs.Memberships.{row_at}
-use Rattle.sb_solve.proofs.PickedWords.{least_start, least_step, least_end, rows_about}
+use Rattle.sb_solve.proofs.PickedWords.{least_step, least_end, rows_about}
 use Rattle.sb_solve.proofs.model.least_words.Goals as goal
 
 pub least_of-requires-clause-about : goal.least_of-requires-clause-about

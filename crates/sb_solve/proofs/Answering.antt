@@ -1,0 +1,382 @@
+-- What a check comes to, by the clauses that were put, the search and its end.
+use Rattle.std.proofs.Common.{◌≡◌, ℕ, suc, ◌<◌, true, false, List, [], ◌∷◌, length, take, Option, Some, None, refl, sym, ap, ap₂, subst, ◌∙◌, arith}
+use Rattle.std.specs.Prelude.{Contains}
+use Rattle.std.specs.List.{list_all}
+use Rattle.std.proofs.Math.Seq.{take-append_seam}
+use Rattle.std.proofs.lemmas.Bool.{false≢true, ltb-true}
+use Rattle.std.proofs.lemmas.List.{length-map}
+use Rattle.std.proofs.lemmas.Option.{slice_get-get_or}
+use Rattle.sb_lit.specs.declared.clause.Lit.{Lit}
+use Rattle.sb_lit.specs.declared.clause.ClauseId.{ClauseId}
+use Rattle.sb_lit.specs.Budgets.{Spending}
+use Rattle.sb_lit.specs.Kept.{Kept}
+use Rattle.sb_lang.specs.Regex.{Regex}
+use Rattle.sb_trail.specs.Assignments.{Assignments}
+use Rattle.sb_clauses.specs.Propagation.{has_room_for}
+use Rattle.sb_analyze.specs.Cores.{are_negated}
+use Rattle.sb_deriv.specs.Faithful.{Memo, KeepsEntries}
+use Rattle.sb_graph.specs.Findings.{Findings, IsGraph}
+use Rattle.sb_plain.specs.Memory.{IsRight, Memory}
+use Rattle.sb_regex.specs.Numbered.{Extends}
+use Rattle.sb_regex.proofs.CallerLemmas.{extends_more}
+use Rattle.sb_script.specs.State.{State, live, live_terms}
+use Rattle.sb_rulebook.specs.Accepted.{asked_in}
+use Rattle.sb_rulebook.specs.Atoms.{AtomOver, bool_atom}
+use Rattle.sb_rulebook.specs.Kept.{AllKept, Asked}
+use Rattle.sb_sound.specs.Tables.{is_table}
+use Rattle.sb_sound.specs.SoundLaws.{AreTerms}
+use Rattle.sb_stack.specs.Stacked.{Stacked, state_of, assertion_in}
+use Rattle.sb_stack.proofs.CallerLemmas.{live_laid}
+use Rattle.sb_gates.specs.Clauses.{atom_at, clauses_of}
+use Rattle.sb_atoms.specs.Numbered.{HaveRegexesBelow, atoms_in}
+use Rattle.sb_atoms.proofs.CallerLemmas.{atoms_kept, earlier_table, regexes_kept}
+use Rattle.sb_trace.specs.Putting.{IsCounted}
+use Rattle.sb_trace.proofs.CallerLemmas.{puts_both}
+use Rattle.sb_refute.specs.declared.evidence.EmptyClause.{EmptyClause}
+use Rattle.sb_refute.specs.declared.evidence.Parts.{Parts}
+use Rattle.sb_refute.specs.Backing.{Backing, Backs, Evidences, HasGates, IsLowestEmpty, backing_of}
+use Rattle.sb_refute.specs.Standing.{Stand}
+use Rattle.sb_refute.proofs.CallerLemmas.{backs-grown}
+use Rattle.sb_search.specs.Found.{GrowsTo, IsFound, IsFull}
+use Rattle.sb_search.specs.declared.found.Found.{Found}
+use Rattle.sb_search.specs.declared.found.Found.TheVariants as found
+use Rattle.sb_theory.specs.Memberships.{HaveAtoms, are_atoms, is_atom}
+use Rattle.sb_solve.specs.Wanted.{AreWanted, is_in}
+use Rattle.sb_solve.specs.Decided.{AreKept, IsKept, IsDecided}
+use Rattle.sb_solve.specs.Answered.{AreLiterals, IsAnswered}
+use Rattle.sb_solve.specs.Searched.{IsSearched}
+use Rattle.sb_solve.specs.Solved.{AreOfLevels, IsSolved}
+use Rattle.sb_solve.specs.Stating.{AreStated}
+use Rattle.sb_solve.specs.Concluding.{AreReady, AreTaken, Comes, HasCore, HasNoValues, IsConcluded, IsEnded, IsGoneOver, IsLeft}
+use Rattle.sb_solve.specs.declared.searching.Searched.{Searched}
+use Rattle.sb_solve.specs.declared.check.Concluded.{Concluded}
+use Rattle.sb_solve.specs.declared.check.Solved.{Solved}
+use Rattle.sb_solve.specs.declared.check.Tables.{Tables}
+use Rattle.sb_solve.specs.declared.check.Solved.TheVariants as solved
+use Rattle.sb_solve.proofs.Deciding.{all_in}
+use Rattle.sb_solve.proofs.Ended.{core_of, has_room, have_atoms, kept_grown}
+use Rattle.sb_solve.proofs.Stated.{are_literals, are_of_table}
+
+-- The gates of atoms that are wanted.
+
+contains_first : {X : Type 0} (x : X) (xs : List X) → Contains (x ∷ xs) x
+contains_first x xs = (0, omega arith, refl)
+
+contains_later : {X : Type 0} (y : X) (xs : List X) (x : X) → Contains xs x → Contains (y ∷ xs) x
+contains_later y xs x h = let less = h.1 in (suc h.0, omega (arith, less), h.2)
+
+are_kept : (kept : Kept) (clauses : List (List Lit)) → ((clause : List Lit) → Contains clauses clause → IsKept kept clause)
+    → AreKept kept clauses
+are_kept kept [] h = tt
+are_kept kept (clause ∷ clauses) h = (
+  h clause (contains_first clause clauses),
+  are_kept kept clauses (λ other there. h other (contains_later clause clauses other there)),
+)
+
+none_wanted : (atoms : List (AtomOver ℕ)) (wanted : List ℕ) (i : ℕ) → AreWanted atoms [] wanted
+    → is_in wanted i ≡ true → ⊥
+none_wanted atoms wanted i h there =
+    false≢true (all_in (λ j. false) wanted i (h.least (λ j. false) refl (λ j h. absurd (false≢true h))) there)
+
+gated : (atoms : List (AtomOver ℕ)) (old kept : Kept) (literals : List Lit) (wanted : List ℕ) → GrowsTo old kept
+    → (0 < length literals → HasGates (length atoms) atoms old) → AreWanted atoms literals wanted
+    → list_all (is_atom atoms) wanted ≡ true → (i : ℕ) → is_in wanted i ≡ true
+    → AreKept kept (clauses_of i (atom_at atoms i))
+gated atoms old kept [] wanted grows gates are known i there = absurd (none_wanted atoms wanted i are there)
+gated atoms old kept (l ∷ ls) wanted grows gates are known i there =
+    are_kept kept (clauses_of i (atom_at atoms i))
+    (λ clause among.
+    let k = gates (omega arith) i below (atom_at atoms i) clause (slice_get-get_or atoms i (bool_atom 0) below) among in
+    (k.0, record { literals = clause; level = 0 }, kept_grown old kept k.0 (record { literals = clause; level = 0 }) grows k.1, refl))
+  where
+    below : i < length atoms
+    below = ltb-true i (length atoms) (all_in (is_atom atoms) wanted i known there)
+
+-- What is known where a search ended.
+
+pub ended : (more : List Regex) (memo : Memo) (parts : Parts) (literals : List Lit) (x : Searched)
+    (before after : Spending) (between new : Option (List ℕ)) (count : ℕ)
+    → Stand parts.atoms parts.engine.kept parts.asserted.items parts.refuted parts.gates
+    → IsSearched more memo parts literals before after between new x → count ≡ length parts.engine.kept
+    → IsEnded count x
+ended more memo parts literals x before after between new count stands searched is = record {
+  stands = front;
+  known = ap (λ (ts : List (AtomOver ℕ)). has_room_for (length ts) x.parts.engine.kept) searched.atoms
+      ∙ has_room parts.atoms x.parts.engine.kept
+      (searched.known (have_atoms parts.atoms parts.engine.kept stands.known));
+  core = core_of x.wanted.items x.parts.engine after x.found searched.found;
+  graph = searched.graph;
+  plain = searched.plain;
+  regexes = searched.regexes;
+}
+  where
+    same_front : take count x.parts.engine.kept ≡ parts.engine.kept
+    same_front = ap₂ take is searched.kept.1 ∙ take-append_seam parts.engine.kept searched.kept.0
+
+    front : Stand x.parts.atoms (take count x.parts.engine.kept) x.parts.asserted.items x.parts.refuted x.parts.gates
+    front = rw (searched.atoms, same_front, searched.asserted, searched.refuted, searched.gates) stands
+
+-- The end of a search with values.
+
+-- the literals are those of the live assertions, whose clauses are kept
+module _ (s : Stacked) (rs more : List Regex) (memo : Memo) (e : Backing) (parts : Parts) (told between : Option (List ℕ))
+    (literals : List Lit) (x : Searched) (before after : Spending) (new : Option (List ℕ))
+    (stated : AreStated s rs more e (backing_of parts) told between literals)
+    (long : length literals ≡ length s.assertions)
+    (stands : Stand parts.atoms parts.engine.kept parts.asserted.items parts.refuted parts.gates)
+    (searched : IsSearched more memo parts literals before after between new x) where
+  table : (rs : List Regex) → is_table (atoms_in rs parts.atoms) ≡ true
+  table rs = earlier_table rs parts.atoms stands.earlier
+
+  known_atoms : HaveAtoms parts.atoms parts.engine.kept
+  known_atoms = have_atoms parts.atoms parts.engine.kept stands.known
+
+  same_atoms : atoms_in x.arena x.parts.atoms ≡ atoms_in more parts.atoms
+  same_atoms = ap (atoms_in x.arena) searched.atoms
+      ∙ atoms_kept more x.arena parts.atoms searched.extends stated.regexes
+
+  as_long : length literals ≡ length (live (state_of s))
+  as_long = long ∙ sym (ap length (live_laid s) ∙ length-map s.assertions (assertion_in s.table))
+
+  counted_behind : (asked : Asked) (start middle : AllKept) → middle.counted ≡ start.counted
+      → IsCounted asked start before → IsCounted asked middle before
+  counted_behind asked start middle same h = record { spent = same ∙ h.spent; limit = h.limit }
+
+  literal_atoms : are_atoms parts.atoms literals ≡ true
+  literal_atoms = are_of_table parts.atoms literals (λ place l there.
+      let one = stated.all place l there in
+      subst (λ (m : Lit). m.atom < length parts.atoms) one.literal (stands.of_atoms place one.clause one.there))
+
+  wanted_atoms : list_all (is_atom parts.atoms) x.wanted.items ≡ true
+  wanted_atoms = searched.among [] (table []) literal_atoms
+
+  decided : IsFull x.wanted.items [] x.parts.engine
+      → IsDecided x.arena parts.atoms x.wanted.items x.parts.engine.kept x.parts.engine.trail.literals
+  decided full = record {
+    table = table x.arena;
+    distinct = searched.distinct;
+    known = wanted_atoms;
+    closed = searched.wanted.closed;
+    full = full.full;
+    none_false = full.none_false;
+    gates = gated parts.atoms parts.engine.kept x.parts.engine.kept literals x.wanted.items searched.kept stated.gates
+        searched.wanted wanted_atoms;
+  }
+
+  literals_there : (start : AllKept) → Backs rs memo e start
+      → AreLiterals (atoms_in x.arena x.parts.atoms) x.parts.engine.kept (live_terms (state_of s)) literals
+  literals_there start b =
+      are_literals (atoms_in x.arena x.parts.atoms) x.parts.engine.kept (live (state_of s)) literals as_long
+      (λ place l there.
+      let one = stated.all place l there in
+      let behind = stated.puts memo start b in (
+        one.term,
+        one.stands,
+        record {
+          is = rw same_atoms one.translates;
+          kept_there = (
+            one.clause.clause.0,
+            record { literals = one.clause.literal ∷ []; level = one.clause.level },
+            kept_grown parts.engine.kept x.parts.engine.kept one.clause.clause.0
+                (record { literals = one.clause.literal ∷ []; level = one.clause.level }) searched.kept
+                (behind.backs.asserted place one.clause one.there),
+            ap (λ (m : Lit). m ∷ []) one.literal,
+          );
+        },
+      ))
+
+  answered : IsFull x.wanted.items [] x.parts.engine → x.found ≡ found.Sat → (start : AllKept) → Backs rs memo e start
+      → AreTerms (asked_in (state_of s))
+      → IsAnswered x.arena x.parts.atoms x.wanted.items literals x.parts.engine.kept x.parts.engine.trail.literals
+      x.words.items (state_of s)
+  answered full sat start b terms = record {
+    decided = subst (λ (ts : List (AtomOver ℕ)). IsDecided x.arena ts x.wanted.items x.parts.engine.kept
+        x.parts.engine.trail.literals) (sym searched.atoms) (decided full);
+    agrees = searched.agrees sat;
+    closed = subst (λ (ts : List (AtomOver ℕ)). AreWanted ts literals x.wanted.items) (sym searched.atoms) searched.wanted;
+    stated = literals_there start b;
+    terms = terms;
+  }
+
+  -- the answer
+  by_kind : (c : Concluded) (f : Found) (solution : Solved) → x.found ≡ f
+      → Comes s x literals c.evidence.refuted f solution → IsFound x.wanted.items [] x.parts.engine after f
+      → IsSolved s rs memo e c.evidence after solution
+  by_kind c found.Sat (solved.Sat words truths) is h full = record {
+    words = h.words;
+    long = h.long;
+    given = λ start b terms. h.given x.parts.engine.kept (answered full is start b terms);
+  }
+  by_kind c found.Sat (solved.Unsat id) is h full = absurd h
+  by_kind c found.Sat solved.Spent is h full = absurd h
+  by_kind c (found.Unsat core) (solved.Sat words truths) is h full = absurd h
+  by_kind c (found.Unsat core) (solved.Unsat id) is h full = h
+  by_kind c (found.Unsat core) solved.Spent is h full = absurd h
+  by_kind c found.Spent (solved.Sat words truths) is h full = absurd h
+  by_kind c found.Spent (solved.Unsat id) is h full = absurd h
+  by_kind c found.Spent solved.Spent is h full = full
+
+  solution : (c : Concluded) → IsConcluded s x literals c → IsSolved s rs memo e c.evidence after c.solved
+  solution c h = by_kind c x.found c.solved refl h.comes searched.found
+
+  -- the lines
+  changed : (c : Concluded) → IsLeft x c → (rs : List Regex) (memo : Memo) (kept : AllKept)
+      → Backs rs memo (backing_of x.parts) kept → Backs rs memo c.evidence kept
+  changed c left rs memo kept b =
+      subst (λ (f : Backing). Backs rs memo f kept) (sym left.evidence)
+      (record { tracks = b.tracks; atoms = b.atoms; clauses = b.clauses; asserted = b.asserted })
+
+  lines : (c : Concluded) → IsLeft x c → (start : AllKept) → Backs rs memo e start
+      → IsCounted (asked_in (state_of s)) start before
+      → Evidences (asked_in (state_of s)) start c.arena c.graph.memo c.evidence after told new
+  lines c left start b counted =
+      let p = stated.puts memo start b in
+      let q = searched.puts known_atoms (asked_in (state_of s)) p.after p.backs
+      (counted_behind (asked_in (state_of s)) start p.after p.counted counted) in
+      record {
+        after = q.after;
+        puts = puts_both (asked_in (state_of s)) start p.after q.after told between new p.puts q.puts;
+        backs = changed c left c.arena c.graph.memo q.after
+            (backs-grown x.arena c.arena x.graph.memo c.graph.memo (backing_of x.parts) q.after left.extends
+            left.derivatives searched.regexes q.backs);
+        counts = q.counts;
+      }
+
+  levels : (c : Concluded) → IsLeft x c
+      → AreOfLevels (asked_in (state_of s)).live e.asserted c.evidence.asserted
+  levels c left =
+      subst (AreOfLevels (asked_in (state_of s)).live e.asserted)
+      (sym (ap (λ (f : Backing). f.asserted) left.evidence ∙ searched.asserted)) stated.levels
+
+  grows : (c : Concluded) → IsLeft x c → Extends rs c.arena
+  grows c left =
+      extends_more rs x.arena c.arena (extends_more rs more x.arena stated.extends searched.extends) left.extends
+
+  still : (c : Concluded) → IsLeft x c → KeepsEntries memo c.graph.memo
+  still c left = λ n pieces h. left.derivatives n pieces (searched.derivatives n pieces h)
+
+  below : (c : Concluded) → IsLeft x c → HaveRegexesBelow (length c.arena) c.evidence.atoms
+  below c left =
+      subst (HaveRegexesBelow (length c.arena)) (sym (ap (λ (f : Backing). f.atoms) left.evidence))
+      (regexes_kept x.arena c.arena x.parts.atoms left.extends searched.regexes)
+
+-- A check, over tables that were taken.
+
+pub ready_of : (t : Tables) (rs : List Regex) (g : Findings) (m : Memory) (e : Backing) → backing_of t.parts ≡ e
+    → t.arena ≡ rs → t.graph ≡ g → t.plain ≡ m
+    → Stand t.parts.atoms t.parts.engine.kept t.parts.asserted.items t.parts.refuted t.parts.gates
+    → t.parts.engine.trail.literals ≡ [] → IsGraph rs g → IsRight rs m → HaveRegexesBelow (length rs) e.atoms
+    → AreReady t
+ready_of t rs g m e backing arena graph memory stands trail is_graph is_right below = record {
+  stands = stands;
+  trail = trail;
+  graph = subst (λ (xs : List Regex). IsGraph xs t.graph) (sym arena) (subst (IsGraph rs) (sym graph) is_graph);
+  plain = subst (λ (xs : List Regex). IsRight xs t.plain) (sym arena) (subst (IsRight rs) (sym memory) is_right);
+  regexes = subst (λ (xs : List Regex). HaveRegexesBelow (length xs) t.parts.atoms) (sym arena)
+      (subst (λ (b : Backing). HaveRegexesBelow (length rs) b.atoms) (sym backing) below);
+}
+
+module _ (s : Stacked) (rs more : List Regex) (g : Findings) (e f : Backing) (t : Tables) (told between : Option (List ℕ))
+    (literals slice : List Lit) (before after : Spending) (new : Option (List ℕ)) (c : Concluded)
+    (stated : AreStated s rs more e f told between literals) (long : length literals ≡ length s.assertions)
+    (taken : AreTaken more g f t) (ready : AreReady t) (same : slice ≡ literals)
+    (given : IsGoneOver s t slice before after between new c) where
+  over : IsGoneOver s t literals before after between new c
+  over = subst (λ (ls : List Lit). IsGoneOver s t ls before after between new c) same given
+
+  stated_taken : AreStated s rs more e (backing_of t.parts) told between literals
+  stated_taken = subst (λ (b : Backing). AreStated s rs more e b told between literals) (sym taken.backing) stated
+
+  run_taken : IsSearched more g.memo t.parts literals before after between new over.searched
+  run_taken =
+      subst (λ (h : Findings). IsSearched more h.memo t.parts literals before after between new over.searched)
+      taken.graph
+      (subst (λ (xs : List Regex). IsSearched xs t.graph.memo t.parts literals before after between new over.searched)
+      taken.arena over.run)
+
+  pub puts : (start : AllKept) → Backs rs g.memo e start → IsCounted (asked_in (state_of s)) start before
+      → Evidences (asked_in (state_of s)) start c.arena c.graph.memo c.evidence after told new
+  puts = lines s rs more g.memo e t.parts told between literals over.searched before after new stated_taken long
+      ready.stands run_taken c over.concluded.left
+
+  pub answer : IsSolved s rs g.memo e c.evidence after c.solved
+  answer = solution s rs more g.memo e t.parts told between literals over.searched before after new stated_taken long
+      ready.stands run_taken c over.concluded
+
+  pub of_levels : AreOfLevels (asked_in (state_of s)).live e.asserted c.evidence.asserted
+  of_levels = levels s rs more g.memo e t.parts told between literals over.searched before after new stated_taken long
+      ready.stands run_taken c over.concluded.left
+
+  pub grown_before : Extends more c.arena
+  grown_before = extends_more more over.searched.arena c.arena run_taken.extends over.concluded.left.extends
+
+  pub grown : Extends rs c.arena
+  grown = grows s rs more g.memo e t.parts told between literals over.searched before after new stated_taken long
+      ready.stands run_taken c over.concluded.left
+
+  pub derivatives_kept : KeepsEntries g.memo c.graph.memo
+  derivatives_kept = still s rs more g.memo e t.parts told between literals over.searched before after new stated_taken
+      long ready.stands run_taken c over.concluded.left
+
+  pub regexes_below : HaveRegexesBelow (length c.arena) c.evidence.atoms
+  regexes_below = below s rs more g.memo e t.parts told between literals over.searched before after new stated_taken long
+      ready.stands run_taken c over.concluded.left
+
+-- Where there are no values.
+
+-- a clause that has negated assumptions alone, where there are none, has no literals
+no_literals : (ls : List Lit) → are_negated [] ls ≡ true → ls ≡ []
+no_literals [] h = refl
+no_literals (l ∷ ls) h = absurd (false≢true h)
+
+pub never_none : (kept : Kept) (f : Found) (o : Option EmptyClause) → HasCore kept f → HasNoValues f → IsLowestEmpty kept o
+    → o ≡ None → ⊥
+never_none kept found.Sat o core none lowest is = none
+never_none kept found.Spent o core none lowest is = none
+never_none kept (found.Unsat id) (Some empty) core none lowest is = Prim.cc (is)
+never_none kept (found.Unsat id) None core none lowest is =
+    lowest id.0 core.clause core.there (no_literals core.clause.literals core.negated)
+
+-- The kind of an answer.
+
+pub comes_from : (s : Stacked) (x : Searched) (literals : List Lit) (o : Option EmptyClause) (f g : Found) (a b : Solved)
+    → f ≡ g → a ≡ b → Comes s x literals o g b → Comes s x literals o f a
+comes_from s x literals o f g a b found answer h =
+    subst (λ (k : Found). Comes s x literals o k a) (sym found)
+    (subst (λ (k : Solved). Comes s x literals o g k) (sym answer) h)
+
+-- over lists that are the same
+pub answered_by : (s : State) (x : Searched) (literals : List Lit) (kept : Kept) (wanted : List ℕ) (trail : Assignments)
+    → wanted ≡ x.wanted.items → trail ≡ x.parts.engine.trail
+    → IsAnswered x.arena x.parts.atoms x.wanted.items literals kept x.parts.engine.trail.literals x.words.items s
+    → IsAnswered x.arena x.parts.atoms wanted literals kept trail.literals x.words.items s
+answered_by s x literals kept wanted trail is_wanted is_trail h =
+    subst (λ (a : Assignments). IsAnswered x.arena x.parts.atoms wanted literals kept a.literals x.words.items s)
+    (sym is_trail)
+    (subst (λ (ws : List ℕ). IsAnswered x.arena x.parts.atoms ws literals kept x.parts.engine.trail.literals x.words.items
+    s) (sym is_wanted) h)
+
+pub no_values : (f : Found) (id : ClauseId) → f ≡ found.Unsat id → HasNoValues f
+no_values f id is = subst HasNoValues (sym is) tt
+
+pub comes_unsat : (s : Stacked) (x : Searched) (literals : List Lit) (o : Option EmptyClause) (id : ClauseId) (a : Solved)
+    → x.found ≡ found.Unsat id
+    → (empty : EmptyClause) × (o ≡ Some empty) × (a ≡ solved.Unsat empty.clause) → Comes s x literals o x.found a
+comes_unsat s x literals o id a is h =
+    comes_from s x literals o x.found (found.Unsat id) a (solved.Unsat h.0.clause) is h.2 (h.0, h.1, refl)
+
+-- another answer changes nothing else
+pub left_still : (x : Searched) (c d : Concluded) → d.evidence ≡ c.evidence → d.arena ≡ c.arena → d.graph ≡ c.graph
+    → d.plain ≡ c.plain → IsLeft x c → IsLeft x d
+left_still x c d evidence arena graph is_plain h =
+    let e = sym evidence in
+    let a = sym arena in
+    let g = sym graph in
+    record {
+      evidence = subst (λ (f : Backing). f ≡ record (backing_of x.parts) { refuted = f.refuted }) e h.evidence;
+      lowest = subst (λ (f : Backing). IsLowestEmpty x.parts.engine.kept f.refuted) e h.lowest;
+      graph = rw (arena, graph) h.graph;
+      plain = rw (arena, is_plain) h.plain;
+      extends = rw arena h.extends;
+      derivatives = rw graph h.derivatives;
+    }

@@ -1,0 +1,197 @@
+-- The live assertions with their levels, by the assertions that are kept.
+use Rattle.std.proofs.Common.{◌≡◌, ℕ, zero, suc, ◌+◌, Bool, true, false, ◌==◌, if◌then◌else◌, List, [], ◌∷◌, ◌++◌, map, length, take, drop, get_or, slice_get, Option, Some, None, option_map, refl, sym, ap, ap₂, subst, ◌∙◌, arith}
+use Rattle.std.specs.Prelude.{IfSome, ◌<◌, nat_eq}
+use Rattle.std.specs.List.{All, list_all}
+use Rattle.std.proofs.lemmas.Bool.{and_parts, and_from, false≢true}
+use Rattle.std.proofs.lemmas.Bool.Decides.{nat_tests}
+use Rattle.std.proofs.lemmas.List.{map-append, take-map, drop-map, take-append-drop}
+use Rattle.std.proofs.lemmas.Option.{slice_get-get_or, slice_get-map, slice_get_within}
+use Rattle.sb_meaning.specs.Terms.{Sort, Term, Terms, constant, word, numeral, apply, parameter, no_terms, with_term}
+use Rattle.sb_meaning.specs.Sorts.{is_same_sort}
+use Rattle.sb_term.specs.Numbered.{term_at}
+use Rattle.sb_term.specs.declared.assertion.Assertion as code
+use Rattle.sb_script.specs.Scopes.{Naming}
+use Rattle.sb_script.specs.State.{Assertion, asserted, a_mark, live, live_terms, terms_in}
+use Rattle.sb_rulebook.specs.Accepted.{term_of, at_level, live_by_level, asked_in}
+use Rattle.sb_rulebook.specs.AtomRules.{is_declared}
+use Rattle.sb_sorts.specs.Scopes.{names_in, has_sort, are_sorted}
+use Rattle.sb_stack.specs.Speaking.{is_one_of, speaks_of, speak_of}
+use Rattle.sb_stack.specs.declared.level.Level as levels
+use Rattle.sb_stack.specs.Stacked.{Stacked, state_of, live_constants, assertion_of, assertion_in, first_level, levels_above, have_levels, HasNumberBelow}
+use Rattle.sb_stack.proofs.CallerLemmas.{same_sort}
+use Rattle.sb_fragment.specs.Rules.{is_decided}
+use Rattle.sb_atoms.specs.Translated.{has_declared, have_declared}
+use Rattle.sb_solve.specs.Stating.{IsAssertionAt}
+
+abbrev Row : Type 0
+Row = Option Term × ℕ
+
+-- the assertion's term and its level
+abbrev row_of : List Term → code.Assertion → Row
+row_of ts a = (option_map (term_at ts) a.term, a.level)
+
+term_as : (ts : List Term) (t : Option ℕ) → term_of (assertion_of ts t) ≡ option_map (term_at ts) t
+term_as ts None = refl
+term_as ts (Some id) = refl
+
+same_number : (m n : ℕ) → (m == n) ≡ true → n ≡ m
+same_number m n h = grind (arith, nat_tests, h)
+
+rows_at : (ts : List Term) (n : ℕ) (xs : List code.Assertion) → list_all (λ a. a.level == n) xs ≡ true
+    → at_level n (map (assertion_in ts) xs) ≡ map (row_of ts) xs
+rows_at ts n [] h = refl
+rows_at ts n (a ∷ xs) h =
+    let parts = and_parts (a.level == n) (list_all (λ a. a.level == n) xs) h in
+    ap₂ (λ row rows. row ∷ rows) (ap₂ (λ t m. (t, m)) (term_as ts a.term) (same_number a.level n parts.0))
+    (rows_at ts n xs parts.1)
+
+levels_kept : (ls : List levels.Level) (names : List Naming) (xs : List Assertion)
+    → length (levels_above ls names xs) ≡ length ls
+levels_kept [] names xs = refl
+levels_kept (l ∷ ls) names xs = ap suc (levels_kept ls (take l.names names) (take l.assertions xs))
+
+next_level : (ls : List levels.Level) (names : List Naming) (xs : List Assertion)
+    → length (levels_above ls names xs) + 1 ≡ suc (length ls)
+next_level ls names xs = let kept = levels_kept ls names xs in omega (arith, kept)
+
+rows_by_level : (ts : List Term) (ls : List levels.Level) (names : List Naming) (xs : List code.Assertion)
+    → have_levels ls xs ≡ true
+    → live_by_level (first_level ls names (map (assertion_in ts) xs)) (levels_above ls names (map (assertion_in ts) xs))
+    ≡ map (row_of ts) xs
+rows_by_level ts [] names xs h = rows_at ts 0 xs h
+rows_by_level ts (l ∷ ls) names xs h =
+    let parts = and_parts (list_all (λ a. a.level == suc (length ls)) (drop l.assertions xs))
+    (have_levels ls (take l.assertions xs)) h in
+    ap₂ (λ a b. a ++ b)
+    (ap (λ ys. live_by_level (first_level ls (take l.names names) ys) (levels_above ls (take l.names names) ys))
+    (take-map (assertion_in ts) l.assertions xs)
+    ∙ rows_by_level ts ls (take l.names names) (take l.assertions xs) parts.1)
+    (ap₂ (λ m ys. at_level m ys)
+    (next_level ls (take l.names names) (take l.assertions (map (assertion_in ts) xs)))
+    (drop-map (assertion_in ts) l.assertions xs)
+    ∙ rows_at ts (suc (length ls)) (drop l.assertions xs) parts.0)
+    ∙ (sym (map-append (row_of ts) (take l.assertions xs) (drop l.assertions xs))
+    ∙ ap (map (row_of ts)) (take-append-drop l.assertions xs))
+
+live_rows : (s : Stacked) → have_levels s.levels s.assertions ≡ true
+    → (asked_in (state_of s)).live ≡ map (row_of s.table) s.assertions
+live_rows s h = rows_by_level s.table s.levels (names_in s.scope) s.assertions h
+
+-- A term that speaks of constants whose sorts these are has each of them declared.
+
+sorted_there : (sorts : List Sort) (cs : List (ℕ × Sort)) (serial : ℕ) (sort : Sort) → are_sorted sorts cs ≡ true
+    → is_one_of cs serial sort ≡ true → is_declared sorts sort serial ≡ true
+sorted_there sorts [] serial sort h one = absurd (false≢true one)
+sorted_there sorts (c ∷ cs) serial sort h one =
+    step (nat_eq c.0 serial) refl one (sorted_there sorts cs serial sort parts.1)
+  where
+    parts : (has_sort sorts c ≡ true) × (are_sorted sorts cs ≡ true)
+    parts = and_parts (has_sort sorts c) (are_sorted sorts cs) h
+
+    step : (b : Bool) → nat_eq c.0 serial ≡ b → (if b then is_same_sort c.1 sort else is_one_of cs serial sort) ≡ true
+        → (is_one_of cs serial sort ≡ true → is_declared sorts sort serial ≡ true)
+        → is_declared sorts sort serial ≡ true
+    step true is same later =
+        ap₂ (is_declared sorts) (sym (same_sort c.1 sort same)) (same_number c.0 serial is) ∙ parts.0
+    step false is one later = later one
+
+module _ (sorts : List Sort) (cs : List (ℕ × Sort)) (sorted : are_sorted sorts cs ≡ true) where
+  mutual
+    declared_of : (t : Term) → speaks_of cs t ≡ true → has_declared sorts t ≡ true
+    declared_of (constant serial sort) h = sorted_there sorts cs serial sort sorted h
+    declared_of (word w) h = refl
+    declared_of (numeral n) h = refl
+    declared_of (apply s terms) h = all_declared terms h
+    declared_of (parameter place sort) h = refl
+
+    all_declared : (ts : Terms) → speak_of cs ts ≡ true → have_declared sorts ts ≡ true
+    all_declared no_terms h = refl
+    all_declared (with_term t ts) h =
+        let parts = and_parts (speaks_of cs t) (speak_of cs ts) h in
+        and_from (has_declared sorts t) (have_declared sorts ts) (declared_of t parts.0) (all_declared ts parts.1)
+
+-- A live term.
+
+same_term : (t u : Term) → asserted t ≡ asserted u → t ≡ u
+same_term t u h = cc
+
+same_some : {X : Type 0} (x y : X) → Some x ≡ Some y → x ≡ y
+same_some x y h = cc
+
+term_speaks : (cs : List (ℕ × Sort)) (assertions : List Assertion) (place : ℕ) (t : Term)
+    → list_all (speaks_of cs) (terms_in assertions) ≡ true → slice_get assertions place ≡ Some (asserted t)
+    → speaks_of cs t ≡ true
+term_speaks cs [] place t h there = absurd (omega (arith, slice_get_within [] place (asserted t) there))
+term_speaks cs (asserted u ∷ rest) zero t h there =
+    ap (speaks_of cs) (sym (same_term u t (same_some (asserted u) (asserted t) there)))
+    ∙ (and_parts (speaks_of cs u) (list_all (speaks_of cs) (terms_in rest)) h).0
+term_speaks cs (asserted u ∷ rest) (suc place) t h there =
+    term_speaks cs rest place t (and_parts (speaks_of cs u) (list_all (speaks_of cs) (terms_in rest)) h).1 there
+term_speaks cs (a_mark ∷ rest) zero t h there = absurd (cc (there))
+term_speaks cs (a_mark ∷ rest) (suc place) t h there = term_speaks cs rest place t h there
+
+-- What stands at a place.
+
+abbrev At : List code.Assertion → ℕ → code.Assertion → Type 0
+At rows place a = slice_get rows place ≡ Some a
+
+all_at : (p : Assertion → Bool) (xs : List Assertion) (place : ℕ) (a : Assertion) → list_all p xs ≡ true
+    → slice_get xs place ≡ Some a → p a ≡ true
+all_at p [] place a h there = absurd (omega (arith, slice_get_within [] place a there))
+all_at p (x ∷ xs) zero a h there = ap p (sym (same_some x a there)) ∙ (and_parts (p x) (list_all p xs) h).0
+all_at p (x ∷ xs) (suc place) a h there = all_at p xs place a (and_parts (p x) (list_all p xs) h).1 there
+
+pub no_mark : (s : Stacked) (rows : List code.Assertion) (place : ℕ) (a : code.Assertion)
+    → rows ≡ s.assertions → map (assertion_in s.table) rows ≡ live (state_of s)
+    → list_all is_decided (live (state_of s)) ≡ true → place < length s.assertions
+    → a ≡ get_or rows place a → a.term ≡ None → ⊥
+no_mark s rows place a value same decided within is none =
+    false≢true (ap (λ o. is_decided (assertion_of s.table o)) (sym none) ∙ there)
+  where
+    inside : place < length rows
+    inside = subst (λ (xs : List code.Assertion). place < length xs) (sym value) within
+
+    there : is_decided (assertion_in s.table a) ≡ true
+    there = all_at is_decided (live (state_of s)) place (assertion_in s.table a) decided
+        (ap (λ xs. slice_get xs place) (sym same) ∙ slice_get-map (assertion_in s.table) rows place
+        ∙ ap (option_map (assertion_in s.table)) (slice_get-get_or rows place a inside)
+        ∙ ap (λ b. Some (assertion_in s.table b)) (sym is))
+
+pub assertion_there : (s : Stacked) (rows : List code.Assertion) (sorts : List Sort) (place id : ℕ) (a : code.Assertion)
+    → rows ≡ s.assertions → map (assertion_in s.table) rows ≡ live (state_of s)
+    → All (HasNumberBelow (length s.table)) s.assertions
+    → list_all (speaks_of (live_constants s)) (live_terms (state_of s)) ≡ true
+    → sorts ≡ (state_of s).sorts → are_sorted sorts (live_constants s) ≡ true
+    → have_levels s.levels s.assertions ≡ true → place < length s.assertions
+    → a ≡ get_or rows place a → a.term ≡ Some id → IsAssertionAt s place id a.level
+assertion_there s rows sorts place id a value same numbers named its_sorts sorted levelled within is some =
+    record {
+      known = known;
+      stands = stands;
+      statement = record {
+        live = ap (λ xs. slice_get xs place) (live_rows s levelled)
+            ∙ slice_get-map (row_of s.table) s.assertions place
+            ∙ ap (option_map (row_of s.table)) (slice_get-get_or s.assertions place a within)
+            ∙ ap₂ (λ o n. Some (option_map (term_at s.table) o, n)) (ap (λ (b : code.Assertion). b.term) (sym it) ∙ some)
+            (ap (λ (b : code.Assertion). b.level) (sym it));
+        declared = declared_of (state_of s).sorts (live_constants s)
+            (subst (λ (xs : List Sort). are_sorted xs (live_constants s) ≡ true) its_sorts sorted) (term_at s.table id)
+            (term_speaks (live_constants s) (live (state_of s)) place (term_at s.table id) named stands);
+      };
+    }
+  where
+    inside : place < length rows
+    inside = subst (λ (xs : List code.Assertion). place < length xs) (sym value) within
+
+    it : a ≡ get_or s.assertions place a
+    it = subst (λ (xs : List code.Assertion). a ≡ get_or xs place a) value is
+
+    known : id < length s.table
+    known = subst (λ o. IfSome o (λ i. i < length s.table)) (ap (λ (b : code.Assertion). b.term) (sym it) ∙ some)
+        (numbers place a within)
+
+    stands : slice_get (live (state_of s)) place ≡ Some (asserted (term_at s.table id))
+    stands = ap (λ xs. slice_get xs place) (sym same) ∙ slice_get-map (assertion_in s.table) rows place
+        ∙ ap (option_map (assertion_in s.table)) (slice_get-get_or rows place a inside)
+        ∙ ap (λ b. Some (assertion_in s.table b)) (sym is)
+        ∙ ap (λ o. Some (assertion_of s.table o)) some

@@ -1,0 +1,48 @@
+-- Private: what a search leaves.
+use Rattle.std.specs.Prelude.{◌≡◌, ℕ, true, List, [], length, Option}
+use Rattle.std.specs.List.{list_all}
+use Rattle.sb_lit.specs.declared.clause.Lit.{Lit}
+use Rattle.sb_lit.specs.Budgets.{Spending}
+use Rattle.sb_lang.specs.Regex.{Regex}
+use Rattle.sb_trail.specs.Assignments.{held}
+use Rattle.sb_deriv.specs.Faithful.{Memo, KeepsEntries}
+use Rattle.sb_regex.specs.Numbered.{Extends}
+use Rattle.sb_graph.specs.Findings.{IsGraph}
+use Rattle.sb_plain.specs.Memory.{IsRight}
+use Rattle.sb_rulebook.specs.Kept.{AllKept, Asked}
+use Rattle.sb_sound.specs.Tables.{is_table}
+use Rattle.sb_atoms.specs.Numbered.{HaveRegexesBelow, AreDistinct, atoms_in}
+use Rattle.sb_trace.specs.Putting.{IsCounted}
+use Rattle.sb_refute.specs.declared.evidence.Parts.{Parts}
+use Rattle.sb_refute.specs.Backing.{Backs, Evidences, backing_of}
+use Rattle.sb_search.specs.Found.{GrowsTo, IsFound}
+use Rattle.sb_search.specs.declared.found.Found.TheVariants.{Sat}
+use Rattle.sb_theory.specs.Memberships.{HaveAtoms, are_atoms, is_atom, is_true_by}
+use Rattle.sb_solve.specs.Wanted.{AreWanted}
+use Rattle.sb_solve.specs.declared.searching.Searched.{Searched}
+
+-- The tables stay right and grow, clauses stay, and lines that follow are put for new ones; and what was found holds.
+pub record IsSearched (arena : List Regex) (memo : Memo) (parts : Parts) (literals : List Lit)
+    (before after : Spending) (old new : Option (List ℕ)) (s : Searched) : Type 0
+  where
+    pub graph : IsGraph s.arena s.graph
+    pub plain : IsRight s.arena s.plain
+    pub extends : Extends arena s.arena
+    pub derivatives : KeepsEntries memo s.graph.memo
+    pub regexes : HaveRegexesBelow (length s.arena) s.parts.atoms
+    pub atoms : s.parts.atoms ≡ parts.atoms
+    pub asserted : s.parts.asserted.items ≡ parts.asserted.items
+    pub refuted : s.parts.refuted ≡ parts.refuted
+    pub gates : s.parts.gates ≡ parts.gates
+    pub kept : GrowsTo parts.engine.kept s.parts.engine.kept
+    pub known : HaveAtoms parts.atoms parts.engine.kept → HaveAtoms parts.atoms s.parts.engine.kept
+    pub puts : HaveAtoms parts.atoms parts.engine.kept → (asked : Asked) (kept : AllKept)
+        → Backs arena memo (backing_of parts) kept → IsCounted asked kept before
+        → Evidences asked kept s.arena s.graph.memo (backing_of s.parts) after old new
+    pub distinct : AreDistinct parts.atoms
+    pub wanted : AreWanted parts.atoms literals s.wanted.items
+    pub among : (rs : List Regex) → is_table (atoms_in rs parts.atoms) ≡ true → are_atoms parts.atoms literals ≡ true
+        → list_all (is_atom parts.atoms) s.wanted.items ≡ true
+    pub found : IsFound s.wanted.items [] s.parts.engine after s.found
+    pub agrees : s.found ≡ Sat
+        → list_all (is_true_by s.arena s.parts.atoms s.words.items) (held s.parts.engine.trail.literals) ≡ true

@@ -1,0 +1,61 @@
+-- Private: the clauses of live assertions, as they are put in front of a search.
+use Rattle.std.specs.Prelude.{◌≡◌, ◌≢◌, ℕ, ◌<◌, List, length, slice_get, Option, Some}
+use Rattle.sb_lit.specs.declared.clause.Lit.{Lit}
+use Rattle.sb_lang.specs.Regex.{Regex}
+use Rattle.sb_deriv.specs.Faithful.{Memo}
+use Rattle.sb_regex.specs.Numbered.{Extends}
+use Rattle.sb_term.specs.Numbered.{term_at}
+use Rattle.sb_meaning.specs.Terms.{Term}
+use Rattle.sb_script.specs.State.{asserted, live}
+use Rattle.sb_rulebook.specs.Accepted.{asked_in}
+use Rattle.sb_rulebook.specs.Kept.{AllKept}
+use Rattle.sb_rulebook.specs.Translation.{translation}
+use Rattle.sb_stack.specs.Stacked.{Stacked, state_of}
+use Rattle.sb_atoms.specs.Numbered.{HaveRegexesBelow, atoms_in}
+use Rattle.sb_atoms.specs.Numbered as table
+use Rattle.sb_refute.specs.declared.evidence.Asserted.{Asserted}
+use Rattle.sb_refute.specs.Backing.{Backing, Backs, EvidencesUncounted, HasGates, IsStatement, asserted_at}
+use Rattle.sb_solve.specs.Solved.{AreOfLevels, level_at}
+
+-- the number is of the term of the live assertion at the place, on this level
+pub record IsAssertionAt (s : Stacked) (place id level : ℕ) : Type 0 where
+  pub known : id < length s.table
+  pub stands : slice_get (live (state_of s)) place ≡ Some (asserted (term_at s.table id))
+  pub statement : IsStatement (asked_in (state_of s)) place (term_at s.table id) level
+
+-- the literal is that of the live assertion at the place, and its clause stands in the proof
+pub record IsStated (s : Stacked) (rs : List Regex) (e : Backing) (place : ℕ) (l : Lit) : Type 0 where
+  pub term : Term
+  pub stands : slice_get (live (state_of s)) place ≡ Some (asserted term)
+  pub translates : translation (atoms_in rs e.atoms) term ≡ Some l
+  pub clause : Asserted
+  pub there : asserted_at e.asserted place ≡ Some clause
+  pub literal : clause.literal ≡ l
+
+-- The clause of the assertion at one place stands in the proof, with the lines that it lacked.
+pub record States (s : Stacked) (place : ℕ) (rs more : List Regex) (e f : Backing) (old new : Option (List ℕ))
+    (l : Lit) : Type 0
+  where
+    pub puts : (memo : Memo) (before : AllKept) → Backs rs memo e before
+        → EvidencesUncounted (asked_in (state_of s)) before more memo f old new
+    pub extends : Extends rs more
+    pub atoms : table.Extends e.atoms f.atoms
+    pub below : HaveRegexesBelow (length rs) e.atoms
+    pub regexes : HaveRegexesBelow (length more) f.atoms
+    pub others : (other : ℕ) → other ≢ place → asserted_at f.asserted other ≡ asserted_at e.asserted other
+    pub level : (a : Asserted) → asserted_at f.asserted place ≡ Some a
+        → level_at (asked_in (state_of s)).live place ≡ Some a.level
+    pub gates : HasGates (length f.atoms) f.atoms f.kept
+    pub stated : IsStated s more f place l
+
+-- The clauses of the first assertions stand in the proof.
+pub record AreStated (s : Stacked) (rs more : List Regex) (e f : Backing) (old new : Option (List ℕ))
+    (literals : List Lit) : Type 0
+  where
+    pub puts : (memo : Memo) (before : AllKept) → Backs rs memo e before
+        → EvidencesUncounted (asked_in (state_of s)) before more memo f old new
+    pub extends : Extends rs more
+    pub regexes : HaveRegexesBelow (length more) f.atoms
+    pub levels : AreOfLevels (asked_in (state_of s)).live e.asserted f.asserted
+    pub gates : 0 < length literals → HasGates (length f.atoms) f.atoms f.kept
+    pub all : (place : ℕ) (l : Lit) → slice_get literals place ≡ Some l → IsStated s more f place l

@@ -1,0 +1,186 @@
+//! The search over the clauses of a proof.
+
+ghost use Rattle.std.specs.Prelude.{◌≡◌, [], length, IfOk};
+ghost use Rattle.sb_graph.specs.Findings.{IsGraph};
+ghost use Rattle.sb_plain.specs.Memory.{IsRight};
+ghost use Rattle.sb_atoms.specs.Numbered.{AreDistinct, HaveRegexesBelow};
+ghost use Rattle.sb_trace.specs.Putting.{CountsTapeFault};
+ghost use Rattle.sb_theory.specs.Strings.{Stands};
+ghost use Rattle.sb_solve.specs.Begun.{AreAmong, HasRun, IsOver, Runs, searched_of};
+ghost use Rattle.sb_solve.specs.Searched.{IsSearched};
+ghost use Rattle.sb_solve.specs.Wanted.{AreWanted};
+
+use crate::gather::wanted;
+use sb_clauses::Engine;
+use sb_graph::Graph;
+use sb_lit::{Budget, Lit};
+use sb_plain::Plain;
+use sb_proof::{Tape, TapeFault};
+use sb_refute::{Asserted, EmptyClause, Parts};
+use sb_regex::Arena;
+use sb_search::{Found, search};
+use sb_theory::Strings;
+use sb_word::Word;
+use std::alloc::{AllocError, Global};
+
+/// What a search leaves: what it found, and all that it went over.
+#[derive(Drop)]
+pub(crate) struct Searched {
+    pub found: Found,
+    pub arena: Arena,
+    pub graph: Graph,
+    pub plain: Plain,
+    pub parts: Parts,
+    /// The atoms that were to have values.
+    pub wanted: Vec<u64>,
+    /// By serial the words that agree with the trail of a `Sat`.
+    pub words: Vec<Option<Word>>,
+}
+
+/// The theory and the clauses that a search goes over, and what it leaves as it is.
+#[derive(Drop)]
+pub(crate) struct Begun {
+    pub strings: Strings,
+    pub engine: Engine,
+    pub asserted: Vec<Option<Asserted>>,
+    pub refuted: Option<EmptyClause>,
+    pub gates: usize,
+}
+
+/// Searches for values of the atoms that these literals speak of, over the clauses of a proof.
+pub(crate) fn search_parts<L: Tape>(
+    alloc: Global,
+    arena: Arena,
+    graph: Graph,
+    plain: Plain,
+    parts: Parts,
+    literals: &[Lit],
+    tape: &mut L,
+    budget: &mut Budget,
+) -> Result<Searched, TapeFault>
+    requires graph { IsGraph arena graph }
+    requires plain { IsRight arena plain }
+    requires regexes { HaveRegexesBelow (length arena) parts.atoms }
+    requires trail { parts.engine.trail.literals ≡ [] }
+    ensures searched { IfOk result (IsSearched arena graph.memo parts literals.now budget.old budget.new
+        (L.Tape.told tape.old) (L.Tape.told tape.new)) }
+    ensures counts { CountsTapeFault result (L.Tape.faults tape.old) (L.Tape.faults tape.new) }
+{
+    let wanted = wanted_of(alloc, &parts, literals)?;
+    let begun = over(alloc, arena, graph, plain, parts, wanted);
+    let searched = run_over(alloc, begun, tape, budget)?;
+    Ok(searched)
+}
+
+/// The atoms that these literals speak of.
+fn wanted_of(alloc: Global, parts: &Parts, literals: &[Lit]) -> Result<Vec<u64>, AllocError>
+    ensures distinct { AreDistinct parts.now.atoms }
+    ensures wanted { IfOk result (λ found. AreWanted parts.now.atoms literals.now found.items) }
+    ensures among { IfOk result (λ found. AreAmong parts.now.atoms literals.now found.items) }
+{
+    parts.atoms.atoms_each_once();
+    wanted(alloc, &parts.atoms, literals)
+}
+
+/// The search from its beginning to its end.
+fn run_over<L: Tape>(
+    alloc: Global,
+    begun: Begun,
+    tape: &mut L,
+    budget: &mut Budget,
+) -> Result<Searched, TapeFault>
+    requires stands { Stands begun.strings [] }
+    requires trail { begun.engine.trail.literals ≡ [] }
+    ensures runs { IfOk result (HasRun begun budget.old budget.new (L.Tape.told tape.old) (L.Tape.told tape.new)) }
+    ensures counts { CountsTapeFault result (L.Tape.faults tape.old) (L.Tape.faults tape.new) }
+{
+    let mut begun = begun;
+    let found = run(alloc, &mut begun, tape, budget)?;
+    Ok(together(begun, found))
+}
+
+/// The theory over these tables, beside the clauses.
+fn over(
+    alloc: Global,
+    arena: Arena,
+    graph: Graph,
+    plain: Plain,
+    parts: Parts,
+    wanted: Vec<u64>,
+) -> Begun
+    requires graph { IsGraph arena graph }
+    requires plain { IsRight arena plain }
+    requires regexes { HaveRegexesBelow (length arena) parts.atoms }
+    ensures { IsOver arena graph parts wanted.items result }
+{
+    let Parts {
+        trace,
+        atoms,
+        engine,
+        asserted,
+        refuted,
+        gates,
+    } = parts;
+    let strings = Strings::new(alloc, arena, graph, plain, trace, atoms, true, wanted);
+    Begun {
+        strings,
+        engine,
+        asserted,
+        refuted,
+        gates,
+    }
+}
+
+/// The search, which assumes nothing.
+fn run<L: Tape>(
+    alloc: Global,
+    begun: &mut Begun,
+    tape: &mut L,
+    budget: &mut Budget,
+) -> Result<Found, TapeFault>
+    requires stands { Stands begun.old.strings [] }
+    requires trail { begun.old.engine.trail.literals ≡ [] }
+    ensures runs { IfOk result (Runs begun.old begun.new budget.old budget.new (L.Tape.told tape.old)
+        (L.Tape.told tape.new)) }
+    ensures counts { CountsTapeFault result (L.Tape.faults tape.old) (L.Tape.faults tape.new) }
+{
+    let found = search(
+        alloc,
+        &mut begun.strings,
+        &mut begun.engine,
+        tape,
+        &[],
+        budget,
+    )?;
+    Ok(found)
+}
+
+/// What was gone over, and what was found.
+fn together(begun: Begun, found: Found) -> Searched
+    ensures { result ≡ searched_of begun found }
+{
+    let Begun {
+        strings,
+        engine,
+        asserted,
+        refuted,
+        gates,
+    } = begun;
+    let parts = Parts {
+        trace: strings.trace,
+        atoms: strings.atoms,
+        engine,
+        asserted,
+        refuted,
+        gates,
+    };
+    Searched {
+        found,
+        arena: strings.arena,
+        graph: strings.graph,
+        plain: strings.plain,
+        parts,
+        wanted: strings.wanted,
+        words: strings.words,
+    }
+}

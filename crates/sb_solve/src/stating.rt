@@ -1,0 +1,127 @@
+//! The literals of the live assertions.
+
+ghost use Rattle.std.specs.Prelude.{◌≡◌, ◌<◌, ◌∷◌, ◌++◌, [], true, length, IfOk, OnOk};
+ghost use Rattle.std.specs.List.{list_all};
+ghost use Rattle.sb_script.specs.State.{live};
+ghost use Rattle.sb_fragment.specs.Measures.{AreMeasures};
+ghost use Rattle.sb_fragment.specs.Rules.{is_decided};
+ghost use Rattle.sb_problem.specs.Known.{AreNormals};
+ghost use Rattle.sb_stack.specs.Stacked.{state_of};
+ghost use Rattle.sb_atoms.specs.Numbered.{HaveRegexesBelow};
+ghost use Rattle.sb_trace.specs.Putting.{CountsTapeFault};
+ghost use Rattle.sb_solve.specs.Stating.{IsAssertionAt, States, AreStated};
+
+use sb_fragment::Measures;
+use sb_lit::Lit;
+use sb_problem::Normals;
+use sb_proof::{Tape, TapeFault};
+use sb_refute::Evidence;
+use sb_regex::Arena;
+use sb_rulebook::laws::translation_stays;
+use sb_stack::Stack;
+use sb_term::TermId;
+use std::alloc::{AllocError, Global};
+
+/// A term that is asserted, and the level of the assertion.
+#[derive(Drop)]
+struct Stated {
+    term: TermId,
+    level: u64,
+}
+
+/// The literals of the live assertions, in order. The clause of each stands in the proof then, with the lines that it
+/// lacked. `NoMemory` also where one has no literal, as no well-sorted term of them has none.
+pub(crate) fn literals<L: Tape>(
+    alloc: Global,
+    evidence: &mut Evidence,
+    arena: &mut Arena,
+    normals: &mut Normals,
+    measures: &mut Measures,
+    stack: &Stack,
+    tape: &mut L,
+) -> Result<Vec<Lit>, TapeFault>
+    requires decided { list_all is_decided (live (state_of stack.now)) ≡ true }
+    requires right { AreMeasures stack.now.table measures.old }
+    requires normals { AreNormals stack.now.table arena.old normals.old }
+    requires regexes { HaveRegexesBelow (length arena.old) evidence.old.atoms }
+    ensures stated { IfOk result (λ literals. AreStated stack.now arena.old arena.new evidence.old evidence.new
+        (L.Tape.told tape.old) (L.Tape.told tape.new) literals.items) }
+    ensures long { IfOk result (λ literals. length literals.items ≡ length stack.now.assertions) }
+    ensures right { OnOk result (AreMeasures stack.now.table measures.new) }
+    ensures normals { OnOk result (AreNormals stack.now.table arena.new normals.new) }
+    ensures counts { CountsTapeFault result (L.Tape.faults tape.old) (L.Tape.faults tape.new) }
+{
+    translation_stays();
+    let mut literals = Vec::new(alloc);
+    let count = stack.assertions().len();
+    while literals.len() < count {
+        let place = literals.len();
+        let literal = state(evidence, arena, normals, measures, stack, place, tape)?;
+        put(&mut literals, literal)?;
+    }
+    Ok(literals)
+}
+
+/// Puts a literal behind the others.
+fn put(literals: &mut Vec<Lit>, literal: Lit) -> Result<(), AllocError>
+    ensures { OnOk result (literals.new.items ≡ literals.old.items ++ literal ∷ []) }
+{
+    literals.push(literal)?;
+    Ok(())
+}
+
+/// The literal of the live assertion at a place, whose clause stands in the proof then, with the lines that it lacked.
+fn state<L: Tape>(
+    evidence: &mut Evidence,
+    arena: &mut Arena,
+    normals: &mut Normals,
+    measures: &mut Measures,
+    stack: &Stack,
+    place: usize,
+    tape: &mut L,
+) -> Result<Lit, TapeFault>
+    requires there { place < length stack.now.assertions }
+    requires decided { list_all is_decided (live (state_of stack.now)) ≡ true }
+    requires right { AreMeasures stack.now.table measures.old }
+    requires normals { AreNormals stack.now.table arena.old normals.old }
+    requires regexes { HaveRegexesBelow (length arena.old) evidence.old.atoms }
+    ensures states { IfOk result (States stack.now place arena.old arena.new evidence.old evidence.new
+        (L.Tape.told tape.old) (L.Tape.told tape.new)) }
+    ensures right { OnOk result (AreMeasures stack.now.table measures.new) }
+    ensures normals { OnOk result (AreNormals stack.now.table arena.new normals.new) }
+    ensures counts { CountsTapeFault result (L.Tape.faults tape.old) (L.Tape.faults tape.new) }
+{
+    let stated = assertion_at(stack, place);
+    let found = evidence.statement(
+        measures,
+        normals,
+        stack.table(),
+        arena,
+        place,
+        stated.term,
+        stated.level,
+        tape,
+    )?;
+    match found {
+        Some(asserted) => Ok(asserted.literal),
+        None => Err(TapeFault::NoMemory),
+    }
+}
+
+/// The term of the live assertion at a place, and its level.
+fn assertion_at(stack: &Stack, place: usize) -> Stated
+    requires there { place < length stack.now.assertions }
+    requires decided { list_all is_decided (live (state_of stack.now)) ≡ true }
+    ensures { IsAssertionAt stack.now place result.term result.level }
+{
+    let _sorts = stack.sorts();
+    let assertions = stack.assertions();
+    let assertion = &assertions[place];
+    let Some(term) = assertion.term else {
+        unreachable!();
+    };
+    Stated {
+        term,
+        level: assertion.level,
+    }
+}
