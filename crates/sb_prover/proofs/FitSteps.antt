@@ -1,5 +1,5 @@
 -- Behind each entry of a script its terms fit the sorts of the constants, and the script goes on.
-use Rattle.std.proofs.Common.{◌≡◌, ℕ, List, [], ◌∷◌, Option, Some, None, sym, subst}
+use Rattle.std.proofs.Common.{◌≡◌, ℕ, List, [], Option, Some, None, sym, subst}
 use Rattle.sb_script.specs.State.{State}
 use Rattle.sb_script.specs.Steps as meaning
 use Rattle.sb_script.specs.Steps.{answers, leaves, checks, exits}

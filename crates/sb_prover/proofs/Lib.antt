@@ -12,3 +12,4 @@ mod Claims
 mod Leaving
 mod TrueEvidence
 mod FitSteps
+mod Solutions

@@ -130,7 +130,7 @@ finished rs memo p before old begun new h told told-last = step before.begun p.b
 
 -- Where the live assertions are refuted, or a check may have no more lines.
 
-reached-format : (asked : Asked) (before after : AllKept) (old new : Option (List ℕ)) → Puts asked before after old new
+pub reached-format : (asked : Asked) (before after : AllKept) (old new : Option (List ℕ)) → Puts asked before after old new
     → before.format ≡ newest_format → after.format ≡ newest_format
 reached-format asked before after old new puts h = format-stays asked before after puts.lines puts.follow ∙ h
 

@@ -18,7 +18,7 @@ use Rattle.sb_refute.specs.declared.refute.Refuted.TheVariants as refuted
 use Rattle.sb_prover.specs.Saying.{IsRefuted, SaysRefuted}
 
 -- the empty clause is kept
-says-kept : (asked : Asked) (kept : AllKept) (rs : List Regex) (memo : Memo) (e : Backing) (id : ClauseId)
+pub says-kept : (asked : Asked) (kept : AllKept) (rs : List Regex) (memo : Memo) (e : Backing) (id : ClauseId)
     → Backs rs memo e kept → IsEmptyAt e.kept id.0 → SaysRefuted asked kept (refuted.Clause id)
 says-kept asked kept rs memo e id backs is =
     (is.0, ap (λ (clauses : Kept). kept_at clauses id.0) backs.clauses ∙ is.1)
@@ -34,7 +34,7 @@ refuted-again s before rs memo e c told backs is = record {
   says = says-kept (asked_in (state_of s)) before rs memo e c.clause backs (c.level, is);
 }
 
-says-refuted : (asked : Asked) (after : AllKept) (rs : List Regex) (memo : Memo) (e : Backing) (budget : Spending)
+pub says-refuted : (asked : Asked) (after : AllKept) (rs : List Regex) (memo : Memo) (e : Backing) (budget : Spending)
     (r : Refuted) → most_counted asked ≡ 2 ^ 64 - 1 → Backs rs memo e after → IsCounted asked after budget
     → IsRefutation e budget r → SaysRefuted asked after r
 says-refuted asked after rs memo e budget (refuted.Clause id) limit backs counts is =

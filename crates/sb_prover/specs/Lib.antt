@@ -1,3 +1,4 @@
 pub mod Proving
 pub mod Saying
 pub mod Claiming
+pub mod Solving

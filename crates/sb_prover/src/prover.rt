@@ -24,7 +24,7 @@ ghost use Rattle.sb_prover.specs.Proving.{IsAbreast, IsProved, HaveLevels, AreLo
 ghost use Rattle.sb_prover.specs.Saying.{first_lines, IsRefuted, Tells};
 
 use crate::refutation::refute;
-use crate::verdict::{number_of, say, values_of};
+use crate::verdict::{number_of, say, say_values};
 use sb_decide::Decider;
 use sb_lit::Budget;
 use sb_proof::{Line, Said, Tape, TapeFault};
@@ -46,8 +46,8 @@ const FORMAT: u64 = 1;
 /// What of the regexes, atoms and clauses of a script stands in the proof that is written along it.
 #[derive(Drop)]
 pub struct Prover {
-    alloc: Global,
-    evidence: Evidence,
+    pub(crate) alloc: Global,
+    pub(crate) evidence: Evidence,
     /// The first line stands in the proof.
     begun: bool,
 }
@@ -154,7 +154,7 @@ impl Prover {
     }
 
     /// Puts the first line where it does not stand in the proof.
-    fn begin<L: Tape>(&mut self, tape: &mut L) -> Result<(), TapeFault>
+    pub(crate) fn begin<L: Tape>(&mut self, tape: &mut L) -> Result<(), TapeFault>
         ensures told { OnOk result
             (Tells (first_lines self.old.begun) (L.Tape.told tape.old) (L.Tape.told tape.new)) }
         ensures begun { OnOk result (self.new ≡ record self.old { begun = true }) }
@@ -189,9 +189,7 @@ impl Prover {
         text_is_one_line();
         texts_are_lines();
         self.begin(tape)?;
-        let constants = stack.constants()?;
-        let values = values_of(self.alloc, &constants, words, truths)?;
-        say(Said::Sat(values), tape)?;
+        say_values(self.alloc, stack, words, truths, tape)?;
         Ok(())
     }
 

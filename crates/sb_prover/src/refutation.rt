@@ -23,6 +23,7 @@ use sb_fragment::{Measures, membership};
 use sb_graph::graph_stays;
 use sb_lang::order::order_tells_apart;
 use sb_lit::Budget;
+use sb_plain::right_stays;
 use sb_problem::{Normals, normals_stay};
 use sb_proof::{Tape, TapeFault};
 use sb_refute::{Evidence, Refuted};
@@ -57,6 +58,7 @@ pub(crate) fn refute<L: Tape>(
     knows_grown();
     graph_stays();
     normals_stay();
+    right_stays();
     let serial = decider.dead().unwrap();
     let mut places = Vec::new(*decider.constants.allocator());
     places.extend_from_slice(decider.places(serial))?;

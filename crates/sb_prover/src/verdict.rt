@@ -2,16 +2,16 @@
 
 ghost use Rattle.std.specs.Prelude.{◌≡◌, ◌<◌, ◌^◌, [], false, map, get_or, IfOk, OnOk};
 ghost use Rattle.sb_script.specs.Steps.{line};
-ghost use Rattle.sb_rulebook.specs.Lines.{text_of, verdict_line};
+ghost use Rattle.sb_rulebook.specs.Lines.{text_of, verdict_line, said_sat};
 ghost use Rattle.sb_proof.specs.Lines.{value_in, said_in};
 ghost use Rattle.sb_proof.specs.Tapes.{with_bytes};
 ghost use Rattle.sb_trace.specs.Putting.{CountsTapeFault};
-ghost use Rattle.sb_stack.specs.Stacked.{live_in};
+ghost use Rattle.sb_stack.specs.Stacked.{live_in, live_constants};
 ghost use Rattle.sb_prover.specs.Saying.{said_value};
 
 use sb_lit::ClauseId;
 use sb_proof::{Line, Said, Tape, TapeFault, Value};
-use sb_stack::LiveConstant;
+use sb_stack::{LiveConstant, Stack};
 use sb_term::Sort;
 use sb_word::Word;
 use smallvec::SmallVec;
@@ -27,6 +27,25 @@ pub(crate) fn say<L: Tape>(said: Said, tape: &mut L) -> Result<(), TapeFault>
     Ok(())
 }
 
+/// Puts the line of a verdict with these words and truth values, the one of each live constant at its serial. Linear in
+/// the live constants and the characters of their words.
+pub(crate) fn say_values<L: Tape>(
+    alloc: Global,
+    stack: &Stack,
+    words: &[Word],
+    truths: &[bool],
+    tape: &mut L,
+) -> Result<(), TapeFault>
+    ensures told { OnOk result (L.Tape.told tape.new ≡ with_bytes (line (text_of (verdict_line
+        (said_sat (map (said_value words.now truths.now) (live_constants stack.now)))))) (L.Tape.told tape.old)) }
+    ensures counts { CountsTapeFault result (L.Tape.faults tape.old) (L.Tape.faults tape.new) }
+{
+    let constants = stack.constants()?;
+    let values = values_of(alloc, &constants, words, truths)?;
+    say(Said::Sat(values), tape)?;
+    Ok(())
+}
+
 /// The number of a clause.
 pub(crate) fn number_of(id: ClauseId) -> u64
     ensures value { result ≡ id.0 }
@@ -37,7 +56,7 @@ pub(crate) fn number_of(id: ClauseId) -> u64
 
 /// The values of these constants, in order: by its sort each has the word or the truth value at its serial. Linear in
 /// them and their characters.
-pub(crate) fn values_of(
+fn values_of(
     alloc: Global,
     constants: &[LiveConstant],
     words: &[Word],

@@ -103,15 +103,17 @@ returns-clause-knows g c =
     let claimed = c.in_ok-claim_all.ensures.claimed serial
     (subst (All (IsPlaceOf (live s) serial)) places (c.places.ensures.are now c.requires.knows)) in
     let ts = c.args.stack.now.table in
+    let extends = extends_more c.args.decider.now.arena c.claim_all.new.arena c.refute.new.arena claimed.extends
+    c.refute.ensures.extends in
     on_ok_weaker c.refute.result
     (λ _. c.knows_grown.ensures c.args.decider.now c.refute.new.arena c.refute.new.graph c.claim_all.new.normals
-    c.claim_all.new.measures now
-    (extends_more c.args.decider.now.arena c.claim_all.new.arena c.refute.new.arena claimed.extends
-    c.refute.ensures.extends)
-    c.refute.ensures.graph
+    c.claim_all.new.measures c.args.decider.now.plain now extends c.refute.ensures.graph
     (c.normals_stay.ensures ts ts c.claim_all.new.arena c.refute.new.arena c.claim_all.new.normals (extends_same ts)
     c.refute.ensures.extends c.in_ok-claim_all.ensures.normals)
-    c.in_ok-claim_all.ensures.right c.requires.knows)
+    c.in_ok-claim_all.ensures.right
+    (c.right_stays.ensures c.args.decider.now.arena c.refute.new.arena c.args.decider.now.plain extends
+    c.requires.knows.taken.plain)
+    c.requires.knows)
     c.refute.ensures.puts
 
 pub returns-clause-regexes : goal.returns-clause-regexes

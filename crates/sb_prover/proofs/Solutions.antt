@@ -1,0 +1,147 @@
+-- What a check comes to that the decider left open.
+use Rattle.std.proofs.Common.{◌≡◌, ◌⊎◌, ℕ, true, List, [], map, length, Option, Some, IfSome, inl, inr, refl, sym, subst, ◌∙◌}
+use Rattle.sb_lang.specs.Regex.{Regex}
+use Rattle.sb_lit.specs.Kept.{kept_at}
+use Rattle.sb_lit.specs.Budgets.{Spending}
+use Rattle.sb_lit.specs.declared.clause.ClauseId.{ClauseId}
+use Rattle.sb_deriv.specs.Faithful.{Memo}
+use Rattle.sb_meaning.specs.Terms.{Term}
+use Rattle.sb_script.specs.Steps.{line}
+use Rattle.sb_script.specs.State.{Satisfiable}
+use Rattle.sb_script.specs.Fragment.{in_fragment}
+use Rattle.sb_script.specs.Verdicts.{IsVerdict, is_sat}
+use Rattle.sb_rulebook.specs.Lines.{said_sat, verdict_line, text_of}
+use Rattle.sb_rulebook.specs.LineLaws.{TextIsRead, TextIsOneLine, TextsAreLines}
+use Rattle.sb_rulebook.specs.Kept.{AllKept}
+use Rattle.sb_rulebook.specs.Judging.{Progress}
+use Rattle.sb_rulebook.specs.Accepted.{question_in, asked_in}
+use Rattle.sb_proof.specs.Tapes.{with_bytes}
+use Rattle.sb_stack.specs.Stacked.{Stacked, state_of, live_constants, values_at}
+use Rattle.sb_stack.specs.Steps.{verdict_in}
+use Rattle.sb_atoms.specs.Numbered.{HaveRegexesBelow}
+use Rattle.sb_trace.proofs.CallerLemmas.{puts_none}
+use Rattle.sb_sound.specs.SoundLaws.{AreTerms, FollowsByRule, LineStaysSound}
+use Rattle.sb_sound.specs.ScriptLaws.{IsFit, EmptyClauseRefutes}
+use Rattle.sb_refute.specs.declared.evidence.EmptyClause.{EmptyClause}
+use Rattle.sb_refute.specs.declared.refute.Refuted.TheVariants as refuted
+use Rattle.sb_refute.specs.Backing.{Backing, Backs, Evidences, asserted_at, empty_at}
+use Rattle.sb_solve.specs.Solved.{AreOfLevels, IsSolved}
+use Rattle.sb_solve.specs.declared.check.Solved.{Solved}
+use Rattle.sb_solve.specs.declared.check.Solved.TheVariants as solved
+use Rattle.sb_decide.specs.Knowing.{MayBeKept}
+use Rattle.sb_prover.specs.Proving.{Proving, IsAbreast, IsProved, HaveLevels, level_at, IsTrue}
+use Rattle.sb_prover.specs.Saying.{first_lines, Tells, said_value}
+use Rattle.sb_prover.specs.Solving.{IsFound, IsSolution, verdict_of, said_by, IsNumbered}
+use Rattle.sb_prover.proofs.LinesTaken.{verdict-said}
+use Rattle.sb_prover.proofs.Proved.{said-proved, reached-format, unsat-proved, unknown-proved}
+use Rattle.sb_prover.proofs.Refutations.{says-kept, says-refuted}
+use Rattle.sb_prover.proofs.SatValues.{sat-said}
+use Rattle.sb_prover.proofs.TrueEvidence.{sound-behind}
+
+-- clauses of assertions have the levels that they had, or those of the live assertions
+pub levels-known : (live : List (Option Term × ℕ)) (e f : Backing) → AreOfLevels live e.asserted f.asserted
+    → HaveLevels live e → HaveLevels live f
+levels-known live e f of h place a there = by (of place a there)
+  where
+    by : (asserted_at e.asserted place ≡ Some a) ⊎ (level_at live place ≡ Some a.level)
+        → level_at live place ≡ Some a.level
+    by (inl same) = h place a same
+    by (inr is) = is
+
+-- What a search found.
+
+pub found-by : (s : Stacked) (rs : List Regex) (memo : Memo) (e f : Backing) (budget : Spending) (r : Solved)
+    (o : Option EmptyClause) → IsSolved s rs memo e f budget r → o ≡ f.refuted
+    → IfSome o (λ empty. kept_at f.kept empty.clause.0 ≡ Some (empty_at empty)) → IsFound s rs memo e f budget r
+found-by s rs memo e f budget (solved.Sat words truths) o h same kept = h
+found-by s rs memo e f budget (solved.Unsat id) o h same kept = (
+  h.0.level,
+  subst (λ (c : ClauseId). kept_at f.kept c.0 ≡ Some (empty_at h.0)) h.2
+      (subst (λ (x : Option EmptyClause). IfSome x (λ empty. kept_at f.kept empty.clause.0 ≡ Some (empty_at empty)))
+      (same ∙ h.1) kept),
+)
+found-by s rs memo e f budget solved.Spent o h same kept = h
+
+pub found-may : (s : Stacked) (rs : List Regex) (memo : Memo) (e f : Backing) (budget : Spending) (r : Solved)
+    → IsFound s rs memo e f budget r → MayBeKept (verdict_of r) s
+found-may s rs memo e f budget (solved.Sat words truths) h = (h.words, h.long)
+found-may s rs memo e f budget (solved.Unsat id) h = tt
+found-may s rs memo e f budget solved.Spent h = tt
+
+-- The empty clause is kept already: no line is put.
+pub solved-again : (s : Stacked) (before : AllKept) (rs : List Regex) (memo : Memo) (e : Backing) (c : EmptyClause)
+    (told : Option (List ℕ)) → Backs rs memo e before → kept_at e.kept c.clause.0 ≡ Some (empty_at c)
+    → IsSolution s before rs memo e (solved.Unsat c.clause) told told
+solved-again s before rs memo e c told backs is = record {
+  after = before;
+  puts = puts_none (asked_in (state_of s)) before told;
+  backs = backs;
+  says = says-kept (asked_in (state_of s)) before rs memo e c.clause backs (c.level, is);
+}
+
+-- Lines were put for it.
+pub solved-now : (s : Stacked) → AreTerms (asked_in (state_of s)) → (before : AllKept) (rs more : List Regex)
+    (memo memos : Memo) (e f : Backing) (budget : Spending) (r : Solved) (old new : Option (List ℕ))
+    → Backs rs memo e before → Evidences (asked_in (state_of s)) before more memos f budget old new
+    → IsFound s rs memo e f budget r → IsSolution s before more memos f r old new
+solved-now s terms before rs more memo memos e f budget (solved.Sat words truths) old new backs h is = record {
+  after = h.after;
+  puts = h.puts;
+  backs = h.backs;
+  says = is.given before backs terms;
+}
+solved-now s terms before rs more memo memos e f budget (solved.Unsat id) old new backs h is = record {
+  after = h.after;
+  puts = h.puts;
+  backs = h.backs;
+  says = says-kept (asked_in (state_of s)) h.after more memos f id h.backs is;
+}
+solved-now s terms before rs more memo memos e f budget solved.Spent old new backs h is = record {
+  after = h.after;
+  puts = h.puts;
+  backs = h.backs;
+  says = says-refuted (asked_in (state_of s)) h.after more memos f budget refuted.Spent refl h.backs h.counts is;
+}
+
+-- The verdict may be given, where what was kept before is true.
+pub solved-verdict : FollowsByRule → LineStaysSound → EmptyClauseRefutes → (s : Stacked)
+    → in_fragment (state_of s) ≡ true → IsFit (state_of s) → AreTerms (asked_in (state_of s)) → (rs more : List Regex)
+    (memo memos : Memo) (e f : Backing) (r : Solved) (old new : Option (List ℕ))
+    (t : IsTrue (asked_in (state_of s)) rs memo e) → IsSolution s t.kept more memos f r old new
+    → IsVerdict (state_of s) [] (verdict_in (live_constants s) (verdict_of r))
+solved-verdict rule by refutes s inside fit terms rs more memo memos e f (solved.Sat words truths) old new t h =
+    (inside, h.says)
+solved-verdict rule by refutes s inside fit terms rs more memo memos e f (solved.Unsat id) old new t h =
+    let none : Satisfiable (state_of s) [] → ⊥ =
+    refutes (state_of s) h.after id.0 h.says.0 fit
+    (sound-behind rule by (asked_in (state_of s)) terms h.puts.lines t.kept h.after t.sound h.puts.follow) h.says.1 in
+    (inside, none, record { some = refl; contradicted = none })
+solved-verdict rule by refutes s inside fit terms rs more memo memos e f solved.Spent old new t h = inside
+
+-- The lines that were put prove it.
+pub solved-proved : TextIsRead → TextIsOneLine → TextsAreLines → (s : Stacked) (r : Solved) (before : Progress)
+    (rs more : List Regex) (memo memos : Memo) (p : Proving) (e : Backing) (old begun mid new : Option (List ℕ))
+    → in_fragment (state_of s) ≡ true → IsNumbered r → IsAbreast rs memo p before
+    → Tells (first_lines p.begun) old begun → IsSolution s before.kept more memos e r begun mid → HaveRegexesBelow (length more) e.atoms
+    → new ≡ with_bytes (line (text_of (verdict_line (said_by s r)))) mid
+    → IsProved (question_in (state_of s) []) (verdict_in (live_constants s) (verdict_of r)) before more memos
+    (record { evidence = e; begun = true }) old new
+solved-proved law one many s (solved.Sat words truths) before rs more memo memos p e old begun mid new inside small h
+    told r below told-last =
+    let right = sat-said s words.items truths.items inside r.says.model in
+    let values = values_at (live_constants s) words.items truths.items in
+    let q = question_in (state_of s) [] in
+    let said = said_sat (map (said_value words.items truths.items) (live_constants s)) in
+    said-proved q (is_sat values) before r.after more memos e old new
+    (verdict-said law one many before r.after q said (is_sat values) old begun mid new h.rests h.first
+    (subst (λ b. Tells (first_lines b) old begun) (sym h.begun) told) r.puts right.small (right.right r.after)
+    (values, right.valued_as, refl) told-last)
+    r.backs (reached-format (asked_in (state_of s)) before.kept r.after begun mid r.puts h.format) below
+solved-proved law one many s (solved.Unsat id) before rs more memo memos p e old begun mid new inside small h told r
+    below told-last =
+    unsat-proved law one many s before rs more memo memos p e id id.0 old begun mid new refl small inside h told
+    (record { after = r.after; puts = r.puts; backs = r.backs; says = r.says }) below told-last
+solved-proved law one many s solved.Spent before rs more memo memos p e old begun mid new inside small h told r below
+    told-last =
+    unknown-proved law one many s before rs more memo memos p e old begun mid new inside h told
+    (record { after = r.after; puts = r.puts; backs = r.backs; says = r.says }) below told-last

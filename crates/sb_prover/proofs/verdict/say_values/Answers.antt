@@ -1,0 +1,15 @@
+use Rattle.std.proofs.Common.{map, ap, ◌∙◌}
+use Rattle.sb_script.specs.Steps.{line}
+use Rattle.sb_rulebook.specs.Lines.{said_sat, text_of, verdict_line}
+use Rattle.sb_proof.specs.Tapes.{with_bytes}
+use Rattle.sb_stack.specs.Stacked.{live_in}
+use Rattle.sb_prover.specs.Saying.{said_value}
+use Rattle.sb_prover.proofs.verdict.say_values.Goals as goal
+
+pub returns-clause-told : goal.returns-clause-told
+returns-clause-told g c =
+    c.in_ok-say.ensures.told
+    ∙ ap (λ values. with_bytes (line (text_of (verdict_line (said_sat values)))) (g.L.Tape.told c.args.tape.now))
+    (c.in_ok-values.ensures
+    ∙ ap (map (said_value c.args.words.now c.args.truths.now))
+    (ap (map live_in) c.deref.ensures.value ∙ c.in_ok-constants.ensures))
