@@ -38,11 +38,17 @@ impl Kept {
             return Err(Fault::Refused(Refusal::RuleBroken));
         }
         self.clauses.add(literals, 0)?;
+        self.conjunct = if literals.len() == 2 {
+            self.conjunct.saturating_add(1)
+        } else {
+            0
+        };
         Ok(())
     }
 
     /// Whether a clause has a literal and its negation, or is one of a gate of one of its atoms. Where its literals
-    /// ascend, linear in them and in those of these gates.
+    /// ascend, linear in them and in those of these gates; where clauses of one conjunct each come in the order of the
+    /// conjuncts, in time that does not grow with these.
     fn is_gate(&self, literals: &[Lit]) -> Result<bool, AllocError>
         requires known { list_all (λ l. nat_lt l.atom (length self.now.atoms)) literals.now ≡ true }
         ensures { IfOk result (λ b. b ≡ is_gate (atoms_in self.now.arena self.now.atoms) literals.now) }
@@ -73,7 +79,7 @@ impl Kept {
     {
         match self.atoms.describe(AtomId::of(literal)) {
             Atom::And(conjuncts) => {
-                is_of_conjunction(self.alloc, clause, all, literal, conjuncts)
+                is_of_conjunction(self.alloc, clause, all, literal, conjuncts, self.conjunct)
             }
             Atom::Iff(one, other) => Ok(is_of_equivalence(clause, all, literal, *one, *other)),
             Atom::Bool(_) | Atom::In(..) => Ok(false),
@@ -101,6 +107,7 @@ fn is_of_conjunction(
     all: &HashSet<Lit>,
     literal: Lit,
     conjuncts: &[Lit],
+    first: usize,
 ) -> Result<bool, AllocError>
     requires { HasLiterals clause.now (contains are_equal all.now) }
     ensures { IfOk result (λ b. b ≡ (if literal.positive
@@ -110,7 +117,7 @@ fn is_of_conjunction(
     if literal.positive {
         has_each_denied(alloc, clause, all, literal, conjuncts)
     } else {
-        Ok(has_one(clause, all, literal, conjuncts))
+        Ok(has_one(clause, all, literal, conjuncts, first))
     }
 }
 
@@ -145,8 +152,27 @@ fn with_denials(alloc: Global, literal: Lit, conjuncts: &[Lit]) -> Result<Vec<Li
     Ok(gate)
 }
 
-/// Whether the clause is the literal with one of the conjuncts.
-fn has_one(clause: &[Lit], all: &HashSet<Lit>, literal: Lit, conjuncts: &[Lit]) -> bool
+/// Whether the clause is the literal with one of the conjuncts. That of the first place is looked at first.
+fn has_one(
+    clause: &[Lit],
+    all: &HashSet<Lit>,
+    literal: Lit,
+    conjuncts: &[Lit],
+    first: usize,
+) -> bool
+    requires { HasLiterals clause.now (contains are_equal all.now) }
+    ensures { result ≡ list_any (λ m. is_set_of clause.now (literal ∷ m ∷ [])) conjuncts.now }
+{
+    if let Some(conjunct) = conjuncts.get(first) {
+        if is_set_of(clause, all, &[literal, *conjunct]) {
+            return true;
+        }
+    }
+    has_any(clause, all, literal, conjuncts)
+}
+
+/// The same, from the first conjunct on.
+fn has_any(clause: &[Lit], all: &HashSet<Lit>, literal: Lit, conjuncts: &[Lit]) -> bool
     requires { HasLiterals clause.now (contains are_equal all.now) }
     ensures { result ≡ list_any (λ m. is_set_of clause.now (literal ∷ m ∷ [])) conjuncts.now }
 {

@@ -30,6 +30,8 @@ pub struct Kept {
     pub clauses: KeptClauses,
     /// The lines that were counted since the last verdict.
     pub counted: u64,
+    /// The place of the conjunct that the next clause of a gate is taken to be of, and which is looked at first.
+    pub conjunct: usize,
 }
 
 impl Kept {
@@ -48,6 +50,7 @@ impl Kept {
             atoms: Atoms::new(alloc),
             clauses: KeptClauses::new(alloc),
             counted: 0,
+            conjunct: 0,
         }
     }
 

@@ -1,7 +1,7 @@
 use Rattle.std.proofs.Common.{◌≡◌, ◌∷◌, [], drop}
 use Rattle.std.specs.List.{list_any}
 use Rattle.sb_rulebook.specs.Gates.{is_set_of}
-use Rattle.sb_rules.proofs.gates.has_one.Given as goal
+use Rattle.sb_rules.proofs.gates.has_any.Given as goal
 
 abbrev pub invariant-loop-conjunct : goal.invariant-loop-conjunct
 invariant-loop-conjunct l =
