@@ -1,5 +1,5 @@
 -- A run that begins, and what it does by the words.
-use Rattle.std.proofs.Common.{◌≡◌, ℕ, ◌^◌, false, List, [], ◌++◌, Some, Result, Ok, Err, OnOk, IfErr, refl, sym, ap, ap₂, ◌∙◌, subst, inr, arith}
+use Rattle.std.proofs.Common.{◌≡◌, ℕ, ◌+◌, ◌<◌, ◌^◌, false, List, [], ◌++◌, Some, Result, Ok, Err, OnOk, IfErr, refl, sym, ap, ap₂, ◌∙◌, subst, inr, arith}
 use Rattle.std.proofs.lemmas.Bool.{false≢true}
 use Rattle.sb_world.specs.Outside.{Outside}
 use Rattle.sb_world.specs.Moved.{moved_by, nothing}
@@ -11,8 +11,10 @@ use Rattle.sb_rulebook.specs.Reading.{texts_of}
 use Rattle.sb_rulebook.specs.Judging.{at_rest, beginning, along_all}
 use Rattle.sb_stack.specs.Stacked.{state_of}
 use Rattle.sb_entries.specs.Taking.{EntriesState}
+use Rattle.sb_entries.specs.Taking as entries
 use Rattle.sb_lines.specs.Taking.{LinesState}
-use Rattle.sb_judge.specs.Standing.{IsAt}
+use Rattle.sb_lines.specs.Taking as lines
+use Rattle.sb_judge.specs.Standing.{IsAt, IsStanding}
 use Rattle.sb_checker.specs.declared.checker.CheckerFault.{CheckerFault}
 use Rattle.sb_check_words.specs.Words.{script_of, proof_of}
 use Rattle.sb_sound.specs.TruthLaws.{AcceptedScriptIsTrue}
@@ -20,7 +22,7 @@ use Rattle.sb_check.specs.declared.check.Run.{Run}
 use Rattle.sb_check.specs.declared.check.CheckStatus.{CheckStatus}
 use Rattle.sb_check.specs.declared.check.CheckStatus.TheVariants as status
 use Rattle.sb_check.specs.Running.{Asked, AreHeld, AreLeft, IsAsked, IsOpened, Run as RunBy, RunOf, MeansSo, opened}
-use Rattle.sb_check.specs.Sofar.{GoesOn, HasAccepted, Stops, Concludes}
+use Rattle.sb_check.specs.Sofar.{GoesOn, HasAccepted, Stops, Concludes, IsSteady}
 
 pub goes_at_first : (run : Run) (script proof : List ℕ) (o : Outside)
     → run.entries ≡ record { kept = ([], false); read = 0; limit = 2 ^ 32 }
@@ -60,6 +62,19 @@ goes_at_first run script proof o e l at state next left =
       moved = sym (moved_by-nothing o)
           ∙ ap₂ (λ x y. moved_by (record nothing { script = x; proof = y }) o) (sym read) (sym lines_read);
     }
+
+pub steady_at_first : (run : Run) → run.entries ≡ record { kept = ([], false); read = 0; limit = 2 ^ 32 }
+    → run.lines ≡ record { line = []; kept = []; ended = false; read = 0; limit = 2 ^ 32 }
+    → IsStanding run.checker.judge → run.checker.judge.next ≡ 1 → run.next_check ≡ 1 → IsSteady run
+steady_at_first run e l standing next check = record {
+  standing = standing;
+  lines = subst (λ (n : ℕ). n + lines.most_to_come run.lines < 2 ^ 64) (sym next)
+      (subst (λ (s : LinesState). 1 + lines.most_to_come s < 2 ^ 64) (sym l) (omega arith));
+  entries = subst (λ (n : ℕ). n + entries.most_to_come run.entries < 2 ^ 64) (sym check)
+      (subst (λ (s : EntriesState). 1 + entries.most_to_come s < 2 ^ 64) (sym e) (omega arith));
+  lines_limit = ap (λ (s : LinesState). s.limit) l;
+  entries_limit = ap (λ (s : EntriesState). s.limit) e;
+}
 
 pub concluded : (r : Result (Unit {0}) CheckerFault) (run : Run) (script proof : List ℕ) (old before now : Outside)
     → OnOk r ((script proof : List ℕ) (old : Outside) → GoesOn script proof run old before

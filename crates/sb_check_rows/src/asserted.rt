@@ -1,5 +1,5 @@
 //! Literals of assertions of Boolean structure: proofs by hand, of which each has one assertion's literal, the right one
-//! or another.
+//! or another, and a verdict behind it.
 
 use crate::runs::expect;
 use sb_check::CheckStatus;
@@ -15,44 +15,76 @@ const NAMES: &[u8] =
 const ATOMS: &[u8] =
     b"strproof 1\nr set 61-61\nr set 62-62\na in v0 : 0\na in v0 : 1\na bool 1\na bool 2\n";
 
-const FINE: &[u8] = b"check 1: unsupported\naccepted\n";
+const FINE: &[u8] = b"check 1: sat\naccepted\n";
 
-/// The asserted term, the lines of further atoms with that of its literal, and what is answered.
+/// The asserted term, the lines of further atoms with that of its literal and of the verdict, and what is answered.
 type Row = (&'static [u8], &'static [u8], &'static [u8]);
 
 const ROWS: [Row; 18] = [
-    (b"p", b"c assert 0 +2\n", FINE),
-    (b"(not p)", b"c assert 0 -2\n", FINE),
-    (b"(not (= \"b\" x))", b"c assert 0 -1\n", FINE),
+    (b"p", b"c assert 0 +2\nv sat w t f\n", FINE),
+    (b"(not p)", b"c assert 0 -2\nv sat w f f\n", FINE),
+    (b"(not (= \"b\" x))", b"c assert 0 -1\nv sat w f f\n", FINE),
     (
         b"(not (str.in_re x (str.to_re \"a\")))",
-        b"c assert 0 -0\n",
+        b"c assert 0 -0\nv sat w f f\n",
         FINE,
     ),
-    (b"true", b"a and\nc assert 0 +4\n", FINE),
-    (b"false", b"a and\nc assert 0 -4\n", FINE),
-    (b"(and p q)", b"a and +2 +3\nc assert 0 +4\n", FINE),
-    (b"(or p q)", b"a and -2 -3\nc assert 0 -4\n", FINE),
-    (b"(or p)", b"c assert 0 +2\n", FINE),
-    (b"(=> p q)", b"a and +2 -3\nc assert 0 -4\n", FINE),
-    (b"(xor p q)", b"a iff +2 +3\nc assert 0 -4\n", FINE),
-    (b"(= p q)", b"a iff +2 +3\nc assert 0 +4\n", FINE),
-    (b"(distinct p q)", b"a iff +2 +3\nc assert 0 -4\n", FINE),
+    (b"true", b"a and\nc assert 0 +4\nv sat w f f\n", FINE),
+    (
+        b"false",
+        b"a and\nc assert 0 -4\nc gate +4\nc learn : 0 1\nv unsat 2\n",
+        b"check 1: unsat\naccepted\n",
+    ),
+    (
+        b"(and p q)",
+        b"a and +2 +3\nc assert 0 +4\nv sat w t t\n",
+        FINE,
+    ),
+    (
+        b"(or p q)",
+        b"a and -2 -3\nc assert 0 -4\nv sat w f t\n",
+        FINE,
+    ),
+    (b"(or p)", b"c assert 0 +2\nv sat w t f\n", FINE),
+    (
+        b"(=> p q)",
+        b"a and +2 -3\nc assert 0 -4\nv sat w f f\n",
+        FINE,
+    ),
+    (
+        b"(xor p q)",
+        b"a iff +2 +3\nc assert 0 -4\nv sat w t f\n",
+        FINE,
+    ),
+    (
+        b"(= p q)",
+        b"a iff +2 +3\nc assert 0 +4\nv sat w t t\n",
+        FINE,
+    ),
+    (
+        b"(distinct p q)",
+        b"a iff +2 +3\nc assert 0 -4\nv sat w f t\n",
+        FINE,
+    ),
     (
         b"(ite p q (= x \"a\"))",
-        b"a and +2 -3\na and -0 -2\na and -4 -5\nc assert 0 +6\n",
+        b"a and +2 -3\na and -0 -2\na and -4 -5\nc assert 0 +6\nv sat w61 f f\n",
         FINE,
     ),
-    (b"(= x \"a\" x)", b"c assert 0 +0\n", FINE),
-    (b"(distinct x \"a\")", b"c assert 0 -0\n", FINE),
+    (b"(= x \"a\" x)", b"c assert 0 +0\nv sat w61 f f\n", FINE),
+    (
+        b"(distinct x \"a\")",
+        b"c assert 0 -0\nv sat w62 f f\n",
+        FINE,
+    ),
     (
         b"(=> p q (= x \"b\"))",
-        b"a and -1 +3\na and +2 +4\nc assert 0 -5\n",
+        b"a and -1 +3\na and +2 +4\nc assert 0 -5\nv sat w t f\n",
         FINE,
     ),
     (
         b"(xor p q (= x \"a\"))",
-        b"a iff +2 +3\na iff +0 -4\nc assert 0 -5\n",
+        b"a iff +2 +3\na iff +0 -4\nc assert 0 -5\nv sat w61 f f\n",
         FINE,
     ),
 ];
@@ -138,7 +170,7 @@ fn expect_row(
     wanted: CheckStatus,
 ) -> Result<(), AllocError> {
     let script = joined(alloc, &[NAMES, row.0, b")(check-sat)"])?;
-    let proof = joined(alloc, &[ATOMS, row.1, b"v unsupported\nend\n"])?;
+    let proof = joined(alloc, &[ATOMS, row.1, b"end\n"])?;
     expect(rt, alloc, &script, &proof, 4096, row.2, wanted)
 }
 

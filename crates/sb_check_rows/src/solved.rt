@@ -34,7 +34,7 @@ const CASES: [Case; 11] = [
     ),
     (
         b"(declare-const x String)(assert (not (str.in_re x (re.* (re.range \"\\u{0}\" \"\\u{2ffff}\")))))(check-sat)",
-        b"check 1: unsupported\naccepted\n",
+        b"check 1: unsat\naccepted\n",
     ),
     (
         b"(declare-const x String)(assert (str.in_re x (re.++ (re.* (re.union (str.to_re \"a\") (str.to_re \"b\")))\
@@ -48,14 +48,57 @@ const CASES: [Case; 11] = [
     ),
     (
         b"(declare-const p Bool)(assert p)(check-sat)",
-        b"check 1: unsupported\naccepted\n",
+        b"check 1: sat\naccepted\n",
     ),
     (
         b"(declare-const b Bool)(declare-const x String)(assert (= x \"a\"))(check-sat)(declare-const c Bool)\
           (check-sat)(push)(assert (or b (not c)))(check-sat)(pop)(assert (= x \"b\"))(check-sat)",
-        b"check 1: sat\ncheck 2: sat\ncheck 3: unsupported\ncheck 4: unsat\naccepted\n",
+        b"check 1: sat\ncheck 2: sat\ncheck 3: sat\ncheck 4: unsat\naccepted\n",
     ),
     (b"; nothing but a comment", b"accepted\n"),
+];
+
+/// Scripts of Boolean structure, whose checks share what is learned, and whose constants change their sorts.
+const STRUCTURE: [Case; 6] = [
+    // the script of which sb_rows has the proof byte for byte
+    (
+        b"(set-option :print-success false)(declare-const b Bool)(declare-const x String)(assert (or b (= x \"a\")))\
+          (assert (not b))(check-sat)(assert (distinct x \"a\"))(check-sat)",
+        b"check 1: sat\ncheck 2: unsat\naccepted\n",
+    ),
+    (
+        b"(declare-const x String)(assert (or (= x \"a\") (= x \"b\")))(assert (distinct x \"a\"))(check-sat)\
+          (assert (not (= \"b\" x)))(check-sat)(check-sat)",
+        b"check 1: sat\ncheck 2: unsat\ncheck 3: unsat\naccepted\n",
+    ),
+    (
+        b"(declare-const p Bool)(declare-const q Bool)(declare-const x String)(assert (ite (ite p q (not q))\
+          (str.in_re x (re.+ (str.to_re \"a\"))) (= x \"b\")))(push)(assert (xor p q true))(check-sat)\
+          (assert (str.in_re x (re.+ (str.to_re \"b\"))))(check-sat)(pop)(check-sat)(assert (not (= x \"b\")))\
+          (assert (not (str.in_re x (re.++ (str.to_re \"a\") re.all))))(check-sat)",
+        b"check 1: sat\ncheck 2: unsat\ncheck 3: sat\ncheck 4: unsat\naccepted\n",
+    ),
+    // levels that are left between checks, and memberships alone
+    (
+        b"(declare-const x String)(declare-const y String)(assert (str.in_re x (re.+ (re.range \"a\" \"c\"))))(check-sat)\
+          (push)(assert (or (= x \"d\") (not (str.in_re y re.all))))(check-sat)(push)(assert (= x \"a\"))(check-sat)\
+          (pop 2)(assert (= x \"a\"))(check-sat)(push)(assert (= x \"b\"))(check-sat)(assert (or (= y \"\") (= x \"b\")))\
+          (check-sat)(pop)(assert (=> (= x \"a\") (distinct y \"\")))(assert (= \"\" y))(check-sat)(reset-assertions)\
+          (check-sat)",
+        b"check 1: sat\ncheck 2: unsat\ncheck 3: unsat\ncheck 4: sat\ncheck 5: unsat\ncheck 6: unsat\n\
+          check 7: unsat\ncheck 8: sat\naccepted\n",
+    ),
+    (
+        b"(declare-const x String)(assert (not (= x \"a\")))(check-sat)(reset)(declare-const x Bool)(assert (or x x))\
+          (check-sat)(declare-const y String)(assert (xor x (= y \"a\")))(check-sat)(reset)(declare-const y String)\
+          (declare-const x Bool)(assert (and (= y \"a\") x))(check-sat)(assert (not x))(check-sat)",
+        b"check 1: sat\ncheck 2: sat\ncheck 3: sat\ncheck 4: sat\ncheck 5: unsat\naccepted\n",
+    ),
+    (
+        b"(declare-const x String)(assert (not (str.in_re x (re.+ re.allchar))))(check-sat)\
+          (assert (not (str.in_re x (re.++ re.all re.all))))(check-sat)",
+        b"check 1: sat\ncheck 2: unsat\naccepted\n",
+    ),
 ];
 
 /// Ten checks over three constants; those behind the first refutation use what stands in front of them.
@@ -212,5 +255,13 @@ fn lines_of_earlier_checks_are_not_put_again(rt: HostRuntime) -> Result<(), Fail
     }
     assert_eq!(rt; count(text, "d 5 6"), 1);
     expect_case(&rt, rt.alloc(), TEN, SolveStatus::Done)?;
+    Ok(())
+}
+
+#[test]
+fn proofs_of_structure_are_accepted(rt: HostRuntime) -> Result<(), Fail> {
+    for case in STRUCTURE {
+        expect_case(&rt, rt.alloc(), case, SolveStatus::Done)?;
+    }
     Ok(())
 }

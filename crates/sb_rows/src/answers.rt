@@ -88,14 +88,14 @@ const CASES: [Case; 18] = [
         b"unsupported\nunsupported\nunsupported\nunsupported\nunsupported\nunsupported\nunsupported\nunsupported\n\
           unsupported\n",
     ),
-    // constants of sort Bool are false where a check is decided, and Boolean structure is read and not decided
+    // a constant of sort Bool, false where nothing is asked of it, and Boolean structure
     (
         b"(set-option :produce-models true)(declare-const b Bool)(declare-const x String)\
           (assert (str.in_re x (re.+ (str.to_re \"a\"))))(check-sat)(get-model)(get-value (x b))(declare-const b Bool)\
           (push)(assert (or b (= x \"a\")))(check-sat)(pop)(check-sat)(get-value (b))(assert (ite b x \"a\"))\
           (assert (and b x))(assert (ite b (str.in_re x re.all) b))(check-sat)",
         b"success\nsuccess\nsuccess\nsuccess\nsat\n((define-fun b () Bool false) (define-fun x () String \"a\"))\n\
-          ((x \"a\") (b false))\n(error \"already declared b\")\nsuccess\nsuccess\nunsupported\nsuccess\nsat\n\
+          ((x \"a\") (b false))\n(error \"already declared b\")\nsuccess\nsuccess\nsat\nsuccess\nsat\n\
           ((b false))\nunsupported\n(error \"wrong sort\")\nsuccess\nunsupported\n",
     ),
     // a script as benchmarks are written

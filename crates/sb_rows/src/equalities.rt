@@ -70,7 +70,7 @@ const FAULTS: [Case; 3] = [
         b"(set-option :print-success false)(declare-const x String)(push)(assert (= x \"a\" \"a\"))(check-sat)(pop)(push)\
           (assert (= (= x \"a\") (= x \"b\")))(check-sat)(pop)(push)(assert (= re.all re.none))(check-sat)(pop)(push)\
           (assert (not (= x \"a\")))(check-sat)(pop)(push)(assert (distinct x \"a\"))(check-sat)(pop)(check-sat)",
-        b"unsupported\nunsupported\nunsupported\nunsupported\nunsupported\nunsupported\nsat\n",
+        b"unsupported\nsat\nunsupported\nunsupported\nsat\nsat\nsat\n",
     ),
     (
         b"(set-option :print-success false)(declare-const x String)(assert (= x \"\xc3\xa9\"))(assert (|=| x \"a\"))\

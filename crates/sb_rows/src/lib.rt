@@ -33,3 +33,5 @@ mod runs;
 mod scopes;
 #[cfg(test)]
 mod sessions;
+#[cfg(test)]
+mod structure;

@@ -22,7 +22,18 @@ const APART: Row = (
       v unsat 3\nv unsat 3\nend\n",
 );
 
-const ROWS: [Row; 5] = [
+/// A disjunction, whose gate has its clauses in front of the assertions' own. The first check is decided by what these
+/// force, and so is the second one.
+const GATED: Row = (
+    b"(set-option :print-success false)(declare-const b Bool)(declare-const x String)(assert (or b (= x \"a\")))\
+      (assert (not b))(check-sat)(assert (distinct x \"a\"))(check-sat)",
+    b"sat\nunsat\n",
+    b"strproof 1\na bool 0\nr set 61-61\na in v1 : 0\na and -0 -1\n\
+      c gate -0 -2\nc gate -1 -2\nc gate +0 +1 +2\nc assert 0 -2\nc assert 1 -0\nv sat f w61\n\
+      c assert 2 -1\nc learn : 5 3 4 2\nv unsat 6\nend\n",
+);
+
+const ROWS: [Row; 6] = [
     (b"", b"", b"strproof 1\nend\n"),
     (
         b"(set-logic QF_S)(check-sat)(exit)(check-sat)",
@@ -37,11 +48,12 @@ const ROWS: [Row; 5] = [
     ),
     (
         b"(set-option :print-success false)(declare-const b Bool)(declare-const x String)(declare-const c Bool)\
-          (assert (= x \"bc\"))(check-sat)(assert (not b))(check-sat)",
+          (assert (= x \"bc\"))(check-sat)(assert (distinct x \"a\" \"b\"))(check-sat)",
         b"sat\nunsupported\n",
         b"strproof 1\nv sat f w62.63 f\nv unsupported\nend\n",
     ),
     APART,
+    GATED,
 ];
 
 /// Solves the script that standard input holds, with its proof.

@@ -1,5 +1,5 @@
 -- What a run writes of a proof is an accepted proof.
-use Rattle.std.proofs.Common.{◌≡◌, ◌⊎◌, ℕ, Bool, true, false, List, [], ◌∷◌, ◌++◌, Option, Some, None, option_map, append_assoc, refl, sym, ap, ap₂, ◌∙◌, subst, inl, inr}
+use Rattle.std.proofs.Common.{◌≡◌, ◌⊎◌, ℕ, Bool, true, List, [], ◌∷◌, ◌++◌, Option, Some, None, option_map, append_assoc, refl, ap, ap₂, ◌∙◌, subst, inl, inr}
 use Rattle.std.proofs.lemmas.List.{append-nil}
 use Rattle.sb_world.specs.Outside.{Outside}
 use Rattle.sb_world.specs.Moved.{Moved, Write, moved_by, writing_all}
@@ -9,7 +9,7 @@ use Rattle.sb_reader.specs.Entries.{Entry}
 use Rattle.sb_script.specs.Scripts.{Along, unfinished_line}
 use Rattle.sb_rulebook.specs.Judging.{Progress}
 use Rattle.sb_certified.specs.Certified.{CertifiesOn, last_lines}
-use Rattle.sb_certified.specs.CertifiedLaws.{CertifiedUpTo, CertifiedIsAccepted, CertifiedToExitIsAccepted}
+use Rattle.sb_certified.specs.CertifiedLaws.{CertifiedIsAccepted, CertifiedToExitIsAccepted}
 use Rattle.sb_session.specs.declared.solve.SolveStatus.{SolveStatus}
 use Rattle.sb_session.specs.declared.solve.SolveStatus.TheVariants as status
 use Rattle.sb_session.specs.Commanding.{Stage, Answers, with_lines}

@@ -1,5 +1,5 @@
 -- A check is answered with its proof, or without one.
-use Rattle.std.proofs.Common.{◌≡◌, ◌⊎◌, ℕ, ◌<◌, Bool, true, false, if◌then◌else◌, List, [], ◌∷◌, ◌++◌, map, length, take, drop, codes, Option, Some, None, is_some, Result, Ok, Err, OnOk, OnErr, IfOk, refl, sym, ap, ◌∙◌, subst, inl, inr}
+use Rattle.std.proofs.Common.{◌≡◌, ◌⊎◌, ℕ, ◌<◌, Bool, true, false, if◌then◌else◌, List, [], ◌∷◌, map, length, take, drop, codes, Option, Some, None, is_some, Result, Ok, Err, OnOk, OnErr, IfOk, IfSome, IfNone, refl, sym, ap, ◌∙◌, subst, inl, inr}
 use Rattle.sb_lang.specs.Regex.{Regex}
 use Rattle.sb_regex.specs.Numbered.{Extends}
 use Rattle.sb_deriv.specs.Faithful.{Memo, KeepsEntries}
@@ -26,9 +26,9 @@ use Rattle.sb_stack.specs.Stacked.{Stacked, state_of, without_words}
 use Rattle.sb_stack.specs.declared.verdict.Verdict as code
 use Rattle.sb_stack.specs.declared.verdict.Verdict.TheVariants as verdict
 use Rattle.sb_stack.specs.Steps.{verdict_in, found}
-use Rattle.sb_session.specs.Commanding.{SessionState, proof_of, is_proved, IsTracked, CutOf, with_lines}
+use Rattle.sb_session.specs.Commanding.{SessionState, proof_of, is_proved, IsTracked, CutOf}
 use Rattle.sb_session.specs.Reading.{end_writes}
-use Rattle.sb_session.specs.Checking.{HasLevels, HasTrue, Finds, ProvesCheck, CutProof, AnswersCheck, CutCheck}
+use Rattle.sb_session.specs.Checking.{IsKnown, HasLevels, HasTrue, Finds, ProvesCheck, CutProof, AnswersCheck, CutCheck}
 use Rattle.sb_session.proofs.WritingLemmas.{one_written, one_cut, none_cut, lines_written, lines_cut, behind_lines, cut_in_lines, cut_behind_lines}
 
 abreast_of : (s : SessionState) (proving : Proving) (p : Progress) → s.proof ≡ Some proving → IsTracked s p
@@ -357,3 +357,41 @@ true_of_found v old new kept proving e h =
     of verdict.Unsat = h
     of verdict.Unknown = h
     of verdict.Outside = h
+
+-- A check that was left open.
+
+pub known_finds : (s : State) (ns : List (ℕ × Sort)) (v : code.Verdict) → IsKnown v → IsVerdict s [] (verdict_in ns v)
+    → FindsUnproved s [] [] (verdict_in ns v)
+known_finds s ns (verdict.Sat words truths) known h = (refl, h)
+known_finds s ns verdict.Unsat known h = (refl, h)
+known_finds s ns verdict.Unknown known h = absurd known
+known_finds s ns verdict.Outside known h = (refl, h)
+
+-- without a proof
+pub check_unwritten : (s : State) (v : Verdict) (p : Progress) (proof : Option Proving) (after : SessionState)
+    (old : Outside) → proof ≡ None → after.proof ≡ None → FindsUnproved s [] [] v
+    → ProvesCheck s v p (is_some proof) after old old
+check_unwritten s v p proof after old e now h =
+    subst (λ (b : Bool). ProvesCheck s v p b after old old) (sym (ap is_some e)) (record {
+      lines = [];
+      progress = p;
+      finds = (h, refl);
+      tracked = subst (λ (o : Option Proving). IsTracked (record after { proof = o }) p) (sym now) tt;
+      outside = sym (moved_by-nothing old);
+    })
+
+-- the states differ in their mode alone, whatever was decided
+pub some_verdict : (decided : Option code.Verdict) (ns : List (ℕ × Sort)) (old new : Stacked)
+    → IfSome decided (λ v. settled (verdict_in ns v) (state_of new) ≡ settled (verdict_in ns v) (state_of old))
+    → IfNone decided (new ≡ old) → (v : Verdict) × (settled v (state_of new) ≡ settled v (state_of old))
+some_verdict (Some v) ns old new h same = (verdict_in ns v, h)
+some_verdict None ns old new h same = (is_outside, ap (λ (s : Stacked). settled is_outside (state_of s)) same)
+
+pub decided_verdict : (decided : Option code.Verdict) (ns ms : List (ℕ × Sort)) (old new : Stacked)
+    → IfSome decided (λ v. settled (verdict_in ns v) (state_of new) ≡ settled (verdict_in ns v) (state_of old))
+    → ms ≡ ns → IfSome decided (λ v. IsVerdict (state_of old) [] (verdict_in ns v))
+    → IfSome decided (λ v. IsVerdict (state_of new) [] (verdict_in ms v))
+decided_verdict (Some v) ns ms old new state same h =
+    subst (λ (xs : List (ℕ × Sort)). IsVerdict (state_of new) [] (verdict_in xs v)) (sym same)
+    (same_verdict (verdict_in ns v) (state_of new) (state_of old) state h)
+decided_verdict None ns ms old new state same h = tt

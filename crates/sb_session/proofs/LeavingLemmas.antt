@@ -1,5 +1,5 @@
 -- Where levels are left, what is known of the proof goes along.
-use Rattle.std.proofs.Common.{◌≡◌, ℕ, Bool, true, false, List, [], ◌∷◌, ◌++◌, map, length, take, Option, Some, None, is_some, IfSome, refl, sym, ap, ◌∙◌, subst}
+use Rattle.std.proofs.Common.{◌≡◌, ℕ, Bool, true, false, List, [], ◌∷◌, ◌++◌, length, take, Option, Some, None, is_some, IfSome, refl, sym, ap, ◌∙◌, subst}
 use Rattle.std.proofs.lemmas.List.{length-map}
 use Rattle.sb_lang.specs.Regex.{Regex}
 use Rattle.sb_deriv.specs.Faithful.{Memo}
@@ -7,7 +7,7 @@ use Rattle.sb_meaning.specs.Terms.{Term}
 use Rattle.sb_atoms.specs.Numbered.{HaveRegexesBelow}
 use Rattle.sb_script.specs.State.{State, live}
 use Rattle.sb_rulebook.specs.Accepted.{asked_in}
-use Rattle.sb_rulebook.specs.Judging.{Event, Phase, at_rest, at_check, at_end, behind_end, stopped, Progress, met, meets}
+use Rattle.sb_rulebook.specs.Judging.{Phase, at_rest, at_check, at_end, behind_end, stopped, Progress, met}
 use Rattle.sb_certified.specs.Certified.{behind}
 use Rattle.sb_prover.specs.Proving.{Proving, IsAbreast, HaveLevels, AreLow, leaving, IsTrue, GoesDown, LevelsStay}
 use Rattle.sb_stack.specs.Stacked.{Stacked, state_of, assertion_in}

@@ -6,7 +6,6 @@ use Rattle.sb_world.specs.declared.InPort.TheVariants as in_port
 use Rattle.sb_reader.specs.Entries.{Begins}
 use Rattle.sb_reader.specs.Feeding as feed
 use Rattle.sb_reader.proofs.CallerLemmas.{shortens_before, beginning_stays}
-use Rattle.sb_stack.specs.Stacked.{state_of}
 use Rattle.sb_session.specs.declared.command.SessionFault.{SessionFault}
 use Rattle.sb_session.specs.declared.solve.Pause.{Pause}
 use Rattle.sb_session.specs.Commanding.{SessionState, is_proved}

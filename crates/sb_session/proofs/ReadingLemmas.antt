@@ -9,13 +9,12 @@ use Rattle.sb_reader.specs.Entries.{Entry, HoldsNoEntry, Begins}
 use Rattle.sb_reader.specs.Feeding as feed
 use Rattle.sb_reader.specs.Feeding.{Takes, Waits, Ends}
 use Rattle.sb_reader.proofs.CallerLemmas.{shortens_to_itself, shortens_twice, same_entry, beginning_grows}
-use Rattle.sb_rulebook.specs.Judging.{Progress}
 use Rattle.sb_script.specs.Replies.{is_exit}
 use Rattle.sb_script.specs.Scripts.{Along}
 use Rattle.sb_stack.specs.Stacked.{state_of}
-use Rattle.sb_session.specs.Commanding.{SessionState, Stage, is_proved, IsTracked, Answers, AnswersEntry, CutReply, CutOrNot}
+use Rattle.sb_session.specs.Commanding.{SessionState, is_proved, IsTracked, Answers, AnswersEntry, CutReply, CutOrNot}
 use Rattle.sb_session.specs.Progress.{Sofar}
-use Rattle.sb_session.specs.Reading.{GoesOn, beginnings, Answered, UpToExit, CutBetween, NextAnswer, Cut, end_writes}
+use Rattle.sb_session.specs.Reading.{GoesOn, beginnings, Answered, UpToExit, CutBetween, Cut, end_writes}
 use Rattle.sb_session.specs.Pausing.{NoneLeft, is_clean}
 use Rattle.sb_session.proofs.WritingLemmas.{writes_on, front-longer}
 

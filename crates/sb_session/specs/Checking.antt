@@ -1,5 +1,5 @@
 -- Private: what answering a check does.
-use Rattle.std.specs.Prelude.{◌≡◌, ℕ, Bool, true, false, List, [], ◌∷◌, ◌⊎◌, length, take, Option, Some, None, IfSome}
+use Rattle.std.specs.Prelude.{◌≡◌, ℕ, Bool, true, false, List, [], ◌∷◌, length, take, Option, IfSome}
 use Rattle.sb_lang.specs.Regex.{Regex}
 use Rattle.sb_deriv.specs.Faithful.{Memo}
 use Rattle.sb_world.specs.Outside.{Outside}
@@ -14,6 +14,8 @@ use Rattle.sb_rulebook.specs.Judging.{Event, Progress, met}
 use Rattle.sb_certified.specs.Certified.{behind, FindsProved}
 use Rattle.sb_prover.specs.Proving.{Proving, IsAbreast, HaveLevels, AreLow, leaving, IsTrue, GoesDown}
 use Rattle.sb_stack.specs.Stacked.{Stacked, state_of}
+use Rattle.sb_stack.specs.declared.verdict.Verdict as code
+use Rattle.sb_stack.specs.declared.verdict.Verdict.TheVariants as verdict
 use Rattle.sb_decide.specs.declared.decide.Decider.{Decider}
 use Rattle.sb_atoms.specs.Numbered.{HaveRegexesBelow}
 use Rattle.sb_session.specs.Commanding.{SessionState, is_proved, IsTracked, with_lines, CutOf}
@@ -51,6 +53,11 @@ pub record LeavesProof (level : Option ℕ) (count : ℕ) (old new : Proving) : 
 abbrev pub progress_by : Bool → List Event → Progress → Progress
 progress_by true es p = behind es p
 progress_by false es p = p
+
+-- the verdict is no want of a decision
+abbrev pub IsKnown : code.Verdict → Type 0
+IsKnown verdict.Unknown = ⊥
+IsKnown _ = Unit {0}
 
 -- a check finds a verdict, with the lines of its proof or without
 abbrev pub Finds : Bool → Progress → Progress → State → List ℕ → Verdict → Type 0

@@ -1,28 +1,28 @@
 //! The session, entry by entry.
 
-ghost use Rattle.std.specs.Prelude.{◌≡◌, ◌⊎◌, [], length, true, false, is_some, Some, IfOk, IfErr, OnOk, OnErr};
+ghost use Rattle.std.specs.Prelude.{◌≡◌, ◌⊎◌, [], length, true, false, is_some, Some, IfSome, IfNone, IfOk, IfErr, OnOk, OnErr};
 ghost use Rattle.sb_world.specs.Outside.{CountsFault};
 ghost use Rattle.sb_world.specs.Moved.{moved_by, writing_all};
 ghost use Rattle.sb_script.specs.State.{start};
-ghost use Rattle.sb_script.specs.Verdicts.{IsVerdict};
+ghost use Rattle.sb_script.specs.Verdicts.{IsVerdict, FindsUnproved};
 ghost use Rattle.sb_atoms.specs.Numbered.{HaveRegexesBelow};
 ghost use Rattle.sb_prover.specs.Proving.{HaveLevels};
 ghost use Rattle.sb_rulebook.specs.Accepted.{asked_in};
 ghost use Rattle.sb_rulebook.specs.Judging.{Progress, beginning};
 ghost use Rattle.sb_stack.specs.Stacked.{state_of, live_constants};
 ghost use Rattle.sb_stack.specs.Steps.{IsEntry, entry_of, verdict_in, found};
-ghost use Rattle.sb_decide.specs.Knowing.{Knows, IsDecision};
+ghost use Rattle.sb_decide.specs.Knowing.{Knows, IsDecision, IsLeftOpen};
 ghost use Rattle.sb_decide.specs.Laws.{KnowsBack};
 ghost use Rattle.sb_session.specs.Commanding.{SessionState, Goes, Fails, AnswersEntry, CutOrNot, CutOf, IsTracked, proof_of, is_proved, is_exited, went_of, CountsSessionFault};
 ghost use Rattle.sb_sound.specs.ScriptLaws.{IsFit};
-ghost use Rattle.sb_session.specs.Checking.{session_of, HasRegexes, HasLevels, HasTrue, LeavesProof, ProvesCheck, CutProof, AnswersCheck, CutCheck};
+ghost use Rattle.sb_session.specs.Checking.{session_of, IsKnown, HasRegexes, HasLevels, HasTrue, LeavesProof, ProvesCheck, CutProof, AnswersCheck, CutCheck};
 ghost use Rattle.sb_session.specs.Reading.{end_writes};
 
 use sb_decide::{Decider, knows_stays};
 use sb_proof::MemTape;
 use sb_prover::{
-    Prover, abreast_stays, entries_move_live, entries_stay_fit, levels_stay, regexes_stay_below,
-    true_stays,
+    NoTape, Prover, abreast_stays, entries_move_live, entries_stay_fit, levels_stay,
+    regexes_stay_below, true_stays,
 };
 use sb_reader::Next;
 use sb_sound::scripts::entries_lead_on;
@@ -297,7 +297,7 @@ fn level_of(level: Option<usize>) -> Option<u64>
     }
 }
 
-/// Decides a check, writes the lines of its proof, and answers it.
+/// Answers a check: finds a verdict, and writes the lines of its proof first, where one is written.
 fn answer_check<W: World>(
     alloc: Global,
     stack: &mut Stack,
@@ -331,8 +331,162 @@ fn answer_check<W: World>(
     regexes_stay_below();
     true_stays();
     let decided = decider.decide(alloc, stack)?;
-    let verdict = prove_check(alloc, stack, decider, prover, proved, decided, world)?;
+    let verdict = find_verdict(alloc, stack, decider, prover, proved, decided, world)?;
     write_all(world, OutPort::Answers, stack.settle(verdict))
+}
+
+/// The verdict of a check: the one that was decided, or where the check was left open what a search finds. Writes the
+/// lines that prove it, where a proof is written.
+fn find_verdict<W: World>(
+    alloc: Global,
+    stack: &Stack,
+    decider: &mut Decider,
+    prover: &mut Prover,
+    proved: bool,
+    decided: Option<Verdict>,
+    world: &mut W,
+) -> Result<Verdict, WorldError>
+    requires knows { IfSome decided (λ v. Knows decider.old (found v stack.now)) }
+    requires verdict { IfSome decided
+        (λ v. IsVerdict (state_of stack.now) [] (verdict_in (live_constants stack.now) v)) }
+    requires decided { IfSome decided (λ v. IsDecision v decider.old) }
+    requires open { IfNone decided (IsLeftOpen decider.old stack.now) }
+    requires regexes { HasRegexes decider.old.arena prover.old }
+    requires fit { IsFit (state_of stack.now) }
+    requires sound { HasTrue (state_of stack.now) decider.old prover.old }
+    ensures knows { IfOk result (λ v. Knows decider.new (found v stack.now)) }
+    ensures regexes { OnOk result (HasRegexes decider.new.arena prover.new) }
+    ensures levels { OnOk result (HasLevels (state_of stack.now) prover.old
+        → HasLevels (state_of stack.now) prover.new) }
+    ensures sound { OnOk result (HasTrue (state_of stack.now) decider.new prover.new) }
+    ensures ok { IfOk result
+        (λ v. (p : Progress) → IsTracked (session_of stack.now decider.old (proof_of proved prover.old)) p
+        → ProvesCheck (state_of stack.now) (verdict_in (live_constants stack.now) v) p
+        (is_some (proof_of proved prover.old)) (session_of stack.now decider.new (proof_of proved prover.new))
+        (W.outside world.old) (W.outside world.new)) }
+    ensures err { OnErr result
+        ((p : Progress) → IsTracked (session_of stack.now decider.old (proof_of proved prover.old)) p
+        → (W.outside world.new ≡ W.outside world.old)
+        ⊎ CutProof (state_of stack.now) p (is_some (proof_of proved prover.old)) (W.outside world.old)
+        (W.outside world.new)) }
+    ensures faults { CountsFault result (W.faults world.old) (W.faults world.new) }
+{
+    match decided {
+        Some(verdict) => prove_check(alloc, stack, decider, prover, proved, verdict, world),
+        None => solve_check(alloc, stack, decider, prover, proved, world),
+    }
+}
+
+/// Answers a check that was left open, and writes the lines that prove the verdict, where a proof is written. Without a
+/// proof it is `NoMemory` where so many lines would be counted as a check may have.
+fn solve_check<W: World>(
+    alloc: Global,
+    stack: &Stack,
+    decider: &mut Decider,
+    prover: &mut Prover,
+    proved: bool,
+    world: &mut W,
+) -> Result<Verdict, WorldError>
+    requires open { IsLeftOpen decider.old stack.now }
+    requires regexes { HasRegexes decider.old.arena prover.old }
+    requires fit { IsFit (state_of stack.now) }
+    requires sound { HasTrue (state_of stack.now) decider.old prover.old }
+    ensures knows { IfOk result (λ v. Knows decider.new (found v stack.now)) }
+    ensures regexes { OnOk result (HasRegexes decider.new.arena prover.new) }
+    ensures levels { OnOk result (HasLevels (state_of stack.now) prover.old
+        → HasLevels (state_of stack.now) prover.new) }
+    ensures sound { OnOk result (HasTrue (state_of stack.now) decider.new prover.new) }
+    ensures ok { IfOk result
+        (λ v. (p : Progress) → IsTracked (session_of stack.now decider.old (proof_of proved prover.old)) p
+        → ProvesCheck (state_of stack.now) (verdict_in (live_constants stack.now) v) p
+        (is_some (proof_of proved prover.old)) (session_of stack.now decider.new (proof_of proved prover.new))
+        (W.outside world.old) (W.outside world.new)) }
+    ensures err { OnErr result
+        ((p : Progress) → IsTracked (session_of stack.now decider.old (proof_of proved prover.old)) p
+        → (W.outside world.new ≡ W.outside world.old)
+        ⊎ CutProof (state_of stack.now) p (is_some (proof_of proved prover.old)) (W.outside world.old)
+        (W.outside world.new)) }
+    ensures faults { CountsFault result (W.faults world.old) (W.faults world.new) }
+{
+    if proved {
+        return solve(alloc, stack, decider, prover, world);
+    }
+    let verdict = solve_unproved(stack, decider, prover)?;
+    Ok(verdict)
+}
+
+/// Answers a check that was left open, and writes the lines that prove the verdict.
+fn solve<W: World>(
+    alloc: Global,
+    stack: &Stack,
+    decider: &mut Decider,
+    prover: &mut Prover,
+    world: &mut W,
+) -> Result<Verdict, WorldError>
+    requires open { IsLeftOpen decider.old stack.now }
+    requires regexes { HasRegexes decider.old.arena prover.old }
+    requires fit { IsFit (state_of stack.now) }
+    requires sound { HasTrue (state_of stack.now) decider.old prover.old }
+    ensures knows { IfOk result (λ v. Knows decider.new (found v stack.now)) }
+    ensures regexes { OnOk result (HasRegexes decider.new.arena prover.new) }
+    ensures levels { OnOk result (HasLevels (state_of stack.now) prover.old
+        → HasLevels (state_of stack.now) prover.new) }
+    ensures sound { OnOk result (HasTrue (state_of stack.now) decider.new prover.new) }
+    ensures ok { IfOk result
+        (λ v. (p : Progress) → IsTracked (session_of stack.now decider.old (Some prover.old)) p
+        → ProvesCheck (state_of stack.now) (verdict_in (live_constants stack.now) v) p
+        true (session_of stack.now decider.new (Some prover.new))
+        (W.outside world.old) (W.outside world.new)) }
+    ensures err { OnErr result
+        ((p : Progress) → IsTracked (session_of stack.now decider.old (Some prover.old)) p
+        → (W.outside world.new ≡ W.outside world.old)
+        ⊎ CutProof (state_of stack.now) p true (W.outside world.old)
+        (W.outside world.new)) }
+    ensures faults { CountsFault result (W.faults world.old) (W.faults world.new) }
+{
+    let mut lines = MemTape::new(alloc);
+    let Ok(verdict) = prover.solve(decider, stack, &mut lines) else {
+        return Err(WorldError::NoMemory);
+    };
+    write_all(world, OutPort::Proof, lines.bytes())?;
+    Ok(verdict)
+}
+
+/// Answers a check that was left open, without a proof; it is never `Unknown`.
+fn solve_unproved(
+    stack: &Stack,
+    decider: &mut Decider,
+    prover: &mut Prover,
+) -> Result<Verdict, AllocError>
+    requires open { IsLeftOpen decider.old stack.now }
+    requires regexes { HasRegexes decider.old.arena prover.old }
+    requires fit { IsFit (state_of stack.now) }
+    requires sound { HasTrue (state_of stack.now) decider.old prover.old }
+    ensures finds { IfOk result
+        (λ v. FindsUnproved (state_of stack.now) [] [] (verdict_in (live_constants stack.now) v)) }
+    ensures knows { IfOk result (λ v. Knows decider.new (found v stack.now)) }
+    ensures regexes { OnOk result (HasRegexes decider.new.arena prover.new) }
+    ensures levels { OnOk result (HasLevels (state_of stack.now) prover.old
+        → HasLevels (state_of stack.now) prover.new) }
+    ensures sound { OnOk result (HasTrue (state_of stack.now) decider.new prover.new) }
+{
+    let Ok(verdict) = prover.solve(decider, stack, &mut NoTape) else {
+        return Err(AllocError);
+    };
+    let known = if_known(verdict)?;
+    Ok(known)
+}
+
+/// The verdict, unless it is `Unknown`.
+fn if_known(verdict: Verdict) -> Result<Verdict, AllocError>
+    ensures { IfOk result (λ v. (v ≡ verdict) × IsKnown v) }
+{
+    match verdict {
+        Verdict::Sat { words, truths } => Ok(Verdict::Sat { words, truths }),
+        Verdict::Unsat => Ok(Verdict::Unsat),
+        Verdict::Unknown => Err(AllocError),
+        Verdict::Outside => Ok(Verdict::Outside),
+    }
 }
 
 /// Writes the lines that prove the verdict of a check, where a proof is written, and answers the verdict.

@@ -1,8 +1,9 @@
 //! The session: it reads a script from a world, and answers each of its entries before it reads on.
 //!
 //! [`solve_top`] is the program: it opens the script, reads it piece by piece, and hands each entry to a
-//! [`Session`], which answers it by the state of the script, has the checks decided, and writes their proofs. The
-//! theorem of the whole, from the bytes that come in to the bytes that go out, is the contract of `solve_top`.
+//! [`Session`], which answers it by the state of the script, has the checks decided or searched, and writes their
+//! proofs. The theorem of the whole, from the bytes that come in to the bytes that go out, is the contract of
+//! `solve_top`.
 #![tactic(auto)]
 
 mod command;

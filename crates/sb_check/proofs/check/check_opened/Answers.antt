@@ -1,7 +1,18 @@
 use Rattle.std.proofs.Common.{refl}
 use Rattle.sb_check.specs.declared.check.Run.{Run}
-use Rattle.sb_check.proofs.Opening.{goes_at_first, concluded}
+use Rattle.sb_check.proofs.Opening.{goes_at_first, steady_at_first, concluded}
 use Rattle.sb_check.proofs.check.check_opened.Goals as goal
+
+pub check_script-outcome-requires : goal.check_script-outcome-requires
+check_script-outcome-requires g c =
+    let run : Run = record {
+      alloc = c.args.alloc;
+      entries = c.new.result;
+      lines = c.new-2.result;
+      checker = c.new-3.result;
+      next_check = 1;
+    } in
+    steady_at_first run c.new.ensures c.new-2.ensures c.new-3.ensures.standing c.new-3.ensures.next refl
 
 pub returns-clause-run : goal.returns-clause-run
 returns-clause-run g c script proof left =

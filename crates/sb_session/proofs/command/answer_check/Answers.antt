@@ -1,86 +1,92 @@
-use Rattle.std.proofs.Common.{◌≡◌, ℕ, ◌<◌, List, [], length, take, refl, sym, ap, ◌∙◌, subst, inr}
+use Rattle.std.proofs.Common.{◌≡◌, ℕ, ◌<◌, List, length, take, refl, ap, ◌∙◌, subst, inr}
 use Rattle.sb_world.specs.Outside.{write_at}
 use Rattle.sb_world.specs.declared.OutPort.TheVariants.{Answers}
 use Rattle.std.proofs.lemmas.Result.{err_from_is_err_and}
-use Rattle.sb_script.specs.Verdicts.{IsVerdict}
 use Rattle.sb_rulebook.specs.Accepted.{asked_in}
 use Rattle.sb_stack.specs.Stacked.{Stacked, state_of, live_constants}
-use Rattle.sb_meaning.specs.Terms.{Sort}
 use Rattle.sb_stack.specs.Steps.{verdict_in}
 use Rattle.sb_session.specs.Commanding.{proof_of}
 use Rattle.sb_session.specs.Checking.{session_of}
-use Rattle.sb_session.proofs.CheckLemmas.{on_ok, on_err, same_verdict, levels_of_rest, levels_of_found, fit_of_rest, fit_of_found, true_of_rest, true_of_found, tracked_stays, check_answered, answer_cut, proof_cut}
+use Rattle.sb_session.proofs.CheckLemmas.{on_ok, on_err, some_verdict, decided_verdict, levels_of_rest, levels_of_found, fit_of_rest, fit_of_found, true_of_rest, true_of_found, tracked_stays, check_answered, answer_cut, proof_cut}
 use Rattle.sb_session.proofs.command.answer_check.Goals as goal
 
 pub returns-in_err-verdict-clause-err : goal.returns-in_err-verdict-clause-err
 returns-in_err-verdict-clause-err g c =
+    let same = some_verdict c.in_ok-decided.decided (live_constants c.args.stack.now) c.args.stack.now
+    c.decide.new.stack c.in_ok-decided.ensures.state c.in_ok-decided.ensures.same in
     let p = err_from_is_err_and c.from_residual-in_err-verdict.result c.from_residual-in_err-verdict.ensures.1 in
     let session = session_of c.args.stack.now c.args.decider.now (proof_of c.args.proved c.args.prover.now) in
     let between = session_of c.decide.new.stack c.decide.new.self (proof_of c.args.proved c.args.prover.now) in
     rw p.1
     (λ q tracked.
-    proof_cut (verdict_in (live_constants c.args.stack.now) c.in_ok-decided.decided) q session between c.in_ok-decided.ensures.state refl
-    (g.W.World.outside c.args.world.now) (g.W.World.outside c.prove_check.new.world)
+    proof_cut same.0 q session between same.1 refl
+    (g.W.World.outside c.args.world.now) (g.W.World.outside c.find_verdict.new.world)
     (c.in_err-verdict.ensures.err q
     (tracked_stays c.abreast_stays.ensures session between q refl c.in_ok-decided.ensures.extends
     c.in_ok-decided.ensures.derivatives_stay tracked)))
 
 pub returns-clause-ok : goal.returns-clause-ok
 returns-clause-ok g c =
+    let same = some_verdict c.in_ok-decided.decided (live_constants c.args.stack.now) c.args.stack.now
+    c.decide.new.stack c.in_ok-decided.ensures.state c.in_ok-decided.ensures.same in
     let session = session_of c.args.stack.now c.args.decider.now (proof_of c.args.proved c.args.prover.now) in
     let between = session_of c.decide.new.stack c.decide.new.self (proof_of c.args.proved c.args.prover.now) in
-    let proven = session_of c.decide.new.stack c.prove_check.new.decider (proof_of c.args.proved c.prove_check.new.prover) in
-    let after = session_of c.settle.new.self c.prove_check.new.decider (proof_of c.args.proved c.prove_check.new.prover) in
+    let proven = session_of c.decide.new.stack c.find_verdict.new.decider
+    (proof_of c.args.proved c.find_verdict.new.prover) in
+    let after = session_of c.settle.new.self c.find_verdict.new.decider
+    (proof_of c.args.proved c.find_verdict.new.prover) in
     on_ok c.write_all.result
     (λ written q tracked.
-    check_answered (verdict_in (live_constants c.args.stack.now) c.in_ok-decided.decided) q session between proven after (verdict_in (live_constants c.decide.new.stack) c.in_ok-verdict.verdict)
-    c.in_ok-decided.ensures.state refl (g.W.World.outside c.args.world.now)
-    (g.W.World.outside c.prove_check.new.world) (g.W.World.outside c.write_all.new.world) (λ r h. h)
+    check_answered same.0 q session between proven after
+    (verdict_in (live_constants c.decide.new.stack) c.in_ok-verdict.verdict) same.1 refl (g.W.World.outside c.args.world.now)
+    (g.W.World.outside c.find_verdict.new.world) (g.W.World.outside c.write_all.new.world) (λ r h. h)
     (c.in_ok-verdict.ensures.ok q
     (tracked_stays c.abreast_stays.ensures session between q refl c.in_ok-decided.ensures.extends
     c.in_ok-decided.ensures.derivatives_stay tracked))
     c.settle.ensures.state
-    (written ∙ ap (λ (t : List ℕ). write_at Answers t (g.W.World.outside c.prove_check.new.world))
+    (written ∙ ap (λ (t : List ℕ). write_at Answers t (g.W.World.outside c.find_verdict.new.world))
     c.settle.ensures.reply))
     c.write_all.ensures.ok
 
 pub returns-clause-err : goal.returns-clause-err
 returns-clause-err g c =
+    let same = some_verdict c.in_ok-decided.decided (live_constants c.args.stack.now) c.args.stack.now
+    c.decide.new.stack c.in_ok-decided.ensures.state c.in_ok-decided.ensures.same in
     let session = session_of c.args.stack.now c.args.decider.now (proof_of c.args.proved c.args.prover.now) in
     let between = session_of c.decide.new.stack c.decide.new.self (proof_of c.args.proved c.args.prover.now) in
-    let proven = session_of c.decide.new.stack c.prove_check.new.decider (proof_of c.args.proved c.prove_check.new.prover) in
-    let after = session_of c.settle.new.self c.prove_check.new.decider (proof_of c.args.proved c.prove_check.new.prover) in
+    let proven = session_of c.decide.new.stack c.find_verdict.new.decider
+    (proof_of c.args.proved c.find_verdict.new.prover) in
+    let after = session_of c.settle.new.self c.find_verdict.new.decider
+    (proof_of c.args.proved c.find_verdict.new.prover) in
     on_err c.write_all.result
     (λ cut q tracked.
-    inr (answer_cut (verdict_in (live_constants c.args.stack.now) c.in_ok-decided.decided) q session between proven after
+    inr (answer_cut same.0 q session between proven after
     (verdict_in (live_constants c.decide.new.stack) c.in_ok-verdict.verdict)
-    c.in_ok-decided.ensures.state refl (g.W.World.outside c.args.world.now)
-    (g.W.World.outside c.prove_check.new.world) (g.W.World.outside c.write_all.new.world)
+    same.1 refl (g.W.World.outside c.args.world.now)
+    (g.W.World.outside c.find_verdict.new.world) (g.W.World.outside c.write_all.new.world)
     (c.in_ok-verdict.ensures.ok q
     (tracked_stays c.abreast_stays.ensures session between q refl c.in_ok-decided.ensures.extends
     c.in_ok-decided.ensures.derivatives_stay tracked))
     (subst (λ (t : List ℕ). (out : ℕ) × (out < length t)
     × (g.W.World.outside c.write_all.new.world ≡ write_at Answers (take out t)
-    (g.W.World.outside c.prove_check.new.world))) c.settle.ensures.reply cut)))
+    (g.W.World.outside c.find_verdict.new.world))) c.settle.ensures.reply cut)))
     c.write_all.ensures.err
 
-pub prove_check-requires-clause-regexes : goal.prove_check-requires-clause-regexes
-prove_check-requires-clause-regexes g c =
+pub find_verdict-requires-clause-regexes : goal.find_verdict-requires-clause-regexes
+find_verdict-requires-clause-regexes g c =
     c.regexes_stay_below.ensures c.args.decider.now.arena c.decide.new.self.arena c.args.prover.now.evidence.atoms
     c.in_ok-decided.ensures.extends c.requires.regexes
 
-pub prove_check-requires-clause-verdict : goal.prove_check-requires-clause-verdict
-prove_check-requires-clause-verdict g c =
-    let decided = c.in_ok-decided.decided in
-    subst (λ (ns : List (ℕ × Sort)). IsVerdict (state_of c.decide.new.stack) [] (verdict_in ns decided))
-    (sym (ap (λ (s : Stacked). live_constants s) c.decide.ensures.rest))
-    (same_verdict (verdict_in (live_constants c.args.stack.now) decided) (state_of c.decide.new.stack)
-    (state_of c.args.stack.now) c.in_ok-decided.ensures.state c.in_ok-decided.ensures.verdict)
+pub find_verdict-requires-clause-verdict : goal.find_verdict-requires-clause-verdict
+find_verdict-requires-clause-verdict g c =
+    decided_verdict c.in_ok-decided.decided (live_constants c.args.stack.now) (live_constants c.decide.new.stack)
+    c.args.stack.now c.decide.new.stack c.in_ok-decided.ensures.state
+    (ap (λ (s : Stacked). live_constants s) c.decide.ensures.rest) c.in_ok-decided.ensures.verdict
 
 pub returns-clause-levels : goal.returns-clause-levels
 returns-clause-levels g c =
     on_ok c.write_all.result
-    (λ written. levels_of_found c.in_ok-verdict.verdict c.decide.new.stack c.settle.new.self c.prove_check.new.prover
+    (λ written. levels_of_found c.in_ok-verdict.verdict c.decide.new.stack c.settle.new.self c.find_verdict.new.prover
     c.settle.ensures.kept
     (c.in_ok-verdict.ensures.levels
     (levels_of_rest c.args.stack.now c.decide.new.stack c.args.prover.now c.decide.ensures.rest c.requires.levels)))
@@ -88,16 +94,16 @@ returns-clause-levels g c =
 
 -- what is true of the evidence
 
-pub prove_check-requires-clause-fit : goal.prove_check-requires-clause-fit
-prove_check-requires-clause-fit g c =
+pub find_verdict-requires-clause-fit : goal.find_verdict-requires-clause-fit
+find_verdict-requires-clause-fit g c =
     fit_of_rest c.args.stack.now c.decide.new.stack c.decide.ensures.rest c.requires.fit
 
-pub prove_check-requires-clause-sound : goal.prove_check-requires-clause-sound
-prove_check-requires-clause-sound g c =
+pub find_verdict-requires-clause-sound : goal.find_verdict-requires-clause-sound
+find_verdict-requires-clause-sound g c =
     true_of_rest c.args.stack.now c.decide.new.stack c.decide.new.self c.args.prover.now c.decide.ensures.rest
     (c.true_stays.ensures.grown (asked_in (state_of c.args.stack.now)) c.args.decider.now.arena c.decide.new.self.arena
-    c.args.decider.now.graph.memo c.decide.new.self.graph.memo c.args.prover.now.evidence c.in_ok-decided.ensures.extends
-    c.in_ok-decided.ensures.derivatives_stay c.requires.regexes c.requires.sound)
+    c.args.decider.now.graph.memo c.decide.new.self.graph.memo c.args.prover.now.evidence
+    c.in_ok-decided.ensures.extends c.in_ok-decided.ensures.derivatives_stay c.requires.regexes c.requires.sound)
 
 pub returns-clause-fit : goal.returns-clause-fit
 returns-clause-fit g c =
@@ -109,6 +115,6 @@ returns-clause-fit g c =
 pub returns-clause-sound : goal.returns-clause-sound
 returns-clause-sound g c =
     on_ok c.write_all.result
-    (λ written. true_of_found c.in_ok-verdict.verdict c.decide.new.stack c.settle.new.self c.prove_check.new.decider
-    c.prove_check.new.prover c.settle.ensures.kept c.in_ok-verdict.ensures.sound)
+    (λ written. true_of_found c.in_ok-verdict.verdict c.decide.new.stack c.settle.new.self c.find_verdict.new.decider
+    c.find_verdict.new.prover c.settle.ensures.kept c.in_ok-verdict.ensures.sound)
     c.write_all.ensures.ok

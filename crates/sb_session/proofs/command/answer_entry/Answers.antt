@@ -1,4 +1,4 @@
-use Rattle.std.proofs.Common.{List, [], ◌∷◌, ℕ, true, false, is_some, refl, sym, subst, ◌∙◌, ap, arith, length}
+use Rattle.std.proofs.Common.{List, [], ◌∷◌, ℕ, true, false, refl, sym, subst, ap, arith, length}
 use Rattle.std.proofs.lemmas.Result.{err_from_is_err_and}
 use Rattle.sb_stack.specs.declared.stack.Step.TheVariants as code
 use Rattle.sb_stack.specs.Stacked.{state_of}
