@@ -20,10 +20,20 @@ Of all symbols, where LETTER is `[a-z]`:
 and none of the others: the first ten sizes are the twos, the next ten the threes.
 `equalities`: so many constants, each equal to a literal of its own.
 
+Of Boolean structure:
+`access`: so many statements that allow and so many that deny, each some actions on some resources, and whether a new
+policy, of which two statements are other, allows what the old one does not.
+`clauses-sat`, `clauses`: clauses of three memberships or negated ones, over so many constants with four regular expressions
+each: few clauses, and so many that no values are left.
+`clauses-many`: ten times so many clauses of three memberships or negated ones, of which so many are there, that some words
+make true.
+`alternatives`: one constant in one of so many regular expressions, and in one of so many others, of which each two clash.
+
 And scripts of so many checks, each behind a new assertion:
 `checked-classes`: one constant in one more range of characters each time.
 `checked-constants`: one more constant each time, in a range of characters.
 `checked-addresses`: one more constant each time, in a regular expression of mail addresses.
+`checked-clauses`: one more clause of three memberships each time, over 20 constants.
 
 And scripts of levels:
 `rounds`: 100 constants in rules that stay, and so many rounds of a level with one more rule and a check.
@@ -278,7 +288,102 @@ def filters(size):
     return text + in_re(comp(either(*[every[i] for i in chosen]))) + in_re(loop(ONE, 0, 100))
 
 
+def in_text(name, regex):
+    return f"(str.in_re {name} {regex})"
+
+
+def statement(number):
+    """The actions and resources of a statement: `service:verb*` and `path/*/name`, both or one of them negated."""
+    verbs = ["get", "put", "list", "delete", "create", "update"]
+    some = f'(re.* {span("a", "z")})'
+    service, verb = word("abcdef", number // 2, 3), verbs[number % len(verbs)]
+    path, name = word("ghijkl", number // 3, 3), word("mnop", number, 2)
+    action = in_text("action", concat(to_re(f"{service}:{verb}"), some))
+    resource = in_text("resource", concat(to_re(f"{path}/"), some, to_re(f"/{name}")))
+    if number % 5 == 4:
+        resource = f"(not {in_text('resource', concat(to_re(f'{path}/'), ALL))})"
+    return f"(and {action} {resource})"
+
+
+def any_of(parts):
+    return parts[0] if len(parts) == 1 else "(or " + " ".join(parts) + ")"
+
+
+def access(size):
+    allow, deny = [statement(number) for number in range(size)], [statement(size // 2 + 3 * number) for number in range(size)]
+    new_allow = list(reversed(allow[1:])) + [statement(7 * size)]
+    new_deny = deny[1:] + deny[:1]
+    old, new = f"(and {any_of(allow)} (not {any_of(deny)}))", f"(and {any_of(new_allow)} (not {any_of(new_deny)}))"
+    text = "(declare-const action String)\n(declare-const resource String)\n"
+    return text + f"(assert (and {new} (not {old})))\n(check-sat)\n(assert (not {statement(7 * size)}))\n"
+
+
+def literals_of(constants):
+    """For each constant four regular expressions over two letters, which overlap and are not of all words."""
+    letter = span("a", "b")
+    found = []
+    for i in range(constants):
+        few = f"(re.* {letter})"
+        found += [in_text(f"y{i}", concat(few, to_re("a"), power(letter, 1 + i % 3))), in_text(f"y{i}", concat(to_re("ab"), few)),
+                  in_text(f"y{i}", f"(re.* {power(letter, 2)})"), in_text(f"y{i}", concat(few, to_re("bab"), few))]
+    return found
+
+
+def clause(dice, atoms):
+    return "(or " + " ".join(it if dice.randrange(2) else f"(not {it})" for it in dice.sample(atoms, 3)) + ")"
+
+
+def three_each(size, ratio):
+    dice = random.Random(size)
+    atoms = literals_of(size)
+    text = "".join(f"(declare-const y{i} String)\n" for i in range(size))
+    return text + "".join(f"(assert {clause(dice, atoms)})\n" for _ in range(int(ratio * len(atoms))))
+
+
+def clauses_sat(size):
+    return three_each(size, 3)
+
+
+def clauses(size):
+    return three_each(size, 6)
+
+
+def clauses_many(size):
+    dice, constants = random.Random(size), size // 4
+    atoms, text = literals_of(constants), "".join(f"(declare-const y{i} String)\n" for i in range(constants))
+    # what is true of the word ab
+    truths = [it for i in range(constants) for it in (i % 3 == 0, True, True, False)]
+    for _ in range(10 * size):
+        places = dice.sample(range(len(atoms)), 3)
+        # two literals of each clause are true of it
+        signs = [truths[places[0]], truths[places[1]], dice.randrange(2) == 1]
+        literals = [atoms[p] if sign else f"(not {atoms[p]})" for p, sign in zip(places, signs)]
+        dice.shuffle(literals)
+        text += f"(assert (or {' '.join(literals)}))\n"
+    return text
+
+
+def alternatives(size):
+    """The words of the one side hold a letter as often as its number says, those of the other one more often than all."""
+    one = [in_text("x", power(span("a", "z"), number + 1)) for number in range(size)]
+    other = [in_text("x", concat(power(span("a", "z"), size + number + 1), f'(re.* {to_re("ab")})')) for number in range(size)]
+    return f"(assert {any_of(one)})\n(assert {any_of(other)})\n"
+
+
+def checked_clauses(size):
+    dice = random.Random(size)
+    atoms = literals_of(20)
+    text = "".join(f"(declare-const y{i} String)\n" for i in range(20))
+    return text + "".join(f"(assert {clause(dice, atoms)})\n(check-sat)\n" for _ in range(size))
+
+
 FAMILIES = {
+    "access": access,
+    "clauses-sat": clauses_sat,
+    "clauses": clauses,
+    "clauses-many": clauses_many,
+    "alternatives": alternatives,
+    "checked-clauses": checked_clauses,
     "powers": powers,
     "loops": loops,
     "trie": trie,
