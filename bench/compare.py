@@ -51,19 +51,21 @@ solvers = {"strsolve": [program]}
 if shutil.which("z3"):
     solvers["z3"] = ["z3", "-in"]
 if shutil.which("cvc5"):
-    solvers["cvc5"] = ["cvc5", "--lang", "smt2", "-"]
+    solvers["cvc5"] = ["cvc5", "--incremental", "--lang", "smt2", "-"]
 
 
 def run(command, path):
-    """The processor seconds, the peak memory in MB and the answer; None for the seconds where there is no answer."""
+    """The processor seconds, the peak memory in MB and the answers; None for the seconds where a check has none."""
     with open(path, "rb") as script:
         started = subprocess.Popen(command, stdin=script, stdout=subprocess.PIPE, stderr=subprocess.DEVNULL,
                                    preexec_fn=lambda: resource.setrlimit(resource.RLIMIT_CPU, (LIMIT, LIMIT + 1)))
         text = started.stdout.read().decode().split()
         _, status, used = os.wait4(started.pid, 0)
-    answer = next((line for line in text if line in ("sat", "unsat")), None)
+    answers = [line for line in text if line in ("sat", "unsat")]
+    with open(path) as script:
+        checks = sum(line.count("(check-sat)") for line in script)
     seconds = used.ru_utime + used.ru_stime
-    return (seconds if answer else None), used.ru_maxrss / 1000, answer
+    return (seconds if len(answers) == checks else None), used.ru_maxrss / 1000, answers
 
 
 def check(path, proof):
@@ -103,7 +105,10 @@ for family in families:
             script.flush()
             rows = {name: run(command, script.name) for name, command in solvers.items()}
             proved = prove(script.name, rows["strsolve"][0])
-        answers = {answer for _, _, answer in rows.values() if answer}
+        # of those that did not come to the end the answers of the first checks
+        found = [answers for _, _, answers in rows.values()]
+        differ = any(len(set(each)) > 1 for each in zip(*[answers for answers in found if answers]))
+        answers = {("sat" if "sat" in each else "unsat") if len(set(each)) < 2 else "both" for each in found if each}
         line = f"{family:<18}{size:>7}"
         for seconds, memory, answer in rows.values():
             line += f"{'-' if seconds is None else format(seconds, '.3f'):>13} {memory:>8.1f}"
@@ -111,5 +116,5 @@ for family in families:
         mine = rows["strsolve"][0]
         ratio = format(mine / min(others), ".2f") if others and mine is not None else "-"
         print(line + f"{ratio:>9}{proved}  {'/'.join(sorted(answers)) or 'none'}", flush=True)
-        if len(answers) > 1:
+        if differ:
             sys.exit("the answers differ")
