@@ -38,17 +38,19 @@ impl Kept {
             return Err(Fault::Refused(Refusal::RuleBroken));
         }
         self.clauses.add(literals, 0)?;
-        self.conjunct = if literals.len() == 2 {
+        let gate = last_atom(literals);
+        self.conjunct = if gate == self.gate {
             self.conjunct.saturating_add(1)
         } else {
-            0
+            1
         };
+        self.gate = gate;
         Ok(())
     }
 
     /// Whether a clause has a literal and its negation, or is one of a gate of one of its atoms. Where its literals
-    /// ascend, linear in them and in those of these gates; where clauses of one conjunct each come in the order of the
-    /// conjuncts, in time that does not grow with these.
+    /// ascend, linear in them and in those of these gates. Where clauses of one conjunct each come one behind the other in
+    /// the order of the conjuncts, whose atoms come before the conjunction's, the time does not grow with these.
     fn is_gate(&self, literals: &[Lit]) -> Result<bool, AllocError>
         requires known { list_all (λ l. nat_lt l.atom (length self.now.atoms)) literals.now ≡ true }
         ensures { IfOk result (λ b. b ≡ is_gate (atoms_in self.now.arena self.now.atoms) literals.now) }
@@ -84,6 +86,14 @@ impl Kept {
             Atom::Iff(one, other) => Ok(is_of_equivalence(clause, all, literal, *one, *other)),
             Atom::Bool(_) | Atom::In(..) => Ok(false),
         }
+    }
+}
+
+/// The atom of the last literal, 0 where there is none.
+fn last_atom(literals: &[Lit]) -> u64 {
+    match literals.last() {
+        Some(literal) => literal.atom,
+        None => 0,
     }
 }
 

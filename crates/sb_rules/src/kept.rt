@@ -30,7 +30,9 @@ pub struct Kept {
     pub clauses: KeptClauses,
     /// The lines that were counted since the last verdict.
     pub counted: u64,
-    /// The place of the conjunct that the next clause of a gate is taken to be of, and which is looked at first.
+    /// The greatest atom of the last clause of a gate.
+    pub gate: u64,
+    /// The place of the conjunct that the next clause of its gate is taken to be of, and which is looked at first.
     pub conjunct: usize,
 }
 
@@ -50,6 +52,7 @@ impl Kept {
             atoms: Atoms::new(alloc),
             clauses: KeptClauses::new(alloc),
             counted: 0,
+            gate: 0,
             conjunct: 0,
         }
     }
