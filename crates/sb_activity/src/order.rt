@@ -24,7 +24,7 @@ const GREATEST: f64 = 1e100;
 const SHRINK: f64 = 1e-100;
 
 /// The atoms that wait to be decided, the most active one first.
-#[derive(Debug, Drop)]
+#[derive(Drop)]
 pub struct Order {
     /// All atoms that have a place: first those that wait, as a binary heap.
     heap: Vec<u32>,

@@ -6,7 +6,7 @@ use std::alloc::{AllocError, Global};
 use std::marker::Model;
 
 /// The value that each atom had last, false at first.
-#[derive(Debug, Drop)]
+#[derive(Drop)]
 pub struct Phases {
     values: Vec<bool>,
 }

@@ -7,7 +7,7 @@ use sb_lit::{ClauseId, Lit};
 use std::collections::HashSet;
 
 /// What is known so far of a conflict.
-#[derive(Debug, Drop)]
+#[derive(Drop)]
 pub(crate) struct Analysis {
     /// Literals of levels below this one go into the clause, and all others are resolved.
     pub level: usize,

@@ -15,7 +15,7 @@ use sb_trail::Trail;
 use std::alloc::{AllocError, Global};
 
 /// Why assumptions can't all be true.
-#[derive(Debug, Drop)]
+#[derive(Drop)]
 pub enum Core {
     /// A kept clause has negated assumptions alone.
     Kept(ClauseId),

@@ -7,7 +7,7 @@ use std::marker::Model;
 
 /// The numbers of the clauses by which a clause is learned, in the order in which they force literals; the last one is
 /// false then.
-#[derive(Debug, Drop)]
+#[derive(Drop)]
 pub struct Hints {
     ids: Vec<ClauseId>,
 }
@@ -36,7 +36,7 @@ impl Hints {
 }
 
 /// A clause that follows from kept ones.
-#[derive(Debug, Drop)]
+#[derive(Drop)]
 pub struct Learned {
     /// Its literals ascend.
     pub clause: Clause,

@@ -9,7 +9,7 @@ use smallvec::SmallVec;
 use std::marker::Model;
 
 /// The number of an atom in its table.
-#[derive(Clone, Copy, Debug, Default, PartialEq, Eq, PartialOrd, Ord, Hash)]
+#[derive(Clone, Copy, Default, PartialEq, Eq, PartialOrd, Ord, Hash)]
 pub struct AtomId {
     number: usize,
 }
@@ -47,7 +47,7 @@ impl AtomId {
 }
 
 /// An atom, whose regex is a number, over the literals of the atoms before it.
-#[derive(Debug, PartialEq, Eq, Hash, Drop)]
+#[derive(PartialEq, Eq, Hash, Drop)]
 pub enum Atom {
     /// The Bool constant is true.
     Bool(Serial),

@@ -25,7 +25,7 @@ use sb_world::{InPort, OutPort, World, WorldError, write_all};
 use std::alloc::Global;
 
 /// How a run of the checker ended.
-#[derive(Clone, Copy, Debug, PartialEq, Eq)]
+#[derive(Clone, Copy, PartialEq, Eq)]
 pub enum CheckStatus {
     /// The proof is accepted: each of its verdicts follows.
     Accepted,

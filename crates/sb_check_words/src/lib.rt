@@ -33,7 +33,7 @@ const MORE: &str = "Exit status:\n\
     \x20 strcheck examples/first.smt2 first.proof";
 
 /// What is asked of a run. Names are as they were given.
-#[derive(Clone, Copy, Debug, PartialEq, Eq)]
+#[derive(Clone, Copy, PartialEq, Eq)]
 pub struct Asked<'a> {
     /// The file that holds the script.
     pub script: &'a str,
@@ -42,7 +42,7 @@ pub struct Asked<'a> {
 }
 
 /// Why words ask for no run.
-#[derive(Debug, Drop)]
+#[derive(Drop)]
 pub enum NoRun {
     /// The text that says what is wrong with them, or that they ask for: the help or the version.
     Told(String),

@@ -19,7 +19,7 @@ mod range_list;
 pub const LAST_CHARACTER: u32 = 0x2ffff;
 
 /// A set of characters.
-#[derive(Debug, Drop)]
+#[derive(Drop)]
 pub struct Class {
     ranges: Vec<(u32, u32)>,
 }

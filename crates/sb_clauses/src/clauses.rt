@@ -22,7 +22,7 @@ use std::collections::BinaryHeap;
 use std::marker::Model;
 
 /// The clauses that are kept, by number.
-#[derive(Debug, Drop)]
+#[derive(Drop)]
 pub struct Clauses {
     records: Vec<Option<Record>>,
     /// The levels above 0 with the numbers of their clauses, the highest level first.

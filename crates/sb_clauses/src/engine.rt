@@ -18,7 +18,7 @@ use std::marker::Model;
 
 /// The clauses that are kept, and the trail that they are propagated on. Each clause has two watched literals, and
 /// stands in the watch list of each.
-#[derive(Debug, Drop)]
+#[derive(Drop)]
 pub struct Engine {
     clauses: Clauses,
     trail: Trail,

@@ -10,7 +10,7 @@ use std::marker::Model;
 pub const NUMBERS: usize = (1 << 32) - 1;
 
 /// A number or none, in 32 bits.
-#[derive(Clone, Copy, Debug)]
+#[derive(Clone, Copy)]
 pub struct Link {
     /// 0 is none, and each number stands as the one above it.
     code: u32,
@@ -50,7 +50,7 @@ impl Link {
 }
 
 /// By place a number or none, in 32 bits: 0 is none, and each number stands as the one above it.
-#[derive(Debug, Drop)]
+#[derive(Drop)]
 pub struct Links {
     codes: Vec<u32>,
 }

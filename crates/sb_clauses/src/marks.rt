@@ -7,7 +7,7 @@ ghost use Rattle.sb_clauses.specs.Marking.{mark_at, AreAscending, AreBelow, IsFr
 use sb_trail::Entry;
 
 /// Where propagation goes on.
-#[derive(Debug, Drop)]
+#[derive(Drop)]
 pub struct Queue {
     /// The levels at whose end all listed clauses were fine, ascending.
     pub marks: Vec<usize>,

@@ -22,7 +22,7 @@ use std::alloc::{AllocError, Global};
 use std::collections::HashSet;
 
 /// Where the number of a clause stands.
-#[derive(Clone, Copy, Debug)]
+#[derive(Clone, Copy)]
 pub struct Node {
     pub list: u32,
     /// The number that came to the list before it.
@@ -32,7 +32,7 @@ pub struct Node {
 }
 
 /// The lists, by literal: the newest number of each, and where each number stands.
-#[derive(Debug, Drop)]
+#[derive(Drop)]
 pub struct Occurrences {
     pub heads: Links,
     pub nodes: Vec<Node>,

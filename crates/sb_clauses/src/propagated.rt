@@ -3,7 +3,7 @@
 use sb_lit::ClauseId;
 
 /// What propagation comes to.
-#[derive(Clone, Copy, Debug, PartialEq, Eq)]
+#[derive(Clone, Copy, PartialEq, Eq)]
 pub enum Propagated {
     /// No kept clause is false, and none has one literal left that has no value.
     Done,

@@ -18,7 +18,7 @@ use std::alloc::{AllocError, Global};
 
 /// What is known of clauses before they are looked at: by number a spare literal, which is one of the clause, as the
 /// number of its list, and 0 for none; and whether there were clauses that are gone.
-#[derive(Debug, Drop)]
+#[derive(Drop)]
 pub struct Spares {
     pub literals: Vec<u32>,
     pub gone: bool,

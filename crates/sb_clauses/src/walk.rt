@@ -22,7 +22,7 @@ use sb_trail::Trail;
 const SCRATCH: usize = 0;
 
 /// What one turn of a walk comes to.
-#[derive(Clone, Copy, Debug, PartialEq, Eq)]
+#[derive(Clone, Copy, PartialEq, Eq)]
 pub enum Turn {
     /// A clause was taken off the list.
     Goes,

@@ -8,7 +8,7 @@ use std::alloc::{AllocError, Global};
 use std::marker::Model;
 
 /// Lists of clause numbers, of which each stands in one list at most.
-#[derive(Debug, Drop)]
+#[derive(Drop)]
 pub struct WatchLists {
     heads: Links,
     next: Links,

@@ -18,7 +18,7 @@ const ATOMS: u64 = 1 << 30;
 
 /// One of the two watches of each clause: by clause number the watched literal, as the number of its list, and by
 /// literal the watch list, of the clauses that watch it.
-#[derive(Debug, Drop)]
+#[derive(Drop)]
 pub struct Watches {
     pub watched: Vec<u32>,
     pub lists: WatchLists,

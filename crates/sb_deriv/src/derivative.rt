@@ -12,7 +12,7 @@ use std::alloc::{AllocError, Global};
 use std::marker::Model;
 
 /// For each character the number of a regex, as an interval map.
-#[derive(Debug, Drop)]
+#[derive(Drop)]
 pub struct Derivative {
     pieces: Vec<(u32, RegexId)>,
 }

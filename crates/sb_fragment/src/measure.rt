@@ -11,7 +11,7 @@ ghost use Rattle.sb_fragment.specs.Measured.{applied_measure};
 use sb_term::{Symbol, Term, TermId};
 
 /// What the rules of the fragment ask of a term.
-#[derive(Clone, Copy, Debug, PartialEq, Eq)]
+#[derive(Clone, Copy, PartialEq, Eq)]
 pub struct Measure {
     /// The term is the word of a literal.
     pub is_word: bool,

@@ -12,7 +12,7 @@ use sb_term::{Assertion, Table, TermId};
 use std::alloc::AllocError;
 
 /// A rule of the fragment that an assertion breaks.
-#[derive(Clone, Copy, Debug, PartialEq, Eq)]
+#[derive(Clone, Copy, PartialEq, Eq)]
 pub enum Reason {
     /// An assertion was left out.
     Marked,
@@ -26,11 +26,11 @@ pub enum Reason {
 }
 
 /// What live assertions that are inside the fragment ask: so far nothing but that each of them is Boolean structure.
-#[derive(Clone, Copy, Debug, PartialEq, Eq)]
+#[derive(Clone, Copy, PartialEq, Eq)]
 pub struct Problem;
 
 /// Whether live assertions are inside the fragment.
-#[derive(Clone, Copy, Debug, PartialEq, Eq)]
+#[derive(Clone, Copy, PartialEq, Eq)]
 pub enum Standing {
     Inside(Problem),
     /// They are not, by the rule that the first one outside breaks.

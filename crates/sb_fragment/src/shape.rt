@@ -13,7 +13,7 @@ use sb_problem::constant_of;
 use sb_term::{Serial, Sort, Symbol, Table, Term, TermId};
 
 /// A symbol that makes a truth value of truth values.
-#[derive(Clone, Copy, Debug, PartialEq, Eq)]
+#[derive(Clone, Copy, PartialEq, Eq)]
 pub enum Connective {
     Not,
     And,
@@ -26,7 +26,7 @@ pub enum Connective {
 }
 
 /// What a Bool term is by its symbol, where it asks nothing of one constant's word alone.
-#[derive(Clone, Copy, Debug, PartialEq, Eq)]
+#[derive(Clone, Copy, PartialEq, Eq)]
 pub enum Shape {
     /// A Bool constant.
     Constant(Serial),

@@ -54,7 +54,7 @@ impl Model for Graph {
 }
 
 /// What an exploration finds.
-#[derive(Debug, Drop)]
+#[derive(Drop)]
 pub enum Explored {
     /// A word of the language: no other is shorter, and none as long is less by code points.
     Alive(Word),
@@ -63,7 +63,7 @@ pub enum Explored {
 }
 
 /// What an exploration finds that may not expand more than so many regexes.
-#[derive(Debug, Drop)]
+#[derive(Drop)]
 pub enum Within {
     /// What one without a limit finds.
     Found(Explored),

@@ -47,7 +47,7 @@ impl From<AllocError> for NotLearned {
 }
 
 /// What a clause gives where some literals are true.
-#[derive(Clone, Copy, Debug)]
+#[derive(Clone, Copy)]
 pub(crate) enum Finding {
     /// All its literals are false.
     Falsified,
@@ -58,7 +58,7 @@ pub(crate) enum Finding {
 }
 
 /// What hints give in order.
-#[derive(Clone, Copy, Debug)]
+#[derive(Clone, Copy)]
 pub(crate) enum Course {
     /// Each forces a literal but the last one, which is false.
     EndsFalse,

@@ -17,7 +17,7 @@ use std::collections::HashSet;
 
 /// The kept clauses that are listed under one literal: the newest one, from which each leads to the one before it, and
 /// how many they are.
-#[derive(Clone, Copy, Debug)]
+#[derive(Clone, Copy)]
 pub(crate) struct Listed {
     pub(crate) last: Option<usize>,
     pub(crate) count: usize,

@@ -9,7 +9,7 @@ use sb_lit::Lit;
 
 /// What is known of the clause of a number: its literals, from `start` up to `end` among those of all clauses, and where
 /// it is listed.
-#[derive(Clone, Copy, Debug)]
+#[derive(Clone, Copy)]
 pub(crate) struct Row {
     pub(crate) start: usize,
     pub(crate) end: usize,

@@ -21,7 +21,7 @@ use sb_stack::Step;
 use std::alloc::AllocError;
 
 /// What becomes of an entry of the script.
-#[derive(Clone, Copy, Debug, PartialEq, Eq)]
+#[derive(Clone, Copy, PartialEq, Eq)]
 pub enum Entered {
     /// The next entry may come.
     Goes,

@@ -8,7 +8,7 @@ use sb_lang::languages::{cut_is_some_cut, iteration_is_some_power, repetition_is
 use std::marker::Model;
 
 /// A set of lengths below 64.
-#[derive(Clone, Copy, Debug, PartialEq, Eq)]
+#[derive(Clone, Copy, PartialEq, Eq)]
 pub struct LengthSet {
     bits: u64,
 }

@@ -17,7 +17,7 @@ pub use length_set::LengthSet;
 use sb_lang::languages::{cut_is_some_cut, iteration_is_some_power, repetition_is_some_power};
 
 /// The lengths that words of a language may have, and those at which every word of characters is in it.
-#[derive(Clone, Copy, Debug, PartialEq, Eq)]
+#[derive(Clone, Copy, PartialEq, Eq)]
 pub struct Lengths {
     /// The lengths below 64 that some word may have.
     pub possible: LengthSet,

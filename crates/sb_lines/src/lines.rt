@@ -12,7 +12,7 @@ use std::marker::Model;
 use thiserror::Error;
 
 /// What was found of a proof.
-#[derive(Clone, Copy, Debug, PartialEq, Eq)]
+#[derive(Clone, Copy, PartialEq, Eq)]
 pub enum Found {
     /// The next line, and whether a line feed ended it. The last line of a proof may lack one.
     Line { ended: bool },

@@ -6,7 +6,7 @@ use std::marker::Model;
 use thiserror::Error;
 
 /// A count of steps that were spent, and the limit that it never passes.
-#[derive(Debug, Drop)]
+#[derive(Drop)]
 pub struct Budget {
     spent: u64,
     limit: u64,

@@ -12,7 +12,7 @@ use std::marker::Model;
 
 /// A literal of propositional logic: an atom by its number, or its negation. Literals are ordered by atom,
 /// the positive one first.
-#[derive(Clone, Copy, Debug, Default, PartialEq, Eq, Hash)]
+#[derive(Clone, Copy, Default, PartialEq, Eq, Hash)]
 pub struct Lit {
     pub atom: u64,
     pub positive: bool,
@@ -57,11 +57,11 @@ impl PartialOrd for Lit {
 }
 
 /// The number of a clause.
-#[derive(Clone, Copy, Debug, PartialEq, Eq, PartialOrd, Ord, Hash)]
+#[derive(Clone, Copy, PartialEq, Eq, PartialOrd, Ord, Hash)]
 pub struct ClauseId(pub u64);
 
 /// A clause: a list of literals, of which one at least is to be true.
-#[derive(Debug, Drop)]
+#[derive(Drop)]
 pub struct Clause {
     literals: Vec<Lit>,
 }

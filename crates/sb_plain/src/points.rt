@@ -13,7 +13,7 @@ use std::collections::BTreeSet;
 use std::marker::Model;
 
 /// Characters in ascending order, from 0 on.
-#[derive(Debug, Drop)]
+#[derive(Drop)]
 pub(crate) struct Points {
     points: Vec<u32>,
 }

@@ -3,7 +3,7 @@
 use sb_term::TermId;
 
 /// What a constant's word is asked to be in, by the number of its term.
-#[derive(Clone, Copy, Debug, PartialEq, Eq)]
+#[derive(Clone, Copy, PartialEq, Eq)]
 pub enum Pattern {
     /// A regular expression.
     Expression(TermId),

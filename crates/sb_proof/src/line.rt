@@ -4,7 +4,7 @@ use sb_lit::Lit;
 use smallvec::SmallVec;
 
 /// A regex whose parts are numbers of regexes.
-#[derive(Debug, PartialEq, Eq, Drop)]
+#[derive(PartialEq, Eq, Drop)]
 pub enum Node {
     /// No word.
     None,
@@ -29,7 +29,7 @@ pub enum Node {
 }
 
 /// A piece of a concatenation.
-#[derive(Debug, PartialEq, Eq, Drop)]
+#[derive(PartialEq, Eq, Drop)]
 pub enum Piece {
     /// The String constant of this serial.
     Constant(u64),
@@ -38,7 +38,7 @@ pub enum Piece {
 }
 
 /// What a bound speaks of.
-#[derive(Clone, Copy, Debug, PartialEq, Eq)]
+#[derive(Clone, Copy, PartialEq, Eq)]
 pub enum Variable {
     /// The Int constant of this serial.
     Int(u64),
@@ -47,7 +47,7 @@ pub enum Variable {
 }
 
 /// What a literal is true or false of.
-#[derive(Debug, PartialEq, Eq, Drop)]
+#[derive(PartialEq, Eq, Drop)]
 pub enum Atom {
     /// The Bool constant of this serial is true.
     Bool(u64),
@@ -64,14 +64,14 @@ pub enum Atom {
 }
 
 /// The characters of some ranges, and the number of the regex to which they lead.
-#[derive(Debug, PartialEq, Eq, Drop)]
+#[derive(PartialEq, Eq, Drop)]
 pub struct Class {
     pub ranges: Vec<(u64, u64)>,
     pub target: u64,
 }
 
 /// The rules whose clauses are true under all values.
-#[derive(Clone, Copy, Debug, PartialEq, Eq)]
+#[derive(Clone, Copy, PartialEq, Eq)]
 pub enum Rule {
     Gate,
     Order,
@@ -81,7 +81,7 @@ pub enum Rule {
 }
 
 /// The value of a constant.
-#[derive(Debug, PartialEq, Eq, Drop)]
+#[derive(PartialEq, Eq, Drop)]
 pub enum Value {
     Text(SmallVec<u64, 4>),
     Int(i128),
@@ -89,7 +89,7 @@ pub enum Value {
 }
 
 /// What a verdict line says.
-#[derive(Debug, PartialEq, Eq, Drop)]
+#[derive(PartialEq, Eq, Drop)]
 pub enum Said {
     /// The values of the live constants, by serial.
     Sat(Vec<Value>),
@@ -102,7 +102,7 @@ pub enum Said {
 }
 
 /// A line of a proof. Regexes, atoms and clauses are numbered from 0, each kind by its own lines.
-#[derive(Debug, PartialEq, Eq, Drop)]
+#[derive(PartialEq, Eq, Drop)]
 pub enum Line {
     /// The first line, with the number of the format.
     Header(u64),

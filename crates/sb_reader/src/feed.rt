@@ -11,7 +11,7 @@ use std::alloc::{AllocError, Global};
 use std::marker::Model;
 
 /// Why an entry is refused: its first fault in reading order.
-#[derive(Clone, Copy, Debug, PartialEq, Eq)]
+#[derive(Clone, Copy, PartialEq, Eq)]
 pub enum Refusal {
     /// A closing parenthesis outside a form.
     StrayClose = 1,
@@ -24,7 +24,7 @@ pub enum Refusal {
 }
 
 /// How a script ended.
-#[derive(Clone, Copy, Debug, PartialEq, Eq)]
+#[derive(Clone, Copy, PartialEq, Eq)]
 pub enum Ending {
     /// Outside a form.
     Clean,
@@ -33,7 +33,7 @@ pub enum Ending {
 }
 
 /// What comes next in a script.
-#[derive(Debug, Drop)]
+#[derive(Drop)]
 pub enum Next {
     /// A form in parentheses without a fault.
     Command(Sexpr),

@@ -6,7 +6,7 @@ ghost use Rattle.sb_reader.specs.Forms.{atom_of, form_of, is_none, only_of, pair
 use std::mem::size_of;
 
 /// What an atom is.
-#[derive(Debug, Clone, Copy)]
+#[derive(Clone, Copy)]
 pub(crate) enum Kind {
     Symbol,
     QuotedSymbol,
@@ -17,7 +17,7 @@ pub(crate) enum Kind {
 }
 
 /// A part of a form. Nodes stand in the order in which a form is written.
-#[derive(Debug, Clone, Copy)]
+#[derive(Clone, Copy)]
 pub(crate) enum Node {
     /// An atom of so many bytes.
     Atom(Kind, u32),
@@ -29,7 +29,7 @@ const _: () = prove!(size_of::<Node>() == 12);
 
 /// A form of a script. Its nodes and the bytes of its atoms lie in two blocks: it takes twelve bytes for each atom and
 /// each list, and the bytes of the atoms.
-#[derive(Debug, Drop)]
+#[derive(Drop)]
 pub struct Sexpr {
     pub(crate) nodes: Vec<Node>,
     pub(crate) bytes: Vec<u8>,

@@ -6,7 +6,7 @@ ghost use Rattle.sb_reader.specs.Tokens.{is_blank, is_line_end, is_run_byte, is_
 ghost use Rattle.sb_reader.specs.Lexing.{skip_from, closing_from, text_in, quoted_in, run_in, token_in, first_token, lexed_of};
 
 /// A token, its bytes those of the script.
-#[derive(Clone, Copy, Debug)]
+#[derive(Clone, Copy)]
 pub(crate) enum Lexeme<'a> {
     Open,
     Close,

@@ -35,7 +35,7 @@ use std::alloc::{AllocError, Global};
 use std::marker::Model;
 
 /// The clause of an assertion: its number, its one literal, and the assertion's level.
-#[derive(Clone, Copy, Debug, PartialEq, Eq)]
+#[derive(Clone, Copy, PartialEq, Eq)]
 pub struct Asserted {
     pub clause: ClauseId,
     pub literal: Lit,
@@ -43,7 +43,7 @@ pub struct Asserted {
 }
 
 /// The empty clause, and its level.
-#[derive(Clone, Copy, Debug, PartialEq, Eq)]
+#[derive(Clone, Copy, PartialEq, Eq)]
 pub struct EmptyClause {
     pub clause: ClauseId,
     pub level: u64,

@@ -34,7 +34,7 @@ use std::alloc::{AllocError, Global};
 use std::collections::BTreeMap;
 
 /// What became of a refutation.
-#[derive(Clone, Copy, Debug, PartialEq, Eq)]
+#[derive(Clone, Copy, PartialEq, Eq)]
 pub enum Refuted {
     /// The number of the empty clause.
     Clause(ClauseId),

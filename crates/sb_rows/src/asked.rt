@@ -16,7 +16,7 @@ const ONE_CHECK: &[u8] = b"strproof 1\nv sat w61\nend\n";
 const UNFINISHED: &[u8] = b"(error \"unexpected end of input\")\n";
 
 /// What is opened and created.
-#[derive(Clone, Copy, Debug, PartialEq, Eq)]
+#[derive(Clone, Copy, PartialEq, Eq)]
 enum Ports {
     Nothing,
     Script,

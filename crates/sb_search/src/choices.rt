@@ -12,7 +12,7 @@ use std::alloc::{AllocError, Global};
 
 /// Which atom is decided next, and how: of the wanted atoms without a value the one that was met most in conflicts of
 /// late, as it was last. No answer rests on it.
-#[derive(Debug, Drop)]
+#[derive(Drop)]
 pub(crate) struct Choices {
     /// The wanted atoms that wait: all that have no value, and some that have one.
     order: Order,

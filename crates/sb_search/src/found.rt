@@ -3,7 +3,7 @@
 use sb_lit::ClauseId;
 
 /// What a search comes to.
-#[derive(Clone, Copy, Debug, PartialEq, Eq)]
+#[derive(Clone, Copy, PartialEq, Eq)]
 pub enum Found {
     /// All atoms that are wanted have values, and the theory has values that agree with them.
     Sat,

@@ -7,7 +7,7 @@ const RUN: u64 = 100;
 
 /// When a search goes back to level 0: the runs between have one, one, two, one, one, two, four and so on times as many
 /// conflicts as the shortest one (Luby, Sinclair and Zuckerman, "Optimal speedup of Las Vegas algorithms").
-#[derive(Debug, Drop)]
+#[derive(Drop)]
 pub(crate) struct Restarts {
     /// The conflicts until then.
     left: u64,

@@ -17,7 +17,7 @@ use sb_lit::Lit;
 use sb_trail::Trail;
 
 /// How far a search is with its assumptions and the atoms that are wanted.
-#[derive(Debug, Drop)]
+#[derive(Drop)]
 pub(crate) struct Stage {
     /// The decisions up to this level are assumptions.
     pub levels: usize,
@@ -31,7 +31,7 @@ pub(crate) struct Stage {
 }
 
 /// What is decided next.
-#[derive(Clone, Copy, Debug)]
+#[derive(Clone, Copy)]
 pub(crate) enum Next {
     /// This assumption, which has no value.
     Assume(Lit),

@@ -20,7 +20,7 @@ use sb_proof::{Tape, TapeFault};
 use sb_trail::Trail;
 
 /// What a theory says of a trail.
-#[derive(Debug, Drop)]
+#[derive(Drop)]
 pub enum Checked {
     /// Nothing is wrong. Where the trail was the last one, the theory has values that agree with it.
     Fine,

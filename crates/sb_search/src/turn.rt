@@ -29,7 +29,7 @@ use sb_proof::{Tape, TapeFault};
 use std::alloc::{AllocError, Global};
 
 /// How a turn ends.
-#[derive(Clone, Copy, Debug)]
+#[derive(Clone, Copy)]
 pub(crate) enum Turn {
     /// The search ends.
     Ends(Found),

@@ -15,7 +15,7 @@ use std::process::Abort;
 use std::test::Fail;
 
 /// How a search ends.
-#[derive(Clone, Copy, Debug, PartialEq, Eq)]
+#[derive(Clone, Copy, PartialEq, Eq)]
 enum End {
     /// All atoms have values.
     Model,

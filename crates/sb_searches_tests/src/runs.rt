@@ -13,7 +13,7 @@ use sb_search::{Found, Theory, search};
 use std::alloc::{AllocError, Global};
 
 /// What a search comes to.
-#[derive(Clone, Copy, Debug, PartialEq, Eq)]
+#[derive(Clone, Copy, PartialEq, Eq)]
 pub enum End {
     Sat,
     Unsat,
@@ -33,7 +33,7 @@ pub struct Question<'a> {
 
 /// What a search came to: how it ended, how many steps it took, what it asked, how long the clause is that was found,
 /// and whether its lines are those of the clauses that were kept, each of which follows.
-#[derive(Clone, Copy, Debug, PartialEq, Eq)]
+#[derive(Clone, Copy, PartialEq, Eq)]
 pub struct Outcome {
     pub end: End,
     pub spent: u64,

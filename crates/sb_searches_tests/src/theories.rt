@@ -25,7 +25,7 @@ use sb_trail::Trail;
 use std::alloc::{AllocError, Global};
 
 /// How often a theory was asked, and how often for the last time.
-#[derive(Clone, Copy, Debug, PartialEq, Eq)]
+#[derive(Clone, Copy, PartialEq, Eq)]
 pub struct Asked {
     pub all: u64,
     pub last: u64,

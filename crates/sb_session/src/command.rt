@@ -33,7 +33,7 @@ use std::marker::Model;
 use thiserror::Error;
 
 /// How a session goes on behind an entry.
-#[derive(Clone, Copy, Debug, PartialEq, Eq)]
+#[derive(Clone, Copy, PartialEq, Eq)]
 pub enum Went {
     /// The next entry may come.
     Go,

@@ -26,7 +26,7 @@ use sb_world::{InPort, OutPort, World, WorldError, write_all};
 use std::alloc::{AllocError, Global};
 
 /// How a run of the solver ended.
-#[derive(Clone, Copy, Debug, PartialEq, Eq)]
+#[derive(Clone, Copy, PartialEq, Eq)]
 pub enum SolveStatus {
     /// The script was read to its end, or to `(exit)`, and all of it is answered.
     Done,
@@ -193,7 +193,7 @@ fn empty_piece(alloc: Global) -> Result<Vec<u8>, AllocError>
 }
 
 /// Why no further entry is answered.
-#[derive(Clone, Copy, Debug, PartialEq, Eq)]
+#[derive(Clone, Copy, PartialEq, Eq)]
 enum Pause {
     /// The last entry was `(exit)`.
     Exited,

@@ -40,7 +40,7 @@ use std::alloc::{AllocError, Global};
 use std::mem;
 
 /// What a check comes to.
-#[derive(Debug, Drop)]
+#[derive(Drop)]
 pub enum Solved {
     /// Words and truth values of the constants, the one of each at its serial: these make the live assertions true. Each
     /// constant that was declared has a word; truth values past the last one are false.

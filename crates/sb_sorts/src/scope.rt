@@ -16,7 +16,7 @@ use std::marker::Model;
 use thiserror::Error;
 
 /// What a name stands for.
-#[derive(Clone, Copy, Debug, PartialEq, Eq)]
+#[derive(Clone, Copy, PartialEq, Eq)]
 pub enum Named {
     /// A declared constant, with its serial and its sort.
     Constant(Serial, Sort),

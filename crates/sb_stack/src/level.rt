@@ -1,7 +1,7 @@
 //! Levels of a script.
 
 /// Where a level above the first one began.
-#[derive(Clone, Copy, Debug, PartialEq, Eq)]
+#[derive(Clone, Copy, PartialEq, Eq)]
 pub struct Level {
     /// How many names were in force.
     pub names: usize,

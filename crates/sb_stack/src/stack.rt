@@ -46,7 +46,7 @@ use std::marker::Model;
 use std::mem;
 
 /// What the last check found, until the script says something new.
-#[derive(Clone, Copy, Debug)]
+#[derive(Clone, Copy)]
 pub(crate) enum Mode {
     Plain,
     /// The last words and truth values are a model.
@@ -56,7 +56,7 @@ pub(crate) enum Mode {
 }
 
 /// What becomes of an entry.
-#[derive(Debug, Drop)]
+#[derive(Drop)]
 pub enum Step {
     /// It is answered by these bytes, their line feed included, or by none.
     Answer(Vec<u8>),

@@ -3,7 +3,7 @@
 use sb_word::Word;
 
 /// What a check finds.
-#[derive(Debug, Drop)]
+#[derive(Drop)]
 pub enum Verdict {
     /// The live assertions are true for these values: the word of each constant of sort String at its serial, and the
     /// truth value of each one of sort Bool.

@@ -3,7 +3,7 @@
 use crate::term::{Serial, TermId};
 
 /// An assertion of a script.
-#[derive(Clone, Copy, Debug, PartialEq, Eq)]
+#[derive(Clone, Copy, PartialEq, Eq)]
 pub struct Assertion {
     /// Its term, of sort Bool. None for a mark, which stands where an assertion was left out.
     pub term: Option<TermId>,
@@ -12,7 +12,7 @@ pub struct Assertion {
 }
 
 /// An assumption of a check: a constant of sort Bool, or its negation.
-#[derive(Clone, Copy, Debug, PartialEq, Eq)]
+#[derive(Clone, Copy, PartialEq, Eq)]
 pub struct Assumption {
     pub serial: Serial,
     /// Whether the constant itself is assumed, and not its negation.

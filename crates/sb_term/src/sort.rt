@@ -1,7 +1,7 @@
 //! Sorts and symbols.
 
 /// A sort of the theories.
-#[derive(Clone, Copy, Debug, PartialEq, Eq, Hash)]
+#[derive(Clone, Copy, PartialEq, Eq, Hash)]
 pub enum Sort {
     Bool,
     Int,
@@ -10,7 +10,7 @@ pub enum Sort {
 }
 
 /// A symbol of the theories Core, Ints and Unicode Strings.
-#[derive(Clone, Copy, Debug, PartialEq, Eq, Hash)]
+#[derive(Clone, Copy, PartialEq, Eq, Hash)]
 pub enum Symbol {
     /// `true`
     True,

@@ -8,11 +8,11 @@ use std::alloc::AllocError;
 use std::marker::Model;
 
 /// The number of a constant: how many were declared before it.
-#[derive(Clone, Copy, Debug, PartialEq, Eq, Hash)]
+#[derive(Clone, Copy, PartialEq, Eq, Hash)]
 pub struct Serial(pub u64);
 
 /// The number of a term in its table.
-#[derive(Clone, Copy, Debug, Default, PartialEq, Eq, PartialOrd, Ord, Hash)]
+#[derive(Clone, Copy, Default, PartialEq, Eq, PartialOrd, Ord, Hash)]
 pub struct TermId {
     number: u32,
 }
@@ -47,7 +47,7 @@ impl TermId {
 }
 
 /// A term whose arguments are numbers.
-#[derive(Debug, PartialEq, Eq, Hash, Drop)]
+#[derive(PartialEq, Eq, Hash, Drop)]
 pub enum Term {
     /// A declared constant.
     Constant(Serial, Sort),

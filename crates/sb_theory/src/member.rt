@@ -19,7 +19,7 @@ use sb_trail::Entry;
 use std::alloc::{AllocError, Global};
 
 /// That a constant's word is in the language of a regex.
-#[derive(Clone, Copy, Debug)]
+#[derive(Clone, Copy)]
 pub struct Member {
     pub serial: Serial,
     pub regex: RegexId,

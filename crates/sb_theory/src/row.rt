@@ -11,7 +11,7 @@ use std::alloc::{AllocError, Global};
 use std::marker::Model;
 
 /// Literals of one constant, oldest first.
-#[derive(Debug, Drop)]
+#[derive(Drop)]
 pub struct Row {
     literals: Vec<Lit>,
 }

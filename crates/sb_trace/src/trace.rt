@@ -50,7 +50,7 @@ pub struct Trace {
 }
 
 /// What became of an expansion.
-#[derive(Clone, Copy, Debug, PartialEq, Eq)]
+#[derive(Clone, Copy, PartialEq, Eq)]
 pub enum Expand {
     /// Its line was put.
     Expanded,
@@ -61,7 +61,7 @@ pub enum Expand {
 }
 
 /// What an exploration found.
-#[derive(Debug, Drop)]
+#[derive(Drop)]
 pub enum Explore {
     /// The shortest word of the language, the least by code points among the shortest.
     Alive(Word),

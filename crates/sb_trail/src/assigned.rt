@@ -3,7 +3,7 @@
 use sb_lit::{ClauseId, Lit};
 
 /// A literal that is true on the trail.
-#[derive(Clone, Copy, Debug, PartialEq, Eq)]
+#[derive(Clone, Copy, PartialEq, Eq)]
 pub struct Assigned {
     pub literal: Lit,
     /// The number of decisions up to this literal, itself included.

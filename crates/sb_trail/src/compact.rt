@@ -7,7 +7,7 @@ use sb_lit::Lit;
 use std::marker::Model;
 
 /// A literal of an atom below 2 ^ 31, as it is kept: in a fourth of the memory of a [`Lit`].
-#[derive(Clone, Copy, Debug, Default)]
+#[derive(Clone, Copy, Default)]
 pub struct CompactLit {
     /// Twice the atom, and 1 more where the literal is positive.
     code: u32,

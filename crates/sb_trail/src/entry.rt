@@ -9,7 +9,7 @@ use sb_lit::{ClauseId, Lit};
 use std::marker::Model;
 
 /// A literal that is true on the trail, as it is kept: in less memory than an [`Assigned`].
-#[derive(Clone, Copy, Debug)]
+#[derive(Clone, Copy)]
 pub struct Entry {
     literal: CompactLit,
     level: u32,

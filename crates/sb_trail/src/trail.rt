@@ -17,7 +17,7 @@ use std::marker::Model;
 const PLACES: usize = (1 << 31) - 1;
 
 /// The literals that are true, oldest first, with their levels and reasons.
-#[derive(Debug, Drop)]
+#[derive(Drop)]
 pub struct Trail {
     entries: Vec<Entry>,
     /// The value of each atom, apart from the rest since it is read most.

@@ -21,7 +21,7 @@ use sb_word::{CodesError, Word};
 use std::alloc::{AllocError, Global};
 
 /// What a walk finds.
-#[derive(Debug, Drop)]
+#[derive(Drop)]
 pub enum Outcome {
     /// A word of the language: no other is shorter, and none as long is less by code points.
     Found(Word),

@@ -12,7 +12,7 @@ use thiserror::Error;
 pub(crate) const LAST_CHARACTER: u32 = 0x2ffff;
 
 /// A word: a list of characters.
-#[derive(Debug, Drop)]
+#[derive(Drop)]
 pub struct Word {
     codes: Vec<u32>,
 }

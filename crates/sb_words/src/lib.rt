@@ -32,7 +32,7 @@ const MORE: &str = "Exit status:\n\
     \x20 strsolve examples/first.smt2";
 
 /// What is asked of a run. Names are as they were given.
-#[derive(Clone, Copy, Debug, PartialEq, Eq)]
+#[derive(Clone, Copy, PartialEq, Eq)]
 pub struct Asked<'a> {
     /// The file that holds the script; without one standard input does.
     pub script: Option<&'a str>,
@@ -41,7 +41,7 @@ pub struct Asked<'a> {
 }
 
 /// Why words ask for no run.
-#[derive(Debug, Drop)]
+#[derive(Drop)]
 pub enum NoRun {
     /// The text that says what is wrong with them, or that they ask for: the help or the version.
     Told(String),

@@ -26,7 +26,7 @@ pub use ports::Opened;
 pub use write::write_all;
 
 /// An input port.
-#[derive(Clone, Copy, Debug, PartialEq, Eq)]
+#[derive(Clone, Copy, PartialEq, Eq)]
 pub enum InPort {
     /// The script that is to be answered.
     Script,
@@ -35,7 +35,7 @@ pub enum InPort {
 }
 
 /// An output port.
-#[derive(Clone, Copy, Debug, PartialEq, Eq)]
+#[derive(Clone, Copy, PartialEq, Eq)]
 pub enum OutPort {
     /// Standard output. It needs no creation.
     Answers,

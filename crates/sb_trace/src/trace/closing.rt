@@ -22,7 +22,7 @@ use sb_regex::{Arena, RegexId};
 use std::alloc::{AllocError, Global};
 
 /// What became of the regexes to which one leads.
-#[derive(Debug, Drop)]
+#[derive(Drop)]
 pub enum Closure {
     /// The regex and all to which derivatives lead from it, breadth first in the order of characters.
     Closed(Vec<RegexId>),
