@@ -16,7 +16,7 @@ use Rattle.sb_lines.specs.Taking.{LinesState}
 use Rattle.sb_lines.specs.Taking as lines
 use Rattle.sb_judge.specs.Standing.{IsAt, IsStanding}
 use Rattle.sb_checker.specs.declared.checker.CheckerFault.{CheckerFault}
-use Rattle.sb_check_words.specs.Words.{script_of, proof_of}
+use Rattle.sb_words.specs.CheckerWords.{script_of, proof_of}
 use Rattle.sb_sound.specs.TruthLaws.{AcceptedScriptIsTrue}
 use Rattle.sb_check.specs.declared.check.Run.{Run}
 use Rattle.sb_check.specs.declared.check.CheckStatus.{CheckStatus}

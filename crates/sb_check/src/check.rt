@@ -6,14 +6,15 @@ ghost use Rattle.sb_proof.specs.Lines.{said_in};
 ghost use Rattle.sb_stack.specs.Steps.{IsEntry, entry_of};
 ghost use Rattle.sb_entries.specs.Taking as entries;
 ghost use Rattle.sb_entries.specs.Taking.{Advances, IsCutShort};
-ghost use Rattle.sb_check_words.specs.Words.{are_taken};
+ghost use Rattle.sb_words.specs.CheckerWords.{are_taken};
 ghost use Rattle.sb_checker.specs.Going.{CountsCheckerFault};
 ghost use Rattle.sb_check.specs.Running.{Asked, AreHeld, AreLeft, IsAsked, IsOpened, Run as RunBy, RunOf, WrongWords, CountsFaults, MeansSo, opened, status_by};
 ghost use Rattle.sb_check.specs.Texts.{verdict_line};
 ghost use Rattle.sb_check.specs.Sofar.{GoesOn, HasEnded, FindsEntry, Turns, IsSteady, IsSteadyAtEnd, StaysSteady, HasAccepted, Stops, Concludes, is_cut};
 
 use crate::text;
-use sb_check_words::{NoRun, read_words};
+use sb_words::NoRun;
+use sb_words::checker::read_words;
 use sb_checker::{Checked, Checker, CheckerFault};
 use sb_entries::{Entries, EntriesFault};
 use sb_judge::Reason;

@@ -2,7 +2,7 @@
 use Rattle.std.specs.Prelude.{◌≡◌, refl, Bool, true, false, List, [], ◌∷◌, Option, Some, None, codes, if◌then◌else◌}
 use Rattle.clap.specs.Words.{Text}
 use Rattle.clap.proofs.OnLiterals.{clap_on_literals}
-use Rattle.sb_words.specs.Words.{are_taken, script_of, proof_of}
+use Rattle.sb_words.specs.SolverWords.{are_taken, script_of, proof_of}
 
 -- the script and the proof that the words ask for, where they are taken; the program's name comes before them
 abbrev asked : List Text → Option (Option Text × Option Text)

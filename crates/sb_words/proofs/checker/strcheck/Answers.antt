@@ -2,10 +2,10 @@ use Rattle.std.proofs.Common.{◌≡◌, ◌∙◌, true, ap, ap₂, rules}
 use Rattle.std.proofs.lemmas.Result.{IfOk-weaker}
 use Rattle.clap.specs.Words.{app_of, with_rule}
 use Rattle.clap.specs.Simple.{app_of_fields, on_top}
-use Rattle.sb_check_words.specs.Required.{HasBoth}
-use Rattle.sb_check_words.specs.Words.{bare}
-use Rattle.sb_check_words.proofs.RequiredLemmas.{both_given}
-use Rattle.sb_check_words.proofs.strcheck.Goals as goal
+use Rattle.sb_words.specs.Required.{HasBoth}
+use Rattle.sb_words.specs.CheckerWords.{bare}
+use Rattle.sb_words.proofs.RequiredLemmas.{both_given}
+use Rattle.sb_words.proofs.checker.strcheck.Goals as goal
 
 pub returns-clause-app : goal.returns-clause-app
 returns-clause-app c =

@@ -2,8 +2,8 @@ use Rattle.std.proofs.Common.{◌≡◌, ◌∙◌, true, ap, ap₂, rules}
 use Rattle.std.proofs.lemmas.Result.{IfOk-weaker}
 use Rattle.clap.specs.Words.{app_of, rule_of, with_rule}
 use Rattle.clap.specs.Simple.{app_of_fields, on_top}
-use Rattle.sb_words.specs.Words.{proof, script, bare}
-use Rattle.sb_words.proofs.strsolve.Goals as goal
+use Rattle.sb_words.specs.SolverWords.{proof, script, bare}
+use Rattle.sb_words.proofs.solver.strsolve.Goals as goal
 
 pub returns : goal.returns
 returns c =

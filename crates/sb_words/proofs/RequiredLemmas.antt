@@ -8,7 +8,7 @@ use Rattle.clap.proofs.CallerLemmas.{required_in_chain}
 use Rattle.clap.specs.declared.builder.arg.Arg.{Arg}
 use Rattle.clap.specs.declared.builder.command.Command.{Command}
 use Rattle.clap.specs.declared.builder.command.Command.TheViews.{out-Command}
-use Rattle.sb_check_words.specs.Required.{HasBoth, IsNeeded}
+use Rattle.sb_words.specs.Required.{HasBoth, IsNeeded}
 
 -- a name whose first byte is neither that of help nor that of version is neither
 fits : (a : Arg) (id : Text) (first : ℕ) → IsNeeded id a → slice_index id 0 ≡ first → (first ≡ 0 → ⊥)

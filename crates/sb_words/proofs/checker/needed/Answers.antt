@@ -1,6 +1,6 @@
 use Rattle.std.proofs.Common.{rules, subst, sym}
 use Rattle.clap.specs.Words.{IsPlainArg}
-use Rattle.sb_check_words.proofs.needed.Goals as goal
+use Rattle.sb_words.proofs.checker.needed.Goals as goal
 
 pub returns : goal.returns
 returns c = record {

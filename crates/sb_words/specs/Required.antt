@@ -6,7 +6,7 @@ use Rattle.clap.specs.Built.{TakesValue}
 use Rattle.clap.specs.declared.builder.arg.Arg.{Arg}
 use Rattle.clap.specs.declared.builder.command.Command.{Command}
 use Rattle.clap.specs.declared.parser.matches.ArgMatches.{ArgMatches}
-use Rattle.sb_check_words.specs.Words.{needed}
+use Rattle.sb_words.specs.CheckerWords.{needed}
 
 -- a required argument with this name, which takes a value and excludes nothing
 pub record IsNeeded (id : Text) (a : Arg) : Type 0 where

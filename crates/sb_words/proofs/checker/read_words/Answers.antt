@@ -3,9 +3,9 @@ use Rattle.clap.specs.Words.{App, HasKind, fault_of, first_of, found_of, is_simp
 use Rattle.clap.specs.Walk.{is_empty}
 use Rattle.clap.proofs.OnLiterals.{clap_on_literals}
 use Rattle.clap.proofs.WalkLemmas.{first_value-rows}
-use Rattle.sb_check_words.specs.Words.{strcheck}
-use Rattle.sb_check_words.proofs.NoFault.{no_fault_kind}
-use Rattle.sb_check_words.proofs.read_words.Goals as goal
+use Rattle.sb_words.specs.CheckerWords.{strcheck}
+use Rattle.sb_words.proofs.NoFault.{no_fault_kind}
+use Rattle.sb_words.proofs.checker.read_words.Goals as goal
 
 simple : is_simple strcheck ≡ true
 unfolding clap_on_literals

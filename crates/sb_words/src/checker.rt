@@ -1,21 +1,14 @@
-//! The words of the checker: what the words after its name ask of it.
-//!
-//! [`read_words`] gives what the words ask where they are taken, and else the text that says why they are not, or that
-//! they ask for. The reading is `clap`'s. The checker above opens what is asked for, and writes the text.
-#![tactic(auto)]
+//! The words of the checker.
 
 ghost use Rattle.std.specs.Prelude.{◌≡◌, Some, is_some, map, string_bytes, true, IfOk, IfErr};
-ghost use Rattle.clap.specs.Words.{app_of, first_value, found_of, kind_of};
-ghost use Rattle.sb_check_words.specs.Words.{are_taken, script_of, proof_of};
-ghost use Rattle.sb_check_words.specs.Words as specs;
-ghost use Rattle.sb_check_words.specs.Required.{HasBoth, IsNeeded};
+ghost use Rattle.clap.specs.Words.{app_of, first_value, found_of};
+ghost use Rattle.sb_words.specs.CheckerWords.{are_taken, script_of, proof_of};
+ghost use Rattle.sb_words.specs.CheckerWords as specs;
+ghost use Rattle.sb_words.specs.Required.{HasBoth, IsNeeded};
 
-use clap::error::ErrorKind;
-use clap::{Arg, ArgAction, ArgMatches, Command, Error};
+use crate::refusal::{NoRun, VERSION, told};
+use clap::{Arg, ArgAction, ArgMatches, Command};
 use std::alloc::{AllocError, Global};
-
-/// The program's version.
-const VERSION: &str = "0.1.0";
 
 const ABOUT: &str =
     "Checks a proof that strsolve wrote against its script: each verdict of a check that follows is\n\
@@ -33,31 +26,12 @@ const MORE: &str = "Exit status:\n\
     \x20 strcheck examples/first.smt2 first.proof";
 
 /// What is asked of a run. Names are as they were given.
-#[derive(Clone, Copy, PartialEq, Eq)]
+#[derive(Clone, Copy)]
 pub struct Asked<'a> {
     /// The file that holds the script.
     pub script: &'a str,
     /// The file that holds the proof of its answers.
     pub proof: &'a str,
-}
-
-/// Why words ask for no run.
-#[derive(Drop)]
-pub enum NoRun {
-    /// The text that says what is wrong with them, or that they ask for: the help or the version.
-    Told(String),
-    /// There was not enough memory.
-    NoMemory,
-}
-
-impl From<AllocError> for NoRun {
-    ghost use Rattle.sb_check_words.specs.declared.NoRun.TheVariants.{NoMemory};
-
-    ghost from_gives = { λ _ error. error ≡ NoMemory };
-
-    fn from(_error: AllocError) -> NoRun {
-        NoRun::NoMemory
-    }
 }
 
 /// Reads the words of `strcheck`, the program's name first. The cost is linear in their length.
@@ -117,18 +91,5 @@ fn given<'a>(matches: &ArgMatches<'a>, id: &str) -> &'a str
     match matches.get_str(id) {
         Some(text) => text,
         None => unreachable!(),
-    }
-}
-
-/// What an error of `clap` says.
-fn told(alloc: Global, error: &Error) -> NoRun
-    ensures { kind_of error.now ≡ ErrorKind.OutOfMemory → result ≡ NoRun.NoMemory }
-{
-    if error.kind() == ErrorKind::OutOfMemory {
-        return NoRun::NoMemory;
-    }
-    match format!(in alloc; "{error}") {
-        Ok(text) => NoRun::Told(text),
-        Err(_) => NoRun::NoMemory,
     }
 }
