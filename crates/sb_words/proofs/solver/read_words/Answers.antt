@@ -1,4 +1,4 @@
-use Rattle.std.proofs.Common.{◌≡◌, ◌∙◌, [], map, string_bytes, true, ap, subst, refl, codes, rules}
+use Rattle.std.proofs.Common.{◌≡◌, ◌∙◌, [], map, string_bytes, true, ap, subst, refl, codes}
 use Rattle.clap.specs.Words.{App, HasKind, fault_of, first_of, found_of, is_simple, is_simple_and_free, matches_of}
 use Rattle.clap.specs.Walk.{is_empty}
 use Rattle.clap.proofs.OnLiterals.{clap_on_literals}
