@@ -12,7 +12,7 @@ use Rattle.sb_rulebook.specs.Reading.{texts_of}
 use Rattle.sb_rulebook.specs.Judging.{Event, beginning, along_all}
 use Rattle.sb_rulebook.specs.Accepted.{events_of, state_behind, events, verdict_lines}
 use Rattle.sb_stack.specs.Stacked.{state_of}
-use Rattle.sb_lines.specs.Taking as lines
+use Rattle.sb_input.specs.TakingLines as lines
 use Rattle.sb_checker.specs.declared.checker.Checker.{Checker}
 use Rattle.sb_checker.specs.declared.checker.Checked.{Checked}
 use Rattle.sb_checker.specs.declared.checker.Checked.TheVariants as checked

@@ -14,7 +14,7 @@ use Rattle.sb_rulebook.specs.Judging as judging
 use Rattle.sb_rulebook.specs.Judging.{Progress, beginning, along_all, outcome_of, closed}
 use Rattle.sb_rulebook.specs.Accepted.{events, verdict_lines}
 use Rattle.sb_stack.specs.Stacked.{state_of}
-use Rattle.sb_lines.specs.Taking as lines
+use Rattle.sb_input.specs.TakingLines as lines
 use Rattle.sb_judge.specs.declared.judge.Judge.{Judge}
 use Rattle.sb_checker.specs.declared.checker.CheckerFault.{CheckerFault}
 use Rattle.sb_checker.specs.declared.checker.CheckerFault.TheVariants as fault

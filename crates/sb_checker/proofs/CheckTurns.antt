@@ -12,9 +12,9 @@ use Rattle.sb_rulebook.specs.Accepted.{question_in, event_of_leaving}
 use Rattle.sb_stack.specs.Stacked.{state_of}
 use Rattle.sb_proof.specs.Lines.{said_in}
 use Rattle.sb_proof.specs.declared.line.Said.{Said}
-use Rattle.sb_lines.specs.declared.lines.Found.{Found}
-use Rattle.sb_lines.specs.declared.lines.Found.TheVariants.{Line, End}
-use Rattle.sb_lines.specs.Taking.{LinesState, Advances}
+use Rattle.sb_input.specs.declared.lines.Found.{Found}
+use Rattle.sb_input.specs.declared.lines.Found.TheVariants.{Line, End}
+use Rattle.sb_input.specs.TakingLines.{LinesState, Advances}
 use Rattle.sb_rules.specs.Kept.{kept_in}
 use Rattle.sb_judge.specs.declared.judge.Judge.{Judge}
 use Rattle.sb_judge.specs.declared.reason.JudgeFault.{JudgeFault}

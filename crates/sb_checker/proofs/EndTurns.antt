@@ -6,9 +6,9 @@ use Rattle.sb_rulebook.specs.Lines as lines
 use Rattle.sb_rulebook.specs.Refusals.{missing_line}
 use Rattle.sb_rulebook.specs.Reading.{LineText, texts_of}
 use Rattle.sb_rulebook.specs.Judging.{Phase, at_rest, at_end, behind_end, Progress, takes, takes_all, accepted, refused, outcome_of, closed}
-use Rattle.sb_lines.specs.declared.lines.Found.{Found}
-use Rattle.sb_lines.specs.declared.lines.Found.TheVariants.{Line, End}
-use Rattle.sb_lines.specs.Taking.{LinesState, Advances}
+use Rattle.sb_input.specs.declared.lines.Found.{Found}
+use Rattle.sb_input.specs.declared.lines.Found.TheVariants.{Line, End}
+use Rattle.sb_input.specs.TakingLines.{LinesState, Advances}
 use Rattle.sb_judge.specs.declared.judge.Judge.{Judge}
 use Rattle.sb_judge.specs.declared.reason.JudgeFault.{JudgeFault}
 use Rattle.sb_judge.specs.declared.reason.JudgeFault.TheVariants as judge_fault

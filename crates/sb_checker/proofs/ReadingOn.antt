@@ -5,7 +5,7 @@ use Rattle.sb_world.specs.Outside.{Outside}
 use Rattle.sb_world.specs.Moved.{Moved, moved_by, reading}
 use Rattle.sb_world.specs.declared.InPort.TheVariants as in_port
 use Rattle.sb_world.proofs.CallerLemmas.{moved_by-both, moved_by-nothing, reading-add, reading-zero}
-use Rattle.sb_lines.specs.Taking.{LinesState, ReadsOn, IsLeft}
+use Rattle.sb_input.specs.TakingLines.{LinesState, ReadsOn, IsLeft}
 use Rattle.sb_checker.specs.Going.{Reads, ReadsProof, IsPast}
 use Rattle.sb_checker.specs.Through.{Leaves}
 

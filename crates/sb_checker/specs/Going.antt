@@ -5,8 +5,8 @@ use Rattle.sb_world.specs.Moved.{moved_by, reading}
 use Rattle.sb_world.specs.declared.InPort.TheVariants as in_port
 use Rattle.sb_world.specs.declared.WorldError.{WorldError}
 use Rattle.sb_world.specs.declared.WorldError.TheVariants as world_error
-use Rattle.sb_lines.specs.declared.lines.LinesFault.{LinesFault}
-use Rattle.sb_lines.specs.declared.lines.LinesFault.TheVariants as lines_fault
+use Rattle.sb_input.specs.declared.lines.LinesFault.{LinesFault}
+use Rattle.sb_input.specs.declared.lines.LinesFault.TheVariants as lines_fault
 use Rattle.sb_judge.specs.declared.reason.JudgeFault.{JudgeFault}
 use Rattle.sb_judge.specs.declared.reason.JudgeFault.TheVariants as judge_fault
 use Rattle.sb_script.specs.State.{State}
@@ -15,7 +15,7 @@ use Rattle.sb_rulebook.specs.Lines as lines
 use Rattle.sb_rulebook.specs.Reading.{LineText, texts_of}
 use Rattle.sb_rulebook.specs.Judging.{Event, at_rest, Progress, along_all, accepted, refused, outcome_of, closed}
 use Rattle.sb_proof.specs.Lines.{said_in}
-use Rattle.sb_lines.specs.Taking.{LinesState, ReadsOn, IsLeft}
+use Rattle.sb_input.specs.TakingLines.{LinesState, ReadsOn, IsLeft}
 use Rattle.sb_judge.specs.declared.judge.Judge.{Judge}
 use Rattle.sb_judge.specs.Standing.{IsAt}
 use Rattle.sb_judge.specs.Reasons.{reason_in}

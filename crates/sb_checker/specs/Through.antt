@@ -7,7 +7,7 @@ use Rattle.sb_rulebook.specs.Judging.{Event, Phase, at_rest, at_end, Progress, t
 use Rattle.sb_stack.specs.Stacked.{state_of}
 use Rattle.sb_proof.specs.Lines.{said_in}
 use Rattle.sb_proof.specs.declared.line.Said.{Said}
-use Rattle.sb_lines.specs.Taking.{LinesState, ReadsOn, IsLeft}
+use Rattle.sb_input.specs.TakingLines.{LinesState, ReadsOn, IsLeft}
 use Rattle.sb_judge.specs.declared.judge.Judge.{Judge}
 use Rattle.sb_judge.specs.Standing.{IsAt, waiting_in, behind_line}
 use Rattle.sb_judge.specs.Reasons.{reason_in}

@@ -8,13 +8,13 @@ ghost use Rattle.sb_rulebook.specs.Judging.{at_rest, at_end, behind_end, beginni
 ghost use Rattle.sb_rulebook.specs.Accepted.{events_of, state_behind};
 ghost use Rattle.sb_stack.specs.Stacked.{state_of};
 ghost use Rattle.sb_stack.specs.Steps.{IsEntry, entry_of};
-ghost use Rattle.sb_lines.specs.Taking.{most_to_come};
+ghost use Rattle.sb_input.specs.TakingLines.{most_to_come};
 ghost use Rattle.sb_judge.specs.Standing.{IsStanding, IsAt};
 ghost use Rattle.sb_checker.specs.Going.{said_by, LeadsTo, Goes, Fails, Finishes, IsRefusedAlong, IsRefusedAtEnd, CountsCheckerFault};
 ghost use Rattle.sb_checker.specs.Through.{GoesThrough, StopsThrough, GoesLast, StopsLast, IsBehindEnd};
 
 use sb_judge::{Entered, Judge, JudgeFault, Reason};
-use sb_lines::{Found, Lines, LinesFault};
+use sb_input::{Found, Lines, LinesFault};
 use sb_proof::Said;
 use sb_reader::Next;
 use sb_rulebook::laws::refusal_is_final;

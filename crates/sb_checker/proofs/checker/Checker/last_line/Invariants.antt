@@ -1,6 +1,6 @@
 -- the last line is still due behind the lines so far
 use Rattle.std.proofs.Common.{◌≡◌, ◌+◌, ◌≤◌, false}
-use Rattle.sb_lines.specs.Taking.{most_to_come}
+use Rattle.sb_input.specs.TakingLines.{most_to_come}
 use Rattle.sb_judge.specs.Standing.{IsStanding}
 use Rattle.sb_checker.specs.Through.{GoesLast}
 use Rattle.sb_checker.proofs.checker.Checker.last_line.Given as goal

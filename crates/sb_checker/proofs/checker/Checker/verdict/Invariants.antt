@@ -1,6 +1,6 @@
 -- the check still waits behind the lines so far
 use Rattle.std.proofs.Common.{◌≡◌, ◌+◌, ◌≤◌, None}
-use Rattle.sb_lines.specs.Taking.{most_to_come}
+use Rattle.sb_input.specs.TakingLines.{most_to_come}
 use Rattle.sb_judge.specs.Standing.{IsStanding}
 use Rattle.sb_checker.specs.Through.{GoesThrough}
 use Rattle.sb_checker.proofs.checker.Checker.verdict.Given as goal
