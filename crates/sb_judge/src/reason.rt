@@ -1,12 +1,12 @@
 //! Why a line of a proof is refused.
 
 ghost use Rattle.std.specs.Prelude.{◌≡◌};
-ghost use Rattle.sb_rules_regex.specs.Answers.{refusal_in};
+ghost use Rattle.sb_rules.specs.Answers.{refusal_in};
 ghost use Rattle.sb_proof.specs.Reading as reading;
 ghost use Rattle.sb_judge.specs.Reasons.{reason_in};
 
 use sb_proof::LineFault;
-use sb_rules_regex::Refusal;
+use sb_rules::Refusal;
 use std::alloc::AllocError;
 use thiserror::Error;
 

@@ -2,7 +2,7 @@ use Rattle.std.proofs.Common.{Err, subst, ap, ◌∙◌}
 use Rattle.sb_proof.specs.Lines.{line_in}
 use Rattle.sb_rulebook.specs.Accepted.{asked_in}
 use Rattle.sb_rules.specs.Judged.{Judges}
-use Rattle.sb_rules_regex.specs.Answers.{refusal_in}
+use Rattle.sb_rules.specs.Answers.{refusal_in}
 use Rattle.sb_stack.specs.Stacked.{state_of}
 use Rattle.sb_judge.specs.Standing.{waiting_in}
 use Rattle.sb_judge.proofs.Asking.{asked_over, simple_over}
