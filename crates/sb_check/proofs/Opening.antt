@@ -14,8 +14,8 @@ use Rattle.sb_input.specs.TakingEntries.{EntriesState}
 use Rattle.sb_input.specs.TakingEntries as entries
 use Rattle.sb_input.specs.TakingLines.{LinesState}
 use Rattle.sb_input.specs.TakingLines as lines
-use Rattle.sb_judge.specs.Standing.{IsAt, IsStanding}
-use Rattle.sb_checker.specs.declared.checker.CheckerFault.{CheckerFault}
+use Rattle.sb_check.specs.Standing.{IsAt, IsStanding}
+use Rattle.sb_check.specs.declared.checker.CheckerFault.{CheckerFault}
 use Rattle.sb_words.specs.CheckerWords.{script_of, proof_of}
 use Rattle.sb_sound.specs.TruthLaws.{AcceptedScriptIsTrue}
 use Rattle.sb_check.specs.declared.check.Run.{Run}

@@ -12,10 +12,10 @@ use Rattle.sb_rulebook.specs.Accepted.{events, verdict_lines}
 use Rattle.sb_stack.specs.Stacked.{state_of}
 use Rattle.sb_input.specs.TakingEntries as entries
 use Rattle.sb_input.specs.TakingLines as lines
-use Rattle.sb_judge.specs.Standing.{IsStanding, IsAt}
-use Rattle.sb_judge.specs.Reasons.{reason_in}
-use Rattle.sb_checker.specs.declared.checker.CheckerFault.{CheckerFault}
-use Rattle.sb_checker.specs.declared.checker.CheckerFault.TheVariants as fault
+use Rattle.sb_check.specs.Standing.{IsStanding, IsAt}
+use Rattle.sb_check.specs.Reasons.{reason_in}
+use Rattle.sb_check.specs.declared.checker.CheckerFault.{CheckerFault}
+use Rattle.sb_check.specs.declared.checker.CheckerFault.TheVariants as fault
 use Rattle.sb_check.specs.declared.check.Run.{Run}
 use Rattle.sb_outcome.specs.Outcomes.{behind, AreEntriesOf}
 use Rattle.sb_check.specs.Running.{Writes, CutShort, limit}

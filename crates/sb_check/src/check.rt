@@ -7,20 +7,20 @@ ghost use Rattle.sb_stack.specs.Steps.{IsEntry, entry_of};
 ghost use Rattle.sb_input.specs.TakingEntries as entries;
 ghost use Rattle.sb_input.specs.TakingEntries.{Advances, IsCutShort};
 ghost use Rattle.sb_words.specs.CheckerWords.{are_taken};
-ghost use Rattle.sb_checker.specs.Going.{CountsCheckerFault};
+ghost use Rattle.sb_check.specs.Going.{CountsCheckerFault};
 ghost use Rattle.sb_check.specs.Running.{Asked, AreHeld, AreLeft, IsAsked, IsOpened, Run as RunBy, RunOf, WrongWords, CountsFaults, MeansSo, opened, status_by};
 ghost use Rattle.sb_check.specs.Texts.{verdict_line};
 ghost use Rattle.sb_check.specs.Sofar.{GoesOn, HasEnded, FindsEntry, Turns, IsSteady, IsSteadyAtEnd, StaysSteady, HasAccepted, Stops, Concludes, is_cut};
 
+use crate::checker::{Checked, Checker, CheckerFault};
+use crate::reason::Reason;
 use crate::text;
-use sb_words::NoRun;
-use sb_words::checker::read_words;
-use sb_checker::{Checked, Checker, CheckerFault};
 use sb_input::{Entries, EntriesFault, Lines};
-use sb_judge::Reason;
 use sb_proof::Said;
 use sb_reader::Next;
 use sb_sound::proofs::accepted_script_is_true;
+use sb_words::NoRun;
+use sb_words::checker::read_words;
 use sb_world::{InPort, OutPort, World, WorldError, write_all};
 use std::alloc::Global;
 
