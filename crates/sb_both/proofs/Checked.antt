@@ -2,7 +2,7 @@
 use Rattle.std.proofs.Common.{◌≡◌, ℕ, ◌⊎◌, true, List, length, refl, sym, subst, inl, inr, ap, ◌∙◌, arith}
 use Rattle.sb_world.specs.Outside.{Outside}
 use Rattle.sb_world.specs.Worlds.{AddsFile}
-use Rattle.sb_check_words.specs.Words.{are_taken}
+use Rattle.sb_words.specs.CheckerWords.{are_taken}
 use Rattle.sb_rulebook.specs.Refusals.{Refusal}
 use Rattle.sb_rulebook.specs.Lines.{Said}
 use Rattle.sb_rulebook.specs.Judging.{accepted, refused}

@@ -3,7 +3,7 @@ use Rattle.std.proofs.Common.{◌≡◌, ℕ, ◌^◌, ◌<◌, ◌⊎◌, true,
 use Rattle.std.proofs.lemmas.List.{drop_all}
 use Rattle.sb_world.specs.Outside.{Outside, Rose}
 use Rattle.sb_reader.specs.Entries.{Entry}
-use Rattle.sb_words.specs.Words.{are_taken}
+use Rattle.sb_words.specs.SolverWords.{are_taken}
 use Rattle.sb_session.specs.declared.solve.SolveStatus.{SolveStatus}
 use Rattle.sb_session.specs.declared.solve.SolveStatus.TheVariants as status
 use Rattle.sb_session.specs.Solve.{Asked, asked_by, asks_proof, opened, IsBounded}

@@ -1,8 +1,8 @@
 -- The words of both programs are taken, and what they ask.
 use Rattle.std.proofs.Common.{◌≡◌, true, refl}
 use Rattle.clap.proofs.OnLiterals.{clap_on_literals}
-use Rattle.sb_words.specs.Words as solve_words
-use Rattle.sb_check_words.specs.Words as check_words
+use Rattle.sb_words.specs.SolverWords as solve_words
+use Rattle.sb_words.specs.CheckerWords as check_words
 use Rattle.sb_session.specs.Solve.{asked_by}
 use Rattle.sb_check.specs.Running.{IsAsked}
 use Rattle.sb_both.specs.Runs.{solver_words, of_solver, checker_words, of_checker}

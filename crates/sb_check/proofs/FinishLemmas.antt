@@ -7,10 +7,10 @@ use Rattle.sb_script.specs.State.{State, start}
 use Rattle.sb_rulebook.specs.Reading.{texts_of}
 use Rattle.sb_rulebook.specs.Judging.{Event, Progress, along_all, outcome_of, closed, judged}
 use Rattle.sb_rulebook.specs.Accepted.{events, verdict_lines}
-use Rattle.sb_lines.specs.Taking as lines
-use Rattle.sb_checker.specs.declared.checker.CheckerFault.{CheckerFault}
-use Rattle.sb_checker.specs.declared.checker.CheckerFault.TheVariants as fault
-use Rattle.sb_checker.specs.Going.{Finishes, Fails, IsRefusedAtEnd}
+use Rattle.sb_input.specs.TakingLines as lines
+use Rattle.sb_check.specs.declared.checker.CheckerFault.{CheckerFault}
+use Rattle.sb_check.specs.declared.checker.CheckerFault.TheVariants as fault
+use Rattle.sb_check.specs.Going.{Finishes, Fails, IsRefusedAtEnd}
 use Rattle.sb_check.specs.declared.check.Run.{Run}
 use Rattle.sb_check.specs.Running.{limit}
 use Rattle.sb_check.specs.Sofar.{Sofar, HasEnded, HasAccepted, Stops}

@@ -1,9 +1,18 @@
-pub mod Written
-pub mod Opening
-pub mod EntryFacts
-pub mod MoveLemmas
-pub mod GoingLemmas
-pub mod StopLemmas
-pub mod TurnLemmas
-pub mod FinishLemmas
-pub mod ScriptLemmas
+mod Asking
+mod CheckTurns
+mod EndTurns
+mod Entering
+mod EntryFacts
+mod FinishLemmas
+mod GoingLemmas
+mod Growing
+mod MoveLemmas
+mod Opening
+mod ReadingOn
+mod ScriptLemmas
+mod StopLemmas
+mod Taking
+mod ThroughFacts
+mod TurnLemmas
+mod Written
+mod Wrong

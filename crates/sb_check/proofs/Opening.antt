@@ -10,13 +10,13 @@ use Rattle.sb_script.specs.State.{start}
 use Rattle.sb_rulebook.specs.Reading.{texts_of}
 use Rattle.sb_rulebook.specs.Judging.{at_rest, beginning, along_all}
 use Rattle.sb_stack.specs.Stacked.{state_of}
-use Rattle.sb_entries.specs.Taking.{EntriesState}
-use Rattle.sb_entries.specs.Taking as entries
-use Rattle.sb_lines.specs.Taking.{LinesState}
-use Rattle.sb_lines.specs.Taking as lines
-use Rattle.sb_judge.specs.Standing.{IsAt, IsStanding}
-use Rattle.sb_checker.specs.declared.checker.CheckerFault.{CheckerFault}
-use Rattle.sb_check_words.specs.Words.{script_of, proof_of}
+use Rattle.sb_input.specs.TakingEntries.{EntriesState}
+use Rattle.sb_input.specs.TakingEntries as entries
+use Rattle.sb_input.specs.TakingLines.{LinesState}
+use Rattle.sb_input.specs.TakingLines as lines
+use Rattle.sb_check.specs.Standing.{IsAt, IsStanding}
+use Rattle.sb_check.specs.declared.checker.CheckerFault.{CheckerFault}
+use Rattle.sb_words.specs.CheckerWords.{script_of, proof_of}
 use Rattle.sb_sound.specs.TruthLaws.{AcceptedScriptIsTrue}
 use Rattle.sb_check.specs.declared.check.Run.{Run}
 use Rattle.sb_check.specs.declared.check.CheckStatus.{CheckStatus}

@@ -1,7 +1,7 @@
 -- A whole run: what stands behind its last turn holds of all of it.
 use Rattle.std.proofs.Common.{◌≡◌, ℕ, Bool, false, List, Result, Ok, Err, IfErr, OnOk}
 use Rattle.sb_world.specs.Outside.{Outside}
-use Rattle.sb_checker.specs.declared.checker.CheckerFault.{CheckerFault}
+use Rattle.sb_check.specs.declared.checker.CheckerFault.{CheckerFault}
 use Rattle.sb_check.specs.declared.check.Run.{Run}
 use Rattle.sb_check.specs.Sofar.{GoesOn, HasEnded, Turns, HasAccepted, Stops}
 

@@ -14,15 +14,15 @@ use Rattle.sb_rulebook.specs.Judging as judging
 use Rattle.sb_rulebook.specs.Judging.{Progress, beginning, along_all, outcome_of, closed}
 use Rattle.sb_rulebook.specs.Accepted.{events, verdict_lines}
 use Rattle.sb_stack.specs.Stacked.{state_of}
-use Rattle.sb_lines.specs.Taking as lines
-use Rattle.sb_judge.specs.declared.judge.Judge.{Judge}
-use Rattle.sb_checker.specs.declared.checker.CheckerFault.{CheckerFault}
-use Rattle.sb_checker.specs.declared.checker.CheckerFault.TheVariants as fault
-use Rattle.sb_checker.specs.declared.checker.Checked.{Checked}
-use Rattle.sb_checker.specs.declared.checker.Checked.TheVariants as checked
+use Rattle.sb_input.specs.TakingLines as lines
+use Rattle.sb_check.specs.declared.judge.Judge.{Judge}
+use Rattle.sb_check.specs.declared.checker.CheckerFault.{CheckerFault}
+use Rattle.sb_check.specs.declared.checker.CheckerFault.TheVariants as fault
+use Rattle.sb_check.specs.declared.checker.Checked.{Checked}
+use Rattle.sb_check.specs.declared.checker.Checked.TheVariants as checked
 use Rattle.sb_proof.specs.declared.line.Said as code
 use Rattle.sb_proof.specs.Lines.{said_in}
-use Rattle.sb_checker.specs.Going.{said_by, Goes, Fails, ReadsProof, IsRefusedAlong, IsPast}
+use Rattle.sb_check.specs.Going.{said_by, Goes, Fails, ReadsProof, IsRefusedAlong, IsPast}
 use Rattle.sb_check.specs.declared.check.Run.{Run}
 use Rattle.sb_outcome.specs.Outcomes.{GoesAlong}
 use Rattle.sb_check.specs.Running.{Writes, CutShort, limit}

@@ -11,10 +11,10 @@ use Rattle.sb_reader.proofs.CallerLemmas.{beginning_grows}
 use Rattle.sb_rulebook.specs.Accepted.{verdict_lines}
 use Rattle.sb_stack.specs.Stacked.{state_of}
 use Rattle.sb_stack.specs.Steps.{IsEntry, entry_of}
-use Rattle.sb_entries.specs.Taking as entries
-use Rattle.sb_entries.specs.Taking.{Advances, TakesEntry, Finds, IsCutShort}
-use Rattle.sb_checker.specs.declared.checker.CheckerFault.{CheckerFault}
-use Rattle.sb_checker.specs.declared.checker.CheckerFault.TheVariants as fault
+use Rattle.sb_input.specs.TakingEntries as entries
+use Rattle.sb_input.specs.TakingEntries.{Advances, TakesEntry, Finds, IsCutShort}
+use Rattle.sb_check.specs.declared.checker.CheckerFault.{CheckerFault}
+use Rattle.sb_check.specs.declared.checker.CheckerFault.TheVariants as fault
 use Rattle.sb_check.specs.declared.check.Run.{Run}
 use Rattle.sb_check.specs.Running.{limit}
 use Rattle.sb_check.specs.Sofar.{Sofar, FindsEntry, GoesOn, HasEnded, Turns, IsSteady, StaysSteady, Stops, is_cut}

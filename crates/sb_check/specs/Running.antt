@@ -6,7 +6,7 @@ use Rattle.sb_world.specs.declared.WorldError.{WorldError}
 use Rattle.sb_world.specs.declared.WorldError.TheVariants as world_error
 use Rattle.sb_world.specs.declared.InPort.TheVariants as in_port
 use Rattle.sb_world.specs.declared.OutPort.TheVariants as out_port
-use Rattle.sb_check_words.specs.Words.{script_of, proof_of}
+use Rattle.sb_words.specs.CheckerWords.{script_of, proof_of}
 use Rattle.sb_reader.specs.Entries.{Entry}
 use Rattle.sb_script.specs.State as state
 use Rattle.sb_rulebook.specs.Reading.{texts_of}

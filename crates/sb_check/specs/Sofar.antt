@@ -10,12 +10,12 @@ use Rattle.sb_rulebook.specs.Reading.{texts_of}
 use Rattle.sb_rulebook.specs.Judging.{Event, at_rest, Progress, beginning, along_all, accepted, refused, goes_on}
 use Rattle.sb_rulebook.specs.Accepted.{events, verdict_lines}
 use Rattle.sb_stack.specs.Stacked.{state_of}
-use Rattle.sb_entries.specs.Taking as entries
-use Rattle.sb_lines.specs.Taking as lines
-use Rattle.sb_judge.specs.Standing.{IsStanding, IsAt}
-use Rattle.sb_judge.specs.Reasons.{reason_in}
-use Rattle.sb_checker.specs.declared.checker.CheckerFault.{CheckerFault}
-use Rattle.sb_checker.specs.declared.checker.CheckerFault.TheVariants as fault
+use Rattle.sb_input.specs.TakingEntries as entries
+use Rattle.sb_input.specs.TakingLines as lines
+use Rattle.sb_check.specs.Standing.{IsStanding, IsAt}
+use Rattle.sb_check.specs.Reasons.{reason_in}
+use Rattle.sb_check.specs.declared.checker.CheckerFault.{CheckerFault}
+use Rattle.sb_check.specs.declared.checker.CheckerFault.TheVariants as fault
 use Rattle.sb_check.specs.declared.check.Run.{Run}
 use Rattle.sb_outcome.specs.Outcomes.{behind, AreEntriesOf}
 use Rattle.sb_check.specs.Running.{Writes, CutShort, limit}

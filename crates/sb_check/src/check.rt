@@ -4,23 +4,23 @@ ghost use Rattle.std.specs.Prelude.{◌≡◌, ℕ, ◌+◌, ◌^◌, ◌<◌, �
 ghost use Rattle.sb_world.specs.Outside.{Outside, Rose, CountsFault, open_at, write_at};
 ghost use Rattle.sb_proof.specs.Lines.{said_in};
 ghost use Rattle.sb_stack.specs.Steps.{IsEntry, entry_of};
-ghost use Rattle.sb_entries.specs.Taking as entries;
-ghost use Rattle.sb_entries.specs.Taking.{Advances, IsCutShort};
-ghost use Rattle.sb_check_words.specs.Words.{are_taken};
-ghost use Rattle.sb_checker.specs.Going.{CountsCheckerFault};
+ghost use Rattle.sb_input.specs.TakingEntries as entries;
+ghost use Rattle.sb_input.specs.TakingEntries.{Advances, IsCutShort};
+ghost use Rattle.sb_words.specs.CheckerWords.{are_taken};
+ghost use Rattle.sb_check.specs.Going.{CountsCheckerFault};
 ghost use Rattle.sb_check.specs.Running.{Asked, AreHeld, AreLeft, IsAsked, IsOpened, Run as RunBy, RunOf, WrongWords, CountsFaults, MeansSo, opened, status_by};
 ghost use Rattle.sb_check.specs.Texts.{verdict_line};
 ghost use Rattle.sb_check.specs.Sofar.{GoesOn, HasEnded, FindsEntry, Turns, IsSteady, IsSteadyAtEnd, StaysSteady, HasAccepted, Stops, Concludes, is_cut};
 
+use crate::checker::{Checked, Checker, CheckerFault};
+use crate::reason::Reason;
 use crate::text;
-use sb_check_words::{NoRun, read_words};
-use sb_checker::{Checked, Checker, CheckerFault};
-use sb_entries::{Entries, EntriesFault};
-use sb_judge::Reason;
-use sb_lines::Lines;
+use sb_input::{Entries, EntriesFault, Lines};
 use sb_proof::Said;
 use sb_reader::Next;
 use sb_sound::proofs::accepted_script_is_true;
+use sb_words::NoRun;
+use sb_words::checker::read_words;
 use sb_world::{InPort, OutPort, World, WorldError, write_all};
 use std::alloc::Global;
 

@@ -6,11 +6,11 @@ ghost use Rattle.sb_script.specs.Steps.{line};
 ghost use Rattle.sb_rulebook.specs.Refusals as rules;
 ghost use Rattle.sb_rulebook.specs.Accepted as rulebook;
 ghost use Rattle.sb_proof.specs.Lines.{said_in};
-ghost use Rattle.sb_judge.specs.Reasons.{reason_in};
+ghost use Rattle.sb_check.specs.Reasons.{reason_in};
 ghost use Rattle.sb_check.specs.Texts as texts;
 
+use crate::reason::Reason;
 use itoa::Buffer;
-use sb_judge::Reason;
 use sb_proof::Said;
 use std::alloc::{AllocError, Global};
 

@@ -2,7 +2,7 @@
 
 ghost use Rattle.std.specs.Prelude.{◌<◌};
 
-use sb_entries::{Entries, EntriesFault};
+use sb_input::{Entries, EntriesFault};
 use sb_reader::{Ending, Next, Refusal, Sexpr, Shape};
 use sb_world::{InPort, MemWorld, World};
 use std::alloc::Global;

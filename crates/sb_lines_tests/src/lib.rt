@@ -1,4 +1,4 @@
-//! Tests of `sb_lines` over its public items.
+//! Tests of the lines of `sb_input` over its public items.
 //!
 //! The crate has no code of its own. A row is a proof with its lines; each is read in pieces of several lengths, and
 //! with a fault at each read.

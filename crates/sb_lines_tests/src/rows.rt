@@ -2,7 +2,7 @@
 
 ghost use Rattle.std.specs.Prelude.{◌<◌};
 
-use sb_lines::{Found, Lines, LinesFault};
+use sb_input::{Found, Lines, LinesFault};
 use sb_world::{InPort, MemWorld, World};
 use std::alloc::Global;
 use std::process::Abort;

@@ -13,9 +13,9 @@ use Rattle.sb_rulebook.specs.RegexRules.{branch_of, expanded}
 use Rattle.sb_rulebook.specs.Expansions as rules
 use Rattle.sb_rulebook.specs.Expansions.{Branch}
 use Rattle.sb_rulebook.specs.Follows.{follows}
-use Rattle.sb_expansion.specs.Branches.{branches_at}
+use Rattle.sb_rules.specs.Branches.{branches_at}
 use Rattle.sb_atoms.specs.Numbered.{atoms_in}
-use Rattle.sb_rules_regex.specs.Known.{Known}
+use Rattle.sb_rules.specs.Known.{Known}
 use Rattle.sb_rules.proofs.Staying.{all_of}
 use Rattle.sb_rules.specs.declared.kept.Kept.{Kept}
 use Rattle.sb_rules.specs.Kept.{kept_in}

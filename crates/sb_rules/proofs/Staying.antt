@@ -17,10 +17,10 @@ use Rattle.sb_rulebook.specs.Refusals.{Refusal}
 use Rattle.sb_rulebook.specs.Kept.{AllKept, Asked, counting, with_clause}
 use Rattle.sb_rulebook.specs.Lines.{Line}
 use Rattle.sb_rulebook.specs.Follows.{follows}
-use Rattle.sb_rules_regex.specs.Answers.{IsJudged}
-use Rattle.sb_rules_regex.specs.Known.{Known, with_known}
-use Rattle.sb_rules_regex.specs.declared.fault.Fault.{Fault}
-use Rattle.sb_rules_regex.specs.declared.fault.Fault.TheVariants as fault
+use Rattle.sb_rules.specs.Answers.{IsJudged}
+use Rattle.sb_rules.specs.Known.{Known, with_known}
+use Rattle.sb_rules.specs.declared.fault.Fault.{Fault}
+use Rattle.sb_rules.specs.declared.fault.Fault.TheVariants as fault
 use Rattle.sb_rules.specs.declared.kept.Kept.{Kept}
 use Rattle.sb_rules.specs.Kept.{kept_in, IsWhole}
 use Rattle.sb_rules.specs.Judged.{Judges, Meets, IsCounting}

@@ -2,7 +2,7 @@
 use Rattle.std.specs.Prelude.{◌≡◌, ℕ, List, map, Result, Ok, Err}
 use Rattle.sb_proof.specs.declared.line.Class.{Class}
 use Rattle.sb_proof.specs.Lines.{class_in}
-use Rattle.sb_rules_regex.specs.declared.fault.Fault.{Fault}
+use Rattle.sb_rules.specs.declared.fault.Fault.{Fault}
 use Rattle.sb_rulebook.specs.Lines.{expansion_line}
 use Rattle.sb_rulebook.specs.Kept.{AllKept, Asked, counting, with_expansion}
 use Rattle.sb_rulebook.specs.Follows.{follows}

@@ -1,8 +1,8 @@
 -- What an answer to a line says of what the rules of proofs make of it.
 use Rattle.std.specs.Prelude.{◌≡◌, ℕ, List, Result, Ok, Err}
-use Rattle.sb_rules_regex.specs.Answers.{refusal_in}
-use Rattle.sb_rules_regex.specs.declared.fault.Fault.{Fault}
-use Rattle.sb_rules_regex.specs.declared.fault.Fault.TheVariants as fault
+use Rattle.sb_rules.specs.Answers.{refusal_in}
+use Rattle.sb_rules.specs.declared.fault.Fault.{Fault}
+use Rattle.sb_rules.specs.declared.fault.Fault.TheVariants as fault
 use Rattle.sb_rulebook.specs.Refusals.{Refusal}
 use Rattle.sb_rulebook.specs.Lines.{Line}
 use Rattle.sb_rulebook.specs.Kept.{AllKept, Asked, counting}

@@ -1,6 +1,13 @@
-pub mod Kept
-pub mod Judged
-pub mod Expanding
+pub mod Answers
+pub mod Branches
+pub mod Burying
 pub mod Defining
-pub mod Refuting
+pub mod Expanding
 pub mod Gating
+pub mod Judged
+pub mod Kept
+pub mod Known
+pub mod Making
+pub mod Pieces
+pub mod Ranging
+pub mod Refuting

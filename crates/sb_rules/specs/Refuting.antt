@@ -10,9 +10,9 @@ use Rattle.sb_lit.specs.Kept.{Kept}
 use Rattle.sb_rulebook.specs.Atoms.{AtomOver, in_atom}
 use Rattle.sb_rulebook.specs.ClauseRules.{refusal_of}
 use Rattle.sb_script.specs.Pieces.{constant_piece}
-use Rattle.sb_rules_regex.specs.Answers.{refusal_in}
-use Rattle.sb_rules_regex.specs.declared.fault.Fault.{Fault}
-use Rattle.sb_rules_regex.specs.declared.fault.Fault.TheVariants as fault
+use Rattle.sb_rules.specs.Answers.{refusal_in}
+use Rattle.sb_rules.specs.declared.fault.Fault.{Fault}
+use Rattle.sb_rules.specs.declared.fault.Fault.TheVariants as fault
 
 -- the constant of a membership of it alone, and the number of the regex
 abbrev pub member_in : Option (AtomOver ℕ) → Option (ℕ × ℕ)

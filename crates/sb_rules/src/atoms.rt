@@ -15,13 +15,13 @@ ghost use Rattle.sb_rules.specs.Kept.{IsWhole, KeepsTerms, kept_in};
 ghost use Rattle.sb_rules.specs.Judged.{Judges, Meets};
 ghost use Rattle.sb_rules.specs.Defining.{IsBroughtAs, IsConstantIn, have_parts};
 
+use crate::fault::{Fault, Refusal};
 use crate::kept::Kept;
 use sb_atoms::Atom as KeptAtom;
 use sb_hints::are_ascending;
 use sb_lang::order::order_tells_apart;
 use sb_lit::Lit;
 use sb_proof::{Atom, Piece, Variable};
-use sb_rules_regex::{Fault, Refusal};
 use sb_term::{Serial, Sort};
 use smallvec::SmallVec;
 use std::alloc::AllocError;

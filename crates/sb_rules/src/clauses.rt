@@ -13,13 +13,13 @@ ghost use Rattle.sb_rules.specs.Kept.{IsWhole, IsOver, KeepsTerms, HasNumberBelo
 ghost use Rattle.sb_rules.specs.Judged.{Judges, Meets};
 ghost use Rattle.sb_rules.specs.Refuting.{IsLearned, IsFound};
 
+use crate::fault::{Fault, Refusal};
 use crate::kept::{Kept, counted};
 use crate::members::{are_of, denied, member};
 use sb_hints::{NotLearned, are_ascending};
 use sb_lit::Lit;
 use sb_plain::right_stays;
 use sb_proof::Rule;
-use sb_rules_regex::{Fault, Refusal};
 use sb_term::{Assertion, Table, TermId};
 use std::alloc::AllocError;
 

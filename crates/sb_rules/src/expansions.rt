@@ -8,11 +8,11 @@ ghost use Rattle.sb_rules.specs.Kept.{IsWhole, KeepsTerms, kept_in};
 ghost use Rattle.sb_rules.specs.Judged.{Judges, Meets};
 ghost use Rattle.sb_rules.specs.Expanding.{JudgesExpansion};
 
+use crate::branches::is_expansion;
+use crate::fault::{Fault, Refusal};
 use crate::kept::{Kept, counted};
-use sb_expansion::is_expansion;
 use sb_plain::right_stays;
 use sb_proof::{Class, Node};
-use sb_rules_regex::{Fault, Refusal};
 use std::alloc::{AllocError, Global};
 
 impl Kept {

@@ -6,10 +6,10 @@ ghost use Rattle.sb_proof.specs.Lines.{line_in};
 ghost use Rattle.sb_rules.specs.Kept.{IsOver, IsAsked, HasNumberBelow, IsSimple};
 ghost use Rattle.sb_rules.specs.Judged.{Judges};
 
+use crate::fault::{Fault, Refusal};
 use crate::kept::Kept;
 use sb_problem::normals_stay;
 use sb_proof::Line;
-use sb_rules_regex::{Fault, Refusal};
 use sb_term::{Assertion, Sort, Table};
 
 impl Kept {

@@ -14,11 +14,11 @@ ghost use Rattle.sb_rules.specs.Kept.{IsWhole, KeepsTerms};
 ghost use Rattle.sb_rules.specs.Judged.{Judges};
 ghost use Rattle.sb_rules.specs.Gating.{HasLiterals};
 
+use crate::fault::{Fault, Refusal};
 use crate::kept::Kept;
 use sb_atoms::{Atom, AtomId};
 use sb_hints::{are_ascending, has_all, set_of};
 use sb_lit::Lit;
-use sb_rules_regex::{Fault, Refusal};
 use std::alloc::{AllocError, Global};
 use std::collections::HashSet;
 

@@ -6,13 +6,14 @@ ghost use Rattle.sb_rulebook.specs.Kept.{AllKept, nothing_kept};
 ghost use Rattle.sb_rules.specs.Kept.{IsOver, kept_in, left_in};
 ghost use Rattle.sb_rules.specs.Judged.{HasRoom};
 
+use crate::fault::{Fault, Refusal};
+use crate::known::KnownRegexes;
 use sb_atoms::Atoms;
 use sb_fragment::Measures;
 use sb_hints::KeptClauses;
 use sb_plain::Plain;
 use sb_problem::Normals;
 use sb_regex::Arena;
-use sb_rules_regex::{Fault, KnownRegexes, Refusal};
 use std::alloc::Global;
 
 /// What is kept of a proof, by the numbers of its lines.

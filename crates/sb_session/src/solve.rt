@@ -8,7 +8,7 @@ ghost use Rattle.sb_reader.specs.Feeding as feed;
 ghost use Rattle.sb_script.specs.State.{start};
 ghost use Rattle.sb_stack.specs.Stacked.{state_of};
 ghost use Rattle.sb_stack.specs.Steps.{IsEntry};
-ghost use Rattle.sb_words.specs.Words.{are_taken};
+ghost use Rattle.sb_words.specs.SolverWords.{are_taken};
 ghost use Rattle.sb_rulebook.specs.Judging.{beginning};
 ghost use Rattle.sb_session.specs.Commanding.{CountsSessionFault, IsTracked, is_proved};
 ghost use Rattle.sb_session.specs.Certifying.{IsCertified};
@@ -21,7 +21,8 @@ ghost use Rattle.sb_session.specs.Solve.{Asked, asked_for, asked_by, asks_proof,
 use crate::command::{Session, SessionFault, Went};
 use sb_certified::laws::{certified_is_accepted, certified_to_exit_is_accepted};
 use sb_reader::{Ending, Feed, Next};
-use sb_words::{NoRun, read_words};
+use sb_words::NoRun;
+use sb_words::solver::read_words;
 use sb_world::{InPort, OutPort, World, WorldError, write_all};
 use std::alloc::{AllocError, Global};
 

@@ -1,1 +1,2 @@
 mod NoFault
+mod RequiredLemmas

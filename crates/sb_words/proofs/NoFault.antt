@@ -1,5 +1,5 @@
 -- An error where no kind may come.
-use Rattle.std.proofs.Common.{◌≡◌, true, [], ◌∷◌, length, inl, inr, arith}
+use Rattle.std.proofs.Common.{◌≡◌, true, [], ◌∷◌, inl, inr, arith}
 use Rattle.clap.specs.Words.{HasKind, Kinds, kind_of}
 use Rattle.clap.specs.Walk.{is_empty}
 use Rattle.clap.specs.declared.error.Error.{Error}

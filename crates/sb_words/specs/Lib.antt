@@ -1,2 +1,5 @@
-pub mod Words
-pub mod WordsExamples
+pub mod SolverWords
+pub mod SolverExamples
+pub mod CheckerWords
+pub mod CheckerExamples
+pub mod Required

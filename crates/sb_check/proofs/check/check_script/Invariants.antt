@@ -1,7 +1,7 @@
 -- a further entry may come, and what is written is what it was
 use Rattle.std.proofs.Common.{◌≡◌, ℕ, List}
 use Rattle.sb_world.specs.Outside.{Outside}
-use Rattle.sb_entries.specs.Taking.{most_to_come}
+use Rattle.sb_input.specs.TakingEntries.{most_to_come}
 use Rattle.sb_check.specs.Sofar.{GoesOn, IsSteady}
 use Rattle.sb_check.proofs.check.check_script.Given as goal
 

@@ -1,7 +1,7 @@
 use Rattle.std.proofs.Common.{refl, subst, sym, ◌∙◌}
 use Rattle.sb_rulebook.specs.Judging.{refused}
 use Rattle.sb_rulebook.specs.Accepted.{verdict_lines}
-use Rattle.sb_judge.specs.Reasons.{reason_in}
+use Rattle.sb_check.specs.Reasons.{reason_in}
 use Rattle.sb_check.specs.Running.{RunOf}
 use Rattle.sb_check.specs.Texts.{refusal_line}
 use Rattle.sb_check.proofs.Written.{IsWritten, refusal_written, writes_verdicts}

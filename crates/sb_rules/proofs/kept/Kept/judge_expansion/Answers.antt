@@ -7,7 +7,7 @@ use Rattle.sb_atoms.proofs.CallerLemmas.{regexes_kept}
 use Rattle.sb_rulebook.specs.Expansions as rules
 use Rattle.sb_rulebook.specs.Kept.{counting, with_expansion}
 use Rattle.sb_rulebook.specs.Parts.{together}
-use Rattle.sb_expansion.specs.Branches.{branches_at}
+use Rattle.sb_rules.specs.Branches.{branches_at}
 use Rattle.sb_rules.specs.Kept.{kept_in}
 use Rattle.sb_rules.proofs.Staying.{same_kept, found_below}
 use Rattle.sb_rules.proofs.Expanded.{unknown_target, by_expansion, judged_by}

@@ -1,0 +1,16 @@
+use Rattle.std.proofs.lemmas.Result.{err_from_is_err_and}
+use Rattle.sb_check.proofs.EndTurns.{end_stops, behind_stops, end_accepted}
+use Rattle.sb_check.proofs.checker.Checker.finish.Goals as goal
+
+pub returns-in_err-last_line-clause-err : goal.returns-in_err-last_line-clause-err
+returns-in_err-last_line-clause-err g c =
+    let e = err_from_is_err_and c.from_residual.result c.from_residual.ensures.1 in
+    end_stops c.from_residual.result e.0 _ _ _ _ _ _ e.1 e.2 c.in_err-last_line.ensures.err
+
+pub returns-clause-ok : goal.returns-clause-ok
+returns-clause-ok g c =
+    end_accepted c.nothing_behind.result _ _ _ _ _ _ _ _ c.in_ok-last_line.ensures.ok c.nothing_behind.ensures.ok
+
+pub returns-clause-err : goal.returns-clause-err
+returns-clause-err g c =
+    behind_stops c.nothing_behind.result _ _ _ _ _ _ _ _ c.in_ok-last_line.ensures.ok c.nothing_behind.ensures.err

@@ -1,0 +1,19 @@
+use Rattle.std.proofs.lemmas.Result.{err_from_is_err_and}
+use Rattle.sb_check.proofs.EndTurns.{last_taken, last_refused, last_missing}
+use Rattle.sb_check.proofs.checker.Checker.last_turn.Goals as goal
+
+pub returns-in_err-take_last-in-Line-clause-err : goal.returns-in_err-take_last-in-Line-clause-err
+returns-in_err-take_last-in-Line-clause-err g c =
+    let e = err_from_is_err_and c.from_residual-in_err-take_last-in-Line.result
+    c.from_residual-in_err-take_last-in-Line.ensures.1 in
+    last_refused c.from_residual-in_err-take_last-in-Line.result e.0 _ _ c.in-Line.ended _ c.line.result.now _ _ _ _
+    e.1 e.2 c.in-Line.is c.in_ok-ended.ensures.ok c.line.ensures c.in_err-take_last-in-Line.ensures.err
+
+pub returns-in_ok-take_last-in-Line-clause-ok : goal.returns-in_ok-take_last-in-Line-clause-ok
+returns-in_ok-take_last-in-Line-clause-ok g c =
+    last_taken c.in_ok-take_last-in-Line.field-0 _ c.in-Line.ended _ _ c.line.result.now _ _ _ _ c.in-Line.is
+    c.in_ok-ended.ensures.ok c.line.ensures c.in_ok-take_last-in-Line.ensures.ok
+
+pub returns-in-End-clause-err : goal.returns-in-End-clause-err
+returns-in-End-clause-err g c =
+    last_missing c.missing_line.result _ _ _ _ _ _ c.missing_line.ensures c.in-End.is c.in_ok-ended.ensures.ok

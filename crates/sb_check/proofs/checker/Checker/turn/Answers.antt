@@ -1,0 +1,20 @@
+use Rattle.std.proofs.lemmas.Result.{err_from_is_err_and}
+use Rattle.sb_check.proofs.CheckTurns.{turn_taken, turn_refused, turn_ended}
+use Rattle.sb_check.proofs.checker.Checker.turn.Goals as goal
+
+pub returns-in_err-take-in-Line-clause-err : goal.returns-in_err-take-in-Line-clause-err
+returns-in_err-take-in-Line-clause-err g c =
+    let e = err_from_is_err_and c.from_residual-in_err-take-in-Line.result
+    c.from_residual-in_err-take-in-Line.ensures.1 in
+    turn_refused c.from_residual-in_err-take-in-Line.result e.0 _ _ c.in-Line.ended _ c.line.result.now _ _ _ _ e.1 e.2
+    c.refusal_is_final.ensures c.in-Line.is c.in_ok-ended.ensures.ok c.line.ensures
+    c.in_err-take-in-Line.ensures.err
+
+pub returns-in_ok-take-in-Line-clause-ok : goal.returns-in_ok-take-in-Line-clause-ok
+returns-in_ok-take-in-Line-clause-ok g c =
+    turn_taken c.in_ok-take-in-Line.field-0 _ c.in-Line.ended _ _ c.line.result.now _ _ _ _ c.in-Line.is
+    c.in_ok-ended.ensures.ok c.line.ensures c.in_ok-take-in-Line.ensures.ok
+
+pub returns-in-End-clause-err : goal.returns-in-End-clause-err
+returns-in-End-clause-err g c =
+    turn_ended c.missing_line.result _ _ _ _ _ _ c.missing_line.ensures c.in-End.is c.in_ok-ended.ensures.ok

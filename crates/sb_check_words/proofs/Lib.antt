@@ -1,2 +1,0 @@
-mod NoFault
-mod RequiredLemmas

@@ -1,4 +1,0 @@
-pub mod ThroughFacts
-pub mod ReadingOn
-pub mod CheckTurns
-pub mod EndTurns

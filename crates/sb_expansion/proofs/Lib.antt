@@ -1,4 +1,0 @@
-pub mod Between
-pub mod Counts
-pub mod Deciding
-pub mod Gathered

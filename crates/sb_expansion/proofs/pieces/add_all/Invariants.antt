@@ -1,8 +1,0 @@
-use Rattle.std.proofs.Common.{◌≡◌, ◌++◌, drop}
-use Rattle.sb_expansion.specs.Pieces.{pieces_to}
-use Rattle.sb_expansion.proofs.pieces.add_all.Given as goal
-
-abbrev pub invariant-loop-range : goal.invariant-loop-range
-invariant-loop-range l =
-    l.pieces.items ++ pieces_to l.target (drop l.range-index l.ranges)
-    ≡ l.initial.pieces.items ++ pieces_to l.target l.ranges

@@ -1,0 +1,5 @@
+pub mod CallerLemmas
+pub mod PieceLemmas
+pub mod EntryLemmas
+pub mod LineLemmas
+pub mod SearchLemmas

@@ -1,5 +1,0 @@
-mod Asking
-mod Entering
-mod Growing
-mod Taking
-mod Wrong

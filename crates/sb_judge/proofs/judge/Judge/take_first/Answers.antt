@@ -1,4 +1,0 @@
-use Rattle.sb_judge.proofs.judge.Judge.take_first.Goals as goal
-
-pub returns-in-Header-clause-err : goal.returns-in-Header-clause-err
-returns-in-Header-clause-err c = rw c.in-Header.is c.begin.ensures.err

@@ -1,0 +1,14 @@
+use Rattle.std.proofs.Common.{refl}
+use Rattle.sb_lang.specs.Regex.{neg}
+use Rattle.sb_regex.specs.Numbered.{regex_at}
+use Rattle.sb_rules.proofs.Made.{one-made}
+use Rattle.sb_rules.proofs.known.KnownRegexes.made_not.Goals as goal
+
+pub returns-clause-made : goal.returns-clause-made
+returns-clause-made c =
+    let rs = c.args.arena.now in (
+      neg (regex_at rs c.in_ok-id.id),
+      one-made rs c.args.self.now.order neg c.args.a c.in_ok-id.id c.in_ok-id.ensures,
+      refl,
+      c.in_ok-not.ensures.normal,
+    )

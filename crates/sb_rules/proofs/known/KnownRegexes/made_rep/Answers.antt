@@ -1,0 +1,15 @@
+use Rattle.std.proofs.Common.{refl}
+use Rattle.sb_lang.specs.Regex.{rep}
+use Rattle.sb_regex.specs.Numbered.{regex_at}
+use Rattle.sb_rules.proofs.Made.{one-made}
+use Rattle.sb_rules.proofs.known.KnownRegexes.made_rep.Goals as goal
+
+pub returns-clause-made : goal.returns-clause-made
+returns-clause-made c =
+    let rs = c.args.arena.now in (
+      rep (regex_at rs c.in_ok-id.id) c.args.least c.args.most,
+      one-made rs c.args.self.now.order (λ r. rep r c.args.least c.args.most) c.args.a c.in_ok-id.id
+          c.in_ok-id.ensures,
+      refl,
+      c.in_ok-rep.ensures.normal,
+    )

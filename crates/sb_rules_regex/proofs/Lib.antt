@@ -1,9 +1,0 @@
-pub mod Buried
-pub mod CallerLemmas
-pub mod DeadFacts
-pub mod Defined
-pub mod Judged
-pub mod Loops
-pub mod Made
-pub mod Narrowing
-pub mod Shapes

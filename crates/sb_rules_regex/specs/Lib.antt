@@ -1,4 +1,0 @@
-pub mod Answers
-pub mod Known
-pub mod Making
-pub mod Burying
