@@ -9,7 +9,7 @@ use Rattle.sb_rulebook.specs.Judging.{accepted, refused}
 use Rattle.sb_check.specs.declared.check.CheckStatus.{CheckStatus}
 use Rattle.sb_check.specs.declared.check.CheckStatus.TheVariants as status
 use Rattle.sb_check.specs.Running.{Asked, IsAsked, AreHeld, Run, RunOf, CountsFaults, MeansSo, opened}
-use Rattle.sb_outcome.specs.Laws.{OneOutcome}
+use Rattle.sb_sound.specs.OutcomeLaws.{OneOutcome}
 use Rattle.sb_both.specs.Both.{Confirms, IsConfirmed}
 use Rattle.sb_both.specs.Runs.{Proves, script_name, proof_name, checker_words, of_checker}
 use Rattle.sb_both.proofs.WordsTaken.{checker_takes, checker_asks}

@@ -9,8 +9,8 @@ use Rattle.sb_session.specs.declared.solve.SolveStatus.TheVariants as status
 use Rattle.sb_session.specs.Solve.{Asked, asked_by, asks_proof, opened, IsBounded}
 use Rattle.sb_session.specs.Certifying.{AreAllEntries, IsCertified}
 use Rattle.sb_rulebook.specs.Accepted.{Accepted}
-use Rattle.sb_outcome.specs.Outcomes.{AreEntriesOf}
-use Rattle.sb_outcome.specs.Laws.{SolvedEntries, WholeEntries}
+use Rattle.sb_sound.specs.Outcomes.{AreEntriesOf}
+use Rattle.sb_sound.specs.OutcomeLaws.{SolvedEntries, WholeEntries}
 use Rattle.sb_both.specs.Runs.{Proves, script_name, solver_words, of_solver}
 use Rattle.sb_both.proofs.WordsTaken.{solver_takes, solver_asks}
 

@@ -7,7 +7,7 @@ use Rattle.sb_rulebook.specs.Reading.{texts_of}
 use Rattle.sb_rulebook.specs.Judging.{accepted, judged}
 use Rattle.sb_rulebook.specs.Accepted.{events}
 use Rattle.sb_sound.specs.TruthLaws.{AreTrue}
-use Rattle.sb_outcome.specs.Outcomes.{AreEntriesOf}
+use Rattle.sb_sound.specs.Outcomes.{AreEntriesOf}
 
 -- The proof is accepted along with all entries of the script, with these verdicts, and each of them is true of the state
 -- in which its check stands.

@@ -2,7 +2,7 @@
 use Rattle.std.specs.Prelude.{ℕ, List, [], ◌∷◌, Some, codes}
 use Rattle.sb_reader.specs.Entries.{Entry}
 use Rattle.sb_rulebook.specs.Accepted.{Accepted}
-use Rattle.sb_outcome.specs.Outcomes.{AreEntriesOf}
+use Rattle.sb_sound.specs.Outcomes.{AreEntriesOf}
 use Rattle.sb_session.specs.Solve as solve
 use Rattle.sb_check.specs.Running as check
 

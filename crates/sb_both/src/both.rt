@@ -7,8 +7,8 @@ ghost use Rattle.sb_both.specs.Both.{IsConfirmed};
 ghost use Rattle.sb_both.specs.Runs.{Proves};
 
 use sb_check::{CheckStatus, check_top};
-use sb_outcome::laws::{one_outcome, solved_entries};
 use sb_session::{SolveStatus, solve_top};
+use sb_sound::outcome::{one_outcome, solved_entries};
 use sb_world::{CalmWorld, OutPort};
 use std::alloc::{AllocError, Global};
 

@@ -15,7 +15,7 @@ use Rattle.sb_sorts.specs.Scopes.{names_in}
 use Rattle.sb_stack.specs.declared.level.Level.{Level}
 use Rattle.sb_stack.specs.Stacked.{Stacked, state_of, assertion_in, assertion_of, first_level, levels_above, have_levels}
 use Rattle.sb_stack.proofs.CallerLemmas.{live_laid}
-use Rattle.sb_reached.specs.SimpleStates.{is_simple}
+use Rattle.sb_sound.specs.SimpleStates.{is_simple}
 use Rattle.sb_rules.specs.Kept.{IsAsked, IsSimple, live_in}
 
 term_as : (ts : List Term) (t : Option ℕ) → term_of (assertion_of ts t) ≡ option_map (term_at ts) t

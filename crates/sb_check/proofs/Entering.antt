@@ -4,7 +4,7 @@ use Rattle.std.specs.declared.vec.Vec.{Vec}
 use Rattle.std.specs.declared.alloc.Global.{Global}
 use Rattle.std.specs.declared.alloc.AllocError.{AllocError}
 use Rattle.sb_meaning.specs.Terms.{Term}
-use Rattle.sb_reached.specs.SimpleStates.{is_simple_state, is_simple_behind}
+use Rattle.sb_sound.specs.SimpleStates.{is_simple_state, is_simple_behind}
 use Rattle.sb_script.specs.State.{State}
 use Rattle.sb_script.specs.Steps as meaning
 use Rattle.sb_rulebook.specs.Kept.{AllKept, nothing_kept}

@@ -8,7 +8,7 @@ use Rattle.sb_script.specs.Replies.{step_of}
 use Rattle.sb_rulebook.specs.Lines.{Said}
 use Rattle.sb_rulebook.specs.Judging.{Event}
 use Rattle.sb_rulebook.specs.Accepted.{events_of, state_behind, events, verdict_lines, said_text}
-use Rattle.sb_outcome.specs.Outcomes.{behind}
+use Rattle.sb_sound.specs.Outcomes.{behind}
 
 same_state : (s t : State) → Some s ≡ Some t → t ≡ s
 same_state s t h = cc

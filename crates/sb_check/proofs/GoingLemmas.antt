@@ -20,7 +20,7 @@ use Rattle.sb_check.specs.Going.{Goes, LeadsTo, said_by}
 use Rattle.sb_proof.specs.declared.line.Said as code
 use Rattle.sb_proof.specs.Lines.{said_in}
 use Rattle.sb_check.specs.declared.check.Run.{Run}
-use Rattle.sb_outcome.specs.Outcomes.{behind}
+use Rattle.sb_sound.specs.Outcomes.{behind}
 use Rattle.sb_check.specs.Texts.{verdict_line}
 use Rattle.sb_check.specs.Sofar.{Sofar, FindsEntry, GoesOn, HasEnded}
 use Rattle.sb_check.proofs.EntryFacts.{behind-more, events-more, verdict_lines-more}

@@ -24,7 +24,7 @@ use Rattle.sb_proof.specs.declared.line.Said as code
 use Rattle.sb_proof.specs.Lines.{said_in}
 use Rattle.sb_check.specs.Going.{said_by, Goes, Fails, ReadsProof, IsRefusedAlong, IsPast}
 use Rattle.sb_check.specs.declared.check.Run.{Run}
-use Rattle.sb_outcome.specs.Outcomes.{GoesAlong}
+use Rattle.sb_sound.specs.Outcomes.{GoesAlong}
 use Rattle.sb_check.specs.Running.{Writes, CutShort, limit}
 use Rattle.sb_check.specs.Texts.{verdict_line}
 use Rattle.sb_check.specs.Sofar.{Sofar, FindsEntry, Stops, is_cut}

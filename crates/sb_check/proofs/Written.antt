@@ -12,7 +12,7 @@ use Rattle.sb_rulebook.specs.Lines.{Said}
 use Rattle.sb_rulebook.specs.Judging.{Outcome, accepted, refused}
 use Rattle.sb_rulebook.specs.Accepted.{answer, verdict_lines}
 use Rattle.sb_check.specs.declared.check.CheckStatus.TheVariants as status
-use Rattle.sb_outcome.specs.Outcomes.{IsOutcome}
+use Rattle.sb_sound.specs.Outcomes.{IsOutcome}
 use Rattle.sb_check.specs.Running.{Writes, CutShort, RunOf, WrongWords, status_by}
 use Rattle.sb_check.specs.Sofar.{HasAccepted}
 use Rattle.sb_check.specs.Texts.{accepted_line, refusal_line}

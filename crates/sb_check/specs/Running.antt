@@ -15,7 +15,7 @@ use Rattle.sb_rulebook.specs.Lines.{Said}
 use Rattle.sb_rulebook.specs.Judging.{Outcome, accepted, refused, goes_on, judged}
 use Rattle.sb_rulebook.specs.Accepted.{answer, events}
 use Rattle.sb_sound.specs.TruthLaws.{AreTrue}
-use Rattle.sb_outcome.specs.Outcomes.{IsOutcome, AreEntriesOf}
+use Rattle.sb_sound.specs.Outcomes.{IsOutcome, AreEntriesOf}
 use Rattle.sb_check.specs.declared.check.CheckStatus.{CheckStatus}
 use Rattle.sb_check.specs.declared.check.CheckStatus.TheVariants.{Accepted, Refused, Usage, Fault, NoMemory, InputLimit}
 

@@ -17,7 +17,7 @@ use Rattle.sb_check.specs.Reasons.{reason_in}
 use Rattle.sb_check.specs.declared.checker.CheckerFault.{CheckerFault}
 use Rattle.sb_check.specs.declared.checker.CheckerFault.TheVariants as fault
 use Rattle.sb_check.specs.declared.check.Run.{Run}
-use Rattle.sb_outcome.specs.Outcomes.{behind, AreEntriesOf}
+use Rattle.sb_sound.specs.Outcomes.{behind, AreEntriesOf}
 use Rattle.sb_check.specs.Running.{Writes, CutShort, limit}
 
 -- These are the bytes of the script and of the proof. Entries in front of the script were gone through, and lead to

@@ -1,7 +1,7 @@
 -- Private: how far a proof has come along a script, as far as the judge knows.
 use Rattle.std.specs.Prelude.{◌≡◌, ℕ, Bool, true, false, List, [], ◌∷◌, ◌++◌, Option, Some, None}
 use Rattle.sb_lit.specs.declared.clause.Lit.{Lit}
-use Rattle.sb_reached.specs.SimpleStates.{is_simple_state}
+use Rattle.sb_sound.specs.SimpleStates.{is_simple_state}
 use Rattle.sb_script.specs.State.{State}
 use Rattle.sb_proof.specs.declared.line.Line.{Line}
 use Rattle.sb_proof.specs.declared.line.Line.TheVariants as code

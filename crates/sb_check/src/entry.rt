@@ -15,8 +15,8 @@ ghost use Rattle.sb_check.specs.Entering.{Enters, Keeps};
 use crate::judge::Judge;
 use sb_models::models_stay;
 use sb_problem::normals_stay;
-use sb_reached::laws::entries_stay_simple;
 use sb_reader::Next;
+use sb_sound::reached::entries_stay_simple;
 use sb_stack::Step;
 use std::alloc::AllocError;
 

@@ -21,8 +21,8 @@ use sb_models::Models;
 use sb_plain::right_stays;
 use sb_problem::normals_stay;
 use sb_proof::{Line, Said, Value, read_line};
-use sb_reached::laws::live_are_simple;
 use sb_rules::{Fault, Kept};
+use sb_sound::reached::live_are_simple;
 use sb_stack::Stack;
 use std::alloc::{AllocError, Global};
 

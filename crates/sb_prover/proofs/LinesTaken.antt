@@ -17,7 +17,7 @@ use Rattle.sb_rulebook.specs.Verdicts.{Question, refusal_of}
 use Rattle.sb_rulebook.specs.Judging.{asks, Phase, at_rest, at_check, at_end, behind_end, stopped, Progress, met, meets, takes_verdict, takes_kept, takes_at_check, takes_in, takes_read, takes, through}
 use Rattle.sb_proof.specs.Tapes.{with_bytes}
 use Rattle.sb_trace.specs.Putting.{Puts, follow_all}
-use Rattle.sb_certified.specs.Certified.{SaysVerdict}
+use Rattle.sb_sound.specs.Certified.{SaysVerdict}
 use Rattle.sb_prover.specs.Saying.{first_lines, Tells, IsSaid}
 
 abbrev texts : List Line → List LineText

@@ -20,7 +20,7 @@ use Rattle.sb_atoms.specs.Numbered.{HaveRegexesBelow}
 use Rattle.sb_trace.specs.Tracking.{Traced, Tracks}
 use Rattle.sb_trace.specs.Putting.{Puts}
 use Rattle.sb_trace.proofs.CallerLemmas.{puts_none}
-use Rattle.sb_certified.specs.Certified.{SaysVerdict, last_lines}
+use Rattle.sb_sound.specs.Certified.{SaysVerdict, last_lines}
 use Rattle.sb_refute.specs.Backing.{Backing, Backs}
 use Rattle.sb_refute.specs.declared.refute.Refuted.TheVariants as refuted
 use Rattle.sb_script.specs.Fragment.{in_fragment}

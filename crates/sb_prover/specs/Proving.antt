@@ -13,7 +13,7 @@ use Rattle.sb_rulebook.specs.Kept.{AllKept, Asked, nothing_kept}
 use Rattle.sb_rulebook.specs.Brought.{newest_format}
 use Rattle.sb_rulebook.specs.Verdicts.{Question}
 use Rattle.sb_rulebook.specs.Judging.{Event, leaves_above, leaves_all, at_rest, Progress}
-use Rattle.sb_certified.specs.Certified.{Proves}
+use Rattle.sb_sound.specs.Certified.{Proves}
 use Rattle.sb_proof.specs.Tapes.{with_bytes}
 use Rattle.sb_atoms.specs.Numbered.{HaveRegexesBelow}
 use Rattle.sb_meaning.specs.Terms.{Term}

@@ -10,7 +10,7 @@ use Rattle.sb_rulebook.specs.LineLaws.{bytes_of}
 use Rattle.sb_rulebook.specs.Kept.{AllKept, Asked, most_counted, count_again}
 use Rattle.sb_rulebook.specs.Verdicts.{Question}
 use Rattle.sb_rulebook.specs.Judging.{Progress}
-use Rattle.sb_certified.specs.Certified.{Proves}
+use Rattle.sb_sound.specs.Certified.{Proves}
 use Rattle.sb_proof.specs.Tapes.{with_bytes}
 use Rattle.sb_lang.specs.Regex.{Regex}
 use Rattle.sb_lit.specs.Kept.{kept_at}

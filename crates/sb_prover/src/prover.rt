@@ -10,7 +10,7 @@ ghost use Rattle.sb_meaning.specs.Terms.{Term};
 ghost use Rattle.sb_rulebook.specs.Kept.{AllKept, Asked};
 ghost use Rattle.sb_rulebook.specs.LineLaws.{bytes_of};
 ghost use Rattle.sb_rulebook.specs.Lines.{text_of};
-ghost use Rattle.sb_certified.specs.Certified.{last_lines};
+ghost use Rattle.sb_sound.specs.Certified.{last_lines};
 ghost use Rattle.sb_sound.specs.SoundLaws.{AreTerms};
 ghost use Rattle.sb_proof.specs.Tapes.{with_bytes};
 ghost use Rattle.sb_stack.specs.Stacked.{Stacked, state_of, live_constants, values_at};

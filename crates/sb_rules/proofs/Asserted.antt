@@ -19,7 +19,7 @@ use Rattle.sb_rulebook.specs.Parts.{together, regex_of}
 use Rattle.sb_rulebook.specs.Translation.{Argument, translation, arguments_of, membership, conjunction, positive, negated, equivalence, truth_equality, number_equality, word_equality, equality, of_literals, of_neighbours, of_pairs, all_true}
 use Rattle.sb_atoms.specs.Numbered.{over, atoms_in}
 use Rattle.sb_atoms.specs.Translated.{brought_translation}
-use Rattle.sb_reached.specs.SimpleStates.{is_plain_text, are_alike, is_simple, are_simple}
+use Rattle.sb_sound.specs.SimpleStates.{is_plain_text, are_alike, is_simple, are_simple}
 
 -- Atoms that are brought.
 

@@ -21,7 +21,7 @@ use Rattle.sb_rulebook.specs.Translation.{translation}
 use Rattle.sb_atoms.specs.Numbered.{over, atoms_in}
 use Rattle.sb_atoms.specs.Translated.{brought_translation}
 use Rattle.sb_rules.specs.declared.kept.Kept.{Kept}
-use Rattle.sb_reached.specs.SimpleStates.{is_simple}
+use Rattle.sb_sound.specs.SimpleStates.{is_simple}
 use Rattle.sb_rules.specs.Refuting.{IsFound}
 use Rattle.sb_rules.specs.Kept.{kept_in, live_in}
 use Rattle.sb_rules.proofs.Asserted.{simple_translation}

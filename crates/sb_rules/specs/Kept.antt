@@ -11,7 +11,7 @@ use Rattle.sb_term.specs.Numbered.{term_at}
 use Rattle.sb_term.specs.Symbols.{sort_in}
 use Rattle.sb_term.specs.declared.sort.Sort as code
 use Rattle.sb_term.specs.declared.assertion.Assertion.{Assertion}
-use Rattle.sb_reached.specs.SimpleStates.{is_simple}
+use Rattle.sb_sound.specs.SimpleStates.{is_simple}
 use Rattle.sb_rulebook.specs.Brought.{is_brought_atom}
 use Rattle.sb_rulebook.specs.Kept.{AllKept, Asked, dropped_above, all_dropped}
 use Rattle.sb_rules.specs.declared.kept.Kept.{Kept}

@@ -8,7 +8,7 @@ ghost use Rattle.sb_rulebook.specs.ClauseRules.{is_translation};
 ghost use Rattle.sb_rulebook.specs.Splits.{is_empty};
 ghost use Rattle.sb_proof.specs.Lines.{rule_in};
 ghost use Rattle.sb_term.specs.Numbered.{term_at};
-ghost use Rattle.sb_reached.specs.SimpleStates.{is_simple};
+ghost use Rattle.sb_sound.specs.SimpleStates.{is_simple};
 ghost use Rattle.sb_rules.specs.Kept.{IsWhole, IsOver, KeepsTerms, HasNumberBelow, IsSimple, kept_in, live_in};
 ghost use Rattle.sb_rules.specs.Judged.{Judges, Meets};
 ghost use Rattle.sb_rules.specs.Refuting.{IsLearned, IsFound};

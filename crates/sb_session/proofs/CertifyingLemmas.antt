@@ -8,8 +8,8 @@ use Rattle.sb_world.proofs.CallerLemmas.{writing_all-append}
 use Rattle.sb_reader.specs.Entries.{Entry}
 use Rattle.sb_script.specs.Scripts.{Along, unfinished_line}
 use Rattle.sb_rulebook.specs.Judging.{Progress}
-use Rattle.sb_certified.specs.Certified.{CertifiesOn, last_lines}
-use Rattle.sb_certified.specs.CertifiedLaws.{CertifiedIsAccepted, CertifiedToExitIsAccepted}
+use Rattle.sb_sound.specs.Certified.{CertifiesOn, last_lines}
+use Rattle.sb_sound.specs.CertifiedLaws.{CertifiedIsAccepted, CertifiedToExitIsAccepted}
 use Rattle.sb_session.specs.declared.solve.SolveStatus.{SolveStatus}
 use Rattle.sb_session.specs.declared.solve.SolveStatus.TheVariants as status
 use Rattle.sb_session.specs.Commanding.{Stage, Answers, with_lines}

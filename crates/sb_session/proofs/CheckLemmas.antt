@@ -19,7 +19,7 @@ use Rattle.sb_rulebook.specs.Kept.{Asked}
 use Rattle.sb_rulebook.specs.Accepted.{question_in, asked_in}
 use Rattle.sb_sound.specs.ScriptLaws.{IsFit}
 use Rattle.sb_rulebook.specs.Judging.{Progress}
-use Rattle.sb_certified.specs.Certified.{Proves, last_lines}
+use Rattle.sb_sound.specs.Certified.{Proves, last_lines}
 use Rattle.sb_proof.specs.Tapes.{with_bytes}
 use Rattle.sb_prover.specs.Proving.{Proving, IsAbreast, IsProved, AbreastStays, HaveLevels, IsTrue}
 use Rattle.sb_stack.specs.Stacked.{Stacked, state_of, without_words}

@@ -11,8 +11,8 @@ use Rattle.sb_script.specs.Replies.{step_of}
 use Rattle.sb_script.specs.Verdicts.{Verdict, verdict_text, settled, Finding, FindsUnproved, IsReply}
 use Rattle.sb_rulebook.specs.Accepted.{event_of_leaving, events_of}
 use Rattle.sb_rulebook.specs.Judging.{Event, Progress}
-use Rattle.sb_certified.specs.Certified.{behind, FindsProved}
-use Rattle.sb_certified.proofs.CallerLemmas.{is_exits, entry_exits}
+use Rattle.sb_sound.specs.Certified.{behind, FindsProved}
+use Rattle.sb_sound.proofs.CallerLemmas.{is_exits, entry_exits}
 use Rattle.sb_term.specs.declared.assertion.Assertion.{Assertion}
 use Rattle.sb_stack.specs.declared.stack.Step.{Step}
 use Rattle.sb_stack.specs.declared.stack.Step.TheVariants as code

@@ -11,7 +11,7 @@ use Rattle.sb_meaning.specs.Terms.{Term}
 use Rattle.sb_rulebook.specs.Accepted.{asked_in}
 use Rattle.sb_rulebook.specs.Kept.{Asked}
 use Rattle.sb_rulebook.specs.Judging.{Event, Progress, met}
-use Rattle.sb_certified.specs.Certified.{behind, FindsProved}
+use Rattle.sb_sound.specs.Certified.{behind, FindsProved}
 use Rattle.sb_prover.specs.Proving.{Proving, IsAbreast, HaveLevels, AreLow, leaving, IsTrue, GoesDown}
 use Rattle.sb_stack.specs.Stacked.{Stacked, state_of}
 use Rattle.sb_stack.specs.declared.verdict.Verdict as code

@@ -12,7 +12,7 @@ use Rattle.sb_script.specs.State.{State}
 use Rattle.sb_script.specs.Replies.{is_exit}
 use Rattle.sb_script.specs.Verdicts.{Verdict, Replies, FindsUnproved}
 use Rattle.sb_rulebook.specs.Judging.{Progress}
-use Rattle.sb_certified.specs.Certified.{Certifies}
+use Rattle.sb_sound.specs.Certified.{Certifies}
 use Rattle.sb_prover.specs.Proving.{Proving, IsAbreast}
 use Rattle.sb_stack.specs.Stacked as stack
 use Rattle.sb_stack.specs.Stacked.{state_of}

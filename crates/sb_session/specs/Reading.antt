@@ -7,7 +7,7 @@ use Rattle.sb_world.specs.declared.OutPort.TheVariants as out_port
 use Rattle.sb_reader.specs.Tokens.{is_open_gap}
 use Rattle.sb_reader.specs.Entries.{Entry, HoldsNoEntry, Begins}
 use Rattle.sb_rulebook.specs.Judging.{Progress, beginning}
-use Rattle.sb_certified.specs.Certified.{last_lines}
+use Rattle.sb_sound.specs.Certified.{last_lines}
 use Rattle.sb_script.specs.State as meaning
 use Rattle.sb_script.specs.Replies.{is_exit}
 use Rattle.sb_script.specs.Scripts.{Along, unfinished_line}

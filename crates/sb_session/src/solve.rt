@@ -19,8 +19,8 @@ ghost use Rattle.sb_session.specs.Underway.{Turns, StaysOpen, IsRead, AllRead};
 ghost use Rattle.sb_session.specs.Solve.{Asked, asked_for, asked_by, asks_proof, created, opened, Run, WrongWords, CountsFaults, CutShort, CutInText, IsBounded};
 
 use crate::command::{Session, SessionFault, Went};
-use sb_certified::laws::{certified_is_accepted, certified_to_exit_is_accepted};
 use sb_reader::{Ending, Feed, Next};
+use sb_sound::certified::{certified_is_accepted, certified_to_exit_is_accepted};
 use sb_words::NoRun;
 use sb_words::solver::read_words;
 use sb_world::{InPort, OutPort, World, WorldError, write_all};

@@ -1,6 +1,6 @@
 -- What a caller cites of literals: lists of them that ascend, equal ones in their order, those of a list that pass a
 -- test, and their truth; of tables of atoms: the truth at a place, the atoms in front that an atom names, and more atoms;
--- and of clauses that stay where levels are left.
+-- of clauses that stay where levels are left; of lines that are whole, and of the step that ends a run.
 pub use Rattle.sb_sound.proofs.HintForms.{ascend_form}
 pub use Rattle.sb_sound.proofs.GateLiterals.{same_literal}
 pub use Rattle.sb_sound.proofs.ClauseSets.{any_at, literal_holds-negation, any_of_both, any_negated}
@@ -8,3 +8,5 @@ pub use Rattle.sb_sound.proofs.TableFacts.{IsTruthAt, truth_at_place, truths_fro
 pub use Rattle.sb_sound.proofs.TableGrowth.{truths_from-append, length-truths_of, any_holds-front}
 pub use Rattle.sb_sound.proofs.SoundLevels.{kept_at-up_to}
 pub use Rattle.sb_sound.proofs.Accepting.{Contains-slice_get}
+pub use Rattle.sb_sound.proofs.WholeLines.{whole_none, whole_both, whole_printed}
+pub use Rattle.sb_sound.proofs.EventFacts.{is_exits, entry_exits}

@@ -18,3 +18,10 @@ pub mod RelevantLaws
 pub mod ClauseLaws
 pub mod RegexLaws
 pub mod TruthLaws
+pub mod SimpleStates
+pub mod SimpleExamples
+pub mod Certified
+pub mod CertifiedLaws
+pub mod CertifiedExamples
+pub mod Outcomes
+pub mod OutcomeLaws

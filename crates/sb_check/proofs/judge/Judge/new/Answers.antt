@@ -1,5 +1,5 @@
 use Rattle.std.proofs.Common.{refl, sym, ap}
-use Rattle.sb_reached.specs.SimpleStates.{is_simple_state}
+use Rattle.sb_sound.specs.SimpleStates.{is_simple_state}
 use Rattle.sb_rulebook.specs.Kept.{nothing_kept}
 use Rattle.sb_check.proofs.judge.Judge.new.Goals as goal
 

@@ -1,5 +1,0 @@
-pub mod CallerLemmas
-mod WholeLines
-mod StepsAlike
-mod EventFacts
-mod AlongFacts

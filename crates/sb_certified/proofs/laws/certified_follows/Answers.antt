@@ -1,6 +1,0 @@
-use Rattle.sb_certified.proofs.AlongFacts.{follows_so_far}
-use Rattle.sb_certified.proofs.laws.certified_follows.Goals as goal
-
-pub returns : goal.returns
-returns c =
-    follows_so_far c.texts_are_lines.ensures c.check_goes_through_in_order.ensures c.events_are_met_in_order.ensures

@@ -1,6 +1,0 @@
-use Rattle.sb_certified.proofs.AlongFacts.{to_exit_accepted}
-use Rattle.sb_certified.proofs.laws.certified_to_exit_is_accepted.Goals as goal
-
-pub returns : goal.returns
-returns c =
-    to_exit_accepted c.texts_are_lines.ensures c.check_goes_through_in_order.ensures c.events_are_met_in_order.ensures

@@ -1,5 +1,0 @@
-use Rattle.sb_outcome.proofs.Outcome.{one_outcome}
-use Rattle.sb_outcome.proofs.laws.one_outcome.Goals as goal
-
-pub returns : goal.returns
-returns c = one_outcome c.one_entry.ensures.one c.no_entry.ensures

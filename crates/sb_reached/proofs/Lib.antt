@@ -1,3 +1,0 @@
-mod SimpleTerms
-mod ReachedCommands
-mod SimpleSteps

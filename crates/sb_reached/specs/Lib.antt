@@ -1,2 +1,0 @@
-pub mod SimpleStates
-pub mod SimpleExamples

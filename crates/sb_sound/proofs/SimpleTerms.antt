@@ -1,0 +1,592 @@
+-- Each term that is read is simple where it is a truth value, a String constant or a word where it is a text, and over
+-- literals or with a constant in it where it is a regular expression.
+use Rattle.std.proofs.Common.{◌≡◌, ℕ, Bool, true, false, not, ◌&&◌, ◌||◌, ◌==◌, nat_le, if◌then◌else◌, List, [], ◌∷◌, map, length, codes, Option, Some, None, Result, Ok, Err, refl, sym, ap, ◌∙◌, subst}
+use Rattle.std.specs.Prelude.{filter, is_some, is_none}
+use Rattle.std.specs.List.{list_all}
+use Rattle.std.proofs.lemmas.Bool.{and_parts, and_from, false≢true}
+use Rattle.sb_word.specs.LiteralWords.{character_of, word_of_literal, first_bad}
+use Rattle.sb_reader.specs.Forms.{Form, Forms, Symbol, QuotedSymbol, Keyword, Numeral, OtherNumber, Words, Group, none, more}
+use Rattle.sb_meaning.specs.Terms.{Sort, boolean, integer, text, reglan, Term, Terms, constant, word, numeral, apply, parameter, no_terms, with_term, terms_in, terms_of}
+use Rattle.sb_meaning.specs.Terms as symbol
+use Rattle.sb_meaning.specs.Sorts.{sort_of, is_same_sort, are_sorts}
+use Rattle.sb_script.specs.Names.{Name, is_name, is_reserved, begins_term}
+use Rattle.sb_script.specs.Brought.{is_brought_symbol, is_regex, are_regexes}
+use Rattle.sb_script.specs.Pieces.{is_ground, are_ground}
+use Rattle.sb_script.specs.Scopes.{Named, Naming, a_constant, a_definition, a_marked_name, a_term, named}
+use Rattle.sb_script.specs.Symbols.{found_in, symbols_of_theories, is_brought_row, symbol_named, is_indexed, is_left_out}
+use Rattle.sb_script.specs.Faults.{Fault, unknown_symbol, wrong_count, wrong_sort, unsupported, malformed, bad_index, numeral_too_large, bad_literal}
+use Rattle.sb_script.specs.Texts.{read_text}
+use Rattle.sb_script.specs.Heads.{Head, head_constant, head_symbol, head_definition, head_term, head_of, head_of_theory, hexadecimal_digits, character_word, indices_of, are_small_indices, with_indices, without_indices, judged, joined, made, unless, read_head, applied_to, read_indexed}
+use Rattle.sb_script.specs.Reading.{◌>>=◌, read_name, read_index_list, read_reserved, read, read_list, read_all, read_list_head}
+use Rattle.sb_script.specs.ReadingLaws.{if_read}
+use Rattle.sb_script.proofs.CallerLemmas.{same_sort, same_sort_itself, terms_in_of}
+use Rattle.sb_sound.specs.SimpleStates.{is_plain_text, are_alike, is_simple, are_simple, is_simple_named, is_simple_naming}
+
+-- Tables.
+
+-- what there is passes the test
+abbrev pub if_some : {A : Type 0} → (A → Bool) → Option A → Bool
+if_some test (Some x) = test x
+if_some test None = true
+
+pub some_by : {A : Type 0} (p : A → Bool) (b : Bool) (x y : Option A) → if_some p x ≡ true → if_some p y ≡ true
+    → if_some p (if b then x else y) ≡ true
+some_by p true x y h k = h
+some_by p false x y h k = k
+
+pub found_passes : {A : Type 0} (p : A → Bool) (rows : List (Name × A)) → list_all (λ row. p row.1) rows ≡ true
+    → (name : Name) → if_some p (found_in rows name) ≡ true
+found_passes p [] all name = refl
+found_passes p (row ∷ rows) all name =
+    let parts = and_parts (p row.1) (list_all (λ r. p r.1) rows) all in
+    some_by p (is_name name row.0) (Some row.1) (found_in rows name) parts.0 (found_passes p rows parts.1 name)
+
+-- Terms that may be read.
+
+-- over literals, or with a constant in it
+abbrev is_plain_regex : Term → Bool
+is_plain_regex R = is_regex R || not (is_ground R)
+
+-- what a term of the sort looks like
+abbrev is_shallow_of : Sort → Term → Bool
+is_shallow_of boolean t = is_simple t
+is_shallow_of integer t = false
+is_shallow_of text t = is_plain_text t
+is_shallow_of reglan t = is_plain_regex t
+
+abbrev is_shallow : Term → Bool
+is_shallow t = is_shallow_of (sort_of t) t
+
+shallow_of : (sort : Sort) (t : Term) → is_shallow t ≡ true → is_same_sort sort (sort_of t) ≡ true
+    → is_shallow_of sort t ≡ true
+shallow_of sort t h same = subst (λ (k : Sort). is_shallow_of k t ≡ true) (same_sort sort (sort_of t) same) h
+
+-- Arguments that a symbol takes.
+
+taken_sorts : (count sorts left : Bool)
+    → (if not count then Some wrong_count
+    else if not sorts then Some wrong_sort
+    else if left then Some unsupported
+    else None) ≡ None → sorts ≡ true
+taken_sorts false sorts left h = absurd (Prim.cc (h))
+taken_sorts true true left h = refl
+taken_sorts true false left h = absurd (Prim.cc (h))
+
+-- the test of no argument
+by_none : (p : Terms → Bool) → p no_terms ≡ true → (ts : List Term) → are_sorts [] (map sort_of ts) ≡ true
+    → p (terms_of ts) ≡ true
+by_none p f [] taken = f
+by_none p f (t ∷ ts) taken = absurd (false≢true taken)
+
+-- the test of one argument of this sort
+by_one : (k : Sort) (p : Terms → Bool)
+    → ((t : Term) → is_shallow_of k t ≡ true → p (with_term t no_terms) ≡ true)
+    → (ts : List Term) → list_all is_shallow ts ≡ true → are_sorts (k ∷ []) (map sort_of ts) ≡ true
+    → p (terms_of ts) ≡ true
+by_one k p f [] all taken = absurd (false≢true taken)
+by_one k p f (t ∷ []) all taken =
+    f t (shallow_of k t (and_parts (is_shallow t) true all).0 (and_parts (is_same_sort k (sort_of t)) true taken).0)
+by_one k p f (t ∷ u ∷ us) all taken = absurd (false≢true (and_parts (is_same_sort k (sort_of t)) false taken).1)
+
+-- the test of two arguments of these sorts
+by_two : (k l : Sort) (p : Terms → Bool)
+    → ((t u : Term) → is_shallow_of k t ≡ true → is_shallow_of l u ≡ true
+    → p (with_term t (with_term u no_terms)) ≡ true)
+    → (ts : List Term) → list_all is_shallow ts ≡ true → are_sorts (k ∷ l ∷ []) (map sort_of ts) ≡ true
+    → p (terms_of ts) ≡ true
+by_two k l p f [] all taken = absurd (false≢true taken)
+by_two k l p f (t ∷ ts) all taken =
+    let here = and_parts (is_shallow t) (list_all is_shallow ts) all in
+    let same = and_parts (is_same_sort k (sort_of t)) (are_sorts (l ∷ []) (map sort_of ts)) taken in
+    by_one l (λ terms. p (with_term t terms)) (λ u h. f t u (shallow_of k t here.0 same.0) h) ts here.1 same.1
+
+-- Boolean structure.
+
+each_simple : (ts : List Term) → list_all is_shallow ts ≡ true
+    → list_all (is_same_sort boolean) (map sort_of ts) ≡ true → are_simple (terms_of ts) ≡ true
+each_simple [] all taken = refl
+each_simple (t ∷ ts) all taken =
+    let here = and_parts (is_shallow t) (list_all is_shallow ts) all in
+    let same = and_parts (is_same_sort boolean (sort_of t)) (list_all (is_same_sort boolean) (map sort_of ts)) taken in
+    and_from (is_simple t) (are_simple (terms_of ts)) (shallow_of boolean t here.0 same.0)
+    (each_simple ts here.1 same.1)
+
+-- so many or more of sort Bool
+simple_of_many : (least : ℕ) (p : Terms → Bool) → ((terms : Terms) → are_simple terms ≡ true → p terms ≡ true)
+    → (ts : List Term) → list_all is_shallow ts ≡ true
+    → (if not (nat_le least (length (map sort_of ts))) then Some wrong_count
+    else if not (list_all (is_same_sort boolean) (map sort_of ts)) then Some wrong_sort
+    else if false then Some unsupported
+    else None) ≡ None → p (terms_of ts) ≡ true
+simple_of_many least p f ts all taken =
+    f (terms_of ts) (each_simple ts all
+    (taken_sorts (nat_le least (length (map sort_of ts))) (list_all (is_same_sort boolean) (map sort_of ts)) false taken))
+
+-- of one argument the argument, and of more all of them
+simple_joined : (s : symbol.Symbol) → ((terms : Terms) → are_simple terms ≡ true → is_shallow (apply s terms) ≡ true)
+    → (ts : List Term) → list_all is_shallow ts ≡ true → judged symbol.core_and (map sort_of ts) ≡ None
+    → is_shallow (joined s ts) ≡ true
+simple_joined s f [] all taken = absurd (Prim.cc (taken))
+simple_joined s f (t ∷ []) all taken = (and_parts (is_shallow t) true all).0
+simple_joined s f (t ∷ u ∷ ts) all taken =
+    simple_of_many 1 (λ terms. is_shallow (apply s terms)) f (t ∷ u ∷ ts) all taken
+
+-- a choice of two Bool terms by a third
+choice_simple : (ts : List Term) → list_all is_shallow ts ≡ true → judged symbol.core_ite (map sort_of ts) ≡ None
+    → is_simple (apply symbol.core_ite (terms_of ts)) ≡ true
+choice_simple [] all taken = absurd (Prim.cc (taken))
+choice_simple (c ∷ []) all taken = absurd (Prim.cc (taken))
+choice_simple (c ∷ t ∷ []) all taken = absurd (Prim.cc (taken))
+choice_simple (c ∷ t ∷ u ∷ []) all taken =
+    step (is_same_sort boolean (sort_of c)) refl (is_same_sort (sort_of t) (sort_of u)) refl
+    (is_same_sort boolean (sort_of t)) refl taken
+  where
+    step : (a : Bool) → is_same_sort boolean (sort_of c) ≡ a → (b : Bool) → is_same_sort (sort_of t) (sort_of u) ≡ b
+        → (d : Bool) → is_same_sort boolean (sort_of t) ≡ d
+        → (if not (a && b) then Some wrong_sort else if not d then Some unsupported else None) ≡ None
+        → is_simple (apply symbol.core_ite (terms_of (c ∷ t ∷ u ∷ []))) ≡ true
+    step true e true f true g k =
+        each_simple (c ∷ t ∷ u ∷ []) all
+        (and_from (is_same_sort boolean (sort_of c)) (is_same_sort boolean (sort_of t)
+        && (is_same_sort boolean (sort_of u) && true)) e
+        (and_from (is_same_sort boolean (sort_of t)) (is_same_sort boolean (sort_of u) && true) g
+        (and_from (is_same_sort boolean (sort_of u)) true
+        (subst (λ (k : Sort). is_same_sort k (sort_of u) ≡ true) (same_sort boolean (sort_of t) g) f) refl)))
+    step true e true f false g k = absurd (Prim.cc (k))
+    step true e false f d g k = absurd (Prim.cc (k))
+    step false e b f d g k = absurd (Prim.cc (k))
+choice_simple (c ∷ t ∷ u ∷ v ∷ ts) all taken = step (length (map sort_of (c ∷ t ∷ u ∷ v ∷ ts)) == 3) taken
+  where
+    step : (count : Bool)
+        → (if not count then Some wrong_count else Some wrong_sort) ≡ None
+        → is_simple (apply symbol.core_ite (terms_of (c ∷ t ∷ u ∷ v ∷ ts))) ≡ true
+    step true k = absurd (Prim.cc (k))
+    step false k = absurd (Prim.cc (k))
+
+-- Comparisons.
+
+each_text : (ts : List Term) → list_all is_shallow ts ≡ true → list_all (is_same_sort text) (map sort_of ts) ≡ true
+    → list_all is_plain_text ts ≡ true
+each_text [] all taken = refl
+each_text (t ∷ ts) all taken =
+    let here = and_parts (is_shallow t) (list_all is_shallow ts) all in
+    let same = and_parts (is_same_sort text (sort_of t)) (list_all (is_same_sort text) (map sort_of ts)) taken in
+    and_from (is_plain_text t) (list_all is_plain_text ts) (shallow_of text t here.0 same.0) (each_text ts here.1 same.1)
+
+-- two terms or more that are compared
+alike : (ts : List Term) → list_all is_shallow ts ≡ true → judged symbol.core_equal (map sort_of ts) ≡ None
+    → are_alike ts (are_simple (terms_of ts)) ≡ true
+alike [] all taken = absurd (Prim.cc (taken))
+alike (t ∷ []) all taken = absurd (Prim.cc (taken))
+alike (t ∷ u ∷ ts) all taken =
+    step (sort_of t) refl (list_all (is_same_sort (sort_of t)) (map sort_of (u ∷ ts))) refl
+    (counted (nat_le 2 (length (map sort_of (t ∷ u ∷ ts))))
+    (if not (list_all (is_same_sort (sort_of t)) (map sort_of (u ∷ ts))) then Some wrong_sort
+    else if is_same_sort reglan (sort_of t) then Some unsupported
+    else None) taken)
+  where
+    counted : (count : Bool) (o : Option Fault) → (if not count then Some wrong_count else o) ≡ None → o ≡ None
+    counted true o h = h
+    counted false o h = absurd (Prim.cc (h))
+
+    first_same : (k : Sort) → is_same_sort k k ≡ true
+    first_same = same_sort_itself
+
+    of_all : (k : Sort) → sort_of t ≡ k → list_all (is_same_sort (sort_of t)) (map sort_of (u ∷ ts)) ≡ true
+        → list_all (is_same_sort k) (map sort_of (t ∷ u ∷ ts)) ≡ true
+    of_all k e f =
+        and_from (is_same_sort k (sort_of t)) (list_all (is_same_sort k) (map sort_of (u ∷ ts)))
+        (ap (is_same_sort k) e ∙ first_same k)
+        (ap (λ (s : Sort). list_all (is_same_sort s) (map sort_of (u ∷ ts))) (sym e) ∙ f)
+
+    step : (k : Sort) → sort_of t ≡ k → (b : Bool)
+        → list_all (is_same_sort (sort_of t)) (map sort_of (u ∷ ts)) ≡ b
+        → (if not b then Some wrong_sort else if is_same_sort reglan (sort_of t) then Some unsupported else None) ≡ None
+        → (elim (sort_of t) as (λ _. Bool) [
+          | boolean ↦ are_simple (terms_of (t ∷ u ∷ ts))
+          | integer ↦ false
+          | text ↦ list_all is_plain_text (t ∷ u ∷ ts)
+          | reglan ↦ false
+        ]) ≡ true
+    step boolean e true f k = rw e (each_simple (t ∷ u ∷ ts) all (of_all boolean e f))
+    step text e true f k = rw e (each_text (t ∷ u ∷ ts) all (of_all text e f))
+    step integer e true f k =
+        absurd (false≢true (subst (λ (s : Sort). is_shallow_of s t ≡ true) e
+        (and_parts (is_shallow t) (list_all is_shallow (u ∷ ts)) all).0))
+    step reglan e true f k =
+        absurd (Prim.cc (ap (λ (s : Sort). if is_same_sort reglan s then Some unsupported else None) (sym e) ∙ k))
+    step k e false f h = absurd (Prim.cc (h))
+
+compared_simple : (s : symbol.Symbol)
+    → ((terms : Terms) → is_simple (apply s terms) ≡ are_alike (terms_in terms) (are_simple terms))
+    → (ts : List Term) → list_all is_shallow ts ≡ true → judged symbol.core_equal (map sort_of ts) ≡ None
+    → is_simple (apply s (terms_of ts)) ≡ true
+compared_simple s f ts all taken =
+    f (terms_of ts) ∙ ap (λ us. are_alike us (are_simple (terms_of ts))) (terms_in_of ts) ∙ alike ts all taken
+
+-- Memberships.
+
+simple_of_text : (t R : Term) → is_plain_text t ≡ true → is_plain_regex R ≡ true
+    → is_simple (apply symbol.str_in_re (with_term t (with_term R no_terms))) ≡ true
+simple_of_text (constant serial text) R h k = k
+simple_of_text (constant serial boolean) R h k = absurd (false≢true h)
+simple_of_text (constant serial integer) R h k = absurd (false≢true h)
+simple_of_text (constant serial reglan) R h k = absurd (false≢true h)
+simple_of_text (word w) R h k = refl
+simple_of_text (numeral n) R h k = absurd (false≢true h)
+simple_of_text (apply s terms) R h k = absurd (false≢true h)
+simple_of_text (parameter place sort) R h k = absurd (false≢true h)
+
+-- Regular expressions.
+
+literal_plain : (t : Term) → is_plain_text t ≡ true
+    → is_plain_regex (apply symbol.str_to_re (with_term t no_terms)) ≡ true
+literal_plain (constant serial text) h = refl
+literal_plain (constant serial boolean) h = absurd (false≢true h)
+literal_plain (constant serial integer) h = absurd (false≢true h)
+literal_plain (constant serial reglan) h = absurd (false≢true h)
+literal_plain (word w) h = refl
+literal_plain (numeral n) h = absurd (false≢true h)
+literal_plain (apply s terms) h = absurd (false≢true h)
+literal_plain (parameter place sort) h = absurd (false≢true h)
+
+range_plain : (t u : Term) → is_plain_text t ≡ true → is_plain_text u ≡ true
+    → is_plain_regex (apply symbol.re_range (with_term t (with_term u no_terms))) ≡ true
+range_plain (word w) (constant serial text) h k = refl
+range_plain (word w) (constant serial boolean) h k = absurd (false≢true k)
+range_plain (word w) (constant serial integer) h k = absurd (false≢true k)
+range_plain (word w) (constant serial reglan) h k = absurd (false≢true k)
+range_plain (word w) (word v) h k = refl
+range_plain (word w) (numeral n) h k = absurd (false≢true k)
+range_plain (word w) (apply s terms) h k = absurd (false≢true k)
+range_plain (word w) (parameter place sort) h k = absurd (false≢true k)
+range_plain (constant serial sort) u h k = refl
+range_plain (numeral n) u h k = absurd (false≢true h)
+range_plain (apply s terms) u h k = absurd (false≢true h)
+range_plain (parameter place sort) u h k = absurd (false≢true h)
+
+-- a symbol with one argument
+of_one : (R : Term) → is_plain_regex R ≡ true → (is_regex R || not (is_ground R && true)) ≡ true
+of_one R h = step (is_regex R) (is_ground R) h
+  where
+    step : (a b : Bool) → (a || not b) ≡ true → (a || not (b && true)) ≡ true
+    step a true k = k
+    step a false k = k
+
+-- two are over literals, or one of them is not ground
+either_of_both : (a b c d : Bool) → (a || not b) ≡ true → (c || not d) ≡ true → (a && c || not (b && d)) ≡ true
+either_of_both true b true d h k = refl
+either_of_both true true false true h k = k
+either_of_both true true false false h k = refl
+either_of_both true false false d h k = refl
+either_of_both false true c d h k = absurd (false≢true h)
+either_of_both false false c d h k = refl
+
+each_plain : (ts : List Term) → list_all is_shallow ts ≡ true
+    → list_all (is_same_sort reglan) (map sort_of ts) ≡ true
+    → (are_regexes (terms_of ts) || not (are_ground (terms_of ts))) ≡ true
+each_plain [] all taken = refl
+each_plain (t ∷ ts) all taken =
+    let here = and_parts (is_shallow t) (list_all is_shallow ts) all in
+    let same = and_parts (is_same_sort reglan (sort_of t)) (list_all (is_same_sort reglan) (map sort_of ts)) taken in
+    either_of_both (is_regex t) (is_ground t) (are_regexes (terms_of ts)) (are_ground (terms_of ts))
+    (shallow_of reglan t here.0 same.0) (each_plain ts here.1 same.1)
+
+-- of one argument the argument, and of more all of them
+one_or_more : (s : symbol.Symbol)
+    → ((t : Term) (terms : Terms) → (are_regexes (with_term t terms) || not (are_ground (with_term t terms))) ≡ true
+    → is_shallow (apply s (with_term t terms)) ≡ true)
+    → (ts : List Term) → list_all is_shallow ts ≡ true → judged symbol.re_concat (map sort_of ts) ≡ None
+    → is_shallow (joined s ts) ≡ true
+one_or_more s f [] all taken = absurd (Prim.cc (taken))
+one_or_more s f (t ∷ []) all taken = (and_parts (is_shallow t) true all).0
+one_or_more s f (t ∷ u ∷ ts) all taken =
+    f t (terms_of (u ∷ ts))
+    (each_plain (t ∷ u ∷ ts) all
+    (taken_sorts (nat_le 1 (length (map sort_of (t ∷ u ∷ ts))))
+    (list_all (is_same_sort reglan) (map sort_of (t ∷ u ∷ ts))) false taken))
+
+-- two or more
+difference : (ts : List Term) → list_all is_shallow ts ≡ true → judged symbol.re_diff (map sort_of ts) ≡ None
+    → is_shallow (apply symbol.re_diff (terms_of ts)) ≡ true
+difference [] all taken = absurd (Prim.cc (taken))
+difference (t ∷ ts) all taken =
+    each_plain (t ∷ ts) all
+    (taken_sorts (nat_le 2 (length (map sort_of (t ∷ ts)))) (list_all (is_same_sort reglan) (map sort_of (t ∷ ts))) false
+    taken)
+
+-- Applications.
+
+made_shallow : (s : symbol.Symbol) (ts : List Term) → is_brought_symbol s ≡ true → list_all is_shallow ts ≡ true
+    → judged s (map sort_of ts) ≡ None → is_shallow (made s ts) ≡ true
+made_shallow symbol.core_true ts h all taken =
+    by_none (λ terms. is_simple (apply symbol.core_true terms)) refl ts
+    (taken_sorts (0 == length (map sort_of ts)) (are_sorts [] (map sort_of ts)) false taken)
+made_shallow symbol.core_false ts h all taken =
+    by_none (λ terms. is_simple (apply symbol.core_false terms)) refl ts
+    (taken_sorts (0 == length (map sort_of ts)) (are_sorts [] (map sort_of ts)) false taken)
+made_shallow symbol.core_not ts h all taken =
+    by_one boolean (λ terms. is_simple (apply symbol.core_not terms)) (λ t k. and_from (is_simple t) true k refl) ts all
+    (taken_sorts (1 == length (map sort_of ts)) (are_sorts (boolean ∷ []) (map sort_of ts)) false taken)
+made_shallow symbol.core_and ts h all taken = simple_joined symbol.core_and (λ terms k. k) ts all taken
+made_shallow symbol.core_or ts h all taken = simple_joined symbol.core_or (λ terms k. k) ts all taken
+made_shallow symbol.core_implies ts h all taken =
+    simple_of_many 2 (λ terms. is_simple (apply symbol.core_implies terms)) (λ terms k. k) ts all taken
+made_shallow symbol.core_xor ts h all taken =
+    simple_of_many 2 (λ terms. is_simple (apply symbol.core_xor terms)) (λ terms k. k) ts all taken
+made_shallow symbol.core_ite ts h all taken = choice_simple ts all taken
+made_shallow symbol.core_equal ts h all taken = compared_simple symbol.core_equal (λ terms. refl) ts all taken
+made_shallow symbol.core_distinct ts h all taken = compared_simple symbol.core_distinct (λ terms. refl) ts all taken
+made_shallow symbol.str_in_re ts h all taken =
+    by_two text reglan (λ terms. is_simple (apply symbol.str_in_re terms)) simple_of_text ts all
+    (taken_sorts (2 == length (map sort_of ts)) (are_sorts (text ∷ reglan ∷ []) (map sort_of ts)) false taken)
+made_shallow symbol.str_to_re ts h all taken =
+    by_one text (λ terms. is_plain_regex (apply symbol.str_to_re terms)) literal_plain ts all
+    (taken_sorts (1 == length (map sort_of ts)) (are_sorts (text ∷ []) (map sort_of ts)) false taken)
+made_shallow symbol.re_range ts h all taken =
+    by_two text text (λ terms. is_plain_regex (apply symbol.re_range terms)) range_plain ts all
+    (taken_sorts (2 == length (map sort_of ts)) (are_sorts (text ∷ text ∷ []) (map sort_of ts)) false taken)
+made_shallow symbol.re_none ts h all taken =
+    by_none (λ terms. is_plain_regex (apply symbol.re_none terms)) refl ts
+    (taken_sorts (0 == length (map sort_of ts)) (are_sorts [] (map sort_of ts)) false taken)
+made_shallow symbol.re_all ts h all taken =
+    by_none (λ terms. is_plain_regex (apply symbol.re_all terms)) refl ts
+    (taken_sorts (0 == length (map sort_of ts)) (are_sorts [] (map sort_of ts)) false taken)
+made_shallow symbol.re_allchar ts h all taken =
+    by_none (λ terms. is_plain_regex (apply symbol.re_allchar terms)) refl ts
+    (taken_sorts (0 == length (map sort_of ts)) (are_sorts [] (map sort_of ts)) false taken)
+made_shallow symbol.re_opt ts h all taken =
+    by_one reglan (λ terms. is_plain_regex (apply symbol.re_opt terms)) of_one ts all
+    (taken_sorts (1 == length (map sort_of ts)) (are_sorts (reglan ∷ []) (map sort_of ts)) false taken)
+made_shallow symbol.re_comp ts h all taken =
+    by_one reglan (λ terms. is_plain_regex (apply symbol.re_comp terms)) of_one ts all
+    (taken_sorts (1 == length (map sort_of ts)) (are_sorts (reglan ∷ []) (map sort_of ts)) false taken)
+made_shallow (symbol.re_power n) ts h all taken =
+    by_one reglan (λ terms. is_plain_regex (apply (symbol.re_power n) terms)) of_one ts all
+    (taken_sorts (1 == length (map sort_of ts)) (are_sorts (reglan ∷ []) (map sort_of ts)) false taken)
+made_shallow (symbol.re_loop n m) ts h all taken =
+    by_one reglan (λ terms. is_plain_regex (apply (symbol.re_loop n m) terms)) of_one ts all
+    (taken_sorts (1 == length (map sort_of ts)) (are_sorts (reglan ∷ []) (map sort_of ts)) false taken)
+made_shallow symbol.re_star ts h all taken =
+    by_one reglan (λ terms. is_plain_regex (apply symbol.re_star terms)) of_one ts all
+    (taken_sorts (1 == length (map sort_of ts)) (are_sorts (reglan ∷ []) (map sort_of ts)) false taken)
+made_shallow symbol.re_plus ts h all taken =
+    by_one reglan (λ terms. is_plain_regex (apply symbol.re_plus terms)) of_one ts all
+    (taken_sorts (1 == length (map sort_of ts)) (are_sorts (reglan ∷ []) (map sort_of ts)) false taken)
+made_shallow symbol.re_concat ts h all taken = one_or_more symbol.re_concat (λ t terms k. k) ts all taken
+made_shallow symbol.re_union ts h all taken = one_or_more symbol.re_union (λ t terms k. k) ts all taken
+made_shallow symbol.re_inter ts h all taken = one_or_more symbol.re_inter (λ t terms k. k) ts all taken
+made_shallow symbol.re_diff ts h all taken = difference ts all taken
+made_shallow _ ts h all taken = absurd (false≢true h)
+
+-- the symbols of names are brought
+symbol_makes : (name : Name) → if_some is_brought_symbol (symbol_named name) ≡ true
+symbol_makes name = found_passes is_brought_symbol (filter is_brought_row symbols_of_theories) refl name
+
+-- Heads.
+
+abbrev head_shallow : Head → Bool
+head_shallow (head_constant serial sort) = is_shallow (constant serial sort)
+head_shallow (head_symbol s) = is_brought_symbol s
+head_shallow (head_definition own body) = false
+head_shallow (head_term t) = is_shallow t
+
+by_test : {A : Type 0} (p : A → Bool) (b : Bool) (x y : Result A Fault) → if_read p x ≡ true → if_read p y ≡ true
+    → if_read p (if b then x else y) ≡ true
+by_test p true x y h k = h
+by_test p false x y h k = k
+
+by_bind : {A B : Type 0} (p : A → Bool) (q : B → Bool) (r : Result A Fault) (f : A → Result B Fault)
+    → if_read p r ≡ true → ((x : A) → p x ≡ true → if_read q (f x) ≡ true) → if_read q (r >>= f) ≡ true
+by_bind p q (Ok x) f h g = g x h
+by_bind p q (Err fault) f h g = refl
+
+unless_shallow : (o : Option Fault) (t : Term) → (o ≡ None → is_shallow t ≡ true)
+    → if_read is_shallow (unless o t) ≡ true
+unless_shallow None t h = h refl
+unless_shallow (Some fault) t h = refl
+
+applied_shallow : (head : Head) (ts : List Term) → head_shallow head ≡ true → list_all is_shallow ts ≡ true
+    → if_read is_shallow (applied_to head ts) ≡ true
+applied_shallow (head_constant serial sort) [] h all = h
+applied_shallow (head_constant serial sort) (t ∷ ts) h all = refl
+applied_shallow (head_symbol s) ts h all =
+    unless_shallow (judged s (map sort_of ts)) (made s ts) (made_shallow s ts h all)
+applied_shallow (head_definition own body) ts h all = absurd (false≢true h)
+applied_shallow (head_term t) [] h all = h
+applied_shallow (head_term t) (u ∷ us) h all = refl
+
+named_head : (kind : Named) → is_simple_named kind ≡ true → if_read head_shallow (head_of kind) ≡ true
+named_head (a_constant serial text) h = refl
+named_head (a_constant serial boolean) h = refl
+named_head (a_constant serial integer) h = absurd (false≢true h)
+named_head (a_constant serial reglan) h = absurd (false≢true h)
+named_head (a_definition own body) h = absurd (false≢true h)
+named_head a_marked_name h = refl
+named_head (a_term t) h = absurd (false≢true h)
+
+theory_head : (name : Name) → if_read head_shallow (head_of_theory name) ≡ true
+theory_head name = step (symbol_named name) (symbol_makes name)
+  where
+    step : (o : Option symbol.Symbol) → if_some is_brought_symbol o ≡ true → if_read head_shallow
+        (elim o as (λ _. Result Head Fault) [
+          | Some s ↦ Ok (head_symbol s)
+          | None ↦ if is_indexed name then Err bad_index
+              else if is_left_out name then Err unsupported
+              else Err (unknown_symbol name)
+        ]) ≡ true
+    step (Some s) h = h
+    step None h =
+        by_test head_shallow (is_indexed name) (Err bad_index)
+        (if is_left_out name then Err unsupported else Err (unknown_symbol name)) refl
+        (by_test head_shallow (is_left_out name) (Err unsupported) (Err (unknown_symbol name)) refl refl)
+
+named_passes : (names : List Naming) (name : Name) → list_all is_simple_naming names ≡ true
+    → if_some is_simple_named (named names name) ≡ true
+named_passes [] name all = refl
+named_passes (n ∷ ns) name all =
+    let parts = and_parts (is_simple_naming n) (list_all is_simple_naming ns) all in
+    some_by is_simple_named (is_name name n.0) (Some n.1) (named ns name) parts.0 (named_passes ns name parts.1)
+
+-- (_ char #xH)
+character_shallow : (indices : Forms) → if_read head_shallow (character_word indices) ≡ true
+character_shallow (more (OtherNumber bytes) none) = step (character_of (hexadecimal_digits bytes))
+  where
+    step : (o : Option ℕ) → if_read head_shallow
+        (elim o as (λ _. Result Head Fault) [ Some c ↦ Ok (head_term (word (c ∷ []))) | None ↦ Err bad_index ]) ≡ true
+    step (Some c) = refl
+    step None = refl
+character_shallow _ = refl
+
+-- no other head with indices is brought
+no_indices : (name : Name) (indices : Forms) (r : Result Head Fault)
+    → if_read head_shallow (without_indices name indices r) ≡ true
+no_indices name indices (Ok head) = refl
+no_indices name indices (Err (unknown_symbol unknown)) =
+    by_test head_shallow (is_name name (codes "char")) (character_word indices) (Err (unknown_symbol unknown))
+    (character_shallow indices) refl
+no_indices name indices (Err _) = refl
+
+-- a symbol with its indices
+symbol_shallow : (b c : Bool) (s : symbol.Symbol) → is_brought_symbol s ≡ true → if_read head_shallow
+    (elim (if b then Some s else None) as (λ _. Result Head Fault) [
+      | Some t ↦ if c then Ok (head_symbol t) else Err numeral_too_large
+      | None ↦ Err bad_index
+    ]) ≡ true
+symbol_shallow true true s h = h
+symbol_shallow true false s h = refl
+symbol_shallow false c s h = refl
+
+with_indices_shallow : (name : Name) (o : Option (List ℕ)) → if_read head_shallow (with_indices name o) ≡ true
+with_indices_shallow name None = refl
+with_indices_shallow name (Some []) = refl
+with_indices_shallow name (Some (n ∷ [])) =
+    symbol_shallow (is_name name (codes "re.^")) (are_small_indices (n ∷ [])) (symbol.re_power n) refl
+with_indices_shallow name (Some (n ∷ m ∷ [])) =
+    symbol_shallow (is_name name (codes "re.loop")) (are_small_indices (n ∷ m ∷ [])) (symbol.re_loop n m) refl
+with_indices_shallow name (Some (n ∷ m ∷ k ∷ ns)) = refl
+
+indexed_shallow : (names : List Naming) (name : Name) (indices : Forms)
+    → if_read head_shallow (read_indexed names name indices) ≡ true
+indexed_shallow names name indices =
+    by_test head_shallow (is_indexed name && is_none (named names name)) (with_indices name (indices_of indices))
+    (without_indices name indices (read_head names name)) (with_indices_shallow name (indices_of indices))
+    (no_indices name indices (read_head names name))
+
+-- Reading, where these names are in force.
+
+module _ (names : List Naming) (fit : list_all is_simple_naming names ≡ true) where
+  head_read : (name : Name) → if_read head_shallow (read_head names name) ≡ true
+  head_read name = step (named names name) (named_passes names name fit)
+    where
+      step : (o : Option Named) → if_some is_simple_named o ≡ true → if_read head_shallow
+          (elim o as (λ _. Result Head Fault) [ Some kind ↦ head_of kind | None ↦ head_of_theory name ]) ≡ true
+      step (Some kind) h = named_head kind h
+      step None h = theory_head name
+
+  index_list_read : (forms : Forms) → if_read head_shallow (read_index_list names forms) ≡ true
+  index_list_read (more (Symbol name) (more index indices)) =
+      by_test head_shallow (is_reserved name) (Err malformed) (read_indexed names name (more index indices)) refl
+      (indexed_shallow names name (more index indices))
+  index_list_read (more (QuotedSymbol name) (more index indices)) = indexed_shallow names name (more index indices)
+  index_list_read _ = refl
+
+  list_head_read : (forms : Forms) → if_read head_shallow (read_list_head names forms) ≡ true
+  list_head_read (more (Symbol name) rest) =
+      by_test head_shallow (is_name name (codes "_")) (read_index_list names rest) _ (index_list_read rest)
+      (by_test head_shallow (is_name name (codes "as")) (Err unsupported) (Err malformed) refl refl)
+  list_head_read _ = refl
+
+  name_read : (name : Name) → if_read is_shallow (read_name names name) ≡ true
+  name_read name =
+      by_bind head_shallow is_shallow (read_head names name) (λ head. applied_to head []) (head_read name)
+      (λ head h. applied_shallow head [] h refl)
+
+  text_read : (bytes : List ℕ) → if_read is_shallow (read_text bytes) ≡ true
+  text_read bytes =
+      by_test is_shallow (is_some (first_bad bytes)) (Err bad_literal) (Ok (word (word_of_literal bytes))) refl refl
+
+  -- a head with its arguments
+  with_arguments_read : (head : Result Head Fault) (arguments : Result (List Term) Fault)
+      → if_read head_shallow head ≡ true → if_read (list_all is_shallow) arguments ≡ true
+      → if_read is_shallow (head >>= (λ h. arguments >>= applied_to h)) ≡ true
+  with_arguments_read head arguments h all =
+      by_bind head_shallow is_shallow head (λ h. arguments >>= applied_to h) h
+      (λ x here. by_bind (list_all is_shallow) is_shallow arguments (applied_to x) all
+      (λ ts each. applied_shallow x ts here each))
+
+  one_more_read : (r : Result Term Fault) (rs : Result (List Term) Fault) → if_read is_shallow r ≡ true
+      → if_read (list_all is_shallow) rs ≡ true
+      → if_read (list_all is_shallow) (r >>= (λ t. rs >>= (λ ts. Ok (t ∷ ts)))) ≡ true
+  one_more_read (Err fault) rs h all = refl
+  one_more_read (Ok t) (Err fault) h all = refl
+  one_more_read (Ok t) (Ok ts) h all = and_from (is_shallow t) (list_all is_shallow ts) h all
+
+  mutual
+    term_read : (form : Form) → if_read is_shallow (read names form) ≡ true
+    term_read (Symbol name) =
+        by_test is_shallow (begins_term name) (Err unsupported) _ refl
+        (by_test is_shallow (is_reserved name) (Err malformed) (read_name names name) refl (name_read name))
+    term_read (QuotedSymbol name) = name_read name
+    term_read (Keyword name) = refl
+    term_read (Numeral digits) = refl
+    term_read (OtherNumber bytes) = refl
+    term_read (Words bytes) = text_read bytes
+    term_read (Group forms) = list_read forms
+
+    list_read : (forms : Forms) → if_read is_shallow (read_list names forms) ≡ true
+    list_read none = refl
+    list_read (more head none) = refl
+    list_read (more (Symbol name) (more first rest)) =
+        let by_head : Result Term Fault =
+        read_head names name >>= (λ head. read_all names (more first rest) >>= applied_to head) in
+        by_test is_shallow (is_name name (codes "_"))
+        (read_index_list names (more first rest) >>= (λ head. applied_to head []))
+        (if is_reserved name then Err (read_reserved name (more first rest)) else by_head)
+        (by_bind head_shallow is_shallow (read_index_list names (more first rest)) (λ head. applied_to head [])
+        (index_list_read (more first rest)) (λ head h. applied_shallow head [] h refl))
+        (by_test is_shallow (is_reserved name) (Err (read_reserved name (more first rest))) by_head refl
+        (with_arguments_read (read_head names name) (read_all names (more first rest)) (head_read name)
+        (all_read (more first rest))))
+    list_read (more (QuotedSymbol name) (more first rest)) =
+        with_arguments_read (read_head names name) (read_all names (more first rest)) (head_read name)
+        (all_read (more first rest))
+    list_read (more (Group list) (more first rest)) =
+        with_arguments_read (read_list_head names list) (read_all names (more first rest)) (list_head_read list)
+        (all_read (more first rest))
+    list_read (more (Keyword name) (more first rest)) = refl
+    list_read (more (Numeral digits) (more first rest)) = refl
+    list_read (more (OtherNumber bytes) (more first rest)) = refl
+    list_read (more (Words bytes) (more first rest)) = refl
+
+    all_read : (forms : Forms) → if_read (list_all is_shallow) (read_all names forms) ≡ true
+    all_read none = refl
+    all_read (more form forms) =
+        one_more_read (read names form) (read_all names forms) (term_read form) (all_read forms)
+
+  -- a truth value that is read
+  pub truth_read : (form : Form) (t : Term) → read names form ≡ Ok t → is_same_sort boolean (sort_of t) ≡ true
+      → is_simple t ≡ true
+  truth_read form t e h =
+      subst (λ (sort : Sort). is_shallow_of sort t ≡ true) (same_sort boolean (sort_of t) h)
+      (sym (ap (if_read is_shallow) e) ∙ term_read form)
