@@ -1,7 +1,7 @@
 //! Truth of terms under values of their constants.
 
 use crate::terms::read;
-use sb_eval::eval;
+use sb_atoms::eval;
 use sb_fragment::{Measures, is_structure};
 use sb_plain::Plain;
 use sb_problem::Normals;

@@ -1,4 +1,5 @@
--- What a caller cites of atoms by their numbers, in a table and an arena that grow, and of literals in order.
+-- What a caller cites of atoms by their numbers, in a table and an arena that grow, of literals in order, of values and
+-- of the clauses of gates.
 use Rattle.std.proofs.Common.{◌≡◌, ℕ, zero, suc, ◌+◌, ◌<◌, ◌≤◌, Bool, true, false, nat_lt, List, [], ◌∷◌, ◌++◌, length, refl, ap, ap₂, subst, ◌∙◌, arith}
 use Rattle.std.proofs.lemmas.Bool.{and_from, ltb-true}
 use Rattle.std.proofs.lemmas.Bool.Decides.{nat_tests}
@@ -13,6 +14,10 @@ use Rattle.sb_atoms.specs.Numbered.{Names, Extends, over, atoms_in, HasRegexBelo
 pub use Rattle.sb_atoms.proofs.Translating.{over_one}
 -- literals in order ascend, and are of atoms below a number where all are, as their negations
 pub use Rattle.sb_atoms.proofs.Ordered.{order_ascends, below_in_order, below_negations}
+-- words give the values of a term that asks something of one constant's word
+pub use Rattle.sb_atoms.proofs.GivenValues.{asked_given, asked_value, membership_given}
+-- together the clauses of a gate say what the atom does
+pub use Rattle.sb_atoms.proofs.Saying.{all_say}
 
 pub no_atoms : (n : ℕ) → HaveRegexesBelow n []
 no_atoms n i a h = absurd (nothing i a h)

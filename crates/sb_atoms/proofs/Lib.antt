@@ -7,3 +7,10 @@ pub mod ComparedPairs
 pub mod Connected
 pub mod Structured
 pub mod Found
+pub mod GivenValues
+pub mod TruthFacts
+pub mod Meanings
+pub mod ConnectiveTruths
+pub mod Walking
+pub mod GateFacts
+pub mod Saying

@@ -3,3 +3,7 @@ pub mod Translated
 pub mod Growing
 pub mod Connecting
 pub mod Shapes
+pub mod Given
+pub mod Truths
+pub mod GateClauses
+pub mod GateExamples

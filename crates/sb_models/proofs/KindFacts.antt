@@ -8,7 +8,7 @@ use Rattle.sb_meaning.specs.Sorts.{is_same_sort}
 use Rattle.sb_meaning.specs.Values.{Value, Valuation, Text, Int, Truth, value_in, is_of}
 use Rattle.sb_script.specs.Scopes.{Constant}
 use Rattle.sb_script.specs.State.{Assertion, asserted, a_mark, terms_in, fits}
-use Rattle.sb_eval.specs.Given.{GivesValues, GivesEach}
+use Rattle.sb_atoms.specs.Given.{GivesValues, GivesEach}
 use Rattle.sb_proof.specs.declared.line.Value as code
 use Rattle.sb_proof.specs.Lines.{value_in as read}
 use Rattle.sb_rulebook.specs.Verdicts.{valued}

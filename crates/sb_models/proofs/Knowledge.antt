@@ -15,7 +15,7 @@ use Rattle.sb_term.specs.declared.assertion.Assertion as code
 use Rattle.sb_term.specs.Numbered.{term_at, Extends}
 use Rattle.sb_term.proofs.CallerLemmas.{at_kept, long_kept}
 use Rattle.sb_fragment.specs.Rules.{is_decided, FragmentIsOfEach}
-use Rattle.sb_eval.specs.Given.{GivesValues}
+use Rattle.sb_atoms.specs.Given.{GivesValues}
 use Rattle.sb_stack.specs.Stacked.{Stacked, state_of, assertion_in, assertion_of, HasNumberBelow, IsLonger}
 use Rattle.sb_models.specs.declared.models.Models.{Models}
 use Rattle.sb_stack.proofs.CallerLemmas.{live_laid}

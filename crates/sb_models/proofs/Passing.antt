@@ -10,8 +10,8 @@ use Rattle.sb_script.specs.Sizes.{is_regular}
 use Rattle.sb_script.specs.State.{Assertion, asserted, a_mark}
 use Rattle.sb_fragment.specs.Rules.{is_decided}
 use Rattle.sb_fragment.proofs.CallerLemmas.{asked_decided}
-use Rattle.sb_eval.specs.Given.{GivesValues, GivesEach}
-use Rattle.sb_eval.proofs.CallerLemmas.{asked_given, asked_value}
+use Rattle.sb_atoms.specs.Given.{GivesValues, GivesEach}
+use Rattle.sb_atoms.proofs.CallerLemmas.{asked_given, asked_value}
 use Rattle.sb_models.specs.Knowing.{is_true_under, AreTrueBy, word_at}
 use Rattle.sb_models.specs.Tried.{AreSame, IsOfSame, MayPass}
 

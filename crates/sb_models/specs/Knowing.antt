@@ -7,7 +7,7 @@ use Rattle.sb_script.specs.State.{Assertion, asserted, a_mark}
 use Rattle.sb_rulebook.specs.Accepted.{term_of}
 use Rattle.sb_rulebook.specs.Verdicts.{assertion_holds}
 use Rattle.sb_fragment.specs.Rules.{is_decided}
-use Rattle.sb_eval.specs.Given.{GivesValues}
+use Rattle.sb_atoms.specs.Given.{GivesValues}
 use Rattle.sb_stack.specs.declared.constant.LiveConstant.{LiveConstant}
 use Rattle.sb_stack.specs.Stacked.{Stacked, assertion_in, HasNumberBelow}
 use Rattle.sb_models.specs.declared.models.Models.{Models}

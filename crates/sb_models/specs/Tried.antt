@@ -8,7 +8,7 @@ use Rattle.sb_meaning.specs.Values.{Value, Valuation, Text, Int, Truth, value_in
 use Rattle.sb_meaning.specs.Truth.{holds}
 use Rattle.sb_script.specs.Brought.{asked}
 use Rattle.sb_script.specs.State.{Assertion, asserted}
-use Rattle.sb_eval.specs.Given.{GivesValues}
+use Rattle.sb_atoms.specs.Given.{GivesValues}
 use Rattle.sb_stack.specs.declared.constant.LiveConstant.{LiveConstant}
 use Rattle.sb_proof.specs.declared.line.Value as code
 use Rattle.sb_proof.specs.Lines.{value_in as read}

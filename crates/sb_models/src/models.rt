@@ -99,7 +99,7 @@ impl Models {
     /// Where each constant has the word and the truth value that it had in the last model, and each one declared since
     /// has the empty word, or false, only the assertions behind those that were true there are looked at. Else all are,
     /// and one that was true there and asks something of the word of one constant alone, which has the word that it had
-    /// there, is passed over in constant time. For each other one the cost is that of [`sb_eval::eval`]. Linear in the
+    /// there, is passed over in constant time. For each other one the cost is that of [`sb_atoms::eval`]. Linear in the
     /// values besides, and in the constants of the last model that are gone; no memory is taken for a value that is the
     /// word of its constant in the last model. Where a Bool constant is true, linear in the constants declared before it
     /// too.

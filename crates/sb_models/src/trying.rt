@@ -12,7 +12,7 @@ ghost use Rattle.sb_stack.specs.Stacked.{assertion_in, HasNumberBelow};
 ghost use Rattle.sb_models.specs.Knowing.{AreTrueBy, IsTruthBy, assertions_of};
 ghost use Rattle.sb_models.specs.Tried.{marks_of, IsOfSame, MayPass};
 
-use sb_eval::eval;
+use sb_atoms::eval;
 use sb_fragment::{Measures, membership};
 use sb_plain::Plain;
 use sb_problem::Normals;

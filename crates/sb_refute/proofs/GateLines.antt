@@ -29,7 +29,7 @@ use Rattle.sb_sound.proofs.CallerLemmas.{ascend_form}
 use Rattle.sb_proof.specs.Tapes.{with_bytes}
 use Rattle.sb_atoms.specs.Numbered.{Names, NameEarlier, over, atoms_in}
 use Rattle.sb_atoms.proofs.CallerLemmas.{below_in_order, below_negations}
-use Rattle.sb_gates.specs.Clauses.{atom_at, gate, is_trivial, clause_of, parts_of, two_of, clauses_of}
+use Rattle.sb_atoms.specs.GateClauses.{atom_at, gate, is_trivial, clause_of, parts_of, two_of, clauses_of}
 use Rattle.sb_trace.proofs.CallerLemmas.{puts_one}
 use Rattle.sb_refute.specs.Backing.{Backing, Backs, EvidencesUncounted, HasGatesOf}
 use Rattle.sb_refute.specs.Lines.{IsOfGates}

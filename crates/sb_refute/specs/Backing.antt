@@ -12,7 +12,7 @@ use Rattle.sb_rulebook.specs.Kept.{AllKept, Asked}
 use Rattle.sb_rulebook.specs.AtomRules.{is_declared}
 use Rattle.sb_atoms.specs.Numbered.{Names, atoms_in}
 use Rattle.sb_atoms.specs.Translated.{has_declared}
-use Rattle.sb_gates.specs.Clauses.{clauses_of}
+use Rattle.sb_atoms.specs.GateClauses.{clauses_of}
 use Rattle.sb_trace.specs.Putting.{Puts, IsCounted}
 use Rattle.sb_trace.specs.Tracking.{Traced, Tracks}
 use Rattle.sb_refute.specs.declared.evidence.Asserted.{Asserted}

@@ -4,15 +4,14 @@ ghost use Rattle.std.specs.Prelude.{◌≡◌, ◌<◌, ◌+◌, ◌++◌, ◌�
 ghost use Rattle.sb_lang.specs.Regex.{Regex};
 ghost use Rattle.sb_deriv.specs.Faithful.{Memo};
 ghost use Rattle.sb_rulebook.specs.Kept.{AllKept, Asked};
-ghost use Rattle.sb_gates.specs.Clauses.{clauses_of, atom_at};
+ghost use Rattle.sb_atoms.specs.GateClauses.{clauses_of, atom_at};
 ghost use Rattle.sb_trace.specs.Putting.{CountsTapeFault};
 ghost use Rattle.sb_refute.specs.Backing.{HasGatesOf, Backs, EvidencesUncounted};
 ghost use Rattle.sb_refute.specs.Lines.{IsOfGates};
 
 use crate::defining::copied;
 use crate::evidence::Evidence;
-use sb_atoms::AtomId;
-use sb_gates::gate_clauses;
+use sb_atoms::{AtomId, gate_clauses};
 use sb_lit::{Clause, Lit};
 use sb_proof::{Line, Rule, Tape, TapeFault};
 use sb_sound::clauses::rule_lines_are_exact;

@@ -27,7 +27,7 @@ use Rattle.sb_sound.specs.Tables.{is_table}
 use Rattle.sb_sound.specs.SoundLaws.{AreTerms}
 use Rattle.sb_stack.specs.Stacked.{Stacked, state_of, assertion_in}
 use Rattle.sb_stack.proofs.CallerLemmas.{live_laid}
-use Rattle.sb_gates.specs.Clauses.{atom_at, clauses_of}
+use Rattle.sb_atoms.specs.GateClauses.{atom_at, clauses_of}
 use Rattle.sb_atoms.specs.Numbered.{HaveRegexesBelow, atoms_in}
 use Rattle.sb_atoms.proofs.CallerLemmas.{atoms_kept, earlier_table, regexes_kept}
 use Rattle.sb_trace.specs.Putting.{IsCounted}

@@ -30,10 +30,10 @@ use Rattle.sb_sound.specs.TermLaws.{HasSorts, fits_sorts}
 use Rattle.sb_sound.specs.TranslationLaws.{TranslationHolds}
 use Rattle.sb_sound.proofs.CallerLemmas.{IsTruthAt, truth_at_place, all_in_front, literal_holds-take}
 use Rattle.sb_atoms.specs.Numbered.{over, atoms_in}
-use Rattle.sb_gates.specs.Clauses.{atom_at, are_alike, all_hold, clause_of, clauses_of, gate, is_as_it_says, is_trivial}
+use Rattle.sb_atoms.specs.GateClauses.{atom_at, are_alike, all_hold, clause_of, clauses_of, gate, is_as_it_says, is_trivial}
 use Rattle.sb_clash.specs.Literals.{number_in}
-use Rattle.sb_gates.specs.Clauses as gates
-use Rattle.sb_gates.proofs.CallerLemmas.{all_say}
+use Rattle.sb_atoms.specs.GateClauses as gates
+use Rattle.sb_atoms.proofs.CallerLemmas.{all_say}
 use Rattle.sb_search.specs.Found.{has_value}
 use Rattle.sb_theory.specs.Memberships.{word_at, is_true_by, is_true_of, fits_subject, constant_of, subject_of, is_atom}
 use Rattle.sb_solve.specs.Wanted.{is_in, atoms_of, parts_of, parts_at, is_simple, is_simple_at, is_closed}

@@ -18,7 +18,7 @@ use Rattle.sb_rulebook.specs.Translation.{translation}
 use Rattle.sb_sound.specs.Tables.{is_table}
 use Rattle.sb_sound.specs.TermLaws.{HasSorts, fits_sorts}
 use Rattle.sb_atoms.specs.Numbered.{Names, AreDistinct, atoms_in}
-use Rattle.sb_gates.specs.Clauses.{atom_at, clauses_of}
+use Rattle.sb_atoms.specs.GateClauses.{atom_at, clauses_of}
 use Rattle.sb_search.specs.Found.{has_value}
 use Rattle.sb_theory.specs.Memberships.{word_at, is_true_by, is_atom}
 use Rattle.sb_solve.specs.Wanted.{is_in, are_closed}

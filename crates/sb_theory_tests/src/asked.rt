@@ -3,9 +3,8 @@
 ghost use Rattle.std.specs.Prelude.{◌≡◌, [], length, IfOk, OnOk};
 ghost use Rattle.sb_atoms.specs.Numbered.{HasRegexBelow, HaveRegexesBelow, atom_in};
 
-use sb_atoms::{Atom, AtomId, Atoms};
+use sb_atoms::{Atom, AtomId, Atoms, gate_clauses};
 use sb_clauses::Engine;
-use sb_gates::gate_clauses;
 use sb_lit::{Clause, Lit};
 use sb_regex::{Arena, RegexId};
 use sb_regex_tests::terms::regex;

@@ -4,7 +4,7 @@ use Rattle.sb_script.specs.Brought.{is_structure}
 use Rattle.sb_term.specs.Numbered.{term_at}
 use Rattle.sb_regex.proofs.CallerLemmas.{extends_more}
 use Rattle.sb_problem.specs.Known.{AreNormals}
-use Rattle.sb_eval.specs.Given.{GivesValues}
+use Rattle.sb_atoms.specs.Given.{GivesValues}
 use Rattle.sb_models.specs.Tried.{IsOfSame, marks_of}
 use Rattle.sb_models.proofs.Knowledge.{no_mark, structure_at, true_first, true_more, false_at, passed, true_all}
 use Rattle.sb_models.proofs.trying.all_hold.Goals as goal

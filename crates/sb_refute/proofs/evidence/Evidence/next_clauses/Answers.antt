@@ -1,6 +1,6 @@
 use Rattle.std.proofs.Common.{◌≡◌, ◌<◌, ℕ, List, All, length, sym, subst, arith}
 use Rattle.std.specs.Result.{IfOk}
-use Rattle.sb_gates.specs.Clauses.{clauses_of, atom_at}
+use Rattle.sb_atoms.specs.GateClauses.{clauses_of, atom_at}
 use Rattle.sb_refute.specs.Backing.{Backing}
 use Rattle.sb_refute.specs.Lines.{IsOfGates}
 use Rattle.sb_refute.proofs.GateLines.{gates-found}

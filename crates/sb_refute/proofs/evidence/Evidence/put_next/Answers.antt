@@ -2,7 +2,7 @@ use Rattle.std.proofs.Common.{◌≡◌, ◌<◌, ◌+◌, ◌++◌, ◌∷◌, 
 use Rattle.std.proofs.lemmas.List.{take_more, take_all}
 use Rattle.sb_lit.specs.declared.clause.Lit.{Lit}
 use Rattle.sb_rulebook.specs.Atoms.{AtomOver}
-use Rattle.sb_gates.specs.Clauses.{clauses_of, atom_at}
+use Rattle.sb_atoms.specs.GateClauses.{clauses_of, atom_at}
 use Rattle.sb_refute.specs.Backing.{Backing, EvidencesUncounted}
 use Rattle.sb_refute.specs.Lines.{IsOfGates}
 use Rattle.sb_refute.proofs.Asserting.{nothing-put, both-put}

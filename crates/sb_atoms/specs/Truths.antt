@@ -1,0 +1,67 @@
+-- Private: truths of terms under values, and what connectives make of truths.
+use Rattle.std.specs.Prelude.{◌≡◌, ℕ, Bool, false, not, if◌then◌else◌, List, [], ◌∷◌, map}
+use Rattle.std.specs.List.{list_all}
+use Rattle.sb_lang.specs.Regex.{Regex}
+use Rattle.sb_meaning.specs.Terms.{Term}
+use Rattle.sb_meaning.specs.Values.{Valuation}
+use Rattle.sb_meaning.specs.Truth.{all_true, some_true, implied, differs, xor_of, is_chain, are_pairs, holds}
+use Rattle.sb_plain.specs.Memory.{Memory, IsRight}
+use Rattle.sb_problem.specs.declared.normals.Known.{Known}
+use Rattle.sb_problem.specs.Known.{AreNormals}
+use Rattle.sb_fragment.specs.declared.shape.Connective.{Connective}
+use Rattle.sb_fragment.specs.declared.shape.Connective.TheVariants as connective
+use Rattle.sb_fragment.specs.Memberships.{equality}
+use Rattle.sb_atoms.specs.Given.{GivesValues}
+
+-- all of them, one after the other
+abbrev pub AllOf : {X : Type 0} → (X → Type 0) → List X → Type 0
+AllOf P [] = Unit {0}
+AllOf P (x ∷ xs) = P x × AllOf P xs
+
+-- the term is true or not where its constants have these words, whatever the truths are
+abbrev pub IsTruthUnder : List (List ℕ) → Term → Bool → Type 0
+IsTruthUnder ws t truth = (v : Valuation) (bs : List Bool) → GivesValues ws bs v t → truth ≡ holds t v
+
+-- and these truths
+abbrev pub IsTruthOf : List (List ℕ) → List Bool → Term → Bool → Type 0
+IsTruthOf ws bs t truth = (v : Valuation) → GivesValues ws bs v t → truth ≡ holds t v
+
+-- these terms, among more
+abbrev pub AreTruthsOf : List (List ℕ) → List Bool → List Term → List Term → List Bool → Type 0
+AreTruthsOf ws bs all ts truths =
+    (v : Valuation) → AllOf (GivesValues ws bs v) all → truths ≡ map (λ t. holds t v) ts
+
+abbrev pub GivesPair : List (List ℕ) → List Bool → Valuation → Term × Term → Type 0
+GivesPair ws bs v p = GivesValues ws bs v p.0 × GivesValues ws bs v p.1
+
+-- the two are equal, or differ where they are to be distinct
+abbrev pub are_as_wanted : Bool → Valuation → Term × Term → Bool
+are_as_wanted distinct v p = differs distinct (holds (equality p.0 p.1) v)
+
+-- these pairs, among more
+abbrev pub AreAsWanted : List (List ℕ) → Bool → List (Term × Term) → List (Term × Term) → Bool → Type 0
+AreAsWanted ws distinct all ps truth = (v : Valuation) (bs : List Bool) → AllOf (GivesPair ws bs v) all
+    → truth ≡ list_all (are_as_wanted distinct v) ps
+
+-- the second where the first is true, else the third
+abbrev pub chosen_truth : List Bool → Bool
+chosen_truth (c ∷ a ∷ b ∷ []) = if c then a else b
+chosen_truth _ = false
+
+abbrev pub is_same : Bool → Bool → Bool
+is_same a b = not (differs a b)
+
+-- what a connective makes of truths
+abbrev pub connected_truth : Connective → List Bool → Bool
+connected_truth connective.Not bs = not (all_true bs)
+connected_truth connective.And bs = all_true bs
+connected_truth connective.Or bs = some_true bs
+connected_truth connective.Implies bs = implied bs
+connected_truth connective.Xor bs = xor_of bs
+connected_truth connective.Ite bs = chosen_truth bs
+connected_truth (connective.Compare distinct) bs = if distinct then are_pairs differs bs else is_chain is_same bs
+
+-- what is kept of terms and regexes is right for the arena
+pub record AreReady (ts : List Term) (rs : List Regex) (ks : List Known) (m : Memory) : Type 0 where
+  pub normals : AreNormals ts rs ks
+  pub right : IsRight rs m

@@ -1,0 +1,256 @@
+//! The truth of a term.
+
+ghost use Rattle.std.specs.Prelude.{◌≡◌, ◌<◌, true, false, length, Some, slice_get, unwrap_or, IfOk};
+ghost use Rattle.std.specs.List.{list_all};
+ghost use Rattle.sb_meaning.specs.Terms.{Term};
+ghost use Rattle.sb_meaning.specs.Values.{Valuation};
+ghost use Rattle.sb_meaning.specs.Truth.{holds};
+ghost use Rattle.sb_script.specs.Brought.{asked, is_pair, is_regex, is_structure};
+ghost use Rattle.sb_regex.specs.Numbered.{Extends};
+ghost use Rattle.sb_term.specs.Numbered.{term_at};
+ghost use Rattle.sb_problem.specs.Known.{AreNormals};
+ghost use Rattle.sb_problem.specs.Normals.{IsRegexOf};
+ghost use Rattle.sb_problem.specs.Patterns.{number_of, pattern_in};
+ghost use Rattle.sb_plain.specs.Memory.{IsRight};
+ghost use Rattle.sb_fragment.specs.Compared.{compared};
+ghost use Rattle.sb_fragment.specs.Memberships.{equality};
+ghost use Rattle.sb_fragment.specs.Shapes.{are_numbers, are_word_pairs, parts_of, terms_of_pairs};
+ghost use Rattle.sb_atoms.specs.Given.{GivesValues};
+ghost use Rattle.sb_atoms.specs.Truths.{AreReady, IsTruthUnder, IsTruthOf, AreTruthsOf, AreAsWanted};
+
+use crate::connectives::connected;
+use sb_fragment::{Shape, arguments_of, compared, membership, pair_of, shape_of};
+use sb_lang::derivative::nullable_has_empty_word;
+use sb_lang::normal::normal_has_terms_words;
+use sb_plain::{Plain, right_stays};
+use sb_problem::{Normals, Pattern, normals_stay};
+use sb_regex::{Arena, RegexId};
+use sb_term::{Serial, Table, TermId};
+use sb_word::Word;
+use std::alloc::AllocError;
+
+/// Whether the word of a constant is what is asked for, where `regex` is the number of its normal regex.
+fn is_true_by(
+    plain: &mut Plain,
+    arena: &mut Arena,
+    serial: Serial,
+    regex: RegexId,
+    values: &[Word],
+) -> Result<bool, AllocError>
+    requires known { regex < length arena.old }
+    requires right { IsRight arena.old plain.old }
+    ensures ok { IfOk result (λ truth. (t R : Term) → asked t ≡ Some (serial.0, R) → IsRegexOf arena.old R regex
+        → IsTruthUnder values.now t truth) }
+    ensures extends { Extends arena.old arena.new }
+    ensures right { IsRight arena.new plain.new }
+{
+    normal_has_terms_words();
+    nullable_has_empty_word();
+    match values.get(serial.0 as usize) {
+        Some(word) => {
+            let _codes = word.codes();
+            plain.matches(arena, word, regex)
+        }
+        None => Ok(arena.nullable(regex)),
+    }
+}
+
+/// Whether the word of a constant is what a pattern asks for.
+fn member(
+    plain: &mut Plain,
+    normals: &mut Normals,
+    arena: &mut Arena,
+    table: &Table,
+    serial: Serial,
+    pattern: Pattern,
+    values: &[Word],
+) -> Result<bool, AllocError>
+    requires number { number_of pattern < length table.now }
+    requires kind { is_regex (pattern_in table.now pattern) ≡ true }
+    requires ready { AreReady table.now arena.old normals.old plain.old }
+    ensures ok { IfOk result (λ truth. (t : Term) → asked t ≡ Some (serial.0, pattern_in table.now pattern)
+        → IsTruthUnder values.now t truth) }
+    ensures extends { Extends arena.old arena.new }
+    ensures ready { AreReady table.now arena.new normals.new plain.new }
+{
+    right_stays();
+    normals_stay();
+    let Some(regex) = normals.pattern(table, arena, pattern)? else {
+        return Ok(false);
+    };
+    is_true_by(plain, arena, serial, regex, values)
+}
+
+/// Whether a String constant and a literal are equal.
+fn word_equality(
+    plain: &mut Plain,
+    normals: &mut Normals,
+    arena: &mut Arena,
+    table: &Table,
+    one: TermId,
+    other: TermId,
+    values: &[Word],
+) -> Result<bool, AllocError>
+    requires one { one < length table.now }
+    requires other { other < length table.now }
+    requires pair { is_pair (term_at table.now one) (term_at table.now other) ≡ true }
+    requires ready { AreReady table.now arena.old normals.old plain.old }
+    ensures ok { IfOk result
+        (IsTruthUnder values.now (equality (term_at table.now one) (term_at table.now other))) }
+    ensures extends { Extends arena.old arena.new }
+    ensures ready { AreReady table.now arena.new normals.new plain.new }
+{
+    let (serial, word) = pair_of(table, one, other).unwrap();
+    let pattern = Pattern::Word(word);
+    member(plain, normals, arena, table, serial, pattern, values)
+}
+
+/// Whether String constants and literals are equal, or where they are to be distinct, are not.
+fn word_pairs(
+    plain: &mut Plain,
+    normals: &mut Normals,
+    arena: &mut Arena,
+    table: &Table,
+    distinct: bool,
+    pairs: &[(TermId, TermId)],
+    values: &[Word],
+) -> Result<bool, AllocError>
+    requires numbers { are_numbers (length table.now) pairs.now ≡ true }
+    requires pairs { list_all (λ p. is_pair p.0 p.1) (terms_of_pairs table.now pairs.now) ≡ true }
+    requires ready { AreReady table.now arena.old normals.old plain.old }
+    ensures ok { IfOk result (AreAsWanted values.now distinct (terms_of_pairs table.now pairs.now)
+        (terms_of_pairs table.now pairs.now)) }
+    ensures extends { Extends arena.old arena.new }
+    ensures ready { AreReady table.now arena.new normals.new plain.new }
+{
+    for (one, other) in pairs {
+        let equal = word_equality(plain, normals, arena, table, *one, *other, values)?;
+        if equal == distinct {
+            return Ok(false);
+        }
+    }
+    Ok(true)
+}
+
+/// Whether a comparison of String constants with literals is true.
+fn words(
+    plain: &mut Plain,
+    normals: &mut Normals,
+    arena: &mut Arena,
+    table: &Table,
+    distinct: bool,
+    id: TermId,
+    values: &[Word],
+) -> Result<bool, AllocError>
+    requires number { id < length table.now }
+    requires pairs { are_word_pairs distinct (parts_of (term_at table.now id)) ≡ true }
+    requires ready { AreReady table.now arena.old normals.old plain.old }
+    ensures ok { IfOk result
+        (AreAsWanted values.now distinct (compared distinct (parts_of (term_at table.now id)))
+        (compared distinct (parts_of (term_at table.now id)))) }
+    ensures extends { Extends arena.old arena.new }
+    ensures ready { AreReady table.now arena.new normals.new plain.new }
+{
+    let pairs = compared(normals.allocator(), distinct, arguments_of(table, id))?;
+    word_pairs(plain, normals, arena, table, distinct, &pairs, values)
+}
+
+/// The truth at a serial.
+fn truth_at(truths: &[bool], serial: Serial) -> bool
+    ensures { result ≡ unwrap_or (slice_get truths.now serial.0) false }
+{
+    match truths.get(serial.0 as usize) {
+        Some(truth) => *truth,
+        None => false,
+    }
+}
+
+/// Whether a term of Boolean structure is true.
+#[cycle(structure)]
+fn structure(
+    plain: &mut Plain,
+    normals: &mut Normals,
+    arena: &mut Arena,
+    table: &Table,
+    id: TermId,
+    values: &[Word],
+    truths: &[bool],
+) -> Result<bool, AllocError>
+    requires number { id < length table.now }
+    requires structure { is_structure (term_at table.now id) ≡ true }
+    requires ready { AreReady table.now arena.old normals.old plain.old }
+    ensures ok { IfOk result (IsTruthOf values.now truths.now (term_at table.now id)) }
+    ensures extends { Extends arena.old arena.new }
+    ensures ready { AreReady table.now arena.new normals.new plain.new }
+{
+    if let Some((serial, pattern)) = membership(table, id) {
+        return member(plain, normals, arena, table, serial, pattern, values);
+    }
+    match shape_of(table, id) {
+        Shape::Constant(serial) => Ok(truth_at(truths, serial)),
+        Shape::Always(truth) => Ok(truth),
+        Shape::Alone => Ok(true),
+        Shape::Connected(connective) => {
+            let parts = parts(plain, normals, arena, table, id, values, truths)?;
+            Ok(connected(connective, &parts))
+        }
+        Shape::Words(distinct) => words(plain, normals, arena, table, distinct, id, values),
+        Shape::Other => unreachable!(),
+    }
+}
+
+/// Which arguments of a term are true.
+#[cycle(structure)]
+fn parts(
+    plain: &mut Plain,
+    normals: &mut Normals,
+    arena: &mut Arena,
+    table: &Table,
+    id: TermId,
+    values: &[Word],
+    truths: &[bool],
+) -> Result<Vec<bool>, AllocError>
+    requires number { id < length table.now }
+    requires structure { list_all is_structure (parts_of (term_at table.now id)) ≡ true }
+    requires ready { AreReady table.now arena.old normals.old plain.old }
+    ensures ok { IfOk result
+        (λ found. AreTruthsOf values.now truths.now (parts_of (term_at table.now id))
+        (parts_of (term_at table.now id)) found.items) }
+    ensures extends { Extends arena.old arena.new }
+    ensures ready { AreReady table.now arena.new normals.new plain.new }
+{
+    let mut found = Vec::new(normals.allocator());
+    for argument in arguments_of(table, id) {
+        let truth = structure(plain, normals, arena, table, *argument, values, truths)?;
+        found.push(truth)?;
+    }
+    Ok(found)
+}
+
+/// Whether a term of Boolean structure is true, where each String constant has the word at its serial, the empty word
+/// past the last one, and each Bool constant the truth at its serial, and is false past the last one.
+///
+/// Each argument is looked at once, so its cost is linear in the term's tree, but for that of [`Plain::matches`] for each
+/// membership and each comparison of Strings, and that of [`Normals::pattern`] where the regular expression, or the
+/// literal, was not asked for yet. `AllocError` only for want of memory; the arena may hold more regexes then.
+pub fn eval(
+    plain: &mut Plain,
+    normals: &mut Normals,
+    arena: &mut Arena,
+    table: &Table,
+    id: TermId,
+    values: &[Word],
+    truths: &[bool],
+) -> Result<bool, AllocError>
+    requires number { id < length table.now }
+    requires structure { is_structure (term_at table.now id) ≡ true }
+    requires normals { AreNormals table.now arena.old normals.old }
+    requires right { IsRight arena.old plain.old }
+    ensures ok { IfOk result (λ truth. (v : Valuation) → GivesValues values.now truths.now v (term_at table.now id)
+        → truth ≡ holds (term_at table.now id) v) }
+    ensures extends { Extends arena.old arena.new }
+    ensures normals { AreNormals table.now arena.new normals.new }
+    ensures right { IsRight arena.new plain.new }
+{
+    structure(plain, normals, arena, table, id, values, truths)
+}

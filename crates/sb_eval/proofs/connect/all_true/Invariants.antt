@@ -1,9 +1,0 @@
-use Rattle.std.proofs.Common.{◌≡◌, ◌≤◌, length, drop}
-use Rattle.sb_meaning.specs.Truth.{all_true}
-use Rattle.sb_eval.proofs.connect.all_true.Given as goal
-
-abbrev pub invariant-loop-left : goal.invariant-loop-left
-invariant-loop-left l = (l.left ≤ length l.fn.truths) × (l.all ≡ all_true (drop l.left l.fn.truths))
-
-abbrev pub decreases-loop-left : goal.decreases-loop-left
-decreases-loop-left l = l.left
