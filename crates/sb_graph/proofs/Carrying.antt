@@ -9,7 +9,7 @@ use Rattle.sb_regex.proofs.CallerLemmas.{at_kept, names_kept, names_below, numbe
 use Rattle.sb_deriv.specs.Faithful.{Memo, IsFaithful}
 use Rattle.sb_graph.specs.Findings.{Answers, AreBarren, AreAnswers, IsGraph}
 use Rattle.sb_graph.specs.Search.{AreReached, IsDone, IsSearched}
-use Rattle.sb_witness.specs.Queue.{Entry, regex_of, word_at}
+use Rattle.sb_graph.specs.Queue.{Entry, regex_of, word_at}
 
 module _ (old new : List Regex) (more : Extends old new) where
   pub barren_carried : (dead : List Bool) → AreBarren old dead → AreBarren new dead

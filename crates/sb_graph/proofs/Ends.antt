@@ -14,8 +14,8 @@ use Rattle.sb_graph.specs.Findings.{is_marked, IsBarren, AreBarren}
 use Rattle.sb_lang.specs.Least.{IsShortestLeast, HasNoWord}
 use Rattle.sb_graph.specs.Search.{IsMetBy, IsCovered, IsSearched, IsFound, AreMarked}
 use Rattle.sb_graph.proofs.Growing.{covered_later}
-use Rattle.sb_witness.specs.Queue.{Entry, regex_of, has_regex, word_at, AreWords, rank_from, rank, rank_at}
-use Rattle.sb_witness.proofs.CallerLemmas.{rank_grows, rank_short, rank_least}
+use Rattle.sb_graph.specs.Queue.{Entry, regex_of, has_regex, word_at, AreWords, rank_from, rank, rank_at}
+use Rattle.sb_graph.proofs.Ranks.{rank_grows, rank_short, rank_least}
 
 -- Regexes with marks have no word.
 

@@ -20,7 +20,7 @@ use Rattle.sb_graph.specs.Witness.{shortlex, IsFinding, ComesBefore, Precedes, I
 use Rattle.sb_graph.specs.Search.{IsSearched, IsTaken, IsFound, IsUnderWay}
 use Rattle.sb_graph.proofs.Ranks.{shortlex_rank}
 use Rattle.sb_graph.proofs.Ends.{member_along, rejected, root_covered}
-use Rattle.sb_witness.specs.Queue.{Entry, regex_of, word_at, AreWords, rank, rank_at}
+use Rattle.sb_graph.specs.Queue.{Entry, regex_of, word_at, AreWords, rank, rank_at}
 
 pub goes_on_same : (P : ℕ → Type 0) (old new : List ℕ) → new ≡ old → GoesOn P old new
 goes_on_same P old new e = record { more = []; is = e ∙ sym (append-nil old); each = All-nil P }

@@ -5,7 +5,7 @@ use Rattle.sb_lang.specs.Regex.{Regex}
 use Rattle.sb_lang.specs.Derivative.{nullable, nd}
 use Rattle.sb_regex.specs.Numbered.{regex_at}
 use Rattle.sb_graph.specs.Search.{IsMetBy, IsCovered, IsDone}
-use Rattle.sb_witness.specs.Queue.{Entry, entry_at, regex_of, word_at, rank}
+use Rattle.sb_graph.specs.Queue.{Entry, entry_at, regex_of, word_at, rank}
 
 pub record IsGrown (es : List Entry) (ws : List (List ℕ)) (es' : List Entry) (ws' : List (List ℕ)) : Type 0 where
   pub long : length es ≤ length es'

@@ -10,8 +10,8 @@ use Rattle.sb_regex.specs.Numbered.{regex_at, Names}
 use Rattle.sb_regex.proofs.CallerLemmas.{names_at}
 use Rattle.sb_graph.specs.Search.{AreReached}
 use Rattle.sb_graph.proofs.Growing.{IsGrown, grown_push}
-use Rattle.sb_witness.specs.Queue.{Entry, entry_at, regex_of, word_at, GoesBack, AreWords, rank, rank_at}
-use Rattle.sb_witness.proofs.CallerLemmas.{rank_from-push}
+use Rattle.sb_graph.specs.Queue.{Entry, entry_at, regex_of, word_at, GoesBack, AreWords, rank, rank_at}
+use Rattle.sb_graph.proofs.Ranks.{rank_from-push}
 
 nd_along-push : (r : Regex) (w : List ℕ) (c : ℕ) → nd_along r (w ++ c ∷ []) ≡ nd (nd_along r w) c
 unfolding nd_along

@@ -12,7 +12,7 @@ use Rattle.sb_regex.specs.Numbered.{regex_at, Extends}
 use Rattle.sb_regex.proofs.CallerLemmas.{at_kept, names_below}
 use Rattle.sb_deriv.specs.Faithful.{IsDerivative}
 use Rattle.sb_graph.specs.Findings.{is_marked, AreBarren}
-use Rattle.sb_graph.specs.Queue.{visited}
+use Rattle.sb_graph.specs.Visiting.{visited}
 use Rattle.sb_lang.specs.Least.{IsShortestLeast, HasNoWord}
 use Rattle.sb_graph.specs.Search.{IsTaken, IsSearched, HasCome, IsUnderWay, IsFound, IsVisited, AreMarked}
 use Rattle.sb_graph.proofs.Carrying.{searched_carried}
@@ -21,7 +21,7 @@ use Rattle.sb_graph.proofs.Turns.{searched_next, visited_keeps}
 use Rattle.sb_graph.proofs.Steps.{regexes_below}
 use Rattle.sb_graph.proofs.Expanding.{goes_on_same, taken_next, each_reached}
 use Rattle.sb_graph.specs.Witness.{GoesOn, IsReachedBy}
-use Rattle.sb_witness.specs.Queue.{Entry, regex_of, word_at, AreWords, AreTested, IsFirstNullable}
+use Rattle.sb_graph.specs.Queue.{Entry, regex_of, word_at, AreWords, AreTested, IsFirstNullable}
 
 pub on_ok : {T E : Type 0} (P Q : Type 0) (r : Result T E) → OnOk r P → (P → Q) → OnOk r Q
 on_ok P Q (Ok x) h f = f h

@@ -14,9 +14,9 @@ use Rattle.sb_lang.specs.Least.{IsShortestLeast}
 use Rattle.sb_regex.specs.Numbered.{regex_at, Names}
 use Rattle.sb_regex.proofs.CallerLemmas.{names_from}
 use Rattle.sb_graph.specs.Findings.{Findings, Answers, is_marked, answer_of, is_settled, IsAnswer, AreAnswers}
-use Rattle.sb_graph.specs.Queue.{visited, with_marks}
+use Rattle.sb_graph.specs.Visiting.{visited, with_marks}
 use Rattle.sb_graph.specs.Search.{IsSearched, AreMarked}
-use Rattle.sb_witness.specs.Queue.{Entry, regex_of, has_regex, with_entry, word_at, rank_from, rank_at}
+use Rattle.sb_graph.specs.Queue.{Entry, regex_of, has_regex, with_entry, word_at, rank_from, rank_at}
 
 -- The queue.
 

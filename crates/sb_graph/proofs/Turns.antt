@@ -11,12 +11,12 @@ use Rattle.sb_regex.proofs.CallerLemmas.{names_from}
 use Rattle.sb_deriv.specs.Pieces.{value_from, value_at, rises, covers, targets_of}
 use Rattle.sb_deriv.specs.Faithful.{IsDerivative}
 use Rattle.sb_graph.specs.Findings.{is_marked}
-use Rattle.sb_graph.specs.Queue.{visited}
+use Rattle.sb_graph.specs.Visiting.{visited}
 use Rattle.sb_graph.specs.Search.{StandsBy, IsMetBy, IsCovered, AreReached, IsDone, IsSearched}
 use Rattle.sb_graph.proofs.Growing.{IsGrown, grown_same, grown_more, met_later, met_grown, done_grown}
 use Rattle.sb_graph.proofs.Pushing.{reached_push, reached_grown, reached_rank, reached_entry, reached_each}
 use Rattle.sb_deriv.proofs.CallerLemmas.{above_stays, covers_rises, rises_le, value_after}
-use Rattle.sb_witness.specs.Queue.{Entry, regex_of, has_regex, word_at, rank, rank_at}
+use Rattle.sb_graph.specs.Queue.{Entry, regex_of, has_regex, word_at, rank, rank_at}
 
 -- Pieces.
 

@@ -1,5 +1,11 @@
 pub mod Findings
+pub mod Lengths
 pub mod Queue
+pub mod Edges
+pub mod Strongest
+pub mod Members
+pub mod Walks
+pub mod Visiting
 pub mod Witness
 pub mod Search
 pub mod Laws

@@ -6,9 +6,9 @@ use Rattle.sb_lang.specs.Derivative.{nullable, nd, nd_along}
 use Rattle.sb_regex.specs.Numbered.{regex_at, Names}
 use Rattle.sb_deriv.specs.Faithful.{IsDerivative}
 use Rattle.sb_graph.specs.Findings.{is_marked}
-use Rattle.sb_graph.specs.Queue.{visited}
+use Rattle.sb_graph.specs.Visiting.{visited}
 use Rattle.sb_graph.specs.Witness.{GoesOn}
-use Rattle.sb_witness.specs.Queue.{Entry, regex_of, has_regex, word_at, GoesBack, AreWords, rank_at}
+use Rattle.sb_graph.specs.Queue.{Entry, regex_of, has_regex, word_at, GoesBack, AreWords, rank_at}
 
 -- the number stands at a place whose word has at most this rank
 pub record StandsBy (es : List Entry) (words : List (List ℕ)) (n : ℕ) (most : ℕ) : Type 0 where

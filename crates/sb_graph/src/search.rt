@@ -3,11 +3,11 @@
 ghost use Rattle.std.specs.Prelude.{◌≡◌, ℕ, ◌<◌, List, length, get_or, IfOk, OnOk, MatchOption};
 ghost use Rattle.sb_word.specs.Words.{IsWord};
 ghost use Rattle.sb_graph.specs.Findings.{is_marked};
-ghost use Rattle.sb_graph.specs.Queue.{visited, with_marks};
-ghost use Rattle.sb_witness.specs.Queue.{word_at, GoesBack, AreWords, LeadsBy, AreTested, IsFirstNullable};
+ghost use Rattle.sb_graph.specs.Visiting.{visited, with_marks};
+ghost use Rattle.sb_graph.specs.Queue.{word_at, GoesBack, AreWords, LeadsBy, AreTested, IsFirstNullable};
 
+use crate::queue::Queue;
 use sb_regex::RegexId;
-use sb_witness::Queue;
 use std::alloc::AllocError;
 
 /// Whether the regex of a number has a mark.

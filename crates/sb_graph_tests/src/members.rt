@@ -2,10 +2,9 @@
 
 use crate::explorations::{answer, least_word};
 use sb_deriv::Deriver;
-use sb_graph::Explored;
+use sb_graph::{Explored, Outcome, find_word};
 use sb_regex::{Arena, RegexId};
 use sb_regex_tests::terms::{and, cat, range, regex, star};
-use sb_witness::{Outcome, find_word};
 use std::alloc::{AllocError, Global};
 use std::process::Abort;
 use std::test::Fail;

@@ -1,5 +1,5 @@
 use Rattle.std.proofs.Common.{◌≡◌, drop}
-use Rattle.sb_graph.specs.Queue.{with_marks}
+use Rattle.sb_graph.specs.Visiting.{with_marks}
 use Rattle.sb_graph.proofs.search.mark.Given as goal
 
 abbrev pub invariant-loop-regex : goal.invariant-loop-regex

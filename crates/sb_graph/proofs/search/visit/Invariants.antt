@@ -1,5 +1,5 @@
 use Rattle.std.proofs.Common.{◌≡◌, drop}
-use Rattle.sb_graph.specs.Queue.{visited}
+use Rattle.sb_graph.specs.Visiting.{visited}
 use Rattle.sb_graph.proofs.search.visit.Given as goal
 
 abbrev pub invariant-loop-start : goal.invariant-loop-start

@@ -6,7 +6,7 @@ use Rattle.sb_graph.proofs.Expanding.{each_precedes, expanded_both}
 use Rattle.sb_graph.proofs.Steps.{started}
 use Rattle.sb_graph.proofs.Searching.{under_way_start}
 use Rattle.sb_graph.proofs.graph.Graph.answer.Goals as goal
-use Rattle.sb_witness.specs.Queue.{with_entry}
+use Rattle.sb_graph.specs.Queue.{with_entry}
 
 pub take_turns-requires-clause-start : goal.take_turns-requires-clause-start
 take_turns-requires-clause-start c =

@@ -1,7 +1,7 @@
 use Rattle.std.proofs.Common.{ap, ◌∙◌}
 use Rattle.sb_graph.proofs.Steps.{started}
 use Rattle.sb_graph.proofs.graph.Graph.answer_within.Goals as goal
-use Rattle.sb_witness.specs.Queue.{with_entry}
+use Rattle.sb_graph.specs.Queue.{with_entry}
 
 pub take_turns-requires-clause-start : goal.take_turns-requires-clause-start
 take_turns-requires-clause-start c =

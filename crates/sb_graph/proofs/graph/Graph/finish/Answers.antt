@@ -13,7 +13,7 @@ use Rattle.sb_graph.proofs.Expanding.{found_reached}
 use Rattle.sb_graph.proofs.Steps.{settled_by}
 use Rattle.sb_graph.proofs.Searching.{come_start, root_known, found_answer, dead_barren, dead_root, dead_answer}
 use Rattle.sb_graph.proofs.graph.Graph.finish.Goals as goal
-use Rattle.sb_witness.specs.Queue.{regex_of}
+use Rattle.sb_graph.specs.Queue.{regex_of}
 
 pub returns-in_err-keep-in-Some-clause-graph : goal.returns-in_err-keep-in-Some-clause-graph
 returns-in_err-keep-in-Some-clause-graph c =

@@ -4,7 +4,7 @@ use Rattle.sb_regex.proofs.CallerLemmas.{at_kept, names_below}
 use Rattle.sb_graph.specs.Witness.{IsFinding}
 use Rattle.sb_graph.proofs.Searching.{come_start, root_known}
 use Rattle.sb_graph.proofs.graph.Graph.finish_within.Goals as goal
-use Rattle.sb_witness.specs.Queue.{regex_of}
+use Rattle.sb_graph.specs.Queue.{regex_of}
 
 pub is_open-requires : goal.is_open-requires
 is_open-requires c =

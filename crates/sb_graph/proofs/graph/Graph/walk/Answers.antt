@@ -2,7 +2,7 @@ use Rattle.std.proofs.Common.{ap, ◌∙◌, arith}
 use Rattle.sb_graph.proofs.Steps.{started}
 use Rattle.sb_graph.proofs.Searching.{come_start}
 use Rattle.sb_graph.proofs.graph.Graph.walk.Goals as goal
-use Rattle.sb_witness.specs.Queue.{with_entry}
+use Rattle.sb_graph.specs.Queue.{with_entry}
 
 pub finish-requires-clause-start : goal.finish-requires-clause-start
 finish-requires-clause-start c =

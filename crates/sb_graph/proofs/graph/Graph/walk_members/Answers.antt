@@ -4,7 +4,7 @@ use Rattle.sb_lang.specs.Least.{IsShortestLeast}
 use Rattle.sb_deriv.specs.Faithful.{IsFaithful, KeepsEntries}
 use Rattle.sb_regex.specs.Numbered.{regex_at}
 use Rattle.sb_regex.proofs.CallerLemmas.{at_kept, number_kept}
-use Rattle.sb_witness.specs.Witness.{IsOutcome}
+use Rattle.sb_graph.specs.Members.{IsOutcome}
 use Rattle.sb_graph.specs.Findings.{AreBarren, AreAnswers}
 use Rattle.sb_graph.proofs.Carrying.{graph_carried}
 use Rattle.sb_graph.proofs.graph.Graph.walk_members.Goals as goal

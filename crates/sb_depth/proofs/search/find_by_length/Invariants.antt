@@ -1,6 +1,0 @@
-use Rattle.sb_depth.specs.Lengths.{IsSearching}
-use Rattle.sb_depth.proofs.search.find_by_length.Given as goal
-
-abbrev pub invariant-loop-wanted : goal.invariant-loop-wanted
-invariant-loop-wanted l =
-    IsSearching l.fn.arena l.arena l.fn.deriver l.deriver l.failed.keys l.root l.wanted l.codes.items

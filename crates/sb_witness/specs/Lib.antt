@@ -1,5 +1,0 @@
-pub mod Witness
-pub mod Queue
-pub mod Edges
-pub mod Search
-pub mod Strongest
