@@ -18,7 +18,8 @@ use Rattle.sb_reader.specs.Feeding.{Unanswered, Takes, Waits, Ends, ShortensTo, 
 use Rattle.sb_reader.specs.Laws.{EntryStays, EntryHasBytes}
 use Rattle.sb_reader.proofs.CallerLemmas.{shortens_to_itself, shortens_twice, shortens_before, same_entry, same_none, same_end}
 use Rattle.sb_input.specs.TakingEntries.{EntriesState, ReadsOn, IsLeft, TakesEntry, Leaves, Finds, Advances, IsCutShort, is_clean, most_to_come}
-use Rattle.sb_input.specs.KeepingEntries.{FindsKept, ReadsPiece, with_kept, turns_of, turns_left}
+use Rattle.sb_input.specs.KeepingEntries.{FindsKept, ReadsPiece, with_kept, turns_left}
+use Rattle.sb_input.specs.Pieces.{turns_of}
 use Rattle.sb_input.proofs.PieceLemmas.{piece_front, end_met, on_read, at_some, moved_both, turns_fewer}
 
 pub piece_read : (old : EntriesState) (piece : List ℕ) (count : ℕ) (kept : Unanswered) (before after : Outside)

@@ -12,7 +12,8 @@ use Rattle.sb_rulebook.specs.Reading.{texts_of}
 use Rattle.sb_input.specs.declared.lines.Found.{Found}
 use Rattle.sb_input.specs.declared.lines.Found.TheVariants.{Line, End, Limit}
 use Rattle.sb_input.specs.TakingLines.{LinesState, state_of, ReadsOn, IsLeft, Advances, IsCutShort}
-use Rattle.sb_input.specs.KeepingLines.{TakesLine, FindsKept, ReadsPiece, cleared, all_taken, turns_of, turns_left}
+use Rattle.sb_input.specs.KeepingLines.{TakesLine, FindsKept, ReadsPiece, cleared, all_taken, turns_left}
+use Rattle.sb_input.specs.Pieces.{turns_of}
 use Rattle.sb_input.proofs.CallerLemmas.{texts_of-ended, texts_of-unended}
 use Rattle.sb_input.proofs.PieceLemmas.{piece_front, end_met, on_read, at_some, moved_both, turns_fewer}
 
