@@ -2,10 +2,10 @@
 
 use crate::reader::{Item, content, no_block};
 use anyhow::{Context, Result, bail, ensure};
-use std::alloc::{AllocError, Global};
+use std::alloc::Global;
 
 /// What is run.
-#[derive(Clone, Copy)]
+#[derive(Drop)]
 pub enum Kind {
     /// The solver.
     Solve,
@@ -44,8 +44,9 @@ pub struct Case<'a> {
     pub changes: Vec<Change>,
     pub errors: Option<Vec<u8>>,
     pub verdicts: Option<Vec<u8>>,
-    /// How many bytes a read gives at most; none for each number up to the length of the script.
-    pub pieces: Option<usize>,
+    /// How many bytes a read gives at most, each number in a run of its own; none for each number up to the length of
+    /// the script and of the proof.
+    pub pieces: Option<Vec<usize>>,
     /// The first and the last call that fails, each in a run of its own; 0 for no call.
     pub fails: (u64, u64),
     /// Each front of the proof is checked.
@@ -53,16 +54,25 @@ pub struct Case<'a> {
     pub calls: Option<u64>,
     pub status: Option<&'a str>,
     pub opened: Option<&'a str>,
-    /// The fronts of lines of which the proof has none twice.
+    /// How the lines of the written proof begin of which there is one, and none twice.
     pub once: Vec<&'a str>,
 }
 
 impl<'a> Case<'a> {
-    /// In front of the first case.
-    pub fn none(alloc: Global) -> Case<'a> {
-        Case {
-            kind: Kind::Solve,
-            name: "",
+    /// The case that a head begins, by its kind and its name.
+    pub fn begun(alloc: Global, names: &'a str, body: &str) -> Result<Case<'a>> {
+        no_block(body)?;
+        let (kind, name) = names.split_once(' ').context("a case has no name")?;
+        Ok(Case {
+            kind: match kind {
+                "solve" => Kind::Solve,
+                "check" => Kind::Check,
+                "both" => Kind::Both,
+                "calm" => Kind::Calm,
+                "session" => Kind::Session,
+                _ => bail!("no kind of case: {kind}"),
+            },
+            name,
             note: "",
             runs: 0,
             words: None,
@@ -72,47 +82,25 @@ impl<'a> Case<'a> {
             changes: Vec::new(alloc),
             errors: None,
             verdicts: None,
-            pieces: Some(usize::MAX),
+            pieces: Some(Vec::from_slice(alloc, &[usize::MAX])?),
             fails: (0, 0),
             fronts: false,
             calls: None,
             status: None,
             opened: None,
             once: Vec::new(alloc),
-        }
-    }
-
-    /// The case that a head begins.
-    pub fn begun(alloc: Global, item: &Item<'a>) -> Result<Case<'a>> {
-        no_block(item.body.as_str())?;
-        let mut case = Case::none(alloc);
-        let (_, behind) = item.head.split_once(' ').context("no case")?;
-        let (kind, name) = behind.split_once(' ').context("a case has no name")?;
-        case.name = name;
-        case.kind = match kind {
-            "solve" => Kind::Solve,
-            "check" => Kind::Check,
-            "both" => Kind::Both,
-            "calm" => Kind::Calm,
-            "session" => Kind::Session,
-            _ => bail!("no kind of case: {kind}"),
-        };
-        Ok(case)
+        })
     }
 
     /// Refuses a case without a run.
     pub fn ended(&self) -> Result<()> {
-        ensure!(
-            self.runs > 0 || self.name.is_empty(),
-            "the case {} has no answers",
-            self.name
-        );
+        let name = self.name;
+        ensure!(self.runs > 0, "the case {name} has no answers");
         Ok(())
     }
 
     /// Takes in a head with the lines behind it, and gives the answers, where it is their head: with them the case runs.
     pub fn take(&mut self, alloc: Global, item: &Item<'a>) -> Result<Option<Vec<u8>>> {
-        ensure!(!self.name.is_empty(), "no case has begun");
         let words: Vec<&'a str> = item.head.split_whitespace().collect(alloc)?;
         let body = item.body.as_str();
         match words.as_slice() {
@@ -141,9 +129,22 @@ impl<'a> Case<'a> {
     /// Takes in a directive of one line.
     fn direct(&mut self, alloc: Global, words: &[&'a str], head: &'a str) -> Result<()> {
         match words {
-            ["words", words @ ..] => self.words = Some(read_words(alloc, words)?),
+            ["words", words @ ..] => {
+                let words = words
+                    .iter()
+                    .map(|word| if *word == "\"\"" { "" } else { *word });
+                self.words = Some(words.collect(alloc)?)
+            }
             ["pieces", "all"] => self.pieces = None,
-            ["pieces", number] => self.pieces = Some(number.parse::<usize>()?),
+            ["pieces", numbers @ ..] => {
+                let lengths = numbers
+                    .iter()
+                    .map(|number| number.parse::<usize>().unwrap_or(0));
+                let lengths: Vec<usize> = lengths.collect(alloc)?;
+                let given = !lengths.is_empty() && !lengths.contains(&0);
+                ensure!(given, "no numbers of bytes");
+                self.pieces = Some(lengths)
+            }
             ["fail", "none"] => self.fails = (0, 0),
             ["fail", calls] => self.fails = read_calls(calls)?,
             ["fronts", "all"] => self.fronts = true,
@@ -152,10 +153,7 @@ impl<'a> Case<'a> {
             ["status"] => self.status = None,
             ["status", word] => self.status = Some(*word),
             ["opened", ..] => self.opened = head.strip_prefix("-- opened "),
-            ["once", ..] => {
-                self.once
-                    .push(head.strip_prefix("-- once ").unwrap_or(""))?
-            }
+            ["once", ..] => self.once.push(head.strip_prefix("-- once ").unwrap_or(""))?,
             ["note", ..] => self.note = head.strip_prefix("-- note ").unwrap_or(""),
             _ => bail!("no directive"),
         }
@@ -167,10 +165,9 @@ impl<'a> Case<'a> {
         let Some(base) = &self.proof else {
             return Ok(None);
         };
-        let lines: Vec<&[u8]> = base.split_inclusive(|byte| *byte == b'\n').collect(alloc)?;
         let mut proof = Vec::new(alloc);
         let mut number = 0usize;
-        for line in &lines {
+        for line in base.split_inclusive(|byte| *byte == b'\n') {
             number = number.saturating_add(1);
             let found = self
                 .changes
@@ -185,14 +182,6 @@ impl<'a> Case<'a> {
         let within = self.changes.iter().all(|change| change.last <= number);
         ensure!(within, "the proof has no line of the number of a change");
         Ok(Some(proof))
-    }
-
-    /// Forgets what holds for one run.
-    pub fn forget(&mut self) {
-        self.changes.clear();
-        self.calls = None;
-        self.verdicts = None;
-        self.note = "";
     }
 }
 
@@ -215,14 +204,6 @@ impl Change {
             text: content(alloc, options, body)?,
         })
     }
-}
-
-/// The words of a directive, where `""` is the empty one.
-fn read_words<'a>(alloc: Global, words: &[&'a str]) -> Result<Vec<&'a str>, AllocError> {
-    words
-        .iter()
-        .map(|word| if *word == "\"\"" { "" } else { *word })
-        .collect(alloc)
 }
 
 /// The number of a call, or the first and the last one.

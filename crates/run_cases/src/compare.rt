@@ -8,25 +8,13 @@ use std::io::Write;
 /// What was run so far.
 #[derive(Drop)]
 pub struct Tally {
-    rt: HostRuntime,
+    pub rt: HostRuntime,
     pub cases: u64,
     pub runs: u64,
     pub differ: u64,
-    /// A file was not read or not understood.
-    pub unread: bool,
 }
 
 impl Tally {
-    pub fn new(rt: HostRuntime) -> Tally {
-        Tally {
-            rt,
-            cases: 0,
-            runs: 0,
-            differ: 0,
-            unread: false,
-        }
-    }
-
     /// Counts a run, and prints what differs.
     pub fn count(&mut self, found: &Found) -> Result<()> {
         self.runs = self.runs.saturating_add(1);
@@ -38,7 +26,7 @@ impl Tally {
     }
 }
 
-/// How much of what is wanted is to be written.
+/// How much of what is wanted is to be there.
 #[derive(Clone, Copy)]
 pub enum Front {
     /// All of it.
@@ -52,7 +40,7 @@ pub enum Front {
 }
 
 /// What is wanted of a run of a program.
-#[derive(Clone, Copy)]
+#[derive(Drop)]
 pub struct Wanted<'a> {
     pub status: &'a str,
     pub front: Front,
@@ -62,62 +50,22 @@ pub struct Wanted<'a> {
     pub errors: Option<&'a [u8]>,
     pub calls: Option<u64>,
     pub opened: Option<&'a str>,
+    /// How the lines of the written proof begin of which there is one, and none twice.
+    pub once: &'a [&'a str],
 }
 
 /// What differs in a run.
 #[derive(Drop)]
 pub struct Found {
-    alloc: Global,
+    pub alloc: Global,
     /// The file, the case and the run.
-    place: String,
-    text: Vec<u8>,
+    pub place: String,
+    pub text: Vec<u8>,
 }
 
 impl Found {
-    pub fn new(alloc: Global, place: String) -> Found {
-        Found {
-            alloc,
-            place,
-            text: Vec::new(alloc),
-        }
-    }
-
-    /// What came is to be what is wanted.
-    pub fn expect(&mut self, what: &str, wanted: &[u8], came: &[u8]) -> Result<(), AllocError> {
-        if wanted == came {
-            return Ok(());
-        }
-        self.tell(what, wanted, came)
-    }
-
-    /// What came of a run is to be what is wanted of it.
-    pub fn expect_run(
-        &mut self,
-        wanted: Wanted,
-        status: &str,
-        world: &MemWorld,
-    ) -> Result<(), AllocError> {
-        self.expect("the status", wanted.status.as_bytes(), status.as_bytes())?;
-        let answers = world.written(OutPort::Answers);
-        self.expect_front("the text of the answers", wanted.front, wanted.answers, answers)?;
-        if let Some(proof) = wanted.proof {
-            let came = world.written(OutPort::Proof);
-            self.expect_front("the proof", wanted.front, proof, came)?;
-        }
-        self.expect_errors(wanted, world.written(OutPort::Faults))?;
-        let faults = u64::from(wanted.status == "fault");
-        self.expect_number("the number of faults", faults, world.faults())?;
-        if let Some(calls) = wanted.calls {
-            self.expect_number("the number of calls", calls, world.calls())?;
-        }
-        if let Some(ports) = wanted.opened {
-            self.expect("what is opened", ports.as_bytes(), opened(world).as_bytes())?;
-        }
-        Ok(())
-    }
-
     /// What came is to be so much of what is wanted.
-    fn expect_front(
+    pub fn expect(
         &mut self,
         what: &str,
         front: Front,
@@ -128,56 +76,14 @@ impl Found {
             Front::Whole => wanted == came,
             Front::Any => wanted.starts_with(came),
             Front::Less => wanted.starts_with(came) && came.len() < wanted.len(),
-            Front::Refused => match str::from_utf8(came) {
-                Ok(text) => text
-                    .split_once("refused at line ")
-                    .is_some_and(|(front, _)| wanted.starts_with(front.as_bytes())),
-                Err(_) => false,
-            },
+            Front::Refused => str::from_utf8(came)
+                .ok()
+                .and_then(|text| text.split_once("refused at line "))
+                .is_some_and(|(front, _)| wanted.starts_with(front.as_bytes())),
         };
         if fits {
             return Ok(());
         }
-        self.tell(what, wanted, came)
-    }
-
-    /// Standard error has the text that is wanted, or else some where the words are wrong and none elsewhere.
-    fn expect_errors(&mut self, wanted: Wanted, came: &[u8]) -> Result<(), AllocError> {
-        match wanted.errors {
-            Some(errors) => self.expect("standard error", errors, came),
-            None if wanted.status != "usage" => self.expect("standard error", b"", came),
-            None if came.is_empty() => self.tell("standard error", b"some text", came),
-            None => Ok(()),
-        }
-    }
-
-    fn expect_number(&mut self, what: &str, wanted: u64, came: u64) -> Result<(), AllocError> {
-        let wanted = format!(in self.alloc; "{wanted}")?;
-        let came = format!(in self.alloc; "{came}")?;
-        self.expect(what, wanted.as_bytes(), came.as_bytes())
-    }
-
-    /// Of the lines of the proof that begin so there is one, and none stands twice.
-    pub fn expect_once(&mut self, begins: &str, proof: &[u8]) -> Result<(), AllocError> {
-        let lines: Vec<&[u8]> = proof
-            .split(|byte| *byte == b'\n')
-            .filter(|line| line.starts_with(begins.as_bytes()))
-            .collect(self.alloc)?;
-        if lines.is_empty() {
-            self.tell("the proof", begins.as_bytes(), b"no line that begins so")?;
-        }
-        let mut place = 0usize;
-        for line in &lines {
-            if lines.iter().take(place).any(|other| other == line) {
-                self.tell("the proof", b"no line twice", line)?;
-            }
-            place = place.saturating_add(1);
-        }
-        Ok(())
-    }
-
-    /// Tells what differs, with what is wanted and what came.
-    pub fn tell(&mut self, what: &str, wanted: &[u8], came: &[u8]) -> Result<(), AllocError> {
         let parts: [&[u8]; 8] = [
             self.place.as_bytes(),
             b": ",
@@ -190,6 +96,92 @@ impl Found {
         ];
         for part in parts {
             self.text.extend_from_slice(part)?;
+        }
+        Ok(())
+    }
+
+    /// What came of a run is to be what is wanted of it.
+    pub fn expect_run(
+        &mut self,
+        wanted: &Wanted,
+        status: &str,
+        world: &MemWorld,
+    ) -> Result<(), AllocError> {
+        let (whole, front) = (Front::Whole, wanted.front);
+        self.expect(
+            "the status",
+            whole,
+            wanted.status.as_bytes(),
+            status.as_bytes(),
+        )?;
+        let answers = world.written(OutPort::Answers);
+        self.expect("the text of the answers", front, wanted.answers, answers)?;
+        let written = world.written(OutPort::Proof);
+        if let Some(proof) = wanted.proof {
+            self.expect("the proof", front, proof, written)?;
+        }
+        let errors = world.written(OutPort::Faults);
+        let usual: &[u8] = match wanted.status {
+            "usage" if errors.is_empty() => b"some text",
+            "usage" => errors,
+            _ => b"",
+        };
+        self.expect(
+            "standard error",
+            whole,
+            wanted.errors.unwrap_or(usual),
+            errors,
+        )?;
+        let faults = u64::from(wanted.status == "fault");
+        let calls = wanted.calls.unwrap_or(world.calls());
+        let counts = format!(in self.alloc; "{calls} calls and {faults} faults")?;
+        let (calls, faults) = (world.calls(), world.faults());
+        let came = format!(in self.alloc; "{calls} calls and {faults} faults")?;
+        self.expect(
+            "the count of calls",
+            whole,
+            counts.as_bytes(),
+            came.as_bytes(),
+        )?;
+        let ports = opened(world);
+        let wanted_ports = wanted.opened.unwrap_or(ports);
+        self.expect(
+            "what is opened",
+            whole,
+            wanted_ports.as_bytes(),
+            ports.as_bytes(),
+        )?;
+        for begins in wanted.once {
+            self.expect_once(begins, written)?;
+        }
+        Ok(())
+    }
+
+    /// Of the lines of the proof that begin so there is one, and none stands twice.
+    fn expect_once(&mut self, begins: &str, proof: &[u8]) -> Result<(), AllocError> {
+        let lines: Vec<&[u8]> = proof
+            .split(|byte| *byte == b'\n')
+            .filter(|line| line.starts_with(begins.as_bytes()))
+            .collect(self.alloc)?;
+        if lines.is_empty() {
+            self.expect(
+                "the lines of the proof",
+                Front::Whole,
+                begins.as_bytes(),
+                b"",
+            )?;
+        }
+        let mut place = 0usize;
+        for line in &lines {
+            if lines.iter().take(place).any(|other| other == line) {
+                self.expect(
+                    "how often a line of the proof stands",
+                    Front::Whole,
+                    b"once",
+                    line,
+                )?;
+            }
+            place = place.saturating_add(1);
         }
         Ok(())
     }

@@ -16,9 +16,8 @@ use crate::compare::Tally;
 use crate::reader::{Item, read_items};
 use crate::runs::run_case;
 use anyhow::{Context, Result, ensure};
-use std::env;
-use std::fs;
 use std::process::ExitCode;
+use std::{env, fs};
 
 fn main(rt: HostRuntime) -> ExitCode {
     match run(rt) {
@@ -34,28 +33,41 @@ fn main(rt: HostRuntime) -> ExitCode {
 /// Runs the cases of each file, and says whether all was as it is wanted.
 fn run(rt: HostRuntime) -> Result<bool> {
     let words: Vec<String> = env::args(&rt)?.collect(rt.alloc())?;
-    let mut tally = Tally::new(rt);
+    let mut tally = Tally {
+        rt,
+        cases: 0,
+        runs: 0,
+        differ: 0,
+    };
+    let mut all_read = true;
     for file in words.iter().skip(1) {
         if let Err(error) = run_file(rt, file.as_str(), &mut tally) {
-            tally.unread = true;
+            all_read = false;
             println!(rt; "{file}: {error}")?;
         }
     }
-    let Tally { cases, runs, differ, .. } = tally;
+    let (cases, runs, differ) = (tally.cases, tally.runs, tally.differ);
     println!(rt; "{cases} cases, {runs} runs, {differ} differ")?;
-    Ok(differ == 0 && !tally.unread)
+    Ok(all_read && differ == 0)
 }
 
 /// Runs the cases of a file.
 fn run_file(rt: HostRuntime, file: &str, tally: &mut Tally) -> Result<()> {
     let text = fs::read_to_string(&rt, file)?;
     let items = read_items(rt.alloc(), text.as_str())?;
-    let mut case = Case::none(rt.alloc());
+    let mut case = None;
     for item in &items {
         let line = item.line;
-        run_item(rt, file, item, &items, &mut case, tally).context(format_args!("line {line}"))?;
+        run_item(rt, file, item, &mut case, tally).context(format_args!("line {line}"))?;
+        if item.head.starts_with("== ") {
+            let count = items.iter().filter(|other| other.head == item.head).count();
+            ensure!(count == 1, "line {line}: another case has this name");
+        }
     }
-    case.ended()
+    match &case {
+        Some(case) => case.ended(),
+        None => Ok(()),
+    }
 }
 
 /// Takes in a head with the lines behind it, and runs the case where it holds the answers.
@@ -63,18 +75,18 @@ fn run_item<'a>(
     rt: HostRuntime,
     file: &str,
     item: &Item<'a>,
-    items: &[Item<'a>],
-    case: &mut Case<'a>,
+    case: &mut Option<Case<'a>>,
     tally: &mut Tally,
 ) -> Result<()> {
-    if item.head.starts_with("== ") {
-        case.ended()?;
-        let count = items.iter().filter(|other| other.head == item.head).count();
-        ensure!(count == 1, "another case has this name");
-        *case = Case::begun(rt.alloc(), item)?;
+    if let Some(names) = item.head.strip_prefix("== ") {
+        if let Some(case) = case {
+            case.ended()?;
+        }
+        *case = Some(Case::begun(rt.alloc(), names, item.body.as_str())?);
         tally.cases = tally.cases.saturating_add(1);
         return Ok(());
     }
+    let case = case.as_mut().context("no case has begun")?;
     match case.take(rt.alloc(), item)? {
         Some(answers) => run_case(rt, file, case, &answers, tally),
         None => Ok(()),

@@ -10,7 +10,7 @@ use sb_world::{CalmWorld, MemWorld, OutPort};
 use std::alloc::{AllocError, Global};
 
 /// What differs from one run of a case to the next.
-#[derive(Clone, Copy)]
+#[derive(Drop)]
 struct Turn<'a> {
     /// How many bytes a read gives at most.
     length: usize,
@@ -29,44 +29,45 @@ pub fn run_case(
     tally: &mut Tally,
 ) -> Result<()> {
     let alone = matches!(case.kind, Kind::Solve | Kind::Check);
-    ensure!(case.fails.1 == 0 || alone, "no call fails in this kind of case");
+    ensure!(
+        alone || case.fails.1 == 0,
+        "no call fails in this kind of case"
+    );
     let base = case.changed_proof(rt.alloc())?;
-    let proof = base.as_deref();
-    let script_length = case.script.as_deref().map_or(0, |script| script.len());
-    let proof_length = proof.map_or(0, |proof| proof.len());
-    let (shortest, longest) = match case.pieces {
-        Some(length) => (length, length),
-        None => (1, script_length.max(proof_length)),
+    let whole = base.as_deref().map_or(0, |proof| proof.len());
+    let longest = whole.max(case.script.as_deref().map_or(0, |script| script.len()));
+    let lengths: Vec<usize> = match &case.pieces {
+        Some(lengths) => lengths.clone()?,
+        None => (1..=longest).collect(rt.alloc())?,
     };
-    for length in shortest..=longest {
+    let (least, most) = if case.fronts {
+        (0, whole.saturating_sub(1))
+    } else {
+        (whole, whole)
+    };
+    for &length in &lengths {
         for fails in case.fails.0..=case.fails.1 {
-            let turn = Turn { length, fails, proof };
-            run_turn(rt, file, case, turn, answers, tally)?;
+            for end in least..=most {
+                let proof = base.as_deref().and_then(|proof| proof.get(..end));
+                run_once(
+                    rt,
+                    file,
+                    case,
+                    &Turn {
+                        length,
+                        fails,
+                        proof,
+                    },
+                    answers,
+                    tally,
+                )?;
+            }
         }
     }
-    case.forget();
-    Ok(())
-}
-
-/// Runs a case once, or once for each front of its proof.
-fn run_turn(
-    rt: HostRuntime,
-    file: &str,
-    case: &mut Case,
-    turn: Turn,
-    answers: &[u8],
-    tally: &mut Tally,
-) -> Result<()> {
-    let Some(proof) = turn.proof.filter(|_| case.fronts) else {
-        return run_once(rt, file, case, turn, answers, tally);
-    };
-    for length in 0..proof.len() {
-        let front = Turn {
-            proof: Some(&proof[..length]),
-            ..turn
-        };
-        run_once(rt, file, case, front, answers, tally)?;
-    }
+    case.changes.clear();
+    case.calls = None;
+    case.verdicts = None;
+    case.note = "";
     Ok(())
 }
 
@@ -75,15 +76,18 @@ fn run_once(
     rt: HostRuntime,
     file: &str,
     case: &mut Case,
-    turn: Turn,
+    turn: &Turn,
     answers: &[u8],
     tally: &mut Tally,
 ) -> Result<()> {
     let alloc = rt.alloc();
     case.runs = case.runs.saturating_add(1);
     let (name, number, note) = (case.name, case.runs, case.note);
-    let place = format!(in alloc; "{file}: {name}: run {number}: {note}")?;
-    let mut found = Found::new(alloc, place);
+    let mut found = Found {
+        alloc,
+        place: format!(in alloc; "{file}: {name}: run {number} {note}")?,
+        text: Vec::new(alloc),
+    };
     match case.kind {
         Kind::Solve => solve(alloc, case, turn, answers, &mut found)?,
         Kind::Check => check(alloc, case, turn, answers, &mut found)?,
@@ -95,7 +99,7 @@ fn run_once(
 }
 
 /// What is wanted of a run with these answers.
-fn wanted_of<'a>(case: &'a Case, turn: Turn<'a>, usual: &'a str, answers: &'a [u8]) -> Wanted<'a> {
+fn wanted_of<'a>(case: &'a Case, turn: &Turn<'a>, usual: &'a str, answers: &'a [u8]) -> Wanted<'a> {
     let (first, last) = case.fails;
     let usual = if last > 0 { "fault" } else { usual };
     let front = match case.kind {
@@ -110,8 +114,13 @@ fn wanted_of<'a>(case: &'a Case, turn: Turn<'a>, usual: &'a str, answers: &'a [u
         answers,
         proof: turn.proof,
         errors: case.errors.as_deref(),
-        calls: if last > 0 { Some(turn.fails) } else { case.calls },
+        calls: if last > 0 {
+            Some(turn.fails)
+        } else {
+            case.calls
+        },
         opened: case.opened,
+        once: &case.once,
     }
 }
 
@@ -119,7 +128,7 @@ fn wanted_of<'a>(case: &'a Case, turn: Turn<'a>, usual: &'a str, answers: &'a [u
 fn solve(
     alloc: Global,
     case: &Case,
-    turn: Turn,
+    turn: &Turn,
     answers: &[u8],
     found: &mut Found,
 ) -> Result<(), AllocError> {
@@ -133,14 +142,14 @@ fn solve(
     };
     let words = words_of(alloc, "strsolve", case.words.as_deref().unwrap_or(usual))?;
     let status = solve_status(solve_top(alloc, &words, &mut world));
-    found.expect_run(wanted_of(case, turn, "done", answers), status, &world)
+    found.expect_run(&wanted_of(case, turn, "done", answers), status, &world)
 }
 
 /// Runs the checker over the script and the proof.
 fn check(
     alloc: Global,
     case: &Case,
-    turn: Turn,
+    turn: &Turn,
     answers: &[u8],
     found: &mut Found,
 ) -> Result<(), AllocError> {
@@ -151,20 +160,25 @@ fn check(
     if let Some(proof) = turn.proof {
         world.add_file("p", proof)?;
     }
-    let words = words_of(alloc, "strcheck", case.words.as_deref().unwrap_or(&["s", "p"]))?;
+    let words = words_of(
+        alloc,
+        "strcheck",
+        case.words.as_deref().unwrap_or(&["s", "p"]),
+    )?;
     let status = check_status(check_top(alloc, &words, &mut world));
     let accepted = answers.ends_with(b"accepted\n") && !case.fronts;
     let usual = if accepted { "accepted" } else { "refused" };
     let mut wanted = wanted_of(case, turn, usual, answers);
     wanted.proof = None;
-    found.expect_run(wanted, status, &world)
+    wanted.once = &[];
+    found.expect_run(&wanted, status, &world)
 }
 
 /// Runs the solver over the script in a file, and the checker over the proof that came.
 fn both(
     alloc: Global,
     case: &Case,
-    turn: Turn,
+    turn: &Turn,
     answers: &[u8],
     found: &mut Found,
 ) -> Result<(), AllocError> {
@@ -173,15 +187,10 @@ fn both(
     world.add_file("s", script)?;
     let words = words_of(alloc, "strsolve", &["--proof", "p", "s"])?;
     let status = solve_status(solve_top(alloc, &words, &mut world));
-    let wanted = wanted_of(case, turn, "done", answers);
-    found.expect_run(wanted, status, &world)?;
-    let proof = world.written(OutPort::Proof);
-    for begins in &case.once {
-        found.expect_once(begins, proof)?;
-    }
+    found.expect_run(&wanted_of(case, turn, "done", answers), status, &world)?;
     let mut checked = world_of(alloc, case, turn)?;
     checked.add_file("s", script)?;
-    checked.add_file("p", proof)?;
+    checked.add_file("p", world.written(OutPort::Proof))?;
     let words = words_of(alloc, "strcheck", &["s", "p"])?;
     let status = check_status(check_top(alloc, &words, &mut checked));
     let verdicts = verdicts_of(alloc, answers)?;
@@ -193,8 +202,9 @@ fn both(
         errors: None,
         calls: None,
         opened: None,
+        once: &[],
     };
-    found.expect_run(wanted, status, &checked)
+    found.expect_run(&wanted, status, &checked)
 }
 
 /// Runs the solver over the script on standard input, in a world where nothing fails.
@@ -209,8 +219,14 @@ fn solve_calmly(
     let words = words_of(alloc, "strsolve", &[])?;
     let status = solve_status(solve_top(alloc, &words, &mut world));
     let wanted = case.status.unwrap_or("done");
-    found.expect("the status", wanted.as_bytes(), status.as_bytes())?;
-    found.expect("the text of the answers", answers, world.written(OutPort::Answers))
+    found.expect(
+        "the status",
+        Front::Whole,
+        wanted.as_bytes(),
+        status.as_bytes(),
+    )?;
+    let came = world.written(OutPort::Answers);
+    found.expect("the text of the answers", Front::Whole, answers, came)
 }
 
 /// Hands the entries of the script to a session, also those behind `(exit)`.
@@ -233,8 +249,14 @@ fn answer_entries(
         }
     }
     let wanted = case.status.unwrap_or("done");
-    found.expect("the status", wanted.as_bytes(), status.as_bytes())?;
-    found.expect("the text of the answers", answers, world.written(OutPort::Answers))
+    found.expect(
+        "the status",
+        Front::Whole,
+        wanted.as_bytes(),
+        status.as_bytes(),
+    )?;
+    let came = world.written(OutPort::Answers);
+    found.expect("the text of the answers", Front::Whole, answers, came)
 }
 
 /// Hands the next entry to a session, where there is one, and says how that went.
@@ -258,7 +280,7 @@ fn answer_entry(
 }
 
 /// A world with the files of the case, with reads and a fault as they are asked for.
-fn world_of(alloc: Global, case: &Case, turn: Turn) -> Result<MemWorld, AllocError> {
+fn world_of(alloc: Global, case: &Case, turn: &Turn) -> Result<MemWorld, AllocError> {
     let mut world = MemWorld::new(alloc);
     world.read_at_most(turn.length.max(1));
     if turn.fails > 0 {
