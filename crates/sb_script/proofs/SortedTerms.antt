@@ -15,7 +15,7 @@ use Rattle.sb_script.specs.Heads.{judged, joined, made, with_arguments, each_wit
 use Rattle.sb_script.specs.Reading.{read}
 use Rattle.sb_script.specs.WellSorted.{is_parameter_of, is_well_sorted_over, are_well_sorted_over}
 use Rattle.sb_script.specs.ReadingLaws.{if_read, IsKept, is_sorted_naming}
-use Rattle.sb_script.proofs.ReadingFacts.{by_test, read_keeps}
+use Rattle.sb_script.proofs.ReadingFacts.{by_test, reading_keeps}
 
 -- Sorts.
 
@@ -176,4 +176,4 @@ sorted_is_kept = record {
 pub read_is_well_sorted : (ps : List Sort) (names : List Naming) → list_all (is_sorted_naming ps) names ≡ true
     → (form : Form) (t : Term) → read names form ≡ Ok t → is_well_sorted_over ps t ≡ true
 read_is_well_sorted ps names fit form t h =
-    read_keeps is_well_sorted_over (λ serial sort. true) sorted_is_kept ps names fit form t h
+    reading_keeps is_well_sorted_over (λ serial sort. true) sorted_is_kept ps names fit form t h

@@ -1,6 +1,6 @@
 -- Heads: what a name, or a name with indices, is in front of arguments, and the term that it makes of them (SMT-LIB
 -- 2.6, section 3.6). The number of the arguments is judged before their sorts.
-use Rattle.std.specs.Prelude.{ℕ, Bool, true, false, not, ◌&&◌, ◌==◌, nat_eq, nat_le, if◌then◌else◌, List, [], ◌∷◌, map, length, codes, slice_get, Option, Some, None, option_map, unwrap_or, is_none, Result, Ok, Err}
+use Rattle.std.specs.Prelude.{ℕ, Bool, not, ◌&&◌, ◌==◌, nat_eq, nat_le, if◌then◌else◌, List, [], ◌∷◌, map, length, codes, slice_get, Option, Some, None, option_map, unwrap_or, is_none, Result, Ok, Err}
 use Rattle.std.specs.List.{list_all}
 use Rattle.sb_reader.specs.Forms.{Forms, Numeral, OtherNumber, none, more}
 use Rattle.sb_meaning.specs.Terms.{Sort, Term, Terms, constant, word, numeral, apply, parameter, no_terms, with_term, terms_of}

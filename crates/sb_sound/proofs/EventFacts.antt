@@ -6,7 +6,36 @@ use Rattle.sb_script.specs.Steps.{Step, answers, leaves, checks, exits}
 use Rattle.sb_script.specs.Replies.{step_of, is_exit}
 use Rattle.sb_rulebook.specs.Judging.{Event, asks}
 use Rattle.sb_rulebook.specs.Accepted.{question_in, event_of_leaving, events_of, state_behind, events}
-use Rattle.sb_sound.proofs.StepsAlike.{with_mode, Alike, entry_alike}
+use Rattle.sb_script.proofs.CallerLemmas.{with_mode, entry_keeps}
+
+-- What becomes of an entry depends on the mode in what is answered alone.
+
+-- two steps of an entry that ends the run, or does not, with the same events and states that differ in mode alone
+abbrev Alike : Bool → Step → Step → Type 0
+Alike false (answers bytes new) (answers text other) = with_mode plain new ≡ with_mode plain other
+Alike false (leaves what bytes new) (leaves which text other) =
+    (what ≡ which) × (with_mode plain new ≡ with_mode plain other)
+Alike false (checks given) (checks others) = given ≡ others
+Alike true (exits bytes) (exits text) = Unit {0}
+Alike _ _ _ = ⊥
+
+entry_alike : (s : State) (m : Mode) (entry : Entry)
+    → Alike (is_exit entry) (step_of entry (with_mode m s)) (step_of entry s)
+entry_alike s m = entry_keeps m s Alike (record {
+  stays = λ bytes text. refl;
+  sets = λ bytes logic begun options. refl;
+  declares = λ bytes name sort brought. refl;
+  marks = λ bytes name. refl;
+  makes = λ bytes name ps sorts form body brought is. refl;
+  asserts = λ bytes form t is truth. refl;
+  omits = λ bytes. refl;
+  pushes = λ bytes n. refl;
+  pops = λ bytes n. (refl, refl);
+  clears = λ bytes. (refl, refl);
+  resets = λ bytes. (refl, refl);
+  asks = λ forms. refl;
+  ends = λ bytes. tt;
+})
 
 -- the events from a step on
 abbrev pub events_from : Step → State → List Entry → List Event

@@ -2,27 +2,23 @@
 use Rattle.std.proofs.Common.{◌≡◌, ℕ, Bool, true, false, List, [], ◌∷◌, ◌++◌, Option, None, Some, refl, sym, subst, inl, inr, ap, ◌∙◌}
 use Rattle.std.proofs.lemmas.Bool.{false≢true}
 use Rattle.std.proofs.lemmas.List.{append-nil}
-use Rattle.sb_reader.specs.Entries.{Entry, Command, Refused, Begins}
+use Rattle.sb_reader.specs.Entries.{Entry, Begins}
 use Rattle.sb_reader.specs.Laws.{BeginningStays}
-use Rattle.sb_script.specs.Commands as command
-use Rattle.sb_script.specs.Commands.{command_of}
-use Rattle.sb_script.specs.Errors as error
 use Rattle.sb_script.specs.State.{State}
 use Rattle.sb_script.specs.State as state
-use Rattle.sb_script.specs.Steps.{Step, fails_by}
-use Rattle.sb_script.specs.Replies.{step, step_of, is_exit_command, is_exit}
+use Rattle.sb_script.specs.Steps.{Step, exits}
+use Rattle.sb_script.specs.Replies.{step_of, is_exit}
 use Rattle.sb_rulebook.specs.Accepted.{state_behind}
 use Rattle.sb_sound.specs.Outcomes.{behind}
+use Rattle.sb_sound.proofs.EventFacts.{is_exits, entry_exits}
 use Rattle.sb_sound.specs.OutcomeLaws.{SolvedEntries, WholeEntries}
 
-exits_by : (read : Option command.Command) (s : State) → is_exit_command read ≡ true
-    → state_behind (elim read as (λ _. Step) [ Some c ↦ step c s | None ↦ fails_by error.malformed_command s ]) s ≡ None
-exits_by (Some command.exit) s h = refl
-exits_by _ s h = absurd (false≢true h)
-
 no_state : (exit : Entry) (s : State) → is_exit exit ≡ true → state_behind (step_of exit s) s ≡ None
-no_state (Command form) s h = exits_by (command_of form) s h
-no_state (Refused refusal) s h = absurd (false≢true h)
+no_state exit s h = of_step (step_of exit s) (entry_exits exit s ∙ h)
+  where
+    of_step : (x : Step) → is_exits x ≡ true → state_behind x s ≡ None
+    of_step (exits bytes) h = refl
+    of_step _ h = absurd (false≢true h)
 
 abbrev next_behind : Option State → List Entry → Option State
 next_behind o entries = elim o as (λ _. Option State) [ Some next ↦ behind next entries | None ↦ None ]

@@ -54,12 +54,10 @@ mod SomeFacts
 mod AssumedTerms
 mod ScriptTruth
 mod WholeLines
-mod StepsAlike
 mod EventFacts
 mod AlongFacts
 mod Fronts
 mod Exits
 mod OutcomeFacts
 mod SimpleTerms
-mod ReachedCommands
 mod SimpleSteps

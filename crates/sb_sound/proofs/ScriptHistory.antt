@@ -1,33 +1,26 @@
 -- The events of a script are a history.
-use Rattle.std.proofs.Common.{◌≡◌, ℕ, zero, suc, ◌+◌, ◌^◌, ◌≤◌, Bool, true, false, not, if◌then◌else◌, nat_lt, nat_le, List, [], ◌∷◌, ◌++◌, length, map, drop, filter, cond, slice_get, codes, Option, Some, None, Result, Ok, Err, inl, inr, ◌⊎◌, refl, sym, subst, ap, ◌∙◌, arith, append_assoc}
+use Rattle.std.proofs.Common.{◌≡◌, ℕ, zero, suc, ◌+◌, ◌≤◌, Bool, true, false, if◌then◌else◌, nat_lt, List, [], ◌∷◌, ◌++◌, length, map, drop, slice_get, Option, Some, None, inl, inr, ◌⊎◌, refl, sym, subst, ap, ◌∙◌, arith, append_assoc}
 use Rattle.std.specs.Prelude.{replicate}
 use Rattle.std.specs.List.{list_all, All, Contains}
 use Rattle.std.proofs.lemmas.Bool.{and_parts, and_from, false≢true, lt-ltb, ltb-true}
 use Rattle.std.proofs.lemmas.List.{append-nil, length-drop}
 use Rattle.std.proofs.lemmas.List.Elements.{All-nil, All-cons, All-append, All-contains}
-use Rattle.sb_reader.specs.Forms.{Form, Symbol, QuotedSymbol, Numeral, Group, none, more}
-use Rattle.sb_script.specs.Texts.{number_of}
-use Rattle.sb_reader.specs.Entries.{Entry, Command, Refused}
-use Rattle.sb_meaning.specs.Terms.{Sort, Term, Terms, boolean, constant, word, numeral, apply, parameter, no_terms, with_term}
-use Rattle.sb_meaning.specs.Values.{Valuation}
-use Rattle.sb_meaning.specs.Sorts.{sort_of, is_same_sort}
-use Rattle.sb_script.specs.Names.{Name, is_name, begins_term}
+use Rattle.sb_reader.specs.Forms.{Form, Symbol, QuotedSymbol, Group, none, more}
+use Rattle.sb_reader.specs.Entries.{Entry}
+use Rattle.sb_meaning.specs.Terms.{Sort, Term, Terms, boolean, integer, text, reglan, constant, word, numeral, apply, parameter, no_terms, with_term}
+use Rattle.sb_meaning.specs.Sorts.{is_same_sort}
+use Rattle.sb_script.specs.Names.{Name, begins_term}
 use Rattle.sb_script.specs.Scopes.{Named, a_constant, a_definition, a_marked_name, a_term, named}
-use Rattle.sb_script.specs.Symbols.{is_taken, found_in, sorts_of_constants, sort_named, is_theory_name}
-use Rattle.sb_script.specs.Brought.{a_sort, an_option, is_brought}
-use Rattle.sb_script.specs.Faults.{Fault, unknown_symbol, wrong_sort, wrong_count, bad_index, unsupported, numeral_too_large, bad_literal, malformed, already_bound}
+use Rattle.sb_script.specs.Symbols.{is_theory_name}
+use Rattle.sb_script.specs.Brought.{is_brought_sort}
 use Rattle.sb_script.specs.Errors.{Error, first_of}
 use Rattle.sb_script.specs.Errors as error
-use Rattle.sb_script.specs.Reading.{read}
-use Rattle.sb_script.specs.State.{Assertion, asserted, a_mark, Assumption, Mode, plain, satisfied, refuted, undecided, Options, Level, State, empty_level, start, over_levels, names_of, in_level, with_name, declared, defined, marked, with_assertion, pushed, popped}
-use Rattle.sb_script.specs.Commands as command
-use Rattle.sb_script.specs.Commands.{command_of, Parameter, symbol_in}
-use Rattle.sb_script.specs.Steps.{Step, answers, leaves, checks, exits, Leaving, above, all, fails_by, success, succeeds, is_unsupported, refused_term}
-use Rattle.sb_script.specs.Options as options
-use Rattle.sb_script.specs.Options.{is_logic, truth_in, with_truth, settings, set_by, option_texts, info_texts, reason_unknown}
-use Rattle.sb_script.specs.Replies as meaning
-use Rattle.sb_script.specs.Replies.{sort_of_form, sorts_in_definition, sort_in_definition, bound_from, name_errors, body_errors, unless_error, defines, define_by, level_limit, Assumed, an_assumption, an_error, assumed_name, assumed_bare, is_not, assumed_form, errors_in, assumptions_in, contradicted, with_values, Item, some_malformed, first_unknown, all_constants, values_of, item_of, step, step_of}
-use Rattle.sb_script.proofs.CallerLemmas.{same_sort, same_sort_itself}
+use Rattle.sb_script.specs.State.{Assertion, asserted, a_mark, Assumption, Mode, Options, Level, State, empty_level, start, over_levels, names_of, in_level, with_name, declared, with_assertion, pushed}
+use Rattle.sb_script.specs.Commands.{Parameter}
+use Rattle.sb_script.specs.Steps.{Step, answers, leaves, checks, exits, Leaving, above, all}
+use Rattle.sb_script.specs.Replies.{bound_from, Assumed, an_assumption, an_error, assumed_name, assumed_bare, is_not, assumed_form, assumptions_in, step_of}
+use Rattle.sb_script.proofs.CallerLemmas.{if_some, same_sort, same_sort_itself}
+use Rattle.sb_script.proofs.CallerLemmas.{entry_keeps as steps_keep}
 use Rattle.sb_rulebook.specs.AtomRules.{is_declared}
 use Rattle.sb_rulebook.specs.Kept.{Asked}
 use Rattle.sb_rulebook.specs.Judging.{Event}
@@ -38,7 +31,7 @@ use Rattle.sb_sound.specs.AcceptedLaws.{IsHistory, ScriptIsHistory}
 use Rattle.sb_sound.proofs.Accepting.{slice_get-more, Contains-slice_get}
 use Rattle.sb_sound.proofs.PassFacts.{all_weaker, all_append, all_push}
 use Rattle.sb_sound.specs.ScriptLaws.{fits_in, all_in, kind_fits, naming_fits, assertion_fits, Fits, AllFit, has_default, IsFit, StartIsFit, FitMeansTerms, LeadsOn, EntriesLeadOn}
-use Rattle.sb_sound.proofs.ReadTerms.{found_fits, named_fits, fits_without, if_read, term_read}
+use Rattle.sb_sound.proofs.ReadTerms.{named_fits, fits_without, read_fits}
 
 -- Sorts grow at the end.
 
@@ -246,13 +239,6 @@ goes_declared s name sort valued fit =
     goes_named s (sort ∷ []) name (a_constant (length s.sorts) sort) (declared_last s.sorts sort)
     (and_from (has_default sort) true valued refl) fit
 
-goes_marked : (s : State) (name : Name) → IsFit s → Goes s (marked name s)
-goes_marked s name fit = goes_renamed s name a_marked_name refl fit
-
-goes_defined : (s : State) (name : Name) (kinds : List Sort) (body : Term)
-    → fits_in s.sorts (length kinds) body ≡ true → IsFit s → Goes s (defined name kinds body s)
-goes_defined s name kinds body here fit = goes_renamed s name (a_definition kinds body) here fit
-
 goes_asserted : (s : State) (assertion : Assertion) → assertion_fits s.sorts assertion ≡ true → IsFit s
     → Goes s (with_assertion assertion s)
 goes_asserted s assertion here fit =
@@ -327,163 +313,17 @@ popped_live (suc n) first (level ∷ levels) place a there low =
           absurd (omega (arith, is, low, length-drop n levels))
     ]
 
--- What is found in a table.
+-- Each entry.
 
-abbrev if_found : {A : Type 0} → (A → Bool) → Option A → Bool
-if_found p (Some x) = p x
-if_found p None = true
-
-found_passes : {A : Type 0} → (p : A → Bool) (rows : List (Name × A)) (name : Name)
-    → list_all (λ row. p row.1) rows ≡ true → if_found p (found_in rows name) ≡ true
-found_passes p [] name h = refl
-found_passes p (row ∷ rows) name h =
-    let parts = and_parts (p row.1) (list_all (λ r. p r.1) rows) h in
-    step (is_name name row.0) parts.0 (found_passes p rows name parts.1)
-  where
-    step : (b : Bool) → p row.1 ≡ true → if_found p (found_in rows name) ≡ true
-        → if_found p (if b then Some row.1 else found_in rows name) ≡ true
-    step true here rest = here
-    step false here rest = rest
-
-form_valued : (sort : Form) → if_found has_default (sort_of_form sort) ≡ true
-form_valued sort = step (symbol_in sort)
-  where
-    step : (o : Option Name) → if_found has_default
-        (elim o as (λ _. Option Sort) [ Some name ↦ sort_named name | None ↦ None ]) ≡ true
-    step (Some name) =
-        found_passes has_default (filter (λ row. is_brought (a_sort row.1)) sorts_of_constants) name refl
-    step None = refl
-
--- Each command.
+default_brought : (sort : Sort) → is_brought_sort sort ≡ true → has_default sort ≡ true
+default_brought boolean h = refl
+default_brought text h = refl
+default_brought integer h = absurd (false≢true h)
+default_brought reglan h = absurd (false≢true h)
 
 module _ (s : State) (fit : IsFit s) where
-  same : Goes s s
-  same = goes_same s s.logic_set s.begun s.options s.mode fit
-
-  with_options : (begun : Bool) (options : Options) → Goes s (record s { begun = begun; options = options })
-  with_options begun options = goes_same s s.logic_set begun options s.mode fit
-
-  by_test : (b : Bool) (x y : Step) → IsKept s x → IsKept s y → IsKept s (if b then x else y)
-  by_test true x y p q = p
-  by_test false x y p q = q
-
-  by_option : {A : Type 0} (o : Option A) (f : A → Step) (x : Step) → ((a : A) → IsKept s (f a)) → IsKept s x
-      → IsKept s (elim o [ Some a ↦ f a | None ↦ x ])
-  by_option None f x p q = q
-  by_option (Some a) f x p q = p a
-
-  by_option_so : {A : Type 0} (p : A → Bool) (o : Option A) (f : A → Step) (x : Step) → if_found p o ≡ true
-      → ((a : A) → p a ≡ true → IsKept s (f a)) → IsKept s x → IsKept s (elim o [ Some a ↦ f a | None ↦ x ])
-  by_option_so p None f x h k l = l
-  by_option_so p (Some a) f x h k l = k a h
-
-  by_result : (p : Term → Bool) (r : Result Term Fault) (f : Term → Step) (g : Fault → Step)
-      → if_read p r ≡ true → ((t : Term) → p t ≡ true → IsKept s (f t))
-      → ((fault : Fault) → IsKept s (g fault)) → IsKept s (elim r [ Ok t ↦ f t | Err fault ↦ g fault ])
-  by_result p (Ok t) f g h k l = k t h
-  by_result p (Err fault) f g h k l = l fault
-
-  by_mode : (m : Mode) (f : Valuation → Step) (x : Step) → ((v : Valuation) → IsKept s (f v)) → IsKept s x
-      → IsKept s (elim m [ satisfied v ↦ f v | plain ↦ x | refuted assumptions ↦ x | undecided ↦ x ])
-  by_mode (satisfied v) f x p q = p v
-  by_mode plain f x p q = q
-  by_mode (refuted assumptions) f x p q = q
-  by_mode undecided f x p q = q
-
-  by_errors : (errors : List Error) (x : Step) → IsKept s x → IsKept s (unless_error errors x s)
-  by_errors errors x h = by_option (first_of errors) (λ e. fails_by e s) x (λ e. same) h
-
-  -- Options.
-
-  set_logic_keeps : (name : Name) → IsKept s (options.set_logic name s)
-  set_logic_keeps name = by_test s.logic_set _ _ same
-      (by_test (is_logic name) _ _ (goes_same s true true s.options s.mode fit) same)
-
-  with_truth_keeps : (value : Form) (options : Bool → Options)
-      → IsKept s (with_truth value (λ b. record s { options = options b }) s)
-  with_truth_keeps value options = by_option (truth_in value) _ _ (λ b. with_options s.begun (options b)) same
-
-  global_keeps : (value : Form) → IsKept s (options.set_global_declarations value s)
-  global_keeps value = by_test s.begun _ _ same (step (truth_in value))
-    where
-      step : (o : Option Bool) → IsKept s (elim o as (λ _. Step) [
-        | Some true ↦ is_unsupported s
-        | Some false ↦ succeeds (record s { options = record s.options { global_declarations = false } })
-        | None ↦ fails_by error.bad_option_value s
-      ])
-      step (Some true) = same
-      step (Some false) = with_options s.begun (record s.options { global_declarations = false })
-      step None = same
-
-  limit_keeps : (value : Form) → IsKept s (options.set_resource_limit value s)
-  limit_keeps (Numeral digits) =
-      by_test (nat_lt (number_of digits) (2 ^ 64)) _ _
-      (with_options s.begun (record s.options { resource_limit = number_of digits })) same
-  limit_keeps _ = same
-
-  abbrev AllKeep : List (Name × (Form → State → Step)) → Type 0
-  AllKeep [] = Unit {0}
-  AllKeep (row ∷ rows) = ((value : Form) → IsKept s (row.1 value s)) × AllKeep rows
-
-  filter_keep : (p : Name × (Form → State → Step) → Bool) (rows : List (Name × (Form → State → Step)))
-      → AllKeep rows → AllKeep (filter p rows)
-  filter_keep p [] h = tt
-  filter_keep p (row ∷ rows) h = step (p row) (filter_keep p rows h.1)
-    where
-      step : (b : Bool) → AllKeep (filter p rows) → AllKeep (cond b (row ∷ filter p rows) (filter p rows))
-      step true rest = (h.0, rest)
-      step false rest = rest
-
-  set_by_keeps : (rows : List (Name × (Form → State → Step))) (key : Name) (value : Form) → AllKeep rows
-      → IsKept s (set_by rows key value s)
-  set_by_keeps [] key value h = same
-  set_by_keeps (row ∷ rows) key value h = step (is_name key row.0) (set_by_keeps rows key value h.1)
-    where
-      step : (b : Bool) → IsKept s (set_by rows key value s) → IsKept s
-          (elim (if b then Some row.1 else found_in rows key) as (λ _. Step)
-          [ Some set ↦ set value s | None ↦ is_unsupported s ])
-      step true rest = h.0 value
-      step false rest = rest
-
-  set_option_keeps : (key : Name) (value : Form) → IsKept s (options.set_option key value s)
-  set_option_keeps key value =
-      set_by_keeps (filter (λ row. is_brought (an_option row.0)) settings) key value
-      (filter_keep (λ row. is_brought (an_option row.0)) settings (
-        λ value. with_truth_keeps value (λ b. record s.options { print_success = b }),
-        (
-          λ value. with_truth_keeps value (λ b. record s.options { produce_models = b }),
-          (
-            λ value. with_truth_keeps value (λ b. record s.options { produce_unsat_assumptions = b }),
-            (global_keeps, (limit_keeps, tt)),
-          ),
-        ),
-      ))
-
-  get_option_keeps : (key : Name) → IsKept s (options.get_option key s)
-  get_option_keeps key =
-      by_option (found_in (filter (λ row. is_brought (an_option row.0)) option_texts) key) _ _ (λ text. same) same
-
-  reason_keeps : (m : Mode) → IsKept s (reason_unknown m s)
-  reason_keeps undecided = same
-  reason_keeps plain = same
-  reason_keeps (satisfied v) = same
-  reason_keeps (refuted assumptions) = same
-
-  get_info_keeps : (key : Name) → IsKept s (options.get_info key s)
-  get_info_keeps key =
-      by_test (is_name key (codes ":reason-unknown")) _ _ (reason_keeps s.mode)
-      (by_option (found_in info_texts key) _ _ (λ text. same) same)
-
-  -- Declarations and definitions.
-
-  declare_constant_keeps : (name : Name) (sort : Form) → IsKept s (meaning.declare_constant name sort s)
-  declare_constant_keeps name sort =
-      by_test (is_taken (names_of s) name) _ _ same
-      (by_option_so has_default (sort_of_form sort) _ _ (form_valued sort)
-      (λ kind valued. goes_declared s name kind valued fit) (goes_marked s name fit))
-
-  declare_function_keeps : (name : Name) → IsKept s (meaning.declare_function name s)
-  declare_function_keeps name = by_test (is_taken (names_of s) name) _ _ same (goes_marked s name fit)
+  in_force : list_all (naming_fits s.sorts 0) (names_of s) ≡ true
+  in_force = names_fit s.sorts s.first s.above fit.0
 
   bound_fits : (n place : ℕ) (ps : List Parameter) (kinds : List Sort) → place + length kinds ≤ n
       → list_all (naming_fits s.sorts n) (bound_from place ps kinds) ≡ true
@@ -498,69 +338,7 @@ module _ (s : State) (fit : IsFit s) where
   names_beside n =
       subst (λ (sorts : List Sort). list_all (naming_fits sorts n) (names_of s) ≡ true) (append-nil s.sorts)
       (all_weaker (naming_fits s.sorts 0) (naming_fits (s.sorts ++ []) n) (names_of s)
-      (λ m. kind_more s.sorts [] 0 n (omega arith) m.1) (names_fit s.sorts s.first s.above fit.0))
-
-  defines_keeps : (name : Name) (kinds : List Sort) (r : Result Term Fault)
-      → if_read (fits_in s.sorts (length kinds)) r ≡ true → IsKept s (defines name kinds r s)
-  defines_keeps name kinds (Ok body) h = goes_defined s name kinds body h fit
-  defines_keeps name kinds (Err fault) h = goes_marked s name fit
-
-  define_by_keeps : (name : Name) (ps : List Parameter) (kinds : List Sort) (sort : Sort) (body : Form)
-      → IsKept s (define_by name ps kinds sort body s)
-  define_by_keeps name ps kinds sort body =
-      let n = length kinds in
-      let names = bound_from 0 ps kinds ++ names_of s in
-      by_errors (name_errors name ps s ++ body_errors sort (read names body)) (defines name kinds (read names body) s)
-      (defines_keeps name kinds (read names body)
-      (term_read s.sorts n names
-      (all_append (naming_fits s.sorts n) (bound_from 0 ps kinds) (names_of s)
-      (bound_fits n 0 ps kinds (omega arith)) (names_beside n))
-      body))
-
-  define_function_keeps : (name : Name) (ps : List Parameter) (sort body : Form)
-      → IsKept s (meaning.define_function name ps sort body s)
-  define_function_keeps name ps sort body =
-      by_option (sorts_in_definition ps) _ _
-      (λ kinds. by_option (sort_in_definition sort) _ _ (λ made. define_by_keeps name ps kinds made body) left_out)
-      left_out
-    where
-      left_out : IsKept s (unless_error (name_errors name ps s) (is_unsupported (marked name s)) s)
-      left_out = by_errors (name_errors name ps s) (is_unsupported (marked name s)) (goes_marked s name fit)
-
-  -- Assertions and levels.
-
-  refused_term_keeps : (fault : Fault) → IsKept s (refused_term fault s)
-  refused_term_keeps (unknown_symbol name) = same
-  refused_term_keeps wrong_sort = same
-  refused_term_keeps wrong_count = same
-  refused_term_keeps bad_index = same
-  refused_term_keeps numeral_too_large = same
-  refused_term_keeps bad_literal = same
-  refused_term_keeps malformed = same
-  refused_term_keeps (already_bound name) = same
-  refused_term_keeps unsupported = goes_asserted s a_mark refl fit
-
-  assert_keeps : (form : Form) → IsKept s (meaning.assert form s)
-  assert_keeps form =
-      by_result (fits_in s.sorts 0) (read (names_of s) form) _ _
-      (term_read s.sorts 0 (names_of s) (names_fit s.sorts s.first s.above fit.0) form)
-      (λ t h. by_test (is_same_sort boolean (sort_of t)) _ _ (goes_asserted s (asserted t) h fit) same)
-      refused_term_keeps
-
-  push_keeps : (n : ℕ) → IsKept s (meaning.push n s)
-  push_keeps n =
-      by_test (nat_le (n + length s.above) level_limit) (succeeds (pushed n s)) (fails_by error.numeral_too_large s)
-      (goes_pushed s n fit) same
-
-  pop_keeps : (n : ℕ) → IsKept s (meaning.pop n s)
-  pop_keeps n =
-      let new = popped n s in
-      let left : Leaves s (above (length new.above)) new = (
-        record { sorts = λ v has. has; live = popped_live n s.first s.above },
-        (popped_fit s.sorts n s.first s.above fit.0, fit.1),
-      ) in
-      by_test (nat_le n (length s.above)) (leaves (above (length new.above)) (success new) new)
-      (fails_by error.no_such_level s) left same
+      (λ m. kind_more s.sorts [] 0 n (omega arith) m.1) in_force)
 
   -- Assumptions.
 
@@ -571,7 +349,7 @@ module _ (s : State) (fit : IsFit s) where
   name_assumed : (positive : Bool) (name : Name) → item_fits (assumed_name s positive name) ≡ true
   name_assumed positive name =
       step (named (names_of s) name)
-      (named_fits s.sorts 0 (names_of s) name (names_fit s.sorts s.first s.above fit.0))
+      (named_fits s.sorts 0 (names_of s) name in_force)
     where
       constant_assumed : (b : Bool) (serial : ℕ) (sort : Sort) → is_same_sort boolean sort ≡ b
           → is_declared s.sorts sort serial ≡ true
@@ -585,7 +363,7 @@ module _ (s : State) (fit : IsFit s) where
       theory true = refl
       theory false = refl
 
-      step : (o : Option Named) → found_fits s.sorts 0 o ≡ true → item_fits (elim o as (λ _. Assumed) [
+      step : (o : Option Named) → if_some (kind_fits s.sorts 0) o ≡ true → item_fits (elim o as (λ _. Assumed) [
         | Some (a_constant serial sort) ↦ if is_same_sort boolean sort then an_assumption (serial, positive)
             else an_error error.wrong_sort
         | Some _ ↦ an_error error.not_a_literal
@@ -636,64 +414,31 @@ module _ (s : State) (fit : IsFit s) where
       → list_all (assumption_fits s.sorts) (assumptions_in (map (assumed_form s) forms)) ≡ true
   assumptions_fit forms = items_fit (map (assumed_form s) forms) (forms_fit forms)
 
-  check_sat_assuming_keeps : (forms : List Form) → IsKept s (meaning.check_sat_assuming forms s)
-  check_sat_assuming_keeps forms =
-      by_errors (errors_in (map (assumed_form s) forms)) (checks (assumptions_in (map (assumed_form s) forms)))
-      (assumptions_fit forms)
-
-  contradicted_keeps : (m : Mode) → IsKept s (contradicted m s)
-  contradicted_keeps (refuted assumptions) = same
-  contradicted_keeps plain = same
-  contradicted_keeps (satisfied v) = same
-  contradicted_keeps undecided = same
-
-  get_unsat_assumptions_keeps : IsKept s (meaning.get_unsat_assumptions s)
-  get_unsat_assumptions_keeps = by_test s.options.produce_unsat_assumptions _ _ (contradicted_keeps s.mode) same
-
-  -- Values.
-
-  with_values_keeps : (answer : Valuation → Step) → ((v : Valuation) → IsKept s (answer v))
-      → IsKept s (with_values s answer)
-  with_values_keeps answer h = by_test (not s.options.produce_models) _ _ same (by_mode s.mode answer _ h same)
-
-  get_model_keeps : IsKept s (meaning.get_model s)
-  get_model_keeps = with_values_keeps _ (λ v. same)
-
-  values_of_keeps : (items : List Item) → IsKept s (values_of items s)
-  values_of_keeps items = with_values_keeps _ (λ v. by_option (all_constants items) _ _ (λ cs. same) same)
-
-  get_value_keeps : (forms : List Form) → IsKept s (meaning.get_value forms s)
-  get_value_keeps forms =
-      by_test (some_malformed (map (item_of s) forms)) _ _ same
-      (by_option (first_unknown (map (item_of s) forms)) _ _ (λ name. same)
-      (values_of_keeps (map (item_of s) forms)))
-
-  step_keeps : (c : command.Command) → IsKept s (step c s)
-  step_keeps (command.set_logic name) = set_logic_keeps name
-  step_keeps (command.set_option key value) = set_option_keeps key value
-  step_keeps (command.get_option key) = get_option_keeps key
-  step_keeps command.set_info = same
-  step_keeps (command.get_info key) = get_info_keeps key
-  step_keeps (command.declare_constant name sort) = declare_constant_keeps name sort
-  step_keeps (command.declare_function name) = declare_function_keeps name
-  step_keeps (command.define_function name ps sort body) = define_function_keeps name ps sort body
-  step_keeps (command.assert form) = assert_keeps form
-  step_keeps (command.push n) = push_keeps n
-  step_keeps (command.pop n) = pop_keeps n
-  step_keeps command.check_sat = refl
-  step_keeps (command.check_sat_assuming forms) = check_sat_assuming_keeps forms
-  step_keeps command.get_model = get_model_keeps
-  step_keeps (command.get_value forms) = get_value_keeps forms
-  step_keeps command.get_unsat_assumptions = get_unsat_assumptions_keeps
-  step_keeps (command.echo bytes) = same
-  step_keeps command.reset_assertions = (λ v has. has, (empty_fits s.sorts, fit.1))
-  step_keeps command.reset = (λ v has. has, (empty_fits s.sorts, fit.1))
-  step_keeps command.exit = tt
-  step_keeps command.another = same
-
   pub entry_keeps : (entry : Entry) → IsKept s (step_of entry s)
-  entry_keeps (Command form) = by_option (command_of form) (λ c. step c s) _ step_keeps same
-  entry_keeps (Refused refusal) = same
+  entry_keeps = steps_keep s.mode s (λ ends other x. IsKept s x) (record {
+    stays = λ bytes text. goes_same s s.logic_set s.begun s.options s.mode fit;
+    sets = λ bytes logic begun options. goes_same s logic begun options s.mode fit;
+    declares = λ bytes name sort brought. goes_declared s name sort (default_brought sort brought) fit;
+    marks = λ bytes name. goes_renamed s name a_marked_name refl fit;
+    makes = λ bytes name ps kinds form body brought is.
+        let n = length kinds in
+        goes_renamed s name (a_definition kinds body)
+        (read_fits s.sorts n (bound_from 0 ps kinds ++ names_of s)
+        (all_append (naming_fits s.sorts n) (bound_from 0 ps kinds) (names_of s) (bound_fits n 0 ps kinds (omega arith))
+        (names_beside n)) form body is) fit;
+    asserts = λ bytes form t is truth.
+        goes_asserted s (asserted t) (read_fits s.sorts 0 (names_of s) in_force form t is) fit;
+    omits = λ bytes. goes_asserted s a_mark refl fit;
+    pushes = λ bytes n. goes_pushed s n fit;
+    pops = λ bytes n. (
+      record { sorts = λ v has. has; live = popped_live n s.first s.above },
+      (popped_fit s.sorts n s.first s.above fit.0, fit.1),
+    );
+    clears = λ bytes. (λ v has. has, (empty_fits s.sorts, fit.1));
+    resets = λ bytes. (λ v has. has, (empty_fits s.sorts, fit.1));
+    asks = assumptions_fit;
+    ends = λ bytes. tt;
+  })
 
 -- All entries.
 

@@ -1,45 +1,24 @@
 -- Each term that is read is simple where it is a truth value, a String constant or a word where it is a text, and over
 -- literals or with a constant in it where it is a regular expression.
-use Rattle.std.proofs.Common.{◌≡◌, ℕ, Bool, true, false, not, ◌&&◌, ◌||◌, ◌==◌, nat_le, if◌then◌else◌, List, [], ◌∷◌, map, length, codes, Option, Some, None, Result, Ok, Err, refl, sym, ap, ◌∙◌, subst}
-use Rattle.std.specs.Prelude.{filter, is_some, is_none}
+use Rattle.std.proofs.Common.{◌≡◌, ℕ, Bool, true, false, not, ◌&&◌, ◌||◌, ◌==◌, nat_le, if◌then◌else◌, List, [], ◌∷◌, map, length, Option, Some, None, Ok, Err, refl, sym, ap, ◌∙◌, subst}
+use Rattle.std.specs.Prelude.{is_some}
 use Rattle.std.specs.List.{list_all}
 use Rattle.std.proofs.lemmas.Bool.{and_parts, and_from, false≢true}
-use Rattle.sb_word.specs.LiteralWords.{character_of, word_of_literal, first_bad}
-use Rattle.sb_reader.specs.Forms.{Form, Forms, Symbol, QuotedSymbol, Keyword, Numeral, OtherNumber, Words, Group, none, more}
+use Rattle.sb_word.specs.LiteralWords.{word_of_literal, first_bad}
+use Rattle.sb_reader.specs.Forms.{Form}
 use Rattle.sb_meaning.specs.Terms.{Sort, boolean, integer, text, reglan, Term, Terms, constant, word, numeral, apply, parameter, no_terms, with_term, terms_in, terms_of}
 use Rattle.sb_meaning.specs.Terms as symbol
 use Rattle.sb_meaning.specs.Sorts.{sort_of, is_same_sort, are_sorts}
-use Rattle.sb_script.specs.Names.{Name, is_name, is_reserved, begins_term}
 use Rattle.sb_script.specs.Brought.{is_brought_symbol, is_regex, are_regexes}
 use Rattle.sb_script.specs.Pieces.{is_ground, are_ground}
-use Rattle.sb_script.specs.Scopes.{Named, Naming, a_constant, a_definition, a_marked_name, a_term, named}
-use Rattle.sb_script.specs.Symbols.{found_in, symbols_of_theories, is_brought_row, symbol_named, is_indexed, is_left_out}
-use Rattle.sb_script.specs.Faults.{Fault, unknown_symbol, wrong_count, wrong_sort, unsupported, malformed, bad_index, numeral_too_large, bad_literal}
-use Rattle.sb_script.specs.Texts.{read_text}
-use Rattle.sb_script.specs.Heads.{Head, head_constant, head_symbol, head_definition, head_term, head_of, head_of_theory, hexadecimal_digits, character_word, indices_of, are_small_indices, with_indices, without_indices, judged, joined, made, unless, read_head, applied_to, read_indexed}
-use Rattle.sb_script.specs.Reading.{◌>>=◌, read_name, read_index_list, read_reserved, read, read_list, read_all, read_list_head}
+use Rattle.sb_script.specs.Scopes.{Named, Naming, a_constant, a_marked_name}
+use Rattle.sb_script.specs.Faults.{Fault, wrong_count, wrong_sort, unsupported, bad_literal}
+use Rattle.sb_script.specs.Heads.{judged, joined, made}
+use Rattle.sb_script.specs.Reading.{read}
 use Rattle.sb_script.specs.ReadingLaws.{if_read}
-use Rattle.sb_script.proofs.CallerLemmas.{same_sort, same_sort_itself, terms_in_of}
+use Rattle.sb_script.proofs.CallerLemmas.{same_sort, same_sort_itself, terms_in_of, IsRead, is_fine, read_keeps}
+use Rattle.sb_sound.proofs.PassFacts.{all_weaker}
 use Rattle.sb_sound.specs.SimpleStates.{is_plain_text, are_alike, is_simple, are_simple, is_simple_named, is_simple_naming}
-
--- Tables.
-
--- what there is passes the test
-abbrev pub if_some : {A : Type 0} → (A → Bool) → Option A → Bool
-if_some test (Some x) = test x
-if_some test None = true
-
-pub some_by : {A : Type 0} (p : A → Bool) (b : Bool) (x y : Option A) → if_some p x ≡ true → if_some p y ≡ true
-    → if_some p (if b then x else y) ≡ true
-some_by p true x y h k = h
-some_by p false x y h k = k
-
-pub found_passes : {A : Type 0} (p : A → Bool) (rows : List (Name × A)) → list_all (λ row. p row.1) rows ≡ true
-    → (name : Name) → if_some p (found_in rows name) ≡ true
-found_passes p [] all name = refl
-found_passes p (row ∷ rows) all name =
-    let parts = and_parts (p row.1) (list_all (λ r. p r.1) rows) all in
-    some_by p (is_name name row.0) (Some row.1) (found_in rows name) parts.0 (found_passes p rows parts.1 name)
 
 -- Terms that may be read.
 
@@ -379,214 +358,42 @@ made_shallow symbol.re_inter ts h all taken = one_or_more symbol.re_inter (λ t 
 made_shallow symbol.re_diff ts h all taken = difference ts all taken
 made_shallow _ ts h all taken = absurd (false≢true h)
 
--- the symbols of names are brought
-symbol_makes : (name : Name) → if_some is_brought_symbol (symbol_named name) ≡ true
-symbol_makes name = found_passes is_brought_symbol (filter is_brought_row symbols_of_theories) refl name
+-- Reading.
 
--- Heads.
+abbrev shallow_constant : ℕ → Sort → Bool
+shallow_constant serial sort = is_shallow (constant serial sort)
 
-abbrev head_shallow : Head → Bool
-head_shallow (head_constant serial sort) = is_shallow (constant serial sort)
-head_shallow (head_symbol s) = is_brought_symbol s
-head_shallow (head_definition own body) = false
-head_shallow (head_term t) = is_shallow t
-
-by_test : {A : Type 0} (p : A → Bool) (b : Bool) (x y : Result A Fault) → if_read p x ≡ true → if_read p y ≡ true
-    → if_read p (if b then x else y) ≡ true
-by_test p true x y h k = h
-by_test p false x y h k = k
-
-by_bind : {A B : Type 0} (p : A → Bool) (q : B → Bool) (r : Result A Fault) (f : A → Result B Fault)
-    → if_read p r ≡ true → ((x : A) → p x ≡ true → if_read q (f x) ≡ true) → if_read q (r >>= f) ≡ true
-by_bind p q (Ok x) f h g = g x h
-by_bind p q (Err fault) f h g = refl
-
-unless_shallow : (o : Option Fault) (t : Term) → (o ≡ None → is_shallow t ≡ true)
-    → if_read is_shallow (unless o t) ≡ true
-unless_shallow None t h = h refl
-unless_shallow (Some fault) t h = refl
-
-applied_shallow : (head : Head) (ts : List Term) → head_shallow head ≡ true → list_all is_shallow ts ≡ true
-    → if_read is_shallow (applied_to head ts) ≡ true
-applied_shallow (head_constant serial sort) [] h all = h
-applied_shallow (head_constant serial sort) (t ∷ ts) h all = refl
-applied_shallow (head_symbol s) ts h all =
-    unless_shallow (judged s (map sort_of ts)) (made s ts) (made_shallow s ts h all)
-applied_shallow (head_definition own body) ts h all = absurd (false≢true h)
-applied_shallow (head_term t) [] h all = h
-applied_shallow (head_term t) (u ∷ us) h all = refl
-
-named_head : (kind : Named) → is_simple_named kind ≡ true → if_read head_shallow (head_of kind) ≡ true
-named_head (a_constant serial text) h = refl
-named_head (a_constant serial boolean) h = refl
-named_head (a_constant serial integer) h = absurd (false≢true h)
-named_head (a_constant serial reglan) h = absurd (false≢true h)
-named_head (a_definition own body) h = absurd (false≢true h)
-named_head a_marked_name h = refl
-named_head (a_term t) h = absurd (false≢true h)
-
-theory_head : (name : Name) → if_read head_shallow (head_of_theory name) ≡ true
-theory_head name = step (symbol_named name) (symbol_makes name)
+shallow_is_read : IsRead is_shallow shallow_constant (λ own body. false)
+shallow_is_read = record {
+  constants = λ serial sort h. h;
+  texts = λ bytes. text_read (is_some (first_bad bytes)) (word_of_literal bytes);
+  numbers = λ brought digits. absurd (false≢true brought);
+  characters = λ digits c is. refl;
+  applications = made_shallow;
+  definitions = λ own body ts is all taken. absurd (false≢true is);
+}
   where
-    step : (o : Option symbol.Symbol) → if_some is_brought_symbol o ≡ true → if_read head_shallow
-        (elim o as (λ _. Result Head Fault) [
-          | Some s ↦ Ok (head_symbol s)
-          | None ↦ if is_indexed name then Err bad_index
-              else if is_left_out name then Err unsupported
-              else Err (unknown_symbol name)
-        ]) ≡ true
-    step (Some s) h = h
-    step None h =
-        by_test head_shallow (is_indexed name) (Err bad_index)
-        (if is_left_out name then Err unsupported else Err (unknown_symbol name)) refl
-        (by_test head_shallow (is_left_out name) (Err unsupported) (Err (unknown_symbol name)) refl refl)
+    text_read : (b : Bool) (w : List ℕ) → if_read is_shallow (if b then Err bad_literal else Ok (word w)) ≡ true
+    text_read true w = refl
+    text_read false w = refl
 
-named_passes : (names : List Naming) (name : Name) → list_all is_simple_naming names ≡ true
-    → if_some is_simple_named (named names name) ≡ true
-named_passes [] name all = refl
-named_passes (n ∷ ns) name all =
-    let parts = and_parts (is_simple_naming n) (list_all is_simple_naming ns) all in
-    some_by is_simple_named (is_name name n.0) (Some n.1) (named ns name) parts.0 (named_passes ns name parts.1)
-
--- (_ char #xH)
-character_shallow : (indices : Forms) → if_read head_shallow (character_word indices) ≡ true
-character_shallow (more (OtherNumber bytes) none) = step (character_of (hexadecimal_digits bytes))
+-- what a simple name stands for
+names_shallow : (names : List Naming) → list_all is_simple_naming names ≡ true
+    → list_all (λ n. is_fine is_shallow shallow_constant (λ own body. false) n.1) names ≡ true
+names_shallow names =
+    all_weaker is_simple_naming (λ n. is_fine is_shallow shallow_constant (λ own body. false) n.1) names (λ n. of_kind n.1)
   where
-    step : (o : Option ℕ) → if_read head_shallow
-        (elim o as (λ _. Result Head Fault) [ Some c ↦ Ok (head_term (word (c ∷ []))) | None ↦ Err bad_index ]) ≡ true
-    step (Some c) = refl
-    step None = refl
-character_shallow _ = refl
+    of_kind : (kind : Named) → is_simple_named kind ≡ true
+        → is_fine is_shallow shallow_constant (λ own body. false) kind ≡ true
+    of_kind (a_constant serial text) h = refl
+    of_kind (a_constant serial boolean) h = refl
+    of_kind a_marked_name h = refl
+    of_kind _ h = absurd (false≢true h)
 
--- no other head with indices is brought
-no_indices : (name : Name) (indices : Forms) (r : Result Head Fault)
-    → if_read head_shallow (without_indices name indices r) ≡ true
-no_indices name indices (Ok head) = refl
-no_indices name indices (Err (unknown_symbol unknown)) =
-    by_test head_shallow (is_name name (codes "char")) (character_word indices) (Err (unknown_symbol unknown))
-    (character_shallow indices) refl
-no_indices name indices (Err _) = refl
-
--- a symbol with its indices
-symbol_shallow : (b c : Bool) (s : symbol.Symbol) → is_brought_symbol s ≡ true → if_read head_shallow
-    (elim (if b then Some s else None) as (λ _. Result Head Fault) [
-      | Some t ↦ if c then Ok (head_symbol t) else Err numeral_too_large
-      | None ↦ Err bad_index
-    ]) ≡ true
-symbol_shallow true true s h = h
-symbol_shallow true false s h = refl
-symbol_shallow false c s h = refl
-
-with_indices_shallow : (name : Name) (o : Option (List ℕ)) → if_read head_shallow (with_indices name o) ≡ true
-with_indices_shallow name None = refl
-with_indices_shallow name (Some []) = refl
-with_indices_shallow name (Some (n ∷ [])) =
-    symbol_shallow (is_name name (codes "re.^")) (are_small_indices (n ∷ [])) (symbol.re_power n) refl
-with_indices_shallow name (Some (n ∷ m ∷ [])) =
-    symbol_shallow (is_name name (codes "re.loop")) (are_small_indices (n ∷ m ∷ [])) (symbol.re_loop n m) refl
-with_indices_shallow name (Some (n ∷ m ∷ k ∷ ns)) = refl
-
-indexed_shallow : (names : List Naming) (name : Name) (indices : Forms)
-    → if_read head_shallow (read_indexed names name indices) ≡ true
-indexed_shallow names name indices =
-    by_test head_shallow (is_indexed name && is_none (named names name)) (with_indices name (indices_of indices))
-    (without_indices name indices (read_head names name)) (with_indices_shallow name (indices_of indices))
-    (no_indices name indices (read_head names name))
-
--- Reading, where these names are in force.
-
-module _ (names : List Naming) (fit : list_all is_simple_naming names ≡ true) where
-  head_read : (name : Name) → if_read head_shallow (read_head names name) ≡ true
-  head_read name = step (named names name) (named_passes names name fit)
-    where
-      step : (o : Option Named) → if_some is_simple_named o ≡ true → if_read head_shallow
-          (elim o as (λ _. Result Head Fault) [ Some kind ↦ head_of kind | None ↦ head_of_theory name ]) ≡ true
-      step (Some kind) h = named_head kind h
-      step None h = theory_head name
-
-  index_list_read : (forms : Forms) → if_read head_shallow (read_index_list names forms) ≡ true
-  index_list_read (more (Symbol name) (more index indices)) =
-      by_test head_shallow (is_reserved name) (Err malformed) (read_indexed names name (more index indices)) refl
-      (indexed_shallow names name (more index indices))
-  index_list_read (more (QuotedSymbol name) (more index indices)) = indexed_shallow names name (more index indices)
-  index_list_read _ = refl
-
-  list_head_read : (forms : Forms) → if_read head_shallow (read_list_head names forms) ≡ true
-  list_head_read (more (Symbol name) rest) =
-      by_test head_shallow (is_name name (codes "_")) (read_index_list names rest) _ (index_list_read rest)
-      (by_test head_shallow (is_name name (codes "as")) (Err unsupported) (Err malformed) refl refl)
-  list_head_read _ = refl
-
-  name_read : (name : Name) → if_read is_shallow (read_name names name) ≡ true
-  name_read name =
-      by_bind head_shallow is_shallow (read_head names name) (λ head. applied_to head []) (head_read name)
-      (λ head h. applied_shallow head [] h refl)
-
-  text_read : (bytes : List ℕ) → if_read is_shallow (read_text bytes) ≡ true
-  text_read bytes =
-      by_test is_shallow (is_some (first_bad bytes)) (Err bad_literal) (Ok (word (word_of_literal bytes))) refl refl
-
-  -- a head with its arguments
-  with_arguments_read : (head : Result Head Fault) (arguments : Result (List Term) Fault)
-      → if_read head_shallow head ≡ true → if_read (list_all is_shallow) arguments ≡ true
-      → if_read is_shallow (head >>= (λ h. arguments >>= applied_to h)) ≡ true
-  with_arguments_read head arguments h all =
-      by_bind head_shallow is_shallow head (λ h. arguments >>= applied_to h) h
-      (λ x here. by_bind (list_all is_shallow) is_shallow arguments (applied_to x) all
-      (λ ts each. applied_shallow x ts here each))
-
-  one_more_read : (r : Result Term Fault) (rs : Result (List Term) Fault) → if_read is_shallow r ≡ true
-      → if_read (list_all is_shallow) rs ≡ true
-      → if_read (list_all is_shallow) (r >>= (λ t. rs >>= (λ ts. Ok (t ∷ ts)))) ≡ true
-  one_more_read (Err fault) rs h all = refl
-  one_more_read (Ok t) (Err fault) h all = refl
-  one_more_read (Ok t) (Ok ts) h all = and_from (is_shallow t) (list_all is_shallow ts) h all
-
-  mutual
-    term_read : (form : Form) → if_read is_shallow (read names form) ≡ true
-    term_read (Symbol name) =
-        by_test is_shallow (begins_term name) (Err unsupported) _ refl
-        (by_test is_shallow (is_reserved name) (Err malformed) (read_name names name) refl (name_read name))
-    term_read (QuotedSymbol name) = name_read name
-    term_read (Keyword name) = refl
-    term_read (Numeral digits) = refl
-    term_read (OtherNumber bytes) = refl
-    term_read (Words bytes) = text_read bytes
-    term_read (Group forms) = list_read forms
-
-    list_read : (forms : Forms) → if_read is_shallow (read_list names forms) ≡ true
-    list_read none = refl
-    list_read (more head none) = refl
-    list_read (more (Symbol name) (more first rest)) =
-        let by_head : Result Term Fault =
-        read_head names name >>= (λ head. read_all names (more first rest) >>= applied_to head) in
-        by_test is_shallow (is_name name (codes "_"))
-        (read_index_list names (more first rest) >>= (λ head. applied_to head []))
-        (if is_reserved name then Err (read_reserved name (more first rest)) else by_head)
-        (by_bind head_shallow is_shallow (read_index_list names (more first rest)) (λ head. applied_to head [])
-        (index_list_read (more first rest)) (λ head h. applied_shallow head [] h refl))
-        (by_test is_shallow (is_reserved name) (Err (read_reserved name (more first rest))) by_head refl
-        (with_arguments_read (read_head names name) (read_all names (more first rest)) (head_read name)
-        (all_read (more first rest))))
-    list_read (more (QuotedSymbol name) (more first rest)) =
-        with_arguments_read (read_head names name) (read_all names (more first rest)) (head_read name)
-        (all_read (more first rest))
-    list_read (more (Group list) (more first rest)) =
-        with_arguments_read (read_list_head names list) (read_all names (more first rest)) (list_head_read list)
-        (all_read (more first rest))
-    list_read (more (Keyword name) (more first rest)) = refl
-    list_read (more (Numeral digits) (more first rest)) = refl
-    list_read (more (OtherNumber bytes) (more first rest)) = refl
-    list_read (more (Words bytes) (more first rest)) = refl
-
-    all_read : (forms : Forms) → if_read (list_all is_shallow) (read_all names forms) ≡ true
-    all_read none = refl
-    all_read (more form forms) =
-        one_more_read (read names form) (read_all names forms) (term_read form) (all_read forms)
-
-  -- a truth value that is read
-  pub truth_read : (form : Form) (t : Term) → read names form ≡ Ok t → is_same_sort boolean (sort_of t) ≡ true
-      → is_simple t ≡ true
-  truth_read form t e h =
-      subst (λ (sort : Sort). is_shallow_of sort t ≡ true) (same_sort boolean (sort_of t) h)
-      (sym (ap (if_read is_shallow) e) ∙ term_read form)
+-- a truth value that is read
+pub truth_read : (names : List Naming) → list_all is_simple_naming names ≡ true → (form : Form) (t : Term)
+    → read names form ≡ Ok t → is_same_sort boolean (sort_of t) ≡ true → is_simple t ≡ true
+truth_read names all form t is truth =
+    shallow_of boolean t
+    (read_keeps is_shallow shallow_constant (λ own body. false) shallow_is_read names (names_shallow names all) form t
+    is) truth

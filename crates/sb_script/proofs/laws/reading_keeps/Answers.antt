@@ -1,5 +1,5 @@
-use Rattle.sb_script.proofs.ReadingFacts.{read_keeps}
+use Rattle.sb_script.proofs.ReadingFacts.{reading_keeps}
 use Rattle.sb_script.proofs.laws.reading_keeps.Goals as goal
 
 pub returns : goal.returns
-returns c = read_keeps
+returns c = reading_keeps
