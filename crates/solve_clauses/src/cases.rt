@@ -12,12 +12,15 @@
 //!   follows it; at the end the clauses of both have to be the same. Where there are values, the clauses, the lemmas,
 //!   the assumptions and the wanted atoms are looked at one by one. `ends LIMIT 1 -2 0` prints the end alone.
 //! - `order` and `active` search by the engine alone, and print how many conflicts there were.
-//! - `reserve N`, `decide 1`, `assign 1 CLAUSE`, `back LEVEL`, `drop LEVEL`, `forget` and `clear` are steps of the
-//!   engine. `propagate` prints which clause is false, and how long the trail is; `settle` prints the values of all
-//!   atoms from 1 on, or that a clause is false.
+//! - `reserve N`, `assign 1 CLAUSE`, `back LEVEL`, `drop LEVEL`, `forget` and `clear` are steps of the engine. `settle`
+//!   propagates, and prints the values of all atoms from 1 on, or that a clause is false; `decide 1` decides a literal
+//!   first. `propagate` prints which clause is false, and how long the trail is.
 //! - `trail`, `value ATOM` and `clause NUMBER` print what is there.
 //! - `insert ATOM`, `bump ATOM`, `decay TIMES` and `pop` are steps of the order of decisions, `save ATOM VALUE` and
 //!   `phase ATOM` of the values that atoms had last.
+//! - `kept LEVEL 1 -2 0` keeps a clause as a reader of proofs does, and `leave LEVEL` and `leave` drop those above the
+//!   level, and all. `look NUMBER` prints a clause, `part 1 -2 0` whether a kept one is a part of this one, and
+//!   `learn 1 -2 : HINT ..` its level, or why the hints do not teach it.
 
 use crate::failure::Failure;
 use crate::replayed::{copy, replays};
@@ -25,7 +28,7 @@ use crate::search::decide_all;
 use crate::theory::{Given, wanting};
 use sb_activity::{Order, Phases};
 use sb_clauses::{Engine, Propagated};
-use sb_hints::KeptClauses;
+use sb_hints::{KeptClauses, NotLearned};
 use sb_lit::{Budget, Clause, ClauseId, Lit};
 use sb_proof::MemTape;
 use sb_search::{Found, search};
@@ -41,6 +44,7 @@ struct Case {
     theory: Given,
     order: Order,
     phases: Phases,
+    kept: KeptClauses,
 }
 
 /// Goes through the cases of a file, and prints what they come to.
@@ -73,6 +77,7 @@ fn nothing(alloc: Global) -> Result<Case, AllocError> {
         theory: wanting(alloc, 0, 0)?,
         order: Order::new(alloc),
         phases: Phases::new(alloc),
+        kept: KeptClauses::new(alloc),
     })
 }
 
@@ -117,6 +122,9 @@ fn take(
         }
         ["insert" | "bump" | "decay" | "pop" | "save" | "phase", ..] => {
             wait(&mut case.order, &mut case.phases, words, out)?;
+        }
+        ["kept" | "leave" | "look" | "part" | "learn", ..] => {
+            read(alloc, &mut case.kept, words, out)?;
         }
         ["reserve", atoms] => {
             let atoms = number(atoms)? as usize;
@@ -267,7 +275,7 @@ fn put_clause(engine: &Engine, id: ClauseId, out: &mut String) -> Result<(), All
 /// Takes a step of the engine.
 fn step(engine: &mut Engine, words: &[&str], out: &mut String) -> Result<(), Failure> {
     match words {
-        ["decide" | "assign", word, why @ ..] => {
+        [what @ ("decide" | "assign"), word, why @ ..] => {
             let literal = literal(word)?;
             let trail = engine.trail();
             if literal.atom >= trail.reserved() as u64 || trail.value(literal.atom).is_some() {
@@ -277,32 +285,16 @@ fn step(engine: &mut Engine, words: &[&str], out: &mut String) -> Result<(), Fai
                 None => engine.decide(literal),
                 Some(id) => engine.assign(literal, ClauseId(number(id)?)),
             }
+            if *what == "decide" {
+                propagate(engine, true, out)?;
+            }
         }
         ["back", level] => engine.backtrack(number(level)? as usize),
         ["drop", level] => engine.drop_above(number(level)?),
         ["forget"] => engine.drop_all(),
         ["clear"] => engine.clear(),
-        [word @ ("propagate" | "settle")] => {
-            if !engine.has_room() {
-                return Err(Failure::Lost);
-            }
-            let found = engine.propagate();
-            let trail = engine.trail();
-            match (found, *word == "settle") {
-                (Propagated::Conflict(_), true) => write!(out, "a clause is false")?,
-                (Propagated::Conflict(id), false) => {
-                    write!(out, "clause {} is false, {} literals", id.0, trail.len())?;
-                }
-                (Propagated::Done, true) => {
-                    for atom in 1..trail.reserved() as u64 {
-                        let value = trail.value(atom).map_or('.', |value| if value { '+' } else { '-' });
-                        write!(out, "{value}")?;
-                    }
-                }
-                (Propagated::Done, false) => write!(out, "fine, {} literals", trail.len())?,
-            }
-            writeln!(out)?;
-        }
+        ["propagate"] => propagate(engine, false, out)?,
+        ["settle"] => propagate(engine, true, out)?,
         ["trail"] => {
             let trail = engine.trail();
             write!(out, "level {}, {} literals:", trail.current_level(), trail.len())?;
@@ -326,6 +318,32 @@ fn step(engine: &mut Engine, words: &[&str], out: &mut String) -> Result<(), Fai
             writeln!(out)?;
         }
         _ => return Err(Failure::Input),
+    }
+    Ok(())
+}
+
+/// Propagates, and prints the values of all atoms, or how long the trail is and which clause is false.
+fn propagate(engine: &mut Engine, values: bool, out: &mut String) -> Result<(), Failure> {
+    if !engine.has_room() {
+        return Err(Failure::Lost);
+    }
+    let found = engine.propagate();
+    let trail = engine.trail();
+    let len = trail.len();
+    match found {
+        Propagated::Conflict(_) if values => writeln!(out, "a clause is false")?,
+        Propagated::Conflict(id) => writeln!(out, "clause {} is false, {len} literals", id.0)?,
+        Propagated::Done if values => {
+            for atom in 1..trail.reserved() as u64 {
+                out.push(match trail.value(atom) {
+                    Some(true) => '+',
+                    Some(false) => '-',
+                    None => '.',
+                })?;
+            }
+            writeln!(out)?;
+        }
+        Propagated::Done => writeln!(out, "fine, {len} literals")?,
     }
     Ok(())
 }
@@ -354,6 +372,53 @@ fn wait(
         }
         ["save", atom, value] => phases.save(number(atom)?, *value == "true"),
         ["phase", atom] => writeln!(out, "phase {atom}: {}", phases.of(number(atom)?))?,
+        _ => return Err(Failure::Input),
+    }
+    Ok(())
+}
+
+/// Takes a step of what a reader of proofs keeps.
+fn read(
+    alloc: Global,
+    kept: &mut KeptClauses,
+    words: &[&str],
+    out: &mut String,
+) -> Result<(), Failure> {
+    match words {
+        ["kept", level, rest @ ..] => kept.add(&literals(alloc, rest)?, number(level)?)?,
+        ["leave"] => kept.drop_all(),
+        ["leave", level] => kept.drop_above(number(level)?),
+        ["look", id] => {
+            let number = number(id)?;
+            write!(out, "of {} kept {id}, level {:?}:", kept.len(), kept.level(number))?;
+            match kept.clause(number) {
+                None => write!(out, " none")?,
+                Some(literals) => {
+                    for literal in literals {
+                        put(*literal, out)?;
+                    }
+                }
+            }
+            writeln!(out)?;
+        }
+        ["part", rest @ ..] => {
+            let literals = literals(alloc, rest)?;
+            let (part, is_repeated) = (kept.part_of(&literals)?, kept.is_repeated(&literals)?);
+            writeln!(out, "part {part:?} {is_repeated}")?;
+        }
+        ["learn", rest @ ..] => {
+            let mut parts = rest.split(|word| *word == ":");
+            let literals = literals(alloc, parts.next().unwrap_or_default())?;
+            let mut hints = Vec::new(alloc);
+            for word in parts.next().unwrap_or_default() {
+                hints.push(number(word)?).map_err(AllocError::from)?;
+            }
+            match kept.learned(&literals, &hints) {
+                Ok(level) => writeln!(out, "learned at level {level}")?,
+                Err(NotLearned::NoMemory) => return Err(Failure::NoMemory),
+                Err(why) => writeln!(out, "{why}")?,
+            }
+        }
         _ => return Err(Failure::Input),
     }
     Ok(())
