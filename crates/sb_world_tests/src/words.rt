@@ -1,8 +1,6 @@
 //! Words and their literals.
 
 use sb_word::{CodesError, LiteralError, Word, print_literal, read_character, read_literal};
-use std::alloc::Global;
-use std::process::Abort;
 use std::test::Fail;
 
 /// Numbers that give a word, and the text of its literal.
@@ -19,30 +17,9 @@ const LITERALS: [(&'static [u32], &'static str); 10] = [
     (&[92, 117, 123, 51, 48, 48, 48, 48, 125], "\\u{5c}u{30000}"),
 ];
 
-/// Expects the characters of the numbers' word to be them, and its literal to have this text.
-fn expect_literal(rt: &impl Abort, alloc: Global, codes: &[u32], text: &str) -> Result<(), Fail> {
-    let word = Word::from_codes(alloc, codes)?;
-    assert_eq!(rt; word.codes(), codes);
-    let printed = print_literal(alloc, &word)?;
-    assert_eq!(rt; printed.as_str(), text, "at {codes:?}");
-    Ok(())
-}
-
-#[test]
-fn words_have_their_characters_and_print_as_literals(rt: HostRuntime) -> Result<(), Fail> {
-    for (codes, text) in LITERALS {
-        expect_literal(&rt, rt.alloc(), codes, text)?;
-    }
-    Ok(())
-}
-
-#[test]
-fn numbers_above_the_last_character_give_no_word(rt: HostRuntime) {
-    let alone = Word::from_codes(rt.alloc(), &[0x30000]).err();
-    assert_eq!(rt; alone, Some(CodesError::NotACharacter(0)));
-    let third = Word::from_codes(rt.alloc(), &[97, 0x2ffff, 0x30000, 0x40000]).err();
-    assert_eq!(rt; third, Some(CodesError::NotACharacter(2)));
-}
+/// Numbers of which one is above the last character, and its place.
+const NO_WORDS: [(&'static [u32], usize); 2] =
+    [(&[0x30000], 0), (&[97, 0x2ffff, 0x30000, 0x40000], 2)];
 
 /// Bytes between the quotes of a literal, and the characters of its word.
 const READ: [(&'static [u8], &'static [u32]); 16] = [
@@ -76,40 +53,41 @@ const BAD: [(&'static [u8], usize); 8] = [
     (b"\\u00\xff", 4),
 ];
 
-/// Expects the bytes to be the literal of the word of these characters.
-fn expect_word(
-    rt: &impl Abort,
-    alloc: Global,
-    bytes: &[u8],
-    codes: &[u32],
-) -> Result<(), LiteralError> {
-    let word = read_literal(alloc, bytes)?;
-    assert_eq!(rt; word.codes(), codes);
-    Ok(())
-}
+/// Digits, and the character of one to five of them.
+const DIGITS: [(&'static [u8], Option<u32>); 6] = [
+    (b"2ffff", Some(0x2ffff)),
+    (b"0000A", Some(10)),
+    (b"30000", None),
+    (b"", None),
+    (b"000061", None),
+    (b"g", None),
+];
 
+/// Words have their characters and print as literals, which are read; numbers that give no word, and bytes that no
+/// literal holds, are named.
 #[test]
-fn literals_are_read(rt: HostRuntime) -> Result<(), Fail> {
-    for (bytes, codes) in READ {
-        expect_word(&rt, rt.alloc(), bytes, codes)?;
+fn words_and_their_literals(rt: HostRuntime) -> Result<(), Fail> {
+    let alloc = rt.alloc();
+    for (codes, text) in LITERALS {
+        let word = Word::from_codes(alloc, codes)?;
+        assert_eq!(rt; word.codes(), codes);
+        let printed = print_literal(alloc, &word)?;
+        assert_eq!(rt; printed.as_str(), text, "at {codes:?}");
     }
-    Ok(())
-}
-
-#[test]
-fn bytes_that_no_literal_holds_are_named(rt: HostRuntime) {
+    for (codes, place) in NO_WORDS {
+        let error = Word::from_codes(alloc, codes).err();
+        assert_eq!(rt; error, Some(CodesError::NotACharacter(place)));
+    }
+    for (bytes, codes) in READ {
+        let word = read_literal(alloc, bytes)?;
+        assert_eq!(rt; word.codes(), codes);
+    }
     for (bytes, place) in BAD {
-        let error = read_literal(rt.alloc(), bytes).err();
+        let error = read_literal(alloc, bytes).err();
         assert_eq!(rt; error, Some(LiteralError::BadByte(place)));
     }
-}
-
-#[test]
-fn a_character_has_one_to_five_digits(rt: HostRuntime) {
-    assert_eq!(rt; read_character(b"2ffff"), Some(0x2ffff));
-    assert_eq!(rt; read_character(b"0000A"), Some(10));
-    assert_eq!(rt; read_character(b"30000"), None);
-    assert_eq!(rt; read_character(b""), None);
-    assert_eq!(rt; read_character(b"000061"), None);
-    assert_eq!(rt; read_character(b"g"), None);
+    for (digits, character) in DIGITS {
+        assert_eq!(rt; read_character(digits), character);
+    }
+    Ok(())
 }

@@ -1,17 +1,49 @@
-//! Worlds in memory, and what their ports hold.
+//! Worlds in memory, gone through call by call.
 
+ghost use Rattle.std.specs.Prelude.{◌<◌};
 ghost use Rattle.sb_world.specs.Worlds.{outside_of, faults_of};
 
-use sb_world::{CalmWorld, InPort, MemWorld, Opened, OutPort, World, WorldError};
-use std::alloc::AllocError;
+use sb_world::{CalmWorld, InPort, MemWorld, Opened, OutPort, World, WorldError, write_all};
+use std::alloc::Global;
+use std::process::Abort;
+use std::test::Fail;
 
-/// A world in memory whose writes take one byte at a time.
-#[derive(Drop)]
-pub struct SlowWorld {
-    pub memory: MemWorld,
+/// A call, and what it is to answer.
+enum Call {
+    Open(InPort, Option<&'static str>, Result<(), WorldError>),
+    Create(OutPort, Option<&'static str>, Result<(), WorldError>),
+    /// A read of up to five bytes, and what the buffer holds behind it. It begins as zeros, and each read of a row
+    /// gets the buffer as the one before it left it.
+    Read(InPort, Result<usize, WorldError>, [u8; 5]),
+    /// Reads of up to so many bytes, at most 16, until the end, and all of their bytes.
+    ReadAll(InPort, usize, &'static [u8]),
+    Write(OutPort, &'static [u8], Result<usize, WorldError>),
+    WriteAll(OutPort, &'static [u8], Result<(), WorldError>),
 }
 
-impl World for SlowWorld {
+/// What a port holds, or by which name it was opened or created: none where it was not, and the empty one where it was
+/// without a name.
+enum Held {
+    Opened(InPort, Option<&'static str>),
+    Created(OutPort, Option<&'static str>),
+    Written(OutPort, &'static [u8]),
+}
+
+/// Some calls, then what the ports hold, and how many calls and faults a `MemWorld` has counted.
+struct Stage {
+    calls: &'static [Call],
+    held: &'static [Held],
+    counts: (u64, u64),
+}
+
+/// A world in memory, of which a write takes one byte at a time where it is slow.
+#[derive(Drop)]
+struct PacedWorld {
+    memory: MemWorld,
+    slow: bool,
+}
+
+impl World for PacedWorld {
     ghost outside = { λ w. outside_of w.memory };
 
     ghost faults = { λ w. faults_of w.memory };
@@ -29,63 +61,304 @@ impl World for SlowWorld {
     }
 
     fn write(&mut self, port: OutPort, piece: &[u8]) -> Result<usize, WorldError> {
-        self.memory.write(port, &piece[..piece.len().min(1)])
+        if self.slow {
+            return self.memory.write(port, &piece[..piece.len().min(1)]);
+        }
+        self.memory.write(port, piece)
     }
 }
 
-/// A world that can be filled, and shows its ports.
-pub trait InMemory {
-    fn hold_file(&mut self, name: &str, bytes: &[u8]) -> Result<(), AllocError>;
-
-    fn hold_input(&mut self, bytes: &[u8]) -> Result<(), AllocError>;
-
-    fn input(&self, port: InPort) -> &Opened;
-
-    fn output(&self, port: OutPort) -> &Opened;
-
-    fn bytes(&self, port: OutPort) -> &[u8];
+/// Makes the calls in order.
+fn make<W: World>(
+    world: &mut W,
+    rt: &impl Abort,
+    alloc: Global,
+    calls: &[Call],
+) -> Result<(), WorldError> {
+    let mut buffer = [0; 5];
+    for call in calls {
+        match call {
+            Call::Open(port, name, wanted) => {
+                assert_eq!(rt; world.open_input(*port, *name), *wanted);
+            }
+            Call::Create(port, name, wanted) => {
+                assert_eq!(rt; world.create_output(*port, *name), *wanted);
+            }
+            Call::Read(port, wanted, bytes) => {
+                assert_eq!(rt; world.read(*port, &mut buffer), *wanted);
+                assert_eq!(rt; buffer, *bytes);
+            }
+            Call::ReadAll(port, most, bytes) => {
+                let mut part = [0; 16];
+                let part = &mut part[..(*most).clamp(1, 16)];
+                let mut all = Vec::new(alloc);
+                for _ in 0..100 {
+                    let count = world.read(*port, part)?;
+                    if count == 0 {
+                        break;
+                    }
+                    all.extend_from_slice(&part[..count])?;
+                }
+                assert_eq!(rt; all.as_slice(), *bytes);
+            }
+            Call::Write(port, bytes, wanted) => {
+                assert_eq!(rt; world.write(*port, bytes), *wanted);
+            }
+            Call::WriteAll(port, bytes, wanted) => {
+                assert_eq!(rt; write_all(world, *port, bytes), *wanted);
+            }
+        }
+    }
+    Ok(())
 }
 
-impl InMemory for MemWorld {
-    fn hold_file(&mut self, name: &str, bytes: &[u8]) -> Result<(), AllocError> {
-        self.add_file(name, bytes)
-    }
-
-    fn hold_input(&mut self, bytes: &[u8]) -> Result<(), AllocError> {
-        self.set_standard_input(bytes)
-    }
-
-    fn input(&self, port: InPort) -> &Opened {
-        self.opened(port)
-    }
-
-    fn output(&self, port: OutPort) -> &Opened {
-        self.created(port)
-    }
-
-    fn bytes(&self, port: OutPort) -> &[u8] {
-        self.written(port)
+fn name_of(opened: &Opened) -> Option<&str> {
+    match opened {
+        Opened::Not => None,
+        Opened::Nameless => Some(""),
+        Opened::Named(name) => Some(name.as_str()),
     }
 }
 
-impl InMemory for CalmWorld {
-    fn hold_file(&mut self, name: &str, bytes: &[u8]) -> Result<(), AllocError> {
-        self.add_file(name, bytes)
-    }
+/// Looks at what the ports of a world hold.
+macro_rules! look {
+    ($rt:expr, $world:expr, $held:expr) => {
+        for one in $held {
+            match one {
+                Held::Opened(port, name) => {
+                    assert_eq!($rt; name_of($world.opened(*port)), *name);
+                }
+                Held::Created(port, name) => {
+                    assert_eq!($rt; name_of($world.created(*port)), *name);
+                }
+                Held::Written(port, bytes) => assert_eq!($rt; $world.written(*port), *bytes),
+            }
+        }
+    };
+}
 
-    fn hold_input(&mut self, bytes: &[u8]) -> Result<(), AllocError> {
-        self.set_standard_input(bytes)
-    }
+const SCRIPT: &[u8] = b"(check-sat)\n";
 
-    fn input(&self, port: InPort) -> &Opened {
-        self.opened(port)
-    }
+/// Two files, of which the first takes the place of an older one.
+const FILES: [(&'static str, &'static [u8]); 3] = [
+    ("script.smt2", b"an older file"),
+    ("script.smt2", SCRIPT),
+    ("proof", b"qed"),
+];
 
-    fn output(&self, port: OutPort) -> &Opened {
-        self.created(port)
+/// Goes through the stages over a world in memory whose writes are slow or not, whose reads give no more bytes than the
+/// longest, and whose calls of these numbers fail.
+fn expect_in_memory(
+    rt: &impl Abort,
+    alloc: Global,
+    slow: bool,
+    longest: usize,
+    failing: &[u64],
+    stages: &[Stage],
+) -> Result<(), WorldError>
+    requires { 0 < longest }
+{
+    let memory = MemWorld::new(alloc);
+    let mut world = PacedWorld { memory, slow };
+    for (name, bytes) in FILES {
+        world.memory.add_file(name, bytes)?;
     }
+    world.memory.set_standard_input(b"(exit)")?;
+    world.memory.read_at_most(longest);
+    for call in failing {
+        world.memory.fail_at(*call)?;
+    }
+    for stage in stages {
+        make(&mut world, rt, alloc, stage.calls)?;
+        look!(rt, world.memory, stage.held);
+        assert_eq!(rt; (world.memory.calls(), world.memory.faults()), stage.counts);
+    }
+    Ok(())
+}
 
-    fn bytes(&self, port: OutPort) -> &[u8] {
-        self.written(port)
+/// Goes through the stages over a `CalmWorld`, which counts nothing.
+fn expect_calmly(rt: &impl Abort, alloc: Global, stages: &[Stage]) -> Result<(), WorldError> {
+    let mut world = CalmWorld::new(alloc);
+    for (name, bytes) in FILES {
+        world.add_file(name, bytes)?;
     }
+    world.set_standard_input(b"(exit)")?;
+    for stage in stages {
+        make(&mut world, rt, alloc, stage.calls)?;
+        look!(rt, world, stage.held);
+    }
+    Ok(())
+}
+
+/// Opens each input anew, and reads it to its end.
+const EACH: Stage = Stage {
+    calls: &[
+        Call::Open(InPort::Script, Some("script.smt2"), Ok(())),
+        Call::ReadAll(InPort::Script, 5, SCRIPT),
+        Call::Open(InPort::Proof, Some("proof"), Ok(())),
+        Call::ReadAll(InPort::Proof, 5, b"qed"),
+        Call::Open(InPort::Script, None, Ok(())),
+        Call::ReadAll(InPort::Script, 5, b"(exit)"),
+        Call::Open(InPort::Script, Some("script.smt2"), Ok(())),
+        Call::ReadAll(InPort::Script, 5, SCRIPT),
+    ],
+    held: &[],
+    counts: (17, 0),
+};
+
+/// Reads the first bytes of one input and then of the other, and goes on with the first.
+const IN_TURN: &[Call] = &[
+    Call::Open(InPort::Script, Some("script.smt2"), Ok(())),
+    Call::Open(InPort::Proof, Some("proof"), Ok(())),
+    Call::Read(InPort::Script, Ok(5), *b"(chec"),
+    Call::Read(InPort::Proof, Ok(3), *b"qedec"),
+    Call::Read(InPort::Script, Ok(5), *b"k-sat"),
+    Call::Read(InPort::Proof, Ok(0), *b"k-sat"),
+    Call::Read(InPort::Script, Ok(2), *b")\nsat"),
+    Call::Read(InPort::Script, Ok(0), *b")\nsat"),
+];
+
+const BY_NAME: &[Held] = &[
+    Held::Opened(InPort::Script, Some("script.smt2")),
+    Held::Opened(InPort::Proof, Some("proof")),
+];
+
+const INPUTS: [Stage; 2] = [
+    EACH,
+    Stage {
+        calls: IN_TURN,
+        held: BY_NAME,
+        counts: (25, 0),
+    },
+];
+
+const WHOLE: &[Call] = &[
+    Call::Open(InPort::Script, Some("script.smt2"), Ok(())),
+    Call::ReadAll(InPort::Script, 16, SCRIPT),
+];
+
+/// The file's twelve bytes, read one, two and seven at a time, and the read of its end.
+const BY_ONE: [Stage; 1] = [Stage {
+    calls: WHOLE,
+    held: &[],
+    counts: (14, 0),
+}];
+
+const BY_TWO: [Stage; 1] = [Stage {
+    calls: WHOLE,
+    held: &[],
+    counts: (8, 0),
+}];
+
+const BY_SEVEN: [Stage; 1] = [Stage {
+    calls: WHOLE,
+    held: &[],
+    counts: (4, 0),
+}];
+
+/// An unknown name fails, and leaves the input as it was.
+const UNKNOWN_FAILS: [Stage; 1] = [Stage {
+    calls: &[
+        Call::Open(InPort::Proof, Some("proof"), Ok(())),
+        Call::Open(InPort::Proof, Some("absent"), Err(WorldError::Failed)),
+        Call::ReadAll(InPort::Proof, 16, b"qed"),
+    ],
+    held: &[Held::Opened(InPort::Proof, Some("proof"))],
+    counts: (4, 1),
+}];
+
+/// An unknown name is an empty file.
+const UNKNOWN_IS_EMPTY: [Stage; 1] = [Stage {
+    calls: &[
+        Call::Open(InPort::Proof, Some("proof"), Ok(())),
+        Call::Open(InPort::Proof, Some("absent"), Ok(())),
+        Call::ReadAll(InPort::Proof, 16, b""),
+    ],
+    held: &[Held::Opened(InPort::Proof, Some("absent"))],
+    counts: (3, 0),
+}];
+
+/// Writes to two outputs that were never created, and to one that is created twice.
+const WRITES: &[Call] = &[
+    Call::WriteAll(OutPort::Answers, b"un", Ok(())),
+    Call::WriteAll(OutPort::Answers, b"sat\n", Ok(())),
+    Call::WriteAll(OutPort::Faults, b"odd", Ok(())),
+    Call::Create(OutPort::Proof, None, Ok(())),
+    Call::WriteAll(OutPort::Proof, b"lost", Ok(())),
+    Call::Create(OutPort::Proof, Some("proof"), Ok(())),
+    Call::WriteAll(OutPort::Proof, b"p1\n", Ok(())),
+    Call::WriteAll(OutPort::Proof, b"p2\n", Ok(())),
+];
+
+const WRITTEN: &[Held] = &[
+    Held::Written(OutPort::Answers, b"unsat\n"),
+    Held::Written(OutPort::Faults, b"odd"),
+    Held::Written(OutPort::Proof, b"p1\np2\n"),
+    Held::Created(OutPort::Proof, Some("proof")),
+    Held::Created(OutPort::Answers, None),
+];
+
+const OUTPUTS: [Stage; 1] = [Stage {
+    calls: WRITES,
+    held: WRITTEN,
+    counts: (8, 0),
+}];
+
+/// A call for each of 19 bytes, and for each creation.
+const BYTES: [Stage; 1] = [Stage {
+    calls: WRITES,
+    held: WRITTEN,
+    counts: (21, 0),
+}];
+
+const FAILING: [Stage; 2] = [
+    // an opening, and then each call once, which fails
+    Stage {
+        calls: &[
+            Call::Open(InPort::Proof, Some("proof"), Ok(())),
+            Call::Open(InPort::Script, None, Err(WorldError::Failed)),
+            Call::Create(OutPort::Proof, None, Err(WorldError::Failed)),
+            Call::Read(InPort::Proof, Err(WorldError::Failed), [0; 5]),
+            Call::Write(OutPort::Answers, b"unsat\n", Err(WorldError::Failed)),
+        ],
+        held: &[
+            Held::Opened(InPort::Script, None),
+            Held::Created(OutPort::Proof, None),
+            Held::Written(OutPort::Answers, b""),
+        ],
+        counts: (5, 4),
+    },
+    // and no call behind them
+    Stage {
+        calls: IN_TURN,
+        held: BY_NAME,
+        counts: (13, 4),
+    },
+];
+
+const CUT: [Stage; 1] = [Stage {
+    calls: &[Call::WriteAll(OutPort::Answers, b"unsat\n", Err(WorldError::Failed))],
+    held: &[Held::Written(OutPort::Answers, b"uns")],
+    counts: (4, 1),
+}];
+
+/// Inputs give their files and standard input, and reads of any length give the bytes in order. An unknown name fails in
+/// memory, and is empty in a calm world. Outputs collect their bytes. A listed call fails once and changes nothing, and
+/// a write that fails in mid-stream leaves the front.
+#[test]
+fn worlds_answer_each_call(rt: HostRuntime) -> Result<(), Fail> {
+    let alloc = rt.alloc();
+    expect_in_memory(&rt, alloc, false, usize::MAX, &[], &INPUTS)?;
+    expect_calmly(&rt, alloc, &INPUTS)?;
+    expect_in_memory(&rt, alloc, false, 1, &[], &BY_ONE)?;
+    expect_in_memory(&rt, alloc, false, 2, &[], &BY_TWO)?;
+    expect_in_memory(&rt, alloc, false, 7, &[], &BY_SEVEN)?;
+    expect_in_memory(&rt, alloc, false, usize::MAX, &[], &UNKNOWN_FAILS)?;
+    expect_calmly(&rt, alloc, &UNKNOWN_IS_EMPTY)?;
+    expect_in_memory(&rt, alloc, false, usize::MAX, &[], &OUTPUTS)?;
+    expect_in_memory(&rt, alloc, true, usize::MAX, &[], &BYTES)?;
+    expect_calmly(&rt, alloc, &OUTPUTS)?;
+    expect_in_memory(&rt, alloc, false, usize::MAX, &[2, 3, 4, 5], &FAILING)?;
+    expect_in_memory(&rt, alloc, true, usize::MAX, &[4], &CUT)?;
+    Ok(())
 }

@@ -1,13 +1,16 @@
 //! Why a run failed.
 
+use sb_proof::TapeFault;
 use std::alloc::AllocError;
 
 /// Why a run failed.
 #[derive(Clone, Copy, Drop)]
 pub enum Failure {
+    /// The program's words are wrong.
+    Words,
     /// Input or output failed.
     Outside,
-    /// A number of the input can't be read.
+    /// A number or a word of the input can't be read.
     Input,
     NoMemory,
     /// The search came to what it does not expect.
@@ -17,5 +20,14 @@ pub enum Failure {
 impl From<AllocError> for Failure {
     fn from(_error: AllocError) -> Failure {
         Failure::NoMemory
+    }
+}
+
+impl From<TapeFault> for Failure {
+    fn from(fault: TapeFault) -> Failure {
+        match fault {
+            TapeFault::Fault => Failure::Outside,
+            TapeFault::NoMemory => Failure::NoMemory,
+        }
     }
 }

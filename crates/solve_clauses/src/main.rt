@@ -1,104 +1,77 @@
-//! `solve_clauses`: reads clauses in DIMACS from standard input, and says whether some values make all of them true. It
-//! times the search, and the engine of clauses: every learned clause is kept, and there are no restarts.
+//! `solve_clauses`: searches over clauses. It times the search, and the engine of clauses: every learned clause is kept,
+//! and there are no restarts.
 //!
-//! `solve_clauses search` searches as the solver does, over a theory that finds nothing wrong. `solve_clauses order`
-//! times the engine alone, by a plain search that decides the atoms in their order, and `solve_clauses active` by one
-//! that decides the atom that was met most of late; each is made false first. It prints `SATISFIABLE` or
-//! `UNSATISFIABLE`, and how many conflicts there were.
+//! `solve_clauses search FILE ..` reads clauses in DIMACS from standard input, searches as the solver does, over a theory
+//! that finds nothing wrong, and says whether some values make all of them true, and how many steps were spent. Then it
+//! goes through the cases of the files (cases.rt says how they are written), and prints what they come to.
+//! `solve_clauses order` reads clauses too, and times the engine alone, by a plain search that decides the atoms in their
+//! order, and `solve_clauses active` by one that decides the atom that was met most of late; each is made false first. It
+//! prints `SATISFIABLE` or `UNSATISFIABLE`, and how many conflicts there were.
 //! `solve_clauses rounds N` reads nothing: so often ten clauses are kept, propagated and dropped. The exit status is 1
-//! where input, output or memory failed, and 2 where the words are wrong.
+//! where input, output or memory failed or a case can't be read, and 2 where the words are wrong.
 #![tactic(auto)]
 
-ghost use Rattle.std.specs.Prelude.{◌≡◌, [], OnOk};
+ghost use Rattle.std.specs.Prelude.{◌≡◌, []};
 
+mod cases;
 mod dimacs;
 mod failure;
 mod order;
-mod plain;
+mod replayed;
 mod rounds;
 mod search;
+mod theory;
 
+use crate::cases::go_through;
 use crate::dimacs::read;
 use crate::failure::Failure;
-use crate::order::Order;
-use crate::plain::search_plain;
 use crate::rounds::rounds;
-use crate::search::{Verdict, search};
+use crate::search::decide_all;
+use crate::theory::search_plain;
 use sb_clauses::Engine;
 use std::env;
 use std::io::{BufReader, Write};
 use std::process::ExitCode;
 
-/// What is asked for.
-#[derive(Clone, Copy)]
-enum Task {
-    /// To search as the solver does.
-    Search,
-    /// To search by the engine alone, by activity or by the order of the atoms.
-    Decide { active: bool },
-    /// So many rounds of clauses that come and go.
-    Rounds(u64),
-}
-
 fn main(rt: HostRuntime) -> ExitCode {
-    match wanted(rt) {
-        Some(task) => match run(rt, task) {
-            Ok(()) => ExitCode::from(0u8),
-            Err(_) => ExitCode::from(1u8),
-        },
-        None => ExitCode::from(2u8),
+    match run(rt) {
+        Ok(()) => ExitCode::from(0u8),
+        Err(Failure::Words) => ExitCode::from(2u8),
+        Err(_) => ExitCode::from(1u8),
     }
 }
 
-/// What the words ask for.
-fn wanted(rt: HostRuntime) -> Option<Task> {
-    let words: Vec<String> = env::args(&rt).ok()?.collect(rt.alloc()).ok()?;
-    match words.as_slice() {
-        [_, word] if word.as_str() == "search" => Some(Task::Search),
-        [_, word] if word.as_str() == "active" => Some(Task::Decide { active: true }),
-        [_, word] if word.as_str() == "order" => Some(Task::Decide { active: false }),
-        [_, word, count] if word.as_str() == "rounds" => {
-            Some(Task::Rounds(count.parse::<u64>().ok()?))
-        }
-        _ => None,
-    }
-}
-
-fn run(rt: HostRuntime, task: Task) -> Result<(), Failure> {
+/// Does what the program's words ask for.
+fn run(rt: HostRuntime) -> Result<(), Failure> {
+    let Ok(words) = env::args(&rt) else {
+        return Err(Failure::Words);
+    };
+    let words: Vec<String> = words.collect(rt.alloc())?;
     let mut engine = Engine::new(rt.alloc());
-    match task {
-        Task::Search => {
+    match words.as_slice() {
+        [_, word, files @ ..] if word.as_str() == "search" => {
             read_all(rt, &mut engine)?;
-            let (verdict, conflicts) = search_plain(rt.alloc(), &mut engine)?;
-            print(rt, name(verdict), conflicts)
+            let (verdict, steps) = search_plain(rt.alloc(), &mut engine)?;
+            print(rt, verdict.name(), steps)?;
+            for file in files {
+                go_through(rt, file.as_str())?;
+            }
+            Ok(())
         }
-        Task::Decide { active } => {
+        [_, word] if word.as_str() == "order" || word.as_str() == "active" => {
             read_all(rt, &mut engine)?;
-            decide(rt, &mut engine, active)
+            let active = word.as_str() == "active";
+            let (verdict, conflicts) = decide_all(rt.alloc(), &mut engine, active)?;
+            print(rt, verdict.name(), conflicts)
         }
-        Task::Rounds(count) => {
+        [_, word, count] if word.as_str() == "rounds" => {
+            let Ok(count) = count.parse::<u64>() else {
+                return Err(Failure::Words);
+            };
             rounds(rt.alloc(), &mut engine, count)?;
             print(rt, "DONE", count)
         }
-    }
-}
-
-/// Searches by the engine alone.
-fn decide(rt: HostRuntime, engine: &mut Engine, active: bool) -> Result<(), Failure>
-    requires { engine.old.trail.literals ≡ [] }
-{
-    let atoms = engine.atoms();
-    engine.reserve(atoms)?;
-    let mut order = Order::new(rt.alloc(), atoms, active)?;
-    let verdict = search(rt.alloc(), engine, &mut order)?;
-    print(rt, name(verdict), order.conflicts())
-}
-
-/// The word for a verdict.
-fn name(verdict: Verdict) -> &'static str {
-    match verdict {
-        Verdict::Satisfiable => "SATISFIABLE",
-        Verdict::Unsatisfiable => "UNSATISFIABLE",
+        _ => Err(Failure::Words),
     }
 }
 

@@ -61,7 +61,7 @@ impl Order {
         }
     }
 
-    /// One more conflict, of which these clauses were resolved.
+    /// One more conflict, of which these clauses were resolved. Their atoms are met, each once, but those of level 0.
     pub fn meet(&mut self, trail: &Trail, clauses: &Clauses, hints: &[ClauseId]) {
         self.conflicts = self.conflicts.wrapping_add(1);
         self.next = 0;
@@ -69,49 +69,26 @@ impl Order {
             return;
         }
         for id in hints {
-            if let Some(literals) = clauses.literals(*id) {
-                self.meet_all(trail, literals);
+            for kept in clauses.literals(*id).unwrap_or_default() {
+                let atom = kept.literal().atom;
+                let at = atom as usize;
+                if at < self.met.len()
+                    && at < self.scores.len()
+                    && self.met[at] != self.conflicts
+                    && trail.level(atom) != Some(0)
+                {
+                    self.met[at] = self.conflicts;
+                    self.scores[at] = self.scores[at].saturating_add(self.bump);
+                }
             }
         }
         self.bump = self.bump.saturating_add(self.bump / 20);
         if self.bump > MOST {
             self.bump /= SHRINK;
-            shrink(&mut self.scores);
-        }
-    }
-
-    /// The atoms of a clause are met.
-    fn meet_all(&mut self, trail: &Trail, literals: &[CompactLit]) {
-        for kept in literals {
-            let literal = kept.literal();
-            if trail.level(literal.atom) == Some(0) {
-                continue;
+            for score in self.scores.iter_mut() {
+                *score /= SHRINK;
             }
-            bump(
-                &mut self.scores,
-                &mut self.met,
-                literal.atom,
-                self.conflicts,
-                self.bump,
-            );
         }
-    }
-}
-
-/// Counts a meeting, if the atom was not met at this conflict before.
-fn bump(scores: &mut [u64], met: &mut [u64], atom: u64, conflict: u64, by: u64) {
-    let at = atom as usize;
-    if at >= met.len() || at >= scores.len() || met[at] == conflict {
-        return;
-    }
-    met[at] = conflict;
-    scores[at] = scores[at].saturating_add(by);
-}
-
-/// Makes all scores smaller.
-fn shrink(scores: &mut [u64]) {
-    for score in scores {
-        *score /= SHRINK;
     }
 }
 

@@ -12,37 +12,22 @@ const CLAUSES: u64 = 10;
 pub fn rounds(alloc: Global, engine: &mut Engine, count: u64) -> Result<(), Failure> {
     engine.reserve(2 * CLAUSES as usize)?;
     for _ in 0..count {
-        round(alloc, engine)?;
+        for number in 0..CLAUSES {
+            let mut literals = Vec::new(alloc);
+            for atom in [2 * number, 2 * number + 1] {
+                let literal = Lit {
+                    atom,
+                    positive: true,
+                };
+                literals.push(literal).map_err(AllocError::from)?;
+            }
+            engine.add(&Clause::from_literals(literals), 1)?;
+        }
+        if !engine.has_room() {
+            return Err(Failure::Lost);
+        }
+        engine.propagate();
+        engine.drop_above(0);
     }
-    Ok(())
-}
-
-/// One round.
-fn round(alloc: Global, engine: &mut Engine) -> Result<(), Failure> {
-    for number in 0..CLAUSES {
-        keep(alloc, engine, 2 * number, 2 * number + 1)?;
-    }
-    if !engine.has_room() {
-        return Err(Failure::Lost);
-    }
-    engine.propagate();
-    engine.drop_above(0);
-    Ok(())
-}
-
-/// Keeps on level 1 that one of the atoms is true.
-fn keep(alloc: Global, engine: &mut Engine, one: u64, other: u64) -> Result<(), AllocError> {
-    let mut literals = Vec::new(alloc);
-    put(&mut literals, one)?;
-    put(&mut literals, other)?;
-    engine.add(&Clause::from_literals(literals), 1)?;
-    Ok(())
-}
-
-fn put(literals: &mut Vec<Lit>, atom: u64) -> Result<(), AllocError> {
-    literals.push(Lit {
-        atom,
-        positive: true,
-    })?;
     Ok(())
 }

@@ -23,10 +23,35 @@ pub enum Verdict {
     Unsatisfiable,
 }
 
+impl Verdict {
+    /// The word for it.
+    pub fn name(self) -> &'static str {
+        match self {
+            Verdict::Satisfiable => "SATISFIABLE",
+            Verdict::Unsatisfiable => "UNSATISFIABLE",
+        }
+    }
+}
+
+/// Searches by the engine alone, for values of all atoms of its clauses, and says how many conflicts there were.
+pub fn decide_all(
+    alloc: Global,
+    engine: &mut Engine,
+    active: bool,
+) -> Result<(Verdict, u64), Failure>
+    requires { engine.old.trail.literals ≡ [] }
+{
+    let atoms = engine.atoms();
+    engine.reserve(atoms)?;
+    let mut order = Order::new(alloc, atoms, active)?;
+    let verdict = search(alloc, engine, &mut order)?;
+    Ok((verdict, order.conflicts()))
+}
+
 /// Searches until all atoms have values, or a clause is false on level 0. Not inlined, since a search of many conflicts
 /// took a fourth more time as a part of `run`.
 #[inline(never)]
-pub fn search(alloc: Global, engine: &mut Engine, order: &mut Order) -> Result<Verdict, Failure>
+fn search(alloc: Global, engine: &mut Engine, order: &mut Order) -> Result<Verdict, Failure>
     requires { engine.old.trail.literals ≡ [] }
 {
     for _ in 0..MOST_TURNS {

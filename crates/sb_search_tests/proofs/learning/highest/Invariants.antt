@@ -1,7 +1,0 @@
-use Rattle.std.proofs.Common.{◌≡◌, max, drop}
-use Rattle.sb_analyze.specs.Reasons.{highest}
-use Rattle.sb_search_tests.proofs.learning.highest.Given as goal
-
-abbrev pub invariant-loop-literal : goal.invariant-loop-literal
-invariant-loop-literal l =
-    max l.level (highest l.trail.literals (drop l.literal-index l.literals)) ≡ highest l.trail.literals l.literals

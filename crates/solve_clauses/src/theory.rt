@@ -1,0 +1,168 @@
+//! Theories of which all is known, and the whole search over them.
+
+ghost use Rattle.std.specs.Prelude.{◌≡◌, ◌^◌, ◌<◌, [], true, length, None, IfOk, IfSome};
+ghost use Rattle.std.specs.List.{slice_get};
+ghost use Rattle.std.proofs.Common.{rules};
+ghost use Rattle.sb_lit.specs.Clauses.{is_false_clause};
+ghost use Rattle.sb_trail.specs.Assignments.{held};
+
+use crate::failure::Failure;
+use crate::search::Verdict;
+use sb_clauses::{Clauses, Engine};
+use sb_lit::{Budget, Clause, Lit};
+use sb_proof::{Line, Rule, Tape, TapeFault};
+use sb_search::{Checked, Found, Theory, search};
+use sb_trail::Trail;
+use std::alloc::{AllocError, Global};
+
+/// A theory that gives a lemma where it is false, for a step, and asks for literals one after the other, from the last,
+/// each once. Without lemmas and wishes it finds nothing wrong.
+#[derive(Drop)]
+pub struct Given {
+    pub alloc: Global,
+    /// The atoms that are wanted.
+    pub atoms: Vec<u64>,
+    pub lemmas: Vec<Clause>,
+    pub wishes: Vec<Lit>,
+    /// How often it was asked.
+    pub asked: u64,
+    /// How often for the last time.
+    pub last: u64,
+    /// The level to which the search went back at last.
+    pub back: usize,
+}
+
+impl Theory for Given {
+    ghost wanted = { λ theory. theory.atoms.items };
+
+    ghost passes = { λ _ _. true };
+
+    ghost teaches = { λ _ _. Unit {0} };
+
+    ghost measure = { λ theory _ _. length theory.wishes.items };
+
+    ghost stands = { λ _ _. Unit {0} };
+
+    ghost agrees = { λ _ _. Unit {0} };
+
+    ghost knows = { λ _ _. Unit {0} };
+
+    ghost puts = { λ _ _ _ _. Unit {0} };
+
+    fn check<L: Tape>(
+        &mut self,
+        trail: &Trail,
+        _clauses: &Clauses,
+        last: bool,
+        tape: &mut L,
+        budget: &mut Budget,
+    ) -> Result<Checked, TapeFault> {
+        self.asked = self.asked.wrapping_add(1);
+        self.last = self.last.wrapping_add(u64::from(last));
+        if let Some(lemma) = false_one(self.alloc, trail, &self.lemmas)? {
+            if budget.tick().is_err() {
+                return Ok(Checked::Spent);
+            }
+            let literals = Vec::from_slice(self.alloc, lemma.literals())?;
+            tape.put(&Line::Rule(Rule::Step, literals))?;
+            return Ok(Checked::Lemma(lemma));
+        }
+        match self.wishes.pop() {
+            Some(literal) if trail.value(literal.atom).is_none() => Ok(Checked::Ask(literal)),
+            _ => Ok(Checked::Fine),
+        }
+    }
+
+    fn undo(&mut self, level: usize) {
+        self.back = level;
+    }
+
+    fn wanted_at(&self, at: u64) -> Option<u64> {
+        let _atoms = self.atoms.len();
+        self.atoms.get(at as usize).copied()
+    }
+
+    ghost stands_longer = { λ _ _ _ _. tt };
+
+    ghost measure_longer = { Prim.search rules };
+
+    ghost puts_none = { λ _ _. tt };
+
+    ghost puts_both = { λ _ _ _ _ _ _ _ _. tt };
+
+    ghost stays_known = { λ _ _ _ _ _ _ _. tt };
+
+    ghost puts_learned = { λ _ _ _ _ _ _ _ _. tt };
+
+    ghost puts_gate = { λ _ _ _ _ _. tt };
+}
+
+/// The first lemma that is false.
+fn false_one(alloc: Global, trail: &Trail, lemmas: &[Clause]) -> Result<Option<Clause>, AllocError>
+    ensures { IfOk result (λ found. IfSome found (λ lemma. is_false_clause (held trail.now.literals) lemma ≡ true)) }
+{
+    for lemma in lemmas {
+        if is_false(trail, lemma.literals()) {
+            let literals = Vec::from_slice(alloc, lemma.literals())?;
+            return Ok(Some(Clause::from_literals(literals)));
+        }
+    }
+    Ok(None)
+}
+
+/// Whether all literals are false.
+fn is_false(trail: &Trail, literals: &[Lit]) -> bool
+    ensures { result ≡ true → is_false_clause (held trail.now.literals) literals.now ≡ true }
+{
+    for literal in literals {
+        if trail.literal_value(*literal) != Some(false) {
+            return false;
+        }
+    }
+    true
+}
+
+/// A tape that keeps nothing.
+#[derive(Drop)]
+struct Silent;
+
+impl Tape for Silent {
+    ghost told = { λ _. None };
+
+    ghost faults = { λ _. 0 };
+
+    fn put(&mut self, _line: &Line) -> Result<(), TapeFault> {
+        Ok(())
+    }
+}
+
+/// The theory that wants the atoms from one on below the other, and finds nothing wrong.
+pub fn wanting(alloc: Global, first: u64, end: u64) -> Result<Given, AllocError> {
+    let mut atoms = Vec::new(alloc);
+    for atom in first..end {
+        atoms.push(atom)?;
+    }
+    Ok(Given {
+        alloc,
+        atoms,
+        lemmas: Vec::new(alloc),
+        wishes: Vec::new(alloc),
+        asked: 0,
+        last: 0,
+        back: 0,
+    })
+}
+
+/// Searches for values of all atoms, over a theory that finds nothing wrong and a tape that keeps nothing. Says how many
+/// steps were spent.
+pub fn search_plain(alloc: Global, engine: &mut Engine) -> Result<(Verdict, u64), Failure>
+    requires { engine.old.trail.literals ≡ [] }
+{
+    let mut theory = wanting(alloc, 0, engine.atoms() as u64)?;
+    let mut budget = Budget::new(u64::MAX);
+    match search(alloc, &mut theory, engine, &mut Silent, &[], &mut budget)? {
+        Found::Sat => Ok((Verdict::Satisfiable, budget.spent())),
+        Found::Unsat(_) => Ok((Verdict::Unsatisfiable, budget.spent())),
+        Found::Spent => Err(Failure::Lost),
+    }
+}
