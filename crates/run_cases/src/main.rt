@@ -24,7 +24,7 @@ fn main(rt: HostRuntime) -> ExitCode {
         Ok(true) => ExitCode::from(0u8),
         Ok(false) => ExitCode::from(1u8),
         Err(error) => {
-            let _outcome = eprintln!(rt; "run_cases: {error}");
+            let _outcome = eprintln!(rt; "run_cases: {error:#}");
             ExitCode::from(1u8)
         }
     }
@@ -43,7 +43,7 @@ fn run(rt: HostRuntime) -> Result<bool> {
     for file in words.iter().skip(1) {
         if let Err(error) = run_file(rt, file.as_str(), &mut tally) {
             all_read = false;
-            println!(rt; "{file}: {error}")?;
+            println!(rt; "{file}: {error:#}")?;
         }
     }
     let (cases, runs, differ) = (tally.cases, tally.runs, tally.differ);
