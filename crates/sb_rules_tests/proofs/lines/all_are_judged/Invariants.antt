@@ -1,5 +1,0 @@
-use Rattle.sb_rules.specs.Kept.{IsOver}
-use Rattle.sb_rules_tests.proofs.lines.all_are_judged.Given as goal
-
-abbrev pub invariant-loop-row : goal.invariant-loop-row
-invariant-loop-row g l = IsOver l.table l.kept
