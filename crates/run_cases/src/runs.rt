@@ -49,18 +49,12 @@ pub fn run_case(
         for fails in case.fails.0..=case.fails.1 {
             for end in least..=most {
                 let proof = base.as_deref().and_then(|proof| proof.get(..end));
-                run_once(
-                    rt,
-                    file,
-                    case,
-                    &Turn {
-                        length,
-                        fails,
-                        proof,
-                    },
-                    answers,
-                    tally,
-                )?;
+                let turn = Turn {
+                    length,
+                    fails,
+                    proof,
+                };
+                run_once(rt, file, case, &turn, answers, tally)?;
             }
         }
     }
