@@ -22,10 +22,9 @@ use sb_reader::Next;
 use sb_rulebook::laws::refusal_is_final;
 use sb_world::{World, WorldError};
 use std::alloc::{AllocError, Global};
-use thiserror::Error;
 
 /// What becomes of an entry of the script.
-#[derive(PartialEq, Eq, Drop)]
+#[derive(Drop)]
 pub(crate) enum Checked {
     /// It is no check, and the next entry may come.
     Goes,
@@ -36,18 +35,14 @@ pub(crate) enum Checked {
 }
 
 /// Why a script and its proof are not gone through further.
-#[derive(Clone, Copy, Debug, PartialEq, Eq, Error)]
+#[derive(Clone, Copy)]
 pub(crate) enum CheckerFault {
     /// The line of this number is refused.
-    #[error("refused at line {0}: {1}")]
     Refused(u64, Reason),
     /// As many bytes as the limit were read, and not the end.
-    #[error("too long")]
     Limit,
     /// The outside failed.
-    #[error("input or output failed")]
     Fault,
-    #[error("out of memory")]
     NoMemory,
 }
 

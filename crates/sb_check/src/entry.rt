@@ -21,7 +21,7 @@ use sb_stack::Step;
 use std::alloc::AllocError;
 
 /// What becomes of an entry of the script.
-#[derive(Clone, Copy, PartialEq, Eq)]
+#[derive(Clone, Copy)]
 pub(crate) enum Entered {
     /// The next entry may come.
     Goes,

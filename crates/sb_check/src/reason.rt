@@ -8,52 +8,37 @@ ghost use Rattle.sb_check.specs.Reasons.{reason_in};
 use sb_proof::LineFault;
 use sb_rules::Refusal;
 use std::alloc::AllocError;
-use thiserror::Error;
 
 /// Why a line of a proof is refused: the first of these that fits it.
-#[derive(Clone, Copy, Debug, PartialEq, Eq, Error)]
+#[derive(Clone, Copy)]
 pub(crate) enum Reason {
     /// The words or the number of the fields are those of no line.
-    #[error("bad word")]
     BadWord,
     /// A field that is no word of the format is not of its shape.
-    #[error("bad number")]
     BadNumber,
     /// The proof ends before the line does.
-    #[error("unended line")]
     Unended,
     /// No such line may stand here.
-    #[error("misplaced line")]
     Misplaced,
     /// A number names nothing that is kept, live or declared.
-    #[error("unknown id")]
     UnknownId,
     /// It is kept already.
-    #[error("repeated")]
     Repeated,
     /// No normal regex, or no well-formed atom.
-    #[error("not normal")]
     NotNormal,
     /// The classes and targets are no expansion of the regex.
-    #[error("wrong target")]
     WrongTarget,
     /// A regex that is said to be dead is nullable.
-    #[error("holds the empty word")]
     HoldsEmptyWord,
     /// A regex that is said to be dead has a target that is not.
-    #[error("not closed")]
     NotClosed,
     /// A hint neither forces a literal nor is false, or stands behind one that is false.
-    #[error("idle hint")]
     HintIdle,
     /// The clause does not follow by its rule.
-    #[error("rule broken")]
     RuleBroken,
     /// The verdict does not follow, or the limit is passed.
-    #[error("wrong verdict")]
     WrongVerdict,
     /// The proof ends where a line is due.
-    #[error("missing line")]
     MissingLine,
 }
 
@@ -87,13 +72,11 @@ pub(crate) fn of_refusal(refusal: Refusal) -> Reason
 }
 
 /// Why a line was not taken.
-#[derive(Clone, Copy, Debug, PartialEq, Eq, Error)]
+#[derive(Clone, Copy)]
 pub(crate) enum JudgeFault {
     /// The line of this number is refused.
-    #[error("refused at line {0}: {1}")]
     Refused(u64, Reason),
     /// Memory was wanted.
-    #[error("out of memory")]
     NoMemory,
 }
 

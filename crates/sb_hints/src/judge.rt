@@ -17,7 +17,7 @@ use std::collections::HashSet;
 use thiserror::Error;
 
 /// Why a clause is not learned by its hints.
-#[derive(Debug, Drop, Clone, Copy, PartialEq, Eq, Error)]
+#[derive(Clone, Copy, Debug, Error)]
 pub enum NotLearned {
     /// A hint names no kept clause.
     #[error("a hint names no kept clause")]

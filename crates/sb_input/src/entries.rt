@@ -12,7 +12,7 @@ use std::marker::Model;
 use thiserror::Error;
 
 /// Why it is not known what comes next.
-#[derive(Clone, Copy, Debug, PartialEq, Eq, Error)]
+#[derive(Clone, Copy, Debug, Error)]
 pub enum EntriesFault {
     /// The outside failed.
     #[error("input or output failed")]

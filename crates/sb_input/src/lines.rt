@@ -12,7 +12,7 @@ use std::marker::Model;
 use thiserror::Error;
 
 /// What was found of a proof.
-#[derive(Clone, Copy, PartialEq, Eq)]
+#[derive(Clone, Copy)]
 pub enum Found {
     /// The next line, and whether a line feed ended it. The last line of a proof may lack one.
     Line { ended: bool },
@@ -23,7 +23,7 @@ pub enum Found {
 }
 
 /// Why it is not known what comes next.
-#[derive(Clone, Copy, Debug, PartialEq, Eq, Error)]
+#[derive(Clone, Copy, Debug, Error)]
 pub enum LinesFault {
     /// The outside failed.
     #[error("input or output failed")]

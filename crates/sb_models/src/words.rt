@@ -5,14 +5,13 @@ ghost use Rattle.sb_models.specs.Knowing.{word_at};
 ghost use Rattle.sb_models.specs.Tried.{word_in, are_codes, IsWordOf};
 
 use sb_word::{CodesError, Word};
-use smallvec::SmallVec;
 use std::alloc::{AllocError, Global};
 
-/// The numbers, none where one of them is too large for a character. Up to eight take no memory.
-fn codes_in(alloc: Global, numbers: &[u64]) -> Result<Option<SmallVec<u32, 8>>, AllocError>
+/// The numbers, none where one of them is too large for a character.
+fn codes_in(alloc: Global, numbers: &[u64]) -> Result<Option<Vec<u32>>, AllocError>
     ensures { IfOk result (λ found. are_codes numbers.now (option_map (λ codes. codes.items) found)) }
 {
-    let mut codes = SmallVec::new(alloc);
+    let mut codes = Vec::new(alloc);
     for number in numbers {
         let Ok(code) = u32::try_from(*number) else {
             return Ok(None);

@@ -1,4 +1,5 @@
+pub mod EachFacts
 pub mod FieldFacts
 pub mod NumberFacts
-pub mod RowFacts
 pub mod HexadecimalFacts
+pub mod RowFacts

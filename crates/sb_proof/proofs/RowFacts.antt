@@ -1,7 +1,6 @@
 -- Fields in memory: pairs of them, and those around a colon.
-use Rattle.std.proofs.Common.{◌≡◌, ℤ, map, ◌%◌, ◌<◌, suc, Bool, true, false, cond, nat_eq, length, List, [], ◌∷◌, ◌++◌, Option, Some, None, option_map, option_and_then, take, drop, get_or, ◌-◌, ◌≤◌, refl, sym, ap, ◌∙◌, arith}
+use Rattle.std.proofs.Common.{◌≡◌, ℕ, ℤ, map, ◌%◌, ◌<◌, zero, suc, Bool, true, false, cond, nat_eq, length, List, [], ◌∷◌, ◌++◌, Option, Some, None, option_map, option_and_then, take, drop, get_or, ◌-◌, ◌≤◌, refl, sym, ap, ◌∙◌, arith}
 use Rattle.std.proofs.Math.Seq.{take-length}
-use Rattle.std.proofs.lemmas.List.{append_assoc}
 use Rattle.sb_rulebook.specs.Lines.{Field}
 use Rattle.sb_rulebook.specs.Reading.{is_colon, before_last_colon, has_pairs, both, integer, variable, summands}
 use Rattle.sb_script.specs.Sums.{Summand}
@@ -27,26 +26,35 @@ behind_first : (u : Field) (us : List Field) (g : Field) (o : Option (List Field
 behind_first u us g o true e = ap (option_map (put_first u)) e
 behind_first u us g o false e = ap (option_map (put_first u)) e
 
-last_but_one : (us : List (Bor Field)) (c g : Bor Field) (t : Bool) → is_colon c.now ≡ t
-    → before_last_colon (texts (us ++ c ∷ g ∷ [])) ≡ cond t (Some (texts us, g.now)) None
-last_but_one [] c g t is = ap (λ b. cond b (Some ([], g.now)) None) is
-last_but_one (u ∷ []) c g t is =
-    behind_first u.now [] g.now (before_last_colon (c.now ∷ g.now ∷ [])) t (last_but_one [] c g t is)
-last_but_one (u ∷ v ∷ []) c g t is =
-    behind_first u.now (v.now ∷ []) g.now (before_last_colon (v.now ∷ c.now ∷ g.now ∷ [])) t
-    (last_but_one (v ∷ []) c g t is)
-last_but_one (u ∷ v ∷ w ∷ us) c g t is =
-    behind_first u.now (texts (v ∷ w ∷ us)) g.now (before_last_colon (texts (v ∷ w ∷ (us ++ c ∷ g ∷ [])))) t
-    (last_but_one (v ∷ w ∷ us) c g t is)
-
 -- the last field, and the last one of the others
-pub last_colon : (fields others front : List (Bor Field)) (colon last : Bor Field) (t : Bool)
-    → fields ≡ others ++ last ∷ [] → others ≡ front ++ colon ∷ [] → is_colon colon.now ≡ t
-    → before_last_colon (texts fields) ≡ cond t (Some (texts front, last.now)) None
-last_colon fields others front colon last t e f is =
-    ap (λ xs. before_last_colon (texts xs))
-    (e ∙ ap (λ xs. xs ++ last ∷ []) f ∙ append_assoc front (colon ∷ []) (last ∷ []))
-    ∙ last_but_one front colon last t is
+abbrev LastTwo : Bor Field → List (Bor Field) → ℕ → ℕ → Bool → Type 0
+LastTwo d fields m n t = is_colon (get_or fields m d).now ≡ t
+    → before_last_colon (texts fields) ≡ cond t (Some (texts (take m fields), (get_or fields n d).now)) None
+
+last_two : (d : Bor Field) (fields : List (Bor Field)) (m n : ℕ) (t : Bool) → n ≡ suc m → length fields ≡ suc n
+    → LastTwo d fields m n t
+last_two d [] m n t e long is = absurd (omega arith)
+last_two d (f ∷ []) m n t e long is = absurd (omega arith)
+last_two d (f ∷ g ∷ []) zero n t e long is =
+    let one : n ≡ 1 = omega arith in
+    ap (λ b. cond b (Some ([], g.now)) None) is
+    ∙ ap (λ k. cond t (Some ([], (get_or (f ∷ g ∷ []) k d).now)) None) (sym one)
+last_two d (f ∷ g ∷ []) (suc m) n t e long is = absurd (omega arith)
+last_two d (f ∷ g ∷ h ∷ fs) zero n t e long is = absurd (omega arith)
+last_two d (f ∷ g ∷ h ∷ fs) (suc m) zero t e long is = absurd (omega arith)
+last_two d (f ∷ g ∷ h ∷ fs) (suc m) (suc n) t e long is =
+    behind_first f.now (texts (take m (g ∷ h ∷ fs))) (get_or (g ∷ h ∷ fs) n d).now
+    (before_last_colon (texts (g ∷ h ∷ fs))) t
+    (last_two d (g ∷ h ∷ fs) m n t (omega arith) (omega arith) is)
+
+pub last_colon : (d : Bor Field) (fields : List (Bor Field)) (t : Bool) → 2 ≤ length fields
+    → LastTwo d fields (length fields - 2) (length fields - 1) t
+last_colon d fields t two = last_two d fields (length fields - 2) (length fields - 1) t (omega arith) (omega arith)
+
+pub no_colon : (fields : List (Bor Field)) → length fields < 2 → None ≡ before_last_colon (texts fields)
+no_colon [] few = refl
+no_colon (f ∷ []) few = refl
+no_colon (f ∷ g ∷ fs) few = absurd (omega arith)
 
 -- one summand more
 summands_more : {all : Option (List Summand)} (xs : List (ℤ × Variable)) (s : ℤ × Variable)

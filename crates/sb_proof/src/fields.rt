@@ -1,10 +1,11 @@
 //! The text of fields.
 
-ghost use Rattle.std.specs.Prelude.{◌≡◌, ◌<◌, ℕ, List, ◌∷◌, ◌++◌, [], false, decimal, OnOk};
-ghost use Rattle.std.specs.List.{flat_map};
+ghost use Rattle.std.specs.Prelude.{◌≡◌, ◌<◌, ℕ, List, ◌∷◌, ◌++◌, [], false, decimal, map, OnOk};
+ghost use Rattle.std.specs.List.{flat_map, join_with_byte};
 ghost use Rattle.std.specs.Fmt.{digit_glyph, signed_decimal};
 ghost use Rattle.std.specs.String.{string_bytes};
 ghost use Rattle.sb_rulebook.specs.Lines.{hexadecimal, range_text, ranges_text, word_text, literal_text, piece_text, variable_text, class_text, value_text};
+ghost use Rattle.sb_proof.specs.Fields.{spaced};
 ghost use Rattle.sb_proof.specs.Lines.{piece_in, variable_in, class_in, value_in};
 
 use crate::line::{Class, Piece, Value, Variable};
@@ -13,14 +14,14 @@ use sb_lit::Lit;
 use std::alloc::AllocError;
 use std::fmt::Write;
 
-pub(crate) fn put_number(text: &mut String, n: u64) -> Result<(), AllocError>
+fn put_number(text: &mut String, n: u64) -> Result<(), AllocError>
     ensures { OnOk result (string_bytes text.new ≡ string_bytes text.old ++ decimal n) }
 {
     let mut buffer = Buffer::new();
     text.push_str(buffer.format(n))
 }
 
-pub(crate) fn put_integer(text: &mut String, n: i128) -> Result<(), AllocError>
+fn put_integer(text: &mut String, n: i128) -> Result<(), AllocError>
     ensures { OnOk result (string_bytes text.new ≡ string_bytes text.old ++ signed_decimal n) }
 {
     let mut buffer = Buffer::new();
@@ -90,7 +91,7 @@ fn put_characters(text: &mut String, characters: &[u64]) -> Result<(), AllocErro
     Ok(())
 }
 
-pub(crate) fn put_word(text: &mut String, characters: &[u64]) -> Result<(), AllocError>
+fn put_word(text: &mut String, characters: &[u64]) -> Result<(), AllocError>
     ensures { OnOk result (string_bytes text.new ≡ string_bytes text.old ++ word_text characters.now) }
 {
     text.push_str("w")?;
@@ -156,13 +157,25 @@ pub(crate) fn put_next<T: Field>(text: &mut String, field: &T) -> Result<(), All
 
 /// Appends the fields, with a space in front of each.
 pub(crate) fn put_fields<T: Field>(text: &mut String, fields: &[T]) -> Result<(), AllocError>
-    ensures { OnOk result
-        (string_bytes text.new ≡ string_bytes text.old ++ flat_map (λ x. 32 ∷ T.spelled x) fields.now) }
+    ensures { OnOk result (string_bytes text.new ≡ string_bytes text.old ++ spaced (map T.spelled fields.now)) }
 {
     for field in fields {
         put_next(text, field)?;
     }
     Ok(())
+}
+
+/// Appends a word, and the fields, with a space in front of each.
+pub(crate) fn put_named<T: Field>(
+    text: &mut String,
+    word: &str,
+    fields: &[T],
+) -> Result<(), AllocError>
+    ensures { OnOk result
+        (string_bytes text.new ≡ string_bytes text.old ++ join_with_byte 32 (word.now ∷ map T.spelled fields.now)) }
+{
+    text.push_str(word)?;
+    put_fields(text, fields)
 }
 
 impl Field for u64 {

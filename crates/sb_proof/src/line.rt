@@ -1,10 +1,9 @@
 //! Lines of proofs.
 
 use sb_lit::Lit;
-use smallvec::SmallVec;
 
 /// A regex whose parts are numbers of regexes.
-#[derive(PartialEq, Eq, Drop)]
+#[derive(Drop)]
 pub enum Node {
     /// No word.
     None,
@@ -29,16 +28,16 @@ pub enum Node {
 }
 
 /// A piece of a concatenation.
-#[derive(PartialEq, Eq, Drop)]
+#[derive(Drop)]
 pub enum Piece {
     /// The String constant of this serial.
     Constant(u64),
     /// A word, by its characters.
-    Word(SmallVec<u64, 4>),
+    Word(Vec<u64>),
 }
 
 /// What a bound speaks of.
-#[derive(Clone, Copy, PartialEq, Eq)]
+#[derive(Clone, Copy)]
 pub enum Variable {
     /// The Int constant of this serial.
     Int(u64),
@@ -47,7 +46,7 @@ pub enum Variable {
 }
 
 /// What a literal is true or false of.
-#[derive(PartialEq, Eq, Drop)]
+#[derive(Drop)]
 pub enum Atom {
     /// The Bool constant of this serial is true.
     Bool(u64),
@@ -64,14 +63,14 @@ pub enum Atom {
 }
 
 /// The characters of some ranges, and the number of the regex to which they lead.
-#[derive(PartialEq, Eq, Drop)]
+#[derive(Drop)]
 pub struct Class {
     pub ranges: Vec<(u64, u64)>,
     pub target: u64,
 }
 
 /// The rules whose clauses are true under all values.
-#[derive(Clone, Copy, PartialEq, Eq)]
+#[derive(Clone, Copy)]
 pub enum Rule {
     Gate,
     Order,
@@ -81,15 +80,15 @@ pub enum Rule {
 }
 
 /// The value of a constant.
-#[derive(PartialEq, Eq, Drop)]
+#[derive(Drop)]
 pub enum Value {
-    Text(SmallVec<u64, 4>),
+    Text(Vec<u64>),
     Int(i128),
     Truth(bool),
 }
 
 /// What a verdict line says.
-#[derive(PartialEq, Eq, Drop)]
+#[derive(Drop)]
 pub enum Said {
     /// The values of the live constants, by serial.
     Sat(Vec<Value>),
@@ -102,7 +101,7 @@ pub enum Said {
 }
 
 /// A line of a proof. Regexes, atoms and clauses are numbered from 0, each kind by its own lines.
-#[derive(PartialEq, Eq, Drop)]
+#[derive(Drop)]
 pub enum Line {
     /// The first line, with the number of the format.
     Header(u64),

@@ -1,13 +1,12 @@
 //! The text of a line.
 
-ghost use Rattle.std.specs.Prelude.{◌≡◌, ◌++◌, IfOk, OnOk};
+ghost use Rattle.std.specs.Prelude.{◌≡◌, ◌++◌, codes, IfOk, OnOk};
 ghost use Rattle.std.specs.String.{string_bytes};
 ghost use Rattle.sb_script.specs.Steps.{line as ended};
-ghost use Rattle.sb_rulebook.specs.Lines.{node_fields, atom_fields, rule_text, said_fields, text_of};
-ghost use Rattle.sb_proof.specs.Fields.{spaced};
+ghost use Rattle.sb_rulebook.specs.Lines.{regex_line, atom_line, verdict_line, rule_text, text_of};
 ghost use Rattle.sb_proof.specs.Lines.{node_in, atom_in, rule_in, said_in, line_in};
 
-use crate::fields::{put_fields, put_next, put_number, put_ranges};
+use crate::fields::{put_fields, put_named, put_next, put_ranges};
 use crate::line::{Atom, Line, Node, Rule, Said};
 use std::alloc::{AllocError, Global};
 
@@ -34,165 +33,97 @@ fn put_text(text: &mut String, line: &Line) -> Result<(), AllocError>
     ensures { OnOk result (string_bytes text.new ≡ string_bytes text.old ++ text_of (line_in line.now)) }
 {
     match line {
-        Line::Header(format) => {
-            text.push_str("strproof ")?;
-            put_number(text, *format)
-        }
-        Line::Regex(node) => {
-            text.push_str("r")?;
-            put_node(text, node)
-        }
-        Line::Atom(atom) => {
-            text.push_str("a")?;
-            put_atom(text, atom)
-        }
+        Line::Header(format) => put_named(text, "strproof", &[*format]),
+        Line::Regex(node) => put_node(text, node),
+        Line::Atom(atom) => put_atom(text, atom),
         Line::Expansion(regex, classes) => {
-            text.push_str("x")?;
-            put_next(text, regex)?;
+            put_named(text, "x", &[*regex])?;
             put_fields(text, classes.as_slice())
         }
-        Line::Dead(regexes) => {
-            text.push_str("d")?;
-            put_fields(text, regexes.as_slice())
-        }
+        Line::Dead(regexes) => put_named(text, "d", regexes.as_slice()),
         Line::Assertion(place, literal) => {
-            text.push_str("c assert")?;
-            put_next(text, place)?;
-            put_next(text, literal)
+            put_named(text, "c assert", &[*place])?;
+            put_fields(text, &[*literal])
         }
-        Line::Rule(rule, literals) => {
-            text.push_str("c ")?;
-            text.push_str(word_of(*rule))?;
-            put_fields(text, literals.as_slice())
-        }
+        Line::Rule(rule, literals) => put_named(text, words_of(*rule), literals.as_slice()),
         Line::Learned(literals, hints) => {
-            text.push_str("c learn")?;
-            put_fields(text, literals.as_slice())?;
-            text.push_str(" :")?;
-            put_fields(text, hints.as_slice())
+            put_named(text, "c learn", literals.as_slice())?;
+            put_named(text, " :", hints.as_slice())
         }
-        Line::Verdict(said) => {
-            text.push_str("v")?;
-            put_said(text, said)
-        }
+        Line::Verdict(said) => put_said(text, said),
         Line::End => text.push_str("end"),
     }
 }
 
-/// The word of a rule.
-fn word_of(rule: Rule) -> &'static str
-    ensures { result.now ≡ rule_text (rule_in rule) }
+/// The words of a rule's line.
+fn words_of(rule: Rule) -> &'static str
+    ensures { result.now ≡ codes "c " ++ rule_text (rule_in rule) }
 {
     match rule {
-        Rule::Gate => "gate",
-        Rule::Order => "order",
-        Rule::Linear => "linear",
-        Rule::Step => "step",
-        Rule::Empty => "empty",
+        Rule::Gate => "c gate",
+        Rule::Order => "c order",
+        Rule::Linear => "c linear",
+        Rule::Step => "c step",
+        Rule::Empty => "c empty",
     }
 }
 
-/// Appends the fields of a regex, with a space in front of each, as the functions below do.
+/// Appends the line of a regex.
 fn put_node(text: &mut String, node: &Node) -> Result<(), AllocError>
     ensures { OnOk result
-        (string_bytes text.new ≡ string_bytes text.old ++ spaced (node_fields (node_in node.now))) }
+        (string_bytes text.new ≡ string_bytes text.old ++ text_of (regex_line (node_in node.now))) }
 {
     match node {
-        Node::None => text.push_str(" none"),
-        Node::Eps => text.push_str(" eps"),
+        Node::None => text.push_str("r none"),
+        Node::Eps => text.push_str("r eps"),
         Node::Set(ranges) => {
-            text.push_str(" set ")?;
+            text.push_str("r set ")?;
             put_ranges(text, ranges.as_slice())
         }
-        Node::Cat(first, second) => {
-            text.push_str(" cat")?;
-            put_next(text, first)?;
-            put_next(text, second)
-        }
-        Node::Alt(parts) => {
-            text.push_str(" alt")?;
-            put_fields(text, parts.as_slice())
-        }
-        Node::And(parts) => {
-            text.push_str(" and")?;
-            put_fields(text, parts.as_slice())
-        }
-        Node::Not(part) => {
-            text.push_str(" not")?;
-            put_next(text, part)
-        }
-        Node::Star(part) => {
-            text.push_str(" star")?;
-            put_next(text, part)
-        }
-        Node::Rep(part, least, most) => {
-            text.push_str(" rep")?;
-            put_next(text, part)?;
-            put_next(text, least)?;
-            put_next(text, most)
-        }
-        Node::Path(first, second) => {
-            text.push_str(" path")?;
-            put_next(text, first)?;
-            put_next(text, second)
-        }
+        Node::Cat(first, second) => put_named(text, "r cat", &[*first, *second]),
+        Node::Alt(parts) => put_named(text, "r alt", parts.as_slice()),
+        Node::And(parts) => put_named(text, "r and", parts.as_slice()),
+        Node::Not(part) => put_named(text, "r not", &[*part]),
+        Node::Star(part) => put_named(text, "r star", &[*part]),
+        Node::Rep(part, least, most) => put_named(text, "r rep", &[*part, *least, *most]),
+        Node::Path(first, second) => put_named(text, "r path", &[*first, *second]),
     }
 }
 
+/// Appends the line of an atom.
 fn put_atom(text: &mut String, atom: &Atom) -> Result<(), AllocError>
     ensures { OnOk result
-        (string_bytes text.new ≡ string_bytes text.old ++ spaced (atom_fields (atom_in atom.now))) }
+        (string_bytes text.new ≡ string_bytes text.old ++ text_of (atom_line (atom_in atom.now))) }
 {
     match atom {
-        Atom::Bool(serial) => {
-            text.push_str(" bool")?;
-            put_next(text, serial)
-        }
+        Atom::Bool(serial) => put_named(text, "a bool", &[*serial]),
         Atom::In(pieces, regex) => {
-            text.push_str(" in")?;
-            put_fields(text, pieces.as_slice())?;
-            text.push_str(" :")?;
-            put_next(text, regex)
+            put_named(text, "a in", pieces.as_slice())?;
+            put_named(text, " :", &[*regex])
         }
         Atom::Le(variable, bound) => {
-            text.push_str(" le")?;
-            put_next(text, variable)?;
+            put_named(text, "a le", &[*variable])?;
             put_next(text, bound)
         }
         Atom::Sum(bound, summands) => {
-            text.push_str(" sum")?;
+            text.push_str("a sum")?;
             put_next(text, bound)?;
             put_fields(text, summands.as_slice())
         }
-        Atom::And(literals) => {
-            text.push_str(" and")?;
-            put_fields(text, literals.as_slice())
-        }
-        Atom::Iff(first, second) => {
-            text.push_str(" iff")?;
-            put_next(text, first)?;
-            put_next(text, second)
-        }
+        Atom::And(literals) => put_named(text, "a and", literals.as_slice()),
+        Atom::Iff(first, second) => put_named(text, "a iff", &[*first, *second]),
     }
 }
 
+/// Appends the line of a verdict.
 fn put_said(text: &mut String, said: &Said) -> Result<(), AllocError>
     ensures { OnOk result
-        (string_bytes text.new ≡ string_bytes text.old ++ spaced (said_fields (said_in said.now))) }
+        (string_bytes text.new ≡ string_bytes text.old ++ text_of (verdict_line (said_in said.now))) }
 {
     match said {
-        Said::Sat(values) => {
-            text.push_str(" sat")?;
-            put_fields(text, values.as_slice())
-        }
-        Said::Unsat(clause) => {
-            text.push_str(" unsat")?;
-            put_next(text, clause)
-        }
-        Said::Unknown(limit) => {
-            text.push_str(" unknown")?;
-            put_next(text, limit)
-        }
-        Said::Unsupported => text.push_str(" unsupported"),
+        Said::Sat(values) => put_named(text, "v sat", values.as_slice()),
+        Said::Unsat(clause) => put_named(text, "v unsat", &[*clause]),
+        Said::Unknown(limit) => put_named(text, "v unknown", &[*limit]),
+        Said::Unsupported => text.push_str("v unsupported"),
     }
 }

@@ -22,7 +22,7 @@ use std::alloc::{AllocError, Global};
 use thiserror::Error;
 
 /// Why a text is no line: the first of these that fits.
-#[derive(Clone, Copy, Debug, PartialEq, Eq, Error)]
+#[derive(Clone, Copy, Debug, Error)]
 pub enum LineFault {
     /// The words or the number of the fields are those of no line.
     #[error("bad word")]
@@ -33,6 +33,16 @@ pub enum LineFault {
     /// The proof ends before the line does.
     #[error("unended line")]
     Unended,
+}
+
+/// What is made of what is read, or why it is not.
+macro_rules! made {
+    ($read:expr, $said:pat => $made:expr) => {
+        match $read {
+            Ok($said) => Ok(Ok($made)),
+            Err(fault) => Ok(Err(fault)),
+        }
+    };
 }
 
 /// The line of a text, or why it is none, as docs/PROOF-FORMAT.md has it. The text is what stands before a line feed;
@@ -85,15 +95,15 @@ fn read_line_of(alloc: Global, kind: LineKind, fields: &[&[u8]]) -> Answer<Line>
     ensures { IfOk result (λ answer. answered line_in answer ≡ line_reader kind (texts fields.now)) }
 {
     match kind {
-        LineKind::Header => Ok(one(alloc, fields)?.map(Line::Header)),
-        LineKind::Regex => Ok(read_node(alloc, fields)?.map(Line::Regex)),
-        LineKind::Atom => Ok(read_atom(alloc, fields)?.map(Line::Atom)),
-        LineKind::Expansion => Ok(some(alloc, fields)?.map(|(regex, classes)| Line::Expansion(
-            regex, classes,
-        ))),
-        LineKind::Dead => Ok(any_number(alloc, fields)?.map(Line::Dead)),
+        LineKind::Header => made!(one(alloc, fields)?, format => Line::Header(format)),
+        LineKind::Regex => made!(read_node(alloc, fields)?, node => Line::Regex(node)),
+        LineKind::Atom => made!(read_atom(alloc, fields)?, atom => Line::Atom(atom)),
+        LineKind::Expansion => {
+            made!(some(alloc, fields)?, (regex, classes) => Line::Expansion(regex, classes))
+        }
+        LineKind::Dead => made!(any_number(alloc, fields)?, regexes => Line::Dead(regexes)),
         LineKind::Clause => read_clause(alloc, fields),
-        LineKind::Verdict => Ok(read_said(alloc, fields)?.map(Line::Verdict)),
+        LineKind::Verdict => made!(read_said(alloc, fields)?, said => Line::Verdict(said)),
         LineKind::End => Ok(bare(Line::End, fields)),
     }
 }
@@ -116,14 +126,14 @@ fn read_node_of(alloc: Global, kind: NodeKind, fields: &[&[u8]]) -> Answer<Node>
     match kind {
         NodeKind::None => Ok(bare(Node::None, fields)),
         NodeKind::Eps => Ok(bare(Node::Eps, fields)),
-        NodeKind::Set => Ok(one(alloc, fields)?.map(Node::Set)),
-        NodeKind::Cat => Ok(two(alloc, fields)?.map(|(first, second)| Node::Cat(first, second))),
-        NodeKind::Alt => Ok(at_least_one(alloc, fields)?.map(Node::Alt)),
-        NodeKind::And => Ok(at_least_one(alloc, fields)?.map(Node::And)),
-        NodeKind::Not => Ok(one(alloc, fields)?.map(Node::Not)),
-        NodeKind::Star => Ok(one(alloc, fields)?.map(Node::Star)),
-        NodeKind::Rep => Ok(three(fields).map(|(part, least, most)| Node::Rep(part, least, most))),
-        NodeKind::Path => Ok(two(alloc, fields)?.map(|(first, second)| Node::Path(first, second))),
+        NodeKind::Set => made!(one(alloc, fields)?, ranges => Node::Set(ranges)),
+        NodeKind::Cat => made!(two(alloc, fields)?, (first, second) => Node::Cat(first, second)),
+        NodeKind::Alt => made!(at_least_one(alloc, fields)?, parts => Node::Alt(parts)),
+        NodeKind::And => made!(at_least_one(alloc, fields)?, parts => Node::And(parts)),
+        NodeKind::Not => made!(one(alloc, fields)?, part => Node::Not(part)),
+        NodeKind::Star => made!(one(alloc, fields)?, part => Node::Star(part)),
+        NodeKind::Rep => made!(three(fields), (part, least, most) => Node::Rep(part, least, most)),
+        NodeKind::Path => made!(two(alloc, fields)?, (first, second) => Node::Path(first, second)),
     }
 }
 
@@ -143,12 +153,12 @@ fn read_atom_of(alloc: Global, kind: AtomKind, fields: &[&[u8]]) -> Answer<Atom>
     ensures { IfOk result (λ answer. answered atom_in answer ≡ atom_reader kind (texts fields.now)) }
 {
     match kind {
-        AtomKind::Bool => Ok(one(alloc, fields)?.map(Atom::Bool)),
+        AtomKind::Bool => made!(one(alloc, fields)?, serial => Atom::Bool(serial)),
         AtomKind::In => read_membership(alloc, fields),
-        AtomKind::Le => Ok(two(alloc, fields)?.map(|(variable, bound)| Atom::Le(variable, bound))),
+        AtomKind::Le => made!(two(alloc, fields)?, (variable, bound) => Atom::Le(variable, bound)),
         AtomKind::Sum => read_sum(alloc, fields),
-        AtomKind::And => Ok(any_number(alloc, fields)?.map(Atom::And)),
-        AtomKind::Iff => Ok(two(alloc, fields)?.map(|(first, second)| Atom::Iff(first, second))),
+        AtomKind::And => made!(any_number(alloc, fields)?, literals => Atom::And(literals)),
+        AtomKind::Iff => made!(two(alloc, fields)?, (first, second) => Atom::Iff(first, second)),
     }
 }
 
@@ -168,9 +178,9 @@ fn read_clause_of(alloc: Global, kind: ClauseKind, fields: &[&[u8]]) -> Answer<L
     ensures { IfOk result (λ answer. answered line_in answer ≡ clause_reader kind (texts fields.now)) }
 {
     match kind {
-        ClauseKind::Assertion => Ok(two(alloc, fields)?.map(|(place, literal)| Line::Assertion(
-            place, literal,
-        ))),
+        ClauseKind::Assertion => {
+            made!(two(alloc, fields)?, (place, literal) => Line::Assertion(place, literal))
+        }
         ClauseKind::Gate => read_rule(alloc, Rule::Gate, fields),
         ClauseKind::Order => read_rule(alloc, Rule::Order, fields),
         ClauseKind::Linear => read_rule(alloc, Rule::Linear, fields),
@@ -185,7 +195,7 @@ fn read_rule(alloc: Global, rule: Rule, fields: &[&[u8]]) -> Answer<Line>
         (λ answer. answered line_in answer
         ≡ any_number literal (lines.rule_line (rule_in rule)) (texts fields.now)) }
 {
-    Ok(any_number(alloc, fields)?.map(|literals| Line::Rule(rule, literals)))
+    made!(any_number(alloc, fields)?, literals => Line::Rule(rule, literals))
 }
 
 fn read_said(alloc: Global, fields: &[&[u8]]) -> Answer<Said>
@@ -204,9 +214,9 @@ fn read_said_of(alloc: Global, kind: VerdictKind, fields: &[&[u8]]) -> Answer<Sa
     ensures { IfOk result (λ answer. answered said_in answer ≡ verdict_reader kind (texts fields.now)) }
 {
     match kind {
-        VerdictKind::Sat => Ok(any_number(alloc, fields)?.map(Said::Sat)),
+        VerdictKind::Sat => made!(any_number(alloc, fields)?, values => Said::Sat(values)),
         VerdictKind::Unsat => read_refutation(alloc, fields),
-        VerdictKind::Unknown => Ok(one(alloc, fields)?.map(Said::Unknown)),
+        VerdictKind::Unknown => made!(one(alloc, fields)?, limit => Said::Unknown(limit)),
         VerdictKind::Unsupported => Ok(bare(Said::Unsupported, fields)),
     }
 }
@@ -215,7 +225,7 @@ fn read_said_of(alloc: Global, kind: VerdictKind, fields: &[&[u8]]) -> Answer<Sa
 fn read_refutation(alloc: Global, fields: &[&[u8]]) -> Answer<Said>
     ensures { IfOk result (λ answer. answered said_in answer ≡ refutation (texts fields.now)) }
 {
-    Ok(one(alloc, fields)?.map(Said::Unsat))
+    made!(one(alloc, fields)?, clause => Said::Unsat(clause))
 }
 
 /// Pieces, a colon, and the number of a regex.
@@ -299,7 +309,13 @@ fn read_summands(
 fn read_summand(factor: &[u8], of: &[u8]) -> Option<(i128, Variable)>
     ensures { option_map summand_in result ≡ both integer variable (factor.now ∷ of.now ∷ []) }
 {
-    Some((integer(factor)?, variable(of)?))
+    let Some(factor) = integer(factor) else {
+        return None;
+    };
+    let Some(of) = variable(of) else {
+        return None;
+    };
+    Some((factor, of))
 }
 
 /// What stands before the first colon, and behind it.
@@ -318,8 +334,9 @@ fn around_colon<'a>(fields: &'a [&'a [u8]]) -> Option<(&'a [&'a [u8]], &'a [&'a 
 fn before_last_colon<'a>(fields: &'a [&'a [u8]]) -> Option<(&'a [&'a [u8]], &'a [u8])>
     ensures { option_map (λ p. (texts p.0.now, p.1.now)) result ≡ before_last_colon (texts fields.now) }
 {
-    let (last, others) = fields.split_last()?;
-    let (colon, front) = others.split_last()?;
+    let [front @ .., colon, last] = fields else {
+        return None;
+    };
     if is_word(colon, ":") {
         Some((front, last))
     } else {

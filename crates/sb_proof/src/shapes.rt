@@ -14,7 +14,6 @@ ghost use Rattle.sb_proof.specs.Views.{texts};
 use crate::line::{Class, Piece, Value, Variable};
 use crate::numbers::{hexadecimal_number, integer, literal, number, variable};
 use sb_lit::Lit;
-use smallvec::SmallVec;
 use std::alloc::{AllocError, Global};
 
 /// What a field may say.
@@ -60,24 +59,21 @@ pub(crate) fn split(alloc: Global, text: &[u8], separator: u8) -> Result<Vec<&[u
     text.split(|byte| *byte == separator).collect(alloc)
 }
 
-/// The characters of a word, between full stops. A word of one takes no memory.
-fn characters(alloc: Global, text: &[u8]) -> Result<Option<SmallVec<u64, 4>>, AllocError>
+/// The characters of a word, between full stops.
+fn characters(alloc: Global, text: &[u8]) -> Result<Option<Vec<u64>>, AllocError>
     ensures { IfOk result (λ o. option_map (λ v. v.items) o ≡ characters text.now) }
 {
     if text.is_empty() {
-        return Ok(Some(SmallVec::new(alloc)));
-    }
-    if !text.contains(&b'.') {
-        return each_character(alloc, &[text]);
+        return Ok(Some(Vec::new(alloc)));
     }
     let fields = split(alloc, text, b'.')?;
     each_character(alloc, fields.as_slice())
 }
 
-fn each_character(alloc: Global, fields: &[&[u8]]) -> Result<Option<SmallVec<u64, 4>>, AllocError>
+fn each_character(alloc: Global, fields: &[&[u8]]) -> Result<Option<Vec<u64>>, AllocError>
     ensures { IfOk result (λ o. option_map (λ v. v.items) o ≡ each hexadecimal_number (texts fields.now)) }
 {
-    let mut characters = SmallVec::new(alloc);
+    let mut characters = Vec::new(alloc);
     for field in fields {
         let Some(character) = hexadecimal_number(field) else {
             return Ok(None);
@@ -147,8 +143,14 @@ impl Shape for Piece {
             return Ok(None);
         };
         match *first {
-            b'v' => Ok(number(rest).map(Piece::Constant)),
-            b'w' => Ok(characters(alloc, rest)?.map(Piece::Word)),
+            b'v' => match number(rest) {
+                Some(serial) => Ok(Some(Piece::Constant(serial))),
+                None => Ok(None),
+            },
+            b'w' => match characters(alloc, rest)? {
+                Some(word) => Ok(Some(Piece::Word(word))),
+                None => Ok(None),
+            },
             _ => Ok(None),
         }
     }
@@ -172,9 +174,15 @@ impl Shape for Value {
             return Ok(Some(Value::Truth(false)));
         }
         if *first == b'w' {
-            return Ok(characters(alloc, rest)?.map(Value::Text));
+            return match characters(alloc, rest)? {
+                Some(word) => Ok(Some(Value::Text(word))),
+                None => Ok(None),
+            };
         }
-        Ok(integer(field).map(Value::Int))
+        match integer(field) {
+            Some(n) => Ok(Some(Value::Int(n))),
+            None => Ok(None),
+        }
     }
 }
 

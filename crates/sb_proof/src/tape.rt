@@ -13,7 +13,7 @@ use std::marker::Model;
 use thiserror::Error;
 
 /// Why a line was not put.
-#[derive(Clone, Copy, Debug, PartialEq, Eq, Error)]
+#[derive(Clone, Copy, Debug, Error)]
 pub enum TapeFault {
     /// What is behind the tape failed.
     #[error("the proof can't be written")]

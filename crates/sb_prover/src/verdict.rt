@@ -14,7 +14,6 @@ use sb_proof::{Line, Said, Tape, TapeFault, Value};
 use sb_stack::{LiveConstant, Stack};
 use sb_term::Sort;
 use sb_word::Word;
-use smallvec::SmallVec;
 use std::alloc::{AllocError, Global};
 
 /// Puts the line of a verdict.
@@ -104,21 +103,21 @@ fn characters_at(
     alloc: Global,
     words: &[Word],
     place: usize,
-) -> Result<SmallVec<u64, 4>, AllocError>
+) -> Result<Vec<u64>, AllocError>
     ensures { IfOk result (λ characters. characters.items ≡ get_or words.now place []) }
 {
     match words.get(place) {
         Some(word) => characters_of(alloc, word),
-        None => Ok(SmallVec::new(alloc)),
+        None => Ok(Vec::new(alloc)),
     }
 }
 
 /// The characters of a word.
-fn characters_of(alloc: Global, word: &Word) -> Result<SmallVec<u64, 4>, AllocError>
+fn characters_of(alloc: Global, word: &Word) -> Result<Vec<u64>, AllocError>
     ensures { IfOk result (λ characters. characters.items ≡ word.now) }
 {
     let codes = word.codes();
-    let mut characters = SmallVec::new(alloc);
+    let mut characters = Vec::new(alloc);
     characters.reserve(codes.len())?;
     for code in codes {
         characters.push(*code as u64)?;
