@@ -25,7 +25,7 @@ use std::alloc::{AllocError, Global};
 
 /// What becomes of an entry of the script.
 #[derive(Drop)]
-pub(crate) enum Checked {
+pub enum Checked {
     /// It is no check, and the next entry may come.
     Goes,
     /// It is a check, and this is its verdict.
@@ -36,7 +36,7 @@ pub(crate) enum Checked {
 
 /// Why a script and its proof are not gone through further.
 #[derive(Clone, Copy)]
-pub(crate) enum CheckerFault {
+pub enum CheckerFault {
     /// The line of this number is refused.
     Refused(u64, Reason),
     /// As many bytes as the limit were read, and not the end.
@@ -48,13 +48,13 @@ pub(crate) enum CheckerFault {
 
 /// A script and its proof, as far as they were gone through.
 #[derive(Drop)]
-pub(crate) struct Checker {
-    pub(crate) judge: Judge,
+pub struct Checker {
+    pub judge: Judge,
 }
 
 impl Checker {
     /// The beginning of a script and of its proof. Takes no memory.
-    pub(crate) fn new(alloc: Global) -> Checker
+    pub fn new(alloc: Global) -> Checker
         ensures standing { IsStanding result.judge }
         ensures at { IsAt at_rest result.judge beginning }
         ensures state { state_of result.judge.stack ≡ start }
@@ -70,7 +70,7 @@ impl Checker {
     /// bytes of the proof as the limit of `lines` were read, and not its end; `Fault` only where the world's count of
     /// faults rose. After an error nothing more may be checked. The cost is that of `Judge::enter`, and that of
     /// each line.
-    pub(crate) fn command<W: World>(
+    pub fn command<W: World>(
         &mut self,
         entry: &Next,
         lines: &mut Lines,
@@ -104,11 +104,7 @@ impl Checker {
 
     /// Takes the lines of the proof that are due where the script has ended: its last line, and nothing behind it. The
     /// errors are those of `command`.
-    pub(crate) fn finish<W: World>(
-        &mut self,
-        lines: &mut Lines,
-        world: &mut W,
-    ) -> Result<(), CheckerFault>
+    pub fn finish<W: World>(&mut self, lines: &mut Lines, world: &mut W) -> Result<(), CheckerFault>
         requires standing { IsStanding self.old.judge }
         requires room { self.old.judge.next + most_to_come lines.old < 2 ^ 64 }
         ensures ok { OnOk result

@@ -22,7 +22,7 @@ use std::alloc::AllocError;
 
 /// What becomes of an entry of the script.
 #[derive(Clone, Copy)]
-pub(crate) enum Entered {
+pub enum Entered {
     /// The next entry may come.
     Goes,
     /// Levels were left, and the next entry may come.
@@ -37,7 +37,7 @@ impl Judge {
     /// Takes the next entry of the script, where no check waits. Linear in the entry; where levels are left, linear in
     /// what they hold and in the clauses that go, each with a logarithm of the number that were kept. `AllocError` only
     /// for want of memory, and then nothing more may be judged.
-    pub(crate) fn enter(&mut self, entry: &Next) -> Result<Entered, AllocError>
+    pub fn enter(&mut self, entry: &Next) -> Result<Entered, AllocError>
         requires entry { IsEntry entry.now }
         requires standing { IsStanding self.old }
         ensures ok { IfOk result (λ entered. Enters entered (step_of (entry_of entry.now) (state_of self.old.stack))

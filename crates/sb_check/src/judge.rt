@@ -28,20 +28,20 @@ use std::alloc::{AllocError, Global};
 
 /// A script and its proof, as far as they have come.
 #[derive(Drop)]
-pub(crate) struct Judge {
-    pub(crate) alloc: Global,
-    pub(crate) stack: Stack,
-    pub(crate) kept: Kept,
-    pub(crate) models: Models,
+pub struct Judge {
+    pub alloc: Global,
+    pub stack: Stack,
+    pub kept: Kept,
+    pub models: Models,
     /// The first line of the proof has come.
-    pub(crate) begun: bool,
+    pub begun: bool,
     /// The number of the next line, from 1.
-    pub(crate) next: u64,
+    pub next: u64,
 }
 
 impl Judge {
     /// The beginning of a script and of its proof. Takes no memory.
-    pub(crate) fn new(alloc: Global) -> Judge
+    pub fn new(alloc: Global) -> Judge
         ensures standing { IsStanding result }
         ensures at { IsAt at_rest result beginning }
         ensures state { state_of result.stack ≡ start }
@@ -59,7 +59,7 @@ impl Judge {
     /// Judges a line where a check waits: the text in front of a line feed, or, where the proof ends without one, what
     /// stands behind the last line feed, and `ended` is false. Answers the verdict, where the line is one. Its cost is
     /// that of the line's kind. After an error nothing more may be judged.
-    pub(crate) fn take(&mut self, text: &[u8], ended: bool) -> Result<Option<Said>, JudgeFault>
+    pub fn take(&mut self, text: &[u8], ended: bool) -> Result<Option<Said>, JudgeFault>
         requires standing { IsStanding self.old }
         requires room { self.old.next + 1 < 2 ^ 64 }
         ensures ok { IfOk result (λ said. (p : Progress) → IsAt (waiting_in (state_of self.old.stack)) self.old p
@@ -83,7 +83,7 @@ impl Judge {
 
     /// Judges a line where the end of the proof is due, and says whether it is the last line. The text is as `take` has
     /// it. After an error nothing more may be judged.
-    pub(crate) fn take_last(&mut self, text: &[u8], ended: bool) -> Result<bool, JudgeFault>
+    pub fn take_last(&mut self, text: &[u8], ended: bool) -> Result<bool, JudgeFault>
         requires standing { IsStanding self.old }
         requires room { self.old.next + 1 < 2 ^ 64 }
         ensures ok { IfOk result (λ last. (p : Progress) → IsAt at_end self.old p
@@ -144,7 +144,7 @@ impl Judge {
     }
 
     /// Why a line behind the last one is refused.
-    pub(crate) fn refuse(&self, text: &[u8], ended: bool) -> JudgeFault
+    pub fn refuse(&self, text: &[u8], ended: bool) -> JudgeFault
         ensures { (p : Progress) → IsAt behind_end self.now p → IsRefusal result p (takes (text.now, ended) p) }
     {
         match read_line(self.alloc, text, ended) {

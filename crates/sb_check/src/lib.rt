@@ -15,3 +15,7 @@ mod reason;
 mod text;
 
 pub use check::{CheckStatus, check_top};
+pub use checker::{Checked, Checker, CheckerFault};
+pub use entry::Entered;
+pub use judge::Judge;
+pub use reason::{JudgeFault, Reason};

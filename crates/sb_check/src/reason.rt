@@ -11,7 +11,7 @@ use std::alloc::AllocError;
 
 /// Why a line of a proof is refused: the first of these that fits it.
 #[derive(Clone, Copy)]
-pub(crate) enum Reason {
+pub enum Reason {
     /// The words or the number of the fields are those of no line.
     BadWord,
     /// A field that is no word of the format is not of its shape.
@@ -73,7 +73,7 @@ pub(crate) fn of_refusal(refusal: Refusal) -> Reason
 
 /// Why a line was not taken.
 #[derive(Clone, Copy)]
-pub(crate) enum JudgeFault {
+pub enum JudgeFault {
     /// The line of this number is refused.
     Refused(u64, Reason),
     /// Memory was wanted.

@@ -99,11 +99,7 @@ fn truth_at(truths: &[bool], place: usize) -> bool
 }
 
 /// The characters of the word at a place, none past the last.
-fn characters_at(
-    alloc: Global,
-    words: &[Word],
-    place: usize,
-) -> Result<Vec<u64>, AllocError>
+fn characters_at(alloc: Global, words: &[Word], place: usize) -> Result<Vec<u64>, AllocError>
     ensures { IfOk result (λ characters. characters.items ≡ get_or words.now place []) }
 {
     match words.get(place) {

@@ -83,7 +83,10 @@ fn regexes_are_normal(rt: HostRuntime) -> Result<(), Fail> {
         let r = regex(alloc, &mut arena, text)?;
         assert_eq!(rt; arena.nullable(r), *empty);
         let lengths = arena.lengths(r);
-        assert_eq!(rt; (lengths.may(*length), lengths.must(*length)), (*may, *must));
+        assert_eq!(rt;
+            (lengths.may(*length), lengths.must(*length)),
+            (*may, *must)
+        );
     }
     let mut before = None;
     for text in &ORDERED {
@@ -146,7 +149,10 @@ fn union_of_words(alloc: Global, arena: &mut Arena, own: bool) -> Result<RegexId
             Word::from_codes(alloc, &[0x100 + 2 * n, 0x61, 0x62])
         } else {
             let (second, third) = (0x62 + n % 7, 0x61 + n % 11);
-            Word::from_codes(alloc, &[0x61, second, third, 0x100 + n / 100, 0x200 + n % 100])
+            Word::from_codes(
+                alloc,
+                &[0x61, second, third, 0x100 + n / 100, 0x200 + n % 100],
+            )
         };
         let Ok(word) = word else {
             return Err(AllocError);

@@ -77,7 +77,10 @@ type Ranges = &'static [(u32, u32)];
 const TARGETS: [(&[u8], [(Ranges, &[u8]); 2]); 3] = [
     (
         b"Wa.Ya.|",
-        [(&[(0, 0), (0x2ffff, 0x2ffff)], b"a"), (&[(1, 0x2fffe)], b"N")],
+        [
+            (&[(0, 0), (0x2ffff, 0x2ffff)], b"a"),
+            (&[(1, 0x2fffe)], b"N"),
+        ],
     ),
     (
         b"a{0,3}",
@@ -107,7 +110,10 @@ fn targets_have_the_classes_of_their_characters(rt: HostRuntime) -> Result<(), F
         let r = regex(alloc, &mut arena, text)?;
         let mut deriver = Deriver::new(alloc);
         deriver.derive(&mut arena, r)?;
-        let targets = deriver.derivative(r).ok_or("no derivative")?.targets(alloc)?;
+        let targets = deriver
+            .derivative(r)
+            .ok_or("no derivative")?
+            .targets(alloc)?;
         assert_eq!(rt; targets.len(), wanted.len());
         for ((class, target), (ranges, text)) in targets.iter().zip(wanted.iter()) {
             assert_eq!(rt; class.ranges(), *ranges);
@@ -131,7 +137,10 @@ fn many_targets_lead_apart(rt: HostRuntime) -> Result<(), Fail> {
     let r = regex(alloc, &mut arena, &text)?;
     let mut deriver = Deriver::new(alloc);
     deriver.derive(&mut arena, r)?;
-    let targets = deriver.derivative(r).ok_or("no derivative")?.targets(alloc)?;
+    let targets = deriver
+        .derivative(r)
+        .ok_or("no derivative")?
+        .targets(alloc)?;
     assert_eq!(rt; targets.len(), 41);
     for (place, (class, target)) in targets.iter().enumerate() {
         let c = (b'A' - 1).wrapping_add((place % 41) as u8);

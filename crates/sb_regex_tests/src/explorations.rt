@@ -225,7 +225,10 @@ fn derivatives_of_an_exploration_stay(rt: HostRuntime) -> Result<(), Fail> {
         assert!(rt; graph.derivative(second).is_some() == (turn > 1));
         assert!(rt; root.number() < arena.len() && turn < 3);
         let explored = graph.explore(&mut arena, *root)?;
-        assert_eq!(rt; letters_of(alloc, &explored)?.as_deref(), Some(word.as_slice()));
+        assert_eq!(rt;
+            letters_of(alloc, &explored)?.as_deref(),
+            Some(word.as_slice())
+        );
         counts[turn] = graph.expanded().len();
     }
     assert_eq!(rt; counts[2], counts[1]);

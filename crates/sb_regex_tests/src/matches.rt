@@ -102,7 +102,10 @@ fn repetitions_and_cut_points_are_as_said(rt: HostRuntime) -> Result<(), Fail> {
     let alloc = rt.alloc();
     let mut arena = Arena::new(alloc);
     for (text, word, wanted) in &REPETITIONS {
-        let codes = word.iter().map(|byte| u32::from(*byte)).collect::<Vec<u32>>(alloc)?;
+        let codes = word
+            .iter()
+            .map(|byte| u32::from(*byte))
+            .collect::<Vec<u32>>(alloc)?;
         let word = Word::from_codes(alloc, &codes)?;
         let r = regex(alloc, &mut arena, text)?;
         assert_eq!(rt; Plain::new(alloc).matches(&mut arena, &word, r)?, *wanted);

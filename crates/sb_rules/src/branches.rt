@@ -25,7 +25,7 @@ use std::alloc::{AllocError, Global};
 /// In the number n of ranges and of cut points of the regex it takes time n log n, and a derivative for each of them,
 /// that is a look-up where it was made before. `AllocError` only for want of memory; the arena may hold more regexes
 /// then.
-pub(crate) fn is_expansion(
+pub fn is_expansion(
     alloc: Global,
     arena: &mut Arena,
     plain: &mut Plain,

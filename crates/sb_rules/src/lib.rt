@@ -23,6 +23,7 @@ mod normal;
 mod pieces;
 mod ranges;
 
+pub use branches::is_expansion;
 pub use fault::{Fault, Refusal};
 pub use kept::Kept;
 pub use known::KnownRegexes;

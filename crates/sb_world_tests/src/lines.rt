@@ -57,12 +57,18 @@ fn lines_go_round(rt: HostRuntime) -> Result<(), Fail> {
     for text in LINES {
         let line = read_line(alloc, text.as_bytes(), true)??;
         let printed = print_line(alloc, &line)?;
-        assert!(rt; printed.as_str().strip_suffix("\n") == Some(*text), "{text}");
+        assert!(rt;
+            printed.as_str().strip_suffix("\n") == Some(*text),
+            "{text}"
+        );
     }
     let lines = [
         (Line::Regex(Node::Cat(2, 3)), "r cat 2 3\n"),
         (Line::Regex(Node::Rep(1, 2, 3)), "r rep 1 2 3\n"),
-        (Line::Atom(Atom::Le(Variable::Length(2), -5)), "a le l2 -5\n"),
+        (
+            Line::Atom(Atom::Le(Variable::Length(2), -5)),
+            "a le l2 -5\n",
+        ),
     ];
     for (line, text) in &lines {
         let printed = print_line(alloc, line)?;
@@ -79,7 +85,9 @@ fn a_tape_in_memory_keeps_whole_lines(rt: HostRuntime) -> Result<(), Fail> {
     let mut tape = MemTape::new(rt.alloc());
     assert!(&rt; tape.bytes().is_empty());
     let dead = Line::Dead(vec![in rt.alloc(); 5, 6]?);
-    let put = [Line::Header(1), dead, Line::End].iter().try_for_each(|line| tape.put(line));
+    let put = [Line::Header(1), dead, Line::End]
+        .iter()
+        .try_for_each(|line| tape.put(line));
     assert!(&rt; put.is_err() || tape.bytes() == WHOLE);
     assert!(&rt; put.is_ok() || WHOLE.starts_with(tape.bytes()));
     assert!(&rt; tape.bytes().is_empty() || tape.bytes().ends_with(b"\n"));

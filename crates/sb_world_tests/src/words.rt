@@ -18,8 +18,10 @@ const LITERALS: [(&'static [u32], &'static str); 10] = [
 ];
 
 /// Numbers of which one is above the last character, and its place.
-const NO_WORDS: [(&'static [u32], usize); 2] =
-    [(&[0x30000], 0), (&[97, 0x2ffff, 0x30000, 0x40000], 2)];
+const NO_WORDS: [(&'static [u32], usize); 2] = [
+    (&[0x30000], 0),
+    (&[97, 0x2ffff, 0x30000, 0x40000], 2),
+];
 
 /// Bytes between the quotes of a literal, and the characters of its word.
 const READ: [(&'static [u8], &'static [u32]); 16] = [

@@ -82,12 +82,7 @@ fn nothing(alloc: Global) -> Result<Case, AllocError> {
 }
 
 /// Takes a line of clauses, of lemmas and of what is searched, or a step.
-fn take(
-    alloc: Global,
-    case: &mut Case,
-    words: &[&str],
-    out: &mut String,
-) -> Result<(), Failure> {
+fn take(alloc: Global, case: &mut Case, words: &[&str], out: &mut String) -> Result<(), Failure> {
     match words {
         [] | ["c", ..] | ["p", ..] => {}
         ["at", level, rest @ ..] => {
@@ -247,7 +242,10 @@ fn has_values(case: &Case, assumptions: &[Lit]) -> bool {
             return false;
         }
     }
-    case.theory.atoms.iter().all(|atom| trail.value(*atom).is_some())
+    case.theory
+        .atoms
+        .iter()
+        .all(|atom| trail.value(*atom).is_some())
         && assumptions
             .iter()
             .all(|literal| trail.literal_value(*literal) == Some(true))
@@ -297,7 +295,12 @@ fn step(engine: &mut Engine, words: &[&str], out: &mut String) -> Result<(), Fai
         ["settle"] => propagate(engine, true, out)?,
         ["trail"] => {
             let trail = engine.trail();
-            write!(out, "level {}, {} literals:", trail.current_level(), trail.len())?;
+            write!(
+                out,
+                "level {}, {} literals:",
+                trail.current_level(),
+                trail.len()
+            )?;
             for entry in trail.literals() {
                 put(entry.literal(), out)?;
             }
@@ -308,12 +311,21 @@ fn step(engine: &mut Engine, words: &[&str], out: &mut String) -> Result<(), Fai
             let trail = engine.trail();
             let (value, level) = (trail.value(number), trail.level(number));
             let reason = trail.reason(number).map(|id| id.0);
-            writeln!(out, "atom {atom}: {value:?}, level {level:?}, clause {reason:?}")?;
+            writeln!(
+                out,
+                "atom {atom}: {value:?}, level {level:?}, clause {reason:?}"
+            )?;
         }
         ["clause", id] => {
             let id = ClauseId(number(id)?);
             let clauses = engine.clauses();
-            write!(out, "of {} clauses {}, level {:?}:", clauses.len(), id.0, clauses.level(id))?;
+            write!(
+                out,
+                "of {} clauses {}, level {:?}:",
+                clauses.len(),
+                id.0,
+                clauses.level(id)
+            )?;
             put_clause(engine, id, out)?;
             writeln!(out)?;
         }
@@ -390,7 +402,12 @@ fn read(
         ["leave", level] => kept.drop_above(number(level)?),
         ["look", id] => {
             let number = number(id)?;
-            write!(out, "of {} kept {id}, level {:?}:", kept.len(), kept.level(number))?;
+            write!(
+                out,
+                "of {} kept {id}, level {:?}:",
+                kept.len(),
+                kept.level(number)
+            )?;
             match kept.clause(number) {
                 None => write!(out, " none")?,
                 Some(literals) => {
