@@ -446,29 +446,28 @@ rows_done rs parts i rows sorted l known inv same = record {
     whole false = refl
 
 -- The rows that are gone through.
-pub record IsGoing (rs : List Regex) (parts : List ℕ) (rows : List (ℕ × ℕ)) (kept : List ℕ)
-    (weaker : List (ℕ × ℕ)) (i : ℕ) : Type 0 where
+pub record IsGoing (rs : List Regex) (rows : List (ℕ × ℕ)) (kept : List ℕ) (weaker : List (ℕ × ℕ)) (i : ℕ)
+    : Type 0 where
   pub so_far : Language
   pub kept_are : AreKept rs kept weaker so_far
-  pub same : (u : List ℕ) → (so_far u && in_rows rs (drop i rows) u) ≡ in_each rs parts u
+  pub same : (u : List ℕ) → (so_far u && in_rows rs (drop i rows) u) ≡ in_rows rs rows u
 
-pub going_start : (rs : List Regex) (parts : List ℕ) (rows : List (ℕ × ℕ)) (kept : List ℕ) (weaker : List (ℕ × ℕ))
-    → kept ≡ [] → weaker ≡ [] → AreRows rs parts rows → IsGoing rs parts rows kept weaker 0
-going_start rs parts rows kept weaker none_kept none_noted are = record {
+pub going_start : (rs : List Regex) (rows : List (ℕ × ℕ)) (kept : List ℕ) (weaker : List (ℕ × ℕ)) → kept ≡ []
+    → weaker ≡ [] → IsGoing rs rows kept weaker 0
+going_start rs rows kept weaker none_kept none_noted = record {
   so_far = λ u. true;
   kept_are = record {
     known = rw none_kept (All-nil (λ i. i < length rs));
     same = λ u. ap (λ ns. in_each rs ns u) none_kept;
     follow = rw none_noted (All-nil (FollowsFrom rs (λ u. true)));
   };
-  same = are.same;
+  same = λ u. refl;
 }
 
-pub going_next : (rs : List Regex) (parts : List ℕ) (rows : List (ℕ × ℕ)) (kept kept' : List ℕ)
-    (weaker weaker' : List (ℕ × ℕ)) (i : ℕ) (row : ℕ × ℕ) → i < length rows → row ≡ get_or rows i row
-    → IsTaken rs row.1 kept weaker kept' weaker' → IsGoing rs parts rows kept weaker i
-    → IsGoing rs parts rows kept' weaker' (i + 1)
-going_next rs parts rows kept kept' weaker weaker' i row l is taken g = record {
+pub going_next : (rs : List Regex) (rows : List (ℕ × ℕ)) (kept kept' : List ℕ) (weaker weaker' : List (ℕ × ℕ)) (i : ℕ)
+    (row : ℕ × ℕ) → i < length rows → row ≡ get_or rows i row → IsTaken rs row.1 kept weaker kept' weaker'
+    → IsGoing rs rows kept weaker i → IsGoing rs rows kept' weaker' (i + 1)
+going_next rs rows kept kept' weaker weaker' i row l is taken g = record {
   so_far = λ u. g.so_far u && language (regex_at rs row.1) u;
   kept_are = taken g.so_far g.kept_are;
   same = λ u. step (g.so_far u) (language (regex_at rs row.1) u) (in_rows rs (drop (i + 1) rows) u)
@@ -481,10 +480,9 @@ going_next rs parts rows kept kept' weaker weaker' i row l is taken g = record {
     step true p r = refl
     step false p r = refl
 
-pub going_done : (rs : List Regex) (parts : List ℕ) (rows : List (ℕ × ℕ)) (kept : List ℕ) (weaker : List (ℕ × ℕ))
-    (i : ℕ) → length rows ≤ i → IsGoing rs parts rows kept weaker i → (u : List ℕ)
-    → in_each rs kept u ≡ in_each rs parts u
-going_done rs parts rows kept weaker i l g u =
+pub going_done : (rs : List Regex) (rows : List (ℕ × ℕ)) (kept : List ℕ) (weaker : List (ℕ × ℕ)) (i : ℕ)
+    → length rows ≤ i → IsGoing rs rows kept weaker i → (u : List ℕ) → in_each rs kept u ≡ in_rows rs rows u
+going_done rs rows kept weaker i l g u =
     g.kept_are.same u
     ∙ whole (g.so_far u)
     ∙ ap (λ b. g.so_far u && b) (sym (at_drop_all (λ rows. in_rows rs rows u) rows i l))

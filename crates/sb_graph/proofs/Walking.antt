@@ -10,6 +10,8 @@ use Rattle.sb_lang.specs.Derivative.{nullable}
 use Rattle.sb_lang.specs.Language.{language}
 use Rattle.sb_lang.specs.Languages.{Language}
 use Rattle.sb_regex.specs.Numbered.{regex_at, Extends}
+use Rattle.std.proofs.lemmas.List.Elements.{All-weaker}
+use Rattle.sb_regex.proofs.CallerLemmas.{at_kept, number_kept}
 use Rattle.sb_graph.specs.Queue.{Entry, regex_of, word_at, LeadsBy, rank_at, AreTested, IsFirstNullable}
 use Rattle.sb_graph.specs.Walks.{first_language, AreWithout, IsSearched, IsTurned, IsUnderWay, IsFound, IsWhole}
 use Rattle.sb_graph.specs.Members.{IsState, AreMany}
@@ -152,4 +154,21 @@ found_leads rs L es place f = record {
   words = f.searched.words;
   are = f.searched.reached.words_are;
   is = f.searched.reached.characters place f.within;
+}
+
+-- More regexes leave the states what they are.
+pub many_kept : (old new : List Regex) (L : Language) (bound : ℕ) → Extends old new → AreMany old L bound
+    → AreMany new L bound
+many_kept old new L bound more m = record {
+  states = m.states;
+  many = m.many;
+  once = m.once;
+  each = All-weaker (IsState old L) (IsState new L)
+      (λ n s. record {
+        known = number_kept old new n more s.known;
+        word = s.word;
+        characters = s.characters;
+        rests = λ u h. s.rests u (ap (λ r. language r u) (sym (at_kept old new n more s.known)) ∙ h);
+      })
+      m.states m.each;
 }

@@ -6,7 +6,7 @@
 //! each word of characters is one; what it finds to be without such a word it remembers. A walk over members that comes
 //! to its bound asks it.
 
-ghost use Rattle.std.specs.Prelude.{◌≡◌, ℕ, ◌<◌, ◌++◌, [], List, length, slice_get, IfOk, IfSome, OnOk, Some, IsSome};
+ghost use Rattle.std.specs.Prelude.{◌≡◌, ℕ, ◌<◌, ◌++◌, true, [], List, length, slice_get, IfOk, IfSome, OnOk, Some, IsSome};
 ghost use Rattle.sb_lang.specs.Language.{language};
 ghost use Rattle.sb_lang.specs.Least.{IsShortestLeast};
 ghost use Rattle.sb_regex.specs.Numbered.{regex_at, Extends};
@@ -63,24 +63,41 @@ pub fn find_by_length(
     ensures kept { KeepsEntries deriver.old deriver.new }
 {
     let mut failed = IndexSet::new(alloc);
-    let mut left = bound;
     let mut codes = Vec::new(alloc);
+    if try_lengths(arena, deriver, &mut failed, root, bound, &mut codes)? {
+        return Ok(Some(codes));
+    }
+    Ok(None)
+}
+
+/// Tries one length after the other. Whether the list has the word then.
+fn try_lengths(
+    arena: &mut Arena,
+    deriver: &mut Deriver,
+    failed: &mut IndexSet<(RegexId, usize)>,
+    root: RegexId,
+    bound: usize,
+    codes: &mut Vec<u32>,
+) -> Result<bool, AllocError>
+    requires known { root < length arena.old }
+    requires faithful { IsFaithful arena.old deriver.old }
+    requires failed { failed.old.keys ≡ [] }
+    requires codes { codes.old.items ≡ [] }
+    ensures found { IfOk result (λ found. found ≡ true
+        → IsShortestLeast (language (regex_at arena.old root)) codes.new.items) }
+    ensures extends { Extends arena.old arena.new }
+    ensures faithful { IsFaithful arena.new deriver.new }
+    ensures kept { KeepsEntries deriver.old deriver.new }
+{
+    let mut left = bound;
     for wanted in 0..MOST {
-        match try_length(
-            arena,
-            deriver,
-            &mut failed,
-            &mut left,
-            root,
-            wanted,
-            &mut codes,
-        )? {
-            Tried::Found => return Ok(Some(codes)),
-            Tried::Stopped => return Ok(None),
+        match try_length(arena, deriver, failed, &mut left, root, wanted, codes)? {
+            Tried::Found => return Ok(true),
+            Tried::Stopped => return Ok(false),
             Tried::Nothing => {}
         }
     }
-    Ok(None)
+    Ok(false)
 }
 
 /// Puts the least word of a length behind the others, if the state has one.

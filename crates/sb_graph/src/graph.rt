@@ -9,7 +9,7 @@ ghost use Rattle.sb_regex.specs.Numbered.{regex_at, Extends};
 ghost use Rattle.sb_graph.specs.Findings.{is_marked, is_settled, KeepsMarks, IsGraph};
 ghost use Rattle.sb_graph.specs.Witness.{IsFinding, MarksDead, ComesBefore, GoesOn, IsReachedBy, IfFound};
 ghost use Rattle.sb_graph.specs.Search.{IsSearched, HasCome, IsSearchEnd, IsVisited, AreMarked};
-ghost use Rattle.sb_graph.specs.Queue.{regex_of};
+ghost use Rattle.sb_graph.specs.Queue.{regex_of, with_entry};
 ghost use Rattle.sb_graph.specs.Members.{IsOutcome};
 
 use crate::members::{Outcome, find_word, first_nullable, word_from, word_of};
@@ -163,13 +163,35 @@ impl Graph {
         if self.is_settled(root) {
             return self.explore(arena, root);
         }
+        let mut queue = Queue::of(self.allocator(), root)?;
+        self.answer_from(arena, &mut queue, root)
+    }
+
+    /// What `answer` finds, with the queue that begins with the regex.
+    fn answer_from(
+        &mut self,
+        arena: &mut Arena,
+        queue: &mut Queue,
+        root: RegexId,
+    ) -> Result<Explored, AllocError>
+        requires known { root < length arena.old }
+        requires graph { IsGraph arena.old self.old }
+        requires start { queue.old ≡ with_entry [] (root, (0, 0)) }
+        ensures found { IfOk result (λ explored. IsFinding (language (regex_at arena.old root)) explored) }
+        ensures dead { IfOk result (λ explored. MarksDead self.new.dead root explored) }
+        ensures extends { Extends arena.old arena.new }
+        ensures graph { IsGraph arena.new self.new }
+        ensures marks_stay { KeepsMarks self.old.dead self.new.dead }
+        ensures derivatives_stay { KeepsEntries self.old.memo self.new.memo }
+        ensures expands { GoesOn (IsReachedBy arena.new (regex_at arena.old root) (λ v. ComesBefore v result))
+            self.old.expanded self.new.expanded }
+        ensures settles { OnOk result (is_settled self.new root ≡ true) }
+    {
         nullable_has_empty_word();
         derivative_along_has_rests();
-        let mut queue = Queue::new(*self.dead.allocator());
-        queue.put(root, 0, 0)?;
-        let place = self.take_turns(arena, &mut queue, root, usize::MAX)?;
+        let place = self.take_turns(arena, queue, root, usize::MAX)?;
         if !self.is_settled(root) {
-            return self.finish(arena, &mut queue, root, place);
+            return self.finish(arena, queue, root, place);
         }
         self.explore(arena, root)
     }
@@ -253,14 +275,35 @@ impl Graph {
             let explored = self.explore(arena, root)?;
             return Ok(Within::Found(explored));
         }
-        let mut queue = Queue::new(*self.dead.allocator());
-        queue.put(root, 0, 0)?;
-        let place = self.take_turns(arena, &mut queue, root, limit)?;
+        let mut queue = Queue::of(self.allocator(), root)?;
+        self.answer_from_within(arena, &mut queue, root, limit)
+    }
+
+    /// What `answer_within` finds, with the queue that begins with the regex.
+    fn answer_from_within(
+        &mut self,
+        arena: &mut Arena,
+        queue: &mut Queue,
+        root: RegexId,
+        limit: usize,
+    ) -> Result<Within, AllocError>
+        requires known { root < length arena.old }
+        requires graph { IsGraph arena.old self.old }
+        requires start { queue.old ≡ with_entry [] (root, (0, 0)) }
+        ensures found { IfOk result (λ w. IfFound w (IsFinding (language (regex_at arena.old root)))) }
+        ensures dead { IfOk result (λ w. IfFound w (MarksDead self.new.dead root)) }
+        ensures extends { Extends arena.old arena.new }
+        ensures graph { IsGraph arena.new self.new }
+        ensures marks_stay { KeepsMarks self.old.dead self.new.dead }
+        ensures derivatives_stay { KeepsEntries self.old.memo self.new.memo }
+        ensures settles { IfOk result (λ w. IfFound w (λ explored. is_settled self.new root ≡ true)) }
+    {
+        let place = self.take_turns(arena, queue, root, limit)?;
         if self.is_settled(root) {
             let explored = self.explore(arena, root)?;
             return Ok(Within::Found(explored));
         }
-        self.finish_within(arena, &mut queue, root, place, limit)
+        self.finish_within(arena, queue, root, place, limit)
     }
 
     /// Goes on with an exploration from a place to its end, unless so many places do not suffice.
@@ -368,6 +411,10 @@ impl Graph {
         Ok(place)
     }
 
+    fn allocator(&self) -> Global {
+        *self.dead.allocator()
+    }
+
     /// Whether it is known if a regex has a word.
     fn is_settled(&self, root: RegexId) -> bool
         ensures { result ≡ is_settled self.now root }
@@ -436,8 +483,7 @@ impl Graph {
         ensures idle { self.new.expanded ≡ self.old.expanded → self.new.memo ≡ self.old.memo }
         ensures settles { OnOk result (is_settled self.new root ≡ true) }
     {
-        let mut queue = Queue::new(*self.dead.allocator());
-        queue.put(root, 0, 0)?;
+        let mut queue = Queue::of(self.allocator(), root)?;
         self.finish(arena, &mut queue, root, 0)
     }
 
@@ -467,7 +513,7 @@ impl Graph {
     {
         nullable_has_empty_word();
         derivative_along_has_rests();
-        let alloc = *self.dead.allocator();
+        let alloc = self.allocator();
         match self.search(arena, queue, root, from)? {
             Some(place) => {
                 let word = word_of(alloc, queue, place)?;

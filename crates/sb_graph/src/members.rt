@@ -1,12 +1,12 @@
 //! The walk over members, and the words along which places of a queue are reached.
 
-ghost use Rattle.std.specs.Prelude.{◌≡◌, ℕ, ◌<◌, List, length, get_or, IfOk, OnOk, MatchOption};
+ghost use Rattle.std.specs.Prelude.{◌≡◌, ℕ, ◌<◌, List, [], length, get_or, IfOk, OnOk, MatchOption};
 ghost use Rattle.sb_word.specs.Words.{IsWord};
 ghost use Rattle.sb_lang.specs.Language.{language};
 ghost use Rattle.sb_regex.specs.Numbered.{regex_at, Extends};
 ghost use Rattle.sb_deriv.specs.Faithful.{IsFaithful, KeepsEntries};
 ghost use Rattle.sb_graph.specs.Members.{IsOutcome, MeetsBound, AreMany};
-ghost use Rattle.sb_graph.specs.Queue.{word_at, GoesBack, AreWords, LeadsBy, AreTested, IsFirstNullable};
+ghost use Rattle.sb_graph.specs.Queue.{with_entry, word_at, GoesBack, AreWords, LeadsBy, AreTested, IsFirstNullable};
 ghost use Rattle.sb_graph.specs.Walks.{IsSearched, IsStop, first_language};
 
 use crate::depth::find_by_length;
@@ -57,20 +57,23 @@ pub fn find_word(
     faithful_stays();
     let room = room_for(arena, root);
     let start = strongest(alloc, arena, root)?;
-    find_from(alloc, arena, deriver, start, room, bound)
+    let mut queue = Queue::of(alloc, start)?;
+    find_from(alloc, arena, deriver, &mut queue, start, room, bound)
 }
 
-/// That of a regex, by a walk that begins with it, whose states are split into at most `room`.
+/// That of a regex, by a walk whose queue begins with it, and whose states are split into at most `room`.
 fn find_from(
     alloc: Global,
     arena: &mut Arena,
     deriver: &mut Deriver,
+    queue: &mut Queue,
     root: RegexId,
     room: usize,
     bound: usize,
 ) -> Result<Outcome, AllocError>
     requires known { root < length arena.old }
     requires faithful { IsFaithful arena.old deriver.old }
+    requires start { queue.old ≡ with_entry [] (root, (0, 0)) }
     ensures found { IfOk result (λ outcome. IsOutcome (language (regex_at arena.old root)) outcome) }
     ensures bound { IfOk result (λ outcome. MeetsBound arena.new (language (regex_at arena.old root)) bound outcome) }
     ensures extends { Extends arena.old arena.new }
@@ -78,12 +81,10 @@ fn find_from(
     ensures kept { KeepsEntries deriver.old deriver.new }
 {
     nullable_has_empty_word();
-    let mut queue = Queue::new(alloc);
-    queue.put(root, 0, 0)?;
-    let stop = walk(alloc, arena, deriver, &mut queue, room, bound)?;
+    let stop = walk(alloc, arena, deriver, queue, room, bound)?;
     match stop {
         Stop::Nullable(place) => {
-            let word = word_of(alloc, &queue, place)?;
+            let word = word_of(alloc, queue, place)?;
             Ok(Outcome::Found(word))
         }
         Stop::End => Ok(Outcome::Empty),

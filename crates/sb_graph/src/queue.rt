@@ -1,6 +1,6 @@
 //! States in the order in which they were met.
 
-ghost use Rattle.std.specs.Prelude.{◌≡◌, ◌<◌, ◌∷◌, [], length, map, slice_get, Some, OnOk};
+ghost use Rattle.std.specs.Prelude.{◌≡◌, ◌<◌, ◌∷◌, [], length, map, slice_get, Some, IfOk, OnOk};
 ghost use Rattle.sb_graph.specs.Queue.{way_of, is_same_way, with_entry, with_each, IsRun};
 
 use indexmap::IndexMap;
@@ -32,6 +32,15 @@ impl Queue {
         Queue {
             entries: IndexMap::new(alloc),
         }
+    }
+
+    /// A queue of one state.
+    pub(crate) fn of(alloc: Global, regex: RegexId) -> Result<Queue, AllocError>
+        ensures { IfOk result (λ queue. queue ≡ with_entry [] (regex, (0, 0))) }
+    {
+        let mut queue = Queue::new(alloc);
+        queue.put(regex, 0, 0)?;
+        Ok(queue)
     }
 
     /// The number of states. Constant time.

@@ -3,14 +3,14 @@
 //! Of `ALL u` and `ALL v`, where `u` ends in `v` and `ALL` takes up what stands before it there, the second one follows
 //! from the first. Of `u v` and `u ALL`, where the words of `v` are words of `ALL`, the second one follows from the first.
 
-ghost use Rattle.std.specs.Prelude.{◌≡◌, ◌<◌, ℕ, List, true, length, get_or, take, IfOk, OnOk, IfSome};
+ghost use Rattle.std.specs.Prelude.{◌≡◌, ◌<◌, ℕ, List, [], true, length, get_or, take, All, IfOk, OnOk, IfSome};
 ghost use Rattle.sb_lang.specs.Regex.{star};
 ghost use Rattle.sb_lang.specs.Language.{language};
 ghost use Rattle.sb_lang.specs.Languages.{one_character};
 ghost use Rattle.sb_class.specs.Ranges.{in_range, in_ranges};
 ghost use Rattle.sb_regex.specs.Numbered.{regex_at, AllNumbers, Extends};
 ghost use Rattle.sb_graph.specs.Edges.{in_each};
-ghost use Rattle.sb_graph.specs.Strongest.{IsWithin, TakesUp, AreWeaker, IsNext, IsTaken, AreRows, AreNeeded, AreBehind, IsBehindPart};
+ghost use Rattle.sb_graph.specs.Strongest.{IsWithin, TakesUp, AreWeaker, IsNext, IsTaken, in_rows, AreRows, AreNeeded, AreBehind, IsBehindPart};
 
 use crate::edges::is_none;
 use indexmap::IndexSet;
@@ -213,11 +213,29 @@ fn without_ends(alloc: Global, arena: &Arena, parts: &[RegexId]) -> Result<Vec<R
     let rows = rows_of(alloc, arena, parts)?;
     let mut kept = Vec::new(alloc);
     let mut weaker = IndexSet::new(alloc);
-    let mut left = parts.len().saturating_mul(MOST);
-    for row in &rows {
-        left = take(arena, &mut kept, &mut weaker, row.1, left)?;
-    }
+    take_all(arena, &mut kept, &mut weaker, &rows)?;
     Ok(kept)
+}
+
+/// Keeps those of the rows that are not seen to follow from one before them.
+fn take_all(
+    arena: &Arena,
+    kept: &mut Vec<RegexId>,
+    weaker: &mut IndexSet<(RegexId, RegexId)>,
+    rows: &[(usize, RegexId)],
+) -> Result<(), AllocError>
+    requires rows { All (λ (row : ℕ × ℕ). row.1 < length arena.now) rows.now }
+    requires kept { kept.old.items ≡ [] }
+    requires weaker { weaker.old.keys ≡ [] }
+    ensures known { OnOk result (AllNumbers arena.now kept.new.items) }
+    ensures same { OnOk result
+        ((u : List ℕ) → in_each arena.now kept.new.items u ≡ in_rows arena.now rows.now u) }
+{
+    let mut left = rows.len().saturating_mul(MOST);
+    for row in rows {
+        left = take(arena, kept, weaker, row.1, left)?;
+    }
+    Ok(())
 }
 
 /// The regexes, those first whose rest behind the head has the greatest number: it has those of its own ends as parts.

@@ -1,3 +1,4 @@
+use Rattle.std.proofs.lemmas.Result.{IfOk-from_err}
 use Rattle.sb_regex.proofs.CallerLemmas.{extends_more, extends_same, number_in, number_kept, numbers_kept}
 use Rattle.sb_graph.proofs.Fronts.{gathering_start, gathering_next, gathering_done}
 use Rattle.sb_graph.proofs.edges.gather.Goals as goal
@@ -10,11 +11,26 @@ loop-start-init c = record {
   gathered = gathering_start c.args.arena.now c.args.starts.now c.new-edges.result.items c.new-edges.ensures.items;
 }
 
-pub push_from-requires-clause-known : goal.push_from-requires-clause-known
-push_from-requires-clause-known c =
-    number_kept c.args.arena.now c.loop-start.arena c.start-item.result c.loop-start.invariant.extends
-    (number_in c.args.arena.now c.args.starts.now c.loop-start.start-index c.start-item.result c.requires.known
-    c.loop-start-test.true c.start-item.is)
+pub push_from-requires : goal.push_from-requires
+push_from-requires c =
+    let i = c.loop-start.invariant in
+    record {
+      known = number_kept c.args.arena.now c.loop-start.arena c.start-item.result i.extends
+          (number_in c.args.arena.now c.args.starts.now c.loop-start.start-index c.start-item.result c.requires.known
+          c.loop-start-test.true c.start-item.is);
+      faithful = i.faithful;
+    }
+
+pub returns-in_err-push_from : goal.returns-in_err-push_from
+returns-in_err-push_from c =
+    let i = c.loop-start.invariant in
+    let e = c.in_err-push_from.ensures in
+    record {
+      gathered = IfOk-from_err c.from_residual.result _ c.from_residual.ensures.0;
+      extends = extends_more c.args.arena.now c.loop-start.arena c.push_from.new.arena i.extends e.extends;
+      faithful = e.faithful;
+      kept = λ n pieces h. e.kept n pieces (i.kept n pieces h);
+    }
 
 pub loop-start-preserved : goal.loop-start-preserved
 loop-start-preserved c =
@@ -32,7 +48,13 @@ loop-start-preserved c =
           c.loop-start-test.true c.start-item.is e.pushed i.gathered;
     }
 
-pub returns-clause-gathered : goal.returns-clause-gathered
-returns-clause-gathered c =
-    gathering_done c.loop-start.arena c.args.starts.now c.loop-start.edges.items c.loop-start.start-index
-    c.loop-start-test.false c.loop-start.invariant.gathered
+pub returns : goal.returns
+returns c =
+    let i = c.loop-start.invariant in
+    record {
+      gathered = gathering_done c.loop-start.arena c.args.starts.now c.loop-start.edges.items c.loop-start.start-index
+          c.loop-start-test.false i.gathered;
+      extends = i.extends;
+      faithful = i.faithful;
+      kept = i.kept;
+    }

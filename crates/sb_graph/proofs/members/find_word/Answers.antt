@@ -1,4 +1,4 @@
-use Rattle.std.proofs.lemmas.Result.{IfOk-weaker}
+use Rattle.std.proofs.lemmas.Result.{IfOk-from_err, IfOk-weaker}
 use Rattle.sb_lang.specs.Language.{language}
 use Rattle.sb_regex.specs.Numbered.{regex_at}
 use Rattle.sb_regex.proofs.CallerLemmas.{extends_more}
@@ -6,32 +6,52 @@ use Rattle.sb_graph.specs.Members.{IsOutcome, MeetsBound}
 use Rattle.sb_graph.proofs.Stronger.{outcome_same, bound_same}
 use Rattle.sb_graph.proofs.members.find_word.Goals as goal
 
-pub find_from-requires-clause-faithful : goal.find_from-requires-clause-faithful
-find_from-requires-clause-faithful c =
-    c.faithful_stays.ensures c.args.arena.now c.strongest.new.arena c.args.deriver.now c.in_ok-start.ensures.extends
-    c.requires.faithful
+pub returns-in_err-start : goal.returns-in_err-start
+returns-in_err-start c =
+    let x = c.from_residual in
+    let e = c.strongest.ensures in
+    record {
+      found = IfOk-from_err x.result _ x.ensures.0;
+      bound = IfOk-from_err x.result _ x.ensures.0;
+      extends = e.extends;
+      faithful = c.faithful_stays.ensures c.args.arena.now c.strongest.new.arena c.args.deriver.now e.extends
+          c.requires.faithful;
+      kept = λ n pieces h. h;
+    }
 
-pub returns-in_err-start-clause-faithful : goal.returns-in_err-start-clause-faithful
-returns-in_err-start-clause-faithful c =
-    c.faithful_stays.ensures c.args.arena.now c.strongest.new.arena c.args.deriver.now c.strongest.ensures.extends
-    c.requires.faithful
+pub returns-in_err-queue : goal.returns-in_err-queue
+returns-in_err-queue c =
+    let x = c.from_residual-in_err-queue in
+    let e = c.in_ok-start.ensures in
+    record {
+      found = IfOk-from_err x.result _ x.ensures.0;
+      bound = IfOk-from_err x.result _ x.ensures.0;
+      extends = e.extends;
+      faithful = c.faithful_stays.ensures c.args.arena.now c.strongest.new.arena c.args.deriver.now e.extends
+          c.requires.faithful;
+      kept = λ n pieces h. h;
+    }
 
-pub returns-clause-found : goal.returns-clause-found
-returns-clause-found c =
-    let L = language (regex_at c.strongest.new.arena c.in_ok-start.start) in
-    let M = language (regex_at c.args.arena.now c.args.root) in
-    IfOk-weaker c.find_from.result (IsOutcome L) (IsOutcome M) (outcome_same L M c.in_ok-start.ensures.same)
-    c.find_from.ensures.found
+pub find_from-requires : goal.find_from-requires
+find_from-requires c = record {
+  known = c.in_ok-start.ensures.known;
+  faithful = c.faithful_stays.ensures c.args.arena.now c.strongest.new.arena c.args.deriver.now
+      c.in_ok-start.ensures.extends c.requires.faithful;
+  start = c.in_ok-queue.ensures;
+}
 
-pub returns-clause-bound : goal.returns-clause-bound
-returns-clause-bound c =
+pub returns : goal.returns
+returns c =
     let rs = c.find_from.new.arena in
     let L = language (regex_at c.strongest.new.arena c.in_ok-start.start) in
     let M = language (regex_at c.args.arena.now c.args.root) in
-    IfOk-weaker c.find_from.result (MeetsBound rs L c.args.bound) (MeetsBound rs M c.args.bound)
-    (bound_same L M c.in_ok-start.ensures.same rs c.args.bound) c.find_from.ensures.bound
-
-pub returns-clause-extends : goal.returns-clause-extends
-returns-clause-extends c =
-    extends_more c.args.arena.now c.strongest.new.arena c.find_from.new.arena c.in_ok-start.ensures.extends
-    c.find_from.ensures.extends
+    let s = c.in_ok-start.ensures in
+    let f = c.find_from.ensures in
+    record {
+      found = IfOk-weaker c.find_from.result (IsOutcome L) (IsOutcome M) (outcome_same L M s.same) f.found;
+      bound = IfOk-weaker c.find_from.result (MeetsBound rs L c.args.bound) (MeetsBound rs M c.args.bound)
+          (bound_same L M s.same rs c.args.bound) f.bound;
+      extends = extends_more c.args.arena.now c.strongest.new.arena rs s.extends f.extends;
+      faithful = f.faithful;
+      kept = f.kept;
+    }

@@ -1,16 +1,28 @@
+use Rattle.std.proofs.lemmas.Result.{IfOk-from_err}
 use Rattle.sb_regex.proofs.CallerLemmas.{extends_more, number_in, number_kept, numbers_kept}
 use Rattle.sb_graph.proofs.Splits.{rows_more, rows_done}
 use Rattle.sb_graph.proofs.split.cross.Goals as goal
 
-pub cross_one-requires-clause-row : goal.cross_one-requires-clause-row
-cross_one-requires-clause-row c =
+pub cross_one-requires : goal.cross_one-requires
+cross_one-requires c =
+    let i = c.loop-row.invariant in
     let x = number_in c.args.arena.now c.args.rows.now c.loop-row.row-index c.row-item.result c.requires.rows
     c.loop-row-test.true c.row-item.is in
-    number_kept c.args.arena.now c.loop-row.arena c.row-item.result c.loop-row.invariant.extends x
+    record {
+      all = i.known;
+      row = number_kept c.args.arena.now c.loop-row.arena c.row-item.result i.extends x;
+      choices = numbers_kept c.args.arena.now c.loop-row.arena c.args.choices.now i.extends c.requires.choices;
+    }
 
-pub cross_one-requires-clause-choices : goal.cross_one-requires-clause-choices
-cross_one-requires-clause-choices c =
-    numbers_kept c.args.arena.now c.loop-row.arena c.args.choices.now c.loop-row.invariant.extends c.requires.choices
+pub returns-in_err-cross_one : goal.returns-in_err-cross_one
+returns-in_err-cross_one c =
+    let x = c.from_residual in
+    record {
+      known = IfOk-from_err x.result _ x.ensures.0;
+      both = IfOk-from_err x.result _ x.ensures.0;
+      extends = extends_more c.args.arena.now c.loop-row.arena c.cross_one.new.arena c.loop-row.invariant.extends
+          c.in_err-cross_one.ensures.extends;
+    }
 
 pub loop-row-preserved : goal.loop-row-preserved
 loop-row-preserved c =
@@ -25,7 +37,12 @@ loop-row-preserved c =
           c.row-item.is c.requires.rows c.requires.choices u (e.both u) (i.both u);
     }
 
-pub returns-clause-both : goal.returns-clause-both
-returns-clause-both c = λ u.
-    rows_done c.args.arena.now c.loop-row.arena c.args.rows.now c.args.choices.now c.loop-row.all.items
-    c.loop-row.row-index c.loop-row-test.false u (c.loop-row.invariant.both u)
+pub returns : goal.returns
+returns c =
+    let i = c.loop-row.invariant in
+    record {
+      known = i.known;
+      both = λ u. rows_done c.args.arena.now c.loop-row.arena c.args.rows.now c.args.choices.now c.loop-row.all.items
+          c.loop-row.row-index c.loop-row-test.false u (i.both u);
+      extends = i.extends;
+    }

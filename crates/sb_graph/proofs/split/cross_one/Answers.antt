@@ -1,7 +1,12 @@
-use Rattle.std.proofs.Common.{length}
-use Rattle.sb_regex.proofs.CallerLemmas.{extends_more, number_in, number_kept, numbers_kept, names_below, two_numbers}
+use Rattle.std.proofs.Common.{length, refl}
+use Rattle.std.proofs.lemmas.Result.{IfOk-from_err}
+use Rattle.sb_regex.proofs.CallerLemmas.{extends_same, extends_more, number_in, number_kept, numbers_kept, names_below, two_numbers}
 use Rattle.sb_graph.proofs.Splits.{cross_more, cross_done, numbers_push}
 use Rattle.sb_graph.proofs.split.cross_one.Goals as goal
+
+pub loop-choice-init : goal.loop-choice-init
+loop-choice-init c =
+    record { extends = extends_same c.args.arena.now; known = c.requires.all; both = λ u. refl }
 
 pub and-requires : goal.and-requires
 and-requires c =
@@ -11,6 +16,26 @@ and-requires c =
     two_numbers (length c.loop-choice.arena) c.args.row c.choice-item.result
     (number_kept c.args.arena.now c.loop-choice.arena c.args.row i.extends c.requires.row)
     (number_kept c.args.arena.now c.loop-choice.arena c.choice-item.result i.extends x)
+
+pub returns-in_err-both : goal.returns-in_err-both
+returns-in_err-both c =
+    let x = c.from_residual in
+    record {
+      known = IfOk-from_err x.result _ x.ensures.0;
+      both = IfOk-from_err x.result _ x.ensures.0;
+      extends = extends_more c.args.arena.now c.loop-choice.arena c.and.new.self c.loop-choice.invariant.extends
+          c.in_err-both.ensures.extends;
+    }
+
+pub returns-in_err-push : goal.returns-in_err-push
+returns-in_err-push c =
+    let x = c.from_residual-in_err-push in
+    record {
+      known = IfOk-from_err x.result _ x.ensures.0;
+      both = IfOk-from_err x.result _ x.ensures.0;
+      extends = extends_more c.args.arena.now c.loop-choice.arena c.and.new.self c.loop-choice.invariant.extends
+          c.in_ok-both.ensures.extends;
+    }
 
 pub loop-choice-preserved : goal.loop-choice-preserved
 loop-choice-preserved c =
@@ -30,7 +55,12 @@ loop-choice-preserved c =
           c.loop-choice-test.true c.choice-item.is e.ok i.known c.in_ok-push.ensures.items u (i.both u);
     }
 
-pub returns-clause-both : goal.returns-clause-both
-returns-clause-both c = λ u.
-    cross_done c.args.arena.now c.loop-choice.arena c.args.row c.args.choices.now c.loop-choice.all.items
-    c.args.all.now.items c.loop-choice.choice-index c.loop-choice-test.false u (c.loop-choice.invariant.both u)
+pub returns : goal.returns
+returns c =
+    let i = c.loop-choice.invariant in
+    record {
+      known = i.known;
+      both = λ u. cross_done c.args.arena.now c.loop-choice.arena c.args.row c.args.choices.now c.loop-choice.all.items
+          c.args.all.now.items c.loop-choice.choice-index c.loop-choice-test.false u (i.both u);
+      extends = i.extends;
+    }

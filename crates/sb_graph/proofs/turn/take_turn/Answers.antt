@@ -1,4 +1,5 @@
 use Rattle.std.proofs.Common.{◌<◌, ◌-◌, length, take, drop, map, refl, sym, subst}
+use Rattle.std.proofs.lemmas.Result.{IfOk-from_err}
 use Rattle.std.proofs.lemmas.List.Elements.{All-take, All-drop, All-map, All-weaker}
 use Rattle.sb_deriv.specs.Pieces.{targets_of}
 use Rattle.sb_regex.specs.Numbered.{AllNumbers}
@@ -10,13 +11,31 @@ use Rattle.sb_graph.proofs.WalkSteps.{numbers_all, run_long}
 use Rattle.sb_graph.proofs.Runs.{turn_done}
 use Rattle.sb_graph.proofs.turn.take_turn.Goals as goal
 
-pub edges_of-requires-clause-known : goal.edges_of-requires-clause-known
-edges_of-requires-clause-known c =
+pub run_end-end-requires : goal.run_end-end-requires
+run_end-end-requires c = c.requires.within
+
+pub edges_of-requires : goal.edges_of-requires
+edges_of-requires c =
     let rs = c.args.arena.now in
     let place = c.args.place in
     let all = numbers_all rs c.args.queue.now c.regexes.result.now c.regexes.ensures c.requires.known in
-    All-take (λ n. n < length rs) (c.run_end-end.result - place) (drop place c.regexes.result.now)
-    (All-drop (λ n. n < length rs) place c.regexes.result.now all)
+    record {
+      known = All-take (λ n. n < length rs) (c.run_end-end.result - place) (drop place c.regexes.result.now)
+          (All-drop (λ n. n < length rs) place c.regexes.result.now all);
+      faithful = c.requires.faithful;
+    }
+
+pub returns-in_err-edges : goal.returns-in_err-edges
+returns-in_err-edges c =
+    let x = c.from_residual in
+    let e = c.in_err-edges.ensures in
+    record {
+      next = IfOk-from_err x.result _ x.ensures.0;
+      turned = IfOk-from_err x.result _ x.ensures.0;
+      extends = e.extends;
+      faithful = e.faithful;
+      kept = e.kept;
+    }
 
 pub put_edges-requires : goal.put_edges-requires
 put_edges-requires c =
@@ -26,6 +45,23 @@ put_edges-requires c =
     subst (λ xs. AllNumbers rs (targets_of xs)) (sym c.deref.ensures.value)
     (All-map (λ t. t < length rs) (λ e. e.1) edges
     (All-weaker (IsEdgeFrom rs _) (λ e. e.1 < length rs) (λ e f. f.known) edges lead.sound))
+
+pub returns-in_err-put_edges : goal.returns-in_err-put_edges
+returns-in_err-put_edges c =
+    let x = c.from_residual-in_err-put_edges in
+    let d = c.in_ok-edges.ensures in
+    let more = c.in_err-put_edges.ensures.extends in
+    record {
+      next = IfOk-from_err x.result _ x.ensures.0;
+      turned = IfOk-from_err x.result _ x.ensures.0;
+      extends = extends_more c.args.arena.now c.edges_of.new.arena c.put_edges.new.arena d.extends more;
+      faithful = c.faithful_stays.ensures c.edges_of.new.arena c.put_edges.new.arena c.edges_of.new.deriver more
+          d.faithful;
+      kept = d.kept;
+    }
+
+pub returns-clause-next : goal.returns-clause-next
+returns-clause-next c = (c.run_end-end.ensures.later, c.run_end-end.ensures.within)
 
 pub returns-clause-turned : goal.returns-clause-turned
 returns-clause-turned c = λ L s.
@@ -54,12 +90,15 @@ returns-clause-turned c = λ L s.
     (numbers_kept first derived ns d.extends known) edges lead)
     d.rising c.put_edges.new.queue puts
 
-pub returns-in_err-put_edges-clause-faithful : goal.returns-in_err-put_edges-clause-faithful
-returns-in_err-put_edges-clause-faithful c =
-    c.faithful_stays.ensures c.edges_of.new.arena c.put_edges.new.arena c.edges_of.new.deriver
-    c.in_err-put_edges.ensures.extends c.in_ok-edges.ensures.faithful
+pub returns-clause-extends : goal.returns-clause-extends
+returns-clause-extends c =
+    extends_more c.args.arena.now c.edges_of.new.arena c.put_edges.new.arena c.in_ok-edges.ensures.extends
+    c.in_ok-put_edges.ensures.extends
 
 pub returns-clause-faithful : goal.returns-clause-faithful
 returns-clause-faithful c =
     c.faithful_stays.ensures c.edges_of.new.arena c.put_edges.new.arena c.edges_of.new.deriver
     c.in_ok-put_edges.ensures.extends c.in_ok-edges.ensures.faithful
+
+pub returns-clause-kept : goal.returns-clause-kept
+returns-clause-kept c = c.in_ok-edges.ensures.kept

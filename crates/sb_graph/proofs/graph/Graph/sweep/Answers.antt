@@ -1,10 +1,22 @@
 use Rattle.std.proofs.Common.{◌+◌, refl, sym, subst, ◌∙◌, arith}
-use Rattle.sb_regex.proofs.CallerLemmas.{extends_more, names_below}
+use Rattle.std.proofs.lemmas.Result.{IfOk-from_err}
+use Rattle.sb_regex.proofs.CallerLemmas.{extends_same, extends_more, names_below}
 use Rattle.sb_graph.specs.Search.{IsUnderWay}
 use Rattle.sb_graph.proofs.Carrying.{searched_carried}
 use Rattle.sb_graph.proofs.Expanding.{taken_next, each_reached}
-use Rattle.sb_graph.proofs.Searching.{come_start, root_known, under_way_known, under_way_come, under_way_next}
+use Rattle.sb_graph.proofs.Searching.{come_start, root_known, under_way_start, under_way_known, under_way_come, under_way_next}
 use Rattle.sb_graph.proofs.graph.Graph.sweep.Goals as goal
+
+pub loop-place-init : goal.loop-place-init
+loop-place-init c = record {
+  extends = extends_same c.args.arena.now;
+  graph = c.requires.graph;
+  marks = refl;
+  derivatives_stay = λ n pieces h. h;
+  under_way = λ before h.
+      under_way_start c.args.arena.now c.args.root c.args.self.now.dead c.args.queue.now c.args.from before
+      c.args.self.now.expanded h;
+}
 
 pub first_nullable-requires : goal.first_nullable-requires
 first_nullable-requires c =
@@ -14,70 +26,79 @@ first_nullable-requires c =
     under_way_known c.loop-place.arena c.args.root c.loop-place.self.dead c.loop-place.queue c.loop-place.place
     c.loop-place.tested c.args.self.now.expanded c.loop-place.self.expanded u c.regexes.result.now c.regexes.ensures
 
-pub returns-in-Some-clause-come : goal.returns-in-Some-clause-come
-returns-in-Some-clause-come c = λ before h.
-    under_way_come c.loop-place.arena c.args.root c.loop-place.self.dead c.loop-place.queue c.loop-place.place
-    c.loop-place.tested before c.loop-place.self.expanded (c.loop-place.invariant.under_way before h)
-
-pub returns-then-place-bound-clause-come : goal.returns-then-place-bound-clause-come
-returns-then-place-bound-clause-come c = λ before h.
-    under_way_come c.loop-place.arena c.args.root c.loop-place.self.dead c.loop-place.queue c.loop-place.place
-    c.loop-place.tested before c.loop-place.self.expanded (c.loop-place.invariant.under_way before h)
-
-pub returns-clause-come : goal.returns-clause-come
-returns-clause-come c = λ before h.
-    under_way_come c.loop-place.arena c.args.root c.loop-place.self.dead c.loop-place.queue c.loop-place.place
-    c.loop-place.tested before c.loop-place.self.expanded (c.loop-place.invariant.under_way before h)
-
-pub returns-in-Some-clause-expands : goal.returns-in-Some-clause-expands
-returns-in-Some-clause-expands c = λ before h.
+pub returns-in-Some : goal.returns-in-Some
+returns-in-Some c =
     let i = c.loop-place.invariant in
-    let u = i.under_way before h in
-    each_reached c.args.arena.now c.loop-place.arena i.extends c.args.root
-    (root_known c.args.arena.now c.args.root c.args.self.now.dead c.args.queue.now c.args.from c.requires.start)
-    c.loop-place.self.dead c.loop-place.queue c.loop-place.place u.searched c.loop-place.place before
-    c.loop-place.self.expanded u.taken
+    record {
+      come = λ before h.
+          under_way_come c.loop-place.arena c.args.root c.loop-place.self.dead c.loop-place.queue c.loop-place.place
+          c.loop-place.tested before c.loop-place.self.expanded (c.loop-place.invariant.under_way before h);
+      expands = λ before h.
+          let u = i.under_way before h in
+          each_reached c.args.arena.now c.loop-place.arena i.extends c.args.root
+          (root_known c.args.arena.now c.args.root c.args.self.now.dead c.args.queue.now c.args.from c.requires.start)
+          c.loop-place.self.dead c.loop-place.queue c.loop-place.place u.searched c.loop-place.place before
+          c.loop-place.self.expanded u.taken;
+      extends = i.extends;
+      graph = i.graph;
+      marks = i.marks;
+      derivatives_stay = i.derivatives_stay;
+    }
 
-pub returns-then-place-bound-clause-expands : goal.returns-then-place-bound-clause-expands
-returns-then-place-bound-clause-expands c = λ before h.
+pub returns-then-place-bound : goal.returns-then-place-bound
+returns-then-place-bound c =
     let i = c.loop-place.invariant in
-    let u = i.under_way before h in
-    each_reached c.args.arena.now c.loop-place.arena i.extends c.args.root
-    (root_known c.args.arena.now c.args.root c.args.self.now.dead c.args.queue.now c.args.from c.requires.start)
-    c.loop-place.self.dead c.loop-place.queue c.loop-place.place u.searched c.loop-place.place before
-    c.loop-place.self.expanded u.taken
+    record {
+      come = λ before h.
+          under_way_come c.loop-place.arena c.args.root c.loop-place.self.dead c.loop-place.queue c.loop-place.place
+          c.loop-place.tested before c.loop-place.self.expanded (c.loop-place.invariant.under_way before h);
+      expands = λ before h.
+          let u = i.under_way before h in
+          each_reached c.args.arena.now c.loop-place.arena i.extends c.args.root
+          (root_known c.args.arena.now c.args.root c.args.self.now.dead c.args.queue.now c.args.from c.requires.start)
+          c.loop-place.self.dead c.loop-place.queue c.loop-place.place u.searched c.loop-place.place before
+          c.loop-place.self.expanded u.taken;
+      extends = i.extends;
+      graph = i.graph;
+      marks = i.marks;
+      derivatives_stay = i.derivatives_stay;
+    }
 
-pub returns-clause-expands : goal.returns-clause-expands
-returns-clause-expands c = λ before h.
+pub expand-requires : goal.expand-requires
+expand-requires c =
     let i = c.loop-place.invariant in
-    let u = i.under_way before h in
-    each_reached c.args.arena.now c.loop-place.arena i.extends c.args.root
-    (root_known c.args.arena.now c.args.root c.args.self.now.dead c.args.queue.now c.args.from c.requires.start)
-    c.loop-place.self.dead c.loop-place.queue c.loop-place.place u.searched c.loop-place.place before
-    c.loop-place.self.expanded u.taken
-
-pub expand-requires-clause-known : goal.expand-requires-clause-known
-expand-requires-clause-known c =
     let u = c.loop-place.invariant.under_way c.args.self.now.expanded
     (come_start c.args.arena.now c.args.root c.args.self.now.dead c.args.queue.now c.args.from c.args.self.now.expanded
     c.requires.start c.requires.within) in
-    names_below c.loop-place.arena _ _ (u.searched.reached.along c.loop-place.place
-    (omega (arith, c.len.ensures, c.loop-place-test.true)))
+    record {
+      graph = i.graph;
+      place = omega (arith, c.len.ensures, c.loop-place-test.true);
+      known = names_below c.loop-place.arena _ _ (u.searched.reached.along c.loop-place.place
+          (omega (arith, c.len.ensures, c.loop-place-test.true)));
+    }
 
-pub returns-in_err-expand-clause-expands : goal.returns-in_err-expand-clause-expands
-returns-in_err-expand-clause-expands c = λ before h.
+pub returns-in_err-expand : goal.returns-in_err-expand
+returns-in_err-expand c =
     let i = c.loop-place.invariant in
-    let u = i.under_way before h in
     let e = c.in_err-expand.ensures in
-    let queue = c.loop-place.queue in
-    let place = c.loop-place.place in
-    let taken = taken_next queue queue place before c.loop-place.self.expanded c.expand.new.self.expanded
-    (omega (arith, c.len.ensures, c.loop-place-test.true)) (λ k h. (h, refl)) u.taken e.expands in
-    each_reached c.args.arena.now c.expand.new.arena (extends_more _ _ _ i.extends e.extends) c.args.root
-    (root_known c.args.arena.now c.args.root c.args.self.now.dead c.args.queue.now c.args.from c.requires.start)
-    c.loop-place.self.dead queue place
-    (searched_carried c.loop-place.arena c.expand.new.arena e.extends c.args.root c.loop-place.self.dead queue place
-    u.searched) (place + 1) before c.expand.new.self.expanded taken
+    record {
+      come = IfOk-from_err c.from_residual.result _ c.from_residual.ensures.0;
+      expands = λ before h.
+          let u = i.under_way before h in
+          let queue = c.loop-place.queue in
+          let place = c.loop-place.place in
+          let taken = taken_next queue queue place before c.loop-place.self.expanded c.expand.new.self.expanded
+          (omega (arith, c.len.ensures, c.loop-place-test.true)) (λ k h. (h, refl)) u.taken e.expands in
+          each_reached c.args.arena.now c.expand.new.arena (extends_more _ _ _ i.extends e.extends) c.args.root
+          (root_known c.args.arena.now c.args.root c.args.self.now.dead c.args.queue.now c.args.from c.requires.start)
+          c.loop-place.self.dead queue place
+          (searched_carried c.loop-place.arena c.expand.new.arena e.extends c.args.root c.loop-place.self.dead queue
+          place u.searched) (place + 1) before c.expand.new.self.expanded taken;
+      extends = extends_more _ _ _ i.extends e.extends;
+      graph = e.graph;
+      marks = e.marks ∙ i.marks;
+      derivatives_stay = λ n pieces h. e.derivatives_stay n pieces (i.derivatives_stay n pieces h);
+    }
 
 pub loop-place-preserved : goal.loop-place-preserved
 loop-place-preserved c =
@@ -96,4 +117,23 @@ loop-place-preserved c =
           c.regexes.ensures c.expand.new.arena c.expand.new.self.dead c.expand.new.queue c.expand.new.self.expanded
           e.extends (omega (arith, c.len.ensures, c.loop-place-test.true)) c.in_default.ensures e.visited e.marks
           e.expands);
+    }
+
+pub returns : goal.returns
+returns c =
+    let i = c.loop-place.invariant in
+    record {
+      come = λ before h.
+          under_way_come c.loop-place.arena c.args.root c.loop-place.self.dead c.loop-place.queue c.loop-place.place
+          c.loop-place.tested before c.loop-place.self.expanded (c.loop-place.invariant.under_way before h);
+      expands = λ before h.
+          let u = i.under_way before h in
+          each_reached c.args.arena.now c.loop-place.arena i.extends c.args.root
+          (root_known c.args.arena.now c.args.root c.args.self.now.dead c.args.queue.now c.args.from c.requires.start)
+          c.loop-place.self.dead c.loop-place.queue c.loop-place.place u.searched c.loop-place.place before
+          c.loop-place.self.expanded u.taken;
+      extends = i.extends;
+      graph = i.graph;
+      marks = i.marks;
+      derivatives_stay = i.derivatives_stay;
     }

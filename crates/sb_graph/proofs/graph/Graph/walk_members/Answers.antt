@@ -1,4 +1,4 @@
-use Rattle.std.proofs.Common.{sym, ap, subst}
+use Rattle.std.proofs.Common.{sym, ap, subst, ◌∙◌}
 use Rattle.sb_lang.specs.Language.{language}
 use Rattle.sb_lang.specs.Least.{IsShortestLeast}
 use Rattle.sb_deriv.specs.Faithful.{IsFaithful, KeepsEntries}
@@ -9,57 +9,80 @@ use Rattle.sb_graph.specs.Findings.{AreBarren, AreAnswers}
 use Rattle.sb_graph.proofs.Carrying.{graph_carried}
 use Rattle.sb_graph.proofs.graph.Graph.walk_members.Goals as goal
 
-pub find_word-requires-clause-faithful : goal.find_word-requires-clause-faithful
-find_word-requires-clause-faithful c =
-    subst (λ g. IsFaithful c.args.arena.now g.memo) (sym c.self.view_is) c.requires.graph.faithful
+pub find_word-requires : goal.find_word-requires
+find_word-requires c = record {
+  known = c.requires.known;
+  faithful = subst (λ g. IsFaithful c.args.arena.now g.memo) (sym c.self.view_is) c.requires.graph.faithful;
+}
 
-pub returns-in_err-outcome-clause-graph : goal.returns-in_err-outcome-clause-graph
-returns-in_err-outcome-clause-graph c =
-    graph_carried c.args.arena.now c.find_word.new.arena c.find_word.ensures.extends c.find_word.new.deriver
-    c.self.inside.dead.items c.self.inside.answers.entries c.self.inside.expanded.items
-    c.find_word.ensures.faithful
-    (subst (λ g. AreBarren c.args.arena.now g.dead) (sym c.self.view_is) c.requires.graph.barren)
-    (subst (λ g. AreAnswers c.args.arena.now g.answers) (sym c.self.view_is) c.requires.graph.answered)
+pub returns-in_err-outcome : goal.returns-in_err-outcome
+returns-in_err-outcome c =
+    let f = c.find_word.ensures in
+    record {
+      extends = f.extends;
+      graph = graph_carried c.args.arena.now c.find_word.new.arena f.extends c.find_word.new.deriver
+          c.self.inside.dead.items c.self.inside.answers.entries c.self.inside.expanded.items f.faithful
+          (subst (λ g. AreBarren c.args.arena.now g.dead) (sym c.self.view_is) c.requires.graph.barren)
+          (subst (λ g. AreAnswers c.args.arena.now g.answers) (sym c.self.view_is) c.requires.graph.answered);
+      marks = ap (λ g. g.dead) c.self.view_is;
+      expanded = ap (λ g. g.expanded) c.self.view_is;
+      derivatives_stay = subst (λ g. KeepsEntries g.memo c.find_word.new.deriver) c.self.view_is f.kept;
+    }
 
-pub returns-in_err-keep-clause-graph : goal.returns-in_err-keep-clause-graph
-returns-in_err-keep-clause-graph c =
-    let more = c.find_word.ensures.extends in
+pub returns-in_err-keep : goal.returns-in_err-keep
+returns-in_err-keep c =
+    let f = c.find_word.ensures in
+    let k = c.in_err-keep.ensures in
     let least = subst (IsOutcome (language (regex_at c.args.arena.now c.args.root))) c.in-Found.is
     c.in_ok-outcome.ensures.found in
-    c.in_err-keep.ensures.graph c.find_word.new.arena
-    (number_kept c.args.arena.now c.find_word.new.arena c.args.root more c.requires.known)
-    (subst (λ r. IsShortestLeast (language r) c.in-Found.word)
-    (sym (at_kept c.args.arena.now c.find_word.new.arena c.args.root more c.requires.known)) least)
-    (graph_carried c.args.arena.now c.find_word.new.arena more c.find_word.new.deriver c.self.inside.dead.items
-    c.self.inside.answers.entries c.self.inside.expanded.items
-    c.find_word.ensures.faithful
-    (subst (λ g. AreBarren c.args.arena.now g.dead) (sym c.self.view_is) c.requires.graph.barren)
-    (subst (λ g. AreAnswers c.args.arena.now g.answers) (sym c.self.view_is) c.requires.graph.answered))
+    let kept = at_kept c.args.arena.now c.find_word.new.arena c.args.root f.extends c.requires.known in
+    record {
+      extends = f.extends;
+      graph = k.graph c.find_word.new.arena
+          (number_kept c.args.arena.now c.find_word.new.arena c.args.root f.extends c.requires.known)
+          (subst (λ r. IsShortestLeast (language r) c.in-Found.word) (sym kept) least)
+          (graph_carried c.args.arena.now c.find_word.new.arena f.extends c.find_word.new.deriver
+          c.self.inside.dead.items c.self.inside.answers.entries c.self.inside.expanded.items f.faithful
+          (subst (λ g. AreBarren c.args.arena.now g.dead) (sym c.self.view_is) c.requires.graph.barren)
+          (subst (λ g. AreAnswers c.args.arena.now g.answers) (sym c.self.view_is) c.requires.graph.answered));
+      marks = k.rest.1 ∙ ap (λ g. g.dead) c.self.view_is;
+      expanded = k.rest.2 ∙ ap (λ g. g.expanded) c.self.view_is;
+      derivatives_stay = subst (KeepsEntries c.args.self.now.memo) (sym k.rest.0)
+          (subst (λ g. KeepsEntries g.memo c.find_word.new.deriver) c.self.view_is f.kept);
+    }
 
-pub returns-in_ok-keep-clause-graph : goal.returns-in_ok-keep-clause-graph
-returns-in_ok-keep-clause-graph c =
-    let more = c.find_word.ensures.extends in
+pub returns-in_ok-keep : goal.returns-in_ok-keep
+returns-in_ok-keep c =
+    let f = c.find_word.ensures in
+    let k = c.in_ok-keep.ensures in
     let least = subst (IsOutcome (language (regex_at c.args.arena.now c.args.root))) c.in-Found.is
     c.in_ok-outcome.ensures.found in
-    c.in_ok-keep.ensures.graph c.find_word.new.arena
-    (number_kept c.args.arena.now c.find_word.new.arena c.args.root more c.requires.known)
-    (subst (λ r. IsShortestLeast (language r) c.in-Found.word)
-    (sym (at_kept c.args.arena.now c.find_word.new.arena c.args.root more c.requires.known)) least)
-    (graph_carried c.args.arena.now c.find_word.new.arena more c.find_word.new.deriver c.self.inside.dead.items
-    c.self.inside.answers.entries c.self.inside.expanded.items
-    c.find_word.ensures.faithful
-    (subst (λ g. AreBarren c.args.arena.now g.dead) (sym c.self.view_is) c.requires.graph.barren)
-    (subst (λ g. AreAnswers c.args.arena.now g.answers) (sym c.self.view_is) c.requires.graph.answered))
+    let kept = at_kept c.args.arena.now c.find_word.new.arena c.args.root f.extends c.requires.known in
+    record {
+      extends = f.extends;
+      graph = k.graph c.find_word.new.arena
+          (number_kept c.args.arena.now c.find_word.new.arena c.args.root f.extends c.requires.known)
+          (subst (λ r. IsShortestLeast (language r) c.in-Found.word) (sym kept) least)
+          (graph_carried c.args.arena.now c.find_word.new.arena f.extends c.find_word.new.deriver
+          c.self.inside.dead.items c.self.inside.answers.entries c.self.inside.expanded.items f.faithful
+          (subst (λ g. AreBarren c.args.arena.now g.dead) (sym c.self.view_is) c.requires.graph.barren)
+          (subst (λ g. AreAnswers c.args.arena.now g.answers) (sym c.self.view_is) c.requires.graph.answered));
+      marks = k.rest.1 ∙ ap (λ g. g.dead) c.self.view_is;
+      expanded = k.rest.2 ∙ ap (λ g. g.expanded) c.self.view_is;
+      derivatives_stay = subst (KeepsEntries c.args.self.now.memo) (sym k.rest.0)
+          (subst (λ g. KeepsEntries g.memo c.find_word.new.deriver) c.self.view_is f.kept);
+    }
 
 pub returns-in_default : goal.returns-in_default
-returns-in_default c = record {
-  extends = c.find_word.ensures.extends;
-  graph = graph_carried c.args.arena.now c.find_word.new.arena c.find_word.ensures.extends c.find_word.new.deriver
-      c.self.inside.dead.items c.self.inside.answers.entries c.self.inside.expanded.items
-      c.find_word.ensures.faithful
-      (subst (λ g. AreBarren c.args.arena.now g.dead) (sym c.self.view_is) c.requires.graph.barren)
-      (subst (λ g. AreAnswers c.args.arena.now g.answers) (sym c.self.view_is) c.requires.graph.answered);
-  marks = ap (λ g. g.dead) c.self.view_is;
-  expanded = ap (λ g. g.expanded) c.self.view_is;
-  derivatives_stay = subst (λ g. KeepsEntries g.memo c.find_word.new.deriver) c.self.view_is c.find_word.ensures.kept;
-}
+returns-in_default c =
+    let f = c.find_word.ensures in
+    record {
+      extends = f.extends;
+      graph = graph_carried c.args.arena.now c.find_word.new.arena f.extends c.find_word.new.deriver
+          c.self.inside.dead.items c.self.inside.answers.entries c.self.inside.expanded.items f.faithful
+          (subst (λ g. AreBarren c.args.arena.now g.dead) (sym c.self.view_is) c.requires.graph.barren)
+          (subst (λ g. AreAnswers c.args.arena.now g.answers) (sym c.self.view_is) c.requires.graph.answered);
+      marks = ap (λ g. g.dead) c.self.view_is;
+      expanded = ap (λ g. g.expanded) c.self.view_is;
+      derivatives_stay = subst (λ g. KeepsEntries g.memo c.find_word.new.deriver) c.self.view_is f.kept;
+    }

@@ -1,5 +1,5 @@
 use Rattle.sb_graph.specs.Lengths.{IsSearching}
-use Rattle.sb_graph.proofs.depth.find_by_length.Given as goal
+use Rattle.sb_graph.proofs.depth.try_lengths.Given as goal
 
 abbrev pub invariant-loop-wanted : goal.invariant-loop-wanted
 invariant-loop-wanted l =
