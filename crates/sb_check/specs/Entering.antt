@@ -1,4 +1,4 @@
--- Private: what becomes of an entry of the script.
+-- What becomes of an entry of the script.
 use Rattle.std.specs.Prelude.{◌≡◌, List, [], ◌∷◌, Some, None}
 use Rattle.sb_script.specs.State.{State}
 use Rattle.sb_script.specs.Steps.{Step, Leaving}

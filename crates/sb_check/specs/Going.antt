@@ -1,4 +1,4 @@
--- Private: what an entry of a script, or its end, does to a proof that is read along with it.
+-- What an entry of a script, or its end, does to a proof that is read along with it.
 use Rattle.std.specs.Prelude.{◌≡◌, ℕ, ◌+◌, ◌≤◌, true, false, List, [], ◌∷◌, ◌++◌, length, drop, Option, Some, None, Result, Ok, Err}
 use Rattle.sb_world.specs.Outside.{Outside, Rose}
 use Rattle.sb_world.specs.Moved.{moved_by, reading}

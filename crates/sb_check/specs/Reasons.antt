@@ -1,4 +1,4 @@
--- Private: why a line is refused, as the rules of proofs have it.
+-- Why a line is refused, as the rules of proofs have it.
 use Rattle.sb_rulebook.specs.Refusals as rules
 use Rattle.sb_check.specs.declared.reason.Reason.{Reason}
 use Rattle.sb_check.specs.declared.reason.Reason.TheVariants as reason

@@ -1,4 +1,4 @@
--- Private: how far a proof has come along a script, as far as the judge knows.
+-- How far a proof has come along a script, as far as the judge knows.
 use Rattle.std.specs.Prelude.{◌≡◌, ℕ, Bool, true, false, List, [], ◌∷◌, ◌++◌, Option, Some, None}
 use Rattle.sb_lit.specs.declared.clause.Lit.{Lit}
 use Rattle.sb_sound.specs.SimpleStates.{is_simple_state}

@@ -1,4 +1,4 @@
--- Queues as lists: each state by its number, with its way: a place before it, and the character taken there.
+-- Private: queues as lists: each state by its number, with its way: a place before it, and the character taken there.
 use Rattle.std.specs.Prelude.{◌≡◌, ◌≢◌, ℕ, ◌+◌, ◌*◌, ◌<◌, ◌≤◌, Bool, true, false, ◌&&◌, List, [], ◌∷◌, ◌++◌, length, get_or, nat_eq, if◌then◌else◌}
 use Rattle.std.specs.List.{list_any}
 use Rattle.sb_lang.specs.Regex.{Regex}

@@ -1,4 +1,4 @@
--- Private: the branches of an expansion, by the numbers of their targets in an arena.
+-- The branches of an expansion, by the numbers of their targets in an arena.
 use Rattle.std.specs.Prelude.{ℕ, List, [], ◌∷◌}
 use Rattle.sb_lang.specs.Regex.{Regex}
 use Rattle.sb_regex.specs.Numbered.{regex_at}
