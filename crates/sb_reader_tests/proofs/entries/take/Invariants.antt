@@ -1,9 +1,0 @@
--- More bytes may come.
-use Rattle.std.proofs.Common.{◌≡◌, false}
-use Rattle.sb_reader_tests.proofs.entries.take.Given as goal
-
-abbrev pub invariant-loop-piece : goal.invariant-loop-piece
-invariant-loop-piece l =
-    (goal.iterator-loop-piece).can_next l.piece-iterator ×
-    (goal.iterator-loop-piece).is_finite l.piece-iterator ×
-    (l.feed.1 ≡ false)
