@@ -20,6 +20,7 @@ mod order;
 mod replayed;
 mod rounds;
 mod search;
+mod steps;
 mod theory;
 
 use crate::cases::go_through;
