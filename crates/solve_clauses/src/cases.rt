@@ -155,41 +155,49 @@ pub fn go_through(rt: HostRuntime, name: &str) -> Result<(), Failure> {
     let Ok(text) = fs::read_to_string(&rt, name) else {
         return Err(Failure::Outside);
     };
-    let alloc = rt.alloc();
-    let mut out = String::new(alloc);
-    let mut case = nothing(alloc);
-    for line in text.lines() {
-        let (word, numbers) = read_line(alloc, line)?;
-        if let Word::Begin = word {
-            case = nothing(alloc);
-            writeln!(out, "{line}")?;
-        } else {
-            take(alloc, &mut case, word, &numbers, &mut out)?;
-        }
-    }
+    let mut out = String::new(rt.alloc());
+    let taken = take_all(
+        rt.alloc(),
+        text.as_str(),
+        &mut nothing(rt.alloc()),
+        &mut out,
+    );
     match rt.stdout().write_all(out.as_bytes()) {
-        Ok(()) => Ok(()),
+        Ok(()) => taken,
         Err(_) => Err(Failure::Outside),
     }
 }
 
-/// The word of a line, and its numbers; behind a name or a comment there are none.
-fn read_line(alloc: Global, line: &str) -> Result<(Word, Vec<i64>), Failure> {
-    let mut numbers = Vec::new(alloc);
-    let mut parts = line.split_whitespace();
-    let Some(first) = parts.next() else {
-        return Ok((Word::Comment, numbers));
-    };
-    let word = word_of(first);
+/// Takes each line.
+fn take_all(alloc: Global, text: &str, case: &mut Case, out: &mut String) -> Result<(), Failure> {
+    for line in text.lines() {
+        take_line(alloc, line, case, out)?;
+    }
+    Ok(())
+}
+
+/// Begins a case, or takes a line of it.
+fn take_line(alloc: Global, line: &str, case: &mut Case, out: &mut String) -> Result<(), Failure> {
+    let word = word_of(line.split_whitespace().next().unwrap_or("c"));
     match word {
-        Word::Begin | Word::Comment => return Ok((word, numbers)),
-        Word::Clause => numbers.push(read_number(first)?)?,
-        _ => {}
+        Word::Comment => Ok(()),
+        Word::Begin => {
+            *case = nothing(alloc);
+            Ok(writeln!(out, "{line}")?)
+        }
+        _ => take(alloc, case, word, &numbers_of(alloc, line)?, out),
     }
-    for part in parts {
-        numbers.push(read_number(part)?)?;
+}
+
+/// The numbers of a line, behind its word.
+fn numbers_of(alloc: Global, line: &str) -> Result<Vec<i64>, AllocError> {
+    let mut numbers = Vec::new(alloc);
+    for part in line.split_whitespace() {
+        if let Ok(number) = part.parse::<i64>() {
+            numbers.push(number)?;
+        }
     }
-    Ok((word, numbers))
+    Ok(numbers)
 }
 
 /// The first word of a line.
@@ -200,13 +208,6 @@ fn word_of(first: &str) -> Word {
         }
     }
     Word::Clause
-}
-
-fn read_number(part: &str) -> Result<i64, Failure> {
-    match part.parse::<i64>() {
-        Ok(number) => Ok(number),
-        Err(_) => Err(Failure::Input),
-    }
 }
 
 /// The number at a place, without its sign; 0 where there is none.
@@ -319,23 +320,37 @@ fn find(
     shown: bool,
     out: &mut String,
 ) -> Result<(), Failure> {
-    let mut kept = KeptClauses::new(alloc);
-    copy(alloc, case.engine.clauses(), &mut kept)?;
     let mut tape = MemTape::new(alloc);
+    let mut kept = KeptClauses::new(alloc);
     let mut budget = Budget::new(limit);
-    case.engine.clear();
-    let found = search(
+    find_on(
         alloc,
-        &mut case.theory,
-        &mut case.engine,
+        case,
+        &mut kept,
         &mut tape,
-        assumptions,
         &mut budget,
-    )?;
-    let Ok(lines) = str::from_utf8(tape.bytes()) else {
-        return Err(Failure::Lost);
-    };
-    if !replays(alloc, &mut kept, lines, case.engine.clauses())? {
+        assumptions,
+        shown,
+        out,
+    )
+}
+
+fn find_on(
+    alloc: Global,
+    case: &mut Case,
+    kept: &mut KeptClauses,
+    tape: &mut MemTape,
+    budget: &mut Budget,
+    assumptions: &[Lit],
+    shown: bool,
+    out: &mut String,
+) -> Result<(), Failure> {
+    copy(alloc, case.engine.clauses(), kept)?;
+    case.engine.clear();
+    let (theory, engine) = (&mut case.theory, &mut case.engine);
+    let found = search(alloc, theory, engine, tape, assumptions, budget)?;
+    let lines = str::from_utf8(tape.bytes()).unwrap_or("no text");
+    if !replays(alloc, kept, lines, case.engine.clauses())? {
         writeln!(out, "lines that do not follow")?;
     }
     print_end(case, found, assumptions, shown, out)?;
@@ -347,9 +362,9 @@ fn find(
             out,
             ", {spent} of {limit} steps, asked {asked} times, {last} at last, back to {back}\n{lines}"
         )?;
-    } else {
-        writeln!(out)?;
+        return Ok(());
     }
+    writeln!(out)?;
     Ok(())
 }
 

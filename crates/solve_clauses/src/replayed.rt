@@ -57,19 +57,27 @@ fn is_same(clauses: &Clauses, kept: &KeptClauses, number: u64) -> bool {
     true
 }
 
-/// Keeps the clause of a line, if it is learned by its hints, a literal and its negation, or a lemma.
+/// Keeps the clause of a line's text.
 fn follows(alloc: Global, kept: &mut KeptClauses, text: &str) -> Result<bool, Failure> {
     match read_line(alloc, text.as_bytes(), true)? {
-        Ok(Line::Learned(literals, hints)) => match kept.learned(&literals, &hints) {
-            Ok(level) => kept.add(&literals, level)?,
+        Ok(line) => keeps(kept, &line),
+        Err(_) => Ok(false),
+    }
+}
+
+/// Keeps the clause of a line, if it is learned by its hints, a literal and its negation, or a lemma.
+fn keeps(kept: &mut KeptClauses, line: &Line) -> Result<bool, Failure> {
+    match line {
+        Line::Learned(literals, hints) => match kept.learned(literals, hints) {
+            Ok(level) => kept.add(literals, level)?,
             Err(NotLearned::NoMemory) => return Err(Failure::NoMemory),
             Err(_) => return Ok(false),
         },
-        Ok(Line::Rule(Rule::Gate, literals)) => {
-            kept.add(&literals, 0)?;
-            return Ok(is_both(&literals));
+        Line::Rule(Rule::Gate, literals) => {
+            kept.add(literals, 0)?;
+            return Ok(is_both(literals));
         }
-        Ok(Line::Rule(Rule::Step, literals)) => kept.add(&literals, 0)?,
+        Line::Rule(Rule::Step, literals) => kept.add(literals, 0)?,
         _ => return Ok(false),
     }
     Ok(true)
