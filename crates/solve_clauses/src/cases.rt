@@ -1,9 +1,9 @@
-//! Cases: clauses with lemmas, wishes and assumptions that are searched, and steps of the engine and of the order of
-//! decisions. A line of a file is one of these, with a space between its words; a number is an atom, or with a `-` its
-//! negation, and numbers may end with a 0, as in DIMACS.
+//! Cases: clauses with lemmas, wishes and assumptions that are searched, and steps of the engine, of the order of
+//! decisions, and of what a reader of proofs keeps. A line of a file is a word and numbers, with a space between. A
+//! number is an atom, or with a `-` its negation, and such numbers end with a 0, as in DIMACS.
 //!
 //! - `= NAME` begins a case, in which there is nothing.
-//! - Lines that begin with the word `c` or `p`, and empty lines, say nothing.
+//! - Lines that begin with `c` or `p`, and empty lines, say nothing.
 //! - `1 -2 0` keeps a clause at level 0, `at LEVEL 1 -2 0` one at this level.
 //! - `lemma 1 -2 0` is a clause that the theory gives where it is false, `wish 1 -2 0` are literals that it asks for,
 //!   from the last one on, and `atoms N` says that it wants the atoms from 1 to N.
@@ -16,19 +16,20 @@
 //!   propagates, and prints the values of all atoms from 1 on, or that a clause is false; `decide 1` decides a literal
 //!   first. `propagate` prints which clause is false, and how long the trail is.
 //! - `trail`, `value ATOM` and `clause NUMBER` print what is there.
-//! - `insert ATOM`, `bump ATOM`, `decay TIMES` and `pop` are steps of the order of decisions, `save ATOM VALUE` and
-//!   `phase ATOM` of the values that atoms had last.
-//! - `kept LEVEL 1 -2 0` keeps a clause as a reader of proofs does, and `leave LEVEL` and `leave` drop those above the
-//!   level, and all. `look NUMBER` prints a clause, `part 1 -2 0` whether a kept one is a part of this one, and
-//!   `learn 1 -2 : HINT ..` its level, or why the hints do not teach it.
+//! - `insert ATOM`, `bump ATOM`, `decay TIMES` and `pop` are steps of the order of decisions, `save ATOM 1` and `save
+//!   ATOM 0` of the values that atoms had last, and `phase ATOM` prints one.
+//! - `kept LEVEL 1 -2 0` keeps a clause as a reader of proofs does, and `leave LEVEL` and `empty` drop those above the
+//!   level, and all. `look NUMBER` prints a clause, `part 1 -2 0` which kept one is a part of this one, and
+//!   `learn 1 -2 0 HINT ..` its level, or why the hints do not teach it.
 
 use crate::failure::Failure;
 use crate::replayed::{copy, replays};
 use crate::search::decide_all;
-use crate::theory::{Given, wanting};
+use crate::steps::{look, print_clause, step, wait};
+use crate::theory::{Given, atoms, wanting};
 use sb_activity::{Order, Phases};
-use sb_clauses::{Engine, Propagated};
-use sb_hints::{KeptClauses, NotLearned};
+use sb_clauses::Engine;
+use sb_hints::KeptClauses;
 use sb_lit::{Budget, Clause, ClauseId, Lit};
 use sb_proof::MemTape;
 use sb_search::{Found, search};
@@ -36,6 +37,97 @@ use std::alloc::{AllocError, Global};
 use std::fmt::Write as _;
 use std::fs;
 use std::io::Write;
+
+/// The first word of a line.
+#[derive(Clone, Copy)]
+pub enum Word {
+    Begin,
+    Comment,
+    Clause,
+    At,
+    Lemma,
+    Wish,
+    Atoms,
+    Search,
+    Ends,
+    Order,
+    Active,
+    Reserve,
+    Decide,
+    Assign,
+    Back,
+    Drop,
+    Forget,
+    Clear,
+    Propagate,
+    Settle,
+    Trail,
+    Value,
+    Look,
+    Wait(Waiting),
+    Read(Reading),
+}
+
+/// A step of the order of decisions, or of the values that atoms had last.
+#[derive(Clone, Copy)]
+pub enum Waiting {
+    Insert,
+    Bump,
+    Decay,
+    Pop,
+    Save,
+    Phase,
+}
+
+/// A step of what a reader of proofs keeps.
+#[derive(Clone, Copy)]
+pub enum Reading {
+    Kept,
+    Leave,
+    Empty,
+    Look,
+    Part,
+    Learn,
+}
+
+/// The words, but for a clause, which begins with a number.
+const WORDS: [(&str, Word); 35] = [
+    ("=", Word::Begin),
+    ("c", Word::Comment),
+    ("p", Word::Comment),
+    ("at", Word::At),
+    ("lemma", Word::Lemma),
+    ("wish", Word::Wish),
+    ("atoms", Word::Atoms),
+    ("search", Word::Search),
+    ("ends", Word::Ends),
+    ("order", Word::Order),
+    ("active", Word::Active),
+    ("reserve", Word::Reserve),
+    ("decide", Word::Decide),
+    ("assign", Word::Assign),
+    ("back", Word::Back),
+    ("drop", Word::Drop),
+    ("forget", Word::Forget),
+    ("clear", Word::Clear),
+    ("propagate", Word::Propagate),
+    ("settle", Word::Settle),
+    ("trail", Word::Trail),
+    ("value", Word::Value),
+    ("clause", Word::Look),
+    ("insert", Word::Wait(Waiting::Insert)),
+    ("bump", Word::Wait(Waiting::Bump)),
+    ("decay", Word::Wait(Waiting::Decay)),
+    ("pop", Word::Wait(Waiting::Pop)),
+    ("save", Word::Wait(Waiting::Save)),
+    ("phase", Word::Wait(Waiting::Phase)),
+    ("kept", Word::Read(Reading::Kept)),
+    ("leave", Word::Read(Reading::Leave)),
+    ("empty", Word::Read(Reading::Empty)),
+    ("look", Word::Read(Reading::Look)),
+    ("part", Word::Read(Reading::Part)),
+    ("learn", Word::Read(Reading::Learn)),
+];
 
 /// What there is in a case.
 #[derive(Drop)]
@@ -47,123 +139,176 @@ struct Case {
     kept: KeptClauses,
 }
 
+/// A case in which there is nothing.
+fn nothing(alloc: Global) -> Case {
+    Case {
+        engine: Engine::new(alloc),
+        theory: wanting(alloc, Vec::new(alloc)),
+        order: Order::new(alloc),
+        phases: Phases::new(alloc),
+        kept: KeptClauses::new(alloc),
+    }
+}
+
 /// Goes through the cases of a file, and prints what they come to.
 pub fn go_through(rt: HostRuntime, name: &str) -> Result<(), Failure> {
-    let alloc = rt.alloc();
     let Ok(text) = fs::read_to_string(&rt, name) else {
         return Err(Failure::Outside);
     };
-    let mut out = String::new(alloc);
-    let mut case = nothing(alloc)?;
-    for line in text.lines() {
-        let words: Vec<&str> = line.split_whitespace().collect(alloc)?;
-        if let ["=", ..] = words.as_slice() {
-            case = nothing(alloc)?;
-            writeln!(out, "{line}")?;
-        } else {
-            take(alloc, &mut case, &words, &mut out)?;
-        }
-    }
+    let mut out = String::new(rt.alloc());
+    let taken = take_all(
+        rt.alloc(),
+        text.as_str(),
+        &mut nothing(rt.alloc()),
+        &mut out,
+    );
     match rt.stdout().write_all(out.as_bytes()) {
-        Ok(()) => Ok(()),
+        Ok(()) => taken,
         Err(_) => Err(Failure::Outside),
     }
 }
 
-/// A case in which there is nothing.
-fn nothing(alloc: Global) -> Result<Case, AllocError> {
-    Ok(Case {
-        engine: Engine::new(alloc),
-        theory: wanting(alloc, 0, 0)?,
-        order: Order::new(alloc),
-        phases: Phases::new(alloc),
-        kept: KeptClauses::new(alloc),
-    })
-}
-
-/// Takes a line of clauses, of lemmas and of what is searched, or a step.
-fn take(alloc: Global, case: &mut Case, words: &[&str], out: &mut String) -> Result<(), Failure> {
-    match words {
-        [] | ["c", ..] | ["p", ..] => {}
-        ["at", level, rest @ ..] => {
-            let clause = Clause::from_literals(literals(alloc, rest)?);
-            case.engine.add(&clause, number(level)?)?;
-        }
-        ["lemma", rest @ ..] => {
-            let clause = Clause::from_literals(literals(alloc, rest)?);
-            case.theory.lemmas.push(clause).map_err(AllocError::from)?;
-        }
-        ["wish", rest @ ..] => case.theory.wishes = literals(alloc, rest)?,
-        ["atoms", count] => {
-            case.theory.atoms = wanting(alloc, 1, number(count)?.saturating_add(1))?.atoms;
-        }
-        ["search", limit, rest @ ..] => {
-            let assumptions = literals(alloc, rest)?;
-            find(alloc, case, number(limit)?, &assumptions, true, out)?;
-        }
-        ["ends", limit, rest @ ..] => {
-            let assumptions = literals(alloc, rest)?;
-            find(alloc, case, number(limit)?, &assumptions, false, out)?;
-        }
-        [word @ ("order" | "active")] => {
-            case.engine.clear();
-            let active = *word == "active";
-            let (verdict, conflicts) = decide_all(alloc, &mut case.engine, active)?;
-            writeln!(out, "{} {conflicts}", verdict.name())?;
-        }
-        [first, ..] if first.parse::<i64>().is_ok() => {
-            let clause = Clause::from_literals(literals(alloc, words)?);
-            case.engine.add(&clause, 0)?;
-        }
-        ["insert" | "bump" | "decay" | "pop" | "save" | "phase", ..] => {
-            wait(&mut case.order, &mut case.phases, words, out)?;
-        }
-        ["kept" | "leave" | "look" | "part" | "learn", ..] => {
-            read(alloc, &mut case.kept, words, out)?;
-        }
-        ["reserve", atoms] => {
-            let atoms = number(atoms)? as usize;
-            case.engine.reserve(atoms)?;
-            case.order.reserve(atoms)?;
-            case.phases.reserve(atoms)?;
-            let places = case.engine.trail().reserved();
-            writeln!(out, "{places} places, {} in order", case.order.len())?;
-        }
-        _ => step(&mut case.engine, words, out)?,
+/// Takes each line.
+fn take_all(alloc: Global, text: &str, case: &mut Case, out: &mut String) -> Result<(), Failure> {
+    for line in text.lines() {
+        take_line(alloc, line, case, out)?;
     }
     Ok(())
 }
 
-/// The number that a word is.
-fn number(word: &str) -> Result<u64, Failure> {
-    match word.parse::<u64>() {
-        Ok(number) => Ok(number),
-        Err(_) => Err(Failure::Input),
+/// Begins a case, or takes a line of it.
+fn take_line(alloc: Global, line: &str, case: &mut Case, out: &mut String) -> Result<(), Failure> {
+    let word = word_of(line.split_whitespace().next().unwrap_or("c"));
+    match word {
+        Word::Comment => Ok(()),
+        Word::Begin => {
+            *case = nothing(alloc);
+            Ok(writeln!(out, "{line}")?)
+        }
+        _ => take(alloc, case, word, &numbers_of(alloc, line)?, out),
     }
 }
 
-/// The literal that a word is.
-fn literal(word: &str) -> Result<Lit, Failure> {
-    match word.parse::<i64>() {
-        Ok(number) => Ok(Lit {
-            atom: number.unsigned_abs(),
-            positive: number > 0,
-        }),
-        Err(_) => Err(Failure::Input),
+/// The numbers of a line, behind its word.
+fn numbers_of(alloc: Global, line: &str) -> Result<Vec<i64>, AllocError> {
+    let mut numbers = Vec::new(alloc);
+    for part in line.split_whitespace() {
+        if let Ok(number) = part.parse::<i64>() {
+            numbers.push(number)?;
+        }
+    }
+    Ok(numbers)
+}
+
+/// The first word of a line.
+fn word_of(first: &str) -> Word {
+    for (name, word) in &WORDS {
+        if *name == first {
+            return *word;
+        }
+    }
+    Word::Clause
+}
+
+/// The number at a place, without its sign; 0 where there is none.
+pub fn number(numbers: &[i64], place: usize) -> u64 {
+    match numbers.get(place) {
+        Some(number) => number.unsigned_abs(),
+        None => 0,
     }
 }
 
-/// The literals that words are, up to a 0.
-fn literals(alloc: Global, words: &[&str]) -> Result<Vec<Lit>, Failure> {
+/// The literal that a number is.
+pub fn literal(number: i64) -> Lit {
+    Lit {
+        atom: number.unsigned_abs(),
+        positive: number > 0,
+    }
+}
+
+/// The literals of the numbers, up to a 0.
+pub fn literals(alloc: Global, numbers: &[i64]) -> Result<Vec<Lit>, AllocError> {
     let mut literals = Vec::new(alloc);
-    for word in words {
-        let literal = literal(word)?;
-        if literal.atom == 0 {
+    for number in numbers {
+        if *number == 0 {
             break;
         }
-        literals.push(literal).map_err(AllocError::from)?;
+        literals.push(literal(*number))?;
     }
     Ok(literals)
+}
+
+/// The numbers behind the first one.
+fn behind(numbers: &[i64]) -> &[i64] {
+    match numbers {
+        [] => &[],
+        [_, rest @ ..] => rest,
+    }
+}
+
+/// Takes a line of clauses, of lemmas and of what is searched, or a step.
+fn take(
+    alloc: Global,
+    case: &mut Case,
+    word: Word,
+    numbers: &[i64],
+    out: &mut String,
+) -> Result<(), Failure> {
+    match word {
+        Word::Comment => {}
+        Word::Clause => {
+            let clause = Clause::from_literals(literals(alloc, numbers)?);
+            case.engine.add(&clause, 0)?;
+        }
+        Word::At => {
+            let clause = Clause::from_literals(literals(alloc, behind(numbers))?);
+            case.engine.add(&clause, number(numbers, 0))?;
+        }
+        Word::Lemma => {
+            let clause = Clause::from_literals(literals(alloc, numbers)?);
+            case.theory.lemmas.push(clause)?;
+        }
+        Word::Wish => case.theory.wishes = literals(alloc, numbers)?,
+        Word::Atoms => {
+            let end = number(numbers, 0).saturating_add(1);
+            case.theory.atoms = atoms(alloc, 1, end)?;
+        }
+        Word::Search => {
+            let assumptions = literals(alloc, behind(numbers))?;
+            find(alloc, case, number(numbers, 0), &assumptions, true, out)?;
+        }
+        Word::Ends => {
+            let assumptions = literals(alloc, behind(numbers))?;
+            find(alloc, case, number(numbers, 0), &assumptions, false, out)?;
+        }
+        Word::Reserve => {
+            let count = number(numbers, 0) as usize;
+            case.engine.reserve(count)?;
+            case.order.reserve(count)?;
+            case.phases.reserve(count)?;
+            let places = case.engine.trail().reserved();
+            writeln!(out, "{places} places, {} in order", case.order.len())?;
+        }
+        Word::Order => decide(alloc, &mut case.engine, false, out)?,
+        Word::Active => decide(alloc, &mut case.engine, true, out)?,
+        Word::Wait(step) => wait(&mut case.order, &mut case.phases, step, numbers, out)?,
+        Word::Read(step) => look(alloc, &mut case.kept, step, numbers, out)?,
+        _ => step(&mut case.engine, word, numbers, out)?,
+    }
+    Ok(())
+}
+
+/// Searches by the engine alone, and prints what it comes to.
+fn decide(
+    alloc: Global,
+    engine: &mut Engine,
+    active: bool,
+    out: &mut String,
+) -> Result<(), Failure> {
+    engine.clear();
+    let (verdict, conflicts) = decide_all(alloc, engine, active)?;
+    writeln!(out, "{} {conflicts}", verdict.name())?;
+    Ok(())
 }
 
 /// Searches, and prints what it comes to, with its lines or the end alone.
@@ -175,48 +320,79 @@ fn find(
     shown: bool,
     out: &mut String,
 ) -> Result<(), Failure> {
-    let mut kept = KeptClauses::new(alloc);
-    copy(alloc, case.engine.clauses(), &mut kept)?;
     let mut tape = MemTape::new(alloc);
+    let mut kept = KeptClauses::new(alloc);
     let mut budget = Budget::new(limit);
-    case.engine.clear();
-    let found = search(
+    find_on(
         alloc,
-        &mut case.theory,
-        &mut case.engine,
+        case,
+        &mut kept,
         &mut tape,
-        assumptions,
         &mut budget,
-    )?;
-    match found {
-        Found::Sat if has_values(case, assumptions) => write!(out, "sat")?,
-        Found::Sat => write!(out, "sat by other values")?,
-        Found::Unsat(id) if shown => {
-            write!(out, "unsat by")?;
-            put_clause(&case.engine, id, out)?;
-        }
-        Found::Unsat(_) => write!(out, "unsat")?,
-        Found::Spent => write!(out, "spent")?,
+        assumptions,
+        shown,
+        out,
+    )
+}
+
+fn find_on(
+    alloc: Global,
+    case: &mut Case,
+    kept: &mut KeptClauses,
+    tape: &mut MemTape,
+    budget: &mut Budget,
+    assumptions: &[Lit],
+    shown: bool,
+    out: &mut String,
+) -> Result<(), Failure> {
+    copy(alloc, case.engine.clauses(), kept)?;
+    case.engine.clear();
+    let (theory, engine) = (&mut case.theory, &mut case.engine);
+    let found = search(alloc, theory, engine, tape, assumptions, budget)?;
+    let lines = str::from_utf8(tape.bytes()).unwrap_or("no text");
+    if !replays(alloc, kept, lines, case.engine.clauses())? {
+        writeln!(out, "lines that do not follow")?;
     }
-    if !replays(alloc, &mut kept, tape.bytes(), case.engine.clauses())? {
-        write!(out, " by lines that do not follow")?;
-    }
+    print_end(case, found, assumptions, shown, out)?;
     if shown {
         let theory = &case.theory;
         let (asked, last, back) = (theory.asked, theory.last, theory.back);
         let (spent, limit) = (budget.spent(), budget.limit());
         write!(
             out,
-            ", {spent} of {limit} steps, asked {asked} times, {last} at last, back to {back}"
+            ", {spent} of {limit} steps, asked {asked} times, {last} at last, back to {back}\n{lines}"
         )?;
-        let Ok(lines) = str::from_utf8(tape.bytes()) else {
-            return Err(Failure::Lost);
-        };
-        write!(out, "\n{lines}")?;
         return Ok(());
     }
     writeln!(out)?;
     Ok(())
+}
+
+/// Prints how a search ended, with the clause that was found where it is shown.
+fn print_end(
+    case: &Case,
+    found: Found,
+    assumptions: &[Lit],
+    shown: bool,
+    out: &mut String,
+) -> Result<(), AllocError> {
+    match found {
+        Found::Sat => {
+            if has_values(case, assumptions) {
+                write!(out, "sat")
+            } else {
+                write!(out, "sat by other values")
+            }
+        }
+        Found::Unsat(id) => {
+            if shown {
+                write!(out, "unsat by")?;
+                return print_clause(&case.engine, id, out);
+            }
+            write!(out, "unsat")
+        }
+        Found::Spent => write!(out, "spent"),
+    }
 }
 
 /// Whether all is true that is to be: the assumptions, and of each clause and each lemma a literal. Each atom that is
@@ -224,219 +400,28 @@ fn find(
 fn has_values(case: &Case, assumptions: &[Lit]) -> bool {
     let trail = case.engine.trail();
     let clauses = case.engine.clauses();
+    let mut all = true;
     for number in 0..clauses.len() {
-        if let Some(literals) = clauses.literals(ClauseId(number as u64))
-            && !literals
-                .iter()
-                .any(|kept| trail.literal_value(kept.literal()) == Some(true))
-        {
-            return false;
+        if let Some(literals) = clauses.literals(ClauseId(number as u64)) {
+            let mut some = false;
+            for kept in literals {
+                some |= trail.literal_value(kept.literal()) == Some(true);
+            }
+            all &= some;
         }
     }
     for lemma in &case.theory.lemmas {
-        if !lemma
-            .literals()
-            .iter()
-            .any(|literal| trail.literal_value(*literal) == Some(true))
-        {
-            return false;
+        let mut some = false;
+        for literal in lemma.literals() {
+            some |= trail.literal_value(*literal) == Some(true);
         }
+        all &= some;
     }
-    case.theory
-        .atoms
-        .iter()
-        .all(|atom| trail.value(*atom).is_some())
-        && assumptions
-            .iter()
-            .all(|literal| trail.literal_value(*literal) == Some(true))
-}
-
-/// Puts a literal as a number, behind a space.
-fn put(literal: Lit, out: &mut String) -> Result<(), AllocError> {
-    let sign = if literal.positive { "" } else { "-" };
-    write!(out, " {sign}{}", literal.atom)
-}
-
-/// Puts the literals of a clause.
-fn put_clause(engine: &Engine, id: ClauseId, out: &mut String) -> Result<(), AllocError> {
-    match engine.clauses().literals(id) {
-        None => write!(out, " none")?,
-        Some(literals) => {
-            for kept in literals {
-                put(kept.literal(), out)?;
-            }
-        }
+    for atom in &case.theory.atoms {
+        all &= trail.value(*atom).is_some();
     }
-    Ok(())
-}
-
-/// Takes a step of the engine.
-fn step(engine: &mut Engine, words: &[&str], out: &mut String) -> Result<(), Failure> {
-    match words {
-        [what @ ("decide" | "assign"), word, why @ ..] => {
-            let literal = literal(word)?;
-            let trail = engine.trail();
-            if literal.atom >= trail.reserved() as u64 || trail.value(literal.atom).is_some() {
-                return Err(Failure::Lost);
-            }
-            match why.first() {
-                None => engine.decide(literal),
-                Some(id) => engine.assign(literal, ClauseId(number(id)?)),
-            }
-            if *what == "decide" {
-                propagate(engine, true, out)?;
-            }
-        }
-        ["back", level] => engine.backtrack(number(level)? as usize),
-        ["drop", level] => engine.drop_above(number(level)?),
-        ["forget"] => engine.drop_all(),
-        ["clear"] => engine.clear(),
-        ["propagate"] => propagate(engine, false, out)?,
-        ["settle"] => propagate(engine, true, out)?,
-        ["trail"] => {
-            let trail = engine.trail();
-            write!(
-                out,
-                "level {}, {} literals:",
-                trail.current_level(),
-                trail.len()
-            )?;
-            for entry in trail.literals() {
-                put(entry.literal(), out)?;
-            }
-            writeln!(out)?;
-        }
-        ["value", atom] => {
-            let number = number(atom)?;
-            let trail = engine.trail();
-            let (value, level) = (trail.value(number), trail.level(number));
-            let reason = trail.reason(number).map(|id| id.0);
-            writeln!(
-                out,
-                "atom {atom}: {value:?}, level {level:?}, clause {reason:?}"
-            )?;
-        }
-        ["clause", id] => {
-            let id = ClauseId(number(id)?);
-            let clauses = engine.clauses();
-            write!(
-                out,
-                "of {} clauses {}, level {:?}:",
-                clauses.len(),
-                id.0,
-                clauses.level(id)
-            )?;
-            put_clause(engine, id, out)?;
-            writeln!(out)?;
-        }
-        _ => return Err(Failure::Input),
+    for literal in assumptions {
+        all &= trail.literal_value(*literal) == Some(true);
     }
-    Ok(())
-}
-
-/// Propagates, and prints the values of all atoms, or how long the trail is and which clause is false.
-fn propagate(engine: &mut Engine, values: bool, out: &mut String) -> Result<(), Failure> {
-    if !engine.has_room() {
-        return Err(Failure::Lost);
-    }
-    let found = engine.propagate();
-    let trail = engine.trail();
-    let len = trail.len();
-    match found {
-        Propagated::Conflict(_) if values => writeln!(out, "a clause is false")?,
-        Propagated::Conflict(id) => writeln!(out, "clause {} is false, {len} literals", id.0)?,
-        Propagated::Done if values => {
-            for atom in 1..trail.reserved() as u64 {
-                out.push(match trail.value(atom) {
-                    Some(true) => '+',
-                    Some(false) => '-',
-                    None => '.',
-                })?;
-            }
-            writeln!(out)?;
-        }
-        Propagated::Done => writeln!(out, "fine, {len} literals")?,
-    }
-    Ok(())
-}
-
-/// Takes a step of the order of decisions, or of the values that atoms had last.
-fn wait(
-    order: &mut Order,
-    phases: &mut Phases,
-    words: &[&str],
-    out: &mut String,
-) -> Result<(), Failure> {
-    match words {
-        ["insert", atom] => order.insert(number(atom)?),
-        ["bump", atom] => order.bump(number(atom)?),
-        ["decay", times] => {
-            for _ in 0..number(times)? {
-                order.decay();
-            }
-        }
-        ["pop"] => {
-            let first = order.first();
-            let before = order.contains(first.unwrap_or(0));
-            let popped = order.pop();
-            let behind = order.contains(first.unwrap_or(0));
-            writeln!(out, "first {first:?} {before}, popped {popped:?} {behind}")?;
-        }
-        ["save", atom, value] => phases.save(number(atom)?, *value == "true"),
-        ["phase", atom] => writeln!(out, "phase {atom}: {}", phases.of(number(atom)?))?,
-        _ => return Err(Failure::Input),
-    }
-    Ok(())
-}
-
-/// Takes a step of what a reader of proofs keeps.
-fn read(
-    alloc: Global,
-    kept: &mut KeptClauses,
-    words: &[&str],
-    out: &mut String,
-) -> Result<(), Failure> {
-    match words {
-        ["kept", level, rest @ ..] => kept.add(&literals(alloc, rest)?, number(level)?)?,
-        ["leave"] => kept.drop_all(),
-        ["leave", level] => kept.drop_above(number(level)?),
-        ["look", id] => {
-            let number = number(id)?;
-            write!(
-                out,
-                "of {} kept {id}, level {:?}:",
-                kept.len(),
-                kept.level(number)
-            )?;
-            match kept.clause(number) {
-                None => write!(out, " none")?,
-                Some(literals) => {
-                    for literal in literals {
-                        put(*literal, out)?;
-                    }
-                }
-            }
-            writeln!(out)?;
-        }
-        ["part", rest @ ..] => {
-            let literals = literals(alloc, rest)?;
-            let (part, is_repeated) = (kept.part_of(&literals)?, kept.is_repeated(&literals)?);
-            writeln!(out, "part {part:?} {is_repeated}")?;
-        }
-        ["learn", rest @ ..] => {
-            let mut parts = rest.split(|word| *word == ":");
-            let literals = literals(alloc, parts.next().unwrap_or_default())?;
-            let mut hints = Vec::new(alloc);
-            for word in parts.next().unwrap_or_default() {
-                hints.push(number(word)?).map_err(AllocError::from)?;
-            }
-            match kept.learned(&literals, &hints) {
-                Ok(level) => writeln!(out, "learned at level {level}")?,
-                Err(NotLearned::NoMemory) => return Err(Failure::NoMemory),
-                Err(why) => writeln!(out, "{why}")?,
-            }
-        }
-        _ => return Err(Failure::Input),
-    }
-    Ok(())
+    all
 }

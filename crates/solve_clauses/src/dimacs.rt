@@ -5,7 +5,7 @@ ghost use Rattle.std.specs.Prelude.{◌≡◌, []};
 use crate::failure::Failure;
 use sb_clauses::Engine;
 use sb_lit::{Clause, Lit};
-use std::alloc::{AllocError, Global};
+use std::alloc::Global;
 use std::io::BufRead;
 use std::mem;
 
@@ -55,9 +55,7 @@ fn read_line(
             return Err(Failure::Input);
         };
         if let Some(atom) = number.checked_sub(1) {
-            literals
-                .push(Lit { atom, positive })
-                .map_err(AllocError::from)?;
+            literals.push(Lit { atom, positive })?;
         } else {
             let clause = Clause::from_literals(mem::replace(literals, Vec::new(alloc)));
             engine.add(&clause, 0)?;

@@ -1,7 +1,7 @@
 //! Why a run failed.
 
 use sb_proof::TapeFault;
-use std::alloc::AllocError;
+use std::alloc::{AllocError, AllocFailed};
 
 /// Why a run failed.
 #[derive(Clone, Copy, Drop)]
@@ -19,6 +19,12 @@ pub enum Failure {
 
 impl From<AllocError> for Failure {
     fn from(_error: AllocError) -> Failure {
+        Failure::NoMemory
+    }
+}
+
+impl<T: Drop> From<AllocFailed<T>> for Failure {
+    fn from(_error: AllocFailed<T>) -> Failure {
         Failure::NoMemory
     }
 }

@@ -8,7 +8,7 @@
 //! order, and `solve_clauses active` by one that decides the atom that was met most of late; each is made false first. It
 //! prints `SATISFIABLE` or `UNSATISFIABLE`, and how many conflicts there were.
 //! `solve_clauses rounds N` reads nothing: so often ten clauses are kept, propagated and dropped. The exit status is 1
-//! where input, output or memory failed or a case can't be read, and 2 where the words are wrong.
+//! where input, output or memory failed, and 2 where the words are wrong.
 #![tactic(auto)]
 
 ghost use Rattle.std.specs.Prelude.{◌≡◌, []};
@@ -20,6 +20,7 @@ mod order;
 mod replayed;
 mod rounds;
 mod search;
+mod steps;
 mod theory;
 
 use crate::cases::go_through;
@@ -29,50 +30,67 @@ use crate::rounds::rounds;
 use crate::search::decide_all;
 use crate::theory::search_plain;
 use sb_clauses::Engine;
+use std::alloc::AllocError;
 use std::env;
 use std::io::{BufReader, Write};
 use std::process::ExitCode;
 
 fn main(rt: HostRuntime) -> ExitCode {
-    match run(rt) {
-        Ok(()) => ExitCode::from(0u8),
-        Err(Failure::Words) => ExitCode::from(2u8),
+    match words(rt) {
+        Ok(words) => match run(rt, &words, &mut Engine::new(rt.alloc())) {
+            Ok(()) => ExitCode::from(0u8),
+            Err(Failure::Words) => ExitCode::from(2u8),
+            Err(_) => ExitCode::from(1u8),
+        },
         Err(_) => ExitCode::from(1u8),
     }
 }
 
-/// Does what the program's words ask for.
-fn run(rt: HostRuntime) -> Result<(), Failure> {
-    let Ok(words) = env::args(&rt) else {
-        return Err(Failure::Words);
-    };
-    let words: Vec<String> = words.collect(rt.alloc())?;
-    let mut engine = Engine::new(rt.alloc());
-    match words.as_slice() {
+/// The program's words.
+fn words(rt: HostRuntime) -> Result<Vec<String>, AllocError> {
+    match env::args(&rt) {
+        Ok(words) => words.collect(rt.alloc()),
+        Err(_) => Ok(Vec::new(rt.alloc())),
+    }
+}
+
+/// Does what the words ask for.
+fn run(rt: HostRuntime, words: &[String], engine: &mut Engine) -> Result<(), Failure>
+    requires { engine.old.trail.literals ≡ [] }
+{
+    match words {
+        [_, word] if word.as_str() == "order" => decide(rt, engine, false),
+        [_, word] if word.as_str() == "active" => decide(rt, engine, true),
+        [_, word, count] if word.as_str() == "rounds" => repeat(rt, engine, count.as_str()),
         [_, word, files @ ..] if word.as_str() == "search" => {
-            read_all(rt, &mut engine)?;
-            let (verdict, steps) = search_plain(rt.alloc(), &mut engine)?;
+            read_all(rt, engine)?;
+            let (verdict, steps) = search_plain(rt.alloc(), engine)?;
             print(rt, verdict.name(), steps)?;
             for file in files {
                 go_through(rt, file.as_str())?;
             }
             Ok(())
         }
-        [_, word] if word.as_str() == "order" || word.as_str() == "active" => {
-            read_all(rt, &mut engine)?;
-            let active = word.as_str() == "active";
-            let (verdict, conflicts) = decide_all(rt.alloc(), &mut engine, active)?;
-            print(rt, verdict.name(), conflicts)
-        }
-        [_, word, count] if word.as_str() == "rounds" => {
-            let Ok(count) = count.parse::<u64>() else {
-                return Err(Failure::Words);
-            };
-            rounds(rt.alloc(), &mut engine, count)?;
-            print(rt, "DONE", count)
-        }
         _ => Err(Failure::Words),
     }
+}
+
+/// Searches by the engine alone.
+fn decide(rt: HostRuntime, engine: &mut Engine, active: bool) -> Result<(), Failure>
+    requires { engine.old.trail.literals ≡ [] }
+{
+    read_all(rt, engine)?;
+    let (verdict, conflicts) = decide_all(rt.alloc(), engine, active)?;
+    print(rt, verdict.name(), conflicts)
+}
+
+/// Makes so many rounds.
+fn repeat(rt: HostRuntime, engine: &mut Engine, count: &str) -> Result<(), Failure> {
+    let Ok(count) = count.parse::<u64>() else {
+        return Err(Failure::Words);
+    };
+    rounds(rt.alloc(), engine, count)?;
+    print(rt, "DONE", count)
 }
 
 /// Reads the clauses of standard input.

@@ -3,7 +3,7 @@
 use crate::failure::Failure;
 use sb_clauses::Engine;
 use sb_lit::{Clause, Lit};
-use std::alloc::{AllocError, Global};
+use std::alloc::Global;
 
 /// So many clauses come in a round.
 const CLAUSES: u64 = 10;
@@ -19,7 +19,7 @@ pub fn rounds(alloc: Global, engine: &mut Engine, count: u64) -> Result<(), Fail
                     atom,
                     positive: true,
                 };
-                literals.push(literal).map_err(AllocError::from)?;
+                literals.push(literal)?;
             }
             engine.add(&Clause::from_literals(literals), 1)?;
         }

@@ -136,13 +136,18 @@ impl Tape for Silent {
     }
 }
 
-/// The theory that wants the atoms from one on below the other, and finds nothing wrong.
-pub fn wanting(alloc: Global, first: u64, end: u64) -> Result<Given, AllocError> {
+/// The atoms from one on below the other.
+pub fn atoms(alloc: Global, first: u64, end: u64) -> Result<Vec<u64>, AllocError> {
     let mut atoms = Vec::new(alloc);
     for atom in first..end {
         atoms.push(atom)?;
     }
-    Ok(Given {
+    Ok(atoms)
+}
+
+/// The theory that wants these atoms, and finds nothing wrong.
+pub fn wanting(alloc: Global, atoms: Vec<u64>) -> Given {
+    Given {
         alloc,
         atoms,
         lemmas: Vec::new(alloc),
@@ -150,7 +155,7 @@ pub fn wanting(alloc: Global, first: u64, end: u64) -> Result<Given, AllocError>
         asked: 0,
         last: 0,
         back: 0,
-    })
+    }
 }
 
 /// Searches for values of all atoms, over a theory that finds nothing wrong and a tape that keeps nothing. Says how many
@@ -158,7 +163,7 @@ pub fn wanting(alloc: Global, first: u64, end: u64) -> Result<Given, AllocError>
 pub fn search_plain(alloc: Global, engine: &mut Engine) -> Result<(Verdict, u64), Failure>
     requires { engine.old.trail.literals ≡ [] }
 {
-    let mut theory = wanting(alloc, 0, engine.atoms() as u64)?;
+    let mut theory = wanting(alloc, atoms(alloc, 0, engine.atoms() as u64)?);
     let mut budget = Budget::new(u64::MAX);
     match search(alloc, &mut theory, engine, &mut Silent, &[], &mut budget)? {
         Found::Sat => Ok((Verdict::Satisfiable, budget.spent())),
