@@ -9,5 +9,5 @@ returns-in-Err-NotACharacter c =
     let error = c.in-Err-NotACharacter in
     let o = subst (λ e. OutsideFault {T = List ℕ} codes (Err e)) error.field-0-is
     (subst (OutsideFault {T = List ℕ} codes) error.is c.from_codes.ensures.outside) in
-    no_word_in c.args.numbers.now codes (c.as_slice.ensures ∙ rw c.in-Some.is at c.in_ok-codes.ensures)
+    no_word_in c.args.numbers.now codes (c.as_slice.ensures.value ∙ rw c.in-Some.is at c.in_ok-codes.ensures)
     (outside_fails codes error.field-0-0 o.code o.there o.outside)
