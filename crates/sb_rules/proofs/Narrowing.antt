@@ -72,20 +72,3 @@ class-none ranges found is h =
 pub narrowed-none : (ranges : List Range) (found : Option (Vec Range Global)) → found ≡ None
     → AreNarrowed ranges found → IsClassOf ranges None
 narrowed-none ranges found is h = subst (λ (o : Option (Vec Range Global)). AreNarrowed ranges o) is h
-
-pub class-found : (ranges narrow : List Range) (wide : Option (Vec Range Global)) (vec : Vec Range Global)
-    (found : Option (List Range)) → wide ≡ Some vec → AreNarrowed ranges wide → narrow ≡ vec.items
-    → MatchOption found (IsCanonical narrow → ⊥) (λ class. class ≡ narrow) → IsClassOf ranges found
-class-found ranges narrow wide vec found is same e h = step found (h)
-  where
-    items : narrow ≡ ranges
-    items = e ∙ subst (λ (o : Option (Vec Range Global)). AreNarrowed ranges o) is same
-
-    none : (b : Bool) → rises_from 0 narrow ≡ b → (IsCanonical narrow → ⊥) → b ≡ false
-    none true is no = absurd (no is)
-    none false is no = refl
-
-    step : (o : Option (List Range)) → MatchOption o (IsCanonical narrow → ⊥) (λ class. class ≡ narrow)
-        → IsClassOf ranges o
-    step None no = ap (rises_from 0) (sym items) ∙ none (rises_from 0 narrow) refl no
-    step (Some class) same = same ∙ items

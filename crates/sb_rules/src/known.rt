@@ -140,7 +140,8 @@ impl KnownRegexes {
         ensures { result ≡ is_some (targets_in self.now.expansions number) }
     {
         match self.expansions.get(number as usize) {
-            Some(targets) => targets.is_some(),
+            Some(Some(_)) => true,
+            Some(None) => false,
             None => false,
         }
     }
