@@ -1,12 +1,7 @@
 -- Private: ranges of numbers, as sets of characters.
 use Rattle.std.specs.Global.{Global}
-use Rattle.std.specs.Prelude.{Vec, ◌≡◌, false, ◌&&◌, nat_le, List, Option, Some, None}
+use Rattle.std.specs.Prelude.{Vec, ◌≡◌, false, List, Option, Some, None}
 use Rattle.sb_class.specs.Ranges.{Range, rises_from}
-
--- the same range, or its ends are not characters
-abbrev pub IsNarrowed : Range → Option Range → Type 0
-IsNarrowed range (Some narrow) = narrow ≡ range
-IsNarrowed range None = (nat_le range.0 0x2ffff && nat_le range.1 0x2ffff) ≡ false
 
 -- the same ranges, or they are no canonical set
 abbrev pub AreNarrowed : List Range → Option (Vec Range Global) → Type 0

@@ -140,8 +140,7 @@ impl KnownRegexes {
         ensures { result ≡ is_some (targets_in self.now.expansions number) }
     {
         match self.expansions.get(number as usize) {
-            Some(Some(_)) => true,
-            Some(None) => false,
+            Some(targets) => targets.is_some(),
             None => false,
         }
     }

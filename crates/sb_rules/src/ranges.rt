@@ -1,7 +1,7 @@
 //! Ranges of numbers, as sets of characters.
 
 ghost use Rattle.std.specs.Prelude.{IfOk};
-ghost use Rattle.sb_rules.specs.Ranging.{AreNarrowed, IsClassOf, IsNarrowed};
+ghost use Rattle.sb_rules.specs.Ranging.{AreNarrowed, IsClassOf};
 
 use sb_class::{Class, LAST_CHARACTER};
 use std::alloc::{AllocError, Global};
@@ -22,22 +22,10 @@ fn narrowed(alloc: Global, ranges: &[(u64, u64)]) -> Result<Option<Vec<(u32, u32
 {
     let mut narrow = Vec::with_capacity(alloc, ranges.len())?;
     for range in ranges {
-        let Some(range) = narrow_range(*range) else {
+        if range.0 > LAST_CHARACTER as u64 || range.1 > LAST_CHARACTER as u64 {
             return Ok(None);
-        };
-        narrow.push(range)?;
+        }
+        narrow.push((range.0 as u32, range.1 as u32))?;
     }
     Ok(Some(narrow))
-}
-
-/// The range, if its ends are characters.
-fn narrow_range(range: (u64, u64)) -> Option<(u32, u32)>
-    ensures { IsNarrowed range result }
-{
-    let (first, last) = range;
-    if first <= LAST_CHARACTER as u64 && last <= LAST_CHARACTER as u64 {
-        Some((first as u32, last as u32))
-    } else {
-        None
-    }
 }
