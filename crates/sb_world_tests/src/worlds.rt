@@ -1,6 +1,6 @@
 //! Worlds in memory, gone through call by call.
 
-ghost use Rattle.std.specs.Prelude.{◌<◌};
+ghost use Rattle.std.specs.Prelude.{◌<◌, length};
 ghost use Rattle.sb_world.specs.Worlds.{outside_of, faults_of};
 
 use sb_world::{CalmWorld, InPort, MemWorld, Opened, OutPort, World, WorldError, write_all};
@@ -90,15 +90,8 @@ fn make<W: World>(
             }
             Call::ReadAll(port, most, bytes) => {
                 let mut part = [0; 16];
-                let part = &mut part[..(*most).clamp(1, 16)];
-                let mut all = Vec::new(alloc);
-                for _ in 0..100 {
-                    let count = world.read(*port, part)?;
-                    if count == 0 {
-                        break;
-                    }
-                    all.extend_from_slice(&part[..count])?;
-                }
+                let all = &mut Vec::new(alloc);
+                read_all(world, *port, &mut part[..(*most).clamp(1, 16)], all)?;
                 assert_eq!(rt; all.as_slice(), *bytes);
             }
             Call::Write(port, bytes, wanted) => {
@@ -112,12 +105,37 @@ fn make<W: World>(
     Ok(())
 }
 
-fn name_of(opened: &Opened) -> Option<&str> {
-    match opened {
-        Opened::Not => None,
-        Opened::Nameless => Some(""),
-        Opened::Named(name) => Some(name.as_str()),
+/// What is left of an input, read as many bytes at a time as the buffer has.
+fn read_all<W: World>(
+    world: &mut W,
+    port: InPort,
+    buffer: &mut [u8],
+    all: &mut Vec<u8>,
+) -> Result<(), WorldError>
+    requires { 0 < length buffer.old }
+{
+    for _ in 0..100 {
+        let count = world.read(port, buffer)?;
+        if count == 0 {
+            break;
+        }
+        all.extend_from_slice(&buffer[..count])?;
     }
+    Ok(())
+}
+
+/// Expects a port to be opened by this name, the empty one where it has none, or not to be opened.
+fn expect_opened(rt: &impl Abort, opened: &Opened, name: Option<&str>) {
+    let same = match opened {
+        Opened::Not => name.is_none(),
+        Opened::Nameless => name == Some(""),
+        Opened::Named(opened) => name == Some(opened.as_str()),
+    };
+    assert!(rt; same);
+}
+
+fn expect_written(rt: &impl Abort, written: &[u8], bytes: &[u8]) {
+    assert_eq!(rt; written, bytes);
 }
 
 /// Looks at what the ports of a world hold.
@@ -125,13 +143,9 @@ macro_rules! look {
     ($rt:expr, $world:expr, $held:expr) => {
         for one in $held {
             match one {
-                Held::Opened(port, name) => {
-                    assert_eq!($rt; name_of($world.opened(*port)), *name);
-                }
-                Held::Created(port, name) => {
-                    assert_eq!($rt; name_of($world.created(*port)), *name);
-                }
-                Held::Written(port, bytes) => assert_eq!($rt; $world.written(*port), *bytes),
+                Held::Opened(port, name) => expect_opened($rt, $world.opened(*port), *name),
+                Held::Created(port, name) => expect_opened($rt, $world.created(*port), *name),
+                Held::Written(port, bytes) => expect_written($rt, $world.written(*port), bytes),
             }
         }
     };
@@ -160,16 +174,26 @@ fn expect_in_memory(
 {
     let memory = MemWorld::new(alloc);
     let mut world = PacedWorld { memory, slow };
-    for (name, bytes) in FILES {
+    world.memory.read_at_most(longest);
+    over_memory(&mut world, rt, alloc, failing, stages)
+}
+
+fn over_memory(
+    world: &mut PacedWorld,
+    rt: &impl Abort,
+    alloc: Global,
+    failing: &[u64],
+    stages: &[Stage],
+) -> Result<(), WorldError> {
+    for (name, bytes) in &FILES {
         world.memory.add_file(name, bytes)?;
     }
     world.memory.set_standard_input(b"(exit)")?;
-    world.memory.read_at_most(longest);
     for call in failing {
         world.memory.fail_at(*call)?;
     }
     for stage in stages {
-        make(&mut world, rt, alloc, stage.calls)?;
+        make(world, rt, alloc, stage.calls)?;
         look!(rt, world.memory, stage.held);
         assert_eq!(rt; (world.memory.calls(), world.memory.faults()), stage.counts);
     }
@@ -177,14 +201,18 @@ fn expect_in_memory(
 }
 
 /// Goes through the stages over a `CalmWorld`, which counts nothing.
-fn expect_calmly(rt: &impl Abort, alloc: Global, stages: &[Stage]) -> Result<(), WorldError> {
-    let mut world = CalmWorld::new(alloc);
-    for (name, bytes) in FILES {
+fn expect_calmly(
+    world: &mut CalmWorld,
+    rt: &impl Abort,
+    alloc: Global,
+    stages: &[Stage],
+) -> Result<(), WorldError> {
+    for (name, bytes) in &FILES {
         world.add_file(name, bytes)?;
     }
     world.set_standard_input(b"(exit)")?;
     for stage in stages {
-        make(&mut world, rt, alloc, stage.calls)?;
+        make(world, rt, alloc, stage.calls)?;
         look!(rt, world, stage.held);
     }
     Ok(())
@@ -349,15 +377,15 @@ const CUT: [Stage; 1] = [Stage {
 fn worlds_answer_each_call(rt: HostRuntime) -> Result<(), Fail> {
     let alloc = rt.alloc();
     expect_in_memory(&rt, alloc, false, usize::MAX, &[], &INPUTS)?;
-    expect_calmly(&rt, alloc, &INPUTS)?;
+    expect_calmly(&mut CalmWorld::new(alloc), &rt, alloc, &INPUTS)?;
     expect_in_memory(&rt, alloc, false, 1, &[], &BY_ONE)?;
     expect_in_memory(&rt, alloc, false, 2, &[], &BY_TWO)?;
     expect_in_memory(&rt, alloc, false, 7, &[], &BY_SEVEN)?;
     expect_in_memory(&rt, alloc, false, usize::MAX, &[], &UNKNOWN_FAILS)?;
-    expect_calmly(&rt, alloc, &UNKNOWN_IS_EMPTY)?;
+    expect_calmly(&mut CalmWorld::new(alloc), &rt, alloc, &UNKNOWN_IS_EMPTY)?;
     expect_in_memory(&rt, alloc, false, usize::MAX, &[], &OUTPUTS)?;
     expect_in_memory(&rt, alloc, true, usize::MAX, &[], &BYTES)?;
-    expect_calmly(&rt, alloc, &OUTPUTS)?;
+    expect_calmly(&mut CalmWorld::new(alloc), &rt, alloc, &OUTPUTS)?;
     expect_in_memory(&rt, alloc, false, usize::MAX, &[2, 3, 4, 5], &FAILING)?;
     expect_in_memory(&rt, alloc, true, usize::MAX, &[4], &CUT)?;
     Ok(())
