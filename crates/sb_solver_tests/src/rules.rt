@@ -6,6 +6,7 @@ ghost use Rattle.sb_rules.specs.Kept.{IsOver};
 use sb_proof::read_line;
 use sb_rules::{Fault, Kept, Refusal};
 use sb_term::{Sort, Table};
+use std::alloc::AllocError;
 use std::test::Fail;
 
 /// A line, a limit, and why the line is refused, if it is.
@@ -111,10 +112,14 @@ fn lines_are_judged_up_to_a_limit(rt: HostRuntime) -> Result<(), Fail> {
             let line = read_line(alloc, text.as_bytes(), true)??;
             let refusal = match kept.follows(&table, &[], &SORTS, *limit, &line) {
                 Ok(()) => None,
-                Err(Fault::Refused(refusal)) => Some(refusal),
-                Err(Fault::NoMemory) => return Err(AllocError.into()),
+                Err(Fault::Refused(refusal)) => Some(refusal as u8),
+                Err(Fault::NoMemory) => return Err(AllocError)?,
             };
-            assert!(rt; refusal == *wanted, "{text}");
+            let wanted = match wanted {
+                Some(refusal) => Some(*refusal as u8),
+                None => None,
+            };
+            assert!(rt; refusal == wanted, "{text}");
         }
     }
     Ok(())

@@ -32,7 +32,7 @@ fn verdicts_are_settled(rt: HostRuntime) -> Result<(), Fail> {
     for _ in 0..3 {
         let next = feed.next()?;
         match stack.apply(&next)? {
-            Step::Answer(text) => answers.extend_from_slice(text)?,
+            Step::Answer(text) => answers.extend_from_slice(&text)?,
             _ => assert!(rt; false),
         }
     }
@@ -119,8 +119,7 @@ fn what_the_solver_writes_the_checker_accepts(rt: HostRuntime) -> Result<(), Fai
     ];
     for (script, wanted) in rows {
         let (solved, checked) = solve_and_check(rt.alloc(), script)?;
-        assert_eq!(rt; solved, wanted);
-        assert_eq!(rt; checked, CheckStatus::Accepted);
+        assert!(rt; solved == wanted && checked == CheckStatus::Accepted);
     }
     Ok(())
 }

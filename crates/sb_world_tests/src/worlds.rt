@@ -370,23 +370,32 @@ const CUT: [Stage; 1] = [Stage {
     counts: (4, 1),
 }];
 
-/// Inputs give their files and standard input, and reads of any length give the bytes in order. An unknown name fails in
-/// memory, and is empty in a calm world. Outputs collect their bytes. A listed call fails once and changes nothing, and
-/// a write that fails in mid-stream leaves the front.
+/// Whether writes are slow, how many bytes a read gives at most, which calls fail, and the stages: inputs give their files
+/// and standard input, and reads of any length give the bytes in order; an unknown name fails; outputs collect their
+/// bytes; a listed call fails once and changes nothing; a write that fails in mid-stream leaves the front.
+const IN_MEMORY: [(bool, usize, &'static [u64], &'static [Stage]); 9] = [
+    (false, usize::MAX, &[], &INPUTS),
+    (false, 1, &[], &BY_ONE),
+    (false, 2, &[], &BY_TWO),
+    (false, 7, &[], &BY_SEVEN),
+    (false, usize::MAX, &[], &UNKNOWN_FAILS),
+    (false, usize::MAX, &[], &OUTPUTS),
+    (true, usize::MAX, &[], &BYTES),
+    (false, usize::MAX, &[2, 3, 4, 5], &FAILING),
+    (true, usize::MAX, &[4], &CUT),
+];
+
+/// In a calm world an unknown name is empty, and nothing fails.
+const CALM: [&'static [Stage]; 3] = [&INPUTS, &UNKNOWN_IS_EMPTY, &OUTPUTS];
+
 #[test]
 fn worlds_answer_each_call(rt: HostRuntime) -> Result<(), Fail> {
-    let alloc = rt.alloc();
-    expect_in_memory(&rt, alloc, false, usize::MAX, &[], &INPUTS)?;
-    expect_calmly(&mut CalmWorld::new(alloc), &rt, alloc, &INPUTS)?;
-    expect_in_memory(&rt, alloc, false, 1, &[], &BY_ONE)?;
-    expect_in_memory(&rt, alloc, false, 2, &[], &BY_TWO)?;
-    expect_in_memory(&rt, alloc, false, 7, &[], &BY_SEVEN)?;
-    expect_in_memory(&rt, alloc, false, usize::MAX, &[], &UNKNOWN_FAILS)?;
-    expect_calmly(&mut CalmWorld::new(alloc), &rt, alloc, &UNKNOWN_IS_EMPTY)?;
-    expect_in_memory(&rt, alloc, false, usize::MAX, &[], &OUTPUTS)?;
-    expect_in_memory(&rt, alloc, true, usize::MAX, &[], &BYTES)?;
-    expect_calmly(&mut CalmWorld::new(alloc), &rt, alloc, &OUTPUTS)?;
-    expect_in_memory(&rt, alloc, false, usize::MAX, &[2, 3, 4, 5], &FAILING)?;
-    expect_in_memory(&rt, alloc, true, usize::MAX, &[4], &CUT)?;
+    for (slow, longest, failing, stages) in &IN_MEMORY {
+        let longest = (*longest).max(1);
+        expect_in_memory(&rt, rt.alloc(), *slow, longest, failing, stages)?;
+    }
+    for stages in &CALM {
+        expect_calmly(&mut CalmWorld::new(rt.alloc()), &rt, rt.alloc(), stages)?;
+    }
     Ok(())
 }
