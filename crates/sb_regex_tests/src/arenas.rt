@@ -1,13 +1,14 @@
 //! Regexes are interned in their normal form.
 
-ghost use Rattle.std.specs.Prelude.{◌<◌, length, IfOk};
+ghost use Rattle.std.specs.Prelude.{◌≡◌, ◌<◌, [], length, IfOk};
 
-use crate::terms::{regex, regexes};
+use crate::terms::{put_regexes, regex};
 use sb_deriv::Deriver;
 use sb_regex::{Arena, Node, RegexId};
-use sb_word::Word;
+use sb_word::{CodesError, Word};
 use std::alloc::{AllocError, Global};
 use std::cmp::Ordering;
+use std::process::Abort;
 use std::test::Fail;
 
 /// Texts of one regex: a union drops none and joins sets, an intersection of sets has what they have in common,
@@ -71,37 +72,41 @@ const ORDERED: [&[u8]; 4] = [
     b"a{18446744073709551615,18446744073709551615}",
 ];
 
-#[test]
-fn regexes_are_normal(rt: HostRuntime) -> Result<(), Fail> {
-    let alloc = rt.alloc();
-    let mut arena = Arena::new(alloc);
+/// Whether one comes before the other.
+fn precedes(arena: &Arena, a: RegexId, b: RegexId) -> bool {
+    a.number() < arena.len() && b.number() < arena.len() && arena.compare(a, b) == Ordering::Less
+}
+
+fn are_normal(rt: &impl Abort, alloc: Global, arena: &mut Arena) -> Result<(), AllocError> {
     for (left, right) in &SAME {
-        let left = regex(alloc, &mut arena, left)?;
-        assert_eq!(rt; left, regex(alloc, &mut arena, right)?);
+        assert!(rt; regex(alloc, arena, left)? == regex(alloc, arena, right)?);
     }
-    for (text, empty, length, (may, must)) in &ROWS {
-        let r = regex(alloc, &mut arena, text)?;
+    for (text, empty, length, wanted) in &ROWS {
+        let r = regex(alloc, arena, text)?;
         assert_eq!(rt; arena.nullable(r), *empty);
         let lengths = arena.lengths(r);
-        assert_eq!(rt;
-            (lengths.may(*length), lengths.must(*length)),
-            (*may, *must)
-        );
+        assert_eq!(rt; (lengths.may(*length), lengths.must(*length)), *wanted);
     }
-    let mut before = None;
-    for text in &ORDERED {
-        let r = regex(alloc, &mut arena, text)?;
-        if let Some(before) = before {
-            let before: RegexId = before;
-            assert!(rt; before.number() < arena.len());
-            assert!(rt; arena.compare(before, r) == Ordering::Less);
-        }
-        before = Some(r);
+    for pair in ORDERED.windows(2) {
+        let [left, right] = pair else {
+            continue;
+        };
+        let (left, right) = (regex(alloc, arena, left)?, regex(alloc, arena, right)?);
+        assert!(rt; precedes(arena, left, right));
     }
     Ok(())
 }
 
-/// The union of regexes, none where one is not known.
+/// The regex of a word.
+fn word(alloc: Global, arena: &mut Arena, codes: &[u32]) -> Result<RegexId, AllocError> {
+    match Word::from_codes(alloc, codes) {
+        Ok(word) => arena.word(&word),
+        Err(CodesError::NotACharacter(_)) => arena.none(),
+        Err(CodesError::NoMemory) => Err(AllocError),
+    }
+}
+
+/// The union of regexes; an error where one is not known.
 fn alt(arena: &mut Arena, ids: &[RegexId]) -> Result<RegexId, AllocError>
     ensures { IfOk result (λ id. id < length arena.new) }
 {
@@ -112,99 +117,135 @@ fn alt(arena: &mut Arena, ids: &[RegexId]) -> Result<RegexId, AllocError>
     arena.alt(ids)
 }
 
+/// The members of a union.
+fn members_of(arena: &Arena, r: RegexId) -> &[RegexId] {
+    if r.number() < arena.len()
+        && let Node::Alt(parts) = arena.node(r)
+    {
+        return parts.as_slice();
+    }
+    &[]
+}
+
 /// Sets of a union become one, and its members stand in their order, each once; no member at all of an intersection is
 /// every word; a word is its characters.
-#[test]
-fn members_stand_in_order(rt: HostRuntime) -> Result<(), Fail> {
-    let alloc = rt.alloc();
-    let mut arena = Arena::new(alloc);
-    let ids = regexes(alloc, &mut arena, &[b"Z", b"a", b"aa.", b"a*", b"N", b"b"])?;
-    assert_eq!(rt; ids.len(), 6);
-    let both = alt(&mut arena, &[ids[1], ids[4], ids[5]])?;
+fn stand_in_order(
+    rt: &impl Abort,
+    alloc: Global,
+    arena: &mut Arena,
+    ids: &mut Vec<RegexId>,
+) -> Result<(), AllocError> {
+    put_regexes(alloc, arena, &[b"Z", b"a", b"aa.", b"a*", b"N", b"b"], ids)?;
+    let [eps, a, pair, repeated, none, b] = ids.as_slice() else {
+        return Err(AllocError);
+    };
+    let union = alt(arena, &[*repeated, *pair, *repeated])?;
+    let whole = alt(arena, &[union, *a, *eps, *pair])?;
+    assert!(rt; arena.nullable(whole));
+    assert!(rt; members_of(arena, whole) == [*eps, *a, *pair, *repeated].as_slice());
+    let both = alt(arena, &[*a, *none, *b])?;
     match arena.node(both) {
         Node::Set(ranges) => assert_eq!(rt; ranges.as_slice(), [(0x61, 0x62)].as_slice()),
         _ => assert!(rt; false),
     }
-    let union = alt(&mut arena, &[ids[3], ids[2], ids[3]])?;
-    let whole = alt(&mut arena, &[union, ids[1], ids[0], ids[2]])?;
-    assert!(rt; arena.nullable(whole));
-    match arena.node(whole) {
-        Node::Alt(parts) => assert_eq!(rt; parts.as_slice(), &ids[..4]),
-        _ => assert!(rt; false),
-    }
-    let none = arena.and(&[])?;
-    assert_eq!(rt; none, regex(alloc, &mut arena, b"E*")?);
-    let letters = arena.word(&Word::from_codes(alloc, &[0x61, 0x62, 0x63])?)?;
-    assert_eq!(rt; letters, regex(alloc, &mut arena, b"ab.c.")?);
+    let every = arena.and(&[])?;
+    assert!(rt; every == regex(alloc, arena, b"E*")?);
+    let letters = word(alloc, arena, &[0x61, 0x62, 0x63])?;
+    assert!(rt; letters == regex(alloc, arena, b"ab.c.")?);
+    Ok(())
+}
+
+#[test]
+fn regexes_are_normal(rt: HostRuntime) -> Result<(), Fail> {
+    let alloc = rt.alloc();
+    are_normal(&rt, alloc, &mut Arena::new(alloc))?;
+    stand_in_order(&rt, alloc, &mut Arena::new(alloc), &mut Vec::new(alloc))?;
     Ok(())
 }
 
 /// The union of 5000 words of five characters that begin with an `a`, or of `ab` behind as many characters.
-fn union_of_words(alloc: Global, arena: &mut Arena, own: bool) -> Result<RegexId, AllocError>
+fn union_of_words(
+    alloc: Global,
+    arena: &mut Arena,
+    words: &mut Vec<RegexId>,
+    own: bool,
+) -> Result<RegexId, AllocError>
     ensures { IfOk result (λ id. id < length arena.new) }
 {
-    let mut words = Vec::new(alloc);
+    words.clear();
     for n in 0..5000 {
-        let word = if own {
-            Word::from_codes(alloc, &[0x100 + 2 * n, 0x61, 0x62])
+        words.push(if own {
+            word(alloc, arena, &[0x100 + 2 * n, 0x61, 0x62])?
         } else {
             let (second, third) = (0x62 + n % 7, 0x61 + n % 11);
-            Word::from_codes(
+            word(
                 alloc,
+                arena,
                 &[0x61, second, third, 0x100 + n / 100, 0x200 + n % 100],
-            )
-        };
-        let Ok(word) = word else {
-            return Err(AllocError);
-        };
-        words.push(arena.word(&word)?)?;
+            )?
+        })?;
     }
-    alt(arena, &words)
+    alt(arena, words)
 }
 
 /// A union of many words stands as it is, and so does its derivative where they begin with as many characters.
-#[test]
-fn a_union_of_many_words(rt: HostRuntime) -> Result<(), Fail> {
-    let alloc = rt.alloc();
-    let mut arena = Arena::new(alloc);
-    let union = union_of_words(alloc, &mut arena, false)?;
-    match arena.node(union) {
-        Node::Alt(parts) => assert_eq!(rt; parts.len(), 5000),
-        _ => assert!(rt; false),
-    }
-    let twice = alt(&mut arena, &[union, union])?;
-    assert_eq!(rt; twice, union);
-    let union = union_of_words(alloc, &mut arena, true)?;
-    let mut deriver = Deriver::new(alloc);
-    deriver.derive(&mut arena, union)?;
-    let derivative = deriver.derivative(union).ok_or("no derivative")?;
+fn many_words(
+    rt: &impl Abort,
+    alloc: Global,
+    arena: &mut Arena,
+    words: &mut Vec<RegexId>,
+    deriver: &mut Deriver,
+) -> Result<(), AllocError>
+    requires { deriver.old ≡ [] }
+{
+    let union = union_of_words(alloc, arena, words, false)?;
+    assert_eq!(rt; members_of(arena, union).len(), 5000);
+    assert!(rt; alt(arena, &[union, union])? == union);
+    let union = union_of_words(alloc, arena, words, true)?;
+    deriver.derive(arena, union)?;
+    let derivative = deriver.derivative(union).expect(rt, "a derivative");
     assert_eq!(rt; derivative.pieces().len(), 10001);
-    assert_eq!(rt; derivative.value_at(0x100), derivative.value_at(0x102));
+    assert!(rt; derivative.value_at(0x100) == derivative.value_at(0x102));
     Ok(())
 }
 
 /// A word of 5000 characters comes before itself twice, and is followed to its end.
-#[test]
-fn a_long_word(rt: HostRuntime) -> Result<(), Fail> {
-    let alloc = rt.alloc();
-    let mut codes = Vec::new(alloc);
+fn long_word(
+    rt: &impl Abort,
+    alloc: Global,
+    arena: &mut Arena,
+    codes: &mut Vec<u32>,
+    deriver: &mut Deriver,
+) -> Result<(), AllocError>
+    requires { deriver.old ≡ [] }
+{
     for n in 0..5000u32 {
         codes.push(n % 13)?;
     }
-    let word = Word::from_codes(alloc, &codes)?;
-    let mut arena = Arena::new(alloc);
-    let once = arena.word(&word)?;
-    let twice = arena.cat(once, once)?;
+    let once = word(alloc, arena, codes)?;
     assert!(rt; once.number() < arena.len());
-    assert!(rt; arena.compare(once, twice) == Ordering::Less);
+    let twice = arena.cat(once, once)?;
+    assert!(rt; precedes(arena, once, twice));
     assert_eq!(rt; arena.len(), 10013);
-    let mut deriver = Deriver::new(alloc);
     let mut r = once;
     for c in codes.iter() {
         assert!(rt; r.number() < arena.len() && *c <= 0x2ffff);
-        deriver.derive(&mut arena, r)?;
-        r = deriver.derivative(r).ok_or("no derivative")?.value_at(*c);
+        deriver.derive(arena, r)?;
+        r = deriver
+            .derivative(r)
+            .expect(rt, "a derivative")
+            .value_at(*c);
     }
     assert!(rt; r.number() < arena.len() && arena.nullable(r));
+    Ok(())
+}
+
+#[test]
+fn a_union_of_many_words_and_a_long_word(rt: HostRuntime) -> Result<(), Fail> {
+    let alloc = rt.alloc();
+    let (arena, deriver) = (&mut Arena::new(alloc), &mut Deriver::new(alloc));
+    many_words(&rt, alloc, arena, &mut Vec::new(alloc), deriver)?;
+    let (arena, deriver) = (&mut Arena::new(alloc), &mut Deriver::new(alloc));
+    long_word(&rt, alloc, arena, &mut Vec::new(alloc), deriver)?;
     Ok(())
 }

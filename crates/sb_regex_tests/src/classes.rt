@@ -76,11 +76,46 @@ fn expect_set(
     let (ranges, outside, cuts) = *row;
     assert_eq!(rt; set.ranges(), ranges);
     assert_eq!(rt; set.is_empty(), ranges.is_empty());
-    assert_eq!(rt; set.least(), ranges.first().map(|first| first.0));
-    assert_eq!(rt; set.complement()?.ranges(), outside);
-    assert_eq!(rt; set.cuts()?.as_slice(), cuts);
+    match ranges {
+        [] => assert!(rt; set.least().is_none()),
+        [(first, _), ..] => assert!(rt; set.least() == Some(*first)),
+    }
+    let other = set.complement()?;
+    assert_eq!(rt; other.ranges(), outside);
+    let found = set.cuts()?;
+    assert_eq!(rt; found.as_slice(), cuts);
     Ok(())
 }
+
+/// The ranges of what is in either set, and in both, are these.
+fn expect_joined(
+    rt: &impl Abort,
+    left: &Class,
+    right: &Class,
+    either: &[(u32, u32)],
+    both: &[(u32, u32)],
+) -> Result<(), AllocError> {
+    let found = left.union(right)?;
+    assert_eq!(rt; found.ranges(), either);
+    let found = left.inter(right)?;
+    assert_eq!(rt; found.ranges(), both);
+    Ok(())
+}
+
+fn expect_members(rt: &impl Abort, set: &Class, within: &[u32], outside: &[u32]) {
+    for c in within {
+        assert!(rt; set.contains(*c), "{c:x} is a member");
+    }
+    for c in outside {
+        assert!(rt; !set.contains(*c), "{c:x} is no member");
+    }
+}
+
+const BETWEEN: (Ranges, Ranges, &[u32]) = (
+    &[(0x61, 0x7a)],
+    &[(0, 0x60), (0x7b, 0x2ffff)],
+    &[0x61, 0x7b],
+);
 
 #[test]
 fn ranges_members_cuts_and_what_is_refused(rt: HostRuntime) -> Result<(), Fail> {
@@ -90,28 +125,21 @@ fn ranges_members_cuts_and_what_is_refused(rt: HostRuntime) -> Result<(), Fail> 
     }
     expect_set(&rt, &Class::empty(alloc), &AROUND[0])?;
     expect_set(&rt, &Class::full(alloc)?, &AROUND[1])?;
-    let letters: (Ranges, Ranges, &[u32]) = (
-        &[(0x61, 0x7a)],
-        &[(0, 0x60), (0x7b, 0x2ffff)],
-        &[0x61, 0x7b],
-    );
-    expect_set(&rt, &Class::range(alloc, 0x61, 0x7a)?, &letters)?;
+    expect_set(&rt, &Class::range(alloc, 0x61, 0x7a)?, &BETWEEN)?;
     for [left, right, either, both] in &JOINED {
-        let left = class(alloc, left)?;
-        let right = class(alloc, right)?;
-        assert_eq!(rt; left.union(&right)?.ranges(), *either);
-        assert_eq!(rt; left.inter(&right)?.ranges(), *both);
+        expect_joined(
+            &rt,
+            &class(alloc, left)?,
+            &class(alloc, right)?,
+            either,
+            both,
+        )?;
     }
     for ranges in &REFUSED {
-        assert!(rt; Class::from_ranges(alloc, ranges)?.is_none());
+        let found = Class::from_ranges(alloc, ranges)?;
+        assert!(rt; found.is_none());
     }
-    let letters = class(alloc, LETTERS)?;
-    for c in &WITHIN {
-        assert!(rt; letters.contains(*c), "{c:x} is a member");
-    }
-    for c in &OUTSIDE {
-        assert!(rt; !letters.contains(*c), "{c:x} is no member");
-    }
+    expect_members(&rt, &class(alloc, LETTERS)?, &WITHIN, &OUTSIDE);
     Ok(())
 }
 
@@ -133,32 +161,55 @@ const CHARACTERS: [u32; 34] = [
 
 /// Membership, computed range by range.
 fn in_any(ranges: &[(u32, u32)], c: u32) -> bool {
-    ranges.iter().any(|range| range.0 <= c && c <= range.1)
+    let mut found = false;
+    for (low, high) in ranges {
+        found |= *low <= c && c <= *high;
+    }
+    found
 }
 
-/// What is outside a set has the characters that its ranges don't have, and the set the others; what is in either of two
-/// sets, and what is in both, by the ranges.
+/// What is outside a set has the characters that its ranges don't have, and the set the others.
+fn compare_one(rt: &impl Abort, ranges: &[(u32, u32)], set: &Class) -> Result<(), AllocError> {
+    let outside = set.complement()?;
+    for c in &CHARACTERS {
+        let within = in_any(ranges, *c);
+        assert_eq!(rt; set.contains(*c), within);
+        assert_eq!(rt; outside.contains(*c), *c <= LAST_CHARACTER && !within);
+    }
+    Ok(())
+}
+
+/// What is in either of two sets, and what is in both, by the ranges.
+fn compare_two(
+    rt: &impl Abort,
+    left: &[(u32, u32)],
+    right: &[(u32, u32)],
+    a: &Class,
+    b: &Class,
+) -> Result<(), AllocError> {
+    let either = a.union(b)?;
+    let both = a.inter(b)?;
+    for c in &CHARACTERS {
+        let (in_left, in_right) = (in_any(left, *c), in_any(right, *c));
+        assert_eq!(rt; either.contains(*c), in_left || in_right);
+        assert_eq!(rt; both.contains(*c), in_left && in_right);
+    }
+    Ok(())
+}
+
 #[test]
 fn operations_agree_with_membership_one_by_one(rt: HostRuntime) -> Result<(), Fail> {
     let alloc = rt.alloc();
     for left in &SETS {
-        let a = class(alloc, left)?;
-        let outside = a.complement()?;
-        for c in &CHARACTERS {
-            let within = in_any(left, *c);
-            assert_eq!(rt; a.contains(*c), within);
-            assert_eq!(rt; outside.contains(*c), *c <= LAST_CHARACTER && !within);
-        }
+        compare_one(&rt, left, &class(alloc, left)?)?;
         for right in &SETS {
-            let b = class(alloc, right)?;
-            let either = a.union(&b)?;
-            let both = a.inter(&b)?;
-            for c in &CHARACTERS {
-                let in_left = in_any(left, *c);
-                let in_right = in_any(right, *c);
-                assert_eq!(rt; either.contains(*c), in_left || in_right);
-                assert_eq!(rt; both.contains(*c), in_left && in_right);
-            }
+            compare_two(
+                &rt,
+                left,
+                right,
+                &class(alloc, left)?,
+                &class(alloc, right)?,
+            )?;
         }
     }
     Ok(())

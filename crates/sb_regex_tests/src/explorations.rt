@@ -1,13 +1,15 @@
 //! Words that explorations and walks over the members of unions find, and what of them stays.
 
-ghost use Rattle.std.specs.Prelude.{◌<◌, length};
+ghost use Rattle.std.specs.Prelude.{◌<◌, List, length};
+ghost use Rattle.sb_lang.specs.Regex.{Regex};
 ghost use Rattle.sb_graph.specs.Findings.{IsGraph};
 
 use crate::terms::regex;
 use sb_deriv::Deriver;
 use sb_graph::{Explored, Graph, Outcome, Within, find_word};
-use sb_regex::Arena;
+use sb_regex::{Arena, RegexId};
 use std::alloc::{AllocError, Global};
+use std::process::Abort;
 use std::test::Fail;
 
 /// Regexes and their shortest and least words, if they have one; of the first twenty they are those that a plain matcher
@@ -44,38 +46,80 @@ const FOUND: [(&[u8], Option<&[u8]>); 29] = [
     (b"aZ|{2,3}E*b.|E*b.&", Some(b"b")),
 ];
 
-/// The letters of the word that was found.
-fn letters_of(alloc: Global, explored: &Explored) -> Result<Option<Vec<u8>>, AllocError> {
-    match explored {
-        Explored::Alive(word) => {
-            let codes = word.codes().iter();
-            Ok(Some(codes.map(|code| (*code & 0x7f) as u8).collect(alloc)?))
-        }
-        Explored::Dead => Ok(None),
+/// Whether the word that was found is of these letters, none where there is none.
+fn is_word(explored: &Explored, letters: Option<&[u8]>) -> bool {
+    match (explored, letters) {
+        (Explored::Dead, None) => true,
+        (Explored::Alive(word), Some(letters)) => are_letters(word.codes(), letters),
+        _ => false,
     }
 }
 
-/// The word that is found is the shortest, and the least of those.
-#[test]
-fn the_word_is_the_shortest_and_the_least_of_those(rt: HostRuntime) -> Result<(), Fail> {
-    let alloc = rt.alloc();
-    let mut arena = Arena::new(alloc);
-    for (text, letters) in &FOUND {
-        let r = regex(alloc, &mut arena, text)?;
-        let mut graph = Graph::new(alloc);
-        assert!(rt; !graph.is_dead(r));
-        for _ in 0..2 {
-            assert!(rt; r.number() < arena.len());
-            let explored = graph.explore(&mut arena, r)?;
-            assert_eq!(rt; letters_of(alloc, &explored)?.as_deref(), *letters);
-            assert_eq!(rt; graph.is_dead(r), letters.is_none());
+fn are_letters(codes: &[u32], letters: &[u8]) -> bool {
+    for (code, letter) in codes.iter().zip(letters.iter()) {
+        if *code != u32::from(*letter) {
+            return false;
         }
-        assert!(rt; r.number() < arena.len());
-        let explored = Graph::new(alloc).answer(&mut arena, r)?;
-        assert_eq!(rt; letters_of(alloc, &explored)?.as_deref(), *letters);
     }
-    let ends = regex(alloc, &mut arena, b"YW.WY.|")?;
-    match Graph::new(alloc).explore(&mut arena, ends)? {
+    codes.len() == letters.len()
+}
+
+/// Explores a regex, which finds the word of these letters.
+fn explore(
+    rt: &impl Abort,
+    arena: &mut Arena,
+    graph: &mut Graph,
+    r: RegexId,
+    letters: Option<&[u8]>,
+) -> Result<(), AllocError>
+    requires { IsGraph arena.old graph.old }
+    ensures { OnOk result (IsGraph arena.new graph.new) }
+{
+    assert!(rt; r.number() < arena.len());
+    let explored = graph.explore(arena, r)?;
+    assert!(rt; is_word(&explored, letters));
+    Ok(())
+}
+
+/// Asks a graph that knows nothing, which finds the word of these letters.
+fn answer(
+    rt: &impl Abort,
+    alloc: Global,
+    arena: &mut Arena,
+    r: RegexId,
+    letters: Option<&[u8]>,
+) -> Result<(), AllocError> {
+    assert!(rt; r.number() < arena.len());
+    let explored = Graph::new(alloc).answer(arena, r)?;
+    assert!(rt; is_word(&explored, letters));
+    Ok(())
+}
+
+/// A regex is marked where it has no word, and found so when it is asked for again.
+fn marks(
+    rt: &impl Abort,
+    arena: &mut Arena,
+    graph: &mut Graph,
+    r: RegexId,
+    letters: Option<&[u8]>,
+) -> Result<(), AllocError>
+    requires { (regexes : List Regex) → IsGraph regexes graph.old }
+{
+    assert!(rt; !graph.is_dead(r));
+    explore(rt, arena, graph, r, letters)?;
+    assert!(rt; graph.is_dead(r) == letters.is_none());
+    explore(rt, arena, graph, r, letters)
+}
+
+/// The word that is found is the shortest, and the least of those.
+fn all_find(rt: &impl Abort, alloc: Global, arena: &mut Arena) -> Result<(), AllocError> {
+    for (text, letters) in &FOUND {
+        let r = regex(alloc, arena, text)?;
+        marks(rt, arena, &mut Graph::new(alloc), r, *letters)?;
+        answer(rt, alloc, arena, r, *letters)?;
+    }
+    let ends = regex(alloc, arena, b"YW.WY.|")?;
+    match Graph::new(alloc).explore(arena, ends)? {
         Explored::Alive(word) => assert_eq!(rt; word.codes(), [0, 0x2ffff].as_slice()),
         Explored::Dead => assert!(rt; false),
     }
@@ -104,19 +148,31 @@ const LIMITS: [(&[u8], usize, Found); 9] = [
 ];
 
 /// An exploration stops where it may expand no more regexes.
-#[test]
-fn an_exploration_stops_at_its_limit(rt: HostRuntime) -> Result<(), Fail> {
-    let alloc = rt.alloc();
+fn stops(
+    rt: &impl Abort,
+    arena: &mut Arena,
+    graph: &mut Graph,
+    root: RegexId,
+    limit: usize,
+    wanted: Found,
+) -> Result<(), AllocError>
+    requires known { root < length arena.old }
+    requires graph { (regexes : List Regex) → IsGraph regexes graph.old }
+{
+    let found = match graph.answer_within(arena, root, limit)? {
+        Within::Found(Explored::Alive(_)) => Found::Alive,
+        Within::Found(Explored::Dead) => Found::Dead,
+        Within::Limit => Found::Limit,
+    };
+    assert!(rt; found == wanted && graph.expanded().len() <= limit);
+    Ok(())
+}
+
+fn all_stop(rt: &impl Abort, alloc: Global) -> Result<(), AllocError> {
     for (text, limit, wanted) in &LIMITS {
-        let mut arena = Arena::new(alloc);
-        let root = regex(alloc, &mut arena, text)?;
-        let mut graph = Graph::new(alloc);
-        let found = match graph.answer_within(&mut arena, root, *limit)? {
-            Within::Found(Explored::Alive(_)) => Found::Alive,
-            Within::Found(Explored::Dead) => Found::Dead,
-            Within::Limit => Found::Limit,
-        };
-        assert!(rt; found == *wanted && graph.expanded().len() <= *limit);
+        let arena = &mut Arena::new(alloc);
+        let root = regex(alloc, arena, text)?;
+        stops(rt, arena, &mut Graph::new(alloc), root, *limit, *wanted)?;
     }
     Ok(())
 }
@@ -133,19 +189,31 @@ const WALKS: [(&[u8], usize, usize); 7] = [
 ];
 
 /// A walk finds the word, or that there is none, or meets its bound.
+fn walks(
+    rt: &impl Abort,
+    alloc: Global,
+    arena: &mut Arena,
+    text: &[u8],
+    bound: usize,
+    length: usize,
+) -> Result<(), AllocError> {
+    let root = regex(alloc, arena, text)?;
+    let found = match find_word(alloc, arena, &mut Deriver::new(alloc), root, bound)? {
+        Outcome::Found(word) => word.codes().len(),
+        Outcome::Empty => 1000000,
+        Outcome::Bounded => 2000000,
+    };
+    assert_eq!(rt; found, length);
+    Ok(())
+}
+
 #[test]
-fn a_walk_finds_the_word_or_none_or_meets_its_bound(rt: HostRuntime) -> Result<(), Fail> {
+fn explorations_find_the_least_word_or_stop(rt: HostRuntime) -> Result<(), Fail> {
     let alloc = rt.alloc();
+    all_find(&rt, alloc, &mut Arena::new(alloc))?;
+    all_stop(&rt, alloc)?;
     for (text, bound, length) in &WALKS {
-        let mut arena = Arena::new(alloc);
-        let root = regex(alloc, &mut arena, text)?;
-        let mut deriver = Deriver::new(alloc);
-        let found = match find_word(alloc, &mut arena, &mut deriver, root, *bound)? {
-            Outcome::Found(word) => word.codes().len(),
-            Outcome::Empty => 1000000,
-            Outcome::Bounded => 2000000,
-        };
-        assert_eq!(rt; found, *length);
+        walks(&rt, alloc, &mut Arena::new(alloc), text, *bound, *length)?;
     }
     Ok(())
 }
@@ -158,84 +226,152 @@ fn put(text: &mut Vec<u8>, piece: &[u8], times: usize) -> Result<(), AllocError>
     Ok(())
 }
 
-/// The word is found behind very many derivatives, and so is that there is none. Of the regexes, the first is
-/// `(a|b)*a(a|b)^60`, which has 2^60 derivatives, the second has all `a^i E` and `E a^i` up to 100 in it, and the others
-/// are `E*a E^n` and `E*b E^n`, with an `a` and a `b` in one place, or with `b` one place farther from the end.
-#[test]
-fn words_behind_many_derivatives(rt: HostRuntime) -> Result<(), Fail> {
-    let alloc = rt.alloc();
-    let mut many = Vec::new(alloc);
-    put(&mut many, b"ab|*a", 1)?;
-    put(&mut many, b"ab|", 60)?;
-    put(&mut many, b".", 61)?;
-    let mut runs = Vec::new(alloc);
-    put(&mut runs, b"$*", 1)?;
-    for i in 1..101 {
-        put(&mut runs, b"a", i)?;
-        put(&mut runs, b"$*", 1)?;
-        put(&mut runs, b".", i)?;
-        put(&mut runs, b"&$*", 1)?;
-        put(&mut runs, b"a", i)?;
-        put(&mut runs, b".", i)?;
-        put(&mut runs, b"&", 1)?;
-    }
-    for (text, length) in [(&many, 61), (&runs, 100)] {
-        let mut arena = Arena::new(alloc);
-        let root = regex(alloc, &mut arena, text)?;
-        let explored = Graph::new(alloc).answer(&mut arena, root)?;
-        let letters = letters_of(alloc, &explored)?.ok_or("no word")?;
-        assert_eq!(rt; letters.len(), length);
-        assert!(rt; letters.iter().all(|letter| *letter == b'a'));
-        assert!(rt; arena.len() < 1000);
-    }
-    for (n, m, length) in [(2, 2, None), (20, 20, None), (20, 21, Some(22))] {
-        let mut text = Vec::new(alloc);
-        put(&mut text, b"E*a", 1)?;
-        put(&mut text, b"E", n)?;
-        put(&mut text, b".", n + 1)?;
-        put(&mut text, b"E*b", 1)?;
-        put(&mut text, b"E", m)?;
-        put(&mut text, b".", m + 1)?;
-        put(&mut text, b"&", 1)?;
-        let mut arena = Arena::new(alloc);
-        let root = regex(alloc, &mut arena, &text)?;
-        let mut graph = Graph::new(alloc);
-        let explored = graph.least_word(&mut arena, root)?;
-        let letters = letters_of(alloc, &explored)?;
-        assert_eq!(rt; letters.map(|letters| letters.len()), length);
-        assert!(rt; graph.expanded().len() <= 100);
+/// Puts the text of `(a|b)*a(a|b)^n`, which has 2^n derivatives.
+fn put_many(text: &mut Vec<u8>, n: usize) -> Result<(), AllocError> {
+    put(text, b"ab|*a", 1)?;
+    put(text, b"ab|", n)?;
+    put(text, b".", n)?;
+    put(text, b".", 1)
+}
+
+/// Puts the text of all `a^i E` and `E a^i` up to n in one, with the letters in the place of every character.
+fn put_runs(text: &mut Vec<u8>, n: usize) -> Result<(), AllocError> {
+    put(text, b"$*", 1)?;
+    for i in 0..n {
+        put(text, b"a", i)?;
+        put(text, b"a$*", 1)?;
+        put(text, b".", i)?;
+        put(text, b".&$*", 1)?;
+        put(text, b"a", i)?;
+        put(text, b"a", 1)?;
+        put(text, b".", i)?;
+        put(text, b".&", 1)?;
     }
     Ok(())
 }
 
-/// Derivatives stay, so two regexes that lead to one regex share its derivative; and as many regexes are expanded as an
-/// exploration needs.
+/// Puts the text of `E*a E^n` and `E*b E^m` in one.
+fn put_places(text: &mut Vec<u8>, n: usize, m: usize) -> Result<(), AllocError> {
+    put(text, b"E*a", 1)?;
+    put(text, b"E", n)?;
+    put(text, b".", n)?;
+    put(text, b".E*b", 1)?;
+    put(text, b"E", m)?;
+    put(text, b".", m)?;
+    put(text, b".&", 1)
+}
+
+/// The word is all `a`, so many, and few regexes are made for it.
+fn finds_run(
+    rt: &impl Abort,
+    alloc: Global,
+    arena: &mut Arena,
+    text: &[u8],
+    length: usize,
+) -> Result<(), AllocError> {
+    let root = regex(alloc, arena, text)?;
+    answer(
+        rt,
+        alloc,
+        arena,
+        root,
+        Some(&[b'a'; 100][..length.min(100)]),
+    )?;
+    assert!(rt; arena.len() < 1000);
+    Ok(())
+}
+
+/// The least word is so long, none where there is none, and few regexes are expanded for it.
+fn finds_least(
+    rt: &impl Abort,
+    alloc: Global,
+    arena: &mut Arena,
+    graph: &mut Graph,
+    text: &[u8],
+    length: Option<usize>,
+) -> Result<(), AllocError>
+    requires { (regexes : List Regex) → IsGraph regexes graph.old }
+{
+    let root = regex(alloc, arena, text)?;
+    let found = match graph.least_word(arena, root)? {
+        Explored::Alive(word) => Some(word.codes().len()),
+        Explored::Dead => None,
+    };
+    assert_eq!(rt; found, length);
+    assert!(rt; graph.expanded().len() <= 100);
+    Ok(())
+}
+
+/// A word is found behind very many derivatives.
+fn runs_are_found(rt: &impl Abort, alloc: Global, text: &mut Vec<u8>) -> Result<(), AllocError> {
+    put_many(text, 60)?;
+    finds_run(rt, alloc, &mut Arena::new(alloc), text, 61)?;
+    text.clear();
+    put_runs(text, 100)?;
+    finds_run(rt, alloc, &mut Arena::new(alloc), text, 100)
+}
+
+/// That there is no word is seen behind very many derivatives: of an `a` and a `b` in one place from the end, and not
+/// where the `b` is one place farther.
+fn places_are_found(rt: &impl Abort, alloc: Global, text: &mut Vec<u8>) -> Result<(), AllocError> {
+    for (n, m, length) in &[(2, 2, None), (20, 20, None), (20, 21, Some(22))] {
+        text.clear();
+        put_places(text, *n, *m)?;
+        let (arena, graph) = (&mut Arena::new(alloc), &mut Graph::new(alloc));
+        finds_least(rt, alloc, arena, graph, text, *length)?;
+    }
+    Ok(())
+}
+
+#[test]
+fn words_behind_many_derivatives(rt: HostRuntime) -> Result<(), Fail> {
+    runs_are_found(&rt, rt.alloc(), &mut Vec::new(rt.alloc()))?;
+    places_are_found(&rt, rt.alloc(), &mut Vec::new(rt.alloc()))?;
+    Ok(())
+}
+
+/// Derivatives stay, so two regexes that lead to one regex share its derivative.
+fn share(
+    rt: &impl Abort,
+    alloc: Global,
+    arena: &mut Arena,
+    graph: &mut Graph,
+) -> Result<(), AllocError>
+    requires { (regexes : List Regex) → IsGraph regexes graph.old }
+{
+    let rest = regex(alloc, arena, b"x*b.c.")?;
+    let first = regex(alloc, arena, b"ax*b.c..")?;
+    let second = regex(alloc, arena, b"cx*b.c..")?;
+    assert!(rt; graph.derivative(rest).is_none());
+    explore(rt, arena, graph, first, Some(b"abc"))?;
+    assert!(rt; graph.derivative(rest).is_some());
+    assert!(rt; graph.derivative(second).is_none());
+    explore(rt, arena, graph, second, Some(b"cbc"))?;
+    let count = graph.expanded().len();
+    explore(rt, arena, graph, first, Some(b"abc"))?;
+    assert!(rt; graph.expanded().len() == count);
+    Ok(())
+}
+
+/// The words of two letters, both 50 and 51 of them, are none, and as many regexes are expanded as that needs.
+fn expands(
+    rt: &impl Abort,
+    alloc: Global,
+    arena: &mut Arena,
+    graph: &mut Graph,
+) -> Result<(), AllocError>
+    requires { (regexes : List Regex) → IsGraph regexes graph.old }
+{
+    let apart = regex(alloc, arena, b"ab|{50,50}ab|{51,51}&")?;
+    explore(rt, arena, graph, apart, None)?;
+    assert_eq!(rt; graph.expanded().len(), 52);
+    Ok(())
+}
+
 #[test]
 fn derivatives_of_an_exploration_stay(rt: HostRuntime) -> Result<(), Fail> {
     let alloc = rt.alloc();
-    let mut arena = Arena::new(alloc);
-    let rest = regex(alloc, &mut arena, b"x*b.c.")?;
-    let second = regex(alloc, &mut arena, b"cx*b.c..")?;
-    let first = regex(alloc, &mut arena, b"ax*b.c..")?;
-    let mut graph = Graph::new(alloc);
-    let mut counts = [0; 3];
-    let turns = [(first, b"abc"), (second, b"cbc"), (first, b"abc")];
-    for (turn, (root, word)) in turns.iter().enumerate() {
-        assert!(rt; graph.derivative(rest).is_some() == (turn > 0));
-        assert!(rt; graph.derivative(second).is_some() == (turn > 1));
-        assert!(rt; root.number() < arena.len() && turn < 3);
-        let explored = graph.explore(&mut arena, *root)?;
-        assert_eq!(rt;
-            letters_of(alloc, &explored)?.as_deref(),
-            Some(word.as_slice())
-        );
-        counts[turn] = graph.expanded().len();
-    }
-    assert_eq!(rt; counts[2], counts[1]);
-    let apart = regex(alloc, &mut arena, b"ab|{50,50}ab|{51,51}&")?;
-    let mut graph = Graph::new(alloc);
-    let explored = graph.explore(&mut arena, apart)?;
-    assert!(rt; letters_of(alloc, &explored)?.is_none());
-    assert_eq!(rt; graph.expanded().len(), 52);
+    share(&rt, alloc, &mut Arena::new(alloc), &mut Graph::new(alloc))?;
+    expands(&rt, alloc, &mut Arena::new(alloc), &mut Graph::new(alloc))?;
     Ok(())
 }

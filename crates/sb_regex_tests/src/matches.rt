@@ -1,12 +1,15 @@
 //! Which words match by derivatives by one character at a time, and cut points.
 
-ghost use Rattle.std.specs.Prelude.{◌<◌, length};
+ghost use Rattle.std.specs.Prelude.{◌<◌, List, length};
+ghost use Rattle.sb_lang.specs.Regex.{Regex};
 ghost use Rattle.sb_plain.specs.Memory.{IsRight};
 
-use crate::terms::{regex, regexes};
+use crate::terms::{put_regexes, regex};
 use sb_plain::Plain;
-use sb_regex::Arena;
+use sb_regex::{Arena, RegexId};
 use sb_word::Word;
+use std::alloc::{AllocError, Global};
+use std::process::Abort;
 use std::test::Fail;
 
 /// Regexes, how many of the words match, and the sum of their places.
@@ -27,34 +30,72 @@ const ROWS: [(&[u8], usize, usize); 14] = [
     (b"ab|*a.ab|.ab|.", 12, 504),
 ];
 
-/// Of the words of up to four letters `a` to `c`, the shorter ones first, so many match.
-#[test]
-fn words_match_as_said(rt: HostRuntime) -> Result<(), Fail> {
-    let alloc = rt.alloc();
-    let mut words = Vec::new(alloc);
+/// The word of the characters.
+fn word_of(alloc: Global, codes: &[u32]) -> Result<Word, AllocError> {
+    match Word::from_codes(alloc, codes) {
+        Ok(word) => Ok(word),
+        Err(_) => Err(AllocError),
+    }
+}
+
+/// Puts the words of up to four letters `a` to `c`, the shorter ones first.
+fn put_words(alloc: Global, words: &mut Vec<Word>) -> Result<(), AllocError> {
     for place in 0..121u32 {
-        let mut codes = Vec::new(alloc);
+        let mut codes = [0; 4];
         let mut rest = place;
+        let mut start = 4;
         for _ in 0..4 {
-            if rest > 0 {
-                codes.push(0x61 + (rest - 1) % 3)?;
+            if rest > 0 && start > 0 {
+                start -= 1;
+                codes[start] = 0x61 + (rest - 1) % 3;
                 rest = (rest - 1) / 3;
             }
         }
-        codes.reverse();
-        words.push(Word::from_codes(alloc, &codes)?)?;
+        words.push(word_of(alloc, &codes[start..])?)?;
     }
-    let mut arena = Arena::new(alloc);
-    for (text, count, sum) in &ROWS {
-        let r = regex(alloc, &mut arena, text)?;
-        let mut plain = Plain::new(alloc);
-        let mut found: (usize, usize) = (0, 0);
-        for (place, word) in words.iter().enumerate() {
-            assert!(rt; r.number() < arena.len());
-            if plain.matches(&mut arena, word, r)? {
-                found = (found.0.wrapping_add(1), found.1.wrapping_add(place));
-            }
+    Ok(())
+}
+
+/// How many of the words match, and the sum of their places.
+fn matching(
+    rt: &impl Abort,
+    arena: &mut Arena,
+    plain: &mut Plain,
+    words: &[Word],
+    r: RegexId,
+) -> Result<(usize, usize), AllocError>
+    requires { IsRight arena.old plain.old }
+{
+    let mut count: usize = 0;
+    let mut sum: usize = 0;
+    for (place, word) in words.iter().enumerate() {
+        assert!(rt; r.number() < arena.len());
+        if plain.matches(arena, word, r)? {
+            count = count.wrapping_add(1);
+            sum = sum.wrapping_add(place);
         }
+    }
+    Ok((count, sum))
+}
+
+/// Whether a regex has a word.
+fn matches(alloc: Global, arena: &mut Arena, word: &Word, r: RegexId) -> Result<bool, AllocError> {
+    if r.number() < arena.len() {
+        return Plain::new(alloc).matches(arena, word, r);
+    }
+    Err(AllocError)
+}
+
+fn rows_match(
+    rt: &impl Abort,
+    alloc: Global,
+    arena: &mut Arena,
+    words: &mut Vec<Word>,
+) -> Result<(), AllocError> {
+    put_words(alloc, words)?;
+    for (text, count, sum) in &ROWS {
+        let r = regex(alloc, arena, text)?;
+        let found = matching(rt, arena, &mut Plain::new(alloc), words, r)?;
         assert_eq!(rt; found, (*count, *sum));
     }
     Ok(())
@@ -96,30 +137,31 @@ const RUNS: [(&[u8], usize, bool); 5] = [
     (b"a{200,18446744073709551615}", 250, true),
 ];
 
-/// A repetition has the words between its bounds, and cut points are ends of ranges.
-#[test]
-fn repetitions_and_cut_points_are_as_said(rt: HostRuntime) -> Result<(), Fail> {
-    let alloc = rt.alloc();
-    let mut arena = Arena::new(alloc);
+/// The word of the letters, so many times.
+fn letters(alloc: Global, text: &[u8], times: usize) -> Result<Word, AllocError> {
+    let mut codes = Vec::new(alloc);
+    put_letters(&mut codes, text, times)?;
+    word_of(alloc, &codes)
+}
+
+fn put_letters(codes: &mut Vec<u32>, text: &[u8], times: usize) -> Result<(), AllocError> {
+    for _ in 0..times {
+        for letter in text {
+            codes.push(u32::from(*letter))?;
+        }
+    }
+    Ok(())
+}
+
+/// A repetition has the words between its bounds.
+fn repetitions_match(rt: &impl Abort, alloc: Global, arena: &mut Arena) -> Result<(), AllocError> {
     for (text, word, wanted) in &REPETITIONS {
-        let codes = word
-            .iter()
-            .map(|byte| u32::from(*byte))
-            .collect::<Vec<u32>>(alloc)?;
-        let word = Word::from_codes(alloc, &codes)?;
-        let r = regex(alloc, &mut arena, text)?;
-        assert_eq!(rt; Plain::new(alloc).matches(&mut arena, &word, r)?, *wanted);
+        let r = regex(alloc, arena, text)?;
+        assert!(rt; matches(alloc, arena, &letters(alloc, word, 1)?, r)? == *wanted);
     }
     for (text, count, wanted) in &RUNS {
-        let codes = vec![in alloc; 0x61u32; *count]?;
-        let word = Word::from_codes(alloc, &codes)?;
-        let r = regex(alloc, &mut arena, text)?;
-        assert_eq!(rt; Plain::new(alloc).matches(&mut arena, &word, r)?, *wanted);
-    }
-    for (text, wanted) in &POINTS {
-        let r = regex(alloc, &mut arena, text)?;
-        let points = Plain::new(alloc).cut_points(&mut arena, r)?;
-        assert_eq!(rt; points.as_slice(), *wanted);
+        let r = regex(alloc, arena, text)?;
+        assert!(rt; matches(alloc, arena, &letters(alloc, b"a", *count)?, r)? == *wanted);
     }
     Ok(())
 }
@@ -184,25 +226,81 @@ const WALK: [&[u32]; 22] = [
     &[0x61, 0x62, 0x62, 0x62, 0x62, 0x62, 0x61],
 ];
 
-/// Words that go on, go back and part match by one memory for all of them as by a memory of its own for each.
+/// Cut points are ends of ranges.
+fn points_are(
+    rt: &impl Abort,
+    arena: &mut Arena,
+    plain: &mut Plain,
+    r: RegexId,
+    wanted: &[u32],
+) -> Result<(), AllocError>
+    requires known { r < length arena.old }
+    requires right { IsRight arena.old plain.old }
+{
+    let points = plain.cut_points(arena, r)?;
+    assert_eq!(rt; points.as_slice(), wanted);
+    Ok(())
+}
+
+fn rows_have_points(rt: &impl Abort, alloc: Global, arena: &mut Arena) -> Result<(), AllocError> {
+    for (text, wanted) in &POINTS {
+        let r = regex(alloc, arena, text)?;
+        points_are(rt, arena, &mut Plain::new(alloc), r, wanted)?;
+    }
+    Ok(())
+}
+
+/// A word matches by one memory for all of them as by a memory of its own for each regex.
+fn match_as_anew(
+    rt: &impl Abort,
+    alloc: Global,
+    arena: &mut Arena,
+    plain: &mut Plain,
+    rs: &[RegexId],
+    word: &Word,
+) -> Result<(), AllocError>
+    requires right { IsRight arena.old plain.old }
+    ensures right { IsRight arena.new plain.new }
+{
+    for r in rs {
+        let anew = matches(alloc, arena, word, *r)?;
+        assert!(rt; r.number() < arena.len());
+        assert!(rt; plain.matches(arena, word, *r)? == anew);
+    }
+    Ok(())
+}
+
+/// Words that go on, go back and part.
+fn walks_match(
+    rt: &impl Abort,
+    alloc: Global,
+    arena: &mut Arena,
+    plain: &mut Plain,
+    rs: &mut Vec<RegexId>,
+) -> Result<(), AllocError>
+    requires { (regexes : List Regex) → IsRight regexes plain.old }
+{
+    put_regexes(alloc, arena, &FRONTS, rs)?;
+    assert_eq!(rt; rs.len() * WALK.len(), 330);
+    for codes in &WALK {
+        match_as_anew(rt, alloc, arena, plain, rs, &word_of(alloc, codes)?)?;
+    }
+    Ok(())
+}
+
+#[test]
+fn words_match_as_said(rt: HostRuntime) -> Result<(), Fail> {
+    let alloc = rt.alloc();
+    rows_match(&rt, alloc, &mut Arena::new(alloc), &mut Vec::new(alloc))?;
+    repetitions_match(&rt, alloc, &mut Arena::new(alloc))?;
+    rows_have_points(&rt, alloc, &mut Arena::new(alloc))?;
+    Ok(())
+}
+
 #[test]
 fn words_that_go_on_go_back_and_part_match_as_anew(rt: HostRuntime) -> Result<(), Fail> {
     let alloc = rt.alloc();
-    let mut arena = Arena::new(alloc);
-    let rs = regexes(alloc, &mut arena, &FRONTS)?;
-    let mut plain = Plain::new(alloc);
-    let mut compared: usize = 0;
-    for codes in &WALK {
-        let word = Word::from_codes(alloc, codes)?;
-        for r in rs.iter() {
-            assert!(rt; r.number() < arena.len());
-            let found = plain.matches(&mut arena, &word, *r)?;
-            assert!(rt; r.number() < arena.len());
-            let anew = Plain::new(alloc).matches(&mut arena, &word, *r)?;
-            assert_eq!(rt; found, anew);
-            compared = compared.wrapping_add(1);
-        }
-    }
-    assert_eq!(rt; compared, 330);
+    let (arena, plain) = (&mut Arena::new(alloc), &mut Plain::new(alloc));
+    walks_match(&rt, alloc, arena, plain, &mut Vec::new(alloc))?;
     Ok(())
 }

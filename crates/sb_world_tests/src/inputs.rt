@@ -3,7 +3,7 @@
 ghost use Rattle.std.specs.Prelude.{◌<◌};
 
 use sb_input::{Entries, EntriesFault, Found, Lines, LinesFault};
-use sb_reader::{Ending, Next, Refusal, Shape};
+use sb_reader::{Ending, Next, Refusal, Sexpr, Shape};
 use sb_world::{InPort, MemWorld, World};
 use std::alloc::Global;
 use std::process::Abort;
@@ -25,41 +25,48 @@ const ENTRIES: [(u64, &'static [u8], &'static [u8]); 10] = [
     (2, b"b", b"-$"),
 ];
 
-/// The sign of an answer, a `?` for another one.
-fn sign_of(next: &Next) -> u8 {
-    match next {
-        Next::Command(form) => match form.shape() {
-            Shape::List([Shape::Symbol(name), ..]) => name.first().copied().unwrap_or(b'?'),
-            _ => b'?',
-        },
+/// The sign of the next answer, a `?` for another one.
+fn next_sign(entries: &mut Entries, world: &mut MemWorld) -> Result<u8, EntriesFault> {
+    Ok(match entries.advance(world)? {
+        Next::Command(form) => first_letter(&form),
         Next::Refused(Refusal::BareToken) => b'-',
         Next::NotYet => b'.',
         Next::Ended(Ending::Clean) => b'$',
+        _ => b'?',
+    })
+}
+
+/// The first letter of a form, a `?` where it begins with no symbol.
+fn first_letter(form: &Sexpr) -> u8 {
+    let Shape::List(forms) = form.shape() else {
+        return b'?';
+    };
+    match forms.split_first() {
+        Some((Shape::Symbol(name), _)) => name.first().copied().unwrap_or(b'?'),
         _ => b'?',
     }
 }
 
 /// Reads a script in pieces that are no longer than the longest, where the call of this number fails; no call has the
 /// number 0. Answers the number of calls.
-fn expect_entries(
+fn read_entries(
     rt: &impl Abort,
-    alloc: Global,
-    row: &(u64, &[u8], &[u8]),
+    entries: &mut Entries,
+    world: &mut MemWorld,
+    script: &[u8],
+    signs: &[u8],
     longest: usize,
     failing: u64,
 ) -> Result<u64, EntriesFault>
     requires { 0 < longest }
 {
-    let (limit, script, signs) = *row;
-    let mut world = MemWorld::new(alloc);
-    let mut entries = Entries::new(alloc, limit);
     world.set_standard_input(script)?;
     world.read_at_most(longest);
     world.fail_at(failing)?;
     world.open_input(InPort::Script, None)?;
     for sign in signs {
-        match entries.advance(&mut world) {
-            Ok(next) => assert_eq!(rt; sign_of(&next), *sign),
+        match next_sign(entries, world) {
+            Ok(found) => assert_eq!(rt; found, *sign),
             Err(EntriesFault::Fault) => {
                 assert!(rt; failing != 0 && world.faults() == 1);
                 return Ok(0);
@@ -71,94 +78,126 @@ fn expect_entries(
     Ok(world.calls())
 }
 
-/// A limit, a proof, and what is found, with the line; without one the line is empty.
-const LINES: [(u64, &'static [u8], &'static [(Found, &'static [u8])]); 6] = [
-    (0, b"", &[(Found::Limit, b""), (Found::Limit, b"")]),
-    (0, b"a\n", &[(Found::Limit, b""), (Found::Limit, b"")]),
-    (
-        4,
-        b"a\nbcd\ne",
-        &[
-            (Found::Line { ended: true }, b"a"),
-            (Found::Limit, b""),
-            (Found::Limit, b""),
-        ],
-    ),
-    (
-        2,
-        b"a\nbcd\ne",
-        &[
-            (Found::Line { ended: true }, b"a"),
-            (Found::Limit, b""),
-            (Found::Limit, b""),
-        ],
-    ),
-    (
-        5,
-        b"a\nbcd",
-        &[
-            (Found::Line { ended: true }, b"a"),
-            (Found::Limit, b""),
-            (Found::Limit, b""),
-        ],
-    ),
+/// Reads a script so without a fault, and then with one at each call behind the opening.
+fn expect_entries(
+    rt: &impl Abort,
+    alloc: Global,
+    row: &(u64, &[u8], &[u8]),
+    longest: usize,
+) -> Result<(), EntriesFault>
+    requires { 0 < longest }
+{
+    let (limit, script, signs) = *row;
+    let mut calls = 0;
+    for failing in 0..100 {
+        if failing == 1 {
+            continue;
+        }
+        if failing > calls {
+            return Ok(());
+        }
+        let (entries, world) = (&mut Entries::new(alloc, limit), &mut MemWorld::new(alloc));
+        let made = read_entries(rt, entries, world, script, signs, longest, failing)?;
+        if failing == 0 {
+            calls = made;
+        }
+    }
+    Ok(())
+}
+
+/// A limit, a proof, and a sign for what is found with the line: `+` for a line that is ended, `~` for one that is not, `$`
+/// at the end and `.` where the limit is met, without a line.
+const LINES: [(u64, &'static [u8], &'static [(u8, &'static [u8])]); 6] = [
+    (0, b"", &[(b'.', b""), (b'.', b"")]),
+    (0, b"a\n", &[(b'.', b""), (b'.', b"")]),
+    (4, b"a\nbcd\ne", &[(b'+', b"a"), (b'.', b""), (b'.', b"")]),
+    (2, b"a\nbcd\ne", &[(b'+', b"a"), (b'.', b""), (b'.', b"")]),
+    (5, b"a\nbcd", &[(b'+', b"a"), (b'.', b""), (b'.', b"")]),
     (
         6,
         b"a\nbcd",
-        &[
-            (Found::Line { ended: true }, b"a"),
-            (Found::Line { ended: false }, b"bcd"),
-            (Found::End, b""),
-            (Found::End, b""),
-        ],
+        &[(b'+', b"a"), (b'~', b"bcd"), (b'$', b""), (b'$', b"")],
     ),
 ];
 
 /// Reads a proof so. A call that the outside fails is made once more.
-fn expect_lines(
+fn read_lines(
     rt: &impl Abort,
-    alloc: Global,
-    row: &(u64, &[u8], &[(Found, &[u8])]),
+    lines: &mut Lines,
+    world: &mut MemWorld,
+    proof: &[u8],
+    wanted: &[(u8, &[u8])],
     longest: usize,
     failing: u64,
 ) -> Result<u64, LinesFault>
     requires { 0 < longest }
 {
-    let (limit, proof, wanted) = *row;
-    let mut world = MemWorld::new(alloc);
-    let mut lines = Lines::new(alloc, limit);
     world.set_standard_input(proof)?;
     world.read_at_most(longest);
     world.fail_at(failing)?;
     world.open_input(InPort::Proof, None)?;
-    for (found, line) in wanted {
-        let answer = match lines.advance(&mut world) {
-            Err(LinesFault::Fault) => lines.advance(&mut world)?,
-            answer => answer?,
+    for (sign, line) in wanted {
+        let found = match lines.advance(world) {
+            Err(LinesFault::Fault) => lines.advance(world)?,
+            found => found?,
         };
-        assert!(rt; answer == *found);
-        assert_eq!(rt; lines.line(), *line);
+        let found = match found {
+            Found::Line { ended: true } => b'+',
+            Found::Line { ended: false } => b'~',
+            Found::End => b'$',
+            Found::Limit => b'.',
+        };
+        assert_eq!(rt; (found, lines.line()), (*sign, *line));
     }
     assert_eq!(rt; world.faults(), u64::from(failing != 0));
     Ok(world.calls())
 }
 
+/// Reads a proof so without a fault, and then with one at each call behind the opening.
+fn expect_lines(
+    rt: &impl Abort,
+    alloc: Global,
+    row: &(u64, &[u8], &[(u8, &[u8])]),
+    longest: usize,
+) -> Result<(), LinesFault>
+    requires { 0 < longest }
+{
+    let (limit, proof, wanted) = *row;
+    let mut calls = 0;
+    for failing in 0..100 {
+        if failing == 1 {
+            continue;
+        }
+        if failing > calls {
+            return Ok(());
+        }
+        let (lines, world) = (&mut Lines::new(alloc, limit), &mut MemWorld::new(alloc));
+        let made = read_lines(rt, lines, world, proof, wanted, longest, failing)?;
+        if failing == 0 {
+            calls = made;
+        }
+    }
+    Ok(())
+}
+
 #[test]
-fn entries_and_lines_do_not_depend_on_the_pieces(rt: HostRuntime) -> Result<(), Fail> {
-    let alloc = rt.alloc();
-    for longest in [1, 2, 3, 7, usize::MAX] {
-        for row in &ENTRIES {
-            let calls = expect_entries(&rt, alloc, row, longest, 0)?;
-            for failing in 2..=calls {
-                expect_entries(&rt, alloc, row, longest, failing)?;
-            }
-        }
-        for row in &LINES {
-            let calls = expect_lines(&rt, alloc, row, longest, 0)?;
-            for failing in 2..=calls {
-                expect_lines(&rt, alloc, row, longest, failing)?;
-            }
-        }
+fn entries_do_not_depend_on_the_pieces(rt: HostRuntime) -> Result<(), Fail> {
+    for row in &ENTRIES {
+        expect_entries(&rt, rt.alloc(), row, 1)?;
+        expect_entries(&rt, rt.alloc(), row, 2)?;
+        expect_entries(&rt, rt.alloc(), row, 7)?;
+        expect_entries(&rt, rt.alloc(), row, usize::MAX)?;
+    }
+    Ok(())
+}
+
+#[test]
+fn lines_do_not_depend_on_the_pieces(rt: HostRuntime) -> Result<(), Fail> {
+    for row in &LINES {
+        expect_lines(&rt, rt.alloc(), row, 1)?;
+        expect_lines(&rt, rt.alloc(), row, 2)?;
+        expect_lines(&rt, rt.alloc(), row, 3)?;
+        expect_lines(&rt, rt.alloc(), row, usize::MAX)?;
     }
     Ok(())
 }

@@ -1,6 +1,8 @@
 //! Lines of proofs as texts, as docs/PROOF-FORMAT.md has them, and on a tape.
 
-use sb_proof::{Atom, Line, MemTape, Node, Tape, Variable, print_line, read_line};
+use sb_proof::{Atom, Line, MemTape, Node, Tape, TapeFault, Variable, print_line, read_line};
+use std::alloc::{AllocError, Global};
+use std::process::Abort;
 use std::test::Fail;
 
 /// Texts of each kind of line, of each regex, atom, rule and verdict, and of each field at its limits.
@@ -50,34 +52,45 @@ const LINES: &[&str] = &[
     "end",
 ];
 
-/// Each text is read as a line, which prints as the text, and numbers keep their order.
+fn prints_as(rt: &impl Abort, alloc: Global, line: &Line, text: &str) -> Result<(), AllocError> {
+    let printed = print_line(alloc, line)?;
+    assert!(rt; printed.as_str().strip_suffix("\n") == Some(text), "{text}");
+    Ok(())
+}
+
+/// The text is read as a line, which prints as the text.
+fn goes_round(rt: &impl Abort, alloc: Global, text: &str) -> Result<(), AllocError> {
+    match read_line(alloc, text.as_bytes(), true)? {
+        Ok(line) => prints_as(rt, alloc, &line, text),
+        Err(_) => {
+            assert!(rt; false, "{text}");
+            Ok(())
+        }
+    }
+}
+
+/// Texts are read as lines, which print as the texts, and numbers keep their order.
 #[test]
 fn lines_go_round(rt: HostRuntime) -> Result<(), Fail> {
     let alloc = rt.alloc();
     for text in LINES {
-        let line = read_line(alloc, text.as_bytes(), true)??;
-        let printed = print_line(alloc, &line)?;
-        assert!(rt;
-            printed.as_str().strip_suffix("\n") == Some(*text),
-            "{text}"
-        );
+        goes_round(&rt, alloc, text)?;
     }
-    let lines = [
-        (Line::Regex(Node::Cat(2, 3)), "r cat 2 3\n"),
-        (Line::Regex(Node::Rep(1, 2, 3)), "r rep 1 2 3\n"),
-        (
-            Line::Atom(Atom::Le(Variable::Length(2), -5)),
-            "a le l2 -5\n",
-        ),
-    ];
-    for (line, text) in &lines {
-        let printed = print_line(alloc, line)?;
-        assert!(rt; printed.as_str() == *text, "{text}");
-    }
+    let bound = Line::Atom(Atom::Le(Variable::Length(2), -5));
+    prints_as(&rt, alloc, &bound, "a le l2 -5")?;
+    prints_as(&rt, alloc, &Line::Regex(Node::Cat(2, 3)), "r cat 2 3")?;
+    prints_as(&rt, alloc, &Line::Regex(Node::Rep(1, 2, 3)), "r rep 1 2 3")?;
     Ok(())
 }
 
 const WHOLE: &[u8] = b"strproof 1\nd 5 6\nend\n";
+
+/// Puts three lines through the bound, as a writer of proofs does.
+fn put_three<T: Tape>(tape: &mut T, dead: &Line) -> Result<(), TapeFault> {
+    tape.put(&Line::Header(1))?;
+    tape.put(dead)?;
+    tape.put(&Line::End)
+}
 
 /// Where memory ends, too.
 #[test]
@@ -85,9 +98,7 @@ fn a_tape_in_memory_keeps_whole_lines(rt: HostRuntime) -> Result<(), Fail> {
     let mut tape = MemTape::new(rt.alloc());
     assert!(&rt; tape.bytes().is_empty());
     let dead = Line::Dead(vec![in rt.alloc(); 5, 6]?);
-    let put = [Line::Header(1), dead, Line::End]
-        .iter()
-        .try_for_each(|line| tape.put(line));
+    let put = put_three(&mut tape, &dead);
     assert!(&rt; put.is_err() || tape.bytes() == WHOLE);
     assert!(&rt; put.is_ok() || WHOLE.starts_with(tape.bytes()));
     assert!(&rt; tape.bytes().is_empty() || tape.bytes().ends_with(b"\n"));

@@ -1,6 +1,8 @@
 //! Words and their literals.
 
 use sb_word::{CodesError, LiteralError, Word, print_literal, read_character, read_literal};
+use std::alloc::Global;
+use std::process::Abort;
 use std::test::Fail;
 
 /// Numbers that give a word, and the text of its literal.
@@ -65,31 +67,47 @@ const DIGITS: [(&'static [u8], Option<u32>); 6] = [
     (b"g", None),
 ];
 
+/// Expects the characters of the numbers' word to be them, and its literal to have this text.
+fn expect_literal(rt: &impl Abort, alloc: Global, codes: &[u32], text: &str) -> Result<(), Fail> {
+    let word = Word::from_codes(alloc, codes)?;
+    assert_eq!(rt; word.codes(), codes);
+    let printed = print_literal(alloc, &word)?;
+    assert_eq!(rt; printed.as_str(), text, "at {codes:?}");
+    Ok(())
+}
+
+/// Expects the bytes to be the literal of the word of these characters.
+fn expect_word(
+    rt: &impl Abort,
+    alloc: Global,
+    bytes: &[u8],
+    codes: &[u32],
+) -> Result<(), LiteralError> {
+    let word = read_literal(alloc, bytes)?;
+    assert_eq!(rt; word.codes(), codes);
+    Ok(())
+}
+
 /// Words have their characters and print as literals, which are read; numbers that give no word, and bytes that no
 /// literal holds, are named.
 #[test]
 fn words_and_their_literals(rt: HostRuntime) -> Result<(), Fail> {
-    let alloc = rt.alloc();
-    for (codes, text) in LITERALS {
-        let word = Word::from_codes(alloc, codes)?;
-        assert_eq!(rt; word.codes(), codes);
-        let printed = print_literal(alloc, &word)?;
-        assert_eq!(rt; printed.as_str(), text, "at {codes:?}");
+    for (codes, text) in &LITERALS {
+        expect_literal(&rt, rt.alloc(), codes, text)?;
     }
-    for (codes, place) in NO_WORDS {
-        let error = Word::from_codes(alloc, codes).err();
-        assert_eq!(rt; error, Some(CodesError::NotACharacter(place)));
+    for (bytes, codes) in &READ {
+        expect_word(&rt, rt.alloc(), bytes, codes)?;
     }
-    for (bytes, codes) in READ {
-        let word = read_literal(alloc, bytes)?;
-        assert_eq!(rt; word.codes(), codes);
+    for (codes, place) in &NO_WORDS {
+        let error = Word::from_codes(rt.alloc(), codes).err();
+        assert_eq!(rt; error, Some(CodesError::NotACharacter(*place)));
     }
-    for (bytes, place) in BAD {
-        let error = read_literal(alloc, bytes).err();
-        assert_eq!(rt; error, Some(LiteralError::BadByte(place)));
+    for (bytes, place) in &BAD {
+        let error = read_literal(rt.alloc(), bytes).err();
+        assert_eq!(rt; error, Some(LiteralError::BadByte(*place)));
     }
-    for (digits, character) in DIGITS {
-        assert_eq!(rt; read_character(digits), character);
+    for (digits, character) in &DIGITS {
+        assert_eq!(rt; read_character(digits), *character);
     }
     Ok(())
 }

@@ -1,6 +1,6 @@
 //! Worlds in memory, gone through call by call.
 
-ghost use Rattle.std.specs.Prelude.{◌<◌};
+ghost use Rattle.std.specs.Prelude.{◌<◌, length};
 ghost use Rattle.sb_world.specs.Worlds.{outside_of, faults_of};
 
 use sb_world::{CalmWorld, InPort, MemWorld, Opened, OutPort, World, WorldError, write_all};
@@ -90,15 +90,8 @@ fn make<W: World>(
             }
             Call::ReadAll(port, most, bytes) => {
                 let mut part = [0; 16];
-                let part = &mut part[..(*most).clamp(1, 16)];
-                let mut all = Vec::new(alloc);
-                for _ in 0..100 {
-                    let count = world.read(*port, part)?;
-                    if count == 0 {
-                        break;
-                    }
-                    all.extend_from_slice(&part[..count])?;
-                }
+                let all = &mut Vec::new(alloc);
+                read_all(world, *port, &mut part[..(*most).clamp(1, 16)], all)?;
                 assert_eq!(rt; all.as_slice(), *bytes);
             }
             Call::Write(port, bytes, wanted) => {
@@ -112,12 +105,37 @@ fn make<W: World>(
     Ok(())
 }
 
-fn name_of(opened: &Opened) -> Option<&str> {
-    match opened {
-        Opened::Not => None,
-        Opened::Nameless => Some(""),
-        Opened::Named(name) => Some(name.as_str()),
+/// What is left of an input, read as many bytes at a time as the buffer has.
+fn read_all<W: World>(
+    world: &mut W,
+    port: InPort,
+    buffer: &mut [u8],
+    all: &mut Vec<u8>,
+) -> Result<(), WorldError>
+    requires { 0 < length buffer.old }
+{
+    for _ in 0..100 {
+        let count = world.read(port, buffer)?;
+        if count == 0 {
+            break;
+        }
+        all.extend_from_slice(&buffer[..count])?;
     }
+    Ok(())
+}
+
+/// Expects a port to be opened by this name, the empty one where it has none, or not to be opened.
+fn expect_opened(rt: &impl Abort, opened: &Opened, name: Option<&str>) {
+    let same = match opened {
+        Opened::Not => name.is_none(),
+        Opened::Nameless => name == Some(""),
+        Opened::Named(opened) => name == Some(opened.as_str()),
+    };
+    assert!(rt; same);
+}
+
+fn expect_written(rt: &impl Abort, written: &[u8], bytes: &[u8]) {
+    assert_eq!(rt; written, bytes);
 }
 
 /// Looks at what the ports of a world hold.
@@ -125,13 +143,9 @@ macro_rules! look {
     ($rt:expr, $world:expr, $held:expr) => {
         for one in $held {
             match one {
-                Held::Opened(port, name) => {
-                    assert_eq!($rt; name_of($world.opened(*port)), *name);
-                }
-                Held::Created(port, name) => {
-                    assert_eq!($rt; name_of($world.created(*port)), *name);
-                }
-                Held::Written(port, bytes) => assert_eq!($rt; $world.written(*port), *bytes),
+                Held::Opened(port, name) => expect_opened($rt, $world.opened(*port), *name),
+                Held::Created(port, name) => expect_opened($rt, $world.created(*port), *name),
+                Held::Written(port, bytes) => expect_written($rt, $world.written(*port), bytes),
             }
         }
     };
@@ -160,16 +174,26 @@ fn expect_in_memory(
 {
     let memory = MemWorld::new(alloc);
     let mut world = PacedWorld { memory, slow };
-    for (name, bytes) in FILES {
+    world.memory.read_at_most(longest);
+    over_memory(&mut world, rt, alloc, failing, stages)
+}
+
+fn over_memory(
+    world: &mut PacedWorld,
+    rt: &impl Abort,
+    alloc: Global,
+    failing: &[u64],
+    stages: &[Stage],
+) -> Result<(), WorldError> {
+    for (name, bytes) in &FILES {
         world.memory.add_file(name, bytes)?;
     }
     world.memory.set_standard_input(b"(exit)")?;
-    world.memory.read_at_most(longest);
     for call in failing {
         world.memory.fail_at(*call)?;
     }
     for stage in stages {
-        make(&mut world, rt, alloc, stage.calls)?;
+        make(world, rt, alloc, stage.calls)?;
         look!(rt, world.memory, stage.held);
         assert_eq!(rt; (world.memory.calls(), world.memory.faults()), stage.counts);
     }
@@ -177,14 +201,18 @@ fn expect_in_memory(
 }
 
 /// Goes through the stages over a `CalmWorld`, which counts nothing.
-fn expect_calmly(rt: &impl Abort, alloc: Global, stages: &[Stage]) -> Result<(), WorldError> {
-    let mut world = CalmWorld::new(alloc);
-    for (name, bytes) in FILES {
+fn expect_calmly(
+    world: &mut CalmWorld,
+    rt: &impl Abort,
+    alloc: Global,
+    stages: &[Stage],
+) -> Result<(), WorldError> {
+    for (name, bytes) in &FILES {
         world.add_file(name, bytes)?;
     }
     world.set_standard_input(b"(exit)")?;
     for stage in stages {
-        make(&mut world, rt, alloc, stage.calls)?;
+        make(world, rt, alloc, stage.calls)?;
         look!(rt, world, stage.held);
     }
     Ok(())
@@ -342,23 +370,32 @@ const CUT: [Stage; 1] = [Stage {
     counts: (4, 1),
 }];
 
-/// Inputs give their files and standard input, and reads of any length give the bytes in order. An unknown name fails in
-/// memory, and is empty in a calm world. Outputs collect their bytes. A listed call fails once and changes nothing, and
-/// a write that fails in mid-stream leaves the front.
+/// Whether writes are slow, how many bytes a read gives at most, which calls fail, and the stages: inputs give their files
+/// and standard input, and reads of any length give the bytes in order; an unknown name fails; outputs collect their
+/// bytes; a listed call fails once and changes nothing; a write that fails in mid-stream leaves the front.
+const IN_MEMORY: [(bool, usize, &'static [u64], &'static [Stage]); 9] = [
+    (false, usize::MAX, &[], &INPUTS),
+    (false, 1, &[], &BY_ONE),
+    (false, 2, &[], &BY_TWO),
+    (false, 7, &[], &BY_SEVEN),
+    (false, usize::MAX, &[], &UNKNOWN_FAILS),
+    (false, usize::MAX, &[], &OUTPUTS),
+    (true, usize::MAX, &[], &BYTES),
+    (false, usize::MAX, &[2, 3, 4, 5], &FAILING),
+    (true, usize::MAX, &[4], &CUT),
+];
+
+/// In a calm world an unknown name is empty, and nothing fails.
+const CALM: [&'static [Stage]; 3] = [&INPUTS, &UNKNOWN_IS_EMPTY, &OUTPUTS];
+
 #[test]
 fn worlds_answer_each_call(rt: HostRuntime) -> Result<(), Fail> {
-    let alloc = rt.alloc();
-    expect_in_memory(&rt, alloc, false, usize::MAX, &[], &INPUTS)?;
-    expect_calmly(&rt, alloc, &INPUTS)?;
-    expect_in_memory(&rt, alloc, false, 1, &[], &BY_ONE)?;
-    expect_in_memory(&rt, alloc, false, 2, &[], &BY_TWO)?;
-    expect_in_memory(&rt, alloc, false, 7, &[], &BY_SEVEN)?;
-    expect_in_memory(&rt, alloc, false, usize::MAX, &[], &UNKNOWN_FAILS)?;
-    expect_calmly(&rt, alloc, &UNKNOWN_IS_EMPTY)?;
-    expect_in_memory(&rt, alloc, false, usize::MAX, &[], &OUTPUTS)?;
-    expect_in_memory(&rt, alloc, true, usize::MAX, &[], &BYTES)?;
-    expect_calmly(&rt, alloc, &OUTPUTS)?;
-    expect_in_memory(&rt, alloc, false, usize::MAX, &[2, 3, 4, 5], &FAILING)?;
-    expect_in_memory(&rt, alloc, true, usize::MAX, &[4], &CUT)?;
+    for (slow, longest, failing, stages) in &IN_MEMORY {
+        let longest = (*longest).max(1);
+        expect_in_memory(&rt, rt.alloc(), *slow, longest, failing, stages)?;
+    }
+    for stages in &CALM {
+        expect_calmly(&mut CalmWorld::new(rt.alloc()), &rt, rt.alloc(), stages)?;
+    }
     Ok(())
 }
