@@ -138,13 +138,30 @@ fn sweep(
     let mut cursors = cursors(alloc, maps)?;
     let mut choices = Choices::with_room(alloc, ROOM, ROOM * 8)?;
     let mut ids = Vec::with_capacity(alloc, maps.len())?;
+    fill(operation, constants, &mut cursors, &mut ids, &mut choices)?;
+    Ok(choices)
+}
+
+/// Puts the pieces of the common refinement of a few maps.
+fn fill(
+    operation: &Operation,
+    constants: &Constants,
+    maps: &mut Vec<Cursor>,
+    ids: &mut Vec<RegexId>,
+    choices: &mut Choices,
+) -> Result<(), AllocError>
+    requires { choices.old ≡ [] }
+    ensures whole { OnOk result (covers choices.new end_of_characters ≡ true) }
+    ensures values { OnOk result ((c : ℕ) → c < end_of_characters
+        → value_from [] choices.new c ≡ picked constants.now operation.now (values_at maps.old.items c)) }
+{
     let mut first = 0;
     while first <= LAST_CHARACTER {
-        let end = choose(operation, constants, &mut cursors, first, &mut ids)?;
-        choices.push(first, &ids)?;
+        let end = choose(operation, constants, maps, first, ids)?;
+        choices.push(first, ids.as_slice())?;
         first = end;
     }
-    Ok(choices)
+    Ok(())
 }
 
 /// The maps, each at the first character.

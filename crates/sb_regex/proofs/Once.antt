@@ -1,9 +1,10 @@
 -- Numbers, each where it first stands.
-use Rattle.std.proofs.Common.{◌≡◌, ℕ, ◌+◌, ◌<◌, ◌≤◌, Bool, true, false, not, ◌||◌, cond, nat_eq, List, [], ◌∷◌, ◌++◌, length, get_or, drop, refl, sym, ap, ap₂, ◌∙◌, inl, inr, add-one, drop-cons}
+use Rattle.std.proofs.Common.{◌≡◌, ℕ, ◌+◌, ◌<◌, ◌≤◌, Bool, true, false, ◌||◌, cond, nat_eq, List, [], ◌∷◌, ◌++◌, length, get_or, drop, refl, sym, ap, ap₂, ◌∙◌, inl, inr, add-one, drop-cons}
 use Rattle.std.specs.List.{list_any}
 use Rattle.std.proofs.lemmas.Bool.{false≢true, or_cases, or_left, or_right}
 use Rattle.std.proofs.lemmas.List.{drop_all}
 use Rattle.std.proofs.lemmas.List.Folds.{list_any-append}
+use Rattle.std.proofs.lemmas.List.Elements.{All-nil}
 use Rattle.sb_lang.specs.Regex.{Regex}
 use Rattle.sb_lang.specs.Order.{regex_eq}
 use Rattle.sb_lang.specs.OrderLaws.{OrderTellsApart}
@@ -69,48 +70,33 @@ module _ (rs : List Regex) (all after ids : List ℕ) (i x : ℕ) (r : Regex) (l
 
 -- One turn of the walk that keeps each number where it first stands.
 
-negated : (b c : Bool) → b ≡ not c → c ≡ not b
-negated b true h = ap not (sym h)
-negated b false h = ap not (sym h)
-
 or_none : (b : Bool) → b ≡ (b || false)
 or_none true = refl
 or_none false = refl
 
-abbrev pub OnceSoFar : List Regex → List ℕ → List ℕ → List ℕ → ℕ → Type 0
-OnceSoFar rs all keys ids i =
-    (all ≡ keys)
-    × AllNumbers rs all
+abbrev pub OnceSoFar : List Regex → List ℕ → List ℕ → ℕ → Type 0
+OnceSoFar rs all ids i =
+    AllNumbers rs all
     × ((r : Regex) → (is_member r (regexes_at rs all) || is_member r (regexes_at rs (drop i ids)))
     ≡ is_member r (regexes_at rs ids))
 
-module _ (rs : List Regex) (all after ids keys now : List ℕ) (i x : ℕ) (b : Bool) (l : i < length ids)
-    (is : x ≡ get_or ids i x) (below : x < length rs) (so_far : OnceSoFar rs all keys ids i)
-    (added : b ≡ not (list_any (λ y. nat_eq x y) keys))
-    (now_is : now ≡ cond (list_any (λ y. nat_eq x y) keys) keys (keys ++ x ∷ [])) where
-  pub turn_new : b ≡ true → after ≡ all ++ x ∷ [] → OnceSoFar rs after now ids (i + 1)
-  turn_new new pushed =
-      let fresh : list_any (λ y. nat_eq x y) keys ≡ false = negated b _ added ∙ ap not new in (
-        pushed
-            ∙ ap (λ xs. xs ++ x ∷ []) so_far.0
-            ∙ sym (now_is ∙ ap (λ t. cond t keys (keys ++ x ∷ [])) fresh),
-        numbers_push rs all after x so_far.1 below pushed,
-        λ r. once_new rs all after ids i x r l is pushed ∙ so_far.2 r,
-      )
+pub once_begun : (rs : List Regex) (all ids : List ℕ) → all ≡ [] → OnceSoFar rs all ids 0
+once_begun rs all ids none = rw none (All-nil (λ i. i < length rs), λ r. refl)
 
-  pub turn_old : OrderTellsApart → b ≡ false → OnceSoFar rs all now ids (i + 1)
-  turn_old tells old =
-      let found : list_any (λ y. nat_eq x y) keys ≡ true = negated b _ added ∙ ap not old in (
-        so_far.0 ∙ sym (now_is ∙ ap (λ t. cond t keys (keys ++ x ∷ [])) found),
-        so_far.1,
-        λ r.
-            once_more rs all all ids i x r l is tells (ap (λ ks. list_any (λ y. nat_eq x y) ks) so_far.0 ∙ found)
-            ∙ so_far.2 r,
-      )
+pub turn : OrderTellsApart → (rs : List Regex) (all now ids : List ℕ) (i x : ℕ) → i < length ids → x ≡ get_or ids i x
+    → x < length rs → (b : Bool) → list_any (λ y. nat_eq x y) all ≡ b → now ≡ cond b all (all ++ x ∷ [])
+    → OnceSoFar rs all ids i → OnceSoFar rs now ids (i + 1)
+turn tells rs all now ids i x l is below true there e so_far =
+    rw e (so_far.0, λ r. once_more rs all all ids i x r l is tells there ∙ so_far.1 r)
+turn tells rs all now ids i x l is below false none e so_far =
+    rw e (
+      numbers_push rs all (all ++ x ∷ []) x so_far.0 below refl,
+      λ r. once_new rs all (all ++ x ∷ []) ids i x r l is refl ∙ so_far.1 r,
+    )
 
-pub once_end : (rs : List Regex) (all keys ids : List ℕ) (i : ℕ) → length ids ≤ i → OnceSoFar rs all keys ids i
+pub once_end : (rs : List Regex) (all ids : List ℕ) (i : ℕ) → length ids ≤ i → OnceSoFar rs all ids i
     → SameMembers (regexes_at rs all) (regexes_at rs ids)
-once_end rs all keys ids i l so_far r =
+once_end rs all ids i l so_far r =
     or_none (is_member r (regexes_at rs all))
     ∙ sym (ap (λ xs. is_member r (regexes_at rs all) || is_member r (regexes_at rs xs)) (drop_all i ids l))
-    ∙ so_far.2 r
+    ∙ so_far.1 r

@@ -50,13 +50,10 @@ impl Arena {
     {
         order_tells_apart();
         let mut seen = IndexSet::new(self.allocator());
-        let mut all = Vec::new(self.allocator());
         for id in ids {
-            if seen.insert(*id)? {
-                all.push(*id)?;
-            }
+            seen.insert(*id)?;
         }
-        Ok(all)
+        Vec::from_slice(self.allocator(), seen.as_slice())
     }
 
     /// The numbers in the order of their regexes, each once.

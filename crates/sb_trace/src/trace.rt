@@ -16,7 +16,10 @@ ghost use Rattle.sb_trace.specs.Putting.{IsCounted, CountsTapeFault, SpendsWithi
 ghost use Rattle.sb_trace.specs.Tracking.{Tracks, Traces, TracesUncounted, StaysNumbered, IsExpandedIn, is_dead_in, is_expanded_in, is_put, Spends, IsExploring, IfAlive, number_in};
 ghost use Rattle.sb_trace.specs.Defining.{IsNumbered, AreClassesOf};
 ghost use Rattle.sb_trace.specs.Closing.{is_unburied, is_settled_in, IsClosedIn, AreClosedUpTo, GrewTo, GoesOn};
-ghost use Rattle.sb_proof.specs.Lines.{class_in};
+ghost use Rattle.sb_script.specs.Steps.{line as ended};
+ghost use Rattle.sb_rulebook.specs.Lines.{text_of};
+ghost use Rattle.sb_proof.specs.Lines.{class_in, line_in};
+ghost use Rattle.sb_proof.specs.Tapes.{with_bytes};
 
 mod closing;
 mod numbering;
@@ -224,8 +227,7 @@ impl Trace {
         if budget.tick().is_err() {
             return Ok(Expand::Spent);
         }
-        let line = Line::Expansion(number, classes);
-        tape.put(&line)?;
+        put_line(Line::Expansion(number, classes), tape)?;
         self.expanded[number as usize] = true;
         Ok(Expand::Expanded)
     }
@@ -468,11 +470,20 @@ impl Trace {
         ensures counts { CountsTapeFault result (L.Tape.faults tape.old) (L.Tape.faults tape.new) }
     {
         let regexes = members.as_slice();
-        let line = Line::Dead(numbers_of(self.alloc, &self.order, regexes)?);
-        tape.put(&line)?;
+        let numbers = numbers_of(self.alloc, &self.order, regexes)?;
+        put_line(Line::Dead(numbers), tape)?;
         mark(&mut self.dead, &self.order, regexes);
         Ok(())
     }
+}
+
+/// Puts a line.
+fn put_line<L: Tape>(line: Line, tape: &mut L) -> Result<(), TapeFault>
+    ensures told { OnOk result
+        (L.Tape.told tape.new ≡ with_bytes (ended (text_of (line_in line))) (L.Tape.told tape.old)) }
+    ensures counts { CountsTapeFault result (L.Tape.faults tape.old) (L.Tape.faults tape.new) }
+{
+    tape.put(&line)
 }
 
 /// The last character of a piece.

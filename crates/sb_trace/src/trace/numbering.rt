@@ -14,7 +14,7 @@ ghost use Rattle.sb_trace.specs.Tracking.{Tracks, TracesUncounted, TracesRegexes
 ghost use Rattle.sb_trace.specs.Defining.{IsNumbered, IsNodeAt};
 ghost use Rattle.sb_trace.specs.Waiting.{stack_of, IsStack, Settles};
 
-use super::{Trace, add};
+use super::{Trace, add, put_line};
 use crate::frame::{Frame, wait, wait_for_parts};
 use crate::node::{has_number, number_of, proof_node};
 use sb_lang::order::order_tells_apart;
@@ -112,10 +112,10 @@ impl Trace {
     {
         order_tells_apart();
         let count = self.order.len();
-        let line = Line::Regex(proof_node(self.alloc, &self.order, node)?);
         make_room(&mut self.expanded, count)?;
         make_room(&mut self.dead, count)?;
-        tape.put(&line)?;
+        let node = proof_node(self.alloc, &self.order, node)?;
+        put_line(Line::Regex(node), tape)?;
         add(&mut self.order, regex)?;
         Ok(())
     }

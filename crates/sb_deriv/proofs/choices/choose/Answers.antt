@@ -1,5 +1,6 @@
 use Rattle.std.proofs.Common.{ℕ, List, [], ◌<◌, length, get_or, refl, arith, sym, subst, ◌∙◌}
 use Rattle.std.proofs.lemmas.List.{get_or_default}
+use Rattle.std.proofs.lemmas.Result.{IfOk-from_err}
 use Rattle.sb_deriv.specs.Choices.{IsSpan}
 use Rattle.sb_deriv.proofs.Choosing.{choosing_init, choosing_step, absorbed, chosen}
 use Rattle.sb_deriv.proofs.choices.choose.Goals as goal
@@ -50,3 +51,19 @@ returns-clause-chosen c =
     chosen c.args.constants.now c.args.operation.now c.args.maps.now.items c.loop-i.i c.args.c c.loop-i.end
     c.loop-i.ids.items c.loop-i.invariant.1
     (omega (arith, c.len-i-end.ensures, c.loop-i-test.false, c.args.maps.now.ok))
+
+pub returns-in_err-push : goal.returns-in_err-push
+returns-in_err-push c =
+    let x = c.from_residual in
+    record {
+      same = IfOk-from_err x.result _ x.ensures.0;
+      chosen = IfOk-from_err x.result _ x.ensures.0;
+    }
+
+pub returns-in_err-keep : goal.returns-in_err-keep
+returns-in_err-keep c =
+    let x = c.from_residual-in_err-keep in
+    record {
+      same = IfOk-from_err x.result _ x.ensures.0;
+      chosen = IfOk-from_err x.result _ x.ensures.0;
+    }

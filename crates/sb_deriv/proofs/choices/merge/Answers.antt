@@ -1,4 +1,5 @@
 use Rattle.std.proofs.Common.{◌∷◌, [], ◌++◌, min, ap, ap₂, arith, ◌∙◌}
+use Rattle.std.proofs.lemmas.Result.{IfOk-from_err}
 use Rattle.sb_deriv.specs.Choices.{joined}
 use Rattle.sb_deriv.proofs.Choosing.{nothing_joins}
 use Rattle.sb_deriv.proofs.Merging.{merge_init, merge_step, merged, next_grows}
@@ -37,3 +38,27 @@ loop-first-preserved c =
     merge_step (joined c.args.constants.now c.args.operation.now) c.args.left.now c.args.right.now c.loop-first.choices
     c.push.new.self c.loop-first.i c.loop-first.j c.loop-first.first c.past-i.result c.past-j.result c.min-first.result
     c.loop-first.invariant (omega (arith, c.loop-first-test.true)) c.past-i.ensures c.past-j.ensures o n
+
+pub returns-in_err-choices : goal.returns-in_err-choices
+returns-in_err-choices c =
+    let x = c.from_residual in
+    record {
+      whole = IfOk-from_err x.result _ x.ensures.0;
+      values = IfOk-from_err x.result _ x.ensures.0;
+    }
+
+pub returns-in_err-join : goal.returns-in_err-join
+returns-in_err-join c =
+    let x = c.from_residual-in_err-join in
+    record {
+      whole = IfOk-from_err x.result _ x.ensures.0;
+      values = IfOk-from_err x.result _ x.ensures.0;
+    }
+
+pub returns-in_err-push : goal.returns-in_err-push
+returns-in_err-push c =
+    let x = c.from_residual-in_err-push in
+    record {
+      whole = IfOk-from_err x.result _ x.ensures.0;
+      values = IfOk-from_err x.result _ x.ensures.0;
+    }

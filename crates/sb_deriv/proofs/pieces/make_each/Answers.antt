@@ -1,5 +1,6 @@
 use Rattle.std.proofs.Common.{◌<◌, length, arith}
-use Rattle.sb_regex.proofs.CallerLemmas.{numbers_kept, number_kept}
+use Rattle.std.proofs.lemmas.Result.{IfOk-from_err}
+use Rattle.sb_regex.proofs.CallerLemmas.{numbers_kept, number_kept, extends_same, extends_more}
 use Rattle.sb_deriv.specs.Choices.{list_of}
 use Rattle.sb_deriv.proofs.Derivatives.{constants_kept}
 use Rattle.sb_deriv.proofs.Making.{making_init, making_at, made_each, numbers_at, whole_at, operand_later, no_made}
@@ -55,8 +56,46 @@ loop-place-preserved c =
           c.loop-place.invariant.2,
     )
 
-pub returns-clause-map : goal.returns-clause-map
-returns-clause-map c =
-    rw (c.shrink_to_fit.ensures.items) (made_each c.args.choices.now c.args.arena.now
-    c.loop-place.arena c.args.operation.now c.loop-place.place c.loop-place.pieces.items c.loop-place.invariant.0
-    c.requires.whole (omega (arith, c.len-place-end.ensures, c.loop-place-test.false)))
+pub returns : goal.returns
+returns c =
+    record {
+      map = rw (c.shrink_to_fit.ensures.items) (made_each c.args.choices.now c.args.arena.now
+          c.loop-place.arena c.args.operation.now c.loop-place.place c.loop-place.pieces.items c.loop-place.invariant.0
+          c.requires.whole (omega (arith, c.len-place-end.ensures, c.loop-place-test.false)));
+      extends = c.loop-place.invariant.0.extends;
+    }
+
+pub returns-in_err-pieces : goal.returns-in_err-pieces
+returns-in_err-pieces c =
+    let x = c.from_residual in
+    record {
+      map = IfOk-from_err x.result _ x.ensures.0;
+      extends = extends_same c.args.arena.now;
+    }
+
+pub returns-in_err-target : goal.returns-in_err-target
+returns-in_err-target c =
+    let x = c.from_residual-in_err-target in
+    record {
+      map = IfOk-from_err x.result _ x.ensures.0;
+      extends = extends_more c.args.arena.now c.loop-place.arena c.target_of.new.arena c.loop-place.invariant.0.extends
+          c.in_err-target.ensures.extends;
+    }
+
+pub returns-in_err-push : goal.returns-in_err-push
+returns-in_err-push c =
+    let x = c.from_residual-in_err-push in
+    record {
+      map = IfOk-from_err x.result _ x.ensures.0;
+      extends = extends_more c.args.arena.now c.loop-place.arena c.target_of.new.arena c.loop-place.invariant.0.extends
+          c.in_ok-target.ensures.extends;
+    }
+
+pub target_of-requires-clause-constants : goal.target_of-requires-clause-constants
+target_of-requires-clause-constants c = c.loop-place.invariant.2
+
+pub target_of-requires-clause-known : goal.target_of-requires-clause-known
+target_of-requires-clause-known c = c.loop-place.invariant.1
+
+pub push-requires-clause-merged : goal.push-requires-clause-merged
+push-requires-clause-merged c = c.loop-place.invariant.0.merged

@@ -1,4 +1,5 @@
-use Rattle.std.proofs.Common.{ap}
+use Rattle.std.proofs.Common.{ap, refl}
+use Rattle.std.proofs.lemmas.Result.{IfOk-from_err}
 use Rattle.sb_regex.proofs.CallerLemmas.{number_kept}
 use Rattle.sb_plain.specs.Memory.{points_of}
 use Rattle.sb_plain.proofs.Remembering.{something, character, place_points, right_kept, targets_are, start_is, derivative_named, derivative_right, derivative_found, derivative_elsewhere}
@@ -10,9 +11,17 @@ make-requires-clause-members c =
     (targets_are c.args.arena.now c.args.self.now c.args.c c.args.shape.now.parts.items
     (character c.args.c c.requires.character) c.requires.right c.requires.parts).0
 
-pub returns-in_err-target-clause-right : goal.returns-in_err-target-clause-right
-returns-in_err-target-clause-right c =
-    right_kept c.args.arena.now c.make.new.arena c.args.self.now c.in_err-target.ensures.extends c.requires.right
+pub returns-in_err-target : goal.returns-in_err-target
+returns-in_err-target c =
+    let x = c.from_residual in
+    record {
+      extends = c.in_err-target.ensures.extends;
+      right = right_kept c.args.arena.now c.make.new.arena c.args.self.now c.in_err-target.ensures.extends
+          c.requires.right;
+      done = IfOk-from_err x.result _ x.ensures.0;
+      long = refl;
+      elsewhere = λ n a. refl;
+    }
 
 pub stretch-begin-requires : goal.stretch-begin-requires
 stretch-begin-requires c =
@@ -59,3 +68,9 @@ returns-clause-elsewhere c =
     (start_is c.args.self.now c.args.id c.args.c c.stretch-begin.result p.0 c.stretch-begin.ensures p.1)
     (ap (λ x. x.0) c.self.view_is) (ap (λ x. x.1.0) c.self.view_is)
     (rw (ap (λ x. x.1.1) c.self.view_is) at c.in_ok-insert.ensures.updates.0)
+
+pub returns-in_err-insert-clause-extends : goal.returns-in_err-insert-clause-extends
+returns-in_err-insert-clause-extends c = c.in_ok-target.ensures.extends
+
+pub returns-clause-extends : goal.returns-clause-extends
+returns-clause-extends c = c.in_ok-target.ensures.extends

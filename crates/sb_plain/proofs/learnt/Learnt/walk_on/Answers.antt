@@ -1,4 +1,5 @@
-use Rattle.sb_regex.proofs.CallerLemmas.{extends_more, names_below, number_kept}
+use Rattle.std.proofs.lemmas.Result.{IfOk-from_err}
+use Rattle.sb_regex.proofs.CallerLemmas.{extends_more, names_below, number_kept, extends_same}
 use Rattle.sb_plain.specs.Staying.{IsStep}
 use Rattle.sb_plain.proofs.Along.{code_below}
 use Rattle.sb_plain.proofs.learnt.Learnt.walk_on.Goals as goal
@@ -26,3 +27,39 @@ loop-stay-preserved c =
       rw c.on-stay.ensures.rest (names_below c.plain_derivative.new.arena c.in_ok-rest.rest _ c.in_ok-rest.ensures.ok),
       c.on-stay.ensures.begins before.4,
     )
+
+pub returns-then-members-left : goal.returns-then-members-left
+returns-then-members-left c =
+    let b = c.loop-stay.invariant in
+    record {
+      begins = b.4;
+      stay = b.0;
+      extends = b.1;
+      right = b.2;
+    }
+
+pub returns-in_err-rest : goal.returns-in_err-rest
+returns-in_err-rest c =
+    let x = c.from_residual in
+    let b = c.loop-stay.invariant in
+    let e = c.plain_derivative.ensures in
+    record {
+      begins = IfOk-from_err x.result _ x.ensures.0;
+      stay = IfOk-from_err x.result _ x.ensures.0;
+      extends = extends_more c.args.arena.now c.loop-stay.arena c.plain_derivative.new.arena b.1 e.extends;
+      right = e.right;
+    }
+
+pub returns : goal.returns
+returns c =
+    let b = c.loop-stay.invariant in
+    record {
+      begins = b.4;
+      stay = b.0;
+      extends = b.1;
+      right = b.2;
+    }
+
+pub loop-stay-init : goal.loop-stay-init
+loop-stay-init c =
+    (λ n l begun. begun, extends_same c.args.arena.now, c.requires.right, c.requires.known, c.requires.begins)

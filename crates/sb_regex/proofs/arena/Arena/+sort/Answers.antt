@@ -1,6 +1,7 @@
 use Rattle.std.proofs.Common.{◌/◌, length, take, refl, ◌∙◌, arith}
 use Rattle.std.specs.List.Sorted.{IsStrictlySortedBy}
 use Rattle.std.proofs.lemmas.List.{take_all}
+use Rattle.std.proofs.lemmas.Result.{IfOk-from_err}
 use Rattle.sb_lang.specs.Order.{regex_cmp}
 use Rattle.sb_regex.specs.Numbered.{regexes_at}
 use Rattle.sb_regex.proofs.Merging.{ok_from, halves, rest_whole, rising_sorted, turned_rises, turned_members}
@@ -68,3 +69,88 @@ returns-clause-members t c =
     _ (regexes_at rs whole.items) (rw (one) at c.in_ok-left-2.ensures.members)
     (rw (two, one, rest_whole (length c.args.ids.now / 2) c.args.ids.now) at c.in_ok-right-3.ensures.members)
     (rw (three, two, one, c.deref-2.ensures.value, c.deref-3.ensures.value) at e)) c.merge-2.ensures.members
+
+pub returns-in_err-run : goal.returns-in_err-run
+returns-in_err-run t c =
+    let x = c.from_residual in
+    record {
+      rising = IfOk-from_err x.result _ x.ensures.0;
+      members = IfOk-from_err x.result _ x.ensures.0;
+      numbers = IfOk-from_err x.result _ x.ensures.0;
+      same = c.run.ensures.same;
+    }
+
+pub returns-in_err-right : goal.returns-in_err-right
+returns-in_err-right t c =
+    let x = c.from_residual-in_err-right in
+    record {
+      rising = IfOk-from_err x.result _ x.ensures.0;
+      members = IfOk-from_err x.result _ x.ensures.0;
+      numbers = IfOk-from_err x.result _ x.ensures.0;
+      same = c.sort.ensures.same ∙ c.run.ensures.same;
+    }
+
+pub returns-in_err-falling : goal.returns-in_err-falling
+returns-in_err-falling t c =
+    let x = c.from_residual-in_err-falling in
+    record {
+      rising = IfOk-from_err x.result _ x.ensures.0;
+      members = IfOk-from_err x.result _ x.ensures.0;
+      numbers = IfOk-from_err x.result _ x.ensures.0;
+      same = c.run-2.ensures.same ∙ c.run.ensures.same;
+    }
+
+pub returns-in_err-left : goal.returns-in_err-left
+returns-in_err-left t c =
+    let x = c.from_residual-in_err-left in
+    record {
+      rising = IfOk-from_err x.result _ x.ensures.0;
+      members = IfOk-from_err x.result _ x.ensures.0;
+      numbers = IfOk-from_err x.result _ x.ensures.0;
+      same = c.run-2.ensures.same ∙ c.run.ensures.same;
+    }
+
+pub returns-in_err-right-2 : goal.returns-in_err-right-2
+returns-in_err-right-2 t c =
+    let x = c.from_residual-in_err-right-2 in
+    record {
+      rising = IfOk-from_err x.result _ x.ensures.0;
+      members = IfOk-from_err x.result _ x.ensures.0;
+      numbers = IfOk-from_err x.result _ x.ensures.0;
+      same = c.sort-then-half-falling.ensures.same ∙ c.run-2.ensures.same ∙ c.run.ensures.same;
+    }
+
+pub returns-in_err-left-2 : goal.returns-in_err-left-2
+returns-in_err-left-2 t c =
+    let x = c.from_residual-in_err-left-2 in
+    record {
+      rising = IfOk-from_err x.result _ x.ensures.0;
+      members = IfOk-from_err x.result _ x.ensures.0;
+      numbers = IfOk-from_err x.result _ x.ensures.0;
+      same = c.sort-2.ensures.same ∙ c.run-2.ensures.same ∙ c.run.ensures.same;
+    }
+
+pub returns-in_err-right-3 : goal.returns-in_err-right-3
+returns-in_err-right-3 t c =
+    let x = c.from_residual-in_err-right-3 in
+    record {
+      rising = IfOk-from_err x.result _ x.ensures.0;
+      members = IfOk-from_err x.result _ x.ensures.0;
+      numbers = IfOk-from_err x.result _ x.ensures.0;
+      same = c.sort-3.ensures.same ∙ c.sort-2.ensures.same ∙ c.run-2.ensures.same ∙ c.run.ensures.same;
+    }
+
+pub returns-then-run-ids-clause-same : goal.returns-then-run-ids-clause-same
+returns-then-run-ids-clause-same t c = c.run.ensures.same
+
+pub returns-then-half-run-clause-same : goal.returns-then-half-run-clause-same
+returns-then-half-run-clause-same t c = c.merge.ensures.same ∙ c.sort.ensures.same ∙ c.run.ensures.same
+
+pub returns-then-half-falling-clause-same : goal.returns-then-half-falling-clause-same
+returns-then-half-falling-clause-same t c =
+    c.merge-then-half-falling.ensures.same ∙ c.sort-then-half-falling.ensures.same ∙ c.run-2.ensures.same
+    ∙ c.run.ensures.same
+
+pub returns-clause-same : goal.returns-clause-same
+returns-clause-same t c =
+    c.merge-2.ensures.same ∙ c.sort-3.ensures.same ∙ c.sort-2.ensures.same ∙ c.run-2.ensures.same ∙ c.run.ensures.same

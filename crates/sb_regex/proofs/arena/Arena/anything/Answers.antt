@@ -1,10 +1,35 @@
+use Rattle.std.proofs.lemmas.Result.{IfOk-from_err}
 use Rattle.sb_regex.proofs.Building.{normal_not_none, not_none_is}
+use Rattle.sb_regex.proofs.CallerLemmas.{extends_more}
 use Rattle.sb_regex.proofs.arena.Arena.anything.Goals as goal
 
 pub intern-requires-clause-normal : goal.intern-requires-clause-normal
 intern-requires-clause-normal c = normal_not_none c.none.new.self c.in_ok-none.none c.in_ok-none.ensures.ok
 
-pub returns-clause-ok : goal.returns-clause-ok
-returns-clause-ok c =
-    let named = rw (not_none_is c.none.new.self c.in_ok-none.none c.in_ok-none.ensures.ok) at c.in_ok-id.ensures.ok in
-    rw (c.self-2.view_is) named
+pub returns : goal.returns
+returns c =
+    record {
+      ok = let named = rw (not_none_is c.none.new.self c.in_ok-none.none c.in_ok-none.ensures.ok) at
+          c.in_ok-id.ensures.ok in
+          rw (c.self-2.view_is) named;
+      extends = rw (c.self-2.view_is)
+          (extends_more c.args.self.now c.none.new.self c.intern.new.self c.none.ensures.extends
+          c.intern.ensures.extends);
+    }
+
+pub returns-in_err-none : goal.returns-in_err-none
+returns-in_err-none c =
+    let x = c.from_residual in
+    record {
+      ok = IfOk-from_err x.result _ x.ensures.0;
+      extends = c.none.ensures.extends;
+    }
+
+pub returns-in_err-id : goal.returns-in_err-id
+returns-in_err-id c =
+    let x = c.from_residual-in_err-id in
+    record {
+      ok = IfOk-from_err x.result _ x.ensures.0;
+      extends = extends_more c.args.self.now c.none.new.self c.intern.new.self c.none.ensures.extends
+          c.intern.ensures.extends;
+    }

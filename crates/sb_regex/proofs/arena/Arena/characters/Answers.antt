@@ -1,5 +1,6 @@
 use Rattle.std.proofs.Common.{◌<◌, ◌-◌, length, get_or, refl, arith}
 use Rattle.std.proofs.lemmas.List.{get_or_default}
+use Rattle.std.proofs.lemmas.Result.{IfOk-from_err}
 use Rattle.sb_regex.proofs.CallerLemmas.{extends_more, names_below}
 use Rattle.sb_regex.proofs.Words.{word_start, word_more, word_end, normal_character}
 use Rattle.sb_regex.proofs.arena.Arena.characters.Goals as goal
@@ -41,7 +42,43 @@ loop-left-preserved c =
           c.in_ok-character.ensures.extends c.loop-left.invariant.3 named c.in_ok-whole-2.ensures.ok,
     )
 
-pub returns-clause-ok : goal.returns-clause-ok
-returns-clause-ok c =
-    (word_end c.loop-left.self c.args.codes.now c.loop-left.left c.loop-left.whole
-    (omega (arith, c.loop-left-test.false)) c.loop-left.invariant.2 c.loop-left.invariant.3)
+pub returns : goal.returns
+returns c =
+    record {
+      ok = (word_end c.loop-left.self c.args.codes.now c.loop-left.left c.loop-left.whole
+          (omega (arith, c.loop-left-test.false)) c.loop-left.invariant.2 c.loop-left.invariant.3);
+      extends = c.loop-left.invariant.1;
+    }
+
+pub returns-in_err-whole : goal.returns-in_err-whole
+returns-in_err-whole c =
+    let x = c.from_residual in
+    record {
+      ok = IfOk-from_err x.result _ x.ensures.0;
+      extends = c.eps.ensures.extends;
+    }
+
+pub returns-in_err-ranges : goal.returns-in_err-ranges
+returns-in_err-ranges c =
+    let x = c.from_residual-in_err-ranges in
+    record {
+      ok = IfOk-from_err x.result _ x.ensures.0;
+      extends = c.loop-left.invariant.1;
+    }
+
+pub returns-in_err-character : goal.returns-in_err-character
+returns-in_err-character c =
+    let x = c.from_residual-in_err-character in
+    record {
+      ok = IfOk-from_err x.result _ x.ensures.0;
+      extends = extends_more _ _ _ c.loop-left.invariant.1 c.intern.ensures.extends;
+    }
+
+pub returns-in_err-whole-2 : goal.returns-in_err-whole-2
+returns-in_err-whole-2 c =
+    let x = c.from_residual-in_err-whole-2 in
+    record {
+      ok = IfOk-from_err x.result _ x.ensures.0;
+      extends = extends_more _ _ _ (extends_more _ _ _ c.loop-left.invariant.1 c.intern.ensures.extends)
+          c.cat.ensures.extends;
+    }

@@ -1,9 +1,10 @@
 use Rattle.std.proofs.Common.{◌++◌, refl, ap, sym, ◌∙◌}
 use Rattle.std.specs.List.{flat_map}
+use Rattle.std.proofs.lemmas.Result.{IfOk-from_err}
 use Rattle.sb_lang.specs.Constructors.{conjuncts}
 use Rattle.sb_regex.specs.Numbered.{regexes_at}
 use Rattle.sb_regex.specs.Nodes.{node_regex}
-use Rattle.sb_regex.proofs.Gathering.{gather_next, flat_more, ats-append, numbers-append, parts_numbers, conjuncts_and, conjuncts_other}
+use Rattle.sb_regex.proofs.Gathering.{gather_next, flat_more, ats-append, numbers-append, parts_numbers, conjuncts_and, conjuncts_other, gather_end}
 use Rattle.sb_regex.proofs.CallerLemmas.{number_in, one_number}
 use Rattle.sb_regex.proofs.arena.Arena.conjuncts.Goals as goal
 use Rattle.sb_regex.proofs.arena.Arena.conjuncts.Goals.{in-And+in_ok-extend_from_slice-in-And, in_default+in_ok-push-in_default}
@@ -39,3 +40,29 @@ loop-id-preserved c =
                 (conjuncts_other rs _ _ c.node.ensures.value w.in_default.not-And)) c.loop-id.invariant.1,
           )
     ]
+
+pub returns-in_err-extend_from_slice-in-And : goal.returns-in_err-extend_from_slice-in-And
+returns-in_err-extend_from_slice-in-And c =
+    let x = c.from_residual in
+    record {
+      value = IfOk-from_err x.result _ x.ensures.0;
+      numbers = IfOk-from_err x.result _ x.ensures.0;
+    }
+
+pub returns-in_err-push-in_default : goal.returns-in_err-push-in_default
+returns-in_err-push-in_default c =
+    let x = c.from_residual-in_err-push-in_default in
+    record {
+      value = IfOk-from_err x.result _ x.ensures.0;
+      numbers = IfOk-from_err x.result _ x.ensures.0;
+    }
+
+pub returns : goal.returns
+returns c =
+    let i = c.loop-id.invariant in
+    record {
+      value = gather_end (flat_map conjuncts) conjuncts (flat_more conjuncts) refl c.args.self.now c.args.ids.now
+          c.loop-id.id-index
+          _ _ c.loop-id-test.false i.1;
+      numbers = i.0;
+    }

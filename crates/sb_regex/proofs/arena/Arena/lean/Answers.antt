@@ -1,5 +1,6 @@
 use Rattle.std.proofs.Common.{◌-◌, length, ap, arith}
 use Rattle.std.proofs.lemmas.List.{take_all}
+use Rattle.std.proofs.lemmas.Result.{IfOk-from_err}
 use Rattle.sb_regex.specs.Numbered.{regex_at, regexes_at}
 use Rattle.sb_regex.specs.Spine.{chain}
 use Rattle.sb_regex.proofs.CallerLemmas.{extends_same, extends_more, names_below, two_numbers}
@@ -33,8 +34,13 @@ intern-requires-clause-normal c =
     (omega (arith, c.loop-left-test.true)) (omega (arith, c.loop-left.invariant.0, c.loop-left-test.true))
     c.index-heads-left.is c.requires.heads c.loop-left.invariant.1 c.loop-left.invariant.3 c.requires.normal
 
-pub returns-in_err-whole-clause-extends : goal.returns-in_err-whole-clause-extends
-returns-in_err-whole-clause-extends c = extends_more _ _ _ c.loop-left.invariant.1 c.intern.ensures.extends
+pub returns-in_err-whole : goal.returns-in_err-whole
+returns-in_err-whole c =
+    let x = c.from_residual in
+    record {
+      ok = IfOk-from_err x.result _ x.ensures.0;
+      extends = extends_more _ _ _ c.loop-left.invariant.1 c.intern.ensures.extends;
+    }
 
 pub loop-left-preserved : goal.loop-left-preserved
 loop-left-preserved c = (
@@ -48,10 +54,10 @@ loop-left-preserved c = (
       c.in_ok-whole.ensures.ok,
 )
 
-pub returns-clause-ok : goal.returns-clause-ok
-returns-clause-ok c =
-    lean_done c.args.self.now c.loop-left.self c.args.heads.now c.loop-left.left c.loop-left.whole _
-    (omega (arith, c.loop-left-test.false)) c.loop-left.invariant.2 c.loop-left.invariant.3
-
-pub returns-clause-extends : goal.returns-clause-extends
-returns-clause-extends c = c.loop-left.invariant.1
+pub returns : goal.returns
+returns c =
+    record {
+      ok = lean_done c.args.self.now c.loop-left.self c.args.heads.now c.loop-left.left c.loop-left.whole _
+          (omega (arith, c.loop-left-test.false)) c.loop-left.invariant.2 c.loop-left.invariant.3;
+      extends = c.loop-left.invariant.1;
+    }

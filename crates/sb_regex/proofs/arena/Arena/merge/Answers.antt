@@ -1,5 +1,6 @@
 use Rattle.std.proofs.Common.{ℕ, ◌<◌, ◌++◌, length, ◌∙◌, sym, arith}
 use Rattle.std.proofs.lemmas.List.Elements.{All-drop, All-take}
+use Rattle.std.proofs.lemmas.Result.{IfOk-from_err}
 use Rattle.sb_regex.specs.Numbered.{regexes_at}
 use Rattle.sb_regex.proofs.Spines.{numbers_push}
 use Rattle.sb_regex.proofs.CallerLemmas.{number_in}
@@ -80,3 +81,56 @@ returns-clause-numbers c =
     (rw (c.loop-i.invariant.0) at c.loop-i.invariant.3)
     (All-take below _ _ (All-drop below c.loop-i.i c.args.left.now c.requires.left)))
     (All-take below _ _ (All-drop below c.loop-i.j c.args.right.now c.requires.right))
+
+pub returns-in_err-place : goal.returns-in_err-place
+returns-in_err-place c =
+    let x = c.from_residual in
+    record {
+      rising = IfOk-from_err x.result _ x.ensures.0;
+      members = IfOk-from_err x.result _ x.ensures.0;
+      numbers = IfOk-from_err x.result _ x.ensures.0;
+      same = c.place.ensures.same ∙ c.loop-i.invariant.0;
+    }
+
+pub returns-in_err-push-in-Less : goal.returns-in_err-push-in-Less
+returns-in_err-push-in-Less c =
+    let x = c.from_residual-in_err-push-in-Less in
+    record {
+      rising = IfOk-from_err x.result _ x.ensures.0;
+      members = IfOk-from_err x.result _ x.ensures.0;
+      numbers = IfOk-from_err x.result _ x.ensures.0;
+      same = c.place.ensures.same ∙ c.loop-i.invariant.0;
+    }
+
+pub returns-in_err-push-in-Greater : goal.returns-in_err-push-in-Greater
+returns-in_err-push-in-Greater c =
+    let x = c.from_residual-in_err-push-in-Greater in
+    record {
+      rising = IfOk-from_err x.result _ x.ensures.0;
+      members = IfOk-from_err x.result _ x.ensures.0;
+      numbers = IfOk-from_err x.result _ x.ensures.0;
+      same = c.place.ensures.same ∙ c.loop-i.invariant.0;
+    }
+
+pub returns-in_err-extend_from_slice : goal.returns-in_err-extend_from_slice
+returns-in_err-extend_from_slice c =
+    let x = c.from_residual-in_err-extend_from_slice in
+    record {
+      rising = IfOk-from_err x.result _ x.ensures.0;
+      members = IfOk-from_err x.result _ x.ensures.0;
+      numbers = IfOk-from_err x.result _ x.ensures.0;
+      same = c.loop-i.invariant.0;
+    }
+
+pub returns-in_err-extend_from_slice-2 : goal.returns-in_err-extend_from_slice-2
+returns-in_err-extend_from_slice-2 c =
+    let x = c.from_residual-in_err-extend_from_slice-2 in
+    record {
+      rising = IfOk-from_err x.result _ x.ensures.0;
+      members = IfOk-from_err x.result _ x.ensures.0;
+      numbers = IfOk-from_err x.result _ x.ensures.0;
+      same = c.loop-i.invariant.0;
+    }
+
+pub returns-clause-same : goal.returns-clause-same
+returns-clause-same c = c.loop-i.invariant.0

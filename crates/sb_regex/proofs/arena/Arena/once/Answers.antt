@@ -1,29 +1,36 @@
+use Rattle.std.proofs.Common.{nat_eq, refl, ◌∙◌}
+use Rattle.std.specs.List.{list_any}
+use Rattle.std.proofs.lemmas.Result.{IfOk-from_err, IfOk-weaker}
+use Rattle.sb_regex.specs.Numbered.{AllNumbers}
 use Rattle.sb_regex.proofs.CallerLemmas.{number_in}
-use Rattle.sb_regex.proofs.Once.{turn_new, turn_old, once_end}
+use Rattle.sb_regex.proofs.Once.{once_begun, turn, once_end}
 use Rattle.sb_regex.proofs.arena.Arena.once.Goals as goal
-use Rattle.sb_regex.proofs.arena.Arena.once.Goals.{then-branch+in_ok-push, else-branch}
+
+pub loop-id-init : goal.loop-id-init
+loop-id-init c = once_begun c.args.self.now c.new-seen.result.keys c.args.ids.now c.new-seen.ensures.empty
+
+pub returns-in_err-insert : goal.returns-in_err-insert
+returns-in_err-insert c =
+    let x = c.from_residual in
+    record { members = IfOk-from_err x.result _ x.ensures.0; numbers = IfOk-from_err x.result _ x.ensures.0 }
 
 pub loop-id-preserved : goal.loop-id-preserved
 loop-id-preserved c =
     let rs = c.args.self.now in
-    let x = number_in rs c.args.ids.now c.loop-id.id-index c.id-item.result c.requires c.loop-id-test.true c.id-item.is
-    in
-    elim c.if-branch.branch [
-      | then-branch+in_ok-push w ↦
-          rw (w.all-is)
-          (turn_new rs c.loop-id.all.items w.push.new.self.items c.args.ids.now c.loop-id.seen.keys
-          c.insert.new.self.keys c.loop-id.id-index c.id-item.result c.in_ok-insert.field-0 c.loop-id-test.true
-          c.id-item.is x c.loop-id.invariant c.in_ok-insert.ensures.added c.in_ok-insert.ensures.keys w.if-branch.true
-          w.in_ok-push.ensures.items)
-      | else-branch w ↦
-          rw (w.all-is)
-          (turn_old rs c.loop-id.all.items c.loop-id.all.items c.args.ids.now c.loop-id.seen.keys
-          c.insert.new.self.keys c.loop-id.id-index c.id-item.result c.in_ok-insert.field-0 c.loop-id-test.true
-          c.id-item.is x c.loop-id.invariant c.in_ok-insert.ensures.added c.in_ok-insert.ensures.keys
-          c.order_tells_apart.ensures w.if-branch.false)
-    ]
+    let below = number_in rs c.args.ids.now c.loop-id.id-index c.id-item.result c.requires c.loop-id-test.true
+    c.id-item.is in
+    turn c.order_tells_apart.ensures rs c.loop-id.seen.keys c.insert.new.self.keys c.args.ids.now c.loop-id.id-index
+    c.id-item.result c.loop-id-test.true c.id-item.is below
+    (list_any (λ y. nat_eq c.id-item.result y) c.loop-id.seen.keys) refl c.in_ok-insert.ensures.keys
+    c.loop-id.invariant
 
-pub returns-clause-members : goal.returns-clause-members
-returns-clause-members c =
-    once_end c.args.self.now c.loop-id.all.items c.loop-id.seen.keys c.args.ids.now c.loop-id.id-index
-    c.loop-id-test.false c.loop-id.invariant
+pub returns : goal.returns
+returns c =
+    let i = c.loop-id.invariant in
+    let same = once_end c.args.self.now c.loop-id.seen.keys c.args.ids.now c.loop-id.id-index c.loop-id-test.false i in
+    record {
+      members = IfOk-weaker c.from_slice.result _ _ (λ all e. rw (e ∙ c.as_slice.ensures.keys) same)
+          c.from_slice.ensures.items;
+      numbers = IfOk-weaker c.from_slice.result _ _ (λ all e. rw (e ∙ c.as_slice.ensures.keys) i.0)
+          c.from_slice.ensures.items;
+    }

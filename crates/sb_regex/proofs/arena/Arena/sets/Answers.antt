@@ -1,10 +1,11 @@
 use Rattle.std.proofs.Common.{◌∷◌, [], ◌++◌, refl, ap, sym, ◌∙◌}
 use Rattle.std.specs.List.{flat_map}
 use Rattle.std.proofs.lemmas.List.{append-nil}
+use Rattle.std.proofs.lemmas.Result.{IfOk-from_err}
 use Rattle.sb_lang.specs.Constructors.{ranges_of}
 use Rattle.sb_regex.specs.Nodes.{node_regex}
 use Rattle.sb_regex.proofs.Building.{normal_at}
-use Rattle.sb_regex.proofs.Gathering.{gather_next, flat_more, ranges_set, ranges_other, normal_is_canonical}
+use Rattle.sb_regex.proofs.Gathering.{gather_next, flat_more, ranges_set, ranges_other, normal_is_canonical, gather_end}
 use Rattle.sb_regex.proofs.CallerLemmas.{number_in}
 use Rattle.sb_regex.proofs.arena.Arena.sets.Goals as goal
 use Rattle.sb_regex.proofs.arena.Arena.sets.Goals.{in-Set+in_ok-class+in_ok-push_back, in_default}
@@ -39,3 +40,15 @@ loop-id-preserved c =
           ∙ ap (λ xs. c.loop-id.classes.items ++ xs)
           (ranges_other rs _ _ c.node.ensures.value w.in_default.not-Set)) c.loop-id.invariant)
     ]
+
+pub returns-in_err-class : goal.returns-in_err-class
+returns-in_err-class c = IfOk-from_err c.from_residual.result _ c.from_residual.ensures.0
+
+pub returns-in_err-push_back : goal.returns-in_err-push_back
+returns-in_err-push_back c =
+    IfOk-from_err c.from_residual-in_err-push_back.result _ c.from_residual-in_err-push_back.ensures.0
+
+pub returns : goal.returns
+returns c =
+    gather_end (flat_map ranges_of) ranges_of (flat_more ranges_of) refl c.args.self.now c.args.members.now
+    c.loop-id.id-index c.loop-id.classes.items _ c.loop-id-test.false c.loop-id.invariant

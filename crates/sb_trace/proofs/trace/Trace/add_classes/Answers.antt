@@ -1,7 +1,10 @@
-use Rattle.std.proofs.Common.{refl, ◌∙◌}
+use Rattle.std.proofs.Common.{refl, ◌∙◌, subst}
+use Rattle.std.proofs.lemmas.Result.{IfOk-from_err, err_from_is_err_and}
 use Rattle.sb_trace.proofs.Puts.{traces_none, traces_both, stays_both}
 use Rattle.sb_trace.proofs.Growing.{stays_same}
 use Rattle.sb_trace.proofs.Classes.{no_classes, one_class_more, all_classes, target_known}
+use Rattle.sb_trace.specs.Putting.{CountsTapeFault}
+use Rattle.sb_trace.proofs.Exits.{counts_none, counts_on}
 use Rattle.sb_trace.proofs.trace.Trace.add_classes.Goals as goal
 
 pub loop-place-init : goal.loop-place-init
@@ -53,4 +56,36 @@ returns g c =
       expanded_stay = before.expanded_stay;
       dead_stay = before.dead_stay;
       counts = before.faults;
+    }
+
+pub returns-in_err-number : goal.returns-in_err-number
+returns-in_err-number g c =
+    let x = c.from_residual in
+    let p = err_from_is_err_and x.result x.ensures.1 in
+    let i = c.loop-place.invariant in
+    let n = c.number.ensures in
+    record {
+      classes = IfOk-from_err x.result _ x.ensures.0;
+      puts = IfOk-from_err x.result _ x.ensures.0;
+      stays = stays_both c.args.self.now c.loop-place.self c.number.new.self i.stays n.stays;
+      expanded_stay = λ m. n.expanded_stay m ∙ i.expanded_stay m;
+      dead_stay = λ m. n.dead_stay m ∙ i.dead_stay m;
+      counts = subst (λ old. CountsTapeFault x.result old _) i.faults
+          (counts_on x.result p.0 _ _ _ p.1 p.2 c.in_err-number.ensures.counts);
+    }
+
+pub returns-in_err-add_class : goal.returns-in_err-add_class
+returns-in_err-add_class g c =
+    let x = c.from_residual-in_err-add_class in
+    let p = err_from_is_err_and x.result x.ensures.1 in
+    let i = c.loop-place.invariant in
+    let n = c.in_ok-number.ensures in
+    record {
+      classes = IfOk-from_err x.result _ x.ensures.0;
+      puts = IfOk-from_err x.result _ x.ensures.0;
+      stays = stays_both c.args.self.now c.loop-place.self c.number.new.self i.stays n.stays;
+      expanded_stay = λ m. n.expanded_stay m ∙ i.expanded_stay m;
+      dead_stay = λ m. n.dead_stay m ∙ i.dead_stay m;
+      counts = subst (λ old. CountsTapeFault x.result old _) (n.counts ∙ i.faults)
+          (counts_none x.result p.0 _ p.1 p.2);
     }

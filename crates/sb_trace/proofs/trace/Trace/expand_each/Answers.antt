@@ -1,5 +1,7 @@
-use Rattle.std.proofs.Common.{rules, ◌≢◌, ◌||◌, refl, sym, ap, ◌∙◌, arith}
-use Rattle.sb_regex.proofs.CallerLemmas.{numbers_kept}
+use Rattle.std.proofs.Common.{rules, ◌≢◌, ◌||◌, refl, sym, ap, ◌∙◌, arith, subst}
+use Rattle.std.proofs.lemmas.Result.{IfOk-from_err, err_from_is_err_and}
+use Rattle.std.proofs.lemmas.Bool.{true≢false, false≢true}
+use Rattle.sb_regex.proofs.CallerLemmas.{numbers_kept, number_in}
 use Rattle.sb_trace.specs.declared.trace.Expand.TheVariants as expand
 use Rattle.sb_trace.specs.Tracking.{is_expanded_in, is_put}
 use Rattle.sb_trace.specs.Reaching.{is_unexpanded}
@@ -7,6 +9,8 @@ use Rattle.sb_trace.specs.Closing.{GoesOn}
 use Rattle.sb_trace.proofs.Growing.{traces_none, traces_both, goes_same, goes_both}
 use Rattle.sb_trace.proofs.Counts.{expanded_next, spends_next, member_front, expanded_all, spent_all}
 use Rattle.sb_trace.proofs.Spent.{spent_none, spent_both}
+use Rattle.sb_trace.specs.Putting.{CountsTapeFault}
+use Rattle.sb_trace.proofs.Exits.{counts_on}
 use Rattle.sb_trace.proofs.trace.Trace.expand_each.Goals as goal
 
 pub loop-regex-init : goal.loop-regex-init
@@ -57,88 +61,98 @@ loop-regex-preserved g c =
           (before.puts asked kept tracks counts) (λ after t n. h.puts asked after t n);
     }
 
-pub returns-in_err-expand-clause-goes : goal.returns-in_err-expand-clause-goes
-returns-in_err-expand-clause-goes g c =
-    let h = c.in_err-expand.ensures in
-    goes_both c.args.arena.now c.loop-regex.arena c.expand.new.arena c.args.graph.now c.loop-regex.graph
-    c.expand.new.graph c.args.self.now c.loop-regex.self c.expand.new.self c.loop-regex.invariant.goes
-    (record {
-      stays = h.stays;
-      buried = h.buried;
-      expanded = h.expanded_stay;
-      extends = h.extends;
-      graph = h.graph;
-      marks = h.marks;
-      derivatives = h.derivatives_stay;
-    })
+pub returns-in_err-expand : goal.returns-in_err-expand
+returns-in_err-expand g c =
+    let x = c.from_residual in
+    let p = err_from_is_err_and x.result x.ensures.1 in
+    record {
+      puts = IfOk-from_err x.result _ x.ensures.0;
+      expanded = IfOk-from_err x.result _ x.ensures.0;
+      only = IfOk-from_err x.result _ x.ensures.0;
+      spends = IfOk-from_err x.result _ x.ensures.0;
+      spent = IfOk-from_err x.result _ x.ensures.0;
+      limit = c.in_err-expand.ensures.limit ∙ c.loop-regex.invariant.spends.limit;
+      goes = let h = c.in_err-expand.ensures in
+          goes_both c.args.arena.now c.loop-regex.arena c.expand.new.arena c.args.graph.now c.loop-regex.graph
+          c.expand.new.graph c.args.self.now c.loop-regex.self c.expand.new.self c.loop-regex.invariant.goes
+          (record {
+            stays = h.stays;
+            buried = h.buried;
+            expanded = h.expanded_stay;
+            extends = h.extends;
+            graph = h.graph;
+            marks = h.marks;
+            derivatives = h.derivatives_stay;
+          });
+      steps = spent_both c.args.budget.now c.loop-regex.budget c.expand.new.budget c.loop-regex.invariant.steps
+          c.in_err-expand.ensures.steps;
+      counts = subst (λ old. CountsTapeFault x.result old _) c.loop-regex.invariant.faults
+          (counts_on x.result p.0 _ _ _ p.1 p.2 c.in_err-expand.ensures.counts);
+    }
 
-pub returns-in_err-expand-clause-limit : goal.returns-in_err-expand-clause-limit
-returns-in_err-expand-clause-limit g c = c.in_err-expand.ensures.limit ∙ c.loop-regex.invariant.spends.limit
+pub returns-in-Spent : goal.returns-in-Spent
+returns-in-Spent g c =
+    record {
+      puts = let before = c.loop-regex.invariant in
+          let h = c.in_ok-expand.ensures in
+          λ asked kept tracks counts.
+          traces_both asked kept c.loop-regex.arena c.expand.new.arena c.loop-regex.graph.memo c.expand.new.graph.memo
+          c.loop-regex.self c.expand.new.self c.loop-regex.budget c.expand.new.budget (g.L.Tape.told c.args.tape.now)
+          (g.L.Tape.told c.loop-regex.tape) (g.L.Tape.told c.expand.new.tape) (before.puts asked kept tracks counts)
+          (λ after t n. h.puts asked after t n);
+      expanded = λ done. absurd (false≢true done);
+      only = let before = c.loop-regex.invariant in
+          let h = c.in_ok-expand.ensures in
+          λ n there.
+          let none = ap (λ e. is_put e c.regex-item.result n || is_expanded_in c.loop-regex.self n) c.in-Spent.is in
+          member_front c.args.regexes.now c.loop-regex.regex-index n (is_expanded_in c.args.self.now n)
+          (sym (h.only n ∙ none ∙ before.expanded n) ∙ there);
+      spends = λ done. absurd (false≢true done);
+      spent = λ stopped. c.in_ok-expand.ensures.spent c.in-Spent.is;
+      limit = c.in_ok-expand.ensures.limit ∙ c.loop-regex.invariant.spends.limit;
+      goes = let h = c.in_ok-expand.ensures in
+          goes_both c.args.arena.now c.loop-regex.arena c.expand.new.arena c.args.graph.now c.loop-regex.graph
+          c.expand.new.graph c.args.self.now c.loop-regex.self c.expand.new.self c.loop-regex.invariant.goes
+          (record {
+            stays = h.stays;
+            buried = h.buried;
+            expanded = h.expanded_stay;
+            extends = h.extends;
+            graph = h.graph;
+            marks = h.marks;
+            derivatives = h.derivatives_stay;
+          });
+      steps = spent_both c.args.budget.now c.loop-regex.budget c.expand.new.budget c.loop-regex.invariant.steps
+          c.in_ok-expand.ensures.steps;
+      counts = c.in_ok-expand.ensures.counts ∙ c.loop-regex.invariant.faults;
+    }
 
-pub returns-in-Spent-clause-goes : goal.returns-in-Spent-clause-goes
-returns-in-Spent-clause-goes g c =
-    let h = c.in_ok-expand.ensures in
-    goes_both c.args.arena.now c.loop-regex.arena c.expand.new.arena c.args.graph.now c.loop-regex.graph
-    c.expand.new.graph c.args.self.now c.loop-regex.self c.expand.new.self c.loop-regex.invariant.goes
-    (record {
-      stays = h.stays;
-      buried = h.buried;
-      expanded = h.expanded_stay;
-      extends = h.extends;
-      graph = h.graph;
-      marks = h.marks;
-      derivatives = h.derivatives_stay;
-    })
+pub returns : goal.returns
+returns g c =
+    let i = c.loop-regex.invariant in
+    record {
+      puts = i.puts;
+      expanded = λ done.
+          expanded_all c.args.regexes.now c.loop-regex.regex-index c.args.self.now c.loop-regex.self
+          c.loop-regex-test.false
+          c.loop-regex.invariant.expanded;
+      only = λ n there.
+          sym (expanded_all c.args.regexes.now c.loop-regex.regex-index c.args.self.now c.loop-regex.self
+          c.loop-regex-test.false c.loop-regex.invariant.expanded n) ∙ there;
+      spends = λ done.
+          spent_all (is_unexpanded c.args.self.now) c.args.regexes.now c.loop-regex.regex-index c.args.budget.now
+          c.loop-regex.budget c.loop-regex-test.false c.loop-regex.invariant.spends;
+      spent = λ stopped. absurd (true≢false stopped);
+      limit = c.loop-regex.invariant.spends.limit;
+      goes = i.goes;
+      steps = c.loop-regex.invariant.steps;
+      counts = i.faults;
+    }
 
-pub returns-in-Spent-clause-puts : goal.returns-in-Spent-clause-puts
-returns-in-Spent-clause-puts g c =
-    let before = c.loop-regex.invariant in
-    let h = c.in_ok-expand.ensures in
-    λ asked kept tracks counts.
-    traces_both asked kept c.loop-regex.arena c.expand.new.arena c.loop-regex.graph.memo c.expand.new.graph.memo
-    c.loop-regex.self c.expand.new.self c.loop-regex.budget c.expand.new.budget (g.L.Tape.told c.args.tape.now)
-    (g.L.Tape.told c.loop-regex.tape) (g.L.Tape.told c.expand.new.tape) (before.puts asked kept tracks counts)
-    (λ after t n. h.puts asked after t n)
-
-pub returns-in-Spent-clause-limit : goal.returns-in-Spent-clause-limit
-returns-in-Spent-clause-limit g c = c.in_ok-expand.ensures.limit ∙ c.loop-regex.invariant.spends.limit
-
-pub returns-in-Spent-clause-only : goal.returns-in-Spent-clause-only
-returns-in-Spent-clause-only g c =
-    let before = c.loop-regex.invariant in
-    let h = c.in_ok-expand.ensures in
-    λ n there.
-    let none = ap (λ e. is_put e c.regex-item.result n || is_expanded_in c.loop-regex.self n) c.in-Spent.is in
-    member_front c.args.regexes.now c.loop-regex.regex-index n (is_expanded_in c.args.self.now n)
-    (sym (h.only n ∙ none ∙ before.expanded n) ∙ there)
-
-pub returns-clause-expanded : goal.returns-clause-expanded
-returns-clause-expanded g c = λ done.
-    expanded_all c.args.regexes.now c.loop-regex.regex-index c.args.self.now c.loop-regex.self c.loop-regex-test.false
-    c.loop-regex.invariant.expanded
-
-pub returns-clause-only : goal.returns-clause-only
-returns-clause-only g c = λ n there.
-    sym (expanded_all c.args.regexes.now c.loop-regex.regex-index c.args.self.now c.loop-regex.self
-    c.loop-regex-test.false c.loop-regex.invariant.expanded n) ∙ there
-
-pub returns-clause-spends : goal.returns-clause-spends
-returns-clause-spends g c = λ done.
-    spent_all (is_unexpanded c.args.self.now) c.args.regexes.now c.loop-regex.regex-index c.args.budget.now
-    c.loop-regex.budget c.loop-regex-test.false c.loop-regex.invariant.spends
-
-pub returns-clause-limit : goal.returns-clause-limit
-returns-clause-limit g c = c.loop-regex.invariant.spends.limit
-
-pub returns-in_err-expand-clause-steps : goal.returns-in_err-expand-clause-steps
-returns-in_err-expand-clause-steps g c =
-    spent_both c.args.budget.now c.loop-regex.budget c.expand.new.budget c.loop-regex.invariant.steps
-    c.in_err-expand.ensures.steps
-
-pub returns-in-Spent-clause-steps : goal.returns-in-Spent-clause-steps
-returns-in-Spent-clause-steps g c =
-    spent_both c.args.budget.now c.loop-regex.budget c.expand.new.budget c.loop-regex.invariant.steps
-    c.in_ok-expand.ensures.steps
-
-pub returns-clause-steps : goal.returns-clause-steps
-returns-clause-steps g c = c.loop-regex.invariant.steps
+pub expand-requires : goal.expand-requires
+expand-requires g c =
+    record {
+      known = number_in c.loop-regex.arena c.args.regexes.now c.loop-regex.regex-index c.regex-item.result
+          c.loop-regex.invariant.known c.loop-regex-test.true c.regex-item.is;
+      graph = c.loop-regex.invariant.goes.graph;
+    }

@@ -1,37 +1,54 @@
 use Rattle.std.proofs.Common.{◌≡◌, [], ◌∷◌, None, is_some, refl, sym, ap, subst, inl, ◌∙◌}
+use Rattle.std.proofs.lemmas.Result.{IfOk-from_err, err_from_is_err_and}
 use Rattle.sb_trace.specs.Tracking.{number_in, itself}
 use Rattle.sb_trace.specs.Waiting.{stack_of, waits, numbers_in, is_in, AreLacking}
 use Rattle.sb_trace.proofs.Growing.{stays_same}
 use Rattle.sb_trace.proofs.Positions.{number_from_index, number-there, numbered-stays}
-use Rattle.sb_trace.proofs.Puts.{regexes_none, regexes_both, stays_both}
+use Rattle.sb_trace.proofs.Puts.{regexes_none, regexes_both, stays_both, traces_none}
 use Rattle.sb_trace.proofs.Stacks.{stack_pushed, one_waits, one_is_in, adds_both}
+use Rattle.sb_trace.specs.Putting.{CountsTapeFault}
+use Rattle.sb_trace.proofs.Exits.{counts_none, counts_on}
 use Rattle.sb_trace.proofs.trace.Trace.number.Goals as goal
 
-pub returns-in-Some-clause-first : goal.returns-in-Some-clause-first
-returns-in-Some-clause-first g c =
-    ap (λ t. number_in t.order c.args.regex) (sym c.self.view_is)
-    ∙ sym (number_from_index c.self.inside.order.keys c.args.regex c.get_index_of.result c.get_index_of.ensures.index)
-    ∙ c.in-Some.is
+pub returns-in-Some : goal.returns-in-Some
+returns-in-Some g c =
+    record {
+      number = number-there c.args.self.now.order c.args.regex c.in-Some.number
+          (ap (λ t. number_in t.order c.args.regex) (sym c.self.view_is)
+          ∙ sym (number_from_index c.self.inside.order.keys c.args.regex c.get_index_of.result
+          c.get_index_of.ensures.index)
+          ∙ c.in-Some.is);
+      first = ap (λ t. number_in t.order c.args.regex) (sym c.self.view_is)
+          ∙ sym (number_from_index c.self.inside.order.keys c.args.regex c.get_index_of.result
+          c.get_index_of.ensures.index)
+          ∙ c.in-Some.is;
+      expanded_stay = λ n. refl;
+      dead_stay = λ n. refl;
+      puts = λ asked memo before tracks.
+          traces_none asked before c.args.arena.now memo c.args.self.now (g.L.Tape.told c.args.tape.now) tracks;
+      defines = λ asked memo before tracks.
+          regexes_none asked before c.args.arena.now memo c.args.self.now (g.L.Tape.told c.args.tape.now) tracks;
+      only = λ n h. inl h;
+      stays = stays_same c.args.self.now;
+      counts = refl;
+    }
 
-pub returns-in-Some-clause-number : goal.returns-in-Some-clause-number
-returns-in-Some-clause-number g c =
-    number-there c.args.self.now.order c.args.regex c.in-Some.number
-    (ap (λ t. number_in t.order c.args.regex) (sym c.self.view_is)
-    ∙ sym (number_from_index c.self.inside.order.keys c.args.regex c.get_index_of.result c.get_index_of.ensures.index)
-    ∙ c.in-Some.is)
-
-pub returns-clause-number : goal.returns-clause-number
-returns-clause-number g c =
-    number-there c.loop-frame.self.order c.args.regex c.number_of.result
-    (ap (λ t. number_in t.order c.args.regex) (sym c.self-2.view_is) ∙ c.number_of.ensures)
-
-pub returns-in-Some-clause-defines : goal.returns-in-Some-clause-defines
-returns-in-Some-clause-defines g c = λ asked memo before tracks.
-    regexes_none asked before c.args.arena.now memo c.args.self.now (g.L.Tape.told c.args.tape.now) tracks
-
-pub returns-clause-puts : goal.returns-clause-puts
-returns-clause-puts g c = λ asked memo before tracks.
-    (c.loop-frame.invariant.puts asked memo before tracks).traced
+pub returns : goal.returns
+returns g c =
+    let k = c.loop-frame.invariant in
+    record {
+      number = number-there c.loop-frame.self.order c.args.regex c.number_of.result
+          (ap (λ t. number_in t.order c.args.regex) (sym c.self-2.view_is) ∙ c.number_of.ensures);
+      first = ap (λ t. number_in t.order c.args.regex) (sym c.self-2.view_is) ∙ c.number_of.ensures;
+      expanded_stay = k.expanded;
+      dead_stay = k.dead;
+      puts = λ asked memo before tracks.
+          (c.loop-frame.invariant.puts asked memo before tracks).traced;
+      defines = k.puts;
+      only = k.only;
+      stays = k.stays;
+      counts = k.counts;
+    }
 
 pub loop-frame-init : goal.loop-frame-init
 loop-frame-init g c =
@@ -83,4 +100,39 @@ loop-frame-preserved g c =
       expanded = λ n. turn.expanded_stay n ∙ known.expanded n;
       dead = λ n. turn.dead_stay n ∙ known.dead n;
       counts = turn.counts ∙ known.counts;
+    }
+
+pub returns-in_err-wait : goal.returns-in_err-wait
+returns-in_err-wait g c =
+    let x = c.from_residual in
+    let p = err_from_is_err_and x.result x.ensures.1 in
+    record {
+      number = IfOk-from_err x.result _ x.ensures.0;
+      first = IfOk-from_err x.result _ x.ensures.0;
+      expanded_stay = λ n. refl;
+      dead_stay = λ n. refl;
+      puts = IfOk-from_err x.result _ x.ensures.0;
+      defines = IfOk-from_err x.result _ x.ensures.0;
+      only = IfOk-from_err x.result _ x.ensures.0;
+      stays = stays_same c.args.self.now;
+      counts = counts_none x.result p.0 _ p.1 p.2;
+    }
+
+pub returns-in_err-settle : goal.returns-in_err-settle
+returns-in_err-settle g c =
+    let x = c.from_residual-in_err-settle in
+    let p = err_from_is_err_and x.result x.ensures.1 in
+    let k = c.loop-frame.invariant in
+    let s = c.settle.ensures in
+    record {
+      number = IfOk-from_err x.result _ x.ensures.0;
+      first = IfOk-from_err x.result _ x.ensures.0;
+      expanded_stay = λ n. s.expanded_stay n ∙ k.expanded n;
+      dead_stay = λ n. s.dead_stay n ∙ k.dead n;
+      puts = IfOk-from_err x.result _ x.ensures.0;
+      defines = IfOk-from_err x.result _ x.ensures.0;
+      only = IfOk-from_err x.result _ x.ensures.0;
+      stays = stays_both c.args.self.now c.loop-frame.self c.settle.new.self k.stays s.stays;
+      counts = subst (λ old. CountsTapeFault x.result old _) k.counts
+          (counts_on x.result p.0 _ _ _ p.1 p.2 c.in_err-settle.ensures.counts);
     }

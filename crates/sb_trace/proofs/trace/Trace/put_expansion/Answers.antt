@@ -15,12 +15,12 @@ returns-clause-puts g c =
     let small : length s.order.keys ≤ 2 ^ 64 =
     omega (arith, long, s.expanded.ok.0, s.expanded.ok.1, s.expanded.small) in
     let no = sym c.is_err.ensures.value ∙ c.if-is_err.false in
-    let put = c.in_ok-put.ensures in
+    let put = c.in_ok-put_line.ensures in
     λ asked rs memo pieces before known entry are new tracks counts.
     expansion_traced_at c.order_tells_apart.ensures c.test_decides_expansion.ensures asked rs memo c.args.self.now u
     before c.args.number pieces c.args.classes.items c.args.budget.now c.tick.new.self (g.L.Tape.told c.args.tape.now)
-    (g.L.Tape.told c.put.new.self) c.self.view_is long small (told_ok c.tick.result _ no c.tick.ensures.room)
-    (told_ok c.tick.result _ no c.tick.ensures.ok) put.ok c.requires known entry are new tracks counts
+    (g.L.Tape.told c.put_line.new.tape) c.self.view_is long small (told_ok c.tick.result _ no c.tick.ensures.room)
+    (told_ok c.tick.result _ no c.tick.ensures.ok) put.told c.requires known entry are new tracks counts
 
 pub returns-clause-marks : goal.returns-clause-marks
 returns-clause-marks g c =
@@ -38,8 +38,8 @@ returns-then-is_err-clause-limit g c =
     ap (λ (b : Spending). b.limit)
     (told_err c.tick.result _ (sym c.is_err.ensures.value ∙ c.if-is_err.true) c.tick.ensures.same)
 
-pub returns-in_err-put-clause-limit : goal.returns-in_err-put-clause-limit
-returns-in_err-put-clause-limit g c =
+pub returns-in_err-put_line-clause-limit : goal.returns-in_err-put_line-clause-limit
+returns-in_err-put_line-clause-limit g c =
     ap (λ (b : Spending). b.limit)
     (told_ok c.tick.result _ (sym c.is_err.ensures.value ∙ c.if-is_err.false) c.tick.ensures.ok)
 
@@ -65,8 +65,8 @@ returns-then-is_err-clause-steps g c =
     spent_same c.args.budget.now c.tick.new.self
     (told_err c.tick.result _ (sym c.is_err.ensures.value ∙ c.if-is_err.true) c.tick.ensures.same)
 
-pub returns-in_err-put-clause-steps : goal.returns-in_err-put-clause-steps
-returns-in_err-put-clause-steps g c =
+pub returns-in_err-put_line-clause-steps : goal.returns-in_err-put_line-clause-steps
+returns-in_err-put_line-clause-steps g c =
     spent_one c.args.budget.now c.tick.new.self
     (told_ok c.tick.result _ (sym c.is_err.ensures.value ∙ c.if-is_err.false) c.tick.ensures.ok) c.tick.ensures.within
 

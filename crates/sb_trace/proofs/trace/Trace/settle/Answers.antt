@@ -1,4 +1,5 @@
-use Rattle.std.proofs.Common.{◌≡◌, ◌∷◌, ◌++◌, [], true, map, filter, is_some, sym, ap, ◌∙◌}
+use Rattle.std.proofs.Common.{◌≡◌, ◌∷◌, ◌++◌, [], true, map, filter, is_some, sym, ap, ◌∙◌, refl}
+use Rattle.std.proofs.lemmas.Result.{IfOk-from_err, err_from_is_err_and}
 use Rattle.sb_regex.specs.Nodes.{node_parts}
 use Rattle.sb_trace.specs.Tracking.{number_in}
 use Rattle.sb_trace.specs.Defining.{is_lacking}
@@ -6,22 +7,24 @@ use Rattle.sb_trace.specs.Waiting.{waits, stack_of, Settles}
 use Rattle.sb_trace.proofs.Positions.{none-false}
 use Rattle.sb_trace.proofs.Puts.{regexes_none}
 use Rattle.sb_trace.proofs.Stacks.{settles_numbered, settles_defined, settles_entered, top_known, on_ok}
+use Rattle.sb_trace.proofs.Exits.{counts_none}
+use Rattle.sb_trace.proofs.Growing.{stays_same}
 use Rattle.sb_trace.proofs.trace.Trace.settle.Goals as goal
 
-pub returns-then-has_number-clause-settles : goal.returns-then-has_number-clause-settles
-returns-then-has_number-clause-settles g c =
-    settles_numbered c.args.arena.now c.args.self.now.order c.args.frame (stack_of c.args.stack.now.items)
-    (sym (c.has_number.ensures ∙ ap (λ t. is_some (number_in t.order c.args.frame.regex)) c.self.view_is)
-    ∙ c.if-has_number.true)
-    c.requires
-
-pub returns-then-has_number-clause-puts : goal.returns-then-has_number-clause-puts
-returns-then-has_number-clause-puts g c = λ asked memo before tracks.
-    regexes_none asked before c.args.arena.now memo c.args.self.now (g.L.Tape.told c.args.tape.now) tracks
-
-pub returns-clause-puts : goal.returns-clause-puts
-returns-clause-puts g c = λ asked memo before tracks.
-    regexes_none asked before c.args.arena.now memo c.args.self.now (g.L.Tape.told c.args.tape.now) tracks
+pub returns-then-has_number : goal.returns-then-has_number
+returns-then-has_number g c =
+    record {
+      settles = settles_numbered c.args.arena.now c.args.self.now.order c.args.frame (stack_of c.args.stack.now.items)
+          (sym (c.has_number.ensures ∙ ap (λ t. is_some (number_in t.order c.args.frame.regex)) c.self.view_is)
+          ∙ c.if-has_number.true)
+          c.requires;
+      expanded_stay = λ n. refl;
+      dead_stay = λ n. refl;
+      puts = λ asked memo before tracks.
+          regexes_none asked before c.args.arena.now memo c.args.self.now (g.L.Tape.told c.args.tape.now) tracks;
+      stays = stays_same c.args.self.now;
+      counts = refl;
+    }
 
 pub returns-then-frame-clause-settles : goal.returns-then-frame-clause-settles
 returns-then-frame-clause-settles g c =
@@ -37,20 +40,58 @@ returns-then-frame-clause-settles g c =
     e c.requires)
     c.define.ensures.added
 
-pub returns-clause-settles : goal.returns-clause-settles
-returns-clause-settles g c =
-    let parts = node_parts c.node-node.result.now in
-    settles_entered c.args.arena.now c.args.self.now.order c.args.frame (stack_of c.args.stack.now.items)
-    (stack_of c.wait_for_parts.new.stack.items) c.node-node.result.now c.normal_regexes_each_once.ensures.distinct
-    (record {
-      known = top_known c.args.arena.now c.args.self.now.order c.args.frame (stack_of c.args.stack.now.items)
+pub returns : goal.returns
+returns g c =
+    record {
+      settles = let parts = node_parts c.node-node.result.now in
+          settles_entered c.args.arena.now c.args.self.now.order c.args.frame (stack_of c.args.stack.now.items)
+          (stack_of c.wait_for_parts.new.stack.items) c.node-node.result.now c.normal_regexes_each_once.ensures.distinct
+          (record {
+            known = top_known c.args.arena.now c.args.self.now.order c.args.frame (stack_of c.args.stack.now.items)
+                c.requires;
+            regex = c.node-node.ensures.value;
+            parts = c.node-node.ensures.parts;
+          })
+          c.if-frame.false
+          (c.in_ok-wait_for_parts.ensures
+          ∙ ap (λ fs. map waits (filter (is_lacking c.self.inside.order.keys) parts) ++ fs) c.in_ok-wait.ensures
+          ∙ ap (λ t. map waits (filter (is_lacking t.order) parts) ++ (record {
+            regex = c.args.frame.regex;
+            entered =
+                true;
+          })
+          ∷ stack_of c.args.stack.now.items) c.self.view_is)
           c.requires;
-      regex = c.node-node.ensures.value;
-      parts = c.node-node.ensures.parts;
-    })
-    c.if-frame.false
-    (c.in_ok-wait_for_parts.ensures
-    ∙ ap (λ fs. map waits (filter (is_lacking c.self.inside.order.keys) parts) ++ fs) c.in_ok-wait.ensures
-    ∙ ap (λ t. map waits (filter (is_lacking t.order) parts) ++ (record { regex = c.args.frame.regex; entered = true })
-    ∷ stack_of c.args.stack.now.items) c.self.view_is)
-    c.requires
+      expanded_stay = λ n. refl;
+      dead_stay = λ n. refl;
+      puts = λ asked memo before tracks.
+          regexes_none asked before c.args.arena.now memo c.args.self.now (g.L.Tape.told c.args.tape.now) tracks;
+      stays = stays_same c.args.self.now;
+      counts = refl;
+    }
+
+pub returns-in_err-wait : goal.returns-in_err-wait
+returns-in_err-wait g c =
+    let x = c.from_residual in
+    let p = err_from_is_err_and x.result x.ensures.1 in
+    record {
+      settles = IfOk-from_err x.result _ x.ensures.0;
+      expanded_stay = λ n. refl;
+      dead_stay = λ n. refl;
+      puts = IfOk-from_err x.result _ x.ensures.0;
+      stays = stays_same c.args.self.now;
+      counts = counts_none x.result p.0 _ p.1 p.2;
+    }
+
+pub returns-in_err-wait_for_parts : goal.returns-in_err-wait_for_parts
+returns-in_err-wait_for_parts g c =
+    let x = c.from_residual-in_err-wait_for_parts in
+    let p = err_from_is_err_and x.result x.ensures.1 in
+    record {
+      settles = IfOk-from_err x.result _ x.ensures.0;
+      expanded_stay = λ n. refl;
+      dead_stay = λ n. refl;
+      puts = IfOk-from_err x.result _ x.ensures.0;
+      stays = stays_same c.args.self.now;
+      counts = counts_none x.result p.0 _ p.1 p.2;
+    }
