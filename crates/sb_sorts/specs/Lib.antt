@@ -5,3 +5,4 @@ pub mod Reads
 pub mod Growth
 pub mod Heads
 pub mod NameTable
+pub mod NamedRows

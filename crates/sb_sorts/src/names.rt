@@ -5,6 +5,7 @@ ghost use Rattle.std.specs.List.{list_any};
 ghost use Rattle.sb_script.specs.Brought.{is_brought_sort};
 ghost use Rattle.sb_script.specs.Names as meaning;
 ghost use Rattle.sb_script.specs.Symbols as theory;
+ghost use Rattle.sb_sorts.specs.NamedRows.{look_up};
 ghost use Rattle.sb_term.specs.Symbols.{symbol_in, sort_in};
 
 use sb_term::{Sort, Symbol};
@@ -90,6 +91,40 @@ const LEFT_OUT: [&[u8]; 32] = [
     b"re.nostr",
 ];
 
+/// The symbols that are read, but for those that take indices.
+const SYMBOLS: &[(&[u8], Symbol)] = &[
+    (b"true", Symbol::True),
+    (b"false", Symbol::False),
+    (b"not", Symbol::Not),
+    (b"and", Symbol::And),
+    (b"or", Symbol::Or),
+    (b"=>", Symbol::Implies),
+    (b"xor", Symbol::Xor),
+    (b"ite", Symbol::Ite),
+    (b"=", Symbol::Equal),
+    (b"distinct", Symbol::Distinct),
+    (b"str.in_re", Symbol::StrInRe),
+    (b"str.to_re", Symbol::StrToRe),
+    (b"re.none", Symbol::ReNone),
+    (b"re.all", Symbol::ReAll),
+    (b"re.allchar", Symbol::ReAllChar),
+    (b"re.++", Symbol::ReConcat),
+    (b"re.union", Symbol::ReUnion),
+    (b"re.inter", Symbol::ReInter),
+    (b"re.diff", Symbol::ReDiff),
+    (b"re.*", Symbol::ReStar),
+    (b"re.+", Symbol::RePlus),
+    (b"re.opt", Symbol::ReOpt),
+    (b"re.comp", Symbol::ReComp),
+    (b"re.range", Symbol::ReRange),
+];
+
+/// The symbols that take indices.
+const INDEXED: &[(&[u8], ())] = &[(b"re.^", ()), (b"re.loop", ())];
+
+/// The sorts that constants may have.
+const SORTS: &[(&[u8], Sort)] = &[(b"Bool", Sort::Bool), (b"String", Sort::String)];
+
 /// Whether the name is one of these.
 fn is_among(names: &[&[u8]], name: &[u8]) -> bool
     ensures { result ≡ list_any (λ other. meaning.is_name name.now other.now) names.now }
@@ -111,72 +146,32 @@ pub fn is_reserved(name: &[u8]) -> bool
     is_among(&WORDS_OF_TERMS, name) || is_among(&WORDS_OF_SCRIPTS, name)
 }
 
+/// What stands in a table by this name.
+#[tactic(auto, unfolding(crate::specs::NamedRows::look_up))]
+fn look_up<T: Copy>(table: &[(&[u8], T)], name: &[u8]) -> Option<T>
+    ensures { result ≡ look_up table.now name.now }
+{
+    for (other, meant) in table {
+        if name == *other {
+            return Some(*meant);
+        }
+    }
+    None
+}
+
 /// The symbol of this name, where it is read.
 pub(crate) fn symbol_named(name: &[u8]) -> Option<Symbol>
     ensures { option_map symbol_in result ≡ theory.symbol_named name.now }
 {
-    if name == b"true".as_slice() {
-        Some(Symbol::True)
-    } else if name == b"false".as_slice() {
-        Some(Symbol::False)
-    } else if name == b"not".as_slice() {
-        Some(Symbol::Not)
-    } else if name == b"and".as_slice() {
-        Some(Symbol::And)
-    } else if name == b"or".as_slice() {
-        Some(Symbol::Or)
-    } else if name == b"=>".as_slice() {
-        Some(Symbol::Implies)
-    } else if name == b"xor".as_slice() {
-        Some(Symbol::Xor)
-    } else if name == b"ite".as_slice() {
-        Some(Symbol::Ite)
-    } else if name == b"=".as_slice() {
-        Some(Symbol::Equal)
-    } else if name == b"distinct".as_slice() {
-        Some(Symbol::Distinct)
-    } else if name == b"str.in_re".as_slice() {
-        Some(Symbol::StrInRe)
-    } else if name == b"str.to_re".as_slice() {
-        Some(Symbol::StrToRe)
-    } else if name == b"re.none".as_slice() {
-        Some(Symbol::ReNone)
-    } else if name == b"re.all".as_slice() {
-        Some(Symbol::ReAll)
-    } else if name == b"re.allchar".as_slice() {
-        Some(Symbol::ReAllChar)
-    } else if name == b"re.++".as_slice() {
-        Some(Symbol::ReConcat)
-    } else if name == b"re.union".as_slice() {
-        Some(Symbol::ReUnion)
-    } else if name == b"re.inter".as_slice() {
-        Some(Symbol::ReInter)
-    } else if name == b"re.diff".as_slice() {
-        Some(Symbol::ReDiff)
-    } else if name == b"re.*".as_slice() {
-        Some(Symbol::ReStar)
-    } else if name == b"re.+".as_slice() {
-        Some(Symbol::RePlus)
-    } else if name == b"re.opt".as_slice() {
-        Some(Symbol::ReOpt)
-    } else if name == b"re.comp".as_slice() {
-        Some(Symbol::ReComp)
-    } else if name == b"re.range".as_slice() {
-        Some(Symbol::ReRange)
-    } else {
-        None
-    }
+    look_up(SYMBOLS, name)
 }
 
 /// Whether the name is of a symbol that takes indices.
+#[tactic(auto, unfolding(crate::specs::NamedRows::look_up))]
 pub(crate) fn is_indexed(name: &[u8]) -> bool
     ensures { result ≡ theory.is_indexed name.now }
 {
-    if name == b"re.^".as_slice() {
-        true
-    } else {
-        name == b"re.loop".as_slice()
-    }
+    look_up(INDEXED, name).is_some()
 }
 
 /// Whether the name is one of the theories that is not read.
@@ -194,15 +189,10 @@ pub fn is_theory_name(name: &[u8]) -> bool
 }
 
 /// The sort of this name, where constants may have it. Takes no memory.
+#[tactic(auto, unfolding(crate::specs::NamedRows::look_up))]
 pub fn sort_named(name: &[u8]) -> Option<Sort>
     ensures value { option_map sort_in result ≡ theory.sort_named name.now }
     ensures read { IfSome result (λ sort. is_brought_sort (sort_in sort) ≡ true) }
 {
-    if name == b"Bool".as_slice() {
-        Some(Sort::Bool)
-    } else if name == b"String".as_slice() {
-        Some(Sort::String)
-    } else {
-        None
-    }
+    look_up(SORTS, name)
 }

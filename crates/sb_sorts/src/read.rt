@@ -19,35 +19,27 @@ use sb_reader::{Shape, Shapes};
 use sb_term::{Table, TermId};
 use smallvec::SmallVec;
 use std::alloc::{AllocError, AllocFailed, Global};
-use thiserror::Error;
 
 /// Why a form is no term.
-#[derive(Debug, Drop, Error)]
+#[derive(Drop)]
 pub enum ReadFault {
     /// A name that stands for nothing.
-    #[error("unknown symbol")]
     UnknownSymbol(Vec<u8>),
     /// An argument of another sort than the symbol takes.
-    #[error("wrong sort")]
     WrongSort,
-    #[error("wrong number of arguments")]
+    /// Another number of arguments than the symbol takes.
     WrongCount,
     /// An index behind a symbol that takes none, indices of another number or kind than the symbol takes, or none.
-    #[error("bad index")]
     BadIndex,
     /// An index above 65,535.
-    #[error("numeral too large")]
     NumeralTooLarge,
     /// A term that is left out, or uses a marked name.
-    #[error("unsupported")]
     Unsupported,
     /// A text with a byte that no literal has.
-    #[error("bad token")]
     BadLiteral,
     /// A list of wrong shape, or a reserved word.
-    #[error("malformed command")]
     Malformed,
-    #[error("out of memory")]
+    /// Want of memory.
     NoMemory,
 }
 
