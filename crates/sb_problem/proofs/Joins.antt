@@ -16,7 +16,7 @@ use Rattle.sb_lang.specs.Order.{regex_eq}
 use Rattle.sb_lang.specs.SortedLaws.{is_member}
 use Rattle.sb_regex.specs.Numbered.{regex_at, regexes_at, Names, AllNumbers, Extends}
 use Rattle.sb_problem.specs.Shapes.{IsFound, joined_right, joined_from, joined_left, of_nothing, of_one, either, both, without, repeated, optional}
-use Rattle.sb_regex.proofs.CallerLemmas.{names_at, names_below, at_kept, ats_kept, number_in, number_kept, numbers_kept, one_number, extends_more}
+use Rattle.sb_regex.proofs.CallerLemmas.{names_at, names_below, at_kept, ats_kept, number_in, number_kept, numbers_kept, one_number, extends_same, extends_more}
 
 -- what is found by its regex
 pub found : (rs : List Regex) (id : ℕ) (r : Regex) (o : Option Regex) → o ≡ Some r → Names rs id r
@@ -250,6 +250,9 @@ pub record AreComplements (old new : List Regex) (ids found : List ℕ) : Type 0
   pub extends : Extends old new
   pub numbers : AllNumbers new found
   pub regexes : regexes_at new found ≡ map mknot (regexes_at old ids)
+
+pub complements_none : (rs : List Regex) → AreComplements rs rs [] []
+complements_none rs = record { extends = extends_same rs; numbers = λ i d l. absurd (omega (arith, l)); regexes = refl }
 
 pub complements_further : (old rs new : List Regex) (ids found found' : List ℕ) (i x id : ℕ) → AllNumbers old ids
     → AreComplements old rs (take i ids) found → i < length ids → x ≡ get_or ids i x → Extends rs new →

@@ -1,4 +1,5 @@
 use Rattle.std.proofs.Common.{◌∙◌}
+use Rattle.sb_regex.proofs.CallerLemmas.{extends_more}
 use Rattle.sb_problem.proofs.Joins.{parted, others_numbers, members_numbers, first_found, difference_found}
 use Rattle.sb_problem.proofs.join.difference.Goals as goal
 
@@ -28,3 +29,13 @@ returns-clause-ok c =
     (parted c.args.ids.now c.first-item.result c.in-len1-up.len_at_least c.first-item.is) c.if-is_empty.ensures
     c.in_ok-members.ensures.extends c.in_ok-members.ensures.regexes
     (c.deref.ensures.value ∙ c.in_ok-push.ensures.items) c.in_ok-and.ensures.ok
+
+pub returns-in_err-and-clause-extends : goal.returns-in_err-and-clause-extends
+returns-in_err-and-clause-extends c =
+    extends_more c.args.arena.now c.complements.new.arena c.and.new.self c.in_ok-members.ensures.extends
+    c.in_err-and.ensures.extends
+
+pub returns-clause-extends : goal.returns-clause-extends
+returns-clause-extends c =
+    extends_more c.args.arena.now c.complements.new.arena c.and.new.self c.in_ok-members.ensures.extends
+    c.in_ok-and.ensures.extends
