@@ -6,7 +6,7 @@ use Rattle.std.specs.Ordering.{is_gt}
 use Rattle.std.proofs.lemmas.Bool.{and_parts, and_from, false≢true}
 use Rattle.std.proofs.lemmas.Bool.Decides.{nat_tests}
 use Rattle.std.proofs.lemmas.List.{drop_more, drop_all, take_more, map-append, take_all}
-use Rattle.std.proofs.lemmas.Option.{slice_get_within}
+use Rattle.std.proofs.lemmas.Option.{slice_get_within, same_Some}
 use Rattle.sb_lang.specs.Regex.{Regex}
 use Rattle.sb_lit.specs.declared.clause.Lit.{Lit}
 use Rattle.sb_lit.specs.Clauses.{negation, literal_order, are_ascending}
@@ -27,9 +27,6 @@ use Rattle.sb_atoms.proofs.Translating.{apart_and, apart_iff}
 
 some_none : {X : Type 0} (x : X) → Some x ≡ None → ⊥
 some_none x e = cc
-
-some_is : {X : Type 0} (x y : X) → Some x ≡ Some y → x ≡ y
-some_is x y e = cc
 
 -- Below a number.
 
@@ -124,7 +121,7 @@ gives_one adds new ls ordered l below e one first = record {
   is = λ rs. ap (conjunction_of (atoms_in rs new)) (sym (one_of ordered l one first) ∙ e);
   sure = λ on. some_none l;
   below = λ k same.
-      ap (is_below (length new)) (sym (some_is l k same))
+      ap (is_below (length new)) (sym (same_Some l k same))
       ∙ (and_parts (is_below (length new) l) true
       (ap (are_below (length new)) (sym (one_of ordered l one first) ∙ e) ∙ below_in_order (length new) ls below)).0;
 }
@@ -172,7 +169,7 @@ gives_negated adds new make found h = record {
     was_below : (o : Option Lit) (l : Lit) → negated o ≡ Some l
         → ((k : Lit) → o ≡ Some k → is_below (length new) k ≡ true) → is_below (length new) l ≡ true
     was_below None l e below = absurd (some_none l (sym e))
-    was_below (Some k) l e below = ap (is_below (length new)) (sym (some_is (negation k) l e)) ∙ below k refl
+    was_below (Some k) l e below = ap (is_below (length new)) (sym (same_Some (negation k) l e)) ∙ below k refl
 
 pub gives_same : {A : Type 0} {known : ℕ → A → Bool} (adds : Bool) (new : List (AtomOver ℕ))
     (make other : List Atom → Option A) (found same : Option A) → same ≡ found
@@ -350,7 +347,7 @@ pub implied_end : (adds : Bool) (old new : List (AtomOver ℕ)) (ls : List Lit) 
 implied_end adds old new ls i last h e = record {
   is = λ rs. h.is rs ∙ ap (λ n. implications (atoms_in rs new) (drop n ls)) e;
   none = λ on none. absurd (some_none last none);
-  below = λ l same. ap (is_below (length new)) (sym (some_is last l same)) ∙ h.below;
+  below = λ l same. ap (is_below (length new)) (sym (same_Some last l same)) ∙ h.below;
 }
 
 -- Exclusive or, from the first to the last.
@@ -411,7 +408,7 @@ pub excluded_end : (adds : Bool) (old new : List (AtomOver ℕ)) (first last : L
 excluded_end adds old new first last xs ls h e = record {
   is = λ rs. h.is rs ∙ sym (ap (exclusive (atoms_in rs new)) e);
   none = λ on none. absurd (some_none last none);
-  below = λ l same. ap (is_below (length new)) (sym (some_is last l same)) ∙ h.below;
+  below = λ l same. ap (is_below (length new)) (sym (same_Some last l same)) ∙ h.below;
 }
 
 pub cut_at : (xs : List Lit) (i : ℕ) (d : Lit) → i < length xs
@@ -506,7 +503,7 @@ only_below : (n : ℕ) (ls : List Lit) (l : Lit) → are_below n ls ≡ true →
     → is_below n l ≡ true
 only_below n [] l h e = absurd (some_none l (sym e))
 only_below n (k ∷ []) l h e =
-    ap (is_below n) (sym (some_is (negation k) l e)) ∙ (and_parts (is_below n k) true h).0
+    ap (is_below n) (sym (same_Some (negation k) l e)) ∙ (and_parts (is_below n k) true h).0
 only_below n (k ∷ m ∷ ls) l h e = absurd (some_none l (sym e))
 
 pub gives_denied : (adds : Bool) (new : List (AtomOver ℕ)) (ls slice : List Lit) (found : Option Lit) → slice ≡ ls
@@ -553,7 +550,7 @@ all_stay f s (x ∷ xs) = one_stays (s x) (all_stay f s xs)
 
 together_push : (os : List (Option Lit)) (ls : List Lit) (l : Lit) → Some ls ≡ together os
     → Some (ls ++ l ∷ []) ≡ together (os ++ Some l ∷ [])
-together_push [] ls l h = ap (λ ms. Some (ms ++ l ∷ [])) (some_is ls [] h)
+together_push [] ls l h = ap (λ ms. Some (ms ++ l ∷ [])) (same_Some ls [] h)
 together_push (None ∷ os) ls l h = absurd (some_none ls h)
 together_push (Some k ∷ os) ls l h = step (together os) h (λ ms e. together_push os ms l e) refl
   where
@@ -562,7 +559,7 @@ together_push (Some k ∷ os) ls l h = step (together os) h (λ ms e. together_p
         → together os ≡ o → Some (ls ++ l ∷ []) ≡ option_map (λ ms. k ∷ ms) (together (os ++ Some l ∷ []))
     step None h rest e = absurd (some_none ls h)
     step (Some ms) h rest e =
-        ap (λ ns. Some (ns ++ l ∷ [])) (some_is ls (k ∷ ms) h) ∙ ap (option_map (λ ns. k ∷ ns)) (rest ms (sym e))
+        ap (λ ns. Some (ns ++ l ∷ [])) (same_Some ls (k ∷ ms) h) ∙ ap (option_map (λ ns. k ∷ ns)) (rest ms (sym e))
 
 together_stop : (os ps : List (Option Lit)) → together (os ++ None ∷ ps) ≡ None
 together_stop [] ps = refl
@@ -653,7 +650,7 @@ pub compared_end : (adds distinct : Bool) (old new : List (AtomOver ℕ)) (ps : 
 compared_end adds distinct old new ps i ls h done = record {
   is = λ rs. h.is rs ∙ ap (equivalences (atoms_in rs new) distinct) (take_all i ps done);
   sure = λ on. some_none ls;
-  below = λ ms e. ap (are_below (length new)) (sym (some_is ls ms e)) ∙ h.below;
+  below = λ ms e. ap (are_below (length new)) (sym (same_Some ls ms e)) ∙ h.below;
 }
 
 pub comparison_missing : (adds distinct : Bool) (new : List (AtomOver ℕ)) (ls : List Lit) (ps : List (Lit × Lit))

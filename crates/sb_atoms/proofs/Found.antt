@@ -5,7 +5,7 @@ use Rattle.std.proofs.lemmas.Bool.{and_parts, and_from}
 use Rattle.std.proofs.lemmas.Bool.Decides.{nat_tests}
 use Rattle.std.proofs.lemmas.List.{take_all}
 use Rattle.std.proofs.lemmas.List.Folds.{list_all-append}
-use Rattle.std.proofs.lemmas.Option.{slice_get_within}
+use Rattle.std.proofs.lemmas.Option.{slice_get_within, same_Some}
 use Rattle.sb_lang.specs.Regex.{Regex}
 use Rattle.sb_lang.specs.Normal.{normal}
 use Rattle.sb_lit.specs.declared.clause.Lit.{Lit}
@@ -47,9 +47,6 @@ use Rattle.sb_atoms.proofs.Translating.{apart_in, apart_bool}
 
 some_none : {X : Type 0} (x : X) → Some x ≡ None → ⊥
 some_none x e = cc
-
-some_is : {X : Type 0} (x y : X) → Some x ≡ Some y → x ≡ y
-some_is x y e = cc
 
 some_then : {A B : Type 0} (f : A → Option B) (x : A) (o : Option A) → Some x ≡ o → option_and_then f o ≡ f x
 some_then f x o e = ap (option_and_then f) (sym e)
@@ -106,8 +103,8 @@ finds_signed distinct adds rs new make found h = record {
         → ((k : Lit) → o ≡ Some k → is_below (length new) k ≡ true) → is_below (length new) l ≡ true
     was_below true None l e below = absurd (cc)
     was_below false None l e below = absurd (cc)
-    was_below true (Some k) l e below = ap (is_below (length new)) (sym (some_is _ l e)) ∙ below k refl
-    was_below false (Some k) l e below = ap (is_below (length new)) (sym (some_is k l e)) ∙ below k refl
+    was_below true (Some k) l e below = ap (is_below (length new)) (sym (same_Some _ l e)) ∙ below k refl
+    was_below false (Some k) l e below = ap (is_below (length new)) (sym (same_Some k l e)) ∙ below k refl
 
 pub signed_is : (distinct : Bool) (found : Option Lit) (l : Lit) → found ≡ Some l
     → signed distinct found ≡ Some (with_sign distinct l)
@@ -285,14 +282,14 @@ pub collected_end : {X : Type 0} (f : List Atom → X → Option Lit) (adds : Bo
 collected_end f adds given rs more old new xs i ls h done = record {
   is = h.is ∙ ap (λ ys. together (map (f (atoms_in more new)) ys)) (take_all i xs done);
   none = λ on none. absurd (some_none ls none);
-  below = λ ms e. ap (are_below (length new)) (sym (some_is ls ms e)) ∙ h.below;
+  below = λ ms e. ap (are_below (length new)) (sym (same_Some ls ms e)) ∙ h.below;
 }
 
 -- What is made of what was found.
 
 long_together : {X : Type 0} (f : X → Option Lit) (xs : List X) (ls : List Lit) → together (map f xs) ≡ Some ls
     → length ls ≡ length xs
-long_together f [] ls h = ap length (sym (some_is [] ls h))
+long_together f [] ls h = ap length (sym (same_Some [] ls h))
 long_together f (x ∷ xs) ls h = step (f x) (together (map f xs)) refl h (λ ms e. long_together f xs ms e)
   where
     step : (o : Option Lit) (p : Option (List Lit)) → together (map f xs) ≡ p → together (o ∷ map f xs) ≡ Some ls
@@ -300,7 +297,7 @@ long_together f (x ∷ xs) ls h = step (f x) (together (map f xs)) refl h (λ ms
     step None p e h rest = absurd (some_none ls (sym h))
     step (Some l) None e h rest = absurd (some_none ls (sym (sym (ap (option_map (λ ms. l ∷ ms)) e) ∙ h)))
     step (Some l) (Some ms) e h rest =
-        let same = some_is (l ∷ ms) ls (sym (ap (option_map (λ ns. l ∷ ns)) e) ∙ h) in
+        let same = same_Some (l ∷ ms) ls (sym (ap (option_map (λ ns. l ∷ ns)) e) ∙ h) in
         ap length (sym same) ∙ ap suc (rest ms e)
 
 pub then_none : {X : Type 0} (f : List Atom → X → Option Lit) (make : List Atom → List Lit → Option Lit) (adds : Bool)

@@ -1,7 +1,7 @@
 -- Tables of atoms that grow, and arenas beside them.
 use Rattle.std.proofs.Common.{◌≡◌, ℕ, zero, suc, ◌+◌, ◌≤◌, Bool, true, false, ◌⊎◌, inl, inr, Some, List, [], ◌∷◌, ◌++◌, length, slice_get, Option, refl, sym, ap, ap₂, ◌∙◌, arith, length-append, append_assoc}
 use Rattle.std.proofs.lemmas.List.{append-nil}
-use Rattle.std.proofs.lemmas.Option.{slice_get_within}
+use Rattle.std.proofs.lemmas.Option.{slice_get_within, same_Some}
 use Rattle.sb_lang.specs.Regex.{Regex}
 use Rattle.sb_meaning.specs.Terms.{Sort, Term}
 use Rattle.sb_regex.specs.Numbered as regex
@@ -14,9 +14,6 @@ use Rattle.sb_atoms.specs.Numbered.{Names, Extends, over, atoms_in, HasRegexBelo
 use Rattle.sb_atoms.specs.Translated.{has_declared, AreDefined}
 use Rattle.sb_atoms.specs.Growing.{Grown, GrownByGates, GrownByOne, Moves}
 use Rattle.sb_atoms.proofs.CallerLemmas.{regex_kept, atoms_kept, atoms_more}
-
-some_is : {X : Type 0} (x y : X) → Some x ≡ Some y → x ≡ y
-some_is x y e = cc
 
 nothing : {X : Type 0} (x : X) (n : ℕ) → slice_get {X = X} [] n ≡ Some x → ⊥
 nothing x n h = omega (arith, slice_get_within [] n x h)
@@ -53,7 +50,7 @@ grown_same : (adds : Bool) (regexes : ℕ) (given : List Sort → Bool) (old new
 grown_same adds regexes given old new e = rw e (grown_none adds regexes given old)
 
 one_only : (a b : AtomOver ℕ) (i : ℕ) → slice_get (a ∷ []) i ≡ Some b → (i ≡ 0) × (a ≡ b)
-one_only a b zero h = (refl, some_is a b h)
+one_only a b zero h = (refl, same_Some a b h)
 one_only a b (suc i) h = absurd (nothing b i h)
 
 longer_by_one : (old : List (AtomOver ℕ)) (a : AtomOver ℕ) → old ++ a ∷ [] ≡ old → ⊥

@@ -2,6 +2,7 @@
 use Rattle.std.proofs.Common.{◌≡◌, ◌<◌, ◌≤◌, Bool, true, false, ◌&&◌, if◌then◌else◌, List, [], ◌∷◌, ◌++◌, length, map, Option, Some, None, option_map, option_and_then, refl, sym, ap, ◌∙◌, arith}
 use Rattle.std.specs.List.{list_all}
 use Rattle.std.proofs.lemmas.Bool.{and_parts}
+use Rattle.std.proofs.lemmas.Option.{same_Some}
 use Rattle.sb_lit.specs.declared.clause.Lit.{Lit}
 use Rattle.sb_meaning.specs.Terms.{Sort, boolean, integer, text, reglan, Term, Terms, apply, no_terms, with_term, terms_in}
 use Rattle.sb_meaning.specs.Sorts.{sort_of}
@@ -69,9 +70,6 @@ equality_of_sort atoms t u k e = ap (λ s. by_kind s atoms (argument atoms t) (a
 some_none : {X : Type 0} (x : X) → Some x ≡ None → ⊥
 some_none x e = cc
 
-some_is : {X : Type 0} (x y : X) → Some x ≡ Some y → x ≡ y
-some_is x y e = cc
-
 -- all of one
 pub of_one : (atoms : List Atom) (o : Option Lit) → option_and_then (conjunction atoms) (together (o ∷ [])) ≡ o
 of_one atoms None = refl
@@ -79,14 +77,14 @@ of_one atoms (Some l) = refl
 
 -- all have a literal
 all_some : (os : List (Option Lit)) (ls : List Lit) → together os ≡ Some ls → os ≡ map Some ls
-all_some [] ls h = ap (map Some) (some_is [] ls h)
+all_some [] ls h = ap (map Some) (same_Some [] ls h)
 all_some (None ∷ os) ls h = absurd (some_none ls (sym h))
 all_some (Some l ∷ os) ls h = step (together os) h (λ ms e. all_some os ms e) refl
   where
     step : (o : Option (List Lit)) → option_map (λ ms. l ∷ ms) o ≡ Some ls
         → ((ms : List Lit) → together os ≡ Some ms → os ≡ map Some ms) → together os ≡ o → Some l ∷ os ≡ map Some ls
     step None h rest e = absurd (some_none ls (sym h))
-    step (Some ms) h rest e = ap (λ ps. Some l ∷ ps) (rest ms e) ∙ ap (map Some) (some_is (l ∷ ms) ls h)
+    step (Some ms) h rest e = ap (λ ps. Some l ∷ ps) (rest ms e) ∙ ap (map Some) (same_Some (l ∷ ms) ls h)
 
 -- one has none
 later_none : (l : Lit) (os : List (Option Lit)) → together (Some l ∷ os) ≡ None → together os ≡ None

@@ -5,11 +5,11 @@ use Rattle.std.proofs.Common.{arith, length-append}
 use Rattle.std.specs.List.{list_any, position}
 use Rattle.std.specs.Prelude.{Option, None, is_some, option_map}
 use Rattle.std.specs.Cmp.Lexicographic.{pointwise_decides}
-use Rattle.std.proofs.lemmas.Bool.{and_parts, false≢true}
+use Rattle.std.proofs.lemmas.Bool.{and_parts, false≢true, or_right, and_from, eq-eqb, eqb-true}
 use Rattle.std.proofs.lemmas.Bool.Decides.{nat_tests}
 use Rattle.std.proofs.lemmas.List.{get_or_append_left, get_or_push}
 use Rattle.std.proofs.lemmas.List.Quantifiers.{position-Some}
-use Rattle.std.proofs.lemmas.Option.{get_or_from_slice_get, slice_get_within, slice_get-get_or, slice_get-map}
+use Rattle.std.proofs.lemmas.Option.{get_or_from_slice_get, slice_get_within, slice_get-get_or, slice_get-map, same_Some}
 use Rattle.sb_lit.specs.declared.clause.Lit.{Lit}
 use Rattle.sb_lit.specs.contracts.clause.LitPartialEq.TheImpl as of_literal
 use Rattle.sb_lit.proofs.CallerLemmas.{is_same_literal-beq, is_same_literal-true, is_same_literal-of}
@@ -23,15 +23,6 @@ use Rattle.sb_atoms.specs.Numbered.{atom_in, numbered_atoms, Names, IsWith, AreD
 abbrev pub same : code.Atom → code.Atom → Bool
 same = derived.ghosts.eq
 
-nat_same : (x y : ℕ) → nat_eq x y ≡ true → x ≡ y
-nat_same x y h = grind (arith, nat_tests)
-
-same_nat : (x y : ℕ) → x ≡ y → nat_eq x y ≡ true
-same_nat x y h = grind (arith, nat_tests)
-
-both : (a b : Bool) → a ≡ true → b ≡ true → (a && b) ≡ true
-both a b h k = rw (h, k) refl
-
 -- Atoms of other kinds, and the parts of equal ones.
 
 abbrev kind : {R : Type 0} → AtomOver R → ℕ
@@ -43,7 +34,7 @@ kind (and_atom ls) = 4
 kind (iff_atom l m) = 5
 
 pub other_kinds : {R : Type 0} (a b : AtomOver R) → nat_eq (kind a) (kind b) ≡ false → a ≡ b → ⊥
-other_kinds a b h e = false≢true (sym h ∙ same_nat (kind a) (kind b) (ap kind e))
+other_kinds a b h e = false≢true (sym h ∙ eq-eqb (kind a) (kind b) (ap kind e))
 
 pub bool_part : {R : Type 0} (s t : ℕ) → ◌≡◌ {A = AtomOver R} (bool_atom s) (bool_atom t) → s ≡ t
 bool_part s t e = cc
@@ -70,10 +61,10 @@ literal_decides l m = (
 )
 
 pub same_gives : (d e : code.Atom) → same d e ≡ true → atom_in d ≡ atom_in e
-same_gives (atom.Bool s) (atom.Bool t) h = ap bool_atom (nat_same s.0 t.0 h)
+same_gives (atom.Bool s) (atom.Bool t) h = ap bool_atom (eqb-true s.0 t.0 h)
 same_gives (atom.In s r) (atom.In t q) h =
     let p = and_parts (nat_eq s.0 t.0) _ h in
-    ap₂ (λ n m. in_atom (constant_piece n ∷ []) m) (nat_same s.0 t.0 p.0) (nat_same r q p.1)
+    ap₂ (λ n m. in_atom (constant_piece n ∷ []) m) (eqb-true s.0 t.0 p.0) (eqb-true r q p.1)
 same_gives (atom.And ls) (atom.And ms) h = ap and_atom ((pointwise_decides literal_decides ls.items ms.items).0 h)
 same_gives (atom.Iff l m) (atom.Iff k n) h =
     let p = and_parts (same_literal l k) _ h in
@@ -81,13 +72,13 @@ same_gives (atom.Iff l m) (atom.Iff k n) h =
 same_gives _ _ h = absurd (false≢true h)
 
 pub gives_same : (d e : code.Atom) → atom_in d ≡ atom_in e → same d e ≡ true
-gives_same (atom.Bool s) (atom.Bool t) h = same_nat s.0 t.0 (bool_part s.0 t.0 h)
+gives_same (atom.Bool s) (atom.Bool t) h = eq-eqb s.0 t.0 (bool_part s.0 t.0 h)
 gives_same (atom.In s r) (atom.In t q) h =
-    let p = in_parts s.0 t.0 r q h in both _ _ (same_nat s.0 t.0 p.0) (same_nat r q p.1)
+    let p = in_parts s.0 t.0 r q h in and_from _ _ (eq-eqb s.0 t.0 p.0) (eq-eqb r q p.1)
 gives_same (atom.And ls) (atom.And ms) h =
     (pointwise_decides literal_decides ls.items ms.items).1 (and_part ls.items ms.items h)
 gives_same (atom.Iff l m) (atom.Iff k n) h =
-    let p = iff_parts l m k n h in both _ _ ((literal_decides l k).1 p.0) ((literal_decides m n).1 p.1)
+    let p = iff_parts l m k n h in and_from _ _ ((literal_decides l k).1 p.0) ((literal_decides m n).1 p.1)
 gives_same d e h = absurd (other_kinds (atom_in d) (atom_in e) refl h)
 
 -- where the one more element is
@@ -111,20 +102,13 @@ map_push : (ds : List code.Atom) (d : code.Atom) → numbered_atoms (ds ++ d ∷
 map_push [] d = refl
 map_push (x ∷ xs) d = ap (λ ys. atom_in x ∷ ys) (map_push xs d)
 
-either : (a b : Bool) → b ≡ true → (a || b) ≡ true
-either true b h = refl
-either false b h = h
-
-some_is : {X : Type 0} (x y : X) → Some x ≡ Some y → x ≡ y
-some_is x y e = cc
-
 -- an atom of the table is found in it
 pub listed : (ds : List code.Atom) (d : code.Atom) (i : ℕ) → Names (numbered_atoms ds) i (atom_in d)
     → list_any (same d) ds ≡ true
 listed [] d i h = absurd (omega (arith, slice_get_within [] i (atom_in d) h))
 listed (x ∷ xs) d zero h =
-    ap (λ b. b || list_any (same d) xs) (gives_same d x (sym (some_is (atom_in x) (atom_in d) h)))
-listed (x ∷ xs) d (suc i) h = either (same d x) (list_any (same d) xs) (listed xs d i h)
+    ap (λ b. b || list_any (same d) xs) (gives_same d x (sym (same_Some (atom_in x) (atom_in d) h)))
+listed (x ∷ xs) d (suc i) h = or_right (same d x) (list_any (same d) xs) (listed xs d i h)
 
 distinct_more : (ds : List code.Atom) (d : code.Atom) → AreDistinct (numbered_atoms ds) → list_any (same d) ds ≡ false
     → AreDistinct (numbered_atoms (ds ++ d ∷ []))

@@ -6,7 +6,7 @@ use Rattle.std.specs.List.{position_from}
 use Rattle.std.specs.Prelude.{ℤ, Option, None, option_map}
 use Rattle.std.proofs.lemmas.Bool.{false≢true}
 use Rattle.std.proofs.lemmas.Bool.Decides.{nat_tests}
-use Rattle.std.proofs.lemmas.Option.{slice_get_within, slice_get-map}
+use Rattle.std.proofs.lemmas.Option.{slice_get_within, slice_get-map, same_Some}
 use Rattle.sb_lit.specs.declared.clause.Lit.{Lit}
 use Rattle.sb_lang.specs.Regex.{Regex}
 use Rattle.sb_lang.specs.OrderLaws.{OrderTellsApart}
@@ -48,9 +48,6 @@ over_one rs a b once p q e = absurd (other_kinds _ _ refl e)
 
 -- Where an atom stands.
 
-some_is : {X : Type 0} (x y : X) → Some x ≡ Some y → x ≡ y
-some_is x y e = cc
-
 nothing : {X : Type 0} (x : X) (n : ℕ) → slice_get {X = X} [] n ≡ Some x → ⊥
 nothing x n h = omega (arith, slice_get_within [] n x h)
 
@@ -59,7 +56,7 @@ position_there : {A : Type 0} (test : A → Bool) (xs : List A) (i n : ℕ) (x :
     → position_from test i xs ≡ Some (i + n)
 position_there test [] i n x h passes only = absurd (nothing x n h)
 position_there test (y ∷ ys) i zero x h passes only =
-    ap (λ b. cond b (Some i) (position_from test (i + 1) ys)) (ap test (some_is y x h) ∙ passes)
+    ap (λ b. cond b (Some i) (position_from test (i + 1) ys)) (ap test (same_Some y x h) ∙ passes)
     ∙ ap Some (omega arith)
 position_there {A} test (y ∷ ys) i (suc n) x h passes only =
     ap (λ b. cond b (Some i) (position_from test (i + 1) ys)) (first (test y) refl)
@@ -91,7 +88,7 @@ position_none test (y ∷ ys) i none =
 mapped : {A B : Type 0} (f : A → B) (xs : List A) (k : ℕ) (y : B) → slice_get (map f xs) k ≡ Some y
     → (x : A) × (slice_get xs k ≡ Some x) × (f x ≡ y)
 mapped f [] k y h = absurd (nothing y k h)
-mapped f (x ∷ xs) zero y h = (x, refl, some_is (f x) y h)
+mapped f (x ∷ xs) zero y h = (x, refl, same_Some (f x) y h)
 mapped f (x ∷ xs) (suc k) y h = mapped f xs k y h
 
 -- Which atoms are told apart by what they are over the regexes.
@@ -167,7 +164,7 @@ literal_there order adds atoms a id l distinct names e = record {
       (number_there order rs atoms a apart id distinct names));
   sure = λ on none. some_none l none;
   names = λ k h.
-      let same = some_is l k h in
+      let same = same_Some l k h in
       (ap (λ (m : Lit). slice_get atoms m.atom) (sym same ∙ e) ∙ names, ap (λ (m : Lit). m.positive) (sym same ∙ e));
 }
 

@@ -70,10 +70,6 @@ pub clash_grown : (rs more : List Regex) (atoms : List (AtomOver ℕ)) (x : ℕ)
 clash_grown rs more atoms x ls e below about h =
     λ w word. ap (λ all. language (mkand all) w) (all_grown rs more atoms x ls e below about) ∙ h w word
 
-pub if_ok_map : {T E : Type 0} (r : Result T E) (P Q : T → Type 0) → ((x : T) → P x → Q x) → IfOk r P → IfOk r Q
-if_ok_map (Ok x) P Q f h = f x h
-if_ok_map (Err e) P Q f h = tt
-
 -- One literal.
 
 pub asked_positive : (rs : List Regex) (atoms : List (AtomOver ℕ)) (x n : ℕ) (l : Lit) → l.positive ≡ true

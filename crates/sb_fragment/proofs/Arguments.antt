@@ -1,7 +1,7 @@
 -- The arguments of a term, and pairs of them.
 use Rattle.std.proofs.Common.{◌≡◌, ℕ, zero, suc, ◌<◌, ◌≤◌, Bool, true, false, ◌&&◌, nat_lt, List, [], ◌∷◌, length, take, get_or, All, Option, Some, None, option_map, Vec, Global, not, is_some, MatchOption, Result, Ok, Err, IfOk, refl, sym, ap, ◌∙◌, arith}
 use Rattle.std.specs.List.{list_all}
-use Rattle.std.proofs.lemmas.Bool.{and_parts, and_from, false≢true}
+use Rattle.std.proofs.lemmas.Bool.{and_parts, and_from, false≢true, and_right, ltb-true, lt-ltb}
 use Rattle.std.proofs.lemmas.Bool.Decides.{nat_tests}
 use Rattle.std.proofs.lemmas.List.{take_all}
 use Rattle.sb_meaning.specs.Terms.{Term}
@@ -19,16 +19,10 @@ pub items_some : {A : Type 0} (o : Option (Vec A Global)) (v : Vec A Global) →
     → option_map (λ w. w.items) o ≡ Some v.items
 items_some o v e = ap (option_map (λ w. w.items)) e
 
-less : (i n : ℕ) → i < n → nat_lt i n ≡ true
-less i n h = grind (arith, nat_tests)
-
-is_less : (i n : ℕ) → nat_lt i n ≡ true → i < n
-is_less i n h = grind (arith, nat_tests)
-
 below_all : (n m : ℕ) (is : List ℕ) → m ≤ n → All (λ i. i < m) is → list_all (λ i. nat_lt i n) is ≡ true
 below_all n m [] le h = refl
 below_all n m (i ∷ is) le h =
-    and_from (nat_lt i n) (list_all (λ j. nat_lt j n) is) (less i n (omega (arith, le, h 0 0 (omega arith))))
+    and_from (nat_lt i n) (list_all (λ j. nat_lt j n) is) (lt-ltb i n (omega (arith, le, h 0 0 (omega arith))))
     (below_all n m is le (λ k d l. h (suc k) d (omega (arith, l))))
 
 pub numbers_compared : (n m : ℕ) (distinct : Bool) (is : List ℕ) → m ≤ n → All (λ i. i < m) is
@@ -42,17 +36,13 @@ number_at n (q ∷ ps) zero p h within e =
     let both = ap (λ (r : ℕ × ℕ). nat_lt r.0 n && nat_lt r.1 n) e
     ∙ (and_parts (nat_lt q.0 n && nat_lt q.1 n) (are_numbers n ps) h).0 in
     let two = and_parts (nat_lt p.0 n) (nat_lt p.1 n) both in
-    (is_less p.0 n two.0, is_less p.1 n two.1)
+    (ltb-true p.0 n two.0, ltb-true p.1 n two.1)
 number_at n (q ∷ ps) (suc i) p h within e =
     number_at n ps i p (and_parts (nat_lt q.0 n && nat_lt q.1 n) (are_numbers n ps) h).1 (omega (arith, within)) e
 
 pub terms_compared : (ts : List Term) (distinct : Bool) (is : List ℕ)
     → terms_of_pairs ts (compared distinct is) ≡ compared distinct (terms_at ts is)
 terms_compared ts distinct is = sym (compared_map (term_at ts) distinct is)
-
-and_false : (b c : Bool) → c ≡ false → (b && c) ≡ false
-and_false true c h = h
-and_false false c h = refl
 
 words_false : (test : Term × Term → Bool) (ts : List Term) (ps : List (ℕ × ℕ)) (i : ℕ) (p : ℕ × ℕ) → i < length ps
     → p ≡ get_or ps i p → test (term_at ts p.0, term_at ts p.1) ≡ false
@@ -62,7 +52,7 @@ words_false test ts (q ∷ ps) zero p within e h =
     ap (λ b. b && list_all test (terms_of_pairs ts ps))
     (ap (λ (r : ℕ × ℕ). test (term_at ts r.0, term_at ts r.1)) (sym e) ∙ h)
 words_false test ts (q ∷ ps) (suc i) p within e h =
-    and_false (test (term_at ts q.0, term_at ts q.1)) _ (words_false test ts ps i p (omega (arith, within)) e h)
+    and_right (test (term_at ts q.0, term_at ts q.1)) _ (words_false test ts ps i p (omega (arith, within)) e h)
 
 pub no_pair : {A : Type 0} (P : Type 0) (Q : A → Type 0) (o : Option A) (b : Bool) → is_some o ≡ not b → b ≡ true
     → MatchOption o P Q → P
@@ -91,7 +81,7 @@ some_not test ts [] i x within at h = absurd (omega (arith, within))
 some_not test ts (j ∷ is) zero x within at h =
     ap (λ b. b && list_all test (terms_at ts is)) (ap (λ k. test (term_at ts k)) (sym at) ∙ h)
 some_not test ts (j ∷ is) (suc i) x within at h =
-    and_false (test (term_at ts j)) (list_all test (terms_at ts is))
+    and_right (test (term_at ts j)) (list_all test (terms_at ts is))
     (some_not test ts is i x (omega (arith, within)) at h)
 
 pub structure_stop : (test : Term → Bool) (ts us : List Term) (is : List ℕ) (i x : ℕ) → terms_at ts is ≡ us
@@ -134,7 +124,7 @@ pub pair_within : (ts : List Term) (ps : List (ℕ × ℕ)) (i : ℕ) → i < le
 pair_within ts [] i within = absurd (omega (arith, within))
 pair_within ts (q ∷ ps) zero within = omega arith
 pair_within ts (q ∷ ps) (suc i) within =
-    let less = pair_within ts ps i (omega (arith, within)) in omega (arith, less)
+    let lt-ltb = pair_within ts ps i (omega (arith, within)) in omega (arith, lt-ltb)
 
 pub pair_read : (ts : List Term) (ps : List (ℕ × ℕ)) (i : ℕ) (p : ℕ × ℕ) → i < length ps → p ≡ get_or ps i p
     → pair_at ts p ≡ get_or (terms_of_pairs ts ps) i (pair_at ts p)
@@ -153,7 +143,7 @@ pub term_within : (ts : List Term) (is : List ℕ) (i : ℕ) → i < length is �
 term_within ts [] i within = absurd (omega (arith, within))
 term_within ts (j ∷ is) zero within = omega arith
 term_within ts (j ∷ is) (suc i) within =
-    let less = term_within ts is i (omega (arith, within)) in omega (arith, less)
+    let lt-ltb = term_within ts is i (omega (arith, within)) in omega (arith, lt-ltb)
 
 pub term_read : (ts : List Term) (is : List ℕ) (i x : ℕ) → i < length is → x ≡ get_or is i x
     → term_at ts x ≡ get_or (terms_at ts is) i (term_at ts x)

@@ -22,11 +22,6 @@ use Rattle.sb_fragment.specs.Measures.{is_literal, within_limit, IsMeasure, AreM
 use Rattle.sb_fragment.specs.Measured.{is_regex_by, is_short_by, size_by, joined, no_measure, within, total}
 use Rattle.sb_fragment.specs.Measured.{applied_measure, node_measure}
 
-pub drop_at : {X : Type 0} (xs : List X) (i : ℕ) (d : X) → i < length xs → drop i xs ≡ get_or xs i d ∷ drop (suc i) xs
-drop_at [] i d h = absurd (omega arith)
-drop_at (x ∷ xs) zero d h = refl
-drop_at (x ∷ xs) (suc i) d h = drop_at xs i d (omega (arith, h))
-
 within_sum : (a b : ℕ) → within_limit (within_limit a + within_limit b) ≡ within_limit (a + b)
 within_sum a b = grind (arith, nat_tests)
 

@@ -3,7 +3,7 @@ use Rattle.std.proofs.Common.{◌≡◌, ℕ, zero, suc, ◌+◌, ◌<◌, Bool,
 use Rattle.std.proofs.Common.{get_or, map, take, refl, sym, ap, ◌∙◌, arith}
 use Rattle.std.specs.List.{list_all, list_any}
 use Rattle.std.specs.Prelude.{Option, Some, None}
-use Rattle.std.proofs.lemmas.Bool.{and_parts, and_from}
+use Rattle.std.proofs.lemmas.Bool.{and_parts, and_from, and_right, or_right}
 use Rattle.std.proofs.lemmas.List.{take_more}
 use Rattle.sb_meaning.specs.Terms.{Term}
 use Rattle.sb_script.specs.State.{Assertion}
@@ -31,14 +31,6 @@ one_more ts live k a found l is none h before =
     ∙ ap (list_all is_decided) (map_push ts (take k live) a)
     ∙ inside_more (map (assertion_in ts) (take k live)) (assertion_in ts a) before (rw none at h)
 
-either : (a b : Bool) → b ≡ true → (a || b) ≡ true
-either true b h = refl
-either false b h = h
-
-both : (a b : Bool) → b ≡ false → (a && b) ≡ false
-both true b h = h
-both false b h = refl
-
 outside_at : (ts : List Term) (live : List code.Assertion) (k : ℕ) (a : code.Assertion) (reason : Reason)
     → k < length live → a ≡ get_or live k a → IsBrokenBy (assertion_in ts a) (Some reason)
     → (list_all is_decided (map (assertion_in ts) live) ≡ false)
@@ -51,7 +43,7 @@ outside_at ts (x ∷ xs) zero a reason l is h = (
       ∙ ap (λ b. b || list_any (is_broken reason) (map (assertion_in ts) xs)) h.1,
 )
 outside_at ts (x ∷ xs) (suc k) a reason l is h = let rest = outside_at ts xs k a reason (omega arith) is h in
-    (both _ _ rest.0, either _ _ rest.1)
+    (and_right _ _ rest.0, or_right _ _ rest.1)
 
 pub one_outside : (ts : List Term) (live : List code.Assertion) (k : ℕ) (a : code.Assertion) (found : Option Reason)
     (reason : Reason) → k < length live → a ≡ get_or live k a → found ≡ Some reason

@@ -4,7 +4,7 @@ use Rattle.std.specs.Prelude.{option_and_then}
 use Rattle.std.specs.List.{All}
 use Rattle.std.proofs.lemmas.Bool.Decides.{nat_tests}
 use Rattle.std.proofs.lemmas.List.Elements.{All-push, All-nil}
-use Rattle.std.proofs.lemmas.Option.{slice_get_within}
+use Rattle.std.proofs.lemmas.Option.{slice_get_within, none-some}
 use Rattle.sb_lit.specs.Budgets.{Spending}
 use Rattle.sb_lang.specs.Normal.{normal}
 use Rattle.sb_lang.specs.Regex.{Regex}
@@ -25,12 +25,6 @@ use Rattle.sb_refute.specs.declared.evidence.Asserted.{Asserted}
 use Rattle.sb_refute.specs.Backing.{Backing, Backs, Evidences, EvidencesUncounted, asserted_at}
 use Rattle.sb_refute.specs.Refuting.{AreDisjoint, membership_of, membership_at}
 use Rattle.sb_prover.specs.Claiming.{IsClaimed, Claims, AreClaimed}
-
-same-some : {X : Type 0} (x y : X) → Some x ≡ Some y → x ≡ y
-same-some x y h = cc
-
-none-some : {X : Type 0} (x : X) → None ≡ Some x → ⊥
-none-some x h = cc
 
 -- A claim stays, as arena and table grow.
 

@@ -2,11 +2,11 @@
 use Rattle.std.proofs.Common.{◌≡◌, ◌≢◌, ℕ, zero, suc, ◌<◌, Bool, true, false, if◌then◌else◌, nat_eq, List, [], ◌∷◌, length, map, get_or, slice_get, Option, Some, None, option_map, refl, sym, ap, ap₂, subst, ◌∙◌, arith}
 use Rattle.std.specs.Prelude.{option_and_then, MatchOption, is_some, IfSome}
 use Rattle.std.specs.List.{All, list_all, position_from}
-use Rattle.std.proofs.lemmas.Bool.{and_parts, false≢true}
+use Rattle.std.proofs.lemmas.Bool.{and_parts, false≢true, eqb-true}
 use Rattle.std.proofs.lemmas.Bool.Decides.{nat_tests}
 use Rattle.std.proofs.lemmas.Iterator.Adapters.{position_from-zero}
 use Rattle.std.proofs.lemmas.List.Quantifiers.{position-Some}
-use Rattle.std.proofs.lemmas.Option.{slice_get_within, slice_get-get_or, slice_get-map, get_or_from_slice_get}
+use Rattle.std.proofs.lemmas.Option.{slice_get_within, slice_get-get_or, slice_get-map, get_or_from_slice_get, same_Some}
 use Rattle.sb_lit.specs.declared.clause.Lit.{Lit}
 use Rattle.sb_lang.specs.RegLan.{RegLan}
 use Rattle.sb_lang.specs.Regex.{Regex}
@@ -52,27 +52,21 @@ use Rattle.sb_prover.specs.Proving.{HaveLevels, level_at}
 use Rattle.sb_prover.specs.Claiming.{IsClaimed, Claims, Stands}
 use Rattle.sb_prover.proofs.LiveLevels.{row_of, live-rows}
 
-same-some : {X : Type 0} (x y : X) → Some x ≡ Some y → x ≡ y
-same-some x y h = cc
-
 some-none : {X : Type 0} (x : X) → Some x ≡ None → ⊥
 some-none x h = cc
 
 same-term : (t u : Term) → asserted t ≡ asserted u → t ≡ u
 same-term t u h = cc
 
-same-number : (m n : ℕ) → nat_eq m n ≡ true → m ≡ n
-same-number m n h = grind (arith, nat_tests, h)
-
 same-expression : (o : Option (ℕ × Term)) (s z : ℕ) (R Q : Term) → o ≡ Some (s, R) → o ≡ Some (z, Q) → R ≡ Q
-same-expression o s z R Q h k = ap (λ (p : ℕ × Term). p.1) (same-some (s, R) (z, Q) (sym h ∙ k))
+same-expression o s z R Q h k = ap (λ (p : ℕ × Term). p.1) (same_Some (s, R) (z, Q) (sym h ∙ k))
 
 -- What stands at a place.
 
 -- there is one term
 pub the-term : (assertions : List Assertion) (place : ℕ) (t u : Term) → slice_get assertions place ≡ Some (asserted t)
     → slice_get assertions place ≡ Some (asserted u) → t ≡ u
-the-term assertions place t u h k = same-term t u (same-some (asserted t) (asserted u) (sym h ∙ k))
+the-term assertions place t u h k = same-term t u (same_Some (asserted t) (asserted u) (sym h ∙ k))
 
 -- which asks for this, and is decided
 pub its-asking : (assertions : List Assertion) (serial place : ℕ) (t : Term) → (p : IsPlaceOf assertions serial place)
@@ -109,7 +103,7 @@ sorted-there sorts (c ∷ cs) serial sort h one =
         → (is_one_of cs serial sort ≡ true → is_declared sorts sort serial ≡ true)
         → is_declared sorts sort serial ≡ true
     step true is same later =
-        ap₂ (is_declared sorts) (sym (same_sort c.1 sort same)) (sym (same-number c.0 serial is)) ∙ parts.0
+        ap₂ (is_declared sorts) (sym (same_sort c.1 sort same)) (sym (eqb-true c.0 serial is)) ∙ parts.0
     step false is one later = later one
 
 pub declared-there : (sorts : List Sort) (cs : List (ℕ × Sort)) (t : Term) → are_sorted sorts cs ≡ true
@@ -124,7 +118,7 @@ term-speaks : (cs : List (ℕ × Sort)) (assertions : List Assertion) (place : �
     → speaks_of cs t ≡ true
 term-speaks cs [] place t h there = absurd (omega (arith, slice_get_within [] place (asserted t) there))
 term-speaks cs (asserted u ∷ rest) zero t h there =
-    ap (speaks_of cs) (sym (same-term u t (same-some (asserted u) (asserted t) there)))
+    ap (speaks_of cs) (sym (same-term u t (same_Some (asserted u) (asserted t) there)))
     ∙ (and_parts (speaks_of cs u) (list_all (speaks_of cs) (terms_in rest)) h).0
 term-speaks cs (asserted u ∷ rest) (suc place) t h there =
     term-speaks cs rest place t (and_parts (speaks_of cs u) (list_all (speaks_of cs) (terms_in rest)) h).1 there
@@ -189,12 +183,12 @@ literal-positive : (o : Option ℕ) (l : Lit)
     → option_map {T = ℕ} (λ n. (record { atom = n; positive = true })) o ≡ Some l → l.positive ≡ true
 literal-positive None l h = absurd (some-none l (sym h))
 literal-positive (Some n) l h =
-    ap (λ (m : Lit). m.positive) (sym (same-some (record { atom = n; positive = true }) l h))
+    ap (λ (m : Lit). m.positive) (sym (same_Some (record { atom = n; positive = true }) l h))
 
 mapped : {A B : Type 0} (f : A → B) (xs : List A) (k : ℕ) (y : B) → slice_get (map f xs) k ≡ Some y
     → (x : A) × (slice_get xs k ≡ Some x) × (f x ≡ y)
 mapped f [] k y h = absurd (omega (arith, slice_get_within [] k y h))
-mapped f (x ∷ xs) zero y h = (x, refl, same-some (f x) y h)
+mapped f (x ∷ xs) zero y h = (x, refl, same_Some (f x) y h)
 mapped f (x ∷ xs) (suc k) y h = mapped f xs k y h
 
 -- the atom, over the numbers of regexes

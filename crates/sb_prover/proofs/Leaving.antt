@@ -1,5 +1,6 @@
 -- Levels that are left.
 use Rattle.std.proofs.Common.{◌≡◌, ℕ, zero, suc, ◌<◌, List, [], ◌∷◌, take, Option, Some, None, refl, ap, ◌∙◌, arith}
+use Rattle.std.proofs.lemmas.Option.{none-some}
 use Rattle.sb_lang.specs.Regex.{Regex}
 use Rattle.sb_deriv.specs.Faithful.{Memo}
 use Rattle.sb_meaning.specs.Terms.{Term}
@@ -8,12 +9,6 @@ use Rattle.sb_rulebook.specs.Judging.{Progress, met}
 use Rattle.sb_refute.specs.declared.evidence.Asserted.{Asserted}
 use Rattle.sb_refute.specs.Backing.{Backing, Backs, asserted_at, AreUpTo, retracted, cleared}
 use Rattle.sb_prover.specs.Proving.{Proving, IsAbreast, HaveLevels, AreLow, level_at, leaving}
-
-none-some : {X : Type 0} (x : X) → None ≡ Some x → ⊥
-none-some x h = cc
-
-same-some : {X : Type 0} (x y : X) → Some x ≡ Some y → x ≡ y
-same-some x y h = cc
 
 pub none-there : (q : ℕ) (a : Asserted) → asserted_at [] q ≡ Some a → ⊥
 none-there zero a h = none-some a h

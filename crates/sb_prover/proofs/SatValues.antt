@@ -1,7 +1,7 @@
 -- The values of a model, as the last line of its check says them.
 use Rattle.std.proofs.Common.{◌≡◌, ℕ, Bool, true, false, not, ◌&&◌, ◌||◌, ◌==◌, List, [], ◌∷◌, map, get_or, Some, None, option_map, refl, sym, ap, ap₂, ◌∙◌, arith}
 use Rattle.std.specs.List.{list_all}
-use Rattle.std.proofs.lemmas.Bool.{and_from, and_parts, false≢true}
+use Rattle.std.proofs.lemmas.Bool.{and_from, and_parts, false≢true, eqb-true}
 use Rattle.std.proofs.lemmas.Bool.Decides.{nat_tests}
 use Rattle.std.proofs.lemmas.List.Folds.{list_all-map}
 use Rattle.sb_word.specs.Words.{is_character, are_characters}
@@ -21,9 +21,6 @@ use Rattle.sb_stack.specs.Stacked.{Stacked, live_constants, value_at, values_at,
 use Rattle.sb_prover.specs.Saying.{said_value}
 use Rattle.sb_prover.proofs.LiveLevels.{Row, terms-by-level}
 
-same-number : (m n : ℕ) → (m == n) ≡ true → m ≡ n
-same-number m n h = grind (arith, nat_tests, h)
-
 -- values that fit the constants are theirs, in order
 valued-given : (cs : List Constant) (ds : List (ℕ × Sort)) (words : List (List ℕ)) (truths : List Bool)
     → fits cs (values_at ds words truths) ≡ true
@@ -36,7 +33,7 @@ valued-given (c ∷ cs) (d ∷ ds) words truths h =
     let parts = and_parts ((c.serial == d.0) && is_of c.sort value) (fits cs (values_at ds words truths)) h in
     ap (option_map (λ v. (c.serial, value) ∷ v)) (valued-given cs ds words truths parts.1)
     ∙ ap (λ serial. Some ((serial, value) ∷ values_at ds words truths))
-    (same-number c.serial d.0 (and_parts (c.serial == d.0) (is_of c.sort value) parts.0).0)
+    (eqb-true c.serial d.0 (and_parts (c.serial == d.0) (is_of c.sort value) parts.0).0)
 
 -- their characters have a text
 small-character : (c : ℕ) → is_character c ≡ true → is_small c ≡ true

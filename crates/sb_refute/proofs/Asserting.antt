@@ -5,7 +5,7 @@ use Rattle.std.specs.Cmp.Lexicographic.{pointwise}
 use Rattle.std.proofs.lemmas.Bool.{and_parts, and_from, false≢true}
 use Rattle.std.proofs.lemmas.Iterator.Adapters.{position_from-zero}
 use Rattle.std.proofs.lemmas.List.Quantifiers.{position-Some}
-use Rattle.std.proofs.lemmas.Option.{get_or_from_slice_get, slice_get_within, slice_get-map}
+use Rattle.std.proofs.lemmas.Option.{get_or_from_slice_get, slice_get_within, slice_get-map, none-some}
 use Rattle.sb_lit.specs.declared.clause.Lit.{Lit}
 use Rattle.sb_lang.specs.Regex.{Regex}
 use Rattle.sb_lang.specs.Order.{regex_eq}
@@ -40,9 +40,6 @@ record IsMember (t : Term) : Type 0 where
 
 is-member : (t : Term) → is_membership t ≡ true → IsMember t
 is-member t h = membership_asks t h (λ serial R is kind. record { serial = serial; expression = R; is = is })
-
-none-some : {X : Type 0} (x : X) → None ≡ Some x → ⊥
-none-some x h = cc
 
 literal-number : (o : Option ℕ) (l : Lit)
     → option_map {T = ℕ} (λ n. (record { atom = n; positive = true })) o ≡ Some l → o ≡ Some l.atom

@@ -1,5 +1,6 @@
 -- What is kept behind a line backs the evidence, and so does what is kept where levels are left.
 use Rattle.std.proofs.Common.{◌≡◌, ℕ, inl, inr, List, [], ◌∷◌, ◌++◌, length, map, Option, Some, None, sym, ap, subst, ◌∙◌}
+use Rattle.std.proofs.lemmas.Option.{same_Some, none-some}
 use Rattle.sb_lit.specs.declared.clause.Lit.{Lit}
 use Rattle.sb_lit.specs.Kept.{Kept, KeptClause, kept_at, kept_up_to}
 use Rattle.sb_lang.specs.Regex.{Regex}
@@ -32,12 +33,6 @@ tracks-pushed rs memo t kept clause level rests counted h = record {
   targets = h.targets;
 }
 
-none-some : {X : Type 0} (x : X) → None ≡ Some x → ⊥
-none-some x h = cc
-
-same-some : {X : Type 0} (x y : X) → Some x ≡ Some y → x ≡ y
-same-some x y h = cc
-
 -- the clauses of these assertions are kept
 abbrev pub AreKeptUnits : Kept → List (Option Asserted) → Type 0
 AreKeptUnits kept asserted = (place : ℕ) (a : Asserted) → asserted_at asserted place ≡ Some a
@@ -54,7 +49,7 @@ units-placed : (kept : Kept) (asserted : List (Option Asserted)) (place : ℕ) (
 units-placed kept asserted place a number h =
     λ q other there. elim (placed-cases asserted place q (Some a) other there) [
       | inl same ↦ subst (λ (o : Asserted). kept_at (kept ++ Some (unit_at a) ∷ []) o.clause.0 ≡ Some (unit_at o))
-          (same-some a other same)
+          (same_Some a other same)
           (ap (kept_at (kept ++ Some (unit_at a) ∷ [])) number ∙ kept-last kept (Some (unit_at a)))
       | inr before ↦ units-stay kept (unit_at a) asserted h q other before
     ]

@@ -4,6 +4,7 @@ use Rattle.std.specs.Option.{MatchOption, option_copied}
 use Rattle.std.specs.Result.{IfOk}
 use Rattle.std.proofs.lemmas.Bool.{and_from, and_parts, or_left, or_right, or_cases, false≢true, true≢false}
 use Rattle.std.proofs.lemmas.List.Elements.{All-nil, All-cons}
+use Rattle.std.proofs.lemmas.Option.{same_Some, none-some}
 use Rattle.sb_lit.specs.declared.clause.Lit.{Lit}
 use Rattle.sb_lit.specs.declared.clause.ClauseId.{ClauseId}
 use Rattle.sb_lit.specs.Clauses.{negation, is_same_literal, is_among, is_false_under, is_false_clause}
@@ -12,12 +13,6 @@ use Rattle.sb_lit.proofs.CallerLemmas.{is_same_literal-true, is_same_literal-sel
 use Rattle.sb_clauses.specs.Propagation.{HasNoneFalse, IsConflict}
 use Rattle.sb_refute.specs.Units.{Member, IsPartIn, denials_of, affirmations_of}
 use Rattle.sb_refute.proofs.Hints.{here, later, cons-cases, not-in-nil}
-
-none-some : {X : Type 0} (x : X) → None ≡ Some x → ⊥
-none-some x h = cc
-
-pub some-is : {X : Type 0} (x y : X) → Some x ≡ Some y → x ≡ y
-some-is x y h = cc
 
 pub not-some : {X : Type 0} (o : Option X) → is_some o ≡ false → o ≡ None
 not-some None h = refl
@@ -117,5 +112,5 @@ pub copied-is : (o : Option (Bor (List Lit))) (ls : Bor (List Lit)) (kept : Kept
     → o ≡ Some ls → option_copied o ≡ option_map (λ (k : KeptClause). k.literals) (kept_at kept id)
     → kept_at kept id ≡ Some clause → ls.now ≡ clause.literals
 copied-is o ls kept id clause some is there =
-    some-is ls.now clause.literals
+    same_Some ls.now clause.literals
     (sym (ap option_copied some) ∙ is ∙ ap (option_map (λ (k : KeptClause). k.literals)) there)

@@ -28,12 +28,6 @@ use Rattle.sb_trace.proofs.CallerLemmas.{puts_none, puts_one, puts_both}
 use Rattle.sb_refute.specs.Backing.{Backing, Backs, EvidencesUncounted}
 use Rattle.sb_refute.specs.Lines.{AreDue, IsLineOf, Defines}
 
-none-some : {X : Type 0} (x : X) → None ≡ Some x → ⊥
-none-some x h = cc
-
-same-some : {X : Type 0} (x y : X) → Some x ≡ Some y → x ≡ y
-same-some x y h = cc
-
 -- The atoms before a number.
 
 names-front : (atoms : List (AtomOver ℕ)) (n k : ℕ) (a : AtomOver ℕ) → Names (take n atoms) k a

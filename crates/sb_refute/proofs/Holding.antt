@@ -4,6 +4,7 @@ use Rattle.std.specs.Result.{OnOk, OnErr, IfOk}
 use Rattle.std.proofs.lemmas.Bool.{and_parts, and_from, ltb-true, lt-ltb}
 use Rattle.std.proofs.lemmas.Bool.Decides.{nat_tests}
 use Rattle.std.proofs.lemmas.List.Folds.{list_all-append}
+use Rattle.std.proofs.lemmas.Option.{same_Some, none-some}
 use Rattle.sb_lit.specs.declared.clause.Lit.{Lit}
 use Rattle.sb_lit.specs.declared.clause.ClauseId.{ClauseId}
 use Rattle.sb_lit.specs.Kept.{Kept, KeptClause, kept_at, is_above, stays_up_to, kept_up_to}
@@ -19,12 +20,6 @@ use Rattle.sb_refute.specs.Lines.{placed}
 use Rattle.sb_refute.specs.Standing.{AreOfAtoms, Stand}
 use Rattle.sb_refute.proofs.Clauses.{none-kept, kept-stays, kept-last, kept-cases, stayed, stays, none-stays}
 use Rattle.sb_refute.proofs.Places.{none-at, placed-cases, front}
-
-none-some : {X : Type 0} (x : X) → None ≡ Some x → ⊥
-none-some x h = cc
-
-same-some : {X : Type 0} (x y : X) → Some x ≡ Some y → x ≡ y
-same-some x y h = cc
 
 pub stand-none : (asserted : List (Option Asserted)) → asserted ≡ [] → Stand [] [] asserted None 0
 stand-none asserted none = record {
@@ -80,7 +75,7 @@ stand-empty atoms kept asserted r gates empty number unset h = record {
   known = known-more (length atoms) kept (empty_at empty) h.known refl;
   refuted = λ found is.
       subst (λ (x : EmptyClause). kept_at (kept ++ Some (empty_at empty) ∷ []) x.clause.0 ≡ Some (empty_at x))
-      (same-some empty found is)
+      (same_Some empty found is)
       (ap (kept_at (kept ++ Some (empty_at empty) ∷ [])) number ∙ kept-last kept (Some (empty_at empty)));
   alone = λ id c there bare. elim (kept-cases kept (empty_at empty) id c there) [
     | inl before ↦
@@ -208,7 +203,7 @@ empty-stayed level (Some found) empty h = step (nat_lt level found.level) refl h
     step true is h = absurd (none-some empty h)
     step false is h =
         let low : found.level ≤ level = grind (arith, nat_tests) in
-        (h, subst (λ (x : EmptyClause). x.level ≤ level) (same-some found empty h) low)
+        (h, subst (λ (x : EmptyClause). x.level ≤ level) (same_Some found empty h) low)
 
 place-left : (n level : ℕ) (place : Option KeptClause) → is_reserved n place ≡ true
     → is_reserved n (stays_up_to level place) ≡ true
@@ -316,10 +311,6 @@ stand-same atoms old new asserted r gates is h none =
 pub ok-then : {T E P Q : Type 0} (result : Result T E) → (P → Q) → IfOk result (λ _. P) → OnOk result Q
 ok-then (Ok x) leads h = leads h
 ok-then (Err e) leads h = tt
-
-pub err-then : {T E P Q : Type 0} (result : Result T E) → (P → Q) → OnErr result P → OnErr result Q
-err-then (Ok x) leads h = tt
-err-then (Err e) leads h = leads h
 
 pub number-then : {E : Type 0} (result : Result ClauseId E) (n m : ℕ) → n ≡ m → IfOk result (λ id. id.0 ≡ n)
     → IfOk result (λ id. id.0 ≡ m)

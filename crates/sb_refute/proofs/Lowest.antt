@@ -2,6 +2,7 @@
 use Rattle.std.proofs.Common.{◌≡◌, ◌≢◌, ℕ, zero, suc, ◌+◌, ◌<◌, ◌≤◌, ◌⊎◌, inl, inr, Bool, true, false, nat_lt, if◌then◌else◌, List, [], ◌∷◌, length, take, Option, Some, None, refl, sym, ap, subst, ◌∙◌, arith}
 use Rattle.std.proofs.lemmas.Bool.{ltb-true}
 use Rattle.std.proofs.lemmas.Bool.Decides.{nat_tests}
+use Rattle.std.proofs.lemmas.Option.{same_Some, none-some}
 use Rattle.sb_lit.specs.Kept.{Kept, KeptClause, kept_at}
 use Rattle.sb_clauses.specs.Propagation.{has_room_for}
 use Rattle.sb_rulebook.specs.Atoms.{AtomOver}
@@ -11,12 +12,6 @@ use Rattle.sb_refute.specs.Backing.{IsLowestEmpty, empty_at}
 use Rattle.sb_refute.specs.Lines.{IsLowestBefore, IsEmptyOf, lower_of}
 use Rattle.sb_refute.specs.Standing.{Stand}
 use Rattle.sb_refute.proofs.Clauses.{none-kept}
-
-none-some : {X : Type 0} (x : X) → None ≡ Some x → ⊥
-none-some x h = cc
-
-same-some : {X : Type 0} (x y : X) → Some x ≡ Some y → x ≡ y
-same-some x y h = cc
 
 before-or-at : (id n : ℕ) → id < n + 1 → (id < n) ⊎ (id ≡ n)
 before-or-at id n h = step (nat_lt id n) refl
@@ -52,7 +47,7 @@ same-level : (kept : Kept) (n id : ℕ) (empty : EmptyClause) (c : KeptClause) �
     → id ≡ n → kept_at kept id ≡ Some c → empty.level ≡ c.level
 same-level kept n id empty c here same there =
     ap (λ (k : KeptClause). k.level)
-    (same-some (empty_at empty) c (sym here ∙ (ap (kept_at kept) (sym same) ∙ there)))
+    (same_Some (empty_at empty) c (sym here ∙ (ap (kept_at kept) (sym same) ∙ there)))
 
 pub lower-one : (kept : Kept) (n : ℕ) (one other : Option EmptyClause) → IsLowestBefore n kept one
     → IsEmptyOf kept n other → IsLowestBefore (n + 1) kept (lower_of one other)
@@ -117,7 +112,7 @@ lowest-first atoms kept asserted (Some empty) gates n h = (
   of-front kept n empty.clause.0 (empty_at empty) (h.refuted empty refl),
   λ id c low there bare.
       let it = h.alone id c (in-front kept n id c low there) bare in
-      subst (λ (x : EmptyClause). x.level ≤ c.level) (sym (same-some empty it.0 it.1)) it.2,
+      subst (λ (x : EmptyClause). x.level ≤ c.level) (sym (same_Some empty it.0 it.1)) it.2,
 )
 
 pub stand-found : (atoms : List (AtomOver ℕ)) (kept : Kept) (asserted : List (Option Asserted))
@@ -139,7 +134,7 @@ stand-found atoms kept asserted old (Some new) gates n known lowest h = record {
   earlier = h.earlier;
   known = known;
   refuted = λ empty there.
-      subst (λ (x : EmptyClause). kept_at kept x.clause.0 ≡ Some (empty_at x)) (same-some new empty there) lowest.0;
+      subst (λ (x : EmptyClause). kept_at kept x.clause.0 ≡ Some (empty_at x)) (same_Some new empty there) lowest.0;
   alone = λ id c there bare. (new, refl, lowest.1 id c there bare);
   gates_known = h.gates_known;
   gated = λ i low a clause named among.

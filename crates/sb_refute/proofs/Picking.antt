@@ -9,18 +9,13 @@ use Rattle.std.specs.declared.cmp.Ordering.TheVariants.{Equal}
 use Rattle.std.proofs.lemmas.Bool.{false≢true}
 use Rattle.std.proofs.lemmas.Bool.Decides.{nat_tests}
 use Rattle.std.proofs.lemmas.List.{map_push}
+use Rattle.std.proofs.lemmas.Option.{same_Some, none-some}
 use Rattle.sb_lit.specs.declared.clause.Lit.{Lit}
 use Rattle.sb_refute.specs.declared.evidence.Asserted.{Asserted}
 use Rattle.sb_refute.specs.Units.{Member, ArePicked, IsTop, numbered, denials_of}
 use Rattle.sb_refute.proofs.Hints.{here, later, cons-cases, not-in-nil}
 use Rattle.sb_refute.proofs.Memberships.{push-last, push-keeps, push-cases}
 use Rattle.sb_refute.proofs.UnitFacts.{inserted-unit, atom-there, atoms-stay}
-
-none-some : {X : Type 0} (x : X) → None ≡ Some x → ⊥
-none-some x h = cc
-
-same-some : {X : Type 0} (x y : X) → Some x ≡ Some y → x ≡ y
-same-some x y h = cc
 
 same-number : (n m : ℕ) → is_eq (nat_cmp n m) ≡ true → n ≡ m
 same-number n m h = grind (arith, nat_tests)
@@ -56,7 +51,7 @@ found-there (e ∷ es) n a h = step (found-there es n a) (is_eq (nat_cmp n e.0))
         → cond (is_eq (nat_cmp n e.0)) (Some e.1) (lookup (is_at (nat_cmp n)) es) ≡ Some a
         → Contains (numbered (e ∷ es)) (n, a.clause.0, a.level)
     step rest true is h =
-        let one = same-some e.1 a (sym (ap (λ c. cond c (Some e.1) (lookup (is_at (nat_cmp n)) es)) is) ∙ h) in
+        let one = same_Some e.1 a (sym (ap (λ c. cond c (Some e.1) (lookup (is_at (nat_cmp n)) es)) is) ∙ h) in
         subst (Contains (numbered (e ∷ es)))
         (ap₂ (λ (k : ℕ) (b : Asserted). (k, b.clause.0, b.level)) (sym (same-number n e.0 is)) one)
         (here (e.0, e.1.clause.0, e.1.level) (numbered es))

@@ -1,6 +1,7 @@
 -- The clause of an assertion that stands in the proof, and one that takes its place.
 use Rattle.std.proofs.Common.{◌≡◌, ◌≢◌, ℕ, Bool, true, false, nat_eq, List, Option, Some, None, IfSome, refl, sym, ap, subst, ◌∙◌, arith}
 use Rattle.std.proofs.lemmas.Bool.Decides.{nat_tests}
+use Rattle.std.proofs.lemmas.Option.{same_Some}
 use Rattle.sb_lit.specs.declared.clause.Lit.{Lit}
 use Rattle.sb_lang.specs.Regex.{Regex}
 use Rattle.sb_deriv.specs.Faithful.{Memo}
@@ -14,9 +15,6 @@ use Rattle.sb_refute.proofs.Places.{placed-others}
 
 some-none : {X : Type 0} (x : X) → Some x ≡ None → ⊥
 some-none x h = cc
-
-same-some : {X : Type 0} (x y : X) → Some x ≡ Some y → x ≡ y
-same-some x y h = cc
 
 -- an assertion is of its literal and its level, if it has a clause
 abbrev IsOwn : List (Option Asserted) → ℕ → ℕ → Option Lit → Type 0
@@ -48,7 +46,7 @@ stays-claimed old new place l level x o is none literal own =
     stays-at old new place x is
     (λ b h.
     let it = own-at old place level o b own h in
-    none b h (same-some b.literal l (it.1 ∙ sym literal)) it.0)
+    none b h (same_Some b.literal l (it.1 ∙ sym literal)) it.0)
 
 -- where the term has no literal
 pub stays-without : (old new : List (Option Asserted)) (place level : ℕ) (x : Option Asserted) (o : Option Lit)

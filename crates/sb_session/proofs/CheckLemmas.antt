@@ -39,17 +39,9 @@ tracked_by : (s : SessionState) (proving : Proving) (p : Progress) → s.proof �
     → IsAbreast s.arena s.memo proving p → IsTracked s p
 tracked_by s proving p e h = subst (λ (proof : Option Proving). IsTracked (record s { proof = proof }) p) (sym e) h
 
-pub on_ok : {T E A B : Type 0} (r : Result T E) → (A → B) → OnOk r A → OnOk r B
-on_ok (Ok x) f h = f h
-on_ok (Err e) f h = tt
-
 pub ok_map : {T E : Type 0} {P Q : T → Type 0} (r : Result T E) → ((x : T) → P x → Q x) → IfOk r P → IfOk r Q
 ok_map (Ok x) f h = f x h
 ok_map (Err e) f h = tt
-
-pub on_err : {T E A B : Type 0} (r : Result T E) → (A → B) → OnErr r A → OnErr r B
-on_err (Ok x) f h = tt
-on_err (Err e) f h = f h
 
 -- a proof is written, or none
 pub is_kind : (proved : Bool) (proving : Proving) → is_some (proof_of proved proving) ≡ proved

@@ -43,22 +43,19 @@ use Rattle.sb_solve.proofs.Gathered.{names_before}
 
 -- Numbers of a list.
 
-same_number : (n m : ℕ) → nat_eq n m ≡ true → n ≡ m
-same_number n m h = grind (arith, nat_tests)
-
 pub all_in : (test : ℕ → Bool) (xs : List ℕ) (n : ℕ) → list_all test xs ≡ true → is_in xs n ≡ true → test n ≡ true
 all_in test [] n h there = absurd (false≢true there)
 all_in test (x ∷ xs) n h there =
     let p = and_parts (test x) (list_all test xs) h in
     elim (or_cases (nat_eq n x) (is_in xs n) there) [
-      | inl here ↦ ap test (same_number n x here) ∙ p.0
+      | inl here ↦ ap test (eqb-true n x here) ∙ p.0
       | inr later ↦ all_in test xs n p.1 later
     ]
 
 pub any_in : (test : ℕ → Bool) (xs : List ℕ) (n : ℕ) → is_in xs n ≡ true → test n ≡ true → list_any test xs ≡ true
 any_in test [] n there h = absurd (false≢true there)
 any_in test (x ∷ xs) n there h = elim (or_cases (nat_eq n x) (is_in xs n) there) [
-  | inl here ↦ or_left (test x) (list_any test xs) (ap test (sym (same_number n x here)) ∙ h)
+  | inl here ↦ or_left (test x) (list_any test xs) (ap test (sym (eqb-true n x here)) ∙ h)
   | inr later ↦ or_right (test x) (list_any test xs) (any_in test xs n later h)
 ]
 

@@ -5,7 +5,7 @@ use Rattle.std.specs.List.{All, list_all}
 use Rattle.std.proofs.lemmas.Bool.{and_parts, and_from, false≢true}
 use Rattle.std.proofs.lemmas.Bool.Decides.{nat_tests}
 use Rattle.std.proofs.lemmas.List.{map-append, take-map, drop-map, take-append-drop}
-use Rattle.std.proofs.lemmas.Option.{slice_get-get_or, slice_get-map, slice_get_within}
+use Rattle.std.proofs.lemmas.Option.{slice_get-get_or, slice_get-map, slice_get_within, same_Some}
 use Rattle.sb_meaning.specs.Terms.{Sort, Term, Terms, constant, word, numeral, apply, parameter, no_terms, with_term}
 use Rattle.sb_meaning.specs.Sorts.{is_same_sort}
 use Rattle.sb_term.specs.Numbered.{term_at}
@@ -115,15 +115,12 @@ module _ (sorts : List Sort) (cs : List (ℕ × Sort)) (sorted : are_sorted sort
 same_term : (t u : Term) → asserted t ≡ asserted u → t ≡ u
 same_term t u h = cc
 
-same_some : {X : Type 0} (x y : X) → Some x ≡ Some y → x ≡ y
-same_some x y h = cc
-
 term_speaks : (cs : List (ℕ × Sort)) (assertions : List Assertion) (place : ℕ) (t : Term)
     → list_all (speaks_of cs) (terms_in assertions) ≡ true → slice_get assertions place ≡ Some (asserted t)
     → speaks_of cs t ≡ true
 term_speaks cs [] place t h there = absurd (omega (arith, slice_get_within [] place (asserted t) there))
 term_speaks cs (asserted u ∷ rest) zero t h there =
-    ap (speaks_of cs) (sym (same_term u t (same_some (asserted u) (asserted t) there)))
+    ap (speaks_of cs) (sym (same_term u t (same_Some (asserted u) (asserted t) there)))
     ∙ (and_parts (speaks_of cs u) (list_all (speaks_of cs) (terms_in rest)) h).0
 term_speaks cs (asserted u ∷ rest) (suc place) t h there =
     term_speaks cs rest place t (and_parts (speaks_of cs u) (list_all (speaks_of cs) (terms_in rest)) h).1 there
@@ -138,7 +135,7 @@ At rows place a = slice_get rows place ≡ Some a
 all_at : (p : Assertion → Bool) (xs : List Assertion) (place : ℕ) (a : Assertion) → list_all p xs ≡ true
     → slice_get xs place ≡ Some a → p a ≡ true
 all_at p [] place a h there = absurd (omega (arith, slice_get_within [] place a there))
-all_at p (x ∷ xs) zero a h there = ap p (sym (same_some x a there)) ∙ (and_parts (p x) (list_all p xs) h).0
+all_at p (x ∷ xs) zero a h there = ap p (sym (same_Some x a there)) ∙ (and_parts (p x) (list_all p xs) h).0
 all_at p (x ∷ xs) (suc place) a h there = all_at p xs place a (and_parts (p x) (list_all p xs) h).1 there
 
 pub no_mark : (s : Stacked) (rows : List code.Assertion) (place : ℕ) (a : code.Assertion)

@@ -27,10 +27,6 @@ use Rattle.sb_solve.specs.Modelled.{is_asked, picked_word, picked, HasLength, Ar
 
 -- Results.
 
-pub given_ok : {T E : Type 0} (r : Result T E) (P Q : T → Type 0) → ((x : T) → P x → Q x) → IfOk r P → IfOk r Q
-given_ok (Ok x) P Q f h = f x h
-given_ok (Err e) P Q f h = tt
-
 pub both_ok : {T E : Type 0} (r : Result T E) (P Q R : T → Type 0) → ((x : T) → P x → Q x → R x) → IfOk r P → IfOk r Q
     → IfOk r R
 both_ok (Ok x) P Q R f h k = f x h k

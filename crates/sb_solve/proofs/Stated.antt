@@ -3,7 +3,7 @@ use Rattle.std.proofs.Common.{◌≡◌, ◌≢◌, ◌⊎◌, inl, inr, ℕ, ze
 use Rattle.std.specs.Prelude.{IfSome}
 use Rattle.std.proofs.lemmas.Bool.{and_from, lt-ltb}
 use Rattle.std.proofs.lemmas.Bool.Decides.{nat_tests}
-use Rattle.std.proofs.lemmas.Option.{slice_get_within}
+use Rattle.std.proofs.lemmas.Option.{slice_get_within, none-some, same_Some}
 use Rattle.sb_lit.specs.declared.clause.Lit.{Lit}
 use Rattle.sb_lit.specs.Kept.{Kept}
 use Rattle.sb_lang.specs.Regex.{Regex}
@@ -32,12 +32,6 @@ use Rattle.sb_solve.specs.Answered.{IsLiteral, AreLiterals}
 use Rattle.sb_solve.specs.Solved.{AreOfLevels, level_at}
 use Rattle.sb_solve.specs.Stating.{IsAssertionAt, IsStated, States, AreStated}
 
-same_some : {X : Type 0} (x y : X) → Some x ≡ Some y → x ≡ y
-same_some x y h = cc
-
-none_some : {X : Type 0} (x : X) → None ≡ Some x → ⊥
-none_some x h = cc
-
 -- One assertion.
 
 structure_translates : (atoms : List Atom) (t : Term) (l : Lit) → brought_translation atoms t ≡ Some l
@@ -46,7 +40,7 @@ structure_translates atoms t l h = step (is_structure t) h
   where
     step : (b : Bool) → (if b then translation atoms t else None) ≡ Some l → translation atoms t ≡ Some l
     step true h = h
-    step false h = absurd (none_some l h)
+    step false h = absurd (none-some l h)
 
 pub states_there : (s : Stacked) (place id level : ℕ) (ts : List Term) (rs more : List Regex) (e f : Backing)
     (o : Option Asserted) (a : Asserted) (old new : Option (List ℕ)) → ts ≡ s.table → IsAssertionAt s place id level
@@ -69,7 +63,7 @@ states_there s place id level ts rs more e f o a old new same there below above 
       others = others;
       level = λ b found.
           ap (option_map (λ (x : Option Term × ℕ). x.1)) there.statement.live
-          ∙ ap Some (sym level_is ∙ ap (λ (c : Asserted). c.level) (same_some a b (sym it ∙ found)));
+          ∙ ap Some (sym level_is ∙ ap (λ (c : Asserted). c.level) (same_Some a b (sym it ∙ found)));
       gates = gates;
       stated = record {
         term = term_at s.table id;
@@ -136,8 +130,8 @@ translates_still stays rs more old new t l grows below atoms h =
 
 added_at : {A : Type 0} (xs : List A) (x y : A) (place : ℕ) → slice_get (xs ++ x ∷ []) place ≡ Some y
     → ((slice_get xs place ≡ Some y) × (place < length xs)) ⊎ ((place ≡ length xs) × (x ≡ y))
-added_at [] x y zero h = inr (refl, same_some x y h)
-added_at [] x y (suc place) h = absurd (none_some y (h))
+added_at [] x y zero h = inr (refl, same_Some x y h)
+added_at [] x y (suc place) h = absurd (none-some y (h))
 added_at (z ∷ xs) x y zero h = inl (h, omega arith)
 added_at (z ∷ xs) x y (suc place) h = elim (added_at xs x y place h) [
   | inl old ↦ inl (old.0, omega (arith, old.1))
@@ -216,7 +210,7 @@ are_literals atoms kept (x ∷ xs) [] long h = absurd (omega (arith, long))
 are_literals atoms kept (asserted t ∷ xs) (l ∷ ls) long h =
     let first = h 0 l refl in (
       subst (λ (u : Term). IsLiteral atoms kept u l)
-          (sym (same_term t first.0 (same_some (asserted t) (asserted first.0) first.1))) first.2,
+          (sym (same_term t first.0 (same_Some (asserted t) (asserted first.0) first.1))) first.2,
       are_literals atoms kept xs ls (omega (arith, long)) (λ place m there. h (suc place) m there),
     )
 are_literals atoms kept (a_mark ∷ xs) (l ∷ ls) long h =

@@ -109,10 +109,6 @@ step_some x y entries a b told after found answer is h =
 
 -- To the search.
 
-pub if_ok_map : {T E : Type 0} (r : Result T E) (P Q : T → Type 0) → ((x : T) → P x → Q x) → IfOk r P → IfOk r Q
-if_ok_map (Ok x) P Q f h = f x h
-if_ok_map (Err e) P Q f h = tt
-
 pub answer_spent : (before after : Spending) (answer : Checked) → IsPaid before after answer → answer ≡ Spent
     → after.spent ≡ after.limit
 answer_spent before after answer paid is = subst (IsPaid before after) is paid

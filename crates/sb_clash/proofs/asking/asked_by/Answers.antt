@@ -1,8 +1,9 @@
 use Rattle.sb_lang.specs.Constructors.{mknot}
 use Rattle.sb_regex.specs.Numbered.{Names, regex_at}
 use Rattle.sb_clash.specs.Literals.{asked_by}
-use Rattle.sb_clash.proofs.AskedFacts.{regex_below, asked_positive, asked_negative, if_ok_map}
+use Rattle.sb_clash.proofs.AskedFacts.{regex_below, asked_positive, asked_negative}
 use Rattle.std.proofs.Common.{◌<◌, length, subst, sym}
+use Rattle.std.proofs.lemmas.Result.{IfOk-weaker}
 use Rattle.sb_clash.proofs.asking.asked_by.Goals as goal
 
 pub not-requires : goal.not-requires
@@ -18,7 +19,7 @@ returns-then-literal-clause-ok c =
 
 pub returns-else-literal-clause-ok : goal.returns-else-literal-clause-ok
 returns-else-literal-clause-ok c =
-    if_ok_map c.not.result (λ id. Names c.not.new.self id (mknot (regex_at c.args.arena.now c.regex_of-regex.result)))
+    IfOk-weaker c.not.result (λ id. Names c.not.new.self id (mknot (regex_at c.args.arena.now c.regex_of-regex.result)))
     (λ id. Names c.not.new.self id (asked_by c.not.new.self c.args.atoms.now c.args.literal))
     (λ id names. asked_negative c.args.arena.now c.not.new.self c.args.atoms.now c.args.serial.0
     c.regex_of-regex.result id c.args.literal c.if-literal.false c.regex_of-regex.ensures c.requires.regexes

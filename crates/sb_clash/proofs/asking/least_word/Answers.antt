@@ -1,11 +1,12 @@
 use Rattle.std.proofs.Common.{◌∙◌, subst, sym}
+use Rattle.std.proofs.lemmas.Result.{IfOk-weaker}
 use Rattle.sb_lang.specs.Language.{language}
 use Rattle.sb_lang.specs.Regex.{Regex}
 use Rattle.sb_regex.specs.Numbered.{regex_at}
 use Rattle.sb_regex.proofs.CallerLemmas.{names_at, names_below}
 use Rattle.sb_graph.specs.Witness.{IsFinding}
 use Rattle.sb_clash.specs.Literals.{asked_by_all}
-use Rattle.sb_clash.proofs.AskedFacts.{meet_grown, if_ok_map}
+use Rattle.sb_clash.proofs.AskedFacts.{meet_grown}
 use Rattle.sb_clash.proofs.asking.least_word.Goals as goal
 
 pub returns-in_err-root-clause-graph : goal.returns-in_err-root-clause-graph
@@ -25,7 +26,7 @@ least_word-requires-clause-graph c =
 
 pub returns-clause-found : goal.returns-clause-found
 returns-clause-found c =
-    if_ok_map c.least_word.result (IsFinding (language (regex_at c.meet.new.arena c.in_ok-root.root)))
+    IfOk-weaker c.least_word.result (IsFinding (language (regex_at c.meet.new.arena c.in_ok-root.root)))
     (IsFinding (language (asked_by_all c.least_word.new.arena c.args.atoms.now c.args.literals.now)))
     (λ found is. subst (λ (r : Regex). IsFinding (language r) found)
     (names_at c.meet.new.arena c.in_ok-root.root

@@ -1,10 +1,11 @@
 use Rattle.std.proofs.Common.{◌+◌, take, subst, sym, arith}
+use Rattle.std.proofs.lemmas.Result.{IfOk-weaker}
 use Rattle.sb_lang.specs.Constructors.{mkand}
 use Rattle.sb_regex.specs.Numbered.{Names, regexes_at}
 use Rattle.sb_regex.proofs.CallerLemmas.{extends_more}
 use Rattle.sb_atoms.proofs.CallerLemmas.{regexes_kept}
 use Rattle.sb_clash.specs.Literals.{asked_by_all}
-use Rattle.sb_clash.proofs.AskedFacts.{IsAskedSofar, asked_more, asked_met, if_ok_map}
+use Rattle.sb_clash.proofs.AskedFacts.{IsAskedSofar, asked_more, asked_met}
 use Rattle.sb_clash.proofs.asking.meet.Goals as goal
 
 pub returns-in_err-push-clause-extends : goal.returns-in_err-push-clause-extends
@@ -28,7 +29,7 @@ loop-literal-preserved c = (
 
 pub returns-clause-ok : goal.returns-clause-ok
 returns-clause-ok c =
-    if_ok_map c.and.result
+    IfOk-weaker c.and.result
     (λ id. Names c.and.new.self id (mkand (regexes_at c.loop-literal.arena c.deref.result.now)))
     (λ id. Names c.and.new.self id (asked_by_all c.and.new.self c.args.atoms.now c.args.literals.now))
     (λ id names. asked_met c.loop-literal.arena c.and.new.self c.args.atoms.now c.args.serial.0 c.args.literals.now

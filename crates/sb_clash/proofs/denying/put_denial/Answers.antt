@@ -1,4 +1,5 @@
 use Rattle.std.proofs.Common.{◌∙◌, ap, subst, sym, map, false, arith}
+use Rattle.std.proofs.lemmas.Result.{IfOk-weaker}
 use Rattle.sb_lit.specs.Clauses.{negation}
 use Rattle.sb_lang.specs.Language.{language}
 use Rattle.sb_regex.specs.Numbered.{Names, regex_at}
@@ -6,7 +7,6 @@ use Rattle.sb_regex.proofs.CallerLemmas.{names_at, names_below, extends_more}
 use Rattle.sb_trace.specs.Tracking.{IsExploring}
 use Rattle.sb_trace.proofs.CallerLemmas.{tracks_grow}
 use Rattle.sb_clash.specs.Literals.{AreAbout, asked_by_all}
-use Rattle.sb_clash.proofs.AskedFacts.{if_ok_map}
 use Rattle.sb_clash.proofs.DenialFacts.{about_opposite, behind_traces, denial_waits, never_alive, can_be_denied}
 use Rattle.sb_trace.proofs.CallerLemmas.{spent_none, spent_both}
 use Rattle.sb_clash.proofs.denying.put_denial.Goals as goal
@@ -34,7 +34,7 @@ explore-requires-clause-graph g c =
 
 pub returns-in-Dead-clause-puts : goal.returns-in-Dead-clause-puts
 returns-in-Dead-clause-puts g c =
-    if_ok_map c.put_line.result _ _
+    IfOk-weaker c.put_line.result _ _
     (λ done line. λ asked before tracks is fresh counts.
     behind_traces asked before c.args.arena.now c.explore.new.arena c.explore.new.graph.memo c.explore.new.self
     c.args.atoms.now c.args.clause.now done c.explore.new.budget c.put_line.new.budget (g.L.Tape.told c.args.tape.now)
@@ -95,5 +95,5 @@ returns-in-Dead-clause-steps g c =
 
 pub returns-in-Dead-clause-ticks : goal.returns-in-Dead-clause-ticks
 returns-in-Dead-clause-ticks g c =
-    if_ok_map c.put_line.result _ _ (λ done ticks is. let less = c.in_ok-explore.ensures.steps.spent in
+    IfOk-weaker c.put_line.result _ _ (λ done ticks is. let less = c.in_ok-explore.ensures.steps.spent in
     omega (arith, less, ticks is)) c.put_line.ensures.ticks

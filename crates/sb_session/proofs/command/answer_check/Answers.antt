@@ -1,13 +1,13 @@
 use Rattle.std.proofs.Common.{◌≡◌, ℕ, ◌<◌, List, length, take, refl, ap, ◌∙◌, subst, inr}
 use Rattle.sb_world.specs.Outside.{write_at}
 use Rattle.sb_world.specs.declared.OutPort.TheVariants.{Answers}
-use Rattle.std.proofs.lemmas.Result.{err_from_is_err_and}
+use Rattle.std.proofs.lemmas.Result.{err_from_is_err_and, on_ok_weaker, on_err_weaker}
 use Rattle.sb_rulebook.specs.Accepted.{asked_in}
 use Rattle.sb_stack.specs.Stacked.{Stacked, state_of, live_constants}
 use Rattle.sb_stack.specs.Steps.{verdict_in}
 use Rattle.sb_session.specs.Commanding.{proof_of}
 use Rattle.sb_session.specs.Checking.{session_of}
-use Rattle.sb_session.proofs.CheckLemmas.{on_ok, on_err, some_verdict, decided_verdict, levels_of_rest, levels_of_found, fit_of_rest, fit_of_found, true_of_rest, true_of_found, tracked_stays, check_answered, answer_cut, proof_cut}
+use Rattle.sb_session.proofs.CheckLemmas.{some_verdict, decided_verdict, levels_of_rest, levels_of_found, fit_of_rest, fit_of_found, true_of_rest, true_of_found, tracked_stays, check_answered, answer_cut, proof_cut}
 use Rattle.sb_session.proofs.command.answer_check.Goals as goal
 
 pub returns-in_err-verdict-clause-err : goal.returns-in_err-verdict-clause-err
@@ -35,7 +35,7 @@ returns-clause-ok g c =
     (proof_of c.args.proved c.find_verdict.new.prover) in
     let after = session_of c.settle.new.self c.find_verdict.new.decider
     (proof_of c.args.proved c.find_verdict.new.prover) in
-    on_ok c.write_all.result
+    on_ok_weaker c.write_all.result
     (λ written q tracked.
     check_answered same.0 q session between proven after
     (verdict_in (live_constants c.decide.new.stack) c.in_ok-verdict.verdict) same.1 refl (g.W.World.outside c.args.world.now)
@@ -58,7 +58,7 @@ returns-clause-err g c =
     (proof_of c.args.proved c.find_verdict.new.prover) in
     let after = session_of c.settle.new.self c.find_verdict.new.decider
     (proof_of c.args.proved c.find_verdict.new.prover) in
-    on_err c.write_all.result
+    on_err_weaker c.write_all.result
     (λ cut q tracked.
     inr (answer_cut same.0 q session between proven after
     (verdict_in (live_constants c.decide.new.stack) c.in_ok-verdict.verdict)
@@ -85,7 +85,7 @@ find_verdict-requires-clause-verdict g c =
 
 pub returns-clause-levels : goal.returns-clause-levels
 returns-clause-levels g c =
-    on_ok c.write_all.result
+    on_ok_weaker c.write_all.result
     (λ written. levels_of_found c.in_ok-verdict.verdict c.decide.new.stack c.settle.new.self c.find_verdict.new.prover
     c.settle.ensures.kept
     (c.in_ok-verdict.ensures.levels
@@ -107,14 +107,14 @@ find_verdict-requires-clause-sound g c =
 
 pub returns-clause-fit : goal.returns-clause-fit
 returns-clause-fit g c =
-    on_ok c.write_all.result
+    on_ok_weaker c.write_all.result
     (λ written. fit_of_found c.in_ok-verdict.verdict c.decide.new.stack c.settle.new.self c.settle.ensures.kept
     (fit_of_rest c.args.stack.now c.decide.new.stack c.decide.ensures.rest c.requires.fit))
     c.write_all.ensures.ok
 
 pub returns-clause-sound : goal.returns-clause-sound
 returns-clause-sound g c =
-    on_ok c.write_all.result
+    on_ok_weaker c.write_all.result
     (λ written. true_of_found c.in_ok-verdict.verdict c.decide.new.stack c.settle.new.self c.find_verdict.new.decider
     c.find_verdict.new.prover c.settle.ensures.kept c.in_ok-verdict.ensures.sound)
     c.write_all.ensures.ok

@@ -1,6 +1,7 @@
 use Rattle.std.proofs.Common.{refl, ◌∙◌, ap}
+use Rattle.std.proofs.lemmas.Result.{on_ok_weaker, on_err_weaker}
 use Rattle.sb_session.specs.Commanding.{proof_of}
-use Rattle.sb_session.proofs.CheckLemmas.{on_ok, on_err, end_untold, end_none, end_written, end_cut_short}
+use Rattle.sb_session.proofs.CheckLemmas.{end_untold, end_none, end_written, end_cut_short}
 use Rattle.sb_session.proofs.command.finish_proof.Goals as goal
 
 pub returns-then-not-proved-clause-ok : goal.returns-then-not-proved-clause-ok
@@ -15,7 +16,7 @@ returns-in_default-clause-err g c s p same tracked =
 
 pub returns-clause-ok : goal.returns-clause-ok
 returns-clause-ok g c =
-    on_ok c.write_all.result
+    on_ok_weaker c.write_all.result
     (λ written s p same tracked.
     end_written s c.args.prover.now p c.new-tape.result c.finish.new.tape c.bytes.result.now
     (g.W.World.outside c.args.world.now) (g.W.World.outside c.write_all.new.world)
@@ -25,7 +26,7 @@ returns-clause-ok g c =
 
 pub returns-clause-err : goal.returns-clause-err
 returns-clause-err g c =
-    on_err c.write_all.result
+    on_err_weaker c.write_all.result
     (λ cut s p same tracked.
     end_cut_short s c.args.prover.now p c.new-tape.result c.finish.new.tape c.bytes.result.now
     (g.W.World.outside c.args.world.now) (g.W.World.outside c.write_all.new.world)

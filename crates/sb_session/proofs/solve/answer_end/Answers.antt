@@ -1,10 +1,10 @@
 use Rattle.std.proofs.Common.{◌∙◌, ap, subst}
-use Rattle.std.proofs.lemmas.Result.{err_from_is_err_and}
+use Rattle.std.proofs.lemmas.Result.{err_from_is_err_and, on_err_weaker}
 use Rattle.sb_reader.specs.Feeding as feed
 use Rattle.sb_session.specs.Commanding.{is_proved}
 use Rattle.sb_session.specs.Reading.{Cut}
 use Rattle.sb_session.specs.Solve.{opened}
-use Rattle.sb_session.proofs.CheckLemmas.{ok_map, on_err}
+use Rattle.sb_session.proofs.CheckLemmas.{ok_map}
 use Rattle.sb_session.proofs.EndLemmas.{end_sofar, end_cut}
 use Rattle.sb_session.proofs.solve.answer_end.Goals as goal
 
@@ -36,7 +36,7 @@ returns-clause-ok g c =
 pub returns-clause-err : goal.returns-clause-err
 returns-clause-err g c =
     let before = g.W.World.outside c.args.world.now in
-    on_err c.end_script.result
+    on_err_weaker c.end_script.result
     (λ run asked old bytes read.
     run asked old bytes c.answer_entries.new.feed read.is_read
     (c.answer_entries.ensures.finished ∙ ap (λ (k : feed.Unanswered). k.1) c.finish.ensures)

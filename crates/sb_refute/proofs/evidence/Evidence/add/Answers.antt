@@ -1,8 +1,9 @@
 use Rattle.std.proofs.Common.{◌++◌, ◌∷◌, [], List, Some, length, ap, ◌∙◌}
+use Rattle.std.proofs.lemmas.Result.{on_err_weaker}
 use Rattle.sb_lit.specs.declared.clause.Lit.{Lit}
 use Rattle.sb_clauses.specs.Propagation.{State, are_reserved}
 use Rattle.sb_refute.specs.Backing.{Backing}
-use Rattle.sb_refute.proofs.Holding.{stand-added, ok-then, err-then, number-then}
+use Rattle.sb_refute.proofs.Holding.{stand-added, ok-then, number-then}
 use Rattle.sb_refute.proofs.evidence.Evidence.add.Goals as goal
 
 pub invariant_of-self : goal.invariant_of-self
@@ -48,7 +49,7 @@ returns-clause-ok c =
 pub returns-clause-err : goal.returns-clause-err
 returns-clause-err c =
     let i = c.self.inside in
-    err-then c.add.result
+    on_err_weaker c.add.result
     (λ same.
     ap (λ (s : State). record {
       trace = i.trace;

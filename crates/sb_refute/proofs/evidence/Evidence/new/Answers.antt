@@ -1,4 +1,5 @@
 use Rattle.std.proofs.Common.{◌≡◌, ℕ, List, [], Some, None, refl, sym, ap, subst, ◌∙◌}
+use Rattle.std.proofs.lemmas.Option.{none-some}
 use Rattle.sb_atoms.specs.Numbered.{atoms_in}
 use Rattle.sb_rulebook.specs.Atoms.{AtomOver}
 use Rattle.sb_clauses.specs.Propagation.{State}
@@ -7,9 +8,6 @@ use Rattle.sb_refute.specs.Standing.{Stand}
 use Rattle.sb_refute.proofs.Places.{none-at}
 use Rattle.sb_refute.proofs.Holding.{stand-none}
 use Rattle.sb_refute.proofs.evidence.Evidence.new.Goals as goal
-
-none-some : {X : Type 0} (x : X) → None ≡ Some x → ⊥
-none-some x h = cc
 
 pub invariant_of-result : goal.invariant_of-result
 invariant_of-result c =

@@ -1,10 +1,11 @@
 use Rattle.std.proofs.Common.{◌≡◌, ◌∷◌, List, Some, is_some, map, option_map, All, Contains, sym, ap, subst, ◌∙◌}
+use Rattle.std.proofs.lemmas.Option.{same_Some}
 use Rattle.std.specs.Map.{values_of}
 use Rattle.sb_lit.specs.Kept.{Kept, KeptClause, kept_at}
 use Rattle.sb_refute.specs.declared.evidence.Asserted.{Asserted}
 use Rattle.sb_refute.specs.Backing.{Backing}
 use Rattle.sb_refute.specs.Units.{IsTop, numbered, denials_of, hints_of}
-use Rattle.sb_refute.proofs.ClauseParts.{all-among, copied-there, copied-is, some-is}
+use Rattle.sb_refute.proofs.ClauseParts.{all-among, copied-there, copied-is}
 use Rattle.sb_refute.proofs.Picking.{numbers-listed, levels-listed}
 use Rattle.sb_refute.proofs.Memberships.{reasons-lead}
 use Rattle.sb_refute.proofs.evidence.Evidence.reasons.Goals as goal
@@ -51,7 +52,7 @@ returns-clause-leads c = λ rs memo kept b.
     c.requires.units.units
     (copied-is c.literals.result c.unwrap.result c.clauses-clauses.result.now id part.clause c.unwrap.ensures
     c.literals.ensures there)
-    (some-is c.unwrap-2.result part.clause.level
+    (same_Some c.unwrap-2.result part.clause.level
     (sym c.unwrap-2.ensures ∙ c.level.ensures ∙ ap (option_map (λ (k : KeptClause). k.level)) there))
     c.in_ok-picked.ensures c.in_ok-listed.ensures.rise (numbers-listed es) (levels-listed es)
     (subst (λ (xs : List Asserted). IsTop (c.unwrap-2.result ∷ map (λ (a : Asserted). a.level) xs) c.level_of-level.result)

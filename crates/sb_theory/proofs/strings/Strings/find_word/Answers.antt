@@ -1,6 +1,7 @@
 use Rattle.std.proofs.Common.{◌≡◌, ◌∷◌, [], List, true, length, refl, sym, ap, subst, ◌∙◌}
 use Rattle.std.specs.List.{list_all}
 use Rattle.std.proofs.lemmas.List.{length-append}
+use Rattle.std.proofs.lemmas.Result.{IfOk-weaker}
 use Rattle.sb_lit.specs.declared.clause.Lit.{Lit}
 use Rattle.sb_lit.specs.Clauses.{is_among}
 use Rattle.sb_lang.specs.Language.{language}
@@ -15,7 +16,7 @@ use Rattle.sb_theory.specs.Memberships.{is_true_by}
 use Rattle.sb_theory.proofs.Standing.{stands_grown, stands_pushed}
 use Rattle.sb_theory.proofs.Fitting.{fit_found}
 use Rattle.sb_theory.proofs.Denied.{members_about, members_among, members_single, members_are}
-use Rattle.sb_theory.proofs.Answering.{if_ok_map, step_both, answers_fine}
+use Rattle.sb_theory.proofs.Answering.{step_both, answers_fine}
 use Rattle.sb_theory.proofs.strings.Strings.find_word.Goals as goal
 
 pub least_word-requires-clause-about : goal.least_word-requires-clause-about
@@ -102,7 +103,7 @@ returns-in-Alive-clause-step g c = (
 
 pub returns-clause-step : goal.returns-clause-step
 returns-clause-step g c =
-    if_ok_map c.lemma.result _ _
+    IfOk-weaker c.lemma.result _ _
     (λ answer step. step_both c.args.self.now _ c.lemma.new.self c.args.trail.now.literals c.args.budget.now
     c.args.budget.now c.lemma.new.budget (g.L.Tape.told c.args.tape.now) (g.L.Tape.told c.args.tape.now)
     (g.L.Tape.told c.lemma.new.tape) answer refl refl (spent_none c.args.budget.now)

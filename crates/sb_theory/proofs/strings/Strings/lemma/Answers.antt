@@ -1,11 +1,12 @@
 use Rattle.std.proofs.Common.{List, refl, sym, subst, map}
+use Rattle.std.proofs.lemmas.Result.{IfOk-weaker}
 use Rattle.std.specs.List.Sorted.{IsPermutation}
 use Rattle.sb_lit.specs.declared.clause.Lit.{Lit}
 use Rattle.sb_lit.specs.Clauses.{negation}
 use Rattle.sb_clash.specs.Literals.{AreSingle}
 use Rattle.sb_theory.proofs.Standing.{stands_grown}
 use Rattle.sb_theory.proofs.Denied.{few_single, denied_on}
-use Rattle.sb_theory.proofs.Answering.{if_ok_map, step_both, answers_fine}
+use Rattle.sb_theory.proofs.Answering.{step_both, answers_fine}
 use Rattle.sb_trace.proofs.CallerLemmas.{spent_none}
 use Rattle.sb_theory.proofs.strings.Strings.lemma.Goals as goal
 
@@ -31,7 +32,7 @@ answer-requires-clause-denied g c =
 
 pub returns-clause-step : goal.returns-clause-step
 returns-clause-step g c =
-    if_ok_map c.answer.result _ _
+    IfOk-weaker c.answer.result _ _
     (λ answer step. step_both c.args.self.now _ c.answer.new.self c.args.trail.now.literals c.args.budget.now
     c.args.budget.now c.answer.new.budget (g.L.Tape.told c.args.tape.now) (g.L.Tape.told c.args.tape.now)
     (g.L.Tape.told c.answer.new.tape) answer refl refl (spent_none c.args.budget.now)

@@ -2,6 +2,7 @@ use Rattle.std.proofs.Common.{◌≡◌, ◌∷◌, [], List, Option, true, leng
 use Rattle.std.specs.Option.{IfNone}
 use Rattle.std.specs.List.{list_all}
 use Rattle.std.proofs.lemmas.List.{length-append}
+use Rattle.std.proofs.lemmas.Result.{IfOk-weaker}
 use Rattle.sb_term.specs.declared.term.Serial.{Serial}
 use Rattle.sb_trail.specs.declared.assigned.Assigned.{Assigned}
 use Rattle.sb_trail.specs.Assignments.{held}
@@ -9,7 +10,7 @@ use Rattle.sb_atoms.proofs.CallerLemmas.{regexes_kept}
 use Rattle.sb_trace.proofs.CallerLemmas.{spent_none}
 use Rattle.sb_theory.specs.Memberships.{is_true_by}
 use Rattle.sb_theory.proofs.Standing.{stands_grown, stands_pushed, next_of, fit_grown, fit_push, true_by_grown}
-use Rattle.sb_theory.proofs.Answering.{if_ok_map, step_both, answers_fine}
+use Rattle.sb_theory.proofs.Answering.{step_both, answers_fine}
 use Rattle.sb_theory.proofs.strings.Strings.take_next.Goals as goal
 
 pub find_word-requires-clause-stands : goal.find_word-requires-clause-stands
@@ -66,7 +67,7 @@ returns-in_ok-keep-in-None-clause-step g c = (
 
 pub returns-in-Some-clause-step : goal.returns-in-Some-clause-step
 returns-in-Some-clause-step g c =
-    if_ok_map c.find_word.result _ _
+    IfOk-weaker c.find_word.result _ _
     (λ answer step. step_both c.args.self.now _ c.find_word.new.self c.args.trail.now.literals c.args.budget.now
     c.args.budget.now c.find_word.new.budget (g.L.Tape.told c.args.tape.now) (g.L.Tape.told c.args.tape.now)
     (g.L.Tape.told c.find_word.new.tape) answer refl refl (spent_none c.args.budget.now)

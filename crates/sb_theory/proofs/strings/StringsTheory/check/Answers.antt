@@ -1,7 +1,8 @@
 use Rattle.std.proofs.Common.{ℕ, List, ap}
+use Rattle.std.proofs.lemmas.Result.{IfOk-weaker}
 use Rattle.sb_rulebook.specs.Atoms.{AtomOver}
 use Rattle.sb_theory.specs.Memberships.{is_atom}
-use Rattle.sb_theory.proofs.Answering.{if_ok_map, valid_grows, answer_spent, answer_falls, counts_faults}
+use Rattle.sb_theory.proofs.Answering.{valid_grows, answer_spent, answer_falls, counts_faults}
 use Rattle.sb_theory.proofs.strings.StringsTheory.check.Goals as goal
 
 pub returns-clause-wanted : goal.returns-clause-wanted
@@ -23,25 +24,25 @@ pub returns-clause-within : goal.returns-clause-within
 returns-clause-within g c = c.take_in.ensures.steps.within
 
 pub returns-clause-fair : goal.returns-clause-fair
-returns-clause-fair g c = if_ok_map c.take_in.result _ _ (λ answer h. h.fair) c.take_in.ensures.answers
+returns-clause-fair g c = IfOk-weaker c.take_in.result _ _ (λ answer h. h.fair) c.take_in.ensures.answers
 
 pub returns-clause-agrees : goal.returns-clause-agrees
-returns-clause-agrees g c = if_ok_map c.take_in.result _ _ (λ answer h last. h) c.take_in.ensures.agrees
+returns-clause-agrees g c = IfOk-weaker c.take_in.result _ _ (λ answer h last. h) c.take_in.ensures.agrees
 
 pub returns-clause-spent : goal.returns-clause-spent
 returns-clause-spent g c =
-    if_ok_map c.take_in.result _ _
+    IfOk-weaker c.take_in.result _ _
     (λ answer h. answer_spent c.args.budget.now c.take_in.new.budget answer h.paid) c.take_in.ensures.answers
 
 pub returns-clause-falls : goal.returns-clause-falls
 returns-clause-falls g c =
-    if_ok_map c.take_in.result _ _
+    IfOk-weaker c.take_in.result _ _
     (λ answer h. answer_falls c.args.clauses.now c.args.trail.now.literals c.args.budget.now c.take_in.new.budget answer
     h.paid) c.take_in.ensures.answers
 
 pub returns-clause-puts : goal.returns-clause-puts
 returns-clause-puts g c =
-    if_ok_map c.take_in.result _ _ (λ answer h. h.writes c.args.clauses.now c.requires.none_false)
+    IfOk-weaker c.take_in.result _ _ (λ answer h. h.writes c.args.clauses.now c.requires.none_false)
     c.take_in.ensures.answers
 
 pub returns-clause-counts : goal.returns-clause-counts
