@@ -7,6 +7,7 @@ use Rattle.std.proofs.lemmas.Bool.{and_parts, and_from, false≢true}
 use Rattle.std.proofs.lemmas.Bool.Decides.{nat_tests}
 use Rattle.std.proofs.lemmas.List.{drop_more, drop_all, take_more, map-append, take_all}
 use Rattle.std.proofs.lemmas.Option.{slice_get_within, same_Some}
+use Rattle.sb_facts.proofs.CallerLemmas.{some_then, some-none}
 use Rattle.sb_lang.specs.Regex.{Regex}
 use Rattle.sb_lit.specs.declared.clause.Lit.{Lit}
 use Rattle.sb_lit.specs.Clauses.{negation, literal_order, are_ascending}
@@ -24,9 +25,6 @@ use Rattle.sb_fragment.proofs.CallerLemmas.{compared_all}
 use Rattle.sb_atoms.proofs.Growth.{grown_one, carried, gates_none, gates_longer, gates_both}
 use Rattle.sb_atoms.proofs.Ordered.{below_in_order, order_ascends, not_greater}
 use Rattle.sb_atoms.proofs.Translating.{apart_and, apart_iff}
-
-some_none : {X : Type 0} (x : X) → Some x ≡ None → ⊥
-some_none x e = cc
 
 -- Below a number.
 
@@ -119,7 +117,7 @@ pub gives_one : (adds : Bool) (new : List (AtomOver ℕ)) (ls ordered : List Lit
     → Gives is_below adds new (λ atoms. conjunction atoms ls) (Some l)
 gives_one adds new ls ordered l below e one first = record {
   is = λ rs. ap (conjunction_of (atoms_in rs new)) (sym (one_of ordered l one first) ∙ e);
-  sure = λ on. some_none l;
+  sure = λ on. some-none l;
   below = λ k same.
       ap (is_below (length new)) (sym (same_Some l k same))
       ∙ (and_parts (is_below (length new) l) true
@@ -164,11 +162,11 @@ gives_negated adds new make found h = record {
   where
     was_none : (o : Option Lit) → negated o ≡ None → o ≡ None
     was_none None e = refl
-    was_none (Some l) e = absurd (some_none (negation l) e)
+    was_none (Some l) e = absurd (some-none (negation l) e)
 
     was_below : (o : Option Lit) (l : Lit) → negated o ≡ Some l
         → ((k : Lit) → o ≡ Some k → is_below (length new) k ≡ true) → is_below (length new) l ≡ true
-    was_below None l e below = absurd (some_none l (sym e))
+    was_below None l e below = absurd (some-none l (sym e))
     was_below (Some k) l e below = ap (is_below (length new)) (sym (same_Some (negation k) l e)) ∙ below k refl
 
 pub gives_same : {A : Type 0} {known : ℕ → A → Bool} (adds : Bool) (new : List (AtomOver ℕ))
@@ -251,7 +249,7 @@ pub gives_nothing : (adds : Bool) (new : List (AtomOver ℕ)) (make : List Atom 
 gives_nothing adds new make ls none = record {
   is = λ rs. sym (none (atoms_in rs new) ls refl);
   none = λ on e. none;
-  below = λ l e. absurd (some_none l (sym e));
+  below = λ l e. absurd (some-none l (sym e));
 }
 
 -- there is none because an atom is missing
@@ -260,13 +258,10 @@ pub gives_missing : (adds : Bool) (new : List (AtomOver ℕ)) (make : List Atom 
 gives_missing adds new make ls off none = record {
   is = λ rs. sym (none rs);
   none = λ on e. absurd (off on);
-  below = λ l e. absurd (some_none l (sym e));
+  below = λ l e. absurd (some-none l (sym e));
 }
 
 -- Implications, from the last to the first.
-
-some_then : {A B : Type 0} (f : A → Option B) (x : A) (o : Option A) → Some x ≡ o → option_and_then f o ≡ f x
-some_then f x o e = ap (option_and_then f) (sym e)
 
 none_then : {A B : Type 0} (f : A → Option B) (o : Option A) → o ≡ None → option_and_then f o ≡ None
 none_then f o e = ap (option_and_then f) e
@@ -346,7 +341,7 @@ pub implied_end : (adds : Bool) (old new : List (AtomOver ℕ)) (ls : List Lit) 
     → Implied adds old new ls i last → i ≡ 0 → GivesLike adds new implications ls (Some last)
 implied_end adds old new ls i last h e = record {
   is = λ rs. h.is rs ∙ ap (λ n. implications (atoms_in rs new) (drop n ls)) e;
-  none = λ on none. absurd (some_none last none);
+  none = λ on none. absurd (some-none last none);
   below = λ l same. ap (is_below (length new)) (sym (same_Some last l same)) ∙ h.below;
 }
 
@@ -407,7 +402,7 @@ pub excluded_end : (adds : Bool) (old new : List (AtomOver ℕ)) (first last : L
     → Excluded adds old new first xs last → ls ≡ first ∷ xs → GivesLike adds new exclusive ls (Some last)
 excluded_end adds old new first last xs ls h e = record {
   is = λ rs. h.is rs ∙ sym (ap (exclusive (atoms_in rs new)) e);
-  none = λ on none. absurd (some_none last none);
+  none = λ on none. absurd (some-none last none);
   below = λ l same. ap (is_below (length new)) (sym (same_Some last l same)) ∙ h.below;
 }
 
@@ -495,16 +490,16 @@ only_of : (ls others : List Lit) → length others ≡ length ls → negated (on
     → negated (only_one others) ≡ None
 only_of ls [] e h = refl
 only_of [] (m ∷ []) e h = absurd (omega (arith, e))
-only_of (l ∷ []) (m ∷ []) e h = absurd (some_none (negation l) h)
+only_of (l ∷ []) (m ∷ []) e h = absurd (some-none (negation l) h)
 only_of (l ∷ k ∷ ls) (m ∷ []) e h = absurd (omega (arith, e))
 only_of ls (m ∷ n ∷ others) e h = refl
 
 only_below : (n : ℕ) (ls : List Lit) (l : Lit) → are_below n ls ≡ true → negated (only_one ls) ≡ Some l
     → is_below n l ≡ true
-only_below n [] l h e = absurd (some_none l (sym e))
+only_below n [] l h e = absurd (some-none l (sym e))
 only_below n (k ∷ []) l h e =
     ap (is_below n) (sym (same_Some (negation k) l e)) ∙ (and_parts (is_below n k) true h).0
-only_below n (k ∷ m ∷ ls) l h e = absurd (some_none l (sym e))
+only_below n (k ∷ m ∷ ls) l h e = absurd (some-none l (sym e))
 
 pub gives_denied : (adds : Bool) (new : List (AtomOver ℕ)) (ls slice : List Lit) (found : Option Lit) → slice ≡ ls
     → found ≡ negated (only_one slice) → are_below (length new) ls ≡ true
@@ -551,13 +546,13 @@ all_stay f s (x ∷ xs) = one_stays (s x) (all_stay f s xs)
 together_push : (os : List (Option Lit)) (ls : List Lit) (l : Lit) → Some ls ≡ together os
     → Some (ls ++ l ∷ []) ≡ together (os ++ Some l ∷ [])
 together_push [] ls l h = ap (λ ms. Some (ms ++ l ∷ [])) (same_Some ls [] h)
-together_push (None ∷ os) ls l h = absurd (some_none ls h)
+together_push (None ∷ os) ls l h = absurd (some-none ls h)
 together_push (Some k ∷ os) ls l h = step (together os) h (λ ms e. together_push os ms l e) refl
   where
     step : (o : Option (List Lit)) → Some ls ≡ option_map (λ ms. k ∷ ms) o
         → ((ms : List Lit) → Some ms ≡ together os → Some (ms ++ l ∷ []) ≡ together (os ++ Some l ∷ []))
         → together os ≡ o → Some (ls ++ l ∷ []) ≡ option_map (λ ms. k ∷ ms) (together (os ++ Some l ∷ []))
-    step None h rest e = absurd (some_none ls h)
+    step None h rest e = absurd (some-none ls h)
     step (Some ms) h rest e =
         ap (λ ns. Some (ns ++ l ∷ [])) (same_Some ls (k ∷ ms) h) ∙ ap (option_map (λ ns. k ∷ ns)) (rest ms (sym e))
 
@@ -641,7 +636,7 @@ compared_missing adds distinct new ps i p found within is none g = record {
   is = λ rs. sym (all_stop (of_pair distinct (atoms_in rs new)) ps i p within is
       (ap (signed distinct) (sym (g.is rs) ∙ none) ∙ signed_none distinct));
   sure = λ on _. g.sure on none;
-  below = λ ls e. absurd (some_none ls (sym e));
+  below = λ ls e. absurd (some-none ls (sym e));
 }
 
 pub compared_end : (adds distinct : Bool) (old new : List (AtomOver ℕ)) (ps : List (Lit × Lit)) (i : ℕ) (ls : List Lit)
@@ -649,7 +644,7 @@ pub compared_end : (adds distinct : Bool) (old new : List (AtomOver ℕ)) (ps : 
     → Gives are_below adds new (λ atoms. equivalences atoms distinct ps) (Some ls)
 compared_end adds distinct old new ps i ls h done = record {
   is = λ rs. h.is rs ∙ ap (equivalences (atoms_in rs new) distinct) (take_all i ps done);
-  sure = λ on. some_none ls;
+  sure = λ on. some-none ls;
   below = λ ms e. ap (are_below (length new)) (sym (same_Some ls ms e)) ∙ h.below;
 }
 

@@ -6,6 +6,7 @@ use Rattle.std.proofs.lemmas.Bool.Decides.{nat_tests}
 use Rattle.std.proofs.lemmas.List.{take_all}
 use Rattle.std.proofs.lemmas.List.Folds.{list_all-append}
 use Rattle.std.proofs.lemmas.Option.{slice_get_within, same_Some}
+use Rattle.sb_facts.proofs.CallerLemmas.{some_then, some-none}
 use Rattle.sb_lang.specs.Regex.{Regex}
 use Rattle.sb_lang.specs.Normal.{normal}
 use Rattle.sb_lit.specs.declared.clause.Lit.{Lit}
@@ -45,12 +46,6 @@ use Rattle.sb_fragment.proofs.CallerLemmas.{pair_sort}
 use Rattle.sb_atoms.proofs.Structured.{equality_of_sort, of_one}
 use Rattle.sb_atoms.proofs.Translating.{apart_in, apart_bool}
 
-some_none : {X : Type 0} (x : X) → Some x ≡ None → ⊥
-some_none x e = cc
-
-some_then : {A B : Type 0} (f : A → Option B) (x : A) (o : Option A) → Some x ≡ o → option_and_then f o ≡ f x
-some_then f x o e = ap (option_and_then f) (sym e)
-
 named_below : (new : List (AtomOver ℕ)) (l : Lit) (a : AtomOver ℕ) → Names new l.atom a
     → is_below (length new) l ≡ true
 named_below new l a h = let within = slice_get_within new l.atom a h in grind (arith, nat_tests)
@@ -71,7 +66,7 @@ pub finds_none : {A : Type 0} {known : ℕ → A → Bool} (adds : Bool) (rs : L
 finds_none adds rs new make none = record {
   is = sym (none (atoms_in rs new));
   none = λ on e. none;
-  below = λ x e. absurd (some_none x (sym e));
+  below = λ x e. absurd (some-none x (sym e));
 }
 
 pub finds_given : {A : Type 0} {known : ℕ → A → Bool} (adds : Bool) (rs : List Regex) (new : List (AtomOver ℕ))
@@ -272,7 +267,7 @@ pub collected_stop : {X : Type 0} (f : List Atom → X → Option Lit) (adds : B
 collected_stop f adds us new xs i x found within is none g = record {
   is = sym (all_stop (f (atoms_in us new)) xs i x within is (sym g.is ∙ none));
   none = λ on _ atoms. all_stop (f atoms) xs i x within is (g.none on none atoms);
-  below = λ ls e. absurd (some_none ls (sym e));
+  below = λ ls e. absurd (some-none ls (sym e));
 }
 
 pub collected_end : {X : Type 0} (f : List Atom → X → Option Lit) (adds : Bool) (given : List Sort → Bool)
@@ -281,7 +276,7 @@ pub collected_end : {X : Type 0} (f : List Atom → X → Option Lit) (adds : Bo
     → Finds are_below adds more new (λ atoms. together (map (f atoms) xs)) (Some ls)
 collected_end f adds given rs more old new xs i ls h done = record {
   is = h.is ∙ ap (λ ys. together (map (f (atoms_in more new)) ys)) (take_all i xs done);
-  none = λ on none. absurd (some_none ls none);
+  none = λ on none. absurd (some-none ls none);
   below = λ ms e. ap (are_below (length new)) (sym (same_Some ls ms e)) ∙ h.below;
 }
 
@@ -294,8 +289,8 @@ long_together f (x ∷ xs) ls h = step (f x) (together (map f xs)) refl h (λ ms
   where
     step : (o : Option Lit) (p : Option (List Lit)) → together (map f xs) ≡ p → together (o ∷ map f xs) ≡ Some ls
         → ((ms : List Lit) → together (map f xs) ≡ Some ms → length ms ≡ length xs) → length ls ≡ suc (length xs)
-    step None p e h rest = absurd (some_none ls (sym h))
-    step (Some l) None e h rest = absurd (some_none ls (sym (sym (ap (option_map (λ ms. l ∷ ms)) e) ∙ h)))
+    step None p e h rest = absurd (some-none ls (sym h))
+    step (Some l) None e h rest = absurd (some-none ls (sym (sym (ap (option_map (λ ms. l ∷ ms)) e) ∙ h)))
     step (Some l) (Some ms) e h rest =
         let same = same_Some (l ∷ ms) ls (sym (ap (option_map (λ ns. l ∷ ns)) e) ∙ h) in
         ap length (sym same) ∙ ap suc (rest ms e)
@@ -307,7 +302,7 @@ pub then_none : {X : Type 0} (f : List Atom → X → Option Lit) (make : List A
 then_none f make adds us new xs found none g = record {
   is = sym (ap (option_and_then (make (atoms_in us new))) (sym g.is ∙ none));
   none = λ on _ atoms. ap (option_and_then (make atoms)) (g.none on none atoms);
-  below = λ l e. absurd (some_none l (sym e));
+  below = λ l e. absurd (some-none l (sym e));
 }
 
 pub then_made : {X : Type 0} (f : List Atom → X → Option Lit) → ((x : X) → Stays (λ atoms. f atoms x))

@@ -7,6 +7,7 @@ use Rattle.std.proofs.lemmas.Bool.{and_parts, and_from, or_left, or_right}
 use Rattle.std.proofs.lemmas.List.{append-nil, take_more}
 use Rattle.std.proofs.lemmas.List.Folds.{list_all-append}
 use Rattle.std.proofs.lemmas.Option.{slice_get-map, get_or_from_slice_get}
+use Rattle.sb_facts.proofs.CallerLemmas.{or_swap}
 use Rattle.sb_lang.specs.Regex.{Regex}
 use Rattle.sb_lit.specs.declared.clause.Lit.{Lit}
 use Rattle.sb_lit.specs.Clauses.{are_ascending, are_among, is_among, is_same_literal, literal_order, negation}
@@ -24,12 +25,6 @@ use Rattle.sb_atoms.specs.GateClauses.{atom_at, clause_of, clauses_of, gate, is_
 abbrev by_order : Ordering → Lit → Lit → List Lit → List Lit
 by_order o l m ms = elim o [ Less ↦ l ∷ m ∷ ms | Equal ↦ m ∷ ms | Greater ↦ m ∷ with_literal l ms ]
 
-turned : (a b c : Bool) → (a || (b || c)) ≡ (b || (a || c))
-turned true true c = refl
-turned true false c = refl
-turned false true c = refl
-turned false false c = refl
-
 twice : (a c : Bool) → (a || c) ≡ (a || (a || c))
 twice true c = refl
 twice false c = refl
@@ -42,7 +37,7 @@ any_with p l (m ∷ ms) = step (literal_order l m) refl (any_with p l ms)
         → list_any p (by_order o l m ms) ≡ list_any p (l ∷ m ∷ ms)
     step Less e rest = refl
     step Equal e rest = twice (p m) (list_any p ms) ∙ ap (λ x. p x || (p m || list_any p ms)) (sym (same_literal l m e))
-    step Greater e rest = ap (λ b. p m || b) rest ∙ turned (p m) (p l) (list_any p ms)
+    step Greater e rest = ap (λ b. p m || b) rest ∙ or_swap (p m) (p l) (list_any p ms)
 
 pub any_order : (p : Lit → Bool) (ls : List Lit) → list_any p (in_order ls) ≡ list_any p ls
 any_order p [] = refl

@@ -5,6 +5,7 @@ use Rattle.std.specs.List.{list_all, flat_map}
 use Rattle.std.proofs.lemmas.Bool.{and_parts, and_from, false≢true}
 use Rattle.std.proofs.lemmas.List.Folds.{list_all-map}
 use Rattle.std.proofs.Math.Bool.{and-true}
+use Rattle.sb_facts.proofs.CallerLemmas.{all_same}
 use Rattle.sb_meaning.specs.Terms.{Sort, boolean, integer, text, reglan, Term, Terms, constant, word, numeral, apply, parameter, no_terms, with_term, terms_in}
 use Rattle.sb_meaning.specs.Terms as symbol
 use Rattle.sb_meaning.specs.Values.{Valuation}
@@ -197,10 +198,6 @@ connected_holds t (connective.Compare distinct) h all ws bs v gives =
 meanings_are : (v : Valuation) (terms : Terms) → meanings_of v terms ≡ map (meaning_of v) (terms_in terms)
 meanings_are v no_terms = refl
 meanings_are v (with_term t terms) = ap (λ ms. meaning_of v t ∷ ms) (meanings_are v terms)
-
-all_same : {X : Type 0} (p q : X → Bool) (xs : List X) → ((x : X) → p x ≡ q x) → list_all p xs ≡ list_all q xs
-all_same p q [] h = refl
-all_same p q (x ∷ xs) h = ap₂ ◌&&◌ (h x) (all_same p q xs h)
 
 -- a test of the meanings of each two
 of_each_two : (test : Meaning → Meaning → Bool) (distinct : Bool) (v : Valuation) (ts : List Term)

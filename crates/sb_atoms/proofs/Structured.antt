@@ -3,6 +3,7 @@ use Rattle.std.proofs.Common.{◌≡◌, ◌<◌, ◌≤◌, Bool, true, false, 
 use Rattle.std.specs.List.{list_all}
 use Rattle.std.proofs.lemmas.Bool.{and_parts}
 use Rattle.std.proofs.lemmas.Option.{same_Some}
+use Rattle.sb_facts.proofs.CallerLemmas.{some-none}
 use Rattle.sb_lit.specs.declared.clause.Lit.{Lit}
 use Rattle.sb_meaning.specs.Terms.{Sort, boolean, integer, text, reglan, Term, Terms, apply, no_terms, with_term, terms_in}
 use Rattle.sb_meaning.specs.Sorts.{sort_of}
@@ -67,9 +68,6 @@ pub equality_of_sort : (atoms : List Atom) (t u : Term) (k : Sort) → sort_of t
     → equality atoms (argument atoms t) (argument atoms u) ≡ by_kind k atoms (argument atoms t) (argument atoms u)
 equality_of_sort atoms t u k e = ap (λ s. by_kind s atoms (argument atoms t) (argument atoms u)) e
 
-some_none : {X : Type 0} (x : X) → Some x ≡ None → ⊥
-some_none x e = cc
-
 -- all of one
 pub of_one : (atoms : List Atom) (o : Option Lit) → option_and_then (conjunction atoms) (together (o ∷ [])) ≡ o
 of_one atoms None = refl
@@ -78,12 +76,12 @@ of_one atoms (Some l) = refl
 -- all have a literal
 all_some : (os : List (Option Lit)) (ls : List Lit) → together os ≡ Some ls → os ≡ map Some ls
 all_some [] ls h = ap (map Some) (same_Some [] ls h)
-all_some (None ∷ os) ls h = absurd (some_none ls (sym h))
+all_some (None ∷ os) ls h = absurd (some-none ls (sym h))
 all_some (Some l ∷ os) ls h = step (together os) h (λ ms e. all_some os ms e) refl
   where
     step : (o : Option (List Lit)) → option_map (λ ms. l ∷ ms) o ≡ Some ls
         → ((ms : List Lit) → together os ≡ Some ms → os ≡ map Some ms) → together os ≡ o → Some l ∷ os ≡ map Some ls
-    step None h rest e = absurd (some_none ls (sym h))
+    step None h rest e = absurd (some-none ls (sym h))
     step (Some ms) h rest e = ap (λ ps. Some l ∷ ps) (rest ms e) ∙ ap (map Some) (same_Some (l ∷ ms) ls h)
 
 -- one has none
@@ -92,7 +90,7 @@ later_none l os h = step (together os) refl h
   where
     step : (o : Option (List Lit)) → together os ≡ o → option_map (λ ms. l ∷ ms) o ≡ None → together os ≡ None
     step None e h = e
-    step (Some ms) e h = absurd (some_none (l ∷ ms) h)
+    step (Some ms) e h = absurd (some-none (l ∷ ms) h)
 
 none_behind : (o : Option Lit) (os : List (Option Lit)) → together os ≡ None → together (o ∷ os) ≡ None
 none_behind None os h = refl
@@ -117,7 +115,7 @@ neighbours_none : (distinct : Bool) (atoms : List Atom) (o p : Option Lit) (os :
 neighbours_none distinct atoms None p os h = front_none _ _ (first_none distinct atoms p)
 neighbours_none distinct atoms (Some l) None os h = front_none _ _ (second_none distinct atoms l)
 neighbours_none distinct atoms (Some l) (Some m) [] h =
-    absurd (some_none (l ∷ m ∷ []) h)
+    absurd (some-none (l ∷ m ∷ []) h)
 neighbours_none distinct atoms (Some l) (Some m) (q ∷ os) h =
     none_behind _ (map (of_two distinct atoms) (neighbours (Some m ∷ q ∷ os)))
     (neighbours_none distinct atoms (Some m) q os (later_none l (Some m ∷ q ∷ os) h))
@@ -125,7 +123,7 @@ neighbours_none distinct atoms (Some l) (Some m) (q ∷ os) h =
 with_each_none : (distinct : Bool) (atoms : List Atom) (l : Lit) (os : List (Option Lit))
     (ps : List (Option Lit × Option Lit)) → together os ≡ None
     → together (map (of_two distinct atoms) (map (λ o. (Some l, o)) os ++ ps)) ≡ None
-with_each_none distinct atoms l [] ps h = absurd (some_none [] h)
+with_each_none distinct atoms l [] ps h = absurd (some-none [] h)
 with_each_none distinct atoms l (None ∷ os) ps h = front_none _ _ (second_none distinct atoms l)
 with_each_none distinct atoms l (Some m ∷ os) ps h =
     none_behind _ (map (of_two distinct atoms) (map (λ o. (Some l, o)) os ++ ps))

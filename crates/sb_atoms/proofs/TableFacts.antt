@@ -10,6 +10,7 @@ use Rattle.std.proofs.lemmas.Bool.Decides.{nat_tests}
 use Rattle.std.proofs.lemmas.List.{get_or_append_left, get_or_push}
 use Rattle.std.proofs.lemmas.List.Quantifiers.{position-Some}
 use Rattle.std.proofs.lemmas.Option.{get_or_from_slice_get, slice_get_within, slice_get-get_or, slice_get-map, same_Some}
+use Rattle.sb_facts.proofs.CallerLemmas.{get_push}
 use Rattle.sb_lit.specs.declared.clause.Lit.{Lit}
 use Rattle.sb_lit.specs.contracts.clause.LitPartialEq.TheImpl as of_literal
 use Rattle.sb_lit.proofs.CallerLemmas.{is_same_literal-beq, is_same_literal-true, is_same_literal-of}
@@ -80,23 +81,6 @@ gives_same (atom.And ls) (atom.And ms) h =
 gives_same (atom.Iff l m) (atom.Iff k n) h =
     let p = iff_parts l m k n h in and_from _ _ ((literal_decides l k).1 p.0) ((literal_decides m n).1 p.1)
 gives_same d e h = absurd (other_kinds (atom_in d) (atom_in e) refl h)
-
--- where the one more element is
-pub get_push : {X : Type 0} (xs : List X) (y x : X) (i : ℕ) → slice_get (xs ++ y ∷ []) i ≡ Some x
-    → (slice_get xs i ≡ Some x) ⊎ ((i ≡ length xs) × (x ≡ y))
-get_push xs y x i h = step (nat_lt i (length xs)) refl
-  where
-    within : i < length (xs ++ y ∷ [])
-    within = slice_get_within (xs ++ y ∷ []) i x h
-
-    step : (b : Bool) → nat_lt i (length xs) ≡ b → (slice_get xs i ≡ Some x) ⊎ ((i ≡ length xs) × (x ≡ y))
-    step true is =
-        let l : i < length xs = grind (arith, nat_tests) in
-        inl (slice_get-get_or xs i x l
-        ∙ ap Some (sym (get_or_append_left xs (y ∷ []) x i l) ∙ get_or_from_slice_get (xs ++ y ∷ []) i x x h))
-    step false is =
-        let e : i ≡ length xs = grind (arith, nat_tests, within, length-append xs (y ∷ [])) in
-        inr (e, sym (get_or_from_slice_get (xs ++ y ∷ []) i x x h) ∙ get_or_push xs y x i (sym e))
 
 map_push : (ds : List code.Atom) (d : code.Atom) → numbered_atoms (ds ++ d ∷ []) ≡ numbered_atoms ds ++ atom_in d ∷ []
 map_push [] d = refl

@@ -7,6 +7,7 @@ use Rattle.std.specs.Prelude.{ℤ, Option, None, option_map}
 use Rattle.std.proofs.lemmas.Bool.{false≢true}
 use Rattle.std.proofs.lemmas.Bool.Decides.{nat_tests}
 use Rattle.std.proofs.lemmas.Option.{slice_get_within, slice_get-map, same_Some}
+use Rattle.sb_facts.proofs.CallerLemmas.{some-none, get_mapped}
 use Rattle.sb_lit.specs.declared.clause.Lit.{Lit}
 use Rattle.sb_lang.specs.Regex.{Regex}
 use Rattle.sb_lang.specs.OrderLaws.{OrderTellsApart}
@@ -84,13 +85,6 @@ position_none test (y ∷ ys) i none =
     first true is = absurd (none 0 y refl is)
     first false is = is
 
--- what stands in a list that was mapped
-mapped : {A B : Type 0} (f : A → B) (xs : List A) (k : ℕ) (y : B) → slice_get (map f xs) k ≡ Some y
-    → (x : A) × (slice_get xs k ≡ Some x) × (f x ≡ y)
-mapped f [] k y h = absurd (nothing y k h)
-mapped f (x ∷ xs) zero y h = (x, refl, same_Some (f x) y h)
-mapped f (x ∷ xs) (suc k) y h = mapped f xs k y h
-
 -- Which atoms are told apart by what they are over the regexes.
 
 pub apart_in : (rs : List Regex) (atoms : List (AtomOver ℕ)) (a : AtomOver ℕ) → regex.AreDistinct rs
@@ -135,7 +129,7 @@ module _ (order : OrderTellsApart) (rs : List Regex) (atoms : List (AtomOver ℕ
   same_one : (k : ℕ) (y : Atom) → slice_get (atoms_in rs atoms) k ≡ Some y → is_same_atom (over rs a) y ≡ true
       → Names atoms k a
   same_one k y h t =
-      let at = mapped (over rs) atoms k y h in
+      let at = get_mapped (over rs) atoms k y h in
       at.1 ∙ ap Some (apart k at.0 at.1 (at.2 ∙ sym (same_atom order (over rs a) y t)))
 
   number_there : (n : ℕ) → AreDistinct atoms → Names atoms n a → number_of (atoms_in rs atoms) (over rs a) ≡ Some n
@@ -151,9 +145,6 @@ module _ (order : OrderTellsApart) (rs : List Regex) (atoms : List (AtomOver ℕ
 
 -- The literal of the atom.
 
-some_none : {X : Type 0} (x : X) → Some x ≡ None → ⊥
-some_none x e = cc
-
 pub literal_there : (order : OrderTellsApart) (adds : Bool) (atoms : List (AtomOver ℕ)) (a : AtomOver ℕ) (id : ℕ) (l : Lit)
     → AreDistinct atoms → Names atoms id a → l ≡ record { atom = id; positive = true }
     → IsLiteralOf adds atoms a (Some l)
@@ -162,7 +153,7 @@ literal_there order adds atoms a id l distinct names e = record {
       ap Some e
       ∙ sym (ap (option_map (λ k. record { atom = k; positive = true }))
       (number_there order rs atoms a apart id distinct names));
-  sure = λ on none. some_none l none;
+  sure = λ on none. some-none l none;
   names = λ k h.
       let same = same_Some l k h in
       (ap (λ (m : Lit). slice_get atoms m.atom) (sym same ∙ e) ∙ names, ap (λ (m : Lit). m.positive) (sym same ∙ e));
@@ -174,7 +165,7 @@ literal_missing order adds atoms a off none = record {
   is = λ rs apart.
       sym (ap (option_map (λ k. record { atom = k; positive = true })) (number_missing order rs atoms a apart none));
   sure = λ on _. false≢true (sym off ∙ on);
-  names = λ l h. absurd (some_none l (sym h));
+  names = λ l h. absurd (some-none l (sym h));
 }
 
 pub added_one : (adds : Bool) (old new : List (AtomOver ℕ)) (a : AtomOver ℕ) → adds ≡ true → IsWith old new a

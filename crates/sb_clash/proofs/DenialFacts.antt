@@ -13,6 +13,7 @@ use Rattle.sb_lit.specs.declared.clause.Lit.{Lit}
 use Rattle.sb_lit.specs.Kept.{Kept}
 use Rattle.sb_lit.specs.Clauses.{negation, is_same_literal, literal_order}
 use Rattle.std.proofs.Math.Bool.{or-false}
+use Rattle.sb_facts.proofs.CallerLemmas.{mark_there}
 use Rattle.sb_lit.proofs.CallerLemmas.{negation_twice, among_negated}
 use Rattle.sb_analyze.proofs.CallerLemmas.{ascending_from_sort}
 use Rattle.sb_lang.specs.Regex.{Regex}
@@ -118,13 +119,6 @@ clash_clause keeps rs atoms ls clause perm h = λ w word.
 
 -- The line.
 
-dead_there : (dead : List Bool) (n : ℕ) → unwrap_or (slice_get dead n) false ≡ true → slice_get dead n ≡ Some true
-dead_there dead n h = step (slice_get dead n) h
-  where
-    step : (o : Option Bool) → unwrap_or o false ≡ true → o ≡ Some true
-    step None h = absurd (false≢true h)
-    step (Some b) h = ap Some h
-
 record IsDeadAt (t : Traced) (root : ℕ) : Type 0 where
   number : ℕ
   there : slice_get t.order number ≡ Some root
@@ -202,7 +196,7 @@ denial_put exact asked before rs memo t atoms clause budget old new some ascend 
               defined = ap (λ known. slice_get known at.number) tracks.regexes
                   ∙ slice_get-map (regex_at rs) t.order at.number ∙ ap (option_map (regex_at rs)) at.there
                   ∙ ap Some can.meets;
-              dead = dead_there before.dead at.number (tracks.dead at.number ∙ at.marked);
+              dead = mark_there before.dead at.number (tracks.dead at.number ∙ at.marked);
             };
             new = λ c. fresh;
             counts = λ c. (omega (arith, room, counts.spent, counts.limit), refl);
@@ -238,14 +232,6 @@ denial_waits asked before rs memo t atoms clause budget told tracks is counts = 
 }
 
 -- A budget's answer.
-
-pub on_ok : {A E : Type 0} (r : Result A E) (P : Type 0) → is_err r ≡ false → OnOk r P → P
-on_ok (Ok x) P e h = h
-on_ok (Err x) P e h = absurd (false≢true (sym e))
-
-pub on_err : {A E : Type 0} (r : Result A E) (P : Type 0) → is_err r ≡ true → OnErr r P → P
-on_err (Ok x) P e h = absurd (false≢true e)
-on_err (Err x) P e h = h
 
 -- Behind the lines that show the intersection dead.
 

@@ -47,10 +47,6 @@ pub either_way : {X E : Type 0} (r : Result X E) (P : List (Option ℕ) → Type
 either_way (Ok x) P old new more ok err before after = rw ok after
 either_way (Err e) P old new more ok err before after = rw err before
 
-pub on_ok : {X E : Type 0} (r : Result X E) (A B : Type 0) → (A → B) → OnOk r A → OnOk r B
-on_ok (Ok x) A B step h = step h
-on_ok (Err e) A B step h = tt
-
 -- places without a number behind the others change nothing
 pub padded : (os : List (Option ℕ)) (k at : ℕ) → get_or (os ++ replicate k None) at None ≡ get_or os at None
 padded [] k at = none_there k at

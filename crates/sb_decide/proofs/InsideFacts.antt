@@ -1,6 +1,7 @@
 -- The first assertions that are decided ones, as assertions come and go, and as terms do.
 use Rattle.std.proofs.Common.{◌≡◌, ℕ, zero, suc, ◌+◌, ◌<◌, ◌≤◌, Bool, true, false, ◌&&◌, List, [], ◌∷◌, ◌++◌, length, get_or, map, refl, sym, ap, subst, ◌∙◌, arith}
 use Rattle.std.proofs.lemmas.Bool.{and_from}
+use Rattle.sb_facts.proofs.CallerLemmas.{number_more}
 use Rattle.std.specs.List.{All, list_all}
 use Rattle.sb_meaning.specs.Terms.{Term}
 use Rattle.sb_term.specs.declared.assertion.Assertion.{Assertion}
@@ -9,7 +10,7 @@ use Rattle.sb_term.proofs.CallerLemmas as table_facts
 use Rattle.sb_fragment.specs.Rules.{is_decided}
 use Rattle.sb_stack.specs.Stacked.{assertion_in, HasNumberBelow}
 use Rattle.sb_decide.specs.Members.{IsInside, AreInside}
-use Rattle.sb_decide.proofs.MemberFacts.{number_more, same_assertion}
+use Rattle.sb_decide.proofs.MemberFacts.{same_assertion}
 
 -- the table grows
 pub inside_told : (old new : List Term) (n : ℕ) (xs : List Assertion) → table.Extends old new → AreInside old n xs

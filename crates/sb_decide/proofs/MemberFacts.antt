@@ -4,6 +4,7 @@ use Rattle.std.proofs.lemmas.Bool.{eqb-true, eqb-false}
 use Rattle.std.proofs.lemmas.Bool.Decides.{nat_tests}
 use Rattle.std.proofs.lemmas.List.{append-nil}
 use Rattle.std.proofs.lemmas.List.Elements.{All-cons, All-nil, All-head, All-tail}
+use Rattle.sb_facts.proofs.CallerLemmas.{number_more}
 use Rattle.std.specs.List.{All}
 use Rattle.sb_lang.specs.Regex.{Regex}
 use Rattle.sb_regex.specs.Numbered.{AllNumbers, Extends}
@@ -49,11 +50,6 @@ members_grown old new ts (m ∷ ms) (x ∷ xs) e h = (
   },
   members_grown old new ts ms xs e h.1,
 )
-
--- the table grows
-pub number_more : (m n : ℕ) → m ≤ n → (o : Option ℕ) → IfSome o (λ id. id < m) → IfSome o (λ id. id < n)
-number_more m n l None h = tt
-number_more m n l (Some id) h = omega (arith, l, h)
 
 pub same_assertion : (old new : List Term) → table.Extends old new → (o : Option ℕ) → IfSome o (λ id. id < length old)
     → assertion_of new o ≡ assertion_of old o

@@ -11,10 +11,6 @@ use Rattle.sb_fragment.specs.Compared.{compared}
 use Rattle.sb_fragment.specs.Shapes.{are_numbers, terms_of_pairs}
 use Rattle.sb_fragment.proofs.ComparedPairs.{compared_all, compared_map}
 
-pub ok_map : {A E : Type 0} (P Q : A → Type 0) (r : Result A E) → ((x : A) → P x → Q x) → IfOk r P → IfOk r Q
-ok_map P Q (Ok x) f h = f x h
-ok_map P Q (Err e) f h = h
-
 pub items_some : {A : Type 0} (o : Option (Vec A Global)) (v : Vec A Global) → o ≡ Some v
     → option_map (λ w. w.items) o ≡ Some v.items
 items_some o v e = ap (option_map (λ w. w.items)) e

@@ -6,6 +6,8 @@ use Rattle.std.specs.List.{All, list_all}
 use Rattle.std.proofs.lemmas.Bool.Decides.{nat_tests}
 use Rattle.std.proofs.lemmas.List.{get_or_append_left, get_or_push}
 use Rattle.std.proofs.lemmas.Option.{get_or_from_slice_get, slice_get_within, slice_get-get_or}
+use Rattle.std.proofs.Math.Bool.{and_assoc}
+use Rattle.sb_facts.proofs.CallerLemmas.{get_push}
 use Rattle.sb_meaning.specs.Terms.{Symbol, Term, Terms, constant, word, numeral, apply, parameter, no_terms}
 use Rattle.sb_meaning.specs.Terms.{with_term, terms_of}
 use Rattle.sb_meaning.specs.Terms as symbol
@@ -192,22 +194,6 @@ measure_is ts ms (node.Parameter n s) h l =
 
 -- One more measure.
 
-get_push : {X : Type 0} (xs : List X) (y x : X) (i : ℕ) → slice_get (xs ++ y ∷ []) i ≡ Some x
-    → (slice_get xs i ≡ Some x) ⊎ ((i ≡ length xs) × (x ≡ y))
-get_push xs y x i h = step (nat_lt i (length xs)) refl
-  where
-    within : i < length (xs ++ y ∷ [])
-    within = slice_get_within (xs ++ y ∷ []) i x h
-
-    step : (b : Bool) → nat_lt i (length xs) ≡ b → (slice_get xs i ≡ Some x) ⊎ ((i ≡ length xs) × (x ≡ y))
-    step true is =
-        let l : i < length xs = grind (arith, nat_tests) in
-        inl (slice_get-get_or xs i x l
-        ∙ ap Some (sym (get_or_append_left xs (y ∷ []) x i l) ∙ get_or_from_slice_get (xs ++ y ∷ []) i x x h))
-    step false is =
-        let e : i ≡ length xs = grind (arith, nat_tests, within, length-append xs (y ∷ [])) in
-        inr (e, sym (get_or_from_slice_get (xs ++ y ∷ []) i x x h) ∙ get_or_push xs y x i (sym e))
-
 pub measures_more : (ts : List Term) (ms : List Measure) (d : code.Term) (m : Measure) (n : ℕ) → AreMeasures ts ms
     → n ≡ length ms → n < length ts → node_term ts d ≡ term_at ts n → ArgumentsBelow n d → m ≡ node_measure ms d
     → AreMeasures ts (ms ++ m ∷ [])
@@ -233,11 +219,7 @@ measure_found ts ms i n m h e l is =
 within_size : (n : ℕ) → nat_le (within_limit n) 1000000 ≡ nat_le n 1000000
 within_size n = grind (arith, nat_tests)
 
-and_moved : (a b c : Bool) → ((a && b) && c) ≡ (a && (b && c))
-and_moved true b c = refl
-and_moved false b c = refl
-
 pub regular_is : (t : Term) (m : Measure) → IsMeasure t m → within m ≡ is_regular t
 regular_is t m h =
-    and_moved m.is_ground m.is_short (nat_le m.size 1000000)
+    and_assoc m.is_ground m.is_short (nat_le m.size 1000000)
     ∙ ap₂ ◌&&◌ h.constants (ap₂ ◌&&◌ h.short (ap (λ n. nat_le n 1000000) h.size ∙ within_size (size_of t)))

@@ -4,7 +4,7 @@ use Rattle.std.specs.List.{list_all}
 use Rattle.std.proofs.lemmas.Bool.{false≢true}
 use Rattle.std.proofs.lemmas.Bool.Decides.{nat_tests}
 use Rattle.std.proofs.lemmas.List.{take_all}
-use Rattle.std.proofs.Math.Bool.{and-true}
+use Rattle.std.proofs.Math.Bool.{and-true, and-false}
 use Rattle.sb_meaning.specs.Terms.{Sort, boolean, integer, text, reglan, Symbol, Term, Terms, constant, word, numeral, apply, parameter, no_terms, with_term, terms_in, terms_of}
 use Rattle.sb_meaning.specs.Terms as symbol
 use Rattle.sb_meaning.specs.Sorts.{sort_of}
@@ -231,10 +231,6 @@ never_three (word v) (constant n text) (word w) = refl
 never_three (word v) (constant n text) (apply s terms) = refl
 never_three _ _ _ = refl
 
-and_none : (e : Bool) → (e && false) ≡ false
-and_none true = refl
-and_none false = refl
-
 three_apart : (t u w : Term) (b c d : Bool)
     → ((is_pair t u && (is_pair t w && b)) && ((is_pair u w && c) && d)) ≡ false
 three_apart t u w b c d =
@@ -243,7 +239,7 @@ three_apart t u w b c d =
     step : (p q r : Bool) → (p && (q && r)) ≡ false → ((p && (q && b)) && ((r && c) && d)) ≡ false
     step false q r h = refl
     step true false r h = refl
-    step true true false h = and_none b
+    step true true false h = and-false b
     step true true true h = absurd (false≢true (sym h))
 
 pub too_many : (distinct : Bool) (ts us : List Term) (is : List ℕ) → distinct ≡ true → terms_at ts is ≡ us

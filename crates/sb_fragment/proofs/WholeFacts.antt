@@ -2,6 +2,7 @@
 use Rattle.std.proofs.Common.{◌≡◌, ℕ, Bool, true, false, ◌&&◌, List, [], ◌∷◌, ◌++◌, refl, sym, ap, ap₂, ◌∙◌}
 use Rattle.std.specs.List.{list_all, flat_map}
 use Rattle.std.proofs.lemmas.Bool.{and_parts, false≢true}
+use Rattle.std.proofs.Math.Bool.{and-false}
 use Rattle.sb_meaning.specs.Terms.{Sort, boolean, integer, reglan, Term, Terms, text, constant, word, apply, no_terms, with_term, terms_in}
 use Rattle.sb_meaning.specs.Terms as symbol
 use Rattle.sb_meaning.specs.Sorts.{sort_of}
@@ -156,10 +157,6 @@ of_three u f true true p q r = rw (p, q) refl
 of_three u f true false p q r = rw (p, q) refl
 of_three u f false d p q r = absurd (false≢true r)
 
-and_none : (b : Bool) → (b && false) ≡ false
-and_none true = refl
-and_none false = refl
-
 bounded : (all : List Assertion) → are_inside all ≡ true → are_bounded (asserted_terms all) ≡ true
 bounded all h = rw (no_bounds all h) refl
 
@@ -170,7 +167,7 @@ all_of all = step (are_inside all) refl
     step true h = ap (λ b. are_in_fragment all && b) h
         ∙ of_three (list_all is_unmarked all) (list_all fits (asserted_terms all)) (are_bounded (asserted_terms all))
         (list_all is_decided all) (unmarked all h) (fits_of_each all h) (bounded all h)
-    step false h = ap (λ b. are_in_fragment all && b) h ∙ (and_none (are_in_fragment all) ∙ sym (none_decided all h))
+    step false h = ap (λ b. are_in_fragment all && b) h ∙ (and-false (are_in_fragment all) ∙ sym (none_decided all h))
 
 pub fragment_is_of_each : FragmentIsOfEach
 fragment_is_of_each s = all_of (live s)

@@ -7,6 +7,7 @@ use Rattle.std.proofs.lemmas.Bool.Decides.{nat_tests}
 use Rattle.std.proofs.lemmas.List.{take_more, take_all, map-append}
 use Rattle.std.proofs.lemmas.List.Elements.{All-append}
 use Rattle.std.proofs.lemmas.List.Folds.{list_all_at, list_all-append, list_any-append}
+use Rattle.sb_facts.proofs.CallerLemmas.{or_swap}
 use Rattle.sb_lang.specs.Regex.{Regex, none, eps}
 use Rattle.sb_lang.specs.Constructors.{anything, mkcat, mkalt, mkand, mknot, mkstar}
 use Rattle.sb_lang.specs.NormalForm.{is_normal, IsNormal}
@@ -129,18 +130,12 @@ intersection_found more rs new (i ∷ j ∷ ids) id normal numbers some names =
 
 -- Differences: the first and the complements of the others are an intersection.
 
-or_swapped : (a b c : Bool) → (a || (b || c)) ≡ (b || (a || c))
-or_swapped true true c = refl
-or_swapped true false c = refl
-or_swapped false true c = refl
-or_swapped false false c = refl
-
 -- a member in front stands anywhere
 moved : (r s : Regex) (xs ys : List Regex) → is_member r (xs ++ s ∷ ys) ≡ is_member r (s ∷ (xs ++ ys))
 moved r s [] ys = refl
 moved r s (x ∷ xs) ys =
     ap (λ b. regex_eq r x || b) (moved r s xs ys)
-    ∙ or_swapped (regex_eq r x) (regex_eq r s) (is_member r (xs ++ ys))
+    ∙ or_swap (regex_eq r x) (regex_eq r s) (is_member r (xs ++ ys))
 
 normal_both : (xs ys : List Regex) → AllNormal xs → AllNormal ys → AllNormal (xs ++ ys)
 normal_both xs ys h k = list_all-append is_normal xs ys ∙ and_from (list_all is_normal xs) (list_all is_normal ys) h k
@@ -168,7 +163,7 @@ taken_out more same laws xs (s ∷ rs) h k =
     same (mkand xs ∷ mknot s ∷ []) (mknot s ∷ mkand xs ∷ [])
     (and_from (is_normal (mkand xs)) (list_all is_normal (mknot s ∷ [])) whole
     (and_from (is_normal (mknot s)) true complement refl)) turned
-    (λ r. or_swapped (regex_eq r (mkand xs)) (regex_eq r (mknot s)) false)
+    (λ r. or_swap (regex_eq r (mkand xs)) (regex_eq r (mknot s)) false)
     ∙ more (mknot s) xs complement h in
     ap (λ r. joined_from without r rs) first
     ∙ (taken_out more same laws (mknot s ∷ xs) rs wider parts.1
@@ -196,7 +191,7 @@ all_taken_out more same laws r s rs h =
     (and_from (is_normal (mknot s)) (list_all is_normal (map mknot rs ++ r ∷ [])) complement
     (normal_both (map mknot rs) (r ∷ []) nots alone))
     (λ x. list_any-append (regex_eq x) (map mknot rs) (r ∷ mknot s ∷ [])
-    ∙ ap (λ b. is_member x (map mknot rs) || b) (or_swapped (regex_eq x r) (regex_eq x (mknot s)) false)
+    ∙ ap (λ b. is_member x (map mknot rs) || b) (or_swap (regex_eq x r) (regex_eq x (mknot s)) false)
     ∙ sym (list_any-append (regex_eq x) (map mknot rs) (mknot s ∷ r ∷ []))
     ∙ moved x (mknot s) (map mknot rs) (r ∷ []))
 

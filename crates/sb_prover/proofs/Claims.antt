@@ -7,6 +7,7 @@ use Rattle.std.proofs.lemmas.Bool.Decides.{nat_tests}
 use Rattle.std.proofs.lemmas.Iterator.Adapters.{position_from-zero}
 use Rattle.std.proofs.lemmas.List.Quantifiers.{position-Some}
 use Rattle.std.proofs.lemmas.Option.{slice_get_within, slice_get-get_or, slice_get-map, get_or_from_slice_get, same_Some}
+use Rattle.sb_facts.proofs.CallerLemmas.{get_mapped, some-none}
 use Rattle.sb_lit.specs.declared.clause.Lit.{Lit}
 use Rattle.sb_lang.specs.RegLan.{RegLan}
 use Rattle.sb_lang.specs.Regex.{Regex}
@@ -51,9 +52,6 @@ use Rattle.sb_refute.proofs.CallerLemmas.{backs-grown}
 use Rattle.sb_prover.specs.Proving.{HaveLevels, level_at}
 use Rattle.sb_prover.specs.Claiming.{IsClaimed, Claims, Stands}
 use Rattle.sb_prover.proofs.LiveLevels.{row_of, live-rows}
-
-some-none : {X : Type 0} (x : X) → Some x ≡ None → ⊥
-some-none x h = cc
 
 same-term : (t u : Term) → asserted t ≡ asserted u → t ≡ u
 same-term t u h = cc
@@ -185,12 +183,6 @@ literal-positive None l h = absurd (some-none l (sym h))
 literal-positive (Some n) l h =
     ap (λ (m : Lit). m.positive) (sym (same_Some (record { atom = n; positive = true }) l h))
 
-mapped : {A B : Type 0} (f : A → B) (xs : List A) (k : ℕ) (y : B) → slice_get (map f xs) k ≡ Some y
-    → (x : A) × (slice_get xs k ≡ Some x) × (f x ≡ y)
-mapped f [] k y h = absurd (omega (arith, slice_get_within [] k y h))
-mapped f (x ∷ xs) zero y h = (x, refl, same_Some (f x) y h)
-mapped f (x ∷ xs) (suc k) y h = mapped f xs k y h
-
 -- the atom, over the numbers of regexes
 record IsAlone (rs : List Regex) (serial : ℕ) (r : Regex) (a : AtomOver ℕ) : Type 0 where
   number : ℕ
@@ -274,7 +266,7 @@ is-claimed apart assertions serial place t R reglan rs e a asks kind regular mea
         (position_from-zero (is_same_atom atom) atoms ∙ number)
 
     at : (x : AtomOver ℕ) × (slice_get e.atoms a.literal.atom ≡ Some x) × (over rs x ≡ get_or atoms a.literal.atom atom)
-    at = mapped (over rs) e.atoms a.literal.atom (get_or atoms a.literal.atom atom)
+    at = get_mapped (over rs) e.atoms a.literal.atom (get_or atoms a.literal.atom atom)
         (slice_get-get_or atoms a.literal.atom atom found.0)
 
     it : IsAlone rs serial (normal reglan) at.0
@@ -366,7 +358,7 @@ pub row-there : (ts : List Term) (rows : List code.Assertion) (assertions : List
     → map (assertion_in ts) rows ≡ assertions → slice_get assertions place ≡ Some (asserted t)
     → (a : code.Assertion) × (slice_get rows place ≡ Some a) × (assertion_in ts a ≡ asserted t)
 row-there ts rows assertions place t same h =
-    mapped (assertion_in ts) rows place (asserted t) (ap (λ xs. slice_get xs place) same ∙ h)
+    get_mapped (assertion_in ts) rows place (asserted t) (ap (λ xs. slice_get xs place) same ∙ h)
 
 pub place-within : (ts : List Term) (rows : List code.Assertion) (assertions : List Assertion) (place : ℕ) (t : Term)
     → map (assertion_in ts) rows ≡ assertions → slice_get assertions place ≡ Some (asserted t) → place < length rows

@@ -5,6 +5,7 @@ use Rattle.std.proofs.Math.Seq.{take-append_seam}
 use Rattle.std.proofs.lemmas.Bool.{and_parts}
 use Rattle.std.proofs.lemmas.Bool.Decides.{nat_tests}
 use Rattle.std.proofs.lemmas.List.{append-nil, append_assoc, map-append, take-map, drop-map, take-append-drop, length-map}
+use Rattle.sb_facts.proofs.CallerLemmas.{same_number}
 use Rattle.sb_meaning.specs.Terms.{Term}
 use Rattle.sb_term.specs.Numbered.{term_at}
 use Rattle.sb_term.specs.declared.assertion.Assertion as code
@@ -141,15 +142,12 @@ term-as : (ts : List Term) (t : Option ℕ) → term_of (assertion_of ts t) ≡ 
 term-as ts None = refl
 term-as ts (Some id) = refl
 
-same-number : (m n : ℕ) → (m == n) ≡ true → n ≡ m
-same-number m n h = grind (arith, nat_tests, h)
-
 rows-at : (ts : List Term) (n : ℕ) (xs : List code.Assertion) → list_all (λ a. a.level == n) xs ≡ true
     → at_level n (map (assertion_in ts) xs) ≡ map (row_of ts) xs
 rows-at ts n [] h = refl
 rows-at ts n (a ∷ xs) h =
     let parts = and_parts (a.level == n) (list_all (λ a. a.level == n) xs) h in
-    ap₂ (λ row rows. row ∷ rows) (ap₂ (λ t m. (t, m)) (term-as ts a.term) (same-number a.level n parts.0))
+    ap₂ (λ row rows. row ∷ rows) (ap₂ (λ t m. (t, m)) (term-as ts a.term) (same_number a.level n parts.0))
     (rows-at ts n xs parts.1)
 
 levels-kept : (ls : List levels.Level) (names : List Naming) (xs : List Assertion)

@@ -14,10 +14,6 @@ use Rattle.sb_clauses.specs.Propagation.{HasNoneFalse, IsConflict}
 use Rattle.sb_refute.specs.Units.{Member, IsPartIn, denials_of, affirmations_of}
 use Rattle.sb_refute.proofs.Hints.{here, later, cons-cases, not-in-nil}
 
-pub not-some : {X : Type 0} (o : Option X) → is_some o ≡ false → o ≡ None
-not-some None h = refl
-not-some (Some x) h = absurd (true≢false h)
-
 is-among : (ls : List Lit) (l : Lit) → Contains ls l → is_among ls l ≡ true
 is-among [] l h = absurd (not-in-nil l h)
 is-among (m ∷ ms) l h = elim (cons-cases m ms l h) [

@@ -3,6 +3,7 @@ use Rattle.std.proofs.Common.{◌≡◌, ◌≢◌, ℕ, ◌+◌, ◌^◌, ◌<�
 use Rattle.std.specs.List.{list_all}
 use Rattle.std.proofs.lemmas.Bool.{and_from, false≢true, lt-ltb}
 use Rattle.std.proofs.lemmas.Option.{slice_get-map}
+use Rattle.sb_facts.proofs.CallerLemmas.{mark_there}
 use Rattle.sb_lit.specs.Budgets.{Spending}
 use Rattle.sb_lit.specs.Kept.{Kept, KeptClause, kept_at}
 use Rattle.sb_lang.specs.Regex.{Regex}
@@ -73,13 +74,6 @@ empty-put exact asked before rs memo e ids c budget old new leads some room smal
 
 -- The denial of memberships, behind the lines of their dead intersection.
 
-dead-there : (dead : List Bool) (n : ℕ) → unwrap_or (slice_get dead n) false ≡ true → slice_get dead n ≡ Some true
-dead-there dead n h = step (slice_get dead n) h
-  where
-    step : (o : Option Bool) → unwrap_or o false ≡ true → o ≡ Some true
-    step None h = absurd (false≢true h)
-    step (Some b) h = ap Some h
-
 -- where a regex that is dead in a proof stands, and its mark
 pub record IsDeadAt (t : Traced) (root : ℕ) : Type 0 where
   pub number : ℕ
@@ -113,7 +107,7 @@ denial-put exact asked before rs memo e us budget old new h some rise fresh room
           (ap (λ known. slice_get known at.number) b.tracks.regexes
           ∙ slice_get-map (regex_at rs) e.trace.order at.number ∙ ap (option_map (regex_at rs)) at.there
           ∙ ap Some h.meets)
-          (dead-there before.dead at.number (b.tracks.dead at.number ∙ at.marked))
+          (mark_there before.dead at.number (b.tracks.dead at.number ∙ at.marked))
           (λ id c there among. fresh id c (ap (λ (k : Kept). kept_at k id) (sym b.clauses) ∙ there) among)
           (omega (arith, room, counts.spent, counts.limit)))
           smalls told;

@@ -8,6 +8,7 @@ use Rattle.std.specs.BTreeMap.{insert_entry}
 use Rattle.std.proofs.lemmas.Bool.{and_from, true≢false, lt-ltb}
 use Rattle.std.proofs.lemmas.Bool.Decides.{nat_tests}
 use Rattle.std.proofs.lemmas.List.Elements.{All-nil, All-cons}
+use Rattle.sb_facts.proofs.CallerLemmas.{cmp_equal}
 use Rattle.sb_word.specs.Words.{IsWord}
 use Rattle.sb_lang.specs.Regex.{Regex}
 use Rattle.sb_lang.specs.Language.{language}
@@ -71,9 +72,6 @@ push-cases (z ∷ zs) y x h = elim (cons-cases z (zs ++ y ∷ []) x h) [
 
 -- The clauses of the assertions at some places, with one place more.
 
-equal : (n m : ℕ) → nat_cmp n m ≡ Equal → n ≡ m
-equal n m h = grind (arith, nat_tests)
-
 pub units-none : (e : Backing) → AreUnits e [] []
 units-none e = record {
   from = λ unit among. absurd (not-in-nil unit among);
@@ -88,7 +86,7 @@ pub units-one : (e : Backing) (places more : List ℕ) (place : ℕ) (a : Assert
     → AreUnits e places (numbered es)
     → AreUnits e more (numbered (insert_entry nat_cmp es a.literal.atom a))
 units-one e places more place a es is there positive h = subst (λ ps. AreUnits e ps now) (sym is) (record {
-  from = λ unit among. elim (inserted-unit a.literal.atom a equal es unit among) [
+  from = λ unit among. elim (inserted-unit a.literal.atom a cmp_equal es unit among) [
     | inl one ↦ record {
       place = place;
       among = push-last places place;
@@ -117,7 +115,7 @@ units-one e places more place a es is there positive h = subst (λ ps. AreUnits 
     | inr one ↦ subst (Contains (map (λ (u : Member). u.0) now))
         (ap (λ (o : Asserted). o.literal.atom)
         (same-asserted a b (sym there ∙ ap (asserted_at e.asserted) one ∙ found)))
-        (atom-there a.literal.atom a equal es)
+        (atom-there a.literal.atom a cmp_equal es)
   ];
 })
   where
@@ -392,11 +390,3 @@ learned-put exact asked before rs memo e f ids c budget left old new leads some 
     (empty-put exact asked before rs memo e ids c budget old new leads some room smalls b counts told))
 
 -- What a result says.
-
-pub on-ok : {A E : Type 0} (r : Result A E) (P : Type 0) → is_err r ≡ false → OnOk r P → P
-on-ok (Ok x) P fine h = h
-on-ok (Err e) P fine h = absurd (true≢false fine)
-
-pub on-err : {A E : Type 0} (r : Result A E) (P : Type 0) → is_err r ≡ true → OnErr r P → P
-on-err (Ok x) P fails h = absurd (true≢false (sym fails))
-on-err (Err e) P fails h = h

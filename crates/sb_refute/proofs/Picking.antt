@@ -10,6 +10,7 @@ use Rattle.std.proofs.lemmas.Bool.{false≢true}
 use Rattle.std.proofs.lemmas.Bool.Decides.{nat_tests}
 use Rattle.std.proofs.lemmas.List.{map_push}
 use Rattle.std.proofs.lemmas.Option.{same_Some, none-some}
+use Rattle.sb_facts.proofs.CallerLemmas.{cmp_equal}
 use Rattle.sb_lit.specs.declared.clause.Lit.{Lit}
 use Rattle.sb_refute.specs.declared.evidence.Asserted.{Asserted}
 use Rattle.sb_refute.specs.Units.{Member, ArePicked, IsTop, numbered, denials_of}
@@ -100,14 +101,11 @@ denied-atom (u ∷ us) l h = elim (cons-cases (record { atom = u.0; positive = f
       (rest.0, later u.0 (map (λ (v : Member). v.0) us) l.atom rest.1)
 ]
 
-equal : (n m : ℕ) → nat_cmp n m ≡ Equal → n ≡ m
-equal n m h = grind (arith, nat_tests)
-
 pub picked-one : (us : List Member) (ls more : List Lit) (es : List (ℕ × Asserted)) (l : Lit) (a : Asserted)
     → more ≡ ls ++ l ∷ [] → Contains (denials_of us) l → Contains us (l.atom, a.clause.0, a.level)
     → ArePicked us ls (numbered es) → ArePicked us more (numbered (insert_entry nat_cmp es l.atom a))
 picked-one us ls more es l a is denied among p = record {
-  from = λ u h. elim (inserted-unit l.atom a equal es u h) [
+  from = λ u h. elim (inserted-unit l.atom a cmp_equal es u h) [
     | inl one ↦ subst (Contains us) one among
     | inr old ↦ p.from u old
   ];
@@ -116,7 +114,7 @@ picked-one us ls more es l a is denied among p = record {
         let it = denied-atom (numbered es) m (p.has m before) in
         denies now m it.0 (atoms-stay l.atom a es m.atom it.1)
     | inr last ↦ subst (Contains (denials_of now)) last
-        (denies now l (denied-atom us l denied).0 (atom-there l.atom a equal es))
+        (denies now l (denied-atom us l denied).0 (atom-there l.atom a cmp_equal es))
   ];
 }
   where

@@ -2,6 +2,7 @@
 use Rattle.std.proofs.Common.{◌≡◌, ◌≢◌, ℕ, Bool, true, false, nat_eq, List, Option, Some, None, IfSome, refl, sym, ap, subst, ◌∙◌, arith}
 use Rattle.std.proofs.lemmas.Bool.Decides.{nat_tests}
 use Rattle.std.proofs.lemmas.Option.{same_Some}
+use Rattle.sb_facts.proofs.CallerLemmas.{some-none}
 use Rattle.sb_lit.specs.declared.clause.Lit.{Lit}
 use Rattle.sb_lang.specs.Regex.{Regex}
 use Rattle.sb_deriv.specs.Faithful.{Memo}
@@ -12,9 +13,6 @@ use Rattle.sb_refute.specs.Lines.{IsStanding, placed}
 use Rattle.sb_refute.proofs.Backs.{backs-without}
 use Rattle.sb_refute.proofs.Asserting.{nothing-put}
 use Rattle.sb_refute.proofs.Places.{placed-others}
-
-some-none : {X : Type 0} (x : X) → Some x ≡ None → ⊥
-some-none x h = cc
 
 -- an assertion is of its literal and its level, if it has a clause
 abbrev IsOwn : List (Option Asserted) → ℕ → ℕ → Option Lit → Type 0

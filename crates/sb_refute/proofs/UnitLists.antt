@@ -1,6 +1,7 @@
 -- The lists that are made of the clauses of memberships, along their atoms or their numbers.
 use Rattle.std.proofs.Common.{◌≡◌, ℕ, ◌<◌, zero, suc, true, false, List, [], ◌∷◌, ◌++◌, map, length, slice_index_or, All, refl, sym, ap, subst, ◌∙◌, arith, append_assoc, append-nil}
 use Rattle.std.proofs.lemmas.Bool.Decides.{nat_tests}
+use Rattle.sb_facts.proofs.CallerLemmas.{cmp_less}
 use Rattle.std.specs.declared.cmp.Ordering.TheVariants.{Less}
 use Rattle.std.specs.Ordering.{nat_cmp}
 use Rattle.std.specs.Map.{keys_of}
@@ -23,14 +24,11 @@ affirmations-by_atoms [] = refl
 affirmations-by_atoms (e ∷ es) =
     ap (λ (ls : List Lit). (record { atom = e.0; positive = true }) ∷ ls) (affirmations-by_atoms es)
 
-less : (n m : ℕ) → nat_cmp n m ≡ Less → n < m
-less n m h = grind (arith, nat_tests)
-
 pub rise-sorted : (es : List (ℕ × Asserted)) → IsStrictlySortedBy nat_cmp (keys_of es) → Rise (numbered es)
 unfolding IsStrictlySortedBy
 rise-sorted [] h = tt
 rise-sorted (e ∷ []) h = tt
-rise-sorted (e ∷ f ∷ es) h = (less e.0 f.0 h.0.0, rise-sorted (f ∷ es) h.1)
+rise-sorted (e ∷ f ∷ es) h = (cmp_less e.0 f.0 h.0.0, rise-sorted (f ∷ es) h.1)
 
 -- the regexes of these atoms, in order
 abbrev AreRegexesAt : List (AtomOver ℕ) → List ℕ → List ℕ → Type 0

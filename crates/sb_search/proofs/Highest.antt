@@ -3,13 +3,13 @@ use Rattle.std.proofs.Common.{◌≡◌, ℕ, ◌<◌, ◌≤◌, true, false, �
 use Rattle.std.specs.List.{list_all}
 use Rattle.std.proofs.lemmas.Bool.{false≢true, cases_Bool, or_left, or_right, or_cases, leb-true, leb-false, le-leb}
 use Rattle.std.proofs.lemmas.List.{take_more}
+use Rattle.sb_facts.proofs.CallerLemmas.{all_weaker, all_push}
 use Rattle.sb_lit.specs.declared.clause.Lit.{Lit}
 use Rattle.sb_lit.specs.Clauses.{is_same_literal, is_among}
 use Rattle.sb_lit.proofs.CallerLemmas.{among_push, among_push_same, all_among, is_same_literal-true, is_same_literal-of}
 use Rattle.sb_trail.specs.declared.assigned.Assigned.{Assigned}
 use Rattle.sb_analyze.specs.Reasons.{level_in}
 use Rattle.sb_search.specs.Searching.{higher, is_but, IsHighest, IsHighUpTo, HasTwoAbove, IsLowest}
-use Rattle.sb_search.proofs.Truths.{all_weaker, all_push}
 
 among_front : (ls : List Lit) (m l : Lit) → is_among ls l ≡ true → is_among (ls ++ m ∷ []) l ≡ true
 among_front ls m l h = among_push ls m l ∙ or_left (is_among ls l) (is_same_literal m l || false) h

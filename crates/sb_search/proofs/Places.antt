@@ -6,6 +6,7 @@ use Rattle.std.proofs.lemmas.List.{take_more, take_all, drop_more, drop_all}
 use Rattle.std.proofs.lemmas.Option.{same_Some, slice_get_within, get_or_from_slice_get, slice_get-get_or}
 use Rattle.sb_lit.specs.declared.clause.Lit.{Lit}
 use Rattle.std.proofs.lemmas.Bool.{false≢true}
+use Rattle.sb_facts.proofs.CallerLemmas.{all_weaker, all_push}
 use Rattle.std.specs.Option.{is_some}
 use Rattle.sb_lit.specs.Clauses.{is_among}
 use Rattle.sb_lit.proofs.CallerLemmas.{all_among}
@@ -15,7 +16,6 @@ use Rattle.sb_clauses.specs.Propagation.{State, has_room_for, is_reserved, are_r
 use Rattle.sb_search.specs.Searching.{have_places, IsNext}
 use Rattle.sb_search.specs.Found.{are_true}
 use Rattle.sb_search.specs.declared.stage.Next.TheVariants as next
-use Rattle.sb_search.proofs.Truths.{all_weaker, all_push}
 
 higher_bound : (n old new : ℕ) → old ≤ new → ltb n old ≡ true → ltb n new ≡ true
 higher_bound n old new le h = lt-ltb n new (omega (arith, ltb-true n old h, le))

@@ -2,6 +2,7 @@
 use Rattle.std.proofs.Common.{◌≡◌, ℕ, Bool, true, ◌||◌, leb, List, [], ◌∷◌, ◌++◌, refl, sym, ◌∙◌, inl, inr}
 use Rattle.std.specs.List.{list_all}
 use Rattle.std.proofs.lemmas.Bool.{false≢true, cases_Bool, and_parts, and_from, or_left, or_right, or_cases}
+use Rattle.sb_facts.proofs.CallerLemmas.{all_weaker}
 use Rattle.sb_lit.specs.declared.clause.Lit.{Lit}
 use Rattle.sb_lit.specs.Clauses.{is_same_literal, is_among, is_true_under}
 use Rattle.sb_lit.specs.Kept.{Kept}
@@ -10,22 +11,6 @@ use Rattle.sb_trail.specs.Assignments.{held, up_to}
 use Rattle.sb_clauses.specs.Propagation.{AreForced}
 use Rattle.sb_analyze.specs.Cores.{AreAssumed}
 use Rattle.sb_search.specs.Found.{are_true}
-
--- a test that is weaker
-pub all_weaker : {X : Type 0} (p q : X → Bool) → ((x : X) → p x ≡ true → q x ≡ true) → (xs : List X)
-    → list_all p xs ≡ true → list_all q xs ≡ true
-all_weaker p q f [] h = refl
-all_weaker p q f (x ∷ xs) h =
-    let parts = and_parts (p x) (list_all p xs) h in
-    and_from (q x) (list_all q xs) (f x parts.0) (all_weaker p q f xs parts.1)
-
--- one more element
-pub all_push : {X : Type 0} (p : X → Bool) (xs : List X) (x : X) → list_all p xs ≡ true → p x ≡ true
-    → list_all p (xs ++ x ∷ []) ≡ true
-all_push p [] x h k = and_from (p x) true k refl
-all_push p (y ∷ ys) x h k =
-    let parts = and_parts (p y) (list_all p ys) h in
-    and_from (p y) (list_all p (ys ++ x ∷ [])) parts.0 (all_push p ys x parts.1 k)
 
 -- what is true on a front of a trail
 pub true_front : (xs ys : List Assigned) (l : Lit) → is_true_under (held xs) l ≡ true

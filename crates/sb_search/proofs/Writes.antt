@@ -14,14 +14,6 @@ use Rattle.sb_search.specs.declared.theory.Checked.{Checked}
 use Rattle.sb_search.specs.Writing.{Written, written, with_learned, with_gate, true_or_false, kept_behind, AreKnown}
 use Rattle.sb_search.specs.Searching.{IsWritten, nothing, learns, divides}
 
-pub on_ok : {A E : Type 0} (r : Result A E) (P : Type 0) → is_err r ≡ false → OnOk r P → P
-on_ok (Ok x) P fine h = h
-on_ok (Err e) P fine h = absurd (false≢true (sym fine))
-
-pub on_err : {A E : Type 0} (r : Result A E) (P : Type 0) → is_err r ≡ true → OnErr r P → P
-on_err (Ok x) P fails h = absurd (false≢true fails)
-on_err (Err e) P fails h = h
-
 -- the same clauses, budget and bytes are the same proof
 pub written_is : (kept more : Kept) (budget left : Spending) (told next : Option (List ℕ)) → more ≡ kept
     → left ≡ budget → next ≡ told → written more left next ≡ written kept budget told

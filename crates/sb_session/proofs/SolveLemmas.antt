@@ -20,10 +20,6 @@ use Rattle.sb_session.specs.Solve.{Asked, created, opened, asks_proof, Run, Coun
 use Rattle.sb_session.specs.Reading.{GoesOn, beginnings}
 use Rattle.sb_session.specs.Progress.{status_by}
 
-pub some_mapped : {A B : Type 0} (f : A → B) (x : Option A) → is_some x ≡ is_some (option_map f x)
-some_mapped f None = refl
-some_mapped f (Some x) = refl
-
 pub run_by : (asked : Asked) (r : Result SolveStatus SessionFault) (old new : Outside) (f g : ℕ)
     → IfOk r (λ s. Run asked s old new × CountsFaults s f g) → OnErr r (CutShort asked old new)
     → Run asked (status_by r) old new

@@ -6,6 +6,7 @@ use Rattle.std.proofs.lemmas.Bool.Decides.{nat_tests}
 use Rattle.std.proofs.lemmas.List.{append-nil, take_all, take_more, take-append-le}
 use Rattle.std.proofs.lemmas.List.Folds.{list_all-append, list_any-append}
 use Rattle.std.proofs.lemmas.Option.{slice_get-map}
+use Rattle.sb_facts.proofs.CallerLemmas.{equal_itself}
 use Rattle.indexmap.specs.IndexSet.{insert_key, insert_all}
 use Rattle.sb_lit.specs.declared.clause.Lit.{Lit}
 use Rattle.sb_lang.specs.Regex.{Regex}
@@ -16,9 +17,6 @@ use Rattle.sb_atoms.specs.Numbered.{over, atoms_in}
 use Rattle.sb_theory.specs.Memberships.{is_atom, are_atoms}
 use Rattle.sb_solve.specs.Wanted.{is_in, atoms_of, parts_of, parts_at, is_simple_at, is_closed, AreLeast, AreWanted}
 use Rattle.sb_solve.specs.Gathering.{Follow, Closes}
-
-pub same_nat : (n : ℕ) → nat_eq n n ≡ true
-same_nat n = grind (arith, nat_tests)
 
 -- Numbers that are added where they are not there.
 
@@ -80,7 +78,7 @@ in_with ks x = step (list_any (nat_eq x) ks) refl
     step true e = e
     step false e =
         list_any-append (nat_eq x) ks (x ∷ [])
-        ∙ or_right (is_in ks x) (is_in (x ∷ []) x) (or_left (nat_eq x x) false (same_nat x))
+        ∙ or_right (is_in ks x) (is_in (x ∷ []) x) (or_left (nat_eq x x) false (equal_itself x))
 
 pub in_with_all : (ks xs : List ℕ) → list_all (is_in (insert_all nat_eq ks xs)) xs ≡ true
 in_with_all ks [] = refl

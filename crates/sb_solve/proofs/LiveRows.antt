@@ -6,6 +6,7 @@ use Rattle.std.proofs.lemmas.Bool.{and_parts, and_from, false≢true}
 use Rattle.std.proofs.lemmas.Bool.Decides.{nat_tests}
 use Rattle.std.proofs.lemmas.List.{map-append, take-map, drop-map, take-append-drop}
 use Rattle.std.proofs.lemmas.Option.{slice_get-get_or, slice_get-map, slice_get_within, same_Some}
+use Rattle.sb_facts.proofs.CallerLemmas.{same_number}
 use Rattle.sb_meaning.specs.Terms.{Sort, Term, Terms, constant, word, numeral, apply, parameter, no_terms, with_term}
 use Rattle.sb_meaning.specs.Sorts.{is_same_sort}
 use Rattle.sb_term.specs.Numbered.{term_at}
@@ -33,9 +34,6 @@ row_of ts a = (option_map (term_at ts) a.term, a.level)
 term_as : (ts : List Term) (t : Option ℕ) → term_of (assertion_of ts t) ≡ option_map (term_at ts) t
 term_as ts None = refl
 term_as ts (Some id) = refl
-
-same_number : (m n : ℕ) → (m == n) ≡ true → n ≡ m
-same_number m n h = grind (arith, nat_tests, h)
 
 rows_at : (ts : List Term) (n : ℕ) (xs : List code.Assertion) → list_all (λ a. a.level == n) xs ≡ true
     → at_level n (map (assertion_in ts) xs) ≡ map (row_of ts) xs

@@ -4,6 +4,7 @@ use Rattle.std.specs.List.{list_all, list_any, Contains}
 use Rattle.std.proofs.lemmas.Bool.{false≢true, and_parts, and_from, or_left, or_right, eqb-true, eq-eqb}
 use Rattle.std.proofs.lemmas.List.Folds.{list_all-append}
 use Rattle.std.proofs.lemmas.List.Elements.{Contains-append_left, Contains-append_right}
+use Rattle.sb_facts.proofs.CallerLemmas.{equal_itself}
 use Rattle.sb_lit.specs.declared.clause.Lit.{Lit}
 use Rattle.sb_lit.specs.Kept.{Kept}
 use Rattle.sb_lang.specs.Regex.{Regex}
@@ -36,7 +37,6 @@ use Rattle.sb_solve.specs.Values.{is_true, is_constant, makes_true, truth_by, tr
 use Rattle.sb_solve.specs.Decided as deciding
 use Rattle.sb_solve.specs.Answered.{AreLiterals, IsAnswered}
 use Rattle.sb_solve.specs.Modelled.{is_serial, asks_word, is_asked, AreSpoken, HasLive}
-use Rattle.sb_solve.proofs.Gathered.{same_nat}
 use Rattle.sb_solve.proofs.Deciding.{all_in, any_in, term_right}
 use Rattle.sb_solve.proofs.PickedWords.{word_of_words}
 use Rattle.sb_solve.proofs.Spoken.{Test, all_are, each_is, is_fine, Passing, passing_there, wanted_pass}
@@ -243,7 +243,7 @@ is_given s ws truths h characters true_all defaults least = record {
 none_in : (test : ℕ → Bool) (xs : List ℕ) → ((i : ℕ) → is_in xs i ≡ true → test i ≡ false) → list_any test xs ≡ false
 none_in test [] h = refl
 none_in test (x ∷ xs) h =
-    ap₂ (λ a b. a || b) (h x (or_left (nat_eq x x) (is_in xs x) (same_nat x)))
+    ap₂ (λ a b. a || b) (h x (or_left (nat_eq x x) (is_in xs x) (equal_itself x)))
     (none_in test xs (λ i there. h i (or_right (nat_eq i x) (is_in xs i) there)))
 
 wrong : (b : Bool) → b ≡ true → b ≡ false → ⊥

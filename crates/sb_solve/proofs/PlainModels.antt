@@ -6,6 +6,7 @@ use Rattle.std.proofs.lemmas.Bool.{false≢true, and_parts, and_from, or_parts, 
 use Rattle.std.proofs.lemmas.Bool.Decides.{nat_tests}
 use Rattle.std.proofs.lemmas.List.{append-nil}
 use Rattle.std.proofs.lemmas.Option.{option_and_then_some, slice_get-map, get_or_from_slice_get, unwrap_or-slice_get}
+use Rattle.sb_facts.proofs.CallerLemmas.{get_mapped}
 use Rattle.sb_word.specs.Words.{IsWord}
 use Rattle.sb_lit.specs.declared.clause.Lit.{Lit}
 use Rattle.sb_lit.specs.Clauses.{negation}
@@ -151,12 +152,6 @@ same_member rs n r (sum_atom k ss) h = absurd (false≢true h)
 same_member rs n r (and_atom ls) h = absurd (false≢true h)
 same_member rs n r (iff_atom l m) h = absurd (false≢true h)
 
-under : {X Y : Type 0} (f : X → Y) (xs : List X) (k : ℕ) (y : Y) → slice_get (map f xs) k ≡ Some y
-    → (x : X) × (slice_get xs k ≡ Some x) × (f x ≡ y)
-under f [] k y h = absurd (Prim.cc (h))
-under f (x ∷ xs) zero y h = (x, refl, Prim.cc (h))
-under f (x ∷ xs) (suc k) y h = under f xs k y h
-
 module _ (rs : List Regex) (atoms : List (AtomOver ℕ)) where
   abbrev A : List Atom
   A = atoms_in rs atoms
@@ -170,7 +165,7 @@ module _ (rs : List Regex) (atoms : List (AtomOver ℕ)) where
       there k e =
           let f = found (is_same_atom (in_atom (constant_piece n ∷ []) r)) 0 A k e in
           let place : f.place ≡ k = omega (arith, f.number) in
-          let u = under (over rs) atoms f.place f.element f.there in
+          let u = get_mapped (over rs) atoms f.place f.element f.there in
           let m = same_member rs n r u.0
           (ap (is_same_atom (in_atom (constant_piece n ∷ []) r)) u.2 ∙ f.right) in
           (m.0, ap (slice_get atoms) (sym place) ∙ u.1 ∙ ap Some m.1)

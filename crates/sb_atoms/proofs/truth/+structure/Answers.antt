@@ -1,4 +1,5 @@
 use Rattle.std.proofs.Common.{◌≡◌, Some, sym, ap, ◌∙◌, arith}
+use Rattle.sb_facts.proofs.CallerLemmas.{ok_more}
 use Rattle.std.specs.List.{list_all}
 use Rattle.sb_meaning.specs.Terms.{Term}
 use Rattle.sb_regex.proofs.CallerLemmas.{extends_same, extends_more}
@@ -7,7 +8,7 @@ use Rattle.sb_problem.specs.Patterns.{pattern_in}
 use Rattle.sb_script.specs.Brought.{asked, is_structure}
 use Rattle.sb_fragment.specs.Compared.{compared}
 use Rattle.sb_fragment.specs.Shapes.{parts_of}
-use Rattle.sb_fragment.proofs.CallerLemmas.{all_at, ok_map, asked_structure, connected_structure, words_structure, term_within, term_read}
+use Rattle.sb_fragment.proofs.CallerLemmas.{all_at, asked_structure, connected_structure, words_structure, term_within, term_read}
 use Rattle.sb_atoms.specs.Truths.{IsTruthUnder, IsTruthOf, AreAsWanted, connected_truth}
 use Rattle.sb_atoms.proofs.Meanings.{constant_holds, always_holds, alone_holds, connected_holds, words_hold}
 use Rattle.sb_atoms.proofs.Walking.{compared_given, parts_given, truths_more, truths_end}
@@ -22,7 +23,7 @@ structure-member-requires-clause-kind m c =
 pub structure-returns-in-Some-clause-ok : goal.structure-returns-in-Some-clause-ok
 structure-returns-in-Some-clause-ok m c =
     let t = term_at c.args.table.now c.args.id in
-    ok_map (λ truth. (s : Term) → asked s ≡ Some (c.in-Some.serial.0, pattern_in c.args.table.now c.in-Some.pattern)
+    ok_more (λ truth. (s : Term) → asked s ≡ Some (c.in-Some.serial.0, pattern_in c.args.table.now c.in-Some.pattern)
     → IsTruthUnder c.args.values.now s truth)
     (λ truth. IsTruthOf c.args.values.now c.args.truths.now t truth) c.member.result
     (λ truth f v gives. f t c.in-Some.ensures.parts v c.args.truths.now gives) c.member.ensures.ok
@@ -71,7 +72,7 @@ pub structure-returns-in-Words-clause-ok : goal.structure-returns-in-Words-claus
 structure-returns-in-Words-clause-ok m c =
     let t = term_at c.args.table.now c.args.id in
     let shape = rw c.in-Words.is at c.shape_of.ensures in
-    ok_map (λ truth. AreAsWanted c.args.values.now c.in-Words.distinct (compared c.in-Words.distinct (parts_of t))
+    ok_more (λ truth. AreAsWanted c.args.values.now c.in-Words.distinct (compared c.in-Words.distinct (parts_of t))
     (compared c.in-Words.distinct (parts_of t)) truth)
     (λ truth. IsTruthOf c.args.values.now c.args.truths.now t truth) c.words.result
     (λ truth h v gives. h v c.args.truths.now (compared_given c.args.values.now c.args.truths.now v c.in-Words.distinct

@@ -1,12 +1,12 @@
 use Rattle.std.proofs.Common.{◌≡◌, Some, sym, ◌∙◌}
 use Rattle.std.proofs.lemmas.Bool.{false≢true}
+use Rattle.sb_facts.proofs.CallerLemmas.{ok_more}
 use Rattle.sb_meaning.specs.Terms.{Term}
 use Rattle.sb_problem.specs.Patterns.{pattern_in}
 use Rattle.sb_problem.specs.Normals.{IsRegexOf}
 use Rattle.sb_script.specs.Brought.{asked}
 use Rattle.sb_regex.proofs.CallerLemmas.{extends_more}
 use Rattle.sb_term.proofs.CallerLemmas.{extends_same}
-use Rattle.sb_fragment.proofs.CallerLemmas.{ok_map}
 use Rattle.sb_atoms.specs.Truths.{IsTruthUnder}
 use Rattle.sb_atoms.proofs.truth.member.Goals as goal
 
@@ -37,7 +37,7 @@ pub returns-clause-ok : goal.returns-clause-ok
 returns-clause-ok c =
     let R = pattern_in c.args.table.now c.args.pattern in
     let is = rw c.in-Some.is at c.in_ok-regex.ensures.number in
-    ok_map (λ truth. (t S : Term) → asked t ≡ Some (c.args.serial.0, S) → IsRegexOf c.pattern.new.arena S c.in-Some.regex
+    ok_more (λ truth. (t S : Term) → asked t ≡ Some (c.args.serial.0, S) → IsRegexOf c.pattern.new.arena S c.in-Some.regex
     → IsTruthUnder c.args.values.now t truth)
     (λ truth. (t : Term) → asked t ≡ Some (c.args.serial.0, R) → IsTruthUnder c.args.values.now t truth)
     c.is_true_by.result (λ b f t h. f t R h is) c.is_true_by.ensures.ok

@@ -1,7 +1,8 @@
 use Rattle.std.proofs.Common.{◌≡◌, ℕ, ◌-◌, length, Option, None, replicate, refl, arith}
 use Rattle.std.proofs.lemmas.List.{length-append, length-replicate}
+use Rattle.sb_facts.proofs.CallerLemmas.{ok_then}
 use Rattle.sb_clauses.specs.Occurring.{head_at}
-use Rattle.sb_clauses.proofs.LinkLemmas.{either_way, on_ok, padded}
+use Rattle.sb_clauses.proofs.LinkLemmas.{either_way, padded}
 use Rattle.sb_clauses.proofs.occurrences.grow_heads.Goals as goal
 
 pub returns-clause-same : goal.returns-clause-same
@@ -13,7 +14,7 @@ returns-clause-same c =
 pub returns-clause-room : goal.returns-clause-room
 returns-clause-room c =
     let more = replicate {A = Option ℕ} (c.args.lists - length c.args.heads.now) None in
-    on_ok c.grow.result _ _
+    ok_then c.grow.result _ _
     (λ grown. rw grown (omega (
       arith,
       length-append c.args.heads.now more,

@@ -1,4 +1,5 @@
 use Rattle.std.proofs.Common.{◌≡◌, ◌&&◌, ◌∙◌, sym, arith}
+use Rattle.sb_facts.proofs.CallerLemmas.{ok_more}
 use Rattle.std.specs.List.{list_all}
 use Rattle.sb_term.specs.Numbered.{term_at}
 use Rattle.sb_problem.specs.Patterns.{pattern_in}
@@ -7,7 +8,7 @@ use Rattle.sb_script.specs.Fragment.{fits}
 use Rattle.sb_script.specs.Sizes.{is_regular}
 use Rattle.sb_fragment.specs.Shapes.{are_word_pairs, parts_of}
 use Rattle.sb_fragment.specs.Fitting.{have_short_words}
-use Rattle.sb_fragment.proofs.Arguments.{ok_map, structure_stop, structure_end}
+use Rattle.sb_fragment.proofs.Arguments.{structure_stop, structure_end}
 use Rattle.sb_fragment.proofs.FittingFacts.{all_both, asked_fitting, constant_decided, always_decided, alone_decided, connected_decided, words_decided, other_decided}
 use Rattle.sb_fragment.proofs.fitting.+fitting.Goals as goal
 
@@ -15,7 +16,7 @@ pub structure_fits-returns-in-Some-clause-ok : goal.structure_fits-returns-in-So
 structure_fits-returns-in-Some-clause-ok t c =
     let s = term_at c.args.table.now c.args.id in
     let R = pattern_in c.args.table.now c.in-Some.pattern in
-    ok_map (λ b. b ≡ (is_regex R && is_regular R)) (λ b. b ≡ (is_structure s && fits s)) c.pattern_fits.result
+    ok_more (λ b. b ≡ (is_regex R && is_regular R)) (λ b. b ≡ (is_structure s && fits s)) c.pattern_fits.result
     (λ b h. h ∙ asked_fitting s c.in-Some.field-0-0.0 R c.in-Some.ensures.parts) c.pattern_fits.ensures.ok
 
 pub structure_fits-returns-in-Constant-clause-ok : goal.structure_fits-returns-in-Constant-clause-ok
@@ -26,14 +27,14 @@ pub structure_fits-returns-in-Always-clause-ok : goal.structure_fits-returns-in-
 structure_fits-returns-in-Always-clause-ok t c =
     let s = term_at c.args.table.now c.args.id in
     let shape = rw c.in-Always.is at c.shape_of.ensures in
-    ok_map (λ b. b ≡ is_structure s) (λ b. b ≡ (is_structure s && fits s)) c.is_structure.result
+    ok_more (λ b. b ≡ is_structure s) (λ b. b ≡ (is_structure s && fits s)) c.is_structure.result
     (λ b h. h ∙ always_decided s _ shape) c.is_structure.ensures.ok
 
 pub structure_fits-returns-in-Alone-clause-ok : goal.structure_fits-returns-in-Alone-clause-ok
 structure_fits-returns-in-Alone-clause-ok t c =
     let s = term_at c.args.table.now c.args.id in
     let shape = rw c.in-Alone.is at c.shape_of.ensures in
-    ok_map (λ b. b ≡ (list_all is_structure (parts_of s) && list_all fits (parts_of s)))
+    ok_more (λ b. b ≡ (list_all is_structure (parts_of s) && list_all fits (parts_of s)))
     (λ b. b ≡ (is_structure s && fits s)) c.parts_fit.result
     (λ b h. h ∙ alone_decided s shape) c.parts_fit.ensures.ok
 
@@ -41,7 +42,7 @@ pub structure_fits-returns-in-Connected-clause-ok : goal.structure_fits-returns-
 structure_fits-returns-in-Connected-clause-ok t c =
     let s = term_at c.args.table.now c.args.id in
     let shape = rw c.in-Connected.is at c.shape_of.ensures in
-    ok_map (λ b. b ≡ (list_all is_structure (parts_of s) && list_all fits (parts_of s)))
+    ok_more (λ b. b ≡ (list_all is_structure (parts_of s) && list_all fits (parts_of s)))
     (λ b. b ≡ (is_structure s && fits s)) c.parts_fit-in-Connected.result
     (λ b h. h ∙ connected_decided s _ shape) c.parts_fit-in-Connected.ensures.ok
 
@@ -50,7 +51,7 @@ structure_fits-returns-in-Words-clause-ok t c =
     let s = term_at c.args.table.now c.args.id in
     let d = c.in-Words.distinct in
     let shape = rw c.in-Words.is at c.shape_of.ensures in
-    ok_map (λ b. b ≡ (are_word_pairs d (parts_of s) && have_short_words d (parts_of s)))
+    ok_more (λ b. b ≡ (are_word_pairs d (parts_of s) && have_short_words d (parts_of s)))
     (λ b. b ≡ (is_structure s && fits s)) c.words_fit.result
     (λ b h. h ∙ words_decided s d shape) c.words_fit.ensures.ok
 

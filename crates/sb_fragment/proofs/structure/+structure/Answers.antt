@@ -1,10 +1,11 @@
 use Rattle.std.proofs.Common.{◌∙◌, ◌≡◌, sym}
+use Rattle.sb_facts.proofs.CallerLemmas.{ok_more}
 use Rattle.std.specs.List.{list_all}
 use Rattle.sb_term.specs.Numbered.{term_at}
 use Rattle.sb_problem.specs.Patterns.{pattern_in}
 use Rattle.sb_script.specs.Brought.{is_regex, is_structure}
 use Rattle.sb_fragment.specs.Shapes.{are_word_pairs, parts_of}
-use Rattle.sb_fragment.proofs.Arguments.{ok_map, structure_stop}
+use Rattle.sb_fragment.proofs.Arguments.{structure_stop}
 use Rattle.sb_fragment.proofs.Structured.{asked_structure, always_structure, alone_structure, connected_structure, words_structure}
 use Rattle.sb_fragment.proofs.structure.+structure.Goals as goal
 
@@ -17,7 +18,7 @@ are_structure-returns-then-not-branch-clause-ok t c =
 
 pub is_structure-returns-in-Some-clause-ok : goal.is_structure-returns-in-Some-clause-ok
 is_structure-returns-in-Some-clause-ok t c =
-    ok_map (λ b. b ≡ is_regex (pattern_in c.args.table.now c.in-Some.pattern))
+    ok_more (λ b. b ≡ is_regex (pattern_in c.args.table.now c.in-Some.pattern))
     (λ b. b ≡ is_structure (term_at c.args.table.now c.args.id)) c.is_regex.result
     (λ b h. h ∙ sym (asked_structure (term_at c.args.table.now c.args.id) c.in-Some.field-0-0.0
     (pattern_in c.args.table.now c.in-Some.pattern) c.in-Some.ensures.parts)) c.is_regex.ensures.ok
@@ -26,26 +27,26 @@ pub is_structure-returns-in-Always-clause-ok : goal.is_structure-returns-in-Alwa
 is_structure-returns-in-Always-clause-ok t c =
     let s = term_at c.args.table.now c.args.id in
     let shape = rw c.in-Always.is at c.shape_of.ensures in
-    ok_map (λ b. b ≡ list_all is_structure (parts_of s)) (λ b. b ≡ is_structure s) c.are_structure.result
+    ok_more (λ b. b ≡ list_all is_structure (parts_of s)) (λ b. b ≡ is_structure s) c.are_structure.result
     (λ b h. h ∙ sym (always_structure s _ shape)) c.are_structure.ensures.ok
 
 pub is_structure-returns-in-Alone-clause-ok : goal.is_structure-returns-in-Alone-clause-ok
 is_structure-returns-in-Alone-clause-ok t c =
     let s = term_at c.args.table.now c.args.id in
     let shape = rw c.in-Alone.is at c.shape_of.ensures in
-    ok_map (λ b. b ≡ list_all is_structure (parts_of s)) (λ b. b ≡ is_structure s) c.are_structure-in-Alone.result
+    ok_more (λ b. b ≡ list_all is_structure (parts_of s)) (λ b. b ≡ is_structure s) c.are_structure-in-Alone.result
     (λ b h. h ∙ sym (alone_structure s shape)) c.are_structure-in-Alone.ensures.ok
 
 pub is_structure-returns-in-Connected-clause-ok : goal.is_structure-returns-in-Connected-clause-ok
 is_structure-returns-in-Connected-clause-ok t c =
     let s = term_at c.args.table.now c.args.id in
     let shape = rw c.in-Connected.is at c.shape_of.ensures in
-    ok_map (λ b. b ≡ list_all is_structure (parts_of s)) (λ b. b ≡ is_structure s) c.are_structure-in-Connected.result
+    ok_more (λ b. b ≡ list_all is_structure (parts_of s)) (λ b. b ≡ is_structure s) c.are_structure-in-Connected.result
     (λ b h. h ∙ sym (connected_structure s _ shape)) c.are_structure-in-Connected.ensures.ok
 
 pub is_structure-returns-in-Words-clause-ok : goal.is_structure-returns-in-Words-clause-ok
 is_structure-returns-in-Words-clause-ok t c =
     let s = term_at c.args.table.now c.args.id in
     let shape = rw c.in-Words.is at c.shape_of.ensures in
-    ok_map (λ b. b ≡ are_word_pairs c.in-Words.distinct (parts_of s)) (λ b. b ≡ is_structure s) c.are_words.result
+    ok_more (λ b. b ≡ are_word_pairs c.in-Words.distinct (parts_of s)) (λ b. b ≡ is_structure s) c.are_words.result
     (λ b h. h ∙ sym (words_structure s c.in-Words.distinct shape)) c.are_words.ensures

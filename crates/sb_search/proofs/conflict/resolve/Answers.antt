@@ -1,10 +1,11 @@
 use Rattle.std.proofs.Common.{◌≡◌, ◌∙◌, List, refl, sym, ap, subst, arith}
+use Rattle.sb_facts.proofs.CallerLemmas.{told_ok, told_err}
 use Rattle.sb_trail.specs.declared.assigned.Assigned.{Assigned}
 use Rattle.sb_trail.specs.Assignments.{Assignments, IsTrail, current_level}
 use Rattle.sb_trail.proofs.CallerLemmas.{up_to-all}
 use Rattle.sb_analyze.specs.Cores.{AreAssumed}
 use Rattle.sb_search.specs.Writing.{written, with_learned}
-use Rattle.sb_search.proofs.Writes.{written_is, learned_is, puts_written, on_ok, on_err}
+use Rattle.sb_search.proofs.Writes.{written_is, learned_is, puts_written}
 use Rattle.sb_search.proofs.conflict.resolve.Goals as goal
 
 pub refute-requires-clause-assumed : goal.refute-requires-clause-assumed
@@ -37,7 +38,7 @@ returns-then-is_err-clause-puts g c = λ known.
     subst (g.T.Theory.puts c.args.theory.now c.args.theory.now before)
     (sym (written_is c.args.engine.now.kept c.args.engine.now.kept c.args.budget.now c.tick.new.self
     (g.L.Tape.told c.args.tape.now) (g.L.Tape.told c.args.tape.now) refl
-    (on_err c.tick.result _ (sym c.is_err.ensures.value ∙ c.if-is_err.true) c.tick.ensures.same) refl))
+    (told_err c.tick.result _ (sym c.is_err.ensures.value ∙ c.if-is_err.true) c.tick.ensures.same) refl))
     (g.met.T.Theory.puts_none c.args.theory.now before)
 
 pub returns-clause-puts : goal.returns-clause-puts
@@ -50,9 +51,9 @@ returns-clause-puts g c = λ known.
     (sym (learned_is c.args.engine.now.kept c.take_lesson.new.engine.kept c.args.budget.now c.tick.new.self
     (g.L.Tape.told c.args.tape.now) (g.L.Tape.told c.put_learned.new.tape) c.in_ok-lesson.lesson.clause
     c.in_ok-lesson.lesson.hints c.in_ok-lesson.lesson.level c.in_ok-take_lesson.ensures.kept
-    (on_ok c.tick.result _ ticked c.tick.ensures.ok) c.in_ok-put_learned.ensures.told))
+    (told_ok c.tick.result _ ticked c.tick.ensures.ok) c.in_ok-put_learned.ensures.told))
     (g.met.T.Theory.puts_both c.args.theory.now c.args.theory.now c.take_lesson.new.theory before after after
     (g.met.T.Theory.puts_learned c.args.theory.now before c.in_ok-lesson.lesson.clause c.in_ok-lesson.lesson.hints
     c.in_ok-lesson.lesson.level c.in_ok-lesson.ensures.is_lesson c.in_ok-put_learned.ensures.has_text
-    (on_ok c.tick.result _ ticked c.tick.ensures.room))
+    (told_ok c.tick.result _ ticked c.tick.ensures.room))
     (c.take_lesson.ensures.puts after))

@@ -1,9 +1,10 @@
 use Rattle.std.proofs.Common.{◌∙◌, refl, ap, inl, inr}
 use Rattle.std.proofs.lemmas.Result.{err_from_is_err_and}
+use Rattle.sb_facts.proofs.CallerLemmas.{some_mapped}
 use Rattle.std.specs.Option.{option_copied}
 use Rattle.sb_session.specs.Commanding.{is_proved}
 use Rattle.sb_session.proofs.ScriptLemmas.{opened_cut}
-use Rattle.sb_session.proofs.SolveLemmas.{run_from, cut_from, some_mapped}
+use Rattle.sb_session.proofs.SolveLemmas.{run_from, cut_from}
 use Rattle.sb_session.specs.Solve.{asked_for, created}
 use Rattle.sb_session.proofs.solve.answer_files.Goals as goal
 

@@ -1,4 +1,5 @@
 use Rattle.std.proofs.Common.{◌≡◌, [], Some, None, true, if◌then◌else◌, refl, sym, ap, subst, ◌∙◌, arith}
+use Rattle.sb_facts.proofs.CallerLemmas.{ok_more}
 use Rattle.std.specs.List.{list_all}
 use Rattle.sb_meaning.specs.Terms.{Term, text}
 use Rattle.sb_regex.proofs.CallerLemmas.{extends_same}
@@ -13,7 +14,7 @@ use Rattle.sb_atoms.specs.Connecting.{connected}
 use Rattle.sb_atoms.specs.Growing.{is_below, are_below, Gives, GivesLike, Finds, IsLiteralOf}
 use Rattle.sb_fragment.specs.Shapes.{parts_of}
 use Rattle.sb_atoms.specs.Shapes.{connected_literal, literals_of, words_literal}
-use Rattle.sb_fragment.proofs.CallerLemmas.{ok_map, items_some, term_within, term_read, terms_done}
+use Rattle.sb_fragment.proofs.CallerLemmas.{items_some, term_within, term_read, terms_done}
 use Rattle.sb_atoms.proofs.Growth.{moves_both, moves_given, moves_gates}
 use Rattle.sb_fragment.proofs.CallerLemmas.{asked_structure, connected_structure, words_structure}
 use Rattle.sb_atoms.proofs.Structured.{always_translated, alone_translated, connected_translated, words_translated}
@@ -30,7 +31,7 @@ pub structure-returns-in-Some-clause-ok : goal.structure-returns-in-Some-clause-
 structure-returns-in-Some-clause-ok m c =
     let t = term_at c.args.table.now c.args.id in
     let R = pattern_in c.args.table.now c.in-Some.pattern in
-    ok_map (λ found. (s : Term) → asked s ≡ Some (c.in-Some.serial.0, R)
+    ok_more (λ found. (s : Term) → asked s ≡ Some (c.in-Some.serial.0, R)
     → Finds is_below c.args.adds c.member.new.arena c.member.new.self (λ atoms. translation atoms s) found)
     (λ found. Finds is_below c.args.adds c.member.new.arena c.member.new.self (λ atoms. translation atoms t) found)
     c.member.result (λ found h. h t c.in-Some.ensures.parts) c.member.ensures.ok
@@ -46,7 +47,7 @@ structure-returns-in-Some-clause-moves m c =
 pub structure-returns-in-Constant-clause-ok : goal.structure-returns-in-Constant-clause-ok
 structure-returns-in-Constant-clause-ok m c =
     let t = term_at c.args.table.now c.args.id in
-    ok_map (λ found. IsLiteralOf c.args.adds c.literal.new.self (bool_atom c.in-Constant.serial.0) found)
+    ok_more (λ found. IsLiteralOf c.args.adds c.literal.new.self (bool_atom c.in-Constant.serial.0) found)
     (λ found. Finds is_below c.args.adds c.args.arena.now c.literal.new.self (λ atoms. translation atoms t) found)
     c.literal.result
     (λ found h. constant_finds c.args.adds c.args.arena.now c.literal.new.self t c.in-Constant.serial.0 _ found
@@ -71,7 +72,7 @@ pub structure-returns-in-Always-clause-ok : goal.structure-returns-in-Always-cla
 structure-returns-in-Always-clause-ok m c =
     let t = term_at c.args.table.now c.args.id in
     let shape = rw c.in-Always.is at c.shape_of.ensures in
-    ok_map (λ found. Gives is_below c.args.adds c.always.new.self
+    ok_more (λ found. Gives is_below c.args.adds c.always.new.self
     (λ atoms. if c.in-Always.truth then conjunction atoms [] else negated (conjunction atoms [])) found)
     (λ found. Finds is_below c.args.adds c.args.arena.now c.always.new.self (λ atoms. translation atoms t) found)
     c.always.result
@@ -96,7 +97,7 @@ pub structure-returns-in-Alone-clause-ok : goal.structure-returns-in-Alone-claus
 structure-returns-in-Alone-clause-ok m c =
     let t = term_at c.args.table.now c.args.id in
     let shape = rw c.in-Alone.is at c.shape_of.ensures in
-    ok_map (λ found. Gives is_below c.args.adds c.always-in-Alone.new.self (λ atoms. conjunction atoms []) found)
+    ok_more (λ found. Gives is_below c.args.adds c.always-in-Alone.new.self (λ atoms. conjunction atoms []) found)
     (λ found. Finds is_below c.args.adds c.args.arena.now c.always-in-Alone.new.self (λ atoms. translation atoms t) found)
     c.always-in-Alone.result
     (λ found h. finds_other c.args.adds c.args.arena.now c.always-in-Alone.new.self (λ atoms. conjunction atoms [])
@@ -127,7 +128,7 @@ pub structure-returns-in-Connected-clause-ok : goal.structure-returns-in-Connect
 structure-returns-in-Connected-clause-ok m c =
     let t = term_at c.args.table.now c.args.id in
     let shape = rw c.in-Connected.is at c.shape_of.ensures in
-    ok_map (λ found. Finds is_below c.args.adds c.connection.new.arena c.connection.new.self
+    ok_more (λ found. Finds is_below c.args.adds c.connection.new.arena c.connection.new.self
     (λ atoms. connected_literal atoms c.in-Connected.connective (parts_of t)) found)
     (λ found. Finds is_below c.args.adds c.connection.new.arena c.connection.new.self (λ atoms. translation atoms t) found)
     c.connection.result
@@ -145,7 +146,7 @@ pub structure-returns-in-Words-clause-ok : goal.structure-returns-in-Words-claus
 structure-returns-in-Words-clause-ok m c =
     let t = term_at c.args.table.now c.args.id in
     let shape = rw c.in-Words.is at c.shape_of.ensures in
-    ok_map (λ found. Finds is_below c.args.adds c.words.new.arena c.words.new.self
+    ok_more (λ found. Finds is_below c.args.adds c.words.new.arena c.words.new.self
     (λ atoms. words_literal atoms c.in-Words.distinct (parts_of t)) found)
     (λ found. Finds is_below c.args.adds c.words.new.arena c.words.new.self (λ atoms. translation atoms t) found)
     c.words.result
@@ -178,7 +179,7 @@ connection-returns-in-Some-clause-ready m c =
 pub connection-returns-in-Some-clause-ok : goal.connection-returns-in-Some-clause-ok
 connection-returns-in-Some-clause-ok m c =
     let t = term_at c.args.table.now c.args.id in
-    ok_map (λ found. GivesLike c.args.adds c.connected.new.self (connected c.args.connective)
+    ok_more (λ found. GivesLike c.args.adds c.connected.new.self (connected c.args.connective)
     c.in-Some.literals.items found)
     (λ found. Finds is_below c.args.adds c.literals.new.arena c.connected.new.self
     (λ atoms. connected_literal atoms c.args.connective (parts_of t)) found) c.connected.result

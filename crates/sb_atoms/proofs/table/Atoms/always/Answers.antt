@@ -1,13 +1,13 @@
 use Rattle.std.proofs.Common.{Bool, [], if◌then◌else◌, refl, sym, ap, ◌∙◌}
+use Rattle.sb_facts.proofs.CallerLemmas.{ok_more}
 use Rattle.sb_rulebook.specs.Translation.{conjunction, negated}
 use Rattle.sb_atoms.specs.Growing.{is_below, Gives}
-use Rattle.sb_fragment.proofs.CallerLemmas.{ok_map}
 use Rattle.sb_atoms.proofs.Connected.{gives_same}
 use Rattle.sb_atoms.proofs.table.Atoms.always.Goals as goal
 
 pub returns-then-truth-clause-ok : goal.returns-then-truth-clause-ok
 returns-then-truth-clause-ok c =
-    ok_map (λ found. Gives is_below c.args.adds c.conjunction.new.self
+    ok_more (λ found. Gives is_below c.args.adds c.conjunction.new.self
     (λ atoms. conjunction atoms c.new-none.result.items) found)
     (λ found. Gives is_below c.args.adds c.conjunction.new.self
     (λ atoms. if c.args.truth then conjunction atoms [] else negated (conjunction atoms [])) found) c.conjunction.result
@@ -19,7 +19,7 @@ returns-then-truth-clause-ok c =
 
 pub returns-else-truth-clause-ok : goal.returns-else-truth-clause-ok
 returns-else-truth-clause-ok c =
-    ok_map (λ found. Gives is_below c.args.adds c.denial.new.self
+    ok_more (λ found. Gives is_below c.args.adds c.denial.new.self
     (λ atoms. negated (conjunction atoms c.new-none.result.items)) found)
     (λ found. Gives is_below c.args.adds c.denial.new.self
     (λ atoms. if c.args.truth then conjunction atoms [] else negated (conjunction atoms [])) found) c.denial.result

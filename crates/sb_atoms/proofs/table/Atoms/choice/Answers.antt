@@ -1,10 +1,10 @@
 use Rattle.std.proofs.Common.{false, get_or, length, refl, ap, arith, ◌∙◌}
 use Rattle.std.proofs.lemmas.List.{get_or_default}
+use Rattle.sb_facts.proofs.CallerLemmas.{ok_more}
 use Rattle.sb_lit.specs.declared.clause.Lit.{Lit}
 use Rattle.sb_lit.specs.Clauses.{negation}
 use Rattle.sb_rulebook.specs.Translation.{choice, conjunction, implication}
 use Rattle.sb_atoms.specs.Growing.{is_below, Gives, GivesLike}
-use Rattle.sb_fragment.proofs.CallerLemmas.{ok_map}
 use Rattle.sb_atoms.proofs.Growth.{gates_both, gates_longer}
 use Rattle.sb_atoms.proofs.Connected.{below_more, all_below_more, below_at, two_below, gives_same, gives_nothing, not_three, three_of, choice_first_missing, choice_second_missing, choice_both}
 use Rattle.sb_atoms.proofs.table.Atoms.choice.Goals as goal
@@ -82,7 +82,7 @@ conjunction-requires c =
 pub returns-clause-ok : goal.returns-clause-ok
 returns-clause-ok c =
     let ls = c.args.literals.now in
-    ok_map (λ found. Gives is_below c.args.adds c.conjunction.new.self
+    ok_more (λ found. Gives is_below c.args.adds c.conjunction.new.self
     (λ atoms. conjunction atoms c.in_ok-both.both.items) found)
     (λ found. GivesLike c.args.adds c.conjunction.new.self choice ls found) c.conjunction.result
     (λ found h. choice_both c.args.adds c.implication.new.self c.implication-2.new.self c.conjunction.new.self

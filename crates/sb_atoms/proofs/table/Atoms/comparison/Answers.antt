@@ -1,10 +1,11 @@
 use Rattle.std.proofs.Common.{length, option_map, ap, ◌∙◌}
+use Rattle.sb_facts.proofs.CallerLemmas.{ok_more}
 use Rattle.std.specs.Prelude.{vec_items}
 use Rattle.sb_rulebook.specs.Translation.{conjunction}
 use Rattle.sb_fragment.specs.declared.shape.Connective.TheVariants as connective
 use Rattle.sb_atoms.specs.Connecting.{connected}
 use Rattle.sb_atoms.specs.Growing.{is_below, are_pairs_below, Gives, GivesLike}
-use Rattle.sb_fragment.proofs.CallerLemmas.{ok_map, items_some}
+use Rattle.sb_fragment.proofs.CallerLemmas.{items_some}
 use Rattle.sb_atoms.proofs.Growth.{gates_both}
 use Rattle.sb_atoms.proofs.Connected.{compared_below, comparison_made, comparison_missing}
 use Rattle.sb_atoms.proofs.table.Atoms.comparison.Goals as goal
@@ -20,7 +21,7 @@ conjunction-requires c =
 
 pub returns-in-Some-clause-ok : goal.returns-in-Some-clause-ok
 returns-in-Some-clause-ok c =
-    ok_map (λ found. Gives is_below c.args.adds c.conjunction.new.self (λ atoms. conjunction atoms c.in-Some.found.items)
+    ok_more (λ found. Gives is_below c.args.adds c.conjunction.new.self (λ atoms. conjunction atoms c.in-Some.found.items)
     found)
     (λ found. GivesLike c.args.adds c.conjunction.new.self (connected (connective.Compare c.args.distinct))
     c.args.literals.now found)

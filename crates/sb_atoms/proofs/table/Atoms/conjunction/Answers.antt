@@ -1,9 +1,9 @@
 use Rattle.std.proofs.Common.{◌∙◌, ap, arith, false, length, List}
+use Rattle.sb_facts.proofs.CallerLemmas.{ok_more}
 use Rattle.sb_lit.specs.declared.clause.Lit.{Lit}
 use Rattle.sb_rulebook.specs.Translation.{conjunction}
 use Rattle.sb_rulebook.specs.Atoms.{and_atom}
 use Rattle.sb_atoms.specs.Growing.{is_below, Gives, IsLiteralOf}
-use Rattle.sb_fragment.proofs.CallerLemmas.{ok_map}
 use Rattle.sb_atoms.proofs.Connected.{gives_first, gives_conjunction, grown_conjunction}
 use Rattle.sb_atoms.proofs.table.Atoms.conjunction.Goals as goal
 use Rattle.sb_atoms.proofs.table.Atoms.conjunction.Goals.{then-as_slice-lt1, else-as_slice-lt1+else-this-lt2}
@@ -16,7 +16,7 @@ returns-in-len1-clause-ok c =
 
 pub returns-clause-ok : goal.returns-clause-ok
 returns-clause-ok c =
-    ok_map (λ found. IsLiteralOf c.args.adds c.literal.new.self (and_atom c.in_ok-ordered.ordered.items) found)
+    ok_more (λ found. IsLiteralOf c.args.adds c.literal.new.self (and_atom c.in_ok-ordered.ordered.items) found)
     (λ found. Gives is_below c.args.adds c.literal.new.self (λ atoms. conjunction atoms c.args.literals.items) found)
     c.literal.result
     (λ found h. gives_conjunction c.args.adds c.literal.new.self c.args.literals.items c.in_ok-ordered.ordered.items found

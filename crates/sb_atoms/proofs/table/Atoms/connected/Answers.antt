@@ -1,8 +1,8 @@
 use Rattle.sb_rulebook.specs.Translation.{conjunction, disjunction, implications, exclusive, choice}
+use Rattle.sb_facts.proofs.CallerLemmas.{ok_more}
 use Rattle.sb_fragment.specs.declared.shape.Connective.TheVariants as connective
 use Rattle.sb_atoms.specs.Connecting.{connected}
 use Rattle.sb_atoms.specs.Growing.{is_below, Gives, GivesLike}
-use Rattle.sb_fragment.proofs.CallerLemmas.{ok_map}
 use Rattle.sb_atoms.proofs.Connected.{gives_denied, gives_like, like_items}
 use Rattle.sb_atoms.proofs.table.Atoms.connected.Goals as goal
 
@@ -13,7 +13,7 @@ returns-in-Not-clause-ok c =
 
 pub returns-in-And-clause-ok : goal.returns-in-And-clause-ok
 returns-in-And-clause-ok c =
-    rw c.in-And.is (ok_map (λ found. Gives is_below c.args.adds c.conjunction.new.self
+    rw c.in-And.is (ok_more (λ found. Gives is_below c.args.adds c.conjunction.new.self
     (λ atoms. conjunction atoms c.args.literals.items) found)
     (λ found. GivesLike c.args.adds c.conjunction.new.self (connected connective.And) c.args.literals.items found)
     c.conjunction.result
@@ -22,7 +22,7 @@ returns-in-And-clause-ok c =
 
 pub returns-in-Or-clause-ok : goal.returns-in-Or-clause-ok
 returns-in-Or-clause-ok c =
-    rw c.in-Or.is (ok_map (λ found. Gives is_below c.args.adds c.disjunction.new.self
+    rw c.in-Or.is (ok_more (λ found. Gives is_below c.args.adds c.disjunction.new.self
     (λ atoms. disjunction atoms c.deref-in-Or.result.now) found)
     (λ found. GivesLike c.args.adds c.disjunction.new.self (connected connective.Or) c.args.literals.items found)
     c.disjunction.result
@@ -33,7 +33,7 @@ returns-in-Or-clause-ok c =
 
 pub returns-in-Implies-clause-ok : goal.returns-in-Implies-clause-ok
 returns-in-Implies-clause-ok c =
-    rw c.in-Implies.is (ok_map (λ found. GivesLike c.args.adds c.implications.new.self implications
+    rw c.in-Implies.is (ok_more (λ found. GivesLike c.args.adds c.implications.new.self implications
     c.deref-in-Implies.result.now found)
     (λ found. GivesLike c.args.adds c.implications.new.self (connected connective.Implies) c.args.literals.items found)
     c.implications.result
@@ -43,7 +43,7 @@ returns-in-Implies-clause-ok c =
 
 pub returns-in-Xor-clause-ok : goal.returns-in-Xor-clause-ok
 returns-in-Xor-clause-ok c =
-    rw c.in-Xor.is (ok_map (λ found. GivesLike c.args.adds c.exclusive.new.self exclusive
+    rw c.in-Xor.is (ok_more (λ found. GivesLike c.args.adds c.exclusive.new.self exclusive
     c.deref-in-Xor.result.now found)
     (λ found. GivesLike c.args.adds c.exclusive.new.self (connected connective.Xor) c.args.literals.items found)
     c.exclusive.result
@@ -53,7 +53,7 @@ returns-in-Xor-clause-ok c =
 
 pub returns-in-Ite-clause-ok : goal.returns-in-Ite-clause-ok
 returns-in-Ite-clause-ok c =
-    rw c.in-Ite.is (ok_map (λ found. GivesLike c.args.adds c.choice.new.self choice
+    rw c.in-Ite.is (ok_more (λ found. GivesLike c.args.adds c.choice.new.self choice
     c.deref-in-Ite.result.now found)
     (λ found. GivesLike c.args.adds c.choice.new.self (connected connective.Ite) c.args.literals.items found)
     c.choice.result

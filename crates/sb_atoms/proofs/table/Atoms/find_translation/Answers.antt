@@ -1,9 +1,9 @@
 use Rattle.std.proofs.Common.{◌≡◌, length, false}
+use Rattle.sb_facts.proofs.CallerLemmas.{ok_more}
 use Rattle.sb_term.specs.Numbered.{term_at}
 use Rattle.sb_atoms.specs.Numbered.{atoms_in}
 use Rattle.sb_atoms.specs.Translated.{brought_translation, has_declared}
 use Rattle.sb_atoms.specs.Growing.{is_below, Finds}
-use Rattle.sb_fragment.proofs.CallerLemmas.{ok_map}
 use Rattle.sb_atoms.proofs.Growth.{grown_still}
 use Rattle.sb_atoms.proofs.table.Atoms.find_translation.Goals as goal
 
@@ -14,7 +14,7 @@ find_or_add-requires-clause-ready c =
 pub returns-clause-ok : goal.returns-clause-ok
 returns-clause-ok c =
     let t = term_at c.args.table.now c.args.id in
-    ok_map
+    ok_more
     (λ found. Finds is_below false c.find_or_add.new.arena c.find_or_add.new.self
     (λ atoms. brought_translation atoms t) found)
     (λ found. found ≡ brought_translation (atoms_in c.find_or_add.new.arena c.find_or_add.new.self) t)

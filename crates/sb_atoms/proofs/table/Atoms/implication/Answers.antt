@@ -1,7 +1,7 @@
 use Rattle.std.proofs.Common.{length, [], ◌∷◌, refl, ap, ◌∙◌}
+use Rattle.sb_facts.proofs.CallerLemmas.{ok_more}
 use Rattle.sb_rulebook.specs.Translation.{conjunction, implication, negated}
 use Rattle.sb_atoms.specs.Growing.{is_below, Gives}
-use Rattle.sb_fragment.proofs.CallerLemmas.{ok_map}
 use Rattle.sb_atoms.proofs.Connected.{gives_same, pair_below}
 use Rattle.sb_atoms.proofs.table.Atoms.implication.Goals as goal
 
@@ -12,7 +12,7 @@ denial-requires c =
 
 pub returns-clause-ok : goal.returns-clause-ok
 returns-clause-ok c =
-    ok_map (λ found. Gives is_below c.args.adds c.denial.new.self
+    ok_more (λ found. Gives is_below c.args.adds c.denial.new.self
     (λ atoms. negated (conjunction atoms c.in_ok-literals.literals.items)) found)
     (λ found. Gives is_below c.args.adds c.denial.new.self
     (λ atoms. implication atoms c.args.one c.args.other) found) c.denial.result

@@ -1,4 +1,5 @@
 use Rattle.std.proofs.Common.{◌≡◌, length, Some, true}
+use Rattle.sb_facts.proofs.CallerLemmas.{ok_more}
 use Rattle.sb_meaning.specs.Terms.{Term, text}
 use Rattle.sb_regex.proofs.CallerLemmas.{long_kept}
 use Rattle.sb_script.specs.Brought.{asked}
@@ -8,7 +9,6 @@ use Rattle.sb_rulebook.specs.AtomRules.{is_declared}
 use Rattle.sb_atoms.specs.Numbered.{atom_in}
 use Rattle.sb_atoms.specs.Translated.{IsAdded}
 use Rattle.sb_atoms.specs.Growing.{is_below, Finds, IsLiteralOf}
-use Rattle.sb_fragment.proofs.CallerLemmas.{ok_map}
 use Rattle.sb_atoms.proofs.CallerLemmas.{regexes_kept}
 use Rattle.sb_atoms.proofs.Growth.{grown_regexes, moves_arena}
 use Rattle.sb_atoms.proofs.Found.{member_finds, member_moves, member_added, members_added, ready_moved}
@@ -50,7 +50,7 @@ returns-clause-ok c =
     c.in_ok-atom.ensures.arena of c.literal.ensures.grows in
     let below = grown_regexes (length c.args.arena.now) (length rs) c.args.self.now c.literal.new.self
     (long_kept c.args.arena.now rs c.in_ok-atom.ensures.arena) c.requires.ready.regexes m.atoms in
-    ok_map (λ found. IsLiteralOf c.args.adds c.literal.new.self a found)
+    ok_more (λ found. IsLiteralOf c.args.adds c.literal.new.self a found)
     (λ found. (t : Term) → asked t ≡ Some (c.args.serial.0, R)
     → Finds is_below c.args.adds rs c.literal.new.self (λ atoms. translation atoms t) found) c.literal.result
     (λ found h t asks. member_finds c.args.adds rs c.literal.new.self c.args.serial.0 R a found of
@@ -63,7 +63,7 @@ returns-clause-added c =
     let R = pattern_in c.args.table.now c.args.pattern in
     let a = atom_in c.in-Some.atom in
     let of = rw c.in-Some.is at c.in_ok-atom.ensures.ok in
-    ok_map (λ found. IsLiteralOf c.args.adds c.literal.new.self a found)
+    ok_more (λ found. IsLiteralOf c.args.adds c.literal.new.self a found)
     (λ found. c.args.adds ≡ true → IsAdded c.args.self.now c.literal.new.self found) c.literal.result
     (λ found h on. member_added c.args.adds rs c.args.self.now c.literal.new.self c.args.serial.0 R a found of
     c.literal.ensures.grows h on)

@@ -1,9 +1,9 @@
 use Rattle.std.proofs.Common.{◌≡◌, ◌<◌, length, true, None, IfSome, refl}
+use Rattle.sb_facts.proofs.CallerLemmas.{ok_more}
 use Rattle.sb_term.specs.Numbered.{term_at}
 use Rattle.sb_atoms.specs.Numbered.{atoms_in}
 use Rattle.sb_atoms.specs.Translated.{brought_translation, HasNoLiteral}
 use Rattle.sb_atoms.specs.Growing.{is_below, Finds}
-use Rattle.sb_fragment.proofs.CallerLemmas.{ok_map}
 use Rattle.sb_atoms.proofs.Growth.{grown_defined, grown_extends, grown_earlier}
 use Rattle.sb_atoms.proofs.Found.{finds_known}
 use Rattle.sb_atoms.proofs.table.Atoms.translate.Goals as goal
@@ -15,7 +15,7 @@ find_or_add-requires-clause-ready c =
 pub returns-clause-ok : goal.returns-clause-ok
 returns-clause-ok c =
     let t = term_at c.args.table.now c.args.id in
-    ok_map
+    ok_more
     (λ found. Finds is_below true c.find_or_add.new.arena c.find_or_add.new.self
     (λ atoms. brought_translation atoms t) found)
     (λ found. found ≡ brought_translation (atoms_in c.find_or_add.new.arena c.find_or_add.new.self) t)
@@ -24,7 +24,7 @@ returns-clause-ok c =
 pub returns-clause-known : goal.returns-clause-known
 returns-clause-known c =
     let t = term_at c.args.table.now c.args.id in
-    ok_map
+    ok_more
     (λ found. Finds is_below true c.find_or_add.new.arena c.find_or_add.new.self
     (λ atoms. brought_translation atoms t) found)
     (λ found. IfSome found (λ l. l.atom < length c.find_or_add.new.self))
@@ -35,7 +35,7 @@ returns-clause-known c =
 pub returns-clause-none : goal.returns-clause-none
 returns-clause-none c =
     let t = term_at c.args.table.now c.args.id in
-    ok_map
+    ok_more
     (λ found. Finds is_below true c.find_or_add.new.arena c.find_or_add.new.self
     (λ atoms. brought_translation atoms t) found)
     (λ found. found ≡ None → HasNoLiteral t) c.find_or_add.result (λ found h. h.none refl) c.find_or_add.ensures.ok

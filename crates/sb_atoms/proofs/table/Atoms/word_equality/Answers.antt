@@ -1,4 +1,5 @@
 use Rattle.std.proofs.Common.{◌≡◌, ◌&&◌, Some}
+use Rattle.sb_facts.proofs.CallerLemmas.{ok_more}
 use Rattle.sb_meaning.specs.Terms.{Term, text}
 use Rattle.sb_script.specs.Brought.{asked}
 use Rattle.sb_term.specs.Numbered.{term_at}
@@ -8,7 +9,7 @@ use Rattle.sb_rulebook.specs.Translation.{translation, word_equality}
 use Rattle.sb_atoms.specs.Translated.{has_declared}
 use Rattle.sb_atoms.specs.Growing.{is_below, Finds}
 use Rattle.sb_fragment.specs.Memberships.{equality}
-use Rattle.sb_fragment.proofs.CallerLemmas.{ok_map, some_pair}
+use Rattle.sb_fragment.proofs.CallerLemmas.{some_pair}
 use Rattle.sb_atoms.proofs.Growth.{moves_given}
 use Rattle.sb_atoms.proofs.Found.{finds_other, pair_equality, declared_pair}
 use Rattle.sb_atoms.proofs.table.Atoms.word_equality.Goals as goal
@@ -19,7 +20,7 @@ returns-clause-ok c =
     let u = term_at c.args.table.now c.args.other in
     let p = some_pair _ _ c.pair_of.result c.unwrap-word.result c.unwrap-word.ensures c.pair_of.ensures.parts in
     let R = literal_of (term_at c.args.table.now c.unwrap-word.result.1) in
-    ok_map (λ found. (s : Term) → asked s ≡ Some (c.unwrap-word.result.0.0, R)
+    ok_more (λ found. (s : Term) → asked s ≡ Some (c.unwrap-word.result.0.0, R)
     → Finds is_below c.args.adds c.member.new.arena c.member.new.self (λ atoms. translation atoms s) found)
     (λ found. Finds is_below c.args.adds c.member.new.arena c.member.new.self (λ atoms. word_equality atoms t u) found)
     c.member.result

@@ -1,4 +1,5 @@
 use Rattle.std.proofs.Common.{length, true, option_map, ap, subst, ◌∙◌, arith}
+use Rattle.sb_facts.proofs.CallerLemmas.{ok_more}
 use Rattle.std.specs.List.{list_all}
 use Rattle.sb_meaning.specs.Terms.{Term}
 use Rattle.sb_term.specs.Numbered.{term_at}
@@ -10,7 +11,7 @@ use Rattle.sb_atoms.specs.Connecting.{signed}
 use Rattle.sb_atoms.specs.Growing.{is_below, are_below, Gives, Finds}
 use Rattle.sb_fragment.specs.Shapes.{are_numbers, parts_of, terms_of_pairs}
 use Rattle.sb_atoms.specs.Shapes.{have_declared_pairs, word_literals, words_literal}
-use Rattle.sb_fragment.proofs.CallerLemmas.{ok_map, items_some, numbers_compared, terms_compared}
+use Rattle.sb_fragment.proofs.CallerLemmas.{items_some, numbers_compared, terms_compared}
 use Rattle.sb_atoms.proofs.Growth.{moves_both, moves_given, moves_gates}
 use Rattle.sb_atoms.proofs.Connected.{gives_like}
 use Rattle.sb_atoms.proofs.Found.{declared_compared, ready_moved, then_made, then_none, word_stays}
@@ -96,7 +97,7 @@ returns-in-Some-clause-ok c =
     let e = ap (terms_of_pairs ts) (c.deref.ensures.value ∙ c.in_ok-pairs.ensures)
     ∙ terms_compared ts c.args.distinct c.arguments_of.result.now
     ∙ ap (compared c.args.distinct) c.arguments_of.ensures.terms in
-    ok_map (λ found. Gives is_below c.args.adds c.conjunction.new.self
+    ok_more (λ found. Gives is_below c.args.adds c.conjunction.new.self
     (λ atoms. conjunction atoms c.in-Some.literals.items) found)
     (λ found. Finds is_below c.args.adds c.word_literals.new.arena c.conjunction.new.self
     (λ atoms. words_literal atoms c.args.distinct (parts_of t)) found) c.conjunction.result

@@ -1,5 +1,6 @@
 use Rattle.sb_clauses.specs.WatchLists.{lists_from, AreListsOf}
-use Rattle.sb_clauses.proofs.LinkLemmas.{either_way, on_ok}
+use Rattle.sb_facts.proofs.CallerLemmas.{ok_then}
+use Rattle.sb_clauses.proofs.LinkLemmas.{either_way}
 use Rattle.sb_clauses.proofs.ListLemmas.{keeps, gives, more_lists, nodes_shown}
 use Rattle.sb_clauses.proofs.watch_lists.WatchLists.add_lists.Goals as goal
 
@@ -14,6 +15,6 @@ invariant_of-self c = (
 
 pub returns-clause-ok : goal.returns-clause-ok
 returns-clause-ok c =
-    on_ok c.grow.result _ _
+    ok_then c.grow.result _ _
     (λ grown. rw grown (gives _ _ _ _ (more_lists c.self.inside.heads c.self.inside.next c.args.self.now c.self.view_is c.self.invariant.0 c.args.lists)
     (nodes_shown c.self.inside.heads c.self.inside.next c.args.self.now c.self.view_is c.self.invariant.0))) c.grow.ensures.ok

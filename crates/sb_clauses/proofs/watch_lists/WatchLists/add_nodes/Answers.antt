@@ -1,7 +1,8 @@
 use Rattle.std.proofs.Common.{◌≡◌, ℕ, ◌-◌, ◌++◌, ◌^◌, ◌<◌, length, max, replicate, Option, None, arith}
 use Rattle.std.proofs.lemmas.List.{length-append, length-replicate}
+use Rattle.sb_facts.proofs.CallerLemmas.{ok_then}
 use Rattle.sb_clauses.specs.WatchLists.{lists_from, AreListsOf}
-use Rattle.sb_clauses.proofs.LinkLemmas.{either_way, on_ok}
+use Rattle.sb_clauses.proofs.LinkLemmas.{either_way}
 use Rattle.sb_clauses.proofs.ListLemmas.{keeps, gives, more_nodes, nodes_shown}
 use Rattle.sb_clauses.proofs.watch_lists.WatchLists.add_nodes.Goals as goal
 
@@ -31,5 +32,5 @@ returns-clause-ok c =
       length-replicate {A = Option ℕ} (c.args.nodes - length c.self.inside.next) None,
       nodes_shown c.self.inside.heads c.self.inside.next c.args.self.now c.self.view_is c.self.invariant.0,
     ) in
-    on_ok c.grow.result _ _
+    ok_then c.grow.result _ _
     (λ grown. rw grown (gives _ _ _ _ (more_nodes c.self.inside.heads c.self.inside.next c.args.self.now c.self.view_is c.self.invariant.0 c.args.nodes) len)) c.grow.ensures.ok

@@ -1,4 +1,5 @@
 use Rattle.std.proofs.Common.{List, Some, option_map, sym, ap, ap₂, subst, ◌∙◌}
+use Rattle.sb_facts.proofs.CallerLemmas.{told_ok}
 use Rattle.sb_lit.specs.declared.clause.Lit.{Lit}
 use Rattle.sb_lit.specs.Kept.{Kept, kept_at}
 use Rattle.sb_script.specs.Steps.{line}
@@ -9,7 +10,7 @@ use Rattle.sb_refute.specs.Backing.{Backing, empty_at}
 use Rattle.sb_refute.specs.Units.{LeadsNowhere}
 use Rattle.sb_refute.proofs.Clauses.{kept-last}
 use Rattle.sb_refute.proofs.Holding.{none-bare}
-use Rattle.sb_refute.proofs.Memberships.{learned-put, on-ok}
+use Rattle.sb_refute.proofs.Memberships.{learned-put}
 use Rattle.sb_refute.proofs.evidence.Evidence.learn.Goals as goal
 
 pub returns-clause-puts : goal.returns-clause-puts
@@ -26,8 +27,8 @@ returns-clause-puts g c =
     (subst (λ n. LeadsNowhere before.clauses ids n) (sym c.in_ok-empty.ensures.level)
     (c.in_ok-hints.ensures.leads rs memo before b))
     (none-bare e.atoms e.kept e.asserted e.refuted e.gates c.stands.ensures c.requires.refuted)
-    c.in_ok-hints.ensures.small (on-ok c.tick.result _ no c.tick.ensures.room)
-    (on-ok c.tick.result _ no c.tick.ensures.ok) c.in_ok-empty.ensures.ok b counts
+    c.in_ok-hints.ensures.small (told_ok c.tick.result _ no c.tick.ensures.room)
+    (told_ok c.tick.result _ no c.tick.ensures.ok) c.in_ok-empty.ensures.ok b counts
     (c.in_ok-put.ensures.ok
     ∙ ap (λ (ls : List Lit). with_bytes (line (text_of (learned_line ls ids))) told) c.new.ensures.items)
 

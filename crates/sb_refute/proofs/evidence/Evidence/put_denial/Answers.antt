@@ -1,10 +1,11 @@
 use Rattle.std.proofs.Common.{◌≡◌, ◌++◌, ◌∷◌, [], List, Some, length, sym, ap, ◌∙◌}
+use Rattle.sb_facts.proofs.CallerLemmas.{told_ok}
 use Rattle.sb_lit.specs.declared.clause.Lit.{Lit}
 use Rattle.sb_clauses.specs.Propagation.{are_reserved}
 use Rattle.sb_refute.specs.Backing.{Backing}
 use Rattle.sb_refute.specs.Units.{numbered, denials_of}
 use Rattle.sb_refute.proofs.ClauseLines.{some-denials}
-use Rattle.sb_refute.proofs.Memberships.{denied-put, new-part, on-ok}
+use Rattle.sb_refute.proofs.Memberships.{denied-put, new-part}
 use Rattle.sb_refute.proofs.evidence.Evidence.put_denial.Goals as goal
 
 pub add-requires-clause-known : goal.add-requires-clause-known
@@ -29,7 +30,7 @@ returns-clause-puts g c =
     denied-put c.rule_lines_are_exact.ensures asked before rs memo e c.add.new.self us c.args.literals.items
     c.args.budget.now c.tick.new.self told
     (g.L.Tape.told c.put.new.self) h c.requires.some c.requires.rise c.requires.literals c.requires.new
-    (on-ok c.tick.result _ no c.tick.ensures.room) (on-ok c.tick.result _ no c.tick.ensures.ok) c.requires.small
+    (told_ok c.tick.result _ no c.tick.ensures.room) (told_ok c.tick.result _ no c.tick.ensures.ok) c.requires.small
     (adds
     ∙ ap (λ (ls : List Lit). record e { kept = e.kept ++ Some (record { literals = ls; level = 0 }) ∷ [] })
     c.deref.ensures.value)

@@ -1,7 +1,7 @@
 use Rattle.std.proofs.Common.{◌≡◌, ◌≢◌, ◌<◌, ℕ, length, None, IfSome, Option, option_map, sym, ap, subst, ◌∙◌}
 use Rattle.std.proofs.lemmas.Result.{on_ok_weaker}
+use Rattle.sb_facts.proofs.CallerLemmas.{ok_more}
 use Rattle.sb_term.specs.Numbered.{term_at}
-use Rattle.sb_fragment.proofs.CallerLemmas.{ok_map}
 use Rattle.sb_atoms.specs.Numbered.{atoms_in}
 use Rattle.sb_atoms.specs.Translated.{brought_translation, HasNoLiteral}
 use Rattle.sb_refute.specs.declared.evidence.Asserted.{Asserted}
@@ -74,7 +74,7 @@ pub returns-clause-literal : goal.returns-clause-literal
 returns-clause-literal g c =
     let t = term_at c.args.table.now c.args.term in
     let more = c.translate.new.arena in
-    ok_map (λ (found : Option Asserted). option_map (λ (a : Asserted). a.literal) found ≡ c.in_ok-found.found)
+    ok_more (λ (found : Option Asserted). option_map (λ (a : Asserted). a.literal) found ≡ c.in_ok-found.found)
     (λ (found : Option Asserted). option_map (λ (a : Asserted). a.literal) found
     ≡ brought_translation (atoms_in more c.stated.new.self.atoms) t) c.stated.result
     (λ found h. h ∙ c.in_ok-found.ensures.ok
@@ -83,7 +83,7 @@ returns-clause-literal g c =
 
 pub returns-clause-none : goal.returns-clause-none
 returns-clause-none g c =
-    ok_map (λ (found : Option Asserted). option_map (λ (a : Asserted). a.literal) found ≡ c.in_ok-found.found)
+    ok_more (λ (found : Option Asserted). option_map (λ (a : Asserted). a.literal) found ≡ c.in_ok-found.found)
     (λ (found : Option Asserted). found ≡ None → HasNoLiteral (term_at c.args.table.now c.args.term)) c.stated.result
     (λ found h none. c.in_ok-found.ensures.none (sym h ∙ ap (option_map (λ (a : Asserted). a.literal)) none))
     c.stated.ensures.literal
