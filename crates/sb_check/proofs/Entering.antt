@@ -16,7 +16,7 @@ use Rattle.sb_problem.specs.Laws.{NormalsStay}
 use Rattle.sb_fragment.proofs.CallerLemmas.{measures_kept}
 use Rattle.sb_rules.specs.Kept.{IsOver, kept_in, left_in}
 use Rattle.sb_models.specs.Knowing.{Knows}
-use Rattle.sb_models.specs.Laws.{ModelsStay, AreTakenBack}
+use Rattle.sb_models.specs.Laws.{ModelsStay, LeavesKnown}
 use Rattle.sb_stack.specs.declared.stack.Step.{Step}
 use Rattle.sb_stack.specs.declared.stack.Step.TheVariants as code
 use Rattle.sb_stack.specs.Stacked.{Stacked, state_of, IsLonger}
@@ -143,7 +143,7 @@ pub stands_left : (level : Option ℕ) (j k : Judge) (stack : Stacked) → k.sta
     → IsLonger stack.assertions j.stack.assertions → NormalsStay → k.begun ≡ j.begun
     → ((others : AllKept) → kept_in k.kept others ≡ left_in level (kept_in j.kept others))
     → ((ts : List Term) → IsOver ts j.kept → IsOver ts k.kept)
-    → AreTakenBack (length stack.assertions) j.models k.models → IsStanding k
+    → LeavesKnown (length stack.assertions) j.models k.models → IsStanding k
 stands_left level j k stack is h simple e shorter normals begun kept over models = record {
   simple = ap (λ (s : Stacked). is_simple_state (state_of s)) is ∙ simple;
   over = subst (λ (s : Stacked). IsOver s.table k.kept) (sym is) (over stack.table (record {

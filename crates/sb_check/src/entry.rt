@@ -8,7 +8,7 @@ ghost use Rattle.sb_rulebook.specs.Accepted.{events_of};
 ghost use Rattle.sb_stack.specs.Stacked.{state_of};
 ghost use Rattle.sb_stack.specs.Steps.{IsEntry, entry_of};
 ghost use Rattle.sb_rules.specs.Kept.{IsOver, kept_in, left_in};
-ghost use Rattle.sb_models.specs.Laws.{AreTakenBack};
+ghost use Rattle.sb_models.specs.Laws.{LeavesKnown};
 ghost use Rattle.sb_check.specs.Standing.{IsStanding, IsSame};
 ghost use Rattle.sb_check.specs.Entering.{Enters, Keeps};
 
@@ -69,9 +69,9 @@ impl Judge {
         ensures kept { (others : AllKept)
             → kept_in self.new.kept others ≡ left_in level (kept_in self.old.kept others) }
         ensures over { (ts : List Term) → IsOver ts self.old.kept → IsOver ts self.new.kept }
-        ensures models { AreTakenBack (length self.old.stack.assertions) self.old.models self.new.models }
+        ensures models { LeavesKnown (length self.old.stack.assertions) self.old.models self.new.models }
     {
         self.kept.leave(level);
-        self.models.take_back(self.stack.assertions().len());
+        self.models.leave(self.stack.assertions().len());
     }
 }

@@ -140,7 +140,7 @@ impl Clauses {
 
     /// Drops the clauses above the level; their numbers are not given again. Takes no memory; linear in the
     /// clauses that go, each with a logarithm of the number of clauses above level 0.
-    pub fn drop_above(&mut self, level: u64)
+    pub fn leave_above(&mut self, level: u64)
         ensures { self.new ≡ kept_up_to level self.old }
     {
         drop_records_above(
@@ -153,7 +153,7 @@ impl Clauses {
 
     /// Drops all clauses, those of level 0 too; their numbers are not given again. Takes no memory; linear in the numbers
     /// that were given since all clauses were dropped before.
-    pub fn drop_all(&mut self)
+    pub fn leave_all(&mut self)
         ensures { self.new ≡ all_dropped self.old }
     {
         drop_records_from(&mut self.records, &mut self.occurrences, self.emptied);

@@ -6,7 +6,7 @@ ghost use Rattle.sb_trail.specs.Assignments.{held, value_of, current_level, up_t
 ghost use Rattle.sb_clauses.specs.Propagation.{all_dropped, has_room_for, GrowsBy, AnswersOf};
 
 use crate::clauses::Clauses;
-use crate::marks::{Queue, end_of, end_of_marks, forget_above, forget_from};
+use crate::marks::{Queue, backtrack_marks, end_of, end_of_marks, forget_from};
 use crate::propagated::Propagated;
 use crate::settle::settle_on;
 use crate::spare::{Spares, grow_spares};
@@ -116,19 +116,19 @@ impl Engine {
 
     /// Drops the clauses above the level; their numbers are not given again. Takes no memory; linear in the
     /// clauses that go, each with a logarithm of the number of clauses above level 0.
-    pub fn drop_above(&mut self, level: u64)
+    pub fn leave_above(&mut self, level: u64)
         ensures { self.new ≡ record self.old { kept = kept_up_to level self.old.kept } }
     {
         self.spares.gone = true;
-        self.clauses.drop_above(level);
+        self.clauses.leave_above(level);
     }
 
     /// Drops all clauses, those of level 0 too; their numbers are not given again. Takes no memory; linear in the numbers
     /// that were given since all clauses were dropped before.
-    pub fn drop_all(&mut self)
+    pub fn leave_all(&mut self)
         ensures { self.new ≡ record self.old { kept = all_dropped self.old.kept } }
     {
-        self.clauses.drop_all();
+        self.clauses.leave_all();
     }
 
     /// Opens the next level of the trail with a literal that no clause forces. Takes no memory; constant time.
@@ -189,8 +189,8 @@ impl Engine {
             return;
         }
         self.trail.backtrack(level);
-        forget_above(&mut self.queue.marks, level);
-        forget_above(&mut self.queue.marks, self.trail.current_level());
+        backtrack_marks(&mut self.queue.marks, level);
+        backtrack_marks(&mut self.queue.marks, self.trail.current_level());
         self.queue.head = end_of_marks(&self.queue.marks, self.trail.literals());
     }
 

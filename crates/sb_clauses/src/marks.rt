@@ -19,7 +19,7 @@ pub struct Queue {
 }
 
 /// Forgets the marks above the level. Linear in what is forgotten.
-pub fn forget_above(marks: &mut Vec<usize>, level: usize)
+pub fn backtrack_marks(marks: &mut Vec<usize>, level: usize)
     requires { AreAscending marks.old.items }
     ensures ascending { AreAscending marks.new.items }
     ensures front { IsFront marks.old.items marks.new.items }
@@ -37,7 +37,7 @@ pub fn forget_from(marks: &mut Vec<usize>, level: usize)
     ensures below { AreBelow marks.new.items level }
 {
     match level.checked_sub(1) {
-        Some(last) => forget_above(marks, last),
+        Some(last) => backtrack_marks(marks, last),
         None => marks.clear(),
     }
 }

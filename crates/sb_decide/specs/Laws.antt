@@ -20,8 +20,8 @@ KnowsStays = (kept : Decider) (old new : Stacked) → table.Extends old.table ne
     Knows kept old → Knows kept new
 
 -- as they do, but that assertions are taken back from the end, and so many stay
-abbrev pub KnowsBack : ℕ → Decider → Decider → Type 0
-KnowsBack count kept kept' = (old new : Stacked) → table.Extends old.table new.table
+abbrev pub LeavesKnown : ℕ → Decider → Decider → Type 0
+LeavesKnown count kept kept' = (old new : Stacked) → table.Extends old.table new.table
     → IsLonger new.assertions old.assertions → count ≤ length new.assertions → new.words ≡ old.words
     → length old.scope.sorts ≤ length new.scope.sorts → Knows kept old → Knows kept' new
 

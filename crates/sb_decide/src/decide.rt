@@ -26,7 +26,7 @@ ghost use Rattle.sb_term.specs.Serials.{all_below};
 ghost use Rattle.sb_decide.specs.Conjoined.{conjoined_at, OthersSettled, AreAllChanged, HasRoom, IsChangedAt, without_last};
 ghost use Rattle.sb_decide.specs.Deciding.{AreFilled};
 ghost use Rattle.sb_decide.specs.Knowing.{IsTaken, Knows, IsDecision, IsLeftOpen, places_of};
-ghost use Rattle.sb_decide.specs.Laws.{KnowsBack};
+ghost use Rattle.sb_decide.specs.Laws.{LeavesKnown};
 ghost use Rattle.sb_decide.specs.Members.{AreInside, AreRooted, IsEmptyAt, IsRootOf, places_in, words_in};
 ghost use Rattle.sb_decide.specs.Places.{HasNoWordAt, IsPlaceOf};
 ghost use Rattle.sb_decide.specs.Taking.{StayKept, HasAll, AreWords, IsTakingOver, other_dead};
@@ -223,8 +223,8 @@ impl Decider {
     /// Takes assertions back from the end: the first `count` stay, and what is known of them, as what is known of terms
     /// and regexes does. Linear in the assertions that were taken in and are taken back. `AllocError` only for want of
     /// memory.
-    pub fn take_back(&mut self, count: usize) -> Result<(), AllocError>
-        ensures knows { OnOk result (KnowsBack count self.old self.new) }
+    pub fn leave(&mut self, count: usize) -> Result<(), AllocError>
+        ensures knows { OnOk result (LeavesKnown count self.old self.new) }
         ensures arena { self.new.arena ≡ self.old.arena }
         ensures graph { self.new.graph ≡ self.old.graph }
         ensures normals { self.new.normals ≡ self.old.normals }

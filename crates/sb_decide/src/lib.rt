@@ -7,7 +7,7 @@
 //! [`Decider::decide`] first: where all assertions are memberships it has the verdict, and where one is none that is
 //! decided the check is outside. Else the check is left open, for a search over Boolean structure, whose verdict may be
 //! kept as one that was found here. After an `Unsat` the layer above asks for the constant that has no word, and for
-//! the places of its memberships among the live assertions. Where assertions go it says so by [`Decider::take_back`].
+//! the places of its memberships among the live assertions. Where assertions go it says so by [`Decider::leave`].
 #![tactic(auto)]
 
 mod conjuncts;

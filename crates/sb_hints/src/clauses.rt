@@ -159,7 +159,7 @@ impl KeptClauses {
 
     /// Drops the clauses above the level; their numbers are not given again. Takes no memory; linear in the number of
     /// clauses that go, each with a logarithm of the number of those that were kept.
-    pub fn drop_above(&mut self, level: u64)
+    pub fn leave_above(&mut self, level: u64)
         ensures { self.new ≡ kept_up_to level self.old }
     {
         drop_left(
@@ -173,7 +173,7 @@ impl KeptClauses {
 
     /// Drops each clause; their numbers are not given again. Takes no memory; linear in the number of clauses that were
     /// kept, each with a logarithm of it, and in the literals that were added since the last time.
-    pub fn drop_all(&mut self)
+    pub fn leave_all(&mut self)
         ensures { self.new ≡ map (λ clause. None) self.old }
     {
         drop_left(

@@ -11,6 +11,6 @@ ModelsStay = (m : Models) (old new : Stacked) → Extends old.table new.table �
     → Knows m old → Knows m new
 
 -- terms keep their numbers, and so many assertions, from the first on, their places
-abbrev pub AreTakenBack : ℕ → Models → Models → Type 0
-AreTakenBack count m m' = (old new : Stacked) → Extends old.table new.table → IsLonger new.assertions old.assertions
+abbrev pub LeavesKnown : ℕ → Models → Models → Type 0
+LeavesKnown count m m' = (old new : Stacked) → Extends old.table new.table → IsLonger new.assertions old.assertions
     → length new.assertions ≡ count → Knows m old → Knows m' new

@@ -16,7 +16,7 @@ ghost use Rattle.sb_stack.specs.Speaking.{speaks_of};
 ghost use Rattle.sb_stack.specs.Stacked.{Stacked, state_of, live_in};
 ghost use Rattle.sb_models.specs.Knowing.{Knows, AreTrueBy, IsTruthBy, assertions_of};
 ghost use Rattle.sb_models.specs.Tried.{are_kinds, are_tried, marks_of, MayPass};
-ghost use Rattle.sb_models.specs.Laws.{AreTakenBack};
+ghost use Rattle.sb_models.specs.Laws.{LeavesKnown};
 
 use crate::changes::change;
 use crate::kinds::are_kinds;
@@ -64,8 +64,8 @@ impl Models {
 
     /// Takes back what is known to so many assertions, those that are still there where levels were left. Takes no
     /// memory; constant time.
-    pub fn take_back(&mut self, count: usize)
-        ensures { AreTakenBack count self.old self.new }
+    pub fn leave(&mut self, count: usize)
+        ensures { LeavesKnown count self.old self.new }
     {
         self.inside = self.inside.min(count);
         self.held = self.held.min(count);

@@ -7,7 +7,7 @@ use Rattle.sb_meaning.specs.Terms.{Term}
 use Rattle.sb_rulebook.specs.Kept.{dropped_above, all_dropped}
 use Rattle.sb_rulebook.specs.Judging.{Progress, met}
 use Rattle.sb_refute.specs.declared.evidence.Asserted.{Asserted}
-use Rattle.sb_refute.specs.Backing.{Backing, Backs, asserted_at, AreUpTo, retracted, cleared}
+use Rattle.sb_refute.specs.Backing.{Backing, Backs, asserted_at, AreUpTo, left_above, left_all}
 use Rattle.sb_prover.specs.Proving.{Proving, IsAbreast, HaveLevels, AreLow, level_at, leaving}
 
 pub none-there : (q : ℕ) (a : Asserted) → asserted_at [] q ≡ Some a → ⊥
@@ -34,14 +34,14 @@ pub levels-up-to : (live : List (Option Term × ℕ)) (level count : ℕ) (e : B
 levels-up-to live level count e h low place a before there =
     low place a.level (front-level live count place before ∙ h place a there)
 
-pub levels-retracted : (live : List (Option Term × ℕ)) (level count : ℕ) (e : Backing) → HaveLevels live e
-    → HaveLevels (take count live) (retracted level count e)
-levels-retracted live level count e h place a there =
+pub levels-left_above : (live : List (Option Term × ℕ)) (level count : ℕ) (e : Backing) → HaveLevels live e
+    → HaveLevels (take count live) (left_above level count e)
+levels-left_above live level count e h place a there =
     let at = front-place e.asserted count place a there in
     front-level live count place at.0 ∙ h place a at.1
 
-pub levels-cleared : (live : List (Option Term × ℕ)) (e : Backing) → HaveLevels live (cleared e)
-levels-cleared live e place a there = absurd (none-there place a there)
+pub levels-left_all : (live : List (Option Term × ℕ)) (e : Backing) → HaveLevels live (left_all e)
+levels-left_all live e place a there = absurd (none-there place a there)
 
 -- The proof has come so far.
 

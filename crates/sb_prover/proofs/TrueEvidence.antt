@@ -57,9 +57,9 @@ true-above dropped rs memo before now level e f goes t backs = record {
   counted = t.counted;
 }
 
-pub true-cleared : AllDroppedIsSound → (rs : List Regex) (memo : Memo) (before now : Asked) (e f : Backing)
+pub true-left_all : AllDroppedIsSound → (rs : List Regex) (memo : Memo) (before now : Asked) (e f : Backing)
     → (t : IsTrue before rs memo e) → Backs rs memo f (all_dropped t.kept) → IsTrue now rs memo f
-true-cleared dropped rs memo before now e f t backs = record {
+true-left_all dropped rs memo before now e f t backs = record {
   kept = all_dropped t.kept;
   backs = backs;
   sound = dropped before now t.kept t.sound;

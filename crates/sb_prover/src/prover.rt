@@ -137,8 +137,8 @@ impl Prover {
         dropped_stays_sound();
         all_dropped_is_sound();
         match level {
-            Some(level) => self.evidence.retract(level, count),
-            None => self.evidence.clear(),
+            Some(level) => self.evidence.leave_above(level, count),
+            None => self.evidence.leave_all(),
         }
     }
 

@@ -14,7 +14,7 @@ use Rattle.sb_trace.specs.Tracking.{Traced, Tracks}
 use Rattle.sb_trace.proofs.CallerLemmas.{tracks_grow}
 use Rattle.sb_refute.specs.declared.evidence.Asserted.{Asserted}
 use Rattle.sb_refute.specs.declared.evidence.EmptyClause.{EmptyClause}
-use Rattle.sb_refute.specs.Backing.{Backing, Backs, asserted_at, unit_at, empty_at, AreUpTo, retracted, cleared}
+use Rattle.sb_refute.specs.Backing.{Backing, Backs, asserted_at, unit_at, empty_at, AreUpTo, left_above, left_all}
 use Rattle.sb_refute.specs.Lines.{placed}
 use Rattle.sb_refute.proofs.Clauses.{kept-stays, kept-last, stays}
 use Rattle.sb_refute.proofs.ClauseLines.{pushed}
@@ -152,10 +152,10 @@ tracks-dropped rs memo t kept clauses h = record {
   targets = h.targets;
 }
 
-pub backs-retracted : (rs : List Regex) (memo : Memo) (e : Backing) (kept : AllKept) (level count : ℕ)
+pub backs-left_above : (rs : List Regex) (memo : Memo) (e : Backing) (kept : AllKept) (level count : ℕ)
     → AreUpTo level count e.asserted → Backs rs memo e kept
-    → Backs rs memo (retracted level count e) (dropped_above level kept)
-backs-retracted rs memo e kept level count up_to b = record {
+    → Backs rs memo (left_above level count e) (dropped_above level kept)
+backs-left_above rs memo e kept level count up_to b = record {
   tracks = tracks-dropped rs memo e.trace kept (kept_up_to level kept.clauses) b.tracks;
   atoms = b.atoms;
   clauses = ap (kept_up_to level) b.clauses;
@@ -165,9 +165,9 @@ backs-retracted rs memo e kept level count up_to b = record {
       (up_to place a there.0 there.1);
 }
 
-pub backs-cleared : (rs : List Regex) (memo : Memo) (e : Backing) (kept : AllKept) → Backs rs memo e kept
-    → Backs rs memo (cleared e) (all_dropped kept)
-backs-cleared rs memo e kept b = record {
+pub backs-left_all : (rs : List Regex) (memo : Memo) (e : Backing) (kept : AllKept) → Backs rs memo e kept
+    → Backs rs memo (left_all e) (all_dropped kept)
+backs-left_all rs memo e kept b = record {
   tracks = tracks-dropped rs memo e.trace kept (map (λ clause. None) kept.clauses) b.tracks;
   atoms = b.atoms;
   clauses = ap (map (λ clause. None)) b.clauses;

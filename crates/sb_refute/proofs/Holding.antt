@@ -253,10 +253,10 @@ room-none : (n : ℕ) (kept : Kept) → has_room_for n (map (λ clause. None) ke
 room-none n [] = refl
 room-none n (x ∷ xs) = room-none n xs
 
-pub stand-cleared : (atoms : List (AtomOver ℕ)) (kept new : Kept) (asserted left : List (Option Asserted))
+pub stand-left_all : (atoms : List (AtomOver ℕ)) (kept new : Kept) (asserted left : List (Option Asserted))
     (r : Option EmptyClause) (gates : ℕ) → new ≡ map (λ clause. None) kept → left ≡ []
     → Stand atoms kept asserted r gates → Stand atoms new left None 0
-stand-cleared atoms kept new asserted left r gates is none h =
+stand-left_all atoms kept new asserted left r gates is none h =
     subst (λ k. Stand atoms k left None 0) (sym is)
     (subst (λ xs. Stand atoms (map (λ clause. None) kept) xs None 0) (sym none)
     (record {

@@ -128,13 +128,13 @@ refuted_up_to level None = None
 refuted_up_to level (Some empty) = if nat_lt level empty.level then None else Some empty
 
 -- the clauses up to the level stay, and the assertions before the place; the empty clause unless it is above the level
-abbrev pub retracted : ℕ → ℕ → Backing → Backing
-retracted level count e = record e {
+abbrev pub left_above : ℕ → ℕ → Backing → Backing
+left_above level count e = record e {
   kept = kept_up_to level e.kept;
   asserted = take count e.asserted;
   refuted = refuted_up_to level e.refuted;
 }
 
 -- no clause stays
-abbrev pub cleared : Backing → Backing
-cleared e = record e { kept = map (λ clause. None) e.kept; asserted = []; refuted = None; gates = 0 }
+abbrev pub left_all : Backing → Backing
+left_all e = record e { kept = map (λ clause. None) e.kept; asserted = []; refuted = None; gates = 0 }

@@ -16,7 +16,7 @@ ghost use Rattle.sb_atoms.specs.Numbered.{atom_in, atoms_in, HaveRegexesBelow, E
 ghost use Rattle.sb_atoms.specs.Translated.{member_translation, brought_translation, is_member, HasNoMemberLiteral, HasNoLiteral};
 ghost use Rattle.sb_trace.specs.Putting.{CountsTapeFault};
 ghost use Rattle.sb_trace.specs.Tracking.{StaysNumbered};
-ghost use Rattle.sb_refute.specs.Backing.{backing_of, IsLowestEmpty, HasGates, Backs, EvidencesUncounted, IsLive, IsStatement, KeepsAsserted, AreUpTo, asserted_at, unit_at, empty_at, retracted, refuted_up_to, cleared};
+ghost use Rattle.sb_refute.specs.Backing.{backing_of, IsLowestEmpty, HasGates, Backs, EvidencesUncounted, IsLive, IsStatement, KeepsAsserted, AreUpTo, asserted_at, unit_at, empty_at, left_above, refuted_up_to, left_all};
 ghost use Rattle.sb_refute.specs.Lines.{AreDue, IsAssertion, IsStanding, placed, IsLowestBefore, IsEmptyOf, lower_of};
 ghost use Rattle.sb_refute.specs.Standing.{Stand};
 
@@ -190,13 +190,13 @@ impl Evidence {
     /// Forgets what a reader drops where the levels above this one are left, and so many assertions stay: the clauses
     /// above the level, and of which assertions there are clauses at the other places. Takes no memory, and time linear
     /// in the places that are left, and in the clauses that go with a logarithm of those above level 0.
-    pub fn retract(&mut self, level: u64, count: usize)
-        ensures retracted { self.new ≡ retracted level count self.old }
+    pub fn leave_above(&mut self, level: u64, count: usize)
+        ensures left_above { self.new ≡ left_above level count self.old }
         ensures backs { (rs : List Regex) (memo : Memo) (kept : AllKept) → Backs rs memo self.old kept
             → AreUpTo level count self.old.asserted → Backs rs memo self.new (dropped_above level kept) }
     {
         let empty = self.empty_up_to(level);
-        self.engine.drop_above(level);
+        self.engine.leave_above(level);
         self.asserted.truncate(count);
         self.refuted = empty;
     }
@@ -216,12 +216,12 @@ impl Evidence {
     /// Forgets each clause, as a reader does where all assertions go. Regexes and atoms stay, and so do the numbers of
     /// the clauses. Takes no memory; linear in the numbers of clauses that were given since this was done before, and in
     /// the places.
-    pub fn clear(&mut self)
-        ensures cleared { self.new ≡ cleared self.old }
+    pub fn leave_all(&mut self)
+        ensures left_all { self.new ≡ left_all self.old }
         ensures backs { (rs : List Regex) (memo : Memo) (kept : AllKept) → Backs rs memo self.old kept
             → Backs rs memo self.new (all_dropped kept) }
     {
-        self.engine.drop_all();
+        self.engine.leave_all();
         self.asserted.clear();
         self.refuted = None;
         self.gates = 0;

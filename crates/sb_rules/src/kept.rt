@@ -66,8 +66,8 @@ impl Kept {
         ensures over { (ts : List Term) → IsOver ts self.old → IsOver ts self.new }
     {
         match level {
-            Some(level) => self.clauses.drop_above(level as u64),
-            None => self.clauses.drop_all(),
+            Some(level) => self.clauses.leave_above(level as u64),
+            None => self.clauses.leave_all(),
         }
     }
 }

@@ -72,7 +72,7 @@ impl Choices {
     }
 
     /// The levels above this one are taken back: their atoms wait again. Takes no memory.
-    pub fn take_back(&mut self, entries: &[Entry], level: usize) {
+    pub fn backtrack(&mut self, entries: &[Entry], level: usize) {
         for entry in entries.iter().rev() {
             if entry.level() <= level {
                 return;

@@ -19,7 +19,7 @@ ghost use Rattle.sb_search.specs.declared.found.Found.TheVariants.{Sat};
 ghost use Rattle.sb_search.specs.declared.turn.Turn.TheVariants.{Ends};
 
 use crate::found::Found;
-use crate::lemma::{go_back, keep};
+use crate::lemma::{backtrack, keep};
 use crate::lines::{put_both, put_learned};
 use crate::stage::Stage;
 use crate::theory::Theory;
@@ -117,7 +117,7 @@ fn take_lesson<T: Theory>(
     let trail = engine.trail();
     let _before = trail.literals();
     let level = stage.restarts.level(lesson.backjump_level);
-    go_back(theory, engine, stage, level);
+    backtrack(theory, engine, stage, level);
     keep(engine, &lesson.clause, lesson.level)?;
     Ok(())
 }

@@ -46,13 +46,13 @@ pub(crate) fn take_lemma<T: Theory>(
     let trail = engine.trail();
     let _before = trail.literals();
     let level = second_level(trail, clause.literals());
-    go_back(theory, engine, stage, level);
+    backtrack(theory, engine, stage, level);
     keep(engine, clause, 0)?;
     Ok(())
 }
 
 /// Takes the levels above this one back.
-pub(crate) fn go_back<T: Theory>(
+pub(crate) fn backtrack<T: Theory>(
     theory: &mut T,
     engine: &mut Engine,
     stage: &mut Stage,
@@ -70,9 +70,9 @@ pub(crate) fn go_back<T: Theory>(
     ensures falls { (kept : Kept) (entries : List Assigned)
         → T.measure theory.new kept entries ≤ T.measure theory.old kept entries }
 {
-    stage.choices.take_back(engine.trail().literals(), level);
+    stage.choices.backtrack(engine.trail().literals(), level);
     engine.backtrack(level);
-    theory.undo(level);
+    theory.backtrack(level);
     stage.next = 0;
     stage.at = 0;
 }

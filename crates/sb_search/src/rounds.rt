@@ -14,7 +14,7 @@ ghost use Rattle.sb_search.specs.declared.found.Found.TheVariants.{Sat, Unsat};
 
 use crate::choices::Choices;
 use crate::found::Found;
-use crate::lemma::{go_back, make_place, make_room};
+use crate::lemma::{backtrack, make_place, make_room};
 use crate::restarts::Restarts;
 use crate::stage::Stage;
 use crate::theory::Theory;
@@ -111,7 +111,7 @@ fn begin<T: Theory>(
 {
     let trail = engine.trail();
     let _before = trail.literals();
-    go_back(theory, engine, stage, 0);
+    backtrack(theory, engine, stage, 0);
     make_room(engine)?;
     place_wanted(theory, engine, &mut stage.choices)?;
     place_all(engine, assumptions)?;

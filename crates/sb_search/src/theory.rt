@@ -91,7 +91,7 @@ pub trait Theory {
         ensures counts { CountsFaults result (L.Tape.faults tape.old) (L.Tape.faults tape.new) };
 
     /// The levels above this one are taken back. Takes no memory.
-    fn undo(&mut self, level: usize)
+    fn backtrack(&mut self, level: usize)
         ensures stands { (entries : List Assigned) → stands self.old entries → stands self.new (up_to level entries) }
         ensures wanted { wanted self.new ≡ wanted self.old }
         ensures passes { passes self.new ≡ passes self.old }

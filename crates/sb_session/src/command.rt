@@ -12,7 +12,7 @@ ghost use Rattle.sb_rulebook.specs.Judging.{Progress, beginning};
 ghost use Rattle.sb_stack.specs.Stacked.{state_of, live_constants};
 ghost use Rattle.sb_stack.specs.Steps.{IsEntry, entry_of, verdict_in, found};
 ghost use Rattle.sb_decide.specs.Knowing.{Knows, IsDecision, IsLeftOpen};
-ghost use Rattle.sb_decide.specs.Laws.{KnowsBack};
+ghost use Rattle.sb_decide.specs.Laws.{LeavesKnown};
 ghost use Rattle.sb_session.specs.Commanding.{SessionState, Goes, Fails, AnswersEntry, CutOrNot, CutOf, IsTracked, proof_of, is_proved, is_exited, went_of, CountsSessionFault};
 ghost use Rattle.sb_sound.specs.ScriptLaws.{IsFit};
 ghost use Rattle.sb_session.specs.Checking.{session_of, IsKnown, HasRegexes, HasLevels, HasTrue, LeavesProof, ProvesCheck, CutProof, AnswersCheck, CutCheck};
@@ -276,13 +276,13 @@ fn leave(
     prover: &mut Prover,
     level: Option<usize>,
 ) -> Result<(), AllocError>
-    ensures knows { OnOk result (KnowsBack (length stack.now.assertions) decider.old decider.new) }
+    ensures knows { OnOk result (LeavesKnown (length stack.now.assertions) decider.old decider.new) }
     ensures arena { decider.new.arena ≡ decider.old.arena }
     ensures graph { decider.new.graph ≡ decider.old.graph }
     ensures proof { OnOk result (LeavesProof level (length stack.now.assertions) prover.old prover.new) }
 {
     let count = stack.assertions().len();
-    decider.take_back(count)?;
+    decider.leave(count)?;
     prover.leave(level_of(level), count);
     Ok(())
 }

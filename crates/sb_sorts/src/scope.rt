@@ -139,7 +139,7 @@ impl Scope {
     }
 
     /// Keeps the first names, so many, and takes the others back. Serials are not given again. Takes no memory.
-    pub fn retract(&mut self, count: usize)
+    pub fn leave(&mut self, count: usize)
         ensures { self.new ≡ record self.old { names = take count self.old.names } }
     {
         self.names.truncate(count);

@@ -100,7 +100,7 @@ impl Stack {
     {
         self.mode = Mode::Plain;
         if let Some(level) = self.levels.pop() {
-            self.scope.retract(level.names);
+            self.scope.leave(level.names);
             self.assertions.truncate(level.assertions);
         }
     }
@@ -114,7 +114,7 @@ impl Stack {
         ensures keeps { KeepsBy result self.old self.new }
     {
         let answer = success_line(self.alloc, self.print_success)?;
-        self.clear();
+        self.leave_all();
         Ok(Step::Left(answer, None))
     }
 
@@ -126,17 +126,17 @@ impl Stack {
         ensures keeps { KeepsBy result self.old self.new }
     {
         let answer = success_line(self.alloc, true)?;
-        self.clear();
+        self.leave_all();
         self.forget();
         Ok(Step::Left(answer, None))
     }
 
     /// Takes all names and assertions back.
-    fn clear(&mut self)
+    fn leave_all(&mut self)
         ensures state { state_of self.new ≡ without_assertions (state_of self.old) }
         ensures leaves { Leaves self.old self.new }
     {
-        self.scope.retract(0);
+        self.scope.leave(0);
         self.assertions.clear();
         self.levels.clear();
         self.mode = Mode::Plain;

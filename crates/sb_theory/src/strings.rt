@@ -85,7 +85,7 @@ impl Theory for Strings {
         self.take_in(trail, tape, budget)
     }
 
-    fn undo(&mut self, level: usize) {
+    fn backtrack(&mut self, level: usize) {
         cut(&self.atoms, &mut self.taken, &mut self.members, level);
     }
 

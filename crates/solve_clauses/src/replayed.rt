@@ -17,7 +17,7 @@ pub fn copy(alloc: Global, clauses: &Clauses, kept: &mut KeptClauses) -> Result<
         }
         kept.add(&copied, clauses.level(id).unwrap_or(u64::MAX))?;
     }
-    kept.drop_above(u64::MAX - 1);
+    kept.leave_above(u64::MAX - 1);
     Ok(())
 }
 

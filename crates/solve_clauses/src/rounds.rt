@@ -27,7 +27,7 @@ pub fn rounds(alloc: Global, engine: &mut Engine, count: u64) -> Result<(), Fail
             return Err(Failure::Lost);
         }
         engine.propagate();
-        engine.drop_above(0);
+        engine.leave_above(0);
     }
     Ok(())
 }

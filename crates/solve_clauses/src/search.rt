@@ -69,7 +69,7 @@ fn turn(alloc: Global, engine: &mut Engine, order: &mut Order) -> Result<Option<
 {
     match settle(engine)? {
         None => Ok(decide(engine, order)),
-        Some(conflict) => take_back(alloc, engine, order, conflict),
+        Some(conflict) => learn_from(alloc, engine, order, conflict),
     }
 }
 
@@ -109,7 +109,7 @@ fn decide(engine: &mut Engine, order: &mut Order) -> Option<Verdict>
 }
 
 /// Learns from the clause that is false, and goes back to where what was learned forces a literal.
-fn take_back(
+fn learn_from(
     alloc: Global,
     engine: &mut Engine,
     order: &mut Order,
@@ -124,7 +124,7 @@ fn take_back(
     }
     let lesson = explain(alloc, engine, conflict)?;
     order.meet(engine.trail(), engine.clauses(), lesson.hints.ids());
-    go_back(engine, &lesson)?;
+    backtrack(engine, &lesson)?;
     Ok(None)
 }
 
@@ -143,7 +143,7 @@ fn explain(alloc: Global, engine: &Engine, conflict: ClauseId) -> Result<Learned
 }
 
 /// Goes back to where what was learned forces a literal, and keeps it.
-fn go_back(engine: &mut Engine, lesson: &Learned) -> Result<(), AllocError>
+fn backtrack(engine: &mut Engine, lesson: &Learned) -> Result<(), AllocError>
     requires searching { IsSearching engine.old }
     requires asserting { IsAsserting engine.old.kept engine.old.trail.literals
         (current_level engine.old.trail.literals) lesson.now }

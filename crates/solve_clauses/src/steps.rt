@@ -36,11 +36,11 @@ pub fn step(
             Ok(())
         }
         Word::Drop => {
-            engine.drop_above(first);
+            engine.leave_above(first);
             Ok(())
         }
         Word::Forget => {
-            engine.drop_all();
+            engine.leave_all();
             Ok(())
         }
         Word::Clear => {
@@ -186,8 +186,8 @@ pub fn look(
             };
             kept.add(&literals(alloc, rest)?, first)?;
         }
-        Reading::Leave => kept.drop_above(first),
-        Reading::Empty => kept.drop_all(),
+        Reading::Leave => kept.leave_above(first),
+        Reading::Empty => kept.leave_all(),
         Reading::Look => {
             let (len, level) = (kept.len(), kept.level(first));
             write!(out, "of {len} kept {first}, level {level:?}:")?;

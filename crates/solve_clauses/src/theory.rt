@@ -73,7 +73,7 @@ impl Theory for Given {
         }
     }
 
-    fn undo(&mut self, level: usize) {
+    fn backtrack(&mut self, level: usize) {
         self.back = level;
     }
 

@@ -9,11 +9,11 @@ use Rattle.sb_search.proofs.conflict.take_lesson.Goals as goal
 pub returns-clause-searching : goal.returns-clause-searching
 returns-clause-searching g c = λ assumptions h.
     let is_trail = subst (λ (t : Assignments). IsTrail t) c.trail-trail.ensures c.literals-before.ensures.trail in
-    searching_after (g.T.Theory.wanted c.args.theory.now) (g.T.Theory.wanted c.go_back.new.theory) assumptions
-    c.args.stage.now.levels c.args.stage.now.next c.go_back.new.stage.levels c.go_back.new.stage.next
-    c.level-level.result c.args.engine.now c.go_back.new.engine c.keep.new.engine
+    searching_after (g.T.Theory.wanted c.args.theory.now) (g.T.Theory.wanted c.backtrack.new.theory) assumptions
+    c.args.stage.now.levels c.args.stage.now.next c.backtrack.new.stage.levels c.backtrack.new.stage.next
+    c.level-level.result c.args.engine.now c.backtrack.new.engine c.keep.new.engine
     (record { literals = c.args.lesson.now.clause; level = c.args.lesson.now.level }) is_trail
-    c.go_back.ensures.engine c.go_back.ensures.wanted c.go_back.ensures.levels c.go_back.ensures.next
+    c.backtrack.ensures.engine c.backtrack.ensures.wanted c.backtrack.ensures.levels c.backtrack.ensures.next
     c.in_ok-keep.ensures.kept c.in_ok-keep.ensures.literals c.in_ok-keep.ensures.reserved c.in_ok-keep.ensures.room
     (below_at _ c.args.engine.now.trail.literals c.level-level.result c.args.lesson.now.backjump_level c.level-level.ensures
     (below_learned c.args.engine.now.kept c.args.engine.now.trail.literals
@@ -26,10 +26,10 @@ returns-clause-follows g c =
     entails_learned c.args.engine.now.kept c.keep.new.engine.kept c.args.lesson.now.clause c.args.lesson.now.hints
     c.args.lesson.now.level (c.in_ok-keep.ensures.kept ∙ ap (λ (s : State).
     s.kept ++ Some (record { literals = c.args.lesson.now.clause; level = c.args.lesson.now.level }) ∷ [])
-    c.go_back.ensures.engine) c.requires.is_lesson.accepted
+    c.backtrack.ensures.engine) c.requires.is_lesson.accepted
 
 pub returns-clause-kept : goal.returns-clause-kept
 returns-clause-kept g c =
     c.in_ok-keep.ensures.kept ∙ ap (λ (s : State).
     s.kept ++ Some (record { literals = c.args.lesson.now.clause; level = c.args.lesson.now.level }) ∷ [])
-    c.go_back.ensures.engine
+    c.backtrack.ensures.engine

@@ -13,16 +13,16 @@ returns-clause-searching g c =
     let room = c.in_ok-make_room.ensures in
     let wanted = c.in_ok-place_wanted.ensures in
     let all = c.in_ok-place_all.ensures in
-    subst (λ (n : ℕ). IsSearching (g.T.Theory.wanted c.go_back.new.theory) c.args.assumptions.now
-    c.go_back.new.stage.levels n c.place_all.new.engine) (sym c.go_back.ensures.next)
-    (searching_begun (g.T.Theory.wanted c.go_back.new.theory) c.args.assumptions.now c.go_back.new.stage.levels
+    subst (λ (n : ℕ). IsSearching (g.T.Theory.wanted c.backtrack.new.theory) c.args.assumptions.now
+    c.backtrack.new.stage.levels n c.place_all.new.engine) (sym c.backtrack.ensures.next)
+    (searching_begun (g.T.Theory.wanted c.backtrack.new.theory) c.args.assumptions.now c.backtrack.new.stage.levels
     c.args.engine.now c.place_all.new.engine is_trail c.requires.reasoned
-    (all.kept ∙ wanted.kept ∙ room.kept ∙ ap (λ (s : State). s.kept) c.go_back.ensures.engine)
+    (all.kept ∙ wanted.kept ∙ room.kept ∙ ap (λ (s : State). s.kept) c.backtrack.ensures.engine)
     (all.literals ∙ wanted.literals ∙ room.literals
-    ∙ ap (λ (s : State). s.trail.literals) c.go_back.ensures.engine)
+    ∙ ap (λ (s : State). s.trail.literals) c.backtrack.ensures.engine)
     (subst (λ (k : Kept). has_room_for c.place_all.new.engine.trail.reserved k ≡ true) (sym (all.kept ∙ wanted.kept))
     (more_room c.make_room.new.engine.trail.reserved c.place_all.new.engine.trail.reserved
     c.make_room.new.engine.kept (omega (arith, wanted.reserved, all.reserved)) room.room))
     (more_places c.place_wanted.new.engine.trail.reserved c.place_all.new.engine.trail.reserved
-    (g.T.Theory.wanted c.go_back.new.theory) all.reserved wanted.places)
+    (g.T.Theory.wanted c.backtrack.new.theory) all.reserved wanted.places)
     all.places)

@@ -3,4 +3,4 @@ use Rattle.sb_check.proofs.judge.Judge.leave.Goals as goal
 
 pub returns-clause-models : goal.returns-clause-models
 returns-clause-models c old new e longer is k =
-    c.take_back.ensures old new e longer (is ∙ ap length (sym c.assertions.ensures.value)) k
+    c.leave-2.ensures old new e longer (is ∙ ap length (sym c.assertions.ensures.value)) k

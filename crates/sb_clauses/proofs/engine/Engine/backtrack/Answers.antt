@@ -7,9 +7,9 @@ use Rattle.sb_clauses.proofs.engine.Engine.backtrack.Goals as goal
 pub invariant_of-self : goal.invariant_of-self
 invariant_of-self c = (
   stored_back _ _ _ _ _ _ _ c.args.level _ _ _ _ _ (ap (λ (t : Assignments). t.literals) c.backtrack.ensures)
-      (front_then _ _ _ c.forget_above.ensures.front c.forget_above-2.ensures.front)
-      (below_front _ _ _ c.forget_above-2.ensures.front c.forget_above.ensures.below)
-      (rw c.current_level.ensures at c.forget_above-2.ensures.below)
+      (front_then _ _ _ c.backtrack_marks.ensures.front c.backtrack_marks-2.ensures.front)
+      (below_front _ _ _ c.backtrack_marks-2.ensures.front c.backtrack_marks.ensures.below)
+      (rw c.current_level.ensures at c.backtrack_marks-2.ensures.below)
       (rw (c.deref.ensures.value, c.literals.ensures.value) at c.end_of_marks-self-inside.ensures) c.self.invariant.0,
   c.self.invariant.1,
 )

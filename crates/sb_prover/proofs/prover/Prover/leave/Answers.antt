@@ -2,8 +2,8 @@ use Rattle.std.proofs.Common.{IfSome, take, sym, ap, subst}
 use Rattle.sb_rulebook.specs.Judging.{met}
 use Rattle.sb_refute.specs.Backing.{Backing}
 use Rattle.sb_prover.specs.Proving.{Proving, IsAbreast, HaveLevels, AreLow, leaving, IsTrue, GoesDown}
-use Rattle.sb_prover.proofs.TrueEvidence.{true-above, true-cleared}
-use Rattle.sb_prover.proofs.Leaving.{levels-up-to, levels-retracted, levels-cleared, left-above, left-all}
+use Rattle.sb_prover.proofs.TrueEvidence.{true-above, true-left_all}
+use Rattle.sb_prover.proofs.Leaving.{levels-up-to, levels-left_above, levels-left_all, left-above, left-all}
 use Rattle.sb_prover.proofs.prover.Prover.leave.Goals as goal
 
 pub returns-in-Some-clause-left : goal.returns-in-Some-clause-left
@@ -12,31 +12,31 @@ returns-in-Some-clause-left c = λ rs memo live p h levels low.
     let n = c.in-Some.level in
     let count = c.args.count in
     let now = subst (λ (w : Proving). IsAbreast rs memo w p) (sym c.self.view_is) h in
-    subst (λ o. IsAbreast rs memo (record v { evidence = c.retract.new.self }) (met (leaving o) p)) (sym c.in-Some.is)
-    (left-above rs memo p v c.retract.new.self n now (ap (λ (e : Backing). e.atoms) c.retract.ensures.retracted)
-    (c.retract.ensures.backs rs memo p.kept now.backs
+    subst (λ o. IsAbreast rs memo (record v { evidence = c.leave_above.new.self }) (met (leaving o) p)) (sym c.in-Some.is)
+    (left-above rs memo p v c.leave_above.new.self n now (ap (λ (e : Backing). e.atoms) c.leave_above.ensures.left_above)
+    (c.leave_above.ensures.backs rs memo p.kept now.backs
     (levels-up-to live n count v.evidence
     (subst (λ (w : Proving). HaveLevels live w.evidence) (sym c.self.view_is) levels)
     (subst (λ o. IfSome o (λ m. AreLow m (take count live))) c.in-Some.is low))))
 
 pub returns-in-Some-clause-levels : goal.returns-in-Some-clause-levels
 returns-in-Some-clause-levels c = λ live levels.
-    subst (HaveLevels (take c.args.count live)) (sym c.retract.ensures.retracted)
-    (levels-retracted live c.in-Some.level c.args.count c.self.inside.evidence
+    subst (HaveLevels (take c.args.count live)) (sym c.leave_above.ensures.left_above)
+    (levels-left_above live c.in-Some.level c.args.count c.self.inside.evidence
     (subst (λ (w : Proving). HaveLevels live w.evidence) (sym c.self.view_is) levels))
 
 pub returns-in-None-clause-left : goal.returns-in-None-clause-left
 returns-in-None-clause-left c = λ rs memo live p h levels low.
     let v : Proving = record { evidence = c.self.inside.evidence; begun = c.self.inside.begun } in
     let now = subst (λ (w : Proving). IsAbreast rs memo w p) (sym c.self.view_is) h in
-    subst (λ o. IsAbreast rs memo (record v { evidence = c.clear.new.self }) (met (leaving o) p)) (sym c.in-None.is)
-    (left-all rs memo p v c.clear.new.self now (ap (λ (e : Backing). e.atoms) c.clear.ensures.cleared)
-    (c.clear.ensures.backs rs memo p.kept now.backs))
+    subst (λ o. IsAbreast rs memo (record v { evidence = c.leave_all.new.self }) (met (leaving o) p)) (sym c.in-None.is)
+    (left-all rs memo p v c.leave_all.new.self now (ap (λ (e : Backing). e.atoms) c.leave_all.ensures.left_all)
+    (c.leave_all.ensures.backs rs memo p.kept now.backs))
 
 pub returns-in-None-clause-levels : goal.returns-in-None-clause-levels
 returns-in-None-clause-levels c = λ live levels.
-    subst (HaveLevels (take c.args.count live)) (sym c.clear.ensures.cleared)
-    (levels-cleared (take c.args.count live) c.self.inside.evidence)
+    subst (HaveLevels (take c.args.count live)) (sym c.leave_all.ensures.left_all)
+    (levels-left_all (take c.args.count live) c.self.inside.evidence)
 
 pub returns-in-Some-clause-sound : goal.returns-in-Some-clause-sound
 returns-in-Some-clause-sound c = λ rs memo before now goes levels low h.
@@ -44,9 +44,9 @@ returns-in-Some-clause-sound c = λ rs memo before now goes levels low h.
     let e = c.self.inside.evidence in
     let count = c.args.count in
     let t = subst (λ (w : Proving). IsTrue before rs memo w.evidence) (sym c.self.view_is) h in
-    true-above c.dropped_stays_sound.ensures rs memo before now n e c.retract.new.self
+    true-above c.dropped_stays_sound.ensures rs memo before now n e c.leave_above.new.self
     (subst (λ o. GoesDown o before now) c.in-Some.is goes) t
-    (c.retract.ensures.backs rs memo t.kept t.backs
+    (c.leave_above.ensures.backs rs memo t.kept t.backs
     (levels-up-to before.live n count e
     (subst (λ (w : Proving). HaveLevels before.live w.evidence) (sym c.self.view_is) levels)
     (subst (λ o. IfSome o (λ m. AreLow m (take count before.live))) c.in-Some.is low)))
@@ -54,5 +54,5 @@ returns-in-Some-clause-sound c = λ rs memo before now goes levels low h.
 pub returns-in-None-clause-sound : goal.returns-in-None-clause-sound
 returns-in-None-clause-sound c = λ rs memo before now goes levels low h.
     let t = subst (λ (w : Proving). IsTrue before rs memo w.evidence) (sym c.self.view_is) h in
-    true-cleared c.all_dropped_is_sound.ensures rs memo before now c.self.inside.evidence c.clear.new.self t
-    (c.clear.ensures.backs rs memo t.kept t.backs)
+    true-left_all c.all_dropped_is_sound.ensures rs memo before now c.self.inside.evidence c.leave_all.new.self t
+    (c.leave_all.ensures.backs rs memo t.kept t.backs)

@@ -8,9 +8,9 @@ use Rattle.sb_stack.proofs.stack.Stack.leave_level.Goals as goal
 
 pub invariant_of-self : goal.invariant_of-self
 invariant_of-self c =
-    left_kept c.self.inside.scope c.retract.new.self c.self.inside.table c.self.inside.assertions.items
+    left_kept c.self.inside.scope c.leave.new.self c.self.inside.table c.self.inside.assertions.items
     c.truncate.new.self.items c.self.inside.levels.items c.pop.new.self.items c.in-Some.level c.in-Some.ensures.items
-    c.retract.ensures c.truncate.ensures.items c.self.invariant
+    c.leave.ensures c.truncate.ensures.items c.self.invariant
 
 pub returns-in-Some-clause-state : goal.returns-in-Some-clause-state
 returns-in-Some-clause-state c =
@@ -28,8 +28,8 @@ returns-in-Some-clause-state c =
       assertions = c.self.inside.assertions.items;
       levels = reverse c.self.inside.levels.items;
     } in
-    left_state kept c.args.self.now c.retract.new.self c.truncate.new.self.items c.self.inside.levels.items
-    c.pop.new.self.items c.in-Some.level c.self.view_is refl c.in-Some.ensures.items c.retract.ensures
+    left_state kept c.args.self.now c.leave.new.self c.truncate.new.self.items c.self.inside.levels.items
+    c.pop.new.self.items c.in-Some.level c.self.view_is refl c.in-Some.ensures.items c.leave.ensures
     c.truncate.ensures.items
 
 pub returns-in-Some-clause-leaves : goal.returns-in-Some-clause-leaves
@@ -50,10 +50,10 @@ returns-in-Some-clause-leaves c =
     } in
     let new : Stacked = record kept {
       mode = mode.Plain;
-      scope = c.retract.new.self;
+      scope = c.leave.new.self;
       assertions = c.truncate.new.self.items;
       levels = reverse c.pop.new.self.items;
     } in
-    let same = ap (λ (s : ScopeNames). length s.sorts) c.retract.ensures in
+    let same = ap (λ (s : ScopeNames). length s.sorts) c.leave.ensures in
     subst (λ (k : Stacked). Leaves k new) c.self.view_is
     (leaves_front kept new c.in-Some.level.assertions refl c.truncate.ensures.items refl (omega (arith, same)))

@@ -1,7 +1,7 @@
 use Rattle.std.proofs.Common.{refl}
 use Rattle.sb_theory.specs.Laws.{writes_same}
 use Rattle.sb_theory.proofs.Placed.{stands_cut}
-use Rattle.sb_theory.proofs.strings.StringsTheory.undo.Goals as goal
+use Rattle.sb_theory.proofs.strings.StringsTheory.backtrack.Goals as goal
 
 pub returns-clause-stands : goal.returns-clause-stands
 returns-clause-stands c = λ entries.

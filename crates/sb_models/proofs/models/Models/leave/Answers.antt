@@ -1,6 +1,6 @@
 use Rattle.std.proofs.Common.{refl, arith}
 use Rattle.sb_models.proofs.Knowledge.{knows_front}
-use Rattle.sb_models.proofs.models.Models.take_back.Goals as goal
+use Rattle.sb_models.proofs.models.Models.leave.Goals as goal
 
 pub returns : goal.returns
 returns c old new e longer is k =

@@ -4,7 +4,7 @@ use Rattle.sb_term.specs.declared.sort.Sort.{Sort}
 use Rattle.sb_sorts.specs.declared.scope.Named.{Named}
 use Rattle.sb_sorts.specs.Scopes.{ScopeNames}
 use Rattle.sb_sorts.proofs.Kept.{fewer_names, names_taken}
-use Rattle.sb_sorts.proofs.scope.Scope.retract.Goals as goal
+use Rattle.sb_sorts.proofs.scope.Scope.leave.Goals as goal
 
 abbrev made : List Sort → List (Name × Named) → ScopeNames
 made sorts names = record { names = names; sorts = sorts }

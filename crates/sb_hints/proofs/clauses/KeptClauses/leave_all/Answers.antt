@@ -4,7 +4,7 @@ use Rattle.sb_hints.specs.Storing.{kept_in}
 use Rattle.sb_hints.proofs.Storage.{kept-none}
 use Rattle.sb_hints.proofs.Scoping.{down_to_none, none_after}
 use Rattle.sb_hints.proofs.Upkeep.{order_none}
-use Rattle.sb_hints.proofs.clauses.KeptClauses.drop_all.Goals as goal
+use Rattle.sb_hints.proofs.clauses.KeptClauses.leave_all.Goals as goal
 
 pub invariant_of-self : goal.invariant_of-self
 invariant_of-self c =

@@ -1,6 +1,6 @@
 use Rattle.std.proofs.Common.{◌≡◌, ◌++◌, drop, take, length, arith}
 use Rattle.std.proofs.lemmas.List.{take_at}
-use Rattle.sb_clauses.proofs.clauses.Clauses.drop_above.Goals as goal
+use Rattle.sb_clauses.proofs.clauses.Clauses.leave_above.Goals as goal
 
 pub invariant_of-self : goal.invariant_of-self
 invariant_of-self c =

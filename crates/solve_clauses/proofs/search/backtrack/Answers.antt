@@ -1,7 +1,7 @@
 use Rattle.std.proofs.Common.{subst}
 use Rattle.sb_trail.specs.Assignments.{Assignments, IsTrail}
 use Rattle.solve_clauses.proofs.Turns.{searching_back}
-use Rattle.solve_clauses.proofs.search.go_back.Goals as goal
+use Rattle.solve_clauses.proofs.search.backtrack.Goals as goal
 
 pub returns : goal.returns
 returns c =

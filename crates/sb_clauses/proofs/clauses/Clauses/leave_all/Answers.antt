@@ -3,7 +3,7 @@ use Rattle.std.specs.Option.{option_map}
 use Rattle.std.proofs.lemmas.List.{length-map}
 use Rattle.sb_clauses.specs.Records.{clause_of, kept_of}
 use Rattle.sb_clauses.proofs.AllDropped.{empty_whole, scoped_none}
-use Rattle.sb_clauses.proofs.clauses.Clauses.drop_all.Goals as goal
+use Rattle.sb_clauses.proofs.clauses.Clauses.leave_all.Goals as goal
 
 pub invariant_of-self : goal.invariant_of-self
 invariant_of-self c =

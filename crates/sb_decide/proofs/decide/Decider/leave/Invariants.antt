@@ -1,7 +1,7 @@
 use Rattle.std.proofs.Common.{◌≡◌, ◌≤◌, length}
 use Rattle.sb_stack.specs.Stacked.{Stacked}
 use Rattle.sb_decide.specs.Knowing.{Knows}
-use Rattle.sb_decide.proofs.decide.Decider.take_back.Given as goal
+use Rattle.sb_decide.proofs.decide.Decider.leave.Given as goal
 
 abbrev pub invariant-loop-self : goal.invariant-loop-self
 invariant-loop-self l =

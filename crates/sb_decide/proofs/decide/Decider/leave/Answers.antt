@@ -2,7 +2,7 @@ use Rattle.std.proofs.Common.{refl, arith}
 use Rattle.std.proofs.lemmas.Bool.Decides.{nat_tests}
 use Rattle.sb_decide.proofs.Knowledge.{knows_left}
 use Rattle.sb_decide.proofs.LeftOpen.{knows_fewer}
-use Rattle.sb_decide.proofs.decide.Decider.take_back.Goals as goal
+use Rattle.sb_decide.proofs.decide.Decider.leave.Goals as goal
 
 pub loop-self-init : goal.loop-self-init
 loop-self-init c = (

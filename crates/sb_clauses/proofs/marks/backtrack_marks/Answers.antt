@@ -1,5 +1,5 @@
 use Rattle.sb_clauses.proofs.Marked.{ascending_front, left_below, left_front}
-use Rattle.sb_clauses.proofs.marks.forget_above.Goals as goal
+use Rattle.sb_clauses.proofs.marks.backtrack_marks.Goals as goal
 
 pub returns-clause-ascending : goal.returns-clause-ascending
 returns-clause-ascending c =
