@@ -1,7 +1,8 @@
-use Rattle.std.proofs.Common.{nat_eq, refl, ◌∙◌}
+use Rattle.std.proofs.Common.{nat_eq, refl, sym, subst, ◌∙◌}
 use Rattle.std.specs.List.{list_any}
 use Rattle.std.proofs.lemmas.Result.{IfOk-from_err, IfOk-weaker}
-use Rattle.sb_regex.specs.Numbered.{AllNumbers}
+use Rattle.sb_lang.specs.FoldLaws.{SameMembers}
+use Rattle.sb_regex.specs.Numbered.{AllNumbers, regexes_at}
 use Rattle.sb_regex.proofs.CallerLemmas.{number_in}
 use Rattle.sb_regex.proofs.Once.{once_begun, turn, once_end}
 use Rattle.sb_regex.proofs.arena.Arena.once.Goals as goal
@@ -26,11 +27,14 @@ loop-id-preserved c =
 
 pub returns : goal.returns
 returns c =
+    let rs = c.args.self.now in
+    let keys = c.loop-id.seen.keys in
     let i = c.loop-id.invariant in
-    let same = once_end c.args.self.now c.loop-id.seen.keys c.args.ids.now c.loop-id.id-index c.loop-id-test.false i in
+    let same = once_end rs keys c.args.ids.now c.loop-id.id-index c.loop-id-test.false i in
     record {
-      members = IfOk-weaker c.from_slice.result _ _ (λ all e. rw (e ∙ c.as_slice.ensures.keys) same)
-          c.from_slice.ensures.items;
-      numbers = IfOk-weaker c.from_slice.result _ _ (λ all e. rw (e ∙ c.as_slice.ensures.keys) i.0)
-          c.from_slice.ensures.items;
+      members = IfOk-weaker c.from_slice.result _ _
+          (λ all e. subst (λ xs. SameMembers (regexes_at rs xs) (regexes_at rs c.args.ids.now))
+          (sym (e ∙ c.as_slice.ensures.keys)) same) c.from_slice.ensures.items;
+      numbers = IfOk-weaker c.from_slice.result _ _
+          (λ all e. subst (AllNumbers rs) (sym (e ∙ c.as_slice.ensures.keys)) i.0) c.from_slice.ensures.items;
     }
