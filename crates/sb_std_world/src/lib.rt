@@ -13,9 +13,6 @@ use std::fs::File;
 use std::io;
 use std::io::{ErrorKind, Read, Write};
 
-#[cfg(test)]
-mod tests;
-
 /// A file, with the name that it was opened by.
 #[derive(Drop)]
 struct Named {
