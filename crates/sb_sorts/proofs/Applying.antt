@@ -1,9 +1,12 @@
 -- Sorts of arguments, as the tests go over them.
-use Rattle.std.proofs.Common.{◌≡◌, ℕ, ◌+◌, ◌<◌, Bool, true, ◌&&◌, List, [], ◌∷◌, ◌++◌, length, map, take, get_or, refl, sym, ap, ap₂, ◌∙◌, arith}
-use Rattle.std.proofs.lemmas.List.{map-append, take_more, length-map}
+use Rattle.std.proofs.Common.{◌≡◌, ℕ, ◌+◌, ◌<◌, Bool, true, false, not, ◌&&◌, ◌==◌, if◌then◌else◌, List, [], ◌∷◌, ◌++◌, length, map, take, get_or, nat_lt, Option, Some, None, Err, Ok, refl, sym, ap, ap₂, ◌∙◌, arith, true≢false}
+use Rattle.std.proofs.lemmas.Bool.Decides.{nat_tests}
+use Rattle.std.proofs.lemmas.List.{map-append, take_more, length-map, nil_from_length}
 use Rattle.std.specs.List.{list_all, zip}
 use Rattle.sb_meaning.specs.Terms as meaning
-use Rattle.sb_meaning.specs.Sorts.{Arity, is_same_sort, are_sorts, is_count, sort_of}
+use Rattle.sb_meaning.specs.Sorts.{Arity, is_same_sort, are_sorts, is_count, is_of_one, sort_of}
+use Rattle.sb_script.specs.Faults.{Fault, wrong_count, wrong_sort, unsupported}
+use Rattle.sb_script.specs.Heads.{Head, head_constant, head_term, applied_to, made, unless}
 use Rattle.sb_term.specs.Numbered.{term_at, terms_at}
 use Rattle.sb_term.specs.declared.sort.Sort.{Sort}
 use Rattle.sb_term.specs.Symbols.{sort_in}
@@ -53,3 +56,73 @@ pub counted_sorts : (arity : Arity) (b : Bool) (n : ℕ) (ts : List meaning.Term
     → is_count arity (length sorts) ≡ true
 counted_sorts arity b n ts ids sorts test taken long is =
     ap (is_count arity) (as_many ts ids sorts is ∙ sym long) ∙ sym test ∙ taken
+
+-- a test of what is the same
+pub by_same : {A B : Type 0} (test : A → B → Bool) (a a' : A) (b b' : B) (r : Bool) → r ≡ test a b → a ≡ a' → b ≡ b'
+    → test a' b' ≡ r
+by_same test a a' b b' r is p q = sym (is ∙ ap₂ test p q)
+
+pub as_many_terms : (ts : List meaning.Term) (ids : List ℕ) → length ids ≡ length (map sort_of (terms_at ts ids))
+as_many_terms ts ids = sym (length-map (terms_at ts ids) sort_of ∙ length-map ids (term_at ts))
+
+-- the tests in their order: of the number, of the sorts, and of what is left out
+abbrev pub judged_by : Bool → Bool → Bool → Option Fault
+judged_by counted fit out =
+    if not counted then Some wrong_count
+    else if not fit then Some wrong_sort
+    else if out then Some unsupported
+    else None
+
+pub uncounted : (counted fit out : Bool) (t : meaning.Term) → counted ≡ false
+    → unless (judged_by counted fit out) t ≡ Err wrong_count
+uncounted true fit out t h = absurd (true≢false h)
+uncounted false fit out t h = refl
+
+pub unfit : (counted fit out : Bool) (t : meaning.Term) → counted ≡ true → fit ≡ false
+    → unless (judged_by counted fit out) t ≡ Err wrong_sort
+unfit false fit out t h u = absurd (true≢false (sym h))
+unfit true true out t h u = absurd (true≢false u)
+unfit true false out t h u = refl
+
+pub left_out : (counted fit out : Bool) (t : meaning.Term) → counted ≡ true → fit ≡ true → out ≡ true
+    → unless (judged_by counted fit out) t ≡ Err unsupported
+left_out false fit out t h u v = absurd (true≢false (sym h))
+left_out true false out t h u v = absurd (true≢false (sym u))
+left_out true true false t h u v = absurd (true≢false (sym v))
+left_out true true true t h u v = refl
+
+pub taken_in : (counted fit out : Bool) (t u : meaning.Term) → counted ≡ true → fit ≡ true → out ≡ false → u ≡ t
+    → unless (judged_by counted fit out) t ≡ Ok u
+taken_in false fit out t u h i j is = absurd (true≢false (sym h))
+taken_in true false out t u h i j is = absurd (true≢false (sym i))
+taken_in true true true t u h i j is = absurd (true≢false j)
+taken_in true true false t u h i j is = ap Ok (sym is)
+
+-- one argument as it is
+chosen : (b : Bool) (t u : meaning.Term) → b ≡ true → t ≡ (if b then t else u)
+chosen true t u h = refl
+chosen false t u h = absurd (true≢false (sym h))
+
+pub one_made : (s : meaning.Symbol) (ts : List meaning.Term) (ids : List ℕ) (i : ℕ) → is_of_one s ≡ true
+    → length ids ≡ 1 → i ≡ get_or ids 0 i → term_at ts i ≡ made s (terms_at ts ids)
+one_made s ts [] i one long is = absurd (omega (arith, long))
+one_made s ts (j ∷ []) i one long is = ap (term_at ts) is ∙ chosen (is_of_one s) _ _ one
+one_made s ts (j ∷ k ∷ ks) i one long is = absurd (omega (arith, long))
+
+-- a head that takes no arguments
+pub constant_alone : (head : Head) (serial : ℕ) (sort : meaning.Sort) (ts : List meaning.Term) (ids : List ℕ)
+    (u : meaning.Term) → head ≡ head_constant serial sort → ids ≡ [] → u ≡ meaning.constant serial sort
+    → applied_to head (terms_at ts ids) ≡ Ok u
+constant_alone head serial sort ts ids u is none made_is =
+    ap₂ (λ h is. applied_to h (terms_at ts is)) is none ∙ ap Ok (sym made_is)
+
+pub term_alone : (head : Head) (t : meaning.Term) (ts : List meaning.Term) (ids : List ℕ) (u : meaning.Term)
+    → head ≡ head_term t → ids ≡ [] → u ≡ t → applied_to head (terms_at ts ids) ≡ Ok u
+term_alone head t ts ids u is none made_is =
+    ap₂ (λ h is. applied_to h (terms_at ts is)) is none ∙ ap Ok (sym made_is)
+
+pub small_serial : (serial n : ℕ) → nat_lt serial n ≡ true → serial < n
+small_serial serial n h = grind (arith, nat_tests, h)
+
+pub none_of : (ids : List ℕ) → true ≡ (length ids == 0) → ids ≡ []
+none_of ids h = let none : length ids ≡ 0 = grind (arith, nat_tests, h) in nil_from_length ids none

@@ -1,5 +1,5 @@
 -- Reading of lists: what a list begins with, and its arguments one by one.
-use Rattle.std.proofs.Common.{◌≡◌, ℕ, zero, suc, ◌<◌, ◌≤◌, Bool, true, false, if◌then◌else◌, List, [], ◌∷◌, ◌++◌, length, codes, Result, Ok, Err, sym, refl, ap, subst, ◌∙◌, arith, append_assoc}
+use Rattle.std.proofs.Common.{◌≡◌, ℕ, zero, suc, ◌<◌, ◌≤◌, Bool, true, false, if◌then◌else◌, List, [], ◌∷◌, ◌++◌, length, codes, Result, Ok, Err, MatchResult, sym, refl, ap, subst, ◌∙◌, arith, append_assoc}
 use Rattle.std.proofs.lemmas.List.{map-append}
 use Rattle.sb_reader.specs.Forms.{Form, Forms, Symbol, QuotedSymbol, Keyword, Numeral, OtherNumber, Words, Group, none, more}
 use Rattle.sb_script.specs.Names.{is_name, is_reserved}
@@ -202,3 +202,8 @@ module _ (names : List Naming) (others : Forms) (begun : Result Beginning Fault)
 pub exits : (ts : List meaning.Term) (reading : Result meaning.Term Fault) (result : Result ℕ ReadFault)
     (e y : ReadFault) → result ≡ Err y → y ≡ e → Faults reading e → ReadsAs ts reading result
 exits ts reading result e y is same fault = subst (ReadsAs ts reading) (sym (is ∙ ap Err same)) fault
+
+-- the same of what is no term
+pub fault_exits : {A : Type 0} (P : A → Type 0) (Q : ReadFault → Type 0) (result : Result A ReadFault) (e y : ReadFault)
+    → result ≡ Err y → y ≡ e → Q e → MatchResult result P Q
+fault_exits P Q result e y is same fault = subst (λ r. MatchResult r P Q) (sym (is ∙ ap Err same)) fault
