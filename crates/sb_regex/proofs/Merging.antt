@@ -1,11 +1,13 @@
 -- Two lists in order, merged.
-use Rattle.std.proofs.Common.{◌≡◌, ℕ, ◌+◌, ◌-◌, ◌<◌, Bool, true, false, ◌||◌, List, [], ◌∷◌, ◌++◌, length, get_or, take, drop, reverse, Result, Ok, Err, IfOk, refl, sym, ap, ap₂, ◌∙◌, arith, add-one, append_assoc, drop-cons, length-drop}
+use Rattle.std.proofs.Common.{◌≡◌, ℕ, ◌+◌, ◌-◌, ◌<◌, ◌≤◌, Bool, true, false, ◌||◌, List, [], ◌∷◌, ◌++◌, length, get_or, take, drop, reverse, Result, Ok, Err, IfOk, refl, sym, ap, ap₂, ◌∙◌, arith, add-one, append_assoc, drop-cons, length-drop}
+use Rattle.std.specs.declared.cmp.Ordering.{Ordering}
 use Rattle.std.specs.declared.cmp.Ordering.TheVariants.{Less, Equal, Greater}
 use Rattle.std.specs.Ordering.{ordering_reverse}
 use Rattle.std.specs.Cmp.{IsTotalOrder}
 use Rattle.std.specs.List.{AllByRecursion, list_any}
 use Rattle.std.specs.List.Sorted.{IsStrictlySortedBy}
-use Rattle.std.proofs.lemmas.List.{length-map, length-reverse, get_or-map, get_or-reverse, map-append, take-append-drop, take_all}
+use Rattle.std.proofs.lemmas.List.{length-map, length-reverse, get_or-map, get_or-reverse, get_or-take, length-take-le, map-append, take-append-drop, take_all}
+use Rattle.std.proofs.lemmas.List.Elements.{All-append, All-cons, All-drop, All-nil, All-take}
 use Rattle.std.proofs.lemmas.List.Folds.{list_any-append}
 use Rattle.std.proofs.lemmas.List.Sorted.{All-permutation, IsPermutation-reverse, list_any-IsPermutation}
 use Rattle.std.proofs.lemmas.Map.Keys.{sorted_from_all_adjacent}
@@ -15,7 +17,7 @@ use Rattle.sb_lang.specs.OrderLaws.{OrderTellsApart}
 use Rattle.sb_lang.specs.SortedLaws.{is_member}
 use Rattle.sb_lang.specs.FoldLaws.{SameMembers}
 use Rattle.sb_regex.specs.Numbered.{regex_at, regexes_at, AllNumbers}
-use Rattle.sb_regex.specs.Steps.{AreSteps}
+use Rattle.sb_regex.specs.Steps.{AreAlike, AreSteps}
 use Rattle.sb_regex.proofs.Gathering.{ats-append}
 
 -- Strictly sorted lists.
@@ -210,6 +212,47 @@ turned_members rs ids r =
 pub turned_numbers : (rs : List Regex) (ids : List ℕ) → AllNumbers rs ids → AllNumbers rs (reverse ids)
 turned_numbers rs ids all =
     All-permutation (λ i. i < length rs) ids (reverse ids) (IsPermutation-reverse ids) all
+
+pub front_numbers : (rs : List Regex) (n : ℕ) (ids : List ℕ) → AllNumbers rs ids → AllNumbers rs (take n ids)
+front_numbers rs n ids all = All-take (λ i. i < length rs) n ids all
+
+pub rest_numbers : (rs : List Regex) (n m : ℕ) (ids : List ℕ) → AllNumbers rs ids
+    → AllNumbers rs (take m (drop n ids))
+rest_numbers rs n m ids all = front_numbers rs m (drop n ids) (All-drop (λ i. i < length rs) n ids all)
+
+pub front_shorter : (n : ℕ) (ids : List ℕ) → n < length ids → length (take n ids) < length ids
+front_shorter n ids l = omega (arith, l, length-take-le n ids (omega (arith, l)))
+
+pub rest_shorter : (n : ℕ) (ids : List ℕ) → 0 < n → n ≤ length ids
+    → length (take (length ids - n) (drop n ids)) < length ids
+rest_shorter n ids some within =
+    omega (
+      arith,
+      some,
+      within,
+      length-drop n ids,
+      ap length (take_all (length ids - n) (drop n ids)
+          (omega (arith, length-drop n ids))),
+    )
+
+pub steps_in_front : (rs : List Regex) (step : Ordering) (ids : List ℕ) (n : ℕ) → n ≤ length ids
+    → ((k : ℕ) → k + 1 < n → regex_cmp (regex_at rs (get_or ids k 0)) (regex_at rs (get_or ids (k + 1) 0)) ≡ step)
+    → AreSteps rs step (take n ids)
+steps_in_front rs step ids n within h k l =
+    let m : k + 1 < n = omega (arith, l, length-take-le n ids within) in
+    ap₂ (λ x y. regex_cmp (regex_at rs x) (regex_at rs y)) (get_or-take n ids k 0 (omega (arith, m)))
+    (get_or-take n ids (k + 1) 0 m)
+    ∙ h k m
+
+-- One more pair on the way of a comparison.
+
+pub alike_more : (rs : List Regex) (a b : ℕ) (before after : List (ℕ × ℕ)) (x y : ℕ) → x < length rs → y < length rs
+    → regex_cmp (regex_at rs a) (regex_at rs b) ≡ regex_cmp (regex_at rs x) (regex_at rs y)
+    → after ≡ before ++ (x, y) ∷ [] → AreAlike rs a b before → AreAlike rs a b after
+alike_more rs a b before after x y l m is pushed alike =
+    let good = λ (p : ℕ × ℕ). (p.0 < length rs) × (p.1 < length rs)
+    × (regex_cmp (regex_at rs a) (regex_at rs b) ≡ regex_cmp (regex_at rs p.0) (regex_at rs p.1)) in
+    rw pushed (All-append good before ((x, y) ∷ []) alike (All-cons good (x, y) [] (l, m, is) (All-nil good)))
 
 -- A list cut in two, and each part sorted.
 

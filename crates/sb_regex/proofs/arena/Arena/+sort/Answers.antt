@@ -1,10 +1,10 @@
-use Rattle.std.proofs.Common.{◌/◌, length, take, refl, ◌∙◌, arith}
+use Rattle.std.proofs.Common.{◌/◌, length, take, refl, ◌∙◌, arith, sym, ◌<◌}
 use Rattle.std.specs.List.Sorted.{IsStrictlySortedBy}
-use Rattle.std.proofs.lemmas.List.{take_all}
+use Rattle.std.proofs.lemmas.List.{take_all, length-take-le}
 use Rattle.std.proofs.lemmas.Result.{IfOk-from_err}
 use Rattle.sb_lang.specs.Order.{regex_cmp}
 use Rattle.sb_regex.specs.Numbered.{regexes_at}
-use Rattle.sb_regex.proofs.Merging.{ok_from, halves, rest_whole, rising_sorted, turned_rises, turned_members}
+use Rattle.sb_regex.proofs.Merging.{ok_from, halves, rest_whole, rising_sorted, turned_rises, turned_members, turned_numbers, front_numbers, rest_numbers, rest_shorter, front_shorter}
 use Rattle.sb_regex.proofs.arena.Arena.+sort.Goals as goal
 
 pub returns-then-run-ids-clause-rising : goal.returns-then-run-ids-clause-rising
@@ -154,3 +154,117 @@ returns-then-half-falling-clause-same t c =
 pub returns-clause-same : goal.returns-clause-same
 returns-clause-same t c =
     c.merge-2.ensures.same ∙ c.sort-3.ensures.same ∙ c.sort-2.ensures.same ∙ c.run-2.ensures.same ∙ c.run.ensures.same
+
+pub run-requires-2 : goal.run-requires-2
+run-requires-2 t c = rw (c.run.ensures.same) c.requires
+
+pub merge-requires-clause-left : goal.merge-requires-clause-left
+merge-requires-clause-left t c =
+    rw (c.sort.ensures.same, c.run.ensures.same) (front_numbers c.args.self.now _ c.args.ids.now c.requires)
+
+pub merge-requires-clause-right : goal.merge-requires-clause-right
+merge-requires-clause-right t c = rw (c.deref.ensures.value, c.sort.ensures.same) c.in_ok-right.ensures.numbers
+
+pub merge-requires-clause-right_rises : goal.merge-requires-clause-right_rises
+merge-requires-clause-right_rises t c = rw (c.deref.ensures.value, c.sort.ensures.same) c.in_ok-right.ensures.rising
+
+pub merge-requires-then-half-falling-clause-left : goal.merge-requires-then-half-falling-clause-left
+merge-requires-then-half-falling-clause-left t c =
+    rw (
+      c.deref-then-half-falling.ensures.value,
+      c.in_ok-left.ensures,
+      c.sort-then-half-falling.ensures.same,
+      c.run-2.ensures.same,
+      c.run.ensures.same,
+    )
+    (turned_numbers c.args.self.now (take c.in_ok-falling.falling c.args.ids.now)
+    (front_numbers c.args.self.now _ c.args.ids.now c.requires))
+
+pub merge-requires-then-half-falling-clause-right : goal.merge-requires-then-half-falling-clause-right
+merge-requires-then-half-falling-clause-right t c =
+    rw (c.deref-then-half-falling-2.ensures.value, c.sort-then-half-falling.ensures.same)
+    c.in_ok-right-2.ensures.numbers
+
+pub merge-requires-then-half-falling-clause-right_rises : goal.merge-requires-then-half-falling-clause-right_rises
+merge-requires-then-half-falling-clause-right_rises t c =
+    rw (c.deref-then-half-falling-2.ensures.value, c.sort-then-half-falling.ensures.same) c.in_ok-right-2.ensures.rising
+
+pub merge-requires-2 : goal.merge-requires-2
+merge-requires-2 t c =
+    record {
+      left = rw (c.deref-2.ensures.value, c.sort-3.ensures.same, c.sort-2.ensures.same) c.in_ok-left-2.ensures.numbers;
+      right = rw (c.deref-3.ensures.value, c.sort-3.ensures.same) c.in_ok-right-3.ensures.numbers;
+      left_rises = rw (c.deref-2.ensures.value, c.sort-3.ensures.same, c.sort-2.ensures.same)
+          c.in_ok-left-2.ensures.rising;
+      right_rises = rw (c.deref-3.ensures.value, c.sort-3.ensures.same) c.in_ok-right-3.ensures.rising;
+    }
+
+pub returns-then-half-run-clause-rising : goal.returns-then-half-run-clause-rising
+returns-then-half-run-clause-rising t c = rw (c.sort.ensures.same, c.run.ensures.same) at c.merge.ensures.rising
+
+pub returns-then-half-run-clause-numbers : goal.returns-then-half-run-clause-numbers
+returns-then-half-run-clause-numbers t c = rw (c.sort.ensures.same, c.run.ensures.same) at c.merge.ensures.numbers
+
+pub returns-then-half-falling-clause-rising : goal.returns-then-half-falling-clause-rising
+returns-then-half-falling-clause-rising t c =
+    rw (c.sort-then-half-falling.ensures.same, c.run-2.ensures.same, c.run.ensures.same)
+    at c.merge-then-half-falling.ensures.rising
+
+pub returns-then-half-falling-clause-numbers : goal.returns-then-half-falling-clause-numbers
+returns-then-half-falling-clause-numbers t c =
+    rw (c.sort-then-half-falling.ensures.same, c.run-2.ensures.same, c.run.ensures.same)
+    at c.merge-then-half-falling.ensures.numbers
+
+pub returns-clause-rising : goal.returns-clause-rising
+returns-clause-rising t c =
+    rw (c.sort-3.ensures.same, c.sort-2.ensures.same, c.run-2.ensures.same, c.run.ensures.same)
+    at c.merge-2.ensures.rising
+
+pub returns-clause-numbers : goal.returns-clause-numbers
+returns-clause-numbers t c =
+    rw (c.sort-3.ensures.same, c.sort-2.ensures.same, c.run-2.ensures.same, c.run.ensures.same)
+    at c.merge-2.ensures.numbers
+
+pub slice_bounds-merge-end : goal.slice_bounds-merge-end
+slice_bounds-merge-end t c = sym (length-take-le c.in_ok-run.run' c.args.ids.now c.in_ok-run.ensures.within)
+
+pub slice_bounds-turned-end : goal.slice_bounds-turned-end
+slice_bounds-turned-end t c =
+    sym (length-take-le c.in_ok-falling.falling c.args.ids.now c.in_ok-falling.ensures.within)
+
+pub sort-requires : goal.sort-requires
+sort-requires t c =
+    let some : 0 < length c.args.ids.now = omega (arith, c.in_ok-run.ensures.within, c.if-run-ids.false) in (
+      omega (arith, c.decreases, rest_shorter c.in_ok-run.run' c.args.ids.now (c.in_ok-run.ensures.some some) c.in_ok-run.ensures.within),
+      rw (c.run.ensures.same) (rest_numbers c.args.self.now _ _ c.args.ids.now c.requires),
+    )
+
+pub sort-requires-then-half-falling : goal.sort-requires-then-half-falling
+sort-requires-then-half-falling t c =
+    let some : 0 < length c.args.ids.now = omega (arith, c.in_ok-run.ensures.within, c.if-run-ids.false) in (
+      omega (
+        arith,
+        c.decreases,
+        rest_shorter c.in_ok-falling.falling c.args.ids.now (c.in_ok-falling.ensures.some some)
+            c.in_ok-falling.ensures.within,
+      ),
+      rw (c.run-2.ensures.same, c.run.ensures.same) (rest_numbers c.args.self.now _ _ c.args.ids.now c.requires),
+    )
+
+pub sort-requires-2 : goal.sort-requires-2
+sort-requires-2 t c = (
+  omega (
+    arith,
+    c.decreases,
+    front_shorter (length c.args.ids.now / 2) c.args.ids.now
+        (omega (arith, c.in_ok-run.ensures.within, c.if-run-ids.false)),
+  ),
+  rw (c.run-2.ensures.same, c.run.ensures.same) (front_numbers c.args.self.now _ c.args.ids.now c.requires),
+)
+
+pub sort-requires-3 : goal.sort-requires-3
+sort-requires-3 t c = (
+  omega (arith, c.decreases, rest_shorter (length c.args.ids.now / 2) c.args.ids.now (omega (arith, c.if-half-run.false)) (omega arith)),
+  rw (c.sort-2.ensures.same, c.run-2.ensures.same, c.run.ensures.same)
+      (rest_numbers c.args.self.now _ _ c.args.ids.now c.requires),
+)

@@ -3,7 +3,7 @@ use Rattle.std.proofs.lemmas.Result.{IfOk-from_err}
 use Rattle.sb_lang.proofs.CallerLemmas.{parts-regexes}
 use Rattle.sb_lang.specs.Constructors.{mkalt}
 use Rattle.sb_regex.specs.Numbered.{regexes_at, Names, Extends}
-use Rattle.sb_regex.proofs.CallerLemmas.{ats_kept, extends_same}
+use Rattle.sb_regex.proofs.CallerLemmas.{ats_kept, extends_same, numbers_kept}
 use Rattle.sb_regex.proofs.Combining.{ats_normal}
 use Rattle.sb_regex.proofs.arena.Arena.alt.Goals as goal
 
@@ -64,3 +64,8 @@ returns c =
           (sym c.remember.ensures) c.in_ok-id.ensures.ok;
       extends = subst (Extends c.args.self.now) (sym c.remember.ensures) c.union_of.ensures.extends;
     }
+
+pub remember-requires-clause-parts : goal.remember-requires-clause-parts
+remember-requires-clause-parts c =
+    numbers_kept c.args.self.now c.union_of.new.self c.in_ok-members.members.items c.in_ok-id.ensures.extends
+    c.in_ok-members.ensures.numbers

@@ -1,4 +1,6 @@
+use Rattle.std.proofs.Common.{subst, sym}
 use Rattle.sb_regex.proofs.Combining.{alt_of_none, alt_of_one, alt_of_many}
+use Rattle.sb_regex.specs.Numbered.{AllNumbers}
 use Rattle.sb_regex.proofs.arena.Arena.alt_of.Goals as goal
 
 pub intern-requires-clause-normal : goal.intern-requires-clause-normal
@@ -21,3 +23,7 @@ returns-in_ok-parts-in_default-clause-ok c =
     rw (← alt_of_many c.args.self.now c.args.ids.now c.in_ok-parts-in_default.parts.items c.in_default.len_at_least
     c.in_ok-parts-in_default.ensures.ok)
     (c.intern.ensures.ok)
+
+pub intern-requires-clause-parts : goal.intern-requires-clause-parts
+intern-requires-clause-parts c =
+    subst (AllNumbers c.args.self.now) (sym c.in_ok-parts-in_default.ensures.ok) c.requires.numbers

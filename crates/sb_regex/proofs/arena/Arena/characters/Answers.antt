@@ -1,7 +1,7 @@
 use Rattle.std.proofs.Common.{◌<◌, ◌-◌, length, get_or, refl, arith}
 use Rattle.std.proofs.lemmas.List.{get_or_default}
 use Rattle.std.proofs.lemmas.Result.{IfOk-from_err}
-use Rattle.sb_regex.proofs.CallerLemmas.{extends_more, names_below}
+use Rattle.sb_regex.proofs.CallerLemmas.{extends_more, names_below, number_kept}
 use Rattle.sb_regex.proofs.Words.{word_start, word_more, word_end, normal_character}
 use Rattle.sb_regex.proofs.arena.Arena.characters.Goals as goal
 
@@ -82,3 +82,8 @@ returns-in_err-whole-2 c =
       extends = extends_more _ _ _ (extends_more _ _ _ c.loop-left.invariant.1 c.intern.ensures.extends)
           c.cat.ensures.extends;
     }
+
+pub cat-requires-clause-right : goal.cat-requires-clause-right
+cat-requires-clause-right c =
+    number_kept c.loop-left.self c.intern.new.self c.loop-left.whole c.in_ok-character.ensures.extends
+    c.loop-left.invariant.2

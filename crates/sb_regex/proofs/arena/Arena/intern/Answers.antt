@@ -1,7 +1,9 @@
+use Rattle.std.proofs.Common.{subst, sym}
 use Rattle.std.proofs.lemmas.Result.{IfOk-weaker}
 use Rattle.sb_regex.specs.Table.{regexes_of}
 use Rattle.sb_regex.proofs.Remembering.{remembered_more, basic_more}
 use Rattle.sb_regex.proofs.Interned.{extended, table_added, named, found, pushed}
+use Rattle.sb_regex.specs.Interning.{IsTable}
 use Rattle.sb_regex.proofs.arena.Arena.intern.Goals as goal
 
 pub returns-in-Some-clause-ok : goal.returns-in-Some-clause-ok
@@ -44,3 +46,11 @@ pub returns-clause-extends : goal.returns-clause-extends
 returns-clause-extends c =
     extended c.args.self.now c.self.inside.nodes.keys c.insert_full.new.self.keys c.args.node c.self.view_is
     c.in_ok-number.ensures.keys
+
+pub invariant_of-self : goal.invariant_of-self
+invariant_of-self c =
+    let ks = c.self.inside.nodes.keys in (
+      subst (IsTable (regexes_of ks) ks) (sym c.in_err-reserve.ensures.items) c.self.invariant.0,
+      c.self.invariant.1,
+      c.self.invariant.2,
+    )

@@ -1,4 +1,6 @@
+use Rattle.std.proofs.lemmas.Result.{IfOk-from_err}
 use Rattle.sb_regex.proofs.Combining.{join_value, first_numbers}
+use Rattle.sb_regex.proofs.CallerLemmas.{extends_same, numbers_kept}
 use Rattle.sb_regex.proofs.arena.Arena.join_sets.Goals as goal
 
 pub returns-clause-value : goal.returns-clause-value
@@ -16,3 +18,55 @@ returns-clause-numbers c =
     c.in_ok-push_others.ensures.numbers
     (first_numbers c.set.new.self c.new-all.result.items c.push.new.self.items c.in_ok-set.field-0 _
     c.in_ok-set.ensures.ok c.new-all.ensures.items c.in_ok-push.ensures.items)
+
+pub push_others-requires : goal.push_others-requires
+push_others-requires c =
+    numbers_kept c.args.self.now c.set.new.self c.args.members.now c.in_ok-set.ensures.extends c.requires
+
+pub returns-clause-extends : goal.returns-clause-extends
+returns-clause-extends c = c.set.ensures.extends
+
+pub returns-in_err-sets : goal.returns-in_err-sets
+returns-in_err-sets c =
+    let x = c.from_residual in
+    record {
+      value = IfOk-from_err x.result _ x.ensures.0;
+      numbers = IfOk-from_err x.result _ x.ensures.0;
+      extends = extends_same c.args.self.now;
+    }
+
+pub returns-in_err-class : goal.returns-in_err-class
+returns-in_err-class c =
+    let x = c.from_residual-in_err-class in
+    record {
+      value = IfOk-from_err x.result _ x.ensures.0;
+      numbers = IfOk-from_err x.result _ x.ensures.0;
+      extends = extends_same c.args.self.now;
+    }
+
+pub returns-in_err-set : goal.returns-in_err-set
+returns-in_err-set c =
+    let x = c.from_residual-in_err-set in
+    record {
+      value = IfOk-from_err x.result _ x.ensures.0;
+      numbers = IfOk-from_err x.result _ x.ensures.0;
+      extends = c.set.ensures.extends;
+    }
+
+pub returns-in_err-push : goal.returns-in_err-push
+returns-in_err-push c =
+    let x = c.from_residual-in_err-push in
+    record {
+      value = IfOk-from_err x.result _ x.ensures.0;
+      numbers = IfOk-from_err x.result _ x.ensures.0;
+      extends = c.set.ensures.extends;
+    }
+
+pub returns-in_err-push_others : goal.returns-in_err-push_others
+returns-in_err-push_others c =
+    let x = c.from_residual-in_err-push_others in
+    record {
+      value = IfOk-from_err x.result _ x.ensures.0;
+      numbers = IfOk-from_err x.result _ x.ensures.0;
+      extends = c.set.ensures.extends;
+    }

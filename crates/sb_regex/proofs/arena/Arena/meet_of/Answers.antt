@@ -1,11 +1,13 @@
 use Rattle.std.proofs.Common.{◌≡◌, ℕ, ◌<◌, ◌∷◌, [], length, ap, ◌∙◌}
+use Rattle.std.proofs.lemmas.List.Elements.{All-nil}
 use Rattle.std.proofs.lemmas.Option.{MatchOption-at_some, MatchOption-at_none}
-use Rattle.std.proofs.lemmas.Result.{IfOk-weaker}
+use Rattle.std.proofs.lemmas.Result.{IfOk-weaker, IfOk-from_err}
 use Rattle.sb_class.specs.Ranges.{in_ranges}
 use Rattle.sb_lang.specs.Constructors.{meet_of}
 use Rattle.sb_regex.specs.Numbered.{regexes_at}
 use Rattle.sb_regex.specs.Steps.{in_all}
 use Rattle.sb_regex.proofs.Combining.{meet_none, meet_value, alone_number}
+use Rattle.sb_regex.proofs.CallerLemmas.{extends_same}
 use Rattle.sb_regex.proofs.arena.Arena.meet_of.Goals as goal
 
 pub returns-in-None-clause-value : goal.returns-in-None-clause-value
@@ -31,3 +33,39 @@ returns-in_ok-id-in-Some-clause-numbers c =
     IfOk-weaker c.from_slice.result (λ v. v.items ≡ c.in_ok-id-in-Some.id ∷ []) _
     (λ v alone. alone_number c.set.new.self v.items c.in_ok-id-in-Some.id _ c.in_ok-id-in-Some.ensures.ok alone)
     c.from_slice.ensures.items
+
+pub returns-in-None-clause-numbers : goal.returns-in-None-clause-numbers
+returns-in-None-clause-numbers c = rw (c.new.ensures.items) (All-nil (λ i. i < length c.args.self.now))
+
+pub returns-in-None-clause-extends : goal.returns-in-None-clause-extends
+returns-in-None-clause-extends c = extends_same c.args.self.now
+
+pub returns-in_ok-id-in-Some-clause-extends : goal.returns-in_ok-id-in-Some-clause-extends
+returns-in_ok-id-in-Some-clause-extends c = c.set.ensures.extends
+
+pub returns-in_err-sets : goal.returns-in_err-sets
+returns-in_err-sets c =
+    let x = c.from_residual in
+    record {
+      value = IfOk-from_err x.result _ x.ensures.0;
+      numbers = IfOk-from_err x.result _ x.ensures.0;
+      extends = extends_same c.args.self.now;
+    }
+
+pub returns-in_err-meet : goal.returns-in_err-meet
+returns-in_err-meet c =
+    let x = c.from_residual-in_err-meet in
+    record {
+      value = IfOk-from_err x.result _ x.ensures.0;
+      numbers = IfOk-from_err x.result _ x.ensures.0;
+      extends = extends_same c.args.self.now;
+    }
+
+pub returns-in_err-id-in-Some : goal.returns-in_err-id-in-Some
+returns-in_err-id-in-Some c =
+    let x = c.from_residual-in_err-id-in-Some in
+    record {
+      value = IfOk-from_err x.result _ x.ensures.0;
+      numbers = IfOk-from_err x.result _ x.ensures.0;
+      extends = c.set.ensures.extends;
+    }

@@ -1,5 +1,5 @@
-use Rattle.std.proofs.Common.{ℕ, ◌<◌, ◌++◌, length, ◌∙◌, sym, arith}
-use Rattle.std.proofs.lemmas.List.Elements.{All-drop, All-take}
+use Rattle.std.proofs.Common.{ℕ, ◌<◌, ◌++◌, length, ◌∙◌, sym, arith, refl}
+use Rattle.std.proofs.lemmas.List.Elements.{All-drop, All-take, All-nil}
 use Rattle.std.proofs.lemmas.Result.{IfOk-from_err}
 use Rattle.sb_regex.specs.Numbered.{regexes_at}
 use Rattle.sb_regex.proofs.Spines.{numbers_push}
@@ -134,3 +134,24 @@ returns-in_err-extend_from_slice-2 c =
 
 pub returns-clause-same : goal.returns-clause-same
 returns-clause-same c = c.loop-i.invariant.0
+
+pub loop-i-init : goal.loop-i-init
+loop-i-init c =
+    rw (c.new-all.ensures.items) (
+      refl,
+      omega arith,
+      omega arith,
+      All-nil (λ i. i < length c.args.self.now),
+      c.requires.left_rises,
+      c.requires.right_rises,
+      λ r. refl,
+    )
+
+pub place-requires : goal.place-requires
+place-requires c =
+    record {
+      left = number_in c.loop-i.self c.args.left.now c.loop-i.i _ (rw (c.loop-i.invariant.0) c.requires.left)
+          c.loop-i-test.true c.index-left-i.is;
+      right = number_in c.loop-i.self c.args.right.now c.loop-i.j _ (rw (c.loop-i.invariant.0) c.requires.right)
+          c.if-j-right.true c.index-right-j.is;
+    }

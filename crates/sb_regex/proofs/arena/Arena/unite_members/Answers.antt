@@ -1,6 +1,6 @@
 use Rattle.std.proofs.Common.{◌∙◌, sym, subst}
 use Rattle.std.proofs.lemmas.Result.{IfOk-from_err}
-use Rattle.sb_regex.specs.Numbered.{regexes_at, Extends}
+use Rattle.sb_regex.specs.Numbered.{regexes_at, Extends, AllNumbers}
 use Rattle.sb_regex.proofs.CallerLemmas.{extends_more, numbers_kept, names_kept}
 use Rattle.sb_regex.proofs.Combining.{decider_found, rest_sorted, kept_numbers, union_is_anything, union_is_rest}
 use Rattle.sb_regex.proofs.arena.Arena.unite_members.Goals as goal
@@ -107,3 +107,7 @@ returns-in_err-rising c =
           (extends_more c.args.self.now c.none.new.self c.anything.new.self c.none.ensures.extends
           c.anything.ensures.extends);
     }
+
+pub alt_of-requires-clause-numbers : goal.alt_of-requires-clause-numbers
+alt_of-requires-clause-numbers c =
+    subst (AllNumbers c.in_order.new.self) (sym c.deref-3.ensures.value) c.in_ok-rising.ensures.numbers
