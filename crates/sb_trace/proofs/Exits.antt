@@ -28,15 +28,15 @@ on_ok_known (Err e) P h = tt
 
 -- Faults of the tape that are handed on, and want of memory, which is none.
 
-pub counts_on : {A B : Type 0} (r : Result B TapeFault) (e f : TapeFault) (old new : ℕ) → r ≡ Err e → e ≡ f
+pub counts_on : (A : Type 0) {B : Type 0} (r : Result B TapeFault) (e f : TapeFault) (old new : ℕ) → r ≡ Err e → e ≡ f
     → CountsTapeFault {A = A} (Err f) old new → CountsTapeFault r old new
-counts_on (Ok x) e f old new is same h = absurd (Prim.cc (is))
-counts_on (Err fault.Fault) fault.Fault fault.Fault old new is same h = h
-counts_on (Err fault.NoMemory) fault.NoMemory fault.NoMemory old new is same h = h
-counts_on (Err fault.Fault) fault.NoMemory f old new is same h = absurd (Prim.cc (is))
-counts_on (Err fault.NoMemory) fault.Fault f old new is same h = absurd (Prim.cc (is))
-counts_on (Err fault.Fault) fault.Fault fault.NoMemory old new is same h = absurd (Prim.cc (same))
-counts_on (Err fault.NoMemory) fault.NoMemory fault.Fault old new is same h = absurd (Prim.cc (same))
+counts_on A (Ok x) e f old new is same h = absurd (Prim.cc (is))
+counts_on A (Err fault.Fault) fault.Fault fault.Fault old new is same h = h
+counts_on A (Err fault.NoMemory) fault.NoMemory fault.NoMemory old new is same h = h
+counts_on A (Err fault.Fault) fault.NoMemory f old new is same h = absurd (Prim.cc (is))
+counts_on A (Err fault.NoMemory) fault.Fault f old new is same h = absurd (Prim.cc (is))
+counts_on A (Err fault.Fault) fault.Fault fault.NoMemory old new is same h = absurd (Prim.cc (same))
+counts_on A (Err fault.NoMemory) fault.NoMemory fault.Fault old new is same h = absurd (Prim.cc (same))
 
 pub counts_none : {B : Type 0} (r : Result B TapeFault) (e : TapeFault) (n : ℕ) → r ≡ Err e → e ≡ fault.NoMemory
     → CountsTapeFault r n n

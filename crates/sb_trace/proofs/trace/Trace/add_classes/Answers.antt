@@ -1,4 +1,4 @@
-use Rattle.std.proofs.Common.{refl, ◌∙◌, subst}
+use Rattle.std.proofs.Common.{refl, ◌∙◌, subst, ℕ}
 use Rattle.std.proofs.lemmas.Result.{IfOk-from_err, err_from_is_err_and}
 use Rattle.sb_trace.proofs.Puts.{traces_none, traces_both, stays_both}
 use Rattle.sb_trace.proofs.Growing.{stays_same}
@@ -70,8 +70,8 @@ returns-in_err-number g c =
       stays = stays_both c.args.self.now c.loop-place.self c.number.new.self i.stays n.stays;
       expanded_stay = λ m. n.expanded_stay m ∙ i.expanded_stay m;
       dead_stay = λ m. n.dead_stay m ∙ i.dead_stay m;
-      counts = subst (λ old. CountsTapeFault x.result old _) i.faults
-          (counts_on x.result p.0 _ _ _ p.1 p.2 c.in_err-number.ensures.counts);
+      counts = subst (λ old. CountsTapeFault x.result old (g.L.Tape.faults c.number.new.tape)) i.faults
+          (counts_on ℕ x.result p.0 _ _ _ p.1 p.2 c.in_err-number.ensures.counts);
     }
 
 pub returns-in_err-add_class : goal.returns-in_err-add_class
@@ -86,6 +86,6 @@ returns-in_err-add_class g c =
       stays = stays_both c.args.self.now c.loop-place.self c.number.new.self i.stays n.stays;
       expanded_stay = λ m. n.expanded_stay m ∙ i.expanded_stay m;
       dead_stay = λ m. n.dead_stay m ∙ i.dead_stay m;
-      counts = subst (λ old. CountsTapeFault x.result old _) (n.counts ∙ i.faults)
-          (counts_none x.result p.0 _ p.1 p.2);
+      counts = subst (λ old. CountsTapeFault x.result old (g.L.Tape.faults c.number.new.tape)) (n.counts ∙ i.faults)
+          (counts_none x.result p.0 (g.L.Tape.faults c.number.new.tape) p.1 p.2);
     }

@@ -1,4 +1,4 @@
-use Rattle.std.proofs.Common.{refl, sym, ◌∙◌, subst}
+use Rattle.std.proofs.Common.{refl, sym, ◌∙◌, subst, Bool}
 use Rattle.std.proofs.lemmas.Result.{IfOk-from_err, err_from_is_err_and}
 use Rattle.std.proofs.lemmas.Bool.{true≢false, false≢true}
 use Rattle.sb_trace.proofs.Growing.{traces_both, traces_uncounted, traces_none, stays_same}
@@ -115,7 +115,7 @@ returns-in_err-close g c =
       marks = h.goes.marks;
       derivatives_stay = h.goes.derivatives;
       steps = h.steps;
-      counts = counts_on x.result p.0 _ _ _ p.1 p.2 c.in_err-close.ensures.counts;
+      counts = counts_on Bool x.result p.0 _ _ _ p.1 p.2 c.in_err-close.ensures.counts;
     }
 
 pub returns-then-not-branch : goal.returns-then-not-branch
@@ -150,6 +150,6 @@ returns-in_err-put_dead g c =
       marks = h.goes.marks;
       derivatives_stay = h.goes.derivatives;
       steps = h.steps;
-      counts = subst (λ old. CountsTapeFault x.result old _) h.counts
-          (counts_on x.result p.0 _ _ _ p.1 p.2 c.in_err-put_dead.ensures.counts);
+      counts = subst (λ old. CountsTapeFault x.result old (g.L.Tape.faults c.put_dead.new.tape)) h.counts
+          (counts_on (Unit {0}) x.result p.0 _ _ _ p.1 p.2 c.in_err-put_dead.ensures.counts);
     }

@@ -1,4 +1,4 @@
-use Rattle.std.proofs.Common.{◌≡◌, ◌||◌, ◌+◌, ◌-◌, ℕ, nat_eq, List, sym, ap, ap₂, subst, ◌∙◌, refl}
+use Rattle.std.proofs.Common.{◌≡◌, ◌||◌, ◌+◌, ◌-◌, ℕ, nat_eq, List, sym, ap, ap₂, subst, ◌∙◌, refl, Bool}
 use Rattle.std.specs.List.{count_by, IsDistinct}
 use Rattle.std.proofs.lemmas.Result.{IfOk-from_err, err_from_is_err_and}
 use Rattle.std.proofs.lemmas.Bool.{false≢true}
@@ -43,7 +43,7 @@ returns-in_err-done g c =
           c.expand_each.new.graph c.args.self.now c.args.self.now c.expand_each.new.self c.in_ok-closed.ensures.goes
           c.expand_each.ensures.goes;
       steps = e.steps;
-      counts = counts_on x.result p.0 _ _ _ p.1 p.2 c.in_err-done.ensures.counts;
+      counts = counts_on Bool x.result p.0 _ _ _ p.1 p.2 c.in_err-done.ensures.counts;
     }
 
 pub returns-then-not-closed : goal.returns-then-not-closed

@@ -1,4 +1,4 @@
-use Rattle.std.proofs.Common.{◌≡◌, ◌||◌, ◌+◌, ℕ, List, slice_get, sym, ap, subst, ◌∙◌, refl}
+use Rattle.std.proofs.Common.{◌≡◌, ◌||◌, ◌+◌, ℕ, List, slice_get, sym, ap, subst, ◌∙◌, refl, Bool}
 use Rattle.std.specs.List.{count_by}
 use Rattle.std.proofs.lemmas.Result.{IfOk-from_err, err_from_is_err_and}
 use Rattle.sb_regex.specs.Numbered.{regex_at}
@@ -133,7 +133,7 @@ returns-in_err-close g c =
       graph = h.goes.graph;
       marks = h.goes.marks;
       derivatives_stay = h.goes.derivatives;
-      counts = counts_on x.result p.0 _ _ _ p.1 p.2 c.in_err-close.ensures.counts;
+      counts = counts_on Bool x.result p.0 _ _ _ p.1 p.2 c.in_err-close.ensures.counts;
     }
 
 pub returns-in_err-regexes : goal.returns-in_err-regexes
@@ -158,6 +158,6 @@ returns-in_err-regexes g c =
       graph = h.goes.graph;
       marks = h.goes.marks;
       derivatives_stay = h.goes.derivatives;
-      counts = subst (λ old. CountsTapeFault x.result old _) h.counts
-          (counts_none x.result p.0 _ p.1 p.2);
+      counts = subst (λ old. CountsTapeFault x.result old (g.L.Tape.faults c.close.new.tape)) h.counts
+          (counts_none x.result p.0 (g.L.Tape.faults c.close.new.tape) p.1 p.2);
     }

@@ -1,5 +1,8 @@
 use Rattle.std.proofs.Common.{◌≡◌, ◌≤◌, ℕ, Bool, true, false, ◌||◌, Some, length, get_or, refl, sym, ap, ◌∙◌, arith, subst}
 use Rattle.std.proofs.lemmas.Result.{IfOk-from_err, err_from_is_err_and}
+use Rattle.std.specs.declared.alloc.Global.{Global}
+use Rattle.std.specs.declared.vec.Vec.{Vec}
+use Rattle.sb_proof.specs.declared.line.Class.{Class}
 use Rattle.sb_graph.specs.Findings.{is_marked}
 use Rattle.sb_trace.specs.Tracking.{Traced, IsExpandedIn, number_in, is_put}
 use Rattle.sb_trace.proofs.Positions.{number-below}
@@ -38,7 +41,7 @@ returns-in_err-number g c =
       dead = h.dead_stay;
       marks = λ n h. c.number.ensures.expanded_stay n ∙ h;
       steps = spent_none c.args.budget.now;
-      counts = counts_on x.result p.0 _ _ _ p.1 p.2 c.in_err-number.ensures.counts;
+      counts = counts_on ℕ x.result p.0 _ _ _ p.1 p.2 c.in_err-number.ensures.counts;
     }
 
 pub returns-in_err-classes : goal.returns-in_err-classes
@@ -59,9 +62,15 @@ returns-in_err-classes g c =
       dead = λ n. k.dead_stay n ∙ h.dead_stay n;
       marks = λ n h. c.classes.ensures.expanded_stay n ∙ c.number.ensures.expanded_stay n ∙ h;
       steps = spent_none c.args.budget.now;
-      counts = subst (λ old. CountsTapeFault x.result old _) h.counts
-          (counts_on x.result p.0 _ _ _ p.1 p.2 c.in_err-classes.ensures.counts);
+      counts = subst (λ old. CountsTapeFault x.result old (g.L.Tape.faults c.classes.new.tape)) h.counts
+          (counts_on (Vec Class Global) x.result p.0 _ _ _ p.1 p.2 c.in_err-classes.ensures.counts);
     }
+
+there : (t u : Traced) (regex number : ℕ) (b : Bool) → u ≡ t → length u.order ≤ length u.expanded
+    → number_in t.order regex ≡ Some number → b ≡ get_or u.expanded number b → b ≡ true → IsExpandedIn t regex
+there t u regex number b same long first is marked =
+    let l = within_expanded t u same number long (number-below t.order regex number first) in
+    (number, first, sym (expanded_read t u same number b l is) ∙ marked)
 
 pub returns-then-index : goal.returns-then-index
 returns-then-index g c =
@@ -93,12 +102,6 @@ returns-then-index g c =
       steps = spent_none c.args.budget.now;
       counts = c.in_ok-number.ensures.counts;
     }
-
-there : (t u : Traced) (regex number : ℕ) (b : Bool) → u ≡ t → length u.order ≤ length u.expanded
-    → number_in t.order regex ≡ Some number → b ≡ get_or u.expanded number b → b ≡ true → IsExpandedIn t regex
-there t u regex number b same long first is marked =
-    let l = within_expanded t u same number long (number-below t.order regex number first) in
-    (number, first, sym (expanded_read t u same number b l is) ∙ marked)
 
 pub put_expansion-requires : goal.put_expansion-requires
 put_expansion-requires g c =
@@ -171,6 +174,6 @@ returns g c =
       marks = λ n h. c.put_expansion.ensures.marks n
           (c.in_ok-classes.ensures.expanded_stay n ∙ c.in_ok-number.ensures.expanded_stay n ∙ h);
       steps = e.steps;
-      counts = subst (λ old. CountsTapeFault c.put_expansion.result old _)
+      counts = subst (λ old. CountsTapeFault c.put_expansion.result old (g.L.Tape.faults c.put_expansion.new.tape))
           (c.in_ok-classes.ensures.counts ∙ c.in_ok-number.ensures.counts) e.counts;
     }

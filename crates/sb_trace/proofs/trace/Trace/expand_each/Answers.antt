@@ -1,3 +1,4 @@
+use Rattle.sb_trace.specs.declared.trace.Expand.{Expand}
 use Rattle.std.proofs.Common.{rules, ◌≢◌, ◌||◌, refl, sym, ap, ◌∙◌, arith, subst}
 use Rattle.std.proofs.lemmas.Result.{IfOk-from_err, err_from_is_err_and}
 use Rattle.std.proofs.lemmas.Bool.{true≢false, false≢true}
@@ -86,8 +87,8 @@ returns-in_err-expand g c =
           });
       steps = spent_both c.args.budget.now c.loop-regex.budget c.expand.new.budget c.loop-regex.invariant.steps
           c.in_err-expand.ensures.steps;
-      counts = subst (λ old. CountsTapeFault x.result old _) c.loop-regex.invariant.faults
-          (counts_on x.result p.0 _ _ _ p.1 p.2 c.in_err-expand.ensures.counts);
+      counts = subst (λ old. CountsTapeFault x.result old (g.L.Tape.faults c.expand.new.tape)) c.loop-regex.invariant.faults
+          (counts_on Expand x.result p.0 _ _ _ p.1 p.2 c.in_err-expand.ensures.counts);
     }
 
 pub returns-in-Spent : goal.returns-in-Spent

@@ -1,17 +1,19 @@
-use Rattle.std.proofs.Common.{◌-◌, ℕ, nat_eq, List, IfOk, sym, subst, ap₂, ◌∙◌}
+use Rattle.std.proofs.Common.{◌-◌, ℕ, nat_eq, List, IfOk, sym, subst, ap₂, ◌∙◌, ap, Bool}
+use Rattle.std.proofs.lemmas.Result.{IfOk-from_err, err_from_is_err_and}
 use Rattle.std.specs.List.{count_by, IsDistinct}
 use Rattle.sb_lang.specs.Language.{language}
 use Rattle.sb_regex.specs.Numbered.{AllNumbers}
-use Rattle.sb_regex.proofs.CallerLemmas.{at_kept, extends_more, number_kept}
+use Rattle.sb_regex.proofs.CallerLemmas.{at_kept, extends_more, number_kept, extends_same}
 use Rattle.sb_graph.specs.Witness.{IsFinding}
 use Rattle.sb_trace.specs.Tracking.{IsExploring}
 use Rattle.sb_trace.specs.Reaching.{is_unexpanded}
 use Rattle.sb_trace.specs.Closing.{HasSpent}
-use Rattle.sb_trace.proofs.Growing.{traces_grown}
-use Rattle.sb_trace.proofs.Exits.{on_ok_more}
+use Rattle.sb_trace.proofs.Growing.{traces_grown, stays_same}
+use Rattle.sb_trace.proofs.Exits.{on_ok_more, counts_none, counts_on}
 use Rattle.sb_trace.proofs.Closures.{numbers_alone}
 use Rattle.sb_trace.proofs.Counts.{spent_out}
 use Rattle.sb_trace.proofs.Spent.{spent_none}
+use Rattle.sb_graph.specs.Findings.{is_marked}
 use Rattle.sb_trace.proofs.trace.Trace.explore_front.Goals as goal
 
 pub gather-requires-clause-known : goal.gather-requires-clause-known
@@ -89,11 +91,158 @@ returns-then-branch-clause-derivatives_stay g c = λ n pieces h.
     c.show.ensures.derivatives_stay n pieces
     (c.in_ok-explored.ensures.derivatives_stay n pieces (c.in_ok-gather.ensures.goes.derivatives n pieces h))
 
-pub returns-in_err-members-clause-steps : goal.returns-in_err-members-clause-steps
-returns-in_err-members-clause-steps g c = spent_none c.args.budget.now
+pub returns-in_err-members : goal.returns-in_err-members
+returns-in_err-members g c =
+    let x = c.from_residual in
+    let p = err_from_is_err_and x.result x.ensures.1 in
+    record {
+      found = IfOk-from_err x.result _ x.ensures.0;
+      puts = IfOk-from_err x.result _ x.ensures.0;
+      alive = IfOk-from_err x.result _ x.ensures.0;
+      dead = IfOk-from_err x.result _ x.ensures.0;
+      spent = IfOk-from_err x.result _ x.ensures.0;
+      stays = stays_same c.args.self.now;
+      extends = extends_same c.args.arena.now;
+      graph = c.requires.graph;
+      marks_stay = λ n h. h;
+      derivatives_stay = λ n pieces h. h;
+      steps = spent_none c.args.budget.now;
+      counts = counts_none x.result p.0 _ p.1 p.2;
+    }
 
-pub returns-in_err-gather-clause-steps : goal.returns-in_err-gather-clause-steps
-returns-in_err-gather-clause-steps g c = spent_none c.args.budget.now
+pub returns-in_err-gather : goal.returns-in_err-gather
+returns-in_err-gather g c =
+    let x = c.from_residual-in_err-gather in
+    let p = err_from_is_err_and x.result x.ensures.1 in
+    let first = c.in_err-gather.ensures.goes in
+    record {
+      found = IfOk-from_err x.result _ x.ensures.0;
+      puts = IfOk-from_err x.result _ x.ensures.0;
+      alive = IfOk-from_err x.result _ x.ensures.0;
+      dead = IfOk-from_err x.result _ x.ensures.0;
+      spent = IfOk-from_err x.result _ x.ensures.0;
+      stays = stays_same c.args.self.now;
+      extends = first.extends;
+      graph = first.graph;
+      marks_stay = λ n h. ap (λ marks. is_marked marks n) first.marks ∙ h;
+      derivatives_stay = first.derivatives;
+      steps = spent_none c.args.budget.now;
+      counts = counts_none x.result p.0 _ p.1 p.2;
+    }
 
-pub returns-in_err-explored-clause-steps : goal.returns-in_err-explored-clause-steps
-returns-in_err-explored-clause-steps g c = spent_none c.args.budget.now
+pub returns-in_err-explored : goal.returns-in_err-explored
+returns-in_err-explored g c =
+    let x = c.from_residual-in_err-explored in
+    let p = err_from_is_err_and x.result x.ensures.1 in
+    let first = c.in_ok-gather.ensures.goes in
+    let next = c.in_err-explored.ensures in
+    record {
+      found = IfOk-from_err x.result _ x.ensures.0;
+      puts = IfOk-from_err x.result _ x.ensures.0;
+      alive = IfOk-from_err x.result _ x.ensures.0;
+      dead = IfOk-from_err x.result _ x.ensures.0;
+      spent = IfOk-from_err x.result _ x.ensures.0;
+      stays = stays_same c.args.self.now;
+      extends = extends_more c.args.arena.now c.gather.new.arena c.answer.new.arena first.extends next.extends;
+      graph = next.graph;
+      marks_stay = λ n h. next.marks_stay n (ap (λ marks. is_marked marks n) first.marks ∙ h);
+      derivatives_stay = λ n pieces h. next.derivatives_stay n pieces (first.derivatives n pieces h);
+      steps = spent_none c.args.budget.now;
+      counts = counts_none x.result p.0 _ p.1 p.2;
+    }
+
+pub returns-in_err-_done : goal.returns-in_err-_done
+returns-in_err-_done g c =
+    let x = c.from_residual-in_err-_done in
+    let p = err_from_is_err_and x.result x.ensures.1 in
+    let first = c.in_ok-gather.ensures.goes in
+    let done = c.in_err-_done.ensures in
+    record {
+      found = IfOk-from_err x.result _ x.ensures.0;
+      puts = IfOk-from_err x.result _ x.ensures.0;
+      alive = IfOk-from_err x.result _ x.ensures.0;
+      dead = IfOk-from_err x.result _ x.ensures.0;
+      spent = IfOk-from_err x.result _ x.ensures.0;
+      stays = done.goes.stays;
+      extends = extends_more c.args.arena.now c.gather.new.arena c.expand_each.new.arena first.extends
+          done.goes.extends;
+      graph = done.goes.graph;
+      marks_stay = λ n h.
+          ap (λ marks. is_marked marks n) done.goes.marks ∙ ap (λ marks. is_marked marks n) first.marks ∙ h;
+      derivatives_stay = λ n pieces h. done.goes.derivatives n pieces (first.derivatives n pieces h);
+      steps = done.steps;
+      counts = counts_on Bool x.result p.0 _ _ _ p.1 p.2 done.counts;
+    }
+
+pub returns-then-branch-clause-alive : goal.returns-then-branch-clause-alive
+returns-then-branch-clause-alive g c = c.show.ensures.alive
+
+pub returns-then-branch-clause-dead : goal.returns-then-branch-clause-dead
+returns-then-branch-clause-dead g c = c.show.ensures.dead
+
+pub returns-then-branch-clause-spent : goal.returns-then-branch-clause-spent
+returns-then-branch-clause-spent g c = c.show.ensures.spent
+
+pub returns-then-branch-clause-stays : goal.returns-then-branch-clause-stays
+returns-then-branch-clause-stays g c = c.show.ensures.stays
+
+pub returns-then-branch-clause-graph : goal.returns-then-branch-clause-graph
+returns-then-branch-clause-graph g c = c.show.ensures.graph
+
+pub returns-then-branch-clause-steps : goal.returns-then-branch-clause-steps
+returns-then-branch-clause-steps g c = c.show.ensures.steps
+
+pub returns-then-branch-clause-counts : goal.returns-then-branch-clause-counts
+returns-then-branch-clause-counts g c = c.show.ensures.counts
+
+pub returns-then-branch-clause-extends : goal.returns-then-branch-clause-extends
+returns-then-branch-clause-extends g c =
+    let first = c.in_ok-gather.ensures.goes.extends in
+    let next = c.in_ok-explored.ensures.extends in
+    extends_more c.args.arena.now c.answer.new.arena c.show.new.arena
+    (extends_more c.args.arena.now c.gather.new.arena c.answer.new.arena first next) c.show.ensures.extends
+
+pub returns-then-branch-clause-marks_stay : goal.returns-then-branch-clause-marks_stay
+returns-then-branch-clause-marks_stay g c = λ n h.
+    ap (λ marks. is_marked marks n) c.show.ensures.marks
+    ∙ c.in_ok-explored.ensures.marks_stay n
+    (ap (λ marks. is_marked marks n) c.in_ok-gather.ensures.goes.marks ∙ h)
+
+pub show-requires-clause-graph : goal.show-requires-clause-graph
+show-requires-clause-graph g c = c.in_ok-explored.ensures.graph
+
+pub show-requires-clause-dead : goal.show-requires-clause-dead
+show-requires-clause-dead g c = c.in_ok-explored.ensures.dead
+
+pub expand_each-requires-clause-graph : goal.expand_each-requires-clause-graph
+expand_each-requires-clause-graph g c = c.in_ok-gather.ensures.goes.graph
+
+pub returns-clause-stays : goal.returns-clause-stays
+returns-clause-stays g c = c.in_ok-_done.ensures.goes.stays
+
+pub returns-clause-extends : goal.returns-clause-extends
+returns-clause-extends g c =
+    extends_more c.args.arena.now c.gather.new.arena c.expand_each.new.arena c.in_ok-gather.ensures.goes.extends
+    c.in_ok-_done.ensures.goes.extends
+
+pub returns-clause-graph : goal.returns-clause-graph
+returns-clause-graph g c = c.in_ok-_done.ensures.goes.graph
+
+pub returns-clause-marks_stay : goal.returns-clause-marks_stay
+returns-clause-marks_stay g c = λ n h.
+    ap (λ marks. is_marked marks n) c.in_ok-_done.ensures.goes.marks
+    ∙ ap (λ marks. is_marked marks n) c.in_ok-gather.ensures.goes.marks
+    ∙ h
+
+pub returns-clause-derivatives_stay : goal.returns-clause-derivatives_stay
+returns-clause-derivatives_stay g c = λ n pieces h.
+    c.in_ok-_done.ensures.goes.derivatives n pieces (c.in_ok-gather.ensures.goes.derivatives n pieces h)
+
+pub returns-clause-steps : goal.returns-clause-steps
+returns-clause-steps g c = c.in_ok-_done.ensures.steps
+
+pub returns-clause-counts : goal.returns-clause-counts
+returns-clause-counts g c = c.in_ok-_done.ensures.counts
+
+pub returns-clause-dead : goal.returns-clause-dead
+returns-clause-dead g c = λ dead. absurd (Prim.cc (dead))

@@ -133,6 +133,6 @@ returns-in_err-settle g c =
       defines = IfOk-from_err x.result _ x.ensures.0;
       only = IfOk-from_err x.result _ x.ensures.0;
       stays = stays_both c.args.self.now c.loop-frame.self c.settle.new.self k.stays s.stays;
-      counts = subst (λ old. CountsTapeFault x.result old _) k.counts
-          (counts_on x.result p.0 _ _ _ p.1 p.2 c.in_err-settle.ensures.counts);
+      counts = subst (λ old. CountsTapeFault x.result old (g.L.Tape.faults c.settle.new.tape)) k.counts
+          (counts_on (Unit {0}) x.result p.0 _ _ _ p.1 p.2 c.in_err-settle.ensures.counts);
     }
