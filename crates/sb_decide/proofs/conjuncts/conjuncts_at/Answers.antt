@@ -30,3 +30,25 @@ pub returns : goal.returns
 returns c = λ rs n is rooted.
     walk_done rs c.args.members.now n c.loop-place.left.now c.loop-place.ids.items
     (nil_from_length c.loop-place.left.now c.in_default.ensures.cases) (c.loop-place.invariant.1 rs n is rooted)
+
+pub bounds-members-place : goal.bounds-members-place
+bounds-members-place c =
+    all_last (λ place. place < length c.args.members.now) c.in-Some.front.now c.loop-place.left.now
+    c.in-Some.place.now c.in-Some.ensures.cases.0 c.loop-place.invariant.0
+
+pub bounds-members-place-in_default-roots : goal.bounds-members-place-in_default-roots
+bounds-members-place-in_default-roots c =
+    all_last (λ place. place < length c.args.members.now) c.in-Some.front.now c.loop-place.left.now
+    c.in-Some.place.now c.in-Some.ensures.cases.0 c.loop-place.invariant.0
+
+pub bounds : goal.bounds
+bounds c =
+    let low = all_last (λ place. place < length c.args.members.now) c.in-Some.front.now c.loop-place.left.now
+    c.in-Some.place.now c.in-Some.ensures.cases.0 c.loop-place.invariant.0 in
+    omega (arith, low, c.requires.abreast)
+
+pub bounds-roots-place : goal.bounds-roots-place
+bounds-roots-place c =
+    let low = all_last (λ place. place < length c.args.members.now) c.in-Some.front.now c.loop-place.left.now
+    c.in-Some.place.now c.in-Some.ensures.cases.0 c.loop-place.invariant.0 in
+    omega (arith, low, c.requires.abreast)

@@ -1,13 +1,15 @@
-use Rattle.std.proofs.Common.{length, [], refl, sym, ap, ◌∙◌, subst}
+use Rattle.std.proofs.Common.{length, [], refl, sym, ap, ◌∙◌, subst, arith}
+use Rattle.std.proofs.lemmas.Result.{IfOk-from_err}
 use Rattle.std.proofs.lemmas.List.{with_items_is}
 use Rattle.std.specs.Vec.{with_items}
 use Rattle.sb_script.specs.Verdicts.{IsVerdict, is_sat}
-use Rattle.sb_stack.specs.Stacked.{Stacked, state_of, live_constants, values_at}
+use Rattle.sb_stack.specs.Stacked.{Stacked, state_of, live_constants, values_at, without_words}
 use Rattle.sb_stack.specs.declared.stack.Mode.TheVariants as mode
 use Rattle.sb_decide.specs.Knowing.{Knows}
 use Rattle.sb_decide.specs.Taking.{IsTakingOver}
 use Rattle.sb_decide.proofs.Knowledge.{knows_mode, knows_dead}
 use Rattle.sb_decide.proofs.TakingOver.{dead_given, unsat_found, sat_found, knows_over, over_of, words_long, constants_long}
+use Rattle.sb_regex.proofs.CallerLemmas.{extends_same}
 use Rattle.sb_decide.proofs.decide.Decider.decide_memberships.Goals as goal
 
 pub returns-then-is_some-clause-verdict : goal.returns-then-is_some-clause-verdict
@@ -109,3 +111,79 @@ returns-then-is_some-clause-decided c = sym c.is_some.ensures ∙ c.if-is_some.t
 
 pub returns-then-is_some-clause-derivatives_stay : goal.returns-then-is_some-clause-derivatives_stay
 returns-then-is_some-clause-derivatives_stay c = λ n pieces h. h
+
+pub returns-in_ok-fill-in-Found-clause-rest : goal.returns-in_ok-fill-in-Found-clause-rest
+returns-in_ok-fill-in-Found-clause-rest c = ap without_words c.take_words-words.ensures.rest
+
+pub take_over-requires : goal.take_over-requires
+take_over-requires c =
+    let all = c.requires.all in
+    let words = rw (c.in-Found.is) at c.in_ok-serial.ensures.words in
+    record {
+      long = ap length c.deref_mut-in-Found.ensures.value ∙ c.in_ok-fill-in-Found.ensures.long
+          ∙ c.declared-declared.ensures.value ∙ sym all.1 ∙ sym (ap length c.deref_mut.ensures.value);
+      within = λ k d l.
+          let one = words.each k d l in
+          omega (arith, one.0, ap length c.deref-2.ensures.value, ap length c.deref_mut.ensures.value);
+    }
+
+pub fill-requires : goal.fill-requires
+fill-requires c =
+    omega (
+      arith,
+      ap length c.take_words-words.ensures.words,
+      c.declared-declared.ensures.value,
+      c.requires.knows.words.few,
+      c.requires.all.1,
+    )
+
+pub least_words-requires : goal.least_words-requires
+least_words-requires c =
+    let taken = c.requires.knows.taken in
+    record {
+      rooted = rw c.deref.ensures.value taken.rooted;
+      places = rw (c.deref.ensures.value, c.deref-2.ensures.value) taken.places;
+      listed = rw (c.deref-2.ensures.value, c.deref-3.ensures.value) taken.listed;
+      graph = taken.graph;
+    }
+
+pub returns-in_err-fill-in-Found : goal.returns-in_err-fill-in-Found
+returns-in_err-fill-in-Found c =
+    let x = c.from_residual-in_err-fill-in-Found in
+    record {
+      verdict = IfOk-from_err x.result _ x.ensures.0;
+      knows = IfOk-from_err x.result _ x.ensures.0;
+      state = IfOk-from_err x.result _ x.ensures.0;
+      rest = ap without_words c.take_words-words.ensures.rest;
+      decided = IfOk-from_err x.result _ x.ensures.0;
+      extends = IfOk-from_err x.result _ x.ensures.0;
+      derivatives_stay = IfOk-from_err x.result _ x.ensures.0;
+    }
+
+pub returns-in_err-serial : goal.returns-in_err-serial
+returns-in_err-serial c =
+    let x = c.from_residual in
+    record {
+      verdict = IfOk-from_err x.result _ x.ensures.0;
+      knows = IfOk-from_err x.result _ x.ensures.0;
+      state = IfOk-from_err x.result _ x.ensures.0;
+      rest = refl;
+      decided = IfOk-from_err x.result _ x.ensures.0;
+      extends = IfOk-from_err x.result _ x.ensures.0;
+      derivatives_stay = IfOk-from_err x.result _ x.ensures.0;
+    }
+
+pub returns-in_ok-fill-in-Found-clause-extends : goal.returns-in_ok-fill-in-Found-clause-extends
+returns-in_ok-fill-in-Found-clause-extends c = c.in_ok-serial.ensures.extends
+
+pub returns-in_ok-fill-in-Found-clause-derivatives_stay : goal.returns-in_ok-fill-in-Found-clause-derivatives_stay
+returns-in_ok-fill-in-Found-clause-derivatives_stay c = c.in_ok-serial.ensures.derivatives_stay
+
+pub returns-in-Dead-clause-extends : goal.returns-in-Dead-clause-extends
+returns-in-Dead-clause-extends c = c.in_ok-serial.ensures.extends
+
+pub returns-in-Dead-clause-derivatives_stay : goal.returns-in-Dead-clause-derivatives_stay
+returns-in-Dead-clause-derivatives_stay c = c.in_ok-serial.ensures.derivatives_stay
+
+pub returns-then-is_some-clause-extends : goal.returns-then-is_some-clause-extends
+returns-then-is_some-clause-extends c = extends_same c.args.self.now.arena

@@ -1,5 +1,7 @@
 use Rattle.std.proofs.Common.{◌≡◌, ◌≤◌, length, ◌∙◌, arith, refl, ap}
-use Rattle.sb_regex.proofs.CallerLemmas.{extends_same}
+use Rattle.std.proofs.lemmas.Result.{IfOk-from_err}
+use Rattle.std.proofs.lemmas.Bool.{false≢true}
+use Rattle.sb_regex.proofs.CallerLemmas.{extends_same, extends_more}
 use Rattle.sb_decide.proofs.Knowledge.{taken_roomy, kept_roomy}
 use Rattle.sb_decide.proofs.MemberFacts.{members_few}
 use Rattle.sb_decide.proofs.decide.Decider.take_in.Goals as goal
@@ -36,3 +38,83 @@ returns-clause-all c = λ _.
       ),
       c.loop-assertions.invariant.1,
     )
+
+pub loop-assertions-preserved : goal.loop-assertions-preserved
+loop-assertions-preserved c =
+    let before = c.loop-assertions.invariant in
+    let kept = c.in_ok-take_one.ensures.words c.args.stack.now.words before.0.words in (
+      record {
+        taken = rw (c.table-table.ensures, c.assertions-assertions.ensures.value) at c.in_ok-take_one.ensures.taken;
+        words = kept.1;
+        declared = omega (arith, kept.0, before.0.declared);
+      },
+      kept.0 ∙ before.1,
+      extends_more c.args.self.now.arena c.loop-assertions.self.arena c.take_one.new.self.arena before.2
+          c.in_ok-take_one.ensures.extends,
+      c.in_ok-take_one.ensures.graph ∙ before.3,
+    )
+
+pub returns-then-not-branch : goal.returns-then-not-branch
+returns-then-not-branch c =
+    let before = c.loop-assertions.invariant in
+    let kept = c.in_ok-take_one.ensures.words c.args.stack.now.words before.0.words in
+    record {
+      knows = record {
+        taken = rw (c.table-table.ensures, c.assertions-assertions.ensures.value) at c.in_ok-take_one.ensures.taken;
+        words = kept.1;
+        declared = omega (arith, kept.0, before.0.declared);
+      };
+      all = λ t. absurd (false≢true t);
+      room = kept.0 ∙ before.1;
+      named = c.assertions-assertions.ensures.named;
+      extends = extends_more c.args.self.now.arena c.loop-assertions.self.arena c.take_one.new.self.arena before.2
+          c.in_ok-take_one.ensures.extends;
+      graph = c.in_ok-take_one.ensures.graph ∙ before.3;
+    }
+
+pub take_one-requires-clause-taken : goal.take_one-requires-clause-taken
+take_one-requires-clause-taken c =
+    rw (c.table-table.ensures, c.assertions-assertions.ensures.value) c.loop-assertions.invariant.0.taken
+
+pub take_one-requires-clause-numbers : goal.take_one-requires-clause-numbers
+take_one-requires-clause-numbers c =
+    rw (c.table-table.ensures, c.assertions-assertions.ensures.value) c.assertions-assertions.ensures.numbers
+
+pub returns-clause-knows : goal.returns-clause-knows
+returns-clause-knows c = c.loop-assertions.invariant.0
+
+pub returns-clause-room : goal.returns-clause-room
+returns-clause-room c = c.loop-assertions.invariant.1
+
+pub returns-clause-named : goal.returns-clause-named
+returns-clause-named c = c.assertions-assertions.ensures.named
+
+pub returns-clause-extends : goal.returns-clause-extends
+returns-clause-extends c = c.loop-assertions.invariant.2
+
+pub returns-clause-graph : goal.returns-clause-graph
+returns-clause-graph c = c.loop-assertions.invariant.3
+
+pub returns-in_err-make_room : goal.returns-in_err-make_room
+returns-in_err-make_room c =
+    let x = c.from_residual in
+    record {
+      knows = IfOk-from_err x.result _ x.ensures.0;
+      all = IfOk-from_err x.result _ x.ensures.0;
+      room = IfOk-from_err x.result _ x.ensures.0;
+      named = IfOk-from_err x.result _ x.ensures.0;
+      extends = IfOk-from_err x.result _ x.ensures.0;
+      graph = IfOk-from_err x.result _ x.ensures.0;
+    }
+
+pub returns-in_err-take_one : goal.returns-in_err-take_one
+returns-in_err-take_one c =
+    let x = c.from_residual-in_err-take_one in
+    record {
+      knows = IfOk-from_err x.result _ x.ensures.0;
+      all = IfOk-from_err x.result _ x.ensures.0;
+      room = IfOk-from_err x.result _ x.ensures.0;
+      named = IfOk-from_err x.result _ x.ensures.0;
+      extends = IfOk-from_err x.result _ x.ensures.0;
+      graph = IfOk-from_err x.result _ x.ensures.0;
+    }

@@ -1,4 +1,6 @@
-use Rattle.std.proofs.Common.{◌≡◌, length, refl, sym, arith}
+use Rattle.std.proofs.Common.{◌≡◌, length, refl, sym, arith, ◌∷◌, [], length-append, ap}
+use Rattle.std.proofs.lemmas.Result.{IfOk-from_err}
+use Rattle.std.proofs.lemmas.Bool.{false≢true}
 use Rattle.std.specs.Vec.{with_items}
 use Rattle.sb_problem.specs.Patterns.{pattern_in}
 use Rattle.sb_regex.proofs.CallerLemmas.{extends_same}
@@ -89,8 +91,115 @@ returns-then-not-branch-clause-words c =
     stay_grown c.args.self.now (record c.args.self.now { measures = c.is_regular.new.self }) c.args.table.now
     c.args.assertions.now (extends_same c.args.self.now.arena) refl refl c.requires.taken
 
-pub returns-in_default-clause-words : goal.returns-in_default-clause-words
-returns-in_default-clause-words c = λ words kept. (refl, kept)
+pub returns-in_err-is_regular : goal.returns-in_err-is_regular
+returns-in_err-is_regular c =
+    let x = c.from_residual in
+    record {
+      taken = IfOk-from_err x.result _ x.ensures.0;
+      words = IfOk-from_err x.result _ x.ensures.0;
+      extends = IfOk-from_err x.result _ x.ensures.0;
+      graph = IfOk-from_err x.result _ x.ensures.0;
+      further = IfOk-from_err x.result _ x.ensures.0;
+    }
 
-pub returns-in_default-membership-clause-words : goal.returns-in_default-membership-clause-words
-returns-in_default-membership-clause-words c = λ words kept. (refl, kept)
+pub returns-in_err-id : goal.returns-in_err-id
+returns-in_err-id c =
+    let x = c.from_residual-in_err-id in
+    record {
+      taken = IfOk-from_err x.result _ x.ensures.0;
+      words = IfOk-from_err x.result _ x.ensures.0;
+      extends = IfOk-from_err x.result _ x.ensures.0;
+      graph = IfOk-from_err x.result _ x.ensures.0;
+      further = IfOk-from_err x.result _ x.ensures.0;
+    }
+
+pub returns-in_err-push : goal.returns-in_err-push
+returns-in_err-push c =
+    let x = c.from_residual-in_err-push in
+    record {
+      taken = IfOk-from_err x.result _ x.ensures.0;
+      words = IfOk-from_err x.result _ x.ensures.0;
+      extends = IfOk-from_err x.result _ x.ensures.0;
+      graph = IfOk-from_err x.result _ x.ensures.0;
+      further = IfOk-from_err x.result _ x.ensures.0;
+    }
+
+pub returns-in_err-push-2 : goal.returns-in_err-push-2
+returns-in_err-push-2 c =
+    let x = c.from_residual-in_err-push-2 in
+    record {
+      taken = IfOk-from_err x.result _ x.ensures.0;
+      words = IfOk-from_err x.result _ x.ensures.0;
+      extends = IfOk-from_err x.result _ x.ensures.0;
+      graph = IfOk-from_err x.result _ x.ensures.0;
+      further = IfOk-from_err x.result _ x.ensures.0;
+    }
+
+pub returns-in_err-put : goal.returns-in_err-put
+returns-in_err-put c =
+    let x = c.from_residual-in_err-put in
+    record {
+      taken = IfOk-from_err x.result _ x.ensures.0;
+      words = IfOk-from_err x.result _ x.ensures.0;
+      extends = IfOk-from_err x.result _ x.ensures.0;
+      graph = IfOk-from_err x.result _ x.ensures.0;
+      further = IfOk-from_err x.result _ x.ensures.0;
+    }
+
+pub returns-in_default : goal.returns-in_default
+returns-in_default c =
+    record {
+      taken = c.requires.taken;
+      words = λ words kept. (refl, kept);
+      extends = extends_same c.args.self.now.arena;
+      graph = refl;
+      further = λ t. absurd (false≢true t);
+    }
+
+pub returns-in_default-membership : goal.returns-in_default-membership
+returns-in_default-membership c =
+    record {
+      taken = c.requires.taken;
+      words = λ words kept. (refl, kept);
+      extends = extends_same c.args.self.now.arena;
+      graph = refl;
+      further = λ t. absurd (false≢true t);
+    }
+
+pub returns-then-not-branch-clause-extends : goal.returns-then-not-branch-clause-extends
+returns-then-not-branch-clause-extends c = extends_same c.args.self.now.arena
+
+pub returns-then-not-branch-clause-graph : goal.returns-then-not-branch-clause-graph
+returns-then-not-branch-clause-graph c = refl
+
+pub returns-then-not-branch-clause-further : goal.returns-then-not-branch-clause-further
+returns-then-not-branch-clause-further c = λ t. absurd (false≢true t)
+
+pub returns-in_default-2-clause-extends : goal.returns-in_default-2-clause-extends
+returns-in_default-2-clause-extends c = c.in_ok-id.ensures.extends
+
+pub returns-in_default-2-clause-graph : goal.returns-in_default-2-clause-graph
+returns-in_default-2-clause-graph c = refl
+
+pub returns-in_default-2-clause-further : goal.returns-in_default-2-clause-further
+returns-in_default-2-clause-further c = λ t. absurd (false≢true t)
+
+pub returns-clause-extends : goal.returns-clause-extends
+returns-clause-extends c = c.in_ok-id.ensures.extends
+
+pub returns-clause-graph : goal.returns-clause-graph
+returns-clause-graph c = refl
+
+pub returns-clause-further : goal.returns-clause-further
+returns-clause-further c = λ _.
+    let member : Member = record { serial = c.in-Some-membership.member.0; regex = c.in-Some-2.id } in
+    omega (arith, ap length c.in_ok-push.ensures.items, length-append c.args.self.now.members.items (member ∷ []))
+
+pub put-requires-clause-settled : goal.put-requires-clause-settled
+put-requires-clause-settled c = rw c.deref_mut.ensures.value c.requires.taken.settled
+
+pub put-requires-clause-listed : goal.put-requires-clause-listed
+put-requires-clause-listed c = rw c.deref_mut.ensures.value c.requires.taken.listed
+
+pub pattern-requires-clause-normals : goal.pattern-requires-clause-normals
+pattern-requires-clause-normals c = c.requires.taken.normals
