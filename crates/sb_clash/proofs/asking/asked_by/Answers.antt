@@ -4,6 +4,7 @@ use Rattle.sb_clash.specs.Literals.{asked_by}
 use Rattle.sb_clash.proofs.AskedFacts.{regex_below, asked_positive, asked_negative}
 use Rattle.std.proofs.Common.{◌<◌, length, subst, sym}
 use Rattle.std.proofs.lemmas.Result.{IfOk-weaker}
+use Rattle.sb_regex.proofs.CallerLemmas.{extends_same}
 use Rattle.sb_clash.proofs.asking.asked_by.Goals as goal
 
 pub not-requires : goal.not-requires
@@ -25,3 +26,9 @@ returns-else-literal-clause-ok c =
     c.regex_of-regex.result id c.args.literal c.if-literal.false c.regex_of-regex.ensures c.requires.regexes
     c.requires.about c.not.ensures.extends names)
     c.not.ensures.ok
+
+pub returns-then-literal-clause-extends : goal.returns-then-literal-clause-extends
+returns-then-literal-clause-extends c = extends_same c.args.arena.now
+
+pub returns-else-literal-clause-extends : goal.returns-else-literal-clause-extends
+returns-else-literal-clause-extends c = c.not.ensures.extends

@@ -1,18 +1,13 @@
 use Rattle.std.proofs.Common.{◌∙◌, subst, sym}
-use Rattle.std.proofs.lemmas.Result.{IfOk-weaker}
+use Rattle.std.proofs.lemmas.Result.{IfOk-weaker, IfOk-from_err}
 use Rattle.sb_lang.specs.Language.{language}
 use Rattle.sb_lang.specs.Regex.{Regex}
 use Rattle.sb_regex.specs.Numbered.{regex_at}
-use Rattle.sb_regex.proofs.CallerLemmas.{names_at, names_below}
+use Rattle.sb_regex.proofs.CallerLemmas.{names_at, names_below, extends_more}
 use Rattle.sb_graph.specs.Witness.{IsFinding}
 use Rattle.sb_clash.specs.Literals.{asked_by_all}
 use Rattle.sb_clash.proofs.AskedFacts.{meet_grown}
 use Rattle.sb_clash.proofs.asking.least_word.Goals as goal
-
-pub returns-in_err-root-clause-graph : goal.returns-in_err-root-clause-graph
-returns-in_err-root-clause-graph c =
-    c.graph_stays.ensures c.args.arena.now c.meet.new.arena c.args.graph.now c.in_err-root.ensures.extends
-    c.requires.graph
 
 pub least_word-requires-clause-known : goal.least_word-requires-clause-known
 least_word-requires-clause-known c =
@@ -35,3 +30,29 @@ returns-clause-found c =
     c.args.literals.now c.in_ok-root.ensures.extends c.least_word.ensures.extends c.requires.regexes c.requires.about))
     is)
     c.least_word.ensures.found
+
+pub returns-in_err-root : goal.returns-in_err-root
+returns-in_err-root c =
+    let x = c.from_residual in
+    record {
+      found = IfOk-from_err x.result _ x.ensures.0;
+      extends = c.in_err-root.ensures.extends;
+      graph = c.graph_stays.ensures c.args.arena.now c.meet.new.arena c.args.graph.now c.in_err-root.ensures.extends
+          c.requires.graph;
+      marks_stay = λ n h. h;
+      derivatives_stay = λ n pieces h. h;
+    }
+
+pub returns-clause-extends : goal.returns-clause-extends
+returns-clause-extends c =
+    extends_more c.args.arena.now c.meet.new.arena c.least_word.new.arena c.in_ok-root.ensures.extends
+    c.least_word.ensures.extends
+
+pub returns-clause-graph : goal.returns-clause-graph
+returns-clause-graph c = c.least_word.ensures.graph
+
+pub returns-clause-marks_stay : goal.returns-clause-marks_stay
+returns-clause-marks_stay c = c.least_word.ensures.marks_stay
+
+pub returns-clause-derivatives_stay : goal.returns-clause-derivatives_stay
+returns-clause-derivatives_stay c = c.least_word.ensures.derivatives_stay

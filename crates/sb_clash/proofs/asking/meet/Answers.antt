@@ -1,17 +1,12 @@
-use Rattle.std.proofs.Common.{◌+◌, take, subst, sym, arith}
-use Rattle.std.proofs.lemmas.Result.{IfOk-weaker}
+use Rattle.std.proofs.Common.{◌+◌, take, subst, sym, arith, []}
+use Rattle.std.proofs.lemmas.Result.{IfOk-weaker, IfOk-from_err}
 use Rattle.sb_lang.specs.Constructors.{mkand}
 use Rattle.sb_regex.specs.Numbered.{Names, regexes_at}
-use Rattle.sb_regex.proofs.CallerLemmas.{extends_more}
+use Rattle.sb_regex.proofs.CallerLemmas.{extends_more, extends_same}
 use Rattle.sb_atoms.proofs.CallerLemmas.{regexes_kept}
 use Rattle.sb_clash.specs.Literals.{asked_by_all}
 use Rattle.sb_clash.proofs.AskedFacts.{IsAskedSofar, asked_more, asked_met}
 use Rattle.sb_clash.proofs.asking.meet.Goals as goal
-
-pub returns-in_err-push-clause-extends : goal.returns-in_err-push-clause-extends
-returns-in_err-push-clause-extends c =
-    extends_more c.args.arena.now c.loop-literal.arena c.asked_by.new.arena c.loop-literal.invariant.0
-    c.in_ok-id.ensures.extends
 
 pub loop-literal-preserved : goal.loop-literal-preserved
 loop-literal-preserved c = (
@@ -37,3 +32,36 @@ returns-clause-ok c =
     c.and.ensures.extends c.loop-literal.invariant.1 c.requires.about c.loop-literal.invariant.2
     (subst (λ is. Names c.and.new.self id (mkand (regexes_at c.loop-literal.arena is))) c.deref.ensures.value names))
     c.and.ensures.ok
+
+pub returns-in_err-ids : goal.returns-in_err-ids
+returns-in_err-ids c =
+    let x = c.from_residual in
+    record {
+      ok = IfOk-from_err x.result _ x.ensures.0;
+      extends = extends_same c.args.arena.now;
+    }
+
+pub returns-in_err-id : goal.returns-in_err-id
+returns-in_err-id c =
+    let x = c.from_residual-in_err-id in
+    record {
+      ok = IfOk-from_err x.result _ x.ensures.0;
+      extends = extends_more c.args.arena.now c.loop-literal.arena c.asked_by.new.arena c.loop-literal.invariant.0
+          c.in_err-id.ensures.extends;
+    }
+
+pub returns-in_err-push : goal.returns-in_err-push
+returns-in_err-push c =
+    let x = c.from_residual-in_err-push in
+    record {
+      ok = IfOk-from_err x.result _ x.ensures.0;
+      extends = extends_more c.args.arena.now c.loop-literal.arena c.asked_by.new.arena c.loop-literal.invariant.0
+          c.in_ok-id.ensures.extends;
+    }
+
+pub returns-clause-extends : goal.returns-clause-extends
+returns-clause-extends c =
+    extends_more c.args.arena.now c.loop-literal.arena c.and.new.self c.loop-literal.invariant.0 c.and.ensures.extends
+
+pub asked_by-requires-clause-regexes : goal.asked_by-requires-clause-regexes
+asked_by-requires-clause-regexes c = c.loop-literal.invariant.1

@@ -1,4 +1,5 @@
-use Rattle.sb_regex.proofs.CallerLemmas.{extends_more}
+use Rattle.std.proofs.lemmas.Result.{IfOk-from_err}
+use Rattle.sb_regex.proofs.CallerLemmas.{extends_more, extends_same}
 use Rattle.sb_atoms.proofs.CallerLemmas.{regexes_kept}
 use Rattle.sb_clash.proofs.FewerFacts.{fewer_both}
 use Rattle.sb_clash.proofs.few.leave_out.Goals as goal
@@ -32,3 +33,28 @@ loop-place-preserved c = (
       c.in_ok-leaves_out.ensures.fewer c.loop-place.invariant.6,
   c.in_ok-leaves_out.ensures.clash c.loop-place.invariant.7,
 )
+
+pub returns-in_err-leaves_out : goal.returns-in_err-leaves_out
+returns-in_err-leaves_out c =
+    let x = c.from_residual in
+    record {
+      fewer = IfOk-from_err x.result _ x.ensures.0;
+      clash = IfOk-from_err x.result _ x.ensures.0;
+      extends = extends_more c.args.arena.now c.loop-place.arena c.leaves_out.new.arena c.loop-place.invariant.0
+          c.in_err-leaves_out.ensures.extends;
+      graph = c.in_err-leaves_out.ensures.graph;
+      marks_stay = λ n h. c.in_err-leaves_out.ensures.marks_stay n (c.loop-place.invariant.3 n h);
+      derivatives_stay = λ n pieces h. c.in_err-leaves_out.ensures.derivatives_stay n pieces (c.loop-place.invariant.4 n pieces h);
+    }
+
+pub returns : goal.returns
+returns c =
+    let h = c.loop-place.invariant in
+    record {
+      fewer = h.6;
+      clash = h.7;
+      extends = h.0;
+      graph = h.2;
+      marks_stay = h.3;
+      derivatives_stay = h.4;
+    }
