@@ -1,6 +1,6 @@
 -- The derivative of a concatenation.
 use Rattle.std.proofs.Common.{◌≡◌, ℕ, zero, suc, ◌-◌, ◌<◌, ◌≤◌, true, false, cond, Some, None, Option, List, [], ◌∷◌, length, refl, sym, ap, ap₂, subst, ◌∙◌, arith}
-use Rattle.std.specs.Prelude.{IfSome, IfNone}
+use Rattle.std.specs.Prelude.{IfSome, IfNone, IsSomeAnd, OnSome}
 use Rattle.std.specs.List.{All}
 use Rattle.std.proofs.lemmas.List.Elements.{All-nil, All-cons}
 use Rattle.sb_word.specs.Words.{is_character}
@@ -25,6 +25,14 @@ some_weaker (Some x) P Q f h = f x h
 pub none_weaker : {A : Type 0} (o : Option A) (P Q : Type 0) → (P → Q) → IfNone o P → IfNone o Q
 none_weaker None P Q f h = f h
 none_weaker (Some x) P Q f h = h
+
+pub found_idle : {A : Type 0} (o : Option A) (P : A → Type 0) (Q : Type 0) → Q → IsSomeAnd o P → OnSome o Q
+found_idle None P Q q h = absurd h
+found_idle (Some x) P Q q h = q
+
+pub found_waits : {A : Type 0} (o : Option A) (P : A → Type 0) (Q : Type 0) → IsSomeAnd o P → IfNone o Q
+found_waits None P Q h = absurd h
+found_waits (Some x) P Q h = tt
 
 pub have_first : (memo : Memo) (a b : ℕ) → HaveEntries memo (a ∷ b ∷ []) → HaveEntries memo (a ∷ [])
 have_first memo a b h zero d l = h 0 d (omega arith)

@@ -14,3 +14,4 @@ pub mod RangesTo
 pub mod Gathered
 pub mod Choosing
 pub mod Flat
+mod Turns

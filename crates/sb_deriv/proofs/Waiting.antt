@@ -7,6 +7,7 @@ use Rattle.std.specs.BTreeSet.{insert_key}
 use Rattle.std.proofs.lemmas.Bool.{or_left, or_right}
 use Rattle.std.proofs.lemmas.Map.Views.{All-insert_key}
 use Rattle.std.proofs.lemmas.Bool.Decides.{nat_tests}
+use Rattle.std.proofs.lemmas.List.{length-set}
 use Rattle.std.proofs.lemmas.List.Elements.{All-nil}
 use Rattle.std.specs.declared.cmp.Ordering.{Ordering}
 use Rattle.std.specs.declared.cmp.Ordering.TheVariants.{Less, Equal, Greater}
@@ -18,7 +19,7 @@ use Rattle.sb_deriv.specs.Choices.{IsWanted, lacking}
 use Rattle.sb_regex.proofs.CallerLemmas.{extends_more, number_kept, at_kept}
 use Rattle.sb_deriv.proofs.Derivatives.{faithful_kept, map_same}
 
-no_entry : {A : Type 0} (o : Option A) → is_some o ≡ false → o ≡ None
+pub no_entry : {A : Type 0} (o : Option A) → is_some o ≡ false → o ≡ None
 no_entry None h = refl
 no_entry (Some x) h = absurd (cc)
 
@@ -251,6 +252,20 @@ set_in inside memo i j m e n = ap₂ (λ xs k. set xs k (Some m)) e n
 pub lacking_in : (memo memo' : Memo) (i : ℕ) (m : List (ℕ × ℕ)) → memo' ≡ set memo i (Some m) → i < length memo
     → entry_of memo i ≡ None → lacking memo' < lacking memo
 lacking_in memo memo' i m is l e = subst (λ (x : Memo). lacking x < lacking memo) (sym is) (lacking_set memo i m l e)
+
+pub set_kept : (memo memo' : Memo) (i : ℕ) (m : List (ℕ × ℕ)) → memo' ≡ set memo i (Some m) → entry_of memo i ≡ None
+    → KeepsEntries memo memo'
+set_kept memo memo' i m is e n pieces h =
+    ap (λ x. entry_of x n) is
+    ∙ set_other memo i n m (λ same. none_not pieces (sym e ∙ ap (entry_of memo) same ∙ h))
+    ∙ h
+  where
+    none_not : (x : List (ℕ × ℕ)) → None ≡ Some x → ⊥
+    none_not x h = cc
+
+pub length_in : (memo memo' : Memo) (i : ℕ) (m : List (ℕ × ℕ)) → memo' ≡ set memo i (Some m)
+    → length memo' ≡ length memo
+length_in memo memo' i m is = ap length is ∙ length-set memo i (Some m)
 
 pub any_after : (k : ℕ) (ks ks' : List ℕ) → ks' ≡ insert_key nat_cmp ks k → list_any (λ q. nat_lt q k) ks ≡ true
     → list_any (λ q. nat_lt q k) ks' ≡ true

@@ -1,7 +1,9 @@
 use Rattle.std.proofs.Common.{◌<◌, length, suc, sym, ap, ◌∙◌, arith}
+use Rattle.std.proofs.lemmas.Result.{IfOk-from_err}
 use Rattle.sb_deriv.specs.Faithful.{entry_of}
 use Rattle.sb_deriv.proofs.Derivatives.{faithful_kept, constants_kept}
-use Rattle.sb_deriv.proofs.Waiting.{deriving_init, deriving_step, measure_falls}
+use Rattle.sb_deriv.proofs.Waiting.{deriving_init, deriving_step, measure_falls, no_entry}
+use Rattle.sb_regex.proofs.CallerLemmas.{extends_more, number_kept}
 use Rattle.sb_deriv.proofs.deriver.Deriver.derive.Goals as goal
 
 pub loop-r-init : goal.loop-r-init
@@ -55,5 +57,25 @@ loop-r-smaller c =
     c.in_ok-_added.ensures.added c.in_ok-_added.ensures.same c.in_ok-_added.ensures.waits c.unwrap_or-next.ensures
     c.pop_first.ensures.removal c.pop_first.ensures.all_above c.pop_first.ensures.variant.1
 
-pub advance-requires-clause-constants : goal.advance-requires-clause-constants
-advance-requires-clause-constants c = c.loop-r.invariant.1
+pub returns-in_err-_added : goal.returns-in_err-_added
+returns-in_err-_added c =
+    let x = c.from_residual-in_err-_added in
+    let i = c.loop-r.invariant.0 in
+    let e = c.advance.ensures in
+    record {
+      done = IfOk-from_err x.result _ x.ensures.0;
+      extends = extends_more c.args.arena.now c.loop-r.arena c.advance.new.arena i.extends e.extends;
+      faithful = e.faithful;
+      kept = λ n pieces h. e.kept n pieces (i.kept n pieces h);
+    }
+
+pub advance-requires : goal.advance-requires
+advance-requires c =
+    let i = c.loop-r.invariant.0 in
+    record {
+      constants = c.loop-r.invariant.1;
+      known = omega (arith, i.next_in, number_kept c.args.arena.now c.loop-r.arena c.args.r i.extends c.requires.known);
+      room = omega (arith, i.next_in, i.long);
+      lacks = i.next_lacks (no_entry (entry_of c.loop-r.self c.args.r) (sym c.is_known.ensures ∙ c.loop-r-test.true));
+      faithful = i.faithful;
+    }

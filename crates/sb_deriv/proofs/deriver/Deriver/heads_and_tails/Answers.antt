@@ -1,8 +1,9 @@
-use Rattle.std.proofs.Common.{◌∷◌, [], ap, ◌∙◌}
-use Rattle.std.proofs.lemmas.Result.{IfOk-weaker}
+use Rattle.std.proofs.Common.{◌∷◌, [], ap, ◌∙◌, arith}
+use Rattle.std.proofs.lemmas.Result.{IfOk-weaker, IfOk-from_err}
 use Rattle.sb_deriv.specs.declared.operation.Operation.TheVariants as operation
 use Rattle.sb_deriv.proofs.Gathering.{choice_numbers_of}
 use Rattle.sb_deriv.proofs.Heads.{first_picked, parted_numbers, parted_values}
+use Rattle.sb_regex.proofs.CallerLemmas.{extends_same}
 use Rattle.sb_deriv.proofs.deriver.Deriver.heads_and_tails.Goals as goal
 
 pub make_each-requires-clause-members : goal.make_each-requires-clause-members
@@ -44,3 +45,29 @@ returns-clause-values c =
       made_heads = c.in_ok-heads-2.ensures.map;
       both = v;
     })) (rw (c.deref.ensures.value, c.pieces_of-2.ensures.value) at c.refine_two.ensures.values)
+
+pub pieces_of-requires-2 : goal.pieces_of-requires-2
+pieces_of-requires-2 c = c.requires.entries 1 0 (omega arith)
+
+pub returns-clause-extends : goal.returns-clause-extends
+returns-clause-extends c = c.in_ok-heads-2.ensures.extends
+
+pub returns-in_err-heads : goal.returns-in_err-heads
+returns-in_err-heads c =
+    let x = c.from_residual in
+    record {
+      whole = IfOk-from_err x.result _ x.ensures.0;
+      numbers = IfOk-from_err x.result _ x.ensures.0;
+      values = IfOk-from_err x.result _ x.ensures.0;
+      extends = extends_same c.args.arena.now;
+    }
+
+pub returns-in_err-heads-2 : goal.returns-in_err-heads-2
+returns-in_err-heads-2 c =
+    let x = c.from_residual-in_err-heads-2 in
+    record {
+      whole = IfOk-from_err x.result _ x.ensures.0;
+      numbers = IfOk-from_err x.result _ x.ensures.0;
+      values = IfOk-from_err x.result _ x.ensures.0;
+      extends = c.make_each.ensures.extends;
+    }

@@ -1,8 +1,9 @@
 use Rattle.std.proofs.Common.{sym, ◌∙◌}
 use Rattle.std.proofs.lemmas.Result.{IfOk-weaker, IfOk-from_err}
-use Rattle.sb_deriv.proofs.Heads.{some_weaker, one_below, cat_of_one, cat_of_two}
+use Rattle.sb_deriv.proofs.Heads.{some_weaker, one_below, cat_of_one, cat_of_two, none_weaker}
+use Rattle.sb_deriv.proofs.Derivatives.{constants_kept}
 use Rattle.sb_deriv.proofs.deriver.Deriver.of_cat.Goals as goal
-use Rattle.sb_regex.proofs.CallerLemmas.{two_numbers, extends_same, extends_more}
+use Rattle.sb_regex.proofs.CallerLemmas.{two_numbers, extends_same, extends_more, number_kept, one_number}
 
 pub returns-then-not-nullable-clause-found : goal.returns-then-not-nullable-clause-found
 returns-then-not-nullable-clause-found c =
@@ -73,3 +74,36 @@ returns-in_err-pieces c =
           c.in_ok-choices.ensures.extends
           c.in_err-pieces.ensures.extends;
     }
+
+pub make_each-requires : goal.make_each-requires
+make_each-requires c =
+    let old = c.args.arena.now in
+    let new = c.heads_and_tails.new.arena in
+    record {
+      constants = constants_kept old new c.args.constants.now c.in_ok-choices.ensures.extends c.requires.constants;
+      hint = number_kept old new c.args.b c.in_ok-choices.ensures.extends c.requires.right;
+      whole = c.in_ok-choices.ensures.whole;
+      members = c.in_ok-choices.ensures.numbers;
+      operand = tt;
+    }
+
+pub of_all-requires : goal.of_all-requires
+of_all-requires c =
+    record {
+      constants = c.requires.constants;
+      hint = c.requires.left;
+      numbers = one_number c.args.arena.now c.args.a c.requires.left;
+      operand = c.requires.right;
+      faithful = c.requires.faithful;
+    }
+
+pub returns-then-not-nullable-clause-waits : goal.returns-then-not-nullable-clause-waits
+returns-then-not-nullable-clause-waits c =
+    IfOk-weaker c.of_all.result _ _ (λ f h. none_weaker f _ _ (λ w n p q. w n (one_below n c.args.a p)) h)
+    c.of_all.ensures.waits
+
+pub returns-then-not-nullable-clause-idle : goal.returns-then-not-nullable-clause-idle
+returns-then-not-nullable-clause-idle c = c.of_all.ensures.idle
+
+pub returns-then-not-nullable-clause-extends : goal.returns-then-not-nullable-clause-extends
+returns-then-not-nullable-clause-extends c = c.of_all.ensures.extends

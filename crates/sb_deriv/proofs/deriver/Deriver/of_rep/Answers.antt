@@ -1,5 +1,5 @@
 use Rattle.std.proofs.lemmas.Result.{IfOk-weaker}
-use Rattle.sb_regex.proofs.CallerLemmas.{names_below, number_kept}
+use Rattle.sb_regex.proofs.CallerLemmas.{names_below, number_kept, extends_more}
 use Rattle.sb_deriv.proofs.Derivatives.{faithful_kept, constants_kept}
 use Rattle.sb_deriv.proofs.Heads.{some_weaker, none_weaker, one_below, rep_of_one}
 use Rattle.sb_deriv.proofs.deriver.Deriver.of_rep.Goals as goal
@@ -33,3 +33,11 @@ returns-clause-waits c =
 pub returns-clause-added : goal.returns-clause-added
 returns-clause-added c =
     IfOk-weaker c.of_all.result _ _ (λ x h n p q. h n (one_below n c.args.a p) q) c.of_all.ensures.added
+
+pub returns-clause-idle : goal.returns-clause-idle
+returns-clause-idle c = c.of_all.ensures.idle
+
+pub returns-clause-extends : goal.returns-clause-extends
+returns-clause-extends c =
+    extends_more c.args.arena.now c.rep.new.self c.of_all.new.arena c.in_ok-rest.ensures.extends
+    c.of_all.ensures.extends
