@@ -1,5 +1,5 @@
 -- Clauses that are all dropped.
-use Rattle.std.proofs.Common.{◌≡◌, ℕ, zero, suc, ◌+◌, ◌<◌, ◌≤◌, List, [], ◌∷◌, ◌++◌, length, map, set, take, Option, Some, None, refl, sym, ◌∙◌, ap, ap₂, inl, inr, arith}
+use Rattle.std.proofs.Common.{◌≡◌, ℕ, zero, suc, ◌+◌, ◌<◌, ◌≤◌, List, [], ◌∷◌, ◌++◌, length, set, take, Option, None, refl, sym, ◌∙◌, ap, ap₂, inl, inr, arith}
 use Rattle.std.specs.BinaryHeap.{IsHeap}
 use Rattle.std.specs.Option.{option_map}
 use Rattle.std.proofs.lemmas.Bool.{cases_eq}
@@ -13,7 +13,7 @@ use Rattle.sb_clauses.specs.declared.record.Record.{Record}
 use Rattle.sb_clauses.specs.Records.{clause_of, kept_of}
 use Rattle.sb_clauses.specs.Propagation.{all_dropped}
 use Rattle.sb_clauses.specs.WatchLists.{WatchLists}
-use Rattle.sb_clauses.specs.Watching.{HasClause, IsSide, AreWatched}
+use Rattle.sb_clauses.specs.Watching.{HasClause, IsSide}
 use Rattle.sb_clauses.specs.Settling.{AreFine}
 use Rattle.sb_clauses.specs.Marking.{mark_at, held_up_to, IsHead, AreReady}
 use Rattle.sb_clauses.specs.Scoped.{scope_order, AreScoped, AreEmptyBefore}

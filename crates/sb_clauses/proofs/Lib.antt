@@ -6,6 +6,7 @@ pub mod Adding
 pub mod Moving
 pub mod Codes
 pub mod Sparing
+pub mod Ways
 pub mod Walking
 pub mod Walked
 pub mod Settling

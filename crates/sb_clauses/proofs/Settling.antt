@@ -1,6 +1,6 @@
 -- Propagation to its end: what walks keep, and what they give.
 use Rattle.std.proofs.Common.{◌≡◌, ℕ, ◌+◌, ◌<◌, Bool, true, false, not, ◌||◌, List, [], ◌∷◌, ◌++◌, length, take, Option, Some, None, refl, sym, ◌∙◌, ap, inl, inr, arith}
-use Rattle.std.specs.Option.{MatchOption, IfNone, is_some}
+use Rattle.std.specs.Option.{MatchOption, IfNone, IfSome, is_some}
 use Rattle.std.proofs.lemmas.Bool.{cases_Bool, false≢true, true≢false, or_cases, and_from, not_from_false, false_from_ne_true}
 use Rattle.std.proofs.lemmas.List.{length-map, take_more, take-append-le, map-append}
 use Rattle.std.proofs.lemmas.List.Folds.{list_any-append}
@@ -348,3 +348,17 @@ fine_by_short kept own0 own1 other all0 all1 trail0 trail1 holds side =
 pub none_given : {X : Type 0} (r : Option X) (P : Type 0) → is_some r ≡ false → IfNone r P → P
 none_given None P h is = is
 none_given (Some x) P h is = absurd (true≢false h)
+
+pub some_given : {X : Type 0} (r : Option X) (P : Type 0) → is_some r ≡ true → IfNone r P
+some_given None P is = absurd (false≢true is)
+some_given (Some x) P is = tt
+
+pub some_answer : {X : Type 0} (r : Option X) (A P : Type 0) (B : X → Type 0) → is_some r ≡ true → MatchOption r A B
+    → MatchOption r P B
+some_answer None A P B is h = absurd (false≢true is)
+some_answer (Some x) A P B is h = h
+
+pub some_found : {X : Type 0} (r : Option X) (A : Type 0) (B : X → Type 0) → is_some r ≡ true → IfSome r B
+    → MatchOption r A B
+some_found None A B is h = absurd (false≢true is)
+some_found (Some x) A B is h = h

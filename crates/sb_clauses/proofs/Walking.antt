@@ -1,7 +1,7 @@
 -- One turn of a walk over the clauses that watch a literal.
-use Rattle.std.proofs.Common.{◌≡◌, ◌≢◌, ℕ, ◌+◌, ◌^◌, ◌<◌, ◌≤◌, Bool, true, false, ◌||◌, ltb, List, [], ◌∷◌, ◌++◌, length, set, drop, Option, Some, None, refl, sym, ◌∙◌, ap, subst, inl, inr, arith}
+use Rattle.std.proofs.Common.{◌≡◌, ◌≢◌, ℕ, ◌+◌, ◌<◌, ◌≤◌, Bool, true, false, ◌||◌, ltb, List, [], ◌∷◌, ◌++◌, length, set, drop, Option, Some, None, refl, sym, ◌∙◌, ap, subst, inl, inr, arith}
 use Rattle.std.specs.List.{slice_get}
-use Rattle.std.proofs.lemmas.Bool.{cases_eq, cases_lt, cases_Bool, eq-eqb, ne_eqb, false≢true, or_parts, or_left, false_from_ne_true, ltb-true}
+use Rattle.std.proofs.lemmas.Bool.{cases_eq, cases_lt, cases_Bool, eq-eqb, ne_eqb, false≢true, or_left, false_from_ne_true, ltb-true}
 use Rattle.std.proofs.lemmas.Option.{same_Some, none-some}
 use Rattle.std.proofs.lemmas.List.{length-set, get_or-set_other, map-append}
 use Rattle.std.proofs.lemmas.List.Folds.{list_any-append}
@@ -12,15 +12,15 @@ use Rattle.sb_trail.specs.declared.assigned.Assigned.{Assigned}
 use Rattle.sb_trail.specs.Assignments.{Assignments, held, current_level, IsConsistent}
 use Rattle.sb_clauses.specs.WatchLists.{times_in, times}
 use Rattle.sb_clauses.specs.Propagation.{GrowsBy, IsForced}
-use Rattle.sb_clauses.specs.Looking.{IsMove, IsLeft, IsHeld}
-use Rattle.sb_clauses.specs.Watching.{list_of, literal_of, no_literal, literal_at, is_short, home, stands, is_small, IsPlaced, HasClause, code_at, watched_at}
-use Rattle.sb_clauses.specs.Sparing.{AreSpared, IsFree}
+use Rattle.sb_clauses.specs.Looking.{IsLeft, IsHeld}
+use Rattle.sb_clauses.specs.Watching.{list_of, literal_of, is_short, home, stands, IsPlaced, HasClause, watched_at}
+use Rattle.sb_clauses.specs.Ways.{IsPassed, IsOpenTo}
 use Rattle.sb_clauses.specs.Walking.{Walk, IsWalking, IsTurn}
 use Rattle.sb_clauses.specs.Settling.{Grown}
 use Rattle.sb_clauses.specs.declared.walk.Turn.TheVariants.{Goes, Ends, Stops}
 use Rattle.sb_lit.proofs.CallerLemmas.{is_same_literal-self, all_among}
 use Rattle.sb_clauses.proofs.Growing.{GrowsBy-none, GrowsBy-push, place_of_forced}
-use Rattle.sb_clauses.proofs.Literals.{among_at, some_among}
+use Rattle.sb_clauses.proofs.Literals.{some_among}
 use Rattle.sb_clauses.proofs.Codes.{list_of-literal_of, watched-set_same, watched-set_other}
 use Rattle.sb_clauses.proofs.Moving.{list_at, pushed, popped, part_le, stood, popped_other, popped_shorter, popped_times, pushed_other, pushed_self, pushed_off, pushed_times, ends_empty}
 
@@ -342,10 +342,7 @@ module _ (list : ℕ) (w : Walk) (h : IsWalking list w) (n : ℕ) (first : Some 
         own_false : is_false_under (held w.trail.literals) (watched_at w.own n) ≡ true
         own_false = h.are_false (watched_at w.own n) own_list
 
-        pub to_small : l.atom < 2 ^ 30
-        to_small = ltb-true l.atom (2 ^ 30) (all_among is_small c l placed.small among)
-
-        pub to_inside : list_of l < length w.all.lists
+        to_inside : list_of l < length w.all.lists
         to_inside = ltb-true (list_of l) (length w.all.lists)
             (all_among (λ m. ltb (list_of m) (length w.all.lists)) c l placed.listed among)
 
@@ -399,32 +396,6 @@ module _ (list : ℕ) (w : Walk) (h : IsWalking list w) (n : ℕ) (first : Some 
                   (λ e. elsewhere (sym e))) (popped_shorter w.all.lists list n h.inside first);
             }
 
-      -- the one at a place of the clause
-      module _ (place : ℕ) (seen : IsMove (held w.trail.literals) c (watched_at w.other n) place) where
-        apart_parts : (is_same_literal (literal_at c place) (watched_at w.other n) ≡ false)
-            × (is_false_under (held w.trail.literals) (literal_at c place) ≡ false)
-        apart_parts = or_parts (is_same_literal (literal_at c place) (watched_at w.other n))
-            (is_false_under (held w.trail.literals) (literal_at c place)) seen.replacement.is_new
-
-        at_place : is_among c (literal_at c place) ≡ true
-        at_place = among_at c c place no_literal seen.replacement.inside
-
-        pub move_small : (literal_at c place).atom < 2 ^ 30
-        move_small = to_small (literal_at c place) at_place apart_parts.0 apart_parts.1 seen.consistent
-
-        pub move_inside : list_of (literal_at c place) < length w.all.lists
-        move_inside = to_inside (literal_at c place) at_place apart_parts.0 apart_parts.1 seen.consistent
-
-        pub turn_moves : IsTurn list w
-            (pushed_state (set w.own n (list_of (literal_at c place))) w.trail (list_of (literal_at c place))) Goes
-        turn_moves = turn_to (literal_at c place) at_place apart_parts.0 apart_parts.1 seen.consistent
-
-        -- the literal that was watched is one of the clause
-        pub move_among : (d : List Lit) → HasClause w.kept n d → is_among d (watched_at w.own n) ≡ true
-        move_among d k =
-            let is_c : d ≡ c = only_clause w.kept n c d has k in
-            rw is_c ((h.placed n c has).inside (some_among c (literal_at c place) at_place)).0
-
     -- a clause without literals stands among the short ones
     some_here : times n rest ≡ 0 → 1 < list → (c : List Lit) → HasClause w.kept n c → 0 < length c
     some_here nowhere long [] has =
@@ -434,10 +405,9 @@ module _ (list : ℕ) (w : Walk) (h : IsWalking list w) (n : ℕ) (first : Some 
     some_here nowhere long (x ∷ xs) has = omega arith
 
     -- where the other literal is true, whether or not a clause is kept at the number
-    pub turn_true : times n rest ≡ 0 → 1 < list
-        → is_true_under (held w.trail.literals) (watched_at w.other n) ≡ true
+    pub turn_stays : times n rest ≡ 0 → IsPassed w.kept (held w.trail.literals) (watched_at w.other n) list n
         → IsTurn list w (record w { all = record w.all { lists = pushed rest 0 n } }) Goes
-    turn_true nowhere long is_true = go (kept_at w.kept n) refl
+    turn_stays nowhere passed = go (kept_at w.kept n) refl
       where
         go : (o : Option KeptClause) → kept_at w.kept n ≡ o
             → IsTurn list w (record w { all = record w.all { lists = pushed rest 0 n } }) Goes
@@ -448,43 +418,37 @@ module _ (list : ℕ) (w : Walk) (h : IsWalking list w) (n : ℕ) (first : Some 
             let has : HasClause w.kept n k.literals = record { found = k; there = is; literals = refl } in
             turn_holds nowhere k.literals has
             (record {
-              inside = ((h.placed n k.literals has).inside (some_here nowhere long k.literals has)).1;
-              holds = is_true;
+              inside = elim passed.among [
+                | inl long ↦ ((h.placed n k.literals has).inside (some_here nowhere long k.literals has)).1
+                | inr among ↦ among k.literals has
+              ];
+              holds = passed.holds;
             })
 
-    -- where the spare literal is watched, whether or not a clause is kept at the number
-    module _ (nowhere : times n rest ≡ 0) (spares : List ℕ) (code : ℕ) (spared : AreSpared w.kept spares)
-        (free : IsFree (held w.trail.literals) spares n (code_at w.other n) (length w.all.lists) code) where
-      free_parts : (is_same_literal (literal_of code) (watched_at w.other n) ≡ false)
-          × (is_false_under (held w.trail.literals) (literal_of code) ≡ false)
-      free_parts = or_parts (is_same_literal (literal_of code) (watched_at w.other n))
-          (is_false_under (held w.trail.literals) (literal_of code)) free.is_new
-
+    -- where the literal of a list is watched, whether or not a clause is kept at the number
+    module _ (nowhere : times n rest ≡ 0) (code : ℕ)
+        (open_to : IsOpenTo w.kept (held w.trail.literals) (watched_at w.other n) (length w.all.lists) n code) where
       its_list : list_of (literal_of code) ≡ code
-      its_list = list_of-literal_of code free.begun
-
-      is_spare : (c : List Lit) → HasClause w.kept n c → is_among c (literal_of code) ≡ true
-      is_spare c has = ap (λ m. is_among c (literal_of m)) free.there
-          ∙ spared.among n c has (subst (λ m. 1 < m) free.there free.begun)
+      its_list = list_of-literal_of code open_to.begun
 
       -- the literal that was watched is one of the clause
-      pub spare_among : (c : List Lit) → HasClause w.kept n c → is_among c (watched_at w.own n) ≡ true
-      spare_among c has = ((h.placed n c has).inside (some_among c (literal_of code) (is_spare c has))).0
+      pub watched_among : (c : List Lit) → HasClause w.kept n c → is_among c (watched_at w.own n) ≡ true
+      watched_among c has = ((h.placed n c has).inside (some_among c (literal_of code) (open_to.among c has))).0
 
-      pub turn_spare : IsTurn list w
+      pub turn_moves : IsTurn list w
           (record w { own = set w.own n code; all = record w.all { lists = pushed rest code n } }) Goes
-      turn_spare = go (kept_at w.kept n) refl
+      turn_moves = go (kept_at w.kept n) refl
         where
           go : (o : Option KeptClause) → kept_at w.kept n ≡ o
               → IsTurn list w
               (record w { own = set w.own n code; all = record w.all { lists = pushed rest code n } }) Goes
           go None is =
               turn_idles nowhere is (set w.own n code) (length-set w.own n code)
-              (λ id apart. ap literal_of (get_or-set_other w.own n id code 0 apart)) code free.inside
-              (λ e. false≢true (sym free_parts.1 ∙ h.are_false (literal_of code) (its_list ∙ sym e)))
+              (λ id apart. ap literal_of (get_or-set_other w.own n id code 0 apart)) code open_to.inside
+              (λ e. false≢true (sym open_to.not_false ∙ h.are_false (literal_of code) (its_list ∙ sym e)))
           go (Some k) is =
               let has : HasClause w.kept n k.literals = record { found = k; there = is; literals = refl } in
               subst (λ m. IsTurn list w
               (record w { own = set w.own n m; all = record w.all { lists = pushed rest m n } }) Goes) its_list
-              (turn_to nowhere k.literals has (literal_of code) (is_spare k.literals has) free_parts.0 free_parts.1
-              free.consistent)
+              (turn_to nowhere k.literals has (literal_of code) (open_to.among k.literals has) open_to.apart
+              open_to.not_false open_to.consistent)

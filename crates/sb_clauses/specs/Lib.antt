@@ -6,6 +6,7 @@ pub mod WatchLists
 pub mod Watching
 pub mod Looking
 pub mod Sparing
+pub mod Ways
 pub mod Walking
 pub mod Settling
 pub mod Adding

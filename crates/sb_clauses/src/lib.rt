@@ -17,8 +17,9 @@
 //! lists, by literal; `Watches` are the first or the second watch of each clause, with their lists; `home` is the watch
 //! list where a clause belongs; `listing` attaches new clauses, and `Arrival` is what one comes to. In `watch`,
 //! `partner` is the other watched literal, `Holds` is a satisfied clause, `Moves` a new watch, `Forces` a unit clause
-//! and `False` a conflict. `Spares` is what is known of clauses before they are looked at. To `settle` is to propagate
-//! to the fixpoint, and clauses are fine where the watch invariant holds of them.
+//! and `False` a conflict; `Way` is what a number of a watch list comes to by all that is known of it. `Spares` is what is
+//! known of clauses before they are looked at. To `settle` is to propagate to the fixpoint, and clauses are fine where the
+//! watch invariant holds of them.
 #![tactic(auto)]
 
 mod clauses;
@@ -36,6 +37,7 @@ mod walk;
 mod watch;
 mod watch_lists;
 mod watches;
+mod way;
 
 pub use clauses::Clauses;
 pub use engine::Engine;

@@ -13,7 +13,7 @@ use sb_lit::Lit;
 use sb_trail::{CompactLit, Trail};
 
 /// What a new clause comes to.
-#[derive(Clone, Copy, PartialEq, Eq)]
+#[derive(Clone, Copy)]
 pub enum Arrival {
     /// The first watched literal is true, or neither is false.
     Stays,

@@ -2,27 +2,26 @@
 
 ghost use Rattle.std.specs.Prelude.{◌≡◌, ◌<◌, [], true, slice_index_or, MatchOption};
 ghost use Rattle.sb_lit.specs.Kept.{Kept};
-ghost use Rattle.sb_lit.specs.Clauses.{is_true_under};
 ghost use Rattle.sb_trail.specs.Assignments.{held};
 ghost use Rattle.sb_clauses.specs.Records.{kept_of};
 ghost use Rattle.sb_clauses.specs.Propagation.{has_room_for, IsConflict};
-ghost use Rattle.sb_clauses.specs.Watching.{IsSide, literal_of};
+ghost use Rattle.sb_clauses.specs.Watching.{IsSide};
 ghost use Rattle.sb_clauses.specs.Sparing.{AreSpared};
 ghost use Rattle.sb_clauses.specs.Walking.{AreFalseOf, AreHeld, IsWalking, Advances, IsTurn};
 
 use crate::record::Record;
-use crate::spare::{Spares, change_watch, free_spare, is_gone};
-use crate::watch::{Seen, look};
+use crate::spare::{Spares, change_watch};
 use crate::watch_lists::pour;
-use crate::watches::{SHORT, Watches, code_of, literal_of};
-use sb_lit::{ClauseId, Lit};
+use crate::watches::Watches;
+use crate::way::{Way, way_of};
+use sb_lit::ClauseId;
 use sb_trail::Trail;
 
 /// The list for the clauses that a walk leaves where they are.
 const SCRATCH: usize = 0;
 
 /// What one turn of a walk comes to.
-#[derive(Clone, Copy, PartialEq, Eq)]
+#[derive(Clone, Copy)]
 pub enum Turn {
     /// A clause was taken off the list.
     Goes,
@@ -30,20 +29,6 @@ pub enum Turn {
     Ends,
     /// This clause is false.
     Stops(ClauseId),
-}
-
-/// Whether a number of the list stays there whatever is kept at it: its other watched literal is true, and no clause
-/// without literals stands in the list.
-fn is_passed(list: usize, other: u32, trail: &Trail) -> bool
-    ensures { result ≡ true → (1 < list) × (is_true_under (held trail.now.literals) (literal_of other) ≡ true) }
-{
-    if list <= SHORT {
-        return false;
-    }
-    match trail.literal_value(literal_of(other)) {
-        Some(true) => true,
-        _ => false,
-    }
 }
 
 /// Takes the first number off the list, and puts it where it belongs.
@@ -84,40 +69,26 @@ fn take_turn(
         }) result }
     ensures spared { AreSpared (kept_of records.now) spares.new.literals.items }
 {
+    let lists = own.lists.len();
     let Some(number) = own.lists.pop(list) else {
         return Turn::Ends;
     };
-    if is_gone(records, number, spares) {
-        return Turn::Goes;
-    }
-    if is_passed(list, other[number], trail) {
-        own.lists.push(SCRATCH, number);
-        return Turn::Goes;
-    }
-    if let Some(code) = free_spare(spares, number, other[number], own.lists.len(), trail) {
-        change_watch(own, spares, number, code);
-        return Turn::Goes;
-    }
-    let Some(record) = &records[number] else {
-        return Turn::Goes;
-    };
-    let literals = record.literals.as_slice();
-    match look(trail, literals, literal_of(other[number])) {
-        Seen::Holds => {
+    match way_of(records, other, spares, trail, list, lists, number) {
+        Way::Gone => Turn::Goes,
+        Way::Stays => {
             own.lists.push(SCRATCH, number);
             Turn::Goes
         }
-        Seen::Forces(literal) => {
+        Way::Forces(literal) => {
             trail.assign(literal, ClauseId(number as u64));
             own.lists.push(SCRATCH, number);
             Turn::Goes
         }
-        Seen::Moves(place) => {
-            let code = code_of(literals[place].literal());
+        Way::Moves(code) => {
             change_watch(own, spares, number, code);
             Turn::Goes
         }
-        Seen::False => {
+        Way::False => {
             own.lists.push(list, number);
             Turn::Stops(ClauseId(number as u64))
         }

@@ -10,7 +10,7 @@ use sb_lit::Lit;
 use sb_trail::{CompactLit, Trail};
 
 /// What a clause comes to, seen from one of its two watched literals.
-#[derive(Clone, Copy, PartialEq, Eq)]
+#[derive(Clone, Copy)]
 pub enum Seen {
     /// The other one is true.
     Holds,

@@ -1,9 +1,10 @@
-use Rattle.std.proofs.Common.{None, refl, sym, ◌∙◌, ap, length, arith}
+use Rattle.std.proofs.Common.{None, refl, ◌∙◌, ap, length, arith}
 use Rattle.std.specs.Option.{option_map}
 use Rattle.std.proofs.lemmas.List.{length-map, length-set}
 use Rattle.sb_lit.specs.Kept.{Kept}
 use Rattle.sb_clauses.specs.Records.{clause_of, kept_of}
 use Rattle.sb_clauses.proofs.AllDropped.{empty_one, empty_all}
+use Rattle.std.proofs.lemmas.Grind.{common_steps}
 use Rattle.sb_clauses.proofs.clauses.drop_records_from.Goals as goal
 
 pub loop-number-init : goal.loop-number-init
@@ -27,3 +28,6 @@ returns-clause-dropped c =
     empty_all c.loop-number.number (kept_of c.args.records.now.items) (kept_of rows.items) c.loop-number.invariant.1
     (omega (arith, c.loop-number-test.false, c.len.ensures, rows.ok.0, length-map rows.items (option_map clause_of)))
     c.loop-number.invariant.0
+
+pub loop-number-smaller : goal.loop-number-smaller
+loop-number-smaller c = grind (arith, common_steps)

@@ -1,5 +1,9 @@
-use Rattle.std.proofs.Common.{refl}
+use Rattle.std.proofs.Common.{refl, arith}
 use Rattle.sb_clauses.proofs.NextClause.{next_none, head_none, first_home, second_home, first_small, second_small, next_some, next_room, head_stays, head_forced, forced_place, forced_grows, forced_ready, false_here}
+use Rattle.std.proofs.lemmas.Grind.{common_steps}
+use Rattle.std.proofs.lemmas.List.{length-take}
+use Rattle.sb_clauses.specs.Records.{kept_of}
+use Rattle.sb_clauses.proofs.Growing.{GrowsBy-none}
 use Rattle.sb_clauses.proofs.listing.list_next.Goals as goal
 
 pub returns-in_default-clause-ready : goal.returns-in_default-clause-ready
@@ -138,3 +142,37 @@ watch-requires-2-clause-small c =
     c.index-records-number.is c.requires.room c.in-Some.record c.as_slice-clause.result.now c.in-Some.is
     c.as_slice-clause.ensures c.watched_literals.result.0 c.watched_literals.result.1
     c.watched_literals.ensures.watchable
+
+pub bounds-records-number : goal.bounds-records-number
+bounds-records-number c = grind (arith, common_steps)
+
+pub offset_bounds-records-number : goal.offset_bounds-records-number
+offset_bounds-records-number c = grind (arith, common_steps)
+
+pub forget_late-requires : goal.forget_late-requires
+forget_late-requires c = record { ascending = c.requires.ready.ascending }
+
+pub returns-in_default-clause-grows : goal.returns-in_default-clause-grows
+returns-in_default-clause-grows c = GrowsBy-none _ _
+
+pub returns-in-Stays-clause-grows : goal.returns-in-Stays-clause-grows
+returns-in-Stays-clause-grows c = GrowsBy-none _ _
+
+pub returns-in-False-clause-grows : goal.returns-in-False-clause-grows
+returns-in-False-clause-grows c = GrowsBy-none _ _
+
+pub watch-requires-clause-nowhere : goal.watch-requires-clause-nowhere
+watch-requires-clause-nowhere c =
+    c.requires.ready.watched.at_first.fresh c.args.number
+    (omega (arith, length-take c.args.number (kept_of c.args.records.now)))
+
+pub watch-requires-2-clause-nowhere : goal.watch-requires-2-clause-nowhere
+watch-requires-2-clause-nowhere c =
+    c.requires.ready.watched.at_second.fresh c.args.number
+    (omega (arith, length-take c.args.number (kept_of c.args.records.now)))
+
+pub assign-requires-clause-unassigned : goal.assign-requires-clause-unassigned
+assign-requires-clause-unassigned c = c.in-Forces.ensures.unassigned
+
+pub arrive-requires-clause-best : goal.arrive-requires-clause-best
+arrive-requires-clause-best c = c.watched_literals.ensures.best

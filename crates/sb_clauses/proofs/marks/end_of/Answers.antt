@@ -2,6 +2,7 @@ use Rattle.std.proofs.Common.{◌-◌, ap, arith}
 use Rattle.sb_trail.specs.declared.assigned.Assigned.{Assigned}
 use Rattle.std.proofs.lemmas.List.{get_or_read}
 use Rattle.sb_clauses.proofs.Marked.{no_entry, end_less, end_here}
+use Rattle.std.proofs.lemmas.Grind.{common_steps}
 use Rattle.sb_clauses.proofs.marks.end_of.Goals as goal
 
 pub loop-count-preserved : goal.loop-count-preserved
@@ -33,3 +34,6 @@ pub returns-after-loop-count-clause-end : goal.returns-after-loop-count-clause-e
 returns-after-loop-count-clause-end c =
     end_here c.args.level c.loop-count.count c.args.entries.now c.requires c.loop-count.invariant.within
     (λ some. absurd (omega (arith, c.loop-count-test.false))) c.loop-count.invariant.same
+
+pub loop-count-init : goal.loop-count-init
+loop-count-init c = grind (arith, common_steps)

@@ -7,6 +7,7 @@ use Rattle.sb_clauses.specs.Records.{kept_of, clause_of}
 use Rattle.sb_clauses.specs.Occurring.{are_equal, IsIn, is_false_place, node_at, no_node}
 use Rattle.sb_clauses.proofs.Growing.{kept_at_place}
 use Rattle.sb_clauses.proofs.OccurrenceLemmas.{in_next, walk_next, walk_end}
+use Rattle.std.proofs.lemmas.Grind.{common_steps, elements}
 use Rattle.sb_clauses.proofs.occurrences.false_in.Goals as goal
 
 pub loop-next-preserved : goal.loop-next-preserved
@@ -35,3 +36,12 @@ pub returns : goal.returns
 returns c =
     walk_end (kept_of c.args.records.now) c.args.heads.now c.args.nodes.now (contains are_equal c.args.all.now)
     c.requires c.args.list (rw c.in_default.is at c.loop-next.invariant.older)
+
+pub bounds-records-number : goal.bounds-records-number
+bounds-records-number c = grind (arith, common_steps)
+
+pub offset_bounds-records-number : goal.offset_bounds-records-number
+offset_bounds-records-number c = grind (arith, common_steps)
+
+pub returns-then-is_false_place : goal.returns-then-is_false_place
+returns-then-is_false_place c = grind (arith, elements)

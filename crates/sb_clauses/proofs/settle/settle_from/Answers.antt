@@ -2,7 +2,8 @@ use Rattle.std.proofs.Common.{sym, ◌∙◌, take, arith}
 use Rattle.std.proofs.lemmas.List.{length-map, take_all}
 use Rattle.sb_trail.specs.declared.assigned.Assigned.{Assigned}
 use Rattle.sb_trail.specs.Assignments.{held}
-use Rattle.sb_clauses.proofs.Settling.{settles_then, front_grown, front_more, none_given}
+use Rattle.sb_clauses.proofs.Settling.{settles_then, front_grown, front_more, none_given, settles_none, some_answer}
+use Rattle.std.proofs.lemmas.Grind.{common_steps}
 use Rattle.sb_clauses.proofs.settle.settle_from.Goals as goal
 
 pub returns-then-is_some-clause-settles : goal.returns-then-is_some-clause-settles
@@ -30,3 +31,24 @@ returns-clause-answer c =
       c.in_default.ensures.literal,
       length-map c.loop-literal.trail.literals (λ (e : Assigned). e.literal),
     ))) at c.loop-literal.invariant.fine
+
+pub walk_both-conflict-requires-clause-is_false : goal.walk_both-conflict-requires-clause-is_false
+walk_both-conflict-requires-clause-is_false c = grind (arith, common_steps)
+
+pub loop-literal-init : goal.loop-literal-init
+loop-literal-init c = record {
+  watched = c.requires.watched;
+  spared = c.requires.spared;
+  settles = settles_none _ _ _ _;
+  fine = c.requires.fine;
+}
+
+pub returns-then-is_some-clause-answer : goal.returns-then-is_some-clause-answer
+returns-then-is_some-clause-answer c =
+    some_answer _ _ _ _ (sym c.is_some.ensures ∙ c.if-is_some.true) c.walk_both-conflict.ensures.conflict
+
+pub returns-then-is_some-clause-watched : goal.returns-then-is_some-clause-watched
+returns-then-is_some-clause-watched c = c.walk_both-conflict.ensures.watched
+
+pub returns-then-is_some-clause-spared : goal.returns-then-is_some-clause-spared
+returns-then-is_some-clause-spared c = c.walk_both-conflict.ensures.spared

@@ -1,5 +1,6 @@
-use Rattle.sb_clauses.proofs.Settling.{watched_step, settles_step, both_settle, both_watched, both_fine, if_none, at_none}
-use Rattle.std.proofs.Common.{sym, ◌∙◌}
+use Rattle.sb_clauses.proofs.Settling.{watched_step, settles_step, both_settle, both_watched, both_fine, if_none, at_none, some_given, some_answer}
+use Rattle.std.proofs.Common.{sym, ◌∙◌, arith}
+use Rattle.std.proofs.lemmas.Grind.{common_steps}
 use Rattle.sb_clauses.proofs.settle.walk_both.Goals as goal
 
 pub returns-then-is_some-clause-watched : goal.returns-then-is_some-clause-watched
@@ -37,3 +38,17 @@ returns-clause-fine c =
 pub returns-then-is_some-clause-settles : goal.returns-then-is_some-clause-settles
 returns-then-is_some-clause-settles c =
     settles_step _ _ _ _ _ _ _ _ (rw c.deref.ensures.value at c.walk_watching-conflict.ensures.advances)
+
+pub walk_watching-requires-clause-is_false : goal.walk_watching-requires-clause-is_false
+walk_watching-requires-clause-is_false c = grind (arith, common_steps)
+
+pub returns-then-is_some-clause-fine : goal.returns-then-is_some-clause-fine
+returns-then-is_some-clause-fine c = some_given _ _ (sym c.is_some.ensures ∙ c.if-is_some.true)
+
+pub returns-then-is_some-clause-conflict : goal.returns-then-is_some-clause-conflict
+returns-then-is_some-clause-conflict c =
+    some_answer _ _ _ _ (sym c.is_some.ensures ∙ c.if-is_some.true) c.walk_watching-conflict.ensures.answer
+
+pub walk_watching-requires-clause-room : goal.walk_watching-requires-clause-room
+walk_watching-requires-clause-room c =
+    rw c.walk_watching-conflict.ensures.advances.grows.reserved c.requires.room

@@ -1,12 +1,11 @@
-use Rattle.std.proofs.Common.{◌≡◌, length, drop, refl, sym, ◌∙◌, arith}
+use Rattle.std.proofs.Common.{drop, sym, ◌∙◌, arith}
 use Rattle.std.proofs.lemmas.List.{length-set}
-use Rattle.sb_trail.specs.Assignments.{held}
-use Rattle.sb_clauses.specs.Watching.{literal_at, code_at}
-use Rattle.sb_clauses.specs.Sparing.{IsFree}
-use Rattle.sb_clauses.proofs.Growing.{clause_at, no_clause_at, literal_read}
 use Rattle.sb_clauses.proofs.Moving.{list_at, popped_none}
-use Rattle.sb_clauses.proofs.Walking.{turn_ends, turn_drops, number_below, turn_true, turn_holds, turn_place, turn_forces, turn_stops, move_small, move_inside, move_among, turn_moves, turn_spare, spare_among}
+use Rattle.sb_clauses.proofs.Walking.{turn_ends, turn_drops, number_below, turn_stays, turn_place, turn_forces, turn_stops, watched_among, turn_moves}
 use Rattle.sb_clauses.proofs.walk.take_turn.Goals as goal
+
+pub pop-requires : goal.pop-requires
+pop-requires c = c.requires.walking.inside
 
 pub returns-in_default-clause-turn : goal.returns-in_default-clause-turn
 returns-in_default-clause-turn c =
@@ -14,181 +13,128 @@ returns-in_default-clause-turn c =
     rw (c.pop.ensures.rest, popped_none c.args.own.now.lists.lists c.args.list ends)
     (turn_ends c.args.list _ c.requires.walking ends)
 
-pub returns-in_default-records-clause-turn : goal.returns-in_default-records-clause-turn
-returns-in_default-records-clause-turn c =
-    let first = sym c.in-Some.is ∙ c.pop.ensures.first in
-    let below = number_below c.args.list _ c.requires.walking c.in-Some.number first in
-    rw c.pop.ensures.rest
-    (turn_drops c.args.list _ c.requires.walking c.in-Some.number first
-    (no_clause_at c.args.records.now c.in-Some.number c.index-records-number.result below c.index-records-number.is
-    c.in_default-records.is))
+pub returns-in_default-clause-spared : goal.returns-in_default-clause-spared
+returns-in_default-clause-spared c = c.requires.spared
 
-pub is_gone-requires : goal.is_gone-requires
-is_gone-requires c =
-    number_below c.args.list _ c.requires.walking c.in-Some.number (sym c.in-Some.is ∙ c.pop.ensures.first)
+pub way_of-requires : goal.way_of-requires
+way_of-requires c =
+    let below = number_below c.args.list _ c.requires.walking c.in-Some.number (sym c.in-Some.is ∙ c.pop.ensures.first)
+    in
+    record {
+      number = below;
+      other = omega (arith, below, c.requires.walking.other_places);
+      readable = λ clause has.
+          let placed = c.requires.walking.placed c.in-Some.number clause has in
+          record {
+            inside = λ some. (placed.inside some).1;
+            small = placed.small;
+            listed = rw c.len-lists.ensures placed.listed;
+          };
+      spared = c.requires.spared;
+    }
 
-pub returns-then-is_gone-clause-turn : goal.returns-then-is_gone-clause-turn
-returns-then-is_gone-clause-turn c =
+pub returns-in-Gone-clause-turn : goal.returns-in-Gone-clause-turn
+returns-in-Gone-clause-turn c =
     rw c.pop.ensures.rest
     (turn_drops c.args.list _ c.requires.walking c.in-Some.number (sym c.in-Some.is ∙ c.pop.ensures.first)
-    (c.is_gone.ensures c.if-is_gone.true))
+    c.in-Gone.ensures)
 
-pub returns-then-is_passed-clause-turn : goal.returns-then-is_passed-clause-turn
-returns-then-is_passed-clause-turn c =
-    let first = sym c.in-Some.is ∙ c.pop.ensures.first in
-    let passed = c.is_passed.ensures c.if-is_passed.true in
+pub returns-in-Gone-clause-spared : goal.returns-in-Gone-clause-spared
+returns-in-Gone-clause-spared c = c.requires.spared
+
+pub push-requires : goal.push-requires
+push-requires c = record {
+  list =
+      let same = length-set c.args.own.now.lists.lists c.args.list (drop 1 (list_at c.args.own.now.lists.lists c.args.list)) in
+      rw c.pop.ensures.rest (omega (arith, same, c.requires.walking.inside));
+  node = c.in-Some.ensures.nowhere.0;
+  nowhere = c.in-Some.ensures.nowhere.1;
+}
+
+pub returns-in-Stays-clause-turn : goal.returns-in-Stays-clause-turn
+returns-in-Stays-clause-turn c =
     rw (c.push.ensures, c.pop.ensures.rest)
-    (turn_true c.args.list _ c.requires.walking c.in-Some.number first
-    (rw c.pop.ensures.rest at c.in-Some.ensures.nowhere.1) passed.0 passed.1)
+    (turn_stays c.args.list _ c.requires.walking c.in-Some.number (sym c.in-Some.is ∙ c.pop.ensures.first)
+    (rw c.pop.ensures.rest at c.in-Some.ensures.nowhere.1) c.in-Stays.ensures)
 
-pub look-requires : goal.look-requires
-look-requires c =
-    let first = sym c.in-Some.is ∙ c.pop.ensures.first in
-    let below = number_below c.args.list _ c.requires.walking c.in-Some.number first in
-    let has = clause_at c.args.records.now c.in-Some.number c.index-records-number.result c.in-Some-records.record
-    c.as_slice-literals.result.now below c.index-records-number.is c.in-Some-records.is c.as_slice-literals.ensures in
-    rw c.literal_of.ensures (λ some. ((c.requires.walking.placed c.in-Some.number c.as_slice-literals.result.now has).inside some).1)
+pub returns-in-Stays-clause-spared : goal.returns-in-Stays-clause-spared
+returns-in-Stays-clause-spared c = c.requires.spared
 
 pub assign-requires-clause-reserved : goal.assign-requires-clause-reserved
 assign-requires-clause-reserved c =
-    let first = sym c.in-Some.is ∙ c.pop.ensures.first in
-    let below = number_below c.args.list _ c.requires.walking c.in-Some.number first in
-    let has = clause_at c.args.records.now c.in-Some.number c.index-records-number.result c.in-Some-records.record
-    c.as_slice-literals.result.now below c.index-records-number.is c.in-Some-records.is c.as_slice-literals.ensures in
-    turn_place c.args.list _ c.requires.walking c.in-Some.number first (rw c.pop.ensures.rest at c.in-Some.ensures.nowhere.1)
-    c.as_slice-literals.result.now has c.in-Forces.literal (rw c.literal_of.ensures at c.in-Forces.ensures)
+    let forcing = c.in-Forces.ensures in
+    turn_place c.args.list _ c.requires.walking c.in-Some.number (sym c.in-Some.is ∙ c.pop.ensures.first)
+    (rw c.pop.ensures.rest at c.in-Some.ensures.nowhere.1) forcing.clause forcing.has c.in-Forces.literal forcing.left
 
-pub returns-in-Holds-clause-turn : goal.returns-in-Holds-clause-turn
-returns-in-Holds-clause-turn c =
-    let first = sym c.in-Some.is ∙ c.pop.ensures.first in
-    let below = number_below c.args.list _ c.requires.walking c.in-Some.number first in
-    let has = clause_at c.args.records.now c.in-Some.number c.index-records-number.result c.in-Some-records.record
-    c.as_slice-literals.result.now below c.index-records-number.is c.in-Some-records.is c.as_slice-literals.ensures in
-    rw (c.push-in-Holds.ensures, c.pop.ensures.rest)
-    (turn_holds c.args.list _ c.requires.walking c.in-Some.number first
-    (rw c.pop.ensures.rest at c.in-Some.ensures.nowhere.1) c.as_slice-literals.result.now has (rw c.literal_of.ensures at c.in-Holds.ensures))
+pub assign-requires-clause-unassigned : goal.assign-requires-clause-unassigned
+assign-requires-clause-unassigned c = c.in-Forces.ensures.left.unassigned
 
-pub code_of-code-requires : goal.code_of-code-requires
-code_of-code-requires c =
-    let first = sym c.in-Some.is ∙ c.pop.ensures.first in
-    let below = number_below c.args.list _ c.requires.walking c.in-Some.number first in
-    let has = clause_at c.args.records.now c.in-Some.number c.index-records-number.result c.in-Some-records.record
-    c.as_slice-literals.result.now below c.index-records-number.is c.in-Some-records.is c.as_slice-literals.ensures in
-    let read : c.literal.result ≡ literal_at c.as_slice-literals.result.now c.in-Moves.place =
-    c.literal.ensures
-    ∙ literal_read c.as_slice-literals.result.now c.as_slice-literals.result.now c.in-Moves.place
-    c.index-literals-place.result refl c.in-Moves.ensures.replacement.inside c.index-literals-place.is in
-    rw read (
-    move_small c.args.list _ c.requires.walking c.in-Some.number first
-    (rw c.pop.ensures.rest at c.in-Some.ensures.nowhere.1) c.as_slice-literals.result.now has c.in-Moves.place
-    (rw c.literal_of.ensures at c.in-Moves.ensures))
+pub push-requires-in-Forces : goal.push-requires-in-Forces
+push-requires-in-Forces c = record {
+  list =
+      let same = length-set c.args.own.now.lists.lists c.args.list (drop 1 (list_at c.args.own.now.lists.lists c.args.list)) in
+      rw c.pop.ensures.rest (omega (arith, same, c.requires.walking.inside));
+  node = c.in-Some.ensures.nowhere.0;
+  nowhere = c.in-Some.ensures.nowhere.1;
+}
 
-pub change_watch-requires-in-Moves-clause-number : goal.change_watch-requires-in-Moves-clause-number
-change_watch-requires-in-Moves-clause-number c =
-    let first = sym c.in-Some.is ∙ c.pop.ensures.first in
-    let below = number_below c.args.list _ c.requires.walking c.in-Some.number first in
-    omega (arith, below, c.requires.walking.own_places)
+pub returns-in-Forces-clause-turn : goal.returns-in-Forces-clause-turn
+returns-in-Forces-clause-turn c =
+    let forcing = c.in-Forces.ensures in
+    rw (c.push-in-Forces.ensures, c.pop.ensures.rest, c.assign.ensures)
+    (turn_forces c.args.list _ c.requires.walking c.in-Some.number (sym c.in-Some.is ∙ c.pop.ensures.first)
+    (rw c.pop.ensures.rest at c.in-Some.ensures.nowhere.1) forcing.clause forcing.has c.in-Forces.literal forcing.left)
 
-pub change_watch-requires-in-Moves-clause-list : goal.change_watch-requires-in-Moves-clause-list
-change_watch-requires-in-Moves-clause-list c =
-    let first = sym c.in-Some.is ∙ c.pop.ensures.first in
-    let below = number_below c.args.list _ c.requires.walking c.in-Some.number first in
-    let has = clause_at c.args.records.now c.in-Some.number c.index-records-number.result c.in-Some-records.record
-    c.as_slice-literals.result.now below c.index-records-number.is c.in-Some-records.is c.as_slice-literals.ensures in
-    let read : c.literal.result ≡ literal_at c.as_slice-literals.result.now c.in-Moves.place =
-    c.literal.ensures
-    ∙ literal_read c.as_slice-literals.result.now c.as_slice-literals.result.now c.in-Moves.place
-    c.index-literals-place.result refl c.in-Moves.ensures.replacement.inside c.index-literals-place.is in
-    rw (
-      c.code_of-code.ensures,
-      read,
-      c.pop.ensures.rest,
-      length-set c.args.own.now.lists.lists c.args.list (drop 1 (list_at c.args.own.now.lists.lists c.args.list)),
-    )
-    (move_inside c.args.list _ c.requires.walking c.in-Some.number first
-    (rw c.pop.ensures.rest at c.in-Some.ensures.nowhere.1) c.as_slice-literals.result.now has c.in-Moves.place
-    (rw c.literal_of.ensures at c.in-Moves.ensures))
+pub returns-in-Forces-clause-spared : goal.returns-in-Forces-clause-spared
+returns-in-Forces-clause-spared c = c.requires.spared
+
+pub change_watch-requires : goal.change_watch-requires
+change_watch-requires c =
+    let below = number_below c.args.list _ c.requires.walking c.in-Some.number (sym c.in-Some.is ∙ c.pop.ensures.first)
+    in
+    record {
+      number = omega (arith, below, c.requires.walking.own_places);
+      node = c.in-Some.ensures.nowhere.0;
+      nowhere = c.in-Some.ensures.nowhere.1;
+      list =
+          rw (
+            c.pop.ensures.rest,
+            length-set c.args.own.now.lists.lists c.args.list (drop 1 (list_at c.args.own.now.lists.lists c.args.list)),
+            ← c.len-lists.ensures,
+          ) c.in-Moves.ensures.inside;
+    }
+
+pub returns-in-Moves-clause-turn : goal.returns-in-Moves-clause-turn
+returns-in-Moves-clause-turn c =
+    rw (c.change_watch.ensures.lists, c.change_watch.ensures.watched, c.pop.ensures.rest)
+    (turn_moves c.args.list _ c.requires.walking c.in-Some.number (sym c.in-Some.is ∙ c.pop.ensures.first)
+    (rw c.pop.ensures.rest at c.in-Some.ensures.nowhere.1) c.in-Moves.code
+    (rw c.len-lists.ensures at c.in-Moves.ensures))
 
 pub returns-in-Moves-clause-spared : goal.returns-in-Moves-clause-spared
 returns-in-Moves-clause-spared c =
     let first = sym c.in-Some.is ∙ c.pop.ensures.first in
-    let below = number_below c.args.list _ c.requires.walking c.in-Some.number first in
-    let has = clause_at c.args.records.now c.in-Some.number c.index-records-number.result c.in-Some-records.record
-    c.as_slice-literals.result.now below c.index-records-number.is c.in-Some-records.is c.as_slice-literals.ensures in
-    c.change_watch-in-Moves.ensures.spared _ c.requires.spared below
-    (move_among c.args.list _ c.requires.walking c.in-Some.number first
-    (rw c.pop.ensures.rest at c.in-Some.ensures.nowhere.1) c.as_slice-literals.result.now has c.in-Moves.place
-    (rw c.literal_of.ensures at c.in-Moves.ensures))
-
-pub returns-in-Some-free_spare-clause-turn : goal.returns-in-Some-free_spare-clause-turn
-returns-in-Some-free_spare-clause-turn c =
-    let first = sym c.in-Some.is ∙ c.pop.ensures.first in
-    let free : IsFree (held c.args.trail.now.literals) c.args.spares.now.literals.items c.in-Some.number
-    (code_at c.args.other.now c.in-Some.number) (length c.args.own.now.lists.lists) c.in-Some-free_spare.code =
-    rw (
-      c.len.ensures,
-      c.pop.ensures.rest,
-      length-set c.args.own.now.lists.lists c.args.list (drop 1 (list_at c.args.own.now.lists.lists c.args.list)),
-    ) at c.in-Some-free_spare.ensures in
-    rw (c.change_watch.ensures.lists, c.change_watch.ensures.watched, c.pop.ensures.rest)
-    (turn_spare c.args.list _ c.requires.walking c.in-Some.number first
-    (rw c.pop.ensures.rest at c.in-Some.ensures.nowhere.1) c.args.spares.now.literals.items c.in-Some-free_spare.code
-    c.requires.spared free)
-
-pub returns-in-Some-free_spare-clause-spared : goal.returns-in-Some-free_spare-clause-spared
-returns-in-Some-free_spare-clause-spared c =
-    let first = sym c.in-Some.is ∙ c.pop.ensures.first in
-    let free : IsFree (held c.args.trail.now.literals) c.args.spares.now.literals.items c.in-Some.number
-    (code_at c.args.other.now c.in-Some.number) (length c.args.own.now.lists.lists) c.in-Some-free_spare.code =
-    rw (
-      c.len.ensures,
-      c.pop.ensures.rest,
-      length-set c.args.own.now.lists.lists c.args.list (drop 1 (list_at c.args.own.now.lists.lists c.args.list)),
-    ) at c.in-Some-free_spare.ensures in
     c.change_watch.ensures.spared _ c.requires.spared
     (number_below c.args.list _ c.requires.walking c.in-Some.number first)
-    (spare_among c.args.list _ c.requires.walking c.in-Some.number first
-    (rw c.pop.ensures.rest at c.in-Some.ensures.nowhere.1) c.args.spares.now.literals.items c.in-Some-free_spare.code
-    c.requires.spared free)
+    (watched_among c.args.list _ c.requires.walking c.in-Some.number first
+    (rw c.pop.ensures.rest at c.in-Some.ensures.nowhere.1) c.in-Moves.code
+    (rw c.len-lists.ensures at c.in-Moves.ensures))
 
-pub returns-in-Forces-clause-turn : goal.returns-in-Forces-clause-turn
-returns-in-Forces-clause-turn c =
-    let first = sym c.in-Some.is ∙ c.pop.ensures.first in
-    let below = number_below c.args.list _ c.requires.walking c.in-Some.number first in
-    let has = clause_at c.args.records.now c.in-Some.number c.index-records-number.result c.in-Some-records.record
-    c.as_slice-literals.result.now below c.index-records-number.is c.in-Some-records.is c.as_slice-literals.ensures in
-    rw (c.push-in-Forces.ensures, c.pop.ensures.rest, c.assign.ensures)
-    (turn_forces c.args.list _ c.requires.walking c.in-Some.number first
-    (rw c.pop.ensures.rest at c.in-Some.ensures.nowhere.1) c.as_slice-literals.result.now has c.in-Forces.literal
-    (rw c.literal_of.ensures at c.in-Forces.ensures))
-
-pub returns-in-Moves-clause-turn : goal.returns-in-Moves-clause-turn
-returns-in-Moves-clause-turn c =
-    let first = sym c.in-Some.is ∙ c.pop.ensures.first in
-    let below = number_below c.args.list _ c.requires.walking c.in-Some.number first in
-    let has = clause_at c.args.records.now c.in-Some.number c.index-records-number.result c.in-Some-records.record
-    c.as_slice-literals.result.now below c.index-records-number.is c.in-Some-records.is c.as_slice-literals.ensures in
-    let read : c.literal.result ≡ literal_at c.as_slice-literals.result.now c.in-Moves.place =
-    c.literal.ensures
-    ∙ literal_read c.as_slice-literals.result.now c.as_slice-literals.result.now c.in-Moves.place
-    c.index-literals-place.result refl c.in-Moves.ensures.replacement.inside c.index-literals-place.is in
-    rw (
-      c.change_watch-in-Moves.ensures.lists,
-      c.change_watch-in-Moves.ensures.watched,
-      c.pop.ensures.rest,
-      c.code_of-code.ensures,
-      read,
-    )
-    (turn_moves c.args.list _ c.requires.walking c.in-Some.number first
-    (rw c.pop.ensures.rest at c.in-Some.ensures.nowhere.1) c.as_slice-literals.result.now has c.in-Moves.place
-    (rw c.literal_of.ensures at c.in-Moves.ensures))
+pub push-requires-in-False : goal.push-requires-in-False
+push-requires-in-False c = record {
+  list =
+      let same = length-set c.args.own.now.lists.lists c.args.list (drop 1 (list_at c.args.own.now.lists.lists c.args.list)) in
+      rw c.pop.ensures.rest (omega (arith, same, c.requires.walking.inside));
+  node = c.in-Some.ensures.nowhere.0;
+  nowhere = c.in-Some.ensures.nowhere.1;
+}
 
 pub returns-in-False-clause-turn : goal.returns-in-False-clause-turn
 returns-in-False-clause-turn c =
-    let first = sym c.in-Some.is ∙ c.pop.ensures.first in
-    let below = number_below c.args.list _ c.requires.walking c.in-Some.number first in
-    let has = clause_at c.args.records.now c.in-Some.number c.index-records-number.result c.in-Some-records.record
-    c.as_slice-literals.result.now below c.index-records-number.is c.in-Some-records.is c.as_slice-literals.ensures in
+    let lost = c.in-False.ensures in
     rw (c.push-in-False.ensures, c.pop.ensures.rest)
-    (turn_stops c.args.list _ c.requires.walking c.in-Some.number first
-    (rw c.pop.ensures.rest at c.in-Some.ensures.nowhere.1) c.as_slice-literals.result.now has c.in-False.ensures)
+    (turn_stops c.args.list _ c.requires.walking c.in-Some.number (sym c.in-Some.is ∙ c.pop.ensures.first)
+    (rw c.pop.ensures.rest at c.in-Some.ensures.nowhere.1) lost.clause lost.has lost.is_false)
+
+pub returns-in-False-clause-spared : goal.returns-in-False-clause-spared
+returns-in-False-clause-spared c = c.requires.spared

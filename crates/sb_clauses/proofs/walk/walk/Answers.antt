@@ -1,7 +1,8 @@
-use Rattle.std.proofs.Common.{arith}
+use Rattle.std.proofs.Common.{arith, refl, inl}
 use Rattle.sb_clauses.specs.Records.{kept_of}
 use Rattle.sb_clauses.specs.Walking.{Walk}
 use Rattle.sb_clauses.proofs.Walked.{walk_begins, walk_holds, walk_past, walk_ends, match_weaker}
+use Rattle.sb_clauses.proofs.Growing.{GrowsBy-none}
 use Rattle.sb_clauses.proofs.walk.walk.Goals as goal
 
 pub take_turns-conflict-requires-clause-walking : goal.take_turns-conflict-requires-clause-walking
@@ -28,3 +29,7 @@ pub returns-clause-answer : goal.returns-clause-answer
 returns-clause-answer c =
     match_weaker c.take_turns-conflict.result _ _ _
     (λ empty. walk_holds c.args.list _ c.take_turns-conflict.ensures.walking empty) c.take_turns-conflict.ensures.answer
+
+pub returns-then-list-len-clause-advances : goal.returns-then-list-len-clause-advances
+returns-then-list-len-clause-advances c =
+    record { grows = GrowsBy-none _ _; len = refl; moved = λ id clause has. inl refl }

@@ -1,5 +1,6 @@
 use Rattle.std.proofs.Common.{◌≡◌, ◌++◌, drop, take, length, arith}
 use Rattle.std.proofs.lemmas.List.{take_at}
+use Rattle.std.proofs.lemmas.Grind.{common_steps}
 use Rattle.sb_clauses.proofs.clauses.Clauses.leave_above.Goals as goal
 
 pub invariant_of-self : goal.invariant_of-self
@@ -18,3 +19,12 @@ invariant_of-self c =
       c.drop_records_above.ensures.found,
       c.drop_records_above.ensures.empty c.self.inside.emptied (rw c.deref_mut.ensures.value c.self.invariant.2),
     )
+
+pub returns : goal.returns
+returns c = grind (arith, common_steps)
+
+pub drop_records_above-requires-clause-found : goal.drop_records_above-requires-clause-found
+drop_records_above-requires-clause-found c = rw c.deref_mut.ensures.value c.self.invariant.1
+
+pub drop_records_above-requires-clause-scoped : goal.drop_records_above-requires-clause-scoped
+drop_records_above-requires-clause-scoped c = rw c.deref_mut.ensures.value c.self.invariant.0

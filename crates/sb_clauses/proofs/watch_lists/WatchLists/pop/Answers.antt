@@ -1,6 +1,7 @@
-use Rattle.std.proofs.Common.{◌∙◌, sym, ap}
+use Rattle.std.proofs.Common.{◌∙◌, sym, ap, arith}
 use Rattle.std.specs.List.{slice_get}
 use Rattle.sb_clauses.proofs.ListLemmas.{keeps, gives, lists_are, popped, popped_free, list_splits, list_ends, nodes_shown}
+use Rattle.std.proofs.lemmas.Grind.{common_steps}
 use Rattle.sb_clauses.proofs.watch_lists.WatchLists.pop.Goals as goal
 
 pub get-behind-requires : goal.get-behind-requires
@@ -46,3 +47,6 @@ returns-in-Some-clause-nowhere c =
     c.args.list c.in-Some.node c.get-behind.result c.requires (rw c.in-Some.is at c.get-first.ensures.value)
     c.get-behind.ensures.value in
     (free.0, rw (c.set.ensures, lists_are _ _ _ lists) free.1)
+
+pub returns-in_default-clause-rest : goal.returns-in_default-clause-rest
+returns-in_default-clause-rest c = grind (arith, common_steps)
