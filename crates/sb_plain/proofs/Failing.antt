@@ -1,6 +1,7 @@
 -- What failed, as an arena grows and as more fails.
-use Rattle.std.proofs.Common.{◌≡◌, ℕ, subst, suc, true, false, inl, inr, nat_eq, List, [], ◌∷◌, get_or, drop, sym, ap, ap₂, ◌∙◌, arith}
+use Rattle.std.proofs.Common.{◌≡◌, ℕ, ◌<◌, subst, suc, Bool, true, false, cond, inl, inr, nat_eq, List, [], ◌∷◌, ◌++◌, length, get_or, drop, sym, ap, ap₂, ◌∙◌, arith}
 use Rattle.std.specs.List.{list_any}
+use Rattle.std.proofs.lemmas.List.Elements.{All-append, All-cons, All-nil}
 use Rattle.std.proofs.lemmas.Bool.{and_parts, or_cases, false≢true}
 use Rattle.std.proofs.lemmas.Bool.Decides.{nat_tests}
 use Rattle.sb_lang.specs.Regex.{Regex}
@@ -18,6 +19,20 @@ failed_kept old new f more failed k d l =
       number_kept old new pair.0 more p.0,
       ap (λ r. language r (drop pair.1 f.0)) (at_kept old new pair.0 more p.0) ∙ p.1,
     )
+
+pub failed_put : (codes : List ℕ) (pairs pairs' : List (ℕ × ℕ)) (f : Failed) (regex place : ℕ) → (codes, pairs) ≡ f
+    → (b : Bool) → pairs' ≡ cond b pairs (pairs ++ (regex, place) ∷ []) → (rs : List Regex) → AreFailed rs f
+    → regex < length rs → language (regex_at rs regex) (drop place f.0) ≡ false → AreFailed rs (codes, pairs')
+failed_put codes pairs pairs' f regex place is true e rs failed l fails =
+    subst (λ ps. AreFailed rs (codes, ps)) (sym e) (subst (AreFailed rs) (sym is) failed)
+failed_put codes pairs pairs' f regex place is false e rs failed l fails =
+    let no_word = λ (p : ℕ × ℕ). (p.0 < length rs) × (language (regex_at rs p.0) (drop p.1 codes) ≡ false) in
+    subst (λ ps. AreFailed rs (codes, ps)) (sym e)
+    (All-append no_word pairs ((regex, place) ∷ []) (subst (AreFailed rs) (sym is) failed)
+    (All-cons no_word (regex, place) [] (
+      l,
+      ap (λ (g : Failed). language (regex_at rs regex) (drop place g.0)) is ∙ fails,
+    ) (All-nil no_word)))
 
 pub failed_has : (rs : List Regex) (codes : List ℕ) (pairs : List (ℕ × ℕ)) (regex place : ℕ)
     → list_any (same_pair (regex, place)) pairs ≡ true → AreFailed rs (codes, pairs)

@@ -1,13 +1,14 @@
 -- Lists of points: what covers what, the last point up to a number, and the ends of ranges.
 use Rattle.std.proofs.Common.{◌≡◌, ℕ, zero, suc, ◌+◌, ◌-◌, ◌<◌, ◌≤◌, Bool, true, false, cond, Some, List, [], ◌∷◌, ◌++◌, length, get_or, take, refl, sym, ap, ap₂, subst, ◌∙◌, arith}
-use Rattle.std.specs.Prelude.{nat_le, nat_lt, ◌||◌, ◌&&◌, slice_get, not}
+use Rattle.std.specs.Prelude.{None, Option, IsSome, is_some, nat_le, nat_lt, ◌||◌, ◌&&◌, slice_get, not}
 use Rattle.std.specs.List.{All, list_all, list_any}
 use Rattle.std.specs.List.Sorted.{IsStrictlyIncreasing, IsStrictlySortedBy}
 use Rattle.std.specs.Ordering.{nat_cmp, match_ordering}
 use Rattle.std.specs.BTreeSet.{insert_key}
 use Rattle.std.specs.BTreeMap.{is_at}
-use Rattle.std.proofs.lemmas.Bool.{and_parts, or_left, or_right}
+use Rattle.std.proofs.lemmas.Bool.{and_parts, or_left, or_right, true≢false}
 use Rattle.std.proofs.lemmas.Bool.Decides.{nat_tests}
+use Rattle.std.proofs.lemmas.List.Elements.{All-append, All-cons, All-nil}
 use Rattle.std.proofs.lemmas.List.Folds.{list_all-append}
 use Rattle.std.proofs.lemmas.Map.Keys.{IsStrictlyIncreasing-from_sorted, sorted_from_strictly_increasing, sorted_tail, below_from_sorted}
 use Rattle.std.specs.declared.cmp.Ordering.{Ordering}
@@ -16,6 +17,15 @@ use Rattle.sb_class.specs.Ranges.{Range, in_range, in_ranges}
 use Rattle.sb_word.specs.Words.{is_character}
 use Rattle.sb_plain.specs.CutPoints.{none_between, ArePoints}
 use Rattle.sb_plain.specs.Making.{floor, stretch, Covers, Parts}
+
+pub pushed_parts : (t : ℕ → Bool) (xs xs' : List ℕ) (x : ℕ) → xs' ≡ xs ++ x ∷ [] → list_all t xs' ≡ true
+    → (list_all t xs ≡ true) × (list_all t (x ∷ []) ≡ true)
+pushed_parts t xs xs' x e h =
+    and_parts (list_all t xs) _ (sym (list_all-append t xs (x ∷ [])) ∙ ap (list_all t) (sym e) ∙ h)
+
+pub all_pushed : (p : ℕ → Type 0) (xs xs' : List ℕ) (x : ℕ) → xs' ≡ xs ++ x ∷ [] → All p xs → p x → All p xs'
+all_pushed p xs xs' x e h here =
+    subst (All p) (sym e) (All-append p xs (x ∷ []) h (All-cons p x [] here (All-nil p)))
 
 pub both : (a b : Bool) → a ≡ true → b ≡ true → (a && b) ≡ true
 both a b p q = ap₂ ◌&&◌ p q
@@ -91,6 +101,10 @@ head_kept k (x ∷ xs) h = step (nat_cmp k x) refl
     step Less e = let l = less_is k x e in absurd (omega (arith, l, zero_is))
     step Equal e = h
     step Greater e = h
+
+pub none_left : {A : Type 0} (ks : List A) (o : Option A) → o ≡ None → (0 < length ks → IsSome o) → ks ≡ []
+none_left [] o e f = refl
+none_left (k ∷ ks) o e f = absurd (true≢false (sym (f (omega arith)) ∙ ap is_some e))
 
 pub points_inserted : (k : ℕ) (ks ks' : List ℕ) → ks' ≡ insert_key nat_cmp ks k → IsStrictlySortedBy nat_cmp ks'
     → k ≤ 0x2ffff → ArePoints ks → ArePoints ks'

@@ -233,3 +233,13 @@ no_members = refl
 pub mknot_none : (rs : List Regex) (d : Node) (r : Regex) → node_regex rs d ≡ r → d ≡ node.None → mkand [] ≡ mknot r
 unfolding mknot
 mknot_none rs d r e is = no_members ∙ ap (λ x. mknot (node_regex rs x)) (sym is) ∙ ap mknot e
+
+-- So many parts there are.
+
+pub two_parts : (op : Operation) (b n : ℕ) → op ≡ operation.CatOrRest b → least_parts op ≤ n → 1 < n
+unfolding least_parts
+two_parts op b n is h = let two : 2 ≤ n = subst (λ (x : ℕ). x ≤ n) (ap least_parts is) h in omega (arith, two)
+
+pub one_part : (op : Operation) (a least most n : ℕ) → op ≡ operation.Rep a least most → least_parts op ≤ n → 0 < n
+unfolding least_parts
+one_part op a least most n is h = let one : 1 ≤ n = subst (λ (x : ℕ). x ≤ n) (ap least_parts is) h in omega (arith, one)

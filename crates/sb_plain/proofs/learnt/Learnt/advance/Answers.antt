@@ -1,9 +1,9 @@
-use Rattle.std.proofs.Common.{◌∙◌, ap, map, refl}
+use Rattle.std.proofs.Common.{◌∙◌, ap, map, refl, subst, sym}
 use Rattle.std.proofs.lemmas.Result.{IfOk-from_err}
 use Rattle.std.proofs.lemmas.Bool.{true≢false, false≢true}
 use Rattle.sb_plain.proofs.Waiting.{any_after, wanted_after}
 use Rattle.sb_plain.proofs.Remembering.{below_more, found_still, targets_still}
-use Rattle.sb_plain.specs.Making.{target_at}
+use Rattle.sb_plain.specs.Making.{target_at, IsShape}
 use Rattle.sb_regex.proofs.CallerLemmas.{extends_same}
 use Rattle.sb_plain.proofs.learnt.Learnt.advance.Goals as goal
 
@@ -129,3 +129,32 @@ returns-in_err-learn_points c =
       waits = IfOk-from_err x.result _ x.ensures.0;
       wanted = IfOk-from_err x.result _ x.ensures.0;
     }
+
+pub learn_points-requires-clause-known : goal.learn_points-requires-clause-known
+learn_points-requires-clause-known c = c.requires.known
+
+pub learn_points-requires-clause-room : goal.learn_points-requires-clause-room
+learn_points-requires-clause-room c = c.requires.room
+
+pub learn_points-requires-clause-right : goal.learn_points-requires-clause-right
+learn_points-requires-clause-right c = c.requires.right
+
+pub learn_points-requires-clause-shape : goal.learn_points-requires-clause-shape
+learn_points-requires-clause-shape c =
+    subst (IsShape c.args.arena.now c.args.id c.in_ok-shape.shape.operation) (sym c.deref-2.ensures.value)
+    c.in_ok-shape.ensures
+
+pub learn_derivative-requires-clause-known : goal.learn_derivative-requires-clause-known
+learn_derivative-requires-clause-known c = c.requires.known
+
+pub learn_derivative-requires-clause-character : goal.learn_derivative-requires-clause-character
+learn_derivative-requires-clause-character c = c.requires.character
+
+pub learn_derivative-requires-clause-right : goal.learn_derivative-requires-clause-right
+learn_derivative-requires-clause-right c = c.in_ok-learn_points.ensures.right
+
+pub learn_derivative-requires-clause-points : goal.learn_derivative-requires-clause-points
+learn_derivative-requires-clause-points c = c.in_ok-learn_points.ensures.done
+
+pub learn_derivative-requires-clause-shape : goal.learn_derivative-requires-clause-shape
+learn_derivative-requires-clause-shape c = c.in_ok-shape.ensures

@@ -1,4 +1,5 @@
 use Rattle.std.proofs.Common.{arith}
+use Rattle.std.proofs.lemmas.Result.{IfOk-from_err}
 use Rattle.sb_regex.proofs.CallerLemmas.{extends_same, extends_more, names_below}
 use Rattle.sb_plain.proofs.Along.{along_none, along_more, along_all, code_below}
 use Rattle.sb_plain.proofs.learnt.Learnt.along.Goals as goal
@@ -30,3 +31,13 @@ pub returns-clause-ok : goal.returns-clause-ok
 returns-clause-ok c =
     along_all c.loop-c.arena _ c.args.codes.now c.loop-c.c-index c.loop-c.rest (omega (arith, c.loop-c-test.false))
     c.loop-c.invariant.0
+
+pub returns-in_err-rest : goal.returns-in_err-rest
+returns-in_err-rest c =
+    let x = c.from_residual in
+    record {
+      ok = IfOk-from_err x.result _ x.ensures.0;
+      extends = extends_more c.args.arena.now c.loop-c.arena c.plain_derivative.new.arena c.loop-c.invariant.1
+          c.plain_derivative.ensures.extends;
+      right = c.plain_derivative.ensures.right;
+    }

@@ -1,5 +1,6 @@
 use Rattle.std.proofs.Common.{◌∙◌, ap, sym, get_or, None, arith}
-use Rattle.sb_regex.proofs.CallerLemmas.{extends_same}
+use Rattle.std.proofs.lemmas.Result.{IfOk-from_err}
+use Rattle.sb_regex.proofs.CallerLemmas.{extends_same, extends_more, number_kept}
 use Rattle.sb_plain.proofs.Waiting.{deriving_init, deriving_step, turn_falls}
 use Rattle.sb_plain.proofs.Remembering.{right_room}
 use Rattle.sb_plain.proofs.learnt.Learnt.learn.Goals as goal
@@ -61,3 +62,26 @@ loop-r-smaller c =
       len = c.pop_first.ensures.len;
       variant = c.pop_first.ensures.variant.1;
     })
+
+pub advance-requires : goal.advance-requires
+advance-requires c =
+    let i = c.loop-r.invariant in
+    record {
+      known = omega (arith, i.next_in, number_kept c.args.arena.now c.loop-r.arena c.args.r i.extends c.requires.known);
+      character = c.requires.character;
+      room = omega (arith, i.next_in, i.long);
+      right = i.right;
+    }
+
+pub returns-in_err-_added : goal.returns-in_err-_added
+returns-in_err-_added c =
+    let x = c.from_residual-in_err-_added in
+    record {
+      done = IfOk-from_err x.result _ x.ensures.0;
+      extends = extends_more c.args.arena.now c.loop-r.arena c.advance.new.arena c.loop-r.invariant.extends
+          c.advance.ensures.extends;
+      right = c.advance.ensures.right;
+    }
+
+pub returns-in_err-make_room-clause-extends : goal.returns-in_err-make_room-clause-extends
+returns-in_err-make_room-clause-extends c = extends_same c.args.arena.now

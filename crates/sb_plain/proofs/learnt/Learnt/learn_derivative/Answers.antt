@@ -1,4 +1,4 @@
-use Rattle.std.proofs.Common.{ap, refl}
+use Rattle.std.proofs.Common.{ap, refl, length}
 use Rattle.std.proofs.lemmas.Result.{IfOk-from_err}
 use Rattle.sb_regex.proofs.CallerLemmas.{number_kept}
 use Rattle.sb_plain.specs.Memory.{points_of}
@@ -74,3 +74,6 @@ returns-in_err-insert-clause-extends c = c.in_ok-target.ensures.extends
 
 pub returns-clause-extends : goal.returns-clause-extends
 returns-clause-extends c = c.in_ok-target.ensures.extends
+
+pub returns-clause-long : goal.returns-clause-long
+returns-clause-long c = ap (λ m. length m.1.0) c.self.view_is

@@ -1,4 +1,5 @@
-use Rattle.std.proofs.Common.{◌∙◌, ap, ap₂, sym, Some, set}
+use Rattle.std.proofs.Common.{◌∙◌, ap, ap₂, sym, Some, set, length}
+use Rattle.std.proofs.lemmas.List.{length-set}
 use Rattle.std.specs.Prelude.{is_some}
 use Rattle.sb_plain.proofs.Remembering.{places_exist, right_lists, found_lists, place_right, found_elsewhere, found_kept}
 use Rattle.sb_plain.proofs.learnt.Learnt.learn_points.Goals as goal
@@ -39,3 +40,8 @@ returns-clause-kept c =
     c.args.operation.now c.args.parts.now c.requires.right c.in_ok-place.ensures.grown (ap (λ x. x.0) c.self.view_is)
     (ap₂ (λ xs k. set xs k (Some c.in_ok-place.place)) (ap (λ x. x.1.0) c.self.view_is) c.number.ensures)
     (ap (λ x. x.1.1) c.self.view_is) (ap is_some (sym c.place.ensures) ∙ sym c.is_some.ensures ∙ c.if-is_some.false)
+
+pub returns-clause-long : goal.returns-clause-long
+returns-clause-long c =
+    length-set c.self.inside.places.items _ _ ∙ ap (λ m. length m.1.0) c.self.view_is
+    ∙ ap (λ m. length m.0) c.in_ok-place.ensures.grown.rest

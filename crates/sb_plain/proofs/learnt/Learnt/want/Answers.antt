@@ -1,5 +1,7 @@
-use Rattle.std.proofs.Common.{◌∙◌, sym, arith}
+use Rattle.std.proofs.Common.{◌∙◌, sym, arith, map, ap}
+use Rattle.std.proofs.lemmas.List.{take_all}
 use Rattle.sb_plain.proofs.Waiting.{wanting_init, wanting_known, wanting_add}
+use Rattle.sb_plain.specs.Making.{target_at}
 use Rattle.sb_plain.proofs.learnt.Learnt.want.Goals as goal
 use Rattle.sb_plain.proofs.learnt.Learnt.want.Goals.{in-Some+in_ok-push-in-Some, in-None+in_ok-insert-in-None}
 
@@ -35,3 +37,9 @@ returns-clause-idle c = c.loop-part.invariant.idle
 
 pub returns-clause-added : goal.returns-clause-added
 returns-clause-added c = c.loop-part.invariant.added
+
+pub returns-clause-targets : goal.returns-clause-targets
+returns-clause-targets c =
+    λ known. c.loop-part.invariant.made known
+    ∙ ap (map (target_at c.args.self.now c.args.c))
+    (take_all c.loop-part.part-index c.args.parts.now c.loop-part-test.false)
