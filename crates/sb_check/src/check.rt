@@ -247,6 +247,7 @@ fn check_opened<W: World>(alloc: Global, world: &mut W) -> CheckStatus
         next_check: 1,
     };
     let outcome = check_script(&mut run, world);
+    drop(run);
     conclude(alloc, outcome, world)
 }
 

@@ -43,11 +43,19 @@ pub fn read_words<'a>(alloc: Global, words: &'a [String]) -> Result<Asked<'a>, N
         → error ≡ NoRun.NoMemory) }
 {
     match strcheck(alloc)?.try_get_matches_from(words) {
-        Ok(matches) => Ok(Asked {
-            script: given(&matches, "script"),
-            proof: given(&matches, "proof"),
-        }),
-        Err(error) => Err(told(alloc, &error)),
+        Ok(matches) => {
+            let asked = Asked {
+                script: given(&matches, "script"),
+                proof: given(&matches, "proof"),
+            };
+            drop(matches);
+            Ok(asked)
+        }
+        Err(error) => {
+            let refused = told(alloc, &error);
+            drop(error);
+            Err(refused)
+        }
     }
 }
 
@@ -56,20 +64,20 @@ fn strcheck<'a>(alloc: Global) -> Result<Command<'a>, AllocError>
     ensures app { IfOk result (λ command. app_of command ≡ specs.strcheck) }
     ensures both { IfOk result HasBoth }
 {
+    let bare = Command::new(alloc, "strcheck")
+        .version(VERSION)
+        .about(ABOUT)
+        .override_usage("strcheck SCRIPT PROOF")
+        .after_help(MORE);
     let script = needed(alloc, "script", "SCRIPT", "The file that holds the script");
+    let command = bare.arg(script)?;
     let proof = needed(
         alloc,
         "proof",
         "PROOF",
         "The file that holds the proof of its answers",
     );
-    Command::new(alloc, "strcheck")
-        .version(VERSION)
-        .about(ABOUT)
-        .override_usage("strcheck SCRIPT PROOF")
-        .after_help(MORE)
-        .arg(script)?
-        .arg(proof)
+    command.arg(proof)
 }
 
 /// A word that has to be there.

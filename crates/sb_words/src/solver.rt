@@ -42,11 +42,19 @@ pub fn read_words<'a>(alloc: Global, words: &'a [String]) -> Result<Asked<'a>, N
         → error ≡ NoRun.NoMemory) }
 {
     match strsolve(alloc)?.try_get_matches_from(words) {
-        Ok(matches) => Ok(Asked {
-            script: matches.get_str("script"),
-            proof: matches.get_str("proof"),
-        }),
-        Err(error) => Err(told(alloc, &error)),
+        Ok(matches) => {
+            let asked = Asked {
+                script: matches.get_str("script"),
+                proof: matches.get_str("proof"),
+            };
+            drop(matches);
+            Ok(asked)
+        }
+        Err(error) => {
+            let refused = told(alloc, &error);
+            drop(error);
+            Err(refused)
+        }
     }
 }
 
@@ -54,18 +62,18 @@ pub fn read_words<'a>(alloc: Global, words: &'a [String]) -> Result<Asked<'a>, N
 fn strsolve<'a>(alloc: Global) -> Result<Command<'a>, AllocError>
     ensures { IfOk result (λ command. app_of command ≡ specs.strsolve) }
 {
+    let bare = Command::new(alloc, "strsolve")
+        .version(VERSION)
+        .about(ABOUT)
+        .override_usage("strsolve [--proof FILE] [SCRIPT]")
+        .after_help(MORE);
     let proof = Arg::new(alloc, "proof")
         .long("proof")
         .value_name("FILE")
         .help("The file that takes a proof of the answers; what it held is lost");
+    let command = bare.arg(proof)?;
     let script = Arg::new(alloc, "script")
         .value_name("SCRIPT")
         .help("The file that holds the script [standard input]");
-    Command::new(alloc, "strsolve")
-        .version(VERSION)
-        .about(ABOUT)
-        .override_usage("strsolve [--proof FILE] [SCRIPT]")
-        .after_help(MORE)
-        .arg(proof)?
-        .arg(script)
+    command.arg(script)
 }

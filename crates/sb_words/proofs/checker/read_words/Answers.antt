@@ -38,6 +38,6 @@ returns-in-Ok-clause-proof c =
 pub returns-in-Err-clause-told : goal.returns-in-Err-clause-told
 returns-in-Err-clause-told c taken =
     let app = c.in_ok-strcheck.ensures.app in
-    c.told.ensures (no_fault_kind (fault_of strcheck (map string_bytes c.args.words.now)) c.in-Err.error taken
+    c.told-refused.ensures (no_fault_kind (fault_of strcheck (map string_bytes c.args.words.now)) c.in-Err.error taken
     (subst (λ (a : App). HasKind (fault_of a (map string_bytes c.args.words.now)) c.in-Err.error) app
     (c.in-Err.ensures.kinds (ap is_simple_and_free app ∙ free))))

@@ -9,9 +9,9 @@ pub returns : goal.returns
 returns c =
     let proof_is : rule_of c.help-proof.result ≡ proof = search rules in
     let script_is : rule_of c.help-script.result ≡ script = search rules in
-    let bare_is : app_of c.after_help.result ≡ bare =
-    ap app_of_fields c.after_help.ensures ∙ ap app_of_fields c.override_usage.ensures
+    let bare_is : app_of c.after_help-bare.result ≡ bare =
+    ap app_of_fields c.after_help-bare.ensures ∙ ap app_of_fields c.override_usage.ensures
     ∙ ap app_of_fields c.about.ensures ∙ ap app_of_fields c.version.ensures
-    ∙ ap (on_top (λ s. record s { has_version = true })) c.new-3.ensures.app in
+    ∙ ap (on_top (λ s. record s { has_version = true })) c.new.ensures.app in
     IfOk-weaker c.arg-2.result _ _ (λ command added. added.shape (search rules)
-    ∙ ap₂ with_rule (c.in_ok-arg.ensures.shape (search rules) ∙ ap₂ with_rule bare_is proof_is) script_is) c.arg-2.ensures
+    ∙ ap₂ with_rule (c.in_ok-command.ensures.shape (search rules) ∙ ap₂ with_rule bare_is proof_is) script_is) c.arg-2.ensures
