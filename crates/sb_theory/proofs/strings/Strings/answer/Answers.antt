@@ -1,8 +1,10 @@
-use Rattle.std.proofs.Common.{refl, sym, ◌∙◌}
+use Rattle.std.proofs.Common.{refl, sym, ◌∙◌, Bool}
+use Rattle.std.proofs.lemmas.Result.{IfOk-from_err, err_from_is_err_and}
 use Rattle.sb_theory.proofs.Standing.{stands_grown}
 use Rattle.sb_theory.proofs.Denied.{answers_denied, never_fine}
-use Rattle.sb_theory.proofs.Answering.{ticked, unticked, never_on, answers_as}
+use Rattle.sb_theory.proofs.Answering.{ticked, unticked, never_on, answers_as, grows_on}
 use Rattle.sb_regex.proofs.CallerLemmas.{extends_same}
+use Rattle.sb_trace.proofs.Exits.{counts_on}
 use Rattle.sb_theory.proofs.strings.Strings.answer.Goals as goal
 
 pub returns-clause-stands : goal.returns-clause-stands
@@ -38,3 +40,48 @@ returns-then-not-self-clause-step g c = (
       (λ on. never_on c.args.self.now.proves c.if-not-self.true on)),
   never_fine c.args.clause c.is_ok-done.result c.answered.result c.answered.ensures,
 )
+
+pub returns-in_err-done : goal.returns-in_err-done
+returns-in_err-done g c =
+    let x = c.from_residual in
+    let p = err_from_is_err_and x.result x.ensures.1 in
+    record {
+      stands = IfOk-from_err x.result _ x.ensures.0;
+      step = IfOk-from_err x.result _ x.ensures.0;
+      grows = grows_on c.args.self.now _ refl refl refl c.requires.stands.holds.regexes c.in_err-done.ensures.extends;
+      steps = c.in_err-done.ensures.steps;
+      counts = counts_on Bool x.result p.0 _ _ _ p.1 p.2 c.in_err-done.ensures.counts;
+    }
+
+pub returns-clause-grows : goal.returns-clause-grows
+returns-clause-grows g c =
+    grows_on c.args.self.now _ refl refl refl c.requires.stands.holds.regexes c.in_ok-done.ensures.extends
+
+pub returns-clause-steps : goal.returns-clause-steps
+returns-clause-steps g c = c.in_ok-done.ensures.steps
+
+pub returns-clause-counts : goal.returns-clause-counts
+returns-clause-counts g c = c.in_ok-done.ensures.counts
+
+pub returns-then-not-self-clause-grows : goal.returns-then-not-self-clause-grows
+returns-then-not-self-clause-grows g c =
+    grows_on c.args.self.now _ refl refl refl c.requires.stands.holds.regexes (extends_same c.args.self.now.arena)
+
+pub returns-then-not-self-clause-stands : goal.returns-then-not-self-clause-stands
+returns-then-not-self-clause-stands g c = c.requires.stands
+
+pub returns-then-not-self-clause-counts : goal.returns-then-not-self-clause-counts
+returns-then-not-self-clause-counts g c = refl
+
+pub put_denial-requires : goal.put_denial-requires
+put_denial-requires g c =
+    let denied = c.requires.denied in
+    let holds = c.requires.stands.holds in
+    record {
+      some = denied.some;
+      ascend = denied.ascend;
+      about = denied.about;
+      clash = denied.clash;
+      regexes = holds.regexes;
+      graph = holds.graph;
+    }

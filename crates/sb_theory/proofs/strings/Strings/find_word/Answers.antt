@@ -1,7 +1,7 @@
 use Rattle.std.proofs.Common.{◌≡◌, ◌∷◌, [], List, true, length, refl, sym, ap, subst, ◌∙◌}
 use Rattle.std.specs.List.{list_all}
 use Rattle.std.proofs.lemmas.List.{length-append}
-use Rattle.std.proofs.lemmas.Result.{IfOk-weaker}
+use Rattle.std.proofs.lemmas.Result.{IfOk-weaker, IfOk-from_err, err_from_is_err_and}
 use Rattle.sb_lit.specs.declared.clause.Lit.{Lit}
 use Rattle.sb_lit.specs.Clauses.{is_among}
 use Rattle.sb_lang.specs.Language.{language}
@@ -16,7 +16,9 @@ use Rattle.sb_theory.specs.Memberships.{is_true_by}
 use Rattle.sb_theory.proofs.Standing.{stands_grown, stands_pushed}
 use Rattle.sb_theory.proofs.Fitting.{fit_found}
 use Rattle.sb_theory.proofs.Denied.{members_about, members_among, members_single, members_are}
-use Rattle.sb_theory.proofs.Answering.{step_both, answers_fine}
+use Rattle.sb_theory.proofs.Answering.{step_both, answers_fine, grows_on, grows_both}
+use Rattle.sb_regex.proofs.CallerLemmas.{extends_same}
+use Rattle.sb_trace.proofs.Exits.{counts_none}
 use Rattle.sb_theory.proofs.strings.Strings.find_word.Goals as goal
 
 pub least_word-requires-clause-about : goal.least_word-requires-clause-about
@@ -111,3 +113,76 @@ returns-clause-step g c =
     refl c.requires.stands.holds.regexes c.in_ok-explored.ensures.extends c.in_ok-explored.ensures.derivatives_stay)
     step)
     c.lemma.ensures.step
+
+pub returns-in_err-literals : goal.returns-in_err-literals
+returns-in_err-literals g c =
+    let x = c.from_residual in
+    let p = err_from_is_err_and x.result x.ensures.1 in
+    record {
+      stands = IfOk-from_err x.result _ x.ensures.0;
+      step = IfOk-from_err x.result _ x.ensures.0;
+      grows = grows_on c.args.self.now _ refl refl refl c.requires.stands.holds.regexes (extends_same c.args.self.now.arena);
+      steps = spent_none c.args.budget.now;
+      counts = counts_none x.result p.0 _ p.1 p.2;
+    }
+
+pub returns-in_err-explored : goal.returns-in_err-explored
+returns-in_err-explored g c =
+    let x = c.from_residual-in_err-explored in
+    let p = err_from_is_err_and x.result x.ensures.1 in
+    record {
+      stands = IfOk-from_err x.result _ x.ensures.0;
+      step = IfOk-from_err x.result _ x.ensures.0;
+      grows = grows_on c.args.self.now _ refl refl refl c.requires.stands.holds.regexes c.in_err-explored.ensures.extends;
+      steps = spent_none c.args.budget.now;
+      counts = counts_none x.result p.0 _ p.1 p.2;
+    }
+
+pub returns-in_err-put_word-in-Alive : goal.returns-in_err-put_word-in-Alive
+returns-in_err-put_word-in-Alive g c =
+    let x = c.from_residual-in_err-put_word-in-Alive in
+    let p = err_from_is_err_and x.result x.ensures.1 in
+    record {
+      stands = IfOk-from_err x.result _ x.ensures.0;
+      step = IfOk-from_err x.result _ x.ensures.0;
+      grows = grows_on c.args.self.now _ refl refl refl c.requires.stands.holds.regexes c.in_ok-explored.ensures.extends;
+      steps = spent_none c.args.budget.now;
+      counts = counts_none x.result p.0 _ p.1 p.2;
+    }
+
+pub returns-in_err-keep-in-Alive : goal.returns-in_err-keep-in-Alive
+returns-in_err-keep-in-Alive g c =
+    let x = c.from_residual-in_err-keep-in-Alive in
+    let p = err_from_is_err_and x.result x.ensures.1 in
+    record {
+      stands = IfOk-from_err x.result _ x.ensures.0;
+      step = IfOk-from_err x.result _ x.ensures.0;
+      grows = grows_on c.args.self.now _ refl refl refl c.requires.stands.holds.regexes c.in_ok-explored.ensures.extends;
+      steps = spent_none c.args.budget.now;
+      counts = counts_none x.result p.0 _ p.1 p.2;
+    }
+
+pub returns-in-Alive-clause-grows : goal.returns-in-Alive-clause-grows
+returns-in-Alive-clause-grows g c =
+    grows_on c.args.self.now _ refl refl refl c.requires.stands.holds.regexes c.in_ok-explored.ensures.extends
+
+pub returns-in-Alive-clause-steps : goal.returns-in-Alive-clause-steps
+returns-in-Alive-clause-steps g c = spent_none c.args.budget.now
+
+pub returns-in-Alive-clause-counts : goal.returns-in-Alive-clause-counts
+returns-in-Alive-clause-counts g c = refl
+
+pub returns-clause-grows : goal.returns-clause-grows
+returns-clause-grows g c =
+    grows_both c.args.self.now _ c.lemma.new.self
+    (grows_on c.args.self.now _ refl refl refl c.requires.stands.holds.regexes c.in_ok-explored.ensures.extends)
+    c.lemma.ensures.grows
+
+pub returns-clause-stands : goal.returns-clause-stands
+returns-clause-stands g c = c.lemma.ensures.stands
+
+pub returns-clause-steps : goal.returns-clause-steps
+returns-clause-steps g c = c.lemma.ensures.steps
+
+pub returns-clause-counts : goal.returns-clause-counts
+returns-clause-counts g c = c.lemma.ensures.counts

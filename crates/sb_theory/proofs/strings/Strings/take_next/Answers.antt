@@ -2,7 +2,7 @@ use Rattle.std.proofs.Common.{◌≡◌, ◌∷◌, [], List, Option, true, leng
 use Rattle.std.specs.Option.{IfNone}
 use Rattle.std.specs.List.{list_all}
 use Rattle.std.proofs.lemmas.List.{length-append}
-use Rattle.std.proofs.lemmas.Result.{IfOk-weaker}
+use Rattle.std.proofs.lemmas.Result.{IfOk-weaker, IfOk-from_err, err_from_is_err_and}
 use Rattle.sb_term.specs.declared.term.Serial.{Serial}
 use Rattle.sb_trail.specs.declared.assigned.Assigned.{Assigned}
 use Rattle.sb_trail.specs.Assignments.{held}
@@ -10,7 +10,8 @@ use Rattle.sb_atoms.proofs.CallerLemmas.{regexes_kept}
 use Rattle.sb_trace.proofs.CallerLemmas.{spent_none}
 use Rattle.sb_theory.specs.Memberships.{is_true_by}
 use Rattle.sb_theory.proofs.Standing.{stands_grown, stands_pushed, next_of, fit_grown, fit_push, true_by_grown}
-use Rattle.sb_theory.proofs.Answering.{step_both, answers_fine}
+use Rattle.sb_theory.proofs.Answering.{step_both, answers_fine, grows_on, grows_both}
+use Rattle.sb_trace.proofs.Exits.{counts_none}
 use Rattle.sb_theory.proofs.strings.Strings.take_next.Goals as goal
 
 pub find_word-requires-clause-stands : goal.find_word-requires-clause-stands
@@ -74,3 +75,52 @@ returns-in-Some-clause-step g c =
     (answers_fine c.args.self.now _ c.args.trail.now.literals c.args.budget.now (g.L.Tape.told c.args.tape.now) refl refl
     refl c.requires.stands.holds.regexes c.in_ok-found.ensures.extends (λ n pieces h. h)) step)
     c.find_word.ensures.step
+
+pub returns-in_err-found : goal.returns-in_err-found
+returns-in_err-found g c =
+    let x = c.from_residual in
+    let p = err_from_is_err_and x.result x.ensures.1 in
+    record {
+      stands = IfOk-from_err x.result _ x.ensures.0;
+      step = IfOk-from_err x.result _ x.ensures.0;
+      grows = grows_on c.args.self.now _ refl refl refl c.requires.stands.holds.regexes c.in_err-found.ensures.extends;
+      steps = spent_none c.args.budget.now;
+      counts = counts_none x.result p.0 _ p.1 p.2;
+    }
+
+pub returns-in_err-keep-in-None : goal.returns-in_err-keep-in-None
+returns-in_err-keep-in-None g c =
+    let x = c.from_residual-in_err-keep-in-None in
+    let p = err_from_is_err_and x.result x.ensures.1 in
+    record {
+      stands = IfOk-from_err x.result _ x.ensures.0;
+      step = IfOk-from_err x.result _ x.ensures.0;
+      grows = grows_on c.args.self.now _ refl refl refl c.requires.stands.holds.regexes c.in_ok-found.ensures.extends;
+      steps = spent_none c.args.budget.now;
+      counts = counts_none x.result p.0 _ p.1 p.2;
+    }
+
+pub returns-in_ok-keep-in-None-clause-grows : goal.returns-in_ok-keep-in-None-clause-grows
+returns-in_ok-keep-in-None-clause-grows g c =
+    grows_on c.args.self.now _ refl refl refl c.requires.stands.holds.regexes c.in_ok-found.ensures.extends
+
+pub returns-in_ok-keep-in-None-clause-steps : goal.returns-in_ok-keep-in-None-clause-steps
+returns-in_ok-keep-in-None-clause-steps g c = spent_none c.args.budget.now
+
+pub returns-in_ok-keep-in-None-clause-counts : goal.returns-in_ok-keep-in-None-clause-counts
+returns-in_ok-keep-in-None-clause-counts g c = refl
+
+pub returns-in-Some-clause-grows : goal.returns-in-Some-clause-grows
+returns-in-Some-clause-grows g c =
+    grows_both c.args.self.now _ c.find_word.new.self
+    (grows_on c.args.self.now _ refl refl refl c.requires.stands.holds.regexes c.in_ok-found.ensures.extends)
+    c.find_word.ensures.grows
+
+pub returns-in-Some-clause-stands : goal.returns-in-Some-clause-stands
+returns-in-Some-clause-stands g c = c.find_word.ensures.stands
+
+pub returns-in-Some-clause-steps : goal.returns-in-Some-clause-steps
+returns-in-Some-clause-steps g c = c.find_word.ensures.steps
+
+pub returns-in-Some-clause-counts : goal.returns-in-Some-clause-counts
+returns-in-Some-clause-counts g c = c.find_word.ensures.counts
