@@ -1,6 +1,6 @@
 use Rattle.std.proofs.Common.{sym}
 use Rattle.std.proofs.lemmas.Result.{IfOk-from_err, on_ok_weaker}
-use Rattle.sb_regex.proofs.CallerLemmas.{extends_more}
+use Rattle.sb_regex.proofs.CallerLemmas.{extends_more, number_kept}
 use Rattle.sb_graph.proofs.Fronts.{from_start}
 use Rattle.sb_graph.proofs.edges.push_from.Goals as goal
 
@@ -61,3 +61,8 @@ returns c =
       faithful = faithful;
       kept = d.kept;
     }
+
+pub push_pieces-requires-clause-rest : goal.push_pieces-requires-clause-rest
+push_pieces-requires-clause-rest c =
+    number_kept c.front_of.new.arena c.derive.new.arena c.in_ok-head.rest c.in_ok-derive.ensures.extends
+    c.in_ok-head.ensures.front.rest

@@ -20,3 +20,9 @@ word_from-requires c =
     subst IsWord (sym (c.deref.ensures.value ∙ c.reverse.ensures.items))
     (word_read c.args.queue.now c.args.place codes c.requires.word
     (λ words w. c.loop-at.invariant.1 words w ∙ ap (λ k. word_at words k ++ codes) first))
+
+pub loop-at-smaller : goal.loop-at-smaller
+loop-at-smaller c =
+    let e = entry_is c.args.queue.now c.loop-at.at c.at-before.result c.at-before.ensures in
+    let b = c.requires.back c.loop-at.at c.loop-at-test.true c.loop-at.invariant.0 in
+    omega (arith, b, ap (λ e. e.1.0) e)

@@ -20,3 +20,9 @@ pub returns-clause-both : goal.returns-clause-both
 returns-clause-both c = λ u.
     choice_done c.args.arena.now c.args.parts.now c.loop-part.whole.items c.loop-part.divided.items
     c.loop-part.part-index c.loop-part-test.false u _ (c.loop-part.invariant.both u)
+
+pub returns-clause-whole : goal.returns-clause-whole
+returns-clause-whole c = c.loop-part.invariant.whole
+
+pub returns-clause-divided : goal.returns-clause-divided
+returns-clause-divided c = c.loop-part.invariant.divided

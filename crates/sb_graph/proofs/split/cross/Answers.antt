@@ -1,5 +1,7 @@
+use Rattle.std.proofs.Common.{◌<◌, length, refl}
+use Rattle.std.proofs.lemmas.List.Elements.{All-nil}
 use Rattle.std.proofs.lemmas.Result.{IfOk-from_err}
-use Rattle.sb_regex.proofs.CallerLemmas.{extends_more, number_in, number_kept, numbers_kept}
+use Rattle.sb_regex.proofs.CallerLemmas.{extends_more, number_in, number_kept, numbers_kept, extends_same}
 use Rattle.sb_graph.proofs.Splits.{rows_more, rows_done}
 use Rattle.sb_graph.proofs.split.cross.Goals as goal
 
@@ -45,4 +47,12 @@ returns c =
       both = λ u. rows_done c.args.arena.now c.loop-row.arena c.args.rows.now c.args.choices.now c.loop-row.all.items
           c.loop-row.row-index c.loop-row-test.false u (i.both u);
       extends = i.extends;
+    }
+
+pub loop-row-init : goal.loop-row-init
+loop-row-init c =
+    record {
+      extends = extends_same c.args.arena.now;
+      known = rw (c.new-all.ensures.items) (All-nil (λ i. i < length c.args.arena.now));
+      both = λ u. rw (c.new-all.ensures.items) refl;
     }

@@ -1,6 +1,6 @@
-use Rattle.std.proofs.Common.{ap, sym, ◌∙◌}
+use Rattle.std.proofs.Common.{ap, sym, ◌∙◌, arith, subst}
 use Rattle.std.proofs.lemmas.Result.{on_ok_weaker}
-use Rattle.sb_regex.specs.Nodes.{node_regex}
+use Rattle.sb_regex.specs.Nodes.{node_regex, PartsBelow}
 use Rattle.sb_graph.proofs.Stronger.{taken_dropped, taken_kept, taken_noted}
 use Rattle.sb_graph.proofs.strongest.take.Goals as goal
 
@@ -23,3 +23,11 @@ pub returns-in_ok-push-in_default : goal.returns-in_ok-push-in_default
 returns-in_ok-push-in_default c =
     taken_kept c.args.arena.now c.args.part c.args.kept.now.items c.push-in_default.new.self.items
     c.args.weaker.now.keys c.requires c.in_ok-push-in_default.ensures.items
+
+pub note-requires : goal.note-requires
+note-requires c =
+    let parts = subst (PartsBelow c.args.part) c.in-Cat.is c.node.ensures.parts in
+    record {
+      head = omega (arith, parts 0 0 (omega arith), c.requires);
+      rest = omega (arith, parts 1 0 (omega arith), c.requires);
+    }

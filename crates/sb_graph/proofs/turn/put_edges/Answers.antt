@@ -1,3 +1,4 @@
+use Rattle.std.proofs.lemmas.Result.{IfOk-from_err}
 use Rattle.sb_regex.proofs.CallerLemmas.{extends_more, extends_same, number_kept}
 use Rattle.sb_graph.proofs.WalkSteps.{target_known, puts_more, puts_all}
 use Rattle.sb_graph.proofs.Splits.{put_kept}
@@ -33,3 +34,15 @@ returns-clause-puts c =
     c.loop-character.invariant.puts c.loop-character.arena c.loop-character.queue (extends_same c.loop-character.arena)
     (puts_all c.loop-character.arena c.args.place c.args.edges.now c.loop-character.character-index
     c.loop-character.queue c.loop-character-test.false)
+
+pub loop-character-init : goal.loop-character-init
+loop-character-init c = record { extends = extends_same c.args.arena.now; puts = λ later end m p. p }
+
+pub returns-in_err-put_parts : goal.returns-in_err-put_parts
+returns-in_err-put_parts c =
+    let x = c.from_residual in
+    record {
+      puts = IfOk-from_err x.result _ x.ensures.0;
+      extends = extends_more c.args.arena.now c.loop-character.arena c.put_parts.new.arena
+          c.loop-character.invariant.extends c.put_parts.ensures.extends;
+    }

@@ -27,3 +27,16 @@ returns-in_err-derive c =
       marks = e.marks;
       derivatives_stay = e.derivatives_stay;
     }
+
+pub returns-clause-expands : goal.returns-clause-expands
+returns-clause-expands c =
+    let is = ap (λ e. e.0)
+    (get_or_from_slice_get c.args.queue.now c.args.place c.at-regex.result (0, (0, 0)) c.at-regex.ensures) in
+    subst (λ r. GoesOn (λ n. n ≡ r) c.args.self.now.expanded c.derive.new.self.expanded) (sym is)
+    c.in_ok-derive.ensures.expands
+
+pub returns-clause-extends : goal.returns-clause-extends
+returns-clause-extends c = c.in_ok-derive.ensures.extends
+
+pub returns-clause-graph : goal.returns-clause-graph
+returns-clause-graph c = c.in_ok-derive.ensures.graph
