@@ -4,3 +4,4 @@ pub use Rattle.sb_trace.proofs.Puts.{puts_none, puts_one, puts_both, stays_both}
 pub use Rattle.sb_trace.proofs.Growing.{tracks_grow, stays_same}
 pub use Rattle.sb_trace.proofs.Positions.{number-there}
 pub use Rattle.sb_trace.proofs.Spent.{spent_none, spent_same, spent_one, spent_both}
+pub use Rattle.sb_trace.proofs.Exits.{counts_none, counts_on}

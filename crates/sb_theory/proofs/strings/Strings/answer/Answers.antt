@@ -4,7 +4,7 @@ use Rattle.sb_theory.proofs.Standing.{stands_grown}
 use Rattle.sb_theory.proofs.Denied.{answers_denied, never_fine}
 use Rattle.sb_theory.proofs.Answering.{ticked, unticked, never_on, answers_as, grows_on}
 use Rattle.sb_regex.proofs.CallerLemmas.{extends_same}
-use Rattle.sb_trace.proofs.Exits.{counts_on}
+use Rattle.sb_trace.proofs.CallerLemmas.{counts_on}
 use Rattle.sb_theory.proofs.strings.Strings.answer.Goals as goal
 
 pub returns-clause-stands : goal.returns-clause-stands

@@ -18,7 +18,7 @@ use Rattle.sb_theory.proofs.Fitting.{fit_found}
 use Rattle.sb_theory.proofs.Denied.{members_about, members_among, members_single, members_are}
 use Rattle.sb_theory.proofs.Answering.{step_both, answers_fine, grows_on, grows_both}
 use Rattle.sb_regex.proofs.CallerLemmas.{extends_same}
-use Rattle.sb_trace.proofs.Exits.{counts_none}
+use Rattle.sb_trace.proofs.CallerLemmas.{counts_none}
 use Rattle.sb_theory.proofs.strings.Strings.find_word.Goals as goal
 
 pub least_word-requires-clause-about : goal.least_word-requires-clause-about

@@ -4,7 +4,7 @@ use Rattle.sb_search.specs.declared.theory.Checked.TheVariants.{Fine}
 use Rattle.sb_trace.proofs.CallerLemmas.{spent_both}
 use Rattle.sb_theory.proofs.Answering.{grows_both, answers_both, step_none, step_some}
 use Rattle.sb_search.specs.declared.theory.Checked.{Checked}
-use Rattle.sb_trace.proofs.Exits.{counts_on}
+use Rattle.sb_trace.proofs.CallerLemmas.{counts_on}
 use Rattle.sb_trace.specs.Putting.{CountsTapeFault}
 use Rattle.sb_theory.proofs.strings.Strings.take_in.Goals as goal
 
