@@ -6,11 +6,9 @@ use Rattle.sb_lang.specs.Language.{language}
 use Rattle.sb_regex.specs.Numbered.{Names, regex_at}
 use Rattle.sb_regex.proofs.CallerLemmas.{names_at, names_below, extends_more, extends_same}
 use Rattle.sb_trace.specs.Tracking.{IsExploring}
-use Rattle.sb_trace.proofs.CallerLemmas.{tracks_grow, stays_same, stays_both}
+use Rattle.sb_trace.proofs.CallerLemmas.{tracks_grow, stays_same, stays_both, spent_none, spent_both, counts_none, counts_on}
 use Rattle.sb_clash.specs.Literals.{AreAbout, asked_by_all}
 use Rattle.sb_clash.proofs.DenialFacts.{about_opposite, behind_traces, denial_waits, never_alive, can_be_denied}
-use Rattle.sb_trace.proofs.CallerLemmas.{spent_none, spent_both}
-use Rattle.sb_trace.proofs.CallerLemmas.{counts_none, counts_on}
 use Rattle.sb_trace.specs.declared.trace.Explore.{Explore}
 use Rattle.sb_trace.specs.Putting.{CountsTapeFault}
 use Rattle.sb_clash.proofs.denying.put_denial.Goals as goal

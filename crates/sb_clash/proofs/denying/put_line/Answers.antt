@@ -10,8 +10,7 @@ use Rattle.sb_rulebook.specs.LineLaws.{is_small_literal}
 use Rattle.sb_proof.specs.Tapes.{with_bytes}
 use Rattle.sb_clash.specs.Denials.{Denies}
 use Rattle.sb_clash.proofs.DenialFacts.{denial_put}
-use Rattle.sb_trace.proofs.CallerLemmas.{spent_same, spent_one}
-use Rattle.sb_trace.proofs.CallerLemmas.{counts_none}
+use Rattle.sb_trace.proofs.CallerLemmas.{spent_same, spent_one, counts_none}
 use Rattle.sb_clash.proofs.denying.put_line.Goals as goal
 
 pub returns-clause-puts : goal.returns-clause-puts

@@ -10,7 +10,7 @@ use Rattle.sb_trail.specs.Assignments.{held}
 use Rattle.sb_graph.specs.declared.graph.Explored.{Explored}
 use Rattle.sb_graph.specs.Witness.{IsFinding}
 use Rattle.sb_atoms.proofs.CallerLemmas.{regexes_kept}
-use Rattle.sb_trace.proofs.CallerLemmas.{spent_none}
+use Rattle.sb_trace.proofs.CallerLemmas.{spent_none, counts_none}
 use Rattle.sb_clash.specs.Literals.{AreAbout, AreSingle, asked_by_all}
 use Rattle.sb_theory.specs.Memberships.{is_true_by}
 use Rattle.sb_theory.proofs.Standing.{stands_grown, stands_pushed}
@@ -18,7 +18,6 @@ use Rattle.sb_theory.proofs.Fitting.{fit_found}
 use Rattle.sb_theory.proofs.Denied.{members_about, members_among, members_single, members_are}
 use Rattle.sb_theory.proofs.Answering.{step_both, answers_fine, grows_on, grows_both}
 use Rattle.sb_regex.proofs.CallerLemmas.{extends_same}
-use Rattle.sb_trace.proofs.CallerLemmas.{counts_none}
 use Rattle.sb_theory.proofs.strings.Strings.find_word.Goals as goal
 
 pub least_word-requires-clause-about : goal.least_word-requires-clause-about

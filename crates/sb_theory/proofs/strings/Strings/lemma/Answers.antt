@@ -7,8 +7,7 @@ use Rattle.sb_clash.specs.Literals.{AreSingle}
 use Rattle.sb_theory.proofs.Standing.{stands_grown}
 use Rattle.sb_theory.proofs.Denied.{few_single, denied_on}
 use Rattle.sb_theory.proofs.Answering.{step_both, answers_fine, grows_on, grows_both}
-use Rattle.sb_trace.proofs.CallerLemmas.{spent_none}
-use Rattle.sb_trace.proofs.CallerLemmas.{counts_none}
+use Rattle.sb_trace.proofs.CallerLemmas.{spent_none, counts_none}
 use Rattle.sb_theory.proofs.strings.Strings.lemma.Goals as goal
 
 pub denial-requires : goal.denial-requires

@@ -1,10 +1,9 @@
 use Rattle.std.proofs.Common.{◌∙◌, Option, subst}
 use Rattle.std.proofs.lemmas.Result.{IfOk-from_err, err_from_is_err_and}
 use Rattle.sb_search.specs.declared.theory.Checked.TheVariants.{Fine}
-use Rattle.sb_trace.proofs.CallerLemmas.{spent_both}
+use Rattle.sb_trace.proofs.CallerLemmas.{spent_both, counts_on}
 use Rattle.sb_theory.proofs.Answering.{grows_both, answers_both, step_none, step_some}
 use Rattle.sb_search.specs.declared.theory.Checked.{Checked}
-use Rattle.sb_trace.proofs.CallerLemmas.{counts_on}
 use Rattle.sb_trace.specs.Putting.{CountsTapeFault}
 use Rattle.sb_theory.proofs.strings.Strings.take_in.Goals as goal
 

@@ -7,11 +7,10 @@ use Rattle.sb_term.specs.declared.term.Serial.{Serial}
 use Rattle.sb_trail.specs.declared.assigned.Assigned.{Assigned}
 use Rattle.sb_trail.specs.Assignments.{held}
 use Rattle.sb_atoms.proofs.CallerLemmas.{regexes_kept}
-use Rattle.sb_trace.proofs.CallerLemmas.{spent_none}
+use Rattle.sb_trace.proofs.CallerLemmas.{spent_none, counts_none}
 use Rattle.sb_theory.specs.Memberships.{is_true_by}
 use Rattle.sb_theory.proofs.Standing.{stands_grown, stands_pushed, next_of, fit_grown, fit_push, true_by_grown}
 use Rattle.sb_theory.proofs.Answering.{step_both, answers_fine, grows_on, grows_both}
-use Rattle.sb_trace.proofs.CallerLemmas.{counts_none}
 use Rattle.sb_theory.proofs.strings.Strings.take_next.Goals as goal
 
 pub find_word-requires-clause-stands : goal.find_word-requires-clause-stands
