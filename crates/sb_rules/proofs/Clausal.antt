@@ -59,6 +59,29 @@ by_asserted asked k others place l ts live a t b e h g known is =
     then Ok (with_clause (kept_in k others) (l ∷ []) a.level (place ∷ [])) else Err rule_broken) g
     ∙ ap (λ c. if c then Ok (with_clause (kept_in k others) (l ∷ []) a.level (place ∷ [])) else Err rule_broken) (sym is)))
 
+-- there is no assertion at the place
+pub by_no_assertion : (asked : Asked) (k : Kept) (others : AllKept) (place : ℕ) (l : Lit) (ts : List Term)
+    (live : List Assertion) → asked.live ≡ map (live_in ts) live → slice_get live place ≡ None
+    → follows asked (kept_in k others) (assertion_line place l) ≡ Err unknown_id
+by_no_assertion asked k others place l ts live e h =
+    ap (λ o. elim o as (λ _. Result AllKept Refusal) [
+      | None ↦ Err unknown_id
+      | Some assertion ↦ if is_known (atoms_in k.arena k.atoms) l
+          then asserted (kept_in k others) place assertion l else Err unknown_id
+    ])
+    (ap (λ xs. slice_get xs place) e ∙ slice_get-map (live_in ts) live place ∙ ap (option_map (live_in ts)) h)
+
+-- the literal's atom is not known
+pub by_unknown : (asked : Asked) (k : Kept) (others : AllKept) (place : ℕ) (l : Lit) (ts : List Term)
+    (live : List Assertion) (a : Assertion) → asked.live ≡ map (live_in ts) live → slice_get live place ≡ Some a
+    → nat_lt l.atom (length k.atoms) ≡ false
+    → follows asked (kept_in k others) (assertion_line place l) ≡ Err unknown_id
+by_unknown asked k others place l ts live a e h unknown =
+    by_assertion asked k others place l (live_in ts a)
+    (ap (λ xs. slice_get xs place) e ∙ slice_get-map (live_in ts) live place ∙ ap (option_map (live_in ts)) h)
+    ∙ ap (λ c. if c then asserted (kept_in k others) place (live_in ts a) l else Err unknown_id)
+    (ap (nat_lt l.atom) (length-map k.atoms (over k.arena)) ∙ unknown)
+
 pub translated : (old new : List Regex) (atoms : List (AtomOver ℕ)) (t : Term) (l : Lit) (found : Option Lit)
     (b : Bool) → list_all is_brought_atom atoms ≡ true → is_simple t ≡ true
     → atoms_in new atoms ≡ atoms_in old atoms → found ≡ brought_translation (atoms_in new atoms) t → IsFound l found b

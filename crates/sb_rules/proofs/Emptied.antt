@@ -1,11 +1,12 @@
 -- The clauses of memberships with no word in common.
-use Rattle.std.proofs.Common.{◌≡◌, ℕ, ◌<◌, Bool, true, false, ◌&&◌, ◌==◌, not, nat_lt, if◌then◌else◌, List, [], ◌∷◌, ◌++◌, map, length, Option, Some, None, is_some, option_map, slice_get, Err, refl, ap, ap₂, sym, subst, ◌∙◌}
+use Rattle.std.proofs.Common.{◌≡◌, ℕ, ◌<◌, Bool, true, false, ◌&&◌, ◌==◌, not, nat_lt, if◌then◌else◌, List, [], ◌∷◌, ◌++◌, map, length, get_or, Option, Some, None, is_some, option_map, slice_get, Err, refl, ap, ap₂, sym, subst, ◌∙◌}
 use Rattle.std.specs.List.{list_all}
 use Rattle.std.proofs.lemmas.Bool.{and_parts, false≢true}
 use Rattle.std.proofs.lemmas.Bool.Decides.{nat_tests}
 use Rattle.std.proofs.Common.{arith}
 use Rattle.std.proofs.lemmas.Option.{slice_get-map}
 use Rattle.std.proofs.lemmas.List.{length-map, map-append}
+use Rattle.std.proofs.lemmas.List.Folds.{list_all_at}
 use Rattle.std.proofs.lemmas.List.Elements.{All-append, All-cons, All-nil}
 use Rattle.sb_lang.specs.Regex.{Regex}
 use Rattle.sb_lang.specs.Constructors.{mkand, mknot}
@@ -226,6 +227,26 @@ member_below n atoms i x r below e = step (slice_get atoms i) refl e
     step (Some (sum_atom k ss)) is e = absurd (Prim.cc (e))
     step (Some (and_atom ls)) is e = absurd (Prim.cc (e))
     step (Some (iff_atom l m)) is e = absurd (Prim.cc (e))
+
+-- what holds of each literal of some holds of one of them
+pub at-literal : (p : Lit → Bool) (ls : List Lit) (i : ℕ) (d : Lit) → list_all p ls ≡ true → i < length ls
+    → p (get_or ls i d) ≡ true
+at-literal p ls i d h low = by (p (get_or ls i d)) refl
+  where
+    by : (b : Bool) → p (get_or ls i d) ≡ b → b ≡ true
+    by true e = refl
+    by false e = absurd (false≢true (sym (list_all_at p ls i d low e) ∙ h))
+
+pub atom-within : (ls : List Lit) (n i : ℕ) (d : Lit) → list_all (λ l. nat_lt l.atom n) ls ≡ true → i < length ls
+    → (get_or ls i d).atom < n
+atom-within ls n i d h low =
+    let test = at-literal (λ l. nat_lt l.atom n) ls i d h low in grind (arith, nat_tests, test)
+
+pub member-there : (atoms : List (AtomOver ℕ)) (ls : List Lit) (i : ℕ) (d : Lit)
+    → list_all (λ l. is_some (member_at atoms l)) ls ≡ true → i < length ls
+    → None ≡ member_at atoms (get_or ls i d) → ⊥
+member-there atoms ls i d h low none =
+    false≢true (ap is_some none ∙ at-literal (λ l. is_some (member_at atoms l)) ls i d h low)
 
 -- one regex more
 pub none_denied : (rs : List Regex) (atoms : List (AtomOver ℕ)) → AreDenied rs atoms rs [] []

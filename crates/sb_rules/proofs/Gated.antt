@@ -1,7 +1,7 @@
 -- The clauses of gates.
-use Rattle.std.proofs.Common.{◌≡◌, ℕ, ◌+◌, Bool, true, false, not, ◌&&◌, ◌||◌, nat_lt, if◌then◌else◌, List, [], ◌∷◌, length, Some, option_map, Ok, Err, refl, ap, ap₂, sym, ◌∙◌}
+use Rattle.std.proofs.Common.{◌≡◌, ℕ, ◌+◌, ◌<◌, ◌≤◌, Bool, true, false, not, ◌&&◌, ◌||◌, nat_lt, if◌then◌else◌, List, [], ◌∷◌, length, drop, get_or, Some, option_map, Ok, Err, refl, ap, ap₂, sym, ◌∙◌}
 use Rattle.std.specs.List.{list_all, list_any}
-use Rattle.std.proofs.lemmas.List.{length-map}
+use Rattle.std.proofs.lemmas.List.{at_drop_more, at_drop_all, length-map}
 use Rattle.std.proofs.lemmas.Option.{slice_get-map}
 use Rattle.sb_lang.specs.Regex.{Regex}
 use Rattle.sb_lit.specs.declared.clause.Lit.{Lit}
@@ -22,6 +22,7 @@ use Rattle.sb_rules.specs.declared.kept.Kept.{Kept}
 use Rattle.sb_rules.specs.Kept.{kept_in}
 use Rattle.sb_rules.specs.Gating.{HasLiterals}
 use Rattle.sb_rules.proofs.AtomLines.{all_same}
+use Rattle.sb_rules.proofs.Loops.{or-right}
 
 -- Sets of literals.
 
@@ -74,6 +75,30 @@ pub gate_at : (rs : List Regex) (atoms : List (AtomOver ℕ)) (clause : List Lit
     ≡ is_gate_of (atoms_in rs atoms) clause l (Some (over rs a))
 gate_at rs atoms clause l a h =
     ap (is_gate_of (atoms_in rs atoms) clause l) (slice_get-map (over rs) atoms l.atom ∙ ap (option_map (over rs)) h)
+
+-- The literals are tested one by one.
+
+pub any_there : (test : Lit → Bool) (ls : List Lit) (i : ℕ) (d : Lit) (both b : Bool) → i < length ls
+    → list_any test (drop i ls) ≡ list_any test ls → b ≡ test (get_or ls i d) → b ≡ true
+    → true ≡ (both || list_any test ls)
+any_there test ls i d both b low so is holds =
+    sym (or-right both (list_any test ls)
+    (sym so
+    ∙ at_drop_more (list_any test) ls i d low
+    ∙ ap (λ t. t || list_any test (drop (i + 1) ls)) (sym is ∙ holds)))
+
+pub any_more : (test : Lit → Bool) (ls : List Lit) (i : ℕ) (d : Lit) (b : Bool) → i < length ls
+    → list_any test (drop i ls) ≡ list_any test ls → b ≡ test (get_or ls i d) → b ≡ false
+    → list_any test (drop (i + 1) ls) ≡ list_any test ls
+any_more test ls i d b low so is fails =
+    sym (sym so
+    ∙ at_drop_more (list_any test) ls i d low
+    ∙ ap (λ t. t || list_any test (drop (i + 1) ls)) (sym is ∙ fails))
+
+pub any_none : (test : Lit → Bool) (ls : List Lit) (i : ℕ) (both : Bool) → length ls ≤ i
+    → list_any test (drop i ls) ≡ list_any test ls → both ≡ false → false ≡ (both || list_any test ls)
+any_none test ls i both past so none =
+    sym (ap₂ (λ a b. a || b) none (sym so ∙ at_drop_all (list_any test) ls i past))
 
 -- what is made of a line by rule gate, of known atoms that ascend
 pub by_rule_gate : (asked : Asked) (k : Kept) (others : AllKept) (ls : List Lit) (b : Bool)

@@ -12,7 +12,9 @@ mod Emptied
 mod Expanded
 mod Gated
 mod Gathered
+mod Gathering
 mod Judged
+mod LookedUp
 mod Loops
 mod Made
 mod Narrowing

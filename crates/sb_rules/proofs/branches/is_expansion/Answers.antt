@@ -3,12 +3,13 @@ use Rattle.std.specs.List.{All}
 use Rattle.std.proofs.lemmas.List.Sorted.{All-permutation}
 use Rattle.std.proofs.lemmas.List.Elements.{All-weaker}
 use Rattle.sb_regex.specs.Numbered.{regex_at}
-use Rattle.sb_regex.proofs.CallerLemmas.{number_kept}
+use Rattle.sb_regex.proofs.CallerLemmas.{number_kept, at_kept, extends_more}
 use Rattle.sb_rulebook.specs.Expansions as rules
 use Rattle.sb_rules.specs.Pieces.{Piece, ArePieces, LeadRight, ranged_at, pieces_in, covers_from}
 use Rattle.sb_rules.proofs.Counts.{IsWithin}
 use Rattle.sb_rules.proofs.Gathered.{all-within, are-within, all-known}
 use Rattle.sb_rules.proofs.Deciding.{branches-are, not-canonical, not-covered, all-judged}
+use Rattle.sb_plain.specs.CutPoints.{AreCutPoints}
 use Rattle.sb_rules.proofs.branches.is_expansion.Goals as goal
 
 pub returns-in_default-clause-ok : goal.returns-in_default-clause-ok
@@ -64,3 +65,20 @@ returns-clause-ok c =
     c.test_decides_expansion.ensures found.0 found.1
     (ap (λ ps. covers_from 0 ps) (sym c.deref.ensures.value) ∙ sym c.if-not-covers.ensures) known
     c.lead_right.result ok)
+
+pub lead_right-requires-clause-known : goal.lead_right-requires-clause-known
+lead_right-requires-clause-known c =
+    number_kept c.args.arena.now c.cut_points.new.arena c.args.regex c.cut_points.ensures.extends c.requires.known
+
+pub lead_right-requires-clause-points : goal.lead_right-requires-clause-points
+lead_right-requires-clause-points c =
+    let new = c.cut_points.new.arena in
+    subst (AreCutPoints (regex_at new c.args.regex)) (sym c.deref-3.ensures.value)
+    (subst (λ r. AreCutPoints r c.in_ok-points.points.items)
+    (sym (at_kept c.args.arena.now new c.args.regex c.cut_points.ensures.extends c.requires.known))
+    c.in_ok-points.ensures.ok)
+
+pub returns-clause-extends : goal.returns-clause-extends
+returns-clause-extends c =
+    extends_more c.args.arena.now c.cut_points.new.arena c.lead_right.new.arena c.cut_points.ensures.extends
+    c.lead_right.ensures.extends

@@ -48,3 +48,17 @@ loop-piece-preserved c =
           c.if-not-branch.false
           c.in_ok-leads_right.ensures.ok;
     }
+
+pub leads_right-requires-clause-known : goal.leads_right-requires-clause-known
+leads_right-requires-clause-known c =
+    number_kept c.args.arena.now c.loop-piece.arena c.args.regex c.loop-piece.invariant.extends c.requires.known
+
+pub returns-in_err-leads_right-clause-extends : goal.returns-in_err-leads_right-clause-extends
+returns-in_err-leads_right-clause-extends c =
+    extends_more c.args.arena.now c.loop-piece.arena c.leads_right.new.arena c.loop-piece.invariant.extends
+    c.leads_right.ensures.extends
+
+pub returns-then-not-branch-clause-extends : goal.returns-then-not-branch-clause-extends
+returns-then-not-branch-clause-extends c =
+    extends_more c.args.arena.now c.loop-piece.arena c.leads_right.new.arena c.loop-piece.invariant.extends
+    c.leads_right.ensures.extends

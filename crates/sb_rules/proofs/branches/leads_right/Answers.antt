@@ -3,7 +3,7 @@ use Rattle.std.proofs.lemmas.Bool.{leb-true, leb-false}
 use Rattle.std.proofs.lemmas.List.Sorted.{IsPartitionPoint-from_clause, IsPartitionedBy-leb}
 use Rattle.std.proofs.lemmas.Map.Keys.{sorted_from_strictly_increasing, non_decreasing_from_sorted}
 use Rattle.sb_regex.specs.Numbered.{regex_at}
-use Rattle.sb_regex.proofs.CallerLemmas.{extends_more}
+use Rattle.sb_regex.proofs.CallerLemmas.{extends_more, number_kept}
 use Rattle.sb_rules.specs.Pieces.{leads_at}
 use Rattle.sb_rules.proofs.Between.{wrong-piece, right-piece, all-looked-at, kept-leads}
 use Rattle.sb_rules.proofs.branches.leads_right.Goals as goal
@@ -65,3 +65,35 @@ returns-after-loop-place-clause-ok c =
     (all-looked-at c.args.points.now c.requires.points.are_points.ascending (λ d. leads_at old r d c.args.piece)
     c.args.piece.0 c.args.piece.1.0 c.loop-place.place c.loop-place.invariant.past
     (λ l. absurd (omega (arith, l, done))))
+
+pub leads_at-requires-in-loop-place-clause-known : goal.leads_at-requires-in-loop-place-clause-known
+leads_at-requires-in-loop-place-clause-known c =
+    number_kept c.args.arena.now c.loop-place.arena c.args.regex c.loop-place.invariant.extends c.requires.known
+
+pub leads_at-requires-in-loop-place-clause-target : goal.leads_at-requires-in-loop-place-clause-target
+leads_at-requires-in-loop-place-clause-target c =
+    number_kept c.args.arena.now c.loop-place.arena c.args.piece.1.1 c.loop-place.invariant.extends c.requires.target
+
+pub returns-in_err-leads_at-2-clause-extends : goal.returns-in_err-leads_at-2-clause-extends
+returns-in_err-leads_at-2-clause-extends c =
+    extends_more c.args.arena.now c.loop-place.arena c.leads_at-in-loop-place.new.arena c.loop-place.invariant.extends
+    c.leads_at-in-loop-place.ensures.extends
+
+pub returns-then-not-branch-2-clause-extends : goal.returns-then-not-branch-2-clause-extends
+returns-then-not-branch-2-clause-extends c =
+    extends_more c.args.arena.now c.loop-place.arena c.leads_at-in-loop-place.new.arena c.loop-place.invariant.extends
+    c.leads_at-in-loop-place.ensures.extends
+
+pub returns-then-not-branch-2-clause-ok : goal.returns-then-not-branch-2-clause-ok
+returns-then-not-branch-2-clause-ok c =
+    let old = c.args.arena.now in
+    let place = c.loop-place.place in
+    let at = get_or c.args.points.now place 0 in
+    let low = c.loop-place.invariant.ahead place (omega arith) c.loop-place-test.true in
+    wrong-piece old (regex_at old c.args.regex) c.args.piece at (omega (arith, low)) c.if-points-place.true
+    c.requires.characters
+    (sym
+    (kept-leads old c.loop-place.arena c.args.regex c.loop-place.invariant.extends c.requires.known c.args.piece.1.1
+    c.requires.target at)
+    ∙ sym c.in_ok-leads_at-2.ensures.ok
+    ∙ c.if-not-branch-2.true)

@@ -1,5 +1,6 @@
 use Rattle.std.proofs.Common.{sym, ◌∙◌}
 use Rattle.sb_rules.proofs.Made.{and-some, and-none}
+use Rattle.sb_regex.proofs.CallerLemmas.{names_below}
 use Rattle.sb_rules.proofs.normal.and.Goals as goal
 
 pub returns-then-is_and_of-clause-normal : goal.returns-then-is_and_of-clause-normal
@@ -13,3 +14,6 @@ returns-clause-normal c =
     and-none c.args.arena.now c.and.new.self c.in_ok-id.id c.node.result.now c.order_tells_apart.ensures
     c.normal_regexes_each_once.ensures.distinct c.in_ok-id.ensures.extends c.node.ensures.value c.node.ensures.parts
     c.args.ids.now c.requires c.in_ok-id.ensures.ok (sym c.is_and_of.ensures ∙ c.if-is_and_of.false)
+
+pub node-requires : goal.node-requires
+node-requires c = names_below c.and.new.self c.in_ok-id.id _ c.in_ok-id.ensures.ok

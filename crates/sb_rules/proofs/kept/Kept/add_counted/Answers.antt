@@ -3,6 +3,7 @@ use Rattle.std.proofs.lemmas.Result.{err_from_is_err_and}
 use Rattle.sb_rulebook.specs.Kept.{AllKept, with_clause}
 use Rattle.sb_rules.specs.Kept.{kept_in}
 use Rattle.sb_rules.proofs.Staying.{refused_count, clause_kept}
+use Rattle.sb_regex.proofs.CallerLemmas.{extends_same}
 use Rattle.sb_rules.proofs.kept.Kept.add_counted.Goals as goal
 
 pub returns-in_err-counted-clause-counts : goal.returns-in_err-counted-clause-counts
@@ -21,3 +22,6 @@ returns-clause-counts c = λ asked others rests limit.
           (clause_kept c.args.self.now c.args.self.now others c.add.new.self c.args.literals.now c.args.level rests refl
           c.in_ok-add.ensures.ok),
     )
+
+pub returns-in_err-add-clause-terms : goal.returns-in_err-add-clause-terms
+returns-in_err-add-clause-terms c = record { extends = extends_same _; normals = refl; measures = refl }

@@ -1,4 +1,4 @@
-use Rattle.std.proofs.Common.{[], not, if◌then◌else◌, Err, ap, sym, ◌∙◌}
+use Rattle.std.proofs.Common.{[], not, if◌then◌else◌, Err, ap, sym, ◌∙◌, refl}
 use Rattle.sb_rulebook.specs.Follows.{follows}
 use Rattle.sb_rulebook.specs.Kept.{AllKept, counting, with_clause}
 use Rattle.sb_rulebook.specs.Lines.{rule_line, empty}
@@ -6,6 +6,7 @@ use Rattle.sb_rulebook.specs.Refusals.{rule_broken}
 use Rattle.sb_rules.specs.Kept.{kept_in}
 use Rattle.sb_rules.proofs.Staying.{judged_by}
 use Rattle.sb_rules.proofs.Emptied.{by_rule_empty}
+use Rattle.sb_regex.proofs.CallerLemmas.{extends_same, extends_more}
 use Rattle.sb_rules.proofs.kept.Kept.add_empty.Goals as goal
 
 pub returns-then-not-branch-clause-judges : goal.returns-then-not-branch-clause-judges
@@ -31,3 +32,13 @@ returns-clause-judges c = λ asked limit others.
     ∙ ap (λ (k : AllKept). counting asked (with_clause k c.args.literals.now 0 []))
     (sym (c.have_no_word.ensures.kept others))))
     (c.have_no_word.ensures.kept others) (c.add_counted.ensures.counts asked others [] limit)
+
+pub returns-then-not-are_ascending-clause-terms : goal.returns-then-not-are_ascending-clause-terms
+returns-then-not-are_ascending-clause-terms c = record { extends = extends_same _; normals = refl; measures = refl }
+
+pub returns-clause-terms : goal.returns-clause-terms
+returns-clause-terms c = record {
+  extends = extends_more _ _ _ c.have_no_word.ensures.terms.extends c.add_counted.ensures.terms.extends;
+  normals = c.add_counted.ensures.terms.normals ∙ c.have_no_word.ensures.terms.normals;
+  measures = c.add_counted.ensures.terms.measures ∙ c.have_no_word.ensures.terms.measures;
+}

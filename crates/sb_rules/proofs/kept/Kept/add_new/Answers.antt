@@ -4,6 +4,7 @@ use Rattle.sb_atoms.specs.Numbered.{atoms_in}
 use Rattle.sb_rulebook.specs.Refusals.{not_normal}
 use Rattle.sb_rules.specs.Kept.{kept_in}
 use Rattle.sb_rules.proofs.Atomic.{all_brought, added_new, whole_with, kept_by_form}
+use Rattle.sb_regex.proofs.CallerLemmas.{extends_same}
 use Rattle.sb_rules.proofs.kept.Kept.add_new.Goals as goal
 
 pub returns-then-not-is_well_formed-clause-defines : goal.returns-then-not-is_well_formed-clause-defines
@@ -45,3 +46,9 @@ returns-clause-defines c = λ others.
           ∙ ap (λ xs. Ok (record (kept_in k others) { atoms = atoms_in k.arena xs }))
           (sym (added_new k.atoms c.add.new.self a _ c.add.ensures.grows c.in_ok-add.ensures.ok c.requires.is_new))),
     )
+
+pub returns-in_err-add-clause-terms : goal.returns-in_err-add-clause-terms
+returns-in_err-add-clause-terms c = record { extends = extends_same _; normals = refl; measures = refl }
+
+pub returns-clause-terms : goal.returns-clause-terms
+returns-clause-terms c = record { extends = extends_same _; normals = refl; measures = refl }

@@ -1,10 +1,10 @@
-use Rattle.std.proofs.lemmas.Option.{slice_get_read}
-use Rattle.std.proofs.Common.{length, [], ◌∷◌, ◌++◌, if◌then◌else◌, Ok, Err, refl, ap, sym, ◌∙◌}
+use Rattle.std.proofs.lemmas.Option.{slice_get_read, slice_get_past}
+use Rattle.std.proofs.Common.{length, [], ◌∷◌, ◌++◌, if◌then◌else◌, Ok, Err, refl, ap, sym, ◌∙◌, false}
 use Rattle.sb_rulebook.specs.Kept.{with_clause}
 use Rattle.sb_rulebook.specs.Refusals.{rule_broken}
 use Rattle.sb_rules.specs.Kept.{kept_in}
 use Rattle.sb_rules.proofs.Staying.{clause_kept}
-use Rattle.sb_rules.proofs.Clausal.{by_asserted}
+use Rattle.sb_rules.proofs.Clausal.{by_asserted, by_no_assertion, by_unknown}
 use Rattle.sb_rules.proofs.kept.Kept.assert.Goals as goal
 
 pub returns-then-not-branch-clause-judges : goal.returns-then-not-branch-clause-judges
@@ -32,4 +32,21 @@ returns-clause-judges c = λ asked live others. (
       ∙ ap Ok (clause_kept c.args.self.now c.is_asserted.new.self others c.add.new.self (c.args.literal ∷ []) c.in-Some.assertion.now.level
       (c.args.place ∷ []) (c.is_asserted.ensures.kept (record others { rests = others.rests ++ (c.args.place ∷ []) ∷ [] }))
       c.in_ok-add.ensures.ok)),
+)
+
+pub returns-in_default-clause-judges : goal.returns-in_default-clause-judges
+returns-in_default-clause-judges c = λ asked live others. (
+  by_no_assertion asked c.args.self.now others c.args.place c.args.literal c.args.table.now c.args.live.now live
+      (slice_get_past c.args.live.now c.args.place c.in_default.ensures.lookup.3),
+  refl,
+)
+
+pub returns-then-not-is_known-clause-judges : goal.returns-then-not-is_known-clause-judges
+returns-then-not-is_known-clause-judges c = λ asked live others. (
+  by_unknown asked c.args.self.now others c.args.place c.args.literal c.args.table.now c.args.live.now
+      c.in-Some.assertion.now live
+      (slice_get_read c.args.live.now (length c.args.live.now) c.args.place c.in-Some.assertion.now refl
+      c.in-Some.ensures.lookup.3.0 c.in-Some.ensures.lookup.1)
+      (sym c.is_known.ensures ∙ c.if-not-is_known.true),
+  refl,
 )

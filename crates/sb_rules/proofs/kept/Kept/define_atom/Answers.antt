@@ -10,6 +10,7 @@ use Rattle.sb_rules.specs.Kept.{kept_in}
 use Rattle.sb_rules.specs.Defining.{IsBroughtAs}
 use Rattle.sb_rules.proofs.Staying.{judged_by}
 use Rattle.sb_rules.proofs.AtomLines.{by_no_parts, by_unbrought, by_brought, has_number, number_below}
+use Rattle.sb_regex.proofs.CallerLemmas.{extends_same}
 use Rattle.sb_rules.proofs.kept.Kept.define_atom.Goals as goal
 
 pub returns-then-not-has_parts-clause-judges : goal.returns-then-not-has_parts-clause-judges
@@ -45,3 +46,9 @@ returns-in-Some-clause-judges c = λ asked d others.
     (defined (kept_in k others) (over k.arena (numbered.atom_in c.in-Some.atom))) k k c.add_atom.new.self others
     (by_brought (map sort_in c.args.sorts.now) asked k others a (numbered.atom_in c.in-Some.atom) d b.0
     (sym c.has_parts.ensures ∙ c.if-not-has_parts.false) b.1) refl (c.add_atom.ensures.defines others)
+
+pub returns-in_err-atom-clause-terms : goal.returns-in_err-atom-clause-terms
+returns-in_err-atom-clause-terms c = record { extends = extends_same _; normals = refl; measures = refl }
+
+pub returns-in-None-clause-terms : goal.returns-in-None-clause-terms
+returns-in-None-clause-terms c = record { extends = extends_same _; normals = refl; measures = refl }

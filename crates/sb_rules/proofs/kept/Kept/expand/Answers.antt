@@ -6,6 +6,7 @@ use Rattle.sb_rulebook.specs.Lines.{expansion_line}
 use Rattle.sb_rulebook.specs.Kept.{counting, with_expansion}
 use Rattle.sb_rules.specs.Kept.{kept_in}
 use Rattle.sb_rules.proofs.Staying.{judged_by, exits}
+use Rattle.sb_regex.proofs.CallerLemmas.{extends_more}
 use Rattle.sb_rules.proofs.kept.Kept.expand.Goals as goal
 
 pub returns-in_err-judge_expansion-clause-judges : goal.returns-in_err-judge_expansion-clause-judges
@@ -26,3 +27,10 @@ returns-clause-judges c = λ asked limit others.
     c.args.self.now c.judge_expansion.new.self c.keep_expansion.new.self others
     (j.0 ∙ ap (λ ns. counting asked (with_expansion c.args.number ns (kept_in c.judge_expansion.new.self others)))
     (sym c.in_ok-targets.ensures)) j.1 (c.keep_expansion.ensures.counts asked others limit)
+
+pub returns-clause-terms : goal.returns-clause-terms
+returns-clause-terms c = record {
+  extends = extends_more _ _ _ c.judge_expansion.ensures.terms.extends c.keep_expansion.ensures.terms.extends;
+  normals = c.keep_expansion.ensures.terms.normals ∙ c.judge_expansion.ensures.terms.normals;
+  measures = c.keep_expansion.ensures.terms.measures ∙ c.judge_expansion.ensures.terms.measures;
+}

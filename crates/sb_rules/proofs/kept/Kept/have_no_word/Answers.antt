@@ -1,6 +1,6 @@
-use Rattle.std.proofs.Common.{refl, ap, sym, ◌∙◌}
-use Rattle.sb_regex.specs.Numbered.{regex_at, regexes_at}
-use Rattle.sb_regex.proofs.CallerLemmas.{numbers_kept, names_at, names_below, extends_more}
+use Rattle.std.proofs.Common.{refl, ap, sym, ◌∙◌, subst}
+use Rattle.sb_regex.specs.Numbered.{regex_at, regexes_at, AllNumbers}
+use Rattle.sb_regex.proofs.CallerLemmas.{numbers_kept, names_at, names_below, extends_more, extends_same}
 use Rattle.sb_atoms.proofs.CallerLemmas.{regexes_kept}
 use Rattle.sb_rulebook.specs.Splits.{is_dead_regex}
 use Rattle.sb_rules.specs.Kept.{kept_in}
@@ -79,3 +79,28 @@ returns-clause-whole c =
       atoms = regexes_kept _ _ _ e c.requires.whole.atoms;
       brought = c.requires.whole.brought;
     }
+
+pub is_dead_regex-requires-clause-known : goal.is_dead_regex-requires-clause-known
+is_dead_regex-requires-clause-known c =
+    numbers_kept _ _ _ (extends_more _ _ _ c.denied.ensures.extends c.and.ensures.extends) c.requires.whole.regexes
+
+pub returns-in_err-id-clause-terms : goal.returns-in_err-id-clause-terms
+returns-in_err-id-clause-terms c = record {
+  extends = extends_more _ _ _ c.denied.ensures.extends c.and.ensures.extends;
+  normals = refl;
+  measures = refl;
+}
+
+pub returns-clause-terms : goal.returns-clause-terms
+returns-clause-terms c = record {
+  extends = extends_more _ _ _ c.denied.ensures.extends c.and.ensures.extends;
+  normals = refl;
+  measures = refl;
+}
+
+pub and-requires : goal.and-requires
+and-requires c =
+    subst (AllNumbers c.denied.new.arena) (sym c.deref.ensures.value) c.in_ok-ids.ensures.known
+
+pub returns-then-not-are_of-clause-terms : goal.returns-then-not-are_of-clause-terms
+returns-then-not-are_of-clause-terms c = record { extends = extends_same _; normals = refl; measures = refl }

@@ -2,7 +2,7 @@ use Rattle.std.proofs.lemmas.Option.{slice_get_within}
 use Rattle.std.proofs.Common.{◌≡◌, length, false, map, option_map, refl, ap, sym, slice_get, ◌∙◌}
 use Rattle.std.proofs.lemmas.List.{length-map}
 use Rattle.sb_regex.specs.Numbered.{regex_at}
-use Rattle.sb_regex.proofs.CallerLemmas.{numbers_kept}
+use Rattle.sb_regex.proofs.CallerLemmas.{numbers_kept, extends_same}
 use Rattle.sb_atoms.proofs.CallerLemmas.{regexes_kept}
 use Rattle.sb_rulebook.specs.Expansions as rules
 use Rattle.sb_rulebook.specs.Kept.{counting, with_expansion}
@@ -11,6 +11,7 @@ use Rattle.sb_rules.specs.Branches.{branches_at}
 use Rattle.sb_rules.specs.Kept.{kept_in}
 use Rattle.sb_rules.proofs.Staying.{same_kept, found_below}
 use Rattle.sb_rules.proofs.Expanded.{unknown_target, by_expansion, judged_by}
+use Rattle.sb_rules.proofs.Judged.{known_number}
 use Rattle.sb_rules.proofs.kept.Kept.judge_expansion.Goals as goal
 
 pub returns-in_default-2-clause-judges : goal.returns-in_default-2-clause-judges
@@ -113,3 +114,17 @@ returns-in_err-is_expansion-clause-whole c = record {
   atoms = regexes_kept _ _ _ c.is_expansion.ensures.extends c.requires.whole.atoms;
   brought = c.requires.whole.brought;
 }
+
+pub is_expansion-requires-clause-known : goal.is_expansion-requires-clause-known
+is_expansion-requires-clause-known c =
+    known_number c.args.self.now.arena c.args.self.now.regexes.order c.args.number c.in-Some.regex
+    c.requires.whole.regexes (sym c.in-Some.ensures)
+
+pub returns-then-is_expanded-clause-terms : goal.returns-then-is_expanded-clause-terms
+returns-then-is_expanded-clause-terms c = record { extends = extends_same _; normals = refl; measures = refl }
+
+pub returns-in_err-ids-clause-terms : goal.returns-in_err-ids-clause-terms
+returns-in_err-ids-clause-terms c = record { extends = extends_same _; normals = refl; measures = refl }
+
+pub returns-in_default-2-clause-terms : goal.returns-in_default-2-clause-terms
+returns-in_default-2-clause-terms c = record { extends = extends_same _; normals = refl; measures = refl }

@@ -1,9 +1,12 @@
-use Rattle.std.proofs.Common.{Ok, refl, ap, ◌∙◌}
+use Rattle.std.proofs.Common.{Ok, refl, ap, ◌∙◌, subst, sym}
 use Rattle.std.proofs.lemmas.Result.{err_from_is_err_and}
 use Rattle.sb_rulebook.specs.Kept.{with_expansion}
 use Rattle.sb_rules.specs.Kept.{kept_in}
 use Rattle.sb_rules.proofs.Staying.{refused_count}
 use Rattle.sb_rules.proofs.Expanded.{expansion_kept}
+use Rattle.sb_regex.specs.Numbered.{AllNumbers}
+use Rattle.sb_regex.proofs.CallerLemmas.{extends_same}
+use Rattle.sb_rules.specs.Known.{Known}
 use Rattle.sb_rules.proofs.kept.Kept.keep_expansion.Goals as goal
 
 pub returns-in_err-counted-clause-counts : goal.returns-in_err-counted-clause-counts
@@ -21,3 +24,14 @@ returns-clause-counts c = λ asked others limit.
           ∙ ap Ok (expansion_kept c.args.self.now others c.args.number c.args.targets.items c.in_ok-counted.counted
           c.expand.new.self c.expand.ensures),
     )
+
+pub returns-clause-whole : goal.returns-clause-whole
+returns-clause-whole c = record {
+  regexes = subst (λ k. AllNumbers c.args.self.now.arena k.order) (sym c.expand.ensures) c.requires.whole.regexes;
+  plain = c.requires.whole.plain;
+  atoms = c.requires.whole.atoms;
+  brought = c.requires.whole.brought;
+}
+
+pub returns-in_err-counted-clause-terms : goal.returns-in_err-counted-clause-terms
+returns-in_err-counted-clause-terms c = record { extends = extends_same _; normals = refl; measures = refl }

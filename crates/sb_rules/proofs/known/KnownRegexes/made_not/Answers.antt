@@ -2,6 +2,7 @@ use Rattle.std.proofs.Common.{refl}
 use Rattle.sb_lang.specs.Regex.{neg}
 use Rattle.sb_regex.specs.Numbered.{regex_at}
 use Rattle.sb_rules.proofs.Made.{one-made}
+use Rattle.sb_rules.proofs.Judged.{known_number}
 use Rattle.sb_rules.proofs.known.KnownRegexes.made_not.Goals as goal
 
 pub returns-clause-made : goal.returns-clause-made
@@ -12,3 +13,8 @@ returns-clause-made c =
       refl,
       c.in_ok-not.ensures.normal,
     )
+
+pub not-requires : goal.not-requires
+not-requires c =
+    known_number c.args.arena.now c.args.self.now.order c.args.a c.in_ok-id.id c.requires.known
+    c.in_ok-id.ensures

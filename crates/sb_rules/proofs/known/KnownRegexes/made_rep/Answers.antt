@@ -2,6 +2,7 @@ use Rattle.std.proofs.Common.{refl}
 use Rattle.sb_lang.specs.Regex.{rep}
 use Rattle.sb_regex.specs.Numbered.{regex_at}
 use Rattle.sb_rules.proofs.Made.{one-made}
+use Rattle.sb_rules.proofs.Judged.{known_number}
 use Rattle.sb_rules.proofs.known.KnownRegexes.made_rep.Goals as goal
 
 pub returns-clause-made : goal.returns-clause-made
@@ -13,3 +14,8 @@ returns-clause-made c =
       refl,
       c.in_ok-rep.ensures.normal,
     )
+
+pub rep-requires : goal.rep-requires
+rep-requires c =
+    known_number c.args.arena.now c.args.self.now.order c.args.a c.in_ok-id.id c.requires.known
+    c.in_ok-id.ensures
