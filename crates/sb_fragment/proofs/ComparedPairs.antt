@@ -1,8 +1,8 @@
 -- What is compared two by two.
-use Rattle.std.proofs.Common.{◌≡◌, ◌<◌, Bool, true, false, ◌&&◌, List, [], ◌∷◌, ◌++◌, length, map, refl, sym, ap, ap₂, ◌∙◌, arith}
+use Rattle.std.proofs.Common.{◌≡◌, ◌<◌, Bool, true, false, ◌&&◌, List, [], ◌∷◌, ◌++◌, length, map, take, drop, get_or, ℕ, ◌+◌, ◌≤◌, refl, sym, ap, ap₂, ◌∙◌, arith}
 use Rattle.std.specs.List.{list_all}
 use Rattle.std.proofs.lemmas.Bool.{and_parts, and_from}
-use Rattle.std.proofs.lemmas.List.{append-nil}
+use Rattle.std.proofs.lemmas.List.{append-nil, append_assoc, map-append, take_all, take_more}
 use Rattle.sb_meaning.specs.Truth.{is_chain, are_pairs}
 use Rattle.sb_fragment.specs.Compared.{neighbours, pairs, compared}
 
@@ -113,3 +113,44 @@ pub pairs_end : {X : Type 0} (found all : List (X × X)) (left : List X) → fou
     → length left < 1 → found ≡ all
 pairs_end found all [] h short = sym (append-nil found) ∙ h
 pairs_end found all (x ∷ left) h short = absurd (omega (arith, short))
+
+pub neighbours_step : {X : Type 0} (found more all : List (X × X)) (left rest : List X) (x y : X) → 1 < length left
+    → rest ≡ drop 1 left → x ≡ get_or left 0 x → y ≡ get_or left 1 y → found ++ neighbours left ≡ all
+    → more ≡ found ++ (x, y) ∷ [] → more ++ neighbours rest ≡ all
+neighbours_step found more all [] rest x y long e first second h put = absurd (omega (arith, long))
+neighbours_step found more all (z ∷ []) rest x y long e first second h put = absurd (omega (arith, long))
+neighbours_step found more all (z ∷ w ∷ left) rest x y long e first second h put =
+    ap₂ (λ us vs. us ++ neighbours vs) put e
+    ∙ append_assoc found ((x, y) ∷ []) (neighbours (w ∷ left))
+    ∙ ap₂ (λ u v. found ++ (u, v) ∷ neighbours (w ∷ left)) first second
+    ∙ h
+
+pub pairs_step : {X : Type 0} (found more all : List (X × X)) (left rest : List X) (x : X) → 0 < length left
+    → rest ≡ drop 1 left → x ≡ get_or left 0 x → found ++ pairs left ≡ all
+    → more ≡ found ++ map (λ y. (x, y)) rest → more ++ pairs rest ≡ all
+pairs_step found more all [] rest x long e first h put = absurd (omega (arith, long))
+pairs_step found more all (z ∷ left) rest x long e first h put =
+    let same : x ≡ z = first in
+    ap (λ us. us ++ pairs rest) put
+    ∙ append_assoc found (map (λ y. (x, y)) rest) (pairs rest)
+    ∙ ap (λ ys. found ++ (map (λ y. (x, y)) ys ++ pairs ys)) e
+    ∙ ap (λ u. found ++ (map (λ y. (u, y)) left ++ pairs left)) same
+    ∙ h
+
+-- What is put, one for each item.
+
+pub put_more : {X Y : Type 0} (f : X → Y) (xs : List X) (i : ℕ) (x : X) (front found more : List Y) → i < length xs
+    → x ≡ get_or xs i x → found ≡ front ++ map f (take i xs) → more ≡ found ++ f x ∷ []
+    → more ≡ front ++ map f (take (i + 1) xs)
+put_more f xs i x front found more within at so_far put =
+    put
+    ∙ ap (λ us. us ++ f x ∷ []) so_far
+    ∙ append_assoc front (map f (take i xs)) (f x ∷ [])
+    ∙ ap (λ us. front ++ us)
+    (ap (λ u. map f (take i xs) ++ f u ∷ []) at
+    ∙ sym (map-append f (take i xs) (get_or xs i x ∷ []))
+    ∙ ap (map f) (sym (take_more xs i x within)))
+
+pub put_all : {X Y : Type 0} (f : X → Y) (xs : List X) (i : ℕ) (front found : List Y) → length xs ≤ i
+    → found ≡ front ++ map f (take i xs) → found ≡ front ++ map f xs
+put_all f xs i front found past so_far = so_far ∙ ap (λ us. front ++ map f us) (take_all i xs past)

@@ -1,11 +1,10 @@
 -- Measures of terms are those that their arguments' measures give.
-use Rattle.std.proofs.Common.{◌≡◌, ℕ, zero, suc, ◌+◌, ◌<◌, Bool, true, false, ◌⊎◌, inl, inr, not, ◌&&◌, ◌==◌, nat_lt}
-use Rattle.std.proofs.Common.{nat_le, Some, List, [], ◌∷◌, ◌++◌, length, get_or, slice_get, drop, refl, sym, ap, ap₂}
+use Rattle.std.proofs.Common.{◌≡◌, ℕ, suc, ◌+◌, ◌<◌, Bool, true, false, inl, inr, not, ◌&&◌, ◌==◌}
+use Rattle.std.proofs.Common.{nat_le, Some, List, [], ◌∷◌, ◌++◌, length, get_or, refl, sym, ap, ap₂}
 use Rattle.std.proofs.Common.{◌∙◌, arith, length-append}
 use Rattle.std.specs.List.{All, list_all}
 use Rattle.std.proofs.lemmas.Bool.Decides.{nat_tests}
-use Rattle.std.proofs.lemmas.List.{get_or_append_left, get_or_push}
-use Rattle.std.proofs.lemmas.Option.{get_or_from_slice_get, slice_get_within, slice_get-get_or}
+use Rattle.std.proofs.lemmas.Option.{slice_get-get_or}
 use Rattle.std.proofs.Math.Bool.{and_assoc}
 use Rattle.sb_facts.proofs.CallerLemmas.{get_push}
 use Rattle.sb_meaning.specs.Terms.{Symbol, Term, Terms, constant, word, numeral, apply, parameter, no_terms}

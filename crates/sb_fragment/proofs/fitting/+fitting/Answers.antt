@@ -8,7 +8,7 @@ use Rattle.sb_script.specs.Fragment.{fits}
 use Rattle.sb_script.specs.Sizes.{is_regular}
 use Rattle.sb_fragment.specs.Shapes.{are_word_pairs, parts_of}
 use Rattle.sb_fragment.specs.Fitting.{have_short_words}
-use Rattle.sb_fragment.proofs.Arguments.{structure_stop, structure_end}
+use Rattle.sb_fragment.proofs.Arguments.{structure_stop, structure_more, structure_end}
 use Rattle.sb_fragment.proofs.FittingFacts.{all_both, asked_fitting, constant_decided, always_decided, alone_decided, connected_decided, words_decided, other_decided}
 use Rattle.sb_fragment.proofs.fitting.+fitting.Goals as goal
 
@@ -75,3 +75,11 @@ parts_fit-returns-clause-ok t c =
     c.arguments_of-argument-items.result.now c.loop-argument.argument-index
     c.arguments_of-argument-items.ensures.terms (omega (arith, c.loop-argument-test.false)) c.loop-argument.invariant.0
     ∙ all_both is_structure fits us
+
+pub parts_fit-loop-argument-preserved : goal.parts_fit-loop-argument-preserved
+parts_fit-loop-argument-preserved t c = (
+  structure_more (λ s. is_structure s && fits s) c.args.table.now c.arguments_of-argument-items.result.now
+      c.loop-argument.argument-index c.argument-item.result c.loop-argument-test.true c.argument-item.is
+      c.loop-argument.invariant.0 (sym c.in_ok-structure_fits.ensures.ok ∙ c.if-not-branch.false),
+  c.in_ok-structure_fits.ensures.right,
+)

@@ -5,7 +5,7 @@ use Rattle.sb_term.specs.Numbered.{term_at}
 use Rattle.sb_fragment.specs.Compared.{compared}
 use Rattle.sb_fragment.specs.Shapes.{are_numbers, parts_of}
 use Rattle.sb_fragment.specs.Fitting.{have_short_words}
-use Rattle.sb_fragment.proofs.Arguments.{numbers_compared, number_at, words_stop, words_end}
+use Rattle.sb_fragment.proofs.Arguments.{numbers_compared, number_at, words_stop, words_more, words_end}
 use Rattle.sb_fragment.proofs.FittingFacts.{all_both, not_both}
 use Rattle.sb_fragment.proofs.fitting.words_fit.Goals as goal
 
@@ -48,3 +48,11 @@ returns-clause-ok c =
     (c.deref-one-items.ensures.value ∙ c.in_ok-pairs.ensures) c.arguments_of.ensures.terms
     (omega (arith, c.loop-one-test.false)) c.loop-one.invariant.0
     ∙ all_both (λ p. is_pair p.0 p.1) (λ p. is_word_pair p.0 p.1) (compared c.args.distinct us)
+
+pub loop-one-preserved : goal.loop-one-preserved
+loop-one-preserved c = (
+  words_more (λ p. is_pair p.0 p.1 && is_word_pair p.0 p.1) c.args.table.now c.deref-one-items.result.now
+      c.loop-one.one-index c.loop-one-item.result c.loop-one-test.true c.loop-one-item.is c.loop-one.invariant.0
+      (sym c.in_ok-pair_fits.ensures.ok ∙ c.if-not-branch-2.false),
+  c.in_ok-pair_fits.ensures.right,
+)

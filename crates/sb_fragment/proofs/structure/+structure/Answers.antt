@@ -5,7 +5,7 @@ use Rattle.sb_term.specs.Numbered.{term_at}
 use Rattle.sb_problem.specs.Patterns.{pattern_in}
 use Rattle.sb_script.specs.Brought.{is_regex, is_structure}
 use Rattle.sb_fragment.specs.Shapes.{are_word_pairs, parts_of}
-use Rattle.sb_fragment.proofs.Arguments.{structure_stop}
+use Rattle.sb_fragment.proofs.Arguments.{structure_stop, structure_more}
 use Rattle.sb_fragment.proofs.Structured.{asked_structure, always_structure, alone_structure, connected_structure, words_structure}
 use Rattle.sb_fragment.proofs.structure.+structure.Goals as goal
 
@@ -50,3 +50,11 @@ is_structure-returns-in-Words-clause-ok t c =
     let shape = rw c.in-Words.is at c.shape_of.ensures in
     ok_more (λ b. b ≡ are_word_pairs c.in-Words.distinct (parts_of s)) (λ b. b ≡ is_structure s) c.are_words.result
     (λ b h. h ∙ sym (words_structure s c.in-Words.distinct shape)) c.are_words.ensures
+
+pub are_structure-loop-argument-preserved : goal.are_structure-loop-argument-preserved
+are_structure-loop-argument-preserved t c = (
+  structure_more is_structure c.args.table.now c.arguments_of-argument-items.result.now
+      c.loop-argument.argument-index c.argument-item.result c.loop-argument-test.true c.argument-item.is
+      c.loop-argument.invariant.0 (sym c.in_ok-is_structure.ensures.ok ∙ c.if-not-branch.false),
+  c.in_ok-is_structure.ensures.right,
+)
