@@ -27,13 +27,16 @@ const ENTRIES: [(u64, &'static [u8], &'static [u8]); 10] = [
 
 /// The sign of the next answer, a `?` for another one.
 fn next_sign(entries: &mut Entries, world: &mut MemWorld) -> Result<u8, EntriesFault> {
-    Ok(match entries.advance(world)? {
-        Next::Command(form) => first_letter(&form),
+    let next = entries.advance(world)?;
+    let sign = match &next {
+        Next::Command(form) => first_letter(form),
         Next::Refused(Refusal::BareToken) => b'-',
         Next::NotYet => b'.',
         Next::Ended(Ending::Clean) => b'$',
         _ => b'?',
-    })
+    };
+    drop(next);
+    Ok(sign)
 }
 
 /// The first letter of a form, a `?` where it begins with no symbol.
@@ -96,8 +99,20 @@ fn expect_entries(
         if failing > calls {
             return Ok(());
         }
-        let (entries, world) = (&mut Entries::new(alloc, limit), &mut MemWorld::new(alloc));
-        let made = read_entries(rt, entries, world, script, signs, longest, failing)?;
+        let mut entries = Entries::new(alloc, limit);
+        let mut world = MemWorld::new(alloc);
+        let made = read_entries(
+            rt,
+            &mut entries,
+            &mut world,
+            script,
+            signs,
+            longest,
+            failing,
+        );
+        drop(entries);
+        drop(world);
+        let made = made?;
         if failing == 0 {
             calls = made;
         }
@@ -171,8 +186,12 @@ fn expect_lines(
         if failing > calls {
             return Ok(());
         }
-        let (lines, world) = (&mut Lines::new(alloc, limit), &mut MemWorld::new(alloc));
-        let made = read_lines(rt, lines, world, proof, wanted, longest, failing)?;
+        let mut lines = Lines::new(alloc, limit);
+        let mut world = MemWorld::new(alloc);
+        let made = read_lines(rt, &mut lines, &mut world, proof, wanted, longest, failing);
+        drop(lines);
+        drop(world);
+        let made = made?;
         if failing == 0 {
             calls = made;
         }

@@ -175,7 +175,9 @@ fn expect_in_memory(
     let memory = MemWorld::new(alloc);
     let mut world = PacedWorld { memory, slow };
     world.memory.read_at_most(longest);
-    over_memory(&mut world, rt, alloc, failing, stages)
+    let done = over_memory(&mut world, rt, alloc, failing, stages);
+    drop(world);
+    done
 }
 
 fn over_memory(
@@ -395,7 +397,10 @@ fn worlds_answer_each_call(rt: HostRuntime) -> Result<(), Fail> {
         expect_in_memory(&rt, rt.alloc(), *slow, longest, failing, stages)?;
     }
     for stages in &CALM {
-        expect_calmly(&mut CalmWorld::new(rt.alloc()), &rt, rt.alloc(), stages)?;
+        let mut world = CalmWorld::new(rt.alloc());
+        let done = expect_calmly(&mut world, &rt, rt.alloc(), stages);
+        drop(world);
+        done?;
     }
     Ok(())
 }
