@@ -17,3 +17,5 @@ pub mod Reached
 pub mod Counts
 pub mod Spent
 pub mod CallerLemmas
+mod Rooms
+mod Turns

@@ -177,3 +177,6 @@ returns g c =
       counts = subst (λ old. CountsTapeFault c.put_expansion.result old (g.L.Tape.faults c.put_expansion.new.tape))
           (c.in_ok-classes.ensures.counts ∙ c.in_ok-number.ensures.counts) e.counts;
     }
+
+pub classes-requires : goal.classes-requires
+classes-requires g c = c.requires.targets

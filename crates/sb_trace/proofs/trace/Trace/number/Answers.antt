@@ -1,7 +1,7 @@
-use Rattle.std.proofs.Common.{◌≡◌, [], ◌∷◌, None, is_some, refl, sym, ap, subst, inl, ◌∙◌}
+use Rattle.std.proofs.Common.{◌≡◌, [], ◌∷◌, None, is_some, refl, sym, ap, subst, inl, ◌∙◌, ◌<◌}
 use Rattle.std.proofs.lemmas.Result.{IfOk-from_err, err_from_is_err_and}
 use Rattle.sb_trace.specs.Tracking.{number_in, itself}
-use Rattle.sb_trace.specs.Waiting.{stack_of, waits, numbers_in, is_in, AreLacking}
+use Rattle.sb_trace.specs.Waiting.{stack_of, waits, numbers_in, is_in, AreLacking, IsStack, stack_weight}
 use Rattle.sb_trace.proofs.Growing.{stays_same}
 use Rattle.sb_trace.proofs.Positions.{number_from_index, number-there, numbered-stays}
 use Rattle.sb_trace.proofs.Puts.{regexes_none, regexes_both, stays_both, traces_none}
@@ -136,3 +136,16 @@ returns-in_err-settle g c =
       counts = subst (λ old. CountsTapeFault x.result old (g.L.Tape.faults c.settle.new.tape)) k.counts
           (counts_on (Unit {0}) x.result p.0 _ _ _ p.1 p.2 c.in_err-settle.ensures.counts);
     }
+
+pub settle-requires : goal.settle-requires
+settle-requires g c =
+    let top = stack_pushed c.pop.new.self.items c.loop-frame.stack.items c.in-Some-pop.frame
+    c.in-Some-pop.ensures.items in
+    subst (IsStack c.args.arena.now c.loop-frame.self.order) top c.loop-frame.invariant.stack
+
+pub loop-frame-smaller : goal.loop-frame-smaller
+loop-frame-smaller g c =
+    let top = stack_pushed c.pop.new.self.items c.loop-frame.stack.items c.in-Some-pop.frame
+    c.in-Some-pop.ensures.items in
+    subst (λ fs. stack_weight c.args.arena.now (stack_of c.settle.new.stack.items) < stack_weight c.args.arena.now fs)
+    (sym top) c.in_ok-settle.ensures.settles.lighter

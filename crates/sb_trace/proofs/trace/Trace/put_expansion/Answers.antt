@@ -1,10 +1,11 @@
-use Rattle.std.proofs.Common.{◌≤◌, ◌^◌, length, sym, ap, ◌∙◌, arith}
+use Rattle.std.proofs.Common.{◌≤◌, ◌^◌, length, sym, ap, ◌∙◌, arith, subst}
 use Rattle.sb_lit.specs.Budgets.{Spending}
-use Rattle.sb_trace.specs.Tracking.{Traced}
+use Rattle.sb_trace.specs.Tracking.{Traced, Traces}
 use Rattle.sb_trace.proofs.Exits.{told_ok, told_err}
 use Rattle.sb_trace.proofs.ExpansionLines.{expansion_traced_at}
 use Rattle.sb_trace.proofs.Views.{within_expanded, expanded_after, expanded_set}
 use Rattle.sb_trace.proofs.Spent.{spent_same, spent_one}
+use Rattle.sb_trace.proofs.Growing.{traces_none}
 use Rattle.sb_trace.proofs.trace.Trace.put_expansion.Goals as goal
 
 pub returns-clause-puts : goal.returns-clause-puts
@@ -74,3 +75,27 @@ pub returns-clause-steps : goal.returns-clause-steps
 returns-clause-steps g c =
     spent_one c.args.budget.now c.tick.new.self
     (told_ok c.tick.result _ (sym c.is_err.ensures.value ∙ c.if-is_err.false) c.tick.ensures.ok) c.tick.ensures.within
+
+pub index_mut-requires : goal.index_mut-requires
+index_mut-requires g c =
+    let s = c.self.inside in
+    let u : Traced = record { order = s.order.keys; expanded = s.expanded.items; dead = s.dead.items } in
+    let l = within_expanded c.args.self.now u c.self.view_is c.args.number c.self.invariant.0 c.requires in
+    omega (arith, l, s.expanded.ok.0)
+
+pub returns-then-is_err-clause-puts : goal.returns-then-is_err-clause-puts
+returns-then-is_err-clause-puts g c =
+    let same = told_err c.tick.result _ (sym c.is_err.ensures.value ∙ c.if-is_err.true) c.tick.ensures.same in
+    λ asked rs memo pieces before known entry are new tracks counts.
+    subst (λ b. Traces asked before rs memo c.args.self.now b (g.L.Tape.told c.args.tape.now)
+    (g.L.Tape.told c.args.tape.now)) (sym same)
+    (traces_none asked before rs memo c.args.self.now c.args.budget.now (g.L.Tape.told c.args.tape.now) tracks counts)
+
+pub returns-clause-spent : goal.returns-clause-spent
+returns-clause-spent g c = λ spent. absurd (Prim.cc (spent))
+
+pub returns-clause-anew : goal.returns-clause-anew
+returns-clause-anew g c = λ already. absurd (Prim.cc (already))
+
+pub returns-then-is_err-clause-anew : goal.returns-then-is_err-clause-anew
+returns-then-is_err-clause-anew g c = λ already. absurd (Prim.cc (already))
