@@ -113,6 +113,18 @@ all_inside m stack k long =
     (omega (arith, length-map stack.assertions (assertion_in stack.table))) in
     ap (list_all is_decided) (sym whole) ∙ k.decided
 
+-- nothing of the last model is known any more
+pub knows_no_model : (m n : Models) (stack : Stacked) → Knows m stack → n.inside ≡ m.inside → n.held ≡ 0
+    → n.words.items ≡ [] → Knows n stack
+knows_no_model m n stack k inside held words = record {
+  front = subst (λ i. i ≤ length stack.assertions) (sym inside) k.front;
+  numbers = subst (λ i. All (HasNumberBelow (length stack.table)) (take i stack.assertions)) (sym inside) k.numbers;
+  decided = subst (λ i. list_all is_decided (take i (assertions_of stack)) ≡ true) (sym inside) k.decided;
+  held_front = omega (arith, held);
+  held = subst (λ i. AreTrueBy n.words.items n.truths.items (take i (assertions_of stack))) (sym held) tt;
+  empty = λ serial none. ap (λ ws. word_at ws serial) words;
+}
+
 -- a model was found
 pub knows_model : (m : Models) (stack : Stacked) → m.inside ≡ length stack.assertions → m.held ≡ m.inside
     → All (HasNumberBelow (length stack.table)) stack.assertions

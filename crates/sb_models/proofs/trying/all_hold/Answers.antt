@@ -84,3 +84,21 @@ returns-clause-ok c =
     omega (arith, c.loop-place-test.false, ap length c.assertions-assertions.ensures.value) in
     true_all c.args.words.now c.args.truths.now c.args.stack.now.table c.args.stack.now.assertions c.loop-place.place long
     c.loop-place.invariant.3
+
+pub returns-then-not-branch-clause-normals : goal.returns-then-not-branch-clause-normals
+returns-then-not-branch-clause-normals c =
+    subst (λ us. AreNormals us c.eval.new.arena c.eval.new.normals) c.table-table.ensures c.in_ok-eval.ensures.normals
+
+pub eval-requires-clause-normals : goal.eval-requires-clause-normals
+eval-requires-clause-normals c =
+    subst (λ us. AreNormals us c.loop-place.arena c.loop-place.normals) (sym c.table-table.ensures) c.loop-place.invariant.1
+
+pub returns-in_err-eval-clause-extends : goal.returns-in_err-eval-clause-extends
+returns-in_err-eval-clause-extends c =
+    extends_more c.args.arena.now c.loop-place.arena c.eval.new.arena c.loop-place.invariant.0
+    c.in_err-eval.ensures.extends
+
+pub returns-then-not-branch-clause-extends : goal.returns-then-not-branch-clause-extends
+returns-then-not-branch-clause-extends c =
+    extends_more c.args.arena.now c.loop-place.arena c.eval.new.arena c.loop-place.invariant.0
+    c.in_ok-eval.ensures.extends

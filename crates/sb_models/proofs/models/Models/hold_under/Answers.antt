@@ -6,7 +6,8 @@ use Rattle.sb_models.specs.Tried.{marks_of, word_given, one_given, texts_in, tru
 use Rattle.sb_models.proofs.WordFacts.{empty_but_given}
 use Rattle.sb_models.proofs.Passing.{may_pass_of, true_kept_of}
 use Rattle.sb_models.proofs.Judging.{no_words, tried, true_through}
-use Rattle.sb_models.proofs.Knowledge.{knows_model}
+use Rattle.sb_models.proofs.Knowledge.{knows_model, knows_no_model}
+use Rattle.sb_regex.proofs.CallerLemmas.{extends_same}
 use Rattle.sb_models.proofs.models.Models.hold_under.Goals as goal
 
 pub returns-in_default-clause-ok : goal.returns-in_default-clause-ok
@@ -72,3 +73,91 @@ returns-clause-knows c =
     (empty_but_given c.args.constants.items (texts_in c.args.values.now) c.change.new.words.items (λ serial.
     (rw c.in-Some.is at c.in_ok-changed.ensures.words) serial
     ∙ ap (λ cs. word_given cs (texts_in c.args.values.now) serial []) c.deref-2.ensures.value))
+
+pub returns-in_err-changed-clause-extends : goal.returns-in_err-changed-clause-extends
+returns-in_err-changed-clause-extends c = extends_same _
+
+pub returns-in_err-changed-clause-normals : goal.returns-in_err-changed-clause-normals
+returns-in_err-changed-clause-normals c = c.requires.normals
+
+pub returns-in_err-changed-clause-right : goal.returns-in_err-changed-clause-right
+returns-in_err-changed-clause-right c = c.requires.right
+
+pub returns-in_default-clause-extends : goal.returns-in_default-clause-extends
+returns-in_default-clause-extends c = extends_same _
+
+pub returns-in_default-clause-normals : goal.returns-in_default-clause-normals
+returns-in_default-clause-normals c = c.requires.normals
+
+pub returns-in_default-clause-right : goal.returns-in_default-clause-right
+returns-in_default-clause-right c = c.requires.right
+
+pub returns-in_err-truths-clause-extends : goal.returns-in_err-truths-clause-extends
+returns-in_err-truths-clause-extends c = extends_same _
+
+pub returns-in_err-truths-clause-normals : goal.returns-in_err-truths-clause-normals
+returns-in_err-truths-clause-normals c = c.requires.normals
+
+pub returns-in_err-truths-clause-right : goal.returns-in_err-truths-clause-right
+returns-in_err-truths-clause-right c = c.requires.right
+
+pub returns-in_err-are_true-clause-extends : goal.returns-in_err-are_true-clause-extends
+returns-in_err-are_true-clause-extends c = c.are_true.ensures.extends
+
+pub returns-in_err-are_true-clause-normals : goal.returns-in_err-are_true-clause-normals
+returns-in_err-are_true-clause-normals c = c.are_true.ensures.normals
+
+pub returns-in_err-are_true-clause-right : goal.returns-in_err-are_true-clause-right
+returns-in_err-are_true-clause-right c = c.are_true.ensures.right
+
+pub returns-then-not-branch-clause-extends : goal.returns-then-not-branch-clause-extends
+returns-then-not-branch-clause-extends c = c.are_true.ensures.extends
+
+pub returns-then-not-branch-clause-normals : goal.returns-then-not-branch-clause-normals
+returns-then-not-branch-clause-normals c = c.are_true.ensures.normals
+
+pub returns-then-not-branch-clause-right : goal.returns-then-not-branch-clause-right
+returns-then-not-branch-clause-right c = c.are_true.ensures.right
+
+pub returns-clause-extends : goal.returns-clause-extends
+returns-clause-extends c = c.are_true.ensures.extends
+
+pub returns-clause-normals : goal.returns-clause-normals
+returns-clause-normals c = c.are_true.ensures.normals
+
+pub returns-clause-right : goal.returns-clause-right
+returns-clause-right c = c.are_true.ensures.right
+
+pub are_true-requires-clause-decided : goal.are_true-requires-clause-decided
+are_true-requires-clause-decided c = c.requires.decided
+
+pub are_true-requires-clause-normals : goal.are_true-requires-clause-normals
+are_true-requires-clause-normals c = c.requires.normals
+
+pub are_true-requires-clause-right : goal.are_true-requires-clause-right
+are_true-requires-clause-right c = c.requires.right
+
+pub returns-in_err-changed-clause-knows : goal.returns-in_err-changed-clause-knows
+returns-in_err-changed-clause-knows c =
+    knows_no_model c.args.self.now _ c.args.stack.now c.requires.knows refl c.replace-held.ensures.after
+    (ap (λ v. v.items) c.replace-words.ensures.after ∙ c.new-2.ensures.items)
+
+pub returns-in_default-clause-knows : goal.returns-in_default-clause-knows
+returns-in_default-clause-knows c =
+    knows_no_model c.args.self.now _ c.args.stack.now c.requires.knows refl c.replace-held.ensures.after
+    (ap (λ v. v.items) c.replace-words.ensures.after ∙ c.new-2.ensures.items)
+
+pub returns-in_err-truths-clause-knows : goal.returns-in_err-truths-clause-knows
+returns-in_err-truths-clause-knows c =
+    knows_no_model c.args.self.now _ c.args.stack.now c.requires.knows refl c.replace-held.ensures.after
+    (ap (λ v. v.items) c.replace-words.ensures.after ∙ c.new-2.ensures.items)
+
+pub returns-in_err-are_true-clause-knows : goal.returns-in_err-are_true-clause-knows
+returns-in_err-are_true-clause-knows c =
+    knows_no_model c.args.self.now _ c.args.stack.now c.requires.knows refl c.replace-held.ensures.after
+    (ap (λ v. v.items) c.replace-words.ensures.after ∙ c.new-2.ensures.items)
+
+pub returns-then-not-branch-clause-knows : goal.returns-then-not-branch-clause-knows
+returns-then-not-branch-clause-knows c =
+    knows_no_model c.args.self.now _ c.args.stack.now c.requires.knows refl c.replace-held.ensures.after
+    (ap (λ v. v.items) c.replace-words.ensures.after ∙ c.new-2.ensures.items)
