@@ -47,11 +47,11 @@ use Rattle.sb_solve.specs.Answered.{AreLiterals, IsAnswered}
 use Rattle.sb_solve.specs.Searched.{IsSearched}
 use Rattle.sb_solve.specs.Solved.{AreOfLevels, IsSolved}
 use Rattle.sb_solve.specs.Stating.{AreStated}
-use Rattle.sb_solve.specs.Concluding.{AreReady, AreTaken, Comes, HasCore, HasNoValues, IsConcluded, IsEnded, IsGoneOver, IsLeft}
+use Rattle.sb_solve.specs.Concluding.{AreReady, AreTaken, Comes, HasCore, HasNoValues, IsConcluded, IsEnded, IsGoneOver, IsGrown, IsLeft}
 use Rattle.sb_solve.specs.declared.searching.Searched.{Searched}
 use Rattle.sb_solve.specs.declared.check.Concluded.{Concluded}
 use Rattle.sb_solve.specs.declared.check.Solved.{Solved}
-use Rattle.sb_solve.specs.declared.check.Tables.{Tables}
+use Rattle.sb_solve.specs.declared.searching.Tables.{Tables}
 use Rattle.sb_solve.specs.declared.check.Solved.TheVariants as solved
 use Rattle.sb_solve.proofs.Deciding.{all_in}
 use Rattle.sb_solve.proofs.Ended.{core_of, has_room, have_atoms, kept_grown}
@@ -380,3 +380,30 @@ left_still x c d evidence arena graph is_plain h =
       extends = rw arena h.extends;
       derivatives = rw graph h.derivatives;
     }
+
+-- where the arena and the graph grew first
+pub ended_grown : (before : ℕ) (x y : Searched) → IsGrown x y → IsEnded before x → IsEnded before y
+ended_grown before x y g e =
+    let parts = sym g.parts in
+    record {
+      stands = subst (λ (p : Parts). Stand p.atoms (take before p.engine.kept) p.asserted.items p.refuted p.gates) parts
+          e.stands;
+      known = subst (λ (p : Parts). has_room_for (length p.atoms) p.engine.kept ≡ true) parts e.known;
+      core = subst (λ (p : Parts). HasCore p.engine.kept y.found) parts
+          (subst (HasCore x.parts.engine.kept) (sym g.found) e.core);
+      graph = g.graph;
+      plain = g.plain;
+      regexes = subst (λ (p : Parts). HaveRegexesBelow (length y.arena) p.atoms) parts
+          (regexes_kept x.arena y.arena x.parts.atoms g.extends e.regexes);
+    }
+
+pub left_grown : (x y : Searched) (c : Concluded) → IsGrown x y → IsLeft y c → IsLeft x c
+left_grown x y c g l = record {
+  evidence = subst (λ (p : Parts). c.evidence ≡ record (backing_of p) { refuted = c.evidence.refuted }) g.parts
+      l.evidence;
+  lowest = subst (λ (p : Parts). IsLowestEmpty p.engine.kept c.evidence.refuted) g.parts l.lowest;
+  graph = l.graph;
+  plain = l.plain;
+  extends = extends_more x.arena y.arena c.arena g.extends l.extends;
+  derivatives = λ n pieces h. l.derivatives n pieces (g.derivatives n pieces h);
+}

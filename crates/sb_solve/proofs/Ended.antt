@@ -120,13 +120,6 @@ searched_from b arena graph parts literals before after old new s is_arena is_gr
     (subst (λ (rs : List Regex). IsSearched rs b.strings.graph.memo (parts_of b) literals before after old new s)
     is_arena h))
 
-pub counts_none : (B : Type 0) (r : Result B TapeFault) (e : TapeFault) (n : ℕ) → r ≡ Err e → e ≡ fault.NoMemory
-    → CountsTapeFault r n n
-counts_none B (Ok x) e n is none = refl
-counts_none B (Err fault.NoMemory) e n is none = refl
-counts_none B (Err fault.Fault) fault.Fault n is none = absurd (Prim.cc (none))
-counts_none B (Err fault.Fault) fault.NoMemory n is none = absurd (Prim.cc (is))
-
 pub over_atoms : (arena : List Regex) (graph : Findings) (parts : Parts) (wanted : List ℕ) (b : Begun)
     → IsOver arena graph parts wanted b → b.strings.atoms ≡ parts.atoms
 over_atoms arena graph parts wanted b o = ap (λ (p : Parts). p.atoms) o.parts
@@ -157,15 +150,10 @@ searched_by arena graph parts literals wanted b s before after old new o r disti
         (subst (λ (ts : List (AtomOver ℕ)). AreAmong ts literals wanted) atoms among)
 
 -- a fault that is handed on
-pub counts_on : (A B : Type 0) (r : Result B TapeFault) (e f : TapeFault) (old new : ℕ) → r ≡ Err e → e ≡ f
-    → CountsTapeFault {A = A} (Err f) old new → CountsTapeFault r old new
-counts_on A B (Ok x) e f old new is same h = absurd (Prim.cc (is))
-counts_on A B (Err fault.Fault) fault.Fault fault.Fault old new is same h = h
-counts_on A B (Err fault.NoMemory) fault.NoMemory fault.NoMemory old new is same h = h
-counts_on A B (Err fault.Fault) fault.NoMemory f old new is same h = absurd (Prim.cc (is))
-counts_on A B (Err fault.NoMemory) fault.Fault f old new is same h = absurd (Prim.cc (is))
-counts_on A B (Err fault.Fault) fault.Fault fault.NoMemory old new is same h = absurd (Prim.cc (same))
-counts_on A B (Err fault.NoMemory) fault.NoMemory fault.Fault old new is same h = absurd (Prim.cc (same))
+pub counts_on : (A B : Type 0) (f : TapeFault) (old new : ℕ) → CountsTapeFault {A = A} (Err f) old new
+    → CountsTapeFault {A = B} (Err f) old new
+counts_on A B fault.Fault old new h = h
+counts_on A B fault.NoMemory old new h = h
 
 -- What is known where it ended.
 

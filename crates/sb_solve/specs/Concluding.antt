@@ -23,7 +23,7 @@ use Rattle.sb_solve.specs.Searched.{IsSearched}
 use Rattle.sb_solve.specs.declared.searching.Searched.{Searched}
 use Rattle.sb_solve.specs.declared.check.Concluded.{Concluded}
 use Rattle.sb_solve.specs.declared.check.Solved.{Solved}
-use Rattle.sb_solve.specs.declared.check.Tables.{Tables}
+use Rattle.sb_solve.specs.declared.searching.Tables.{Tables}
 use Rattle.sb_solve.specs.declared.check.Solved.TheVariants as solved
 
 -- Tables that a search may go over.
@@ -60,6 +60,15 @@ pub record IsEnded (before : ℕ) (x : Searched) : Type 0 where
   pub graph : IsGraph x.arena x.graph
   pub plain : IsRight x.arena x.plain
   pub regexes : HaveRegexesBelow (length x.arena) x.parts.atoms
+
+-- The arena and the graph may grow, and the words may be others; all else is as it was.
+pub record IsGrown (x y : Searched) : Type 0 where
+  pub found : y.found ≡ x.found
+  pub parts : y.parts ≡ x.parts
+  pub graph : IsGraph y.arena y.graph
+  pub plain : IsRight y.arena y.plain
+  pub extends : Extends x.arena y.arena
+  pub derivatives : KeepsEntries x.graph.memo y.graph.memo
 
 -- All is left as it was, but that the arena and the graph may grow, and that the empty clause is known.
 pub record IsLeft (x : Searched) (c : Concluded) : Type 0 where

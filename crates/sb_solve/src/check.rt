@@ -19,11 +19,11 @@ ghost use Rattle.sb_refute.specs.Backing.{Backs, Evidences};
 ghost use Rattle.sb_refute.specs.declared.evidence.EmptyClause.{EmptyClause};
 ghost use Rattle.sb_search.specs.declared.found.Found.TheVariants.{Sat};
 ghost use Rattle.sb_solve.specs.declared.check.Solved.TheVariants.{Unsat};
-ghost use Rattle.sb_solve.specs.Concluding.{IsEnded, HasNoValues, AreReady, AreTaken, IsLeft, IsConcluded, IsGoneOver};
+ghost use Rattle.sb_solve.specs.Concluding.{IsEnded, HasNoValues, AreReady, AreTaken, IsGrown, IsLeft, IsModel, IsConcluded, IsGoneOver};
 ghost use Rattle.sb_solve.specs.Solved.{AreOfLevels, IsSolved};
 
-use crate::model::model;
-use crate::searching::{Searched, search_parts};
+use crate::model::{Values, model};
+use crate::searching::{Searched, Tables, search_parts};
 use crate::stating::literals;
 use sb_fragment::Measures;
 use sb_graph::{Graph, graph_stays};
@@ -49,15 +49,6 @@ pub enum Solved {
     Unsat(ClauseId),
     /// The budget is spent.
     Spent,
-}
-
-/// All that a search goes over.
-#[derive(Drop)]
-struct Tables {
-    parts: Parts,
-    arena: Arena,
-    graph: Graph,
-    plain: Plain,
 }
 
 /// All that a search went over, put together again, and the answer.
@@ -118,11 +109,28 @@ pub fn solve<L: Tape>(
     let literals = literals(alloc, evidence, arena, normals, measures, stack, tape)?;
     let tables = taken(alloc, evidence, arena, graph, plain);
     let concluded = search_over(alloc, tables, &literals, stack, tape, budget)?;
-    *evidence = concluded.evidence;
-    *arena = concluded.arena;
-    *graph = concluded.graph;
-    *plain = concluded.plain;
-    Ok(concluded.solved)
+    Ok(put_back(concluded, evidence, arena, graph, plain))
+}
+
+/// Puts what a search went over back into its places, and answers what it came to.
+fn put_back(
+    concluded: Concluded,
+    evidence: &mut Evidence,
+    arena: &mut Arena,
+    graph: &mut Graph,
+    plain: &mut Plain,
+) -> Solved
+    ensures evidence { evidence.new ≡ concluded.evidence }
+    ensures arena { arena.new ≡ concluded.arena }
+    ensures graph { graph.new ≡ concluded.graph }
+    ensures plain { plain.new ≡ concluded.plain }
+    ensures solved { result ≡ concluded.solved }
+{
+    drop(mem::replace(evidence, concluded.evidence));
+    drop(mem::replace(arena, concluded.arena));
+    drop(mem::replace(graph, concluded.graph));
+    drop(mem::replace(plain, concluded.plain));
+    concluded.solved
 }
 
 /// Takes the evidence and the tables out of their places, where empty ones are left.
@@ -163,16 +171,7 @@ fn search_over<L: Tape>(
     ensures counts { CountsTapeFault result (L.Tape.faults tape.old) (L.Tape.faults tape.new) }
 {
     let before = tables.parts.engine.clauses().len();
-    let searched = search_parts(
-        alloc,
-        tables.arena,
-        tables.graph,
-        tables.plain,
-        tables.parts,
-        literals,
-        tape,
-        budget,
-    )?;
+    let searched = search_parts(alloc, tables, literals, tape, budget)?;
     let concluded = conclude(alloc, searched, before, literals, stack)?;
     Ok(concluded)
 }
@@ -207,37 +206,50 @@ fn valued(
     requires found { searched.found ≡ Sat }
     ensures { IfOk result (IsConcluded stack.now searched literals.now) }
 {
+    let mut searched = searched;
+    match values_of(alloc, &mut searched, literals, stack) {
+        Ok(values) => {
+            let solved = Solved::Sat {
+                words: values.words,
+                truths: values.truths,
+            };
+            Ok(left(searched, before, solved))
+        }
+        Err(error) => {
+            drop(searched);
+            Err(error)
+        }
+    }
+}
+
+/// The values that the end of a search gives. The arena and the graph may grow, and the theory's words are taken.
+fn values_of(
+    alloc: Global,
+    searched: &mut Searched,
+    literals: &[Lit],
+    stack: &Stack,
+) -> Result<Values, AllocError>
+    requires graph { IsGraph searched.old.arena searched.old.graph }
+    requires plain { IsRight searched.old.arena searched.old.plain }
+    requires regexes { HaveRegexesBelow (length searched.old.arena) searched.old.parts.atoms }
+    ensures model { IfOk result
+        (λ values. IsModel stack.now searched.old literals.now values.words.items values.truths.items) }
+    ensures grown { OnOk result (IsGrown searched.old searched.new) }
+{
     right_stays();
-    let Searched {
-        found: _,
-        mut arena,
-        mut graph,
-        plain,
-        parts,
-        wanted,
-        words,
-    } = searched;
+    let words = mem::replace(&mut searched.words, Vec::new(alloc));
     let values = model(
         alloc,
-        &mut arena,
-        &mut graph,
-        &parts.atoms,
-        &wanted,
+        &mut searched.arena,
+        &mut searched.graph,
+        &searched.parts.atoms,
+        &searched.wanted,
         literals,
-        parts.engine.trail(),
+        searched.parts.engine.trail(),
         words,
         stack,
     )?;
-    Ok(Concluded {
-        evidence: Evidence::from_parts(parts, before),
-        arena,
-        graph,
-        plain,
-        solved: Solved::Sat {
-            words: values.words,
-            truths: values.truths,
-        },
-    })
+    Ok(values)
 }
 
 /// The same where the empty clause was found.

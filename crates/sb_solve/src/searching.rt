@@ -23,6 +23,15 @@ use sb_theory::Strings;
 use sb_word::Word;
 use std::alloc::{AllocError, Global};
 
+/// All that a search goes over.
+#[derive(Drop)]
+pub(crate) struct Tables {
+    pub parts: Parts,
+    pub arena: Arena,
+    pub graph: Graph,
+    pub plain: Plain,
+}
+
 /// What a search leaves: what it found, and all that it went over.
 #[derive(Drop)]
 pub(crate) struct Searched {
@@ -50,26 +59,26 @@ pub(crate) struct Begun {
 /// Searches for values of the atoms that these literals speak of, over the clauses of a proof.
 pub(crate) fn search_parts<L: Tape>(
     alloc: Global,
-    arena: Arena,
-    graph: Graph,
-    plain: Plain,
-    parts: Parts,
+    tables: Tables,
     literals: &[Lit],
     tape: &mut L,
     budget: &mut Budget,
 ) -> Result<Searched, TapeFault>
-    requires graph { IsGraph arena graph }
-    requires plain { IsRight arena plain }
-    requires regexes { HaveRegexesBelow (length arena) parts.atoms }
-    requires trail { parts.engine.trail.literals ≡ [] }
-    ensures searched { IfOk result (IsSearched arena graph.memo parts literals.now budget.old budget.new
-        (L.Tape.told tape.old) (L.Tape.told tape.new)) }
+    requires graph { IsGraph tables.arena tables.graph }
+    requires plain { IsRight tables.arena tables.plain }
+    requires regexes { HaveRegexesBelow (length tables.arena) tables.parts.atoms }
+    requires trail { tables.parts.engine.trail.literals ≡ [] }
+    ensures searched { IfOk result (IsSearched tables.arena tables.graph.memo tables.parts literals.now budget.old
+        budget.new (L.Tape.told tape.old) (L.Tape.told tape.new)) }
     ensures counts { CountsTapeFault result (L.Tape.faults tape.old) (L.Tape.faults tape.new) }
 {
-    let wanted = wanted_of(alloc, &parts, literals)?;
-    let begun = over(alloc, arena, graph, plain, parts, wanted);
-    let searched = run_over(alloc, begun, tape, budget)?;
-    Ok(searched)
+    match wanted_of(alloc, &tables.parts, literals) {
+        Ok(wanted) => run_over(alloc, over(alloc, tables, wanted), tape, budget),
+        Err(error) => {
+            drop(tables);
+            Err(TapeFault::from(error))
+        }
+    }
 }
 
 /// The atoms that these literals speak of.
@@ -95,24 +104,28 @@ fn run_over<L: Tape>(
     ensures counts { CountsTapeFault result (L.Tape.faults tape.old) (L.Tape.faults tape.new) }
 {
     let mut begun = begun;
-    let found = run(alloc, &mut begun, tape, budget)?;
-    Ok(together(begun, found))
+    match run(alloc, &mut begun, tape, budget) {
+        Ok(found) => Ok(together(begun, found)),
+        Err(fault) => {
+            drop(begun);
+            Err(fault)
+        }
+    }
 }
 
 /// The theory over these tables, beside the clauses.
-fn over(
-    alloc: Global,
-    arena: Arena,
-    graph: Graph,
-    plain: Plain,
-    parts: Parts,
-    wanted: Vec<u64>,
-) -> Begun
-    requires graph { IsGraph arena graph }
-    requires plain { IsRight arena plain }
-    requires regexes { HaveRegexesBelow (length arena) parts.atoms }
-    ensures { IsOver arena graph parts wanted.items result }
+fn over(alloc: Global, tables: Tables, wanted: Vec<u64>) -> Begun
+    requires graph { IsGraph tables.arena tables.graph }
+    requires plain { IsRight tables.arena tables.plain }
+    requires regexes { HaveRegexesBelow (length tables.arena) tables.parts.atoms }
+    ensures { IsOver tables.arena tables.graph tables.parts wanted.items result }
 {
+    let Tables {
+        parts,
+        arena,
+        graph,
+        plain,
+    } = tables;
     let Parts {
         trace,
         atoms,
