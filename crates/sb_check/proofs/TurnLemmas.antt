@@ -1,5 +1,5 @@
 -- What comes next in the script: an entry, its end, or more than may be read of it.
-use Rattle.std.proofs.Common.{◌≡◌, ℕ, ◌+◌, ◌≤◌, Bool, true, false, List, [], ◌∷◌, ◌++◌, length, drop, Some, Result, Ok, Err, IfOk, IfErr, OnOk, inl, refl, sym, subst, ◌∙◌, arith, length-drop}
+use Rattle.std.proofs.Common.{◌≡◌, ℕ, ◌+◌, ◌<◌, ◌≤◌, ◌^◌, Bool, true, false, List, [], ◌∷◌, ◌++◌, length, drop, Some, Result, Ok, Err, IfOk, IfErr, OnOk, inl, refl, sym, subst, ◌∙◌, arith, length-drop}
 use Rattle.std.proofs.lemmas.List.{append-nil}
 use Rattle.sb_world.specs.Outside.{Outside}
 use Rattle.sb_reader.specs.declared.feed.Next.{Next}
@@ -12,11 +12,13 @@ use Rattle.sb_rulebook.specs.Accepted.{verdict_lines}
 use Rattle.sb_stack.specs.Stacked.{state_of}
 use Rattle.sb_stack.specs.Steps.{IsEntry, entry_of}
 use Rattle.sb_input.specs.TakingEntries as entries
+use Rattle.sb_input.specs.TakingLines as lines
 use Rattle.sb_input.specs.TakingEntries.{Advances, TakesEntry, Finds, IsCutShort}
 use Rattle.sb_check.specs.declared.checker.CheckerFault.{CheckerFault}
 use Rattle.sb_check.specs.declared.checker.CheckerFault.TheVariants as fault
 use Rattle.sb_check.specs.declared.check.Run.{Run}
 use Rattle.sb_check.specs.Running.{limit}
+use Rattle.sb_check.specs.Standing.{IsStanding}
 use Rattle.sb_check.specs.Sofar.{Sofar, FindsEntry, GoesOn, HasEnded, Turns, IsSteady, StaysSteady, Stops, is_cut}
 use Rattle.sb_check.proofs.MoveLemmas.{reads_script, same_gone, proof_left_behind_script}
 use Rattle.sb_check.proofs.StopLemmas.{cut_at, goes_at, stops_cut}
@@ -178,3 +180,17 @@ pub turn_steady : (r : Result Bool CheckerFault) (run : Run) → OnOk r (IsStead
 turn_steady (Ok true) run h = h
 turn_steady (Ok false) run h = record { standing = h.standing; lines = h.lines; lines_limit = h.lines_limit }
 turn_steady (Err f) run h = tt
+
+-- a run whose verdict was written
+pub said_steady : (run new : Run) → new ≡ record run { next_check = run.next_check + 1 }
+    → IsStanding run.checker.judge → run.checker.judge.next + lines.most_to_come run.lines < 2 ^ 64
+    → run.next_check + 1 + entries.most_to_come run.entries < 2 ^ 64 → run.lines.limit ≡ limit
+    → run.entries.limit ≡ limit → IsSteady new
+said_steady run new is standing low few lines_limit entries_limit =
+    subst IsSteady (sym is) (record {
+      standing = standing;
+      lines = low;
+      entries = few;
+      lines_limit = lines_limit;
+      entries_limit = entries_limit;
+    })

@@ -1,3 +1,4 @@
+use Rattle.std.proofs.Common.{Some, sym, ap, ◌∙◌}
 use Rattle.std.proofs.lemmas.Result.{err_from_is_err_and}
 use Rattle.sb_script.specs.Replies.{step_of}
 use Rattle.sb_rulebook.specs.Accepted.{events_of}
@@ -44,3 +45,13 @@ returns-in_ok-verdict-in-Waits-clause-ok g c =
     entry_said c.in_ok-verdict-in-Waits.field-0 _ c.enter.new.self _ _ _ _ _ _
     (rw c.in-Waits.is at c.in_ok-enter.ensures.ok).0 (rw c.in-Waits.is at c.in_ok-enter.ensures.kept)
     c.in_ok-verdict-in-Waits.ensures.ok
+
+pub returns-in-Goes-clause-leads : goal.returns-in-Goes-clause-leads
+returns-in-Goes-clause-leads g c = (rw c.in-Goes.is at c.in_ok-enter.ensures.ok).1
+
+pub returns-in-Ends-clause-leads : goal.returns-in-Ends-clause-leads
+returns-in-Ends-clause-leads g c = (rw c.in-Ends.is at c.in_ok-enter.ensures.ok).1
+
+pub returns-in_ok-verdict-in-Waits-clause-leads : goal.returns-in_ok-verdict-in-Waits-clause-leads
+returns-in_ok-verdict-in-Waits-clause-leads g c =
+    (rw c.in-Waits.is at c.in_ok-enter.ensures.ok).1 ∙ ap (λ s. Some (state_of s)) (sym c.verdict.ensures.stack)

@@ -1,4 +1,5 @@
-use Rattle.std.proofs.Common.{Err, subst, ap, ◌∙◌}
+use Rattle.std.proofs.lemmas.Bool.{true≢false}
+use Rattle.std.proofs.Common.{Err, subst, ap, ◌∙◌, sym}
 use Rattle.sb_proof.specs.Lines.{line_in}
 use Rattle.sb_rulebook.specs.Accepted.{asked_in}
 use Rattle.sb_rules.specs.Judged.{Judges}
@@ -7,6 +8,7 @@ use Rattle.sb_stack.specs.Stacked.{state_of}
 use Rattle.sb_check.specs.Standing.{waiting_in}
 use Rattle.sb_check.proofs.Asking.{asked_over, simple_over}
 use Rattle.sb_check.proofs.Taking.{kept_taken, kept_refused}
+use Rattle.sb_rules.specs.Kept.{IsOver}
 use Rattle.sb_check.proofs.judge.Judge.take_kept.Goals as goal
 
 pub follows-requires-clause-simple : goal.follows-requires-clause-simple
@@ -35,3 +37,27 @@ returns-in-Err-Refused-clause-err c p a =
     c.assertions.ensures.levels)) in
     kept_refused (waiting_in (state_of stack)) c.args.self.now asked (line_in c.args.line.now) p
     (refusal_in c.in-Err-Refused.refusal) c.of_refusal.result a (λ others. (judged others).0) c.of_refusal.ensures
+
+pub returns-in-Ok-clause-standing : goal.returns-in-Ok-clause-standing
+returns-in-Ok-clause-standing c = record {
+  simple = c.requires.standing.simple;
+  over = subst (λ ts. IsOver ts c.follows.new.self) c.table.ensures c.follows.ensures.over;
+  models = c.requires.standing.models;
+  fresh = λ first. absurd (true≢false (sym c.requires.begun ∙ first));
+}
+
+pub returns-in-Err-Refused-clause-standing : goal.returns-in-Err-Refused-clause-standing
+returns-in-Err-Refused-clause-standing c = record {
+  simple = c.requires.standing.simple;
+  over = subst (λ ts. IsOver ts c.follows.new.self) c.table.ensures c.follows.ensures.over;
+  models = c.requires.standing.models;
+  fresh = λ first. absurd (true≢false (sym c.requires.begun ∙ first));
+}
+
+pub returns-in-Err-NoMemory-clause-standing : goal.returns-in-Err-NoMemory-clause-standing
+returns-in-Err-NoMemory-clause-standing c = record {
+  simple = c.requires.standing.simple;
+  over = subst (λ ts. IsOver ts c.follows.new.self) c.table.ensures c.follows.ensures.over;
+  models = c.requires.standing.models;
+  fresh = λ first. absurd (true≢false (sym c.requires.begun ∙ first));
+}
