@@ -14,3 +14,4 @@ pub mod ConnectiveTruths
 pub mod Walking
 pub mod GateFacts
 pub mod Saying
+pub mod Gathering

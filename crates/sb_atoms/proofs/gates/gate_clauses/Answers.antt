@@ -31,3 +31,10 @@ returns-clause-says c = λ truths.
     c.in_ok-put_all.ensures ∙ ap (λ (xs : List (List Lit)). xs ++ clauses_of c.args.atom a) c.new-clauses.ensures.items in
     ap (all_hold truths) found ∙ all_say truths c.args.atom a
     ∙ ap (is_as_it_says truths c.args.atom) (sym (names_at c.args.atoms.now c.args.atom a c.describe.ensures))
+
+pub returns-clause-exact : goal.returns-clause-exact
+returns-clause-exact c =
+    let a = atom_in c.describe.result.now in
+    c.in_ok-put_all.ensures
+    ∙ ap (λ (xs : List (List Lit)). xs ++ clauses_of c.args.atom a) c.new-clauses.ensures.items
+    ∙ ap (clauses_of c.args.atom) (sym (names_at c.args.atoms.now c.args.atom a c.describe.ensures))
