@@ -5,4 +5,4 @@ pub mod Applying
 pub mod Shapes
 pub mod Reading
 pub mod Sizes
-mod FoundLemmas
+pub mod CallerLemmas

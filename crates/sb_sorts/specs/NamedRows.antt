@@ -1,4 +1,4 @@
--- Private: what stands in a table of the code by its name.
+-- What stands in a table of the code by its name; the first row counts.
 use Rattle.std.specs.Prelude.{if◌then◌else◌, List, [], ◌∷◌, Option, Some, None}
 use Rattle.sb_script.specs.Names.{Name, is_name}
 use denote.Ref.{Bor}

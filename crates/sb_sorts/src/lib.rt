@@ -15,7 +15,7 @@ mod read;
 mod scope;
 mod text;
 
-pub use names::{begins_term, is_reserved, is_theory_name, sort_named};
+pub use names::{begins_term, is_reserved, is_theory_name, look_up, sort_named};
 pub use numeral::number_up_to;
 pub use read::{ReadFault, read_term};
 pub use scope::{DeclareError, Named, Scope};

@@ -146,9 +146,9 @@ pub fn is_reserved(name: &[u8]) -> bool
     is_among(&WORDS_OF_TERMS, name) || is_among(&WORDS_OF_SCRIPTS, name)
 }
 
-/// What stands in a table by this name.
+/// What stands in a table by this name. Linear in the table, and takes no memory.
 #[tactic(auto, unfolding(crate::specs::NamedRows::look_up))]
-fn look_up<T: Copy>(table: &[(&[u8], T)], name: &[u8]) -> Option<T>
+pub fn look_up<T: Copy>(table: &[(&[u8], T)], name: &[u8]) -> Option<T>
     ensures { result ≡ look_up table.now name.now }
 {
     for (other, meant) in table {

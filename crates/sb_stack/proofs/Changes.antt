@@ -488,3 +488,29 @@ taken_function k name scope answer taken is said =
     ap (λ (b : Bool). if b then meaning.fails_by (error.already_declared name) (state_of k)
     else meaning.is_unsupported (marked name (state_of k))) (taken_there k name taken) in
     rw fails (said, ap (λ (c : scopes.ScopeNames). state_of (record k { scope = c })) is)
+
+-- the same as steps
+pub declares_taken : (k : Stacked) (name : Name) (sort : Sort) → is_taken (names_in k.scope) name ≡ true
+    → declares name sort (state_of k) ≡ meaning.fails_by (error.already_declared name) (state_of k)
+declares_taken k name sort taken =
+    ap (λ (b : Bool). if b then meaning.fails_by (error.already_declared name) (state_of k)
+    else meaning.succeeds (declared name sort (state_of k))) (taken_there k name taken)
+
+pub marks_taken : (k : Stacked) (name : Name) → is_taken (names_in k.scope) name ≡ true
+    → reply.declare_function name (state_of k) ≡ meaning.fails_by (error.already_declared name) (state_of k)
+marks_taken k name taken =
+    ap (λ (b : Bool). if b then meaning.fails_by (error.already_declared name) (state_of k)
+    else meaning.is_unsupported (marked name (state_of k))) (taken_there k name taken)
+
+-- a name more
+pub keeps_declared : (k : Stacked) (scope : scopes.ScopeNames) (name : Name) (sort : code.Sort)
+    → scope ≡ with_constant name sort k.scope → Keeps k (record k { begun = true; scope = scope; mode = mode.Plain })
+keeps_declared k scope name sort is =
+    keeps_parts k (record k { begun = true; scope = scope; mode = mode.Plain }) refl refl refl
+    (omega (arith, ap (λ (s : scopes.ScopeNames). length s.sorts) is, length-append k.scope.sorts (sort ∷ [])))
+
+pub keeps_marked : (k : Stacked) (scope : scopes.ScopeNames) (name : Name) → scope ≡ with_mark name k.scope
+    → Keeps k (record k { begun = true; scope = scope; mode = mode.Plain })
+keeps_marked k scope name is =
+    keeps_parts k (record k { begun = true; scope = scope; mode = mode.Plain }) refl refl refl
+    (omega (arith, ap (λ (s : scopes.ScopeNames). length s.sorts) is))

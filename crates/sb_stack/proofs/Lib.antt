@@ -7,4 +7,5 @@ pub mod Shapes
 pub mod Items
 pub mod Printing
 pub mod Changes
+pub mod Replying
 pub mod CallerLemmas

@@ -1,10 +1,13 @@
 -- Private: the commands of the code, and the forms of a list, as the definitions have them.
-use Rattle.std.specs.Prelude.{ℕ, Bool, false, List, Option, Some, None, codes}
+use Rattle.std.specs.Prelude.{ℕ, Bool, false, List, filter, Option, Some, None, codes}
 use Rattle.std.specs.List.{list_all}
 use Rattle.sb_reader.specs.declared.sexpr.Shapes.{Shapes}
 use Rattle.sb_reader.specs.Forms.{Form, Forms, Keyword, Numeral, Group, none, more, shape_of, shapes_in}
+use Rattle.sb_stack.specs.declared.command.Kind.{Kind}
+use Rattle.sb_stack.specs.declared.command.Kind.TheVariants as kind
 use Rattle.sb_stack.specs.declared.command.Command.{Command}
 use Rattle.sb_stack.specs.declared.command.Command.TheVariants as code
+use Rattle.sb_script.specs.Brought.{a_command, is_brought}
 use Rattle.sb_script.specs.Names.{Name}
 use Rattle.sb_script.specs.Texts.{number_of}
 use Rattle.sb_script.specs.Commands as meaning
@@ -52,3 +55,28 @@ command_in code.ResetAssertions = meaning.reset_assertions
 command_in code.Reset = meaning.reset
 command_in code.Exit = meaning.exit
 command_in code.Another = meaning.another
+
+-- what follows the name of a command of this kind
+abbrev pub shape_in : Kind → List Form → Option meaning.Command
+shape_in kind.Assert = meaning.assert_shape
+shape_in kind.DeclareConst = meaning.constant_shape
+shape_in kind.DeclareFun = meaning.function_shape
+shape_in kind.DefineFun = meaning.definition_shape
+shape_in kind.Push = meaning.levels_shape meaning.push
+shape_in kind.Pop = meaning.levels_shape meaning.pop
+shape_in kind.CheckSat = meaning.bare meaning.check_sat
+shape_in kind.GetModel = meaning.bare meaning.get_model
+shape_in kind.GetValue = meaning.value_shape
+shape_in kind.SetLogic = meaning.logic_shape
+shape_in kind.SetOption = meaning.option_shape
+shape_in kind.GetOption = meaning.keyword_shape meaning.get_option
+shape_in kind.SetInfo = meaning.info_shape
+shape_in kind.GetInfo = meaning.keyword_shape meaning.get_info
+shape_in kind.Echo = meaning.echo_shape
+shape_in kind.ResetAssertions = meaning.bare meaning.reset_assertions
+shape_in kind.Reset = meaning.bare meaning.reset
+shape_in kind.Exit = meaning.bare meaning.exit
+
+-- the commands that are answered, by name
+abbrev pub answered_shapes : List (Name × (List Form → Option meaning.Command))
+answered_shapes = filter (λ row. is_brought (a_command row.0)) meaning.shapes

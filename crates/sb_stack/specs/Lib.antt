@@ -5,3 +5,4 @@ pub mod Keeping
 pub mod Steps
 pub mod Taking
 pub mod Values
+pub mod Settings

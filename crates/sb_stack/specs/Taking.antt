@@ -11,6 +11,7 @@ use Rattle.sb_script.specs.State.{State, asserted, names_of, declared, with_asse
 use Rattle.sb_script.specs.Errors as error
 use Rattle.sb_script.specs.Steps.{Step, fails_by, succeeds, refused_term}
 use Rattle.sb_script.specs.Replies.{Item, some_malformed, first_unknown, values_of}
+use Rattle.sb_stack.specs.declared.stack.Step as taken
 use Rattle.sb_stack.specs.declared.stack.Step.TheVariants as code
 use Rattle.sb_stack.specs.Stacked.{Stacked}
 use Rattle.sb_stack.specs.Steps.{IsStep}
@@ -18,6 +19,11 @@ use Rattle.sb_stack.specs.Steps.{IsStep}
 -- the step that the definitions have is an answer, these bytes
 abbrev pub IsAnswered : Step → Vec ℕ Global → State → State → Type 0
 IsAnswered step answer old new = IsStep step (code.Answer answer) old new
+
+-- what is answered, as a step
+abbrev pub answered_in : {E : Type 0} → Result (Vec ℕ Global) E → Result taken.Step E
+answered_in (Ok text) = Ok (code.Answer text)
+answered_in (Err e) = Err e
 
 abbrev pub with_print_success : State → Bool → State
 with_print_success s b = record s { options = record s.options { print_success = b } }

@@ -9,11 +9,13 @@ ghost use Rattle.sb_script.specs.Steps as steps;
 ghost use Rattle.sb_script.specs.Options as options;
 ghost use Rattle.sb_stack.specs.Commands.{forms_in};
 ghost use Rattle.sb_stack.specs.Stacked.{state_of, live_constants, values_at};
+ghost use Rattle.sb_script.specs.Options.{truth_text};
+ghost use Rattle.sb_stack.specs.Settings.{text_in};
 ghost use Rattle.sb_stack.specs.Taking.{IsAnswered, asks};
 ghost use Rattle.sb_stack.specs.Values.{item_in, is_live_item, answers_by};
 
-use crate::option::info_line;
-use crate::reply::{error_line, error_line_with_name, truth_line, unsupported_line};
+use crate::option::{Setting, info_line, setting_named};
+use crate::reply::{error_line, truth_line, unsupported_line};
 use crate::stack::{Mode, Stack};
 use crate::value::{
     Item, all_constants, constants, first_unknown, items, model_line, some_malformed, values_line,
@@ -28,16 +30,21 @@ impl Stack {
             (λ text. IsAnswered (options.get_option key.now (state_of self.now)) text (state_of self.now)
             (state_of self.now)) }
     {
-        if key == b":print-success".as_slice() {
-            Ok(truth_line(self.alloc, self.print_success)?)
-        } else if key == b":produce-models".as_slice() {
-            Ok(truth_line(self.alloc, self.produce_models)?)
-        } else if key == b":produce-unsat-assumptions".as_slice() {
-            Ok(truth_line(self.alloc, self.produce_unsat_assumptions)?)
-        } else if key == b":global-declarations".as_slice() {
-            Ok(truth_line(self.alloc, false)?)
-        } else {
-            Ok(unsupported_line(self.alloc)?)
+        match setting_named(key) {
+            Some(setting) => truth_line(self.alloc, self.value_of(setting)),
+            None => self.leave_out(),
+        }
+    }
+
+    /// The value of an option. Declarations are never global.
+    fn value_of(&self, setting: Setting) -> bool
+        ensures { truth_text result ≡ text_in setting (state_of self.now) }
+    {
+        match setting {
+            Setting::PrintSuccess => self.print_success,
+            Setting::ProduceModels => self.produce_models,
+            Setting::ProduceAssumptions => self.produce_unsat_assumptions,
+            Setting::GlobalDeclarations => false,
         }
     }
 
@@ -50,8 +57,8 @@ impl Stack {
             return self.reason_unknown();
         }
         match info_line(key) {
-            Some(line) => Ok(Vec::from_slice(self.alloc, line)?),
-            None => Ok(unsupported_line(self.alloc)?),
+            Some(line) => Vec::from_slice(self.alloc, line),
+            None => unsupported_line(self.alloc),
         }
     }
 
@@ -62,13 +69,8 @@ impl Stack {
             (state_of self.now) (state_of self.now)) }
     {
         match self.mode {
-            Mode::Unknown => Ok(Vec::from_slice(
-                self.alloc,
-                b"(:reason-unknown resource-limit)\n",
-            )?),
-            Mode::Plain | Mode::Sat | Mode::Unsat => {
-                Ok(error_line(self.alloc, b"no unknown answer")?)
-            }
+            Mode::Unknown => Vec::from_slice(self.alloc, b"(:reason-unknown resource-limit)\n"),
+            Mode::Plain | Mode::Sat | Mode::Unsat => error_line(self.alloc, b"no unknown answer"),
         }
     }
 
@@ -97,9 +99,9 @@ impl Stack {
         match self.model() {
             Ok(values) => {
                 let constants = constants(self.alloc, &self.scope)?;
-                Ok(model_line(self.alloc, values.0, values.1, &constants)?)
+                model_line(self.alloc, values.0, values.1, &constants)
             }
-            Err(message) => Ok(error_line(self.alloc, message)?),
+            Err(message) => error_line(self.alloc, message),
         }
     }
 
@@ -120,13 +122,10 @@ impl Stack {
             (state_of self.now)) }
     {
         if some_malformed(items) {
-            return Ok(error_line(self.alloc, b"malformed command")?);
+            return self.fail(b"malformed command");
         }
         match first_unknown(items) {
-            Some(name) => {
-                let answer = error_line_with_name(self.alloc, b"unknown symbol ", name)?;
-                Ok(answer)
-            }
+            Some(name) => self.fail_with_name(b"unknown symbol ", name),
             None => self.values_of(items),
         }
     }
@@ -140,7 +139,7 @@ impl Stack {
     {
         match self.model() {
             Ok(values) => answer_values(self.alloc, values.0, values.1, items),
-            Err(message) => Ok(error_line(self.alloc, message)?),
+            Err(message) => self.fail(message),
         }
     }
 }
@@ -156,7 +155,7 @@ fn answer_values(
         → IsAnswered (answers_by words.now truths.now (map item_in items.now) s) text s s) }
 {
     match all_constants(alloc, items)? {
-        Some(constants) => Ok(values_line(alloc, words, truths, &constants)?),
-        None => Ok(unsupported_line(alloc)?),
+        Some(constants) => values_line(alloc, words, truths, &constants),
+        None => unsupported_line(alloc),
     }
 }

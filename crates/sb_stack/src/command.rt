@@ -4,10 +4,11 @@ ghost use Rattle.std.specs.Prelude.{◌≡◌, [], ◌∷◌, option_map, option
 ghost use Rattle.std.specs.List.{list_all};
 ghost use Rattle.sb_reader.specs.Forms.{Form, Group, form_of, shape_of, shapes_in};
 ghost use Rattle.sb_script.specs.Commands as meaning;
-ghost use Rattle.sb_stack.specs.Commands.{command_in, forms_in, keyword_in, numeral_in, levels_in, is_parameter_list};
+ghost use Rattle.sb_script.specs.Symbols.{found_in};
+ghost use Rattle.sb_stack.specs.Commands.{command_in, shape_in, answered_shapes, forms_in, keyword_in, numeral_in, levels_in, is_parameter_list};
 
 use sb_reader::{Sexpr, Shape, Shapes};
-use sb_sorts::is_reserved;
+use sb_sorts::{is_reserved, look_up};
 
 /// A command, which borrows from its form.
 #[derive(Clone, Copy)]
@@ -42,6 +43,51 @@ pub(crate) enum Command<'a> {
     Another,
 }
 
+/// The commands that are answered, by what follows their names.
+#[derive(Clone, Copy)]
+pub(crate) enum Kind {
+    Assert,
+    DeclareConst,
+    DeclareFun,
+    DefineFun,
+    Push,
+    Pop,
+    CheckSat,
+    GetModel,
+    GetValue,
+    SetLogic,
+    SetOption,
+    GetOption,
+    SetInfo,
+    GetInfo,
+    Echo,
+    ResetAssertions,
+    Reset,
+    Exit,
+}
+
+/// The commands that are answered, by their names.
+const KINDS: &[(&[u8], Kind)] = &[
+    (b"assert", Kind::Assert),
+    (b"declare-const", Kind::DeclareConst),
+    (b"declare-fun", Kind::DeclareFun),
+    (b"define-fun", Kind::DefineFun),
+    (b"push", Kind::Push),
+    (b"pop", Kind::Pop),
+    (b"check-sat", Kind::CheckSat),
+    (b"get-model", Kind::GetModel),
+    (b"get-value", Kind::GetValue),
+    (b"set-logic", Kind::SetLogic),
+    (b"set-option", Kind::SetOption),
+    (b"get-option", Kind::GetOption),
+    (b"set-info", Kind::SetInfo),
+    (b"get-info", Kind::GetInfo),
+    (b"echo", Kind::Echo),
+    (b"reset-assertions", Kind::ResetAssertions),
+    (b"reset", Kind::Reset),
+    (b"exit", Kind::Exit),
+];
+
 /// The command of a form, or `None` where the form is malformed. Linear in the form.
 pub(crate) fn command_of(form: &Sexpr) -> Option<Command<'_>>
     ensures { option_map command_in result ≡ meaning.command_of (form_of form.now) }
@@ -69,44 +115,42 @@ fn command_in(forms: Shapes<'_>) -> Option<Command<'_>>
 fn shaped<'a>(name: &[u8], arguments: Shapes<'a>) -> Option<Command<'a>>
     ensures { option_map command_in result ≡ meaning.shaped name.now (forms_in arguments.entry) }
 {
-    if name == b"assert".as_slice() {
-        assert_shape(arguments)
-    } else if name == b"declare-const".as_slice() {
-        constant_shape(arguments)
-    } else if name == b"declare-fun".as_slice() {
-        function_shape(arguments)
-    } else if name == b"define-fun".as_slice() {
-        definition_shape(arguments)
-    } else if name == b"push".as_slice() {
-        push_shape(arguments)
-    } else if name == b"pop".as_slice() {
-        pop_shape(arguments)
-    } else if name == b"check-sat".as_slice() {
-        bare(Command::CheckSat, arguments)
-    } else if name == b"get-model".as_slice() {
-        bare(Command::GetModel, arguments)
-    } else if name == b"get-value".as_slice() {
-        value_shape(arguments)
-    } else if name == b"set-logic".as_slice() {
-        logic_shape(arguments)
-    } else if name == b"set-option".as_slice() {
-        option_shape(arguments)
-    } else if name == b"get-option".as_slice() {
-        asked_option_shape(arguments)
-    } else if name == b"set-info".as_slice() {
-        info_shape(arguments)
-    } else if name == b"get-info".as_slice() {
-        asked_info_shape(arguments)
-    } else if name == b"echo".as_slice() {
-        echo_shape(arguments)
-    } else if name == b"reset-assertions".as_slice() {
-        bare(Command::ResetAssertions, arguments)
-    } else if name == b"reset".as_slice() {
-        bare(Command::Reset, arguments)
-    } else if name == b"exit".as_slice() {
-        bare(Command::Exit, arguments)
-    } else {
-        Some(Command::Another)
+    match kind_named(name) {
+        Some(kind) => shaped_as(kind, arguments),
+        None => Some(Command::Another),
+    }
+}
+
+/// The kind of the commands of this name, where they are answered.
+fn kind_named(name: &[u8]) -> Option<Kind>
+    ensures { option_map shape_in result ≡ found_in answered_shapes name.now }
+{
+    look_up(KINDS, name)
+}
+
+/// A command of this kind, with what follows its name.
+fn shaped_as<'a>(kind: Kind, arguments: Shapes<'a>) -> Option<Command<'a>>
+    ensures { option_map command_in result ≡ shape_in kind (forms_in arguments.entry) }
+{
+    match kind {
+        Kind::Assert => assert_shape(arguments),
+        Kind::DeclareConst => constant_shape(arguments),
+        Kind::DeclareFun => function_shape(arguments),
+        Kind::DefineFun => definition_shape(arguments),
+        Kind::Push => push_shape(arguments),
+        Kind::Pop => pop_shape(arguments),
+        Kind::CheckSat => bare(Command::CheckSat, arguments),
+        Kind::GetModel => bare(Command::GetModel, arguments),
+        Kind::GetValue => value_shape(arguments),
+        Kind::SetLogic => logic_shape(arguments),
+        Kind::SetOption => option_shape(arguments),
+        Kind::GetOption => asked_option_shape(arguments),
+        Kind::SetInfo => info_shape(arguments),
+        Kind::GetInfo => asked_info_shape(arguments),
+        Kind::Echo => echo_shape(arguments),
+        Kind::ResetAssertions => bare(Command::ResetAssertions, arguments),
+        Kind::Reset => bare(Command::Reset, arguments),
+        Kind::Exit => bare(Command::Exit, arguments),
     }
 }
 
@@ -231,7 +275,10 @@ fn logic_shape(arguments: Shapes<'_>) -> Option<Command<'_>>
     ensures { option_map command_in result ≡ meaning.logic_shape (forms_in arguments.entry) }
 {
     match arguments.only() {
-        Some(logic) => Some(Command::SetLogic(symbol_in(logic)?)),
+        Some(logic) => match symbol_in(logic) {
+            Some(name) => Some(Command::SetLogic(name)),
+            None => None,
+        },
         None => None,
     }
 }
@@ -269,7 +316,10 @@ fn asked_option_shape(arguments: Shapes<'_>) -> Option<Command<'_>>
     ensures { option_map command_in result ≡ meaning.keyword_shape meaning.get_option (forms_in arguments.entry) }
 {
     match arguments.only() {
-        Some(key) => Some(Command::GetOption(keyword_in(key)?)),
+        Some(form) => match keyword_in(form) {
+            Some(key) => Some(Command::GetOption(key)),
+            None => None,
+        },
         None => None,
     }
 }
@@ -278,7 +328,10 @@ fn asked_info_shape(arguments: Shapes<'_>) -> Option<Command<'_>>
     ensures { option_map command_in result ≡ meaning.keyword_shape meaning.get_info (forms_in arguments.entry) }
 {
     match arguments.only() {
-        Some(key) => Some(Command::GetInfo(keyword_in(key)?)),
+        Some(form) => match keyword_in(form) {
+            Some(key) => Some(Command::GetInfo(key)),
+            None => None,
+        },
         None => None,
     }
 }
@@ -287,9 +340,13 @@ fn asked_info_shape(arguments: Shapes<'_>) -> Option<Command<'_>>
 fn info_shape(arguments: Shapes<'_>) -> Option<Command<'_>>
     ensures { option_map command_in result ≡ meaning.info_shape (forms_in arguments.entry) }
 {
-    let (first, _) = arguments.split_first()?;
-    keyword_in(first)?;
-    Some(Command::SetInfo)
+    let Some((first, _)) = arguments.split_first() else {
+        return None;
+    };
+    match keyword_in(first) {
+        Some(_) => Some(Command::SetInfo),
+        None => None,
+    }
 }
 
 fn echo_shape(arguments: Shapes<'_>) -> Option<Command<'_>>
@@ -327,7 +384,10 @@ fn constant_of<'a>(name: Shape<'a>, sort: Shape<'a>) -> Option<Command<'a>>
     if !is_sort(sort) {
         return None;
     }
-    Some(Command::DeclareConstant(declarable(name)?, sort))
+    match declarable(name) {
+        Some(name) => Some(Command::DeclareConstant(name, sort)),
+        None => None,
+    }
 }
 
 fn function_shape(arguments: Shapes<'_>) -> Option<Command<'_>>
@@ -361,7 +421,9 @@ fn function_from<'a>(name: Shape<'a>, sorts: Shapes<'_>, sort: Shape<'a>) -> Opt
     if !are_sorts(sorts) || !is_sort(sort) {
         return None;
     }
-    let name = declarable(name)?;
+    let Some(name) = declarable(name) else {
+        return None;
+    };
     if sorts.is_empty() {
         return Some(Command::DeclareConstant(name, sort));
     }
@@ -393,7 +455,10 @@ fn definition_of<'a>(name: Shape<'a>, parameters: Shape<'_>, sort: Shape<'_>) ->
     if !is_parameter_list(parameters) || !is_sort(sort) {
         return None;
     }
-    Some(Command::DeclareFunction(declarable(name)?))
+    match declarable(name) {
+        Some(name) => Some(Command::DeclareFunction(name)),
+        None => None,
+    }
 }
 
 fn assert_shape(arguments: Shapes<'_>) -> Option<Command<'_>>
@@ -408,13 +473,19 @@ fn assert_shape(arguments: Shapes<'_>) -> Option<Command<'_>>
 fn push_shape(arguments: Shapes<'_>) -> Option<Command<'_>>
     ensures { option_map command_in result ≡ meaning.levels_shape meaning.push (forms_in arguments.entry) }
 {
-    Some(Command::Push(levels_in(arguments)?))
+    match levels_in(arguments) {
+        Some(digits) => Some(Command::Push(digits)),
+        None => None,
+    }
 }
 
 fn pop_shape(arguments: Shapes<'_>) -> Option<Command<'_>>
     ensures { option_map command_in result ≡ meaning.levels_shape meaning.pop (forms_in arguments.entry) }
 {
-    Some(Command::Pop(levels_in(arguments)?))
+    match levels_in(arguments) {
+        Some(digits) => Some(Command::Pop(digits)),
+        None => None,
+    }
 }
 
 /// The digits of a number of levels: one level where no number stands.

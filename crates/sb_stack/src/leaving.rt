@@ -11,7 +11,7 @@ ghost use Rattle.sb_stack.specs.Taking.{IsAnswered, at_start};
 
 use crate::level::Level;
 use crate::reply::{error_line, success_line};
-use crate::stack::{Mode, Stack, Step};
+use crate::stack::{Mode, Stack, Step, answered};
 use sb_sorts::number_up_to;
 use std::alloc::{AllocError, Global};
 
@@ -29,7 +29,7 @@ impl Stack {
         ensures keeps { Keeps self.old self.new }
     {
         let Some(count) = self.room_for(count) else {
-            return Ok(error_line(self.alloc, b"numeral too large")?);
+            return error_line(self.alloc, b"numeral too large");
         };
         let answer = success_line(self.alloc, self.print_success)?;
         self.open_levels(count)?;
@@ -74,7 +74,7 @@ impl Stack {
         ensures keeps { KeepsBy result self.old self.new }
     {
         let Some(count) = number_up_to(count, self.levels.len()) else {
-            return Ok(Step::Answer(error_line(self.alloc, b"no such level")?));
+            return answered(self.fail(b"no such level"));
         };
         let answer = success_line(self.alloc, self.print_success)?;
         self.leave_levels(count);

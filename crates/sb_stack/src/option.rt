@@ -8,11 +8,37 @@ ghost use Rattle.sb_script.specs.Steps.{line};
 ghost use Rattle.sb_script.specs.Symbols.{found_in};
 ghost use Rattle.sb_script.specs.Replies.{sort_of_form};
 ghost use Rattle.sb_term.specs.Symbols.{sort_in};
+ghost use Rattle.sb_stack.specs.Settings.{set_in, text_in, kept_settings, kept_texts};
 
 use crate::command::symbol_in;
 use sb_reader::Shape;
-use sb_sorts::sort_named;
+use sb_sorts::{look_up, sort_named};
 use sb_term::Sort;
+
+/// The options that are kept.
+#[derive(Clone, Copy)]
+pub(crate) enum Setting {
+    PrintSuccess,
+    ProduceModels,
+    ProduceAssumptions,
+    GlobalDeclarations,
+}
+
+/// The options that are kept, by their keywords.
+const SETTINGS: &[(&[u8], Setting)] = &[
+    (b":print-success", Setting::PrintSuccess),
+    (b":produce-models", Setting::ProduceModels),
+    (b":produce-unsat-assumptions", Setting::ProduceAssumptions),
+    (b":global-declarations", Setting::GlobalDeclarations),
+];
+
+/// The option of this keyword, where it is kept.
+pub(crate) fn setting_named(key: &[u8]) -> Option<Setting>
+    ensures set { option_map set_in result ≡ found_in kept_settings key.now }
+    ensures read { option_map text_in result ≡ found_in kept_texts key.now }
+{
+    look_up(SETTINGS, key)
+}
 
 /// Whether the logic is one of those that scripts may be in.
 pub(crate) fn is_logic(name: &[u8]) -> bool

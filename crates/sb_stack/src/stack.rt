@@ -1,11 +1,12 @@
 //! The stack.
 
-ghost use Rattle.std.specs.Prelude.{◌≡◌, ℕ, ◌≤◌, Bool, List, [], true, map, length, Result, IfOk, OnOk, OnErr};
+ghost use Rattle.std.specs.Prelude.{◌≡◌, ℕ, ◌≤◌, Bool, List, [], ◌++◌, true, map, length, Result, IfOk, OnOk, OnErr};
 ghost use Rattle.std.specs.List.{All, list_all};
 ghost use Rattle.sb_reader.specs.Entries as entries;
 ghost use Rattle.sb_reader.specs.Forms.{form_of, shape_of};
 ghost use Rattle.sb_meaning.specs.Terms as terms;
 ghost use Rattle.sb_script.specs.Faults.{Fault, unsupported};
+ghost use Rattle.sb_script.specs.Names.{name_in_text};
 ghost use Rattle.sb_script.specs.Reading.{read};
 ghost use Rattle.sb_script.specs.Scopes.{constants_in};
 ghost use Rattle.sb_script.specs.State.{State, start, live, live_terms, names_of, constants_of, fits, plain, with_assertion};
@@ -25,12 +26,12 @@ ghost use Rattle.sb_stack.specs.Keeping.{Keeps, KeepsBy, StandsFor};
 ghost use Rattle.sb_stack.specs.Speaking.{speaks_of};
 ghost use Rattle.sb_stack.specs.Stacked.{state_of, assertion_of, assertion_in, values_at, live_constants, live_in, are_words, have_levels, HasNumberBelow, without_words};
 ghost use Rattle.sb_stack.specs.Steps.{verdict_in, found, IsStep, IsMoved, IsEntry, entry_of};
-ghost use Rattle.sb_stack.specs.Taking.{IsAnswered, with_print_success, with_produce_models, with_produce_assumptions, declares, asserts};
+ghost use Rattle.sb_stack.specs.Taking.{IsAnswered, answered_in, with_print_success, with_produce_models, with_produce_assumptions, declares, asserts};
 
 use crate::command::{Command, command_of};
 use crate::constant::LiveConstant;
 use crate::level::Level;
-use crate::option::{is_logic, sort_of, truth_in};
+use crate::option::{Setting, is_logic, setting_named, sort_of, truth_in};
 use crate::reply::{
     error_line, error_line_with_name, quoted_line, refusal_text, success_line, unsupported_line,
 };
@@ -176,10 +177,7 @@ impl Stack {
     {
         match entry {
             Next::Command(form) => self.run(form),
-            Next::Refused(refusal) => Ok(Step::Answer(error_line(
-                self.alloc,
-                refusal_text(*refusal),
-            )?)),
+            Next::Refused(refusal) => answered(self.fail(refusal_text(*refusal))),
             Next::NotYet | Next::Ended(_) => unreachable!(),
         }
     }
@@ -194,11 +192,10 @@ impl Stack {
     {
         match command_of(form) {
             Some(command) => self.take(command),
-            None => Ok(Step::Answer(error_line(self.alloc, b"malformed command")?)),
+            None => answered(self.fail(b"malformed command")),
         }
     }
 
-    #[tactic(auto, using(crate::proofs::Changes::keeps_answer, crate::proofs::Changes::keeps_error, crate::proofs::Changes::keeps_check, crate::proofs::Changes::keeps_exit, crate::proofs::Changes::keeps_same))]
     fn take(&mut self, command: Command) -> Result<Step, AllocError>
         ensures ok { IfOk result
             (λ step. IsStep (meaning.step (command_in command.entry) (state_of self.old)) step (state_of self.old)
@@ -207,27 +204,52 @@ impl Stack {
         ensures keeps { KeepsBy result self.old self.new }
     {
         match command {
-            Command::SetLogic(name) => Ok(Step::Answer(self.set_logic(name)?)),
-            Command::SetOption(key, value) => Ok(Step::Answer(self.set_option(key, value)?)),
-            Command::GetOption(key) => Ok(Step::Answer(self.get_option(key)?)),
-            Command::SetInfo => Ok(Step::Answer(self.succeed()?)),
-            Command::GetInfo(key) => Ok(Step::Answer(self.get_info(key)?)),
-            Command::DeclareConstant(name, sort) => {
-                Ok(Step::Answer(self.declare_constant(name, sort)?))
-            }
-            Command::DeclareFunction(name) => Ok(Step::Answer(self.declare_function(name)?)),
-            Command::Assert(form) => Ok(Step::Answer(self.assert(form)?)),
-            Command::Push(count) => Ok(Step::Answer(self.push(count)?)),
+            Command::SetLogic(name) => answered(self.set_logic(name)),
+            Command::SetOption(key, value) => answered(self.set_option(key, value)),
+            Command::GetOption(key) => answered(self.get_option(key)),
+            Command::SetInfo => answered(self.succeed()),
+            Command::GetInfo(key) => answered(self.get_info(key)),
+            Command::DeclareConstant(name, sort) => answered(self.declare_constant(name, sort)),
+            Command::DeclareFunction(name) => answered(self.declare_function(name)),
+            Command::Assert(form) => answered(self.assert(form)),
+            Command::Push(count) => answered(self.push(count)),
             Command::Pop(count) => self.pop(count),
             Command::CheckSat => Ok(Step::Check),
-            Command::GetModel => Ok(Step::Answer(self.get_model()?)),
-            Command::GetValue(forms) => Ok(Step::Answer(self.get_value(forms)?)),
-            Command::Echo(text) => Ok(Step::Answer(quoted_line(self.alloc, text)?)),
+            Command::GetModel => answered(self.get_model()),
+            Command::GetValue(forms) => answered(self.get_value(forms)),
+            Command::Echo(text) => answered(self.echo(text)),
             Command::ResetAssertions => self.reset_assertions(),
             Command::Reset => self.reset(),
             Command::Exit => self.exit(),
-            Command::Another => Ok(Step::Answer(unsupported_line(self.alloc)?)),
+            Command::Another => answered(self.leave_out()),
         }
+    }
+
+    /// Fails with a message.
+    pub(crate) fn fail(&self, message: &[u8]) -> Result<Vec<u8>, AllocError>
+        ensures { IfOk result
+            (λ text. IsAnswered (steps.fails message.now (state_of self.now)) text (state_of self.now)
+            (state_of self.now)) }
+    {
+        error_line(self.alloc, message)
+    }
+
+    /// Answers to what is left out.
+    pub(crate) fn leave_out(&self) -> Result<Vec<u8>, AllocError>
+        ensures { IfOk result
+            (λ text. IsAnswered (steps.is_unsupported (state_of self.now)) text (state_of self.now)
+            (state_of self.now)) }
+    {
+        unsupported_line(self.alloc)
+    }
+
+    /// Answers with a text, between its quotes.
+    fn echo(&self, text: &[u8]) -> Result<Vec<u8>, AllocError>
+        ensures { IfOk result
+            (λ answer. IsAnswered (steps.answers (steps.line (steps.quoted text.now)) (state_of self.now)) answer
+            (state_of self.now) (state_of self.now)) }
+    {
+        quoted_line(self.alloc, text)
     }
 
     fn set_logic(&mut self, name: &[u8]) -> Result<Vec<u8>, AllocError>
@@ -238,10 +260,10 @@ impl Stack {
         ensures keeps { Keeps self.old self.new }
     {
         if self.logic_set {
-            return Ok(error_line(self.alloc, b"logic already set")?);
+            return error_line(self.alloc, b"logic already set");
         }
         if !is_logic(name) {
-            return Ok(unsupported_line(self.alloc)?);
+            return unsupported_line(self.alloc);
         }
         let answer = success_line(self.alloc, self.print_success)?;
         self.logic_set = true;
@@ -256,16 +278,12 @@ impl Stack {
         ensures err { OnErr result (state_of self.new ≡ state_of self.old) }
         ensures keeps { Keeps self.old self.new }
     {
-        if key == b":print-success".as_slice() {
-            self.set_print_success(value)
-        } else if key == b":produce-models".as_slice() {
-            self.set_produce_models(value)
-        } else if key == b":produce-unsat-assumptions".as_slice() {
-            self.set_produce_assumptions(value)
-        } else if key == b":global-declarations".as_slice() {
-            self.set_global_declarations(value)
-        } else {
-            Ok(unsupported_line(self.alloc)?)
+        match setting_named(key) {
+            Some(Setting::PrintSuccess) => self.set_print_success(value),
+            Some(Setting::ProduceModels) => self.set_produce_models(value),
+            Some(Setting::ProduceAssumptions) => self.set_produce_assumptions(value),
+            Some(Setting::GlobalDeclarations) => self.set_global_declarations(value),
+            None => self.leave_out(),
         }
     }
 
@@ -279,7 +297,7 @@ impl Stack {
         ensures keeps { Keeps self.old self.new }
     {
         let Some(printed) = truth_in(value) else {
-            return Ok(error_line(self.alloc, b"bad option value")?);
+            return error_line(self.alloc, b"bad option value");
         };
         let answer = success_line(self.alloc, printed)?;
         self.print_success = printed;
@@ -295,7 +313,7 @@ impl Stack {
         ensures keeps { Keeps self.old self.new }
     {
         let Some(produced) = truth_in(value) else {
-            return Ok(error_line(self.alloc, b"bad option value")?);
+            return error_line(self.alloc, b"bad option value");
         };
         let answer = success_line(self.alloc, self.print_success)?;
         self.produce_models = produced;
@@ -311,7 +329,7 @@ impl Stack {
         ensures keeps { Keeps self.old self.new }
     {
         let Some(produced) = truth_in(value) else {
-            return Ok(error_line(self.alloc, b"bad option value")?);
+            return error_line(self.alloc, b"bad option value");
         };
         let answer = success_line(self.alloc, self.print_success)?;
         self.produce_unsat_assumptions = produced;
@@ -325,12 +343,12 @@ impl Stack {
             (state_of self.now) (state_of self.now)) }
     {
         if self.begun {
-            return Ok(error_line(self.alloc, b"option set too late")?);
+            return self.fail(b"option set too late");
         }
         match truth_in(value) {
-            Some(true) => Ok(unsupported_line(self.alloc)?),
-            Some(false) => Ok(success_line(self.alloc, self.print_success)?),
-            None => Ok(error_line(self.alloc, b"bad option value")?),
+            Some(true) => self.leave_out(),
+            Some(false) => self.succeed(),
+            None => self.fail(b"bad option value"),
         }
     }
 
@@ -339,7 +357,7 @@ impl Stack {
         ensures { IfOk result
             (λ text. IsAnswered (steps.succeeds (state_of self.now)) text (state_of self.now) (state_of self.now)) }
     {
-        Ok(success_line(self.alloc, self.print_success)?)
+        success_line(self.alloc, self.print_success)
     }
 
     fn declare_constant(&mut self, name: &[u8], sort: Shape<'_>) -> Result<Vec<u8>, AllocError>
@@ -372,7 +390,7 @@ impl Stack {
                 Ok(answer)
             }
             Err(DeclareError::AlreadyDeclared) => {
-                Ok(error_line_with_name(self.alloc, b"already declared ", name)?)
+                error_line_with_name(self.alloc, b"already declared ", name)
             }
             Err(DeclareError::NoMemory) => Err(AllocError),
         }
@@ -394,7 +412,7 @@ impl Stack {
                 Ok(answer)
             }
             Err(DeclareError::AlreadyDeclared) => {
-                Ok(error_line_with_name(self.alloc, b"already declared ", name)?)
+                error_line_with_name(self.alloc, b"already declared ", name)
             }
             Err(DeclareError::NoMemory) => Err(AllocError),
         }
@@ -409,7 +427,7 @@ impl Stack {
     {
         match self.read(form) {
             Ok(term) => self.assert_term(term),
-            Err(fault) => self.refuse_term(fault),
+            Err(fault) => self.refuse_term(&fault),
         }
     }
 
@@ -434,7 +452,7 @@ impl Stack {
         ensures keeps { Keeps self.old self.new }
     {
         if self.table.sort(term) != Sort::Bool {
-            return Ok(error_line(self.alloc, b"wrong sort")?);
+            return error_line(self.alloc, b"wrong sort");
         }
         let answer = success_line(self.alloc, self.print_success)?;
         self.add_assertion(Some(term))?;
@@ -442,27 +460,32 @@ impl Stack {
     }
 
     /// Answers a form that is no term. One that is left out leaves a mark.
-    fn refuse_term(&mut self, fault: ReadFault) -> Result<Vec<u8>, AllocError>
-        ensures ok { IfOk result (λ text. (reading : Result terms.Term Fault) → Faults reading fault
+    fn refuse_term(&mut self, fault: &ReadFault) -> Result<Vec<u8>, AllocError>
+        ensures ok { IfOk result (λ text. (reading : Result terms.Term Fault) → Faults reading fault.now
             → IsAnswered (asserts reading (state_of self.old)) text (state_of self.old) (state_of self.new)) }
         ensures err { OnErr result (state_of self.new ≡ state_of self.old) }
         ensures keeps { Keeps self.old self.new }
     {
         match fault {
-            ReadFault::UnknownSymbol(name) => Ok(error_line_with_name(
-                self.alloc,
-                b"unknown symbol ",
-                &name,
-            )?),
-            ReadFault::WrongSort => Ok(error_line(self.alloc, b"wrong sort")?),
-            ReadFault::WrongCount => Ok(error_line(self.alloc, b"wrong number of arguments")?),
-            ReadFault::BadIndex => Ok(error_line(self.alloc, b"bad index")?),
-            ReadFault::NumeralTooLarge => Ok(error_line(self.alloc, b"numeral too large")?),
+            ReadFault::UnknownSymbol(name) => self.fail_with_name(b"unknown symbol ", name),
+            ReadFault::WrongSort => self.fail(b"wrong sort"),
+            ReadFault::WrongCount => self.fail(b"wrong number of arguments"),
+            ReadFault::BadIndex => self.fail(b"bad index"),
+            ReadFault::NumeralTooLarge => self.fail(b"numeral too large"),
             ReadFault::Unsupported => self.leave_mark(),
-            ReadFault::BadLiteral => Ok(error_line(self.alloc, b"bad token")?),
-            ReadFault::Malformed => Ok(error_line(self.alloc, b"malformed command")?),
+            ReadFault::BadLiteral => self.fail(b"bad token"),
+            ReadFault::Malformed => self.fail(b"malformed command"),
             ReadFault::NoMemory => Err(AllocError),
         }
+    }
+
+    /// Fails with a message and a name.
+    pub(crate) fn fail_with_name(&self, message: &[u8], name: &[u8]) -> Result<Vec<u8>, AllocError>
+        ensures { IfOk result
+            (λ text. IsAnswered (steps.fails (message.now ++ name_in_text name.now) (state_of self.now)) text
+            (state_of self.now) (state_of self.now)) }
+    {
+        error_line_with_name(self.alloc, message, name)
     }
 
     /// Puts an assertion behind the others, on the innermost level: a term of sort Bool, or a mark.
@@ -493,6 +516,7 @@ impl Stack {
         Ok(answer)
     }
 
+    /// Ends the run.
     fn exit(&self) -> Result<Step, AllocError>
         ensures { IfOk result
             (λ step. IsStep (steps.exits (steps.success (state_of self.now))) step (state_of self.now)
@@ -599,5 +623,15 @@ impl Stack {
                 b"unsupported\n"
             }
         }
+    }
+}
+
+/// The step of a command that is answered.
+pub(crate) fn answered(text: Result<Vec<u8>, AllocError>) -> Result<Step, AllocError>
+    ensures { result ≡ answered_in text }
+{
+    match text {
+        Ok(text) => Ok(Step::Answer(text)),
+        Err(error) => Err(error),
     }
 }

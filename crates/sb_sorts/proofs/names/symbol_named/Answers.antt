@@ -1,6 +1,6 @@
 use Rattle.std.proofs.Common.{option_map, ap, ◌∙◌}
 use Rattle.sb_term.specs.Symbols.{symbol_in}
-use Rattle.sb_sorts.proofs.FoundLemmas.{found_as}
+use Rattle.sb_sorts.proofs.CallerLemmas.{found_as}
 use Rattle.sb_sorts.proofs.names.symbol_named.Goals as goal
 
 pub returns : goal.returns

@@ -6,7 +6,7 @@ use Rattle.sb_stack.proofs.command.function_from.Goals as goal
 
 pub returns-then-is_empty : goal.returns-then-is_empty
 returns-then-is_empty c =
-    let name = c.in_ok-name.name.now in
+    let name = c.in-Some.name.now in
     let sort = shape_of c.args.sort in
     let is = function_of_forms name (shapes_in c.args.sorts) sort
     ∙ ap (λ b. if b then meaning.declare_constant name sort else meaning.declare_function name)
@@ -14,11 +14,11 @@ returns-then-is_empty c =
     ap Some (sym is)
     ∙ function_named (shape_of c.args.name) (shapes_in c.args.sorts) sort name
     (sym c.are_sorts.ensures ∙ c.if-not-are_sorts.false) (sym c.is_sort.ensures ∙ c.if-not-is_sort.false)
-    c.in_ok-name.ensures
+    c.in-Some.ensures
 
 pub returns : goal.returns
 returns c =
-    let name = c.in_ok-name.name.now in
+    let name = c.in-Some.name.now in
     let sort = shape_of c.args.sort in
     let is = function_of_forms name (shapes_in c.args.sorts) sort
     ∙ ap (λ b. if b then meaning.declare_constant name sort else meaning.declare_function name)
@@ -26,4 +26,4 @@ returns c =
     ap Some (sym is)
     ∙ function_named (shape_of c.args.name) (shapes_in c.args.sorts) sort name
     (sym c.are_sorts.ensures ∙ c.if-not-are_sorts.false) (sym c.is_sort.ensures ∙ c.if-not-is_sort.false)
-    c.in_ok-name.ensures
+    c.in-Some.ensures

@@ -1,6 +1,10 @@
-use Rattle.std.proofs.Common.{reverse}
-use Rattle.sb_stack.specs.Stacked.{Stacked}
-use Rattle.sb_stack.proofs.Changes.{kept_marked, mark_step, taken_function}
+use Rattle.std.proofs.Common.{reverse, refl, ap, sym, subst, ◌∙◌}
+use Rattle.sb_script.specs.Symbols.{is_taken}
+use Rattle.sb_sorts.specs.Scopes.{ScopeNames, names_in}
+use Rattle.sb_stack.specs.Keeping.{IsKept}
+use Rattle.sb_stack.specs.Stacked.{Stacked, state_of}
+use Rattle.sb_stack.proofs.Changes.{keeps_same, kept_marked, mark_step, keeps_marked, marks_taken}
+use Rattle.sb_stack.proofs.Replying.{says, unanswered, keeps_view}
 use Rattle.sb_stack.proofs.stack.Stack.declare_function.Goals as goal
 
 pub invariant_of-self : goal.invariant_of-self
@@ -8,28 +12,17 @@ invariant_of-self c =
     kept_marked c.self.inside.scope c.mark.new.self c.args.name.now c.self.inside.table
     c.self.inside.assertions.items (reverse c.self.inside.levels.items) c.in-Ok.ensures.ok.0 c.self.invariant
 
-pub returns-in-Ok-clause-ok : goal.returns-in-Ok-clause-ok
-returns-in-Ok-clause-ok c =
-    let kept : Stacked = record {
-      logic_set = c.self.inside.logic_set;
-      begun = c.self.inside.begun;
-      print_success = c.self.inside.print_success;
-      produce_models = c.self.inside.produce_models;
-      produce_unsat_assumptions = c.self.inside.produce_unsat_assumptions;
-      scope = c.self.inside.scope;
-      mode = c.self.inside.mode;
-      words = c.self.inside.words.items;
-      truths = c.self.inside.truths.items;
-      table = c.self.inside.table;
-      assertions = c.self.inside.assertions.items;
-      levels = reverse c.self.inside.levels.items;
-    } in
-    rw (← c.self.view_is)
-    (mark_step kept c.args.name.now c.mark.new.self c.in_ok-answer.answer c.self.invariant c.in-Ok.ensures.ok.1
-    c.in-Ok.ensures.ok.0 c.in_ok-answer.ensures)
+pub invariant_of-self-in-Err-AlreadyDeclared : goal.invariant_of-self-in-Err-AlreadyDeclared
+invariant_of-self-in-Err-AlreadyDeclared c =
+    subst (λ (s : ScopeNames). IsKept s c.self.inside.table c.self.inside.assertions.items
+    (reverse c.self.inside.levels.items)) (sym c.in-Err-AlreadyDeclared.ensures.err) c.self.invariant
 
-pub returns-in-Err-AlreadyDeclared-clause-ok : goal.returns-in-Err-AlreadyDeclared-clause-ok
-returns-in-Err-AlreadyDeclared-clause-ok c =
+pub returns-in_err-answer : goal.returns-in_err-answer
+returns-in_err-answer c =
+    let k = c.args.self.now in unanswered _ c.from_residual.result k k refl c.from_residual.ensures.0
+
+pub returns-in-Ok : goal.returns-in-Ok
+returns-in-Ok c =
     let kept : Stacked = record {
       logic_set = c.self.inside.logic_set;
       begun = c.self.inside.begun;
@@ -44,7 +37,54 @@ returns-in-Err-AlreadyDeclared-clause-ok c =
       assertions = c.self.inside.assertions.items;
       levels = reverse c.self.inside.levels.items;
     } in
-    rw (← c.self.view_is)
-    (taken_function kept c.args.name.now c.mark.new.self c.in_ok-error_line_with_name-in-Err-AlreadyDeclared.field-0
-    (c.in-Err-AlreadyDeclared.ensures.taken c.in-Err-AlreadyDeclared.field-0-is) c.in-Err-AlreadyDeclared.ensures.err
-    c.in_ok-error_line_with_name-in-Err-AlreadyDeclared.ensures)
+    record {
+      ok = rw (← c.self.view_is)
+          (mark_step kept c.args.name.now c.mark.new.self c.in_ok-answer.answer c.self.invariant
+          c.in-Ok.ensures.ok.1 c.in-Ok.ensures.ok.0 c.in_ok-answer.ensures);
+      err = tt;
+      keeps = keeps_view kept c.args.self.now _ c.self.view_is
+          (keeps_marked kept c.mark.new.self c.args.name.now c.in-Ok.ensures.ok.0);
+    }
+
+pub returns-in-Err-AlreadyDeclared : goal.returns-in-Err-AlreadyDeclared
+returns-in-Err-AlreadyDeclared c =
+    let kept : Stacked = record {
+      logic_set = c.self.inside.logic_set;
+      begun = c.self.inside.begun;
+      print_success = c.self.inside.print_success;
+      produce_models = c.self.inside.produce_models;
+      produce_unsat_assumptions = c.self.inside.produce_unsat_assumptions;
+      scope = c.self.inside.scope;
+      mode = c.self.inside.mode;
+      words = c.self.inside.words.items;
+      truths = c.self.inside.truths.items;
+      table = c.self.inside.table;
+      assertions = c.self.inside.assertions.items;
+      levels = reverse c.self.inside.levels.items;
+    } in
+    let e = c.in-Err-AlreadyDeclared.ensures in
+    let k = c.args.self.now in
+    let same = ap (λ (s : ScopeNames). record kept { scope = s }) e.err ∙ c.self.view_is in
+    let taken = ap (λ (s : Stacked). is_taken (names_in s.scope) c.args.name.now) (sym c.self.view_is)
+    ∙ e.taken c.in-Err-AlreadyDeclared.field-0-is in
+    says _ _ c.error_line_with_name.result k _ same (marks_taken k c.args.name.now taken)
+    c.error_line_with_name.ensures
+
+pub returns : goal.returns
+returns c =
+    let kept : Stacked = record {
+      logic_set = c.self.inside.logic_set;
+      begun = c.self.inside.begun;
+      print_success = c.self.inside.print_success;
+      produce_models = c.self.inside.produce_models;
+      produce_unsat_assumptions = c.self.inside.produce_unsat_assumptions;
+      scope = c.self.inside.scope;
+      mode = c.self.inside.mode;
+      words = c.self.inside.words.items;
+      truths = c.self.inside.truths.items;
+      table = c.self.inside.table;
+      assertions = c.self.inside.assertions.items;
+      levels = reverse c.self.inside.levels.items;
+    } in
+    let e = ap (λ (s : ScopeNames). record kept { scope = s }) c.in-Err-NoMemory.ensures.err ∙ c.self.view_is in
+    record { ok = tt; err = ap state_of e; keeps = keeps_view _ _ _ e (keeps_same _) }

@@ -1,31 +1,28 @@
-use Rattle.std.proofs.Common.{reverse, length, codes, [], if◌then◌else◌, arith, ap, sym, ◌∙◌}
+use Rattle.std.proofs.Common.{length, codes, [], if◌then◌else◌, arith, refl, ap, sym, ◌∙◌}
 use Rattle.std.proofs.lemmas.List.{length-reverse}
+use Rattle.std.proofs.lemmas.Result.{IfOk-weaker}
 use Rattle.sb_script.specs.Steps.{line}
 use Rattle.sb_script.specs.Texts.{number_of}
-use Rattle.sb_stack.specs.Stacked.{Stacked}
+use Rattle.sb_script.specs.Replies.{pop}
+use Rattle.sb_stack.specs.Stacked.{Stacked, state_of}
+use Rattle.sb_stack.specs.Taking.{IsAnswered}
 use Rattle.sb_stack.proofs.Lefts.{too_few, pop_step}
+use Rattle.sb_stack.proofs.Replying.{unchanged, takes_reply, takes_failed}
 use Rattle.sb_stack.proofs.stack.Stack.pop.Goals as goal
 
-pub returns-in_default-clause-ok : goal.returns-in_default-clause-ok
-returns-in_default-clause-ok c =
-    let kept : Stacked = record {
-      logic_set = c.self.inside.logic_set;
-      begun = c.self.inside.begun;
-      print_success = c.self.inside.print_success;
-      produce_models = c.self.inside.produce_models;
-      produce_unsat_assumptions = c.self.inside.produce_unsat_assumptions;
-      scope = c.self.inside.scope;
-      mode = c.self.inside.mode;
-      words = c.self.inside.words.items;
-      truths = c.self.inside.truths.items;
-      table = c.self.inside.table;
-      assertions = c.self.inside.assertions.items;
-      levels = reverse c.self.inside.levels.items;
-    } in
-    let count = c.len.ensures ∙ c.self.inside.levels.ok.0 ∙ sym (length-reverse c.self.inside.levels.items) in
-    rw (← c.self.view_is)
-    (too_few kept (number_of c.args.count.now) c.in_ok-error_line.field-0 (omega (arith, c.in_default.ensures, count))
-    c.in_ok-error_line.ensures)
+pub returns-in_default : goal.returns-in_default
+returns-in_default c =
+    let k = c.args.self.now in
+    let n = number_of c.args.count.now in
+    let count = c.len.ensures ∙ c.self.inside.levels.ok.0 ∙ sym (length-reverse c.self.inside.levels.items)
+    ∙ ap (λ (k : Stacked). length k.levels) c.self.view_is in
+    takes_reply _ (pop n (state_of k)) c.fail.result c.answered.result k k refl c.answered.ensures
+    (unchanged _ c.fail.result k k refl
+    (IfOk-weaker c.fail.result _ (λ text. IsAnswered (pop n (state_of k)) text (state_of k) (state_of k))
+    (λ text said. too_few k n text (omega (arith, c.in_default.ensures, count)) said.0) c.fail.ensures))
+
+pub returns-in_err-answer : goal.returns-in_err-answer
+returns-in_err-answer c = takes_failed _ c.from_residual.result c.args.self.now c.from_residual.ensures.0
 
 pub returns-clause-ok : goal.returns-clause-ok
 returns-clause-ok c =

@@ -1,4 +1,4 @@
--- What stands in a table of the code, as what stands in one of the definitions.
+-- What a caller cites of a table of the code: what stands in it, as what stands in one of the definitions.
 use Rattle.std.proofs.Common.{◌≡◌, Bool, true, false, if◌then◌else◌, List, [], ◌∷◌, map, Some, option_map, refl}
 use Rattle.sb_script.specs.Names.{Name, is_name}
 use Rattle.sb_script.specs.Symbols.{found_in}
