@@ -514,3 +514,17 @@ pub keeps_marked : (k : Stacked) (scope : scopes.ScopeNames) (name : Name) → s
 keeps_marked k scope name is =
     keeps_parts k (record k { begun = true; scope = scope; mode = mode.Plain }) refl refl refl
     (omega (arith, ap (λ (s : scopes.ScopeNames). length s.sorts) is))
+
+-- an assertion more
+pub keeps_pushed : (k : Stacked) (xs : List Assertion) (a : Assertion) → xs ≡ k.assertions ++ a ∷ []
+    → Keeps k (record k { begun = true; mode = mode.Plain; assertions = xs })
+keeps_pushed k xs a is = record {
+  extends = record { more = []; is = sym (append-nil k.table) };
+  grows = (a ∷ [], is);
+  words = refl;
+  constants = omega arith;
+}
+
+-- some more levels
+pub keeps_opened : (k : Stacked) (ls : List Level) → Keeps k (record k { mode = mode.Plain; levels = ls })
+keeps_opened k ls = keeps_parts k (record k { mode = mode.Plain; levels = ls }) refl refl refl (omega arith)

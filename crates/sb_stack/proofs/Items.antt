@@ -1,7 +1,7 @@
 -- What is asked for, item by item, and the constants of a scope, name by name.
-use Rattle.std.proofs.Common.{◌≡◌, ℕ, ◌+◌, ◌<◌, List, [], ◌∷◌, ◌++◌, Option, Some, None, option_map, map, take, drop, length, get_or, slice_get, refl, ap, sym, ◌∙◌, append_assoc}
-use Rattle.std.proofs.lemmas.List.{map-append, append-nil, drop_more, take_more}
-use Rattle.std.proofs.lemmas.Option.{slice_get_within, get_or_from_slice_get}
+use Rattle.std.proofs.Common.{◌≡◌, ℕ, ◌+◌, ◌<◌, ◌≤◌, List, [], ◌∷◌, ◌++◌, Option, Some, None, option_map, map, take, drop, length, get_or, slice_get, refl, ap, sym, ◌∙◌, arith, append_assoc}
+use Rattle.std.proofs.lemmas.List.{map-append, append-nil, drop_more, drop_all, take_more}
+use Rattle.std.proofs.lemmas.Option.{slice_get_within, get_or_from_slice_get, slice_get-get_or}
 use Rattle.sb_script.specs.Names.{Name}
 use Rattle.sb_script.specs.Scopes.{Naming, a_constant, a_definition, a_marked_name, a_term, constants_in, Constant}
 use Rattle.sb_script.specs.Replies.{all_constants}
@@ -97,3 +97,43 @@ pub no_live_step : (ns : List (Name × Named)) (i : ℕ) (name : Name) (k : Name
 no_live_step ns i name (named.Constant serial sort) old is other before = absurd (other serial sort refl)
 no_live_step ns i name named.Marked old is other before =
     before ∙ sym (append-nil _) ∙ sym (live_names_step ns i (name, named.Marked) is)
+
+-- an item that is no constant
+no_constant : (x : Item) (xs : List Item) → ((c : value.Constant) → x ≡ code.Constant c → ⊥)
+    → all_constants (map item_in (x ∷ xs)) ≡ None
+no_constant (code.Constant c) xs other = absurd (other c refl)
+no_constant (code.Unknown name) xs other = refl
+no_constant code.Malformed xs other = refl
+no_constant code.Other xs other = refl
+
+pub constants_stop : (xs : List Item) (i : ℕ) (d : Item) (front : List (Name × (ℕ × Sort))) → i < length xs
+    → ((c : value.Constant) → get_or xs i d ≡ code.Constant c → ⊥)
+    → all_constants (map item_in xs) ≡ with_front front (all_constants (map item_in (drop i xs)))
+    → None ≡ all_constants (map item_in xs)
+constants_stop xs i d front within other before =
+    sym (before ∙ ap (λ ys. with_front front (all_constants (map item_in ys))) (drop_more xs i d within)
+    ∙ ap (with_front front) (no_constant (get_or xs i d) (drop (i + 1) xs) other))
+
+pub constants_all : (xs : List Item) (i : ℕ) (front : List (Name × (ℕ × Sort))) → length xs ≤ i
+    → all_constants (map item_in xs) ≡ with_front front (all_constants (map item_in (drop i xs)))
+    → Some front ≡ all_constants (map item_in xs)
+constants_all xs i front ended before =
+    sym (before ∙ ap (λ ys. with_front front (all_constants (map item_in ys))) (drop_all i xs ended)
+    ∙ ap Some (append-nil front))
+
+-- one more item, and one less that is left
+pub items_step : {A B C : Type 0} (g : A → C) (h : B → C) (old new : List A) (x : A) (y : B) (all rest : List B)
+    (whole : List C) → new ≡ old ++ x ∷ [] → g x ≡ h y → all ≡ y ∷ rest → map g old ++ map h all ≡ whole
+    → map g new ++ map h rest ≡ whole
+items_step g h old new x y all rest whole pushed same split before =
+    ap (λ n. map g n ++ map h rest) pushed ∙ ap (λ r. r ++ map h rest) (map-append g old (x ∷ []))
+    ∙ append_assoc (map g old) (g x ∷ []) (map h rest) ∙ ap (λ z. map g old ++ (z ∷ map h rest)) same
+    ∙ sym (ap (λ ys. map g old ++ map h ys) split) ∙ before
+
+-- a place in a list has something
+no_hole : {A : Type 0} (x : A) → None ≡ Some x → ⊥
+no_hole x h = cc
+
+pub inside : {A : Type 0} (xs : List A) (i : ℕ) → i < length xs → None ≡ slice_get xs i → ⊥
+inside [] i within h = omega (arith, within)
+inside (x ∷ xs) i within h = no_hole (get_or (x ∷ xs) i x) (h ∙ slice_get-get_or (x ∷ xs) i x within)

@@ -36,3 +36,15 @@ line_step {A} {B} g f xs i d old gap new within before between done =
 pub in_quotes : (a b c d w : List ℕ) → b ≡ a ++ 34 ∷ [] → c ≡ b ++ w → d ≡ c ++ 34 ∷ [] → d ≡ a ++ (34 ∷ (w ++ 34 ∷ []))
 in_quotes a b c d w first second third = third ∙ ap (λ r. r ++ 34 ∷ []) (second ∙ ap (λ r. r ++ w) first)
     ∙ simp append_assoc
+
+-- what is appended twice
+pub appended : (old mid new xs ys : List ℕ) → mid ≡ old ++ xs → new ≡ mid ++ ys → new ≡ old ++ (xs ++ ys)
+appended old mid new xs ys first second = second ∙ ap (λ r. r ++ ys) first ∙ append_assoc old xs ys
+
+pub two_behind : (a b : ℕ) (xs : List ℕ) → xs ++ (a ∷ b ∷ []) ≡ (xs ++ a ∷ []) ++ b ∷ []
+two_behind a b [] = refl
+two_behind a b (x ∷ xs) = ap (λ r. x ∷ r) (two_behind a b xs)
+
+pub three_behind : (a b c : ℕ) (xs : List ℕ) → xs ++ (a ∷ b ∷ c ∷ []) ≡ ((xs ++ a ∷ []) ++ b ∷ []) ++ c ∷ []
+three_behind a b c [] = refl
+three_behind a b c (x ∷ xs) = ap (λ r. x ∷ r) (three_behind a b c xs)

@@ -1,6 +1,9 @@
-use Rattle.std.proofs.Common.{map, ap, ◌∙◌}
+use Rattle.std.proofs.Common.{map, ap, ◌∙◌, arith}
 use Rattle.sb_stack.specs.Values.{constant_in}
-use Rattle.sb_stack.proofs.Items.{constant_step, mark_step}
+use Rattle.sb_stack.proofs.Items.{constant_step, mark_step, inside}
+use Rattle.std.proofs.lemmas.List.{take_all}
+use Rattle.sb_script.specs.Scopes.{constants_in}
+use Rattle.sb_sorts.specs.Scopes.{naming_in}
 use Rattle.sb_stack.proofs.value.constants.Goals as goal
 use Rattle.sb_stack.proofs.value.constants.Goals.{in-Constant+in_ok-push, in_default-named}
 
@@ -21,3 +24,14 @@ loop-place-preserved c =
           ∙ mark_step names place c.in-Some.name.now c.in-Some.named (map constant_in c.loop-place.found.items)
           c.in-Some.ensures w.in_default-named.not-Constant c.loop-place.invariant
     ]
+
+pub unreachable-requires : goal.unreachable-requires
+unreachable-requires c =
+    inside c.args.scope.now.names c.loop-place.place (omega (arith, c.loop-place-test.true, c.len-place-end.ensures))
+    c.in_default.ensures
+
+pub returns : goal.returns
+returns c =
+    c.loop-place.invariant
+    ∙ ap (λ names. constants_in (map naming_in names)) (take_all c.loop-place.place c.args.scope.now.names
+    (omega (arith, c.loop-place-test.false, c.len-place-end.ensures)))

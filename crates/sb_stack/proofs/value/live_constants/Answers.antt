@@ -1,6 +1,8 @@
-use Rattle.std.proofs.Common.{map, ap, ◌∙◌}
+use Rattle.std.proofs.Common.{map, ap, ◌∙◌, arith}
 use Rattle.sb_stack.specs.Stacked.{live_in}
-use Rattle.sb_stack.proofs.Items.{live_step, no_live_step}
+use Rattle.sb_stack.proofs.Items.{live_step, no_live_step, inside}
+use Rattle.std.proofs.lemmas.List.{take_all}
+use Rattle.sb_sorts.specs.Scopes.{constants_among}
 use Rattle.sb_stack.proofs.value.live_constants.Goals as goal
 use Rattle.sb_stack.proofs.value.live_constants.Goals.{in-Constant+in_ok-push, in_default-named}
 
@@ -17,3 +19,14 @@ loop-place-preserved c =
           ∙ no_live_step names place _ c.in-Some.named (map live_in c.loop-place.found.items)
           c.in-Some.ensures w.in_default-named.not-Constant c.loop-place.invariant
     ]
+
+pub unreachable-requires : goal.unreachable-requires
+unreachable-requires c =
+    inside c.args.scope.now.names c.loop-place.place (omega (arith, c.loop-place-test.true, c.len-place-end.ensures))
+    c.in_default.ensures
+
+pub returns : goal.returns
+returns c =
+    c.loop-place.invariant
+    ∙ ap constants_among (take_all c.loop-place.place c.args.scope.now.names
+    (omega (arith, c.loop-place-test.false, c.len-place-end.ensures)))

@@ -1,0 +1,31 @@
+use Rattle.std.proofs.Common.{reverse, ap, ap₂, ◌∙◌}
+use Rattle.sb_script.specs.State.{without_assertions}
+use Rattle.sb_stack.specs.declared.stack.Mode.TheVariants as mode
+use Rattle.sb_stack.specs.Stacked.{Stacked, state_of}
+use Rattle.sb_stack.proofs.Changes.{cleared_is}
+use Rattle.sb_stack.proofs.stack.Stack.clear.Goals as goal
+
+pub returns-clause-state : goal.returns-clause-state
+returns-clause-state c =
+    let kept : Stacked = record {
+      logic_set = c.self.inside.logic_set;
+      begun = c.self.inside.begun;
+      print_success = c.self.inside.print_success;
+      produce_models = c.self.inside.produce_models;
+      produce_unsat_assumptions = c.self.inside.produce_unsat_assumptions;
+      scope = c.self.inside.scope;
+      mode = c.self.inside.mode;
+      words = c.self.inside.words.items;
+      truths = c.self.inside.truths.items;
+      table = c.self.inside.table;
+      assertions = c.self.inside.assertions.items;
+      levels = reverse c.self.inside.levels.items;
+    } in
+    ap₂ (λ xs ls. state_of (record kept {
+      mode = mode.Plain;
+      scope = c.retract.new.self;
+      assertions = xs;
+      levels = reverse ls;
+    })) c.clear.ensures.items c.clear-2.ensures.items
+    ∙ cleared_is kept c.retract.new.self c.retract.ensures
+    ∙ ap (λ (k : Stacked). without_assertions (state_of k)) c.self.view_is

@@ -1,0 +1,14 @@
+use Rattle.std.proofs.Common.{ap}
+use Rattle.sb_reader.specs.Forms.{shape_of, shapes_in}
+use Rattle.sb_script.specs.Commands.{list_of}
+use Rattle.sb_script.specs.Replies.{item_of}
+use Rattle.sb_sorts.specs.Scopes.{names_in}
+use Rattle.sb_stack.specs.Values.{item_in, with_names}
+use Rattle.sb_stack.proofs.Items.{items_step}
+use Rattle.sb_stack.proofs.value.items.Goals as goal
+
+pub loop-form-preserved : goal.loop-form-preserved
+loop-form-preserved c =
+    items_step item_in (item_of (with_names (names_in c.args.scope.now))) c.loop-form.found.items c.push.new.self.items
+    c.item_of.result (shape_of c.in-Some.form) _ (list_of (shapes_in c.in-Some.behind)) _ c.in_ok-push.ensures.items
+    c.item_of.ensures (ap list_of c.in-Some.ensures) c.loop-form.invariant
