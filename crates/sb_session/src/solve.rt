@@ -129,12 +129,11 @@ fn answer_files<W: World>(
     world.open_input(InPort::Script, script)?;
     create_proof(proof, world)?;
     let mut buffer = empty_piece(alloc)?;
-    answer_script(
-        &mut buffer,
-        &mut Feed::new(alloc),
-        &mut Session::new(alloc, proof.is_some()),
-        world,
-    )
+    let mut feed = Feed::new(alloc);
+    let mut session = Session::new(alloc, proof.is_some());
+    let outcome = answer_script(&mut buffer, &mut feed, &mut session, world);
+    drop(session);
+    outcome
 }
 
 /// Creates what takes the proof, where it has a name.

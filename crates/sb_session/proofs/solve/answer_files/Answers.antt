@@ -10,22 +10,22 @@ use Rattle.sb_session.proofs.solve.answer_files.Goals as goal
 
 pub returns-clause-ok : goal.returns-clause-ok
 returns-clause-ok g c =
-    run_from (asked_for (option_copied c.args.script) (option_copied c.args.proof)) (is_proved c.new-2.result) c.answer_script.result
+    run_from (asked_for (option_copied c.args.script) (option_copied c.args.proof)) (is_proved c.new-session.result) c.answer_script-outcome.result
     (g.W.World.outside c.args.world.now) (g.W.World.outside c.create_proof.new.world)
-    (g.W.World.outside c.answer_script.new.world)
+    (g.W.World.outside c.answer_script-outcome.new.world)
     (g.W.World.faults c.args.world.now) (g.W.World.faults c.create_proof.new.world)
-    (g.W.World.faults c.answer_script.new.world)
-    refl (c.new-2.ensures.kind ∙ (c.is_some.ensures ∙ some_mapped _ c.args.proof)) (c.in_ok-create_proof.ensures.created ∙ ap (created (option_copied c.args.proof)) c.in_ok-open_input.ensures.opened)
-    (c.in_ok-create_proof.ensures.counts ∙ c.in_ok-open_input.ensures.counts) c.answer_script.ensures.ok
-    c.answer_script.ensures.counts
+    (g.W.World.faults c.answer_script-outcome.new.world)
+    refl (c.new-session.ensures.kind ∙ (c.is_some.ensures ∙ some_mapped _ c.args.proof)) (c.in_ok-create_proof.ensures.created ∙ ap (created (option_copied c.args.proof)) c.in_ok-open_input.ensures.opened)
+    (c.in_ok-create_proof.ensures.counts ∙ c.in_ok-open_input.ensures.counts) c.answer_script-outcome.ensures.ok
+    c.answer_script-outcome.ensures.counts
 
 pub returns-clause-err : goal.returns-clause-err
 returns-clause-err g c =
-    cut_from (asked_for (option_copied c.args.script) (option_copied c.args.proof)) (is_proved c.new-2.result) c.answer_script.result
+    cut_from (asked_for (option_copied c.args.script) (option_copied c.args.proof)) (is_proved c.new-session.result) c.answer_script-outcome.result
     (g.W.World.outside c.args.world.now) (g.W.World.outside c.create_proof.new.world)
-    (g.W.World.outside c.answer_script.new.world)
-    refl (c.new-2.ensures.kind ∙ (c.is_some.ensures ∙ some_mapped _ c.args.proof)) (c.in_ok-create_proof.ensures.created ∙ ap (created (option_copied c.args.proof)) c.in_ok-open_input.ensures.opened)
-    c.answer_script.ensures.err
+    (g.W.World.outside c.answer_script-outcome.new.world)
+    refl (c.new-session.ensures.kind ∙ (c.is_some.ensures ∙ some_mapped _ c.args.proof)) (c.in_ok-create_proof.ensures.created ∙ ap (created (option_copied c.args.proof)) c.in_ok-open_input.ensures.opened)
+    c.answer_script-outcome.ensures.err
 
 pub returns-in_err-create_proof-clause-err : goal.returns-in_err-create_proof-clause-err
 returns-in_err-create_proof-clause-err g c =
