@@ -3,7 +3,7 @@ use Rattle.sb_script.specs.State.{without_assertions}
 use Rattle.sb_stack.specs.declared.stack.Mode.TheVariants as mode
 use Rattle.sb_stack.specs.Stacked.{Stacked, state_of}
 use Rattle.sb_stack.proofs.Changes.{cleared_is}
-use Rattle.sb_stack.proofs.stack.Stack.clear.Goals as goal
+use Rattle.sb_stack.proofs.stack.Stack.leave_all.Goals as goal
 
 pub returns-clause-state : goal.returns-clause-state
 returns-clause-state c =
@@ -23,9 +23,9 @@ returns-clause-state c =
     } in
     ap₂ (λ xs ls. state_of (record kept {
       mode = mode.Plain;
-      scope = c.retract.new.self;
+      scope = c.leave.new.self;
       assertions = xs;
       levels = reverse ls;
     })) c.clear.ensures.items c.clear-2.ensures.items
-    ∙ cleared_is kept c.retract.new.self c.retract.ensures
+    ∙ cleared_is kept c.leave.new.self c.leave.ensures
     ∙ ap (λ (k : Stacked). without_assertions (state_of k)) c.self.view_is
