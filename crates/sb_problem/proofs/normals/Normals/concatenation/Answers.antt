@@ -67,3 +67,7 @@ pub returns-clause-names : goal.returns-clause-names
 returns-clause-names c =
     joining_end c.args.table.now c.loop-last.arena c.args.self.now c.args.id c.loop-last.left.items c.loop-last.whole
     c.loop-last.invariant.0 (none_left c.loop-last.left c.in_default.ensures.cases.0)
+
+pub returns-in_err-whole-in-Made-clause-extends : goal.returns-in_err-whole-in-Made-clause-extends
+returns-in_err-whole-in-Made-clause-extends c =
+    extends_more _ _ _ c.loop-last.invariant.1 c.in_err-whole-in-Made.ensures.extends

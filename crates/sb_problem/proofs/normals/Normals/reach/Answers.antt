@@ -12,3 +12,11 @@ loop-id-preserved c = (
       (omega (arith, c.in_ok-next.ensures, c.requires.known)) c.in_ok-known.ensures.is,
   extends_more _ _ _ c.loop-id.invariant.1 c.in_ok-known.ensures.extends,
 )
+
+pub returns-in_err-known-clause-extends : goal.returns-in_err-known-clause-extends
+returns-in_err-known-clause-extends c =
+    extends_more _ _ _ c.loop-id.invariant.1 c.in_err-known.ensures.extends
+
+pub returns-in_err-push-clause-extends : goal.returns-in_err-push-clause-extends
+returns-in_err-push-clause-extends c =
+    extends_more _ _ _ c.loop-id.invariant.1 c.in_ok-known.ensures.extends

@@ -1,5 +1,5 @@
 use Rattle.sb_problem.specs.declared.normals.Known.TheVariants as known
-use Rattle.sb_problem.proofs.Keeping.{known_at, normals_grown, normals_set}
+use Rattle.sb_problem.proofs.Keeping.{known_at, normals_grown, normals_set, told, told_at, other_or_spelled}
 use Rattle.sb_problem.proofs.normals.Normals.regex.Goals as goal
 
 pub concatenation-requires-clause-kind : goal.concatenation-requires-clause-kind
@@ -33,3 +33,9 @@ returns-in_ok-regex-in-Concatenation-clause-normals c =
     c.number-in-Concatenation.result c.args.id (known.Made c.in_ok-regex-in-Concatenation.regex) c.requires.normals
     c.in_ok-regex-in-Concatenation.ensures.extends c.self.view_is c.number-in-Concatenation.ensures c.requires.known
     ((rw c.in-Concatenation.is at k).kind, c.in_ok-regex-in-Concatenation.ensures.names)
+
+pub returns-in-Other-clause-number : goal.returns-in-Other-clause-number
+returns-in-Other-clause-number c =
+    told_at c.args.table.now c.args.self.now c.self.inside.known.items c.number.result c.args.id c.index.result.now
+    (told c.args.table.now c.args.arena.now c.args.self.now c.requires.normals) c.self.view_is c.number.ensures
+    c.requires.known c.index.ensures (other_or_spelled c.index.result.now c.in-Other.is)

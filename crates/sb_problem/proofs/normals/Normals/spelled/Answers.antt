@@ -1,6 +1,7 @@
 use Rattle.sb_term.specs.Numbered.{term_at}
 use Rattle.sb_problem.specs.declared.normals.Known.TheVariants as known
-use Rattle.sb_problem.proofs.Keeping.{known_at, literal_is_none, normals_set}
+use Rattle.sb_problem.proofs.Keeping.{known_at, literal_is_none, normals_set, normals_grown}
+use Rattle.std.proofs.lemmas.Result.{IfOk-from_err}
 use Rattle.sb_problem.proofs.normals.Normals.spelled.Goals as goal
 
 pub returns-in-Spelled-clause-number : goal.returns-in-Spelled-clause-number
@@ -19,3 +20,23 @@ returns-clause-normals c =
     c.number-2.result c.args.id (known.Spelled c.in-Some.regex) c.requires.normals c.in_ok-regex.ensures.extends
     c.self.view_is c.number-2.ensures c.requires.known
     (literal_is_none (term_at c.args.table.now c.args.id) found.0, found)
+
+pub returns-in_err-regex : goal.returns-in_err-regex
+returns-in_err-regex c =
+    let e = c.in_err-regex.ensures in
+    record {
+      number = IfOk-from_err c.from_residual.result _ c.from_residual.ensures.0;
+      extends = e.extends;
+      normals = normals_grown c.args.table.now c.args.arena.now c.of_word.new.arena c.args.self.now e.extends
+          c.requires.normals;
+    }
+
+pub returns-in_default-2 : goal.returns-in_default-2
+returns-in_default-2 c =
+    let e = c.in_ok-regex.ensures in
+    record {
+      number = rw c.in_default-2.is at e.number;
+      extends = e.extends;
+      normals = normals_grown c.args.table.now c.args.arena.now c.of_word.new.arena c.args.self.now e.extends
+          c.requires.normals;
+    }
