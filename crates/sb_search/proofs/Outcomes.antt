@@ -1,8 +1,12 @@
 -- How turns go on, and what some turns make of the search together.
-use Rattle.std.proofs.Common.{◌≡◌, ℕ, ◌+◌, ◌-◌, ◌<◌, ◌≤◌, ltb, length, List, [], ◌∷◌, ◌++◌, Option, Some, None, Result, Err, refl, sym, ◌∙◌, ap, subst, inl, inr, arith, append_assoc}
-use Rattle.std.proofs.lemmas.Bool.{cases_Bool, ltb-true, ltb-false}
+use Rattle.std.proofs.Common.{◌≡◌, ◌≢◌, ℕ, ◌+◌, ◌-◌, ◌<◌, ◌≤◌, Bool, true, false, ltb, length, List, [], ◌∷◌, ◌++◌, Option, Some, None, Result, Err, refl, sym, ◌∙◌, ap, subst, inl, inr, arith, append_assoc}
+use Rattle.std.specs.Result.{IsErrAnd}
+use Rattle.std.proofs.lemmas.Result.{err_from_is_err_and}
+use Rattle.std.proofs.lemmas.Bool.{cases_Bool, ltb-true, ltb-false, false≢true}
+use Rattle.std.proofs.lemmas.Option.{none-some, same_Some}
 use Rattle.std.proofs.lemmas.List.{append-nil, length-append}
 use Rattle.sb_lit.specs.declared.clause.Lit.{Lit}
+use Rattle.sb_lit.specs.declared.clause.ClauseId.{ClauseId}
 use Rattle.sb_lit.specs.Budgets.{Spending}
 use Rattle.sb_lit.specs.Kept.{Kept}
 use Rattle.sb_trail.specs.declared.assigned.Assigned.{Assigned}
@@ -10,10 +14,12 @@ use Rattle.sb_trail.specs.Assignments.{current_level}
 use Rattle.sb_clauses.specs.Propagation.{State}
 use Rattle.sb_proof.specs.declared.tape.TapeFault.{TapeFault}
 use Rattle.sb_proof.specs.declared.tape.TapeFault.TheVariants as fault
-use Rattle.sb_search.specs.Asking.{Measure, Falls, CountsFaults, decided}
-use Rattle.sb_search.specs.Found.{GrowsTo}
+use Rattle.sb_analyze.specs.Reasons.{AreReasoned}
+use Rattle.sb_search.specs.Asking.{Measure, Falls, CountsFaults, decided, with_lemma}
+use Rattle.sb_search.specs.Found.{GrowsTo, IsFound}
 use Rattle.sb_search.specs.Searching.{IsSearching, IsTurned, GoesOn, IsSpentOn, IsNoWorse, IsBetter, IsRound, Continues}
 use Rattle.sb_search.specs.declared.found.Found.{Found}
+use Rattle.sb_search.specs.declared.found.Found.TheVariants as found
 use Rattle.sb_search.specs.declared.theory.Checked.TheVariants as checked
 use Rattle.sb_search.specs.declared.turn.Turn.{Turn}
 use Rattle.sb_search.specs.declared.turn.Turn.TheVariants as turn
@@ -83,6 +89,115 @@ went_on wanted assumptions levels next old new before after most now l h is_new 
             (omega (arith, length-append old.trail.literals (e ∷ []), within)),
       );
     }
+
+-- a turn that ends the search
+pub ended : (wanted : List ℕ) (assumptions : List Lit) (levels next : ℕ) (search : State) (before after : Spending)
+    (most now : ℕ) (f : Found) → AreReasoned search.kept [] search.trail.literals → IsSpentOn before after
+    → IsFound wanted assumptions search after f
+    → IsTurned wanted assumptions levels next search search before after most now (turn.Ends f)
+ended wanted assumptions levels next search before after most now f reasoned spends is_found = record {
+  grows = ([], sym (append-nil search.kept));
+  spends = spends;
+  goes_on = (is_found, reasoned);
+}
+
+-- a lemma was taken
+pub taken : (wanted : List ℕ) (assumptions : List Lit) (levels next : ℕ) (old new : State) (before after : Spending)
+    (most now : ℕ) (clause : List Lit) → IsSearching wanted assumptions levels next new
+    → new.kept ≡ with_lemma old.kept clause → IsSpentOn before after → (after.spent ≡ before.spent → now < most)
+    → IsTurned wanted assumptions levels next old new before after most now turn.Moves
+taken wanted assumptions levels next old new before after most now clause h kept spends falls = record {
+  grows = (Some (record { literals = clause; level = 0 }) ∷ [], kept);
+  spends = spends;
+  goes_on = (
+    h,
+    elim (cases_Bool (ltb before.spent after.spent)) [
+      | inl more ↦ inl (ltb-true before.spent after.spent more)
+      | inr all ↦
+          let level : after.spent ≡ before.spent =
+          omega (arith, ltb-false before.spent after.spent all, spends.spent) in
+          inr (level, falls level)
+    ],
+  );
+}
+
+-- which turns find no values
+abbrev is_sat : Turn → Bool
+is_sat (turn.Ends found.Sat) = true
+is_sat (turn.Ends (found.Unsat id)) = false
+is_sat (turn.Ends found.Spent) = false
+is_sat turn.Decides = false
+is_sat turn.Moves = false
+
+pub spent_no_sat : turn.Ends found.Spent ≢ turn.Ends found.Sat
+spent_no_sat e = false≢true (ap is_sat e)
+
+pub decides_no_sat : turn.Decides ≢ turn.Ends found.Sat
+decides_no_sat e = false≢true (ap is_sat e)
+
+pub moves_no_sat : turn.Moves ≢ turn.Ends found.Sat
+moves_no_sat e = false≢true (ap is_sat e)
+
+abbrev found_of : Turn → Found
+found_of (turn.Ends f) = f
+found_of turn.Decides = found.Spent
+found_of turn.Moves = found.Spent
+
+pub ends_no_sat : (f : Found) → f ≢ found.Sat → turn.Ends f ≢ turn.Ends found.Sat
+ends_no_sat f never e = never (ap found_of e)
+
+abbrev is_found_sat : Found → Bool
+is_found_sat found.Sat = true
+is_found_sat (found.Unsat id) = false
+is_found_sat found.Spent = false
+
+pub unsat_no_sat : (id : ClauseId) → found.Unsat id ≢ found.Sat
+unsat_no_sat id e = false≢true (ap is_found_sat e)
+
+pub found_spent_no_sat : found.Spent ≢ found.Sat
+found_spent_no_sat e = false≢true (ap is_found_sat e)
+
+-- an answer, and none
+pub some_no : {f : Found} → Some f ≢ None
+some_no {f = f} e = none-some f (sym e)
+
+pub no_some : {f : Found} → None ≢ Some f
+no_some {f = f} e = none-some f e
+
+pub ends_is : (f h : Found) → Some f ≡ Some h → turn.Ends f ≡ turn.Ends h
+ends_is f h e = ap (λ (x : Found). turn.Ends x) (same_Some f h e)
+
+-- what is spent by no step, by a step, and where all was spent
+pub spent_none : (budget : Spending) → IsSpentOn budget budget
+spent_none budget =
+    record { limit = refl; spent = omega arith; within = λ more. absurd (omega (arith, more)) }
+
+pub spent_same : (before after : Spending) → after ≡ before → IsSpentOn before after
+spent_same before after same = subst (λ (b : Spending). IsSpentOn before b) (sym same) (spent_none before)
+
+pub spent_one : (before after : Spending) → after ≡ record before { spent = before.spent + 1 }
+    → before.spent < before.limit → IsSpentOn before after
+spent_one before after is room =
+    subst (λ (b : Spending). IsSpentOn before b) (sym is)
+    (record { limit = refl; spent = omega arith; within = λ more. omega (arith, room) })
+
+pub spent_more : (before after : Spending) → after ≡ record before { spent = before.spent + 1 }
+    → before.spent < after.spent
+spent_more before after is = omega (arith, ap (λ (b : Spending). b.spent) is)
+
+pub all_spent : (before after : Spending) → after ≡ before → before.spent ≡ before.limit → after.spent ≡ after.limit
+all_spent before after same all = subst (λ (b : Spending). b.spent ≡ b.limit) (sym same) all
+
+-- a turn that learned
+pub learned_turns : (wanted : List ℕ) (assumptions : List Lit) (levels next : ℕ) (old new : State)
+    (before after : Spending) (most now : ℕ) → IsSearching wanted assumptions levels next new
+    → GrowsTo old.kept new.kept → after ≡ record before { spent = before.spent + 1 } → before.spent < before.limit
+    → IsTurned wanted assumptions levels next old new before after most now turn.Moves
+learned_turns wanted assumptions levels next old new before after most now h grows is room = record {
+  grows = grows;
+  spends = spent_one before after is room;
+  goes_on = (h, inl (spent_more before after is));
+}
 
 no_worse_after : (before after : Spending) (most between now : ℕ) → between ≤ most
     → IsNoWorse before after between now → IsNoWorse before after most now
@@ -247,6 +362,20 @@ counts_on {A = A} {B = B} r q e y old middle new is_r is_q same level h =
     (subst (λ (n : ℕ). CountsFaults {A = B} (Err e) n new) level
     (counts_of A B e middle new
     (subst (λ (x : Result A TapeFault). CountsFaults x middle new) is_r h)))
+
+-- the same at the exit of a `?`, also where memory was wanted
+pub faults_on : {A B : Type 0} (r : Result A TapeFault) (q : Result B TapeFault) (e : TapeFault) (old middle new : ℕ)
+    → r ≡ Err e → IsErrAnd q (λ y. y ≡ e) → middle ≡ old → CountsFaults r middle new → CountsFaults q old new
+faults_on r q e old middle new is_r is_q level h =
+    let p = err_from_is_err_and q is_q in
+    counts_on r q e p.0 old middle new is_r p.1 p.2 level h
+
+pub faults_stay : {B : Type 0} (q : Result B TapeFault) (old new : ℕ) → IsErrAnd q (λ y. y ≡ fault.NoMemory) → new ≡ old
+    → CountsFaults q old new
+faults_stay {B = B} q old new is_q same =
+    let p = err_from_is_err_and q is_q in
+    subst (λ (x : Result B TapeFault). CountsFaults x old new)
+    (sym (p.1 ∙ ap (λ (f : TapeFault). Err f) p.2)) same
 
 -- some turns, and then some more
 pub rounds_on : (wanted wanted_now : List ℕ) (assumptions : List Lit) (levels next levels_now next_now : ℕ)

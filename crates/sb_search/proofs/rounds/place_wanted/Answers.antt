@@ -1,5 +1,7 @@
 use Rattle.std.proofs.Common.{◌∙◌, sym, arith}
 use Rattle.sb_search.proofs.Places.{places_turn, places_end}
+use Rattle.std.proofs.lemmas.Grind.{elements}
+use Rattle.std.proofs.lemmas.Result.{IfOk-from_err}
 use Rattle.sb_search.proofs.rounds.place_wanted.Goals as goal
 
 pub loop-atom-preserved : goal.loop-atom-preserved
@@ -17,3 +19,25 @@ pub returns-clause-places : goal.returns-clause-places
 returns-clause-places g c =
     places_end c.loop-atom.engine.trail.reserved (g.T.Theory.wanted c.args.theory.now) c.loop-atom.at
     (sym c.in_default.is ∙ c.wanted_at.ensures.atom) c.loop-atom.invariant.3
+
+pub loop-atom-smaller : goal.loop-atom-smaller
+loop-atom-smaller g c = grind (arith, elements)
+
+pub overflow_add-at : goal.overflow_add-at
+overflow_add-at g c = grind (arith, elements)
+
+pub returns-in_err-make_place : goal.returns-in_err-make_place
+returns-in_err-make_place g c = record {
+  kept = IfOk-from_err c.from_residual.result _ c.from_residual.ensures.0;
+  literals = IfOk-from_err c.from_residual.result _ c.from_residual.ensures.0;
+  reserved = IfOk-from_err c.from_residual.result _ c.from_residual.ensures.0;
+  places = IfOk-from_err c.from_residual.result _ c.from_residual.ensures.0;
+}
+
+pub returns-in_err-want : goal.returns-in_err-want
+returns-in_err-want g c = record {
+  kept = IfOk-from_err c.from_residual-in_err-want.result _ c.from_residual-in_err-want.ensures.0;
+  literals = IfOk-from_err c.from_residual-in_err-want.result _ c.from_residual-in_err-want.ensures.0;
+  reserved = IfOk-from_err c.from_residual-in_err-want.result _ c.from_residual-in_err-want.ensures.0;
+  places = IfOk-from_err c.from_residual-in_err-want.result _ c.from_residual-in_err-want.ensures.0;
+}

@@ -1,10 +1,12 @@
-use Rattle.std.proofs.Common.{None, refl, sym, subst, ◌∙◌, arith}
-use Rattle.std.proofs.lemmas.Result.{err_from_is_err_and}
-use Rattle.sb_search.proofs.Outcomes.{no_round, rounds_on, grows_both, counts_on}
+use Rattle.std.proofs.Common.{None, refl, sym, subst, ◌∙◌, arith, Some, Option, ap}
+use Rattle.std.proofs.lemmas.Result.{IfOk-from_err, err_from_is_err_and}
+use Rattle.sb_search.proofs.Outcomes.{no_round, rounds_on, grows_both, counts_on, faults_stay}
 use Rattle.sb_search.proofs.Following.{follows_same, follows_on, follows_in_all, refuted, core_found}
 use Rattle.sb_lit.specs.Kept.{Kept}
 use Rattle.sb_search.specs.Writing.{written}
 use Rattle.sb_search.proofs.Writes.{puts_on}
+use Rattle.sb_search.specs.Searching.{Continues}
+use Rattle.sb_search.specs.declared.found.Found.{Found}
 use Rattle.sb_search.proofs.rounds.search.Goals as goal
 
 pub loop-stage-init : goal.loop-stage-init
@@ -32,39 +34,71 @@ spend_one-requires-clause-searching g c = c.loop-stage.invariant.0.continues
 pub spend_one-requires-clause-stands : goal.spend_one-requires-clause-stands
 spend_one-requires-clause-stands g c = c.loop-stage.invariant.1
 
-pub returns-in_err-found-clause-wanted : goal.returns-in_err-found-clause-wanted
-returns-in_err-found-clause-wanted g c = c.spend_one.ensures.wanted ∙ c.loop-stage.invariant.2
+pub returns-in_err-found : goal.returns-in_err-found
+returns-in_err-found g c = record {
+  found = IfOk-from_err c.from_residual-in_err-found.result _ c.from_residual-in_err-found.ensures.0;
+  agrees = IfOk-from_err c.from_residual-in_err-found.result _ c.from_residual-in_err-found.ensures.0;
+  kept = IfOk-from_err c.from_residual-in_err-found.result _ c.from_residual-in_err-found.ensures.0;
+  follows = IfOk-from_err c.from_residual-in_err-found.result _ c.from_residual-in_err-found.ensures.0;
+  follows_by_level = IfOk-from_err c.from_residual-in_err-found.result _ c.from_residual-in_err-found.ensures.0;
+  refuted = IfOk-from_err c.from_residual-in_err-found.result _ c.from_residual-in_err-found.ensures.0;
+  reasoned = IfOk-from_err c.from_residual-in_err-found.result _ c.from_residual-in_err-found.ensures.0;
+  stands = IfOk-from_err c.from_residual-in_err-found.result _ c.from_residual-in_err-found.ensures.0;
+  limit = IfOk-from_err c.from_residual-in_err-found.result _ c.from_residual-in_err-found.ensures.0;
+  spends = IfOk-from_err c.from_residual-in_err-found.result _ c.from_residual-in_err-found.ensures.0;
+  puts = IfOk-from_err c.from_residual-in_err-found.result _ c.from_residual-in_err-found.ensures.0;
+  wanted = c.spend_one.ensures.wanted ∙ c.loop-stage.invariant.2;
+  passes = c.spend_one.ensures.passes ∙ c.loop-stage.invariant.3;
+  teaches = λ clause taught.
+      c.spend_one.ensures.teaches clause (c.loop-stage.invariant.5 clause taught);
+  counts = let p = err_from_is_err_and c.from_residual-in_err-found.result c.from_residual-in_err-found.ensures.1 in
+      counts_on c.spend_one.result c.from_residual-in_err-found.result c.in_err-found.field-0.0 p.0
+      (g.L.Tape.faults c.args.tape.now) (g.L.Tape.faults c.loop-stage.tape) (g.L.Tape.faults c.spend_one.new.tape)
+      c.in_err-found.was p.1 p.2 c.loop-stage.invariant.4 c.spend_one.ensures.counts;
+}
 
-pub returns-in_err-found-clause-passes : goal.returns-in_err-found-clause-passes
-returns-in_err-found-clause-passes g c = c.spend_one.ensures.passes ∙ c.loop-stage.invariant.3
-
-pub returns-in_err-found-clause-counts : goal.returns-in_err-found-clause-counts
-returns-in_err-found-clause-counts g c =
-    let p = err_from_is_err_and c.from_residual-in_err-found.result c.from_residual-in_err-found.ensures.1 in
-    counts_on c.spend_one.result c.from_residual-in_err-found.result c.in_err-found.field-0.0 p.0
-    (g.L.Tape.faults c.args.tape.now) (g.L.Tape.faults c.loop-stage.tape) (g.L.Tape.faults c.spend_one.new.tape)
-    c.in_err-found.was p.1 p.2 c.loop-stage.invariant.4 c.spend_one.ensures.counts
-
-pub returns-in-Some-clause-kept : goal.returns-in-Some-clause-kept
-returns-in-Some-clause-kept g c =
-    grows_both c.args.engine.now.kept c.loop-stage.engine.kept c.spend_one.new.engine.kept
-    c.loop-stage.invariant.0.grows c.in_ok-found.ensures.round.grows
-
-pub returns-in-Some-clause-limit : goal.returns-in-Some-clause-limit
-returns-in-Some-clause-limit g c = c.in_ok-found.ensures.round.spends.limit ∙ c.loop-stage.invariant.0.spends.limit
-
-pub returns-in-Some-clause-spends : goal.returns-in-Some-clause-spends
-returns-in-Some-clause-spends g c =
-    omega (arith, c.in_ok-found.ensures.round.spends.spent, c.loop-stage.invariant.0.spends.spent)
-
-pub returns-in-Some-clause-wanted : goal.returns-in-Some-clause-wanted
-returns-in-Some-clause-wanted g c = c.spend_one.ensures.wanted ∙ c.loop-stage.invariant.2
-
-pub returns-in-Some-clause-passes : goal.returns-in-Some-clause-passes
-returns-in-Some-clause-passes g c = c.spend_one.ensures.passes ∙ c.loop-stage.invariant.3
-
-pub returns-in-Some-clause-counts : goal.returns-in-Some-clause-counts
-returns-in-Some-clause-counts g c = c.in_ok-found.ensures.counts ∙ c.loop-stage.invariant.4
+pub returns-in-Some : goal.returns-in-Some
+returns-in-Some g c = record {
+  found = (subst (λ (o : Option Found). Continues (g.T.Theory.wanted c.spend_one.new.theory) c.args.assumptions.now
+      c.spend_one.new.stage.levels c.spend_one.new.stage.next c.spend_one.new.engine c.spend_one.new.budget o)
+      c.in-Some.is c.in_ok-found.ensures.round.continues).0;
+  agrees = λ is. c.in_ok-found.ensures.agrees (c.in-Some.is ∙ ap (λ (f : Found). Some f) is);
+  kept = grows_both c.args.engine.now.kept c.loop-stage.engine.kept c.spend_one.new.engine.kept
+      c.loop-stage.invariant.0.grows c.in_ok-found.ensures.round.grows;
+  follows = follows_in_all (g.T.Theory.teaches c.spend_one.new.theory) c.args.engine.now.kept c.spend_one.new.engine.kept
+      (follows_on (g.T.Theory.teaches c.loop-stage.theory) (g.T.Theory.teaches c.spend_one.new.theory) c.args.engine.now.kept
+      c.loop-stage.engine.kept c.spend_one.new.engine.kept c.spend_one.ensures.teaches c.loop-stage.invariant.6
+      c.in_ok-found.ensures.follows);
+  follows_by_level = follows_on (g.T.Theory.teaches c.loop-stage.theory) (g.T.Theory.teaches c.spend_one.new.theory) c.args.engine.now.kept
+      c.loop-stage.engine.kept c.spend_one.new.engine.kept c.spend_one.ensures.teaches c.loop-stage.invariant.6
+      c.in_ok-found.ensures.follows;
+  refuted = λ id is.
+      refuted (g.T.Theory.teaches c.spend_one.new.theory) c.args.engine.now.kept c.spend_one.new.engine.kept
+      c.args.assumptions.now id.0
+      (follows_on (g.T.Theory.teaches c.loop-stage.theory) (g.T.Theory.teaches c.spend_one.new.theory) c.args.engine.now.kept
+      c.loop-stage.engine.kept c.spend_one.new.engine.kept c.spend_one.ensures.teaches c.loop-stage.invariant.6
+      c.in_ok-found.ensures.follows)
+      (core_found (g.T.Theory.wanted c.spend_one.new.theory) c.args.assumptions.now c.spend_one.new.stage.levels
+      c.spend_one.new.stage.next c.spend_one.new.engine c.spend_one.new.budget c.in_ok-found.field-0 c.in-Some.found id
+      c.in_ok-found.ensures.round.continues c.in-Some.is is);
+  reasoned = (subst (λ (o : Option Found). Continues (g.T.Theory.wanted c.spend_one.new.theory) c.args.assumptions.now
+      c.spend_one.new.stage.levels c.spend_one.new.stage.next c.spend_one.new.engine c.spend_one.new.budget o)
+      c.in-Some.is c.in_ok-found.ensures.round.continues).1;
+  stands = c.in_ok-found.ensures.stands;
+  limit = c.in_ok-found.ensures.round.spends.limit ∙ c.loop-stage.invariant.0.spends.limit;
+  spends = omega (arith, c.in_ok-found.ensures.round.spends.spent, c.loop-stage.invariant.0.spends.spent);
+  puts = puts_on g.T.Theory.knows g.T.Theory.puts g.met.T.Theory.puts_both g.met.T.Theory.stays_known
+      c.args.assumptions.now c.args.theory.now c.loop-stage.theory c.spend_one.new.theory
+      (written c.args.engine.now.kept c.args.budget.now (g.L.Tape.told c.args.tape.now))
+      (written c.loop-stage.engine.kept c.loop-stage.budget (g.L.Tape.told c.loop-stage.tape))
+      (written c.spend_one.new.engine.kept c.spend_one.new.budget (g.L.Tape.told c.spend_one.new.tape))
+      c.loop-stage.invariant.7 c.in_ok-found.ensures.puts;
+  wanted = c.spend_one.ensures.wanted ∙ c.loop-stage.invariant.2;
+  passes = c.spend_one.ensures.passes ∙ c.loop-stage.invariant.3;
+  teaches = λ clause taught.
+      c.spend_one.ensures.teaches clause (c.loop-stage.invariant.5 clause taught);
+  counts = c.in_ok-found.ensures.counts ∙ c.loop-stage.invariant.4;
+}
 
 pub loop-stage-smaller : goal.loop-stage-smaller
 loop-stage-smaller g c =
@@ -99,43 +133,22 @@ loop-stage-preserved g c = (
       c.loop-stage.invariant.7 c.in_ok-found.ensures.puts,
 )
 
-pub returns-in_err-found-clause-teaches : goal.returns-in_err-found-clause-teaches
-returns-in_err-found-clause-teaches g c = λ clause taught.
-    c.spend_one.ensures.teaches clause (c.loop-stage.invariant.5 clause taught)
-
-pub returns-in-Some-clause-teaches : goal.returns-in-Some-clause-teaches
-returns-in-Some-clause-teaches g c = λ clause taught.
-    c.spend_one.ensures.teaches clause (c.loop-stage.invariant.5 clause taught)
-
-pub returns-in-Some-clause-follows_by_level : goal.returns-in-Some-clause-follows_by_level
-returns-in-Some-clause-follows_by_level g c =
-    follows_on (g.T.Theory.teaches c.loop-stage.theory) (g.T.Theory.teaches c.spend_one.new.theory) c.args.engine.now.kept
-    c.loop-stage.engine.kept c.spend_one.new.engine.kept c.spend_one.ensures.teaches c.loop-stage.invariant.6
-    c.in_ok-found.ensures.follows
-
-pub returns-in-Some-clause-follows : goal.returns-in-Some-clause-follows
-returns-in-Some-clause-follows g c =
-    follows_in_all (g.T.Theory.teaches c.spend_one.new.theory) c.args.engine.now.kept c.spend_one.new.engine.kept
-    (follows_on (g.T.Theory.teaches c.loop-stage.theory) (g.T.Theory.teaches c.spend_one.new.theory) c.args.engine.now.kept
-    c.loop-stage.engine.kept c.spend_one.new.engine.kept c.spend_one.ensures.teaches c.loop-stage.invariant.6
-    c.in_ok-found.ensures.follows)
-
-pub returns-in-Some-clause-refuted : goal.returns-in-Some-clause-refuted
-returns-in-Some-clause-refuted g c = λ id is.
-    refuted (g.T.Theory.teaches c.spend_one.new.theory) c.args.engine.now.kept c.spend_one.new.engine.kept
-    c.args.assumptions.now id.0
-    (follows_on (g.T.Theory.teaches c.loop-stage.theory) (g.T.Theory.teaches c.spend_one.new.theory) c.args.engine.now.kept
-    c.loop-stage.engine.kept c.spend_one.new.engine.kept c.spend_one.ensures.teaches c.loop-stage.invariant.6
-    c.in_ok-found.ensures.follows)
-    (core_found (g.T.Theory.wanted c.spend_one.new.theory) c.args.assumptions.now c.spend_one.new.stage.levels
-    c.spend_one.new.stage.next c.spend_one.new.engine c.spend_one.new.budget c.in_ok-found.field-0 c.in-Some.found id
-    c.in_ok-found.ensures.round.continues c.in-Some.is is)
-
-pub returns-in-Some-clause-puts : goal.returns-in-Some-clause-puts
-returns-in-Some-clause-puts g c =
-    puts_on g.T.Theory.knows g.T.Theory.puts g.met.T.Theory.puts_both g.met.T.Theory.stays_known
-    c.args.assumptions.now c.args.theory.now c.loop-stage.theory c.spend_one.new.theory
-    (written c.args.engine.now.kept c.args.budget.now (g.L.Tape.told c.args.tape.now))
-    (written c.loop-stage.engine.kept c.loop-stage.budget (g.L.Tape.told c.loop-stage.tape))
-    (written c.spend_one.new.engine.kept c.spend_one.new.budget (g.L.Tape.told c.spend_one.new.tape))
-    c.loop-stage.invariant.7 c.in_ok-found.ensures.puts
+pub returns-in_err-begin : goal.returns-in_err-begin
+returns-in_err-begin g c = record {
+  found = IfOk-from_err c.from_residual.result _ c.from_residual.ensures.0;
+  agrees = IfOk-from_err c.from_residual.result _ c.from_residual.ensures.0;
+  kept = IfOk-from_err c.from_residual.result _ c.from_residual.ensures.0;
+  follows = IfOk-from_err c.from_residual.result _ c.from_residual.ensures.0;
+  follows_by_level = IfOk-from_err c.from_residual.result _ c.from_residual.ensures.0;
+  refuted = IfOk-from_err c.from_residual.result _ c.from_residual.ensures.0;
+  reasoned = IfOk-from_err c.from_residual.result _ c.from_residual.ensures.0;
+  stands = IfOk-from_err c.from_residual.result _ c.from_residual.ensures.0;
+  limit = IfOk-from_err c.from_residual.result _ c.from_residual.ensures.0;
+  spends = IfOk-from_err c.from_residual.result _ c.from_residual.ensures.0;
+  puts = IfOk-from_err c.from_residual.result _ c.from_residual.ensures.0;
+  wanted = c.begin.ensures.wanted;
+  passes = c.begin.ensures.passes;
+  teaches = c.begin.ensures.teaches;
+  counts = faults_stay c.from_residual.result (g.L.Tape.faults c.args.tape.now) (g.L.Tape.faults c.args.tape.now)
+      c.from_residual.ensures.1 refl;
+}

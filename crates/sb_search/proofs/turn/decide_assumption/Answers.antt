@@ -1,7 +1,8 @@
-use Rattle.std.proofs.Common.{◌∙◌, ap, subst}
+use Rattle.std.proofs.Common.{◌∙◌, ap, subst, arith}
 use Rattle.sb_trail.specs.Assignments.{Assignments, IsTrail, current_level}
 use Rattle.sb_clauses.specs.Propagation.{State}
 use Rattle.sb_search.proofs.Turns.{searching_assumed}
+use Rattle.std.proofs.lemmas.Grind.{common_steps}
 use Rattle.sb_search.proofs.turn.decide_assumption.Goals as goal
 
 pub returns-clause-searching : goal.returns-clause-searching
@@ -13,3 +14,6 @@ returns-clause-searching c = λ wanted assumptions h among le.
     c.requires.settled
     (c.current_level-stage.ensures ∙ ap (λ (t : Assignments). current_level t.literals)
     (c.trail-after.ensures ∙ ap (λ (s : State). s.trail) c.decide.ensures)) h among le)
+
+pub returns-clause-within : goal.returns-clause-within
+returns-clause-within c = grind (arith, common_steps)

@@ -1,6 +1,7 @@
 use Rattle.std.proofs.Common.{◌≡◌, ◌∙◌, ap, subst, arith}
 use Rattle.sb_trail.specs.Assignments.{Assignments, IsTrail, current_level}
 use Rattle.sb_search.proofs.Turns.{searching_free}
+use Rattle.std.proofs.lemmas.Grind.{common_steps}
 use Rattle.sb_search.proofs.turn.decide_free.Goals as goal
 
 pub returns-clause-searching : goal.returns-clause-searching
@@ -13,3 +14,6 @@ returns-clause-searching c = λ wanted assumptions h given.
     (subst (λ (t : Assignments). IsTrail t) c.trail-trail.ensures c.literals-before.ensures.trail)
     c.requires.settled c.lower-stage.ensures.one (omega (arith, at, c.lower-stage.ensures.other))
     (λ low. c.lower-stage.ensures.is_one (omega (arith, low, at))) h given)
+
+pub returns-clause-within : goal.returns-clause-within
+returns-clause-within c = grind (arith, common_steps)

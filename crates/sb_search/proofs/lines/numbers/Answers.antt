@@ -1,0 +1,16 @@
+use Rattle.std.proofs.Common.{arith}
+use Rattle.std.proofs.lemmas.Grind.{common_steps}
+use Rattle.std.proofs.lemmas.Result.{IfOk-from_err}
+use Rattle.sb_search.proofs.lines.numbers.Goals as goal
+
+pub returns : goal.returns
+returns c = record {
+  same = grind (arith, common_steps);
+  small = grind (arith, common_steps);
+}
+
+pub returns-in_err-push : goal.returns-in_err-push
+returns-in_err-push c = record {
+  same = IfOk-from_err c.from_residual.result _ c.from_residual.ensures.0;
+  small = IfOk-from_err c.from_residual.result _ c.from_residual.ensures.0;
+}
