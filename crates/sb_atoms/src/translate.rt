@@ -21,8 +21,7 @@ use crate::atom::Atom;
 use crate::connect::signed;
 use crate::table::Atoms;
 use sb_fragment::{
-    Connective, Measures, Shape, arguments_of, compared, is_structure, membership, pair_of,
-    shape_of,
+    Connective, Measures, Shape, arguments_of, compared, membership, pair_of, shape_of,
 };
 use sb_lit::Lit;
 use sb_problem::{Normals, Pattern};
@@ -287,7 +286,7 @@ impl Atoms {
             arena.old arena.new self.old self.new }
         ensures ready { AreReady table.now measures.new normals.new arena.new self.new }
     {
-        if is_structure(self.allocator(), measures, table, id)? {
+        if measures.is_structure(table, id)? {
             self.structure(adds, measures, normals, table, arena, id)
         } else {
             Ok(None)

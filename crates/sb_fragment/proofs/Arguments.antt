@@ -1,9 +1,8 @@
 -- The arguments of a term, and pairs of them.
-use Rattle.std.proofs.Common.{◌≡◌, ℕ, zero, suc, ◌+◌, ◌<◌, ◌≤◌, Bool, true, false, ◌&&◌, nat_lt, List, [], ◌∷◌, ◌++◌, length, take, get_or, All, Option, Some, None, option_map, Vec, Global, not, is_some, MatchOption, refl, sym, ap, ◌∙◌, arith}
+use Rattle.std.proofs.Common.{◌≡◌, ℕ, zero, suc, ◌<◌, ◌≤◌, Bool, true, false, ◌&&◌, nat_lt, List, [], ◌∷◌, length, take, get_or, All, Option, Some, option_map, Vec, Global, MatchOption, refl, sym, ap, ◌∙◌, arith}
 use Rattle.std.specs.List.{list_all}
-use Rattle.std.proofs.lemmas.Bool.{and_parts, and_from, false≢true, and_right, ltb-true, lt-ltb}
-use Rattle.std.proofs.lemmas.List.{map-append, take_all, take_more}
-use Rattle.sb_facts.proofs.CallerLemmas.{all_push}
+use Rattle.std.proofs.lemmas.Bool.{and_parts, and_from, and_right, ltb-true, lt-ltb}
+use Rattle.std.proofs.lemmas.List.{take_all}
 use Rattle.sb_meaning.specs.Terms.{Term}
 use Rattle.sb_script.specs.Brought.{is_pair}
 use Rattle.sb_term.specs.Numbered.{term_at, terms_at}
@@ -50,11 +49,6 @@ words_false test ts (q ∷ ps) zero p within e h =
 words_false test ts (q ∷ ps) (suc i) p within e h =
     and_right (test (term_at ts q.0, term_at ts q.1)) _ (words_false test ts ps i p (omega (arith, within)) e h)
 
-pub no_pair : {A : Type 0} (P : Type 0) (Q : A → Type 0) (o : Option A) (b : Bool) → is_some o ≡ not b → b ≡ true
-    → MatchOption o P Q → P
-no_pair P Q None b is e h = h
-no_pair P Q (Some x) b is e h = absurd (false≢true (sym (is ∙ ap not e)))
-
 pub words_stop : (test : Term × Term → Bool) (ts us : List Term) (distinct : Bool) (is : List ℕ) (ps : List (ℕ × ℕ))
     (i : ℕ) (p : ℕ × ℕ) → ps ≡ compared distinct is → terms_at ts is ≡ us → i < length ps → p ≡ get_or ps i p
     → test (term_at ts p.0, term_at ts p.1) ≡ false → false ≡ list_all test (compared distinct us)
@@ -71,15 +65,6 @@ words_end test ts us distinct is ps i e same done h =
     ∙ ap (list_all test)
     (ap (terms_of_pairs ts) (take_all i ps done ∙ e) ∙ terms_compared ts distinct is ∙ ap (compared distinct) same)
 
-pub words_more : (test : Term × Term → Bool) (ts : List Term) (ps : List (ℕ × ℕ)) (i : ℕ) (p : ℕ × ℕ) → i < length ps
-    → p ≡ get_or ps i p → list_all test (terms_of_pairs ts (take i ps)) ≡ true
-    → test (term_at ts p.0, term_at ts p.1) ≡ true → list_all test (terms_of_pairs ts (take (i + 1) ps)) ≡ true
-words_more test ts ps i p within at h more =
-    ap (λ qs. list_all test (terms_of_pairs ts qs))
-    (take_more ps i p within ∙ ap (λ q. take i ps ++ q ∷ []) (sym at))
-    ∙ ap (list_all test) (map-append (λ q. (term_at ts q.0, term_at ts q.1)) (take i ps) (p ∷ []))
-    ∙ all_push test (terms_of_pairs ts (take i ps)) (term_at ts p.0, term_at ts p.1) h more
-
 some_not : (test : Term → Bool) (ts : List Term) (is : List ℕ) (i x : ℕ) → i < length is → x ≡ get_or is i x
     → test (term_at ts x) ≡ false → list_all test (terms_at ts is) ≡ false
 some_not test ts [] i x within at h = absurd (omega (arith, within))
@@ -93,19 +78,6 @@ pub structure_stop : (test : Term → Bool) (ts us : List Term) (is : List ℕ) 
     → i < length is → x ≡ get_or is i x → test (term_at ts x) ≡ false → false ≡ list_all test us
 structure_stop test ts us is i x same within at h =
     sym (some_not test ts is i x within at h) ∙ ap (list_all test) same
-
-pub structure_end : (test : Term → Bool) (ts us : List Term) (is : List ℕ) (i : ℕ) → terms_at ts is ≡ us
-    → length is ≤ i → list_all test (terms_at ts (take i is)) ≡ true → true ≡ list_all test us
-structure_end test ts us is i same done h =
-    sym h ∙ ap (λ js. list_all test (terms_at ts js)) (take_all i is done) ∙ ap (list_all test) same
-
-pub structure_more : (test : Term → Bool) (ts : List Term) (is : List ℕ) (i x : ℕ) → i < length is
-    → x ≡ get_or is i x → list_all test (terms_at ts (take i is)) ≡ true → test (term_at ts x) ≡ true
-    → list_all test (terms_at ts (take (i + 1) is)) ≡ true
-structure_more test ts is i x within at h more =
-    ap (λ js. list_all test (terms_at ts js)) (take_more is i x within ∙ ap (λ j. take i is ++ j ∷ []) (sym at))
-    ∙ ap (list_all test) (map-append (term_at ts) (take i is) (x ∷ []))
-    ∙ all_push test (terms_at ts (take i is)) (term_at ts x) h more
 
 pub all_at : {X : Type 0} (test : X → Bool) (xs : List X) (i : ℕ) (x : X) → list_all test xs ≡ true → i < length xs
     → x ≡ get_or xs i x → test x ≡ true

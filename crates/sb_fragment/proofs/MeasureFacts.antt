@@ -1,7 +1,7 @@
 -- Measures of terms are those that their arguments' measures give.
 use Rattle.std.proofs.Common.{◌≡◌, ℕ, suc, ◌+◌, ◌<◌, Bool, true, false, inl, inr, not, ◌&&◌, ◌==◌}
 use Rattle.std.proofs.Common.{nat_le, Some, List, [], ◌∷◌, ◌++◌, length, get_or, refl, sym, ap, ap₂}
-use Rattle.std.proofs.Common.{◌∙◌, arith, length-append}
+use Rattle.std.proofs.Common.{◌∙◌, arith, length-append, subst}
 use Rattle.std.specs.List.{All, list_all}
 use Rattle.std.proofs.lemmas.Bool.Decides.{nat_tests}
 use Rattle.std.proofs.lemmas.Option.{slice_get-get_or}
@@ -10,18 +10,24 @@ use Rattle.sb_facts.proofs.CallerLemmas.{get_push}
 use Rattle.sb_meaning.specs.Terms.{Symbol, Term, Terms, constant, word, numeral, apply, parameter, no_terms}
 use Rattle.sb_meaning.specs.Terms.{with_term, terms_of}
 use Rattle.sb_meaning.specs.Terms as symbol
-use Rattle.sb_script.specs.Brought.{is_regex, are_regexes}
+use Rattle.sb_script.specs.Brought.{is_regex, are_regexes, is_structure}
+use Rattle.sb_script.specs.Fragment.{fits}
 use Rattle.sb_script.specs.Pieces.{are_ground}
 use Rattle.sb_script.specs.Sizes.{size_of, sizes_of, has_short_words, have_short_words, is_regular}
+use Rattle.sb_script.proofs.CallerLemmas.{terms_in_of}
 use Rattle.sb_term.specs.declared.term.Term as code
 use Rattle.sb_term.specs.declared.term.Term.TheVariants as node
-use Rattle.sb_term.specs.Nodes.{node_term, ArgumentsBelow}
+use Rattle.sb_term.specs.Nodes.{node_term}
 use Rattle.sb_term.specs.Numbered.{term_at, terms_at}
 use Rattle.sb_term.specs.Symbols.{symbol_in}
+use Rattle.sb_problem.specs.Patterns.{literal_of}
+use Rattle.sb_fragment.specs.declared.fitting.Fit.{Fit}
 use Rattle.sb_fragment.specs.declared.measure.Measure.{Measure}
 use Rattle.sb_fragment.specs.Measures.{is_literal, within_limit, IsMeasure, AreMeasures}
 use Rattle.sb_fragment.specs.Measured.{is_regex_by, is_short_by, size_by, joined, no_measure, within, total}
-use Rattle.sb_fragment.specs.Measured.{applied_measure, node_measure}
+use Rattle.sb_fragment.specs.Measured.{applied_measure, node_measure, with_fit}
+use Rattle.sb_fragment.specs.Shapes.{parts_of}
+use Rattle.sb_fragment.specs.Fitting.{fit_with, term_fit, terms_fit}
 
 within_sum : (a b : ℕ) → within_limit (within_limit a + within_limit b) ≡ within_limit (a + b)
 within_sum a b = grind (arith, nat_tests)
@@ -32,6 +38,12 @@ within_next a = grind (arith, nat_tests)
 within_short : (a : ℕ) → nat_le (within_limit a) 65535 ≡ nat_le a 65535
 within_short a = grind (arith, nat_tests)
 
+pub both_moved : (a b c d : Bool) → ((a && b) && (c && d)) ≡ ((a && c) && (b && d))
+both_moved true true c d = refl
+both_moved true false true d = refl
+both_moved true false false d = refl
+both_moved false b c d = refl
+
 -- what is known of terms together
 pub record IsTotal (ts : List Term) (m : Measure) : Type 0 where
   pub word : m.is_word ≡ list_all is_literal ts
@@ -39,6 +51,8 @@ pub record IsTotal (ts : List Term) (m : Measure) : Type 0 where
   pub regex : m.is_regex ≡ are_regexes (terms_of ts)
   pub short : m.is_short ≡ have_short_words (terms_of ts)
   pub size : m.size ≡ within_limit (sizes_of (terms_of ts))
+  pub structure : m.is_structure ≡ list_all is_structure ts
+  pub fitting : m.fits ≡ (list_all is_structure ts && list_all fits ts)
 
 total_more : (t : Term) (ts : List Term) (m n : Measure) → IsMeasure t m → IsTotal ts n → IsTotal (t ∷ ts) (joined m n)
 total_more t ts m n p q = record {
@@ -47,11 +61,25 @@ total_more t ts m n p q = record {
   regex = ap₂ ◌&&◌ p.regex q.regex;
   short = ap₂ ◌&&◌ p.short q.short;
   size = ap₂ (λ a b. within_limit (a + b)) p.size q.size ∙ within_sum (size_of t) (sizes_of (terms_of ts));
+  structure = ap₂ ◌&&◌ p.structure q.structure;
+  fitting = ap₂ ◌&&◌ p.fitting q.fitting
+      ∙ both_moved (is_structure t) (fits t) (list_all is_structure ts) (list_all fits ts);
 }
 
-pub total_is : (ts : List Term) (ms : List Measure) (is : List ℕ) → AreMeasures ts ms → All (λ i. i < length ms) is
+of_none : IsTotal [] no_measure
+of_none = record {
+  word = refl;
+  constants = refl;
+  regex = refl;
+  short = refl;
+  size = refl;
+  structure = refl;
+  fitting = refl;
+}
+
+total_is : (ts : List Term) (ms : List Measure) (is : List ℕ) → AreMeasures ts ms → All (λ i. i < length ms) is
     → IsTotal (terms_at ts is) (total ms is)
-total_is ts ms [] h l = record { word = refl; constants = refl; regex = refl; short = refl; size = refl }
+total_is ts ms [] h l = of_none
 total_is ts ms (i ∷ is) h l =
     total_more (term_at ts i) (terms_at ts is) (get_or ms i no_measure) (total ms is)
     (h.each i (get_or ms i no_measure) (slice_get-get_or ms i no_measure (l 0 0 (omega arith))))
@@ -160,14 +188,16 @@ size_applied : (s : Symbol) (ts : List Term) (size : ℕ) → size ≡ within_li
 size_applied symbol.str_concat ts size k = k
 size_applied _ ts size k = ap (λ n. within_limit (1 + n)) k ∙ within_next (sizes_of (terms_of ts))
 
-applied_is : (s : Symbol) (ts : List Term) (n : ℕ) (all : Measure) → n ≡ length ts → IsTotal ts all
-    → IsMeasure (apply s (terms_of ts)) (applied_measure s n all)
-applied_is s ts n all e h = record {
+applied_is : (s : Symbol) (ts : List Term) (n : ℕ) (all : Measure) (fit : Fit) → n ≡ length ts → IsTotal ts all
+    → fit ≡ term_fit (apply s (terms_of ts)) → IsMeasure (apply s (terms_of ts)) (with_fit fit (applied_measure s n all))
+applied_is s ts n all fit e h f = record {
   word = refl;
   constants = h.constants;
   regex = by_parts n all.is_word all.is_regex e h.word h.regex ∙ sym (regex_applied s ts);
   short = short_applied s ts all.is_short all.size h.short h.size;
   size = size_applied s ts all.size h.size;
+  structure = ap (λ (x : Fit). x.is_structure) f;
+  fitting = ap (λ (x : Fit). x.fits) f;
 }
   where
     by_parts : (k : ℕ) (b c : Bool) → k ≡ length ts → b ≡ list_all is_literal ts → c ≡ are_regexes (terms_of ts)
@@ -178,25 +208,79 @@ length_terms_at : (ts : List Term) (is : List ℕ) → length is ≡ length (ter
 length_terms_at ts [] = refl
 length_terms_at ts (i ∷ is) = ap suc (length_terms_at ts is)
 
-pub measure_is : (ts : List Term) (ms : List Measure) (d : code.Term) → AreMeasures ts ms → ArgumentsBelow (length ms) d
-    → IsMeasure (node_term ts d) (node_measure ms d)
-measure_is ts ms (node.Constant n s) h l =
-    record { word = refl; constants = refl; regex = refl; short = refl; size = refl }
-measure_is ts ms (node.Word w) h l = record { word = refl; constants = refl; regex = refl; short = refl; size = refl }
-measure_is ts ms (node.Numeral n) h l =
-    record { word = refl; constants = refl; regex = refl; short = refl; size = refl }
-measure_is ts ms (node.Apply s is) h l =
-    applied_is (symbol_in s) (terms_at ts is.items) (length is.items) (total ms is.items)
-    (length_terms_at ts is.items) (total_is ts ms is.items h l)
-measure_is ts ms (node.Parameter n s) h l =
-    record { word = refl; constants = refl; regex = refl; short = refl; size = refl }
+node_is : (ts : List Term) (d : code.Term) (all : Measure) (fit : Fit) → IsTotal (parts_of (node_term ts d)) all
+    → fit ≡ term_fit (node_term ts d) → IsMeasure (node_term ts d) (with_fit fit (node_measure all d))
+node_is ts (node.Constant n s) all fit h f = record {
+  word = refl;
+  constants = refl;
+  regex = refl;
+  short = refl;
+  size = refl;
+  structure = ap (λ (x : Fit). x.is_structure) f;
+  fitting = ap (λ (x : Fit). x.fits) f;
+}
+node_is ts (node.Word w) all fit h f = record {
+  word = refl;
+  constants = refl;
+  regex = refl;
+  short = refl;
+  size = refl;
+  structure = ap (λ (x : Fit). x.is_structure) f;
+  fitting = ap (λ (x : Fit). x.fits) f;
+}
+node_is ts (node.Numeral n) all fit h f = record {
+  word = refl;
+  constants = refl;
+  regex = refl;
+  short = refl;
+  size = refl;
+  structure = ap (λ (x : Fit). x.is_structure) f;
+  fitting = ap (λ (x : Fit). x.fits) f;
+}
+node_is ts (node.Apply s is) all fit h f =
+    applied_is (symbol_in s) (terms_at ts is.items) (length is.items) all fit (length_terms_at ts is.items)
+    (subst (λ us. IsTotal us all) (terms_in_of (terms_at ts is.items)) h) f
+node_is ts (node.Parameter n s) all fit h f = record {
+  word = refl;
+  constants = refl;
+  regex = refl;
+  short = refl;
+  size = refl;
+  structure = ap (λ (x : Fit). x.is_structure) f;
+  fitting = ap (λ (x : Fit). x.fits) f;
+}
+
+-- of the numbers of its arguments
+total_of_parts : (ts : List Term) (ms : List Measure) (is : List ℕ) (us : List Term) (all : Measure) → AreMeasures ts ms
+    → All (λ i. i < length ms) is → terms_at ts is ≡ us → all ≡ total ms is → IsTotal us all
+total_of_parts ts ms is us all h l same sum =
+    subst (IsTotal us) (sym sum) (subst (λ vs. IsTotal vs (total ms is)) same (total_is ts ms is h l))
+
+pub parts_fit : (ts : List Term) (ms : List Measure) (is : List ℕ) (us : List Term) (all : Measure) → AreMeasures ts ms
+    → All (λ i. i < length ms) is → terms_at ts is ≡ us → all ≡ total ms is
+    → fit_with all.is_structure all.fits ≡ terms_fit us
+parts_fit ts ms is us all h l same sum = let t = total_of_parts ts ms is us all h l same sum in
+    ap₂ fit_with t.structure t.fitting
+
+pub measure_is : (ts : List Term) (ms : List Measure) (is : List ℕ) (d : code.Term) (t : Term) (all plain : Measure)
+    (fit : Fit) → AreMeasures ts ms → All (λ i. i < length ms) is → terms_at ts is ≡ parts_of t → all ≡ total ms is
+    → node_term ts d ≡ t → plain ≡ node_measure all d → fit ≡ term_fit t → IsMeasure t (with_fit fit plain)
+measure_is ts ms is d t all plain fit h l same sum value made f =
+    subst (λ m. IsMeasure t (with_fit fit m)) (sym made)
+    (subst (λ u. IsTotal (parts_of u) all → fit ≡ term_fit u → IsMeasure u (with_fit fit (node_measure all d))) value
+    (node_is ts d all fit) (total_of_parts ts ms is (parts_of t) all h l same sum) f)
+
+pub literal_is : (t : Term) (m : Measure) → IsMeasure t m
+    → IsMeasure (literal_of t) (applied_measure symbol.str_to_re 1 (joined m no_measure))
+literal_is t m h =
+    applied_is symbol.str_to_re (t ∷ []) 1 (joined m no_measure) (fit_with false false) refl
+    (total_more t [] m no_measure h of_none) refl
 
 -- One more measure.
 
-pub measures_more : (ts : List Term) (ms : List Measure) (d : code.Term) (m : Measure) (n : ℕ) → AreMeasures ts ms
-    → n ≡ length ms → n < length ts → node_term ts d ≡ term_at ts n → ArgumentsBelow n d → m ≡ node_measure ms d
-    → AreMeasures ts (ms ++ m ∷ [])
-measures_more ts ms d m n h e l value below is = record {
+pub measures_more : (ts : List Term) (ms : List Measure) (m : Measure) (n : ℕ) → AreMeasures ts ms → n ≡ length ms
+    → n < length ts → IsMeasure (term_at ts n) m → AreMeasures ts (ms ++ m ∷ [])
+measures_more ts ms m n h e l new = record {
   few = grind (arith, l, e, length-append ms (m ∷ []));
   each = λ i x g. elim (get_push ms m x i g) as (λ _. IsMeasure (term_at ts i) x) [
     | inl s ↦ h.each i x s
@@ -204,9 +288,6 @@ measures_more ts ms d m n h e l value below is = record {
   ];
 }
   where
-    new : IsMeasure (term_at ts n) m
-    new = rw (is, ← value) (measure_is ts ms d h (λ k z q. omega (arith, below k z q, e)))
-
     moved : (i : ℕ) (x : Measure) → i ≡ n → x ≡ m → IsMeasure (term_at ts i) x
     moved i x p q = rw (p, q) new
 

@@ -1,4 +1,5 @@
--- Private: the measure of a term from those of its arguments.
+-- Private: the measure of a term from those of its arguments. All but what it says of Boolean structure are made from
+-- them alone; what it says of that comes by the term's shape.
 use Rattle.std.specs.Prelude.{ℕ, ◌+◌, Bool, true, false, not, ◌&&◌, ◌==◌, nat_le, List, [], ◌∷◌, length, get_or}
 use Rattle.sb_meaning.specs.Terms.{Symbol}
 use Rattle.sb_meaning.specs.Terms as symbol
@@ -6,6 +7,7 @@ use Rattle.sb_term.specs.declared.term.Term as code
 use Rattle.sb_term.specs.declared.term.Term.TheVariants as node
 use Rattle.sb_term.specs.Symbols.{symbol_in}
 use Rattle.sb_fragment.specs.declared.measure.Measure.{Measure}
+use Rattle.sb_fragment.specs.declared.fitting.Fit.{Fit}
 use Rattle.sb_fragment.specs.Measures.{within_limit}
 
 abbrev pub is_regex_by : Symbol → ℕ → Bool → Bool → Bool
@@ -41,11 +43,21 @@ joined a b = record {
   is_regex = a.is_regex && b.is_regex;
   is_short = a.is_short && b.is_short;
   size = within_limit (a.size + b.size);
+  is_structure = a.is_structure && b.is_structure;
+  fits = a.fits && b.fits;
 }
 
 -- of no term
 abbrev pub no_measure : Measure
-no_measure = record { is_word = true; is_ground = true; is_regex = true; is_short = true; size = 0 }
+no_measure = record {
+  is_word = true;
+  is_ground = true;
+  is_regex = true;
+  is_short = true;
+  size = 0;
+  is_structure = true;
+  fits = true;
+}
 
 -- of all these together
 abbrev pub total : List Measure → List ℕ → Measure
@@ -59,24 +71,53 @@ applied_measure s n all = record {
   is_regex = is_regex_by s n all.is_word all.is_regex;
   is_short = is_short_by s all.is_short all.size;
   size = size_by s all.size;
+  is_structure = false;
+  fits = false;
 }
 
-abbrev pub node_measure : List Measure → code.Term → Measure
-node_measure ms (node.Constant serial sort) =
-    record { is_word = false; is_ground = false; is_regex = false; is_short = true; size = 0 }
-node_measure ms (node.Word codes) = record {
+-- but for Boolean structure, where this is the measure of its arguments together
+abbrev pub node_measure : Measure → code.Term → Measure
+node_measure all (node.Constant serial sort) = record {
+  is_word = false;
+  is_ground = false;
+  is_regex = false;
+  is_short = true;
+  size = 0;
+  is_structure = false;
+  fits = false;
+}
+node_measure all (node.Word codes) = record {
   is_word = true;
   is_ground = true;
   is_regex = false;
   is_short = nat_le (length codes.items) 65535;
   size = within_limit (length codes.items);
+  is_structure = false;
+  fits = false;
 }
-node_measure ms (node.Numeral n) =
-    record { is_word = false; is_ground = true; is_regex = false; is_short = true; size = 0 }
-node_measure ms (node.Apply s arguments) =
-    applied_measure (symbol_in s) (length arguments.items) (total ms arguments.items)
-node_measure ms (node.Parameter place sort) =
-    record { is_word = false; is_ground = false; is_regex = false; is_short = true; size = 0 }
+node_measure all (node.Numeral n) = record {
+  is_word = false;
+  is_ground = true;
+  is_regex = false;
+  is_short = true;
+  size = 0;
+  is_structure = false;
+  fits = false;
+}
+node_measure all (node.Apply s arguments) = applied_measure (symbol_in s) (length arguments.items) all
+node_measure all (node.Parameter place sort) = record {
+  is_word = false;
+  is_ground = false;
+  is_regex = false;
+  is_short = true;
+  size = 0;
+  is_structure = false;
+  fits = false;
+}
+
+-- with what it says of Boolean structure
+abbrev pub with_fit : Fit → Measure → Measure
+with_fit fit m = record m { is_structure = fit.is_structure; fits = fit.fits }
 
 -- no constants, and sizes within the limits
 abbrev pub within : Measure → Bool

@@ -1,133 +1,138 @@
-//! Which terms are Boolean structure within the limits on sizes.
+//! Which terms are Boolean structure, and which of them are within the limits on sizes, by what is known of their
+//! arguments.
 
-ghost use Rattle.std.specs.Prelude.{◌≡◌, ◌<◌, ◌&&◌, length, IfOk};
-ghost use Rattle.std.specs.List.{list_all};
-ghost use Rattle.sb_script.specs.Brought.{is_pair, is_regex, is_structure};
-ghost use Rattle.sb_script.specs.Fragment.{fits, is_word_pair};
-ghost use Rattle.sb_script.specs.Sizes.{is_regular};
-ghost use Rattle.sb_term.specs.Numbered.{term_at};
+ghost use Rattle.std.specs.Prelude.{◌≡◌, ◌<◌, ◌≤◌, List, length, All};
+ghost use Rattle.sb_meaning.specs.Terms.{Term};
+ghost use Rattle.sb_term.specs.Numbered.{term_at, terms_at};
 ghost use Rattle.sb_problem.specs.Patterns.{number_of, pattern_in};
 ghost use Rattle.sb_fragment.specs.Measures.{AreMeasures};
-ghost use Rattle.sb_fragment.specs.Shapes.{are_word_pairs, parts_of};
-ghost use Rattle.sb_fragment.specs.Fitting.{have_short_words};
+ghost use Rattle.sb_fragment.specs.Measured.{within};
+ghost use Rattle.sb_fragment.specs.Shapes.{parts_of};
+ghost use Rattle.sb_fragment.specs.Fitting.{fit_by, both_fit, term_fit, terms_fit, regex_fit, pair_fit, neighbours_fit, words_fit};
 
-use crate::measure::is_decided;
-use crate::measures::Measures;
+use crate::measure::{Measure, is_within, literal_of};
 use crate::memberships::membership;
-use crate::pairs::compared;
 use crate::shape::{Shape, arguments_of, pair_of, shape_of};
-use crate::structure::{are_words, is_structure};
 use sb_problem::Pattern;
 use sb_term::{Table, TermId};
-use std::alloc::{AllocError, Global};
 
-/// Whether a pattern is a regular expression over literals within the limits on sizes.
-fn pattern_fits(
-    measures: &mut Measures,
-    table: &Table,
-    pattern: Pattern,
-) -> Result<bool, AllocError>
-    requires number { number_of pattern < length table.now }
-    requires right { AreMeasures table.now measures.old }
-    ensures ok { IfOk result
-        (λ fit. fit ≡ (is_regex (pattern_in table.now pattern) && is_regular (pattern_in table.now pattern))) }
-    ensures right { AreMeasures table.now measures.new }
-{
-    let measure = measures.pattern(table, pattern)?;
-    Ok(is_decided(measure))
+/// What a term, or each of some terms, is as Boolean structure.
+#[derive(Clone, Copy)]
+pub(crate) struct Fit {
+    /// It is Boolean structure, whatever the sizes are.
+    pub(crate) is_structure: bool,
+    /// It is Boolean structure within the limits on sizes.
+    pub(crate) fits: bool,
 }
 
-/// Whether of two terms one is a String constant, and the other one a literal within the limits on sizes.
-fn pair_fits(
-    measures: &mut Measures,
-    table: &Table,
-    one: TermId,
-    other: TermId,
-) -> Result<bool, AllocError>
-    requires one { one < length table.now }
-    requires other { other < length table.now }
-    requires right { AreMeasures table.now measures.old }
-    ensures ok { IfOk result (λ fit. fit ≡ (is_pair (term_at table.now one) (term_at table.now other)
-        && is_word_pair (term_at table.now one) (term_at table.now other))) }
-    ensures right { AreMeasures table.now measures.new }
+/// It is, within the limits.
+const INSIDE: Fit = Fit {
+    is_structure: true,
+    fits: true,
+};
+
+/// It is none.
+const OUTSIDE: Fit = Fit {
+    is_structure: false,
+    fits: false,
+};
+
+/// What two are together.
+fn both(first: Fit, rest: Fit) -> Fit
+    ensures { result ≡ both_fit first rest }
+{
+    Fit {
+        is_structure: first.is_structure && rest.is_structure,
+        fits: first.fits && rest.fits,
+    }
+}
+
+/// What the demand for a word of a regular expression is, by what is known of the expression.
+fn fit_regex(measure: Measure) -> Fit
+    ensures { result ≡ fit_by measure.is_regex (within measure) }
+{
+    Fit {
+        is_structure: measure.is_regex,
+        fits: measure.is_regex && is_within(measure),
+    }
+}
+
+/// What the demand for a word of a pattern is.
+fn fit_pattern(measures: &[Measure], pattern: Pattern) -> Fit
+    requires { number_of pattern < length measures.now }
+    ensures { (terms : List Term) → AreMeasures terms measures.now → result ≡ regex_fit (pattern_in terms pattern) }
+{
+    match pattern {
+        Pattern::Expression(id) => fit_regex(measures[id.number()]),
+        Pattern::Word(id) => fit_regex(literal_of(measures[id.number()])),
+    }
+}
+
+/// What the comparison of two String terms is: it is structure where one is a constant, and the other one a literal.
+fn fit_pair(table: &Table, measures: &[Measure], one: TermId, other: TermId) -> Fit
+    requires one { one < length measures.now }
+    requires other { other < length measures.now }
+    requires right { AreMeasures table.now measures.now }
+    ensures { result ≡ pair_fit (term_at table.now one) (term_at table.now other) }
 {
     let Some(pair) = pair_of(table, one, other) else {
-        return Ok(false);
+        return OUTSIDE;
     };
-    measures.is_regular(table, Pattern::Word(pair.1))
+    fit_pattern(measures, Pattern::Word(pair.1))
 }
 
-/// Whether of each two arguments that are compared one is a String constant, and the other one a literal within the
-/// limits on sizes.
-fn words_fit(
-    alloc: Global,
-    measures: &mut Measures,
-    table: &Table,
-    distinct: bool,
-    id: TermId,
-) -> Result<bool, AllocError>
-    requires number { id < length table.now }
-    requires right { AreMeasures table.now measures.old }
-    ensures ok { IfOk result (λ fit. fit ≡ (are_word_pairs distinct (parts_of (term_at table.now id))
-        && have_short_words distinct (parts_of (term_at table.now id)))) }
-    ensures right { AreMeasures table.now measures.new }
+/// What the comparisons of each two neighbours are together.
+fn fit_neighbours(table: &Table, measures: &[Measure], arguments: &[TermId]) -> Fit
+    requires numbers { All (λ i. i < length measures.now) arguments.now }
+    requires right { AreMeasures table.now measures.now }
+    ensures { result ≡ neighbours_fit (terms_at table.now arguments.now) }
 {
-    if !are_words(alloc, table, distinct, id)? {
-        return Ok(false);
+    let mut left = arguments.len();
+    let mut all = INSIDE;
+    while left > 1 {
+        left -= 1;
+        let pair = fit_pair(table, measures, arguments[left - 1], arguments[left]);
+        all = both(pair, all);
     }
-    let pairs = compared(alloc, distinct, arguments_of(table, id))?;
-    for (one, other) in &pairs {
-        if !pair_fits(measures, table, *one, *other)? {
-            return Ok(false);
-        }
-    }
-    Ok(true)
+    all
 }
 
-/// Whether a term is Boolean structure within the limits on sizes.
-#[cycle(fitting)]
-pub(crate) fn structure_fits(
-    alloc: Global,
-    measures: &mut Measures,
-    table: &Table,
-    id: TermId,
-) -> Result<bool, AllocError>
+/// What the comparison of String terms is. Of three that are to be distinct each two are not a constant and a literal.
+fn fit_words(table: &Table, measures: &[Measure], distinct: bool, arguments: &[TermId]) -> Fit
+    requires numbers { All (λ i. i < length measures.now) arguments.now }
+    requires right { AreMeasures table.now measures.now }
+    ensures { result ≡ words_fit distinct (terms_at table.now arguments.now) }
+{
+    if !distinct {
+        return fit_neighbours(table, measures, arguments);
+    }
+    if arguments.len() > 2 {
+        return OUTSIDE;
+    }
+    fit_neighbours(table, measures, arguments)
+}
+
+/// What a term is, where the measures of the terms before it are there, and each of its arguments is `parts`. Linear in
+/// the number of its arguments; takes no memory.
+pub(crate) fn fit_of(table: &Table, measures: &[Measure], id: TermId, parts: Fit) -> Fit
     requires number { id < length table.now }
-    requires right { AreMeasures table.now measures.old }
-    ensures ok { IfOk result (λ fit. fit ≡ (is_structure (term_at table.now id) && fits (term_at table.now id))) }
-    ensures right { AreMeasures table.now measures.new }
+    requires reached { id ≤ length measures.now }
+    requires right { AreMeasures table.now measures.now }
+    requires each { parts ≡ terms_fit (parts_of (term_at table.now id)) }
+    ensures { result ≡ term_fit (term_at table.now id) }
 {
     if let Some((_, pattern)) = membership(table, id) {
-        return pattern_fits(measures, table, pattern);
+        return fit_pattern(measures, pattern);
     }
     match shape_of(table, id) {
-        Shape::Constant(_) => Ok(true),
-        Shape::Always(_) => is_structure(alloc, measures, table, id),
-        Shape::Alone => parts_fit(alloc, measures, table, id),
-        Shape::Connected(_) => parts_fit(alloc, measures, table, id),
-        Shape::Words(distinct) => words_fit(alloc, measures, table, distinct, id),
-        Shape::Other => Ok(false),
+        Shape::Constant(_) => INSIDE,
+        Shape::Always(_) => Fit {
+            is_structure: parts.is_structure,
+            fits: parts.is_structure,
+        },
+        Shape::Alone => parts,
+        Shape::Connected(_) => parts,
+        Shape::Words(distinct) => fit_words(table, measures, distinct, arguments_of(table, id)),
+        Shape::Other => OUTSIDE,
     }
-}
-
-/// Whether each argument of a term is Boolean structure within the limits on sizes.
-#[cycle(fitting)]
-fn parts_fit(
-    alloc: Global,
-    measures: &mut Measures,
-    table: &Table,
-    id: TermId,
-) -> Result<bool, AllocError>
-    requires number { id < length table.now }
-    requires right { AreMeasures table.now measures.old }
-    ensures ok { IfOk result (λ all. all ≡ (list_all is_structure (parts_of (term_at table.now id))
-        && list_all fits (parts_of (term_at table.now id)))) }
-    ensures right { AreMeasures table.now measures.new }
-{
-    for argument in arguments_of(table, id) {
-        if !structure_fits(alloc, measures, table, *argument)? {
-            return Ok(false);
-        }
-    }
-    Ok(true)
 }

@@ -2,9 +2,9 @@
 //! rule.
 //!
 //! A rule asks of a term what is known of it by its arguments, so [`Measures`] keep that by the term's number: a term
-//! that is shared is measured once, and there is no recursion on the tree of a regular expression. The layers above ask
-//! [`fragment`] of all live assertions, and [`Measures::fits_structure`] of one. They take an assertion about one
-//! constant apart by [`membership`], and Boolean structure over such assertions by [`shape_of`].
+//! that is shared is measured once, and there is no recursion on a term's tree. The layers above ask [`fragment`] of all
+//! live assertions, and [`Measures::fits_structure`] of one. They take an assertion about one constant apart by
+//! [`membership`], and Boolean structure over such assertions by [`shape_of`].
 #![tactic(auto)]
 
 mod fitting;
@@ -14,7 +14,6 @@ mod memberships;
 mod pairs;
 mod rules;
 mod shape;
-mod structure;
 
 pub use measure::Measure;
 pub use measures::Measures;
@@ -22,4 +21,3 @@ pub use memberships::membership;
 pub use pairs::compared;
 pub use rules::{Problem, Reason, Standing, fragment, fragment_is_of_each};
 pub use shape::{Connective, Shape, arguments_of, pair_of, shape_of};
-pub use structure::is_structure;

@@ -3,7 +3,6 @@
 ghost use Rattle.std.specs.Prelude.{◌≡◌, ◌<◌, ◌+◌, ◌&&◌, length, All};
 ghost use Rattle.sb_meaning.specs.Terms.{str_to_re};
 ghost use Rattle.sb_term.specs.Symbols.{symbol_in};
-ghost use Rattle.sb_term.specs.Nodes.{ArgumentsBelow};
 ghost use Rattle.sb_fragment.specs.Measures.{within_limit};
 ghost use Rattle.sb_fragment.specs.Measured.{is_regex_by, is_short_by, size_by, joined, no_measure, total, within, node_measure};
 ghost use Rattle.sb_fragment.specs.Measured.{applied_measure};
@@ -23,6 +22,11 @@ pub struct Measure {
     pub is_short: bool,
     /// One for each application of sort RegLan in it and one for each character of its words, up to 1,000,001.
     pub size: u32,
+    /// The term is Boolean structure, whatever the sizes are: made of Bool constants, of memberships of one String
+    /// constant in a regular expression over literals, and of equalities of one with a literal.
+    pub is_structure: bool,
+    /// The term is Boolean structure within the limits on sizes.
+    pub fits: bool,
 }
 
 /// The largest size within the limit.
@@ -35,6 +39,8 @@ const NOTHING: Measure = Measure {
     is_regex: true,
     is_short: true,
     size: 0,
+    is_structure: true,
+    fits: true,
 };
 
 /// The size up to the least one past the limit.
@@ -70,11 +76,13 @@ fn join(first: Measure, rest: Measure) -> Measure
         is_regex: first.is_regex && rest.is_regex,
         is_short: first.is_short && rest.is_short,
         size: sum(first.size, rest.size),
+        is_structure: first.is_structure && rest.is_structure,
+        fits: first.fits && rest.fits,
     }
 }
 
 /// What is known of all arguments together.
-fn total_of(measures: &[Measure], arguments: &[TermId]) -> Measure
+pub(crate) fn total_of(measures: &[Measure], arguments: &[TermId]) -> Measure
     requires { All (λ i. i < length measures.now) arguments.now }
     ensures { result ≡ total measures.now arguments.now }
 {
@@ -124,7 +132,7 @@ fn size_with(symbol: Symbol, size: u32) -> u32
     }
 }
 
-/// What is known of a symbol with so many arguments.
+/// What is known of a symbol with so many arguments, but for Boolean structure.
 fn applied(symbol: Symbol, count: usize, all: Measure) -> Measure
     ensures { result ≡ applied_measure (symbol_in symbol) count all }
 {
@@ -134,6 +142,8 @@ fn applied(symbol: Symbol, count: usize, all: Measure) -> Measure
         is_regex: makes_regex(symbol, count, all.is_word, all.is_regex),
         is_short: short_with(symbol, all.is_short, all.size),
         size: size_with(symbol, all.size),
+        is_structure: false,
+        fits: false,
     }
 }
 
@@ -144,10 +154,9 @@ pub(crate) fn literal_of(measure: Measure) -> Measure
     applied(Symbol::StrToRe, 1, join(measure, NOTHING))
 }
 
-/// What is known of a term, where the measures of its arguments are there.
-pub(crate) fn measure_of(node: &Term, measures: &[Measure]) -> Measure
-    requires { ArgumentsBelow (length measures.now) node.now }
-    ensures { result ≡ node_measure measures.now node.now }
+/// What is known of a term but for Boolean structure, where this is known of its arguments together.
+pub(crate) fn plain_of(node: &Term, all: Measure) -> Measure
+    ensures { result ≡ node_measure all node.now }
 {
     match node {
         Term::Constant(..) | Term::Parameter(..) => Measure {
@@ -156,6 +165,8 @@ pub(crate) fn measure_of(node: &Term, measures: &[Measure]) -> Measure
             is_regex: false,
             is_short: true,
             size: 0,
+            is_structure: false,
+            fits: false,
         },
         Term::Word(codes) => Measure {
             is_word: true,
@@ -163,6 +174,8 @@ pub(crate) fn measure_of(node: &Term, measures: &[Measure]) -> Measure
             is_regex: false,
             is_short: codes.len() <= 65_535,
             size: capped(codes.len()),
+            is_structure: false,
+            fits: false,
         },
         Term::Numeral(_) => Measure {
             is_word: false,
@@ -170,10 +183,10 @@ pub(crate) fn measure_of(node: &Term, measures: &[Measure]) -> Measure
             is_regex: false,
             is_short: true,
             size: 0,
+            is_structure: false,
+            fits: false,
         },
-        Term::Apply(symbol, arguments) => {
-            applied(*symbol, arguments.len(), total_of(measures, arguments))
-        }
+        Term::Apply(symbol, arguments) => applied(*symbol, arguments.len(), all),
     }
 }
 
@@ -182,11 +195,4 @@ pub(crate) fn is_within(measure: Measure) -> bool
     ensures { result ≡ within measure }
 {
     measure.is_ground && measure.is_short && measure.size <= SIZE_LIMIT
-}
-
-/// Whether the term is a regular expression over literals, without constants and within the limits on sizes.
-pub(crate) fn is_decided(measure: Measure) -> bool
-    ensures { result ≡ measure.is_regex && within measure }
-{
-    measure.is_regex && is_within(measure)
 }

@@ -1,6 +1,6 @@
 //! The measures of terms by number.
 
-ghost use Rattle.std.specs.Prelude.{◌≡◌, ◌<◌, length, [], IfOk};
+ghost use Rattle.std.specs.Prelude.{◌≡◌, ◌<◌, ◌≤◌, length, [], IfOk};
 ghost use Rattle.sb_script.specs.Brought.{is_structure};
 ghost use Rattle.sb_script.specs.Sizes.{is_regular};
 ghost use Rattle.sb_script.specs.State.{asserted};
@@ -9,9 +9,9 @@ ghost use Rattle.sb_problem.specs.Patterns.{number_of, pattern_in};
 ghost use Rattle.sb_fragment.specs.Measures.{IsMeasure, AreMeasures};
 ghost use Rattle.sb_fragment.specs.Rules.{is_decided};
 
-use crate::fitting::structure_fits;
-use crate::measure::{Measure, is_within, literal_of, measure_of};
-use crate::structure::is_structure;
+use crate::fitting::{Fit, fit_of};
+use crate::measure::{Measure, is_within, literal_of, plain_of, total_of};
+use crate::shape::arguments_of;
 use sb_problem::Pattern;
 use sb_term::{Table, TermId};
 use std::alloc::{AllocError, Global};
@@ -32,6 +32,26 @@ impl Model for Measures {
     ghost view = { λ measures. measures.measures.items };
 }
 
+/// What is known of a term, where the measures of the terms before it are there.
+fn measure_of(table: &Table, measures: &[Measure], id: TermId) -> Measure
+    requires number { id < length table.now }
+    requires reached { id ≤ length measures.now }
+    requires right { AreMeasures table.now measures.now }
+    ensures { IsMeasure (term_at table.now id) result }
+{
+    let all = total_of(measures, arguments_of(table, id));
+    let parts = Fit {
+        is_structure: all.is_structure,
+        fits: all.fits,
+    };
+    let fit = fit_of(table, measures, id, parts);
+    Measure {
+        is_structure: fit.is_structure,
+        fits: fit.fits,
+        ..plain_of(table.term(id), all)
+    }
+}
+
 /// Measures the terms up to a number.
 fn extend(measures: &mut Vec<Measure>, table: &Table, id: TermId) -> Result<(), AllocError>
     requires number { id < length table.now }
@@ -41,7 +61,7 @@ fn extend(measures: &mut Vec<Measure>, table: &Table, id: TermId) -> Result<(), 
 {
     while measures.len() <= id.number() {
         let next = TermId::new(measures.len())?;
-        let measure = measure_of(table.term(next), measures);
+        let measure = measure_of(table, measures, next);
         measures.push(measure)?;
     }
     Ok(())
@@ -58,7 +78,7 @@ impl Measures {
     }
 
     /// The measure of a term. Constant time where it, or a term with a larger number, was asked for; else linear in the
-    /// terms since the largest one that was. `AllocError` only for want of memory.
+    /// terms since the largest one that was, and their arguments. `AllocError` only for want of memory.
     pub fn measure(&mut self, table: &Table, id: TermId) -> Result<Measure, AllocError>
         requires number { id < length table.now }
         requires right { AreMeasures table.now self.old }
@@ -99,28 +119,26 @@ impl Measures {
     }
 
     /// Whether a term is Boolean structure, whatever the sizes are. Its cost and its error are those of
-    /// [`is_structure`](crate::is_structure).
-    pub(crate) fn is_structure(&mut self, table: &Table, id: TermId) -> Result<bool, AllocError>
+    /// [`Measures::measure`].
+    pub fn is_structure(&mut self, table: &Table, id: TermId) -> Result<bool, AllocError>
         requires number { id < length table.now }
         requires right { AreMeasures table.now self.old }
         ensures ok { IfOk result (λ structure. structure ≡ is_structure (term_at table.now id)) }
         ensures right { AreMeasures table.now self.new }
     {
-        let alloc = *self.measures.allocator();
-        is_structure(alloc, self, table, id)
+        Ok(self.measure(table, id)?.is_structure)
     }
 
     /// Whether a term is decided as an assertion: whether it is Boolean structure over memberships of one String constant
     /// in a regular expression over literals, over equalities of one with a literal, and over Bool constants, within the
-    /// limits on sizes. Of more than two Strings that are to be distinct none are. Linear in the term's tree, but for
-    /// measures that were not taken yet. `AllocError` only for want of memory.
+    /// limits on sizes. Of more than two Strings that are to be distinct none are. Its cost and its error are those of
+    /// [`Measures::measure`].
     pub fn fits_structure(&mut self, table: &Table, id: TermId) -> Result<bool, AllocError>
         requires number { id < length table.now }
         requires right { AreMeasures table.now self.old }
         ensures ok { IfOk result (λ fit. fit ≡ is_decided (asserted (term_at table.now id))) }
         ensures right { AreMeasures table.now self.new }
     {
-        let alloc = *self.measures.allocator();
-        structure_fits(alloc, self, table, id)
+        Ok(self.measure(table, id)?.fits)
     }
 }

@@ -80,7 +80,7 @@ fn broken(
 }
 
 /// Whether live assertions are inside the fragment, and where not, which rule the first of them outside breaks. Linear
-/// in the trees of the assertions up to that one, but that terms are measured which were not yet. `AllocError` only for
+/// in the number of the assertions up to that one, but that terms are measured which were not yet. `AllocError` only for
 /// want of memory.
 pub fn fragment(
     measures: &mut Measures,

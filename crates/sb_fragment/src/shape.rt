@@ -1,6 +1,6 @@
 //! The shapes of terms of Boolean structure.
 
-ghost use Rattle.std.specs.Prelude.{◌≡◌, ◌<◌, false, None, length, All, MatchOption};
+ghost use Rattle.std.specs.Prelude.{◌≡◌, ℕ, ◌<◌, false, None, length, All, MatchOption, IfSome};
 ghost use Rattle.sb_meaning.specs.Terms.{apply, terms_of};
 ghost use Rattle.sb_meaning.specs.Terms as meaning;
 ghost use Rattle.sb_script.specs.Brought.{asked, is_pair};
@@ -125,6 +125,7 @@ pub fn pair_of(table: &Table, one: TermId, other: TermId) -> Option<(Serial, Ter
     requires other { other < length table.now }
     ensures parts { MatchOption result (is_pair (term_at table.now one) (term_at table.now other) ≡ false)
         (λ p. IsPair table.now one other p.0.0 p.1) }
+    ensures below { (n : ℕ) → one < n → other < n → IfSome result (λ p. p.1 < n) }
 {
     if let Some(serial) = constant_of(table, one) {
         return if is_literal(table, other) {

@@ -71,7 +71,7 @@ impl Models {
         self.held = self.held.min(count);
     }
 
-    /// Whether all live assertions are decided ones. Linear in the trees of those that are new since the last call, but
+    /// Whether all live assertions are decided ones. Linear in the number of those that are new since the last call, but
     /// that terms are measured which were not yet. `AllocError` only for want of memory.
     pub fn is_inside(&mut self, measures: &mut Measures, stack: &Stack) -> Result<bool, AllocError>
         requires knows { Knows self.old stack.now }
