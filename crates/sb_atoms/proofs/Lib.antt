@@ -15,3 +15,6 @@ pub mod Walking
 pub mod GateFacts
 pub mod Saying
 pub mod Gathering
+pub mod Connections
+pub mod Descending
+pub mod Knowing

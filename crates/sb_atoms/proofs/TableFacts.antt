@@ -1,15 +1,13 @@
 -- Atoms by number, with one more atom of the code.
-use Rattle.std.proofs.Common.{◌≡◌, ℕ, zero, suc, ◌<◌, Bool, true, false, ◌&&◌, ◌||◌, ◌⊎◌, inl, inr, nat_eq, nat_lt}
+use Rattle.std.proofs.Common.{◌≡◌, ℕ, zero, suc, Bool, true, false, ◌||◌, ◌⊎◌, inl, inr, nat_eq}
 use Rattle.std.proofs.Common.{cond, Some, List, [], ◌∷◌, ◌++◌, length, get_or, slice_get, refl, sym, ap, ap₂, ◌∙◌}
-use Rattle.std.proofs.Common.{arith, length-append}
+use Rattle.std.proofs.Common.{arith}
 use Rattle.std.specs.List.{list_any, position}
 use Rattle.std.specs.Prelude.{Option, None, is_some, option_map}
 use Rattle.std.specs.Cmp.Lexicographic.{pointwise_decides}
 use Rattle.std.proofs.lemmas.Bool.{and_parts, false≢true, or_right, and_from, eq-eqb, eqb-true}
-use Rattle.std.proofs.lemmas.Bool.Decides.{nat_tests}
-use Rattle.std.proofs.lemmas.List.{get_or_append_left, get_or_push}
 use Rattle.std.proofs.lemmas.List.Quantifiers.{position-Some}
-use Rattle.std.proofs.lemmas.Option.{get_or_from_slice_get, slice_get_within, slice_get-get_or, slice_get-map, same_Some}
+use Rattle.std.proofs.lemmas.Option.{slice_get_within, slice_get-get_or, slice_get-map, same_Some}
 use Rattle.sb_facts.proofs.CallerLemmas.{get_push}
 use Rattle.sb_lit.specs.declared.clause.Lit.{Lit}
 use Rattle.sb_lit.specs.contracts.clause.LitPartialEq.TheImpl as of_literal

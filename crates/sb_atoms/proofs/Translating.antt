@@ -1,11 +1,9 @@
 -- The literal of an atom over a table.
-use Rattle.std.proofs.Common.{◌≡◌, ℕ, zero, suc, ◌+◌, Bool, true, false, ◌⊎◌, inl, inr, nat_eq, cond, Some, List, []}
-use Rattle.std.proofs.Common.{◌∷◌, length, map, slice_get, refl, sym, ap, ap₂, ◌∙◌, arith}
-use Rattle.std.proofs.Common.{◌<◌, if◌then◌else◌}
+use Rattle.std.proofs.Common.{◌≡◌, ℕ, zero, suc, ◌+◌, Bool, true, false, inl, cond, Some, List, []}
+use Rattle.std.proofs.Common.{◌∷◌, length, slice_get, refl, sym, ap, ap₂, ◌∙◌, arith}
 use Rattle.std.specs.List.{position_from}
-use Rattle.std.specs.Prelude.{ℤ, Option, None, option_map}
+use Rattle.std.specs.Prelude.{ℤ, None, option_map}
 use Rattle.std.proofs.lemmas.Bool.{false≢true}
-use Rattle.std.proofs.lemmas.Bool.Decides.{nat_tests}
 use Rattle.std.proofs.lemmas.Option.{slice_get_within, slice_get-map, same_Some}
 use Rattle.sb_facts.proofs.CallerLemmas.{some-none, get_mapped}
 use Rattle.sb_lit.specs.declared.clause.Lit.{Lit}
@@ -18,10 +16,9 @@ use Rattle.sb_rulebook.specs.Atoms.{is_same_atom, number_of}
 use Rattle.sb_rulebook.proofs.CallerLemmas.{same_atom, atom_itself}
 use Rattle.sb_script.specs.Pieces.{Piece}
 use Rattle.sb_script.specs.Sums.{Variable, Summand}
-use Rattle.sb_atoms.specs.declared.atom.Atom as code
 use Rattle.sb_atoms.specs.Growing.{IsApart, IsLiteralOf, GrownByOne}
 use Rattle.sb_atoms.proofs.TableFacts.{other_kinds, bool_part, and_part, iff_parts}
-use Rattle.sb_atoms.specs.Numbered.{atom_in, Names, IsNumberIn, IsWith, Extends, AreDistinct, over, atoms_in}
+use Rattle.sb_atoms.specs.Numbered.{Names, IsNumberIn, IsWith, AreDistinct, over, atoms_in}
 use Rattle.sb_atoms.specs.Numbered.{HasRegexBelow, HaveRegexesBelow}
 
 -- Equal atoms over an arena are one.

@@ -1,5 +1,5 @@
--- Truths of terms by number, one after the other.
-use Rattle.std.proofs.Common.{◌≡◌, ℕ, zero, suc, ◌+◌, ◌<◌, ◌≤◌, Bool, true, false, ◌&&◌, List, [], ◌∷◌, ◌++◌, length, map, take, get_or, refl, sym, ap, ap₂, ◌∙◌, subst, arith}
+-- What is compared of terms by number, one after the other.
+use Rattle.std.proofs.Common.{◌≡◌, ℕ, zero, suc, ◌+◌, ◌<◌, ◌≤◌, Bool, true, false, ◌&&◌, List, [], ◌∷◌, ◌++◌, length, map, take, get_or, refl, sym, ap, ◌∙◌, subst, arith}
 use Rattle.std.specs.List.{list_all}
 use Rattle.std.proofs.Math.Bool.{beq}
 use Rattle.std.proofs.lemmas.Bool.{false≢true, and_from}
@@ -7,14 +7,14 @@ use Rattle.std.proofs.lemmas.List.{take_all, take_more, map-append}
 use Rattle.std.proofs.lemmas.List.Folds.{list_all-append, list_all_at}
 use Rattle.sb_meaning.specs.Terms.{Term, Terms, constant, word, numeral, apply, parameter, no_terms, with_term, terms_in}
 use Rattle.sb_meaning.specs.Values.{Valuation}
-use Rattle.sb_meaning.specs.Truth.{differs, holds}
-use Rattle.sb_term.specs.Numbered.{term_at, terms_at}
+use Rattle.sb_meaning.specs.Truth.{differs}
+use Rattle.sb_term.specs.Numbered.{term_at}
 use Rattle.sb_fragment.specs.Compared.{neighbours, pairs, compared}
 use Rattle.sb_fragment.specs.Memberships.{equality}
 use Rattle.sb_fragment.specs.Shapes.{parts_of, terms_of_pairs}
-use Rattle.sb_fragment.proofs.CallerLemmas.{pair_at, pair_within, pair_read, term_within, term_read}
+use Rattle.sb_fragment.proofs.CallerLemmas.{pair_at, pair_within, pair_read}
 use Rattle.sb_atoms.specs.Given.{GivesValues, GivesEach}
-use Rattle.sb_atoms.specs.Truths.{AllOf, IsTruthUnder, IsTruthOf, AreTruthsOf, GivesPair, AreAsWanted, are_as_wanted}
+use Rattle.sb_atoms.specs.Truths.{AllOf, IsTruthUnder, GivesPair, AreAsWanted, are_as_wanted}
 
 -- Values of the constants in terms, and in what is compared.
 
@@ -113,28 +113,3 @@ pub wanted_end : (ws : List (List ℕ)) (distinct : Bool) (ts : List Term) (ps :
     → AreAsWanted ws distinct (terms_of_pairs ts ps) (terms_of_pairs ts ps) true
 wanted_end ws distinct ts ps i done h =
     subst (λ qs. AreAsWanted ws distinct (terms_of_pairs ts ps) (terms_of_pairs ts qs) true) (take_all i ps done) h
-
--- Arguments.
-
-pub truths_more : (ws : List (List ℕ)) (bs : List Bool) (ts us : List Term) (is : List ℕ) (i x : ℕ)
-    (found new : List Bool) (b : Bool) → AreTruthsOf ws bs us (terms_at ts (take i is)) found → terms_at ts is ≡ us
-    → i < length is → x ≡ get_or is i x → IsTruthOf ws bs (term_at ts x) b → new ≡ found ++ b ∷ []
-    → AreTruthsOf ws bs us (terms_at ts (take (i + 1) is)) new
-truths_more ws bs ts us is i x found new b before same within at h e = λ v gives.
-    let all = subst (AllOf (GivesValues ws bs v)) (sym same) gives in
-    let g = all_of_at (GivesValues ws bs v) (terms_at ts is) i (term_at ts x) all (term_within ts is i within)
-    (term_read ts is i x within at) in
-    e
-    ∙ ap₂ (λ cs c. cs ++ c ∷ []) (before v gives) (h v g)
-    ∙ sym (ap (λ js. map (λ t. holds t v) (terms_at ts js))
-    (take_more is i x within ∙ ap (λ j. take i is ++ j ∷ []) (sym at))
-    ∙ ap (map (λ t. holds t v)) (map-append (term_at ts) (take i is) (x ∷ []))
-    ∙ map-append (λ t. holds t v) (terms_at ts (take i is)) (term_at ts x ∷ []))
-
-pub truths_end : (ws : List (List ℕ)) (bs : List Bool) (ts us : List Term) (is : List ℕ) (i : ℕ) (found : List Bool)
-    → length is ≤ i → terms_at ts is ≡ us → AreTruthsOf ws bs us (terms_at ts (take i is)) found
-    → AreTruthsOf ws bs us us found
-truths_end ws bs ts us is i found done same h = λ v gives.
-    h v gives
-    ∙ ap (λ js. map (λ t. holds t v) (terms_at ts js)) (take_all i is done)
-    ∙ ap (map (λ t. holds t v)) same

@@ -7,3 +7,4 @@ pub mod Given
 pub mod Truths
 pub mod GateClauses
 pub mod GateExamples
+pub mod Reaching

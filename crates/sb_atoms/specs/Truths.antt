@@ -1,5 +1,5 @@
 -- Private: truths of terms under values, and what connectives make of truths.
-use Rattle.std.specs.Prelude.{◌≡◌, ℕ, Bool, false, not, if◌then◌else◌, List, [], ◌∷◌, map}
+use Rattle.std.specs.Prelude.{◌≡◌, ℕ, Bool, false, not, if◌then◌else◌, List, [], ◌∷◌}
 use Rattle.std.specs.List.{list_all}
 use Rattle.sb_lang.specs.Regex.{Regex}
 use Rattle.sb_meaning.specs.Terms.{Term}
@@ -25,11 +25,6 @@ IsTruthUnder ws t truth = (v : Valuation) (bs : List Bool) → GivesValues ws bs
 -- and these truths
 abbrev pub IsTruthOf : List (List ℕ) → List Bool → Term → Bool → Type 0
 IsTruthOf ws bs t truth = (v : Valuation) → GivesValues ws bs v t → truth ≡ holds t v
-
--- these terms, among more
-abbrev pub AreTruthsOf : List (List ℕ) → List Bool → List Term → List Term → List Bool → Type 0
-AreTruthsOf ws bs all ts truths =
-    (v : Valuation) → AllOf (GivesValues ws bs v) all → truths ≡ map (λ t. holds t v) ts
 
 abbrev pub GivesPair : List (List ℕ) → List Bool → Valuation → Term × Term → Type 0
 GivesPair ws bs v p = GivesValues ws bs v p.0 × GivesValues ws bs v p.1

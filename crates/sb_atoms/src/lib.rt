@@ -15,6 +15,7 @@ mod connect;
 mod connectives;
 mod gates;
 mod order;
+mod reached;
 mod table;
 mod translate;
 mod truth;

@@ -1,6 +1,6 @@
 //! The truth of a term.
 
-ghost use Rattle.std.specs.Prelude.{◌≡◌, ◌<◌, true, false, length, Some, slice_get, unwrap_or, IfOk};
+ghost use Rattle.std.specs.Prelude.{◌≡◌, ◌<◌, true, false, nat_lt, [], length, map, Some, slice_get, unwrap_or, IfOk, OnOk};
 ghost use Rattle.std.specs.List.{list_all};
 ghost use Rattle.sb_meaning.specs.Terms.{Term};
 ghost use Rattle.sb_meaning.specs.Values.{Valuation};
@@ -16,9 +16,11 @@ ghost use Rattle.sb_fragment.specs.Compared.{compared};
 ghost use Rattle.sb_fragment.specs.Memberships.{equality};
 ghost use Rattle.sb_fragment.specs.Shapes.{are_numbers, are_word_pairs, parts_of, terms_of_pairs};
 ghost use Rattle.sb_atoms.specs.Given.{GivesValues};
-ghost use Rattle.sb_atoms.specs.Truths.{AreReady, IsTruthUnder, IsTruthOf, AreTruthsOf, AreAsWanted};
+ghost use Rattle.sb_atoms.specs.Truths.{AreReady, IsTruthUnder, IsTruthOf, AreAsWanted};
+ghost use Rattle.sb_atoms.specs.Reaching.{HaveParts, PartsAre, known_at, AreKnown};
 
 use crate::connectives::connected;
+use crate::reached::terms_reached;
 use sb_fragment::{Shape, arguments_of, compared, membership, pair_of, shape_of};
 use sb_lang::derivative::nullable_has_empty_word;
 use sb_lang::normal::normal_has_terms_words;
@@ -27,7 +29,8 @@ use sb_problem::{Normals, Pattern, normals_stay};
 use sb_regex::{Arena, RegexId};
 use sb_term::{Serial, Table, TermId};
 use sb_word::Word;
-use std::alloc::AllocError;
+use std::alloc::{AllocError, Global};
+use std::collections::BTreeMap;
 
 /// Whether the word of a constant is what is asked for, where `regex` is the number of its normal regex.
 fn is_true_by(
@@ -165,9 +168,33 @@ fn truth_at(truths: &[bool], serial: Serial) -> bool
     }
 }
 
-/// Whether a term of Boolean structure is true.
-#[cycle(structure)]
-fn structure(
+/// The truth that is known of a term, false where none is.
+fn truth_known(known: &BTreeMap<TermId, bool>, id: TermId) -> bool
+    ensures { result ≡ known_at false known.now.entries id }
+{
+    match known.get(&id) {
+        Some(truth) => *truth,
+        None => false,
+    }
+}
+
+/// The truths that are known of terms.
+fn truths_known(
+    alloc: Global,
+    known: &BTreeMap<TermId, bool>,
+    ids: &[TermId],
+) -> Result<Vec<bool>, AllocError>
+    ensures { IfOk result (λ found. found.items ≡ map (known_at false known.now.entries) ids.now) }
+{
+    let mut found = Vec::new(alloc);
+    for id in ids {
+        found.push(truth_known(known, *id))?;
+    }
+    Ok(found)
+}
+
+/// Whether a term of Boolean structure is true, where it is known which arguments of a connective are.
+fn truth_of(
     plain: &mut Plain,
     normals: &mut Normals,
     arena: &mut Arena,
@@ -175,10 +202,13 @@ fn structure(
     id: TermId,
     values: &[Word],
     truths: &[bool],
+    known: &BTreeMap<TermId, bool>,
 ) -> Result<bool, AllocError>
     requires number { id < length table.now }
     requires structure { is_structure (term_at table.now id) ≡ true }
     requires ready { AreReady table.now arena.old normals.old plain.old }
+    requires parts { PartsAre table.now (λ i. IsTruthOf values.now truths.now (term_at table.now i)
+        (known_at false known.now.entries i)) id }
     ensures ok { IfOk result (IsTruthOf values.now truths.now (term_at table.now id)) }
     ensures extends { Extends arena.old arena.new }
     ensures ready { AreReady table.now arena.new normals.new plain.new }
@@ -191,7 +221,7 @@ fn structure(
         Shape::Always(truth) => Ok(truth),
         Shape::Alone => Ok(true),
         Shape::Connected(connective) => {
-            let parts = parts(plain, normals, arena, table, id, values, truths)?;
+            let parts = truths_known(normals.allocator(), known, arguments_of(table, id))?;
             Ok(connected(connective, &parts))
         }
         Shape::Words(distinct) => words(plain, normals, arena, table, distinct, id, values),
@@ -199,40 +229,43 @@ fn structure(
     }
 }
 
-/// Which arguments of a term are true.
-#[cycle(structure)]
-fn parts(
+/// Finds which terms are true, from the last one on, where the arguments of each connective stand behind it.
+fn find_truths(
     plain: &mut Plain,
     normals: &mut Normals,
     arena: &mut Arena,
     table: &Table,
-    id: TermId,
+    ids: &[TermId],
     values: &[Word],
     truths: &[bool],
-) -> Result<Vec<bool>, AllocError>
-    requires number { id < length table.now }
-    requires structure { list_all is_structure (parts_of (term_at table.now id)) ≡ true }
+    known: &mut BTreeMap<TermId, bool>,
+) -> Result<(), AllocError>
+    requires numbers { list_all (λ i. nat_lt i (length table.now)) ids.now ≡ true }
+    requires structure { list_all (λ i. is_structure (term_at table.now i)) ids.now ≡ true }
+    requires parts { HaveParts table.now ids.now [] }
     requires ready { AreReady table.now arena.old normals.old plain.old }
-    ensures ok { IfOk result
-        (λ found. AreTruthsOf values.now truths.now (parts_of (term_at table.now id))
-        (parts_of (term_at table.now id)) found.items) }
+    ensures ok { OnOk result (AreKnown false (λ i. IsTruthOf values.now truths.now (term_at table.now i))
+        known.new.entries ids.now) }
     ensures extends { Extends arena.old arena.new }
     ensures ready { AreReady table.now arena.new normals.new plain.new }
 {
-    let mut found = Vec::new(normals.allocator());
-    for argument in arguments_of(table, id) {
-        let truth = structure(plain, normals, arena, table, *argument, values, truths)?;
-        found.push(truth)?;
+    let mut place = ids.len();
+    while place > 0 {
+        place -= 1;
+        let id = ids[place];
+        let truth = truth_of(plain, normals, arena, table, id, values, truths, known)?;
+        known.insert(id, truth)?;
     }
-    Ok(found)
+    Ok(())
 }
 
 /// Whether a term of Boolean structure is true, where each String constant has the word at its serial, the empty word
 /// past the last one, and each Bool constant the truth at its serial, and is false past the last one.
 ///
-/// Each argument is looked at once, so its cost is linear in the term's tree, but for that of [`Plain::matches`] for each
-/// membership and each comparison of Strings, and that of [`Normals::pattern`] where the regular expression, or the
-/// literal, was not asked for yet. `AllocError` only for want of memory; the arena may hold more regexes then.
+/// Each term that it is made of by connectives is looked at once, however often it is an argument, so its cost is linear
+/// in these terms and their arguments, times a logarithm, but for that of [`Plain::matches`] for each membership and each
+/// comparison of Strings, and that of [`Normals::pattern`] where the regular expression, or the literal, was not asked
+/// for yet. There is no recursion. `AllocError` only for want of memory; the arena may hold more regexes then.
 pub fn eval(
     plain: &mut Plain,
     normals: &mut Normals,
@@ -252,5 +285,10 @@ pub fn eval(
     ensures normals { AreNormals table.now arena.new normals.new }
     ensures right { IsRight arena.new plain.new }
 {
-    structure(plain, normals, arena, table, id, values, truths)
+    let ids = terms_reached(normals.allocator(), table, id)?;
+    let mut known = BTreeMap::new(normals.allocator());
+    find_truths(
+        plain, normals, arena, table, &ids, values, truths, &mut known,
+    )?;
+    Ok(truth_known(&known, id))
 }

@@ -1,4 +1,4 @@
-use Rattle.std.proofs.Common.{◌∙◌, refl, sym, ap}
+use Rattle.std.proofs.Common.{◌∙◌, sym, ap}
 use Rattle.sb_atoms.proofs.Ordered.{onto, onto_nothing, onto_last, onto_none, inserted}
 use Rattle.sb_atoms.proofs.order.set_of.Goals as goal
 

@@ -1,0 +1,8 @@
+use Rattle.sb_atoms.proofs.Descending.{Reaching, top}
+use Rattle.sb_atoms.proofs.reached.terms_reached.Given as goal
+
+abbrev pub invariant-loop-next : goal.invariant-loop-next
+invariant-loop-next l = Reaching l.table l.fn.id l.ids.items l.left.keys
+
+abbrev pub decreases-loop-next : goal.decreases-loop-next
+decreases-loop-next l = top l.left.keys
