@@ -18,3 +18,4 @@ pub mod Gathering
 pub mod Connections
 pub mod Descending
 pub mod Knowing
+pub mod KnownLiterals

@@ -85,14 +85,14 @@ all_some (Some l ∷ os) ls h = step (together os) h (λ ms e. all_some os ms e)
     step (Some ms) h rest e = ap (λ ps. Some l ∷ ps) (rest ms e) ∙ ap (map Some) (same_Some (l ∷ ms) ls h)
 
 -- one has none
-later_none : (l : Lit) (os : List (Option Lit)) → together (Some l ∷ os) ≡ None → together os ≡ None
+pub later_none : (l : Lit) (os : List (Option Lit)) → together (Some l ∷ os) ≡ None → together os ≡ None
 later_none l os h = step (together os) refl h
   where
     step : (o : Option (List Lit)) → together os ≡ o → option_map (λ ms. l ∷ ms) o ≡ None → together os ≡ None
     step None e h = e
     step (Some ms) e h = absurd (some-none (l ∷ ms) h)
 
-none_behind : (o : Option Lit) (os : List (Option Lit)) → together os ≡ None → together (o ∷ os) ≡ None
+pub none_behind : (o : Option Lit) (os : List (Option Lit)) → together os ≡ None → together (o ∷ os) ≡ None
 none_behind None os h = refl
 none_behind (Some l) os h = ap (option_map (λ ms. l ∷ ms)) h
 
@@ -107,7 +107,7 @@ second_none : (distinct : Bool) (atoms : List Atom) (l : Lit) → of_two distinc
 second_none true atoms l = refl
 second_none false atoms l = refl
 
-front_none : (o : Option Lit) (os : List (Option Lit)) → o ≡ None → together (o ∷ os) ≡ None
+pub front_none : (o : Option Lit) (os : List (Option Lit)) → o ≡ None → together (o ∷ os) ≡ None
 front_none o os e = ap (λ p. together (p ∷ os)) e
 
 neighbours_none : (distinct : Bool) (atoms : List Atom) (o p : Option Lit) (os : List (Option Lit))

@@ -1,6 +1,6 @@
 //! The literals of terms.
 
-ghost use Rattle.std.specs.Prelude.{◌≡◌, ◌<◌, ◌&&◌, true, List, length, map, Option, Some, None, option_map, IfOk, IfSome};
+ghost use Rattle.std.specs.Prelude.{◌≡◌, ◌<◌, ◌&&◌, true, nat_lt, List, [], length, map, Option, Some, None, option_map, IfOk, OnOk, IfSome, MatchOption};
 ghost use Rattle.std.specs.List.{list_all};
 ghost use Rattle.sb_meaning.specs.Terms.{Term, text};
 ghost use Rattle.sb_regex.specs.Numbered as regex;
@@ -11,14 +11,18 @@ ghost use Rattle.sb_problem.specs.Patterns.{number_of, pattern_in};
 ghost use Rattle.sb_fragment.specs.Measures.{AreMeasures};
 ghost use Rattle.sb_fragment.specs.Shapes.{are_numbers, are_word_pairs, parts_of, terms_of_pairs};
 ghost use Rattle.sb_rulebook.specs.AtomRules.{is_declared};
+ghost use Rattle.sb_rulebook.specs.Parts.{together};
 ghost use Rattle.sb_rulebook.specs.Translation as rules;
+ghost use Rattle.sb_atoms.specs.Connecting as connecting;
 ghost use Rattle.sb_atoms.specs.Numbered.{atom_in, atoms_in, HaveRegexesBelow, Extends, NameEarlier};
 ghost use Rattle.sb_atoms.specs.Translated.{brought_translation, member_translation, are_members, has_declared, IsAdded, AreDefined, HasNoLiteral, HasNoMemberLiteral};
-ghost use Rattle.sb_atoms.specs.Growing.{is_below, are_below, Finds, AreReady, Moves};
-ghost use Rattle.sb_atoms.specs.Shapes.{IsAtomOf, connected_literal, have_declared_pairs, literals_of, word_literals, words_literal};
+ghost use Rattle.sb_atoms.specs.Growing.{is_below, are_below, GivesLike, GrownByGates, Finds, AreReady, Moves};
+ghost use Rattle.sb_atoms.specs.Reaching.{HaveParts, PartsAre, known_at, AreKnown};
+ghost use Rattle.sb_atoms.specs.Shapes.{IsAtomOf, have_declared_pairs, word_literals, words_literal};
 
 use crate::atom::Atom;
 use crate::connect::signed;
+use crate::reached::terms_reached;
 use crate::table::Atoms;
 use sb_fragment::{
     Connective, Measures, Shape, arguments_of, compared, membership, pair_of, shape_of,
@@ -28,7 +32,8 @@ use sb_problem::{Normals, Pattern};
 use sb_regex::Arena;
 use sb_rulebook::laws::translation_stays;
 use sb_term::{Serial, Table, TermId};
-use std::alloc::AllocError;
+use std::alloc::{AllocError, Global};
+use std::collections::BTreeMap;
 
 /// The atom that a constant's word is in a pattern, if the pattern is within the limits on sizes. Of another one no
 /// normal regex is asked for.
@@ -57,6 +62,35 @@ fn atom_of(
         Some(regex) => Ok(Some(Atom::In(serial, regex))),
         None => Ok(None),
     }
+}
+
+/// The literal that is known of a term, none where none is.
+fn literal_known(known: &BTreeMap<TermId, Option<Lit>>, id: TermId) -> Option<Lit>
+    ensures { result ≡ known_at None known.now.entries id }
+{
+    match known.get(&id) {
+        Some(found) => *found,
+        None => None,
+    }
+}
+
+/// The literals that are known of terms, if each of them has one.
+fn literals_known(
+    alloc: Global,
+    known: &BTreeMap<TermId, Option<Lit>>,
+    ids: &[TermId],
+) -> Result<Option<Vec<Lit>>, AllocError>
+    ensures { IfOk result (λ found. option_map (λ v. v.items) found
+        ≡ together (map (known_at None known.now.entries) ids.now)) }
+{
+    let mut literals = Vec::new(alloc);
+    for id in ids {
+        let Some(literal) = literal_known(known, *id) else {
+            return Ok(None);
+        };
+        literals.push(literal)?;
+    }
+    Ok(Some(literals))
 }
 
 impl Atoms {
@@ -173,8 +207,96 @@ impl Atoms {
         }
     }
 
+    /// The literal of a connective of these literals, if they are there.
+    fn connection(
+        &mut self,
+        adds: bool,
+        connective: Connective,
+        literals: Option<Vec<Lit>>,
+    ) -> Result<Option<Lit>, AllocError>
+        requires { IfSome literals (λ v. are_below (length self.old) v.items ≡ true) }
+        ensures ok { IfOk result (λ found. MatchOption literals ((found ≡ None) × (self.new ≡ self.old))
+            (λ v. GivesLike adds self.new (connecting.connected connective) v.items found)) }
+        ensures grows { GrownByGates adds self.old self.new }
+    {
+        match literals {
+            Some(literals) => self.connected(adds, connective, literals),
+            None => Ok(None),
+        }
+    }
+
+    /// The literal of a term of Boolean structure, where those of the arguments of a connective are known.
+    fn literal_of(
+        &mut self,
+        adds: bool,
+        measures: &mut Measures,
+        normals: &mut Normals,
+        table: &Table,
+        arena: &mut Arena,
+        known: &BTreeMap<TermId, Option<Lit>>,
+        id: TermId,
+    ) -> Result<Option<Lit>, AllocError>
+        requires number { id < length table.now }
+        requires structure { is_structure (term_at table.now id) ≡ true }
+        requires ready { AreReady table.now measures.old normals.old arena.old self.old }
+        requires parts { PartsAre table.now (λ i. Finds is_below adds arena.old self.old
+            (λ atoms. rules.translation atoms (term_at table.now i)) (known_at None known.now.entries i)) id }
+        ensures ok { IfOk result (λ found. Finds is_below adds arena.new self.new
+            (λ atoms. rules.translation atoms (term_at table.now id)) found) }
+        ensures moves { Moves adds (λ sorts. has_declared sorts (term_at table.now id))
+            arena.old arena.new self.old self.new }
+        ensures ready { AreReady table.now measures.new normals.new arena.new self.new }
+    {
+        if let Some((serial, pattern)) = membership(table, id) {
+            return self.member(adds, measures, normals, table, arena, serial, pattern);
+        }
+        match shape_of(table, id) {
+            Shape::Constant(serial) => self.literal(adds, Atom::Bool(serial)),
+            Shape::Always(truth) => self.always(adds, truth),
+            Shape::Alone => self.always(adds, true),
+            Shape::Connected(connective) => {
+                let parts = literals_known(self.allocator(), known, arguments_of(table, id))?;
+                self.connection(adds, connective, parts)
+            }
+            Shape::Words(distinct) => {
+                self.words(adds, measures, normals, table, arena, distinct, id)
+            }
+            Shape::Other => unreachable!(),
+        }
+    }
+
+    /// Finds the literals of terms, from the last one on, where the arguments of each connective stand behind it.
+    fn find_literals(
+        &mut self,
+        adds: bool,
+        measures: &mut Measures,
+        normals: &mut Normals,
+        table: &Table,
+        arena: &mut Arena,
+        ids: &[TermId],
+        known: &mut BTreeMap<TermId, Option<Lit>>,
+    ) -> Result<(), AllocError>
+        requires numbers { list_all (λ i. nat_lt i (length table.now)) ids.now ≡ true }
+        requires structure { list_all (λ i. is_structure (term_at table.now i)) ids.now ≡ true }
+        requires parts { HaveParts table.now ids.now [] }
+        requires ready { AreReady table.now measures.old normals.old arena.old self.old }
+        ensures ok { OnOk result (AreKnown None (λ i found. Finds is_below adds arena.new self.new
+            (λ atoms. rules.translation atoms (term_at table.now i)) found) known.new.entries ids.now) }
+        ensures moves { Moves adds (λ sorts. list_all (λ i. has_declared sorts (term_at table.now i)) ids.now)
+            arena.old arena.new self.old self.new }
+        ensures ready { AreReady table.now measures.new normals.new arena.new self.new }
+    {
+        let mut place = ids.len();
+        while place > 0 {
+            place -= 1;
+            let id = ids[place];
+            let found = self.literal_of(adds, measures, normals, table, arena, known, id)?;
+            known.insert(id, found)?;
+        }
+        Ok(())
+    }
+
     /// The literal of a term of Boolean structure.
-    #[cycle(structure)]
     fn structure(
         &mut self,
         adds: bool,
@@ -193,79 +315,10 @@ impl Atoms {
             arena.old arena.new self.old self.new }
         ensures ready { AreReady table.now measures.new normals.new arena.new self.new }
     {
-        if let Some((serial, pattern)) = membership(table, id) {
-            return self.member(adds, measures, normals, table, arena, serial, pattern);
-        }
-        match shape_of(table, id) {
-            Shape::Constant(serial) => self.literal(adds, Atom::Bool(serial)),
-            Shape::Always(truth) => self.always(adds, truth),
-            Shape::Alone => self.always(adds, true),
-            Shape::Connected(connective) => {
-                self.connection(adds, measures, normals, table, arena, connective, id)
-            }
-            Shape::Words(distinct) => {
-                self.words(adds, measures, normals, table, arena, distinct, id)
-            }
-            Shape::Other => unreachable!(),
-        }
-    }
-
-    /// The literal of a connective of a term's arguments.
-    #[cycle(structure)]
-    fn connection(
-        &mut self,
-        adds: bool,
-        measures: &mut Measures,
-        normals: &mut Normals,
-        table: &Table,
-        arena: &mut Arena,
-        connective: Connective,
-        id: TermId,
-    ) -> Result<Option<Lit>, AllocError>
-        requires number { id < length table.now }
-        requires structure { list_all is_structure (parts_of (term_at table.now id)) ≡ true }
-        requires ready { AreReady table.now measures.old normals.old arena.old self.old }
-        ensures ok { IfOk result (λ found. Finds is_below adds arena.new self.new
-            (λ atoms. connected_literal atoms connective (parts_of (term_at table.now id))) found) }
-        ensures moves { Moves adds (λ sorts. has_declared sorts (term_at table.now id))
-            arena.old arena.new self.old self.new }
-        ensures ready { AreReady table.now measures.new normals.new arena.new self.new }
-    {
-        match self.literals(adds, measures, normals, table, arena, id)? {
-            Some(literals) => self.connected(adds, connective, literals),
-            None => Ok(None),
-        }
-    }
-
-    /// The literals of a term's arguments.
-    #[cycle(structure)]
-    fn literals(
-        &mut self,
-        adds: bool,
-        measures: &mut Measures,
-        normals: &mut Normals,
-        table: &Table,
-        arena: &mut Arena,
-        id: TermId,
-    ) -> Result<Option<Vec<Lit>>, AllocError>
-        requires number { id < length table.now }
-        requires structure { list_all is_structure (parts_of (term_at table.now id)) ≡ true }
-        requires ready { AreReady table.now measures.old normals.old arena.old self.old }
-        ensures ok { IfOk result (λ found. Finds are_below adds arena.new self.new
-            (λ atoms. literals_of atoms (parts_of (term_at table.now id))) (option_map (λ v. v.items) found)) }
-        ensures moves { Moves adds (λ sorts. has_declared sorts (term_at table.now id))
-            arena.old arena.new self.old self.new }
-        ensures ready { AreReady table.now measures.new normals.new arena.new self.new }
-    {
-        let mut literals = Vec::new(self.allocator());
-        for argument in arguments_of(table, id) {
-            let found = self.structure(adds, measures, normals, table, arena, *argument)?;
-            let Some(literal) = found else {
-                return Ok(None);
-            };
-            literals.push(literal)?;
-        }
-        Ok(Some(literals))
+        let ids = terms_reached(self.allocator(), table, id)?;
+        let mut known = BTreeMap::new(self.allocator());
+        self.find_literals(adds, measures, normals, table, arena, &ids, &mut known)?;
+        Ok(literal_known(&known, id))
     }
 
     /// The literal of a term, if it has one.
@@ -298,10 +351,10 @@ impl Atoms {
     /// literals. There is no literal of others, and none of one in which a regular expression or a literal is past the
     /// limits on sizes; some of its atoms may be added then.
     ///
-    /// Linear in the term's tree, each atom by hash, but that the literals of a connective are sorted, that each two of
-    /// what is distinct are compared, and that a regular expression, or a literal, is measured, and its normal regex
-    /// made, where they were not yet. `AllocError` only for want of memory; the arena may hold more regexes then, and the
-    /// table more atoms.
+    /// Linear in the terms that it is made of by connectives, each once however often it is an argument, and in their
+    /// arguments, times a logarithm, but that each two of what is distinct are compared, and that a regular expression,
+    /// or a literal, is measured, and its normal regex made, where they were not yet. The literals are found with no
+    /// recursion. `AllocError` only for want of memory; the arena may hold more regexes then, and the table more atoms.
     pub fn translate(
         &mut self,
         measures: &mut Measures,

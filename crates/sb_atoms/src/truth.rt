@@ -262,10 +262,10 @@ fn find_truths(
 /// Whether a term of Boolean structure is true, where each String constant has the word at its serial, the empty word
 /// past the last one, and each Bool constant the truth at its serial, and is false past the last one.
 ///
-/// Each term that it is made of by connectives is looked at once, however often it is an argument, so its cost is linear
-/// in these terms and their arguments, times a logarithm, but for that of [`Plain::matches`] for each membership and each
-/// comparison of Strings, and that of [`Normals::pattern`] where the regular expression, or the literal, was not asked
-/// for yet. There is no recursion. `AllocError` only for want of memory; the arena may hold more regexes then.
+/// Each term that it is made of by connectives is looked at once, however often it is an argument, with no recursion.
+/// So its cost is linear in these terms and their arguments, times a logarithm, but for that of [`Plain::matches`] for
+/// each membership and each comparison of Strings, and that of [`Normals::pattern`] where the regular expression, or
+/// the literal, was not asked for yet. `AllocError` only for want of memory; the arena may hold more regexes then.
 pub fn eval(
     plain: &mut Plain,
     normals: &mut Normals,

@@ -1,10 +1,10 @@
-use Rattle.std.proofs.Common.{◌+◌, false, ap, get_or, length, [], ◌∷◌, ◌++◌, refl, sym, arith, ◌∙◌}
+use Rattle.std.proofs.Common.{false, ap, get_or, length, [], ◌∷◌, ◌++◌, arith, ◌∙◌}
 use Rattle.std.proofs.lemmas.Bool.{and_parts}
 use Rattle.std.proofs.lemmas.List.{get_or_default}
 use Rattle.sb_lit.specs.declared.clause.Lit.{Lit}
 use Rattle.sb_atoms.specs.Growing.{is_below}
-use Rattle.sb_atoms.proofs.Growth.{gates_none, gates_both, gates_longer}
-use Rattle.sb_atoms.proofs.Connected.{Compared, pair_below_at, pairs_below_more, compared_start, compared_step, compared_missing, compared_end}
+use Rattle.sb_atoms.proofs.Growth.{gates_both, gates_longer}
+use Rattle.sb_atoms.proofs.Connected.{pair_below_at, pairs_below_more, compared_start, compared_step, compared_missing, compared_end}
 use Rattle.sb_atoms.proofs.table.Atoms.equivalences.Goals as goal
 
 abbrev first : Lit × Lit

@@ -1,11 +1,10 @@
-use Rattle.std.proofs.Common.{◌-◌, ◌+◌, ◌∷◌, ◌++◌, false, get_or, take, drop, length, sym, ap, arith, ◌∙◌}
+use Rattle.std.proofs.Common.{◌-◌, ◌+◌, ◌∷◌, false, get_or, take, drop, length, sym, ap, arith, ◌∙◌}
 use Rattle.std.proofs.lemmas.Bool.{and_parts}
 use Rattle.std.proofs.lemmas.List.{get_or_default, take_more, take_all}
 use Rattle.sb_lit.specs.declared.clause.Lit.{Lit}
-use Rattle.sb_lit.specs.Clauses.{negation}
 use Rattle.sb_atoms.specs.Growing.{is_below, are_below}
 use Rattle.sb_atoms.proofs.Growth.{gates_none, gates_both, gates_longer}
-use Rattle.sb_atoms.proofs.Connected.{Excluded, all_below_more, below_at, excluded_start, excluded_step, excluded_missing, excluded_end, exclusive_none, cut_at}
+use Rattle.sb_atoms.proofs.Connected.{all_below_more, below_at, excluded_start, excluded_step, excluded_missing, excluded_end, cut_at}
 use Rattle.sb_atoms.proofs.table.Atoms.exclusive.Goals as goal
 
 abbrev first : Lit

@@ -1,4 +1,4 @@
-use Rattle.std.proofs.Common.{◌-◌, ◌+◌, ◌<◌, false, get_or, length, sym, arith, ◌∙◌}
+use Rattle.std.proofs.Common.{◌-◌, false, length, sym, arith, ◌∙◌}
 use Rattle.std.proofs.lemmas.List.{get_or_default}
 use Rattle.sb_lit.specs.declared.clause.Lit.{Lit}
 use Rattle.sb_atoms.proofs.Growth.{gates_none, gates_both, gates_longer}
