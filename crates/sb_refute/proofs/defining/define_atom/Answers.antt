@@ -1,7 +1,10 @@
 use Rattle.std.proofs.Common.{arith, subst}
+use Rattle.std.proofs.lemmas.Result.{IfOk-from_err, err_from_is_err_and}
 use Rattle.sb_atoms.specs.Numbered.{Names, atom_in}
 use Rattle.sb_proof.specs.Lines.{atom_in as line_atom}
 use Rattle.sb_refute.proofs.DefinedAtoms.{defines-one}
+use Rattle.sb_proof.specs.declared.line.Atom.{Atom}
+use Rattle.sb_trace.proofs.CallerLemmas.{counts_on}
 use Rattle.sb_refute.proofs.defining.define_atom.Goals as goal
 
 pub describe-requires : goal.describe-requires
@@ -18,3 +21,24 @@ returns-clause-puts g c = λ asked memo before due tracks known.
     c.atoms_each_once.ensures c.requires.regexes
     (subst (λ n. Names c.args.atoms.now n (atom_in c.describe.result.now)) c.of-id.ensures c.describe.ensures) due known
     (c.in_ok-line.ensures.puts asked memo before tracks) c.in_ok-line.ensures.text c.in_ok-put.ensures.ok
+
+pub returns-in_err-line : goal.returns-in_err-line
+returns-in_err-line g c =
+    let x = c.from_residual in
+    let p = err_from_is_err_and x.result x.ensures.1 in
+    record {
+      puts = IfOk-from_err x.result _ x.ensures.0;
+      numbers_stay = c.in_err-line.ensures.numbers_stay;
+      counts = counts_on Atom x.result p.0 _ _ _ p.1 p.2 c.in_err-line.ensures.counts;
+    }
+
+pub returns-in_err-put-clause-puts : goal.returns-in_err-put-clause-puts
+returns-in_err-put-clause-puts g c =
+    let x = c.from_residual-in_err-put in
+    IfOk-from_err x.result _ x.ensures.0
+
+pub returns-in_err-put-clause-numbers_stay : goal.returns-in_err-put-clause-numbers_stay
+returns-in_err-put-clause-numbers_stay g c = c.in_ok-line.ensures.numbers_stay
+
+pub returns-clause-numbers_stay : goal.returns-clause-numbers_stay
+returns-clause-numbers_stay g c = c.in_ok-line.ensures.numbers_stay

@@ -1,9 +1,11 @@
 use Rattle.std.proofs.Common.{◌+◌, ℕ, List, arith, take, refl, subst, ◌∙◌}
+use Rattle.std.proofs.lemmas.Result.{IfOk-from_err, err_from_is_err_and}
 use Rattle.std.proofs.lemmas.List.{take_all}
 use Rattle.sb_rulebook.specs.Atoms.{AtomOver}
-use Rattle.sb_trace.proofs.CallerLemmas.{stays_same, stays_both}
+use Rattle.sb_trace.proofs.CallerLemmas.{stays_same, stays_both, counts_on}
 use Rattle.sb_refute.specs.Lines.{Defines}
 use Rattle.sb_refute.proofs.DefinedAtoms.{defines-none, defines-both, due-later}
+use Rattle.sb_trace.specs.Putting.{CountsTapeFault}
 use Rattle.sb_refute.proofs.defining.define_atoms.Goals as goal
 
 pub loop-number-init : goal.loop-number-init
@@ -41,3 +43,15 @@ returns-clause-puts g c = λ asked memo before due low tracks known.
     (g.L.Tape.told c.args.tape.now) (g.L.Tape.told c.loop-number.tape))
     (take_all c.loop-number.number c.args.atoms.now (omega (arith, c.loop-number-test.false, c.len.ensures)))
     (h.4 asked memo before due low tracks known)
+
+pub returns-in_err-define_atom : goal.returns-in_err-define_atom
+returns-in_err-define_atom g c =
+    let x = c.from_residual in
+    let p = err_from_is_err_and x.result x.ensures.1 in
+    record {
+      puts = IfOk-from_err x.result _ x.ensures.0;
+      numbers_stay = stays_both c.args.trace.now c.loop-number.trace c.define_atom.new.trace c.loop-number.invariant.2
+          c.define_atom.ensures.numbers_stay;
+      counts = subst (λ old. CountsTapeFault x.result old (g.L.Tape.faults c.define_atom.new.tape)) c.loop-number.invariant.3
+          (counts_on (Unit {0}) x.result p.0 _ _ _ p.1 p.2 c.in_err-define_atom.ensures.counts);
+    }

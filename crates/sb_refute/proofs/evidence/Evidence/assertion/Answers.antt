@@ -1,8 +1,8 @@
 use Rattle.std.proofs.Common.{◌≡◌, ◌≢◌, ◌<◌, ℕ, length, None, IfSome, Option, option_map, sym, ap, subst, ◌∙◌}
-use Rattle.std.proofs.lemmas.Result.{on_ok_weaker}
+use Rattle.std.proofs.lemmas.Result.{on_ok_weaker, IfOk-from_err, err_from_is_err_and}
 use Rattle.sb_facts.proofs.CallerLemmas.{ok_more}
 use Rattle.sb_term.specs.Numbered.{term_at}
-use Rattle.sb_atoms.specs.Numbered.{atoms_in}
+use Rattle.sb_atoms.specs.Numbered.{atoms_in, Extends, HaveRegexesBelow}
 use Rattle.sb_atoms.specs.Translated.{member_translation, HasNoMemberLiteral}
 use Rattle.sb_refute.specs.declared.evidence.Asserted.{Asserted}
 use Rattle.sb_refute.specs.Backing.{Backing, Backs, asserted_at}
@@ -10,6 +10,9 @@ use Rattle.sb_refute.proofs.Backs.{backs-more}
 use Rattle.sb_refute.proofs.Holding.{stand-atoms}
 use Rattle.sb_refute.proofs.Asserting.{due-added, added-defined, added-known, is-assertion, both-put}
 use Rattle.sb_refute.proofs.Standing.{stays-after}
+use Rattle.sb_trace.proofs.CallerLemmas.{stays_same, counts_none, counts_on}
+use Rattle.sb_trace.specs.Tracking.{StaysNumbered}
+use Rattle.sb_trace.specs.Putting.{CountsTapeFault}
 use Rattle.sb_refute.proofs.evidence.Evidence.assertion.Goals as goal
 
 pub invariant_of-self : goal.invariant_of-self
@@ -102,3 +105,83 @@ returns-clause-others g c =
     on_ok_weaker c.stated.result
     (λ stay other apart. stay other apart ∙ ap (λ xs. asserted_at xs other) (ap (λ (f : Backing). f.asserted) c.in_ok-define.ensures.others ∙ ap (λ (f : Backing). f.asserted) c.self.view_is))
     c.stated.ensures.others
+
+pub returns-in_err-found : goal.returns-in_err-found
+returns-in_err-found g c =
+    let x = c.from_residual in
+    let p = err_from_is_err_and x.result x.ensures.1 in
+    record {
+      puts = IfOk-from_err x.result _ x.ensures.0;
+      asserted = IfOk-from_err x.result _ x.ensures.0;
+      literal = IfOk-from_err x.result _ x.ensures.0;
+      level = IfOk-from_err x.result _ x.ensures.0;
+      none = IfOk-from_err x.result _ x.ensures.0;
+      stays = IfOk-from_err x.result _ x.ensures.0;
+      others = IfOk-from_err x.result _ x.ensures.0;
+      numbers_stay = subst (λ (f : Backing). StaysNumbered f.trace c.self.inside.trace) c.self.view_is
+          (stays_same c.self.inside.trace);
+      extends = subst (λ (f : Backing). Extends f.atoms c.translate_member.new.self) c.self.view_is c.translate_member.ensures.extends;
+      regexes = c.translate_member.ensures.regexes;
+      right = c.translate_member.ensures.right;
+      normals = c.translate_member.ensures.normals;
+      arena = c.translate_member.ensures.arena;
+      counts = counts_none x.result p.0 _ p.1 p.2;
+    }
+
+pub returns-in_err-define : goal.returns-in_err-define
+returns-in_err-define g c =
+    let x = c.from_residual-in_err-define in
+    let p = err_from_is_err_and x.result x.ensures.1 in
+    record {
+      puts = IfOk-from_err x.result _ x.ensures.0;
+      asserted = IfOk-from_err x.result _ x.ensures.0;
+      literal = IfOk-from_err x.result _ x.ensures.0;
+      level = IfOk-from_err x.result _ x.ensures.0;
+      none = IfOk-from_err x.result _ x.ensures.0;
+      stays = IfOk-from_err x.result _ x.ensures.0;
+      others = IfOk-from_err x.result _ x.ensures.0;
+      numbers_stay = subst (λ (f : Backing). StaysNumbered f.trace c.define.new.self.trace) c.self.view_is
+          c.define.ensures.numbers_stay;
+      extends = subst (Extends c.args.self.now.atoms) (sym (ap (λ (f : Backing). f.atoms) c.define.ensures.others))
+          (subst (λ (f : Backing). Extends f.atoms c.translate_member.new.self) c.self.view_is c.translate_member.ensures.extends);
+      regexes = subst (HaveRegexesBelow (length c.translate_member.new.arena)) (sym (ap (λ (f : Backing). f.atoms) c.define.ensures.others))
+          c.translate_member.ensures.regexes;
+      right = c.translate_member.ensures.right;
+      normals = c.translate_member.ensures.normals;
+      arena = c.translate_member.ensures.arena;
+      counts = counts_on (Unit {0}) x.result p.0 _ _ _ p.1 p.2 c.in_err-define.ensures.counts;
+    }
+
+pub returns-clause-asserted : goal.returns-clause-asserted
+returns-clause-asserted g c = c.stated.ensures.asserted
+
+pub returns-clause-level : goal.returns-clause-level
+returns-clause-level g c = c.stated.ensures.level
+
+pub returns-clause-right : goal.returns-clause-right
+returns-clause-right g c = c.translate_member.ensures.right
+
+pub returns-clause-normals : goal.returns-clause-normals
+returns-clause-normals g c = c.translate_member.ensures.normals
+
+pub returns-clause-arena : goal.returns-clause-arena
+returns-clause-arena g c = c.translate_member.ensures.arena
+
+pub returns-clause-numbers_stay : goal.returns-clause-numbers_stay
+returns-clause-numbers_stay g c =
+    subst (StaysNumbered c.args.self.now.trace) (sym c.stated.ensures.trace)
+    (subst (λ (f : Backing). StaysNumbered f.trace c.define.new.self.trace) c.self.view_is c.define.ensures.numbers_stay)
+
+pub returns-clause-extends : goal.returns-clause-extends
+returns-clause-extends g c =
+    subst (Extends c.args.self.now.atoms) (sym (c.stated.ensures.atoms ∙ ap (λ (f : Backing). f.atoms) c.define.ensures.others))
+    (subst (λ (f : Backing). Extends f.atoms c.translate_member.new.self) c.self.view_is c.translate_member.ensures.extends)
+
+pub returns-clause-regexes : goal.returns-clause-regexes
+returns-clause-regexes g c =
+    subst (HaveRegexesBelow (length c.translate_member.new.arena)) (sym (c.stated.ensures.atoms ∙ ap (λ (f : Backing). f.atoms) c.define.ensures.others)) c.translate_member.ensures.regexes
+
+pub returns-clause-counts : goal.returns-clause-counts
+returns-clause-counts g c =
+    subst (λ old. CountsTapeFault c.stated.result old (g.L.Tape.faults c.stated.new.tape)) c.in_ok-define.ensures.counts
+    c.stated.ensures.counts

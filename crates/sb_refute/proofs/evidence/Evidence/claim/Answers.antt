@@ -1,10 +1,14 @@
-use Rattle.std.proofs.Common.{◌<◌, ◌∷◌, [], length, refl, sym, ap, subst, arith}
+use Rattle.std.proofs.Common.{◌<◌, ◌∷◌, [], length, refl, sym, ap, subst, arith, ◌∙◌, Some}
+use Rattle.std.proofs.lemmas.Result.{IfOk-from_err, err_from_is_err_and}
 use Rattle.std.proofs.lemmas.List.{length-map}
 use Rattle.sb_atoms.specs.Numbered.{over}
 use Rattle.sb_refute.specs.declared.evidence.Asserted.{Asserted}
 use Rattle.sb_refute.specs.Backing.{Backing, EvidencesUncounted}
 use Rattle.sb_refute.proofs.LinesPut.{assertion-put}
 use Rattle.sb_refute.proofs.Asserting.{counted-and-kept}
+use Rattle.sb_refute.specs.Lines.{placed}
+use Rattle.sb_trace.proofs.CallerLemmas.{counts_none}
+use Rattle.sb_trace.specs.Putting.{CountsTapeFault}
 use Rattle.sb_refute.proofs.evidence.Evidence.claim.Goals as goal
 
 pub returns-clause-puts : goal.returns-clause-puts
@@ -21,3 +25,98 @@ returns-clause-puts g c = λ asked rs memo before b is.
     (assertion-put c.assertion_lines_are_exact.ensures asked before rs memo e c.args.place one
     (g.L.Tape.told c.args.tape.now) (g.L.Tape.told c.put.new.self) known c.in_ok-clause.ensures.number
     (omega arith) (omega arith) b is c.in_ok-put.ensures.ok)
+
+pub returns-in_err-put-clause-puts : goal.returns-in_err-put-clause-puts
+returns-in_err-put-clause-puts g c =
+    let x = c.from_residual in
+    IfOk-from_err x.result _ x.ensures.0
+
+pub returns-in_err-put-clause-literal : goal.returns-in_err-put-clause-literal
+returns-in_err-put-clause-literal g c =
+    let x = c.from_residual in
+    IfOk-from_err x.result _ x.ensures.0
+
+pub returns-in_err-put-clause-level : goal.returns-in_err-put-clause-level
+returns-in_err-put-clause-level g c =
+    let x = c.from_residual in
+    IfOk-from_err x.result _ x.ensures.0
+
+pub returns-in_err-put-clause-asserted : goal.returns-in_err-put-clause-asserted
+returns-in_err-put-clause-asserted g c =
+    let x = c.from_residual in
+    IfOk-from_err x.result _ x.ensures.0
+
+pub returns-in_err-put-clause-kept : goal.returns-in_err-put-clause-kept
+returns-in_err-put-clause-kept g c =
+    let x = c.from_residual in
+    IfOk-from_err x.result _ x.ensures.0
+
+pub returns-in_err-put-clause-atoms : goal.returns-in_err-put-clause-atoms
+returns-in_err-put-clause-atoms g c = refl
+
+pub returns-in_err-put-clause-trace : goal.returns-in_err-put-clause-trace
+returns-in_err-put-clause-trace g c = refl
+
+pub returns-in_err-clause : goal.returns-in_err-clause
+returns-in_err-clause g c =
+    let x = c.from_residual-in_err-clause in
+    let p = err_from_is_err_and x.result x.ensures.1 in
+    record {
+      puts = IfOk-from_err x.result _ x.ensures.0;
+      literal = IfOk-from_err x.result _ x.ensures.0;
+      level = IfOk-from_err x.result _ x.ensures.0;
+      asserted = IfOk-from_err x.result _ x.ensures.0;
+      kept = IfOk-from_err x.result _ x.ensures.0;
+      atoms = ap (λ (f : Backing). f.atoms) c.in_err-clause.ensures.err;
+      trace = ap (λ (f : Backing). f.trace) c.in_err-clause.ensures.err;
+      counts = subst (λ old. CountsTapeFault x.result old (g.L.Tape.faults c.put.new.self)) c.in_ok-put.ensures.counts
+          (counts_none x.result p.0 (g.L.Tape.faults c.put.new.self) p.1 p.2);
+    }
+
+pub returns-in_err-keep : goal.returns-in_err-keep
+returns-in_err-keep g c =
+    let x = c.from_residual-in_err-keep in
+    let p = err_from_is_err_and x.result x.ensures.1 in
+    record {
+      puts = IfOk-from_err x.result _ x.ensures.0;
+      literal = IfOk-from_err x.result _ x.ensures.0;
+      level = IfOk-from_err x.result _ x.ensures.0;
+      asserted = IfOk-from_err x.result _ x.ensures.0;
+      kept = IfOk-from_err x.result _ x.ensures.0;
+      atoms = ap (λ (f : Backing). f.atoms) c.in_err-keep.ensures.err ∙ ap (λ (f : Backing). f.atoms) c.in_ok-clause.ensures.ok;
+      trace = ap (λ (f : Backing). f.trace) c.in_err-keep.ensures.err ∙ ap (λ (f : Backing). f.trace) c.in_ok-clause.ensures.ok;
+      counts = subst (λ old. CountsTapeFault x.result old (g.L.Tape.faults c.put.new.self)) c.in_ok-put.ensures.counts
+          (counts_none x.result p.0 (g.L.Tape.faults c.put.new.self) p.1 p.2);
+    }
+
+pub returns-clause-literal : goal.returns-clause-literal
+returns-clause-literal g c = refl
+
+pub returns-clause-level : goal.returns-clause-level
+returns-clause-level g c = refl
+
+pub returns-clause-atoms : goal.returns-clause-atoms
+returns-clause-atoms g c =
+    ap (λ (f : Backing). f.atoms) c.in_ok-keep.ensures.ok ∙ ap (λ (f : Backing). f.atoms) c.in_ok-clause.ensures.ok
+
+pub returns-clause-trace : goal.returns-clause-trace
+returns-clause-trace g c =
+    ap (λ (f : Backing). f.trace) c.in_ok-keep.ensures.ok ∙ ap (λ (f : Backing). f.trace) c.in_ok-clause.ensures.ok
+
+pub returns-clause-kept : goal.returns-clause-kept
+returns-clause-kept g c =
+    ap (λ (f : Backing). f.kept) c.in_ok-keep.ensures.ok ∙ ap (λ (f : Backing). f.kept) c.in_ok-clause.ensures.ok
+
+pub returns-clause-asserted : goal.returns-clause-asserted
+returns-clause-asserted g c =
+    let one : Asserted =
+    record { clause = c.in_ok-clause.clause; literal = c.args.literal; level = c.args.level } in
+    ap (λ (f : Backing). f.asserted) c.in_ok-keep.ensures.ok
+    ∙ ap (λ (f : Backing). placed f.asserted c.args.place (Some one)) c.in_ok-clause.ensures.ok
+
+pub returns-clause-counts : goal.returns-clause-counts
+returns-clause-counts g c = c.in_ok-put.ensures.counts
+
+pub keep-requires : goal.keep-requires
+keep-requires g c =
+    subst (λ n. c.args.literal.atom < n) (sym (ap (λ (f : Backing). length f.atoms) c.in_ok-clause.ensures.ok)) c.requires

@@ -1,15 +1,20 @@
-use Rattle.std.proofs.Common.{◌≡◌, ◌<◌, true, List, length, All, sym, subst}
-use Rattle.std.proofs.lemmas.Result.{on_ok_weaker}
+use Rattle.std.proofs.Common.{◌≡◌, ◌<◌, true, List, length, All, sym, subst, ap, refl, ◌∙◌, Bool, Some, None}
+use Rattle.std.proofs.lemmas.Bool.{true≢false}
+use Rattle.std.proofs.lemmas.Result.{on_ok_weaker, IfOk-from_err, err_from_is_err_and}
 use Rattle.sb_lang.specs.Constructors.{mkand}
 use Rattle.sb_lit.specs.declared.clause.Lit.{Lit}
 use Rattle.sb_clauses.specs.Propagation.{are_reserved}
 use Rattle.sb_regex.specs.Numbered.{regexes_at}
-use Rattle.sb_regex.proofs.CallerLemmas.{extends_more, names_below}
+use Rattle.sb_regex.proofs.CallerLemmas.{extends_more, names_below, extends_same}
 use Rattle.sb_atoms.specs.Numbered.{HaveRegexesBelow}
 use Rattle.sb_refute.specs.Backing.{Backing, Backs}
 use Rattle.sb_refute.specs.Units.{Member, IsMemberAt, HaveNoWord, AreRegexesOf, numbered}
 use Rattle.sb_refute.proofs.Backs.{backs-more}
 use Rattle.sb_refute.proofs.Memberships.{units-below, units-members, denials-known, some-units, regexes-known, no-word, explored-put, denied-all}
+use Rattle.sb_trace.proofs.CallerLemmas.{stays_same, counts_none, counts_on}
+use Rattle.sb_trace.specs.Tracking.{StaysNumbered}
+use Rattle.sb_trace.specs.Putting.{CountsTapeFault}
+use Rattle.sb_sound.specs.HintLaws.{HasNoSubset}
 use Rattle.sb_refute.proofs.evidence.Evidence.deny.Goals as goal
 
 pub regexes_of-requires : goal.regexes_of-requires
@@ -25,10 +30,6 @@ and-requires g c =
     (subst (AreRegexesOf c.self.inside.atoms us) (sym c.deref.ensures.value) c.in_ok-regexes.ensures.regexes)
     (subst (λ (v : Backing). HaveRegexesBelow (length c.args.arena.now) v.atoms) (sym c.self.view_is)
     c.requires.regexes)
-
-pub returns-in_err-meet-clause-graph : goal.returns-in_err-meet-clause-graph
-returns-in_err-meet-clause-graph g c =
-    c.graph_stays.ensures c.args.arena.now c.and.new.self c.args.graph.now c.and.ensures.extends c.requires.graph
 
 pub show_dead-requires-clause-known : goal.show_dead-requires-clause-known
 show_dead-requires-clause-known g c =
@@ -128,3 +129,153 @@ returns-clause-puts g c =
     counts)
     (λ after h now n. put asked more memos after h now n))
     c.put_denial.ensures.puts
+
+pub returns-in_err-regexes : goal.returns-in_err-regexes
+returns-in_err-regexes g c =
+    let x = c.from_residual in
+    let p = err_from_is_err_and x.result x.ensures.1 in
+    record {
+      puts = IfOk-from_err x.result _ x.ensures.0;
+      part = IfOk-from_err x.result _ x.ensures.0;
+      spent = IfOk-from_err x.result _ x.ensures.0;
+      refuted = c.requires.refuted;
+      asserted = refl;
+      atoms = refl;
+      stays = stays_same c.args.self.now.trace;
+      extends = extends_same c.args.arena.now;
+      graph = c.requires.graph;
+      marks_stay = λ n h. h;
+      derivatives_stay = λ n pieces h. h;
+      counts = counts_none x.result p.0 _ p.1 p.2;
+    }
+
+pub returns-in_err-meet : goal.returns-in_err-meet
+returns-in_err-meet g c =
+    let x = c.from_residual-in_err-meet in
+    let p = err_from_is_err_and x.result x.ensures.1 in
+    record {
+      puts = IfOk-from_err x.result _ x.ensures.0;
+      part = IfOk-from_err x.result _ x.ensures.0;
+      spent = IfOk-from_err x.result _ x.ensures.0;
+      refuted = c.requires.refuted;
+      asserted = refl;
+      atoms = refl;
+      stays = stays_same c.args.self.now.trace;
+      extends = c.and.ensures.extends;
+      graph = c.graph_stays.ensures c.args.arena.now c.and.new.self c.args.graph.now c.and.ensures.extends c.requires.graph;
+      marks_stay = λ n h. h;
+      derivatives_stay = λ n pieces h. h;
+      counts = counts_none x.result p.0 _ p.1 p.2;
+    }
+
+pub returns-in_err-show_dead : goal.returns-in_err-show_dead
+returns-in_err-show_dead g c =
+    let x = c.from_residual-in_err-show_dead in
+    let p = err_from_is_err_and x.result x.ensures.1 in
+    let dead = c.in_err-show_dead.ensures in
+    record {
+      puts = IfOk-from_err x.result _ x.ensures.0;
+      part = IfOk-from_err x.result _ x.ensures.0;
+      spent = IfOk-from_err x.result _ x.ensures.0;
+      refuted = ap (λ (f : Backing). f.refuted) c.self.view_is ∙ c.requires.refuted;
+      asserted = ap (λ (f : Backing). f.asserted) c.self.view_is;
+      atoms = ap (λ (f : Backing). f.atoms) c.self.view_is;
+      stays = subst (λ (f : Backing). StaysNumbered f.trace c.show_dead.new.trace) c.self.view_is dead.stays;
+      extends = extends_more c.args.arena.now c.and.new.self c.show_dead.new.arena c.and.ensures.extends
+          dead.extends;
+      graph = dead.graph;
+      marks_stay = dead.marks_stay;
+      derivatives_stay = dead.derivatives_stay;
+      counts = counts_on Bool x.result p.0 _ _ _ p.1 p.2 dead.counts;
+    }
+
+pub returns-then-not-branch-clause-extends : goal.returns-then-not-branch-clause-extends
+returns-then-not-branch-clause-extends g c =
+    extends_more c.args.arena.now c.and.new.self c.show_dead.new.arena c.and.ensures.extends
+    c.in_ok-show_dead.ensures.extends
+
+pub returns-then-not-branch-clause-graph : goal.returns-then-not-branch-clause-graph
+returns-then-not-branch-clause-graph g c = c.in_ok-show_dead.ensures.graph
+
+pub returns-then-not-branch-clause-marks_stay : goal.returns-then-not-branch-clause-marks_stay
+returns-then-not-branch-clause-marks_stay g c = c.in_ok-show_dead.ensures.marks_stay
+
+pub returns-then-not-branch-clause-derivatives_stay : goal.returns-then-not-branch-clause-derivatives_stay
+returns-then-not-branch-clause-derivatives_stay g c = c.in_ok-show_dead.ensures.derivatives_stay
+
+pub returns-clause-extends : goal.returns-clause-extends
+returns-clause-extends g c =
+    extends_more c.args.arena.now c.and.new.self c.show_dead.new.arena c.and.ensures.extends
+    c.in_ok-show_dead.ensures.extends
+
+pub returns-clause-graph : goal.returns-clause-graph
+returns-clause-graph g c = c.in_ok-show_dead.ensures.graph
+
+pub returns-clause-marks_stay : goal.returns-clause-marks_stay
+returns-clause-marks_stay g c = c.in_ok-show_dead.ensures.marks_stay
+
+pub returns-clause-derivatives_stay : goal.returns-clause-derivatives_stay
+returns-clause-derivatives_stay g c = c.in_ok-show_dead.ensures.derivatives_stay
+
+pub returns-then-not-branch-clause-refuted : goal.returns-then-not-branch-clause-refuted
+returns-then-not-branch-clause-refuted g c = ap (λ (f : Backing). f.refuted) c.self.view_is ∙ c.requires.refuted
+
+pub returns-then-not-branch-clause-asserted : goal.returns-then-not-branch-clause-asserted
+returns-then-not-branch-clause-asserted g c = ap (λ (f : Backing). f.asserted) c.self.view_is
+
+pub returns-then-not-branch-clause-atoms : goal.returns-then-not-branch-clause-atoms
+returns-then-not-branch-clause-atoms g c = ap (λ (f : Backing). f.atoms) c.self.view_is
+
+pub returns-then-not-branch-clause-stays : goal.returns-then-not-branch-clause-stays
+returns-then-not-branch-clause-stays g c =
+    subst (λ (f : Backing). StaysNumbered f.trace c.show_dead.new.trace) c.self.view_is c.in_ok-show_dead.ensures.stays
+
+pub returns-clause-asserted : goal.returns-clause-asserted
+returns-clause-asserted g c = c.put_denial.ensures.asserted ∙ ap (λ (f : Backing). f.asserted) c.self.view_is
+
+pub returns-clause-atoms : goal.returns-clause-atoms
+returns-clause-atoms g c = c.put_denial.ensures.atoms ∙ ap (λ (f : Backing). f.atoms) c.self.view_is
+
+pub returns-clause-stays : goal.returns-clause-stays
+returns-clause-stays g c =
+    subst (StaysNumbered c.args.self.now.trace) (sym c.put_denial.ensures.trace)
+    (subst (λ (f : Backing). StaysNumbered f.trace c.show_dead.new.trace) c.self.view_is c.in_ok-show_dead.ensures.stays)
+
+pub returns-then-not-branch-clause-counts : goal.returns-then-not-branch-clause-counts
+returns-then-not-branch-clause-counts g c = c.in_ok-show_dead.ensures.counts
+
+pub returns-then-not-branch-clause-part : goal.returns-then-not-branch-clause-part
+returns-then-not-branch-clause-part g c = tt
+
+pub returns-then-not-branch-clause-spent : goal.returns-then-not-branch-clause-spent
+returns-then-not-branch-clause-spent g c = λ _. c.in_ok-show_dead.ensures.spent c.if-not-branch.true
+
+pub returns-clause-counts : goal.returns-clause-counts
+returns-clause-counts g c =
+    subst (λ old. CountsTapeFault c.put_denial.result old (g.L.Tape.faults c.put_denial.new.tape))
+    c.in_ok-show_dead.ensures.counts c.put_denial.ensures.counts
+
+pub returns-clause-part : goal.returns-clause-part
+returns-clause-part g c = c.put_denial.ensures.part
+
+pub returns-clause-spent : goal.returns-clause-spent
+returns-clause-spent g c = c.put_denial.ensures.spent
+
+pub returns-clause-refuted : goal.returns-clause-refuted
+returns-clause-refuted g c = c.put_denial.ensures.refuted
+
+pub put_denial-requires-clause-literals : goal.put_denial-requires-clause-literals
+put_denial-requires-clause-literals g c = c.requires.literals
+
+pub put_denial-requires-clause-small : goal.put_denial-requires-clause-small
+put_denial-requires-clause-small g c = c.requires.small
+
+pub put_denial-requires-clause-rise : goal.put_denial-requires-clause-rise
+put_denial-requires-clause-rise g c = c.in_ok-regexes.ensures.rise
+
+pub put_denial-requires-clause-new : goal.put_denial-requires-clause-new
+put_denial-requires-clause-new g c =
+    subst (λ (f : Backing). HasNoSubset f.kept c.args.literals.items) (sym c.self.view_is) c.requires.new
+
+pub put_denial-requires-clause-refuted : goal.put_denial-requires-clause-refuted
+put_denial-requires-clause-refuted g c = ap (λ (f : Backing). f.refuted) c.self.view_is ∙ c.requires.refuted

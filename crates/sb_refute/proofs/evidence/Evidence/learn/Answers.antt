@@ -1,4 +1,5 @@
-use Rattle.std.proofs.Common.{List, Some, option_map, sym, ap, ap₂, subst, ◌∙◌}
+use Rattle.std.proofs.Common.{List, Some, option_map, sym, ap, ap₂, subst, ◌∙◌, refl}
+use Rattle.std.proofs.lemmas.Result.{IfOk-from_err, err_from_is_err_and}
 use Rattle.sb_facts.proofs.CallerLemmas.{told_ok}
 use Rattle.sb_lit.specs.declared.clause.Lit.{Lit}
 use Rattle.sb_lit.specs.Kept.{Kept, kept_at}
@@ -11,6 +12,8 @@ use Rattle.sb_refute.specs.Units.{LeadsNowhere}
 use Rattle.sb_refute.proofs.Clauses.{kept-last}
 use Rattle.sb_refute.proofs.Holding.{none-bare}
 use Rattle.sb_refute.proofs.Memberships.{learned-put}
+use Rattle.sb_trace.proofs.CallerLemmas.{counts_none}
+use Rattle.sb_trace.specs.Putting.{CountsTapeFault}
 use Rattle.sb_refute.proofs.evidence.Evidence.learn.Goals as goal
 
 pub returns-clause-puts : goal.returns-clause-puts
@@ -43,3 +46,82 @@ returns-clause-refuted g c =
             ∙ kept-last c.args.self.now.kept (Some (empty_at one)),
       ),
     )
+
+pub returns-in_err-hints : goal.returns-in_err-hints
+returns-in_err-hints g c =
+    let x = c.from_residual in
+    let p = err_from_is_err_and x.result x.ensures.1 in
+    record {
+      puts = IfOk-from_err x.result _ x.ensures.0;
+      refuted = IfOk-from_err x.result _ x.ensures.0;
+      asserted = refl;
+      atoms = refl;
+      trace = refl;
+      counts = counts_none x.result p.0 _ p.1 p.2;
+    }
+
+pub returns-in_err-put-clause-puts : goal.returns-in_err-put-clause-puts
+returns-in_err-put-clause-puts g c =
+    let x = c.from_residual-in_err-put in
+    IfOk-from_err x.result _ x.ensures.0
+
+pub returns-in_err-put-clause-refuted : goal.returns-in_err-put-clause-refuted
+returns-in_err-put-clause-refuted g c =
+    let x = c.from_residual-in_err-put in
+    IfOk-from_err x.result _ x.ensures.0
+
+pub returns-in_err-put-clause-asserted : goal.returns-in_err-put-clause-asserted
+returns-in_err-put-clause-asserted g c = refl
+
+pub returns-then-is_err-clause-asserted : goal.returns-then-is_err-clause-asserted
+returns-then-is_err-clause-asserted g c = refl
+
+pub returns-in_err-put-clause-atoms : goal.returns-in_err-put-clause-atoms
+returns-in_err-put-clause-atoms g c = refl
+
+pub returns-then-is_err-clause-atoms : goal.returns-then-is_err-clause-atoms
+returns-then-is_err-clause-atoms g c = refl
+
+pub returns-in_err-put-clause-trace : goal.returns-in_err-put-clause-trace
+returns-in_err-put-clause-trace g c = refl
+
+pub returns-then-is_err-clause-trace : goal.returns-then-is_err-clause-trace
+returns-then-is_err-clause-trace g c = refl
+
+pub returns-then-is_err-clause-counts : goal.returns-then-is_err-clause-counts
+returns-then-is_err-clause-counts g c = refl
+
+pub returns-in_err-empty : goal.returns-in_err-empty
+returns-in_err-empty g c =
+    let x = c.from_residual-in_err-empty in
+    let p = err_from_is_err_and x.result x.ensures.1 in
+    record {
+      puts = IfOk-from_err x.result _ x.ensures.0;
+      refuted = IfOk-from_err x.result _ x.ensures.0;
+      asserted = ap (λ (f : Backing). f.asserted) c.in_err-empty.ensures.err;
+      atoms = ap (λ (f : Backing). f.atoms) c.in_err-empty.ensures.err;
+      trace = ap (λ (f : Backing). f.trace) c.in_err-empty.ensures.err;
+      counts = subst (λ old. CountsTapeFault x.result old (g.L.Tape.faults c.put.new.self)) c.in_ok-put.ensures.counts
+          (counts_none x.result p.0 (g.L.Tape.faults c.put.new.self) p.1 p.2);
+    }
+
+pub returns-clause-asserted : goal.returns-clause-asserted
+returns-clause-asserted g c = ap (λ (f : Backing). f.asserted) c.in_ok-empty.ensures.ok
+
+pub returns-clause-atoms : goal.returns-clause-atoms
+returns-clause-atoms g c = ap (λ (f : Backing). f.atoms) c.in_ok-empty.ensures.ok
+
+pub returns-clause-trace : goal.returns-clause-trace
+returns-clause-trace g c = ap (λ (f : Backing). f.trace) c.in_ok-empty.ensures.ok
+
+pub returns-clause-counts : goal.returns-clause-counts
+returns-clause-counts g c = c.in_ok-put.ensures.counts
+
+pub reasons-requires-clause-units : goal.reasons-requires-clause-units
+reasons-requires-clause-units g c = c.requires.units
+
+pub reasons-requires-clause-part : goal.reasons-requires-clause-part
+reasons-requires-clause-part g c = c.requires.part
+
+pub add_empty-requires : goal.add_empty-requires
+add_empty-requires g c = record { unset = c.requires.refuted }

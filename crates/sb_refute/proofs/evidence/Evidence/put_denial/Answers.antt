@@ -1,4 +1,5 @@
-use Rattle.std.proofs.Common.{◌≡◌, ◌++◌, ◌∷◌, [], List, Some, length, sym, ap, ◌∙◌}
+use Rattle.std.proofs.Common.{◌≡◌, ◌++◌, ◌∷◌, [], List, Some, length, sym, ap, ◌∙◌, refl}
+use Rattle.std.proofs.lemmas.Result.{IfOk-from_err, err_from_is_err_and}
 use Rattle.sb_facts.proofs.CallerLemmas.{told_ok}
 use Rattle.sb_lit.specs.declared.clause.Lit.{Lit}
 use Rattle.sb_clauses.specs.Propagation.{are_reserved}
@@ -6,6 +7,7 @@ use Rattle.sb_refute.specs.Backing.{Backing}
 use Rattle.sb_refute.specs.Units.{numbered, denials_of}
 use Rattle.sb_refute.proofs.ClauseLines.{some-denials}
 use Rattle.sb_refute.proofs.Memberships.{denied-put, new-part}
+use Rattle.sb_trace.proofs.CallerLemmas.{counts_none}
 use Rattle.sb_refute.proofs.evidence.Evidence.put_denial.Goals as goal
 
 pub add-requires-clause-known : goal.add-requires-clause-known
@@ -42,3 +44,81 @@ returns-clause-part g c =
     new-part c.args.self.now.kept c.add.new.self.kept c.deref.result.now all c.in_ok-id.id.0
     (ap (λ (v : Backing). v.kept) c.in_ok-id.ensures.ok) (c.deref.ensures.value ∙ c.requires.literals)
     c.in_ok-id.ensures.number
+
+pub returns-in_err-id : goal.returns-in_err-id
+returns-in_err-id g c =
+    let x = c.from_residual in
+    let p = err_from_is_err_and x.result x.ensures.1 in
+    record {
+      puts = IfOk-from_err x.result _ x.ensures.0;
+      part = IfOk-from_err x.result _ x.ensures.0;
+      spent = IfOk-from_err x.result _ x.ensures.0;
+      refuted = ap (λ (f : Backing). f.refuted) c.in_err-id.ensures.err ∙ c.requires.refuted;
+      asserted = ap (λ (f : Backing). f.asserted) c.in_err-id.ensures.err;
+      atoms = ap (λ (f : Backing). f.atoms) c.in_err-id.ensures.err;
+      trace = ap (λ (f : Backing). f.trace) c.in_err-id.ensures.err;
+      counts = counts_none x.result p.0 _ p.1 p.2;
+    }
+
+pub returns-in_err-put-clause-puts : goal.returns-in_err-put-clause-puts
+returns-in_err-put-clause-puts g c =
+    let x = c.from_residual-in_err-put in
+    IfOk-from_err x.result _ x.ensures.0
+
+pub returns-in_err-put-clause-part : goal.returns-in_err-put-clause-part
+returns-in_err-put-clause-part g c =
+    let x = c.from_residual-in_err-put in
+    IfOk-from_err x.result _ x.ensures.0
+
+pub returns-in_err-put-clause-spent : goal.returns-in_err-put-clause-spent
+returns-in_err-put-clause-spent g c =
+    let x = c.from_residual-in_err-put in
+    IfOk-from_err x.result _ x.ensures.0
+
+pub returns-in_err-put-clause-asserted : goal.returns-in_err-put-clause-asserted
+returns-in_err-put-clause-asserted g c = ap (λ (f : Backing). f.asserted) c.in_ok-id.ensures.ok
+
+pub returns-in_err-put-clause-atoms : goal.returns-in_err-put-clause-atoms
+returns-in_err-put-clause-atoms g c = ap (λ (f : Backing). f.atoms) c.in_ok-id.ensures.ok
+
+pub returns-in_err-put-clause-trace : goal.returns-in_err-put-clause-trace
+returns-in_err-put-clause-trace g c = ap (λ (f : Backing). f.trace) c.in_ok-id.ensures.ok
+
+pub returns-in_err-put-clause-refuted : goal.returns-in_err-put-clause-refuted
+returns-in_err-put-clause-refuted g c = ap (λ (f : Backing). f.refuted) c.in_ok-id.ensures.ok ∙ c.requires.refuted
+
+pub returns-clause-asserted : goal.returns-clause-asserted
+returns-clause-asserted g c = ap (λ (f : Backing). f.asserted) c.in_ok-id.ensures.ok
+
+pub returns-clause-atoms : goal.returns-clause-atoms
+returns-clause-atoms g c = ap (λ (f : Backing). f.atoms) c.in_ok-id.ensures.ok
+
+pub returns-clause-trace : goal.returns-clause-trace
+returns-clause-trace g c = ap (λ (f : Backing). f.trace) c.in_ok-id.ensures.ok
+
+pub returns-clause-refuted : goal.returns-clause-refuted
+returns-clause-refuted g c = ap (λ (f : Backing). f.refuted) c.in_ok-id.ensures.ok ∙ c.requires.refuted
+
+pub returns-clause-counts : goal.returns-clause-counts
+returns-clause-counts g c = c.in_ok-put.ensures.counts
+
+pub returns-clause-spent : goal.returns-clause-spent
+returns-clause-spent g c = λ none. absurd (Prim.cc (none))
+
+pub returns-then-is_err-clause-asserted : goal.returns-then-is_err-clause-asserted
+returns-then-is_err-clause-asserted g c = refl
+
+pub returns-then-is_err-clause-atoms : goal.returns-then-is_err-clause-atoms
+returns-then-is_err-clause-atoms g c = refl
+
+pub returns-then-is_err-clause-trace : goal.returns-then-is_err-clause-trace
+returns-then-is_err-clause-trace g c = refl
+
+pub returns-then-is_err-clause-refuted : goal.returns-then-is_err-clause-refuted
+returns-then-is_err-clause-refuted g c = c.requires.refuted
+
+pub returns-then-is_err-clause-counts : goal.returns-then-is_err-clause-counts
+returns-then-is_err-clause-counts g c = refl
+
+pub returns-then-is_err-clause-part : goal.returns-then-is_err-clause-part
+returns-then-is_err-clause-part g c = tt

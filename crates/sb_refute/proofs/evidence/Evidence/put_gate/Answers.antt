@@ -1,10 +1,12 @@
-use Rattle.std.proofs.Common.{◌≡◌, ◌++◌, ◌∷◌, [], true, List, Some, length, sym, ap, ◌∙◌}
+use Rattle.std.proofs.Common.{◌≡◌, ◌++◌, ◌∷◌, [], true, List, Some, length, sym, ap, ◌∙◌, refl}
+use Rattle.std.proofs.lemmas.Result.{IfOk-from_err, err_from_is_err_and}
 use Rattle.std.specs.List.{list_all}
 use Rattle.sb_rulebook.specs.LineLaws.{is_small_literal}
 use Rattle.sb_lit.specs.declared.clause.Lit.{Lit}
 use Rattle.sb_clauses.specs.Propagation.{are_reserved}
 use Rattle.sb_refute.specs.Backing.{Backing}
 use Rattle.sb_refute.proofs.GateLines.{gate-put, some-gate}
+use Rattle.sb_trace.proofs.CallerLemmas.{counts_none}
 use Rattle.sb_refute.proofs.evidence.Evidence.put_gate.Goals as goal
 
 pub add-requires-clause-known : goal.add-requires-clause-known
@@ -37,3 +39,68 @@ returns-clause-kept g c =
     let e = c.args.self.now in
     ap (λ (v : Backing). v.kept) c.in_ok-add.ensures.ok
     ∙ ap (λ (ls : List Lit). e.kept ++ Some (record { literals = ls; level = 0 }) ∷ []) c.literals-2.ensures
+
+pub returns-in_err-literals : goal.returns-in_err-literals
+returns-in_err-literals g c =
+    let x = c.from_residual in
+    let p = err_from_is_err_and x.result x.ensures.1 in
+    record {
+      puts = IfOk-from_err x.result _ x.ensures.0;
+      kept = IfOk-from_err x.result _ x.ensures.0;
+      gates = refl;
+      asserted = refl;
+      atoms = refl;
+      trace = refl;
+      counts = counts_none x.result p.0 _ p.1 p.2;
+    }
+
+pub returns-in_err-add : goal.returns-in_err-add
+returns-in_err-add g c =
+    let x = c.from_residual-in_err-add in
+    let p = err_from_is_err_and x.result x.ensures.1 in
+    record {
+      puts = IfOk-from_err x.result _ x.ensures.0;
+      kept = IfOk-from_err x.result _ x.ensures.0;
+      gates = ap (λ (f : Backing). f.gates) c.in_err-add.ensures.err;
+      asserted = ap (λ (f : Backing). f.asserted) c.in_err-add.ensures.err;
+      atoms = ap (λ (f : Backing). f.atoms) c.in_err-add.ensures.err;
+      trace = ap (λ (f : Backing). f.trace) c.in_err-add.ensures.err;
+      counts = counts_none x.result p.0 _ p.1 p.2;
+    }
+
+pub returns-in_err-put-clause-puts : goal.returns-in_err-put-clause-puts
+returns-in_err-put-clause-puts g c =
+    let x = c.from_residual-in_err-put in
+    IfOk-from_err x.result _ x.ensures.0
+
+pub returns-in_err-put-clause-kept : goal.returns-in_err-put-clause-kept
+returns-in_err-put-clause-kept g c =
+    let x = c.from_residual-in_err-put in
+    IfOk-from_err x.result _ x.ensures.0
+
+pub returns-in_err-put-clause-gates : goal.returns-in_err-put-clause-gates
+returns-in_err-put-clause-gates g c = ap (λ (f : Backing). f.gates) c.in_ok-add.ensures.ok
+
+pub returns-in_err-put-clause-asserted : goal.returns-in_err-put-clause-asserted
+returns-in_err-put-clause-asserted g c = ap (λ (f : Backing). f.asserted) c.in_ok-add.ensures.ok
+
+pub returns-in_err-put-clause-atoms : goal.returns-in_err-put-clause-atoms
+returns-in_err-put-clause-atoms g c = ap (λ (f : Backing). f.atoms) c.in_ok-add.ensures.ok
+
+pub returns-in_err-put-clause-trace : goal.returns-in_err-put-clause-trace
+returns-in_err-put-clause-trace g c = ap (λ (f : Backing). f.trace) c.in_ok-add.ensures.ok
+
+pub returns-clause-gates : goal.returns-clause-gates
+returns-clause-gates g c = ap (λ (f : Backing). f.gates) c.in_ok-add.ensures.ok
+
+pub returns-clause-asserted : goal.returns-clause-asserted
+returns-clause-asserted g c = ap (λ (f : Backing). f.asserted) c.in_ok-add.ensures.ok
+
+pub returns-clause-atoms : goal.returns-clause-atoms
+returns-clause-atoms g c = ap (λ (f : Backing). f.atoms) c.in_ok-add.ensures.ok
+
+pub returns-clause-trace : goal.returns-clause-trace
+returns-clause-trace g c = ap (λ (f : Backing). f.trace) c.in_ok-add.ensures.ok
+
+pub returns-clause-counts : goal.returns-clause-counts
+returns-clause-counts g c = c.in_ok-put.ensures.counts

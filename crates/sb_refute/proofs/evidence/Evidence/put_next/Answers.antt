@@ -1,4 +1,5 @@
 use Rattle.std.proofs.Common.{◌≡◌, ◌<◌, ◌+◌, ◌++◌, ◌∷◌, [], ℕ, List, All, length, map, take, refl, sym, ap, ap₂, subst, ◌∙◌, arith, append-nil}
+use Rattle.std.proofs.lemmas.Result.{IfOk-from_err, err_from_is_err_and}
 use Rattle.std.proofs.lemmas.List.{take_more, take_all}
 use Rattle.sb_lit.specs.declared.clause.Lit.{Lit}
 use Rattle.sb_rulebook.specs.Atoms.{AtomOver}
@@ -7,6 +8,8 @@ use Rattle.sb_refute.specs.Backing.{Backing, EvidencesUncounted}
 use Rattle.sb_refute.specs.Lines.{IsOfGates}
 use Rattle.sb_refute.proofs.Asserting.{nothing-put, both-put}
 use Rattle.sb_refute.proofs.GateLines.{at_bottom, kept-more, has-gates, gates-passed}
+use Rattle.sb_trace.proofs.CallerLemmas.{counts_none, counts_on}
+use Rattle.sb_trace.specs.Putting.{CountsTapeFault}
 use Rattle.sb_refute.proofs.evidence.Evidence.put_next.Goals as goal
 
 pub loop-clause-init : goal.loop-clause-init
@@ -71,3 +74,47 @@ returns-clause-puts g c = λ asked rs memo before b.
     (g.L.Tape.told c.loop-clause.tape)) (sym c.pass_gates.ensures)
     (gates-passed asked before rs memo c.loop-clause.self (c.loop-clause.self.gates + 1) (g.L.Tape.told c.args.tape.now)
     (g.L.Tape.told c.loop-clause.tape) (c.loop-clause.invariant.puts asked rs memo before b))
+
+pub returns-in_err-clauses : goal.returns-in_err-clauses
+returns-in_err-clauses g c =
+    let x = c.from_residual in
+    let p = err_from_is_err_and x.result x.ensures.1 in
+    record {
+      puts = IfOk-from_err x.result _ x.ensures.0;
+      next = IfOk-from_err x.result _ x.ensures.0;
+      asserted = refl;
+      atoms = refl;
+      trace = refl;
+      counts = counts_none x.result p.0 _ p.1 p.2;
+    }
+
+pub returns-in_err-put_gate : goal.returns-in_err-put_gate
+returns-in_err-put_gate g c =
+    let x = c.from_residual-in_err-put_gate in
+    let p = err_from_is_err_and x.result x.ensures.1 in
+    let h = c.loop-clause.invariant in
+    record {
+      puts = IfOk-from_err x.result _ x.ensures.0;
+      next = IfOk-from_err x.result _ x.ensures.0;
+      asserted = c.in_err-put_gate.ensures.asserted ∙ h.asserted;
+      atoms = c.in_err-put_gate.ensures.atoms ∙ h.atoms;
+      trace = c.in_err-put_gate.ensures.trace ∙ h.trace;
+      counts = subst (λ old. CountsTapeFault x.result old (g.L.Tape.faults c.put_gate.new.tape)) h.faults
+          (counts_on (Unit {0}) x.result p.0 _ _ _ p.1 p.2 c.in_err-put_gate.ensures.counts);
+    }
+
+pub returns-clause-asserted : goal.returns-clause-asserted
+returns-clause-asserted g c = ap (λ (f : Backing). f.asserted) c.pass_gates.ensures ∙ c.loop-clause.invariant.asserted
+
+pub returns-clause-atoms : goal.returns-clause-atoms
+returns-clause-atoms g c = ap (λ (f : Backing). f.atoms) c.pass_gates.ensures ∙ c.loop-clause.invariant.atoms
+
+pub returns-clause-trace : goal.returns-clause-trace
+returns-clause-trace g c = ap (λ (f : Backing). f.trace) c.pass_gates.ensures ∙ c.loop-clause.invariant.trace
+
+pub returns-clause-next : goal.returns-clause-next
+returns-clause-next g c =
+    ap (λ (f : Backing). f.gates) c.pass_gates.ensures ∙ ap (λ n. n + 1) c.loop-clause.invariant.gates
+
+pub returns-clause-counts : goal.returns-clause-counts
+returns-clause-counts g c = c.loop-clause.invariant.faults

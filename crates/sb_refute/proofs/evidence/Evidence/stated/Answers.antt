@@ -1,4 +1,5 @@
-use Rattle.std.proofs.Common.{◌≡◌, ◌<◌, length, Option, Some, None, IfSome, sym, ap, subst, ◌∙◌}
+use Rattle.std.proofs.Common.{◌≡◌, ◌<◌, length, Option, Some, None, IfSome, sym, ap, subst, ◌∙◌, refl}
+use Rattle.std.proofs.lemmas.Result.{IfOk-from_err, err_from_is_err_and}
 use Rattle.sb_lit.specs.declared.clause.Lit.{Lit}
 use Rattle.sb_lit.specs.Kept.{Kept}
 use Rattle.sb_refute.specs.Backing.{Backing, EvidencesUncounted, HasGates, asserted_at, unit_at}
@@ -7,6 +8,8 @@ use Rattle.sb_refute.proofs.Asserting.{nothing-put}
 use Rattle.sb_refute.proofs.Holding.{gates-more}
 use Rattle.sb_refute.proofs.Places.{placed-there, placed-others}
 use Rattle.sb_refute.proofs.Standing.{stays-claimed, stays-without, without-put}
+use Rattle.sb_trace.proofs.CallerLemmas.{counts_on, counts_none}
+use Rattle.sb_refute.specs.declared.evidence.Asserted.{Asserted}
 use Rattle.sb_refute.proofs.evidence.Evidence.stated.Goals as goal
 
 pub returns-in_default-clause-puts : goal.returns-in_default-clause-puts
@@ -78,3 +81,67 @@ returns-clause-gates g c =
     subst (λ atoms. HasGates e.gates atoms c.claim.new.self.kept) (sym c.in_ok-claim.ensures.atoms)
     (subst (λ (k : Kept). HasGates e.gates e.atoms k) (sym c.in_ok-claim.ensures.kept)
     (gates-more e.gates e.atoms e.kept (Some (unit_at one)) c.stands.ensures.gated))
+
+pub returns-in_err-claim : goal.returns-in_err-claim
+returns-in_err-claim g c =
+    let x = c.from_residual-in_err-claim in
+    let p = err_from_is_err_and x.result x.ensures.1 in
+    record {
+      puts = IfOk-from_err x.result _ x.ensures.0;
+      asserted = IfOk-from_err x.result _ x.ensures.0;
+      literal = IfOk-from_err x.result _ x.ensures.0;
+      level = IfOk-from_err x.result _ x.ensures.0;
+      stays = IfOk-from_err x.result _ x.ensures.0;
+      others = IfOk-from_err x.result _ x.ensures.0;
+      gates = IfOk-from_err x.result _ x.ensures.0;
+      atoms = c.in_err-claim.ensures.atoms;
+      trace = c.in_err-claim.ensures.trace;
+      counts = counts_on Asserted x.result p.0 _ _ _ p.1 p.2 c.in_err-claim.ensures.counts;
+    }
+
+pub returns-clause-atoms : goal.returns-clause-atoms
+returns-clause-atoms g c = c.in_ok-claim.ensures.atoms
+
+pub returns-clause-trace : goal.returns-clause-trace
+returns-clause-trace g c = c.in_ok-claim.ensures.trace
+
+pub returns-clause-counts : goal.returns-clause-counts
+returns-clause-counts g c = c.in_ok-claim.ensures.counts
+
+pub returns-in-Some-standing-clause-atoms : goal.returns-in-Some-standing-clause-atoms
+returns-in-Some-standing-clause-atoms g c = refl
+
+pub returns-in-Some-standing-clause-trace : goal.returns-in-Some-standing-clause-trace
+returns-in-Some-standing-clause-trace g c = refl
+
+pub returns-in-Some-standing-clause-counts : goal.returns-in-Some-standing-clause-counts
+returns-in-Some-standing-clause-counts g c = refl
+
+pub returns-in_default-clause-atoms : goal.returns-in_default-clause-atoms
+returns-in_default-clause-atoms g c = ap (λ (f : Backing). f.atoms) c.in_ok-keep.ensures.ok
+
+pub returns-in_default-clause-trace : goal.returns-in_default-clause-trace
+returns-in_default-clause-trace g c = ap (λ (f : Backing). f.trace) c.in_ok-keep.ensures.ok
+
+pub returns-in_default-clause-counts : goal.returns-in_default-clause-counts
+returns-in_default-clause-counts g c = refl
+
+pub returns-in_default-clause-level : goal.returns-in_default-clause-level
+returns-in_default-clause-level g c = tt
+
+pub returns-in_err-keep : goal.returns-in_err-keep
+returns-in_err-keep g c =
+    let x = c.from_residual in
+    let p = err_from_is_err_and x.result x.ensures.1 in
+    record {
+      puts = IfOk-from_err x.result _ x.ensures.0;
+      asserted = IfOk-from_err x.result _ x.ensures.0;
+      literal = IfOk-from_err x.result _ x.ensures.0;
+      level = IfOk-from_err x.result _ x.ensures.0;
+      stays = IfOk-from_err x.result _ x.ensures.0;
+      others = IfOk-from_err x.result _ x.ensures.0;
+      gates = IfOk-from_err x.result _ x.ensures.0;
+      atoms = ap (λ (f : Backing). f.atoms) c.in_err-keep.ensures.err;
+      trace = ap (λ (f : Backing). f.trace) c.in_err-keep.ensures.err;
+      counts = counts_none x.result p.0 _ p.1 p.2;
+    }

@@ -1,8 +1,8 @@
 use Rattle.std.proofs.Common.{◌≡◌, ◌≢◌, ◌<◌, ℕ, length, None, IfSome, Option, option_map, sym, ap, subst, ◌∙◌}
-use Rattle.std.proofs.lemmas.Result.{on_ok_weaker}
+use Rattle.std.proofs.lemmas.Result.{on_ok_weaker, IfOk-from_err, err_from_is_err_and}
 use Rattle.sb_facts.proofs.CallerLemmas.{ok_more}
 use Rattle.sb_term.specs.Numbered.{term_at}
-use Rattle.sb_atoms.specs.Numbered.{atoms_in}
+use Rattle.sb_atoms.specs.Numbered.{atoms_in, Extends, HaveRegexesBelow}
 use Rattle.sb_atoms.specs.Translated.{brought_translation, HasNoLiteral}
 use Rattle.sb_refute.specs.declared.evidence.Asserted.{Asserted}
 use Rattle.sb_refute.specs.Backing.{Backing, Backs, HasGates, asserted_at}
@@ -10,6 +10,9 @@ use Rattle.sb_refute.proofs.Backs.{backs-more}
 use Rattle.sb_refute.proofs.Holding.{stand-atoms}
 use Rattle.sb_refute.proofs.Asserting.{due-stated, added-defined, is-statement, both-put}
 use Rattle.sb_refute.proofs.Standing.{stays-after}
+use Rattle.sb_trace.proofs.CallerLemmas.{stays_same, counts_none, counts_on}
+use Rattle.sb_trace.specs.Tracking.{StaysNumbered}
+use Rattle.sb_trace.specs.Putting.{CountsTapeFault}
 use Rattle.sb_refute.proofs.evidence.Evidence.statement.Goals as goal
 
 pub invariant_of-self : goal.invariant_of-self
@@ -112,3 +115,114 @@ returns-clause-gates g c =
     (λ has. subst (λ n. HasGates n c.stated.new.self.atoms c.stated.new.self.kept)
     (c.in_ok-put_gates.ensures.all ∙ ap length (sym c.stated.ensures.atoms)) has)
     c.stated.ensures.gates
+
+pub returns-in_err-found : goal.returns-in_err-found
+returns-in_err-found g c =
+    let x = c.from_residual in
+    let p = err_from_is_err_and x.result x.ensures.1 in
+    record {
+      puts = IfOk-from_err x.result _ x.ensures.0;
+      asserted = IfOk-from_err x.result _ x.ensures.0;
+      literal = IfOk-from_err x.result _ x.ensures.0;
+      level = IfOk-from_err x.result _ x.ensures.0;
+      none = IfOk-from_err x.result _ x.ensures.0;
+      gates = IfOk-from_err x.result _ x.ensures.0;
+      stays = IfOk-from_err x.result _ x.ensures.0;
+      others = IfOk-from_err x.result _ x.ensures.0;
+      numbers_stay = subst (λ (f : Backing). StaysNumbered f.trace c.self.inside.trace) c.self.view_is
+          (stays_same c.self.inside.trace);
+      extends = subst (λ (f : Backing). Extends f.atoms c.translate.new.self) c.self.view_is c.translate.ensures.extends;
+      regexes = c.translate.ensures.regexes;
+      right = c.translate.ensures.right;
+      normals = c.translate.ensures.normals;
+      arena = c.translate.ensures.arena;
+      counts = counts_none x.result p.0 _ p.1 p.2;
+    }
+
+pub returns-in_err-define : goal.returns-in_err-define
+returns-in_err-define g c =
+    let x = c.from_residual-in_err-define in
+    let p = err_from_is_err_and x.result x.ensures.1 in
+    record {
+      puts = IfOk-from_err x.result _ x.ensures.0;
+      asserted = IfOk-from_err x.result _ x.ensures.0;
+      literal = IfOk-from_err x.result _ x.ensures.0;
+      level = IfOk-from_err x.result _ x.ensures.0;
+      none = IfOk-from_err x.result _ x.ensures.0;
+      gates = IfOk-from_err x.result _ x.ensures.0;
+      stays = IfOk-from_err x.result _ x.ensures.0;
+      others = IfOk-from_err x.result _ x.ensures.0;
+      numbers_stay = subst (λ (f : Backing). StaysNumbered f.trace c.define.new.self.trace) c.self.view_is
+          c.define.ensures.numbers_stay;
+      extends = subst (Extends c.args.self.now.atoms) (sym (ap (λ (f : Backing). f.atoms) c.define.ensures.others))
+          (subst (λ (f : Backing). Extends f.atoms c.translate.new.self) c.self.view_is c.translate.ensures.extends);
+      regexes = subst (HaveRegexesBelow (length c.translate.new.arena)) (sym (ap (λ (f : Backing). f.atoms) c.define.ensures.others))
+          c.translate.ensures.regexes;
+      right = c.translate.ensures.right;
+      normals = c.translate.ensures.normals;
+      arena = c.translate.ensures.arena;
+      counts = counts_on (Unit {0}) x.result p.0 _ _ _ p.1 p.2 c.in_err-define.ensures.counts;
+    }
+
+pub returns-in_err-put_gates : goal.returns-in_err-put_gates
+returns-in_err-put_gates g c =
+    let x = c.from_residual-in_err-put_gates in
+    let p = err_from_is_err_and x.result x.ensures.1 in
+    record {
+      puts = IfOk-from_err x.result _ x.ensures.0;
+      asserted = IfOk-from_err x.result _ x.ensures.0;
+      literal = IfOk-from_err x.result _ x.ensures.0;
+      level = IfOk-from_err x.result _ x.ensures.0;
+      none = IfOk-from_err x.result _ x.ensures.0;
+      gates = IfOk-from_err x.result _ x.ensures.0;
+      stays = IfOk-from_err x.result _ x.ensures.0;
+      others = IfOk-from_err x.result _ x.ensures.0;
+      numbers_stay = subst (StaysNumbered c.args.self.now.trace) (sym c.put_gates.ensures.trace)
+          (subst (λ (f : Backing). StaysNumbered f.trace c.define.new.self.trace) c.self.view_is
+          c.define.ensures.numbers_stay);
+      extends = subst (Extends c.args.self.now.atoms) (sym (c.put_gates.ensures.atoms ∙ ap (λ (f : Backing). f.atoms) c.define.ensures.others))
+          (subst (λ (f : Backing). Extends f.atoms c.translate.new.self) c.self.view_is c.translate.ensures.extends);
+      regexes = subst (HaveRegexesBelow (length c.translate.new.arena)) (sym (c.put_gates.ensures.atoms ∙ ap (λ (f : Backing). f.atoms) c.define.ensures.others))
+          c.translate.ensures.regexes;
+      right = c.translate.ensures.right;
+      normals = c.translate.ensures.normals;
+      arena = c.translate.ensures.arena;
+      counts = subst (λ old. CountsTapeFault x.result old (g.L.Tape.faults c.put_gates.new.tape)) c.in_ok-define.ensures.counts
+          (counts_on (Unit {0}) x.result p.0 _ _ _ p.1 p.2 c.in_err-put_gates.ensures.counts);
+    }
+
+pub returns-clause-asserted : goal.returns-clause-asserted
+returns-clause-asserted g c = c.stated.ensures.asserted
+
+pub returns-clause-level : goal.returns-clause-level
+returns-clause-level g c = c.stated.ensures.level
+
+pub returns-clause-right : goal.returns-clause-right
+returns-clause-right g c = c.translate.ensures.right
+
+pub returns-clause-normals : goal.returns-clause-normals
+returns-clause-normals g c = c.translate.ensures.normals
+
+pub returns-clause-arena : goal.returns-clause-arena
+returns-clause-arena g c = c.translate.ensures.arena
+
+pub returns-clause-numbers_stay : goal.returns-clause-numbers_stay
+returns-clause-numbers_stay g c =
+    subst (StaysNumbered c.args.self.now.trace) (sym (c.stated.ensures.trace ∙ c.put_gates.ensures.trace))
+    (subst (λ (f : Backing). StaysNumbered f.trace c.define.new.self.trace) c.self.view_is
+    c.define.ensures.numbers_stay)
+
+pub returns-clause-extends : goal.returns-clause-extends
+returns-clause-extends g c =
+    subst (Extends c.args.self.now.atoms) (sym (c.stated.ensures.atoms ∙ c.put_gates.ensures.atoms ∙ ap (λ (f : Backing). f.atoms) c.define.ensures.others))
+    (subst (λ (f : Backing). Extends f.atoms c.translate.new.self) c.self.view_is c.translate.ensures.extends)
+
+pub returns-clause-regexes : goal.returns-clause-regexes
+returns-clause-regexes g c =
+    subst (HaveRegexesBelow (length c.translate.new.arena)) (sym (c.stated.ensures.atoms ∙ c.put_gates.ensures.atoms ∙ ap (λ (f : Backing). f.atoms) c.define.ensures.others))
+    c.translate.ensures.regexes
+
+pub returns-clause-counts : goal.returns-clause-counts
+returns-clause-counts g c =
+    subst (λ old. CountsTapeFault c.stated.result old (g.L.Tape.faults c.stated.new.tape))
+    (c.in_ok-put_gates.ensures.counts ∙ c.in_ok-define.ensures.counts) c.stated.ensures.counts
