@@ -3,10 +3,13 @@
 ghost use Rattle.std.specs.Prelude.{◌≡◌, ◌<◌, ◌≤◌, ◌+◌, ◌∷◌, ℕ, [], true, length, take, map, IfOk, OnOk};
 ghost use Rattle.std.specs.List.{list_all};
 ghost use Rattle.sb_script.specs.Pieces.{constant_piece};
-ghost use Rattle.sb_proof.specs.Lines.{piece_in, atom_in as line_atom};
+ghost use Rattle.sb_script.specs.Steps.{line as ended};
+ghost use Rattle.sb_proof.specs.Lines.{piece_in, atom_in as line_atom, line_in};
+ghost use Rattle.sb_proof.specs.Tapes.{with_bytes};
 ghost use Rattle.sb_deriv.specs.Faithful.{Memo};
 ghost use Rattle.sb_rulebook.specs.Atoms.{bool_atom, in_atom, and_atom, iff_atom};
 ghost use Rattle.sb_rulebook.specs.Kept.{AllKept, Asked};
+ghost use Rattle.sb_rulebook.specs.Lines.{text_of};
 ghost use Rattle.sb_rulebook.specs.LineLaws.{atom_has_text, is_small_literal};
 ghost use Rattle.sb_atoms.specs.Numbered.{atom_in, atoms_in, HasRegexBelow, HaveRegexesBelow};
 ghost use Rattle.sb_trace.specs.Putting.{CountsTapeFault};
@@ -73,8 +76,16 @@ fn define_atom<L: Tape>(
         positive: true,
     });
     let line = line_of(alloc, trace, arena, atoms.describe(id), tape)?;
-    tape.put(&Line::Atom(line))?;
-    Ok(())
+    put_line(Line::Atom(line), tape)
+}
+
+/// Puts a line.
+pub(crate) fn put_line<L: Tape>(line: Line, tape: &mut L) -> Result<(), TapeFault>
+    ensures told { OnOk result
+        (L.Tape.told tape.new ≡ with_bytes (ended (text_of (line_in line))) (L.Tape.told tape.old)) }
+    ensures counts { CountsTapeFault result (L.Tape.faults tape.old) (L.Tape.faults tape.new) }
+{
+    tape.put(&line)
 }
 
 /// An atom as its line has it, behind the lines of its regex.

@@ -20,7 +20,7 @@ ghost use Rattle.sb_refute.specs.Backing.{backing_of, IsLowestEmpty, HasGates, B
 ghost use Rattle.sb_refute.specs.Lines.{AreDue, IsAssertion, IsStanding, placed, IsLowestBefore, IsEmptyOf, lower_of};
 ghost use Rattle.sb_refute.specs.Standing.{Stand};
 
-use crate::defining::define_atoms;
+use crate::defining::{define_atoms, put_line};
 use sb_atoms::{Atom, Atoms};
 use sb_clauses::{Clauses, Engine};
 use sb_fragment::Measures;
@@ -419,7 +419,7 @@ impl Evidence {
         ensures counts { CountsTapeFault result (L.Tape.faults tape.old) (L.Tape.faults tape.new) }
     {
         assertion_lines_are_exact();
-        tape.put(&Line::Assertion(place as u64, literal))?;
+        put_line(Line::Assertion(place as u64, literal), tape)?;
         let clause = self.add(&[literal], level)?;
         let asserted = Asserted {
             clause,

@@ -9,7 +9,7 @@ ghost use Rattle.sb_trace.specs.Putting.{CountsTapeFault};
 ghost use Rattle.sb_refute.specs.Backing.{HasGatesOf, Backs, EvidencesUncounted};
 ghost use Rattle.sb_refute.specs.Lines.{IsOfGates};
 
-use crate::defining::copied;
+use crate::defining::{copied, put_line};
 use crate::evidence::Evidence;
 use sb_atoms::{AtomId, gate_clauses};
 use sb_lit::{Clause, Lit};
@@ -96,8 +96,7 @@ impl Evidence {
         gates_are_exact();
         let literals = copied(self.alloc, clause.literals())?;
         self.add(clause.literals(), 0)?;
-        tape.put(&Line::Rule(Rule::Gate, literals))?;
-        Ok(())
+        put_line(Line::Rule(Rule::Gate, literals), tape)
     }
 
     /// The first atom that lacked the clauses of its gates has them.

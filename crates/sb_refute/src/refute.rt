@@ -20,6 +20,7 @@ ghost use Rattle.sb_refute.specs.Backing.{Backs, Evidences};
 ghost use Rattle.sb_refute.specs.Refuting.{AreDisjoint, IsRefutation};
 ghost use Rattle.sb_refute.specs.Units.{AreUnits, HaveUnits, HaveNoWord, CanBeDenied, IsAffirmed, IsMemberAt, IsOfRegex, Rise, AreRegexesOf, HasPart, IsPartIn, ArePicked, IsTop, LeadsNowhere, numbered, denials_of, affirmations_of, hints_of as hints_in};
 
+use crate::defining::put_line;
 use crate::evidence::{Asserted, Evidence, membership_of};
 use sb_atoms::{AtomId, Atoms};
 use sb_graph::{Graph, graph_stays};
@@ -227,7 +228,7 @@ impl Evidence {
             return Ok(None);
         }
         let id = self.add(&literals, 0)?;
-        tape.put(&Line::Rule(Rule::Empty, literals))?;
+        put_line(Line::Rule(Rule::Empty, literals), tape)?;
         Ok(Some(id))
     }
 
@@ -257,7 +258,7 @@ impl Evidence {
         learned_lines_are_exact();
         self.stands();
         let Reasons { hints, level } = self.reasons(units, id)?;
-        tape.put(&Line::Learned(Vec::new(self.alloc), hints))?;
+        put_line(Line::Learned(Vec::new(self.alloc), hints), tape)?;
         let empty = self.add_empty(level)?;
         Ok(Refuted::Clause(empty.clause))
     }

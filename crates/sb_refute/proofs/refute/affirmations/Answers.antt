@@ -1,6 +1,7 @@
 use Rattle.std.proofs.Common.{ℕ, true, List, ◌++◌, map, ap₂, ◌∙◌}
 use Rattle.sb_lit.specs.declared.clause.Lit.{Lit}
 use Rattle.sb_refute.proofs.UnitLists.{affirmations-by_atoms}
+use Rattle.std.proofs.lemmas.Result.{IfOk-from_err}
 use Rattle.sb_refute.proofs.refute.affirmations.Goals as goal
 
 pub loop-atom-init : goal.loop-atom-init
@@ -9,3 +10,13 @@ loop-atom-init c =
     c.in_ok-literals.ensures.items
     (c.into_iter-atom-iterator.ensures.into_iter_gives ∙ c.keys-atom-items.ensures.rest)
     ∙ affirmations-by_atoms c.args.units.now.entries
+
+pub returns-in_err-literals : goal.returns-in_err-literals
+returns-in_err-literals c =
+    let x = c.from_residual in
+    IfOk-from_err x.result _ x.ensures.0
+
+pub returns-in_err-push : goal.returns-in_err-push
+returns-in_err-push c =
+    let x = c.from_residual-in_err-push in
+    IfOk-from_err x.result _ x.ensures.0

@@ -1,6 +1,7 @@
 use Rattle.std.proofs.Common.{List, ◌++◌, ap₂, ◌∙◌}
 use Rattle.sb_refute.specs.declared.evidence.Asserted.{Asserted}
 use Rattle.sb_refute.proofs.UnitLists.{rise-sorted}
+use Rattle.std.proofs.lemmas.Result.{IfOk-from_err}
 use Rattle.sb_refute.proofs.refute.listed.Goals as goal
 
 pub loop-asserted-init : goal.loop-asserted-init
@@ -10,3 +11,19 @@ loop-asserted-init c =
 
 pub returns-clause-rise : goal.returns-clause-rise
 returns-clause-rise c = rise-sorted c.args.units.now.entries c.values-asserted-items.ensures.ordered
+
+pub returns-in_err-all : goal.returns-in_err-all
+returns-in_err-all c =
+    let x = c.from_residual in
+    record {
+      rise = IfOk-from_err x.result _ x.ensures.0;
+      are = IfOk-from_err x.result _ x.ensures.0;
+    }
+
+pub returns-in_err-push : goal.returns-in_err-push
+returns-in_err-push c =
+    let x = c.from_residual-in_err-push in
+    record {
+      rise = IfOk-from_err x.result _ x.ensures.0;
+      are = IfOk-from_err x.result _ x.ensures.0;
+    }

@@ -3,6 +3,7 @@ use Rattle.std.specs.List.{list_all}
 use Rattle.sb_lit.specs.declared.clause.Lit.{Lit}
 use Rattle.sb_rulebook.specs.LineLaws.{is_small_literal}
 use Rattle.sb_refute.proofs.UnitLists.{denials-by_atoms}
+use Rattle.std.proofs.lemmas.Result.{IfOk-from_err}
 use Rattle.sb_refute.proofs.refute.negations.Goals as goal
 
 pub loop-atom-init : goal.loop-atom-init
@@ -13,3 +14,19 @@ loop-atom-init c = (
       ∙ denials-by_atoms c.args.units.now.entries,
   ap (list_all is_small_literal) c.in_ok-literals.ensures.items,
 )
+
+pub returns-in_err-literals : goal.returns-in_err-literals
+returns-in_err-literals c =
+    let x = c.from_residual in
+    record {
+      are = IfOk-from_err x.result _ x.ensures.0;
+      small = IfOk-from_err x.result _ x.ensures.0;
+    }
+
+pub returns-in_err-push : goal.returns-in_err-push
+returns-in_err-push c =
+    let x = c.from_residual-in_err-push in
+    record {
+      are = IfOk-from_err x.result _ x.ensures.0;
+      small = IfOk-from_err x.result _ x.ensures.0;
+    }

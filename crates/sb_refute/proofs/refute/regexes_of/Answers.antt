@@ -3,6 +3,7 @@ use Rattle.std.specs.Map.Iter.{deref}
 use Rattle.std.proofs.lemmas.Map.Iter.{rest_more, rest_all}
 use Rattle.sb_refute.specs.Units.{numbered}
 use Rattle.sb_refute.proofs.UnitLists.{rise-sorted, collects-none, collects-first, collects-one, collects-all}
+use Rattle.std.proofs.lemmas.Result.{IfOk-from_err}
 use Rattle.sb_refute.proofs.refute.regexes_of.Goals as goal
 
 pub loop-atom-init : goal.loop-atom-init
@@ -37,3 +38,19 @@ returns-clause-regexes c =
     c.loop-atom.regexes.items
     (rest_all deref c.loop-atom.atom-iterator c.next.new.self c.next.result c.in-None.is c.next.ensures.steps)
     c.loop-atom.invariant
+
+pub returns-in_err-regexes : goal.returns-in_err-regexes
+returns-in_err-regexes c =
+    let x = c.from_residual in
+    record {
+      rise = IfOk-from_err x.result _ x.ensures.0;
+      regexes = IfOk-from_err x.result _ x.ensures.0;
+    }
+
+pub returns-in_err-push : goal.returns-in_err-push
+returns-in_err-push c =
+    let x = c.from_residual-in_err-push in
+    record {
+      rise = IfOk-from_err x.result _ x.ensures.0;
+      regexes = IfOk-from_err x.result _ x.ensures.0;
+    }

@@ -12,7 +12,7 @@ use Rattle.sb_refute.specs.Units.{LeadsNowhere}
 use Rattle.sb_refute.proofs.Clauses.{kept-last}
 use Rattle.sb_refute.proofs.Holding.{none-bare}
 use Rattle.sb_refute.proofs.Memberships.{learned-put}
-use Rattle.sb_trace.proofs.CallerLemmas.{counts_none}
+use Rattle.sb_trace.proofs.CallerLemmas.{counts_none, counts_on}
 use Rattle.sb_trace.specs.Putting.{CountsTapeFault}
 use Rattle.sb_refute.proofs.evidence.Evidence.learn.Goals as goal
 
@@ -26,13 +26,13 @@ returns-clause-puts g c =
     λ asked rs memo before b counts.
     learned-put c.learned_lines_are_exact.ensures asked before rs memo e c.add_empty.new.self ids one
     c.args.budget.now c.tick.new.self
-    told (g.L.Tape.told c.put.new.self)
+    told (g.L.Tape.told c.put_line.new.tape)
     (subst (λ n. LeadsNowhere before.clauses ids n) (sym c.in_ok-empty.ensures.level)
     (c.in_ok-hints.ensures.leads rs memo before b))
     (none-bare e.atoms e.kept e.asserted e.refuted e.gates c.stands.ensures c.requires.refuted)
     c.in_ok-hints.ensures.small (told_ok c.tick.result _ no c.tick.ensures.room)
     (told_ok c.tick.result _ no c.tick.ensures.ok) c.in_ok-empty.ensures.ok b counts
-    (c.in_ok-put.ensures.ok
+    (c.in_ok-put_line.ensures.told
     ∙ ap (λ (ls : List Lit). with_bytes (line (text_of (learned_line ls ids))) told) c.new.ensures.items)
 
 pub returns-clause-refuted : goal.returns-clause-refuted
@@ -60,30 +60,24 @@ returns-in_err-hints g c =
       counts = counts_none x.result p.0 _ p.1 p.2;
     }
 
-pub returns-in_err-put-clause-puts : goal.returns-in_err-put-clause-puts
-returns-in_err-put-clause-puts g c =
-    let x = c.from_residual-in_err-put in
-    IfOk-from_err x.result _ x.ensures.0
-
-pub returns-in_err-put-clause-refuted : goal.returns-in_err-put-clause-refuted
-returns-in_err-put-clause-refuted g c =
-    let x = c.from_residual-in_err-put in
-    IfOk-from_err x.result _ x.ensures.0
-
-pub returns-in_err-put-clause-asserted : goal.returns-in_err-put-clause-asserted
-returns-in_err-put-clause-asserted g c = refl
+pub returns-in_err-put_line : goal.returns-in_err-put_line
+returns-in_err-put_line g c =
+    let x = c.from_residual-in_err-put_line in
+    let p = err_from_is_err_and x.result x.ensures.1 in
+    record {
+      puts = IfOk-from_err x.result _ x.ensures.0;
+      refuted = IfOk-from_err x.result _ x.ensures.0;
+      asserted = refl;
+      atoms = refl;
+      trace = refl;
+      counts = counts_on (Unit {0}) x.result p.0 _ _ _ p.1 p.2 c.in_err-put_line.ensures.counts;
+    }
 
 pub returns-then-is_err-clause-asserted : goal.returns-then-is_err-clause-asserted
 returns-then-is_err-clause-asserted g c = refl
 
-pub returns-in_err-put-clause-atoms : goal.returns-in_err-put-clause-atoms
-returns-in_err-put-clause-atoms g c = refl
-
 pub returns-then-is_err-clause-atoms : goal.returns-then-is_err-clause-atoms
 returns-then-is_err-clause-atoms g c = refl
-
-pub returns-in_err-put-clause-trace : goal.returns-in_err-put-clause-trace
-returns-in_err-put-clause-trace g c = refl
 
 pub returns-then-is_err-clause-trace : goal.returns-then-is_err-clause-trace
 returns-then-is_err-clause-trace g c = refl
@@ -101,8 +95,8 @@ returns-in_err-empty g c =
       asserted = ap (λ (f : Backing). f.asserted) c.in_err-empty.ensures.err;
       atoms = ap (λ (f : Backing). f.atoms) c.in_err-empty.ensures.err;
       trace = ap (λ (f : Backing). f.trace) c.in_err-empty.ensures.err;
-      counts = subst (λ old. CountsTapeFault x.result old (g.L.Tape.faults c.put.new.self)) c.in_ok-put.ensures.counts
-          (counts_none x.result p.0 (g.L.Tape.faults c.put.new.self) p.1 p.2);
+      counts = subst (λ old. CountsTapeFault x.result old (g.L.Tape.faults c.put_line.new.tape)) c.in_ok-put_line.ensures.counts
+          (counts_none x.result p.0 (g.L.Tape.faults c.put_line.new.tape) p.1 p.2);
     }
 
 pub returns-clause-asserted : goal.returns-clause-asserted
@@ -115,7 +109,7 @@ pub returns-clause-trace : goal.returns-clause-trace
 returns-clause-trace g c = ap (λ (f : Backing). f.trace) c.in_ok-empty.ensures.ok
 
 pub returns-clause-counts : goal.returns-clause-counts
-returns-clause-counts g c = c.in_ok-put.ensures.counts
+returns-clause-counts g c = c.in_ok-put_line.ensures.counts
 
 pub reasons-requires-clause-units : goal.reasons-requires-clause-units
 reasons-requires-clause-units g c = c.requires.units

@@ -7,7 +7,7 @@ use Rattle.sb_refute.specs.Backing.{Backing}
 use Rattle.sb_refute.specs.Units.{numbered, denials_of}
 use Rattle.sb_refute.proofs.ClauseLines.{some-denials}
 use Rattle.sb_refute.proofs.Memberships.{denied-put, new-part}
-use Rattle.sb_trace.proofs.CallerLemmas.{counts_none}
+use Rattle.sb_trace.proofs.CallerLemmas.{counts_none, counts_on}
 use Rattle.sb_refute.proofs.evidence.Evidence.put_denial.Goals as goal
 
 pub add-requires-clause-known : goal.add-requires-clause-known
@@ -31,12 +31,12 @@ returns-clause-puts g c =
     λ asked rs memo before h b counts.
     denied-put c.rule_lines_are_exact.ensures asked before rs memo e c.add.new.self us c.args.literals.items
     c.args.budget.now c.tick.new.self told
-    (g.L.Tape.told c.put.new.self) h c.requires.some c.requires.rise c.requires.literals c.requires.new
+    (g.L.Tape.told c.put_line.new.tape) h c.requires.some c.requires.rise c.requires.literals c.requires.new
     (told_ok c.tick.result _ no c.tick.ensures.room) (told_ok c.tick.result _ no c.tick.ensures.ok) c.requires.small
     (adds
     ∙ ap (λ (ls : List Lit). record e { kept = e.kept ++ Some (record { literals = ls; level = 0 }) ∷ [] })
     c.deref.ensures.value)
-    b counts c.in_ok-put.ensures.ok
+    b counts c.in_ok-put_line.ensures.told
 
 pub returns-clause-part : goal.returns-clause-part
 returns-clause-part g c =
@@ -60,32 +60,20 @@ returns-in_err-id g c =
       counts = counts_none x.result p.0 _ p.1 p.2;
     }
 
-pub returns-in_err-put-clause-puts : goal.returns-in_err-put-clause-puts
-returns-in_err-put-clause-puts g c =
-    let x = c.from_residual-in_err-put in
-    IfOk-from_err x.result _ x.ensures.0
-
-pub returns-in_err-put-clause-part : goal.returns-in_err-put-clause-part
-returns-in_err-put-clause-part g c =
-    let x = c.from_residual-in_err-put in
-    IfOk-from_err x.result _ x.ensures.0
-
-pub returns-in_err-put-clause-spent : goal.returns-in_err-put-clause-spent
-returns-in_err-put-clause-spent g c =
-    let x = c.from_residual-in_err-put in
-    IfOk-from_err x.result _ x.ensures.0
-
-pub returns-in_err-put-clause-asserted : goal.returns-in_err-put-clause-asserted
-returns-in_err-put-clause-asserted g c = ap (λ (f : Backing). f.asserted) c.in_ok-id.ensures.ok
-
-pub returns-in_err-put-clause-atoms : goal.returns-in_err-put-clause-atoms
-returns-in_err-put-clause-atoms g c = ap (λ (f : Backing). f.atoms) c.in_ok-id.ensures.ok
-
-pub returns-in_err-put-clause-trace : goal.returns-in_err-put-clause-trace
-returns-in_err-put-clause-trace g c = ap (λ (f : Backing). f.trace) c.in_ok-id.ensures.ok
-
-pub returns-in_err-put-clause-refuted : goal.returns-in_err-put-clause-refuted
-returns-in_err-put-clause-refuted g c = ap (λ (f : Backing). f.refuted) c.in_ok-id.ensures.ok ∙ c.requires.refuted
+pub returns-in_err-put_line : goal.returns-in_err-put_line
+returns-in_err-put_line g c =
+    let x = c.from_residual-in_err-put_line in
+    let p = err_from_is_err_and x.result x.ensures.1 in
+    record {
+      puts = IfOk-from_err x.result _ x.ensures.0;
+      part = IfOk-from_err x.result _ x.ensures.0;
+      spent = IfOk-from_err x.result _ x.ensures.0;
+      refuted = ap (λ (f : Backing). f.refuted) c.in_ok-id.ensures.ok ∙ c.requires.refuted;
+      asserted = ap (λ (f : Backing). f.asserted) c.in_ok-id.ensures.ok;
+      atoms = ap (λ (f : Backing). f.atoms) c.in_ok-id.ensures.ok;
+      trace = ap (λ (f : Backing). f.trace) c.in_ok-id.ensures.ok;
+      counts = counts_on (Unit {0}) x.result p.0 _ _ _ p.1 p.2 c.in_err-put_line.ensures.counts;
+    }
 
 pub returns-clause-asserted : goal.returns-clause-asserted
 returns-clause-asserted g c = ap (λ (f : Backing). f.asserted) c.in_ok-id.ensures.ok
@@ -100,7 +88,7 @@ pub returns-clause-refuted : goal.returns-clause-refuted
 returns-clause-refuted g c = ap (λ (f : Backing). f.refuted) c.in_ok-id.ensures.ok ∙ c.requires.refuted
 
 pub returns-clause-counts : goal.returns-clause-counts
-returns-clause-counts g c = c.in_ok-put.ensures.counts
+returns-clause-counts g c = c.in_ok-put_line.ensures.counts
 
 pub returns-clause-spent : goal.returns-clause-spent
 returns-clause-spent g c = λ none. absurd (Prim.cc (none))

@@ -1,5 +1,5 @@
 use Rattle.std.proofs.Common.{◌≡◌, ◌++◌, ◌∷◌, [], true, List, Some, length, sym, ap, ◌∙◌, refl}
-use Rattle.std.proofs.lemmas.Result.{IfOk-from_err, err_from_is_err_and}
+use Rattle.std.proofs.lemmas.Result.{IfOk-from_err, err_from_is_err_and, on_ok_weaker}
 use Rattle.std.specs.List.{list_all}
 use Rattle.sb_rulebook.specs.LineLaws.{is_small_literal}
 use Rattle.sb_lit.specs.declared.clause.Lit.{Lit}
@@ -23,22 +23,26 @@ returns-clause-puts g c =
     let adds : c.add.new.self
     ≡ record e { kept = e.kept ++ Some (record { literals = c.literals-2.result.now; level = 0 }) ∷ [] } =
     c.in_ok-add.ensures.ok in
-    λ asked rs memo before b.
+    on_ok_weaker c.put_line.result
+    (λ told asked rs memo before b.
     gate-put c.rule_lines_are_exact.ensures c.gates_are_exact.ensures asked before rs memo e c.add.new.self
-    c.args.clause.now c.in_ok-literals.literals.items (g.L.Tape.told c.args.tape.now) (g.L.Tape.told c.put.new.self)
+    c.args.clause.now c.in_ok-literals.literals.items (g.L.Tape.told c.args.tape.now) (g.L.Tape.told c.put_line.new.tape)
     c.requires
     (ap (list_all is_small_literal) c.in_ok-literals.ensures.same ∙ c.in_ok-literals.ensures.small)
     (c.in_ok-literals.ensures.same ∙ c.literals.ensures)
     (adds
     ∙ ap (λ (ls : List Lit). record e { kept = e.kept ++ Some (record { literals = ls; level = 0 }) ∷ [] })
     c.literals-2.ensures)
-    b c.in_ok-put.ensures.ok
+    b told)
+    c.put_line.ensures.told
 
 pub returns-clause-kept : goal.returns-clause-kept
 returns-clause-kept g c =
     let e = c.args.self.now in
-    ap (λ (v : Backing). v.kept) c.in_ok-add.ensures.ok
-    ∙ ap (λ (ls : List Lit). e.kept ++ Some (record { literals = ls; level = 0 }) ∷ []) c.literals-2.ensures
+    on_ok_weaker c.put_line.result
+    (λ _. ap (λ (v : Backing). v.kept) c.in_ok-add.ensures.ok
+    ∙ ap (λ (ls : List Lit). e.kept ++ Some (record { literals = ls; level = 0 }) ∷ []) c.literals-2.ensures)
+    c.put_line.ensures.told
 
 pub returns-in_err-literals : goal.returns-in_err-literals
 returns-in_err-literals g c =
@@ -68,28 +72,6 @@ returns-in_err-add g c =
       counts = counts_none x.result p.0 _ p.1 p.2;
     }
 
-pub returns-in_err-put-clause-puts : goal.returns-in_err-put-clause-puts
-returns-in_err-put-clause-puts g c =
-    let x = c.from_residual-in_err-put in
-    IfOk-from_err x.result _ x.ensures.0
-
-pub returns-in_err-put-clause-kept : goal.returns-in_err-put-clause-kept
-returns-in_err-put-clause-kept g c =
-    let x = c.from_residual-in_err-put in
-    IfOk-from_err x.result _ x.ensures.0
-
-pub returns-in_err-put-clause-gates : goal.returns-in_err-put-clause-gates
-returns-in_err-put-clause-gates g c = ap (λ (f : Backing). f.gates) c.in_ok-add.ensures.ok
-
-pub returns-in_err-put-clause-asserted : goal.returns-in_err-put-clause-asserted
-returns-in_err-put-clause-asserted g c = ap (λ (f : Backing). f.asserted) c.in_ok-add.ensures.ok
-
-pub returns-in_err-put-clause-atoms : goal.returns-in_err-put-clause-atoms
-returns-in_err-put-clause-atoms g c = ap (λ (f : Backing). f.atoms) c.in_ok-add.ensures.ok
-
-pub returns-in_err-put-clause-trace : goal.returns-in_err-put-clause-trace
-returns-in_err-put-clause-trace g c = ap (λ (f : Backing). f.trace) c.in_ok-add.ensures.ok
-
 pub returns-clause-gates : goal.returns-clause-gates
 returns-clause-gates g c = ap (λ (f : Backing). f.gates) c.in_ok-add.ensures.ok
 
@@ -103,4 +85,4 @@ pub returns-clause-trace : goal.returns-clause-trace
 returns-clause-trace g c = ap (λ (f : Backing). f.trace) c.in_ok-add.ensures.ok
 
 pub returns-clause-counts : goal.returns-clause-counts
-returns-clause-counts g c = c.in_ok-put.ensures.counts
+returns-clause-counts g c = c.put_line.ensures.counts
