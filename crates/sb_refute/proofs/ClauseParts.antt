@@ -1,8 +1,8 @@
 -- Clauses that have only negations of some literals.
-use Rattle.std.proofs.Common.{◌≡◌, ℕ, inl, inr, true, false, List, [], ◌∷◌, Option, Some, None, Result, Ok, Err, Bor, IsSome, is_some, option_map, refl, sym, ap, subst, ◌∙◌, All, Contains}
+use Rattle.std.proofs.Common.{◌≡◌, ℕ, inl, inr, true, false, List, [], ◌∷◌, Option, Some, None, Result, Ok, Err, Bor, IsSome, option_map, refl, sym, ap, subst, ◌∙◌, All, Contains}
 use Rattle.std.specs.Option.{MatchOption, option_copied}
 use Rattle.std.specs.Result.{IfOk}
-use Rattle.std.proofs.lemmas.Bool.{and_from, and_parts, or_left, or_right, or_cases, false≢true, true≢false}
+use Rattle.std.proofs.lemmas.Bool.{and_from, and_parts, or_left, or_right, or_cases, false≢true}
 use Rattle.std.proofs.lemmas.List.Elements.{All-nil, All-cons}
 use Rattle.std.proofs.lemmas.Option.{same_Some, none-some}
 use Rattle.sb_lit.specs.declared.clause.Lit.{Lit}

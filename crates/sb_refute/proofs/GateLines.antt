@@ -1,5 +1,5 @@
 -- The clauses of gates of an atom speak of the atoms up to it, and their lines follow.
-use Rattle.std.proofs.Common.{◌≡◌, ◌≢◌, ℕ, zero, suc, ◌+◌, ◌<◌, ◌≤◌, Bool, true, false, nat_lt, if◌then◌else◌, List, [], ◌∷◌, ◌++◌, length, map, take, get_or, Option, Some, None, Result, Ok, Err, All, Contains, inl, inr, refl, sym, ap, ap₂, subst, ◌∙◌, arith, append_assoc}
+use Rattle.std.proofs.Common.{◌≡◌, ◌≢◌, ℕ, suc, ◌+◌, ◌<◌, Bool, true, false, nat_lt, if◌then◌else◌, List, [], ◌∷◌, ◌++◌, length, map, take, Option, Some, Result, Ok, Err, All, Contains, inl, inr, refl, sym, ap, subst, ◌∙◌, arith, append_assoc}
 use Rattle.std.specs.List.{list_all}
 use Rattle.std.proofs.lemmas.Bool.{and_parts, and_from, false≢true, lt-ltb, ltb-true}
 use Rattle.std.proofs.lemmas.List.Elements.{All-nil, All-cons}
@@ -27,16 +27,15 @@ use Rattle.sb_sound.specs.ClauseLaws.{AreDefined, RuleLinesAreExact}
 use Rattle.sb_sound.specs.GateLaws.{GatesAreExact}
 use Rattle.sb_sound.proofs.CallerLemmas.{ascend_form}
 use Rattle.sb_proof.specs.Tapes.{with_bytes}
-use Rattle.sb_atoms.specs.Numbered.{Names, NameEarlier, over, atoms_in}
+use Rattle.sb_atoms.specs.Numbered.{NameEarlier, over, atoms_in}
 use Rattle.sb_atoms.proofs.CallerLemmas.{below_in_order, below_negations}
-use Rattle.sb_atoms.specs.GateClauses.{atom_at, gate, is_trivial, clause_of, parts_of, two_of, clauses_of}
+use Rattle.sb_atoms.specs.GateClauses.{atom_at, gate, is_trivial, clause_of, parts_of, clauses_of}
 use Rattle.sb_trace.proofs.CallerLemmas.{puts_one}
 use Rattle.sb_refute.specs.Backing.{Backing, Backs, EvidencesUncounted, HasGatesOf}
 use Rattle.sb_refute.specs.Lines.{IsOfGates}
 use Rattle.sb_refute.proofs.Backs.{backs-denial}
 use Rattle.sb_refute.proofs.ClauseLines.{pushed}
-use Rattle.sb_refute.proofs.Clauses.{kept-stays}
-use Rattle.sb_refute.proofs.Hints.{here, cons-cases, not-in-nil}
+use Rattle.sb_refute.proofs.Hints.{cons-cases, not-in-nil}
 use Rattle.sb_refute.proofs.Holding.{literals-grown}
 
 -- The atoms of the clauses.

@@ -10,7 +10,6 @@ use Rattle.sb_lit.specs.declared.clause.ClauseId.{ClauseId}
 use Rattle.sb_lit.specs.Kept.{Kept, KeptClause, kept_at, is_above, stays_up_to, kept_up_to}
 use Rattle.sb_clauses.specs.Propagation.{State, are_reserved, is_reserved, has_room_for}
 use Rattle.sb_rulebook.specs.Atoms.{AtomOver}
-use Rattle.sb_atoms.specs.GateClauses.{clauses_of}
 use Rattle.sb_atoms.specs.Numbered.{Names, Extends, NameEarlier}
 use Rattle.sb_atoms.proofs.CallerLemmas.{earlier_none, earlier_more, named_before}
 use Rattle.sb_refute.specs.declared.evidence.Asserted.{Asserted}

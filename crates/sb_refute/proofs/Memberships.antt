@@ -1,12 +1,9 @@
 -- Memberships that are denied together, and what is put of that.
-use Rattle.std.proofs.Common.{◌≡◌, ◌≢◌, ℕ, suc, ◌+◌, ◌^◌, ◌<◌, ◌⊎◌, inl, inr, true, false, Bool, nat_lt, List, [], ◌∷◌, ◌++◌, length, get_or, map, Option, Some, Result, Ok, Err, All, refl, sym, ap, ap₂, subst, ◌∙◌, Contains, arith}
+use Rattle.std.proofs.Common.{◌≡◌, ◌≢◌, ℕ, suc, ◌+◌, ◌^◌, ◌<◌, ◌⊎◌, inl, inr, true, false, Bool, nat_lt, List, [], ◌∷◌, ◌++◌, length, get_or, map, Option, Some, All, refl, sym, ap, ap₂, subst, ◌∙◌, Contains, arith}
 use Rattle.std.specs.List.{list_all}
-use Rattle.std.specs.Result.{is_err, OnOk, OnErr}
 use Rattle.std.specs.Ordering.{nat_cmp}
-use Rattle.std.specs.declared.cmp.Ordering.TheVariants.{Equal}
 use Rattle.std.specs.BTreeMap.{insert_entry}
 use Rattle.std.proofs.lemmas.Bool.{and_from, true≢false, lt-ltb}
-use Rattle.std.proofs.lemmas.Bool.Decides.{nat_tests}
 use Rattle.std.proofs.lemmas.List.Elements.{All-nil, All-cons}
 use Rattle.sb_facts.proofs.CallerLemmas.{cmp_equal}
 use Rattle.sb_word.specs.Words.{IsWord}

@@ -1,5 +1,4 @@
-use Rattle.std.proofs.Common.{◌+◌, ◌≡◌, suc, Option, sym, subst, arith}
-use Rattle.sb_refute.specs.declared.evidence.EmptyClause.{EmptyClause}
+use Rattle.std.proofs.Common.{◌+◌, sym, subst, arith}
 use Rattle.sb_refute.specs.Lines.{IsLowestBefore}
 use Rattle.sb_refute.proofs.Lowest.{lower-one, lowest-all}
 use Rattle.sb_refute.proofs.evidence.lowest_empty.Goals as goal

@@ -1,5 +1,4 @@
-use Rattle.std.proofs.Common.{◌≡◌, ◌<◌, true, List, length, All, sym, subst, ap, refl, ◌∙◌, Bool, Some, None}
-use Rattle.std.proofs.lemmas.Bool.{true≢false}
+use Rattle.std.proofs.Common.{◌≡◌, ◌<◌, true, List, length, All, sym, subst, ap, refl, ◌∙◌, Bool}
 use Rattle.std.proofs.lemmas.Result.{on_ok_weaker, IfOk-from_err, err_from_is_err_and}
 use Rattle.sb_lang.specs.Constructors.{mkand}
 use Rattle.sb_lit.specs.declared.clause.Lit.{Lit}

@@ -1,7 +1,7 @@
-use Rattle.std.proofs.Common.{[], ◌≡◌, sym, ap, subst, ◌∙◌}
+use Rattle.std.proofs.Common.{sym, ap, subst, ◌∙◌}
 use Rattle.sb_lit.specs.Kept.{Kept}
 use Rattle.sb_clauses.specs.Propagation.{State}
-use Rattle.sb_refute.specs.Backing.{Backing, IsLowestEmpty, backing_of}
+use Rattle.sb_refute.specs.Backing.{IsLowestEmpty}
 use Rattle.sb_refute.specs.Standing.{Stand}
 use Rattle.sb_refute.specs.Lines.{IsLowestBefore}
 use Rattle.sb_refute.proofs.Lowest.{lowest-first, stand-found}

@@ -1,4 +1,4 @@
-use Rattle.std.proofs.Common.{◌≡◌, ◌<◌, true, length, IfSome, sym, subst}
+use Rattle.std.proofs.Common.{◌<◌, length, IfSome, sym, subst}
 use Rattle.sb_refute.specs.Backing.{Backing}
 use Rattle.sb_refute.proofs.Holding.{stand-placed}
 use Rattle.sb_refute.proofs.evidence.Evidence.keep.Goals as goal

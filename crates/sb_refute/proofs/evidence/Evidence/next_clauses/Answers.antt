@@ -1,4 +1,4 @@
-use Rattle.std.proofs.Common.{◌≡◌, ◌<◌, ℕ, List, All, length, sym, subst, arith}
+use Rattle.std.proofs.Common.{◌≡◌, ◌<◌, All, length, sym, subst}
 use Rattle.std.specs.Result.{IfOk}
 use Rattle.sb_atoms.specs.GateClauses.{clauses_of, atom_at}
 use Rattle.sb_refute.specs.Backing.{Backing}

@@ -1,9 +1,9 @@
-use Rattle.std.proofs.Common.{◌≡◌, ◌<◌, length, Option, Some, None, IfSome, sym, ap, subst, ◌∙◌, refl}
+use Rattle.std.proofs.Common.{◌<◌, length, Option, Some, None, IfSome, sym, ap, subst, ◌∙◌, refl}
 use Rattle.std.proofs.lemmas.Result.{IfOk-from_err, err_from_is_err_and}
 use Rattle.sb_lit.specs.declared.clause.Lit.{Lit}
 use Rattle.sb_lit.specs.Kept.{Kept}
 use Rattle.sb_refute.specs.Backing.{Backing, EvidencesUncounted, HasGates, asserted_at, unit_at}
-use Rattle.sb_refute.specs.Lines.{IsAssertion, IsStanding, placed}
+use Rattle.sb_refute.specs.Lines.{IsAssertion, IsStanding}
 use Rattle.sb_refute.proofs.Asserting.{nothing-put}
 use Rattle.sb_refute.proofs.Holding.{gates-more}
 use Rattle.sb_refute.proofs.Places.{placed-there, placed-others}
