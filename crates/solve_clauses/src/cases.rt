@@ -22,21 +22,22 @@
 //!   level, and all. `look NUMBER` prints a clause, `part 1 -2 0` which kept one is a part of this one, and
 //!   `learn 1 -2 0 HINT ..` its level, or why the hints do not teach it.
 
-use crate::failure::Failure;
+use crate::failure::{Failure, done};
 use crate::replayed::{copy, replays};
 use crate::search::decide_all;
 use crate::steps::{look, print_clause, step, wait};
-use crate::theory::{Given, atoms, wanting};
+use crate::text::Text;
+use crate::theory::{Given, add_atoms, idle};
 use sb_activity::{Order, Phases};
-use sb_clauses::Engine;
+use sb_clauses::{Clauses, Engine};
 use sb_hints::KeptClauses;
 use sb_lit::{Budget, Clause, ClauseId, Lit};
 use sb_proof::MemTape;
 use sb_search::{Found, search};
+use sb_trail::{CompactLit, Trail};
 use std::alloc::{AllocError, Global};
-use std::fmt::Write as _;
-use std::fs;
 use std::io::Write;
+use std::{fs, mem};
 
 /// The first word of a line.
 #[derive(Clone, Copy)]
@@ -143,7 +144,7 @@ struct Case {
 fn nothing(alloc: Global) -> Case {
     Case {
         engine: Engine::new(alloc),
-        theory: wanting(alloc, Vec::new(alloc)),
+        theory: idle(alloc),
         order: Order::new(alloc),
         phases: Phases::new(alloc),
         kept: KeptClauses::new(alloc),
@@ -152,24 +153,37 @@ fn nothing(alloc: Global) -> Case {
 
 /// Goes through the cases of a file, and prints what they come to.
 pub fn go_through(rt: HostRuntime, name: &str) -> Result<(), Failure> {
-    let Ok(text) = fs::read_to_string(&rt, name) else {
-        return Err(Failure::Outside);
-    };
-    let mut out = String::new(rt.alloc());
-    let taken = take_all(
-        rt.alloc(),
-        text.as_str(),
-        &mut nothing(rt.alloc()),
-        &mut out,
-    );
-    match rt.stdout().write_all(out.as_bytes()) {
+    match fs::read_to_string(&rt, name) {
+        Ok(text) => go_through_text(rt, text.as_str()),
+        Err(_) => Err(Failure::Outside),
+    }
+}
+
+/// Goes through the cases of a text, and prints what they come to, also where one fails.
+fn go_through_text(rt: HostRuntime, text: &str) -> Result<(), Failure> {
+    let mut out = Text::new(rt.alloc());
+    let mut case = nothing(rt.alloc());
+    let taken = take_all(rt.alloc(), text, &mut case, &mut out);
+    drop(case);
+    let printed = print(rt, &out);
+    drop(out);
+    match printed {
         Ok(()) => taken,
+        Err(failure) => Err(failure),
+    }
+}
+
+/// Prints a text, which is to be whole.
+fn print(rt: HostRuntime, out: &Text) -> Result<(), Failure> {
+    match rt.stdout().write_all(out.bytes()) {
+        Ok(()) if out.is_whole() => Ok(()),
+        Ok(()) => Err(Failure::NoMemory),
         Err(_) => Err(Failure::Outside),
     }
 }
 
 /// Takes each line.
-fn take_all(alloc: Global, text: &str, case: &mut Case, out: &mut String) -> Result<(), Failure> {
+fn take_all(alloc: Global, text: &str, case: &mut Case, out: &mut Text) -> Result<(), Failure> {
     for line in text.lines() {
         take_line(alloc, line, case, out)?;
     }
@@ -177,37 +191,57 @@ fn take_all(alloc: Global, text: &str, case: &mut Case, out: &mut String) -> Res
 }
 
 /// Begins a case, or takes a line of it.
-fn take_line(alloc: Global, line: &str, case: &mut Case, out: &mut String) -> Result<(), Failure> {
-    let word = word_of(line.split_whitespace().next().unwrap_or("c"));
-    match word {
+fn take_line(alloc: Global, line: &str, case: &mut Case, out: &mut Text) -> Result<(), Failure> {
+    match word_of(line.split_whitespace().next().unwrap_or("c")) {
         Word::Comment => Ok(()),
         Word::Begin => {
-            *case = nothing(alloc);
-            Ok(writeln!(out, "{line}")?)
+            drop(mem::replace(case, nothing(alloc)));
+            out.add(line);
+            out.add("\n");
+            Ok(())
         }
-        _ => take(alloc, case, word, &numbers_of(alloc, line)?, out),
+        word => take_word(alloc, case, word, line, out),
     }
 }
 
-/// The numbers of a line, behind its word.
-fn numbers_of(alloc: Global, line: &str) -> Result<Vec<i64>, AllocError> {
+/// Takes a line that begins with a word.
+fn take_word(
+    alloc: Global,
+    case: &mut Case,
+    word: Word,
+    line: &str,
+    out: &mut Text,
+) -> Result<(), Failure> {
     let mut numbers = Vec::new(alloc);
+    add_numbers(line, &mut numbers)?;
+    let taken = take(alloc, case, word, &numbers, out);
+    drop(numbers);
+    taken
+}
+
+/// Adds the numbers of a line, behind its word.
+fn add_numbers(line: &str, numbers: &mut Vec<i64>) -> Result<(), AllocError> {
     for part in line.split_whitespace() {
         if let Ok(number) = part.parse::<i64>() {
             numbers.push(number)?;
         }
     }
-    Ok(numbers)
+    Ok(())
 }
 
 /// The first word of a line.
 fn word_of(first: &str) -> Word {
     for (name, word) in &WORDS {
-        if *name == first {
+        if is_same(name, first) {
             return *word;
         }
     }
     Word::Clause
+}
+
+/// Whether two texts are the same.
+fn is_same(text: &str, other: &str) -> bool {
+    text == other
 }
 
 /// The number at a place, without its sign; 0 where there is none.
@@ -229,169 +263,208 @@ pub fn literal(number: i64) -> Lit {
 /// The literals of the numbers, up to a 0.
 pub fn literals(alloc: Global, numbers: &[i64]) -> Result<Vec<Lit>, AllocError> {
     let mut literals = Vec::new(alloc);
+    add_literals(numbers, &mut literals)?;
+    Ok(literals)
+}
+
+/// Adds the literals of the numbers, up to a 0.
+fn add_literals(numbers: &[i64], literals: &mut Vec<Lit>) -> Result<(), AllocError> {
     for number in numbers {
         if *number == 0 {
             break;
         }
         literals.push(literal(*number))?;
     }
-    Ok(literals)
+    Ok(())
 }
 
 /// The numbers behind the first one.
-fn behind(numbers: &[i64]) -> &[i64] {
+pub fn behind(numbers: &[i64]) -> &[i64] {
     match numbers {
         [] => &[],
         [_, rest @ ..] => rest,
     }
 }
 
-/// Takes a line of clauses, of lemmas and of what is searched, or a step.
+/// Takes a line of what is searched, or a step.
 fn take(
     alloc: Global,
     case: &mut Case,
     word: Word,
     numbers: &[i64],
-    out: &mut String,
+    out: &mut Text,
 ) -> Result<(), Failure> {
     match word {
-        Word::Comment => {}
-        Word::Clause => {
-            let clause = Clause::from_literals(literals(alloc, numbers)?);
-            case.engine.add(&clause, 0)?;
+        Word::Search => find(alloc, case, numbers, true, out),
+        Word::Ends => find(alloc, case, numbers, false, out),
+        Word::Order => decide(alloc, &mut case.engine, false, out),
+        Word::Active => decide(alloc, &mut case.engine, true, out),
+        Word::Wait(step) => {
+            wait(&mut case.order, &mut case.phases, step, numbers, out);
+            Ok(())
         }
-        Word::At => {
-            let clause = Clause::from_literals(literals(alloc, behind(numbers))?);
-            case.engine.add(&clause, number(numbers, 0))?;
+        Word::Read(step) => look(alloc, &mut case.kept, step, numbers, out),
+        Word::Reserve => done(reserve(case, number(numbers, 0) as usize, out)),
+        Word::Clause | Word::At | Word::Lemma | Word::Wish | Word::Atoms => {
+            done(add(alloc, case, word, numbers))
         }
-        Word::Lemma => {
-            let clause = Clause::from_literals(literals(alloc, numbers)?);
-            case.theory.lemmas.push(clause)?;
-        }
-        Word::Wish => case.theory.wishes = literals(alloc, numbers)?,
-        Word::Atoms => {
-            let end = number(numbers, 0).saturating_add(1);
-            case.theory.atoms = atoms(alloc, 1, end)?;
-        }
-        Word::Search => {
-            let assumptions = literals(alloc, behind(numbers))?;
-            find(alloc, case, number(numbers, 0), &assumptions, true, out)?;
-        }
-        Word::Ends => {
-            let assumptions = literals(alloc, behind(numbers))?;
-            find(alloc, case, number(numbers, 0), &assumptions, false, out)?;
-        }
-        Word::Reserve => {
-            let count = number(numbers, 0) as usize;
-            case.engine.reserve(count)?;
-            case.order.reserve(count)?;
-            case.phases.reserve(count)?;
-            let places = case.engine.trail().reserved();
-            writeln!(out, "{places} places, {} in order", case.order.len())?;
-        }
-        Word::Order => decide(alloc, &mut case.engine, false, out)?,
-        Word::Active => decide(alloc, &mut case.engine, true, out)?,
-        Word::Wait(step) => wait(&mut case.order, &mut case.phases, step, numbers, out)?,
-        Word::Read(step) => look(alloc, &mut case.kept, step, numbers, out)?,
-        _ => step(&mut case.engine, word, numbers, out)?,
+        _ => step(&mut case.engine, word, numbers, out),
     }
+}
+
+/// Adds a clause, a lemma, wishes or atoms that are wanted.
+fn add(alloc: Global, case: &mut Case, word: Word, numbers: &[i64]) -> Result<(), AllocError> {
+    match word {
+        Word::At => add_clause(alloc, &mut case.engine, behind(numbers), number(numbers, 0)),
+        Word::Lemma => add_lemma(alloc, &mut case.theory.lemmas, numbers),
+        Word::Wish => {
+            case.theory.wishes.clear();
+            add_literals(numbers, &mut case.theory.wishes)
+        }
+        Word::Atoms => {
+            case.theory.atoms.clear();
+            let end = number(numbers, 0).saturating_add(1);
+            add_atoms(1, end, &mut case.theory.atoms)
+        }
+        _ => add_clause(alloc, &mut case.engine, numbers, 0),
+    }
+}
+
+/// Keeps the clause of these numbers at a level.
+fn add_clause(
+    alloc: Global,
+    engine: &mut Engine,
+    numbers: &[i64],
+    level: u64,
+) -> Result<(), AllocError> {
+    let clause = Clause::from_literals(literals(alloc, numbers)?);
+    let added = engine.add(&clause, level);
+    drop(clause);
+    match added {
+        Ok(_) => Ok(()),
+        Err(error) => Err(error),
+    }
+}
+
+/// Adds the lemma of these numbers.
+fn add_lemma(alloc: Global, lemmas: &mut Vec<Clause>, numbers: &[i64]) -> Result<(), AllocError> {
+    let lemma = Clause::from_literals(literals(alloc, numbers)?);
+    lemmas.push(lemma)?;
+    Ok(())
+}
+
+/// Makes places for atoms.
+fn reserve(case: &mut Case, count: usize, out: &mut Text) -> Result<(), AllocError> {
+    case.engine.reserve(count)?;
+    case.order.reserve(count)?;
+    case.phases.reserve(count)?;
+    out.add_number("", case.engine.trail().reserved() as u64);
+    out.add_number(" places, ", case.order.len() as u64);
+    out.add(" in order\n");
     Ok(())
 }
 
 /// Searches by the engine alone, and prints what it comes to.
-fn decide(
-    alloc: Global,
-    engine: &mut Engine,
-    active: bool,
-    out: &mut String,
-) -> Result<(), Failure> {
+fn decide(alloc: Global, engine: &mut Engine, active: bool, out: &mut Text) -> Result<(), Failure> {
     engine.clear();
     let (verdict, conflicts) = decide_all(alloc, engine, active)?;
-    writeln!(out, "{} {conflicts}", verdict.name())?;
+    out.add(verdict.name());
+    out.add_number(" ", conflicts);
+    out.add("\n");
     Ok(())
 }
 
-/// Searches, and prints what it comes to, with its lines or the end alone.
+/// Searches with the assumptions behind the limit, and prints what it comes to, with its lines or the end alone.
 fn find(
     alloc: Global,
     case: &mut Case,
-    limit: u64,
-    assumptions: &[Lit],
+    numbers: &[i64],
     shown: bool,
-    out: &mut String,
+    out: &mut Text,
 ) -> Result<(), Failure> {
-    let mut tape = MemTape::new(alloc);
+    let assumptions = literals(alloc, behind(numbers))?;
+    let limit = number(numbers, 0);
     let mut kept = KeptClauses::new(alloc);
-    let mut budget = Budget::new(limit);
-    find_on(
+    let mut tape = MemTape::new(alloc);
+    let found = find_on(
         alloc,
         case,
         &mut kept,
         &mut tape,
-        &mut budget,
-        assumptions,
+        &assumptions,
+        limit,
         shown,
         out,
-    )
+    );
+    drop(tape);
+    drop(kept);
+    drop(assumptions);
+    found
 }
 
+/// Searches on a tape, and follows its lines as a reader of proofs does.
 fn find_on(
     alloc: Global,
     case: &mut Case,
     kept: &mut KeptClauses,
     tape: &mut MemTape,
-    budget: &mut Budget,
     assumptions: &[Lit],
+    limit: u64,
     shown: bool,
-    out: &mut String,
+    out: &mut Text,
 ) -> Result<(), Failure> {
     copy(alloc, case.engine.clauses(), kept)?;
-    case.engine.clear();
-    let (theory, engine) = (&mut case.theory, &mut case.engine);
-    let found = search(alloc, theory, engine, tape, assumptions, budget)?;
+    let (found, spent) = search_case(alloc, case, tape, assumptions, limit)?;
     let lines = str::from_utf8(tape.bytes()).unwrap_or("no text");
     if !replays(alloc, kept, lines, case.engine.clauses())? {
-        writeln!(out, "lines that do not follow")?;
+        out.add("lines that do not follow\n");
     }
-    print_end(case, found, assumptions, shown, out)?;
+    print_end(case, found, assumptions, shown, out);
     if shown {
-        let theory = &case.theory;
-        let (asked, last, back) = (theory.asked, theory.last, theory.back);
-        let (spent, limit) = (budget.spent(), budget.limit());
-        write!(
-            out,
-            ", {spent} of {limit} steps, asked {asked} times, {last} at last, back to {back}\n{lines}"
-        )?;
-        return Ok(());
+        print_steps(&case.theory, spent, limit, out);
+        out.add(lines);
+    } else {
+        out.add("\n");
     }
-    writeln!(out)?;
     Ok(())
 }
 
-/// Prints how a search ended, with the clause that was found where it is shown.
-fn print_end(
-    case: &Case,
-    found: Found,
+/// Searches from a trail without literals, and says how many steps were spent.
+fn search_case(
+    alloc: Global,
+    case: &mut Case,
+    tape: &mut MemTape,
     assumptions: &[Lit],
-    shown: bool,
-    out: &mut String,
-) -> Result<(), AllocError> {
+    limit: u64,
+) -> Result<(Found, u64), Failure> {
+    case.engine.clear();
+    let mut budget = Budget::new(limit);
+    let (theory, engine) = (&mut case.theory, &mut case.engine);
+    let found = search(alloc, theory, engine, tape, assumptions, &mut budget)?;
+    Ok((found, budget.spent()))
+}
+
+/// Prints how many steps were spent, and how often the theory was asked.
+fn print_steps(theory: &Given, spent: u64, limit: u64, out: &mut Text) {
+    out.add_number(", ", spent);
+    out.add_number(" of ", limit);
+    out.add_number(" steps, asked ", theory.asked);
+    out.add_number(" times, ", theory.last);
+    out.add_number(" at last, back to ", theory.back as u64);
+    out.add("\n");
+}
+
+/// Prints how a search ended, with the clause that was found where it is shown.
+fn print_end(case: &Case, found: Found, assumptions: &[Lit], shown: bool, out: &mut Text) {
     match found {
-        Found::Sat => {
-            if has_values(case, assumptions) {
-                write!(out, "sat")
-            } else {
-                write!(out, "sat by other values")
-            }
+        Found::Sat if has_values(case, assumptions) => out.add("sat"),
+        Found::Sat => out.add("sat by other values"),
+        Found::Unsat(id) if shown => {
+            out.add("unsat by");
+            print_clause(case.engine.clauses(), id, out);
         }
-        Found::Unsat(id) => {
-            if shown {
-                write!(out, "unsat by")?;
-                return print_clause(&case.engine, id, out);
-            }
-            write!(out, "unsat")
-        }
-        Found::Spent => write!(out, "spent"),
+        Found::Unsat(_) => out.add("unsat"),
+        Found::Spent => out.add("spent"),
     }
 }
 
@@ -399,29 +472,77 @@ fn print_end(
 /// wanted has a value.
 fn has_values(case: &Case, assumptions: &[Lit]) -> bool {
     let trail = case.engine.trail();
-    let clauses = case.engine.clauses();
-    let mut all = true;
+    let all = are_true(trail, assumptions);
+    let clauses = clauses_hold(trail, case.engine.clauses());
+    let lemmas = lemmas_hold(trail, &case.theory.lemmas);
+    let atoms = have_values(trail, &case.theory.atoms);
+    all & clauses & lemmas & atoms
+}
+
+/// Whether a literal is true.
+fn is_true(trail: &Trail, literal: Lit) -> bool {
+    trail.literal_value(literal).unwrap_or(false)
+}
+
+/// Whether all literals are true.
+fn are_true(trail: &Trail, literals: &[Lit]) -> bool {
+    for literal in literals {
+        if !is_true(trail, *literal) {
+            return false;
+        }
+    }
+    true
+}
+
+/// Whether some literal is true.
+fn some_true(trail: &Trail, literals: &[Lit]) -> bool {
+    for literal in literals {
+        if is_true(trail, *literal) {
+            return true;
+        }
+    }
+    false
+}
+
+/// Whether of each lemma a literal is true.
+fn lemmas_hold(trail: &Trail, lemmas: &[Clause]) -> bool {
+    for lemma in lemmas {
+        if !some_true(trail, lemma.literals()) {
+            return false;
+        }
+    }
+    true
+}
+
+/// Whether of each kept clause a literal is true.
+fn clauses_hold(trail: &Trail, clauses: &Clauses) -> bool {
     for number in 0..clauses.len() {
-        if let Some(literals) = clauses.literals(ClauseId(number as u64)) {
-            let mut some = false;
-            for kept in literals {
-                some |= trail.literal_value(kept.literal()) == Some(true);
-            }
-            all &= some;
+        if !clause_holds(trail, clauses.literals(ClauseId(number as u64))) {
+            return false;
         }
     }
-    for lemma in &case.theory.lemmas {
-        let mut some = false;
-        for literal in lemma.literals() {
-            some |= trail.literal_value(*literal) == Some(true);
+    true
+}
+
+/// Whether a literal is true of the clause, if there is one.
+fn clause_holds(trail: &Trail, clause: Option<&[CompactLit]>) -> bool {
+    let Some(literals) = clause else {
+        return true;
+    };
+    for kept in literals {
+        if is_true(trail, kept.literal()) {
+            return true;
         }
-        all &= some;
     }
-    for atom in &case.theory.atoms {
-        all &= trail.value(*atom).is_some();
+    false
+}
+
+/// Whether all atoms have values.
+fn have_values(trail: &Trail, atoms: &[u64]) -> bool {
+    for atom in atoms {
+        if trail.value(*atom).is_none() {
+            return false;
+        }
     }
-    for literal in assumptions {
-        all &= trail.literal_value(*literal) == Some(true);
-    }
-    all
+    true
 }

@@ -2,10 +2,10 @@
 
 ghost use Rattle.std.specs.Prelude.{◌≡◌, []};
 
-use crate::failure::Failure;
+use crate::failure::{Failure, done};
 use sb_clauses::Engine;
 use sb_lit::{Clause, Lit};
-use std::alloc::Global;
+use std::alloc::{AllocError, Global};
 use std::io::BufRead;
 use std::mem;
 
@@ -20,11 +20,25 @@ pub fn read<R: BufRead>(alloc: Global, input: &mut R, engine: &mut Engine) -> Re
 {
     let mut line = Vec::new(alloc);
     let mut literals = Vec::new(alloc);
+    read_lines(alloc, input, &mut line, &mut literals, engine)
+}
+
+/// Reads each line into the bytes.
+fn read_lines<R: BufRead>(
+    alloc: Global,
+    input: &mut R,
+    line: &mut Vec<u8>,
+    literals: &mut Vec<Lit>,
+    engine: &mut Engine,
+) -> Result<(), Failure>
+    requires { engine.old.trail.literals ≡ [] }
+    ensures { engine.new.trail.literals ≡ [] }
+{
     for _ in 0..MOST_LINES {
         line.clear();
-        match input.read_until(b'\n', &mut line) {
+        match input.read_until(b'\n', line) {
             Ok(0) => return Ok(()),
-            Ok(_) => read_line(alloc, &line, &mut literals, engine)?,
+            Ok(_) => read_line(alloc, line, literals, engine)?,
             Err(_) => return Err(Failure::Outside),
         }
     }
@@ -44,24 +58,59 @@ fn read_line(
         return Ok(());
     }
     for word in line.split(|byte| *byte == b' ' || *byte == b'\n') {
-        if word.is_empty() {
-            continue;
-        }
-        let (positive, digits) = match word {
-            [b'-', digits @ ..] => (false, digits),
-            _ => (true, word),
-        };
-        let Some(number) = number_of(digits) else {
-            return Err(Failure::Input);
-        };
-        if let Some(atom) = number.checked_sub(1) {
-            literals.push(Lit { atom, positive })?;
-        } else {
-            let clause = Clause::from_literals(mem::replace(literals, Vec::new(alloc)));
-            engine.add(&clause, 0)?;
+        if !word.is_empty() {
+            read_word(alloc, word, literals, engine)?;
         }
     }
     Ok(())
+}
+
+/// Reads a literal, or the end of a clause.
+fn read_word(
+    alloc: Global,
+    word: &[u8],
+    literals: &mut Vec<Lit>,
+    engine: &mut Engine,
+) -> Result<(), Failure>
+    ensures { engine.new.trail ≡ engine.old.trail }
+{
+    match literal_of(word) {
+        Some(literal) if literal.atom > 0 => done(add_literal(literal, literals)),
+        Some(_) => done(keep(alloc, literals, engine)),
+        None => Err(Failure::Input),
+    }
+}
+
+/// The literal that a word is, with its atom as it stands there.
+fn literal_of(word: &[u8]) -> Option<Lit> {
+    let (positive, digits) = match word {
+        [b'-', digits @ ..] => (false, digits),
+        _ => (true, word),
+    };
+    let atom = number_of(digits)?;
+    Some(Lit { atom, positive })
+}
+
+/// Adds a literal.
+fn add_literal(literal: Lit, literals: &mut Vec<Lit>) -> Result<(), AllocError> {
+    literals.push(Lit {
+        atom: literal.atom.saturating_sub(1),
+        positive: literal.positive,
+    })?;
+    Ok(())
+}
+
+/// Keeps the clause of the literals, and leaves none of them.
+fn keep(alloc: Global, literals: &mut Vec<Lit>, engine: &mut Engine) -> Result<(), AllocError>
+    ensures { engine.new.trail ≡ engine.old.trail }
+{
+    let clause = Clause::from_literals(mem::replace(literals, Vec::new(alloc)));
+    let added = engine.add(&clause, 0);
+    drop(clause);
+    match added {
+        Ok(_) => Ok(()),
+        Err(error) => Err(error),
+    }
 }
 
 /// The number of the digits.

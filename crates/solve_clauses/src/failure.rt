@@ -37,3 +37,11 @@ impl From<TapeFault> for Failure {
         }
     }
 }
+
+/// A want of memory as a failure.
+pub fn done(outcome: Result<(), AllocError>) -> Result<(), Failure> {
+    match outcome {
+        Ok(()) => Ok(()),
+        Err(_) => Err(Failure::NoMemory),
+    }
+}

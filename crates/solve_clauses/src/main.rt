@@ -21,6 +21,7 @@ mod replayed;
 mod rounds;
 mod search;
 mod steps;
+mod text;
 mod theory;
 
 use crate::cases::go_through;
@@ -32,17 +33,32 @@ use crate::theory::search_plain;
 use sb_clauses::Engine;
 use std::alloc::AllocError;
 use std::env;
-use std::io::{BufReader, Write};
+use std::io::BufReader;
 use std::process::ExitCode;
 
 fn main(rt: HostRuntime) -> ExitCode {
-    match words(rt) {
-        Ok(words) => match run(rt, &words, &mut Engine::new(rt.alloc())) {
-            Ok(()) => ExitCode::from(0u8),
-            Err(Failure::Words) => ExitCode::from(2u8),
-            Err(_) => ExitCode::from(1u8),
-        },
+    let mut engine = Engine::new(rt.alloc());
+    let done = run_words(rt, &mut engine);
+    drop(engine);
+    status_of(done)
+}
+
+/// The exit status of what was done.
+fn status_of(done: Result<(), Failure>) -> ExitCode {
+    match done {
+        Ok(()) => ExitCode::from(0u8),
+        Err(Failure::Words) => ExitCode::from(2u8),
         Err(_) => ExitCode::from(1u8),
+    }
+}
+
+/// Does what the program's words ask for.
+fn run_words(rt: HostRuntime, engine: &mut Engine) -> Result<(), Failure>
+    requires { engine.old.trail.literals ≡ [] }
+{
+    match words(rt) {
+        Ok(words) => run(rt, &words, engine),
+        Err(_) => Err(Failure::NoMemory),
     }
 }
 
@@ -59,34 +75,65 @@ fn run(rt: HostRuntime, words: &[String], engine: &mut Engine) -> Result<(), Fai
     requires { engine.old.trail.literals ≡ [] }
 {
     match words {
-        [_, word] if word.as_str() == "order" => decide(rt, engine, false),
-        [_, word] if word.as_str() == "active" => decide(rt, engine, true),
-        [_, word, count] if word.as_str() == "rounds" => repeat(rt, engine, count.as_str()),
-        [_, word, files @ ..] if word.as_str() == "search" => {
-            read_all(rt, engine)?;
-            let (verdict, steps) = search_plain(rt.alloc(), engine)?;
-            print(rt, verdict.name(), steps)?;
-            for file in files {
-                go_through(rt, file.as_str())?;
-            }
-            Ok(())
-        }
+        [_, word, behind @ ..] => run_word(rt, word.as_str(), behind, engine),
         _ => Err(Failure::Words),
     }
 }
 
-/// Searches by the engine alone.
-fn decide(rt: HostRuntime, engine: &mut Engine, active: bool) -> Result<(), Failure>
+/// Does what a word asks for, with the words behind it.
+fn run_word(
+    rt: HostRuntime,
+    word: &str,
+    behind: &[String],
+    engine: &mut Engine,
+) -> Result<(), Failure>
     requires { engine.old.trail.literals ≡ [] }
 {
+    match word {
+        "order" => decide(rt, behind, engine, false),
+        "active" => decide(rt, behind, engine, true),
+        "rounds" => repeat(rt, behind, engine),
+        "search" => search_all(rt, behind, engine),
+        _ => Err(Failure::Words),
+    }
+}
+
+/// Searches as the solver does, and goes through the files.
+fn search_all(rt: HostRuntime, files: &[String], engine: &mut Engine) -> Result<(), Failure>
+    requires { engine.old.trail.literals ≡ [] }
+{
+    read_all(rt, engine)?;
+    let (verdict, steps) = search_plain(rt.alloc(), engine)?;
+    print(rt, verdict.name(), steps)?;
+    for file in files {
+        go_through(rt, file.as_str())?;
+    }
+    Ok(())
+}
+
+/// Searches by the engine alone, where no more words are there.
+fn decide(
+    rt: HostRuntime,
+    behind: &[String],
+    engine: &mut Engine,
+    active: bool,
+) -> Result<(), Failure>
+    requires { engine.old.trail.literals ≡ [] }
+{
+    if !behind.is_empty() {
+        return Err(Failure::Words);
+    }
     read_all(rt, engine)?;
     let (verdict, conflicts) = decide_all(rt.alloc(), engine, active)?;
     print(rt, verdict.name(), conflicts)
 }
 
-/// Makes so many rounds.
-fn repeat(rt: HostRuntime, engine: &mut Engine, count: &str) -> Result<(), Failure> {
-    let Ok(count) = count.parse::<u64>() else {
+/// Makes so many rounds as the one word says.
+fn repeat(rt: HostRuntime, behind: &[String], engine: &mut Engine) -> Result<(), Failure> {
+    let [count] = behind else {
+        return Err(Failure::Words);
+    };
+    let Ok(count) = count.as_str().parse::<u64>() else {
         return Err(Failure::Words);
     };
     rounds(rt.alloc(), engine, count)?;
@@ -106,8 +153,7 @@ fn read_all(rt: HostRuntime, engine: &mut Engine) -> Result<(), Failure>
 
 /// Prints a word and a number.
 fn print(rt: HostRuntime, word: &str, number: u64) -> Result<(), Failure> {
-    let text = format!(in rt.alloc(); "{} {}\n", word, number)?;
-    match rt.stdout().write_all(text.as_bytes()) {
+    match println!(rt; "{word} {number}") {
         Ok(()) => Ok(()),
         Err(_) => Err(Failure::Outside),
     }

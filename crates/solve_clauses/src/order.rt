@@ -65,23 +65,36 @@ impl Order {
     pub fn meet(&mut self, trail: &Trail, clauses: &Clauses, hints: &[ClauseId]) {
         self.conflicts = self.conflicts.wrapping_add(1);
         self.next = 0;
-        if !self.active {
-            return;
-        }
-        for id in hints {
-            for kept in clauses.literals(*id).unwrap_or_default() {
-                let atom = kept.literal().atom;
-                let at = atom as usize;
-                if at < self.met.len()
-                    && at < self.scores.len()
-                    && self.met[at] != self.conflicts
-                    && trail.level(atom) != Some(0)
-                {
-                    self.met[at] = self.conflicts;
-                    self.scores[at] = self.scores[at].saturating_add(self.bump);
-                }
+        if self.active {
+            for id in hints {
+                self.meet_all(trail, clauses.literals(*id).unwrap_or_default());
             }
+            self.raise();
         }
+    }
+
+    /// The atoms of these literals are met.
+    fn meet_all(&mut self, trail: &Trail, literals: &[CompactLit]) {
+        for kept in literals {
+            self.meet_one(trail, kept.literal().atom);
+        }
+    }
+
+    /// An atom is met, if it was not at this conflict.
+    fn meet_one(&mut self, trail: &Trail, atom: u64) {
+        let at = atom as usize;
+        if at < self.met.len()
+            && at < self.scores.len()
+            && self.met[at] != self.conflicts
+            && trail.level(atom) != Some(0)
+        {
+            self.met[at] = self.conflicts;
+            self.scores[at] = self.scores[at].saturating_add(self.bump);
+        }
+    }
+
+    /// A meeting counts more from now on.
+    fn raise(&mut self) {
         self.bump = self.bump.saturating_add(self.bump / 20);
         if self.bump > MOST {
             self.bump /= SHRINK;

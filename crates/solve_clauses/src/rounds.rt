@@ -3,7 +3,7 @@
 use crate::failure::Failure;
 use sb_clauses::Engine;
 use sb_lit::{Clause, Lit};
-use std::alloc::Global;
+use std::alloc::{AllocError, Global};
 
 /// So many clauses come in a round.
 const CLAUSES: u64 = 10;
@@ -12,17 +12,7 @@ const CLAUSES: u64 = 10;
 pub fn rounds(alloc: Global, engine: &mut Engine, count: u64) -> Result<(), Failure> {
     engine.reserve(2 * CLAUSES as usize)?;
     for _ in 0..count {
-        for number in 0..CLAUSES {
-            let mut literals = Vec::new(alloc);
-            for atom in [2 * number, 2 * number + 1] {
-                let literal = Lit {
-                    atom,
-                    positive: true,
-                };
-                literals.push(literal)?;
-            }
-            engine.add(&Clause::from_literals(literals), 1)?;
-        }
+        keep_all(alloc, engine)?;
         if !engine.has_room() {
             return Err(Failure::Lost);
         }
@@ -30,4 +20,32 @@ pub fn rounds(alloc: Global, engine: &mut Engine, count: u64) -> Result<(), Fail
         engine.leave_above(0);
     }
     Ok(())
+}
+
+/// Keeps the clauses of a round.
+fn keep_all(alloc: Global, engine: &mut Engine) -> Result<(), AllocError> {
+    for number in 0..CLAUSES {
+        let literals = [literal(2 * number), literal(2 * number + 1)];
+        keep(alloc, engine, &literals)?;
+    }
+    Ok(())
+}
+
+/// The literal that an atom is true.
+fn literal(atom: u64) -> Lit {
+    Lit {
+        atom,
+        positive: true,
+    }
+}
+
+/// Keeps the clause of these literals on level 1.
+fn keep(alloc: Global, engine: &mut Engine, literals: &[Lit]) -> Result<(), AllocError> {
+    let clause = Clause::from_literals(Vec::from_slice(alloc, literals)?);
+    let added = engine.add(&clause, 1);
+    drop(clause);
+    match added {
+        Ok(_) => Ok(()),
+        Err(error) => Err(error),
+    }
 }

@@ -44,8 +44,13 @@ pub fn decide_all(
     let atoms = engine.atoms();
     engine.reserve(atoms)?;
     let mut order = Order::new(alloc, atoms, active)?;
-    let verdict = search(alloc, engine, &mut order)?;
-    Ok((verdict, order.conflicts()))
+    let found = search(alloc, engine, &mut order);
+    let conflicts = order.conflicts();
+    drop(order);
+    match found {
+        Ok(verdict) => Ok((verdict, conflicts)),
+        Err(failure) => Err(failure),
+    }
 }
 
 /// Searches until all atoms have values, or a clause is false on level 0. Not inlined, since a search of many conflicts
@@ -124,8 +129,12 @@ fn learn_from(
     }
     let lesson = explain(alloc, engine, conflict)?;
     order.meet(engine.trail(), engine.clauses(), lesson.hints.ids());
-    backtrack(engine, &lesson)?;
-    Ok(None)
+    let kept = backtrack(engine, &lesson);
+    drop(lesson);
+    match kept {
+        Ok(()) => Ok(None),
+        Err(_) => Err(Failure::NoMemory),
+    }
 }
 
 /// What the clause that is false teaches.

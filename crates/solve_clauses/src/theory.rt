@@ -1,10 +1,12 @@
 //! Theories of which all is known, and the whole search over them.
 
-ghost use Rattle.std.specs.Prelude.{◌≡◌, ◌^◌, ◌<◌, [], true, length, None, IfOk, IfSome};
+ghost use Rattle.std.specs.Prelude.{◌≡◌, ◌^◌, ◌<◌, ◌≤◌, [], true, length, None, IfOk, IfSome};
 ghost use Rattle.std.specs.List.{slice_get};
 ghost use Rattle.std.proofs.Common.{rules};
 ghost use Rattle.sb_lit.specs.Clauses.{is_false_clause};
 ghost use Rattle.sb_trail.specs.Assignments.{held};
+ghost use Rattle.sb_search.specs.Asking.{CountsFaults};
+ghost use Rattle.solve_clauses.specs.Giving.{Gives};
 
 use crate::failure::Failure;
 use crate::search::Verdict;
@@ -59,13 +61,11 @@ impl Theory for Given {
     ) -> Result<Checked, TapeFault> {
         self.asked = self.asked.wrapping_add(1);
         self.last = self.last.wrapping_add(u64::from(last));
-        if let Some(lemma) = false_one(self.alloc, trail, &self.lemmas)? {
-            if budget.tick().is_err() {
-                return Ok(Checked::Spent);
-            }
-            let literals = Vec::from_slice(self.alloc, lemma.literals())?;
-            tape.put(&Line::Rule(Rule::Step, literals))?;
-            return Ok(Checked::Lemma(lemma));
+        let Ok(found) = false_one(self.alloc, trail, &self.lemmas) else {
+            return Err(TapeFault::NoMemory);
+        };
+        if let Some(lemma) = found {
+            return give(self.alloc, lemma, tape, budget);
         }
         match self.wishes.pop() {
             Some(literal) if trail.value(literal.atom).is_none() => Ok(Checked::Ask(literal)),
@@ -95,6 +95,45 @@ impl Theory for Given {
     ghost puts_learned = { λ _ _ _ _ _ _ _ _. tt };
 
     ghost puts_gate = { λ _ _ _ _ _. tt };
+}
+
+/// Gives a lemma, with its line, for a step.
+fn give<L: Tape>(
+    alloc: Global,
+    lemma: Clause,
+    tape: &mut L,
+    budget: &mut Budget,
+) -> Result<Checked, TapeFault>
+    ensures given { IfOk result (Gives lemma budget.old budget.new) }
+    ensures limit { budget.new.limit ≡ budget.old.limit }
+    ensures spends { budget.old.spent ≤ budget.new.spent }
+    ensures within { budget.old.spent < budget.new.spent → budget.new.spent ≤ budget.new.limit }
+    ensures counts { CountsFaults result (L.Tape.faults tape.old) (L.Tape.faults tape.new) }
+{
+    if budget.tick().is_err() {
+        drop(lemma);
+        return Ok(Checked::Spent);
+    }
+    match put_step(alloc, lemma.literals(), tape) {
+        Ok(()) => Ok(Checked::Lemma(lemma)),
+        Err(fault) => {
+            drop(lemma);
+            Err(fault)
+        }
+    }
+}
+
+/// Puts the line of a lemma.
+fn put_step<L: Tape>(alloc: Global, literals: &[Lit], tape: &mut L) -> Result<(), TapeFault>
+    ensures { CountsFaults result (L.Tape.faults tape.old) (L.Tape.faults tape.new) }
+{
+    let Ok(literals) = Vec::from_slice(alloc, literals) else {
+        return Err(TapeFault::NoMemory);
+    };
+    let line = Line::Rule(Rule::Step, literals);
+    let put = tape.put(&line);
+    drop(line);
+    put
 }
 
 /// The first lemma that is false.
@@ -136,20 +175,19 @@ impl Tape for Silent {
     }
 }
 
-/// The atoms from one on below the other.
-pub fn atoms(alloc: Global, first: u64, end: u64) -> Result<Vec<u64>, AllocError> {
-    let mut atoms = Vec::new(alloc);
+/// Adds the atoms from one on below the other.
+pub fn add_atoms(first: u64, end: u64, atoms: &mut Vec<u64>) -> Result<(), AllocError> {
     for atom in first..end {
         atoms.push(atom)?;
     }
-    Ok(atoms)
+    Ok(())
 }
 
-/// The theory that wants these atoms, and finds nothing wrong.
-pub fn wanting(alloc: Global, atoms: Vec<u64>) -> Given {
+/// The theory that wants no atoms, and finds nothing wrong.
+pub fn idle(alloc: Global) -> Given {
     Given {
         alloc,
-        atoms,
+        atoms: Vec::new(alloc),
         lemmas: Vec::new(alloc),
         wishes: Vec::new(alloc),
         asked: 0,
@@ -163,11 +201,29 @@ pub fn wanting(alloc: Global, atoms: Vec<u64>) -> Given {
 pub fn search_plain(alloc: Global, engine: &mut Engine) -> Result<(Verdict, u64), Failure>
     requires { engine.old.trail.literals ≡ [] }
 {
-    let mut theory = wanting(alloc, atoms(alloc, 0, engine.atoms() as u64)?);
+    let mut theory = idle(alloc);
     let mut budget = Budget::new(u64::MAX);
-    match search(alloc, &mut theory, engine, &mut Silent, &[], &mut budget)? {
-        Found::Sat => Ok((Verdict::Satisfiable, budget.spent())),
-        Found::Unsat(_) => Ok((Verdict::Unsatisfiable, budget.spent())),
+    let found = search_over(alloc, &mut theory, engine, &mut budget);
+    drop(theory);
+    match found {
+        Ok(verdict) => Ok((verdict, budget.spent())),
+        Err(failure) => Err(failure),
+    }
+}
+
+/// Searches over a theory, which is to want all atoms.
+fn search_over(
+    alloc: Global,
+    theory: &mut Given,
+    engine: &mut Engine,
+    budget: &mut Budget,
+) -> Result<Verdict, Failure>
+    requires { engine.old.trail.literals ≡ [] }
+{
+    add_atoms(0, engine.atoms() as u64, &mut theory.atoms)?;
+    match search(alloc, theory, engine, &mut Silent, &[], budget)? {
+        Found::Sat => Ok(Verdict::Satisfiable),
+        Found::Unsat(_) => Ok(Verdict::Unsatisfiable),
         Found::Spent => Err(Failure::Lost),
     }
 }
