@@ -1,0 +1,25 @@
+//! Tests of what no script and no proof shows: limits of explorations, of walks, of traces and of searches, how much is
+//! made, terms that none writes, and functions that no program calls.
+//!
+//! The crate has no code of its own. A test is a table: rows of calls with their answers. What a script or a proof shows
+//! is a case of the program that runs them.
+#![tactic(auto)]
+
+#[cfg(test)]
+mod derivatives;
+#[cfg(test)]
+mod limits;
+#[cfg(test)]
+mod regexes;
+#[cfg(test)]
+mod rules;
+#[cfg(test)]
+mod searches;
+#[cfg(test)]
+mod sets;
+#[cfg(test)]
+mod stacks;
+#[cfg(test)]
+mod terms;
+#[cfg(test)]
+mod traces;

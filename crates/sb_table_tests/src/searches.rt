@@ -1,0 +1,413 @@
+//! Searches over the theory of memberships, where the steps end, and where no lines are put: what no script shows.
+
+ghost use Rattle.std.specs.Prelude.{◌≡◌, [], length};
+ghost use Rattle.sb_atoms.specs.Numbered.{HasRegexBelow, HaveRegexesBelow, atom_in};
+ghost use Rattle.sb_theory.specs.Strings.{Stands};
+
+use crate::regexes::regex;
+use sb_atoms::{Atom, AtomId, Atoms, gate_clauses};
+use sb_clauses::Engine;
+use sb_graph::Graph;
+use sb_lit::{Budget, Clause, Lit};
+use sb_plain::Plain;
+use sb_proof::{MemTape, TapeFault};
+use sb_regex::{Arena, RegexId};
+use sb_search::{Found, search};
+use sb_term::Serial;
+use sb_theory::Strings;
+use sb_trace::Trace;
+use smallvec::SmallVec;
+use std::alloc::{AllocError, Global};
+use std::process::Abort;
+use std::test::Fail;
+
+/// What an atom says.
+enum Says {
+    /// The word of the constant of this serial is in the language.
+    In(u64, &'static [u8]),
+    /// Both literals are true.
+    And(Lit, Lit),
+}
+
+/// How a search ends.
+enum End {
+    Sat,
+    Unsat,
+    Spent,
+}
+
+/// A search, and what it comes to.
+struct Case {
+    /// The atoms, all of which are wanted.
+    said: &'static [Says],
+    clauses: &'static [&'static [Lit]],
+    /// Whether lines are put.
+    proves: bool,
+    limit: u64,
+    end: End,
+    steps: u64,
+    /// Literals that are true in the end.
+    truths: &'static [Lit],
+    /// The words of the first constants.
+    words: &'static [&'static [u32]],
+    lines: &'static [u8],
+}
+
+/// The literals of the first atoms, and negations of them.
+const ONE: Lit = Lit {
+    atom: 0,
+    positive: true,
+};
+
+const TWO: Lit = Lit {
+    atom: 1,
+    positive: true,
+};
+
+const THREE: Lit = Lit {
+    atom: 2,
+    positive: true,
+};
+
+const FOUR: Lit = Lit {
+    atom: 3,
+    positive: true,
+};
+
+const NOT_ONE: Lit = Lit {
+    atom: 0,
+    positive: false,
+};
+
+const NOT_TWO: Lit = Lit {
+    atom: 1,
+    positive: false,
+};
+
+/// Some a, some b, and some c.
+const SOME: [Says; 3] = [
+    Says::In(0, b"aa*."),
+    Says::In(0, b"bb*."),
+    Says::In(0, b"cc*."),
+];
+
+const CASES: [Case; 9] = [
+    Case {
+        said: &SOME,
+        clauses: &[&[ONE], &[TWO]],
+        proves: false,
+        limit: 9,
+        end: End::Unsat,
+        steps: 2,
+        truths: &[ONE, TWO],
+        words: &[&[97]],
+        lines: b"c learn : 0 1 2\n",
+    },
+    Case {
+        said: &SOME,
+        clauses: &[&[ONE, TWO], &[TWO, THREE], &[ONE, THREE]],
+        proves: false,
+        limit: 2,
+        end: End::Spent,
+        steps: 2,
+        truths: &[],
+        words: &[&[97]],
+        lines: b"c learn +0 : 2 0 3\n",
+    },
+    // The last one clashes with the first one alone.
+    Case {
+        said: &[
+            Says::In(0, b"aE*."),
+            Says::In(0, b"E*b."),
+            Says::In(0, b"bE*."),
+        ],
+        clauses: &[&[ONE], &[TWO], &[THREE]],
+        proves: false,
+        limit: 9,
+        end: End::Unsat,
+        steps: 2,
+        truths: &[ONE, TWO, THREE],
+        words: &[&[97, 98]],
+        lines: b"c learn : 0 2 3\n",
+    },
+    // Not the empty word, and not a longer one.
+    Case {
+        said: &[Says::In(0, b"Z"), Says::In(0, b"EE*.")],
+        clauses: &[&[NOT_ONE], &[NOT_TWO]],
+        proves: false,
+        limit: 9,
+        end: End::Unsat,
+        steps: 2,
+        truths: &[NOT_ONE, NOT_TWO],
+        words: &[],
+        lines: b"c learn : 0 1 2\n",
+    },
+    // The second constant's memberships clash, and the first one's do not.
+    Case {
+        said: &[
+            Says::In(0, b"aE*."),
+            Says::In(1, b"aE*."),
+            Says::In(1, b"bE*."),
+            Says::In(0, b"E*b."),
+        ],
+        clauses: &[&[ONE], &[TWO], &[FOUR], &[THREE]],
+        proves: false,
+        limit: 9,
+        end: End::Unsat,
+        steps: 2,
+        truths: &[ONE, TWO, THREE, FOUR],
+        words: &[&[97, 98], &[97]],
+        lines: b"c learn : 1 3 4\n",
+    },
+    // The first decision is taken back.
+    Case {
+        said: &[
+            Says::In(0, b"aE*."),
+            Says::In(0, b"bE*."),
+            Says::In(0, b"aE*.cE*.|"),
+        ],
+        clauses: &[&[THREE], &[ONE, TWO]],
+        proves: false,
+        limit: 9,
+        end: End::Sat,
+        steps: 1,
+        truths: &[ONE, NOT_TWO, THREE],
+        words: &[&[97]],
+        lines: b"",
+    },
+    // A conjunction of two that clash.
+    Case {
+        said: &[
+            Says::In(0, b"aE*."),
+            Says::In(0, b"bE*."),
+            Says::And(ONE, TWO),
+        ],
+        clauses: &[&[THREE]],
+        proves: false,
+        limit: 9,
+        end: End::Unsat,
+        steps: 2,
+        truths: &[ONE, TWO, THREE],
+        words: &[&[97]],
+        lines: b"c learn : 0 1 2 4\n",
+    },
+    Case {
+        said: &SOME,
+        clauses: &[&[ONE], &[TWO]],
+        proves: true,
+        limit: 0,
+        end: End::Spent,
+        steps: 0,
+        truths: &[ONE, TWO],
+        words: &[&[97]],
+        lines: b"r set 61-61\nr star 0\nr cat 0 1\nr set 62-62\nr star 3\nr cat 3 4\nr and 2 5\nr none\n",
+    },
+    Case {
+        said: &SOME,
+        clauses: &[&[ONE], &[TWO]],
+        proves: true,
+        limit: 3,
+        end: End::Spent,
+        steps: 3,
+        truths: &[ONE, TWO],
+        words: &[&[97]],
+        lines: b"r set 61-61\nr star 0\nr cat 0 1\nr set 62-62\nr star 3\nr cat 3 4\nr and 2 5\nr none\n\
+        x 6 0-2ffff>7\nx 7 0-2ffff>7\nd 6 7\nc empty -0 -1\n",
+    },
+];
+
+/// Puts the regexes of what is said, that of no word for a conjunction, and the numbers of the atoms.
+fn put_regexes(
+    alloc: Global,
+    arena: &mut Arena,
+    ids: &mut Vec<RegexId>,
+    wanted: &mut Vec<u64>,
+    said: &[Says],
+) -> Result<(), AllocError> {
+    for says in said {
+        let number = wanted.len() as u64;
+        wanted.push(number)?;
+        let id = match says {
+            Says::In(_, text) => regex(alloc, arena, text)?,
+            Says::And(..) => arena.none()?,
+        };
+        ids.push(id)?;
+    }
+    Ok(())
+}
+
+/// Adds an atom.
+fn add(arena: &Arena, atoms: &mut Atoms, atom: Atom) -> Result<(), AllocError>
+    requires atom { HasRegexBelow (length arena.now) (atom_in atom) }
+    requires atoms { HaveRegexesBelow (length arena.now) atoms.old }
+    ensures { HaveRegexesBelow (length arena.now) atoms.new }
+{
+    atoms.add(atom)?;
+    Ok(())
+}
+
+/// Adds the atom of what is said.
+fn add_said(
+    alloc: Global,
+    arena: &Arena,
+    atoms: &mut Atoms,
+    says: &Says,
+    id: RegexId,
+) -> Result<(), AllocError>
+    requires { HaveRegexesBelow (length arena.now) atoms.old }
+    ensures { HaveRegexesBelow (length arena.now) atoms.new }
+{
+    match says {
+        Says::In(serial, _) => {
+            if id.number() < arena.len() {
+                return add(arena, atoms, Atom::In(Serial(*serial), id));
+            }
+            Err(AllocError)
+        }
+        Says::And(one, other) => {
+            let literals = SmallVec::from_slice(alloc, &[*one, *other])?;
+            add(arena, atoms, Atom::And(literals))
+        }
+    }
+}
+
+/// Adds the atoms of all that is said.
+fn add_all(
+    alloc: Global,
+    arena: &Arena,
+    atoms: &mut Atoms,
+    ids: &[RegexId],
+    said: &[Says],
+) -> Result<(), AllocError>
+    requires { HaveRegexesBelow (length arena.now) atoms.old }
+    ensures { HaveRegexesBelow (length arena.now) atoms.new }
+{
+    for (says, id) in said.iter().zip(ids.iter()) {
+        add_said(alloc, arena, atoms, says, *id)?;
+    }
+    Ok(())
+}
+
+/// Adds the clauses of a case.
+fn add_clauses(alloc: Global, engine: &mut Engine, clauses: &[&[Lit]]) -> Result<(), AllocError> {
+    for literals in clauses {
+        let clause = Clause::from_literals(Vec::from_slice(alloc, literals)?);
+        let added = engine.add(&clause, 0);
+        drop(clause);
+        added?;
+    }
+    Ok(())
+}
+
+/// Adds the clauses of the atoms that are gates.
+fn add_gates(alloc: Global, engine: &mut Engine, atoms: &Atoms) -> Result<(), AllocError> {
+    for number in 0..atoms.len() {
+        let id = AtomId::of(Lit {
+            atom: number as u64,
+            positive: true,
+        });
+        let gates = gate_clauses(alloc, atoms, id)?;
+        let added = add_each(engine, &gates);
+        drop(gates);
+        added?;
+    }
+    Ok(())
+}
+
+/// Adds clauses.
+fn add_each(engine: &mut Engine, clauses: &[Clause]) -> Result<(), AllocError> {
+    for clause in clauses {
+        engine.add(clause, 0)?;
+    }
+    Ok(())
+}
+
+/// Expects what a search found, and what it left, to be what is wanted.
+fn expect_found(
+    rt: &impl Abort,
+    theory: &Strings,
+    engine: &Engine,
+    tape: &MemTape,
+    case: &Case,
+    found: Found,
+    steps: u64,
+) {
+    let ended = match found {
+        Found::Sat => matches!(&case.end, End::Sat),
+        Found::Unsat(_) => matches!(&case.end, End::Unsat),
+        Found::Spent => matches!(&case.end, End::Spent),
+    };
+    assert!(rt; ended && steps == case.steps);
+    assert!(rt; tape.bytes() == case.lines);
+    for literal in case.truths {
+        assert!(rt; engine.trail().literal_value(*literal) == Some(true));
+    }
+    for (serial, codes) in case.words.iter().enumerate() {
+        match theory.words.get(serial) {
+            Some(Some(word)) => assert!(rt; word.codes() == *codes),
+            _ => assert!(rt; codes.is_empty()),
+        }
+    }
+}
+
+/// Makes the search of a case, and expects it to come to what is wanted.
+fn search_case(
+    rt: &impl Abort,
+    alloc: Global,
+    theory: &mut Strings,
+    engine: &mut Engine,
+    tape: &mut MemTape,
+    case: &Case,
+) -> Result<(), TapeFault>
+    requires { Stands theory.old [] }
+{
+    add_clauses(alloc, engine, case.clauses)?;
+    add_gates(alloc, engine, &theory.atoms)?;
+    engine.clear();
+    let mut budget = Budget::new(case.limit);
+    let found = search(alloc, theory, engine, tape, &[], &mut budget)?;
+    expect_found(rt, theory, engine, tape, case, found, budget.spent());
+    Ok(())
+}
+
+/// Goes through a case over tables of its own.
+fn expect_case(rt: &impl Abort, alloc: Global, case: &Case) -> Result<(), TapeFault> {
+    let mut arena = Arena::new(alloc);
+    let mut atoms = Atoms::new(alloc);
+    let mut ids = Vec::new(alloc);
+    let mut wanted = Vec::new(alloc);
+    let put = put_regexes(alloc, &mut arena, &mut ids, &mut wanted, case.said);
+    let added = add_all(alloc, &arena, &mut atoms, &ids, case.said);
+    drop(ids);
+    let graph = Graph::new(alloc);
+    let plain = Plain::new(alloc);
+    let trace = Trace::new(alloc);
+    let mut theory = Strings::new(
+        alloc,
+        arena,
+        graph,
+        plain,
+        trace,
+        atoms,
+        case.proves,
+        wanted,
+    );
+    let mut engine = Engine::new(alloc);
+    let mut tape = MemTape::new(alloc);
+    let searched = match put.and(added) {
+        Ok(()) => search_case(rt, alloc, &mut theory, &mut engine, &mut tape, case),
+        Err(error) => Err(TapeFault::from(error)),
+    };
+    drop(tape);
+    drop(engine);
+    drop(theory);
+    searched
+}
+
+#[test]
+fn searches_come_to_what_is_wanted(rt: HostRuntime) -> Result<(), Fail> {
+    for case in &CASES {
+        expect_case(&rt, rt.alloc(), case)?;
+    }
+    Ok(())
+}
