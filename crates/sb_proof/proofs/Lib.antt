@@ -3,3 +3,4 @@ pub mod FieldFacts
 pub mod NumberFacts
 pub mod HexadecimalFacts
 pub mod RowFacts
+pub mod ReadFacts

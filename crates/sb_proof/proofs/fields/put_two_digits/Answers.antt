@@ -1,5 +1,5 @@
 use Rattle.std.proofs.Common.{◌++◌, refl, ap, ◌∙◌, arith}
-use Rattle.std.proofs.lemmas.Result.{on_ok_weaker}
+use Rattle.std.proofs.lemmas.Result.{IfOk-from_err, on_ok_weaker}
 use Rattle.std.specs.String.{string_bytes}
 use Rattle.sb_proof.proofs.FieldFacts.{last_piece}
 use Rattle.sb_proof.proofs.HexadecimalFacts.{one-put, two-put}
@@ -21,3 +21,6 @@ returns c = elim c.if-n-ge16.branch [
       (last_piece c.push_str-2.result (string_bytes c.if-n-ge16.text) c.digit_text-2.result.now
       c.push_str-2.ensures.bytes refl)
 ]
+
+pub returns-in_err-push_str : goal.returns-in_err-push_str
+returns-in_err-push_str c = IfOk-from_err c.from_residual.result _ c.from_residual.ensures.0

@@ -1,8 +1,9 @@
-use Rattle.std.proofs.Common.{suc, get_or, sym, ap, ◌∙◌, drop-cons, drop}
+use Rattle.std.proofs.Common.{suc, get_or, sym, ap, ◌∙◌, drop-cons, drop, arith}
 use Rattle.std.proofs.lemmas.List.{at_drop_all}
 use Rattle.sb_rulebook.specs.Reading.{decimal_from}
 use Rattle.sb_proof.specs.Spelled.{decimal_value, small}
 use Rattle.sb_proof.proofs.NumberFacts.{decimal_digits, too_large, at_end}
+use Rattle.std.proofs.lemmas.Grind.{common_steps}
 use Rattle.sb_proof.proofs.numbers.spelled.Goals as goal
 
 pub returns-in_err-n : goal.returns-in_err-n
@@ -22,3 +23,9 @@ returns c =
     ∙ at_drop_all (λ bs. small (decimal_from c.loop-byte.n bs)) c.args.field.now c.loop-byte.byte-index
     c.loop-byte-test.false
     ∙ at_end 10 decimal_value decimal_from decimal_digits c.loop-byte.n c.loop-byte.invariant.fits)
+
+pub loop-byte-preserved : goal.loop-byte-preserved
+loop-byte-preserved c = grind (arith, common_steps)
+
+pub returns-in_err-decimal_digit : goal.returns-in_err-decimal_digit
+returns-in_err-decimal_digit c = grind (arith, common_steps)

@@ -2,7 +2,7 @@ use Rattle.std.proofs.Common.{◌++◌, [], ◌∷◌, map, codes, decimal, sym,
 use Rattle.std.specs.List.{join_with_byte, flat_map}
 use Rattle.std.specs.Fmt.{signed_decimal}
 use Rattle.std.specs.String.{string_bytes}
-use Rattle.std.proofs.lemmas.Result.{on_ok_weaker}
+use Rattle.std.proofs.lemmas.Result.{IfOk-from_err, on_ok_weaker}
 use Rattle.sb_rulebook.specs.Lines.{literal_text, piece_text, variable_text, summand_fields, atom_line, text_of}
 use Rattle.sb_proof.specs.Fields.{spaced}
 use Rattle.sb_proof.specs.Lines.{piece_in, summand_in, variable_in, atom_in}
@@ -67,3 +67,15 @@ returns-in-Iff c =
     on_ok_weaker c.put_named-in-Iff.result
     (λ e. e ∙ ap (λ a. string_bytes c.args.text.now ++ text_of (atom_line (atom_in a))) (sym c.in-Iff.is))
     c.put_named-in-Iff.ensures
+
+pub returns-in_err-push_str-in-Sum : goal.returns-in_err-push_str-in-Sum
+returns-in_err-push_str-in-Sum c = IfOk-from_err c.from_residual-in_err-push_str-in-Sum.result _ c.from_residual-in_err-push_str-in-Sum.ensures.0
+
+pub returns-in_err-put_named-in-In : goal.returns-in_err-put_named-in-In
+returns-in_err-put_named-in-In c = IfOk-from_err c.from_residual.result _ c.from_residual.ensures.0
+
+pub returns-in_err-put_named-in-Le : goal.returns-in_err-put_named-in-Le
+returns-in_err-put_named-in-Le c = IfOk-from_err c.from_residual-in_err-put_named-in-Le.result _ c.from_residual-in_err-put_named-in-Le.ensures.0
+
+pub returns-in_err-put_next-in-Sum : goal.returns-in_err-put_next-in-Sum
+returns-in_err-put_next-in-Sum c = IfOk-from_err c.from_residual-in_err-put_next-in-Sum.result _ c.from_residual-in_err-put_next-in-Sum.ensures.0

@@ -1,6 +1,6 @@
 use Rattle.std.proofs.Common.{◌++◌, codes, decimal, sym, ap, ◌∙◌}
 use Rattle.std.specs.String.{string_bytes}
-use Rattle.std.proofs.lemmas.Result.{on_ok_weaker}
+use Rattle.std.proofs.lemmas.Result.{IfOk-from_err, on_ok_weaker}
 use Rattle.sb_rulebook.specs.Lines.{ranges_text, regex_line, set_node, text_of}
 use Rattle.sb_proof.specs.Lines.{node_in}
 use Rattle.sb_proof.proofs.FieldFacts.{ends, last_piece, listed}
@@ -72,3 +72,6 @@ returns-in-Path c =
     on_ok_weaker c.put_named-in-Path.result
     (λ e. e ∙ ap (λ n. string_bytes c.args.text.now ++ text_of (regex_line (node_in n))) (sym c.in-Path.is))
     c.put_named-in-Path.ensures
+
+pub returns-in_err-push_str-in-Set : goal.returns-in_err-push_str-in-Set
+returns-in_err-push_str-in-Set c = IfOk-from_err c.from_residual.result _ c.from_residual.ensures.0

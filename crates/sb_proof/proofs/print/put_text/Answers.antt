@@ -1,11 +1,12 @@
-use Rattle.std.proofs.Common.{[], ◌∷◌, ◌++◌, map, codes, decimal, sym, ap, ap₂, ◌∙◌}
+use Rattle.std.proofs.Common.{[], ◌∷◌, ◌++◌, map, codes, decimal, sym, ap, ap₂, ◌∙◌, arith}
 use Rattle.std.specs.List.{join_with_byte}
 use Rattle.std.specs.String.{string_bytes}
-use Rattle.std.proofs.lemmas.Result.{on_ok_weaker}
+use Rattle.std.proofs.lemmas.Result.{IfOk-from_err, on_ok_weaker}
 use Rattle.sb_rulebook.specs.Lines.{literal_text, class_text, rule_text, text_of}
 use Rattle.sb_proof.specs.Fields.{spaced}
 use Rattle.sb_proof.specs.Lines.{class_in, rule_in, line_in}
 use Rattle.sb_proof.proofs.FieldFacts.{around, ends, joined_more, listed, viewed}
+use Rattle.std.proofs.lemmas.Grind.{common_steps}
 use Rattle.sb_proof.proofs.print.put_text.Goals as goal
 
 pub returns-in_ok-put_named-in-Expansion : goal.returns-in_ok-put_named-in-Expansion
@@ -46,3 +47,15 @@ returns-in_ok-put_named-in-Learned c =
     (ap (map decimal) c.as_slice-in-Learned-2.ensures.value)
     ∙ ap (λ l. text_of (line_in l)) (sym c.in-Learned.is)))
     c.put_named-in-Learned-2.ensures
+
+pub returns-in_ok-put_named-in-Assertion : goal.returns-in_ok-put_named-in-Assertion
+returns-in_ok-put_named-in-Assertion c = grind (arith, common_steps)
+
+pub returns-in_err-put_named-in-Assertion : goal.returns-in_err-put_named-in-Assertion
+returns-in_err-put_named-in-Assertion c = IfOk-from_err c.from_residual-in_err-put_named-in-Assertion.result _ c.from_residual-in_err-put_named-in-Assertion.ensures.0
+
+pub returns-in_err-put_named-in-Expansion : goal.returns-in_err-put_named-in-Expansion
+returns-in_err-put_named-in-Expansion c = IfOk-from_err c.from_residual.result _ c.from_residual.ensures.0
+
+pub returns-in_err-put_named-in-Learned : goal.returns-in_err-put_named-in-Learned
+returns-in_err-put_named-in-Learned c = IfOk-from_err c.from_residual-in_err-put_named-in-Learned.result _ c.from_residual-in_err-put_named-in-Learned.ensures.0

@@ -5,3 +5,6 @@ use Rattle.sb_proof.proofs.read.has_pairs.Goals as goal
 
 pub returns-then-not-is_empty : goal.returns-then-not-is_empty
 returns-then-not-is_empty c = pairs-by_length c.args.fields.now (grind (arith, common_steps))
+
+pub returns-else-not-is_empty : goal.returns-else-not-is_empty
+returns-else-not-is_empty c = grind (arith, common_steps)

@@ -1,6 +1,7 @@
 use Rattle.std.proofs.Common.{[]}
 use Rattle.sb_rulebook.specs.Reading.{hexadecimal_number}
 use Rattle.sb_proof.proofs.EachFacts.{each_pushed, each_fails, each_done}
+use Rattle.std.proofs.lemmas.Result.{IfOk-from_err}
 use Rattle.sb_proof.proofs.shapes.each_character.Goals as goal
 
 pub loop-field-preserved : goal.loop-field-preserved
@@ -19,3 +20,6 @@ returns c =
     each_done hexadecimal_number (λ n. n) (λ ns. ns) _ c.args.fields.now c.loop-field.field-index
     (record { ref_ptr = (0, 0); now = [] }) c.loop-field.characters.items c.loop-field.invariant
     c.loop-field-test.false
+
+pub returns-in_err-push : goal.returns-in_err-push
+returns-in_err-push c = IfOk-from_err c.from_residual.result _ c.from_residual.ensures.0
