@@ -1,5 +1,5 @@
 -- The lists that are made of the clauses of memberships, along their atoms or their numbers.
-use Rattle.std.proofs.Common.{◌≡◌, ℕ, ◌<◌, zero, suc, true, false, List, [], ◌∷◌, ◌++◌, map, length, slice_index_or, All, refl, sym, ap, subst, ◌∙◌, arith, append_assoc, append-nil}
+use Rattle.std.proofs.Common.{◌≡◌, ℕ, ◌<◌, zero, suc, Bool, List, [], ◌∷◌, ◌++◌, map, length, slice_index_or, All, refl, sym, ap, subst, ◌∙◌, arith, append_assoc, append-nil}
 use Rattle.sb_facts.proofs.CallerLemmas.{cmp_less}
 use Rattle.std.specs.Ordering.{nat_cmp}
 use Rattle.std.specs.Map.{keys_of}
@@ -9,18 +9,15 @@ use Rattle.sb_refute.specs.declared.evidence.Asserted.{Asserted}
 use Rattle.sb_script.specs.Pieces.{constant_piece}
 use Rattle.sb_rulebook.specs.Atoms.{AtomOver, in_atom}
 use Rattle.sb_atoms.specs.Numbered.{Names}
-use Rattle.sb_refute.specs.Units.{Member, Rise, IsOfRegex, IsMemberAt, AreRegexesOf, numbered, denials_of, affirmations_of}
+use Rattle.sb_refute.specs.Units.{Member, Rise, IsOfRegex, IsMemberAt, AreRegexesOf, numbered}
 
-pub denials-by_atoms : (es : List (ℕ × Asserted))
-    → map (λ (k : ℕ). record { atom = k; positive = false }) (keys_of es) ≡ denials_of (numbered es)
-denials-by_atoms [] = refl
-denials-by_atoms (e ∷ es) = ap (λ (ls : List Lit). (record { atom = e.0; positive = false }) ∷ ls) (denials-by_atoms es)
+abbrev signed : Bool → ℕ → Lit
+signed positive k = record { atom = k; positive = positive }
 
-pub affirmations-by_atoms : (es : List (ℕ × Asserted))
-    → map (λ (k : ℕ). record { atom = k; positive = true }) (keys_of es) ≡ affirmations_of (numbered es)
-affirmations-by_atoms [] = refl
-affirmations-by_atoms (e ∷ es) =
-    ap (λ (ls : List Lit). (record { atom = e.0; positive = true }) ∷ ls) (affirmations-by_atoms es)
+pub literals-by_atoms : (positive : Bool) (es : List (ℕ × Asserted))
+    → map (signed positive) (keys_of es) ≡ map (λ (u : Member). signed positive u.0) (numbered es)
+literals-by_atoms positive [] = refl
+literals-by_atoms positive (e ∷ es) = ap (λ (ls : List Lit). signed positive e.0 ∷ ls) (literals-by_atoms positive es)
 
 pub rise-sorted : (es : List (ℕ × Asserted)) → IsStrictlySortedBy nat_cmp (keys_of es) → Rise (numbered es)
 unfolding IsStrictlySortedBy

@@ -18,7 +18,7 @@ ghost use Rattle.sb_trace.specs.Putting.{IsCounted, CountsTapeFault};
 ghost use Rattle.sb_trace.specs.Tracking.{StaysNumbered, Tracks, Traces, is_dead_in};
 ghost use Rattle.sb_refute.specs.Backing.{Backs, Evidences};
 ghost use Rattle.sb_refute.specs.Refuting.{AreDisjoint, IsRefutation};
-ghost use Rattle.sb_refute.specs.Units.{AreUnits, HaveUnits, HaveNoWord, CanBeDenied, IsAffirmed, IsMemberAt, IsOfRegex, Rise, AreRegexesOf, HasPart, IsPartIn, ArePicked, IsTop, LeadsNowhere, numbered, denials_of, affirmations_of, hints_of as hints_in};
+ghost use Rattle.sb_refute.specs.Units.{AreUnits, HaveUnits, HaveNoWord, CanBeDenied, IsAffirmed, IsMemberAt, IsOfRegex, Rise, AreRegexesOf, HasPart, IsPartIn, ArePicked, IsTop, LeadsNowhere, numbered, denials_of, hints_of as hints_in};
 
 use crate::defining::put_line;
 use crate::evidence::{Asserted, Evidence, membership_of};
@@ -135,7 +135,7 @@ impl Evidence {
         if known.is_some() {
             return Ok(known);
         }
-        let literals = negations(self.alloc, units)?;
+        let literals = literals_of(self.alloc, units, false)?;
         self.deny(arena, graph, units, literals, tape, budget)
     }
 
@@ -144,7 +144,7 @@ impl Evidence {
     fn known(&self, units: &Units) -> Result<Option<ClauseId>, AllocError>
         ensures { IfOk result (IsPartIn self.now.kept (denials_of (numbered units.now.entries))) }
     {
-        let literals = affirmations(self.alloc, units)?;
+        let literals = literals_of(self.alloc, units, true)?;
         self.engine.clauses().false_where(&literals)
     }
 
@@ -348,25 +348,15 @@ fn regex_of(atoms: &Atoms, atom: u64) -> RegexId
     regex
 }
 
-/// The atoms' negations.
-fn negations(alloc: Global, units: &Units) -> Result<Vec<Lit>, AllocError>
-    ensures are { IfOk result (λ literals. literals.items ≡ denials_of (numbered units.now.entries)) }
+/// The literals that say of each atom that it is true, or of each that it is not.
+fn literals_of(alloc: Global, units: &Units, positive: bool) -> Result<Vec<Lit>, AllocError>
+    ensures are { IfOk result (λ literals.
+        literals.items ≡ map (λ u. record { atom = u.0; positive = positive }) (numbered units.now.entries)) }
     ensures small { IfOk result (λ literals. list_all is_small_literal literals.items ≡ true) }
 {
     let mut literals = Vec::with_capacity(alloc, units.len())?;
     for atom in units.keys() {
-        literals.push(literal(*atom, false))?;
-    }
-    Ok(literals)
-}
-
-/// The literals that the atoms are true in.
-fn affirmations(alloc: Global, units: &Units) -> Result<Vec<Lit>, AllocError>
-    ensures { IfOk result (λ literals. literals.items ≡ affirmations_of (numbered units.now.entries)) }
-{
-    let mut literals = Vec::with_capacity(alloc, units.len())?;
-    for atom in units.keys() {
-        literals.push(literal(*atom, true))?;
+        literals.push(literal(*atom, positive))?;
     }
     Ok(literals)
 }

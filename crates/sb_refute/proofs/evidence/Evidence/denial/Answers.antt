@@ -114,3 +114,6 @@ deny-requires-clause-regexes g c = c.requires.regexes
 
 pub deny-requires-clause-small : goal.deny-requires-clause-small
 deny-requires-clause-small g c = c.in_ok-literals.ensures.small
+
+pub deny-requires-clause-literals : goal.deny-requires-clause-literals
+deny-requires-clause-literals g c = c.in_ok-literals.ensures.are

@@ -1,17 +1,17 @@
-use Rattle.std.proofs.Common.{ℕ, false, List, ◌++◌, map, ap, ap₂, ◌∙◌}
+use Rattle.std.proofs.Common.{ℕ, List, ◌++◌, map, ap, ap₂, ◌∙◌}
 use Rattle.std.specs.List.{list_all}
+use Rattle.std.proofs.lemmas.Result.{IfOk-from_err}
 use Rattle.sb_lit.specs.declared.clause.Lit.{Lit}
 use Rattle.sb_rulebook.specs.LineLaws.{is_small_literal}
-use Rattle.sb_refute.proofs.UnitLists.{denials-by_atoms}
-use Rattle.std.proofs.lemmas.Result.{IfOk-from_err}
-use Rattle.sb_refute.proofs.refute.negations.Goals as goal
+use Rattle.sb_refute.proofs.UnitLists.{literals-by_atoms}
+use Rattle.sb_refute.proofs.refute.literals_of.Goals as goal
 
 pub loop-atom-init : goal.loop-atom-init
 loop-atom-init c = (
-  ap₂ (λ (ls : List Lit) (ks : List ℕ). ls ++ map (λ k. record { atom = k; positive = false }) ks)
+  ap₂ (λ (ls : List Lit) (ks : List ℕ). ls ++ map (λ k. record { atom = k; positive = c.args.positive }) ks)
       c.in_ok-literals.ensures.items
       (c.into_iter-atom-iterator.ensures.into_iter_gives ∙ c.keys-atom-items.ensures.rest)
-      ∙ denials-by_atoms c.args.units.now.entries,
+      ∙ literals-by_atoms c.args.positive c.args.units.now.entries,
   ap (list_all is_small_literal) c.in_ok-literals.ensures.items,
 )
 
