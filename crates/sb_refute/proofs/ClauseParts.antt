@@ -1,5 +1,5 @@
 -- Clauses that have only negations of some literals.
-use Rattle.std.proofs.Common.{◌≡◌, ℕ, inl, inr, true, false, List, [], ◌∷◌, Option, Some, None, Result, Ok, Err, Bor, IsSome, option_map, refl, sym, ap, subst, ◌∙◌, All, Contains}
+use Rattle.std.proofs.Common.{◌≡◌, ℕ, inl, inr, true, false, List, [], ◌∷◌, Option, Some, None, Result, Ok, Err, Bor, IsSome, IfSome, option_map, refl, sym, ap, subst, ◌∙◌, All, Contains}
 use Rattle.std.specs.Option.{MatchOption, option_copied}
 use Rattle.std.specs.Result.{IfOk}
 use Rattle.std.proofs.lemmas.Bool.{and_from, and_parts, or_left, or_right, or_cases, false≢true}
@@ -11,7 +11,7 @@ use Rattle.sb_lit.specs.Clauses.{negation, is_same_literal, is_among, is_false_u
 use Rattle.sb_lit.specs.Kept.{Kept, KeptClause, kept_at}
 use Rattle.sb_lit.proofs.CallerLemmas.{is_same_literal-true, is_same_literal-self, negation_twice}
 use Rattle.sb_clauses.specs.Propagation.{HasNoneFalse, IsConflict}
-use Rattle.sb_refute.specs.Units.{Member, IsPartIn, denials_of, affirmations_of}
+use Rattle.sb_refute.specs.Units.{Member, IsPartIn, HasPart, denials_of, affirmations_of}
 use Rattle.sb_refute.proofs.Hints.{here, later, cons-cases, not-in-nil}
 
 is-among : (ls : List Lit) (l : Lit) → Contains ls l → is_among ls l ≡ true
@@ -110,3 +110,9 @@ pub copied-is : (o : Option (Bor (List Lit))) (ls : Bor (List Lit)) (kept : Kept
 copied-is o ls kept id clause some is there =
     same_Some ls.now clause.literals
     (sym (ap option_copied some) ∙ is ∙ ap (option_map (λ (k : KeptClause). k.literals)) there)
+
+-- a clause that was found has only literals of these
+pub part-in : (kept : Kept) (ls : List Lit) (found : Option ClauseId) → IsPartIn kept ls found
+    → IfSome found (λ id. HasPart kept ls id.0)
+part-in kept ls None h = tt
+part-in kept ls (Some id) h = h

@@ -1,7 +1,9 @@
-use Rattle.std.proofs.Common.{List, ◌++◌, ap₂, ◌∙◌}
+use Rattle.std.proofs.Common.{List, ◌++◌, ap₂, ◌∙◌, ◌∷◌, [], sym, ap, append_assoc}
 use Rattle.sb_refute.specs.declared.evidence.Asserted.{Asserted}
 use Rattle.sb_refute.proofs.UnitLists.{rise-sorted}
 use Rattle.std.proofs.lemmas.Result.{IfOk-from_err}
+use Rattle.std.specs.Map.Iter.{deref}
+use Rattle.std.proofs.lemmas.Map.Iter.{rest_more}
 use Rattle.sb_refute.proofs.refute.listed.Goals as goal
 
 pub loop-asserted-init : goal.loop-asserted-init
@@ -27,3 +29,14 @@ returns-in_err-push c =
       rise = IfOk-from_err x.result _ x.ensures.0;
       are = IfOk-from_err x.result _ x.ensures.0;
     }
+
+pub loop-asserted-preserved : goal.loop-asserted-preserved
+loop-asserted-preserved c =
+    let old = c.loop-asserted.all.items in
+    let left = c.next.new.self in
+    ap (λ (xs : List Asserted). xs ++ left) c.in_ok-push.ensures.items
+    ∙ (append_assoc old (c.in-Some.asserted.now ∷ []) left
+    ∙ (ap (λ (xs : List Asserted). old ++ xs)
+    (sym (rest_more deref c.loop-asserted.asserted-iterator left c.next.result c.in-Some.asserted c.in-Some.is
+    c.next.ensures.steps))
+    ∙ c.loop-asserted.invariant))

@@ -1,4 +1,4 @@
-use Rattle.std.proofs.Common.{List, Option, sym, subst, ◌∙◌, refl}
+use Rattle.std.proofs.Common.{List, Option, sym, subst, ◌∙◌, refl, is_some, ap}
 use Rattle.std.proofs.lemmas.Result.{IfOk-from_err, err_from_is_err_and}
 use Rattle.sb_facts.proofs.CallerLemmas.{none_by}
 use Rattle.sb_lit.specs.declared.clause.Lit.{Lit}
@@ -7,6 +7,9 @@ use Rattle.sb_sound.specs.HintLaws.{HasNoSubset}
 use Rattle.sb_refute.specs.Units.{IsPartIn, numbered, denials_of}
 use Rattle.sb_regex.proofs.CallerLemmas.{extends_same}
 use Rattle.sb_trace.proofs.CallerLemmas.{stays_same, counts_none}
+use Rattle.std.proofs.lemmas.Bool.{false≢true}
+use Rattle.sb_refute.proofs.Memberships.{evidences-none}
+use Rattle.sb_refute.proofs.ClauseParts.{part-in}
 use Rattle.sb_refute.proofs.evidence.Evidence.denial.Goals as goal
 
 pub deny-requires-clause-new : goal.deny-requires-clause-new
@@ -117,3 +120,15 @@ deny-requires-clause-small g c = c.in_ok-literals.ensures.small
 
 pub deny-requires-clause-literals : goal.deny-requires-clause-literals
 deny-requires-clause-literals g c = c.in_ok-literals.ensures.are
+
+pub returns-then-is_some-clause-puts : goal.returns-then-is_some-clause-puts
+returns-then-is_some-clause-puts g c = λ asked before b counts. evidences-none asked before _ _ _ _ _ b counts
+
+pub returns-then-is_some-clause-part : goal.returns-then-is_some-clause-part
+returns-then-is_some-clause-part g c =
+    part-in c.args.self.now.kept (denials_of (numbered c.args.units.now.entries)) c.in_ok-known.known
+    c.in_ok-known.ensures
+
+pub returns-then-is_some-clause-spent : goal.returns-then-is_some-clause-spent
+returns-then-is_some-clause-spent g c = λ none.
+    absurd (false≢true (sym (ap is_some none) ∙ (sym c.is_some.ensures ∙ c.if-is_some.true)))

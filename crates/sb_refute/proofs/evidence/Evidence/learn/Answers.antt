@@ -1,6 +1,6 @@
 use Rattle.std.proofs.Common.{List, Some, option_map, sym, ap, ap₂, subst, ◌∙◌, refl}
 use Rattle.std.proofs.lemmas.Result.{IfOk-from_err, err_from_is_err_and}
-use Rattle.sb_facts.proofs.CallerLemmas.{told_ok}
+use Rattle.sb_facts.proofs.CallerLemmas.{told_ok, told_err}
 use Rattle.sb_lit.specs.declared.clause.Lit.{Lit}
 use Rattle.sb_lit.specs.Kept.{Kept, kept_at}
 use Rattle.sb_script.specs.Steps.{line}
@@ -11,9 +11,9 @@ use Rattle.sb_refute.specs.Backing.{Backing, empty_at}
 use Rattle.sb_refute.specs.Units.{LeadsNowhere}
 use Rattle.sb_refute.proofs.Clauses.{kept-last}
 use Rattle.sb_refute.proofs.Holding.{none-bare}
-use Rattle.sb_refute.proofs.Memberships.{learned-put}
+use Rattle.sb_refute.proofs.Memberships.{learned-put, evidences-none}
 use Rattle.sb_trace.proofs.CallerLemmas.{counts_none, counts_on}
-use Rattle.sb_trace.specs.Putting.{CountsTapeFault}
+use Rattle.sb_trace.specs.Putting.{CountsTapeFault, IsCounted}
 use Rattle.sb_refute.proofs.evidence.Evidence.learn.Goals as goal
 
 pub returns-clause-puts : goal.returns-clause-puts
@@ -119,3 +119,10 @@ reasons-requires-clause-part g c = c.requires.part
 
 pub add_empty-requires : goal.add_empty-requires
 add_empty-requires g c = record { unset = c.requires.refuted }
+
+pub returns-then-is_err-clause-puts : goal.returns-then-is_err-clause-puts
+returns-then-is_err-clause-puts g c =
+    let fails = sym c.is_err.ensures.value ∙ c.if-is_err.true in
+    λ asked rs memo before b counts.
+    evidences-none asked before _ _ _ _ _ b
+    (subst (IsCounted asked before) (sym (told_err c.tick.result _ fails c.tick.ensures.same)) counts)

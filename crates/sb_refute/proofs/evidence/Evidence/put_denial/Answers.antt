@@ -1,13 +1,15 @@
-use Rattle.std.proofs.Common.{◌≡◌, ◌++◌, ◌∷◌, [], List, Some, length, sym, ap, ◌∙◌, refl}
+use Rattle.std.proofs.Common.{◌≡◌, ◌++◌, ◌∷◌, [], List, Some, length, sym, ap, ◌∙◌, refl, subst}
 use Rattle.std.proofs.lemmas.Result.{IfOk-from_err, err_from_is_err_and}
-use Rattle.sb_facts.proofs.CallerLemmas.{told_ok}
+use Rattle.sb_facts.proofs.CallerLemmas.{told_ok, told_err}
 use Rattle.sb_lit.specs.declared.clause.Lit.{Lit}
 use Rattle.sb_clauses.specs.Propagation.{are_reserved}
 use Rattle.sb_refute.specs.Backing.{Backing}
 use Rattle.sb_refute.specs.Units.{numbered, denials_of}
 use Rattle.sb_refute.proofs.ClauseLines.{some-denials}
-use Rattle.sb_refute.proofs.Memberships.{denied-put, new-part}
+use Rattle.sb_refute.proofs.Memberships.{denied-put, new-part, evidences-none}
 use Rattle.sb_trace.proofs.CallerLemmas.{counts_none, counts_on}
+use Rattle.sb_lit.specs.Budgets.{Spending}
+use Rattle.sb_trace.specs.Putting.{IsCounted}
 use Rattle.sb_refute.proofs.evidence.Evidence.put_denial.Goals as goal
 
 pub add-requires-clause-known : goal.add-requires-clause-known
@@ -110,3 +112,16 @@ returns-then-is_err-clause-counts g c = refl
 
 pub returns-then-is_err-clause-part : goal.returns-then-is_err-clause-part
 returns-then-is_err-clause-part g c = tt
+
+pub returns-then-is_err-clause-puts : goal.returns-then-is_err-clause-puts
+returns-then-is_err-clause-puts g c =
+    let fails = sym c.is_err.ensures.value ∙ c.if-is_err.true in
+    λ asked rs memo before h b counts.
+    evidences-none asked before _ _ _ _ _ b
+    (subst (IsCounted asked before) (sym (told_err c.tick.result _ fails c.tick.ensures.same)) counts)
+
+pub returns-then-is_err-clause-spent : goal.returns-then-is_err-clause-spent
+returns-then-is_err-clause-spent g c = λ _.
+    let fails = sym c.is_err.ensures.value ∙ c.if-is_err.true in
+    subst (λ (s : Spending). s.spent ≡ s.limit) (sym (told_err c.tick.result _ fails c.tick.ensures.same))
+    (told_err c.tick.result _ fails c.tick.ensures.spent)

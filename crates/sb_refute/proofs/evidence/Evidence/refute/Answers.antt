@@ -4,7 +4,7 @@ use Rattle.sb_refute.specs.declared.evidence.EmptyClause.{EmptyClause}
 use Rattle.sb_refute.specs.Backing.{Backing}
 use Rattle.std.proofs.lemmas.Result.{on_ok_weaker, IfOk-from_err, err_from_is_err_and}
 use Rattle.sb_refute.specs.Units.{numbered}
-use Rattle.sb_refute.proofs.Memberships.{places-affirmed, units-same, evidences-both}
+use Rattle.sb_refute.proofs.Memberships.{places-affirmed, units-same, evidences-both, evidences-none}
 use Rattle.sb_trace.proofs.CallerLemmas.{stays_same, counts_none, counts_on}
 use Rattle.sb_trace.specs.Tracking.{StaysNumbered, Traced}
 use Rattle.sb_regex.proofs.CallerLemmas.{extends_same}
@@ -126,3 +126,6 @@ returns-clause-counts g c =
 
 pub learn-requires-clause-refuted : goal.learn-requires-clause-refuted
 learn-requires-clause-refuted g c = c.in_ok-id.ensures.refuted
+
+pub returns-in-Some-clause-puts : goal.returns-in-Some-clause-puts
+returns-in-Some-clause-puts g c = λ asked before b counts. evidences-none asked before _ _ _ _ _ b counts
