@@ -22,6 +22,7 @@
 //!   level, and all. `look NUMBER` prints a clause, `part 1 -2 0` which kept one is a part of this one, and
 //!   `learn 1 -2 0 HINT ..` its level, or why the hints do not teach it.
 
+use crate::dimacs::keep;
 use crate::failure::{Failure, done};
 use crate::replayed::{copy, replays};
 use crate::search::decide_all;
@@ -337,13 +338,10 @@ fn add_clause(
     numbers: &[i64],
     level: u64,
 ) -> Result<(), AllocError> {
-    let clause = Clause::from_literals(literals(alloc, numbers)?);
-    let added = engine.add(&clause, level);
-    drop(clause);
-    match added {
-        Ok(_) => Ok(()),
-        Err(error) => Err(error),
-    }
+    let literals = literals(alloc, numbers)?;
+    let kept = keep(alloc, engine, &literals, level);
+    drop(literals);
+    kept
 }
 
 /// Adds the lemma of these numbers.

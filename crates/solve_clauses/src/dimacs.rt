@@ -7,7 +7,6 @@ use sb_clauses::Engine;
 use sb_lit::{Clause, Lit};
 use std::alloc::{AllocError, Global};
 use std::io::BufRead;
-use std::mem;
 
 /// How many lines are read at most.
 const MOST_LINES: u64 = 0x1_0000_0000;
@@ -76,7 +75,7 @@ fn read_word(
 {
     match literal_of(word) {
         Some(literal) if literal.atom > 0 => done(add_literal(literal, literals)),
-        Some(_) => done(keep(alloc, literals, engine)),
+        Some(_) => end_clause(alloc, literals, engine),
         None => Err(Failure::Input),
     }
 }
@@ -100,12 +99,26 @@ fn add_literal(literal: Lit, literals: &mut Vec<Lit>) -> Result<(), AllocError> 
     Ok(())
 }
 
-/// Keeps the clause of the literals, and leaves none of them.
-fn keep(alloc: Global, literals: &mut Vec<Lit>, engine: &mut Engine) -> Result<(), AllocError>
+/// Keeps the clause of the literals at level 0, and leaves none of them.
+fn end_clause(alloc: Global, literals: &mut Vec<Lit>, engine: &mut Engine) -> Result<(), Failure>
     ensures { engine.new.trail ≡ engine.old.trail }
 {
-    let clause = Clause::from_literals(mem::replace(literals, Vec::new(alloc)));
-    let added = engine.add(&clause, 0);
+    let kept = keep(alloc, engine, literals, 0);
+    literals.clear();
+    done(kept)
+}
+
+/// Keeps the clause of these literals at a level.
+pub fn keep(
+    alloc: Global,
+    engine: &mut Engine,
+    literals: &[Lit],
+    level: u64,
+) -> Result<(), AllocError>
+    ensures { engine.new.trail ≡ engine.old.trail }
+{
+    let clause = Clause::from_literals(Vec::from_slice(alloc, literals)?);
+    let added = engine.add(&clause, level);
     drop(clause);
     match added {
         Ok(_) => Ok(()),

@@ -1,8 +1,9 @@
 //! Rounds in which clauses come and go.
 
+use crate::dimacs::keep;
 use crate::failure::Failure;
 use sb_clauses::Engine;
-use sb_lit::{Clause, Lit};
+use sb_lit::Lit;
 use std::alloc::{AllocError, Global};
 
 /// So many clauses come in a round.
@@ -22,11 +23,11 @@ pub fn rounds(alloc: Global, engine: &mut Engine, count: u64) -> Result<(), Fail
     Ok(())
 }
 
-/// Keeps the clauses of a round.
+/// Keeps the clauses of a round on level 1.
 fn keep_all(alloc: Global, engine: &mut Engine) -> Result<(), AllocError> {
     for number in 0..CLAUSES {
         let literals = [literal(2 * number), literal(2 * number + 1)];
-        keep(alloc, engine, &literals)?;
+        keep(alloc, engine, &literals, 1)?;
     }
     Ok(())
 }
@@ -36,16 +37,5 @@ fn literal(atom: u64) -> Lit {
     Lit {
         atom,
         positive: true,
-    }
-}
-
-/// Keeps the clause of these literals on level 1.
-fn keep(alloc: Global, engine: &mut Engine, literals: &[Lit]) -> Result<(), AllocError> {
-    let clause = Clause::from_literals(Vec::from_slice(alloc, literals)?);
-    let added = engine.add(&clause, 1);
-    drop(clause);
-    match added {
-        Ok(_) => Ok(()),
-        Err(error) => Err(error),
     }
 }

@@ -138,12 +138,17 @@ pub fn print_clause(clauses: &Clauses, id: ClauseId, out: &mut Text) {
 
 /// Prints the clause of a number, and its level.
 fn print_kept(clauses: &Clauses, id: ClauseId, out: &mut Text) {
-    out.add_number("of ", clauses.len() as u64);
-    out.add_number(" clauses ", id.0);
-    out.add_option(", level ", clauses.level(id));
-    out.add(":");
+    print_head(clauses.len(), " clauses ", id.0, clauses.level(id), out);
     print_clause(clauses, id, out);
     out.add("\n");
+}
+
+/// Prints of how many clauses one is looked at, and its level.
+fn print_head(len: usize, kind: &str, id: u64, level: Option<u64>, out: &mut Text) {
+    out.add_number("of ", len as u64);
+    out.add_number(kind, id);
+    out.add_option(", level ", level);
+    out.add(":");
 }
 
 /// Prints the trail.
@@ -276,10 +281,7 @@ fn keep(alloc: Global, kept: &mut KeptClauses, numbers: &[i64]) -> Result<(), Fa
 
 /// Prints the clause of a number, and its level.
 fn print_copy(kept: &KeptClauses, id: u64, out: &mut Text) {
-    out.add_number("of ", kept.len() as u64);
-    out.add_number(" kept ", id);
-    out.add_option(", level ", kept.level(id));
-    out.add(":");
+    print_head(kept.len(), " kept ", id, kept.level(id), out);
     match kept.clause(id) {
         Some(literals) => print_literals(literals, out),
         None => out.add(" none"),
