@@ -277,20 +277,35 @@ static SHARED: [(bool, (bool, bool), bool, Wanted); 3] = [
     ),
 ];
 
-/// Explores a regex, and expects that word.
+/// Expects derivatives of two regexes to be known, or not.
+fn expect_known(
+    rt: &impl Abort,
+    graph: &Graph,
+    rest: RegexId,
+    second: RegexId,
+    known: &(bool, bool),
+) {
+    assert!(rt; graph.derivative(rest).is_some() == known.0);
+    assert!(rt; graph.derivative(second).is_some() == known.1);
+}
+
+/// Explores a regex, and expects whether a regex is expanded, and that word.
 fn explore(
     rt: &impl Abort,
     arena: &mut Arena,
     graph: &mut Graph,
     r: RegexId,
+    expands: bool,
     wanted: &Wanted,
 ) -> Result<(), AllocError>
     requires { IsGraph arena.old graph.old }
     ensures { IsGraph arena.new graph.new }
 {
     assert!(rt; r.number() < arena.len());
+    let count = graph.expanded().len();
     let explored = graph.explore(arena, r)?;
     expect_found(rt, outcome_of(explored), wanted);
+    assert!(rt; (graph.expanded().len() > count) == expands);
     Ok(())
 }
 
@@ -305,13 +320,10 @@ fn explore_both(
 ) -> Result<(), AllocError>
     requires { IsGraph arena.old graph.old }
 {
-    for (of_second, known, expands, wanted) in &SHARED {
-        let r = if *of_second { second } else { first };
-        assert!(rt; graph.derivative(rest).is_some() == known.0);
-        assert!(rt; graph.derivative(second).is_some() == known.1);
-        let count = graph.expanded().len();
-        explore(rt, arena, graph, r, wanted)?;
-        assert!(rt; (graph.expanded().len() > count) == *expands);
+    for row in &SHARED {
+        expect_known(rt, graph, rest, second, &row.1);
+        let r = if row.0 { second } else { first };
+        explore(rt, arena, graph, r, row.2, &row.3)?;
     }
     Ok(())
 }

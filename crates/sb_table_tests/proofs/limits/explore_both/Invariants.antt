@@ -1,5 +1,5 @@
 use Rattle.sb_graph.specs.Findings.{IsGraph}
 use Rattle.sb_table_tests.proofs.limits.explore_both.Given as goal
 
-abbrev pub invariant-loop-of_second : goal.invariant-loop-of_second
-invariant-loop-of_second g l = IsGraph l.arena l.graph
+abbrev pub invariant-loop-row : goal.invariant-loop-row
+invariant-loop-row g l = IsGraph l.arena l.graph
