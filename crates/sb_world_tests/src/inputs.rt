@@ -4,14 +4,19 @@ ghost use Rattle.std.specs.Prelude.{◌<◌};
 
 use sb_input::{Entries, EntriesFault, Found, Lines, LinesFault};
 use sb_reader::{Ending, Next, Refusal, Sexpr, Shape};
-use sb_world::{InPort, MemWorld, World};
+use sb_world::{InPort, MemWorld, World, WorldError};
 use std::alloc::Global;
 use std::process::Abort;
 use std::test::Fail;
 
+/// How many bytes a read gives at most.
+static LONGEST: [usize; 5] = [1, 2, 3, 7, usize::MAX];
+
 /// A limit, a script, and a sign for each answer: the symbol with which a form begins, `-` for a token outside a form,
 /// `.` where the limit is met, `$` at the end.
-const ENTRIES: [(u64, &'static [u8], &'static [u8]); 10] = [
+type Script = (u64, &'static [u8], &'static [u8]);
+
+static SCRIPTS: [Script; 10] = [
     (0, b"", b".."),
     (0, b"(a)", b".."),
     (2, b"(a)", b".."),
@@ -25,18 +30,32 @@ const ENTRIES: [(u64, &'static [u8], &'static [u8]); 10] = [
     (2, b"b", b"-$"),
 ];
 
-/// The sign of the next answer, a `?` for another one.
-fn next_sign(entries: &mut Entries, world: &mut MemWorld) -> Result<u8, EntriesFault> {
-    let next = entries.advance(world)?;
-    let sign = match &next {
+/// Opens this port of a world on these bytes, of which a read gives no more than the longest, and where the call of this
+/// number fails; no call has the number 0.
+fn open(
+    world: &mut MemWorld,
+    port: InPort,
+    bytes: &[u8],
+    longest: usize,
+    failing: u64,
+) -> Result<(), WorldError>
+    requires { 0 < longest }
+{
+    world.set_standard_input(bytes)?;
+    world.read_at_most(longest);
+    world.fail_at(failing)?;
+    world.open_input(port, None)
+}
+
+/// The sign of an answer, a `?` for another one.
+fn sign_of(next: &Next) -> u8 {
+    match next {
         Next::Command(form) => first_letter(form),
         Next::Refused(Refusal::BareToken) => b'-',
         Next::NotYet => b'.',
         Next::Ended(Ending::Clean) => b'$',
         _ => b'?',
-    };
-    drop(next);
-    Ok(sign)
+    }
 }
 
 /// The first letter of a form, a `?` where it begins with no symbol.
@@ -50,71 +69,69 @@ fn first_letter(form: &Sexpr) -> u8 {
     }
 }
 
-/// Reads a script in pieces that are no longer than the longest, where the call of this number fails; no call has the
-/// number 0. Answers the number of calls.
-fn read_entries(
+/// Expects the answers that have these signs.
+fn expect_signs(
     rt: &impl Abort,
     entries: &mut Entries,
     world: &mut MemWorld,
-    script: &[u8],
     signs: &[u8],
+) -> Result<(), EntriesFault> {
+    for sign in signs {
+        let next = entries.advance(world)?;
+        let found = sign_of(&next);
+        drop(next);
+        assert!(rt; found == *sign);
+    }
+    Ok(())
+}
+
+/// Reads a script, and where a call fails as far as that. Answers the number of calls.
+fn expect_entries(
+    rt: &impl Abort,
+    entries: &mut Entries,
+    world: &mut MemWorld,
+    row: &Script,
     longest: usize,
     failing: u64,
 ) -> Result<u64, EntriesFault>
     requires { 0 < longest }
 {
-    world.set_standard_input(script)?;
-    world.read_at_most(longest);
-    world.fail_at(failing)?;
-    world.open_input(InPort::Script, None)?;
-    for sign in signs {
-        match next_sign(entries, world) {
-            Ok(found) => assert_eq!(rt; found, *sign),
-            Err(EntriesFault::Fault) => {
-                assert!(rt; failing != 0 && world.faults() == 1);
-                return Ok(0);
-            }
-            Err(fault) => return Err(fault),
-        }
+    open(world, InPort::Script, row.1, longest, failing)?;
+    let done = expect_signs(rt, entries, world, row.2);
+    let failed = matches!(done, Err(EntriesFault::Fault));
+    if !failed {
+        done?;
     }
-    assert_eq!(rt; (failing, world.faults()), (0, 0));
+    assert!(rt; failed == (failing != 0));
+    assert!(rt; world.faults() == u64::from(failed));
     Ok(world.calls())
 }
 
-/// Reads a script so without a fault, and then with one at each call behind the opening.
-fn expect_entries(
+/// Makes what a script is read with, and reads it.
+fn read_entries(
     rt: &impl Abort,
     alloc: Global,
-    row: &(u64, &[u8], &[u8]),
+    row: &Script,
     longest: usize,
-) -> Result<(), EntriesFault>
+    failing: u64,
+) -> Result<u64, EntriesFault>
     requires { 0 < longest }
 {
-    let (limit, script, signs) = *row;
-    let mut calls = 0;
-    for failing in 0..100 {
-        if failing == 1 {
-            continue;
-        }
-        if failing > calls {
-            return Ok(());
-        }
-        let mut entries = Entries::new(alloc, limit);
-        let mut world = MemWorld::new(alloc);
-        let made = read_entries(
-            rt,
-            &mut entries,
-            &mut world,
-            script,
-            signs,
-            longest,
-            failing,
-        );
-        drop(entries);
-        drop(world);
-        let made = made?;
-        if failing == 0 {
-            calls = made;
+    let mut entries = Entries::new(alloc, row.0);
+    let mut world = MemWorld::new(alloc);
+    let done = expect_entries(rt, &mut entries, &mut world, row, longest, failing);
+    drop(world);
+    drop(entries);
+    done
+}
+
+/// Reads a script without a fault, and then with one at each call behind the opening.
+fn read_script(rt: &impl Abort, alloc: Global, row: &Script) -> Result<(), EntriesFault> {
+    for longest in &LONGEST {
+        let longest = (*longest).max(1);
+        let calls = read_entries(rt, alloc, row, longest, 0)?;
+        for failing in 2..calls.saturating_add(1) {
+            read_entries(rt, alloc, row, longest, failing)?;
         }
     }
     Ok(())
@@ -122,7 +139,9 @@ fn expect_entries(
 
 /// A limit, a proof, and a sign for what is found with the line: `+` for a line that is ended, `~` for one that is not, `$`
 /// at the end and `.` where the limit is met, without a line.
-const LINES: [(u64, &'static [u8], &'static [(u8, &'static [u8])]); 6] = [
+type Proof = (u64, &'static [u8], &'static [(u8, &'static [u8])]);
+
+static PROOFS: [Proof; 6] = [
     (0, b"", &[(b'.', b""), (b'.', b"")]),
     (0, b"a\n", &[(b'.', b""), (b'.', b"")]),
     (4, b"a\nbcd\ne", &[(b'+', b"a"), (b'.', b""), (b'.', b"")]),
@@ -135,65 +154,70 @@ const LINES: [(u64, &'static [u8], &'static [(u8, &'static [u8])]); 6] = [
     ),
 ];
 
-/// Reads a proof so. A call that the outside fails is made once more.
-fn read_lines(
+/// The sign of what is found next. A call that the outside fails is made once more.
+fn next_line(lines: &mut Lines, world: &mut MemWorld) -> Result<u8, LinesFault> {
+    let found = match lines.advance(world) {
+        Err(LinesFault::Fault) => lines.advance(world)?,
+        found => found?,
+    };
+    Ok(match found {
+        Found::Line { ended: true } => b'+',
+        Found::Line { ended: false } => b'~',
+        Found::End => b'$',
+        Found::Limit => b'.',
+    })
+}
+
+fn expect_line(rt: &impl Abort, line: &[u8], wanted: &[u8]) {
+    assert!(rt; line == wanted);
+}
+
+/// Reads a proof, and expects the one fault where a call fails. Answers the number of calls.
+fn expect_lines(
     rt: &impl Abort,
     lines: &mut Lines,
     world: &mut MemWorld,
-    proof: &[u8],
-    wanted: &[(u8, &[u8])],
+    row: &Proof,
     longest: usize,
     failing: u64,
 ) -> Result<u64, LinesFault>
     requires { 0 < longest }
 {
-    world.set_standard_input(proof)?;
-    world.read_at_most(longest);
-    world.fail_at(failing)?;
-    world.open_input(InPort::Proof, None)?;
-    for (sign, line) in wanted {
-        let found = match lines.advance(world) {
-            Err(LinesFault::Fault) => lines.advance(world)?,
-            found => found?,
-        };
-        let found = match found {
-            Found::Line { ended: true } => b'+',
-            Found::Line { ended: false } => b'~',
-            Found::End => b'$',
-            Found::Limit => b'.',
-        };
-        assert_eq!(rt; (found, lines.line()), (*sign, *line));
+    open(world, InPort::Proof, row.1, longest, failing)?;
+    for wanted in row.2 {
+        let sign = next_line(lines, world)?;
+        assert!(rt; sign == wanted.0);
+        expect_line(rt, lines.line(), wanted.1);
     }
-    assert_eq!(rt; world.faults(), u64::from(failing != 0));
+    assert!(rt; world.faults() == u64::from(failing != 0));
     Ok(world.calls())
 }
 
-/// Reads a proof so without a fault, and then with one at each call behind the opening.
-fn expect_lines(
+/// Makes what a proof is read with, and reads it.
+fn read_lines(
     rt: &impl Abort,
     alloc: Global,
-    row: &(u64, &[u8], &[(u8, &[u8])]),
+    row: &Proof,
     longest: usize,
-) -> Result<(), LinesFault>
+    failing: u64,
+) -> Result<u64, LinesFault>
     requires { 0 < longest }
 {
-    let (limit, proof, wanted) = *row;
-    let mut calls = 0;
-    for failing in 0..100 {
-        if failing == 1 {
-            continue;
-        }
-        if failing > calls {
-            return Ok(());
-        }
-        let mut lines = Lines::new(alloc, limit);
-        let mut world = MemWorld::new(alloc);
-        let made = read_lines(rt, &mut lines, &mut world, proof, wanted, longest, failing);
-        drop(lines);
-        drop(world);
-        let made = made?;
-        if failing == 0 {
-            calls = made;
+    let mut lines = Lines::new(alloc, row.0);
+    let mut world = MemWorld::new(alloc);
+    let done = expect_lines(rt, &mut lines, &mut world, row, longest, failing);
+    drop(world);
+    drop(lines);
+    done
+}
+
+/// Reads a proof without a fault, and then with one at each call behind the opening.
+fn read_proof(rt: &impl Abort, alloc: Global, row: &Proof) -> Result<(), LinesFault> {
+    for longest in &LONGEST {
+        let longest = (*longest).max(1);
+        let calls = read_lines(rt, alloc, row, longest, 0)?;
+        for failing in 2..calls.saturating_add(1) {
+            read_lines(rt, alloc, row, longest, failing)?;
         }
     }
     Ok(())
@@ -201,22 +225,16 @@ fn expect_lines(
 
 #[test]
 fn entries_do_not_depend_on_the_pieces(rt: HostRuntime) -> Result<(), Fail> {
-    for row in &ENTRIES {
-        expect_entries(&rt, rt.alloc(), row, 1)?;
-        expect_entries(&rt, rt.alloc(), row, 2)?;
-        expect_entries(&rt, rt.alloc(), row, 7)?;
-        expect_entries(&rt, rt.alloc(), row, usize::MAX)?;
+    for row in &SCRIPTS {
+        read_script(&rt, rt.alloc(), row)?;
     }
     Ok(())
 }
 
 #[test]
 fn lines_do_not_depend_on_the_pieces(rt: HostRuntime) -> Result<(), Fail> {
-    for row in &LINES {
-        expect_lines(&rt, rt.alloc(), row, 1)?;
-        expect_lines(&rt, rt.alloc(), row, 2)?;
-        expect_lines(&rt, rt.alloc(), row, 3)?;
-        expect_lines(&rt, rt.alloc(), row, usize::MAX)?;
+    for row in &PROOFS {
+        read_proof(&rt, rt.alloc(), row)?;
     }
     Ok(())
 }

@@ -6,7 +6,7 @@ use std::process::Abort;
 use std::test::Fail;
 
 /// Texts of each kind of line, of each regex, atom, rule and verdict, and of each field at its limits.
-const LINES: &[&str] = &[
+static LINES: [&str; 43] = [
     "strproof 1",
     "strproof 18446744073709551615",
     "r none",
@@ -52,16 +52,21 @@ const LINES: &[&str] = &[
     "end",
 ];
 
-fn prints_as(rt: &impl Abort, alloc: Global, line: &Line, text: &str) -> Result<(), AllocError> {
-    let printed = print_line(alloc, line)?;
-    assert!(rt; printed.as_str().strip_suffix("\n") == Some(text), "{text}");
+/// Expects a line to print as the text.
+fn prints_as(rt: &impl Abort, alloc: Global, line: Line, text: &str) -> Result<(), AllocError> {
+    let printed = print_line(alloc, &line);
+    drop(line);
+    let printed = printed?;
+    let same = printed.as_str().strip_suffix("\n") == Some(text);
+    drop(printed);
+    assert!(rt; same, "{text}");
     Ok(())
 }
 
 /// The text is read as a line, which prints as the text.
 fn goes_round(rt: &impl Abort, alloc: Global, text: &str) -> Result<(), AllocError> {
     match read_line(alloc, text.as_bytes(), true)? {
-        Ok(line) => prints_as(rt, alloc, &line, text),
+        Ok(line) => prints_as(rt, alloc, line, text),
         Err(_) => {
             assert!(rt; false, "{text}");
             Ok(())
@@ -70,20 +75,23 @@ fn goes_round(rt: &impl Abort, alloc: Global, text: &str) -> Result<(), AllocErr
 }
 
 /// Texts are read as lines, which print as the texts, and numbers keep their order.
-#[test]
-fn lines_go_round(rt: HostRuntime) -> Result<(), Fail> {
-    let alloc = rt.alloc();
-    for text in LINES {
-        goes_round(&rt, alloc, text)?;
+fn go_round(rt: &impl Abort, alloc: Global) -> Result<(), AllocError> {
+    for text in &LINES {
+        goes_round(rt, alloc, text)?;
     }
     let bound = Line::Atom(Atom::Le(Variable::Length(2), -5));
-    prints_as(&rt, alloc, &bound, "a le l2 -5")?;
-    prints_as(&rt, alloc, &Line::Regex(Node::Cat(2, 3)), "r cat 2 3")?;
-    prints_as(&rt, alloc, &Line::Regex(Node::Rep(1, 2, 3)), "r rep 1 2 3")?;
+    prints_as(rt, alloc, bound, "a le l2 -5")?;
+    prints_as(rt, alloc, Line::Regex(Node::Cat(2, 3)), "r cat 2 3")?;
+    prints_as(rt, alloc, Line::Regex(Node::Rep(1, 2, 3)), "r rep 1 2 3")
+}
+
+#[test]
+fn lines_go_round(rt: HostRuntime) -> Result<(), Fail> {
+    go_round(&rt, rt.alloc())?;
     Ok(())
 }
 
-const WHOLE: &[u8] = b"strproof 1\nd 5 6\nend\n";
+static WHOLE: &[u8] = b"strproof 1\nd 5 6\nend\n";
 
 /// Puts three lines through the bound, as a writer of proofs does.
 fn put_three<T: Tape>(tape: &mut T, dead: &Line) -> Result<(), TapeFault> {
@@ -92,15 +100,28 @@ fn put_three<T: Tape>(tape: &mut T, dead: &Line) -> Result<(), TapeFault> {
     tape.put(&Line::End)
 }
 
+/// Expects the bytes of a tape to be the whole text, or whole lines of its front.
+fn expect_lines(rt: &impl Abort, bytes: &[u8], whole: bool) {
+    assert!(rt; WHOLE.starts_with(bytes) && (!whole || bytes.len() == WHOLE.len()));
+    assert!(rt; bytes.is_empty() || bytes.ends_with(b"\n"));
+}
+
+/// Expects a new tape to keep three lines.
+fn expect_kept(rt: &impl Abort, alloc: Global, tape: &mut MemTape) -> Result<(), AllocError> {
+    assert!(rt; tape.bytes().is_empty());
+    let dead = Line::Dead(vec![in alloc; 5, 6]?);
+    let put = put_three(tape, &dead);
+    drop(dead);
+    expect_lines(rt, tape.bytes(), put.is_ok());
+    Ok(())
+}
+
 /// Where memory ends, too.
 #[test]
 fn a_tape_in_memory_keeps_whole_lines(rt: HostRuntime) -> Result<(), Fail> {
     let mut tape = MemTape::new(rt.alloc());
-    assert!(&rt; tape.bytes().is_empty());
-    let dead = Line::Dead(vec![in rt.alloc(); 5, 6]?);
-    let put = put_three(&mut tape, &dead);
-    assert!(&rt; put.is_err() || tape.bytes() == WHOLE);
-    assert!(&rt; put.is_ok() || WHOLE.starts_with(tape.bytes()));
-    assert!(&rt; tape.bytes().is_empty() || tape.bytes().ends_with(b"\n"));
+    let done = expect_kept(&rt, rt.alloc(), &mut tape);
+    drop(tape);
+    done?;
     Ok(())
 }

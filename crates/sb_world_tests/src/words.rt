@@ -1,12 +1,12 @@
 //! Words and their literals.
 
 use sb_word::{CodesError, LiteralError, Word, print_literal, read_character, read_literal};
-use std::alloc::Global;
+use std::alloc::{AllocError, Global};
 use std::process::Abort;
 use std::test::Fail;
 
 /// Numbers that give a word, and the text of its literal.
-const LITERALS: [(&'static [u32], &'static str); 10] = [
+static LITERALS: [(&[u32], &str); 10] = [
     (&[], ""),
     (&[97, 98], "ab"),
     (&[34], "\"\""),
@@ -20,13 +20,10 @@ const LITERALS: [(&'static [u32], &'static str); 10] = [
 ];
 
 /// Numbers of which one is above the last character, and its place.
-const NO_WORDS: [(&'static [u32], usize); 2] = [
-    (&[0x30000], 0),
-    (&[97, 0x2ffff, 0x30000, 0x40000], 2),
-];
+static NO_WORDS: [(&[u32], usize); 2] = [(&[0x30000], 0), (&[97, 0x2ffff, 0x30000, 0x40000], 2)];
 
 /// Bytes between the quotes of a literal, and the characters of its word.
-const READ: [(&'static [u8], &'static [u32]); 16] = [
+static READ: [(&[u8], &[u32]); 16] = [
     (b"", &[]),
     (b"~ a", &[0x7e, 32, 97]),
     (b"a\"\"b\"\"", &[97, 34, 98, 34]),
@@ -46,7 +43,7 @@ const READ: [(&'static [u8], &'static [u32]); 16] = [
 ];
 
 /// Bytes that are no literal, and the place of the first one that no literal holds.
-const BAD: [(&'static [u8], usize); 8] = [
+static BAD: [(&[u8], usize); 8] = [
     (b"\n", 0),
     (b"a\x7f\x80", 1),
     (b"\"", 0),
@@ -58,7 +55,7 @@ const BAD: [(&'static [u8], usize); 8] = [
 ];
 
 /// Digits, and the character of one to five of them.
-const DIGITS: [(&'static [u8], Option<u32>); 6] = [
+static DIGITS: [(&[u8], Option<u32>); 6] = [
     (b"2ffff", Some(0x2ffff)),
     (b"0000A", Some(10)),
     (b"30000", None),
@@ -68,11 +65,22 @@ const DIGITS: [(&'static [u8], Option<u32>); 6] = [
 ];
 
 /// Expects the characters of the numbers' word to be them, and its literal to have this text.
-fn expect_literal(rt: &impl Abort, alloc: Global, codes: &[u32], text: &str) -> Result<(), Fail> {
-    let word = Word::from_codes(alloc, codes)?;
-    assert_eq!(rt; word.codes(), codes);
-    let printed = print_literal(alloc, &word)?;
-    assert_eq!(rt; printed.as_str(), text, "at {codes:?}");
+fn expect_literal(
+    rt: &impl Abort,
+    alloc: Global,
+    codes: &[u32],
+    text: &str,
+) -> Result<(), AllocError> {
+    let Ok(word) = Word::from_codes(alloc, codes) else {
+        return Err(AllocError);
+    };
+    let same = word.codes() == codes;
+    let printed = print_literal(alloc, &word);
+    drop(word);
+    let printed = printed?;
+    let told = printed.as_str() == text;
+    drop(printed);
+    assert!(rt; same && told);
     Ok(())
 }
 
@@ -84,30 +92,41 @@ fn expect_word(
     codes: &[u32],
 ) -> Result<(), LiteralError> {
     let word = read_literal(alloc, bytes)?;
-    assert_eq!(rt; word.codes(), codes);
+    let same = word.codes() == codes;
+    drop(word);
+    assert!(rt; same);
     Ok(())
 }
 
-/// Words have their characters and print as literals, which are read; numbers that give no word, and bytes that no
-/// literal holds, are named.
+/// Words have their characters and print as literals, which are read.
+fn expect_words(rt: &impl Abort, alloc: Global) -> Result<(), LiteralError> {
+    for row in &LITERALS {
+        expect_literal(rt, alloc, row.0, row.1)?;
+    }
+    for row in &READ {
+        expect_word(rt, alloc, row.0, row.1)?;
+    }
+    Ok(())
+}
+
+/// Numbers that give no word, and bytes that no literal holds, are named; digits are read.
+fn expect_others(rt: &impl Abort, alloc: Global) {
+    for row in &NO_WORDS {
+        let error = Word::from_codes(alloc, row.0).err();
+        assert!(rt; error == Some(CodesError::NotACharacter(row.1)));
+    }
+    for row in &BAD {
+        let error = read_literal(alloc, row.0).err();
+        assert!(rt; error == Some(LiteralError::BadByte(row.1)));
+    }
+    for row in &DIGITS {
+        assert!(rt; read_character(row.0) == row.1);
+    }
+}
+
 #[test]
 fn words_and_their_literals(rt: HostRuntime) -> Result<(), Fail> {
-    for (codes, text) in &LITERALS {
-        expect_literal(&rt, rt.alloc(), codes, text)?;
-    }
-    for (bytes, codes) in &READ {
-        expect_word(&rt, rt.alloc(), bytes, codes)?;
-    }
-    for (codes, place) in &NO_WORDS {
-        let error = Word::from_codes(rt.alloc(), codes).err();
-        assert_eq!(rt; error, Some(CodesError::NotACharacter(*place)));
-    }
-    for (bytes, place) in &BAD {
-        let error = read_literal(rt.alloc(), bytes).err();
-        assert_eq!(rt; error, Some(LiteralError::BadByte(*place)));
-    }
-    for (digits, character) in &DIGITS {
-        assert_eq!(rt; read_character(digits), *character);
-    }
+    expect_words(&rt, rt.alloc())?;
+    expect_others(&rt, rt.alloc());
     Ok(())
 }

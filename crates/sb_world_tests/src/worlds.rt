@@ -4,7 +4,7 @@ ghost use Rattle.std.specs.Prelude.{◌<◌, length};
 ghost use Rattle.sb_world.specs.Worlds.{outside_of, faults_of};
 
 use sb_world::{CalmWorld, InPort, MemWorld, Opened, OutPort, World, WorldError, write_all};
-use std::alloc::Global;
+use std::alloc::{AllocError, Global};
 use std::process::Abort;
 use std::test::Fail;
 
@@ -68,41 +68,40 @@ impl World for PacedWorld {
     }
 }
 
-/// Makes the calls in order.
-fn make<W: World>(
+/// Whether a call is answered as it is to be. The buffer is that of the reads.
+fn answers<W: World>(
     world: &mut W,
-    rt: &impl Abort,
     alloc: Global,
-    calls: &[Call],
-) -> Result<(), WorldError> {
-    let mut buffer = [0; 5];
-    for call in calls {
-        match call {
-            Call::Open(port, name, wanted) => {
-                assert_eq!(rt; world.open_input(*port, *name), *wanted);
-            }
-            Call::Create(port, name, wanted) => {
-                assert_eq!(rt; world.create_output(*port, *name), *wanted);
-            }
-            Call::Read(port, wanted, bytes) => {
-                assert_eq!(rt; world.read(*port, &mut buffer), *wanted);
-                assert_eq!(rt; buffer, *bytes);
-            }
-            Call::ReadAll(port, most, bytes) => {
-                let mut part = [0; 16];
-                let all = &mut Vec::new(alloc);
-                read_all(world, *port, &mut part[..(*most).clamp(1, 16)], all)?;
-                assert_eq!(rt; all.as_slice(), *bytes);
-            }
-            Call::Write(port, bytes, wanted) => {
-                assert_eq!(rt; world.write(*port, bytes), *wanted);
-            }
-            Call::WriteAll(port, bytes, wanted) => {
-                assert_eq!(rt; write_all(world, *port, bytes), *wanted);
-            }
+    buffer: &mut [u8; 5],
+    call: &Call,
+) -> Result<bool, WorldError> {
+    match call {
+        Call::Open(port, name, wanted) => Ok(world.open_input(*port, *name) == *wanted),
+        Call::Create(port, name, wanted) => Ok(world.create_output(*port, *name) == *wanted),
+        Call::Read(port, wanted, bytes) => {
+            Ok(world.read(*port, buffer) == *wanted && *buffer == *bytes)
         }
+        Call::ReadAll(port, most, bytes) => gives(world, alloc, *port, *most, bytes),
+        Call::Write(port, bytes, wanted) => Ok(world.write(*port, bytes) == *wanted),
+        Call::WriteAll(port, bytes, wanted) => Ok(write_all(world, *port, bytes) == *wanted),
     }
-    Ok(())
+}
+
+/// Whether an input gives these bytes until its end, by reads of up to so many, at most 16.
+fn gives<W: World>(
+    world: &mut W,
+    alloc: Global,
+    port: InPort,
+    most: usize,
+    bytes: &[u8],
+) -> Result<bool, WorldError> {
+    let mut part = [0; 16];
+    let mut all = Vec::new(alloc);
+    let done = read_all(world, port, &mut part[..most.clamp(1, 16)], &mut all);
+    let same = all.as_slice() == bytes;
+    drop(all);
+    done?;
+    Ok(same)
 }
 
 /// What is left of an input, read as many bytes at a time as the buffer has.
@@ -124,100 +123,126 @@ fn read_all<W: World>(
     Ok(())
 }
 
-/// Expects a port to be opened by this name, the empty one where it has none, or not to be opened.
-fn expect_opened(rt: &impl Abort, opened: &Opened, name: Option<&str>) {
-    let same = match opened {
+/// Makes the calls in order.
+fn make<W: World>(
+    world: &mut W,
+    rt: &impl Abort,
+    alloc: Global,
+    calls: &[Call],
+) -> Result<(), WorldError> {
+    let mut buffer = [0; 5];
+    for call in calls {
+        let same = answers(world, alloc, &mut buffer, call)?;
+        assert!(rt; same);
+    }
+    Ok(())
+}
+
+/// Whether a port is opened by this name, the empty one where it has none, or is not opened.
+fn is_opened(opened: &Opened, name: Option<&str>) -> bool {
+    match opened {
         Opened::Not => name.is_none(),
         Opened::Nameless => name == Some(""),
         Opened::Named(opened) => name == Some(opened.as_str()),
-    };
-    assert!(rt; same);
+    }
 }
 
-fn expect_written(rt: &impl Abort, written: &[u8], bytes: &[u8]) {
-    assert_eq!(rt; written, bytes);
-}
-
-/// Looks at what the ports of a world hold.
+/// Expects the ports of a world to hold this.
 macro_rules! look {
     ($rt:expr, $world:expr, $held:expr) => {
         for one in $held {
-            match one {
-                Held::Opened(port, name) => expect_opened($rt, $world.opened(*port), *name),
-                Held::Created(port, name) => expect_opened($rt, $world.created(*port), *name),
-                Held::Written(port, bytes) => expect_written($rt, $world.written(*port), bytes),
-            }
+            let same = match one {
+                Held::Opened(port, name) => is_opened($world.opened(*port), *name),
+                Held::Created(port, name) => is_opened($world.created(*port), *name),
+                Held::Written(port, bytes) => $world.written(*port) == *bytes,
+            };
+            assert!($rt; same);
         }
     };
+}
+
+/// Expects a world in memory to hold what a stage says, and to have counted so many calls and faults.
+fn look_at_memory(rt: &impl Abort, world: &MemWorld, stage: &Stage) {
+    look!(rt, world, stage.held);
+    assert!(rt; world.calls() == stage.counts.0);
+    assert!(rt; world.faults() == stage.counts.1);
+}
+
+fn look_calmly(rt: &impl Abort, world: &CalmWorld, held: &[Held]) {
+    look!(rt, world, held);
 }
 
 const SCRIPT: &[u8] = b"(check-sat)\n";
 
 /// Two files, of which the first takes the place of an older one.
-const FILES: [(&'static str, &'static [u8]); 3] = [
+static FILES: [(&str, &[u8]); 3] = [
     ("script.smt2", b"an older file"),
     ("script.smt2", SCRIPT),
     ("proof", b"qed"),
 ];
 
-/// Goes through the stages over a world in memory whose writes are slow or not, whose reads give no more bytes than the
-/// longest, and whose calls of these numbers fail.
-fn expect_in_memory(
-    rt: &impl Abort,
-    alloc: Global,
-    slow: bool,
-    longest: usize,
-    failing: &[u64],
-    stages: &[Stage],
-) -> Result<(), WorldError>
-    requires { 0 < longest }
-{
-    let memory = MemWorld::new(alloc);
-    let mut world = PacedWorld { memory, slow };
-    world.memory.read_at_most(longest);
-    let done = over_memory(&mut world, rt, alloc, failing, stages);
-    drop(world);
-    done
+/// Gives a world in memory its files and its standard input, and makes the calls of these numbers fail.
+fn prepare(memory: &mut MemWorld, failing: &[u64]) -> Result<(), AllocError> {
+    for file in &FILES {
+        memory.add_file(file.0, file.1)?;
+    }
+    memory.set_standard_input(b"(exit)")?;
+    for call in failing {
+        memory.fail_at(*call)?;
+    }
+    Ok(())
 }
 
 fn over_memory(
     world: &mut PacedWorld,
     rt: &impl Abort,
     alloc: Global,
-    failing: &[u64],
-    stages: &[Stage],
+    row: &Row,
 ) -> Result<(), WorldError> {
-    for (name, bytes) in &FILES {
-        world.memory.add_file(name, bytes)?;
-    }
-    world.memory.set_standard_input(b"(exit)")?;
-    for call in failing {
-        world.memory.fail_at(*call)?;
-    }
-    for stage in stages {
+    prepare(&mut world.memory, row.2)?;
+    for stage in row.3 {
         make(world, rt, alloc, stage.calls)?;
-        look!(rt, world.memory, stage.held);
-        assert_eq!(rt; (world.memory.calls(), world.memory.faults()), stage.counts);
+        look_at_memory(rt, &world.memory, stage);
     }
     Ok(())
 }
 
-/// Goes through the stages over a `CalmWorld`, which counts nothing.
-fn expect_calmly(
+/// Goes through the stages of a row over a world in memory.
+fn expect_in_memory(rt: &impl Abort, alloc: Global, row: &Row) -> Result<(), WorldError> {
+    let mut memory = MemWorld::new(alloc);
+    memory.read_at_most(row.1.max(1));
+    let mut world = PacedWorld {
+        memory,
+        slow: row.0,
+    };
+    let done = over_memory(&mut world, rt, alloc, row);
+    drop(world);
+    done
+}
+
+fn over_calm(
     world: &mut CalmWorld,
     rt: &impl Abort,
     alloc: Global,
     stages: &[Stage],
 ) -> Result<(), WorldError> {
-    for (name, bytes) in &FILES {
-        world.add_file(name, bytes)?;
+    for file in &FILES {
+        world.add_file(file.0, file.1)?;
     }
     world.set_standard_input(b"(exit)")?;
     for stage in stages {
         make(world, rt, alloc, stage.calls)?;
-        look!(rt, world, stage.held);
+        look_calmly(rt, world, stage.held);
     }
     Ok(())
+}
+
+/// Goes through the stages over a `CalmWorld`, which counts nothing.
+fn expect_calmly(rt: &impl Abort, alloc: Global, stages: &[Stage]) -> Result<(), WorldError> {
+    let mut world = CalmWorld::new(alloc);
+    let done = over_calm(&mut world, rt, alloc, stages);
+    drop(world);
+    done
 }
 
 /// Opens each input anew, and reads it to its end.
@@ -372,10 +397,13 @@ const CUT: [Stage; 1] = [Stage {
     counts: (4, 1),
 }];
 
-/// Whether writes are slow, how many bytes a read gives at most, which calls fail, and the stages: inputs give their files
-/// and standard input, and reads of any length give the bytes in order; an unknown name fails; outputs collect their
-/// bytes; a listed call fails once and changes nothing; a write that fails in mid-stream leaves the front.
-const IN_MEMORY: [(bool, usize, &'static [u64], &'static [Stage]); 9] = [
+/// Whether writes are slow, how many bytes a read gives at most, which calls fail, and the stages.
+type Row = (bool, usize, &'static [u64], &'static [Stage]);
+
+/// Inputs give their files and standard input, and reads of any length give the bytes in order; an unknown name fails;
+/// outputs collect their bytes; a listed call fails once and changes nothing; a write that fails in mid-stream leaves the
+/// front.
+static IN_MEMORY: [Row; 9] = [
     (false, usize::MAX, &[], &INPUTS),
     (false, 1, &[], &BY_ONE),
     (false, 2, &[], &BY_TWO),
@@ -388,19 +416,21 @@ const IN_MEMORY: [(bool, usize, &'static [u64], &'static [Stage]); 9] = [
 ];
 
 /// In a calm world an unknown name is empty, and nothing fails.
-const CALM: [&'static [Stage]; 3] = [&INPUTS, &UNKNOWN_IS_EMPTY, &OUTPUTS];
+static CALM: [&[Stage]; 3] = [&INPUTS, &UNKNOWN_IS_EMPTY, &OUTPUTS];
+
+/// Goes through the rows of both.
+fn expect_answers(rt: &impl Abort, alloc: Global) -> Result<(), WorldError> {
+    for row in &IN_MEMORY {
+        expect_in_memory(rt, alloc, row)?;
+    }
+    for stages in &CALM {
+        expect_calmly(rt, alloc, stages)?;
+    }
+    Ok(())
+}
 
 #[test]
 fn worlds_answer_each_call(rt: HostRuntime) -> Result<(), Fail> {
-    for (slow, longest, failing, stages) in &IN_MEMORY {
-        let longest = (*longest).max(1);
-        expect_in_memory(&rt, rt.alloc(), *slow, longest, failing, stages)?;
-    }
-    for stages in &CALM {
-        let mut world = CalmWorld::new(rt.alloc());
-        let done = expect_calmly(&mut world, &rt, rt.alloc(), stages);
-        drop(world);
-        done?;
-    }
+    expect_answers(&rt, rt.alloc())?;
     Ok(())
 }
