@@ -13,10 +13,10 @@ use std::test::Fail;
 type Row = (&'static [u8], u64, bool);
 
 /// The sorts of the constants that are declared.
-const SORTS: [Sort; 2] = [Sort::String, Sort::Bool];
+static SORTS: [Sort; 2] = [Sort::String, Sort::Bool];
 
 /// Two memberships that exclude each other.
-const LINES: [Row; 15] = [
+static LINES: [Row; 15] = [
     (b"r set 61-61", 0, false),
     (b"r star 0", 0, false),
     (b"r set 62-62", 0, false),
@@ -35,7 +35,7 @@ const LINES: [Row; 15] = [
 ];
 
 /// Two memberships and a conjunction. The first regex has no word, and the second one has all.
-const EMPTY: [Row; 9] = [
+static EMPTY: [Row; 9] = [
     (b"r none", 0, false),
     (b"r not 0", 0, false),
     (b"a in v0 : 1", 0, false),
@@ -58,11 +58,18 @@ fn is_past(
     requires { IsOver table.now kept.old }
     ensures { IsOver table.now kept.new }
 {
-    let Ok(line) = read_line(alloc, text, true)? else {
-        return Err(AllocError);
-    };
-    let followed = kept.follows(table, &[], &SORTS, limit, &line);
-    drop(line);
+    match read_line(alloc, text, true)? {
+        Ok(line) => {
+            let followed = kept.follows(table, &[], &SORTS, limit, &line);
+            drop(line);
+            verdict_of(followed)
+        }
+        Err(_) => Err(AllocError),
+    }
+}
+
+/// Whether the limit was met; an error where a line was refused for another reason.
+fn verdict_of(followed: Result<(), Fault>) -> Result<bool, AllocError> {
     match followed {
         Ok(()) => Ok(false),
         Err(Fault::Refused(Refusal::WrongVerdict)) => Ok(true),
@@ -80,9 +87,9 @@ fn follow(
 ) -> Result<(), AllocError>
     requires { IsOver table.now kept.old }
 {
-    for (text, limit, wanted) in rows {
-        let past = is_past(alloc, table, kept, text, *limit)?;
-        assert!(rt; past == *wanted);
+    for row in rows {
+        let past = is_past(alloc, table, kept, row.0, row.1)?;
+        assert!(rt; past == row.2);
     }
     Ok(())
 }

@@ -85,15 +85,15 @@ const NOT_TWO: Lit = Lit {
 };
 
 /// Some a, some b, and some c.
-const SOME: [Says; 3] = [
+const SOME: &[Says] = &[
     Says::In(0, b"aa*."),
     Says::In(0, b"bb*."),
     Says::In(0, b"cc*."),
 ];
 
-const CASES: [Case; 9] = [
+static CASES: [Case; 9] = [
     Case {
-        said: &SOME,
+        said: SOME,
         clauses: &[&[ONE], &[TWO]],
         proves: false,
         limit: 9,
@@ -104,7 +104,7 @@ const CASES: [Case; 9] = [
         lines: b"c learn : 0 1 2\n",
     },
     Case {
-        said: &SOME,
+        said: SOME,
         clauses: &[&[ONE, TWO], &[TWO, THREE], &[ONE, THREE]],
         proves: false,
         limit: 2,
@@ -192,7 +192,7 @@ const CASES: [Case; 9] = [
         lines: b"c learn : 0 1 2 4\n",
     },
     Case {
-        said: &SOME,
+        said: SOME,
         clauses: &[&[ONE], &[TWO]],
         proves: true,
         limit: 0,
@@ -203,7 +203,7 @@ const CASES: [Case; 9] = [
         lines: b"r set 61-61\nr star 0\nr cat 0 1\nr set 62-62\nr star 3\nr cat 3 4\nr and 2 5\nr none\n",
     },
     Case {
-        said: &SOME,
+        said: SOME,
         clauses: &[&[ONE], &[TWO]],
         proves: true,
         limit: 3,
@@ -216,7 +216,15 @@ const CASES: [Case; 9] = [
     },
 ];
 
-/// Puts the regexes of what is said, that of no word for a conjunction, and the numbers of the atoms.
+/// The regex of what is said; that of no word for a conjunction.
+fn regex_of(alloc: Global, arena: &mut Arena, says: &Says) -> Result<RegexId, AllocError> {
+    match says {
+        Says::In(_, text) => regex(alloc, arena, text),
+        Says::And(..) => arena.none(),
+    }
+}
+
+/// Puts the regexes of what is said, and the numbers of the atoms.
 fn put_regexes(
     alloc: Global,
     arena: &mut Arena,
@@ -227,10 +235,7 @@ fn put_regexes(
     for says in said {
         let number = wanted.len() as u64;
         wanted.push(number)?;
-        let id = match says {
-            Says::In(_, text) => regex(alloc, arena, text)?,
-            Says::And(..) => arena.none()?,
-        };
+        let id = regex_of(alloc, arena, says)?;
         ids.push(id)?;
     }
     Ok(())
@@ -322,31 +327,40 @@ fn add_each(engine: &mut Engine, clauses: &[Clause]) -> Result<(), AllocError> {
     Ok(())
 }
 
-/// Expects what a search found, and what it left, to be what is wanted.
-fn expect_found(
-    rt: &impl Abort,
-    theory: &Strings,
-    engine: &Engine,
-    tape: &MemTape,
-    case: &Case,
-    found: Found,
-    steps: u64,
-) {
-    let ended = match found {
-        Found::Sat => matches!(&case.end, End::Sat),
-        Found::Unsat(_) => matches!(&case.end, End::Unsat),
-        Found::Spent => matches!(&case.end, End::Spent),
+/// Expects a search to end so.
+fn expect_end(rt: &impl Abort, found: Found, wanted: &End) {
+    let same = match found {
+        Found::Sat => matches!(wanted, End::Sat),
+        Found::Unsat(_) => matches!(wanted, End::Unsat),
+        Found::Spent => matches!(wanted, End::Spent),
     };
-    assert!(rt; ended && steps == case.steps);
-    assert!(rt; tape.bytes() == case.lines);
-    for literal in case.truths {
-        assert!(rt; engine.trail().literal_value(*literal) == Some(true));
+    assert!(rt; same);
+}
+
+/// Expects literals to be true.
+fn expect_truths(rt: &impl Abort, engine: &Engine, truths: &[Lit]) {
+    for literal in truths {
+        let truth = engine.trail().literal_value(*literal);
+        assert!(rt; truth == Some(true));
     }
-    for (serial, codes) in case.words.iter().enumerate() {
-        match theory.words.get(serial) {
-            Some(Some(word)) => assert!(rt; word.codes() == *codes),
-            _ => assert!(rt; codes.is_empty()),
-        }
+}
+
+/// Expects a constant to have the word of these codes, or none where there are none.
+fn expect_word(rt: &impl Abort, theory: &Strings, serial: usize, codes: &[u32]) {
+    let same = match theory.words.get(serial) {
+        Some(Some(word)) => word.codes() == codes,
+        _ => codes.is_empty(),
+    };
+    assert!(rt; same);
+}
+
+/// Expects what a search left to be what is wanted.
+fn expect_left(rt: &impl Abort, theory: &Strings, engine: &Engine, tape: &MemTape, case: &Case) {
+    assert!(rt; tape.bytes() == case.lines);
+    expect_truths(rt, engine, case.truths);
+    let words = case.words;
+    for i in 0..words.len() {
+        expect_word(rt, theory, i, words[i]);
     }
 }
 
@@ -366,7 +380,9 @@ fn search_case(
     engine.clear();
     let mut budget = Budget::new(case.limit);
     let found = search(alloc, theory, engine, tape, &[], &mut budget)?;
-    expect_found(rt, theory, engine, tape, case, found, budget.spent());
+    assert!(rt; budget.spent() == case.steps);
+    expect_end(rt, found, &case.end);
+    expect_left(rt, theory, engine, tape, case);
     Ok(())
 }
 
@@ -404,10 +420,16 @@ fn expect_case(rt: &impl Abort, alloc: Global, case: &Case) -> Result<(), TapeFa
     searched
 }
 
+/// Goes through the cases.
+fn expect_cases(rt: &impl Abort, alloc: Global) -> Result<(), TapeFault> {
+    for case in &CASES {
+        expect_case(rt, alloc, case)?;
+    }
+    Ok(())
+}
+
 #[test]
 fn searches_come_to_what_is_wanted(rt: HostRuntime) -> Result<(), Fail> {
-    for case in &CASES {
-        expect_case(&rt, rt.alloc(), case)?;
-    }
+    expect_cases(&rt, rt.alloc())?;
     Ok(())
 }

@@ -18,12 +18,15 @@ const REASONS: &[u8] =
 const ANSWERS: &[u8] =
     b"(:reason-unknown resource-limit)\nsuccess\n(error \"no unknown answer\")\n";
 
+/// Texts, and how often each stands there.
+type Pieces = &'static [(&'static [u8], usize)];
+
 /// Large forms by a front, a part and how often it stands, a middle, and an end and how often it stands; how many terms
 /// there are after they are read, and how many arguments the last has: a form nested 512 deep, a million arguments that
 /// are one text, and as many that are two by turns.
-const LARGE: [([(&[u8], usize); 4], (usize, usize)); 3] = [
+static LARGE: [(Pieces, (usize, usize)); 3] = [
     (
-        [
+        &[
             (b"((re.+ ", 1),
             (b"(re.+ ", 509),
             (b"(str.to_re \"a\")", 1),
@@ -32,7 +35,7 @@ const LARGE: [([(&[u8], usize); 4], (usize, usize)); 3] = [
         (512, 1),
     ),
     (
-        [
+        &[
             (b"((re.union", 1),
             (b" (str.to_re \"a\")", 1_000_000),
             (b")", 1),
@@ -41,7 +44,7 @@ const LARGE: [([(&[u8], usize); 4], (usize, usize)); 3] = [
         (3, 1_000_000),
     ),
     (
-        [
+        &[
             (b"((re.++", 1),
             (
                 b" (re.range \"a\" \"b\") (re.* (re.range \"a\" \"b\"))",
@@ -107,16 +110,21 @@ fn taken(stack: &mut Stack) -> usize {
     count
 }
 
-/// A stack gives the words of a model once.
-fn give_words(rt: &impl Abort, alloc: Global, stack: &mut Stack) -> Result<(), AllocError> {
+/// A model of one word is settled in a stack.
+fn settle_word(rt: &impl Abort, alloc: Global, stack: &mut Stack) -> Result<(), AllocError> {
     let mut words = Vec::new(alloc);
     let put = put_letter(alloc, &mut words);
     let truths = Vec::new(alloc);
     expect(rt, stack.settle(Verdict::Sat { words, truths }), b"sat\n");
+    put
+}
+
+/// A stack gives the words of a model once.
+fn give_words(rt: &impl Abort, alloc: Global, stack: &mut Stack) -> Result<(), AllocError> {
+    settle_word(rt, alloc, stack)?;
     expect(rt, stack.settle(Verdict::Unsat), b"unsat\n");
     let first = taken(stack);
     let second = taken(stack);
-    put?;
     assert!(rt; first == 1 && second == 0);
     Ok(())
 }
@@ -147,11 +155,17 @@ fn settle(rt: &impl Abort, alloc: Global) -> Result<(), AllocError> {
 }
 
 /// Puts a form's pieces.
-fn put_pieces(bytes: &mut Vec<u8>, pieces: &[(&[u8], usize)]) -> Result<(), AllocError> {
-    for (piece, times) in pieces {
-        for _ in 0..*times {
-            bytes.extend_from_slice(piece)?;
-        }
+fn put_pieces(bytes: &mut Vec<u8>, pieces: Pieces) -> Result<(), AllocError> {
+    for piece in pieces {
+        put_piece(bytes, piece.0, piece.1)?;
+    }
+    Ok(())
+}
+
+/// Puts a piece so many times.
+fn put_piece(bytes: &mut Vec<u8>, piece: &[u8], times: usize) -> Result<(), AllocError> {
+    for _ in 0..times {
+        bytes.extend_from_slice(piece)?;
     }
     Ok(())
 }
@@ -194,7 +208,7 @@ fn count(
 }
 
 /// Reads a large form over tables of its own.
-fn read_large(alloc: Global, pieces: &[(&[u8], usize)]) -> Result<(usize, usize), AllocError> {
+fn read_large(alloc: Global, pieces: Pieces) -> Result<(usize, usize), AllocError> {
     let mut bytes = Vec::new(alloc);
     let mut feed = Feed::new(alloc);
     let mut table = Table::new(alloc);
@@ -211,9 +225,9 @@ fn read_large(alloc: Global, pieces: &[(&[u8], usize)]) -> Result<(usize, usize)
 
 /// Goes through the large forms.
 fn read_each(rt: &impl Abort, alloc: Global) -> Result<(), AllocError> {
-    for (pieces, (terms, arguments)) in &LARGE {
-        let counts = read_large(alloc, pieces)?;
-        assert!(rt; counts.0 == *terms && counts.1 == *arguments);
+    for row in &LARGE {
+        let counts = read_large(alloc, row.0)?;
+        assert!(rt; counts.0 == row.1.0 && counts.1 == row.1.1);
     }
     Ok(())
 }

@@ -3,7 +3,7 @@
 
 ghost use Rattle.std.specs.Prelude.{◌<◌, length, All, IfOk, IfSome};
 
-use sb_fragment::{Measures, Reason, Standing, fragment};
+use sb_fragment::{Measure, Measures, Reason, Standing, fragment};
 use sb_problem::Pattern;
 use sb_term::{Assertion, Serial, Sort, Symbol, Table, Term, TermId};
 use sb_word::Word;
@@ -14,20 +14,20 @@ use std::test::Fail;
 
 /// A term, whether it is a word, is without constants, is a regular expression over literals, and has short words, its
 /// size, and whether it is a RegLan term within the limits, or a String term within them.
-type Measured = (&'static [u8], [bool; 4], u32, bool);
+type Measured = (&'static [u8], (bool, bool, bool, bool), u32, bool);
 
-const MEASURES: [Measured; 7] = [
-    (b"x", [false, false, false, true], 0, false),
-    (b"xw", [false, false, false, true], 1, false),
-    (b"ab.", [false, true, false, true], 3, true),
-    (b"awxw|", [false, false, false, true], 4, false),
-    (b"W", [true, true, false, false], 65_536, false),
-    (b"Ww", [false, true, true, false], 65_537, false),
-    (b"Vw88", [false, true, true, true], 1_000_001, false),
+static MEASURES: [Measured; 7] = [
+    (b"x", (false, false, false, true), 0, false),
+    (b"xw", (false, false, false, true), 1, false),
+    (b"ab.", (false, true, false, true), 3, true),
+    (b"awxw|", (false, false, false, true), 4, false),
+    (b"W", (true, true, false, false), 65_536, false),
+    (b"Ww", (false, true, true, false), 65_537, false),
+    (b"Vw88", (false, true, true, true), 1_000_001, false),
 ];
 
 /// Terms, and why an assertion of each is outside the fragment; of no text a mark.
-const OUTSIDE: [(&[u8], Reason); 15] = [
+static OUTSIDE: [(&[u8], Reason); 15] = [
     (b"xab.e", Reason::NotBrought),
     (b"bawe", Reason::NotBrought),
     (b"iawe", Reason::NotBrought),
@@ -147,6 +147,13 @@ fn add(
     table.add(Term::Apply(symbol, arguments))
 }
 
+/// Expects measures to be those of a row, and so whether the term is within the limits.
+fn expect_row(rt: &impl Abort, measure: Measure, regular: bool, row: &Measured) {
+    assert!(rt; measure.is_word == row.1.0 && measure.is_ground == row.1.1);
+    assert!(rt; measure.is_regex == row.1.2 && measure.is_short == row.1.3);
+    assert!(rt; measure.size == row.2 && regular == row.3);
+}
+
 /// Expects a term to have these measures, and to be within the limits or not.
 fn expect_measure(
     rt: &impl Abort,
@@ -157,15 +164,11 @@ fn expect_measure(
 ) -> Result<(), AllocError>
     requires { id < length table.now }
 {
-    let (_, [is_word, is_ground, is_regex, is_short], size, regular) = *row;
     let mut measures = Measures::new(alloc);
     let measure = measures.measure(table, id);
     let found = measures.is_regular(table, Pattern::Expression(id));
     drop(measures);
-    let (measure, found) = (measure?, found?);
-    assert!(rt; measure.is_word == is_word && measure.is_ground == is_ground);
-    assert!(rt; measure.is_regex == is_regex && measure.is_short == is_short);
-    assert!(rt; measure.size == size && found == regular);
+    expect_row(rt, measure?, found?, row);
     Ok(())
 }
 
@@ -214,9 +217,9 @@ fn stand(
     table: &mut Table,
     parts: &mut Vec<TermId>,
 ) -> Result<(), AllocError> {
-    for (text, reason) in &OUTSIDE {
-        let standing = standing_in(alloc, table, parts, text)?;
-        assert!(rt; standing == Standing::Outside(*reason));
+    for row in &OUTSIDE {
+        let standing = standing_in(alloc, table, parts, row.0)?;
+        assert!(rt; standing == Standing::Outside(row.1));
     }
     Ok(())
 }

@@ -40,7 +40,7 @@ const DEAD: usize = 4;
 type Row = (&'static [u8], Call, u64, &'static [usize], &'static [u8]);
 
 /// A regex without a word, three times a character or nothing, and one of two characters.
-const ROWS: [Row; 6] = [
+static ROWS: [Row; 6] = [
     (
         b"a*bb*.&",
         Call::Explore,
@@ -120,6 +120,32 @@ fn answer(
     }
 }
 
+/// Makes a call, and expects it to answer that.
+fn ask(
+    rt: &impl Abort,
+    arena: &mut Arena,
+    graph: &mut Graph,
+    trace: &mut Trace,
+    tape: &mut MemTape,
+    budget: &mut Budget,
+    root: RegexId,
+    call: Call,
+    wanted: usize,
+) -> Result<(), TapeFault>
+    requires { IsGraph arena.old graph.old }
+    ensures { IsGraph arena.new graph.new }
+{
+    assert!(rt; root.number() < arena.len());
+    let found = answer(arena, graph, trace, tape, budget, root, call)?;
+    assert!(rt; found == wanted);
+    Ok(())
+}
+
+/// Expects these lines to be put.
+fn expect_lines(rt: &impl Abort, tape: &MemTape, lines: &[u8]) {
+    assert!(rt; tape.bytes() == lines);
+}
+
 /// Makes the calls of a row, and looks at the lines.
 fn make(
     rt: &impl Abort,
@@ -132,15 +158,22 @@ fn make(
 ) -> Result<(), TapeFault>
     requires { (regexes : List Regex) → IsGraph regexes graph.old }
 {
-    let (text, call, most, answers, lines) = *row;
-    let root = regex(alloc, arena, text)?;
-    let mut budget = Budget::new(most);
-    for wanted in answers {
-        assert!(rt; root.number() < arena.len());
-        let found = answer(arena, graph, trace, tape, &mut budget, root, call)?;
-        assert!(rt; found == *wanted);
+    let root = regex(alloc, arena, row.0)?;
+    let mut budget = Budget::new(row.2);
+    for wanted in row.3 {
+        ask(
+            rt,
+            arena,
+            graph,
+            trace,
+            tape,
+            &mut budget,
+            root,
+            row.1,
+            *wanted,
+        )?;
     }
-    assert!(rt; tape.bytes() == lines);
+    expect_lines(rt, tape, row.4);
     Ok(())
 }
 
@@ -160,10 +193,16 @@ fn go_through(rt: &impl Abort, alloc: Global, row: &Row) -> Result<(), TapeFault
     made
 }
 
+/// Goes through the rows.
+fn make_all(rt: &impl Abort, alloc: Global) -> Result<(), TapeFault> {
+    for row in &ROWS {
+        go_through(rt, alloc, row)?;
+    }
+    Ok(())
+}
+
 #[test]
 fn traces_stop_and_put_lines_once(rt: HostRuntime) -> Result<(), Fail> {
-    for row in &ROWS {
-        go_through(&rt, rt.alloc(), row)?;
-    }
+    make_all(&rt, rt.alloc())?;
     Ok(())
 }
