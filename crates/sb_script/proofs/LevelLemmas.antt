@@ -1,5 +1,5 @@
 -- What holds of all names, and of all terms of assertions, at each level of a state: what every entry keeps so.
-use Rattle.std.proofs.Common.{◌≡◌, ℕ, zero, suc, Bool, true, ◌&&◌, List, [], ◌∷◌, ◌++◌, length, drop, replicate, Ok, refl, ap, ◌∙◌}
+use Rattle.std.proofs.Common.{◌≡◌, ℕ, zero, suc, Bool, true, false, ◌&&◌, if◌then◌else◌, List, [], ◌∷◌, ◌++◌, length, drop, replicate, Ok, refl, ap, ◌∙◌}
 use Rattle.std.specs.List.{list_all}
 use Rattle.std.proofs.lemmas.Bool.{and_parts, and_from}
 use Rattle.sb_reader.specs.Forms.{Form}
@@ -10,7 +10,7 @@ use Rattle.sb_script.specs.Names.{Name}
 use Rattle.sb_script.specs.Brought.{definitions, is_brought, is_brought_sort}
 use Rattle.sb_script.specs.Scopes.{Naming, a_constant, a_definition, a_marked_name}
 use Rattle.sb_script.specs.Commands.{Parameter}
-use Rattle.sb_script.specs.State.{State, Level, Assertion, asserted, a_mark, empty_level, over_levels, names_of, live_terms, in_level, innermost, said, with_name, with_assertion, terms_in}
+use Rattle.sb_script.specs.State.{State, Level, Assertion, asserted, a_mark, empty_level, over_levels, names_of, live_terms, in_level, in_level_of_names, innermost, said, with_name, with_assertion, terms_in}
 use Rattle.sb_script.specs.Steps.{Step, answers, leaves, checks, exits}
 use Rattle.sb_script.specs.Reading.{read}
 use Rattle.sb_script.specs.Replies.{bound_from, step_of}
@@ -85,25 +85,39 @@ module _ (name_is : Naming → Bool) (term_is : Term → Bool) where
           ∙ all_both term_is (terms_in (over_levels (λ l. l.assertions) first ls)) (terms_in l.assertions)
           (over first ls one parts.1) (level_parts l parts.0).1
 
+  in_one : (change : Level → Level) → ((l : Level) → level_is l ≡ true → level_is (change l) ≡ true)
+      → (first : Level) (above : List Level) → level_is first ≡ true → list_all level_is above ≡ true
+      → (level_is (in_level change first above).0 && list_all level_is (in_level change first above).1) ≡ true
+  in_one change keeps first [] one all = and_from (level_is (change first)) true (keeps first one) refl
+  in_one change keeps first (l ∷ ls) one all =
+      let parts = and_parts (level_is l) (list_all level_is ls) all in
+      and_from (level_is first) (list_all level_is (change l ∷ ls)) one
+      (and_from (level_is (change l)) (list_all level_is ls) (keeps l parts.0) parts.1)
+
   -- the innermost level changed
   changed : (change : Level → Level) → ((l : Level) → level_is l ≡ true → level_is (change l) ≡ true) → (s : State)
       → state_is s ≡ true → state_is (innermost change s) ≡ true
-  changed change keeps s h = over s.first s.above (state_parts s h).0 (state_parts s h).1
-    where
-      over : (first : Level) (above : List Level) → level_is first ≡ true → list_all level_is above ≡ true
-          → (level_is (in_level change first above).0 && list_all level_is (in_level change first above).1) ≡ true
-      over first [] one all = and_from (level_is (change first)) true (keeps first one) refl
-      over first (l ∷ ls) one all =
-          let parts = and_parts (level_is l) (list_all level_is ls) all in
-          and_from (level_is first) (list_all level_is (change l ∷ ls)) one
-          (and_from (level_is (change l)) (list_all level_is ls) (keeps l parts.0) parts.1)
+  changed change keeps s h = in_one change keeps s.first s.above (state_parts s h).0 (state_parts s h).1
+
+  -- the level changed that new names enter
+  changed_of_names : (global : Bool) (change : Level → Level)
+      → ((l : Level) → level_is l ≡ true → level_is (change l) ≡ true) → (first : Level) (above : List Level)
+      → level_is first ≡ true → list_all level_is above ≡ true
+      → (let levels = in_level_of_names global change first above in
+      level_is levels.0 && list_all level_is levels.1) ≡ true
+  changed_of_names true change keeps first above one all =
+      and_from (level_is (change first)) (list_all level_is above) (keeps first one) all
+  changed_of_names false change keeps first above one all = in_one change keeps first above one all
 
   named : (n : Naming) (s : State) → state_is s ≡ true → name_is n ≡ true → state_is (with_name n.0 n.1 s) ≡ true
-  named n s h here = changed (λ l. record l { names = l.names ++ n ∷ [] })
+  named n s h here =
+      let both = state_parts s h in
+      changed_of_names s.options.global_declarations (λ l. record l { names = l.names ++ n ∷ [] })
       (λ l one.
       let parts = level_parts l one in
       and_from (list_all name_is (l.names ++ n ∷ [])) (list_all term_is (terms_in l.assertions))
-      (all_both name_is l.names (n ∷ []) parts.0 (and_from (name_is n) true here refl)) parts.1) (said s) h
+      (all_both name_is l.names (n ∷ []) parts.0 (and_from (name_is n) true here refl)) parts.1) s.first s.above both.0
+      both.1
 
   with_one : (a : Assertion) (s : State) → state_is s ≡ true → list_all term_is (terms_in (a ∷ [])) ≡ true
       → state_is (with_assertion a s) ≡ true
@@ -113,6 +127,14 @@ module _ (name_is : Naming → Bool) (term_is : Term → Bool) where
       and_from (list_all name_is l.names) (list_all term_is (terms_in (l.assertions ++ a ∷ []))) parts.0
       (ap (list_all term_is) (terms_of_both l.assertions (a ∷ []))
       ∙ all_both term_is (terms_in l.assertions) (terms_in (a ∷ [])) parts.1 here)) (said s) h
+
+  -- the first level without its assertions, and without its names too unless these stay
+  emptied : (global : Bool) (l : Level) → level_is l ≡ true
+      → (level_is (record { names = if global then l.names else []; assertions = [] }) && true) ≡ true
+  emptied true l one =
+      and_from (list_all name_is l.names && true) true
+      (and_from (list_all name_is l.names) true (level_parts l one).0 refl) refl
+  emptied false l one = refl
 
   pub levels_keep : LevelsKeep name_is term_is → (entry : Entry) (s : State) → state_is s ≡ true
       → behind_is (step_of entry s) ≡ true
@@ -138,7 +160,7 @@ module _ (name_is : Naming → Bool) (term_is : Term → Bool) where
         let parts = state_parts s h in
         and_from (level_is s.first) (list_all level_is (drop n s.above)) parts.0
         (all_dropped level_is n s.above parts.1);
-    clears = λ bytes. refl;
+    clears = λ bytes. emptied s.options.global_declarations s.first (state_parts s h).0;
     resets = λ bytes. refl;
     asks = λ forms. refl;
     ends = λ bytes. refl;

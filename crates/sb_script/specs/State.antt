@@ -1,6 +1,6 @@
 -- The state between two commands (SMT-LIB 2.6, section 4.1): options, constants, levels with names and assertions, and
 -- the mode.
-use Rattle.std.specs.Prelude.{◌≡◌, ℕ, Bool, true, false, ◌&&◌, ◌==◌, List, [], ◌∷◌, ◌++◌, map, length, drop, replicate}
+use Rattle.std.specs.Prelude.{◌≡◌, ℕ, Bool, true, false, ◌&&◌, ◌==◌, if◌then◌else◌, List, [], ◌∷◌, ◌++◌, map, length, drop, replicate}
 use Rattle.sb_script.specs.Names.{Name}
 use Rattle.sb_meaning.specs.Terms.{Sort, Term, boolean, constant, apply, no_terms, with_term}
 use Rattle.sb_meaning.specs.Terms as symbol
@@ -108,9 +108,17 @@ innermost change s = let levels = in_level change s.first s.above in record s { 
 abbrev pub said : State → State
 said s = record s { begun = true; mode = plain }
 
+-- the level changed that new names enter: the first one where declarations are global, else the innermost
+abbrev pub in_level_of_names : Bool → (Level → Level) → Level → List Level → Level × List Level
+in_level_of_names true change first levels = (change first, levels)
+in_level_of_names false change first levels = in_level change first levels
+
 -- a new name, of this
 abbrev pub with_name : Name → Named → State → State
-with_name name named s = innermost (λ l. record l { names = l.names ++ (name, named) ∷ [] }) (said s)
+with_name name named s =
+    let levels = in_level_of_names s.options.global_declarations
+    (λ l. record l { names = l.names ++ (name, named) ∷ [] }) s.first s.above in
+    record (said s) { first = levels.0; above = levels.1 }
 
 -- a new constant, with the next serial; a definition; a name that is marked; a new assertion
 abbrev pub declared : Name → Sort → State → State
@@ -132,9 +140,13 @@ pushed n s = record s { mode = plain; above = replicate n empty_level ++ s.above
 abbrev pub popped : ℕ → State → State
 popped n s = record s { mode = plain; above = drop n s.above }
 
--- all levels but the first go, and what the first one holds
+-- all levels but the first go, and what the first one holds; where declarations are global its names stay
 abbrev pub without_assertions : State → State
-without_assertions s = record s { mode = plain; first = empty_level; above = [] }
+without_assertions s = record s {
+  mode = plain;
+  first = record { names = if s.options.global_declarations then s.first.names else []; assertions = [] };
+  above = [];
+}
 
 -- the terms of assertions, without the marks
 abbrev pub terms_in : List Assertion → List Term
