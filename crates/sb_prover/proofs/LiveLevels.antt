@@ -1,5 +1,5 @@
 -- The live assertions with their levels.
-use Rattle.std.proofs.Common.{◌≡◌, ℕ, zero, suc, ◌+◌, true, ◌==◌, List, [], ◌∷◌, ◌++◌, map, length, take, drop, replicate, Option, Some, None, option_map, refl, sym, ap, ap₂, ◌∙◌, arith}
+use Rattle.std.proofs.Common.{◌≡◌, ℕ, zero, suc, ◌+◌, Bool, true, false, ◌==◌, List, [], ◌∷◌, ◌++◌, map, length, take, drop, replicate, Option, Some, None, option_map, refl, sym, ap, ap₂, ◌∙◌, arith}
 use Rattle.std.specs.List.{list_all}
 use Rattle.std.proofs.Math.Seq.{take-append_seam}
 use Rattle.std.proofs.lemmas.Bool.{and_parts}
@@ -10,7 +10,7 @@ use Rattle.sb_meaning.specs.Terms.{Term}
 use Rattle.sb_term.specs.Numbered.{term_at}
 use Rattle.sb_term.specs.declared.assertion.Assertion as code
 use Rattle.sb_script.specs.Scopes.{Naming}
-use Rattle.sb_script.specs.State.{Assertion, Level, empty_level, over_levels, in_level, live}
+use Rattle.sb_script.specs.State.{Assertion, Level, empty_level, over_levels, in_level, in_level_of_names, live}
 use Rattle.sb_rulebook.specs.Accepted.{term_of, at_level, live_by_level, asked_in}
 use Rattle.sb_sorts.specs.Scopes.{names_in}
 use Rattle.sb_stack.specs.declared.level.Level as levels
@@ -46,12 +46,19 @@ as-many first above =
     sym (length-map (over_levels (λ l. l.assertions) first above) term_of)
     ∙ ap length (sym (terms-by-level first above)) ∙ length-map (live_by_level first above) (λ (row : Row). row.0)
 
--- the innermost level with one more name, or one more assertion
-pub one-name : (n : Naming) (first : Level) (above : List Level) → (let levels = in_level (λ l. record l {
-  names = l.names ++ n ∷ [];
-}) first above in live_by_level levels.0 levels.1) ≡ live_by_level first above
-one-name n first [] = refl
-one-name n first (l ∷ ls) = refl
+-- the level that new names enter with one more name, or the innermost one with one more assertion
+first-name : (n : Naming) (first : Level) (above : List Level)
+    → live_by_level (record first { names = first.names ++ n ∷ [] }) above ≡ live_by_level first above
+first-name n first [] = refl
+first-name n first (l ∷ ls) =
+    ap (λ rows. rows ++ at_level (length ls + 1) l.assertions) (first-name n first ls)
+
+pub one-name : (global : Bool) (n : Naming) (first : Level) (above : List Level)
+    → (let levels = in_level_of_names global (λ l. record l { names = l.names ++ n ∷ [] }) first above in
+    live_by_level levels.0 levels.1) ≡ live_by_level first above
+one-name true n first above = first-name n first above
+one-name false n first [] = refl
+one-name false n first (l ∷ ls) = refl
 
 pub one-assertion : (a : Assertion) (first : Level) (above : List Level) → (more : List Row)
     × ((let levels = in_level (λ l. record l { assertions = l.assertions ++ a ∷ [] }) first above in

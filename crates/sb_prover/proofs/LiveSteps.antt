@@ -36,7 +36,10 @@ stays : (s : State) → Stay s s
 stays s = ([], sym (append-nil (asked_in s).live))
 
 named : (name : Name) (kind : Named) (s : State) → Stay s (with_name name kind s)
-named name kind s = ([], one-name (name, kind) s.first s.above ∙ sym (append-nil (asked_in s).live))
+named name kind s = (
+  [],
+  one-name s.options.global_declarations (name, kind) s.first s.above ∙ sym (append-nil (asked_in s).live),
+)
 
 entry-moves : (entry : Entry) (s : State) → Moves s (step_of entry s)
 entry-moves entry s = entry_keeps s.mode s (λ ends other x. Moves s x) (record {

@@ -15,7 +15,7 @@ use Rattle.sb_script.specs.Symbols.{is_theory_name}
 use Rattle.sb_script.specs.Brought.{is_brought_sort}
 use Rattle.sb_script.specs.Errors.{Error, first_of}
 use Rattle.sb_script.specs.Errors as error
-use Rattle.sb_script.specs.State.{Assertion, asserted, a_mark, Assumption, Mode, Options, Level, State, empty_level, start, over_levels, names_of, in_level, with_name, declared, with_assertion, pushed}
+use Rattle.sb_script.specs.State.{Assertion, asserted, a_mark, Assumption, Mode, Options, Level, State, empty_level, start, over_levels, names_of, in_level, in_level_of_names, with_name, declared, with_assertion, pushed}
 use Rattle.sb_script.specs.Commands.{Parameter}
 use Rattle.sb_script.specs.Steps.{Step, answers, leaves, checks, exits, Leaving, above, all}
 use Rattle.sb_script.specs.Replies.{bound_from, Assumed, an_assumption, an_error, assumed_name, assumed_bare, is_not, assumed_form, assumptions_in, step_of}
@@ -181,6 +181,25 @@ live_longer change extra adds first (level ∷ levels) =
           ∙ sym (append_assoc below (at_level n level.assertions) (at_level n extra));
     }
 
+-- a change of the first level that leaves its assertions
+first_live : (change : Level → Level) → ((level : Level) → (change level).assertions ≡ level.assertions)
+    → (first : Level) (levels : List Level) → live_by_level (change first) levels ≡ live_by_level first levels
+first_live change same first [] = ap (at_level 0) (same first)
+first_live change same first (level ∷ levels) =
+    ap (λ rows. rows ++ at_level (length levels + 1) level.assertions) (first_live change same first levels)
+
+-- a change of the level that new names enter
+live_named : (global : Bool) (change : Level → Level)
+    → ((level : Level) → (change level).assertions ≡ level.assertions) → (first : Level) (levels : List Level)
+    → IsLonger (live_by_level first levels)
+    (live_by_level (in_level_of_names global change first levels).0 (in_level_of_names global change first levels).1)
+live_named true change same first levels = record {
+  more = [];
+  whole = first_live change same first levels ∙ sym (append-nil (live_by_level first levels));
+}
+live_named false change same first levels =
+    live_longer change [] (λ l. same l ∙ sym (append-nil l.assertions)) first levels
+
 fit_longer : (xs ys : List Sort) (first : Level) (levels : List Level) → AllFit xs first levels
     → AllFit (xs ++ ys) first levels
 fit_longer xs ys first [] h = fits_longer xs ys first h
@@ -193,6 +212,28 @@ fit_changed : (sorts : List Sort) (change : Level → Level)
 fit_changed sorts change f first [] h = f first h
 fit_changed sorts change f first (level ∷ levels) h = (h.0, f level h.1)
 
+first_fits : (sorts : List Sort) (change : Level → Level) → (first : Level) (levels : List Level)
+    → (Fits sorts first → Fits sorts (change first)) → AllFit sorts first levels → AllFit sorts (change first) levels
+first_fits sorts change first [] f h = f h
+first_fits sorts change first (level ∷ levels) f h = (first_fits sorts change first levels f h.0, h.1)
+
+fit_named : (global : Bool) (sorts : List Sort) (change : Level → Level)
+    → ((level : Level) → Fits sorts level → Fits sorts (change level)) → (first : Level) (levels : List Level)
+    → AllFit sorts first levels
+    → AllFit sorts (in_level_of_names global change first levels).0 (in_level_of_names global change first levels).1
+fit_named true sorts change f first levels h = first_fits sorts change first levels (f first) h
+fit_named false sorts change f first levels h = fit_changed sorts change f first levels h
+
+-- the first level without its assertions, and without its names too unless these stay
+first_of_all : (sorts : List Sort) (first : Level) (levels : List Level) → AllFit sorts first levels → Fits sorts first
+first_of_all sorts first [] h = h
+first_of_all sorts first (level ∷ levels) h = first_of_all sorts first levels h.0
+
+cleared_fits : (global : Bool) (sorts : List Sort) (first : Level) → Fits sorts first
+    → Fits sorts (record { names = if global then first.names else []; assertions = [] })
+cleared_fits true sorts first h = record { names = h.names; assertions = refl }
+cleared_fits false sorts first h = record { names = refl; assertions = refl }
+
 -- a name is added, over sorts of which some are new
 goes_named : (s : State) (new : List Sort) (name : Name) (kind : Named) → kind_fits (s.sorts ++ new) 0 kind ≡ true
     → list_all has_default new ≡ true → IsFit s
@@ -202,9 +243,9 @@ goes_named s new name kind here valued fit =
     let sorts = s.sorts ++ new in
     record {
       sorts = λ v has serial sort there. has serial sort (slice_get-more s.sorts new serial sort there);
-      live = live_longer change [] (λ l. sym (append-nil l.assertions)) s.first s.above;
+      live = live_named s.options.global_declarations change (λ l. refl) s.first s.above;
       fit = (
-        fit_changed sorts change
+        fit_named s.options.global_declarations sorts change
             (λ l h. record {
               names = all_push (naming_fits sorts 0) l.names (name, kind) h.names here;
               assertions = h.assertions;
@@ -221,9 +262,9 @@ goes_renamed s name kind here fit =
     let change : Level → Level = λ l. record l { names = l.names ++ (name, kind) ∷ [] } in
     record {
       sorts = λ v has. has;
-      live = live_longer change [] (λ l. sym (append-nil l.assertions)) s.first s.above;
+      live = live_named s.options.global_declarations change (λ l. refl) s.first s.above;
       fit = (
-        fit_changed s.sorts change
+        fit_named s.options.global_declarations s.sorts change
             (λ l h. record {
               names = all_push (naming_fits s.sorts 0) l.names (name, kind) h.names here;
               assertions = h.assertions;
@@ -434,7 +475,13 @@ module _ (s : State) (fit : IsFit s) where
       record { sorts = λ v has. has; live = popped_live n s.first s.above },
       (popped_fit s.sorts n s.first s.above fit.0, fit.1),
     );
-    clears = λ bytes. (λ v has. has, (empty_fits s.sorts, fit.1));
+    clears = λ bytes. (
+      λ v has. has,
+      (
+        cleared_fits s.options.global_declarations s.sorts s.first (first_of_all s.sorts s.first s.above fit.0),
+        fit.1,
+      ),
+    );
     resets = λ bytes. (λ v has. has, (empty_fits s.sorts, fit.1));
     asks = assumptions_fit;
     ends = λ bytes. tt;
