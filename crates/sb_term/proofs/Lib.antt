@@ -2,3 +2,4 @@ pub mod CallerLemmas
 pub mod SymbolEq
 pub mod NodeEq
 pub mod TableFacts
+pub mod Marks

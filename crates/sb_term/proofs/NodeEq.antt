@@ -2,13 +2,11 @@
 use Rattle.std.proofs.Common.{◌≡◌, ℕ, suc, Bool, true, false, ◌&&◌, nat_eq, List, [], ◌∷◌, length, refl, sym, ap, ap₂, ◌∙◌, arith}
 use Rattle.std.specs.Cmp.Lexicographic.{pointwise, same_text}
 use Rattle.std.proofs.lemmas.Bool.{and_parts, false≢true}
-use Rattle.sb_meaning.specs.Terms.{Sort, Symbol, Term, Terms, constant, word, numeral, apply, parameter, no_terms, with_term, terms_in, terms_of}
-use Rattle.sb_term.specs.declared.sort.Sort as of_code
-use Rattle.sb_term.specs.declared.sort.Symbol as symbol_of_code
+use Rattle.sb_meaning.specs.Terms.{Sort, Symbol, Term, Terms, constant, word, numeral, apply, parameter, terms_in, terms_of}
 use Rattle.sb_term.specs.declared.term.Term as code
 use Rattle.sb_term.specs.declared.term.Term.TheVariants as node
 use Rattle.sb_term.specs.contracts.term.TermPartialEq.TheImpl as derived
-use Rattle.sb_term.specs.Numbered.{term_at, terms_at, AllNumbers, AreDistinct}
+use Rattle.sb_term.specs.Numbered.{terms_at, AllNumbers, AreDistinct}
 use Rattle.sb_term.specs.Nodes.{node_term, ArgumentsBelow}
 use Rattle.sb_term.specs.Symbols.{sort_in, symbol_in}
 use Rattle.sb_term.proofs.SymbolEq.{same_sort, same_symbol, nat_same, same_nat, one_sort, one_symbol, itself_sort, itself_symbol, sort_same, symbol_same}

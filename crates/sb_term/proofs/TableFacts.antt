@@ -1,7 +1,6 @@
 -- The terms of a table, with one more term of the code.
-use Rattle.std.proofs.Common.{◌≡◌, ℕ, ◌<◌, Bool, true, false, ◌⊎◌, inl, inr, nat_lt, not, cond, Some, List, [], ◌∷◌, ◌++◌, length, get_or, slice_get, refl, sym, ap, ap₂, ◌∙◌, arith, length-append}
+use Rattle.std.proofs.Common.{◌≡◌, ℕ, ◌<◌, Bool, true, false, ◌⊎◌, inl, inr, nat_lt, cond, Some, List, [], ◌∷◌, ◌++◌, length, get_or, slice_get, refl, sym, ap, ◌∙◌, arith, length-append}
 use Rattle.std.specs.List.{list_any, list_all}
-use Rattle.std.specs.Prelude.{Result, Ok, Err, IfOk}
 use Rattle.std.proofs.lemmas.Bool.{false≢true, and_parts, and_from}
 use Rattle.std.proofs.lemmas.Bool.Decides.{nat_tests}
 use Rattle.std.proofs.lemmas.List.{get_or_append_left, get_or_push, get_or_default, nil_from_length}
@@ -161,17 +160,15 @@ table_added old ds after d t is p w e = rw e (step (list_any (same d) ds) refl)
     step false h = rw (onto-push [] ds d) (table_more (terms_of_table ds) ds d t (rw is p) w h)
 
 -- the term of the code that is found, or added, stands for the term
-pub named : (old : List Term) (after : List code.Term) (d : code.Term) (n : ℕ)
-    → IsTable (terms_of_table after) after → Extends old (terms_of_table after) → ArgumentsBelow (length old) d
+pub named : (old : List Term) (ds after : List code.Term) (d : code.Term) (n : ℕ) → IsTable (terms_of_table ds) ds
+    → terms_of_table ds ≡ old → ArgumentsBelow (length old) d → IsWritten d → after ≡ inserted ds d
     → ((k : code.Term) × (slice_get after n ≡ Some k) × (same d k ≡ true))
     → Names (terms_of_table after) n (node_term old d)
-named old after d n t e p stored =
-    t.nodes n stored.0 stored.1
-    ∙ ap Some (sym (same_gives (terms_of_table after) d stored.0 stored.2) ∙ node_kept old (terms_of_table after) d e p)
-
-pub if_ok_moved : {A E : Type 0} (r : Result A E) (P Q : A → Type 0) → ((x : A) → P x → Q x) → IfOk r P → IfOk r Q
-if_ok_moved (Ok x) P Q f h = f x h
-if_ok_moved (Err e) P Q f h = tt
+named old ds after d n t is p w e stored =
+    let all : IsTable (terms_of_table after) after = table_added old ds after d t is p w e in
+    all.nodes n stored.0 stored.1
+    ∙ ap Some (sym (same_gives (terms_of_table after) d stored.0 stored.2)
+    ∙ node_kept old (terms_of_table after) d (extended old ds after d is e) p)
 
 all_push : (test : Term → Bool) (ts : List Term) (t : Term) → list_all test ts ≡ true → test t ≡ true
     → list_all test (ts ++ t ∷ []) ≡ true
@@ -195,3 +192,12 @@ all_added old ds after d is e test h k =
     step : (b : Bool) → list_all test (terms_of_table (cond b ds (ds ++ d ∷ []))) ≡ true
     step true = all
     step false = rw (onto-push [] ds d) (all_push test (terms_of_table ds) (node_term (terms_of_table ds) d) all new)
+
+-- where nothing is added
+pub extends_kept : (old : List Term) (ds after : List code.Term) → terms_of_table ds ≡ old → after ≡ ds
+    → Extends old (terms_of_table after)
+extends_kept old ds after is e = rw (e, is) (extends_same old)
+
+pub all_kept : (old : List Term) (ds after : List code.Term) → terms_of_table ds ≡ old → after ≡ ds
+    → (test : Term → Bool) → list_all test old ≡ true → list_all test (terms_of_table after) ≡ true
+all_kept old ds after is e test h = rw (e, is) h

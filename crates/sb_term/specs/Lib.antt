@@ -1,5 +1,6 @@
 pub mod Symbols
 pub mod Numbered
 pub mod Nodes
+pub mod Parameters
 pub mod Serials
 pub mod Interning

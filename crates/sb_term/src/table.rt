@@ -1,11 +1,13 @@
 //! The table of terms.
 
-ghost use Rattle.std.specs.Prelude.{◌≡◌, ℕ, ◌<◌, Bool, true, length, [], IfOk};
+ghost use Rattle.std.specs.Prelude.{◌≡◌, ◌<◌, Bool, true, length, [], IfOk};
 ghost use Rattle.std.specs.List.{list_all};
 ghost use Rattle.sb_meaning.specs.Terms as terms;
+ghost use Rattle.sb_meaning.specs.Terms.{terms_of};
 ghost use Rattle.sb_meaning.specs.Sorts.{result_of, sort_of};
 ghost use Rattle.sb_term.specs.Nodes.{node_term, ArgumentsBelow, IsWritten};
-ghost use Rattle.sb_term.specs.Numbered.{term_at, Names, Extends, AreDistinct};
+ghost use Rattle.sb_term.specs.Numbered.{term_at, terms_at, Names, AllNumbers, Extends, AreDistinct};
+ghost use Rattle.sb_term.specs.Parameters.{has_parameters, have_parameters};
 ghost use Rattle.sb_term.specs.Symbols.{sort_in, symbol_in};
 
 use crate::sort::{Sort, Symbol};
@@ -18,6 +20,8 @@ use std::marker::Model;
 #[derive(Drop)]
 pub struct Table {
     nodes: IndexSet<Term>,
+    /// By number whether a parameter stands in the term.
+    parametric: Vec<bool>,
 }
 
 impl Model for Table {
@@ -31,11 +35,12 @@ impl Model for Table {
     ghost coded = { coded_list coded_term };
 
     ghost use Rattle.sb_term.specs.Nodes.{terms_of_table};
-    ghost use Rattle.sb_term.specs.Interning.{IsTable};
+    ghost use Rattle.sb_term.specs.Interning.{IsTable, AreMarked};
 
     ghost view = { λ table. terms_of_table table.nodes.keys };
 
-    ghost invariant = { λ table. IsTable (terms_of_table table.nodes.keys) table.nodes.keys };
+    ghost invariant = { λ table. IsTable (terms_of_table table.nodes.keys) table.nodes.keys
+        × AreMarked (terms_of_table table.nodes.keys) table.parametric.items };
 }
 
 /// The sort of what a symbol makes.
@@ -88,6 +93,7 @@ impl Table {
     {
         Table {
             nodes: IndexSet::new(alloc),
+            parametric: Vec::new(alloc),
         }
     }
 
@@ -121,6 +127,39 @@ impl Table {
         }
     }
 
+    /// Whether a parameter stands in the term of a number. Takes constant time and no memory.
+    pub fn is_open(&self, id: TermId) -> bool
+        requires { id < length self.now }
+        ensures { result ≡ has_parameters (term_at self.now id) }
+    {
+        self.parametric[id.number()]
+    }
+
+    /// Whether a parameter stands in one of the terms.
+    fn is_one_open(&self, ids: &[TermId]) -> bool
+        requires { AllNumbers self.now ids.now }
+        ensures { result ≡ have_parameters (terms_of (terms_at self.now ids.now)) }
+    {
+        for id in ids {
+            if self.is_open(*id) {
+                return true;
+            }
+        }
+        false
+    }
+
+    /// Whether a parameter stands in a term whose arguments are terms of the table.
+    fn has_parameters(&self, term: &Term) -> bool
+        requires { ArgumentsBelow (length self.now) term.now }
+        ensures { result ≡ has_parameters (node_term self.now term.now) }
+    {
+        match term {
+            Term::Parameter(..) => true,
+            Term::Apply(_, arguments) => self.is_one_open(arguments.as_slice()),
+            Term::Constant(..) | Term::Word(_) | Term::Numeral(_) => false,
+        }
+    }
+
     /// Numbers are equal exactly where their terms are.
     pub fn terms_each_once(&self)
         ensures { AreDistinct self.now }
@@ -138,7 +177,13 @@ impl Table {
         ensures only { (test : terms.Term → Bool) → list_all test self.old ≡ true
             → test (node_term self.old term) ≡ true → list_all test self.new ≡ true }
     {
-        let (number, _) = self.nodes.insert_full(term)?;
+        let mark = self.has_parameters(&term);
+        self.parametric.reserve(1)?;
+        let (number, is_new) = self.nodes.insert_full(term)?;
+        if !is_new {
+            return TermId::new(number);
+        }
+        self.parametric.push(mark)?;
         TermId::new(number)
     }
 }
