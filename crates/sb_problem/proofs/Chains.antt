@@ -1,8 +1,7 @@
 -- Concatenations from the last of their members to the first.
-use Rattle.std.proofs.Common.{◌≡◌, ℕ, zero, suc, ◌+◌, ◌<◌, true, ◌&&◌, List, [], ◌∷◌, ◌++◌, length, map, refl, sym, ap, ap₂, ◌∙◌, arith, Option, Some, None, vec_len}
+use Rattle.std.proofs.Common.{◌≡◌, ℕ, ◌+◌, ◌<◌, true, ◌&&◌, List, [], ◌∷◌, ◌++◌, length, get_or, map, refl, sym, ap, ap₂, subst, ◌∙◌, arith, Option, Some, None, vec_len}
 use Rattle.std.proofs.lemmas.Bool.{and_parts, and_from, false≢true}
 use Rattle.std.proofs.lemmas.List.{map-append}
-use Rattle.std.proofs.lemmas.List.Elements.{All-append}
 use Rattle.std.proofs.lemmas.List.Folds.{list_all-append}
 use Rattle.std.specs.List.{All, list_all}
 use Rattle.std.specs.declared.vec.Vec.{Vec}
@@ -11,29 +10,19 @@ use Rattle.sb_lang.specs.Regex.{Regex, eps}
 use Rattle.sb_lang.specs.Constructors.{mkcat}
 use Rattle.sb_lang.specs.FoldLaws.{ConcatenationGroups}
 use Rattle.sb_lang.proofs.CallerLemmas.{mkcat-eps}
+use Rattle.sb_facts.proofs.CallerLemmas.{all_append}
 use Rattle.sb_regex.specs.Numbered.{regex_at, Names}
 use Rattle.sb_regex.proofs.CallerLemmas.{names_at, names_below, names_from}
-use Rattle.sb_meaning.specs.Terms.{Term, Terms, constant, word, numeral, apply, parameter, no_terms, with_term, terms_of, re_concat}
+use Rattle.sb_meaning.specs.Terms.{Term, Terms, constant, word, numeral, apply, parameter, terms_of, re_concat}
 use Rattle.sb_script.specs.Brought.{is_regex}
 use Rattle.sb_term.specs.Numbered.{term_at, terms_at}
 use Rattle.sb_problem.specs.declared.normals.Known.{Known}
 use Rattle.sb_problem.specs.declared.normals.Known.TheVariants as known
-use Rattle.sb_problem.specs.Known.{IsKnown, IsConcatenation}
+use Rattle.sb_problem.specs.Known.{IsKnown, IsConcatenation, AreNormals, is_concatenation, is_known}
 use Rattle.sb_problem.specs.Shapes.{joined_right, or_none, regex_of, arguments_in}
+use Rattle.sb_problem.specs.Waiting.{size, sizes}
+use Rattle.sb_problem.proofs.Keeping.{all_last}
 use Rattle.sb_problem.proofs.Meanings.{are_all, regexes_all}
-
--- how many terms there are in a term
-abbrev mutual
-  pub size : Term → ℕ
-  size (apply s ts) = suc (sizes ts)
-  size (constant serial sort) = 1
-  size (word w) = 1
-  size (numeral n) = 1
-  size (parameter place sort) = 1
-
-  pub sizes : Terms → ℕ
-  sizes no_terms = 0
-  sizes (with_term t ts) = size t + sizes ts
 
 -- how many there are in all of them
 abbrev pub total : List Term → ℕ
@@ -48,7 +37,7 @@ total-append : (xs ys : List Term) → total (xs ++ ys) ≡ total xs + total ys
 total-append [] ys = omega arith
 total-append (t ∷ xs) ys = omega (arith, total-append xs ys)
 
-some_size : (t : Term) → 0 < size t
+pub some_size : (t : Term) → 0 < size t
 some_size (apply s ts) = omega arith
 some_size (constant serial sort) = omega arith
 some_size (word w) = omega arith
@@ -84,16 +73,16 @@ chain_joined groups r (s ∷ rs) w =
 -- the terms that are left, with the regex behind them, make the regex of the whole
 pub record Joining (ts : List Term) (rs : List Regex) (ks : List Known) (root : ℕ) (left : List ℕ) (whole : ℕ) : Type 0
   where
-    pub inside : All (λ i. i < length ks) left
+    pub known : list_all (is_known ks) left ≡ true
     pub kinds : list_all is_regex (terms_at ts left) ≡ true
     pub below : whole < length rs
     pub names : chain (map regex_of (terms_at ts left)) (regex_at rs whole) ≡ regex_of (term_at ts root)
 
 pub joining_start : (ts : List Term) (rs : List Regex) (ks : List Known) (root : ℕ) (left : List ℕ) (whole : ℕ)
-    → root < length ks → is_regex (term_at ts root) ≡ true → Names rs whole eps → left ≡ root ∷ [] →
+    → is_known ks root ≡ true → is_regex (term_at ts root) ≡ true → Names rs whole eps → left ≡ root ∷ [] →
     Joining ts rs ks root left whole
-joining_start ts rs ks root left whole l kind named is = rw is (record {
-  inside = λ k d h. let z : k ≡ 0 = omega arith in rw z l;
+joining_start ts rs ks root left whole m kind named is = rw is (record {
+  known = and_from (is_known ks root) true m refl;
   kinds = and_from (is_regex (term_at ts root)) true kind refl;
   below = names_below rs whole eps named;
   names = ap (mkcat (regex_of (term_at ts root))) (names_at rs whole eps named)
@@ -118,19 +107,9 @@ split_names ts left rest i w is =
     ∙ (ap (λ xs. chain xs w) (map-append regex_of (terms_at ts rest) (term_at ts i ∷ []))
     ∙ chain-append (map regex_of (terms_at ts rest)) (regex_of (term_at ts i) ∷ []) w))
 
-front_inside : (n : ℕ) (rest : List ℕ) (i : ℕ) → All (λ k. k < n) (rest ++ i ∷ []) → All (λ k. k < n) rest
-front_inside n [] i h k d l = absurd (omega (arith, l))
-front_inside n (x ∷ rest) i h zero d l = h 0 d (omega arith)
-front_inside n (x ∷ rest) i h (suc k) d l =
-    front_inside n rest i (λ j e m. h (suc j) e (omega (arith, m))) k d (omega (arith, l))
-
-last_inside : (n : ℕ) (rest : List ℕ) (i : ℕ) → All (λ k. k < n) (rest ++ i ∷ []) → i < n
-last_inside n [] i h = h 0 0 (omega arith)
-last_inside n (x ∷ rest) i h = last_inside n rest i (λ j e m. h (suc j) e (omega (arith, m)))
-
-pub popped_inside : (ts : List Term) (rs : List Regex) (ks : List Known) (root : ℕ) (left rest : List ℕ) (whole i : ℕ)
-    → Joining ts rs ks root left whole → left ≡ rest ++ i ∷ [] → i < length ks
-popped_inside ts rs ks root left rest whole i j is = last_inside (length ks) rest i (rw is at j.inside)
+pub popped_known : (ts : List Term) (rs : List Regex) (ks : List Known) (root : ℕ) (left rest : List ℕ) (whole i : ℕ)
+    → Joining ts rs ks root left whole → left ≡ rest ++ i ∷ [] → is_known ks i ≡ true
+popped_known ts rs ks root left rest whole i j is = (all_last (is_known ks) rest i (rw is at j.known)).1
 
 -- a member that has its regex
 pub joining_made : (ts : List Term) (rs new : List Regex) (ks : List Known) (root : ℕ) (left rest : List ℕ)
@@ -138,7 +117,7 @@ pub joining_made : (ts : List Term) (rs new : List Regex) (ks : List Known) (roo
     Names rs regex (regex_of (term_at ts i)) → Names new more (mkcat (regex_at rs regex) (regex_at rs whole)) →
     Joining ts new ks root rest more
 joining_made ts rs new ks root left rest whole i regex more j is made named = record {
-  inside = front_inside (length ks) rest i (rw is at j.inside);
+  known = (all_last (is_known ks) rest i (rw is at j.known)).0;
   kinds = (split_kinds ts left rest i is j.kinds).0;
   below = names_below new more _ named;
   names = ap (chain (map regex_of (terms_at ts rest)))
@@ -148,9 +127,10 @@ joining_made ts rs new ks root left rest whole i regex more j is made named = re
 
 -- what is known of a member that has no regex yet
 concatenates : (rs : List Regex) (t : Term) (k : Known) → IsKnown rs t k → is_regex t ≡ true
-    → ((id : _) → k ≡ known.Made id → ⊥) → IsConcatenation t
+    → ((id : _) → k ≡ known.Made id → ⊥) → IsConcatenation t × (is_concatenation k ≡ true)
+concatenates rs t known.Nothing h kind none_made = absurd h
 concatenates rs t known.Other h kind none_made = absurd (false≢true (sym h ∙ kind))
-concatenates rs t known.Concatenation h kind none_made = h
+concatenates rs t known.Concatenation h kind none_made = (h, refl)
 concatenates rs t (known.Made id) h kind none_made = absurd (none_made id refl)
 concatenates rs t (known.Spelled id) h kind none_made = absurd (false≢true (sym h.0 ∙ kind))
 
@@ -174,22 +154,23 @@ parts_kinds ts xs kind is = by_list xs (rw (← is) at kind)
     by_list (x ∷ xs) h = ap (λ b. is_regex x && b) (sym (are_all xs)) ∙ h
 
 pub joining_parts : ConcatenationGroups → (ts : List Term) (rs : List Regex) (ks : List Known) (root : ℕ)
-    (left rest arguments left' : List ℕ) (whole i : ℕ) → Joining ts rs ks root left whole → left ≡ rest ++ i ∷ [] →
-    (k : Known) → IsKnown rs (term_at ts i) k → ((id : _) → k ≡ known.Made id → ⊥) →
+    (left rest arguments left' : List ℕ) (whole i : ℕ) → AreNormals ts rs ks → Joining ts rs ks root left whole →
+    left ≡ rest ++ i ∷ [] → (k : Known) → k ≡ get_or ks i known.Nothing → ((id : _) → k ≡ known.Made id → ⊥) →
     terms_of (terms_at ts arguments) ≡ arguments_in (term_at ts i) → All (λ n. n < i) arguments →
     left' ≡ rest ++ arguments → Joining ts rs ks root left' whole
-joining_parts groups ts rs ks root left rest arguments left' whole i j is k h none_made same low more =
-    rw more (by_parts (concatenates rs (term_at ts i) k h (split_kinds ts left rest i is j.kinds).1 none_made))
+joining_parts groups ts rs ks root left rest arguments left' whole i n j is k here none_made same low more =
+    let member = all_last (is_known ks) rest i (rw is at j.known) in
+    let h : IsKnown rs (term_at ts i) k = subst (IsKnown rs (term_at ts i)) (sym here) (n.each i member.1) in
+    let t = concatenates rs (term_at ts i) k h (split_kinds ts left rest i is j.kinds).1 none_made in
+    rw more (by_parts t.0 member.0 (n.parts i (ap is_concatenation (sym here) ∙ t.1) arguments same low))
   where
-    by_parts : IsConcatenation (term_at ts i) → Joining ts rs ks root (rest ++ arguments) whole
-    by_parts t =
+    by_parts : IsConcatenation (term_at ts i) → list_all (is_known ks) rest ≡ true
+        → list_all (is_known ks) arguments ≡ true → Joining ts rs ks root (rest ++ arguments) whole
+    by_parts t front behind =
         let parts : terms_of (terms_at ts arguments) ≡ t.parts = same ∙ ap arguments_in t.is in
         let kind : is_regex (apply re_concat t.parts) ≡ true = ap is_regex (sym t.is) ∙ t.kind in
-        let inside = last_inside (length ks) rest i (rw is at j.inside) in
         record {
-          inside = All-append (λ n. n < length ks) rest arguments
-              (front_inside (length ks) rest i (rw is at j.inside))
-              (λ n d l. omega (arith, low n d l, inside));
+          known = all_append (is_known ks) rest arguments front behind;
           kinds = ap (list_all is_regex) (map-append (term_at ts) rest arguments)
               ∙ (list_all-append is_regex (terms_at ts rest) (terms_at ts arguments)
               ∙ ap₂ ◌&&◌ (split_kinds ts left rest i is j.kinds).0
@@ -222,7 +203,7 @@ pub smaller_made : (ts : List Term) (left rest : List ℕ) (i : ℕ) → left �
     → total (terms_at ts rest) < total (terms_at ts left)
 smaller_made ts left rest i is = omega (arith, popped ts left rest i is, some_size (term_at ts i))
 
-less_than_whole : (t : Term) → sizes (arguments_in t) < size t
+pub less_than_whole : (t : Term) → sizes (arguments_in t) < size t
 less_than_whole (apply s ts) = omega arith
 less_than_whole (constant serial sort) = omega arith
 less_than_whole (word w) = omega arith

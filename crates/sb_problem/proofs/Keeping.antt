@@ -1,10 +1,10 @@
 -- What is kept of terms by number, as more of them become known.
-use Rattle.std.proofs.Common.{◌≡◌, ℕ, zero, suc, ◌+◌, ◌<◌, ◌≤◌, ◌≢◌, Bool, true, false, not, ◌&&◌, nat_eq, List, [], ◌∷◌, ◌++◌, length, get_or, take, set, map, slice_get, refl, sym, ap, ap₂, ◌∙◌, arith, ◌⊎◌, inl, inr, Option, Some, None, option_map, length-append}
-use Rattle.std.proofs.lemmas.Bool.{false≢true}
+use Rattle.std.proofs.Common.{◌≡◌, ℕ, zero, suc, ◌+◌, ◌<◌, ◌≤◌, ◌≢◌, Bool, true, false, not, ◌&&◌, nat_eq, List, [], ◌∷◌, ◌++◌, length, get_or, take, set, map, slice_get, refl, sym, ap, ap₂, subst, ◌∙◌, arith, ◌⊎◌, inl, inr, Option, Some, None, option_map, length-append}
+use Rattle.std.proofs.lemmas.Bool.{and_parts, false≢true}
 use Rattle.std.proofs.lemmas.Option.{same_Some}
-use Rattle.std.proofs.lemmas.List.{take_more, take_all, map-append, get_or_append_left, get_or_push, get_or_default, get_or-set_same, get_or-set_other, length-set}
+use Rattle.std.proofs.lemmas.List.{take_more, take_all, map-append, get_or_default, get_or-set_same, get_or-set_other, length-set}
 use Rattle.std.proofs.lemmas.List.Elements.{All-append}
-use Rattle.std.proofs.lemmas.List.Folds.{list_all-append}
+use Rattle.std.proofs.lemmas.List.Folds.{list_all-append, list_all_at}
 use Rattle.std.proofs.lemmas.Bool.Decides.{nat_tests}
 use Rattle.std.specs.List.{All, list_all}
 use Rattle.sb_term.specs.declared.sort.Symbol.{Symbol}
@@ -12,9 +12,11 @@ use Rattle.sb_term.specs.declared.sort.Symbol.TheVariants as symbol
 use Rattle.sb_term.specs.Symbols.{symbol_in}
 use Rattle.sb_term.specs.declared.term.Term as code
 use Rattle.sb_term.specs.declared.term.Term.TheVariants as node
-use Rattle.sb_term.specs.Nodes.{node_term}
+use Rattle.sb_term.specs.Nodes.{node_term, ArgumentsBelow}
 use Rattle.sb_term.specs.Numbered.{term_at, terms_at}
 use Rattle.sb_term.proofs.CallerLemmas as table_facts
+use Rattle.sb_term.specs.Numbered as table
+use Rattle.sb_facts.proofs.CallerLemmas.{all_weaker}
 use Rattle.sb_lang.specs.Regex.{Regex}
 use Rattle.sb_regex.specs.Numbered.{regex_at, regexes_at, Extends}
 use Rattle.sb_regex.proofs.CallerLemmas.{names_kept, names_at, names_below, one_number, numbers_kept, ats_kept}
@@ -22,60 +24,135 @@ use Rattle.sb_meaning.specs.Terms.{Term, Terms, constant, word, numeral, paramet
 use Rattle.sb_script.specs.Brought.{is_regex, are_regexes}
 use Rattle.sb_problem.specs.declared.normals.Known.{Known}
 use Rattle.sb_problem.specs.declared.normals.Known.TheVariants as known
-use Rattle.sb_problem.specs.Known.{IsKnown, IsConcatenation, AreNormals, AreTold, known_from, is_other}
+use Rattle.sb_problem.specs.Known.{IsKnown, IsConcatenation, AreNormals, AreTold, KnowsMore, PartsPass, known_from, is_something, is_other, is_concatenation, is_known}
 use Rattle.sb_problem.specs.Laws.{NormalsStay}
 use Rattle.sb_problem.specs.Patterns.{literal_of}
-use Rattle.sb_problem.specs.Shapes.{IsNumbered, IsFound, AreRegexesOf, made, joins, joined_right, either, both, or_none, regex_of, regexes_of}
+use Rattle.sb_problem.specs.Shapes.{IsNumbered, IsFound, AreRegexesOf, arguments_in, made, joins, joined_right, either, both, or_none, regex_of, regexes_of}
 use Rattle.sb_problem.proofs.Meanings.{are_all, regexes_all}
 
+-- the last one of a list
+pub all_last : {A : Type 0} (p : A → Bool) (xs : List A) (x : A) → list_all p (xs ++ x ∷ []) ≡ true
+    → (list_all p xs ≡ true) × (p x ≡ true)
+all_last p xs x h =
+    let parts = and_parts (list_all p xs) (p x && true) (sym (list_all-append p xs (x ∷ [])) ∙ h) in
+    (parts.0, (and_parts (p x) true parts.1).0)
+
+-- one of a list
+pub all_item : (p : ℕ → Bool) (ids : List ℕ) (i x : ℕ) → list_all p ids ≡ true → i < length ids → x ≡ get_or ids i x
+    → p x ≡ true
+all_item p ids i x h l is = step (p x) refl
+  where
+    step : (b : Bool) → p x ≡ b → p x ≡ true
+    step true e = e
+    step false e = absurd (false≢true (sym (list_all_at p ids i x l (ap p (sym is) ∙ e)) ∙ h))
+
+-- what is known
+pub known_inside : (ks : List Known) (i : ℕ) → is_known ks i ≡ true → i < length ks
+known_inside [] i h = absurd (false≢true h)
+known_inside (k ∷ ks) zero h = omega arith
+known_inside (k ∷ ks) (suc i) h = let l = known_inside ks i h in omega (arith, l)
+
+some_known : (k : Known) → (k ≡ known.Nothing → ⊥) → is_something k ≡ true
+some_known known.Nothing h = absurd (h refl)
+some_known known.Other h = refl
+some_known known.Concatenation h = refl
+some_known (known.Made id) h = refl
+some_known (known.Spelled id) h = refl
+
+pub kept_known : (ks : List Known) (id : ℕ) (k : Known) → k ≡ get_or ks id known.Nothing → (k ≡ known.Nothing → ⊥)
+    → is_known ks id ≡ true
+kept_known ks id k is h = ap is_something (sym is) ∙ some_known k h
+
+concatenation_known : (k : Known) → is_concatenation k ≡ true → is_something k ≡ true
+concatenation_known known.Nothing h = absurd (false≢true h)
+concatenation_known known.Other h = absurd (false≢true h)
+concatenation_known known.Concatenation h = refl
+concatenation_known (known.Made id) h = absurd (false≢true h)
+concatenation_known (known.Spelled id) h = absurd (false≢true h)
+
+pub known_something : (rs : List Regex) (t : Term) (k : Known) → IsKnown rs t k → is_something k ≡ true
+known_something rs t known.Nothing h = absurd h
+known_something rs t known.Other h = refl
+known_something rs t known.Concatenation h = refl
+known_something rs t (known.Made id) h = refl
+known_something rs t (known.Spelled id) h = refl
+
 pub normals_new : (ts : List Term) (rs : List Regex) (ks : List Known) → length ks ≡ 0 → AreNormals ts rs ks
-normals_new ts rs ks h = record { short = omega (arith, h); each = λ i l. absurd (omega (arith, h, l)) }
+normals_new ts rs ks h = record {
+  short = omega (arith, h);
+  each = λ i m. let l = known_inside ks i m in absurd (omega (arith, h, l));
+  parts = λ i m.
+      let l = known_inside ks i (concatenation_known (get_or ks i known.Nothing) m) in absurd (omega (arith, h, l));
+}
 
 -- in an arena that grows
 pub known_kept : (rs new : List Regex) (t : Term) (k : Known) → Extends rs new → IsKnown rs t k → IsKnown new t k
+known_kept rs new t known.Nothing e h = h
 known_kept rs new t known.Other e h = h
 known_kept rs new t known.Concatenation e h = h
 known_kept rs new t (known.Made id) e h = (h.0, names_kept rs new id (regex_of t) e h.1)
 known_kept rs new t (known.Spelled id) e h = (h.0, (h.1.0, names_kept rs new id (regex_of (literal_of t)) e h.1.1))
 
+-- the arguments of a term
+pub parts_weaker : (ts : List Term) (p q : ℕ → Bool) (i : ℕ) → ((j : ℕ) → p j ≡ true → q j ≡ true) → PartsPass ts p i
+    → PartsPass ts q i
+parts_weaker ts p q i passes h = λ is are below. all_weaker p q passes is (h is are below)
+
+parts_stay : (ts more : List Term) (test : ℕ → Bool) (i : ℕ) → table.Extends ts more → i < length ts
+    → PartsPass ts test i → PartsPass more test i
+parts_stay ts more test i e l h = λ is are below.
+    h is
+    (ap terms_of (sym (table_facts.ats_kept ts more is e (λ k d m. omega (arith, below k d m, l))))
+    ∙ (are ∙ ap arguments_in (table_facts.at_kept ts more i e l)))
+    below
+
 pub normals_stay : NormalsStay
 normals_stay ts more rs new ks e f n = record {
   short = omega (arith, n.short, table_facts.long_kept ts more e);
-  each = λ i l.
+  each = λ i m.
+      let l = known_inside ks i m in
       let same = table_facts.at_kept ts more i e (omega (arith, l, n.short)) in
-      rw same (known_kept rs new (term_at ts i) (get_or ks i known.Other) f (n.each i l));
+      rw same (known_kept rs new (term_at ts i) (get_or ks i known.Nothing) f (n.each i m));
+  parts = λ i m.
+      let l = known_inside ks i (concatenation_known (get_or ks i known.Nothing) m) in
+      parts_stay ts more (is_known ks) i e (omega (arith, l, n.short)) (n.parts i m);
 }
 
 pub normals_grown : (ts : List Term) (rs new : List Regex) (ks : List Known) → Extends rs new → AreNormals ts rs ks
     → AreNormals ts new ks
 normals_grown ts rs new ks e n = normals_stay ts ts rs new ks (table_facts.extends_same ts) e n
 
--- one more
-pub normals_more : (ts : List Term) (rs : List Regex) (ks : List Known) (k : Known) → length ks < length ts
-    → AreNormals ts rs ks → IsKnown rs (term_at ts (length ks)) k → AreNormals ts rs (ks ++ k ∷ [])
-normals_more ts rs ks k l n h = record {
-  short = omega (arith, l, length-append ks (k ∷ []));
-  each = λ i m. step i m (nat_eq i (length ks)) refl;
-}
-  where
-    step : (i : ℕ) → i < length (ks ++ k ∷ []) → (b : Bool) → nat_eq i (length ks) ≡ b
-        → IsKnown rs (term_at ts i) (get_or (ks ++ k ∷ []) i known.Other)
-    step i m true is =
-        let e : i ≡ length ks = grind (arith, nat_tests) in
-        rw e (rw (get_or_push ks k known.Other (length ks) refl) h)
-    step i m false is =
-        let low : i < length ks = grind (arith, nat_tests, length-append ks (k ∷ [])) in
-        rw (get_or_append_left ks (k ∷ []) known.Other i low) (n.each i low)
+-- room for one more
+nothing_more : (ks : List Known) (i : ℕ) → get_or (ks ++ known.Nothing ∷ []) i known.Nothing ≡ get_or ks i known.Nothing
+nothing_more [] zero = refl
+nothing_more [] (suc i) = refl
+nothing_more (k ∷ ks) zero = refl
+nothing_more (k ∷ ks) (suc i) = nothing_more ks i
+
+pub normals_pushed : (ts : List Term) (rs : List Regex) (ks items items' : List Known) → AreNormals ts rs ks
+    → items ≡ ks → items' ≡ items ++ known.Nothing ∷ [] → length ks < length ts → AreNormals ts rs items'
+normals_pushed ts rs ks items items' n view more l =
+    subst (AreNormals ts rs) (sym (more ∙ ap (λ xs. xs ++ known.Nothing ∷ []) view)) (record {
+      short = omega (arith, l, length-append ks (known.Nothing ∷ []));
+      each = λ i m.
+          subst (IsKnown rs (term_at ts i)) (sym (nothing_more ks i))
+          (n.each i (ap is_something (sym (nothing_more ks i)) ∙ m));
+      parts = λ i m.
+          parts_weaker ts (is_known ks) (is_known (ks ++ known.Nothing ∷ [])) i
+          (λ j h. ap is_something (nothing_more ks j) ∙ h)
+          (n.parts i (ap is_concatenation (sym (nothing_more ks i)) ∙ m));
+    })
 
 -- which terms are regular expressions
 told_known : (rs : List Regex) (t : Term) (k : Known) → IsKnown rs t k → is_regex t ≡ not (is_other k)
+told_known rs t known.Nothing h = absurd h
 told_known rs t known.Other h = h
 told_known rs t known.Concatenation h = h.kind
 told_known rs t (known.Made id) h = h.0
 told_known rs t (known.Spelled id) h = h.0
 
 pub told : (ts : List Term) (rs : List Regex) (ks : List Known) → AreNormals ts rs ks → AreTold ts ks
-told ts rs ks n i l = told_known rs (term_at ts i) (get_or ks i known.Other) (n.each i l)
+told ts rs ks n i m = told_known rs (term_at ts i) (get_or ks i known.Nothing) (n.each i m)
 
 pub known_is : (rs : List Regex) (t : Term) (found : Option ℕ) → IsNumbered rs t found → IsKnown rs t (known_from found)
 known_is rs t None h = h
@@ -103,6 +180,9 @@ one_other p ts (y ∷ ids) (suc i) x l there other =
     and_false : (b : Bool) → (b && false) ≡ false
     and_false true = refl
     and_false false = refl
+
+pub regexes_none : (rs : List Regex) → AreRegexesOf rs [] []
+regexes_none rs = record { kind = refl; numbers = λ k d l. absurd (omega (arith, l)); regexes = refl }
 
 pub regexes_further : (rs new : List Regex) (ts : List Term) (ids : List ℕ) (i x : ℕ) (found found' : List ℕ) (id : ℕ)
     → AreRegexesOf rs (terms_at ts (take i ids)) found → Extends rs new → i < length ids → x ≡ get_or ids i x →
@@ -293,31 +373,26 @@ made_known rs new s ts ids found found' t o k h is all same f from =
     (f ∙ ap (λ rs. option_map Some (made s rs)) same_regexes)))
 
 -- what is known of one of the terms
-pub known_at : (ts : List Term) (rs : List Regex) (ks items : List Known) (number id : ℕ) (k : Known)
-    → AreNormals ts rs ks → items ≡ ks → number ≡ id → id < length ks → k ≡ get_or items number k →
-    IsKnown rs (term_at ts id) k
-known_at ts rs ks items number id k n view same l is =
-    let here : get_or ks id known.Other ≡ k =
-    get_or_default ks id known.Other k l ∙ (sym (ap (λ xs. get_or xs id k) view)
-    ∙ (sym (ap (λ i. get_or items i k) same) ∙ sym is)) in
-    rw (← here) (n.each id l)
+pub item_at : (ks items : List Known) (number id : ℕ) (k : Known) → items ≡ ks → number ≡ id → id < length ks
+    → k ≡ get_or items number k → k ≡ get_or ks id known.Nothing
+item_at ks items number id k view same l is =
+    is ∙ (ap (λ i. get_or items i k) same ∙ (ap (λ xs. get_or xs id k) view
+    ∙ sym (get_or_default ks id known.Nothing k l)))
 
-pub told_at : (ts : List Term) (ks items : List Known) (number id : ℕ) (k : Known)
-    → AreTold ts ks → items ≡ ks → number ≡ id → id < length ks → k ≡ get_or items number k → is_other k ≡ true →
-    is_regex (term_at ts id) ≡ false
-told_at ts ks items number id k t view same l is other =
-    let here : get_or ks id known.Other ≡ k =
-    get_or_default ks id known.Other k l ∙ (sym (ap (λ xs. get_or xs id k) view)
-    ∙ (sym (ap (λ i. get_or items i k) same) ∙ sym is)) in
-    t id l ∙ (ap (λ x. not (is_other x)) here ∙ ap not other)
+pub known_at : (ts : List Term) (rs : List Regex) (ks : List Known) (id : ℕ) (k : Known) → AreNormals ts rs ks
+    → is_known ks id ≡ true → k ≡ get_or ks id known.Nothing → IsKnown rs (term_at ts id) k
+known_at ts rs ks id k n m is = subst (IsKnown rs (term_at ts id)) (sym is) (n.each id m)
+
+pub told_at : (ts : List Term) (ks : List Known) (id : ℕ) (k : Known) → AreTold ts ks → is_known ks id ≡ true
+    → k ≡ get_or ks id known.Nothing → is_other k ≡ true → is_regex (term_at ts id) ≡ false
+told_at ts ks id k t m is other = t id m ∙ (ap (λ x. not (is_other x)) (sym is) ∙ ap not other)
 
 -- what is none, whether or not it is the word of a literal
-pub other_or_spelled : (k : Known) → (k ≡ known.Other) ⊎ ((id : _) × (k ≡ known.Spelled id)) → is_other k ≡ true
+pub other_or_spelled : (k : Known) → (k ≡ known.Nothing) ⊎ ((k ≡ known.Other) ⊎ ((id : _) × (k ≡ known.Spelled id)))
+    → is_other k ≡ true
 other_or_spelled k (inl is) = ap is_other is
-other_or_spelled k (inr is) = ap is_other is.1
-
-pub item_below : (n : ℕ) (ids : List ℕ) (i x : ℕ) → All (λ k. k < n) ids → i < length ids → x ≡ get_or ids i x → x < n
-item_below n ids i x h l is = rw is (h i x l)
+other_or_spelled k (inr (inl is)) = ap is_other is
+other_or_spelled k (inr (inr is)) = ap is_other is.1
 
 pub concat_other : (ts : List Term) (ids : List ℕ) (i x : ℕ) → i < length ids → x ≡ get_or ids i x
     → is_regex (term_at ts x) ≡ false → is_regex (apply re_concat (terms_of (terms_at ts ids))) ≡ false
@@ -339,23 +414,65 @@ concat_known ts ids i h l some =
     by_ids [] h some = absurd (some refl)
     by_ids (x ∷ ids) h some = ap (λ b. is_regex (term_at ts x) && b) (are_all (terms_at ts ids)) ∙ h
 
-pub normals_set : (ts : List Term) (rs new : List Regex) (ks items : List Known) (number id : ℕ) (k : Known)
-    → AreNormals ts rs ks → Extends rs new → items ≡ ks → number ≡ id → id < length ks →
-    IsKnown new (term_at ts id) k → AreNormals ts new (set items number k)
-normals_set ts rs new ks items number id k n e view same l h = rw (view, same) (record {
+-- one that becomes known, or is known better
+set_known : (ks : List Known) (id : ℕ) (k : Known) → id < length ks → is_something k ≡ true → (i : ℕ)
+    → is_known ks i ≡ true → is_known (set ks id k) i ≡ true
+set_known ks id k l some i h = step (nat_eq i id) refl
+  where
+    step : (b : Bool) → nat_eq i id ≡ b → is_known (set ks id k) i ≡ true
+    step true is =
+        let z : i ≡ id = grind (arith, nat_tests) in
+        rw z (ap is_something (get_or-set_same ks id k known.Nothing l) ∙ some)
+    step false is =
+        let z : i ≢ id = grind (arith, nat_tests) in
+        ap is_something (get_or-set_other ks id i k known.Nothing z) ∙ h
+
+pub normals_set : (ts : List Term) (rs new : List Regex) (ks ks' : List Known) (id : ℕ) (k : Known)
+    → AreNormals ts rs ks → Extends rs new → id < length ks → IsKnown new (term_at ts id) k →
+    (is_concatenation k ≡ true → PartsPass ts (is_known ks) id) → ks' ≡ set ks id k → AreNormals ts new ks'
+normals_set ts rs new ks ks' id k n e l h parts is = subst (AreNormals ts new) (sym is) (record {
   short = omega (arith, n.short, length-set ks id k);
-  each = λ i m. step i (omega (arith, m, length-set ks id k)) (nat_eq i id) refl;
+  each = λ i m. now i m (nat_eq i id) refl;
+  parts = λ i m.
+      parts_weaker ts (is_known ks) (is_known (set ks id k)) i
+      (set_known ks id k l (known_something new (term_at ts id) k h)) (behind i m (nat_eq i id) refl);
 })
   where
-    step : (i : ℕ) → i < length ks → (b : Bool) → nat_eq i id ≡ b
-        → IsKnown new (term_at ts i) (get_or (set ks id k) i known.Other)
-    step i m true is =
+    now : (i : ℕ) → is_known (set ks id k) i ≡ true → (b : Bool) → nat_eq i id ≡ b
+        → IsKnown new (term_at ts i) (get_or (set ks id k) i known.Nothing)
+    now i m true is =
         let z : i ≡ id = grind (arith, nat_tests) in
-        rw z (rw (get_or-set_same ks id k known.Other l) h)
-    step i m false is =
+        rw z (rw (get_or-set_same ks id k known.Nothing l) h)
+    now i m false is =
         let z : i ≢ id = grind (arith, nat_tests) in
-        rw (get_or-set_other ks id i k known.Other z)
-        (known_kept rs new (term_at ts i) (get_or ks i known.Other) e (n.each i m))
+        let same = get_or-set_other ks id i k known.Nothing z in
+        let before = n.each i (ap is_something (sym same) ∙ m) in
+        rw same (known_kept rs new (term_at ts i) (get_or ks i known.Nothing) e before)
+
+    behind : (i : ℕ) → is_concatenation (get_or (set ks id k) i known.Nothing) ≡ true → (b : Bool) → nat_eq i id ≡ b
+        → PartsPass ts (is_known ks) i
+    behind i m true is =
+        let z : i ≡ id = grind (arith, nat_tests) in
+        rw z (parts (ap is_concatenation (sym (get_or-set_same ks id k known.Nothing l)) ∙ (rw z at m)))
+    behind i m false is =
+        let z : i ≢ id = grind (arith, nat_tests) in
+        n.parts i (ap is_concatenation (sym (get_or-set_other ks id i k known.Nothing z)) ∙ m)
+
+pub knows_same : (ks : List Known) → KnowsMore ks ks
+knows_same ks = record { long = refl; kept = λ i h. h }
+
+pub knows_both : (a b c : List Known) → KnowsMore a b → KnowsMore b c → KnowsMore a c
+knows_both a b c p q = record { long = q.long ∙ p.long; kept = λ i h. q.kept i (p.kept i h) }
+
+pub knows_set : (ks ks' : List Known) (id : ℕ) (k : Known) → id < length ks → is_something k ≡ true
+    → ks' ≡ set ks id k → KnowsMore ks ks'
+knows_set ks ks' id k l some is =
+    subst (KnowsMore ks) (sym is) (record { long = length-set ks id k; kept = set_known ks id k l some })
+
+pub now_known : (ks ks' : List Known) (id : ℕ) (k : Known) → id < length ks → is_something k ≡ true
+    → ks' ≡ set ks id k → is_known ks' id ≡ true
+now_known ks ks' id k l some is =
+    ap (λ xs. is_known xs id) is ∙ (ap is_something (get_or-set_same ks id k known.Nothing l) ∙ some)
 
 -- what has the regular expression of a literal is a word, and none itself
 pub literal_is_none : (t : Term) → is_regex (literal_of t) ≡ true → is_regex t ≡ false
@@ -365,18 +482,19 @@ literal_is_none (numeral n) h = absurd (false≢true h)
 literal_is_none (apply s ts) h = absurd (false≢true h)
 literal_is_none (parameter n s) h = absurd (false≢true h)
 
-pub normals_pushed : (ts : List Term) (rs : List Regex) (ks items items' : List Known) (k : Known) (n : ℕ)
-    → AreNormals ts rs ks → items ≡ ks → items' ≡ items ++ k ∷ [] → n ≡ length ks → n < length ts →
-    IsKnown rs (term_at ts n) k → AreNormals ts rs items'
-normals_pushed ts rs ks items items' k n a view more is l h =
-    rw (more, view) (normals_more ts rs ks k (omega (arith, is, l)) a (rw (← is) h))
-
 -- the term of a node with arguments
 pub applied_at : (ts : List Term) (d : code.Term) (s : Symbol) (arguments : _) (items : List ℕ) (id : ℕ)
     → node_term ts d ≡ term_at ts id → d ≡ node.Apply s arguments → items ≡ arguments.items →
     term_at ts id ≡ apply (symbol_in s) (terms_of (terms_at ts items))
 applied_at ts d s arguments items id value is same =
     sym value ∙ (ap (node_term ts) is ∙ ap (λ xs. apply (symbol_in s) (terms_of (terms_at ts xs))) (sym same))
+
+pub arguments_pass : (ts : List Term) (test : ℕ → Bool) (d : code.Term) (s : Symbol) (arguments : _) (items : List ℕ)
+    (id : ℕ) → PartsPass ts test id → node_term ts d ≡ term_at ts id → d ≡ node.Apply s arguments →
+    items ≡ arguments.items → ArgumentsBelow id d → list_all test items ≡ true
+arguments_pass ts test d s arguments items id h value is same below =
+    h items (sym (ap arguments_in (applied_at ts d s arguments items id value is same)))
+    (subst (All (λ j. j < id)) (sym same) (subst (ArgumentsBelow id) is below))
 
 pub concat_is : (rs : List Regex) (ts : List Term) (s : Symbol) (items : List ℕ) (id : ℕ) (k : Known)
     → term_at ts id ≡ apply (symbol_in s) (terms_of (terms_at ts items)) → s ≡ symbol.ReConcat →

@@ -4,4 +4,5 @@ pub mod Joins
 pub mod Meanings
 pub mod Keeping
 pub mod Chains
+pub mod Settling
 pub mod CallerLemmas

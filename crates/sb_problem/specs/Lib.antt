@@ -3,3 +3,4 @@ pub mod Shapes
 pub mod Known
 pub mod Laws
 pub mod Patterns
+pub mod Waiting

@@ -1,10 +1,10 @@
 //! What terms are to the parts that decide: the normal regex of a regular expression, and the constant of a membership.
 //!
-//! [`Normals`] goes over the terms of a table in the order of their numbers, in which arguments come first, and keeps
-//! by number what each is as a regular expression: its regex is made by the constructor of its symbol, once, in an
-//! arena in which equal regexes have one number. The layer above asks for the regexes of a constant's memberships, and
-//! explores what they have in common. A literal to which a constant is to be equal has a regex too, as the pattern that
-//! has its word alone.
+//! [`Normals`] keeps by number what each term that was asked for is as a regular expression, and what those are that it
+//! is made of, arguments first: its regex is made by the constructor of its symbol, once, in an arena in which equal
+//! regexes have one number. What is not asked for is not made. The layer above asks for the regexes of a constant's
+//! memberships, and explores what they have in common. A literal to which a constant is to be equal has a regex too, as
+//! the pattern that has its word alone.
 #![tactic(auto)]
 
 mod join;
@@ -13,6 +13,7 @@ mod literals;
 mod normals;
 mod pattern;
 mod pieces;
+mod waiting;
 
 pub use laws::normals_stay;
 pub use normals::Normals;

@@ -1,6 +1,6 @@
 //! What terms are as regular expressions, by number.
 
-ghost use Rattle.std.specs.Prelude.{◌≡◌, ◌<◌, true, false, List, length, All, IfOk, MatchOption};
+ghost use Rattle.std.specs.Prelude.{◌≡◌, ◌<◌, ◌++◌, ◌∷◌, true, false, List, [], length, get_or, set, All, IfOk, OnOk, MatchOption};
 ghost use Rattle.std.specs.List.{list_all};
 ghost use Rattle.sb_lang.specs.Regex.{Regex};
 ghost use Rattle.sb_meaning.specs.Terms as meaning;
@@ -8,15 +8,18 @@ ghost use Rattle.sb_meaning.specs.Terms.{apply, re_concat, terms_of};
 ghost use Rattle.sb_regex.specs.Numbered.{Names, Extends};
 ghost use Rattle.sb_script.specs.Brought.{is_regex};
 ghost use Rattle.sb_term.specs.Numbered.{term_at, terms_at};
-ghost use Rattle.sb_problem.specs.Known.{IsKnown, AreNormals, AreTold, known_from};
+ghost use Rattle.sb_problem.specs.declared.normals.Known.TheVariants.{Nothing};
+ghost use Rattle.sb_problem.specs.Known.{IsKnown, KnowsMore, AreNormals, AreTold, PartsPass, is_known, known_from};
 ghost use Rattle.sb_problem.specs.Normals.{IsNumberOf};
 ghost use Rattle.sb_problem.specs.Patterns.{literal_of, number_of, pattern_in};
 ghost use Rattle.sb_problem.specs.Shapes.{IsNumbered, AreRegexesOf, arguments_in, joins, regex_of};
+ghost use Rattle.sb_problem.specs.Waiting.{AreWaiting, Settles};
 ghost use Rattle.sb_term.specs.Symbols.{symbol_in};
 
 use crate::join::joined;
 use crate::literals::{of_range, of_word};
 use crate::pattern::Pattern;
+use crate::waiting::{Waiting, enter};
 use sb_lang::fold::concatenation_groups;
 use sb_regex::{Arena, RegexId};
 use sb_term::{Symbol, Table, Term, TermId};
@@ -26,9 +29,11 @@ use std::marker::Model;
 /// What a term is as a regular expression over literals.
 #[derive(Clone, Copy)]
 pub(crate) enum Known {
+    /// It was not asked for.
+    Nothing,
     /// It is none.
     Other,
-    /// A concatenation whose regex was not asked for.
+    /// A concatenation whose regex was not asked for, of terms that are known.
     Concatenation,
     /// It has this normal regex.
     Made(RegexId),
@@ -47,7 +52,7 @@ impl Known {
     }
 }
 
-/// What is known of the terms of a table, those below some number, as regular expressions over literals: those that
+/// What is known of the terms of a table, those that were asked for, as regular expressions over literals: those that
 /// are made of words, ranges and the constants of that sort.
 #[derive(Drop)]
 pub struct Normals {
@@ -75,10 +80,13 @@ impl Normals {
 
     /// The number of a term's normal regex, `None` exactly where the term is no regular expression over literals.
     ///
-    /// Each term of the table is gone over once, when it or a later one is asked for first, and in all that is linear
-    /// in the terms, but that the members of unions and intersections are sorted. A concatenation is made when it is
-    /// asked for by itself or as an argument of another symbol, and then goes once over the members of its parts, however
-    /// they are nested. `AllocError` only for want of memory; the arena may hold more regexes then.
+    /// A term and those that it is made of are gone over once, when it is asked for first, by itself or as a part, with
+    /// no recursion; what is not asked for is not made. In all that is linear in these terms and their arguments, and in
+    /// the largest number that was asked for, but that the members of unions and intersections are sorted. A
+    /// concatenation is made when it is asked for by itself or as an argument of another symbol, and then goes over its
+    /// parts, however they are nested, up to those that are made: linear in their tree. Where concatenations share their
+    /// parts, that and the regex may be larger than the terms by far, so whoever asks bounds the size of the term as a
+    /// tree before. `AllocError` only for want of memory; the arena may hold more regexes then.
     pub fn normal(
         &mut self,
         table: &Table,
@@ -113,27 +121,89 @@ impl Normals {
         match pattern {
             Pattern::Expression(id) => self.normal(table, arena, id),
             Pattern::Word(id) => {
-                self.reach(table, arena, id)?;
+                self.lengthen(id)?;
                 let found = self.spelled(table, arena, id)?;
                 Ok(found)
             }
         }
     }
 
-    /// Goes over the terms up to a number.
+    /// Makes room for what is known of the terms up to a number.
+    fn lengthen(&mut self, id: TermId) -> Result<(), AllocError>
+        ensures inside { OnOk result (id < length self.new) }
+        ensures normals { (terms : List meaning.Term) (regexes : List Regex) → id < length terms
+            → AreNormals terms regexes self.old → AreNormals terms regexes self.new }
+    {
+        while self.known.len() <= id.number() {
+            self.known.push(Known::Nothing)?;
+        }
+        Ok(())
+    }
+
+    /// What is known of a term.
+    fn kept(&self, id: TermId) -> Known
+        ensures { result ≡ get_or self.now id Nothing }
+    {
+        match self.known.get(id.number()) {
+            Some(known) => *known,
+            None => Known::Nothing,
+        }
+    }
+
+    /// Keeps what is known of a term.
+    fn keep(&mut self, id: TermId, known: Known)
+        requires { id < length self.old }
+        ensures { self.new ≡ set self.old id known }
+    {
+        self.known[id.number()] = known;
+    }
+
+    /// Makes known what a term is, and first what those are that it is made of, each once, with no recursion.
     fn reach(&mut self, table: &Table, arena: &mut Arena, id: TermId) -> Result<(), AllocError>
         requires known { id < length table.now }
         requires normals { AreNormals table.now arena.old self.old }
-        ensures reached { IfOk result (λ _. id < length self.new) }
+        ensures reached { OnOk result (is_known self.new id ≡ true) }
         ensures extends { Extends arena.old arena.new }
         ensures normals { AreNormals table.now arena.new self.new }
     {
-        while self.known.len() <= id.number() {
-            let next = TermId::new(self.known.len())?;
-            let known = self.learn(table, arena, next)?;
-            self.known.push(known)?;
+        self.lengthen(id)?;
+        let Known::Nothing = self.kept(id) else {
+            return Ok(());
+        };
+        let mut waiting = Vec::new(self.allocator());
+        waiting.push(Waiting { id, entered: false })?;
+        while let Some(next) = waiting.pop() {
+            self.settle(table, arena, next, &mut waiting)?;
         }
         Ok(())
+    }
+
+    /// Makes known what a term is whose arguments are known; one whose arguments were not put behind it yet waits for
+    /// them first.
+    fn settle(
+        &mut self,
+        table: &Table,
+        arena: &mut Arena,
+        next: Waiting,
+        waiting: &mut Vec<Waiting>,
+    ) -> Result<(), AllocError>
+        requires normals { AreNormals table.now arena.old self.old }
+        requires waiting { AreWaiting table.now self.old (waiting.old.items ++ next ∷ []) }
+        ensures settles { OnOk result
+            (Settles table.now self.old self.new (waiting.old.items ++ next ∷ []) waiting.new.items) }
+        ensures extends { Extends arena.old arena.new }
+        ensures normals { AreNormals table.now arena.new self.new }
+    {
+        let Known::Nothing = self.kept(next.id) else {
+            return Ok(());
+        };
+        if next.entered {
+            let known = self.learn(table, arena, next.id)?;
+            self.keep(next.id, known);
+            return Ok(());
+        }
+        table.terms_each_once();
+        enter(waiting, next.id, arguments_of(table, next.id))
     }
 
     /// The number of the normal regex of a literal's word, made where it was not asked for before.
@@ -149,25 +219,25 @@ impl Normals {
         ensures extends { Extends arena.old arena.new }
         ensures normals { AreNormals table.now arena.new self.new }
     {
-        if let Known::Spelled(regex) = self.known[id.number()] {
+        if let Known::Spelled(regex) = self.kept(id) {
             return Ok(Some(regex));
         }
         let Some(regex) = of_word(table, arena, &[id])? else {
             return Ok(None);
         };
-        self.known[id.number()] = Known::Spelled(regex);
+        self.keep(id, Known::Spelled(regex));
         Ok(Some(regex))
     }
 
-    /// What the term of a number is, where those of all smaller numbers are known.
+    /// What a term is of which the arguments are known.
     fn learn(&mut self, table: &Table, arena: &mut Arena, id: TermId) -> Result<Known, AllocError>
         requires known { id < length table.now }
-        requires long { id ≡ length self.old }
+        requires parts { PartsPass table.now (is_known self.old) id }
         requires normals { AreNormals table.now arena.old self.old }
         ensures is { IfOk result (λ found. IsKnown arena.new (term_at table.now id) found) }
         ensures extends { Extends arena.old arena.new }
         ensures normals { AreNormals table.now arena.new self.new }
-        ensures long { length self.new ≡ length self.old }
+        ensures more { KnowsMore self.old self.new }
     {
         let Term::Apply(symbol, arguments) = table.term(id) else {
             return Ok(Known::Other);
@@ -207,13 +277,13 @@ impl Normals {
         ids: &[TermId],
     ) -> Result<Known, AllocError>
         requires joins { joins symbol ≡ true }
-        requires known { All (λ i. i < length self.old) ids.now }
+        requires known { list_all (is_known self.old) ids.now ≡ true }
         requires normals { AreNormals table.now arena.old self.old }
         ensures is { IfOk result
             (λ found. IsKnown arena.new (apply (symbol_in symbol) (terms_of (terms_at table.now ids.now))) found) }
         ensures extends { Extends arena.old arena.new }
         ensures normals { AreNormals table.now arena.new self.new }
-        ensures long { length self.new ≡ length self.old }
+        ensures more { KnowsMore self.old self.new }
     {
         match self.regexes(table, arena, ids)? {
             Some(regexes) => Ok(Known::made(joined(self.allocator(), arena, symbol, &regexes)?)),
@@ -229,7 +299,7 @@ impl Normals {
     /// What the concatenation of terms is.
     fn concatenated(&self, table: &Table, ids: &[TermId]) -> Known
         requires told { AreTold table.now self.now }
-        requires known { All (λ i. i < length self.now) ids.now }
+        requires known { list_all (is_known self.now) ids.now ≡ true }
         ensures { (rs : List Regex)
             → IsKnown rs (apply re_concat (terms_of (terms_at table.now ids.now))) result }
     {
@@ -237,7 +307,7 @@ impl Normals {
             return Known::Other;
         }
         for id in ids {
-            if let Known::Other | Known::Spelled(_) = self.known[id.number()] {
+            if let Known::Nothing | Known::Other | Known::Spelled(_) = self.kept(*id) {
                 return Known::Other;
             }
         }
@@ -251,13 +321,13 @@ impl Normals {
         arena: &mut Arena,
         ids: &[TermId],
     ) -> Result<Option<Vec<RegexId>>, AllocError>
-        requires known { All (λ i. i < length self.old) ids.now }
+        requires known { list_all (is_known self.old) ids.now ≡ true }
         requires normals { AreNormals table.now arena.old self.old }
         ensures found { IfOk result (λ found. MatchOption found (list_all is_regex (terms_at table.now ids.now) ≡ false)
             (λ found. AreRegexesOf arena.new (terms_at table.now ids.now) found.items)) }
         ensures extends { Extends arena.old arena.new }
         ensures normals { AreNormals table.now arena.new self.new }
-        ensures long { length self.new ≡ length self.old }
+        ensures more { KnowsMore self.old self.new }
     {
         let mut found = Vec::new(self.allocator());
         for id in ids {
@@ -276,32 +346,33 @@ impl Normals {
         arena: &mut Arena,
         id: TermId,
     ) -> Result<Option<RegexId>, AllocError>
-        requires known { id < length self.old }
+        requires known { is_known self.old id ≡ true }
         requires normals { AreNormals table.now arena.old self.old }
         ensures number { IfOk result (λ found. IsNumbered arena.new (term_at table.now id) found) }
         ensures extends { Extends arena.old arena.new }
         ensures normals { AreNormals table.now arena.new self.new }
-        ensures long { length self.new ≡ length self.old }
+        ensures more { KnowsMore self.old self.new }
     {
-        match self.known[id.number()] {
-            Known::Other | Known::Spelled(_) => Ok(None),
+        match self.kept(id) {
+            Known::Nothing | Known::Other | Known::Spelled(_) => Ok(None),
             Known::Made(regex) => Ok(Some(regex)),
             Known::Concatenation => {
                 let regex = self.concatenation(table, arena, id)?;
-                self.known[id.number()] = Known::Made(regex);
+                self.keep(id, Known::Made(regex));
                 Ok(Some(regex))
             }
         }
     }
 
-    /// The normal regex of a concatenation, from the last of its members to the first.
+    /// The normal regex of a concatenation, from the last of its members to the first. Linear in the tree of its parts
+    /// that are concatenations and not made.
     fn concatenation(
         &self,
         table: &Table,
         arena: &mut Arena,
         id: TermId,
     ) -> Result<RegexId, AllocError>
-        requires known { id < length self.now }
+        requires known { is_known self.now id ≡ true }
         requires normals { AreNormals table.now arena.old self.now }
         requires kind { is_regex (term_at table.now id) ≡ true }
         ensures names { IfOk result (λ regex. Names arena.new regex (regex_of (term_at table.now id))) }
@@ -311,7 +382,7 @@ impl Normals {
         let mut whole = arena.eps()?;
         let mut left = Vec::from_slice(self.allocator(), &[id])?;
         while let Some(last) = left.pop() {
-            match self.known[last.number()] {
+            match self.kept(last) {
                 Known::Made(regex) => whole = arena.cat(regex, whole)?,
                 _ => left.extend_from_slice(arguments_of(table, last))?,
             }

@@ -31,7 +31,7 @@ returns-in_err-joined-in-Some c =
       extends = extends_more _ _ _ before.extends e.extends;
       normals = normals_grown c.args.table.now c.regexes.new.arena c.joined.new.arena c.regexes.new.self e.extends
           before.normals;
-      long = before.long;
+      more = before.more;
     }
 
 pub returns-in_ok-joined-in-Some-clause-extends : goal.returns-in_ok-joined-in-Some-clause-extends

@@ -1,13 +1,25 @@
 use Rattle.sb_meaning.specs.Terms.{apply, str_to_re, re_range, terms_of}
 use Rattle.sb_term.specs.Numbered.{terms_at}
 use Rattle.sb_term.specs.Symbols.{symbol_in}
-use Rattle.sb_problem.proofs.Keeping.{told, known_is, normals_grown, applied_at, concat_is}
+use Rattle.sb_problem.specs.Known.{is_known}
+use Rattle.sb_problem.proofs.Keeping.{told, known_is, normals_grown, applied_at, arguments_pass, concat_is, knows_same}
 use Rattle.std.proofs.lemmas.Result.{IfOk-from_err}
-use Rattle.std.proofs.Common.{ap, refl, ◌∙◌}
+use Rattle.std.proofs.Common.{ap, ◌∙◌}
 use Rattle.sb_problem.proofs.normals.Normals.learn.Goals as goal
 
-pub concatenated-requires-clause-told : goal.concatenated-requires-clause-told
-concatenated-requires-clause-told c = told c.args.table.now c.args.arena.now c.args.self.now c.requires.normals
+pub concatenated-requires : goal.concatenated-requires
+concatenated-requires c = record {
+  told = told c.args.table.now c.args.arena.now c.args.self.now c.requires.normals;
+  known = arguments_pass c.args.table.now (is_known c.args.self.now) c.term.result.now c.in-Apply.symbol
+      c.in-Apply.arguments c.as_slice-arguments.result.now c.args.id c.requires.parts c.term.ensures.value c.in-Apply.is
+      c.as_slice-arguments.ensures c.term.ensures.arguments;
+}
+
+pub join-requires-clause-known : goal.join-requires-clause-known
+join-requires-clause-known c =
+    arguments_pass c.args.table.now (is_known c.args.self.now) c.term.result.now c.in-Apply.symbol
+    c.in-Apply.arguments c.as_slice-arguments.result.now c.args.id c.requires.parts c.term.ensures.value c.in-Apply.is
+    c.as_slice-arguments.ensures c.term.ensures.arguments
 
 pub returns-in_ok-of_word-in-StrToRe-clause-normals : goal.returns-in_ok-of_word-in-StrToRe-clause-normals
 returns-in_ok-of_word-in-StrToRe-clause-normals c =
@@ -36,7 +48,7 @@ returns-in_err-of_word-in-StrToRe c =
       extends = e.extends;
       normals = normals_grown c.args.table.now c.args.arena.now c.of_word.new.arena c.args.self.now e.extends
           c.requires.normals;
-      long = refl;
+      more = knows_same c.args.self.now;
     }
 
 pub returns-in_err-of_range-in-ReRange : goal.returns-in_err-of_range-in-ReRange
@@ -48,7 +60,7 @@ returns-in_err-of_range-in-ReRange c =
       extends = e.extends;
       normals = normals_grown c.args.table.now c.args.arena.now c.of_range.new.arena c.args.self.now e.extends
           c.requires.normals;
-      long = refl;
+      more = knows_same c.args.self.now;
     }
 
 pub returns-in_ok-of_word-in-StrToRe-clause-is : goal.returns-in_ok-of_word-in-StrToRe-clause-is
