@@ -1,9 +1,9 @@
 -- A heap of atoms and their places, when two places are changed for each other and when atoms come.
-use Rattle.std.proofs.Common.{◌≡◌, ◌≢◌, ℕ, ◌+◌, ◌-◌, ◌<◌, ◌≤◌, ◌^◌, Bool, true, false, not, ltb, List, [], ◌∷◌, ◌++◌, length, get_or, set, take, drop, replicate, refl, sym, ◌∙◌, ap, inl, inr, arith}
+use Rattle.std.proofs.Common.{◌≡◌, ◌≢◌, ℕ, ◌+◌, ◌-◌, ◌<◌, ◌≤◌, Bool, true, false, not, ltb, List, [], ◌∷◌, ◌++◌, length, get_or, set, take, drop, replicate, refl, sym, ◌∙◌, ap, inl, inr, arith}
 use Rattle.std.specs.List.{list_all}
 use Rattle.std.proofs.lemmas.Bool.{cases_eq, cases_lt, lt-ltb, le-ltb}
-use Rattle.std.proofs.lemmas.List.{length-set, length-map, length_push, get_or-set_same, get_or-set_other, get_or-map, get_or_append_left, get_or_push, same_lists, map-append, append_assoc, replicate-append-replicate, set-get_or, take_at}
-use Rattle.sb_activity.specs.Places.{Undoes, AreInverse, heap_swapped, places_swapped}
+use Rattle.std.proofs.lemmas.List.{length-set, length-map, get_or-set_same, get_or-set_other, get_or-map, same_lists, map-append, append_assoc, replicate-append-replicate, set-get_or, take_at}
+use Rattle.sb_activity.specs.Places.{Undoes, AreInverse, places_swapped}
 use Rattle.sb_activity.specs.Waiting.{are_first}
 
 -- a table with two numbers written,
@@ -37,52 +37,6 @@ one_place numbers table i k h at_i at_k same =
 settled : (numbers table : List ℕ) (k m : ℕ) → get_or numbers k 0 ≡ m → m < length table → get_or table m 0 ≡ k
     → (get_or numbers k 0 < length table) × (get_or table (get_or numbers k 0) 0 ≡ k)
 settled numbers table k m is within there = (rw is within, rw is there)
-
-undoes_swapped : (numbers table : List ℕ) (i j : ℕ) → Undoes numbers table → i < length numbers → j < length numbers
-    → Undoes (twice numbers i (get_or numbers j 0) j (get_or numbers i 0))
-    (twice table (get_or numbers i 0) j (get_or numbers j 0) i)
-undoes_swapped numbers table i j h at_i at_j k at_k =
-    let a = get_or numbers i 0 in
-    let b = get_or numbers j 0 in
-    let within : k < length numbers = omega (arith, at_k, length_twice numbers i b j a) in
-    let wide : length (twice table a j b i) ≡ length table = length_twice table a j b i in
-    elim (cases_eq k j) [
-      | inl is_j ↦
-          settled (twice numbers i b j a) (twice table a j b i) k a (at_second numbers i b j a k is_j at_j)
-          (omega (arith, wide, (h i at_i).0)) (elim (cases_eq a b) [
-            | inl same ↦
-                at_second table a j b i a same (h j at_j).0
-                ∙ (one_place numbers table j i h at_j at_i same ∙ sym is_j)
-            | inr differ ↦ at_first table a j b i a refl differ (h i at_i).0 ∙ sym is_j
-          ])
-      | inr not_j ↦
-          elim (cases_eq k i) [
-            | inl is_i ↦
-                settled (twice numbers i b j a) (twice table a j b i) k b
-                (at_first numbers i b j a k is_i (λ e. not_j (is_i ∙ e)) at_i) (omega (arith, wide, (h j at_j).0))
-                (at_second table a j b i b refl (h j at_j).0 ∙ sym is_i)
-            | inr not_i ↦
-                settled (twice numbers i b j a) (twice table a j b i) k (get_or numbers k 0)
-                (elsewhere numbers i b j a k not_i not_j) (omega (arith, wide, (h k within).0))
-                (elsewhere table a j b i (get_or numbers k 0)
-                (λ e. not_i (one_place numbers table i k h at_i within e))
-                (λ e. not_j (one_place numbers table j k h at_j within e)) ∙ (h k within).1)
-          ]
-    ]
-
-pub inverse_swapped : (heap places : List ℕ) (i j : ℕ) → AreInverse heap places → i < length heap → j < length heap
-    → AreInverse (heap_swapped heap i j) (places_swapped heap places i j)
-inverse_swapped heap places i j h at_i at_j =
-    let a = get_or heap i 0 in
-    let b = get_or heap j 0 in
-    record {
-      placed = undoes_swapped heap places i j h.placed at_i at_j;
-      found =
-          rw ((h.placed i at_i).1, (h.placed j at_j).1) at
-          (undoes_swapped places heap a b h.found (h.placed i at_i).0 (h.placed j at_j).0);
-      even = length_twice heap i b j a ∙ (h.even ∙ sym (length_twice places a j b i));
-      small = omega (arith, h.small, length_twice places a j b i);
-    }
 
 -- who is among the first, by place
 firsts : (count : ℕ) (places : List ℕ) (k : ℕ) (d : Bool) → k < length places
@@ -244,31 +198,6 @@ first_less heap places last h at_last =
 pub none_first : (places : List ℕ) → list_all not (are_first 0 places) ≡ true
 none_first [] = refl
 none_first (place ∷ places) = rw (le-ltb place 0 (omega arith)) (none_first places)
-
--- an atom that comes at the place of its own number,
-undoes_pushed : (numbers table : List ℕ) (n : ℕ) → Undoes numbers table → length numbers ≡ n → length table ≡ n
-    → Undoes (numbers ++ n ∷ []) (table ++ n ∷ [])
-undoes_pushed numbers table n h long wide k under =
-    let more : length (table ++ n ∷ []) ≡ length table + 1 = length_push table n in
-    elim (cases_lt k (length numbers)) [
-      | inl old ↦
-          settled (numbers ++ n ∷ []) (table ++ n ∷ []) k (get_or numbers k 0)
-          (get_or_append_left numbers (n ∷ []) 0 k old) (omega (arith, more, (h k old).0))
-          (get_or_append_left table (n ∷ []) 0 (get_or numbers k 0) (h k old).0 ∙ (h k old).1)
-      | inr new ↦
-          let is : k ≡ n = omega (arith, new, under, length_push numbers n, long) in
-          settled (numbers ++ n ∷ []) (table ++ n ∷ []) k n (rw is (get_or_push numbers n 0 n long))
-          (omega (arith, more, wide)) (get_or_push table n 0 n wide ∙ sym is)
-    ]
-
-pub inverse_pushed : (heap places : List ℕ) (n : ℕ) → AreInverse heap places → n ≡ length places → n < 2 ^ 32 - 1
-    → AreInverse (heap ++ n ∷ []) (places ++ n ∷ [])
-inverse_pushed heap places n h next fits = record {
-  placed = undoes_pushed heap places n h.placed (h.even ∙ sym next) (sym next);
-  found = undoes_pushed places heap n h.found (sym next) (h.even ∙ sym next);
-  even = omega (arith, length_push heap n, length_push places n, h.even);
-  small = omega (arith, length_push places n, next, fits);
-}
 
 -- is not among the first
 pub first_pushed : (places : List ℕ) (n count m : ℕ) (olds : List Bool) → count ≤ n

@@ -1,10 +1,9 @@
 -- What a search cites of its trail: reasons and levels when entries are added or taken off, and what `learn` wants.
-use Rattle.std.proofs.Common.{◌≡◌, ℕ, zero, suc, ◌+◌, ◌-◌, ◌<◌, ◌≤◌, ◌⊎◌, ◌&&◌, ◌||◌, true, false, leb, ltb, length, get_or, take, List, [], ◌∷◌, ◌++◌, Option, Some, None, refl, sym, ◌∙◌, ap, subst, inl, inr, arith, append_assoc}
-use Rattle.std.specs.Option.{option_map}
+use Rattle.std.proofs.Common.{◌≡◌, ℕ, zero, suc, ◌+◌, ◌-◌, ◌<◌, ◌≤◌, ◌⊎◌, ◌&&◌, ◌||◌, true, false, leb, ltb, List, [], ◌∷◌, ◌++◌, Option, Some, None, refl, sym, ◌∙◌, ap, subst, inl, inr, arith, append_assoc}
 use Rattle.std.proofs.lemmas.Option.{same_Some}
 use Rattle.std.specs.List.{list_all}
 use Rattle.std.proofs.lemmas.Bool.{false≢true, cases_Bool, lt-leb, leb-false, leb-true, ltb-true, ltb-false, and_parts, false_from_ne_true}
-use Rattle.std.proofs.lemmas.List.{take_more, append-nil}
+use Rattle.std.proofs.lemmas.List.{append-nil}
 use Rattle.std.proofs.lemmas.List.Elements.{filter-append}
 use Rattle.sb_lit.specs.declared.clause.Lit.{Lit}
 use Rattle.sb_lit.specs.Clauses.{negation, is_among, is_same_literal, is_open_under, is_false_under, is_false_clause, leaves_only}
@@ -21,7 +20,6 @@ pub use Rattle.sb_analyze.proofs.Teaching.{is_highest}
 pub use Rattle.sb_analyze.proofs.Assumptions.{decided_false}
 pub use Rattle.sb_analyze.proofs.Orders.{ascending_from_sort}
 use Rattle.sb_lit.proofs.CallerLemmas.{is_same_literal-true, all_among}
-use Rattle.sb_analyze.specs.Cores.{AreAssumed}
 use Rattle.sb_trail.proofs.CallerLemmas.{level_behind-above, level_after-push, up_to-all, up_to-up_to}
 
 append_one : (xs : List Assigned) (e : Assigned) (ys : List Assigned) → (xs ++ e ∷ []) ++ ys ≡ xs ++ e ∷ ys
@@ -152,36 +150,6 @@ teaches kept old middle new e is_trail settled level pushed grows id h top two =
             (sym (ap (λ (m : ℕ). up_to m new.literals) n ∙ below)) settled;
       },
     )
-
--- the same of what a test has
-pub teaches_at : (kept0 kept1 kept2 : Kept) → kept1 ≡ kept0 → kept2 ≡ kept1
-    → (old middle new : Assignments) (e : Assigned) → IsTrail old → IsSettled kept0 (held old.literals)
-    → e.level ≡ current_level old.literals + 1 → middle.literals ≡ old.literals ++ e ∷ []
-    → GrowsBy kept1 middle new → (id : ℕ) → IsConflict kept2 (held new.literals) id → (ls : List Lit)
-    → Some ls ≡ option_map (λ (k : KeptClause). k.literals) (kept_at kept2 id)
-    → highest new.literals ls ≡ current_level new.literals → HasTwoOf new.literals ls (current_level new.literals)
-    → (clause : KeptClause) × IsTeaching kept2 new.literals id clause
-teaches_at kept0 kept1 kept2 one two old middle new e is_trail settled level pushed grows id h ls found top both =
-    let same : h.clause.literals ≡ ls =
-    same_Some h.clause.literals ls (sym (ap (option_map (λ (k : KeptClause). k.literals)) h.there) ∙ sym found) in
-    teaches kept2 old middle new e is_trail
-    (subst (λ (k : Kept). IsSettled k (held old.literals)) (sym (two ∙ one)) settled) level pushed
-    (subst (λ (k : Kept). GrowsBy k middle new) (sym two) grows) id h
-    (ap (highest new.literals) same ∙ top)
-    (subst (λ (xs : List Lit). HasTwoOf new.literals xs (current_level new.literals)) (sym same) both)
-
--- one more entry that is an assumption if it was decided
-assumed_push : (assumptions : List Lit) (es : List Assigned) (e : Assigned) → AreAssumed assumptions es
-    → (e.reason ≡ None → is_among assumptions e.literal ≡ true) → AreAssumed assumptions (es ++ e ∷ [])
-assumed_push assumptions [] e h here = (here, tt)
-assumed_push assumptions (x ∷ xs) e h here = (h.0, assumed_push assumptions xs e h.1 here)
-
-pub assumed_more : (assumptions : List Lit) (es : List Assigned) (i : ℕ) (d : Assigned) → i < length es
-    → AreAssumed assumptions (take i es)
-    → ((get_or es i d).reason ≡ None → is_among assumptions (get_or es i d).literal ≡ true)
-    → AreAssumed assumptions (take (i + 1) es)
-assumed_more assumptions es i d within h here =
-    rw (take_more es i d within) (assumed_push assumptions (take i es) (get_or es i d) h here)
 
 -- the levels below the current one are settled where the trail grew by propagation,
 pub below_grown : (kept : Kept) (old new : Assignments) → IsSettledBelow kept old.literals → GrowsBy kept old new

@@ -411,15 +411,6 @@ pub cut_at : (xs : List Lit) (i : ℕ) (d : Lit) → i < length xs
 cut_at xs i d within =
     sym (take-append-drop i xs) ∙ ap (λ ys. take i xs ++ ys) (drop_more xs i d within)
 
-pub exclusive_none : (adds : Bool) (new : List (AtomOver ℕ)) (ls : List Lit) → length ls < 1
-    → GivesLike adds new exclusive ls None
-exclusive_none adds new ls short =
-    gives_nothing adds new exclusive ls (λ atoms others e. none atoms others (omega (arith, e, short)))
-  where
-    none : (atoms : List Atom) (others : List Lit) → length others < 1 → exclusive atoms others ≡ None
-    none atoms [] h = refl
-    none atoms (l ∷ others) h = absurd (omega (arith, h))
-
 -- A choice.
 
 pub not_three : (atoms : List Atom) (ls : List Lit) → (length ls ≡ 3 → ⊥) → choice atoms ls ≡ None
@@ -555,11 +546,6 @@ together_push (Some k ∷ os) ls l h = step (together os) h (λ ms e. together_p
     step None h rest e = absurd (some-none ls h)
     step (Some ms) h rest e =
         ap (λ ns. Some (ns ++ l ∷ [])) (same_Some ls (k ∷ ms) h) ∙ ap (option_map (λ ns. k ∷ ns)) (rest ms (sym e))
-
-together_stop : (os ps : List (Option Lit)) → together (os ++ None ∷ ps) ≡ None
-together_stop [] ps = refl
-together_stop (None ∷ os) ps = refl
-together_stop (Some k ∷ os) ps = ap (option_map (λ ms. k ∷ ms)) (together_stop os ps)
 
 pub all_push : {X : Type 0} (f : X → Option Lit) (xs : List X) (i : ℕ) (x : X) (ls : List Lit) (l : Lit)
     → i < length xs → x ≡ get_or xs i x → Some ls ≡ together (map f (take i xs)) → Some l ≡ f x

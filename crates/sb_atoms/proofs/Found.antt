@@ -128,12 +128,6 @@ asked_is rs t serial id R h within r atoms =
         ∙ ap regex_meant (r.means [])
         ∙ ap Some (sym (names_at rs id (normal r.reglan) r.names))
 
-pub member_none : (adds : Bool) (rs : List Regex) (new : List (AtomOver ℕ)) (serial : ℕ) (R : Term)
-    → is_regular R ≡ false → (t : Term) → asked t ≡ Some (serial, R)
-    → Finds is_below adds rs new (λ atoms. translation atoms t) None
-member_none adds rs new serial R past t h =
-    finds_none adds rs new (λ atoms. translation atoms t) (asked_none t serial R h past)
-
 its_regex : (rs : List Regex) (serial : ℕ) (R : Term) (a : AtomOver ℕ) → IsAtomOf rs serial R (Some a)
     → HasRegexBelow (length rs) a
 its_regex rs serial R a of = rw of.1 (names_below rs of.0 _ of.3.names)

@@ -174,12 +174,6 @@ parts_more g (m ∷ ms) l =
     ap (λ (cs : List (List Lit)). clause_of (gate g false ∷ m ∷ []) ++ cs) (parts_more g ms l)
     ∙ sym (append_assoc (clause_of (gate g false ∷ m ∷ [])) (parts_of g ms) (clause_of (gate g false ∷ l ∷ [])))
 
--- two calls, one behind the other
-pub put_two : (old mid new first second : List (List Lit)) → mid ≡ old ++ first → new ≡ mid ++ second
-    → new ≡ old ++ (first ++ second)
-put_two old mid new first second p q =
-    q ∙ ap (λ (xs : List (List Lit)). xs ++ second) p ∙ append_assoc old first second
-
 pub names_at : (atoms : List (AtomOver ℕ)) (g : ℕ) (a : AtomOver ℕ) → Names atoms g a → atom_at atoms g ≡ a
 names_at atoms g a h = get_or_from_slice_get atoms g a (bool_atom 0) h
 

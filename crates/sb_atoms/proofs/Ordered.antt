@@ -88,10 +88,6 @@ below_both : (l m : Lit) (ms : List Lit) → is_lt (literal_order l m) ≡ true 
     → are_ascending (l ∷ m ∷ ms) ≡ true
 below_both l m ms p q = and_from (is_lt (literal_order l m)) (are_ascending (m ∷ ms)) p q
 
-tail_ascending : (m : Lit) (ms : List Lit) → are_ascending (m ∷ ms) ≡ true → are_ascending ms ≡ true
-tail_ascending m [] h = refl
-tail_ascending m (k ∷ ms) h = (and_parts (is_lt (literal_order m k)) (are_ascending (k ∷ ms)) h).1
-
 -- a first one before the literal, and before the others, stays so
 behind_first : (m l : Lit) (ms : List Lit) → is_lt (literal_order m l) ≡ true → are_ascending (m ∷ ms) ≡ true
     → are_ascending (m ∷ with_literal l ms) ≡ true

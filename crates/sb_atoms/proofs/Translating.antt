@@ -1,5 +1,5 @@
 -- The literal of an atom over a table.
-use Rattle.std.proofs.Common.{◌≡◌, ℕ, zero, suc, ◌+◌, Bool, true, false, inl, cond, Some, List, []}
+use Rattle.std.proofs.Common.{◌≡◌, ℕ, zero, suc, ◌+◌, Bool, true, false, cond, Some, List, []}
 use Rattle.std.proofs.Common.{◌∷◌, length, slice_get, refl, sym, ap, ap₂, ◌∙◌, arith}
 use Rattle.std.specs.List.{position_from}
 use Rattle.std.specs.Prelude.{ℤ, None, option_map}
@@ -16,9 +16,9 @@ use Rattle.sb_rulebook.specs.Atoms.{is_same_atom, number_of}
 use Rattle.sb_rulebook.proofs.CallerLemmas.{same_atom, atom_itself}
 use Rattle.sb_script.specs.Pieces.{Piece}
 use Rattle.sb_script.specs.Sums.{Variable, Summand}
-use Rattle.sb_atoms.specs.Growing.{IsApart, IsLiteralOf, GrownByOne}
+use Rattle.sb_atoms.specs.Growing.{IsApart, IsLiteralOf}
 use Rattle.sb_atoms.proofs.TableFacts.{other_kinds, bool_part, and_part, iff_parts}
-use Rattle.sb_atoms.specs.Numbered.{Names, IsNumberIn, IsWith, AreDistinct, over, atoms_in}
+use Rattle.sb_atoms.specs.Numbered.{Names, IsNumberIn, AreDistinct, over, atoms_in}
 use Rattle.sb_atoms.specs.Numbered.{HasRegexBelow, HaveRegexesBelow}
 
 -- Equal atoms over an arena are one.
@@ -164,10 +164,3 @@ literal_missing order adds atoms a off none = record {
   sure = λ on _. false≢true (sym off ∙ on);
   names = λ l h. absurd (some-none l (sym h));
 }
-
-pub added_one : (adds : Bool) (old new : List (AtomOver ℕ)) (a : AtomOver ℕ) → adds ≡ true → IsWith old new a
-    → GrownByOne adds old new a
-added_one adds old new a on one = record { one = one; still = λ off. absurd (false≢true (sym off ∙ on)) }
-
-pub added_none : (adds : Bool) (old : List (AtomOver ℕ)) (a : AtomOver ℕ) → GrownByOne adds old old a
-added_none adds old a = record { one = inl refl; still = λ off. refl }

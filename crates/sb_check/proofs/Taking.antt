@@ -95,11 +95,6 @@ pub first_due_last : (line : Line) (p : Progress) → p.phase ≡ at_end → p.b
 first_due_last line p is begun = ap (λ phase. takes_in phase line p) is
     ∙ ap (λ b. if b then takes_last line p else takes_first line p) begun
 
-pub last_due : (line : Line) (p : Progress) → p.phase ≡ at_end → p.begun ≡ true
-    → takes_in p.phase line p ≡ takes_last line p
-last_due line p is begun = ap (λ phase. takes_in phase line p) is
-    ∙ ap (λ b. if b then takes_last line p else takes_first line p) begun
-
 -- else it is taken by what is kept
 pub line_due : (q : Question) (line : Line) (p : Progress) → p.phase ≡ at_check q → p.begun ≡ true
     → takes_in p.phase line p ≡ takes_at_check q line p

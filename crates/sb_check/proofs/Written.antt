@@ -1,6 +1,6 @@
 -- What a run has written, where more is written.
 use Rattle.std.proofs.Common.{◌≡◌, ℕ, ◌+◌, ◌<◌, List, ◌++◌, length, take, Result, Ok, Err, OnOk, OnErr, refl, sym, ap, ap₂, ◌∙◌, inr, arith}
-use Rattle.std.proofs.Math.Seq.{take-append-add, take-append_seam, take-length}
+use Rattle.std.proofs.Math.Seq.{take-append-add, take-append_seam}
 use Rattle.sb_world.specs.Outside.{Outside, write_at}
 use Rattle.sb_world.specs.Moved.{moved_by, nothing, writing}
 use Rattle.sb_world.specs.declared.OutPort.TheVariants.{Answers, Faults}
@@ -49,24 +49,6 @@ writes_front script proof outcome other text more out old before now w is h same
   writes_on script proof outcome other text (take out more) (take (length text + out) (answer other)) old before now w
       is h
       (sym (take-append-add text more out) ∙ ap (take (length text + out)) (sym same)),
-)
-
--- all of it
-pub writes_all : (script proof : List ℕ) (outcome : Outcome) (text : List ℕ) (old now : Outside)
-    → Writes script proof outcome text old now → answer outcome ≡ text → CutShort script proof old now
-writes_all script proof outcome text old now w same = (
-  outcome,
-  length text,
-  record {
-    is = w.is;
-    script_read = w.script_read;
-    proof_read = w.proof_read;
-    moved = w.moved ∙ ap (λ t. moved_by (record nothing {
-      script = w.script_read;
-      proof = w.proof_read;
-      answers = t;
-    }) old) (sym (take-length text) ∙ ap (take (length text)) (sym same));
-  },
 )
 
 -- the verdicts of an outcome are written, which is a front of its text

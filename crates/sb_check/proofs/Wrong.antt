@@ -5,7 +5,6 @@ use Rattle.std.specs.List.{list_all}
 use Rattle.sb_lit.specs.declared.clause.Lit.{Lit}
 use Rattle.sb_lit.specs.Kept.{KeptClause, kept_at}
 use Rattle.sb_check.specs.Standing.{is_bare}
-use Rattle.sb_rulebook.specs.Refusals.{unknown_id}
 use Rattle.sb_rulebook.specs.Lines.{Said, said_unsat, said_unknown}
 use Rattle.sb_rulebook.specs.Kept.{AllKept}
 use Rattle.sb_rules.specs.declared.kept.Kept.{Kept}
@@ -21,10 +20,6 @@ none_denied : (q : Question) (kept : AllKept) (ls : List Lit) → q.assumptions 
     → list_all (denies_assumption q kept) ls ≡ is_bare ls
 none_denied q kept [] h = refl
 none_denied q kept (l ∷ ls) h = rw h refl
-
-pub of_no_clause : (q : Question) (kept : AllKept) (id : ℕ) → kept_at kept.clauses id ≡ None
-    → refusal_of q kept (said_unsat id None) ≡ Some unknown_id
-of_no_clause q kept id h = rw (h, refusal_of) refl
 
 pub of_clause : (q : Question) (kept : AllKept) (id : ℕ) (clause : KeptClause) → kept_at kept.clauses id ≡ Some clause
     → q.assumptions ≡ [] → kept.format ≡ 1

@@ -1,9 +1,8 @@
 -- Fewer of some literals.
-use Rattle.std.proofs.Common.{◌≡◌, ℕ, zero, suc, ◌+◌, ◌<◌, ◌≤◌, Bool, if◌then◌else◌, List, [], ◌∷◌, ◌++◌, length, get_or, take, drop, arith, add-one}
+use Rattle.std.proofs.Common.{◌≡◌, ℕ, zero, suc, ◌+◌, ◌<◌, ◌≤◌, Bool, if◌then◌else◌, List, [], ◌∷◌, ◌++◌, length, get_or, take, drop, arith}
 use Rattle.std.specs.List.{count_by}
 use Rattle.std.proofs.lemmas.List.Sums.{sum_by-cons}
 use Rattle.sb_lit.specs.declared.clause.Lit.{Lit}
-use Rattle.sb_lit.specs.Clauses.{is_same_literal}
 use Rattle.sb_clash.specs.Literals.{AreFewer}
 
 abbrev one_if : Bool → ℕ
@@ -18,9 +17,6 @@ without p [] (suc i) = omega arith
 without p (x ∷ xs) zero = omega (arith, count_cons p x xs)
 without p (x ∷ xs) (suc i) =
     omega (arith, without p xs i, count_cons p x xs, count_cons p x (take i xs ++ drop (suc i) xs))
-
-pub fewer_without : (xs : List Lit) (i : ℕ) → AreFewer (take i xs ++ drop (i + 1) xs) xs
-fewer_without xs i = λ l. rw (add-one i) (without (λ m. is_same_literal m l) xs i)
 
 one_of : (p : Lit → Bool) (xs : List Lit) (j : ℕ) (e : Lit) → j < length xs
     → one_if (p (get_or xs j e)) ≤ count_by p xs
@@ -37,20 +33,6 @@ two_of p (x ∷ xs) zero (suc j) d e a l =
 two_of p (x ∷ xs) (suc i) zero d e a l = absurd (omega (arith, a))
 two_of p (x ∷ xs) (suc i) (suc j) d e a l =
     omega (arith, two_of p xs i j d e (omega (arith, a)) (omega (arith, l)), count_cons p x xs)
-
-pub fewer_pair : (xs : List Lit) (i j : ℕ) (d e : Lit) → i < j → j < length xs
-    → AreFewer (get_or xs i d ∷ get_or xs j e ∷ []) xs
-fewer_pair xs i j d e a l = λ m.
-    let p : Lit → Bool = λ x. is_same_literal x m in
-    omega (
-      arith,
-      two_of p xs i j d e a l,
-      count_cons p (get_or xs i d) (get_or xs j e ∷ []),
-      count_cons p (get_or xs j e) [],
-    )
-
-pub fewer_same : (xs : List Lit) → AreFewer xs xs
-fewer_same xs = λ l. omega arith
 
 pub fewer_both : (xs ys zs : List Lit) → AreFewer xs ys → AreFewer ys zs → AreFewer xs zs
 fewer_both xs ys zs h g = λ l. omega (arith, h l, g l)

@@ -1,15 +1,13 @@
 -- A number that gets its clause.
 use Rattle.std.proofs.Common.{◌≡◌, ◌≢◌, ℕ, zero, suc, ◌+◌, ◌^◌, ◌<◌, ◌≤◌, true, ltb, List, [], ◌∷◌, ◌++◌, length, get_or, set, take, Option, Some, None, refl, sym, ◌∙◌, ap, inl, inr, arith}
 use Rattle.std.specs.List.{list_all}
-use Rattle.std.specs.Option.{unwrap_or, option_map}
+use Rattle.std.specs.Option.{unwrap_or}
 use Rattle.std.proofs.lemmas.Bool.{and_from, ltb-true, lt-ltb, cases_lt, cases_eq, ne_eqb}
 use Rattle.std.proofs.lemmas.Option.{none-some, same_Some, slice_get_past}
-use Rattle.std.proofs.lemmas.List.{length-set, length_push, map-append}
+use Rattle.std.proofs.lemmas.List.{length-set, length_push}
 use Rattle.std.proofs.lemmas.List.Folds.{list_all_more}
 use Rattle.sb_lit.specs.declared.clause.Lit.{Lit}
 use Rattle.sb_lit.specs.Kept.{Kept, KeptClause, kept_at}
-use Rattle.sb_clauses.specs.declared.record.Record.{Record}
-use Rattle.sb_clauses.specs.Records.{clause_of, kept_of}
 use Rattle.sb_clauses.specs.WatchLists.{WatchLists, times}
 use Rattle.sb_clauses.specs.Watching.{list_of, is_small, literal_of, home, IsPlaced, HasClause, watched_at, IsSide, AreWatched}
 use Rattle.sb_clauses.specs.Adding.{IsRoomier, AreEnough}
@@ -183,7 +181,3 @@ added_watched kept k firsts seconds first second n a b w is_n f s nf ns pf ps = 
   at_first = added_side kept k firsts seconds first n a b w.at_first is_n f s nf pf;
   at_second = added_side kept k seconds firsts second n b a w.at_second is_n s f ns ps;
 }
-
-pub kept_pushed : (items new : List (Option Record)) (r : Record) → new ≡ items ++ Some r ∷ []
-    → kept_of new ≡ kept_of items ++ Some (clause_of r) ∷ []
-kept_pushed items new r h = ap kept_of h ∙ map-append (option_map clause_of) items (Some r ∷ [])

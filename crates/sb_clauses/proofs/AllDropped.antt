@@ -31,9 +31,6 @@ none_at (x ∷ xs) (suc id) = none_at xs id
 no_clause : (kept : Kept) (id : ℕ) (clause : List Lit) → HasClause (all_dropped kept) id clause → ⊥
 no_clause kept id clause has = none-some has.found (sym (none_at kept id) ∙ has.there)
 
-past_none : (id : ℕ) → kept_at [] id ≡ None
-past_none id = refl
-
 stays_none : (level : ℕ) (kept : Kept) (id : ℕ) → kept_at kept id ≡ None → kept_at (kept_up_to level kept) id ≡ None
 stays_none level [] id h = h
 stays_none level (x ∷ xs) zero h = ap (stays_up_to level) h
@@ -56,10 +53,6 @@ set_none (x ∷ xs) zero zero h = refl
 set_none (x ∷ xs) zero (suc id) h = h
 set_none (x ∷ xs) (suc number) zero h = h
 set_none (x ∷ xs) (suc number) (suc id) h = set_none xs number id h
-
--- at first
-pub empty_none : (kept : Kept) → AreEmptyBefore 0 kept
-empty_none kept = record { inside = omega arith; empty = λ id below. absurd (omega (arith, below)) }
 
 -- a record more
 pub empty_more : (place : ℕ) (records : List (Option Record)) (r : Option Record)

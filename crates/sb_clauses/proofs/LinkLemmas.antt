@@ -1,19 +1,8 @@
 -- Numbers, and places without one, each as one number.
-use Rattle.std.proofs.Common.{◌≡◌, ◌≢◌, ℕ, zero, suc, ◌-◌, ◌+◌, ◌≤◌, List, [], ◌∷◌, ◌++◌, map, length, get_or, set, take, replicate, Option, Some, None, Result, Ok, Err, refl, sym, ◌∙◌, ap, arith}
+use Rattle.std.proofs.Common.{◌≡◌, ℕ, zero, suc, ◌-◌, ◌+◌, ◌≤◌, List, [], ◌∷◌, ◌++◌, map, length, get_or, set, take, replicate, Option, None, Result, Ok, Err, refl, ◌∙◌, ap}
 use Rattle.std.specs.Result.{OnOk, OnErr}
-use Rattle.std.proofs.Math.ListN.{get_or-map}
 use Rattle.std.proofs.lemmas.List.{map-set, map-append, take_all, length-map}
 use Rattle.sb_clauses.specs.Links.{link}
-
-pub link_some : (code : ℕ) → code ≢ 0 → link code ≡ Some (code - 1)
-link_some zero other = absurd (other refl)
-link_some (suc n) other = ap Some (omega arith)
-
-pub link_of : (n : ℕ) → link (n + 1) ≡ Some n
-link_of n = link_some (n + 1) (λ e. omega (arith, e)) ∙ ap Some (omega arith)
-
-pub link_at : (codes : List ℕ) (at : ℕ) → link (get_or codes at 0) ≡ get_or (map link codes) at None
-link_at codes at = sym (get_or-map link codes at 0)
 
 pub link_set : (codes : List ℕ) (at code : ℕ) (number : Option ℕ) → link code ≡ number
     → map link (set codes at code) ≡ set (map link codes) at number
@@ -29,17 +18,6 @@ pub link_grown : (codes : List ℕ) (n : ℕ) → length codes ≤ n
 link_grown codes n more =
     map-append link (take n codes) (replicate (n - length codes) 0)
     ∙ rw (take_all n codes more, length-map codes link) (ap (λ os. map link codes ++ os) (link_replicate (n - length codes)))
-
-pub link_none : (codes : List ℕ) (n : ℕ) → n ≤ length codes
-    → map link codes ≡ map link codes ++ replicate (n - length (map link codes)) None
-link_none codes n less = rw zero_more (sym (append_none (map link codes)))
-  where
-    zero_more : n - length (map link codes) ≡ 0
-    zero_more = omega (arith, less, length-map codes link)
-
-    append_none : (os : List (Option ℕ)) → os ++ replicate 0 None ≡ os
-    append_none [] = refl
-    append_none (o ∷ os) = ap (λ ps. o ∷ ps) (append_none os)
 
 -- what grew, or stayed for want of memory
 pub either_way : {X E : Type 0} (r : Result X E) (P : List (Option ℕ) → Type 0) (old new more : List (Option ℕ))

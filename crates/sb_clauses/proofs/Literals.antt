@@ -2,7 +2,7 @@
 use Rattle.std.proofs.Common.{◌≡◌, ℕ, zero, suc, ◌<◌, Bool, true, false, not, cond, ◌&&◌, eqb, List, [], ◌∷◌, length, get_or, take, Option, Some, None, refl, sym, ◌∙◌, ap, inl, inr, arith}
 use mathlib.Core.Bool.{beq}
 use Rattle.std.specs.List.{list_all}
-use Rattle.std.proofs.lemmas.Bool.{false≢true, and_parts, and_from, or_left, or_right, or_from, or_cases, not-false, not_from_false, false_from_ne_true}
+use Rattle.std.proofs.lemmas.Bool.{false≢true, and_parts, and_from, or_left, or_right, or_from, or_cases, not_from_false, false_from_ne_true}
 use Rattle.std.proofs.lemmas.List.Folds.{list_any_at}
 use Rattle.sb_lit.specs.declared.clause.Lit.{Lit}
 use Rattle.sb_lit.specs.Clauses.{is_same_literal, is_among, is_true_under, is_false_under, is_open_under, value_under, is_false_clause, leaves_only}
@@ -10,12 +10,6 @@ use Rattle.sb_lit.proofs.CallerLemmas.{is_same_literal-true, is_same_literal-sel
 use Rattle.sb_trail.specs.Assignments.{IsConsistent}
 use Rattle.sb_clauses.specs.Looking.{is_or_false}
 use Rattle.sb_clauses.specs.Examining.{IsIdle}
-
--- where a test whether they differ fails
-pub same_by_ne : (l m : Lit) → not (eqb l.atom m.atom && beq l.positive m.positive) ≡ false → l ≡ m
-same_by_ne l m h =
-    is_same_literal-true l m
-    (sym (is_same_literal-beq l m) ∙ not-false (eqb l.atom m.atom && beq l.positive m.positive) h)
 
 -- where a test whether they are equal fails
 pub other_by_eq : (l m : Lit) → (eqb l.atom m.atom && beq l.positive m.positive) ≡ false → is_same_literal l m ≡ false

@@ -112,10 +112,6 @@ pub record IsPouring (from to : ℕ) (old now : WatchLists) : Type 0 where
   pub others : (l : ℕ) → l ≢ from → l ≢ to → list_at now.lists l ≡ list_at old.lists l
   pub same_times : (n : ℕ) → times n now.lists ≡ times n old.lists
 
-pub pouring_none : (from to : ℕ) (old : WatchLists) → IsPouring from to old old
-pouring_none from to old =
-    record { nodes = refl; len = refl; counts = λ n. refl; others = λ l a b. refl; same_times = λ n. refl }
-
 pub pouring_more : (from to n : ℕ) (old now : WatchLists) → from < length old.lists → to < length old.lists
     → (from ≡ to → ⊥)
     → Some n ≡ slice_get (list_at now.lists from) 0 → IsPouring from to old now

@@ -1,36 +1,27 @@
 -- Clauses that are kept and not yet listed.
-use Rattle.std.proofs.Common.{◌≡◌, ℕ, zero, suc, eqb, ◌<◌, Bool, true, false, ◌||◌, List, [], ◌∷◌, length, Option, Some, None, refl, sym, ◌∙◌, ap, inl, inr, arith}
+use Rattle.std.proofs.Common.{◌≡◌, ℕ, zero, suc, eqb, ◌<◌, Bool, true, false, List, [], ◌∷◌, length, Option, Some, None, refl, sym, ◌∙◌, ap, inl, inr, arith}
 use Rattle.std.specs.List.{list_all}
-use Rattle.std.specs.Option.{option_map, is_none, MatchOption}
-use Rattle.std.proofs.lemmas.Bool.{false≢true, or_cases, or_left, or_parts, eq-eqb, false_from_ne_true}
+use Rattle.std.specs.Option.{option_map, is_none}
+use Rattle.std.proofs.lemmas.Bool.{false≢true, or_cases, or_left, eq-eqb, false_from_ne_true}
 use Rattle.std.proofs.lemmas.Option.{same_Some}
 use Rattle.sb_lit.specs.declared.clause.Lit.{Lit}
-use Rattle.sb_lit.specs.Clauses.{negation, is_same_literal, is_among, is_false_under, is_false_clause, value_under}
+use Rattle.sb_lit.specs.Clauses.{negation, is_same_literal, is_among, is_false_under, value_under}
 use Rattle.sb_trail.specs.declared.assigned.Assigned.{Assigned}
-use Rattle.sb_trail.specs.Assignments.{held, is_of, entry_of, value_of, up_to, AreDistinct, IsConsistent}
+use Rattle.sb_trail.specs.Assignments.{held, is_of, entry_of, value_of, up_to, AreDistinct}
 use Rattle.sb_clauses.specs.Looking.{is_or_false, IsLeft}
 use Rattle.sb_clauses.specs.Watching.{literal_at, no_literal, is_short}
 use Rattle.sb_clauses.specs.Marking.{mark_at, held_up_to, AreBelow, IsFront}
-use Rattle.sb_clauses.specs.Waiting.{is_the, IsOther, IsBest, AreWatchable, AreBest, AreLate, HasRank, IsStaying}
-use Rattle.sb_lit.proofs.CallerLemmas.{is_same_literal-true, open-not_false}
+use Rattle.sb_clauses.specs.Waiting.{is_the, IsOther, IsBest, AreWatchable, AreBest, AreLate, HasRank}
+use Rattle.sb_lit.proofs.CallerLemmas.{is_same_literal-true}
 use Rattle.sb_trail.proofs.CallerLemmas.{entry_of-up_to}
-use Rattle.sb_clauses.proofs.Literals.{all_weaker, true_by_value, false_by_value, open_by_value, leaves_only-from, among_at}
-use Rattle.sb_clauses.proofs.Settling.{short_back, long_back}
+use Rattle.sb_clauses.proofs.Literals.{all_weaker, open_by_value, leaves_only-from, among_at}
+use Rattle.sb_clauses.proofs.Settling.{short_back}
 use Rattle.sb_clauses.proofs.Marked.{front_at, up_to_in}
 
 -- places to watch
 pub no_places : (clause : List Lit) → list_all (is_the None) clause ≡ true → AreWatchable clause no_literal no_literal
 no_places [] h = record { inside = λ some. absurd (omega arith); bare = λ none. (refl, refl); short = λ is. refl }
 no_places (x ∷ xs) h = absurd (false≢true h)
-
-pub two_places : (clause : List Lit) (first second : ℕ) → IsOther clause None first
-    → IsOther clause (Some (literal_at clause first)) second
-    → AreWatchable clause (literal_at clause first) (literal_at clause second)
-two_places clause first second h k = record {
-  inside = λ some. (among_at clause clause first no_literal h.inside, among_at clause clause second no_literal k.inside);
-  bare = λ none. absurd (omega (arith, ap length none, h.inside));
-  short = λ is. absurd (false≢true (sym (long_back (literal_at clause second) (literal_at clause first) k.other) ∙ is));
-}
 
 pub one_place : (clause : List Lit) (first : ℕ) → IsOther clause None first
     → list_all (is_the (Some (literal_at clause first))) clause ≡ true
@@ -94,36 +85,10 @@ both_late es mid new a b first second distinct front below also ranked ranked_to
       other_open = late_literal es (mark_at new i) second b distinct ranked_too (also i within);
     }
 
-pub none_late : (es : List Assigned) (new : List ℕ) (a b : Lit) → new ≡ [] → AreLate es new a b
-none_late es new a b none i within = absurd (omega (arith, ap length none))
-
--- the best place, found by its level where all are false
-pub best_of : (literals clause : List Lit) (avoided : Option Lit) (found : Option ℕ)
-    → list_all (λ l. is_the avoided l || is_false_under literals l) clause ≡ true
-    → MatchOption found (list_all (is_the avoided) clause ≡ true) (IsOther clause avoided)
-    → MatchOption found (list_all (is_the avoided) clause ≡ true) (IsBest literals clause avoided)
-best_of literals clause avoided None all h = h
-best_of literals clause avoided (Some place) all h = record { other = h; best = λ is. all }
-
-pub best_here : (literals clause : List Lit) (avoided : Option Lit) (place : ℕ) → place < length clause
-    → (is_the avoided (literal_at clause place) || is_false_under literals (literal_at clause place)) ≡ false
-    → IsBest literals clause avoided place
-best_here literals clause avoided place within h =
-    let parts = or_parts (is_the avoided (literal_at clause place)) (is_false_under literals (literal_at clause place)) h in
-    record {
-      other = record { inside = within; other = parts.0 };
-      best = λ is. absurd (false≢true (sym parts.1 ∙ is));
-    }
-
 -- what the places to watch say of the others
 pub no_best : (literals clause : List Lit) → list_all (is_the None) clause ≡ true → AreBest literals clause no_literal no_literal
 no_best literals [] h = record { top = λ is. refl; next = λ is. refl }
 no_best literals (x ∷ xs) h = absurd (false≢true h)
-
-pub two_best : (literals clause : List Lit) (first second : ℕ) → IsBest literals clause None first
-    → IsBest literals clause (Some (literal_at clause first)) second
-    → AreBest literals clause (literal_at clause first) (literal_at clause second)
-two_best literals clause first second h k = record { top = h.best; next = k.best }
 
 pub one_best : (literals clause : List Lit) (first : ℕ) → IsBest literals clause None first
     → list_all (is_the (Some (literal_at clause first))) clause ≡ true
@@ -137,36 +102,6 @@ one_best literals clause first h all = record {
 pub some_length : (n : ℕ) → eqb n 0 ≡ false → 0 < n
 some_length zero h = absurd (false≢true (sym h))
 some_length (suc n) h = omega arith
-
--- what a new clause comes to
-pub arrives_false : (literals clause : List Lit) (own other : Lit) (v : Option Bool) → AreBest literals clause own other
-    → v ≡ value_under literals own → v ≡ Some false → is_false_clause literals clause ≡ true
-arrives_false literals clause own other v best value is =
-    best.top (false_by_value literals own (sym value ∙ is))
-
-pub arrives_true : (literals clause : List Lit) (own other : Lit) (v : Option Bool) → is_among clause own ≡ true
-    → IsConsistent literals → v ≡ value_under literals own → v ≡ Some true
-    → IsStaying literals clause own other
-arrives_true literals clause own other v within consistent value is = record {
-  consistent = consistent;
-  stays = inl (record { inside = within; holds = true_by_value literals own (sym value ∙ is) });
-}
-
-pub arrives_open : (literals clause : List Lit) (own other : Lit) (v : Option Bool) → IsConsistent literals
-    → v ≡ value_under literals own → v ≡ None
-    → is_or_false literals own other ≡ false
-    → IsStaying literals clause own other
-arrives_open literals clause own other v consistent value is h =
-    let parts = or_parts (is_same_literal other own)
-    (is_false_under literals other) h in
-    record {
-      consistent = consistent;
-      stays = inr (record {
-        long = long_back other own parts.0;
-        own_open = open-not_false literals own (open_by_value literals own (sym value ∙ is));
-        other_open = parts.1;
-      });
-    }
 
 pub arrives_forced : (entries : List Assigned) (clause : List Lit) (own other : Lit) (v : Option Bool) → is_among clause own ≡ true
     → AreWatchable clause own other → AreBest (held entries) clause own other

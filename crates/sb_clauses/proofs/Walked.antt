@@ -14,7 +14,7 @@ use Rattle.sb_clauses.specs.Watching.{list_of, is_short, home, stands, IsPlaced,
 use Rattle.sb_clauses.specs.Walking.{Walk, AreFalseOf, IsWalking, IsAway, IsMoved, Advances, AreHeld}
 use Rattle.sb_clauses.specs.Settling.{Grown}
 use Rattle.sb_lit.proofs.CallerLemmas.{all_among}
-use Rattle.sb_clauses.proofs.Growing.{GrowsBy-none, GrowsBy-then}
+use Rattle.sb_clauses.proofs.Growing.{GrowsBy-then}
 use Rattle.sb_clauses.proofs.Moving.{list_at}
 use Rattle.sb_clauses.proofs.Walking.{grown_by, list_of-positive, stands_self, stands_other}
 
@@ -43,9 +43,6 @@ moved_then old now a b d other grown (inr h) (inr k) =
           h.old_long;
       now_long = k.now_long;
     })
-
-pub advances_none : (w : Walk) → Advances w w
-advances_none w = record { grows = GrowsBy-none w.kept w.trail; len = refl; moved = λ id c has. inl refl }
 
 pub advances_then : (kept : Kept) (other own0 own1 own2 : List ℕ) (all0 all1 all2 : WatchLists)
     (trail0 trail1 trail2 : Assignments)

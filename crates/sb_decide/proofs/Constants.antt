@@ -1,16 +1,12 @@
 -- Constants by their place, with the places of their memberships.
-use Rattle.std.proofs.Common.{◌≡◌, ◌≢◌, ℕ, zero, suc, ◌-◌, ◌<◌, ◌≤◌, Bool, true, false, ◌||◌, ◌==◌, List, [], ◌∷◌, ◌++◌, length, get_or, set, take, refl, sym, ap, ◌∙◌, arith, length-append}
-use Rattle.std.proofs.lemmas.Bool.{or_parts, false≢true, eq-eqb, eqb-true, eqb-false}
-use Rattle.std.proofs.lemmas.List.{length-set}
+use Rattle.std.proofs.Common.{◌≡◌, ◌≢◌, ℕ, zero, suc, ◌-◌, ◌<◌, ◌≤◌, Bool, true, false, ◌==◌, List, [], ◌∷◌, ◌++◌, length, get_or, set, take, refl, sym, ap, ◌∙◌, arith, length-append}
+use Rattle.std.proofs.lemmas.Bool.{false≢true, eqb-true, eqb-false}
 use Rattle.std.proofs.Math.Seq.{take-append_seam}
-use Rattle.std.proofs.lemmas.List.Elements.{All-push}
-use Rattle.std.specs.List.{All}
 use Rattle.sb_word.specs.Words.{are_characters}
 use Rattle.std.proofs.lemmas.Bool.{and_parts, and_from}
-use Rattle.sb_term.specs.declared.term.Serial.{Serial}
 use Rattle.sb_stack.specs.Stacked.{are_words}
 use Rattle.sb_decide.specs.declared.conjuncts.Member.{Member}
-use Rattle.sb_decide.specs.Conjoined.{Conjoined, blank, changed_with, without_last, conjoined_at, is_listed, OthersSettled, IsChangedAt}
+use Rattle.sb_decide.specs.Conjoined.{Conjoined, without_last, conjoined_at, IsChangedAt}
 use Rattle.sb_decide.specs.Deciding.{word_at}
 use Rattle.sb_decide.specs.Members.{places_in}
 use Rattle.sb_decide.proofs.MemberFacts.{places_here, places_other}
@@ -21,23 +17,9 @@ conjoined_within [] n c l is = absurd (omega arith)
 conjoined_within (x ∷ cs) zero c l is = sym is
 conjoined_within (x ∷ cs) (suc n) c l is = conjoined_within cs n c (omega (arith, l)) is
 
--- a new constant
-conjoined_blank : (cs : List Conjoined) (n : ℕ) → conjoined_at (cs ++ blank ∷ []) n ≡ conjoined_at cs n
-conjoined_blank [] zero = refl
-conjoined_blank [] (suc n) = refl
-conjoined_blank (c ∷ cs) zero = refl
-conjoined_blank (c ∷ cs) (suc n) = conjoined_blank cs n
-
 pub record Growing (old new : List Conjoined) (count : ℕ) : Type 0 where
   pub within : length new ≤ count
   pub same : (n : ℕ) → conjoined_at new n ≡ conjoined_at old n
-
-pub growing_more : (old new new' : List Conjoined) (count : ℕ) (c : Conjoined) → Growing old new count
-    → length new < count → new' ≡ new ++ c ∷ [] → c ≡ blank → Growing old new' count
-growing_more old new new' count c g l more is = rw (more, is) (record {
-  within = omega (arith, l, length-append new (blank ∷ []));
-  same = λ n. conjoined_blank new n ∙ g.same n;
-})
 
 -- a new word
 word_blank : (words : List (List ℕ)) (n : ℕ) → word_at (words ++ [] ∷ []) n ≡ word_at words n
@@ -87,54 +69,6 @@ words_set (x ∷ words) zero w h c =
 words_set (x ∷ words) (suc i) w h c =
     and_from (are_characters x) (are_words (set words i w)) (and_parts (are_characters x) (are_words words) h).0
     (words_set words i w (and_parts (are_characters x) (are_words words) h).1 c)
-
--- one constant has other memberships
-pub changed_at : (old new : List Conjoined) (serial : ℕ) (places : List ℕ) → serial < length old
-    → new ≡ set old serial (changed_with places) → IsChangedAt old new serial places
-changed_at old new serial places l is = rw is (record {
-  same_length = length-set old serial _;
-  there = conjoined_set old serial _ l;
-  others = λ n h. conjoined_set_other old serial n _ h;
-})
-
--- the list of constants whose words are to be found
-listed_here : (changed : List Serial) (serial : Serial) (n : ℕ) → is_listed (changed ++ serial ∷ []) n ≡ false
-    → (is_listed changed n ≡ false) × (n ≢ serial.0)
-listed_here [] serial n h = (
-  refl,
-  λ e. false≢true (sym (or_parts (serial.0 == n) false h).0 ∙ eq-eqb serial.0 n (sym e)),
-)
-listed_here (s ∷ changed) serial n h =
-    let parts = or_parts (s.0 == n) (is_listed (changed ++ serial ∷ []) n) h in
-    let rest = listed_here changed serial n parts.1 in
-    (ap (λ b. b || is_listed changed n) parts.0 ∙ rest.0, rest.1)
-
--- it was put into the list
-pub settled_pushed : (changed changed' : List Serial) (old new : List Conjoined) (serial : Serial) (places : List ℕ)
-    → IsChangedAt old new serial.0 places → changed' ≡ changed ++ serial ∷ [] → OthersSettled changed old →
-    OthersSettled changed' new
-settled_pushed changed changed' old new serial places p is settled n h =
-    let both = listed_here changed serial n (ap (λ xs. is_listed xs n) (sym is) ∙ h) in
-    ap (λ (c : Conjoined). c.changed) (p.others n both.1) ∙ settled n both.0
-
-pub listed_pushed : (m : ℕ) (changed changed' : List Serial) (serial : Serial) → serial.0 < m
-    → All (λ other. other.0 < m) changed → changed' ≡ changed ++ serial ∷ [] → All (λ other. other.0 < m) changed'
-listed_pushed m changed changed' serial l all is =
-    rw is (All-push (λ other. other.0 < m) changed serial all l)
-
--- it is there already, since it is changed
-pub settled_there : (changed : List Serial) (old new : List Conjoined) (serial : Serial) (places : List ℕ)
-    (c : Conjoined) → IsChangedAt old new serial.0 places → serial.0 < length old → c ≡ get_or old serial.0 c →
-    c.changed ≡ true → OthersSettled changed old → OthersSettled changed new
-settled_there changed old new serial places c p l is there settled n h = by_test (n == serial.0) refl
-  where
-    by_test : (b : Bool) → (n == serial.0) ≡ b → (conjoined_at new n).changed ≡ false
-    by_test true k =
-        let e : n ≡ serial.0 = eqb-true n serial.0 k in
-        absurd (false≢true (sym (settled n h) ∙ (ap (λ i. (conjoined_at old i).changed) e
-        ∙ (ap (λ (x : Conjoined). x.changed) (conjoined_within old serial.0 c l is) ∙ there))))
-    by_test false k =
-        ap (λ (x : Conjoined). x.changed) (p.others n (eqb-false n serial.0 k)) ∙ settled n h
 
 -- constants that are not changed are another one
 pub other_than : (old new : List Conjoined) (serial n : ℕ) (places : List ℕ) → IsChangedAt old new serial places

@@ -1,5 +1,5 @@
 -- The first assertions that are decided ones, as assertions come and go, and as terms do.
-use Rattle.std.proofs.Common.{◌≡◌, ℕ, zero, suc, ◌+◌, ◌<◌, ◌≤◌, Bool, true, false, ◌&&◌, List, [], ◌∷◌, ◌++◌, length, get_or, map, refl, sym, ap, subst, ◌∙◌, arith}
+use Rattle.std.proofs.Common.{◌≡◌, ℕ, zero, suc, ◌+◌, ◌<◌, ◌≤◌, Bool, true, List, [], ◌∷◌, ◌++◌, length, get_or, map, refl, sym, ap, subst, ◌∙◌, arith}
 use Rattle.std.proofs.lemmas.Bool.{and_from}
 use Rattle.sb_facts.proofs.CallerLemmas.{number_more}
 use Rattle.std.specs.List.{All, list_all}
@@ -60,11 +60,6 @@ inside_all ts zero (x ∷ xs) l h = absurd (omega (arith, l))
 inside_all ts (suc n) (x ∷ xs) l h =
     and_from (is_decided (assertion_in ts x)) (list_all is_decided (map (assertion_in ts) xs)) h.0.decided
     (inside_all ts n xs (omega (arith, l)) h.1)
-
-pub inside_few : (ts : List Term) (n : ℕ) (xs : List Assertion) → AreInside ts n xs → n ≤ length xs
-inside_few ts zero xs h = omega arith
-inside_few ts (suc n) [] h = absurd h
-inside_few ts (suc n) (x ∷ xs) h = let few = inside_few ts n xs h.1 in omega (arith, few)
 
 -- one more was looked at
 pub inside_next : (ts : List Term) (xs : List Assertion) (i : ℕ) (x : Assertion) (b : Bool)

@@ -1,5 +1,5 @@
 -- A check that is left open: all constants are to have other words, so whatever words are found may be kept.
-use Rattle.std.proofs.Common.{◌≡◌, ℕ, zero, suc, ◌+◌, ◌<◌, ◌≤◌, Bool, true, false, nat_lt, nat_le, ◌==◌, if◌then◌else◌, List, [], ◌∷◌, length, get_or, map, refl, sym, ap, subst, ◌∙◌, arith, vec_len}
+use Rattle.std.proofs.Common.{◌≡◌, ℕ, zero, suc, ◌<◌, ◌≤◌, Bool, true, false, nat_lt, nat_le, ◌==◌, if◌then◌else◌, List, [], ◌∷◌, length, map, refl, sym, ap, subst, ◌∙◌, arith, vec_len}
 use Rattle.std.proofs.lemmas.Bool.{false≢true}
 use Rattle.std.proofs.lemmas.Bool.Decides.{nat_tests}
 use Rattle.std.specs.List.{All, list_all}
@@ -19,7 +19,7 @@ use Rattle.sb_problem.specs.Known.{AreNormals}
 use Rattle.sb_meaning.specs.Terms.{Term}
 use Rattle.sb_term.specs.declared.assertion.Assertion as code
 use Rattle.sb_term.specs.declared.term.Serial.{Serial}
-use Rattle.sb_script.specs.State.{Assertion, live, live_terms}
+use Rattle.sb_script.specs.State.{Assertion, live_terms}
 use Rattle.sb_fragment.specs.declared.measure.Measure.{Measure}
 use Rattle.sb_fragment.specs.Measures.{AreMeasures}
 use Rattle.sb_fragment.specs.Rules.{is_decided}
@@ -31,7 +31,7 @@ use Rattle.sb_stack.specs.declared.verdict.Verdict.TheVariants as verdict
 use Rattle.sb_stack.proofs.CallerLemmas.{live_laid}
 use Rattle.sb_decide.specs.declared.conjuncts.Member.{Member}
 use Rattle.sb_decide.specs.declared.decide.Decider.{Decider}
-use Rattle.sb_decide.specs.Conjoined.{Conjoined, conjoined_at, OthersSettled, AreAllChanged, IsChangedAt}
+use Rattle.sb_decide.specs.Conjoined.{Conjoined, conjoined_at, OthersSettled, AreAllChanged}
 use Rattle.sb_decide.specs.Deciding.{in_each, word_at}
 use Rattle.sb_decide.specs.Knowing.{IsTaken, AreKept, Knows, MayBeKept, IsLeftOpen}
 use Rattle.sb_decide.specs.Members.{AreInside, ids_in, words_in}
@@ -96,44 +96,6 @@ pub record AreChangedTo (count : ℕ) (old new : List Conjoined) : Type 0 where
   pub same_length : length new ≡ length old
   pub places : (n : ℕ) → (conjoined_at new n).places ≡ (conjoined_at old n).places
   pub changed : (n : ℕ) → n < count → (conjoined_at new n).changed ≡ true
-
-pub none_changed : (cs : List Conjoined) → AreChangedTo 0 cs cs
-none_changed cs = record { same_length = refl; places = λ n. refl; changed = λ n l. absurd (omega (arith, l)) }
-
-pub one_changed : (count : ℕ) (old new new' : List Conjoined) → AreChangedTo count old new
-    → IsChangedAt new new' count (conjoined_at new count).places → AreChangedTo (count + 1) old new'
-one_changed count old new new' h p = record {
-  same_length = p.same_length ∙ h.same_length;
-  places = λ n. places_at n (n == count) refl;
-  changed = λ n l. changed_at n l (n == count) refl;
-}
-  where
-    places_at : (n : ℕ) (b : Bool) → (n == count) ≡ b → (conjoined_at new' n).places ≡ (conjoined_at old n).places
-    places_at n true e =
-        let same : n ≡ count = grind (arith, nat_tests, e) in
-        ap (λ m. (conjoined_at new' m).places) same
-        ∙ ap (λ (c : Conjoined). c.places) p.there
-        ∙ ap (λ m. (conjoined_at new m).places) (sym same)
-        ∙ h.places n
-    places_at n false e =
-        let other : n ≡ count → ⊥ = λ same. grind (arith, nat_tests, e, same) in
-        ap (λ (c : Conjoined). c.places) (p.others n other) ∙ h.places n
-
-    changed_at : (n : ℕ) → n < count + 1 → (b : Bool) → (n == count) ≡ b → (conjoined_at new' n).changed ≡ true
-    changed_at n l true e =
-        let same : n ≡ count = grind (arith, nat_tests, e) in
-        ap (λ m. (conjoined_at new' m).changed) same ∙ ap (λ (c : Conjoined). c.changed) p.there
-    changed_at n l false e =
-        let other : n ≡ count → ⊥ = λ same. grind (arith, nat_tests, e, same) in
-        ap (λ (c : Conjoined). c.changed) (p.others n other) ∙ h.changed n (omega (arith, l, other))
-
-pub all_changed : (count : ℕ) (old new : List Conjoined) → length old ≤ count → AreChangedTo count old new
-    → AreAllChanged old new
-all_changed count old new l h = record {
-  same_length = h.same_length;
-  places = h.places;
-  changed = λ n k. h.changed n (omega (arith, l, k, h.same_length));
-}
 
 -- All of them.
 

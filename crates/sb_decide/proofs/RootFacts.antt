@@ -1,8 +1,8 @@
 -- Intersections that are known, as memberships come and go, and the walk back to the last of them.
 use Rattle.std.proofs.Common.{◌≡◌, ◌≢◌, ℕ, zero, suc, ◌+◌, ◌<◌, Bool, true, false, ◌&&◌, ◌==◌, if◌then◌else◌, List, [], ◌∷◌, ◌++◌, length, get_or, set, take, refl, sym, ap, ap₂, subst, ◌∙◌, arith, Option, Some, None, length-append, append_assoc, add-one, slice_get}
-use Rattle.std.proofs.Math.Bool.{and-true, and_assoc, and_comm}
+use Rattle.std.proofs.Math.Bool.{and_assoc, and_comm}
 use Rattle.std.proofs.lemmas.Bool.{eqb-true, eqb-false}
-use Rattle.std.proofs.lemmas.List.{get_or_append_left, get_or-take, take-append-le, length-set, length-take-le, append-nil}
+use Rattle.std.proofs.lemmas.List.{get_or_append_left, get_or-take, take-append-le, length-set, length-take-le}
 use Rattle.std.proofs.Math.Seq.{get_or-append_seam}
 use Rattle.std.proofs.lemmas.List.Elements.{All-cons, All-nil, All-take, All-push}
 use Rattle.std.proofs.lemmas.Option.{slice_get_within}
@@ -281,17 +281,6 @@ pub record Walking (rs : List Regex) (ms : List Member) (n : ℕ) (left ids : Li
   pub places : left ≡ places_in 0 n front
   pub known : AllNumbers rs ids
   pub same : (w : List ℕ) → (words_in rs front n w && in_each rs ids w) ≡ words_in rs ms n w
-
-pub walk_starts : (rs : List Regex) (ms : List Member) (n : ℕ) (places : List ℕ) → places ≡ places_in 0 n ms
-    → Walking rs ms n places []
-walk_starts rs ms n places is = record {
-  front = ms;
-  behind = [];
-  is = sym (append-nil ms);
-  places = is;
-  known = All-nil (λ i. i < length rs);
-  same = λ w. and-true (words_in rs ms n w);
-}
 
 -- the words of the memberships up to the last place
 words_last : (rs : List Regex) (ms : List Member) (n : ℕ) (places : List ℕ) (place : ℕ)

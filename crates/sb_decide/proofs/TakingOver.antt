@@ -1,5 +1,5 @@
 -- What was found of constants is taken over, and a verdict given.
-use Rattle.std.proofs.Common.{◌≡◌, ◌≢◌, ℕ, zero, suc, ◌+◌, ◌<◌, ◌≤◌, Bool, true, false, ◌||◌, ◌==◌, List, [], ◌∷◌, ◌++◌, length, get_or, set, map, take, refl, sym, ap, ap₂, ◌∙◌, arith, Option, None, Some, IfSome, is_some, vec_len, subst}
+use Rattle.std.proofs.Common.{◌≡◌, ◌≢◌, ℕ, zero, suc, ◌+◌, ◌<◌, Bool, true, false, ◌||◌, ◌==◌, List, [], ◌∷◌, ◌++◌, length, get_or, set, map, take, refl, sym, ap, ap₂, ◌∙◌, arith, Option, None, Some, IfSome, is_some, vec_len, subst}
 use Rattle.std.proofs.lemmas.Bool.{or_parts, false≢true, eqb-true, eqb-false}
 use Rattle.std.proofs.lemmas.Bool.Decides.{nat_tests}
 use Rattle.std.proofs.lemmas.List.{map-append, take_all, take_more, length-set, get_or-set_same, get_or-set_other, nil_from_length, with_items_is}
@@ -255,10 +255,6 @@ found_grown rs new ms cs f e known h = (
       (λ w _. words_grown rs new ms f.serial.0 w e known) h.1,
 )
 
-pub found_none : (rs : List Regex) (ms : List Member) (cs : List Conjoined) (changed : List Serial)
-    → AreFound rs ms cs (take 0 changed) []
-found_none rs ms cs changed = record { each = λ k d l. absurd (omega (arith, l)); serials = refl }
-
 -- what was found of the next of these constants
 pub found_next : (rs new : List Regex) (ms : List Member) (cs : List Conjoined) (changed : List Serial) (i : ℕ)
     (d : Serial) (fs fs' : List Found) (one : Found) → AreFound rs ms cs (take i changed) fs → Extends rs new →
@@ -273,10 +269,6 @@ found_next rs new ms cs changed i d fs fs' one a e known l listed same least mor
       ∙ (ap (λ xs. xs ++ one.serial ∷ []) a.serials
       ∙ (ap (λ s. take i changed ++ s ∷ []) same ∙ sym (take_more changed i d l)));
 })
-
-pub found_all : (rs : List Regex) (ms : List Member) (cs : List Conjoined) (changed : List Serial) (i : ℕ)
-    (fs : List Found) → AreFound rs ms cs (take i changed) fs → length changed ≤ i → AreFound rs ms cs changed fs
-found_all rs ms cs changed i fs a l = record { each = a.each; serials = a.serials ∙ take_all i changed l }
 
 -- the places of one of these constants
 pub places_here : (ms : List Member) (cs : List Conjoined) (n : ℕ) (c : Conjoined)
@@ -388,9 +380,6 @@ constants_long rs ms v new words t = omega (arith, t.same_length, v.ok.0)
 -- the entries of the memo stay
 pub same_memo : (old new : Findings) → new ≡ old → KeepsEntries old.memo new.memo
 same_memo old new same n pieces h = ap (λ (g : Findings). entry_of g.memo n) same ∙ h
-
-pub grown_memo : (old mid new : Findings) → mid ≡ old → KeepsEntries mid.memo new.memo → KeepsEntries old.memo new.memo
-grown_memo old mid new same keeps n pieces h = keeps n pieces (same_memo old mid same n pieces h)
 
 -- a constant whose word is found
 pub settles : (there c new : Conjoined) → new ≡ record there { changed = false } → c ≡ there

@@ -184,15 +184,6 @@ word_alone distinct ts is first le e sort few =
     (ap sort_of_first (terms_in_of (terms_at ts is)) ∙ numbered_first ts is first text le e sort)
     ∙ ap (λ b. b && each_two distinct is_pair us) (few_alone us (omega (arith, l, m)))
 
-pub others_compared : (distinct : Bool) (ts : List Term) (is : List ℕ) (first : ℕ) (k : Sort) → 1 ≤ length is
-    → first ≡ get_or is 0 first → sort_of (term_at ts first) ≡ k
-    → ((each_is : Bool) → by_sort k distinct (terms_in (terms_of (terms_at ts is))) each_is ≡ false)
-    → is_structure (apply (comparison_of distinct) (terms_of (terms_at ts is))) ≡ false
-others_compared distinct ts is first k le e sort h =
-    structure_by distinct (terms_of (terms_at ts is)) k
-    (ap sort_of_first (terms_in_of (terms_at ts is)) ∙ numbered_first ts is first k le e sort)
-    ∙ h (are_structure (terms_of (terms_at ts is)))
-
 -- Sorts of Boolean structure, and of what is compared in it.
 
 pub structure_sort : (t : Term) → is_structure t ≡ true → sort_of t ≡ boolean

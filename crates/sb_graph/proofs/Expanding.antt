@@ -3,7 +3,7 @@ use Rattle.std.proofs.Common.{◌≡◌, ℕ, ◌+◌, ◌<◌, ◌≤◌, Bool,
 use Rattle.std.proofs.lemmas.Bool.{false≢true}
 use Rattle.std.proofs.lemmas.Bool.Decides.{nat_tests}
 use Rattle.std.proofs.lemmas.List.{append-nil, append_assoc, length-append}
-use Rattle.std.proofs.lemmas.List.Elements.{All-cons, All-nil, All-append}
+use Rattle.std.proofs.lemmas.List.Elements.{All-nil, All-append}
 use Rattle.std.specs.declared.cmp.Ordering.TheVariants.{Less}
 use Rattle.sb_word.specs.Words.{IsWord}
 use Rattle.sb_lang.specs.Regex.{Regex}
@@ -24,9 +24,6 @@ use Rattle.sb_graph.specs.Queue.{Entry, regex_of, word_at, AreWords, rank, rank_
 
 pub goes_on_same : (P : ℕ → Type 0) (old new : List ℕ) → new ≡ old → GoesOn P old new
 goes_on_same P old new e = record { more = []; is = e ∙ sym (append-nil old); each = All-nil P }
-
-pub goes_on_one : (P : ℕ → Type 0) (old new : List ℕ) (n : ℕ) → new ≡ old ++ n ∷ [] → P n → GoesOn P old new
-goes_on_one P old new n e h = record { more = n ∷ []; is = e; each = All-cons P n [] h (All-nil P) }
 
 pub goes_on_more : (P : ℕ → Type 0) (a b c : List ℕ) → GoesOn P a b → GoesOn P b c → GoesOn P a c
 goes_on_more P a b c g h = record {

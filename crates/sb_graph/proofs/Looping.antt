@@ -7,16 +7,13 @@ use Rattle.std.proofs.lemmas.List.Elements.{All-push, All-nil}
 use Rattle.std.proofs.Math.Seq.{take-append_seam}
 use Rattle.sb_word.specs.Words.{IsWord}
 use Rattle.sb_lang.specs.Regex.{Regex}
-use Rattle.sb_lang.specs.DerivativeLaws.{DerivativeHasRests, NullableHasEmptyWord}
+use Rattle.sb_lang.specs.DerivativeLaws.{DerivativeHasRests}
 use Rattle.sb_lang.specs.Language.{language}
-use Rattle.sb_lang.specs.Languages.{Language}
 use Rattle.sb_lang.specs.Least.{IsShortestLeast}
-use Rattle.sb_lengths.specs.Lengths.{AreLengths, may, must}
-use Rattle.sb_lengths.specs.declared.Lengths.{Lengths}
 use Rattle.sb_regex.specs.Numbered.{regex_at, Extends}
 use Rattle.sb_regex.proofs.CallerLemmas.{at_kept, number_kept, extends_same, extends_more}
 use Rattle.sb_deriv.specs.Faithful.{Memo, entry_of, IsDerivative, IsFaithful, KeepsEntries}
-use Rattle.sb_graph.specs.Lengths.{HasNoneOfLength, HasEachOfLength, HasNoneBelow, HasLeast, AreFailed, IsExpanding, IsSearching}
+use Rattle.sb_graph.specs.Lengths.{HasNoneOfLength, HasNoneBelow, HasLeast, AreFailed, IsExpanding, IsSearching}
 use Rattle.sb_graph.proofs.Passing.{none_next, least_here, none_at_end, none_at_begin, target_known}
 
 -- What failed.
@@ -55,24 +52,6 @@ failed_more rs pairs new state n false failed known none is =
     (known, none))
 
 -- What is known without a derivative.
-
-pub none_by_length : (lengths : Lengths) (L : Language) (n : ℕ) → AreLengths lengths L → may lengths n ≡ false
-    → HasNoneOfLength L n
-none_by_length lengths L n are not_it w word long = by (L w) refl
-  where
-    by : (b : Bool) → L w ≡ b → L w ≡ false
-    by true is =
-        absurd (false≢true (sym not_it ∙ sym (ap (may lengths) long) ∙ are.possible w word is))
-    by false is = is
-
-pub each_by_length : (lengths : Lengths) (L : Language) (n : ℕ) → AreLengths lengths L → must lengths n ≡ true
-    → HasEachOfLength L n
-each_by_length lengths L n are it_is w word long = are.certain w word (ap (must lengths) long ∙ it_is)
-
-pub at_empty : NullableHasEmptyWord → (r : Regex) (b : Bool) (w : List ℕ) (n : ℕ) → n ≡ 0 → length w ≡ n
-    → b ≡ language r [] → language r w ≡ b
-at_empty empty r b [] n z l is = sym is
-at_empty empty r b (c ∷ w) n z l is = absurd (omega (arith, z, l))
 
 -- The pieces of a state.
 

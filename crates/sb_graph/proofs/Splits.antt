@@ -3,7 +3,7 @@ use Rattle.std.proofs.Common.{◌≡◌, ℕ, ◌+◌, ◌<◌, ◌≤◌, Bool,
 use Rattle.std.specs.List.{list_any, list_all}
 use Rattle.std.proofs.Math.Bool.{or-false}
 use Rattle.std.proofs.lemmas.List.{at_drop_more, at_drop_all}
-use Rattle.std.proofs.lemmas.List.Elements.{All-append, All-nil}
+use Rattle.std.proofs.lemmas.List.Elements.{All-append}
 use Rattle.sb_lang.specs.Regex.{Regex, and, regexes}
 use Rattle.sb_lang.specs.Constructors.{mkand}
 use Rattle.sb_lang.specs.ConstructorLaws.{MkandKeepsLanguage, IntersectionIsOfEach}
@@ -288,16 +288,6 @@ choice_and each rs t ns whole divided e known others both = record {
   divided_known = others;
   each = λ u. sym (ap (λ r. language r u) e) ∙ each (regexes_at rs ns) u ∙ each_of rs ns u ∙ sym (both u);
 }
-
-pub choice_one : (rs : List Regex) (t : ℕ) (whole divided : List ℕ) → t < length rs → whole ≡ t ∷ [] → divided ≡ []
-    → IsChoice rs t whole divided
-choice_one rs t whole divided l e f =
-    subst (λ whole. IsChoice rs t whole divided) (sym e)
-    (subst (λ divided. IsChoice rs t (t ∷ []) divided) (sym f) (record {
-      whole_known = one_number rs t l;
-      divided_known = All-nil (λ i. i < length rs);
-      each = λ u. and_true (language (regex_at rs t) u) ∙ and_true (language (regex_at rs t) u && true);
-    }))
 
 -- the whole split
 pub split_by : MkandKeepsLanguage → IntersectionIsOfEach → (start old new : List Regex) → Extends start old

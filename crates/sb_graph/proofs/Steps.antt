@@ -1,6 +1,6 @@
 -- The steps of the functions, over lists.
 use Rattle.std.proofs.Common.{◌≡◌, ℕ, zero, suc, ◌+◌, ◌<◌, ◌≤◌, Bool, true, false, cond, ◌||◌, nat_eq, is_some, unwrap_or, Some, List, [], ◌∷◌, ◌++◌, length, get_or, set, take, drop, replicate, map, refl, sym, ap, subst, ◌∙◌, arith}
-use Rattle.std.proofs.Math.Bool.{or-false, or-true}
+use Rattle.std.proofs.Math.Bool.{or-false}
 use Rattle.std.proofs.lemmas.Bool.{true≢false, false_from_ne_true}
 use Rattle.std.proofs.lemmas.Bool.Decides.{nat_tests}
 use Rattle.std.proofs.lemmas.List.{at_drop_more, at_drop_all, get_or-set_same, get_or-set_other, length-set}
@@ -172,9 +172,6 @@ answers_with rs old new n w is known least answers q v h = by (nat_eq n q) refl
         subst (λ q. IsAnswer rs q v) same
         (record { known = known; least = subst (IsShortestLeast (language (regex_at rs n))) e least })
     by false t = answers q v (sym (ap (λ b. cond b (Some w) (answer_of old q)) t) ∙ sym (is q) ∙ h)
-
-pub settled_with : (g : Findings) (n : ℕ) (w : List ℕ) → answer_of g.answers n ≡ Some w → is_settled g n ≡ true
-settled_with g n w h = ap (λ o. is_marked g.dead n || is_some o) h ∙ or-true (is_marked g.dead n)
 
 pub settled_by : (g : Findings) (n : ℕ) → is_marked g.dead n ≡ true → is_settled g n ≡ true
 settled_by g n h = ap (λ b. b || is_some (answer_of g.answers n)) h

@@ -139,23 +139,10 @@ in_range_at (r ∷ rs) (suc i) d l c h = or_right _ _ (in_range_at rs i d (omega
 
 -- What follows from a head and a rest.
 
-pub next_follows : (rs : List Regex) (head at first next : ℕ) → next < length rs
-    → cat (regex_at rs first) (regex_at rs next) ≡ regex_at rs at
-    → TakesUp (regex_at rs head) (regex_at rs first) → IsNext rs head at next
-next_follows rs head at first next known is takes = record {
-  known = known;
-  follows = λ L f u l. takes (regex_at rs next) u
-      (subst (λ r. language (cat (regex_at rs head) r) u ≡ true) (sym is) (f u l));
-}
-
 pub record IsNoting (rs : List Regex) (head rest at : ℕ) (old new : List (ℕ × ℕ)) : Type 0 where
   pub known : at < length rs
   pub follows : (L : Language) → FollowsFrom rs L (head, rest) → FollowsFrom rs L (head, at)
   pub weaker : AreWeaker rs (head, rest) old new
-
-pub noting_start : (rs : List Regex) (head rest : ℕ) (old : List (ℕ × ℕ)) → rest < length rs
-    → IsNoting rs head rest rest old old
-noting_start rs head rest old known = record { known = known; follows = λ L f. f; weaker = λ L f o. o }
 
 pub noting_next : (rs : List Regex) (head rest at next : ℕ) (old now new : List (ℕ × ℕ)) (there : Bool)
     → IsNoting rs head rest at old now → IsNext rs head at next

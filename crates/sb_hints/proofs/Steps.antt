@@ -1,5 +1,5 @@
 -- Hints that are followed one by one.
-use Rattle.std.proofs.Common.{◌≡◌, ◌⊎◌, ℕ, Bool, true, false, not, cond, ◌&&◌, ◌||◌, List, [], ◌∷◌, map, filter, fold, Option, Some, None, Result, Ok, Err, refl, sym, ◌∙◌, ap, inl, inr}
+use Rattle.std.proofs.Common.{◌≡◌, ℕ, Bool, true, false, not, cond, ◌&&◌, ◌||◌, List, [], ◌∷◌, map, filter, fold, Option, Some, None, Result, Ok, Err, refl, sym, ◌∙◌, ap, inl, inr}
 use Rattle.std.specs.Prelude.{is_some, option_map, unwrap_or}
 use Rattle.std.specs.List.{list_all}
 use Rattle.std.proofs.lemmas.Bool.{cases_Bool}
@@ -69,15 +69,6 @@ behind_false : (held : List Lit) (clauses : List KeptClause)
 behind_false held [] = refl
 behind_false held (clause ∷ clauses) = refl
 
-pub open_falsified : (held literals : List Lit) (has : Lit → Bool) → IsSetOf held has
-    → falsified ≡ finding held literals
-    → GoesOn stays_open held literals ends_false has
-open_falsified held literals has set is = record {
-  later = held;
-  set = set;
-  same = λ level clauses. ap (decided held clauses) (sym is) ∙ behind_false held clauses;
-}
-
 pub open_forces : (held literals : List Lit) (l : Lit) (has : Lit → Bool)
     → ((m : Lit) → has m ≡ is_among (l ∷ held) m) → forces l ≡ finding held literals
     → GoesOn stays_open held literals stays_open has
@@ -86,29 +77,6 @@ open_forces held literals l has set is = record {
   set = record { same = set };
   same = λ level clauses. ap (decided held clauses) (sym is);
 }
-
-pub open_idle : (held literals : List Lit) (has : Lit → Bool) → IsSetOf held has → idle ≡ finding held literals
-    → GoesOn stays_open held literals has_idle_hint has
-open_idle held literals has set is = record {
-  later = held;
-  set = set;
-  same = λ level clauses. ap (decided held clauses) (sym is);
-}
-
-pub stays_idle : (before : Course) (held literals : List Lit) (has : Lit → Bool) → IsSetOf held has
-    → (before ≡ ends_false) ⊎ (before ≡ has_idle_hint) → GoesOn before held literals has_idle_hint has
-stays_idle before held literals has set (inl is) = rw is (record {
-  later = held;
-  set = set;
-  same = λ level clauses.
-      refl;
-})
-stays_idle before held literals has set (inr is) = rw is (record {
-  later = held;
-  set = set;
-  same = λ level clauses.
-      refl;
-})
 
 -- a set with one literal more
 pub put_literal : (old new : Lit → Bool) (held : List Lit) (l m : Lit) → IsSetOf held old

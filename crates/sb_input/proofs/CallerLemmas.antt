@@ -1,15 +1,10 @@
 -- What a caller cites: what the first line of bytes is, and one read of a proof after another.
-use Rattle.std.proofs.Common.{◌≡◌, ℕ, ◌+◌, ◌<◌, ◌≤◌, Bool, true, false, cond, ◌==◌, List, [], ◌∷◌, ◌++◌, length, Some, refl, sym, ap, ◌∙◌, arith}
+use Rattle.std.proofs.Common.{◌≡◌, ℕ, ◌+◌, ◌<◌, Bool, true, false, cond, ◌==◌, List, [], ◌∷◌, ◌++◌, length, refl, ap, ◌∙◌, arith}
 use Rattle.std.specs.Prelude.{not}
 use Rattle.std.specs.List.{onto_first}
 use Rattle.std.proofs.lemmas.Bool.{and_parts, false≢true}
-use Rattle.sb_world.specs.Outside.{Outside}
-use Rattle.sb_world.specs.Moved.{Moved, moved_by, reading}
-use Rattle.sb_world.specs.declared.InPort.TheVariants as in_port
-use Rattle.sb_world.proofs.CallerLemmas.{moved_by-both, moved_by-nothing, reading-add, reading-zero}
 use Rattle.sb_rulebook.specs.LineLaws.{is_one_line}
 use Rattle.sb_rulebook.specs.Reading.{split_at, with_ends, texts_of}
-use Rattle.sb_input.specs.TakingLines.{LinesState, ReadsOn, IsLeft}
 
 -- there is a part
 is_split : List (List ℕ) → Bool
@@ -70,36 +65,3 @@ texts_of-unended text one some = ap with_ends (split-alone text one) ∙ last te
     last : (text : List ℕ) → 0 < length text → with_ends (text ∷ []) ≡ (text, false) ∷ []
     last [] some = absurd (omega arith)
     last (b ∷ bs) some = refl
-
-pub texts_of-nothing : texts_of [] ≡ []
-texts_of-nothing = refl
-
--- what is left before the end was met
-pub left_before_end : (s : LinesState) (o : Outside) (left : List ℕ) → s.ended ≡ false → o.proof_in.left ≡ Some left
-    → IsLeft s o left
-left_before_end s o left goes told = record { told = told; none = λ e. absurd (false≢true (sym goes ∙ e)) }
-
--- Nothing is read, and one read after another.
-pub reads_none : (s : LinesState) (o : Outside) → s.read ≤ s.limit → ReadsOn 0 s s o o
-reads_none s o within = record {
-  moved = sym (ap (λ (m : Moved). moved_by m o) (reading-zero in_port.Proof) ∙ moved_by-nothing o);
-  read = omega arith;
-  limit = refl;
-  within = within;
-  ended = λ e. (refl, e);
-}
-
-pub reads_both : (m n : ℕ) (a b c : LinesState) (o p q : Outside) → ReadsOn m a b o p → ReadsOn n b c p q
-    → ReadsOn (m + n) a c o q
-reads_both m n a b c o p q first second = record {
-  moved = second.moved ∙ ap (moved_by (reading in_port.Proof n)) first.moved
-      ∙ moved_by-both (reading in_port.Proof m) (reading in_port.Proof n) o
-      ∙ ap (λ (r : Moved). moved_by r o) (reading-add in_port.Proof m n);
-  read = omega (arith, first.read, second.read);
-  limit = second.limit ∙ first.limit;
-  within = second.within;
-  ended = λ e.
-      let one = first.ended e in
-      let two = second.ended one.1 in
-      (omega (arith, one.0, two.0), two.1);
-}

@@ -74,18 +74,6 @@ knows_none m stack inside held words = record {
   empty = λ serial h. ap (λ ws. word_at ws serial) words;
 }
 
--- Nothing is known of the truth of assertions.
-pub knows_untried : (m m' : Models) (stack : Stacked) → Knows m stack → m'.inside ≡ m.inside → m'.held ≡ 0
-    → m'.words.items ≡ [] → Knows m' stack
-knows_untried m m' stack k inside held words = record {
-  front = omega (arith, inside, k.front);
-  numbers = rw inside k.numbers;
-  decided = rw inside k.decided;
-  held_front = omega (arith, held);
-  held = rw held tt;
-  empty = λ serial h. ap (λ ws. word_at ws serial) words;
-}
-
 -- one more is a decided one
 pub knows_more : (m : Models) (stack : Stacked) (x : code.Assertion) → Knows m stack
     → m.inside < length stack.assertions

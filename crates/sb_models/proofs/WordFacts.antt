@@ -3,12 +3,12 @@ use Rattle.std.proofs.Common.{◌≡◌, ◌==◌, ℕ, zero, suc, ◌+◌, ◌<
 use Rattle.std.proofs.lemmas.Bool.{eqb-true, false≢true}
 use Rattle.std.proofs.lemmas.Bool.Decides.{nat_tests}
 use Rattle.std.proofs.lemmas.Option.{get_or_from_slice_get, slice_get_within}
-use Rattle.std.proofs.lemmas.List.{take_more, drop_more, drop_all, length-take-le, length-map}
+use Rattle.std.proofs.lemmas.List.{take_more, drop_more, length-take-le, length-map}
 use Rattle.sb_stack.specs.declared.constant.LiveConstant.{LiveConstant}
 use Rattle.sb_proof.specs.declared.line.Value as code
 use Rattle.sb_proof.specs.Lines.{value_in as read}
 use Rattle.sb_models.specs.Knowing.{word_at, is_serial_of, AreEmptyBut}
-use Rattle.sb_models.specs.Tried.{texts_in, text_in, one_given, word_given, also_marked, AreSame, Changes, IsPut, IsPutAt}
+use Rattle.sb_models.specs.Tried.{texts_in, text_in, one_given, word_given, also_marked, Changes, IsPut, IsPutAt}
 
 pub same_next : (a b : ℕ) → (suc a == suc b) ≡ (a == b)
 same_next a b = grind (arith, nat_tests)
@@ -58,15 +58,6 @@ pushed_other other [] (suc serial) = refl
 pushed_other other (x ∷ xs) zero = refl
 pushed_other other (x ∷ xs) (suc serial) = pushed_other other xs serial
 
-pub pushed_empty : (words : List (List ℕ)) (serial : ℕ) → word_at (words ++ [] ∷ []) serial ≡ word_at words serial
-pushed_empty words serial = pushed_other [] words serial
-
--- past the last one
-pub past_last : {X : Type 0} (other : X) (xs : List X) (place : ℕ) → length xs ≤ place → at other xs place ≡ other
-past_last other [] place l = refl
-past_last other (x ∷ xs) zero l = absurd (omega (arith, l))
-past_last other (x ∷ xs) (suc place) l = past_last other xs place (omega (arith, l))
-
 -- Marks.
 
 pub changes_none : (words : List (List ℕ)) (marks : ℕ → Bool) → Changes words marks words marks
@@ -87,10 +78,6 @@ changes_one old new marks marks' place w is put serial h =
         → (marks serial ≡ false) × (word_at old serial ≡ word_at new serial)
     by true e p = absurd (true-false e)
     by false e p = (e, sym p)
-
-pub same_of_changes : (old new : List (List ℕ)) (marks marks' : ℕ → Bool) → Changes old marks new marks'
-    → AreSame old new marks'
-same_of_changes old new marks marks' c serial h = (c serial h).1
 
 -- Constants in front.
 
@@ -149,11 +136,6 @@ empty_more constants count place d old new low put before serial h k =
     by false e p = p ∙ before serial h
         (ap (λ cs. is_serial_of cs serial) (drop_more constants place d low)
         ∙ (ap (λ b. b || is_serial_of (drop (place + 1) constants) serial) e ∙ k))
-
-pub empty_at_last : (constants : List LiveConstant) (count place : ℕ) (words : List (List ℕ)) → length constants ≤ place
-    → AreEmptyFrom count constants place words → AreEmptyBut (take count constants) words
-empty_at_last constants count place words long empty serial h =
-    empty serial h (ap (λ cs. is_serial_of cs serial) (drop_all place constants long))
 
 -- What live constants are given, from the last one on.
 

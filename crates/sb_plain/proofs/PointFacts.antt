@@ -114,13 +114,6 @@ points_inserted k ks ks' is s l p = record {
   characters = ap (list_all is_character) is ∙ inserted_all is_character k ks (grind (arith, nat_tests)) p.characters;
 }
 
-pub zero_points : (ks ks' : List ℕ) → ks ≡ [] → ks' ≡ insert_key nat_cmp ks 0 → ArePoints ks'
-zero_points ks ks' e is = subst ArePoints (sym (is ∙ ap (λ xs. insert_key nat_cmp xs 0) e)) (record {
-  ascending = λ k l. absurd (omega (arith, l));
-  first = refl;
-  characters = refl;
-})
-
 pub covers_inserted : (k : ℕ) (ks ks' : List ℕ) → ks' ≡ insert_key nat_cmp ks k → Covers ks' ks
 covers_inserted k ks ks' is t h = (all_inserted t k ks (ap (list_all t) (sym is) ∙ h)).1
 
@@ -138,10 +131,6 @@ taken ys (y ∷ xs) (suc i) x l is p q =
 
 one_more : (i : ℕ) → i + 1 ≡ suc i
 one_more i = omega arith
-
-pub covers_taken : (ys xs : List ℕ) (i x : ℕ) → i < length xs → x ≡ get_or xs i x → Covers ys (take i xs)
-    → Covers ys (x ∷ []) → Covers ys (take (i + 1) xs)
-covers_taken ys xs i x l is p q t h = ap (λ n. list_all t (take n xs)) (one_more i) ∙ taken ys xs i x l is p q t h
 
 -- the last point up to a number
 

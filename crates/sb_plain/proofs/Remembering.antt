@@ -32,9 +32,6 @@ pub something : {X : Type 0} (o : Option X) → IsSome o → (x : X) × (o ≡ S
 something None h = absurd (cc)
 something (Some x) h = (x, refl)
 
-pub is_something : {X : Type 0} (o : Option X) (x : X) → o ≡ Some x → IsSome o
-is_something o x e = ap is_some e
-
 same_number : (i j : ℕ) → ((i ≡ j) × Unit {0}) ⊎ (i ≡ j → ⊥)
 same_number i j = step (nat_lt i j) (nat_lt j i) refl refl
   where
@@ -57,16 +54,6 @@ nat_apart x y n = step (nat_eq x y) refl
     step false e = e
 
 -- an arena that grows
-
-pub right_new : (rs : List Regex) → LearntIsRight rs ([], ([], []))
-right_new rs = record {
-  places = λ n k h. absurd (none_not k (nothing n k h));
-  derivatives = λ n c t h. absurd (none_not t h);
-}
-  where
-    nothing : (n k : ℕ) → get_or [] n None ≡ Some k → None ≡ Some k
-    nothing zero k h = h
-    nothing (suc n) k h = h
 
 pub right_kept : (old new : List Regex) (m : Learnt) → Extends old new → LearntIsRight old m → LearntIsRight new m
 right_kept old new m e r = record {
@@ -121,9 +108,6 @@ found_place m c n h = step (place_of m n) (found_points m c n h)
     step : (o : Option ℕ) → IsSome (option_and_then (slice_get m.0) o) → IsSome o
     step None g = absurd (cc)
     step (Some k) g = refl
-
-pub places_found : (m : Learnt) (c : ℕ) (parts : List ℕ) → AreFound m c parts → All (λ n. IsSome (place_of m n)) parts
-places_found m c parts h = λ k d l. found_place m c (get_or parts k d) (h k d l)
 
 pub places_exist : (rs : List Regex) (m : Learnt) → LearntIsRight rs m → PlacesExist m
 places_exist rs m r n k h = let p = r.places n k h in slice_get_within m.0 k p.list p.there

@@ -1,5 +1,5 @@
 -- What the derivatives of nodes are made from, and what operations make.
-use Rattle.std.proofs.Common.{◌≡◌, ℕ, zero, suc, ◌+◌, ◌-◌, ◌<◌, ◌≤◌, true, false, List, [], ◌∷◌, length, get_or, drop, refl, sym, ap, subst, ◌∙◌, arith}
+use Rattle.std.proofs.Common.{◌≡◌, ℕ, suc, ◌+◌, ◌-◌, ◌<◌, ◌≤◌, true, false, List, [], ◌∷◌, length, drop, refl, sym, ap, subst, ◌∙◌, arith}
 use Rattle.std.specs.Prelude.{Vec, ◌||◌, if◌then◌else◌}
 use Rattle.std.specs.List.{All}
 use Rattle.std.proofs.lemmas.List.{drop_more, drop_all}
@@ -178,12 +178,6 @@ rep_once_less rs a least most fewer lower l some e f = record {
 }
 
 -- operations
-
-pub at_each : (rs : List Regex) (ids : List ℕ) (k x : ℕ) → k < length ids → x ≡ get_or ids k x
-    → get_or (regexes_at rs ids) k none ≡ regex_at rs x
-at_each rs [] k x l e = absurd (omega (arith, l))
-at_each rs (i ∷ ids) zero x l e = ap (regex_at rs) (sym e)
-at_each rs (i ∷ ids) (suc k) x l e = at_each rs ids k x (omega (arith, l)) e
 
 pub made_same : (rs : List Regex) (op : Operation) (c d : ℕ) (ps : List Regex)
     → in_ranges (set_ranges op) c ≡ in_ranges (set_ranges op) d → made rs op c ps ≡ made rs op d ps

@@ -201,21 +201,6 @@ regexes_further rs new ts ids i x found found' id all e l there one is = rw is (
     further = ap (λ xs. map regex_of (terms_at ts xs)) (take_more ids i x l ∙ ap (λ y. take i ids ++ y ∷ []) (sym there))
         ∙ ap (map regex_of) (map-append (term_at ts) (take i ids) (x ∷ []))
 
-pub is_joining : (s : Symbol)
-    → (s ≡ symbol.ReUnion) ⊎ ((s ≡ symbol.ReInter) ⊎ ((s ≡ symbol.ReDiff) ⊎ ((s ≡ symbol.ReStar)
-    ⊎ ((s ≡ symbol.RePlus) ⊎ ((s ≡ symbol.ReOpt) ⊎ ((s ≡ symbol.ReComp) ⊎ ((s ≡ symbol.ReNone)
-    ⊎ ((s ≡ symbol.ReAll) ⊎ (s ≡ symbol.ReAllChar))))))))) → joins s ≡ true
-is_joining s (inl h) = ap joins h
-is_joining s (inr (inl h)) = ap joins h
-is_joining s (inr (inr (inl h))) = ap joins h
-is_joining s (inr (inr (inr (inl h)))) = ap joins h
-is_joining s (inr (inr (inr (inr (inl h))))) = ap joins h
-is_joining s (inr (inr (inr (inr (inr (inl h)))))) = ap joins h
-is_joining s (inr (inr (inr (inr (inr (inr (inl h))))))) = ap joins h
-is_joining s (inr (inr (inr (inr (inr (inr (inr (inl h)))))))) = ap joins h
-is_joining s (inr (inr (inr (inr (inr (inr (inr (inr (inl h))))))))) = ap joins h
-is_joining s (inr (inr (inr (inr (inr (inr (inr (inr (inr h))))))))) = ap joins h
-
 alone_false : (b : Bool) → (b && true) ≡ false → b ≡ false
 alone_false true h = h
 alone_false false h = refl
@@ -371,13 +356,6 @@ made_known rs new s ts ids found found' t o k h is all same f from =
     rw (from, is) (known_is new (apply (symbol_in s) (terms_of (terms_at ts ids))) o
     (by_regexes s new (terms_of (terms_at ts ids)) o h (are_all (terms_at ts ids) ∙ all.kind)
     (f ∙ ap (λ rs. option_map Some (made s rs)) same_regexes)))
-
--- what is known of one of the terms
-pub item_at : (ks items : List Known) (number id : ℕ) (k : Known) → items ≡ ks → number ≡ id → id < length ks
-    → k ≡ get_or items number k → k ≡ get_or ks id known.Nothing
-item_at ks items number id k view same l is =
-    is ∙ (ap (λ i. get_or items i k) same ∙ (ap (λ xs. get_or xs id k) view
-    ∙ sym (get_or_default ks id known.Nothing k l)))
 
 pub known_at : (ts : List Term) (rs : List Regex) (ks : List Known) (id : ℕ) (k : Known) → AreNormals ts rs ks
     → is_known ks id ≡ true → k ≡ get_or ks id known.Nothing → IsKnown rs (term_at ts id) k

@@ -13,7 +13,6 @@ use Rattle.sb_term.specs.Nodes.{node_term, IsWritten}
 use Rattle.sb_term.specs.Numbered.{term_at, terms_at}
 use Rattle.sb_meaning.specs.Terms.{Term, Terms, constant, word, numeral, apply, parameter, no_terms, with_term, terms_of, str_to_re, re_range}
 use Rattle.sb_script.specs.Brought.{is_regex}
-use Rattle.sb_problem.specs.Normals.{is_text_constant}
 use Rattle.sb_problem.specs.Shapes.{IsNumbered}
 
 -- lists of one and of two
@@ -144,16 +143,3 @@ pub range_found : (rs : List Regex) (ts : List Term) (ids from to : List ℕ) (a
     Names rs id (range_regex from to) → IsNumbered rs (apply re_range (terms_of (terms_at ts ids))) (Some id)
 range_found rs ts ids from to a b v w id is first second same same' names =
     rw (is, first, second) (refl, rw same' at (rw same at names))
-
--- the constant that a term is
-pub constant_node : (ts : List Term) (d : code.Term) (t : Term)
-    → ((serial : _) (sort : _) → d ≡ node.Constant serial sort → ⊥) → node_term ts d ≡ t → is_text_constant t ≡ false
-constant_node ts d t h value = rw (← value) (by_node ts d h)
-  where
-    by_node : (ts : List Term) (d : code.Term)
-        → ((serial : _) (sort : _) → d ≡ node.Constant serial sort → ⊥) → is_text_constant (node_term ts d) ≡ false
-    by_node ts (node.Constant serial sort) h = absurd (h serial sort refl)
-    by_node ts (node.Word w) h = refl
-    by_node ts (node.Numeral n) h = refl
-    by_node ts (node.Apply s arguments) h = refl
-    by_node ts (node.Parameter place sort) h = refl

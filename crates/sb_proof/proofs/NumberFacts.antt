@@ -3,7 +3,7 @@ use Rattle.std.proofs.Common.{◌≡◌, ℕ, ◌+◌, ◌-◌, ◌*◌, ◌^◌
 use Rattle.std.proofs.lemmas.Bool.Decides.{nat_tests}
 use Rattle.sb_word.specs.Literals.{hex_value, hex_number_from}
 use Rattle.sb_rulebook.specs.Lines.{Field}
-use Rattle.sb_rulebook.specs.Reading.{is_text, decimal_from, if_spelled}
+use Rattle.sb_rulebook.specs.Reading.{decimal_from}
 use Rattle.sb_proof.specs.Spelled.{decimal_value, if_small, small}
 
 -- how digits of a base are read, each behind what came before it
@@ -103,19 +103,3 @@ module _ (base : ℕ) (value : ℕ → Option ℕ) (read : ℕ → Field → Opt
   at_end n h = ap small (law.ends n) ∙ small-some n h
 
 -- A number is read where it is small, and the field is its text.
-
-pub spelled-none : (spell : ℕ → Field) (field : Field) (o : Option ℕ) → small o ≡ None
-    → option_and_then (if_spelled spell field) o ≡ None
-spelled-none spell field None e = refl
-spelled-none spell field (Some n) e =
-    ap (λ t. cond (t && is_text (spell n) field) (Some n) None) (small-none n e)
-
-pub spelled-some : (spell : ℕ → Field) (field : Field) (o : Option ℕ) (n : ℕ) → small o ≡ Some n
-    → option_and_then (if_spelled spell field) o ≡ cond (is_text (spell n) field) (Some n) None
-spelled-some spell field None n e = cc
-spelled-some spell field (Some m) n e = by (nat_lt m (2 ^ 64)) e
-  where
-    by : (t : Bool) → cond t (Some m) None ≡ Some n
-        → cond (t && is_text (spell m) field) (Some m) None ≡ cond (is_text (spell n) field) (Some n) None
-    by true e = ap (λ k. cond (is_text (spell k) field) (Some k) None) (Prim.cc e)
-    by false e = cc

@@ -2,7 +2,7 @@
 use Rattle.std.proofs.Common.{◌≡◌, List, [], ◌∷◌, Option, Some, None, option_map, option_and_then, Result, Ok, Err, refl, sym, ap, ◌∙◌}
 use Rattle.std.specs.Option.{ok_or}
 use Rattle.sb_rulebook.specs.Lines.{Field}
-use Rattle.sb_rulebook.specs.Reading.{Table, one, two, three, any_number, some, each, both, by_word, made}
+use Rattle.sb_rulebook.specs.Reading.{Table, one, two, any_number, some, each, both, by_word, made}
 use Rattle.sb_rulebook.specs.Refusals.{Refusal, bad_number}
 use Rattle.sb_proof.specs.declared.read.LineFault.{LineFault}
 use Rattle.sb_proof.specs.Kinds.{behind_word}
@@ -25,21 +25,6 @@ two_made first second g f [] = refl
 two_made first second g f (a ∷ []) = refl
 two_made first second g f (a ∷ b ∷ []) = or_made (λ p. g p.0 p.1) f (both first second (a ∷ b ∷ []))
 two_made first second g f (a ∷ b ∷ c ∷ fs) = refl
-
-pub three_made : {A B C : Type 0} (shape : Field → Option A) (g : A → A → A → B) (f : B → C) (fs : List Field)
-    → three shape (λ x y z. f (g x y z)) fs ≡ made f (three shape g fs)
-three_made shape g f [] = refl
-three_made shape g f (a ∷ []) = refl
-three_made shape g f (a ∷ b ∷ []) = refl
-three_made {A = A} {B = B} shape g f (a ∷ b ∷ c ∷ []) = go (shape a) (both shape shape (b ∷ c ∷ []))
-  where
-    go : (o : Option A) (q : Option (A × A))
-        → ok_or (option_and_then (λ x. option_map (λ p. f (g x p.0 p.1)) q) o) bad_number
-        ≡ made f (ok_or (option_and_then (λ x. option_map (λ p. g x p.0 p.1) q) o) bad_number)
-    go None q = refl
-    go (Some x) None = refl
-    go (Some x) (Some p) = refl
-three_made shape g f (a ∷ b ∷ c ∷ d ∷ fs) = refl
 
 pub any_made : {A B C : Type 0} (shape : Field → Option A) (g : List A → B) (f : B → C) (fs : List Field)
     → any_number shape (λ xs. f (g xs)) fs ≡ made f (any_number shape g fs)

@@ -69,12 +69,6 @@ push-cases (z ∷ zs) y x h = elim (cons-cases z (zs ++ y ∷ []) x h) [
 
 -- The clauses of the assertions at some places, with one place more.
 
-pub units-none : (e : Backing) → AreUnits e [] []
-units-none e = record {
-  from = λ unit among. absurd (not-in-nil unit among);
-  has = λ place a among there. absurd (not-in-nil place among);
-}
-
 same-asserted : (a b : Asserted) → Some a ≡ Some b → a ≡ b
 same-asserted a b h = cc
 

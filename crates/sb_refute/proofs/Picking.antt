@@ -66,15 +66,6 @@ some-copied (Some a) x same h = refl
 
 -- One more.
 
-pub picked-none : (us : List Member) (ls : List Lit) (es : List (ℕ × Asserted)) → ls ≡ [] → es ≡ []
-    → ArePicked us ls (numbered es)
-picked-none us ls es none nothing =
-    subst (λ (fs : List (ℕ × Asserted)). ArePicked us ls (numbered fs)) (sym nothing)
-    (record {
-      from = λ u among. absurd (not-in-nil u among);
-      has = λ l among. absurd (not-in-nil l (subst (λ (ms : List Lit). Contains ms l) none among));
-    })
-
 -- the atom is denied
 denies : (us : List Member) (l : Lit) → l.positive ≡ false → Contains (map (λ (u : Member). u.0) us) l.atom
     → Contains (denials_of us) l
@@ -132,18 +123,6 @@ levels-listed [] = refl
 levels-listed (e ∷ es) = ap (λ (ns : List ℕ). e.1.level ∷ ns) (levels-listed es)
 
 -- The greatest level.
-
-pub top-none : (first : ℕ) (picked : List Asserted) → picked ≡ []
-    → IsTop (first ∷ map (λ (a : Asserted). a.level) picked) first
-top-none first picked none =
-    subst (λ (xs : List Asserted). IsTop (first ∷ map (λ (a : Asserted). a.level) xs) first) (sym none)
-    (record {
-      none_above = λ n among. elim (cons-cases first [] n among) [
-        | inl e ↦ omega (arith, e)
-        | inr none ↦ absurd (not-in-nil n none)
-      ];
-      is = here first [];
-    })
 
 pub top-one : (first : ℕ) (old more : List Asserted) (a : Asserted) (top now : ℕ) → more ≡ old ++ a ∷ []
     → now ≡ max a.level top → IsTop (first ∷ map (λ (b : Asserted). b.level) old) top

@@ -130,10 +130,6 @@ all-digits test base (suc k) n bs each rest =
     step others true = more
     step others false = others
 
--- bytes that are no digits, and no letters of hexadecimal ones
-pub IsNoDigit : ℕ → Type 0
-IsNoDigit c = (c < 48) ⊎ (57 < c)
-
 apart : (b c : ℕ) → (b < c) ⊎ (c < b) → not (b == c) ≡ true
 apart b c h = grind (arith, nat_tests)
 

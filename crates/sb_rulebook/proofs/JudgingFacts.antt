@@ -17,11 +17,6 @@ events_in_order p [] fs texts = refl
 events_in_order p (e ∷ es) fs texts =
     let r = through (meets e p) texts in events_in_order r.0 es fs r.1
 
--- where a check waits, and where none does
-through-waiting : (p : Progress) (text : LineText) (texts : List LineText) → is_at_check p.phase ≡ true
-    → through p (text ∷ texts) ≡ through (takes text p) texts
-through-waiting p text texts waits = ap (λ b. cond b (through (takes text p) texts) (p, text ∷ texts)) waits
-
 through-left : (p : Progress) (texts : List LineText) → is_at_check p.phase ≡ false → through p texts ≡ (p, texts)
 through-left p [] idle = refl
 through-left p (text ∷ texts) idle = ap (λ b. cond b (through (takes text p) texts) (p, text ∷ texts)) idle

@@ -1,5 +1,5 @@
 -- Atoms of the table, and what is made of one more.
-use Rattle.std.proofs.Common.{◌≡◌, ℕ, zero, suc, Bool, true, false, not, ◌&&◌, ◌||◌, ◌==◌, inl, inr, if◌then◌else◌, List, [], ◌∷◌, ◌++◌, length, Option, Some, None, Ok, Err, refl, ap, ap₂, sym, subst, ◌∙◌}
+use Rattle.std.proofs.Common.{◌≡◌, ℕ, zero, suc, Bool, true, false, ◌||◌, ◌==◌, inl, inr, if◌then◌else◌, List, [], ◌∷◌, ◌++◌, length, Option, Some, None, Ok, Err, refl, ap, ap₂, sym, subst, ◌∙◌}
 use Rattle.std.specs.List.{list_all, list_any}
 use Rattle.std.proofs.lemmas.Bool.{and_parts, and_from}
 use Rattle.std.proofs.lemmas.Bool.Decides.{nat_tests}
@@ -7,14 +7,12 @@ use Rattle.std.proofs.Common.{arith}
 use Rattle.sb_lang.specs.Regex.{Regex}
 use Rattle.sb_lang.specs.OrderLaws.{OrderTellsApart}
 use Rattle.sb_regex.specs.Numbered as regex
-use Rattle.sb_lit.specs.declared.clause.Lit.{Lit}
-use Rattle.sb_lit.specs.Clauses.{are_ascending}
 use Rattle.sb_atoms.specs.declared.atom.Atom as code
 use Rattle.sb_atoms.specs.declared.atom.Atom.TheVariants as atom
 use Rattle.sb_atoms.specs.Numbered.{atom_in, Names, IsWith, over, atoms_in, HasRegexBelow, HaveRegexesBelow}
 use Rattle.sb_atoms.proofs.CallerLemmas.{over_one, atoms_more}
 use Rattle.sb_rulebook.specs.Refusals.{repeated, not_normal}
-use Rattle.sb_rulebook.specs.Atoms.{AtomOver, bool_atom, in_atom, le_atom, sum_atom, and_atom, iff_atom, is_same_atom, is_conjunction, is_well_formed}
+use Rattle.sb_rulebook.specs.Atoms.{AtomOver, bool_atom, in_atom, le_atom, sum_atom, and_atom, iff_atom, is_same_atom, is_well_formed}
 use Rattle.sb_rulebook.specs.AtomRules.{defined}
 use Rattle.sb_rulebook.specs.Brought.{is_brought_atom}
 use Rattle.sb_rulebook.specs.Kept.{AllKept}
@@ -104,11 +102,6 @@ formed_over rs (iff_atom l m) = refl
 
 not_one : (n : ℕ) → (suc (suc n) == 1) ≡ false
 not_one n = grind (arith, nat_tests)
-
-pub conjunction_by_length : (ls : List Lit) → (not (length ls == 1) && are_ascending ls) ≡ is_conjunction ls
-conjunction_by_length [] = refl
-conjunction_by_length (l ∷ []) = refl
-conjunction_by_length (l ∷ m ∷ ls) = ap (λ b. not b && are_ascending (l ∷ m ∷ ls)) (not_one (length ls))
 
 -- What is made of an atom whose parts are there.
 

@@ -52,16 +52,6 @@ same_targets (k ∷ ks) = ap (λ ids. k.target ∷ ids) (same_targets ks)
 
 -- What the rule of expansions says, by what was looked up.
 
-pub unknown_number : (asked : Asked) (old : Kept) (others : AllKept) (number : ℕ) (ks : List Class)
-    → slice_get old.regexes.order number ≡ None
-    → follows asked (kept_in old others) (expansion_line number (map class_in ks)) ≡ Err unknown_id
-unknown_number asked old others number ks h =
-    ap (λ o. elim o as (λ _. Result AllKept Refusal) [
-      | None ↦ Err unknown_id
-      | Some r ↦ elim (together (map (branch_of (kept_in old others).regexes) (map class_in ks)))
-          [ None ↦ Err unknown_id | Some ps ↦ expanded asked (kept_in old others) number (map class_in ks) r ps ]
-    ]) (slice_get-map (regex_at old.arena) old.regexes.order number ∙ ap (option_map (regex_at old.arena)) h)
-
 pub unknown_target : (asked : Asked) (old : Kept) (others : AllKept) (number regex : ℕ) (ks : List Class)
     → slice_get old.regexes.order number ≡ Some regex
     → together (map (slice_get old.regexes.order) (map (λ k. k.target) ks)) ≡ None

@@ -1,5 +1,5 @@
 -- What the loops over the numbers of a line keep.
-use Rattle.std.proofs.Common.{◌≡◌, ℕ, zero, suc, ◌+◌, ◌<◌, ◌≤◌, Bool, true, false, ◌||◌, ◌==◌, nat_eq, nat_lt, if◌then◌else◌, List, [], ◌∷◌, ◌++◌, length, map, set, drop, get_or, Option, Some, None, option_map, refl, sym, ap, ap₂, subst, ◌∙◌, arith, append_assoc, length-append}
+use Rattle.std.proofs.Common.{◌≡◌, ℕ, zero, suc, ◌+◌, ◌<◌, ◌≤◌, Bool, true, false, ◌||◌, ◌==◌, nat_eq, nat_lt, if◌then◌else◌, List, [], ◌∷◌, ◌++◌, length, map, drop, get_or, Option, Some, None, option_map, refl, sym, ap, ap₂, subst, ◌∙◌, arith, append_assoc, length-append}
 use Rattle.std.specs.List.{list_all, list_any}
 use Rattle.std.proofs.lemmas.Bool.{false≢true}
 use Rattle.std.proofs.lemmas.Bool.Decides.{nat_tests}
@@ -33,16 +33,6 @@ number-within ns m p h l =
 pub marked-long : (ns : List ℕ) (dead : List Bool) → length (marked ns dead) ≡ length dead
 marked-long [] dead = refl
 marked-long (n ∷ ns) dead = length-set (marked ns dead) n true ∙ marked-long ns dead
-
-pub mark-more : (ns : List ℕ) (old new : List Bool) (place p : ℕ) → place ≡ suc p → p < length ns
-    → new ≡ marked (drop place ns) old → set new (get_or ns p 0) true ≡ marked (drop p ns) old
-mark-more ns old new place p e l h =
-    let s : place ≡ p + 1 = omega arith in
-    ap (λ ds. set ds (get_or ns p 0) true) (h ∙ ap (λ k. marked (drop k ns) old) s)
-    ∙ sym (at_drop_more (λ ms. marked ms old) ns p 0 l)
-
-pub from-first : {A B : Type 0} (f : List A → B) (xs : List A) (place : ℕ) → place ≤ 0 → f (drop place xs) ≡ f xs
-from-first f xs place l = ap (λ k. f (drop k xs)) (let z : place ≡ 0 = omega arith in z)
 
 -- The set of the members, from the last number on.
 

@@ -261,12 +261,3 @@ answers_regardless entry session after e f old new h p tracked =
       tracked = a.tracked;
       outside = a.outside;
     }
-
-pub cut_regardless : (entry : Entry) (session : SessionState) (e : Bool) (old new : Outside)
-    → CutOrNot entry session old new → CutOrNot entry (record session { ended = e }) old new
-cut_regardless entry session e old new h p tracked = by_cut (h p tracked)
-  where
-    by_cut : (new ≡ old) ⊎ CutReply p entry session old new
-        → (new ≡ old) ⊎ CutReply p entry (record session { ended = e }) old new
-    by_cut (inl same) = inl same
-    by_cut (inr cut) = inr (record { writes = cut.writes; after = cut.after; answers = cut.answers; cut = cut.cut })

@@ -2,12 +2,10 @@
 use Rattle.std.proofs.Common.{◌≡◌, ◌⊎◌, ℕ, Bool, true, false, if◌then◌else◌, List, [], ◌∷◌, ◌++◌, length, append_assoc, refl, sym, ap, ◌∙◌, inl, inr, subst}
 use Rattle.std.proofs.lemmas.List.{append-nil}
 use Rattle.sb_world.specs.Outside.{Outside}
-use Rattle.sb_reader.specs.declared.feed.Ending.{Ending}
-use Rattle.sb_reader.specs.declared.feed.Ending.TheVariants.{Clean, Unfinished}
 use Rattle.sb_reader.specs.Tokens.{is_open_gap}
 use Rattle.sb_reader.specs.Entries.{Entry, HoldsNoEntry, Begins}
 use Rattle.sb_reader.specs.Feeding as feed
-use Rattle.sb_reader.specs.Feeding.{Takes, Waits, Ends}
+use Rattle.sb_reader.specs.Feeding.{Takes, Waits}
 use Rattle.sb_reader.proofs.CallerLemmas.{shortens_to_itself, shortens_twice, same_entry, beginning_grows}
 use Rattle.sb_script.specs.Replies.{is_exit}
 use Rattle.sb_script.specs.Scripts.{Along}
@@ -15,7 +13,7 @@ use Rattle.sb_stack.specs.Stacked.{state_of}
 use Rattle.sb_session.specs.Commanding.{SessionState, is_proved, IsTracked, Answers, AnswersEntry, CutReply, CutOrNot}
 use Rattle.sb_session.specs.Progress.{Sofar}
 use Rattle.sb_session.specs.Reading.{GoesOn, beginnings, Answered, UpToExit, CutBetween, Cut, end_writes}
-use Rattle.sb_session.specs.Pausing.{NoneLeft, is_clean}
+use Rattle.sb_session.specs.Pausing.{NoneLeft}
 use Rattle.sb_session.proofs.WritingLemmas.{writes_on, front-longer}
 
 -- one step more
@@ -189,22 +187,3 @@ none_left opened bytes old new session now ended same none going sofar = record 
       (subst (λ (e : Bool). HoldsNoEntry e old.0) (sym ended) none);
   goes_on = going;
 }
-
--- the bytes have ended
-pub end_on : (ending : Ending) (opened : Outside) (bytes : List ℕ) (old new : feed.Unanswered) (session : SessionState)
-    (now : Outside) → Ends ending old new → session.ended ≡ false
-    → Sofar opened bytes old session now → (new.1 ≡ true) × (is_open_gap new.0 ≡ is_clean ending)
-    × NoneLeft opened bytes new session now
-end_on Clean opened bytes old new session now ends going sofar = (
-  ap (λ (k : feed.Unanswered). k.1) ends.1 ∙ ends.0,
-  ap (λ (k : feed.Unanswered). is_open_gap k.0) ends.1
-      ∙ ends.2,
-  none_left opened bytes old new session now ends.0 ends.1 (open_gap_is_none true old.0 ends.2) going
-      sofar,
-)
-end_on Unfinished opened bytes old new session now ends going sofar = (
-  ap (λ (k : feed.Unanswered). k.1) ends.1 ∙ ends.0,
-  ap (λ (k : feed.Unanswered). is_open_gap k.0) ends.1
-      ∙ ends.2,
-  none_left opened bytes old new session now ends.0 ends.1 ends.3 going sofar,
-)

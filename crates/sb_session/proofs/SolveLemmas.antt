@@ -1,12 +1,11 @@
 -- From the outcome of a run to its status.
-use Rattle.std.proofs.Common.{◌≡◌, ◌+◌, ◌<◌, ◌≤◌, ◌^◌, ◌⊎◌, ℕ, Bool, true, false, List, [], ◌∷◌, ◌++◌, length, take, drop, Option, Some, None, is_some, option_map, IfSome, Result, Ok, Err, IfOk, OnErr, append_assoc, length-append, refl, sym, ap, ◌∙◌, subst, inl, inr, arith}
+use Rattle.std.proofs.Common.{◌≡◌, ◌+◌, ◌<◌, ◌≤◌, ◌^◌, ◌⊎◌, ℕ, Bool, true, false, List, [], ◌∷◌, ◌++◌, length, take, drop, Option, Some, None, IfSome, Result, Ok, Err, IfOk, OnErr, append_assoc, length-append, refl, sym, ap, ◌∙◌, subst, inl, inr, arith}
 use Rattle.std.proofs.lemmas.Bool.{false≢true}
 use Rattle.std.proofs.lemmas.List.{take-append-drop, take-append-le}
 use Rattle.std.proofs.Math.Seq.{take-append_seam}
 use Rattle.sb_world.specs.Outside.{Outside, Rose, open_at, source_of}
-use Rattle.sb_world.specs.Moved.{Write, moved_by, writing}
+use Rattle.sb_world.specs.Moved.{Write}
 use Rattle.sb_world.specs.declared.InPort.TheVariants as in_port
-use Rattle.sb_world.specs.declared.OutPort.TheVariants as out_port
 use Rattle.sb_reader.specs.Entries.{Entry, Begins}
 use Rattle.sb_reader.proofs.CallerLemmas.{beginning_stays, beginning_is_first}
 use Rattle.sb_script.specs.Replies.{is_exit}
@@ -16,7 +15,7 @@ use Rattle.sb_session.specs.declared.command.SessionFault.TheVariants as fault
 use Rattle.sb_session.specs.declared.solve.SolveStatus.{SolveStatus}
 use Rattle.sb_session.specs.declared.solve.SolveStatus.TheVariants.{Done, Unfinished, Usage, Fault, NoMemory, InputLimit}
 use Rattle.sb_session.specs.Commanding.{Stage, CountsSessionFault}
-use Rattle.sb_session.specs.Solve.{Asked, created, opened, asks_proof, Run, CountsFaults, CutShort, CutInText, WrongWords, PastLimit, IsBounded}
+use Rattle.sb_session.specs.Solve.{Asked, created, opened, asks_proof, Run, CountsFaults, CutShort, PastLimit, IsBounded}
 use Rattle.sb_session.specs.Reading.{GoesOn, beginnings}
 use Rattle.sb_session.specs.Progress.{status_by}
 
@@ -52,16 +51,6 @@ pub cut_from : (asked : Asked) (proved : Bool) (r : Result SolveStatus SessionFa
     → OnErr r (CutShort asked old now)
 cut_from asked proved (Ok _) old from now l k e cut = tt
 cut_from asked proved (Err _) old from now l k e cut = cut asked old l k e
-
--- words that are not taken are answered by a text
-pub wrong_by : (text : List ℕ) (r : Result SolveStatus SessionFault) (old new : Outside) (f g : ℕ)
-    → IfOk r (λ s. (s ≡ Usage) × (new ≡ moved_by (writing (out_port.Faults, text)) old) × CountsFaults s f g)
-    → OnErr r (CutInText text old new) → WrongWords (status_by r) old new
-wrong_by text (Ok s) old new f g ok err =
-    subst (λ (status : SolveStatus). WrongWords status old new) (sym ok.0) (text, ok.1)
-wrong_by text (Err fault.Fault) old new f g ok err = (text, err)
-wrong_by text (Err fault.NoMemory) old new f g ok err = inr (text, err)
-wrong_by text (Err fault.Ended) old new f g ok err = inr (text, err)
 
 -- None of the entries that are answered is (exit).
 no_exit_among : (proved : Bool) (s : Stage) (before : List Entry) (entry : Entry) (behind : List Entry)

@@ -1,5 +1,5 @@
 -- What a search leaves, and what comes of it.
-use Rattle.std.proofs.Common.{◌≡◌, ℕ, zero, suc, true, List, [], ◌∷◌, ◌++◌, length, Option, Some, None, Result, Ok, Err, refl, sym, ap, subst, ◌∙◌}
+use Rattle.std.proofs.Common.{◌≡◌, ℕ, zero, suc, true, List, [], ◌∷◌, ◌++◌, length, Option, Some, None, Err, refl, sym, ap, subst, ◌∙◌}
 use Rattle.std.specs.List.{list_all}
 use Rattle.std.proofs.lemmas.Bool.{and_parts, and_from, false≢true}
 use Rattle.sb_lit.specs.declared.clause.Lit.{Lit}
@@ -17,12 +17,10 @@ use Rattle.sb_trace.specs.Putting.{CountsTapeFault}
 use Rattle.sb_refute.specs.declared.evidence.Asserted.{Asserted}
 use Rattle.sb_refute.specs.declared.evidence.Parts.{Parts}
 use Rattle.sb_refute.specs.Backing.{asserted_at, unit_at}
-use Rattle.sb_search.specs.Asking.{CountsFaults}
 use Rattle.sb_search.specs.Found.{GrowsTo, IsFound}
 use Rattle.sb_search.specs.Writing.{AreKnown, written}
 use Rattle.sb_search.specs.declared.found.Found.{Found}
 use Rattle.sb_search.specs.declared.found.Found.TheVariants as found
-use Rattle.sb_theory.specs.Strings.{Agrees, Stands, Writes}
 use Rattle.sb_theory.specs.Strings as theory
 use Rattle.sb_theory.specs.Memberships.{HaveAtoms, are_atoms, is_atom}
 use Rattle.sb_solve.specs.Wanted.{AreWanted}
@@ -50,14 +48,6 @@ kept_grown old new id clause g h =
 
 pub none_known : (knows : ℕ → Type 0) → AreKnown knows []
 none_known knows = λ l h. absurd (false≢true h)
-
-pub counts_tape : {A : Type 0} (B : Type 0) (r : Result A TapeFault) (e : TapeFault) (old new : ℕ) → r ≡ Err e
-    → CountsFaults r old new → CountsTapeFault {A = B} (Err e) old new
-counts_tape B (Ok x) e old new is h = absurd (Prim.cc (is))
-counts_tape B (Err fault.Fault) fault.Fault old new is h = h
-counts_tape B (Err fault.NoMemory) fault.NoMemory old new is h = h
-counts_tape B (Err fault.Fault) fault.NoMemory old new is h = absurd (Prim.cc (is))
-counts_tape B (Err fault.NoMemory) fault.Fault old new is h = absurd (Prim.cc (is))
 
 pub searched_over : (b c : Begun) (literals : List Lit) (before after : Spending) (old new : Option (List ℕ)) (f : Found)
     → b.strings.proves ≡ true → Runs b c before after old new f → AreDistinct b.strings.atoms

@@ -2,8 +2,7 @@
 use Rattle.std.proofs.Common.{◌≡◌, ℕ, zero, suc, ◌+◌, ◌<◌, ◌≤◌, Bool, true, false, ◌&&◌, nat_eq, nat_lt, if◌then◌else◌, List, [], ◌∷◌, ◌++◌, length, take, get_or, slice_get, Option, Some, None, option_map, refl, sym, ap, subst, ◌∙◌, arith, append_assoc}
 use Rattle.std.specs.List.{list_all, list_any, IsDistinct}
 use Rattle.std.proofs.lemmas.Bool.{and_parts, and_from, or_left, or_right, lt-ltb, ltb-true}
-use Rattle.std.proofs.lemmas.Bool.Decides.{nat_tests}
-use Rattle.std.proofs.lemmas.List.{append-nil, take_all, take_more, take-append-le}
+use Rattle.std.proofs.lemmas.List.{append-nil, take_more, take-append-le}
 use Rattle.std.proofs.lemmas.List.Folds.{list_all-append, list_any-append}
 use Rattle.std.proofs.lemmas.Option.{slice_get-map}
 use Rattle.sb_facts.proofs.CallerLemmas.{equal_itself}
@@ -97,14 +96,6 @@ pub record Closing (atoms : List (AtomOver ℕ)) (old : List ℕ) (place : ℕ) 
   pub closed : list_all (is_closed atoms new) (take place new) ≡ true
   pub follow : Follow atoms old new
 
-pub closing_start : (atoms : List (AtomOver ℕ)) (old : List ℕ) → Closing atoms old 0 old
-closing_start atoms old = record {
-  more = [];
-  is = sym (append-nil old);
-  closed = refl;
-  follow = λ test h step. h;
-}
-
 still_closed : (atoms : List (AtomOver ℕ)) (old new xs : List ℕ) → IsFront old new
     → list_all (is_closed atoms old) xs ≡ true → list_all (is_closed atoms new) xs ≡ true
 still_closed atoms old new [] p h = refl
@@ -154,15 +145,6 @@ closing_step atoms old keys new place x d below is made simple h =
         ∙ take-append-le (place + 1) keys front.0 (omega (arith, below))
         ∙ take_more keys place d below
         ∙ ap (λ y. take place keys ++ y ∷ []) (sym is)
-
-pub closing_end : (atoms : List (AtomOver ℕ)) (old new : List ℕ) (place : ℕ) → length new ≤ place
-    → Closing atoms old place new → Closes atoms old new
-closing_end atoms old new place past h = record {
-  more = h.more;
-  is = h.is;
-  closed = ap (list_all (is_closed atoms new)) (sym (take_all place new past)) ∙ h.closed;
-  follow = h.follow;
-}
 
 -- The whole.
 

@@ -1,11 +1,10 @@
 -- The words of constants that are marked, and the shortest words of rows of literals.
-use Rattle.std.proofs.Common.{◌≡◌, ℕ, zero, suc, ◌+◌, ◌<◌, ◌≤◌, Bool, true, false, ◌==◌, if◌then◌else◌, List, [], ◌∷◌, ◌++◌, map, length, take, get_or, Option, None, refl, sym, ap, ap₂, subst, ◌∙◌, arith, append_assoc, length-append, inl, inr}
+use Rattle.std.proofs.Common.{◌≡◌, ℕ, zero, suc, ◌+◌, ◌<◌, ◌≤◌, Bool, true, false, ◌==◌, if◌then◌else◌, List, [], ◌∷◌, ◌++◌, map, length, get_or, Option, None, refl, sym, ap, ap₂, subst, ◌∙◌, arith, append_assoc, length-append, inl, inr}
 use Rattle.std.specs.Prelude.{Result, Ok, Err, IfOk}
 use Rattle.std.specs.Ordering.{nat_cmp}
 use Rattle.std.specs.Cmp.Lexicographic.{slice_cmp}
 use Rattle.std.specs.declared.cmp.Ordering.TheVariants.{Less}
 use Rattle.std.proofs.lemmas.Bool.{and_parts, and_from, cases_lt, eqb-true}
-use Rattle.std.proofs.lemmas.List.{append-nil}
 use Rattle.sb_word.specs.Words.{IsWord, are_characters}
 use Rattle.sb_lit.specs.declared.clause.Lit.{Lit}
 use Rattle.sb_lang.specs.Regex.{Regex}
@@ -52,51 +51,17 @@ pub record Resizing (count : ℕ) (old now : List (Option (List ℕ))) : Type 0 
   pub few : length now ≤ count
   pub same : (serial : ℕ) → serial < count → word_at now serial ≡ word_at old serial
 
-word_taken : (ws : List (Option (List ℕ))) (count n : ℕ) → n < count → word_at (take count ws) n ≡ word_at ws n
-word_taken ws zero n h = absurd (omega (arith, h))
-word_taken [] (suc count) n h = refl
-word_taken (w ∷ ws) (suc count) zero h = refl
-word_taken (w ∷ ws) (suc count) (suc n) h = word_taken ws count n (omega (arith, h))
-
-taken_few : {X : Type 0} (ws : List X) (count : ℕ) → length (take count ws) ≤ count
-taken_few ws zero = omega arith
-taken_few [] (suc count) = omega arith
-taken_few (w ∷ ws) (suc count) = omega (arith, taken_few ws count)
-
-pub resizing_start : (count : ℕ) (old now : List (Option (List ℕ))) → now ≡ take count old → Resizing count old now
-resizing_start count old now is =
-    subst (λ (ws : List (Option (List ℕ))). Resizing count old ws) (sym is)
-    (record { few = taken_few old count; same = λ n h. word_taken old count n h })
-
 none_more : (ws : List (Option (List ℕ))) (n : ℕ) → word_at (ws ++ None ∷ []) n ≡ word_at ws n
 none_more [] zero = refl
 none_more [] (suc n) = refl
 none_more (w ∷ ws) zero = refl
 none_more (w ∷ ws) (suc n) = none_more ws n
 
-pub resizing_more : (count : ℕ) (old now new : List (Option (List ℕ))) → length now < count → new ≡ now ++ None ∷ []
-    → Resizing count old now → Resizing count old new
-resizing_more count old now new less is h =
-    subst (λ (ws : List (Option (List ℕ))). Resizing count old ws) (sym is) (record {
-      few = omega (arith, less, length-append now (None ∷ []));
-      same = λ n low. none_more now n ∙ h.same n low;
-    })
-
-pub resizing_end : (count : ℕ) (old now : List (Option (List ℕ))) → count ≤ length now → Resizing count old now
-    → HasLength count old now
-resizing_end count old now all h = record { long = omega (arith, all, h.few); same = h.same }
-
 -- Those that are marked.
 
 pub record Picking (marks : List Bool) (words rest : List (Option (List ℕ))) (found : List (List ℕ)) : Type 0 where
   pub whole : found ++ picked marks (length found) rest ≡ picked marks 0 words
   pub characters : are_words found ≡ true
-
-pub picking_start : (marks : List Bool) (words rest : List (Option (List ℕ))) (found : List (List ℕ)) → found ≡ []
-    → rest ≡ words → Picking marks words rest found
-picking_start marks words rest found none all =
-    subst (λ (ws : List (List ℕ)). Picking marks words rest ws) (sym none)
-    (record { whole = ap (picked marks 0) all; characters = refl })
 
 pub picking_step : (marks : List Bool) (words rest rest' : List (Option (List ℕ))) (found new : List (List ℕ))
     (w : Option (List ℕ)) (b : Bool) (one : List ℕ) → Picking marks words rest found → rest ≡ w ∷ rest'
@@ -114,11 +79,6 @@ picking_step marks words rest rest' found new w b one h first marked is word mor
   where
     one_longer : (found : List (List ℕ)) (one : List ℕ) → length (found ++ one ∷ []) ≡ suc (length found)
     one_longer found one = omega (arith, length-append found (one ∷ []))
-
-pub picking_end : (marks : List Bool) (words rest : List (Option (List ℕ))) (found : List (List ℕ)) → rest ≡ []
-    → Picking marks words rest found → found ≡ picked marks 0 words
-picking_end marks words rest found none h =
-    sym (append-nil found) ∙ sym (ap (λ ws. found ++ picked marks (length found) ws) none) ∙ h.whole
 
 empty_both : (b : Bool) → ◌≡◌ {A = List ℕ} [] (if b then [] else [])
 empty_both true = refl
@@ -215,12 +175,6 @@ pub record LeastSofar (rs : List Regex) (atoms : List (AtomOver ℕ)) (rows : Li
   where
     pub characters : are_words words ≡ true
     pub least : (serial : ℕ) → serial < length words → IsLeastOf rs atoms (get_or rows serial []) (word_in words serial)
-
-pub least_start : (rs : List Regex) (atoms : List (AtomOver ℕ)) (rows : List (List Lit)) (words : List (List ℕ))
-    → words ≡ [] → LeastSofar rs atoms rows words
-least_start rs atoms rows words none =
-    subst (λ (ws : List (List ℕ)). LeastSofar rs atoms rows ws) (sym none)
-    (record { characters = refl; least = λ n low. absurd (omega (arith, low)) })
 
 word_last : (ws : List (List ℕ)) (w : List ℕ) → word_in (ws ++ w ∷ []) (length ws) ≡ w
 word_last [] w = refl

@@ -1,11 +1,10 @@
 -- Terms that are memberships of one constant, by their arguments.
 use Rattle.std.proofs.Common.{◌≡◌, ℕ, ◌<◌, ◌≤◌, Bool, true, false, List, [], ◌∷◌, length, get_or, Option, Some, None, is_some, refl, sym, ap, ◌∙◌, arith}
 use Rattle.std.specs.Prelude.{MatchOption}
-use Rattle.std.proofs.lemmas.Bool.{false≢true}
 use Rattle.smallvec.specs.SmallVec.{SmallVec}
-use Rattle.sb_meaning.specs.Terms.{Sort, boolean, integer, text, reglan, Term, Terms, constant, word, numeral, apply, parameter, no_terms, with_term, terms_of}
+use Rattle.sb_meaning.specs.Terms.{boolean, integer, text, reglan, Term, constant, word, numeral, apply, parameter, no_terms, with_term, terms_of}
 use Rattle.sb_meaning.specs.Terms as meaning
-use Rattle.sb_script.specs.Models.{is_of_constant, is_plain_term}
+use Rattle.sb_script.specs.Models.{is_of_constant}
 use Rattle.sb_term.specs.declared.sort.Symbol.{Symbol}
 use Rattle.sb_term.specs.declared.sort.Symbol.TheVariants as symbol
 use Rattle.sb_term.specs.declared.term.Term as code
@@ -79,14 +78,3 @@ of_member t term o b m h same = same ∙ text_there o term h ∙ sym m
 member_there : (t : Term) → is_of_constant t ≡ true → is_in_re t ≡ true
 member_there (apply meaning.str_in_re (with_term (constant n text) (with_term R no_terms))) h = refl
 member_there _ h = absurd (Prim.cc (h))
-
-pub of_other : (t : Term) → is_in_re t ≡ false → false ≡ is_of_constant t
-of_other t h = step (is_of_constant t) refl
-  where
-    step : (b : Bool) → is_of_constant t ≡ b → false ≡ b
-    step false e = refl
-    step true e = absurd (false≢true (sym h ∙ member_there t e))
-
-pub plain_other : (t : Term) → is_negation t ≡ false → is_plain_term t ≡ is_of_constant t
-plain_other (apply meaning.core_not (with_term u no_terms)) h = absurd (false≢true (sym h))
-plain_other _ h = refl

@@ -1,6 +1,5 @@
 -- The clauses of live assertions, one behind the other.
-use Rattle.std.proofs.Common.{◌≡◌, ◌≢◌, ◌⊎◌, inl, inr, ℕ, zero, suc, ◌<◌, Bool, true, false, nat_eq, if◌then◌else◌, List, [], ◌∷◌, ◌++◌, length, slice_get, Option, Some, None, option_map, refl, sym, ap, subst, ◌∙◌, arith}
-use Rattle.std.specs.Prelude.{IfSome}
+use Rattle.std.proofs.Common.{◌≡◌, ◌≢◌, ◌⊎◌, inl, inr, ℕ, zero, suc, ◌<◌, Bool, true, false, nat_eq, List, [], ◌∷◌, ◌++◌, length, slice_get, Option, Some, refl, sym, ap, subst, ◌∙◌, arith}
 use Rattle.std.proofs.lemmas.Bool.{and_from, lt-ltb}
 use Rattle.std.proofs.lemmas.Bool.Decides.{nat_tests}
 use Rattle.std.proofs.lemmas.Option.{slice_get_within, none-some, same_Some}
@@ -10,9 +9,7 @@ use Rattle.sb_lang.specs.Regex.{Regex}
 use Rattle.sb_deriv.specs.Faithful.{Memo}
 use Rattle.sb_regex.specs.Numbered.{Extends}
 use Rattle.sb_regex.proofs.CallerLemmas.{extends_same, extends_more}
-use Rattle.sb_term.specs.Numbered.{term_at}
 use Rattle.sb_meaning.specs.Terms.{Term}
-use Rattle.sb_script.specs.Brought.{is_structure}
 use Rattle.sb_script.specs.State.{Assertion, asserted, a_mark, live, terms_in}
 use Rattle.sb_rulebook.specs.Accepted.{asked_in}
 use Rattle.sb_rulebook.specs.Atoms.{Atom, AtomOver}
@@ -22,70 +19,16 @@ use Rattle.sb_rulebook.specs.TranslationLaws.{TranslationStays}
 use Rattle.sb_stack.specs.Stacked.{Stacked, state_of}
 use Rattle.sb_atoms.specs.Numbered.{HaveRegexesBelow, atoms_in}
 use Rattle.sb_atoms.specs.Numbered as table
-use Rattle.sb_atoms.specs.Translated.{brought_translation}
 use Rattle.sb_atoms.proofs.CallerLemmas.{atoms_kept, atoms_more}
 use Rattle.sb_trace.proofs.CallerLemmas.{puts_none, puts_both}
 use Rattle.sb_theory.specs.Memberships.{is_atom, are_atoms}
 use Rattle.sb_refute.specs.declared.evidence.Asserted.{Asserted}
-use Rattle.sb_refute.specs.Backing.{Backing, Backs, EvidencesUncounted, HasGates, IsStatement, asserted_at}
+use Rattle.sb_refute.specs.Backing.{Backing, Backs, EvidencesUncounted, asserted_at}
 use Rattle.sb_solve.specs.Answered.{IsLiteral, AreLiterals}
 use Rattle.sb_solve.specs.Solved.{AreOfLevels, level_at}
-use Rattle.sb_solve.specs.Stating.{IsAssertionAt, IsStated, States, AreStated}
+use Rattle.sb_solve.specs.Stating.{IsStated, States, AreStated}
 
 -- One assertion.
-
-structure_translates : (atoms : List Atom) (t : Term) (l : Lit) → brought_translation atoms t ≡ Some l
-    → translation atoms t ≡ Some l
-structure_translates atoms t l h = step (is_structure t) h
-  where
-    step : (b : Bool) → (if b then translation atoms t else None) ≡ Some l → translation atoms t ≡ Some l
-    step true h = h
-    step false h = absurd (none-some l h)
-
-pub states_there : (s : Stacked) (place id level : ℕ) (ts : List Term) (rs more : List Regex) (e f : Backing)
-    (o : Option Asserted) (a : Asserted) (old new : Option (List ℕ)) → ts ≡ s.table → IsAssertionAt s place id level
-    → HaveRegexesBelow (length rs) e.atoms → HaveRegexesBelow (length more) f.atoms → Extends rs more
-    → table.Extends e.atoms f.atoms
-    → ((asked : Asked) (memo : Memo) (before : AllKept) → Backs rs memo e before
-    → IsStatement asked place (term_at ts id) level → EvidencesUncounted asked before more memo f old new)
-    → o ≡ asserted_at f.asserted place → o ≡ Some a
-    → option_map (λ (b : Asserted). b.literal) o ≡ brought_translation (atoms_in more f.atoms) (term_at ts id)
-    → IfSome o (λ (b : Asserted). b.level ≡ level)
-    → ((other : ℕ) → other ≢ place → asserted_at f.asserted other ≡ asserted_at e.asserted other)
-    → HasGates (length f.atoms) f.atoms f.kept → States s place rs more e f old new a.literal
-states_there s place id level ts rs more e f o a old new same there below above grows atoms puts answer some literal low
-    others gates = record {
-      puts = λ memo before b. puts (asked_in (state_of s)) memo before b statement;
-      extends = grows;
-      atoms = atoms;
-      below = below;
-      regexes = above;
-      others = others;
-      level = λ b found.
-          ap (option_map (λ (x : Option Term × ℕ). x.1)) there.statement.live
-          ∙ ap Some (sym level_is ∙ ap (λ (c : Asserted). c.level) (same_Some a b (sym it ∙ found)));
-      gates = gates;
-      stated = record {
-        term = term_at s.table id;
-        stands = there.stands;
-        translates = subst (λ (us : List Term). translation (atoms_in more f.atoms) (term_at us id) ≡ Some a.literal) same
-            (structure_translates (atoms_in more f.atoms) (term_at ts id) a.literal
-            (sym literal ∙ ap (option_map (λ (b : Asserted). b.literal)) some));
-        clause = a;
-        there = it;
-        literal = refl;
-      };
-    }
-  where
-    it : asserted_at f.asserted place ≡ Some a
-    it = sym answer ∙ some
-
-    level_is : a.level ≡ level
-    level_is = subst (λ (x : Option Asserted). IfSome x (λ (b : Asserted). b.level ≡ level)) some low
-
-    statement : IsStatement (asked_in (state_of s)) place (term_at ts id) level
-    statement = subst (λ (us : List Term). IsStatement (asked_in (state_of s)) place (term_at us id) level) (sym same)
-        there.statement
 
 -- One behind the other.
 

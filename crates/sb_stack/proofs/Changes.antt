@@ -7,7 +7,7 @@ use Rattle.std.proofs.lemmas.List.Elements.{All-take}
 use Rattle.std.proofs.lemmas.List.Folds.{list_all-append}
 use Rattle.std.specs.declared.vec.Vec.{Vec}
 use Rattle.std.specs.declared.alloc.Global.{Global}
-use Rattle.sb_script.specs.Names.{Name, name_in_text}
+use Rattle.sb_script.specs.Names.{Name}
 use Rattle.sb_meaning.specs.Terms.{Term, Sort}
 use Rattle.sb_script.specs.Brought.{is_brought_sort}
 use Rattle.sb_term.specs.declared.sort.Sort as code
@@ -15,7 +15,7 @@ use Rattle.sb_term.specs.Symbols.{sort_in}
 use Rattle.sb_script.specs.Symbols.{is_taken}
 use Rattle.sb_script.specs.Scopes.{Naming, constants_in, a_constant, a_marked_name}
 use Rattle.sb_script.specs.State as state
-use Rattle.sb_script.specs.State.{State, plain, names_of, live, constants_of, declared, marked, asserted, with_assertion, pushed, popped, without_assertions, start_behind, in_level, empty_level}
+use Rattle.sb_script.specs.State.{State, plain, names_of, live, constants_of, declared, marked, asserted, with_assertion, pushed, popped, without_assertions}
 use Rattle.sb_script.specs.Errors as error
 use Rattle.sb_script.specs.Steps as meaning
 use Rattle.sb_script.specs.Replies as reply
@@ -30,7 +30,7 @@ use Rattle.sb_stack.specs.declared.level.Level.{Level}
 use Rattle.sb_stack.specs.declared.stack.Mode.TheVariants as mode
 use Rattle.sb_stack.specs.declared.stack.Step.TheVariants as step
 use Rattle.sb_stack.specs.Stacked.{Stacked, options_of, mode_in, state_of, first_level, levels_above, assertion_of, assertion_in, have_levels, HasNumberBelow, IsLonger}
-use Rattle.sb_stack.specs.Keeping.{are_nested, asserts_of, speak_of_theirs, IsKept, Keeps, KeepsBy, Leaves}
+use Rattle.sb_stack.specs.Keeping.{are_nested, asserts_of, speak_of_theirs, IsKept, Keeps, KeepsBy}
 use Rattle.sb_stack.specs.Taking.{IsAnswered, declares}
 use Rattle.sb_stack.proofs.Levels.{names_of_levels, live_of_levels, nested_more, nested_left, one_name, one_assertion, levelled_push, first_pushed, above_pushed, nested_pushed, levelled_pushed}
 use Rattle.sb_stack.proofs.Live.{theirs_name, theirs_assertion, theirs_pushed, theirs_left}
@@ -197,17 +197,6 @@ kept_left scope table xs ls all l is given =
         (and_parts (list_all (λ a. nat_eq a.level (suc (length ls))) (drop l.assertions xs))
         (have_levels ls (take l.assertions xs)) h).1
 
-pub kept_cleared : (scope : scopes.ScopeNames) (table : List Term) → all_below (length scope.sorts) table ≡ true
-    → list_all (λ sort. is_brought_sort (sort_in sort)) scope.sorts ≡ true → IsKept scope table [] []
-kept_cleared scope table below brought = record {
-  numbers = λ k d l. absurd (omega (arith, l));
-  below = below;
-  brought = brought;
-  nested = refl;
-  levelled = refl;
-  theirs = refl;
-}
-
 pub state_kept : (k : Stacked) (new : List Term) → IsKept k.scope k.table k.assertions k.levels → Extends k.table new
     → state_of (record k { table = new }) ≡ state_of k
 state_kept k new kept extends =
@@ -354,15 +343,6 @@ left_is k ls l is =
       above = drop 1 (levels_above levels (names_in k.scope) bs);
     }) (sym is)
 
-pub none_left_is : (k : Stacked) → k.levels ≡ [] → state_of (record k { mode = mode.Plain }) ≡ popped 1 (state_of k)
-none_left_is k is =
-    let bs : List state.Assertion = map (assertion_in k.table) k.assertions in
-    ap (λ levels. record (state_of k) { mode = plain; above = levels_above levels (names_in k.scope) bs }) is
-    ∙ ap (λ levels. record (state_of k) {
-      mode = plain;
-      above = drop 1 (levels_above levels (names_in k.scope) bs);
-    }) (sym is)
-
 -- nothing is left
 pub cleared_is : (k : Stacked) (scope : scopes.ScopeNames)
     → scope ≡ record k.scope { names = [] }
@@ -371,18 +351,6 @@ pub cleared_is : (k : Stacked) (scope : scopes.ScopeNames)
 cleared_is k scope is =
     ap (λ (s : scopes.ScopeNames). state_of
     (record k { mode = mode.Plain; scope = s; assertions = []; levels = [] })) is
-
--- and everything is as at the start, but for the serials
-pub reset_is : (k : Stacked) (s : State) → state_of k ≡ without_assertions s
-    → state_of (record k {
-      logic_set = false;
-      begun = false;
-      print_success = true;
-      produce_models = false;
-      produce_unsat_assumptions = false;
-    }) ≡ start_behind s.sorts
-reset_is k s is =
-    ap (λ (t : State). record t { logic_set = false; begun = false; options = state.first_options }) is
 
 pub declare_step : (k : Stacked) (name : Name) (sort : code.Sort) (scope : scopes.ScopeNames) (answer : Vec ℕ Global)
     → IsKept k.scope k.table k.assertions k.levels
@@ -445,49 +413,11 @@ pub keeps_error : {E : Type 0} (e : E) (old new : Stacked) → Keeps old new →
 keeps_error e old new k =
     record { extends = k.extends; moved = k.grows; words = k.words; constants = k.constants }
 
-pub keeps_check : {E : Type 0} (old : Stacked) → KeepsBy {E = E} (Ok step.Check) old old
-keeps_check old =
-    let k = keeps_same old in
-    record { extends = k.extends; moved = k.grows; words = k.words; constants = k.constants }
-
-pub keeps_exit : {E : Type 0} (answer : Vec ℕ Global) (old : Stacked) → KeepsBy {E = E} (Ok (step.Exit answer)) old old
-keeps_exit answer old =
-    let k = keeps_same old in
-    record { extends = k.extends; moved = k.grows; words = k.words; constants = k.constants }
-
-pub keeps_left : {E : Type 0} (answer : Vec ℕ Global) (level : Option ℕ) (old new : Stacked) → Leaves old new
-    → KeepsBy {E = E} (Ok (step.Left answer level)) old new
-keeps_left answer level old new k =
-    record { extends = k.extends; moved = k.front; words = k.words; constants = k.constants }
-
 -- A name that is taken.
-
-pub keeps_scope : (k : Stacked) (scope : scopes.ScopeNames) → scope ≡ k.scope → Keeps k (record k { scope = scope })
-keeps_scope k scope is = subst (λ (s : scopes.ScopeNames). Keeps k (record k { scope = s })) (sym is) (keeps_same k)
 
 taken_there : (k : Stacked) (name : Name) → is_taken (names_in k.scope) name ≡ true
     → is_taken (names_of (state_of k)) name ≡ true
 taken_there k name taken = ap (λ names. is_taken names name) (names_live k) ∙ taken
-
-pub taken_constant : (k : Stacked) (name : Name) (sort : code.Sort) (scope : scopes.ScopeNames) (answer : Vec ℕ Global)
-    → is_taken (names_in k.scope) name ≡ true → scope ≡ k.scope
-    → answer.items ≡ meaning.error_line (codes "already declared " ++ name_in_text name)
-    → IsAnswered (declares name (sort_in sort) (state_of k)) answer (state_of k) (state_of (record k { scope = scope }))
-taken_constant k name sort scope answer taken is said =
-    let fails : declares name (sort_in sort) (state_of k) ≡ meaning.fails_by (error.already_declared name) (state_of k) =
-    ap (λ (b : Bool). if b then meaning.fails_by (error.already_declared name) (state_of k)
-    else meaning.succeeds (declared name (sort_in sort) (state_of k))) (taken_there k name taken) in
-    rw fails (said, ap (λ (c : scopes.ScopeNames). state_of (record k { scope = c })) is)
-
-pub taken_function : (k : Stacked) (name : Name) (scope : scopes.ScopeNames) (answer : Vec ℕ Global)
-    → is_taken (names_in k.scope) name ≡ true → scope ≡ k.scope
-    → answer.items ≡ meaning.error_line (codes "already declared " ++ name_in_text name)
-    → IsAnswered (reply.declare_function name (state_of k)) answer (state_of k) (state_of (record k { scope = scope }))
-taken_function k name scope answer taken is said =
-    let fails : reply.declare_function name (state_of k) ≡ meaning.fails_by (error.already_declared name) (state_of k) =
-    ap (λ (b : Bool). if b then meaning.fails_by (error.already_declared name) (state_of k)
-    else meaning.is_unsupported (marked name (state_of k))) (taken_there k name taken) in
-    rw fails (said, ap (λ (c : scopes.ScopeNames). state_of (record k { scope = c })) is)
 
 -- the same as steps
 pub declares_taken : (k : Stacked) (name : Name) (sort : Sort) → is_taken (names_in k.scope) name ≡ true

@@ -28,15 +28,6 @@ use Rattle.sb_stack.proofs.Changes.{longer_both, kept_left, left_is}
 
 -- Levels that are left one after the other.
 
-pub leaves_same : (k new : Stacked) → new.table ≡ k.table → new.assertions ≡ k.assertions → new.words ≡ k.words
-    → length k.scope.sorts ≤ length new.scope.sorts → Leaves k new
-leaves_same k new table assertions words constants = record {
-  extends = record { more = []; is = table ∙ sym (append-nil k.table) };
-  front = ([], sym assertions ∙ sym (append-nil new.assertions));
-  words = words;
-  constants = constants;
-}
-
 pub leaves_front : (k new : Stacked) (n : ℕ) → new.table ≡ k.table → new.assertions ≡ take n k.assertions
     → new.words ≡ k.words → length k.scope.sorts ≤ length new.scope.sorts → Leaves k new
 leaves_front k new n table assertions words constants = record {

@@ -1,11 +1,9 @@
 -- The shapes of commands, by their forms.
-use Rattle.std.proofs.Common.{◌≡◌, ℕ, ◌+◌, Bool, true, false, not, ◌&&◌, if◌then◌else◌, List, [], ◌∷◌, length, codes, Option, Some, None, is_some, option_map, option_copied, Bor, refl, ap, sym, ◌∙◌, arith}
+use Rattle.std.proofs.Common.{◌≡◌, ℕ, ◌+◌, Bool, true, false, not, ◌&&◌, if◌then◌else◌, List, [], ◌∷◌, length, Option, Some, None, is_some, option_map, option_copied, Bor, refl, ap, sym, ◌∙◌, arith}
 use Rattle.std.specs.List.{list_all}
 use Rattle.sb_reader.specs.Forms.{Form, Forms, Symbol, QuotedSymbol, Keyword, Numeral, OtherNumber, Words, Group, none, more, is_none, only_of, pair_of}
 use Rattle.sb_script.specs.Commands as meaning
-use Rattle.std.proofs.lemmas.Bool.{false≢true}
-use Rattle.sb_script.specs.Texts.{number_of}
-use Rattle.sb_stack.specs.Commands.{keyword_in, numeral_in, levels_in}
+use Rattle.sb_stack.specs.Commands.{keyword_in}
 
 -- what is made of the one form that is there, and of the two
 abbrev pub of_only : (Form → Option meaning.Command) → Option Form → Option meaning.Command
@@ -20,17 +18,6 @@ of_pair make (Some (first, second)) = make first second
 pub fewer_behind : (all : Forms) (form : Form) (forms : Forms) → all ≡ more form forms
     → length (meaning.list_of forms) + 1 ≡ length (meaning.list_of all)
 fewer_behind all form forms is = omega (arith, ap (λ fs. length (meaning.list_of fs)) is)
-
--- a list that begins with a symbol
-pub sort_of_list : (form : Form) (forms : Forms)
-    → meaning.is_sort_form (Group (more form forms)) ≡ is_some (meaning.symbol_in form)
-sort_of_list (Symbol x) forms = refl
-sort_of_list (QuotedSymbol x) forms = refl
-sort_of_list (Keyword x) forms = refl
-sort_of_list (Numeral x) forms = refl
-sort_of_list (OtherNumber x) forms = refl
-sort_of_list (Words x) forms = refl
-sort_of_list (Group x) forms = refl
 
 -- a parameter is a name with a sort
 abbrev pub name_and_sort : Option (Form × Form) → Bool
@@ -75,66 +62,6 @@ parameter_of_pair none = refl
 parameter_of_pair (more f none) = one_is_no_parameter f
 parameter_of_pair (more f (more g none)) = two_are_parameter f g
 parameter_of_pair (more f (more g (more h fs))) = three_are_no_parameter f g h fs
-
-pub logic_of_only : (forms : Forms) → meaning.logic_shape (meaning.list_of forms)
-    ≡ of_only (λ f. meaning.logic_shape (f ∷ [])) (only_of forms)
-logic_of_only none = refl
-logic_of_only (more f none) = refl
-logic_of_only (more f (more g fs)) = refl
-
-pub assert_of_only : (forms : Forms) → meaning.assert_shape (meaning.list_of forms)
-    ≡ of_only (λ f. meaning.assert_shape (f ∷ [])) (only_of forms)
-assert_of_only none = refl
-assert_of_only (more f none) = refl
-assert_of_only (more f (more g fs)) = refl
-
-two_values : (f : Form) (g : Form) (fs : List Form) → meaning.value_shape (f ∷ g ∷ fs) ≡ None
-two_values (Symbol x) g fs = refl
-two_values (QuotedSymbol x) g fs = refl
-two_values (Keyword x) g fs = refl
-two_values (Numeral x) g fs = refl
-two_values (OtherNumber x) g fs = refl
-two_values (Words x) g fs = refl
-two_values (Group none) g fs = refl
-two_values (Group (more item items)) g fs = refl
-
-pub value_of_only : (forms : Forms) → meaning.value_shape (meaning.list_of forms)
-    ≡ of_only (λ f. meaning.value_shape (f ∷ [])) (only_of forms)
-value_of_only none = refl
-value_of_only (more f none) = refl
-value_of_only (more f (more g fs)) = two_values f g (meaning.list_of fs)
-
--- the question for the values of a list
-pub value_of_items : (forms : Forms) → meaning.value_shape (Group forms ∷ [])
-    ≡ (if is_none forms then None else if list_all meaning.is_item (meaning.list_of forms)
-    then Some (meaning.get_value (meaning.list_of forms)) else None)
-value_of_items none = refl
-value_of_items (more form forms) = refl
-
-one_option : (f : Form) → meaning.option_shape (f ∷ []) ≡ None
-one_option (Symbol x) = refl
-one_option (QuotedSymbol x) = refl
-one_option (Keyword x) = refl
-one_option (Numeral x) = refl
-one_option (OtherNumber x) = refl
-one_option (Words x) = refl
-one_option (Group x) = refl
-
-three_options : (f g h : Form) (fs : List Form) → meaning.option_shape (f ∷ g ∷ h ∷ fs) ≡ None
-three_options (Symbol x) g h fs = refl
-three_options (QuotedSymbol x) g h fs = refl
-three_options (Keyword x) g h fs = refl
-three_options (Numeral x) g h fs = refl
-three_options (OtherNumber x) g h fs = refl
-three_options (Words x) g h fs = refl
-three_options (Group x) g h fs = refl
-
-pub option_of_pair : (forms : Forms) → meaning.option_shape (meaning.list_of forms)
-    ≡ of_pair (λ f g. meaning.option_shape (f ∷ g ∷ [])) (pair_of forms)
-option_of_pair none = refl
-option_of_pair (more f none) = one_option f
-option_of_pair (more f (more g none)) = refl
-option_of_pair (more f (more g (more h fs))) = three_options f g h (meaning.list_of fs)
 
 pub constant_of_pair : (forms : Forms) → meaning.constant_shape (meaning.list_of forms)
     ≡ of_pair (λ f g. meaning.constant_shape (f ∷ g ∷ [])) (pair_of forms)
@@ -204,11 +131,6 @@ definition_of_pair name f (more g none) = three_of_definition name f g
 definition_of_pair name f (more g (more h none)) = refl
 definition_of_pair name f (more g (more h (more i fs))) = five_of_definition name f g h i (meaning.list_of fs)
 
-pub bare_command : (command : meaning.Command) (forms : Forms) → meaning.bare command (meaning.list_of forms)
-    ≡ (if is_none forms then Some command else None)
-bare_command command none = refl
-bare_command command (more form forms) = refl
-
 pub some_copied : {A : Type 0} (o : Option (Bor A)) → is_some o ≡ is_some (option_copied o)
 some_copied None = refl
 some_copied (Some x) = refl
@@ -257,66 +179,3 @@ pub keyword_of_only : (make : List ℕ → meaning.Command) (forms : Forms)
 keyword_of_only make none = refl
 keyword_of_only make (more f none) = keyword_of_one make f
 keyword_of_only make (more f (more g fs)) = two_keywords make f g (meaning.list_of fs)
-
-pub info_of_first : (f : Form) (fs : Forms)
-    → meaning.info_shape (meaning.list_of (more f fs)) ≡ option_map (λ key. meaning.set_info) (keyword_in f)
-info_of_first (Symbol x) fs = refl
-info_of_first (QuotedSymbol x) fs = refl
-info_of_first (Keyword x) fs = refl
-info_of_first (Numeral x) fs = refl
-info_of_first (OtherNumber x) fs = refl
-info_of_first (Words x) fs = refl
-info_of_first (Group x) fs = refl
-
-two_echoes : (f g : Form) (fs : List Form) → meaning.echo_shape (f ∷ g ∷ fs) ≡ None
-two_echoes (Symbol x) g fs = refl
-two_echoes (QuotedSymbol x) g fs = refl
-two_echoes (Keyword x) g fs = refl
-two_echoes (Numeral x) g fs = refl
-two_echoes (OtherNumber x) g fs = refl
-two_echoes (Words x) g fs = refl
-two_echoes (Group x) g fs = refl
-
-pub echo_of_only : (forms : Forms) → meaning.echo_shape (meaning.list_of forms)
-    ≡ of_only (λ f. meaning.echo_shape (f ∷ [])) (only_of forms)
-echo_of_only none = refl
-echo_of_only (more f none) = refl
-echo_of_only (more f (more g fs)) = two_echoes f g (meaning.list_of fs)
-
--- a number of levels
-one_of_levels : (make : ℕ → meaning.Command) (f : Form)
-    → meaning.levels_shape make (f ∷ []) ≡ option_map (λ digits. make (number_of digits)) (numeral_in f)
-one_of_levels make (Symbol x) = refl
-one_of_levels make (QuotedSymbol x) = refl
-one_of_levels make (Keyword x) = refl
-one_of_levels make (Numeral x) = refl
-one_of_levels make (OtherNumber x) = refl
-one_of_levels make (Words x) = refl
-one_of_levels make (Group x) = refl
-
-two_of_levels : (make : ℕ → meaning.Command) (f g : Form) (fs : List Form) → meaning.levels_shape make (f ∷ g ∷ fs) ≡ None
-two_of_levels make (Symbol x) g fs = refl
-two_of_levels make (QuotedSymbol x) g fs = refl
-two_of_levels make (Keyword x) g fs = refl
-two_of_levels make (Numeral x) g fs = refl
-two_of_levels make (OtherNumber x) g fs = refl
-two_of_levels make (Words x) g fs = refl
-two_of_levels make (Group x) g fs = refl
-
-pub levels_of_forms : (make : ℕ → meaning.Command) (forms : Forms)
-    → meaning.levels_shape make (meaning.list_of forms)
-    ≡ option_map (λ digits. make (number_of digits)) (levels_in forms)
-levels_of_forms make none = refl
-levels_of_forms make (more f none) = one_of_levels make f
-levels_of_forms make (more f (more g fs)) = two_of_levels make f g (meaning.list_of fs)
-
--- the digits where one form stands, or none
-pub levels_of_only : (forms : Forms) → is_none forms ≡ false
-    → levels_in forms ≡ elim (only_of forms) [ Some f ↦ numeral_in f | None ↦ None ]
-levels_of_only none h = absurd (false≢true (sym h))
-levels_of_only (more f none) h = refl
-levels_of_only (more f (more g fs)) h = refl
-
-pub levels_of_none : (forms : Forms) → is_none forms ≡ true → levels_in forms ≡ Some (codes "1")
-levels_of_none none h = refl
-levels_of_none (more f fs) h = absurd (false≢true h)

@@ -389,9 +389,6 @@ pub one_is_in : (order : List ℕ) (n : ℕ) → is_in order (n ∷ []) n ≡ tr
 one_is_in order n = or-right (is_some (number_in order n)) (nat_eq n n || false)
     (ap (λ b. b || false) (same_nat n n refl))
 
-pub numbered_at_last : (order : List ℕ) (n : ℕ) → is_in order [] n ≡ true → is_some (number_in order n) ≡ true
-numbered_at_last order n h = or-false (is_some (number_in order n)) h
-
 pub top_known : (rs : List Regex) (order : List ℕ) (f : Frame) (fs : List Frame) → IsStack rs order (f ∷ fs)
     → f.regex < length rs
 top_known rs order f fs s =

@@ -1,12 +1,11 @@
 -- The tables of a trail when an entry is added or taken off, and when atoms get a place.
-use Rattle.std.proofs.Common.{◌≡◌, ◌≢◌, ℕ, zero, suc, ◌+◌, ◌-◌, ◌^◌, ◌<◌, ◌≤◌, Bool, cond, eqb, List, [], ◌∷◌, ◌++◌, length, get_or, set, take, replicate, Option, Some, None, refl, sym, ◌∙◌, ap, inl, inr, arith}
+use Rattle.std.proofs.Common.{◌≡◌, ◌≢◌, ℕ, zero, suc, ◌+◌, ◌-◌, ◌<◌, ◌≤◌, Bool, cond, eqb, List, [], ◌∷◌, ◌++◌, length, get_or, set, take, replicate, Option, Some, None, refl, sym, ◌∙◌, ap, inl, inr, arith}
 use Rattle.std.specs.Option.{option_map}
 use Rattle.std.specs.List.{slice_get, count_by}
 use Rattle.std.proofs.lemmas.Bool.{cases_eq, cases_lt, eqb-true, ne_eqb}
 use Rattle.std.proofs.lemmas.Option.{none-some}
-use Rattle.std.proofs.lemmas.List.{length-append, length-set, length-replicate, length_push, get_or-set_same, get_or-set_other, get_or_append_left, get_or-append_right, get_or-replicate, take_all}
-use Rattle.std.proofs.lemmas.List.Sums.{sum_by-set, sum_by-append}
-use Rattle.std.proofs.lemmas.List.Folds.{sum_by-replicate}
+use Rattle.std.proofs.lemmas.List.{length-append, length-set, length-replicate, length_push, get_or-set_same, get_or-set_other, take_all}
+use Rattle.std.proofs.lemmas.List.Sums.{sum_by-set}
 use Rattle.sb_trail.specs.declared.assigned.Assigned.{Assigned}
 use Rattle.sb_trail.specs.Assignments.{entry_of, current_level, level_behind}
 use Rattle.sb_trail.specs.Tables.{Tabulates, IsPlace, Locates, AreTables}
@@ -49,19 +48,6 @@ length-grown xs n y more =
       ap length (take_all n xs more),
       length-replicate (n - length xs) y,
     )
-
-Tabulates-grow : {T : Type 0} (f : Assigned → T) (es : List Assigned) (table : List (Option T)) (n : ℕ)
-    → Tabulates f es table → ((a : ℕ) → length table ≤ a → entry_of es a ≡ None) → length table ≤ n
-    → Tabulates f es (take n table ++ replicate (n - length table) None)
-Tabulates-grow f es table n h none more a within =
-    rw (take_all n table more) (elim (cases_lt a (length table)) [
-      | inl old ↦ get_or_append_left table (replicate (n - length table) None) None a old ∙ h a old
-      | inr new ↦
-          let place : a - length table < n - length table = omega (arith, length-grown table n None more) in
-          get_or-append_right table (replicate (n - length table) None) (length table) a None refl new
-          ∙ get_or-replicate (n - length table) (a - length table) None None place
-          ∙ ap (option_map f) (sym (none a new))
-    ])
 
 -- the entry of an atom is of it
 entry_atom : (es : List Assigned) (a : ℕ) (e : Assigned) → entry_of es a ≡ Some e → e.literal.atom ≡ a
@@ -136,18 +122,6 @@ Locates-pop es e table h none a within =
           (rw (entry_of-push_other es e a other) at (h a place)))
     ]
 
-Locates-grow : (es : List Assigned) (table : List ℕ) (n : ℕ) → Locates es table
-    → ((a : ℕ) → length table ≤ a → entry_of es a ≡ None) → length table ≤ n
-    → Locates es (take n table ++ replicate (n - length table) 0)
-Locates-grow es table n h none more a within =
-    rw (take_all n table more) (elim (cases_lt a (length table)) [
-      | inl old ↦ rw (get_or_append_left table (replicate (n - length table) 0) 0 a old) (h a old)
-      | inr new ↦
-          let place : a - length table < n - length table = omega (arith, length-grown table n 0 more) in
-          rw (none a new) (get_or-append_right table (replicate (n - length table) 0) (length table) a 0 refl new
-          ∙ get_or-replicate (n - length table) (a - length table) 0 0 place)
-    ])
-
 -- how many atoms have no value when one gets or loses it
 abbrev vacant : List ℕ → ℕ
 vacant table = count_by (λ n. eqb n 0) table
@@ -191,14 +165,6 @@ AreTables-push {es} {room} {values} {places} h e more wide place none level = re
   small = omega (arith, h.small, length-set places e.literal.atom (length es + 1));
 }
 
--- where an atom has no value there are fewer entries than atoms
-pub room_left : {es : List Assigned} {room : ℕ} {values : List (Option Bool)} {places : List ℕ}
-    → AreTables es room values places → (a : ℕ) → a < length places → entry_of es a ≡ None
-    → length es < length places
-room_left {es} {room} {values} {places} h a place none =
-    let empty : get_or places a 0 ≡ 0 = rw none at (h.located a place) in
-    omega (arith, h.counted, rw empty at (count-set places a 0 place), rw empty at (count-set places a 1 place))
-
 -- an atom that has an entry has a place
 pub atom_within : (es : List Assigned) (e : Assigned) {room : ℕ} {values : List (Option Bool)}
     {places : List ℕ} → AreTables (es ++ e ∷ []) room values places → e.literal.atom < length places
@@ -239,31 +205,6 @@ AreTables-pop es e {room} {values} {places} h =
       fits = omega (arith, h.fits, length-set places e.literal.atom 0);
       small = omega (arith, h.small, length-set places e.literal.atom 0);
     }
-
-pub AreTables-grow : {es : List Assigned} {room : ℕ} {values : List (Option Bool)} {places : List ℕ}
-    → AreTables es room values places → (n m more : ℕ) → length places ≤ n → length values ≤ m → n ≤ m → n ≤ more
-    → n < 2 ^ 31
-    → AreTables es more (take m values ++ replicate (m - length values) None)
-    (take n places ++ replicate (n - length places) 0)
-AreTables-grow {es} {room} {values} {places} h n m more up upper covered wide fitting = record {
-  trail = record {
-    distinct = h.trail.distinct;
-    reserved = λ a past. h.trail.reserved a (omega (arith, length-grown places n 0 up));
-    levelled = h.trail.levelled;
-  };
-  values_agree = Tabulates-grow (λ entry. entry.literal.positive) es values m h.values_agree
-      (λ a past. h.trail.reserved a (omega (arith, h.covered))) upper;
-  located = Locates-grow es places n h.located h.trail.reserved up;
-  covered = omega (arith, length-grown places n 0 up, length-grown values m None upper);
-  counted =
-      let whole = sum_by-append (λ x. cond (eqb x 0) 1 0) (take n places)
-      (replicate (n - length places) 0) in
-      let front = ap vacant (take_all n places up) in
-      let back = sum_by-replicate (λ x. cond (eqb x 0) 1 0) (n - length places) 0 in
-      omega (arith, h.counted, whole, front, back, length-grown places n 0 up);
-  fits = omega (arith, length-grown places n 0 up);
-  small = omega (arith, length-grown places n 0 up, fitting);
-}
 
 -- the same where the entries are known to end in one
 pub popped_within : {es : List Assigned} (new : List Assigned) (e : Assigned) {room : ℕ} {values : List (Option Bool)}

@@ -1,5 +1,5 @@
 -- What a turn of a search keeps.
-use Rattle.std.proofs.Common.{◌≡◌, ◌+◌, [], ◌∷◌, ◌++◌, List, Some, None, arith, refl, sym, subst}
+use Rattle.std.proofs.Common.{◌≡◌, ◌+◌, [], ◌∷◌, ◌++◌, Some, None, refl, sym, subst}
 use Rattle.sb_lit.specs.declared.clause.Lit.{Lit}
 use Rattle.sb_lit.specs.Kept.{Kept}
 use Rattle.sb_trail.specs.declared.assigned.Assigned.{Assigned}
@@ -10,13 +10,6 @@ use Rattle.sb_analyze.specs.Learning.{IsSettledBelow, IsAsserting}
 use Rattle.sb_analyze.specs.declared.learned.Learned.{Learned}
 use Rattle.sb_analyze.proofs.CallerLemmas.{reasoned_grown, reasoned_decided, reasoned_up_to, reasoned_more, below_grown, below_decided, below_up_to, below_learned}
 use Rattle.solve_clauses.specs.Searching.{IsSearching}
-
-pub searching_none : (search : State) → search.trail.literals ≡ [] → IsSearching search
-searching_none search none = record {
-  reasoned = subst (λ (es : List Assigned). AreReasoned search.kept [] es) (sym none) tt;
-  below = subst (λ (es : List Assigned). IsSettledBelow search.kept es) (sym none)
-      (λ n low. absurd (omega (arith, low)));
-}
 
 pub searching_grown : (old new : State) → IsSearching old → new.kept ≡ old.kept
     → GrowsBy old.kept old.trail new.trail → IsSearching new
