@@ -1,9 +1,9 @@
 //! What is wanted of a run, compared with what came.
 
-use crate::case::{Case, Kind};
-use crate::directive::Directive;
 use crate::programs::Turn;
 use crate::report::{Front, Run};
+use sb_cases::case::{Case, Kind};
+use sb_cases::directive::Directive;
 use sb_world::{InPort, MemWorld, Opened, OutPort};
 use std::alloc::{AllocError, Global};
 

@@ -3,26 +3,20 @@
 //!
 //! For each run that differs it prints the file, the case, the run's number and what differs, with what was wanted and
 //! what came. At the end it prints how many cases and runs there were, and how many runs differ. The exit status is 1
-//! where a run differs, or where a file can't be read or understood. The format of the files is told in `reader`.
+//! where a run differs, or where a file can't be read or understood. The format of the files is told in `sb_cases`.
 #![tactic(auto)]
 
-mod block;
-mod buffer;
-mod case;
 mod compare;
-mod directive;
-mod fault;
 mod programs;
-mod reader;
 mod report;
 mod sessions;
 mod turns;
 
-use crate::case::Case;
-use crate::directive::Directive;
-use crate::fault::{Fault, text_of};
-use crate::reader::{body_from, is_head, lines_of, no_block, stands_once};
 use crate::turns::Tally;
+use sb_cases::case::Case;
+use sb_cases::directive::Directive;
+use sb_cases::fault::{Fault, text_of};
+use sb_cases::reader::{body_from, is_head, lines_of, no_block, stands_once};
 use std::alloc::AllocError;
 use std::process::ExitCode;
 use std::{env, fs};

@@ -1,12 +1,12 @@
 //! The programs, run over worlds in memory.
 
-use crate::buffer::Buffer;
-use crate::case::{Case, Kind};
 use crate::compare::{compare, compare_kept, expect_answers, expect_status, status_of};
-use crate::directive::Directive;
-use crate::reader::word_of;
 use crate::report::Run;
 use crate::sessions::answer_script;
+use sb_cases::buffer::Buffer;
+use sb_cases::case::{Case, Kind};
+use sb_cases::directive::Directive;
+use sb_cases::reader::word_of;
 use sb_check::{CheckStatus, check_top};
 use sb_session::{SolveStatus, solve_top};
 use sb_world::{CalmWorld, MemWorld, OutPort};

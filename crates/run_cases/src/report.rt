@@ -1,8 +1,8 @@
 //! What differs in a run.
 
-use crate::buffer::Buffer;
-use crate::case::Case;
-use crate::directive::Directive;
+use sb_cases::buffer::Buffer;
+use sb_cases::case::Case;
+use sb_cases::directive::Directive;
 use std::alloc::Global;
 
 /// How much of what is wanted is to be there.

@@ -1,10 +1,10 @@
 //! The runs of a case, once or in turns.
 
-use crate::case::{Case, Kind};
-use crate::directive::Directive;
-use crate::fault::Fault;
 use crate::programs::{Stage, Turn, run};
-use crate::reader::number;
+use sb_cases::case::{Case, Kind};
+use sb_cases::directive::Directive;
+use sb_cases::fault::Fault;
+use sb_cases::reader::number;
 use std::io::Write;
 
 /// What was run so far.
