@@ -75,7 +75,7 @@ parameters_sorted before place (p ∷ ps) (sort ∷ sorts) e =
     one_more (k ∷ ks) n e =
         let rest : length ks + 1 ≡ length (ks ++ sort ∷ []) = one_more ks (length ks) refl in omega (arith, e, rest)
 
-sorts_keep : LevelsKeep (is_sorted_naming []) is_well_sorted
+pub sorts_keep : LevelsKeep (is_sorted_naming []) is_well_sorted
 sorts_keep = record {
   declares = λ name serial sort brought. refl;
   marks = λ name. refl;

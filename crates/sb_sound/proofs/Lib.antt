@@ -59,5 +59,6 @@ mod AlongFacts
 mod Fronts
 mod Exits
 mod OutcomeFacts
+mod BroughtTerms
 mod SimpleTerms
 mod SimpleSteps

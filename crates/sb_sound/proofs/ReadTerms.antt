@@ -40,6 +40,20 @@ mutual
       let parts = and_parts (fits_in sorts 0 t) (all_in sorts 0 ts) h in
       and_from (fits_sorts sorts t) (all_fit sorts ts) (fits_without sorts t parts.0) (all_without sorts ts parts.1)
 
+-- what a symbol makes of terms passes a test, where they do, and the symbol with them as arguments
+pub made_passes : (p : Term → Bool) (s : symbol.Symbol) (ts : List Term) → p (apply s (terms_of ts)) ≡ true
+    → list_all p ts ≡ true → p (made s ts) ≡ true
+made_passes p s ts applied all = step (is_of_one s)
+  where
+    joins : (us : List Term) → p (apply s (terms_of us)) ≡ true → list_all p us ≡ true → p (joined s us) ≡ true
+    joins [] h each = h
+    joins (t ∷ []) h each = (and_parts (p t) true each).0
+    joins (t ∷ u ∷ us) h each = h
+
+    step : (b : Bool) → p (if b then joined s ts else apply s (terms_of ts)) ≡ true
+    step true = joins ts applied all
+    step false = applied
+
 -- Arguments in the places of parameters.
 
 module _ (sorts : List Sort) (n : ℕ) where
@@ -95,19 +109,9 @@ module _ (sorts : List Sort) (n : ℕ) where
       let parts = and_parts (fits_in sorts n t) (list_all (fits_in sorts n) ts) h in
       and_from (fits_in sorts n t) (all_in sorts n (terms_of ts)) parts.0 (terms_fit ts parts.1)
 
-  joined_fits : (s : symbol.Symbol) (ts : List Term) → list_all (fits_in sorts n) ts ≡ true
-      → fits_in sorts n (joined s ts) ≡ true
-  joined_fits s [] h = refl
-  joined_fits s (t ∷ []) h = (and_parts (fits_in sorts n t) true h).0
-  joined_fits s (t ∷ u ∷ ts) h = terms_fit (t ∷ u ∷ ts) h
-
   made_fits : (s : symbol.Symbol) (ts : List Term) → list_all (fits_in sorts n) ts ≡ true
       → fits_in sorts n (made s ts) ≡ true
-  made_fits s ts h = step (is_of_one s)
-    where
-      step : (b : Bool) → fits_in sorts n (if b then joined s ts else apply s (terms_of ts)) ≡ true
-      step true = joined_fits s ts h
-      step false = terms_fit ts h
+  made_fits s ts h = made_passes (fits_in sorts n) s ts (terms_fit ts h) h
 
   definition_fits : (own : List Sort) (body : Term) (ts : List Term) → fits_in sorts (length own) body ≡ true
       → list_all (fits_in sorts n) ts ≡ true → judged_definition own (map sort_of ts) ≡ None

@@ -1,30 +1,20 @@
 -- Each entry of a script keeps that everything in the state is simple.
-use Rattle.std.proofs.Common.{◌≡◌, ℕ, true, refl}
+use Rattle.std.proofs.Common.{◌≡◌, true, refl}
 use Rattle.std.specs.List.{list_all}
-use Rattle.std.proofs.lemmas.Bool.{false≢true}
 use Rattle.sb_reader.specs.Entries.{Entry}
-use Rattle.sb_meaning.specs.Terms.{Sort, boolean, integer, text, reglan}
-use Rattle.sb_script.specs.Brought.{is_brought_sort}
-use Rattle.sb_script.specs.Scopes.{a_constant}
 use Rattle.sb_script.specs.State.{State, live_terms}
 use Rattle.sb_script.specs.Replies.{step_of}
 use Rattle.sb_script.proofs.CallerLemmas.{LevelsKeep, live_all, levels_keep}
-use Rattle.sb_sound.specs.SimpleStates.{is_simple, is_simple_named, is_simple_naming, is_simple_state, is_simple_behind}
-use Rattle.sb_sound.proofs.SimpleTerms.{truth_read}
-
-sort_is_simple : (serial : ℕ) (sort : Sort) → is_brought_sort sort ≡ true
-    → is_simple_named (a_constant serial sort) ≡ true
-sort_is_simple serial text h = refl
-sort_is_simple serial boolean h = refl
-sort_is_simple serial integer h = absurd (false≢true h)
-sort_is_simple serial reglan h = absurd (false≢true h)
+use Rattle.sb_sound.specs.SimpleStates.{is_simple, is_simple_naming, is_simple_state, is_simple_behind}
+use Rattle.sb_sound.proofs.BroughtTerms.{body_read, asserted_read}
+use Rattle.sb_sound.proofs.SimpleTerms.{truth_simple}
 
 simple_keep : LevelsKeep is_simple_naming is_simple
 simple_keep = record {
-  declares = λ name. sort_is_simple;
+  declares = λ name serial sort brought. brought;
   marks = λ name. refl;
-  makes = λ names all name ps sorts form body brought is. absurd (false≢true brought);
-  asserts = truth_read;
+  makes = body_read;
+  asserts = λ names all form t is truth. truth_simple t (asserted_read names all form t is truth) truth;
 }
 
 pub entry_simple : (entry : Entry) (s : State) → is_simple_state s ≡ true → is_simple_behind (step_of entry s) ≡ true

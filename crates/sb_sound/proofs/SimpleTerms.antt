@@ -1,26 +1,21 @@
--- Each term that is read is simple where it is a truth value, a String constant or a word where it is a text, and over
--- literals or with a constant in it where it is a regular expression.
-use Rattle.std.proofs.Common.{◌≡◌, ℕ, Bool, true, false, not, ◌&&◌, ◌||◌, ◌==◌, nat_le, if◌then◌else◌, List, [], ◌∷◌, map, length, Option, Some, None, Ok, Err, refl, sym, ap, ◌∙◌, subst}
-use Rattle.std.specs.Prelude.{is_some}
+-- A well-sorted term of what is brought, without parameters, is simple where it is a truth value, a String constant or
+-- a word where it is a text, and over literals or with a constant in it where it is a regular expression.
+use Rattle.std.proofs.Common.{◌≡◌, ℕ, Bool, true, false, not, ◌&&◌, ◌||◌, ◌==◌, nat_le, if◌then◌else◌, List, [], ◌∷◌, map, length, Option, Some, None, refl, sym, ap, ◌∙◌, subst}
+use Rattle.std.specs.Prelude.{is_none}
 use Rattle.std.specs.List.{list_all}
 use Rattle.std.proofs.lemmas.Bool.{and_parts, and_from, false≢true}
-use Rattle.sb_word.specs.LiteralWords.{word_of_literal, first_bad}
-use Rattle.sb_reader.specs.Forms.{Form}
 use Rattle.sb_meaning.specs.Terms.{Sort, boolean, integer, text, reglan, Term, Terms, constant, word, numeral, apply, parameter, no_terms, with_term, terms_in, terms_of}
 use Rattle.sb_meaning.specs.Terms as symbol
 use Rattle.sb_meaning.specs.Sorts.{sort_of, is_same_sort, are_sorts}
-use Rattle.sb_script.specs.Brought.{is_brought_symbol, is_regex, are_regexes}
+use Rattle.sb_script.specs.Brought.{is_brought_symbol, is_brought_sort, is_regex, are_regexes}
 use Rattle.sb_script.specs.Pieces.{is_ground, are_ground}
-use Rattle.sb_script.specs.Scopes.{Named, Naming, a_constant, a_marked_name}
-use Rattle.sb_script.specs.Faults.{Fault, wrong_count, wrong_sort, unsupported, bad_literal}
-use Rattle.sb_script.specs.Heads.{judged, joined, made}
-use Rattle.sb_script.specs.Reading.{read}
-use Rattle.sb_script.specs.ReadingLaws.{if_read}
-use Rattle.sb_script.proofs.CallerLemmas.{same_sort, same_sort_itself, terms_in_of, IsRead, is_fine, read_keeps}
-use Rattle.sb_sound.proofs.PassFacts.{all_weaker}
-use Rattle.sb_sound.specs.SimpleStates.{is_plain_text, are_alike, is_simple, are_simple, is_simple_named, is_simple_naming}
+use Rattle.sb_script.specs.Faults.{Fault, wrong_count, wrong_sort, unsupported}
+use Rattle.sb_script.specs.Heads.{judged}
+use Rattle.sb_script.specs.WellSorted.{are_well_sorted_over, is_well_sorted}
+use Rattle.sb_script.proofs.CallerLemmas.{same_sort, same_sort_itself, terms_in_of}
+use Rattle.sb_sound.specs.SimpleStates.{is_plain_text, are_alike, is_simple, are_simple, is_of_brought, are_of_brought, is_open_simple}
 
--- Terms that may be read.
+-- What such a term looks like.
 
 -- over literals, or with a constant in it
 abbrev is_plain_regex : Term → Bool
@@ -100,15 +95,6 @@ simple_of_many : (least : ℕ) (p : Terms → Bool) → ((terms : Terms) → are
 simple_of_many least p f ts all taken =
     f (terms_of ts) (each_simple ts all
     (taken_sorts (nat_le least (length (map sort_of ts))) (list_all (is_same_sort boolean) (map sort_of ts)) false taken))
-
--- of one argument the argument, and of more all of them
-simple_joined : (s : symbol.Symbol) → ((terms : Terms) → are_simple terms ≡ true → is_shallow (apply s terms) ≡ true)
-    → (ts : List Term) → list_all is_shallow ts ≡ true → judged symbol.core_and (map sort_of ts) ≡ None
-    → is_shallow (joined s ts) ≡ true
-simple_joined s f [] all taken = absurd (Prim.cc (taken))
-simple_joined s f (t ∷ []) all taken = (and_parts (is_shallow t) true all).0
-simple_joined s f (t ∷ u ∷ ts) all taken =
-    simple_of_many 1 (λ terms. is_shallow (apply s terms)) f (t ∷ u ∷ ts) all taken
 
 -- a choice of two Bool terms by a third
 choice_simple : (ts : List Term) → list_all is_shallow ts ≡ true → judged symbol.core_ite (map sort_of ts) ≡ None
@@ -271,19 +257,18 @@ each_plain (t ∷ ts) all taken =
     either_of_both (is_regex t) (is_ground t) (are_regexes (terms_of ts)) (are_ground (terms_of ts))
     (shallow_of reglan t here.0 same.0) (each_plain ts here.1 same.1)
 
--- of one argument the argument, and of more all of them
+-- one or more
 one_or_more : (s : symbol.Symbol)
     → ((t : Term) (terms : Terms) → (are_regexes (with_term t terms) || not (are_ground (with_term t terms))) ≡ true
     → is_shallow (apply s (with_term t terms)) ≡ true)
     → (ts : List Term) → list_all is_shallow ts ≡ true → judged symbol.re_concat (map sort_of ts) ≡ None
-    → is_shallow (joined s ts) ≡ true
+    → is_shallow (apply s (terms_of ts)) ≡ true
 one_or_more s f [] all taken = absurd (Prim.cc (taken))
-one_or_more s f (t ∷ []) all taken = (and_parts (is_shallow t) true all).0
-one_or_more s f (t ∷ u ∷ ts) all taken =
-    f t (terms_of (u ∷ ts))
-    (each_plain (t ∷ u ∷ ts) all
-    (taken_sorts (nat_le 1 (length (map sort_of (t ∷ u ∷ ts))))
-    (list_all (is_same_sort reglan) (map sort_of (t ∷ u ∷ ts))) false taken))
+one_or_more s f (t ∷ ts) all taken =
+    f t (terms_of ts)
+    (each_plain (t ∷ ts) all
+    (taken_sorts (nat_le 1 (length (map sort_of (t ∷ ts))))
+    (list_all (is_same_sort reglan) (map sort_of (t ∷ ts))) false taken))
 
 -- two or more
 difference : (ts : List Term) → list_all is_shallow ts ≡ true → judged symbol.re_diff (map sort_of ts) ≡ None
@@ -296,104 +281,112 @@ difference (t ∷ ts) all taken =
 
 -- Applications.
 
-made_shallow : (s : symbol.Symbol) (ts : List Term) → is_brought_symbol s ≡ true → list_all is_shallow ts ≡ true
-    → judged s (map sort_of ts) ≡ None → is_shallow (made s ts) ≡ true
-made_shallow symbol.core_true ts h all taken =
+applied_shallow : (s : symbol.Symbol) (ts : List Term) → is_brought_symbol s ≡ true → list_all is_shallow ts ≡ true
+    → judged s (map sort_of ts) ≡ None → is_shallow (apply s (terms_of ts)) ≡ true
+applied_shallow symbol.core_true ts h all taken =
     by_none (λ terms. is_simple (apply symbol.core_true terms)) refl ts
     (taken_sorts (0 == length (map sort_of ts)) (are_sorts [] (map sort_of ts)) false taken)
-made_shallow symbol.core_false ts h all taken =
+applied_shallow symbol.core_false ts h all taken =
     by_none (λ terms. is_simple (apply symbol.core_false terms)) refl ts
     (taken_sorts (0 == length (map sort_of ts)) (are_sorts [] (map sort_of ts)) false taken)
-made_shallow symbol.core_not ts h all taken =
+applied_shallow symbol.core_not ts h all taken =
     by_one boolean (λ terms. is_simple (apply symbol.core_not terms)) (λ t k. and_from (is_simple t) true k refl) ts all
     (taken_sorts (1 == length (map sort_of ts)) (are_sorts (boolean ∷ []) (map sort_of ts)) false taken)
-made_shallow symbol.core_and ts h all taken = simple_joined symbol.core_and (λ terms k. k) ts all taken
-made_shallow symbol.core_or ts h all taken = simple_joined symbol.core_or (λ terms k. k) ts all taken
-made_shallow symbol.core_implies ts h all taken =
+applied_shallow symbol.core_and ts h all taken =
+    simple_of_many 1 (λ terms. is_simple (apply symbol.core_and terms)) (λ terms k. k) ts all taken
+applied_shallow symbol.core_or ts h all taken =
+    simple_of_many 1 (λ terms. is_simple (apply symbol.core_or terms)) (λ terms k. k) ts all taken
+applied_shallow symbol.core_implies ts h all taken =
     simple_of_many 2 (λ terms. is_simple (apply symbol.core_implies terms)) (λ terms k. k) ts all taken
-made_shallow symbol.core_xor ts h all taken =
+applied_shallow symbol.core_xor ts h all taken =
     simple_of_many 2 (λ terms. is_simple (apply symbol.core_xor terms)) (λ terms k. k) ts all taken
-made_shallow symbol.core_ite ts h all taken = choice_simple ts all taken
-made_shallow symbol.core_equal ts h all taken = compared_simple symbol.core_equal (λ terms. refl) ts all taken
-made_shallow symbol.core_distinct ts h all taken = compared_simple symbol.core_distinct (λ terms. refl) ts all taken
-made_shallow symbol.str_in_re ts h all taken =
+applied_shallow symbol.core_ite ts h all taken = choice_simple ts all taken
+applied_shallow symbol.core_equal ts h all taken = compared_simple symbol.core_equal (λ terms. refl) ts all taken
+applied_shallow symbol.core_distinct ts h all taken = compared_simple symbol.core_distinct (λ terms. refl) ts all taken
+applied_shallow symbol.str_in_re ts h all taken =
     by_two text reglan (λ terms. is_simple (apply symbol.str_in_re terms)) simple_of_text ts all
     (taken_sorts (2 == length (map sort_of ts)) (are_sorts (text ∷ reglan ∷ []) (map sort_of ts)) false taken)
-made_shallow symbol.str_to_re ts h all taken =
+applied_shallow symbol.str_to_re ts h all taken =
     by_one text (λ terms. is_plain_regex (apply symbol.str_to_re terms)) literal_plain ts all
     (taken_sorts (1 == length (map sort_of ts)) (are_sorts (text ∷ []) (map sort_of ts)) false taken)
-made_shallow symbol.re_range ts h all taken =
+applied_shallow symbol.re_range ts h all taken =
     by_two text text (λ terms. is_plain_regex (apply symbol.re_range terms)) range_plain ts all
     (taken_sorts (2 == length (map sort_of ts)) (are_sorts (text ∷ text ∷ []) (map sort_of ts)) false taken)
-made_shallow symbol.re_none ts h all taken =
+applied_shallow symbol.re_none ts h all taken =
     by_none (λ terms. is_plain_regex (apply symbol.re_none terms)) refl ts
     (taken_sorts (0 == length (map sort_of ts)) (are_sorts [] (map sort_of ts)) false taken)
-made_shallow symbol.re_all ts h all taken =
+applied_shallow symbol.re_all ts h all taken =
     by_none (λ terms. is_plain_regex (apply symbol.re_all terms)) refl ts
     (taken_sorts (0 == length (map sort_of ts)) (are_sorts [] (map sort_of ts)) false taken)
-made_shallow symbol.re_allchar ts h all taken =
+applied_shallow symbol.re_allchar ts h all taken =
     by_none (λ terms. is_plain_regex (apply symbol.re_allchar terms)) refl ts
     (taken_sorts (0 == length (map sort_of ts)) (are_sorts [] (map sort_of ts)) false taken)
-made_shallow symbol.re_opt ts h all taken =
+applied_shallow symbol.re_opt ts h all taken =
     by_one reglan (λ terms. is_plain_regex (apply symbol.re_opt terms)) of_one ts all
     (taken_sorts (1 == length (map sort_of ts)) (are_sorts (reglan ∷ []) (map sort_of ts)) false taken)
-made_shallow symbol.re_comp ts h all taken =
+applied_shallow symbol.re_comp ts h all taken =
     by_one reglan (λ terms. is_plain_regex (apply symbol.re_comp terms)) of_one ts all
     (taken_sorts (1 == length (map sort_of ts)) (are_sorts (reglan ∷ []) (map sort_of ts)) false taken)
-made_shallow (symbol.re_power n) ts h all taken =
+applied_shallow (symbol.re_power n) ts h all taken =
     by_one reglan (λ terms. is_plain_regex (apply (symbol.re_power n) terms)) of_one ts all
     (taken_sorts (1 == length (map sort_of ts)) (are_sorts (reglan ∷ []) (map sort_of ts)) false taken)
-made_shallow (symbol.re_loop n m) ts h all taken =
+applied_shallow (symbol.re_loop n m) ts h all taken =
     by_one reglan (λ terms. is_plain_regex (apply (symbol.re_loop n m) terms)) of_one ts all
     (taken_sorts (1 == length (map sort_of ts)) (are_sorts (reglan ∷ []) (map sort_of ts)) false taken)
-made_shallow symbol.re_star ts h all taken =
+applied_shallow symbol.re_star ts h all taken =
     by_one reglan (λ terms. is_plain_regex (apply symbol.re_star terms)) of_one ts all
     (taken_sorts (1 == length (map sort_of ts)) (are_sorts (reglan ∷ []) (map sort_of ts)) false taken)
-made_shallow symbol.re_plus ts h all taken =
+applied_shallow symbol.re_plus ts h all taken =
     by_one reglan (λ terms. is_plain_regex (apply symbol.re_plus terms)) of_one ts all
     (taken_sorts (1 == length (map sort_of ts)) (are_sorts (reglan ∷ []) (map sort_of ts)) false taken)
-made_shallow symbol.re_concat ts h all taken = one_or_more symbol.re_concat (λ t terms k. k) ts all taken
-made_shallow symbol.re_union ts h all taken = one_or_more symbol.re_union (λ t terms k. k) ts all taken
-made_shallow symbol.re_inter ts h all taken = one_or_more symbol.re_inter (λ t terms k. k) ts all taken
-made_shallow symbol.re_diff ts h all taken = difference ts all taken
-made_shallow _ ts h all taken = absurd (false≢true h)
+applied_shallow symbol.re_concat ts h all taken = one_or_more symbol.re_concat (λ t terms k. k) ts all taken
+applied_shallow symbol.re_union ts h all taken = one_or_more symbol.re_union (λ t terms k. k) ts all taken
+applied_shallow symbol.re_inter ts h all taken = one_or_more symbol.re_inter (λ t terms k. k) ts all taken
+applied_shallow symbol.re_diff ts h all taken = difference ts all taken
+applied_shallow _ ts h all taken = absurd (false≢true h)
 
--- Reading.
+-- Whole terms.
 
-abbrev shallow_constant : ℕ → Sort → Bool
-shallow_constant serial sort = is_shallow (constant serial sort)
+constant_shallow : (serial : ℕ) (sort : Sort) → is_brought_sort sort ≡ true
+    → is_shallow (constant serial sort) ≡ true
+constant_shallow serial boolean h = refl
+constant_shallow serial text h = refl
+constant_shallow serial integer h = absurd (false≢true h)
+constant_shallow serial reglan h = absurd (false≢true h)
 
-shallow_is_read : IsRead is_shallow shallow_constant (λ own body. false)
-shallow_is_read = record {
-  constants = λ serial sort h. h;
-  texts = λ bytes. text_read (is_some (first_bad bytes)) (word_of_literal bytes);
-  numbers = λ brought digits. absurd (false≢true brought);
-  characters = λ digits c is. refl;
-  applications = made_shallow;
-  definitions = λ own body ts is all taken. absurd (false≢true is);
-}
-  where
-    text_read : (b : Bool) (w : List ℕ) → if_read is_shallow (if b then Err bad_literal else Ok (word w)) ≡ true
-    text_read true w = refl
-    text_read false w = refl
+no_fault : (o : Option Fault) → is_none o ≡ true → o ≡ None
+no_fault None h = refl
+no_fault (Some fault) h = absurd (false≢true h)
 
--- what a simple name stands for
-names_shallow : (names : List Naming) → list_all is_simple_naming names ≡ true
-    → list_all (λ n. is_fine is_shallow shallow_constant (λ own body. false) n.1) names ≡ true
-names_shallow names =
-    all_weaker is_simple_naming (λ n. is_fine is_shallow shallow_constant (λ own body. false) n.1) names (λ n. of_kind n.1)
-  where
-    of_kind : (kind : Named) → is_simple_named kind ≡ true
-        → is_fine is_shallow shallow_constant (λ own body. false) kind ≡ true
-    of_kind (a_constant serial text) h = refl
-    of_kind (a_constant serial boolean) h = refl
-    of_kind a_marked_name h = refl
-    of_kind _ h = absurd (false≢true h)
+terms_of_in : (terms : Terms) → terms_of (terms_in terms) ≡ terms
+terms_of_in no_terms = refl
+terms_of_in (with_term t terms) = ap (with_term t) (terms_of_in terms)
 
--- a truth value that is read
-pub truth_read : (names : List Naming) → list_all is_simple_naming names ≡ true → (form : Form) (t : Term)
-    → read names form ≡ Ok t → is_same_sort boolean (sort_of t) ≡ true → is_simple t ≡ true
-truth_read names all form t is truth =
-    shallow_of boolean t
-    (read_keeps is_shallow shallow_constant (λ own body. false) shallow_is_read names (names_shallow names all) form t
-    is) truth
+mutual
+  term_shallow : (t : Term) → is_well_sorted t ≡ true → is_of_brought t ≡ true → is_shallow t ≡ true
+  term_shallow (constant serial sort) well brought = constant_shallow serial sort brought
+  term_shallow (word w) well brought = refl
+  term_shallow (numeral n) well brought = absurd (false≢true brought)
+  term_shallow (apply s terms) well brought =
+      let taken : Option Fault = judged s (map sort_of (terms_in terms)) in
+      let sorted = and_parts (is_none taken) (are_well_sorted_over [] terms) well in
+      let parts = and_parts (is_brought_symbol s) (are_of_brought terms) brought in
+      subst (λ (us : Terms). is_shallow (apply s us) ≡ true) (terms_of_in terms)
+      (applied_shallow s (terms_in terms) parts.0 (each_shallow terms sorted.1 parts.1) (no_fault taken sorted.0))
+  term_shallow (parameter place sort) well brought = absurd (false≢true well)
+
+  each_shallow : (terms : Terms) → are_well_sorted_over [] terms ≡ true → are_of_brought terms ≡ true
+      → list_all is_shallow (terms_in terms) ≡ true
+  each_shallow no_terms well brought = refl
+  each_shallow (with_term t terms) well brought =
+      let sorted = and_parts (is_well_sorted t) (are_well_sorted_over [] terms) well in
+      let parts = and_parts (is_of_brought t) (are_of_brought terms) brought in
+      and_from (is_shallow t) (list_all is_shallow (terms_in terms)) (term_shallow t sorted.0 parts.0)
+      (each_shallow terms sorted.1 parts.1)
+
+-- a truth value
+pub truth_simple : (t : Term) → is_open_simple [] t ≡ true → is_same_sort boolean (sort_of t) ≡ true
+    → is_simple t ≡ true
+truth_simple t h truth =
+    let parts = and_parts (is_well_sorted t) (is_of_brought t) h in
+    shallow_of boolean t (term_shallow t parts.0 parts.1) truth

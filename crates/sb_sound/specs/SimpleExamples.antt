@@ -2,7 +2,7 @@
 use Rattle.std.specs.Prelude.{◌≡◌, ℕ, true, false, List, [], ◌∷◌, codes, refl}
 use Rattle.sb_reader.specs.Forms.{Form, Symbol, Words}
 use Rattle.sb_reader.specs.Entries.{Entry, Command}
-use Rattle.sb_meaning.specs.Terms.{Term, boolean, integer, text, constant, word, numeral, apply, no_terms, with_term}
+use Rattle.sb_meaning.specs.Terms.{Sort, Term, boolean, integer, text, reglan, constant, word, numeral, apply, parameter, no_terms, with_term}
 use Rattle.sb_meaning.specs.Terms as symbol
 use Rattle.sb_script.specs.State.{State, start, asserted, a_mark, declared, defined, live_terms, with_assertion}
 use Rattle.sb_script.specs.Steps.{answers, leaves, checks, exits}
@@ -90,9 +90,6 @@ another_assertion = refl
 
 another_sort : is_simple_state (declared (codes "p") integer start) ≡ false
 another_sort = refl
-
-a_definition : is_simple_state (defined (codes "f") [] (word []) start) ≡ false
-a_definition = refl
 
 -- the membership of a constant in a regular expression
 abbrev of_x : Term → Term
@@ -190,3 +187,46 @@ of_three = refl
 of_an_equality : is_simple (apply symbol.str_in_re
     (with_term (equality (word []) (word [])) (with_term a_range no_terms))) ≡ false
 of_an_equality = refl
+
+-- Definitions.
+
+-- with parameters of these sorts
+abbrev with_body : List Sort → Term → State
+with_body parameters body = defined (codes "f") parameters body start
+
+-- a word, the membership of a parameter, and the one in an expression over two others
+a_definition : is_simple_state (with_body [] (word [])) ≡ true
+a_definition = refl
+
+of_a_parameter : is_simple_state (with_body (text ∷ []) (in_range (parameter 0 text))) ≡ true
+of_a_parameter = refl
+
+over_parameters : is_simple_state (with_body (text ∷ text ∷ reglan ∷ [])
+    (apply symbol.str_in_re (with_term (parameter 0 text)
+    (with_term (apply symbol.re_union (with_term (literal (parameter 1 text)) (with_term (parameter 2 reglan) no_terms)))
+    no_terms)))) ≡ true
+over_parameters = refl
+
+-- an equality of parameters of sort Int, for which there are no arguments
+of_integers : is_simple_state (with_body (integer ∷ integer ∷ [])
+    (equality (parameter 0 integer) (parameter 1 integer))) ≡ true
+of_integers = refl
+
+-- over a parameter of another sort, over one too many, over a numeral, and over a joined word
+of_another_sort : is_simple_state (with_body (boolean ∷ []) (in_range (parameter 0 text))) ≡ false
+of_another_sort = refl
+
+of_another_place : is_simple_state (with_body (text ∷ []) (in_range (parameter 1 text))) ≡ false
+of_another_place = refl
+
+of_a_numeral : is_simple_state (with_body [] (equality (numeral 1) (numeral 1))) ≡ false
+of_a_numeral = refl
+
+of_a_join : is_simple_state (with_body (text ∷ [])
+    (in_range (apply symbol.str_concat (with_term (parameter 0 text) (with_term (word []) no_terms))))) ≡ false
+of_a_join = refl
+
+-- a membership with two arguments that are no text and no regular expression
+ill_sorted : is_simple_state (with_body (boolean ∷ [])
+    (apply symbol.str_in_re (with_term (parameter 0 boolean) (with_term (parameter 0 boolean) no_terms)))) ≡ false
+ill_sorted = refl

@@ -3,15 +3,16 @@
 use Rattle.std.specs.Prelude.{◌≡◌, Bool, true, false, not, ◌&&◌, ◌||◌, List, [], ◌∷◌}
 use Rattle.std.specs.List.{list_all}
 use Rattle.sb_reader.specs.Entries.{Entry}
-use Rattle.sb_meaning.specs.Terms.{Sort, Symbol, Term, Terms, boolean, integer, text, reglan, constant, word, apply, no_terms, with_term, terms_in}
+use Rattle.sb_meaning.specs.Terms.{Sort, Symbol, Term, Terms, boolean, integer, text, reglan, constant, word, numeral, apply, parameter, no_terms, with_term, terms_in}
 use Rattle.sb_meaning.specs.Terms as symbol
 use Rattle.sb_meaning.specs.Sorts.{sort_of}
-use Rattle.sb_script.specs.Brought.{is_regex}
+use Rattle.sb_script.specs.Brought.{is_brought_symbol, is_brought_sort, is_regex}
 use Rattle.sb_script.specs.Pieces.{is_ground}
-use Rattle.sb_script.specs.Scopes.{Named, Naming, a_constant, a_marked_name}
+use Rattle.sb_script.specs.Scopes.{Named, Naming, a_constant, a_definition, a_marked_name, a_term}
 use Rattle.sb_script.specs.State.{State, Level, terms_in as asserted_terms, live_terms, start_behind}
 use Rattle.sb_script.specs.Steps.{Step, answers, leaves, checks, exits}
 use Rattle.sb_script.specs.Replies.{step_of}
+use Rattle.sb_script.specs.WellSorted.{is_well_sorted_over}
 
 -- a String constant or a word
 abbrev pub is_plain_text : Term → Bool
@@ -69,12 +70,30 @@ abbrev mutual
   are_simple no_terms = true
   are_simple (with_term term terms) = is_simple term && are_simple terms
 
--- a constant of sort Bool or String, or a mark
+-- a term of symbols that are brought, over constants of sorts that are, over words and over parameters
+abbrev mutual
+  pub is_of_brought : Term → Bool
+  is_of_brought (constant serial sort) = is_brought_sort sort
+  is_of_brought (word w) = true
+  is_of_brought (numeral n) = false
+  is_of_brought (apply s terms) = is_brought_symbol s && are_of_brought terms
+  is_of_brought (parameter place sort) = true
+
+  pub are_of_brought : Terms → Bool
+  are_of_brought no_terms = true
+  are_of_brought (with_term term terms) = is_of_brought term && are_of_brought terms
+
+-- The body of a definition with parameters of these sorts: it is well sorted, and of what is brought. With arguments
+-- that are such it is such again, and a truth value that is such, without parameters, is simple.
+abbrev pub is_open_simple : List Sort → Term → Bool
+is_open_simple parameters body = is_well_sorted_over parameters body && is_of_brought body
+
+-- a constant of a sort that is brought, a definition with such a body, or a mark
 abbrev pub is_simple_named : Named → Bool
-is_simple_named (a_constant serial boolean) = true
-is_simple_named (a_constant serial text) = true
+is_simple_named (a_constant serial sort) = is_brought_sort sort
+is_simple_named (a_definition parameters body) = is_open_simple parameters body
 is_simple_named a_marked_name = true
-is_simple_named _ = false
+is_simple_named (a_term t) = false
 
 abbrev pub is_simple_naming : Naming → Bool
 is_simple_naming n = is_simple_named n.1
