@@ -8,6 +8,7 @@ use Rattle.sb_meaning.specs.Terms as symbol
 use Rattle.sb_script.specs.Brought.{asked, are_several, is_structure}
 use Rattle.sb_script.specs.Fragment.{sort_of_first}
 use Rattle.sb_script.proofs.CallerLemmas.{IsAsking, a_membership, a_word_behind, a_word_in_front, asked_looks}
+use Rattle.sb_term.specs.Descending.{GoesDown}
 use Rattle.sb_fragment.specs.declared.shape.Connective.{Connective}
 use Rattle.sb_fragment.specs.declared.shape.Connective.TheVariants as connective
 use Rattle.sb_fragment.specs.declared.shape.Shape.{Shape}
@@ -15,7 +16,7 @@ use Rattle.sb_fragment.specs.declared.shape.Shape.TheVariants as shape
 use Rattle.sb_fragment.specs.Shapes.{IsComparison, IsConnected, IsShape, parts_of, comparison_of}
 use Rattle.sb_fragment.proofs.CallerLemmas.{connected_structure}
 use Rattle.sb_atoms.specs.Translated.{has_declared}
-use Rattle.sb_atoms.specs.Reaching.{is_connective, is_boolean, are_truths, is_connection, connected_parts, GoesDown}
+use Rattle.sb_atoms.specs.Reaching.{is_connective, is_boolean, are_truths, is_connection, connected_parts}
 use Rattle.sb_atoms.proofs.Found.{declared_parts}
 
 few : (ts : List Term) → length ts < 2 → are_several ts ≡ false
@@ -118,9 +119,9 @@ parts_pass : (test : Term → Bool) (t : Term) (b : Bool) → (b ≡ true → li
 parts_pass test t true h = h refl
 parts_pass test t false h = refl
 
-pub structure_down : GoesDown is_structure
+pub structure_down : GoesDown connected_parts is_structure
 structure_down t h = parts_pass is_structure t (is_connection t) (λ is.
     let c = applied t is in sym (connected_structure t c.0 c.1) ∙ h)
 
-pub declared_down : (sorts : List Sort) → GoesDown (has_declared sorts)
+pub declared_down : (sorts : List Sort) → GoesDown connected_parts (has_declared sorts)
 declared_down sorts t h = parts_pass (has_declared sorts) t (is_connection t) (λ is. declared_parts sorts t h)

@@ -16,7 +16,7 @@ use Rattle.sb_atoms.specs.Connecting.{connected}
 use Rattle.sb_atoms.specs.Growing.{is_below, are_below, GrownByGates, GivesLike, Finds, Moves}
 use Rattle.sb_atoms.specs.Shapes.{literals_of, connected_literal}
 use Rattle.sb_atoms.specs.Truths.{AllOf}
-use Rattle.sb_atoms.specs.Reaching.{known_at, AreKnown}
+use Rattle.sb_term.specs.Descending.{known_at, AreKnown}
 use Rattle.sb_atoms.proofs.CallerLemmas.{atoms_kept}
 use Rattle.sb_atoms.proofs.Connected.{below_more}
 use Rattle.sb_atoms.proofs.Found.{part_stays, then_made, then_none}

@@ -16,6 +16,4 @@ pub mod GateFacts
 pub mod Saying
 pub mod Gathering
 pub mod Connections
-pub mod Descending
-pub mod Knowing
 pub mod KnownLiterals

@@ -1,5 +1,6 @@
--- The truth of a term that asks something of one constant's word, by the regex of what it asks for.
-use Rattle.std.proofs.Common.{◌≡◌, ℕ, Bool, List, [], slice_get, Option, Some, None, Result, Ok, Err, refl, sym, ap, ◌∙◌, subst}
+-- The truth of a term that asks something of one constant's word, by the regex of what it asks for; truths of terms by
+-- their numbers.
+use Rattle.std.proofs.Common.{◌≡◌, ℕ, Bool, List, [], ◌∷◌, map, slice_get, Option, Some, None, Result, Ok, Err, refl, sym, ap, ap₂, ◌∙◌, subst}
 use Rattle.std.specs.Prelude.{unwrap_or, IfOk}
 use Rattle.std.proofs.Math.Bool.{and-true}
 use Rattle.sb_word.specs.Words.{IsWord}
@@ -16,9 +17,10 @@ use Rattle.sb_meaning.specs.Values.{Valuation, Text, value_in}
 use Rattle.sb_meaning.specs.Truth.{means_reglan, meaning_of, holds}
 use Rattle.sb_script.specs.Brought.{asked, membership_of}
 use Rattle.sb_script.proofs.CallerLemmas.{IsAsking, a_membership, a_word_behind, a_word_in_front, asked_looks, asked_holds}
+use Rattle.sb_term.specs.Numbered.{term_at, terms_at}
 use Rattle.sb_problem.specs.Normals.{IsRegexOf}
 use Rattle.sb_atoms.specs.Given.{GivesValues}
-use Rattle.sb_atoms.specs.Truths.{IsTruthUnder}
+use Rattle.sb_atoms.specs.Truths.{AllOf, IsTruthUnder, IsTruthOf}
 
 -- a membership is true where the constant's word is in the regular expression
 membership_holds : (v : Valuation) (serial : ℕ) (R : Term) (reglan : RegLan) (w : List ℕ)
@@ -62,3 +64,11 @@ pub truth_missing : NormalHasTermsWords → (rs : List Regex) (t : Term) (serial
 truth_missing law rs t serial id R h is ws at = λ v bs gives.
     truth_of_word law rs t serial id R h is v [] refl
     (asked_value t serial R h ws bs v gives ∙ ap (λ (o : Option (List ℕ)). Text (unwrap_or o [])) at)
+
+-- where what is known of each is its truth
+pub truths_are : (ws : List (List ℕ)) (bs : List Bool) (v : Valuation) (ts : List Term) (f : ℕ → Bool) (is : List ℕ)
+    → AllOf (λ i. IsTruthOf ws bs (term_at ts i) (f i)) is → AllOf (GivesValues ws bs v) (terms_at ts is)
+    → map f is ≡ map (λ t. holds t v) (terms_at ts is)
+truths_are ws bs v ts f [] h gives = refl
+truths_are ws bs v ts f (i ∷ is) h gives =
+    ap₂ (λ b cs. b ∷ cs) (h.0 v gives.0) (truths_are ws bs v ts f is h.1 gives.1)

@@ -6,17 +6,13 @@ use Rattle.sb_meaning.specs.Terms.{Term}
 use Rattle.sb_meaning.specs.Values.{Valuation}
 use Rattle.sb_meaning.specs.Truth.{all_true, some_true, implied, differs, xor_of, is_chain, are_pairs, holds}
 use Rattle.sb_plain.specs.Memory.{Memory, IsRight}
+pub use Rattle.sb_term.specs.Descending.{AllOf}
 use Rattle.sb_problem.specs.declared.normals.Known.{Known}
 use Rattle.sb_problem.specs.Known.{AreNormals}
 use Rattle.sb_fragment.specs.declared.shape.Connective.{Connective}
 use Rattle.sb_fragment.specs.declared.shape.Connective.TheVariants as connective
 use Rattle.sb_fragment.specs.Memberships.{equality}
 use Rattle.sb_atoms.specs.Given.{GivesValues}
-
--- all of them, one after the other
-abbrev pub AllOf : {X : Type 0} → (X → Type 0) → List X → Type 0
-AllOf P [] = Unit {0}
-AllOf P (x ∷ xs) = P x × AllOf P xs
 
 -- the term is true or not where its constants have these words, whatever the truths are
 abbrev pub IsTruthUnder : List (List ℕ) → Term → Bool → Type 0

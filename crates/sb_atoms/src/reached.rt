@@ -1,12 +1,13 @@
 //! The terms that a term is made of by connectives.
 
-ghost use Rattle.std.specs.Prelude.{◌≡◌, ◌<◌, true, length, All, IfOk, OnOk};
+ghost use Rattle.std.specs.Prelude.{◌≡◌, ◌<◌, true, length, All, IfOk};
 ghost use Rattle.sb_script.specs.Brought.{is_structure};
+ghost use Rattle.sb_term.specs.Descending.{AreReached};
 ghost use Rattle.sb_term.specs.Numbered.{term_at, terms_at};
-ghost use Rattle.sb_atoms.specs.Reaching.{is_connective, is_connection, connected_parts, AreReached, Puts};
+ghost use Rattle.sb_atoms.specs.Reaching.{is_connective, is_connection, connected_parts};
 
 use sb_fragment::{Shape, arguments_of, membership, shape_of};
-use sb_term::{Table, TermId};
+use sb_term::{Table, TermId, put_all};
 use std::alloc::{AllocError, Global};
 use std::collections::BTreeSet;
 
@@ -47,16 +48,6 @@ fn connected_parts(table: &Table, id: TermId) -> &[TermId]
     }
 }
 
-/// Puts numbers among those that are left.
-fn put_all(left: &mut BTreeSet<TermId>, ids: &[TermId]) -> Result<(), AllocError>
-    ensures { OnOk result (Puts left.old.keys ids.now left.new.keys) }
-{
-    for id in ids {
-        left.insert(*id)?;
-    }
-    Ok(())
-}
-
 /// The terms of Boolean structure that one is made of by connectives, itself among them, each once, from the largest
 /// number down, so the arguments of each stand behind it. Linear in them and their arguments, times a logarithm.
 pub(crate) fn terms_reached(
@@ -66,7 +57,7 @@ pub(crate) fn terms_reached(
 ) -> Result<Vec<TermId>, AllocError>
     requires number { id < length table.now }
     requires structure { is_structure (term_at table.now id) ≡ true }
-    ensures { IfOk result (λ ids. AreReached table.now id ids.items) }
+    ensures { IfOk result (λ ids. AreReached connected_parts table.now id ids.items) }
 {
     table.terms_each_once();
     let mut ids = Vec::new(alloc);

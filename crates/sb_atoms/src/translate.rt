@@ -4,6 +4,7 @@ ghost use Rattle.std.specs.Prelude.{◌≡◌, ◌<◌, ◌&&◌, true, nat_lt, 
 ghost use Rattle.std.specs.List.{list_all};
 ghost use Rattle.sb_meaning.specs.Terms.{Term, text};
 ghost use Rattle.sb_regex.specs.Numbered as regex;
+ghost use Rattle.sb_term.specs.Descending.{HaveParts, PartsAre, known_at, AreKnown};
 ghost use Rattle.sb_term.specs.Numbered.{term_at};
 ghost use Rattle.sb_script.specs.Brought.{asked, is_pair, is_regex, is_structure};
 ghost use Rattle.sb_problem.specs.Known.{AreNormals};
@@ -17,7 +18,7 @@ ghost use Rattle.sb_atoms.specs.Connecting as connecting;
 ghost use Rattle.sb_atoms.specs.Numbered.{atom_in, atoms_in, HaveRegexesBelow, Extends, NameEarlier};
 ghost use Rattle.sb_atoms.specs.Translated.{brought_translation, member_translation, are_members, has_declared, IsAdded, AreDefined, HasNoLiteral, HasNoMemberLiteral};
 ghost use Rattle.sb_atoms.specs.Growing.{is_below, are_below, GivesLike, GrownByGates, Finds, AreReady, Moves};
-ghost use Rattle.sb_atoms.specs.Reaching.{HaveParts, PartsAre, known_at, AreKnown};
+ghost use Rattle.sb_atoms.specs.Reaching.{connected_parts};
 ghost use Rattle.sb_atoms.specs.Shapes.{IsAtomOf, have_declared_pairs, word_literals, words_literal};
 
 use crate::atom::Atom;
@@ -239,7 +240,7 @@ impl Atoms {
         requires number { id < length table.now }
         requires structure { is_structure (term_at table.now id) ≡ true }
         requires ready { AreReady table.now measures.old normals.old arena.old self.old }
-        requires parts { PartsAre table.now (λ i. Finds is_below adds arena.old self.old
+        requires parts { PartsAre connected_parts table.now (λ i. Finds is_below adds arena.old self.old
             (λ atoms. rules.translation atoms (term_at table.now i)) (known_at None known.now.entries i)) id }
         ensures ok { IfOk result (λ found. Finds is_below adds arena.new self.new
             (λ atoms. rules.translation atoms (term_at table.now id)) found) }
@@ -278,7 +279,7 @@ impl Atoms {
     ) -> Result<(), AllocError>
         requires numbers { list_all (λ i. nat_lt i (length table.now)) ids.now ≡ true }
         requires structure { list_all (λ i. is_structure (term_at table.now i)) ids.now ≡ true }
-        requires parts { HaveParts table.now ids.now [] }
+        requires parts { HaveParts connected_parts table.now ids.now [] }
         requires ready { AreReady table.now measures.old normals.old arena.old self.old }
         ensures ok { OnOk result (AreKnown None (λ i found. Finds is_below adds arena.new self.new
             (λ atoms. rules.translation atoms (term_at table.now i)) found) known.new.entries ids.now) }

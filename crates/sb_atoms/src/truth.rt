@@ -7,6 +7,7 @@ ghost use Rattle.sb_meaning.specs.Values.{Valuation};
 ghost use Rattle.sb_meaning.specs.Truth.{holds};
 ghost use Rattle.sb_script.specs.Brought.{asked, is_pair, is_regex, is_structure};
 ghost use Rattle.sb_regex.specs.Numbered.{Extends};
+ghost use Rattle.sb_term.specs.Descending.{HaveParts, PartsAre, known_at, AreKnown};
 ghost use Rattle.sb_term.specs.Numbered.{term_at};
 ghost use Rattle.sb_problem.specs.Known.{AreNormals};
 ghost use Rattle.sb_problem.specs.Normals.{IsRegexOf};
@@ -17,7 +18,7 @@ ghost use Rattle.sb_fragment.specs.Memberships.{equality};
 ghost use Rattle.sb_fragment.specs.Shapes.{are_numbers, are_word_pairs, parts_of, terms_of_pairs};
 ghost use Rattle.sb_atoms.specs.Given.{GivesValues};
 ghost use Rattle.sb_atoms.specs.Truths.{AreReady, IsTruthUnder, IsTruthOf, AreAsWanted};
-ghost use Rattle.sb_atoms.specs.Reaching.{HaveParts, PartsAre, known_at, AreKnown};
+ghost use Rattle.sb_atoms.specs.Reaching.{connected_parts};
 
 use crate::connectives::connected;
 use crate::reached::terms_reached;
@@ -207,7 +208,7 @@ fn truth_of(
     requires number { id < length table.now }
     requires structure { is_structure (term_at table.now id) ≡ true }
     requires ready { AreReady table.now arena.old normals.old plain.old }
-    requires parts { PartsAre table.now (λ i. IsTruthOf values.now truths.now (term_at table.now i)
+    requires parts { PartsAre connected_parts table.now (λ i. IsTruthOf values.now truths.now (term_at table.now i)
         (known_at false known.now.entries i)) id }
     ensures ok { IfOk result (IsTruthOf values.now truths.now (term_at table.now id)) }
     ensures extends { Extends arena.old arena.new }
@@ -242,7 +243,7 @@ fn find_truths(
 ) -> Result<(), AllocError>
     requires numbers { list_all (λ i. nat_lt i (length table.now)) ids.now ≡ true }
     requires structure { list_all (λ i. is_structure (term_at table.now i)) ids.now ≡ true }
-    requires parts { HaveParts table.now ids.now [] }
+    requires parts { HaveParts connected_parts table.now ids.now [] }
     requires ready { AreReady table.now arena.old normals.old plain.old }
     ensures ok { OnOk result (AreKnown false (λ i. IsTruthOf values.now truths.now (term_at table.now i))
         known.new.entries ids.now) }

@@ -1,4 +1,4 @@
--- What a caller cites of terms by their numbers, in a table that grows.
+-- What a caller cites of terms by their numbers, in a table that grows, and of terms from the largest number down.
 use Rattle.std.proofs.Common.{◌≡◌, ℕ, zero, suc, ◌+◌, ◌<◌, ◌≤◌, true, nat_lt, Some, List, [], ◌∷◌, ◌++◌, length, get_or, refl, sym, ap, ap₂, ◌∙◌, arith, append_assoc, length-append}
 use Rattle.std.proofs.lemmas.Bool.{and_parts, and_from}
 use Rattle.std.proofs.lemmas.Bool.Decides.{nat_tests}
@@ -7,6 +7,10 @@ use Rattle.std.proofs.lemmas.Option.{get_or_from_slice_get, slice_get_within, sl
 use Rattle.sb_meaning.specs.Terms.{Term, Terms, constant, word, numeral, apply, parameter, no_terms, with_term, terms_of}
 use Rattle.sb_term.specs.Numbered.{term_at, terms_at, Names, AllNumbers, Extends}
 use Rattle.sb_term.specs.Serials.{has_serials_below, have_serials_below, all_below}
+-- what is left to be gone into, the largest number first, until nothing is left
+pub use Rattle.sb_term.proofs.Descending.{reaching_start, next_within, next_passes, reaching_step, reached_all, top_falls}
+-- what is known of terms, from the smallest number up
+pub use Rattle.sb_term.proofs.Knowing.{none_known, parts_known, next_known, all_known}
 
 pub extends_same : (ts : List Term) → Extends ts ts
 extends_same ts = record { more = []; is = sym (append-nil ts) }

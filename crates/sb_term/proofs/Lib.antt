@@ -3,3 +3,5 @@ pub mod SymbolEq
 pub mod NodeEq
 pub mod TableFacts
 pub mod Marks
+pub mod Descending
+pub mod Knowing

@@ -25,7 +25,7 @@ terms_in_of (t ∷ ts) = ap (λ us. t ∷ us) (terms_in_of ts)
 same_terms : (ts us : List Term) → terms_of ts ≡ terms_of us → ts ≡ us
 same_terms ts us h = sym (terms_in_of ts) ∙ ap terms_in h ∙ terms_in_of us
 
-same_numbers : (ts : List Term) (is js : List ℕ) → AreDistinct ts → AllNumbers ts is → AllNumbers ts js
+pub same_numbers : (ts : List Term) (is js : List ℕ) → AreDistinct ts → AllNumbers ts is → AllNumbers ts js
     → terms_at ts is ≡ terms_at ts js → is ≡ js
 same_numbers ts [] [] d p q h = refl
 same_numbers ts [] (j ∷ js) d p q h = absurd (nil_not _ _ h)

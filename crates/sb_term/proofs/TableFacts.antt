@@ -1,11 +1,12 @@
 -- The terms of a table, with one more term of the code.
 use Rattle.std.proofs.Common.{◌≡◌, ℕ, ◌<◌, Bool, true, false, ◌⊎◌, inl, inr, nat_lt, cond, Some, List, [], ◌∷◌, ◌++◌, length, get_or, slice_get, refl, sym, ap, ◌∙◌, arith, length-append}
 use Rattle.std.specs.List.{list_any, list_all}
-use Rattle.std.proofs.lemmas.Bool.{false≢true, and_parts, and_from}
+use Rattle.std.proofs.lemmas.Bool.{false≢true}
 use Rattle.std.proofs.lemmas.Bool.Decides.{nat_tests}
-use Rattle.std.proofs.lemmas.List.{get_or_append_left, get_or_push, get_or_default, nil_from_length}
+use Rattle.std.proofs.lemmas.List.{get_or_push, get_or_default, nil_from_length}
 use Rattle.std.proofs.lemmas.List.Folds.{list_any-from_Any}
-use Rattle.std.proofs.lemmas.Option.{get_or_from_slice_get, slice_get_within, slice_get-get_or}
+use Rattle.std.proofs.lemmas.Option.{slice_get_within, slice_get-get_or}
+use Rattle.sb_facts.proofs.CallerLemmas.{get_push, all_push}
 use Rattle.sb_meaning.specs.Terms.{Term, word, apply, terms_of}
 use Rattle.sb_term.specs.declared.term.Term as code
 use Rattle.sb_term.specs.declared.term.Term.TheVariants as node
@@ -30,23 +31,6 @@ node_kept old new (node.Numeral n) e h = refl
 node_kept old new (node.Apply s arguments) e h =
     ap (λ ts. apply (symbol_in s) (terms_of ts)) (ats_kept old new arguments.items e h)
 node_kept old new (node.Parameter place sort) e h = refl
-
--- where the one more element is
-get_push : {X : Type 0} (xs : List X) (y x : X) (i : ℕ) → slice_get (xs ++ y ∷ []) i ≡ Some x
-    → (slice_get xs i ≡ Some x) ⊎ ((i ≡ length xs) × (x ≡ y))
-get_push xs y x i h = step (nat_lt i (length xs)) refl
-  where
-    within : i < length (xs ++ y ∷ [])
-    within = slice_get_within (xs ++ y ∷ []) i x h
-
-    step : (b : Bool) → nat_lt i (length xs) ≡ b → (slice_get xs i ≡ Some x) ⊎ ((i ≡ length xs) × (x ≡ y))
-    step true is =
-        let l : i < length xs = grind (arith, nat_tests) in
-        inl (slice_get-get_or xs i x l
-        ∙ ap Some (sym (get_or_append_left xs (y ∷ []) x i l) ∙ get_or_from_slice_get (xs ++ y ∷ []) i x x h))
-    step false is =
-        let e : i ≡ length xs = grind (arith, nat_tests, within, length-append xs (y ∷ [])) in
-        inr (e, sym (get_or_from_slice_get (xs ++ y ∷ []) i x x h) ∙ get_or_push xs y x i (sym e))
 
 names_push : (ts : List Term) (t : Term) (i : ℕ) → i ≡ length ts → Names (ts ++ t ∷ []) i t
 names_push ts t i e =
@@ -169,12 +153,6 @@ named old ds after d n t is p w e stored =
     all.nodes n stored.0 stored.1
     ∙ ap Some (sym (same_gives (terms_of_table after) d stored.0 stored.2)
     ∙ node_kept old (terms_of_table after) d (extended old ds after d is e) p)
-
-all_push : (test : Term → Bool) (ts : List Term) (t : Term) → list_all test ts ≡ true → test t ≡ true
-    → list_all test (ts ++ t ∷ []) ≡ true
-all_push test [] t h k = and_from _ _ k refl
-all_push test (x ∷ xs) t h k = let parts = and_parts (test x) (list_all test xs) h in
-    and_from _ _ parts.0 (all_push test xs t parts.1 k)
 
 -- what is true of the terms before and of the one that was added is true of all
 pub all_added : (old : List Term) (ds after : List code.Term) (d : code.Term) → terms_of_table ds ≡ old

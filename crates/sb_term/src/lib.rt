@@ -9,8 +9,10 @@ mod assertion;
 mod sort;
 mod table;
 mod term;
+mod worklist;
 
 pub use assertion::{Assertion, Assumption};
 pub use sort::{Sort, Symbol};
 pub use table::Table;
 pub use term::{Serial, Term, TermId};
+pub use worklist::put_all;

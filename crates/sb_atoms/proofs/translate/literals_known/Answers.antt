@@ -1,7 +1,7 @@
 use Rattle.std.proofs.Common.{Some, None, map, sym, ap, ◌∙◌, arith}
 use Rattle.std.proofs.lemmas.List.{take_all}
 use Rattle.sb_rulebook.specs.Parts.{together}
-use Rattle.sb_atoms.specs.Reaching.{known_at}
+use Rattle.sb_term.specs.Descending.{known_at}
 use Rattle.sb_atoms.proofs.Connected.{all_push, all_stop}
 use Rattle.sb_atoms.proofs.translate.literals_known.Goals as goal
 

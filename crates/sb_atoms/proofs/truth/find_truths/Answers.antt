@@ -3,9 +3,10 @@ use Rattle.std.proofs.lemmas.Bool.{ltb-true}
 use Rattle.sb_regex.proofs.CallerLemmas.{extends_same, extends_more}
 use Rattle.sb_script.specs.Brought.{is_structure}
 use Rattle.sb_term.specs.Numbered.{term_at}
+use Rattle.sb_term.proofs.CallerLemmas.{none_known, parts_known, next_known, all_known}
 use Rattle.sb_fragment.proofs.CallerLemmas.{all_at}
 use Rattle.sb_atoms.specs.Truths.{IsTruthOf}
-use Rattle.sb_atoms.proofs.Knowing.{none_known, parts_known, next_known, all_known}
+use Rattle.sb_atoms.specs.Reaching.{connected_parts}
 use Rattle.sb_atoms.proofs.truth.find_truths.Goals as goal
 
 pub loop-place-init : goal.loop-place-init
@@ -29,7 +30,7 @@ truth_of-requires c =
       structure = all_at (λ j. is_structure (term_at ts j)) is (i - 1) x c.requires.structure within
           c.index-ids-place.is;
       ready = c.loop-place.invariant.3;
-      parts = parts_known false (λ j. IsTruthOf c.args.values.now c.args.truths.now (term_at ts j))
+      parts = parts_known connected_parts false (λ j. IsTruthOf c.args.values.now c.args.truths.now (term_at ts j))
           c.loop-place.known.entries ts is i x c.requires.parts c.loop-place-test.true c.loop-place.invariant.0
           c.index-ids-place.is c.loop-place.invariant.1;
     }

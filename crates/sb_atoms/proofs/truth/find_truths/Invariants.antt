@@ -2,7 +2,7 @@ use Rattle.std.proofs.Common.{◌≤◌, false, length, drop}
 use Rattle.sb_regex.specs.Numbered.{Extends}
 use Rattle.sb_term.specs.Numbered.{term_at}
 use Rattle.sb_atoms.specs.Truths.{AreReady, IsTruthOf}
-use Rattle.sb_atoms.specs.Reaching.{AreKnown}
+use Rattle.sb_term.specs.Descending.{AreKnown}
 use Rattle.sb_atoms.proofs.truth.find_truths.Given as goal
 
 abbrev pub invariant-loop-place : goal.invariant-loop-place

@@ -10,10 +10,10 @@ use Rattle.sb_fragment.specs.Shapes.{parts_of}
 use Rattle.sb_fragment.proofs.CallerLemmas.{asked_structure, connected_structure, words_structure}
 use Rattle.sb_atoms.specs.Truths.{AllOf, IsTruthUnder, IsTruthOf, AreAsWanted, connected_truth}
 use Rattle.sb_atoms.specs.Given.{GivesValues}
-use Rattle.sb_atoms.specs.Reaching.{known_at}
+use Rattle.sb_term.specs.Descending.{known_at}
 use Rattle.sb_atoms.proofs.Connections.{connected_parts_are}
-use Rattle.sb_atoms.proofs.Knowing.{truths_are}
 use Rattle.sb_atoms.proofs.Meanings.{constant_holds, always_holds, alone_holds, connected_holds, words_hold}
+use Rattle.sb_atoms.proofs.TruthFacts.{truths_are}
 use Rattle.sb_atoms.proofs.Walking.{compared_given, parts_given}
 use Rattle.sb_atoms.proofs.truth.truth_of.Goals as goal
 

@@ -1,5 +1,5 @@
 use Rattle.std.proofs.Common.{false, [], ap, ◌∙◌}
-use Rattle.sb_atoms.specs.Reaching.{known_at}
+use Rattle.sb_term.specs.Descending.{known_at}
 use Rattle.sb_atoms.proofs.Gathering.{mapped-more, mapped-all}
 use Rattle.sb_atoms.proofs.truth.truths_known.Goals as goal
 

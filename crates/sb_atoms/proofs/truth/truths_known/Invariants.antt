@@ -1,5 +1,5 @@
 use Rattle.std.proofs.Common.{◌≡◌, false, map, take}
-use Rattle.sb_atoms.specs.Reaching.{known_at}
+use Rattle.sb_term.specs.Descending.{known_at}
 use Rattle.sb_atoms.proofs.truth.truths_known.Given as goal
 
 abbrev pub invariant-loop-id : goal.invariant-loop-id

@@ -3,12 +3,13 @@ use Rattle.std.specs.List.{list_all}
 use Rattle.std.proofs.lemmas.Bool.{ltb-true}
 use Rattle.sb_script.specs.Brought.{is_structure}
 use Rattle.sb_term.specs.Numbered.{term_at}
+use Rattle.sb_term.proofs.CallerLemmas.{none_known, parts_known, next_known, all_known}
 use Rattle.sb_rulebook.specs.Translation.{translation}
 use Rattle.sb_fragment.proofs.CallerLemmas.{all_at}
 use Rattle.sb_atoms.specs.Translated.{has_declared}
 use Rattle.sb_atoms.specs.Growing.{is_below, Finds}
 use Rattle.sb_atoms.proofs.Growth.{moves_none, moves_both, moves_given}
-use Rattle.sb_atoms.proofs.Knowing.{none_known, parts_known, next_known, all_known}
+use Rattle.sb_atoms.specs.Reaching.{connected_parts}
 use Rattle.sb_atoms.proofs.KnownLiterals.{known_moved}
 use Rattle.sb_atoms.proofs.table.Atoms.find_literals.Goals as goal
 
@@ -34,7 +35,7 @@ literal_of-requires c =
       structure = all_at (λ j. is_structure (term_at ts j)) is (i - 1) x c.requires.structure within
           c.index-ids-place.is;
       ready = c.loop-place.invariant.3;
-      parts = parts_known None (λ j found. Finds is_below c.args.adds c.loop-place.arena c.loop-place.self
+      parts = parts_known connected_parts None (λ j found. Finds is_below c.args.adds c.loop-place.arena c.loop-place.self
           (λ atoms. translation atoms (term_at ts j)) found) c.loop-place.known.entries ts is i x c.requires.parts
           c.loop-place-test.true c.loop-place.invariant.0 c.index-ids-place.is c.loop-place.invariant.1;
     }

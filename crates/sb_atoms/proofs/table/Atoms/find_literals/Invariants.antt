@@ -4,7 +4,7 @@ use Rattle.sb_rulebook.specs.Translation.{translation}
 use Rattle.sb_term.specs.Numbered.{term_at}
 use Rattle.sb_atoms.specs.Translated.{has_declared}
 use Rattle.sb_atoms.specs.Growing.{is_below, Finds, AreReady, Moves}
-use Rattle.sb_atoms.specs.Reaching.{AreKnown}
+use Rattle.sb_term.specs.Descending.{AreKnown}
 use Rattle.sb_atoms.proofs.table.Atoms.find_literals.Given as goal
 
 abbrev pub invariant-loop-place : goal.invariant-loop-place

@@ -11,7 +11,7 @@ use Rattle.sb_rulebook.specs.Translation.{translation, conjunction, negated}
 use Rattle.sb_atoms.specs.Translated.{has_declared}
 use Rattle.sb_atoms.specs.Connecting.{connected}
 use Rattle.sb_atoms.specs.Growing.{is_below, Gives, GivesLike, Finds, IsLiteralOf}
-use Rattle.sb_atoms.specs.Reaching.{known_at}
+use Rattle.sb_term.specs.Descending.{known_at}
 use Rattle.sb_fragment.specs.Shapes.{parts_of}
 use Rattle.sb_atoms.specs.Shapes.{connected_literal, literals_of, words_literal}
 use Rattle.sb_fragment.proofs.CallerLemmas.{asked_structure, connected_structure, words_structure}

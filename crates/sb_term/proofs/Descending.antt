@@ -1,5 +1,5 @@
--- The terms that a term is made of, taken from the largest number down.
-use Rattle.std.proofs.Common.{◌≡◌, ℕ, suc, ◌+◌, ◌<◌, ◌≤◌, max, Bool, true, false, ◌&&◌, nat_eq, nat_lt, List, [], ◌∷◌, ◌++◌, length, take, get_or, All, refl, sym, ap, ap₂, subst, ◌∙◌, arith}
+-- Terms that are taken from the largest number down, with their parts, whatever the parts of a term are.
+use Rattle.std.proofs.Common.{◌≡◌, ℕ, suc, ◌+◌, ◌<◌, ◌≤◌, Bool, true, false, ◌&&◌, nat_eq, nat_lt, List, [], ◌∷◌, ◌++◌, length, take, get_or, All, refl, sym, ap, subst, ◌∙◌, arith}
 use Rattle.std.specs.Prelude.{◌||◌}
 use Rattle.std.specs.List.{list_all}
 use Rattle.std.specs.Ordering.{nat_cmp, match_ordering}
@@ -11,10 +11,9 @@ use Rattle.std.proofs.lemmas.List.{append-nil, take_more}
 use Rattle.std.proofs.lemmas.List.Folds.{list_all-append, list_any-append, list_all-map}
 use Rattle.sb_facts.proofs.CallerLemmas.{cmp_equal, cmp_less, all_append, all_push, all_weaker}
 use Rattle.sb_meaning.specs.Terms.{Term}
-use Rattle.sb_script.specs.Brought.{is_structure}
 use Rattle.sb_term.specs.Numbered.{term_at, terms_at, AreDistinct}
-use Rattle.sb_atoms.specs.Reaching.{connected_parts, has, PartsPass, HaveParts, GoesDown, AreReached, Puts}
-use Rattle.sb_atoms.proofs.Connections.{structure_down}
+use Rattle.sb_term.specs.Descending.{has, PartsPass, HaveParts, GoesDown, AreReached, Reaching, top, Puts}
+use Rattle.sb_term.proofs.NodeEq.{same_numbers}
 
 -- The set of those that are left.
 
@@ -76,11 +75,7 @@ puts_more old mid new is i x p within at e =
 pub puts_end : (old new is : List ℕ) (i : ℕ) → take i is ≡ is → Puts old (take i is) new → Puts old is new
 puts_end old new is i all p = subst (λ js. Puts old js new) all p
 
--- The largest of those that are left, and one more.
-
-abbrev pub top : List ℕ → ℕ
-top [] = 0
-top (k ∷ ks) = max (suc k) (top ks)
+-- The largest of those that are left.
 
 top_below : (n : ℕ) (ks : List ℕ) → list_all (λ k. nat_lt k n) ks ≡ true → top ks ≤ n
 top_below n [] h = omega arith
@@ -112,24 +107,6 @@ top_falls old left new more k e below parts p =
 
 -- What was taken, and what is left.
 
-pub record Reaching (ts : List Term) (root : ℕ) (is left : List ℕ) : Type 0 where
-  pub first : has (is ++ left) root ≡ true
-  pub below : list_all (λ i. nat_lt i (length ts)) (is ++ left) ≡ true
-  pub passes : (test : Term → Bool) → GoesDown test → test (term_at ts root) ≡ true
-      → list_all (λ i. test (term_at ts i)) (is ++ left) ≡ true
-  pub parts : HaveParts ts is left
-
-pub reaching_start : (ts : List Term) (root : ℕ) (is none left : List ℕ) → root < length ts → is ≡ [] → none ≡ []
-    → left ≡ insert_key nat_cmp none root → Reaching ts root is left
-reaching_start ts root is none left within e n l =
-    subst (λ js. Reaching ts root js left) (sym e)
-    (subst (Reaching ts root []) (sym (l ∙ ap (λ ks. insert_key nat_cmp ks root) n)) (record {
-      first = or_left (nat_eq root root) false (eq-eqb root root refl);
-      below = and_from (nat_lt root (length ts)) true (lt-ltb root (length ts) within) refl;
-      passes = λ test down h. and_from (test (term_at ts root)) true h refl;
-      parts = tt;
-    }))
-
 last_passes : (test : ℕ → Bool) (is left : List ℕ) (k : ℕ) → list_all test (is ++ (left ++ k ∷ [])) ≡ true
     → test k ≡ true
 last_passes test is left k h =
@@ -138,19 +115,6 @@ last_passes test is left k h =
     let last = (and_parts (list_all test left) (test k && true)
     (sym (list_all-append test left (k ∷ [])) ∙ rest)).1 in
     (and_parts (test k) true last).0
-
-pub next_within : (ts : List Term) (root : ℕ) (is old left : List ℕ) (k : ℕ) → Reaching ts root is old
-    → old ≡ left ++ k ∷ [] → k < length ts
-next_within ts root is old left k h e =
-    ltb-true k (length ts) (last_passes (λ i. nat_lt i (length ts)) is left k
-    (subst (λ ks. list_all (λ i. nat_lt i (length ts)) (is ++ ks) ≡ true) e h.below))
-
-pub next_structure : (ts : List Term) (root : ℕ) (is old left : List ℕ) (k : ℕ) → Reaching ts root is old
-    → old ≡ left ++ k ∷ [] → is_structure (term_at ts root) ≡ true → is_structure (term_at ts k) ≡ true
-next_structure ts root is old left k h e structure =
-    last_passes (λ i. is_structure (term_at ts i)) is left k
-    (subst (λ ks. list_all (λ i. is_structure (term_at ts i)) (is ++ ks) ≡ true) e
-    (h.passes is_structure structure_down structure))
 
 any_moved : (a b c d : Bool) → (b ≡ true → d ≡ true) → (a || (b || (c || false))) ≡ true
     → ((a || (c || false)) || d) ≡ true
@@ -179,66 +143,79 @@ all_moved test is left new k kept h =
     let last = (and_parts (test k) true back.1).0 in
     all_append test (is ++ k ∷ []) new (all_push test is k front.0 last) (kept back.0 last)
 
-parts_moved : (ts : List Term) (is left new : List ℕ) (k : ℕ)
-    → ((j : ℕ) → has left j ≡ true → has new j ≡ true) → PartsPass ts (has new) k
-    → HaveParts ts is (left ++ k ∷ []) → HaveParts ts (is ++ k ∷ []) new
-parts_moved ts [] left new k kept here h = (here, tt)
-parts_moved ts (i ∷ is) left new k kept here h = (
-  λ js e l. all_weaker (has (is ++ (left ++ k ∷ []))) (has ((is ++ k ∷ []) ++ new))
-      (λ j. has_moved is left new k j kept) js (h.0 js e l),
-  parts_moved ts is left new k kept here h.1,
-)
+module _ (parts : Term → List Term) (ts : List Term) where
+  parts_moved : (is left new : List ℕ) (k : ℕ) → ((j : ℕ) → has left j ≡ true → has new j ≡ true)
+      → PartsPass parts ts (has new) k → HaveParts parts ts is (left ++ k ∷ [])
+      → HaveParts parts ts (is ++ k ∷ []) new
+  parts_moved [] left new k kept here h = (here, tt)
+  parts_moved (i ∷ is) left new k kept here h = (
+    λ js e l. all_weaker (has (is ++ (left ++ k ∷ []))) (has ((is ++ k ∷ []) ++ new))
+        (λ j. has_moved is left new k j kept) js (h.0 js e l),
+    parts_moved is left new k kept here h.1,
+  )
 
--- Equal terms have equal numbers.
-same_numbers : (ts : List Term) (n : ℕ) (is js : List ℕ) → AreDistinct ts → n ≤ length ts → All (λ i. i < n) is
-    → All (λ j. j < n) js → terms_at ts is ≡ terms_at ts js → is ≡ js
-same_numbers ts n [] [] once le p q e = refl
-same_numbers ts n [] (j ∷ js) once le p q e = absurd (cc)
-same_numbers ts n (i ∷ is) [] once le p q e = absurd (cc)
-same_numbers ts n (i ∷ is) (j ∷ js) once le p q e =
-    let head : term_at ts i ≡ term_at ts j = cc in
-    let rest : terms_at ts is ≡ terms_at ts js = cc in
-    let one = p 0 0 (omega arith) in
-    let other = q 0 0 (omega arith) in
-    ap₂ (λ k ks. k ∷ ks) (once i j (omega (arith, one, le)) (omega (arith, other, le)) head)
-    (same_numbers ts n is js once le (λ k d l. p (suc k) d (omega (arith, l)))
-    (λ k d l. q (suc k) d (omega (arith, l))) rest)
+  module _ (root : ℕ) where
+    pub reaching_start : (is none left : List ℕ) → root < length ts → is ≡ [] → none ≡ []
+        → left ≡ insert_key nat_cmp none root → Reaching parts ts root is left
+    reaching_start is none left within e n l =
+        subst (λ js. Reaching parts ts root js left) (sym e)
+        (subst (Reaching parts ts root []) (sym (l ∙ ap (λ ks. insert_key nat_cmp ks root) n)) (record {
+          first = or_left (nat_eq root root) false (eq-eqb root root refl);
+          below = and_from (nat_lt root (length ts)) true (lt-ltb root (length ts) within) refl;
+          passes = λ test down h. and_from (test (term_at ts root)) true h refl;
+          behind = tt;
+        }))
 
-pub reaching_step : (ts : List Term) (root : ℕ) (is all old left new more : List ℕ) (k : ℕ) → AreDistinct ts
-    → Reaching ts root is old → old ≡ left ++ k ∷ [] → terms_at ts more ≡ connected_parts (term_at ts k)
-    → All (λ j. j < k) more → Puts left more new → all ≡ is ++ k ∷ [] → Reaching ts root all new
-reaching_step ts root is all old left new more k once h e are below p a =
-    subst (λ js. Reaching ts root js new) (sym a) (step (subst (Reaching ts root is) e h))
-  where
-    step : Reaching ts root is (left ++ k ∷ []) → Reaching ts root (is ++ k ∷ []) new
-    step r =
-        let within = ltb-true k (length ts) (last_passes (λ i. nat_lt i (length ts)) is left k r.below) in record {
-          first = has_moved is left new k root p.kept r.first;
-          below = all_moved (λ i. nat_lt i (length ts)) is left new k
-              (λ rest here. p.only (λ i. nat_lt i (length ts)) rest
-              (below_all (length ts) more (λ j d l. omega (arith, below j d l, within)))) r.below;
-          passes = λ test down is_so. all_moved (λ i. test (term_at ts i)) is left new k
-              (λ rest here. p.only (λ i. test (term_at ts i)) rest
-              (sym (list_all-map test (term_at ts) more) ∙ ap (list_all test) are ∙ down (term_at ts k) here))
+    -- the next one
+    pub next_within : (is old left : List ℕ) (k : ℕ) → Reaching parts ts root is old → old ≡ left ++ k ∷ []
+        → k < length ts
+    next_within is old left k h e =
+        ltb-true k (length ts) (last_passes (λ i. nat_lt i (length ts)) is left k
+        (subst (λ ks. list_all (λ i. nat_lt i (length ts)) (is ++ ks) ≡ true) e h.below))
+
+    pub next_passes : (test : Term → Bool) → GoesDown parts test → test (term_at ts root) ≡ true
+        → (is old left : List ℕ) (k : ℕ) → Reaching parts ts root is old → old ≡ left ++ k ∷ []
+        → test (term_at ts k) ≡ true
+    next_passes test down passes is old left k h e =
+        last_passes (λ i. test (term_at ts i)) is left k
+        (subst (λ ks. list_all (λ i. test (term_at ts i)) (is ++ ks) ≡ true) e (h.passes test down passes))
+
+    pub reaching_step : (is all old left new more : List ℕ) (k : ℕ) → AreDistinct ts → Reaching parts ts root is old
+        → old ≡ left ++ k ∷ [] → terms_at ts more ≡ parts (term_at ts k) → All (λ j. j < k) more
+        → Puts left more new → all ≡ is ++ k ∷ [] → Reaching parts ts root all new
+    reaching_step is all old left new more k once h e are below p a =
+        subst (λ js. Reaching parts ts root js new) (sym a) (step (subst (Reaching parts ts root is) e h))
+      where
+        step : Reaching parts ts root is (left ++ k ∷ []) → Reaching parts ts root (is ++ k ∷ []) new
+        step r =
+            let within = ltb-true k (length ts) (last_passes (λ i. nat_lt i (length ts)) is left k r.below) in record {
+              first = has_moved is left new k root p.kept r.first;
+              below = all_moved (λ i. nat_lt i (length ts)) is left new k
+                  (λ rest here. p.only (λ i. nat_lt i (length ts)) rest
+                  (below_all (length ts) more (λ j d l. omega (arith, below j d l, within)))) r.below;
+              passes = λ test down is_so. all_moved (λ i. test (term_at ts i)) is left new k
+                  (λ rest here. p.only (λ i. test (term_at ts i)) rest
+                  (sym (list_all-map test (term_at ts) more) ∙ ap (list_all test) are ∙ down (term_at ts k) here))
+                  (r.passes test down is_so);
+              behind = parts_moved is left new k p.kept (λ js same l.
+                  subst (λ ks. list_all (has new) ks ≡ true)
+                  (same_numbers ts more js once (λ j d m. omega (arith, below j d m, within))
+                  (λ j d m. omega (arith, l j d m, within)) (are ∙ sym same)) p.there) r.behind;
+            }
+
+    pub reached_all : (is old : List ℕ) → (0 < length old → ⊥) → Reaching parts ts root is old
+        → AreReached parts ts root is
+    reached_all is old none h = step (subst (Reaching parts ts root is) (nothing old none) h)
+      where
+        nothing : (ks : List ℕ) → (0 < length ks → ⊥) → ks ≡ []
+        nothing [] n = refl
+        nothing (k ∷ ks) n = absurd (n (omega arith))
+
+        step : Reaching parts ts root is [] → AreReached parts ts root is
+        step r = record {
+          first = subst (λ js. has js root ≡ true) (append-nil is) r.first;
+          below = subst (λ js. list_all (λ i. nat_lt i (length ts)) js ≡ true) (append-nil is) r.below;
+          passes = λ test down is_so. subst (λ js. list_all (λ i. test (term_at ts i)) js ≡ true) (append-nil is)
               (r.passes test down is_so);
-          parts = parts_moved ts is left new k p.kept (λ js same l.
-              subst (λ ks. list_all (has new) ks ≡ true)
-              (same_numbers ts k more js once (omega (arith, within)) below l (are ∙ sym same)) p.there) r.parts;
+          behind = r.behind;
         }
-
-pub reached_all : (ts : List Term) (root : ℕ) (is old : List ℕ) → (0 < length old → ⊥) → Reaching ts root is old
-    → AreReached ts root is
-reached_all ts root is old none h = step (subst (Reaching ts root is) (nothing old none) h)
-  where
-    nothing : (ks : List ℕ) → (0 < length ks → ⊥) → ks ≡ []
-    nothing [] n = refl
-    nothing (k ∷ ks) n = absurd (n (omega arith))
-
-    step : Reaching ts root is [] → AreReached ts root is
-    step r = record {
-      first = subst (λ js. has js root ≡ true) (append-nil is) r.first;
-      below = subst (λ js. list_all (λ i. nat_lt i (length ts)) js ≡ true) (append-nil is) r.below;
-      passes = λ test down is_so. subst (λ js. list_all (λ i. test (term_at ts i)) js ≡ true) (append-nil is)
-          (r.passes test down is_so);
-      parts = r.parts;
-    }

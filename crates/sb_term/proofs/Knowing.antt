@@ -1,5 +1,5 @@
--- What is known of terms by their numbers, found from the last one on.
-use Rattle.std.proofs.Common.{◌≡◌, ℕ, zero, suc, ◌+◌, ◌-◌, ◌<◌, ◌≤◌, Bool, true, false, nat_eq, cond, List, [], ◌∷◌, length, map, drop, get_or, Option, Some, refl, sym, ap, ap₂, subst, ◌∙◌, arith}
+-- What is known of terms by their numbers, found from the last one on, whatever the parts of a term are.
+use Rattle.std.proofs.Common.{◌≡◌, ℕ, zero, suc, ◌+◌, ◌-◌, ◌<◌, ◌≤◌, Bool, true, false, nat_eq, cond, List, [], ◌∷◌, length, drop, get_or, Option, Some, refl, sym, ap, ap₂, subst, ◌∙◌, arith}
 use Rattle.std.specs.Prelude.{◌||◌, unwrap_or}
 use Rattle.std.specs.List.{list_all}
 use Rattle.std.specs.Map.{lookup}
@@ -9,12 +9,7 @@ use Rattle.std.proofs.lemmas.Bool.{and_parts, false≢true}
 use Rattle.std.proofs.lemmas.Bool.Decides.{nat_tests}
 use Rattle.std.proofs.lemmas.List.{append-nil, drop_more, drop_all}
 use Rattle.sb_meaning.specs.Terms.{Term}
-use Rattle.sb_meaning.specs.Values.{Valuation}
-use Rattle.sb_meaning.specs.Truth.{holds}
-use Rattle.sb_term.specs.Numbered.{term_at, terms_at}
-use Rattle.sb_atoms.specs.Given.{GivesValues}
-use Rattle.sb_atoms.specs.Truths.{AllOf, IsTruthOf}
-use Rattle.sb_atoms.specs.Reaching.{has, PartsPass, PartsAre, HaveParts, known_at, AreKnown}
+use Rattle.sb_term.specs.Descending.{has, AllOf, PartsPass, PartsAre, HaveParts, known_at, AreKnown}
 
 -- Places from the last one on.
 
@@ -27,12 +22,12 @@ behind is place i pos within at =
     drop_more is (place - 1) i (omega (arith, pos, within))
     ∙ ap₂ (λ j k. j ∷ drop k is) (sym at) (one_back place pos)
 
-parts_behind : (ts : List Term) (is : List ℕ) (p i : ℕ) → HaveParts ts is [] → p < length is → i ≡ get_or is p i
-    → PartsPass ts (has (drop (suc p) is)) i
-parts_behind ts [] p i h within at = absurd (omega (arith, within))
-parts_behind ts (j ∷ is) zero i h within at =
-    subst (PartsPass ts (has is)) (sym at) (subst (λ js. PartsPass ts (has js) j) (append-nil is) h.0)
-parts_behind ts (j ∷ is) (suc p) i h within at = parts_behind ts is p i h.1 (omega (arith, within)) at
+parts_behind : (parts : Term → List Term) (ts : List Term) (is : List ℕ) (p i : ℕ) → HaveParts parts ts is []
+    → p < length is → i ≡ get_or is p i → PartsPass parts ts (has (drop (suc p) is)) i
+parts_behind parts ts [] p i h within at = absurd (omega (arith, within))
+parts_behind parts ts (j ∷ is) zero i h within at =
+    subst (PartsPass parts ts (has is)) (sym at) (subst (λ js. PartsPass parts ts (has js) j) (append-nil is) h.0)
+parts_behind parts ts (j ∷ is) (suc p) i h within at = parts_behind parts ts is p i h.1 (omega (arith, within)) at
 
 all_of : (P : ℕ → Type 0) (done : List ℕ) → ((i : ℕ) → has done i ≡ true → P i) → (is : List ℕ)
     → list_all (has done) is ≡ true → AllOf P is
@@ -41,15 +36,16 @@ all_of P done f (i ∷ is) h =
     let both = and_parts (has done i) (list_all (has done) is) h in
     (f i both.0, all_of P done f is both.1)
 
--- What is known of the arguments of the term that is next.
-pub parts_known : {A : Type 0} (none : A) (P : ℕ → A → Type 0) (known : List (ℕ × A)) (ts : List Term) (is : List ℕ)
-    (place i : ℕ) → HaveParts ts is [] → 0 < place → place ≤ length is → i ≡ get_or is (place - 1) i
-    → AreKnown none P known (drop place is) → PartsAre ts (λ j. P j (known_at none known j)) i
-parts_known none P known ts is place i parts pos within at h js same below =
+-- What is known of the parts of the term that is next.
+pub parts_known : {A : Type 0} (parts : Term → List Term) (none : A) (P : ℕ → A → Type 0) (known : List (ℕ × A))
+    (ts : List Term) (is : List ℕ) (place i : ℕ) → HaveParts parts ts is [] → 0 < place → place ≤ length is
+    → i ≡ get_or is (place - 1) i → AreKnown none P known (drop place is)
+    → PartsAre parts ts (λ j. P j (known_at none known j)) i
+parts_known parts none P known ts is place i have pos within at h js same below =
     let next : suc (place - 1) ≡ place = omega (arith, pos) in
     all_of (λ j. P j (known_at none known j)) (drop place is) h js
-    (subst (λ k. PartsPass ts (has (drop k is)) i) next
-    (parts_behind ts is (place - 1) i parts (omega (arith, pos, within)) at) js same below)
+    (subst (λ k. PartsPass parts ts (has (drop k is)) i) next
+    (parts_behind parts ts is (place - 1) i have (omega (arith, pos, within)) at) js same below)
 
 -- One more is known.
 
@@ -95,12 +91,3 @@ all_known none P known is place done h = subst (λ k. AreKnown none P known (dro
   where
     nothing : (k : ℕ) → k ≤ 0 → k ≡ 0
     nothing k l = omega (arith, l)
-
--- Truths.
-
-pub truths_are : (ws : List (List ℕ)) (bs : List Bool) (v : Valuation) (ts : List Term) (f : ℕ → Bool) (is : List ℕ)
-    → AllOf (λ i. IsTruthOf ws bs (term_at ts i) (f i)) is → AllOf (GivesValues ws bs v) (terms_at ts is)
-    → map f is ≡ map (λ t. holds t v) (terms_at ts is)
-truths_are ws bs v ts f [] h gives = refl
-truths_are ws bs v ts f (i ∷ is) h gives =
-    ap₂ (λ b cs. b ∷ cs) (h.0 v gives.0) (truths_are ws bs v ts f is h.1 gives.1)

@@ -1,7 +1,7 @@
 use Rattle.std.proofs.Common.{arith}
 use Rattle.std.proofs.lemmas.List.{take_all}
-use Rattle.sb_atoms.proofs.Descending.{puts_none, puts_more, puts_end}
-use Rattle.sb_atoms.proofs.reached.put_all.Goals as goal
+use Rattle.sb_term.proofs.Descending.{puts_none, puts_more, puts_end}
+use Rattle.sb_term.proofs.worklist.put_all.Goals as goal
 
 pub loop-id-init : goal.loop-id-init
 loop-id-init c = puts_none c.args.left.now.keys
