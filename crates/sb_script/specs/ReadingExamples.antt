@@ -230,10 +230,10 @@ symbol_without_arguments = refl
 shape_before_head : read names (group (Symbol (codes "f") ∷ [])) ≡ Err malformed
 shape_before_head = refl
 
-a_let_is_left_out : read names
+a_let_is_read : read names
     (group (Symbol (codes "let") ∷ group (group (Symbol (codes "z") ∷ x ∷ []) ∷ []) ∷ Symbol (codes "z") ∷ []))
-    ≡ Err unsupported
-a_let_is_left_out = refl
+    ≡ read names x
+a_let_is_read = refl
 
 reserved_in_a_term : read names (Symbol (codes "let")) ≡ Err malformed
 reserved_in_a_term = refl
