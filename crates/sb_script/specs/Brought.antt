@@ -165,6 +165,6 @@ is_brought (an_option name) = is_among brought_options name
 is_brought numerals = false
 is_brought lets = true
 is_brought functions = true
-is_brought definitions = false
+is_brought definitions = true
 is_brought (a_check_of t) = is_structure t
 is_brought proofs = true

@@ -28,6 +28,7 @@ pub mod Verdicts
 pub mod ReplyExamples
 pub mod StepExamples
 pub mod DefinitionExamples
+pub mod UnfoldingExamples
 pub mod Scripts
 pub mod WellSorted
 pub mod ReadingLaws

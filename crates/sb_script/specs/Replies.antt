@@ -8,7 +8,7 @@ use Rattle.sb_meaning.specs.Terms.{Sort, Term, boolean, integer, text, reglan, p
 use Rattle.sb_meaning.specs.Values.{Valuation, value_in}
 use Rattle.sb_meaning.specs.Printed.{printed}
 use Rattle.sb_meaning.specs.Sorts.{sort_of, is_same_sort}
-use Rattle.sb_script.specs.Symbols.{found_in, sorts_of_constants, sort_named, is_theory_name, is_taken}
+use Rattle.sb_script.specs.Symbols.{sort_named, is_theory_name, is_taken}
 use Rattle.sb_script.specs.Scopes.{Constant, Naming, a_constant, a_term, named}
 use Rattle.sb_script.specs.Faults.{Fault}
 use Rattle.sb_script.specs.Reading.{read, first_again}
@@ -41,7 +41,7 @@ declare_function name s = if is_taken (names_of s) name then fails_by (error.alr
 -- the sort of a parameter, or of what a definition makes
 abbrev pub sort_in_definition : Form → Option Sort
 sort_in_definition form = elim (symbol_in form) [
-  | Some name ↦ if is_name name (codes "RegLan") then Some reglan else found_in sorts_of_constants name
+  | Some name ↦ if is_name name (codes "RegLan") then Some reglan else sort_named name
   | None ↦ None
 ]
 

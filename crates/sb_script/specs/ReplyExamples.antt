@@ -14,11 +14,11 @@ use Rattle.sb_script.specs.Fragment.{in_fragment}
 use Rattle.sb_lang.specs.Membership.{in_re}
 use Rattle.sb_lang.specs.Languages.{cut, power, some_up_to, iterate}
 
-abbrev command : List Form → Entry
+abbrev pub command : List Form → Entry
 command fs = Command (group fs)
 
 -- the state and the text after entries that are answered without a check
-abbrev run : List Entry → State → List ℕ × State
+abbrev pub run : List Entry → State → List ℕ × State
 run [] s = ([], s)
 run (entry ∷ entries) s = elim (step_of entry s) [
   | answers text new ↦ let rest = run entries new in (text ++ rest.0, rest.1)
@@ -27,10 +27,10 @@ run (entry ∷ entries) s = elim (step_of entry s) [
   | exits text ↦ (text, s)
 ]
 
-abbrev option : List ℕ → List ℕ → Entry
+abbrev pub option : List ℕ → List ℕ → Entry
 option key value = command (Symbol (codes "set-option") ∷ Keyword key ∷ Symbol value ∷ [])
 
-abbrev declare : List ℕ → List ℕ → Entry
+abbrev pub declare : List ℕ → List ℕ → Entry
 declare name sort = command (Symbol (codes "declare-const") ∷ Symbol name ∷ Symbol sort ∷ [])
 
 abbrev get_model : Entry
