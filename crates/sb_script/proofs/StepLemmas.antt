@@ -18,7 +18,7 @@ use Rattle.sb_script.specs.Errors.{Error, first_of}
 use Rattle.sb_script.specs.Commands as command
 use Rattle.sb_script.specs.Commands.{Parameter, symbol_in, command_of}
 use Rattle.sb_script.specs.State.{State, Mode, Options, plain, satisfied, refuted, undecided, asserted, a_mark, names_of, declared, defined, marked, with_assertion, pushed, popped, without_assertions, start_behind}
-use Rattle.sb_script.specs.Steps.{Step, answers, leaves, checks, exits, above, all, fails_by, succeeds, is_unsupported, fault_error}
+use Rattle.sb_script.specs.Steps.{Step, answers, leaves, checks, exits, above, all, fails_by, is_unsupported, fault_error}
 use Rattle.sb_script.specs.Options as option
 use Rattle.sb_script.specs.Options.{is_logic, truth_in, with_truth, reason_unknown, option_texts, info_texts, settings}
 use Rattle.sb_script.specs.Replies as meaning
@@ -151,20 +151,9 @@ module _ (m : Mode) (s : State) (P : Bool → Step → Step → Type 0) (keep : 
 
   global_set : (value : Form)
       → P false (option.set_global_declarations value moved) (option.set_global_declarations value s)
-  global_set value = by_test s.begun _ _ _ _ (λ is. keep.stays _ _) (chosen (truth_in value))
-    where
-      chosen : (o : Option Bool) → P false (elim o as (λ _. Step) [
-        | Some true ↦ is_unsupported moved
-        | Some false ↦ succeeds (record moved { options = record moved.options { global_declarations = false } })
-        | None ↦ fails_by error.bad_option_value moved
-      ]) (elim o as (λ _. Step) [
-        | Some true ↦ is_unsupported s
-        | Some false ↦ succeeds (record s { options = record s.options { global_declarations = false } })
-        | None ↦ fails_by error.bad_option_value s
-      ])
-      chosen (Some true) = keep.stays _ _
-      chosen (Some false) = keep.sets _ s.logic_set s.begun (record s.options { global_declarations = false })
-      chosen None = keep.stays _ _
+  global_set value =
+      by_test s.begun _ _ _ _ (λ is. keep.stays _ _)
+      (truth_set value (λ b. record s.options { global_declarations = b }))
 
   limit_set : (value : Form) → P false (option.set_resource_limit value moved) (option.set_resource_limit value s)
   limit_set (Numeral digits) =

@@ -29,6 +29,7 @@ pub mod ReplyExamples
 pub mod StepExamples
 pub mod DefinitionExamples
 pub mod UnfoldingExamples
+pub mod GlobalExamples
 pub mod Scripts
 pub mod WellSorted
 pub mod ReadingLaws

@@ -45,15 +45,11 @@ abbrev pub set_produce_assumptions : Form → State → Step
 set_produce_assumptions value s =
     with_truth value (λ b. record s { options = record s.options { produce_unsat_assumptions = b } }) s
 
--- declarations that are global are left out
+-- whether declarations are global is said before anything is declared, defined or asserted
 abbrev pub set_global_declarations : Form → State → Step
 set_global_declarations value s =
     if s.begun then fails_by error.option_too_late s
-    else elim (truth_in value) [
-      | Some true ↦ is_unsupported s
-      | Some false ↦ succeeds (record s { options = record s.options { global_declarations = false } })
-      | None ↦ fails_by error.bad_option_value s
-    ]
+    else with_truth value (λ b. record s { options = record s.options { global_declarations = b } }) s
 
 abbrev pub with_limit : ℕ → State → Step
 with_limit n s = if nat_lt n (2 ^ 64) then succeeds (record s { options = record s.options { resource_limit = n } })

@@ -153,11 +153,11 @@ asks_the_solver :
     ++ (line (codes "(:version \"1\")") ++ (line (codes "true") ++ unsupported_line)))
 asks_the_solver = refl
 
--- declarations that are global are left out, and a declaration makes it too late
+-- whether declarations are global is said anew until a declaration makes it too late
 globals :
     (run (option (codes ":global-declarations") (codes "true") ∷ option (codes ":global-declarations") (codes "false") ∷
     declare (codes "x") (codes "String") ∷ option (codes ":global-declarations") (codes "false") ∷ []) start).0
-    ≡ unsupported_line ++ (line (codes "success")
+    ≡ line (codes "success") ++ (line (codes "success")
     ++ (line (codes "success") ++ line (codes "(error \"option set too late\")")))
 globals = refl
 

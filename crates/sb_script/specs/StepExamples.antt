@@ -10,7 +10,7 @@ use Rattle.sb_script.specs.Faults.{Fault, unknown_symbol, wrong_sort as of_wrong
 use Rattle.sb_script.specs.Commands as command
 use Rattle.sb_script.specs.Commands.{Command}
 use Rattle.sb_script.specs.State.{State, start, declared, marked, live, constants_of, satisfied, refuted, undecided}
-use Rattle.sb_script.specs.Steps.{Step, answers, leaves, checks, exits, above, all, line, unsupported_line, refusal_text, refused_term}
+use Rattle.sb_script.specs.Steps.{Step, answers, leaves, checks, exits, above, all, line, refusal_text, refused_term}
 use Rattle.sb_script.specs.Options.{settings, set_by, option_texts, get_by}
 use Rattle.sb_script.specs.Replies.{step}
 use Rattle.sb_script.specs.ReadingExamples.{group, range}
@@ -118,12 +118,15 @@ a_truth_that_is_none : told (set (codes ":produce-unsat-assumptions") (Numeral (
     ≡ codes "(error \"bad option value\")\n"
 a_truth_that_is_none = refl
 
-global_declarations_are_left_out : told (set (codes ":global-declarations") (Symbol (codes "true")) start)
-    ≡ unsupported_line
-global_declarations_are_left_out = refl
+global_declarations : told (set (codes ":global-declarations") (Symbol (codes "true")) start) ≡ success
+global_declarations = refl
 
 no_global_declarations : told (set (codes ":global-declarations") (Symbol (codes "false")) start) ≡ success
 no_global_declarations = refl
+
+global_or_not : told (set (codes ":global-declarations") (Symbol (codes "no")) start)
+    ≡ codes "(error \"bad option value\")\n"
+global_or_not = refl
 
 -- it is too late behind a logic, a declaration, a marked name or a mark, also with a bad value
 too_late : told (set (codes ":global-declarations") (Symbol (codes "no")) some_constants)
