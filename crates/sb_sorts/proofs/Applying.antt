@@ -1,15 +1,18 @@
 -- Sorts of arguments, as the tests go over them.
-use Rattle.std.proofs.Common.{◌≡◌, ℕ, ◌+◌, ◌<◌, Bool, true, false, not, ◌&&◌, ◌==◌, if◌then◌else◌, List, [], ◌∷◌, ◌++◌, length, map, take, get_or, nat_lt, Option, Some, None, Err, Ok, refl, sym, ap, ap₂, ◌∙◌, arith, true≢false}
+use Rattle.std.proofs.Common.{◌≡◌, ℕ, ◌+◌, ◌<◌, Bool, true, false, not, ◌&&◌, ◌==◌, if◌then◌else◌, List, [], ◌∷◌, ◌++◌, length, map, take, get_or, nat_lt, Option, Some, None, Result, Err, Ok, refl, sym, ap, ap₂, subst, ◌∙◌, arith, true≢false}
 use Rattle.std.proofs.lemmas.Bool.Decides.{nat_tests}
 use Rattle.std.proofs.lemmas.List.{map-append, take_more, length-map, nil_from_length}
 use Rattle.std.specs.List.{list_all, zip}
+use Rattle.sb_facts.proofs.CallerLemmas.{equal_itself}
 use Rattle.sb_meaning.specs.Terms as meaning
 use Rattle.sb_meaning.specs.Sorts.{Arity, is_same_sort, are_sorts, is_count, is_of_one, sort_of}
 use Rattle.sb_script.specs.Faults.{Fault, wrong_count, wrong_sort, unsupported}
-use Rattle.sb_script.specs.Heads.{Head, head_constant, head_term, applied_to, made, unless}
+use Rattle.sb_script.specs.Heads.{Head, head_constant, head_definition, head_term, with_arguments, judged_definition, applied_to, made, unless}
 use Rattle.sb_term.specs.Numbered.{term_at, terms_at}
 use Rattle.sb_term.specs.declared.sort.Sort.{Sort}
 use Rattle.sb_term.specs.Symbols.{sort_in}
+use Rattle.sb_sorts.specs.declared.read.ReadFault.{ReadFault}
+use Rattle.sb_sorts.specs.Reads.{ReadsAs}
 
 -- the test of a pair, as the loop has it
 abbrev pub fits : Sort × Sort → Bool
@@ -97,6 +100,50 @@ taken_in false fit out t u h i j is = absurd (true≢false (sym h))
 taken_in true false out t u h i j is = absurd (true≢false (sym i))
 taken_in true true true t u h i j is = absurd (true≢false j)
 taken_in true true false t u h i j is = ap Ok (sym is)
+
+-- the tests of a definition in their order: of the number, and of the sorts
+abbrev judged_by_two : Bool → Bool → Option Fault
+judged_by_two same fit = if not same then Some wrong_count else if fit then None else Some wrong_sort
+
+module _ (parameters sorts : List Sort) where
+  by_tests : (same fit : Bool) → (length parameters == length sorts) ≡ same
+      → are_sorts (map sort_in parameters) (map sort_in sorts) ≡ fit
+      → judged_definition (map sort_in parameters) (map sort_in sorts) ≡ judged_by_two same fit
+  by_tests same fit e f =
+      ap₂ judged_by_two
+      (ap₂ (λ n m. n == m) (length-map parameters sort_in) (length-map sorts sort_in) ∙ e) f
+
+  same_count : length parameters ≡ length sorts → (length parameters == length sorts) ≡ true
+  same_count same = ap (λ n. n == length sorts) same ∙ equal_itself (length sorts)
+
+  pub other_count : (t : meaning.Term) → (length parameters ≡ length sorts → ⊥)
+      → unless (judged_definition (map sort_in parameters) (map sort_in sorts)) t ≡ Err wrong_count
+  other_count t other =
+      let unequal : (length parameters == length sorts) ≡ false = grind (arith, nat_tests, other) in
+      ap (λ o. unless o t) (by_tests false (are_sorts (map sort_in parameters) (map sort_in sorts)) unequal refl)
+
+  pub other_sorts : (t : meaning.Term) → length parameters ≡ length sorts
+      → are_sorts (map sort_in parameters) (map sort_in sorts) ≡ false
+      → unless (judged_definition (map sort_in parameters) (map sort_in sorts)) t ≡ Err wrong_sort
+  other_sorts t same fit = ap (λ o. unless o t) (by_tests true false (same_count same) fit)
+
+  pub sorts_fit : length parameters ≡ length sorts
+      → are_sorts (map sort_in parameters) (map sort_in sorts) ≡ true
+      → judged_definition (map sort_in parameters) (map sort_in sorts) ≡ None
+  sorts_fit same fit = by_tests true true (same_count same) fit
+
+-- a definition whose parameters have the sorts of the arguments
+pub definition_made : (sorts : List meaning.Sort) (body u : meaning.Term) (us : List meaning.Term)
+    → judged_definition sorts (map sort_of us) ≡ None → u ≡ with_arguments us body
+    → applied_to (head_definition sorts body) us ≡ Ok u
+definition_made sorts body u us fit is = ap (λ o. unless o (with_arguments us body)) fit ∙ ap Ok (sym is)
+
+-- the same head and the same arguments
+pub read_by : (new ts : List meaning.Term) (h k : Head) (ids is : List ℕ) (r : Result ℕ ReadFault) → h ≡ k → is ≡ ids
+    → ReadsAs new (applied_to k (terms_at ts is)) r → ReadsAs new (applied_to h (terms_at ts ids)) r
+read_by new ts h k ids is r same equal reads =
+    subst (λ js. ReadsAs new (applied_to h (terms_at ts js)) r) equal
+    (subst (λ g. ReadsAs new (applied_to g (terms_at ts is)) r) (sym same) reads)
 
 -- one argument as it is
 chosen : (b : Bool) (t u : meaning.Term) → b ≡ true → t ≡ (if b then t else u)

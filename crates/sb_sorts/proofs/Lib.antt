@@ -4,5 +4,11 @@ pub mod Indices
 pub mod Applying
 pub mod Shapes
 pub mod Reading
+pub mod Binds
 pub mod Sizes
+pub mod Bound
+pub mod Unfolding
+pub mod OpenTerms
+pub mod Remaking
 pub mod CallerLemmas
+pub mod Staying

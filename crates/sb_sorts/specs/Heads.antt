@@ -11,18 +11,22 @@ use Rattle.sb_sorts.specs.declared.apply.Arity.TheVariants as arity
 use Rattle.sb_script.specs.Names.{Name, is_name, is_reserved}
 use Rattle.sb_meaning.specs.Sorts as theory
 use Rattle.sb_script.specs.Scopes.{Naming}
-use Rattle.sb_meaning.specs.Terms.{word}
+use Rattle.sb_meaning.specs.Terms.{Term, word}
+use Rattle.sb_term.specs.Numbered.{term_at}
 use Rattle.sb_script.specs.Heads as meaning
 use Rattle.sb_script.specs.Faults.{Fault, malformed}
-use Rattle.sb_script.specs.Heads.{head_constant, head_symbol, head_term, read_head}
+use Rattle.sb_script.specs.Heads.{head_constant, head_symbol, head_definition, head_term, read_head}
 use Rattle.sb_script.specs.Reading.{◌>>=◌, read_index_list, read_list_head, read_reserved, is_binding, are_bindings}
 use Rattle.sb_term.specs.Symbols.{sort_in, symbol_in}
 use Rattle.sb_sorts.specs.Reads.{Faults}
 
-abbrev pub head_in : Head → meaning.Head
-head_in (head.Constant serial sort) = head_constant serial.0 (sort_in sort)
-head_in (head.Character c) = head_term (word (c.code ∷ []))
-head_in (head.Symbol s) = head_symbol (symbol_in s)
+-- where these are the terms by number
+abbrev pub head_in : List Term → Head → meaning.Head
+head_in ts (head.Constant serial sort) = head_constant serial.0 (sort_in sort)
+head_in ts (head.Character c) = head_term (word (c.code ∷ []))
+head_in ts (head.Bound id) = head_term (term_at ts id)
+head_in ts (head.Symbol s) = head_symbol (symbol_in s)
+head_in ts (head.Definition d) = head_definition (map sort_in d.now.sorts) (term_at ts d.now.body)
 
 abbrev pub arity_in : Arity → theory.Arity
 arity_in (arity.OfEach sorts) = theory.of_each (map sort_in sorts.now)
@@ -34,7 +38,25 @@ arity_in arity.Choice = theory.choice
 abbrev pub head_below : ℕ → Head → Bool
 head_below n (head.Constant serial sort) = nat_lt serial.0 n
 head_below n (head.Character c) = true
+head_below n (head.Bound id) = true
 head_below n (head.Symbol s) = true
+head_below n (head.Definition d) = true
+
+-- what is bound, and the body of a definition, has a number below this
+abbrev pub has_number_below : ℕ → Head → Bool
+has_number_below n (head.Constant serial sort) = true
+has_number_below n (head.Character c) = true
+has_number_below n (head.Bound id) = nat_lt id n
+has_number_below n (head.Symbol s) = true
+has_number_below n (head.Definition d) = nat_lt d.now.body n
+
+-- a head that speaks of no constant, and of no number
+abbrev pub is_of_theories : Head → Bool
+is_of_theories (head.Constant serial sort) = false
+is_of_theories (head.Character c) = true
+is_of_theories (head.Bound id) = false
+is_of_theories (head.Symbol s) = true
+is_of_theories (head.Definition d) = false
 
 -- The answer, seen by the view, is what reading gives.
 abbrev pub Gives : {A B : Type 0} → (B → A) → Result A Fault → Result B ReadFault → Type 0
@@ -46,13 +68,17 @@ pub data Beginning : Type 0 where
   whole : meaning.Head → Beginning
   takes : meaning.Head → Beginning
 
-abbrev pub beginning_in : Front → Beginning
-beginning_in (front.Whole h) = whole (head_in h)
-beginning_in (front.Takes h) = takes (head_in h)
+abbrev pub beginning_in : List Term → Front → Beginning
+beginning_in ts (front.Whole h) = whole (head_in ts h)
+beginning_in ts (front.Takes h) = takes (head_in ts h)
 
 abbrev pub beginning_below : ℕ → Front → Bool
 beginning_below n (front.Whole h) = head_below n h
 beginning_below n (front.Takes h) = head_below n h
+
+abbrev pub beginning_number_below : ℕ → Front → Bool
+beginning_number_below n (front.Whole h) = has_number_below n h
+beginning_number_below n (front.Takes h) = has_number_below n h
 
 abbrev pub with_arguments : Result meaning.Head Fault → Result Beginning Fault
 with_arguments reading = reading >>= (λ h. Ok (takes h))

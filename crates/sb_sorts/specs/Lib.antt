@@ -1,8 +1,13 @@
 pub mod Characters
 pub mod Indices
+pub mod Defined
 pub mod Scopes
 pub mod Reads
 pub mod Growth
 pub mod Heads
 pub mod NameTable
 pub mod NamedRows
+pub mod Locals
+pub mod Remaking
+pub mod Unfolding
+pub mod Binding

@@ -2,6 +2,7 @@
 use Rattle.std.specs.Prelude.{◌≡◌, ℕ, Bool, true, nat_lt, List, map, length}
 use Rattle.std.specs.declared.vec.Vec.{Vec}
 use Rattle.std.specs.declared.alloc.Global.{Global}
+use Rattle.sb_meaning.specs.Terms.{Term}
 use Rattle.sb_script.specs.Names.{Name}
 use Rattle.sb_script.specs.Scopes.{Naming}
 use Rattle.sb_sorts.specs.declared.scope.Named.{Named}
@@ -14,12 +15,13 @@ use Rattle.sb_sorts.specs.Scopes.{naming_in, constants_among, serials_in, ascend
 abbrev pub kept_in : List (Vec ℕ Global × Named) → List (Name × Named)
 kept_in entries = map (λ e. (e.0.items, e.1)) entries
 
-abbrev pub namings_in : List (Vec ℕ Global × Named) → List Naming
-namings_in entries = map naming_in (kept_in entries)
+abbrev pub namings_in : List Term → List (Vec ℕ Global × Named) → List Naming
+namings_in ts entries = map (naming_in ts) (kept_in entries)
 
 -- a constant has a serial below this
 abbrev pub named_below : ℕ → Named → Bool
 named_below n (code.Constant serial sort) = nat_lt serial.0 n
+named_below n (code.Definition d) = true
 named_below n code.Marked = true
 
 -- serials ascend, and are below the number of sorts; each constant has the sort that stands at its serial

@@ -3,7 +3,7 @@ use Rattle.std.specs.Prelude.{◌≡◌, ℕ, ◌<◌, List, length, Result, Ok,
 use Rattle.sb_sorts.specs.declared.read.ReadFault.{ReadFault}
 use Rattle.sb_sorts.specs.declared.read.ReadFault.TheVariants as fault
 use Rattle.sb_meaning.specs.Terms.{Term}
-use Rattle.sb_script.specs.Faults.{Fault, unknown_symbol, wrong_sort, wrong_count, bad_index, unsupported, numeral_too_large, bad_literal, malformed}
+use Rattle.sb_script.specs.Faults.{Fault, unknown_symbol, wrong_sort, wrong_count, bad_index, unsupported, numeral_too_large, bad_literal, malformed, already_bound}
 use Rattle.sb_term.specs.Numbered.{term_at}
 
 -- Reading gives this fault. Want of memory says nothing.
@@ -16,6 +16,7 @@ Faults reading fault.NumeralTooLarge = reading ≡ Err numeral_too_large
 Faults reading fault.Unsupported = reading ≡ Err unsupported
 Faults reading fault.BadLiteral = reading ≡ Err bad_literal
 Faults reading fault.Malformed = reading ≡ Err malformed
+Faults reading (fault.AlreadyBound name) = reading ≡ Err (already_bound name.items)
 Faults reading fault.NoMemory = Unit {0}
 
 -- The answer is what reading by the definitions gives: the number of the term among these, or the first fault.

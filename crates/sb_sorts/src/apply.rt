@@ -1,19 +1,22 @@
 //! Heads with their arguments.
 
-ghost use Rattle.std.specs.Prelude.{◌≡◌, ℕ, ◌<◌, true, [], ◌∷◌, map, length, IfOk};
+ghost use Rattle.std.specs.Prelude.{◌≡◌, ℕ, ◌<◌, true, [], ◌∷◌, map, length, None, IfOk, MatchResult};
 ghost use Rattle.std.specs.List.{list_all};
 ghost use Rattle.sb_script.specs.Heads as meaning;
 ghost use Rattle.sb_meaning.specs.Sorts as theory;
 ghost use Rattle.sb_meaning.specs.Terms.{constant, word};
+ghost use Rattle.sb_meaning.specs.Terms as terms;
 ghost use Rattle.sb_term.specs.Numbered.{term_at, terms_at, AllNumbers};
 ghost use Rattle.sb_term.specs.Symbols.{sort_in, symbol_in};
 ghost use Rattle.sb_sorts.specs.Growth.{Grows};
-ghost use Rattle.sb_sorts.specs.Heads.{arity_in, head_in, head_below};
-ghost use Rattle.sb_sorts.specs.Reads.{ReadsAs};
+ghost use Rattle.sb_sorts.specs.Heads.{arity_in, head_in, head_below, has_number_below};
+ghost use Rattle.sb_sorts.specs.Reads.{ReadsAs, Faults};
 
 use crate::character::Character;
 use crate::head::Head;
 use crate::read::ReadFault;
+use crate::scope::Definition;
+use crate::unfold::unfolded;
 use sb_term::{Serial, Sort, Symbol, Table, Term, TermId};
 use smallvec::SmallVec;
 use std::alloc::{AllocError, Global};
@@ -252,21 +255,59 @@ fn symbol_applied(
     }
 }
 
+/// Whether a definition takes arguments of these sorts, by its parameters', and why not. The number is judged first.
+fn judge_definition(parameters: &[Sort], sorts: &[Sort]) -> Result<(), ReadFault>
+    ensures { MatchResult result
+        (λ _. meaning.judged_definition (map sort_in parameters.now) (map sort_in sorts.now) ≡ None)
+        (λ fault. (t : terms.Term) → Faults (meaning.unless (meaning.judged_definition (map sort_in parameters.now)
+        (map sort_in sorts.now)) t) fault) }
+{
+    if parameters.len() != sorts.len() {
+        Err(ReadFault::WrongCount)
+    } else if are_sorts(parameters, sorts) {
+        Ok(())
+    } else {
+        Err(ReadFault::WrongSort)
+    }
+}
+
+/// A definition with arguments.
+fn definition_applied(
+    alloc: Global,
+    table: &mut Table,
+    definition: &Definition,
+    ids: &[TermId],
+) -> Result<TermId, ReadFault>
+    requires body { definition.now.body < length table.old }
+    requires numbers { AllNumbers table.old ids.now }
+    ensures reads { ReadsAs table.new (meaning.applied_to (meaning.head_definition (map sort_in definition.now.sorts)
+        (term_at table.old definition.now.body)) (terms_at table.old ids.now)) result }
+    ensures grows { (n : ℕ) → Grows n table.old table.new }
+{
+    let sorts = sorts_of(alloc, table, ids)?;
+    judge_definition(&definition.sorts, &sorts)?;
+    Ok(unfolded(alloc, table, definition.body, ids)?)
+}
+
 /// A head with its arguments.
 pub(crate) fn applied_to(
     alloc: Global,
     table: &mut Table,
-    head: Head,
+    head: Head<'_>,
     ids: SmallVec<TermId, 4>,
 ) -> Result<TermId, ReadFault>
-    requires { AllNumbers table.old ids.items }
-    ensures reads { ReadsAs table.new (meaning.applied_to (head_in head) (terms_at table.old ids.items)) result }
-    ensures grows { (n : ℕ) → head_below n head ≡ true → Grows n table.old table.new }
+    requires head { has_number_below (length table.old) head ≡ true }
+    requires numbers { AllNumbers table.old ids.items }
+    ensures reads { ReadsAs table.new (meaning.applied_to (head_in table.old head.entry) (terms_at table.old ids.items))
+        result }
+    ensures grows { (n : ℕ) → head_below n head.entry ≡ true → Grows n table.old table.new }
 {
     match head {
         Head::Constant(serial, sort) if ids.is_empty() => Ok(constant(table, serial, sort)?),
         Head::Character(code) if ids.is_empty() => Ok(character(alloc, table, code)?),
-        Head::Constant(..) | Head::Character(_) => Err(ReadFault::WrongCount),
+        Head::Bound(id) if ids.is_empty() => Ok(id),
+        Head::Constant(..) | Head::Character(_) | Head::Bound(_) => Err(ReadFault::WrongCount),
         Head::Symbol(symbol) => symbol_applied(alloc, table, symbol, ids),
+        Head::Definition(definition) => definition_applied(alloc, table, definition, &ids),
     }
 }

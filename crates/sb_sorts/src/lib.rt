@@ -9,13 +9,15 @@
 mod apply;
 mod character;
 mod head;
+mod locals;
 mod names;
 mod numeral;
 mod read;
 mod scope;
 mod text;
+mod unfold;
 
 pub use names::{begins_term, is_reserved, is_theory_name, look_up, sort_named};
 pub use numeral::number_up_to;
-pub use read::{ReadFault, read_term};
-pub use scope::{DeclareError, Named, Scope};
+pub use read::{Parameter, ReadFault, read_body, read_term};
+pub use scope::{DeclareError, Definition, Named, Scope};

@@ -7,8 +7,8 @@ use Rattle.sb_sorts.proofs.scope.Scope.declare.Goals as goal
 
 pub push_name-requires : goal.push_name-requires
 push_name-requires c =
-    untaken_none (namings_in c.self.inside.names.entries) c.args.name.now
-    (ap (λ kept. is_taken (names_in kept) c.args.name.now) c.self.view_is ∙ c.in_ok-refuse_taken.ensures.ok)
+    untaken_none (namings_in [] c.self.inside.names.entries) c.args.name.now
+    (ap (λ kept. is_taken (names_in [] kept) c.args.name.now) c.self.view_is ∙ c.in_ok-refuse_taken.ensures.ok [])
 
 pub invariant_of-self-2 : goal.invariant_of-self-2
 invariant_of-self-2 c =

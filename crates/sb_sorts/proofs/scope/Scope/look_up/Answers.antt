@@ -1,17 +1,20 @@
-use Rattle.std.proofs.Common.{option_map, length, ap, ◌∙◌}
+use Rattle.std.proofs.Common.{length, ap, ◌∙◌}
+use Rattle.std.specs.List.{list_all}
 use Rattle.sb_script.specs.Scopes as meaning
-use Rattle.sb_sorts.specs.Scopes.{named_in, names_in}
-use Rattle.sb_sorts.proofs.Kept.{lookup_named, lookup_below}
+use Rattle.sb_sorts.specs.Scopes.{ScopeNames, names_in, is_body_below}
+use Rattle.sb_sorts.proofs.Kept.{lookup_lent, lent_below, lent_body}
 use Rattle.sb_sorts.proofs.scope.Scope.look_up.Goals as goal
 
-pub returns-clause-value : goal.returns-clause-value
-returns-clause-value c =
-    ap (option_map named_in) (c.copied.ensures ∙ c.get.ensures.value)
-    ∙ lookup_named c.self.inside.names.entries c.args.name.now
-    ∙ ap (λ kept. meaning.named (names_in kept) c.args.name.now) c.self.view_is
-
-pub returns-clause-serial : goal.returns-clause-serial
-returns-clause-serial c =
-    lookup_below (length c.self.inside.sorts.items) _ c.self.inside.names.entries c.copied.result
-    (length c.args.self.now.sorts) (c.copied.ensures ∙ c.get.ensures.value) (ap (λ kept. length kept.sorts) c.self.view_is)
-    c.self.invariant.ascend
+pub returns : goal.returns
+returns c =
+    let es = c.self.inside.names.entries in
+    let name = c.args.name.now in
+    record {
+      value = λ ts. lookup_lent ts es name c.get.result c.get.ensures.value
+          ∙ ap (λ kept. meaning.named (names_in ts kept) name) c.self.view_is;
+      serial = lent_below (length c.self.inside.sorts.items) (length c.args.self.now.sorts) _ es c.get.result
+          c.get.ensures.value (ap (λ kept. length kept.sorts) c.self.view_is) c.self.invariant.ascend;
+      body = λ ts bodies. lent_body (length ts) _ es c.get.result c.get.ensures.value
+          (ap (λ (kept : ScopeNames). list_all (λ n. is_body_below (length ts) n.1) kept.names) c.self.view_is
+          ∙ bodies);
+    }
