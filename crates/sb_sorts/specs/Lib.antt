@@ -8,6 +8,5 @@ pub mod Heads
 pub mod NameTable
 pub mod NamedRows
 pub mod Locals
-pub mod Remaking
 pub mod Unfolding
 pub mod Binding

@@ -1,13 +1,13 @@
 //! Definitions unfolded: bodies with arguments in the places of their parameters, by the numbers of terms.
 
-ghost use Rattle.std.specs.Prelude.{◌≡◌, ℕ, ◌<◌, true, [], map, length, slice_get, unwrap_or, All, IfOk, OnOk};
+ghost use Rattle.std.specs.Prelude.{◌≡◌, ℕ, ◌<◌, [], map, length, slice_get, unwrap_or, All, IfOk, OnOk};
 ghost use Rattle.sb_script.specs.Heads.{with_arguments};
 ghost use Rattle.sb_term.specs.Numbered.{term_at, terms_at, AllNumbers};
-ghost use Rattle.sb_term.specs.Parameters.{has_parameters};
+ghost use Rattle.sb_term.specs.Descending.{AreReached, Puts};
 ghost use Rattle.sb_sorts.specs.Growth.{Grows};
-ghost use Rattle.sb_sorts.specs.Unfolding.{arguments_in, open_numbers, AreOpen, AreOpenIn, Puts, next_in, HasNext, AreMadeOf};
+ghost use Rattle.sb_sorts.specs.Unfolding.{arguments_in, open_parts, open_numbers, AreOpen, next_in, IsMadeAs, HasNext, AreMadeOf};
 
-use sb_term::{Table, Term, TermId};
+use sb_term::{Table, Term, TermId, put_all};
 use smallvec::SmallVec;
 use std::alloc::{AllocError, Global};
 use std::collections::{BTreeMap, BTreeSet};
@@ -33,18 +33,17 @@ fn put_open(left: &mut BTreeSet<TermId>, table: &Table, ids: &[TermId]) -> Resul
         if !table.is_open(*id) {
             continue;
         }
-        left.insert(*id)?;
+        put_all(left, &[*id])?;
     }
     Ok(())
 }
 
-/// The terms of a body in which parameters stand, itself among them, each once, from the largest number down, so the
-/// arguments of each stand behind it. Linear in them and their arguments, times a logarithm: what has no parameters is
-/// not gone into.
+/// The terms in which parameters stand that a body is made of, itself among them, each once, from the largest number
+/// down, so the arguments of each stand behind it. Linear in them and their arguments, times a logarithm: what has no
+/// parameters is not gone into.
 fn open_terms(alloc: Global, table: &Table, body: TermId) -> Result<Vec<TermId>, AllocError>
-    requires body { body < length table.now }
-    requires parametric { has_parameters (term_at table.now body) ≡ true }
-    ensures { IfOk result (λ ids. AreOpenIn table.now body ids.items) }
+    requires { body < length table.now }
+    ensures { IfOk result (λ ids. AreReached open_parts table.now body ids.items) }
 {
     table.terms_each_once();
     let mut ids = Vec::new(alloc);
@@ -103,8 +102,7 @@ fn remade(
     requires id { id < length table.old }
     requires given { AllNumbers table.old given.now }
     requires parts { HasNext table.old (terms_at table.old given.now) made.now.entries id }
-    ensures value { IfOk result (λ next. (next < length table.new)
-        × (term_at table.new next ≡ with_arguments (terms_at table.old given.now) (term_at table.old id))) }
+    ensures value { IfOk result (λ next. IsMadeAs table.old table.new (terms_at table.old given.now) id next) }
     ensures grows { (n : ℕ) → Grows n table.old table.new }
 {
     match table.term(id) {

@@ -9,8 +9,8 @@ loop-id-init c = open_none c.args.table.now c.args.left.now.keys
 pub loop-id-preserved : goal.loop-id-preserved
 loop-id-preserved c =
     open_more c.args.table.now c.args.left.now.keys c.loop-id.left.keys c.args.ids.now c.loop-id.id-index
-    c.id-item.result c.loop-id-test.true c.id-item.is c.insert.new.self.keys c.loop-id.invariant
-    (sym c.is_open.ensures ∙ c.if-not-is_open.false) c.in_ok-insert.ensures.keys
+    c.id-item.result c.loop-id-test.true c.id-item.is c.put_all.new.left.keys c.loop-id.invariant
+    (sym c.is_open.ensures ∙ c.if-not-is_open.false) c.in_ok-put_all.ensures
 
 pub loop-id-preserved-then-not-is_open : goal.loop-id-preserved-then-not-is_open
 loop-id-preserved-then-not-is_open c =
