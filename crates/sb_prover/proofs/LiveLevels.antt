@@ -14,7 +14,7 @@ use Rattle.sb_script.specs.State.{Assertion, Level, empty_level, over_levels, in
 use Rattle.sb_rulebook.specs.Accepted.{term_of, at_level, live_by_level, asked_in}
 use Rattle.sb_sorts.specs.Scopes.{names_in}
 use Rattle.sb_stack.specs.declared.level.Level as levels
-use Rattle.sb_stack.specs.Stacked.{Stacked, state_of, assertion_of, assertion_in, first_level, levels_above, have_levels}
+use Rattle.sb_stack.specs.Stacked.{Stacked, state_of, assertion_of, assertion_in, front_names, first_level, levels_above, have_levels}
 use Rattle.sb_prover.specs.Proving.{AreLow, level_at, LevelsStay}
 
 abbrev pub Row : Type 0
@@ -157,29 +157,31 @@ rows-at ts n (a ∷ xs) h =
     ap₂ (λ row rows. row ∷ rows) (ap₂ (λ t m. (t, m)) (term-as ts a.term) (same_number a.level n parts.0))
     (rows-at ts n xs parts.1)
 
-levels-kept : (ls : List levels.Level) (names : List Naming) (xs : List Assertion)
-    → length (levels_above ls names xs) ≡ length ls
-levels-kept [] names xs = refl
-levels-kept (l ∷ ls) names xs = ap suc (levels-kept ls (take l.names names) (take l.assertions xs))
+levels-kept : (global : Bool) (ls : List levels.Level) (names : List Naming) (xs : List Assertion)
+    → length (levels_above global ls names xs) ≡ length ls
+levels-kept global [] names xs = refl
+levels-kept global (l ∷ ls) names xs =
+    ap suc (levels-kept global ls (front_names global l.names names) (take l.assertions xs))
 
-next-level : (ls : List levels.Level) (names : List Naming) (xs : List Assertion)
-    → length (levels_above ls names xs) + 1 ≡ suc (length ls)
-next-level ls names xs = let kept = levels-kept ls names xs in omega (arith, kept)
+next-level : (global : Bool) (ls : List levels.Level) (names : List Naming) (xs : List Assertion)
+    → length (levels_above global ls names xs) + 1 ≡ suc (length ls)
+next-level global ls names xs = let kept = levels-kept global ls names xs in omega (arith, kept)
 
-rows-by-level : (ts : List Term) (ls : List levels.Level) (names : List Naming) (xs : List code.Assertion)
-    → have_levels ls xs ≡ true
-    → live_by_level (first_level ls names (map (assertion_in ts) xs)) (levels_above ls names (map (assertion_in ts) xs))
-    ≡ map (row_of ts) xs
-rows-by-level ts [] names xs h = rows-at ts 0 xs h
-rows-by-level ts (l ∷ ls) names xs h =
+rows-by-level : (global : Bool) (ts : List Term) (ls : List levels.Level) (names : List Naming)
+    (xs : List code.Assertion) → have_levels ls xs ≡ true
+    → live_by_level (first_level global ls names (map (assertion_in ts) xs))
+    (levels_above global ls names (map (assertion_in ts) xs)) ≡ map (row_of ts) xs
+rows-by-level global ts [] names xs h = rows-at ts 0 xs h
+rows-by-level global ts (l ∷ ls) names xs h =
+    let front : List Naming = front_names global l.names names in
     let parts = and_parts (list_all (λ a. a.level == suc (length ls)) (drop l.assertions xs))
     (have_levels ls (take l.assertions xs)) h in
     ap₂ (λ a b. a ++ b)
-    (ap (λ ys. live_by_level (first_level ls (take l.names names) ys) (levels_above ls (take l.names names) ys))
+    (ap (λ ys. live_by_level (first_level global ls front ys) (levels_above global ls front ys))
     (take-map (assertion_in ts) l.assertions xs)
-    ∙ rows-by-level ts ls (take l.names names) (take l.assertions xs) parts.1)
+    ∙ rows-by-level global ts ls front (take l.assertions xs) parts.1)
     (ap₂ (λ m ys. at_level m ys)
-    (next-level ls (take l.names names) (take l.assertions (map (assertion_in ts) xs)))
+    (next-level global ls front (take l.assertions (map (assertion_in ts) xs)))
     (drop-map (assertion_in ts) l.assertions xs)
     ∙ rows-at ts (suc (length ls)) (drop l.assertions xs) parts.0)
     ∙ (sym (map-append (row_of ts) (take l.assertions xs) (drop l.assertions xs))
@@ -187,4 +189,4 @@ rows-by-level ts (l ∷ ls) names xs h =
 
 pub live-rows : (s : Stacked) → have_levels s.levels s.assertions ≡ true
     → (asked_in (state_of s)).live ≡ map (row_of s.table) s.assertions
-live-rows s h = rows-by-level s.table s.levels (names_in s.scope) s.assertions h
+live-rows s h = rows-by-level s.scope.global s.table s.levels (names_in s.table s.scope) s.assertions h

@@ -18,7 +18,7 @@ use Rattle.sb_rulebook.specs.AtomRules.{is_declared}
 use Rattle.sb_sorts.specs.Scopes.{names_in, has_sort, are_sorted}
 use Rattle.sb_stack.specs.Speaking.{is_one_of, speaks_of, speak_of}
 use Rattle.sb_stack.specs.declared.level.Level as levels
-use Rattle.sb_stack.specs.Stacked.{Stacked, state_of, live_constants, assertion_of, assertion_in, first_level, levels_above, have_levels, HasNumberBelow}
+use Rattle.sb_stack.specs.Stacked.{Stacked, state_of, live_constants, assertion_of, assertion_in, front_names, first_level, levels_above, have_levels, HasNumberBelow}
 use Rattle.sb_stack.proofs.CallerLemmas.{same_sort}
 use Rattle.sb_fragment.specs.Rules.{is_decided}
 use Rattle.sb_atoms.specs.Translated.{has_declared, have_declared}
@@ -43,29 +43,31 @@ rows_at ts n (a ∷ xs) h =
     ap₂ (λ row rows. row ∷ rows) (ap₂ (λ t m. (t, m)) (term_as ts a.term) (same_number a.level n parts.0))
     (rows_at ts n xs parts.1)
 
-levels_kept : (ls : List levels.Level) (names : List Naming) (xs : List Assertion)
-    → length (levels_above ls names xs) ≡ length ls
-levels_kept [] names xs = refl
-levels_kept (l ∷ ls) names xs = ap suc (levels_kept ls (take l.names names) (take l.assertions xs))
+levels_kept : (global : Bool) (ls : List levels.Level) (names : List Naming) (xs : List Assertion)
+    → length (levels_above global ls names xs) ≡ length ls
+levels_kept global [] names xs = refl
+levels_kept global (l ∷ ls) names xs =
+    ap suc (levels_kept global ls (front_names global l.names names) (take l.assertions xs))
 
-next_level : (ls : List levels.Level) (names : List Naming) (xs : List Assertion)
-    → length (levels_above ls names xs) + 1 ≡ suc (length ls)
-next_level ls names xs = let kept = levels_kept ls names xs in omega (arith, kept)
+next_level : (global : Bool) (ls : List levels.Level) (names : List Naming) (xs : List Assertion)
+    → length (levels_above global ls names xs) + 1 ≡ suc (length ls)
+next_level global ls names xs = let kept = levels_kept global ls names xs in omega (arith, kept)
 
-rows_by_level : (ts : List Term) (ls : List levels.Level) (names : List Naming) (xs : List code.Assertion)
-    → have_levels ls xs ≡ true
-    → live_by_level (first_level ls names (map (assertion_in ts) xs)) (levels_above ls names (map (assertion_in ts) xs))
-    ≡ map (row_of ts) xs
-rows_by_level ts [] names xs h = rows_at ts 0 xs h
-rows_by_level ts (l ∷ ls) names xs h =
+rows_by_level : (global : Bool) (ts : List Term) (ls : List levels.Level) (names : List Naming)
+    (xs : List code.Assertion) → have_levels ls xs ≡ true
+    → live_by_level (first_level global ls names (map (assertion_in ts) xs))
+    (levels_above global ls names (map (assertion_in ts) xs)) ≡ map (row_of ts) xs
+rows_by_level global ts [] names xs h = rows_at ts 0 xs h
+rows_by_level global ts (l ∷ ls) names xs h =
+    let front : List Naming = front_names global l.names names in
     let parts = and_parts (list_all (λ a. a.level == suc (length ls)) (drop l.assertions xs))
     (have_levels ls (take l.assertions xs)) h in
     ap₂ (λ a b. a ++ b)
-    (ap (λ ys. live_by_level (first_level ls (take l.names names) ys) (levels_above ls (take l.names names) ys))
+    (ap (λ ys. live_by_level (first_level global ls front ys) (levels_above global ls front ys))
     (take-map (assertion_in ts) l.assertions xs)
-    ∙ rows_by_level ts ls (take l.names names) (take l.assertions xs) parts.1)
+    ∙ rows_by_level global ts ls front (take l.assertions xs) parts.1)
     (ap₂ (λ m ys. at_level m ys)
-    (next_level ls (take l.names names) (take l.assertions (map (assertion_in ts) xs)))
+    (next_level global ls front (take l.assertions (map (assertion_in ts) xs)))
     (drop-map (assertion_in ts) l.assertions xs)
     ∙ rows_at ts (suc (length ls)) (drop l.assertions xs) parts.0)
     ∙ (sym (map-append (row_of ts) (take l.assertions xs) (drop l.assertions xs))
@@ -73,7 +75,7 @@ rows_by_level ts (l ∷ ls) names xs h =
 
 live_rows : (s : Stacked) → have_levels s.levels s.assertions ≡ true
     → (asked_in (state_of s)).live ≡ map (row_of s.table) s.assertions
-live_rows s h = rows_by_level s.table s.levels (names_in s.scope) s.assertions h
+live_rows s h = rows_by_level s.scope.global s.table s.levels (names_in s.table s.scope) s.assertions h
 
 -- A term that speaks of constants whose sorts these are has each of them declared.
 

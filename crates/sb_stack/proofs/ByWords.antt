@@ -3,15 +3,16 @@ use Rattle.std.proofs.Common.{◌≡◌, ℕ, ◌+◌, Bool, true, false, if◌t
 use Rattle.std.specs.List.{list_all}
 use Rattle.std.proofs.lemmas.Bool.{and_parts, and_from}
 use Rattle.sb_reader.specs.Forms.{Form, Symbol, QuotedSymbol, Keyword, Numeral, OtherNumber, Words, Group}
-use Rattle.sb_meaning.specs.Terms.{Sort}
+use Rattle.sb_meaning.specs.Terms.{Sort, Term}
 use Rattle.sb_meaning.specs.Values.{value_in}
 use Rattle.sb_meaning.specs.Printed.{printed}
 use Rattle.sb_script.specs.Names.{Name, name_text, is_name, is_reserved, begins_term}
 use Rattle.sb_script.specs.Symbols.{is_theory_name}
-use Rattle.sb_script.specs.Scopes.{Named, a_constant, a_marked_name, named, constants_in}
+use Rattle.sb_script.specs.Scopes.{Named, a_constant, a_definition, a_marked_name, named, constants_in}
 use Rattle.sb_script.specs.State.{State}
 use Rattle.sb_script.specs.Steps.{Step, answers, is_unsupported, line, list_text}
 use Rattle.sb_script.specs.Replies.{sort_text, definition_text, value_text, Item, item_constant, item_unknown, item_malformed, item_other, item_named, item_of, all_constants}
+use Rattle.sb_term.specs.Numbered.{term_at}
 use Rattle.sb_term.specs.Symbols.{sort_in}
 use Rattle.sb_sorts.specs.declared.scope.Named as scope
 use Rattle.sb_sorts.specs.declared.scope.Named.TheVariants as code
@@ -28,29 +29,31 @@ printed_at : (cs : List (ℕ × Sort)) (words : List (List ℕ)) (truths : List 
 printed_at cs words truths n sort h = ap printed (value_there cs words truths n sort h)
 
 -- the definitions of a scope's constants
-definitions_among : (from bound : ℕ) (cs : List (ℕ × Sort)) (words : List (List ℕ)) (truths : List Bool)
-    (ns : List (Name × scope.Named)) → ascend_below from bound (serials_in ns) ≡ true
+definitions_among : (ts : List Term) (from bound : ℕ) (cs : List (ℕ × Sort)) (words : List (List ℕ))
+    (truths : List Bool) (ns : List (Name × scope.Named)) → ascend_below from bound (serials_in ns) ≡ true
     → ((n : ℕ) (sort : Sort) → is_one_of (constants_among ns) n sort ≡ true → is_one_of cs n sort ≡ true)
-    → map (definition_text (values_at cs words truths)) (constants_in (map naming_in ns))
-    ≡ map (definition_by words truths) (constants_in (map naming_in ns))
-definitions_among from bound cs words truths [] h more = refl
-definitions_among from bound cs words truths ((name, code.Constant serial sort) ∷ ns) h more =
+    → map (definition_text (values_at cs words truths)) (constants_in (map (naming_in ts) ns))
+    ≡ map (definition_by words truths) (constants_in (map (naming_in ts) ns))
+definitions_among ts from bound cs words truths [] h more = refl
+definitions_among ts from bound cs words truths ((name, code.Constant serial sort) ∷ ns) h more =
     let kind : Sort = sort_in sort in
     let here = printed_at cs words truths serial.0 kind (more serial.0 kind (one_first serial.0 kind (constants_among ns))) in
     ap₂ (λ (said : List ℕ) (rest : List (List ℕ)).
     (codes "(define-fun " ++ (name_text name ++ (codes " () " ++ (sort_text kind ++ (codes " " ++ (said ++ codes ")"))))))
     ∷ rest) here
-    (definitions_among (serial.0 + 1) bound cs words truths ns (rest_ascends from bound serial.0 (serials_in ns) h)
+    (definitions_among ts (serial.0 + 1) bound cs words truths ns (rest_ascends from bound serial.0 (serials_in ns) h)
     (λ n k one. more n k (one_later from bound serial.0 kind (constants_among ns) n k h one)))
-definitions_among from bound cs words truths ((name, code.Marked) ∷ ns) h more =
-    definitions_among from bound cs words truths ns h more
+definitions_among ts from bound cs words truths ((name, code.Definition d) ∷ ns) h more =
+    definitions_among ts from bound cs words truths ns h more
+definitions_among ts from bound cs words truths ((name, code.Marked) ∷ ns) h more =
+    definitions_among ts from bound cs words truths ns h more
 
-pub definitions : (bound : ℕ) (words : List (List ℕ)) (truths : List Bool) (ns : List (Name × scope.Named))
+pub definitions : (ts : List Term) (bound : ℕ) (words : List (List ℕ)) (truths : List Bool) (ns : List (Name × scope.Named))
     → ascend_below 0 bound (serials_in ns) ≡ true
-    → map (definition_text (values_at (constants_among ns) words truths)) (constants_in (map naming_in ns))
-    ≡ map (definition_by words truths) (constants_in (map naming_in ns))
-definitions bound words truths ns h =
-    definitions_among 0 bound (constants_among ns) words truths ns h (λ n sort one. one)
+    → map (definition_text (values_at (constants_among ns) words truths)) (constants_in (map (naming_in ts) ns))
+    ≡ map (definition_by words truths) (constants_in (map (naming_in ts) ns))
+definitions ts bound words truths ns h =
+    definitions_among ts 0 bound (constants_among ns) words truths ns h (λ n sort one. one)
 
 -- A name that stands for a constant.
 
@@ -61,32 +64,41 @@ item_for name o = elim o [
   | None ↦ if is_theory_name name then item_other else item_unknown name
 ]
 
-named_live : (from bound : ℕ) (cs : List (ℕ × Sort)) (ns : List (Name × scope.Named)) (name : Name)
+named_live : (ts : List Term) (from bound : ℕ) (cs : List (ℕ × Sort)) (ns : List (Name × scope.Named)) (name : Name)
     → ascend_below from bound (serials_in ns) ≡ true
     → ((n : ℕ) (sort : Sort) → is_one_of (constants_among ns) n sort ≡ true → is_one_of cs n sort ≡ true)
-    → (o : Option Named) → o ≡ named (map naming_in ns) name → is_live_item cs (item_for name o) ≡ true
-named_live from bound cs [] name h more o is = rw is (unknown (is_theory_name name))
+    → (o : Option Named) → o ≡ named (map (naming_in ts) ns) name → is_live_item cs (item_for name o) ≡ true
+named_live ts from bound cs [] name h more o is = rw is (unknown (is_theory_name name))
   where
     unknown : (b : Bool) → is_live_item cs (if b then item_other else item_unknown name) ≡ true
     unknown true = refl
     unknown false = refl
-named_live from bound cs ((other, code.Constant serial sort) ∷ ns) name h more o is =
+named_live ts from bound cs ((other, code.Constant serial sort) ∷ ns) name h more o is =
     step (is_name name other) is
-    (named_live (serial.0 + 1) bound cs ns name (rest_ascends from bound serial.0 (serials_in ns) h)
+    (named_live ts (serial.0 + 1) bound cs ns name (rest_ascends from bound serial.0 (serials_in ns) h)
     (λ n k one. more n k (one_later from bound serial.0 (sort_in sort) (constants_among ns) n k h one)) o)
   where
     step : (b : Bool)
-        → o ≡ (if b then Some (a_constant serial.0 (sort_in sort)) else named (map naming_in ns) name)
-        → (o ≡ named (map naming_in ns) name → is_live_item cs (item_for name o) ≡ true)
+        → o ≡ (if b then Some (a_constant serial.0 (sort_in sort)) else named (map (naming_in ts) ns) name)
+        → (o ≡ named (map (naming_in ts) ns) name → is_live_item cs (item_for name o) ≡ true)
         → is_live_item cs (item_for name o) ≡ true
     step true is later =
         rw is (more serial.0 (sort_in sort) (one_first serial.0 (sort_in sort) (constants_among ns)))
     step false is later = later is
-named_live from bound cs ((other, code.Marked) ∷ ns) name h more o is =
-    step (is_name name other) is (named_live from bound cs ns name h more o)
+named_live ts from bound cs ((other, code.Definition d) ∷ ns) name h more o is =
+    step (is_name name other) is (named_live ts from bound cs ns name h more o)
   where
-    step : (b : Bool) → o ≡ (if b then Some a_marked_name else named (map naming_in ns) name)
-        → (o ≡ named (map naming_in ns) name → is_live_item cs (item_for name o) ≡ true)
+    step : (b : Bool)
+        → o ≡ (if b then Some (a_definition (map sort_in d.sorts) (term_at ts d.body)) else named (map (naming_in ts) ns) name)
+        → (o ≡ named (map (naming_in ts) ns) name → is_live_item cs (item_for name o) ≡ true)
+        → is_live_item cs (item_for name o) ≡ true
+    step true is later = rw is refl
+    step false is later = later is
+named_live ts from bound cs ((other, code.Marked) ∷ ns) name h more o is =
+    step (is_name name other) is (named_live ts from bound cs ns name h more o)
+  where
+    step : (b : Bool) → o ≡ (if b then Some a_marked_name else named (map (naming_in ts) ns) name)
+        → (o ≡ named (map (naming_in ts) ns) name → is_live_item cs (item_for name o) ≡ true)
         → is_live_item cs (item_for name o) ≡ true
     step true is later = rw is refl
     step false is later = later is
@@ -97,26 +109,26 @@ bare_live cs item true c h = refl
 bare_live cs item false true h = refl
 bare_live cs item false false h = h
 
-form_live : (bound : ℕ) (ns : List (Name × scope.Named)) (form : Form) → ascend_below 0 bound (serials_in ns) ≡ true
-    → is_live_item (constants_among ns) (item_of (with_names (map naming_in ns)) form) ≡ true
-form_live bound ns (Symbol name) h =
-    bare_live (constants_among ns) (item_named (with_names (map naming_in ns)) name) (begins_term name)
-    (is_reserved name) (named_live 0 bound (constants_among ns) ns name h (λ n sort one. one) _ refl)
-form_live bound ns (QuotedSymbol name) h =
-    named_live 0 bound (constants_among ns) ns name h (λ n sort one. one) _ refl
-form_live bound ns (Keyword name) h = refl
-form_live bound ns (Numeral name) h = refl
-form_live bound ns (OtherNumber name) h = refl
-form_live bound ns (Words name) h = refl
-form_live bound ns (Group name) h = refl
+form_live : (ts : List Term) (bound : ℕ) (ns : List (Name × scope.Named)) (form : Form) → ascend_below 0 bound (serials_in ns) ≡ true
+    → is_live_item (constants_among ns) (item_of (with_names (map (naming_in ts) ns)) form) ≡ true
+form_live ts bound ns (Symbol name) h =
+    bare_live (constants_among ns) (item_named (with_names (map (naming_in ts) ns)) name) (begins_term name)
+    (is_reserved name) (named_live ts 0 bound (constants_among ns) ns name h (λ n sort one. one) _ refl)
+form_live ts bound ns (QuotedSymbol name) h =
+    named_live ts 0 bound (constants_among ns) ns name h (λ n sort one. one) _ refl
+form_live ts bound ns (Keyword name) h = refl
+form_live ts bound ns (Numeral name) h = refl
+form_live ts bound ns (OtherNumber name) h = refl
+form_live ts bound ns (Words name) h = refl
+form_live ts bound ns (Group name) h = refl
 
-pub forms_live : (bound : ℕ) (ns : List (Name × scope.Named)) (forms : List Form)
+pub forms_live : (ts : List Term) (bound : ℕ) (ns : List (Name × scope.Named)) (forms : List Form)
     → ascend_below 0 bound (serials_in ns) ≡ true
-    → list_all (is_live_item (constants_among ns)) (map (item_of (with_names (map naming_in ns))) forms) ≡ true
-forms_live bound ns [] h = refl
-forms_live bound ns (form ∷ forms) h =
-    and_from (is_live_item (constants_among ns) (item_of (with_names (map naming_in ns)) form)) _
-    (form_live bound ns form h) (forms_live bound ns forms h)
+    → list_all (is_live_item (constants_among ns)) (map (item_of (with_names (map (naming_in ts) ns))) forms) ≡ true
+forms_live ts bound ns [] h = refl
+forms_live ts bound ns (form ∷ forms) h =
+    and_from (is_live_item (constants_among ns) (item_of (with_names (map (naming_in ts) ns)) form)) _
+    (form_live ts bound ns form h) (forms_live ts bound ns forms h)
 
 -- Values that are asked for.
 

@@ -9,4 +9,5 @@ pub use Rattle.sb_stack.proofs.Live.{value_there, same_sort}
 
 -- the live assertions are those that are kept
 pub live_laid : (s : Stacked) → live (state_of s) ≡ map (assertion_in s.table) s.assertions
-live_laid s = live_of_levels s.levels (names_in s.scope) (map (assertion_in s.table) s.assertions)
+live_laid s =
+    live_of_levels s.scope.global s.levels (names_in s.table s.scope) (map (assertion_in s.table) s.assertions)

@@ -7,7 +7,7 @@ use Rattle.sb_script.specs.Scopes.{Naming, a_constant, a_definition, a_marked_na
 use Rattle.sb_script.specs.Replies.{all_constants}
 use Rattle.sb_sorts.specs.declared.scope.Named.{Named}
 use Rattle.sb_sorts.specs.declared.scope.Named.TheVariants as named
-use Rattle.sb_meaning.specs.Terms.{Sort}
+use Rattle.sb_meaning.specs.Terms.{Sort, Term}
 use Rattle.sb_sorts.specs.Scopes.{naming_in, constants_among}
 use Rattle.sb_stack.proofs.Live.{constants_append}
 use Rattle.sb_stack.specs.declared.constant.LiveConstant.{LiveConstant}
@@ -47,31 +47,33 @@ namings_append ((name, a_marked_name) ∷ ns) ms = namings_append ns ms
 namings_append ((name, a_term t) ∷ ns) ms = namings_append ns ms
 
 -- the constants of one more name
-names_step : (ns : List (Name × Named)) (i : ℕ) (n : Name × Named) → Some n ≡ slice_get ns i
-    → constants_in (map naming_in (take (i + 1) ns)) ≡ constants_in (map naming_in (take i ns))
-    ++ constants_in (naming_in n ∷ [])
-names_step ns i n is =
+names_step : (ts : List Term) (ns : List (Name × Named)) (i : ℕ) (n : Name × Named) → Some n ≡ slice_get ns i
+    → constants_in (map (naming_in ts) (take (i + 1) ns)) ≡ constants_in (map (naming_in ts) (take i ns))
+    ++ constants_in (naming_in ts n ∷ [])
+names_step ts ns i n is =
     let within : i < length ns = slice_get_within ns i n (sym is) in
     let one : take (i + 1) ns ≡ take i ns ++ n ∷ [] =
     take_more ns i n within ∙ ap (λ x. take i ns ++ x ∷ []) (get_or_from_slice_get ns i n n (sym is)) in
-    ap (λ ys. constants_in (map naming_in ys)) one ∙ ap constants_in (map-append naming_in (take i ns) (n ∷ []))
-    ∙ namings_append (map naming_in (take i ns)) (naming_in n ∷ [])
+    ap (λ ys. constants_in (map (naming_in ts) ys)) one ∙ ap constants_in (map-append (naming_in ts) (take i ns) (n ∷ []))
+    ∙ namings_append (map (naming_in ts) (take i ns)) (naming_in ts n ∷ [])
 
-pub constant_step : (ns : List (Name × Named)) (i : ℕ) (c : value.Constant) (k : Named) (old new : List value.Constant)
+pub constant_step : (ts : List Term) (ns : List (Name × Named)) (i : ℕ) (c : value.Constant) (k : Named) (old new : List value.Constant)
     → Some (c.name.now, k) ≡ slice_get ns i → k ≡ named.Constant c.serial c.sort → new ≡ old ++ c ∷ []
-    → map constant_in old ≡ constants_in (map naming_in (take i ns))
-    → map constant_in new ≡ constants_in (map naming_in (take (i + 1) ns))
-constant_step ns i c k old new is here pushed before =
+    → map constant_in old ≡ constants_in (map (naming_in ts) (take i ns))
+    → map constant_in new ≡ constants_in (map (naming_in ts) (take (i + 1) ns))
+constant_step ts ns i c k old new is here pushed before =
     ap (map constant_in) pushed ∙ map-append constant_in old (c ∷ []) ∙ ap (λ cs. cs ++ constant_in c ∷ []) before
-    ∙ ap (λ j. constants_in (map naming_in (take i ns)) ++ constants_in (naming_in (c.name.now, j) ∷ [])) (sym here)
-    ∙ sym (names_step ns i (c.name.now, k) is)
+    ∙ ap (λ j. constants_in (map (naming_in ts) (take i ns)) ++ constants_in (naming_in ts (c.name.now, j) ∷ [])) (sym here)
+    ∙ sym (names_step ts ns i (c.name.now, k) is)
 
-pub mark_step : (ns : List (Name × Named)) (i : ℕ) (name : Name) (k : Named) (old : List Constant)
+pub mark_step : (ts : List Term) (ns : List (Name × Named)) (i : ℕ) (name : Name) (k : Named) (old : List Constant)
     → Some (name, k) ≡ slice_get ns i → ((serial : _) (sort : _) → k ≡ named.Constant serial sort → ⊥)
-    → old ≡ constants_in (map naming_in (take i ns)) → old ≡ constants_in (map naming_in (take (i + 1) ns))
-mark_step ns i name (named.Constant serial sort) old is other before = absurd (other serial sort refl)
-mark_step ns i name named.Marked old is other before =
-    before ∙ sym (append-nil _) ∙ sym (names_step ns i (name, named.Marked) is)
+    → old ≡ constants_in (map (naming_in ts) (take i ns)) → old ≡ constants_in (map (naming_in ts) (take (i + 1) ns))
+mark_step ts ns i name (named.Constant serial sort) old is other before = absurd (other serial sort refl)
+mark_step ts ns i name (named.Definition d) old is other before =
+    before ∙ sym (append-nil _) ∙ sym (names_step ts ns i (name, named.Definition d) is)
+mark_step ts ns i name named.Marked old is other before =
+    before ∙ sym (append-nil _) ∙ sym (names_step ts ns i (name, named.Marked) is)
 
 -- the constants of one more name, without their names
 live_names_step : (ns : List (Name × Named)) (i : ℕ) (n : Name × Named) → Some n ≡ slice_get ns i
@@ -95,6 +97,8 @@ pub no_live_step : (ns : List (Name × Named)) (i : ℕ) (name : Name) (k : Name
     → Some (name, k) ≡ slice_get ns i → ((serial : _) (sort : _) → k ≡ named.Constant serial sort → ⊥)
     → old ≡ constants_among (take i ns) → old ≡ constants_among (take (i + 1) ns)
 no_live_step ns i name (named.Constant serial sort) old is other before = absurd (other serial sort refl)
+no_live_step ns i name (named.Definition d) old is other before =
+    before ∙ sym (append-nil _) ∙ sym (live_names_step ns i (name, named.Definition d) is)
 no_live_step ns i name named.Marked old is other before =
     before ∙ sym (append-nil _) ∙ sym (live_names_step ns i (name, named.Marked) is)
 

@@ -20,11 +20,11 @@ use Rattle.sb_sorts.specs.Scopes.{names_in, constants_among}
 use Rattle.sb_stack.specs.declared.level.Level.{Level}
 use Rattle.sb_stack.specs.declared.stack.Mode.TheVariants as mode
 use Rattle.sb_stack.specs.declared.stack.Step.TheVariants as step
-use Rattle.sb_stack.specs.Stacked.{Stacked, state_of, levels_above, assertion_of, assertion_in}
+use Rattle.sb_stack.specs.Stacked.{Stacked, state_of, front_names, levels_above, assertion_of, assertion_in}
 use Rattle.sb_stack.specs.Keeping.{asserts_of, IsKept, Leaves, StandsFor}
 use Rattle.sb_stack.specs.Steps.{IsStep}
 use Rattle.sb_stack.specs.Taking.{IsAnswered}
-use Rattle.sb_stack.proofs.Changes.{longer_both, kept_left, left_is}
+use Rattle.sb_stack.proofs.Changes.{longer_both, left_as, kept_left, left_is}
 
 -- Levels that are left one after the other.
 
@@ -87,35 +87,47 @@ opened_reversed n m l old new same is =
 pub left_reversed : (old new : List Level) (l : Level) → old ≡ new ++ l ∷ [] → reverse old ≡ l ∷ reverse new
 left_reversed old new l is = ap reverse is ∙ reverse-append new (l ∷ [])
 
-pub left_kept : (scope next : scopes.ScopeNames) (table : List Term) (xs fewer : List Assertion)
+-- the scope that is left
+abbrev left_scope : ℕ → scopes.ScopeNames → scopes.ScopeNames
+left_scope n scope = record scope { names = front_names scope.global n scope.names }
+
+left_in : (n : ℕ) (scope next : scopes.ScopeNames)
+    → next ≡ record scope { names = if scope.global then scope.names else take n scope.names }
+    → next ≡ left_scope n scope
+left_in n scope next is = is ∙ ap (λ ns. record scope { names = ns }) (left_as scope.global n scope.names)
+
+pub left_kept : (begun : Bool) (scope next : scopes.ScopeNames) (table : List Term) (xs fewer : List Assertion)
     (old new : List Level) (l : Level) → old ≡ new ++ l ∷ []
-    → next ≡ record scope { names = take l.names scope.names } → fewer ≡ take l.assertions xs
-    → IsKept scope table xs (reverse old) → IsKept next table fewer (reverse new)
-left_kept scope next table xs fewer old new l is names assertions kept =
-    let there = kept_left scope table xs (reverse new) (reverse old) l (left_reversed old new l is) kept in
-    subst (λ (s : scopes.ScopeNames). IsKept s table fewer (reverse new)) (sym names)
-    (subst (λ bs. IsKept (record scope { names = take l.names scope.names }) table bs (reverse new)) (sym assertions)
-    there)
+    → next ≡ record scope { names = if scope.global then scope.names else take l.names scope.names }
+    → fewer ≡ take l.assertions xs → IsKept begun scope table xs (reverse old)
+    → IsKept begun next table fewer (reverse new)
+left_kept begun scope next table xs fewer old new l is names assertions kept =
+    let there = kept_left begun scope table xs (reverse new) (reverse old) l (left_reversed old new l is) kept in
+    subst (λ (s : scopes.ScopeNames). IsKept begun s table fewer (reverse new)) (sym (left_in l.names scope next names))
+    (subst (λ bs. IsKept begun (left_scope l.names scope) table bs (reverse new)) (sym assertions) there)
 
 pub left_state : (k now : Stacked) (next : scopes.ScopeNames) (fewer : List Assertion) (old new : List Level)
     (l : Level) → k ≡ now → k.levels ≡ reverse old → old ≡ new ++ l ∷ []
-    → next ≡ record k.scope { names = take l.names k.scope.names } → fewer ≡ take l.assertions k.assertions
+    → next ≡ record k.scope { names = if k.scope.global then k.scope.names else take l.names k.scope.names }
+    → fewer ≡ take l.assertions k.assertions
     → state_of (record k { mode = mode.Plain; scope = next; assertions = fewer; levels = reverse new })
     ≡ popped 1 (state_of now)
 left_state k now next fewer old new l view levels is names assertions =
     ap₂ (λ (s : scopes.ScopeNames) (bs : List Assertion).
-    state_of (record k { mode = mode.Plain; scope = s; assertions = bs; levels = reverse new })) names assertions
+    state_of (record k { mode = mode.Plain; scope = s; assertions = bs; levels = reverse new }))
+    (left_in l.names k.scope next names) assertions
     ∙ left_is k (reverse new) l (levels ∙ left_reversed old new l is) ∙ ap (λ (s : Stacked). popped 1 (state_of s)) view
 
 -- How many levels there are.
 
-pub length_above : (ls : List Level) (ns : List Naming) (bs : List state.Assertion)
-    → length (levels_above ls ns bs) ≡ length ls
-length_above [] ns bs = refl
-length_above (l ∷ ls) ns bs = ap suc (length_above ls (take l.names ns) (take l.assertions bs))
+pub length_above : (global : Bool) (ls : List Level) (ns : List Naming) (bs : List state.Assertion)
+    → length (levels_above global ls ns bs) ≡ length ls
+length_above global [] ns bs = refl
+length_above global (l ∷ ls) ns bs =
+    ap suc (length_above global ls (front_names global l.names ns) (take l.assertions bs))
 
 pub levels_of : (k : Stacked) → length (state_of k).above ≡ length k.levels
-levels_of k = length_above k.levels (names_in k.scope) (map (assertion_in k.table) k.assertions)
+levels_of k = length_above k.scope.global k.levels (names_in k.table k.scope) (map (assertion_in k.table) k.assertions)
 
 more_than : (m n : ℕ) → m < n → nat_le n m ≡ false
 more_than m n h = grind (arith, nat_tests, h)

@@ -1,5 +1,6 @@
 pub mod Levels
 pub mod Live
+pub mod Bodies
 pub mod ReadLive
 pub mod Lefts
 pub mod ByWords
@@ -8,4 +9,6 @@ pub mod Items
 pub mod Printing
 pub mod Changes
 pub mod Replying
+pub mod Definitions
+pub mod Refusals
 pub mod CallerLemmas

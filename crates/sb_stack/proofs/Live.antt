@@ -21,9 +21,9 @@ use Rattle.sb_sorts.specs.declared.scope.Named.TheVariants as code
 use Rattle.sb_sorts.specs.Scopes.{naming_in, constants_among, ascend_below, has_sort, are_sorted}
 use Rattle.sb_stack.specs.declared.level.Level.{Level}
 use Rattle.sb_stack.specs.Speaking.{is_one_of, speaks_of, speak_of}
-use Rattle.sb_stack.specs.Stacked.{value_at, values_at, are_words}
+use Rattle.sb_stack.specs.Stacked.{value_at, values_at, are_words, front_names}
 use Rattle.sb_stack.specs.Keeping.{are_nested, asserts_of, speak_of_theirs}
-use Rattle.sb_stack.proofs.Levels.{nested_head}
+use Rattle.sb_stack.proofs.Levels.{front_all, none_in_front, nested_head, nested_left}
 
 -- Constants by serial and sort.
 
@@ -135,25 +135,26 @@ its_sort (s ∷ ss) (suc n) sort read has =
     (and_parts (is_brought_sort (sort_in s)) (list_all (λ s. is_brought_sort (sort_in s)) ss) read).1 has
 
 -- words and truth values fit the constants of a scope
-pub fitting : (ss : List code_sort.Sort) (ns : List (Name × Named)) (words : List (List ℕ)) (truths : List Bool)
+pub fitting : (ts : List Term) (ss : List code_sort.Sort) (ns : List (Name × Named)) (words : List (List ℕ)) (truths : List Bool)
     → list_all (λ s. is_brought_sort (sort_in s)) ss ≡ true
     → are_sorted (map sort_in ss) (constants_among ns) ≡ true → are_words words ≡ true
-    → fits (constants_in (map naming_in ns)) (values_at (constants_among ns) words truths) ≡ true
-fitting ss [] words truths read sorted h = refl
-fitting ss ((name, code.Constant serial sort) ∷ ns) words truths read sorted h =
+    → fits (constants_in (map (naming_in ts) ns)) (values_at (constants_among ns) words truths) ≡ true
+fitting ts ss [] words truths read sorted h = refl
+fitting ts ss ((name, code.Constant serial sort) ∷ ns) words truths read sorted h =
     let parts = and_parts (has_sort (map sort_in ss) (serial.0, sort_in sort))
     (are_sorted (map sort_in ss) (constants_among ns)) sorted in
     let there : Bool = is_of (sort_in sort) (value_at words truths serial.0 (sort_in sort)) in
     and_from ((serial.0 == serial.0) && there) _
     (and_from (serial.0 == serial.0) there (eq-eqb serial.0 serial.0 refl)
     (of_its_sort words truths serial.0 (sort_in sort) h (its_sort ss serial.0 (sort_in sort) read parts.0)))
-    (fitting ss ns words truths read parts.1 h)
-fitting ss ((name, code.Marked) ∷ ns) words truths read sorted h = fitting ss ns words truths read sorted h
+    (fitting ts ss ns words truths read parts.1 h)
+fitting ts ss ((name, code.Definition d) ∷ ns) words truths read sorted h = fitting ts ss ns words truths read sorted h
+fitting ts ss ((name, code.Marked) ∷ ns) words truths read sorted h = fitting ts ss ns words truths read sorted h
 
 -- Which constants terms speak of.
 
 mutual
-  speaks_more : (ns ms : List (ℕ × Sort)) → ((n : ℕ) (k : Sort) → is_one_of ns n k ≡ true → is_one_of ms n k ≡ true) → (t : Term)
+  pub speaks_more : (ns ms : List (ℕ × Sort)) → ((n : ℕ) (k : Sort) → is_one_of ns n k ≡ true → is_one_of ms n k ≡ true) → (t : Term)
       → speaks_of ns t ≡ true → speaks_of ms t ≡ true
   speaks_more ns ms more (constant serial sort) h = more serial sort h
   speaks_more ns ms more (word w) h = refl
@@ -177,7 +178,7 @@ asserts_more ns ms more (meaning.asserted t ∷ bs) h =
     (asserts_more ns ms more bs parts.1)
 asserts_more ns ms more (meaning.a_mark ∷ bs) h = asserts_more ns ms more bs h
 
-one_front : (cs ds : List (ℕ × Sort)) (n : ℕ) (sort : Sort) → is_one_of cs n sort ≡ true
+pub one_front : (cs ds : List (ℕ × Sort)) (n : ℕ) (sort : Sort) → is_one_of cs n sort ≡ true
     → is_one_of (cs ++ ds) n sort ≡ true
 one_front [] ds n sort h = absurd (false≢true h)
 one_front (c ∷ cs) ds n sort h = step (c.0 == n) h (one_front cs ds n sort)
@@ -193,6 +194,7 @@ pub constants_append : (ns ms : List (Name × Named))
 constants_append [] ms = refl
 constants_append ((name, code.Constant serial sort) ∷ ns) ms =
     ap (λ cs. (serial.0, sort_in sort) ∷ cs) (constants_append ns ms)
+constants_append ((name, code.Definition d) ∷ ns) ms = constants_append ns ms
 constants_append ((name, code.Marked) ∷ ns) ms = constants_append ns ms
 
 -- the constants of the first names are among all
@@ -203,6 +205,12 @@ one_all k ns n sort h =
     (ap constants_among (sym (take-append-drop k ns)) ∙ constants_append (take k ns) (drop k ns))
     ∙ one_front (constants_among (take k ns)) (constants_among (drop k ns)) n sort h
 
+one_of_front : (global : Bool) (k : ℕ) (ns : List (Name × Named)) (n : ℕ) (sort : Sort)
+    → is_one_of (constants_among (front_names global k ns)) n sort ≡ true
+    → is_one_of (constants_among ns) n sort ≡ true
+one_of_front true k ns n sort h = h
+one_of_front false k ns n sort h = one_all k ns n sort h
+
 one_more : (ns : List (Name × Named)) (x : Name × Named) (n : ℕ) (sort : Sort)
     → is_one_of (constants_among ns) n sort ≡ true → is_one_of (constants_among (ns ++ x ∷ [])) n sort ≡ true
 one_more ns x n sort h =
@@ -210,14 +218,15 @@ one_more ns x n sort h =
     ∙ one_front (constants_among ns) (constants_among (x ∷ [])) n sort h
 
 -- all assertions speak of live constants
-all_theirs : (ls : List Level) (ns : List (Name × Named)) (bs : List meaning.Assertion)
-    → speak_of_theirs ls ns bs ≡ true → list_all (asserts_of (constants_among ns)) bs ≡ true
-all_theirs [] ns bs h = h
-all_theirs (l ∷ ls) ns bs h =
+all_theirs : (global : Bool) (ls : List Level) (ns : List (Name × Named)) (bs : List meaning.Assertion)
+    → speak_of_theirs global ls ns bs ≡ true → list_all (asserts_of (constants_among ns)) bs ≡ true
+all_theirs global [] ns bs h = h
+all_theirs global (l ∷ ls) ns bs h =
+    let front : List (Name × Named) = front_names global l.names ns in
     let parts = and_parts (list_all (asserts_of (constants_among ns)) (drop l.assertions bs))
-    (speak_of_theirs ls (take l.names ns) (take l.assertions bs)) h in
-    let below = asserts_more (constants_among (take l.names ns)) (constants_among ns) (one_all l.names ns)
-    (take l.assertions bs) (all_theirs ls (take l.names ns) (take l.assertions bs) parts.1) in
+    (speak_of_theirs global ls front (take l.assertions bs)) h in
+    let below = asserts_more (constants_among front) (constants_among ns) (one_of_front global l.names ns)
+    (take l.assertions bs) (all_theirs global ls front (take l.assertions bs) parts.1) in
     ap (list_all (asserts_of (constants_among ns))) (sym (take-append-drop l.assertions bs))
     ∙ list_all-append (asserts_of (constants_among ns)) (take l.assertions bs) (drop l.assertions bs)
     ∙ and_from _ _ below parts.0
@@ -230,57 +239,79 @@ terms_speak ns (meaning.asserted t ∷ bs) h =
     and_from (speaks_of ns t) (list_all (speaks_of ns) (terms_in bs)) parts.0 (terms_speak ns bs parts.1)
 terms_speak ns (meaning.a_mark ∷ bs) h = terms_speak ns bs h
 
-pub live_speak : (ls : List Level) (ns : List (Name × Named)) (bs : List meaning.Assertion)
-    → speak_of_theirs ls ns bs ≡ true → list_all (speaks_of (constants_among ns)) (terms_in bs) ≡ true
-live_speak ls ns bs h = terms_speak (constants_among ns) bs (all_theirs ls ns bs h)
+pub live_speak : (global : Bool) (ls : List Level) (ns : List (Name × Named)) (bs : List meaning.Assertion)
+    → speak_of_theirs global ls ns bs ≡ true → list_all (speaks_of (constants_among ns)) (terms_in bs) ≡ true
+live_speak global ls ns bs h = terms_speak (constants_among ns) bs (all_theirs global ls ns bs h)
 
 -- one more name
-pub theirs_name : (ls : List Level) (ns : List (Name × Named)) (bs : List meaning.Assertion) (x : Name × Named)
-    → are_nested ls (length ns) (length bs) ≡ true → speak_of_theirs ls ns bs ≡ true
-    → speak_of_theirs ls (ns ++ x ∷ []) bs ≡ true
-theirs_name [] ns bs x nested h = asserts_more (constants_among ns) (constants_among (ns ++ x ∷ [])) (one_more ns x) bs h
-theirs_name (l ∷ ls) ns bs x nested h =
-    let head = nested_head l ls (length ns) (length bs) nested in
+pub theirs_name : (global : Bool) (ls : List Level) (ns : List (Name × Named)) (bs : List meaning.Assertion)
+    (x : Name × Named) → are_nested ls (length ns) (length bs) ≡ true → speak_of_theirs global ls ns bs ≡ true
+    → speak_of_theirs global ls (ns ++ x ∷ []) bs ≡ true
+theirs_name global [] ns bs x nested h =
+    asserts_more (constants_among ns) (constants_among (ns ++ x ∷ [])) (one_more ns x) bs h
+theirs_name true (l ∷ ls) ns bs x nested h =
     let parts = and_parts (list_all (asserts_of (constants_among ns)) (drop l.assertions bs))
-    (speak_of_theirs ls (take l.names ns) (take l.assertions bs)) h in
+    (speak_of_theirs true ls ns (take l.assertions bs)) h in
     and_from _ _
     (asserts_more (constants_among ns) (constants_among (ns ++ x ∷ [])) (one_more ns x) (drop l.assertions bs) parts.0)
-    (ap (λ xs. speak_of_theirs ls xs (take l.assertions bs)) (take-append-le l.names ns (x ∷ []) head.0) ∙ parts.1)
+    (theirs_name true ls ns (take l.assertions bs) x (nested_left true l ls ns bs nested) parts.1)
+theirs_name false (l ∷ ls) ns bs x nested h =
+    let head = nested_head l ls (length ns) (length bs) nested in
+    let parts = and_parts (list_all (asserts_of (constants_among ns)) (drop l.assertions bs))
+    (speak_of_theirs false ls (take l.names ns) (take l.assertions bs)) h in
+    and_from _ _
+    (asserts_more (constants_among ns) (constants_among (ns ++ x ∷ [])) (one_more ns x) (drop l.assertions bs) parts.0)
+    (ap (λ xs. speak_of_theirs false ls xs (take l.assertions bs)) (take-append-le l.names ns (x ∷ []) head.0) ∙ parts.1)
 
 -- one more assertion, which speaks of live constants
-pub theirs_assertion : (ls : List Level) (ns : List (Name × Named)) (bs : List meaning.Assertion)
+pub theirs_assertion : (global : Bool) (ls : List Level) (ns : List (Name × Named)) (bs : List meaning.Assertion)
     (a : meaning.Assertion) → are_nested ls (length ns) (length bs) ≡ true
-    → asserts_of (constants_among ns) a ≡ true → speak_of_theirs ls ns bs ≡ true
-    → speak_of_theirs ls ns (bs ++ a ∷ []) ≡ true
-theirs_assertion [] ns bs a nested here h =
+    → asserts_of (constants_among ns) a ≡ true → speak_of_theirs global ls ns bs ≡ true
+    → speak_of_theirs global ls ns (bs ++ a ∷ []) ≡ true
+theirs_assertion global [] ns bs a nested here h =
     list_all-append (asserts_of (constants_among ns)) bs (a ∷ [])
     ∙ and_from _ _ h (and_from (asserts_of (constants_among ns) a) true here refl)
-theirs_assertion (l ∷ ls) ns bs a nested here h =
+theirs_assertion global (l ∷ ls) ns bs a nested here h =
     let head = nested_head l ls (length ns) (length bs) nested in
+    let front : List (Name × Named) = front_names global l.names ns in
     let test : meaning.Assertion → Bool = asserts_of (constants_among ns) in
     let parts = and_parts (list_all test (drop l.assertions bs))
-    (speak_of_theirs ls (take l.names ns) (take l.assertions bs)) h in
+    (speak_of_theirs global ls front (take l.assertions bs)) h in
     and_from _ _
     (ap (list_all test) (drop-append-le l.assertions bs (a ∷ []) head.1)
     ∙ list_all-append test (drop l.assertions bs) (a ∷ [])
     ∙ and_from _ _ parts.0 (and_from (test a) true here refl))
-    (ap (speak_of_theirs ls (take l.names ns)) (take-append-le l.assertions bs (a ∷ []) head.1) ∙ parts.1)
+    (ap (speak_of_theirs global ls front) (take-append-le l.assertions bs (a ∷ []) head.1) ∙ parts.1)
 
 -- some more levels
-pub theirs_pushed : (n : ℕ) (l : Level) (ls : List Level) (ns : List (Name × Named)) (bs : List meaning.Assertion)
-    → l.names ≡ length ns → l.assertions ≡ length bs → speak_of_theirs ls ns bs ≡ true
-    → speak_of_theirs (replicate n l ++ ls) ns bs ≡ true
-theirs_pushed zero l ls ns bs all here h = h
-theirs_pushed (suc n) l ls ns bs all here h =
-    let names : take l.names ns ≡ ns = ap (λ k. take k ns) all ∙ take-length ns in
+pub theirs_pushed : (global : Bool) (n : ℕ) (l : Level) (ls : List Level) (ns : List (Name × Named))
+    (bs : List meaning.Assertion) → l.names ≡ length ns → l.assertions ≡ length bs
+    → speak_of_theirs global ls ns bs ≡ true → speak_of_theirs global (replicate n l ++ ls) ns bs ≡ true
+theirs_pushed global zero l ls ns bs all here h = h
+theirs_pushed global (suc n) l ls ns bs all here h =
+    let names : front_names global l.names ns ≡ ns = front_all global l.names ns all in
     let assertions : take l.assertions bs ≡ bs = ap (λ k. take k bs) here ∙ take-length bs in
     let no_assertions : drop l.assertions bs ≡ [] = ap (λ k. drop k bs) here ∙ drop-length bs in
     and_from _ _ (ap (list_all (asserts_of (constants_among ns))) no_assertions)
-    (ap₂ (speak_of_theirs (replicate n l ++ ls)) names assertions ∙ theirs_pushed n l ls ns bs all here h)
+    (ap₂ (speak_of_theirs global (replicate n l ++ ls)) names assertions
+    ∙ theirs_pushed global n l ls ns bs all here h)
 
-pub theirs_left : (l : Level) (ls : List Level) (ns : List (Name × Named)) (bs : List meaning.Assertion)
-    → speak_of_theirs (l ∷ ls) ns bs ≡ true
-    → speak_of_theirs ls (take l.names ns) (take l.assertions bs) ≡ true
-theirs_left l ls ns bs h =
+pub theirs_left : (global : Bool) (l : Level) (ls : List Level) (ns : List (Name × Named))
+    (bs : List meaning.Assertion) → speak_of_theirs global (l ∷ ls) ns bs ≡ true
+    → speak_of_theirs global ls (front_names global l.names ns) (take l.assertions bs) ≡ true
+theirs_left global l ls ns bs h =
     (and_parts (list_all (asserts_of (constants_among ns)) (drop l.assertions bs))
-    (speak_of_theirs ls (take l.names ns) (take l.assertions bs)) h).1
+    (speak_of_theirs global ls (front_names global l.names ns) (take l.assertions bs)) h).1
+
+-- whether names are global or not, where there are none
+pub theirs_nothing : (old new : Bool) (ls : List Level) (bs : List meaning.Assertion)
+    → speak_of_theirs old ls [] bs ≡ true → speak_of_theirs new ls [] bs ≡ true
+theirs_nothing old new [] bs h = h
+theirs_nothing old new (l ∷ ls) bs h =
+    let none : List (Name × Named) = [] in
+    let parts = and_parts (list_all (asserts_of []) (drop l.assertions bs))
+    (speak_of_theirs old ls (front_names old l.names none) (take l.assertions bs)) h in
+    and_from _ _ parts.0
+    (ap (λ ns. speak_of_theirs new ls ns (take l.assertions bs)) (none_in_front new l.names)
+    ∙ theirs_nothing old new ls (take l.assertions bs)
+    (ap (λ ns. speak_of_theirs old ls ns (take l.assertions bs)) (sym (none_in_front old l.names)) ∙ parts.1))

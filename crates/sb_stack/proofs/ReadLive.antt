@@ -1,8 +1,9 @@
 -- A term that is read over the names of a scope speaks of its constants alone.
-use Rattle.std.proofs.Common.{◌≡◌, ℕ, zero, suc, ◌+◌, ◌<◌, Bool, true, false, if◌then◌else◌, nat_le, List, [], ◌∷◌, map, length, slice_get, unwrap_or, Result, Ok, Err, IfOk, refl}
+use Rattle.std.proofs.Common.{◌≡◌, ℕ, zero, suc, ◌+◌, ◌<◌, Bool, true, false, if◌then◌else◌, nat_le, List, [], ◌∷◌, ◌++◌, map, length, slice_get, unwrap_or, Result, Ok, Err, IfOk, refl, ◌∙◌}
 use Rattle.std.specs.Prelude.{is_some}
 use Rattle.std.specs.List.{list_all}
 use Rattle.std.proofs.lemmas.Bool.{and_parts, and_from}
+use Rattle.std.proofs.lemmas.List.Folds.{list_all-append}
 use Rattle.sb_word.specs.LiteralWords.{word_of_literal, first_bad}
 use Rattle.sb_reader.specs.Forms.{Form}
 use Rattle.sb_meaning.specs.Terms.{Sort, Symbol, Term, Terms, constant, word, numeral, apply, parameter, no_terms, with_term, terms_of}
@@ -15,12 +16,17 @@ use Rattle.sb_script.specs.Reading.{read}
 use Rattle.sb_script.specs.ReadingLaws.{if_read, IsKept, passes, ReadingKeeps}
 use Rattle.sb_sorts.specs.declared.scope.Named.{Named}
 use Rattle.sb_sorts.specs.declared.scope.Named.TheVariants as code
+use Rattle.sb_script.specs.Scopes.{Naming}
 use Rattle.sb_sorts.specs.declared.read.ReadFault.{ReadFault}
+use Rattle.sb_sorts.specs.declared.read.Parameter.{Parameter}
+use Rattle.sb_sorts.specs.Binding.{bound_in}
 use Rattle.sb_sorts.specs.Reads.{ReadsAs}
 use Rattle.sb_sorts.specs.Scopes.{ScopeNames, naming_in, names_in, constants_among, serials_in, ascend_below}
 use Rattle.sb_term.specs.Numbered.{term_at}
 use Rattle.sb_term.specs.Symbols.{sort_in}
 use Rattle.sb_stack.specs.Speaking.{is_one_of, speaks_of, speak_of}
+use Rattle.sb_stack.specs.Keeping.{kind_speaks, speak_before}
+use Rattle.sb_stack.proofs.Bodies.{all_bodies}
 use Rattle.sb_stack.proofs.Live.{one_first, one_later, rest_ascends}
 
 -- a test of terms that looks at no parameters
@@ -92,31 +98,47 @@ speaking_is_kept ns = record {
   definitions = λ parameters own body ts h all taken. body_speaks ns ts all body h;
 }
 
--- the names of a scope stand for its constants, beside others
-all_pass : (from bound : ℕ) (ns : List (Name × Named)) (cs : List (ℕ × Sort))
+-- the names of a scope stand for its constants, beside others, and for bodies that speak of them
+all_pass : (from bound : ℕ) (ns : List (Name × Named)) (cs : List (ℕ × Sort)) (table : List Term)
     → ascend_below from bound (serials_in ns) ≡ true
     → ((n : ℕ) (sort : Sort) → is_one_of (constants_among ns) n sort ≡ true → is_one_of cs n sort ≡ true)
-    → list_all (λ n. passes (over_any cs) (is_one_of cs) [] n.1) (map naming_in ns) ≡ true
-all_pass from bound [] cs h more = refl
-all_pass from bound ((name, code.Constant serial sort) ∷ ns) cs h more =
+    → list_all (λ n. kind_speaks cs table n.1) ns ≡ true
+    → list_all (λ n. passes (over_any cs) (is_one_of cs) [] n.1) (map (naming_in table) ns) ≡ true
+all_pass from bound [] cs table h more bodies = refl
+all_pass from bound ((name, code.Constant serial sort) ∷ ns) cs table h more bodies =
     and_from (is_one_of cs serial.0 (sort_in sort)) _
     (more serial.0 (sort_in sort) (one_first serial.0 (sort_in sort) (constants_among ns)))
-    (all_pass (serial.0 + 1) bound ns cs (rest_ascends from bound serial.0 (serials_in ns) h)
-    (λ n k one. more n k (one_later from bound serial.0 (sort_in sort) (constants_among ns) n k h one)))
-all_pass from bound ((name, code.Marked) ∷ ns) cs h more = all_pass from bound ns cs h more
+    (all_pass (serial.0 + 1) bound ns cs table (rest_ascends from bound serial.0 (serials_in ns) h)
+    (λ n k one. more n k (one_later from bound serial.0 (sort_in sort) (constants_among ns) n k h one)) bodies)
+all_pass from bound ((name, code.Definition d) ∷ ns) cs table h more bodies =
+    let parts = and_parts (speaks_of cs (term_at table d.body))
+    (list_all (λ (n : Name × Named). kind_speaks cs table n.1) ns) bodies in
+    and_from (speaks_of cs (term_at table d.body)) _ parts.0 (all_pass from bound ns cs table h more parts.1)
+all_pass from bound ((name, code.Marked) ∷ ns) cs table h more bodies =
+    all_pass from bound ns cs table h more bodies
 
-pub read_speaks : ReadingKeeps → (bound : ℕ) (ns : List (Name × Named)) (form : Form) (t : Term)
-    → ascend_below 0 bound (serials_in ns) ≡ true → read (map naming_in ns) form ≡ Ok t
-    → speaks_of (constants_among ns) t ≡ true
-read_speaks keeps bound ns form t h is =
-    keeps (over_any (constants_among ns)) (is_one_of (constants_among ns)) (speaking_is_kept (constants_among ns)) []
-    (map naming_in ns) (all_pass 0 bound ns (constants_among ns) h (λ n sort one. one)) form t is
+-- a parameter speaks of nothing
+parameters_pass : (place : ℕ) (ps : List Parameter) (cs : List (ℕ × Sort))
+    → list_all (λ n. passes (over_any cs) (is_one_of cs) [] n.1) (bound_in place ps) ≡ true
+parameters_pass place [] cs = refl
+parameters_pass place (p ∷ ps) cs = parameters_pass (place + 1) ps cs
+
+pub read_speaks : ReadingKeeps → (bound : ℕ) (ns : List (Name × Named)) (table : List Term) (ps : List Parameter)
+    (form : Form) (t : Term) → ascend_below 0 bound (serials_in ns) ≡ true → speak_before [] ns table ≡ true
+    → read (bound_in 0 ps ++ map (naming_in table) ns) form ≡ Ok t → speaks_of (constants_among ns) t ≡ true
+read_speaks keeps bound ns table ps form t h bodies is =
+    let cs : List (ℕ × Sort) = constants_among ns in
+    keeps (over_any cs) (is_one_of cs) (speaking_is_kept cs) [] (bound_in 0 ps ++ map (naming_in table) ns)
+    (list_all-append (λ (n : Naming). passes (over_any cs) (is_one_of cs) [] n.1) (bound_in 0 ps)
+    (map (naming_in table) ns)
+    ∙ and_from _ _ (parameters_pass 0 ps cs)
+    (all_pass 0 bound ns cs table h (λ n sort one. one) (all_bodies ns table bodies))) form t is
 
 -- the number of a term that was read stands for one that speaks of live constants
-pub read_stands : ReadingKeeps → (bound : ℕ) (scope : ScopeNames) (table : List Term) (form : Form)
-    (r : Result ℕ ReadFault) → ascend_below 0 bound (serials_in scope.names) ≡ true
-    → ReadsAs table (read (names_in scope) form) r
-    → IfOk r (λ id. (id < length table) × (speaks_of (constants_among scope.names) (term_at table id) ≡ true))
-read_stands keeps bound scope table form (Ok id) ascend h =
-    (h.1, read_speaks keeps bound scope.names form (term_at table id) ascend h.0)
-read_stands keeps bound scope table form (Err fault) ascend h = tt
+pub read_stands : ReadingKeeps → (bound : ℕ) (scope : ScopeNames) (table new : List Term) (ps : List Parameter)
+    (form : Form) (r : Result ℕ ReadFault) → ascend_below 0 bound (serials_in scope.names) ≡ true
+    → speak_before [] scope.names table ≡ true → ReadsAs new (read (bound_in 0 ps ++ names_in table scope) form) r
+    → IfOk r (λ id. (id < length new) × (speaks_of (constants_among scope.names) (term_at new id) ≡ true))
+read_stands keeps bound scope table new ps form (Ok id) ascend bodies h =
+    (h.1, read_speaks keeps bound scope.names table ps form (term_at new id) ascend bodies h.0)
+read_stands keeps bound scope table new ps form (Err fault) ascend bodies h = tt

@@ -1,8 +1,7 @@
 -- Private: the commands of the code, and the forms of a list, as the definitions have them.
-use Rattle.std.specs.Prelude.{ℕ, Bool, false, List, filter, Option, Some, None, codes}
-use Rattle.std.specs.List.{list_all}
+use Rattle.std.specs.Prelude.{ℕ, List, filter, Option, Some, None, codes}
 use Rattle.sb_reader.specs.declared.sexpr.Shapes.{Shapes}
-use Rattle.sb_reader.specs.Forms.{Form, Forms, Keyword, Numeral, Group, none, more, shape_of, shapes_in}
+use Rattle.sb_reader.specs.Forms.{Form, Forms, Keyword, Numeral, none, more, shape_of, shapes_in}
 use Rattle.sb_stack.specs.declared.command.Kind.{Kind}
 use Rattle.sb_stack.specs.declared.command.Kind.TheVariants as kind
 use Rattle.sb_stack.specs.declared.command.Command.{Command}
@@ -31,11 +30,6 @@ levels_in none = Some (codes "1")
 levels_in (more form none) = numeral_in form
 levels_in (more form (more next forms)) = None
 
--- a list of parameters
-abbrev pub is_parameter_list : Form → Bool
-is_parameter_list (Group parameters) = list_all meaning.is_parameter (meaning.list_of parameters)
-is_parameter_list _ = false
-
 abbrev pub command_in : Command → meaning.Command
 command_in (code.SetLogic name) = meaning.set_logic name.now
 command_in (code.SetOption key value) = meaning.set_option key.now (shape_of value)
@@ -44,6 +38,8 @@ command_in code.SetInfo = meaning.set_info
 command_in (code.GetInfo key) = meaning.get_info key.now
 command_in (code.DeclareConstant name sort) = meaning.declare_constant name.now (shape_of sort)
 command_in (code.DeclareFunction name) = meaning.declare_function name.now
+command_in (code.DefineFunction name parameters sort body) =
+    meaning.define_function name.now (meaning.parameters_of (forms_in parameters)) (shape_of sort) (shape_of body)
 command_in (code.Assert form) = meaning.assert (shape_of form)
 command_in (code.Push digits) = meaning.push (number_of digits.now)
 command_in (code.Pop digits) = meaning.pop (number_of digits.now)

@@ -6,3 +6,5 @@ pub mod Steps
 pub mod Taking
 pub mod Values
 pub mod Settings
+pub mod Refusing
+pub mod Defining

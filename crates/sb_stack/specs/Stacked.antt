@@ -73,26 +73,37 @@ abbrev pub assertion_in : List Term → Assertion → meaning.Assertion
 assertion_in ts a = assertion_of ts a.term
 
 -- the options, where those that scripts can't change yet are as at the start
-abbrev pub options_of : Bool → Bool → Bool → meaning.Options
-options_of print_success produce_models produce_unsat_assumptions = record {
+abbrev pub options_of : Bool → Bool → Bool → Bool → meaning.Options
+options_of print_success produce_models produce_unsat_assumptions global_declarations = record {
   print_success = print_success;
   produce_models = produce_models;
   produce_unsat_assumptions = produce_unsat_assumptions;
-  global_declarations = false;
+  global_declarations = global_declarations;
   resource_limit = 0;
 }
 
--- what names and assertions are of the first level
-abbrev pub first_level : List Level → List Naming → List meaning.Assertion → meaning.Level
-first_level [] names assertions = record { names = names; assertions = assertions }
-first_level (l ∷ ls) names assertions = first_level ls (take l.names names) (take l.assertions assertions)
+-- the names that were there before a level began with so many: all where names are global
+abbrev pub front_names : {A : Type 0} → Bool → ℕ → List A → List A
+front_names true n names = names
+front_names false n names = take n names
+
+-- and those of the level itself
+abbrev pub own_names : {A : Type 0} → Bool → ℕ → List A → List A
+own_names true n names = []
+own_names false n names = drop n names
+
+-- what names and assertions are of the first level, where names are global or not
+abbrev pub first_level : Bool → List Level → List Naming → List meaning.Assertion → meaning.Level
+first_level global [] names assertions = record { names = names; assertions = assertions }
+first_level global (l ∷ ls) names assertions =
+    first_level global ls (front_names global l.names names) (take l.assertions assertions)
 
 -- and of those above it, the innermost first
-abbrev pub levels_above : List Level → List Naming → List meaning.Assertion → List meaning.Level
-levels_above [] names assertions = []
-levels_above (l ∷ ls) names assertions =
-    record { names = drop l.names names; assertions = drop l.assertions assertions }
-    ∷ levels_above ls (take l.names names) (take l.assertions assertions)
+abbrev pub levels_above : Bool → List Level → List Naming → List meaning.Assertion → List meaning.Level
+levels_above global [] names assertions = []
+levels_above global (l ∷ ls) names assertions =
+    record { names = own_names global l.names names; assertions = drop l.assertions assertions }
+    ∷ levels_above global ls (front_names global l.names names) (take l.assertions assertions)
 
 -- each assertion has the number of its level, 0 of the first one
 abbrev pub have_levels : List Level → List Assertion → Bool
@@ -105,11 +116,14 @@ abbrev pub state_of : Stacked → meaning.State
 state_of kept = record {
   logic_set = kept.logic_set;
   begun = kept.begun;
-  options = options_of kept.print_success kept.produce_models kept.produce_unsat_assumptions;
+  options =
+      options_of kept.print_success kept.produce_models kept.produce_unsat_assumptions kept.scope.global;
   sorts = map sort_in kept.scope.sorts;
   mode = mode_in (live_constants kept) kept.words kept.truths kept.mode;
-  first = first_level kept.levels (names_in kept.scope) (map (assertion_in kept.table) kept.assertions);
-  above = levels_above kept.levels (names_in kept.scope) (map (assertion_in kept.table) kept.assertions);
+  first = first_level kept.scope.global kept.levels (names_in kept.table kept.scope)
+      (map (assertion_in kept.table) kept.assertions);
+  above = levels_above kept.scope.global kept.levels (names_in kept.table kept.scope)
+      (map (assertion_in kept.table) kept.assertions);
 }
 
 -- the number of the assertion's term, where it is no mark, is below this

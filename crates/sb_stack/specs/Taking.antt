@@ -1,5 +1,5 @@
 -- Private: what the parts of taking a command do: for private contracts alone.
-use Rattle.std.specs.Prelude.{ℕ, Bool, true, false, if◌then◌else◌, List, Some, None, Result, Ok, Err}
+use Rattle.std.specs.Prelude.{ℕ, Bool, if◌then◌else◌, List, Some, None, Result, Ok, Err}
 use Rattle.std.specs.declared.vec.Vec.{Vec}
 use Rattle.std.specs.declared.alloc.Global.{Global}
 use Rattle.sb_script.specs.Names.{Name}
@@ -13,7 +13,6 @@ use Rattle.sb_script.specs.Steps.{Step, fails_by, succeeds, refused_term}
 use Rattle.sb_script.specs.Replies.{Item, some_malformed, first_unknown, values_of}
 use Rattle.sb_stack.specs.declared.stack.Step as taken
 use Rattle.sb_stack.specs.declared.stack.Step.TheVariants as code
-use Rattle.sb_stack.specs.Stacked.{Stacked}
 use Rattle.sb_stack.specs.Steps.{IsStep}
 
 -- the step that the definitions have is an answer, these bytes
@@ -34,6 +33,9 @@ with_produce_models s b = record s { options = record s.options { produce_models
 abbrev pub with_produce_assumptions : State → Bool → State
 with_produce_assumptions s b = record s { options = record s.options { produce_unsat_assumptions = b } }
 
+abbrev pub with_global_declarations : State → Bool → State
+with_global_declarations s b = record s { options = record s.options { global_declarations = b } }
+
 -- a constant of this sort is declared
 abbrev pub declares : Name → Sort → State → Step
 declares name sort s = if is_taken (names_of s) name then fails_by (error.already_declared name) s
@@ -52,13 +54,3 @@ abbrev pub asks : List Item → State → Step
 asks items s =
     if some_malformed items then fails_by error.malformed_command s
     else elim (first_unknown items) [ Some name ↦ fails_by (error.unknown_symbol name) s | None ↦ values_of items s ]
-
--- no logic is set, nothing is begun, and options are as at the start
-abbrev pub at_start : Stacked → Stacked
-at_start kept = record kept {
-  logic_set = false;
-  begun = false;
-  print_success = true;
-  produce_models = false;
-  produce_unsat_assumptions = false;
-}

@@ -36,7 +36,7 @@ impl Stack {
         }
     }
 
-    /// The value of an option. Declarations are never global.
+    /// The value of an option.
     fn value_of(&self, setting: Setting) -> bool
         ensures { truth_text result ≡ text_in setting (state_of self.now) }
     {
@@ -44,7 +44,7 @@ impl Stack {
             Setting::PrintSuccess => self.print_success,
             Setting::ProduceModels => self.produce_models,
             Setting::ProduceAssumptions => self.produce_unsat_assumptions,
-            Setting::GlobalDeclarations => false,
+            Setting::GlobalDeclarations => self.scope.is_global(),
         }
     }
 

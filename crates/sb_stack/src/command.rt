@@ -2,10 +2,10 @@
 
 ghost use Rattle.std.specs.Prelude.{◌≡◌, [], ◌∷◌, option_map, option_copied};
 ghost use Rattle.std.specs.List.{list_all};
-ghost use Rattle.sb_reader.specs.Forms.{Form, Group, form_of, shape_of, shapes_in};
+ghost use Rattle.sb_reader.specs.Forms.{Group, form_of, shape_of, shapes_in};
 ghost use Rattle.sb_script.specs.Commands as meaning;
 ghost use Rattle.sb_script.specs.Symbols.{found_in};
-ghost use Rattle.sb_stack.specs.Commands.{command_in, shape_in, answered_shapes, forms_in, keyword_in, numeral_in, levels_in, is_parameter_list};
+ghost use Rattle.sb_stack.specs.Commands.{command_in, shape_in, answered_shapes, forms_in, keyword_in, numeral_in, levels_in};
 
 use sb_reader::{Sexpr, Shape, Shapes};
 use sb_sorts::{is_reserved, look_up};
@@ -24,8 +24,15 @@ pub(crate) enum Command<'a> {
     GetInfo(&'a [u8]),
     /// The constant's name, and its sort.
     DeclareConstant(&'a [u8], Shape<'a>),
-    /// A declaration or definition of a function, which is left out.
+    /// A declaration of a function, which is left out.
     DeclareFunction(&'a [u8]),
+    /// The name that is defined, the parameters with their sorts, the sort of what is made of arguments, and the body.
+    DefineFunction {
+        name: &'a [u8],
+        parameters: Shapes<'a>,
+        sort: Shape<'a>,
+        body: Shape<'a>,
+    },
     Assert(Shape<'a>),
     /// So many levels, by the digits of their number.
     Push(&'a [u8]),
@@ -165,7 +172,7 @@ pub(crate) fn symbol_in(form: Shape<'_>) -> Option<&[u8]>
 }
 
 /// The name, where it may be declared: no reserved word, unless it is written between bars.
-fn declarable(form: Shape<'_>) -> Option<&[u8]>
+pub(crate) fn declarable(form: Shape<'_>) -> Option<&[u8]>
     ensures { option_copied result ≡ meaning.declarable (shape_of form.entry) }
 {
     match form {
@@ -259,16 +266,6 @@ fn are_items(forms: Shapes<'_>) -> bool
         left = behind;
     }
     true
-}
-
-/// A list of parameters.
-fn is_parameter_list(form: Shape<'_>) -> bool
-    ensures { result ≡ is_parameter_list (shape_of form.entry) }
-{
-    match form {
-        Shape::List(parameters) => are_parameters(parameters),
-        _ => false,
-    }
 }
 
 fn logic_shape(arguments: Shapes<'_>) -> Option<Command<'_>>
@@ -440,23 +437,49 @@ fn definition_shape(arguments: Shapes<'_>) -> Option<Command<'_>>
         return None;
     };
     match rest.pair() {
-        Some((sort, _)) => definition_of(name, parameters, sort),
+        Some((sort, body)) => definition_of(name, parameters, sort, body),
         None => None,
     }
 }
 
-/// A definition by its name, parameters and sort, whatever its body.
-fn definition_of<'a>(name: Shape<'a>, parameters: Shape<'_>, sort: Shape<'_>) -> Option<Command<'a>>
-    ensures { (body : Form)
-        → option_map command_in result
+/// A definition by its name, its parameters, its sort and its body.
+fn definition_of<'a>(
+    name: Shape<'a>,
+    parameters: Shape<'a>,
+    sort: Shape<'a>,
+    body: Shape<'a>,
+) -> Option<Command<'a>>
+    ensures { option_map command_in result
         ≡ meaning.definition_shape
-        (shape_of name.entry ∷ shape_of parameters.entry ∷ shape_of sort.entry ∷ body ∷ []) }
+        (shape_of name.entry ∷ shape_of parameters.entry ∷ shape_of sort.entry ∷ shape_of body.entry ∷ []) }
 {
-    if !is_parameter_list(parameters) || !is_sort(sort) {
+    match parameters {
+        Shape::List(parameters) => definition_from(name, parameters, sort, body),
+        _ => None,
+    }
+}
+
+/// A definition over a list of parameters.
+fn definition_from<'a>(
+    name: Shape<'a>,
+    parameters: Shapes<'a>,
+    sort: Shape<'a>,
+    body: Shape<'a>,
+) -> Option<Command<'a>>
+    ensures { option_map command_in result
+        ≡ meaning.definition_shape
+        (shape_of name.entry ∷ Group (shapes_in parameters.entry) ∷ shape_of sort.entry ∷ shape_of body.entry ∷ []) }
+{
+    if !are_parameters(parameters) || !is_sort(sort) {
         return None;
     }
     match declarable(name) {
-        Some(name) => Some(Command::DeclareFunction(name)),
+        Some(name) => Some(Command::DefineFunction {
+            name,
+            parameters,
+            sort,
+            body,
+        }),
         None => None,
     }
 }

@@ -1,13 +1,13 @@
 //! Levels that are opened and left, and the ways back to the start (SMT-LIB 2.6, sections 4.1.4 and 4.2.1).
 
 ghost use Rattle.std.specs.Prelude.{◌≡◌, ℕ, ◌+◌, ◌<◌, ◌++◌, [], length, reverse, replicate, true, false, nat_le, IfOk, OnOk, OnErr, MatchOption};
-ghost use Rattle.sb_script.specs.State.{pushed, popped, without_assertions};
+ghost use Rattle.sb_script.specs.State.{pushed, popped, without_assertions, start_behind};
 ghost use Rattle.sb_script.specs.Replies as meaning;
 ghost use Rattle.sb_script.specs.Texts.{number_of};
 ghost use Rattle.sb_stack.specs.Keeping.{Keeps, KeepsBy, Leaves};
 ghost use Rattle.sb_stack.specs.Stacked.{state_of};
 ghost use Rattle.sb_stack.specs.Steps.{IsStep};
-ghost use Rattle.sb_stack.specs.Taking.{IsAnswered, at_start};
+ghost use Rattle.sb_stack.specs.Taking.{IsAnswered};
 
 use crate::level::Level;
 use crate::reply::{error_line, success_line};
@@ -105,7 +105,7 @@ impl Stack {
         }
     }
 
-    /// Leaves all levels above the first one, and what stands on the first.
+    /// Leaves all levels above the first one, and what stands on the first, but for its names where they are to stay.
     pub(crate) fn reset_assertions(&mut self) -> Result<Step, AllocError>
         ensures ok { IfOk result
             (λ step. IsStep (meaning.reset_assertions (state_of self.old)) step (state_of self.old)
@@ -126,12 +126,11 @@ impl Stack {
         ensures keeps { KeepsBy result self.old self.new }
     {
         let answer = success_line(self.alloc, true)?;
-        self.leave_all();
-        self.forget();
+        self.start_again();
         Ok(Step::Left(answer, None))
     }
 
-    /// Takes all names and assertions back.
+    /// Takes all assertions back, and the names unless they are to stay.
     fn leave_all(&mut self)
         ensures state { state_of self.new ≡ without_assertions (state_of self.old) }
         ensures leaves { Leaves self.old self.new }
@@ -142,10 +141,15 @@ impl Stack {
         self.mode = Mode::Plain;
     }
 
-    /// Takes the logic and the options back.
-    fn forget(&mut self)
-        ensures { self.new ≡ at_start self.old }
+    /// Takes everything back but the serials.
+    fn start_again(&mut self)
+        ensures state { state_of self.new ≡ start_behind (state_of self.old).sorts }
+        ensures leaves { Leaves self.old self.new }
     {
+        self.scope.clear();
+        self.assertions.clear();
+        self.levels.clear();
+        self.mode = Mode::Plain;
         self.logic_set = false;
         self.begun = false;
         self.print_success = true;

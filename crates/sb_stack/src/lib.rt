@@ -10,10 +10,12 @@
 mod asking;
 mod command;
 mod constant;
+mod define;
 mod leaving;
 mod level;
 mod name;
 mod option;
+mod parameter;
 mod reply;
 mod stack;
 mod value;

@@ -6,7 +6,7 @@ ghost use Rattle.sb_script.specs.Brought.{is_brought_sort};
 ghost use Rattle.sb_script.specs.Options as meaning;
 ghost use Rattle.sb_script.specs.Steps.{line};
 ghost use Rattle.sb_script.specs.Symbols.{found_in};
-ghost use Rattle.sb_script.specs.Replies.{sort_of_form};
+ghost use Rattle.sb_script.specs.Replies.{sort_of_form, sort_in_definition};
 ghost use Rattle.sb_term.specs.Symbols.{sort_in};
 ghost use Rattle.sb_stack.specs.Settings.{set_in, text_in, kept_settings, kept_texts};
 
@@ -89,4 +89,16 @@ pub(crate) fn sort_of(sort: Shape<'_>) -> Option<Sort>
     ensures read { IfSome result (λ sort. is_brought_sort (sort_in sort) ≡ true) }
 {
     sort_named(symbol_in(sort)?)
+}
+
+/// The sort that a form names, where parameters, and what definitions make, may have it.
+pub(crate) fn sort_in_definition(sort: Shape<'_>) -> Option<Sort>
+    ensures { option_map sort_in result ≡ sort_in_definition (shape_of sort.entry) }
+{
+    let name = symbol_in(sort)?;
+    if name == b"RegLan".as_slice() {
+        Some(Sort::RegLan)
+    } else {
+        sort_named(name)
+    }
 }

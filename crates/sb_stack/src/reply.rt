@@ -1,12 +1,14 @@
 //! The lines that answer a command (SMT-LIB 2.6, section 4.2), each with its line feed.
 
-ghost use Rattle.std.specs.Prelude.{◌≡◌, ◌++◌, [], codes, if◌then◌else◌, IfOk};
+ghost use Rattle.std.specs.Prelude.{◌≡◌, ◌++◌, [], codes, if◌then◌else◌, Some, option_map, IfOk};
 ghost use Rattle.sb_script.specs.Names.{name_in_text};
 ghost use Rattle.sb_script.specs.Options.{truth_text};
 ghost use Rattle.sb_script.specs.Steps as meaning;
+ghost use Rattle.sb_stack.specs.Refusing.{fault_in, fault_text};
 
 use crate::name::push_name_in_text;
 use sb_reader::Refusal;
+use sb_sorts::ReadFault;
 use std::alloc::{AllocError, Global};
 
 /// `(error "message")`. Linear in the message.
@@ -43,6 +45,24 @@ pub(crate) fn refusal_text(refusal: Refusal) -> &'static [u8]
         Refusal::BadToken => b"bad token",
         Refusal::TooDeep => b"nesting deeper than 512",
         Refusal::BareToken => b"malformed command",
+    }
+}
+
+/// What is said of a form that is no term. Linear in the name that it tells.
+pub(crate) fn fault_line(alloc: Global, fault: &ReadFault) -> Result<Vec<u8>, AllocError>
+    ensures { IfOk result (λ text. Some text.items ≡ option_map fault_text (fault_in fault.now)) }
+{
+    match fault {
+        ReadFault::UnknownSymbol(name) => error_line_with_name(alloc, b"unknown symbol ", name),
+        ReadFault::AlreadyBound(name) => error_line_with_name(alloc, b"already declared ", name),
+        ReadFault::WrongSort => error_line(alloc, b"wrong sort"),
+        ReadFault::WrongCount => error_line(alloc, b"wrong number of arguments"),
+        ReadFault::BadIndex => error_line(alloc, b"bad index"),
+        ReadFault::NumeralTooLarge => error_line(alloc, b"numeral too large"),
+        ReadFault::BadLiteral => error_line(alloc, b"bad token"),
+        ReadFault::Malformed => error_line(alloc, b"malformed command"),
+        ReadFault::Unsupported => unsupported_line(alloc),
+        ReadFault::NoMemory => Err(AllocError),
     }
 }
 

@@ -19,6 +19,7 @@ ghost use Rattle.sb_sorts.specs.Reads.{ReadsAs, Faults};
 ghost use Rattle.sb_sorts.specs.Scopes.{names_in, serials_in, ascend_below, are_sorted};
 ghost use Rattle.sb_term.specs.Symbols.{sort_in};
 ghost use Rattle.sb_script.specs.Brought.{is_brought_sort};
+ghost use Rattle.sb_sorts.specs.Binding.{bound_in};
 ghost use Rattle.sb_term.specs.Numbered.{term_at, Extends};
 ghost use Rattle.sb_term.specs.Serials.{all_below};
 ghost use Rattle.sb_stack.specs.Commands.{command_in};
@@ -33,13 +34,14 @@ use crate::constant::LiveConstant;
 use crate::level::Level;
 use crate::option::{Setting, is_logic, setting_named, sort_of, truth_in};
 use crate::reply::{
-    error_line, error_line_with_name, quoted_line, refusal_text, success_line, unsupported_line,
+    error_line, error_line_with_name, fault_line, quoted_line, refusal_text, success_line,
+    unsupported_line,
 };
 use crate::value::live_constants;
 use crate::verdict::Verdict;
 use sb_reader::{Next, Sexpr, Shape};
 use sb_script::laws::reading_keeps;
-use sb_sorts::{DeclareError, ReadFault, Scope, read_term};
+use sb_sorts::{DeclareError, Parameter, ReadFault, Scope, read_body};
 use sb_term::{Assertion, Sort, Table, TermId};
 use sb_word::Word;
 use std::alloc::{AllocError, Global};
@@ -63,8 +65,8 @@ pub enum Step {
     Answer(Vec<u8>),
     /// A check is asked for: `settle` answers it.
     Check,
-    /// Levels are left, with what was declared and asserted there: it is answered by these bytes, and so many levels
-    /// above the first one are left. None: all names and assertions went.
+    /// Levels are left, with what was asserted there, and what was declared unless it is to stay: it is answered by these
+    /// bytes, and so many levels above the first one are left. None: all assertions went.
     Left(Vec<u8>, Option<usize>),
     /// The run ends, with these bytes as its last answer.
     Exit(Vec<u8>),
@@ -75,7 +77,7 @@ pub enum Step {
 pub struct Stack {
     pub(crate) alloc: Global,
     pub(crate) logic_set: bool,
-    /// A logic was set, or something declared or asserted.
+    /// A logic was set, or something declared, defined or asserted.
     pub(crate) begun: bool,
     pub(crate) print_success: bool,
     pub(crate) produce_models: bool,
@@ -118,7 +120,7 @@ impl Model for Stack {
       levels = reverse s.levels.items;
     } };
 
-    ghost invariant = { λ s. IsKept s.scope s.table s.assertions.items (reverse s.levels.items) };
+    ghost invariant = { λ s. IsKept s.begun s.scope s.table s.assertions.items (reverse s.levels.items) };
 }
 
 #[tactic(auto, using(crate::proofs::Changes::keeps_parts, crate::proofs::Changes::keeps_more))]
@@ -211,6 +213,12 @@ impl Stack {
             Command::GetInfo(key) => answered(self.get_info(key)),
             Command::DeclareConstant(name, sort) => answered(self.declare_constant(name, sort)),
             Command::DeclareFunction(name) => answered(self.declare_function(name)),
+            Command::DefineFunction {
+                name,
+                parameters,
+                sort,
+                body,
+            } => answered(self.define_function(name, parameters, sort, body)),
             Command::Assert(form) => answered(self.assert(form)),
             Command::Push(count) => answered(self.push(count)),
             Command::Pop(count) => self.pop(count),
@@ -336,20 +344,23 @@ impl Stack {
         Ok(answer)
     }
 
-    /// Sets `:global-declarations`, which is false and stays so.
-    fn set_global_declarations(&self, value: Shape<'_>) -> Result<Vec<u8>, AllocError>
-        ensures { IfOk result
-            (λ text. IsAnswered (options.set_global_declarations (shape_of value.entry) (state_of self.now)) text
-            (state_of self.now) (state_of self.now)) }
+    /// Sets `:global-declarations`, as long as there is no name.
+    fn set_global_declarations(&mut self, value: Shape<'_>) -> Result<Vec<u8>, AllocError>
+        ensures ok { IfOk result
+            (λ text. IsAnswered (options.set_global_declarations (shape_of value.entry) (state_of self.old)) text
+            (state_of self.old) (state_of self.new)) }
+        ensures err { OnErr result (state_of self.new ≡ state_of self.old) }
+        ensures keeps { Keeps self.old self.new }
     {
         if self.begun {
-            return self.fail(b"option set too late");
+            return error_line(self.alloc, b"option set too late");
         }
-        match truth_in(value) {
-            Some(true) => self.leave_out(),
-            Some(false) => self.succeed(),
-            None => self.fail(b"bad option value"),
-        }
+        let Some(global) = truth_in(value) else {
+            return error_line(self.alloc, b"bad option value");
+        };
+        let answer = success_line(self.alloc, self.print_success)?;
+        self.scope.set_global(global);
+        Ok(answer)
     }
 
     /// Succeeds, and changes nothing.
@@ -397,7 +408,7 @@ impl Stack {
     }
 
     /// Marks a name whose declaration or definition is left out.
-    fn declare_function(&mut self, name: &[u8]) -> Result<Vec<u8>, AllocError>
+    pub(crate) fn declare_function(&mut self, name: &[u8]) -> Result<Vec<u8>, AllocError>
         ensures ok { IfOk result
             (λ text. IsAnswered (meaning.declare_function name.now (state_of self.old)) text (state_of self.old)
             (state_of self.new)) }
@@ -425,22 +436,27 @@ impl Stack {
         ensures err { OnErr result (state_of self.new ≡ state_of self.old) }
         ensures keeps { Keeps self.old self.new }
     {
-        match self.read(form) {
+        match self.read(&[], form) {
             Ok(term) => self.assert_term(term),
             Err(fault) => self.refuse_term(&fault),
         }
     }
 
-    /// Reads a term. Only the table grows.
-    fn read(&mut self, form: Shape<'_>) -> Result<TermId, ReadFault>
-        ensures reads { ReadsAs self.new.table (read (names_of (state_of self.old)) (shape_of form.entry)) result }
+    /// Reads a term over parameters and the names in force. Only the table grows.
+    pub(crate) fn read(
+        &mut self,
+        parameters: &[Parameter<'_>],
+        form: Shape<'_>,
+    ) -> Result<TermId, ReadFault>
+        ensures reads { ReadsAs self.new.table
+            (read (bound_in 0 parameters.now ++ names_of (state_of self.old)) (shape_of form.entry)) result }
         ensures stands { IfOk result (λ term. StandsFor self.new (Some term)) }
         ensures state { state_of self.new ≡ state_of self.old }
         ensures keeps { Keeps self.old self.new }
     {
         reading_keeps();
         let _declared = self.scope.declared();
-        read_term(self.alloc, &mut self.table, &self.scope, form)
+        read_body(self.alloc, &mut self.table, &self.scope, parameters, form)
     }
 
     fn assert_term(&mut self, term: TermId) -> Result<Vec<u8>, AllocError>
@@ -467,15 +483,8 @@ impl Stack {
         ensures keeps { Keeps self.old self.new }
     {
         match fault {
-            ReadFault::UnknownSymbol(name) => self.fail_with_name(b"unknown symbol ", name),
-            ReadFault::WrongSort => self.fail(b"wrong sort"),
-            ReadFault::WrongCount => self.fail(b"wrong number of arguments"),
-            ReadFault::BadIndex => self.fail(b"bad index"),
-            ReadFault::NumeralTooLarge => self.fail(b"numeral too large"),
             ReadFault::Unsupported => self.leave_mark(),
-            ReadFault::BadLiteral => self.fail(b"bad token"),
-            ReadFault::Malformed => self.fail(b"malformed command"),
-            ReadFault::NoMemory => Err(AllocError),
+            _ => fault_line(self.alloc, fault),
         }
     }
 
@@ -565,7 +574,7 @@ impl Stack {
     pub fn declared(&self) -> usize
         ensures value { result ≡ length self.now.scope.sorts }
         ensures serials { ascend_below 0 result (serials_in self.now.scope.names) ≡ true }
-        ensures constants { constants_of (state_of self.now) ≡ constants_in (names_in self.now.scope) }
+        ensures constants { constants_of (state_of self.now) ≡ constants_in (names_in self.now.table self.now.scope) }
         ensures fit { (words : List (List ℕ)) (truths : List Bool) → are_words words ≡ true
             → fits (constants_of (state_of self.now)) (values_at (live_constants self.now) words truths) ≡ true }
     {

@@ -1,6 +1,6 @@
 //! Constants with their values, and what is asked for (SMT-LIB 2.6, section 4.2.6).
 
-ghost use Rattle.std.specs.Prelude.{◌≡◌, ◌++◌, pos, [], false, map, option_map, option_copied, get_or, IfOk, OnOk};
+ghost use Rattle.std.specs.Prelude.{◌≡◌, ◌++◌, pos, List, [], false, map, option_map, option_copied, get_or, IfOk, OnOk};
 ghost use Rattle.sb_reader.specs.Forms.{shape_of, Symbol};
 ghost use Rattle.sb_word.specs.Literals.{literal_text};
 ghost use Rattle.sb_script.specs.Scopes.{constants_in};
@@ -9,6 +9,7 @@ ghost use Rattle.sb_script.specs.Steps.{line, list_text};
 ghost use Rattle.sb_sorts.specs.Scopes.{names_in, constants_among};
 ghost use Rattle.sb_meaning.specs.Printed.{printed};
 ghost use Rattle.sb_meaning.specs.Terms as terms;
+ghost use Rattle.sb_meaning.specs.Terms.{Term};
 ghost use Rattle.sb_meaning.specs.Values.{Int, Truth};
 ghost use Rattle.sb_term.specs.Symbols.{sort_in};
 ghost use Rattle.sb_stack.specs.Stacked.{live_in};
@@ -45,7 +46,8 @@ pub(crate) enum Item<'a> {
 
 /// The constants of a scope, in the order of declaration. Linear in the names.
 pub(crate) fn constants(alloc: Global, scope: &Scope) -> Result<Vec<Constant<'_>>, AllocError>
-    ensures { IfOk result (λ found. map constant_in found.items ≡ constants_in (names_in scope.now)) }
+    ensures { IfOk result
+        (λ found. (ts : List Term) → map constant_in found.items ≡ constants_in (names_in ts scope.now)) }
 {
     let mut found = Vec::new(alloc);
     for place in 0..scope.len() {
@@ -53,7 +55,11 @@ pub(crate) fn constants(alloc: Global, scope: &Scope) -> Result<Vec<Constant<'_>
             unreachable!();
         };
         if let Named::Constant(serial, sort) = named {
-            found.push(Constant { name, serial, sort })?;
+            found.push(Constant {
+                name,
+                serial: *serial,
+                sort: *sort,
+            })?;
         }
     }
     Ok(found)
@@ -69,7 +75,10 @@ pub(crate) fn live_constants(alloc: Global, scope: &Scope) -> Result<Vec<LiveCon
             unreachable!();
         };
         if let Named::Constant(serial, sort) = named {
-            found.push(LiveConstant { serial, sort })?;
+            found.push(LiveConstant {
+                serial: *serial,
+                sort: *sort,
+            })?;
         }
     }
     Ok(found)
@@ -77,10 +86,15 @@ pub(crate) fn live_constants(alloc: Global, scope: &Scope) -> Result<Vec<LiveCon
 
 /// What a name is among asked items.
 fn item_named<'a>(scope: &Scope, name: &'a [u8]) -> Item<'a>
-    ensures { item_in result ≡ meaning.item_named (with_names (names_in scope.now)) name.now }
+    ensures { (ts : List Term) → item_in result ≡ meaning.item_named (with_names (names_in ts scope.now)) name.now }
 {
     match scope.named(name) {
-        Some(Named::Constant(serial, sort)) => Item::Constant(Constant { name, serial, sort }),
+        Some(Named::Constant(serial, sort)) => Item::Constant(Constant {
+            name,
+            serial: *serial,
+            sort: *sort,
+        }),
+        Some(Named::Definition(_)) => Item::Other,
         Some(Named::Marked) => Item::Other,
         None if is_theory_name(name) => Item::Other,
         None => Item::Unknown(name),
@@ -89,7 +103,8 @@ fn item_named<'a>(scope: &Scope, name: &'a [u8]) -> Item<'a>
 
 /// What a symbol that was not written between bars is among asked items.
 fn item_bare<'a>(scope: &Scope, name: &'a [u8]) -> Item<'a>
-    ensures { item_in result ≡ meaning.item_of (with_names (names_in scope.now)) (Symbol name.now) }
+    ensures { (ts : List Term)
+        → item_in result ≡ meaning.item_of (with_names (names_in ts scope.now)) (Symbol name.now) }
 {
     if begins_term(name) {
         Item::Other
@@ -101,7 +116,8 @@ fn item_bare<'a>(scope: &Scope, name: &'a [u8]) -> Item<'a>
 }
 
 fn item_of<'a>(scope: &Scope, form: Shape<'a>) -> Item<'a>
-    ensures { item_in result ≡ meaning.item_of (with_names (names_in scope.now)) (shape_of form.entry) }
+    ensures { (ts : List Term)
+        → item_in result ≡ meaning.item_of (with_names (names_in ts scope.now)) (shape_of form.entry) }
 {
     match form {
         Shape::Symbol(name) => item_bare(scope, name),
@@ -117,8 +133,8 @@ pub(crate) fn items<'a>(
     forms: Shapes<'a>,
 ) -> Result<Vec<Item<'a>>, AllocError>
     ensures { IfOk result
-        (λ found. map item_in found.items
-        ≡ map (meaning.item_of (with_names (names_in scope.now))) (forms_in forms.entry)) }
+        (λ found. (ts : List Term) → map item_in found.items
+        ≡ map (meaning.item_of (with_names (names_in ts scope.now))) (forms_in forms.entry)) }
 {
     let mut found = Vec::new(alloc);
     let mut left = forms;

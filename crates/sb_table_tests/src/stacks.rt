@@ -1,6 +1,7 @@
 //! Verdicts that no program gives, why they are given, words that are taken, and large forms.
 
 ghost use Rattle.std.specs.Prelude.{◌≡◌, false};
+ghost use Rattle.sb_sorts.specs.Scopes.{AreBodies};
 
 use sb_reader::{Feed, Next, Sexpr, Shape};
 use sb_sorts::{Scope, read_term};
@@ -171,7 +172,9 @@ fn put_piece(bytes: &mut Vec<u8>, piece: &[u8], times: usize) -> Result<(), Allo
 }
 
 /// How many terms there are after a command's form is read, and how many arguments the last has.
-fn counts_of(alloc: Global, table: &mut Table, scope: &Scope, command: &Sexpr) -> (usize, usize) {
+fn counts_of(alloc: Global, table: &mut Table, scope: &Scope, command: &Sexpr) -> (usize, usize)
+    requires { AreBodies table.old scope.now }
+{
     let Shape::List(forms) = command.shape() else {
         return (0, 0);
     };
@@ -195,7 +198,8 @@ fn count(
     scope: &Scope,
     bytes: &[u8],
 ) -> Result<(usize, usize), AllocError>
-    requires { feed.old.1 ≡ false }
+    requires pushed { feed.old.1 ≡ false }
+    requires bodies { AreBodies table.old scope.now }
 {
     feed.push(bytes)?;
     let command = feed.next()?;

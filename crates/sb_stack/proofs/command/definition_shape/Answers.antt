@@ -8,7 +8,7 @@ pub returns-in-Some-pair : goal.returns-in-Some-pair
 returns-in-Some-pair c =
     let name = shape_of c.in-Some.name in
     let parameters = shape_of c.in-Some-split_first.parameters in
-    c.definition_of.ensures (shape_of c.in-Some-pair.field-0-1)
+    c.definition_of.ensures
     ∙ ap (of_pair (λ f g. meaning.definition_shape (name ∷ parameters ∷ f ∷ g ∷ []))) c.in-Some-pair.ensures
     ∙ sym (ap (λ fs. meaning.definition_shape (meaning.list_of fs))
     (c.in-Some.ensures ∙ ap (more name) c.in-Some-split_first.ensures)

@@ -1,4 +1,5 @@
-use Rattle.std.proofs.Common.{ap}
+use Rattle.std.proofs.Common.{◌++◌, map, sym, ap, ◌∙◌}
+use Rattle.std.proofs.lemmas.List.{append-nil}
 use Rattle.sb_reader.specs.Forms.{shape_of, shapes_in}
 use Rattle.sb_script.specs.Commands.{list_of}
 use Rattle.sb_script.specs.Replies.{item_of}
@@ -8,7 +9,14 @@ use Rattle.sb_stack.proofs.Items.{items_step}
 use Rattle.sb_stack.proofs.value.items.Goals as goal
 
 pub loop-form-preserved : goal.loop-form-preserved
-loop-form-preserved c =
-    items_step item_in (item_of (with_names (names_in c.args.scope.now))) c.loop-form.found.items c.push.new.self.items
+loop-form-preserved c = λ ts.
+    items_step item_in (item_of (with_names (names_in ts c.args.scope.now))) c.loop-form.found.items c.push.new.self.items
     c.item_of.result (shape_of c.in-Some.form) _ (list_of (shapes_in c.in-Some.behind)) _ c.in_ok-push.ensures.items
-    c.item_of.ensures (ap list_of c.in-Some.ensures) c.loop-form.invariant
+    (c.item_of.ensures ts) (ap list_of c.in-Some.ensures) (c.loop-form.invariant ts)
+
+pub returns : goal.returns
+returns c = λ ts.
+    let found = map item_in c.loop-form.found.items in
+    sym (append-nil found)
+    ∙ ap (λ fs. found ++ map (item_of (with_names (names_in ts c.args.scope.now))) (list_of fs)) (sym c.in_default.ensures)
+    ∙ c.loop-form.invariant ts

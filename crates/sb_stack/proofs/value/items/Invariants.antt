@@ -1,4 +1,5 @@
-use Rattle.std.proofs.Common.{◌≡◌, ◌++◌, map, length}
+use Rattle.std.proofs.Common.{◌≡◌, List, ◌++◌, map, length}
+use Rattle.sb_meaning.specs.Terms.{Term}
 use Rattle.sb_script.specs.Replies.{item_of}
 use Rattle.sb_sorts.specs.Scopes.{names_in}
 use Rattle.sb_stack.specs.Commands.{forms_in}
@@ -7,8 +8,8 @@ use Rattle.sb_stack.proofs.value.items.Given as goal
 
 abbrev pub invariant-loop-form : goal.invariant-loop-form
 invariant-loop-form l =
-    map item_in l.found.items ++ map (item_of (with_names (names_in l.scope))) (forms_in l.left)
-    ≡ map (item_of (with_names (names_in l.scope))) (forms_in l.forms)
+    (ts : List Term) → map item_in l.found.items ++ map (item_of (with_names (names_in ts l.scope))) (forms_in l.left)
+    ≡ map (item_of (with_names (names_in ts l.scope))) (forms_in l.forms)
 
 abbrev pub decreases-loop-form : goal.decreases-loop-form
 decreases-loop-form l = length (forms_in l.left)

@@ -13,10 +13,10 @@ loop-place-preserved c =
     elim c.match-named.branch [
       | in-Constant+in_ok-push w ↦ ap (λ found. map live_in found.items) w.found-is
           ∙ live_step names place _ (record { serial = w.in-Constant.serial; sort = w.in-Constant.sort })
-          c.in-Some.named c.loop-place.found.items _ c.in-Some.ensures w.in-Constant.is w.in_ok-push.ensures.items
+          c.in-Some.named.now c.loop-place.found.items _ c.in-Some.ensures w.in-Constant.is w.in_ok-push.ensures.items
           c.loop-place.invariant
       | in_default-named w ↦ ap (λ found. map live_in found.items) w.found-is
-          ∙ no_live_step names place _ c.in-Some.named (map live_in c.loop-place.found.items)
+          ∙ no_live_step names place _ c.in-Some.named.now (map live_in c.loop-place.found.items)
           c.in-Some.ensures w.in_default-named.not-Constant c.loop-place.invariant
     ]
 

@@ -28,7 +28,7 @@ invariant_of-self-2 c =
     } in
     let a : Assertion = record { term = c.args.term; level = c.len-level.result } in
     let stands = subst (λ (k : Stacked). StandsFor k c.args.term) (sym c.self.view_is) c.requires in
-    kept_push c.self.inside.scope c.self.inside.table c.self.inside.assertions.items c.push.new.self.items
+    kept_push c.self.inside.begun c.self.inside.scope c.self.inside.table c.self.inside.assertions.items c.push.new.self.items
     (reverse c.self.inside.levels.items) a c.in_ok-push.ensures.items c.self.invariant
     (stands_number kept c.args.term stands)
     (c.len-level.ensures ∙ c.self.inside.levels.ok.0 ∙ sym (length-reverse c.self.inside.levels.items))

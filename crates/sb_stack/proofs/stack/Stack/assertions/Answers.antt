@@ -40,5 +40,5 @@ returns-clause-named c =
       levels = reverse c.self.inside.levels.items;
     } in
     rw (← c.self.view_is) (rw (assertions_live kept)
-    (live_speak (reverse c.self.inside.levels.items) c.self.inside.scope.names
+    (live_speak c.self.inside.scope.global (reverse c.self.inside.levels.items) c.self.inside.scope.names
     (map (assertion_in c.self.inside.table) c.self.inside.assertions.items) c.self.invariant.theirs))

@@ -10,12 +10,12 @@ use Rattle.sb_stack.proofs.stack.Stack.declare.Goals as goal
 
 pub invariant_of-self : goal.invariant_of-self
 invariant_of-self c =
-    kept_declared c.self.inside.scope c.declare.new.self c.args.name.now c.args.sort c.self.inside.table
+    kept_declared c.self.inside.begun c.self.inside.scope c.declare.new.self c.args.name.now c.args.sort c.self.inside.table
     c.self.inside.assertions.items (reverse c.self.inside.levels.items) c.requires c.in-Ok.ensures.ok.0 c.self.invariant
 
 pub invariant_of-self-in-Err-AlreadyDeclared : goal.invariant_of-self-in-Err-AlreadyDeclared
 invariant_of-self-in-Err-AlreadyDeclared c =
-    subst (λ (s : ScopeNames). IsKept s c.self.inside.table c.self.inside.assertions.items
+    subst (λ (s : ScopeNames). IsKept c.self.inside.begun s c.self.inside.table c.self.inside.assertions.items
     (reverse c.self.inside.levels.items)) (sym c.in-Err-AlreadyDeclared.ensures.err) c.self.invariant
 
 pub returns-in_err-answer : goal.returns-in_err-answer
@@ -41,7 +41,7 @@ returns-in-Ok c =
     record {
       ok = rw (← c.self.view_is)
           (declare_step kept c.args.name.now c.args.sort c.declare.new.self c.in_ok-answer.answer c.self.invariant
-          c.in-Ok.ensures.ok.1 c.in-Ok.ensures.ok.0 c.in_ok-answer.ensures);
+          (c.in-Ok.ensures.ok.1 c.self.inside.table) c.in-Ok.ensures.ok.0 c.in_ok-answer.ensures);
       err = tt;
       keeps = keeps_view kept c.args.self.now _ c.self.view_is
           (keeps_declared kept c.declare.new.self c.args.name.now c.args.sort c.in-Ok.ensures.ok.0);
@@ -66,8 +66,8 @@ returns-in-Err-AlreadyDeclared c =
     let e = c.in-Err-AlreadyDeclared.ensures in
     let k = c.args.self.now in
     let same = ap (λ (s : ScopeNames). record kept { scope = s }) e.err ∙ c.self.view_is in
-    let taken = ap (λ (s : Stacked). is_taken (names_in s.scope) c.args.name.now) (sym c.self.view_is)
-    ∙ e.taken c.in-Err-AlreadyDeclared.field-0-is in
+    let taken = ap (λ (s : Stacked). is_taken (names_in s.table s.scope) c.args.name.now) (sym c.self.view_is)
+    ∙ e.taken c.in-Err-AlreadyDeclared.field-0-is c.self.inside.table in
     says _ _ c.error_line_with_name.result k _ same (declares_taken k c.args.name.now (sort_in c.args.sort) taken)
     c.error_line_with_name.ensures
 

@@ -9,12 +9,12 @@ use Rattle.sb_stack.proofs.stack.Stack.declare_function.Goals as goal
 
 pub invariant_of-self : goal.invariant_of-self
 invariant_of-self c =
-    kept_marked c.self.inside.scope c.mark.new.self c.args.name.now c.self.inside.table
+    kept_marked c.self.inside.begun c.self.inside.scope c.mark.new.self c.args.name.now c.self.inside.table
     c.self.inside.assertions.items (reverse c.self.inside.levels.items) c.in-Ok.ensures.ok.0 c.self.invariant
 
 pub invariant_of-self-in-Err-AlreadyDeclared : goal.invariant_of-self-in-Err-AlreadyDeclared
 invariant_of-self-in-Err-AlreadyDeclared c =
-    subst (λ (s : ScopeNames). IsKept s c.self.inside.table c.self.inside.assertions.items
+    subst (λ (s : ScopeNames). IsKept c.self.inside.begun s c.self.inside.table c.self.inside.assertions.items
     (reverse c.self.inside.levels.items)) (sym c.in-Err-AlreadyDeclared.ensures.err) c.self.invariant
 
 pub returns-in_err-answer : goal.returns-in_err-answer
@@ -40,7 +40,7 @@ returns-in-Ok c =
     record {
       ok = rw (← c.self.view_is)
           (mark_step kept c.args.name.now c.mark.new.self c.in_ok-answer.answer c.self.invariant
-          c.in-Ok.ensures.ok.1 c.in-Ok.ensures.ok.0 c.in_ok-answer.ensures);
+          (c.in-Ok.ensures.ok.1 c.self.inside.table) c.in-Ok.ensures.ok.0 c.in_ok-answer.ensures);
       err = tt;
       keeps = keeps_view kept c.args.self.now _ c.self.view_is
           (keeps_marked kept c.mark.new.self c.args.name.now c.in-Ok.ensures.ok.0);
@@ -65,8 +65,8 @@ returns-in-Err-AlreadyDeclared c =
     let e = c.in-Err-AlreadyDeclared.ensures in
     let k = c.args.self.now in
     let same = ap (λ (s : ScopeNames). record kept { scope = s }) e.err ∙ c.self.view_is in
-    let taken = ap (λ (s : Stacked). is_taken (names_in s.scope) c.args.name.now) (sym c.self.view_is)
-    ∙ e.taken c.in-Err-AlreadyDeclared.field-0-is in
+    let taken = ap (λ (s : Stacked). is_taken (names_in s.table s.scope) c.args.name.now) (sym c.self.view_is)
+    ∙ e.taken c.in-Err-AlreadyDeclared.field-0-is c.self.inside.table in
     says _ _ c.error_line_with_name.result k _ same (marks_taken k c.args.name.now taken)
     c.error_line_with_name.ensures
 

@@ -42,6 +42,6 @@ returns-clause-fit c =
     } in
     rw (← c.self.view_is)
     (λ words truths w. rw (constants_live kept)
-    (fitting c.self.inside.scope.sorts c.self.inside.scope.names words truths c.self.invariant.brought
+    (fitting c.self.inside.table c.self.inside.scope.sorts c.self.inside.scope.names words truths c.self.invariant.brought
     (ap (λ ss. are_sorted (map sort_in ss) (constants_among c.self.inside.scope.names)) (sym c.sorts-sorts.ensures.value)
     ∙ c.sorts-sorts.ensures.sorted) w))

@@ -19,10 +19,10 @@ returns-in_ok-constants-in-Ok c =
     let words = c.in-Ok.values.0.now in
     let truths = c.in-Ok.values.1.now in
     let model = c.in-Ok.ensures (λ v. answers (line (list_text (map (definition_text v) (constants_of s)))) s) in
-    let constants = ap (map constant_in) c.deref.ensures.value ∙ c.in_ok-constants-in-Ok.ensures
-    ∙ ap (λ (k : Stacked). constants_in (names_in k.scope)) c.self.view_is in
+    let constants = ap (map constant_in) c.deref.ensures.value ∙ c.in_ok-constants-in-Ok.ensures c.self.inside.table
+    ∙ ap (λ (k : Stacked). constants_in (names_in k.table k.scope)) c.self.view_is in
     let texts = ap (map (definition_text (values_at (constants_among k.scope.names) words truths))) (constants_live k)
-    ∙ definitions c.declared-declared.result words truths k.scope.names
+    ∙ definitions k.table c.declared-declared.result words truths k.scope.names
     (ap (λ (k : Stacked). ascend_below 0 c.declared-declared.result (serials_in k.scope.names)) (sym c.self.view_is)
     ∙ c.declared-declared.ensures.serials)
     ∙ ap (map (definition_by words truths)) (sym constants) in

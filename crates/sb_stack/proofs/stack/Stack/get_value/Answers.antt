@@ -30,7 +30,7 @@ returns c =
     let s = state_of c.args.self.now in
     let names = sym (names_live kept) ∙ ap (λ (k : Stacked). names_of (state_of k)) c.self.view_is in
     let there = ap (λ ns. map (item_of (with_names ns)) (forms_in c.args.forms)) names in
-    let items = ap (map item_in) c.deref.ensures.value ∙ c.in_ok-items.ensures ∙ there in
+    let items = ap (map item_in) c.deref.ensures.value ∙ c.in_ok-items.ensures c.self.inside.table ∙ there in
     same_step c.answer_items.result _ _ s c.answer_items.ensures (ap (λ q. asks q s) (sym items))
 
 pub answer_items-requires : goal.answer_items-requires
@@ -38,5 +38,5 @@ answer_items-requires c =
     let names = c.self.inside.scope.names in
     subst (λ (k : Stacked). list_all (is_live_item (constants_among k.scope.names)) (map item_in c.deref.result.now) ≡ true)
     c.self.view_is
-    (ap (list_all (is_live_item (constants_among names))) (ap (map item_in) c.deref.ensures.value ∙ c.in_ok-items.ensures)
-    ∙ forms_live c.declared-declared.result names (forms_in c.args.forms) c.declared-declared.ensures.serials)
+    (ap (list_all (is_live_item (constants_among names))) (ap (map item_in) c.deref.ensures.value ∙ c.in_ok-items.ensures c.self.inside.table)
+    ∙ forms_live c.self.inside.table c.declared-declared.result names (forms_in c.args.forms) c.declared-declared.ensures.serials)

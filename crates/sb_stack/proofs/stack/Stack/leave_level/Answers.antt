@@ -8,7 +8,7 @@ use Rattle.sb_stack.proofs.stack.Stack.leave_level.Goals as goal
 
 pub invariant_of-self : goal.invariant_of-self
 invariant_of-self c =
-    left_kept c.self.inside.scope c.leave.new.self c.self.inside.table c.self.inside.assertions.items
+    left_kept c.self.inside.begun c.self.inside.scope c.leave.new.self c.self.inside.table c.self.inside.assertions.items
     c.truncate.new.self.items c.self.inside.levels.items c.pop.new.self.items c.in-Some.level c.in-Some.ensures.items
     c.leave.ensures c.truncate.ensures.items c.self.invariant
 

@@ -10,7 +10,7 @@ use Rattle.sb_stack.proofs.stack.Stack.open_levels.Goals as goal
 pub invariant_of-self-2 : goal.invariant_of-self-2
 invariant_of-self-2 c =
     let l : Level = record { names = c.len-names.result; assertions = c.len-assertions.result } in
-    kept_opened c.self.inside.scope c.self.inside.table c.self.inside.assertions.items
+    kept_opened c.self.inside.begun c.self.inside.scope c.self.inside.table c.self.inside.assertions.items
     (reverse c.self.inside.levels.items) (reverse c.push_levels.new.levels.items) c.args.count l c.len-names.ensures
     (c.len-assertions.ensures ∙ c.self.inside.assertions.ok.0) c.in_ok-push_levels.ensures.ok c.self.invariant
 

@@ -1,7 +1,8 @@
-use Rattle.std.proofs.Common.{reverse, ap, sym, subst, ◌∙◌}
+use Rattle.std.proofs.Common.{◌++◌, reverse, ap, sym, subst, ◌∙◌}
 use Rattle.sb_reader.specs.Forms.{shape_of}
 use Rattle.sb_script.specs.Reading.{read}
 use Rattle.sb_script.specs.State.{names_of}
+use Rattle.sb_sorts.specs.Binding.{bound_in}
 use Rattle.sb_sorts.specs.Reads.{ReadsAs}
 use Rattle.sb_stack.specs.Stacked.{Stacked, state_of}
 use Rattle.sb_stack.specs.Keeping.{Keeps}
@@ -9,10 +10,13 @@ use Rattle.sb_stack.proofs.Changes.{kept_read, state_kept, keeps_read, names_liv
 use Rattle.sb_stack.proofs.ReadLive.{read_stands}
 use Rattle.sb_stack.proofs.stack.Stack.read.Goals as goal
 
+pub read_body-requires : goal.read_body-requires
+read_body-requires c = record { bodies = c.self.invariant.bodies }
+
 pub invariant_of-self : goal.invariant_of-self
 invariant_of-self c =
-    kept_read c.self.inside.scope c.self.inside.table c.read_term.new.table c.self.inside.assertions.items
-    (reverse c.self.inside.levels.items) c.self.invariant c.read_term.ensures.extends c.read_term.ensures.declared
+    kept_read c.self.inside.begun c.self.inside.scope c.self.inside.table c.read_body.new.table c.self.inside.assertions.items
+    (reverse c.self.inside.levels.items) c.self.invariant c.read_body.ensures.extends c.read_body.ensures.declared
 
 pub returns-clause-reads : goal.returns-clause-reads
 returns-clause-reads c =
@@ -30,13 +34,15 @@ returns-clause-reads c =
       assertions = c.self.inside.assertions.items;
       levels = reverse c.self.inside.levels.items;
     } in
-    subst (λ ns. ReadsAs c.read_term.new.table (read ns (shape_of c.args.form)) c.read_term.result)
-    (sym (names_live kept) ∙ ap (λ (k : Stacked). names_of (state_of k)) c.self.view_is) c.read_term.ensures.reads
+    subst (λ ns. ReadsAs c.read_body.new.table (read (bound_in 0 c.args.parameters.now ++ ns) (shape_of c.args.form))
+    c.read_body.result)
+    (sym (names_live kept) ∙ ap (λ (k : Stacked). names_of (state_of k)) c.self.view_is) c.read_body.ensures.reads
 
 pub returns-clause-stands : goal.returns-clause-stands
 returns-clause-stands c =
-    read_stands c.reading_keeps.ensures c.declared-declared.result c.self.inside.scope c.read_term.new.table
-    (shape_of c.args.form) c.read_term.result c.declared-declared.ensures.serials c.read_term.ensures.reads
+    read_stands c.reading_keeps.ensures c.declared-declared.result c.self.inside.scope c.self.inside.table
+    c.read_body.new.table c.args.parameters.now (shape_of c.args.form) c.read_body.result
+    c.declared-declared.ensures.serials c.self.invariant.defined c.read_body.ensures.reads
 
 pub returns-clause-state : goal.returns-clause-state
 returns-clause-state c =
@@ -54,7 +60,7 @@ returns-clause-state c =
       assertions = c.self.inside.assertions.items;
       levels = reverse c.self.inside.levels.items;
     } in
-    state_kept kept c.read_term.new.table c.self.invariant c.read_term.ensures.extends ∙ ap state_of c.self.view_is
+    state_kept kept c.read_body.new.table c.self.invariant c.read_body.ensures.extends ∙ ap state_of c.self.view_is
 
 pub returns-clause-keeps : goal.returns-clause-keeps
 returns-clause-keeps c =
@@ -72,5 +78,5 @@ returns-clause-keeps c =
       assertions = c.self.inside.assertions.items;
       levels = reverse c.self.inside.levels.items;
     } in
-    subst (λ (k : Stacked). Keeps k (record kept { table = c.read_term.new.table })) c.self.view_is
-    (keeps_read kept c.read_term.new.table c.read_term.ensures.extends)
+    subst (λ (k : Stacked). Keeps k (record kept { table = c.read_body.new.table })) c.self.view_is
+    (keeps_read kept c.read_body.new.table c.read_body.ensures.extends)

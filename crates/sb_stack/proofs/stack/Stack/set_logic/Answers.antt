@@ -1,10 +1,10 @@
-use Rattle.std.proofs.Common.{Bool, true, if◌then◌else◌, refl, sym, ap, ap₂, ◌∙◌, arith}
+use Rattle.std.proofs.Common.{Bool, true, reverse, if◌then◌else◌, refl, sym, ap, ap₂, ◌∙◌, arith}
 use Rattle.sb_script.specs.Errors.{logic_already_set}
 use Rattle.sb_script.specs.Options.{is_logic}
 use Rattle.sb_script.specs.State.{State}
 use Rattle.sb_script.specs.Steps.{Step, fails_by, succeeds, is_unsupported, success}
 use Rattle.sb_stack.specs.Stacked.{Stacked, state_of}
-use Rattle.sb_stack.proofs.Changes.{keeps_parts}
+use Rattle.sb_stack.proofs.Changes.{kept_begun, keeps_parts}
 use Rattle.sb_stack.proofs.Replying.{says, unanswered, said_and_done, keeps_view}
 use Rattle.sb_stack.proofs.stack.Stack.set_logic.Goals as goal
 
@@ -33,6 +33,11 @@ returns-then-not-is_logic c =
 pub returns-in_err-answer : goal.returns-in_err-answer
 returns-in_err-answer c =
     let k = c.args.self.now in unanswered _ c.from_residual.result k k refl c.from_residual.ensures.0
+
+pub invariant_of-self : goal.invariant_of-self
+invariant_of-self c =
+    kept_begun c.self.inside.begun c.self.inside.scope c.self.inside.table c.self.inside.assertions.items
+    (reverse c.self.inside.levels.items) c.self.invariant
 
 pub returns : goal.returns
 returns c =

@@ -51,8 +51,7 @@ pub returns-in-Some-GlobalDeclarations : goal.returns-in-Some-GlobalDeclarations
 returns-in-Some-GlobalDeclarations c =
     let k = c.args.self.now in
     let value = shape_of c.args.value in
-    unchanged _ c.set_global_declarations.result k k refl
-    (subst (λ t. IfOk c.set_global_declarations.result (λ text. IsAnswered t text (state_of k) (state_of k)))
-    (sym (ap (by_setting value (state_of k)) (sym c.in-Some-GlobalDeclarations.ensures.set)
-    ∙ ap (λ setting. set_in setting value (state_of k)) c.in-Some-GlobalDeclarations.field-0-is))
-    c.set_global_declarations.ensures)
+    replies_as _ _ c.set_global_declarations.result k c.set_global_declarations.new.self
+    (ap (by_setting value (state_of k)) (sym c.in-Some-GlobalDeclarations.ensures.set)
+    ∙ ap (λ setting. set_in setting value (state_of k)) c.in-Some-GlobalDeclarations.field-0-is)
+    c.set_global_declarations.ensures

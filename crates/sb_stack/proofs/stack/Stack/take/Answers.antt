@@ -53,6 +53,13 @@ returns-in-DeclareFunction c =
     (ap (λ (x : Command). step (command_in x) (state_of k)) c.in-DeclareFunction.is) c.answered-in-DeclareFunction.ensures
     c.declare_function.ensures
 
+pub returns-in-DefineFunction : goal.returns-in-DefineFunction
+returns-in-DefineFunction c =
+    let k = c.args.self.now in
+    takes_reply _ _ c.define_function.result c.answered-in-DefineFunction.result k c.define_function.new.self
+    (ap (λ (x : Command). step (command_in x) (state_of k)) c.in-DefineFunction.is) c.answered-in-DefineFunction.ensures
+    c.define_function.ensures
+
 pub returns-in-Assert : goal.returns-in-Assert
 returns-in-Assert c =
     let k = c.args.self.now in
