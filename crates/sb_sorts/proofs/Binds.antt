@@ -25,7 +25,8 @@ use Rattle.sb_sorts.specs.Growth.{Grows}
 use Rattle.sb_sorts.specs.Reads.{Faults}
 use Rattle.sb_sorts.specs.Scopes.{ScopeNames, AreBodies, names_in as names_kept}
 use Rattle.sb_sorts.specs.Locals.{names_at, AreAt}
-use Rattle.sb_sorts.specs.Binding.{bound_in, pairs_of, locals_at, first_again_in, items_of, HasBound, HasParameters, binding_of}
+use Rattle.sb_sorts.specs.Bodies.{bound_in}
+use Rattle.sb_sorts.specs.Binding.{pairs_of, locals_at, first_again_in, items_of, HasBound, HasParameters, binding_of}
 use Rattle.sb_sorts.proofs.Sizes.{size_of_all, size_of_more}
 use Rattle.sb_sorts.proofs.CallerLemmas.{names_stay, bodies_stay}
 use Rattle.sb_sorts.proofs.Staying.{names_at_stay, at_stays}
@@ -413,9 +414,3 @@ module _ (ts us : List meaning.Term) (scope : ScopeNames) (ps : List Parameter) 
 
   pub body_at : AreAt us locals scope
   body_at = record { bound = bound.numbers; bodies = bodies_stay ts us scope extends bodies }
-
--- no name is bound
-pub nothing_at : (ts : List meaning.Term) (scope : ScopeNames) (locals : List (Name × ℕ)) → locals ≡ []
-    → AreBodies ts scope → AreAt ts locals scope
-nothing_at ts scope locals gone bodies = subst (λ (ls : Pairs). AreAt ts ls scope) (sym gone)
-    (record { bound = λ k d l. absurd (omega arith); bodies = bodies })

@@ -1,24 +1,19 @@
 -- Private: the names that a let or a list of parameters binds, as the code has them, and the forms that bind them.
-use Rattle.std.specs.Prelude.{◌≡◌, ℕ, ◌+◌, Bool, true, false, ◌&&◌, List, [], ◌∷◌, map, codes, Option, Some, None, Result, Ok}
+use Rattle.std.specs.Prelude.{◌≡◌, ℕ, Bool, true, false, ◌&&◌, List, [], ◌∷◌, map, codes, Option, Some, None, Result, Ok}
 use Rattle.std.specs.declared.vec.Vec.{Vec}
 use Rattle.std.specs.declared.alloc.Global.{Global}
 use Rattle.sb_reader.specs.Forms.{Form, Forms, Symbol, QuotedSymbol, Keyword, Numeral, OtherNumber, Words, Group, none, more, shape_of, shapes_in, pair_of}
 use Rattle.sb_reader.specs.declared.sexpr.Shapes.{Shapes}
 use Rattle.sb_reader.specs.declared.sexpr.Shape.{Shape}
-use Rattle.sb_meaning.specs.Terms.{Term, parameter}
+use Rattle.sb_meaning.specs.Terms.{Term}
 use Rattle.sb_script.specs.Names.{Name, is_name}
 use Rattle.sb_script.specs.Scopes.{Naming, a_term}
 use Rattle.sb_script.specs.Faults.{Fault}
 use Rattle.sb_script.specs.Reading.{first_again, is_let}
 use Rattle.sb_term.specs.Numbered.{term_at, AllNumbers}
-use Rattle.sb_term.specs.Symbols.{sort_in}
 use Rattle.sb_sorts.specs.declared.read.Parameter.{Parameter}
 use Rattle.sb_sorts.specs.declared.read.Bound.{Bound}
-
--- parameters, as they stand for their places from this one on
-abbrev pub bound_in : ℕ → List Parameter → List Naming
-bound_in place [] = []
-bound_in place (p ∷ ps) = (p.name.now, a_term (parameter place (sort_in p.sort))) ∷ bound_in (place + 1) ps
+use Rattle.sb_sorts.specs.Bodies.{bound_in}
 
 -- names with the numbers of their values' terms
 abbrev pub pairs_of : List Bound → List (Name × ℕ)

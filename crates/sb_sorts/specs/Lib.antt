@@ -3,6 +3,7 @@ pub mod Indices
 pub mod Defined
 pub mod Scopes
 pub mod Reads
+pub mod Bodies
 pub mod Growth
 pub mod Heads
 pub mod NameTable

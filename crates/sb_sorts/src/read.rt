@@ -12,7 +12,8 @@ ghost use Rattle.sb_sorts.specs.Growth.{Grows, AreRead};
 ghost use Rattle.sb_sorts.specs.Reads.{ReadsAs, Faults};
 ghost use Rattle.sb_sorts.specs.Scopes.{names_in, AreBodies};
 ghost use Rattle.sb_sorts.specs.Locals.{names_at, AreAt};
-ghost use Rattle.sb_sorts.specs.Binding.{bound_in, pairs_of, locals_at, first_again_in, items_of, HasBound, HasParameters, symbol_of, list_of, is_let_word, binding_of, LetParts, LetIn};
+ghost use Rattle.sb_sorts.specs.Bodies.{bound_in};
+ghost use Rattle.sb_sorts.specs.Binding.{pairs_of, locals_at, first_again_in, items_of, HasBound, HasParameters, symbol_of, list_of, is_let_word, binding_of, LetParts, LetIn};
 
 use crate::apply::applied_to;
 use crate::head::{Front, is_let, read_front, read_head};

@@ -21,7 +21,7 @@ use Rattle.sb_script.specs.Scopes.{Naming, a_term}
 use Rattle.sb_script.specs.State.{State, names_of, marked}
 use Rattle.sb_script.specs.Steps.{Step, fails_by, is_unsupported}
 use Rattle.sb_script.specs.Symbols.{is_taken}
-use Rattle.sb_sorts.specs.Binding.{bound_in}
+use Rattle.sb_sorts.specs.Bodies.{bound_in}
 use Rattle.sb_sorts.specs.declared.read.Parameter.{Parameter}
 use Rattle.sb_term.specs.Symbols.{sort_in}
 use Rattle.sb_stack.specs.Defining.{parameter_in, sorts_in, names_in, HasPut, name_error, defines_as}

@@ -19,7 +19,7 @@ use Rattle.sb_sorts.specs.declared.scope.Named.TheVariants as code
 use Rattle.sb_script.specs.Scopes.{Naming}
 use Rattle.sb_sorts.specs.declared.read.ReadFault.{ReadFault}
 use Rattle.sb_sorts.specs.declared.read.Parameter.{Parameter}
-use Rattle.sb_sorts.specs.Binding.{bound_in}
+use Rattle.sb_sorts.specs.Bodies.{bound_in}
 use Rattle.sb_sorts.specs.Reads.{ReadsAs}
 use Rattle.sb_sorts.specs.Scopes.{ScopeNames, naming_in, names_in, constants_among, serials_in, ascend_below}
 use Rattle.sb_term.specs.Numbered.{term_at}

@@ -10,7 +10,7 @@ ghost use Rattle.sb_script.specs.Replies as meaning;
 ghost use Rattle.sb_script.specs.State.{names_of, marked};
 ghost use Rattle.sb_script.specs.Steps.{is_unsupported};
 ghost use Rattle.sb_script.specs.Symbols.{is_taken};
-ghost use Rattle.sb_sorts.specs.Binding.{bound_in};
+ghost use Rattle.sb_sorts.specs.Bodies.{bound_in};
 ghost use Rattle.sb_sorts.specs.Reads.{Faults};
 ghost use Rattle.sb_term.specs.Numbered.{term_at};
 ghost use Rattle.sb_term.specs.Symbols.{sort_in};

@@ -19,7 +19,7 @@ ghost use Rattle.sb_sorts.specs.Reads.{ReadsAs, Faults};
 ghost use Rattle.sb_sorts.specs.Scopes.{names_in, serials_in, ascend_below, are_sorted};
 ghost use Rattle.sb_term.specs.Symbols.{sort_in};
 ghost use Rattle.sb_script.specs.Brought.{is_brought_sort};
-ghost use Rattle.sb_sorts.specs.Binding.{bound_in};
+ghost use Rattle.sb_sorts.specs.Bodies.{bound_in};
 ghost use Rattle.sb_term.specs.Numbered.{term_at, Extends};
 ghost use Rattle.sb_term.specs.Serials.{all_below};
 ghost use Rattle.sb_stack.specs.Commands.{command_in};

@@ -3,7 +3,7 @@ use Rattle.sb_reader.specs.Forms.{shape_of}
 use Rattle.sb_script.specs.Reading.{read}
 use Rattle.sb_script.specs.State.{names_of}
 use Rattle.sb_script.specs.Symbols.{is_taken}
-use Rattle.sb_sorts.specs.Binding.{bound_in}
+use Rattle.sb_sorts.specs.Bodies.{bound_in}
 use Rattle.sb_term.specs.Symbols.{sort_in}
 use Rattle.sb_stack.specs.Defining.{defines_as, sorts_in}
 use Rattle.sb_stack.specs.Stacked.{state_of}

@@ -2,7 +2,7 @@ use Rattle.std.proofs.Common.{◌++◌, reverse, ap, sym, subst, ◌∙◌}
 use Rattle.sb_reader.specs.Forms.{shape_of}
 use Rattle.sb_script.specs.Reading.{read}
 use Rattle.sb_script.specs.State.{names_of}
-use Rattle.sb_sorts.specs.Binding.{bound_in}
+use Rattle.sb_sorts.specs.Bodies.{bound_in}
 use Rattle.sb_sorts.specs.Reads.{ReadsAs}
 use Rattle.sb_stack.specs.Stacked.{Stacked, state_of}
 use Rattle.sb_stack.specs.Keeping.{Keeps}
