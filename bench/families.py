@@ -29,6 +29,13 @@ each: few clauses, and so many that no values are left.
 make true.
 `alternatives`: one constant in one of so many regular expressions, and in one of so many others, of which each two clash.
 
+Of definitions and `let`:
+`shared`: a truth value of two constants that is made of the one before twice, so often: a tree of two to the size leaves.
+`chain`: so many definitions, each the one before and that the constant is not one more word.
+`uses`: so many uses of one definition with two parameters.
+`bindings`: one `let` of so many names, and what holds of all.
+`parameters`: so many definitions, each with 100 parameters, and a use of each.
+
 And scripts of so many checks, each behind a new assertion:
 `checked-classes`: one constant in one more range of characters each time.
 `checked-constants`: one more constant each time, in a range of characters.
@@ -377,7 +384,51 @@ def checked_clauses(size):
     return text + "".join(f"(assert {clause(dice, atoms)})\n(check-sat)\n" for _ in range(size))
 
 
+def letters_of(number):
+    """A word of letters of its own for a number."""
+    return word("abcdefghijklmnopqrstuvwxyz", number, 5)
+
+
+def shared(size):
+    text = "(declare-const p Bool)\n(declare-const q Bool)\n(define-fun b0 () Bool (xor p q))\n"
+    for number in range(size):
+        text += f"(define-fun b{number + 1} () Bool (and b{number} (or b{number} q)))\n"
+    return text + f"(assert b{size})\n"
+
+
+def chain(size):
+    text = "(define-fun b0 () Bool (str.in_re x (re.+ re.allchar)))\n"
+    for number in range(size):
+        text += f'(define-fun b{number + 1} () Bool (and b{number} (not (= x "{letters_of(number)}"))))\n'
+    return text + f"(assert b{size})\n"
+
+
+def uses(size):
+    text = "(define-fun apart ((s String) (w String)) Bool (not (= s w)))\n"
+    return text + "".join(f'(assert (apart x "{letters_of(number)}"))\n' for number in range(size))
+
+
+def bindings(size):
+    bound = " ".join(f'(b{number} (not (= x "{letters_of(number)}")))' for number in range(size))
+    return f"(assert (let ({bound}) (and {' '.join(f'b{number}' for number in range(size))})))\n"
+
+
+def parameters(size):
+    listed = " ".join(f"(s{place} String)" for place in range(100))
+    given = " ".join(f'"{letters_of(place)}"' for place in range(99))
+    text = ""
+    for number in range(size):
+        text += f'(define-fun f{number} ({listed}) Bool (not (= s99 "{letters_of(number)}")))\n'
+        text += f"(assert (f{number} {given} x))\n"
+    return text
+
+
 FAMILIES = {
+    "shared": shared,
+    "chain": chain,
+    "uses": uses,
+    "bindings": bindings,
+    "parameters": parameters,
     "access": access,
     "clauses-sat": clauses_sat,
     "clauses": clauses,

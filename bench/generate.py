@@ -3,6 +3,7 @@
 `mixed`: declarations, assertions with texts, comments and quoted names, that are not answered with success.
 `memberships`: constants, each with two memberships in overlapping ranges, and one check at the end.
 `checks`: one constant, and checks with their models.
+`definitions`: constants, each with a definition that is used of it, and one check at the end.
 `form`: one form that is as long as the script.
 """
 import sys
@@ -36,6 +37,9 @@ while written < size:
         if number == 0:
             put('(declare-const x String)(assert (str.in_re x (re.range "a" "b")))\n')
         put('(check-sat)\n(get-model)\n')
+    elif kind == "definitions":
+        put('(declare-const x%d String)\n(define-fun f%d ((s String)) Bool (let ((r (re.range "a" "y"))) '
+            '(str.in_re s (re.+ r))))\n(assert (f%d x%d))\n' % (number, number, number, number))
     number += 1
-if kind == "memberships":
+if kind in ("memberships", "definitions"):
     put("(check-sat)\n")

@@ -27,7 +27,7 @@ for kind in mixed form; do
   done
 done
 for megabytes in 1 10 50; do
-  for kind in mixed memberships checks form; do
+  for kind in mixed memberships checks form definitions; do
     python3 bench/generate.py "$kind" "$megabytes" > "$work/$kind.smt2"
     python3 bench/measure.py "$kind" "$work/$kind.smt2" strsolve crates/strsolve/out/strsolve < "$work/$kind.smt2"
   done
