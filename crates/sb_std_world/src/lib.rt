@@ -9,9 +9,16 @@ ghost use Rattle.sb_world.specs.Outside.{untold, CountsFault};
 ghost use Rattle.sb_std_world.specs.Faults.{faults_of};
 
 use sb_world::{InPort, OutPort, World, WorldError};
-use std::fs::File;
-use std::io;
+use std::fs::{File, Metadata};
 use std::io::{ErrorKind, Read, Write};
+use std::os::unix::fs::MetadataExt;
+use std::{fs, io};
+
+/// Where the system says what it limits this program to.
+const LIMITS: &str = "/proc/self/limits";
+
+/// The system's error of a file that would become too large.
+const TOO_LARGE: i32 = 27;
 
 /// A file, with the name that it was opened by.
 #[derive(Drop)]
@@ -49,6 +56,17 @@ impl Source {
         }
     }
 
+    /// Whether it is the file that this was said of.
+    fn is_of(&self, there: &Metadata) -> bool {
+        match self {
+            Source::Named(named) => match named.file.metadata() {
+                Ok(own) => own.dev() == there.dev() && own.ino() == there.ino(),
+                Err(_) => false,
+            },
+            _ => false,
+        }
+    }
+
     /// How a user knows it.
     fn shown(&self) -> &str {
         match self {
@@ -83,6 +101,43 @@ impl Failures {
     }
 }
 
+/// Whether a file may be overwritten by a proof: it is empty, or begins as a proof does. A word that was forgotten in the
+/// program's words must not cost a script.
+fn may_be_lost(rt: HostRuntime, name: &str) -> io::Result<bool> {
+    let mut front = [0; 8];
+    let count = File::open(&rt, name)?.read(&mut front)?;
+    Ok(count == 0 || front.starts_with(b"strproof") || front.starts_with(b"strcert"))
+}
+
+/// The file that takes a proof, made anew or emptied. A file that is the script, or that holds anything but a proof, is left
+/// as it is, with the error that says so.
+fn create_proof(rt: HostRuntime, script: &Source, name: &str) -> io::Result<File> {
+    if let Ok(there) = fs::metadata(&rt, name) {
+        if script.is_of(&there) {
+            return Err(io::Error::new(
+                ErrorKind::AlreadyExists,
+                "this is the script, and no file for its proof",
+            ));
+        }
+        if there.is_file() && !may_be_lost(rt, name)? {
+            return Err(io::Error::new(
+                ErrorKind::AlreadyExists,
+                "this file holds no proof, so it is not overwritten",
+            ));
+        }
+    }
+    File::create(&rt, name)
+}
+
+/// How many bytes a file may have, where the system says that it limits that.
+fn size_limit(rt: HostRuntime) -> Option<u64> {
+    let mut text = [0; 4096];
+    let count = File::open(&rt, LIMITS).ok()?.read(&mut text).ok()?;
+    let text = str::from_utf8(&text[..count]).ok()?;
+    let (_, line) = text.split_once("Max file size")?;
+    line.split_whitespace().next()?.parse().ok()
+}
+
 /// The outside of a program of this system. It tells nothing of its bytes, counts its faults, and keeps what the first
 /// of them was.
 #[derive(Drop)]
@@ -91,6 +146,7 @@ pub struct StdWorld {
     script: Source,
     proof_in: Source,
     proof_out: Option<Named>,
+    size_limit: Option<u64>,
     failures: Failures,
 }
 
@@ -104,6 +160,7 @@ impl StdWorld {
             script: Source::Closed,
             proof_in: Source::Closed,
             proof_out: None,
+            size_limit: size_limit(rt),
             failures: Failures {
                 count: 0,
                 first: None,
@@ -114,6 +171,29 @@ impl StdWorld {
     /// What failed first and why, as `a.smt2: No such file or directory (os error 2)`.
     pub fn first_failure(&self) -> Option<&str> {
         self.failures.first.as_deref()
+    }
+
+    /// What of a piece fits into the file behind a port. The system would end the program for a byte more than a file may
+    /// have.
+    fn fitting<'p>(&self, port: OutPort, piece: &'p [u8]) -> &'p [u8]
+        ensures { length result.now ≤ length piece.now }
+    {
+        let Some(limit) = self.size_limit else {
+            return piece;
+        };
+        let there = match (port, &self.proof_out) {
+            (OutPort::Answers, _) => fs::metadata(&self.rt, "/dev/stdout"),
+            (OutPort::Faults, _) => fs::metadata(&self.rt, "/dev/stderr"),
+            (OutPort::Proof, Some(named)) => named.file.metadata(),
+            (OutPort::Proof, None) => return piece,
+        };
+        match there {
+            Ok(there) if there.is_file() => {
+                let room = usize::try_from(limit.saturating_sub(there.len())).unwrap_or(usize::MAX);
+                &piece[..room.min(piece.len())]
+            }
+            _ => piece,
+        }
     }
 }
 
@@ -140,10 +220,11 @@ impl World for StdWorld {
         Ok(())
     }
 
-    /// Standard output and standard error need no creation, and have none.
+    /// Standard output and standard error need no creation, and have none. A file that is there is emptied for a proof only
+    /// where it is empty or begins as a proof does, and is not the script: else it is a fault, and stays.
     fn create_output(&mut self, port: OutPort, name: Option<&str>) -> Result<(), WorldError> {
         let file = match (port, name) {
-            (OutPort::Proof, Some(name)) => match File::create(&self.rt, name) {
+            (OutPort::Proof, Some(name)) => match create_proof(self.rt, &self.script, name) {
                 Ok(file) => Some(Named {
                     name: String::from_str(self.rt.alloc(), name)?,
                     file,
@@ -167,12 +248,16 @@ impl World for StdWorld {
     }
 
     fn write(&mut self, port: OutPort, piece: &[u8]) -> Result<usize, WorldError> {
+        let fitting = self.fitting(port, piece);
         let outcome = match port {
-            OutPort::Answers => self.rt.stdout().write(piece),
-            OutPort::Faults => self.rt.stderr().write(piece),
+            _ if fitting.is_empty() && !piece.is_empty() => Err(io::Error::from_raw_os_error(
+                TOO_LARGE,
+            )),
+            OutPort::Answers => self.rt.stdout().write(fitting),
+            OutPort::Faults => self.rt.stderr().write(fitting),
             OutPort::Proof => match &mut self.proof_out {
-                Some(named) => named.file.write(piece),
-                None => Ok(piece.len()),
+                Some(named) => named.file.write(fitting),
+                None => Ok(fitting.len()),
             },
         };
         let error = match outcome {
