@@ -1,0 +1,13 @@
+; how regexes are written: what holds together more strongly, characters that stand for others, and long ones by number
+(set-option :print-success false)
+(declare-const x String)
+(define-fun ab () RegLan (str.to_re "ab"))
+(assert (str.in_re x (re.++ (re.comp ab) (re.* (re.union (str.to_re "c") (str.to_re "de"))) (re.comp re.allchar))))
+(assert (str.in_re x (re.inter (re.comp (re.* (str.to_re "*"))) (re.union ab (re.inter (re.comp (str.to_re "u")) (re.comp ab))))))
+(assert (str.in_re x (re.* (re.union (re.range "0" "9") (re.range "A" "Z") (str.to_re "-") (str.to_re "]") (str.to_re "^")))))
+(assert (str.in_re x (re.comp (re.++ re.all (re.union (re.range "\u{0}" "`") (re.range "{" "\u{2ffff}")) re.all))))
+(assert (str.in_re x (re.opt (re.union ((_ re.^ 2) (re.+ re.allchar)) re.none (str.to_re " ,")))))
+(define-fun far () RegLan (re.union (re.range "\u{100}" "\u{17f}") (re.range "\u{1e00}" "\u{1eff}") (re.range "\u{2c60}" "\u{2c7f}")
+  (re.range "\u{a720}" "\u{a7ff}") (re.range "\u{ab30}" "\u{ab6f}") (re.range "\u{1df00}" "\u{1dfff}")))
+(assert (not (str.in_re x (re.++ far (re.* (re.union far (str.to_re "<")))))))
+(check-sat)

@@ -1,0 +1,12 @@
+; two checks: a graph up to the first verdict has the regexes of the first one alone
+(set-option :print-success false)
+(declare-const name String)
+(declare-const code String)
+(assert (str.in_re name (re.++ (re.* (re.range "a" "z")) (re.range "0" "9"))))
+(assert (str.in_re code (re.++ re.all (str.to_re "\u{22}\u{5c}") re.all)))
+(push 1)
+(assert (str.in_re name (re.++ (re.* re.allchar) (re.range "a" "m"))))
+(check-sat)
+(pop 1)
+(assert (not (str.in_re code (re.++ re.all (str.to_re "\u{5c}") re.all))))
+(check-sat)

@@ -1,0 +1,11 @@
+; values: what stands for others in words, names between bars, and constants that occur in no assertion
+(set-option :print-success false)
+(declare-const |two words| String)
+(declare-const plain? String)
+(declare-const b Bool)
+(declare-const none String)
+(assert (str.in_re |two words| (re.++ (str.to_re "say ""\u{5c}""  ") (re.range "\u{e9}" "\u{ff}"))))
+(assert (str.in_re plain? ((_ re.loop 100 200) (str.to_re "a"))))
+(check-sat)
+(assert (or b (= none "0")))
+(check-sat)

@@ -1,0 +1,13 @@
+; checks under assumptions, with questions behind them that the end of a level would leave without an answer
+(set-option :print-success false)
+(set-option :produce-models true)
+(declare-const a Bool)
+(check-sat-assuming (a))
+(get-model)
+(check-sat-assuming (a))
+(echo "what is a?")
+(get-value (a))
+(check-sat-assuming ((not a)))
+(get-unsat-assumptions)
+(check-sat-assuming (c))
+(check-sat-assuming (a))

@@ -1,0 +1,23 @@
+; names that are bound to something else
+(set-option :print-success false)
+(declare-const x String)
+(declare-const p Bool)
+(define-fun re.full () RegLan (re.* (str.to_re "f")))
+(define-fun re.complement ((r RegLan)) RegLan (re.opt r))
+(assert (str.in.re x re.full))
+(assert (str.in.re x (re.complement (str.to.re "ff"))))
+(assert (let ((re.empty re.allchar) (seq.to.re (str.to.re "f"))) (str.in.re x (re.++ re.empty seq.to.re))))
+(check-sat)
+; hidden only within the let
+(assert (let ((str.len x)) (= str.len "ff")))
+(assert (= (str.len x) 2))
+(check-sat)
+; nothing is made of names that are hidden there
+(assert (let ((re.all re.none)) (or (str.prefixof "f" x) (str.in_re x re.all))))
+(define-fun f ((str.in_re Bool)) Bool (or str.in_re (str.is_digit x)))
+(assert (let ((re.none re.all)) (str.in_re x re.nostr)))
+(push 1)
+(declare-const re.empty RegLan)
+(assert (str.in_re x re.empty))
+(pop 1)
+(assert (str.in_re x re.empty))

@@ -1,0 +1,25 @@
+; names that annotations give and that are used further on
+(set-option :print-success false)
+(set-option :produce-models true)
+(declare-const x String)
+(declare-const p Bool)
+(assert (! (or p (str.prefixof "a" x)) :named rule))
+(assert (=> (! (and rule (! (not p) :named |not p|)) :named both)
+  (= x "ab")))
+(check-sat)
+(push 1)
+(assert (! (str.in.re x (! (str.to.re "b") ; its only word
+  :named b)) :named is_b))
+(assert (and is_b (not (str.in_re x (re.++ b b)))))
+(check-sat)
+(pop 1)
+(assert both)
+(assert |not p|)
+(check-sat)
+(get-value (x p))
+; it can't be named where it holds a name that stands for something there alone
+(assert (let ((y x)) (! (= y "ab") :named inside)))
+(assert (let ((y x)) (! (= y "ab") :named unused)))
+(assert (or inside p))
+; nor where the name is taken
+(assert (! p :named x))

@@ -1,0 +1,6 @@
+(set-option :print-success false)
+(declare-const id String)
+(define-fun digits () RegLan (re.+ (re.range "0" "9")))
+(assert (and (not (= id "0"))
+             (str.in_re digits id)))
+(check-sat)

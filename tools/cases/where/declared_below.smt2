@@ -1,0 +1,5 @@
+(set-option :print-success false)
+(define-fun is-admin () Bool (= user "admin"))
+(declare-const user String)
+(assert (not is-admin))
+(check-sat)

@@ -1,0 +1,6 @@
+(set-option :print-success false)
+(declare-const user String)
+(declare-fun allowed (String String) Bool)
+(assert (= user "root"))
+(assert (allowed user "read"))
+(check-sat)

@@ -1,0 +1,6 @@
+(set-logic QF_SLIA)
+(set-option :print-success false)
+(declare-const password String)
+(assert (str.in_re password (re.+ (re.range "!" "~"))))
+(assert (>= (str.len password) 8))
+(check-sat)

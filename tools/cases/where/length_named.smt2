@@ -1,0 +1,5 @@
+(set-option :print-success false)
+(declare-const password String)
+(declare-const n Int)
+(assert (= n (str.len password)))
+(check-sat)

@@ -1,0 +1,6 @@
+(set-logic QF_S)
+(set-option :print-success false)
+(declare-const x String)
+(assert (= x "a"))
+(set-logic QF_S)
+(check-sat)

@@ -1,0 +1,6 @@
+(set-option :print-success false)
+(declare-const code String)
+(assert (str.in_re code ((_ re.^ 4) (re.range "0" "9"))))
+(assert (or (= code "0000")
+            (and (not (= code "1234"))
+                 (not (= code "4321")))

@@ -1,0 +1,6 @@
+(set-option :print-success false)
+(declare-const code String)
+(push 1)
+  (assert (str.in_re code (re.+ (re.range "0" "9")))
+  (check-sat)
+(pop 1)

@@ -1,0 +1,6 @@
+(set-option :print-success false)
+(set-option :produce-models true)
+(declare-const key String)
+(assert (str.in_re key ((_ re.loop 2 4) (re.range "a" "f"))))
+(chek-sat)
+(get-model)

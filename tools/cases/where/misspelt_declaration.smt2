@@ -1,0 +1,6 @@
+(set-option :print-success false)
+(declare-const low String)
+(declare-cosnt high String)
+(assert (= low "a"))
+(assert (or (= high "b") (= high "c")))
+(check-sat)

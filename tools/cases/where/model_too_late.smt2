@@ -1,0 +1,7 @@
+(set-option :print-success false)
+(set-option :produce-models true)
+(declare-const city String)
+(assert (or (= city "Oslo") (= city "Rome")))
+(check-sat)
+(assert (not (= city "Oslo")))
+(get-value (city))

@@ -1,0 +1,5 @@
+(set-option :print-success false)
+(declare-const x String)
+(assert (str.in_re x (re.+ (re.range "a" "b"))))
+(check-sat)
+(get-model)

@@ -1,0 +1,7 @@
+(set-option :print-success false)
+(declare-const host String)
+(declare-const port String)
+(declare-const path String)
+(declare-fun host () String)
+(assert (= host "localhost"))
+(check-sat)

@@ -1,0 +1,7 @@
+(set-option :print-success false)
+(set-option :produce-unsat-cores true)
+(declare-const x String)
+(assert (! (= x "a") :named first))
+(assert (! (= x "b") :named second))
+(check-sat)
+(get-unsat-core)

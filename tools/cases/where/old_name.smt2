@@ -1,0 +1,6 @@
+(set-logic QF_S)
+(set-option :print-success false)
+(declare-const x String)
+(assert (str.in.re x (re.* (str.to_re "ab"))))
+(assert (not (= x "")))
+(check-sat)

@@ -1,0 +1,5 @@
+(set-option :print-success false)
+(declare-const line String)
+(assert (or (= line "none")
+            (= line "the word "so" in quotes")))
+(check-sat)

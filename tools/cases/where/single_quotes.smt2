@@ -1,0 +1,5 @@
+(set-option :print-success false)
+(declare-const answer String)
+(assert (or (= answer "maybe")
+            (= answer 'yes')))
+(check-sat)

@@ -1,0 +1,4 @@
+(set-option :print-success false)
+(declare-const x string)
+(assert (= x "a"))
+(check-sat)

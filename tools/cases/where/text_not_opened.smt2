@@ -1,0 +1,4 @@
+(set-option :print-success false)
+(declare-const greeting String)
+(assert (not (= greeting hello")))
+(check-sat)

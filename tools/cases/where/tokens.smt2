@@ -1,0 +1,18 @@
+; bad tokens, and characters that no literal has
+(set-option :print-success false)
+(declare-const x String)
+(declare-const 2nd String)
+(declare-const a,b String)
+(declare-const naïve String)
+(declare-const |a\b| String)
+(assert (= x `a`))
+(assert (= x "tab	tab"))
+(assert (= x "naïve"))
+(assert (= x "😀"))
+(assert (= x "𰻞"))
+(push 01)
+(assert (= x #xfg))
+(set-info : x)
+{x}
+(check-sat)
+(declare-const x' String)

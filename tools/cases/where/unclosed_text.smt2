@@ -1,0 +1,6 @@
+(set-option :print-success false)
+(declare-const greeting String)
+(assert (or (= greeting "hello")
+            (= greeting "good day)))
+(assert (not (= greeting "hello")))
+(check-sat)

@@ -1,0 +1,52 @@
+; what is not read
+(set-logic
+  QF_LIA)
+(set-option :print-success false)
+(set-option
+  :produce-proofs true)
+(set-option :print-sucess false)
+(get-option :verbosity)
+(get-info :assertion-stack-levels)
+(declare-sort S 0)
+(declare-const r RegLan)
+(declare-const a
+  (Array Int String))
+(declare-fun n () Real)
+(declare-fun f (String
+                String) Bool)
+(define-fun g ((k Int)) Bool true)
+(define-fun h () Int
+  (str.len ""))
+(declare-const x String)
+(declare-const p Bool)
+(define-fun i () Bool
+  (and p
+       (str.contains x "a")))
+(define-fun-rec j () Bool p)
+(check-sat-assuming (p))
+(get-assertions)
+(maximize x)
+(check-sat)
+(push)
+(assert (or p
+  (= (str.++ x "a") "ba")))
+(assert (forall ((y String)) p))
+(assert (! p :named q))
+(assert (= 1.5 1))
+(assert ((as f Bool) x))
+(assert (ite p x "a"))
+(assert (= (ite p x "a") "a"))
+(assert (= re.all re.none))
+(assert (str.is_digit x))
+(assert (str.prefixof "a" x))
+(assert (str.suffixof "a" x))
+(assert (and p i))
+(assert j)
+(assert q)
+(check-sat)
+(pop)
+(check-sat)
+(set-option :produce-models true)
+(check-sat)
+(get-value (x (not p)))
+(get-value (r))
