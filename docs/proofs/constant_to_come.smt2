@@ -1,0 +1,4 @@
+(declare-const x String)
+(check-sat)
+(declare-const y String)
+(check-sat)

@@ -1,0 +1,5 @@
+(define-fun digits () RegLan (re.+ (re.range "0" "9")))
+(define-fun is ((s String) (r RegLan)) Bool (str.in_re s r))
+(declare-const x String)
+(assert (let ((r digits)) (not (is x r))))
+(check-sat)

@@ -1,0 +1,6 @@
+(declare-const p Bool)
+(assert p)
+(assert (not p))
+(check-sat)
+(reset)
+(check-sat)

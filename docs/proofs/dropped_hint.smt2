@@ -1,0 +1,7 @@
+(declare-const p Bool)
+(assert (not p))
+(push 1)
+(assert p)
+(check-sat)
+(pop 1)
+(check-sat)

@@ -1,0 +1,3 @@
+(declare-const x String)
+(check-sat)
+(check-sat)

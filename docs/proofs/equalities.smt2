@@ -1,0 +1,8 @@
+(declare-const x String)
+(declare-const p Bool)
+(declare-const q Bool)
+(assert (= "ab" x))
+(assert (distinct x "a"))
+(assert (distinct p q))
+(assert (= p q p))
+(check-sat)

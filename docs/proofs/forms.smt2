@@ -1,0 +1,7 @@
+(declare-const p Bool)
+(check-sat-assuming (p))
+(check-sat 1)
+(|check-sat|)
+(check-sat)
+(exit)
+(check-sat)

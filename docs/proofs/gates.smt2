@@ -1,0 +1,3 @@
+(declare-const p Bool)
+(declare-const q Bool)
+(check-sat)

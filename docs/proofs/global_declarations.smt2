@@ -1,0 +1,7 @@
+(set-option :global-declarations true)
+(push 1)
+(declare-const p Bool)
+(assert p)
+(check-sat)
+(pop 1)
+(check-sat)

@@ -1,0 +1,8 @@
+(declare-const p Bool)
+(declare-const q Bool)
+(declare-const r Bool)
+(assert (or p (not q)))
+(assert (=> p q r))
+(assert (xor p q r))
+(assert (ite p q r))
+(check-sat)

@@ -1,0 +1,6 @@
+(declare-const x String)
+(push 1)
+(assert (= (str.len x) 2))
+(check-sat)
+(pop 1)
+(check-sat)

@@ -1,0 +1,3 @@
+(declare-const x String)
+(assert (str.in_re x re.none))
+(check-sat

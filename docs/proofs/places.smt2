@@ -1,0 +1,7 @@
+(declare-const x String)
+(declare-const p Bool)
+(assert (and (= (str.len x) 2) zz))
+(assert zz)
+(assert p)
+(assert (not p))
+(check-sat)

@@ -1,0 +1,7 @@
+(declare-const x String)
+(assert (str.in_re x re.none))
+(check-sat)
+(reset-assertions)
+(declare-const y String)
+(assert (str.in_re y re.none))
+(check-sat)

@@ -1,0 +1,5 @@
+(declare-const p Bool)
+(declare-const x String)
+(assert (= p (str.in_re x (re.+ (str.to_re "ab")))))
+(assert p)
+(check-sat)

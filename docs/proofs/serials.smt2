@@ -1,0 +1,7 @@
+(push 1)
+(declare-const x String)
+(pop 1)
+(declare-const n Int)
+(declare-const x Bool)
+(assert x)
+(check-sat)

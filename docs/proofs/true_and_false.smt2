@@ -1,0 +1,4 @@
+(assert true)
+(check-sat)
+(assert (not true))
+(check-sat)

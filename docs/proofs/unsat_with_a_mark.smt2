@@ -1,0 +1,6 @@
+(declare-const x String)
+(declare-const p Bool)
+(assert p)
+(assert (not p))
+(assert (= (str.len x) 2))
+(check-sat)

@@ -1,0 +1,5 @@
+(push 1)
+(declare-const p Bool)
+(check-sat)
+(pop 1)
+(check-sat)
