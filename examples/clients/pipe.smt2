@@ -1,0 +1,18 @@
+(set-option :print-success true)
+(set-logic QF_S)
+(set-option :produce-models true)
+(declare-const name String)
+(assert (str.in_re name (re.++ (re.+ (re.range "a" "z")) (re.+ (re.range "0" "9")))))
+(assert (not (str.in_re name (re.++ re.all (str.to_re "0") re.all))))
+(declare-const |note
+of two lines| String)
+(assert (str.in_re |note
+of two lines| (str.to_re "(a ""quote"" for 5 \u{20ac}")))
+(check-sat)
+(get-model)
+(push 1)
+(assert (str.in_re name (re.range "A" "Z")))
+(check-sat)
+(pop 1)
+(assert (= nam "root"))
+(exit)
