@@ -1,3 +1,4 @@
+pub mod Demands
 pub mod Conjoined
 pub mod Deciding
 pub mod Members

@@ -1,5 +1,6 @@
 -- What was taken in, one for each of the first assertions, and what is known of it. What an assertion asks of a
--- constant's word counts as a membership of the constant here, also where the assertion is an equality with a literal.
+-- constant's word counts as a membership of the constant here, also where the assertion is an equality with a literal,
+-- or the denial of either, which asks for a word of the complement.
 use Rattle.std.specs.Prelude.{◌≡◌, ℕ, zero, suc, ◌+◌, ◌<◌, ◌==◌, true, if◌then◌else◌, List, [], ◌∷◌, length, take, Option, Some, None, slice_index_or, slice_get}
 use Rattle.std.specs.List.{All}
 use Rattle.sb_lang.specs.Languages.{Language}
@@ -8,25 +9,24 @@ use Rattle.sb_lang.specs.Language.{language}
 use Rattle.sb_lang.specs.Regex.{Regex}
 use Rattle.sb_regex.specs.Numbered.{regex_at, AllNumbers}
 use Rattle.sb_meaning.specs.Terms.{Term}
-use Rattle.sb_script.specs.Brought.{asked}
 use Rattle.sb_script.specs.State.{asserted}
-use Rattle.sb_script.specs.Sizes.{is_regular}
 use Rattle.sb_problem.specs.Normals.{IsRegexOf}
 use Rattle.sb_term.specs.declared.assertion.Assertion.{Assertion}
 use Rattle.sb_fragment.specs.Rules.{is_decided}
 use Rattle.sb_stack.specs.Stacked.{assertion_in, HasNumberBelow}
 use Rattle.sb_decide.specs.declared.conjuncts.Member.{Member}
 use Rattle.sb_decide.specs.Deciding.{in_each}
+use Rattle.sb_decide.specs.Demands.{demanded}
 
--- The assertion asks that the constant's word be in a regular expression within the limits on sizes, of whose normal
--- regex the number is.
+-- The assertion is a decided one, and asks that the constant's word be in a regular expression, of whose normal regex
+-- the number is.
 pub record IsMember (rs : List Regex) (ts : List Term) (m : Member) (a : Assertion) : Type 0 where
   pub term : Term
   pub wanted : Term
   pub number : HasNumberBelow (length ts) a
   pub is : assertion_in ts a ≡ asserted term
-  pub asks : asked term ≡ Some (m.serial.0, wanted)
-  pub regular : is_regular wanted ≡ true
+  pub asks : demanded term ≡ Some (m.serial.0, wanted)
+  pub decided : is_decided (asserted term) ≡ true
   pub regex : IsRegexOf rs wanted m.regex
 
 -- the first assertions are these, in order

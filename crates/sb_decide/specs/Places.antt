@@ -4,21 +4,24 @@ use Rattle.std.specs.List.{list_all}
 use Rattle.sb_word.specs.Words.{IsWord}
 use Rattle.sb_lang.specs.Regex.{Regex}
 use Rattle.sb_lang.specs.Language.{language}
-use Rattle.sb_regex.specs.Numbered.{regexes_at}
+use Rattle.sb_lang.specs.Normal.{normal}
+use Rattle.sb_lang.specs.RegLan.{RegLan}
 use Rattle.sb_meaning.specs.Terms.{Term}
-use Rattle.sb_script.specs.Brought.{asked, is_membership}
+use Rattle.sb_meaning.specs.Values.{Valuation}
+use Rattle.sb_meaning.specs.Truth.{meaning_of, means_reglan}
 use Rattle.sb_script.specs.Fragment.{fits}
 use Rattle.sb_script.specs.State.{Assertion, asserted, a_mark}
-use Rattle.sb_fragment.specs.Memberships.{IsMemberRegex}
 use Rattle.sb_fragment.specs.Rules.{is_decided}
+use Rattle.sb_decide.specs.Demands.{demanded, is_demand}
 
--- the term asks something of the constant's word alone: it is a membership of the constant, or equal to a literal
+-- the term asks something of the constant's word alone: it is a membership of the constant, its equality with a literal,
+-- or one of these denied
 abbrev pub asks_of : ℕ → Term → Bool
-asks_of serial t = elim (asked t) [ Some p ↦ serial == p.0 | None ↦ false ]
+asks_of serial t = elim (demanded t) [ Some p ↦ serial == p.0 | None ↦ false ]
 
 -- the assertion asks something of one constant's word alone, and it is a decided one
 abbrev pub is_member : Assertion → Bool
-is_member (asserted t) = is_membership t && fits t
+is_member (asserted t) = is_demand t && fits t
 is_member a_mark = false
 
 abbrev pub is_membership_of : ℕ → Assertion → Bool
@@ -37,22 +40,27 @@ pub record IsPlaceOf (live : List Assertion) (serial place : ℕ) : Type 0 where
   pub term : Term
   pub regex : Term
   pub there : slice_get live place ≡ Some (asserted term)
-  pub asks : asked term ≡ Some (serial, regex)
+  pub asks : demanded term ≡ Some (serial, regex)
   pub decided : is_decided (asserted term) ≡ true
 
--- The number is of the normal regex of the membership at the place.
-pub record IsRegexAt (rs : List Regex) (live : List Assertion) (place id : ℕ) : Type 0 where
+-- The regex is the normal one of what the assertion at the place asks of a constant's word.
+pub record IsRegexAt (live : List Assertion) (place : ℕ) (r : Regex) : Type 0 where
   pub term : Term
+  pub serial : ℕ
+  pub expression : Term
+  pub reglan : RegLan
   pub there : slice_get live place ≡ Some (asserted term)
-  pub regex : IsMemberRegex rs term (Some id)
+  pub asks : demanded term ≡ Some (serial, expression)
+  pub means : (v : Valuation) → meaning_of v expression ≡ means_reglan reglan
+  pub is : r ≡ normal reglan
 
--- the numbers are of the normal regexes of the memberships at these places, in order
-abbrev pub AreRegexesAt : List Regex → List Assertion → List ℕ → List ℕ → Type 0
-AreRegexesAt rs live [] [] = Unit {0}
-AreRegexesAt rs live (place ∷ places) (id ∷ ids) = IsRegexAt rs live place id × AreRegexesAt rs live places ids
-AreRegexesAt rs live _ _ = ⊥
+-- the regexes are those of what the assertions at these places ask, in order
+abbrev pub AreRegexesAt : List Assertion → List ℕ → List Regex → Type 0
+AreRegexesAt live [] [] = Unit {0}
+AreRegexesAt live (place ∷ places) (r ∷ rs) = IsRegexAt live place r × AreRegexesAt live places rs
+AreRegexesAt live _ _ = ⊥
 
--- no word is in all regexes of the memberships at these places, by which numbers so ever they go, in any arena
+-- no word is in all regexes of what the assertions at these places ask
 abbrev pub HasNoWordAt : List Assertion → List ℕ → Type 0
-HasNoWordAt live places = (rs : List Regex) (ids : List ℕ) → AreRegexesAt rs live places ids
-    → (w : List ℕ) → IsWord w → list_all (λ r. language r w) (regexes_at rs ids) ≡ false
+HasNoWordAt live places = (rs : List Regex) → AreRegexesAt live places rs → (w : List ℕ) → IsWord w
+    → list_all (λ r. language r w) rs ≡ false

@@ -11,7 +11,7 @@ use std::alloc::{AllocError, Global};
 use std::marker::Model;
 
 /// A membership: the constant, whose word is to be in the regex. Of an equality with a literal it is the regex that has
-/// the literal's word alone.
+/// the literal's word alone, and of what is denied the complement.
 #[derive(Clone, Copy, Drop)]
 pub struct Member {
     pub serial: Serial,

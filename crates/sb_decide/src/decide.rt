@@ -2,7 +2,8 @@
 //!
 //! A constant's memberships are true of one word exactly where the intersection of their regexes has a word, and the
 //! word that exploring the intersection finds is the one that a model gives. An equality of a constant with a literal
-//! is a membership too, in the regex that has the literal's word alone. What is known of the assertions so far is kept,
+//! is a membership too, in the regex that has the literal's word alone, and what is denied is one in the complement. What
+//! is known of the assertions so far is kept,
 //! so that a check takes in those that are new, and finds words of the constants that they speak of. They speak of no
 //! constant of sort Bool, so each of these is false. Memberships are taken in up to the first assertion that is none;
 //! from there on it is only seen whether each assertion is a decided one, and then the check is left open.
@@ -32,7 +33,8 @@ ghost use Rattle.sb_decide.specs.Places.{HasNoWordAt, IsPlaceOf};
 ghost use Rattle.sb_decide.specs.Taking.{StayKept, HasAll, AreWords, IsTakingOver, other_dead};
 
 use crate::conjuncts::{Conjuncts, Member, conjuncts_at};
-use sb_fragment::{Measures, fragment_is_of_each, membership};
+use crate::demand::demand;
+use sb_fragment::{Measures, fragment_is_of_each};
 use sb_graph::{Explored, Graph, graph_stays};
 use sb_lang::constructors::{intersection_is_of_each, mkand_keeps_language};
 use sb_lang::normal::normal_has_terms_words;
@@ -306,22 +308,41 @@ impl Decider {
         let Some(term) = assertion.term else {
             return Ok(false);
         };
-        let Some(member) = membership(table, term) else {
+        let Some(demand) = demand(table, term) else {
             return Ok(false);
         };
-        if !self.measures.is_regular(table, member.1)? {
+        if !self.measures.is_regular(table, demand.pattern)? {
             return Ok(false);
         }
-        let Some(id) = self.normals.pattern(table, &mut self.arena, member.1)? else {
+        let Some(regex) = self.regex_of(table, demand)? else {
             return Ok(false);
         };
         self.members.push(Member {
-            serial: member.0,
-            regex: id,
+            serial: demand.serial,
+            regex,
         })?;
         self.roots.push(None)?;
-        put(&mut self.constants, &mut self.changed, member.0, place)?;
+        put(&mut self.constants, &mut self.changed, demand.serial, place)?;
         Ok(true)
+    }
+
+    /// The regex that a constant's word is to be in, None where the expression has none.
+    fn regex_of(&mut self, table: &Table, demand: Demand) -> Result<Option<RegexId>, AllocError>
+        requires number { number_of demand.pattern < length table.now }
+        requires normals { AreNormals table.now self.old.arena self.old.normals }
+        ensures number { IfOk result (λ found. IfSome found (IsRegexOf self.new.arena (expression_in table.now demand))) }
+        ensures extends { Extends self.old.arena self.new.arena }
+        ensures normals { AreNormals table.now self.new.arena self.new.normals }
+        ensures others { self.new ≡ record self.old { arena = self.new.arena; normals = self.new.normals } }
+    {
+        let Some(id) = self.normals.pattern(table, &mut self.arena, demand.pattern)? else {
+            return Ok(None);
+        };
+        if demand.positive {
+            return Ok(Some(id));
+        }
+        let complement = self.arena.not(id)?;
+        Ok(Some(complement))
     }
 
     /// Takes the last one of the assertions that were taken in back, if there is one.

@@ -5,8 +5,10 @@ use Rattle.sb_lang.specs.Regex.{Regex}
 use Rattle.sb_regex.specs.Numbered.{Extends}
 use Rattle.sb_deriv.specs.Faithful.{Memo}
 use Rattle.sb_meaning.specs.Terms.{Term, text}
-use Rattle.sb_problem.specs.Normals.{IsRegexOf}
-use Rattle.sb_script.specs.Brought as brought
+use Rattle.sb_lang.specs.Normal.{normal}
+use Rattle.sb_lang.specs.RegLan.{RegLan}
+use Rattle.sb_meaning.specs.Values.{Valuation}
+use Rattle.sb_meaning.specs.Truth.{meaning_of, means_reglan}
 use Rattle.sb_script.specs.State.{Assertion, asserted, live}
 use Rattle.sb_stack.specs.Stacked.{Stacked, state_of}
 use Rattle.sb_term.specs.Numbered.{term_at}
@@ -15,7 +17,8 @@ use Rattle.sb_rulebook.specs.Accepted.{asked_in}
 use Rattle.sb_rulebook.specs.Kept.{AllKept, Asked}
 use Rattle.sb_atoms.specs.Numbered as numbered
 use Rattle.sb_refute.specs.Backing.{Backing, Backs, EvidencesUncounted, asserted_at}
-use Rattle.sb_refute.specs.Refuting.{membership_at}
+use Rattle.sb_refute.specs.Refuting.{asked_at}
+use Rattle.sb_decide.specs.Demands.{demanded}
 use Rattle.sb_decide.specs.Places.{IsPlaceOf}
 use Rattle.sb_prover.specs.Proving.{HaveLevels}
 
@@ -33,20 +36,20 @@ pub record Stands (s : Stacked) (place id level : ℕ) : Type 0 where
   pub known : id < length s.table
   pub stands : slice_get (live (state_of s)) place ≡ Some (asserted (term_at s.table id))
   pub there : slice_get (asked_in (state_of s)).live place ≡ Some (Some (term_at s.table id), level)
-  pub declared : (serial : ℕ) (R : Term) → brought.asked (term_at s.table id) ≡ Some (serial, R)
+  pub declared : (serial : ℕ) (R : Term) → demanded (term_at s.table id) ≡ Some (serial, R)
       → is_declared (state_of s).sorts text serial ≡ true
 
--- The assertion at the place asks for a word of the constant in a regular expression, and its atom in the proof is the
--- membership in the normal regex of that.
+-- The assertion at the place asks for a word of the constant in a regular expression, and its literal in the proof asks
+-- for one in the normal regex of that.
 pub record IsClaimed (assertions : List Assertion) (serial : ℕ) (rs : List Regex) (e : Backing) (place : ℕ) : Type 0
   where
     pub term : Term
     pub expression : Term
-    pub number : ℕ
-    pub there : membership_at e place ≡ Some (serial, number)
+    pub reglan : RegLan
     pub stands : slice_get assertions place ≡ Some (asserted term)
-    pub asks : brought.asked term ≡ Some (serial, expression)
-    pub is : IsRegexOf rs expression number
+    pub asks : demanded term ≡ Some (serial, expression)
+    pub means : (v : Valuation) → meaning_of v expression ≡ means_reglan reglan
+    pub there : asked_at rs e place ≡ Some (serial, normal reglan)
 
 -- The clause of the assertion at one place stands in the proof, with the lines that it lacked.
 pub record Claims (asked : Asked) (assertions : List Assertion) (serial place : ℕ) (rs more : List Regex)

@@ -1,36 +1,39 @@
 -- Live assertions whose atoms are memberships of one constant with no word in common, and what a refutation of them
 -- answers.
-use Rattle.std.specs.Prelude.{◌≡◌, ℕ, false, if◌then◌else◌, List, [], ◌∷◌, map, slice_get, Option, Some, None, option_map, option_and_then}
+use Rattle.std.specs.Prelude.{◌≡◌, ℕ, Bool, false, if◌then◌else◌, List, [], ◌∷◌, map, slice_get, Option, Some, None, option_map, option_and_then}
 use Rattle.std.specs.List.{list_all}
 use Rattle.sb_word.specs.Words.{IsWord}
 use Rattle.sb_lang.specs.Regex.{Regex}
 use Rattle.sb_lang.specs.Language.{language}
 use Rattle.sb_lit.specs.Budgets.{Spending}
 use Rattle.sb_lit.specs.Kept.{Kept, kept_at}
-use Rattle.sb_regex.specs.Numbered.{regexes_at}
+use Rattle.sb_lang.specs.Constructors.{mknot}
+use Rattle.sb_regex.specs.Numbered.{regex_at}
 use Rattle.sb_rulebook.specs.Atoms.{AtomOver, in_atom}
 use Rattle.sb_script.specs.Pieces.{constant_piece}
 use Rattle.sb_refute.specs.Backing.{Backing, asserted_at}
 use Rattle.sb_refute.specs.declared.refute.Refuted.{Refuted}
 use Rattle.sb_refute.specs.declared.refute.Refuted.TheVariants as refuted
 
--- the constant of a membership, and the number of the regex
-abbrev pub membership_of : AtomOver ℕ → Option (ℕ × ℕ)
-membership_of (in_atom (constant_piece x ∷ []) r) = Some (x, r)
-membership_of _ = None
+-- what a literal of an atom that is a membership of one constant asks: the constant, and the regex in which its word is
+-- to be
+abbrev pub asked_of : List Regex → Bool → AtomOver ℕ → Option (ℕ × Regex)
+asked_of rs positive (in_atom (constant_piece x ∷ []) r) =
+    Some (x, if positive then regex_at rs r else mknot (regex_at rs r))
+asked_of rs positive _ = None
 
--- the same of the atom of the assertion at a place, none where that is denied
-abbrev pub membership_at : Backing → ℕ → Option (ℕ × ℕ)
-membership_at e place =
-    option_and_then (λ a. if a.literal.positive then option_and_then membership_of (slice_get e.atoms a.literal.atom)
-    else None) (asserted_at e.asserted place)
+-- the same of the literal of the assertion at a place
+abbrev pub asked_at : List Regex → Backing → ℕ → Option (ℕ × Regex)
+asked_at rs e place =
+    option_and_then (λ a. option_and_then (asked_of rs a.literal.positive) (slice_get e.atoms a.literal.atom))
+    (asserted_at e.asserted place)
 
--- The assertions are memberships of one constant, and no word is in all of their regexes.
+-- The assertions are memberships of one constant, or denied ones, and no word is in all regexes that they ask for.
 pub record AreDisjoint (rs : List Regex) (e : Backing) (places : List ℕ) : Type 0 where
   pub constant : ℕ
-  pub regexes : List ℕ
-  pub are : map (membership_at e) places ≡ map (λ r. Some (constant, r)) regexes
-  pub no_word : (w : List ℕ) → IsWord w → list_all (λ r. language r w) (regexes_at rs regexes) ≡ false
+  pub regexes : List Regex
+  pub are : map (asked_at rs e) places ≡ map (λ r. Some (constant, r)) regexes
+  pub no_word : (w : List ℕ) → IsWord w → list_all (λ r. language r w) regexes ≡ false
 
 -- the empty clause is kept at the number
 abbrev pub IsEmptyAt : Kept → ℕ → Type 0
