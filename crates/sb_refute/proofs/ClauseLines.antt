@@ -1,8 +1,9 @@
 -- The lines of clauses follow.
-use Rattle.std.proofs.Common.{◌≡◌, ◌≢◌, ℕ, ◌+◌, ◌<◌, inl, inr, true, false, List, [], ◌∷◌, length, slice_get, Some, Ok, refl, subst, Contains}
+use Rattle.std.proofs.Common.{◌≡◌, ◌≢◌, ℕ, ◌+◌, ◌<◌, inl, inr, true, List, [], ◌∷◌, length, map, slice_get, Some, Ok, refl, subst, Contains}
 use Rattle.std.proofs.lemmas.Bool.{true≢false}
 use Rattle.std.proofs.lemmas.Option.{slice_get_within}
 use Rattle.sb_lit.specs.declared.clause.Lit.{Lit}
+use Rattle.sb_lit.specs.Clauses.{negation}
 use Rattle.sb_lit.specs.Kept.{KeptClause, kept_at}
 use Rattle.sb_lang.specs.Regex.{Regex}
 use Rattle.sb_lang.specs.Constructors.{mkand}
@@ -15,7 +16,7 @@ use Rattle.sb_rulebook.specs.Translation.{translation}
 use Rattle.sb_sound.specs.HintLaws.{Ascend, HasNoSubset, by_atom}
 use Rattle.sb_sound.specs.MembershipLaws.{AreDeniedIn}
 use Rattle.sb_sound.specs.ClauseLaws.{AreDefined, RuleLinesAreExact, LearnedLinesAreExact, AssertionLinesAreExact}
-use Rattle.sb_refute.specs.Units.{Member, Rise, LeadsNowhere, denials_of}
+use Rattle.sb_refute.specs.Units.{Rise, LeadsNowhere}
 use Rattle.sb_refute.proofs.Hints.{here, cons-cases, not-in-nil}
 
 -- what is kept with one more clause, counted or not
@@ -24,10 +25,10 @@ pushed kept clause level rests counted = record (with_clause kept clause level r
 
 -- The denial of memberships.
 
-denials-ascend : (us : List Member) → Rise us → Ascend (denials_of us)
+pub denials-ascend : (ls : List Lit) → Rise ls → Ascend (map negation ls)
 denials-ascend [] rise = tt
-denials-ascend (u ∷ []) rise = tt
-denials-ascend (u ∷ v ∷ us) rise = (by_atom rise.0, denials-ascend (v ∷ us) rise.1)
+denials-ascend (l ∷ []) rise = tt
+denials-ascend (l ∷ m ∷ ls) rise = (by_atom rise.0, denials-ascend (m ∷ ls) rise.1)
 
 denied-known : (atoms : List Atom) (x : ℕ) (ls : List Lit) (ss : List Regex) → AreDeniedIn atoms x ls ss
     → AreDefined atoms ls
@@ -38,24 +39,24 @@ denied-known atoms x (m ∷ ms) (s ∷ ss) h l among = elim (cons-cases m ms l a
   | inr more ↦ denied-known atoms x ms ss h.1 l more
 ]
 
-pub some-denials : (us : List Member) → us ≢ [] → denials_of us ≢ []
+pub some-denials : (ls : List Lit) → ls ≢ [] → map negation ls ≢ []
 some-denials [] h e = h refl
-some-denials (u ∷ us) h e = nonempty (record { atom = u.0; positive = false }) (denials_of us) e
+some-denials (l ∷ ls) h e = nonempty (negation l) (map negation ls) e
   where
-    nonempty : (l : Lit) (ls : List Lit) → l ∷ ls ≡ [] → ⊥
-    nonempty l ls e = cc
+    nonempty : (m : Lit) (ms : List Lit) → m ∷ ms ≡ [] → ⊥
+    nonempty m ms e = cc
 
-pub denial-follows : RuleLinesAreExact → (asked : Asked) (kept : AllKept) (x : ℕ) (us : List Member) (ss : List Regex)
-    (place : ℕ) → us ≢ [] → Rise us → AreDeniedIn kept.atoms x (denials_of us) ss
+pub denial-follows : RuleLinesAreExact → (asked : Asked) (kept : AllKept) (x : ℕ) (clause : List Lit) (ss : List Regex)
+    (place : ℕ) → clause ≢ [] → Ascend clause → AreDeniedIn kept.atoms x clause ss
     → slice_get kept.regexes place ≡ Some (mkand ss) → slice_get kept.dead place ≡ Some true
-    → HasNoSubset kept.clauses (denials_of us) → kept.counted < most_counted asked
-    → follows asked kept (rule_line empty (denials_of us)) ≡ Ok (pushed kept (denials_of us) 0 [] (kept.counted + 1))
-denial-follows exact asked kept x us ss place some rise denied defined dead new room =
-    (exact asked kept (pushed kept (denials_of us) 0 [] (kept.counted + 1)) empty (denials_of us)).1 (record {
-      defined = denied-known kept.atoms x (denials_of us) ss denied;
-      ascend = denials-ascend us rise;
+    → HasNoSubset kept.clauses clause → kept.counted < most_counted asked
+    → follows asked kept (rule_line empty clause) ≡ Ok (pushed kept clause 0 [] (kept.counted + 1))
+denial-follows exact asked kept x clause ss place some ascend denied defined dead new room =
+    (exact asked kept (pushed kept clause 0 [] (kept.counted + 1)) empty clause).1 (record {
+      defined = denied-known kept.atoms x clause ss denied;
+      ascend = ascend;
       form = record {
-        some = some-denials us some;
+        some = some;
         constant = x;
         regexes = ss;
         denied = denied;

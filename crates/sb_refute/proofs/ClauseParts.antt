@@ -1,5 +1,5 @@
 -- Clauses that have only negations of some literals.
-use Rattle.std.proofs.Common.{◌≡◌, ℕ, inl, inr, true, false, List, [], ◌∷◌, Option, Some, None, Result, Ok, Err, Bor, IsSome, IfSome, option_map, refl, sym, ap, subst, ◌∙◌, All, Contains}
+use Rattle.std.proofs.Common.{◌≡◌, ℕ, inl, inr, true, List, [], ◌∷◌, map, Option, Some, None, Result, Ok, Err, Bor, IsSome, IfSome, option_map, refl, sym, ap, subst, ◌∙◌, All, Contains}
 use Rattle.std.specs.Option.{MatchOption, option_copied}
 use Rattle.std.specs.Result.{IfOk}
 use Rattle.std.proofs.lemmas.Bool.{and_from, and_parts, or_left, or_right, or_cases, false≢true}
@@ -9,9 +9,9 @@ use Rattle.sb_lit.specs.declared.clause.Lit.{Lit}
 use Rattle.sb_lit.specs.declared.clause.ClauseId.{ClauseId}
 use Rattle.sb_lit.specs.Clauses.{negation, is_same_literal, is_among, is_false_under, is_false_clause}
 use Rattle.sb_lit.specs.Kept.{Kept, KeptClause, kept_at}
-use Rattle.sb_lit.proofs.CallerLemmas.{is_same_literal-true, is_same_literal-self, negation_twice}
+use Rattle.sb_lit.proofs.CallerLemmas.{is_same_literal-true, is_same_literal-self, among_negated}
 use Rattle.sb_clauses.specs.Propagation.{HasNoneFalse, IsConflict}
-use Rattle.sb_refute.specs.Units.{Member, IsPartIn, HasPart, denials_of, affirmations_of}
+use Rattle.sb_refute.specs.Units.{IsPartIn, HasPart}
 use Rattle.sb_refute.proofs.Hints.{here, later, cons-cases, not-in-nil}
 
 is-among : (ls : List Lit) (l : Lit) → Contains ls l → is_among ls l ≡ true
@@ -29,66 +29,43 @@ among-is (m ∷ ms) l h = elim (or_cases (is_same_literal m l) (is_among ms l) h
   | inr more ↦ later m ms l (among-is ms l more)
 ]
 
--- the negations of the literals that say that atoms are true
-denied-from : (us : List Member) (l : Lit) → Contains (affirmations_of us) (negation l) → Contains (denials_of us) l
-denied-from [] l h = absurd (not-in-nil (negation l) h)
-denied-from (u ∷ us) l h =
-    elim (cons-cases (record { atom = u.0; positive = true }) (affirmations_of us) (negation l) h) [
-      | inl e ↦ subst (Contains (denials_of (u ∷ us))) (ap negation e ∙ negation_twice l)
-          (here (record { atom = u.0; positive = false }) (denials_of us))
-      | inr more ↦ later (record { atom = u.0; positive = false }) (denials_of us) l (denied-from us l more)
+-- a clause is false where these literals are true, as far as all its literals deny one of them
+denials-false : (ls clause : List Lit) → ((l : Lit) → Contains clause l → Contains (map negation ls) l)
+    → is_false_clause ls clause ≡ true
+denials-false ls [] h = refl
+denials-false ls (l ∷ clause) h =
+    and_from (is_false_under ls l) (is_false_clause ls clause)
+    (sym (among_negated ls l) ∙ is-among (map negation ls) l (h l (here l clause)))
+    (denials-false ls clause (λ m among. h m (later l clause m among)))
+
+false-denials : (ls clause : List Lit) → is_false_clause ls clause ≡ true → (l : Lit) → Contains clause l
+    → Contains (map negation ls) l
+false-denials ls [] h l among = absurd (not-in-nil l among)
+false-denials ls (m ∷ clause) h l among =
+    let parts = and_parts (is_false_under ls m) (is_false_clause ls clause) h in
+    elim (cons-cases m clause l among) [
+      | inl e ↦ subst (Contains (map negation ls)) e
+          (among-is (map negation ls) m (among_negated ls m ∙ parts.0))
+      | inr more ↦ false-denials ls clause parts.1 l more
     ]
 
-denied-to : (us : List Member) (l : Lit) → Contains (denials_of us) l → Contains (affirmations_of us) (negation l)
-denied-to [] l h = absurd (not-in-nil l h)
-denied-to (u ∷ us) l h = elim (cons-cases (record { atom = u.0; positive = false }) (denials_of us) l h) [
-  | inl e ↦ subst (Contains (affirmations_of (u ∷ us))) (ap negation e)
-      (here (record { atom = u.0; positive = true }) (affirmations_of us))
-  | inr more ↦ later (record { atom = u.0; positive = true }) (affirmations_of us) (negation l) (denied-to us l more)
-]
-
--- a clause is false where the atoms are true, as far as all its literals deny one of them
-denials-false : (us : List Member) (ls : List Lit) → ((l : Lit) → Contains ls l → Contains (denials_of us) l)
-    → is_false_clause (affirmations_of us) ls ≡ true
-denials-false us [] h = refl
-denials-false us (l ∷ ls) h =
-    and_from (is_false_under (affirmations_of us) l) (is_false_clause (affirmations_of us) ls)
-    (is-among (affirmations_of us) (negation l) (denied-to us l (h l (here l ls))))
-    (denials-false us ls (λ m among. h m (later l ls m among)))
-
-false-denials : (us : List Member) (ls : List Lit) → is_false_clause (affirmations_of us) ls ≡ true → (l : Lit)
-    → Contains ls l → Contains (denials_of us) l
-false-denials us [] h l among = absurd (not-in-nil l among)
-false-denials us (m ∷ ms) h l among =
-    let parts = and_parts (is_false_under (affirmations_of us) m) (is_false_clause (affirmations_of us) ms) h in
-    elim (cons-cases m ms l among) [
-      | inl e ↦ subst (Contains (denials_of us)) e
-          (denied-from us m (among-is (affirmations_of us) (negation m) parts.0))
-      | inr more ↦ false-denials us ms parts.1 l more
-    ]
-
--- what is found where the atoms are true
-part-found : (us : List Member) (kept : Kept) (trues : List Lit) (found : Option ClauseId)
-    → trues ≡ affirmations_of us
-    → MatchOption found (HasNoneFalse kept trues) (λ id. IsConflict kept trues id.0)
-    → IsPartIn kept (denials_of us) found
-part-found us kept trues None is h = λ id clause there among.
-    let none : is_false_clause (affirmations_of us) clause.literals ≡ false =
-    subst (λ ls. is_false_clause ls clause.literals ≡ false) is (h id clause there) in
-    false≢true (sym none ∙ denials-false us clause.literals among)
-part-found us kept trues (Some id) is h = record {
+-- what is found where the literals are true
+part-found : (ls : List Lit) (kept : Kept) (found : Option ClauseId)
+    → MatchOption found (HasNoneFalse kept ls) (λ id. IsConflict kept ls id.0)
+    → IsPartIn kept (map negation ls) found
+part-found ls kept None h = λ id clause there among.
+    false≢true (sym (h id clause there) ∙ denials-false ls clause.literals among)
+part-found ls kept (Some id) h = record {
   clause = h.clause;
   there = h.there;
-  among = false-denials us h.clause.literals
-      (subst (λ ls. is_false_clause ls h.clause.literals ≡ true) is h.is_false);
+  among = false-denials ls h.clause.literals h.is_false;
 }
 
-pub found-then : {E : Type 0} (result : Result (Option ClauseId) E) (us : List Member) (kept : Kept) (trues : List Lit)
-    → trues ≡ affirmations_of us
-    → IfOk result (λ found. MatchOption found (HasNoneFalse kept trues) (λ id. IsConflict kept trues id.0))
-    → IfOk result (IsPartIn kept (denials_of us))
-found-then (Ok found) us kept trues is h = part-found us kept trues found is h
-found-then (Err e) us kept trues is h = tt
+pub found-then : {E : Type 0} (result : Result (Option ClauseId) E) (ls : List Lit) (kept : Kept)
+    → IfOk result (λ found. MatchOption found (HasNoneFalse kept ls) (λ id. IsConflict kept ls id.0))
+    → IfOk result (IsPartIn kept (map negation ls))
+found-then (Ok found) ls kept h = part-found ls kept found h
+found-then (Err e) ls kept h = tt
 
 pub all-among : (ls ms : List Lit) → ((l : Lit) → Contains ls l → Contains ms l) → All (Contains ms) ls
 all-among [] ms h = All-nil (Contains ms)

@@ -6,6 +6,7 @@ pub mod ClauseLines
 pub mod AtomLines
 pub mod Backs
 pub mod Holding
+pub mod Asking
 pub mod LinesPut
 pub mod GateLines
 pub mod DefinedAtoms
@@ -16,6 +17,5 @@ pub mod Memberships
 pub mod UnitFacts
 pub mod Disjoint
 pub mod Lowest
-pub mod Meets
 pub mod Picking
 pub mod CallerLemmas

@@ -1,21 +1,24 @@
 -- Lines that are put, behind which the reader keeps what the evidence knows.
-use Rattle.std.proofs.Common.{◌≡◌, ◌≢◌, ℕ, ◌+◌, ◌^◌, ◌<◌, Bool, true, false, List, [], ◌∷◌, ◌++◌, length, slice_get, Option, Some, None, option_map, refl, sym, ap, subst, ◌∙◌, arith}
+use Rattle.std.proofs.Common.{◌≡◌, ◌≢◌, ℕ, ◌+◌, ◌^◌, ◌<◌, Bool, true, false, List, [], ◌∷◌, ◌++◌, length, map, slice_get, Option, Some, None, option_map, refl, sym, ap, subst, ◌∙◌, arith}
 use Rattle.std.specs.List.{list_all}
 use Rattle.std.proofs.lemmas.Bool.{and_from, false≢true, lt-ltb}
 use Rattle.std.proofs.lemmas.Option.{slice_get-map}
 use Rattle.sb_facts.proofs.CallerLemmas.{mark_there}
+use Rattle.sb_lit.specs.declared.clause.Lit.{Lit}
 use Rattle.sb_lit.specs.Budgets.{Spending}
+use Rattle.sb_lit.specs.Clauses.{negation}
 use Rattle.sb_lit.specs.Kept.{Kept, KeptClause, kept_at}
 use Rattle.sb_lang.specs.Regex.{Regex}
 use Rattle.sb_regex.specs.Numbered.{regex_at}
 use Rattle.sb_deriv.specs.Faithful.{Memo}
 use Rattle.sb_graph.specs.Findings.{is_marked}
 use Rattle.sb_script.specs.Steps.{line}
+use Rattle.sb_rulebook.specs.Atoms.{Atom}
 use Rattle.sb_rulebook.specs.Kept.{AllKept, Asked, rests_of_any}
 use Rattle.sb_rulebook.specs.Lines.{assertion_line, rule_line, learned_line, empty, text_of}
 use Rattle.sb_rulebook.specs.LineLaws.{is_small, are_small, is_small_literal}
 use Rattle.sb_sound.specs.MembershipLaws.{AreDeniedIn}
-use Rattle.sb_sound.specs.HintLaws.{HasNoSubset}
+use Rattle.sb_sound.specs.HintLaws.{Ascend, HasNoSubset}
 use Rattle.sb_sound.specs.ClauseLaws.{RuleLinesAreExact, LearnedLinesAreExact, AssertionLinesAreExact}
 use Rattle.sb_proof.specs.Tapes.{with_bytes}
 use Rattle.sb_trace.specs.Putting.{IsCounted}
@@ -25,7 +28,8 @@ use Rattle.sb_refute.specs.declared.evidence.Asserted.{Asserted}
 use Rattle.sb_refute.specs.declared.evidence.EmptyClause.{EmptyClause}
 use Rattle.sb_refute.specs.Backing.{Backing, Backs, Evidences, EvidencesUncounted, unit_at, empty_at}
 use Rattle.sb_refute.specs.Lines.{IsAssertion, placed}
-use Rattle.sb_refute.specs.Units.{Member, Rise, CanBeDenied, LeadsNowhere, denials_of}
+use Rattle.sb_refute.specs.Units.{CanBeDenied, LeadsNowhere, asked_in}
+use Rattle.sb_refute.proofs.Asking.{denied-all}
 use Rattle.sb_refute.proofs.ClauseLines.{pushed, denial-follows, learned-follows, assertion-follows}
 use Rattle.sb_refute.proofs.Backs.{backs-assertion, backs-denial, backs-empty}
 
@@ -89,21 +93,23 @@ dead-at t root h = step (number_in t.order root) refl h
     step (Some n) is h = record { number = n; there = number-there t.order root n is; marked = h }
 
 pub denial-put : RuleLinesAreExact → (asked : Asked) (before : AllKept) (rs : List Regex) (memo : Memo)
-    (e : Backing) (us : List Member) (budget : Spending) (old new : Option (List ℕ)) → CanBeDenied rs e us → us ≢ []
-    → Rise us → HasNoSubset e.kept (denials_of us) → budget.spent < budget.limit
-    → list_all is_small_literal (denials_of us) ≡ true → Backs rs memo e before
-    → IsCounted asked before budget → new ≡ with_bytes (line (text_of (rule_line empty (denials_of us)))) old
+    (e : Backing) (ls clause : List Lit) (budget : Spending) (old new : Option (List ℕ)) → clause ≡ map negation ls
+    → CanBeDenied rs e ls → clause ≢ [] → Ascend clause → HasNoSubset e.kept clause → budget.spent < budget.limit
+    → list_all is_small_literal clause ≡ true → Backs rs memo e before
+    → IsCounted asked before budget → new ≡ with_bytes (line (text_of (rule_line empty clause))) old
     → Evidences asked before rs memo
-    (record e { kept = e.kept ++ Some (record { literals = denials_of us; level = 0 }) ∷ [] })
+    (record e { kept = e.kept ++ Some (record { literals = clause; level = 0 }) ∷ [] })
     (record budget { spent = budget.spent + 1 }) old new
-denial-put exact asked before rs memo e us budget old new h some rise fresh room smalls b counts told =
+denial-put exact asked before rs memo e ls clause budget old new is h some ascend fresh room smalls b counts told =
     let at = dead-at e.trace h.meet h.dead in
-    let after = pushed before (denials_of us) 0 [] (before.counted + 1) in
+    let after = pushed before clause 0 [] (before.counted + 1) in
     record {
       after = after;
-      puts = puts_one asked before after (rule_line empty (denials_of us)) old new
-          (denial-follows exact asked before h.constant us h.regexes at.number some rise
-          (subst (λ atoms. AreDeniedIn atoms h.constant (denials_of us) h.regexes) (sym b.atoms) h.denied)
+      puts = puts_one asked before after (rule_line empty clause) old new
+          (denial-follows exact asked before h.constant clause (map (asked_in rs e.atoms) ls) at.number some ascend
+          (subst (λ (ms : List Lit). AreDeniedIn before.atoms h.constant ms (map (asked_in rs e.atoms) ls)) (sym is)
+          (subst (λ (atoms : List Atom). AreDeniedIn atoms h.constant (map negation ls) (map (asked_in rs e.atoms) ls))
+          (sym b.atoms) (denied-all rs e.atoms h.constant ls h.about)))
           (ap (λ known. slice_get known at.number) b.tracks.regexes
           ∙ slice_get-map (regex_at rs) e.trace.order at.number ∙ ap (option_map (regex_at rs)) at.there
           ∙ ap Some h.meets)
@@ -111,6 +117,6 @@ denial-put exact asked before rs memo e us budget old new h some rise fresh room
           (λ id c there among. fresh id c (ap (λ (k : Kept). kept_at k id) (sym b.clauses) ∙ there) among)
           (omega (arith, room, counts.spent, counts.limit)))
           smalls told;
-      backs = backs-denial rs memo e before (denials_of us) [] (before.counted + 1) b;
+      backs = backs-denial rs memo e before clause [] (before.counted + 1) b;
       counts = record { spent = ap (λ n. n + 1) counts.spent; limit = counts.limit };
     }

@@ -1,74 +1,92 @@
 -- The clauses of memberships by their atoms, with one more.
-use Rattle.std.proofs.Common.{◌≡◌, ℕ, ◌⊎◌, inl, inr, List, [], ◌∷◌, map, refl, ap, subst, ◌∙◌, Contains}
+use Rattle.std.proofs.Common.{◌≡◌, ℕ, ◌⊎◌, inl, inr, cond, List, [], ◌∷◌, Some, refl, sym, ap, subst, ◌∙◌, Contains}
 use Rattle.std.specs.declared.cmp.Ordering.{Ordering}
 use Rattle.std.specs.declared.cmp.Ordering.TheVariants.{Less, Equal, Greater}
-use Rattle.std.specs.Ordering.{nat_cmp, match_ordering}
-use Rattle.std.specs.BTreeMap.{insert_entry}
+use Rattle.std.specs.Ordering.{nat_cmp, is_eq, match_ordering}
+use Rattle.std.specs.Map.{lookup, values_of}
+use Rattle.std.specs.BTreeMap.{insert_entry, is_at}
+use Rattle.sb_facts.proofs.CallerLemmas.{cmp_equal}
+use Rattle.sb_lit.specs.declared.clause.Lit.{Lit}
 use Rattle.sb_refute.specs.declared.evidence.Asserted.{Asserted}
-use Rattle.sb_refute.specs.Units.{Member, numbered}
+use Rattle.sb_refute.specs.Units.{AreByAtom, literals_in}
 use Rattle.sb_refute.proofs.Hints.{here, later, cons-cases}
 
--- a member of a map
-abbrev member : ℕ → Asserted → Member
-member k v = (k, v.clause.0, v.level)
-
 module _ (k : ℕ) (v : Asserted) where
+  -- by the order of its key to the first one
+  abbrev put_by : Ordering → ℕ × Asserted → List (ℕ × Asserted) → List (ℕ × Asserted)
+  put_by o e es = match_ordering o ((k, v) ∷ e ∷ es) ((e.0, v) ∷ es) (e ∷ insert_entry nat_cmp es k v)
+
   -- one that is there is the new one, or was there
-  pub inserted-unit : ((n m : ℕ) → nat_cmp n m ≡ Equal → n ≡ m) → (es : List (ℕ × Asserted)) (p : Member)
-      → Contains (numbered (insert_entry nat_cmp es k v)) p → (member k v ≡ p) ⊎ Contains (numbered es) p
-  inserted-unit equal [] p h = cons-cases (member k v) [] p h
-  inserted-unit equal (e ∷ es) p h = step (nat_cmp k e.0) refl h (inserted-unit equal es p)
+  pub inserted-value : (es : List (ℕ × Asserted)) (a : Asserted)
+      → Contains (values_of (insert_entry nat_cmp es k v)) a → (v ≡ a) ⊎ Contains (values_of es) a
+  inserted-value [] a h = cons-cases v [] a h
+  inserted-value (e ∷ es) a h = step (nat_cmp k e.0) h (inserted-value es a)
     where
-      step : (o : Ordering) → nat_cmp k e.0 ≡ o
-          → Contains (numbered (match_ordering o ((k, v) ∷ e ∷ es) ((e.0, v) ∷ es) (e ∷ insert_entry nat_cmp es k v))) p
-          → (Contains (numbered (insert_entry nat_cmp es k v)) p → (member k v ≡ p) ⊎ Contains (numbered es) p)
-          → (member k v ≡ p) ⊎ Contains (numbered (e ∷ es)) p
-      step Less is h rest = cons-cases (member k v) (numbered (e ∷ es)) p h
-      step Equal is h rest = elim (cons-cases (member e.0 v) (numbered es) p h) [
-        | inl one ↦ inl (ap (λ (n : ℕ). member n v) (equal k e.0 is) ∙ one)
-        | inr more ↦ inr (later (member e.0 e.1) (numbered es) p more)
+      step : (o : Ordering)
+          → Contains (values_of (put_by o e es)) a
+          → (Contains (values_of (insert_entry nat_cmp es k v)) a → (v ≡ a) ⊎ Contains (values_of es) a)
+          → (v ≡ a) ⊎ Contains (values_of (e ∷ es)) a
+      step Less h rest = cons-cases v (values_of (e ∷ es)) a h
+      step Equal h rest = elim (cons-cases v (values_of es) a h) [
+        | inl one ↦ inl one
+        | inr more ↦ inr (later e.1 (values_of es) a more)
       ]
-      step Greater is h rest =
-          elim (cons-cases (member e.0 e.1) (numbered (insert_entry nat_cmp es k v)) p h) [
-            | inl one ↦ inr (subst (Contains (numbered (e ∷ es))) one (here (member e.0 e.1) (numbered es)))
-            | inr more ↦ elim (rest more) [
-              | inl one ↦ inl one
-              | inr old ↦ inr (later (member e.0 e.1) (numbered es) p old)
-            ]
-          ]
+      step Greater h rest = elim (cons-cases e.1 (values_of (insert_entry nat_cmp es k v)) a h) [
+        | inl one ↦ inr (subst (Contains (values_of (e ∷ es))) one (here e.1 (values_of es)))
+        | inr more ↦ elim (rest more) [
+          | inl one ↦ inl one
+          | inr old ↦ inr (later e.1 (values_of es) a old)
+        ]
+      ]
 
-  -- its atom is there
-  pub atom-there : ((n m : ℕ) → nat_cmp n m ≡ Equal → n ≡ m) → (es : List (ℕ × Asserted))
-      → Contains (map (λ (u : Member). u.0) (numbered (insert_entry nat_cmp es k v))) k
-  atom-there equal [] = here k []
-  atom-there equal (e ∷ es) = step (nat_cmp k e.0) refl (atom-there equal es)
+  -- each stands under its atom
+  pub inserted-by_atom : v.literal.atom ≡ k → (es : List (ℕ × Asserted)) → AreByAtom es
+      → AreByAtom (insert_entry nat_cmp es k v)
+  inserted-by_atom own [] h = (own, tt)
+  inserted-by_atom own (e ∷ es) h = step (nat_cmp k e.0) refl (inserted-by_atom own es h.1)
     where
-      step : (o : Ordering) → nat_cmp k e.0 ≡ o
-          → Contains (map (λ (u : Member). u.0) (numbered (insert_entry nat_cmp es k v))) k
-          → Contains (map (λ (u : Member). u.0)
-          (numbered (match_ordering o ((k, v) ∷ e ∷ es) ((e.0, v) ∷ es) (e ∷ insert_entry nat_cmp es k v)))) k
-      step Less is rest = here k (map (λ (u : Member). u.0) (numbered (e ∷ es)))
-      step Equal is rest =
-          subst (λ n. Contains (n ∷ map (λ (u : Member). u.0) (numbered es)) k) (equal k e.0 is)
-          (here k (map (λ (u : Member). u.0) (numbered es)))
-      step Greater is rest = later e.0 (map (λ (u : Member). u.0) (numbered (insert_entry nat_cmp es k v))) k rest
+      step : (o : Ordering) → nat_cmp k e.0 ≡ o → AreByAtom (insert_entry nat_cmp es k v)
+          → AreByAtom (put_by o e es)
+      step Less is rest = (own, h)
+      step Equal is rest = (own ∙ cmp_equal k e.0 is, h.1)
+      step Greater is rest = (h.0, rest)
 
-  -- and those of the others stay
-  pub atoms-stay : (es : List (ℕ × Asserted)) (q : ℕ) → Contains (map (λ (u : Member). u.0) (numbered es)) q
-      → Contains (map (λ (u : Member). u.0) (numbered (insert_entry nat_cmp es k v))) q
-  atoms-stay [] q h = later k [] q h
-  atoms-stay (e ∷ es) q h =
-      step (nat_cmp k e.0) (cons-cases e.0 (map (λ (u : Member). u.0) (numbered es)) q h) (atoms-stay es q)
+  -- its literal is there
+  pub literal-there : (es : List (ℕ × Asserted)) → Contains (literals_in (insert_entry nat_cmp es k v)) v.literal
+  literal-there [] = here v.literal []
+  literal-there (e ∷ es) = step (nat_cmp k e.0) (literal-there es)
     where
-      step : (o : Ordering) → (e.0 ≡ q) ⊎ Contains (map (λ (u : Member). u.0) (numbered es)) q
-          → (Contains (map (λ (u : Member). u.0) (numbered es)) q
-          → Contains (map (λ (u : Member). u.0) (numbered (insert_entry nat_cmp es k v))) q)
-          → Contains (map (λ (u : Member). u.0)
-          (numbered (match_ordering o ((k, v) ∷ e ∷ es) ((e.0, v) ∷ es) (e ∷ insert_entry nat_cmp es k v)))) q
-      step Less c rest = later k (map (λ (u : Member). u.0) (numbered (e ∷ es))) q h
-      step Equal c rest = h
-      step Greater (inl one) rest =
-          subst (Contains (e.0 ∷ map (λ (u : Member). u.0) (numbered (insert_entry nat_cmp es k v)))) one
-          (here e.0 (map (λ (u : Member). u.0) (numbered (insert_entry nat_cmp es k v))))
-      step Greater (inr more) rest =
-          later e.0 (map (λ (u : Member). u.0) (numbered (insert_entry nat_cmp es k v))) q (rest more)
+      step : (o : Ordering) → Contains (literals_in (insert_entry nat_cmp es k v)) v.literal
+          → Contains (literals_in (put_by o e es)) v.literal
+      step Less rest = here v.literal (literals_in (e ∷ es))
+      step Equal rest = here v.literal (literals_in es)
+      step Greater rest = later e.1.literal (literals_in (insert_entry nat_cmp es k v)) v.literal rest
+
+  -- the clause that stood there has its literal
+  abbrev pub IsOfLiteral : List (ℕ × Asserted) → Type 0
+  IsOfLiteral es = (b : Asserted) → lookup (is_at (nat_cmp k)) es ≡ Some b → b.literal ≡ v.literal
+
+  -- so the literals of all stay
+  pub literals-stay : (es : List (ℕ × Asserted)) → IsOfLiteral es → (q : Lit) → Contains (literals_in es) q
+      → Contains (literals_in (insert_entry nat_cmp es k v)) q
+  literals-stay [] agrees q h = later v.literal [] q h
+  literals-stay (e ∷ es) agrees q h =
+      step (nat_cmp k e.0) refl (cons-cases e.1.literal (literals_in es) q h)
+      (λ others more. literals-stay es others q more)
+    where
+      step : (o : Ordering) → nat_cmp k e.0 ≡ o → (e.1.literal ≡ q) ⊎ Contains (literals_in es) q
+          → (IsOfLiteral es → Contains (literals_in es) q → Contains (literals_in (insert_entry nat_cmp es k v)) q)
+          → Contains (literals_in (put_by o e es)) q
+      step Less is c rest = later v.literal (literals_in (e ∷ es)) q h
+      step Equal is (inl one) rest =
+          subst (Contains (v.literal ∷ literals_in es))
+          (sym (agrees e.1 (ap (λ o. cond (is_eq o) (Some e.1) (lookup (is_at (nat_cmp k)) es)) is)) ∙ one)
+          (here v.literal (literals_in es))
+      step Equal is (inr more) rest = later v.literal (literals_in es) q more
+      step Greater is (inl one) rest =
+          subst (Contains (e.1.literal ∷ literals_in (insert_entry nat_cmp es k v))) one
+          (here e.1.literal (literals_in (insert_entry nat_cmp es k v)))
+      step Greater is (inr more) rest =
+          later e.1.literal (literals_in (insert_entry nat_cmp es k v)) q
+          (rest (λ b found. agrees b
+          (ap (λ o. cond (is_eq o) (Some e.1) (lookup (is_at (nat_cmp k)) es)) is ∙ found)) more)

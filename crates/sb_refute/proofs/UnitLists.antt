@@ -1,83 +1,72 @@
--- The lists that are made of the clauses of memberships, along their atoms or their numbers.
-use Rattle.std.proofs.Common.{◌≡◌, ℕ, ◌<◌, zero, suc, Bool, List, [], ◌∷◌, ◌++◌, map, length, slice_index_or, All, refl, sym, ap, subst, ◌∙◌, arith, append_assoc, append-nil}
-use Rattle.sb_facts.proofs.CallerLemmas.{cmp_less}
-use Rattle.std.specs.Ordering.{nat_cmp}
+-- The clauses of memberships along their atoms, of which each stands once.
+use Rattle.std.proofs.Common.{◌≡◌, ℕ, ◌<◌, ◌⊎◌, inl, inr, List, [], ◌∷◌, map, sym, subst, ◌∙◌, Contains, arith}
 use Rattle.std.specs.Map.{keys_of}
 use Rattle.std.specs.List.Sorted.{IsStrictlySortedBy}
-use Rattle.sb_lit.specs.declared.clause.Lit.{Lit}
+use Rattle.std.specs.Ordering.{nat_cmp}
+use Rattle.sb_facts.proofs.CallerLemmas.{cmp_less}
 use Rattle.sb_refute.specs.declared.evidence.Asserted.{Asserted}
-use Rattle.sb_script.specs.Pieces.{constant_piece}
-use Rattle.sb_rulebook.specs.Atoms.{AtomOver, in_atom}
-use Rattle.sb_atoms.specs.Numbered.{Names}
-use Rattle.sb_refute.specs.Units.{Member, Rise, IsOfRegex, IsMemberAt, AreRegexesOf, numbered}
+use Rattle.sb_refute.specs.Units.{AreByAtom, Rise, literals_of, literals_in}
+use Rattle.sb_refute.proofs.Hints.{here, later, cons-cases, not-in-nil}
 
-abbrev signed : Bool → ℕ → Lit
-signed positive k = record { atom = k; positive = positive }
+-- Elements of lists that are made from others.
 
-pub literals-by_atoms : (positive : Bool) (es : List (ℕ × Asserted))
-    → map (signed positive) (keys_of es) ≡ map (λ (u : Member). signed positive u.0) (numbered es)
-literals-by_atoms positive [] = refl
-literals-by_atoms positive (e ∷ es) = ap (λ (ls : List Lit). signed positive e.0 ∷ ls) (literals-by_atoms positive es)
+pub mapped : {X Y : Type 0} (f : X → Y) (xs : List X) (x : X) → Contains xs x → Contains (map f xs) (f x)
+mapped f [] x h = absurd (not-in-nil x h)
+mapped f (y ∷ ys) x h = elim (cons-cases y ys x h) [
+  | inl one ↦ subst (λ z. Contains (map f (y ∷ ys)) (f z)) one (here (f y) (map f ys))
+  | inr more ↦ later (f y) (map f ys) (f x) (mapped f ys x more)
+]
 
-pub rise-sorted : (es : List (ℕ × Asserted)) → IsStrictlySortedBy nat_cmp (keys_of es) → Rise (numbered es)
+pub unmapped : {X Y : Type 0} (f : X → Y) (xs : List X) (y : Y) → Contains (map f xs) y
+    → (x : X) × Contains xs x × (f x ≡ y)
+unmapped f [] y h = absurd (not-in-nil y h)
+unmapped f (x ∷ xs) y h = elim (cons-cases (f x) (map f xs) y h) [
+  | inl one ↦ (x, here x xs, one)
+  | inr more ↦ let it = unmapped f xs y more in (it.0, later x xs it.0 it.1, it.2)
+]
+
+-- Clauses in a map, whose keys ascend.
+
+pub rise-sorted : (es : List (ℕ × Asserted)) → IsStrictlySortedBy nat_cmp (keys_of es) → AreByAtom es
+    → Rise (literals_in es)
 unfolding IsStrictlySortedBy
-rise-sorted [] h = tt
-rise-sorted (e ∷ []) h = tt
-rise-sorted (e ∷ f ∷ es) h = (cmp_less e.0 f.0 h.0.0, rise-sorted (f ∷ es) h.1)
+rise-sorted [] h own = tt
+rise-sorted (e ∷ []) h own = tt
+rise-sorted (e ∷ f ∷ es) h own = (
+  subst (λ n. n < f.1.literal.atom) (sym own.0)
+      (subst (λ n. e.0 < n) (sym own.1.0) (cmp_less e.0 f.0 h.0.0)),
+  rise-sorted (f ∷ es) h.1 own.1,
+)
 
--- the regexes of these atoms, in order
-abbrev AreRegexesAt : List (AtomOver ℕ) → List ℕ → List ℕ → Type 0
-AreRegexesAt atoms [] [] = Unit {0}
-AreRegexesAt atoms (k ∷ ks) (r ∷ rs) =
-    (x : ℕ) × Names atoms k (in_atom (constant_piece x ∷ []) r) × AreRegexesAt atoms ks rs
-AreRegexesAt atoms _ _ = ⊥
-
--- The atoms that are left are memberships, and behind the regexes so far theirs make those of all.
-pub record Collects (atoms : List (AtomOver ℕ)) (us : List Member) (left seen : List ℕ) : Type 0 where
-  pub members : All (IsMemberAt atoms) left
-  pub all : (rest : List ℕ) → AreRegexesAt atoms left rest → AreRegexesOf atoms us (seen ++ rest)
-
-regexes-by_atoms : (atoms : List (AtomOver ℕ)) (es : List (ℕ × Asserted)) (rs : List ℕ)
-    → AreRegexesAt atoms (keys_of es) rs → AreRegexesOf atoms (numbered es) rs
-regexes-by_atoms atoms [] [] h = tt
-regexes-by_atoms atoms [] (r ∷ rs) h = absurd h
-regexes-by_atoms atoms (e ∷ es) [] h = absurd h
-regexes-by_atoms atoms (e ∷ es) (r ∷ rs) h = (h.0, h.1, regexes-by_atoms atoms es rs h.2)
-
-keys-all : (P : ℕ → Type 0) (es : List (ℕ × Asserted)) → All (λ u. P u.0) (numbered es) → All P (keys_of es)
-keys-all P [] h = λ k d l. absurd (omega (arith, l))
-keys-all P (e ∷ es) h = step (keys-all P es (λ k d l. h (suc k) d (omega (arith, l))))
+-- those behind the first are of greater atoms
+above : (u : Asserted) (us : List Asserted) → Rise (literals_of (u ∷ us)) → (a : Asserted) → Contains us a
+    → u.literal.atom < a.literal.atom
+above u [] rise a h = absurd (not-in-nil a h)
+above u (v ∷ us) rise a h = step (above v us rise.1 a) (cons-cases v us a h)
   where
-    step : All P (keys_of es) → (k d : ℕ) → k < length (keys_of (e ∷ es)) → P (slice_index_or (keys_of (e ∷ es)) k d)
-    step rest zero d l = h zero (0, 0, 0) (omega arith)
-    step rest (suc k) d l = rest k d (omega (arith, l))
+    step : (Contains us a → v.literal.atom < a.literal.atom) → (v ≡ a) ⊎ Contains us a
+        → u.literal.atom < a.literal.atom
+    step rest (inl one) = subst (λ (b : Asserted). u.literal.atom < b.literal.atom) one rise.0
+    step rest (inr more) = let low = rise.0 in let high = rest more in omega (arith, low, high)
 
-pub collects-none : (atoms : List (AtomOver ℕ)) (es : List (ℕ × Asserted)) (left seen : List ℕ) → left ≡ keys_of es
-    → seen ≡ [] → All (λ u. IsMemberAt atoms u.0) (numbered es) → Collects atoms (numbered es) left seen
-collects-none atoms es left seen is none members =
-    subst (λ ks. Collects atoms (numbered es) ks seen) (sym is)
-    (subst (Collects atoms (numbered es) (keys_of es)) (sym none)
-    (record { members = keys-all (IsMemberAt atoms) es members; all = λ rest. regexes-by_atoms atoms es rest }))
+rest-rise : (u : Asserted) (us : List Asserted) → Rise (literals_of (u ∷ us)) → Rise (literals_of us)
+rest-rise u [] rise = tt
+rest-rise u (v ∷ us) rise = rise.1
 
-pub collects-first : (atoms : List (AtomOver ℕ)) (us : List Member) (left seen : List ℕ) (k : ℕ) (ks : List ℕ)
-    → left ≡ k ∷ ks → Collects atoms us left seen → IsMemberAt atoms k
-collects-first atoms us left seen k ks is h =
-    subst (λ all. All (IsMemberAt atoms) all) is h.members 0 0 (omega arith)
-
-pub collects-one : (atoms : List (AtomOver ℕ)) (us : List Member) (left seen more : List ℕ) (k : ℕ) (ks : List ℕ)
-    (r : ℕ) → left ≡ k ∷ ks → more ≡ seen ++ r ∷ [] → IsOfRegex atoms k r → Collects atoms us left seen
-    → Collects atoms us ks more
-collects-one atoms us left seen more k ks r is now of h =
-    let g = subst (λ all. Collects atoms us all seen) is h in
-    record {
-      members = λ i d l. g.members (suc i) d (omega (arith, l));
-      all = λ rest are. subst (AreRegexesOf atoms us)
-          (sym (append_assoc seen (r ∷ []) rest) ∙ ap (λ (all : List ℕ). all ++ rest) (sym now))
-          (g.all (r ∷ rest) (of.0, of.1, are));
-    }
-
-pub collects-all : (atoms : List (AtomOver ℕ)) (us : List Member) (left seen : List ℕ) → left ≡ []
-    → Collects atoms us left seen → AreRegexesOf atoms us seen
-collects-all atoms us left seen is h =
-    subst (AreRegexesOf atoms us) (append-nil seen)
-    ((subst (λ all. Collects atoms us all seen) is h).all [] tt)
+-- so one atom has one clause
+pub one-clause : (us : List Asserted) → Rise (literals_of us) → (a b : Asserted) → Contains us a → Contains us b
+    → a.literal.atom ≡ b.literal.atom → a ≡ b
+one-clause [] rise a b first second same = absurd (not-in-nil a first)
+one-clause (u ∷ us) rise a b first second same =
+    step (one-clause us (rest-rise u us rise) a b) (cons-cases u us a first) (cons-cases u us b second)
+  where
+    step : (Contains us a → Contains us b → a.literal.atom ≡ b.literal.atom → a ≡ b) → (u ≡ a) ⊎ Contains us a
+        → (u ≡ b) ⊎ Contains us b → a ≡ b
+    step rest (inl p) (inl q) = sym p ∙ q
+    step rest (inl p) (inr later_b) =
+        let less = subst (λ (v : Asserted). v.literal.atom < b.literal.atom) p (above u us rise b later_b) in
+        absurd (omega (arith, less, same))
+    step rest (inr later_a) (inl q) =
+        let less = subst (λ (v : Asserted). v.literal.atom < a.literal.atom) q (above u us rise a later_a) in
+        absurd (omega (arith, less, same))
+    step rest (inr later_a) (inr later_b) = rest later_a later_b same

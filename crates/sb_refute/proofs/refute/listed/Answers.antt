@@ -1,9 +1,9 @@
-use Rattle.std.proofs.Common.{List, ◌++◌, ap₂, ◌∙◌, ◌∷◌, [], sym, ap, append_assoc}
+use Rattle.std.proofs.Common.{List, ◌++◌, ap₂, ◌∙◌, ◌∷◌, [], sym, ap, append_assoc, append-nil}
 use Rattle.sb_refute.specs.declared.evidence.Asserted.{Asserted}
 use Rattle.sb_refute.proofs.UnitLists.{rise-sorted}
 use Rattle.std.proofs.lemmas.Result.{IfOk-from_err}
 use Rattle.std.specs.Map.Iter.{deref}
-use Rattle.std.proofs.lemmas.Map.Iter.{rest_more}
+use Rattle.std.proofs.lemmas.Map.Iter.{rest_more, rest_all}
 use Rattle.sb_refute.proofs.refute.listed.Goals as goal
 
 pub loop-asserted-init : goal.loop-asserted-init
@@ -11,8 +11,17 @@ loop-asserted-init c =
     ap₂ (λ (xs ys : List Asserted). xs ++ ys) c.in_ok-all.ensures.items
     (c.into_iter-asserted-iterator.ensures.into_iter_gives ∙ c.values-asserted-items.ensures.rest)
 
+pub returns-clause-are : goal.returns-clause-are
+returns-clause-are c =
+    let all = c.loop-asserted.all.items in
+    sym (append-nil all)
+    ∙ (ap (λ (xs : List Asserted). all ++ xs)
+    (sym (rest_all deref c.loop-asserted.asserted-iterator c.next.new.self c.next.result c.in-None.is
+    c.next.ensures.steps))
+    ∙ c.loop-asserted.invariant)
+
 pub returns-clause-rise : goal.returns-clause-rise
-returns-clause-rise c = rise-sorted c.args.units.now.entries c.values-asserted-items.ensures.ordered
+returns-clause-rise c = rise-sorted c.args.units.now.entries c.values-asserted-items.ensures.ordered c.requires
 
 pub returns-in_err-all : goal.returns-in_err-all
 returns-in_err-all c =

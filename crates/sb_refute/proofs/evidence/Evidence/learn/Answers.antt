@@ -19,7 +19,7 @@ use Rattle.sb_refute.proofs.evidence.Evidence.learn.Goals as goal
 pub returns-clause-puts : goal.returns-clause-puts
 returns-clause-puts g c =
     let e = c.args.self.now in
-    let ids = c.in_ok-hints.field-0.hints.items in
+    let ids = c.args.reasons.hints.items in
     let one = c.in_ok-empty.empty in
     let no = sym c.is_err.ensures.value ∙ c.if-is_err.false in
     let told = g.L.Tape.told c.args.tape.now in
@@ -28,9 +28,9 @@ returns-clause-puts g c =
     c.args.budget.now c.tick.new.self
     told (g.L.Tape.told c.put_line.new.tape)
     (subst (λ n. LeadsNowhere before.clauses ids n) (sym c.in_ok-empty.ensures.level)
-    (c.in_ok-hints.ensures.leads rs memo before b))
+    (c.requires.leads rs memo before b))
     (none-bare e.atoms e.kept e.asserted e.refuted e.gates c.stands.ensures c.requires.refuted)
-    c.in_ok-hints.ensures.small (told_ok c.tick.result _ no c.tick.ensures.room)
+    c.requires.small (told_ok c.tick.result _ no c.tick.ensures.room)
     (told_ok c.tick.result _ no c.tick.ensures.ok) c.in_ok-empty.ensures.ok b counts
     (c.in_ok-put_line.ensures.told
     ∙ ap (λ (ls : List Lit). with_bytes (line (text_of (learned_line ls ids))) told) c.new.ensures.items)
@@ -47,22 +47,9 @@ returns-clause-refuted g c =
       ),
     )
 
-pub returns-in_err-hints : goal.returns-in_err-hints
-returns-in_err-hints g c =
-    let x = c.from_residual in
-    let p = err_from_is_err_and x.result x.ensures.1 in
-    record {
-      puts = IfOk-from_err x.result _ x.ensures.0;
-      refuted = IfOk-from_err x.result _ x.ensures.0;
-      asserted = refl;
-      atoms = refl;
-      trace = refl;
-      counts = counts_none x.result p.0 _ p.1 p.2;
-    }
-
 pub returns-in_err-put_line : goal.returns-in_err-put_line
 returns-in_err-put_line g c =
-    let x = c.from_residual-in_err-put_line in
+    let x = c.from_residual in
     let p = err_from_is_err_and x.result x.ensures.1 in
     record {
       puts = IfOk-from_err x.result _ x.ensures.0;
@@ -95,7 +82,8 @@ returns-in_err-empty g c =
       asserted = ap (λ (f : Backing). f.asserted) c.in_err-empty.ensures.err;
       atoms = ap (λ (f : Backing). f.atoms) c.in_err-empty.ensures.err;
       trace = ap (λ (f : Backing). f.trace) c.in_err-empty.ensures.err;
-      counts = subst (λ old. CountsTapeFault x.result old (g.L.Tape.faults c.put_line.new.tape)) c.in_ok-put_line.ensures.counts
+      counts = subst (λ old. CountsTapeFault x.result old (g.L.Tape.faults c.put_line.new.tape))
+          c.in_ok-put_line.ensures.counts
           (counts_none x.result p.0 (g.L.Tape.faults c.put_line.new.tape) p.1 p.2);
     }
 
@@ -110,12 +98,6 @@ returns-clause-trace g c = ap (λ (f : Backing). f.trace) c.in_ok-empty.ensures.
 
 pub returns-clause-counts : goal.returns-clause-counts
 returns-clause-counts g c = c.in_ok-put_line.ensures.counts
-
-pub reasons-requires-clause-units : goal.reasons-requires-clause-units
-reasons-requires-clause-units g c = c.requires.units
-
-pub reasons-requires-clause-part : goal.reasons-requires-clause-part
-reasons-requires-clause-part g c = c.requires.part
 
 pub add_empty-requires : goal.add_empty-requires
 add_empty-requires g c = record { unset = c.requires.refuted }

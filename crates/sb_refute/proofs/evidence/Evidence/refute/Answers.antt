@@ -1,15 +1,14 @@
-use Rattle.std.proofs.Common.{◌≡◌, Some, option_map, sym, ap, ◌∙◌, refl, subst, Option}
+use Rattle.std.proofs.Common.{◌≡◌, Some, option_map, sym, ap, ◌∙◌, refl, subst}
+use Rattle.std.proofs.lemmas.Result.{on_ok_weaker, IfOk-from_err, err_from_is_err_and}
 use Rattle.sb_lit.specs.Kept.{kept_at}
+use Rattle.sb_regex.proofs.CallerLemmas.{extends_same}
+use Rattle.sb_trace.proofs.CallerLemmas.{stays_same, counts_none}
+use Rattle.sb_trace.specs.Tracking.{StaysNumbered, Traced}
 use Rattle.sb_refute.specs.declared.evidence.EmptyClause.{EmptyClause}
 use Rattle.sb_refute.specs.Backing.{Backing}
-use Rattle.std.proofs.lemmas.Result.{on_ok_weaker, IfOk-from_err, err_from_is_err_and}
-use Rattle.sb_refute.specs.Units.{numbered}
-use Rattle.sb_refute.proofs.Memberships.{places-affirmed, units-same, evidences-both, evidences-none}
-use Rattle.sb_trace.proofs.CallerLemmas.{stays_same, counts_none, counts_on}
-use Rattle.sb_trace.specs.Tracking.{StaysNumbered, Traced}
-use Rattle.sb_regex.proofs.CallerLemmas.{extends_same}
-use Rattle.sb_trace.specs.Putting.{CountsTapeFault}
-use Rattle.sb_lit.specs.declared.clause.ClauseId.{ClauseId}
+use Rattle.sb_refute.specs.Units.{IsGathered}
+use Rattle.sb_refute.proofs.Disjoint.{places-stated, units-apart}
+use Rattle.sb_refute.proofs.Memberships.{evidences-none}
 use Rattle.sb_refute.proofs.evidence.Evidence.refute.Goals as goal
 
 pub returns-in-Some-clause-refuted : goal.returns-in-Some-clause-refuted
@@ -25,28 +24,14 @@ returns-in-Some-clause-refuted g c =
       ),
     )
 
-pub units-requires : goal.units-requires
-units-requires g c = places-affirmed c.args.arena.now c.args.self.now c.args.members.now c.requires.members
+pub returns-in-Some-clause-puts : goal.returns-in-Some-clause-puts
+returns-in-Some-clause-puts g c = λ asked before b counts. evidences-none asked before _ _ _ _ _ b counts
 
-pub learn-requires-clause-units : goal.learn-requires-clause-units
-learn-requires-clause-units g c = record {
-  places = c.args.members.now;
-  units = units-same c.args.self.now c.denial.new.self c.args.members.now (numbered c.in_ok-units.units.entries)
-      c.in_ok-id.ensures.asserted c.in_ok-units.ensures;
-}
+pub gathered-requires : goal.gathered-requires
+gathered-requires g c = places-stated c.args.arena.now c.args.self.now c.args.members.now c.requires.members
 
-pub returns-clause-puts : goal.returns-clause-puts
-returns-clause-puts g c =
-    on_ok_weaker c.learn.result
-    (λ put asked before b counts.
-    evidences-both asked before c.denial.new.arena c.denial.new.graph.memo c.denial.new.self c.learn.new.self
-    c.denial.new.budget c.learn.new.budget (g.L.Tape.told c.args.tape.now) (g.L.Tape.told c.denial.new.tape)
-    (g.L.Tape.told c.learn.new.tape) (c.in_ok-id.ensures.puts asked before b counts)
-    (λ after now n. put asked c.denial.new.arena c.denial.new.graph.memo after now n))
-    c.learn.ensures.puts
-
-pub returns-in_err-units : goal.returns-in_err-units
-returns-in_err-units g c =
+pub returns-in_err-gathered : goal.returns-in_err-gathered
+returns-in_err-gathered g c =
     let x = c.from_residual in
     let p = err_from_is_err_and x.result x.ensures.1 in
     record {
@@ -62,30 +47,31 @@ returns-in_err-units g c =
       counts = counts_none x.result p.0 _ p.1 p.2;
     }
 
-pub returns-in_err-id : goal.returns-in_err-id
-returns-in_err-id g c =
-    let x = c.from_residual-in_err-id in
-    let p = err_from_is_err_and x.result x.ensures.1 in
-    let d = c.in_err-id.ensures in
+pub refute_apart-requires : goal.refute_apart-requires
+refute_apart-requires g c =
+    let e = c.args.self.now in
+    let places = c.args.members.now in
+    let units = subst (IsGathered e places) c.in-Apart.is c.in_ok-gathered.ensures in
     record {
-      puts = IfOk-from_err x.result _ x.ensures.0;
-      refuted = IfOk-from_err x.result _ x.ensures.0;
-      asserted = d.asserted;
-      atoms = d.atoms;
-      stays = d.stays;
-      extends = d.extends;
-      graph = d.graph;
-      marks_stay = d.marks_stay;
-      derivatives_stay = d.derivatives_stay;
-      counts = counts_on (Option ClauseId) x.result p.0 _ _ _ p.1 p.2 d.counts;
+      graph = c.requires.graph;
+      regexes = c.requires.regexes;
+      units = record { places = places; units = units };
+      members = units-apart c.args.arena.now e places c.in-Apart.units.entries c.requires.members units;
+      refuted = ap (λ (v : Backing). v.refuted) (sym c.self.view_is) ∙ c.in_default.is;
     }
 
-pub returns-in_default-2 : goal.returns-in_default-2
-returns-in_default-2 g c =
-    let d = c.in_ok-id.ensures in
+pub refute_opposed-requires : goal.refute_opposed-requires
+refute_opposed-requires g c = record {
+  opposed = subst (IsGathered c.args.self.now c.args.members.now) c.in-Opposed.is c.in_ok-gathered.ensures;
+  refuted = ap (λ (v : Backing). v.refuted) (sym c.self.view_is) ∙ c.in_default.is;
+}
+
+pub returns-in-Apart : goal.returns-in-Apart
+returns-in-Apart g c =
+    let d = c.refute_apart.ensures in
     record {
       puts = d.puts;
-      refuted = d.spent c.in_default-2.is;
+      refuted = d.refuted;
       asserted = d.asserted;
       atoms = d.atoms;
       stays = d.stays;
@@ -96,36 +82,20 @@ returns-in_default-2 g c =
       counts = d.counts;
     }
 
-pub returns-clause-asserted : goal.returns-clause-asserted
-returns-clause-asserted g c = c.learn.ensures.asserted ∙ c.in_ok-id.ensures.asserted
-
-pub returns-clause-atoms : goal.returns-clause-atoms
-returns-clause-atoms g c = c.learn.ensures.atoms ∙ c.in_ok-id.ensures.atoms
-
-pub returns-clause-stays : goal.returns-clause-stays
-returns-clause-stays g c = subst (λ (t : Traced). StaysNumbered c.args.self.now.trace t) (sym c.learn.ensures.trace) c.in_ok-id.ensures.stays
-
-pub returns-clause-extends : goal.returns-clause-extends
-returns-clause-extends g c = c.in_ok-id.ensures.extends
-
-pub returns-clause-graph : goal.returns-clause-graph
-returns-clause-graph g c = c.in_ok-id.ensures.graph
-
-pub returns-clause-marks_stay : goal.returns-clause-marks_stay
-returns-clause-marks_stay g c = c.in_ok-id.ensures.marks_stay
-
-pub returns-clause-derivatives_stay : goal.returns-clause-derivatives_stay
-returns-clause-derivatives_stay g c = c.in_ok-id.ensures.derivatives_stay
-
-pub returns-clause-refuted : goal.returns-clause-refuted
-returns-clause-refuted g c = c.learn.ensures.refuted
-
-pub returns-clause-counts : goal.returns-clause-counts
-returns-clause-counts g c =
-    subst (λ old. CountsTapeFault c.learn.result old (g.L.Tape.faults c.learn.new.tape)) c.in_ok-id.ensures.counts c.learn.ensures.counts
-
-pub learn-requires-clause-refuted : goal.learn-requires-clause-refuted
-learn-requires-clause-refuted g c = c.in_ok-id.ensures.refuted
-
-pub returns-in-Some-clause-puts : goal.returns-in-Some-clause-puts
-returns-in-Some-clause-puts g c = λ asked before b counts. evidences-none asked before _ _ _ _ _ b counts
+pub returns-in-Opposed : goal.returns-in-Opposed
+returns-in-Opposed g c =
+    let d = c.refute_opposed.ensures in
+    record {
+      puts = on_ok_weaker c.refute_opposed.result
+          (λ put asked before b counts. put asked c.args.arena.now c.args.graph.now.memo before b counts) d.puts;
+      refuted = d.refuted;
+      asserted = d.asserted;
+      atoms = d.atoms;
+      stays = subst (λ (t : Traced). StaysNumbered c.args.self.now.trace t) (sym d.trace)
+          (stays_same c.args.self.now.trace);
+      extends = extends_same c.args.arena.now;
+      graph = c.requires.graph;
+      marks_stay = λ n h. h;
+      derivatives_stay = λ n pieces h. h;
+      counts = d.counts;
+    }
