@@ -27,8 +27,7 @@ use Rattle.sb_term.specs.Numbered as table
 use Rattle.sb_term.specs.Serials.{has_serials_below, all_below}
 use Rattle.sb_term.proofs.CallerLemmas as table_facts
 use Rattle.sb_script.specs.State.{Assertion, asserted, a_mark}
-use Rattle.sb_script.specs.Brought.{asked}
-use Rattle.sb_script.specs.Sizes.{is_regular}
+use Rattle.sb_script.specs.Fragment.{fits}
 use Rattle.sb_fragment.specs.declared.measure.Measure.{Measure}
 use Rattle.sb_fragment.specs.Measures.{AreMeasures}
 use Rattle.sb_fragment.specs.Rules.{is_decided}
@@ -38,12 +37,13 @@ use Rattle.sb_decide.specs.declared.conjuncts.Member.{Member}
 use Rattle.sb_decide.specs.declared.decide.Decider.{Decider}
 use Rattle.sb_decide.specs.Conjoined.{Conjoined, conjoined_at, without_last, OthersSettled, HasRoom, IsChangedAt}
 use Rattle.sb_decide.specs.Deciding.{in_each, word_at}
+use Rattle.sb_decide.specs.Demands.{demanded}
 use Rattle.sb_decide.specs.Knowing.{IsTaken, AreKept, Knows, places_of}
 use Rattle.sb_decide.specs.Members.{IsMember, AreMembers, AreInside, AreRooted, IsEmptyAt, ids_in, places_in, words_in}
 use Rattle.sb_decide.specs.Taking.{StayKept, other_dead}
-use Rattle.sb_decide.proofs.AskingTerms.{asking_below}
 use Rattle.sb_decide.proofs.Conjunctions.{same_least, least_of_all}
 use Rattle.sb_decide.proofs.Constants.{other_than, places_put, places_back}
+use Rattle.sb_decide.proofs.DemandFacts.{demanded_below, demanded_decided}
 use Rattle.sb_decide.proofs.MemberFacts.{members_grown, members_told, members_longer, members_left, members_pushed, members_popped, ids_other, words_grown, words_same, empty_grown, empty_pushed, empty_popped}
 use Rattle.sb_decide.proofs.InsideFacts.{inside_told, inside_longer, inside_left}
 use Rattle.sb_decide.proofs.RootFacts.{rooted_grown, rooted_pushed, rooted_popped}
@@ -282,15 +282,15 @@ one_outside ts (y ∷ xs) (suc i) x low is h =
 -- the next assertion is a membership
 pub is_member : (rs : List Regex) (ts : List Term) (xs : List code.Assertion) (i : ℕ) (x : code.Assertion)
     (m : Member) (id : ℕ) (R : Term) → All (HasNumberBelow (length ts)) xs → i < length xs → x ≡ get_or xs i x →
-    x.term ≡ Some id → asked (term_at ts id) ≡ Some (m.serial.0, R) → is_regular R ≡ true →
+    x.term ≡ Some id → demanded (term_at ts id) ≡ Some (m.serial.0, R) → fits (term_at ts id) ≡ true →
     IsRegexOf rs R m.regex → IsMember rs ts m x
-is_member rs ts xs i x m id R numbers low at there asks regular regex = record {
+is_member rs ts xs i x m id R numbers low at there asks fit regex = record {
   term = term_at ts id;
   wanted = R;
   number = rw at (numbers i x low);
   is = ap (assertion_of ts) there;
   asks = asks;
-  regular = regular;
+  decided = demanded_decided (term_at ts id) m.serial.0 R asks regex.kind fit;
   regex = regex;
 }
 
@@ -310,11 +310,11 @@ below_in n ts a (Some id) h l is t e =
 
 pub serial_within : (n : ℕ) (ts : List Term) (xs : List code.Assertion) (i : ℕ) (x : code.Assertion)
     (id serial : ℕ) (R : Term) → all_below n ts ≡ true → All (HasNumberBelow (length ts)) xs → i < length xs →
-    x ≡ get_or xs i x → x.term ≡ Some id → asked (term_at ts id) ≡ Some (serial, R) → serial < n
+    x ≡ get_or xs i x → x.term ≡ Some id → demanded (term_at ts id) ≡ Some (serial, R) → serial < n
 serial_within n ts xs i x id serial R h numbers l is there asks =
     let low : HasNumberBelow (length ts) x = rw is (numbers i x l) in
     let below = below_in n ts (assertion_in ts x) x.term h low refl (term_at ts id) (ap (assertion_of ts) there) in
-    let first : nat_lt serial n ≡ true = asking_below n (term_at ts id) serial R asks below in
+    let first : nat_lt serial n ≡ true = demanded_below n (term_at ts id) serial R asks below in
     grind (arith, nat_tests)
 
 -- nothing is known yet

@@ -43,8 +43,8 @@ dead_known law kept stack k =
     let sofar = sofar_of law kept.arena stack.table kept.members.items stack.assertions k.taken.members in
     some_more (IsEmptyAt kept.arena kept.members.items)
     (λ n. HasNoWordAt (live (state_of stack)) (places_of kept n))
-    (λ n empty rs ids regexes w c. words_at_places law rs 0 n (live (state_of stack))
-    (map (assertion_in stack.table) (take (length kept.members.items) stack.assertions)) ids w c sofar.members
+    (λ n empty rs regexes w c. words_at_places law 0 n (live (state_of stack))
+    (map (assertion_in stack.table) (take (length kept.members.items) stack.assertions)) rs w c sofar.members
     (front_live stack (length kept.members.items))
     (rw (places_are kept n stack k) at regexes)
     ∙ (sofar.words n w c ∙ empty w c)) kept.dead k.taken.dead

@@ -1,4 +1,5 @@
 pub mod Conjunctions
+pub mod DemandFacts
 pub mod AskingTerms
 pub mod OneMembership
 pub mod MemberFacts

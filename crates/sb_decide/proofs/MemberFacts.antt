@@ -45,7 +45,7 @@ members_grown old new ts (m ∷ ms) (x ∷ xs) e h = (
     number = h.0.number;
     is = h.0.is;
     asks = h.0.asks;
-    regular = h.0.regular;
+    decided = h.0.decided;
     regex = regex_grown old new h.0.wanted m.regex e h.0.regex;
   },
   members_grown old new ts ms xs e h.1,
@@ -67,7 +67,7 @@ members_told rs old new (m ∷ ms) (x ∷ xs) e h = (
     number = number_more (length old) (length new) (table_facts.long_kept old new e) x.term h.0.number;
     is = same_assertion old new e x.term h.0.number ∙ h.0.is;
     asks = h.0.asks;
-    regular = h.0.regular;
+    decided = h.0.decided;
     regex = h.0.regex;
   },
   members_told rs old new ms xs e h.1,

@@ -16,36 +16,23 @@ use Rattle.sb_meaning.specs.Terms.{Sort, Term, text}
 use Rattle.sb_meaning.specs.Values.{Valuation, Text, value_in}
 use Rattle.sb_meaning.specs.Truth.{means_reglan, meaning_of, holds, all_hold}
 use Rattle.sb_script.specs.State.{Assertion, asserted, a_mark, terms_in}
-use Rattle.sb_script.specs.Brought.{asked, membership_of, is_regex, is_membership, is_structure}
-use Rattle.sb_script.specs.Sizes.{is_regular}
+use Rattle.sb_script.specs.Brought.{is_regex, is_structure}
 use Rattle.sb_script.specs.Fragment.{fits}
-use Rattle.sb_script.proofs.CallerLemmas.{asked_holds, asked_regular}
 use Rattle.std.specs.List.{list_all}
 use Rattle.sb_term.specs.declared.assertion.Assertion as code
 use Rattle.sb_fragment.specs.Rules.{is_decided}
-use Rattle.sb_fragment.proofs.CallerLemmas.{asked_membership, asked_decided, membership_structure}
 use Rattle.sb_problem.specs.Normals.{IsRegexOf}
 use Rattle.sb_stack.specs.Speaking.{speaks_of}
 use Rattle.sb_stack.specs.Stacked.{values_at, assertion_in}
 use Rattle.sb_stack.proofs.CallerLemmas.{value_there}
 use Rattle.sb_decide.specs.declared.conjuncts.Member.{Member}
+use Rattle.sb_decide.specs.Demands.{demanded, is_demand}
 use Rattle.sb_decide.specs.Deciding.{IsSofar, in_each, asking, words_asked, word_at}
 use Rattle.sb_decide.specs.Members.{AreMembers, AreInside, ids_in}
 use Rattle.sb_decide.specs.Places.{asks_of, is_member}
-use Rattle.sb_decide.proofs.AskingTerms.{asks_same, asking_speaks}
+use Rattle.sb_decide.proofs.AskingTerms.{asks_same}
+use Rattle.sb_decide.proofs.DemandFacts.{demand_in, demanded_holds, demanded_decided, demanded_kind, demanded_speaks}
 use Rattle.sb_regex.proofs.CallerLemmas.{names_at, names_below}
-
-membership_holds : (v : Valuation) (serial : ℕ) (R : Term) (reglan : RegLan) (w : List ℕ)
-    → meaning_of v R ≡ means_reglan reglan → value_in v serial text ≡ Text w
-    → holds (membership_of serial R) v ≡ in_re reglan w
-membership_holds v serial R reglan w means value = rw (means, value) (and-true (in_re reglan w))
-
--- a term is true where the constant's word is in the regular expression that the term asks for
-pub asking_holds : (v : Valuation) (t : Term) (serial : ℕ) (R : Term) (reglan : RegLan) (w : List ℕ)
-    → asked t ≡ Some (serial, R) → meaning_of v R ≡ means_reglan reglan → value_in v serial text ≡ Text w
-    → holds t v ≡ in_re reglan w
-asking_holds v t serial R reglan w asks means value =
-    asked_holds t serial R asks v ∙ membership_holds v serial R reglan w means value
 
 alone_value : (n : ℕ) (w : List ℕ) → value_in ((n, Text w) ∷ []) n text ≡ Text w
 alone_value n w = let same : (n == n) ≡ true = eq-eqb n n refl in rw same refl
@@ -70,21 +57,21 @@ pub words-append : (n : ℕ) (ts us : List Term) (w : List ℕ)
 words-append n ts us w = ap (λ all. all_hold all ((n, Text w) ∷ [])) (asking-append n ts us)
     ∙ all_hold-append (asking n ts) (asking n us) ((n, Text w) ∷ [])
 
--- the words that one term allows: of its constant those of the regular expression that it asks for, and all of another
-pub one_same : (n : ℕ) (t : Term) (serial : ℕ) (R : Term) (reglan : RegLan) (w : List ℕ) → asked t ≡ Some (serial, R)
-    → ((v : Valuation) → meaning_of v R ≡ means_reglan reglan) → n ≡ serial
-    → words_asked n (t ∷ []) w ≡ in_re reglan w
-one_same n t serial R reglan w asks means e =
+-- the words that one term allows: of its constant those of the regular expression that it demands, and all of another
+pub one_same : (n : ℕ) (t : Term) (serial : ℕ) (R : Term) (reglan : RegLan) (w : List ℕ)
+    → demanded t ≡ Some (serial, R) → is_regex R ≡ true → ((v : Valuation) → meaning_of v R ≡ means_reglan reglan)
+    → n ≡ serial → words_asked n (t ∷ []) w ≡ in_re reglan w
+one_same n t serial R reglan w asks kind means e =
     let value : value_in ((n, Text w) ∷ []) serial text ≡ Text w = rw (← e) (alone_value n w) in
     by_test (asks_of n t) (asks_same n t serial R asks ∙ eq-eqb n serial e)
-    (asking_holds ((n, Text w) ∷ []) t serial R reglan w asks (means ((n, Text w) ∷ [])) value)
+    (demanded_holds ((n, Text w) ∷ []) t serial R reglan w asks kind (means ((n, Text w) ∷ [])) value)
   where
     by_test : (b : Bool) → b ≡ true → holds t ((n, Text w) ∷ []) ≡ in_re reglan w
         → all_hold (if b then t ∷ [] else []) ((n, Text w) ∷ []) ≡ in_re reglan w
     by_test true h k = and-true (holds t ((n, Text w) ∷ [])) ∙ k
     by_test false h k = absurd (false≢true h)
 
-pub one_other : (n : ℕ) (t : Term) (serial : ℕ) (R : Term) (w : List ℕ) → asked t ≡ Some (serial, R) → n ≢ serial
+pub one_other : (n : ℕ) (t : Term) (serial : ℕ) (R : Term) (w : List ℕ) → demanded t ≡ Some (serial, R) → n ≢ serial
     → words_asked n (t ∷ []) w ≡ true
 one_other n t serial R w asks e =
     let other : (n == serial) ≡ false = grind (arith, nat_tests) in
@@ -95,21 +82,21 @@ one_other n t serial R w asks e =
     by_test false h = refl
 
 -- the regex of the regular expression has its words
-pub member_language : NormalHasTermsWords → (rs : List Regex) (R : Term) (id : ℕ) (r : IsRegexOf rs R id) (w : List ℕ)
+member_language : NormalHasTermsWords → (rs : List Regex) (R : Term) (id : ℕ) (r : IsRegexOf rs R id) (w : List ℕ)
     → IsWord w → language (regex_at rs id) w ≡ in_re r.reglan w
 member_language law rs R id r w c = ap (λ x. language x w) (names_at rs id (normal r.reglan) r.names) ∙ law r.reglan w c
 
-first_decided : (rs : List Regex) (done : List Assertion) (t R : Term) (serial id : ℕ) → asked t ≡ Some (serial, R)
-    → IsRegexOf rs R id → is_regular R ≡ true → list_all is_member done ≡ true
+first_decided : (done : List Assertion) (t : Term) (serial : ℕ) (R : Term) → demanded t ≡ Some (serial, R)
+    → is_regex R ≡ true → is_decided (asserted t) ≡ true → list_all is_member done ≡ true
     → list_all is_member (asserted t ∷ done) ≡ true
-first_decided rs done t R serial id asks r regular decided =
+first_decided done t serial R asks kind decided h =
     and_from (is_member (asserted t)) (list_all is_member done)
-    (and_from (is_membership t) (fits t) (asked_membership t serial R asks ∙ r.kind)
-    (asked_regular t serial R asks ∙ regular)) decided
+    (and_from (is_demand t) (fits t) (demanded_kind t serial R asks ∙ kind)
+    (and_parts (is_structure t) (fits t) decided).1) h
 
 -- the words of each constant with such a term in front
 first_words : NormalHasTermsWords → (rs : List Regex) (ts : List Term) (t R : Term) (m : Member) (ms : List Member)
-    → asked t ≡ Some (m.serial.0, R) → IsRegexOf rs R m.regex
+    → demanded t ≡ Some (m.serial.0, R) → IsRegexOf rs R m.regex
     → ((n : ℕ) (w : List ℕ) → IsWord w → words_asked n ts w ≡ in_each rs (ids_in ms n) w)
     → (n : ℕ) (w : List ℕ) → IsWord w
     → words_asked n (t ∷ ts) w ≡ in_each rs (ids_in (m ∷ ms) n) w
@@ -118,7 +105,7 @@ first_words law rs ts t R m ms asks r words n w c = words-append n (t ∷ []) ts
     by_test : (b : Bool) → (n == m.serial.0) ≡ b → (words_asked n (t ∷ []) w && words_asked n ts w)
         ≡ in_each rs (if b then m.regex ∷ ids_in ms n else ids_in ms n) w
     by_test true h =
-        ap₂ ◌&&◌ (one_same n t m.serial.0 R r.reglan w asks r.means (eqb-true n m.serial.0 h)
+        ap₂ ◌&&◌ (one_same n t m.serial.0 R r.reglan w asks r.kind r.means (eqb-true n m.serial.0 h)
         ∙ sym (member_language law rs R m.regex r w c)) (words n w c)
     by_test false h = ap₂ ◌&&◌ (one_other n t m.serial.0 R w asks (eqb-false n m.serial.0 h)) (words n w c)
 
@@ -131,7 +118,7 @@ first_known rs m ms low known n = by_test (n == m.serial.0)
     by_test false = known n
 
 first_apart : (rs : List Regex) (ts : List Term) (t : Term) (serial : ℕ) (R : Term) (id : ℕ)
-    → asked t ≡ Some (serial, R) → IsRegexOf rs R id
+    → demanded t ≡ Some (serial, R) → IsRegexOf rs R id
     → ((v : Valuation) (n : ℕ) (w : List ℕ) → value_in v n text ≡ Text w → all_hold ts v ≡ true
     → words_asked n ts w ≡ true)
     → (v : Valuation) (n : ℕ) (w : List ℕ) → value_in v n text ≡ Text w
@@ -143,13 +130,14 @@ first_apart rs ts t serial R id asks r apart v n w value h = words-append n (t �
     by_test : (b : Bool) → (n == serial) ≡ b → words_asked n (t ∷ []) w ≡ true
     by_test true k =
         let e : n ≡ serial = eqb-true n serial k in
-        one_same n t serial R r.reglan w asks r.means e
-        ∙ (sym (asking_holds v t serial R r.reglan w asks (r.means v) (ap (λ m. value_in v m text) (sym e) ∙ value))
+        one_same n t serial R r.reglan w asks r.kind r.means e
+        ∙ (sym (demanded_holds v t serial R r.reglan w asks r.kind (r.means v)
+        (ap (λ m. value_in v m text) (sym e) ∙ value))
         ∙ (and_parts (holds t v) (all_hold ts v) h).0)
     by_test false k = one_other n t serial R w asks (eqb-false n serial k)
 
 first_together : (rs : List Regex) (ts : List Term) (t : Term) (serial : ℕ) (R : Term) (id : ℕ)
-    → asked t ≡ Some (serial, R) → IsRegexOf rs R id
+    → demanded t ≡ Some (serial, R) → IsRegexOf rs R id
     → ((cs : List (ℕ × Sort)) (words : List (List ℕ)) (truths : List Bool) → list_all (speaks_of cs) ts ≡ true
     → ((n : ℕ) → words_asked n ts (word_at words n) ≡ true) → all_hold ts (values_at cs words truths) ≡ true)
     → (cs : List (ℕ × Sort)) (words : List (List ℕ)) (truths : List Bool)
@@ -158,10 +146,10 @@ first_together : (rs : List Regex) (ts : List Term) (t : Term) (serial : ℕ) (R
     → all_hold (t ∷ ts) (values_at cs words truths) ≡ true
 first_together rs ts t serial R id asks r together cs words truths named h =
     and_from (holds t (values_at cs words truths)) (all_hold ts (values_at cs words truths))
-    (asking_holds (values_at cs words truths) t serial R r.reglan (word_at words serial) asks
+    (demanded_holds (values_at cs words truths) t serial R r.reglan (word_at words serial) asks r.kind
     (r.means (values_at cs words truths))
-    (value_there cs words truths serial text (asking_speaks cs t serial R asks both.0))
-    ∙ (sym (one_same serial t serial R r.reglan (word_at words serial) asks r.means refl)
+    (value_there cs words truths serial text (demanded_speaks cs t serial R asks both.0))
+    ∙ (sym (one_same serial t serial R r.reglan (word_at words serial) asks r.kind r.means refl)
     ∙ (and_parts _ _ (parts serial)).0))
     (together cs words truths both.1 (λ n. (and_parts _ _ (parts n)).1))
   where
@@ -172,10 +160,10 @@ first_together rs ts t serial R id asks r together cs words truths named h =
     parts n = sym (words-append n (t ∷ []) ts (word_at words n)) ∙ h n
 
 sofar_first : NormalHasTermsWords → (rs : List Regex) (done : List Assertion) (t R : Term) (m : Member)
-    (ms : List Member) → asked t ≡ Some (m.serial.0, R) → IsRegexOf rs R m.regex → is_regular R ≡ true
+    (ms : List Member) → demanded t ≡ Some (m.serial.0, R) → IsRegexOf rs R m.regex → is_decided (asserted t) ≡ true
     → IsSofar rs done (ids_in ms) → IsSofar rs (asserted t ∷ done) (ids_in (m ∷ ms))
-sofar_first law rs done t R m ms asks r regular s = record {
-  members = first_decided rs done t R m.serial.0 m.regex asks r regular s.members;
+sofar_first law rs done t R m ms asks r decided s = record {
+  members = first_decided done t m.serial.0 R asks r.kind decided s.members;
   known = first_known rs m ms (names_below rs m.regex (normal r.reglan) r.names) s.known;
   words = first_words law rs (terms_in done) t R m ms asks r s.words;
   apart = first_apart rs (terms_in done) t m.serial.0 R m.regex asks r s.apart;
@@ -196,7 +184,7 @@ sofar_of law rs ts (m ∷ ms) [] h = absurd h
 sofar_of law rs ts (m ∷ ms) (x ∷ xs) h =
     subst (λ a. IsSofar rs (a ∷ map (assertion_in ts) (take (length ms) xs)) (ids_in (m ∷ ms))) (sym h.0.is)
     (sofar_first law rs (map (assertion_in ts) (take (length ms) xs)) h.0.term h.0.wanted m ms h.0.asks h.0.regex
-    h.0.regular (sofar_of law rs ts ms xs h.1))
+    h.0.decided (sofar_of law rs ts ms xs h.1))
 
 -- each of them asks something of one constant's word, and is decided
 pub members_decided : (rs : List Regex) (ts : List Term) (ms : List Member) (xs : List code.Assertion)
@@ -205,13 +193,14 @@ members_decided rs ts [] xs h = refl
 members_decided rs ts (m ∷ ms) [] h = absurd h
 members_decided rs ts (m ∷ ms) (x ∷ xs) h =
     ap (λ a. list_all is_member (a ∷ map (assertion_in ts) (take (length ms) xs))) h.0.is
-    ∙ first_decided rs (map (assertion_in ts) (take (length ms) xs)) h.0.term h.0.wanted m.serial.0 m.regex h.0.asks
-    h.0.regex h.0.regular (members_decided rs ts ms xs h.1)
+    ∙ first_decided (map (assertion_in ts) (take (length ms) xs)) h.0.term m.serial.0 h.0.wanted h.0.asks
+    h.0.regex.kind h.0.decided (members_decided rs ts ms xs h.1)
 
 pub member_decided : (a : Assertion) → is_member a ≡ true → is_decided a ≡ true
 member_decided (asserted t) h =
-    let parts = and_parts (is_membership t) (fits t) h in
-    and_from (is_structure t) (fits t) (membership_structure t parts.0) parts.1
+    let parts = and_parts (is_demand t) (fits t) h in
+    let d = demand_in t parts.0 in
+    demanded_decided t d.serial d.expression d.asks d.kind parts.1
 member_decided a_mark h = absurd (false≢true h)
 
 pub all_decided : (all : List Assertion) → list_all is_member all ≡ true → list_all is_decided all ≡ true
@@ -226,10 +215,6 @@ pub members_inside : (rs : List Regex) (ts : List Term) (ms : List Member) (xs :
 members_inside rs ts [] xs h = tt
 members_inside rs ts (m ∷ ms) [] h = absurd h
 members_inside rs ts (m ∷ ms) (x ∷ xs) h = (
-  record {
-    number = h.0.number;
-    decided = ap is_decided h.0.is ∙ asked_decided h.0.term m.serial.0 h.0.wanted h.0.asks
-        ∙ and_from (is_regex h.0.wanted) (is_regular h.0.wanted) h.0.regex.kind h.0.regular;
-  },
+  record { number = h.0.number; decided = ap is_decided h.0.is ∙ h.0.decided },
   members_inside rs ts ms xs h.1,
 )

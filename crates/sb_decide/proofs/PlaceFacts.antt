@@ -1,5 +1,5 @@
 -- The places of the assertions that ask something of a constant's word.
-use Rattle.std.proofs.Common.{◌≡◌, ℕ, zero, suc, ◌+◌, Bool, true, false, ◌&&◌, if◌then◌else◌, List, [], ◌∷◌, refl, sym, ap, ap₂, ◌∙◌, arith, Option, Some, slice_get, map, take, subst}
+use Rattle.std.proofs.Common.{◌≡◌, ℕ, zero, suc, ◌+◌, Bool, true, false, ◌&&◌, if◌then◌else◌, List, [], ◌∷◌, refl, sym, ap, ap₂, ◌∙◌, arith, Some, slice_get, map, take}
 use Rattle.std.proofs.lemmas.Bool.{and_parts, false≢true, eqb-true, eqb-false}
 use Rattle.std.proofs.lemmas.List.Elements.{All-nil}
 use Rattle.std.specs.List.{All, list_all}
@@ -7,30 +7,20 @@ use Rattle.sb_word.specs.Words.{IsWord}
 use Rattle.sb_lang.specs.Regex.{Regex}
 use Rattle.sb_lang.specs.Language.{language}
 use Rattle.sb_lang.specs.NormalLaws.{NormalHasTermsWords}
-use Rattle.sb_regex.specs.Numbered.{regexes_at}
 use Rattle.sb_meaning.specs.Terms.{Term}
-use Rattle.sb_problem.specs.Normals.{IsRegexOf}
-use Rattle.sb_script.specs.Brought.{asked, is_membership}
+use Rattle.sb_meaning.specs.Truth.{meaning_of}
+use Rattle.sb_script.specs.Brought.{is_regex}
 use Rattle.sb_script.specs.Fragment.{fits}
-use Rattle.sb_script.proofs.CallerLemmas.{membership_asks}
 use Rattle.sb_script.specs.State.{Assertion, asserted, a_mark, terms_in}
 use Rattle.sb_term.specs.declared.assertion.Assertion as code
-use Rattle.sb_fragment.specs.Memberships.{IsMemberRegex, IsNumberAsked}
 use Rattle.sb_fragment.specs.Rules.{is_decided}
 use Rattle.sb_stack.specs.Stacked.{assertion_in}
 use Rattle.sb_decide.specs.Deciding.{words_asked}
+use Rattle.sb_decide.specs.Demands.{demanded, is_demand}
 use Rattle.sb_decide.specs.Places.{asks_of, is_member, places_from, IsPlaceOf, IsRegexAt, AreRegexesAt}
 use Rattle.sb_decide.proofs.AskingTerms.{asks_same}
-use Rattle.sb_decide.proofs.OneMembership.{words-append, one_same, one_other, member_language, member_decided}
-
--- what a membership asks for
-pub record IsShaped (t : Term) : Type 0 where
-  pub serial : ℕ
-  pub regex : Term
-  pub asks : asked t ≡ Some (serial, regex)
-
-shape_of : (t : Term) → is_membership t ≡ true → IsShaped t
-shape_of t h = membership_asks t h (λ serial R asks _. record { serial = serial; regex = R; asks = asks })
+use Rattle.sb_decide.proofs.DemandFacts.{demand_in, same_pair}
+use Rattle.sb_decide.proofs.OneMembership.{words-append, one_same, one_other, member_decided}
 
 -- these assertions stand in the whole list, from this place on
 abbrev pub StandFrom : ℕ → List Assertion → List Assertion → Type 0
@@ -45,7 +35,7 @@ all_more P n ns p h zero d l = p
 all_more P n ns p h (suc i) d l = h i d (omega (arith, l))
 
 places_with : (k n : ℕ) (t : Term) (serial : ℕ) (R : Term) (whole : List Assertion) (places : List ℕ)
-    → asked t ≡ Some (serial, R) → slice_get whole k ≡ Some (asserted t) → is_decided (asserted t) ≡ true
+    → demanded t ≡ Some (serial, R) → slice_get whole k ≡ Some (asserted t) → is_decided (asserted t) ≡ true
     → All (IsPlaceOf whole n) places → All (IsPlaceOf whole n) (if asks_of n t then k ∷ places else places)
 places_with k n t serial R whole places asks there decided h = by_test (asks_of n t) refl
   where
@@ -62,8 +52,8 @@ are_places k n whole [] h stand = All-nil (IsPlaceOf whole n)
 are_places k n whole (a_mark ∷ rest) h stand = absurd (false≢true h)
 are_places k n whole (asserted t ∷ rest) h stand =
     let parts = and_parts (is_member (asserted t)) (list_all is_member rest) h in
-    let shaped = shape_of t (and_parts (is_membership t) (fits t) parts.0).0 in
-    places_with k n t shaped.serial shaped.regex whole (places_from (k + 1) n rest) shaped.asks
+    let d = demand_in t (and_parts (is_demand t) (fits t) parts.0).0 in
+    places_with k n t d.serial d.expression whole (places_from (k + 1) n rest) d.asks
     (stand 0 k (asserted t) (omega arith) refl) (member_decided (asserted t) parts.0)
     (are_places (k + 1) n whole rest parts.1 (stand_behind k whole rest (asserted t) stand))
 
@@ -71,53 +61,56 @@ are_places k n whole (asserted t ∷ rest) h stand =
 same_term : (t u : Term) → Some (asserted t) ≡ Some (asserted u) → t ≡ u
 same_term t u e = cc
 
-regex_there : (rs : List Regex) (whole : List Assertion) (k : ℕ) (t : Term) (serial : ℕ) (R : Term) (id : ℕ)
-    → asked t ≡ Some (serial, R) → slice_get whole k ≡ Some (asserted t) → IsRegexAt rs whole k id → IsRegexOf rs R id
-regex_there rs whole k t serial R id asks there at_place =
-    subst (λ (o : Option (ℕ × Term)). IsNumberAsked rs o (Some id)) asks
-    (subst (λ u. IsMemberRegex rs u (Some id)) (same_term at_place.term t (sym at_place.there ∙ there)) at_place.regex)
+-- what is demanded at the place is what the term that stands there demands
+expression_there : (whole : List Assertion) (k : ℕ) (t : Term) (serial : ℕ) (R : Term) (r : Regex)
+    → demanded t ≡ Some (serial, R) → slice_get whole k ≡ Some (asserted t) → (a : IsRegexAt whole k r)
+    → R ≡ a.expression
+expression_there whole k t serial R r asks there a =
+    ap (λ (p : ℕ × Term). p.1) (same_pair (serial, R) (a.serial, a.expression)
+    (sym asks ∙ ap demanded (same_term t a.term (sym there ∙ a.there)) ∙ a.asks))
 
-words_with : NormalHasTermsWords → (rs : List Regex) (k n : ℕ) (t : Term) (serial : ℕ) (R : Term)
-    (whole : List Assertion) (places ids : List ℕ) (ts : List Term) (w : List ℕ) → IsWord w
-    → asked t ≡ Some (serial, R) → slice_get whole k ≡ Some (asserted t)
-    → ((others : List ℕ) → AreRegexesAt rs whole places others
-    → list_all (λ r. language r w) (regexes_at rs others) ≡ words_asked n ts w)
-    → AreRegexesAt rs whole (if asks_of n t then k ∷ places else places) ids
-    → list_all (λ r. language r w) (regexes_at rs ids) ≡ words_asked n (t ∷ ts) w
-words_with law rs k n t serial R whole places ids ts w c asks there rest = by_test (asks_of n t) refl ids
+words_with : NormalHasTermsWords → (k n : ℕ) (t : Term) (serial : ℕ) (R : Term) (whole : List Assertion)
+    (places : List ℕ) (rs : List Regex) (ts : List Term) (w : List ℕ) → IsWord w → demanded t ≡ Some (serial, R)
+    → is_regex R ≡ true → slice_get whole k ≡ Some (asserted t)
+    → ((others : List Regex) → AreRegexesAt whole places others
+    → list_all (λ r. language r w) others ≡ words_asked n ts w)
+    → AreRegexesAt whole (if asks_of n t then k ∷ places else places) rs
+    → list_all (λ r. language r w) rs ≡ words_asked n (t ∷ ts) w
+words_with law k n t serial R whole places rs ts w c asks kind there rest = by_test (asks_of n t) refl rs
   where
     whole_words : words_asked n (t ∷ ts) w ≡ (words_asked n (t ∷ []) w && words_asked n ts w)
     whole_words = words-append n (t ∷ []) ts w
 
-    by_test : (b : Bool) → asks_of n t ≡ b → (ids : List ℕ)
-        → AreRegexesAt rs whole (if b then k ∷ places else places) ids
-        → list_all (λ r. language r w) (regexes_at rs ids) ≡ words_asked n (t ∷ ts) w
+    by_test : (b : Bool) → asks_of n t ≡ b → (rs : List Regex)
+        → AreRegexesAt whole (if b then k ∷ places else places) rs
+        → list_all (λ r. language r w) rs ≡ words_asked n (t ∷ ts) w
     by_test true e [] h = absurd h
-    by_test true e (id ∷ ids) h =
-        let r = regex_there rs whole k t serial R id asks there h.0 in
-        ap₂ ◌&&◌ (member_language law rs R id r w c
-        ∙ sym (one_same n t serial R r.reglan w asks r.means
-        (eqb-true n serial (sym (asks_same n t serial R asks) ∙ e)))) (rest ids h.1)
+    by_test true e (r ∷ rs) h =
+        let a = h.0 in
+        ap₂ ◌&&◌ (ap (λ x. language x w) a.is ∙ law a.reglan w c
+        ∙ sym (one_same n t serial R a.reglan w asks kind
+        (λ v. ap (meaning_of v) (expression_there whole k t serial R r asks there a) ∙ a.means v)
+        (eqb-true n serial (sym (asks_same n t serial R asks) ∙ e)))) (rest rs h.1)
         ∙ sym whole_words
-    by_test false e ids h =
-        rest ids h
+    by_test false e rs h =
+        rest rs h
         ∙ (ap (λ b. b && words_asked n ts w)
         (sym (one_other n t serial R w asks (eqb-false n serial (sym (asks_same n t serial R asks) ∙ e))))
         ∙ sym whole_words)
 
-pub words_at_places : NormalHasTermsWords → (rs : List Regex) (k n : ℕ) (whole rest : List Assertion) (ids : List ℕ)
-    (w : List ℕ) → IsWord w → list_all is_member rest ≡ true → StandFrom k whole rest
-    → AreRegexesAt rs whole (places_from k n rest) ids
-    → list_all (λ r. language r w) (regexes_at rs ids) ≡ words_asked n (terms_in rest) w
-words_at_places law rs k n whole [] [] w c h stand regexes = refl
-words_at_places law rs k n whole [] (id ∷ ids) w c h stand regexes = absurd regexes
-words_at_places law rs k n whole (a_mark ∷ rest) ids w c h stand regexes = absurd (false≢true h)
-words_at_places law rs k n whole (asserted t ∷ rest) ids w c h stand regexes =
+pub words_at_places : NormalHasTermsWords → (k n : ℕ) (whole rest : List Assertion) (rs : List Regex) (w : List ℕ)
+    → IsWord w → list_all is_member rest ≡ true → StandFrom k whole rest
+    → AreRegexesAt whole (places_from k n rest) rs
+    → list_all (λ r. language r w) rs ≡ words_asked n (terms_in rest) w
+words_at_places law k n whole [] [] w c h stand regexes = refl
+words_at_places law k n whole [] (r ∷ rs) w c h stand regexes = absurd regexes
+words_at_places law k n whole (a_mark ∷ rest) rs w c h stand regexes = absurd (false≢true h)
+words_at_places law k n whole (asserted t ∷ rest) rs w c h stand regexes =
     let parts = and_parts (is_member (asserted t)) (list_all is_member rest) h in
-    let shaped = shape_of t (and_parts (is_membership t) (fits t) parts.0).0 in
-    words_with law rs k n t shaped.serial shaped.regex whole (places_from (k + 1) n rest) ids (terms_in rest) w c
-    shaped.asks (stand 0 k (asserted t) (omega arith) refl)
-    (λ others r. words_at_places law rs (k + 1) n whole rest others w c parts.1
+    let d = demand_in t (and_parts (is_demand t) (fits t) parts.0).0 in
+    words_with law k n t d.serial d.expression whole (places_from (k + 1) n rest) rs (terms_in rest) w c d.asks d.kind
+    (stand 0 k (asserted t) (omega arith) refl)
+    (λ others r. words_at_places law (k + 1) n whole rest others w c parts.1
     (stand_behind k whole rest (asserted t) stand) r) regexes
 
 -- the assertions that were taken in stand in front

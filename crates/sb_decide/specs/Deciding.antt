@@ -14,7 +14,7 @@ use Rattle.sb_stack.specs.Speaking.{speaks_of}
 use Rattle.sb_stack.specs.Stacked.{values_at, are_words}
 use Rattle.sb_decide.specs.Places.{asks_of, is_member}
 
--- the terms that ask something of the constant's word: its memberships, and its equalities with literals
+-- the terms that ask something of the constant's word: its memberships, its equalities with literals, and these denied
 abbrev pub asking : ℕ → List Term → List Term
 asking serial [] = []
 asking serial (t ∷ ts) = if asks_of serial t then t ∷ asking serial ts else asking serial ts

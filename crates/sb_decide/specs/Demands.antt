@@ -1,12 +1,15 @@
 -- What a term demands of the word of one constant, where it demands this alone: the constant's serial, and the regular
 -- expression that the word is to be in. A term that is denied demands a word that its regular expression lacks, so one
 -- of the complement (SMT-LIB, theory Unicode Strings).
-use Rattle.std.specs.Prelude.{ℕ, Bool, true, false, ◌&&◌, ◌==◌, if◌then◌else◌, List, Option, Some, None, option_map}
+use Rattle.std.specs.Prelude.{ℕ, Bool, false, if◌then◌else◌, List, Option, Some, None, option_map}
 use Rattle.sb_meaning.specs.Terms.{Term, apply, no_terms, with_term}
 use Rattle.sb_meaning.specs.Terms as symbol
 use Rattle.sb_script.specs.Brought.{asked, is_regex}
 use Rattle.sb_problem.specs.Patterns.{pattern_in}
 use Rattle.sb_decide.specs.declared.demand.Demand.{Demand}
+
+abbrev pub negation_of : Term → Term
+negation_of t = apply symbol.core_not (with_term t no_terms)
 
 abbrev pub complement_of : Term → Term
 complement_of R = apply symbol.re_comp (with_term R no_terms)

@@ -1,4 +1,5 @@
 pub mod Demands
+pub mod DemandExamples
 pub mod Conjoined
 pub mod Deciding
 pub mod Members

@@ -14,8 +14,8 @@ use Rattle.sb_script.specs.State.{Assertion, asserted, a_mark}
 use Rattle.sb_fragment.specs.Rules.{is_decided}
 use Rattle.sb_decide.specs.Demands.{demanded, is_demand}
 
--- the term asks something of the constant's word alone: it is a membership of the constant, its equality with a literal,
--- or one of these denied
+-- the term asks something of the constant's word alone: it is a membership of the constant, or its equality with a
+-- literal, or one of these denied
 abbrev pub asks_of : ℕ → Term → Bool
 asks_of serial t = elim (demanded t) [ Some p ↦ serial == p.0 | None ↦ false ]
 

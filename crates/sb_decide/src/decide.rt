@@ -2,11 +2,11 @@
 //!
 //! A constant's memberships are true of one word exactly where the intersection of their regexes has a word, and the
 //! word that exploring the intersection finds is the one that a model gives. An equality of a constant with a literal
-//! is a membership too, in the regex that has the literal's word alone, and what is denied is one in the complement. What
-//! is known of the assertions so far is kept,
-//! so that a check takes in those that are new, and finds words of the constants that they speak of. They speak of no
-//! constant of sort Bool, so each of these is false. Memberships are taken in up to the first assertion that is none;
-//! from there on it is only seen whether each assertion is a decided one, and then the check is left open.
+//! is a membership too, in the regex that has the literal's word alone, and what is denied is one in the complement.
+//! What is known of the assertions so far is kept, so that a check takes in those that are new, and finds words of the
+//! constants that they speak of. They speak of no constant of sort Bool, so each of these is false. Memberships are
+//! taken in up to the first assertion that is none; from there on it is only seen whether each assertion is a decided
+//! one, and then the check is left open.
 
 ghost use Rattle.std.specs.Prelude.{◌≡◌, ◌≢◌, ℕ, ◌+◌, ◌<◌, ◌≤◌, [], ◌∷◌, ◌++◌, List, length, map, true, false, All};
 ghost use Rattle.std.specs.Prelude.{IfOk, OnOk, IfSome, IfNone, MatchOption};
@@ -33,7 +33,7 @@ ghost use Rattle.sb_decide.specs.Places.{HasNoWordAt, IsPlaceOf};
 ghost use Rattle.sb_decide.specs.Taking.{StayKept, HasAll, AreWords, IsTakingOver, other_dead};
 
 use crate::conjuncts::{Conjuncts, Member, conjuncts_at};
-use crate::demand::demand;
+use crate::demand::{demand_of, regex_of};
 use sb_fragment::{Measures, fragment_is_of_each};
 use sb_graph::{Explored, Graph, graph_stays};
 use sb_lang::constructors::{intersection_is_of_each, mkand_keeps_language};
@@ -56,7 +56,8 @@ pub struct Decider {
     pub measures: Measures,
     /// What is remembered of walks along words, for checks that are left open.
     pub plain: Plain,
-    /// The memberships that the first assertions are, which are taken in; equalities with a literal count as such.
+    /// The memberships that the first assertions are, which are taken in; equalities with a literal count as such, and
+    /// so does what is denied.
     pub members: Vec<Member>,
     /// By place the intersection of the constant's memberships up to this one, where a check made it.
     pub roots: Vec<Option<RegexId>>,
@@ -252,8 +253,8 @@ impl Decider {
         self.dead
     }
 
-    /// The places of a constant's memberships, and of its equalities with literals, among the assertions that were
-    /// taken in, ascending. Constant time.
+    /// The places of a constant's memberships, of its equalities with literals, and of the denials of such, among the
+    /// assertions that were taken in, ascending. Constant time.
     pub fn places(&self, serial: Serial) -> &[usize]
         ensures value { result.now ≡ places_of self.now serial.0 }
         ensures are { (stack : Stacked) → Knows self.now stack
@@ -308,13 +309,13 @@ impl Decider {
         let Some(term) = assertion.term else {
             return Ok(false);
         };
-        let Some(demand) = demand(table, term) else {
+        let Some(demand) = demand_of(table, term) else {
             return Ok(false);
         };
         if !self.measures.is_regular(table, demand.pattern)? {
             return Ok(false);
         }
-        let Some(regex) = self.regex_of(table, demand)? else {
+        let Some(regex) = regex_of(table, &mut self.arena, &mut self.normals, demand)? else {
             return Ok(false);
         };
         self.members.push(Member {
@@ -324,25 +325,6 @@ impl Decider {
         self.roots.push(None)?;
         put(&mut self.constants, &mut self.changed, demand.serial, place)?;
         Ok(true)
-    }
-
-    /// The regex that a constant's word is to be in, None where the expression has none.
-    fn regex_of(&mut self, table: &Table, demand: Demand) -> Result<Option<RegexId>, AllocError>
-        requires number { number_of demand.pattern < length table.now }
-        requires normals { AreNormals table.now self.old.arena self.old.normals }
-        ensures number { IfOk result (λ found. IfSome found (IsRegexOf self.new.arena (expression_in table.now demand))) }
-        ensures extends { Extends self.old.arena self.new.arena }
-        ensures normals { AreNormals table.now self.new.arena self.new.normals }
-        ensures others { self.new ≡ record self.old { arena = self.new.arena; normals = self.new.normals } }
-    {
-        let Some(id) = self.normals.pattern(table, &mut self.arena, demand.pattern)? else {
-            return Ok(None);
-        };
-        if demand.positive {
-            return Ok(Some(id));
-        }
-        let complement = self.arena.not(id)?;
-        Ok(Some(complement))
     }
 
     /// Takes the last one of the assertions that were taken in back, if there is one.

@@ -1,13 +1,21 @@
 //! What assertions demand of the words of constants.
 
-ghost use Rattle.std.specs.Prelude.{◌≡◌, ◌<◌, length, None, Some, MatchOption, IfSome};
+ghost use Rattle.std.specs.Prelude.{◌≡◌, ◌<◌, length, None, Some, IfOk, IfSome, MatchOption};
+ghost use Rattle.sb_regex.specs.Numbered.{Extends};
+ghost use Rattle.sb_script.specs.Brought.{asked};
+ghost use Rattle.sb_script.specs.Fragment.{fits};
+ghost use Rattle.sb_script.specs.Sizes.{is_regular};
 ghost use Rattle.sb_term.specs.Numbered.{term_at};
-ghost use Rattle.sb_problem.specs.Patterns.{number_of};
-ghost use Rattle.sb_decide.specs.Demands.{demanded, expression_in};
+ghost use Rattle.sb_problem.specs.Known.{AreNormals};
+ghost use Rattle.sb_problem.specs.Normals.{IsRegexOf};
+ghost use Rattle.sb_problem.specs.Patterns.{number_of, pattern_in};
+ghost use Rattle.sb_decide.specs.Demands.{demanded, expression_in, negation_of};
 
 use sb_fragment::membership;
-use sb_problem::Pattern;
+use sb_problem::{Normals, Pattern, normals_stay};
+use sb_regex::{Arena, RegexId};
 use sb_term::{Serial, Symbol, Table, Term, TermId};
+use std::alloc::AllocError;
 
 /// What a term demands of the word of one constant, where it demands this alone.
 #[derive(Clone, Copy)]
@@ -20,14 +28,16 @@ pub struct Demand {
 
 /// What a term demands of a constant's word alone: one that [`membership`] takes apart, or one of these denied. Takes
 /// constant time and no memory.
-pub fn demand(table: &Table, id: TermId) -> Option<Demand>
+pub fn demand_of(table: &Table, id: TermId) -> Option<Demand>
     requires { id < length table.now }
     ensures parts { MatchOption result (demanded (term_at table.now id) ≡ None)
         (λ d. demanded (term_at table.now id) ≡ Some (d.serial.0, expression_in table.now d)) }
+    ensures limits { IfSome result
+        (λ d. fits (term_at table.now id) ≡ is_regular (pattern_in table.now d.pattern)) }
     ensures smaller { IfSome result (λ d. number_of d.pattern < id) }
 {
-    if let Some(denied) = denied(table, id) {
-        let (serial, pattern) = membership(table, denied)?;
+    if let Some(term) = denied(table, id) {
+        let (serial, pattern) = membership(table, term)?;
         return Some(Demand {
             serial,
             pattern,
@@ -45,6 +55,10 @@ pub fn demand(table: &Table, id: TermId) -> Option<Demand>
 /// The argument of a term that is `not` of it.
 fn denied(table: &Table, id: TermId) -> Option<TermId>
     requires { id < length table.now }
+    ensures parts { MatchOption result
+        (demanded (term_at table.now id) ≡ asked (term_at table.now id))
+        (λ term. term_at table.now id ≡ negation_of (term_at table.now term)) }
+    ensures smaller { IfSome result (λ term. term < id) }
 {
     let Term::Apply(symbol, arguments) = table.term(id) else {
         return None;
@@ -56,4 +70,30 @@ fn denied(table: &Table, id: TermId) -> Option<TermId>
         return None;
     };
     Some(*term)
+}
+
+/// The regex that a constant's word is to be in, `None` where the pattern is no regular expression over literals. Its
+/// cost and its error are those of [`Normals::pattern`].
+pub(crate) fn regex_of(
+    table: &Table,
+    arena: &mut Arena,
+    normals: &mut Normals,
+    demand: Demand,
+) -> Result<Option<RegexId>, AllocError>
+    requires number { number_of demand.pattern < length table.now }
+    requires normals { AreNormals table.now arena.old normals.old }
+    ensures number { IfOk result
+        (λ found. IfSome found (λ id. IsRegexOf arena.new (expression_in table.now demand) id)) }
+    ensures extends { Extends arena.old arena.new }
+    ensures normals { AreNormals table.now arena.new normals.new }
+{
+    normals_stay();
+    let Some(id) = normals.pattern(table, arena, demand.pattern)? else {
+        return Ok(None);
+    };
+    if demand.positive {
+        return Ok(Some(id));
+    }
+    let complement = arena.not(id)?;
+    Ok(Some(complement))
 }

@@ -2,13 +2,13 @@
 //!
 //! A [`Decider`] keeps what is known of the assertions of a script from one check to the next: the regexes of each
 //! constant's memberships, and what exploring them found. An assertion that a constant is equal to a literal counts as
-//! a membership everywhere here: its regex has the literal's word alone. So does one that a membership or such an
-//! equality is not true: its regex is the complement. The one idea is that each constant has a word
-//! for itself, so a check asks for the words of those constants that new assertions speak of. The layer above asks
-//! [`Decider::decide`] first: where all assertions are memberships it has the verdict, and where one is none that is
-//! decided the check is outside. Else the check is left open, for a search over Boolean structure, whose verdict may be
-//! kept as one that was found here. After an `Unsat` the layer above asks for the constant that has no word, and for
-//! the places of its memberships among the live assertions. Where assertions go it says so by [`Decider::leave`].
+//! a membership everywhere here: its regex has the literal's word alone. So does one that denies a membership or such
+//! an equality: its regex is the complement. The one idea is that each constant has a word for itself, so a check asks
+//! for the words of those constants that new assertions speak of. The layer above asks [`Decider::decide`] first: where
+//! all assertions are memberships it has the verdict, and where one is none that is decided the check is outside. Else
+//! the check is left open, for a search over Boolean structure, whose verdict may be kept as one that was found here.
+//! After an `Unsat` the layer above asks for the constant that has no word, and for the places of its memberships among
+//! the live assertions. Where assertions go it says so by [`Decider::leave`].
 #![tactic(auto)]
 
 mod conjuncts;
@@ -18,5 +18,5 @@ mod laws;
 
 pub use conjuncts::{Conjuncts, Member};
 pub use decide::Decider;
-pub use demand::{Demand, demand};
+pub use demand::{Demand, demand_of};
 pub use laws::{knows_grown, knows_stays, left_open_grown};

@@ -1,0 +1,306 @@
+-- Terms that demand something of one constant's word: they ask for it, or are the denial of a term that does. Which
+-- constant stands in them, what they mean, when they are decided ones, and the regexes that they demand.
+use Rattle.std.proofs.Common.{◌≡◌, ℕ, Bool, true, false, ◌&&◌, ◌||◌, ◌==◌, nat_lt, Option, Some, None, option_map, not, List, [], ◌∷◌, length, if◌then◌else◌, refl, sym, ap, subst, ◌∙◌}
+use Rattle.std.proofs.lemmas.Bool.{and_parts, and_from, or_parts, false≢true}
+use Rattle.std.proofs.Math.Bool.{and-true}
+use Rattle.sb_lang.specs.RegLan.{RegLan, re_comp}
+use Rattle.sb_lang.specs.Membership.{in_re}
+use Rattle.sb_lang.specs.Regex.{Regex}
+use Rattle.sb_lang.specs.Constructors.{mknot}
+use Rattle.sb_lang.specs.Normal.{normal}
+use Rattle.sb_regex.specs.Numbered.{Names, regex_at}
+use Rattle.sb_regex.proofs.CallerLemmas.{names_at}
+use Rattle.sb_meaning.specs.Terms.{Sort, Term, text, constant, apply, no_terms, with_term, terms_of}
+use Rattle.sb_meaning.specs.Terms as symbol
+use Rattle.sb_meaning.specs.Values.{Valuation, Text, value_in}
+use Rattle.sb_meaning.specs.Truth.{Meaning, means_word, means_number, means_truth, means_reglan, all_true, truth_in, applied, meaning_of, holds}
+use Rattle.sb_script.specs.Brought.{asked, membership_of, is_regex, is_structure}
+use Rattle.sb_script.specs.Fragment.{fits}
+use Rattle.sb_script.specs.Sizes.{is_regular}
+use Rattle.sb_script.specs.State.{asserted}
+use Rattle.sb_script.specs.Models.{occurs, is_about, is_plain_term}
+use Rattle.sb_script.proofs.CallerLemmas.{IsAsking, a_membership, a_word_behind, a_word_in_front, asked_looks, asked_holds, asked_occurs, asked_regular}
+use Rattle.sb_term.specs.Numbered.{terms_at}
+use Rattle.sb_term.specs.Serials.{has_serials_below}
+use Rattle.sb_term.specs.Symbols.{symbol_in}
+use Rattle.sb_term.specs.declared.sort.Symbol.{Symbol}
+use Rattle.sb_term.specs.declared.sort.Symbol.TheVariants as code
+use Rattle.sb_fragment.specs.Rules.{is_decided}
+use Rattle.sb_fragment.proofs.CallerLemmas.{asked_structure}
+use Rattle.sb_problem.specs.Normals.{IsRegexOf}
+use Rattle.sb_problem.specs.Patterns.{pattern_in}
+use Rattle.sb_stack.specs.Speaking.{speaks_of}
+use Rattle.sb_decide.specs.declared.demand.Demand.{Demand}
+use Rattle.sb_decide.specs.Demands.{negation_of, complement_of, demanded, is_demand, expression_in}
+
+-- The shape of such a term.
+
+abbrev complemented : ℕ × Term → ℕ × Term
+complemented p = (p.0, complement_of p.1)
+
+-- the denial of a term demands the complement of what that asks for
+pub denied_demands : (t u : Term) (o : Option (ℕ × Term)) → t ≡ negation_of u → asked u ≡ o
+    → demanded t ≡ option_map complemented o
+denied_demands t u o is asks = ap demanded is ∙ ap (option_map complemented) asks
+
+-- a symbol with any number of arguments but one is no denial
+other_count : (ts : List Term) (is : List ℕ) → (length is ≡ 1 → ⊥)
+    → demanded (apply symbol.core_not (terms_of (terms_at ts is)))
+    ≡ asked (apply symbol.core_not (terms_of (terms_at ts is)))
+other_count ts [] other = refl
+other_count ts (i ∷ []) other = absurd (other refl)
+other_count ts (i ∷ j ∷ is) other = refl
+
+pub not_one : (ts : List Term) (s : Symbol) (is : List ℕ) (t : Term)
+    → apply (symbol_in s) (terms_of (terms_at ts is)) ≡ t → s ≡ code.Not → (length is ≡ 1 → ⊥)
+    → demanded t ≡ asked t
+not_one ts s is t e f other = rw (← e, f) (other_count ts is other)
+
+data IsDemanding (serial : ℕ) (t R : Term) : Type 0 where
+  an_asking : asked t ≡ Some (serial, R) → IsDemanding serial t R
+  a_denial : (u S : Term) → t ≡ negation_of u → R ≡ complement_of S → asked u ≡ Some (serial, S)
+      → IsDemanding serial t R
+
+pub same_pair : (p q : ℕ × Term) → Some p ≡ Some q → p ≡ q
+same_pair p q e = cc
+
+denial_of : (u : Term) (serial : ℕ) (R : Term) (o : Option (ℕ × Term)) → asked u ≡ o
+    → option_map complemented o ≡ Some (serial, R) → IsDemanding serial (negation_of u) R
+denial_of u serial R None is h = absurd (Prim.cc (h))
+denial_of u serial R (Some p) is h =
+    let same = same_pair (complemented p) (serial, R) h in
+    a_denial u p.1 refl (sym (ap (λ (q : ℕ × Term). q.1) same))
+    (is ∙ ap (λ (q : ℕ × Term). Some (q.0, p.1)) same)
+
+demanded_looks : (t : Term) (serial : ℕ) (R : Term) → demanded t ≡ Some (serial, R) → IsDemanding serial t R
+demanded_looks (apply symbol.core_not (with_term u no_terms)) serial R h =
+    denial_of u serial R (asked u) refl h
+demanded_looks _ serial R h = an_asking h
+
+-- a decided term demands a regular expression over literals
+pub record IsDemanded (t : Term) : Type 0 where
+  pub serial : ℕ
+  pub expression : Term
+  pub asks : demanded t ≡ Some (serial, expression)
+  pub kind : is_regex expression ≡ true
+
+pub demand_in : (t : Term) → is_demand t ≡ true → IsDemanded t
+demand_in t h = step (demanded t) refl h
+  where
+    step : (o : Option (ℕ × Term)) → demanded t ≡ o
+        → elim o as (λ _. Bool) [ Some p ↦ is_regex p.1 | None ↦ false ] ≡ true → IsDemanded t
+    step (Some p) is kind = record { serial = p.0; expression = p.1; asks = is; kind = kind }
+    step None is kind = absurd (false≢true kind)
+
+pub demanded_kind : (t : Term) (serial : ℕ) (R : Term) → demanded t ≡ Some (serial, R) → is_demand t ≡ is_regex R
+demanded_kind t serial R h =
+    ap (λ (o : Option (ℕ × Term)). elim o as (λ _. Bool) [ Some p ↦ is_regex p.1 | None ↦ false ]) h
+
+-- The constant stands in it.
+
+asking_speaks : (ns : List (ℕ × Sort)) (t : Term) (serial : ℕ) (R : Term) → asked t ≡ Some (serial, R)
+    → speaks_of ns t ≡ true → speaks_of ns (constant serial text) ≡ true
+asking_speaks ns t serial R h named = step (asked_looks t serial R h)
+  where
+    step : IsAsking serial t R → speaks_of ns (constant serial text) ≡ true
+    step (a_membership is) =
+        (and_parts (speaks_of ns (constant serial text)) (speaks_of ns R && true)
+        (sym (ap (speaks_of ns) is) ∙ named)).0
+    step (a_word_behind w is S) =
+        (and_parts (speaks_of ns (constant serial text)) true (sym (ap (speaks_of ns) is) ∙ named)).0
+    step (a_word_in_front w is S) =
+        (and_parts (speaks_of ns (constant serial text)) true (sym (ap (speaks_of ns) is) ∙ named)).0
+
+pub demanded_speaks : (ns : List (ℕ × Sort)) (t : Term) (serial : ℕ) (R : Term) → demanded t ≡ Some (serial, R)
+    → speaks_of ns t ≡ true → speaks_of ns (constant serial text) ≡ true
+demanded_speaks ns t serial R h named = step (demanded_looks t serial R h)
+  where
+    step : IsDemanding serial t R → speaks_of ns (constant serial text) ≡ true
+    step (an_asking asks) = asking_speaks ns t serial R asks named
+    step (a_denial u S is same asks) =
+        asking_speaks ns u serial S asks (and_parts (speaks_of ns u) true (sym (ap (speaks_of ns) is) ∙ named)).0
+
+asking_below : (n : ℕ) (t : Term) (serial : ℕ) (R : Term) → asked t ≡ Some (serial, R)
+    → has_serials_below n t ≡ true → nat_lt serial n ≡ true
+asking_below n t serial R h below = step (asked_looks t serial R h)
+  where
+    step : IsAsking serial t R → nat_lt serial n ≡ true
+    step (a_membership is) =
+        (and_parts (nat_lt serial n) (has_serials_below n R && true) (sym (ap (has_serials_below n) is) ∙ below)).0
+    step (a_word_behind w is S) = (and_parts (nat_lt serial n) true (sym (ap (has_serials_below n) is) ∙ below)).0
+    step (a_word_in_front w is S) = (and_parts (nat_lt serial n) true (sym (ap (has_serials_below n) is) ∙ below)).0
+
+pub demanded_below : (n : ℕ) (t : Term) (serial : ℕ) (R : Term) → demanded t ≡ Some (serial, R)
+    → has_serials_below n t ≡ true → nat_lt serial n ≡ true
+demanded_below n t serial R h below = step (demanded_looks t serial R h)
+  where
+    step : IsDemanding serial t R → nat_lt serial n ≡ true
+    step (an_asking asks) = asking_below n t serial R asks below
+    step (a_denial u S is same asks) =
+        asking_below n u serial S asks
+        (and_parts (has_serials_below n u) true (sym (ap (has_serials_below n) is) ∙ below)).0
+
+asking_occurs : (n : ℕ) (t : Term) (serial : ℕ) (R : Term) → asked t ≡ Some (serial, R) → occurs n t ≡ false
+    → (n == serial) ≡ false
+asking_occurs n t serial R h none =
+    (or_parts (n == serial) (occurs n R || false) (sym (asked_occurs t serial R h n) ∙ none)).0
+
+pub demanded_occurs : (n : ℕ) (t : Term) (serial : ℕ) (R : Term) → demanded t ≡ Some (serial, R)
+    → occurs n t ≡ false → (n == serial) ≡ false
+demanded_occurs n t serial R h none = step (demanded_looks t serial R h)
+  where
+    step : IsDemanding serial t R → (n == serial) ≡ false
+    step (an_asking asks) = asking_occurs n t serial R asks none
+    step (a_denial u S is same asks) =
+        asking_occurs n u serial S asks (or_parts (occurs n u) false (sym (ap (occurs n) is) ∙ none)).0
+
+-- a membership or the negation of one is about this constant
+pub demanded_about : (n : ℕ) (t : Term) (serial : ℕ) (R : Term) → demanded t ≡ Some (serial, R)
+    → is_plain_term t ≡ true → is_about n t ≡ (n == serial)
+demanded_about n t serial R h plain = step (demanded_looks t serial R h)
+  where
+    positive : IsAsking serial t R → is_about n t ≡ (n == serial)
+    positive (a_membership is) = ap (is_about n) is
+    positive (a_word_behind w is S) = absurd (false≢true (sym (ap is_plain_term is) ∙ plain))
+    positive (a_word_in_front w is S) = absurd (false≢true (sym (ap is_plain_term is) ∙ plain))
+
+    negative : (u S : Term) → t ≡ negation_of u → IsAsking serial u S → is_about n t ≡ (n == serial)
+    negative u S e (a_membership is) = ap (is_about n) (e ∙ ap negation_of is)
+    negative u S e (a_word_behind w is _) =
+        absurd (false≢true (sym (ap is_plain_term (e ∙ ap negation_of is)) ∙ plain))
+    negative u S e (a_word_in_front w is _) =
+        absurd (false≢true (sym (ap is_plain_term (e ∙ ap negation_of is)) ∙ plain))
+
+    step : IsDemanding serial t R → is_about n t ≡ (n == serial)
+    step (an_asking asks) = positive (asked_looks t serial R asks)
+    step (a_denial u S is same asks) = negative u S is (asked_looks u serial S asks)
+
+-- The meaning.
+
+-- a regular expression over literals means one
+record IsMeant (v : Valuation) (R : Term) : Type 0 where
+  reglan : RegLan
+  means : meaning_of v R ≡ means_reglan reglan
+
+regex_means : (v : Valuation) (R : Term) → is_regex R ≡ true → IsMeant v R
+regex_means v (apply symbol.str_to_re terms) h = record { reglan = _; means = refl }
+regex_means v (apply symbol.re_none terms) h = record { reglan = _; means = refl }
+regex_means v (apply symbol.re_all terms) h = record { reglan = _; means = refl }
+regex_means v (apply symbol.re_allchar terms) h = record { reglan = _; means = refl }
+regex_means v (apply symbol.re_concat terms) h = record { reglan = _; means = refl }
+regex_means v (apply symbol.re_union terms) h = record { reglan = _; means = refl }
+regex_means v (apply symbol.re_inter terms) h = record { reglan = _; means = refl }
+regex_means v (apply symbol.re_diff terms) h = record { reglan = _; means = refl }
+regex_means v (apply symbol.re_star terms) h = record { reglan = _; means = refl }
+regex_means v (apply symbol.re_plus terms) h = record { reglan = _; means = refl }
+regex_means v (apply symbol.re_opt terms) h = record { reglan = _; means = refl }
+regex_means v (apply symbol.re_comp terms) h = record { reglan = _; means = refl }
+regex_means v (apply symbol.re_range terms) h = record { reglan = _; means = refl }
+regex_means v (apply (symbol.re_power n) terms) h = record { reglan = _; means = refl }
+regex_means v (apply (symbol.re_loop n m) terms) h = record { reglan = _; means = refl }
+regex_means v _ h = absurd (false≢true h)
+
+membership_holds : (v : Valuation) (serial : ℕ) (R : Term) (reglan : RegLan) (w : List ℕ)
+    → meaning_of v R ≡ means_reglan reglan → value_in v serial text ≡ Text w
+    → holds (membership_of serial R) v ≡ in_re reglan w
+membership_holds v serial R reglan w means value = rw (means, value) (and-true (in_re reglan w))
+
+asking_holds : (v : Valuation) (t : Term) (serial : ℕ) (R : Term) (reglan : RegLan) (w : List ℕ)
+    → asked t ≡ Some (serial, R) → meaning_of v R ≡ means_reglan reglan → value_in v serial text ≡ Text w
+    → holds t v ≡ in_re reglan w
+asking_holds v t serial R reglan w asks means value =
+    asked_holds t serial R asks v ∙ membership_holds v serial R reglan w means value
+
+denied_holds : (m : Meaning) → all_true (truth_in (applied symbol.core_not (m ∷ []))) ≡ not (all_true (truth_in m))
+denied_holds (means_word w) = refl
+denied_holds (means_number n) = refl
+denied_holds (means_truth true) = refl
+denied_holds (means_truth false) = refl
+denied_holds (means_reglan R) = refl
+
+in_complement : (reglan : RegLan) (w : List ℕ) → in_re (re_comp reglan) w ≡ not (in_re reglan w)
+unfolding in_re
+in_complement reglan w = refl
+
+same_reglan : (R S : RegLan) → means_reglan R ≡ means_reglan S → R ≡ S
+same_reglan R S e = cc
+
+complement_means : (v : Valuation) (R : Term) (reglan : RegLan) → meaning_of v R ≡ means_reglan reglan
+    → meaning_of v (complement_of R) ≡ means_reglan (re_comp reglan)
+complement_means v R reglan means = ap (λ m. applied symbol.re_comp (m ∷ [])) means
+
+-- a term is true where the constant's word is in the regular expression that the term demands
+pub demanded_holds : (v : Valuation) (t : Term) (serial : ℕ) (R : Term) (reglan : RegLan) (w : List ℕ)
+    → demanded t ≡ Some (serial, R) → is_regex R ≡ true → meaning_of v R ≡ means_reglan reglan
+    → value_in v serial text ≡ Text w → holds t v ≡ in_re reglan w
+demanded_holds v t serial R reglan w h kind means value = step (demanded_looks t serial R h)
+  where
+    step : IsDemanding serial t R → holds t v ≡ in_re reglan w
+    step (an_asking asks) = asking_holds v t serial R reglan w asks means value
+    step (a_denial u S is same asks) =
+        let meant = regex_means v S (sym (ap is_regex same) ∙ kind) in
+        let complement : reglan ≡ re_comp meant.reglan =
+        same_reglan reglan (re_comp meant.reglan)
+        (sym means ∙ ap (meaning_of v) same ∙ complement_means v S meant.reglan meant.means) in
+        ap (λ x. holds x v) is
+        ∙ denied_holds (meaning_of v u)
+        ∙ ap not (asking_holds v u serial S meant.reglan w asks meant.means value)
+        ∙ sym (in_complement meant.reglan w)
+        ∙ ap (λ r. in_re r w) (sym complement)
+
+-- The fragment.
+
+demanded_structure : (t : Term) (serial : ℕ) (R : Term) → demanded t ≡ Some (serial, R)
+    → is_structure t ≡ is_regex R
+demanded_structure t serial R h = step (demanded_looks t serial R h)
+  where
+    step : IsDemanding serial t R → is_structure t ≡ is_regex R
+    step (an_asking asks) = asked_structure t serial R asks
+    step (a_denial u S is same asks) =
+        ap is_structure is
+        ∙ and-true (is_structure u)
+        ∙ asked_structure u serial S asks
+        ∙ sym (ap is_regex same)
+
+-- it is a decided one where it is within the limits on sizes
+pub demanded_decided : (t : Term) (serial : ℕ) (R : Term) → demanded t ≡ Some (serial, R) → is_regex R ≡ true
+    → fits t ≡ true → is_decided (asserted t) ≡ true
+demanded_decided t serial R h kind fit =
+    and_from (is_structure t) (fits t) (demanded_structure t serial R h ∙ kind) fit
+
+-- a denial is within the limits on sizes where what the term asks for is
+pub denied_fits : (t u : Term) (serial : ℕ) (R : Term) → t ≡ negation_of u → asked u ≡ Some (serial, R)
+    → fits t ≡ is_regular R
+denied_fits t u serial R is asks = ap fits is ∙ and-true (fits u) ∙ asked_regular u serial R asks
+
+-- The number of the complement.
+
+normal_complement : (reglan : RegLan) → normal (re_comp reglan) ≡ mknot (normal reglan)
+unfolding normal
+normal_complement reglan = refl
+
+complement_regex : (old new : List Regex) (R : Term) (id complement : ℕ) → IsRegexOf old R id
+    → Names new complement (mknot (regex_at old id)) → IsRegexOf new (complement_of R) complement
+complement_regex old new R id complement r names = record {
+  kind = r.kind;
+  reglan = re_comp r.reglan;
+  means = λ v. complement_means v R r.reglan (r.means v);
+  names = names
+      ∙ ap (λ x. Some (mknot x)) (names_at old id (normal r.reglan) r.names)
+      ∙ ap Some (sym (normal_complement r.reglan));
+}
+
+-- the number of what the word is to be in
+pub positive_regex : (rs : List Regex) (ts : List Term) (d : Demand) (id : ℕ) → d.positive ≡ true
+    → IsRegexOf rs (pattern_in ts d.pattern) id → IsRegexOf rs (expression_in ts d) id
+positive_regex rs ts d id on r =
+    subst (λ b. IsRegexOf rs (if b then pattern_in ts d.pattern else complement_of (pattern_in ts d.pattern)) id)
+    (sym on) r
+
+pub negative_regex : (old new : List Regex) (ts : List Term) (d : Demand) (id complement : ℕ) → d.positive ≡ false
+    → IsRegexOf old (pattern_in ts d.pattern) id → Names new complement (mknot (regex_at old id))
+    → IsRegexOf new (expression_in ts d) complement
+negative_regex old new ts d id complement off r names =
+    subst
+    (λ b. IsRegexOf new (if b then pattern_in ts d.pattern else complement_of (pattern_in ts d.pattern)) complement)
+    (sym off) (complement_regex old new (pattern_in ts d.pattern) id complement r names)

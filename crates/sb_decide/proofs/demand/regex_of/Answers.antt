@@ -1,0 +1,57 @@
+use Rattle.std.proofs.lemmas.Result.{IfOk-from_err}
+use Rattle.sb_lang.specs.Normal.{normal}
+use Rattle.sb_regex.proofs.CallerLemmas.{extends_more, names_below}
+use Rattle.sb_term.proofs.CallerLemmas as table
+use Rattle.sb_decide.proofs.DemandFacts.{positive_regex, negative_regex}
+use Rattle.sb_decide.proofs.demand.regex_of.Goals as goal
+
+pub returns-in_err-id : goal.returns-in_err-id
+returns-in_err-id c =
+    let x = c.from_residual in
+    record {
+      number = IfOk-from_err x.result _ x.ensures.0;
+      extends = c.pattern.ensures.extends;
+      normals = c.pattern.ensures.normals;
+    }
+
+pub returns-in_default : goal.returns-in_default
+returns-in_default c =
+    let e = c.in_ok-id.ensures in
+    record { number = tt; extends = e.extends; normals = e.normals }
+
+pub returns-then-demand : goal.returns-then-demand
+returns-then-demand c =
+    let e = c.in_ok-id.ensures in
+    record {
+      number = positive_regex c.pattern.new.arena c.args.table.now c.args.demand c.in-Some.id c.if-demand.true
+          (rw c.in-Some.is at e.number);
+      extends = e.extends;
+      normals = e.normals;
+    }
+
+pub not-requires : goal.not-requires
+not-requires c =
+    let r = rw c.in-Some.is at c.in_ok-id.ensures.number in
+    names_below c.pattern.new.arena c.in-Some.id (normal r.reglan) r.names
+
+pub returns-in_err-complement : goal.returns-in_err-complement
+returns-in_err-complement c =
+    let x = c.from_residual-in_err-complement in
+    let e = c.in_ok-id.ensures in
+    record {
+      number = IfOk-from_err x.result _ x.ensures.0;
+      extends = extends_more c.args.arena.now c.pattern.new.arena c.not.new.self e.extends c.not.ensures.extends;
+      normals = c.normals_stay.ensures c.args.table.now c.args.table.now c.pattern.new.arena c.not.new.self
+          c.pattern.new.self (table.extends_same c.args.table.now) c.not.ensures.extends e.normals;
+    }
+
+pub returns : goal.returns
+returns c =
+    let e = c.in_ok-id.ensures in
+    record {
+      number = negative_regex c.pattern.new.arena c.not.new.self c.args.table.now c.args.demand c.in-Some.id
+          c.in_ok-complement.complement c.if-demand.false (rw c.in-Some.is at e.number) c.in_ok-complement.ensures.ok;
+      extends = extends_more c.args.arena.now c.pattern.new.arena c.not.new.self e.extends c.not.ensures.extends;
+      normals = c.normals_stay.ensures c.args.table.now c.args.table.now c.pattern.new.arena c.not.new.self
+          c.pattern.new.self (table.extends_same c.args.table.now) c.not.ensures.extends e.normals;
+    }
