@@ -1,5 +1,5 @@
 -- What an answer says, step behind step, and to the search.
-use Rattle.std.proofs.Common.{◌≡◌, ◌≢◌, ℕ, ◌+◌, ◌<◌, ◌≤◌, Bool, true, false, List, length, Option, Some, None, Result, Ok, Err, IfOk, OnOk, OnErr, sym, ap, subst, ◌∙◌, arith}
+use Rattle.std.proofs.Common.{◌≡◌, ℕ, ◌+◌, ◌<◌, Bool, true, false, List, length, Option, Result, Ok, Err, OnOk, OnErr, refl, sym, ap, subst, ◌∙◌, arith}
 use Rattle.std.specs.Result.{is_ok}
 use Rattle.std.proofs.lemmas.Bool.{false≢true, true≢false}
 use Rattle.sb_lit.specs.declared.clause.Lit.{Lit}
@@ -9,20 +9,20 @@ use Rattle.sb_lang.specs.Regex.{Regex}
 use Rattle.sb_trail.specs.declared.assigned.Assigned.{Assigned}
 use Rattle.sb_deriv.specs.Faithful.{KeepsEntries}
 use Rattle.sb_regex.specs.Numbered.{Extends}
-use Rattle.sb_regex.proofs.CallerLemmas.{extends_more}
+use Rattle.sb_regex.proofs.CallerLemmas.{extends_same, extends_more}
 use Rattle.sb_rulebook.specs.Atoms.{Atom, AtomOver, clause_holds}
 use Rattle.sb_atoms.specs.Numbered.{atoms_in, HaveRegexesBelow}
 use Rattle.sb_atoms.proofs.CallerLemmas.{atoms_kept}
 use Rattle.sb_proof.specs.declared.tape.TapeFault.{TapeFault}
 use Rattle.sb_proof.specs.declared.tape.TapeFault.TheVariants as fault
-use Rattle.sb_trace.specs.Putting.{SpendsWithin, CountsTapeFault}
+use Rattle.sb_trace.specs.Putting.{CountsTapeFault}
 use Rattle.sb_search.specs.Asking.{IsFair, Falls, CountsFaults}
 use Rattle.sb_search.specs.Writing.{written, kept_behind}
 use Rattle.sb_search.specs.declared.theory.Checked.{Checked}
 use Rattle.sb_search.specs.declared.theory.Checked.TheVariants.{Fine, Lemma, Ask, Spent}
 use Rattle.sb_theory.specs.declared.strings.Strings.{Strings}
 use Rattle.sb_theory.specs.Memberships.{is_atom, IsValid}
-use Rattle.sb_theory.specs.Strings.{Grows, IsPaid, Answers, IsStep}
+use Rattle.sb_theory.specs.Strings.{Holds, Grows, Keeps, Looks, IsPaid, Answers, IsEnd}
 use Rattle.sb_theory.specs.Laws.{writes_grown, writes_both}
 
 -- What grows.
@@ -37,6 +37,36 @@ grows_both x y z p q =
     grows_on x z (q.atoms ∙ p.atoms) (q.wanted ∙ p.wanted) (q.proves ∙ p.proves) p.below
     (extends_more x.arena y.arena z.arena p.extends q.extends)
 
+pub keeps_on : (x y : Strings) → y.atoms ≡ x.atoms → y.wanted ≡ x.wanted → y.proves ≡ x.proves → y.trace ≡ x.trace
+    → HaveRegexesBelow (length x.arena) x.atoms → Extends x.arena y.arena → KeepsEntries x.graph.memo y.graph.memo
+    → Keeps x y
+keeps_on x y atoms wanted proves trace below e keeps =
+    record { grows = grows_on x y atoms wanted proves below e; trace = trace; derivatives = keeps }
+
+pub keeps_both : (x y z : Strings) → Keeps x y → Keeps y z → Keeps x z
+keeps_both x y z p q = record {
+  grows = grows_both x y z p.grows q.grows;
+  trace = q.trace ∙ p.trace;
+  derivatives = λ n pieces h. q.derivatives n pieces (p.derivatives n pieces h);
+}
+
+pub looks_on : (x y : Strings) → Keeps x y → y.taken.items ≡ x.taken.items → y.members.items ≡ x.members.items
+    → y.changed ≡ x.changed → Looks x y
+looks_on x y keeps taken members changed =
+    record { keeps = keeps; taken = taken; members = members; changed = changed }
+
+pub looks_both : (x y z : Strings) → Looks x y → Looks y z → Looks x z
+looks_both x y z p q = record {
+  keeps = keeps_both x y z p.keeps q.keeps;
+  taken = q.taken ∙ p.taken;
+  members = q.members ∙ p.members;
+  changed = q.changed ∙ p.changed;
+}
+
+pub looks_none : (x : Strings) → Holds x → Looks x x
+looks_none x h =
+    looks_on x x (keeps_on x x refl refl refl refl h.regexes (extends_same x.arena) (λ n pieces k. k)) refl refl refl
+
 pub valid_grows : (x y : Strings) → Grows x y → (clause : List Lit) → IsValid x.arena x.atoms clause
     → IsValid y.arena y.atoms clause
 valid_grows x y g clause valid = λ v words.
@@ -45,14 +75,14 @@ valid_grows x y g clause valid = λ v words.
 
 -- Nothing is wrong so far.
 
-pub answers_fine : (x y : Strings) (entries : List Assigned) (budget : Spending) (told : Option (List ℕ))
-    → y.atoms ≡ x.atoms → y.proves ≡ x.proves → y.trace ≡ x.trace → HaveRegexesBelow (length x.arena) x.atoms
-    → Extends x.arena y.arena → KeepsEntries x.graph.memo y.graph.memo
+pub answers_fine : (x y : Strings) (entries : List Assigned) (budget : Spending) (told : Option (List ℕ)) → Keeps x y
     → Answers x y entries budget budget told told Fine
-answers_fine x y entries budget told atoms proves trace below e keeps = record {
+answers_fine x y entries budget told h = record {
   fair = tt;
   paid = tt;
-  writes = λ kept none_false. writes_grown x y (written kept budget told) atoms proves trace below e keeps;
+  writes = λ kept none_false.
+      writes_grown x y (written kept budget told) h.grows.atoms h.grows.proves h.trace h.grows.below h.grows.extends
+      h.derivatives;
 }
 
 pub answers_as : (x y : Strings) (entries : List Assigned) (before after : Spending) (old new : Option (List ℕ))
@@ -67,45 +97,22 @@ fair_before : (x y : Strings) (rs : List Regex) (atoms : List (AtomOver ℕ)) (e
 fair_before x y rs atoms entries answer same h =
     subst (λ (ts : List (AtomOver ℕ)). IsFair (is_atom ts) (IsValid rs atoms) entries answer) same h
 
-paid_before : (a b c : Spending) (answer : Checked) → a.spent ≤ b.spent → IsPaid b c answer → IsPaid a c answer
-paid_before a b c Fine le h = tt
-paid_before a b c (Lemma clause) le h = omega (arith, le, h)
-paid_before a b c (Ask l) le h = h
-paid_before a b c Spent le h = h
-
-pub answers_both : (x y z : Strings) (entries : List Assigned) (a b c : Spending) (told between after : Option (List ℕ))
-    (answer : Checked) → y.atoms ≡ x.atoms → SpendsWithin a b → Answers x y entries a b told between Fine
-    → Answers y z entries b c between after answer → Answers x z entries a c told after answer
-answers_both x y z entries a b c told between after answer same steps p q = record {
-  fair = fair_before x y z.arena z.atoms entries answer same q.fair;
-  paid = paid_before a b c answer steps.spent q.paid;
-  writes = λ kept none_false.
-      writes_both x y z (written kept a told) (written kept b between) (written (kept_behind kept answer) c after)
-      (p.writes kept none_false) (q.writes kept none_false);
-}
-
-pub step_both : (x y z : Strings) (entries : List Assigned) (a b c : Spending) (told between after : Option (List ℕ))
-    (answer : Option Checked) → y.atoms ≡ x.atoms → length y.taken.items ≡ length x.taken.items → SpendsWithin a b
-    → Answers x y entries a b told between Fine → IsStep y z entries b c between after answer
-    → IsStep x z entries a c told after answer
-step_both x y z entries a b c told between after None same long steps p q = (
-  answers_both x y z entries a b c told between after Fine same steps p q.0,
-  q.1 ∙ ap (λ n. n + 1) long,
+-- the same where nothing was put before
+pub end_kept : (x y z : Strings) (entries : List Assigned) (budget after : Spending) (told new : Option (List ℕ))
+    (answer : Checked) → Keeps x y → IsEnd y z entries budget after told new answer
+    → IsEnd x z entries budget after told new answer
+end_kept x y z entries budget after told new answer h end = (
+  record {
+    fair = fair_before x y z.arena z.atoms entries answer h.grows.atoms end.0.fair;
+    paid = end.0.paid;
+    writes = λ kept none_false.
+        writes_both x y z (written kept budget told) (written kept budget told)
+        (written (kept_behind kept answer) after new)
+        (writes_grown x y (written kept budget told) h.grows.atoms h.grows.proves h.trace h.grows.below h.grows.extends
+        h.derivatives) (end.0.writes kept none_false);
+  },
+  end.1,
 )
-step_both x y z entries a b c told between after (Some answer) same long steps p q =
-    (answers_both x y z entries a b c told between after answer same steps p q.0, q.1)
-
-pub step_none : (x y : Strings) (entries : List Assigned) (a b : Spending) (told after : Option (List ℕ))
-    (answer : Option Checked) → answer ≡ None → IsStep x y entries a b told after answer
-    → IsStep x y entries a b told after None
-step_none x y entries a b told after answer is h =
-    subst (λ (o : Option Checked). IsStep x y entries a b told after o) is h
-
-pub step_some : (x y : Strings) (entries : List Assigned) (a b : Spending) (told after : Option (List ℕ))
-    (found : Option Checked) (answer : Checked) → found ≡ Some answer → IsStep x y entries a b told after found
-    → Answers x y entries a b told after answer × (answer ≢ Fine)
-step_some x y entries a b told after found answer is h =
-    subst (λ (o : Option Checked). IsStep x y entries a b told after o) is h
 
 -- To the search.
 

@@ -1,20 +1,19 @@
 -- A few literals of one constant that clash, and their clause: it is false on the trail, new, true whatever the values
 -- are, and its lines follow.
-use Rattle.std.proofs.Common.{◌≡◌, ℕ, zero, suc, ◌+◌, ◌<◌, ◌≤◌, Bool, true, false, cond, eqb, ◌||◌, if◌then◌else◌, List, [], ◌∷◌, ◌++◌, length, filter, map, get_or, Option, Some, None, refl, sym, ap, subst, ◌∙◌, inl, inr, arith}
+use Rattle.std.proofs.Common.{◌≡◌, ℕ, zero, suc, ◌+◌, ◌<◌, ◌≤◌, Bool, true, false, cond, eqb, ◌||◌, if◌then◌else◌, List, [], ◌∷◌, ◌++◌, length, filter, map, take, get_or, Option, Some, None, refl, sym, ap, subst, ◌∙◌, inl, inr, arith}
 use Rattle.std.specs.List.{list_all, count_by}
 use Rattle.std.specs.List.Sorted.{IsPermutation}
-use Rattle.std.proofs.lemmas.Bool.{and_parts, and_from, false≢true, or_left, or_right, or_cases, eqb-true, eq-eqb}
+use Rattle.std.proofs.lemmas.Bool.{and_parts, and_from, false≢true, or_cases, eq-eqb}
 use Rattle.std.proofs.lemmas.Bool.Decides.{nat_tests}
-use Rattle.std.proofs.lemmas.List.{map-append}
 use Rattle.std.proofs.lemmas.List.Elements.{All-cons, All-nil}
-use Rattle.std.proofs.lemmas.List.Folds.{list_all-append, list_any-append}
-use Rattle.std.proofs.lemmas.List.Sums.{sum_by-cons, sum_by-append, AllPass-from_list_all, list_all-from_AllPass}
+use Rattle.std.proofs.lemmas.List.Folds.{list_all-append}
+use Rattle.std.proofs.lemmas.List.Sums.{sum_by-cons, AllPass-from_list_all, list_all-from_AllPass}
 use Rattle.std.proofs.lemmas.Option.{slice_get_within, same_Some}
 use Rattle.sb_lit.specs.declared.clause.Lit.{Lit}
 use Rattle.sb_lit.specs.Budgets.{Spending}
 use Rattle.sb_lit.specs.Clauses.{negation, is_same_literal, is_among, is_false_under, is_false_clause}
 use Rattle.sb_lit.specs.Kept.{Kept}
-use Rattle.sb_lit.proofs.CallerLemmas.{is_same_literal-true, is_same_literal-self, negation_twice, all_among, all_from_among}
+use Rattle.sb_lit.proofs.CallerLemmas.{is_same_literal-true, negation_twice, all_among, all_from_among}
 use Rattle.sb_lang.specs.Regex.{Regex}
 use Rattle.sb_lang.specs.Language.{language}
 use Rattle.sb_lang.specs.ConstructorLaws.{MkandKeepsLanguage}
@@ -41,8 +40,8 @@ use Rattle.sb_search.specs.declared.theory.Checked.{Checked}
 use Rattle.sb_search.specs.declared.theory.Checked.TheVariants.{Fine, Lemma, Spent}
 use Rattle.sb_theory.specs.declared.strings.Strings.{Strings}
 use Rattle.sb_theory.specs.Memberships.{row_at, AreMembers, subject_of, is_subject, is_about, literals_about, is_atom, are_atoms, HaveAtoms, IsValid}
-use Rattle.sb_theory.specs.Strings.{Writes, IsDenied, IsPaid, Answers}
-use Rattle.sb_theory.proofs.Standing.{subject_names, names_subject}
+use Rattle.sb_theory.specs.Strings.{Holds, Writes, IsDenied, IsPaid, Answers}
+use Rattle.sb_theory.proofs.Standing.{subject_names, names_subject, about_subject, filter_passes, take_passes}
 use Rattle.sb_theory.specs.Laws.{have_more}
 
 -- How often a literal stands in a list.
@@ -55,9 +54,6 @@ is_it l m = is_same_literal m l
 
 count_cons : (p : Lit → Bool) (l : Lit) (ls : List Lit) → count_by p (l ∷ ls) ≡ one_if (p l) + count_by p ls
 count_cons p l ls = sum_by-cons (λ x. one_if (p x)) l ls
-
-count_both : (p : Lit → Bool) (xs ys : List Lit) → count_by p (xs ++ ys) ≡ count_by p xs + count_by p ys
-count_both p xs ys = sum_by-append (λ x. one_if (p x)) xs ys
 
 counted_there : (l : Lit) (ls : List Lit) → is_among ls l ≡ true → 1 ≤ count_by (is_it l) ls
 counted_there l [] h = absurd (false≢true h)
@@ -83,14 +79,20 @@ fewer_pass p few literals fewer h =
     all_from_among p few (λ l among. all_among p literals l h
     (there_counted l literals (omega (arith, counted_there l few among, fewer l))))
 
-fewer_single : (few literals : List Lit) → AreFewer few literals → AreSingle literals → AreSingle few
-fewer_single few literals fewer single = λ l. omega (arith, fewer l, single l)
+take_counts : (p : Lit → Bool) (n : ℕ) (ls : List Lit) → count_by p (take n ls) ≤ count_by p ls
+take_counts p zero ls = omega arith
+take_counts p (suc n) [] = omega arith
+take_counts p (suc n) (l ∷ ls) =
+    omega (arith, count_cons p l (take n ls), count_cons p l ls, take_counts p n ls)
+
+pub fewer_same : (few literals : List Lit) → few ≡ literals → AreFewer few literals
+fewer_same few literals same = subst (λ (ls : List Lit). AreFewer few ls) same (λ l. omega arith)
+
+-- fewer of a front are fewer of the whole
+pub fewer_front : (few literals : List Lit) (n : ℕ) → AreFewer few (take n literals) → AreFewer few literals
+fewer_front few literals n fewer = λ l. omega (arith, fewer l, take_counts (is_it l) n literals)
 
 -- Which literals are about a constant.
-
-subject_test : (x : ℕ) (o : Option ℕ) → is_subject x o ≡ true → o ≡ Some x
-subject_test x None h = absurd (false≢true h)
-subject_test x (Some y) h = ap Some (sym (eqb-true x y h))
 
 test_subject : (x : ℕ) (o : Option ℕ) → o ≡ Some x → is_subject x o ≡ true
 test_subject x o h = ap (is_subject x) h ∙ eq-eqb x x refl
@@ -100,7 +102,7 @@ all_about : (atoms : List (AtomOver ℕ)) (x : ℕ) (ls : List Lit) → list_all
 all_about atoms x [] h = All-nil (IsAbout atoms x)
 all_about atoms x (l ∷ ls) h =
     let p = and_parts (is_about atoms x l) (list_all (is_about atoms x) ls) h in
-    All-cons (IsAbout atoms x) l ls (subject_names atoms l x (subject_test x (subject_of atoms l) p.0))
+    All-cons (IsAbout atoms x) l ls (subject_names atoms l x (about_subject atoms x l p.0))
     (all_about atoms x ls p.1)
 
 about_all : (atoms : List (AtomOver ℕ)) (x : ℕ) (ls : List Lit) → AreAbout atoms x ls
@@ -116,16 +118,7 @@ pub fewer_about : (atoms : List (AtomOver ℕ)) (x : ℕ) (few literals : List L
 fewer_about atoms x few literals fewer h =
     all_about atoms x few (fewer_pass (is_about atoms x) few literals fewer (about_all atoms x literals h))
 
--- The members, and one literal more.
-
-filter_passes : (p : Lit → Bool) (ls : List Lit) → list_all p (filter p ls) ≡ true
-filter_passes p [] = refl
-filter_passes p (l ∷ ls) = step (p l) refl (filter_passes p ls)
-  where
-    step : (b : Bool) → p l ≡ b → list_all p (filter p ls) ≡ true
-        → list_all p (cond b (l ∷ filter p ls) (filter p ls)) ≡ true
-    step true e rest = and_from (p l) (list_all p (filter p ls)) e rest
-    step false e rest = rest
+-- The row of a constant.
 
 filter_keeps : (p q : Lit → Bool) (ls : List Lit) → list_all q ls ≡ true → list_all q (filter p ls) ≡ true
 filter_keeps p q [] h = refl
@@ -146,7 +139,7 @@ filter_counts p q (l ∷ ls) = step (p l) (filter_counts p q ls)
     step true less = omega (arith, count_cons q l (filter p ls), count_cons q l ls, less)
     step false less = omega (arith, count_cons q l ls, less)
 
-both_pass : (p : Lit → Bool) (ls : List Lit) (l : Lit) → list_all p ls ≡ true → p l ≡ true
+pub both_pass : (p : Lit → Bool) (ls : List Lit) (l : Lit) → list_all p ls ≡ true → p l ≡ true
     → list_all p (ls ++ l ∷ []) ≡ true
 both_pass p ls l h k =
     list_all-append p ls (l ∷ []) ∙ and_from (list_all p ls) (list_all p (l ∷ [])) h (and_from (p l) true k refl)
@@ -155,49 +148,25 @@ both_pass p ls l h k =
 pub row_about : (atoms : List (AtomOver ℕ)) (x : ℕ) (ls : List Lit) → AreAbout atoms x (literals_about atoms x ls)
 row_about atoms x ls = all_about atoms x (literals_about atoms x ls) (filter_passes (is_about atoms x) ls)
 
-pub members_about : (atoms : List (AtomOver ℕ)) (x : ℕ) (ls : List Lit) (l : Lit) → IsAbout atoms x l
-    → AreAbout atoms x (literals_about atoms x ls ++ l ∷ [])
-members_about atoms x ls l about =
-    all_about atoms x (literals_about atoms x ls ++ l ∷ [])
-    (both_pass (is_about atoms x) (literals_about atoms x ls) l (filter_passes (is_about atoms x) ls)
-    (test_subject x (subject_of atoms l) (names_subject atoms l x about)))
+pub front_about : (atoms : List (AtomOver ℕ)) (x n : ℕ) (ls front : List Lit) → front ≡ take n (literals_about atoms x ls)
+    → AreAbout atoms x front
+front_about atoms x n ls front is =
+    subst (λ (ms : List Lit). AreAbout atoms x ms) (sym is)
+    (all_about atoms x (take n (literals_about atoms x ls))
+    (take_passes (is_about atoms x) n (literals_about atoms x ls) (filter_passes (is_about atoms x) ls)))
 
--- as the code makes them
-pub members_are : (atoms : List (AtomOver ℕ)) (x : ℕ) (rows now : List (List Lit)) (ls : List Lit) (l m : Lit)
-    (made given : List Lit) → AreMembers atoms rows ls → now ≡ rows → m ≡ l → made ≡ row_at now x ++ m ∷ []
-    → given ≡ made → given ≡ literals_about atoms x ls ++ l ∷ []
-members_are atoms x rows now ls l m made given members same is whole passed =
-    passed ∙ whole
-    ∙ ap (λ (rs : List (List Lit)). row_at rs x ++ m ∷ []) same
-    ∙ ap (λ (row : List Lit). row ++ m ∷ []) (members x)
-    ∙ ap (λ (k : Lit). literals_about atoms x ls ++ k ∷ []) is
+pub front_is : (atoms : List (AtomOver ℕ)) (x n : ℕ) (rows now : List (List Lit)) (ls front : List Lit)
+    → AreMembers atoms rows ls → now ≡ rows → front ≡ take n (row_at now x)
+    → front ≡ take n (literals_about atoms x ls)
+front_is atoms x n rows now ls front members same is =
+    is ∙ ap (λ (rs : List (List Lit)). take n (row_at rs x)) same ∙ ap (take n) (members x)
 
-held_next : (taken : List Assigned) (e : Assigned) (rest : List Assigned)
-    → held (taken ++ e ∷ rest) ≡ held taken ++ e.literal ∷ held rest
-held_next taken e rest = map-append (λ (a : Assigned). a.literal) taken (e ∷ rest)
-
-front_among : (xs ys : List Lit) → list_all (is_among (xs ++ ys)) xs ≡ true
-front_among xs ys =
-    all_from_among (is_among (xs ++ ys)) xs (λ l among.
-    list_any-append (is_it l) xs ys ∙ or_left (is_among xs l) (is_among ys l) among)
-
-next_among : (xs ys : List Lit) (l : Lit) → is_among (xs ++ l ∷ ys) l ≡ true
-next_among xs ys l =
-    list_any-append (is_it l) xs (l ∷ ys)
-    ∙ or_right (is_among xs l) (is_among (l ∷ ys) l)
-    (or_left (is_same_literal l l) (is_among ys l) (is_same_literal-self l))
-
-pub members_among : (atoms : List (AtomOver ℕ)) (x : ℕ) (entries taken : List Assigned) (e : Assigned)
-    (rest : List Assigned) → entries ≡ taken ++ e ∷ rest
-    → list_all (is_among (held entries)) (literals_about atoms x (held taken) ++ e.literal ∷ []) ≡ true
-members_among atoms x entries taken e rest is =
-    let whole = ap held is ∙ held_next taken e rest in
-    subst (λ (all : List Lit). list_all (is_among all) (literals_about atoms x (held taken) ++ e.literal ∷ []) ≡ true)
-    (sym whole)
-    (both_pass (is_among (held taken ++ e.literal ∷ held rest)) (literals_about atoms x (held taken)) e.literal
-    (filter_keeps (is_about atoms x) (is_among (held taken ++ e.literal ∷ held rest)) (held taken)
-    (front_among (held taken) (e.literal ∷ held rest)))
-    (next_among (held taken) (held rest) e.literal))
+-- and on the trail,
+pub row_among : (atoms : List (AtomOver ℕ)) (x : ℕ) (entries : List Assigned)
+    → list_all (is_among (held entries)) (literals_about atoms x (held entries)) ≡ true
+row_among atoms x entries =
+    filter_keeps (is_about atoms x) (is_among (held entries)) (held entries)
+    (all_from_among (is_among (held entries)) (held entries) (λ l among. among))
 
 none_of_atom : (es : List Assigned) (a : ℕ) (l : Lit) → l.atom ≡ a → entry_of es a ≡ None
     → count_by (is_it l) (held es) ≡ 0
@@ -230,21 +199,11 @@ trail_single (e ∷ es) h = λ l. step l (is_it l e.literal) refl (trail_single 
         let none : one_if (is_it l e.literal) ≡ 0 = ap one_if is in
         omega (arith, count_cons (is_it l) e.literal (held es), none, few)
 
-pub members_single : (atoms : List (AtomOver ℕ)) (x : ℕ) (entries taken : List Assigned) (e : Assigned)
-    (rest : List Assigned) → entries ≡ taken ++ e ∷ rest → AreDistinct entries
-    → AreSingle (literals_about atoms x (held taken) ++ e.literal ∷ [])
-members_single atoms x entries taken e rest is distinct = λ l.
-    let all = subst (λ (ls : List Lit). count_by (is_it l) ls ≤ 1) (ap held is ∙ held_next taken e rest)
-    (trail_single entries distinct l) in
-    omega (
-      arith,
-      all,
-      filter_counts (is_about atoms x) (is_it l) (held taken),
-      count_both (is_it l) (literals_about atoms x (held taken)) (e.literal ∷ []),
-      count_both (is_it l) (held taken) (e.literal ∷ held rest),
-      count_cons (is_it l) e.literal [],
-      count_cons (is_it l) e.literal (held rest),
-    )
+-- each once
+pub row_single : (atoms : List (AtomOver ℕ)) (x : ℕ) (entries : List Assigned) → AreDistinct entries
+    → AreSingle (literals_about atoms x (held entries))
+row_single atoms x entries distinct = λ l.
+    omega (arith, filter_counts (is_about atoms x) (is_it l) (held entries), trail_single entries distinct l)
 
 -- The clause.
 
@@ -277,8 +236,29 @@ denied_on keeps rs atoms entries x literals few clause fewer about among clash a
           (false_on (held entries) few (fewer_pass (is_among (held entries)) few literals fewer among));
     }
 
-pub few_single : (few literals : List Lit) → AreFewer few literals → AreSingle literals → AreSingle few
-few_single few literals fewer single = fewer_single few literals fewer single
+row_is : (x : Strings) (entries : List Assigned) (constant : ℕ) → Holds x → x.taken.items ≡ entries
+    → row_at x.members.items constant ≡ literals_about x.atoms constant (held entries)
+row_is x entries constant h taken =
+    h.members constant ∙ ap (λ (es : List Assigned). literals_about x.atoms constant (held es)) taken
+
+-- of a few literals of a row
+pub denied_row : MkandKeepsLanguage → (x : Strings) (entries : List Assigned) (constant : ℕ) (few clause : List Lit)
+    → Holds x → x.taken.items ≡ entries → AreFewer few (row_at x.members.items constant)
+    → AreClashing x.arena x.atoms few → Ascend clause → IsPermutation (map negation few) clause
+    → IsDenied x.arena x.atoms entries constant clause
+denied_row keeps x entries constant few clause h taken fewer clash ascend perm =
+    denied_on keeps x.arena x.atoms entries constant (literals_about x.atoms constant (held entries)) few clause
+    (subst (λ (ls : List Lit). AreFewer few ls) (row_is x entries constant h taken) fewer)
+    (row_about x.atoms constant (held entries)) (row_among x.atoms constant entries) clash ascend perm
+
+pub few_single : (x : Strings) (entries : List Assigned) (constant : ℕ) (few : List Lit) → Holds x
+    → x.taken.items ≡ entries → AreDistinct entries → AreFewer few (row_at x.members.items constant) → AreSingle few
+few_single x entries constant few h taken distinct fewer = λ l.
+    omega (
+      arith,
+      subst (λ (ls : List Lit). AreFewer few ls) (row_is x entries constant h taken) fewer l,
+      row_single x.atoms constant entries distinct l,
+    )
 
 -- It is new,
 pub no_subset : (kept : Kept) (held clause : List Lit) → HasNoneFalse kept held → is_false_clause held clause ≡ true

@@ -1,14 +1,14 @@
 -- Entries that are taken off.
-use Rattle.std.proofs.Common.{◌≡◌, ℕ, suc, ◌-◌, ◌<◌, ◌≤◌, true, false, nat_lt, nat_le, List, [], ◌∷◌, ◌++◌, length, slice_get, Option, Some, sym, ap, subst, ◌∙◌, append_assoc, arith}
+use Rattle.std.proofs.Common.{◌≡◌, ℕ, zero, suc, ◌-◌, ◌<◌, ◌≤◌, Bool, true, false, nat_lt, nat_le, List, [], ◌∷◌, ◌++◌, length, take, slice_get, Option, Some, refl, sym, ap, subst, ◌∙◌, append_assoc, arith}
 use Rattle.std.specs.List.{list_all}
-use Rattle.std.proofs.lemmas.Bool.{and_parts}
+use Rattle.std.proofs.lemmas.Bool.{and_parts, and_from}
 use Rattle.std.proofs.lemmas.Bool.Decides.{nat_tests}
-use Rattle.std.proofs.lemmas.List.{map-append}
-use Rattle.std.proofs.lemmas.List.Folds.{list_all-append}
+use Rattle.std.proofs.lemmas.List.{map-append, length-append}
 use Rattle.std.proofs.lemmas.List.Elements.{filter-append}
 use Rattle.std.proofs.lemmas.Option.{same_Some}
 use Rattle.sb_lit.specs.declared.clause.Lit.{Lit}
 use Rattle.sb_lang.specs.Regex.{Regex}
+use Rattle.sb_term.specs.declared.term.Serial.{Serial}
 use Rattle.sb_trail.specs.declared.assigned.Assigned.{Assigned}
 use Rattle.sb_trail.specs.Assignments.{held, up_to, current_level, level_after, AreLevelled}
 use Rattle.sb_trail.proofs.CallerLemmas.{level_after-push, up_to-all, up_to-push_above}
@@ -17,10 +17,11 @@ use Rattle.sb_plain.specs.Memory.{Memory, IsRight}
 use Rattle.sb_rulebook.specs.Atoms.{AtomOver}
 use Rattle.sb_atoms.specs.Numbered.{HaveRegexesBelow}
 use Rattle.sb_theory.specs.declared.strings.Strings.{Strings}
-use Rattle.sb_theory.specs.Memberships.{AreMembers, is_true_by}
+use Rattle.sb_theory.specs.Memberships.{is_about, literals_about, word_at, is_true_of, AreMembers}
+use Rattle.sb_theory.specs.Fronts.{number_at, AreFitting}
 use Rattle.sb_theory.specs.Places.{IsCut}
 use Rattle.sb_theory.specs.Strings.{Stands}
-use Rattle.sb_theory.proofs.Standing.{levelled_front}
+use Rattle.sb_theory.proofs.Standing.{fitting_as, levelled_front}
 
 pub level_last : (n : ℕ) (es : List Assigned) (e : Assigned) → slice_get es (length es - 1) ≡ Some e
     → e.level ≡ level_after n es
@@ -34,12 +35,6 @@ pub record IsCutting (level : ℕ) (old now : List Assigned) : Type 0 where
   pub same : up_to level now ≡ up_to level old
   pub more : List Assigned
   pub front : old ≡ now ++ more
-
-pub held_push : (taken now : List Assigned) (e : Assigned) (l : Lit) → now ≡ taken ++ e ∷ [] → l ≡ e.literal
-    → held now ≡ held taken ++ l ∷ []
-held_push taken now e l is same =
-    ap held is ∙ map-append (λ (a : Assigned). a.literal) taken (e ∷ [])
-    ∙ ap (λ (k : Lit). held taken ++ k ∷ []) (sym same)
 
 pub cut_step : (level : ℕ) (old now new : List Assigned) (e : Assigned) → nat_lt level (current_level now) ≡ true
     → now ≡ new ++ e ∷ [] → IsCutting level old now → IsCutting level old new
@@ -63,21 +58,42 @@ cut_end level old now low levelled h =
       front = h.front;
     }
 
-fit_front : (rs : List Regex) (atoms : List (AtomOver ℕ)) (words : List (Option (List ℕ))) (old new more : List Assigned)
-    → old ≡ new ++ more → list_all (is_true_by rs atoms words) (held old) ≡ true
-    → list_all (is_true_by rs atoms words) (held new) ≡ true
-fit_front rs atoms words old new more is h =
-    (and_parts (list_all (is_true_by rs atoms words) (held new)) (list_all (is_true_by rs atoms words) (held more))
-    (sym (list_all-append (is_true_by rs atoms words) (held new) (held more))
-    ∙ ap (list_all (is_true_by rs atoms words)) (sym (map-append (λ (a : Assigned). a.literal) new more))
-    ∙ ap (λ (es : List Assigned). list_all (is_true_by rs atoms words) (held es)) (sym is) ∙ h)).0
+-- what was known of a row is known of what is left of it
+take_front : (p : Lit → Bool) (n : ℕ) (xs ys : List Lit) → list_all p (take n (xs ++ ys)) ≡ true
+    → list_all p (take n xs) ≡ true
+take_front p zero xs ys h = refl
+take_front p (suc n) [] ys h = refl
+take_front p (suc n) (x ∷ xs) ys h =
+    let q = and_parts (p x) (list_all p (take n (xs ++ ys))) h in
+    and_from (p x) (list_all p (take n xs)) q.0 (take_front p n xs ys q.1)
+
+row_cut : (atoms : List (AtomOver ℕ)) (x : ℕ) (old new more : List Assigned) → old ≡ new ++ more
+    → literals_about atoms x (held old) ≡ literals_about atoms x (held new) ++ literals_about atoms x (held more)
+row_cut atoms x old new more is =
+    ap (λ (es : List Assigned). literals_about atoms x (held es)) is
+    ∙ ap (literals_about atoms x) (map-append (λ (a : Assigned). a.literal) new more)
+    ∙ filter-append (is_about atoms x) (held new) (held more)
+
+fitting_cut : (rs : List Regex) (atoms : List (AtomOver ℕ)) (words : List (Option (List ℕ)))
+    (old new more : List Assigned) (fitting : List ℕ) (changed : List Serial) → old ≡ new ++ more
+    → AreFitting rs atoms words (held old) fitting changed → AreFitting rs atoms words (held new) fitting changed
+fitting_cut rs atoms words old new more fitting changed is h = record {
+  front = λ x. take_front (is_true_of rs atoms (word_at words x)) (number_at fitting x)
+      (literals_about atoms x (held new)) (literals_about atoms x (held more))
+      (ap (λ (row : List Lit). list_all (is_true_of rs atoms (word_at words x)) (take (number_at fitting x) row))
+      (sym (row_cut atoms x old new more is)) ∙ h.front x);
+  whole = λ x out.
+      let all = ap length (row_cut atoms x old new more is)
+      ∙ length-append (literals_about atoms x (held new)) (literals_about atoms x (held more)) in
+      omega (arith, all, h.whole x out);
+}
 
 pub stands_cut : (x y : Strings) (level : ℕ) (entries : List Assigned) → y.arena ≡ x.arena → y.graph ≡ x.graph
-    → y.plain ≡ x.plain → y.atoms ≡ x.atoms → y.words.items ≡ x.words.items
-    → (AreLevelled 0 x.taken.items → IsCut level x.taken.items y.taken.items)
+    → y.plain ≡ x.plain → y.atoms ≡ x.atoms → y.words.items ≡ x.words.items → y.fitting.items ≡ x.fitting.items
+    → y.changed ≡ x.changed → (AreLevelled 0 x.taken.items → IsCut level x.taken.items y.taken.items)
     → (AreMembers x.atoms x.members.items (held x.taken.items)
     → AreMembers x.atoms y.members.items (held y.taken.items)) → Stands x entries → Stands y (up_to level entries)
-stands_cut x y level entries arena graph plain atoms words cuts members h =
+stands_cut x y level entries arena graph plain atoms words fitting changed cuts members h =
     let cut = cuts h.levelled in
     record {
       holds = record {
@@ -89,10 +105,12 @@ stands_cut x y level entries arena graph plain atoms words cuts members h =
             (subst (λ (ts : List (AtomOver ℕ)). HaveRegexesBelow (length x.arena) ts) (sym atoms) h.holds.regexes);
         members = subst (λ (ts : List (AtomOver ℕ)). AreMembers ts y.members.items (held y.taken.items)) (sym atoms)
             (members h.holds.members);
-        fit = ap (λ (r : List Regex). list_all (is_true_by r y.atoms y.words.items) (held y.taken.items)) arena
-            ∙ ap (λ (ts : List (AtomOver ℕ)). list_all (is_true_by x.arena ts y.words.items) (held y.taken.items)) atoms
-            ∙ ap (λ (ws : List (Option (List ℕ))). list_all (is_true_by x.arena x.atoms ws) (held y.taken.items)) words
-            ∙ fit_front x.arena x.atoms x.words.items x.taken.items y.taken.items cut.more cut.front h.holds.fit;
+        fit = subst (λ (r : List Regex).
+            AreFitting r y.atoms y.words.items (held y.taken.items) y.fitting.items y.changed) (sym arena)
+            (fitting_as x.arena x.atoms y.atoms x.words.items y.words.items (held y.taken.items) (held y.taken.items)
+            x.fitting.items y.fitting.items x.changed y.changed atoms words refl fitting changed
+            (fitting_cut x.arena x.atoms x.words.items x.taken.items y.taken.items cut.more x.fitting.items x.changed
+            cut.front h.holds.fit));
       };
       levelled = levelled_front 0 y.taken.items cut.more
           (subst (λ (es : List Assigned). AreLevelled 0 es) cut.front h.levelled);

@@ -1,14 +1,14 @@
 -- What was taken in stays right as tables grow, and as one more literal is taken in.
-use Rattle.std.proofs.Common.{◌≡◌, ℕ, ◌<◌, Bool, true, false, not, if◌then◌else◌, List, [], ◌∷◌, ◌++◌, length, get_or, slice_get, Option, Some, None, option_and_then, refl, sym, ap, subst, ◌∙◌, arith, append_assoc}
+use Rattle.std.proofs.Common.{◌≡◌, ℕ, zero, suc, ◌<◌, ◌≤◌, Bool, true, false, not, cond, if◌then◌else◌, List, [], ◌∷◌, ◌++◌, length, filter, take, get_or, slice_get, Option, Some, None, option_and_then, refl, sym, ap, subst, ◌∙◌, arith, append_assoc}
 use mathlib.Core.Bool.{beq}
 use Rattle.std.specs.List.{list_all}
-use Rattle.std.proofs.lemmas.Bool.{and_from, false≢true}
+use Rattle.std.proofs.lemmas.Bool.{and_parts, and_from, false≢true, eqb-true}
 use Rattle.std.proofs.lemmas.List.{map-append}
-use Rattle.std.proofs.lemmas.List.Folds.{list_all-append}
 use Rattle.std.proofs.lemmas.Option.{same_Some, get_or_from_slice_get}
 use Rattle.sb_lit.specs.declared.clause.Lit.{Lit}
 use Rattle.sb_lang.specs.Regex.{Regex}
 use Rattle.sb_lang.specs.Language.{language}
+use Rattle.sb_term.specs.declared.term.Serial.{Serial}
 use Rattle.sb_trail.specs.declared.assigned.Assigned.{Assigned}
 use Rattle.sb_trail.specs.Assignments.{held, AreLevelled}
 use Rattle.sb_regex.specs.Numbered.{regex_at, Extends}
@@ -22,8 +22,9 @@ use Rattle.sb_atoms.proofs.CallerLemmas.{regexes_kept}
 use Rattle.sb_clash.specs.Literals.{IsAbout, number_in}
 use Rattle.sb_clash.proofs.CallerLemmas.{regex_below}
 use Rattle.sb_theory.specs.declared.strings.Strings.{Strings}
-use Rattle.sb_theory.specs.Memberships.{constant_of, subject_of, literals_about, row_at, word_at, is_true_of, fits_subject, is_true_by}
-use Rattle.sb_theory.specs.Strings.{Holds, Stands, IsNext}
+use Rattle.sb_theory.specs.Memberships.{constant_of, subject_of, is_subject, is_about, literals_about, row_at, word_at, is_true_of, fits_subject, is_true_by}
+use Rattle.sb_theory.specs.Fronts.{AreFitting, number_at}
+use Rattle.sb_theory.specs.Strings.{Holds, Stands}
 
 -- Which constant a literal is about.
 
@@ -54,24 +55,52 @@ subject_names atoms l x h = step (slice_get atoms l.atom) refl h
 pub names_subject : (atoms : List (AtomOver ℕ)) (l : Lit) (x : ℕ) → IsAbout atoms x l → subject_of atoms l ≡ Some x
 names_subject atoms l x h = ap (option_and_then constant_of) h.names
 
+subject_test : (x : ℕ) (o : Option ℕ) → is_subject x o ≡ true → o ≡ Some x
+subject_test x None h = absurd (false≢true h)
+subject_test x (Some y) h = ap Some (sym (eqb-true x y h))
+
+pub about_subject : (atoms : List (AtomOver ℕ)) (x : ℕ) (l : Lit) → is_about atoms x l ≡ true
+    → subject_of atoms l ≡ Some x
+about_subject atoms x l h = subject_test x (subject_of atoms l) h
+
+pub filter_passes : (p : Lit → Bool) (ls : List Lit) → list_all p (filter p ls) ≡ true
+filter_passes p [] = refl
+filter_passes p (l ∷ ls) = step (p l) refl (filter_passes p ls)
+  where
+    step : (b : Bool) → p l ≡ b → list_all p (filter p ls) ≡ true
+        → list_all p (cond b (l ∷ filter p ls) (filter p ls)) ≡ true
+    step true e rest = and_from (p l) (list_all p (filter p ls)) e rest
+    step false e rest = rest
+
+pub take_passes : (p : Lit → Bool) (n : ℕ) (ls : List Lit) → list_all p ls ≡ true → list_all p (take n ls) ≡ true
+take_passes p zero ls h = refl
+take_passes p (suc n) [] h = refl
+take_passes p (suc n) (l ∷ ls) h =
+    let q = and_parts (p l) (list_all p ls) h in
+    and_from (p l) (list_all p (take n ls)) q.0 (take_passes p n ls q.1)
+
 -- The word of a constant, tried.
 
-sign_fits : (s b : Bool) → beq b s ≡ true → (if s then b else not b) ≡ true
-sign_fits true true h = refl
-sign_fits true false h = absurd (false≢true h)
-sign_fits false true h = absurd (false≢true h)
-sign_fits false false h = refl
+sign_is : (s b : Bool) → beq b s ≡ (if s then b else not b)
+sign_is true true = refl
+sign_is true false = refl
+sign_is false true = refl
+sign_is false false = refl
 
-pub fits_by : (rs : List Regex) (atoms : List (AtomOver ℕ)) (words : List (Option (List ℕ))) (l : Lit) (x r : ℕ)
+pub true_by_word : (rs : List Regex) (atoms : List (AtomOver ℕ)) (words : List (Option (List ℕ))) (l : Lit) (x r : ℕ)
     (b : Bool) → Names atoms l.atom (in_atom (constant_piece x ∷ []) r)
-    → b ≡ language (regex_at rs r) (word_at words x) → beq b l.positive ≡ true → is_true_by rs atoms words l ≡ true
-fits_by rs atoms words l x r b names is same =
-    ap (λ (o : Option ℕ). fits_subject rs atoms words l o) (ap (option_and_then constant_of) names)
-    ∙ ap (λ n. if l.positive then language (regex_at rs n) (word_at words x)
+    → b ≡ language (regex_at rs r) (word_at words x) → beq b l.positive ≡ is_true_by rs atoms words l
+true_by_word rs atoms words l x r b names is =
+    sign_is l.positive b
+    ∙ ap (λ c. if l.positive then c else not c) is
+    ∙ sym (ap (λ n. if l.positive then language (regex_at rs n) (word_at words x)
     else not (language (regex_at rs n) (word_at words x)))
-    (ap number_in (get_or_from_slice_get atoms l.atom (in_atom (constant_piece x ∷ []) r) (bool_atom 0) names))
-    ∙ ap (λ c. if l.positive then c else not c) (sym is)
-    ∙ sign_fits l.positive b same
+    (ap number_in (get_or_from_slice_get atoms l.atom (in_atom (constant_piece x ∷ []) r) (bool_atom 0) names)))
+    ∙ sym (ap (λ (o : Option ℕ). fits_subject rs atoms words l o) (ap (option_and_then constant_of) names))
+
+pub true_by_none : (rs : List Regex) (atoms : List (AtomOver ℕ)) (words : List (Option (List ℕ))) (l : Lit)
+    → subject_of atoms l ≡ None → true ≡ is_true_by rs atoms words l
+true_by_none rs atoms words l none = sym (ap (λ (o : Option ℕ). fits_subject rs atoms words l o) none)
 
 -- Where the arena grows.
 
@@ -82,38 +111,58 @@ true_of_grown rs more atoms w x l e below about =
     (at_kept rs more (number_in (get_or atoms l.atom (bool_atom 0))) e
     (regex_below (length rs) atoms x l below about))
 
-pub true_by_grown : (rs more : List Regex) (atoms : List (AtomOver ℕ)) (words : List (Option (List ℕ))) (l : Lit)
-    → Extends rs more → HaveRegexesBelow (length rs) atoms → is_true_by more atoms words l ≡ is_true_by rs atoms words l
-true_by_grown rs more atoms words l e below = step (subject_of atoms l) refl
-  where
-    step : (o : Option ℕ) → subject_of atoms l ≡ o → fits_subject more atoms words l o ≡ fits_subject rs atoms words l o
-    step None is = refl
-    step (Some x) is = true_of_grown rs more atoms _ x l e below (subject_names atoms l x is)
+all_true_grown : (rs more : List Regex) (atoms : List (AtomOver ℕ)) (w : List ℕ) (x : ℕ) (ls : List Lit)
+    → Extends rs more → HaveRegexesBelow (length rs) atoms → list_all (is_about atoms x) ls ≡ true
+    → list_all (is_true_of more atoms w) ls ≡ list_all (is_true_of rs atoms w) ls
+all_true_grown rs more atoms w x [] e below about = refl
+all_true_grown rs more atoms w x (l ∷ ls) e below about =
+    let p = and_parts (is_about atoms x l) (list_all (is_about atoms x) ls) about in
+    let here = true_of_grown rs more atoms w x l e below (subject_names atoms l x (about_subject atoms x l p.0)) in
+    rw (here, all_true_grown rs more atoms w x ls e below p.1) refl
 
-pub fit_grown : (rs more : List Regex) (atoms : List (AtomOver ℕ)) (words : List (Option (List ℕ))) (ls : List Lit)
-    → Extends rs more → HaveRegexesBelow (length rs) atoms
-    → list_all (is_true_by more atoms words) ls ≡ list_all (is_true_by rs atoms words) ls
-fit_grown rs more atoms words [] e below = refl
-fit_grown rs more atoms words (l ∷ ls) e below =
-    rw (true_by_grown rs more atoms words l e below, fit_grown rs more atoms words ls e below) refl
+pub fitting_grown : (rs more : List Regex) (atoms : List (AtomOver ℕ)) (words : List (Option (List ℕ))) (ls : List Lit)
+    (fitting : List ℕ) (changed : List Serial) → Extends rs more → HaveRegexesBelow (length rs) atoms
+    → AreFitting rs atoms words ls fitting changed → AreFitting more atoms words ls fitting changed
+fitting_grown rs more atoms words ls fitting changed e below h = record {
+  front = λ x. all_true_grown rs more atoms (word_at words x) x (take (number_at fitting x) (literals_about atoms x ls))
+      e below
+      (take_passes (is_about atoms x) (number_at fitting x) (literals_about atoms x ls)
+      (filter_passes (is_about atoms x) ls)) ∙ h.front x;
+  whole = h.whole;
+}
 
-pub stands_grown : (x y : Strings) (entries : List Assigned) → Extends x.arena y.arena → IsGraph y.arena y.graph
-    → IsRight y.arena y.plain → y.atoms ≡ x.atoms → y.words.items ≡ x.words.items → y.taken.items ≡ x.taken.items
-    → y.members.items ≡ x.members.items → Stands x entries → Stands y entries
-stands_grown x y entries e graph plain atoms words taken members h = record {
-  holds = record {
-    graph = graph;
-    plain = plain;
-    regexes = subst (λ (ts : List (AtomOver ℕ)). HaveRegexesBelow (length y.arena) ts) (sym atoms)
-        (regexes_kept x.arena y.arena x.atoms e h.holds.regexes);
-    members = λ n. ap (λ (rows : List (List Lit)). row_at rows n) members ∙ h.holds.members n
-        ∙ ap (λ (ts : List (AtomOver ℕ)). literals_about ts n (held x.taken.items)) (sym atoms)
-        ∙ ap (λ (es : List Assigned). literals_about y.atoms n (held es)) (sym taken);
-    fit = ap (λ (ts : List (AtomOver ℕ)). list_all (is_true_by y.arena ts y.words.items) (held y.taken.items)) atoms
-        ∙ ap (λ (ws : List (Option (List ℕ))). list_all (is_true_by y.arena x.atoms ws) (held y.taken.items)) words
-        ∙ ap (λ (es : List Assigned). list_all (is_true_by y.arena x.atoms x.words.items) (held es)) taken
-        ∙ fit_grown x.arena y.arena x.atoms x.words.items (held x.taken.items) e h.holds.regexes ∙ h.holds.fit;
-  };
+pub fitting_as : (rs : List Regex) (atoms now : List (AtomOver ℕ)) (words put : List (Option (List ℕ))) (ls ms : List Lit)
+    (fitting numbers : List ℕ) (changed left : List Serial) → now ≡ atoms → put ≡ words → ms ≡ ls → numbers ≡ fitting
+    → left ≡ changed → AreFitting rs atoms words ls fitting changed → AreFitting rs now put ms numbers left
+fitting_as rs atoms now words put ls ms fitting numbers changed left same_atoms same_words same_ls same_numbers same h =
+    subst (λ (ts : List (AtomOver ℕ)). AreFitting rs ts put ms numbers left) (sym same_atoms)
+    (subst (λ (ws : List (Option (List ℕ))). AreFitting rs atoms ws ms numbers left) (sym same_words)
+    (subst (λ (ns : List Lit). AreFitting rs atoms words ns numbers left) (sym same_ls)
+    (subst (λ (ns : List ℕ). AreFitting rs atoms words ls ns left) (sym same_numbers)
+    (subst (λ (cs : List Serial). AreFitting rs atoms words ls fitting cs) (sym same) h))))
+
+pub holds_grown : (x y : Strings) → Extends x.arena y.arena → IsGraph y.arena y.graph → IsRight y.arena y.plain
+    → y.atoms ≡ x.atoms → y.words.items ≡ x.words.items → y.taken.items ≡ x.taken.items
+    → y.members.items ≡ x.members.items → y.fitting.items ≡ x.fitting.items → y.changed ≡ x.changed → Holds x → Holds y
+holds_grown x y e graph plain atoms words taken members fitting changed h = record {
+  graph = graph;
+  plain = plain;
+  regexes = subst (λ (ts : List (AtomOver ℕ)). HaveRegexesBelow (length y.arena) ts) (sym atoms)
+      (regexes_kept x.arena y.arena x.atoms e h.regexes);
+  members = λ n. ap (λ (rows : List (List Lit)). row_at rows n) members ∙ h.members n
+      ∙ ap (λ (ts : List (AtomOver ℕ)). literals_about ts n (held x.taken.items)) (sym atoms)
+      ∙ ap (λ (es : List Assigned). literals_about y.atoms n (held es)) (sym taken);
+  fit = fitting_as y.arena x.atoms y.atoms x.words.items y.words.items (held x.taken.items) (held y.taken.items)
+      x.fitting.items y.fitting.items x.changed y.changed atoms words (ap held taken) fitting changed
+      (fitting_grown x.arena y.arena x.atoms x.words.items (held x.taken.items) x.fitting.items x.changed e h.regexes
+      h.fit);
+}
+
+-- what was taken in stands on the trail where it is as it was
+pub stands_on : (x y : Strings) (entries : List Assigned) → Holds y → y.taken.items ≡ x.taken.items
+    → Stands x entries → Stands y entries
+stands_on x y entries holds taken h = record {
+  holds = holds;
   levelled = subst (λ (es : List Assigned). AreLevelled 0 es) (sym taken) h.levelled;
   rest = h.rest;
   is = h.is ∙ ap (λ (es : List Assigned). es ++ h.rest) (sym taken);
@@ -121,16 +170,29 @@ stands_grown x y entries e graph plain atoms words taken members h = record {
 
 -- At the beginning.
 
+fitting_none : (rs : List Regex) (atoms : List (AtomOver ℕ)) (words : List (Option (List ℕ))) (ls : List Lit)
+    (fitting : List ℕ) (changed : List Serial) → ls ≡ [] → fitting ≡ []
+    → AreFitting rs atoms words ls fitting changed
+fitting_none rs atoms words ls fitting changed none no_numbers = record {
+  front = λ x. ap (λ (ms : List Lit). list_all (is_true_of rs atoms (word_at words x))
+      (take (number_at fitting x) (literals_about atoms x ms))) none
+      ∙ ap (λ (ns : List ℕ). list_all (is_true_of rs atoms (word_at words x)) (take (number_at ns x) [])) no_numbers;
+  whole = λ x out. subst (λ (ms : List Lit). length (literals_about atoms x ms) ≤ number_at fitting x) (sym none)
+      (omega arith);
+}
+
 pub stands_new : (x : Strings) → IsGraph x.arena x.graph → IsRight x.arena x.plain
-    → HaveRegexesBelow (length x.arena) x.atoms → x.taken.items ≡ [] → x.members.items ≡ [] → Stands x []
-stands_new x graph plain regexes none no_members = record {
+    → HaveRegexesBelow (length x.arena) x.atoms → x.taken.items ≡ [] → x.members.items ≡ [] → x.fitting.items ≡ []
+    → Stands x []
+stands_new x graph plain regexes none no_members no_numbers = record {
   holds = record {
     graph = graph;
     plain = plain;
     regexes = regexes;
     members = λ n. ap (λ (rows : List (List Lit)). row_at rows n) no_members
         ∙ sym (ap (λ (es : List Assigned). literals_about x.atoms n (held es)) none);
-    fit = ap (λ (es : List Assigned). list_all (is_true_by x.arena x.atoms x.words.items) (held es)) none;
+    fit = fitting_none x.arena x.atoms x.words.items (held x.taken.items) x.fitting.items x.changed (ap held none)
+        no_numbers;
   };
   levelled = subst (λ (es : List Assigned). AreLevelled 0 es) (sym none) tt;
   rest = [];
@@ -143,15 +205,19 @@ pub levelled_front : (n : ℕ) (xs ys : List Assigned) → AreLevelled n (xs ++ 
 levelled_front n [] ys h = tt
 levelled_front n (x ∷ xs) ys h = (h.0, levelled_front x.level xs ys h.1)
 
-pub fit_push : (rs : List Regex) (atoms : List (AtomOver ℕ)) (words : List (Option (List ℕ))) (taken : List Assigned)
-    (e : Assigned) → list_all (is_true_by rs atoms words) (held taken) ≡ true
-    → is_true_by rs atoms words e.literal ≡ true
-    → list_all (is_true_by rs atoms words) (held (taken ++ e ∷ [])) ≡ true
-fit_push rs atoms words taken e h k =
-    ap (list_all (is_true_by rs atoms words)) (map-append (λ (a : Assigned). a.literal) taken (e ∷ []))
-    ∙ list_all-append (is_true_by rs atoms words) (held taken) (e.literal ∷ [])
-    ∙ and_from (list_all (is_true_by rs atoms words) (held taken)) (list_all (is_true_by rs atoms words) (e.literal ∷ []))
-    h (and_from (is_true_by rs atoms words e.literal) true k refl)
+pub held_push : (taken now : List Assigned) (e : Assigned) (l : Lit) → now ≡ taken ++ e ∷ [] → l ≡ e.literal
+    → held now ≡ held taken ++ l ∷ []
+held_push taken now e l is same =
+    ap held is ∙ map-append (λ (a : Assigned). a.literal) taken (e ∷ [])
+    ∙ ap (λ (k : Lit). held taken ++ k ∷ []) (sym same)
+
+pub fitting_taken : (rs : List Regex) (atoms : List (AtomOver ℕ)) (words given : List (Option (List ℕ)))
+    (taken now : List Assigned) (e : Assigned) (l : Lit) (fitting : List ℕ) (changed : List Serial) → given ≡ words
+    → now ≡ taken ++ e ∷ [] → l ≡ e.literal → AreFitting rs atoms given (held taken ++ l ∷ []) fitting changed
+    → AreFitting rs atoms words (held now) fitting changed
+fitting_taken rs atoms words given taken now e l fitting changed same is literal h =
+    subst (λ (ls : List Lit). AreFitting rs atoms words ls fitting changed) (sym (held_push taken now e l is literal))
+    (subst (λ (ws : List (Option (List ℕ))). AreFitting rs atoms ws (held taken ++ l ∷ []) fitting changed) same h)
 
 pub stands_pushed : (y : Strings) (taken entries : List Assigned) (e : Assigned) (rest : List Assigned)
     → entries ≡ taken ++ e ∷ rest → AreLevelled 0 entries → y.taken.items ≡ taken ++ e ∷ [] → Holds y → Stands y entries
@@ -171,11 +237,25 @@ split_next [] [] e more is = absurd (omega (arith, more))
 split_next [] (x ∷ xs) e more is = (xs, ap (λ (y : Assigned). y ∷ xs) (sym is))
 split_next (t ∷ ts) rest e more is = split_next ts rest e (omega (arith, more)) is
 
+-- the entry is the first that was not taken in
 pub next_of : (x : Strings) (entries all : List Assigned) (i : ℕ) (e : Assigned) → Stands x entries → all ≡ entries
-    → i ≡ length x.taken.items → length x.taken.items < length entries → e ≡ get_or all i e → IsNext x entries e
+    → i ≡ length x.taken.items → length x.taken.items < length entries → e ≡ get_or all i e
+    → (rest : List Assigned) × (entries ≡ x.taken.items ++ e ∷ rest)
 next_of x entries all i e h same place more is =
     let at = is ∙ ap (λ n. get_or all n e) place
     ∙ ap (λ (es : List Assigned). get_or es (length x.taken.items) e) (same ∙ h.is) in
     let long = subst (λ (es : List Assigned). length x.taken.items < length es) h.is more in
     let found = split_next x.taken.items h.rest e long at in
-    record { rest = found.0; is = h.is ∙ ap (λ (es : List Assigned). x.taken.items ++ es) found.1 }
+    (found.0, h.is ∙ ap (λ (es : List Assigned). x.taken.items ++ es) found.1)
+
+none_behind : (taken rest : List Assigned) → length (taken ++ rest) ≤ length taken → taken ≡ taken ++ rest
+none_behind [] [] h = refl
+none_behind [] (e ∷ es) h = absurd (omega (arith, h))
+none_behind (t ∷ ts) rest h = ap (λ (es : List Assigned). t ∷ es) (none_behind ts rest (omega (arith, h)))
+
+-- all of the trail was taken in
+pub taken_whole : (x : Strings) (entries : List Assigned) → Stands x entries → length entries ≤ length x.taken.items
+    → x.taken.items ≡ entries
+taken_whole x entries h all =
+    none_behind x.taken.items h.rest (subst (λ (es : List Assigned). length es ≤ length x.taken.items) h.is all)
+    ∙ sym h.is

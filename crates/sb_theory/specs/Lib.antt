@@ -2,4 +2,5 @@ pub mod Memberships
 pub mod Strings
 pub mod Examples
 pub mod Places
+pub mod Fronts
 pub mod Laws

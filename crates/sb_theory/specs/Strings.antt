@@ -1,5 +1,5 @@
 -- What the theory has taken in of a trail, and what its lines make of a proof.
-use Rattle.std.specs.Prelude.{◌≡◌, ◌≢◌, ℕ, ◌+◌, ◌<◌, true, List, [], ◌∷◌, ◌++◌, map, length, Option, Some, None}
+use Rattle.std.specs.Prelude.{◌≡◌, ◌≢◌, ℕ, ◌<◌, true, List, [], ◌++◌, map, length, take, Option}
 use Rattle.std.specs.List.{list_all}
 use Rattle.sb_lit.specs.declared.clause.Lit.{Lit}
 use Rattle.sb_lit.specs.Budgets.{Spending}
@@ -25,16 +25,17 @@ use Rattle.sb_search.specs.Writing.{Written, written, kept_behind}
 use Rattle.sb_search.specs.declared.theory.Checked.{Checked}
 use Rattle.sb_search.specs.declared.theory.Checked.TheVariants.{Fine, Lemma, Ask, Spent}
 use Rattle.sb_theory.specs.declared.strings.Strings.{Strings}
-use Rattle.sb_theory.specs.Memberships.{AreMembers, is_true_by, is_atom, HaveAtoms, IsValid}
+use Rattle.sb_theory.specs.Memberships.{AreMembers, row_at, is_true_by, is_atom, HaveAtoms, IsValid}
+use Rattle.sb_theory.specs.Fronts.{AreFitting}
 
--- What holds of the theory: its tables are right, the rows are those of what was taken in, and each literal that was
--- taken in is true of the words.
+-- What holds of the theory: its tables are right, the rows are those of what was taken in, and it is known how much of
+-- each of them is true of the words.
 pub record Holds (x : Strings) : Type 0 where
   pub graph : IsGraph x.arena x.graph
   pub plain : IsRight x.arena x.plain
   pub regexes : HaveRegexesBelow (length x.arena) x.atoms
   pub members : AreMembers x.atoms x.members.items (held x.taken.items)
-  pub fit : list_all (is_true_by x.arena x.atoms x.words.items) (held x.taken.items) ≡ true
+  pub fit : AreFitting x.arena x.atoms x.words.items (held x.taken.items) x.fitting.items x.changed
 
 -- What was taken in is the front of the trail.
 pub record Stands (x : Strings) (entries : List Assigned) : Type 0 where
@@ -42,11 +43,6 @@ pub record Stands (x : Strings) (entries : List Assigned) : Type 0 where
   pub levelled : AreLevelled 0 x.taken.items
   pub rest : List Assigned
   pub is : entries ≡ x.taken.items ++ rest
-
--- the entry is the first that was not taken in
-pub record IsNext (x : Strings) (entries : List Assigned) (entry : Assigned) : Type 0 where
-  pub rest : List Assigned
-  pub is : entries ≡ x.taken.items ++ entry ∷ rest
 
 -- each literal on the trail is true of the words
 abbrev pub Agrees : Strings → List Assigned → Type 0
@@ -59,6 +55,27 @@ pub record Grows (x y : Strings) : Type 0 where
   pub proves : y.proves ≡ x.proves
   pub below : HaveRegexesBelow (length x.arena) x.atoms
   pub extends : Extends x.arena y.arena
+
+-- Regexes and derivatives may be added, and no lines are put.
+pub record Keeps (x y : Strings) : Type 0 where
+  pub grows : Grows x y
+  pub trace : y.trace ≡ x.trace
+  pub derivatives : KeepsEntries x.graph.memo y.graph.memo
+
+-- Words may be put: what was taken in stays, and so do the constants whose rows are to be looked at.
+pub record Looks (x y : Strings) : Type 0 where
+  pub keeps : Keeps x y
+  pub taken : y.taken.items ≡ x.taken.items
+  pub members : y.members.items ≡ x.members.items
+  pub changed : y.changed ≡ x.changed
+
+-- no word makes the row of the constant true
+abbrev pub HasClash : Strings → ℕ → Type 0
+HasClash x constant = AreClashing x.arena x.atoms (row_at x.members.items constant)
+
+-- nor so many first literals of it
+abbrev pub HasClashIn : ℕ → Strings → ℕ → Type 0
+HasClashIn long x constant = AreClashing x.arena x.atoms (take long (row_at x.members.items constant))
 
 -- The reader of the proof keeps what the theory knows of regexes and atoms, and these clauses, whose atoms it knows.
 pub record Backs (asked : Asked) (x : Strings) (kept : AllKept) (proof : Written) : Type 0 where
@@ -105,10 +122,7 @@ pub record Answers (x y : Strings) (entries : List Assigned) (before after : Spe
     pub writes : (kept : Kept) → HasNoneFalse kept (held entries)
         → Writes x y (written kept before old) (written (kept_behind kept answer) after new)
 
--- A step over the next literal of the trail: it is taken in, or the answer is the end, where something is wrong.
-abbrev pub IsStep : Strings → Strings → List Assigned → Spending → Spending → Option (List ℕ) → Option (List ℕ)
-    → Option Checked → Type 0
-IsStep x y entries before after old new None =
-    Answers x y entries before after old new Fine × (length y.taken.items ≡ length x.taken.items + 1)
-IsStep x y entries before after old new (Some answer) =
-    Answers x y entries before after old new answer × (answer ≢ Fine)
+-- The answer is the end, where something is wrong.
+abbrev pub IsEnd : Strings → Strings → List Assigned → Spending → Spending → Option (List ℕ) → Option (List ℕ) → Checked
+    → Type 0
+IsEnd x y entries before after old new answer = Answers x y entries before after old new answer × (answer ≢ Fine)

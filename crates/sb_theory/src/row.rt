@@ -1,6 +1,6 @@
 //! Literals of memberships by the serials of their constants.
 
-ghost use Rattle.std.specs.Prelude.{◌≡◌, ◌∷◌, ◌++◌, [], List, IfOk, OnOk};
+ghost use Rattle.std.specs.Prelude.{◌≡◌, ◌<◌, ◌≤◌, ◌∷◌, ◌++◌, [], List, length, take, get_or, OnOk};
 ghost use Rattle.sb_lit.specs.declared.clause.Lit.{Lit as TheLit};
 ghost use Rattle.sb_theory.specs.Memberships.{row_at};
 ghost use Rattle.sb_theory.specs.Places.{IsAdded, IsDropped};
@@ -94,19 +94,20 @@ pub(crate) fn drop_member(rows: &mut Vec<Row>, serial: Serial)
     }
 }
 
-/// The literals in the row of a constant, and one more.
-pub(crate) fn members_with(
-    alloc: Global,
-    rows: &[Row],
-    serial: Serial,
-    literal: Lit,
-) -> Result<Vec<Lit>, AllocError>
-    ensures { IfOk result (λ found. found.items ≡ row_at rows.now serial.0 ++ literal ∷ []) }
+/// So many first literals in the row of a constant. Takes constant time and no memory.
+pub(crate) fn front_of(rows: &[Row], serial: Serial, long: usize) -> &[Lit]
+    requires { long ≤ length (row_at rows.now serial.0) }
+    ensures { result.now ≡ take long (row_at rows.now serial.0) }
 {
-    let Some(row) = rows.get(serial.0 as usize) else {
-        return Vec::from_slice(alloc, &[literal]);
-    };
-    let mut found = Vec::from_slice(alloc, row.literals())?;
-    found.push(literal)?;
-    Ok(found)
+    let row = row_of(rows, serial);
+    &row[..long]
+}
+
+/// The literal at a place in the row of a constant. Takes constant time and no memory.
+pub(crate) fn literal_at(rows: &[Row], serial: Serial, place: usize) -> Lit
+    requires { place < length (row_at rows.now serial.0) }
+    ensures { result ≡ get_or (row_at rows.now serial.0) place result }
+{
+    let row = row_of(rows, serial);
+    row[place]
 }

@@ -1,24 +1,25 @@
 //! The theory.
 
-ghost use Rattle.std.specs.Prelude.{◌≡◌, ◌<◌, [], true, length, if◌then◌else◌, Option, None, Some, IfOk, OnOk, IfSome, IfNone};
-ghost use Rattle.std.specs.List.{list_all};
+ghost use Rattle.std.specs.Prelude.{◌≡◌, ◌+◌, ◌<◌, ◌≤◌, [], true, false, length, if◌then◌else◌, IfOk, OnOk, IfSome, IfNone};
 ghost use Rattle.std.proofs.Common.{rules};
-ghost use Rattle.sb_lit.specs.Clauses.{is_among};
-ghost use Rattle.sb_trail.specs.Assignments.{held};
-ghost use Rattle.sb_regex.specs.Numbered.{Extends};
+ghost use Rattle.sb_trail.specs.Assignments.{current_level};
 ghost use Rattle.sb_graph.specs.Findings.{IsGraph};
 ghost use Rattle.sb_plain.specs.Memory.{IsRight};
 ghost use Rattle.sb_atoms.specs.Numbered.{HaveRegexesBelow};
 ghost use Rattle.sb_trace.specs.Putting.{CountsTapeFault, SpendsWithin};
-ghost use Rattle.sb_clash.specs.Literals.{IsAbout, AreAbout, AreClashing, AreSingle};
+ghost use Rattle.sb_clash.specs.Literals.{AreClashing, AreFewer};
 ghost use Rattle.sb_search.specs.declared.theory.Checked.TheVariants.{Fine, Lemma, Spent};
-ghost use Rattle.sb_theory.specs.Memberships.{is_atom, is_true_by, IsValid};
-ghost use Rattle.sb_theory.specs.Strings.{Stands, Agrees, Grows, Writes, IsDenied, IsNext, Answers, IsStep};
+ghost use Rattle.sb_theory.specs.Memberships.{row_at, is_atom, IsValid};
+ghost use Rattle.sb_theory.specs.Fronts.{number_at, IsWhole, Rises};
+ghost use Rattle.sb_theory.specs.Strings.{Holds, Stands, Agrees, Grows, Keeps, Looks, HasClash, HasClashIn, Writes, IsDenied, Answers, IsEnd};
 ghost use Rattle.sb_theory.specs.Laws.{stands_longer, writes_none, writes_both, writes_learned, writes_gate, known_later};
 
-use crate::member::{cut, keep, membership};
-use crate::place::{contains, put_word};
-use crate::row::{Row, members_with};
+use crate::changed::Changed;
+use crate::fit::{fits, note};
+use crate::member::{cut, keep};
+use crate::numbers::{number_of, put_number};
+use crate::place::put_word;
+use crate::row::{Row, front_of, literal_at, row_of};
 use sb_atoms::Atoms;
 use sb_clash::{core, denial, least_word, put_denial};
 use sb_clauses::Clauses;
@@ -53,8 +54,14 @@ pub struct Strings {
     taken: Vec<Entry>,
     /// By serial the literals of the constant's memberships among these, oldest first.
     members: Vec<Row>,
-    /// By serial a word that makes the constant's memberships among these true; the empty one where there is none.
+    /// By serial a word that makes the constant's memberships among these true, but for the constants in `changed`; the
+    /// empty one where there is none.
     pub words: Vec<Option<Word>>,
+    /// By serial how many first literals of the row the word is known to make true. It may be more than are left of a
+    /// row that was longer.
+    fitting: Vec<usize>,
+    /// The constants of which some literal is not known to be true of the word.
+    changed: Changed,
 }
 
 impl Theory for Strings {
@@ -82,7 +89,7 @@ impl Theory for Strings {
         tape: &mut L,
         budget: &mut Budget,
     ) -> Result<Checked, TapeFault> {
-        self.take_in(trail, tape, budget)
+        self.look(trail, tape, budget)
     }
 
     fn backtrack(&mut self, level: usize) {
@@ -144,11 +151,14 @@ impl Strings {
             taken: Vec::new(alloc),
             members: Vec::new(alloc),
             words: Vec::new(alloc),
+            fitting: Vec::new(alloc),
+            changed: Changed::new(alloc),
         }
     }
 
-    /// Takes the whole trail in, or finds a lemma on the way.
-    fn take_in<L: Tape>(
+    /// Takes the whole trail in, and then looks for a word of each constant whose word does not fit. A lemma where there
+    /// is none.
+    fn look<L: Tape>(
         &mut self,
         trail: &Trail,
         tape: &mut L,
@@ -163,137 +173,228 @@ impl Strings {
         ensures steps { SpendsWithin budget.old budget.new }
         ensures counts { CountsTapeFault result (L.Tape.faults tape.old) (L.Tape.faults tape.new) }
     {
-        while self.taken.len() < trail.len() {
-            if let Some(answer) = self.take_next(trail, tape, budget)? {
-                return Ok(answer);
-            }
+        self.take_in(trail)?;
+        let found = self.first_clash()?;
+        match found {
+            None => Ok(Checked::Fine),
+            Some(serial) => self.clash(trail, serial, tape, budget),
         }
-        Ok(Checked::Fine)
     }
 
-    /// Takes the next literal of the trail in. The answer where that is the end: a lemma, or that the budget is spent.
-    fn take_next<L: Tape>(
-        &mut self,
-        trail: &Trail,
-        tape: &mut L,
-        budget: &mut Budget,
-    ) -> Result<Option<Checked>, TapeFault>
+    /// Takes the whole trail in, whatever the words.
+    fn take_in(&mut self, trail: &Trail) -> Result<(), AllocError>
+        requires { Stands self.old trail.now.literals }
+        ensures stands { OnOk result (Stands self.new trail.now.literals) }
+        ensures whole { OnOk result (self.new.taken.items ≡ trail.now.literals) }
+        ensures keeps { Keeps self.old self.new }
+    {
+        while self.taken.len() < trail.len() {
+            self.take_next(trail)?;
+        }
+        Ok(())
+    }
+
+    /// Takes the next literal of the trail in.
+    fn take_next(&mut self, trail: &Trail) -> Result<(), AllocError>
         requires stands { Stands self.old trail.now.literals }
         requires more { length self.old.taken.items < length trail.now.literals }
         ensures stands { OnOk result (Stands self.new trail.now.literals) }
-        ensures step { IfOk result (IsStep self.old self.new trail.now.literals budget.old budget.new
-            (L.Tape.told tape.old) (L.Tape.told tape.new)) }
-        ensures grows { Grows self.old self.new }
-        ensures steps { SpendsWithin budget.old budget.new }
-        ensures counts { CountsTapeFault result (L.Tape.faults tape.old) (L.Tape.faults tape.new) }
+        ensures more { OnOk result (length self.new.taken.items ≡ length self.old.taken.items + 1) }
+        ensures keeps { Keeps self.old self.new }
     {
         graph_stays();
         let entry = trail.literals()[self.taken.len()];
-        let literal = entry.literal();
-        let found = misfit(
+        note(
             &mut self.arena,
             &mut self.plain,
             &self.atoms,
             &self.words,
-            literal,
+            &self.members,
+            &mut self.fitting,
+            &mut self.changed,
+            entry.literal(),
         )?;
-        match found {
-            None => {
-                keep(
-                    self.alloc,
-                    &self.atoms,
-                    &mut self.taken,
-                    &mut self.members,
-                    entry,
-                )?;
-                Ok(None)
-            }
-            Some(serial) => self.find_word(trail, entry, serial, tape, budget),
-        }
+        keep(
+            self.alloc,
+            &self.atoms,
+            &mut self.taken,
+            &mut self.members,
+            entry,
+        )?;
+        Ok(())
     }
 
-    /// Looks for a word that makes the next literal true too, with those of its constant that were taken in, and keeps
-    /// it. The answer where there is none.
-    fn find_word<L: Tape>(
-        &mut self,
-        trail: &Trail,
-        entry: Entry,
-        serial: Serial,
-        tape: &mut L,
-        budget: &mut Budget,
-    ) -> Result<Option<Checked>, TapeFault>
-        requires stands { Stands self.old trail.now.literals }
-        requires next { IsNext self.old trail.now.literals entry }
-        requires about { IsAbout self.old.atoms serial.0 entry.literal }
-        ensures stands { OnOk result (Stands self.new trail.now.literals) }
-        ensures step { IfOk result (IsStep self.old self.new trail.now.literals budget.old budget.new
-            (L.Tape.told tape.old) (L.Tape.told tape.new)) }
-        ensures grows { Grows self.old self.new }
-        ensures steps { SpendsWithin budget.old budget.new }
-        ensures counts { CountsTapeFault result (L.Tape.faults tape.old) (L.Tape.faults tape.new) }
+    /// Looks for words of the constants whose rows are not known to fit, oldest first. The first constant that has none:
+    /// it and those behind it are looked at again.
+    fn first_clash(&mut self) -> Result<Option<Serial>, AllocError>
+        requires { Holds self.old }
+        ensures holds { OnOk result (Holds self.new) }
+        ensures settled { IfOk result (λ found. IfNone found (self.new.changed ≡ [])) }
+        ensures clash { IfOk result (λ found. IfSome found (λ serial. HasClash self.new serial.0)) }
+        ensures keeps { Keeps self.old self.new }
+        ensures taken { self.new.taken.items ≡ self.old.taken.items }
+    {
+        let mut place = 0;
+        while place < self.changed.len() {
+            let serial = self.changed.at(place);
+            if !self.settles(serial)? {
+                return Ok(Some(serial));
+            }
+            place += 1;
+        }
+        self.changed.clear();
+        Ok(None)
+    }
+
+    /// Whether a constant has a word that makes its whole row true, which it has from then on.
+    fn settles(&mut self, serial: Serial) -> Result<bool, AllocError>
+        requires { Holds self.old }
+        ensures holds { OnOk result (Holds self.new) }
+        ensures whole { IfOk result (λ found. found ≡ true
+            → IsWhole self.new.members.items self.new.fitting.items serial.0) }
+        ensures clash { IfOk result (λ found. found ≡ false → HasClash self.new serial.0) }
+        ensures rises { OnOk result (Rises self.old.fitting.items self.new.fitting.items) }
+        ensures looks { Looks self.old self.new }
+    {
+        let long = row_of(&self.members, serial).len();
+        if long <= number_of(&self.fitting, serial) {
+            return Ok(true);
+        }
+        self.ask(serial, long)
+    }
+
+    /// Whether a word makes so many first literals of a constant's row true, more than its word is known to. It is the
+    /// constant's from then on.
+    fn ask(&mut self, serial: Serial, long: usize) -> Result<bool, AllocError>
+        requires holds { Holds self.old }
+        requires more { number_at self.old.fitting.items serial.0 < long }
+        requires within { long ≤ length (row_at self.old.members.items serial.0) }
+        ensures holds { OnOk result (Holds self.new) }
+        ensures fits { IfOk result (λ found. found ≡ true → number_at self.new.fitting.items serial.0 ≡ long) }
+        ensures clash { IfOk result (λ found. found ≡ false → HasClashIn long self.new serial.0) }
+        ensures rises { OnOk result (Rises self.old.fitting.items self.new.fitting.items) }
+        ensures looks { Looks self.old self.new }
     {
         right_stays();
         mkand_keeps_language();
         mknot_keeps_language();
-        let _trail = trail.literals();
-        let literals = members_with(self.alloc, &self.members, serial, entry.literal())?;
         let explored = least_word(
             self.alloc,
             &mut self.arena,
             &mut self.graph,
             &self.atoms,
             serial,
-            &literals,
+            front_of(&self.members, serial, long),
         )?;
         match explored {
             Explored::Alive(word) => {
                 put_word(&mut self.words, serial, word)?;
-                keep(
-                    self.alloc,
-                    &self.atoms,
-                    &mut self.taken,
-                    &mut self.members,
-                    entry,
-                )?;
-                Ok(None)
+                put_number(&mut self.fitting, serial, long)?;
+                Ok(true)
             }
-            Explored::Dead => self.lemma(trail, serial, &literals, tape, budget),
+            Explored::Dead => Ok(false),
         }
     }
 
-    /// The lemma that a few of the literals, which clash, are not all true.
-    fn lemma<L: Tape>(
+    /// The lemma that a few literals of a constant, which no word makes true together, are not all true.
+    fn clash<L: Tape>(
         &mut self,
         trail: &Trail,
         serial: Serial,
-        literals: &[Lit],
         tape: &mut L,
         budget: &mut Budget,
-    ) -> Result<Option<Checked>, TapeFault>
+    ) -> Result<Checked, TapeFault>
         requires stands { Stands self.old trail.now.literals }
-        requires about { AreAbout self.old.atoms serial.0 literals.now }
-        requires clash { AreClashing self.old.arena self.old.atoms literals.now }
-        requires among { list_all (is_among (held trail.now.literals)) literals.now ≡ true }
-        requires single { AreSingle literals.now }
+        requires whole { self.old.taken.items ≡ trail.now.literals }
+        requires clash { HasClash self.old serial.0 }
         ensures stands { OnOk result (Stands self.new trail.now.literals) }
-        ensures step { IfOk result (IsStep self.old self.new trail.now.literals budget.old budget.new
+        ensures end { IfOk result (IsEnd self.old self.new trail.now.literals budget.old budget.new
             (L.Tape.told tape.old) (L.Tape.told tape.new)) }
         ensures grows { Grows self.old self.new }
         ensures steps { SpendsWithin budget.old budget.new }
         ensures counts { CountsTapeFault result (L.Tape.faults tape.old) (L.Tape.faults tape.new) }
     {
-        right_stays();
         mkand_keeps_language();
-        let few = core(
+        let _trail = trail.literals();
+        let few = self.clashing(trail, serial)?;
+        let clause = denial(self.alloc, &few)?;
+        self.answer(trail, serial, clause, tape, budget)
+    }
+
+    /// Literals of a constant's row that no word makes true together: all of them where no decision is on the trail, and
+    /// else a few of the shortest front of them that has no word.
+    fn clashing(&mut self, trail: &Trail, serial: Serial) -> Result<Vec<Lit>, AllocError>
+        requires holds { Holds self.old }
+        requires clash { HasClash self.old serial.0 }
+        ensures holds { OnOk result (Holds self.new) }
+        ensures whole { IfOk result (λ few. current_level trail.now.literals ≡ 0
+            → few.items ≡ row_at self.new.members.items serial.0) }
+        ensures fewer { IfOk result (λ few. AreFewer few.items (row_at self.new.members.items serial.0)) }
+        ensures clash { IfOk result (λ few. AreClashing self.new.arena self.new.atoms few.items) }
+        ensures looks { Looks self.old self.new }
+    {
+        right_stays();
+        if trail.current_level() == 0 {
+            return Vec::from_slice(self.alloc, row_of(&self.members, serial));
+        }
+        let long = self.clashing_front(serial)?;
+        core(
             self.alloc,
             &mut self.arena,
             &mut self.graph,
             &self.atoms,
             serial,
-            literals,
+            front_of(&self.members, serial, long),
+        )
+    }
+
+    /// The length of the shortest front of a constant's row that no word makes true. The words of shorter ones that are
+    /// found on the way are the constant's.
+    fn clashing_front(&mut self, serial: Serial) -> Result<usize, AllocError>
+        requires holds { Holds self.old }
+        requires clash { HasClash self.old serial.0 }
+        ensures holds { OnOk result (Holds self.new) }
+        ensures within { IfOk result (λ long. long ≤ length (row_at self.new.members.items serial.0)) }
+        ensures clash { IfOk result (λ long. HasClashIn long self.new serial.0) }
+        ensures looks { Looks self.old self.new }
+    {
+        let whole = row_of(&self.members, serial).len();
+        let mut long = number_of(&self.fitting, serial);
+        while long < whole {
+            long += 1;
+            if self.clashes(serial, long)? {
+                return Ok(long);
+            }
+        }
+        Ok(whole)
+    }
+
+    /// Whether no word makes so many first literals of a constant's row true, of which the word is known to make all but
+    /// the last one true.
+    fn clashes(&mut self, serial: Serial, long: usize) -> Result<bool, AllocError>
+        requires holds { Holds self.old }
+        requires next { number_at self.old.fitting.items serial.0 + 1 ≡ long }
+        requires within { long ≤ length (row_at self.old.members.items serial.0) }
+        ensures holds { OnOk result (Holds self.new) }
+        ensures fits { IfOk result (λ none. none ≡ false → number_at self.new.fitting.items serial.0 ≡ long) }
+        ensures clash { IfOk result (λ none. none ≡ true → HasClashIn long self.new serial.0) }
+        ensures looks { Looks self.old self.new }
+    {
+        graph_stays();
+        let literal = literal_at(&self.members, serial, long - 1);
+        let matches = fits(
+            &mut self.arena,
+            &mut self.plain,
+            &self.atoms,
+            &self.words,
+            literal,
         )?;
-        let clause = denial(self.alloc, &few)?;
-        self.answer(trail, serial, clause, tape, budget)
+        if matches {
+            put_number(&mut self.fitting, serial, long)?;
+            return Ok(false);
+        }
+        let found = self.ask(serial, long)?;
+        Ok(!found)
     }
 
     /// The clause as a lemma, with its lines where such are put, and a step of the budget.
@@ -304,11 +405,11 @@ impl Strings {
         clause: Clause,
         tape: &mut L,
         budget: &mut Budget,
-    ) -> Result<Option<Checked>, TapeFault>
+    ) -> Result<Checked, TapeFault>
         requires stands { Stands self.old trail.now.literals }
         requires denied { IsDenied self.old.arena self.old.atoms trail.now.literals serial.0 clause }
         ensures stands { OnOk result (Stands self.new trail.now.literals) }
-        ensures step { IfOk result (IsStep self.old self.new trail.now.literals budget.old budget.new
+        ensures end { IfOk result (IsEnd self.old self.new trail.now.literals budget.old budget.new
             (L.Tape.told tape.old) (L.Tape.told tape.new)) }
         ensures grows { Grows self.old self.new }
         ensures steps { SpendsWithin budget.old budget.new }
@@ -319,7 +420,7 @@ impl Strings {
         empty_is_exact();
         if !self.proves {
             let done = budget.tick().is_ok();
-            return Ok(Some(answered(done, clause)));
+            return Ok(answered(done, clause));
         }
         let done = put_denial(
             self.alloc,
@@ -332,7 +433,7 @@ impl Strings {
             tape,
             budget,
         )?;
-        Ok(Some(answered(done, clause)))
+        Ok(answered(done, clause))
     }
 }
 
@@ -344,32 +445,5 @@ fn answered(done: bool, clause: Clause) -> Checked
         Checked::Lemma(clause)
     } else {
         Checked::Spent
-    }
-}
-
-/// The constant whose word does not make the literal true, if there is one.
-fn misfit(
-    arena: &mut Arena,
-    plain: &mut Plain,
-    atoms: &Atoms,
-    words: &[Option<Word>],
-    literal: Lit,
-) -> Result<Option<Serial>, AllocError>
-    requires regexes { HaveRegexesBelow (length arena.old) atoms.now }
-    requires right { IsRight arena.old plain.old }
-    ensures fits { IfOk result
-        (λ found. IfNone found (is_true_by arena.old atoms.now words.now literal ≡ true)) }
-    ensures about { IfOk result (λ found. IfSome found (λ serial. IsAbout atoms.now serial.0 literal)) }
-    ensures extends { Extends arena.old arena.new }
-    ensures right { IsRight arena.new plain.new }
-{
-    let Some(member) = membership(atoms, literal) else {
-        return Ok(None);
-    };
-    let is_in = contains(arena, plain, words, member.serial, member.regex)?;
-    if is_in == literal.positive {
-        Ok(None)
-    } else {
-        Ok(Some(member.serial))
     }
 }

@@ -3,7 +3,8 @@ use Rattle.sb_lit.specs.declared.clause.Lit.{Lit}
 use Rattle.sb_trail.specs.Assignments.{held}
 use Rattle.sb_theory.specs.Memberships.{AreMembers}
 use Rattle.sb_theory.specs.Places.{is_above}
-use Rattle.sb_theory.proofs.Placed.{cut_step, cut_end, held_push}
+use Rattle.sb_theory.proofs.Standing.{held_push}
+use Rattle.sb_theory.proofs.Placed.{cut_step, cut_end}
 use Rattle.sb_theory.proofs.member.cut.Goals as goal
 
 pub loop-taken-preserved-in-Some : goal.loop-taken-preserved-in-Some

@@ -1,6 +1,6 @@
 use Rattle.std.proofs.Common.{refl, sym, ◌∙◌, Bool}
 use Rattle.std.proofs.lemmas.Result.{IfOk-from_err, err_from_is_err_and}
-use Rattle.sb_theory.proofs.Standing.{stands_grown}
+use Rattle.sb_theory.proofs.Standing.{holds_grown, stands_on}
 use Rattle.sb_theory.proofs.Denied.{answers_denied, never_fine}
 use Rattle.sb_theory.proofs.Answering.{ticked, unticked, never_on, answers_as, grows_on}
 use Rattle.sb_regex.proofs.CallerLemmas.{extends_same}
@@ -9,12 +9,14 @@ use Rattle.sb_theory.proofs.strings.Strings.answer.Goals as goal
 
 pub returns-clause-stands : goal.returns-clause-stands
 returns-clause-stands g c =
-    stands_grown c.args.self.now _ c.args.trail.now.literals c.in_ok-done.ensures.extends c.in_ok-done.ensures.graph
+    stands_on c.args.self.now _ c.args.trail.now.literals
+    (holds_grown c.args.self.now _ c.in_ok-done.ensures.extends c.in_ok-done.ensures.graph
     (c.right_stays.ensures c.args.self.now.arena c.put_denial.new.arena c.args.self.now.plain
-    c.in_ok-done.ensures.extends c.requires.stands.holds.plain) refl refl refl refl c.requires.stands
+    c.in_ok-done.ensures.extends c.requires.stands.holds.plain) refl refl refl refl refl refl c.requires.stands.holds)
+    refl c.requires.stands
 
-pub returns-clause-step : goal.returns-clause-step
-returns-clause-step g c = (
+pub returns-clause-end : goal.returns-clause-end
+returns-clause-end g c = (
   answers_as c.args.self.now _ c.args.trail.now.literals c.args.budget.now c.put_denial.new.budget
       (g.L.Tape.told c.args.tape.now) (g.L.Tape.told c.put_denial.new.tape) _ c.answered-2.result c.answered-2.ensures
       (answers_denied c.empty_holds.ensures c.empty_is_exact.ensures c.args.self.now _ c.args.trail.now.literals
@@ -25,8 +27,8 @@ returns-clause-step g c = (
   never_fine c.args.clause c.in_ok-done.done c.answered-2.result c.answered-2.ensures,
 )
 
-pub returns-then-not-self-clause-step : goal.returns-then-not-self-clause-step
-returns-then-not-self-clause-step g c = (
+pub returns-then-not-self-clause-end : goal.returns-then-not-self-clause-end
+returns-then-not-self-clause-end g c = (
   answers_as c.args.self.now c.args.self.now c.args.trail.now.literals c.args.budget.now c.tick.new.self
       (g.L.Tape.told c.args.tape.now) (g.L.Tape.told c.args.tape.now) _ c.answered.result c.answered.ensures
       (answers_denied c.empty_holds.ensures c.empty_is_exact.ensures c.args.self.now c.args.self.now
@@ -47,7 +49,7 @@ returns-in_err-done g c =
     let p = err_from_is_err_and x.result x.ensures.1 in
     record {
       stands = IfOk-from_err x.result _ x.ensures.0;
-      step = IfOk-from_err x.result _ x.ensures.0;
+      end = IfOk-from_err x.result _ x.ensures.0;
       grows = grows_on c.args.self.now _ refl refl refl c.requires.stands.holds.regexes c.in_err-done.ensures.extends;
       steps = c.in_err-done.ensures.steps;
       counts = counts_on Bool x.result p.0 _ _ _ p.1 p.2 c.in_err-done.ensures.counts;

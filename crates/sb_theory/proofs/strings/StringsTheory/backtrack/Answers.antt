@@ -5,7 +5,7 @@ use Rattle.sb_theory.proofs.strings.StringsTheory.backtrack.Goals as goal
 
 pub returns-clause-stands : goal.returns-clause-stands
 returns-clause-stands c = λ entries.
-    stands_cut c.args.self.now _ c.args.level entries refl refl refl refl refl c.cut.ensures.taken
+    stands_cut c.args.self.now _ c.args.level entries refl refl refl refl refl refl refl c.cut.ensures.taken
     c.cut.ensures.members
 
 pub returns-clause-puts : goal.returns-clause-puts

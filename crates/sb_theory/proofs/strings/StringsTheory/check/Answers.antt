@@ -6,46 +6,46 @@ use Rattle.sb_theory.proofs.Answering.{valid_grows, answer_spent, answer_falls, 
 use Rattle.sb_theory.proofs.strings.StringsTheory.check.Goals as goal
 
 pub returns-clause-wanted : goal.returns-clause-wanted
-returns-clause-wanted g c = ap (λ v. v.items) c.take_in.ensures.grows.wanted
+returns-clause-wanted g c = ap (λ v. v.items) c.look.ensures.grows.wanted
 
 pub returns-clause-passes : goal.returns-clause-passes
-returns-clause-passes g c = ap (λ (ts : List (AtomOver ℕ)). λ (atom : ℕ). is_atom ts atom) c.take_in.ensures.grows.atoms
+returns-clause-passes g c = ap (λ (ts : List (AtomOver ℕ)). λ (atom : ℕ). is_atom ts atom) c.look.ensures.grows.atoms
 
 pub returns-clause-teaches : goal.returns-clause-teaches
-returns-clause-teaches g c = valid_grows c.args.self.now c.take_in.new.self c.take_in.ensures.grows
+returns-clause-teaches g c = valid_grows c.args.self.now c.look.new.self c.look.ensures.grows
 
 pub returns-clause-limit : goal.returns-clause-limit
-returns-clause-limit g c = c.take_in.ensures.steps.limit
+returns-clause-limit g c = c.look.ensures.steps.limit
 
 pub returns-clause-spends : goal.returns-clause-spends
-returns-clause-spends g c = c.take_in.ensures.steps.spent
+returns-clause-spends g c = c.look.ensures.steps.spent
 
 pub returns-clause-within : goal.returns-clause-within
-returns-clause-within g c = c.take_in.ensures.steps.within
+returns-clause-within g c = c.look.ensures.steps.within
 
 pub returns-clause-fair : goal.returns-clause-fair
-returns-clause-fair g c = IfOk-weaker c.take_in.result _ _ (λ answer h. h.fair) c.take_in.ensures.answers
+returns-clause-fair g c = IfOk-weaker c.look.result _ _ (λ answer h. h.fair) c.look.ensures.answers
 
 pub returns-clause-agrees : goal.returns-clause-agrees
-returns-clause-agrees g c = IfOk-weaker c.take_in.result _ _ (λ answer h last. h) c.take_in.ensures.agrees
+returns-clause-agrees g c = IfOk-weaker c.look.result _ _ (λ answer h last. h) c.look.ensures.agrees
 
 pub returns-clause-spent : goal.returns-clause-spent
 returns-clause-spent g c =
-    IfOk-weaker c.take_in.result _ _
-    (λ answer h. answer_spent c.args.budget.now c.take_in.new.budget answer h.paid) c.take_in.ensures.answers
+    IfOk-weaker c.look.result _ _
+    (λ answer h. answer_spent c.args.budget.now c.look.new.budget answer h.paid) c.look.ensures.answers
 
 pub returns-clause-falls : goal.returns-clause-falls
 returns-clause-falls g c =
-    IfOk-weaker c.take_in.result _ _
-    (λ answer h. answer_falls c.args.clauses.now c.args.trail.now.literals c.args.budget.now c.take_in.new.budget answer
-    h.paid) c.take_in.ensures.answers
+    IfOk-weaker c.look.result _ _
+    (λ answer h. answer_falls c.args.clauses.now c.args.trail.now.literals c.args.budget.now c.look.new.budget answer
+    h.paid) c.look.ensures.answers
 
 pub returns-clause-puts : goal.returns-clause-puts
 returns-clause-puts g c =
-    IfOk-weaker c.take_in.result _ _ (λ answer h. h.writes c.args.clauses.now c.requires.none_false)
-    c.take_in.ensures.answers
+    IfOk-weaker c.look.result _ _ (λ answer h. h.writes c.args.clauses.now c.requires.none_false)
+    c.look.ensures.answers
 
 pub returns-clause-counts : goal.returns-clause-counts
 returns-clause-counts g c =
-    counts_faults c.take_in.result (g.L.Tape.faults c.args.tape.now) (g.L.Tape.faults c.take_in.new.tape)
-    c.take_in.ensures.counts
+    counts_faults c.look.result (g.L.Tape.faults c.args.tape.now) (g.L.Tape.faults c.look.new.tape)
+    c.look.ensures.counts

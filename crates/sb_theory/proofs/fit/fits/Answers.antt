@@ -1,0 +1,34 @@
+use Rattle.std.proofs.lemmas.Result.{IfOk-from_err}
+use Rattle.sb_regex.proofs.CallerLemmas.{extends_same}
+use Rattle.sb_theory.proofs.Standing.{true_by_word, true_by_none}
+use Rattle.sb_theory.proofs.fit.fits.Goals as goal
+
+pub contains-requires : goal.contains-requires
+contains-requires c = record {
+  known = c.requires.regexes c.args.literal.atom _ c.in-Some.ensures.some;
+  right = c.requires.right;
+}
+
+pub returns-in_default : goal.returns-in_default
+returns-in_default c = record {
+  fits = true_by_none c.args.arena.now c.args.atoms.now c.args.words.now c.args.literal c.in_default.ensures.none;
+  extends = extends_same c.args.arena.now;
+  right = c.requires.right;
+}
+
+pub returns-in_err-is_in : goal.returns-in_err-is_in
+returns-in_err-is_in c =
+    let x = c.from_residual in
+    record {
+      fits = IfOk-from_err x.result _ x.ensures.0;
+      extends = c.in_err-is_in.ensures.extends;
+      right = c.in_err-is_in.ensures.right;
+    }
+
+pub returns : goal.returns
+returns c = record {
+  fits = true_by_word c.args.arena.now c.args.atoms.now c.args.words.now c.args.literal c.in-Some.member.serial.0
+      c.in-Some.member.regex c.in_ok-is_in.is_in c.in-Some.ensures.some c.in_ok-is_in.ensures.ok;
+  extends = c.in_ok-is_in.ensures.extends;
+  right = c.in_ok-is_in.ensures.right;
+}

@@ -1,0 +1,94 @@
+//! Literals that are matched with the words of their constants.
+
+ghost use Rattle.std.specs.Prelude.{◌≡◌, ◌<◌, ◌^◌, ◌∷◌, ◌++◌, [], List, length, IfOk, OnOk};
+ghost use Rattle.sb_lit.specs.declared.clause.Lit.{Lit as TheLit};
+ghost use Rattle.sb_regex.specs.Numbered.{Extends};
+ghost use Rattle.sb_plain.specs.Memory.{IsRight};
+ghost use Rattle.sb_atoms.specs.Numbered.{HaveRegexesBelow};
+ghost use Rattle.sb_theory.specs.Memberships.{is_true_by, AreMembers};
+ghost use Rattle.sb_theory.specs.Fronts.{AreFitting, IsNoted};
+
+use crate::changed::Changed;
+use crate::member::membership;
+use crate::numbers::{number_of, put_number};
+use crate::place::contains;
+use crate::row::{Row, row_of};
+use sb_atoms::Atoms;
+use sb_lit::Lit;
+use sb_plain::Plain;
+use sb_regex::Arena;
+use sb_term::Serial;
+use sb_word::Word;
+use std::alloc::AllocError;
+
+/// Whether the word of a literal's constant makes it true, and so where it is about none.
+pub(crate) fn fits(
+    arena: &mut Arena,
+    plain: &mut Plain,
+    atoms: &Atoms,
+    words: &[Option<Word>],
+    literal: Lit,
+) -> Result<bool, AllocError>
+    requires regexes { HaveRegexesBelow (length arena.old) atoms.now }
+    requires right { IsRight arena.old plain.old }
+    ensures fits { IfOk result (λ b. b ≡ is_true_by arena.old atoms.now words.now literal) }
+    ensures extends { Extends arena.old arena.new }
+    ensures right { IsRight arena.new plain.new }
+{
+    let Some(member) = membership(atoms, literal) else {
+        return Ok(true);
+    };
+    let is_in = contains(arena, plain, words, member.serial, member.regex)?;
+    Ok(is_in == literal.positive)
+}
+
+/// Matches the next literal of a constant's row with its word, where this is known to make the row true so far: either
+/// it makes the next one true too, or the constant is to be looked at. What is known of a row that was longer is then
+/// known of what is left of it.
+pub(crate) fn note(
+    arena: &mut Arena,
+    plain: &mut Plain,
+    atoms: &Atoms,
+    words: &[Option<Word>],
+    rows: &[Row],
+    fitting: &mut Vec<usize>,
+    changed: &mut Changed,
+    literal: Lit,
+) -> Result<(), AllocError>
+    requires regexes { HaveRegexesBelow (length arena.old) atoms.now }
+    requires right { IsRight arena.old plain.old }
+    ensures fit { OnOk result ((ls : List TheLit) → AreMembers atoms.now rows.now ls
+        → AreFitting arena.old atoms.now words.now ls fitting.old.items changed.old
+        → AreFitting arena.new atoms.now words.now (ls ++ literal ∷ []) fitting.new.items changed.new) }
+    ensures extends { Extends arena.old arena.new }
+    ensures right { IsRight arena.new plain.new }
+{
+    let Some(member) = membership(atoms, literal) else {
+        return Ok(());
+    };
+    let long = row_of(rows, member.serial).len();
+    if number_of(fitting, member.serial) < long {
+        return Ok(());
+    }
+    let matches = fits(arena, plain, atoms, words, literal)?;
+    note_next(fitting, changed, member.serial, long, matches)
+}
+
+/// Notes whether the next literal of a constant's row is true of its word, which makes so many true, all of the row so
+/// far.
+fn note_next(
+    fitting: &mut Vec<usize>,
+    changed: &mut Changed,
+    serial: Serial,
+    long: usize,
+    matches: bool,
+) -> Result<(), AllocError>
+    requires { long < 2 ^ 63 }
+    ensures { OnOk result (IsNoted fitting.old.items fitting.new.items changed.old changed.new serial.0 long matches) }
+{
+    if matches {
+        return put_number(fitting, serial, long + 1);
+    }
+    changed.add(serial)?;
+    put_number(fitting, serial, long)
+}
