@@ -148,7 +148,8 @@ both_pass p ls l h k =
 pub row_about : (atoms : List (AtomOver ℕ)) (x : ℕ) (ls : List Lit) → AreAbout atoms x (literals_about atoms x ls)
 row_about atoms x ls = all_about atoms x (literals_about atoms x ls) (filter_passes (is_about atoms x) ls)
 
-pub front_about : (atoms : List (AtomOver ℕ)) (x n : ℕ) (ls front : List Lit) → front ≡ take n (literals_about atoms x ls)
+pub front_about : (atoms : List (AtomOver ℕ)) (x n : ℕ) (ls front : List Lit)
+    → front ≡ take n (literals_about atoms x ls)
     → AreAbout atoms x front
 front_about atoms x n ls front is =
     subst (λ (ms : List Lit). AreAbout atoms x ms) (sym is)

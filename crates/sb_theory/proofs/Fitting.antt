@@ -104,7 +104,8 @@ pub fitting_other : (rs : List Regex) (atoms : List (AtomOver ℕ)) (words : Lis
     (fitting : List ℕ) (changed : List Serial) (l : Lit) → subject_of atoms l ≡ None
     → AreFitting rs atoms words ls fitting changed → AreFitting rs atoms words (ls ++ l ∷ []) fitting changed
 fitting_other rs atoms words ls fitting changed l none h = record {
-  front = λ x. ap (λ (row : List Lit). list_all (is_true_of rs atoms (word_at words x)) (take (number_at fitting x) row))
+  front = λ x. ap (λ (row : List Lit).
+      list_all (is_true_of rs atoms (word_at words x)) (take (number_at fitting x) row))
       (row_other atoms x ls l (ap (is_subject x) none)) ∙ h.front x;
   whole = λ x out. subst (λ (row : List Lit). length row ≤ number_at fitting x)
       (sym (row_other atoms x ls l (ap (is_subject x) none))) (h.whole x out);
@@ -202,7 +203,8 @@ fitting_noted rs atoms words ls old new before after l x long matches subject is
     same ∙ ap (fits_subject rs atoms words l) subject in
     record {
       front = λ y. pushed_front rs atoms words ls old new l x subject others
-          (ap (λ n. list_all (is_true_of rs atoms (word_at words x)) (take n (literals_about atoms x ls ++ l ∷ []))) number
+          (ap (λ n. list_all (is_true_of rs atoms (word_at words x)) (take n (literals_about atoms x ls ++ l ∷ [])))
+          number
           ∙ noted_front (is_true_of rs atoms (word_at words x)) (literals_about atoms x ls) l (number_at old x) long
           matches is enough (h.front x) known) h.front y (nat_eq x y) refl;
       whole = λ y. pushed_whole atoms ls old new before after l x subject others noted.stay

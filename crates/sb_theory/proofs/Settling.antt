@@ -20,7 +20,8 @@ pub whole_none : (rows : List (List Lit)) (fitting : List ℕ) (changed : List S
 whole_none rows fitting changed y none = absurd (false≢true none)
 
 -- the next constant fits, and those that did go on to
-pub whole_more : (rows now : List (List Lit)) (fitting set : List ℕ) (changed left : List Serial) (place : ℕ) (s : Serial)
+pub whole_more : (rows now : List (List Lit)) (fitting set : List ℕ) (changed left : List Serial) (place : ℕ)
+    (s : Serial)
     → now ≡ rows → left ≡ changed → Rises fitting set → place < length changed → s ≡ get_or changed place s
     → IsWhole now set s.0 → ((y : ℕ) → is_in (take place changed) y ≡ true → IsWhole rows fitting y)
     → (y : ℕ) → is_in (take (place + 1) left) y ≡ true → IsWhole now set y
@@ -40,7 +41,8 @@ whole_more rows now fitting set changed left place s same stays rises inside at 
     ]
 
 -- once all do, none is to be looked at
-pub fitting_settled : (rs : List Regex) (atoms : List (AtomOver ℕ)) (words : List (Option (List ℕ))) (rows : List (List Lit))
+pub fitting_settled : (rs : List Regex) (atoms : List (AtomOver ℕ)) (words : List (Option (List ℕ)))
+    (rows : List (List Lit))
     (ls : List Lit) (fitting : List ℕ) (changed left : List Serial) → AreMembers atoms rows ls
     → ((n : ℕ) → is_in changed n ≡ true → IsWhole rows fitting n) → AreFitting rs atoms words ls fitting changed
     → AreFitting rs atoms words ls fitting left
@@ -57,7 +59,8 @@ fitting_settled rs atoms words rows ls fitting changed left members whole h = re
 
 pub clash_looked : (x y : Strings) (constant : ℕ) → Holds x → Looks x y → HasClash x constant → HasClash y constant
 clash_looked x y constant h looks clash =
-    subst (λ (ts : List (AtomOver ℕ)). AreClashing y.arena ts (row_at y.members.items constant)) (sym looks.keeps.grows.atoms)
+    subst (λ (ts : List (AtomOver ℕ)). AreClashing y.arena ts (row_at y.members.items constant))
+    (sym looks.keeps.grows.atoms)
     (subst (λ (rows : List (List Lit)). AreClashing y.arena x.atoms (row_at rows constant)) (sym looks.members)
     (clash_grown x.arena y.arena x.atoms constant (row_at x.members.items constant) looks.keeps.grows.extends h.regexes
     (subst (λ (ls : List Lit). AreAbout x.atoms constant ls) (sym (h.members constant))

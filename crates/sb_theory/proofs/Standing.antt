@@ -131,7 +131,8 @@ fitting_grown rs more atoms words ls fitting changed e below h = record {
   whole = h.whole;
 }
 
-pub fitting_as : (rs : List Regex) (atoms now : List (AtomOver ℕ)) (words put : List (Option (List ℕ))) (ls ms : List Lit)
+pub fitting_as : (rs : List Regex) (atoms now : List (AtomOver ℕ)) (words put : List (Option (List ℕ)))
+    (ls ms : List Lit)
     (fitting numbers : List ℕ) (changed left : List Serial) → now ≡ atoms → put ≡ words → ms ≡ ls → numbers ≡ fitting
     → left ≡ changed → AreFitting rs atoms words ls fitting changed → AreFitting rs now put ms numbers left
 fitting_as rs atoms now words put ls ms fitting numbers changed left same_atoms same_words same_ls same_numbers same h =

@@ -33,7 +33,8 @@ pub record AreFitting (rs : List Regex) (atoms : List (AtomOver ℕ)) (words : L
     (fitting : List ℕ) (changed : List Serial) : Type 0
   where
     pub front : (x : ℕ)
-        → list_all (is_true_of rs atoms (word_at words x)) (take (number_at fitting x) (literals_about atoms x ls)) ≡ true
+        → list_all (is_true_of rs atoms (word_at words x)) (take (number_at fitting x) (literals_about atoms x ls))
+        ≡ true
     pub whole : (x : ℕ) → is_in changed x ≡ false → length (literals_about atoms x ls) ≤ number_at fitting x
 
 -- The literal behind the first ones of a constant's row was matched with its word, which makes these true.

@@ -156,8 +156,8 @@ impl Strings {
         }
     }
 
-    /// Takes the whole trail in, and then looks for a word of each constant whose word does not fit. A lemma where there
-    /// is none.
+    /// Takes the whole trail in, and then looks for a word of each constant whose word does not fit. A lemma where
+    /// there is none.
     fn look<L: Tape>(
         &mut self,
         trail: &Trail,
@@ -224,8 +224,8 @@ impl Strings {
         Ok(())
     }
 
-    /// Looks for words of the constants whose rows are not known to fit, oldest first. The first constant that has none:
-    /// it and those behind it are looked at again.
+    /// Looks for words of the constants whose rows are not known to fit, oldest first. The first constant that has
+    /// none: it and those behind it are looked at again.
     fn first_clash(&mut self) -> Result<Option<Serial>, AllocError>
         requires { Holds self.old }
         ensures holds { OnOk result (Holds self.new) }
@@ -321,8 +321,8 @@ impl Strings {
         self.answer(trail, serial, clause, tape, budget)
     }
 
-    /// Literals of a constant's row that no word makes true together: all of them where no decision is on the trail, and
-    /// else a few of the shortest front of them that has no word.
+    /// Literals of a constant's row that no word makes true together: all of them where no decision is on the trail,
+    /// and else a few of the shortest front of them that has no word.
     fn clashing(&mut self, trail: &Trail, serial: Serial) -> Result<Vec<Lit>, AllocError>
         requires holds { Holds self.old }
         requires clash { HasClash self.old serial.0 }
@@ -369,8 +369,8 @@ impl Strings {
         Ok(whole)
     }
 
-    /// Whether no word makes so many first literals of a constant's row true, of which the word is known to make all but
-    /// the last one true.
+    /// Whether no word makes so many first literals of a constant's row true, of which the word is known to make all
+    /// but the last one true.
     fn clashes(&mut self, serial: Serial, long: usize) -> Result<bool, AllocError>
         requires holds { Holds self.old }
         requires next { number_at self.old.fitting.items serial.0 + 1 ≡ long }

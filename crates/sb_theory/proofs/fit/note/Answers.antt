@@ -18,7 +18,8 @@ pub returns-then-number_of-long : goal.returns-then-number_of-long
 returns-then-number_of-long c =
     let x = c.in-Some.member.serial.0 in
     record {
-      fit = λ ls members h. fitting_behind c.args.arena.now c.args.atoms.now c.args.words.now ls c.args.fitting.now.items
+      fit = λ ls members h. fitting_behind c.args.arena.now c.args.atoms.now c.args.words.now ls
+          c.args.fitting.now.items
           c.args.changed.now c.args.literal x
           (names_subject c.args.atoms.now c.args.literal x
           (record { regex = c.in-Some.member.regex; names = c.in-Some.ensures.some }))

@@ -37,8 +37,8 @@ returns-in_err-explored c =
       clash = IfOk-from_err r.result _ r.ensures.0;
       rises = IfOk-from_err r.result _ r.ensures.0;
       looks = looks_on c.args.self.now _
-          (keeps_on c.args.self.now _ refl refl refl refl c.requires.holds.regexes e.extends e.derivatives_stay) refl refl
-          refl;
+          (keeps_on c.args.self.now _ refl refl refl refl c.requires.holds.regexes e.extends e.derivatives_stay)
+          refl refl refl;
     }
 
 pub returns-in_err-put_word-in-Alive : goal.returns-in_err-put_word-in-Alive
@@ -51,8 +51,8 @@ returns-in_err-put_word-in-Alive c =
       clash = IfOk-from_err r.result _ r.ensures.0;
       rises = IfOk-from_err r.result _ r.ensures.0;
       looks = looks_on c.args.self.now _
-          (keeps_on c.args.self.now _ refl refl refl refl c.requires.holds.regexes e.extends e.derivatives_stay) refl refl
-          refl;
+          (keeps_on c.args.self.now _ refl refl refl refl c.requires.holds.regexes e.extends e.derivatives_stay)
+          refl refl refl;
     }
 
 pub returns-in_err-put_number-in-Alive : goal.returns-in_err-put_number-in-Alive
@@ -65,8 +65,8 @@ returns-in_err-put_number-in-Alive c =
       clash = IfOk-from_err r.result _ r.ensures.0;
       rises = IfOk-from_err r.result _ r.ensures.0;
       looks = looks_on c.args.self.now _
-          (keeps_on c.args.self.now _ refl refl refl refl c.requires.holds.regexes e.extends e.derivatives_stay) refl refl
-          refl;
+          (keeps_on c.args.self.now _ refl refl refl refl c.requires.holds.regexes e.extends e.derivatives_stay)
+          refl refl refl;
     }
 
 pub returns-in_ok-put_number-in-Alive : goal.returns-in_ok-put_number-in-Alive

@@ -31,8 +31,8 @@ returns-in_err-matches c =
       fits = IfOk-from_err r.result _ r.ensures.0;
       clash = IfOk-from_err r.result _ r.ensures.0;
       looks = looks_on c.args.self.now _
-          (keeps_on c.args.self.now _ refl refl refl refl c.requires.holds.regexes e.extends (λ n pieces k. k)) refl refl
-          refl;
+          (keeps_on c.args.self.now _ refl refl refl refl c.requires.holds.regexes e.extends (λ n pieces k. k))
+          refl refl refl;
     }
 
 pub returns-in_err-put_number : goal.returns-in_err-put_number
@@ -44,8 +44,8 @@ returns-in_err-put_number c =
       fits = IfOk-from_err r.result _ r.ensures.0;
       clash = IfOk-from_err r.result _ r.ensures.0;
       looks = looks_on c.args.self.now _
-          (keeps_on c.args.self.now _ refl refl refl refl c.requires.holds.regexes e.extends (λ n pieces k. k)) refl refl
-          refl;
+          (keeps_on c.args.self.now _ refl refl refl refl c.requires.holds.regexes e.extends (λ n pieces k. k))
+          refl refl refl;
     }
 
 pub returns-then-matches : goal.returns-then-matches
@@ -62,10 +62,12 @@ returns-then-matches c =
         plain = e.right;
         regexes = regexes_kept x.arena rs x.atoms e.extends h.regexes;
         members = h.members;
-        fit = fitting_grown x.arena rs x.atoms x.words.items (held x.taken.items) c.put_number.new.numbers.items x.changed
+        fit = fitting_grown x.arena rs x.atoms x.words.items (held x.taken.items) c.put_number.new.numbers.items
+            x.changed
             e.extends h.regexes
             (fitting_next x.arena x.atoms x.words.items (held x.taken.items) x.fitting.items
-            c.put_number.new.numbers.items x.changed n c.args.long c.literal_at-literal.result c.in_ok-put_number.ensures
+            c.put_number.new.numbers.items x.changed n c.args.long c.literal_at-literal.result
+            c.in_ok-put_number.ensures
             c.requires.next (omega (arith, c.requires.within, ap length (h.members n)))
             (c.literal_at-literal.ensures
             ∙ ap (λ (ls : List Lit). get_or ls (c.args.long - 1) c.literal_at-literal.result) row)
@@ -83,7 +85,8 @@ ask-requires c =
     let h = c.requires.holds in
     let e = c.in_ok-matches.ensures in
     record {
-      holds = holds_grown x _ e.extends (c.graph_stays.ensures x.arena c.fits.new.arena x.graph e.extends h.graph) e.right
+      holds = holds_grown x _ e.extends (c.graph_stays.ensures x.arena c.fits.new.arena x.graph e.extends h.graph)
+          e.right
           refl refl refl refl refl refl h;
       more = omega (arith, c.requires.next);
       within = c.requires.within;
@@ -99,8 +102,8 @@ returns-in_err-found c =
       fits = IfOk-from_err r.result _ r.ensures.0;
       clash = IfOk-from_err r.result _ r.ensures.0;
       looks = looks_both x _ c.ask.new.self
-          (looks_on x _ (keeps_on x _ refl refl refl refl c.requires.holds.regexes e.extends (λ n pieces k. k)) refl refl
-          refl) c.in_err-found.ensures.looks;
+          (looks_on x _ (keeps_on x _ refl refl refl refl c.requires.holds.regexes e.extends (λ n pieces k. k))
+          refl refl refl) c.in_err-found.ensures.looks;
     }
 
 pub returns : goal.returns
@@ -113,6 +116,6 @@ returns c =
       fits = λ none. asked.fits (not-false c.in_ok-found.found none);
       clash = λ none. asked.clash (not-true c.in_ok-found.found none);
       looks = looks_both x _ c.ask.new.self
-          (looks_on x _ (keeps_on x _ refl refl refl refl c.requires.holds.regexes e.extends (λ n pieces k. k)) refl refl
-          refl) asked.looks;
+          (looks_on x _ (keeps_on x _ refl refl refl refl c.requires.holds.regexes e.extends (λ n pieces k. k))
+          refl refl refl) asked.looks;
     }

@@ -16,7 +16,8 @@ returns-then-current_level-eq0 c =
     let n = c.args.serial.0 in
     let row = c.row_of.ensures ∙ ap (λ (rows : List (List Lit)). row_at rows n) c.deref.ensures.value in
     record {
-      holds = IfOk-weaker c.from_slice.result _ (λ few. Holds x) (λ few is. c.requires.holds) c.from_slice.ensures.items;
+      holds = IfOk-weaker c.from_slice.result _ (λ few. Holds x) (λ few is. c.requires.holds)
+          c.from_slice.ensures.items;
       whole = IfOk-weaker c.from_slice.result _ (λ few. current_level c.args.trail.now.literals ≡ 0
           → few.items ≡ row_at x.members.items n) (λ few is none. is ∙ row) c.from_slice.ensures.items;
       fewer = IfOk-weaker c.from_slice.result _ (λ few. AreFewer few.items (row_at x.members.items n))

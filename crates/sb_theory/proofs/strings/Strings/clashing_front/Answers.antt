@@ -15,7 +15,8 @@ loop-long-init c =
     record {
       holds = c.requires.holds;
       looks = looks_none x c.requires.holds;
-      fits = sym (c.number_of-long.ensures ∙ ap (λ (ns : List ℕ). number_at ns c.args.serial.0) c.deref-2.ensures.value);
+      fits = sym (c.number_of-long.ensures
+          ∙ ap (λ (ns : List ℕ). number_at ns c.args.serial.0) c.deref-2.ensures.value);
     }
 
 pub clashes-requires : goal.clashes-requires

@@ -83,7 +83,8 @@ returns c =
         plain = h.plain;
         regexes = h.regexes;
         members = h.members;
-        fit = fitting_settled x.arena x.atoms x.words.items x.members.items (held x.taken.items) x.fitting.items x.changed
+        fit = fitting_settled x.arena x.atoms x.words.items x.members.items (held x.taken.items) x.fitting.items
+            x.changed
             c.clear.new.self h.members
             (λ n there. before.whole n
             (ap (λ (cs : List Serial). is_in cs n)

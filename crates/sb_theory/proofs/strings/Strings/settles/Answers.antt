@@ -28,7 +28,8 @@ returns-then-long-number_of c =
 pub ask-requires : goal.ask-requires
 ask-requires c =
     let x = c.args.serial.0 in
-    let long = ap length (c.row_of-long.ensures ∙ ap (λ (rows : List (List Lit)). row_at rows x) c.deref.ensures.value) in
+    let long = ap length (c.row_of-long.ensures
+    ∙ ap (λ (rows : List (List Lit)). row_at rows x) c.deref.ensures.value) in
     record {
       holds = c.requires;
       more = omega (
@@ -43,7 +44,8 @@ pub returns : goal.returns
 returns c =
     let x = c.args.serial.0 in
     let asked = c.ask.ensures in
-    let long = ap length (c.row_of-long.ensures ∙ ap (λ (rows : List (List Lit)). row_at rows x) c.deref.ensures.value) in
+    let long = ap length (c.row_of-long.ensures
+    ∙ ap (λ (rows : List (List Lit)). row_at rows x) c.deref.ensures.value) in
     let row = ap (λ (rows : List (List Lit)). row_at rows x) asked.looks.members in
     record {
       holds = asked.holds;

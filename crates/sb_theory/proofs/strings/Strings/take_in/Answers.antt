@@ -33,6 +33,11 @@ pub returns : goal.returns
 returns c = record {
   stands = c.loop-self.invariant.0;
   whole = taken_whole c.loop-self.self c.args.trail.now.literals c.loop-self.invariant.0
-      (omega (arith, c.loop-self-test.false, c.len-in-loop-self.ensures.len, c.len.ensures ∙ c.loop-self.self.taken.ok.0));
+      (omega (
+        arith,
+        c.loop-self-test.false,
+        c.len-in-loop-self.ensures.len,
+        c.len.ensures ∙ c.loop-self.self.taken.ok.0,
+      ));
   keeps = c.loop-self.invariant.1;
 }

@@ -19,7 +19,8 @@ returns-in_err-note c =
     record {
       stands = IfOk-from_err x.result _ x.ensures.0;
       more = IfOk-from_err x.result _ x.ensures.0;
-      keeps = keeps_on c.args.self.now _ refl refl refl refl c.requires.stands.holds.regexes c.in_err-note.ensures.extends
+      keeps = keeps_on c.args.self.now _ refl refl refl refl c.requires.stands.holds.regexes
+          c.in_err-note.ensures.extends
           (λ n pieces h. h);
     }
 
@@ -29,7 +30,8 @@ returns-in_err-keep c =
     record {
       stands = IfOk-from_err x.result _ x.ensures.0;
       more = IfOk-from_err x.result _ x.ensures.0;
-      keeps = keeps_on c.args.self.now _ refl refl refl refl c.requires.stands.holds.regexes c.in_ok-note.ensures.extends
+      keeps = keeps_on c.args.self.now _ refl refl refl refl c.requires.stands.holds.regexes
+          c.in_ok-note.ensures.extends
           (λ n pieces h. h);
     }
 
@@ -51,13 +53,15 @@ returns c =
             regexes = regexes_kept x.arena c.note.new.arena x.atoms noted.extends h.regexes;
             members = kept.members h.members;
             fit = fitting_taken c.note.new.arena x.atoms x.words.items c.deref.result.now x.taken.items
-                c.keep.new.taken.items e c.literal.result c.note.new.fitting.items c.note.new.changed c.deref.ensures.value
+                c.keep.new.taken.items e c.literal.result c.note.new.fitting.items c.note.new.changed
+                c.deref.ensures.value
                 kept.taken c.literal.ensures
                 (noted.fit (held x.taken.items)
                 (subst (λ (rows : List (List Lit)). AreMembers x.atoms rows (held x.taken.items))
                 (sym c.deref-2.ensures.value) h.members)
                 (subst (λ (ws : List (Option (List ℕ))).
-                AreFitting x.arena x.atoms ws (held x.taken.items) x.fitting.items x.changed) (sym c.deref.ensures.value)
+                AreFitting x.arena x.atoms ws (held x.taken.items) x.fitting.items x.changed)
+                (sym c.deref.ensures.value)
                 h.fit));
           });
       more = ap length kept.taken ∙ length-append x.taken.items (e ∷ []);
