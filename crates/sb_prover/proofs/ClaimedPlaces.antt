@@ -1,29 +1,30 @@
 -- The clauses of the assertions about one constant.
-use Rattle.std.proofs.Common.{◌≡◌, ◌≢◌, ℕ, zero, suc, Bool, true, false, if◌then◌else◌, nat_eq, List, [], ◌∷◌, ◌++◌, map, get_or, slice_get, Option, Some, None, refl, sym, ap, ap₂, subst, ◌∙◌, arith}
+use Rattle.std.proofs.Common.{◌≡◌, ◌≢◌, ℕ, zero, suc, Bool, true, false, if◌then◌else◌, nat_eq, List, [], ◌∷◌, ◌++◌, length, map, get_or, slice_get, Option, Some, None, refl, ap, ap₂, subst, ◌∙◌, arith}
 use Rattle.std.specs.Prelude.{option_and_then}
 use Rattle.std.specs.List.{All}
 use Rattle.std.proofs.lemmas.Bool.Decides.{nat_tests}
 use Rattle.std.proofs.lemmas.List.Elements.{All-push, All-nil}
 use Rattle.std.proofs.lemmas.Option.{slice_get_within, none-some}
 use Rattle.sb_lit.specs.Budgets.{Spending}
+use Rattle.sb_lit.specs.declared.clause.Lit.{Lit}
+use Rattle.sb_lang.specs.Constructors.{mknot}
 use Rattle.sb_lang.specs.Normal.{normal}
 use Rattle.sb_lang.specs.Regex.{Regex}
 use Rattle.sb_regex.specs.Numbered.{Extends}
-use Rattle.sb_regex.proofs.CallerLemmas.{names_kept, extends_same, extends_more}
+use Rattle.sb_regex.proofs.CallerLemmas.{at_kept, extends_same, extends_more}
 use Rattle.sb_deriv.specs.Faithful.{Memo}
-use Rattle.sb_meaning.specs.Terms.{Term}
+use Rattle.sb_script.specs.Pieces.{constant_piece}
 use Rattle.sb_script.specs.State.{Assertion}
-use Rattle.sb_problem.specs.Normals.{IsRegexOf}
-use Rattle.sb_fragment.specs.Memberships.{IsNumberAsked}
-use Rattle.sb_rulebook.specs.Atoms.{AtomOver}
+use Rattle.sb_rulebook.specs.Atoms.{AtomOver, in_atom}
 use Rattle.sb_rulebook.specs.Kept.{AllKept, Asked}
 use Rattle.sb_atoms.specs.Numbered as numbered
+use Rattle.sb_atoms.specs.Numbered.{HasRegexBelow, HaveRegexesBelow}
 use Rattle.sb_trace.specs.Putting.{IsCounted}
 use Rattle.sb_trace.proofs.CallerLemmas.{puts_none, puts_both}
 use Rattle.sb_decide.specs.Places.{IsRegexAt, AreRegexesAt, HasNoWordAt}
 use Rattle.sb_refute.specs.declared.evidence.Asserted.{Asserted}
 use Rattle.sb_refute.specs.Backing.{Backing, Backs, Evidences, EvidencesUncounted, asserted_at}
-use Rattle.sb_refute.specs.Refuting.{AreDisjoint, membership_of, membership_at}
+use Rattle.sb_refute.specs.Refuting.{AreDisjoint, asked_of, asked_at}
 use Rattle.sb_prover.specs.Claiming.{IsClaimed, Claims, AreClaimed}
 
 -- A claim stays, as arena and table grow.
@@ -33,59 +34,58 @@ got-more [] ys i x h = absurd (omega (arith, slice_get_within [] i x h))
 got-more (z ∷ xs) ys zero x h = h
 got-more (z ∷ xs) ys (suc i) x h = got-more xs ys i x h
 
-regex-kept : (rs more : List Regex) (R : Term) (id : ℕ) → Extends rs more → IsRegexOf rs R id → IsRegexOf more R id
-regex-kept rs more R id grows h = record {
-  kind = h.kind;
-  reglan = h.reglan;
-  means = h.means;
-  names = names_kept rs more id (normal h.reglan) grows h.names;
-}
+-- what a literal of the atom asks
+asked-kept : (rs more : List Regex) (b : Bool) (a : AtomOver ℕ) → Extends rs more → HasRegexBelow (length rs) a
+    → asked_of more b a ≡ asked_of rs b a
+asked-kept rs more b (in_atom (constant_piece x ∷ []) r) grows below =
+    ap (λ (q : Regex). Some (x, if b then q else mknot q)) (at_kept rs more r grows below)
+asked-kept rs more b _ grows below = refl
 
-atom-kept : (old new : List (AtomOver ℕ)) (i : ℕ) (m : ℕ × ℕ) → numbered.Extends old new
-    → option_and_then membership_of (slice_get old i) ≡ Some m
-    → option_and_then membership_of (slice_get new i) ≡ Some m
-atom-kept old new i m grows h = step (slice_get old i) refl h
+literal-kept : (rs more : List Regex) (old new : List (AtomOver ℕ)) (l : Lit) (m : ℕ × Regex) → Extends rs more
+    → HaveRegexesBelow (length rs) old → numbered.Extends old new
+    → option_and_then (asked_of rs l.positive) (slice_get old l.atom) ≡ Some m
+    → option_and_then (asked_of more l.positive) (slice_get new l.atom) ≡ Some m
+literal-kept rs more old new l m grows below atoms h = step (slice_get old l.atom) refl h
   where
-    step : (o : Option (AtomOver ℕ)) → slice_get old i ≡ o → option_and_then membership_of o ≡ Some m
-        → option_and_then membership_of (slice_get new i) ≡ Some m
+    step : (o : Option (AtomOver ℕ)) → slice_get old l.atom ≡ o
+        → option_and_then (asked_of rs l.positive) o ≡ Some m
+        → option_and_then (asked_of more l.positive) (slice_get new l.atom) ≡ Some m
     step None is k = absurd (none-some m k)
     step (Some a) is k =
-        ap (option_and_then membership_of)
-        (ap (λ xs. slice_get xs i) grows.is ∙ got-more old grows.more i a is) ∙ k
+        ap (option_and_then (asked_of more l.positive))
+        (ap (λ xs. slice_get xs l.atom) atoms.is ∙ got-more old atoms.more l.atom a is)
+        ∙ asked-kept rs more l.positive a grows (below l.atom a is)
+        ∙ k
 
-membership-kept : (e f : Backing) (place : ℕ) (m : ℕ × ℕ) → numbered.Extends e.atoms f.atoms
-    → asserted_at f.asserted place ≡ asserted_at e.asserted place → membership_at e place ≡ Some m
-    → membership_at f place ≡ Some m
-membership-kept e f place m grows stays h = step (asserted_at e.asserted place) refl h
+there-kept : (rs more : List Regex) (e f : Backing) (place : ℕ) (m : ℕ × Regex) → Extends rs more
+    → HaveRegexesBelow (length rs) e.atoms → numbered.Extends e.atoms f.atoms
+    → asserted_at f.asserted place ≡ asserted_at e.asserted place → asked_at rs e place ≡ Some m
+    → asked_at more f place ≡ Some m
+there-kept rs more e f place m grows below atoms stays h = step (asserted_at e.asserted place) refl h
   where
-    at : List (AtomOver ℕ) → Option Asserted → Option (ℕ × ℕ)
-    at atoms o =
+    at : List Regex → List (AtomOver ℕ) → Option Asserted → Option (ℕ × Regex)
+    at regexes table o =
         option_and_then (λ (a : Asserted).
-        if a.literal.positive then option_and_then membership_of (slice_get atoms a.literal.atom) else None) o
+        option_and_then (asked_of regexes a.literal.positive) (slice_get table a.literal.atom)) o
 
-    signed : (a : Asserted) (b : Bool)
-        → (if b then option_and_then membership_of (slice_get e.atoms a.literal.atom) else None) ≡ Some m
-        → (if b then option_and_then membership_of (slice_get f.atoms a.literal.atom) else None) ≡ Some m
-    signed a true k = atom-kept e.atoms f.atoms a.literal.atom m grows k
-    signed a false k = absurd (none-some m k)
-
-    step : (o : Option Asserted) → asserted_at e.asserted place ≡ o → at e.atoms o ≡ Some m
-        → at f.atoms (asserted_at f.asserted place) ≡ Some m
+    step : (o : Option Asserted) → asserted_at e.asserted place ≡ o → at rs e.atoms o ≡ Some m
+        → at more f.atoms (asserted_at f.asserted place) ≡ Some m
     step None is k = absurd (none-some m k)
-    step (Some a) is k = ap (at f.atoms) (stays ∙ is) ∙ signed a a.literal.positive k
+    step (Some a) is k =
+        ap (at more f.atoms) (stays ∙ is) ∙ literal-kept rs more e.atoms f.atoms a.literal m grows below atoms k
 
 claimed-kept : (assertions : List Assertion) (serial place : ℕ) (rs more : List Regex) (e f : Backing)
-    → Extends rs more → numbered.Extends e.atoms f.atoms
+    → Extends rs more → HaveRegexesBelow (length rs) e.atoms → numbered.Extends e.atoms f.atoms
     → asserted_at f.asserted place ≡ asserted_at e.asserted place → IsClaimed assertions serial rs e place
     → IsClaimed assertions serial more f place
-claimed-kept assertions serial place rs more e f grows atoms stays h = record {
+claimed-kept assertions serial place rs more e f grows below atoms stays h = record {
   term = h.term;
   expression = h.expression;
-  number = h.number;
-  there = membership-kept e f place (serial, h.number) atoms stays h.there;
+  reglan = h.reglan;
   stands = h.stands;
   asks = h.asks;
-  is = regex-kept rs more h.expression h.number grows h.is;
+  means = h.means;
+  there = there-kept rs more e f place (serial, normal h.reglan) grows below atoms stays h.there;
 }
 
 -- Lines one behind the other.
@@ -140,11 +140,11 @@ claimed-none asked assertions serial rs e told = record {
 }
 
 pub claimed-more : (asked : Asked) (assertions : List Assertion) (serial place : ℕ) (rs mid more : List Regex)
-    (e f g : Backing) (old told new : Option (List ℕ)) (places : List ℕ)
+    (e f g : Backing) (old told new : Option (List ℕ)) (places : List ℕ) → HaveRegexesBelow (length mid) f.atoms
     → AreClaimed asked assertions serial rs mid e f old told places
     → Claims asked assertions serial place mid more f g told new
     → AreClaimed asked assertions serial rs more e g old new (places ++ place ∷ [])
-claimed-more asked assertions serial place rs mid more e f g old told new places h c = record {
+claimed-more asked assertions serial place rs mid more e f g old told new places below h c = record {
   puts = λ memo before b. uncounted-both asked before mid more memo f g old told new (h.puts memo before b)
       (λ after further. c.puts memo after further);
   extends = extends_more rs mid more h.extends c.extends;
@@ -160,40 +160,44 @@ claimed-more asked assertions serial place rs mid more e f g old told new places
         subst (IsClaimed assertions serial more g) same c.claimed
     step other was false is =
         let apart : other ≢ place = grind (arith, nat_tests) in
-        claimed-kept assertions serial other mid more f g c.extends c.atoms (c.others other apart) was
+        claimed-kept assertions serial other mid more f g c.extends below c.atoms (c.others other apart) was
 
 -- No word is in all that is asked for.
 
-record HaveNumbers (assertions : List Assertion) (serial : ℕ) (rs : List Regex) (e : Backing) (places : List ℕ) : Type 0
+record HaveRegexes (assertions : List Assertion) (serial : ℕ) (rs : List Regex) (e : Backing) (places : List ℕ) : Type 0
   where
-    numbers : List ℕ
-    are : map (membership_at e) places ≡ map (λ r. Some (serial, r)) numbers
-    regexes : AreRegexesAt rs assertions places numbers
+    regexes : List Regex
+    are : map (asked_at rs e) places ≡ map (λ r. Some (serial, r)) regexes
+    there : AreRegexesAt assertions places regexes
 
 regex-there : (assertions : List Assertion) (serial place : ℕ) (rs : List Regex) (e : Backing)
-    → (h : IsClaimed assertions serial rs e place) → IsRegexAt rs assertions place h.number
-regex-there assertions serial place rs e h =
-    record {
-      term = h.term;
-      there = h.stands;
-      regex = subst (λ (o : Option (ℕ × Term)). IsNumberAsked rs o (Some h.number)) (sym h.asks) h.is;
-    }
+    → (h : IsClaimed assertions serial rs e place) → IsRegexAt assertions place (normal h.reglan)
+regex-there assertions serial place rs e h = record {
+  term = h.term;
+  serial = serial;
+  expression = h.expression;
+  reglan = h.reglan;
+  there = h.stands;
+  asks = h.asks;
+  means = h.means;
+  is = refl;
+}
 
-numbers-of : (assertions : List Assertion) (serial : ℕ) (rs : List Regex) (e : Backing) (places : List ℕ)
-    → All (IsClaimed assertions serial rs e) places → HaveNumbers assertions serial rs e places
-numbers-of assertions serial rs e [] h = record { numbers = []; are = refl; regexes = tt }
-numbers-of assertions serial rs e (place ∷ places) h =
+regexes-of : (assertions : List Assertion) (serial : ℕ) (rs : List Regex) (e : Backing) (places : List ℕ)
+    → All (IsClaimed assertions serial rs e) places → HaveRegexes assertions serial rs e places
+regexes-of assertions serial rs e [] h = record { regexes = []; are = refl; there = tt }
+regexes-of assertions serial rs e (place ∷ places) h =
     let first = h 0 0 (omega arith) in
-    let rest = numbers-of assertions serial rs e places (λ i d l. h (suc i) d (omega (arith, l))) in
+    let rest = regexes-of assertions serial rs e places (λ i d l. h (suc i) d (omega (arith, l))) in
     record {
-      numbers = first.number ∷ rest.numbers;
+      regexes = normal first.reglan ∷ rest.regexes;
       are = ap₂ (λ x xs. x ∷ xs) first.there rest.are;
-      regexes = (regex-there assertions serial place rs e first, rest.regexes);
+      there = (regex-there assertions serial place rs e first, rest.there);
     }
 
 pub disjoint : (asked : Asked) (assertions : List Assertion) (serial : ℕ) (rs more : List Regex) (e f : Backing)
     (old new : Option (List ℕ)) (places : List ℕ) → AreClaimed asked assertions serial rs more e f old new places
     → HasNoWordAt assertions places → AreDisjoint more f places
 disjoint asked assertions serial rs more e f old new places h none =
-    let n = numbers-of assertions serial more f places h.all in
-    record { constant = serial; regexes = n.numbers; are = n.are; no_word = none more n.numbers n.regexes }
+    let its = regexes-of assertions serial more f places h.all in
+    record { constant = serial; regexes = its.regexes; are = its.are; no_word = none its.regexes its.there }

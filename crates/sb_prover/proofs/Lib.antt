@@ -8,6 +8,8 @@ mod Growing
 mod Proved
 mod Refutations
 mod ClaimedPlaces
+mod Meant
+mod Demanding
 mod Claims
 mod Leaving
 mod TrueEvidence

@@ -1,22 +1,21 @@
 -- Private: the clauses of the assertions about one constant, as they are put on the way to a refutation.
-use Rattle.std.specs.Prelude.{◌≡◌, ◌≢◌, ℕ, ◌<◌, true, List, length, slice_get, Option, Some}
+use Rattle.std.specs.Prelude.{◌≡◌, ◌≢◌, ℕ, ◌<◌, List, length, slice_get, Option, Some}
 use Rattle.std.specs.List.{All}
+use Rattle.sb_lang.specs.Normal.{normal}
+use Rattle.sb_lang.specs.RegLan.{RegLan}
 use Rattle.sb_lang.specs.Regex.{Regex}
 use Rattle.sb_regex.specs.Numbered.{Extends}
 use Rattle.sb_deriv.specs.Faithful.{Memo}
-use Rattle.sb_meaning.specs.Terms.{Term, text}
-use Rattle.sb_lang.specs.Normal.{normal}
-use Rattle.sb_lang.specs.RegLan.{RegLan}
+use Rattle.sb_meaning.specs.Terms.{Term}
 use Rattle.sb_meaning.specs.Values.{Valuation}
 use Rattle.sb_meaning.specs.Truth.{meaning_of, means_reglan}
 use Rattle.sb_script.specs.State.{Assertion, asserted, live}
 use Rattle.sb_stack.specs.Stacked.{Stacked, state_of}
 use Rattle.sb_term.specs.Numbered.{term_at}
-use Rattle.sb_rulebook.specs.AtomRules.{is_declared}
 use Rattle.sb_rulebook.specs.Accepted.{asked_in}
 use Rattle.sb_rulebook.specs.Kept.{AllKept, Asked}
 use Rattle.sb_atoms.specs.Numbered as numbered
-use Rattle.sb_refute.specs.Backing.{Backing, Backs, EvidencesUncounted, asserted_at}
+use Rattle.sb_refute.specs.Backing.{Backing, Backs, EvidencesUncounted, IsStatement, asserted_at}
 use Rattle.sb_refute.specs.Refuting.{asked_at}
 use Rattle.sb_decide.specs.Demands.{demanded}
 use Rattle.sb_decide.specs.Places.{IsPlaceOf}
@@ -30,14 +29,11 @@ IsMember assertions place = (serial : ℕ) × IsPlaceOf assertions serial place
 abbrev pub AreMembers : List Assertion → List ℕ → Type 0
 AreMembers assertions places = (serial : ℕ) × All (IsPlaceOf assertions serial) places
 
--- The number is of the term that is asserted at the place, on this level; the constant of whose word it asks something
--- is declared.
+-- The number is of the term that is asserted at the place, on this level; the constants in it are declared.
 pub record Stands (s : Stacked) (place id level : ℕ) : Type 0 where
   pub known : id < length s.table
   pub stands : slice_get (live (state_of s)) place ≡ Some (asserted (term_at s.table id))
-  pub there : slice_get (asked_in (state_of s)).live place ≡ Some (Some (term_at s.table id), level)
-  pub declared : (serial : ℕ) (R : Term) → demanded (term_at s.table id) ≡ Some (serial, R)
-      → is_declared (state_of s).sorts text serial ≡ true
+  pub statement : IsStatement (asked_in (state_of s)) place (term_at s.table id) level
 
 -- The assertion at the place asks for a word of the constant in a regular expression, and its literal in the proof asks
 -- for one in the normal regex of that.

@@ -19,7 +19,7 @@ ghost use Rattle.sb_prover.specs.Proving.{HaveLevels};
 ghost use Rattle.sb_prover.specs.Claiming.{IsMember, AreMembers, Stands, Claims, AreClaimed};
 
 use sb_decide::{Decider, knows_grown};
-use sb_fragment::{Measures, membership};
+use sb_fragment::Measures;
 use sb_graph::graph_stays;
 use sb_lang::order::order_tells_apart;
 use sb_lit::Budget;
@@ -135,9 +135,7 @@ fn claim<L: Tape>(
     order_tells_apart();
     let table = stack.table();
     let (term, level) = member_at(stack, place);
-    let (_, pattern) = membership(table, term).unwrap();
-    normals.pattern(table, arena, pattern)?;
-    match evidence.assertion(measures, normals, table, arena, place, term, level, tape)? {
+    match evidence.statement(measures, normals, table, arena, place, term, level, tape)? {
         Some(_) => Ok(()),
         None => unreachable!(),
     }

@@ -45,7 +45,7 @@ loop-place-preserved g c = (
       (sym (take_more places i 0 c.loop-place-test.true))
       (claimed-more (asked_in s) (live s) serial (get_or places i 0) c.args.arena.now c.loop-place.arena
       c.claim.new.arena c.args.evidence.now c.loop-place.evidence c.claim.new.evidence (g.L.Tape.told c.args.tape.now)
-      (g.L.Tape.told c.loop-place.tape) (g.L.Tape.told c.claim.new.tape) (take i places)
+      (g.L.Tape.told c.loop-place.tape) (g.L.Tape.told c.claim.new.tape) (take i places) c.loop-place.invariant.2
       (c.loop-place.invariant.4 serial h) (c.in_ok-claim.ensures.claims serial (h i 0 c.loop-place-test.true))),
 )
 
