@@ -4,12 +4,10 @@ use Rattle.sb_lang.specs.Regex.{Regex}
 use Rattle.sb_lit.specs.Budgets.{Spending}
 use Rattle.sb_lit.specs.Kept.{Kept, KeptClause, kept_at, kept_up_to}
 use Rattle.sb_lit.specs.declared.clause.Lit.{Lit}
-use Rattle.sb_meaning.specs.Terms.{Term, text}
-use Rattle.sb_script.specs.Brought as brought
+use Rattle.sb_meaning.specs.Terms.{Term}
 use Rattle.sb_deriv.specs.Faithful.{Memo}
 use Rattle.sb_rulebook.specs.Atoms.{AtomOver}
 use Rattle.sb_rulebook.specs.Kept.{AllKept, Asked}
-use Rattle.sb_rulebook.specs.AtomRules.{is_declared}
 use Rattle.sb_atoms.specs.Numbered.{Names, atoms_in}
 use Rattle.sb_atoms.specs.Translated.{has_declared}
 use Rattle.sb_atoms.specs.GateClauses.{clauses_of}
@@ -97,13 +95,6 @@ pub record EvidencesUncounted (asked : Asked) (before : AllKept) (rs : List Rege
     pub puts : Puts asked before after old new
     pub backs : Backs rs memo e after
     pub counted : after.counted ≡ before.counted
-
--- The term is the live assertion of the place, on this level, and where it asks something of one constant's word alone,
--- that constant is declared.
-pub record IsLive (asked : Asked) (place : ℕ) (t : Term) (level : ℕ) : Type 0 where
-  pub live : slice_get asked.live place ≡ Some (Some t, level)
-  pub declared : (serial : ℕ) (expression : Term) → brought.asked t ≡ Some (serial, expression)
-      → is_declared asked.sorts text serial ≡ true
 
 -- The term is the live assertion of the place, on this level, and the constants in it are declared.
 pub record IsStatement (asked : Asked) (place : ℕ) (t : Term) (level : ℕ) : Type 0 where

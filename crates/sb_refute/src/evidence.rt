@@ -13,10 +13,10 @@ ghost use Rattle.sb_fragment.specs.Measures.{AreMeasures};
 ghost use Rattle.sb_rulebook.specs.Atoms.{AtomOver, in_atom};
 ghost use Rattle.sb_rulebook.specs.Kept.{AllKept, Asked, nothing_kept, dropped_above, all_dropped};
 ghost use Rattle.sb_atoms.specs.Numbered.{atom_in, atoms_in, HaveRegexesBelow, Extends};
-ghost use Rattle.sb_atoms.specs.Translated.{member_translation, brought_translation, is_member, HasNoMemberLiteral, HasNoLiteral};
+ghost use Rattle.sb_atoms.specs.Translated.{brought_translation, is_member, HasNoLiteral};
 ghost use Rattle.sb_trace.specs.Putting.{CountsTapeFault};
 ghost use Rattle.sb_trace.specs.Tracking.{StaysNumbered};
-ghost use Rattle.sb_refute.specs.Backing.{backing_of, IsLowestEmpty, HasGates, Backs, EvidencesUncounted, IsLive, IsStatement, KeepsAsserted, AreUpTo, asserted_at, unit_at, empty_at, left_above, refuted_up_to, left_all};
+ghost use Rattle.sb_refute.specs.Backing.{backing_of, IsLowestEmpty, HasGates, Backs, EvidencesUncounted, IsStatement, KeepsAsserted, AreUpTo, asserted_at, unit_at, empty_at, left_above, refuted_up_to, left_all};
 ghost use Rattle.sb_refute.specs.Lines.{AreDue, IsAssertion, IsStanding, placed, IsLowestBefore, IsEmptyOf, lower_of};
 ghost use Rattle.sb_refute.specs.Standing.{Stand};
 
@@ -225,57 +225,6 @@ impl Evidence {
         self.asserted.clear();
         self.refuted = None;
         self.gates = 0;
-    }
-
-    /// The clause of the live assertion at a place, whose term and level these are. The lines that it lacks are put:
-    /// those of the regex, that of the atom, and its own, unless it stands in the proof. None where the term has no
-    /// literal; no clause is put then.
-    ///
-    /// Linear in the lines that are put, but that the regular expression is measured, and its normal regex made, where
-    /// they were not yet; a place behind those that have clauses costs time in how far it is behind. After an error the
-    /// tape may have a line of which nothing is known here, so nothing more may be put.
-    pub fn assertion<L: Tape>(
-        &mut self,
-        measures: &mut Measures,
-        normals: &mut Normals,
-        table: &Table,
-        arena: &mut Arena,
-        place: usize,
-        term: TermId,
-        level: u64,
-        tape: &mut L,
-    ) -> Result<Option<Asserted>, TapeFault>
-        requires number { term < length table.now }
-        requires right { AreMeasures table.now measures.old }
-        requires normals { AreNormals table.now arena.old normals.old }
-        requires regexes { HaveRegexesBelow (length arena.old) self.old.atoms }
-        ensures puts { OnOk result ((asked : Asked) (memo : Memo) (before : AllKept)
-            → Backs arena.old memo self.old before → IsLive asked place (term_at table.now term) level
-            → EvidencesUncounted asked before arena.new memo self.new (L.Tape.told tape.old) (L.Tape.told tape.new)) }
-        ensures asserted { IfOk result (λ found. found ≡ asserted_at self.new.asserted place) }
-        ensures literal { IfOk result (λ found. option_map (λ a. a.literal) found
-            ≡ member_translation (atoms_in arena.new self.new.atoms) (term_at table.now term)) }
-        ensures level { IfOk result (λ found. IfSome found (λ a. a.level ≡ level)) }
-        ensures none { IfOk result (λ found. found ≡ None → HasNoMemberLiteral (term_at table.now term)) }
-        ensures stays { OnOk result (IfSome (asserted_at self.old.asserted place) (λ a. (a.level ≡ level)
-            × (Some a.literal ≡ member_translation (atoms_in arena.new self.new.atoms) (term_at table.now term)))
-            → KeepsAsserted self.old self.new) }
-        ensures others { OnOk result ((other : ℕ) → other ≢ place
-            → asserted_at self.new.asserted other ≡ asserted_at self.old.asserted other) }
-        ensures numbers_stay { StaysNumbered self.old.trace self.new.trace }
-        ensures extends { Extends self.old.atoms self.new.atoms }
-        ensures regexes { HaveRegexesBelow (length arena.new) self.new.atoms }
-        ensures right { AreMeasures table.now measures.new }
-        ensures normals { AreNormals table.now arena.new normals.new }
-        ensures arena { regex.Extends arena.old arena.new }
-        ensures counts { CountsTapeFault result (L.Tape.faults tape.old) (L.Tape.faults tape.new) }
-    {
-        let known = self.atoms.len();
-        let found = self
-            .atoms
-            .translate_member(measures, normals, table, arena, term)?;
-        self.define(arena, known, tape)?;
-        self.stated(place, found, level, tape)
     }
 
     /// The clause of the live assertion at a place, whose term and level these are. The lines that it lacks are put:
