@@ -91,7 +91,7 @@ const SOME: &[Says] = &[
     Says::In(0, b"cc*."),
 ];
 
-static CASES: [Case; 9] = [
+static CASES: [Case; 10] = [
     Case {
         said: SOME,
         clauses: &[&[ONE], &[TWO]],
@@ -100,7 +100,7 @@ static CASES: [Case; 9] = [
         end: End::Unsat,
         steps: 2,
         truths: &[ONE, TWO],
-        words: &[&[97]],
+        words: &[&[]],
         lines: b"c learn : 0 1 2\n",
     },
     Case {
@@ -114,7 +114,7 @@ static CASES: [Case; 9] = [
         words: &[&[97]],
         lines: b"c learn +0 : 2 0 3\n",
     },
-    // The last one clashes with the first one alone.
+    // The last one clashes with the first one alone, and without a decision all are the lemma.
     Case {
         said: &[
             Says::In(0, b"aE*."),
@@ -127,8 +127,25 @@ static CASES: [Case; 9] = [
         end: End::Unsat,
         steps: 2,
         truths: &[ONE, TWO, THREE],
-        words: &[&[97, 98]],
-        lines: b"c learn : 0 2 3\n",
+        words: &[&[]],
+        lines: b"c learn : 0 1 2 3\n",
+    },
+    // The same behind a decision, where two of them are the lemma.
+    Case {
+        said: &[
+            Says::In(1, b"aE*."),
+            Says::In(0, b"aE*."),
+            Says::In(0, b"E*b."),
+            Says::In(0, b"bE*."),
+        ],
+        clauses: &[&[ONE, TWO], &[ONE, THREE], &[ONE, FOUR]],
+        proves: false,
+        limit: 9,
+        end: End::Sat,
+        steps: 2,
+        truths: &[ONE],
+        words: &[&[97, 98], &[97]],
+        lines: b"c learn +0 : 2 0 3\n",
     },
     // Not the empty word, and not a longer one.
     Case {
@@ -139,7 +156,7 @@ static CASES: [Case; 9] = [
         end: End::Unsat,
         steps: 2,
         truths: &[NOT_ONE, NOT_TWO],
-        words: &[],
+        words: &[&[]],
         lines: b"c learn : 0 1 2\n",
     },
     // The second constant's memberships clash, and the first one's do not.
@@ -156,7 +173,7 @@ static CASES: [Case; 9] = [
         end: End::Unsat,
         steps: 2,
         truths: &[ONE, TWO, THREE, FOUR],
-        words: &[&[97, 98], &[97]],
+        words: &[&[97, 98], &[]],
         lines: b"c learn : 1 3 4\n",
     },
     // The first decision is taken back.
@@ -188,7 +205,7 @@ static CASES: [Case; 9] = [
         end: End::Unsat,
         steps: 2,
         truths: &[ONE, TWO, THREE],
-        words: &[&[97]],
+        words: &[&[]],
         lines: b"c learn : 0 1 2 4\n",
     },
     Case {
@@ -199,7 +216,7 @@ static CASES: [Case; 9] = [
         end: End::Spent,
         steps: 0,
         truths: &[ONE, TWO],
-        words: &[&[97]],
+        words: &[&[]],
         lines: b"r set 61-61\nr star 0\nr cat 0 1\nr set 62-62\nr star 3\nr cat 3 4\nr and 2 5\nr none\n",
     },
     Case {
@@ -210,7 +227,7 @@ static CASES: [Case; 9] = [
         end: End::Spent,
         steps: 3,
         truths: &[ONE, TWO],
-        words: &[&[97]],
+        words: &[&[]],
         lines: b"r set 61-61\nr star 0\nr cat 0 1\nr set 62-62\nr star 3\nr cat 3 4\nr and 2 5\nr none\n\
         x 6 0-2ffff>7\nx 7 0-2ffff>7\nd 6 7\nc empty -0 -1\n",
     },
