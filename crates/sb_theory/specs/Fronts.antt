@@ -1,4 +1,4 @@
--- Private: how much of each constant's row its word is known to make true.
+-- How much of each constant's row its word is known to make true.
 use Rattle.std.specs.Prelude.{◌≡◌, ℕ, ◌+◌, ◌≤◌, Bool, true, false, nat_eq, if◌then◌else◌, List, length, take, get_or, Option}
 use Rattle.std.specs.List.{list_all, list_any}
 use Rattle.sb_lit.specs.declared.clause.Lit.{Lit}
