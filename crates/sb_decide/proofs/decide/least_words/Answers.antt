@@ -1,6 +1,6 @@
 use Rattle.std.proofs.Common.{refl}
 use Rattle.std.proofs.lemmas.Result.{IfOk-from_err}
-use Rattle.sb_regex.proofs.CallerLemmas.{extends_more, extends_same}
+use Rattle.sb_regex.proofs.CallerLemmas.{extends_more}
 use Rattle.sb_decide.proofs.TakingOver.{found_next}
 use Rattle.sb_decide.proofs.decide.least_words.Goals as goal
 

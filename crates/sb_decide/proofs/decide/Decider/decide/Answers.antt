@@ -1,6 +1,5 @@
-use Rattle.std.proofs.Common.{◌∙◌, refl, true, subst}
+use Rattle.std.proofs.Common.{◌∙◌}
 use Rattle.sb_stack.specs.Stacked.{state_of}
-use Rattle.sb_regex.proofs.CallerLemmas.{extends_more}
 use Rattle.sb_decide.proofs.decide.Decider.decide.Goals as goal
 
 pub returns-else-branch-2-clause-verdict : goal.returns-else-branch-2-clause-verdict

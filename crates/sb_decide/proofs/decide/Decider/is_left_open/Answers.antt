@@ -1,8 +1,8 @@
-use Rattle.std.proofs.Common.{ap, length, ◌∙◌, arith, subst, refl}
+use Rattle.std.proofs.Common.{ap, length, arith, subst, refl}
 use Rattle.std.proofs.lemmas.Result.{IfOk-from_err}
 use Rattle.std.proofs.lemmas.Bool.{false≢true}
 use Rattle.sb_fragment.specs.Measures.{AreMeasures}
-use Rattle.sb_decide.proofs.LeftOpen.{known_inside, live_outside, knows_looked, knows_changed, left_open_through}
+use Rattle.sb_decide.proofs.LeftOpen.{known_inside, knows_looked, left_open_through}
 use Rattle.sb_decide.proofs.decide.Decider.is_left_open.Goals as goal
 
 pub decided_ones-requires-clause-known : goal.decided_ones-requires-clause-known
