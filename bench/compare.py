@@ -44,9 +44,11 @@ SIZES = {
     "parameters": [125, 250, 500, 1000],
     "checked-classes": [1250, 2500, 5000, 10000, 20000],
     "checked-constants": [1250, 2500, 5000, 10000, 20000],
+    "checked-denied": [1250, 2500, 5000, 10000, 20000],
     "checked-addresses": [1250, 2500, 5000, 10000, 20000],
     "rounds": [50, 100, 200, 400, 800],
     "levels": [25, 50, 100, 200],
+    "denied-levels": [1250, 2500, 5000],
     "pairs": [250000, 500000, 1000000],
 }
 here = os.path.dirname(os.path.abspath(__file__))

@@ -40,12 +40,14 @@ And scripts of so many checks, each behind a new assertion:
 `checked-classes`: one constant in one more range of characters each time.
 `checked-constants`: one more constant each time, in a range of characters.
 `checked-addresses`: one more constant each time, in a regular expression of mail addresses.
+`checked-denied`: the same as `checked-constants`, behind one denied membership of another constant.
 `checked-clauses`: one more clause of three memberships each time, over 20 constants.
 
 And scripts of levels:
 `rounds`: 100 constants in rules that stay, and so many rounds of a level with one more rule and a check.
 `levels`: so many levels, each with one more letter that one constant begins with and a check, and back with a check at
 each.
+`denied-levels`: so many levels, each with one more word that one of five constants is not, and a check.
 `pairs`: so many levels that are opened and left at once.
 """
 import itertools
@@ -122,6 +124,10 @@ def checked_constants(size):
     return "".join(one_more(f"y{number}", '(re.range "a" "m")') for number in range(size))
 
 
+def checked_denied(size):
+    return f"(declare-const z String)\n(assert (not {in_text('z', 're.none')}))\n" + checked_constants(size)
+
+
 def checked_addresses(size):
     letters = '(re.+ (re.union (re.range "a" "z") (re.range "0" "9")))'
     address = f'(re.++ {letters} (str.to_re "@") {letters} (str.to_re ".") (re.range "a" "z") (re.+ (re.range "a" "z")))'
@@ -147,6 +153,13 @@ def levels(size):
     text = "".join("abcdefghijklmnopqrstuvwxyz"[i % 26] for i in range(size))
     down = "".join(f"(push 1)\n{in_re(f'(re.++ {to_re(text[:i + 1])} {LETTERS})')}(check-sat)\n" for i in range(size))
     return down + "(check-sat)\n(pop 1)\n" * size
+
+
+def denied_levels(size):
+    text = "".join(f"(declare-const y{number} String)\n" for number in range(5))
+    for number in range(size):
+        text += f"(push 1)\n(assert (not {in_text(f'y{number % 5}', to_re(f'k{number}'))}))\n(check-sat)\n"
+    return text
 
 
 def pairs(size):
@@ -453,9 +466,11 @@ FAMILIES = {
     "runs": runs,
     "checked-classes": checked_classes,
     "checked-constants": checked_constants,
+    "checked-denied": checked_denied,
     "checked-addresses": checked_addresses,
     "rounds": rounds,
     "levels": levels,
+    "denied-levels": denied_levels,
     "pairs": pairs,
 }
 
