@@ -22,8 +22,9 @@ use Rattle.sb_stack.specs.declared.stack.Step.TheVariants as code
 use Rattle.sb_stack.specs.Steps.{IsStep}
 use Rattle.sb_refute.specs.declared.evidence.Asserted.{Asserted}
 use Rattle.sb_refute.specs.Backing.{Backing, Backs, asserted_at}
-use Rattle.sb_sound.specs.SoundLaws.{IsSound, Continues, GoesOn}
+use Rattle.sb_sound.specs.SoundLaws.{Continues, GoesOn}
 use Rattle.sb_sound.specs.ScriptLaws.{IsFit}
+use Rattle.sb_solve.specs.Truth.{IsTrue}
 
 pub record Proving : Type 0 where
   pub evidence : Backing
@@ -77,13 +78,6 @@ EntriesMoveLive = (entry : Entry) (old new : State) (step : Step) → IsStep (st
     → MovesLive step old new
 
 -- What is true of the evidence.
-
--- A reader that keeps what the evidence knows keeps nothing but what is true of what is asked. No line is counted.
-pub record IsTrue (asked : Asked) (rs : List Regex) (memo : Memo) (e : Backing) : Type 0 where
-  pub kept : AllKept
-  pub backs : Backs rs memo e kept
-  pub sound : IsSound asked kept
-  pub counted : kept.counted ≡ 0
 
 -- The evidence stays true where the script goes on, and loses no assertion.
 abbrev pub TrueGoesOn : Type 0

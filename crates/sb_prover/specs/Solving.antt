@@ -32,6 +32,13 @@ SaysSolved s kept (solved.Sat words truths) =
 SaysSolved s kept (solved.Unsat id) = SaysRefuted (asked_in (state_of s)) kept (refuted.Clause id)
 SaysSolved s kept solved.Spent = SaysRefuted (asked_in (state_of s)) kept refuted.Spent
 
+-- a check may give these values, or the empty clause is among what the evidence knows
+abbrev pub SaysTrue : Stacked → Backing → Solved → Type 0
+SaysTrue s e (solved.Sat words truths) =
+    IsGiven (state_of s) [] (values_at (live_constants s) words.items truths.items)
+SaysTrue s e (solved.Unsat id) = IsEmptyAt e.kept id.0
+SaysTrue s e solved.Spent = Unit {0}
+
 -- Lines were put that lead to an answer, as far as a check may have lines.
 pub record IsSolution (s : Stacked) (before : AllKept) (rs : List Regex) (memo : Memo) (e : Backing) (r : Solved)
     (old new : Option (List ℕ)) : Type 0

@@ -20,7 +20,8 @@ ghost use Rattle.sb_trace.specs.Putting.{CountsTapeFault};
 ghost use Rattle.sb_atoms.specs.Numbered.{HaveRegexesBelow};
 ghost use Rattle.sb_refute.specs.Backing.{Backs};
 ghost use Rattle.sb_decide.specs.Knowing.{Knows, IsDecision};
-ghost use Rattle.sb_prover.specs.Proving.{IsAbreast, IsProved, HaveLevels, AreLow, leaving, IsTrue, GoesDown, AbreastStays, TrueGoesOn, TrueGrown, RegexesStayBelow, LevelsStay, EntriesMoveLive, EntriesStayFit};
+ghost use Rattle.sb_prover.specs.Proving.{IsAbreast, IsProved, HaveLevels, AreLow, leaving, GoesDown, AbreastStays, TrueGoesOn, TrueGrown, RegexesStayBelow, LevelsStay, EntriesMoveLive, EntriesStayFit};
+ghost use Rattle.sb_solve.specs.Truth.{IsTrue};
 ghost use Rattle.sb_prover.specs.Saying.{first_lines, IsRefuted, Tells};
 
 use crate::refutation::refute;

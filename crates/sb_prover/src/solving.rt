@@ -1,6 +1,6 @@
 //! Checks that the decider leaves open.
 
-ghost use Rattle.std.specs.Prelude.{◌≡◌, [], length, IfOk, OnOk};
+ghost use Rattle.std.specs.Prelude.{◌≡◌, [], true, false, length, IfOk, OnOk};
 ghost use Rattle.sb_script.specs.Steps.{line};
 ghost use Rattle.sb_script.specs.Verdicts.{IsVerdict};
 ghost use Rattle.sb_rulebook.specs.Accepted.{question_in, asked_in};
@@ -16,8 +16,9 @@ ghost use Rattle.sb_refute.specs.Backing.{Backs, Evidences};
 ghost use Rattle.sb_sound.specs.SoundLaws.{AreTerms};
 ghost use Rattle.sb_sound.specs.ScriptLaws.{IsFit};
 ghost use Rattle.sb_decide.specs.Knowing.{Knows, IsLeftOpen, MayBeKept};
-ghost use Rattle.sb_prover.specs.Proving.{IsAbreast, IsProved, HaveLevels, IsTrue};
-ghost use Rattle.sb_prover.specs.Solving.{IsFound, IsSolution, verdict_of, said_by, IsNumbered};
+ghost use Rattle.sb_prover.specs.Proving.{IsAbreast, IsProved, HaveLevels};
+ghost use Rattle.sb_solve.specs.Truth.{IsTrue};
+ghost use Rattle.sb_prover.specs.Solving.{IsFound, IsSolution, SaysTrue, verdict_of, said_by, IsNumbered};
 
 use crate::prover::Prover;
 use crate::verdict::{number_of, say, say_values};
@@ -35,14 +36,16 @@ use std::alloc::Global;
 
 impl Prover {
     /// Answers a check that the decider left open: `Unsat` where the empty clause stands in the proof, else what a
-    /// search over the live assertions finds, and `Unknown` where a check may have no more lines. Puts the lines that
-    /// prove the verdict, the verdict's own line as the last. The time is that of the search, which may be exponential
-    /// in the atoms of the assertions, and of what is explored that was not yet. After an error nothing more may be
-    /// put, and nothing more asked of the decider.
+    /// search over the live assertions finds, and `Unknown` where a check may have no more lines. Where `proves` is true,
+    /// puts the lines that prove the verdict, the verdict's own line as the last; else what is put proves nothing, and no
+    /// regex is explored to its end for a lemma. The time is that of the search, which may be exponential in the atoms of
+    /// the assertions, and of what is explored that was not yet. After an error nothing more may be put, and nothing more
+    /// asked of the decider.
     pub fn solve<L: Tape>(
         &mut self,
         decider: &mut Decider,
         stack: &Stack,
+        proves: bool,
         tape: &mut L,
     ) -> Result<Verdict, TapeFault>
         requires open { IsLeftOpen decider.old stack.now }
@@ -50,7 +53,7 @@ impl Prover {
         requires regexes { HaveRegexesBelow (length decider.old.arena) self.old.evidence.atoms }
         requires sound { IsTrue (asked_in (state_of stack.now)) decider.old.arena decider.old.graph.memo
             self.old.evidence }
-        ensures proves { IfOk result (λ v. (before : Progress)
+        ensures proves { IfOk result (λ v. proves ≡ true → (before : Progress)
             → IsAbreast decider.old.arena decider.old.graph.memo self.old before
             → IsProved (question_in (state_of stack.now) []) (verdict_in (live_constants stack.now) v) before
             decider.new.arena decider.new.graph.memo self.new (L.Tape.told tape.old) (L.Tape.told tape.new)) }
@@ -74,7 +77,7 @@ impl Prover {
         empty_clause_refutes();
         fragment_is_of_each();
         self.begin(tape)?;
-        let solved = self.solution(decider, stack, tape)?;
+        let solved = self.solution(decider, stack, proves, tape)?;
         let verdict = conclude(self.alloc, stack, solved, tape)?;
         Ok(verdict)
     }
@@ -84,12 +87,18 @@ impl Prover {
         &mut self,
         decider: &mut Decider,
         stack: &Stack,
+        proves: bool,
         tape: &mut L,
     ) -> Result<Solved, TapeFault>
         requires open { IsLeftOpen decider.old stack.now }
         requires terms { AreTerms (asked_in (state_of stack.now)) }
         requires regexes { HaveRegexesBelow (length decider.old.arena) self.old.evidence.atoms }
-        ensures solved { IfOk result (λ r. (before : AllKept)
+        requires sound { IsTrue (asked_in (state_of stack.now)) decider.old.arena decider.old.graph.memo
+            self.old.evidence }
+        ensures sound { OnOk result (IsTrue (asked_in (state_of stack.now)) decider.new.arena decider.new.graph.memo
+            self.new.evidence) }
+        ensures means { IfOk result (SaysTrue stack.now self.new.evidence) }
+        ensures solved { IfOk result (λ r. proves ≡ true → (before : AllKept)
             → Backs decider.old.arena decider.old.graph.memo self.old.evidence before → before.counted ≡ 0
             → IsSolution stack.now before decider.new.arena decider.new.graph.memo self.new.evidence r
             (L.Tape.told tape.old) (L.Tape.told tape.new)) }
@@ -110,6 +119,7 @@ impl Prover {
             &mut self.evidence,
             decider,
             stack,
+            proves,
             tape,
             &mut budget,
         )?;
@@ -123,18 +133,22 @@ fn searched<L: Tape>(
     evidence: &mut Evidence,
     decider: &mut Decider,
     stack: &Stack,
+    proves: bool,
     tape: &mut L,
     budget: &mut Budget,
 ) -> Result<Solved, TapeFault>
     requires open { IsLeftOpen decider.old stack.now }
     requires regexes { HaveRegexesBelow (length decider.old.arena) evidence.old.atoms }
-    ensures puts { OnOk result ((before : AllKept)
+    ensures puts { OnOk result (proves ≡ true → (before : AllKept)
         → Backs decider.old.arena decider.old.graph.memo evidence.old before
         → IsCounted (asked_in (state_of stack.now)) before budget.old
         → Evidences (asked_in (state_of stack.now)) before decider.new.arena decider.new.graph.memo evidence.new
         budget.new (L.Tape.told tape.old) (L.Tape.told tape.new)) }
     ensures solved { IfOk result
         (IsFound stack.now decider.old.arena decider.old.graph.memo evidence.old evidence.new budget.new) }
+    ensures sound { OnOk result (proves ≡ false → AreTerms (asked_in (state_of stack.now))
+        → IsTrue (asked_in (state_of stack.now)) decider.old.arena decider.old.graph.memo evidence.old
+        → IsTrue (asked_in (state_of stack.now)) decider.new.arena decider.new.graph.memo evidence.new) }
     ensures open { OnOk result (IsLeftOpen decider.new stack.now) }
     ensures regexes { OnOk result (HaveRegexesBelow (length decider.new.arena) evidence.new.atoms) }
     ensures levels { OnOk result (HaveLevels (asked_in (state_of stack.now)).live evidence.old
@@ -151,6 +165,7 @@ fn searched<L: Tape>(
         &mut decider.normals,
         &mut decider.measures,
         stack,
+        proves,
         tape,
         budget,
     )?;

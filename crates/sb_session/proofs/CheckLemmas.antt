@@ -21,7 +21,8 @@ use Rattle.sb_sound.specs.ScriptLaws.{IsFit}
 use Rattle.sb_rulebook.specs.Judging.{Progress}
 use Rattle.sb_sound.specs.Certified.{Proves, last_lines}
 use Rattle.sb_proof.specs.Tapes.{with_bytes}
-use Rattle.sb_prover.specs.Proving.{Proving, IsAbreast, IsProved, AbreastStays, HaveLevels, IsTrue}
+use Rattle.sb_prover.specs.Proving.{Proving, IsAbreast, IsProved, AbreastStays, HaveLevels}
+use Rattle.sb_solve.specs.Truth.{IsTrue}
 use Rattle.sb_stack.specs.Stacked.{Stacked, state_of, without_words}
 use Rattle.sb_stack.specs.declared.verdict.Verdict as code
 use Rattle.sb_stack.specs.declared.verdict.Verdict.TheVariants as verdict

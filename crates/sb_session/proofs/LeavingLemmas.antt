@@ -9,7 +9,8 @@ use Rattle.sb_script.specs.State.{State, live}
 use Rattle.sb_rulebook.specs.Accepted.{asked_in}
 use Rattle.sb_rulebook.specs.Judging.{Phase, at_rest, at_check, at_end, behind_end, stopped, Progress, met}
 use Rattle.sb_sound.specs.Certified.{behind}
-use Rattle.sb_prover.specs.Proving.{Proving, IsAbreast, HaveLevels, AreLow, leaving, IsTrue, GoesDown, LevelsStay}
+use Rattle.sb_prover.specs.Proving.{Proving, IsAbreast, HaveLevels, AreLow, leaving, GoesDown, LevelsStay}
+use Rattle.sb_solve.specs.Truth.{IsTrue}
 use Rattle.sb_stack.specs.Stacked.{Stacked, state_of, assertion_in}
 use Rattle.sb_stack.proofs.CallerLemmas.{live_laid}
 use Rattle.sb_session.specs.Commanding.{SessionState, proof_of, is_proved, IsTracked}

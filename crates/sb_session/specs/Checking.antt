@@ -12,12 +12,13 @@ use Rattle.sb_rulebook.specs.Accepted.{asked_in}
 use Rattle.sb_rulebook.specs.Kept.{Asked}
 use Rattle.sb_rulebook.specs.Judging.{Event, Progress, met}
 use Rattle.sb_sound.specs.Certified.{behind, FindsProved}
-use Rattle.sb_prover.specs.Proving.{Proving, IsAbreast, HaveLevels, AreLow, leaving, IsTrue, GoesDown}
+use Rattle.sb_prover.specs.Proving.{Proving, IsAbreast, HaveLevels, AreLow, leaving, GoesDown}
 use Rattle.sb_stack.specs.Stacked.{Stacked, state_of}
 use Rattle.sb_stack.specs.declared.verdict.Verdict as code
 use Rattle.sb_stack.specs.declared.verdict.Verdict.TheVariants as verdict
 use Rattle.sb_decide.specs.declared.decide.Decider.{Decider}
 use Rattle.sb_atoms.specs.Numbered.{HaveRegexesBelow}
+use Rattle.sb_solve.specs.Truth.{IsTrue}
 use Rattle.sb_session.specs.Commanding.{SessionState, is_proved, IsTracked, with_lines, CutOf}
 
 -- a session that has not ended, by its parts

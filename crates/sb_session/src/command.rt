@@ -378,7 +378,7 @@ fn find_verdict<W: World>(
 }
 
 /// Answers a check that was left open, and writes the lines that prove the verdict, where a proof is written. Without a
-/// proof it is `NoMemory` where so many lines would be counted as a check may have.
+/// proof it is `NoMemory` where it would take more steps than a check may have.
 fn solve_check<W: World>(
     alloc: Global,
     stack: &Stack,
@@ -445,7 +445,7 @@ fn solve<W: World>(
     ensures faults { CountsFault result (W.faults world.old) (W.faults world.new) }
 {
     let mut lines = MemTape::new(alloc);
-    let Ok(verdict) = prover.solve(decider, stack, &mut lines) else {
+    let Ok(verdict) = prover.solve(decider, stack, true, &mut lines) else {
         return Err(WorldError::NoMemory);
     };
     write_all(world, OutPort::Proof, lines.bytes())?;
@@ -470,7 +470,7 @@ fn solve_unproved(
         → HasLevels (state_of stack.now) prover.new) }
     ensures sound { OnOk result (HasTrue (state_of stack.now) decider.new prover.new) }
 {
-    let Ok(verdict) = prover.solve(decider, stack, &mut NoTape) else {
+    let Ok(verdict) = prover.solve(decider, stack, false, &mut NoTape) else {
         return Err(AllocError);
     };
     let known = if_known(verdict)?;

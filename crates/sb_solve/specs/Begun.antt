@@ -1,5 +1,5 @@
 -- Private: a search before its end.
-use Rattle.std.specs.Prelude.{◌≡◌, ℕ, true, List, [], Option}
+use Rattle.std.specs.Prelude.{◌≡◌, ℕ, Bool, true, List, [], Option}
 use Rattle.std.specs.List.{list_all}
 use Rattle.sb_lit.specs.declared.clause.Lit.{Lit}
 use Rattle.sb_lit.specs.Budgets.{Spending}
@@ -9,11 +9,12 @@ use Rattle.sb_rulebook.specs.Atoms.{AtomOver}
 use Rattle.sb_sound.specs.Tables.{is_table}
 use Rattle.sb_atoms.specs.Numbered.{atoms_in}
 use Rattle.sb_refute.specs.declared.evidence.Parts.{Parts}
+use Rattle.sb_search.specs.Following.{FollowsByLevel}
 use Rattle.sb_search.specs.Found.{GrowsTo, IsFound}
 use Rattle.sb_search.specs.Writing.{written}
 use Rattle.sb_search.specs.declared.found.Found.{Found}
 use Rattle.sb_search.specs.declared.found.Found.TheVariants.{Sat}
-use Rattle.sb_theory.specs.Memberships.{are_atoms, is_atom}
+use Rattle.sb_theory.specs.Memberships.{IsValid, are_atoms, is_atom}
 use Rattle.sb_theory.specs.Strings.{Agrees, Stands, Writes}
 use Rattle.sb_solve.specs.declared.searching.Begun.{Begun}
 use Rattle.sb_solve.specs.declared.searching.Searched.{Searched}
@@ -39,19 +40,22 @@ searched_of b f = record {
   words = b.strings.words;
 }
 
--- the theory is over these tables, and has taken in nothing
-pub record IsOver (rs : List Regex) (findings : Findings) (given : Parts) (atoms : List ℕ) (b : Begun) : Type 0 where
-  pub arena : b.strings.arena ≡ rs
-  pub graph : b.strings.graph ≡ findings
-  pub parts : parts_of b ≡ given
-  pub stands : Stands b.strings []
-  pub proves : b.strings.proves ≡ true
-  pub wanted : b.strings.wanted.items ≡ atoms
+-- the theory is over these tables, and has taken in nothing; whether it puts lines
+pub record IsOver (rs : List Regex) (findings : Findings) (given : Parts) (atoms : List ℕ) (proves : Bool) (b : Begun) :
+    Type 0
+  where
+    pub arena : b.strings.arena ≡ rs
+    pub graph : b.strings.graph ≡ findings
+    pub parts : parts_of b ≡ given
+    pub stands : Stands b.strings []
+    pub proves : b.strings.proves ≡ proves
+    pub wanted : b.strings.wanted.items ≡ atoms
 
 -- What a search makes of what it goes over.
 pub record Runs (b c : Begun) (before after : Spending) (old new : Option (List ℕ)) (f : Found) : Type 0 where
   pub stands : Stands c.strings c.engine.trail.literals
   pub kept : GrowsTo b.engine.kept c.engine.kept
+  pub follows : FollowsByLevel (IsValid c.strings.arena c.strings.atoms) b.engine.kept c.engine.kept
   pub writes : Writes b.strings c.strings (written b.engine.kept before old) (written c.engine.kept after new)
   pub wanted : c.strings.wanted.items ≡ b.strings.wanted.items
   pub found : IsFound c.strings.wanted.items [] c.engine after f

@@ -102,9 +102,9 @@ pub record IsConcluded (s : Stacked) (x : Searched) (literals : List Lit) (c : C
   pub comes : Comes s x literals c.evidence.refuted x.found c.solved
 
 -- What a search over the tables comes to, with what it leaves.
-pub record IsGoneOver (s : Stacked) (t : Tables) (literals : List Lit) (before after : Spending)
+pub record IsGoneOver (s : Stacked) (t : Tables) (literals : List Lit) (proves : Bool) (before after : Spending)
     (old new : Option (List ℕ)) (c : Concluded) : Type 0
   where
     pub searched : Searched
-    pub run : IsSearched t.arena t.graph.memo t.parts literals before after old new searched
+    pub run : IsSearched t.arena t.graph.memo t.parts literals proves before after old new searched
     pub concluded : IsConcluded s searched literals c

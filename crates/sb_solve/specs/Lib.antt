@@ -3,6 +3,7 @@ pub mod Gathering
 pub mod Values
 pub mod Decided
 pub mod Entailed
+pub mod Truth
 pub mod Answered
 pub mod Modelled
 pub mod Solved

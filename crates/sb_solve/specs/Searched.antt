@@ -1,5 +1,5 @@
 -- Private: what a search leaves.
-use Rattle.std.specs.Prelude.{◌≡◌, ℕ, true, List, [], length, Option}
+use Rattle.std.specs.Prelude.{◌≡◌, ℕ, Bool, true, false, List, [], length, Option}
 use Rattle.std.specs.List.{list_all}
 use Rattle.sb_lit.specs.declared.clause.Lit.{Lit}
 use Rattle.sb_lit.specs.Budgets.{Spending}
@@ -15,14 +15,17 @@ use Rattle.sb_atoms.specs.Numbered.{HaveRegexesBelow, AreDistinct, atoms_in}
 use Rattle.sb_trace.specs.Putting.{IsCounted}
 use Rattle.sb_refute.specs.declared.evidence.Parts.{Parts}
 use Rattle.sb_refute.specs.Backing.{Backs, Evidences, backing_of}
+use Rattle.sb_search.specs.Following.{FollowsByLevel}
 use Rattle.sb_search.specs.Found.{GrowsTo, IsFound}
 use Rattle.sb_search.specs.declared.found.Found.TheVariants.{Sat}
-use Rattle.sb_theory.specs.Memberships.{HaveAtoms, are_atoms, is_atom, is_true_by}
+use Rattle.sb_theory.specs.Memberships.{HaveAtoms, IsValid, are_atoms, is_atom, is_true_by}
 use Rattle.sb_solve.specs.Wanted.{AreWanted}
 use Rattle.sb_solve.specs.declared.searching.Searched.{Searched}
 
--- The tables stay right and grow, clauses stay, and lines that follow are put for new ones; and what was found holds.
-pub record IsSearched (arena : List Regex) (memo : Memo) (parts : Parts) (literals : List Lit)
+-- The tables stay right and grow, clauses stay, and new ones follow from these and from what is true of words, level by
+-- level; where lines are put, those for the new clauses follow, and where none are, what stands of regexes in the proof
+-- stays. What was found holds.
+pub record IsSearched (arena : List Regex) (memo : Memo) (parts : Parts) (literals : List Lit) (proves : Bool)
     (before after : Spending) (old new : Option (List ℕ)) (s : Searched) : Type 0
   where
     pub graph : IsGraph s.arena s.graph
@@ -36,7 +39,9 @@ pub record IsSearched (arena : List Regex) (memo : Memo) (parts : Parts) (litera
     pub gates : s.parts.gates ≡ parts.gates
     pub kept : GrowsTo parts.engine.kept s.parts.engine.kept
     pub known : HaveAtoms parts.atoms parts.engine.kept → HaveAtoms parts.atoms s.parts.engine.kept
-    pub puts : HaveAtoms parts.atoms parts.engine.kept → (asked : Asked) (kept : AllKept)
+    pub follows : FollowsByLevel (IsValid s.arena parts.atoms) parts.engine.kept s.parts.engine.kept
+    pub silent : proves ≡ false → s.parts.trace ≡ parts.trace
+    pub puts : proves ≡ true → HaveAtoms parts.atoms parts.engine.kept → (asked : Asked) (kept : AllKept)
         → Backs arena memo (backing_of parts) kept → IsCounted asked kept before
         → Evidences asked kept s.arena s.graph.memo (backing_of s.parts) after old new
     pub distinct : AreDistinct parts.atoms

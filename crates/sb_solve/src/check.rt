@@ -1,6 +1,6 @@
 //! The check of the live assertions.
 
-ghost use Rattle.std.specs.Prelude.{◌≡◌, true, Some, length, IfOk, OnOk};
+ghost use Rattle.std.specs.Prelude.{◌≡◌, true, false, Some, length, IfOk, OnOk};
 ghost use Rattle.std.specs.List.{list_all};
 ghost use Rattle.sb_deriv.specs.Faithful.{KeepsEntries};
 ghost use Rattle.sb_fragment.specs.Measures.{AreMeasures};
@@ -20,7 +20,9 @@ ghost use Rattle.sb_refute.specs.declared.evidence.EmptyClause.{EmptyClause};
 ghost use Rattle.sb_search.specs.declared.found.Found.TheVariants.{Sat};
 ghost use Rattle.sb_solve.specs.declared.check.Solved.TheVariants.{Unsat};
 ghost use Rattle.sb_solve.specs.Concluding.{IsEnded, HasNoValues, AreReady, AreTaken, IsGrown, IsLeft, IsModel, IsConcluded, IsGoneOver};
+ghost use Rattle.sb_sound.specs.SoundLaws.{AreTerms};
 ghost use Rattle.sb_solve.specs.Solved.{AreOfLevels, IsSolved};
+ghost use Rattle.sb_solve.specs.Truth.{IsTrue};
 
 use crate::model::{Values, model};
 use crate::searching::{Searched, Tables, search_parts};
@@ -63,7 +65,8 @@ struct Concluded {
 
 /// Decides whether some values make the live assertions true, each of which is of Boolean structure: the clause of each
 /// stands in the proof then, with those of all gates, and behind them the lines of a search over these clauses. A step
-/// of the budget is spent for each line that is counted.
+/// of the budget is spent for each line that is counted. Where `proves` is false, what is put proves nothing: no regex is
+/// explored to its end for a lemma, and a step is spent for each lemma and each learned clause.
 ///
 /// The time is that of the search, which may be exponential in the atoms, and of what is explored of regexes.
 /// `NoMemory` also where a live assertion has no literal, as no well-sorted one has none. After an error the evidence may
@@ -77,6 +80,7 @@ pub fn solve<L: Tape>(
     normals: &mut Normals,
     measures: &mut Measures,
     stack: &Stack,
+    proves: bool,
     tape: &mut L,
     budget: &mut Budget,
 ) -> Result<Solved, TapeFault>
@@ -86,12 +90,15 @@ pub fn solve<L: Tape>(
     requires right { AreMeasures stack.now.table measures.old }
     requires normals { AreNormals stack.now.table arena.old normals.old }
     requires regexes { HaveRegexesBelow (length arena.old) evidence.old.atoms }
-    ensures puts { OnOk result ((before : AllKept) → Backs arena.old graph.old.memo evidence.old before
+    ensures puts { OnOk result (proves ≡ true → (before : AllKept) → Backs arena.old graph.old.memo evidence.old before
         → IsCounted (asked_in (state_of stack.now)) before budget.old
         → Evidences (asked_in (state_of stack.now)) before arena.new graph.new.memo evidence.new budget.new
         (L.Tape.told tape.old) (L.Tape.told tape.new)) }
     ensures answer { IfOk result
         (IsSolved stack.now arena.old graph.old.memo evidence.old evidence.new budget.new) }
+    ensures sound { OnOk result (proves ≡ false → AreTerms (asked_in (state_of stack.now))
+        → IsTrue (asked_in (state_of stack.now)) arena.old graph.old.memo evidence.old
+        → IsTrue (asked_in (state_of stack.now)) arena.new graph.new.memo evidence.new) }
     ensures levels { OnOk result (AreOfLevels (asked_in (state_of stack.now)).live evidence.old.asserted
         evidence.new.asserted) }
     ensures extends { OnOk result (Extends arena.old arena.new) }
@@ -108,7 +115,7 @@ pub fn solve<L: Tape>(
     normals_stay();
     let literals = literals(alloc, evidence, arena, normals, measures, stack, tape)?;
     let tables = taken(alloc, evidence, arena, graph, plain);
-    let concluded = search_over(alloc, tables, &literals, stack, tape, budget)?;
+    let concluded = search_over(alloc, tables, &literals, stack, proves, tape, budget)?;
     Ok(put_back(concluded, evidence, arena, graph, plain))
 }
 
@@ -162,16 +169,17 @@ fn search_over<L: Tape>(
     tables: Tables,
     literals: &[Lit],
     stack: &Stack,
+    proves: bool,
     tape: &mut L,
     budget: &mut Budget,
 ) -> Result<Concluded, TapeFault>
     requires ready { AreReady tables }
-    ensures over { IfOk result (IsGoneOver stack.now tables literals.now budget.old budget.new
+    ensures over { IfOk result (IsGoneOver stack.now tables literals.now proves budget.old budget.new
         (L.Tape.told tape.old) (L.Tape.told tape.new)) }
     ensures counts { CountsTapeFault result (L.Tape.faults tape.old) (L.Tape.faults tape.new) }
 {
     let before = tables.parts.engine.clauses().len();
-    let searched = search_parts(alloc, tables, literals, tape, budget)?;
+    let searched = search_parts(alloc, tables, literals, proves, tape, budget)?;
     let concluded = conclude(alloc, searched, before, literals, stack)?;
     Ok(concluded)
 }

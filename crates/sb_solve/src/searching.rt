@@ -56,11 +56,13 @@ pub(crate) struct Begun {
     pub gates: usize,
 }
 
-/// Searches for values of the atoms that these literals speak of, over the clauses of a proof.
+/// Searches for values of the atoms that these literals speak of, over the clauses of a proof. Where `proves` is false no
+/// lines are put for lemmas and regexes.
 pub(crate) fn search_parts<L: Tape>(
     alloc: Global,
     tables: Tables,
     literals: &[Lit],
+    proves: bool,
     tape: &mut L,
     budget: &mut Budget,
 ) -> Result<Searched, TapeFault>
@@ -68,12 +70,12 @@ pub(crate) fn search_parts<L: Tape>(
     requires plain { IsRight tables.arena tables.plain }
     requires regexes { HaveRegexesBelow (length tables.arena) tables.parts.atoms }
     requires trail { tables.parts.engine.trail.literals ≡ [] }
-    ensures searched { IfOk result (IsSearched tables.arena tables.graph.memo tables.parts literals.now budget.old
-        budget.new (L.Tape.told tape.old) (L.Tape.told tape.new)) }
+    ensures searched { IfOk result (IsSearched tables.arena tables.graph.memo tables.parts literals.now proves
+        budget.old budget.new (L.Tape.told tape.old) (L.Tape.told tape.new)) }
     ensures counts { CountsTapeFault result (L.Tape.faults tape.old) (L.Tape.faults tape.new) }
 {
     match wanted_of(alloc, &tables.parts, literals) {
-        Ok(wanted) => run_over(alloc, over(alloc, tables, wanted), tape, budget),
+        Ok(wanted) => run_over(alloc, over(alloc, tables, wanted, proves), tape, budget),
         Err(error) => {
             drop(tables);
             Err(TapeFault::from(error))
@@ -113,12 +115,12 @@ fn run_over<L: Tape>(
     }
 }
 
-/// The theory over these tables, beside the clauses.
-fn over(alloc: Global, tables: Tables, wanted: Vec<u64>) -> Begun
+/// The theory over these tables, beside the clauses. `proves` says whether it puts lines.
+fn over(alloc: Global, tables: Tables, wanted: Vec<u64>, proves: bool) -> Begun
     requires graph { IsGraph tables.arena tables.graph }
     requires plain { IsRight tables.arena tables.plain }
     requires regexes { HaveRegexesBelow (length tables.arena) tables.parts.atoms }
-    ensures { IsOver tables.arena tables.graph tables.parts wanted.items result }
+    ensures { IsOver tables.arena tables.graph tables.parts wanted.items proves result }
 {
     let Tables {
         parts,
@@ -134,7 +136,7 @@ fn over(alloc: Global, tables: Tables, wanted: Vec<u64>) -> Begun
         refuted,
         gates,
     } = parts;
-    let strings = Strings::new(alloc, arena, graph, plain, trace, atoms, true, wanted);
+    let strings = Strings::new(alloc, arena, graph, plain, trace, atoms, proves, wanted);
     Begun {
         strings,
         engine,

@@ -1,5 +1,5 @@
 -- What the theory has taken in of a trail, and what its lines make of a proof.
-use Rattle.std.specs.Prelude.{◌≡◌, ◌≢◌, ℕ, ◌<◌, true, List, [], ◌++◌, map, length, take, Option}
+use Rattle.std.specs.Prelude.{◌≡◌, ◌≢◌, ℕ, ◌<◌, true, false, List, [], ◌++◌, map, length, take, Option}
 use Rattle.std.specs.List.{list_all}
 use Rattle.sb_lit.specs.declared.clause.Lit.{Lit}
 use Rattle.sb_lit.specs.Budgets.{Spending}
@@ -85,14 +85,15 @@ pub record Backs (asked : Asked) (x : Strings) (kept : AllKept) (proof : Written
   pub known : HaveAtoms x.atoms proof.kept
   pub counted : IsCounted asked kept proof.budget
 
--- Where lines are put, those between the one proof and the other follow. Atoms stay, and so do regexes and derivatives.
--- New clauses have known atoms.
+-- Where lines are put, those between the one proof and the other follow; where none are, what stands of regexes in the
+-- proof stays. Atoms stay, and so do regexes and derivatives. New clauses have known atoms.
 pub record Writes (x y : Strings) (before after : Written) : Type 0 where
   pub atoms : y.atoms ≡ x.atoms
   pub proves : y.proves ≡ x.proves
   pub extends : Extends x.arena y.arena
   pub derivatives : KeepsEntries x.graph.memo y.graph.memo
   pub known : HaveAtoms x.atoms before.kept → HaveAtoms y.atoms after.kept
+  pub silent : x.proves ≡ false → y.trace ≡ x.trace
   pub lines : x.proves ≡ true → (asked : Asked) (kept : AllKept) → Backs asked x kept before
       → (more : AllKept) × Puts asked kept more before.told after.told × Backs asked y more after
 

@@ -1,0 +1,15 @@
+-- When what the evidence knows is true of what is asked.
+use Rattle.std.specs.Prelude.{◌≡◌, ℕ, List}
+use Rattle.sb_lang.specs.Regex.{Regex}
+use Rattle.sb_deriv.specs.Faithful.{Memo}
+use Rattle.sb_rulebook.specs.Kept.{AllKept, Asked}
+use Rattle.sb_sound.specs.SoundLaws.{IsSound}
+use Rattle.sb_refute.specs.Backing.{Backing, Backs}
+
+-- A reader that keeps what the evidence knows keeps nothing but what is true of what is asked, whether lines led there or
+-- not. No line is counted.
+pub record IsTrue (asked : Asked) (rs : List Regex) (memo : Memo) (e : Backing) : Type 0 where
+  pub kept : AllKept
+  pub backs : Backs rs memo e kept
+  pub sound : IsSound asked kept
+  pub counted : kept.counted ≡ 0
