@@ -365,16 +365,18 @@ have_behind x y kept clause done atoms known h =
 writes_answer : (x y : Strings) (kept : Kept) (clause : List Lit) (done : Bool) (before after : Spending)
     (old new : Option (List ℕ)) → y.atoms ≡ x.atoms → y.proves ≡ x.proves → Extends x.arena y.arena
     → KeepsEntries x.graph.memo y.graph.memo → are_atoms x.atoms clause ≡ true → HasNoSubset kept clause
+    → (x.proves ≡ false → y.trace ≡ x.trace)
     → (x.proves ≡ true → (asked : Asked) (k : AllKept) → Tracks x.arena x.graph.memo x.trace k
     → k.atoms ≡ atoms_in x.arena x.atoms → HasNoSubset k.clauses clause → IsCounted asked k before
     → Denies asked k y.arena y.graph.memo y.trace x.atoms clause done after old new)
     → Writes x y (written kept before old) (written (kept_behind kept (answer_of done clause)) after new)
-writes_answer x y kept clause done before after old new atoms proves e keeps known fresh puts = record {
+writes_answer x y kept clause done before after old new atoms proves e keeps known fresh silent puts = record {
   atoms = atoms;
   proves = proves;
   extends = e;
   derivatives = keeps;
   known = have_behind x y kept clause done atoms known;
+  silent = silent;
   lines = λ on asked k b.
       let d = puts on asked k b.tracks b.atoms (subst (λ (ks : Kept). HasNoSubset ks clause) (sym b.clauses) fresh)
       b.counted in (
@@ -396,11 +398,13 @@ pub answers_denied : EmptyHolds → EmptyIsExact → (x y : Strings) (entries : 
     → y.proves ≡ x.proves → Extends x.arena y.arena → KeepsEntries x.graph.memo y.graph.memo
     → HaveRegexesBelow (length x.arena) x.atoms → IsDenied x.arena x.atoms entries constant clause
     → (done ≡ true → before.spent < after.spent) → (done ≡ false → after.spent ≡ after.limit)
+    → (x.proves ≡ false → y.trace ≡ x.trace)
     → (x.proves ≡ true → (asked : Asked) (k : AllKept) → Tracks x.arena x.graph.memo x.trace k
     → k.atoms ≡ atoms_in x.arena x.atoms → HasNoSubset k.clauses clause → IsCounted asked k before
     → Denies asked k y.arena y.graph.memo y.trace x.atoms clause done after old new)
     → Answers x y entries before after old new (answer_of done clause)
-answers_denied holds exact x y entries constant clause done before after old new atoms proves e keeps below d ticks spent puts =
+answers_denied holds exact x y entries constant clause done before after old new atoms proves e keeps below d ticks
+    spent silent puts =
     record {
       fair = fair_answer x.atoms y.atoms x.arena y.arena entries constant clause done atoms e below d
           (is_valid holds exact x.arena x.atoms entries constant clause d);
@@ -408,5 +412,5 @@ answers_denied holds exact x y entries constant clause done before after old new
       writes = λ kept none_false.
           writes_answer x y kept clause done before after old new atoms proves e keeps
           (about_atoms x.atoms constant clause d.about)
-          (no_subset kept (held entries) clause none_false d.is_false) puts;
+          (no_subset kept (held entries) clause none_false d.is_false) silent puts;
     }

@@ -48,6 +48,7 @@ writes_none x proof = record {
   extends = extends_same x.arena;
   derivatives = λ n pieces h. h;
   known = λ h. h;
+  silent = λ off. refl;
   lines = λ on asked kept backs. (kept, puts_none asked kept proof.told, backs);
 }
 
@@ -59,6 +60,7 @@ writes_both x y z before between after p q = record {
   extends = extends_more x.arena y.arena z.arena p.extends q.extends;
   derivatives = λ n pieces h. q.derivatives n pieces (p.derivatives n pieces h);
   known = λ h. q.known (p.known h);
+  silent = λ off. q.silent (p.proves ∙ off) ∙ p.silent off;
   lines = λ on asked kept backs.
       let first = p.lines on asked kept backs in
       let second = q.lines (p.proves ∙ on) asked first.0 first.2 in (
@@ -82,6 +84,7 @@ writes_grown x y proof atoms proves trace below e keeps = record {
   extends = e;
   derivatives = keeps;
   known = λ h. subst (λ (ts : List (AtomOver ℕ)). HaveAtoms ts proof.kept) (sym atoms) h;
+  silent = λ off. trace;
   lines = λ on asked kept b. (
     kept,
     puts_none asked kept proof.told,
@@ -105,6 +108,7 @@ writes_same x y proof atoms proves trace arena graph = record {
   extends = subst (λ (rs : List Regex). Extends x.arena rs) (sym arena) (extends_same x.arena);
   derivatives = subst (λ (g : Findings). KeepsEntries x.graph.memo g.memo) (sym graph) (λ n pieces h. h);
   known = λ h. subst (λ (ts : List (AtomOver ℕ)). HaveAtoms ts proof.kept) (sym atoms) h;
+  silent = λ off. trace;
   lines = λ on asked kept b. (
     kept,
     puts_none asked kept proof.told,
@@ -189,7 +193,8 @@ learned_follows asked kept clause ids level known accepted room =
     ∙ ap (learned_as asked kept clause ids) accepted
     ∙ counting_on asked (with_clause kept clause level (rests_of_any kept ids)) room
 
-tracks_kept : (rs : List Regex) (memo : Memo) (t : Traced) (kept : AllKept) (clauses : Kept) (rests : List (List ℕ))
+-- where other clauses are kept
+pub tracks_kept : (rs : List Regex) (memo : Memo) (t : Traced) (kept : AllKept) (clauses : Kept) (rests : List (List ℕ))
     (counted : ℕ) → Tracks rs memo t kept
     → Tracks rs memo t (record kept { clauses = clauses; rests = rests; counted = counted })
 tracks_kept rs memo t kept clauses rests counted h = record {
@@ -211,6 +216,7 @@ writes_learned x proof clause hints level lesson text room = record {
   extends = extends_same x.arena;
   derivatives = λ n pieces h. h;
   known = λ h. have_more x.atoms proof.kept clause level h (named_atoms x.atoms proof.kept hints clause h lesson.named);
+  silent = λ off. refl;
   lines = λ on asked kept b.
       let new = named_atoms x.atoms proof.kept hints clause b.known lesson.named in
       let known = are_known_in x.arena x.atoms kept.atoms clause b.atoms new in
@@ -264,6 +270,7 @@ writes_gate x proof atom there text = record {
   extends = extends_same x.arena;
   derivatives = λ n pieces h. h;
   known = λ h. have_more x.atoms proof.kept (true_or_false atom) 0 h (both_known x.atoms atom there);
+  silent = λ off. refl;
   lines = λ on asked kept b.
       let new = both_known x.atoms atom there in
       let known = are_known_in x.arena x.atoms kept.atoms (true_or_false atom) b.atoms new in

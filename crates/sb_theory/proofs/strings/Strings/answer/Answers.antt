@@ -23,7 +23,7 @@ returns-clause-end g c = (
       c.args.serial.0 c.args.clause c.in_ok-done.done c.args.budget.now c.put_denial.new.budget
       (g.L.Tape.told c.args.tape.now) (g.L.Tape.told c.put_denial.new.tape) refl refl c.in_ok-done.ensures.extends
       c.in_ok-done.ensures.derivatives_stay c.requires.stands.holds.regexes c.requires.denied c.in_ok-done.ensures.ticks c.in_ok-done.ensures.spent
-      (λ on. c.in_ok-done.ensures.puts)),
+      (λ off. never_on c.args.self.now.proves off c.if-not-self.false) (λ on. c.in_ok-done.ensures.puts)),
   never_fine c.args.clause c.in_ok-done.done c.answered-2.result c.answered-2.ensures,
 )
 
@@ -39,7 +39,7 @@ returns-then-not-self-clause-end g c = (
       c.tick.ensures.ok)
       (λ is. unticked c.tick.result c.args.budget.now c.tick.new.self (sym c.is_ok-done.ensures.value ∙ is)
       c.tick.ensures.spent c.tick.ensures.same)
-      (λ on. never_on c.args.self.now.proves c.if-not-self.true on)),
+      (λ off. refl) (λ on. never_on c.args.self.now.proves c.if-not-self.true on)),
   never_fine c.args.clause c.is_ok-done.result c.answered.result c.answered.ensures,
 )
 
