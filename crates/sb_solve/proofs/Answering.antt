@@ -1,5 +1,5 @@
 -- What a check comes to, by the clauses that were put, the search and its end.
-use Rattle.std.proofs.Common.{◌≡◌, ℕ, suc, ◌<◌, true, false, List, [], ◌∷◌, length, take, Option, Some, None, refl, sym, ap, ap₂, subst, ◌∙◌, arith}
+use Rattle.std.proofs.Common.{◌≡◌, ℕ, ◌<◌, Bool, true, false, List, [], ◌∷◌, length, take, Option, Some, None, refl, sym, ap, ap₂, subst, ◌∙◌, arith}
 use Rattle.std.specs.Prelude.{Contains}
 use Rattle.std.specs.List.{list_all}
 use Rattle.std.proofs.Math.Seq.{take-append_seam}
@@ -24,7 +24,7 @@ use Rattle.sb_rulebook.specs.Accepted.{asked_in}
 use Rattle.sb_rulebook.specs.Atoms.{AtomOver, bool_atom}
 use Rattle.sb_rulebook.specs.Kept.{AllKept, Asked}
 use Rattle.sb_sound.specs.Tables.{is_table}
-use Rattle.sb_sound.specs.SoundLaws.{AreTerms}
+use Rattle.sb_sound.specs.SoundLaws.{AreTerms, FollowsByRule, LineStaysSound, CountedAgainStaysSound}
 use Rattle.sb_stack.specs.Stacked.{Stacked, state_of, assertion_in}
 use Rattle.sb_stack.proofs.CallerLemmas.{live_laid}
 use Rattle.sb_atoms.specs.GateClauses.{atom_at, clauses_of}
@@ -47,6 +47,7 @@ use Rattle.sb_solve.specs.Answered.{AreLiterals, IsAnswered}
 use Rattle.sb_solve.specs.Searched.{IsSearched}
 use Rattle.sb_solve.specs.Solved.{AreOfLevels, IsSolved}
 use Rattle.sb_solve.specs.Stating.{AreStated}
+use Rattle.sb_solve.specs.Truth.{IsTrue}
 use Rattle.sb_solve.specs.Concluding.{AreReady, AreTaken, Comes, HasCore, HasNoValues, IsConcluded, IsEnded, IsGoneOver, IsGrown, IsLeft}
 use Rattle.sb_solve.specs.declared.searching.Searched.{Searched}
 use Rattle.sb_solve.specs.declared.check.Concluded.{Concluded}
@@ -56,14 +57,9 @@ use Rattle.sb_solve.specs.declared.check.Solved.TheVariants as solved
 use Rattle.sb_solve.proofs.Deciding.{all_in}
 use Rattle.sb_solve.proofs.Ended.{core_of, has_room, have_atoms, kept_grown}
 use Rattle.sb_solve.proofs.Stated.{are_literals, are_of_table}
+use Rattle.sb_solve.proofs.Truths.{contains_first, contains_later, true-behind, true-following}
 
 -- The gates of atoms that are wanted.
-
-contains_first : {X : Type 0} (x : X) (xs : List X) → Contains (x ∷ xs) x
-contains_first x xs = (0, omega arith, refl)
-
-contains_later : {X : Type 0} (y : X) (xs : List X) (x : X) → Contains xs x → Contains (y ∷ xs) x
-contains_later y xs x h = let less = h.1 in (suc h.0, omega (arith, less), h.2)
 
 are_kept : (kept : Kept) (clauses : List (List Lit)) → ((clause : List Lit) → Contains clauses clause → IsKept kept clause)
     → AreKept kept clauses
@@ -94,12 +90,12 @@ gated atoms old kept (l ∷ ls) wanted grows gates are known i there =
 
 -- What is known where a search ended.
 
-pub ended : (more : List Regex) (memo : Memo) (parts : Parts) (literals : List Lit) (x : Searched)
+pub ended : (more : List Regex) (memo : Memo) (parts : Parts) (literals : List Lit) (proves : Bool) (x : Searched)
     (before after : Spending) (between new : Option (List ℕ)) (count : ℕ)
     → Stand parts.atoms parts.engine.kept parts.asserted.items parts.refuted parts.gates
-    → IsSearched more memo parts literals before after between new x → count ≡ length parts.engine.kept
+    → IsSearched more memo parts literals proves before after between new x → count ≡ length parts.engine.kept
     → IsEnded count x
-ended more memo parts literals x before after between new count stands searched is = record {
+ended more memo parts literals proves x before after between new count stands searched is = record {
   stands = front;
   known = ap (λ (ts : List (AtomOver ℕ)). has_room_for (length ts) x.parts.engine.kept) searched.atoms
       ∙ has_room parts.atoms x.parts.engine.kept
@@ -120,11 +116,11 @@ ended more memo parts literals x before after between new count stands searched 
 
 -- the literals are those of the live assertions, whose clauses are kept
 module _ (s : Stacked) (rs more : List Regex) (memo : Memo) (e : Backing) (parts : Parts) (told between : Option (List ℕ))
-    (literals : List Lit) (x : Searched) (before after : Spending) (new : Option (List ℕ))
+    (literals : List Lit) (proves : Bool) (x : Searched) (before after : Spending) (new : Option (List ℕ))
     (stated : AreStated s rs more e (backing_of parts) told between literals)
     (long : length literals ≡ length s.assertions)
     (stands : Stand parts.atoms parts.engine.kept parts.asserted.items parts.refuted parts.gates)
-    (searched : IsSearched more memo parts literals before after between new x) where
+    (searched : IsSearched more memo parts literals proves before after between new x) where
   table : (rs : List Regex) → is_table (atoms_in rs parts.atoms) ≡ true
   table rs = earlier_table rs parts.atoms stands.earlier
 
@@ -226,21 +222,47 @@ module _ (s : Stacked) (rs more : List Regex) (memo : Memo) (e : Backing) (parts
       subst (λ (f : Backing). Backs rs memo f kept) (sym left.evidence)
       (record { tracks = b.tracks; atoms = b.atoms; clauses = b.clauses; asserted = b.asserted })
 
-  lines : (c : Concluded) → IsLeft x c → (start : AllKept) → Backs rs memo e start
+  larger : (c : Concluded) → IsLeft x c → (kept : AllKept) → Backs x.arena x.graph.memo (backing_of x.parts) kept
+      → Backs c.arena c.graph.memo c.evidence kept
+  larger c left kept b =
+      changed c left c.arena c.graph.memo kept
+      (backs-grown x.arena c.arena x.graph.memo c.graph.memo (backing_of x.parts) kept left.extends left.derivatives
+      searched.regexes b)
+
+  lines : (c : Concluded) → IsLeft x c → proves ≡ true → (start : AllKept) → Backs rs memo e start
       → IsCounted (asked_in (state_of s)) start before
       → Evidences (asked_in (state_of s)) start c.arena c.graph.memo c.evidence after told new
-  lines c left start b counted =
+  lines c left on start b counted =
       let p = stated.puts memo start b in
-      let q = searched.puts known_atoms (asked_in (state_of s)) p.after p.backs
+      let q = searched.puts on known_atoms (asked_in (state_of s)) p.after p.backs
       (counted_behind (asked_in (state_of s)) start p.after p.counted counted) in
       record {
         after = q.after;
         puts = puts_both (asked_in (state_of s)) start p.after q.after told between new p.puts q.puts;
-        backs = changed c left c.arena c.graph.memo q.after
-            (backs-grown x.arena c.arena x.graph.memo c.graph.memo (backing_of x.parts) q.after left.extends
-            left.derivatives searched.regexes q.backs);
+        backs = larger c left q.after q.backs;
         counts = q.counts;
       }
+
+  -- what is true, where the search puts no lines
+  true_before : FollowsByRule → LineStaysSound → CountedAgainStaysSound → AreTerms (asked_in (state_of s))
+      → IsTrue (asked_in (state_of s)) rs memo e → IsTrue (asked_in (state_of s)) more memo (backing_of parts)
+  true_before rule line again terms t =
+      let p = stated.puts memo t.kept t.backs in
+      true-behind rule line again (asked_in (state_of s)) rs more memo memo e (backing_of parts) terms t p.after told
+      between p.puts p.backs
+
+  true_searched : proves ≡ false → IsTrue (asked_in (state_of s)) more memo (backing_of parts)
+      → IsTrue (asked_in (state_of s)) x.arena x.graph.memo (backing_of x.parts)
+  true_searched off =
+      true-following (asked_in (state_of s)) more x.arena memo x.graph.memo (backing_of parts) (backing_of x.parts)
+      (searched.silent off) searched.atoms searched.asserted searched.kept (searched.known known_atoms)
+      searched.follows searched.extends searched.derivatives stated.regexes
+
+  true_left : (c : Concluded) → IsLeft x c
+      → IsTrue (asked_in (state_of s)) x.arena x.graph.memo (backing_of x.parts)
+      → IsTrue (asked_in (state_of s)) c.arena c.graph.memo c.evidence
+  true_left c left t =
+      record { kept = t.kept; backs = larger c left t.kept t.backs; sound = t.sound; counted = t.counted }
 
   levels : (c : Concluded) → IsLeft x c
       → AreOfLevels (asked_in (state_of s)).live e.asserted c.evidence.asserted
@@ -277,50 +299,62 @@ ready_of t rs g m e backing arena graph memory stands trail is_graph is_right be
 }
 
 module _ (s : Stacked) (rs more : List Regex) (g : Findings) (e f : Backing) (t : Tables) (told between : Option (List ℕ))
-    (literals slice : List Lit) (before after : Spending) (new : Option (List ℕ)) (c : Concluded)
+    (literals slice : List Lit) (proves : Bool) (before after : Spending) (new : Option (List ℕ)) (c : Concluded)
     (stated : AreStated s rs more e f told between literals) (long : length literals ≡ length s.assertions)
     (taken : AreTaken more g f t) (ready : AreReady t) (same : slice ≡ literals)
-    (given : IsGoneOver s t slice before after between new c) where
-  over : IsGoneOver s t literals before after between new c
-  over = subst (λ (ls : List Lit). IsGoneOver s t ls before after between new c) same given
+    (given : IsGoneOver s t slice proves before after between new c) where
+  over : IsGoneOver s t literals proves before after between new c
+  over = subst (λ (ls : List Lit). IsGoneOver s t ls proves before after between new c) same given
 
   stated_taken : AreStated s rs more e (backing_of t.parts) told between literals
   stated_taken = subst (λ (b : Backing). AreStated s rs more e b told between literals) (sym taken.backing) stated
 
-  run_taken : IsSearched more g.memo t.parts literals before after between new over.searched
+  run_taken : IsSearched more g.memo t.parts literals proves before after between new over.searched
   run_taken =
-      subst (λ (h : Findings). IsSearched more h.memo t.parts literals before after between new over.searched)
+      subst (λ (h : Findings). IsSearched more h.memo t.parts literals proves before after between new over.searched)
       taken.graph
-      (subst (λ (xs : List Regex). IsSearched xs t.graph.memo t.parts literals before after between new over.searched)
-      taken.arena over.run)
+      (subst (λ (xs : List Regex). IsSearched xs t.graph.memo t.parts literals proves before after between new
+      over.searched) taken.arena over.run)
 
-  pub puts : (start : AllKept) → Backs rs g.memo e start → IsCounted (asked_in (state_of s)) start before
+  pub puts : proves ≡ true → (start : AllKept) → Backs rs g.memo e start
+      → IsCounted (asked_in (state_of s)) start before
       → Evidences (asked_in (state_of s)) start c.arena c.graph.memo c.evidence after told new
-  puts = lines s rs more g.memo e t.parts told between literals over.searched before after new stated_taken long
-      ready.stands run_taken c over.concluded.left
+  puts = lines s rs more g.memo e t.parts told between literals proves over.searched before after new
+      stated_taken long ready.stands run_taken c over.concluded.left
+
+  pub sound : FollowsByRule → LineStaysSound → CountedAgainStaysSound → proves ≡ false
+      → AreTerms (asked_in (state_of s)) → IsTrue (asked_in (state_of s)) rs g.memo e
+      → IsTrue (asked_in (state_of s)) c.arena c.graph.memo c.evidence
+  sound rule line again off terms before_it =
+      true_left s rs more g.memo e t.parts told between literals proves over.searched before after new
+      stated_taken long ready.stands run_taken c over.concluded.left
+      (true_searched s rs more g.memo e t.parts told between literals proves over.searched before after new
+      stated_taken long ready.stands run_taken off
+      (true_before s rs more g.memo e t.parts told between literals proves over.searched before after new
+      stated_taken long ready.stands run_taken rule line again terms before_it))
 
   pub answer : IsSolved s rs g.memo e c.evidence after c.solved
-  answer = solution s rs more g.memo e t.parts told between literals over.searched before after new stated_taken long
-      ready.stands run_taken c over.concluded
+  answer = solution s rs more g.memo e t.parts told between literals proves over.searched before after new
+      stated_taken long ready.stands run_taken c over.concluded
 
   pub of_levels : AreOfLevels (asked_in (state_of s)).live e.asserted c.evidence.asserted
-  of_levels = levels s rs more g.memo e t.parts told between literals over.searched before after new stated_taken long
-      ready.stands run_taken c over.concluded.left
+  of_levels = levels s rs more g.memo e t.parts told between literals proves over.searched before after new
+      stated_taken long ready.stands run_taken c over.concluded.left
 
   pub grown_before : Extends more c.arena
   grown_before = extends_more more over.searched.arena c.arena run_taken.extends over.concluded.left.extends
 
   pub grown : Extends rs c.arena
-  grown = grows s rs more g.memo e t.parts told between literals over.searched before after new stated_taken long
-      ready.stands run_taken c over.concluded.left
+  grown = grows s rs more g.memo e t.parts told between literals proves over.searched before after new
+      stated_taken long ready.stands run_taken c over.concluded.left
 
   pub derivatives_kept : KeepsEntries g.memo c.graph.memo
-  derivatives_kept = still s rs more g.memo e t.parts told between literals over.searched before after new stated_taken
-      long ready.stands run_taken c over.concluded.left
+  derivatives_kept = still s rs more g.memo e t.parts told between literals proves over.searched before after new
+      stated_taken long ready.stands run_taken c over.concluded.left
 
   pub regexes_below : HaveRegexesBelow (length c.arena) c.evidence.atoms
-  regexes_below = below s rs more g.memo e t.parts told between literals over.searched before after new stated_taken long
-      ready.stands run_taken c over.concluded.left
+  regexes_below = below s rs more g.memo e t.parts told between literals proves over.searched before after new
+      stated_taken long ready.stands run_taken c over.concluded.left
 
 -- Where there are no values.
 

@@ -1,5 +1,5 @@
 -- What a search leaves, and what comes of it.
-use Rattle.std.proofs.Common.{◌≡◌, ℕ, zero, suc, true, List, [], ◌∷◌, ◌++◌, length, Option, Some, None, Err, refl, sym, ap, subst, ◌∙◌}
+use Rattle.std.proofs.Common.{◌≡◌, ℕ, zero, suc, Bool, true, List, [], ◌∷◌, ◌++◌, length, Option, Some, None, Err, refl, sym, ap, subst, ◌∙◌}
 use Rattle.std.specs.List.{list_all}
 use Rattle.std.proofs.lemmas.Bool.{and_parts, and_from, false≢true}
 use Rattle.sb_lit.specs.declared.clause.Lit.{Lit}
@@ -17,12 +17,13 @@ use Rattle.sb_trace.specs.Putting.{CountsTapeFault}
 use Rattle.sb_refute.specs.declared.evidence.Asserted.{Asserted}
 use Rattle.sb_refute.specs.declared.evidence.Parts.{Parts}
 use Rattle.sb_refute.specs.Backing.{asserted_at, unit_at}
+use Rattle.sb_search.specs.Following.{FollowsByLevel}
 use Rattle.sb_search.specs.Found.{GrowsTo, IsFound}
 use Rattle.sb_search.specs.Writing.{AreKnown, written}
 use Rattle.sb_search.specs.declared.found.Found.{Found}
 use Rattle.sb_search.specs.declared.found.Found.TheVariants as found
 use Rattle.sb_theory.specs.Strings as theory
-use Rattle.sb_theory.specs.Memberships.{HaveAtoms, are_atoms, is_atom}
+use Rattle.sb_theory.specs.Memberships.{HaveAtoms, IsValid, are_atoms, is_atom}
 use Rattle.sb_solve.specs.Wanted.{AreWanted}
 use Rattle.sb_solve.specs.Searched.{IsSearched}
 use Rattle.sb_solve.specs.Begun.{AreAmong, HasRun, IsOver, Runs, parts_of, searched_of}
@@ -49,14 +50,16 @@ kept_grown old new id clause g h =
 pub none_known : (knows : ℕ → Type 0) → AreKnown knows []
 none_known knows = λ l h. absurd (false≢true h)
 
-pub searched_over : (b c : Begun) (literals : List Lit) (before after : Spending) (old new : Option (List ℕ)) (f : Found)
-    → b.strings.proves ≡ true → Runs b c before after old new f → AreDistinct b.strings.atoms
+pub searched_over : (b c : Begun) (literals : List Lit) (proves : Bool) (before after : Spending)
+    (old new : Option (List ℕ)) (f : Found) → b.strings.proves ≡ proves → Runs b c before after old new f
+    → AreDistinct b.strings.atoms
     → AreWanted b.strings.atoms literals b.strings.wanted.items
     → ((rs : List Regex) → is_table (atoms_in rs b.strings.atoms) ≡ true
     → are_atoms b.strings.atoms literals ≡ true
     → list_all (is_atom b.strings.atoms) b.strings.wanted.items ≡ true)
-    → IsSearched b.strings.arena b.strings.graph.memo (parts_of b) literals before after old new (searched_of c f)
-searched_over b c literals before after old new f proves r distinct are among = record {
+    → IsSearched b.strings.arena b.strings.graph.memo (parts_of b) literals proves before after old new
+    (searched_of c f)
+searched_over b c literals proves before after old new f same r distinct are among = record {
   graph = r.stands.holds.graph;
   plain = r.stands.holds.plain;
   extends = r.writes.extends;
@@ -68,7 +71,10 @@ searched_over b c literals before after old new f proves r distinct are among = 
   gates = r.gates;
   kept = r.kept;
   known = λ h. subst (λ (ts : List (AtomOver ℕ)). HaveAtoms ts c.engine.kept) r.writes.atoms (r.writes.known h);
-  puts = λ known asked kept e counted.
+  follows = subst (λ (ts : List (AtomOver ℕ)). FollowsByLevel (IsValid c.strings.arena ts) b.engine.kept c.engine.kept)
+      r.writes.atoms r.follows;
+  silent = λ off. r.writes.silent (same ∙ off);
+  puts = λ on known asked kept e counted.
       let start : theory.Backs asked b.strings kept (written b.engine.kept before old) = record {
         tracks = e.tracks;
         atoms = e.atoms;
@@ -76,7 +82,7 @@ searched_over b c literals before after old new f proves r distinct are among = 
         known = known;
         counted = counted;
       } in
-      let lines = r.writes.lines proves asked kept start in
+      let lines = r.writes.lines (same ∙ on) asked kept start in
       record {
         after = lines.0;
         puts = lines.1;
@@ -100,36 +106,38 @@ searched_over b c literals before after old new f proves r distinct are among = 
 
 -- over the tables that it was given
 pub searched_from : (b : Begun) (arena : List Regex) (graph : Findings) (parts : Parts) (literals : List Lit)
-    (before after : Spending) (old new : Option (List ℕ)) (s : Searched) → b.strings.arena ≡ arena
+    (proves : Bool) (before after : Spending) (old new : Option (List ℕ)) (s : Searched) → b.strings.arena ≡ arena
     → b.strings.graph ≡ graph → parts_of b ≡ parts
-    → IsSearched b.strings.arena b.strings.graph.memo (parts_of b) literals before after old new s
-    → IsSearched arena graph.memo parts literals before after old new s
-searched_from b arena graph parts literals before after old new s is_arena is_graph is_parts h =
-    subst (λ (ps : Parts). IsSearched arena graph.memo ps literals before after old new s) is_parts
-    (subst (λ (g : Findings). IsSearched arena g.memo (parts_of b) literals before after old new s) is_graph
-    (subst (λ (rs : List Regex). IsSearched rs b.strings.graph.memo (parts_of b) literals before after old new s)
+    → IsSearched b.strings.arena b.strings.graph.memo (parts_of b) literals proves before after old new s
+    → IsSearched arena graph.memo parts literals proves before after old new s
+searched_from b arena graph parts literals proves before after old new s is_arena is_graph is_parts h =
+    subst (λ (ps : Parts). IsSearched arena graph.memo ps literals proves before after old new s) is_parts
+    (subst (λ (g : Findings). IsSearched arena g.memo (parts_of b) literals proves before after old new s) is_graph
+    (subst
+    (λ (rs : List Regex). IsSearched rs b.strings.graph.memo (parts_of b) literals proves before after old new s)
     is_arena h))
 
-pub over_atoms : (arena : List Regex) (graph : Findings) (parts : Parts) (wanted : List ℕ) (b : Begun)
-    → IsOver arena graph parts wanted b → b.strings.atoms ≡ parts.atoms
-over_atoms arena graph parts wanted b o = ap (λ (p : Parts). p.atoms) o.parts
+pub over_atoms : (arena : List Regex) (graph : Findings) (parts : Parts) (wanted : List ℕ) (proves : Bool) (b : Begun)
+    → IsOver arena graph parts wanted proves b → b.strings.atoms ≡ parts.atoms
+over_atoms arena graph parts wanted proves b o = ap (λ (p : Parts). p.atoms) o.parts
 
-pub over_trail : (arena : List Regex) (graph : Findings) (parts : Parts) (wanted : List ℕ) (b : Begun)
-    → IsOver arena graph parts wanted b → parts.engine.trail.literals ≡ [] → b.engine.trail.literals ≡ []
-over_trail arena graph parts wanted b o none = ap (λ (p : Parts). p.engine.trail.literals) o.parts ∙ none
+pub over_trail : (arena : List Regex) (graph : Findings) (parts : Parts) (wanted : List ℕ) (proves : Bool) (b : Begun)
+    → IsOver arena graph parts wanted proves b → parts.engine.trail.literals ≡ [] → b.engine.trail.literals ≡ []
+over_trail arena graph parts wanted proves b o none = ap (λ (p : Parts). p.engine.trail.literals) o.parts ∙ none
 
 pub searched_by : (arena : List Regex) (graph : Findings) (parts : Parts) (literals : List Lit) (wanted : List ℕ)
-    (b : Begun) (s : Searched) (before after : Spending) (old new : Option (List ℕ)) → IsOver arena graph parts wanted b
-    → HasRun b before after old new s → AreDistinct parts.atoms → AreWanted parts.atoms literals wanted
-    → AreAmong parts.atoms literals wanted → IsSearched arena graph.memo parts literals before after old new s
-searched_by arena graph parts literals wanted b s before after old new o r distinct are among =
-    subst (λ (t : Searched). IsSearched arena graph.memo parts literals before after old new t) (sym r.3)
-    (searched_from b arena graph parts literals before after old new (searched_of r.0 r.1) o.arena o.graph o.parts
-    (searched_over b r.0 literals before after old new r.1 o.proves r.2 (subst AreDistinct atoms distinct) is_wanted
-    is_among))
+    (proves : Bool) (b : Begun) (s : Searched) (before after : Spending) (old new : Option (List ℕ))
+    → IsOver arena graph parts wanted proves b → HasRun b before after old new s → AreDistinct parts.atoms
+    → AreWanted parts.atoms literals wanted → AreAmong parts.atoms literals wanted
+    → IsSearched arena graph.memo parts literals proves before after old new s
+searched_by arena graph parts literals wanted proves b s before after old new o r distinct are among =
+    subst (λ (t : Searched). IsSearched arena graph.memo parts literals proves before after old new t) (sym r.3)
+    (searched_from b arena graph parts literals proves before after old new (searched_of r.0 r.1) o.arena o.graph
+    o.parts (searched_over b r.0 literals proves before after old new r.1 o.proves r.2 (subst AreDistinct atoms distinct)
+    is_wanted is_among))
   where
     atoms : parts.atoms ≡ b.strings.atoms
-    atoms = sym (over_atoms arena graph parts wanted b o)
+    atoms = sym (over_atoms arena graph parts wanted proves b o)
 
     is_wanted : AreWanted b.strings.atoms literals b.strings.wanted.items
     is_wanted = subst (AreWanted b.strings.atoms literals) (sym o.wanted)

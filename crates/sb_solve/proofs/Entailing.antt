@@ -127,7 +127,7 @@ searched_entailed asked rs atoms old new h follows = λ id clause there v words 
 
 -- The script goes on.
 
-slice_there : {X : Type 0} → (xs : List X) (k : ℕ) (x : X) → k < length xs → get_or xs k x ≡ x
+pub slice_there : {X : Type 0} → (xs : List X) (k : ℕ) (x : X) → k < length xs → get_or xs k x ≡ x
     → slice_get xs k ≡ Some x
 slice_there [] k x below h = absurd (omega (arith, below))
 slice_there (y ∷ ys) zero x below h = ap Some h

@@ -9,4 +9,6 @@ pub mod PlainModels
 pub mod LiveRows
 pub mod Stated
 pub mod Ended
+pub mod Truths
 pub mod Answering
+pub mod CallerLemmas

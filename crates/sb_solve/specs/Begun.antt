@@ -41,14 +41,14 @@ searched_of b f = record {
 }
 
 -- the theory is over these tables, and has taken in nothing; whether it puts lines
-pub record IsOver (rs : List Regex) (findings : Findings) (given : Parts) (atoms : List ℕ) (proves : Bool) (b : Begun) :
+pub record IsOver (rs : List Regex) (findings : Findings) (given : Parts) (atoms : List ℕ) (on : Bool) (b : Begun) :
     Type 0
   where
     pub arena : b.strings.arena ≡ rs
     pub graph : b.strings.graph ≡ findings
     pub parts : parts_of b ≡ given
     pub stands : Stands b.strings []
-    pub proves : b.strings.proves ≡ proves
+    pub proves : b.strings.proves ≡ on
     pub wanted : b.strings.wanted.items ≡ atoms
 
 -- What a search makes of what it goes over.

@@ -6,8 +6,8 @@ use Rattle.sb_rulebook.specs.Kept.{AllKept, Asked}
 use Rattle.sb_sound.specs.SoundLaws.{IsSound}
 use Rattle.sb_refute.specs.Backing.{Backing, Backs}
 
--- A reader that keeps what the evidence knows keeps nothing but what is true of what is asked, whether lines led there or
--- not. No line is counted.
+-- A reader that keeps what the evidence knows keeps nothing but what is true of what is asked, whether lines led there
+-- or not. No line is counted.
 pub record IsTrue (asked : Asked) (rs : List Regex) (memo : Memo) (e : Backing) : Type 0 where
   pub kept : AllKept
   pub backs : Backs rs memo e kept

@@ -6,7 +6,7 @@ pub conclude-requires : goal.conclude-requires
 conclude-requires g c =
     let t = c.args.tables in
     record {
-      ended = ended t.arena t.graph.memo t.parts c.args.literals.now c.in_ok-searched.searched _ _ _ _
+      ended = ended t.arena t.graph.memo t.parts c.args.literals.now c.args.proves c.in_ok-searched.searched _ _ _ _
           c.len-before.result c.requires.ready.stands c.in_ok-searched.ensures.searched
           (c.len-before.ensures ∙ ap length c.clauses.ensures);
     }

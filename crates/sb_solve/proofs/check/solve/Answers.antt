@@ -3,7 +3,7 @@ use Rattle.std.proofs.lemmas.Result.{IfOk-from_err, err_from_is_err_and}
 use Rattle.std.specs.declared.alloc.Global.{Global}
 use Rattle.std.specs.declared.vec.Vec.{Vec}
 use Rattle.sb_term.proofs.CallerLemmas.{extends_same}
-use Rattle.sb_solve.proofs.Answering.{puts, answer, of_levels, grown_before, grown, derivatives_kept, regexes_below}
+use Rattle.sb_solve.proofs.Answering.{puts, sound, answer, of_levels, grown_before, grown, derivatives_kept, regexes_below}
 use Rattle.sb_lit.specs.declared.clause.Lit.{Lit}
 use Rattle.sb_solve.specs.declared.check.Concluded.{Concluded}
 use Rattle.sb_trace.proofs.CallerLemmas.{counts_on}
@@ -26,35 +26,43 @@ taken-tables-requires-clause-regexes g c = c.in_ok-literals.ensures.stated.regex
 pub returns-clause-puts : goal.returns-clause-puts
 returns-clause-puts g c =
     rw (c.put_back.ensures.evidence, c.put_back.ensures.arena, c.put_back.ensures.graph)
-    (puts _ _ _ _ _ _ _ _ _ _ _ _ _ _ _ c.in_ok-literals.ensures.stated c.in_ok-literals.ensures.long
+    (puts _ _ _ _ _ _ _ _ _ _ _ _ _ _ _ _ c.in_ok-literals.ensures.stated c.in_ok-literals.ensures.long
     c.taken-tables.ensures.taken c.taken-tables.ensures.ready c.deref.ensures.value
     c.in_ok-concluded.ensures.over)
 
 pub returns-clause-answer : goal.returns-clause-answer
 returns-clause-answer g c =
     rw (c.put_back.ensures.evidence, c.put_back.ensures.solved)
-    (answer _ _ _ _ _ _ _ _ _ _ _ _ _ _ _ c.in_ok-literals.ensures.stated c.in_ok-literals.ensures.long
+    (answer _ _ _ _ _ _ _ _ _ _ _ _ _ _ _ _ c.in_ok-literals.ensures.stated c.in_ok-literals.ensures.long
     c.taken-tables.ensures.taken c.taken-tables.ensures.ready c.deref.ensures.value
     c.in_ok-concluded.ensures.over)
+
+pub returns-clause-sound : goal.returns-clause-sound
+returns-clause-sound g c =
+    rw (c.put_back.ensures.evidence, c.put_back.ensures.arena, c.put_back.ensures.graph)
+    (sound _ _ _ _ _ _ _ _ _ _ _ _ _ _ _ _ c.in_ok-literals.ensures.stated c.in_ok-literals.ensures.long
+    c.taken-tables.ensures.taken c.taken-tables.ensures.ready c.deref.ensures.value
+    c.in_ok-concluded.ensures.over c.follows_by_rule.ensures c.line_stays_sound.ensures
+    c.counted_again_stays_sound.ensures)
 
 pub returns-clause-levels : goal.returns-clause-levels
 returns-clause-levels g c =
     rw c.put_back.ensures.evidence
-    (of_levels _ _ _ _ _ _ _ _ _ _ _ _ _ _ _ c.in_ok-literals.ensures.stated c.in_ok-literals.ensures.long
+    (of_levels _ _ _ _ _ _ _ _ _ _ _ _ _ _ _ _ c.in_ok-literals.ensures.stated c.in_ok-literals.ensures.long
     c.taken-tables.ensures.taken c.taken-tables.ensures.ready c.deref.ensures.value
     c.in_ok-concluded.ensures.over)
 
 pub returns-clause-extends : goal.returns-clause-extends
 returns-clause-extends g c =
     rw c.put_back.ensures.arena
-    (grown _ _ _ _ _ _ _ _ _ _ _ _ _ _ _ c.in_ok-literals.ensures.stated c.in_ok-literals.ensures.long
+    (grown _ _ _ _ _ _ _ _ _ _ _ _ _ _ _ _ c.in_ok-literals.ensures.stated c.in_ok-literals.ensures.long
     c.taken-tables.ensures.taken c.taken-tables.ensures.ready c.deref.ensures.value
     c.in_ok-concluded.ensures.over)
 
 pub returns-clause-derivatives_stay : goal.returns-clause-derivatives_stay
 returns-clause-derivatives_stay g c =
     rw c.put_back.ensures.graph
-    (derivatives_kept _ _ _ _ _ _ _ _ _ _ _ _ _ _ _ c.in_ok-literals.ensures.stated c.in_ok-literals.ensures.long
+    (derivatives_kept _ _ _ _ _ _ _ _ _ _ _ _ _ _ _ _ c.in_ok-literals.ensures.stated c.in_ok-literals.ensures.long
     c.taken-tables.ensures.taken c.taken-tables.ensures.ready c.deref.ensures.value
     c.in_ok-concluded.ensures.over)
 
@@ -76,7 +84,7 @@ returns-clause-normals g c =
     let ts = c.args.stack.now.table in
     rw c.put_back.ensures.arena
     (c.normals_stay.ensures ts ts c.literals.new.arena _ c.literals.new.normals (extends_same ts)
-    (grown_before _ _ _ _ _ _ _ _ _ _ _ _ _ _ _ c.in_ok-literals.ensures.stated c.in_ok-literals.ensures.long
+    (grown_before _ _ _ _ _ _ _ _ _ _ _ _ _ _ _ _ c.in_ok-literals.ensures.stated c.in_ok-literals.ensures.long
     c.taken-tables.ensures.taken c.taken-tables.ensures.ready c.deref.ensures.value
     c.in_ok-concluded.ensures.over)
     c.in_ok-literals.ensures.normals)
@@ -84,7 +92,7 @@ returns-clause-normals g c =
 pub returns-clause-regexes : goal.returns-clause-regexes
 returns-clause-regexes g c =
     rw (c.put_back.ensures.arena, c.put_back.ensures.evidence)
-    (regexes_below _ _ _ _ _ _ _ _ _ _ _ _ _ _ _ c.in_ok-literals.ensures.stated c.in_ok-literals.ensures.long
+    (regexes_below _ _ _ _ _ _ _ _ _ _ _ _ _ _ _ _ c.in_ok-literals.ensures.stated c.in_ok-literals.ensures.long
     c.taken-tables.ensures.taken c.taken-tables.ensures.ready c.deref.ensures.value
     c.in_ok-concluded.ensures.over)
 
@@ -98,6 +106,7 @@ returns-in_err-literals g c =
     record {
       puts = IfOk-from_err x.result _ x.ensures.0;
       answer = IfOk-from_err x.result _ x.ensures.0;
+      sound = IfOk-from_err x.result _ x.ensures.0;
       levels = IfOk-from_err x.result _ x.ensures.0;
       extends = IfOk-from_err x.result _ x.ensures.0;
       derivatives_stay = IfOk-from_err x.result _ x.ensures.0;
@@ -116,6 +125,7 @@ returns-in_err-concluded g c =
     record {
       puts = IfOk-from_err x.result _ x.ensures.0;
       answer = IfOk-from_err x.result _ x.ensures.0;
+      sound = IfOk-from_err x.result _ x.ensures.0;
       levels = IfOk-from_err x.result _ x.ensures.0;
       extends = IfOk-from_err x.result _ x.ensures.0;
       derivatives_stay = IfOk-from_err x.result _ x.ensures.0;

@@ -8,6 +8,7 @@ returns-clause-runs g c =
     record {
       stands = s.stands;
       kept = s.kept;
+      follows = s.follows_by_level;
       writes = s.puts (none_known _);
       wanted = c.search.ensures.wanted;
       found = s.found;

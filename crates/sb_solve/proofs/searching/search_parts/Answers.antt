@@ -9,15 +9,15 @@ use Rattle.sb_solve.proofs.searching.search_parts.Goals as goal
 pub run_over-requires-clause-trail : goal.run_over-requires-clause-trail
 run_over-requires-clause-trail g c =
     let t = c.args.tables in
-    over_trail t.arena t.graph t.parts _ c.over.result c.over.ensures c.requires.trail
+    over_trail t.arena t.graph t.parts _ c.args.proves c.over.result c.over.ensures c.requires.trail
 
 pub returns-in-Ok : goal.returns-in-Ok
 returns-in-Ok g c =
     let t = c.args.tables in
     record {
       searched = IfOk-weaker c.run_over.result _ _
-          (λ s runs. searched_by t.arena t.graph t.parts c.args.literals.now _ c.over.result s _ _ _ _ c.over.ensures runs
-          c.wanted_of.ensures.distinct c.in-Ok.ensures.wanted c.in-Ok.ensures.among)
+          (λ s runs. searched_by t.arena t.graph t.parts c.args.literals.now _ c.args.proves c.over.result s _ _ _ _
+          c.over.ensures runs c.wanted_of.ensures.distinct c.in-Ok.ensures.wanted c.in-Ok.ensures.among)
           c.run_over.ensures.runs;
       counts = c.run_over.ensures.counts;
     }

@@ -1,0 +1,252 @@
+-- What stays true of the evidence: where lines are put that follow, and where clauses that follow are kept by no lines.
+use Rattle.std.proofs.Common.{◌≡◌, ◌⊎◌, ℕ, zero, suc, ◌+◌, ◌<◌, ◌≤◌, Bool, true, false, nat_lt, if◌then◌else◌, List, [], ◌∷◌, map, length, get_or, slice_get, Option, Some, None, unwrap_or, Result, Ok, Err, refl, sym, ap, subst, ◌∙◌, inl, inr, arith}
+use Rattle.std.specs.Prelude.{Contains}
+use Rattle.std.proofs.lemmas.Bool.{ltb-false, le-ltb}
+use Rattle.std.proofs.lemmas.List.{length-map}
+use Rattle.std.proofs.lemmas.Option.{slice_get_within, same_Some}
+use Rattle.sb_lit.specs.Kept.{Kept, KeptClause, kept_at}
+use Rattle.sb_lang.specs.Regex.{Regex}
+use Rattle.sb_deriv.specs.Faithful.{Memo, KeepsEntries}
+use Rattle.sb_regex.specs.Numbered.{Extends}
+use Rattle.sb_meaning.specs.Terms.{Term}
+use Rattle.sb_meaning.specs.Values.{Valuation}
+use Rattle.sb_rulebook.specs.Atoms.{Atom}
+use Rattle.sb_rulebook.specs.AtomRules.{are_known}
+use Rattle.sb_rulebook.specs.Refusals.{Refusal}
+use Rattle.sb_rulebook.specs.Lines.{Line}
+use Rattle.sb_rulebook.specs.Kept.{AllKept, Asked, count_again}
+use Rattle.sb_rulebook.specs.Follows.{follows}
+use Rattle.sb_sound.specs.SoundLaws.{AreTerms, IsSound, LevelsHold, PlacesHold, StandsAt, FollowsByRule, LineStaysSound, CountedAgainStaysSound}
+use Rattle.sb_atoms.specs.Numbered.{HaveRegexesBelow, atoms_in}
+use Rattle.sb_atoms.proofs.CallerLemmas.{atoms_kept}
+use Rattle.sb_trace.specs.Putting.{Puts, follow_all}
+use Rattle.sb_trace.specs.Tracking.{Traced, Tracks}
+use Rattle.sb_trace.proofs.CallerLemmas.{tracks_grow}
+use Rattle.sb_refute.specs.declared.evidence.Asserted.{Asserted}
+use Rattle.sb_refute.specs.Backing.{Backing, Backs, asserted_at, unit_at}
+use Rattle.sb_search.specs.Following.{FollowsByLevel}
+use Rattle.sb_search.specs.Found.{GrowsTo}
+use Rattle.sb_theory.specs.Memberships.{HaveAtoms, IsValid}
+use Rattle.sb_theory.specs.Laws.{are_known_in, tracks_kept}
+use Rattle.sb_solve.specs.Entailed.{AreEntailed}
+use Rattle.sb_solve.specs.Truth.{IsTrue}
+use Rattle.sb_solve.proofs.Ended.{kept_grown}
+use Rattle.sb_solve.proofs.Entailing.{searched_entailed, slice_there}
+
+-- Lines are put.
+
+-- what is counted says nothing of what is known
+pub backs-again : (rs : List Regex) (memo : Memo) (e : Backing) (kept : AllKept) → Backs rs memo e kept
+    → Backs rs memo e (count_again kept)
+backs-again rs memo e kept h = record {
+  tracks = tracks_kept rs memo e.trace kept kept.clauses kept.rests 0 h.tracks;
+  atoms = h.atoms;
+  clauses = h.clauses;
+  asserted = h.asserted;
+}
+
+-- lines that follow keep true what is kept
+pub sound-behind : FollowsByRule → LineStaysSound → (asked : Asked) → AreTerms asked → (ls : List Line)
+    → (kept after : AllKept) → IsSound asked kept → follow_all asked kept ls ≡ Ok after → IsSound asked after
+sound-behind rule line asked terms [] kept after sound h = subst (λ (k : AllKept). IsSound asked k) (same h) sound
+  where
+    same : ◌≡◌ {A = Result AllKept Refusal} (Ok kept) (Ok after) → kept ≡ after
+    same h = cc
+sound-behind rule line asked terms (l ∷ ls) kept after sound h =
+    step (λ mid. sound-behind rule line asked terms ls mid after) (follows asked kept l) refl h
+  where
+    never : (refusal : Refusal) → ◌≡◌ {A = Result AllKept Refusal} (Err refusal) (Ok after) → ⊥
+    never refusal h = cc
+
+    step : ((mid : AllKept) → IsSound asked mid → follow_all asked mid ls ≡ Ok after → IsSound asked after)
+        → (r : Result AllKept Refusal) → follows asked kept l ≡ r
+        → elim r as (λ _. Result AllKept Refusal)
+        [ Ok mid ↦ follow_all asked mid ls | Err refusal ↦ Err refusal ] ≡ Ok after
+        → IsSound asked after
+    step rest (Ok mid) is h = rest mid (line asked kept mid l terms sound (rule asked kept mid l is)) h
+    step rest (Err refusal) is h = absurd (never refusal h)
+
+-- Lines are put, and the next check may count again.
+pub true-behind : FollowsByRule → LineStaysSound → CountedAgainStaysSound → (asked : Asked) (rs more : List Regex)
+    (memo new : Memo) (e f : Backing) → AreTerms asked → (t : IsTrue asked rs memo e) (after : AllKept)
+    (old now : Option (List ℕ)) → Puts asked t.kept after old now → Backs more new f after → IsTrue asked more new f
+true-behind rule line again asked rs more memo new e f terms t after old now puts backs = record {
+  kept = count_again after;
+  backs = backs-again more new f after backs;
+  sound = again asked after (sound-behind rule line asked terms puts.lines t.kept after t.sound puts.follow);
+  counted = refl;
+}
+
+-- The places of live assertions of levels up to one.
+
+-- where the first of these assertions stands at this place
+abbrev places_from : ℕ → ℕ → List (Option Term × ℕ) → List ℕ
+places_from level place [] = []
+places_from level place (a ∷ live) =
+    if nat_lt level a.1 then places_from level (suc place) live else place ∷ places_from level (suc place) live
+
+pub contains_first : {X : Type 0} (x : X) (xs : List X) → Contains (x ∷ xs) x
+contains_first x xs = (0, omega arith, refl)
+
+pub contains_later : {X : Type 0} (y : X) (xs : List X) (x : X) → Contains xs x → Contains (y ∷ xs) x
+contains_later y xs x h = let less = h.1 in (suc h.0, omega (arith, less), h.2)
+
+contains_none : {X : Type 0} (x : X) → Contains [] x → ⊥
+contains_none x h = omega (arith, h.1)
+
+contains_cases : {X : Type 0} (x : X) (xs : List X) (y : X) → Contains (x ∷ xs) y → (x ≡ y) ⊎ Contains xs y
+contains_cases x xs y h = at h.0 h.1 h.2
+  where
+    at : (k : ℕ) → k < length (x ∷ xs) → get_or (x ∷ xs) k y ≡ y → (x ≡ y) ⊎ Contains xs y
+    at zero within is = inl is
+    at (suc k) within is = inr (k, omega (arith, within), is)
+
+-- such an assertion stands so far behind the first
+record StandsBehind (live : List (Option Term × ℕ)) (level first place : ℕ) : Type 0 where
+  behind : ℕ
+  is : place ≡ first + behind
+  stands : StandsAt live level behind
+
+stands_later : (a : Option Term × ℕ) (live : List (Option Term × ℕ)) (level first place : ℕ)
+    → StandsBehind live level (suc first) place → StandsBehind (a ∷ live) level first place
+stands_later a live level first place h =
+    let before = h.is in
+    record {
+      behind = suc h.behind;
+      is = omega (arith, before);
+      stands = record { assertion = h.stands.assertion; there = h.stands.there; low = h.stands.low };
+    }
+
+stands_among : (level first : ℕ) (live : List (Option Term × ℕ)) (place : ℕ)
+    → Contains (places_from level first live) place → StandsBehind live level first place
+stands_among level first [] place h = absurd (contains_none place h)
+stands_among level first (a ∷ live) place h =
+    step (nat_lt level a.1) refl (stands_among level (suc first) live place) h
+  where
+    step : (b : Bool) → nat_lt level a.1 ≡ b
+        → (Contains (places_from level (suc first) live) place → StandsBehind live level (suc first) place)
+        → Contains (if b then places_from level (suc first) live else first ∷ places_from level (suc first) live) place
+        → StandsBehind (a ∷ live) level first place
+    step true above rest h = stands_later a live level first place (rest h)
+    step false low rest h = elim (contains_cases first (places_from level (suc first) live) place h) [
+      | inl here ↦
+          record {
+            behind = 0;
+            is = omega (arith, here);
+            stands = record { assertion = a; there = refl; low = ltb-false level a.1 low };
+          }
+      | inr more ↦ stands_later a live level first place (rest more)
+    ]
+
+stands_at : (live : List (Option Term × ℕ)) (level place : ℕ) → Contains (places_from level 0 live) place
+    → StandsAt live level place
+stands_at live level place h =
+    let found = stands_among level 0 live place h in
+    let so_far = found.is in
+    let here : found.behind ≡ place = omega (arith, so_far) in
+    subst (λ (n : ℕ). StandsAt live level n) here found.stands
+
+-- and each of them is among the places
+among_places : (level first : ℕ) (live : List (Option Term × ℕ)) (k place : ℕ) (a : Option Term × ℕ)
+    → slice_get live k ≡ Some a → a.1 ≤ level → place ≡ first + k → Contains (places_from level first live) place
+among_places level first [] k place a there low at = absurd (omega (arith, slice_get_within [] k a there))
+among_places level first (b ∷ live) zero place a there low at =
+    let same = same_Some b a there in
+    let below = subst (λ (c : Option Term × ℕ). c.1 ≤ level) (sym same) low in
+    let here : first ≡ place = omega (arith, at) in
+    subst (λ (c : Bool). Contains
+    (if c then places_from level (suc first) live else first ∷ places_from level (suc first) live) place)
+    (sym (le-ltb level b.1 below))
+    (subst (λ (n : ℕ). Contains (first ∷ places_from level (suc first) live) n) here
+    (contains_first first (places_from level (suc first) live)))
+among_places level first (b ∷ live) (suc k) place a there low at =
+    step (nat_lt level b.1) (among_places level (suc first) live k place a there low (omega (arith, at)))
+  where
+    step : (c : Bool) → Contains (places_from level (suc first) live) place
+        → Contains (if c then places_from level (suc first) live else first ∷ places_from level (suc first) live) place
+    step true h = h
+    step false h = contains_later first (places_from level (suc first) live) place h
+
+-- where those at the places are true, all of them are
+levels_hold : (v : Valuation) (live : List (Option Term × ℕ)) (level : ℕ)
+    → PlacesHold v live (places_from level 0 live) → LevelsHold v live level
+levels_hold v live level h = λ a t among is low.
+    let there = slice_there live among.0 a among.1 among.2 in
+    h among.0 a t (among_places level 0 live among.0 among.0 a there low (omega arith)) there is
+
+-- Clauses are kept that follow, by no lines.
+
+-- a clause rests on all of those up to its level
+abbrev rest_of : List (Option Term × ℕ) → Option KeptClause → List ℕ
+rest_of live None = []
+rest_of live (Some clause) = places_from clause.level 0 live
+
+abbrev rests_on : List (Option Term × ℕ) → Kept → List (List ℕ)
+rests_on live kept = map (rest_of live) kept
+
+rests_there : (live : List (Option Term × ℕ)) (kept : Kept) (id : ℕ) (clause : KeptClause)
+    → kept_at kept id ≡ Some clause
+    → unwrap_or (slice_get (rests_on live kept) id) [] ≡ places_from clause.level 0 live
+rests_there live [] zero clause h = absurd (Prim.cc (h))
+rests_there live [] (suc id) clause h = absurd (Prim.cc (h))
+rests_there live (place ∷ kept) zero clause h = ap (rest_of live) h
+rests_there live (place ∷ kept) (suc id) clause h = rests_there live kept id clause h
+
+-- what is kept, with these clauses in place of its own
+abbrev keeping : Asked → AllKept → Kept → AllKept
+keeping asked kept now = record kept { clauses = now; rests = rests_on asked.live now; counted = 0 }
+
+sound-keeping : (asked : Asked) (kept : AllKept) (now : Kept) → IsSound asked kept
+    → ((id : ℕ) (clause : KeptClause) → kept_at now id ≡ Some clause → are_known kept.atoms clause.literals ≡ true)
+    → AreEntailed asked kept.atoms now → IsSound asked (keeping asked kept now)
+sound-keeping asked kept now sound known entailed = record {
+  table = sound.table;
+  right = sound.right;
+  empty = sound.empty;
+  expanded = sound.expanded;
+  died = sound.died;
+  resting = length-map now (rest_of asked.live);
+  known = known;
+  clauses = entailed;
+  places = λ id clause there place among.
+      stands_at asked.live clause.level place
+      (subst (λ (ps : List ℕ). Contains ps place) (rests_there asked.live now id clause there) among);
+  rested = λ id clause there v words sorts hold.
+      entailed id clause there v words sorts
+      (levels_hold v asked.live clause.level
+      (subst (λ (ps : List ℕ). PlacesHold v asked.live ps) (rests_there asked.live now id clause there) hold));
+}
+
+-- Clauses follow level by level, and what stands of regexes stays.
+pub true-following : (asked : Asked) (rs more : List Regex) (memo new : Memo) (e f : Backing) → f.trace ≡ e.trace
+    → f.atoms ≡ e.atoms → f.asserted ≡ e.asserted → GrowsTo e.kept f.kept → HaveAtoms e.atoms f.kept
+    → FollowsByLevel (IsValid more e.atoms) e.kept f.kept → Extends rs more → KeepsEntries memo new
+    → HaveRegexesBelow (length rs) e.atoms → IsTrue asked rs memo e → IsTrue asked more new f
+true-following asked rs more memo new e f trace atoms asserted grown known by_level grows keeps below t = record {
+  kept = keeping asked t.kept f.kept;
+  backs = record {
+    tracks = tracks_kept more new f.trace t.kept f.kept (rests_on asked.live f.kept) 0
+        (subst (λ (traced : Traced). Tracks more new traced t.kept) (sym trace)
+        (tracks_grow rs more memo new e.trace t.kept grows keeps t.backs.tracks));
+    atoms = table ∙ ap (atoms_in more) (sym atoms);
+    clauses = refl;
+    asserted = λ place a there.
+        kept_grown e.kept f.kept a.clause.0 (unit_at a) grown (t.backs.asserted place a
+        (subst (λ (xs : List (Option Asserted)). asserted_at xs place ≡ Some a) asserted there));
+  };
+  sound = sound-keeping asked t.kept f.kept t.sound
+      (λ id clause there. are_known_in more e.atoms t.kept.atoms clause.literals table (known id clause there))
+      entailed;
+  counted = refl;
+}
+  where
+    table : t.kept.atoms ≡ atoms_in more e.atoms
+    table = t.backs.atoms ∙ sym (atoms_kept rs more e.atoms grows below)
+
+    before : AreEntailed asked (atoms_in more e.atoms) e.kept
+    before = subst (λ (kept : Kept). AreEntailed asked (atoms_in more e.atoms) kept) t.backs.clauses
+        (subst (λ (ts : List Atom). AreEntailed asked ts t.kept.clauses) table t.sound.clauses)
+
+    entailed : AreEntailed asked t.kept.atoms f.kept
+    entailed = subst (λ (ts : List Atom). AreEntailed asked ts f.kept) (sym table)
+        (searched_entailed asked more e.atoms e.kept f.kept before by_level)
