@@ -1,5 +1,5 @@
 -- When what the evidence knows is true of what is asked.
-use Rattle.std.specs.Prelude.{◌≡◌, ℕ, List}
+use Rattle.std.specs.Prelude.{◌≡◌, List}
 use Rattle.sb_lang.specs.Regex.{Regex}
 use Rattle.sb_deriv.specs.Faithful.{Memo}
 use Rattle.sb_rulebook.specs.Kept.{AllKept, Asked}
