@@ -30,16 +30,17 @@ in_each rs ids w = list_all (λ id. language (regex_at rs id) w) ids
 abbrev pub word_at : List (List ℕ) → ℕ → List ℕ
 word_at words n = get_or words n []
 
--- What is known after these assertions: each asks something of one constant's word, and is decided; the words that a
--- constant is asked for are those of its regexes; and values make all the assertions true exactly where each constant's
--- word is one that it is asked for. A constant that they don't speak of may have any word.
+-- What is known after these assertions: the words that a constant is asked for are those of its regexes; values that
+-- make all the assertions true give each constant a word that it is asked for; and where each assertion asks something
+-- of one constant's word, and is decided, such words make all of them true. A constant that they don't speak of may have
+-- any word.
 pub record IsSofar (rs : List Regex) (assertions : List Assertion) (found : ℕ → List ℕ) : Type 0 where
-  pub members : list_all is_member assertions ≡ true
   pub known : (n : ℕ) → AllNumbers rs (found n)
   pub words : (n : ℕ) (w : List ℕ) → IsWord w → words_asked n (terms_in assertions) w ≡ in_each rs (found n) w
   pub apart : (v : Valuation) (n : ℕ) (w : List ℕ) → value_in v n text ≡ Text w
       → all_hold (terms_in assertions) v ≡ true → words_asked n (terms_in assertions) w ≡ true
-  pub together : (constants : List (ℕ × Sort)) (words : List (List ℕ)) (truths : List Bool)
+  pub together : list_all is_member assertions ≡ true
+      → (constants : List (ℕ × Sort)) (words : List (List ℕ)) (truths : List Bool)
       → list_all (speaks_of constants) (terms_in assertions) ≡ true
       → ((n : ℕ) → words_asked n (terms_in assertions) (word_at words n) ≡ true)
       → all_hold (terms_in assertions) (values_at constants words truths) ≡ true

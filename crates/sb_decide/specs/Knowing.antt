@@ -1,5 +1,5 @@
 -- What is known of a script's assertions so far.
-use Rattle.std.specs.Prelude.{◌≡◌, ℕ, ◌≤◌, ◌<◌, true, false, List, length, IfSome, IsSome}
+use Rattle.std.specs.Prelude.{◌≡◌, ℕ, ◌≤◌, ◌<◌, true, false, List, length, Option, IfSome, IsSome}
 use Rattle.std.specs.List.{All, list_all}
 use Rattle.sb_lang.specs.Regex.{Regex}
 use Rattle.sb_lang.specs.Least.{IsShortestLeast}
@@ -7,6 +7,7 @@ use Rattle.sb_graph.specs.Findings.{IsGraph}
 use Rattle.sb_plain.specs.Memory.{IsRight}
 use Rattle.sb_problem.specs.Known.{AreNormals}
 use Rattle.sb_meaning.specs.Terms.{Term}
+use Rattle.sb_script.specs.Models.{is_plain}
 use Rattle.sb_script.specs.State.{live, live_terms}
 use Rattle.sb_term.specs.declared.assertion.Assertion.{Assertion}
 use Rattle.sb_fragment.specs.Measures.{AreMeasures}
@@ -19,7 +20,7 @@ use Rattle.sb_stack.specs.declared.verdict.Verdict.TheVariants as verdict
 use Rattle.sb_decide.specs.declared.decide.Decider.{Decider}
 use Rattle.sb_decide.specs.Conjoined.{Conjoined, conjoined_at, OthersSettled}
 use Rattle.sb_decide.specs.Deciding.{word_at}
-use Rattle.sb_decide.specs.Members.{AreMembers, AreInside, AreRooted, IsEmptyAt, words_in, places_in}
+use Rattle.sb_decide.specs.Members.{AreMembers, AreRooted, HasSerialBelow, IsEmptyAt, words_in, places_in, other_places}
 use Rattle.sb_decide.specs.declared.conjuncts.Member.{Member}
 
 -- the places of a constant's memberships
@@ -32,21 +33,22 @@ pub record IsTaken (kept : Decider) (ts : List Term) (assertions : List Assertio
   pub normals : AreNormals ts kept.arena kept.normals
   pub measures : AreMeasures ts kept.measures
   pub plain : IsRight kept.arena kept.plain
-  -- so many of them are known to be decided ones, memberships or not
-  pub inside : AreInside ts kept.inside assertions
   pub members : AreMembers kept.arena ts kept.members.items assertions
   pub rooted : AreRooted kept.arena kept.members.items kept.roots.items
-  pub within : All (λ m. m.serial.0 < length kept.constants.items) kept.members.items
+  pub within : All (HasSerialBelow (length kept.constants.items)) kept.members.items
   pub places : (n : ℕ) → places_of kept n ≡ places_in 0 n kept.members.items
+  pub others : kept.others.items ≡ other_places 0 kept.members.items
   pub settled : OthersSettled kept.changed.items kept.constants.items
   pub listed : All (λ serial. serial.0 < length kept.constants.items) kept.changed.items
   pub dead : IfSome kept.dead (λ serial. IsEmptyAt kept.arena kept.members.items serial.0)
 
 -- The words that are kept of constants whose memberships are those of the last check.
-pub record AreKept (rs : List Regex) (ms : List Member) (cs : List Conjoined) (words : List (List ℕ)) : Type 0 where
-  pub characters : are_words words ≡ true
-  pub few : length words ≤ length cs
-  pub least : (n : ℕ) → (conjoined_at cs n).changed ≡ false → IsShortestLeast (words_in rs ms n) (word_at words n)
+pub record AreKept (rs : List Regex) (ms : List (Option Member)) (cs : List Conjoined) (words : List (List ℕ))
+    : Type 0
+  where
+    pub characters : are_words words ≡ true
+    pub few : length words ≤ length cs
+    pub least : (n : ℕ) → (conjoined_at cs n).changed ≡ false → IsShortestLeast (words_in rs ms n) (word_at words n)
 
 -- All of it, of a state.
 pub record Knows (kept : Decider) (stack : Stacked) : Type 0 where
@@ -67,9 +69,12 @@ MayBeKept (verdict.Sat words truths) stack =
     (are_words words.items ≡ true) × (length words.items ≡ length stack.scope.sorts)
 MayBeKept _ stack = Unit {0}
 
--- The check is left open: each assertion is a decided one, and whatever verdict is found may be kept.
+-- The check is left open: each assertion is a decided one and taken in, not each is a membership, and whatever verdict
+-- is found may be kept.
 pub record IsLeftOpen (kept : Decider) (stack : Stacked) : Type 0 where
   pub decided : list_all is_decided (live (state_of stack)) ≡ true
+  pub not_plain : is_plain (state_of stack) ≡ false
+  pub all : length kept.members.items ≡ length stack.assertions
   pub named : list_all (speaks_of (live_constants stack)) (live_terms (state_of stack)) ≡ true
   pub taken : IsTaken kept stack.table stack.assertions
   pub keeps : (v : Verdict) → MayBeKept v stack → Knows kept (found v stack)

@@ -1,7 +1,8 @@
 -- What was taken in, one for each of the first assertions, and what is known of it. What an assertion asks of a
 -- constant's word counts as a membership of the constant here, also where the assertion is an equality with a literal,
--- or the denial of either, which asks for a word of the complement.
-use Rattle.std.specs.Prelude.{◌≡◌, ℕ, zero, suc, ◌+◌, ◌<◌, ◌==◌, true, if◌then◌else◌, List, [], ◌∷◌, length, take, Option, Some, None, slice_index_or, slice_get}
+-- or the denial of either, which asks for a word of the complement. One that asks for no constant's word alone stands
+-- among the others at its place.
+use Rattle.std.specs.Prelude.{◌≡◌, ℕ, ◌+◌, ◌<◌, ◌==◌, true, if◌then◌else◌, List, [], ◌∷◌, length, take, Option, Some, None, IfSome, slice_index_or, slice_get}
 use Rattle.std.specs.List.{All}
 use Rattle.sb_lang.specs.Languages.{Language}
 use Rattle.sb_lang.specs.Least.{HasNoWord}
@@ -29,44 +30,61 @@ pub record IsMember (rs : List Regex) (ts : List Term) (m : Member) (a : Asserti
   pub decided : is_decided (asserted term) ≡ true
   pub regex : IsRegexOf rs wanted m.regex
 
--- the first assertions are these, in order
-abbrev pub AreMembers : List Regex → List Term → List Member → List Assertion → Type 0
-AreMembers rs ts [] assertions = Unit {0}
-AreMembers rs ts (m ∷ ms) [] = ⊥
-AreMembers rs ts (m ∷ ms) (a ∷ assertions) = IsMember rs ts m a × AreMembers rs ts ms assertions
-
--- the assertion is a decided one, a membership or not
-pub record IsInside (ts : List Term) (a : Assertion) : Type 0 where
+-- The assertion is a decided one, and asks nothing of one constant's word alone.
+pub record IsOther (ts : List Term) (a : Assertion) : Type 0 where
+  pub term : Term
   pub number : HasNumberBelow (length ts) a
-  pub decided : is_decided (assertion_in ts a) ≡ true
+  pub is : assertion_in ts a ≡ asserted term
+  pub asks : demanded term ≡ None
+  pub decided : is_decided (asserted term) ≡ true
 
--- so many of the first assertions are
-abbrev pub AreInside : List Term → ℕ → List Assertion → Type 0
-AreInside ts zero assertions = Unit {0}
-AreInside ts (suc n) [] = ⊥
-AreInside ts (suc n) (a ∷ assertions) = IsInside ts a × AreInside ts n assertions
+-- it is this membership, or none
+abbrev pub IsTakenAs : List Regex → List Term → Option Member → Assertion → Type 0
+IsTakenAs rs ts None a = IsOther ts a
+IsTakenAs rs ts (Some m) a = IsMember rs ts m a
+
+-- the first assertions are these, in order
+abbrev pub AreMembers : List Regex → List Term → List (Option Member) → List Assertion → Type 0
+AreMembers rs ts [] assertions = Unit {0}
+AreMembers rs ts (o ∷ ms) [] = ⊥
+AreMembers rs ts (o ∷ ms) (a ∷ assertions) = IsTakenAs rs ts o a × AreMembers rs ts ms assertions
 
 -- the regexes of a constant
-abbrev pub ids_in : List Member → ℕ → List ℕ
+abbrev pub ids_in : List (Option Member) → ℕ → List ℕ
 ids_in [] n = []
-ids_in (m ∷ ms) n = if n == m.serial.0 then m.regex ∷ ids_in ms n else ids_in ms n
+ids_in (None ∷ ms) n = ids_in ms n
+ids_in (Some m ∷ ms) n = if n == m.serial.0 then m.regex ∷ ids_in ms n else ids_in ms n
 
--- their places, where the first of these memberships is at the first place
-abbrev pub places_in : ℕ → ℕ → List Member → List ℕ
+-- their places, where the first of these is at the first place
+abbrev pub places_in : ℕ → ℕ → List (Option Member) → List ℕ
 places_in place n [] = []
-places_in place n (m ∷ ms) =
+places_in place n (None ∷ ms) = places_in (place + 1) n ms
+places_in place n (Some m ∷ ms) =
     if n == m.serial.0 then place ∷ places_in (place + 1) n ms else places_in (place + 1) n ms
 
+-- the places of those that are no memberships
+abbrev pub other_places : ℕ → List (Option Member) → List ℕ
+other_places place [] = []
+other_places place (None ∷ ms) = place ∷ other_places (place + 1) ms
+other_places place (Some m ∷ ms) = other_places (place + 1) ms
+
 -- the words that all regexes of a constant have
-abbrev pub words_in : List Regex → List Member → ℕ → Language
+abbrev pub words_in : List Regex → List (Option Member) → ℕ → Language
 words_in rs ms n = in_each rs (ids_in ms n)
 
 -- the constant has no word
-abbrev pub IsEmptyAt : List Regex → List Member → ℕ → Type 0
+abbrev pub IsEmptyAt : List Regex → List (Option Member) → ℕ → Type 0
 IsEmptyAt rs ms n = HasNoWord (words_in rs ms n)
 
+-- a membership's regex has its number below this one, and so has its constant
+abbrev pub HasRegexBelow : ℕ → Option Member → Type 0
+HasRegexBelow n o = IfSome o (λ m. m.regex < n)
+
+abbrev pub HasSerialBelow : ℕ → Option Member → Type 0
+HasSerialBelow n o = IfSome o (λ m. m.serial.0 < n)
+
 -- The number is of the intersection of all memberships of the constant.
-pub record IsRootOf (rs : List Regex) (ms : List Member) (n root : ℕ) : Type 0 where
+pub record IsRootOf (rs : List Regex) (ms : List (Option Member)) (n root : ℕ) : Type 0 where
   pub known : root < length rs
   pub same : (w : List ℕ) → words_in rs ms n w ≡ language (regex_at rs root) w
 
@@ -74,17 +92,17 @@ abbrev pub root_at : List (Option ℕ) → ℕ → Option ℕ
 root_at roots place = slice_index_or roots place None
 
 -- each root that is known is of its constant's memberships up to its place
-abbrev pub AreRoots : List Regex → List Member → List (Option ℕ) → Type 0
-AreRoots rs ms roots = (place : ℕ) (m : Member) (root : ℕ) → slice_get ms place ≡ Some m
+abbrev pub AreRoots : List Regex → List (Option Member) → List (Option ℕ) → Type 0
+AreRoots rs ms roots = (place : ℕ) (m : Member) (root : ℕ) → slice_get ms place ≡ Some (Some m)
     → root_at roots place ≡ Some root → IsRootOf rs (take (place + 1) ms) m.serial.0 root
 
--- Regexes have their numbers, and there is a root or none for each membership.
-pub record AreRooted (rs : List Regex) (ms : List Member) (roots : List (Option ℕ)) : Type 0 where
-  pub numbers : All (λ m. m.regex < length rs) ms
+-- Regexes have their numbers, and there is a root or none for each assertion that was taken in.
+pub record AreRooted (rs : List Regex) (ms : List (Option Member)) (roots : List (Option ℕ)) : Type 0 where
+  pub numbers : All (HasRegexBelow (length rs)) ms
   pub abreast : length roots ≡ length ms
   pub right : AreRoots rs ms roots
 
 -- These regexes have the words in common that those of the constant have.
-pub record AreConjuncts (rs : List Regex) (ms : List Member) (n : ℕ) (ids : List ℕ) : Type 0 where
+pub record AreConjuncts (rs : List Regex) (ms : List (Option Member)) (n : ℕ) (ids : List ℕ) : Type 0 where
   pub known : AllNumbers rs ids
   pub same : (w : List ℕ) → in_each rs ids w ≡ words_in rs ms n w

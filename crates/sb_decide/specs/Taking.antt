@@ -32,24 +32,24 @@ other_dead None n = None
 other_dead (Some dead) n = if dead.0 == n then None else Some dead
 
 -- what was found of a constant
-abbrev pub IsFoundOf : List Regex → List Member → List Conjoined → Found → Type 0
+abbrev pub IsFoundOf : List Regex → List (Option Member) → List Conjoined → Found → Type 0
 IsFoundOf rs ms cs found =
     (found.serial.0 < length cs) × IsShortestLeast (words_in rs ms found.serial.0) found.word
 
 -- each of these constants has its word
-pub record AreFound (rs : List Regex) (ms : List Member) (cs : List Conjoined) (changed : List Serial)
+pub record AreFound (rs : List Regex) (ms : List (Option Member)) (cs : List Conjoined) (changed : List Serial)
     (fs : List Found) : Type 0
   where
     pub each : All (IsFoundOf rs ms cs) fs
     pub serials : map (λ found. found.serial) fs ≡ changed
 
 -- the words of these constants, or one that has none
-abbrev pub AreWords : List Regex → List Member → List Conjoined → List Serial → Words → Type 0
+abbrev pub AreWords : List Regex → List (Option Member) → List Conjoined → List Serial → Words → Type 0
 AreWords rs ms cs changed (words.Found fs) = AreFound rs ms cs changed fs.items
 AreWords rs ms cs changed (words.Dead serial) = IsEmptyAt rs ms serial.0
 
 -- What becomes of the constants as what was found is taken over: these are still to come.
-pub record IsTakingOver (rs : List Regex) (ms : List Member) (old new : List Conjoined) (words : List (List ℕ))
+pub record IsTakingOver (rs : List Regex) (ms : List (Option Member)) (old new : List Conjoined) (words : List (List ℕ))
     (fs : List Found) : Type 0
   where
     pub same_length : length new ≡ length old

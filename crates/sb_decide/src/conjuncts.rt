@@ -97,7 +97,7 @@ impl Conjuncts {
 /// known, and the regexes of the memberships behind it. Linear in these. `AllocError` only for want of memory.
 pub fn conjuncts_at(
     alloc: Global,
-    members: &[Member],
+    members: &[Option<Member>],
     roots: &[Option<RegexId>],
     places: &[usize],
 ) -> Result<Vec<RegexId>, AllocError>
@@ -113,7 +113,10 @@ pub fn conjuncts_at(
             ids.push(root)?;
             return Ok(ids);
         }
-        ids.push(members[*place].regex)?;
+        let Some(member) = members[*place] else {
+            return Ok(ids);
+        };
+        ids.push(member.regex)?;
         left = front;
     }
     Ok(ids)

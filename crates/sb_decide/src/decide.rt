@@ -4,31 +4,32 @@
 //! word that exploring the intersection finds is the one that a model gives. An equality of a constant with a literal
 //! is a membership too, in the regex that has the literal's word alone, and what is denied is one in the complement.
 //! What is known of the assertions so far is kept, so that a check takes in those that are new, and finds words of the
-//! constants that they speak of. They speak of no constant of sort Bool, so each of these is false. Memberships are
-//! taken in up to the first assertion that is none; from there on it is only seen whether each assertion is a decided
-//! one, and then the check is left open.
+//! constants that they speak of. Memberships speak of no constant of sort Bool, so each of these is false. A decided
+//! assertion that is no membership is taken in too, by its place alone, and while there are such ones a check is left
+//! open. Assertions are taken in up to the first one that is not decided.
 
-ghost use Rattle.std.specs.Prelude.{◌≡◌, ◌≢◌, ℕ, ◌+◌, ◌<◌, ◌≤◌, [], ◌∷◌, ◌++◌, List, length, map, true, false, All};
-ghost use Rattle.std.specs.Prelude.{IfOk, OnOk, IfSome, IfNone, MatchOption};
+ghost use Rattle.std.specs.Prelude.{◌≡◌, ◌≢◌, ℕ, ◌+◌, ◌<◌, ◌≤◌, [], ◌∷◌, ◌++◌, List, Option, length, get_or, map, true, false};
+ghost use Rattle.std.specs.Prelude.{All, Contains, IfOk, OnOk, IfSome, IfNone, MatchOption};
 ghost use Rattle.std.specs.List.{list_all};
 ghost use Rattle.sb_lang.specs.Least.{IsShortestLeast};
 ghost use Rattle.sb_lang.specs.Regex.{Regex};
 ghost use Rattle.sb_regex.specs.Numbered.{Extends};
 ghost use Rattle.sb_deriv.specs.Faithful.{KeepsEntries};
 ghost use Rattle.sb_graph.specs.Findings.{IsGraph};
-ghost use Rattle.sb_script.specs.State.{live, live_terms};
+ghost use Rattle.sb_script.specs.State.{asserted, live, live_terms};
 ghost use Rattle.sb_script.specs.Verdicts.{IsVerdict, settled};
 ghost use Rattle.sb_fragment.specs.Measures.{AreMeasures};
 ghost use Rattle.sb_fragment.specs.Rules.{is_decided};
 ghost use Rattle.sb_stack.specs.Stacked.{Stacked, state_of, live_constants, without_words, assertion_in, HasNumberBelow};
 ghost use Rattle.sb_stack.specs.Speaking.{speaks_of};
 ghost use Rattle.sb_stack.specs.Steps.{verdict_in, found};
+ghost use Rattle.sb_term.specs.Numbered.{term_at};
 ghost use Rattle.sb_term.specs.Serials.{all_below};
 ghost use Rattle.sb_decide.specs.Conjoined.{conjoined_at, OthersSettled, AreAllChanged, HasRoom, IsChangedAt, without_last};
 ghost use Rattle.sb_decide.specs.Deciding.{AreFilled};
 ghost use Rattle.sb_decide.specs.Knowing.{IsTaken, Knows, IsDecision, IsLeftOpen, places_of};
 ghost use Rattle.sb_decide.specs.Laws.{LeavesKnown};
-ghost use Rattle.sb_decide.specs.Members.{AreInside, AreRooted, IsEmptyAt, IsRootOf, places_in, words_in};
+ghost use Rattle.sb_decide.specs.Members.{AreRooted, IsEmptyAt, IsOther, IsRootOf, places_in, words_in};
 ghost use Rattle.sb_decide.specs.Places.{HasNoWordAt, IsPlaceOf};
 ghost use Rattle.sb_decide.specs.Taking.{StayKept, HasAll, AreWords, IsTakingOver, other_dead};
 
@@ -42,7 +43,7 @@ use sb_plain::{Plain, right_stays};
 use sb_problem::{Normals, normals_stay};
 use sb_regex::{Arena, RegexId};
 use sb_stack::{Stack, Verdict};
-use sb_term::{Assertion, Serial, Table};
+use sb_term::{Assertion, Serial, Table, TermId};
 use sb_word::Word;
 use std::alloc::{AllocError, Global};
 
@@ -56,11 +57,13 @@ pub struct Decider {
     pub measures: Measures,
     /// What is remembered of walks along words, for checks that are left open.
     pub plain: Plain,
-    /// The memberships that the first assertions are, which are taken in; equalities with a literal count as such, and
-    /// so does what is denied.
-    pub members: Vec<Member>,
+    /// By place what was taken in, decided assertions from the first on: the membership that each one is, `None` where
+    /// it is none. Equalities with a literal count as memberships, and so does what is denied.
+    pub members: Vec<Option<Member>>,
     /// By place the intersection of the constant's memberships up to this one, where a check made it.
     pub roots: Vec<Option<RegexId>>,
+    /// The places of those that are no memberships, ascending.
+    pub others: Vec<usize>,
     /// By serial the memberships of each constant.
     pub constants: Vec<Conjuncts>,
     /// The constants with memberships that came or went since the last check with a model that was decided here, and
@@ -68,8 +71,6 @@ pub struct Decider {
     pub changed: Vec<Serial>,
     /// A constant that is known to have no word.
     pub dead: Option<Serial>,
-    /// So many of the assertions, from the first on, are known to be decided ones, memberships or not.
-    pub inside: usize,
 }
 
 /// What a check finds of a constant: the word that a model gives.
@@ -101,10 +102,10 @@ impl Decider {
             plain: Plain::new(alloc),
             members: Vec::new(alloc),
             roots: Vec::new(alloc),
+            others: Vec::new(alloc),
             constants: Vec::new(alloc),
             changed: Vec::new(alloc),
             dead: None,
-            inside: 0,
         }
     }
 
@@ -137,18 +138,18 @@ impl Decider {
         ensures derivatives_stay { OnOk result (KeepsEntries self.old.graph.memo self.new.graph.memo) }
     {
         fragment_is_of_each();
-        if self.take_in(alloc, stack)? {
+        if !self.take_in(alloc, stack)? {
+            return Ok(Some(Verdict::Outside));
+        }
+        if self.others.is_empty() {
             let verdict = self.decide_memberships(alloc, stack)?;
             return Ok(Some(verdict));
         }
-        if self.is_left_open(stack)? {
-            Ok(None)
-        } else {
-            Ok(Some(Verdict::Outside))
-        }
+        self.leave_open()?;
+        Ok(None)
     }
 
-    /// What a check finds where all live assertions are taken in.
+    /// What a check finds where all live assertions are taken in, and each is a membership.
     fn decide_memberships(
         &mut self,
         alloc: Global,
@@ -156,6 +157,7 @@ impl Decider {
     ) -> Result<Verdict, AllocError>
         requires knows { Knows self.old stack.old }
         requires all { HasAll self.old stack.old }
+        requires alone { self.old.others.items ≡ [] }
         requires named { list_all (speaks_of (live_constants stack.old)) (live_terms (state_of stack.old)) ≡ true }
         ensures verdict { IfOk result
             (λ verdict. IsVerdict (state_of stack.old) [] (verdict_in (live_constants stack.old) verdict)) }
@@ -202,25 +204,19 @@ impl Decider {
         }
     }
 
-    /// Whether all live assertions are decided ones; then all constants are to have other words.
-    fn is_left_open(&mut self, stack: &Stack) -> Result<bool, AllocError>
-        requires knows { Knows self.old stack.now }
-        requires room { length self.old.constants.items ≡ length stack.now.scope.sorts }
-        ensures open { IfOk result (λ left. left ≡ true → IsLeftOpen self.new stack.now) }
-        ensures outside { IfOk result (λ left. left ≡ false → list_all is_decided (live (state_of stack.now)) ≡ false) }
-        ensures knows { OnOk result (Knows self.new stack.now) }
-        ensures arena { OnOk result (self.new.arena ≡ self.old.arena) }
-        ensures graph { OnOk result (self.new.graph ≡ self.old.graph) }
+    /// All constants are to have other words, since a check is left open. Linear in them.
+    fn leave_open(&mut self) -> Result<(), AllocError>
+        requires settled { OthersSettled self.old.changed.items self.old.constants.items }
+        requires listed { All (λ other. other.0 < length self.old.constants.items) self.old.changed.items }
+        requires some { 0 < length self.old.others.items }
+        ensures left { OnOk result ((stack : Stacked) → Knows self.old stack → HasAll self.old stack
+            → list_all (speaks_of (live_constants stack)) (live_terms (state_of stack)) ≡ true
+            → IsLeftOpen self.new stack) }
+        ensures arena { self.new.arena ≡ self.old.arena }
+        ensures graph { self.new.graph ≡ self.old.graph }
     {
-        let table = stack.table();
-        let assertions = stack.assertions();
-        let known = self.inside.max(self.members.len());
-        self.inside = decided_ones(&mut self.measures, table, assertions, known)?;
-        if self.inside < assertions.len() {
-            return Ok(false);
-        }
         change_all(&mut self.constants, &mut self.changed)?;
-        Ok(true)
+        Ok(())
     }
 
     /// Takes assertions back from the end: the first `count` stay, and what is known of them, as what is known of terms
@@ -235,7 +231,6 @@ impl Decider {
         ensures plain { self.new.plain ≡ self.old.plain }
     {
         normals_stay();
-        self.inside = self.inside.min(count);
         while self.members.len() > count {
             self.take_last_back()?;
         }
@@ -266,13 +261,23 @@ impl Decider {
         }
     }
 
-    /// Takes in the assertions that are new, up to one that is no membership or too large, and answers whether that are
-    /// all of them. Linear in them, and in the constants that are new.
+    /// The places of the assertions that were taken in and are no memberships, ascending. Constant time.
+    pub fn others(&self) -> &[usize]
+        ensures value { result.now ≡ self.now.others.items }
+        ensures are { (stack : Stacked) → Knows self.now stack
+            → (place : ℕ) → Contains result.now place → place < length stack.assertions }
+    {
+        self.others.as_slice()
+    }
+
+    /// Takes in the assertions that are new, up to one that is not decided, and answers whether that are all of them.
+    /// Linear in them, and in the constants that are new.
     fn take_in(&mut self, alloc: Global, stack: &Stack) -> Result<bool, AllocError>
         requires { Knows self.old stack.now }
         ensures knows { OnOk result (Knows self.new stack.now) }
         ensures all { IfOk result (λ all. all ≡ true → HasAll self.new stack.now) }
-        ensures room { OnOk result (length self.new.constants.items ≡ length stack.now.scope.sorts) }
+        ensures outside { IfOk result (λ all. all ≡ false
+            → list_all is_decided (live (state_of stack.now)) ≡ false) }
         ensures named { OnOk result
             (list_all (speaks_of (live_constants stack.now)) (live_terms (state_of stack.now)) ≡ true) }
         ensures extends { OnOk result (Extends self.old.arena self.new.arena) }
@@ -289,7 +294,7 @@ impl Decider {
         Ok(true)
     }
 
-    /// Takes in the next assertion, and answers whether it is a membership that is decided; if not, it is not taken in.
+    /// Takes in the next assertion, and answers whether it is a decided one; if not, it is not taken in.
     fn take_one(&mut self, table: &Table, assertions: &[Assertion]) -> Result<bool, AllocError>
         requires more { length self.old.members.items < length assertions.now }
         requires numbers { All (HasNumberBelow (length table.now)) assertions.now }
@@ -300,7 +305,9 @@ impl Decider {
         ensures extends { OnOk result (Extends self.old.arena self.new.arena) }
         ensures graph { OnOk result (self.new.graph ≡ self.old.graph) }
         ensures further { IfOk result
-            (λ all. all ≡ true → length self.new.members.items ≡ length self.old.members.items + 1) }
+            (λ decided. decided ≡ true → length self.new.members.items ≡ length self.old.members.items + 1) }
+        ensures outside { IfOk result (λ decided. decided ≡ false
+            → list_all is_decided (map (assertion_in table.now) assertions.now) ≡ false) }
     {
         graph_stays();
         right_stays();
@@ -310,7 +317,8 @@ impl Decider {
             return Ok(false);
         };
         let Some(demand) = demand_of(table, term) else {
-            return Ok(false);
+            let decided = self.take_other(table, term)?;
+            return Ok(decided);
         };
         if !self.measures.is_regular(table, demand.pattern)? {
             return Ok(false);
@@ -318,12 +326,39 @@ impl Decider {
         let Some(regex) = regex_of(table, &mut self.arena, &mut self.normals, demand)? else {
             return Ok(false);
         };
-        self.members.push(Member {
+        self.members.push(Some(Member {
             serial: demand.serial,
             regex,
-        })?;
+        }))?;
         self.roots.push(None)?;
         put(&mut self.constants, &mut self.changed, demand.serial, place)?;
+        Ok(true)
+    }
+
+    /// Takes in the next assertion, of this term, which asks for no constant's word alone, and answers whether it is a
+    /// decided one; if not, it is not taken in.
+    fn take_other(&mut self, table: &Table, term: TermId) -> Result<bool, AllocError>
+        requires number { term < length table.now }
+        requires measures { AreMeasures table.now self.old.measures }
+        ensures ok { IfOk result (λ decided. decided ≡ is_decided (asserted (term_at table.now term))) }
+        ensures taken { IfOk result (λ decided. (assertions : List Assertion) (a : Assertion)
+            → length self.old.members.items < length assertions
+            → a ≡ get_or assertions (length self.old.members.items) a
+            → (decided ≡ true → IsOther table.now a)
+            → IsTaken self.old table.now assertions → IsTaken self.new table.now assertions) }
+        ensures words { OnOk result (StayKept self.old self.new) }
+        ensures further { IfOk result
+            (λ decided. decided ≡ true → length self.new.members.items ≡ length self.old.members.items + 1) }
+        ensures arena { self.new.arena ≡ self.old.arena }
+        ensures graph { self.new.graph ≡ self.old.graph }
+    {
+        if !self.measures.fits_structure(table, term)? {
+            return Ok(false);
+        }
+        let place = self.members.len();
+        self.others.push(place)?;
+        self.members.push(None)?;
+        self.roots.push(None)?;
         Ok(true)
     }
 
@@ -337,12 +372,15 @@ impl Decider {
         ensures normals { self.new.normals ≡ self.old.normals }
         ensures measures { self.new.measures ≡ self.old.measures }
         ensures plain { self.new.plain ≡ self.old.plain }
-        ensures inside { self.new.inside ≡ self.old.inside }
     {
-        let Some(member) = self.members.pop() else {
+        let Some(last) = self.members.pop() else {
             return Ok(());
         };
         self.roots.pop();
+        let Some(member) = last else {
+            self.others.pop();
+            return Ok(());
+        };
         self.dead = other_dead(self.dead, member.serial);
         if member.serial.0 as usize >= self.constants.len() {
             return Ok(());
@@ -350,46 +388,6 @@ impl Decider {
         put_back(&mut self.constants, &mut self.changed, member.serial)?;
         Ok(())
     }
-}
-
-/// Whether an assertion is a decided one.
-fn is_decided(
-    measures: &mut Measures,
-    table: &Table,
-    assertion: Assertion,
-) -> Result<bool, AllocError>
-    requires number { HasNumberBelow (length table.now) assertion }
-    requires right { AreMeasures table.now measures.old }
-    ensures ok { IfOk result (λ decided. decided ≡ is_decided (assertion_in table.now assertion)) }
-    ensures right { AreMeasures table.now measures.new }
-{
-    match assertion.term {
-        Some(id) => measures.fits_structure(table, id),
-        None => Ok(false),
-    }
-}
-
-/// How many of the assertions, from the first on, are decided ones, where so many are known to be.
-fn decided_ones(
-    measures: &mut Measures,
-    table: &Table,
-    assertions: &[Assertion],
-    known: usize,
-) -> Result<usize, AllocError>
-    requires numbers { All (HasNumberBelow (length table.now)) assertions.now }
-    requires right { AreMeasures table.now measures.old }
-    requires known { AreInside table.now known assertions.now }
-    ensures inside { IfOk result (λ inside. AreInside table.now inside assertions.now) }
-    ensures outside { IfOk result (λ inside. inside < length assertions.now
-        → list_all is_decided (map (assertion_in table.now) assertions.now) ≡ false) }
-    ensures right { AreMeasures table.now measures.new }
-{
-    for place in known..assertions.len() {
-        if !is_decided(measures, table, assertions[place])? {
-            return Ok(place);
-        }
-    }
-    Ok(assertions.len())
 }
 
 /// Says of each constant that its word is to be found anew.
@@ -499,7 +497,7 @@ fn least_words(
     arena: &mut Arena,
     graph: &mut Graph,
     roots: &mut Vec<Option<RegexId>>,
-    members: &[Member],
+    members: &[Option<Member>],
     constants: &[Conjuncts],
     changed: &[Serial],
 ) -> Result<Words, AllocError>
@@ -534,7 +532,7 @@ fn least_word(
     arena: &mut Arena,
     graph: &mut Graph,
     roots: &mut Vec<Option<RegexId>>,
-    members: &[Member],
+    members: &[Option<Member>],
     serial: Serial,
     places: &[usize],
 ) -> Result<Option<Word>, AllocError>
@@ -563,8 +561,8 @@ fn least_word(
 /// Keeps the intersection of all memberships of a constant at the last of their places, if there is one.
 fn keep_root(roots: &mut Vec<Option<RegexId>>, places: &[usize], root: RegexId)
     requires within { All (λ place. place < length roots.old.items) places.now }
-    ensures { (rs : List Regex) (ms : List Member) (n : ℕ) → places.now ≡ places_in 0 n ms → IsRootOf rs ms n root
-        → AreRooted rs ms roots.old.items → AreRooted rs ms roots.new.items }
+    ensures { (rs : List Regex) (ms : List (Option Member)) (n : ℕ) → places.now ≡ places_in 0 n ms
+        → IsRootOf rs ms n root → AreRooted rs ms roots.old.items → AreRooted rs ms roots.new.items }
 {
     let Some((place, _)) = places.split_last() else {
         return;
@@ -596,7 +594,7 @@ fn empty_word(alloc: Global) -> Result<Word, AllocError>
 fn take_over(constants: &mut [Conjuncts], words: &mut [Word], mut found: Vec<Found>)
     requires long { length words.old ≡ length constants.old }
     requires within { All (λ one. one.serial.0 < length constants.old) found.items }
-    ensures { (rs : List Regex) (ms : List Member)
+    ensures { (rs : List Regex) (ms : List (Option Member))
         → IsTakingOver rs ms constants.old constants.old words.old found.items
         → IsTakingOver rs ms constants.old constants.new words.new [] }
 {

@@ -7,7 +7,7 @@ ghost use Rattle.sb_script.specs.Fragment.{fits};
 ghost use Rattle.sb_script.specs.Sizes.{is_regular};
 ghost use Rattle.sb_term.specs.Numbered.{term_at};
 ghost use Rattle.sb_problem.specs.Known.{AreNormals};
-ghost use Rattle.sb_problem.specs.Normals.{IsRegexOf};
+ghost use Rattle.sb_problem.specs.Normals.{IsNumberOf};
 ghost use Rattle.sb_problem.specs.Patterns.{number_of, pattern_in};
 ghost use Rattle.sb_decide.specs.Demands.{demanded, expression_in, negation_of};
 
@@ -72,8 +72,8 @@ fn denied(table: &Table, id: TermId) -> Option<TermId>
     Some(*term)
 }
 
-/// The regex that a constant's word is to be in, `None` where the pattern is no regular expression over literals. Its
-/// cost and its error are those of [`Normals::pattern`].
+/// The regex that a constant's word is to be in, `None` exactly where the pattern is no regular expression over
+/// literals. Its cost and its error are those of [`Normals::pattern`].
 pub(crate) fn regex_of(
     table: &Table,
     arena: &mut Arena,
@@ -82,8 +82,7 @@ pub(crate) fn regex_of(
 ) -> Result<Option<RegexId>, AllocError>
     requires number { number_of demand.pattern < length table.now }
     requires normals { AreNormals table.now arena.old normals.old }
-    ensures number { IfOk result
-        (λ found. IfSome found (λ id. IsRegexOf arena.new (expression_in table.now demand) id)) }
+    ensures number { IfOk result (λ found. IsNumberOf arena.new (expression_in table.now demand) found) }
     ensures extends { Extends arena.old arena.new }
     ensures normals { AreNormals table.now arena.new normals.new }
 {
