@@ -1,5 +1,5 @@
 -- Terms that ask something of one constant's word, among others: which they are, and which constants they speak of.
-use Rattle.std.proofs.Common.{◌≡◌, ℕ, Bool, true, false, ◌==◌, Option, Some, None, List, [], ◌∷◌, if◌then◌else◌, refl, sym, ap, ◌∙◌}
+use Rattle.std.proofs.Common.{◌≡◌, ℕ, Bool, true, false, ◌==◌, Option, Some, None, List, [], ◌∷◌, if◌then◌else◌, refl, sym, ap, subst, ◌∙◌}
 use Rattle.std.proofs.lemmas.Bool.{and_parts, eqb-true, false≢true}
 use Rattle.std.specs.List.{list_all}
 use Rattle.sb_meaning.specs.Terms.{Sort, Term, text, constant}
@@ -20,6 +20,33 @@ pub asks_same : (n : ℕ) (t : Term) (serial : ℕ) (R : Term) → demanded t �
 asks_same n t serial R h =
     ap (λ (o : Option (ℕ × Term)). elim o as (λ _. Bool) [ Some p ↦ n == p.0 | None ↦ false ]) h
 
+-- a term that asks for no constant's word alone asks nothing of this one
+pub asks_nothing : (n : ℕ) (t : Term) → demanded t ≡ None → asks_of n t ≡ false
+asks_nothing n t h =
+    ap (λ (o : Option (ℕ × Term)). elim o as (λ _. Bool) [ Some p ↦ n == p.0 | None ↦ false ]) h
+
+-- and the words that are asked for are those without it
+pub words_apart : (n : ℕ) (t : Term) (ts : List Term) (w : List ℕ) → asks_of n t ≡ false
+    → words_asked n (t ∷ ts) w ≡ words_asked n ts w
+words_apart n t ts w e =
+    ap (λ (b : Bool). all_hold (if b then t ∷ asking n ts else asking n ts) ((n, Text w) ∷ [])) e
+
+-- What a term asks of a constant's word.
+pub record IsAskedOf (n : ℕ) (t : Term) : Type 0 where
+  pub expression : Term
+  pub asks : demanded t ≡ Some (n, expression)
+
+pub asks_in : (n : ℕ) (t : Term) → asks_of n t ≡ true → IsAskedOf n t
+asks_in n t h = step (demanded t) refl h
+  where
+    step : (o : Option (ℕ × Term)) → demanded t ≡ o
+        → elim o as (λ _. Bool) [ Some p ↦ n == p.0 | None ↦ false ] ≡ true → IsAskedOf n t
+    step (Some p) is h = record {
+      expression = p.1;
+      asks = subst (λ (m : ℕ). demanded t ≡ Some (m, p.1)) (sym (eqb-true n p.0 h)) is;
+    }
+    step None is h = absurd (false≢true h)
+
 -- a constant of whose word something is asked is one of those that are spoken of
 pub asked_speaks : (ns : List (ℕ × Sort)) (n : ℕ) (ts : List Term) (w : List ℕ) → list_all (speaks_of ns) ts ≡ true
     → words_asked n ts w ≡ false → speaks_of ns (constant n text) ≡ true
@@ -33,7 +60,7 @@ asked_speaks ns n (t ∷ ts) w named h =
     none : (o : Option (ℕ × Term)) → demanded t ≡ o
         → elim o as (λ _. Bool) [ Some p ↦ n == p.0 | None ↦ false ] ≡ false → words_asked n ts w ≡ false
     none o is other =
-        sym (ap (λ (b : Bool). all_hold (if b then t ∷ asking n ts else asking n ts) ((n, Text w) ∷ []))
+        sym (words_apart n t ts w
         (ap (λ (x : Option (ℕ × Term)). elim x as (λ _. Bool) [ Some p ↦ n == p.0 | None ↦ false ]) is ∙ other)) ∙ h
 
     same : (serial : ℕ) (R : Term) (b : Bool) → (n == serial) ≡ b → demanded t ≡ Some (serial, R)

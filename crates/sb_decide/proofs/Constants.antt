@@ -1,5 +1,5 @@
 -- Constants by their place, with the places of their memberships.
-use Rattle.std.proofs.Common.{◌≡◌, ◌≢◌, ℕ, zero, suc, ◌-◌, ◌<◌, ◌≤◌, Bool, true, false, ◌==◌, List, [], ◌∷◌, ◌++◌, length, get_or, set, take, refl, sym, ap, ◌∙◌, arith, length-append}
+use Rattle.std.proofs.Common.{◌≡◌, ◌≢◌, ℕ, zero, suc, ◌-◌, ◌<◌, ◌≤◌, Bool, true, false, ◌==◌, List, [], ◌∷◌, ◌++◌, length, get_or, set, take, refl, sym, ap, ◌∙◌, arith, length-append, Option, Some}
 use Rattle.std.proofs.lemmas.Bool.{false≢true, eqb-true, eqb-false}
 use Rattle.std.proofs.Math.Seq.{take-append_seam}
 use Rattle.sb_word.specs.Words.{are_characters}
@@ -77,35 +77,35 @@ other_than old new serial n places p h e =
     false≢true (sym h ∙ (ap (λ i. (conjoined_at new i).changed) e ∙ ap (λ (x : Conjoined). x.changed) p.there))
 
 -- the places of a constant's memberships, with one more
-pub places_put : (old new : List Conjoined) (ms : List Member) (m : Member) (n : ℕ)
+pub places_put : (old new : List Conjoined) (ms : List (Option Member)) (m : Member) (n : ℕ)
     → ((k : ℕ) → (conjoined_at old k).places ≡ places_in 0 k ms)
     → IsChangedAt old new m.serial.0 ((conjoined_at old m.serial.0).places ++ length ms ∷ [])
-    → (conjoined_at new n).places ≡ places_in 0 n (ms ++ m ∷ [])
+    → (conjoined_at new n).places ≡ places_in 0 n (ms ++ Some m ∷ [])
 places_put old new ms m n places p = by_test (n == m.serial.0) refl
   where
-    by_test : (b : Bool) → (n == m.serial.0) ≡ b → (conjoined_at new n).places ≡ places_in 0 n (ms ++ m ∷ [])
+    by_test : (b : Bool) → (n == m.serial.0) ≡ b → (conjoined_at new n).places ≡ places_in 0 n (ms ++ Some m ∷ [])
     by_test true k =
         let e : n ≡ m.serial.0 = eqb-true n m.serial.0 k in
         ap (λ i. (conjoined_at new i).places) e
         ∙ (ap (λ (c : Conjoined). c.places) p.there
         ∙ (ap (λ ps. ps ++ length ms ∷ []) (places m.serial.0)
-        ∙ (sym (places_here m.serial.0 ms m refl) ∙ ap (λ i. places_in 0 i (ms ++ m ∷ [])) (sym e))))
+        ∙ (sym (places_here m.serial.0 ms m refl) ∙ ap (λ i. places_in 0 i (ms ++ Some m ∷ [])) (sym e))))
     by_test false k =
         let e : n ≢ m.serial.0 = eqb-false n m.serial.0 k in
         ap (λ (c : Conjoined). c.places) (p.others n e) ∙ (places n ∙ sym (places_other n ms m e))
 
 -- and with one less
-pub places_back : (old new : List Conjoined) (ms : List Member) (m : Member) (n : ℕ)
-    → ((k : ℕ) → (conjoined_at old k).places ≡ places_in 0 k (ms ++ m ∷ []))
+pub last_gone : (places : List ℕ) (place : ℕ) → without_last (places ++ place ∷ []) ≡ places
+last_gone places place =
+    let long : length (places ++ place ∷ []) - 1 ≡ length places = omega (arith, length-append places (place ∷ [])) in
+    ap (λ k. take k (places ++ place ∷ [])) long ∙ take-append_seam places (place ∷ [])
+
+pub places_back : (old new : List Conjoined) (ms : List (Option Member)) (m : Member) (n : ℕ)
+    → ((k : ℕ) → (conjoined_at old k).places ≡ places_in 0 k (ms ++ Some m ∷ []))
     → IsChangedAt old new m.serial.0 (without_last (conjoined_at old m.serial.0).places)
     → (conjoined_at new n).places ≡ places_in 0 n ms
 places_back old new ms m n places p = by_test (n == m.serial.0) refl
   where
-    last_gone : (ps : List ℕ) (i : ℕ) → without_last (ps ++ i ∷ []) ≡ ps
-    last_gone ps i =
-        let long : length (ps ++ i ∷ []) - 1 ≡ length ps = omega (arith, length-append ps (i ∷ [])) in
-        ap (λ k. take k (ps ++ i ∷ [])) long ∙ take-append_seam ps (i ∷ [])
-
     by_test : (b : Bool) → (n == m.serial.0) ≡ b → (conjoined_at new n).places ≡ places_in 0 n ms
     by_test true k =
         let e : n ≡ m.serial.0 = eqb-true n m.serial.0 k in

@@ -18,7 +18,7 @@ use Rattle.sb_script.specs.Brought.{asked, membership_of, is_regex, is_structure
 use Rattle.sb_script.specs.Fragment.{fits}
 use Rattle.sb_script.specs.Sizes.{is_regular}
 use Rattle.sb_script.specs.State.{asserted}
-use Rattle.sb_script.specs.Models.{occurs, is_about, is_plain_term}
+use Rattle.sb_script.specs.Models.{occurs, is_about, is_of_constant, is_plain_term}
 use Rattle.sb_script.proofs.CallerLemmas.{IsAsking, a_membership, a_word_behind, a_word_in_front, asked_looks, asked_holds, asked_occurs, asked_regular}
 use Rattle.sb_term.specs.Numbered.{terms_at}
 use Rattle.sb_term.specs.Serials.{has_serials_below}
@@ -27,7 +27,7 @@ use Rattle.sb_term.specs.declared.sort.Symbol.{Symbol}
 use Rattle.sb_term.specs.declared.sort.Symbol.TheVariants as code
 use Rattle.sb_fragment.specs.Rules.{is_decided}
 use Rattle.sb_fragment.proofs.CallerLemmas.{asked_structure}
-use Rattle.sb_problem.specs.Normals.{IsRegexOf}
+use Rattle.sb_problem.specs.Normals.{IsRegexOf, IsNumberOf}
 use Rattle.sb_problem.specs.Patterns.{pattern_in}
 use Rattle.sb_stack.specs.Speaking.{speaks_of}
 use Rattle.sb_decide.specs.declared.demand.Demand.{Demand}
@@ -91,6 +91,10 @@ demand_in t h = step (demanded t) refl h
         → elim o as (λ _. Bool) [ Some p ↦ is_regex p.1 | None ↦ false ] ≡ true → IsDemanded t
     step (Some p) is kind = record { serial = p.0; expression = p.1; asks = is; kind = kind }
     step None is kind = absurd (false≢true kind)
+
+pub demanded_none : (t : Term) → demanded t ≡ None → is_demand t ≡ false
+demanded_none t h =
+    ap (λ (o : Option (ℕ × Term)). elim o as (λ _. Bool) [ Some p ↦ is_regex p.1 | None ↦ false ]) h
 
 pub demanded_kind : (t : Term) (serial : ℕ) (R : Term) → demanded t ≡ Some (serial, R) → is_demand t ≡ is_regex R
 demanded_kind t serial R h =
@@ -268,6 +272,54 @@ pub demanded_decided : (t : Term) (serial : ℕ) (R : Term) → demanded t ≡ S
 demanded_decided t serial R h kind fit =
     and_from (is_structure t) (fits t) (demanded_structure t serial R h ∙ kind) fit
 
+-- what a decided one demands is a regular expression over literals
+pub decided_kind : (t : Term) (serial : ℕ) (R : Term) → demanded t ≡ Some (serial, R)
+    → is_decided (asserted t) ≡ true → is_regex R ≡ true
+decided_kind t serial R h decided =
+    sym (demanded_structure t serial R h) ∙ (and_parts (is_structure t) (fits t) decided).0
+
+-- so it is none where it demands another one, and none past the limits
+pub other_kind : (t : Term) (serial : ℕ) (R : Term) → demanded t ≡ Some (serial, R) → is_regex R ≡ false
+    → is_decided (asserted t) ≡ false
+other_kind t serial R h kind = ap (λ b. b && fits t) (demanded_structure t serial R h ∙ kind)
+
+pub too_large : (t : Term) → fits t ≡ false → is_decided (asserted t) ≡ false
+too_large t h = ap (λ b. is_structure t && b) h ∙ and_false (is_structure t)
+  where
+    and_false : (b : Bool) → (b && false) ≡ false
+    and_false true = refl
+    and_false false = refl
+
+-- Plain terms.
+
+-- a membership of a constant asks for its word
+record IsAsked (t : Term) : Type 0 where
+  serial : ℕ
+  expression : Term
+  asks : asked t ≡ Some (serial, expression)
+
+plain_asks : (t : Term) → is_of_constant t ≡ true → IsAsked t
+plain_asks (apply symbol.str_in_re (with_term (constant serial text) (with_term R no_terms))) h =
+    record { serial = serial; expression = R; asks = refl }
+plain_asks _ h = absurd (false≢true h)
+
+something : (p : ℕ × Term) → None ≡ Some p → ⊥
+something p e = cc
+
+plain_demands : (t : Term) → is_plain_term t ≡ true → demanded t ≡ None → ⊥
+plain_demands (apply symbol.core_not (with_term u no_terms)) h none =
+    let a = plain_asks u h in
+    something (complemented (a.serial, a.expression)) (sym none ∙ ap (option_map complemented) a.asks)
+plain_demands t h none = let a = plain_asks t h in something (a.serial, a.expression) (sym none ∙ a.asks)
+
+-- a term that demands nothing of one constant's word alone is not plain
+pub nothing_plain : (t : Term) → demanded t ≡ None → is_plain_term t ≡ false
+nothing_plain t none = step (is_plain_term t) refl
+  where
+    step : (b : Bool) → is_plain_term t ≡ b → b ≡ false
+    step true e = absurd (plain_demands t e none)
+    step false e = refl
+
 -- a denial is within the limits on sizes where what the term asks for is
 pub denied_fits : (t u : Term) (serial : ℕ) (R : Term) → t ≡ negation_of u → asked u ≡ Some (serial, R)
     → fits t ≡ is_regular R
@@ -289,6 +341,16 @@ complement_regex old new R id complement r names = record {
       ∙ ap (λ x. Some (mknot x)) (names_at old id (normal r.reglan) r.names)
       ∙ ap Some (sym (normal_complement r.reglan));
 }
+
+-- what the word is to be in is no regular expression over literals where the pattern is none
+pub no_regex : (rs : List Regex) (ts : List Term) (d : Demand) → is_regex (pattern_in ts d.pattern) ≡ false
+    → IsNumberOf rs (expression_in ts d) None
+no_regex rs ts d none = by_test d.positive
+  where
+    by_test : (b : Bool)
+        → is_regex (if b then pattern_in ts d.pattern else complement_of (pattern_in ts d.pattern)) ≡ false
+    by_test true = none
+    by_test false = none
 
 -- the number of what the word is to be in
 pub positive_regex : (rs : List Regex) (ts : List Term) (d : Demand) (id : ℕ) → d.positive ≡ true

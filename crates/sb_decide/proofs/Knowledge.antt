@@ -4,8 +4,9 @@ use Rattle.std.proofs.lemmas.Bool.{eqb-false}
 use Rattle.std.proofs.lemmas.Bool.Decides.{nat_tests}
 use Rattle.std.proofs.lemmas.List.{get_or_append_left, nil_from_length}
 use Rattle.std.proofs.lemmas.List.Elements.{All-push, All-nil}
+use Rattle.std.proofs.Math.Seq.{get_or-append_seam}
 use Rattle.std.proofs.lemmas.Option.{slice_get_within}
-use Rattle.std.specs.List.{All, list_all}
+use Rattle.std.specs.List.{All, Contains, list_all}
 use Rattle.std.specs.declared.vec.Vec.{Vec}
 use Rattle.std.specs.declared.alloc.Global.{Global}
 use Rattle.sb_lang.specs.Regex.{Regex}
@@ -39,13 +40,12 @@ use Rattle.sb_decide.specs.Conjoined.{Conjoined, conjoined_at, without_last, Oth
 use Rattle.sb_decide.specs.Deciding.{in_each, word_at}
 use Rattle.sb_decide.specs.Demands.{demanded}
 use Rattle.sb_decide.specs.Knowing.{IsTaken, AreKept, Knows, places_of}
-use Rattle.sb_decide.specs.Members.{IsMember, AreMembers, AreInside, AreRooted, IsEmptyAt, ids_in, places_in, words_in}
+use Rattle.sb_decide.specs.Members.{IsMember, IsOther, AreMembers, AreRooted, HasRegexBelow, HasSerialBelow, IsEmptyAt, ids_in, places_in, other_places, words_in}
 use Rattle.sb_decide.specs.Taking.{StayKept, other_dead}
 use Rattle.sb_decide.proofs.Conjunctions.{same_least, least_of_all}
-use Rattle.sb_decide.proofs.Constants.{other_than, places_put, places_back}
+use Rattle.sb_decide.proofs.Constants.{last_gone, other_than, places_put, places_back}
 use Rattle.sb_decide.proofs.DemandFacts.{demanded_below, demanded_decided}
-use Rattle.sb_decide.proofs.MemberFacts.{members_grown, members_told, members_longer, members_left, members_pushed, members_popped, ids_other, words_grown, words_same, empty_grown, empty_pushed, empty_popped}
-use Rattle.sb_decide.proofs.InsideFacts.{inside_told, inside_longer, inside_left}
+use Rattle.sb_decide.proofs.MemberFacts.{members_grown, members_told, members_longer, members_left, members_few, members_pushed, members_popped, ids_other, ids_passed, places_passed, others_pushed, others_passed, others_below, words_grown, words_same, empty_grown, empty_pushed, empty_same}
 use Rattle.sb_decide.proofs.RootFacts.{rooted_grown, rooted_pushed, rooted_popped}
 
 -- of a constant, if there is one
@@ -54,8 +54,8 @@ pub some_more : (P Q : ℕ → Type 0) → ((n : ℕ) → P n → Q n) → (dead
 some_more P Q more None h = tt
 some_more P Q more (Some serial) h = more serial.0 h
 
-dead_kept : (old new : List Regex) (ms : List Member) (dead : Option Serial) → Extends old new
-    → All (λ m. m.regex < length old) ms → IfSome dead (λ s. IsEmptyAt old ms s.0)
+dead_kept : (old new : List Regex) (ms : List (Option Member)) (dead : Option Serial) → Extends old new
+    → All (HasRegexBelow (length old)) ms → IfSome dead (λ s. IsEmptyAt old ms s.0)
     → IfSome dead (λ s. IsEmptyAt new ms s.0)
 dead_kept old new ms dead e known h = some_more (IsEmptyAt old ms) (IsEmptyAt new ms)
     (λ n. empty_grown old new ms n e known) dead h
@@ -69,11 +69,11 @@ taken_grown stays right kept rs ks ms ts xs e normals measures t = record {
   normals = normals;
   measures = measures;
   plain = right kept.arena rs kept.plain e t.plain;
-  inside = t.inside;
   members = members_grown kept.arena rs ts kept.members.items xs e t.members;
   rooted = rooted_grown kept.arena rs kept.members.items kept.roots.items e t.rooted;
   within = t.within;
   places = t.places;
+  others = t.others;
   settled = t.settled;
   listed = t.listed;
   dead = dead_kept kept.arena rs kept.members.items kept.dead e t.rooted.numbers t.dead;
@@ -87,17 +87,21 @@ taken_measured kept ms ts xs measures t = record {
   normals = t.normals;
   measures = measures;
   plain = t.plain;
-  inside = t.inside;
   members = t.members;
   rooted = t.rooted;
   within = t.within;
   places = t.places;
+  others = t.others;
   settled = t.settled;
   listed = t.listed;
   dead = t.dead;
 }
 
 -- there is room for more constants
+serial_more : (n k : ℕ) (o : Option Member) → n ≤ k → HasSerialBelow n o → HasSerialBelow k o
+serial_more n k None l h = tt
+serial_more n k (Some m) l h = omega (arith, l, h)
+
 pub taken_roomy : (kept : Decider) (constants : Vec Conjoined Global) (count : ℕ) (ts : List Term)
     (xs : List code.Assertion) → HasRoom count kept.constants.items constants.items →
     length kept.constants.items ≤ count → IsTaken kept ts xs → IsTaken (record kept { constants = constants }) ts xs
@@ -106,26 +110,28 @@ taken_roomy kept constants count ts xs room l t = record {
   normals = t.normals;
   measures = t.measures;
   plain = t.plain;
-  inside = t.inside;
   members = t.members;
   rooted = t.rooted;
-  within = λ k d m. let low = t.within k d m in omega (arith, room.long, l, low);
+  within = λ k d m. serial_more (length kept.constants.items) (length constants.items) (get_or kept.members.items k d)
+      (omega (arith, room.long, l)) (t.within k d m);
   places = λ n. ap (λ (c : Conjoined). c.places) (room.same n) ∙ t.places n;
+  others = t.others;
   settled = λ n h. ap (λ (c : Conjoined). c.changed) (room.same n) ∙ t.settled n h;
   listed = λ k d m. let low = t.listed k d m in omega (arith, room.long, l, low);
   dead = t.dead;
 }
 
-pub kept_roomy : (rs : List Regex) (ms : List Member) (old new : List Conjoined) (count : ℕ) (words : List (List ℕ))
-    → HasRoom count old new → length old ≤ count → AreKept rs ms old words → AreKept rs ms new words
+pub kept_roomy : (rs : List Regex) (ms : List (Option Member)) (old new : List Conjoined) (count : ℕ)
+    (words : List (List ℕ)) → HasRoom count old new → length old ≤ count → AreKept rs ms old words
+    → AreKept rs ms new words
 kept_roomy rs ms old new count words room l k = record {
   characters = k.characters;
   few = omega (arith, k.few, room.long, l);
   least = λ n h. k.least n (sym (ap (λ (c : Conjoined). c.changed) (room.same n)) ∙ h);
 }
 
-pub kept_grown : (rs new : List Regex) (ms : List Member) (cs : List Conjoined) (words : List (List ℕ))
-    → Extends rs new → All (λ m. m.regex < length rs) ms → AreKept rs ms cs words → AreKept new ms cs words
+pub kept_grown : (rs new : List Regex) (ms : List (Option Member)) (cs : List Conjoined) (words : List (List ℕ))
+    → Extends rs new → All (HasRegexBelow (length rs)) ms → AreKept rs ms cs words → AreKept new ms cs words
 kept_grown rs new ms cs words e known k = record {
   characters = k.characters;
   few = k.few;
@@ -134,9 +140,9 @@ kept_grown rs new ms cs words e known k = record {
 }
 
 -- one constant is changed
-kept_changed : (rs : List Regex) (ms ms' : List Member) (old new : List Conjoined) (serial : ℕ) (places : List ℕ)
-    (words : List (List ℕ)) → IsChangedAt old new serial places → ((n : ℕ) → n ≢ serial → ids_in ms' n ≡ ids_in ms n)
-    → AreKept rs ms old words → AreKept rs ms' new words
+kept_changed : (rs : List Regex) (ms ms' : List (Option Member)) (old new : List Conjoined) (serial : ℕ)
+    (places : List ℕ) (words : List (List ℕ)) → IsChangedAt old new serial places
+    → ((n : ℕ) → n ≢ serial → ids_in ms' n ≡ ids_in ms n) → AreKept rs ms old words → AreKept rs ms' new words
 kept_changed rs ms ms' old new serial places words p same k = record {
   characters = k.characters;
   few = omega (arith, k.few, p.same_length);
@@ -147,6 +153,24 @@ kept_changed rs ms ms' old new serial places words p same k = record {
       (k.least n (sym (ap (λ (c : Conjoined). c.changed) (p.others n other)) ∙ h));
 }
 
+-- one more is taken in that is no membership, or one less
+kept_same : (rs : List Regex) (ms ms' : List (Option Member)) (cs : List Conjoined) (words : List (List ℕ))
+    → ((n : ℕ) → ids_in ms' n ≡ ids_in ms n) → AreKept rs ms cs words → AreKept rs ms' cs words
+kept_same rs ms ms' cs words same k = record {
+  characters = k.characters;
+  few = k.few;
+  least = λ n h. same_least (words_in rs ms n) (words_in rs ms' n) (word_at words n)
+      (λ w _. words_same rs ms ms' n w (same n)) (k.least n h);
+}
+
+pub stay_other : (old new : Decider) → new.arena ≡ old.arena → new.members.items ≡ old.members.items ++ None ∷ []
+    → new.constants ≡ old.constants → StayKept old new
+stay_other old new arena members constants words k = rw (arena, members, constants) (
+  refl,
+  kept_same old.arena old.members.items (old.members.items ++ None ∷ []) old.constants.items words
+      (ids_passed old.members.items) k,
+)
+
 pub stay_grown : (old new : Decider) (ts : List Term) (xs : List code.Assertion) → Extends old.arena new.arena
     → new.members ≡ old.members → new.constants ≡ old.constants → IsTaken old ts xs → StayKept old new
 stay_grown old new ts xs e members same t words k =
@@ -154,13 +178,13 @@ stay_grown old new ts xs e members same t words k =
     (refl, kept_grown old.arena new.arena old.members.items old.constants.items words e t.rooted.numbers k)
 
 pub stay_put : (old new : Decider) (ts : List Term) (xs : List code.Assertion) (m : Member) (places : List ℕ)
-    → Extends old.arena new.arena → new.members.items ≡ old.members.items ++ m ∷ []
+    → Extends old.arena new.arena → new.members.items ≡ old.members.items ++ Some m ∷ []
     → IsChangedAt old.constants.items new.constants.items m.serial.0 places → IsTaken old ts xs → StayKept old new
 stay_put old new ts xs m places e members p t words k = (
   p.same_length,
   rw members
-      (kept_changed new.arena old.members.items (old.members.items ++ m ∷ []) old.constants.items new.constants.items
-      m.serial.0 places words p (ids_other old.members.items m)
+      (kept_changed new.arena old.members.items (old.members.items ++ Some m ∷ []) old.constants.items
+      new.constants.items m.serial.0 places words p (ids_other old.members.items m)
       (kept_grown old.arena new.arena old.members.items old.constants.items words e t.rooted.numbers k)),
 )
 
@@ -170,39 +194,70 @@ pub taken_more : GraphStays → RightStays → (kept new : Decider) (ts : List T
     x ≡ get_or xs (length kept.members.items) x → IsMember new.arena ts m x →
     m.serial.0 < length kept.constants.items →
     Extends kept.arena new.arena → AreNormals ts new.arena new.normals → AreMeasures ts new.measures →
-    new.members.items ≡ kept.members.items ++ m ∷ [] → new.roots.items ≡ kept.roots.items ++ None ∷ [] →
+    new.members.items ≡ kept.members.items ++ Some m ∷ [] → new.roots.items ≡ kept.roots.items ++ None ∷ [] →
     IsChangedAt kept.constants.items new.constants.items m.serial.0
     (places_of kept m.serial.0 ++ length kept.members.items ∷ []) →
     OthersSettled new.changed.items new.constants.items →
     All (λ other. other.0 < length kept.constants.items) new.changed.items → new.graph ≡ kept.graph →
-    new.plain ≡ kept.plain → new.inside ≡ kept.inside → new.dead ≡ kept.dead → IsTaken new ts xs
+    new.plain ≡ kept.plain → new.others ≡ kept.others → new.dead ≡ kept.dead → IsTaken new ts xs
 taken_more stays right kept new ts xs x m t low is member within e normals measures members roots put settled listed
-    graph plain inside dead = record {
+    graph plain others dead = record {
       graph = rw graph (stays kept.arena new.arena kept.graph e t.graph);
       normals = normals;
       measures = measures;
       plain = rw plain (right kept.arena new.arena kept.plain e t.plain);
-      inside = rw inside t.inside;
-      members = rw members (members_pushed new.arena ts kept.members.items xs m x low is member
+      members = rw members (members_pushed new.arena ts kept.members.items xs (Some m) x low is member
           (members_grown kept.arena new.arena ts kept.members.items xs e t.members));
-      rooted = rw (members, roots) (rooted_pushed new.arena kept.members.items m kept.roots.items
+      rooted = rw (members, roots) (rooted_pushed new.arena kept.members.items (Some m) kept.roots.items
           (names_below new.arena m.regex (normal member.regex.reglan) member.regex.names)
           (rooted_grown kept.arena new.arena kept.members.items kept.roots.items e t.rooted));
       within = rw (members, put.same_length)
-          (All-push (λ n. n.serial.0 < length kept.constants.items) kept.members.items m t.within within);
+          (All-push (HasSerialBelow (length kept.constants.items)) kept.members.items (Some m) t.within within);
       places = λ n. places_put kept.constants.items new.constants.items kept.members.items m n t.places put
           ∙ ap (places_in 0 n) (sym members);
+      others = rw (others, members) (t.others ∙ sym (others_passed 0 kept.members.items m));
       settled = settled;
       listed = rw put.same_length listed;
       dead = rw (dead, members) (some_more (IsEmptyAt kept.arena kept.members.items)
-          (IsEmptyAt new.arena (kept.members.items ++ m ∷ []))
+          (IsEmptyAt new.arena (kept.members.items ++ Some m ∷ []))
           (λ n h. empty_pushed new.arena kept.members.items m n
           (empty_grown kept.arena new.arena kept.members.items n e t.rooted.numbers h)) kept.dead t.dead);
     }
 
+-- one more is taken in that is no membership
+pub taken_other : (kept new : Decider) (ts : List Term) (xs : List code.Assertion) (x : code.Assertion)
+    → IsTaken kept ts xs → length kept.members.items < length xs → x ≡ get_or xs (length kept.members.items) x
+    → IsOther ts x → AreMeasures ts new.measures → new.members.items ≡ kept.members.items ++ None ∷ []
+    → new.roots.items ≡ kept.roots.items ++ None ∷ []
+    → new.others.items ≡ kept.others.items ++ length kept.members.items ∷ [] → new.arena ≡ kept.arena
+    → new.graph ≡ kept.graph → new.normals ≡ kept.normals → new.plain ≡ kept.plain → new.constants ≡ kept.constants
+    → new.changed ≡ kept.changed → new.dead ≡ kept.dead → IsTaken new ts xs
+taken_other kept new ts xs x t low is other measures members roots others arena graph normals plain constants changed
+    dead = record {
+      graph = rw (arena, graph) t.graph;
+      normals = rw (arena, normals) t.normals;
+      measures = measures;
+      plain = rw (arena, plain) t.plain;
+      members = rw (arena, members) (members_pushed kept.arena ts kept.members.items xs None x low is other t.members);
+      rooted = rw (arena, members, roots)
+          (rooted_pushed kept.arena kept.members.items None kept.roots.items tt t.rooted);
+      within = rw (members, constants)
+          (All-push (HasSerialBelow (length kept.constants.items)) kept.members.items None t.within tt);
+      places = λ n. ap (λ (v : Vec Conjoined Global). (conjoined_at v.items n).places) constants
+          ∙ (t.places n ∙ (sym (places_passed 0 n kept.members.items) ∙ ap (places_in 0 n) (sym members)));
+      others = rw (others, members) (ap (λ is. is ++ length kept.members.items ∷ []) t.others
+          ∙ sym (others_pushed 0 kept.members.items (length kept.members.items) (omega arith)));
+      settled = rw (changed, constants) t.settled;
+      listed = rw (changed, constants) t.listed;
+      dead = rw (dead, arena, members) (some_more (IsEmptyAt kept.arena kept.members.items)
+          (IsEmptyAt kept.arena (kept.members.items ++ None ∷ []))
+          (λ n h. empty_same kept.arena kept.members.items (kept.members.items ++ None ∷ []) n
+          (ids_passed kept.members.items n) h) kept.dead t.dead);
+    }
+
 -- the last one is taken back
-dead_back : (rs : List Regex) (ms : List Member) (m : Member) (dead : Option Serial)
-    → IfSome dead (λ s. IsEmptyAt rs (ms ++ m ∷ []) s.0)
+dead_back : (rs : List Regex) (ms : List (Option Member)) (m : Member) (dead : Option Serial)
+    → IfSome dead (λ s. IsEmptyAt rs (ms ++ Some m ∷ []) s.0)
     → IfSome (other_dead dead m.serial.0) (λ s. IsEmptyAt rs ms s.0)
 dead_back rs ms m None h = tt
 dead_back rs ms m (Some s) h = by_test (s.0 == m.serial.0) refl
@@ -210,56 +265,107 @@ dead_back rs ms m (Some s) h = by_test (s.0 == m.serial.0) refl
     by_test : (b : Bool) → (s.0 == m.serial.0) ≡ b
         → IfSome (if b then None else Some s) (λ (d : Serial). IsEmptyAt rs ms d.0)
     by_test true k = tt
-    by_test false k = empty_popped rs ms m s.0 (eqb-false s.0 m.serial.0 k) h
+    by_test false k =
+        empty_same rs (ms ++ Some m ∷ []) ms s.0 (sym (ids_other ms m s.0 (eqb-false s.0 m.serial.0 k))) h
 
-pub knows_back : (kept new : Decider) (m : Member) (ms : List Member) (stack : Stacked)
-    → kept.members.items ≡ ms ++ m ∷ []
+front_within : (n : ℕ) (ms : List (Option Member)) (o : Option Member) → All (HasSerialBelow n) (ms ++ o ∷ [])
+    → All (HasSerialBelow n) ms
+front_within n ms o h i d l =
+    subst (HasSerialBelow n) (get_or_append_left ms (o ∷ []) d i l)
+    (h i d (omega (arith, l, length-append ms (o ∷ []))))
+
+-- its constant is one of those that are known
+pub last_within : (kept : Decider) (m : Member) (ms : List (Option Member)) (stack : Stacked)
+    → kept.members.items ≡ ms ++ Some m ∷ [] → Knows kept stack → m.serial.0 < length kept.constants.items
+last_within kept m ms stack was k =
+    let all : All (HasSerialBelow (length kept.constants.items)) (ms ++ Some m ∷ []) = rw was at k.taken.within in
+    subst (HasSerialBelow (length kept.constants.items)) (get_or-append_seam ms (Some m) [] (Some m))
+    (all (length ms) (Some m) (omega (arith, length-append ms (Some m ∷ []))))
+
+pub knows_back : (kept new : Decider) (m : Member) (ms : List (Option Member)) (stack : Stacked)
+    → kept.members.items ≡ ms ++ Some m ∷ []
     → new.members.items ≡ ms → new.roots.items ≡ take (length ms) kept.roots.items
     → new.dead ≡ other_dead kept.dead m.serial.0 → new.arena ≡ kept.arena → new.graph ≡ kept.graph
     → new.normals ≡ kept.normals → new.measures ≡ kept.measures → new.plain ≡ kept.plain
-    → new.inside ≡ kept.inside → IsChangedAt kept.constants.items new.constants.items m.serial.0
+    → new.others ≡ kept.others → IsChangedAt kept.constants.items new.constants.items m.serial.0
     (without_last (conjoined_at kept.constants.items m.serial.0).places)
     → (OthersSettled kept.changed.items kept.constants.items → OthersSettled new.changed.items new.constants.items)
     → (All (λ other. other.0 < length kept.constants.items) kept.changed.items
     → All (λ other. other.0 < length kept.constants.items) new.changed.items)
     → Knows kept stack → Knows new stack
-knows_back kept new m ms stack was members roots dead arena graph normals measures plain inside put settled listed k
+knows_back kept new m ms stack was members roots dead arena graph normals measures plain others put settled listed k
     = record {
       taken = record {
         graph = rw (arena, graph) t.graph;
         normals = rw (arena, normals) t.normals;
         measures = rw measures t.measures;
         plain = rw (arena, plain) t.plain;
-        inside = rw inside t.inside;
         members = rw (arena, members)
-            (members_popped kept.arena stack.table ms stack.assertions m (rw was at t.members));
-        rooted = rw (arena, members, roots) (rooted_popped kept.arena ms m kept.roots.items (rw was at t.rooted));
-        within = rw (members, put.same_length) (λ i d l.
-            subst (λ x. x.serial.0 < length kept.constants.items) (get_or_append_left ms (m ∷ []) d i l)
-            (within i d (omega (arith, l, length-append ms (m ∷ [])))));
+            (members_popped kept.arena stack.table ms stack.assertions (Some m) (rw was at t.members));
+        rooted = rw (arena, members, roots)
+            (rooted_popped kept.arena ms (Some m) kept.roots.items (rw was at t.rooted));
+        within = rw (members, put.same_length)
+            (front_within (length kept.constants.items) ms (Some m) (rw was at t.within));
         places = λ n. places_back kept.constants.items new.constants.items ms m n places put
             ∙ ap (places_in 0 n) (sym members);
+        others = rw (others, members) (t.others ∙ ap (other_places 0) was ∙ others_passed 0 ms m);
         settled = settled t.settled;
         listed = rw put.same_length (listed t.listed);
         dead = rw (dead, arena, members) (dead_back kept.arena ms m kept.dead (rw was at t.dead));
       };
       words = rw (arena, members)
-          (kept_changed kept.arena (ms ++ m ∷ []) ms kept.constants.items new.constants.items m.serial.0 _ stack.words
-          put (λ n other. sym (ids_other ms m n other)) (rw was at k.words));
+          (kept_changed kept.arena (ms ++ Some m ∷ []) ms kept.constants.items new.constants.items m.serial.0 _
+          stack.words put (λ n other. sym (ids_other ms m n other)) (rw was at k.words));
       declared = omega (arith, k.declared, put.same_length);
     }
   where
     t : IsTaken kept stack.table stack.assertions
     t = k.taken
 
-    within : All (λ n. n.serial.0 < length kept.constants.items) (ms ++ m ∷ [])
-    within = rw was at t.within
-
-    places : (n : ℕ) → places_of kept n ≡ places_in 0 n (ms ++ m ∷ [])
+    places : (n : ℕ) → places_of kept n ≡ places_in 0 n (ms ++ Some m ∷ [])
     places n = t.places n ∙ ap (places_in 0 n) was
 
+-- and where it is no membership
+pub knows_back_other : (kept new : Decider) (ms : List (Option Member)) (stack : Stacked)
+    → kept.members.items ≡ ms ++ None ∷ [] → new.members.items ≡ ms
+    → new.roots.items ≡ take (length ms) kept.roots.items → new.others.items ≡ without_last kept.others.items
+    → new.arena ≡ kept.arena → new.graph ≡ kept.graph → new.normals ≡ kept.normals → new.measures ≡ kept.measures
+    → new.plain ≡ kept.plain → new.constants ≡ kept.constants → new.changed ≡ kept.changed → new.dead ≡ kept.dead
+    → Knows kept stack → Knows new stack
+knows_back_other kept new ms stack was members roots others arena graph normals measures plain constants changed dead k
+    = record {
+      taken = record {
+        graph = rw (arena, graph) t.graph;
+        normals = rw (arena, normals) t.normals;
+        measures = rw measures t.measures;
+        plain = rw (arena, plain) t.plain;
+        members = rw (arena, members)
+            (members_popped kept.arena stack.table ms stack.assertions None (rw was at t.members));
+        rooted = rw (arena, members, roots)
+            (rooted_popped kept.arena ms None kept.roots.items (rw was at t.rooted));
+        within = rw (members, constants)
+            (front_within (length kept.constants.items) ms None (rw was at t.within));
+        places = λ n. ap (λ (v : Vec Conjoined Global). (conjoined_at v.items n).places) constants
+            ∙ (t.places n ∙ (ap (places_in 0 n) was ∙ (places_passed 0 n ms ∙ ap (places_in 0 n) (sym members))));
+        others = rw (others, members) (ap without_last (t.others ∙ ap (other_places 0) was
+            ∙ others_pushed 0 ms (length ms) (omega arith)) ∙ last_gone (other_places 0 ms) (length ms));
+        settled = rw (changed, constants) t.settled;
+        listed = rw (changed, constants) t.listed;
+        dead = rw (dead, arena, members) (some_more (IsEmptyAt kept.arena (ms ++ None ∷ [])) (IsEmptyAt kept.arena ms)
+            (λ n h. empty_same kept.arena (ms ++ None ∷ []) ms n (sym (ids_passed ms n)) h) kept.dead
+            (rw was at t.dead));
+      };
+      words = rw (arena, members, constants)
+          (kept_same kept.arena (ms ++ None ∷ []) ms kept.constants.items stack.words (λ n. sym (ids_passed ms n))
+          (rw was at k.words));
+      declared = rw constants k.declared;
+    }
+  where
+    t : IsTaken kept stack.table stack.assertions
+    t = k.taken
+
 -- the assertion at the next place
-pub at_place : (v : Vec Member Global) (xs : List code.Assertion) (i : ℕ) (x : code.Assertion) → i ≡ vec_len v
+pub at_place : (v : Vec (Option Member) Global) (xs : List code.Assertion) (i : ℕ) (x : code.Assertion) → i ≡ vec_len v
     → x ≡ get_or xs i x → x ≡ get_or xs (length v.items) x
 at_place v xs i x same is =
     let e : i ≡ length v.items = omega (arith, same, v.ok.0) in
@@ -278,6 +384,32 @@ one_outside ts (y ∷ xs) (suc i) x low is h =
     and_false : (b : Bool) → (b && false) ≡ false
     and_false true = refl
     and_false false = refl
+
+-- of this term, or of none
+pub term_outside : (ts : List Term) (xs : List code.Assertion) (i : ℕ) (x : code.Assertion) (o : Option ℕ)
+    → i < length xs → x ≡ get_or xs i x → x.term ≡ o → is_decided (assertion_of ts o) ≡ false
+    → list_all is_decided (map (assertion_in ts) xs) ≡ false
+term_outside ts xs i x o low is there outside =
+    one_outside ts xs i x low is (ap (λ p. is_decided (assertion_of ts p)) there ∙ outside)
+
+-- the next assertion is none that asks for one constant's word alone
+pub is_other : (ts : List Term) (xs : List code.Assertion) (i : ℕ) (x : code.Assertion) (id : ℕ)
+    → All (HasNumberBelow (length ts)) xs → i < length xs → x ≡ get_or xs i x → x.term ≡ Some id
+    → demanded (term_at ts id) ≡ None → is_decided (asserted (term_at ts id)) ≡ true → IsOther ts x
+is_other ts xs i x id numbers low at there asks decided = record {
+  term = term_at ts id;
+  number = rw at (numbers i x low);
+  is = ap (assertion_of ts) there;
+  asks = asks;
+  decided = decided;
+}
+
+-- its term's number is below the table's length
+pub number_within : (n : ℕ) (xs : List code.Assertion) (i : ℕ) (x : code.Assertion) (id : ℕ)
+    → All (HasNumberBelow n) xs → i < length xs → x ≡ get_or xs i x → x.term ≡ Some id → id < n
+number_within n xs i x id numbers low is there =
+    let number : HasNumberBelow n x = rw is (numbers i x low) in
+    subst (λ (o : Option ℕ). IfSome o (λ j. j < n)) there number
 
 -- the next assertion is a membership
 pub is_member : (rs : List Regex) (ts : List Term) (xs : List code.Assertion) (i : ℕ) (x : code.Assertion)
@@ -319,11 +451,11 @@ serial_within n ts xs i x id serial R h numbers l is there asks =
 
 -- nothing is known yet
 pub knows_none : (kept : Decider) (stack : Stacked) → length kept.members.items ≡ 0 → length kept.roots.items ≡ 0 →
-    length kept.constants.items ≡ 0
-    → length kept.changed.items ≡ 0 → kept.dead ≡ None → kept.inside ≡ 0 → IsGraph kept.arena kept.graph →
+    length kept.others.items ≡ 0 → length kept.constants.items ≡ 0 → length kept.changed.items ≡ 0 →
+    kept.dead ≡ None → IsGraph kept.arena kept.graph →
     AreNormals stack.table kept.arena kept.normals → kept.measures ≡ [] → IsRight kept.arena kept.plain →
     stack.words ≡ [] → Knows kept stack
-knows_none kept stack members roots constants changed dead inside graph normals measures plain words =
+knows_none kept stack members roots others constants changed dead graph normals measures plain words =
     let none : kept.constants.items ≡ [] = nil_from_length kept.constants.items constants in
     let nothing : kept.members.items ≡ [] = nil_from_length kept.members.items members in
     record {
@@ -332,15 +464,19 @@ knows_none kept stack members roots constants changed dead inside graph normals 
         normals = normals;
         measures = rw measures (no_measures stack.table);
         plain = plain;
-        inside = rw inside tt;
         members = rw nothing tt;
         rooted = record {
-          numbers = rw nothing (All-nil (λ (m : Member). m.regex < length kept.arena));
+          numbers = rw nothing (All-nil (HasRegexBelow (length kept.arena)));
           abreast = omega (arith, members, roots);
-          right = λ place m root at is. absurd (omega (arith, members, slice_get_within kept.members.items place m at));
+          right = λ place m root at is. absurd (omega (
+            arith,
+            members,
+            slice_get_within kept.members.items place (Some m) at,
+          ));
         };
         within = λ i d l. absurd (omega (arith, l, members));
         places = λ n. ap (λ cs. (conjoined_at cs n).places) none ∙ ap (places_in 0 n) (sym nothing);
+        others = nil_from_length kept.others.items others ∙ ap (other_places 0) (sym nothing);
         settled = λ n h. rw none refl;
         listed = λ i d l. absurd (omega (arith, l, changed));
         dead = rw dead tt;
@@ -356,20 +492,19 @@ knows_none kept stack members roots constants changed dead inside graph normals 
 -- another table and other assertions
 knows_told : NormalsStay → (kept : Decider) (old new : Stacked) → table.Extends old.table new.table
     → new.words ≡ old.words → length old.scope.sorts ≤ length new.scope.sorts
-    → AreMembers kept.arena new.table kept.members.items new.assertions
-    → AreInside new.table kept.inside new.assertions → Knows kept old → Knows kept new
-knows_told stays kept old new e words constants members inside k =
+    → AreMembers kept.arena new.table kept.members.items new.assertions → Knows kept old → Knows kept new
+knows_told stays kept old new e words constants members k =
     let t = k.taken in record {
       taken = record {
         graph = t.graph;
         normals = stays old.table new.table kept.arena kept.arena kept.normals e (extends_same kept.arena) t.normals;
         measures = measures_kept old.table new.table kept.measures e t.measures;
         plain = t.plain;
-        inside = inside;
         members = members;
         rooted = t.rooted;
         within = t.within;
         places = t.places;
+        others = t.others;
         settled = t.settled;
         listed = t.listed;
         dead = t.dead;
@@ -385,23 +520,17 @@ pub knows_stays : NormalsStay → (kept : Decider) (old new : Stacked) → table
 knows_stays stays kept old new e longer words constants k =
     knows_told stays kept old new e words constants
     (rw longer.1 (members_longer kept.arena new.table kept.members.items old.assertions longer.0
-    (members_told kept.arena old.table new.table kept.members.items old.assertions e k.taken.members)))
-    (rw longer.1 (inside_longer new.table kept.inside old.assertions longer.0
-    (inside_told old.table new.table kept.inside old.assertions e k.taken.inside))) k
+    (members_told kept.arena old.table new.table kept.members.items old.assertions e k.taken.members))) k
 
 -- the table grows, and assertions go that were not taken in
 pub knows_left : NormalsStay → (kept : Decider) (old new : Stacked) → table.Extends old.table new.table
     → IsLonger new.assertions old.assertions → length kept.members.items ≤ length new.assertions
-    → kept.inside ≤ length new.assertions
     → new.words ≡ old.words → length old.scope.sorts ≤ length new.scope.sorts → Knows kept old → Knows kept new
-knows_left stays kept old new e longer few low words constants k =
+knows_left stays kept old new e longer few words constants k =
     knows_told stays kept old new e words constants
     (members_left kept.arena new.table kept.members.items new.assertions longer.0 few
     (subst (AreMembers kept.arena new.table kept.members.items) longer.1
-    (members_told kept.arena old.table new.table kept.members.items old.assertions e k.taken.members)))
-    (inside_left new.table kept.inside new.assertions longer.0 low
-    (subst (AreInside new.table kept.inside) longer.1
-    (inside_told old.table new.table kept.inside old.assertions e k.taken.inside))) k
+    (members_told kept.arena old.table new.table kept.members.items old.assertions e k.taken.members))) k
 
 -- another mode
 pub knows_mode : (kept : Decider) (stack : Stacked) (mode : _) → Knows kept stack
@@ -419,11 +548,11 @@ taken_searched stays right kept rs g roots ts xs e graph rooted t = record {
   normals = stays ts ts kept.arena rs kept.normals (table_facts.extends_same ts) e t.normals;
   measures = t.measures;
   plain = right kept.arena rs kept.plain e t.plain;
-  inside = t.inside;
   members = members_grown kept.arena rs ts kept.members.items xs e t.members;
   rooted = rooted;
   within = t.within;
   places = t.places;
+  others = t.others;
   settled = t.settled;
   listed = t.listed;
   dead = dead_kept kept.arena rs kept.members.items kept.dead e t.rooted.numbers t.dead;
@@ -442,11 +571,11 @@ knows_dead stays right kept rs g roots stack serial e graph rooted empty k =
         normals = t.normals;
         measures = t.measures;
         plain = t.plain;
-        inside = t.inside;
         members = t.members;
         rooted = t.rooted;
         within = t.within;
         places = t.places;
+        others = t.others;
         settled = t.settled;
         listed = t.listed;
         dead = empty;
@@ -467,11 +596,11 @@ taken_all stays right kept rs g ks ms p ts xs e graph normals measures plain k =
       normals = t.normals;
       measures = t.measures;
       plain = plain;
-      inside = t.inside;
       members = t.members;
       rooted = t.rooted;
       within = t.within;
       places = t.places;
+      others = t.others;
       settled = t.settled;
       listed = t.listed;
       dead = t.dead;
@@ -487,3 +616,14 @@ knows_grown stays right kept rs g ks ms p stack e graph normals measures plain k
       k.words;
   declared = k.declared;
 }
+
+-- the places of those that are no memberships are places of assertions
+pub others_within : (kept : Decider) (stack : Stacked) → Knows kept stack → (place : ℕ)
+    → Contains kept.others.items place → place < length stack.assertions
+others_within kept stack k place there =
+    let few = members_few kept.arena stack.table kept.members.items stack.assertions k.taken.members in
+    let below = others_below 0 kept.members.items in
+    let these : Contains (other_places 0 kept.members.items) place = rw k.taken.others at there in
+    let low = below these.0 place these.1 in
+    let same : get_or (other_places 0 kept.members.items) these.0 place ≡ place = these.2 in
+    omega (arith, few, low, same)

@@ -40,11 +40,13 @@ places_known kept n stack k =
 pub dead_known : NormalHasTermsWords → (kept : Decider) (stack : Stacked) → Knows kept stack
     → IfSome kept.dead (λ serial. HasNoWordAt (live (state_of stack)) (places_of kept serial.0))
 dead_known law kept stack k =
-    let sofar = sofar_of law kept.arena stack.table kept.members.items stack.assertions k.taken.members in
+    let members = k.taken.members in
+    let sofar = sofar_of law kept.arena stack.table kept.members.items stack.assertions members in
+    let decided = members_decided kept.arena stack.table kept.members.items stack.assertions members in
     some_more (IsEmptyAt kept.arena kept.members.items)
     (λ n. HasNoWordAt (live (state_of stack)) (places_of kept n))
     (λ n empty rs regexes w c. words_at_places law 0 n (live (state_of stack))
-    (map (assertion_in stack.table) (take (length kept.members.items) stack.assertions)) rs w c sofar.members
+    (map (assertion_in stack.table) (take (length kept.members.items) stack.assertions)) rs w c decided
     (front_live stack (length kept.members.items))
     (rw (places_are kept n stack k) at regexes)
     ∙ (sofar.words n w c ∙ empty w c)) kept.dead k.taken.dead

@@ -1,5 +1,5 @@
 -- A check that is left open: all constants are to have other words, so whatever words are found may be kept.
-use Rattle.std.proofs.Common.{◌≡◌, ℕ, zero, suc, ◌<◌, ◌≤◌, Bool, true, false, nat_lt, nat_le, ◌==◌, if◌then◌else◌, List, [], ◌∷◌, length, map, refl, sym, ap, subst, ◌∙◌, arith, vec_len}
+use Rattle.std.proofs.Common.{◌≡◌, ℕ, zero, suc, ◌<◌, ◌≤◌, Bool, true, false, nat_lt, ◌==◌, if◌then◌else◌, List, [], ◌∷◌, length, Option, Some, None, refl, sym, ap, subst, ◌∙◌, arith}
 use Rattle.std.proofs.lemmas.Bool.{false≢true}
 use Rattle.std.proofs.lemmas.Bool.Decides.{nat_tests}
 use Rattle.std.specs.List.{All, list_all}
@@ -19,12 +19,12 @@ use Rattle.sb_problem.specs.Known.{AreNormals}
 use Rattle.sb_meaning.specs.Terms.{Term}
 use Rattle.sb_term.specs.declared.assertion.Assertion as code
 use Rattle.sb_term.specs.declared.term.Serial.{Serial}
-use Rattle.sb_script.specs.State.{Assertion, live_terms}
+use Rattle.sb_script.specs.Models.{is_plain, is_plain_assertion}
+use Rattle.sb_script.specs.State.{live_terms}
 use Rattle.sb_fragment.specs.declared.measure.Measure.{Measure}
 use Rattle.sb_fragment.specs.Measures.{AreMeasures}
-use Rattle.sb_fragment.specs.Rules.{is_decided}
 use Rattle.sb_stack.specs.Speaking.{speaks_of}
-use Rattle.sb_stack.specs.Stacked.{Stacked, state_of, live_constants, are_words, assertion_in}
+use Rattle.sb_stack.specs.Stacked.{Stacked, state_of, live_constants, are_words}
 use Rattle.sb_stack.specs.Steps.{found}
 use Rattle.sb_stack.specs.declared.verdict.Verdict.{Verdict}
 use Rattle.sb_stack.specs.declared.verdict.Verdict.TheVariants as verdict
@@ -34,60 +34,12 @@ use Rattle.sb_decide.specs.declared.decide.Decider.{Decider}
 use Rattle.sb_decide.specs.Conjoined.{Conjoined, conjoined_at, OthersSettled, AreAllChanged}
 use Rattle.sb_decide.specs.Deciding.{in_each, word_at}
 use Rattle.sb_decide.specs.Knowing.{IsTaken, AreKept, Knows, MayBeKept, IsLeftOpen}
-use Rattle.sb_decide.specs.Members.{AreInside, ids_in, words_in}
+use Rattle.sb_decide.specs.Members.{HasSerialBelow, ids_in, words_in}
+use Rattle.sb_decide.specs.Taking.{HasAll}
 use Rattle.sb_decide.proofs.Conjunctions.{least_of_all}
-use Rattle.sb_decide.proofs.InsideFacts.{inside_fewer, inside_all}
 use Rattle.sb_decide.proofs.Knowledge.{taken_all, knows_grown}
-use Rattle.sb_decide.proofs.OneMembership.{members_inside}
-
--- other assertions are known to be decided ones
-pub knows_looked : (kept : Decider) (ms : List Measure) (n : ℕ) (stack : Stacked) → AreMeasures stack.table ms
-    → AreInside stack.table n stack.assertions → Knows kept stack
-    → Knows (record kept { measures = ms; inside = n }) stack
-knows_looked kept ms n stack measures inside k = let t = k.taken in record {
-  taken = record {
-    graph = t.graph;
-    normals = t.normals;
-    measures = measures;
-    plain = t.plain;
-    inside = inside;
-    members = t.members;
-    rooted = t.rooted;
-    within = t.within;
-    places = t.places;
-    settled = t.settled;
-    listed = t.listed;
-    dead = t.dead;
-  };
-  words = k.words;
-  declared = k.declared;
-}
-
-pub knows_fewer : (kept : Decider) (n : ℕ) (stack : Stacked) → n ≤ kept.inside → Knows kept stack
-    → Knows (record kept { inside = n }) stack
-knows_fewer kept n stack l k =
-    knows_looked kept kept.measures n stack k.taken.measures
-    (inside_fewer stack.table n kept.inside stack.assertions l k.taken.inside) k
-
--- the assertions that were looked at, or those that were taken in, whichever are more
-pub known_inside : (kept : Decider) (stack : Stacked) (ts : List Term) (xs : List code.Assertion) (m n : ℕ)
-    → ts ≡ stack.table → xs ≡ stack.assertions → n ≡ vec_len kept.members → (kept.inside ≤ n → m ≡ n)
-    → (n ≤ kept.inside → m ≡ kept.inside) → Knows kept stack → AreInside ts m xs
-known_inside kept stack ts xs m n table assertions count right left k =
-    rw (table, assertions) (step (nat_le kept.inside n) refl)
-  where
-    same : n ≡ length kept.members.items
-    same = omega (arith, count, kept.members.ok.0)
-
-    step : (b : Bool) → nat_le kept.inside n ≡ b → AreInside stack.table m stack.assertions
-    step true e =
-        rw (right (grind (arith, nat_tests, e)) ∙ same)
-        (members_inside kept.arena stack.table kept.members.items stack.assertions k.taken.members)
-    step false e = rw (left (grind (arith, nat_tests, e))) k.taken.inside
-
-pub live_outside : (ts : List Term) (xs : List code.Assertion) (live_now : List Assertion) → map (assertion_in ts) xs ≡ live_now
-    → list_all is_decided (map (assertion_in ts) xs) ≡ false → list_all is_decided live_now ≡ false
-live_outside ts xs live_now is h = ap (list_all is_decided) (sym is) ∙ h
+use Rattle.sb_decide.proofs.OneMembership.{not_all_plain}
+use Rattle.sb_decide.proofs.TakingOver.{decided_live}
 
 -- Constants one by one.
 
@@ -108,23 +60,24 @@ taken_changed kept cs ss ts xs all settled listed t = record {
   normals = t.normals;
   measures = t.measures;
   plain = t.plain;
-  inside = t.inside;
   members = t.members;
   rooted = t.rooted;
   within = rw all.same_length t.within;
   places = λ n. all.places n ∙ t.places n;
+  others = t.others;
   settled = settled;
   listed = rw all.same_length listed;
   dead = t.dead;
 }
 
-ids_none : (ms : List Member) (k n : ℕ) → All (λ m. m.serial.0 < k) ms → k ≤ n → ids_in ms n ≡ []
+ids_none : (ms : List (Option Member)) (k n : ℕ) → All (HasSerialBelow k) ms → k ≤ n → ids_in ms n ≡ []
 ids_none [] k n h l = refl
-ids_none (m ∷ ms) k n h l =
-    let low = All-head (λ m. m.serial.0 < k) m ms h in
+ids_none (None ∷ ms) k n h l = ids_none ms k n (All-tail (HasSerialBelow k) None ms h) l
+ids_none (Some m ∷ ms) k n h l =
+    let low : m.serial.0 < k = All-head (HasSerialBelow k) (Some m) ms h in
     let other : (n == m.serial.0) ≡ false = grind (arith, nat_tests, low, l) in
     ap (λ b. if b then m.regex ∷ ids_in ms n else ids_in ms n) other
-    ∙ ids_none ms k n (All-tail (λ m. m.serial.0 < k) m ms h) l
+    ∙ ids_none ms k n (All-tail (HasSerialBelow k) (Some m) ms h) l
 
 word_past : (words : List (List ℕ)) (n : ℕ) → length words ≤ n → word_at words n ≡ []
 word_past [] n l = refl
@@ -132,8 +85,8 @@ word_past (w ∷ words) zero l = absurd (omega (arith, l))
 word_past (w ∷ words) (suc n) l = word_past words n (omega (arith, l))
 
 -- whatever words are kept
-pub any_words : (rs : List Regex) (ms : List Member) (cs : List Conjoined) (words : List (List ℕ))
-    → ((n : ℕ) → n < length cs → (conjoined_at cs n).changed ≡ true) → All (λ m. m.serial.0 < length cs) ms
+pub any_words : (rs : List Regex) (ms : List (Option Member)) (cs : List Conjoined) (words : List (List ℕ))
+    → ((n : ℕ) → n < length cs → (conjoined_at cs n).changed ≡ true) → All (HasSerialBelow (length cs)) ms
     → are_words words ≡ true → length words ≤ length cs → AreKept rs ms cs words
 any_words rs ms cs words changed within characters few = record {
   characters = characters;
@@ -166,33 +119,45 @@ knows_any kept stack verdict.Unknown t any room characters few may =
 knows_any kept stack verdict.Outside t any room characters few may =
     record { taken = t; words = any stack.words characters few; declared = omega (arith, room) }
 
+-- while there are others, not all assertions are plain
+some_other : (ps : List ℕ) → 0 < length ps → ps ≡ [] → ⊥
+some_other ps more none = omega (arith, more, ap length none)
+
+not_plain_yet : (kept : Decider) (stack : Stacked) → Knows kept stack → 0 < length kept.others.items
+    → is_plain (state_of stack) ≡ false
+not_plain_yet kept stack k more =
+    ap (list_all is_plain_assertion) (live_laid stack)
+    ∙ not_all_plain kept.arena stack.table 0 kept.members.items stack.assertions k.taken.members
+    (λ none. some_other kept.others.items more (k.taken.others ∙ none))
+
 pub left_open : (kept : Decider) (cs : Vec Conjoined Global) (ss : Vec Serial Global) (stack : Stacked)
-    → Knows kept stack → length stack.assertions ≤ kept.inside → length kept.constants.items ≡ length stack.scope.sorts
+    → Knows kept stack → HasAll kept stack → 0 < length kept.others.items
     → list_all (speaks_of (live_constants stack)) (live_terms (state_of stack)) ≡ true
     → AreAllChanged kept.constants.items cs.items → OthersSettled ss.items cs.items
     → All (λ other. other.0 < length kept.constants.items) ss.items
     → IsLeftOpen (record kept { constants = cs; changed = ss }) stack
-left_open kept cs ss stack k looked room named all settled listed =
+left_open kept cs ss stack k has more named all settled listed =
     let t = taken_changed kept cs ss stack.table stack.assertions all settled listed k.taken in record {
-      decided = ap (list_all is_decided) (live_laid stack)
-          ∙ inside_all stack.table kept.inside stack.assertions looked k.taken.inside;
+      decided = decided_live kept stack k has;
+      not_plain = not_plain_yet kept stack k more;
+      all = has.0;
       named = named;
       taken = t;
       keeps = λ v may. knows_any (record kept { constants = cs; changed = ss }) stack v t
           (λ words characters few. any_words kept.arena kept.members.items cs.items words all.changed t.within characters
-          few) (all.same_length ∙ room) k.words.characters (omega (arith, k.words.few, all.same_length)) may;
+          few) (all.same_length ∙ has.1) k.words.characters (omega (arith, k.words.few, all.same_length)) may;
     }
 
 -- where constants were written over
 pub left_open_through : (kept : Decider) (now new : List Conjoined) (ss : Vec Serial Global) (stack : Stacked)
-    → Knows kept stack → length stack.assertions ≤ kept.inside → length kept.constants.items ≡ length stack.scope.sorts
+    → Knows kept stack → HasAll kept stack → 0 < length kept.others.items
     → list_all (speaks_of (live_constants stack)) (live_terms (state_of stack)) ≡ true → now ≡ kept.constants.items
     → AreAllChanged now new → OthersSettled ss.items new → All (λ other. other.0 < length now) ss.items
     → IsLeftOpen (record kept { constants = with_items kept.constants new; changed = ss }) stack
-left_open_through kept now new ss stack k looked room named value all settled listed =
+left_open_through kept now new ss stack k has more named value all settled listed =
     let changed : AreAllChanged kept.constants.items new = rw value at all in
     let same = with_items_is kept.constants new (omega (arith, changed.same_length, kept.constants.ok.0)) in
-    left_open kept (with_items kept.constants new) ss stack k looked room named
+    left_open kept (with_items kept.constants new) ss stack k has more named
     (subst (AreAllChanged kept.constants.items) (sym same) changed)
     (subst (OthersSettled ss.items) (sym same) settled) (rw value at listed)
 
@@ -216,6 +181,8 @@ pub left_open_grown : GraphStays → RightStays → (kept : Decider) (rs : List 
     IsLeftOpen (record kept { arena = rs; graph = g; normals = ks; measures = ms; plain = p }) stack
 left_open_grown stays right kept rs g ks ms p stack e graph normals measures plain o = record {
   decided = o.decided;
+  not_plain = o.not_plain;
+  all = o.all;
   named = o.named;
   taken = taken_all stays right kept rs g ks ms p stack.table stack.assertions e graph normals measures plain o.taken;
   keeps = λ v may. grown v (o.keeps v may);

@@ -3,7 +3,6 @@ pub mod DemandFacts
 pub mod AskingTerms
 pub mod OneMembership
 pub mod MemberFacts
-pub mod InsideFacts
 pub mod LeftOpen
 pub mod RootFacts
 pub mod DefaultValues

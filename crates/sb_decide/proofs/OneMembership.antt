@@ -1,5 +1,5 @@
 -- One more term that asks something of a constant's word.
-use Rattle.std.proofs.Common.{◌≡◌, ◌≢◌, ℕ, ◌<◌, Bool, true, false, ◌&&◌, ◌==◌, if◌then◌else◌, List, [], ◌∷◌, ◌++◌, length, map, take, refl, sym, ap, ap₂, subst, ◌∙◌, arith, Some}
+use Rattle.std.proofs.Common.{◌≡◌, ◌≢◌, ℕ, ◌+◌, ◌<◌, Bool, true, false, ◌&&◌, ◌==◌, if◌then◌else◌, List, [], ◌∷◌, ◌++◌, length, map, take, refl, sym, ap, ap₂, subst, ◌∙◌, arith, Option, Some, None}
 use Rattle.std.proofs.lemmas.Bool.{and_parts, and_from, false≢true, eq-eqb, eqb-true, eqb-false}
 use Rattle.std.proofs.Math.Bool.{and-true, and_assoc}
 use Rattle.std.proofs.lemmas.Bool.Decides.{nat_tests}
@@ -15,7 +15,8 @@ use Rattle.sb_regex.specs.Numbered.{regex_at, AllNumbers}
 use Rattle.sb_meaning.specs.Terms.{Sort, Term, text}
 use Rattle.sb_meaning.specs.Values.{Valuation, Text, value_in}
 use Rattle.sb_meaning.specs.Truth.{means_reglan, meaning_of, holds, all_hold}
-use Rattle.sb_script.specs.State.{Assertion, asserted, a_mark, terms_in}
+use Rattle.sb_script.specs.Models.{is_plain_assertion}
+use Rattle.sb_script.specs.State.{Assertion, asserted, terms_in}
 use Rattle.sb_script.specs.Brought.{is_regex, is_structure}
 use Rattle.sb_script.specs.Fragment.{fits}
 use Rattle.std.specs.List.{list_all}
@@ -28,10 +29,10 @@ use Rattle.sb_stack.proofs.CallerLemmas.{value_there}
 use Rattle.sb_decide.specs.declared.conjuncts.Member.{Member}
 use Rattle.sb_decide.specs.Demands.{demanded, is_demand}
 use Rattle.sb_decide.specs.Deciding.{IsSofar, in_each, asking, words_asked, word_at}
-use Rattle.sb_decide.specs.Members.{AreMembers, AreInside, ids_in}
+use Rattle.sb_decide.specs.Members.{IsTakenAs, AreMembers, ids_in, other_places}
 use Rattle.sb_decide.specs.Places.{asks_of, is_member}
-use Rattle.sb_decide.proofs.AskingTerms.{asks_same}
-use Rattle.sb_decide.proofs.DemandFacts.{demand_in, demanded_holds, demanded_decided, demanded_kind, demanded_speaks}
+use Rattle.sb_decide.proofs.AskingTerms.{asks_same, asks_nothing, words_apart}
+use Rattle.sb_decide.proofs.DemandFacts.{demanded_holds, demanded_kind, demanded_none, demanded_speaks, nothing_plain}
 use Rattle.sb_regex.proofs.CallerLemmas.{names_at, names_below}
 
 alone_value : (n : ℕ) (w : List ℕ) → value_in ((n, Text w) ∷ []) n text ≡ Text w
@@ -95,11 +96,11 @@ first_decided done t serial R asks kind decided h =
     (and_parts (is_structure t) (fits t) decided).1) h
 
 -- the words of each constant with such a term in front
-first_words : NormalHasTermsWords → (rs : List Regex) (ts : List Term) (t R : Term) (m : Member) (ms : List Member)
-    → demanded t ≡ Some (m.serial.0, R) → IsRegexOf rs R m.regex
+first_words : NormalHasTermsWords → (rs : List Regex) (ts : List Term) (t R : Term) (m : Member)
+    (ms : List (Option Member)) → demanded t ≡ Some (m.serial.0, R) → IsRegexOf rs R m.regex
     → ((n : ℕ) (w : List ℕ) → IsWord w → words_asked n ts w ≡ in_each rs (ids_in ms n) w)
     → (n : ℕ) (w : List ℕ) → IsWord w
-    → words_asked n (t ∷ ts) w ≡ in_each rs (ids_in (m ∷ ms) n) w
+    → words_asked n (t ∷ ts) w ≡ in_each rs (ids_in (Some m ∷ ms) n) w
 first_words law rs ts t R m ms asks r words n w c = words-append n (t ∷ []) ts w ∙ by_test (n == m.serial.0) refl
   where
     by_test : (b : Bool) → (n == m.serial.0) ≡ b → (words_asked n (t ∷ []) w && words_asked n ts w)
@@ -109,8 +110,8 @@ first_words law rs ts t R m ms asks r words n w c = words-append n (t ∷ []) ts
         ∙ sym (member_language law rs R m.regex r w c)) (words n w c)
     by_test false h = ap₂ ◌&&◌ (one_other n t m.serial.0 R w asks (eqb-false n m.serial.0 h)) (words n w c)
 
-first_known : (rs : List Regex) (m : Member) (ms : List Member) → m.regex < length rs
-    → ((n : ℕ) → AllNumbers rs (ids_in ms n)) → (n : ℕ) → AllNumbers rs (ids_in (m ∷ ms) n)
+first_known : (rs : List Regex) (m : Member) (ms : List (Option Member)) → m.regex < length rs
+    → ((n : ℕ) → AllNumbers rs (ids_in ms n)) → (n : ℕ) → AllNumbers rs (ids_in (Some m ∷ ms) n)
 first_known rs m ms low known n = by_test (n == m.serial.0)
   where
     by_test : (b : Bool) → AllNumbers rs (if b then m.regex ∷ ids_in ms n else ids_in ms n)
@@ -160,61 +161,94 @@ first_together rs ts t serial R id asks r together cs words truths named h =
     parts n = sym (words-append n (t ∷ []) ts (word_at words n)) ∙ h n
 
 sofar_first : NormalHasTermsWords → (rs : List Regex) (done : List Assertion) (t R : Term) (m : Member)
-    (ms : List Member) → demanded t ≡ Some (m.serial.0, R) → IsRegexOf rs R m.regex → is_decided (asserted t) ≡ true
-    → IsSofar rs done (ids_in ms) → IsSofar rs (asserted t ∷ done) (ids_in (m ∷ ms))
-sofar_first law rs done t R m ms asks r decided s = record {
-  members = first_decided done t m.serial.0 R asks r.kind decided s.members;
+    (ms : List (Option Member)) → demanded t ≡ Some (m.serial.0, R) → IsRegexOf rs R m.regex
+    → IsSofar rs done (ids_in ms) → IsSofar rs (asserted t ∷ done) (ids_in (Some m ∷ ms))
+sofar_first law rs done t R m ms asks r s = record {
   known = first_known rs m ms (names_below rs m.regex (normal r.reglan) r.names) s.known;
   words = first_words law rs (terms_in done) t R m ms asks r s.words;
   apart = first_apart rs (terms_in done) t m.serial.0 R m.regex asks r s.apart;
-  together = first_together rs (terms_in done) t m.serial.0 R m.regex asks r s.together;
+  together = λ members. first_together rs (terms_in done) t m.serial.0 R m.regex asks r
+      (s.together (and_parts (is_member (asserted t)) (list_all is_member done) members).1);
+}
+
+-- with a term in front that asks nothing of one constant's word alone
+other_first : (done : List Assertion) (t : Term) → demanded t ≡ None → list_all is_member (asserted t ∷ done) ≡ true
+    → ⊥
+other_first done t none members =
+    let one = (and_parts (is_member (asserted t)) (list_all is_member done) members).0 in
+    false≢true (sym (demanded_none t none) ∙ (and_parts (is_demand t) (fits t) one).0)
+
+sofar_other : (rs : List Regex) (done : List Assertion) (t : Term) (ms : List (Option Member)) → demanded t ≡ None
+    → IsSofar rs done (ids_in ms) → IsSofar rs (asserted t ∷ done) (ids_in (None ∷ ms))
+sofar_other rs done t ms none s = record {
+  known = λ n. s.known n;
+  words = λ n w c. words_apart n t (terms_in done) w (asks_nothing n t none) ∙ s.words n w c;
+  apart = λ v n w value h. words_apart n t (terms_in done) w (asks_nothing n t none)
+      ∙ s.apart v n w value (and_parts (holds t v) (all_hold (terms_in done) v) h).1;
+  together = λ members. absurd (other_first done t none members);
 }
 
 -- what is known of the assertions that were taken in
-pub sofar_of : NormalHasTermsWords → (rs : List Regex) (ts : List Term) (ms : List Member) (xs : List code.Assertion)
-    → AreMembers rs ts ms xs → IsSofar rs (map (assertion_in ts) (take (length ms) xs)) (ids_in ms)
+pub sofar_of : NormalHasTermsWords → (rs : List Regex) (ts : List Term) (ms : List (Option Member))
+    (xs : List code.Assertion) → AreMembers rs ts ms xs →
+    IsSofar rs (map (assertion_in ts) (take (length ms) xs)) (ids_in ms)
 sofar_of law rs ts [] xs h = record {
-  members = refl;
   known = λ n. All-nil (λ i. i < length rs);
   words = λ n w c. refl;
   apart = λ v n w value h. refl;
-  together = λ cs words truths named h. refl;
+  together = λ members cs words truths named h. refl;
 }
-sofar_of law rs ts (m ∷ ms) [] h = absurd h
-sofar_of law rs ts (m ∷ ms) (x ∷ xs) h =
-    subst (λ a. IsSofar rs (a ∷ map (assertion_in ts) (take (length ms) xs)) (ids_in (m ∷ ms))) (sym h.0.is)
+sofar_of law rs ts (o ∷ ms) [] h = absurd h
+sofar_of law rs ts (None ∷ ms) (x ∷ xs) h =
+    subst (λ a. IsSofar rs (a ∷ map (assertion_in ts) (take (length ms) xs)) (ids_in (None ∷ ms))) (sym h.0.is)
+    (sofar_other rs (map (assertion_in ts) (take (length ms) xs)) h.0.term ms h.0.asks (sofar_of law rs ts ms xs h.1))
+sofar_of law rs ts (Some m ∷ ms) (x ∷ xs) h =
+    subst (λ a. IsSofar rs (a ∷ map (assertion_in ts) (take (length ms) xs)) (ids_in (Some m ∷ ms))) (sym h.0.is)
     (sofar_first law rs (map (assertion_in ts) (take (length ms) xs)) h.0.term h.0.wanted m ms h.0.asks h.0.regex
-    h.0.decided (sofar_of law rs ts ms xs h.1))
+    (sofar_of law rs ts ms xs h.1))
 
--- each of them asks something of one constant's word, and is decided
-pub members_decided : (rs : List Regex) (ts : List Term) (ms : List Member) (xs : List code.Assertion)
-    → AreMembers rs ts ms xs → list_all is_member (map (assertion_in ts) (take (length ms) xs)) ≡ true
+-- each of them is decided
+one_decided : (rs : List Regex) (ts : List Term) (o : Option Member) (x : code.Assertion) → IsTakenAs rs ts o x
+    → is_decided (assertion_in ts x) ≡ true
+one_decided rs ts None x h = ap is_decided h.is ∙ h.decided
+one_decided rs ts (Some m) x h = ap is_decided h.is ∙ h.decided
+
+pub members_decided : (rs : List Regex) (ts : List Term) (ms : List (Option Member)) (xs : List code.Assertion)
+    → AreMembers rs ts ms xs → list_all is_decided (map (assertion_in ts) (take (length ms) xs)) ≡ true
 members_decided rs ts [] xs h = refl
-members_decided rs ts (m ∷ ms) [] h = absurd h
-members_decided rs ts (m ∷ ms) (x ∷ xs) h =
+members_decided rs ts (o ∷ ms) [] h = absurd h
+members_decided rs ts (o ∷ ms) (x ∷ xs) h =
+    and_from (is_decided (assertion_in ts x)) (list_all is_decided (map (assertion_in ts) (take (length ms) xs)))
+    (one_decided rs ts o x h.0) (members_decided rs ts ms xs h.1)
+
+-- and where there are no others, each asks something of one constant's word
+no_place : (place : ℕ) (places : List ℕ) → place ∷ places ≡ [] → ⊥
+no_place place places e = cc
+
+pub members_alone : (rs : List Regex) (ts : List Term) (k : ℕ) (ms : List (Option Member)) (xs : List code.Assertion)
+    → AreMembers rs ts ms xs → other_places k ms ≡ []
+    → list_all is_member (map (assertion_in ts) (take (length ms) xs)) ≡ true
+members_alone rs ts k [] xs h alone = refl
+members_alone rs ts k (o ∷ ms) [] h alone = absurd h
+members_alone rs ts k (None ∷ ms) (x ∷ xs) h alone = absurd (no_place k (other_places (k + 1) ms) alone)
+members_alone rs ts k (Some m ∷ ms) (x ∷ xs) h alone =
     ap (λ a. list_all is_member (a ∷ map (assertion_in ts) (take (length ms) xs))) h.0.is
     ∙ first_decided (map (assertion_in ts) (take (length ms) xs)) h.0.term m.serial.0 h.0.wanted h.0.asks
-    h.0.regex.kind h.0.decided (members_decided rs ts ms xs h.1)
+    h.0.regex.kind h.0.decided (members_alone rs ts (k + 1) ms xs h.1 alone)
 
-pub member_decided : (a : Assertion) → is_member a ≡ true → is_decided a ≡ true
-member_decided (asserted t) h =
-    let parts = and_parts (is_demand t) (fits t) h in
-    let d = demand_in t parts.0 in
-    demanded_decided t d.serial d.expression d.asks d.kind parts.1
-member_decided a_mark h = absurd (false≢true h)
-
-pub all_decided : (all : List Assertion) → list_all is_member all ≡ true → list_all is_decided all ≡ true
-all_decided [] h = refl
-all_decided (a ∷ all) h =
-    let parts = and_parts (is_member a) (list_all is_member all) h in
-    and_from (is_decided a) (list_all is_decided all) (member_decided a parts.0) (all_decided all parts.1)
-
--- as they stand in the table
-pub members_inside : (rs : List Regex) (ts : List Term) (ms : List Member) (xs : List code.Assertion)
-    → AreMembers rs ts ms xs → AreInside ts (length ms) xs
-members_inside rs ts [] xs h = tt
-members_inside rs ts (m ∷ ms) [] h = absurd h
-members_inside rs ts (m ∷ ms) (x ∷ xs) h = (
-  record { number = h.0.number; decided = ap is_decided h.0.is ∙ h.0.decided },
-  members_inside rs ts ms xs h.1,
-)
+-- while there are others, not all are plain
+pub not_all_plain : (rs : List Regex) (ts : List Term) (k : ℕ) (ms : List (Option Member)) (xs : List code.Assertion)
+    → AreMembers rs ts ms xs → (other_places k ms ≡ [] → ⊥)
+    → list_all is_plain_assertion (map (assertion_in ts) xs) ≡ false
+not_all_plain rs ts k [] xs h some = absurd (some refl)
+not_all_plain rs ts k (o ∷ ms) [] h some = absurd h
+not_all_plain rs ts k (None ∷ ms) (x ∷ xs) h some =
+    ap (λ b. b && list_all is_plain_assertion (map (assertion_in ts) xs))
+    (ap is_plain_assertion h.0.is ∙ nothing_plain h.0.term h.0.asks)
+not_all_plain rs ts k (Some m ∷ ms) (x ∷ xs) h some =
+    ap (λ b. is_plain_assertion (assertion_in ts x) && b) (not_all_plain rs ts (k + 1) ms xs h.1 some)
+    ∙ and_false (is_plain_assertion (assertion_in ts x))
+  where
+    and_false : (b : Bool) → (b && false) ≡ false
+    and_false true = refl
+    and_false false = refl

@@ -20,6 +20,8 @@ use Rattle.sb_deriv.specs.Faithful.{KeepsEntries, entry_of}
 use Rattle.sb_graph.specs.Findings.{Findings, IsGraph}
 use Rattle.sb_plain.specs.Memory.{RightStays}
 use Rattle.sb_problem.specs.Laws.{NormalsStay}
+use Rattle.sb_meaning.specs.Terms.{Term}
+use Rattle.sb_term.specs.declared.assertion.Assertion as code
 use Rattle.sb_term.specs.declared.term.Serial.{Serial}
 use Rattle.sb_script.specs.State.{live, live_terms, constants_of, fits}
 use Rattle.sb_script.specs.Verdicts.{IsVerdict, is_sat, is_unsat}
@@ -27,24 +29,25 @@ use Rattle.sb_stack.specs.Speaking.{speaks_of}
 use Rattle.sb_stack.specs.Stacked.{Stacked, state_of, live_constants, assertion_in, are_words, values_at}
 use Rattle.sb_stack.proofs.CallerLemmas.{live_laid}
 use Rattle.sb_stack.specs.declared.stack.Mode.{Mode}
-use Rattle.sb_fragment.specs.Rules.{FragmentIsOfEach}
+use Rattle.sb_fragment.specs.Rules.{FragmentIsOfEach, is_decided}
 use Rattle.sb_decide.specs.declared.conjuncts.Member.{Member}
 use Rattle.sb_decide.specs.declared.decide.Decider.{Decider}
 use Rattle.sb_decide.specs.declared.decide.Found.{Found}
 use Rattle.sb_decide.specs.Conjoined.{Conjoined, conjoined_at, without_last, is_listed, OthersSettled, IsChangedAt}
 use Rattle.sb_decide.specs.Deciding.{IsSofar, AreFilled, word_at}
 use Rattle.sb_decide.specs.Knowing.{AreKept, Knows}
-use Rattle.sb_decide.specs.Members.{AreConjuncts, AreRooted, IsEmptyAt, IsRootOf, ids_in, places_in, words_in}
+use Rattle.sb_decide.specs.Members.{AreConjuncts, AreRooted, HasRegexBelow, IsEmptyAt, IsRootOf, ids_in, places_in, words_in}
+use Rattle.sb_decide.specs.Places.{is_member}
 use Rattle.sb_decide.specs.Taking.{HasAll, IsFoundOf, AreFound, IsTakingOver}
 use Rattle.sb_decide.proofs.Conjunctions.{same_least, same_no_word, in_root}
 use Rattle.sb_decide.proofs.Constants.{conjoined_within, conjoined_set, conjoined_set_other, words_set}
 use Rattle.sb_decide.proofs.Knowledge.{taken_searched, kept_grown}
 use Rattle.sb_decide.proofs.MemberFacts.{words_grown}
-use Rattle.sb_decide.proofs.OneMembership.{sofar_of}
+use Rattle.sb_decide.proofs.OneMembership.{members_alone, members_decided, sofar_of}
 use Rattle.sb_decide.proofs.Verdicts.{sat_given, unsat_given}
 
-pub starts : (rs : List Regex) (ms : List Member) (cs : List Conjoined) (changed : List Serial) (fs : List Found)
-    (words filled : List (List ℕ)) → OthersSettled changed cs → AreKept rs ms cs words →
+pub starts : (rs : List Regex) (ms : List (Option Member)) (cs : List Conjoined) (changed : List Serial)
+    (fs : List Found) (words filled : List (List ℕ)) → OthersSettled changed cs → AreKept rs ms cs words →
     AreFilled (length cs) words filled → AreFound rs ms cs changed fs → IsTakingOver rs ms cs cs filled fs
 starts rs ms cs changed fs words filled settled kept more found = record {
   same_length = refl;
@@ -85,8 +88,8 @@ listed_more (f ∷ rest) one n h other =
     let parts = or_parts (f.serial.0 == n) (is_listed (map (λ g. g.serial) rest) n) h in
     ap (λ b. b || is_listed (map (λ g. g.serial) (rest ++ one ∷ [])) n) parts.0 ∙ listed_more rest one n parts.1 other
 
-pub goes_on : (rs : List Regex) (ms : List Member) (old new new' : List Conjoined) (words words' : List (List ℕ))
-    (fs rest : List Found) (one : Found) (c : Conjoined) → IsTakingOver rs ms old new words fs →
+pub goes_on : (rs : List Regex) (ms : List (Option Member)) (old new new' : List Conjoined)
+    (words words' : List (List ℕ)) (fs rest : List Found) (one : Found) (c : Conjoined) → IsTakingOver rs ms old new words fs →
     fs ≡ rest ++ one ∷ [] → c ≡ get_or new one.serial.0 c →
     new' ≡ set new one.serial.0 (record { places = c.places; changed = false }) →
     words' ≡ set words one.serial.0 one.word → IsTakingOver rs ms old new' words' rest
@@ -146,18 +149,43 @@ goes_on rs ms old new new' words words' fs rest one c t is there grown given = r
         (t.least n (sym (ap (λ (c : Conjoined). c.changed) (conjoined_set_other new place n settled_one e)) ∙ h))
 
 -- all is taken over
-least_over : (rs : List Regex) (ms : List Member) (old new : List Conjoined) (words : List (List ℕ))
+least_over : (rs : List Regex) (ms : List (Option Member)) (old new : List Conjoined) (words : List (List ℕ))
     → IsTakingOver rs ms old new words [] → (n : ℕ) → IsShortestLeast (words_in rs ms n) (word_at words n)
 least_over rs ms old new words t n = t.least n (t.settled n refl)
 
 -- all assertions
+all_live : (kept : Decider) (stack : Stacked) → HasAll kept stack
+    → map (assertion_in stack.table) (take (length kept.members.items) stack.assertions) ≡ live (state_of stack)
+all_live kept stack all =
+    ap (map (assertion_in stack.table))
+    (take_all (length kept.members.items) stack.assertions (omega (arith, all.0))) ∙ sym (live_laid stack)
+
 all_sofar : NormalHasTermsWords → (kept : Decider) (stack : Stacked) → Knows kept stack → HasAll kept stack
     → IsSofar kept.arena (live (state_of stack)) (ids_in kept.members.items)
 all_sofar law kept stack k all =
-    subst (λ done. IsSofar kept.arena done (ids_in kept.members.items))
-    (ap (map (assertion_in stack.table))
-    (take_all (length kept.members.items) stack.assertions (omega (arith, all.0))) ∙ sym (live_laid stack))
+    subst (λ done. IsSofar kept.arena done (ids_in kept.members.items)) (all_live kept stack all)
     (sofar_of law kept.arena stack.table kept.members.items stack.assertions k.taken.members)
+
+-- one that is not decided is a live one
+pub live_outside : (stack : Stacked) (ts : List Term) (xs : List code.Assertion) → ts ≡ stack.table
+    → xs ≡ stack.assertions → list_all is_decided (map (assertion_in ts) xs) ≡ false
+    → list_all is_decided (live (state_of stack)) ≡ false
+live_outside stack ts xs table assertions h =
+    ap (list_all is_decided)
+    (live_laid stack ∙ ap₂ (λ us ys. map (assertion_in us) ys) (sym table) (sym assertions)) ∙ h
+
+pub decided_live : (kept : Decider) (stack : Stacked) → Knows kept stack → HasAll kept stack
+    → list_all is_decided (live (state_of stack)) ≡ true
+decided_live kept stack k all =
+    ap (list_all is_decided) (sym (all_live kept stack all))
+    ∙ members_decided kept.arena stack.table kept.members.items stack.assertions k.taken.members
+
+members_live : (kept : Decider) (stack : Stacked) → Knows kept stack → HasAll kept stack → kept.others.items ≡ []
+    → list_all is_member (live (state_of stack)) ≡ true
+members_live kept stack k all alone =
+    ap (list_all is_member) (sym (all_live kept stack all))
+    ∙ members_alone kept.arena stack.table 0 kept.members.items stack.assertions k.taken.members
+    (sym k.taken.others ∙ alone)
 
 -- words fit the live constants
 abbrev pub Fit : Stacked → Type 0
@@ -179,7 +207,7 @@ dead_given law words kept stack k all dead named fit = by_cases kept.dead dead k
     by_cases None some h = absurd (false≢true some)
     by_cases (Some serial) some h =
         unsat_given law kept.arena (state_of stack) (live_constants stack) (ids_in kept.members.items) serial.0
-        (all_sofar words kept stack k all) named (fit [] [] refl) h
+        (all_sofar words kept stack k all) (decided_live kept stack k all) named (fit [] [] refl) h
 
 -- the arena and the graph grow on the way
 searched : NormalsStay → RightStays → (kept : Decider) (rs : List Regex) (g : Findings) (roots : Vec (Option ℕ) Global)
@@ -199,27 +227,30 @@ pub unsat_found : FragmentIsOfEach → NormalHasTermsWords → NormalsStay → R
 unsat_found law words stays right kept rs g roots stack n k all e graph rooted empty named fit =
     unsat_given law rs (state_of stack) (live_constants stack) (ids_in kept.members.items) n
     (all_sofar words (record kept { arena = rs; graph = g; roots = roots }) stack
-    (searched stays right kept rs g roots stack k e graph rooted) all) named (fit [] [] refl) empty
+    (searched stays right kept rs g roots stack k e graph rooted) all) (decided_live kept stack k all) named
+    (fit [] [] refl) empty
 
 pub sat_found : FragmentIsOfEach → NormalHasTermsWords → NormalsStay → RightStays → (kept : Decider) (rs : List Regex)
     (g : Findings) (roots : Vec (Option ℕ) Global) (stack : Stacked) (new : List Conjoined) (words : List (List ℕ)) →
-    Knows kept stack → HasAll kept stack → Extends kept.arena rs → IsGraph rs g →
+    Knows kept stack → HasAll kept stack → kept.others.items ≡ [] → Extends kept.arena rs → IsGraph rs g →
     AreRooted rs kept.members.items roots.items →
     IsTakingOver rs kept.members.items kept.constants.items new words [] →
     Named stack → Fit stack → IsVerdict (state_of stack) [] (is_sat (values_at (live_constants stack) words []))
-sat_found law terms stays right kept rs g roots stack new words k all e graph rooted over named fit =
+sat_found law terms stays right kept rs g roots stack new words k all alone e graph rooted over named fit =
     sat_given law rs (state_of stack) (live_constants stack) (ids_in kept.members.items) words
     (all_sofar terms (record kept { arena = rs; graph = g; roots = roots }) stack
-    (searched stays right kept rs g roots stack k e graph rooted) all) named (fit words [] over.characters)
+    (searched stays right kept rs g roots stack k e graph rooted) all) (decided_live kept stack k all)
+    (members_live kept stack k all alone) named (fit words [] over.characters)
     (least_over rs kept.members.items kept.constants.items new words over)
 
-pub knows_over : NormalsStay → RightStays → (kept new : Decider) (stack : Stacked) (words : List (List ℕ)) (truths : List Bool) (m : Mode)
-    → Knows kept stack → Extends kept.arena new.arena → IsGraph new.arena new.graph →
+pub knows_over : NormalsStay → RightStays → (kept new : Decider) (stack : Stacked) (words : List (List ℕ))
+    (truths : List Bool) (m : Mode) → Knows kept stack → Extends kept.arena new.arena → IsGraph new.arena new.graph →
     AreRooted new.arena kept.members.items new.roots.items →
     IsTakingOver new.arena kept.members.items kept.constants.items new.constants.items words [] →
     new.members ≡ kept.members → new.normals ≡ kept.normals → new.measures ≡ kept.measures →
-    new.plain ≡ kept.plain → new.inside ≡ kept.inside → length new.changed.items ≡ 0 → new.dead ≡ kept.dead → Knows new (record stack { mode = m; words = words; truths = truths })
-knows_over stays right kept new stack words truths m k e graph rooted over members normals measures plain inside changed
+    new.plain ≡ kept.plain → new.others ≡ kept.others → length new.changed.items ≡ 0 → new.dead ≡ kept.dead →
+    Knows new (record stack { mode = m; words = words; truths = truths })
+knows_over stays right kept new stack words truths m k e graph rooted over members normals measures plain others changed
     dead =
     let t = taken_searched stays right kept new.arena new.graph new.roots stack.table stack.assertions e graph rooted k.taken
     in record {
@@ -228,11 +259,11 @@ knows_over stays right kept new stack words truths m k e graph rooted over membe
         normals = rw normals t.normals;
         measures = rw measures t.measures;
         plain = rw plain t.plain;
-        inside = rw inside t.inside;
         members = rw members t.members;
         rooted = rw members rooted;
         within = rw (members, over.same_length) t.within;
         places = λ n. rw members (over.places n ∙ t.places n);
+        others = rw (others, members) t.others;
         settled = λ n h. over.settled n refl;
         listed = λ i d l. absurd (omega (arith, l, changed));
         dead = rw (dead, members) t.dead;
@@ -247,8 +278,8 @@ knows_over stays right kept new stack words truths m k e graph rooted over membe
     }
 
 -- what was found, in an arena that grows
-found_grown : (rs new : List Regex) (ms : List Member) (cs : List Conjoined) (f : Found) → Extends rs new
-    → All (λ m. m.regex < length rs) ms → IsFoundOf rs ms cs f → IsFoundOf new ms cs f
+found_grown : (rs new : List Regex) (ms : List (Option Member)) (cs : List Conjoined) (f : Found) → Extends rs new
+    → All (HasRegexBelow (length rs)) ms → IsFoundOf rs ms cs f → IsFoundOf new ms cs f
 found_grown rs new ms cs f e known h = (
   h.0,
   same_least (words_in rs ms f.serial.0) (words_in new ms f.serial.0) f.word
@@ -256,9 +287,9 @@ found_grown rs new ms cs f e known h = (
 )
 
 -- what was found of the next of these constants
-pub found_next : (rs new : List Regex) (ms : List Member) (cs : List Conjoined) (changed : List Serial) (i : ℕ)
+pub found_next : (rs new : List Regex) (ms : List (Option Member)) (cs : List Conjoined) (changed : List Serial) (i : ℕ)
     (d : Serial) (fs fs' : List Found) (one : Found) → AreFound rs ms cs (take i changed) fs → Extends rs new →
-    All (λ m. m.regex < length rs) ms → i < length changed → All (λ serial. serial.0 < length cs) changed →
+    All (HasRegexBelow (length rs)) ms → i < length changed → All (λ serial. serial.0 < length cs) changed →
     one.serial ≡ get_or changed i d → IsShortestLeast (words_in new ms one.serial.0) one.word →
     fs' ≡ fs ++ one ∷ [] → AreFound new ms cs (take (i + 1) changed) fs'
 found_next rs new ms cs changed i d fs fs' one a e known l listed same least more = rw more (record {
@@ -271,16 +302,16 @@ found_next rs new ms cs changed i d fs fs' one a e known l listed same least mor
 })
 
 -- the places of one of these constants
-pub places_here : (ms : List Member) (cs : List Conjoined) (n : ℕ) (c : Conjoined)
+pub places_here : (ms : List (Option Member)) (cs : List Conjoined) (n : ℕ) (c : Conjoined)
     → ((m : ℕ) → (conjoined_at cs m).places ≡ places_in 0 m ms) → n < length cs → c ≡ get_or cs n c
     → c.places ≡ places_in 0 n ms
 places_here ms cs n c places l there =
     ap (λ (x : Conjoined). x.places) (sym (conjoined_within cs n c l there)) ∙ places n
 
 -- the intersection of the regexes that stand for a constant's memberships
-pub root_found : MkandKeepsLanguage → IntersectionIsOfEach → (old mid : List Regex) (ms : List Member) (n : ℕ)
+pub root_found : MkandKeepsLanguage → IntersectionIsOfEach → (old mid : List Regex) (ms : List (Option Member)) (n : ℕ)
     (ids ids' : List ℕ) (root : ℕ) → ids' ≡ ids → AreConjuncts old ms n ids → Extends old mid →
-    All (λ m. m.regex < length old) ms → Names mid root (mkand (regexes_at old ids')) → IsRootOf mid ms n root
+    All (HasRegexBelow (length old)) ms → Names mid root (mkand (regexes_at old ids')) → IsRootOf mid ms n root
 root_found keeps each old mid ms n ids ids' root same conjuncts e known named =
     let here = rw same at named in record {
       known = names_below mid root (mkand (regexes_at old ids)) here;
@@ -289,7 +320,7 @@ root_found keeps each old mid ms n ids ids' root same conjuncts e known named =
     }
 
 -- as a check makes it
-pub root_made : MkandKeepsLanguage → IntersectionIsOfEach → (old mid : List Regex) (ms : List Member) (n : ℕ)
+pub root_made : MkandKeepsLanguage → IntersectionIsOfEach → (old mid : List Regex) (ms : List (Option Member)) (n : ℕ)
     (places : List ℕ) (roots now : List (Option ℕ)) (ids used : List ℕ) (root : ℕ) → now ≡ roots → used ≡ ids →
     places ≡ places_in 0 n ms → AreRooted old ms roots →
     ((rs : List Regex) (m : ℕ) → places ≡ places_in 0 m ms → AreRooted rs ms now → AreConjuncts rs ms m ids) →
@@ -298,25 +329,31 @@ root_made keeps each old mid ms n places roots now ids used root same given is r
     root_found keeps each old mid ms n ids used root given (conjuncts old n is (rw same rooted)) e rooted.numbers named
 
 -- its word, and that it has none
-pub word_found : (mid new : List Regex) (ms : List Member) (n root : ℕ) (word : List ℕ) → IsRootOf mid ms n root
-    → Extends mid new → All (λ m. m.regex < length mid) ms → IsShortestLeast (language (regex_at mid root)) word
+pub word_found : (mid new : List Regex) (ms : List (Option Member)) (n root : ℕ) (word : List ℕ)
+    → IsRootOf mid ms n root → Extends mid new → All (HasRegexBelow (length mid)) ms → IsShortestLeast (language (regex_at mid root)) word
     → IsShortestLeast (words_in new ms n) word
 word_found mid new ms n root word is e known least =
     same_least (language (regex_at mid root)) (words_in new ms n) word
     (λ w _. words_grown mid new ms n w e known ∙ is.same w) least
 
-pub none_found : (mid new : List Regex) (ms : List Member) (n root : ℕ) → IsRootOf mid ms n root
-    → Extends mid new → All (λ m. m.regex < length mid) ms → HasNoWord (language (regex_at mid root))
+pub none_found : (mid new : List Regex) (ms : List (Option Member)) (n root : ℕ) → IsRootOf mid ms n root
+    → Extends mid new → All (HasRegexBelow (length mid)) ms → HasNoWord (language (regex_at mid root))
     → IsEmptyAt new ms n
 none_found mid new ms n root is e known none =
     same_no_word (language (regex_at mid root)) (words_in new ms n)
     (λ w _. words_grown mid new ms n w e known ∙ is.same w) none
 
--- a vector without elements
+-- a vector without elements, and one with some
 pub no_items : {X : Type 0} (v : Vec X Global) → vec_len v ≡ 0 → length v.items ≡ 0
 no_items v h = omega (arith, v.ok.0, h)
 
-pub over_all : (rs : List Regex) (ms : List Member) (old new : List Conjoined) (words : List (List ℕ))
+pub is_nil : {X : Type 0} (v : Vec X Global) → (vec_len v == 0) ≡ true → v.items ≡ []
+is_nil v h = nil_from_length v.items (no_items v (eqb-true (vec_len v) 0 h))
+
+pub some_items : {X : Type 0} (v : Vec X Global) → (vec_len v == 0) ≡ false → 0 < length v.items
+some_items v h = let some : 0 < vec_len v = grind (arith, nat_tests, h) in omega (arith, v.ok.0, some)
+
+pub over_all : (rs : List Regex) (ms : List (Option Member)) (old new : List Conjoined) (words : List (List ℕ))
     (fs : List Found) → length fs ≡ 0 → IsTakingOver rs ms old new words fs → IsTakingOver rs ms old new words []
 over_all rs ms old new words fs none t = rw (nil_from_length fs none) at t
 
@@ -356,7 +393,8 @@ pub over_of : (kept : Decider) (rs : List Regex) (stack : Stacked) (fs : List Fo
     AreFound rs kept.members.items kept.constants.items kept.changed.items fs →
     given ≡ stack.words → count ≡ length stack.scope.sorts → AreFilled count given filled → cs ≡ kept.constants.items →
     before ≡ filled →
-    ((ts : List Regex) (ms : List Member) → IsTakingOver ts ms cs cs before fs → IsTakingOver ts ms cs new after []) →
+    ((ts : List Regex) (ms : List (Option Member)) → IsTakingOver ts ms cs cs before fs
+    → IsTakingOver ts ms cs new after []) →
     IsTakingOver rs kept.members.items kept.constants.items new after []
 over_of kept rs stack fs count given filled cs new before after k all e found same_words same_count more same_cs
     same_before over =
@@ -368,12 +406,12 @@ over_of kept rs stack fs count given filled cs new before after k all e found sa
     let there = over rs kept.members.items in
     (rw (same_cs, same_before) at there) begun
 
-pub words_long : (rs : List Regex) (ms : List Member) (old new : List Conjoined) (words : List (List ℕ))
+pub words_long : (rs : List Regex) (ms : List (Option Member)) (old new : List Conjoined) (words : List (List ℕ))
     (v : Vec (List ℕ) Global) (count : ℕ) (given : List (List ℕ)) → IsTakingOver rs ms old new words [] →
     count ≡ length old → AreFilled count given v.items → length words ≡ v.len
 words_long rs ms old new words v count given t same more = omega (arith, t.long, same, more.long, v.ok.0)
 
-pub constants_long : (rs : List Regex) (ms : List Member) (v : Vec Conjoined Global) (new : List Conjoined)
+pub constants_long : (rs : List Regex) (ms : List (Option Member)) (v : Vec Conjoined Global) (new : List Conjoined)
     (words : List (List ℕ)) → IsTakingOver rs ms v.items new words [] → length new ≡ v.len
 constants_long rs ms v new words t = omega (arith, t.same_length, v.ok.0)
 

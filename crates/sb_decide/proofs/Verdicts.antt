@@ -14,12 +14,12 @@ use Rattle.sb_meaning.specs.Values.{Valuation, Value, Text, Int, Truth, is_of, v
 use Rattle.sb_script.specs.Scopes.{Constant}
 use Rattle.sb_script.specs.State.{State, live, live_terms, constants_of, fits, Satisfiable}
 use Rattle.sb_meaning.specs.Truth.{all_hold}
-use Rattle.sb_fragment.specs.Rules.{FragmentIsOfEach}
+use Rattle.sb_fragment.specs.Rules.{FragmentIsOfEach, is_decided}
 use Rattle.sb_decide.specs.Deciding.{IsSofar, in_each, words_asked, word_at}
+use Rattle.sb_decide.specs.Places.{is_member}
 use Rattle.sb_decide.proofs.AskingTerms.{about_is, asked_speaks}
 use Rattle.sb_decide.proofs.Conjunctions.{same_least}
 use Rattle.sb_decide.proofs.DefaultValues.{default_values}
-use Rattle.sb_decide.proofs.OneMembership.{all_decided}
 use Rattle.sb_script.specs.Models.{is_plain, words_for, AreShortestLeast}
 use Rattle.sb_script.specs.Verdicts.{IsVerdict, is_sat, is_unsat}
 
@@ -32,16 +32,17 @@ all_shortest ts words truths ((n, text) ∷ cs) h = (h n, all_shortest ts words 
 all_shortest ts words truths ((n, reglan) ∷ cs) h = (h n, all_shortest ts words truths cs h)
 
 pub sat_given : FragmentIsOfEach → (rs : List Regex) (s : State) (cs : List (ℕ × Sort)) (found : ℕ → List ℕ)
-    (words : List (List ℕ)) → IsSofar rs (live s) found → list_all (speaks_of cs) (live_terms s) ≡ true
+    (words : List (List ℕ)) → IsSofar rs (live s) found → list_all is_decided (live s) ≡ true
+    → list_all is_member (live s) ≡ true → list_all (speaks_of cs) (live_terms s) ≡ true
     → fits (constants_of s) (values_at cs words []) ≡ true
     → ((n : ℕ) → IsShortestLeast (in_each rs (found n)) (word_at words n))
     → IsVerdict s [] (is_sat (values_at cs words []))
-sat_given law rs s cs found words f named fitting least = (
-  law s ∙ all_decided (live s) f.members,
+sat_given law rs s cs found words f decided members named fitting least = (
+  law s ∙ decided,
   record {
     model = and_from (fits (constants_of s) (values_at cs words []))
         (all_hold (live_terms s) (values_at cs words [])) fitting
-        (f.together cs words [] named (λ n. (shortest n).member));
+        (f.together members cs words [] named (λ n. (shortest n).member));
     defaults = default_values (constants_of s) (live_terms s) cs words shortest;
     least = λ plain. all_shortest (live_terms s) words [] cs (λ n. shortest_about n plain);
   },
@@ -54,7 +55,7 @@ sat_given law rs s cs found words f named fitting least = (
     shortest_about : (n : ℕ) → is_plain s ≡ true → IsShortestLeast (words_for n (live_terms s)) (word_at words n)
     shortest_about n plain =
         same_least (words_asked n (live_terms s)) (words_for n (live_terms s)) (word_at words n)
-        (λ w _. ap (λ (ts : List Term). all_hold ts ((n, Text w) ∷ [])) (about_is n (live s) f.members plain))
+        (λ w _. ap (λ (ts : List Term). all_hold ts ((n, Text w) ∷ [])) (about_is n (live s) members plain))
         (shortest n)
 
 -- where an empty word fits, each value that fits is a word
@@ -103,11 +104,11 @@ text_at (c ∷ cs) (d ∷ ds) (p ∷ v) n h f one =
     by_test false one later = later one
 
 pub unsat_given : FragmentIsOfEach → (rs : List Regex) (s : State) (cs : List (ℕ × Sort)) (found : ℕ → List ℕ) (n : ℕ)
-    → IsSofar rs (live s) found → list_all (speaks_of cs) (live_terms s) ≡ true
-    → fits (constants_of s) (values_at cs [] []) ≡ true
+    → IsSofar rs (live s) found → list_all is_decided (live s) ≡ true
+    → list_all (speaks_of cs) (live_terms s) ≡ true → fits (constants_of s) (values_at cs [] []) ≡ true
     → HasNoWord (in_each rs (found n)) → IsVerdict s [] (is_unsat [])
-unsat_given law rs s cs found n f named fit e =
-    (law s ∙ all_decided (live s) f.members, refuted, record { some = refl; contradicted = refuted })
+unsat_given law rs s cs found n f decided named fit e =
+    (law s ∙ decided, refuted, record { some = refl; contradicted = refuted })
   where
     known : is_one_of cs n text ≡ true
     known = asked_speaks cs n (live_terms s) [] named (f.words n [] refl ∙ e [] refl)

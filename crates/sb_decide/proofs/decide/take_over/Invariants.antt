@@ -1,4 +1,4 @@
-use Rattle.std.proofs.Common.{◌≡◌, ◌<◌, List, length}
+use Rattle.std.proofs.Common.{◌≡◌, ◌<◌, List, Option, length}
 use Rattle.std.specs.List.{All}
 use Rattle.sb_lang.specs.Regex.{Regex}
 use Rattle.sb_decide.specs.declared.conjuncts.Member.{Member}
@@ -10,7 +10,7 @@ invariant-loop-one l =
     (length l.constants ≡ length l.fn.constants)
     × (length l.words ≡ length l.fn.words)
     × All (λ one. one.serial.0 < length l.fn.constants) l.found.items
-    × ((rs : List Regex) (ms : List Member)
+    × ((rs : List Regex) (ms : List (Option Member))
     → IsTakingOver rs ms l.fn.constants l.fn.constants l.fn.words l.fn.found.items
     → IsTakingOver rs ms l.fn.constants l.constants l.words l.found.items)
 

@@ -2,7 +2,7 @@ use Rattle.std.proofs.lemmas.Result.{IfOk-from_err}
 use Rattle.sb_lang.specs.Normal.{normal}
 use Rattle.sb_regex.proofs.CallerLemmas.{extends_more, names_below}
 use Rattle.sb_term.proofs.CallerLemmas as table
-use Rattle.sb_decide.proofs.DemandFacts.{positive_regex, negative_regex}
+use Rattle.sb_decide.proofs.DemandFacts.{no_regex, positive_regex, negative_regex}
 use Rattle.sb_decide.proofs.demand.regex_of.Goals as goal
 
 pub returns-in_err-id : goal.returns-in_err-id
@@ -17,7 +17,11 @@ returns-in_err-id c =
 pub returns-in_default : goal.returns-in_default
 returns-in_default c =
     let e = c.in_ok-id.ensures in
-    record { number = tt; extends = e.extends; normals = e.normals }
+    record {
+      number = no_regex c.pattern.new.arena c.args.table.now c.args.demand (rw c.in_default.is at e.number);
+      extends = e.extends;
+      normals = e.normals;
+    }
 
 pub returns-then-demand : goal.returns-then-demand
 returns-then-demand c =

@@ -60,8 +60,8 @@ returns-in_ok-fill-in-Found-clause-verdict c =
     (c.declared-declared.ensures.value ∙ sym all.1) c.in_ok-fill-in-Found.ensures)))
     (sat_found c.fragment_is_of_each.ensures c.normal_has_terms_words.ensures c.normals_stay.ensures c.right_stays.ensures
     c.args.self.now c.least_words.new.arena c.least_words.new.graph c.least_words.new.roots c.args.stack.now
-    c.take_over.new.constants c.take_over.new.words c.requires.knows all c.in_ok-serial.ensures.extends
-    c.in_ok-serial.ensures.graph (rw c.deref.ensures.value at c.in_ok-serial.ensures.rooted) over
+    c.take_over.new.constants c.take_over.new.words c.requires.knows all c.requires.alone
+    c.in_ok-serial.ensures.extends c.in_ok-serial.ensures.graph (rw c.deref.ensures.value at c.in_ok-serial.ensures.rooted) over
     c.requires.named c.declared-declared.ensures.fit))
 
 pub returns-in_ok-fill-in-Found-clause-knows : goal.returns-in_ok-fill-in-Found-clause-knows

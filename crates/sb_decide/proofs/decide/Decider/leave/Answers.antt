@@ -1,25 +1,16 @@
 use Rattle.std.proofs.Common.{refl, arith, ◌∙◌}
 use Rattle.std.proofs.lemmas.Bool.Decides.{nat_tests}
 use Rattle.sb_decide.proofs.Knowledge.{knows_left}
-use Rattle.sb_decide.proofs.LeftOpen.{knows_fewer}
 use Rattle.sb_decide.proofs.decide.Decider.leave.Goals as goal
 
 pub loop-self-init : goal.loop-self-init
-loop-self-init c = (
-  λ stack k. knows_fewer c.args.self.now _ stack (omega (arith, c.min-self.ensures)) k,
-  refl,
-  refl,
-  refl,
-  refl,
-  refl,
-  omega (arith, c.min-self.ensures),
-)
+loop-self-init c = (λ stack k. k, refl, refl, refl, refl, refl)
 
 pub returns-clause-knows : goal.returns-clause-knows
 returns-clause-knows c = λ old new e longer few words declared k.
     knows_left c.normals_stay.ensures c.loop-self.self old new e longer
-    (grind (arith, nat_tests, few, c.loop-self-test.false, c.len.ensures, c.loop-self.self.members.ok.0))
-    (omega (arith, few, c.loop-self.invariant.6)) words declared (c.loop-self.invariant.0 old k)
+    (grind (arith, nat_tests, few, c.loop-self-test.false, c.len.ensures, c.loop-self.self.members.ok.0)) words declared
+    (c.loop-self.invariant.0 old k)
 
 pub loop-self-preserved : goal.loop-self-preserved
 loop-self-preserved c =
@@ -31,5 +22,4 @@ loop-self-preserved c =
       back.normals ∙ before.3,
       back.measures ∙ before.4,
       back.plain ∙ before.5,
-      omega (arith, back.inside, before.6),
     )

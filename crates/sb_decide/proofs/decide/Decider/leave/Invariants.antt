@@ -1,4 +1,4 @@
-use Rattle.std.proofs.Common.{◌≡◌, ◌≤◌, length}
+use Rattle.std.proofs.Common.{◌≡◌, length}
 use Rattle.sb_stack.specs.Stacked.{Stacked}
 use Rattle.sb_decide.specs.Knowing.{Knows}
 use Rattle.sb_decide.proofs.decide.Decider.leave.Given as goal
@@ -11,7 +11,6 @@ invariant-loop-self l =
     × (l.self.normals ≡ l.fn.self.normals)
     × (l.self.measures ≡ l.fn.self.measures)
     × (l.self.plain ≡ l.fn.self.plain)
-    × (l.self.inside ≤ l.fn.count)
 
 abbrev pub decreases-loop-self : goal.decreases-loop-self
 decreases-loop-self l = length l.self.members.items

@@ -1,9 +1,10 @@
-use Rattle.std.proofs.Common.{◌≡◌, ◌≤◌, length, ◌∙◌, arith, refl, ap}
+use Rattle.std.proofs.Common.{◌≡◌, ◌≤◌, length, ◌∙◌, arith, refl, sym, ap}
 use Rattle.std.proofs.lemmas.Result.{IfOk-from_err}
 use Rattle.std.proofs.lemmas.Bool.{false≢true}
 use Rattle.sb_regex.proofs.CallerLemmas.{extends_same, extends_more}
 use Rattle.sb_decide.proofs.Knowledge.{taken_roomy, kept_roomy}
 use Rattle.sb_decide.proofs.MemberFacts.{members_few}
+use Rattle.sb_decide.proofs.TakingOver.{live_outside}
 use Rattle.sb_decide.proofs.decide.Decider.take_in.Goals as goal
 
 pub loop-assertions-init : goal.loop-assertions-init
@@ -22,21 +23,6 @@ loop-assertions-init c =
       room.long ∙ count,
       extends_same c.args.self.now.arena,
       refl,
-    )
-
-pub returns-clause-all : goal.returns-clause-all
-returns-clause-all c = λ _.
-    let few = members_few c.loop-assertions.self.arena c.args.stack.now.table c.loop-assertions.self.members.items
-    c.args.stack.now.assertions c.loop-assertions.invariant.0.taken.members in (
-      omega (
-        arith,
-        few,
-        c.loop-assertions-test.false,
-        c.len.ensures,
-        ap length c.assertions-assertions.ensures.value,
-        c.loop-assertions.self.members.ok.0,
-      ),
-      c.loop-assertions.invariant.1,
     )
 
 pub loop-assertions-preserved : goal.loop-assertions-preserved
@@ -65,7 +51,9 @@ returns-then-not-branch c =
         declared = omega (arith, kept.0, before.0.declared);
       };
       all = λ t. absurd (false≢true t);
-      room = kept.0 ∙ before.1;
+      outside = λ _. live_outside c.args.stack.now c.table-table.result.now c.assertions-assertions.result.now
+          c.table-table.ensures c.assertions-assertions.ensures.value
+          (c.in_ok-take_one.ensures.outside c.if-not-branch.true);
       named = c.assertions-assertions.ensures.named;
       extends = extends_more c.args.self.now.arena c.loop-assertions.self.arena c.take_one.new.self.arena before.2
           c.in_ok-take_one.ensures.extends;
@@ -80,20 +68,29 @@ pub take_one-requires-clause-numbers : goal.take_one-requires-clause-numbers
 take_one-requires-clause-numbers c =
     rw (c.table-table.ensures, c.assertions-assertions.ensures.value) c.assertions-assertions.ensures.numbers
 
-pub returns-clause-knows : goal.returns-clause-knows
-returns-clause-knows c = c.loop-assertions.invariant.0
-
-pub returns-clause-room : goal.returns-clause-room
-returns-clause-room c = c.loop-assertions.invariant.1
-
-pub returns-clause-named : goal.returns-clause-named
-returns-clause-named c = c.assertions-assertions.ensures.named
-
-pub returns-clause-extends : goal.returns-clause-extends
-returns-clause-extends c = c.loop-assertions.invariant.2
-
-pub returns-clause-graph : goal.returns-clause-graph
-returns-clause-graph c = c.loop-assertions.invariant.3
+pub returns : goal.returns
+returns c =
+    let now = c.loop-assertions.invariant in
+    let few = members_few c.loop-assertions.self.arena c.args.stack.now.table c.loop-assertions.self.members.items
+    c.args.stack.now.assertions now.0.taken.members in
+    record {
+      knows = now.0;
+      all = λ _. (
+        omega (
+          arith,
+          few,
+          c.loop-assertions-test.false,
+          c.len.ensures,
+          ap length c.assertions-assertions.ensures.value,
+          c.loop-assertions.self.members.ok.0,
+        ),
+        now.1,
+      );
+      outside = λ t. absurd (false≢true (sym t));
+      named = c.assertions-assertions.ensures.named;
+      extends = now.2;
+      graph = now.3;
+    }
 
 pub returns-in_err-make_room : goal.returns-in_err-make_room
 returns-in_err-make_room c =
@@ -101,7 +98,7 @@ returns-in_err-make_room c =
     record {
       knows = IfOk-from_err x.result _ x.ensures.0;
       all = IfOk-from_err x.result _ x.ensures.0;
-      room = IfOk-from_err x.result _ x.ensures.0;
+      outside = IfOk-from_err x.result _ x.ensures.0;
       named = IfOk-from_err x.result _ x.ensures.0;
       extends = IfOk-from_err x.result _ x.ensures.0;
       graph = IfOk-from_err x.result _ x.ensures.0;
@@ -113,7 +110,7 @@ returns-in_err-take_one c =
     record {
       knows = IfOk-from_err x.result _ x.ensures.0;
       all = IfOk-from_err x.result _ x.ensures.0;
-      room = IfOk-from_err x.result _ x.ensures.0;
+      outside = IfOk-from_err x.result _ x.ensures.0;
       named = IfOk-from_err x.result _ x.ensures.0;
       extends = IfOk-from_err x.result _ x.ensures.0;
       graph = IfOk-from_err x.result _ x.ensures.0;

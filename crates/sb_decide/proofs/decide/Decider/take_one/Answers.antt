@@ -1,37 +1,51 @@
-use Rattle.std.proofs.Common.{◌≡◌, length, refl, sym, ◌∙◌, arith, ◌∷◌, [], length-append, ap}
+use Rattle.std.proofs.Common.{◌≡◌, Some, None, length, refl, sym, subst, ◌∙◌, arith, ◌∷◌, [], length-append, ap}
 use Rattle.std.proofs.lemmas.Result.{IfOk-from_err}
 use Rattle.std.proofs.lemmas.Bool.{false≢true}
 use Rattle.std.specs.Vec.{with_items}
+use Rattle.sb_regex.specs.Numbered.{Extends}
 use Rattle.sb_regex.proofs.CallerLemmas.{extends_same}
+use Rattle.sb_term.specs.Numbered.{term_at}
 use Rattle.sb_decide.specs.declared.conjuncts.Member.{Member}
 use Rattle.sb_decide.specs.Demands.{expression_in}
-use Rattle.sb_decide.proofs.Knowledge.{at_place, is_member}
+use Rattle.sb_decide.proofs.DemandFacts.{other_kind, too_large}
+use Rattle.sb_decide.proofs.Knowledge.{at_place, is_member, is_other, number_within, term_outside}
 use Rattle.sb_decide.proofs.Knowledge.{serial_within, taken_grown, taken_measured, stay_grown, stay_put, taken_more}
 use Rattle.sb_decide.proofs.TakingOver.{put_here, put_through, settled_through}
 use Rattle.sb_decide.proofs.decide.Decider.take_one.Goals as goal
 
 pub returns-in_default : goal.returns-in_default
 returns-in_default c =
+    let there = at_place c.args.self.now.members c.args.assertions.now _ c.index-assertions-place.result
+    c.len-place.ensures c.index-assertions-place.is in
     record {
       taken = c.requires.taken;
       words = λ words kept. (refl, kept);
       extends = extends_same c.args.self.now.arena;
       graph = refl;
       further = λ t. absurd (false≢true t);
+      outside = λ _. term_outside c.args.table.now c.args.assertions.now _ c.index-assertions-place.result None
+          c.requires.more there c.in_default.is refl;
     }
 
-pub returns-in_default-demand_of : goal.returns-in_default-demand_of
-returns-in_default-demand_of c =
+pub demand_of-requires : goal.demand_of-requires
+demand_of-requires c =
+    number_within (length c.args.table.now) c.args.assertions.now _ c.index-assertions-place.result c.in-Some.term
+    c.requires.numbers c.requires.more
+    (at_place c.args.self.now.members c.args.assertions.now _ c.index-assertions-place.result c.len-place.ensures
+    c.index-assertions-place.is) c.in-Some.is
+
+pub take_other-requires : goal.take_other-requires
+take_other-requires c =
     record {
-      taken = c.requires.taken;
-      words = λ words kept. (refl, kept);
-      extends = extends_same c.args.self.now.arena;
-      graph = refl;
-      further = λ t. absurd (false≢true t);
+      number = number_within (length c.args.table.now) c.args.assertions.now _ c.index-assertions-place.result
+          c.in-Some.term c.requires.numbers c.requires.more
+          (at_place c.args.self.now.members c.args.assertions.now _ c.index-assertions-place.result
+          c.len-place.ensures c.index-assertions-place.is) c.in-Some.is;
+      measures = c.requires.taken.measures;
     }
 
-pub returns-in_err-is_regular : goal.returns-in_err-is_regular
-returns-in_err-is_regular c =
+pub returns-in_err-decided : goal.returns-in_err-decided
+returns-in_err-decided c =
     let x = c.from_residual in
     record {
       taken = IfOk-from_err x.result _ x.ensures.0;
@@ -39,10 +53,45 @@ returns-in_err-is_regular c =
       extends = IfOk-from_err x.result _ x.ensures.0;
       graph = IfOk-from_err x.result _ x.ensures.0;
       further = IfOk-from_err x.result _ x.ensures.0;
+      outside = IfOk-from_err x.result _ x.ensures.0;
+    }
+
+pub returns-in_default-demand_of : goal.returns-in_default-demand_of
+returns-in_default-demand_of c =
+    let e = c.in_ok-decided.ensures in
+    let there = at_place c.args.self.now.members c.args.assertions.now _ c.index-assertions-place.result
+    c.len-place.ensures c.index-assertions-place.is in
+    record {
+      taken = e.taken c.args.assertions.now c.index-assertions-place.result c.requires.more there
+          (λ is. is_other c.args.table.now c.args.assertions.now _ c.index-assertions-place.result c.in-Some.term
+          c.requires.numbers c.requires.more there c.in-Some.is c.in_default-demand_of.ensures.parts (sym e.ok ∙ is))
+          c.requires.taken;
+      words = e.words;
+      extends = subst (Extends c.args.self.now.arena) (sym c.take_other.ensures.arena)
+          (extends_same c.args.self.now.arena);
+      graph = c.take_other.ensures.graph;
+      further = e.further;
+      outside = λ is. term_outside c.args.table.now c.args.assertions.now _ c.index-assertions-place.result
+          (Some c.in-Some.term) c.requires.more there c.in-Some.is (sym e.ok ∙ is);
+    }
+
+pub returns-in_err-is_regular : goal.returns-in_err-is_regular
+returns-in_err-is_regular c =
+    let x = c.from_residual-in_err-is_regular in
+    record {
+      taken = IfOk-from_err x.result _ x.ensures.0;
+      words = IfOk-from_err x.result _ x.ensures.0;
+      extends = IfOk-from_err x.result _ x.ensures.0;
+      graph = IfOk-from_err x.result _ x.ensures.0;
+      further = IfOk-from_err x.result _ x.ensures.0;
+      outside = IfOk-from_err x.result _ x.ensures.0;
     }
 
 pub returns-then-not-branch : goal.returns-then-not-branch
 returns-then-not-branch c =
+    let demand = c.in-Some-demand_of in
+    let there = at_place c.args.self.now.members c.args.assertions.now _ c.index-assertions-place.result
+    c.len-place.ensures c.index-assertions-place.is in
     record {
       taken = taken_measured c.args.self.now c.is_regular.new.self c.args.table.now c.args.assertions.now
           c.in_ok-is_regular.ensures.right c.requires.taken;
@@ -51,6 +100,10 @@ returns-then-not-branch c =
       extends = extends_same c.args.self.now.arena;
       graph = refl;
       further = λ t. absurd (false≢true t);
+      outside = λ _. term_outside c.args.table.now c.args.assertions.now _ c.index-assertions-place.result
+          (Some c.in-Some.term) c.requires.more there c.in-Some.is
+          (too_large (term_at c.args.table.now c.in-Some.term)
+          (demand.ensures.limits ∙ (sym c.in_ok-is_regular.ensures.ok ∙ c.if-not-branch.true)));
     }
 
 pub regex_of-requires-clause-normals : goal.regex_of-requires-clause-normals
@@ -65,11 +118,15 @@ returns-in_err-regex c =
       extends = IfOk-from_err x.result _ x.ensures.0;
       graph = IfOk-from_err x.result _ x.ensures.0;
       further = IfOk-from_err x.result _ x.ensures.0;
+      outside = IfOk-from_err x.result _ x.ensures.0;
     }
 
 pub returns-in_default-2 : goal.returns-in_default-2
 returns-in_default-2 c =
     let e = c.in_ok-regex.ensures in
+    let demand = c.in-Some-demand_of in
+    let there = at_place c.args.self.now.members c.args.assertions.now _ c.index-assertions-place.result
+    c.len-place.ensures c.index-assertions-place.is in
     record {
       taken = taken_grown c.graph_stays.ensures c.right_stays.ensures c.args.self.now c.regex_of.new.arena
           c.regex_of.new.normals c.is_regular.new.self c.args.table.now c.args.assertions.now e.extends e.normals
@@ -84,6 +141,10 @@ returns-in_default-2 c =
       extends = e.extends;
       graph = refl;
       further = λ t. absurd (false≢true t);
+      outside = λ _. term_outside c.args.table.now c.args.assertions.now _ c.index-assertions-place.result
+          (Some c.in-Some.term) c.requires.more there c.in-Some.is
+          (other_kind (term_at c.args.table.now c.in-Some.term) demand.demand.serial.0
+          (expression_in c.args.table.now demand.demand) demand.ensures.parts (rw c.in_default-2.is at e.number));
     }
 
 pub returns-in_err-push : goal.returns-in_err-push
@@ -95,6 +156,7 @@ returns-in_err-push c =
       extends = IfOk-from_err x.result _ x.ensures.0;
       graph = IfOk-from_err x.result _ x.ensures.0;
       further = IfOk-from_err x.result _ x.ensures.0;
+      outside = IfOk-from_err x.result _ x.ensures.0;
     }
 
 pub returns-in_err-push-2 : goal.returns-in_err-push-2
@@ -106,6 +168,7 @@ returns-in_err-push-2 c =
       extends = IfOk-from_err x.result _ x.ensures.0;
       graph = IfOk-from_err x.result _ x.ensures.0;
       further = IfOk-from_err x.result _ x.ensures.0;
+      outside = IfOk-from_err x.result _ x.ensures.0;
     }
 
 pub put-requires : goal.put-requires
@@ -131,6 +194,7 @@ returns-in_err-put c =
       extends = IfOk-from_err x.result _ x.ensures.0;
       graph = IfOk-from_err x.result _ x.ensures.0;
       further = IfOk-from_err x.result _ x.ensures.0;
+      outside = IfOk-from_err x.result _ x.ensures.0;
     }
 
 pub returns : goal.returns
@@ -180,6 +244,7 @@ returns c =
       further = λ _. omega (
         arith,
         ap length c.in_ok-push.ensures.items,
-        length-append c.args.self.now.members.items (member ∷ []),
+        length-append c.args.self.now.members.items (Some member ∷ []),
       );
+      outside = λ t. absurd (false≢true (sym t));
     }
