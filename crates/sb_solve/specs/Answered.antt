@@ -1,6 +1,6 @@
--- What the end of a search with an answer `sat` gives: a literal that is kept for each live assertion, and all atoms that
--- these speak of decided as the words of the theory have it.
-use Rattle.std.specs.Prelude.{◌≡◌, ℕ, true, List, [], ◌∷◌, Option, Some}
+-- What the end of a search with an answer `sat` gives: a literal that is kept for each assertion that is asked about, and
+-- all atoms that these speak of decided as the words of the theory have it.
+use Rattle.std.specs.Prelude.{◌≡◌, ℕ, true, List, [], ◌∷◌, slice_get, Option, Some, None}
 use Rattle.std.specs.List.{list_all}
 use Rattle.sb_lit.specs.declared.clause.Lit.{Lit}
 use Rattle.sb_lit.specs.Kept.{Kept}
@@ -8,7 +8,7 @@ use Rattle.sb_lang.specs.Regex.{Regex}
 use Rattle.sb_trail.specs.declared.assigned.Assigned.{Assigned}
 use Rattle.sb_trail.specs.Assignments.{held}
 use Rattle.sb_meaning.specs.Terms.{Term}
-use Rattle.sb_script.specs.State.{State, live_terms}
+use Rattle.sb_script.specs.State.{State, Assertion, asserted, a_mark, live}
 use Rattle.sb_rulebook.specs.Accepted.{asked_in}
 use Rattle.sb_rulebook.specs.Atoms.{Atom, AtomOver}
 use Rattle.sb_rulebook.specs.Translation.{translation}
@@ -17,6 +17,17 @@ use Rattle.sb_atoms.specs.Numbered.{atoms_in}
 use Rattle.sb_theory.specs.Memberships.{is_true_by}
 use Rattle.sb_solve.specs.Wanted.{AreWanted}
 use Rattle.sb_solve.specs.Decided.{IsKept, IsDecided}
+
+-- the assertion's term, where there is one, in front of the others
+abbrev pub term_onto : Option Assertion → List Term → List Term
+term_onto None ts = ts
+term_onto (Some a_mark) ts = ts
+term_onto (Some (asserted t)) ts = t ∷ ts
+
+-- the terms of the assertions at these places, in order
+abbrev pub terms_at : List Assertion → List ℕ → List Term
+terms_at assertions [] = []
+terms_at assertions (place ∷ places) = term_onto (slice_get assertions place) (terms_at assertions places)
 
 -- the literal is that of the term, and it is a kept clause
 pub record IsLiteral (atoms : List Atom) (kept : Kept) (t : Term) (l : Lit) : Type 0 where
@@ -29,13 +40,14 @@ AreLiterals atoms kept [] [] = Unit {0}
 AreLiterals atoms kept (t ∷ ts) (l ∷ ls) = IsLiteral atoms kept t l × AreLiterals atoms kept ts ls
 AreLiterals atoms kept _ _ = ⊥
 
--- The atoms that are wanted are those of the literals of the live assertions, with all that they speak of; each is
--- decided; the memberships on the trail are true of the words; and the live assertions fit the sorts of the constants.
+-- The atoms that are wanted are those of the literals of the live assertions at these places, with all that they speak
+-- of; each is decided; the memberships on the trail are true of the words; and the live assertions fit the sorts of the
+-- constants.
 pub record IsAnswered (rs : List Regex) (atoms : List (AtomOver ℕ)) (wanted : List ℕ) (literals : List Lit)
-    (kept : Kept) (entries : List Assigned) (words : List (Option (List ℕ))) (s : State) : Type 0
+    (kept : Kept) (entries : List Assigned) (words : List (Option (List ℕ))) (places : List ℕ) (s : State) : Type 0
   where
     pub decided : IsDecided rs atoms wanted kept entries
     pub agrees : list_all (is_true_by rs atoms words) (held entries) ≡ true
     pub closed : AreWanted atoms literals wanted
-    pub stated : AreLiterals (atoms_in rs atoms) kept (live_terms s) literals
+    pub stated : AreLiterals (atoms_in rs atoms) kept (terms_at (live s) places) literals
     pub terms : AreTerms (asked_in s)

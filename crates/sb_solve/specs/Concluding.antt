@@ -1,10 +1,9 @@
 -- Private: what the end of a search comes to.
-use Rattle.std.specs.Prelude.{◌≡◌, ℕ, Bool, true, List, [], take, length, Option, Some}
+use Rattle.std.specs.Prelude.{◌≡◌, ◌≤◌, ℕ, Bool, true, List, [], take, length, Option, Some}
 use Rattle.sb_lit.specs.declared.clause.Lit.{Lit}
 use Rattle.sb_lit.specs.Budgets.{Spending}
 use Rattle.sb_lit.specs.Kept.{Kept}
 use Rattle.sb_lang.specs.Regex.{Regex}
-use Rattle.sb_script.specs.Models.{IsGiven}
 use Rattle.sb_analyze.specs.Cores.{IsKeptCore}
 use Rattle.sb_clauses.specs.Propagation.{has_room_for}
 use Rattle.sb_deriv.specs.Faithful.{KeepsEntries}
@@ -12,13 +11,15 @@ use Rattle.sb_graph.specs.Findings.{Findings, IsGraph}
 use Rattle.sb_plain.specs.Memory.{IsRight}
 use Rattle.sb_regex.specs.Numbered.{Extends}
 use Rattle.sb_atoms.specs.Numbered.{HaveRegexesBelow}
-use Rattle.sb_stack.specs.Stacked.{Stacked, are_words, live_constants, state_of, values_at}
+use Rattle.sb_stack.specs.Stacked.{Stacked, state_of}
 use Rattle.sb_refute.specs.declared.evidence.EmptyClause.{EmptyClause}
 use Rattle.sb_refute.specs.Backing.{Backing, IsLowestEmpty, backing_of}
 use Rattle.sb_refute.specs.Standing.{Stand}
 use Rattle.sb_search.specs.declared.found.Found.{Found}
 use Rattle.sb_search.specs.declared.found.Found.TheVariants as found
 use Rattle.sb_solve.specs.Answered.{IsAnswered}
+use Rattle.sb_solve.specs.Values.{are_words_there}
+use Rattle.sb_solve.specs.Solved.{AreTrueAt}
 use Rattle.sb_solve.specs.Searched.{IsSearched}
 use Rattle.sb_solve.specs.declared.searching.Searched.{Searched}
 use Rattle.sb_solve.specs.declared.check.Concluded.{Concluded}
@@ -61,15 +62,6 @@ pub record IsEnded (before : ℕ) (x : Searched) : Type 0 where
   pub plain : IsRight x.arena x.plain
   pub regexes : HaveRegexesBelow (length x.arena) x.parts.atoms
 
--- The arena and the graph may grow, and the words may be others; all else is as it was.
-pub record IsGrown (x y : Searched) : Type 0 where
-  pub found : y.found ≡ x.found
-  pub parts : y.parts ≡ x.parts
-  pub graph : IsGraph y.arena y.graph
-  pub plain : IsRight y.arena y.plain
-  pub extends : Extends x.arena y.arena
-  pub derivatives : KeepsEntries x.graph.memo y.graph.memo
-
 -- All is left as it was, but that the arena and the graph may grow, and that the empty clause is known.
 pub record IsLeft (x : Searched) (c : Concluded) : Type 0 where
   pub evidence : c.evidence ≡ record (backing_of x.parts) { refuted = c.evidence.refuted }
@@ -79,27 +71,26 @@ pub record IsLeft (x : Searched) (c : Concluded) : Type 0 where
   pub extends : Extends x.arena c.arena
   pub derivatives : KeepsEntries x.graph.memo c.graph.memo
 
--- The words are those of so many constants, and where the end of the search is answered by them, the values are given.
-pub record IsModel (s : Stacked) (x : Searched) (literals : List Lit) (ws : List (List ℕ)) (truths : List Bool) :
-    Type 0
-  where
-    pub words : are_words ws ≡ true
-    pub long : length ws ≡ length s.scope.sorts
-    pub given : (kept : Kept) → IsAnswered x.arena x.parts.atoms x.wanted.items literals kept
-        x.parts.engine.trail.literals x.words.items (state_of s)
-        → IsGiven (state_of s) [] (values_at (live_constants s) ws truths)
+-- The words are no more than the constants that were declared, and where the end of the search is an answer about the
+-- assertions at some places, these are true of the words and the truth values.
+pub record IsModel (s : Stacked) (x : Searched) (words : List (Option (List ℕ))) (truths : List Bool) : Type 0 where
+  pub few : length words ≤ length s.scope.sorts
+  pub characters : are_words_there words ≡ true
+  pub given : (places : List ℕ) (literals : List Lit) (kept : Kept)
+      → IsAnswered x.arena x.parts.atoms x.wanted.items literals kept x.parts.engine.trail.literals x.words.items places
+      (state_of s) → AreTrueAt s places words truths
 
 -- the answer is of the kind of what was found
-abbrev pub Comes : Stacked → Searched → List Lit → Option EmptyClause → Found → Solved → Type 0
-Comes s x literals refuted found.Sat (solved.Sat words truths) = IsModel s x literals words.items truths.items
-Comes s x literals refuted (found.Unsat core) (solved.Unsat id) =
+abbrev pub Comes : Stacked → Searched → Option EmptyClause → Found → Solved → Type 0
+Comes s x refuted found.Sat (solved.Sat words truths) = IsModel s x words.items truths.items
+Comes s x refuted (found.Unsat core) (solved.Unsat id) =
     (empty : EmptyClause) × (refuted ≡ Some empty) × (empty.clause ≡ id)
-Comes s x literals refuted found.Spent solved.Spent = Unit {0}
-Comes s x literals refuted _ _ = ⊥
+Comes s x refuted found.Spent solved.Spent = Unit {0}
+Comes s x refuted _ _ = ⊥
 
-pub record IsConcluded (s : Stacked) (x : Searched) (literals : List Lit) (c : Concluded) : Type 0 where
+pub record IsConcluded (s : Stacked) (x : Searched) (c : Concluded) : Type 0 where
   pub left : IsLeft x c
-  pub comes : Comes s x literals c.evidence.refuted x.found c.solved
+  pub comes : Comes s x c.evidence.refuted x.found c.solved
 
 -- What a search over the tables comes to, with what it leaves.
 pub record IsGoneOver (s : Stacked) (t : Tables) (literals : List Lit) (proves : Bool) (before after : Spending)
@@ -107,4 +98,4 @@ pub record IsGoneOver (s : Stacked) (t : Tables) (literals : List Lit) (proves :
   where
     pub searched : Searched
     pub run : IsSearched t.arena t.graph.memo t.parts literals proves before after old new searched
-    pub concluded : IsConcluded s searched literals c
+    pub concluded : IsConcluded s searched c

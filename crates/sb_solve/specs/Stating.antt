@@ -1,5 +1,5 @@
 -- Private: the clauses of live assertions, as they are put in front of a search.
-use Rattle.std.specs.Prelude.{◌≡◌, ◌≢◌, ℕ, ◌<◌, List, length, slice_get, Option, Some}
+use Rattle.std.specs.Prelude.{◌≡◌, ◌≢◌, ℕ, ◌<◌, List, [], ◌∷◌, length, slice_get, Option, Some}
 use Rattle.sb_lit.specs.declared.clause.Lit.{Lit}
 use Rattle.sb_lang.specs.Regex.{Regex}
 use Rattle.sb_deriv.specs.Faithful.{Memo}
@@ -48,8 +48,14 @@ pub record States (s : Stacked) (place : ℕ) (rs more : List Regex) (e f : Back
     pub gates : HasGates (length f.atoms) f.atoms f.kept
     pub stated : IsStated s more f place l
 
--- The clauses of the first assertions stand in the proof.
-pub record AreStated (s : Stacked) (rs more : List Regex) (e f : Backing) (old new : Option (List ℕ))
+-- one by one
+abbrev pub AllStated : Stacked → List Regex → Backing → List ℕ → List Lit → Type 0
+AllStated s rs e [] [] = Unit {0}
+AllStated s rs e (place ∷ places) (l ∷ ls) = IsStated s rs e place l × AllStated s rs e places ls
+AllStated s rs e _ _ = ⊥
+
+-- The clauses of the assertions at these places stand in the proof.
+pub record AreStated (s : Stacked) (places : List ℕ) (rs more : List Regex) (e f : Backing) (old new : Option (List ℕ))
     (literals : List Lit) : Type 0
   where
     pub puts : (memo : Memo) (before : AllKept) → Backs rs memo e before
@@ -58,4 +64,4 @@ pub record AreStated (s : Stacked) (rs more : List Regex) (e f : Backing) (old n
     pub regexes : HaveRegexesBelow (length more) f.atoms
     pub levels : AreOfLevels (asked_in (state_of s)).live e.asserted f.asserted
     pub gates : 0 < length literals → HasGates (length f.atoms) f.atoms f.kept
-    pub all : (place : ℕ) (l : Lit) → slice_get literals place ≡ Some l → IsStated s more f place l
+    pub all : AllStated s more f places literals

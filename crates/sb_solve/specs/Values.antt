@@ -1,6 +1,7 @@
 -- The values that a trail gives constants, by serial.
-use Rattle.std.specs.Prelude.{ℕ, Bool, false, ◌&&◌, ◌==◌, List, [], get_or, slice_get, Option, Some, None, unwrap_or}
-use Rattle.std.specs.List.{list_any}
+use Rattle.std.specs.Prelude.{ℕ, Bool, true, false, ◌&&◌, ◌||◌, ◌==◌, List, [], get_or, slice_get, Option, Some, None, is_some, unwrap_or}
+use Rattle.std.specs.List.{list_all, list_any}
+use Rattle.sb_word.specs.Words.{are_characters}
 use Rattle.sb_trail.specs.declared.assigned.Assigned.{Assigned}
 use Rattle.sb_trail.specs.Assignments.{value_of}
 use Rattle.sb_rulebook.specs.Atoms.{AtomOver, bool_atom}
@@ -37,3 +38,21 @@ word_or_empty word = unwrap_or word []
 -- past the last one the word is empty
 abbrev pub word_in : List (List ℕ) → ℕ → List ℕ
 word_in words serial = get_or words serial []
+
+-- Words of some constants alone.
+
+-- the word of the constant, `None` where there is none, and past the last one
+abbrev pub word_there : List (Option (List ℕ)) → ℕ → Option (List ℕ)
+word_there words serial = get_or words serial None
+
+-- where there is a word, it is one of characters
+abbrev pub is_word_there : Option (List ℕ) → Bool
+is_word_there None = true
+is_word_there (Some word) = are_characters word
+
+abbrev pub are_words_there : List (Option (List ℕ)) → Bool
+are_words_there words = list_all is_word_there words
+
+-- the constant has a word, or it is true
+abbrev pub is_valued : List (Option (List ℕ)) → List Bool → ℕ → Bool
+is_valued words truths serial = is_some (word_there words serial) || truth_in truths serial

@@ -1,7 +1,7 @@
 //! The check of the live assertions.
 
-ghost use Rattle.std.specs.Prelude.{◌≡◌, true, false, Some, length, IfOk, OnOk};
-ghost use Rattle.std.specs.List.{list_all};
+ghost use Rattle.std.specs.Prelude.{◌≡◌, ◌<◌, true, false, Some, length, IfOk, OnOk};
+ghost use Rattle.std.specs.List.{All, list_all};
 ghost use Rattle.sb_deriv.specs.Faithful.{KeepsEntries};
 ghost use Rattle.sb_fragment.specs.Measures.{AreMeasures};
 ghost use Rattle.sb_fragment.specs.Rules.{is_decided};
@@ -20,7 +20,7 @@ ghost use Rattle.sb_refute.specs.Backing.{Backs, Evidences};
 ghost use Rattle.sb_refute.specs.declared.evidence.EmptyClause.{EmptyClause};
 ghost use Rattle.sb_search.specs.declared.found.Found.TheVariants.{Sat};
 ghost use Rattle.sb_solve.specs.declared.check.Solved.TheVariants.{Unsat};
-ghost use Rattle.sb_solve.specs.Concluding.{IsEnded, HasNoValues, AreReady, AreTaken, IsGrown, IsLeft, IsModel, IsConcluded, IsGoneOver};
+ghost use Rattle.sb_solve.specs.Concluding.{IsEnded, HasNoValues, AreReady, AreTaken, IsLeft, IsModel, IsConcluded, IsGoneOver};
 ghost use Rattle.sb_solve.specs.Solved.{AreOfLevels, IsSolved};
 ghost use Rattle.sb_solve.specs.Truth.{IsTrue};
 
@@ -45,9 +45,12 @@ use std::mem;
 /// What a check comes to.
 #[derive(Drop)]
 pub enum Solved {
-    /// Words and truth values of the constants, the one of each at its serial: these make the live assertions true. Each
-    /// constant that was declared has a word; truth values past the last one are false.
-    Sat { words: Vec<Word>, truths: Vec<bool> },
+    /// Words and truth values of the constants that these assertions speak of, the one of each at its serial: these make
+    /// the assertions true, whatever the others are. Words past the last one are `None`, and truth values false.
+    Sat {
+        words: Vec<Option<Word>>,
+        truths: Vec<bool>,
+    },
     /// The number of the empty clause, which stands in the proof: no values make them true.
     Unsat(ClauseId),
     /// The budget is spent.
@@ -64,10 +67,10 @@ struct Concluded {
     solved: Solved,
 }
 
-/// Decides whether some values make the live assertions true, each of which is of Boolean structure: the clause of each
-/// stands in the proof then, with those of all gates, and behind them the lines of a search over these clauses. A step
-/// of the budget is spent for each line that is counted. Where `proves` is false, what is put proves nothing: no regex is
-/// explored to its end for a lemma, and a step is spent for each lemma and each learned clause.
+/// Decides whether some values make the live assertions at these places true, of Boolean structure as all live ones are:
+/// the clause of each stands in the proof then, with those of all gates, and behind them the lines of a search over these
+/// clauses. A step of the budget is spent for each line that is counted. Where `proves` is false, what is put proves
+/// nothing: no regex is explored to its end for a lemma, and a step is spent for each lemma and each learned clause.
 ///
 /// The time is that of the search, which may be exponential in the atoms, and of what is explored of regexes.
 /// `NoMemory` also where a live assertion has no literal, as no well-sorted one has none. After an error the evidence may
@@ -81,10 +84,12 @@ pub fn solve<L: Tape>(
     normals: &mut Normals,
     measures: &mut Measures,
     stack: &Stack,
+    places: &[usize],
     proves: bool,
     tape: &mut L,
     budget: &mut Budget,
 ) -> Result<Solved, TapeFault>
+    requires places { All (λ place. place < length stack.now.assertions) places.now }
     requires decided { list_all is_decided (live (state_of stack.now)) ≡ true }
     requires graph { IsGraph arena.old graph.old }
     requires plain { IsRight arena.old plain.old }
@@ -96,7 +101,7 @@ pub fn solve<L: Tape>(
         → Evidences (asked_in (state_of stack.now)) before arena.new graph.new.memo evidence.new budget.new
         (L.Tape.told tape.old) (L.Tape.told tape.new)) }
     ensures answer { IfOk result
-        (IsSolved stack.now arena.old graph.old.memo evidence.old evidence.new budget.new) }
+        (IsSolved stack.now places.now arena.old graph.old.memo evidence.old evidence.new budget.new) }
     ensures sound { OnOk result (proves ≡ false → AreTerms (asked_in (state_of stack.now))
         → IsTrue (asked_in (state_of stack.now)) arena.old graph.old.memo evidence.old
         → IsTrue (asked_in (state_of stack.now)) arena.new graph.new.memo evidence.new) }
@@ -117,7 +122,9 @@ pub fn solve<L: Tape>(
     follows_by_rule();
     line_stays_sound();
     counted_again_stays_sound();
-    let literals = literals(alloc, evidence, arena, normals, measures, stack, tape)?;
+    let literals = literals(
+        alloc, evidence, arena, normals, measures, stack, places, tape,
+    )?;
     let tables = taken(alloc, evidence, arena, graph, plain);
     let concluded = search_over(alloc, tables, &literals, stack, proves, tape, budget)?;
     Ok(put_back(concluded, evidence, arena, graph, plain))
@@ -184,7 +191,7 @@ fn search_over<L: Tape>(
 {
     let before = tables.parts.engine.clauses().len();
     let searched = search_parts(alloc, tables, literals, proves, tape, budget)?;
-    let concluded = conclude(alloc, searched, before, literals, stack)?;
+    let concluded = conclude(alloc, searched, before, stack)?;
     Ok(concluded)
 }
 
@@ -193,14 +200,13 @@ fn conclude(
     alloc: Global,
     searched: Searched,
     before: usize,
-    literals: &[Lit],
     stack: &Stack,
 ) -> Result<Concluded, AllocError>
     requires ended { IsEnded before searched }
-    ensures { IfOk result (IsConcluded stack.now searched literals.now) }
+    ensures { IfOk result (IsConcluded stack.now searched) }
 {
     match searched.found {
-        Found::Sat => valued(alloc, searched, before, literals, stack),
+        Found::Sat => valued(alloc, searched, before, stack),
         Found::Unsat(_) => Ok(refuted(searched, before)),
         Found::Spent => Ok(left(searched, before, Solved::Spent)),
     }
@@ -211,15 +217,14 @@ fn valued(
     alloc: Global,
     searched: Searched,
     before: usize,
-    literals: &[Lit],
     stack: &Stack,
 ) -> Result<Concluded, AllocError>
     requires ended { IsEnded before searched }
     requires found { searched.found ≡ Sat }
-    ensures { IfOk result (IsConcluded stack.now searched literals.now) }
+    ensures { IfOk result (IsConcluded stack.now searched) }
 {
     let mut searched = searched;
-    match values_of(alloc, &mut searched, literals, stack) {
+    match values_of(alloc, &mut searched, stack) {
         Ok(values) => {
             let solved = Solved::Sat {
                 words: values.words,
@@ -234,29 +239,17 @@ fn valued(
     }
 }
 
-/// The values that the end of a search gives. The arena and the graph may grow, and the theory's words are taken.
-fn values_of(
-    alloc: Global,
-    searched: &mut Searched,
-    literals: &[Lit],
-    stack: &Stack,
-) -> Result<Values, AllocError>
-    requires graph { IsGraph searched.old.arena searched.old.graph }
-    requires plain { IsRight searched.old.arena searched.old.plain }
-    requires regexes { HaveRegexesBelow (length searched.old.arena) searched.old.parts.atoms }
+/// The values that the end of a search gives. The theory's words are taken.
+fn values_of(alloc: Global, searched: &mut Searched, stack: &Stack) -> Result<Values, AllocError>
     ensures model { IfOk result
-        (λ values. IsModel stack.now searched.old literals.now values.words.items values.truths.items) }
-    ensures grown { OnOk result (IsGrown searched.old searched.new) }
+        (λ values. IsModel stack.now searched.old values.words.items values.truths.items) }
+    ensures rest { OnOk result (searched.new ≡ record searched.old { words = searched.new.words }) }
 {
-    right_stays();
     let words = mem::replace(&mut searched.words, Vec::new(alloc));
     let values = model(
         alloc,
-        &mut searched.arena,
-        &mut searched.graph,
         &searched.parts.atoms,
         &searched.wanted,
-        literals,
         searched.parts.engine.trail(),
         words,
         stack,

@@ -13,8 +13,8 @@ use sb_trail::Trail;
 use sb_word::Word;
 use std::alloc::{AllocError, Global};
 
-/// The word, or the empty one.
-pub(crate) fn or_empty(alloc: Global, word: Option<Word>) -> Result<Word, AllocError>
+/// The word, or the empty one. `AllocError` only for want of memory.
+pub fn or_empty(alloc: Global, word: Option<Word>) -> Result<Word, AllocError>
     ensures exact { IfOk result (λ found. found ≡ word_or_empty word) }
     ensures word { IfOk result (λ found. are_characters found ≡ true) }
 {

@@ -16,3 +16,4 @@ mod stating;
 
 pub use check::{Solved, solve};
 pub use gather::wanted;
+pub use given::or_empty;

@@ -1,7 +1,7 @@
-//! The literals of the live assertions.
+//! The literals of live assertions.
 
 ghost use Rattle.std.specs.Prelude.{◌≡◌, ◌<◌, ◌∷◌, ◌++◌, [], true, length, IfOk, OnOk};
-ghost use Rattle.std.specs.List.{list_all};
+ghost use Rattle.std.specs.List.{All, list_all};
 ghost use Rattle.sb_script.specs.State.{live};
 ghost use Rattle.sb_fragment.specs.Measures.{AreMeasures};
 ghost use Rattle.sb_fragment.specs.Rules.{is_decided};
@@ -29,8 +29,8 @@ struct Stated {
     level: u64,
 }
 
-/// The literals of the live assertions, in order. The clause of each stands in the proof then, with the lines that it
-/// lacked. `NoMemory` also where one has no literal, as no well-sorted term of them has none.
+/// The literals of the live assertions at these places, in order. The clause of each stands in the proof then, with the
+/// lines that it lacked. `NoMemory` also where one has no literal, as no well-sorted term of them has none.
 pub(crate) fn literals<L: Tape>(
     alloc: Global,
     evidence: &mut Evidence,
@@ -38,25 +38,24 @@ pub(crate) fn literals<L: Tape>(
     normals: &mut Normals,
     measures: &mut Measures,
     stack: &Stack,
+    places: &[usize],
     tape: &mut L,
 ) -> Result<Vec<Lit>, TapeFault>
+    requires places { All (λ place. place < length stack.now.assertions) places.now }
     requires decided { list_all is_decided (live (state_of stack.now)) ≡ true }
     requires right { AreMeasures stack.now.table measures.old }
     requires normals { AreNormals stack.now.table arena.old normals.old }
     requires regexes { HaveRegexesBelow (length arena.old) evidence.old.atoms }
-    ensures stated { IfOk result (λ literals. AreStated stack.now arena.old arena.new evidence.old evidence.new
-        (L.Tape.told tape.old) (L.Tape.told tape.new) literals.items) }
-    ensures long { IfOk result (λ literals. length literals.items ≡ length stack.now.assertions) }
+    ensures stated { IfOk result (λ literals. AreStated stack.now places.now arena.old arena.new evidence.old
+        evidence.new (L.Tape.told tape.old) (L.Tape.told tape.new) literals.items) }
     ensures right { OnOk result (AreMeasures stack.now.table measures.new) }
     ensures normals { OnOk result (AreNormals stack.now.table arena.new normals.new) }
     ensures counts { CountsTapeFault result (L.Tape.faults tape.old) (L.Tape.faults tape.new) }
 {
     translation_stays();
     let mut literals = Vec::new(alloc);
-    let count = stack.assertions().len();
-    while literals.len() < count {
-        let place = literals.len();
-        let literal = state(evidence, arena, normals, measures, stack, place, tape)?;
+    for place in places {
+        let literal = state(evidence, arena, normals, measures, stack, *place, tape)?;
         put(&mut literals, literal)?;
     }
     Ok(literals)
