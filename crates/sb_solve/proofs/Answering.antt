@@ -4,7 +4,6 @@ use Rattle.std.specs.Prelude.{Contains}
 use Rattle.std.specs.List.{list_all}
 use Rattle.std.proofs.Math.Seq.{take-append_seam}
 use Rattle.std.proofs.lemmas.Bool.{false≢true, ltb-true}
-use Rattle.std.proofs.lemmas.List.{length-map}
 use Rattle.std.proofs.lemmas.Option.{slice_get-get_or}
 use Rattle.sb_lit.specs.declared.clause.Lit.{Lit}
 use Rattle.sb_lit.specs.declared.clause.ClauseId.{ClauseId}
@@ -19,36 +18,34 @@ use Rattle.sb_graph.specs.Findings.{Findings, IsGraph}
 use Rattle.sb_plain.specs.Memory.{IsRight, Memory}
 use Rattle.sb_regex.specs.Numbered.{Extends}
 use Rattle.sb_regex.proofs.CallerLemmas.{extends_more}
-use Rattle.sb_script.specs.State.{State, live, live_terms}
+use Rattle.sb_script.specs.State.{State, live}
 use Rattle.sb_rulebook.specs.Accepted.{asked_in}
 use Rattle.sb_rulebook.specs.Atoms.{AtomOver, bool_atom}
 use Rattle.sb_rulebook.specs.Kept.{AllKept, Asked}
 use Rattle.sb_sound.specs.Tables.{is_table}
 use Rattle.sb_sound.specs.SoundLaws.{AreTerms, FollowsByRule, LineStaysSound, CountedAgainStaysSound}
-use Rattle.sb_stack.specs.Stacked.{Stacked, state_of, assertion_in}
-use Rattle.sb_stack.proofs.CallerLemmas.{live_laid}
+use Rattle.sb_stack.specs.Stacked.{Stacked, state_of}
 use Rattle.sb_atoms.specs.GateClauses.{atom_at, clauses_of}
 use Rattle.sb_atoms.specs.Numbered.{HaveRegexesBelow, atoms_in}
-use Rattle.sb_atoms.proofs.CallerLemmas.{atoms_kept, earlier_table, regexes_kept}
+use Rattle.sb_atoms.proofs.CallerLemmas.{atoms_kept, earlier_table}
 use Rattle.sb_trace.specs.Putting.{IsCounted}
 use Rattle.sb_trace.proofs.CallerLemmas.{puts_both}
 use Rattle.sb_refute.specs.declared.evidence.EmptyClause.{EmptyClause}
 use Rattle.sb_refute.specs.declared.evidence.Parts.{Parts}
 use Rattle.sb_refute.specs.Backing.{Backing, Backs, Evidences, HasGates, IsLowestEmpty, backing_of}
 use Rattle.sb_refute.specs.Standing.{Stand}
-use Rattle.sb_refute.proofs.CallerLemmas.{backs-grown}
 use Rattle.sb_search.specs.Found.{GrowsTo, IsFound, IsFull}
 use Rattle.sb_search.specs.declared.found.Found.{Found}
 use Rattle.sb_search.specs.declared.found.Found.TheVariants as found
 use Rattle.sb_theory.specs.Memberships.{HaveAtoms, are_atoms, is_atom}
 use Rattle.sb_solve.specs.Wanted.{AreWanted, is_in}
 use Rattle.sb_solve.specs.Decided.{AreKept, IsKept, IsDecided}
-use Rattle.sb_solve.specs.Answered.{AreLiterals, IsAnswered}
+use Rattle.sb_solve.specs.Answered.{AreLiterals, IsAnswered, terms_at}
 use Rattle.sb_solve.specs.Searched.{IsSearched}
 use Rattle.sb_solve.specs.Solved.{AreOfLevels, IsSolved}
 use Rattle.sb_solve.specs.Stating.{AreStated}
 use Rattle.sb_solve.specs.Truth.{IsTrue}
-use Rattle.sb_solve.specs.Concluding.{AreReady, AreTaken, Comes, HasCore, HasNoValues, IsConcluded, IsEnded, IsGoneOver, IsGrown, IsLeft}
+use Rattle.sb_solve.specs.Concluding.{AreReady, AreTaken, Comes, HasCore, HasNoValues, IsConcluded, IsEnded, IsGoneOver, IsLeft}
 use Rattle.sb_solve.specs.declared.searching.Searched.{Searched}
 use Rattle.sb_solve.specs.declared.check.Concluded.{Concluded}
 use Rattle.sb_solve.specs.declared.check.Solved.{Solved}
@@ -114,11 +111,10 @@ ended more memo parts literals proves x before after between new count stands se
 
 -- The end of a search with values.
 
--- the literals are those of the live assertions, whose clauses are kept
-module _ (s : Stacked) (rs more : List Regex) (memo : Memo) (e : Backing) (parts : Parts) (told between : Option (List ℕ))
-    (literals : List Lit) (proves : Bool) (x : Searched) (before after : Spending) (new : Option (List ℕ))
-    (stated : AreStated s rs more e (backing_of parts) told between literals)
-    (long : length literals ≡ length s.assertions)
+-- the literals are those of the assertions at some places, whose clauses are kept
+module _ (s : Stacked) (places : List ℕ) (rs more : List Regex) (memo : Memo) (e : Backing) (parts : Parts)
+    (told between : Option (List ℕ)) (literals : List Lit) (proves : Bool) (x : Searched) (before after : Spending) (new : Option (List ℕ))
+    (stated : AreStated s places rs more e (backing_of parts) told between literals)
     (stands : Stand parts.atoms parts.engine.kept parts.asserted.items parts.refuted parts.gates)
     (searched : IsSearched more memo parts literals proves before after between new x) where
   table : (rs : List Regex) → is_table (atoms_in rs parts.atoms) ≡ true
@@ -131,17 +127,14 @@ module _ (s : Stacked) (rs more : List Regex) (memo : Memo) (e : Backing) (parts
   same_atoms = ap (atoms_in x.arena) searched.atoms
       ∙ atoms_kept more x.arena parts.atoms searched.extends stated.regexes
 
-  as_long : length literals ≡ length (live (state_of s))
-  as_long = long ∙ sym (ap length (live_laid s) ∙ length-map s.assertions (assertion_in s.table))
-
   counted_behind : (asked : Asked) (start middle : AllKept) → middle.counted ≡ start.counted
       → IsCounted asked start before → IsCounted asked middle before
   counted_behind asked start middle same h = record { spent = same ∙ h.spent; limit = h.limit }
 
   literal_atoms : are_atoms parts.atoms literals ≡ true
-  literal_atoms = are_of_table parts.atoms literals (λ place l there.
-      let one = stated.all place l there in
-      subst (λ (m : Lit). m.atom < length parts.atoms) one.literal (stands.of_atoms place one.clause one.there))
+  literal_atoms = are_of_table s more (backing_of parts) parts.atoms
+      (λ place l one. subst (λ (m : Lit). m.atom < length parts.atoms) one.literal
+      (stands.of_atoms place one.clause one.there)) places literals stated.all
 
   wanted_atoms : list_all (is_atom parts.atoms) x.wanted.items ≡ true
   wanted_atoms = searched.among [] (table []) literal_atoms
@@ -160,12 +153,11 @@ module _ (s : Stacked) (rs more : List Regex) (memo : Memo) (e : Backing) (parts
   }
 
   literals_there : (start : AllKept) → Backs rs memo e start
-      → AreLiterals (atoms_in x.arena x.parts.atoms) x.parts.engine.kept (live_terms (state_of s)) literals
+      → AreLiterals (atoms_in x.arena x.parts.atoms) x.parts.engine.kept (terms_at (live (state_of s)) places) literals
   literals_there start b =
-      are_literals (atoms_in x.arena x.parts.atoms) x.parts.engine.kept (live (state_of s)) literals as_long
-      (λ place l there.
-      let one = stated.all place l there in
-      let behind = stated.puts memo start b in (
+      let behind = stated.puts memo start b in
+      are_literals s more (backing_of parts) (atoms_in x.arena x.parts.atoms) x.parts.engine.kept
+      (λ place l one. (
         one.term,
         one.stands,
         record {
@@ -179,12 +171,12 @@ module _ (s : Stacked) (rs more : List Regex) (memo : Memo) (e : Backing) (parts
             ap (λ (m : Lit). m ∷ []) one.literal,
           );
         },
-      ))
+      )) places literals stated.all
 
   answered : IsFull x.wanted.items [] x.parts.engine → x.found ≡ found.Sat → (start : AllKept) → Backs rs memo e start
       → AreTerms (asked_in (state_of s))
       → IsAnswered x.arena x.parts.atoms x.wanted.items literals x.parts.engine.kept x.parts.engine.trail.literals
-      x.words.items (state_of s)
+      x.words.items places (state_of s)
   answered full sat start b terms = record {
     decided = subst (λ (ts : List (AtomOver ℕ)). IsDecided x.arena ts x.wanted.items x.parts.engine.kept
         x.parts.engine.trail.literals) (sym searched.atoms) (decided full);
@@ -196,12 +188,12 @@ module _ (s : Stacked) (rs more : List Regex) (memo : Memo) (e : Backing) (parts
 
   -- the answer
   by_kind : (c : Concluded) (f : Found) (solution : Solved) → x.found ≡ f
-      → Comes s x literals c.evidence.refuted f solution → IsFound x.wanted.items [] x.parts.engine after f
-      → IsSolved s rs memo e c.evidence after solution
+      → Comes s x c.evidence.refuted f solution → IsFound x.wanted.items [] x.parts.engine after f
+      → IsSolved s places rs memo e c.evidence after solution
   by_kind c found.Sat (solved.Sat words truths) is h full = record {
-    words = h.words;
-    long = h.long;
-    given = λ start b terms. h.given x.parts.engine.kept (answered full is start b terms);
+    few = h.few;
+    characters = h.characters;
+    given = λ start b terms. h.given places literals x.parts.engine.kept (answered full is start b terms);
   }
   by_kind c found.Sat (solved.Unsat id) is h full = absurd h
   by_kind c found.Sat solved.Spent is h full = absurd h
@@ -212,7 +204,7 @@ module _ (s : Stacked) (rs more : List Regex) (memo : Memo) (e : Backing) (parts
   by_kind c found.Spent (solved.Unsat id) is h full = absurd h
   by_kind c found.Spent solved.Spent is h full = full
 
-  solution : (c : Concluded) → IsConcluded s x literals c → IsSolved s rs memo e c.evidence after c.solved
+  solution : (c : Concluded) → IsConcluded s x c → IsSolved s places rs memo e c.evidence after c.solved
   solution c h = by_kind c x.found c.solved refl h.comes searched.found
 
   -- the lines
@@ -226,8 +218,8 @@ module _ (s : Stacked) (rs more : List Regex) (memo : Memo) (e : Backing) (parts
       → Backs c.arena c.graph.memo c.evidence kept
   larger c left kept b =
       changed c left c.arena c.graph.memo kept
-      (backs-grown x.arena c.arena x.graph.memo c.graph.memo (backing_of x.parts) kept left.extends left.derivatives
-      searched.regexes b)
+      (subst (λ (rs : List Regex). Backs rs c.graph.memo (backing_of x.parts) kept) (sym left.arena)
+      (subst (λ (g : Findings). Backs x.arena g.memo (backing_of x.parts) kept) (sym left.graph) b))
 
   lines : (c : Concluded) → IsLeft x c → proves ≡ true → (start : AllKept) → Backs rs memo e start
       → IsCounted (asked_in (state_of s)) start before
@@ -272,15 +264,15 @@ module _ (s : Stacked) (rs more : List Regex) (memo : Memo) (e : Backing) (parts
 
   grows : (c : Concluded) → IsLeft x c → Extends rs c.arena
   grows c left =
-      extends_more rs x.arena c.arena (extends_more rs more x.arena stated.extends searched.extends) left.extends
+      subst (Extends rs) (sym left.arena) (extends_more rs more x.arena stated.extends searched.extends)
 
   still : (c : Concluded) → IsLeft x c → KeepsEntries memo c.graph.memo
-  still c left = λ n pieces h. left.derivatives n pieces (searched.derivatives n pieces h)
+  still c left = subst (λ (g : Findings). KeepsEntries memo g.memo) (sym left.graph) searched.derivatives
 
   below : (c : Concluded) → IsLeft x c → HaveRegexesBelow (length c.arena) c.evidence.atoms
   below c left =
       subst (HaveRegexesBelow (length c.arena)) (sym (ap (λ (f : Backing). f.atoms) left.evidence))
-      (regexes_kept x.arena c.arena x.parts.atoms left.extends searched.regexes)
+      (subst (λ (rs : List Regex). HaveRegexesBelow (length rs) x.parts.atoms) (sym left.arena) searched.regexes)
 
 -- A check, over tables that were taken.
 
@@ -298,16 +290,17 @@ ready_of t rs g m e backing arena graph memory stands trail is_graph is_right be
       (subst (λ (b : Backing). HaveRegexesBelow (length rs) b.atoms) (sym backing) below);
 }
 
-module _ (s : Stacked) (rs more : List Regex) (g : Findings) (e f : Backing) (t : Tables) (told between : Option (List ℕ))
-    (literals slice : List Lit) (proves : Bool) (before after : Spending) (new : Option (List ℕ)) (c : Concluded)
-    (stated : AreStated s rs more e f told between literals) (long : length literals ≡ length s.assertions)
+module _ (s : Stacked) (places : List ℕ) (rs more : List Regex) (g : Findings) (e f : Backing) (t : Tables)
+    (told between : Option (List ℕ)) (literals slice : List Lit) (proves : Bool) (before after : Spending) (new : Option (List ℕ)) (c : Concluded)
+    (stated : AreStated s places rs more e f told between literals)
     (taken : AreTaken more g f t) (ready : AreReady t) (same : slice ≡ literals)
     (given : IsGoneOver s t slice proves before after between new c) where
   over : IsGoneOver s t literals proves before after between new c
   over = subst (λ (ls : List Lit). IsGoneOver s t ls proves before after between new c) same given
 
-  stated_taken : AreStated s rs more e (backing_of t.parts) told between literals
-  stated_taken = subst (λ (b : Backing). AreStated s rs more e b told between literals) (sym taken.backing) stated
+  stated_taken : AreStated s places rs more e (backing_of t.parts) told between literals
+  stated_taken =
+      subst (λ (b : Backing). AreStated s places rs more e b told between literals) (sym taken.backing) stated
 
   run_taken : IsSearched more g.memo t.parts literals proves before after between new over.searched
   run_taken =
@@ -319,42 +312,52 @@ module _ (s : Stacked) (rs more : List Regex) (g : Findings) (e f : Backing) (t 
   pub puts : proves ≡ true → (start : AllKept) → Backs rs g.memo e start
       → IsCounted (asked_in (state_of s)) start before
       → Evidences (asked_in (state_of s)) start c.arena c.graph.memo c.evidence after told new
-  puts = lines s rs more g.memo e t.parts told between literals proves over.searched before after new
-      stated_taken long ready.stands run_taken c over.concluded.left
+  puts = lines s places rs more g.memo e t.parts told between literals proves over.searched before after new
+      stated_taken ready.stands run_taken c over.concluded.left
 
   pub sound : FollowsByRule → LineStaysSound → CountedAgainStaysSound → proves ≡ false
       → AreTerms (asked_in (state_of s)) → IsTrue (asked_in (state_of s)) rs g.memo e
       → IsTrue (asked_in (state_of s)) c.arena c.graph.memo c.evidence
   sound rule line again off terms before_it =
-      true_left s rs more g.memo e t.parts told between literals proves over.searched before after new
-      stated_taken long ready.stands run_taken c over.concluded.left
-      (true_searched s rs more g.memo e t.parts told between literals proves over.searched before after new
-      stated_taken long ready.stands run_taken off
-      (true_before s rs more g.memo e t.parts told between literals proves over.searched before after new
-      stated_taken long ready.stands run_taken rule line again terms before_it))
+      true_left s places rs more g.memo e t.parts told between literals proves over.searched before after new
+      stated_taken ready.stands run_taken c over.concluded.left
+      (true_searched s places rs more g.memo e t.parts told between literals proves over.searched before after new
+      stated_taken ready.stands run_taken off
+      (true_before s places rs more g.memo e t.parts told between literals proves over.searched before after new
+      stated_taken ready.stands run_taken rule line again terms before_it))
 
-  pub answer : IsSolved s rs g.memo e c.evidence after c.solved
-  answer = solution s rs more g.memo e t.parts told between literals proves over.searched before after new
-      stated_taken long ready.stands run_taken c over.concluded
+  pub answer : IsSolved s places rs g.memo e c.evidence after c.solved
+  answer = solution s places rs more g.memo e t.parts told between literals proves over.searched before after new
+      stated_taken ready.stands run_taken c over.concluded
 
   pub of_levels : AreOfLevels (asked_in (state_of s)).live e.asserted c.evidence.asserted
-  of_levels = levels s rs more g.memo e t.parts told between literals proves over.searched before after new
-      stated_taken long ready.stands run_taken c over.concluded.left
+  of_levels = levels s places rs more g.memo e t.parts told between literals proves over.searched before after new
+      stated_taken ready.stands run_taken c over.concluded.left
 
   pub grown_before : Extends more c.arena
-  grown_before = extends_more more over.searched.arena c.arena run_taken.extends over.concluded.left.extends
+  grown_before = subst (Extends more) (sym over.concluded.left.arena) run_taken.extends
+
+  pub graph_left : IsGraph c.arena c.graph
+  graph_left =
+      subst (λ (xs : List Regex). IsGraph xs c.graph) (sym over.concluded.left.arena)
+      (subst (IsGraph over.searched.arena) (sym over.concluded.left.graph) run_taken.graph)
+
+  pub plain_left : IsRight c.arena c.plain
+  plain_left =
+      subst (λ (xs : List Regex). IsRight xs c.plain) (sym over.concluded.left.arena)
+      (subst (IsRight over.searched.arena) (sym over.concluded.left.plain) run_taken.plain)
 
   pub grown : Extends rs c.arena
-  grown = grows s rs more g.memo e t.parts told between literals proves over.searched before after new
-      stated_taken long ready.stands run_taken c over.concluded.left
+  grown = grows s places rs more g.memo e t.parts told between literals proves over.searched before after new
+      stated_taken ready.stands run_taken c over.concluded.left
 
   pub derivatives_kept : KeepsEntries g.memo c.graph.memo
-  derivatives_kept = still s rs more g.memo e t.parts told between literals proves over.searched before after new
-      stated_taken long ready.stands run_taken c over.concluded.left
+  derivatives_kept = still s places rs more g.memo e t.parts told between literals proves over.searched before after new
+      stated_taken ready.stands run_taken c over.concluded.left
 
   pub regexes_below : HaveRegexesBelow (length c.arena) c.evidence.atoms
-  regexes_below = below s rs more g.memo e t.parts told between literals proves over.searched before after new
-      stated_taken long ready.stands run_taken c over.concluded.left
+  regexes_below = below s places rs more g.memo e t.parts told between literals proves over.searched before after new
+      stated_taken ready.stands run_taken c over.concluded.left
 
 -- Where there are no values.
 
@@ -373,71 +376,64 @@ never_none kept (found.Unsat id) None core none lowest is =
 
 -- The kind of an answer.
 
-pub comes_from : (s : Stacked) (x : Searched) (literals : List Lit) (o : Option EmptyClause) (f g : Found) (a b : Solved)
-    → f ≡ g → a ≡ b → Comes s x literals o g b → Comes s x literals o f a
-comes_from s x literals o f g a b found answer h =
-    subst (λ (k : Found). Comes s x literals o k a) (sym found)
-    (subst (λ (k : Solved). Comes s x literals o g k) (sym answer) h)
+pub comes_from : (s : Stacked) (x : Searched) (o : Option EmptyClause) (f g : Found) (a b : Solved) → f ≡ g → a ≡ b
+    → Comes s x o g b → Comes s x o f a
+comes_from s x o f g a b found answer h =
+    subst (λ (k : Found). Comes s x o k a) (sym found) (subst (λ (k : Solved). Comes s x o g k) (sym answer) h)
 
 -- over lists that are the same
-pub answered_by : (s : State) (x : Searched) (literals : List Lit) (kept : Kept) (wanted : List ℕ) (trail : Assignments)
-    → wanted ≡ x.wanted.items → trail ≡ x.parts.engine.trail
-    → IsAnswered x.arena x.parts.atoms x.wanted.items literals kept x.parts.engine.trail.literals x.words.items s
-    → IsAnswered x.arena x.parts.atoms wanted literals kept trail.literals x.words.items s
-answered_by s x literals kept wanted trail is_wanted is_trail h =
-    subst (λ (a : Assignments). IsAnswered x.arena x.parts.atoms wanted literals kept a.literals x.words.items s)
+pub answered_by : (s : State) (x : Searched) (literals : List Lit) (kept : Kept) (places wanted : List ℕ)
+    (trail : Assignments) → wanted ≡ x.wanted.items → trail ≡ x.parts.engine.trail
+    → IsAnswered x.arena x.parts.atoms x.wanted.items literals kept x.parts.engine.trail.literals x.words.items places s
+    → IsAnswered x.arena x.parts.atoms wanted literals kept trail.literals x.words.items places s
+answered_by s x literals kept places wanted trail is_wanted is_trail h =
+    subst (λ (a : Assignments). IsAnswered x.arena x.parts.atoms wanted literals kept a.literals x.words.items places s)
     (sym is_trail)
-    (subst (λ (ws : List ℕ). IsAnswered x.arena x.parts.atoms ws literals kept x.parts.engine.trail.literals x.words.items
-    s) (sym is_wanted) h)
+    (subst (λ (ws : List ℕ). IsAnswered x.arena x.parts.atoms ws literals kept x.parts.engine.trail.literals
+    x.words.items places s) (sym is_wanted) h)
 
 pub no_values : (f : Found) (id : ClauseId) → f ≡ found.Unsat id → HasNoValues f
 no_values f id is = subst HasNoValues (sym is) tt
 
-pub comes_unsat : (s : Stacked) (x : Searched) (literals : List Lit) (o : Option EmptyClause) (id : ClauseId) (a : Solved)
+pub comes_unsat : (s : Stacked) (x : Searched) (o : Option EmptyClause) (id : ClauseId) (a : Solved)
     → x.found ≡ found.Unsat id
-    → (empty : EmptyClause) × (o ≡ Some empty) × (a ≡ solved.Unsat empty.clause) → Comes s x literals o x.found a
-comes_unsat s x literals o id a is h =
-    comes_from s x literals o x.found (found.Unsat id) a (solved.Unsat h.0.clause) is h.2 (h.0, h.1, refl)
+    → (empty : EmptyClause) × (o ≡ Some empty) × (a ≡ solved.Unsat empty.clause) → Comes s x o x.found a
+comes_unsat s x o id a is h =
+    comes_from s x o x.found (found.Unsat id) a (solved.Unsat h.0.clause) is h.2 (h.0, h.1, refl)
 
 -- another answer changes nothing else
 pub left_still : (x : Searched) (c d : Concluded) → d.evidence ≡ c.evidence → d.arena ≡ c.arena → d.graph ≡ c.graph
     → d.plain ≡ c.plain → IsLeft x c → IsLeft x d
 left_still x c d evidence arena graph is_plain h =
     let e = sym evidence in
-    let a = sym arena in
-    let g = sym graph in
     record {
       evidence = subst (λ (f : Backing). f ≡ record (backing_of x.parts) { refuted = f.refuted }) e h.evidence;
       lowest = subst (λ (f : Backing). IsLowestEmpty x.parts.engine.kept f.refuted) e h.lowest;
-      graph = rw (arena, graph) h.graph;
-      plain = rw (arena, is_plain) h.plain;
-      extends = rw arena h.extends;
-      derivatives = rw graph h.derivatives;
+      arena = arena ∙ h.arena;
+      graph = graph ∙ h.graph;
+      plain = is_plain ∙ h.plain;
     }
 
--- where the arena and the graph grew first
-pub ended_grown : (before : ℕ) (x y : Searched) → IsGrown x y → IsEnded before x → IsEnded before y
-ended_grown before x y g e =
-    let parts = sym g.parts in
+-- where the words were taken first
+pub ended_taken : (before : ℕ) (x y : Searched) → y ≡ record x { words = y.words } → IsEnded before x
+    → IsEnded before y
+ended_taken before x y same h =
+    subst (IsEnded before) (sym same) (record {
+      stands = h.stands;
+      known = h.known;
+      core = h.core;
+      graph = h.graph;
+      plain = h.plain;
+      regexes = h.regexes;
+    })
+
+pub left_taken : (x y : Searched) (c : Concluded) → y ≡ record x { words = y.words } → IsLeft y c → IsLeft x c
+left_taken x y c same h =
+    let l = subst (λ (z : Searched). IsLeft z c) same h in
     record {
-      stands = subst (λ (p : Parts). Stand p.atoms (take before p.engine.kept) p.asserted.items p.refuted p.gates) parts
-          e.stands;
-      known = subst (λ (p : Parts). has_room_for (length p.atoms) p.engine.kept ≡ true) parts e.known;
-      core = subst (λ (p : Parts). HasCore p.engine.kept y.found) parts
-          (subst (HasCore x.parts.engine.kept) (sym g.found) e.core);
-      graph = g.graph;
-      plain = g.plain;
-      regexes = subst (λ (p : Parts). HaveRegexesBelow (length y.arena) p.atoms) parts
-          (regexes_kept x.arena y.arena x.parts.atoms g.extends e.regexes);
+      evidence = l.evidence;
+      lowest = l.lowest;
+      arena = l.arena;
+      graph = l.graph;
+      plain = l.plain;
     }
-
-pub left_grown : (x y : Searched) (c : Concluded) → IsGrown x y → IsLeft y c → IsLeft x c
-left_grown x y c g l = record {
-  evidence = subst (λ (p : Parts). c.evidence ≡ record (backing_of p) { refuted = c.evidence.refuted }) g.parts
-      l.evidence;
-  lowest = subst (λ (p : Parts). IsLowestEmpty p.engine.kept c.evidence.refuted) g.parts l.lowest;
-  graph = l.graph;
-  plain = l.plain;
-  extends = extends_more x.arena y.arena c.arena g.extends l.extends;
-  derivatives = λ n pieces h. l.derivatives n pieces (g.derivatives n pieces h);
-}

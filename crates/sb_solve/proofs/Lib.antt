@@ -3,10 +3,8 @@ pub mod Deciding
 pub mod Entailing
 pub mod Spoken
 pub mod PickedWords
-pub mod PlainTerms
-pub mod Modelling
-pub mod PlainModels
 pub mod LiveRows
+pub mod Modelling
 pub mod Stated
 pub mod Ended
 pub mod Truths

@@ -111,20 +111,19 @@ module _ (sorts : List Sort) (cs : List (ℕ × Sort)) (sorted : are_sorted sort
 
 -- A live term.
 
-same_term : (t u : Term) → asserted t ≡ asserted u → t ≡ u
+pub same_term : (t u : Term) → asserted t ≡ asserted u → t ≡ u
 same_term t u h = cc
 
-term_speaks : (cs : List (ℕ × Sort)) (assertions : List Assertion) (place : ℕ) (t : Term)
-    → list_all (speaks_of cs) (terms_in assertions) ≡ true → slice_get assertions place ≡ Some (asserted t)
-    → speaks_of cs t ≡ true
-term_speaks cs [] place t h there = absurd (omega (arith, slice_get_within [] place (asserted t) there))
-term_speaks cs (asserted u ∷ rest) zero t h there =
-    ap (speaks_of cs) (sym (same_term u t (same_Some (asserted u) (asserted t) there)))
-    ∙ (and_parts (speaks_of cs u) (list_all (speaks_of cs) (terms_in rest)) h).0
-term_speaks cs (asserted u ∷ rest) (suc place) t h there =
-    term_speaks cs rest place t (and_parts (speaks_of cs u) (list_all (speaks_of cs) (terms_in rest)) h).1 there
-term_speaks cs (a_mark ∷ rest) zero t h there = absurd (cc (there))
-term_speaks cs (a_mark ∷ rest) (suc place) t h there = term_speaks cs rest place t h there
+pub term_passes : (p : Term → Bool) (assertions : List Assertion) (place : ℕ) (t : Term)
+    → list_all p (terms_in assertions) ≡ true → slice_get assertions place ≡ Some (asserted t) → p t ≡ true
+term_passes p [] place t h there = absurd (omega (arith, slice_get_within [] place (asserted t) there))
+term_passes p (asserted u ∷ rest) zero t h there =
+    ap p (sym (same_term u t (same_Some (asserted u) (asserted t) there)))
+    ∙ (and_parts (p u) (list_all p (terms_in rest)) h).0
+term_passes p (asserted u ∷ rest) (suc place) t h there =
+    term_passes p rest place t (and_parts (p u) (list_all p (terms_in rest)) h).1 there
+term_passes p (a_mark ∷ rest) zero t h there = absurd (cc (there))
+term_passes p (a_mark ∷ rest) (suc place) t h there = term_passes p rest place t h there
 
 -- What stands at a place.
 
@@ -172,7 +171,8 @@ assertion_there s rows sorts place id a value same numbers named its_sorts sorte
             (ap (λ (b : code.Assertion). b.level) (sym it));
         declared = declared_of (state_of s).sorts (live_constants s)
             (subst (λ (xs : List Sort). are_sorted xs (live_constants s) ≡ true) its_sorts sorted) (term_at s.table id)
-            (term_speaks (live_constants s) (live (state_of s)) place (term_at s.table id) named stands);
+            (term_passes (speaks_of (live_constants s)) (live (state_of s)) place (term_at s.table id) named
+            stands);
       };
     }
   where

@@ -1,5 +1,6 @@
--- The values of the end of a search are a model of the live assertions.
-use Rattle.std.proofs.Common.{◌≡◌, ℕ, zero, suc, ◌+◌, ◌<◌, Bool, true, false, not, ◌&&◌, ◌||◌, ◌==◌, nat_eq, if◌then◌else◌, List, [], ◌∷◌, ◌++◌, map, length, slice_get, Option, Some, None, option_and_then, refl, sym, ap, ap₂, subst, ◌∙◌, arith}
+-- The values of the end of a search make the assertions true that it is about.
+use Rattle.std.proofs.Common.{◌≡◌, ℕ, zero, suc, ◌+◌, ◌<◌, Bool, true, false, ◌&&◌, ◌||◌, ◌==◌, nat_eq, if◌then◌else◌, List, [], ◌∷◌, ◌++◌, map, length, get_or, slice_get, Option, Some, None, option_and_then, refl, sym, ap, ap₂, subst, ◌∙◌, arith}
+use Rattle.std.specs.Prelude.{is_some}
 use Rattle.std.specs.List.{list_all, list_any, Contains}
 use Rattle.std.proofs.lemmas.Bool.{false≢true, and_parts, and_from, or_left, or_right, eqb-true, eq-eqb}
 use Rattle.std.proofs.lemmas.List.Folds.{list_all-append}
@@ -14,10 +15,9 @@ use Rattle.sb_meaning.specs.Sorts.{is_same_sort}
 use Rattle.sb_meaning.specs.Values.{Value, Valuation, Text, Int, Truth, is_of, default_of, value_in}
 use Rattle.sb_meaning.specs.Truth.{holds, all_hold}
 use Rattle.sb_script.specs.Brought.{is_brought_sort}
-use Rattle.sb_script.specs.Models.{occurs, occurs_in_some, is_default, is_default_or_occurs, are_defaults, is_plain, AreShortestLeast, IsGiven}
+use Rattle.sb_script.specs.Models.{occurs, occurs_in_some}
 use Rattle.sb_script.specs.Pieces.{constant_piece, word_piece}
-use Rattle.sb_script.specs.Scopes.{Constant}
-use Rattle.sb_script.specs.State.{State, Level, Assertion, asserted, a_mark, terms_in, over_levels, live_terms, constants_of, fits}
+use Rattle.sb_script.specs.State.{State, Level, Assertion, asserted, a_mark, terms_in, over_levels, live, live_terms}
 use Rattle.sb_rulebook.specs.Accepted.{at_level, live_by_level, asked_in}
 use Rattle.sb_rulebook.specs.Atoms.{AtomOver, bool_atom, in_atom, le_atom, sum_atom, and_atom, iff_atom}
 use Rattle.sb_sound.specs.SoundLaws.{AreTerms}
@@ -31,13 +31,15 @@ use Rattle.sb_stack.specs.Speaking.{is_one_of, speaks_of, speak_of}
 use Rattle.sb_stack.specs.Stacked.{Stacked, state_of, live_constants, value_at, values_at, are_words}
 use Rattle.sb_stack.proofs.CallerLemmas.{value_there, same_sort}
 use Rattle.sb_atoms.specs.Numbered.{atoms_in}
-use Rattle.sb_theory.specs.Memberships.{constant_of}
+use Rattle.sb_theory.specs.Memberships.{constant_of, word_at}
 use Rattle.sb_solve.specs.Wanted.{is_in, atoms_of}
-use Rattle.sb_solve.specs.Values.{is_true, is_constant, makes_true, truth_by, truth_in, word_in}
+use Rattle.sb_solve.specs.Values.{is_true, is_constant, makes_true, truth_by, truth_in, is_valued}
 use Rattle.sb_solve.specs.Decided as deciding
-use Rattle.sb_solve.specs.Answered.{AreLiterals, IsAnswered}
+use Rattle.sb_solve.specs.Answered.{AreLiterals, IsAnswered, term_onto, terms_at}
 use Rattle.sb_solve.specs.Modelled.{is_serial, asks_word, is_asked, AreSpoken, HasLive}
+use Rattle.sb_solve.specs.Solved.{AreIn, AreTrueAt, OccursAt}
 use Rattle.sb_solve.proofs.Deciding.{all_in, any_in, term_right}
+use Rattle.sb_solve.proofs.LiveRows.{term_passes}
 use Rattle.sb_solve.proofs.PickedWords.{word_of_words}
 use Rattle.sb_solve.proofs.Spoken.{Test, all_are, each_is, is_fine, Passing, passing_there, wanted_pass}
 
@@ -105,12 +107,12 @@ fit_levels sorts first (level ∷ levels) f =
     (fit_level sorts n level.assertions
     (λ a t c is. f a t (Contains-append_right below (at_level n level.assertions) a c) is))
 
-pub live_fit : (s : State) → AreTerms (asked_in s) → list_all (fits_sorts s.sorts) (live_terms s) ≡ true
+live_fit : (s : State) → AreTerms (asked_in s) → list_all (fits_sorts s.sorts) (live_terms s) ≡ true
 live_fit s terms = fit_levels s.sorts s.first s.above terms
 
 -- Values of their sorts.
 
-pub brought_at : (ss : List code_sort.Sort) (n : ℕ) (k : Sort) → list_all (λ s. is_brought_sort (sort_in s)) ss ≡ true
+brought_at : (ss : List code_sort.Sort) (n : ℕ) (k : Sort) → list_all (λ s. is_brought_sort (sort_in s)) ss ≡ true
     → slice_get (map sort_in ss) n ≡ Some k → is_brought_sort k ≡ true
 brought_at [] n k h e = absurd (Prim.cc (e))
 brought_at (s ∷ ss) zero k h e =
@@ -120,7 +122,7 @@ brought_at (s ∷ ss) zero k h e =
 brought_at (s ∷ ss) (suc n) k h e =
     brought_at ss n k (and_parts (is_brought_sort (sort_in s)) (list_all (λ s. is_brought_sort (sort_in s)) ss) h).1 e
 
-pub default_of_sort : (k : Sort) → is_brought_sort k ≡ true → is_of k (default_of k) ≡ true
+default_of_sort : (k : Sort) → is_brought_sort k ≡ true → is_of k (default_of k) ≡ true
 default_of_sort boolean h = refl
 default_of_sort text h = refl
 default_of_sort integer h = absurd (false≢true h)
@@ -137,7 +139,7 @@ its_sort : (sorts : List Sort) (n : ℕ) (j k : Sort) → has_sort sorts (n, j) 
 its_sort sorts n j k h e =
     same_sort j k (sym (ap (λ o. elim o as (λ _. Bool) [ None ↦ false | Some sort ↦ is_same_sort j sort ]) e) ∙ h)
 
-pub have_sorts : (ss : List code_sort.Sort) (cs : List (ℕ × Sort)) (ws : List (List ℕ)) (truths : List Bool)
+have_sorts : (ss : List code_sort.Sort) (cs : List (ℕ × Sort)) (ws : List (List ℕ)) (truths : List Bool)
     → list_all (λ s. is_brought_sort (sort_in s)) ss ≡ true → are_sorted (map sort_in ss) cs ≡ true
     → are_words ws ≡ true → HasSorts (values_at cs ws truths) (map sort_in ss)
 have_sorts ss [] ws truths read sorted h n k e = default_of_sort k (brought_at ss n k read e)
@@ -157,7 +159,7 @@ have_sorts ss (c ∷ cs) ws truths read sorted h n k e =
         ∙ value_of_sort ws truths n k h (brought_at ss n k read e)
     step false same rest = rest
 
-pub sort_below : (sorts : List Sort) (n : ℕ) (k : Sort) → has_sort sorts (n, k) ≡ true → n < length sorts
+sort_below : (sorts : List Sort) (n : ℕ) (k : Sort) → has_sort sorts (n, k) ≡ true → n < length sorts
 sort_below [] n k h = absurd (false≢true h)
 sort_below (s ∷ sorts) zero k h = omega arith
 sort_below (s ∷ sorts) (suc n) k h = omega (arith, sort_below sorts n k h)
@@ -180,63 +182,67 @@ same_count : (ss : List code_sort.Sort) → length (map sort_in ss) ≡ length s
 same_count [] = refl
 same_count (s ∷ ss) = ap suc (same_count ss)
 
--- Values by default.
+-- The terms at places are live.
 
-sort_default : (k : Sort) → is_default (default_of k) ≡ true
-sort_default boolean = refl
-sort_default integer = refl
-sort_default text = refl
-sort_default reglan = refl
-
-at_default : (ws : List (List ℕ)) (truths : List Bool) (n : ℕ) (k : Sort) → word_in ws n ≡ []
-    → truth_in truths n ≡ false → is_default (value_at ws truths n k) ≡ true
-at_default ws truths n boolean w t = ap not t
-at_default ws truths n integer w t = refl
-at_default ws truths n text w t = ap (λ (x : List ℕ). is_default (Text x)) w
-at_default ws truths n reglan w t = ap (λ (x : List ℕ). is_default (Text x)) w
-
-value_default : (cs : List (ℕ × Sort)) (ws : List (List ℕ)) (truths : List Bool) (n : ℕ) (k : Sort)
-    → word_in ws n ≡ [] → truth_in truths n ≡ false → is_default (value_in (values_at cs ws truths) n k) ≡ true
-value_default [] ws truths n k w t = sort_default k
-value_default (c ∷ cs) ws truths n k w t = step (c.0 == n) refl (value_default cs ws truths n k w t)
+at_places : (p : Term → Bool) (xs : List Assertion) (places : List ℕ) → list_all p (terms_in xs) ≡ true
+    → list_all p (terms_at xs places) ≡ true
+at_places p xs [] h = refl
+at_places p xs (place ∷ places) h = step (slice_get xs place) refl (at_places p xs places h)
   where
-    step : (b : Bool) → (c.0 == n) ≡ b → is_default (value_in (values_at cs ws truths) n k) ≡ true
-        → is_default (if b then value_at ws truths c.0 c.1 else value_in (values_at cs ws truths) n k) ≡ true
-    step true same rest =
-        ap (λ i. is_default (value_at ws truths i c.1)) (eqb-true c.0 n same) ∙ at_default ws truths n c.1 w t
-    step false same rest = rest
+    step : (o : Option Assertion) → slice_get xs place ≡ o → list_all p (terms_at xs places) ≡ true
+        → list_all p (term_onto o (terms_at xs places)) ≡ true
+    step None at rest = rest
+    step (Some a_mark) at rest = rest
+    step (Some (asserted t)) at rest =
+        and_from (p t) (list_all p (terms_at xs places)) (term_passes p xs place t h at) rest
 
-occurs_or : (b d : Bool) → (b ≡ false → d ≡ true) → (b || d) ≡ true
-occurs_or true d h = refl
-occurs_or false d h = h refl
+-- where they all hold, so does each of them
+held_there : (xs : List Assertion) (v : Valuation) (places : List ℕ) → all_hold (terms_at xs places) v ≡ true
+    → (k place : ℕ) (t : Term) → k < length places → get_or places k place ≡ place
+    → slice_get xs place ≡ Some (asserted t) → holds t v ≡ true
+held_there xs v [] h k place t low is at = absurd (omega (arith, low))
+held_there xs v (other ∷ places) h zero place t low is at =
+    (and_parts (holds t v) (all_hold (terms_at xs places) v)
+    (sym (ap (λ o. all_hold (term_onto o (terms_at xs places)) v) (ap (slice_get xs) is ∙ at)) ∙ h)).0
+held_there xs v (other ∷ places) h (suc k) place t low is at =
+    held_there xs v places (others (slice_get xs other) h) k place t (omega (arith, low)) is at
+  where
+    others : (o : Option Assertion) → all_hold (term_onto o (terms_at xs places)) v ≡ true
+        → all_hold (terms_at xs places) v ≡ true
+    others None h = h
+    others (Some a_mark) h = h
+    others (Some (asserted u)) h = (and_parts (holds u v) (all_hold (terms_at xs places) v) h).1
 
-defaults_are : (constants : List Constant) (ts : List Term) (cs : List (ℕ × Sort)) (ws : List (List ℕ))
-    (truths : List Bool)
-    → ((n : ℕ) → list_any (occurs n) ts ≡ false → (word_in ws n ≡ []) × (truth_in truths n ≡ false))
-    → are_defaults constants ts (values_at cs ws truths) ≡ true
-defaults_are [] ts cs ws truths h = refl
-defaults_are (c ∷ constants) ts cs ws truths h =
-    let v = values_at cs ws truths in
-    and_from (is_default_or_occurs ts v c) (are_defaults constants ts v)
-    (occurs_or (list_any (occurs c.serial) ts) (is_default (value_in v c.serial c.sort))
-    (λ none. let d = h c.serial none in value_default cs ws truths c.serial c.sort d.0 d.1))
-    (defaults_are constants ts cs ws truths h)
+-- what occurs in them occurs in one of them
+occurs_there : (s : Stacked) (n : ℕ) (places : List ℕ)
+    → list_any (occurs n) (terms_at (live (state_of s)) places) ≡ true → OccursAt s places n
+occurs_there s n [] h = absurd (false≢true h)
+occurs_there s n (place ∷ places) h = step (slice_get (live (state_of s)) place) refl h (occurs_there s n places)
+  where
+    later : OccursAt s places n → OccursAt s (place ∷ places) n
+    later r = record {
+      place = r.place;
+      term = r.term;
+      listed = Contains-append_right (place ∷ []) places r.place r.listed;
+      stands = r.stands;
+      there = r.there;
+    }
 
--- what is given, from its parts
-pub is_given : (s : Stacked) (ws : List (List ℕ)) (truths : List Bool) → HasLive s → are_words ws ≡ true
-    → all_hold (live_terms (state_of s)) (values_at (live_constants s) ws truths) ≡ true
-    → ((n : ℕ) → list_any (occurs n) (live_terms (state_of s)) ≡ false
-    → (word_in ws n ≡ []) × (truth_in truths n ≡ false))
-    → (is_plain (state_of s) ≡ true
-    → AreShortestLeast (live_terms (state_of s)) (values_at (live_constants s) ws truths))
-    → IsGiven (state_of s) [] (values_at (live_constants s) ws truths)
-is_given s ws truths h characters true_all defaults least = record {
-  model = and_from (fits (constants_of (state_of s)) (values_at (live_constants s) ws truths))
-      (all_hold (live_terms (state_of s)) (values_at (live_constants s) ws truths)) (h.fitting ws truths characters)
-      true_all;
-  defaults = defaults_are (constants_of (state_of s)) (live_terms (state_of s)) (live_constants s) ws truths defaults;
-  least = least;
-}
+    either : (t : Term) → slice_get (live (state_of s)) place ≡ Some (asserted t) → (b : Bool) → occurs n t ≡ b
+        → (b || list_any (occurs n) (terms_at (live (state_of s)) places)) ≡ true
+        → (list_any (occurs n) (terms_at (live (state_of s)) places) ≡ true → OccursAt s places n)
+        → OccursAt s (place ∷ places) n
+    either t at true is h rest =
+        record { place = place; term = t; listed = (0, omega arith, refl); stands = at; there = is }
+    either t at false is h rest = later (rest h)
+
+    step : (o : Option Assertion) → slice_get (live (state_of s)) place ≡ o
+        → list_any (occurs n) (term_onto o (terms_at (live (state_of s)) places)) ≡ true
+        → (list_any (occurs n) (terms_at (live (state_of s)) places) ≡ true → OccursAt s places n)
+        → OccursAt s (place ∷ places) n
+    step None at h rest = later (rest h)
+    step (Some a_mark) at h rest = later (rest h)
+    step (Some (asserted t)) at h rest = either t at (occurs n t) refl h rest
 
 -- Of the atoms that are wanted none speaks of another constant.
 
@@ -250,19 +256,19 @@ wrong : (b : Bool) → b ≡ true → b ≡ false → ⊥
 wrong b h t = false≢true (sym t ∙ h)
 
 module _ (rs : List Regex) (atoms : List (AtomOver ℕ)) (wanted : List ℕ) (literals : List Lit) (kept : Kept)
-    (entries : List Assigned) (theory : List (Option (List ℕ))) (s : Stacked) (h : HasLive s)
-    (a : IsAnswered rs atoms wanted literals kept entries theory (state_of s))
+    (entries : List Assigned) (theory : List (Option (List ℕ))) (places : List ℕ) (s : Stacked) (h : HasLive s)
+    (a : IsAnswered rs atoms wanted literals kept entries theory places (state_of s))
   where
-    abbrev pub Cs : List (ℕ × Sort)
+    abbrev Cs : List (ℕ × Sort)
     Cs = live_constants s
 
-    abbrev pub Ts : List Term
-    Ts = live_terms (state_of s)
+    abbrev Ts : List Term
+    Ts = terms_at (live (state_of s)) places
 
-    abbrev pub Count : ℕ
+    abbrev Count : ℕ
     Count = length s.scope.sorts
 
-    -- the constant is live with this sort, and occurs in a live assertion
+    -- the constant is live with this sort, and occurs in one of the assertions
     abbrev Spoken : Test
     Spoken n k = is_one_of Cs n k && list_any (occurs n) Ts
 
@@ -270,7 +276,8 @@ module _ (rs : List Regex) (atoms : List (AtomOver ℕ)) (wanted : List ℕ) (li
     passing =
         wanted_pass Spoken rs atoms a.decided.table kept Ts literals wanted a.closed.least a.stated
         (all_constants_are Spoken Cs Ts
-        (λ n k o one. and_from (is_one_of Cs n k) (list_any (occurs n) Ts) one o) h.named)
+        (λ n k o one. and_from (is_one_of Cs n k) (list_any (occurs n) Ts) one o)
+        (at_places (speaks_of Cs) (live (state_of s)) places h.named))
 
     fine_at : (i : ℕ) (x : AtomOver ℕ) → is_in wanted i ≡ true → slice_get atoms i ≡ Some x
         → is_fine Spoken (Passing Spoken rs atoms a.decided.table) x ≡ true
@@ -289,7 +296,7 @@ module _ (rs : List Regex) (atoms : List (AtomOver ℕ)) (wanted : List ℕ) (li
         and_parts (is_one_of Cs n text) (list_any (occurs n) Ts)
         (and_parts (Spoken n text) true (fine_at i (in_atom (constant_piece n ∷ []) r) there at)).0
 
-    pub not_true : (n : ℕ) → list_any (occurs n) Ts ≡ false → truth_by atoms entries wanted n ≡ false
+    not_true : (n : ℕ) → list_any (occurs n) Ts ≡ false → truth_by atoms entries wanted n ≡ false
     not_true n none = none_in (makes_true atoms entries n) wanted (λ i there. one i there (slice_get atoms i) refl)
       where
         one : (i : ℕ) → is_in wanted i ≡ true → (o : Option (AtomOver ℕ)) → slice_get atoms i ≡ o
@@ -336,21 +343,22 @@ module _ (rs : List Regex) (atoms : List (AtomOver ℕ)) (wanted : List ℕ) (li
         any_in (asks_word atoms n) wanted i there
         (ap (λ o. is_serial n (option_and_then constant_of o)) at ∙ eq-eqb n n refl)
 
-    pub live_below : (n : ℕ) (k : Sort) → is_one_of Cs n k ≡ true → n < Count
+    live_below : (n : ℕ) (k : Sort) → is_one_of Cs n k ≡ true → n < Count
     live_below n k one =
         subst (λ (m : ℕ). n < m) (same_count s.scope.sorts)
         (sort_below (map sort_in s.scope.sorts) n k (one_sorted (map sort_in s.scope.sorts) Cs n k h.sorted one))
 
-    pub fit_all : list_all (fits_sorts (map sort_in s.scope.sorts)) Ts ≡ true
-    fit_all = live_fit (state_of s) a.terms
+    fit_all : list_all (fits_sorts (map sort_in s.scope.sorts)) Ts ≡ true
+    fit_all =
+        at_places (fits_sorts (map sort_in s.scope.sorts)) (live (state_of s)) places (live_fit (state_of s) a.terms)
 
     -- The theory's words, and the truth values of the trail.
 
-    module _ (ws : List (List ℕ)) (truths : List Bool) (spoken : AreSpoken atoms wanted theory Count ws)
+    module _ (words : List (Option (List ℕ))) (truths : List Bool) (spoken : AreSpoken atoms wanted theory Count words)
         (said : (n : ℕ) → truth_in truths n ≡ truth_by atoms entries wanted n)
       where
-        abbrev v : Valuation
-        v = values_at Cs ws truths
+        abbrev v : List (List ℕ) → Valuation
+        v full = values_at Cs full truths
 
         abbrev text_of : Value → List ℕ
         text_of x = elim x [ Text w ↦ w | Int n ↦ [] | Truth b ↦ [] ]
@@ -358,38 +366,48 @@ module _ (rs : List Regex) (atoms : List (AtomOver ℕ)) (wanted : List ℕ) (li
         abbrev truth_of : Value → Bool
         truth_of x = elim x [ Text w ↦ false | Int n ↦ false | Truth b ↦ b ]
 
-        given : deciding.IsGiven rs atoms wanted entries theory v
-        given = record {
+        given : (full : List (List ℕ)) → AreIn words full → deciding.IsGiven rs atoms wanted entries theory (v full)
+        given full within = record {
           agrees = a.agrees;
           gives_words = λ i n r there at.
               let live = word_spoken i n r there at in
-              ap text_of (value_there Cs ws truths n text live.0)
-              ∙ spoken.asked n (live_below n text live.0) (asked_there i n r there at);
+              ap text_of (value_there Cs full truths n text live.0)
+              ∙ within n (word_at theory n)
+              (spoken.asked n (live_below n text live.0) (asked_there i n r there at));
           gives_truths = λ i n there at.
-              ap truth_of (value_there Cs ws truths n boolean (truth_spoken i n there at).0) ∙ said n;
+              ap truth_of (value_there Cs full truths n boolean (truth_spoken i n there at).0) ∙ said n;
         }
 
-        sorts : HasSorts v (map sort_in s.scope.sorts)
-        sorts = have_sorts s.scope.sorts Cs ws truths h.brought h.sorted spoken.characters
-
-        each_true : TranslationHolds → (ts : List Term) (ls : List Lit) → AreLiterals (atoms_in rs atoms) kept ts ls
+        each_true : TranslationHolds → (full : List (List ℕ)) → are_words full ≡ true → AreIn words full
+            → (ts : List Term) (ls : List Lit) → AreLiterals (atoms_in rs atoms) kept ts ls
             → list_all (fits_sorts (map sort_in s.scope.sorts)) ts ≡ true
-            → list_all (is_in wanted) (atoms_of ls) ≡ true → all_hold ts v ≡ true
-        each_true law [] [] are fit there = refl
-        each_true law [] (l ∷ ls) are fit there = absurd are
-        each_true law (t ∷ ts) [] are fit there = absurd are
-        each_true law (t ∷ ts) (l ∷ ls) are fit there =
+            → list_all (is_in wanted) (atoms_of ls) ≡ true → all_hold ts (v full) ≡ true
+        each_true law full characters within [] [] are fit there = refl
+        each_true law full characters within [] (l ∷ ls) are fit there = absurd are
+        each_true law full characters within (t ∷ ts) [] are fit there = absurd are
+        each_true law full characters within (t ∷ ts) (l ∷ ls) are fit there =
             let p = and_parts (fits_sorts (map sort_in s.scope.sorts) t) _ fit in
             let q = and_parts (is_in wanted l.atom) (list_all (is_in wanted) (atoms_of ls)) there in
-            and_from (holds t v) (all_hold ts v)
-            (term_right rs atoms wanted kept entries theory v a.decided given law (map sort_in s.scope.sorts) t l sorts
-            p.0 are.0.is q.0 are.0.kept_there) (each_true law ts ls are.1 p.1 q.1)
+            and_from (holds t (v full)) (all_hold ts (v full))
+            (term_right rs atoms wanted kept entries theory (v full) a.decided (given full within) law
+            (map sort_in s.scope.sorts) t l
+            (have_sorts s.scope.sorts Cs full truths h.brought h.sorted characters) p.0 are.0.is q.0 are.0.kept_there)
+            (each_true law full characters within ts ls are.1 p.1 q.1)
 
-        pub all_true : TranslationHolds → all_hold Ts v ≡ true
-        all_true law = each_true law Ts literals a.stated fit_all a.closed.first
+        valued_there : (n : ℕ) → is_valued words truths n ≡ true → list_any (occurs n) Ts ≡ true
+        valued_there n valued = step (list_any (occurs n) Ts) refl
+          where
+            step : (b : Bool) → list_any (occurs n) Ts ≡ b → b ≡ true
+            step true e = refl
+            step false e =
+                absurd (wrong (is_valued words truths n) valued
+                (ap₂ (λ o b. is_some o || b) (spoken.others n (not_asked n e)) (said n ∙ not_true n e)))
 
-        pub general : TranslationHolds → is_plain (state_of s) ≡ false → IsGiven (state_of s) [] v
-        general law not_plain =
-            is_given s ws truths h spoken.characters (all_true law)
-            (λ n none. (spoken.others n (not_asked n none), said n ∙ not_true n none))
-            (λ plain. absurd (wrong (is_plain (state_of s)) plain not_plain))
+        pub true_at : TranslationHolds → AreTrueAt s places words truths
+        true_at law = record {
+          hold = λ full characters within place t listed at.
+              held_there (live (state_of s)) (v full) places
+              (each_true law full characters within Ts literals a.stated fit_all a.closed.first) listed.0 place t
+              listed.1 listed.2 at;
+          occur = λ n valued. occurs_there s n places (valued_there n valued);
+        }

@@ -506,14 +506,14 @@ passes_there P atoms i a table there =
 
 -- What stands at a number that is found.
 
-pub record StandsAt {A : Type 0} (test : A → Bool) (xs : List A) (i n : ℕ) : Type 0 where
+record StandsAt {A : Type 0} (test : A → Bool) (xs : List A) (i n : ℕ) : Type 0 where
   pub place : ℕ
   pub number : n ≡ i + place
   pub element : A
   pub there : slice_get xs place ≡ Some element
   pub right : test element ≡ true
 
-pub found : {A : Type 0} (test : A → Bool) (i : ℕ) (xs : List A) (n : ℕ) → position_from test i xs ≡ Some n
+found : {A : Type 0} (test : A → Bool) (i : ℕ) (xs : List A) (n : ℕ) → position_from test i xs ≡ Some n
     → StandsAt test xs i n
 found test i [] n h = absurd (Prim.cc (h))
 found test i (x ∷ xs) n h = step (test x) refl h (found test (i + 1) xs n)

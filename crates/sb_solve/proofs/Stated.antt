@@ -1,8 +1,8 @@
 -- The clauses of live assertions, one behind the other.
-use Rattle.std.proofs.Common.{◌≡◌, ◌≢◌, ◌⊎◌, inl, inr, ℕ, zero, suc, ◌<◌, Bool, true, false, nat_eq, List, [], ◌∷◌, ◌++◌, length, slice_get, Option, Some, refl, sym, ap, subst, ◌∙◌, arith}
+use Rattle.std.proofs.Common.{◌≡◌, ◌≢◌, ◌⊎◌, inl, inr, ℕ, ◌<◌, Bool, true, false, nat_eq, List, [], ◌∷◌, ◌++◌, length, slice_get, Option, Some, refl, sym, ap, subst, ◌∙◌, arith}
 use Rattle.std.proofs.lemmas.Bool.{and_from, lt-ltb}
 use Rattle.std.proofs.lemmas.Bool.Decides.{nat_tests}
-use Rattle.std.proofs.lemmas.Option.{slice_get_within, none-some, same_Some}
+use Rattle.std.proofs.lemmas.Option.{same_Some}
 use Rattle.sb_lit.specs.declared.clause.Lit.{Lit}
 use Rattle.sb_lit.specs.Kept.{Kept}
 use Rattle.sb_lang.specs.Regex.{Regex}
@@ -10,7 +10,7 @@ use Rattle.sb_deriv.specs.Faithful.{Memo}
 use Rattle.sb_regex.specs.Numbered.{Extends}
 use Rattle.sb_regex.proofs.CallerLemmas.{extends_same, extends_more}
 use Rattle.sb_meaning.specs.Terms.{Term}
-use Rattle.sb_script.specs.State.{Assertion, asserted, a_mark, live, terms_in}
+use Rattle.sb_script.specs.State.{Assertion, asserted, live}
 use Rattle.sb_rulebook.specs.Accepted.{asked_in}
 use Rattle.sb_rulebook.specs.Atoms.{Atom, AtomOver}
 use Rattle.sb_rulebook.specs.Kept.{AllKept, Asked}
@@ -24,11 +24,10 @@ use Rattle.sb_trace.proofs.CallerLemmas.{puts_none, puts_both}
 use Rattle.sb_theory.specs.Memberships.{is_atom, are_atoms}
 use Rattle.sb_refute.specs.declared.evidence.Asserted.{Asserted}
 use Rattle.sb_refute.specs.Backing.{Backing, Backs, EvidencesUncounted, asserted_at}
-use Rattle.sb_solve.specs.Answered.{IsLiteral, AreLiterals}
+use Rattle.sb_solve.specs.Answered.{IsLiteral, AreLiterals, term_onto, terms_at}
 use Rattle.sb_solve.specs.Solved.{AreOfLevels, level_at}
-use Rattle.sb_solve.specs.Stating.{IsStated, States, AreStated}
-
--- One assertion.
+use Rattle.sb_solve.specs.Stating.{IsStated, States, AllStated, AreStated}
+use Rattle.sb_solve.proofs.LiveRows.{same_term}
 
 -- One behind the other.
 
@@ -51,14 +50,14 @@ uncounted_both asked before mid more memo f g old told new p rest =
     }
 
 pub stated_none : (s : Stacked) (rs : List Regex) (e : Backing) (told : Option (List ℕ))
-    → HaveRegexesBelow (length rs) e.atoms → AreStated s rs rs e e told told []
+    → HaveRegexesBelow (length rs) e.atoms → AreStated s [] rs rs e e told told []
 stated_none s rs e told below = record {
   puts = λ memo before b. uncounted_none (asked_in (state_of s)) before rs memo e told b;
   extends = extends_same rs;
   regexes = below;
   levels = λ place a h. inl h;
   gates = λ some. absurd (omega (arith, some));
-  all = λ place l h. absurd (omega (arith, slice_get_within [] place l h));
+  all = tt;
 }
 
 translates_still : TranslationStays → (rs more : List Regex) (old new : List (AtomOver ℕ)) (t : Term) (l : Lit)
@@ -71,27 +70,55 @@ translates_still stays rs more old new t l grows below atoms h =
     larger = ap (atoms_in more) atoms.is ∙ atoms_more more old atoms.more
         ∙ ap (λ ts. ts ++ atoms_in more atoms.more) (atoms_kept rs more old grows below)
 
-added_at : {A : Type 0} (xs : List A) (x y : A) (place : ℕ) → slice_get (xs ++ x ∷ []) place ≡ Some y
-    → ((slice_get xs place ≡ Some y) × (place < length xs)) ⊎ ((place ≡ length xs) × (x ≡ y))
-added_at [] x y zero h = inr (refl, same_Some x y h)
-added_at [] x y (suc place) h = absurd (none-some y (h))
-added_at (z ∷ xs) x y zero h = inl (h, omega arith)
-added_at (z ∷ xs) x y (suc place) h = elim (added_at xs x y place h) [
-  | inl old ↦ inl (old.0, omega (arith, old.1))
-  | inr new ↦ inr (ap suc new.0, new.1)
-]
-
+-- an assertion that was stated stays so, also where it is stated again
 stated_still : TranslationStays → (s : Stacked) (place other : ℕ) (l m : Lit) (mid more : List Regex) (f g : Backing)
-    (told new : Option (List ℕ)) → States s place mid more f g told new m → other ≢ place → IsStated s mid f other l
+    (told new : Option (List ℕ)) → States s place mid more f g told new m → IsStated s mid f other l
     → IsStated s more g other l
-stated_still stays s place other l m mid more f g told new h apart was = record {
-  term = was.term;
-  stands = was.stands;
-  translates = translates_still stays mid more f.atoms g.atoms was.term l h.extends h.below h.atoms was.translates;
-  clause = was.clause;
-  there = h.others other apart ∙ was.there;
-  literal = was.literal;
-}
+stated_still stays s place other l m mid more f g told new h was = step (nat_eq other place) refl
+  where
+    still : translation (atoms_in more g.atoms) was.term ≡ Some l
+    still = translates_still stays mid more f.atoms g.atoms was.term l h.extends h.below h.atoms was.translates
+
+    again : other ≡ place → IsStated s more g other l
+    again same =
+        let now = h.stated in
+        let term : now.term ≡ was.term = same_term now.term was.term
+        (same_Some (asserted now.term) (asserted was.term)
+        (sym now.stands ∙ ap (slice_get (live (state_of s))) (sym same) ∙ was.stands)) in
+        let literal : m ≡ l = same_Some m l
+        (sym now.translates ∙ ap (translation (atoms_in more g.atoms)) term ∙ still) in
+        record {
+          term = was.term;
+          stands = was.stands;
+          translates = still;
+          clause = now.clause;
+          there = ap (asserted_at g.asserted) same ∙ now.there;
+          literal = now.literal ∙ literal;
+        }
+
+    step : (b : Bool) → nat_eq other place ≡ b → IsStated s more g other l
+    step true is = let same : other ≡ place = grind (arith, nat_tests) in again same
+    step false is =
+        let apart : other ≢ place = grind (arith, nat_tests) in
+        record {
+          term = was.term;
+          stands = was.stands;
+          translates = still;
+          clause = was.clause;
+          there = h.others other apart ∙ was.there;
+          literal = was.literal;
+        }
+
+-- so it is with all of them, and with one more
+all_more : (s : Stacked) (mid more : List Regex) (f g : Backing) (place : ℕ) (l : Lit)
+    → ((other : ℕ) (m : Lit) → IsStated s mid f other m → IsStated s more g other m) → IsStated s more g place l
+    → (places : List ℕ) (ls : List Lit) → AllStated s mid f places ls
+    → AllStated s more g (places ++ place ∷ []) (ls ++ l ∷ [])
+all_more s mid more f g place l still one [] [] h = (one, tt)
+all_more s mid more f g place l still one [] (m ∷ ls) h = absurd h
+all_more s mid more f g place l still one (other ∷ places) [] h = absurd h
+all_more s mid more f g place l still one (other ∷ places) (m ∷ ls) h =
+    (still other m h.0, all_more s mid more f g place l still one places ls h.1)
 
 levels_both : (live : List (Option Term × ℕ)) (place : ℕ) (e f g : List (Option Asserted))
     → AreOfLevels live e f
@@ -109,28 +136,22 @@ levels_both live place e f g h others here = λ other a found. step other a foun
         let apart : other ≢ place = grind (arith, nat_tests) in
         h other a (sym (others other apart) ∙ found)
 
-pub stated_more : TranslationStays → (s : Stacked) (rs mid more : List Regex) (e f g : Backing)
-    (old told new : Option (List ℕ)) (ls : List Lit) (l : Lit) → AreStated s rs mid e f old told ls
-    → States s (length ls) mid more f g told new l → AreStated s rs more e g old new (ls ++ l ∷ [])
-stated_more stays s rs mid more e f g old told new ls l h one = record {
+pub stated_more : TranslationStays → (s : Stacked) (places : List ℕ) (rs mid more : List Regex) (e f g : Backing)
+    (old told new : Option (List ℕ)) (ls : List Lit) (place : ℕ) (l : Lit)
+    → AreStated s places rs mid e f old told ls → States s place mid more f g told new l
+    → AreStated s (places ++ place ∷ []) rs more e g old new (ls ++ l ∷ [])
+stated_more stays s places rs mid more e f g old told new ls place l h one = record {
   puts = λ memo before b.
       uncounted_both (asked_in (state_of s)) before mid more memo f g old told new (h.puts memo before b)
       (λ after c. one.puts memo after c);
   extends = extends_more rs mid more h.extends one.extends;
   regexes = one.regexes;
-  levels = levels_both (asked_in (state_of s)).live (length ls) e.asserted f.asserted g.asserted h.levels one.others
+  levels = levels_both (asked_in (state_of s)).live place e.asserted f.asserted g.asserted h.levels one.others
       one.level;
   gates = λ some. one.gates;
-  all = λ place m there. elim (added_at ls l m place there) [
-    | inl was ↦ stated_still stays s (length ls) place m l mid more f g told new one (apart place was.1)
-        (h.all place m was.0)
-    | inr is ↦ subst (λ (n : ℕ). IsStated s more g n m) (sym is.0)
-        (subst (IsStated s more g (length ls)) is.1 one.stated)
-  ];
+  all = all_more s mid more f g place l
+      (λ other m was. stated_still stays s place other m l mid more f g told new one was) one.stated places ls h.all;
 }
-  where
-    apart : (place : ℕ) → place < length ls → place ≢ length ls
-    apart place less is = omega (arith, less, is)
 
 -- All of them.
 
@@ -138,30 +159,25 @@ abbrev pub IsOne : List Atom → Kept → List Assertion → ℕ → Lit → Typ
 IsOne atoms kept xs place l =
     (t : Term) × (slice_get xs place ≡ Some (asserted t)) × IsLiteral atoms kept t l
 
-same_term : (t u : Term) → asserted t ≡ asserted u → t ≡ u
-same_term t u h = cc
+pub are_literals : (s : Stacked) (more : List Regex) (f : Backing) (atoms : List Atom) (kept : Kept)
+    → ((place : ℕ) (l : Lit) → IsStated s more f place l → IsOne atoms kept (live (state_of s)) place l)
+    → (places : List ℕ) (ls : List Lit) → AllStated s more f places ls
+    → AreLiterals atoms kept (terms_at (live (state_of s)) places) ls
+are_literals s more f atoms kept each [] [] h = tt
+are_literals s more f atoms kept each [] (l ∷ ls) h = absurd h
+are_literals s more f atoms kept each (place ∷ places) [] h = absurd h
+are_literals s more f atoms kept each (place ∷ places) (l ∷ ls) h =
+    let xs = live (state_of s) in
+    let first = each place l h.0 in
+    subst (λ (o : Option Assertion). AreLiterals atoms kept (term_onto o (terms_at xs places)) (l ∷ ls)) (sym first.1)
+    (first.2, are_literals s more f atoms kept each places ls h.1)
 
-mark_some : (t : Term) → Some a_mark ≡ Some (asserted t) → ⊥
-mark_some t h = cc
-
-pub are_literals : (atoms : List Atom) (kept : Kept) (xs : List Assertion) (ls : List Lit) → length ls ≡ length xs
-    → ((place : ℕ) (l : Lit) → slice_get ls place ≡ Some l → IsOne atoms kept xs place l)
-    → AreLiterals atoms kept (terms_in xs) ls
-are_literals atoms kept [] [] long h = tt
-are_literals atoms kept [] (l ∷ ls) long h = absurd (omega (arith, long))
-are_literals atoms kept (x ∷ xs) [] long h = absurd (omega (arith, long))
-are_literals atoms kept (asserted t ∷ xs) (l ∷ ls) long h =
-    let first = h 0 l refl in (
-      subst (λ (u : Term). IsLiteral atoms kept u l)
-          (sym (same_term t first.0 (same_Some (asserted t) (asserted first.0) first.1))) first.2,
-      are_literals atoms kept xs ls (omega (arith, long)) (λ place m there. h (suc place) m there),
-    )
-are_literals atoms kept (a_mark ∷ xs) (l ∷ ls) long h =
-    let first = h 0 l refl in absurd (mark_some first.0 first.1)
-
-pub are_of_table : (atoms : List (AtomOver ℕ)) (ls : List Lit)
-    → ((place : ℕ) (l : Lit) → slice_get ls place ≡ Some l → l.atom < length atoms) → are_atoms atoms ls ≡ true
-are_of_table atoms [] h = refl
-are_of_table atoms (l ∷ ls) h =
-    and_from (is_atom atoms l.atom) (are_atoms atoms ls) (lt-ltb l.atom (length atoms) (h 0 l refl))
-    (are_of_table atoms ls (λ place m there. h (suc place) m there))
+pub are_of_table : (s : Stacked) (more : List Regex) (f : Backing) (atoms : List (AtomOver ℕ))
+    → ((place : ℕ) (l : Lit) → IsStated s more f place l → l.atom < length atoms) → (places : List ℕ) (ls : List Lit)
+    → AllStated s more f places ls → are_atoms atoms ls ≡ true
+are_of_table s more f atoms each [] [] h = refl
+are_of_table s more f atoms each [] (l ∷ ls) h = absurd h
+are_of_table s more f atoms each (place ∷ places) [] h = absurd h
+are_of_table s more f atoms each (place ∷ places) (l ∷ ls) h =
+    and_from (is_atom atoms l.atom) (are_atoms atoms ls) (lt-ltb l.atom (length atoms) (each place l h.0))
+    (are_of_table s more f atoms each places ls h.1)

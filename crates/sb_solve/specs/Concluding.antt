@@ -6,10 +6,8 @@ use Rattle.sb_lit.specs.Kept.{Kept}
 use Rattle.sb_lang.specs.Regex.{Regex}
 use Rattle.sb_analyze.specs.Cores.{IsKeptCore}
 use Rattle.sb_clauses.specs.Propagation.{has_room_for}
-use Rattle.sb_deriv.specs.Faithful.{KeepsEntries}
 use Rattle.sb_graph.specs.Findings.{Findings, IsGraph}
 use Rattle.sb_plain.specs.Memory.{IsRight}
-use Rattle.sb_regex.specs.Numbered.{Extends}
 use Rattle.sb_atoms.specs.Numbered.{HaveRegexesBelow}
 use Rattle.sb_stack.specs.Stacked.{Stacked, state_of}
 use Rattle.sb_refute.specs.declared.evidence.EmptyClause.{EmptyClause}
@@ -62,14 +60,13 @@ pub record IsEnded (before : ℕ) (x : Searched) : Type 0 where
   pub plain : IsRight x.arena x.plain
   pub regexes : HaveRegexesBelow (length x.arena) x.parts.atoms
 
--- All is left as it was, but that the arena and the graph may grow, and that the empty clause is known.
+-- All is left as it was, but that the empty clause is known.
 pub record IsLeft (x : Searched) (c : Concluded) : Type 0 where
   pub evidence : c.evidence ≡ record (backing_of x.parts) { refuted = c.evidence.refuted }
   pub lowest : IsLowestEmpty x.parts.engine.kept c.evidence.refuted
-  pub graph : IsGraph c.arena c.graph
-  pub plain : IsRight c.arena c.plain
-  pub extends : Extends x.arena c.arena
-  pub derivatives : KeepsEntries x.graph.memo c.graph.memo
+  pub arena : c.arena ≡ x.arena
+  pub graph : c.graph ≡ x.graph
+  pub plain : c.plain ≡ x.plain
 
 -- The words are no more than the constants that were declared, and where the end of the search is an answer about the
 -- assertions at some places, these are true of the words and the truth values.

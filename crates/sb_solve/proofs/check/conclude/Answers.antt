@@ -9,13 +9,13 @@ refuted-requires-clause-found c = no_values c.args.searched.found _ c.in-Unsat.i
 pub returns-in-Unsat : goal.returns-in-Unsat
 returns-in-Unsat c = record {
   left = c.refuted.ensures.left;
-  comes = comes_unsat c.args.stack.now c.args.searched c.args.literals.now c.refuted.result.evidence.refuted _
-      c.refuted.result.solved c.in-Unsat.is c.refuted.ensures.solved;
+  comes = comes_unsat c.args.stack.now c.args.searched c.refuted.result.evidence.refuted _ c.refuted.result.solved
+      c.in-Unsat.is c.refuted.ensures.solved;
 }
 
 pub returns-in-Spent : goal.returns-in-Spent
 returns-in-Spent c = record {
   left = c.left.ensures.left;
-  comes = comes_from c.args.stack.now c.args.searched c.args.literals.now c.left.result.evidence.refuted
-      c.args.searched.found found.Spent c.left.result.solved solved.Spent c.in-Spent.is c.left.ensures.solved tt;
+  comes = comes_from c.args.stack.now c.args.searched c.left.result.evidence.refuted c.args.searched.found
+      found.Spent c.left.result.solved solved.Spent c.in-Spent.is c.left.ensures.solved tt;
 }

@@ -1,4 +1,4 @@
-use Rattle.sb_regex.proofs.CallerLemmas.{extends_same}
+use Rattle.std.proofs.Common.{refl}
 use Rattle.sb_solve.proofs.check.left.Goals as goal
 
 pub from_parts-requires-clause-known : goal.from_parts-requires-clause-known
@@ -11,8 +11,7 @@ pub returns-clause-left : goal.returns-clause-left
 returns-clause-left c = record {
   evidence = c.from_parts.ensures.backing;
   lowest = c.from_parts.ensures.lowest;
-  graph = c.requires.ended.graph;
-  plain = c.requires.ended.plain;
-  extends = extends_same c.args.searched.arena;
-  derivatives = λ n pieces h. h;
+  arena = refl;
+  graph = refl;
+  plain = refl;
 }

@@ -3,7 +3,7 @@ use Rattle.std.proofs.lemmas.Result.{IfOk-from_err, err_from_is_err_and}
 use Rattle.std.specs.declared.alloc.Global.{Global}
 use Rattle.std.specs.declared.vec.Vec.{Vec}
 use Rattle.sb_term.proofs.CallerLemmas.{extends_same}
-use Rattle.sb_solve.proofs.Answering.{puts, sound, answer, of_levels, grown_before, grown, derivatives_kept, regexes_below}
+use Rattle.sb_solve.proofs.Answering.{puts, sound, answer, of_levels, grown_before, graph_left, plain_left, grown, derivatives_kept, regexes_below}
 use Rattle.sb_lit.specs.declared.clause.Lit.{Lit}
 use Rattle.sb_solve.specs.declared.check.Concluded.{Concluded}
 use Rattle.sb_trace.proofs.CallerLemmas.{counts_on}
@@ -26,21 +26,21 @@ taken-tables-requires-clause-regexes g c = c.in_ok-literals.ensures.stated.regex
 pub returns-clause-puts : goal.returns-clause-puts
 returns-clause-puts g c =
     rw (c.put_back.ensures.evidence, c.put_back.ensures.arena, c.put_back.ensures.graph)
-    (puts _ _ _ _ _ _ _ _ _ _ _ _ _ _ _ _ c.in_ok-literals.ensures.stated c.in_ok-literals.ensures.long
+    (puts _ _ _ _ _ _ _ _ _ _ _ _ _ _ _ _ _ c.in_ok-literals.ensures.stated
     c.taken-tables.ensures.taken c.taken-tables.ensures.ready c.deref.ensures.value
     c.in_ok-concluded.ensures.over)
 
 pub returns-clause-answer : goal.returns-clause-answer
 returns-clause-answer g c =
     rw (c.put_back.ensures.evidence, c.put_back.ensures.solved)
-    (answer _ _ _ _ _ _ _ _ _ _ _ _ _ _ _ _ c.in_ok-literals.ensures.stated c.in_ok-literals.ensures.long
+    (answer _ _ _ _ _ _ _ _ _ _ _ _ _ _ _ _ _ c.in_ok-literals.ensures.stated
     c.taken-tables.ensures.taken c.taken-tables.ensures.ready c.deref.ensures.value
     c.in_ok-concluded.ensures.over)
 
 pub returns-clause-sound : goal.returns-clause-sound
 returns-clause-sound g c =
     rw (c.put_back.ensures.evidence, c.put_back.ensures.arena, c.put_back.ensures.graph)
-    (sound _ _ _ _ _ _ _ _ _ _ _ _ _ _ _ _ c.in_ok-literals.ensures.stated c.in_ok-literals.ensures.long
+    (sound _ _ _ _ _ _ _ _ _ _ _ _ _ _ _ _ _ c.in_ok-literals.ensures.stated
     c.taken-tables.ensures.taken c.taken-tables.ensures.ready c.deref.ensures.value
     c.in_ok-concluded.ensures.over c.follows_by_rule.ensures c.line_stays_sound.ensures
     c.counted_again_stays_sound.ensures)
@@ -48,33 +48,37 @@ returns-clause-sound g c =
 pub returns-clause-levels : goal.returns-clause-levels
 returns-clause-levels g c =
     rw c.put_back.ensures.evidence
-    (of_levels _ _ _ _ _ _ _ _ _ _ _ _ _ _ _ _ c.in_ok-literals.ensures.stated c.in_ok-literals.ensures.long
+    (of_levels _ _ _ _ _ _ _ _ _ _ _ _ _ _ _ _ _ c.in_ok-literals.ensures.stated
     c.taken-tables.ensures.taken c.taken-tables.ensures.ready c.deref.ensures.value
     c.in_ok-concluded.ensures.over)
 
 pub returns-clause-extends : goal.returns-clause-extends
 returns-clause-extends g c =
     rw c.put_back.ensures.arena
-    (grown _ _ _ _ _ _ _ _ _ _ _ _ _ _ _ _ c.in_ok-literals.ensures.stated c.in_ok-literals.ensures.long
+    (grown _ _ _ _ _ _ _ _ _ _ _ _ _ _ _ _ _ c.in_ok-literals.ensures.stated
     c.taken-tables.ensures.taken c.taken-tables.ensures.ready c.deref.ensures.value
     c.in_ok-concluded.ensures.over)
 
 pub returns-clause-derivatives_stay : goal.returns-clause-derivatives_stay
 returns-clause-derivatives_stay g c =
     rw c.put_back.ensures.graph
-    (derivatives_kept _ _ _ _ _ _ _ _ _ _ _ _ _ _ _ _ c.in_ok-literals.ensures.stated c.in_ok-literals.ensures.long
+    (derivatives_kept _ _ _ _ _ _ _ _ _ _ _ _ _ _ _ _ _ c.in_ok-literals.ensures.stated
     c.taken-tables.ensures.taken c.taken-tables.ensures.ready c.deref.ensures.value
     c.in_ok-concluded.ensures.over)
 
 pub returns-clause-graph : goal.returns-clause-graph
 returns-clause-graph g c =
     rw (c.put_back.ensures.arena, c.put_back.ensures.graph)
-    (c.in_ok-concluded.ensures.over.concluded.left.graph)
+    (graph_left _ _ _ _ _ _ _ _ _ _ _ _ _ _ _ _ _ c.in_ok-literals.ensures.stated
+    c.taken-tables.ensures.taken c.taken-tables.ensures.ready c.deref.ensures.value
+    c.in_ok-concluded.ensures.over)
 
 pub returns-clause-plain : goal.returns-clause-plain
 returns-clause-plain g c =
     rw (c.put_back.ensures.arena, c.put_back.ensures.plain)
-    (c.in_ok-concluded.ensures.over.concluded.left.plain)
+    (plain_left _ _ _ _ _ _ _ _ _ _ _ _ _ _ _ _ _ c.in_ok-literals.ensures.stated
+    c.taken-tables.ensures.taken c.taken-tables.ensures.ready c.deref.ensures.value
+    c.in_ok-concluded.ensures.over)
 
 pub returns-clause-right : goal.returns-clause-right
 returns-clause-right g c = c.in_ok-literals.ensures.right
@@ -84,7 +88,7 @@ returns-clause-normals g c =
     let ts = c.args.stack.now.table in
     rw c.put_back.ensures.arena
     (c.normals_stay.ensures ts ts c.literals.new.arena _ c.literals.new.normals (extends_same ts)
-    (grown_before _ _ _ _ _ _ _ _ _ _ _ _ _ _ _ _ c.in_ok-literals.ensures.stated c.in_ok-literals.ensures.long
+    (grown_before _ _ _ _ _ _ _ _ _ _ _ _ _ _ _ _ _ c.in_ok-literals.ensures.stated
     c.taken-tables.ensures.taken c.taken-tables.ensures.ready c.deref.ensures.value
     c.in_ok-concluded.ensures.over)
     c.in_ok-literals.ensures.normals)
@@ -92,7 +96,7 @@ returns-clause-normals g c =
 pub returns-clause-regexes : goal.returns-clause-regexes
 returns-clause-regexes g c =
     rw (c.put_back.ensures.arena, c.put_back.ensures.evidence)
-    (regexes_below _ _ _ _ _ _ _ _ _ _ _ _ _ _ _ _ c.in_ok-literals.ensures.stated c.in_ok-literals.ensures.long
+    (regexes_below _ _ _ _ _ _ _ _ _ _ _ _ _ _ _ _ _ c.in_ok-literals.ensures.stated
     c.taken-tables.ensures.taken c.taken-tables.ensures.ready c.deref.ensures.value
     c.in_ok-concluded.ensures.over)
 

@@ -9,4 +9,4 @@ loop-word-preserved c =
     c.loop-word.found.items c.push.new.self.items c.in-Some.word c.is_marked-marked.result c.in_ok-pick_one.field-0
     c.loop-word.invariant c.in-Some.ensures.steps.0
     (c.is_marked-marked.ensures ∙ ap (truth_in c.args.marks.now) (c.len-in-loop-word.ensures ∙ c.loop-word.found.ok.0))
-    c.in_ok-pick_one.ensures.exact c.in_ok-pick_one.ensures.word c.in_ok-push.ensures.items
+    c.in_ok-pick_one.ensures.exact c.in_ok-pick_one.ensures.characters c.in_ok-push.ensures.items

@@ -1,17 +1,13 @@
-use Rattle.std.proofs.Common.{◌≡◌, ◌-◌, ◌≤◌, length}
+use Rattle.std.proofs.Common.{◌≡◌, take}
 use Rattle.sb_fragment.specs.Measures.{AreMeasures}
 use Rattle.sb_problem.specs.Known.{AreNormals}
 use Rattle.sb_solve.specs.Stating.{AreStated}
 use Rattle.sb_solve.proofs.stating.literals.Given as goal
 
-abbrev pub invariant-loop-literals : goal.invariant-loop-literals
-invariant-loop-literals g l =
-    (length l.literals.items ≤ length l.fn.stack.assertions)
-    × AreMeasures l.fn.stack.table l.measures
+abbrev pub invariant-loop-place : goal.invariant-loop-place
+invariant-loop-place g l =
+    AreMeasures l.fn.stack.table l.measures
     × AreNormals l.fn.stack.table l.arena l.normals
     × (g.L.Tape.faults l.tape ≡ g.L.Tape.faults l.fn.tape)
-    × AreStated l.fn.stack l.fn.arena l.arena l.fn.evidence l.evidence (g.L.Tape.told l.fn.tape)
-    (g.L.Tape.told l.tape) l.literals.items
-
-abbrev pub decreases-loop-literals : goal.decreases-loop-literals
-decreases-loop-literals g l = length l.fn.stack.assertions - length l.literals.items
+    × AreStated l.fn.stack (take l.place-index l.fn.places) l.fn.arena l.arena l.fn.evidence l.evidence
+    (g.L.Tape.told l.fn.tape) (g.L.Tape.told l.tape) l.literals.items
