@@ -40,7 +40,7 @@ same_tests : (p q : Lit → Bool) (ls : List Lit) → ((l : Lit) → p l ≡ q l
 same_tests p q [] same = refl
 same_tests p q (l ∷ ls) same = rw (same l, same_tests p q ls same) refl
 
-pub all_of_word : MkandKeepsLanguage → MknotKeepsLanguage → (rs : List Regex) (atoms : List (AtomOver ℕ))
+all_of_word : MkandKeepsLanguage → MknotKeepsLanguage → (rs : List Regex) (atoms : List (AtomOver ℕ))
     (ls : List Lit) (w : List ℕ) → language (asked_by_all rs atoms ls) w ≡ list_all (is_true_of rs atoms w) ls
 all_of_word keeps negates rs atoms ls w =
     in_all keeps rs atoms ls w

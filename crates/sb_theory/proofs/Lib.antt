@@ -4,4 +4,3 @@ pub mod Denied
 pub mod Settling
 pub mod Placed
 pub mod Answering
-pub mod CallerLemmas

@@ -6,7 +6,6 @@
 //! asked once for a word that makes all of its memberships true. Where there is none, all of them are the lemma if no
 //! decision is on the trail, and else a few that clash, of the shortest front of them that does. A word stays when
 //! literals are taken back, since it goes on to make those true that are left. What is found of regexes stays too.
-//! [`rows_of`] groups literals by their constants.
 #![tactic(auto)]
 
 mod changed;
@@ -17,6 +16,5 @@ mod place;
 mod row;
 mod strings;
 
-pub use member::{Member, membership, rows_of};
-pub use row::{Row, row_of};
+pub use member::{Member, membership};
 pub use strings::Strings;

@@ -1,6 +1,6 @@
 //! What literals are about, and what was taken in of them.
 
-ghost use Rattle.std.specs.Prelude.{◌≡◌, ◌∷◌, ◌++◌, [], List, None, IfOk, OnOk, IfSome, IfNone};
+ghost use Rattle.std.specs.Prelude.{◌≡◌, ◌∷◌, ◌++◌, [], List, None, OnOk, IfSome, IfNone};
 ghost use Rattle.sb_lit.specs.declared.clause.Lit.{Lit as TheLit};
 ghost use Rattle.sb_script.specs.Pieces.{constant_piece};
 ghost use Rattle.sb_rulebook.specs.Atoms.{in_atom};
@@ -51,34 +51,6 @@ fn member_in(atom: &Atom) -> Option<Member>
         }),
         Atom::Bool(_) | Atom::And(_) | Atom::Iff(..) => None,
     }
-}
-
-/// By serial the literals that are about each constant, in order. Linear in the literals, and in the largest serial.
-/// `AllocError` only for want of memory.
-pub fn rows_of(alloc: Global, atoms: &Atoms, literals: &[Lit]) -> Result<Vec<Row>, AllocError>
-    ensures { IfOk result (λ rows. AreMembers atoms.now rows.items literals.now) }
-{
-    let mut rows = Vec::new(alloc);
-    for literal in literals {
-        put_literal(alloc, atoms, &mut rows, *literal)?;
-    }
-    Ok(rows)
-}
-
-/// Adds a literal to the row of its constant.
-fn put_literal(
-    alloc: Global,
-    atoms: &Atoms,
-    rows: &mut Vec<Row>,
-    literal: Lit,
-) -> Result<(), AllocError>
-    ensures { OnOk result ((before : List TheLit) → AreMembers atoms.now rows.old.items before
-        → AreMembers atoms.now rows.new.items (before ++ literal ∷ [])) }
-{
-    let Some(member) = membership(atoms, literal) else {
-        return Ok(());
-    };
-    put_member(alloc, rows, member.serial, literal)
 }
 
 /// Adds an entry to those that were taken in, and its literal to the row of its constant.

@@ -12,7 +12,7 @@ use std::marker::Model;
 
 /// Literals of one constant, oldest first.
 #[derive(Drop)]
-pub struct Row {
+pub(crate) struct Row {
     literals: Vec<Lit>,
 }
 
@@ -75,7 +75,7 @@ pub(crate) fn put_member(
 }
 
 /// The literals in the row of a constant, none past the last row. Takes constant time and no memory.
-pub fn row_of(rows: &[Row], serial: Serial) -> &[Lit]
+pub(crate) fn row_of(rows: &[Row], serial: Serial) -> &[Lit]
     ensures { result.now ≡ row_at rows.now serial.0 }
 {
     match rows.get(serial.0 as usize) {
