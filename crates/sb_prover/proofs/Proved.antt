@@ -17,12 +17,12 @@ use Rattle.sb_rulebook.specs.Accepted.{question_in, asked_in}
 use Rattle.sb_proof.specs.Tapes.{with_bytes}
 use Rattle.sb_stack.specs.Stacked.{Stacked, state_of, live_constants, values_at}
 use Rattle.sb_atoms.specs.Numbered.{HaveRegexesBelow}
-use Rattle.sb_trace.specs.Tracking.{Traced, Tracks}
 use Rattle.sb_trace.specs.Putting.{Puts}
 use Rattle.sb_trace.proofs.CallerLemmas.{puts_none}
 use Rattle.sb_sound.specs.Certified.{SaysVerdict, last_lines}
 use Rattle.sb_refute.specs.Backing.{Backing, Backs}
 use Rattle.sb_refute.specs.declared.refute.Refuted.TheVariants as refuted
+use Rattle.sb_solve.proofs.CallerLemmas.{backs-again}
 use Rattle.sb_script.specs.Fragment.{in_fragment}
 use Rattle.sb_prover.specs.Proving.{Proving, IsAbreast, IsProved}
 use Rattle.sb_prover.specs.Saying.{first_lines, said_value, Tells, IsSaid, IsRefuted}
@@ -30,28 +30,6 @@ use Rattle.sb_prover.proofs.LinesTaken.{verdict-said, tells-both, tells-one}
 use Rattle.sb_prover.proofs.Sayings.{unsat-right, unknown-right, unsupported-right}
 use Rattle.sb_prover.proofs.Formats.{format-stays}
 use Rattle.sb_prover.proofs.SatValues.{sat-said}
-
--- what is counted says nothing of what is known
-tracks-again : (rs : List Regex) (memo : Memo) (t : Traced) (kept : AllKept) → Tracks rs memo t kept
-    → Tracks rs memo t (count_again kept)
-tracks-again rs memo t kept h = record {
-  numbers = h.numbers;
-  regexes = h.regexes;
-  expansions_long = h.expansions_long;
-  dead_long = h.dead_long;
-  expanded = h.expanded;
-  dead = h.dead;
-  targets = h.targets;
-}
-
-pub backs-again : (rs : List Regex) (memo : Memo) (e : Backing) (kept : AllKept) → Backs rs memo e kept
-    → Backs rs memo e (count_again kept)
-backs-again rs memo e kept h = record {
-  tracks = tracks-again rs memo e.trace kept h.tracks;
-  atoms = h.atoms;
-  clauses = h.clauses;
-  asserted = h.asserted;
-}
 
 pub said-proved : (q : Question) (v : Verdict) (before : Progress) (reached : AllKept) (rs : List Regex) (memo : Memo)
     (e : Backing) (old new : Option (List ℕ)) → IsSaid q v before reached old new → Backs rs memo e reached

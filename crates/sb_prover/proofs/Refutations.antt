@@ -1,5 +1,5 @@
 -- What became of a refutation, and what the lines that were put for it say.
-use Rattle.std.proofs.Common.{◌≡◌, ℕ, ◌^◌, ◌-◌, List, Option, Some, refl, sym, ap, ◌∙◌}
+use Rattle.std.proofs.Common.{◌≡◌, ℕ, ◌^◌, ◌-◌, List, Option, Some, IfSome, refl, sym, ap, subst, ◌∙◌}
 use Rattle.sb_lang.specs.Regex.{Regex}
 use Rattle.sb_lit.specs.Budgets.{Spending}
 use Rattle.sb_lit.specs.declared.clause.ClauseId.{ClauseId}
@@ -15,6 +15,7 @@ use Rattle.sb_refute.specs.Backing.{Backing, Backs, Evidences, empty_at}
 use Rattle.sb_refute.specs.Refuting.{IsEmptyAt, IsRefutation}
 use Rattle.sb_refute.specs.declared.refute.Refuted.{Refuted}
 use Rattle.sb_refute.specs.declared.refute.Refuted.TheVariants as refuted
+use Rattle.sb_prover.specs.Proving.{Proving}
 use Rattle.sb_prover.specs.Saying.{IsRefuted, SaysRefuted}
 
 -- the empty clause is kept
@@ -23,15 +24,34 @@ pub says-kept : (asked : Asked) (kept : AllKept) (rs : List Regex) (memo : Memo)
 says-kept asked kept rs memo e id backs is =
     (is.0, ap (λ (clauses : Kept). kept_at clauses id.0) backs.clauses ∙ is.1)
 
+-- the evidence knows the empty clause
+pub empty-known : (e : Backing) (p : Proving) (o : Option EmptyClause) (c : EmptyClause) → e ≡ p.evidence → o ≡ Some c
+    → IfSome o (λ empty. kept_at e.kept empty.clause.0 ≡ Some (empty_at empty)) → IsEmptyAt p.evidence.kept c.clause.0
+empty-known e p o c same is known = (
+  c.level,
+  ap (λ (b : Backing). kept_at b.kept c.clause.0) (sym same)
+      ∙ subst (λ (x : Option EmptyClause). IfSome x (λ empty. kept_at e.kept empty.clause.0 ≡ Some (empty_at empty))) is
+      known,
+)
+
 -- The empty clause is kept already: no line is put.
-pub refuted-again : (s : Stacked) (before : AllKept) (rs : List Regex) (memo : Memo) (e : Backing) (c : EmptyClause)
-    (told : Option (List ℕ)) → Backs rs memo e before → kept_at e.kept c.clause.0 ≡ Some (empty_at c)
-    → IsRefuted (asked_in (state_of s)) before rs memo e (refuted.Clause c.clause) told told
-refuted-again s before rs memo e c told backs is = record {
+pub refuted-again : (s : Stacked) (before : AllKept) (rs : List Regex) (memo : Memo) (e : Backing) (id : ClauseId)
+    (told : Option (List ℕ)) → Backs rs memo e before → IsEmptyAt e.kept id.0
+    → IsRefuted (asked_in (state_of s)) before rs memo e (refuted.Clause id) told told
+refuted-again s before rs memo e id told backs is = record {
   after = before;
   puts = puts_none (asked_in (state_of s)) before told;
   backs = backs;
-  says = says-kept (asked_in (state_of s)) before rs memo e c.clause backs (c.level, is);
+  says = says-kept (asked_in (state_of s)) before rs memo e id backs is;
+}
+
+-- a budget of as many steps as a check may have, of which none is spent
+pub counts-none : (s : Stacked) (before : AllKept) (budget : Spending)
+    → budget ≡ record { spent = 0; limit = 2 ^ 64 - 1 } → before.counted ≡ 0
+    → IsCounted (asked_in (state_of s)) before budget
+counts-none s before budget is counted = record {
+  spent = counted ∙ ap (λ (b : Spending). b.spent) (sym is);
+  limit = ap (λ (b : Spending). b.limit) (sym is);
 }
 
 pub says-refuted : (asked : Asked) (after : AllKept) (rs : List Regex) (memo : Memo) (e : Backing) (budget : Spending)

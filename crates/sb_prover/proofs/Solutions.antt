@@ -1,5 +1,5 @@
 -- What a check comes to that the decider left open.
-use Rattle.std.proofs.Common.{◌≡◌, ◌⊎◌, ℕ, true, List, [], map, length, Option, Some, IfSome, inl, inr, refl, sym, subst, ◌∙◌}
+use Rattle.std.proofs.Common.{◌≡◌, ◌⊎◌, ℕ, Bool, true, false, List, [], map, length, Option, Some, IfSome, inl, inr, refl, sym, subst, ◌∙◌}
 use Rattle.sb_lang.specs.Regex.{Regex}
 use Rattle.sb_lit.specs.Kept.{kept_at}
 use Rattle.sb_lit.specs.Budgets.{Spending}
@@ -19,24 +19,27 @@ use Rattle.sb_proof.specs.Tapes.{with_bytes}
 use Rattle.sb_stack.specs.Stacked.{Stacked, state_of, live_constants, values_at}
 use Rattle.sb_stack.specs.Steps.{verdict_in}
 use Rattle.sb_atoms.specs.Numbered.{HaveRegexesBelow}
+use Rattle.sb_trace.specs.Putting.{IsCounted}
 use Rattle.sb_trace.proofs.CallerLemmas.{puts_none}
-use Rattle.sb_sound.specs.SoundLaws.{AreTerms, FollowsByRule, LineStaysSound}
+use Rattle.sb_sound.specs.SoundLaws.{AreTerms, FollowsByRule, LineStaysSound, CountedAgainStaysSound}
 use Rattle.sb_sound.specs.ScriptLaws.{IsFit, EmptyClauseRefutes}
 use Rattle.sb_refute.specs.declared.evidence.EmptyClause.{EmptyClause}
 use Rattle.sb_refute.specs.declared.refute.Refuted.TheVariants as refuted
 use Rattle.sb_refute.specs.Backing.{Backing, Backs, Evidences, asserted_at, empty_at}
+use Rattle.sb_refute.specs.Refuting.{IsEmptyAt}
 use Rattle.sb_solve.specs.Solved.{AreOfLevels, IsSolved}
+use Rattle.sb_solve.specs.Truth.{IsTrue}
+use Rattle.sb_solve.proofs.CallerLemmas.{true-behind}
 use Rattle.sb_solve.specs.declared.check.Solved.{Solved}
 use Rattle.sb_solve.specs.declared.check.Solved.TheVariants as solved
 use Rattle.sb_decide.specs.Knowing.{MayBeKept}
-use Rattle.sb_prover.specs.Proving.{Proving, IsAbreast, IsProved, HaveLevels, level_at, IsTrue}
+use Rattle.sb_prover.specs.Proving.{Proving, IsAbreast, IsProved, HaveLevels, level_at}
 use Rattle.sb_prover.specs.Saying.{first_lines, Tells, said_value}
-use Rattle.sb_prover.specs.Solving.{IsFound, IsSolution, verdict_of, said_by, IsNumbered}
+use Rattle.sb_prover.specs.Solving.{IsFound, IsSolution, SaysTrue, verdict_of, said_by, IsNumbered}
 use Rattle.sb_prover.proofs.LinesTaken.{verdict-said}
 use Rattle.sb_prover.proofs.Proved.{said-proved, reached-format, unsat-proved, unknown-proved}
 use Rattle.sb_prover.proofs.Refutations.{says-kept, says-refuted}
 use Rattle.sb_prover.proofs.SatValues.{sat-said}
-use Rattle.sb_prover.proofs.TrueEvidence.{sound-behind}
 
 -- clauses of assertions have the levels that they had, or those of the live assertions
 pub levels-known : (live : List (Option Term × ℕ)) (e f : Backing) → AreOfLevels live e.asserted f.asserted
@@ -69,14 +72,14 @@ found-may s rs memo e f budget (solved.Unsat id) h = tt
 found-may s rs memo e f budget solved.Spent h = tt
 
 -- The empty clause is kept already: no line is put.
-pub solved-again : (s : Stacked) (before : AllKept) (rs : List Regex) (memo : Memo) (e : Backing) (c : EmptyClause)
-    (told : Option (List ℕ)) → Backs rs memo e before → kept_at e.kept c.clause.0 ≡ Some (empty_at c)
-    → IsSolution s before rs memo e (solved.Unsat c.clause) told told
-solved-again s before rs memo e c told backs is = record {
+pub solved-again : (s : Stacked) (before : AllKept) (rs : List Regex) (memo : Memo) (e : Backing) (id : ClauseId)
+    (told : Option (List ℕ)) → Backs rs memo e before → IsEmptyAt e.kept id.0
+    → IsSolution s before rs memo e (solved.Unsat id) told told
+solved-again s before rs memo e id told backs is = record {
   after = before;
   puts = puts_none (asked_in (state_of s)) before told;
   backs = backs;
-  says = says-kept (asked_in (state_of s)) before rs memo e c.clause backs (c.level, is);
+  says = says-kept (asked_in (state_of s)) before rs memo e id backs is;
 }
 
 -- Lines were put for it.
@@ -103,20 +106,41 @@ solved-now s terms before rs more memo memos e f budget solved.Spent old new bac
   says = says-refuted (asked_in (state_of s)) h.after more memos f budget refuted.Spent refl h.backs h.counts is;
 }
 
--- The verdict may be given, where what was kept before is true.
-pub solved-verdict : FollowsByRule → LineStaysSound → EmptyClauseRefutes → (s : Stacked)
-    → in_fragment (state_of s) ≡ true → IsFit (state_of s) → AreTerms (asked_in (state_of s)) → (rs more : List Regex)
-    (memo memos : Memo) (e f : Backing) (r : Solved) (old new : Option (List ℕ))
-    (t : IsTrue (asked_in (state_of s)) rs memo e) → IsSolution s t.kept more memos f r old new
-    → IsVerdict (state_of s) [] (verdict_in (live_constants s) (verdict_of r))
-solved-verdict rule by refutes s inside fit terms rs more memo memos e f (solved.Sat words truths) old new t h =
-    (inside, h.says)
-solved-verdict rule by refutes s inside fit terms rs more memo memos e f (solved.Unsat id) old new t h =
+-- What the evidence knows then is true: by the lines that were put, or by what the search says without them.
+pub solved-true : FollowsByRule → LineStaysSound → CountedAgainStaysSound → (s : Stacked)
+    → AreTerms (asked_in (state_of s)) → (proves : Bool) (rs more : List Regex) (memo memos : Memo) (e f : Backing)
+    (budget behind : Spending) (old new : Option (List ℕ)) (t : IsTrue (asked_in (state_of s)) rs memo e)
+    → IsCounted (asked_in (state_of s)) t.kept budget
+    → (proves ≡ true → (before : AllKept) → Backs rs memo e before → IsCounted (asked_in (state_of s)) before budget
+    → Evidences (asked_in (state_of s)) before more memos f behind old new)
+    → (proves ≡ false → AreTerms (asked_in (state_of s)) → IsTrue (asked_in (state_of s)) rs memo e
+    → IsTrue (asked_in (state_of s)) more memos f)
+    → IsTrue (asked_in (state_of s)) more memos f
+solved-true rule by again s terms true rs more memo memos e f budget behind old new t counts puts sound =
+    let h = puts refl t.kept t.backs counts in
+    true-behind rule by again (asked_in (state_of s)) rs more memo memos e f terms t h.after old new h.puts h.backs
+solved-true rule by again s terms false rs more memo memos e f budget behind old new t counts puts sound =
+    sound refl terms t
+
+-- What was found may be answered.
+pub says-true : (s : Stacked) → AreTerms (asked_in (state_of s)) → (rs : List Regex) (memo : Memo) (e f : Backing)
+    (budget : Spending) (r : Solved) → IsTrue (asked_in (state_of s)) rs memo e → IsFound s rs memo e f budget r
+    → SaysTrue s f r
+says-true s terms rs memo e f budget (solved.Sat words truths) t is = is.given t.kept t.backs terms
+says-true s terms rs memo e f budget (solved.Unsat id) t is = is
+says-true s terms rs memo e f budget solved.Spent t is = tt
+
+-- The verdict may be given, where what the evidence knows is true.
+pub solved-verdict : EmptyClauseRefutes → (s : Stacked) → in_fragment (state_of s) ≡ true → IsFit (state_of s)
+    → (rs : List Regex) (memo : Memo) (e : Backing) (r : Solved) → IsTrue (asked_in (state_of s)) rs memo e
+    → SaysTrue s e r → IsVerdict (state_of s) [] (verdict_in (live_constants s) (verdict_of r))
+solved-verdict refutes s inside fit rs memo e (solved.Sat words truths) t h = (inside, h)
+solved-verdict refutes s inside fit rs memo e (solved.Unsat id) t h =
+    let there = says-kept (asked_in (state_of s)) t.kept rs memo e id t.backs h in
     let none : Satisfiable (state_of s) [] → ⊥ =
-    refutes (state_of s) h.after id.0 h.says.0 fit
-    (sound-behind rule by (asked_in (state_of s)) terms h.puts.lines t.kept h.after t.sound h.puts.follow) h.says.1 in
+    refutes (state_of s) t.kept id.0 there.0 fit t.sound there.1 in
     (inside, none, record { some = refl; contradicted = none })
-solved-verdict rule by refutes s inside fit terms rs more memo memos e f solved.Spent old new t h = inside
+solved-verdict refutes s inside fit rs memo e solved.Spent t h = inside
 
 -- The lines that were put prove it.
 pub solved-proved : TextIsRead → TextIsOneLine → TextsAreLines → (s : Stacked) (r : Solved) (before : Progress)

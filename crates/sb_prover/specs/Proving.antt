@@ -9,7 +9,7 @@ use Rattle.sb_script.specs.Replies.{step_of}
 use Rattle.sb_script.specs.Verdicts.{Verdict}
 use Rattle.sb_rulebook.specs.Accepted.{asked_in}
 use Rattle.sb_rulebook.specs.Atoms.{AtomOver}
-use Rattle.sb_rulebook.specs.Kept.{AllKept, Asked, nothing_kept}
+use Rattle.sb_rulebook.specs.Kept.{Asked, nothing_kept}
 use Rattle.sb_rulebook.specs.Brought.{newest_format}
 use Rattle.sb_rulebook.specs.Verdicts.{Question}
 use Rattle.sb_rulebook.specs.Judging.{Event, leaves_above, leaves_all, at_rest, Progress}

@@ -70,9 +70,6 @@ impl Prover {
         text_is_read();
         text_is_one_line();
         texts_are_lines();
-        follows_by_rule();
-        line_stays_sound();
-        counted_again_stays_sound();
         entries_lead_on();
         empty_clause_refutes();
         fragment_is_of_each();
@@ -110,6 +107,9 @@ impl Prover {
             → HaveLevels (asked_in (state_of stack.now)).live self.new.evidence) }
         ensures counts { CountsTapeFault result (L.Tape.faults tape.old) (L.Tape.faults tape.new) }
     {
+        follows_by_rule();
+        line_stays_sound();
+        counted_again_stays_sound();
         if let Some(empty) = self.evidence.refuted() {
             return Ok(Solved::Unsat(empty.clause));
         }

@@ -1,7 +1,8 @@
 use Rattle.std.proofs.Common.{IfSome, take, sym, ap, subst}
 use Rattle.sb_rulebook.specs.Judging.{met}
 use Rattle.sb_refute.specs.Backing.{Backing}
-use Rattle.sb_prover.specs.Proving.{Proving, IsAbreast, HaveLevels, AreLow, leaving, IsTrue, GoesDown}
+use Rattle.sb_solve.specs.Truth.{IsTrue}
+use Rattle.sb_prover.specs.Proving.{Proving, IsAbreast, HaveLevels, AreLow, leaving, GoesDown}
 use Rattle.sb_prover.proofs.TrueEvidence.{true-above, true-left_all}
 use Rattle.sb_prover.proofs.Leaving.{levels-up-to, levels-left_above, levels-left_all, left-above, left-all}
 use Rattle.sb_prover.proofs.prover.Prover.leave.Goals as goal

@@ -3,10 +3,10 @@ use Rattle.sb_script.specs.Verdicts.{is_unsat, is_unknown}
 use Rattle.sb_rulebook.specs.Accepted.{question_in, asked_in}
 use Rattle.sb_stack.specs.Stacked.{state_of}
 use Rattle.sb_refute.specs.Backing.{Backs}
+use Rattle.sb_solve.proofs.CallerLemmas.{true-behind}
 use Rattle.sb_prover.specs.Proving.{Proving, IsProved, HaveLevels}
 use Rattle.sb_prover.specs.Saying.{IsRefuted}
 use Rattle.sb_prover.proofs.Proved.{unsat-proved, unknown-proved}
-use Rattle.sb_prover.proofs.TrueEvidence.{true-behind}
 use Rattle.sb_prover.proofs.prover.Prover.prove_unsat.Goals as goal
 
 pub returns-in_ok-say-in-Clause-clause-proves : goal.returns-in_ok-say-in-Clause-clause-proves
