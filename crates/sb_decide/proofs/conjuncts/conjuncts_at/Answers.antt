@@ -37,6 +37,22 @@ bounds-members-place c =
     all_last (λ place. place < length c.args.members.now) c.in-Some.front.now c.loop-place.left.now
     c.in-Some.place.now c.in-Some.ensures.cases.0 c.loop-place.invariant.0
 
+pub bounds-in-Some : goal.bounds-in-Some
+bounds-in-Some c =
+    all_last (λ place. place < length c.args.members.now) c.in-Some.front.now c.loop-place.left.now
+    c.in-Some.place.now c.in-Some.ensures.cases.0 c.loop-place.invariant.0
+
+pub bounds-members-place-in-Some-members-place : goal.bounds-members-place-in-Some-members-place
+bounds-members-place-in-Some-members-place c =
+    all_last (λ place. place < length c.args.members.now) c.in-Some.front.now c.loop-place.left.now
+    c.in-Some.place.now c.in-Some.ensures.cases.0 c.loop-place.invariant.0
+
+pub bounds-roots-place-in-Some-roots-place : goal.bounds-roots-place-in-Some-roots-place
+bounds-roots-place-in-Some-roots-place c =
+    let low = all_last (λ place. place < length c.args.members.now) c.in-Some.front.now c.loop-place.left.now
+    c.in-Some.place.now c.in-Some.ensures.cases.0 c.loop-place.invariant.0 in
+    omega (arith, low, c.requires.abreast)
+
 pub bounds : goal.bounds
 bounds c =
     let low = all_last (λ place. place < length c.args.members.now) c.in-Some.front.now c.loop-place.left.now
