@@ -161,19 +161,6 @@ left_open_through kept now new ss stack k has more named value all settled liste
     (subst (AreAllChanged kept.constants.items) (sym same) changed)
     (subst (OthersSettled ss.items) (sym same) settled) (rw value at listed)
 
--- it still knows the state as it is
-pub knows_changed : (kept : Decider) (cs : Vec Conjoined Global) (ss : Vec Serial Global) (stack : Stacked)
-    → Knows kept stack → AreAllChanged kept.constants.items cs.items → OthersSettled ss.items cs.items
-    → All (λ other. other.0 < length kept.constants.items) ss.items
-    → Knows (record kept { constants = cs; changed = ss }) stack
-knows_changed kept cs ss stack k all settled listed =
-    let t = taken_changed kept cs ss stack.table stack.assertions all settled listed k.taken in record {
-      taken = t;
-      words = any_words kept.arena kept.members.items cs.items stack.words all.changed t.within k.words.characters
-          (omega (arith, k.words.few, all.same_length));
-      declared = omega (arith, k.declared, all.same_length);
-    }
-
 -- all of it grows
 pub left_open_grown : GraphStays → RightStays → (kept : Decider) (rs : List Regex) (g : Findings) (ks : List Known)
     (ms : List Measure) (p : Memory) (stack : Stacked) → Extends kept.arena rs → IsGraph rs g →
