@@ -15,3 +15,5 @@ mod Leaving
 mod TrueEvidence
 mod FitSteps
 mod Solutions
+mod FilledWords
+mod Given

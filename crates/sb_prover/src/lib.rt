@@ -7,6 +7,7 @@
 //! open check, writes what was put, and then answers.
 #![tactic(auto)]
 
+mod filling;
 mod prover;
 mod refutation;
 mod solving;
