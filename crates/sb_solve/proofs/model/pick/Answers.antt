@@ -1,4 +1,5 @@
 use Rattle.std.proofs.Common.{ap, ◌∙◌}
+use Rattle.std.proofs.lemmas.Result.{IfOk-from_err}
 use Rattle.sb_solve.specs.Values.{truth_in}
 use Rattle.sb_solve.proofs.PickedWords.{picking_step}
 use Rattle.sb_solve.proofs.model.pick.Goals as goal
@@ -10,3 +11,18 @@ loop-word-preserved c =
     c.loop-word.invariant c.in-Some.ensures.steps.0
     (c.is_marked-marked.ensures ∙ ap (truth_in c.args.marks.now) (c.len-in-loop-word.ensures ∙ c.loop-word.found.ok.0))
     c.in_ok-pick_one.ensures.exact c.in_ok-pick_one.ensures.characters c.in_ok-push.ensures.items
+
+pub returns-in_err-found : goal.returns-in_err-found
+returns-in_err-found c =
+    let x = c.from_residual in
+    record { exact = IfOk-from_err x.result _ x.ensures.0; characters = IfOk-from_err x.result _ x.ensures.0 }
+
+pub returns-in_err-pick_one : goal.returns-in_err-pick_one
+returns-in_err-pick_one c =
+    let x = c.from_residual-in_err-pick_one in
+    record { exact = IfOk-from_err x.result _ x.ensures.0; characters = IfOk-from_err x.result _ x.ensures.0 }
+
+pub returns-in_err-push : goal.returns-in_err-push
+returns-in_err-push c =
+    let x = c.from_residual-in_err-push in
+    record { exact = IfOk-from_err x.result _ x.ensures.0; characters = IfOk-from_err x.result _ x.ensures.0 }
