@@ -13,7 +13,7 @@ returns-clause-ok g c p tracked =
     (session_of c.args.stack.now c.solve.new.decider (Some c.solve.new.self)) c.solve.new.self
     c.new-lines.result c.solve.new.tape c.bytes.result.now (g.W.World.outside c.args.world.now)
     (g.W.World.outside c.write_all.new.world) refl c.new-lines.ensures c.bytes.ensures c.in-Ok.ensures.verdict
-    (c.in-Ok.ensures.proves p tracked) c.in_ok-write_all.ensures.ok
+    (c.in-Ok.ensures.proves refl p tracked) c.in_ok-write_all.ensures.ok
 
 pub returns-in_err-write_all-clause-err : goal.returns-in_err-write_all-clause-err
 returns-in_err-write_all-clause-err g c =
@@ -23,4 +23,4 @@ returns-in_err-write_all-clause-err g c =
     inr (check_cut (state_of c.args.stack.now) (verdict_in (live_constants c.args.stack.now) c.in-Ok.verdict) p
     c.solve.new.decider.arena c.solve.new.decider.graph.memo c.solve.new.self c.new-lines.result c.solve.new.tape c.bytes.result.now
     (g.W.World.outside c.args.world.now) (g.W.World.outside c.write_all.new.world) c.new-lines.ensures c.bytes.ensures
-    c.in-Ok.ensures.verdict (c.in-Ok.ensures.proves p tracked) c.in_err-write_all.ensures.err))
+    c.in-Ok.ensures.verdict (c.in-Ok.ensures.proves refl p tracked) c.in_err-write_all.ensures.err))
